@@ -1,0 +1,5 @@
+pub mod Laws
+pub mod Ends
+pub mod Uses
+pub mod Lawful
+pub mod NotedLaws

@@ -1,0 +1,49 @@
+-- The refusals of each call, in the order in which they are tried.
+use Rattle.std.specs.Prelude.{ℕ, ◌+◌, ◌^◌, Bool, not, nat_lt, nat_le, if◌then◌else◌, List, [], ◌∷◌, ◌++◌, length}
+use Rattle.tree_specs.specs.declared.object.Obj.{Obj}
+use Rattle.tree_specs.specs.declared.object.Owner.{Owner}
+use Rattle.tree_specs.specs.declared.call.Call.{Call}
+use Rattle.tree_specs.specs.declared.call.Call.TheVariants.{New, Free}
+use Rattle.tree_specs.specs.declared.reply.Refusal.{Refusal}
+use Rattle.tree_specs.specs.declared.reply.Refusal.TheVariants.{NoSuch, Full, Spent, TooBig}
+use Rattle.tree_specs.specs.Objects.{owner_number}
+use Rattle.tree_specs.specs.Pool.{Pool, is_row, is_owner}
+
+-- the size of an object is below this, in bytes
+abbrev pub size_limit : ℕ
+size_limit = 268435456
+
+-- at most so many objects are live
+abbrev pub row_limit : ℕ
+row_limit = 1048576
+
+-- the refusals that apply, the first one first
+abbrev pub Check : Type 0
+Check = List Refusal
+
+-- one check before the others
+infixr 10 ◌before◌
+abbrev pub ◌before◌ : Check → Check → Check
+first before second = first ++ second
+
+abbrev pub refuse_if : Bool → Refusal → Check
+refuse_if b why = if b then why ∷ [] else []
+
+abbrev pub small : ℕ → Check
+small size = refuse_if (nat_le size_limit size) (TooBig size)
+
+abbrev pub object : Pool → Obj → Check
+object p x = refuse_if (not (is_row p.rows x)) (NoSuch x.0)
+
+abbrev pub owner : Pool → Owner → Check
+owner p o = refuse_if (not (is_owner p.rows o)) (NoSuch (owner_number o))
+
+-- room for so many rows, and so many numbers
+abbrev pub room : Pool → ℕ → Check
+room p k =
+    refuse_if (nat_lt row_limit (length p.rows + k)) (Full (length p.rows))
+    before refuse_if (nat_le (2 ^ 64) (p.next + k)) Spent
+
+abbrev pub refusals : Pool → Call → Check
+refusals p (New o size name) = small size before owner p o before room p 1
+refusals p (Free x) = object p x

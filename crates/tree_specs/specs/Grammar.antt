@@ -1,0 +1,90 @@
+-- The grammar of numbers, names, calls and schedule lines: the value that a text spells, or none.
+use Rattle.std.specs.Prelude.{ℕ, ◌^◌, Bool, true, false, ◌==◌, ◌&&◌, not, nat_lt, if◌then◌else◌, List, [], ◌∷◌, Option, Some, None, codes}
+use Rattle.std.specs.List.{slice_split}
+use Rattle.std.specs.Option.{option_map}
+use Rattle.std.specs.Str.{all_ascii_digits, bytes_eq}
+use Rattle.std.specs.Str.Parse.{digits_value}
+use Rattle.tree_specs.specs.declared.object.Obj.{Obj}
+use Rattle.tree_specs.specs.declared.object.Owner.{Owner}
+use Rattle.tree_specs.specs.declared.call.Call.{Call}
+use Rattle.tree_specs.specs.declared.call.Call.TheVariants.{New, Free}
+use Rattle.tree_specs.specs.declared.question.Input.{Input}
+use Rattle.tree_specs.specs.declared.question.Input.TheVariants as inputs
+use Rattle.tree_specs.specs.Names.{is_name}
+use Rattle.tree_specs.specs.Objects.{numbered_owner}
+
+infixl 10 ◌>>=◌
+abbrev pub ◌>>=◌ : {A B : Type 0} → Option A → (A → Option B) → Option B
+None >>= f = None
+(Some x) >>= f = f x
+
+-- there is a digit, and no zero before others
+abbrev pub is_short : List ℕ → Bool
+is_short [] = false
+is_short (d ∷ []) = true
+is_short (d ∷ e ∷ ds) = not (d == 48)
+
+-- decimal digits of a number below 2 ^ 64, with no leading zero
+abbrev pub is_decimal : List ℕ → Bool
+is_decimal ds = is_short ds && (all_ascii_digits ds && nat_lt (digits_value 10 ds) (2 ^ 64))
+
+unfoldable pub number_of : List ℕ → Option ℕ
+number_of ds = if is_decimal ds then Some (digits_value 10 ds) else None
+
+unfoldable pub owner_of : List ℕ → Option Owner
+owner_of text = do
+  n ← number_of text
+  Some (numbered_owner n)
+
+unfoldable pub object_of : List ℕ → Option Obj
+object_of text = do
+  n ← number_of text
+  Some (record { 0 = n })
+
+unfoldable pub name_of : List ℕ → Option (List ℕ)
+name_of text = if is_name text then Some text else None
+
+-- the words between single spaces
+abbrev pub words : List ℕ → List (List ℕ)
+words text = slice_split (λ b. b == 32) text
+
+-- ---- calls, by their fields
+
+unfoldable pub new_of : List (List ℕ) → Option Call
+new_of (p ∷ s ∷ n ∷ []) = do
+  owner ← owner_of p
+  size ← number_of s
+  name ← name_of n
+  Some (New owner size name)
+new_of _ = None
+
+unfoldable pub free_of : List (List ℕ) → Option Call
+free_of (x ∷ []) = do
+  object ← object_of x
+  Some (Free object)
+free_of _ = None
+
+-- a verb and its fields
+unfoldable pub call_of_words : List (List ℕ) → Option Call
+call_of_words [] = None
+call_of_words (verb ∷ fields) =
+    if bytes_eq verb (codes "new") then new_of fields else
+    if bytes_eq verb (codes "free") then free_of fields else None
+
+unfoldable pub call_of : List ℕ → Option Call
+call_of text = call_of_words (words text)
+
+-- ---- schedule lines
+
+-- what follows this front
+abbrev pub strip : List ℕ → List ℕ → Option (List ℕ)
+strip [] text = Some text
+strip (p ∷ ps) [] = None
+strip (p ∷ ps) (x ∷ xs) = if x == p then strip ps xs else None
+
+abbrev pub call_input_of : List ℕ → Option Input
+call_input_of text = option_map inputs.Call (call_of text)
+
+-- the input that a line spells, without its LF
+unfoldable pub input_of : List ℕ → Option Input
+input_of line = strip (codes "call ") line >>= call_input_of

@@ -1,0 +1,7 @@
+-- What a host shows: events that it tells, and questions that it asks.
+use Rattle.tree_specs.specs.declared.event.Event.{Event}
+use Rattle.tree_specs.specs.declared.question.Ask.{Ask}
+
+pub data Item : Type 0 where
+  Told : Event → Item
+  Asked : Ask → Item

@@ -1,0 +1,12 @@
+pub mod Names
+pub mod Objects
+pub mod Pool
+pub mod Items
+pub mod Soundness
+pub mod Calls
+pub mod Works
+pub mod Story
+pub mod Grammar
+pub mod Text
+pub mod Written
+pub mod Schedule

@@ -1,0 +1,81 @@
+-- The pool: the rows of the objects, the most recently placed first, and the next serial number.
+use Rattle.std.specs.Prelude.{ℕ, ◌+◌, Bool, true, false, List, [], ◌∷◌, Option, Some, None, is_some, unwrap_or, if◌then◌else◌}
+use Rattle.tree_specs.specs.declared.object.Obj.{Obj}
+use Rattle.tree_specs.specs.declared.object.Owner.{Owner}
+use Rattle.tree_specs.specs.declared.object.Owner.TheVariants.{Root, Of}
+use Rattle.tree_specs.specs.declared.row.Row.{Row}
+use Rattle.tree_specs.specs.declared.row.Mark.{Mark}
+use Rattle.tree_specs.specs.declared.row.Mark.TheVariants.{Quiet, Dying}
+use Rattle.tree_specs.specs.Objects.{same, same_owner}
+
+pub record Pool : Type 0 where
+  pub rows : List Row
+  pub next : ℕ
+
+abbrev pub empty : ℕ → Pool
+empty first = record { rows = []; next = first }
+
+-- ---- looking up
+
+-- the row of an object
+abbrev pub row_of : List Row → Obj → Option Row
+row_of [] x = None
+row_of (r ∷ rs) x = if same r.serial x then Some r else row_of rs x
+
+abbrev pub is_row : List Row → Obj → Bool
+is_row rs x = is_some (row_of rs x)
+
+-- the root, or an object
+abbrev pub is_owner : List Row → Owner → Bool
+is_owner rs Root = true
+is_owner rs (Of x) = is_row rs x
+
+-- this is the owner; a dying row has none
+abbrev pub is_below : Option Owner → Owner → Bool
+is_below None p = false
+is_below (Some o) p = same_owner o p
+
+-- the children, newest placed first
+abbrev pub kids : List Row → Owner → List Obj
+kids [] p = []
+kids (r ∷ rs) p = if is_below r.owner p then r.serial ∷ kids rs p else kids rs p
+
+abbrev pub first_kid : List Row → Owner → Option Obj
+first_kid [] p = None
+first_kid (r ∷ rs) p = if is_below r.owner p then Some r.serial else first_kid rs p
+
+abbrev pub owner_in : Option Row → Option Owner
+owner_in None = None
+owner_in (Some r) = r.owner
+
+abbrev pub owner_of : List Row → Obj → Option Owner
+owner_of rs x = owner_in (row_of rs x)
+
+-- ---- changing
+
+-- the row of an object is taken out
+abbrev pub without : List Row → Obj → List Row
+without [] x = []
+without (r ∷ rs) x = if same r.serial x then rs else r ∷ without rs x
+
+-- the row of an object is changed, and keeps its place
+abbrev pub changed : (Row → Row) → List Row → Obj → List Row
+changed f [] x = []
+changed f (r ∷ rs) x = if same r.serial x then f r ∷ rs else r ∷ changed f rs x
+
+abbrev pub new_row : Obj → Owner → ℕ → List ℕ → Row
+new_row x owner size name = record { serial = x; owner = Some owner; name = name; size = size; mark = Quiet }
+
+-- a new object is placed at the front below its owner
+abbrev pub add : Pool → Owner → ℕ → List ℕ → Pool
+add p owner size name = record { rows = new_row (record { 0 = p.next }) owner size name ∷ p.rows; next = p.next + 1 }
+
+abbrev pub left_row : Row → Row
+left_row r = record r { owner = None; mark = Dying (unwrap_or r.owner Root) }
+
+-- an object leaves its owner
+abbrev pub detach : Pool → Obj → Pool
+detach p x = record p { rows = changed left_row p.rows x }
+
+abbrev pub remove : Pool → Obj → Pool
+remove p x = record p { rows = without p.rows x }

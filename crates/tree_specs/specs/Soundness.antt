@@ -1,0 +1,24 @@
+-- Inputs whose numbers have the ranges of their fields.
+use Rattle.std.specs.Prelude.{ℕ, ◌^◌, Bool, true, ◌&&◌, nat_lt}
+use Rattle.tree_specs.specs.declared.object.Owner.{Owner}
+use Rattle.tree_specs.specs.declared.object.Owner.TheVariants.{Root, Of}
+use Rattle.tree_specs.specs.declared.call.Call.{Call}
+use Rattle.tree_specs.specs.declared.call.Call.TheVariants.{New, Free}
+use Rattle.tree_specs.specs.declared.question.Input.{Input}
+use Rattle.tree_specs.specs.declared.question.Input.TheVariants as inputs
+use Rattle.tree_specs.specs.Names.{is_name}
+
+abbrev pub is_number : ℕ → Bool
+is_number n = nat_lt n (2 ^ 64)
+
+-- an owner that isn't the root has a number from 1 upwards
+abbrev pub is_sound_owner : Owner → Bool
+is_sound_owner Root = true
+is_sound_owner (Of x) = nat_lt 0 x.0 && is_number x.0
+
+abbrev pub is_sound_call : Call → Bool
+is_sound_call (New owner size name) = is_sound_owner owner && is_number size && is_name name
+is_sound_call (Free x) = is_number x.0
+
+abbrev pub is_sound : Input → Bool
+is_sound (inputs.Call call) = is_sound_call call

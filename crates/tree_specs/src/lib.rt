@@ -1,0 +1,26 @@
+//! What everything means: the plain types of the object tree, and in `specs/` the definitions that
+//! every contract above cites. The laws of these definitions are the clauses of functions in `laws`.
+#![tactic(auto)]
+
+mod call;
+mod event;
+mod frame;
+pub mod laws;
+mod memory;
+mod name;
+mod object;
+mod question;
+mod reply;
+mod row;
+mod schedule;
+
+pub use call::Call;
+pub use event::Event;
+pub use frame::{Answer, CallFrame, Frame, FreeFrame};
+pub use memory::Memory;
+pub use name::{Name, is_name_text};
+pub use object::{Obj, Owner};
+pub use question::{Ask, Input};
+pub use reply::{Refusal, Reply};
+pub use row::{Mark, Row};
+pub use schedule::Reason;

@@ -1,0 +1,10 @@
+/// Why a line of a schedule was refused. They are tried in this order.
+#[derive(Clone, Copy, Debug, PartialEq, Eq)]
+pub enum Reason {
+    /// The line has more than 262,144 bytes without its LF, or stands after line 4,294,967,295.
+    Limit,
+    /// The line has no LF, or isn't in the grammar.
+    Form,
+    /// The open question takes no such input.
+    NotAsked,
+}
