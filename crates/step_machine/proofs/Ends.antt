@@ -3,7 +3,7 @@ use Rattle.std.proofs.Common.{◌≡◌, ℕ, suc, zero, ◌+◌, ◌≤◌, ◌
 use Rattle.step_machine.specs.Machine.{Move, Table, Outcome, State, silent, tell, tells, followed, given, asks, after, run, pass, rest, leads, walk}
 use Rattle.step_machine.specs.Machine.Move.{Done, Go, Emit, Wait, Call}
 use Rattle.step_machine.specs.Machine.Outcome.{Ended, Waits, Stray, Short}
-use Rattle.step_machine.proofs.Laws.{Below, Below-trans, Below-leads, walk-more, rest-more, walk-rest}
+use Rattle.step_machine.proofs.Laws.{Below, Below-trans, Below-leads, run-more, walk-more, rest-more, walk-rest}
 
 abbrev pub NotShort : {A P I T : Type 0} → Outcome A P I T → Type 0
 NotShort (Ended a p ts is) = Unit {0}
@@ -160,3 +160,12 @@ module _ {F A P I T : Type 0} (t : Table F A P I T) where
       each (Emit e g q) gs l h = cc
       each (Wait q g p) gs l h = cc
       each (Call g f q) gs l h = arrive _ h l
+
+module _ {F A P I T : Type 0} (t : Table F A P I T) where
+  -- a run that isn't short is the same with more turns
+  pub run-same : (n d : ℕ) (f : F) (p : P) (is : List I) → NotShort (run t n f p is) → run t n f p is ≡ run t (n + d) f p is
+  run-same n zero f p is h = let e : n + 0 ≡ n = omega arith in ap (λ x. run t x f p is) (sym e)
+  run-same n (suc d) f p is h =
+      let e : n + suc d ≡ suc (n + d) = omega arith in
+      let ih = run-same n d f p is h in
+      ih ∙ Below-equal _ _ (subst NotShort ih h) (run-more t (n + d) f p is) ∙ ap (λ x. run t x f p is) (sym e)

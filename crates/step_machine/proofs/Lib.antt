@@ -3,3 +3,4 @@ pub mod Ends
 pub mod Uses
 pub mod Lawful
 pub mod NotedLaws
+pub mod Open

@@ -5,3 +5,7 @@ use Rattle.tree_specs.specs.declared.question.Ask.{Ask}
 pub data Item : Type 0 where
   Told : Event → Item
   Asked : Ask → Item
+
+abbrev pub IsQuestion : Item → Type 0
+IsQuestion (Told e) = ⊥
+IsQuestion (Asked q) = Unit {0}

@@ -10,3 +10,8 @@ pub mod Grammar
 pub mod Text
 pub mod Written
 pub mod Schedule
+pub mod Table
+pub mod Sound
+pub mod Measure
+pub mod View
+pub mod Whole

@@ -1,7 +1,16 @@
 //! Laws of the definitions, each the clause of a function that does nothing.
 #![tactic(auto, unfolding(crate::specs::Grammar::number_of, crate::specs::Grammar::owner_of, crate::specs::Grammar::object_of, crate::specs::Grammar::name_of, crate::specs::Grammar::new_of, crate::specs::Grammar::free_of, crate::specs::Grammar::call_of_words, crate::specs::Grammar::call_of, crate::specs::Grammar::input_of, crate::specs::Text::refusal_text, crate::specs::Text::reply_text, crate::specs::Text::event_text, crate::specs::Text::ask_text, crate::specs::Text::answered_text, crate::specs::Text::item_text, crate::specs::Text::end_text, crate::specs::Text::body_text, crate::specs::Schedule::lines_of_parts, crate::specs::Schedule::lines, crate::specs::Schedule::line_input, crate::specs::Schedule::judged_from, crate::specs::Schedule::judged_lines, crate::specs::Schedule::open_question))]
-ghost use Rattle.std.specs.Prelude.{◌≡◌, ℕ, codes, Some, [], ◌∷◌};
-ghost use Rattle.tree_specs.specs.Story.{story, items};
+ghost use Rattle.std.specs.Prelude.{◌≡◌, ◌≢◌, ◌≤◌, ℕ, codes, Some, None, List, [], ◌∷◌, length};
+ghost use Rattle.step_machine.specs.Machine.{run, items as told_by};
+ghost use Rattle.step_machine.specs.Machine.Outcome.{Short};
+ghost use Rattle.step_machine.specs.Noted.{noted, with_note};
+ghost use Rattle.step_machine.specs.Open.{LastIs};
+ghost use Rattle.tree_specs.specs.declared.question.Input.{Input as InputData};
+ghost use Rattle.tree_specs.specs.Pool.{empty};
+ghost use Rattle.tree_specs.specs.Items.{IsQuestion};
+ghost use Rattle.tree_specs.specs.Story.{story, items, asked, turns};
+ghost use Rattle.tree_specs.specs.Table.{table, notes};
+ghost use Rattle.tree_specs.specs.View.{begin, rest_of};
 ghost use Rattle.tree_specs.specs.Text.{transcript};
 ghost use Rattle.tree_specs.specs.Schedule.{inputs_of, judge};
 
@@ -14,4 +23,22 @@ pub fn nothing_is_called()
 pub fn children_are_freed_newest_first()
     ensures { transcript (items (story 1 (inputs_of (codes "tv schedule 1 pool\ncall new 0 0 a\ncall new 1 10 b\ncall new 1 20 c\ncall new 1 30 d\ncall free 1\ncall free 1\n"))))
         ≡ Some (codes "tv transcript 1\nreply 1\nreply 2\nreply 3\nreply 4\nfreed 4 0\nfreed 3 0\nfreed 2 0\nfreed 1 0\nreply ok\nreply no 1 1\nend quiet\n") }
+{}
+
+/// The stated number of turns is enough for every list of inputs, and more turns give the same.
+pub fn turns_are_enough()
+    ensures enough { (first : ℕ) (is : List InputData) → 1 ≤ first → asked (turns 0 (length is)) (empty first) is ≢ Short }
+    ensures same { (first n : ℕ) (is : List InputData) → 1 ≤ first → turns 0 (length is) ≤ n → asked n (empty first) is ≡ asked (turns 0 (length is)) (empty first) is }
+{}
+
+/// Every story ends with the question that is open after it.
+pub fn every_story_ends_with_its_question()
+    ensures { (first : ℕ) (is : List InputData) → 1 ≤ first → LastIs IsQuestion (items (story first is)) }
+{}
+
+/// The rules' text and the table of single steps tell the same story, pools and calls included, and its
+/// items are those of a host at its beginning.
+pub fn the_table_tells_the_story()
+    ensures scenes { (first : ℕ) (is : List InputData) → 1 ≤ first → told_by (run (noted notes table) (turns 0 (length is)) (with_note None (begin first).now) (empty first) is) ≡ story first is }
+    ensures items { (first : ℕ) (is : List InputData) → 1 ≤ first → rest_of (begin first) is ≡ items (story first is) }
 {}

@@ -1,0 +1,256 @@
+-- Each step of the machine keeps what is sound.
+use Rattle.std.proofs.Common.{◌≡◌, ◌≢◌, ℕ, suc, zero, ◌+◌, ◌^◌, ◌≤◌, ◌<◌, List, [], ◌∷◌, ◌++◌, length, Option, Some, None, Bool, true, false, refl, sym, ◌∙◌, ap, subst, inl, inr, arith, ◌⊎◌}
+use Rattle.std.specs.Prelude.{if◌then◌else◌, is_some, unwrap_or}
+use Rattle.step_machine.specs.Machine.{Move, Table}
+use Rattle.step_machine.specs.Machine.{Move as Do}
+use Rattle.step_machine.proofs.Ends.{Leads}
+use Rattle.tree_specs.specs.declared.object.Obj.{Obj}
+use Rattle.tree_specs.specs.declared.object.Owner.{Owner}
+use Rattle.tree_specs.specs.declared.object.Owner.TheVariants.{Root, Of}
+use Rattle.tree_specs.specs.declared.row.Row.{Row}
+use Rattle.tree_specs.specs.declared.row.Mark.{Mark}
+use Rattle.tree_specs.specs.declared.row.Mark.TheVariants.{Quiet, Dying}
+use Rattle.tree_specs.specs.declared.call.Call.{Call}
+use Rattle.tree_specs.specs.declared.call.Call.TheVariants as call
+use Rattle.tree_specs.specs.declared.reply.Reply.{Reply}
+use Rattle.tree_specs.specs.declared.reply.Reply.TheVariants as reply
+use Rattle.tree_specs.specs.declared.question.Input.{Input}
+use Rattle.tree_specs.specs.declared.question.Input.TheVariants as input
+use Rattle.tree_specs.specs.declared.frame.Frame.{Frame}
+use Rattle.tree_specs.specs.declared.frame.Frame.TheVariants as frame
+use Rattle.tree_specs.specs.declared.frame.CallFrame.{CallFrame}
+use Rattle.tree_specs.specs.declared.frame.CallFrame.TheVariants.{Asking, Doing, Awaiting, Telling}
+use Rattle.tree_specs.specs.declared.frame.FreeFrame.{FreeFrame}
+use Rattle.tree_specs.specs.declared.frame.FreeFrame.TheVariants.{Beginning, Leaving, Looping, Trying, Ending}
+use Rattle.tree_specs.specs.declared.frame.Answer.{Answer}
+use Rattle.tree_specs.specs.declared.frame.Answer.TheVariants.{Ok}
+use Rattle.tree_specs.specs.Objects.{same}
+use Rattle.tree_specs.specs.Pool.{Pool, row_of, is_row, is_owner, owner_of, first_kid, without, changed, add, detach, remove, left_row}
+use Rattle.tree_specs.specs.Items.{Item}
+use Rattle.tree_specs.specs.Calls.{Check, refusals, owner, room, small}
+use Rattle.tree_specs.specs.Soundness.{is_sound_call}
+use Rattle.tree_specs.specs.Table.{table, step, Step, lifted, free_step, begin_step, begin_by, loop_step, call_step, effect_step, resume, taken}
+use Rattle.tree_specs.specs.Sound.{Shaped, ValidAt, Distinct, Phase, InLoop, phase_of, phases, claim_if, claim, claims, IsWaiting, AllWait, IsLive, Tries, Rests, Sound}
+use Rattle.tree_specs.proofs.Numbered.{by_test, same-true, same-equal, same-false, same_or_not}
+use Rattle.tree_specs.proofs.Rows.{row_of-serial, row_of-changed-other, row_of-changed-same, row_of-without-other, row_of-without-same, Distinct-without, Distinct-changed, first_kid-owner}
+use Rattle.tree_specs.proofs.Checks.{passes, taken-doing}
+
+-- a fact on each object, where one row was changed
+valid-at : (next : ℕ) (rs rs' : List Row) (x : Obj) → ((y : Obj) → ValidAt next (row_of rs y) y)
+    → ((y : Obj) → x ≢ y → row_of rs' y ≡ row_of rs y) → ValidAt next (row_of rs' x) x → (y : Obj) → ValidAt next (row_of rs' y) y
+valid-at next rs rs' x v other here y =
+    elim (same_or_not x y) [
+      | inl e ↦ subst (λ (z : Obj). ValidAt next (row_of rs' z) z) e here
+      | inr ne ↦ rw (other y ne) (v y)
+    ]
+
+frees-at : (f f' : Frame) (fs fs' : List Frame) (rs rs' : List Row) (x : Obj) → ((y : Obj) → claim y f ++ claims y fs ≡ phases (row_of rs y))
+    → ((y : Obj) → x ≢ y → row_of rs' y ≡ row_of rs y) → ((y : Obj) → x ≢ y → claim y f' ++ claims y fs' ≡ claim y f ++ claims y fs)
+    → claim x f' ++ claims x fs' ≡ phases (row_of rs' x) → (y : Obj) → claim y f' ++ claims y fs' ≡ phases (row_of rs' y)
+frees-at f f' fs fs' rs rs' x o other others here y =
+    elim (same_or_not x y) [
+      | inl e ↦ subst (λ (z : Obj). claim z f' ++ claims z fs' ≡ phases (row_of rs' z)) e here
+      | inr ne ↦ others y ne ∙ o y ∙ ap phases (sym (other y ne))
+    ]
+
+-- a row that a free in its loop claims is dying, and claimed once
+pub dying-row : (o : Option Row) (l : List Phase) → InLoop ∷ l ≡ phases o → (r : Row) × (o ≡ Some r) × (former : Owner) × (r.mark ≡ Dying former) × (l ≡ [])
+dying-row None l e = cc
+dying-row (Some r) l e = marks r.mark refl e
+  where
+    marks : (m : Mark) → r.mark ≡ m → InLoop ∷ l ≡ phase_of r.mark → (s : Row) × (Some r ≡ Some s) × (former : Owner) × (s.mark ≡ Dying former) × (l ≡ [])
+    marks Quiet m e = let e' : InLoop ∷ l ≡ [] = rw m at e in cc
+    marks (Dying former) m e = let e' : InLoop ∷ l ≡ InLoop ∷ [] = rw m at e in (r, refl, former, m, cc)
+
+-- what a claim on x says
+pub claim-here : (x : Obj) (a : Phase) (l : List Phase) (o : Option Row) → claim_if (same x x) a ++ l ≡ phases o → a ∷ l ≡ phases o
+claim-here x a l o h = let self : same x x ≡ true = same-equal x x refl in rw self at h
+
+-- what a step leads to is sound
+abbrev pub Stands : Move Frame Answer Pool Item → List Frame → ℕ → Type 0
+Stands m fs k = Leads table (λ g gs q j. Sound g gs q) m fs k
+
+-- the same rows under another innermost work that claims as much
+goes_on : (f f' : Frame) (fs : List Frame) (p : Pool) → ((x : Obj) → claim x f' ≡ claim x f) → Rests f' fs p → Sound f fs p → Sound f' fs p
+goes_on f f' fs p e h s = record {
+  started = s.started;
+  distinct = s.distinct;
+  valid = s.valid;
+  waiting = s.waiting;
+  rests = h;
+  open_frees = λ x. ap (λ (l : List Phase). l ++ claims x fs) (e x) ∙ s.open_frees x;
+}
+
+asking : (fs : List Frame) (p : Pool) (k : ℕ) → Sound (frame.Call Asking) fs p → Stands (step (frame.Call Asking) p) fs k
+asking fs p zero s = tt
+asking fs p (suc k) s = λ i g e.
+    let t = taken-doing i g e in
+    subst (λ (z : Frame). Sound z fs p) t.1 (goes_on (frame.Call Asking) (frame.Call (Doing t.0)) fs p (λ x. refl) tt s)
+
+-- a work that ends leaves the work below it sound
+ended : (a : Answer) (fs : List Frame) (p : Pool) (k : ℕ) → 0 < p.next → Distinct p.rows → ((x : Obj) → ValidAt p.next (row_of p.rows x) x)
+    → ((x : Obj) → claims x fs ≡ phases (row_of p.rows x)) → AllWait fs → Stands (Do.Done a p) fs k
+ended a [] p k z d v o w = tt
+ended a (frame.Call (Awaiting x) ∷ fs) p k z d v o w = record { started = z; distinct = d; valid = v; open_frees = o; waiting = w.1; rests = tt }
+ended a (frame.Free (Trying x c) ∷ fs) p k z d v o w = record { started = z; distinct = d; valid = v; open_frees = o; waiting = w.1; rests = tt }
+ended a (frame.Call Asking ∷ fs) p k z d v o w = absurd w.0
+ended a (frame.Call (Doing c) ∷ fs) p k z d v o w = absurd w.0
+ended a (frame.Call (Telling r) ∷ fs) p k z d v o w = absurd w.0
+ended a (frame.Free (Beginning x) ∷ fs) p k z d v o w = absurd w.0
+ended a (frame.Free (Leaving x) ∷ fs) p k z d v o w = absurd w.0
+ended a (frame.Free (Looping x) ∷ fs) p k z d v o w = absurd w.0
+ended a (frame.Free (Ending b) ∷ fs) p k z d v o w = absurd w.0
+
+-- ---- freeing
+
+leaving : (x : Obj) (fs : List Frame) (p : Pool) (k : ℕ) → Sound (frame.Free (Leaving x)) fs p → Stands (step (frame.Free (Leaving x)) p) fs k
+leaving x fs p k s =
+    let self : same x x ≡ true = same-equal x x refl in
+    let r : Row = s.rests.0 in
+    let e : row_of p.rows x ≡ Some r = s.rests.1 in
+    let v : ValidAt p.next (Some r) x = rw e at (s.valid x) in
+    let none : claims x fs ≡ [] = s.open_frees x ∙ ap phases e ∙ quiet r.mark s.rests.2 in
+    let new : row_of (changed left_row p.rows x) x ≡ Some (left_row r) = row_of-changed-same left_row p.rows x r (λ q. refl) e in
+    record {
+      started = s.started;
+      distinct = Distinct-changed left_row p.rows x (λ q. refl) s.distinct;
+      valid = valid-at p.next p.rows (changed left_row p.rows x) x s.valid (λ y ne. row_of-changed-other left_row p.rows x y (λ q. refl) ne)
+          (rw new (v.0, v.1, left r.mark r.owner s.rests.2 v.2));
+      open_frees = frees-at (frame.Free (Leaving x)) (frame.Free (Looping x)) fs fs p.rows (changed left_row p.rows x) x s.open_frees
+          (λ y ne. row_of-changed-other left_row p.rows x y (λ q. refl) ne)
+          (λ y ne. let u : same x y ≡ false = same-false x y ne in rw u refl)
+          (rw (self, none, new) refl);
+      waiting = s.waiting;
+      rests = tt;
+    }
+  where
+    quiet : (m : Mark) → IsLive m → phase_of m ≡ []
+    quiet Quiet l = refl
+    quiet (Dying former) l = absurd l
+
+    left : (m : Mark) (o : Option Owner) → IsLive m → Shaped m o x → Shaped (Dying (unwrap_or o Root)) None x
+    left Quiet (Some o) l h = h
+    left Quiet None l h = absurd h
+    left (Dying former) o l h = absurd l
+
+-- the last child is gone, and the object is removed
+removed : (x : Obj) (fs : List Frame) (p : Pool) → Sound (frame.Free (Looping x)) fs p → Sound (frame.Free (Ending Ok)) fs (remove p x)
+removed x fs p s =
+    let self : same x x ≡ true = same-equal x x refl in
+    let row = dying-row (row_of p.rows x) (claims x fs) (claim-here x InLoop (claims x fs) (row_of p.rows x) (s.open_frees x)) in
+    let none : claims x fs ≡ [] = row.4 in
+    let gone : row_of (without p.rows x) x ≡ None = row_of-without-same p.rows x s.distinct in
+    record {
+      started = s.started;
+      distinct = Distinct-without p.rows x s.distinct;
+      valid = valid-at p.next p.rows (without p.rows x) x s.valid (λ y ne. row_of-without-other p.rows x y ne) (rw gone tt);
+      open_frees = frees-at (frame.Free (Looping x)) (frame.Free (Ending Ok)) fs fs p.rows (without p.rows x) x s.open_frees (λ y ne. row_of-without-other p.rows x y ne)
+          (λ y ne. let u : same x y ≡ false = same-false x y ne in rw u refl) (rw (none, gone) refl);
+      waiting = s.waiting;
+      rests = tt;
+    }
+
+looping : (x : Obj) (fs : List Frame) (p : Pool) (k : ℕ) → Sound (frame.Free (Looping x)) fs p → Stands (step (frame.Free (Looping x)) p) fs k
+looping x fs p k s = each (first_kid p.rows (Of x)) refl
+  where
+    each : (o : Option Obj) → first_kid p.rows (Of x) ≡ o → Stands (lifted (loop_step x (first_kid p.rows (Of x)) p)) fs k
+    each None e = rw e (removed x fs p s)
+    each (Some c) e = rw e (record {
+      started = s.started;
+      distinct = s.distinct;
+      valid = s.valid;
+      open_frees = s.open_frees;
+      waiting = (tt, s.waiting);
+      rests = (refl, first_kid-owner p.rows (Of x) c s.distinct e);
+    })
+
+beginning : (x : Obj) (fs : List Frame) (p : Pool) (k : ℕ) → Sound (frame.Free (Beginning x)) fs p → Stands (step (frame.Free (Beginning x)) p) fs k
+beginning x fs p k s = each (row_of p.rows x) refl
+  where
+    over : Stands (Do.Done Ok p) fs k
+    over = ended Ok fs p k s.started s.distinct s.valid s.open_frees s.waiting
+
+    marks : (r : Row) (m : Mark) → r.mark ≡ m → row_of p.rows x ≡ Some r → Stands (lifted (begin_step x (row_of p.rows x) p)) fs k
+    marks r (Dying former) m e = rw (e, m) over
+    marks r Quiet m e = rw (e, m) (goes_on (frame.Free (Beginning x)) (frame.Free (Leaving x)) fs p (λ y. refl) (r, e, rw m tt) s)
+
+    each : (o : Option Row) → row_of p.rows x ≡ o → Stands (lifted (begin_step x (row_of p.rows x) p)) fs k
+    each None e = rw e over
+    each (Some r) e = marks r r.mark refl e
+
+-- an owner stands only on a row that is live
+pub owned-row : (p : Pool) (c : Obj) (o : Owner) → ((y : Obj) → ValidAt p.next (row_of p.rows y) y) → owner_of p.rows c ≡ Some o → (r : Row) × (row_of p.rows c ≡ Some r) × IsLive r.mark
+owned-row p c o valid e = each (row_of p.rows c) refl
+  where
+    live : (m : Mark) (w : Option Owner) → w ≡ Some o → Shaped m w c → IsLive m
+    live Quiet w e s = tt
+    live (Dying former) None e s = cc
+    live (Dying former) (Some w) e s = s
+
+    each : (q : Option Row) → row_of p.rows c ≡ q → (r : Row) × (row_of p.rows c ≡ Some r) × IsLive r.mark
+    each None h = let bad : None ≡ Some o = rw h at e in cc
+    each (Some r) h =
+        let w : r.owner ≡ Some o = rw h at e in
+        let v : ValidAt p.next (Some r) c = rw h at (valid c) in
+        (r, h, live r.mark r.owner w v.2)
+
+-- ---- calls
+
+-- a new row is sound below an owner
+pub new-sound : (f f' : Frame) (o : Owner) (size : ℕ) (name : List ℕ) (fs : List Frame) (p : Pool) → Sound f fs p → is_owner p.rows o ≡ true
+    → ((x : Obj) → claim x f' ≡ claim x f) → Rests f' fs (add p o size name) → Sound f' fs (add p o size name)
+new-sound f f' o size name fs p s e claim-same h =
+    let n : Obj = record { 0 = p.next } in
+    let none : row_of p.rows n ≡ None = fresh (row_of p.rows n) (s.valid n) in
+    let ne : o ≢ Of n = other o e in
+    record {
+      started = omega arith;
+      distinct = (none, s.distinct);
+      valid = λ y. by_test (same n y)
+          (λ z. let q : n ≡ y = same-true n y z in rw z (subst (λ (v : Obj). (0 < v.0) × (v.0 < p.next + 1) × (o ≢ Of v)) q (s.started, omega arith, ne)))
+          (λ z. rw z (higher (row_of p.rows y) y (s.valid y)));
+      open_frees = λ y. ap (λ (l : List Phase). l ++ claims y fs) (claim-same y) ∙ by_test (same n y)
+          (λ z. let q : n ≡ y = same-true n y z in rw z (s.open_frees y ∙ ap phases (ap (row_of p.rows) (sym q) ∙ none)))
+          (λ z. rw z (s.open_frees y));
+      waiting = s.waiting;
+      rests = h;
+    }
+  where
+    fresh : (q : Option Row) → ValidAt p.next q (record { 0 = p.next }) → q ≡ None
+    fresh None v = refl
+    fresh (Some r) v = let l : p.next < p.next = v.1 in absurd (omega arith)
+
+    below : (x : Obj) (q : Option Row) → is_some q ≡ true → ValidAt p.next q x → Of x ≢ Of (record { 0 = p.next })
+    below x None b v = cc
+    below x (Some r) b v = λ d. let l : x.0 < p.next = v.1 in let d' : x ≡ record { 0 = p.next } = cc in let d'' : x.0 ≡ p.next = ap (λ (z : Obj). z.0) d' in absurd (omega arith)
+
+    other : (w : Owner) → is_owner p.rows w ≡ true → w ≢ Of (record { 0 = p.next })
+    other Root b = λ d. cc
+    other (Of x) b = below x (row_of p.rows x) b (s.valid x)
+
+    higher : (q : Option Row) (y : Obj) → ValidAt p.next q y → ValidAt (p.next + 1) q y
+    higher None y v = tt
+    higher (Some r) y v = let l : y.0 < p.next = v.1 in (v.0, omega arith, v.2)
+
+effected : (c : Call) (fs : List Frame) (p : Pool) (k : ℕ) → Sound (frame.Call (Doing c)) fs p → refusals p c ≡ [] → Stands (effect_step c p) fs k
+effected (call.New o size name) fs p k s none = new-sound (frame.Call (Doing (call.New o size name))) (frame.Call (Telling (reply.Number p.next))) o size name fs p s (passes p o size name none) (λ x. refl) tt
+effected (call.Free x) fs p k s none = record { started = s.started; distinct = s.distinct; valid = s.valid; open_frees = s.open_frees; waiting = (tt, s.waiting); rests = tt }
+
+doing : (c : Call) (fs : List Frame) (p : Pool) (k : ℕ) → Sound (frame.Call (Doing c)) fs p → Stands (step (frame.Call (Doing c)) p) fs k
+doing c fs p k s = each (refusals p c) refl
+  where
+    each : (check : Check) → refusals p c ≡ check → Stands (call_step (refusals p c) c p) fs k
+    each [] e = rw e (effected c fs p k s e)
+    each (why ∷ later) e = rw e (goes_on (frame.Call (Doing c)) (frame.Call (Telling (reply.No why))) fs p (λ x. refl) tt s)
+
+-- every step keeps what is sound
+pub sound-kept : (f : Frame) (fs : List Frame) (p : Pool) (k : ℕ) → Sound f fs p → Stands (step f p) fs k
+sound-kept (frame.Call Asking) fs p k s = asking fs p k s
+sound-kept (frame.Call (Doing c)) fs p k s = doing c fs p k s
+sound-kept (frame.Call (Awaiting x)) fs p k s = absurd s.rests
+sound-kept (frame.Call (Telling r)) fs p k s = goes_on (frame.Call (Telling r)) (frame.Call Asking) fs p (λ x. refl) tt s
+sound-kept (frame.Free (Beginning x)) fs p k s = beginning x fs p k s
+sound-kept (frame.Free (Leaving x)) fs p k s = leaving x fs p k s
+sound-kept (frame.Free (Looping x)) fs p k s = looping x fs p k s
+sound-kept (frame.Free (Trying x c)) fs p k s = absurd s.rests
+sound-kept (frame.Free (Ending answer)) fs p k s = ended answer fs p k s.started s.distinct s.valid s.open_frees s.waiting

@@ -1,0 +1,9 @@
+pub mod Numbered
+pub mod Rows
+pub mod Checks
+pub mod Keeps
+pub mod Falls
+pub mod Means
+pub mod Load
+pub mod Rest
+pub mod StoryLaws

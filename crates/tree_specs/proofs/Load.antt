@@ -1,0 +1,208 @@
+-- The stated number of turns is above the measure at every moment, and a host's own work stays below all others.
+use Rattle.std.proofs.Common.{◌≡◌, ◌≢◌, ℕ, suc, zero, ◌+◌, ◌*◌, ◌^◌, ◌≤◌, ◌<◌, List, [], ◌∷◌, ◌++◌, length, Option, Some, None, Bool, true, false, refl, sym, ◌∙◌, ap, subst, inl, inr, arith, ◌⊎◌}
+use Rattle.std.specs.Prelude.{if◌then◌else◌, is_some, unwrap_or}
+use Rattle.step_machine.specs.Machine.{Move, Table}
+use Rattle.step_machine.specs.Machine.{Move as Do}
+use Rattle.step_machine.proofs.Ends.{Leads}
+use Rattle.tree_specs.specs.declared.object.Obj.{Obj}
+use Rattle.tree_specs.specs.declared.object.Owner.{Owner}
+use Rattle.tree_specs.specs.declared.object.Owner.TheVariants.{Root, Of}
+use Rattle.tree_specs.specs.declared.row.Row.{Row}
+use Rattle.tree_specs.specs.declared.row.Mark.{Mark}
+use Rattle.tree_specs.specs.declared.row.Mark.TheVariants.{Quiet, Dying}
+use Rattle.tree_specs.specs.declared.call.Call.{Call}
+use Rattle.tree_specs.specs.declared.call.Call.TheVariants as call
+use Rattle.tree_specs.specs.declared.reply.Reply.{Reply}
+use Rattle.tree_specs.specs.declared.reply.Reply.TheVariants as reply
+use Rattle.tree_specs.specs.declared.question.Input.{Input}
+use Rattle.tree_specs.specs.declared.question.Input.TheVariants as input
+use Rattle.tree_specs.specs.declared.frame.Frame.{Frame}
+use Rattle.tree_specs.specs.declared.frame.Frame.TheVariants as frame
+use Rattle.tree_specs.specs.declared.frame.CallFrame.{CallFrame}
+use Rattle.tree_specs.specs.declared.frame.CallFrame.TheVariants.{Asking, Doing, Awaiting, Telling}
+use Rattle.tree_specs.specs.declared.frame.FreeFrame.{FreeFrame}
+use Rattle.tree_specs.specs.declared.frame.FreeFrame.TheVariants.{Beginning, Leaving, Looping, Trying, Ending}
+use Rattle.tree_specs.specs.declared.frame.Answer.{Answer}
+use Rattle.tree_specs.specs.declared.frame.Answer.TheVariants.{Ok}
+use Rattle.tree_specs.specs.Objects.{same}
+use Rattle.tree_specs.specs.Pool.{Pool, row_of, is_row, is_owner, owner_of, first_kid, without, changed, add, detach, remove, left_row}
+use Rattle.tree_specs.specs.Items.{Item}
+use Rattle.tree_specs.specs.Calls.{Check, refusals, owner, room, small}
+use Rattle.tree_specs.specs.Soundness.{is_sound_call}
+use Rattle.tree_specs.specs.Table.{table, step, Step, lifted, free_step, begin_step, begin_by, loop_step, call_step, effect_step, resume, taken}
+use Rattle.tree_specs.specs.Sound.{Shaped, ValidAt, Distinct, Phase, InLoop, phase_of, phases, claim_if, claim, claims, IsWaiting, AllWait, IsLive, Tries, Rests, Sound}
+use Rattle.tree_specs.proofs.Numbered.{by_test, same-true, same-equal, same-false, same_or_not}
+use Rattle.tree_specs.proofs.Rows.{row_of-serial, row_of-changed-other, row_of-changed-same, row_of-without-other, row_of-without-same, Distinct-without, Distinct-changed, first_kid-owner}
+use Rattle.tree_specs.proofs.Checks.{taken-doing}
+
+use Rattle.std.proofs.Math.Nat.{mul-le-mul_left}
+use Rattle.tree_specs.specs.Story.{turns}
+use Rattle.tree_specs.specs.Items.Item.{Asked}
+use Rattle.tree_specs.specs.View.{View}
+use Rattle.tree_specs.specs.Whole.{IsCaller, Based, size, sizes, mark_burden, burden, Light, Whole}
+use Rattle.tree_specs.specs.Measure.{total, mark_weight, weight, waiting_cost, below_cost, loop_kids, top_cost, cost, pending}
+use Rattle.tree_specs.proofs.Rows.{total-without, total-changed, count-length}
+use Rattle.tree_specs.proofs.Keeps.{sound-kept, dying-row, claim-here}
+
+-- what a move leads to is based and light
+abbrev pub Placed : Move Frame Answer Pool Item → List Frame → ℕ → Type 0
+Placed m fs k = Leads table (λ g gs q j. Based g gs × Light g gs q) m fs k
+
+based-resume : (g : Frame) (gs : List Frame) (a : Answer) → Based g gs → Based (resume g a) gs
+based-resume g (h ∷ gs) a b = b
+based-resume (frame.Call f) [] a b = tt
+based-resume (frame.Free f) [] a b = absurd b
+
+based-other : (f g : Frame) (fs : List Frame) → (IsCaller f → IsCaller g) → Based f fs → Based g fs
+based-other f g [] c b = c b
+based-other f g (h ∷ fs) c b = b
+
+size-resume : (g : Frame) (a : Answer) → IsWaiting g → size (resume g a) ≡ size g
+size-resume (frame.Call (Awaiting x)) a w = refl
+size-resume (frame.Free (Trying x c)) a w = refl
+size-resume (frame.Call Asking) a w = absurd w
+size-resume (frame.Call (Doing c)) a w = absurd w
+size-resume (frame.Call (Telling r)) a w = absurd w
+size-resume (frame.Free (Beginning x)) a w = absurd w
+size-resume (frame.Free (Leaving x)) a w = absurd w
+size-resume (frame.Free (Looping x)) a w = absurd w
+size-resume (frame.Free (Ending b)) a w = absurd w
+
+over : (a : Answer) (f : Frame) (fs : List Frame) (p : Pool) (k : ℕ) → AllWait fs → Based f fs → Light f fs p → Placed (Do.Done a p) fs k
+over a f [] p k w b l = tt
+over a f (g ∷ gs) p k w b l = (based-resume g gs a b, omega (arith, size-resume g a w.0))
+
+asking-placed : (fs : List Frame) (p : Pool) (k : ℕ) → Based (frame.Call Asking) fs → Light (frame.Call Asking) fs p → Placed (step (frame.Call Asking) p) fs k
+asking-placed fs p zero b l = tt
+asking-placed fs p (suc k) b l = λ i g e.
+    let t = taken-doing i g e in
+    subst (λ (z : Frame). Based z fs × Light z fs p) t.1 (based-other (frame.Call Asking) (frame.Call (Doing t.0)) fs (λ c. tt) b, l)
+
+doing-placed : (c : Call) (fs : List Frame) (p : Pool) (k : ℕ) → Based (frame.Call (Doing c)) fs → Light (frame.Call (Doing c)) fs p → Placed (call_step (refusals p c) c p) fs k
+doing-placed c fs p k b l = each (refusals p c) c
+  where
+    told : (r : Reply) → Based (frame.Call (Telling r)) fs
+    told r = based-other (frame.Call (Doing c)) (frame.Call (Telling r)) fs (λ z. tt) b
+
+    each : (check : Check) (d : Call) → Placed (call_step check d p) fs k
+    each (why ∷ later) d = (told (reply.No why), l)
+    each [] (call.New o n name) = (told (reply.Number p.next), omega arith)
+    each [] (call.Free x) = (based-other (frame.Call (Doing c)) (frame.Call (Awaiting x)) fs (λ z. tt) b, omega arith)
+
+beginning-placed : (x : Obj) (fs : List Frame) (p : Pool) (k : ℕ) → AllWait fs → Based (frame.Free (Beginning x)) fs → Light (frame.Free (Beginning x)) fs p
+    → Placed (step (frame.Free (Beginning x)) p) fs k
+beginning-placed x fs p k w b l = each (row_of p.rows x)
+  where
+    marks : (m : Mark) → Placed (lifted (begin_by x m p)) fs k
+    marks (Dying former) = over Ok (frame.Free (Beginning x)) fs p k w b l
+    marks Quiet = (based-other (frame.Free (Beginning x)) (frame.Free (Leaving x)) fs (λ z. z) b, l)
+
+    each : (o : Option Row) → Placed (lifted (begin_step x o p)) fs k
+    each None = over Ok (frame.Free (Beginning x)) fs p k w b l
+    each (Some r) = marks r.mark
+
+leaving-placed : (x : Obj) (fs : List Frame) (p : Pool) (k : ℕ) → Sound (frame.Free (Leaving x)) fs p → Based (frame.Free (Leaving x)) fs → Light (frame.Free (Leaving x)) fs p
+    → Placed (step (frame.Free (Leaving x)) p) fs k
+leaving-placed x fs p k s b l = by-row s.rests.0 s.rests.1 s.rests.2
+  where
+    light : (m : Mark) → IsLive m → mark_burden m ≡ 0
+    light Quiet v = refl
+    light (Dying former) v = absurd v
+
+    by-row : (r : Row) → row_of p.rows x ≡ Some r → IsLive r.mark → Placed (step (frame.Free (Leaving x)) p) fs k
+    by-row r e v =
+        let w = total-changed burden left_row p.rows x r e in
+        let m = light r.mark v in
+        (based-other (frame.Free (Leaving x)) (frame.Free (Looping x)) fs (λ z. z) b, omega (arith, w, m))
+
+looping-placed : (x : Obj) (fs : List Frame) (p : Pool) (k : ℕ) → Sound (frame.Free (Looping x)) fs p → Based (frame.Free (Looping x)) fs → Light (frame.Free (Looping x)) fs p
+    → Placed (step (frame.Free (Looping x)) p) fs k
+looping-placed x fs p k s b l = each (first_kid p.rows (Of x))
+  where
+    each : (o : Option Obj) → Placed (lifted (loop_step x o p)) fs k
+    each (Some c) = (based-other (frame.Free (Looping x)) (frame.Free (Trying x c)) fs (λ z. z) b, omega arith)
+    each None =
+        let row = dying-row (row_of p.rows x) (claims x fs) (claim-here x InLoop (claims x fs) (row_of p.rows x) (s.open_frees x)) in
+        let w = total-without burden p.rows x row.0 row.1 in
+        let i : burden row.0 ≡ 3 = ap mark_burden row.3 in
+        (based-other (frame.Free (Looping x)) (frame.Free (Ending Ok)) fs (λ z. z) b, omega (arith, w, i))
+
+pub placed-kept : (f : Frame) (fs : List Frame) (p : Pool) (k : ℕ) → Sound f fs p → Based f fs → Light f fs p → Placed (step f p) fs k
+placed-kept (frame.Call Asking) fs p k s b l = asking-placed fs p k b l
+placed-kept (frame.Call (Doing c)) fs p k s b l = doing-placed c fs p k b l
+placed-kept (frame.Call (Awaiting x)) fs p k s b l = absurd s.rests
+placed-kept (frame.Call (Telling r)) fs p k s b l = (based-other (frame.Call (Telling r)) (frame.Call Asking) fs (λ z. z) b, l)
+placed-kept (frame.Free (Beginning x)) fs p k s b l = beginning-placed x fs p k s.waiting b l
+placed-kept (frame.Free (Leaving x)) fs p k s b l = leaving-placed x fs p k s b l
+placed-kept (frame.Free (Looping x)) fs p k s b l = looping-placed x fs p k s b l
+placed-kept (frame.Free (Trying x c)) fs p k s b l = absurd s.rests
+placed-kept (frame.Free (Ending answer)) fs p k s b l = over answer (frame.Free (Ending answer)) fs p k s.waiting b l
+
+-- ---- the measure against the number of turns
+
+below-light : (fs : List Frame) → below_cost fs ≤ sizes fs
+below-light [] = omega arith
+below-light (f ∷ fs) = let ih = below-light fs in omega (arith, ih, one f)
+  where
+    one : (f : Frame) → waiting_cost f ≤ size f
+    one (frame.Call Asking) = omega arith
+    one (frame.Call (Doing c)) = omega arith
+    one (frame.Call (Awaiting x)) = omega arith
+    one (frame.Call (Telling r)) = omega arith
+    one (frame.Free (Beginning x)) = omega arith
+    one (frame.Free (Leaving x)) = omega arith
+    one (frame.Free (Looping x)) = omega arith
+    one (frame.Free (Trying x c)) = omega arith
+    one (frame.Free (Ending a)) = omega arith
+
+burden-most : (rs : List Row) → total burden rs ≤ 3 * length rs
+burden-most [] = omega arith
+burden-most (r ∷ rs) = let ih = burden-most rs in omega (arith, ih, most r.mark)
+  where
+    most : (m : Mark) → mark_burden m ≤ 3
+    most Quiet = omega arith
+    most (Dying former) = omega arith
+
+weight-most : (rs : List Row) → total weight rs ≤ 2 * length rs
+weight-most [] = omega arith
+weight-most (r ∷ rs) = let ih = weight-most rs in omega (arith, ih, most r.mark)
+  where
+    most : (m : Mark) → mark_weight m ≤ 2
+    most Quiet = omega arith
+    most (Dying former) = omega arith
+
+top-most : (R : ℕ) (f : Frame) (fs : List Frame) (rows : List Row) → length rows ≤ R → top_cost R f fs rows ≤ 16 * R + 52
+top-most R (frame.Call Asking) fs rows h = omega arith
+top-most R (frame.Call (Doing c)) fs rows h = omega arith
+top-most R (frame.Call (Awaiting x)) fs rows h = omega arith
+top-most R (frame.Call (Telling r)) fs rows h = omega arith
+top-most R (frame.Free (Beginning x)) fs rows h = let m = kids-most fs in omega arith
+  where
+    kids-most : (fs : List Frame) → loop_kids rows fs ≤ 4 * R
+    kids-most [] = omega arith
+    kids-most (frame.Free (Trying y c) ∷ fs) = let n = count-length rows (Of y) in omega arith
+    kids-most (g ∷ fs) = omega arith
+top-most R (frame.Free (Leaving x)) fs rows h = omega arith
+top-most R (frame.Free (Looping x)) fs rows h = let n = count-length rows (Of x) in omega arith
+top-most R (frame.Free (Trying x c)) fs rows h = omega arith
+top-most R (frame.Free (Ending a)) fs rows h = omega arith
+
+numbers : (r k w z d e : ℕ) → w ≤ 2 * r → z ≤ 3 * r + 2 → d ≤ z → e ≤ 16 * (r + 2 * k + 2) + 52
+    → (4 * (r + 2 * k + 2) + 16) * w + (16 * (r + 2 * k + 2) + 53) * k + d + e < 64 * (k + 1) * ((r + 2 * k + 2) * (r + 2 * k + 2))
+numbers r k w z d e hw hz hd he =
+    let a : (4 * (r + 2 * k + 2) + 16) * w ≤ (4 * (r + 2 * k + 2) + 16) * (2 * r) = mul-le-mul_left (4 * (r + 2 * k + 2) + 16) hw in
+    omega arith
+
+-- the measure is below the stated number of turns at every moment
+pub cost-turns : (v : View) (k : ℕ) → Whole v → cost (length v.pool.rows + 2 * k + 2) v.now v.below v.pool k < turns (length v.pool.rows) k
+cost-turns v k h =
+    numbers (length v.pool.rows) k (total weight v.pool.rows) (sizes v.below) (below_cost v.below) (top_cost (length v.pool.rows + 2 * k + 2) v.now v.below v.pool.rows)
+    (weight-most v.pool.rows) (let m = burden-most v.pool.rows in let l = h.light in omega arith)
+    (below-light v.below) (top-most (length v.pool.rows + 2 * k + 2) v.now v.below v.pool.rows (omega arith))
+
+pub pending-most : (f : Frame) → pending f ≤ 2
+pending-most (frame.Call Asking) = omega arith
+pending-most (frame.Call (Doing c)) = omega arith
+pending-most (frame.Call (Awaiting x)) = omega arith
+pending-most (frame.Call (Telling r)) = omega arith
+pending-most (frame.Free f) = omega arith

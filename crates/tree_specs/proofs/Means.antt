@@ -1,0 +1,122 @@
+-- The machine does what the rules' text says.
+use Rattle.std.proofs.Common.{◌≡◌, ℕ, suc, zero, List, [], ◌∷◌, ◌++◌, Option, Some, None, Bool, true, false, refl, sym, ◌∙◌, ap, inl, inr}
+use Rattle.std.specs.Prelude.{if◌then◌else◌}
+use Rattle.step_machine.specs.Machine.{Move, Table, Outcome, followed, tell, after, run}
+use Rattle.step_machine.specs.Machine.{Move as Do}
+use Rattle.step_machine.specs.Machine.Outcome.{Ended, Waits, Stray, Short}
+use Rattle.step_machine.specs.Noted.{Noted, noted, noted_move, with_note}
+use Rattle.step_machine.proofs.Laws.{Below, Below-trans, Below-after, followed-tell, followed-tells, followed-followed}
+use Rattle.tree_specs.specs.declared.object.Obj.{Obj}
+use Rattle.tree_specs.specs.declared.object.Owner.TheVariants.{Of}
+use Rattle.tree_specs.specs.declared.row.Row.{Row}
+use Rattle.tree_specs.specs.declared.row.Mark.{Mark}
+use Rattle.tree_specs.specs.declared.row.Mark.TheVariants.{Quiet, Dying}
+use Rattle.tree_specs.specs.declared.call.Call.{Call}
+use Rattle.tree_specs.specs.declared.call.Call.TheVariants as call
+use Rattle.tree_specs.specs.declared.event.Event.TheVariants.{Freed}
+use Rattle.tree_specs.specs.declared.question.Input.{Input}
+use Rattle.tree_specs.specs.declared.question.Input.TheVariants as input
+use Rattle.tree_specs.specs.declared.frame.Frame.{Frame}
+use Rattle.tree_specs.specs.declared.frame.Frame.TheVariants as frame
+use Rattle.tree_specs.specs.declared.frame.CallFrame.TheVariants.{Asking, Doing, Awaiting, Telling}
+use Rattle.tree_specs.specs.declared.frame.FreeFrame.TheVariants.{Beginning, Leaving, Looping, Trying, Ending}
+use Rattle.tree_specs.specs.declared.frame.Answer.{Answer}
+use Rattle.tree_specs.specs.declared.frame.Answer.TheVariants.{Ok}
+use Rattle.tree_specs.specs.Pool.{Pool, row_of, first_kid, remove}
+use Rattle.tree_specs.specs.Items.{Item}
+use Rattle.tree_specs.specs.Items.Item.{Told}
+use Rattle.tree_specs.specs.Soundness.{is_sound_call}
+use Rattle.tree_specs.specs.Calls.{Check, refusals}
+use Rattle.tree_specs.specs.Works.{Work, Scene, Begun, ◌>>=◌, ◌>>◌, gives, change, tells}
+use Rattle.tree_specs.specs.Story.{free, leave, children, asked, acting, telling}
+use Rattle.tree_specs.specs.Table.{table, notes, step, lifted, begin_step, loop_step, call_step, effect_step}
+use Rattle.tree_specs.proofs.Numbered.{by_test}
+
+ruleset laws = (followed-tell, followed-tells, followed-followed)
+
+-- the machine whose replies know what they are about
+abbrev pub noted_table : Table (Noted Frame Begun) Answer Pool Input Scene
+noted_table = noted notes table
+
+-- what follows the children of an object
+abbrev pub looped : Obj → Work (Unit {0}) → Work Answer
+looped x w = do
+  w
+  tells (Told (Freed x 0))
+  change (λ p. remove p x)
+  gives Ok
+
+-- what a work does, by the text
+abbrev pub mean : ℕ → Frame → Option Begun → Work Answer
+mean n (frame.Call Asking) b = asked n
+mean n (frame.Call (Doing c)) b = acting n c
+mean n (frame.Call (Awaiting x)) b = gives Ok
+mean n (frame.Call (Telling r)) b = telling n b r
+mean n (frame.Free (Beginning x)) b = free n x
+mean n (frame.Free (Leaving x)) b = leave n x
+mean n (frame.Free (Looping x)) b = looped x (children n x)
+mean n (frame.Free (Trying x c)) b = gives Ok
+mean n (frame.Free (Ending a)) b = gives a
+
+abbrev pub noted_mean : ℕ → Noted Frame Begun → Work Answer
+noted_mean n w = mean n w.work w.note
+
+-- one step of the work, and then the text with one turn less
+abbrev Turn : ℕ → Frame → Option Begun → Move Frame Answer Pool Item → Pool → List Input → Outcome Answer Pool Input Scene
+Turn n f b m p is = after noted_table (noted_mean n) (noted_move notes f b p m) is
+
+asking-turn : (n : ℕ) (b : Option Begun) (p : Pool) (is : List Input)
+    → Below (Turn n (frame.Call Asking) b (step (frame.Call Asking) p) p is) (mean (suc n) (frame.Call Asking) b p is)
+asking-turn n b p [] = inr refl
+asking-turn n b p (input.Call c ∷ is) = by_test (is_sound_call c) (λ t. rw t (inr refl)) (λ t. rw t (inr refl))
+
+doing-turn : (n : ℕ) (c : Call) (b : Option Begun) (p : Pool) (is : List Input)
+    → Below (Turn n (frame.Call (Doing c)) b (call_step (refusals p c) c p) p is) (mean (suc n) (frame.Call (Doing c)) b p is)
+doing-turn n c b p is = each c (refusals p c) refl
+  where
+    each : (c : Call) (check : Check) → refusals p c ≡ check
+        → Below (Turn n (frame.Call (Doing c)) b (call_step (refusals p c) c p) p is) (mean (suc n) (frame.Call (Doing c)) b p is)
+    each c (why ∷ later) e = rw e (inr refl)
+    each (call.New o size name) [] e = rw e (inr refl)
+    each (call.Free x) [] e = rw e (inr (simp laws))
+
+beginning-turn : (n : ℕ) (x : Obj) (b : Option Begun) (p : Pool) (is : List Input)
+    → Below (Turn n (frame.Free (Beginning x)) b (lifted (begin_step x (row_of p.rows x) p)) p is) (free (suc n) x p is)
+beginning-turn n x b p is = each (row_of p.rows x) refl
+  where
+    marks : (r : Row) (m : Mark) → r.mark ≡ m → row_of p.rows x ≡ Some r
+        → Below (Turn n (frame.Free (Beginning x)) b (lifted (begin_step x (row_of p.rows x) p)) p is) (free (suc n) x p is)
+    marks r (Dying former) m e = rw (e, m) (inr refl)
+    marks r Quiet m e = rw (e, m) (inr refl)
+
+    each : (o : Option Row) → row_of p.rows x ≡ o
+        → Below (Turn n (frame.Free (Beginning x)) b (lifted (begin_step x (row_of p.rows x) p)) p is) (free (suc n) x p is)
+    each None e = rw e (inr refl)
+    each (Some r) e = marks r r.mark refl e
+
+looping-turn : (n : ℕ) (x : Obj) (b : Option Begun) (p : Pool) (is : List Input)
+    → Below (Turn n (frame.Free (Looping x)) b (lifted (loop_step x (first_kid p.rows (Of x)) p)) p is) (looped x (children (suc n) x) p is)
+looping-turn n x b p is = each (first_kid p.rows (Of x)) refl
+  where
+    each : (o : Option Obj) → first_kid p.rows (Of x) ≡ o
+        → Below (Turn n (frame.Free (Looping x)) b (lifted (loop_step x (first_kid p.rows (Of x)) p)) p is) (looped x (children (suc n) x) p is)
+    each None e = rw e (inr refl)
+    each (Some c) e = rw e (inr (simp laws))
+
+-- one turn of the machine is one turn of the text
+pub turn : (n : ℕ) (f : Frame) (b : Option Begun) (p : Pool) (is : List Input) → Below (Turn n f b (step f p) p is) (mean (suc n) f b p is)
+turn n (frame.Call Asking) b p is = asking-turn n b p is
+turn n (frame.Call (Doing c)) b p is = doing-turn n c b p is
+turn n (frame.Call (Awaiting x)) b p is = inr refl
+turn n (frame.Call (Telling r)) b p is = inr refl
+turn n (frame.Free (Beginning x)) b p is = beginning-turn n x b p is
+turn n (frame.Free (Leaving x)) b p is = inr refl
+turn n (frame.Free (Looping x)) b p is = looping-turn n x b p is
+turn n (frame.Free (Trying x c)) b p is = inr refl
+turn n (frame.Free (Ending a)) b p is = inr refl
+
+-- the machine's run of a work is what the text says of it
+pub run-means : (n : ℕ) (w : Noted Frame Begun) (p : Pool) (is : List Input) → Below (run noted_table n w p is) (noted_mean n w p is)
+run-means zero w p is = inl refl
+run-means (suc n) w p is =
+    Below-trans _ _ _ (Below-after noted_table (run noted_table n) (noted_mean n) (run-means n) (noted_table.step w p) is) (turn n w.work w.note p is)

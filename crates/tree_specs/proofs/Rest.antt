@@ -1,0 +1,230 @@
+-- The laws of the story still to come.
+use Rattle.std.proofs.Common.{◌≡◌, ℕ, suc, zero, ◌+◌, ◌*◌, ◌≤◌, ◌<◌, List, [], ◌∷◌, length, Option, Some, None, refl, sym, ◌∙◌, ap, subst, arith}
+use Rattle.step_machine.specs.Machine.{Move, Outcome, State, silent, tell, rest, walk, items as told_by}
+use Rattle.step_machine.specs.Machine.{Move as Do}
+use Rattle.step_machine.specs.Machine.Outcome.{Waits}
+use Rattle.step_machine.specs.Open.{LastIs}
+use Rattle.step_machine.proofs.Ends.{NotShort, Leads, enough, rest-walk, rest-any, rest-event, rest-question, rest-silent, rest-open, silent-leads}
+use Rattle.step_machine.proofs.Open.{Asks, Asks-items, Stays, walk-asks, items-tell}
+use Rattle.tree_specs.specs.declared.question.Ask.{Ask}
+use Rattle.tree_specs.specs.declared.question.Input.{Input}
+use Rattle.tree_specs.specs.declared.frame.Frame.{Frame}
+use Rattle.tree_specs.specs.declared.frame.Frame.TheVariants as frame
+use Rattle.tree_specs.specs.declared.frame.CallFrame.TheVariants.{Asking, Doing, Awaiting, Telling}
+use Rattle.tree_specs.specs.declared.frame.Answer.{Answer}
+use Rattle.tree_specs.specs.declared.call.Call.{Call}
+use Rattle.tree_specs.specs.declared.call.Call.TheVariants as call
+use Rattle.tree_specs.specs.declared.object.Obj.{Obj}
+use Rattle.tree_specs.specs.declared.object.Owner.TheVariants.{Of}
+use Rattle.tree_specs.specs.declared.row.Row.{Row}
+use Rattle.tree_specs.specs.declared.row.Mark.{Mark}
+use Rattle.tree_specs.specs.declared.row.Mark.TheVariants.{Quiet as at_rest, Dying}
+use Rattle.tree_specs.specs.declared.question.Ask.TheVariants.{Quiet}
+use Rattle.tree_specs.specs.declared.frame.FreeFrame.TheVariants.{Beginning, Leaving, Looping, Trying, Ending}
+use Rattle.tree_specs.specs.Pool.{Pool, row_of, first_kid}
+use Rattle.tree_specs.specs.Items.{Item, IsQuestion}
+use Rattle.tree_specs.specs.Items.Item.{Told, Asked}
+use Rattle.tree_specs.specs.Calls.{Check, refusals}
+use Rattle.tree_specs.specs.Story.{turns}
+use Rattle.tree_specs.specs.Table.{table, step, call_step, lifted, begin_by, begin_step, loop_step, taken}
+use Rattle.tree_specs.specs.Sound.{Sound, Rests}
+use Rattle.tree_specs.specs.Measure.{cost, pending}
+use Rattle.tree_specs.specs.View.{View, rest_of}
+use Rattle.tree_specs.specs.Whole.{IsCaller, Based, Light, Whole}
+use Rattle.tree_specs.proofs.Keeps.{sound-kept}
+use Rattle.tree_specs.proofs.Falls.{Well, falls}
+use Rattle.tree_specs.proofs.Load.{Placed, placed-kept, cost-turns, pending-most}
+
+abbrev pub outcome : View → List Input → Outcome Answer Pool Input Item
+outcome v is = rest table (turns (length v.pool.rows) (length is)) v.now v.below v.pool is
+
+-- a bound on the rows that there can be, with k inputs left
+abbrev most : View → ℕ → ℕ
+most v k = length v.pool.rows + 2 * k + 2
+
+well : (v : View) (k : ℕ) → Whole v → Well (most v k) v.now v.below v.pool k
+well v k h = (h.sound, omega (arith, pending-most v.now))
+
+-- any number of turns above the measure gives the rest
+pub rest-enough : (R m : ℕ) (v : View) (is : List Input) → Whole v → Well R v.now v.below v.pool (length is) → cost R v.now v.below v.pool (length is) < m
+    → rest table m v.now v.below v.pool is ≡ outcome v is
+rest-enough R m v is h w less =
+    let n : ℕ = turns (length v.pool.rows) (length is) in
+    let c = cost-turns v (length is) h in
+    rest-any table (Well R) (cost R) (falls R) m (m + n) v.now v.below v.pool is w less (omega arith)
+    ∙ rest-any table (Well (most v (length is))) (cost (most v (length is))) (falls (most v (length is))) (m + n) n v.now v.below v.pool is (well v (length is) h) (omega (arith, c)) c
+
+pub not-short : (v : View) (is : List Input) → Whole v → NotShort (outcome v is)
+not-short v is h =
+    let R : ℕ = most v (length is) in
+    let w = well v (length is) h in
+    let c = cost-turns v (length is) h in
+    subst NotShort (rest-walk table (Well R) (cost R) (falls R) (turns (length v.pool.rows) (length is)) v.now v.below v.pool is w c)
+        (enough table (Well R) (cost R) (falls R) (turns (length v.pool.rows) (length is)) v.now v.below v.pool is w c)
+
+-- ---- what a step keeps
+
+Leads-whole : (m : Move Frame Answer Pool Item) (fs : List Frame) (k : ℕ)
+    → Leads table (λ g gs q j. Sound g gs q) m fs k → Placed m fs k → Leads table (λ g gs q j. Whole (record { now = g; below = gs; pool = q })) m fs k
+Leads-whole (Do.Done a p) [] k s l = tt
+Leads-whole (Do.Done a p) (g ∷ gs) k s l = record { sound = s; based = l.0; light = l.1 }
+Leads-whole (Do.Go f p) fs k s l = record { sound = s; based = l.0; light = l.1 }
+Leads-whole (Do.Emit e f p) fs k s l = record { sound = s; based = l.0; light = l.1 }
+Leads-whole (Do.Wait q f p) fs zero s l = tt
+Leads-whole (Do.Wait q f p) fs (suc k) s l = λ i g e. record { sound = s i g e; based = (l i g e).0; light = (l i g e).1 }
+Leads-whole (Do.Call g f p) fs k s l = record { sound = s; based = l.0; light = l.1 }
+
+pub whole-kept : (v : View) (k : ℕ) → Whole v → Leads table (λ g gs q j. Whole (record { now = g; below = gs; pool = q })) (step v.now v.pool) v.below k
+whole-kept v k h = Leads-whole (step v.now v.pool) v.below k (sound-kept v.now v.below v.pool k h.sound) (placed-kept v.now v.below v.pool k h.sound h.based h.light)
+
+stays : (v : View) (k : ℕ) → Whole v
+    → Leads table (λ g gs q j. Well (most v k) g gs q j × (cost (most v k) g gs q j < cost (most v k) v.now v.below v.pool k)) (step v.now v.pool) v.below k
+stays v k h = (falls (most v k)).keeps v.now v.below v.pool k (well v k h)
+
+-- ---- an event, a question, and a step that tells nothing
+
+pub event-whole : (v : View) (e : Item) (f : Frame) (p : Pool) → Whole v → step v.now v.pool ≡ Do.Emit e f p → Whole (record { now = f; below = v.below; pool = p })
+event-whole v e f p h is-emit = rw is-emit at (whole-kept v 0 h)
+
+pub event-law : (v : View) (e : Item) (f : Frame) (p : Pool) (is : List Input) → Whole v → step v.now v.pool ≡ Do.Emit e f p
+    → outcome v is ≡ tell e (outcome (record { now = f; below = v.below; pool = p }) is)
+event-law v e f p is h is-emit =
+    let R : ℕ = most v (length is) in
+    let n : ℕ = turns (length v.pool.rows) (length is) in
+    let c = cost-turns v (length is) h in
+    let k : Well R f v.below p (length is) × (cost R f v.below p (length is) < cost R v.now v.below v.pool (length is)) = rw is-emit at (stays v (length is) h) in
+    rest-event table (Well R) (cost R) (falls R) n n v.now f v.below v.pool p e is (well v (length is) h) c is-emit (omega (arith, k.1, c))
+    ∙ ap (tell e) (rest-enough R n (record { now = f; below = v.below; pool = p }) is (event-whole v e f p h is-emit) k.0 (omega (arith, k.1, c)))
+
+pub question-whole : (v : View) (q : Item) (f g : Frame) (p : Pool) (i : Input) → Whole v → step v.now v.pool ≡ Do.Wait q f p → taken f p i ≡ Some g
+    → Whole (record { now = g; below = v.below; pool = p })
+question-whole v q f g p i h is-wait fits =
+    let k : (i : Input) (g : Frame) → taken f p i ≡ Some g → Whole (record { now = g; below = v.below; pool = p }) = rw is-wait at (whole-kept v 1 h) in
+    k i g fits
+
+pub question-law : (v : View) (q : Item) (f g : Frame) (p : Pool) (i : Input) (is : List Input) → Whole v → step v.now v.pool ≡ Do.Wait q f p → taken f p i ≡ Some g
+    → outcome v (i ∷ is) ≡ tell q (outcome (record { now = g; below = v.below; pool = p }) is)
+question-law v q f g p i is h is-wait fits =
+    let R : ℕ = most v (length (i ∷ is)) in
+    let n : ℕ = turns (length v.pool.rows) (length (i ∷ is)) in
+    let c = cost-turns v (length (i ∷ is)) h in
+    let k : (i : Input) (g : Frame) → taken f p i ≡ Some g → Well R g v.below p (length is) × (cost R g v.below p (length is) < cost R v.now v.below v.pool (length (i ∷ is))) =
+    rw is-wait at (stays v (length (i ∷ is)) h) in
+    let l : Well R g v.below p (length is) × (cost R g v.below p (length is) < cost R v.now v.below v.pool (length (i ∷ is))) = k i g fits in
+    rest-question table (Well R) (cost R) (falls R) n n v.now f g v.below v.pool p q i is (well v (length (i ∷ is)) h) c is-wait fits (omega (arith, l.1, c))
+    ∙ ap (tell q) (rest-enough R n (record { now = g; below = v.below; pool = p }) is (question-whole v q f g p i h is-wait fits) l.0 (omega (arith, l.1, c)))
+
+pub open-law : (v : View) (q : Item) (f : Frame) (p : Pool) → Whole v → step v.now v.pool ≡ Do.Wait q f p → outcome v [] ≡ Waits (q ∷ [])
+open-law v q f p h is-wait =
+    let R : ℕ = most v 0 in
+    rest-open table (Well R) (cost R) (falls R) (turns (length v.pool.rows) 0) v.now f v.below v.pool p q (well v 0 h) (cost-turns v 0 h) is-wait
+
+abbrev pub view_of_state : State Frame Pool → View
+view_of_state s = record { now = s.now; below = s.below; pool = s.pool }
+
+pub silent-whole : (v : View) (s : State Frame Pool) → Whole v → silent table (step v.now v.pool) v.below ≡ Some s → Whole (view_of_state s)
+silent-whole v s h e = silent-leads table (λ g gs q j. Whole (record { now = g; below = gs; pool = q })) (step v.now v.pool) v.below 0 s (whole-kept v 0 h) e
+
+pub silent-law : (v : View) (s : State Frame Pool) (is : List Input) → Whole v → silent table (step v.now v.pool) v.below ≡ Some s
+    → outcome v is ≡ outcome (view_of_state s) is
+silent-law v s is h e =
+    let R : ℕ = most v (length is) in
+    let n : ℕ = turns (length v.pool.rows) (length is) in
+    let c = cost-turns v (length is) h in
+    let k : Well R s.now s.below s.pool (length is) × (cost R s.now s.below s.pool (length is) < cost R v.now v.below v.pool (length is)) =
+    silent-leads table (λ g gs q j. Well (most v (length is)) g gs q j × (cost (most v (length is)) g gs q j < cost (most v (length is)) v.now v.below v.pool (length is))) (step v.now v.pool) v.below (length is) s (stays v (length is) h) e in
+    rest-silent table (Well R) (cost R) (falls R) n n v.now v.below v.pool s is (well v (length is) h) c e (omega (arith, k.1, c))
+    ∙ rest-enough R n (view_of_state s) is (silent-whole v s h e) k.0 (omega (arith, k.1, c))
+
+-- ---- the same of the items
+
+pub event-items : (v : View) (e : Item) (f : Frame) (p : Pool) (is : List Input) → Whole v → step v.now v.pool ≡ Do.Emit e f p
+    → rest_of v is ≡ e ∷ rest_of (record { now = f; below = v.below; pool = p }) is
+event-items v e f p is h is-emit =
+    ap told_by (event-law v e f p is h is-emit) ∙ items-tell e _ (not-short (record { now = f; below = v.below; pool = p }) is (event-whole v e f p h is-emit))
+
+pub question-items : (v : View) (q : Item) (f g : Frame) (p : Pool) (i : Input) (is : List Input) → Whole v → step v.now v.pool ≡ Do.Wait q f p → taken f p i ≡ Some g
+    → rest_of v (i ∷ is) ≡ q ∷ rest_of (record { now = g; below = v.below; pool = p }) is
+question-items v q f g p i is h is-wait fits =
+    ap told_by (question-law v q f g p i is h is-wait fits)
+    ∙ items-tell q _ (not-short (record { now = g; below = v.below; pool = p }) is (question-whole v q f g p i h is-wait fits))
+
+pub open-items : (v : View) (q : Item) (f : Frame) (p : Pool) → Whole v → step v.now v.pool ≡ Do.Wait q f p → rest_of v [] ≡ q ∷ []
+open-items v q f p h is-wait = ap told_by (open-law v q f p h is-wait)
+
+-- ---- the last item is a question
+
+-- the host's own work doesn't end
+pub no-end : (f : Frame) (p q : Pool) (a : Answer) → IsCaller f → Rests f [] p → step f p ≡ Do.Done a q → ⊥
+no-end (frame.Call Asking) p q a h r e = cc
+no-end (frame.Call (Telling x)) p q a h r e = cc
+no-end (frame.Call (Awaiting x)) p q a h r e = r
+no-end (frame.Free f) p q a h r e = h
+no-end (frame.Call (Doing c)) p q a h r e = each (refusals p c) c e
+  where
+    each : (check : Check) (c : Call) → call_step check c p ≡ Do.Done a q → ⊥
+    each (why ∷ later) c e = cc
+    each [] (call.New o size name) e = cc
+    each [] (call.Free x) e = cc
+
+-- only a caller that is to be asked asks
+pub waits-asking : (f : Frame) (p q : Pool) (i : Item) (g : Frame) → step f p ≡ Do.Wait i g q → f ≡ frame.Call Asking
+waits-asking (frame.Call Asking) p q i g e = refl
+waits-asking (frame.Call (Telling x)) p q i g e = cc
+waits-asking (frame.Call (Awaiting x)) p q i g e = cc
+waits-asking (frame.Call (Doing c)) p q i g e = absurd (each (refusals p c) c e)
+  where
+    each : (check : Check) (c : Call) → call_step check c p ≡ Do.Wait i g q → ⊥
+    each (why ∷ later) c e = cc
+    each [] (call.New o size name) e = cc
+    each [] (call.Free x) e = cc
+waits-asking (frame.Free (Leaving x)) p q i g e = cc
+waits-asking (frame.Free (Trying x c)) p q i g e = cc
+waits-asking (frame.Free (Ending a)) p q i g e = cc
+waits-asking (frame.Free (Beginning x)) p q i g e = absurd (each (row_of p.rows x) e)
+  where
+    marks : (m : Mark) → lifted (begin_by x m p) ≡ Do.Wait i g q → ⊥
+    marks at_rest e = cc
+    marks (Dying former) e = cc
+
+    each : (o : Option Row) → lifted (begin_step x o p) ≡ Do.Wait i g q → ⊥
+    each None e = cc
+    each (Some r) e = marks r.mark e
+waits-asking (frame.Free (Looping x)) p q i g e = absurd (each (first_kid p.rows (Of x)) e)
+  where
+    each : (o : Option Obj) → lifted (loop_step x o p) ≡ Do.Wait i g q → ⊥
+    each None e = cc
+    each (Some c) e = cc
+
+-- what a step asks is a question
+only-asks : (f : Frame) (p q : Pool) (i : Item) (g : Frame) → step f p ≡ Do.Wait i g q → IsQuestion i
+only-asks f p q i g e =
+    let e' : Do.Wait (Asked Quiet) (frame.Call Asking) p ≡ Do.Wait i g q = ap (λ (z : Frame). step z p) (sym (waits-asking f p q i g e)) ∙ e in
+    let e'' : Asked Quiet ≡ i = cc in
+    subst IsQuestion e'' tt
+
+abbrev WholeAt : Frame → List Frame → Pool → Type 0
+WholeAt f fs p = Whole (record { now = f; below = fs; pool = p })
+
+asks-kept : (f : Frame) (fs : List Frame) (p : Pool) → WholeAt f fs p → Stays table WholeAt IsQuestion (step f p) fs
+asks-kept f fs p h = each (step f p) fs refl refl (whole-kept (record { now = f; below = fs; pool = p }) 1 h)
+  where
+    each : (m : Move Frame Answer Pool Item) (gs : List Frame) → step f p ≡ m → fs ≡ gs → Leads table (λ g gs q j. WholeAt g gs q) m gs 1 → Stays table WholeAt IsQuestion m gs
+    each (Do.Done a q) [] e d l =
+        let b : Based f [] = subst (λ (z : List Frame). Based f z) d h.based in
+        let r : Rests f [] p = subst (λ (z : List Frame). Rests f z p) d h.sound.rests in
+        no-end f p q a b r e
+    each (Do.Done a q) (g ∷ gs) e d l = l
+    each (Do.Go g q) gs e d l = l
+    each (Do.Emit i g q) gs e d l = l
+    each (Do.Wait i g q) gs e d l = (only-asks f p q i g e, l)
+    each (Do.Call g g' q) gs e d l = l
+
+-- the story still to come ends with its question
+pub ends-asked : (v : View) (is : List Input) → Whole v → LastIs IsQuestion (rest_of v is)
+ends-asked v is h =
+    let R : ℕ = most v (length is) in
+    let n : ℕ = turns (length v.pool.rows) (length is) in
+    let w : Asks IsQuestion (walk table n v.now v.below v.pool is) = walk-asks table WholeAt IsQuestion asks-kept n v.now v.below v.pool is h in
+    Asks-items IsQuestion _ (not-short v is h)
+        (subst (λ (o : Outcome Answer Pool Input Item). Asks IsQuestion o) (rest-walk table (Well R) (cost R) (falls R) n v.now v.below v.pool is (well v (length is) h) (cost-turns v (length is) h)) w)

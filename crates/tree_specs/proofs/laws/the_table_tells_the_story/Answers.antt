@@ -1,0 +1,9 @@
+use Rattle.std.proofs.Common.{sym}
+use Rattle.tree_specs.proofs.StoryLaws.{story-table, story-items}
+use Rattle.tree_specs.proofs.laws.the_table_tells_the_story.Goals as goal
+
+pub returns-clause-scenes : goal.returns-clause-scenes
+returns-clause-scenes c = λ first is h. story-table first is h
+
+pub returns-clause-items : goal.returns-clause-items
+returns-clause-items c = λ first is h. sym (story-items first is h)

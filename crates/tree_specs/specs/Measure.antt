@@ -1,0 +1,85 @@
+-- A measure that each step lowers, so that the stated number of turns is enough.
+use Rattle.std.specs.Prelude.{ℕ, ◌+◌, ◌*◌, List, [], ◌∷◌, if◌then◌else◌}
+use Rattle.tree_specs.specs.declared.object.Owner.{Owner}
+use Rattle.tree_specs.specs.declared.object.Owner.TheVariants.{Of}
+use Rattle.tree_specs.specs.declared.row.Row.{Row}
+use Rattle.tree_specs.specs.declared.row.Mark.{Mark}
+use Rattle.tree_specs.specs.declared.row.Mark.TheVariants.{Quiet, Dying}
+use Rattle.tree_specs.specs.declared.frame.Frame.{Frame}
+use Rattle.tree_specs.specs.declared.frame.Frame.TheVariants as frame
+use Rattle.tree_specs.specs.declared.frame.CallFrame.TheVariants.{Asking, Doing, Awaiting, Telling}
+use Rattle.tree_specs.specs.declared.frame.FreeFrame.TheVariants.{Beginning, Leaving, Looping, Trying, Ending}
+use Rattle.tree_specs.specs.Pool.{Pool, is_below}
+
+-- a weight over all rows
+abbrev pub total : (Row → ℕ) → List Row → ℕ
+total g [] = 0
+total g (r ∷ rs) = g r + total g rs
+
+-- how many children
+abbrev pub count : List Row → Owner → ℕ
+count rs p = total (λ r. if is_below r.owner p then 1 else 0) rs
+
+-- A row pays once when it leaves its owner, and once when it is removed.
+abbrev pub mark_weight : Mark → ℕ
+mark_weight Quiet = 2
+mark_weight (Dying former) = 1
+
+abbrev pub weight : Row → ℕ
+weight r = mark_weight r.mark
+
+-- Below, R bounds the rows that there can be.
+
+-- what the payment of a row is worth
+abbrev pub unit : ℕ → ℕ
+unit R = 4 * R + 16
+
+-- what an input is worth: the rows that its call may add, and the call's own steps
+abbrev pub share : ℕ → ℕ
+share R = 16 * R + 53
+
+-- what a waiting work still costs
+abbrev pub waiting_cost : Frame → ℕ
+waiting_cost (frame.Call (Awaiting x)) = 1
+waiting_cost (frame.Call Asking) = 0
+waiting_cost (frame.Call (Doing c)) = 0
+waiting_cost (frame.Call (Telling r)) = 0
+waiting_cost (frame.Free (Trying x c)) = 1
+waiting_cost (frame.Free (Beginning x)) = 0
+waiting_cost (frame.Free (Leaving x)) = 0
+waiting_cost (frame.Free (Looping x)) = 0
+waiting_cost (frame.Free (Ending answer)) = 0
+
+abbrev pub below_cost : List Frame → ℕ
+below_cost [] = 0
+below_cost (f ∷ fs) = waiting_cost f + below_cost fs
+
+-- the children that the loop below still has
+abbrev pub loop_kids : List Row → List Frame → ℕ
+loop_kids rows [] = 0
+loop_kids rows (frame.Free (Trying x c) ∷ fs) = 4 * count rows (Of x)
+loop_kids rows (_ ∷ fs) = 0
+
+-- what the innermost work costs until the next question
+abbrev pub top_cost : ℕ → Frame → List Frame → List Row → ℕ
+top_cost R (frame.Call Asking) fs rows = 0
+top_cost R (frame.Call (Doing c)) fs rows = 16 * R + 52
+top_cost R (frame.Call (Awaiting x)) fs rows = 0
+top_cost R (frame.Call (Telling r)) fs rows = 1
+top_cost R (frame.Free (Beginning x)) fs rows = loop_kids rows fs + 5
+top_cost R (frame.Free (Leaving x)) fs rows = 0
+top_cost R (frame.Free (Looping x)) fs rows = 4 * count rows (Of x) + 7
+top_cost R (frame.Free (Trying x c)) fs rows = 0
+top_cost R (frame.Free (Ending answer)) fs rows = 4 * R + 8
+
+-- the measure, for k inputs left
+abbrev pub cost : ℕ → Frame → List Frame → Pool → ℕ → ℕ
+cost R f fs p k = unit R * total weight p.rows + share R * k + below_cost fs + top_cost R f fs p.rows
+
+-- the rows that a work may add, and those that it may add after the next input
+abbrev pub pending : Frame → ℕ
+pending (frame.Call (Doing c)) = 2
+pending (frame.Call Asking) = 0
+pending (frame.Call (Awaiting x)) = 0
+pending (frame.Call (Telling r)) = 0
+pending (frame.Free f) = 0

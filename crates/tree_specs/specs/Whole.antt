@@ -1,0 +1,51 @@
+-- What holds of a host at every moment.
+use Rattle.std.specs.Prelude.{ℕ, ◌+◌, ◌≤◌, List, [], ◌∷◌}
+use Rattle.tree_specs.specs.declared.row.Row.{Row}
+use Rattle.tree_specs.specs.declared.row.Mark.{Mark}
+use Rattle.tree_specs.specs.declared.row.Mark.TheVariants.{Quiet, Dying}
+use Rattle.tree_specs.specs.declared.frame.Frame.{Frame}
+use Rattle.tree_specs.specs.declared.frame.Frame.TheVariants as frame
+use Rattle.tree_specs.specs.declared.frame.FreeFrame.TheVariants.{Beginning, Leaving, Looping, Trying, Ending}
+use Rattle.tree_specs.specs.Pool.{Pool}
+use Rattle.tree_specs.specs.Measure.{total}
+use Rattle.tree_specs.specs.Sound.{Sound}
+use Rattle.tree_specs.specs.View.{View}
+
+-- the host's own work, which asks for calls and never ends
+abbrev pub IsCaller : Frame → Type 0
+IsCaller (frame.Call f) = Unit {0}
+IsCaller (frame.Free f) = ⊥
+
+-- it stands below all others
+abbrev pub Based : Frame → List Frame → Type 0
+Based f [] = IsCaller f
+Based f (g ∷ gs) = Based g gs
+
+-- The open works are no more than the dying rows pay for, so that the turns stay enough.
+
+abbrev pub size : Frame → ℕ
+size (frame.Call f) = 2
+size (frame.Free (Beginning x)) = 0
+size (frame.Free (Leaving x)) = 0
+size (frame.Free (Looping x)) = 3
+size (frame.Free (Trying x c)) = 3
+size (frame.Free (Ending answer)) = 0
+
+abbrev pub sizes : List Frame → ℕ
+sizes [] = 0
+sizes (f ∷ fs) = size f + sizes fs
+
+abbrev pub mark_burden : Mark → ℕ
+mark_burden Quiet = 0
+mark_burden (Dying former) = 3
+
+abbrev pub burden : Row → ℕ
+burden r = mark_burden r.mark
+
+abbrev pub Light : Frame → List Frame → Pool → Type 0
+Light f fs p = size f + sizes fs ≤ total burden p.rows + 2
+
+pub record Whole (v : View) : Type 0 where
+  pub sound : Sound v.now v.below v.pool
+  pub based : Based v.now v.below
+  pub light : Light v.now v.below v.pool
