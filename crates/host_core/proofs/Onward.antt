@@ -1,0 +1,240 @@
+-- One step of a host, and all that it keeps.
+use Rattle.std.proofs.Common.{◌≡◌, ◌≢◌, ℕ, suc, zero, ◌+◌, ◌*◌, ◌≤◌, ◌<◌, List, [], ◌∷◌, length, Option, Some, None, Bool, true, false, refl, sym, ◌∙◌, ap, subst, arith}
+use Rattle.std.specs.Prelude.{if◌then◌else◌, reverse}
+use Rattle.std.proofs.lemmas.List.{length-reverse}
+use Rattle.step_machine.specs.Machine.{Move, State, silent}
+use Rattle.step_machine.specs.Machine.{Move as Do}
+use Rattle.step_machine.proofs.Ends.{Leads, silent-leads}
+use Rattle.tree_specs.specs.declared.object.Obj.{Obj}
+use Rattle.tree_specs.specs.declared.object.Owner.TheVariants.{Of}
+use Rattle.tree_specs.specs.declared.row.Row.{Row}
+use Rattle.tree_specs.specs.declared.row.Mark.{Mark}
+use Rattle.tree_specs.specs.declared.row.Mark.TheVariants.{Quiet, Dying}
+use Rattle.tree_specs.specs.declared.call.Call.{Call}
+use Rattle.tree_specs.specs.declared.call.Call.TheVariants as call
+use Rattle.tree_specs.specs.declared.event.Event.{Event}
+use Rattle.tree_specs.specs.declared.question.Ask.TheVariants.{Quiet as AtRest}
+use Rattle.tree_specs.specs.declared.question.Input.{Input}
+use Rattle.tree_specs.specs.declared.frame.Frame.{Frame}
+use Rattle.tree_specs.specs.declared.frame.Frame.TheVariants as frame
+use Rattle.tree_specs.specs.declared.frame.CallFrame.TheVariants.{Asking, Doing, Awaiting, Telling}
+use Rattle.tree_specs.specs.declared.frame.FreeFrame.TheVariants.{Beginning, Leaving, Looping, Trying, Ending}
+use Rattle.tree_specs.specs.declared.frame.Answer.{Answer}
+use Rattle.tree_specs.specs.Pool.{Pool, row_of, first_kid, left_row, changed}
+use Rattle.tree_specs.specs.Items.{Item}
+use Rattle.tree_specs.specs.Items.Item.{Told, Asked}
+use Rattle.tree_specs.specs.Calls.{Check, refusals}
+use Rattle.tree_specs.specs.Table.{table, step, resume, taken, lifted, begin_by, begin_step, loop_step, call_step}
+use Rattle.tree_specs.specs.Sound.{IsWaiting, AllWait, IsLive, Sound, claims, InLoop}
+use Rattle.tree_specs.specs.Measure.{total, cost, pending}
+use Rattle.tree_specs.specs.View.{View, rest_of, question_of}
+use Rattle.tree_specs.specs.Whole.{Whole}
+use Rattle.tree_specs.proofs.Numbered.{by_test}
+use Rattle.tree_specs.proofs.Rows.{total-without, total-changed}
+use Rattle.tree_specs.proofs.Checks.{taken-doing}
+use Rattle.tree_specs.proofs.Keeps.{dying-row, claim-here}
+use Rattle.tree_specs.proofs.Falls.{Room, lower}
+use Rattle.tree_specs.proofs.Rest.{event-whole, event-items, question-whole, question-items, silent-whole, silent-law, no-end, waits-asking, view_of_state}
+use Rattle.step_machine.specs.Machine.{items as told_by}
+use Rattle.tree_links.specs.Links.{Links, pool_of}
+use Rattle.host_core.specs.Room.{mark_places, row_places, work_places, places}
+use Rattle.host_core.specs.Hosts.{view_of, Ready, speaks, event_in, moved, next_of, speaking}
+
+-- ---- no step wants more places
+
+abbrev pub Narrow : ℕ → Move Frame Answer Pool Item → List Frame → Type 0
+Narrow n m fs = Leads table (λ g gs q j. places g gs q ≤ n) m fs 0
+
+resume-places : (g : Frame) (a : Answer) → IsWaiting g → work_places (resume g a) ≤ 1
+resume-places (frame.Call (Awaiting x)) a w = omega arith
+resume-places (frame.Free (Trying x c)) a w = omega arith
+resume-places (frame.Call Asking) a w = absurd w
+resume-places (frame.Call (Doing c)) a w = absurd w
+resume-places (frame.Call (Telling r)) a w = absurd w
+resume-places (frame.Free (Beginning x)) a w = absurd w
+resume-places (frame.Free (Leaving x)) a w = absurd w
+resume-places (frame.Free (Looping x)) a w = absurd w
+resume-places (frame.Free (Ending b)) a w = absurd w
+
+over-narrow : (a : Answer) (n : ℕ) (fs : List Frame) (p : Pool) → AllWait fs → length fs + total row_places p.rows ≤ n → Narrow n (Do.Done a p) fs
+over-narrow a n [] p w l = tt
+over-narrow a n (g ∷ gs) p w l = let m = resume-places g a w.0 in omega arith
+
+call-narrow : (c : Call) (fs : List Frame) (p : Pool) → Narrow (places (frame.Call (Doing c)) fs p) (step (frame.Call (Doing c)) p) fs
+call-narrow c fs p = each (refusals p c) c
+  where
+    each : (check : Check) (d : Call) → Narrow (places (frame.Call (Doing c)) fs p) (call_step check d p) fs
+    each (why ∷ later) d = omega arith
+    each [] (call.New o n name) = omega arith
+    each [] (call.Free x) = omega arith
+
+begin-narrow : (x : Obj) (fs : List Frame) (p : Pool) → AllWait fs → Narrow (places (frame.Free (Beginning x)) fs p) (step (frame.Free (Beginning x)) p) fs
+begin-narrow x fs p w = each (row_of p.rows x)
+  where
+    marks : (m : Mark) → Narrow (places (frame.Free (Beginning x)) fs p) (lifted (begin_by x m p)) fs
+    marks Quiet = omega arith
+    marks (Dying former) = over-narrow _ (places (frame.Free (Beginning x)) fs p) fs p w (omega arith)
+
+    each : (o : Option Row) → Narrow (places (frame.Free (Beginning x)) fs p) (lifted (begin_step x o p)) fs
+    each None = over-narrow _ (places (frame.Free (Beginning x)) fs p) fs p w (omega arith)
+    each (Some r) = marks r.mark
+
+leave-narrow : (x : Obj) (fs : List Frame) (p : Pool) → Sound (frame.Free (Leaving x)) fs p → Narrow (places (frame.Free (Leaving x)) fs p) (step (frame.Free (Leaving x)) p) fs
+leave-narrow x fs p s =
+    let w = total-changed row_places left_row p.rows x s.rests.0 s.rests.1 in
+    let m = one s.rests.0.mark s.rests.2 in
+    omega (arith, w, m)
+  where
+    one : (m : Mark) → IsLive m → mark_places m ≡ 1
+    one Quiet l = refl
+    one (Dying former) l = absurd l
+
+loop-narrow : (x : Obj) (fs : List Frame) (p : Pool) → Sound (frame.Free (Looping x)) fs p → Narrow (places (frame.Free (Looping x)) fs p) (step (frame.Free (Looping x)) p) fs
+loop-narrow x fs p s = each (first_kid p.rows (Of x))
+  where
+    each : (o : Option Obj) → Narrow (places (frame.Free (Looping x)) fs p) (lifted (loop_step x o p)) fs
+    each (Some c) = omega arith
+    each None =
+        let row = dying-row (row_of p.rows x) (claims x fs) (claim-here x InLoop (claims x fs) (row_of p.rows x) (s.open_frees x)) in
+        let w = total-without row_places p.rows x row.0 row.1 in
+        omega (arith, w)
+
+places-kept : (f : Frame) (fs : List Frame) (p : Pool) → Sound f fs p → Narrow (places f fs p) (step f p) fs
+places-kept (frame.Call Asking) fs p s = tt
+places-kept (frame.Call (Doing c)) fs p s = call-narrow c fs p
+places-kept (frame.Call (Awaiting x)) fs p s = absurd s.rests
+places-kept (frame.Call (Telling r)) fs p s = omega arith
+places-kept (frame.Free (Beginning x)) fs p s = begin-narrow x fs p s.waiting
+places-kept (frame.Free (Leaving x)) fs p s = leave-narrow x fs p s
+places-kept (frame.Free (Looping x)) fs p s = loop-narrow x fs p s
+places-kept (frame.Free (Trying x c)) fs p s = absurd s.rests
+places-kept (frame.Free (Ending a)) fs p s = over-narrow a (places (frame.Free (Ending a)) fs p) fs p s.waiting (omega arith)
+
+-- ---- a work after a step adds no rows
+
+abbrev pub Calm : Move Frame Answer Pool Item → List Frame → Type 0
+Calm m fs = Leads table (λ g gs q j. pending g ≡ 0) m fs 0
+
+resume-calm : (g : Frame) (a : Answer) → IsWaiting g → pending (resume g a) ≡ 0
+resume-calm (frame.Call (Awaiting x)) a w = refl
+resume-calm (frame.Free f) a w = refl
+resume-calm (frame.Call Asking) a w = absurd w
+resume-calm (frame.Call (Doing c)) a w = absurd w
+resume-calm (frame.Call (Telling r)) a w = absurd w
+
+over-calm : (a : Answer) (fs : List Frame) (p : Pool) → AllWait fs → Calm (Do.Done a p) fs
+over-calm a [] p w = tt
+over-calm a (g ∷ gs) p w = resume-calm g a w.0
+
+calm : (f : Frame) (fs : List Frame) (p : Pool) → Sound f fs p → Calm (step f p) fs
+calm (frame.Call Asking) fs p s = tt
+calm (frame.Call (Telling r)) fs p s = refl
+calm (frame.Call (Awaiting x)) fs p s = absurd s.rests
+calm (frame.Call (Doing c)) fs p s = each (refusals p c) c
+  where
+    each : (check : Check) (d : Call) → Calm (call_step check d p) fs
+    each (why ∷ later) d = refl
+    each [] (call.New o n name) = refl
+    each [] (call.Free x) = refl
+calm (frame.Free (Leaving x)) fs p s = refl
+calm (frame.Free (Trying x c)) fs p s = absurd s.rests
+calm (frame.Free (Ending a)) fs p s = over-calm a fs p s.waiting
+calm (frame.Free (Looping x)) fs p s = each (first_kid p.rows (Of x))
+  where
+    each : (o : Option Obj) → Calm (lifted (loop_step x o p)) fs
+    each (Some c) = refl
+    each None = refl
+calm (frame.Free (Beginning x)) fs p s = each (row_of p.rows x)
+  where
+    marks : (m : Mark) → Calm (lifted (begin_by x m p)) fs
+    marks Quiet = refl
+    marks (Dying former) = over-calm _ fs p s.waiting
+
+    each : (o : Option Row) → Calm (lifted (begin_step x o p)) fs
+    each None = over-calm _ fs p s.waiting
+    each (Some r) = marks r.mark
+
+-- ---- a step that tells nothing
+
+-- what stands after it
+pub record Onward (v w : View) : Type 0 where
+  pub whole : Whole w
+  pub narrow : places w.now w.below w.pool ≤ places v.now v.below v.pool
+  pub calm : pending w.now ≡ 0
+  pub rows : (R : ℕ) → length v.pool.rows + pending v.now ≤ R → length w.pool.rows + pending w.now ≤ R
+  pub falls : (R : ℕ) → length v.pool.rows + pending v.now ≤ R → cost R w.now w.below w.pool 0 < cost R v.now v.below v.pool 0
+  pub same : (is : List Input) → rest_of v is ≡ rest_of w is
+
+silent-next : (v : View) → Whole v → speaking v ≡ false
+    → (s : State Frame Pool) × (silent table (step v.now v.pool) v.below ≡ Some s) × (next_of v ≡ (None, view_of_state s))
+silent-next v h t = each (step v.now v.pool) v.below refl refl t
+  where
+    each : (m : Move Frame Answer Pool Item) (fs : List Frame) → step v.now v.pool ≡ m → v.below ≡ fs → speaks m ≡ false
+        → (s : State Frame Pool) × (silent table m fs ≡ Some s) × (moved m fs ≡ (None, view_of_state s))
+    each (Do.Done a q) [] e d t =
+        let w : Whole (record { now = v.now; below = []; pool = v.pool }) = subst (λ (z : List Frame). Whole (record { now = v.now; below = z; pool = v.pool })) d h in
+        absurd (no-end v.now v.pool q a w.based w.sound.rests e)
+    each (Do.Done a q) (g ∷ gs) e d t = (_, refl, refl)
+    each (Do.Go g q) fs e d t = (_, refl, refl)
+    each (Do.Emit i g q) fs e d t = cc
+    each (Do.Wait i g q) fs e d t = cc
+    each (Do.Call g k q) fs e d t = (_, refl, refl)
+
+silent-onward : (v : View) (s : State Frame Pool) → Whole v → silent table (step v.now v.pool) v.below ≡ Some s → Onward v (view_of_state s)
+silent-onward v s h e = record {
+  whole = silent-whole v s h e;
+  narrow = silent-leads table (λ g gs q j. places g gs q ≤ places v.now v.below v.pool) (step v.now v.pool) v.below 0 s (places-kept v.now v.below v.pool h.sound) e;
+  calm = silent-leads table (λ g gs q j. pending g ≡ 0) (step v.now v.pool) v.below 0 s (calm v.now v.below v.pool h.sound) e;
+  rows = λ R r. let l = (lowered R r).0 in omega arith;
+  falls = λ R r. (lowered R r).1;
+  same = λ is. ap told_by (silent-law v s is h e);
+}
+  where
+    lowered : (R : ℕ) → length v.pool.rows + pending v.now ≤ R → Room R s.now s.pool 0 × (cost R s.now s.below s.pool 0 < cost R v.now v.below v.pool 0)
+    lowered R r = silent-leads table (λ g gs q j. Room R g q j × (cost R g gs q j < cost R v.now v.below v.pool 0)) (step v.now v.pool) v.below 0 s (lower R v.now v.below v.pool 0 h.sound (omega arith)) e
+
+pub onward : (v w : View) (i : Option Event) → Whole v → speaking v ≡ false → next_of v ≡ (i, w) → Onward v w
+onward v w i h t e =
+    let n = silent-next v h t in
+    subst (λ (z : View). Onward v z) (ap (λ (z : Option Event × View). z.1) (sym n.2 ∙ e)) (silent-onward v n.0 h n.1)
+
+pub next-places : (v : View) (taken : ℕ) → Whole v → speaking v ≡ false → places v.now v.below v.pool ≤ taken → length (next_of v).1.below ≤ taken
+next-places v taken h t r =
+    let o = (onward v (next_of v).1 (next_of v).0 h t refl).narrow in omega arith
+
+-- ---- an event
+
+-- what stands after it
+pub record AfterEvent (v w : View) (e : Event) : Type 0 where
+  pub whole : Whole w
+  pub narrow : places w.now w.below w.pool ≤ places v.now v.below v.pool
+  pub calm : pending w.now ≡ 0
+  pub law : (is : List Input) → rest_of v is ≡ Told e ∷ rest_of w is
+
+emitted : (v : View) (e : Event) (f : Frame) (p : Pool) → Whole v → step v.now v.pool ≡ Do.Emit (Told e) f p → AfterEvent v (record { now = f; below = v.below; pool = p }) e
+emitted v e f p h t = record {
+  whole = event-whole v (Told e) f p h t;
+  narrow = (let l = places-kept v.now v.below v.pool h.sound in rw t at l);
+  calm = (let l = calm v.now v.below v.pool h.sound in rw t at l);
+  law = λ is. event-items v (Told e) f p is h t;
+}
+
+pub after-event : (v w : View) (e : Event) → Whole v → next_of v ≡ (Some e, w) → AfterEvent v w e
+after-event v w e h t = each (step v.now v.pool) v.below refl refl t
+  where
+    none : (x : View) → (let a : Option Event × View = (None, x) in a) ≡ (Some e, w) → ⊥
+    none x t = let z : None ≡ Some e = ap (λ (z : Option Event × View). z.0) t in cc
+
+    each : (m : Move Frame Answer Pool Item) (fs : List Frame) → step v.now v.pool ≡ m → v.below ≡ fs → moved m fs ≡ (Some e, w) → AfterEvent v w e
+    each (Do.Done a q) [] k d t = absurd (none _ t)
+    each (Do.Done a q) (g ∷ gs) k d t = absurd (none _ t)
+    each (Do.Go f q) fs k d t = absurd (none _ t)
+    each (Do.Call g f q) fs k d t = absurd (none _ t)
+    each (Do.Wait i f q) fs k d t = absurd (none _ t)
+    each (Do.Emit (Asked i) f q) fs k d t = absurd (none _ t)
+    each (Do.Emit (Told i) f q) fs k d t =
+        let x : Some i ≡ Some e = ap (λ (z : Option Event × View). z.0) t in
+        let x' : i ≡ e = cc in
+        let y : record { now = f; below = fs; pool = q } ≡ w = ap (λ (z : Option Event × View). z.1) t in
+        let y' : record { now = f; below = v.below; pool = q } ≡ w = ap (λ (l : List Frame). let r : View = record { now = f; below = l; pool = q } in r) d ∙ y in
+        subst (λ (z : View). AfterEvent v z e) y' (emitted v e f q h (k ∙ ap (λ (z : Event). Do.Emit (Told z) f q) x'))

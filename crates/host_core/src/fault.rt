@@ -1,0 +1,21 @@
+ghost use Rattle.std.specs.Prelude.{◌≡◌};
+ghost use Rattle.host_core.specs.declared.fault.OfferFault.TheVariants as faults;
+
+use tree_specs::Memory;
+
+/// Why an answer was not taken. The host is as it was.
+#[derive(Clone, Copy, Debug, PartialEq, Eq)]
+pub enum OfferFault {
+    /// There is no memory for what comes up to the next question.
+    Memory,
+    /// No question is open, or the open one takes no such answer.
+    NotAsked,
+}
+
+impl From<Memory> for OfferFault {
+    ghost from_gives = { λ _ e. e ≡ faults.Memory };
+
+    fn from(_e: Memory) -> OfferFault {
+        OfferFault::Memory
+    }
+}

@@ -1,0 +1,11 @@
+//! The host: a tree of objects as a state machine that is given answers and gives events and questions.
+#![tactic(auto)]
+
+mod caller;
+mod fault;
+mod freeing;
+
+mod motion;
+mod works;
+
+pub use fault::OfferFault;

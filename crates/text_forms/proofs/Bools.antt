@@ -1,0 +1,17 @@
+-- What it says that a test passes.
+use Rattle.std.proofs.Common.{◌≡◌, ℕ, Bool, true, false, not, ◌&&◌, List, [], ◌∷◌, refl}
+use Rattle.std.specs.List.{list_all}
+
+pub and_true : (a b : Bool) → (a && b) ≡ true → (a ≡ true) × (b ≡ true)
+and_true true b e = (refl, e)
+and_true false b e = absurd cc
+
+pub not_true : (b : Bool) → not b ≡ true → b ≡ false
+not_true true e = absurd cc
+not_true false e = refl
+
+pub list_all-weaker : (p q : ℕ → Bool) → ((b : ℕ) → p b ≡ true → q b ≡ true) → (bs : List ℕ) → list_all p bs ≡ true → list_all q bs ≡ true
+list_all-weaker p q weaker [] h = refl
+list_all-weaker p q weaker (b ∷ bs) h =
+    let parts = and_true (p b) (list_all p bs) h in
+    rw (weaker b parts.0, list_all-weaker p q weaker bs parts.1) refl

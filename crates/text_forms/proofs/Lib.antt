@@ -1,0 +1,7 @@
+pub mod Bools
+pub mod Digits
+pub mod Numbers
+pub mod Words
+pub mod Fields
+pub mod Calls
+pub mod Pieces

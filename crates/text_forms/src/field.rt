@@ -1,0 +1,49 @@
+//! The fields of a call, each by its kind.
+
+ghost use Rattle.std.specs.Prelude.{◌≡◌};
+ghost use Rattle.tree_specs.specs.Grammar.{number_of, owner_of, object_of};
+ghost use Rattle.tree_specs.specs.Objects as objects;
+ghost use Rattle.text_forms.specs.Reads.{Reads};
+
+use crate::form::FormFault;
+use crate::number::read_number;
+use tree_specs::{Obj, Owner};
+
+// A number field.
+pub(crate) fn number(text: &[u8]) -> Result<u64, FormFault>
+    ensures { Reads result (number_of text.now) }
+{
+    read_number(text).ok_or(FormFault::NoForm)
+}
+
+// An owner field: 0 is the root.
+#[tactic(auto, unfolding(tree_specs::specs::Grammar::owner_of))]
+pub(crate) fn owner(text: &[u8]) -> Result<Owner, FormFault>
+    ensures { Reads result (owner_of text.now) }
+{
+    let n = number(text)?;
+    if n == 0 {
+        Ok(Owner::Root)
+    } else {
+        Ok(Owner::Of(Obj(n)))
+    }
+}
+
+// An object field.
+#[tactic(auto, unfolding(tree_specs::specs::Grammar::object_of))]
+pub(crate) fn object(text: &[u8]) -> Result<Obj, FormFault>
+    ensures { Reads result (object_of text.now) }
+{
+    let n = number(text)?;
+    Ok(Obj(n))
+}
+
+// The number that an owner field has.
+pub(crate) fn owner_number(owner: Owner) -> u64
+    ensures { result ≡ objects.owner_number owner }
+{
+    match owner {
+        Owner::Root => 0,
+        Owner::Of(Obj(n)) => n,
+    }
+}

@@ -1,0 +1,21 @@
+//! Numbers, names and calls as text. Each value has one spelling: what is written is read back as
+//! the same value, and no other text is read as it.
+#![tactic(auto)]
+
+mod call_reader;
+mod call_writer;
+mod field;
+mod form;
+mod name;
+mod number;
+mod piece;
+mod split;
+#[cfg(test)]
+mod tests;
+
+pub use call_reader::read_call;
+pub use call_writer::write_call;
+pub use form::FormFault;
+pub use name::read_name;
+pub use number::{read_number, write_number};
+pub use piece::write_pieces;

@@ -1,0 +1,67 @@
+ghost use Rattle.std.specs.Prelude.{◌≡◌, ◌≢◌, ℕ, ◌^◌, ◌<◌, ◌&&◌, nat_lt, IfSome, IfNone, if◌then◌else◌, Some, None};
+ghost use Rattle.std.specs.Fmt.{decimal};
+ghost use Rattle.std.specs.Str.{all_ascii_digits};
+ghost use Rattle.std.specs.Str.Parse.{digits_value};
+ghost use Rattle.tree_specs.specs.Grammar.{number_of, is_short};
+ghost use Rattle.tree_specs.specs.Written.{Writes};
+
+use crate::piece::write_pieces;
+use itoa::Buffer;
+use tree_specs::Memory;
+
+// The value of digits, where it is below 2 ^ 64.
+fn value_of_digits(text: &[u8]) -> Option<u64>
+    ensures { result ≡ (if all_ascii_digits text.now && nat_lt (digits_value 10 text.now) (2 ^ 64) then Some (digits_value 10 text.now) else None) }
+{
+    let mut n: u64 = 0;
+    for b in text {
+        if !b.is_ascii_digit() {
+            return None;
+        }
+        n = n.checked_mul(10)?.checked_add(u64::from(*b - b'0'))?;
+    }
+    Some(n)
+}
+
+// Whether there is a digit, and no zero before others.
+fn has_short_form(text: &[u8]) -> bool
+    ensures { result ≡ is_short text.now }
+{
+    match text {
+        [] => false,
+        [b'0', _, ..] => false,
+        _ => true,
+    }
+}
+
+// The number that the text spells, as the grammar defines it.
+#[tactic(auto, unfolding(tree_specs::specs::Grammar::number_of))]
+fn number_value(text: &[u8]) -> Option<u64>
+    ensures { result ≡ number_of text.now }
+{
+    if has_short_form(text) {
+        value_of_digits(text)
+    } else {
+        None
+    }
+}
+
+/// The number below 2 ^ 64 that the text spells: decimal digits with no leading zero. None exactly
+/// where it spells no such number.
+#[tactic(auto, using(crate::proofs::Numbers::spelled_some, crate::proofs::Numbers::spelled_none))]
+pub fn read_number(text: &[u8]) -> Option<u64>
+    ensures value { result ≡ number_of text.now }
+    // A number has one spelling, and what is none is the spelling of no number.
+    ensures spelled { IfSome result (λ n. text.now ≡ decimal n) }
+    ensures none { IfNone result ((n : ℕ) → n < 2 ^ 64 → text.now ≢ decimal n) }
+{
+    number_value(text)
+}
+
+/// Appends the one spelling of a number. Where memory is wanted, a front of it was appended.
+pub fn write_number(n: u64, out: &mut Vec<u8>) -> Result<(), Memory>
+    ensures { Writes out.old.items out.new.items result (decimal n) }
+{
+    let mut buffer = Buffer::new();
+    write_pieces(&[buffer.format(n).as_bytes()], out)
+}

@@ -1,0 +1,6 @@
+//! The rows of the tree: who owns whom, and the order in which children stand.
+#![tactic(auto)]
+
+mod tree;
+
+pub use tree::{NewRow, Tree};
