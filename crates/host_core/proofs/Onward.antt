@@ -13,32 +13,36 @@ use Rattle.tree_specs.specs.declared.row.Mark.TheVariants.{Quiet, Dying}
 use Rattle.tree_specs.specs.declared.call.Call.{Call}
 use Rattle.tree_specs.specs.declared.call.Call.TheVariants as call
 use Rattle.tree_specs.specs.declared.event.Event.{Event}
+use Rattle.tree_specs.specs.declared.event.Event.TheVariants.{Replied}
 use Rattle.tree_specs.specs.declared.question.Ask.TheVariants.{Quiet as AtRest}
 use Rattle.tree_specs.specs.declared.question.Input.{Input}
 use Rattle.tree_specs.specs.declared.frame.Frame.{Frame}
 use Rattle.tree_specs.specs.declared.frame.Frame.TheVariants as frame
 use Rattle.tree_specs.specs.declared.frame.CallFrame.TheVariants.{Asking, Doing, Awaiting, Telling}
+use Rattle.tree_specs.specs.declared.frame.FreeFrame.{FreeFrame}
 use Rattle.tree_specs.specs.declared.frame.FreeFrame.TheVariants.{Beginning, Leaving, Looping, Trying, Ending}
 use Rattle.tree_specs.specs.declared.frame.Answer.{Answer}
 use Rattle.tree_specs.specs.Pool.{Pool, row_of, first_kid, left_row, changed}
 use Rattle.tree_specs.specs.Items.{Item}
 use Rattle.tree_specs.specs.Items.Item.{Told, Asked}
 use Rattle.tree_specs.specs.Calls.{Check, refusals}
-use Rattle.tree_specs.specs.Table.{table, step, resume, taken, lifted, begin_by, begin_step, loop_step, call_step}
+use Rattle.tree_specs.specs.Table.{table, step, resume, taken, doing, lifted, free_step, begin_by, begin_step, loop_step, call_step}
 use Rattle.tree_specs.specs.Sound.{IsWaiting, AllWait, IsLive, Sound, claims, InLoop}
 use Rattle.tree_specs.specs.Measure.{total, cost, pending}
-use Rattle.tree_specs.specs.View.{View, rest_of, question_of}
+use Rattle.tree_specs.specs.View.{View, rest_of, question_in, question_of}
 use Rattle.tree_specs.specs.Whole.{Whole}
 use Rattle.tree_specs.proofs.Numbered.{by_test}
 use Rattle.tree_specs.proofs.Rows.{total-without, total-changed}
 use Rattle.tree_specs.proofs.Checks.{taken-doing}
 use Rattle.tree_specs.proofs.Keeps.{dying-row, claim-here}
+use Rattle.tree_specs.specs.Story.{heard}
 use Rattle.tree_specs.proofs.Falls.{Room, lower}
+use Rattle.tree_specs.proofs.Load.{pending-most}
 use Rattle.tree_specs.proofs.Rest.{event-whole, event-items, question-whole, question-items, silent-whole, silent-law, no-end, waits-asking, view_of_state}
 use Rattle.step_machine.specs.Machine.{items as told_by}
 use Rattle.tree_links.specs.Links.{Links, pool_of}
 use Rattle.host_core.specs.Room.{mark_places, row_places, work_places, places}
-use Rattle.host_core.specs.Hosts.{view_of, Ready, speaks, event_in, moved, next_of, speaking}
+use Rattle.host_core.specs.Hosts.{view_of, Ready, speaks, event_in, moved, next_of, speaking, asking}
 
 -- ---- no step wants more places
 
@@ -159,46 +163,46 @@ calm (frame.Free (Beginning x)) fs p s = each (row_of p.rows x)
 -- what stands after it
 pub record Onward (v w : View) : Type 0 where
   pub whole : Whole w
-  pub narrow : places w.now w.below w.pool ≤ places v.now v.below v.pool
-  pub calm : pending w.now ≡ 0
-  pub rows : (R : ℕ) → length v.pool.rows + pending v.now ≤ R → length w.pool.rows + pending w.now ≤ R
-  pub falls : (R : ℕ) → length v.pool.rows + pending v.now ≤ R → cost R w.now w.below w.pool 0 < cost R v.now v.below v.pool 0
+  pub narrow : places w.innermost w.below w.pool ≤ places v.innermost v.below v.pool
+  pub calm : pending w.innermost ≡ 0
+  pub rows : (R : ℕ) → length v.pool.rows + pending v.innermost ≤ R → length w.pool.rows + pending w.innermost ≤ R
+  pub falls : (R : ℕ) → length v.pool.rows + pending v.innermost ≤ R → cost R w.innermost w.below w.pool 0 < cost R v.innermost v.below v.pool 0
   pub same : (is : List Input) → rest_of v is ≡ rest_of w is
 
 silent-next : (v : View) → Whole v → speaking v ≡ false
-    → (s : State Frame Pool) × (silent table (step v.now v.pool) v.below ≡ Some s) × (next_of v ≡ (None, view_of_state s))
-silent-next v h t = each (step v.now v.pool) v.below refl refl t
+    → (s : State Frame Pool) × (silent table (step v.innermost v.pool) v.below ≡ Some s) × (next_of v ≡ (None, view_of_state s))
+silent-next v h t = each (step v.innermost v.pool) v.below refl refl t
   where
-    each : (m : Move Frame Answer Pool Item) (fs : List Frame) → step v.now v.pool ≡ m → v.below ≡ fs → speaks m ≡ false
+    each : (m : Move Frame Answer Pool Item) (fs : List Frame) → step v.innermost v.pool ≡ m → v.below ≡ fs → speaks m ≡ false
         → (s : State Frame Pool) × (silent table m fs ≡ Some s) × (moved m fs ≡ (None, view_of_state s))
     each (Do.Done a q) [] e d t =
-        let w : Whole (record { now = v.now; below = []; pool = v.pool }) = subst (λ (z : List Frame). Whole (record { now = v.now; below = z; pool = v.pool })) d h in
-        absurd (no-end v.now v.pool q a w.based w.sound.rests e)
+        let w : Whole (record { innermost = v.innermost; below = []; pool = v.pool }) = subst (λ (z : List Frame). Whole (record { innermost = v.innermost; below = z; pool = v.pool })) d h in
+        absurd (no-end v.innermost v.pool q a w.based w.sound.rests e)
     each (Do.Done a q) (g ∷ gs) e d t = (_, refl, refl)
     each (Do.Go g q) fs e d t = (_, refl, refl)
     each (Do.Emit i g q) fs e d t = cc
     each (Do.Wait i g q) fs e d t = cc
     each (Do.Call g k q) fs e d t = (_, refl, refl)
 
-silent-onward : (v : View) (s : State Frame Pool) → Whole v → silent table (step v.now v.pool) v.below ≡ Some s → Onward v (view_of_state s)
+silent-onward : (v : View) (s : State Frame Pool) → Whole v → silent table (step v.innermost v.pool) v.below ≡ Some s → Onward v (view_of_state s)
 silent-onward v s h e = record {
   whole = silent-whole v s h e;
-  narrow = silent-leads table (λ g gs q j. places g gs q ≤ places v.now v.below v.pool) (step v.now v.pool) v.below 0 s (places-kept v.now v.below v.pool h.sound) e;
-  calm = silent-leads table (λ g gs q j. pending g ≡ 0) (step v.now v.pool) v.below 0 s (calm v.now v.below v.pool h.sound) e;
+  narrow = silent-leads table (λ g gs q j. places g gs q ≤ places v.innermost v.below v.pool) (step v.innermost v.pool) v.below 0 s (places-kept v.innermost v.below v.pool h.sound) e;
+  calm = silent-leads table (λ g gs q j. pending g ≡ 0) (step v.innermost v.pool) v.below 0 s (calm v.innermost v.below v.pool h.sound) e;
   rows = λ R r. let l = (lowered R r).0 in omega arith;
   falls = λ R r. (lowered R r).1;
   same = λ is. ap told_by (silent-law v s is h e);
 }
   where
-    lowered : (R : ℕ) → length v.pool.rows + pending v.now ≤ R → Room R s.now s.pool 0 × (cost R s.now s.below s.pool 0 < cost R v.now v.below v.pool 0)
-    lowered R r = silent-leads table (λ g gs q j. Room R g q j × (cost R g gs q j < cost R v.now v.below v.pool 0)) (step v.now v.pool) v.below 0 s (lower R v.now v.below v.pool 0 h.sound (omega arith)) e
+    lowered : (R : ℕ) → length v.pool.rows + pending v.innermost ≤ R → Room R s.now s.pool 0 × (cost R s.now s.below s.pool 0 < cost R v.innermost v.below v.pool 0)
+    lowered R r = silent-leads table (λ g gs q j. Room R g q j × (cost R g gs q j < cost R v.innermost v.below v.pool 0)) (step v.innermost v.pool) v.below 0 s (lower R v.innermost v.below v.pool 0 h.sound (omega arith)) e
 
 pub onward : (v w : View) (i : Option Event) → Whole v → speaking v ≡ false → next_of v ≡ (i, w) → Onward v w
 onward v w i h t e =
     let n = silent-next v h t in
     subst (λ (z : View). Onward v z) (ap (λ (z : Option Event × View). z.1) (sym n.2 ∙ e)) (silent-onward v n.0 h n.1)
 
-pub next-places : (v : View) (taken : ℕ) → Whole v → speaking v ≡ false → places v.now v.below v.pool ≤ taken → length (next_of v).1.below ≤ taken
+pub next-places : (v : View) (taken : ℕ) → Whole v → speaking v ≡ false → places v.innermost v.below v.pool ≤ taken → length (next_of v).1.below ≤ taken
 next-places v taken h t r =
     let o = (onward v (next_of v).1 (next_of v).0 h t refl).narrow in omega arith
 
@@ -207,25 +211,25 @@ next-places v taken h t r =
 -- what stands after it
 pub record AfterEvent (v w : View) (e : Event) : Type 0 where
   pub whole : Whole w
-  pub narrow : places w.now w.below w.pool ≤ places v.now v.below v.pool
-  pub calm : pending w.now ≡ 0
+  pub narrow : places w.innermost w.below w.pool ≤ places v.innermost v.below v.pool
+  pub calm : pending w.innermost ≡ 0
   pub law : (is : List Input) → rest_of v is ≡ Told e ∷ rest_of w is
 
-emitted : (v : View) (e : Event) (f : Frame) (p : Pool) → Whole v → step v.now v.pool ≡ Do.Emit (Told e) f p → AfterEvent v (record { now = f; below = v.below; pool = p }) e
+emitted : (v : View) (e : Event) (f : Frame) (p : Pool) → Whole v → step v.innermost v.pool ≡ Do.Emit (Told e) f p → AfterEvent v (record { innermost = f; below = v.below; pool = p }) e
 emitted v e f p h t = record {
   whole = event-whole v (Told e) f p h t;
-  narrow = (let l = places-kept v.now v.below v.pool h.sound in rw t at l);
-  calm = (let l = calm v.now v.below v.pool h.sound in rw t at l);
+  narrow = (let l = places-kept v.innermost v.below v.pool h.sound in rw t at l);
+  calm = (let l = calm v.innermost v.below v.pool h.sound in rw t at l);
   law = λ is. event-items v (Told e) f p is h t;
 }
 
 pub after-event : (v w : View) (e : Event) → Whole v → next_of v ≡ (Some e, w) → AfterEvent v w e
-after-event v w e h t = each (step v.now v.pool) v.below refl refl t
+after-event v w e h t = each (step v.innermost v.pool) v.below refl refl t
   where
     none : (x : View) → (let a : Option Event × View = (None, x) in a) ≡ (Some e, w) → ⊥
     none x t = let z : None ≡ Some e = ap (λ (z : Option Event × View). z.0) t in cc
 
-    each : (m : Move Frame Answer Pool Item) (fs : List Frame) → step v.now v.pool ≡ m → v.below ≡ fs → moved m fs ≡ (Some e, w) → AfterEvent v w e
+    each : (m : Move Frame Answer Pool Item) (fs : List Frame) → step v.innermost v.pool ≡ m → v.below ≡ fs → moved m fs ≡ (Some e, w) → AfterEvent v w e
     each (Do.Done a q) [] k d t = absurd (none _ t)
     each (Do.Done a q) (g ∷ gs) k d t = absurd (none _ t)
     each (Do.Go f q) fs k d t = absurd (none _ t)
@@ -235,6 +239,124 @@ after-event v w e h t = each (step v.now v.pool) v.below refl refl t
     each (Do.Emit (Told i) f q) fs k d t =
         let x : Some i ≡ Some e = ap (λ (z : Option Event × View). z.0) t in
         let x' : i ≡ e = cc in
-        let y : record { now = f; below = fs; pool = q } ≡ w = ap (λ (z : Option Event × View). z.1) t in
-        let y' : record { now = f; below = v.below; pool = q } ≡ w = ap (λ (l : List Frame). let r : View = record { now = f; below = l; pool = q } in r) d ∙ y in
+        let y : record { innermost = f; below = fs; pool = q } ≡ w = ap (λ (z : Option Event × View). z.1) t in
+        let y' : record { innermost = f; below = v.below; pool = q } ≡ w = ap (λ (l : List Frame). let r : View = record { innermost = f; below = l; pool = q } in r) d ∙ y in
         subst (λ (z : View). AfterEvent v z e) y' (emitted v e f q h (k ∙ ap (λ (z : Event). Do.Emit (Told z) f q) x'))
+
+-- what a step tells is an event
+tells-event : (f : Frame) (p q : Pool) (i : Item) (g : Frame) → step f p ≡ Do.Emit i g q → (e : Event) × (i ≡ Told e)
+tells-event (frame.Call Asking) p q i g e = cc
+tells-event (frame.Call (Telling r)) p q i g e = (Replied r, (let z : Told (Replied r) ≡ i = cc in sym z))
+tells-event (frame.Call (Awaiting x)) p q i g e = cc
+tells-event (frame.Call (Doing c)) p q i g e = absurd (each (refusals p c) c e)
+  where
+    each : (check : Check) (c : Call) → call_step check c p ≡ Do.Emit i g q → ⊥
+    each (why ∷ later) c e = cc
+    each [] (call.New o size name) e = cc
+    each [] (call.Free x) e = cc
+tells-event (frame.Free f) p q i g e = each (free_step f p) e
+  where
+    each : (m : Move FreeFrame Answer Pool Event) → lifted m ≡ Do.Emit i g q → (e : Event) × (i ≡ Told e)
+    each (Do.Done a r) e = cc
+    each (Do.Go h r) e = cc
+    each (Do.Emit d h r) e = (d, (let z : Told d ≡ i = cc in sym z))
+    each (Do.Wait d h r) e = cc
+    each (Do.Call h k r) e = cc
+
+asking-apart : (v : View) (q : Pool) (i : Item) (g : Frame) → v.innermost ≢ frame.Call Asking → step v.innermost v.pool ≡ Do.Wait i g q → ⊥
+asking-apart v q i g n e = n (waits-asking v.innermost v.pool q i g e)
+
+-- the test for an open question
+pub asking-true : (f : Frame) → asking f ≡ true → f ≡ frame.Call Asking
+asking-true (frame.Call Asking) t = refl
+asking-true (frame.Call (Doing c)) t = cc
+asking-true (frame.Call (Awaiting x)) t = cc
+asking-true (frame.Call (Telling r)) t = cc
+asking-true (frame.Free f) t = cc
+
+pub asking-false : (f : Frame) → asking f ≡ false → f ≢ frame.Call Asking
+asking-false f t e = let b : asking f ≡ true = ap asking e in let bad : true ≡ false = sym b ∙ t in cc
+
+pub no-question : (v : View) → v.innermost ≢ frame.Call Asking → question_of v ≡ None
+no-question v n = each (step v.innermost v.pool) refl
+  where
+    each : (m : Move Frame Answer Pool Item) → step v.innermost v.pool ≡ m → question_in m ≡ None
+    each (Do.Done a q) e = refl
+    each (Do.Go f q) e = refl
+    each (Do.Emit i f q) e = refl
+    each (Do.Wait i f q) e = absurd (asking-apart v q i f n e)
+    each (Do.Call f g q) e = refl
+
+-- a host that speaks and asks nothing tells an event
+pub told : (v w : View) (o : Option Event) → Whole v → speaking v ≡ true → v.innermost ≢ frame.Call Asking → next_of v ≡ (o, w) → (e : Event) × (o ≡ Some e) × AfterEvent v w e
+told v w o h t n d = each (step v.innermost v.pool) refl t
+  where
+    each : (m : Move Frame Answer Pool Item) → step v.innermost v.pool ≡ m → speaks m ≡ true → (e : Event) × (o ≡ Some e) × AfterEvent v w e
+    each (Do.Done a q) e t = cc
+    each (Do.Go f q) e t = cc
+    each (Do.Call f g q) e t = cc
+    each (Do.Wait i f q) e t = absurd (asking-apart v q i f n e)
+    each (Do.Emit i f q) e t =
+        let k = tells-event v.innermost v.pool q i f e in
+        let m : next_of v ≡ (Some k.0, record { innermost = f; below = v.below; pool = q }) =
+        ap (λ (z : Move Frame Answer Pool Item). moved z v.below) e ∙ ap (λ (z : Item). let y : Option Event × View = (event_in z, record { innermost = f; below = v.below; pool = q }) in y) k.1 in
+        let s : o ≡ Some k.0 = ap (λ (z : Option Event × View). z.0) (sym d ∙ m) in
+        (k.0, s, after-event v w k.0 h (d ∙ ap (λ (z : Option Event). let y : Option Event × View = (z, w) in y) s))
+
+-- ---- an input
+
+row-places-most : (rs : List Row) → total row_places rs ≤ length rs
+row-places-most [] = omega arith
+row-places-most (r ∷ rs) = let ih = row-places-most rs in omega (arith, ih, few r.mark)
+  where
+    few : (m : Mark) → mark_places m ≤ 1
+    few Quiet = omega arith
+    few (Dying former) = omega arith
+
+few-places : (f : Frame) → work_places f ≤ 1
+few-places (frame.Call Asking) = omega arith
+few-places (frame.Call (Doing c)) = omega arith
+few-places (frame.Call (Awaiting x)) = omega arith
+few-places (frame.Call (Telling r)) = omega arith
+few-places (frame.Free (Beginning x)) = omega arith
+few-places (frame.Free (Leaving x)) = omega arith
+few-places (frame.Free (Looping x)) = omega arith
+few-places (frame.Free (Trying x c)) = omega arith
+few-places (frame.Free (Ending a)) = omega arith
+
+same-view : (g : Frame) (below below' : List Frame) (tree tree' : Links) → below' ≡ below → pool_of tree' ≡ pool_of tree
+    → (let v : View = record { innermost = g; below = reverse below; pool = pool_of tree } in v) ≡ view_of g below' tree'
+same-view g below below' tree tree' b p =
+    ap (λ (z : List Frame). let w : View = record { innermost = g; below = reverse z; pool = pool_of tree } in w) (sym b)
+    ∙ ap (λ (z : Pool). let w : View = record { innermost = g; below = reverse below'; pool = z } in w) (sym p)
+
+-- a host that was given an input it waited for has room for what comes
+pub input-ready : (g : Frame) (below below' : List Frame) (tree tree' : Links) (cap : ℕ) (i : Input) → Whole (view_of (frame.Call Asking) below tree) → heard doing i ≡ Some g
+    → below' ≡ below → pool_of tree' ≡ pool_of tree → length below + length tree.rows + 1 ≤ cap → 2 ≤ tree'.spare → Ready g below' tree' cap
+input-ready g below below' tree tree' cap i h t b p room rows =
+    let v : View = view_of (frame.Call Asking) below tree in
+    let e = same-view g below below' tree tree' b p in
+    let l : length (reverse below) ≡ length below = length-reverse below in
+    let m = row-places-most tree.rows in
+    let f = few-places g in
+    let n : length tree'.rows ≡ length tree.rows = ap (λ (z : Pool). length z.rows) p in
+    record {
+      whole = subst Whole e (question-whole v (Asked AtRest) (frame.Call Asking) g (pool_of tree) i h refl t);
+      places = subst (λ (z : View). places z.innermost z.below z.pool ≤ cap) e (omega arith);
+      rows = omega (arith, pending-most g);
+    }
+
+-- and its story goes on
+pub input-law : (g : Frame) (below below' : List Frame) (tree tree' : Links) (i : Input) (is : List Input) → Whole (view_of (frame.Call Asking) below tree) → heard doing i ≡ Some g
+    → below' ≡ below → pool_of tree' ≡ pool_of tree → rest_of (view_of (frame.Call Asking) below tree) (i ∷ is) ≡ Asked AtRest ∷ rest_of (view_of g below' tree') is
+input-law g below below' tree tree' i is h t b p =
+    question-items (view_of (frame.Call Asking) below tree) (Asked AtRest) (frame.Call Asking) g (pool_of tree) i is h refl t
+    ∙ ap (λ (z : View). Asked AtRest ∷ rest_of z is) (same-view g below below' tree tree' b p)
+
+-- ---- the open question, by the test
+
+pub open_question : (v : View) → asking v.innermost ≡ true → question_of v ≡ Some AtRest
+open_question v t = ap (λ (f : Frame). question_in (step f v.pool)) (asking-true v.innermost t)
+
+pub no_question : (v : View) → asking v.innermost ≡ false → question_of v ≡ None
+no_question v t = no-question v (asking-false v.innermost t)

@@ -6,6 +6,7 @@ use Rattle.tree_specs.specs.declared.event.Event.{Event}
 use Rattle.tree_specs.specs.declared.question.Input.{Input}
 use Rattle.tree_specs.specs.declared.frame.Frame.{Frame}
 use Rattle.tree_specs.specs.declared.frame.Frame.TheVariants as frame
+use Rattle.tree_specs.specs.declared.frame.CallFrame.TheVariants.{Asking, Doing, Awaiting, Telling}
 use Rattle.tree_specs.specs.declared.frame.FreeFrame.TheVariants.{Ending}
 use Rattle.tree_specs.specs.declared.frame.Answer.{Answer}
 use Rattle.tree_specs.specs.Pool.{Pool}
@@ -20,7 +21,7 @@ use Rattle.host_core.specs.Room.{places}
 
 -- the works below stand in a stack, whose last is the next innermost
 abbrev pub view_of : Frame → List Frame → Links → View
-view_of now below tree = record { now = now; below = reverse below; pool = pool_of tree }
+view_of now below tree = record { innermost = now; below = reverse below; pool = pool_of tree }
 
 -- what a host's parts keep: room for all that comes until the next question
 pub record Ready (now : Frame) (below : List Frame) (tree : Links) (places_taken : ℕ) : Type 0 where
@@ -42,15 +43,23 @@ event_in (Asked q) = None
 
 -- what a move tells, and where it leads, with these works below
 abbrev pub moved : Move Frame Answer Pool Item → List Frame → Option Event × View
-moved (Do.Done a p) [] = (None, record { now = frame.Free (Ending a); below = []; pool = p })
-moved (Do.Done a p) (g ∷ gs) = (None, record { now = resume g a; below = gs; pool = p })
-moved (Do.Go g p) fs = (None, record { now = g; below = fs; pool = p })
-moved (Do.Emit e g p) fs = (event_in e, record { now = g; below = fs; pool = p })
-moved (Do.Wait q g p) fs = (None, record { now = g; below = fs; pool = p })
-moved (Do.Call g h p) fs = (None, record { now = g; below = h ∷ fs; pool = p })
+moved (Do.Done a p) [] = (None, record { innermost = frame.Free (Ending a); below = []; pool = p })
+moved (Do.Done a p) (g ∷ gs) = (None, record { innermost = resume g a; below = gs; pool = p })
+moved (Do.Go g p) fs = (None, record { innermost = g; below = fs; pool = p })
+moved (Do.Emit e g p) fs = (event_in e, record { innermost = g; below = fs; pool = p })
+moved (Do.Wait q g p) fs = (None, record { innermost = g; below = fs; pool = p })
+moved (Do.Call g h p) fs = (None, record { innermost = g; below = h ∷ fs; pool = p })
 
 abbrev pub next_of : View → Option Event × View
-next_of v = moved (step v.now v.pool) v.below
+next_of v = moved (step v.innermost v.pool) v.below
 
 abbrev pub speaking : View → Bool
-speaking v = speaks (step v.now v.pool)
+speaking v = speaks (step v.innermost v.pool)
+
+-- the host waits for a call
+abbrev pub asking : Frame → Bool
+asking (frame.Call Asking) = true
+asking (frame.Call (Doing c)) = false
+asking (frame.Call (Awaiting x)) = false
+asking (frame.Call (Telling r)) = false
+asking (frame.Free f) = false

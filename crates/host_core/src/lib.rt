@@ -4,8 +4,9 @@
 mod caller;
 mod fault;
 mod freeing;
-
+mod host;
 mod motion;
 mod works;
 
 pub use fault::OfferFault;
+pub use host::Host;

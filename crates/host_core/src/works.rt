@@ -6,7 +6,7 @@ ghost use Rattle.tree_specs.specs.Measure.{pending};
 ghost use Rattle.tree_specs.specs.View.{rest_of};
 ghost use Rattle.tree_links.specs.Links.{pool_of};
 ghost use Rattle.host_core.specs.Moves.{move_of};
-ghost use Rattle.host_core.specs.Hosts.{view_of, moved, speaks as speaks_in, speaking, Ready};
+ghost use Rattle.host_core.specs.Hosts.{view_of, moved, speaks as speaks_in, speaking, asking, Ready};
 
 use crate::caller::{caller_move, caller_resumed};
 use crate::freeing::{free_move, free_resumed};
@@ -44,7 +44,7 @@ fn resumed(frame: Frame, answer: Answer) -> Frame
 }
 
 /// One step of the works, innermost first. It takes no memory.
-fn advance(now: Frame, below: &mut Vec<Frame>, tree: &mut Tree) -> Progress
+pub fn advance(now: Frame, below: &mut Vec<Frame>, tree: &mut Tree) -> Progress
     requires rows { pending now ≤ tree.old.spare }
     requires room { length (moved (step now (pool_of tree.old)) (reverse below.old.items)).1.below ≤ vec_capacity below.old }
     ensures moved { moved (step now (pool_of tree.old)) (reverse below.old.items) ≡ (result.event, view_of result.now below.new.items tree.new) }
@@ -82,6 +82,13 @@ fn advance(now: Frame, below: &mut Vec<Frame>, tree: &mut Tree) -> Progress
             }
         }
     }
+}
+
+/// Whether the host waits for a call.
+pub fn is_asking(frame: &Frame) -> bool
+    ensures { result ≡ asking frame.now }
+{
+    matches!(frame, Frame::Call(CallFrame::Asking))
 }
 
 /// Whether the next step tells or asks.

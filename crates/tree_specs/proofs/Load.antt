@@ -194,11 +194,11 @@ numbers r k w z d e hw hz hd he =
     omega arith
 
 -- the measure is below the stated number of turns at every moment
-pub cost-turns : (v : View) (k : ℕ) → Whole v → cost (length v.pool.rows + 2 * k + 2) v.now v.below v.pool k < turns (length v.pool.rows) k
+pub cost-turns : (v : View) (k : ℕ) → Whole v → cost (length v.pool.rows + 2 * k + 2) v.innermost v.below v.pool k < turns (length v.pool.rows) k
 cost-turns v k h =
-    numbers (length v.pool.rows) k (total weight v.pool.rows) (sizes v.below) (below_cost v.below) (top_cost (length v.pool.rows + 2 * k + 2) v.now v.below v.pool.rows)
+    numbers (length v.pool.rows) k (total weight v.pool.rows) (sizes v.below) (below_cost v.below) (top_cost (length v.pool.rows + 2 * k + 2) v.innermost v.below v.pool.rows)
     (weight-most v.pool.rows) (let m = burden-most v.pool.rows in let l = h.light in omega arith)
-    (below-light v.below) (top-most (length v.pool.rows + 2 * k + 2) v.now v.below v.pool.rows (omega arith))
+    (below-light v.below) (top-most (length v.pool.rows + 2 * k + 2) v.innermost v.below v.pool.rows (omega arith))
 
 pub pending-most : (f : Frame) → pending f ≤ 2
 pending-most (frame.Call Asking) = omega arith

@@ -16,17 +16,17 @@ use Rattle.tree_specs.specs.Table.{table, step}
 use Rattle.std.specs.Prelude.{ℕ}
 
 pub record View : Type 0 where
-  pub now : Frame
+  pub innermost : Frame
   pub below : List Frame
   pub pool : Pool
 
 -- a host at rest over an empty pool
 abbrev pub begin : ℕ → View
-begin first = record { now = frame.Call Asking; below = []; pool = empty first }
+begin first = record { innermost = frame.Call Asking; below = []; pool = empty first }
 
 -- the story still to come: its items
 abbrev pub rest_of : View → List Input → List Item
-rest_of v is = told_by (rest table (turns (length v.pool.rows) (length is)) v.now v.below v.pool is)
+rest_of v is = told_by (rest table (turns (length v.pool.rows) (length is)) v.innermost v.below v.pool is)
 
 abbrev pub asked_by : Item → Option Ask
 asked_by (Told e) = None
@@ -42,4 +42,4 @@ question_in (Do.Call g f p) = None
 
 -- the question that is open
 abbrev pub question_of : View → Option Ask
-question_of v = question_in (step v.now v.pool)
+question_of v = question_in (step v.innermost v.pool)

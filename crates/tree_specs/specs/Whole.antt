@@ -46,6 +46,6 @@ abbrev pub Light : Frame → List Frame → Pool → Type 0
 Light f fs p = size f + sizes fs ≤ total burden p.rows + 2
 
 pub record Whole (v : View) : Type 0 where
-  pub sound : Sound v.now v.below v.pool
-  pub based : Based v.now v.below
-  pub light : Light v.now v.below v.pool
+  pub sound : Sound v.innermost v.below v.pool
+  pub based : Based v.innermost v.below
+  pub light : Light v.innermost v.below v.pool

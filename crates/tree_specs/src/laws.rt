@@ -39,6 +39,6 @@ pub fn every_story_ends_with_its_question()
 /// The rules' text and the table of single steps tell the same story, pools and calls included, and its
 /// items are those of a host at its beginning.
 pub fn the_table_tells_the_story()
-    ensures scenes { (first : ℕ) (is : List InputData) → 1 ≤ first → told_by (run (noted notes table) (turns 0 (length is)) (with_note None (begin first).now) (empty first) is) ≡ story first is }
+    ensures scenes { (first : ℕ) (is : List InputData) → 1 ≤ first → told_by (run (noted notes table) (turns 0 (length is)) (with_note None (begin first).innermost) (empty first) is) ≡ story first is }
     ensures items { (first : ℕ) (is : List InputData) → 1 ≤ first → rest_of (begin first) is ≡ items (story first is) }
 {}

@@ -1,0 +1,32 @@
+use Rattle.std.proofs.Common.{◌≡◌, ◌≢◌, ◌∙◌, ◌∷◌, sym, ap, arith, Some, None, Option, vec_capacity, Bool, false, true}
+use Rattle.tree_specs.specs.declared.event.Event.{Event}
+use Rattle.tree_specs.specs.declared.frame.Frame.{Frame}
+use Rattle.tree_specs.specs.declared.frame.Frame.TheVariants as frame
+use Rattle.tree_specs.specs.declared.frame.CallFrame.TheVariants.{Asking}
+use Rattle.tree_specs.specs.Items.Item.{Told}
+use Rattle.tree_specs.specs.Table.{step}
+use Rattle.tree_links.specs.Links.{pool_of}
+use Rattle.tree_specs.specs.View.{View, rest_of, question_of}
+use Rattle.host_core.specs.Hosts.{view_of, asking, moved, next_of}
+use Rattle.host_core.specs.Promises.{NextLaw}
+use Rattle.host_core.proofs.Onward.{AfterEvent, told, no_question, asking-false}
+use Rattle.host_core.proofs.host.Host.next.Goals as goal
+
+pub settle-requires : goal.settle-requires
+settle-requires c =
+    let v : View = view_of c.self.inside.innermost c.self.inside.below.items c.self.inside.tree in
+    let w : View = view_of c.advance-progress.result.now c.advance-progress.new.below.items c.advance-progress.new.tree in
+    let m : next_of v ≡ (c.advance-progress.result.event, w) = ap (λ (f : Frame). moved (step f v.pool) v.below) (sym c.replace-now.ensures.value) ∙ c.advance-progress.ensures.moved in
+    let t = told v w c.advance-progress.result.event c.self.invariant.0.whole c.self.invariant.1 (asking-false _ (sym c.is_asking.ensures ∙ c.if-is_asking.false)) m in
+    let a : AfterEvent v w t.0 = t.2 in
+    record { whole = a.whole; places = omega (arith, a.narrow, c.self.invariant.0.places, c.advance-progress.ensures.kept); rows = omega (arith, a.calm) }
+
+pub returns : goal.returns
+returns c =
+    let v : View = view_of c.self.inside.innermost c.self.inside.below.items c.self.inside.tree in
+    let w : View = view_of c.advance-progress.result.now c.advance-progress.new.below.items c.advance-progress.new.tree in
+    let m : next_of v ≡ (c.advance-progress.result.event, w) = ap (λ (f : Frame). moved (step f v.pool) v.below) (sym c.replace-now.ensures.value) ∙ c.advance-progress.ensures.moved in
+    let asks : asking v.innermost ≡ false = sym c.is_asking.ensures ∙ c.if-is_asking.false in
+    let t = told v w c.advance-progress.result.event c.self.invariant.0.whole c.self.invariant.1 (asking-false _ asks) m in
+    let a : AfterEvent v w t.0 = t.2 in
+    rw t.1 (ap question_of (sym c.self.view_is) ∙ no_question v asks, λ is. ap (λ (z : View). rest_of z is) (sym c.self.view_is) ∙ a.law is ∙ ap (λ l. Told t.0 ∷ l) (c.settle.ensures.same is))

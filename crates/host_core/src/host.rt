@@ -1,0 +1,124 @@
+ghost use Rattle.std.specs.Prelude.{◌≡◌, ◌≤◌, ◌+◌, ◌↔◌, Some, Err, IsTrue, IfOk, OnOk, OnErr, length, vec_capacity};
+ghost use Rattle.std.specs.Option.{option_copied};
+ghost use Rattle.tree_specs.specs.declared.schedule.Reason.TheVariants as reasons;
+ghost use Rattle.tree_specs.specs.Schedule.{misfit};
+ghost use Rattle.tree_specs.specs.Soundness.{is_sound};
+ghost use Rattle.tree_specs.specs.Story.{heard};
+ghost use Rattle.tree_specs.specs.Table.{doing};
+ghost use Rattle.tree_specs.specs.View.{begin, question_of};
+ghost use Rattle.tree_links.specs.Links.{pool_of};
+
+use crate::fault::OfferFault;
+use crate::works::{advance, is_asking, settle};
+use std::alloc::Global;
+use std::marker::Model;
+use std::mem;
+use tree_links::Tree;
+use tree_specs::{Ask, CallFrame, Event, Frame, Input, Memory};
+
+/// The work of a host at rest that was given an answer.
+fn given(input: Input) -> Frame
+    requires { IsTrue (is_sound input) }
+    ensures { heard doing input ≡ Some result }
+{
+    match input {
+        Input::Call(call) => Frame::Call(CallFrame::Doing { call }),
+    }
+}
+
+/// Takes the memory for all that a call can want. After want of memory the works and the objects are as they were.
+fn make_room(below: &mut Vec<Frame>, tree: &mut Tree) -> Result<(), Memory>
+    ensures works { below.new.items ≡ below.old.items }
+    ensures rows { pool_of tree.new ≡ pool_of tree.old }
+    ensures works_kept { vec_capacity below.old ≤ vec_capacity below.new }
+    ensures rows_kept { tree.old.spare ≤ tree.new.spare }
+    ensures works_room { OnOk result (length below.old.items + length tree.old.rows + 1 ≤ vec_capacity below.new) }
+    ensures rows_room { OnOk result (2 ≤ tree.new.spare) }
+{
+    let places = tree.len().checked_add(1).ok_or(Memory)?;
+    below.reserve(places)?;
+    tree.reserve(2)?;
+    Ok(())
+}
+
+/// A tree of objects as a state machine. Contracts see its open works, the innermost first, over a pool, and
+/// thereby the question that is open and the story still to come.
+#[derive(Drop)]
+pub struct Host {
+    innermost: Frame,
+    below: Vec<Frame>,
+    tree: Tree,
+}
+
+impl Model for Host {
+    ghost use Rattle.tree_specs.specs.View.{View};
+
+    ghost Value = { View };
+
+    ghost use Rattle.std.specs.Prelude.{◌≡◌, true, vec_capacity};
+    ghost use Rattle.host_core.specs.Hosts.{view_of, Ready, speaking};
+
+    ghost view = { λ h. view_of h.innermost h.below.items h.tree };
+
+    ghost invariant = { λ h. Ready h.innermost h.below.items h.tree (vec_capacity h.below) × (speaking (view_of h.innermost h.below.items h.tree) ≡ true) };
+}
+
+impl Host {
+    ghost use Rattle.host_core.specs.Promises.{NextLaw, TakesAnswer};
+
+    /// A host with no objects, whose first one gets the number `first`. It waits for a call.
+    pub fn new(alloc: Global, first: u64) -> Result<Host, Memory>
+        requires { 1 ≤ first }
+        ensures { IfOk result (λ host. host ≡ begin first) }
+    {
+        Ok(Host {
+            innermost: Frame::Call(CallFrame::Asking),
+            below: Vec::new(alloc),
+            tree: Tree::new(alloc, first),
+        })
+    }
+
+    /// The open question. None exactly where an event is still to come.
+    #[tactic(auto, using(crate::proofs::Onward::open_question, crate::proofs::Onward::no_question))]
+    pub fn question(&self) -> Option<&Ask>
+        ensures { option_copied result ≡ question_of self.now }
+    {
+        if is_asking(&self.innermost) {
+            Some(&Ask::Quiet)
+        } else {
+            None
+        }
+    }
+
+    /// The next event, which is told now and not again. None exactly where a question is open, and then
+    /// nothing changes. It takes no memory.
+    pub fn next(&mut self) -> Option<Event>
+        ensures { NextLaw result self.old self.new }
+    {
+        if is_asking(&self.innermost) {
+            return None;
+        }
+        let now = mem::replace(&mut self.innermost, Frame::Call(CallFrame::Asking));
+        let progress = advance(now, &mut self.below, &mut self.tree);
+        self.innermost = settle(progress.now, &mut self.below, &mut self.tree);
+        progress.event
+    }
+
+    /// Gives the answer to the open question. All memory up to the next question is taken first, and after a
+    /// fault the host is as it was; the answer is dropped then. NotAsked comes exactly where no question is
+    /// open or the open one takes no such answer.
+    #[tactic(auto, using(crate::proofs::Onward::open_question, crate::proofs::Onward::no_question))]
+    pub fn offer(&mut self, input: Input) -> Result<(), OfferFault>
+        requires { IsTrue (is_sound input) }
+        ensures ok { OnOk result (TakesAnswer self.old input self.new) }
+        ensures err { OnErr result (self.new ≡ self.old) }
+        ensures not_asked { (result ≡ Err OfferFault.NotAsked) ↔ (misfit (question_of self.old) input ≡ Some reasons.NotAsked) }
+    {
+        if !is_asking(&self.innermost) {
+            return Err(OfferFault::NotAsked);
+        }
+        make_room(&mut self.below, &mut self.tree)?;
+        self.innermost = settle(given(input), &mut self.below, &mut self.tree);
+        Ok(())
+    }
+}

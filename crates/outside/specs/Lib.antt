@@ -1,0 +1,6 @@
+pub mod Causes
+pub mod Reads
+pub mod Puts
+pub mod Pacings
+pub mod InMemory
+pub mod StdEnds

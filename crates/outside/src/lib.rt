@@ -1,0 +1,22 @@
+//! Where bytes come from and where they go: two traits with a count of faults, ends in memory that
+//! move a few bytes at a time and fail when told, and the ends over std's readers and writers.
+#![tactic(auto)]
+
+mod memory_sink;
+mod memory_source;
+mod pace;
+mod retry;
+mod sink;
+mod source;
+mod std_sink;
+mod std_source;
+
+pub use memory_sink::{FineSink, MemSink};
+pub use memory_source::{FineSource, MemSource};
+pub use sink::{Put, Sink};
+pub use source::{Got, Source};
+pub use std_sink::StdSink;
+pub use std_source::StdSource;
+
+#[cfg(test)]
+mod tests;
