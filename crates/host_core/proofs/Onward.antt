@@ -14,8 +14,10 @@ use Rattle.tree_specs.specs.declared.call.Call.{Call}
 use Rattle.tree_specs.specs.declared.call.Call.TheVariants as call
 use Rattle.tree_specs.specs.declared.event.Event.{Event}
 use Rattle.tree_specs.specs.declared.event.Event.TheVariants.{Replied}
+use Rattle.tree_specs.specs.declared.question.Ask.{Ask}
 use Rattle.tree_specs.specs.declared.question.Ask.TheVariants.{Quiet as AtRest}
 use Rattle.tree_specs.specs.declared.question.Input.{Input}
+use Rattle.tree_specs.specs.declared.question.Input.TheVariants as input
 use Rattle.tree_specs.specs.declared.frame.Frame.{Frame}
 use Rattle.tree_specs.specs.declared.frame.Frame.TheVariants as frame
 use Rattle.tree_specs.specs.declared.frame.CallFrame.TheVariants.{Asking, Doing, Awaiting, Telling}
@@ -29,6 +31,7 @@ use Rattle.tree_specs.specs.Calls.{Check, refusals}
 use Rattle.tree_specs.specs.Table.{table, step, resume, taken, doing, lifted, free_step, begin_by, begin_step, loop_step, call_step}
 use Rattle.tree_specs.specs.Sound.{IsWaiting, AllWait, IsLive, Sound, claims, InLoop}
 use Rattle.tree_specs.specs.Measure.{total, cost, pending}
+use Rattle.tree_specs.specs.Schedule.{misfit}
 use Rattle.tree_specs.specs.View.{View, rest_of, question_in, question_of}
 use Rattle.tree_specs.specs.Whole.{Whole}
 use Rattle.tree_specs.proofs.Numbered.{by_test}
@@ -38,9 +41,10 @@ use Rattle.tree_specs.proofs.Keeps.{dying-row, claim-here}
 use Rattle.tree_specs.specs.Story.{heard}
 use Rattle.tree_specs.proofs.Falls.{Room, lower}
 use Rattle.tree_specs.proofs.Load.{pending-most}
-use Rattle.tree_specs.proofs.Rest.{event-whole, event-items, question-whole, question-items, silent-whole, silent-law, no-end, waits-asking, view_of_state}
+use Rattle.tree_specs.proofs.Rest.{event-whole, event-items, question-whole, question-items, open-items, begins-items, silent-whole, silent-law, no-end, waits-asking, view_of_state}
 use Rattle.step_machine.specs.Machine.{items as told_by}
 use Rattle.tree_links.specs.Links.{Links, pool_of}
+use Rattle.host_core.specs.Promises.{Waits}
 use Rattle.host_core.specs.Room.{mark_places, row_places, work_places, places}
 use Rattle.host_core.specs.Hosts.{view_of, Ready, speaks, event_in, moved, next_of, speaking, asking}
 
@@ -360,3 +364,21 @@ open_question v t = ap (λ (f : Frame). question_in (step f v.pool)) (asking-tru
 
 pub no_question : (v : View) → asking v.innermost ≡ false → question_of v ≡ None
 no_question v t = no-question v (asking-false v.innermost t)
+
+-- an input fits the question of a host at rest
+pub fits-rest : (v : View) (i : Input) → asking v.innermost ≡ true → misfit (question_of v) i ≡ None
+fits-rest v i t = ap (λ (q : Option Ask). misfit q i) (open_question v t) ∙ each i
+  where
+    each : (i : Input) → misfit (Some AtRest) i ≡ None
+    each (input.Call c) = refl
+
+-- a host at rest waits
+pub waits-rest : (v : View) → Whole v → asking v.innermost ≡ true → Waits v
+waits-rest v h t =
+    let s : step v.innermost v.pool ≡ Do.Wait (Asked AtRest) (frame.Call Asking) v.pool = ap (λ (f : Frame). step f v.pool) (asking-true v.innermost t) in
+    record {
+      question = AtRest;
+      open_now = open_question v t;
+      last = open-items v (Asked AtRest) (frame.Call Asking) v.pool h s;
+      begins = λ is. begins-items v (Asked AtRest) (frame.Call Asking) v.pool is h s;
+    }

@@ -1,4 +1,4 @@
-ghost use Rattle.std.specs.Prelude.{◌≡◌, ◌≤◌, ◌+◌, ◌↔◌, Some, Err, IsTrue, IfOk, OnOk, OnErr, length, vec_capacity};
+ghost use Rattle.std.specs.Prelude.{◌≡◌, ◌≤◌, ◌+◌, ◌↔◌, Some, Err, IsTrue, IsSome, IfOk, OnOk, OnErr, length, vec_capacity};
 ghost use Rattle.std.specs.Option.{option_copied};
 ghost use Rattle.tree_specs.specs.declared.schedule.Reason.TheVariants as reasons;
 ghost use Rattle.tree_specs.specs.Schedule.{misfit};
@@ -64,7 +64,7 @@ impl Model for Host {
 }
 
 impl Host {
-    ghost use Rattle.host_core.specs.Promises.{NextLaw, TakesAnswer};
+    ghost use Rattle.host_core.specs.Promises.{Waits, NextLaw, TakesAnswer};
 
     /// A host with no objects, whose first one gets the number `first`. It waits for a call.
     pub fn new(alloc: Global, first: u64) -> Result<Host, Memory>
@@ -81,7 +81,8 @@ impl Host {
     /// The open question. None exactly where an event is still to come.
     #[tactic(auto, using(crate::proofs::Onward::open_question, crate::proofs::Onward::no_question))]
     pub fn question(&self) -> Option<&Ask>
-        ensures { option_copied result ≡ question_of self.now }
+        ensures question { option_copied result ≡ question_of self.now }
+        ensures waits { IsSome result → Waits self.now }
     {
         if is_asking(&self.innermost) {
             Some(&Ask::Quiet)

@@ -1,10 +1,10 @@
 -- The laws of the story still to come.
 use Rattle.std.proofs.Common.{◌≡◌, ℕ, suc, zero, ◌+◌, ◌*◌, ◌≤◌, ◌<◌, List, [], ◌∷◌, length, Option, Some, None, refl, sym, ◌∙◌, ap, subst, arith}
-use Rattle.step_machine.specs.Machine.{Move, Outcome, State, silent, tell, rest, walk, items as told_by}
+use Rattle.step_machine.specs.Machine.{Move, Outcome, State, silent, tell, given, asks, leads, rest, walk, items as told_by}
 use Rattle.step_machine.specs.Machine.{Move as Do}
-use Rattle.step_machine.specs.Machine.Outcome.{Waits}
+use Rattle.step_machine.specs.Machine.Outcome.{Ended, Waits, Stray, Short}
 use Rattle.step_machine.specs.Open.{LastIs}
-use Rattle.step_machine.proofs.Ends.{NotShort, Leads, enough, rest-walk, rest-any, rest-event, rest-question, rest-silent, rest-open, silent-leads}
+use Rattle.step_machine.proofs.Ends.{NotShort, Leads, enough, rest-walk, rest-any, rest-step, rest-event, rest-question, rest-silent, rest-open, silent-leads}
 use Rattle.step_machine.proofs.Open.{Asks, Asks-items, Stays, walk-asks, items-tell}
 use Rattle.tree_specs.specs.declared.question.Ask.{Ask}
 use Rattle.tree_specs.specs.declared.question.Input.{Input}
@@ -228,3 +228,32 @@ ends-asked v is h =
     let w : Asks IsQuestion (walk table n v.innermost v.below v.pool is) = walk-asks table WholeAt IsQuestion asks-kept n v.innermost v.below v.pool is h in
     Asks-items IsQuestion _ (not-short v is h)
         (subst (λ (o : Outcome Answer Pool Input Item). Asks IsQuestion o) (rest-walk table (Well R) (cost R) (falls R) n v.innermost v.below v.pool is (well v (length is) h) (cost-turns v (length is) h)) w)
+
+-- ---- where a question is open the story still to come begins with it
+
+begins-tell : (q : Item) (o : Outcome Answer Pool Input Item) → NotShort (tell q o) → (more : List Item) × (told_by (tell q o) ≡ q ∷ more)
+begins-tell q (Ended a p ts is) n = (ts, refl)
+begins-tell q (Waits ts) n = (ts, refl)
+begins-tell q (Stray ts) n = (ts, refl)
+begins-tell q Short n = absurd n
+
+pub begins-items : (v : View) (q : Item) (f : Frame) (p : Pool) (is : List Input) → Whole v → step v.innermost v.pool ≡ Do.Wait q f p → (more : List Item) × (rest_of v is ≡ q ∷ more)
+begins-items v q f p is h is-wait = each is e (not-short v is h)
+  where
+    n : ℕ
+    n = turns (length v.pool.rows) (length is)
+
+    e : outcome v is ≡ asks table.taken (λ g p' left. walk table n g v.below p' left) q f p is
+    e = rest-step table (Well (most v (length is))) (cost (most v (length is))) (falls (most v (length is))) n v.innermost v.below v.pool is (well v (length is) h) (cost-turns v (length is) h)
+        ∙ ap (λ (m : Move Frame Answer Pool Item). leads table (walk table n) m v.below is) is-wait
+
+    fits : (i : Input) (js : List Input) (o : Option Frame) → NotShort (given (λ g p' left. walk table n g v.below p' left) q p js o)
+        → (more : List Item) × (told_by (given (λ g p' left. walk table n g v.below p' left) q p js o) ≡ q ∷ more)
+    fits i js None s = ([], refl)
+    fits i js (Some g) s = begins-tell q (walk table n g v.below p js) s
+
+    each : (js : List Input) → outcome v is ≡ asks table.taken (λ g p' left. walk table n g v.below p' left) q f p js → NotShort (outcome v is) → (more : List Item) × (rest_of v is ≡ q ∷ more)
+    each [] e s = ([], ap told_by e)
+    each (i ∷ js) e s =
+        let w = fits i js (table.taken f p i) (subst NotShort e s) in
+        (w.0, ap told_by e ∙ w.1)

@@ -1,4 +1,4 @@
-use Rattle.std.proofs.Common.{◌≡◌, ◌≢◌, ◌∙◌, ◌∷◌, sym, ap, arith, Some, None, Option, vec_capacity, Bool, false, true}
+use Rattle.std.proofs.Common.{◌≡◌, ◌≢◌, ◌∙◌, ◌∷◌, refl, sym, ap, subst, arith, Some, None, Option, vec_capacity, Bool, false, true}
 use Rattle.tree_specs.specs.declared.event.Event.{Event}
 use Rattle.tree_specs.specs.declared.frame.Frame.{Frame}
 use Rattle.tree_specs.specs.declared.frame.Frame.TheVariants as frame
@@ -8,9 +8,15 @@ use Rattle.tree_specs.specs.Table.{step}
 use Rattle.tree_links.specs.Links.{pool_of}
 use Rattle.tree_specs.specs.View.{View, rest_of, question_of}
 use Rattle.host_core.specs.Hosts.{view_of, asking, moved, next_of}
-use Rattle.host_core.specs.Promises.{NextLaw}
-use Rattle.host_core.proofs.Onward.{AfterEvent, told, no_question, asking-false}
+use Rattle.host_core.specs.Promises.{Waits}
+use Rattle.host_core.proofs.Onward.{AfterEvent, told, no_question, asking-false, waits-rest}
 use Rattle.host_core.proofs.host.Host.next.Goals as goal
+
+-- a question is open, and nothing was touched
+pub returns-then-is_asking : goal.returns-then-is_asking
+returns-then-is_asking c =
+    let v : View = view_of c.self.inside.innermost c.self.inside.below.items c.self.inside.tree in
+    (subst Waits c.self.view_is (waits-rest v c.self.invariant.0.whole (sym c.is_asking.ensures ∙ c.if-is_asking.true)), refl)
 
 pub settle-requires : goal.settle-requires
 settle-requires c =

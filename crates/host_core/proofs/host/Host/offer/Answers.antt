@@ -5,10 +5,11 @@ use Rattle.tree_specs.specs.declared.frame.CallFrame.TheVariants.{Asking}
 use Rattle.tree_specs.specs.declared.question.Ask.TheVariants.{Quiet}
 use Rattle.tree_specs.specs.Items.{Item}
 use Rattle.tree_specs.specs.Items.Item.{Asked}
+use Rattle.tree_specs.specs.Schedule.{misfit}
 use Rattle.tree_specs.specs.View.{View, rest_of, question_of}
 use Rattle.tree_specs.specs.Whole.{Whole}
 use Rattle.host_core.specs.Hosts.{view_of, asking}
-use Rattle.host_core.proofs.Onward.{asking-true, open_question, input-ready, input-law}
+use Rattle.host_core.proofs.Onward.{asking-true, open_question, fits-rest, input-ready, input-law}
 use Rattle.host_core.proofs.host.Host.offer.Goals as goal
 
 pub settle-requires : goal.settle-requires
@@ -29,6 +30,7 @@ returns-clause-ok c =
     record {
       question = Quiet;
       open_before = ap question_of (sym c.self.view_is) ∙ open_question v asks;
+      fits = ap (λ (z : View). misfit (question_of z) c.args.input) (sym c.self.view_is) ∙ fits-rest v c.args.input asks;
       goes_on = λ is. ap (λ (z : View). rest_of z (c.args.input ∷ is)) (sym c.self.view_is ∙ g)
           ∙ input-law c.given.result c.self.inside.below.items c.make_room.new.below.items c.self.inside.tree c.make_room.new.tree c.args.input is h c.given.ensures c.make_room.ensures.works c.make_room.ensures.rows
           ∙ ap (λ (l : List Item). Asked Quiet ∷ l) (c.settle.ensures.same is);

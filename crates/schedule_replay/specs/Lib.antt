@@ -1,0 +1,4 @@
+pub mod Replays
+pub mod Puts
+pub mod Readings
+pub mod Sessions
