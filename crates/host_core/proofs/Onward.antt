@@ -4,6 +4,7 @@ use Rattle.std.specs.Prelude.{if◌then◌else◌, reverse}
 use Rattle.std.proofs.lemmas.List.{length-reverse}
 use Rattle.step_machine.specs.Machine.{Move, State, silent}
 use Rattle.step_machine.specs.Machine.{Move as Do}
+use Rattle.step_machine.specs.Open.{LastIs}
 use Rattle.step_machine.proofs.Ends.{Leads, silent-leads}
 use Rattle.tree_specs.specs.declared.object.Obj.{Obj}
 use Rattle.tree_specs.specs.declared.object.Owner.TheVariants.{Of}
@@ -25,7 +26,7 @@ use Rattle.tree_specs.specs.declared.frame.FreeFrame.{FreeFrame}
 use Rattle.tree_specs.specs.declared.frame.FreeFrame.TheVariants.{Beginning, Leaving, Looping, Trying, Ending}
 use Rattle.tree_specs.specs.declared.frame.Answer.{Answer}
 use Rattle.tree_specs.specs.Pool.{Pool, row_of, first_kid, left_row, changed}
-use Rattle.tree_specs.specs.Items.{Item}
+use Rattle.tree_specs.specs.Items.{Item, IsQuestion}
 use Rattle.tree_specs.specs.Items.Item.{Told, Asked}
 use Rattle.tree_specs.specs.Calls.{Check, refusals}
 use Rattle.tree_specs.specs.Table.{table, step, resume, taken, doing, lifted, free_step, begin_by, begin_step, loop_step, call_step}
@@ -41,7 +42,7 @@ use Rattle.tree_specs.proofs.Keeps.{dying-row, claim-here}
 use Rattle.tree_specs.specs.Story.{heard}
 use Rattle.tree_specs.proofs.Falls.{Room, lower}
 use Rattle.tree_specs.proofs.Load.{pending-most}
-use Rattle.tree_specs.proofs.Rest.{event-whole, event-items, question-whole, question-items, open-items, begins-items, silent-whole, silent-law, no-end, waits-asking, view_of_state}
+use Rattle.tree_specs.proofs.Rest.{event-whole, event-items, question-whole, question-items, open-items, begins-items, ends-asked, silent-whole, silent-law, no-end, waits-asking, view_of_state}
 use Rattle.step_machine.specs.Machine.{items as told_by}
 use Rattle.tree_links.specs.Links.{Links, pool_of}
 use Rattle.host_core.specs.Promises.{Waits}
@@ -382,3 +383,11 @@ waits-rest v h t =
       last = open-items v (Asked AtRest) (frame.Call Asking) v.pool h s;
       begins = λ is. begins-items v (Asked AtRest) (frame.Call Asking) v.pool is h s;
     }
+
+-- there is always something to come
+pub always-more : (v : View) (is : List Input) → Whole v → (item : Item) × (items : List Item) × (rest_of v is ≡ item ∷ items)
+always-more v is h = each (rest_of v is) refl (ends-asked v is h)
+  where
+    each : (l : List Item) → rest_of v is ≡ l → LastIs IsQuestion l → (item : Item) × (items : List Item) × (rest_of v is ≡ item ∷ items)
+    each [] e h = absurd h
+    each (i ∷ l) e h = (i, l, e)

@@ -26,3 +26,5 @@ pub record TakesAnswer (old : View) (i : Input) (new : View) : Type 0 where
   pub open_before : question_of old ≡ Some question
   pub fits : misfit (question_of old) i ≡ None
   pub goes_on : (is : List Input) → rest_of old (i ∷ is) ≡ Asked question ∷ rest_of new is
+  -- there is always an event or a question to come
+  pub more : (is : List Input) → (item : Item) × (items : List Item) × (rest_of new is ≡ item ∷ items)

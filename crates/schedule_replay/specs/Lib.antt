@@ -1,4 +1,6 @@
 pub mod Replays
 pub mod Puts
+pub mod Tellings
+pub mod Questions
 pub mod Readings
-pub mod Sessions
+pub mod States

@@ -1,11 +1,15 @@
 -- A replay in the midst of a schedule, and what the next bytes do to it.
-use Rattle.std.specs.Prelude.{◌≡◌, ◌≢◌, ℕ, ◌+◌, ◌-◌, ◌*◌, ◌^◌, ◌<◌, ◌≤◌, Bool, true, List, [], ◌++◌, length, Option, Some, None, Result, Ok, Err, IsSome}
+use Rattle.std.specs.Prelude.{◌≡◌, ◌≢◌, ℕ, ◌+◌, ◌-◌, ◌*◌, ◌^◌, ◌<◌, ◌≤◌, Bool, true, List, [], ◌++◌, length, Option, Some, None, Result, Ok, Err, if◌then◌else◌, ◌==◌, ◌∷◌}
 use Rattle.tree_specs.specs.declared.schedule.Reason.{Reason}
-use Rattle.tree_specs.specs.Schedule.{lines}
-use Rattle.tree_specs.specs.View.{View, rest_of, question_of}
+use Rattle.tree_specs.specs.declared.question.Ask.{Ask}
+use Rattle.tree_specs.specs.Written.{WritesFront}
+use Rattle.tree_specs.specs.Text.{end_text}
+use Rattle.tree_specs.specs.Schedule.{Line, lines}
+use Rattle.tree_specs.specs.View.{View, begin, question_of}
+use Rattle.host_core.specs.Promises.{Waits}
 use Rattle.schedule_replay.specs.declared.refusal.LineError.{LineError}
 use Rattle.schedule_replay.specs.declared.refusal.LineError.TheVariants as errors
-use Rattle.schedule_replay.specs.Replays.{Replayed, with_front, replayed_from, BeginsText, has_no_lf}
+use Rattle.schedule_replay.specs.Replays.{Replayed, with_front, replayed_from, BeginsText, has_no_lf, ended_line}
 
 pub record Reading : Type 0 where
   pub host : View
@@ -23,6 +27,44 @@ from_line s bytes = replayed_from s.host s.number (lines bytes)
 -- what is replayed where these bytes still come
 abbrev pub with_more : Reading → List ℕ → Replayed
 with_more s bytes = from_line s (s.line ++ bytes)
+
+-- what ends the transcript, by the question that is open; nothing where the header is refused
+abbrev pub end_of : Option Ask → List ℕ
+end_of None = []
+end_of (Some q) = end_text q
+
+abbrev pub refused_text : Reading → List ℕ
+refused_text s = if s.number == 1 then [] else end_of (question_of s.host)
+
+-- the line that has begun is refused, after the end of the transcript
+abbrev pub RefusesHere : Reading → Reading → Reason → Result (Unit {0}) LineError → Type 0
+RefusesHere s t reason (Ok done) = ⊥
+RefusesHere s t reason (Err (errors.Refused line why)) = (line ≡ s.number) × (why ≡ reason) × (t.text ≡ s.text ++ refused_text s)
+RefusesHere s t reason (Err errors.Memory) = WritesFront s.text t.text (refused_text s)
+
+-- The line that has begun is whole, and was done.
+pub record LineDone (s t : Reading) : Type 0 where
+  pub written : List ℕ
+  pub text : t.text ≡ s.text ++ written
+  pub goes_on : (rest : List Line) → replayed_from s.host s.number (ended_line s.line ∷ rest) ≡ with_front written (replayed_from t.host (s.number + 1) rest)
+  pub waits : Waits t.host
+
+-- It was refused.
+pub record LineRefused (s t : Reading) (line : ℕ) (reason : Reason) : Type 0 where
+  pub written : List ℕ
+  pub text : t.text ≡ s.text ++ written
+  pub ends : (rest : List Line) → replayed_from s.host s.number (ended_line s.line ∷ rest) ≡ record { text = Some written; refused = Some (line, reason) }
+
+-- Memory was wanted in it.
+pub record LineBroken (s t : Reading) : Type 0 where
+  pub written : List ℕ
+  pub text : t.text ≡ s.text ++ written
+  pub begins : (rest : List Line) → BeginsText written (replayed_from s.host s.number (ended_line s.line ∷ rest)).text
+
+abbrev pub TakesLine : Reading → Reading → Result (Unit {0}) LineError → Type 0
+TakesLine s t (Ok done) = LineDone s t
+TakesLine s t (Err (errors.Refused line reason)) = LineRefused s t line reason
+TakesLine s t (Err errors.Memory) = LineBroken s t
 
 -- The piece holds some whole lines, which were done, and the rest has begun the next.
 pub record Advances (s : Reading) (piece : List ℕ) (t : Reading) : Type 0 where
@@ -67,8 +109,12 @@ pub record IsReady (s : Reading) : Type 0 where
   pub first : 1 ≤ s.number
   pub last : s.number ≤ 2 ^ 32
   pub numbered : 0 < length s.line → s.number ≤ 2 ^ 32 - 1
-  pub quiet : IsSome (question_of s.host)
+  pub waits : Waits s.host
 
 -- at most so many bytes can still be taken
 abbrev pub room_left : Reading → ℕ
 room_left s = 262145 * (2 ^ 32 - s.number) + (262144 - length s.line)
+
+-- a replay before its first byte
+abbrev pub fresh : Reading
+fresh = record { host = begin 1; number = 1; line = []; text = [] }

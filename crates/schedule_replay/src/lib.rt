@@ -1,13 +1,7 @@
-// A library with one function.
+//! Replaying a schedule into its transcript: bytes in, bytes out.
 #![tactic(auto)]
 
-ghost use Rattle.std.specs.Prelude.{◌≡◌};
-ghost use Rattle.schedule_replay.specs.Echo.{echo_of};
-
-// The `ensures` clause is the contract: what `echo` returns is `echo_of` of its argument, a definition
-// in `specs/Echo.antt`, which a caller's clause can cite too.
-pub fn echo(x: usize) -> usize
-    ensures { result ≡ echo_of x }
-{
-    x
-}
+mod output;
+mod reading;
+mod refusal;
+mod telling;

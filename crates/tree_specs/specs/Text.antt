@@ -12,6 +12,8 @@ use Rattle.tree_specs.specs.declared.event.Event.{Event}
 use Rattle.tree_specs.specs.declared.event.Event.TheVariants.{Replied, Freed}
 use Rattle.tree_specs.specs.declared.question.Ask.{Ask}
 use Rattle.tree_specs.specs.declared.question.Ask.TheVariants.{Quiet}
+use Rattle.tree_specs.specs.declared.question.Input.{Input}
+use Rattle.tree_specs.specs.declared.question.Input.TheVariants as inputs
 use Rattle.tree_specs.specs.Objects.{owner_number}
 use Rattle.tree_specs.specs.Items.{Item}
 use Rattle.tree_specs.specs.Items.Item.{Told, Asked}
@@ -23,6 +25,10 @@ newline = 10 ∷ []
 unfoldable pub call_text : Call → List ℕ
 call_text (New owner size name) = codes "new " ++ decimal (owner_number owner) ++ codes " " ++ decimal size ++ codes " " ++ name
 call_text (Free x) = codes "free " ++ decimal x.0
+
+-- an input as its line
+unfoldable pub input_text : Input → List ℕ
+input_text (inputs.Call c) = codes "call " ++ call_text c ++ newline
 
 -- a refusal's number and what it carries
 unfoldable pub refusal_text : Refusal → List ℕ

@@ -9,7 +9,7 @@ use Rattle.tree_specs.specs.Schedule.{misfit}
 use Rattle.tree_specs.specs.View.{View, rest_of, question_of}
 use Rattle.tree_specs.specs.Whole.{Whole}
 use Rattle.host_core.specs.Hosts.{view_of, asking}
-use Rattle.host_core.proofs.Onward.{asking-true, open_question, fits-rest, input-ready, input-law}
+use Rattle.host_core.proofs.Onward.{asking-true, open_question, fits-rest, input-ready, input-law, always-more}
 use Rattle.host_core.proofs.host.Host.offer.Goals as goal
 
 pub settle-requires : goal.settle-requires
@@ -34,4 +34,5 @@ returns-clause-ok c =
       goes_on = λ is. ap (λ (z : View). rest_of z (c.args.input ∷ is)) (sym c.self.view_is ∙ g)
           ∙ input-law c.given.result c.self.inside.below.items c.make_room.new.below.items c.self.inside.tree c.make_room.new.tree c.args.input is h c.given.ensures c.make_room.ensures.works c.make_room.ensures.rows
           ∙ ap (λ (l : List Item). Asked Quiet ∷ l) (c.settle.ensures.same is);
+      more = λ is. always-more (view_of c.settle.result c.settle.new.below.items c.settle.new.tree) is c.settle.ensures.ready.whole;
     }

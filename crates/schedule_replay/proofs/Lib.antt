@@ -1,0 +1,5 @@
+pub mod PutLaws
+pub mod LineLaws
+pub mod TextLaws
+pub mod ReplayLaws
+pub mod StateLaws

@@ -1,0 +1,131 @@
+-- What the end of a line does to a replay.
+use Rattle.std.proofs.Common.{◌≡◌, ◌≢◌, ℕ, ◌+◌, ◌^◌, ◌-◌, ◌<◌, ◌≤◌, Bool, true, false, cond, eqb, List, [], ◌∷◌, ◌++◌, map, length, Option, Some, None, Result, Ok, Err, refl, sym, ap, subst, ◌∙◌, append_assoc, arith}
+use Rattle.std.proofs.lemmas.List.{append-nil}
+use Rattle.std.proofs.lemmas.Bool.Decides.{nat_tests}
+use Rattle.tree_specs.specs.declared.question.Ask.{Ask}
+use Rattle.tree_specs.specs.declared.question.Input.{Input}
+use Rattle.tree_specs.specs.declared.schedule.Reason.{Reason}
+use Rattle.tree_specs.specs.declared.schedule.Reason.TheVariants.{Limit, Form, NotAsked}
+use Rattle.tree_specs.specs.Items.{Item}
+use Rattle.tree_specs.specs.Items.Item.{Told, Asked}
+use Rattle.tree_specs.specs.Grammar.{input_of}
+use Rattle.tree_specs.specs.Written.{WritesFront, IsFront}
+use Rattle.tree_specs.specs.Text.{answered_text, end_text, header}
+use Rattle.tree_specs.specs.Schedule.{Line, line_input, is_header, misfit}
+use Rattle.tree_specs.specs.View.{View, rest_of, question_of}
+use Rattle.host_core.specs.Promises.{Waits, TakesAnswer}
+use Rattle.schedule_replay.specs.declared.refusal.LineError.{LineError}
+use Rattle.schedule_replay.specs.declared.refusal.LineError.TheVariants as errors
+use Rattle.schedule_replay.specs.Replays.{Replayed, with_front, replayed_lines, replayed_all, replayed_from, ended_line, BeginsText, has_no_lf}
+use Rattle.schedule_replay.specs.Questions.{answered_of}
+use Rattle.schedule_replay.specs.Tellings.{event_texts, TellsAll, TellsFront}
+use Rattle.schedule_replay.specs.Readings.{Reading, end_of, refused_text, RefusesHere, TakesLine, LineDone, LineBroken, IsReady}
+use Rattle.schedule_replay.proofs.TextLaws.{begins_nil, begins_behind, begins_front, text-skip, asked-text}
+use Rattle.schedule_replay.proofs.ReplayLaws.{Answered, accepts, begins-accepted, refuses, input-fits, input-misfits, no-input, from-first, from-later, header-taken, header-refused, header-form}
+
+-- ---- a refusal
+
+begins-whole : (front text : List ℕ) → IsFront front text → BeginsText front (Some text)
+begins-whole front text f = (f.rest, f.whole)
+
+refuses-line : (s t : Reading) (why : Reason) (r : Result (Unit {0}) LineError) → RefusesHere s t why r
+    → ((rest : List Line) → replayed_from s.host s.number (ended_line s.line ∷ rest) ≡ record { text = Some (refused_text s); refused = Some (s.number, why) }) → TakesLine s t r
+refuses-line s t why (Ok done) h e = absurd h
+refuses-line s t why (Err (errors.Refused line reason)) h e = record { written = refused_text s; text = h.2; ends = λ rest. rw (h.0, h.1) (e rest) }
+refuses-line s t why (Err errors.Memory) h e = record { written = h.front; text = h.written; begins = λ rest. rw (e rest) (begins-whole h.front (refused_text s) h.begins) }
+
+-- the text of a refusal at the first line, and at another
+pub refused-first : (s : Reading) → s.number ≡ 1 → refused_text s ≡ []
+refused-first s e = rw e refl
+
+pub refused-later : (s : Reading) (w : Waits s.host) → s.number ≢ 1 → refused_text s ≡ end_text w.question
+refused-later s w ne =
+    let a : eqb s.number 1 ≡ false = grind (arith, nat_tests) in
+    rw (a, w.open_now) refl
+
+pub refuses-header : (s t : Reading) (r : Result (Unit {0}) LineError) → s.number ≡ 1 → length s.line ≤ 262144 → is_header (ended_line s.line) ≡ false → RefusesHere s t Form r → TakesLine s t r
+refuses-header s t r first short h refused =
+    refuses-line s t Form r refused (λ rest.
+    from-first s.host s.number (ended_line s.line ∷ rest) first ∙ header-refused s.host (ended_line s.line) rest h
+    ∙ rw (header-form (ended_line s.line) short, first) refl)
+
+refuses-by : (s t : Reading) (why : Reason) (r : Result (Unit {0}) LineError) (w : Waits s.host) → s.number ≢ 1 → line_input s.number (Some w.question) (ended_line s.line) ≡ Err why → RefusesHere s t why r → TakesLine s t r
+refuses-by s t why r w ne e refused =
+    refuses-line s t why r refused (λ rest.
+    from-later s.host s.number (ended_line s.line ∷ rest) ne ∙ refuses s.host w s.number (ended_line s.line) rest why e
+    ∙ rw (refused-later s w ne) refl)
+
+pub refuses-form : (s t : Reading) (r : Result (Unit {0}) LineError) → IsReady s → s.number ≤ 2 ^ 32 - 1 → s.number ≢ 1 → input_of s.line ≡ None → RefusesHere s t Form r → TakesLine s t r
+refuses-form s t r ready low ne e refused = refuses-by s t Form r ready.waits ne (no-input s.number _ s.line ready.short low e) refused
+
+pub refuses-misfit : (s t : Reading) (i : Input) (r : Result (Unit {0}) LineError) → IsReady s → s.number ≤ 2 ^ 32 - 1 → s.number ≢ 1 → input_of s.line ≡ Some i → misfit (question_of s.host) i ≡ Some NotAsked
+    → RefusesHere s t NotAsked r → TakesLine s t r
+refuses-misfit s t i r ready low ne e m refused =
+    let m' : misfit (Some ready.waits.question) i ≡ Some NotAsked = ap (λ (q : Option Ask). misfit q i) (sym ready.waits.open_now) ∙ m in
+    refuses-by s t NotAsked r ready.waits ne (input-misfits s.number _ s.line i NotAsked ready.short low e m') refused
+
+-- ---- want of memory before anything was written
+
+pub breaks-off : (s t : Reading) → t.text ≡ s.text → TakesLine s t (Err errors.Memory)
+breaks-off s t e = record { written = []; text = e ∙ sym (append-nil s.text); begins = λ rest. begins_nil _ }
+
+-- ---- the header
+
+pub takes-header : (s t : Reading) → IsReady s → s.number ≡ 1 → is_header (ended_line s.line) ≡ true → t.host ≡ s.host → t.text ≡ s.text ++ header → TakesLine s t (Ok tt)
+takes-header s t ready first h same e = record {
+  written = header;
+  text = e;
+  goes_on = λ rest. from-first s.host s.number (ended_line s.line ∷ rest) first ∙ header-taken s.host (ended_line s.line) rest h ∙ rw (first, same) refl;
+  waits = subst Waits (sym same) ready.waits;
+}
+
+-- ---- an input that fits
+
+question-same : (v : View) (w : Waits v) (q : Ask) → question_of v ≡ Some q → w.question ≡ q
+question-same v w q e = let d : Some w.question ≡ Some q = sym w.open_now ∙ e in cc
+
+-- the answer that was taken, and the events that were told
+answered-by : (v w x : View) (i : Input) (before after : List ℕ) (ready : Waits v) (taken : TakesAnswer v i w) (told : TellsAll w before x after) → Answered v x i told.events
+answered-by v w x i before after ready taken told = record {
+  before = ready;
+  goes_on = λ is.
+      let q : ready.question ≡ taken.question = question-same v ready taken.question taken.open_before in
+      taken.goes_on is ∙ ap (λ (z : Ask). Asked z ∷ rest_of w is) (sym q) ∙ ap (λ (l : List Item). Asked ready.question ∷ l) (told.goes_on is);
+  after = told.waits;
+}
+
+fits-now : (s : Reading) (i : Input) (w : View) → IsReady s → s.number ≤ 2 ^ 32 - 1 → input_of s.line ≡ Some i → (ready : Waits s.host) → TakesAnswer s.host i w → line_input s.number (Some ready.question) (ended_line s.line) ≡ Ok i
+fits-now s i w r low e ready taken =
+    input-fits s.number (Some ready.question) s.line i r.short low e (ap (λ (q : Option Ask). misfit q i) (sym ready.open_now) ∙ taken.fits)
+
+answered-now : (v : View) (w : Waits v) → answered_of (question_of v) ≡ answered_text w.question
+answered-now v w = ap answered_of w.open_now
+
+-- all of it was told
+pub takes-answer : (s t : Reading) (i : Input) (w : View) (asked text : List ℕ) → IsReady s → s.number ≤ 2 ^ 32 - 1 → s.number ≢ 1 → input_of s.line ≡ Some i
+    → asked ≡ answered_of (question_of s.host) → TakesAnswer s.host i w → text ≡ s.text ++ asked → TellsAll w text t.host t.text → TakesLine s t (Ok tt)
+unfolding answered-by
+takes-answer s t i w asked text ready low ne e a taken written told =
+    let h = answered-by s.host w t.host i text t.text ready.waits taken told in
+    record {
+      written = answered_text ready.waits.question ++ event_texts told.events;
+      text = told.text ∙ ap (λ (z : List ℕ). z ++ event_texts told.events) (written ∙ ap (λ (z : List ℕ). s.text ++ z) (a ∙ answered-now s.host ready.waits))
+          ∙ append_assoc s.text (answered_text ready.waits.question) (event_texts told.events);
+      goes_on = λ rest.
+          from-later s.host s.number (ended_line s.line ∷ rest) ne
+          ∙ accepts s.host t.host s.number (ended_line s.line) rest i told.events h (fits-now s i w ready low e ready.waits taken)
+          ∙ ap (with_front (answered_text ready.waits.question ++ event_texts told.events)) (sym (from-later t.host (s.number + 1) rest (λ z. absurd (let f = ready.first in omega arith))));
+      waits = told.waits;
+    }
+
+-- a front of it was told
+pub breaks-answer : (s t : Reading) (i : Input) (w : View) (asked text : List ℕ) → IsReady s → s.number ≤ 2 ^ 32 - 1 → s.number ≢ 1 → input_of s.line ≡ Some i
+    → asked ≡ answered_of (question_of s.host) → TakesAnswer s.host i w → text ≡ s.text ++ asked → TellsFront w text t.text → TakesLine s t (Err errors.Memory)
+breaks-answer s t i w asked text ready low ne e a taken written told = record {
+  written = answered_text ready.waits.question ++ told.written;
+  text = told.text ∙ ap (λ (z : List ℕ). z ++ told.written) (written ∙ ap (λ (z : List ℕ). s.text ++ z) (a ∙ answered-now s.host ready.waits))
+      ∙ append_assoc s.text (answered_text ready.waits.question) told.written;
+  begins = λ rest.
+      subst (λ (z : Replayed). BeginsText (answered_text ready.waits.question ++ told.written) z.text) (sym (from-later s.host s.number (ended_line s.line ∷ rest) ne))
+      (begins-accepted s.host w s.number (ended_line s.line) rest i ready.waits taken told.written (fits-now s i w ready low e ready.waits taken) told.begins);
+}

@@ -1,0 +1,16 @@
+use Rattle.std.proofs.Common.{◌≡◌, length, ap, arith, []}
+use Rattle.std.proofs.lemmas.Result.{err_from_is_err_and}
+use Rattle.schedule_replay.proofs.TextLaws.{told-more, told-front}
+use Rattle.schedule_replay.proofs.telling.tell.Goals as goal
+
+pub loop-event-smaller : goal.loop-event-smaller
+loop-event-smaller c = let e = ap length (c.in-Some.ensures.1 []) in omega (arith, e)
+
+pub loop-event-preserved : goal.loop-event-preserved
+loop-event-preserved c =
+    told-more _ _ _ _ _ _ c.in-Some.event c.loop-event.invariant c.in-Some.ensures.1 c.in_ok-write_event.ensures
+
+pub returns-in_err-write_event : goal.returns-in_err-write_event
+returns-in_err-write_event c =
+    let p = err_from_is_err_and c.from_residual.result c.from_residual.ensures.1 in
+    rw p.1 (told-front _ _ _ _ _ _ c.in-Some.event c.loop-event.invariant c.in-Some.ensures.1 c.in_err-write_event.ensures)

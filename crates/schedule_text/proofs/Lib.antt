@@ -1,0 +1,4 @@
+pub mod Fronts
+pub mod Writing
+pub mod Inputs
+pub mod Spaced

@@ -1,0 +1,18 @@
+//! The lines of schedules and of transcripts. An input has one line: what is written is read back as
+//! the same input, and no other line is read as it.
+#![tactic(auto)]
+
+mod event;
+mod front;
+mod line_reader;
+mod line_writer;
+mod numbers;
+mod question;
+mod reply;
+#[cfg(test)]
+mod tests;
+
+pub use event::write_event;
+pub use line_reader::{is_schedule_header, read_line};
+pub use line_writer::write_input;
+pub use question::{write_answered, write_ask, write_end};

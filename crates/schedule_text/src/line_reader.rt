@@ -1,0 +1,52 @@
+ghost use Rattle.std.specs.Prelude.{◌≡◌, ◌≢◌, ◌++◌, IfOk, IsTrue, Err};
+ghost use Rattle.std.specs.Str.{bytes_eq};
+ghost use Rattle.tree_specs.specs.declared.question.Input.{Input as InputData};
+ghost use Rattle.tree_specs.specs.Grammar.{input_of, call_input_of};
+ghost use Rattle.tree_specs.specs.Schedule.{schedule_header};
+ghost use Rattle.tree_specs.specs.Soundness.{is_sound};
+ghost use Rattle.tree_specs.specs.Text.{input_text, newline};
+ghost use Rattle.text_forms.specs.Reads.{Reads};
+
+use crate::front::after_front;
+use std::alloc::Global;
+use text_forms::{FormFault, read_call};
+use tree_specs::Input;
+
+fn call_input(alloc: Global, text: &[u8]) -> Result<Input, FormFault>
+    ensures { Reads result (call_input_of text.now) }
+{
+    let call = read_call(alloc, text)?;
+    Ok(Input::Call(call))
+}
+
+// The input that the line spells, as the grammar defines it: its front decides how the rest is read.
+#[tactic(auto, unfolding(tree_specs::specs::Grammar::input_of))]
+fn input_value(alloc: Global, line: &[u8]) -> Result<Input, FormFault>
+    ensures { Reads result (input_of line.now) }
+{
+    if let Some(text) = after_front(line, b"call ") {
+        call_input(alloc, text)
+    } else {
+        Err(FormFault::NoForm)
+    }
+}
+
+/// The input that a line of a schedule spells, the line without its LF. NoForm exactly where it
+/// spells no input, unless memory was wanted. The length of the line isn't judged here.
+#[tactic(auto, using(crate::proofs::Inputs::read_is_sound, crate::proofs::Inputs::read_is_spelled, crate::proofs::Inputs::unread_is_none))]
+pub fn read_line(alloc: Global, line: &[u8]) -> Result<Input, FormFault>
+    ensures value { Reads result (input_of line.now) }
+    ensures sound { IfOk result (λ i. IsTrue (is_sound i)) }
+    // An input has one line, and what is none is the line of no input.
+    ensures spelled { IfOk result (λ i. line.now ++ newline ≡ input_text i) }
+    ensures none { result ≡ Err FormFault.NoForm → (i : InputData) → IsTrue (is_sound i) → line.now ++ newline ≢ input_text i }
+{
+    input_value(alloc, line)
+}
+
+/// Whether a line, without its LF, is the first line of a schedule: `tv schedule 1 pool`.
+pub fn is_schedule_header(line: &[u8]) -> bool
+    ensures { result ≡ bytes_eq line.now schedule_header }
+{
+    line == b"tv schedule 1 pool".as_slice()
+}
