@@ -33,7 +33,8 @@ use Rattle.tree_specs.specs.Table.{table, step, resume, taken, doing, lifted, fr
 use Rattle.tree_specs.specs.Sound.{IsWaiting, AllWait, IsLive, Sound, claims, InLoop}
 use Rattle.tree_specs.specs.Measure.{total, cost, pending}
 use Rattle.tree_specs.specs.Schedule.{misfit}
-use Rattle.tree_specs.specs.View.{View, rest_of, question_in, question_of}
+use Rattle.tree_specs.specs.View.{View, begin, rest_of, question_in, question_of}
+use Rattle.tree_specs.proofs.StoryLaws.{begin-whole}
 use Rattle.tree_specs.specs.Whole.{Whole}
 use Rattle.tree_specs.proofs.Numbered.{by_test}
 use Rattle.tree_specs.proofs.Rows.{total-without, total-changed}
@@ -391,3 +392,6 @@ always-more v is h = each (rest_of v is) refl (ends-asked v is h)
     each : (l : List Item) → rest_of v is ≡ l → LastIs IsQuestion l → (item : Item) × (items : List Item) × (rest_of v is ≡ item ∷ items)
     each [] e h = absurd h
     each (i ∷ l) e h = (i, l, e)
+
+pub begin_waits : (first : ℕ) → 1 ≤ first → Waits (begin first)
+begin_waits first h = waits-rest (begin first) (begin-whole first h) refl

@@ -67,9 +67,11 @@ impl Host {
     ghost use Rattle.host_core.specs.Promises.{Waits, NextLaw, TakesAnswer};
 
     /// A host with no objects, whose first one gets the number `first`. It waits for a call.
+    #[tactic(auto, using(crate::proofs::Onward::begin_waits))]
     pub fn new(alloc: Global, first: u64) -> Result<Host, Memory>
         requires { 1 ≤ first }
-        ensures { IfOk result (λ host. host ≡ begin first) }
+        ensures begins { IfOk result (λ host. host ≡ begin first) }
+        ensures waits { IfOk result (λ host. Waits host) }
     {
         Ok(Host {
             innermost: Frame::Call(CallFrame::Asking),

@@ -3,3 +3,6 @@ pub mod LineLaws
 pub mod TextLaws
 pub mod ReplayLaws
 pub mod StateLaws
+pub mod ByteLaws
+pub mod WholeLaws
+pub mod SessionLaws

@@ -4,3 +4,5 @@ pub mod Tellings
 pub mod Questions
 pub mod Readings
 pub mod States
+pub mod Passes
+pub mod Runs

@@ -15,10 +15,10 @@ abbrev pub PutsAll : Option (List ℕ) → Option (List ℕ) → Result (Unit {0
 PutsAll old new (Ok done) bytes = Appends old new bytes
 PutsAll old new (Err e) bytes = PutsFront old new bytes
 
--- the count has not fallen, and a write fault was counted
-pub record HasWriteCause (before now : ℕ) (result : Result (Unit {0}) PutError) : Type 0 where
+-- a count has not fallen, and it has risen where this came
+pub record Counts (before now : ℕ) (fault : Type 0) : Type 0 where
   pub later : before ≤ now
-  pub counted : result ≡ Err errors.Write → Rose before now
+  pub counted : fault → Rose before now
 
 -- memory is wanted only where the room that the sink tells is less than so many bytes
 abbrev pub HasRoomCause : Option ℕ → Result (Unit {0}) PutError → ℕ → Type 0

@@ -73,6 +73,8 @@ pub record Advances (s : Reading) (piece : List ℕ) (t : Reading) : Type 0 wher
   pub written : List ℕ
   pub text : t.text ≡ s.text ++ written
   pub goes_on : (bytes : List ℕ) → from_line s (whole ++ bytes) ≡ with_front written (from_line t bytes)
+  -- at the first line no line was done
+  pub begun : t.number ≡ 1 → (s.number ≡ 1) × (whole ≡ [])
 
 -- A line is refused, whatever still comes, and all that is to be written is there.
 pub record Refuses (s : Reading) (piece : List ℕ) (t : Reading) (line : ℕ) (reason : Reason) : Type 0 where
@@ -97,10 +99,16 @@ pub record Ends (s t : Reading) (refused : Option (ℕ × Reason)) : Type 0 wher
   pub text : t.text ≡ s.text ++ written
   pub all : with_more s [] ≡ record { text = Some written; refused = refused }
 
+-- a front of what is to be written is there
+pub record EndsFront (s t : Reading) : Type 0 where
+  pub written : List ℕ
+  pub text : t.text ≡ s.text ++ written
+  pub begins : BeginsText written (with_more s []).text
+
 abbrev pub Finishes : Reading → Reading → Result (Unit {0}) LineError → Type 0
 Finishes s t (Ok done) = Ends s t None
 Finishes s t (Err (errors.Refused line reason)) = Ends s t (Some (line, reason))
-Finishes s t (Err errors.Memory) = BreaksOff s [] t
+Finishes s t (Err errors.Memory) = EndsFront s t
 
 -- what holds between two bytes
 pub record IsReady (s : Reading) : Type 0 where

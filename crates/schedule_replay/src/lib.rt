@@ -2,6 +2,11 @@
 #![tactic(auto)]
 
 mod output;
+mod ran;
 mod reading;
 mod refusal;
+mod session;
 mod telling;
+
+pub use ran::Ran;
+pub use session::replay;

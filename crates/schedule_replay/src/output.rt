@@ -1,6 +1,6 @@
 //! Writing all of some bytes to a sink.
-ghost use Rattle.std.specs.Prelude.{◌≡◌, length};
-ghost use Rattle.schedule_replay.specs.Puts.{PutsAll, HasWriteCause, HasRoomCause};
+ghost use Rattle.std.specs.Prelude.{◌≡◌, Err, length};
+ghost use Rattle.schedule_replay.specs.Puts.{PutsAll, Counts, HasRoomCause};
 
 use outside::{Put, Sink};
 use tree_specs::Memory;
@@ -16,7 +16,7 @@ pub enum PutError {
 /// than the room that the sink tells.
 pub fn put_all<K: Sink>(out: &mut K, bytes: &[u8]) -> Result<(), PutError>
     ensures bytes { PutsAll (K.held out.old) (K.held out.new) result bytes.now }
-    ensures cause { HasWriteCause (K.faults out.old) (K.faults out.new) result }
+    ensures cause { Counts (K.faults out.old) (K.faults out.new) (result ≡ Err PutError.Write) }
     ensures room { HasRoomCause (K.room out.old) result (length bytes.now) }
 {
     let mut at = 0;

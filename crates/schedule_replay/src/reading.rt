@@ -51,7 +51,8 @@ impl Replay {
 
     /// A replay before its first byte.
     pub fn new(alloc: Global) -> Result<Replay, Memory>
-        ensures { IfOk result (λ replay. reading_of replay ≡ fresh) }
+        ensures fresh { IfOk result (λ replay. reading_of replay ≡ fresh) }
+        ensures ready { IfOk result (λ replay. IsReady (reading_of replay)) }
     {
         Ok(Replay {
             host: Host::new(alloc, 1)?,
@@ -63,7 +64,8 @@ impl Replay {
 
     /// Ends the transcript, where it has begun.
     fn end_transcript(&mut self) -> Result<(), Memory>
-        ensures { Writes self.old.text.items self.new.text.items result (refused_text (reading_of self.old)) }
+        ensures written { Writes self.old.text.items self.new.text.items result (refused_text (reading_of self.old)) }
+        ensures number { self.new.number ≡ self.old.number }
     {
         if self.number != 1 && let Some(ask) = self.host.question() {
             write_end(ask, &mut self.text)?;
@@ -73,7 +75,8 @@ impl Replay {
 
     /// Refuses the line that has begun.
     fn refuse(&mut self, reason: Reason) -> Result<(), LineError>
-        ensures { RefusesHere (reading_of self.old) (reading_of self.new) reason result }
+        ensures refused { RefusesHere (reading_of self.old) (reading_of self.new) reason result }
+        ensures number { self.new.number ≡ self.old.number }
     {
         let line = self.number;
         self.end_transcript()?;
@@ -84,7 +87,8 @@ impl Replay {
     fn take_header(&mut self) -> Result<(), LineError>
         requires ready { IsReady (reading_of self.old) }
         requires first { self.old.number ≡ 1 }
-        ensures { TakesLine (reading_of self.old) (reading_of self.new) result }
+        ensures taken { TakesLine (reading_of self.old) (reading_of self.new) result }
+        ensures number { self.new.number ≡ self.old.number }
     {
         if !is_schedule_header(&self.line) {
             return self.refuse(Reason::Form);
@@ -100,7 +104,8 @@ impl Replay {
         requires later { self.old.number ≢ 1 }
         requires spelled { input_of self.old.line.items ≡ Some input }
         requires sound { IsTrue (is_sound input) }
-        ensures { TakesLine (reading_of self.old) (reading_of self.new) result }
+        ensures taken { TakesLine (reading_of self.old) (reading_of self.new) result }
+        ensures number { self.new.number ≡ self.old.number }
     {
         let asked = answered(*self.text.allocator(), &self.host)?;
         match self.host.offer(input) {
@@ -119,12 +124,86 @@ impl Replay {
         requires ready { IsReady (reading_of self.old) }
         requires numbered { self.old.number ≤ 2 ^ 32 - 1 }
         requires later { self.old.number ≢ 1 }
-        ensures { TakesLine (reading_of self.old) (reading_of self.new) result }
+        ensures taken { TakesLine (reading_of self.old) (reading_of self.new) result }
+        ensures number { self.new.number ≡ self.old.number }
     {
         match read_line(*self.line.allocator(), &self.line) {
             Ok(input) => self.answer(input),
             Err(FormFault::NoForm) => self.refuse(Reason::Form),
             Err(FormFault::Memory) => Err(LineError::Memory),
         }
+    }
+
+    /// Takes a line that is whole.
+    fn take_line(&mut self) -> Result<(), LineError>
+        requires ready { IsReady (reading_of self.old) }
+        requires numbered { self.old.number ≤ 2 ^ 32 - 1 }
+        ensures taken { TakesLine (reading_of self.old) (reading_of self.new) result }
+        ensures number { self.new.number ≡ self.old.number }
+    {
+        if self.number == 1 {
+            self.take_header()
+        } else {
+            self.take_input()
+        }
+    }
+
+    /// Takes the LF of a line.
+    fn end_line(&mut self) -> Result<(), LineError>
+        requires ready { IsReady (reading_of self.old) }
+        requires numbered { self.old.number ≤ 2 ^ 32 - 1 }
+        ensures taken { Takes (reading_of self.old) (10 ∷ []) (reading_of self.new) result }
+        ensures ready { OnOk result (IsReady (reading_of self.new)) }
+        ensures progress { OnOk result (room_left (reading_of self.new) + 1 ≤ room_left (reading_of self.old)) }
+    {
+        self.take_line()?;
+        self.line.clear();
+        self.number += 1;
+        Ok(())
+    }
+
+    /// Takes a byte.
+    fn push(&mut self, byte: u8) -> Result<(), LineError>
+        requires { IsReady (reading_of self.old) }
+        ensures taken { Takes (reading_of self.old) (byte ∷ []) (reading_of self.new) result }
+        ensures ready { OnOk result (IsReady (reading_of self.new)) }
+        ensures progress { OnOk result (room_left (reading_of self.new) + 1 ≤ room_left (reading_of self.old)) }
+    {
+        if self.number > LINES_LIMIT {
+            return self.refuse(Reason::Limit);
+        }
+        if byte == b'\n' {
+            return self.end_line();
+        }
+        if self.line.len() >= LINE_LIMIT {
+            return self.refuse(Reason::Limit);
+        }
+        self.line.push(byte)?;
+        Ok(())
+    }
+
+    /// Takes the next bytes. What is to be written of them stands at the end of `text`, at an error too.
+    pub fn feed(&mut self, piece: &[u8]) -> Result<(), LineError>
+        requires { IsReady (reading_of self.old) }
+        ensures taken { Takes (reading_of self.old) piece.now (reading_of self.new) result }
+        ensures ready { OnOk result (IsReady (reading_of self.new)) }
+        ensures progress { OnOk result (room_left (reading_of self.new) + length piece.now ≤ room_left (reading_of self.old)) }
+    {
+        for byte in piece {
+            self.push(*byte)?;
+        }
+        Ok(())
+    }
+
+    /// Takes the end of the schedule.
+    pub fn finish(&mut self) -> Result<(), LineError>
+        requires { IsReady (reading_of self.old) }
+        ensures { Finishes (reading_of self.old) (reading_of self.new) result }
+    {
+        if self.number == 1 || !self.line.is_empty() {
+            return self.refuse(Reason::Form);
+        }
+        self.end_transcript()?;
+        Ok(())
     }
 }

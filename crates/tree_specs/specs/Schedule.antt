@@ -11,6 +11,7 @@ use Rattle.tree_specs.specs.declared.schedule.Reason.TheVariants.{Limit, Form, N
 use Rattle.tree_specs.specs.Items.{Item}
 use Rattle.tree_specs.specs.Items.Item.{Told, Asked}
 use Rattle.tree_specs.specs.Grammar.{input_of}
+use Rattle.tree_specs.specs.Text.{transcript}
 use Rattle.tree_specs.specs.Story.{story, items}
 
 -- ---- lines
@@ -119,3 +120,7 @@ judge bytes = (judged bytes).refused
 -- the inputs of the lines before it, or of all lines, the header aside
 abbrev pub inputs_of : List ℕ → List Input
 inputs_of bytes = (judged bytes).inputs
+
+-- The transcript that a schedule gives: of the lines before the first refused one; none, which is no bytes, where the first line is refused.
+abbrev pub transcript_of : List ℕ → Option (List ℕ)
+transcript_of bytes = if has_header (lines bytes) then transcript (items (story 1 (inputs_of bytes))) else Some []

@@ -4,8 +4,8 @@ use Rattle.schedule_replay.specs.States.{reading_of}
 use Rattle.schedule_replay.proofs.StateLaws.{refuses-form}
 use Rattle.schedule_replay.proofs.reading.Replay.take_input.Goals as goal
 
-pub returns-in-Err-NoForm : goal.returns-in-Err-NoForm
-returns-in-Err-NoForm c =
+pub returns-in-Err-NoForm-clause-taken : goal.returns-in-Err-NoForm-clause-taken
+returns-in-Err-NoForm-clause-taken c =
     let none : input_of c.deref.result.now ≡ None = rw c.in-Err-NoForm.field-0-is at c.in-Err-NoForm.ensures.value in
     refuses-form (reading_of c.args.self.now) (reading_of c.refuse.new.self) c.refuse.result c.requires.ready c.requires.numbered c.requires.later
-    (ap input_of (sym c.deref.ensures.value) ∙ none) c.refuse.ensures
+    (ap input_of (sym c.deref.ensures.value) ∙ none) c.refuse.ensures.refused

@@ -1,0 +1,231 @@
+-- Replaying byte by byte.
+use Rattle.std.proofs.Common.{◌≡◌, ◌≢◌, ℕ, ◌+◌, ◌^◌, ◌-◌, ◌<◌, ◌≤◌, Bool, true, false, cond, eqb, ltb, not, ◌||◌, List, [], ◌∷◌, ◌++◌, length, take, drop, get_or, Option, Some, None, Result, Ok, Err, refl, sym, ap, subst, ◌∙◌, append_assoc, arith, length-append, ◌⊎◌, inl, inr}
+use Rattle.std.specs.Option.{option_map}
+use Rattle.std.proofs.lemmas.List.{append-nil, take-append-drop, take_more}
+use Rattle.std.proofs.lemmas.Bool.{eqb-true}
+use Rattle.std.proofs.lemmas.Bool.Decides.{nat_tests}
+use Rattle.tree_specs.specs.declared.question.Ask.{Ask}
+use Rattle.tree_specs.specs.declared.schedule.Reason.{Reason}
+use Rattle.tree_specs.specs.declared.schedule.Reason.TheVariants.{Limit, Form}
+use Rattle.tree_specs.specs.Written.{WritesFront, IsFront}
+use Rattle.tree_specs.specs.Text.{end_text}
+use Rattle.tree_specs.specs.Schedule.{Line, lines, lines_of_parts, is_over_limit, line_limit, lines_limit}
+use Rattle.tree_specs.specs.View.{View}
+use Rattle.host_core.specs.Promises.{Waits}
+use Rattle.schedule_replay.specs.declared.refusal.LineError.{LineError}
+use Rattle.schedule_replay.specs.declared.refusal.LineError.TheVariants as errors
+use Rattle.schedule_replay.specs.Replays.{Replayed, with_front, replayed_lines, replayed_all, replayed_from, refused_at_once, ended_line, BeginsText, is_plain, has_no_lf}
+use Rattle.schedule_replay.specs.Readings.{Reading, from_line, with_more, refused_text, RefusesHere, LineDone, TakesLine, Advances, Refuses, BreaksOff, Takes, Ends, EndsFront, Finishes, IsReady}
+use Rattle.schedule_replay.proofs.TextLaws.{behind, behind-behind, behind-nil, begins_nil, begins_behind}
+use Rattle.schedule_replay.proofs.LineLaws.{lines_ended, lines_from, lines_last, lines_some, plain_push}
+use Rattle.schedule_replay.proofs.ReplayLaws.{refuses, ends, cut-input, limit-input, from-first, from-later, header-refused, header-form, no-lines, no-header}
+use Rattle.schedule_replay.proofs.StateLaws.{refused-first, refused-later}
+
+-- ---- texts in front of replays
+
+pub front-nil : (r : Replayed) → r ≡ with_front [] r
+front-nil r = ap (λ (t : Option (List ℕ)). let z : Replayed = record { text = t; refused = r.refused } in z) (behind-nil r.text)
+
+pub front-front : (x y : List ℕ) (r : Replayed) → with_front x (with_front y r) ≡ with_front (x ++ y) r
+front-front x y r = ap (λ (t : Option (List ℕ)). let z : Replayed = record { text = t; refused = r.refused } in z) (behind-behind x y r.text)
+
+-- ---- the end of a line
+
+pub ends-line : (s t : Reading) (next : Reading) → IsReady s → next.host ≡ t.host → next.number ≡ s.number + 1 → next.line ≡ [] → next.text ≡ t.text → LineDone s t → Advances s (10 ∷ []) next
+ends-line s t next ready host number line text done = record {
+  whole = s.line ++ 10 ∷ [];
+  cut = sym (append-nil (s.line ++ 10 ∷ [])) ∙ ap (λ (l : List ℕ). (s.line ++ 10 ∷ []) ++ l) (sym line);
+  written = done.written;
+  text = text ∙ done.text;
+  goes_on = λ bytes.
+      let l : lines ((s.line ++ 10 ∷ []) ++ bytes) ≡ ended_line s.line ∷ lines bytes = ap lines (append_assoc s.line (10 ∷ []) bytes) ∙ lines_ended s.line bytes ready.plain in
+      ap (replayed_from s.host s.number) l ∙ done.goes_on (lines bytes)
+      ∙ ap (λ (n : ℕ). with_front done.written (replayed_from t.host n (lines bytes))) (sym number)
+      ∙ ap (λ (v : View). with_front done.written (replayed_from v next.number (lines bytes))) (sym host);
+  begun = λ e. absurd (omega (arith, ready.first));
+}
+
+pub breaks-line : (s t : Reading) (e : LineError) → IsReady s → TakesLine s t (Err e) → Takes s (10 ∷ []) t (Err e)
+breaks-line s t (errors.Refused line reason) ready h = record {
+  written = h.written;
+  text = h.text;
+  ends = λ bytes. ap (replayed_from s.host s.number) (lines_ended s.line bytes ready.plain) ∙ h.ends (lines bytes);
+}
+breaks-line s t errors.Memory ready h = record {
+  written = h.written;
+  text = h.text;
+  begins = λ bytes. rw (lines_ended s.line bytes ready.plain) (h.begins (lines bytes));
+}
+
+-- ---- a refusal within a line
+
+pub refuses-piece : (s : Reading) (piece : List ℕ) (t : Reading) (why : Reason) (r : Result (Unit {0}) LineError) → RefusesHere s t why r
+    → ((bytes : List ℕ) → with_more s (piece ++ bytes) ≡ record { text = Some (refused_text s); refused = Some (s.number, why) }) → Takes s piece t r
+refuses-piece s piece t why (Ok done) h e = absurd h
+refuses-piece s piece t why (Err (errors.Refused line reason)) h e = record { written = refused_text s; text = h.2; ends = λ bytes. rw (h.0, h.1) (e bytes) }
+refuses-piece s piece t why (Err errors.Memory) h e = record { written = h.front; text = h.written; begins = λ bytes. rw (e bytes) (h.begins.rest, h.begins.whole) }
+
+-- a line past the limit of bytes
+long-refused : (s : Reading) (w : Waits s.host) (line : Line) (ls : List Line) → 262144 < length line.text → replayed_from s.host s.number (line ∷ ls) ≡ record { text = Some (refused_text s); refused = Some (s.number, Limit) }
+long-refused s w line ls lt = by_test (eqb s.number 1) refl
+  where
+    long : ltb 262144 (length line.text) ≡ true
+    long = grind (arith, nat_tests)
+
+    over : (m : ℕ) → is_over_limit m line ≡ true
+    over m = rw long refl
+
+    by_test : (b : Bool) → eqb s.number 1 ≡ b → replayed_from s.host s.number (line ∷ ls) ≡ record { text = Some (refused_text s); refused = Some (s.number, Limit) }
+    by_test true h =
+        let one : s.number ≡ 1 = eqb-true s.number 1 h in
+        from-first s.host s.number (line ∷ ls) one ∙ header-refused s.host line ls (no-header line lt) ∙ rw (over 1, refused-first s one, one) refl
+    by_test false h =
+        let ne : s.number ≢ 1 = grind (arith, nat_tests) in
+        from-later s.host s.number (line ∷ ls) ne ∙ refuses s.host w s.number line ls Limit (limit-input s.number (Some w.question) line (over s.number)) ∙ rw (refused-later s w ne) refl
+
+pub long-after : (s : Reading) (b : ℕ) (bytes : List ℕ) → IsReady s → is_plain b ≡ true → 262144 ≤ length s.line → with_more s (b ∷ bytes) ≡ record { text = Some (refused_text s); refused = Some (s.number, Limit) }
+long-after s b bytes ready other long =
+    let f = lines_from (s.line ++ b ∷ []) bytes (omega (arith, length-append s.line (b ∷ []))) (plain_push s.line b ready.plain other) in
+    let same : lines (s.line ++ b ∷ bytes) ≡ record { text = (s.line ++ b ∷ []) ++ f.0; ended = f.1 } ∷ f.2 = ap lines (sym (append_assoc s.line (b ∷ []) bytes)) ∙ f.3 in
+    rw same (long-refused s ready.waits (record { text = (s.line ++ b ∷ []) ++ f.0; ended = f.1 }) f.2 (omega (arith, length-append (s.line ++ b ∷ []) f.0, length-append s.line (b ∷ []))))
+
+-- a line past the limit of lines
+late-refused : (s : Reading) (w : Waits s.host) (line : Line) (ls : List Line) → 2 ^ 32 - 1 < s.number → replayed_from s.host s.number (line ∷ ls) ≡ record { text = Some (refused_text s); refused = Some (s.number, Limit) }
+late-refused s w line ls lt =
+    let late : ltb lines_limit s.number ≡ true = grind (arith, nat_tests) in
+    let over : is_over_limit s.number line ≡ true = rw late (or_true (ltb line_limit (length line.text))) in
+    let ne : s.number ≢ 1 = (λ e. absurd (omega arith)) in
+    from-later s.host s.number (line ∷ ls) ne ∙ refuses s.host w s.number line ls Limit (limit-input s.number (Some w.question) line over) ∙ rw (refused-later s w ne) refl
+  where
+    or_true : (b : Bool) → (b || true) ≡ true
+    or_true true = refl
+    or_true false = refl
+
+pub late-after : (s : Reading) (b : ℕ) (bytes : List ℕ) → IsReady s → 2 ^ 32 - 1 < s.number → with_more s (b ∷ bytes) ≡ record { text = Some (refused_text s); refused = Some (s.number, Limit) }
+late-after s b bytes ready late = each s.line (λ some. let n = ready.numbered some in absurd (omega arith))
+  where
+    each : (l : List ℕ) → (0 < length l → ⊥) → replayed_from s.host s.number (lines (l ++ b ∷ bytes)) ≡ record { text = Some (refused_text s); refused = Some (s.number, Limit) }
+    each [] none = let f = lines_some b bytes in rw f.2 (late-refused s ready.waits f.0 f.1 late)
+    each (x ∷ l) none = absurd (none (omega arith))
+
+-- ---- a byte within a line
+
+pub adds-byte : (s t : Reading) (b : ℕ) → t.host ≡ s.host → t.number ≡ s.number → t.line ≡ s.line ++ b ∷ [] → t.text ≡ s.text → Advances s (b ∷ []) t
+adds-byte s t b host number line text = record {
+  whole = [];
+  cut = sym line;
+  written = [];
+  text = text ∙ sym (append-nil s.text);
+  goes_on = λ bytes. front-nil (from_line s bytes)
+      ∙ ap (λ (v : View). with_front [] (replayed_from v s.number (lines bytes))) (sym host)
+      ∙ ap (λ (n : ℕ). with_front [] (replayed_from t.host n (lines bytes))) (sym number);
+  begun = λ e. (sym number ∙ e, refl);
+}
+
+-- ---- piece after piece
+
+pub advances-none : (s : Reading) → Advances s [] s
+advances-none s = record { whole = []; cut = append-nil s.line; written = []; text = sym (append-nil s.text); goes_on = λ bytes. front-nil (from_line s bytes); begun = λ e. (e, refl) }
+
+-- what is replayed after a piece
+pub after-piece : (s : Reading) (p : List ℕ) (t : Reading) (a : Advances s p t) (bytes : List ℕ) → with_more s (p ++ bytes) ≡ with_front a.written (with_more t bytes)
+after-piece s p t a bytes =
+    ap (from_line s) (sym (append_assoc s.line p bytes) ∙ ap (λ (l : List ℕ). l ++ bytes) a.cut ∙ append_assoc a.whole t.line bytes) ∙ a.goes_on (t.line ++ bytes)
+
+pub advances-then : (s : Reading) (p : List ℕ) (t : Reading) (q : List ℕ) (u : Reading) (r : Result (Unit {0}) LineError) → Advances s p t → Takes t q u r → Takes s (p ++ q) u r
+advances-then s p t q u (Ok done) a b = record {
+  whole = a.whole ++ b.whole;
+  cut = sym (append_assoc s.line p q) ∙ ap (λ (l : List ℕ). l ++ q) a.cut ∙ append_assoc a.whole t.line q ∙ ap (λ (l : List ℕ). a.whole ++ l) b.cut ∙ sym (append_assoc a.whole b.whole u.line);
+  written = a.written ++ b.written;
+  text = b.text ∙ ap (λ (l : List ℕ). l ++ b.written) a.text ∙ append_assoc s.text a.written b.written;
+  goes_on = λ bytes.
+      ap (from_line s) (append_assoc a.whole b.whole bytes) ∙ a.goes_on (b.whole ++ bytes) ∙ ap (with_front a.written) (b.goes_on bytes) ∙ front-front a.written b.written (from_line u bytes);
+  begun = λ e. (let y = b.begun e in let x = a.begun y.0 in (x.0, ap (λ (l : List ℕ). l ++ b.whole) x.1 ∙ y.1));
+}
+advances-then s p t q u (Err (errors.Refused line reason)) a b = record {
+  written = a.written ++ b.written;
+  text = b.text ∙ ap (λ (l : List ℕ). l ++ b.written) a.text ∙ append_assoc s.text a.written b.written;
+  ends = λ bytes. ap (with_more s) (append_assoc p q bytes) ∙ after-piece s p t a (q ++ bytes) ∙ ap (with_front a.written) (b.ends bytes);
+}
+advances-then s p t q u (Err errors.Memory) a b = record {
+  written = a.written ++ b.written;
+  text = b.text ∙ ap (λ (l : List ℕ). l ++ b.written) a.text ∙ append_assoc s.text a.written b.written;
+  begins = λ bytes.
+      subst (λ (z : Replayed). BeginsText (a.written ++ b.written) z.text) (sym (ap (with_more s) (append_assoc p q bytes) ∙ after-piece s p t a (q ++ bytes)))
+      (begins_behind a.written b.written (with_more t (q ++ bytes)).text (b.begins bytes));
+}
+
+-- after an error the rest of the piece changes nothing
+pub err-more : (s : Reading) (p q : List ℕ) (u : Reading) (e : LineError) → Takes s p u (Err e) → Takes s (p ++ q) u (Err e)
+err-more s p q u (errors.Refused line reason) h = record { written = h.written; text = h.text; ends = λ bytes. ap (with_more s) (append_assoc p q bytes) ∙ h.ends (q ++ bytes) }
+err-more s p q u errors.Memory h = record {
+  written = h.written;
+  text = h.text;
+  begins = λ bytes. subst (λ (z : Replayed). BeginsText h.written z.text) (sym (ap (with_more s) (append_assoc p q bytes))) (h.begins (q ++ bytes));
+}
+
+-- one byte more of a piece
+pub takes-more : (s : Reading) (piece : List ℕ) (i : ℕ) (t u : Reading) (r : Result (Unit {0}) LineError) → i < length piece → Advances s (take i piece) t → Takes t (get_or piece i 0 ∷ []) u r → Takes s (take (i + 1) piece) u r
+takes-more s piece i t u r lt a b = rw (take_more piece i 0 lt) (advances-then s (take i piece) t (get_or piece i 0 ∷ []) u r a b)
+
+pub err-whole : (s : Reading) (piece : List ℕ) (i : ℕ) (u : Reading) (e : LineError) → Takes s (take i piece) u (Err e) → Takes s piece u (Err e)
+err-whole s piece i u e h = subst (λ (p : List ℕ). Takes s p u (Err e)) (take-append-drop i piece) (err-more s (take i piece) (drop i piece) u e h)
+
+-- ---- the end of the schedule
+
+pub finish-refused : (s t : Reading) (why : Reason) (r : Result (Unit {0}) LineError) → RefusesHere s t why r → with_more s [] ≡ record { text = Some (refused_text s); refused = Some (s.number, why) } → Finishes s t r
+finish-refused s t why (Ok done) h e = absurd h
+finish-refused s t why (Err (errors.Refused line reason)) h e = record { written = refused_text s; text = h.2; all = rw (h.0, h.1) e }
+finish-refused s t why (Err errors.Memory) h e = record { written = h.front; text = h.written; begins = rw e (h.begins.rest, h.begins.whole) }
+
+-- a schedule that ends with no line, or within one
+ends-cut : (s : Reading) (l : List ℕ) → IsReady s → l ≡ s.line → 0 < length l → replayed_from s.host s.number (lines l) ≡ record { text = Some (refused_text s); refused = Some (s.number, Form) }
+ends-cut s l ready same some =
+    let plain : has_no_lf l ≡ true = ap has_no_lf same ∙ ready.plain in
+    let short : length l ≤ 262144 = (let n = ap length same in let m = ready.short in omega arith) in
+    let low : s.number ≤ 2 ^ 32 - 1 = ready.numbered (let n = ap length same in omega arith) in
+    let cut : Line = record { text = l; ended = false } in
+    ap (replayed_from s.host s.number) (lines_last l some plain) ∙ by_test cut short low (eqb s.number 1) refl
+  where
+    by_test : (cut : Line) → length cut.text ≤ 262144 → s.number ≤ 2 ^ 32 - 1 → (b : Bool) → eqb s.number 1 ≡ b
+        → replayed_from s.host s.number ((let z : Line = record { text = cut.text; ended = false } in z) ∷ []) ≡ record { text = Some (refused_text s); refused = Some (s.number, Form) }
+    by_test cut short low true h =
+        let one : s.number ≡ 1 = eqb-true s.number 1 h in
+        from-first s.host s.number ((let z : Line = record { text = cut.text; ended = false } in z) ∷ []) one ∙ header-refused s.host (record { text = cut.text; ended = false }) [] refl
+        ∙ rw (header-form (record { text = cut.text; ended = false }) short, refused-first s one, one) refl
+    by_test cut short low false h =
+        let ne : s.number ≢ 1 = grind (arith, nat_tests) in
+        from-later s.host s.number ((let z : Line = record { text = cut.text; ended = false } in z) ∷ []) ne
+        ∙ refuses s.host ready.waits s.number (record { text = cut.text; ended = false }) [] Form (cut-input s.number (Some ready.waits.question) cut.text low short)
+        ∙ rw (refused-later s ready.waits ne) refl
+
+pub no-bytes : lines [] ≡ []
+unfolding lines lines_of_parts
+no-bytes = refl
+
+empty-first : (s : Reading) → s.line ≡ [] → s.number ≡ 1 → with_more s [] ≡ record { text = Some (refused_text s); refused = Some (s.number, Form) }
+empty-first s none one =
+    ap (λ (l : List ℕ). replayed_from s.host s.number (lines (l ++ []))) none ∙ ap (replayed_from s.host s.number) no-bytes
+    ∙ from-first s.host s.number [] one ∙ no-lines s.host ∙ rw (refused-first s one, one) refl
+
+pub ends-refused : (s : Reading) → IsReady s → (s.number ≡ 1) ⊎ (s.line ≢ []) → with_more s [] ≡ record { text = Some (refused_text s); refused = Some (s.number, Form) }
+ends-refused s ready h = each s.line refl
+  where
+    each : (l : List ℕ) → s.line ≡ l → with_more s [] ≡ record { text = Some (refused_text s); refused = Some (s.number, Form) }
+    each [] e = elim h [ inl one ↦ empty-first s e one | inr some ↦ absurd (some e) ]
+    each (x ∷ l) e = ap (from_line s) (append-nil s.line) ∙ ends-cut s s.line ready refl (let n = ap length e in omega arith)
+
+pub ends-whole : (s : Reading) → (w : Waits s.host) → s.line ≡ [] → s.number ≢ 1 → with_more s [] ≡ record { text = Some (refused_text s); refused = None }
+ends-whole s w none ne =
+    ap (λ (l : List ℕ). replayed_from s.host s.number (lines (l ++ []))) none ∙ ap (replayed_from s.host s.number) no-bytes
+    ∙ from-later s.host s.number [] ne ∙ ends s.host w s.number ∙ rw (refused-later s w ne) refl
+
+pub finish-front : (s t : Reading) → WritesFront s.text t.text (refused_text s) → (w : Waits s.host) → s.line ≡ [] → s.number ≢ 1 → EndsFront s t
+finish-front s t f w none ne = record { written = f.front; text = f.written; begins = rw (ends-whole s w none ne) (f.begins.rest, f.begins.whole) }
+
+pub is-empty : (l : List ℕ) → length l ≡ 0 → l ≡ []
+is-empty [] h = refl
+is-empty (x ∷ l) h = absurd cc
+
+pub not-empty : (l : List ℕ) → length l ≢ 0 → l ≢ []
+not-empty l h = λ e. h (ap length e)

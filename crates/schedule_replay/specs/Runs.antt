@@ -1,0 +1,66 @@
+-- What a replay of a whole schedule writes and answers.
+use Rattle.std.specs.Prelude.{◌≡◌, ℕ, true, List, [], ◌∷◌, ◌++◌, Option, Some, None, Result, Ok, Err}
+use Rattle.std.specs.Io.KnownBytes.{Appends, Consumes, IsAtEnd}
+use Rattle.tree_specs.specs.declared.question.Ask.{Ask}
+use Rattle.tree_specs.specs.declared.schedule.Reason.{Reason}
+use Rattle.tree_specs.specs.Text.{end_text}
+use Rattle.tree_specs.specs.Schedule.{judge, transcript_of}
+use Rattle.schedule_replay.specs.declared.ran.Ran.{Ran}
+use Rattle.schedule_replay.specs.declared.ran.Ran.TheVariants as rans
+use Rattle.schedule_replay.specs.declared.ran.ReplayError.{ReplayError}
+use Rattle.schedule_replay.specs.declared.ran.ReplayError.TheVariants as errors
+use Rattle.schedule_replay.specs.Replays.{has_no_lf}
+
+-- what an outcome is called outside
+abbrev pub ran_of : Result (Unit {0}) ReplayError → Ran
+ran_of (Ok done) = rans.Done
+ran_of (Err errors.Read) = rans.ReadFault
+ran_of (Err (errors.Refused line reason)) = rans.BadSchedule line reason
+ran_of (Err errors.Write) = rans.WriteFault
+ran_of (Err errors.Memory) = rans.Memory
+
+-- this text has been written, and there is one
+abbrev pub WritesText : Option (List ℕ) → Option (List ℕ) → Option (List ℕ) → Type 0
+WritesText None held now = ⊥
+WritesText (Some text) held now = Appends held now text
+
+-- All is read, no line is refused, and the transcript is written.
+pub record IsDone (bytes : List ℕ) (left held now : Option (List ℕ)) : Type 0 where
+  pub read : IsAtEnd left
+  pub accepted : judge bytes ≡ None
+  pub text : WritesText (transcript_of bytes) held now
+
+-- This is the first refused line, and the transcript of those before it is written.
+pub record IsBad (bytes : List ℕ) (line : ℕ) (reason : Reason) (held now : Option (List ℕ)) : Type 0 where
+  pub refused : judge bytes ≡ Some (line, reason)
+  pub text : WritesText (transcript_of bytes) held now
+
+-- A front of the transcript is written.
+pub record IsFrontOf (bytes : List ℕ) (held now : Option (List ℕ)) : Type 0 where
+  pub front : List ℕ
+  pub rest : List ℕ
+  pub text : transcript_of bytes ≡ Some (front ++ rest)
+  pub put : Appends held now front
+
+-- this text is the transcript of whole lines without its last line; of no lines it is no text
+abbrev pub IsCutTranscript : List ℕ → List ℕ → Type 0
+IsCutTranscript [] text = text ≡ []
+IsCutTranscript (x ∷ xs) text = (judge (x ∷ xs) ≡ None) × (q : Ask) × (transcript_of (x ∷ xs) ≡ Some (text ++ end_text q))
+
+-- The reading broke off within a line, which may be empty, and of the whole lines before it, of which none is refused, the transcript is written without its last line.
+pub record IsCutShort (bytes : List ℕ) (left held now : Option (List ℕ)) : Type 0 where
+  pub whole : List ℕ
+  pub line : List ℕ
+  pub read : Consumes (Some bytes) left (whole ++ line)
+  pub within : has_no_lf line ≡ true
+  pub text : List ℕ
+  pub put : Appends held now text
+  pub cut : IsCutTranscript whole text
+
+-- What is read and written, by how the replay ended. After a write fault and without memory a front of the transcript is written.
+abbrev pub Replays : List ℕ → Option (List ℕ) → Option (List ℕ) → Option (List ℕ) → Ran → Type 0
+Replays bytes left held now rans.Done = IsDone bytes left held now
+Replays bytes left held now rans.ReadFault = IsCutShort bytes left held now
+Replays bytes left held now (rans.BadSchedule line reason) = IsBad bytes line reason held now
+Replays bytes left held now rans.WriteFault = IsFrontOf bytes held now
+Replays bytes left held now rans.Memory = IsFrontOf bytes held now

@@ -1,0 +1,102 @@
+//! Replaying what a source gives into what a sink takes.
+ghost use Rattle.std.specs.Prelude.{◌≡◌, ◌≤◌, ◌+◌, ◌⊎◌, [], None, Err, IfSome, OnOk, length};
+ghost use Rattle.tree_specs.specs.Schedule.{judge};
+ghost use Rattle.outside.specs.Causes.{Rose};
+ghost use Rattle.schedule_replay.specs.Puts.{PutsAll, Counts};
+ghost use Rattle.schedule_replay.specs.Readings.{IsReady, room_left};
+ghost use Rattle.schedule_replay.specs.States.{reading_of};
+ghost use Rattle.schedule_replay.specs.Passes.{PassesPiece, PassesEnd};
+ghost use Rattle.schedule_replay.specs.Runs.{Replays, ran_of};
+
+use crate::output::{PutError, put_all};
+use crate::ran::{Ran, ReplayError, ending};
+use crate::reading::Replay;
+use outside::{Got, Sink, Source};
+use std::alloc::Global;
+
+/// Writes what is to be written next. At an error a front of it is written.
+fn put_text<K: Sink>(replay: &mut Replay, out: &mut K) -> Result<(), PutError>
+    ensures bytes { PutsAll (K.held out.old) (K.held out.new) result replay.old.text.items }
+    ensures cause { Counts (K.faults out.old) (K.faults out.new) (result ≡ Err PutError.Write) }
+    ensures emptied { OnOk result (replay.new.text.items ≡ []) }
+    ensures host { replay.new.host ≡ replay.old.host }
+    ensures number { replay.new.number ≡ replay.old.number }
+    ensures line { replay.new.line ≡ replay.old.line }
+{
+    put_all(out, &replay.text)?;
+    replay.text.clear();
+    Ok(())
+}
+
+/// Takes the next bytes, and writes what comes of them, before an error too.
+fn take_piece<K: Sink>(
+    replay: &mut Replay,
+    piece: &[u8],
+    out: &mut K,
+) -> Result<(), ReplayError>
+    requires ready { IsReady (reading_of replay.old) }
+    requires empty { replay.old.text.items ≡ [] }
+    ensures passed { PassesPiece (reading_of replay.old) piece.now (reading_of replay.new) (K.held out.old) (K.held out.new) result }
+    ensures ready { OnOk result (IsReady (reading_of replay.new)) }
+    ensures empty { OnOk result (replay.new.text.items ≡ []) }
+    ensures progress { OnOk result (room_left (reading_of replay.new) + length piece.now ≤ room_left (reading_of replay.old)) }
+    ensures cause { Counts (K.faults out.old) (K.faults out.new) (result ≡ Err ReplayError.Write) }
+{
+    let taken = replay.feed(piece);
+    put_text(replay, out)?;
+    taken?;
+    Ok(())
+}
+
+/// Takes the end of the schedule, and writes what comes of it, before an error too.
+fn take_end<K: Sink>(replay: &mut Replay, out: &mut K) -> Result<(), ReplayError>
+    requires ready { IsReady (reading_of replay.old) }
+    requires empty { replay.old.text.items ≡ [] }
+    ensures passed { PassesEnd (reading_of replay.old) (K.held out.old) (K.held out.new) result }
+    ensures cause { Counts (K.faults out.old) (K.faults out.new) (result ≡ Err ReplayError.Write) }
+{
+    let taken = replay.finish();
+    put_text(replay, out)?;
+    taken?;
+    Ok(())
+}
+
+/// Reads a schedule to its end, and writes its transcript.
+fn run<S: Source, K: Sink>(
+    alloc: Global,
+    input: &mut S,
+    out: &mut K,
+) -> Result<(), ReplayError>
+    ensures replays { IfSome (S.left input.old) (λ bytes. Replays bytes (S.left input.new) (K.held out.old) (K.held out.new) (ran_of result)) }
+    ensures reads { Counts (S.faults input.old) (S.faults input.new) (result ≡ Err ReplayError.Read) }
+    ensures writes { Counts (K.faults out.old) (K.faults out.new) (result ≡ Err ReplayError.Write) }
+{
+    let mut replay = Replay::new(alloc)?;
+    let mut chunk = [0u8; 4096];
+    'reads: loop {
+        match input.read(&mut chunk) {
+            Got::Some(n) => take_piece(&mut replay, &chunk[..n as usize], out)?,
+            Got::End => return take_end(&mut replay, out),
+            Got::Failed => return Err(ReplayError::Read),
+        }
+    }
+}
+
+/// Replays the schedule that the source gives into its transcript, which goes to the sink piece by
+/// piece.
+///
+/// The memory that it takes is that of the rows that exist, of one line and of what 4,096 bytes of the
+/// schedule tell.
+pub fn replay<S: Source, K: Sink>(alloc: Global, input: &mut S, out: &mut K) -> Ran
+    // At the end all is read, no line is refused and the transcript is written; a refused line is the
+    // first one; at a fault, and without memory, a front of the transcript is written.
+    ensures replays { IfSome (S.left input.old) (λ bytes. Replays bytes (S.left input.new) (K.held out.old) (K.held out.new) result) }
+    ensures read { Counts (S.faults input.old) (S.faults input.new) (result ≡ Ran.ReadFault) }
+    ensures write { Counts (K.faults out.old) (K.faults out.new) (result ≡ Ran.WriteFault) }
+
+    // Where no line is to be refused and no fault was counted, only memory can be wanting.
+    ensures complete { IfSome (S.left input.old) (λ bytes. judge bytes ≡ None → (Rose (S.faults input.old) (S.faults input.new) → ⊥) →
+        (Rose (K.faults out.old) (K.faults out.new) → ⊥) → (result ≡ Ran.Done) ⊎ (result ≡ Ran.Memory)) }
+{
+    ending(run(alloc, input, out))
+}
