@@ -1,4 +1,3 @@
-pub mod PutLaws
 pub mod LineLaws
 pub mod TextLaws
 pub mod ReplayLaws

@@ -12,12 +12,12 @@ use Rattle.tree_specs.specs.Text.{end_text}
 use Rattle.tree_specs.specs.Schedule.{Line, lines}
 use Rattle.schedule_replay.specs.declared.refusal.LineError.{LineError}
 use Rattle.schedule_replay.specs.declared.refusal.LineError.TheVariants as line_errors
-use Rattle.schedule_replay.specs.declared.output.PutError.{PutError}
-use Rattle.schedule_replay.specs.declared.output.PutError.TheVariants as put_errors
+use Rattle.outside.specs.declared.output.PutError.{PutError}
+use Rattle.outside.specs.declared.output.PutError.TheVariants as put_errors
 use Rattle.schedule_replay.specs.declared.ran.ReplayError.{ReplayError}
 use Rattle.schedule_replay.specs.declared.ran.ReplayError.TheVariants as errors
 use Rattle.schedule_replay.specs.Replays.{Replayed, with_front, replayed, replayed_from, replayed_all, replayed_lines, refused_at_once, BeginsText, has_no_lf}
-use Rattle.schedule_replay.specs.Puts.{PutsFront, PutsAll}
+use Rattle.outside.specs.Outputs.{PutsFront, PutsAll}
 use Rattle.schedule_replay.specs.Readings.{Reading, from_line, with_more, Advances, Refuses, BreaksOff, Takes, Ends, EndsFront, Finishes, IsReady, fresh}
 use Rattle.schedule_replay.specs.Passes.{replay_error_of_line, replay_error_of_put, with_text, TakesPiece, PassesPiece, TakesEnd, PassesEnd}
 use Rattle.schedule_replay.specs.Runs.{Replays, ran_of, IsFrontOf, IsCutShort, IsCutTranscript}

@@ -1,5 +1,4 @@
 pub mod Replays
-pub mod Puts
 pub mod Tellings
 pub mod Questions
 pub mod Readings

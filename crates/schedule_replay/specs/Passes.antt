@@ -3,8 +3,8 @@ use Rattle.std.specs.Prelude.{ℕ, List, Option, Result, Ok, Err, None, Some}
 use Rattle.std.specs.Io.KnownBytes.{Appends}
 use Rattle.schedule_replay.specs.declared.refusal.LineError.{LineError}
 use Rattle.schedule_replay.specs.declared.refusal.LineError.TheVariants as line_errors
-use Rattle.schedule_replay.specs.declared.output.PutError.{PutError}
-use Rattle.schedule_replay.specs.declared.output.PutError.TheVariants as put_errors
+use Rattle.outside.specs.declared.output.PutError.{PutError}
+use Rattle.outside.specs.declared.output.PutError.TheVariants as put_errors
 use Rattle.schedule_replay.specs.declared.ran.ReplayError.{ReplayError}
 use Rattle.schedule_replay.specs.declared.ran.ReplayError.TheVariants as errors
 use Rattle.schedule_replay.specs.Readings.{Reading, Advances, Refuses, BreaksOff, Ends, EndsFront}

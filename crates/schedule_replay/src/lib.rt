@@ -1,7 +1,6 @@
 //! Replaying a schedule into its transcript: bytes in, bytes out.
 #![tactic(auto)]
 
-mod output;
 mod ran;
 mod reading;
 mod refusal;

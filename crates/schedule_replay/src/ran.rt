@@ -4,7 +4,7 @@ ghost use Rattle.schedule_replay.specs.declared.ran.ReplayError.TheVariants as e
 ghost use Rattle.schedule_replay.specs.Passes.{replay_error_of_line, replay_error_of_put};
 ghost use Rattle.schedule_replay.specs.Runs.{ran_of};
 
-use crate::output::PutError;
+use outside::PutError;
 use crate::refusal::LineError;
 use tree_specs::{Memory, Reason};
 

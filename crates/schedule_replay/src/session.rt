@@ -2,16 +2,15 @@
 ghost use Rattle.std.specs.Prelude.{◌≡◌, ◌≤◌, ◌+◌, ◌⊎◌, [], None, Err, IfSome, OnOk, length};
 ghost use Rattle.tree_specs.specs.Schedule.{judge};
 ghost use Rattle.outside.specs.Causes.{Rose};
-ghost use Rattle.schedule_replay.specs.Puts.{PutsAll, Counts};
+ghost use Rattle.outside.specs.Outputs.{PutsAll, Counts};
 ghost use Rattle.schedule_replay.specs.Readings.{IsReady, room_left};
 ghost use Rattle.schedule_replay.specs.States.{reading_of};
 ghost use Rattle.schedule_replay.specs.Passes.{PassesPiece, PassesEnd};
 ghost use Rattle.schedule_replay.specs.Runs.{Replays, ran_of};
 
-use crate::output::{PutError, put_all};
 use crate::ran::{Ran, ReplayError, ending};
 use crate::reading::Replay;
-use outside::{Got, Sink, Source};
+use outside::{Got, PutError, Sink, Source, put_all};
 use std::alloc::Global;
 
 /// Writes what is to be written next. At an error a front of it is written.

@@ -1,7 +1,8 @@
 use Rattle.std.proofs.Common.{◌≡◌, ◌≤◌, ◌+◌, arith, drop, take, length, length-drop, ℕ}
 use Rattle.std.proofs.lemmas.List.{take_rest}
-use Rattle.schedule_replay.proofs.PutLaws.{appends_none, appends_more, loses_none, loses_then, beyond_first}
-use Rattle.schedule_replay.proofs.output.put_all.Goals as goal
+use Rattle.std.proofs.KnownBytes.{Appends-nil}
+use Rattle.outside.proofs.OutputLaws.{appends_more, loses_none, loses_then, beyond_first}
+use Rattle.outside.proofs.output.put_all.Goals as goal
 
 pub loop-at-preserved : goal.loop-at-preserved
 loop-at-preserved g c =
@@ -16,4 +17,4 @@ loop-at-preserved g c =
     }
 
 pub loop-at-init : goal.loop-at-init
-loop-at-init g c = record { written = appends_none _; within = omega arith; later = omega arith; room = loses_none _ }
+loop-at-init g c = record { written = Appends-nil _; within = omega arith; later = omega arith; room = loses_none _ }

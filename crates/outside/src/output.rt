@@ -1,23 +1,27 @@
-//! Writing all of some bytes to a sink.
 ghost use Rattle.std.specs.Prelude.{◌≡◌, Err, length};
-ghost use Rattle.schedule_replay.specs.Puts.{PutsAll, Counts, HasRoomCause};
+ghost use Rattle.outside.specs.Outputs.{PutsAll, Counts, LeavesRoom};
 
-use outside::{Put, Sink};
+use crate::sink::{Put, Sink};
 use tree_specs::Memory;
 
-/// Why bytes were not written.
+/// Why not all of some bytes were put.
 #[derive(Clone, Copy, Debug, PartialEq, Eq)]
 pub enum PutError {
+    /// A put has failed, which the sink counted.
     Write,
+    /// The bytes are longer than the room that the sink tells, and it found no memory.
     Memory,
 }
 
-/// Writes all of the bytes. At an error a front of them is written. Memory comes only where they are longer
-/// than the room that the sink tells.
+/// Puts all of the bytes, in as many puts as the sink needs.
+///
+/// # Errors
+///
+/// At an error a front of the bytes was put.
 pub fn put_all<K: Sink>(out: &mut K, bytes: &[u8]) -> Result<(), PutError>
     ensures bytes { PutsAll (K.held out.old) (K.held out.new) result bytes.now }
     ensures cause { Counts (K.faults out.old) (K.faults out.new) (result ≡ Err PutError.Write) }
-    ensures room { HasRoomCause (K.room out.old) result (length bytes.now) }
+    ensures room { LeavesRoom (K.room out.old) (K.room out.new) result (length bytes.now) }
 {
     let mut at = 0;
     while at < bytes.len() {

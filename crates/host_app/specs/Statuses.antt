@@ -1,0 +1,34 @@
+-- The statuses and what is said of them.
+use Rattle.std.specs.Prelude.{ℕ, List, [], ◌++◌, codes}
+use Rattle.std.specs.Fmt.{decimal}
+use Rattle.tree_specs.specs.declared.schedule.Reason.{Reason}
+use Rattle.tree_specs.specs.declared.schedule.Reason.TheVariants.{Limit, Form, NotAsked}
+use Rattle.schedule_replay.specs.declared.ran.Ran.{Ran}
+use Rattle.schedule_replay.specs.declared.ran.Ran.TheVariants as rans
+use Rattle.host_app.specs.declared.status.Status.{Status}
+use Rattle.host_app.specs.declared.status.Status.TheVariants as statuses
+
+abbrev pub status_of : Ran → Status
+status_of rans.Done = statuses.Done
+status_of rans.ReadFault = statuses.ReadFault
+status_of (rans.BadSchedule line reason) = statuses.BadSchedule line reason
+status_of rans.WriteFault = statuses.WriteFault
+status_of rans.Memory = statuses.NoMemory
+
+-- what follows the number of a refused line
+abbrev pub reason_text : Reason → List ℕ
+reason_text Limit = codes ": limit\n"
+reason_text Form = codes ": form\n"
+reason_text NotAsked = codes ": not asked\n"
+
+abbrev pub line_text : ℕ → Reason → List ℕ
+line_text line reason = codes "line " ++ decimal line ++ reason_text reason
+
+-- what is said of a status
+abbrev pub status_text : Status → List ℕ
+status_text statuses.Done = []
+status_text statuses.ReadFault = codes "read fault\n"
+status_text statuses.Usage = codes "usage\n"
+status_text (statuses.BadSchedule line reason) = line_text line reason
+status_text statuses.WriteFault = codes "write fault\n"
+status_text statuses.NoMemory = codes "no memory\n"

@@ -1,0 +1,12 @@
+//! The top call: what the program does for its words, over any source and any sinks.
+#![tactic(auto)]
+
+mod main_call;
+mod saying;
+mod status;
+
+pub use main_call::host_main;
+pub use status::Status;
+
+#[cfg(test)]
+mod tests;

@@ -1,0 +1,47 @@
+//! What the program says of its status on standard error.
+ghost use Rattle.std.specs.Prelude.{◌≡◌, Err, length};
+ghost use Rattle.outside.specs.Outputs.{PutsAll, Counts, LeavesRoom};
+ghost use Rattle.host_app.specs.Statuses.{reason_text, line_text, status_text};
+
+use crate::status::Status;
+use itoa::Buffer;
+use outside::{PutError, Sink, put_all};
+use tree_specs::Reason;
+
+fn reason_bytes(reason: Reason) -> &'static [u8]
+    ensures { result.now ≡ reason_text reason }
+{
+    match reason {
+        Reason::Limit => b": limit\n",
+        Reason::Form => b": form\n",
+        Reason::NotAsked => b": not asked\n",
+    }
+}
+
+/// Says which line was refused, and why.
+fn say_line<E: Sink>(err: &mut E, line: u64, reason: Reason) -> Result<(), PutError>
+    ensures bytes { PutsAll (E.held err.old) (E.held err.new) result (line_text line reason) }
+    ensures cause { Counts (E.faults err.old) (E.faults err.new) (result ≡ Err PutError.Write) }
+    ensures room { LeavesRoom (E.room err.old) (E.room err.new) result (length (line_text line reason)) }
+{
+    let mut digits = Buffer::new();
+    put_all(err, b"line ")?;
+    put_all(err, digits.format(line).as_bytes())?;
+    put_all(err, reason_bytes(reason))
+}
+
+/// Says the text of the status. It takes no memory of its own.
+pub fn say<E: Sink>(err: &mut E, status: Status) -> Result<(), PutError>
+    ensures bytes { PutsAll (E.held err.old) (E.held err.new) result (status_text status) }
+    ensures cause { Counts (E.faults err.old) (E.faults err.new) (result ≡ Err PutError.Write) }
+    ensures room { LeavesRoom (E.room err.old) (E.room err.new) result (length (status_text status)) }
+{
+    match status {
+        Status::Done => Ok(()),
+        Status::ReadFault => put_all(err, b"read fault\n"),
+        Status::Usage => put_all(err, b"usage\n"),
+        Status::BadSchedule { line, reason } => say_line(err, line, reason),
+        Status::WriteFault => put_all(err, b"write fault\n"),
+        Status::NoMemory => put_all(err, b"no memory\n"),
+    }
+}

@@ -1,0 +1,36 @@
+ghost use Rattle.std.specs.Prelude.{◌≡◌};
+ghost use Rattle.host_app.specs.Statuses.{status_of};
+
+use schedule_replay::Ran;
+use tree_specs::Reason;
+
+/// How the program ended.
+#[derive(Clone, Copy, Debug, PartialEq, Eq)]
+pub enum Status {
+    /// All is done. Status 0.
+    Done,
+    /// A read failed. Status 1.
+    ReadFault,
+    /// The words are none that the program takes. Status 2.
+    Usage,
+    /// The line with this number, from 1, is the first that was refused. Status 3.
+    BadSchedule { line: u64, reason: Reason },
+    /// A put to the output failed. Status 4.
+    WriteFault,
+    /// There was no memory. Status 6.
+    NoMemory,
+}
+
+impl From<Ran> for Status {
+    ghost from_gives = { λ ran status. status ≡ status_of ran };
+
+    fn from(ran: Ran) -> Status {
+        match ran {
+            Ran::Done => Status::Done,
+            Ran::ReadFault => Status::ReadFault,
+            Ran::BadSchedule { line, reason } => Status::BadSchedule { line, reason },
+            Ran::WriteFault => Status::WriteFault,
+            Ran::Memory => Status::NoMemory,
+        }
+    }
+}
