@@ -27,7 +27,7 @@ module _ {F A P I T : Type 0} (t : Table F A P I T) (K : List T → F → List F
     after-tell h e Short q r = subst O (sym (append-none h)) q
 
     move-lawful : (n : ℕ) → ((h : List T) (f : F) (fs : List F) (p : P) (is : List I) → K h f fs p → O (h ++ items (walk t n f fs p is)))
-      → (h : List T) (m : Move F A P T) (fs : List F) (is : List I) → O h → Keeps h m fs → O (h ++ items (leads t (walk t n) m fs is))
+        → (h : List T) (m : Move F A P T) (fs : List F) (is : List I) → O h → Keeps h m fs → O (h ++ items (leads t (walk t n) m fs is))
     move-lawful n ih h (Done a p) [] is o k = subst O (sym (append-none h)) o
     move-lawful n ih h (Done a p) (g ∷ gs) is o k = ih h _ _ _ is k
     move-lawful n ih h (Go f p) fs is o k = ih h f fs p is k

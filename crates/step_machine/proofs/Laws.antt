@@ -22,7 +22,7 @@ Below-tells [] o o' h = h
 Below-tells (t ∷ ts) o o' h = Below-tell t _ _ (Below-tells ts o o' h)
 
 pub Below-followed : {A B P I T : Type 0} (o o' : Outcome A P I T) (k k' : A → P → List I → Outcome B P I T)
-  → Below o o' → ((a : A) (p : P) (is : List I) → Below (k a p is) (k' a p is)) → Below (followed o k) (followed o' k')
+    → Below o o' → ((a : A) (p : P) (is : List I) → Below (k a p is) (k' a p is)) → Below (followed o k) (followed o' k')
 Below-followed o o' k k' h g =
     elim h [ inl s ↦ inl (ap (λ x. followed x k) s) | inr e ↦ Below-trans _ _ _ (same o) (inr (ap (λ x. followed x k') e)) ]
   where
@@ -37,27 +37,27 @@ tells-tells [] us o = refl
 tells-tells (t ∷ ts) us o = ap (tell t) (tells-tells ts us o)
 
 pub followed-tell : {A B P I T : Type 0} (t : T) (o : Outcome A P I T) (k : A → P → List I → Outcome B P I T)
-  → followed (tell t o) k ≡ tell t (followed o k)
+    → followed (tell t o) k ≡ tell t (followed o k)
 followed-tell t (Ended a p us is) k = refl
 followed-tell t (Waits us) k = refl
 followed-tell t (Stray us) k = refl
 followed-tell t Short k = refl
 
 pub followed-tells : {A B P I T : Type 0} (ts : List T) (o : Outcome A P I T) (k : A → P → List I → Outcome B P I T)
-  → followed (tells ts o) k ≡ tells ts (followed o k)
+    → followed (tells ts o) k ≡ tells ts (followed o k)
 followed-tells [] o k = refl
 followed-tells (t ∷ ts) o k = followed-tell t (tells ts o) k ∙ ap (tell t) (followed-tells ts o k)
 
 pub followed-followed : {A B C P I T : Type 0} (o : Outcome A P I T) (k : A → P → List I → Outcome B P I T) (l : B → P → List I → Outcome C P I T)
-  → followed (followed o k) l ≡ followed o (λ a p is. followed (k a p is) l)
+    → followed (followed o k) l ≡ followed o (λ a p is. followed (k a p is) l)
 followed-followed (Ended a p ts is) k l = followed-tells ts (k a p is) l
 followed-followed (Waits ts) k l = refl
 followed-followed (Stray ts) k l = refl
 followed-followed Short k l = refl
 
 pub Below-asks : {F A P I T : Type 0} (taken : F → P → I → Option F) (go go' : F → P → List I → Outcome A P I T)
-  (h : (f : F) (p : P) (is : List I) → Below (go f p is) (go' f p is)) (q : T) (f : F) (p : P) (is : List I)
-  → Below (asks taken go q f p is) (asks taken go' q f p is)
+    (h : (f : F) (p : P) (is : List I) → Below (go f p is) (go' f p is)) (q : T) (f : F) (p : P) (is : List I)
+    → Below (asks taken go q f p is) (asks taken go' q f p is)
 Below-asks taken go go' h q f p [] = inr refl
 Below-asks {F = F} taken go go' h q f p (i ∷ is) = each (taken f p i)
   where
@@ -67,8 +67,8 @@ Below-asks {F = F} taken go go' h q f p (i ∷ is) = each (taken f p i)
 
 module _ {F A P I T : Type 0} (t : Table F A P I T) where
   pub Below-after : (go go' : F → P → List I → Outcome A P I T)
-    (h : (f : F) (p : P) (is : List I) → Below (go f p is) (go' f p is)) (m : Move F A P T) (is : List I)
-    → Below (after t go m is) (after t go' m is)
+      (h : (f : F) (p : P) (is : List I) → Below (go f p is) (go' f p is)) (m : Move F A P T) (is : List I)
+      → Below (after t go m is) (after t go' m is)
   Below-after go go' h (Done a p) is = inr refl
   Below-after go go' h (Go f p) is = h f p is
   Below-after go go' h (Emit e f p) is = Below-tell e _ _ (h f p is)
@@ -107,12 +107,12 @@ module _ {F A P I T : Type 0} (t : Table F A P I T) where
 
   -- what a work's end hands on goes through the stack
   pub pass-followed : (n : ℕ) (fs : List F) (o : Outcome A P I T) (k : A → P → List I → Outcome A P I T)
-    → pass t n fs (followed o k) ≡ followed o (λ a p is. pass t n fs (k a p is))
+      → pass t n fs (followed o k) ≡ followed o (λ a p is. pass t n fs (k a p is))
   pass-followed n [] o k = refl
   pass-followed n (g ∷ gs) o k = followed-followed o k _
 
   pub pass-asks : (n : ℕ) (fs : List F) (q : T) (f : F) (p : P) (is : List I) (go : F → P → List I → Outcome A P I T)
-    → pass t n fs (asks t.taken go q f p is) ≡ asks t.taken (λ g p' left. pass t n fs (go g p' left)) q f p is
+      → pass t n fs (asks t.taken go q f p is) ≡ asks t.taken (λ g p' left. pass t n fs (go g p' left)) q f p is
   pass-asks n fs q f p [] go = pass-waits n fs (q ∷ [])
   pass-asks n fs q f p (i ∷ is) go = each (t.taken f p i)
     where
@@ -122,7 +122,7 @@ module _ {F A P I T : Type 0} (t : Table F A P I T) where
 
   -- a stack's next turn is that of its innermost work
   pub pass-after : (n : ℕ) (m : Move F A P T) (fs : List F) (is : List I)
-    → Below (leads t (rest t n) m fs is) (pass t (suc n) fs (after t (run t n) m is))
+      → Below (leads t (rest t n) m fs is) (pass t (suc n) fs (after t (run t n) m is))
   pass-after n (Done a p) [] is = inr refl
   pass-after n (Done a p) (g ∷ gs) is = rest-more n (t.resume g a) gs p is
   pass-after n (Go f p) fs is = Below-pass n fs _ _ (Below-same _)
@@ -130,14 +130,14 @@ module _ {F A P I T : Type 0} (t : Table F A P I T) where
       Below-trans _ _ _ (Below-tell e _ _ (Below-pass n fs _ _ (Below-same _))) (inr (sym (pass-tell (suc n) fs e _)))
   pass-after n (Wait q f p) fs is =
       Below-trans _ _ _ (Below-asks t.taken _ _ (λ g p' left. Below-pass n fs _ _ (Below-same (run t n g p' left))) q f p is)
-          (inr (sym (pass-asks (suc n) fs q f p is (run t n))))
+      (inr (sym (pass-asks (suc n) fs q f p is (run t n))))
   pass-after n (Call g f p) fs is =
       Below-trans _ _ _ (Below-followed (run t n g p is) (run t n g p is) _ _ (Below-same _) (λ a p' left. Below-pass n fs _ _ (Below-same (run t n (t.resume f a) p' left))))
-          (inr (sym (pass-followed (suc n) fs (run t n g p is) (λ a p' left. run t n (t.resume f a) p' left))))
+      (inr (sym (pass-followed (suc n) fs (run t n g p is) (λ a p' left. run t n (t.resume f a) p' left))))
 
   pub Below-leads : (go go' : F → List F → P → List I → Outcome A P I T)
-    (h : (f : F) (fs : List F) (p : P) (is : List I) → Below (go f fs p is) (go' f fs p is)) (m : Move F A P T) (fs : List F) (is : List I)
-    → Below (leads t go m fs is) (leads t go' m fs is)
+      (h : (f : F) (fs : List F) (p : P) (is : List I) → Below (go f fs p is) (go' f fs p is)) (m : Move F A P T) (fs : List F) (is : List I)
+      → Below (leads t go m fs is) (leads t go' m fs is)
   Below-leads go go' h (Done a p) [] is = inr refl
   Below-leads go go' h (Done a p) (g ∷ gs) is = h (t.resume g a) gs p is
   Below-leads go go' h (Go f p) fs is = h f fs p is

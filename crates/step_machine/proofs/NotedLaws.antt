@@ -18,7 +18,7 @@ module _ {A P I T U : Type 0} (f : T → U) where
 
 module _ {A B P I T U : Type 0} (f : T → U) where
   map_items-followed : (o : Outcome A P I T) (o' : Outcome A P I U) (k : A → P → List I → Outcome B P I T) (k' : A → P → List I → Outcome B P I U)
-    → map_items f o ≡ o' → ((a : A) (p : P) (is : List I) → map_items f (k a p is) ≡ k' a p is) → map_items f (followed o k) ≡ followed o' k'
+      → map_items f o ≡ o' → ((a : A) (p : P) (is : List I) → map_items f (k a p is) ≡ k' a p is) → map_items f (followed o k) ≡ followed o' k'
   map_items-followed o o' k k' e h = each o h ∙ ap (λ z. followed z k') e
     where
       each : (o : Outcome A P I T) → ((a : A) (p : P) (is : List I) → map_items f (k a p is) ≡ k' a p is) → map_items f (followed o k) ≡ followed (map_items f o) k'
@@ -32,8 +32,8 @@ module _ {F A P I T N : Type 0} (notes : Notes F P N) (t : Table F A P I T) wher
   item_of s = s.item
 
   noted-after : (n : ℕ) → ((w : Noted F N) (p : P) (is : List I) → map_items item_of (run (noted notes t) n w p is) ≡ run t n w.work p is)
-    → (f : F) (m : Option N) (p : P) (move : Move F A P T) (is : List I)
-    → map_items item_of (after (noted notes t) (run (noted notes t) n) (noted_move notes f m p move) is) ≡ after t (run t n) move is
+      → (f : F) (m : Option N) (p : P) (move : Move F A P T) (is : List I)
+      → map_items item_of (after (noted notes t) (run (noted notes t) n) (noted_move notes f m p move) is) ≡ after t (run t n) move is
   noted-after n ih f m p (Done a q) is = refl
   noted-after n ih f m p (Go g q) is = ih _ q is
   noted-after n ih f m p (Emit e g q) is = map_items-tell item_of _ _ ∙ ap (tell e) (ih _ q is)

@@ -60,7 +60,7 @@ module _ {F A P I T : Type 0} (t : Table F A P I T) (N : F → List F → P → 
 
   module _ (kept : (f : F) (fs : List F) (p : P) → N f fs p → Stays (t.step f p) fs) where
     move-asks : (n : ℕ) → ((f : F) (fs : List F) (p : P) (is : List I) → N f fs p → Asks Q (walk t n f fs p is))
-      → (m : Move F A P T) (fs : List F) (is : List I) → Stays m fs → Asks Q (leads t (walk t n) m fs is)
+        → (m : Move F A P T) (fs : List F) (is : List I) → Stays m fs → Asks Q (leads t (walk t n) m fs is)
     move-asks n ih (Done a p) [] is h = h
     move-asks n ih (Done a p) (g ∷ gs) is h = ih _ _ _ is h
     move-asks n ih (Go f p) fs is h = ih f fs p is h

@@ -116,7 +116,7 @@ silent t (Call g f p) fs = Some (record { now = g; below = f ∷ fs; pool = p })
 pub record EndsBy {A P I T : Type 0} (go : List I → Outcome A P I T) (a : A) (p : P) (ts : List T) (used : List I) : Type 0 where
   pub ends : (more : List I) → go (used ++ more) ≡ Ended a p ts more
   pub waits : (pre : List I) (i : I) (post : List I) → used ≡ pre ++ i ∷ post
-    → (us : List T) × (vs : List T) × (go pre ≡ Waits us) × (us ++ vs ≡ ts)
+      → (us : List T) × (vs : List T) × (go pre ≡ Waits us) × (us ++ vs ≡ ts)
 
 -- the items that a run told
 abbrev pub items : {A P I T : Type 0} → Outcome A P I T → List T

@@ -43,5 +43,5 @@ abbrev pub noted : {F A P I T N : Type 0} → Notes F P N → Table F A P I T �
 noted notes t = record {
   step = λ w p. noted_move notes w.work w.note p (t.step w.work p);
   resume = λ w a. with_note w.note (t.resume w.work a);
-  taken = λ w p i. noted_work w.note (t.taken w.work p i)
+  taken = λ w p i. noted_work w.note (t.taken w.work p i);
 }

@@ -1,5 +1,5 @@
 -- What it means that no refusal applies, and that an input fits.
-use Rattle.std.proofs.Common.{◌≡◌, ℕ, ◌+◌, ◌^◌, ◌<◌, ◌≤◌, List, [], ◌∷◌, ◌++◌, Option, Some, None, Bool, true, false, refl, sym, ◌∙◌, ap}
+use Rattle.std.proofs.Common.{◌≡◌, ℕ, List, [], ◌∷◌, ◌++◌, Some, None, Bool, true, false, refl}
 use Rattle.std.specs.Prelude.{not}
 use Rattle.tree_specs.specs.declared.object.Owner.{Owner}
 use Rattle.tree_specs.specs.declared.call.Call.{Call}
@@ -9,11 +9,11 @@ use Rattle.tree_specs.specs.declared.question.Input.{Input}
 use Rattle.tree_specs.specs.declared.question.Input.TheVariants as input
 use Rattle.tree_specs.specs.declared.frame.Frame.{Frame}
 use Rattle.tree_specs.specs.declared.frame.Frame.TheVariants as frame
-use Rattle.tree_specs.specs.declared.frame.CallFrame.TheVariants.{Asking, Doing}
+use Rattle.tree_specs.specs.declared.frame.CallFrame.TheVariants.{Doing}
 use Rattle.tree_specs.specs.Pool.{Pool, is_owner}
 use Rattle.tree_specs.specs.Calls.{Check, refuse_if, refusals, small, owner, room}
 use Rattle.tree_specs.specs.Soundness.{is_sound_call}
-use Rattle.tree_specs.specs.Table.{taken, doing}
+use Rattle.tree_specs.specs.Table.{doing}
 use Rattle.tree_specs.specs.Story.{heard}
 use Rattle.tree_specs.proofs.Numbered.{by_test}
 

@@ -1,41 +1,32 @@
 -- A measure that every step of the machine lowers.
-use Rattle.std.proofs.Common.{◌≡◌, ◌≢◌, ℕ, suc, zero, ◌+◌, ◌*◌, ◌^◌, ◌≤◌, ◌<◌, List, [], ◌∷◌, ◌++◌, length, Option, Some, None, Bool, true, false, refl, sym, ◌∙◌, ap, subst, inl, inr, arith, ◌⊎◌}
-use Rattle.std.specs.Prelude.{if◌then◌else◌, is_some, unwrap_or}
-use Rattle.step_machine.specs.Machine.{Move, Table}
+use Rattle.std.proofs.Common.{◌≡◌, ◌≢◌, ℕ, suc, zero, ◌+◌, ◌*◌, ◌≤◌, ◌<◌, List, [], ◌∷◌, length, Option, Some, None, refl, sym, ◌∙◌, ap, subst, arith}
+use Rattle.step_machine.specs.Machine.{Move}
 use Rattle.step_machine.specs.Machine.{Move as Do}
 use Rattle.step_machine.proofs.Ends.{Leads}
 use Rattle.tree_specs.specs.declared.object.Obj.{Obj}
 use Rattle.tree_specs.specs.declared.object.Owner.{Owner}
-use Rattle.tree_specs.specs.declared.object.Owner.TheVariants.{Root, Of}
+use Rattle.tree_specs.specs.declared.object.Owner.TheVariants.{Of}
 use Rattle.tree_specs.specs.declared.row.Row.{Row}
 use Rattle.tree_specs.specs.declared.row.Mark.{Mark}
 use Rattle.tree_specs.specs.declared.row.Mark.TheVariants.{Quiet, Dying}
 use Rattle.tree_specs.specs.declared.call.Call.{Call}
 use Rattle.tree_specs.specs.declared.call.Call.TheVariants as call
-use Rattle.tree_specs.specs.declared.reply.Reply.{Reply}
-use Rattle.tree_specs.specs.declared.reply.Reply.TheVariants as reply
-use Rattle.tree_specs.specs.declared.question.Input.{Input}
-use Rattle.tree_specs.specs.declared.question.Input.TheVariants as input
 use Rattle.tree_specs.specs.declared.frame.Frame.{Frame}
 use Rattle.tree_specs.specs.declared.frame.Frame.TheVariants as frame
-use Rattle.tree_specs.specs.declared.frame.CallFrame.{CallFrame}
 use Rattle.tree_specs.specs.declared.frame.CallFrame.TheVariants.{Asking, Doing, Awaiting, Telling}
-use Rattle.tree_specs.specs.declared.frame.FreeFrame.{FreeFrame}
 use Rattle.tree_specs.specs.declared.frame.FreeFrame.TheVariants.{Beginning, Leaving, Looping, Trying, Ending}
 use Rattle.tree_specs.specs.declared.frame.Answer.{Answer}
 use Rattle.tree_specs.specs.declared.frame.Answer.TheVariants.{Ok}
 use Rattle.tree_specs.specs.Objects.{same}
-use Rattle.tree_specs.specs.Pool.{Pool, row_of, is_row, is_owner, owner_of, first_kid, without, changed, add, detach, remove, left_row}
+use Rattle.tree_specs.specs.Pool.{Pool, row_of, owner_of, first_kid, without, changed, remove, left_row}
 use Rattle.tree_specs.specs.Items.{Item}
-use Rattle.tree_specs.specs.Calls.{Check, refusals, owner, room, small}
-use Rattle.tree_specs.specs.Soundness.{is_sound_call}
-use Rattle.tree_specs.specs.Table.{table, step, Step, lifted, free_step, begin_step, begin_by, loop_step, call_step, effect_step, resume, taken}
-use Rattle.tree_specs.specs.Sound.{Shaped, ValidAt, Distinct, Phase, InLoop, phase_of, phases, claim_if, claim, claims, IsWaiting, AllWait, IsLive, Tries, Rests, Sound}
-use Rattle.tree_specs.proofs.Numbered.{by_test, same-true, same-equal, same-false, same_or_not}
-use Rattle.tree_specs.proofs.Rows.{row_of-serial, row_of-changed-other, row_of-changed-same, row_of-without-other, row_of-without-same, Distinct-without, Distinct-changed, first_kid-owner}
+use Rattle.tree_specs.specs.Calls.{Check, refusals, room}
+use Rattle.tree_specs.specs.Table.{table, step, lifted, begin_step, loop_step, call_step, effect_step}
+use Rattle.tree_specs.specs.Sound.{InLoop, claims, AllWait, IsLive, Tries, Sound}
+use Rattle.tree_specs.proofs.Numbered.{by_test}
 use Rattle.tree_specs.proofs.Checks.{taken-doing}
-use Rattle.tree_specs.specs.Measure.{total, count, mark_weight, weight, unit, share, waiting_cost, below_cost, loop_kids, top_cost, cost, pending}
-use Rattle.tree_specs.proofs.Rows.{total-without, total-changed, total-length, count-none, count-length}
+use Rattle.tree_specs.specs.Measure.{total, count, mark_weight, weight, unit, top_cost, cost, pending}
+use Rattle.tree_specs.proofs.Rows.{total-without, total-changed, total-length, count-length}
 use Rattle.tree_specs.proofs.Keeps.{sound-kept, dying-row, claim-here, owned-row}
 use Rattle.step_machine.proofs.Ends.{Falls}
 

@@ -1,12 +1,10 @@
 -- The stated number of turns is above the measure at every moment, and a host's own work stays below all others.
-use Rattle.std.proofs.Common.{◌≡◌, ◌≢◌, ℕ, suc, zero, ◌+◌, ◌*◌, ◌^◌, ◌≤◌, ◌<◌, List, [], ◌∷◌, ◌++◌, length, Option, Some, None, Bool, true, false, refl, sym, ◌∙◌, ap, subst, inl, inr, arith, ◌⊎◌}
-use Rattle.std.specs.Prelude.{if◌then◌else◌, is_some, unwrap_or}
-use Rattle.step_machine.specs.Machine.{Move, Table}
+use Rattle.std.proofs.Common.{◌≡◌, ℕ, suc, zero, ◌+◌, ◌*◌, ◌≤◌, ◌<◌, List, [], ◌∷◌, length, Option, Some, None, refl, ap, subst, arith}
+use Rattle.step_machine.specs.Machine.{Move}
 use Rattle.step_machine.specs.Machine.{Move as Do}
 use Rattle.step_machine.proofs.Ends.{Leads}
 use Rattle.tree_specs.specs.declared.object.Obj.{Obj}
-use Rattle.tree_specs.specs.declared.object.Owner.{Owner}
-use Rattle.tree_specs.specs.declared.object.Owner.TheVariants.{Root, Of}
+use Rattle.tree_specs.specs.declared.object.Owner.TheVariants.{Of}
 use Rattle.tree_specs.specs.declared.row.Row.{Row}
 use Rattle.tree_specs.specs.declared.row.Mark.{Mark}
 use Rattle.tree_specs.specs.declared.row.Mark.TheVariants.{Quiet, Dying}
@@ -14,35 +12,25 @@ use Rattle.tree_specs.specs.declared.call.Call.{Call}
 use Rattle.tree_specs.specs.declared.call.Call.TheVariants as call
 use Rattle.tree_specs.specs.declared.reply.Reply.{Reply}
 use Rattle.tree_specs.specs.declared.reply.Reply.TheVariants as reply
-use Rattle.tree_specs.specs.declared.question.Input.{Input}
-use Rattle.tree_specs.specs.declared.question.Input.TheVariants as input
 use Rattle.tree_specs.specs.declared.frame.Frame.{Frame}
 use Rattle.tree_specs.specs.declared.frame.Frame.TheVariants as frame
-use Rattle.tree_specs.specs.declared.frame.CallFrame.{CallFrame}
 use Rattle.tree_specs.specs.declared.frame.CallFrame.TheVariants.{Asking, Doing, Awaiting, Telling}
-use Rattle.tree_specs.specs.declared.frame.FreeFrame.{FreeFrame}
 use Rattle.tree_specs.specs.declared.frame.FreeFrame.TheVariants.{Beginning, Leaving, Looping, Trying, Ending}
 use Rattle.tree_specs.specs.declared.frame.Answer.{Answer}
 use Rattle.tree_specs.specs.declared.frame.Answer.TheVariants.{Ok}
-use Rattle.tree_specs.specs.Objects.{same}
-use Rattle.tree_specs.specs.Pool.{Pool, row_of, is_row, is_owner, owner_of, first_kid, without, changed, add, detach, remove, left_row}
+use Rattle.tree_specs.specs.Pool.{Pool, row_of, first_kid, left_row}
 use Rattle.tree_specs.specs.Items.{Item}
-use Rattle.tree_specs.specs.Calls.{Check, refusals, owner, room, small}
-use Rattle.tree_specs.specs.Soundness.{is_sound_call}
-use Rattle.tree_specs.specs.Table.{table, step, Step, lifted, free_step, begin_step, begin_by, loop_step, call_step, effect_step, resume, taken}
-use Rattle.tree_specs.specs.Sound.{Shaped, ValidAt, Distinct, Phase, InLoop, phase_of, phases, claim_if, claim, claims, IsWaiting, AllWait, IsLive, Tries, Rests, Sound}
-use Rattle.tree_specs.proofs.Numbered.{by_test, same-true, same-equal, same-false, same_or_not}
-use Rattle.tree_specs.proofs.Rows.{row_of-serial, row_of-changed-other, row_of-changed-same, row_of-without-other, row_of-without-same, Distinct-without, Distinct-changed, first_kid-owner}
+use Rattle.tree_specs.specs.Calls.{Check, refusals}
+use Rattle.tree_specs.specs.Table.{table, step, lifted, begin_step, begin_by, loop_step, call_step, resume}
+use Rattle.tree_specs.specs.Sound.{InLoop, claims, IsWaiting, AllWait, IsLive, Sound}
 use Rattle.tree_specs.proofs.Checks.{taken-doing}
-
 use Rattle.std.proofs.Math.Nat.{mul-le-mul_left}
 use Rattle.tree_specs.specs.Story.{turns}
-use Rattle.tree_specs.specs.Items.Item.{Asked}
 use Rattle.tree_specs.specs.View.{View}
 use Rattle.tree_specs.specs.Whole.{IsCaller, Based, size, sizes, mark_burden, burden, Light, Whole}
 use Rattle.tree_specs.specs.Measure.{total, mark_weight, weight, waiting_cost, below_cost, loop_kids, top_cost, cost, pending}
 use Rattle.tree_specs.proofs.Rows.{total-without, total-changed, count-length}
-use Rattle.tree_specs.proofs.Keeps.{sound-kept, dying-row, claim-here}
+use Rattle.tree_specs.proofs.Keeps.{dying-row, claim-here}
 
 -- what a move leads to is based and light
 abbrev pub Placed : Move Frame Answer Pool Item → List Frame → ℕ → Type 0

@@ -1,10 +1,7 @@
 -- The machine does what the rules' text says.
-use Rattle.std.proofs.Common.{◌≡◌, ℕ, suc, zero, List, [], ◌∷◌, ◌++◌, Option, Some, None, Bool, true, false, refl, sym, ◌∙◌, ap, inl, inr}
-use Rattle.std.specs.Prelude.{if◌then◌else◌}
-use Rattle.step_machine.specs.Machine.{Move, Table, Outcome, followed, tell, after, run}
-use Rattle.step_machine.specs.Machine.{Move as Do}
-use Rattle.step_machine.specs.Machine.Outcome.{Ended, Waits, Stray, Short}
-use Rattle.step_machine.specs.Noted.{Noted, noted, noted_move, with_note}
+use Rattle.std.proofs.Common.{◌≡◌, ℕ, suc, zero, List, [], ◌∷◌, Option, Some, None, refl, inl, inr}
+use Rattle.step_machine.specs.Machine.{Move, Table, Outcome, after, run}
+use Rattle.step_machine.specs.Noted.{Noted, noted, noted_move}
 use Rattle.step_machine.proofs.Laws.{Below, Below-trans, Below-after, followed-tell, followed-tells, followed-followed}
 use Rattle.tree_specs.specs.declared.object.Obj.{Obj}
 use Rattle.tree_specs.specs.declared.object.Owner.TheVariants.{Of}
@@ -27,9 +24,9 @@ use Rattle.tree_specs.specs.Items.{Item}
 use Rattle.tree_specs.specs.Items.Item.{Told}
 use Rattle.tree_specs.specs.Soundness.{is_sound_call}
 use Rattle.tree_specs.specs.Calls.{Check, refusals}
-use Rattle.tree_specs.specs.Works.{Work, Scene, Begun, ◌>>=◌, ◌>>◌, gives, change, tells}
+use Rattle.tree_specs.specs.Works.{Work, Scene, Begun, ◌>>◌, gives, change, tells}
 use Rattle.tree_specs.specs.Story.{free, leave, children, asked, acting, telling}
-use Rattle.tree_specs.specs.Table.{table, notes, step, lifted, begin_step, loop_step, call_step, effect_step}
+use Rattle.tree_specs.specs.Table.{table, notes, step, lifted, begin_step, loop_step, call_step}
 use Rattle.tree_specs.proofs.Numbered.{by_test}
 
 ruleset laws = (followed-tell, followed-tells, followed-followed)

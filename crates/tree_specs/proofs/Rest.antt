@@ -1,12 +1,11 @@
 -- The laws of the story still to come.
-use Rattle.std.proofs.Common.{◌≡◌, ℕ, suc, zero, ◌+◌, ◌*◌, ◌≤◌, ◌<◌, List, [], ◌∷◌, length, Option, Some, None, refl, sym, ◌∙◌, ap, subst, arith}
+use Rattle.std.proofs.Common.{◌≡◌, ℕ, suc, zero, ◌+◌, ◌*◌, ◌<◌, List, [], ◌∷◌, length, Option, Some, None, refl, sym, ◌∙◌, ap, subst, arith}
 use Rattle.step_machine.specs.Machine.{Move, Outcome, State, silent, tell, given, asks, leads, rest, walk, items as told_by}
 use Rattle.step_machine.specs.Machine.{Move as Do}
 use Rattle.step_machine.specs.Machine.Outcome.{Ended, Waits, Stray, Short}
 use Rattle.step_machine.specs.Open.{LastIs}
 use Rattle.step_machine.proofs.Ends.{NotShort, Leads, enough, rest-walk, rest-any, rest-step, rest-event, rest-question, rest-silent, rest-open, silent-leads}
 use Rattle.step_machine.proofs.Open.{Asks, Asks-items, Stays, walk-asks, items-tell}
-use Rattle.tree_specs.specs.declared.question.Ask.{Ask}
 use Rattle.tree_specs.specs.declared.question.Input.{Input}
 use Rattle.tree_specs.specs.declared.frame.Frame.{Frame}
 use Rattle.tree_specs.specs.declared.frame.Frame.TheVariants as frame
@@ -23,14 +22,14 @@ use Rattle.tree_specs.specs.declared.question.Ask.TheVariants.{Quiet}
 use Rattle.tree_specs.specs.declared.frame.FreeFrame.TheVariants.{Beginning, Leaving, Looping, Trying, Ending}
 use Rattle.tree_specs.specs.Pool.{Pool, row_of, first_kid}
 use Rattle.tree_specs.specs.Items.{Item, IsQuestion}
-use Rattle.tree_specs.specs.Items.Item.{Told, Asked}
+use Rattle.tree_specs.specs.Items.Item.{Asked}
 use Rattle.tree_specs.specs.Calls.{Check, refusals}
 use Rattle.tree_specs.specs.Story.{turns}
 use Rattle.tree_specs.specs.Table.{table, step, call_step, lifted, begin_by, begin_step, loop_step, taken}
 use Rattle.tree_specs.specs.Sound.{Sound, Rests}
-use Rattle.tree_specs.specs.Measure.{cost, pending}
+use Rattle.tree_specs.specs.Measure.{cost}
 use Rattle.tree_specs.specs.View.{View, rest_of}
-use Rattle.tree_specs.specs.Whole.{IsCaller, Based, Light, Whole}
+use Rattle.tree_specs.specs.Whole.{IsCaller, Based, Whole}
 use Rattle.tree_specs.proofs.Keeps.{sound-kept}
 use Rattle.tree_specs.proofs.Falls.{Well, falls}
 use Rattle.tree_specs.proofs.Load.{Placed, placed-kept, cost-turns, pending-most}
@@ -60,7 +59,7 @@ not-short v is h =
     let w = well v (length is) h in
     let c = cost-turns v (length is) h in
     subst NotShort (rest-walk table (Well R) (cost R) (falls R) (turns (length v.pool.rows) (length is)) v.innermost v.below v.pool is w c)
-        (enough table (Well R) (cost R) (falls R) (turns (length v.pool.rows) (length is)) v.innermost v.below v.pool is w c)
+    (enough table (Well R) (cost R) (falls R) (turns (length v.pool.rows) (length is)) v.innermost v.below v.pool is w c)
 
 -- ---- what a step keeps
 
@@ -227,7 +226,7 @@ ends-asked v is h =
     let n : ℕ = turns (length v.pool.rows) (length is) in
     let w : Asks IsQuestion (walk table n v.innermost v.below v.pool is) = walk-asks table WholeAt IsQuestion asks-kept n v.innermost v.below v.pool is h in
     Asks-items IsQuestion _ (not-short v is h)
-        (subst (λ (o : Outcome Answer Pool Input Item). Asks IsQuestion o) (rest-walk table (Well R) (cost R) (falls R) n v.innermost v.below v.pool is (well v (length is) h) (cost-turns v (length is) h)) w)
+    (subst (λ (o : Outcome Answer Pool Input Item). Asks IsQuestion o) (rest-walk table (Well R) (cost R) (falls R) n v.innermost v.below v.pool is (well v (length is) h) (cost-turns v (length is) h)) w)
 
 -- ---- where a question is open the story still to come begins with it
 

@@ -1,10 +1,9 @@
 -- The story by the rules' text, by the table, and by a host.
-use Rattle.std.proofs.Common.{◌≡◌, ◌≢◌, ℕ, suc, zero, ◌+◌, ◌-◌, ◌*◌, ◌≤◌, ◌<◌, List, [], ◌∷◌, length, map, Option, Some, None, refl, sym, ◌∙◌, ap, subst, arith}
-use Rattle.step_machine.specs.Machine.{Outcome, run, rest, map_items, items as told_by}
+use Rattle.std.proofs.Common.{◌≡◌, ◌≢◌, ℕ, ◌+◌, ◌-◌, ◌*◌, ◌≤◌, List, length, None, refl, sym, ◌∙◌, ap, subst, arith}
+use Rattle.step_machine.specs.Machine.{Outcome, run, map_items, items as told_by}
 use Rattle.step_machine.specs.Machine.Outcome.{Ended, Waits, Stray, Short}
 use Rattle.step_machine.specs.Noted.{Noted, with_note}
 use Rattle.step_machine.specs.Open.{LastIs}
-use Rattle.step_machine.proofs.Laws.{Below}
 use Rattle.step_machine.proofs.Ends.{NotShort, Below-equal, run-same}
 use Rattle.step_machine.proofs.NotedLaws.{noted-run}
 use Rattle.step_machine.proofs.Open.{items-map_items, NotShort-map_items}
@@ -12,16 +11,13 @@ use Rattle.tree_specs.specs.declared.question.Input.{Input}
 use Rattle.tree_specs.specs.declared.frame.Frame.{Frame}
 use Rattle.tree_specs.specs.declared.frame.Frame.TheVariants as frame
 use Rattle.tree_specs.specs.declared.frame.CallFrame.TheVariants.{Asking}
-use Rattle.tree_specs.specs.declared.frame.Answer.{Answer}
-use Rattle.tree_specs.specs.Pool.{Pool, empty}
+use Rattle.tree_specs.specs.Pool.{empty}
 use Rattle.tree_specs.specs.Items.{Item, IsQuestion}
 use Rattle.tree_specs.specs.Works.{Scene, Begun}
 use Rattle.tree_specs.specs.Story.{asked, turns, story, items}
 use Rattle.tree_specs.specs.Table.{table, notes}
-use Rattle.tree_specs.specs.Measure.{cost}
 use Rattle.tree_specs.specs.View.{View, begin, rest_of}
 use Rattle.tree_specs.specs.Whole.{Whole}
-use Rattle.tree_specs.proofs.Falls.{Well, falls}
 use Rattle.tree_specs.proofs.Load.{cost-turns}
 use Rattle.tree_specs.proofs.Means.{noted_table, run-means}
 use Rattle.tree_specs.proofs.Rest.{outcome, rest-enough, not-short, ends-asked}

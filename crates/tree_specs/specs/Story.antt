@@ -1,12 +1,11 @@
 -- The rules of freeing and of calls, and the story that they tell. Each turn hands on one less.
 use Rattle.std.specs.Prelude.{ℕ, suc, zero, ◌+◌, ◌*◌, List, [], ◌∷◌, length, map, Option, Some, None, if◌then◌else◌}
-use Rattle.step_machine.specs.Machine.{Outcome, items as told_by}
+use Rattle.step_machine.specs.Machine.{items as told_by}
 use Rattle.tree_specs.specs.declared.object.Obj.{Obj}
 use Rattle.tree_specs.specs.declared.object.Owner.TheVariants.{Of}
 use Rattle.tree_specs.specs.declared.row.Mark.TheVariants.{Quiet, Dying}
 use Rattle.tree_specs.specs.declared.call.Call.{Call}
 use Rattle.tree_specs.specs.declared.call.Call.TheVariants as call
-use Rattle.tree_specs.specs.declared.reply.Refusal.{Refusal}
 use Rattle.tree_specs.specs.declared.reply.Reply.{Reply}
 use Rattle.tree_specs.specs.declared.reply.Reply.TheVariants as reply
 use Rattle.tree_specs.specs.declared.event.Event.TheVariants.{Replied, Freed}
@@ -15,7 +14,7 @@ use Rattle.tree_specs.specs.declared.question.Input.{Input}
 use Rattle.tree_specs.specs.declared.question.Input.TheVariants as input
 use Rattle.tree_specs.specs.declared.frame.Answer.{Answer}
 use Rattle.tree_specs.specs.declared.frame.Answer.TheVariants.{Ok}
-use Rattle.tree_specs.specs.Pool.{Pool, empty, row_of, first_kid, add, detach, remove}
+use Rattle.tree_specs.specs.Pool.{empty, row_of, first_kid, add, detach, remove}
 use Rattle.tree_specs.specs.Items.{Item}
 use Rattle.tree_specs.specs.Items.Item.{Told, Asked}
 use Rattle.tree_specs.specs.Soundness.{is_sound_call}

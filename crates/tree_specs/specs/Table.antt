@@ -1,5 +1,5 @@
 -- The same rules as a table of single steps, one row for each kind of open work.
-use Rattle.std.specs.Prelude.{ℕ, List, [], ◌∷◌, Option, Some, None, if◌then◌else◌}
+use Rattle.std.specs.Prelude.{[], ◌∷◌, Option, Some, None}
 use Rattle.step_machine.specs.Machine.{Move, Table}
 use Rattle.step_machine.specs.Machine.{Move as Do}
 use Rattle.step_machine.specs.Noted.{Notes}
@@ -15,7 +15,6 @@ use Rattle.tree_specs.specs.declared.event.Event.{Event}
 use Rattle.tree_specs.specs.declared.event.Event.TheVariants.{Replied, Freed}
 use Rattle.tree_specs.specs.declared.question.Ask.TheVariants.{Quiet as AtRest}
 use Rattle.tree_specs.specs.declared.question.Input.{Input}
-use Rattle.tree_specs.specs.declared.question.Input.TheVariants as input
 use Rattle.tree_specs.specs.declared.frame.Frame.{Frame}
 use Rattle.tree_specs.specs.declared.frame.Frame.TheVariants as frame
 use Rattle.tree_specs.specs.declared.frame.CallFrame.{CallFrame}

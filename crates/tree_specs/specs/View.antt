@@ -1,12 +1,12 @@
 -- A host is seen as its open works, the innermost first, over a pool.
-use Rattle.std.specs.Prelude.{◌≡◌, List, [], ◌∷◌, length, Option, Some, None}
+use Rattle.std.specs.Prelude.{List, [], length, Option, Some, None}
 use Rattle.step_machine.specs.Machine.{Move, rest, items as told_by}
 use Rattle.step_machine.specs.Machine.{Move as Do}
 use Rattle.tree_specs.specs.declared.question.Ask.{Ask}
 use Rattle.tree_specs.specs.declared.question.Input.{Input}
 use Rattle.tree_specs.specs.declared.frame.Frame.{Frame}
 use Rattle.tree_specs.specs.declared.frame.Frame.TheVariants as frame
-use Rattle.tree_specs.specs.declared.frame.CallFrame.TheVariants.{Asking, Doing, Awaiting, Telling}
+use Rattle.tree_specs.specs.declared.frame.CallFrame.TheVariants.{Asking}
 use Rattle.tree_specs.specs.declared.frame.Answer.{Answer}
 use Rattle.tree_specs.specs.Pool.{Pool, empty}
 use Rattle.tree_specs.specs.Items.{Item}

@@ -19,7 +19,6 @@ Scene = NotedScene Pool Begun Item
 
 infixl 1 ◌>>=◌
 infixl 1 ◌>>◌
-
 abbrev pub Work : Type 0 → Type 0
 Work A = Pool → List Input → Outcome A Pool Input Scene
 

@@ -1,5 +1,6 @@
 //! Laws of the definitions, each the clause of a function that does nothing.
 #![tactic(auto, unfolding(crate::specs::Grammar::number_of, crate::specs::Grammar::owner_of, crate::specs::Grammar::object_of, crate::specs::Grammar::name_of, crate::specs::Grammar::new_of, crate::specs::Grammar::free_of, crate::specs::Grammar::call_of_words, crate::specs::Grammar::call_of, crate::specs::Grammar::input_of, crate::specs::Text::refusal_text, crate::specs::Text::reply_text, crate::specs::Text::event_text, crate::specs::Text::ask_text, crate::specs::Text::answered_text, crate::specs::Text::item_text, crate::specs::Text::end_text, crate::specs::Text::body_text, crate::specs::Schedule::lines_of_parts, crate::specs::Schedule::lines, crate::specs::Schedule::line_input, crate::specs::Schedule::judged_from, crate::specs::Schedule::judged_lines, crate::specs::Schedule::open_question))]
+
 ghost use Rattle.std.specs.Prelude.{◌≡◌, ◌≢◌, ◌≤◌, ℕ, codes, Some, None, List, [], ◌∷◌, length};
 ghost use Rattle.step_machine.specs.Machine.{run, items as told_by};
 ghost use Rattle.step_machine.specs.Machine.Outcome.{Short};

@@ -1,5 +1,5 @@
 use Rattle.std.proofs.Common.{refl}
-use Rattle.std.specs.Fmt.{decimal, digits}
+use Rattle.std.specs.Fmt.{digits}
 use Rattle.tree_specs.specs.Text.{refusal_text, reply_text, event_text, ask_text, answered_text, item_text, end_text, body_text}
 use Rattle.tree_specs.specs.Grammar.{number_of, owner_of, object_of, name_of, new_of, free_of, call_of_words, call_of, input_of}
 use Rattle.tree_specs.specs.Schedule.{lines_of_parts, lines, line_input, judged_from, judged_lines, open_question}
