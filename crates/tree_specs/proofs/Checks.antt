@@ -1,21 +1,28 @@
 -- What it means that no refusal applies, and that an input fits.
-use Rattle.std.proofs.Common.{◌≡◌, ℕ, List, [], ◌∷◌, ◌++◌, Some, None, Bool, true, false, refl}
-use Rattle.std.specs.Prelude.{not}
+use Rattle.std.proofs.Common.{◌≡◌, ◌≢◌, ℕ, suc, zero, List, [], ◌∷◌, ◌++◌, length, Option, Some, None, Bool, true, false, cond, refl, sym, ◌∙◌}
+use Rattle.std.specs.Prelude.{not, is_some}
+use Rattle.tree_specs.specs.declared.object.Obj.{Obj}
 use Rattle.tree_specs.specs.declared.object.Owner.{Owner}
+use Rattle.tree_specs.specs.declared.object.Owner.TheVariants.{Of}
+use Rattle.tree_specs.specs.declared.row.Row.{Row}
+use Rattle.tree_specs.specs.declared.row.Mark.{Mark}
+use Rattle.tree_specs.specs.declared.row.Mark.TheVariants.{Quiet, Dying}
 use Rattle.tree_specs.specs.declared.call.Call.{Call}
 use Rattle.tree_specs.specs.declared.call.Call.TheVariants as call
 use Rattle.tree_specs.specs.declared.reply.Refusal.{Refusal}
+use Rattle.tree_specs.specs.declared.reply.Refusal.TheVariants.{NotParent}
+use Rattle.tree_specs.specs.Objects.{same_owner}
 use Rattle.tree_specs.specs.declared.question.Input.{Input}
 use Rattle.tree_specs.specs.declared.question.Input.TheVariants as input
 use Rattle.tree_specs.specs.declared.frame.Frame.{Frame}
 use Rattle.tree_specs.specs.declared.frame.Frame.TheVariants as frame
 use Rattle.tree_specs.specs.declared.frame.CallFrame.TheVariants.{Doing}
-use Rattle.tree_specs.specs.Pool.{Pool, is_owner}
-use Rattle.tree_specs.specs.Calls.{Check, refuse_if, refusals, small, owner, room}
+use Rattle.tree_specs.specs.Pool.{Pool, row_of, is_owner, is_below, owner_of, is_dying_row, reaches}
+use Rattle.tree_specs.specs.Calls.{Check, refuse_if, refusals, small, object, owner, room, staying, apart, placing, given_by}
 use Rattle.tree_specs.specs.Soundness.{is_sound_call}
 use Rattle.tree_specs.specs.Table.{doing}
 use Rattle.tree_specs.specs.Story.{heard}
-use Rattle.tree_specs.proofs.Numbered.{by_test}
+use Rattle.tree_specs.proofs.Numbered.{by_test, same_owner-equal}
 
 -- where no check of two applies, neither does
 pub both-none : (first second : Check) → first ++ second ≡ [] → (first ≡ []) × (second ≡ [])
@@ -36,6 +43,64 @@ passes p o size name e =
     let a = both-none (small size) (owner p o ++ room p 1) e in
     let b = both-none (owner p o) (room p 1) a.1 in
     not-false _ (refuse_if-none _ _ b.0)
+
+-- what is known of an object that may be put below an owner
+pub record MayBePlaced (p : Pool) (o : Owner) (x : Obj) : Type 0 where
+  pub row : Row
+  pub is : row_of p.rows x ≡ Some row
+  pub quiet : row.mark ≡ Quiet
+  pub apart : o ≢ Of x
+
+-- an object that exists
+pub passes-object : (p : Pool) (x : Obj) → object p x ≡ [] → (r : Row) × (row_of p.rows x ≡ Some r)
+passes-object p x e = each (row_of p.rows x) refl (not-false _ (refuse_if-none _ _ e))
+  where
+    each : (q : Option Row) → row_of p.rows x ≡ q → is_some q ≡ true → (r : Row) × (row_of p.rows x ≡ Some r)
+    each None h t = cc
+    each (Some r) h t = (r, h)
+
+quiet-row : (p : Pool) (x : Obj) (r : Row) → row_of p.rows x ≡ Some r → staying p x ≡ [] → r.mark ≡ Quiet
+quiet-row p x r h e = each r.mark refl
+  where
+    dying : is_dying_row (row_of p.rows x) ≡ false
+    dying = refuse_if-none _ _ e
+
+    each : (m : Mark) → r.mark ≡ m → r.mark ≡ Quiet
+    each Quiet m = m
+    each (Dying former) m = let bad : true ≡ false = rw (h, m) at dying in cc
+
+apart-owner : (p : Pool) (x : Obj) (o : Owner) → apart p x o ≡ [] → o ≢ Of x
+apart-owner p x o e = λ same_as. (
+    let t : same_owner o (Of x) ≡ true = same_owner-equal o (Of x) same_as in
+    let f : reaches (length p.rows) p.rows (Some o) (Of x) ≡ false = refuse_if-none _ _ e in
+    let t2 : reaches (length p.rows) p.rows (Some o) (Of x) ≡ true = first (length p.rows) t in
+    let bad : true ≡ false = sym t2 ∙ f in cc)
+  where
+    first : (n : ℕ) → same_owner o (Of x) ≡ true → reaches n p.rows (Some o) (Of x) ≡ true
+    first zero t = t
+    first (suc n) t = rw t refl
+
+may-be : (p : Pool) (o : Owner) (x : Obj) → object p x ≡ [] → staying p x ≡ [] → apart p x o ≡ [] → MayBePlaced p o x
+may-be p o x e s a = let r = passes-object p x e in record { row = r.0; is = r.1; quiet = quiet-row p x r.0 r.1 s; apart = apart-owner p x o a }
+
+pub passes-placing : (p : Pool) (o : Owner) (x : Obj) → placing p o x ≡ [] → MayBePlaced p o x
+passes-placing p o x e =
+    let a = both-none (object p x) (owner p o ++ (staying p x ++ apart p x o)) e in
+    let b = both-none (owner p o) (staying p x ++ apart p x o) a.1 in
+    let c = both-none (staying p x) (apart p x o) b.1 in
+    may-be p o x a.0 c.0 c.1
+
+pub passes-reparent : (p : Pool) (from to : Owner) (x : Obj) → refusals p (call.Reparent from to x) ≡ [] → MayBePlaced p to x
+passes-reparent p from to x e =
+    let a = both-none (object p x) (owner p from ++ (owner p to ++ (staying p x ++ given_by p from to x))) e in
+    let b = both-none (owner p from) (owner p to ++ (staying p x ++ given_by p from to x)) a.1 in
+    let c = both-none (owner p to) (staying p x ++ given_by p from to x) b.1 in
+    let d = both-none (staying p x) (given_by p from to x) c.1 in
+    may-be p to x a.0 d.0 (given (is_below (owner_of p.rows x) from) d.1)
+  where
+    given : (b : Bool) → cond b (apart p x to) (NotParent x from ∷ []) ≡ [] → apart p x to ≡ []
+    given true e = e
+    given false e = cc
 
 -- an input that a caller takes is a sound call
 pub taken-doing : (i : Input) (g : Frame) → heard doing i ≡ Some g → (c : Call) × (frame.Call (Doing c) ≡ g)

@@ -11,6 +11,8 @@ use Rattle.tree_specs.specs.declared.row.Mark.{Mark}
 use Rattle.tree_specs.specs.declared.row.Mark.TheVariants.{Quiet, Dying}
 use Rattle.tree_specs.specs.declared.call.Call.{Call}
 use Rattle.tree_specs.specs.declared.call.Call.TheVariants as call
+use Rattle.tree_specs.specs.declared.reply.Reply.{Reply}
+use Rattle.tree_specs.specs.declared.reply.Reply.TheVariants as reply
 use Rattle.tree_specs.specs.declared.frame.Frame.{Frame}
 use Rattle.tree_specs.specs.declared.frame.Frame.TheVariants as frame
 use Rattle.tree_specs.specs.declared.frame.CallFrame.TheVariants.{Asking, Doing, Awaiting, Telling}
@@ -18,15 +20,15 @@ use Rattle.tree_specs.specs.declared.frame.FreeFrame.TheVariants.{Beginning, Lea
 use Rattle.tree_specs.specs.declared.frame.Answer.{Answer}
 use Rattle.tree_specs.specs.declared.frame.Answer.TheVariants.{Ok}
 use Rattle.tree_specs.specs.Objects.{same}
-use Rattle.tree_specs.specs.Pool.{Pool, row_of, owner_of, first_kid, without, changed, remove, left_row}
+use Rattle.tree_specs.specs.Pool.{Pool, row_of, owner_of, first_kid, without, changed, remove, left_row, place, named_row}
 use Rattle.tree_specs.specs.Items.{Item}
 use Rattle.tree_specs.specs.Calls.{Check, refusals, room}
-use Rattle.tree_specs.specs.Table.{table, step, lifted, begin_step, loop_step, call_step, effect_step}
+use Rattle.tree_specs.specs.Table.{table, step, lifted, begin_step, loop_step, call_step, effect_step, replied}
 use Rattle.tree_specs.specs.Sound.{InLoop, claims, AllWait, IsLive, Tries, Sound}
 use Rattle.tree_specs.proofs.Numbered.{by_test}
-use Rattle.tree_specs.proofs.Checks.{taken-doing}
+use Rattle.tree_specs.proofs.Checks.{taken-doing, MayBePlaced, passes-placing, passes-reparent, passes-object}
 use Rattle.tree_specs.specs.Measure.{total, count, mark_weight, weight, unit, top_cost, cost, pending}
-use Rattle.tree_specs.proofs.Rows.{total-without, total-changed, total-length, count-length}
+use Rattle.tree_specs.proofs.Rows.{total-without, total-placed, total-changed, total-length, count-length}
 use Rattle.tree_specs.proofs.Keeps.{sound-kept, dying-row, claim-here, owned-row}
 use Rattle.step_machine.proofs.Ends.{Falls}
 
@@ -134,18 +136,39 @@ beginning-lower R x fs p k s room = each (row_of p.rows x) refl
     each None e = rw e (over-lower R x fs p k s.rests (λ o q. let bad : None ≡ Some o = rw e at q in cc) s.waiting room)
     each (Some r) e = marks r r.mark refl e
 
-effect-lower : (R : ℕ) (c : Call) (fs : List Frame) (p : Pool) (k : ℕ) → Room R (frame.Call (Doing c)) p k
+pub length-placed : (p : Pool) (o : Owner) (x : Obj) (r : Row) → row_of p.rows x ≡ Some r → length (place p o x).rows ≡ length p.rows
+length-placed p o x r e = omega (arith, total-placed (λ q. 1) p o x r e refl, total-length p.rows, total-length (place p o x).rows)
+
+-- an object is put below another owner
+placed-lower : (R : ℕ) (c : Call) (r : Reply) (o : Owner) (x : Obj) (fs : List Frame) (p : Pool) (k : ℕ) → Room R (frame.Call (Doing c)) p k → MayBePlaced p o x
+    → Lowers R (cost R (frame.Call (Doing c)) fs p k) (replied r (place p o x)) fs k
+placed-lower R c r o x fs p k room may =
+    let n = length-placed p o x may.row may.is in
+    let u = ap (λ (z : ℕ). unit R * z) (total-placed weight p o x may.row may.is refl) in
+    (omega (arith, n), omega (arith, u))
+
+effect-lower : (R : ℕ) (c : Call) (fs : List Frame) (p : Pool) (k : ℕ) → Room R (frame.Call (Doing c)) p k → refusals p c ≡ []
     → Lowers R (cost R (frame.Call (Doing c)) fs p k) (effect_step c p) fs k
-effect-lower R (call.New o size name) fs p k room = (omega arith, omega arith)
-effect-lower R (call.Free x) fs p k room = (omega arith, omega arith)
+effect-lower R (call.New o size name) fs p k room none = (omega arith, omega arith)
+effect-lower R (call.Free x) fs p k room none = (omega arith, omega arith)
+effect-lower R (call.Steal o x) fs p k room none = placed-lower R (call.Steal o x) reply.Ok o x fs p k room (passes-placing p o x none)
+effect-lower R (call.Move o x) fs p k room none = placed-lower R (call.Move o x) (reply.Number x.0) o x fs p k room (passes-placing p o x none)
+effect-lower R (call.Reparent from to x) fs p k room none = placed-lower R (call.Reparent from to x) reply.Ok to x fs p k room (passes-reparent p from to x none)
+effect-lower R (call.Rename x name) fs p k room none =
+    let r = passes-object p x none in
+    let n = length-changed (named_row name) p.rows x in
+    let w : total weight (changed (named_row name) p.rows x) ≡ total weight p.rows = omega (arith, total-changed weight (named_row name) p.rows x r.0 r.1) in
+    let u = ap (λ (z : ℕ). unit R * z) w in
+    (omega (arith, n), omega (arith, u))
+effect-lower R (call.Parent x) fs p k room none = (omega arith, omega arith)
 
 doing-lower : (R : ℕ) (c : Call) (fs : List Frame) (p : Pool) (k : ℕ) → Room R (frame.Call (Doing c)) p k
     → Lowers R (cost R (frame.Call (Doing c)) fs p k) (call_step (refusals p c) c p) fs k
-doing-lower R c fs p k room = each (refusals p c)
+doing-lower R c fs p k room = each (refusals p c) refl
   where
-    each : (check : Check) → Lowers R (cost R (frame.Call (Doing c)) fs p k) (call_step check c p) fs k
-    each [] = effect-lower R c fs p k room
-    each (why ∷ later) = (omega arith, omega arith)
+    each : (check : Check) → refusals p c ≡ check → Lowers R (cost R (frame.Call (Doing c)) fs p k) (call_step check c p) fs k
+    each [] e = effect-lower R c fs p k room e
+    each (why ∷ later) e = (omega arith, omega arith)
 
 -- every step lowers the measure
 pub lower : (R : ℕ) (f : Frame) (fs : List Frame) (p : Pool) (k : ℕ) → Sound f fs p → Room R f p k → Lowers R (cost R f fs p k) (step f p) fs k

@@ -20,14 +20,15 @@ use Rattle.tree_specs.specs.declared.frame.FreeFrame.TheVariants.{Beginning, Lea
 use Rattle.tree_specs.specs.declared.frame.Answer.{Answer}
 use Rattle.tree_specs.specs.declared.frame.Answer.TheVariants.{Ok}
 use Rattle.tree_specs.specs.Objects.{same}
-use Rattle.tree_specs.specs.Pool.{Pool, row_of, is_owner, owner_of, first_kid, without, changed, add, remove, left_row}
+use Rattle.tree_specs.specs.Pool.{Pool, row_of, is_owner, owner_of, first_kid, without, changed, add, remove, left_row, place, rename, named_row}
 use Rattle.tree_specs.specs.Items.{Item}
 use Rattle.tree_specs.specs.Calls.{Check, refusals}
+use Rattle.tree_specs.specs.Story.{owner_reply}
 use Rattle.tree_specs.specs.Table.{table, step, lifted, begin_step, loop_step, call_step, effect_step}
 use Rattle.tree_specs.specs.Sound.{Shaped, ValidAt, Distinct, Phase, InLoop, phase_of, phases, claim_if, claim, claims, AllWait, IsLive, Rests, Sound}
 use Rattle.tree_specs.proofs.Numbered.{by_test, same-true, same-equal, same-false, same_or_not}
-use Rattle.tree_specs.proofs.Rows.{row_of-changed-other, row_of-changed-same, row_of-without-other, row_of-without-same, Distinct-without, Distinct-changed, first_kid-owner}
-use Rattle.tree_specs.proofs.Checks.{passes, taken-doing}
+use Rattle.tree_specs.proofs.Rows.{row_of-serial, row_of-changed-other, row_of-changed-same, row_of-without-other, row_of-without-same, Distinct-without, Distinct-changed, first_kid-owner}
+use Rattle.tree_specs.proofs.Checks.{passes, MayBePlaced, passes-placing, passes-reparent, passes-object, taken-doing}
 
 -- a fact on each object, where one row was changed
 valid-at : (next : ℕ) (rs rs' : List Row) (x : Obj) → ((y : Obj) → ValidAt next (row_of rs y) y)
@@ -226,8 +227,62 @@ new-sound f f' o size name fs p s e claim-same h =
     higher None y v = tt
     higher (Some r) y v = let l : y.0 < p.next = v.1 in (v.0, omega arith, v.2)
 
+-- a row that is quiet claims nothing
+quiet-phases : (r : Row) → r.mark ≡ Quiet → phase_of r.mark ≡ []
+quiet-phases r e = rw e refl
+
+-- an object that is put below another owner
+pub placed-sound : (f f' : Frame) (o : Owner) (x : Obj) (fs : List Frame) (p : Pool) → Sound f fs p → MayBePlaced p o x → ((y : Obj) → claim y f' ≡ claim y f) → Rests f' fs (place p o x)
+    → Sound f' fs (place p o x)
+placed-sound f f' o x fs p s may claim-same h =
+    let r : Row = may.row in
+    let rows : (place p o x).rows ≡ record r { owner = Some o } ∷ without p.rows x = rw may.is refl in
+    let at : r.serial ≡ x = row_of-serial p.rows x r may.is in
+    let gone : row_of (without p.rows x) x ≡ None = row_of-without-same p.rows x s.distinct in
+    let self : same r.serial x ≡ true = same-equal r.serial x at in
+    let here : row_of (place p o x).rows x ≡ Some (record r { owner = Some o }) = rw (rows, self) refl in
+    let other : (y : Obj) → x ≢ y → row_of (place p o x).rows y ≡ row_of p.rows y = (λ y ne.
+    let u : same r.serial y ≡ false = same-false r.serial y (λ q. ne (sym at ∙ q)) in
+    rw (rows, u) (row_of-without-other p.rows x y ne)) in
+    let v : ValidAt p.next (Some r) x = rw may.is at (s.valid x) in
+    record {
+      started = s.started;
+      distinct = rw rows (ap (row_of (without p.rows x)) at ∙ gone, Distinct-without p.rows x s.distinct);
+      valid = valid-at p.next p.rows (place p o x).rows x s.valid other (rw (here, may.quiet) (v.0, v.1, may.apart));
+      open_frees = frees-at f f' fs fs p.rows (place p o x).rows x s.open_frees other (λ y ne. ap (λ (l : List Phase). l ++ claims y fs) (claim-same y))
+          (ap (λ (l : List Phase). l ++ claims x fs) (claim-same x) ∙ s.open_frees x ∙ ap phases may.is ∙ sym (ap phases here));
+      waiting = s.waiting;
+      rests = h;
+    }
+
+-- an object that gets another name
+pub named-sound : (f f' : Frame) (x : Obj) (name : List ℕ) (fs : List Frame) (p : Pool) → Sound f fs p → (r : Row) → row_of p.rows x ≡ Some r → ((y : Obj) → claim y f' ≡ claim y f) → Rests f' fs (rename p x name)
+    → Sound f' fs (rename p x name)
+named-sound f f' x name fs p s r is claim-same h =
+    let rows : List Row = changed (named_row name) p.rows x in
+    let here : row_of rows x ≡ Some (named_row name r) = row_of-changed-same (named_row name) p.rows x r (λ q. refl) is in
+    let other : (y : Obj) → x ≢ y → row_of rows y ≡ row_of p.rows y = (λ y ne. row_of-changed-other (named_row name) p.rows x y (λ q. refl) ne) in
+    let v : ValidAt p.next (Some r) x = rw is at (s.valid x) in
+    record {
+      started = s.started;
+      distinct = Distinct-changed (named_row name) p.rows x (λ q. refl) s.distinct;
+      valid = valid-at p.next p.rows rows x s.valid other (rw here v);
+      open_frees = frees-at f f' fs fs p.rows rows x s.open_frees other (λ y ne. ap (λ (l : List Phase). l ++ claims y fs) (claim-same y))
+          (ap (λ (l : List Phase). l ++ claims x fs) (claim-same x) ∙ s.open_frees x ∙ ap phases is ∙ sym (ap phases here));
+      waiting = s.waiting;
+      rests = h;
+    }
+
 effected : (c : Call) (fs : List Frame) (p : Pool) (k : ℕ) → Sound (frame.Call (Doing c)) fs p → refusals p c ≡ [] → Stands (effect_step c p) fs k
 effected (call.New o size name) fs p k s none = new-sound (frame.Call (Doing (call.New o size name))) (frame.Call (Telling (reply.Number p.next))) o size name fs p s (passes p o size name none) (λ x. refl) tt
+effected (call.Steal o x) fs p k s none = placed-sound (frame.Call (Doing (call.Steal o x))) (frame.Call (Telling reply.Ok)) o x fs p s (passes-placing p o x none) (λ y. refl) tt
+effected (call.Move o x) fs p k s none = placed-sound (frame.Call (Doing (call.Move o x))) (frame.Call (Telling (reply.Number x.0))) o x fs p s (passes-placing p o x none) (λ y. refl) tt
+effected (call.Reparent from to x) fs p k s none =
+    placed-sound (frame.Call (Doing (call.Reparent from to x))) (frame.Call (Telling reply.Ok)) to x fs p s (passes-reparent p from to x none) (λ y. refl) tt
+effected (call.Rename x name) fs p k s none =
+    let r = passes-object p x none in
+    named-sound (frame.Call (Doing (call.Rename x name))) (frame.Call (Telling reply.Ok)) x name fs p s r.0 r.1 (λ y. refl) tt
+effected (call.Parent x) fs p k s none = goes_on (frame.Call (Doing (call.Parent x))) (frame.Call (Telling (owner_reply (owner_of p.rows x)))) fs p (λ y. refl) tt s
 effected (call.Free x) fs p k s none = record { started = s.started; distinct = s.distinct; valid = s.valid; open_frees = s.open_frees; waiting = (tt, s.waiting); rests = tt }
 
 doing : (c : Call) (fs : List Frame) (p : Pool) (k : ℕ) → Sound (frame.Call (Doing c)) fs p → Stands (step (frame.Call (Doing c)) p) fs k

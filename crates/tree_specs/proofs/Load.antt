@@ -4,6 +4,7 @@ use Rattle.step_machine.specs.Machine.{Move}
 use Rattle.step_machine.specs.Machine.{Move as Do}
 use Rattle.step_machine.proofs.Ends.{Leads}
 use Rattle.tree_specs.specs.declared.object.Obj.{Obj}
+use Rattle.tree_specs.specs.declared.object.Owner.{Owner}
 use Rattle.tree_specs.specs.declared.object.Owner.TheVariants.{Of}
 use Rattle.tree_specs.specs.declared.row.Row.{Row}
 use Rattle.tree_specs.specs.declared.row.Mark.{Mark}
@@ -18,18 +19,18 @@ use Rattle.tree_specs.specs.declared.frame.CallFrame.TheVariants.{Asking, Doing,
 use Rattle.tree_specs.specs.declared.frame.FreeFrame.TheVariants.{Beginning, Leaving, Looping, Trying, Ending}
 use Rattle.tree_specs.specs.declared.frame.Answer.{Answer}
 use Rattle.tree_specs.specs.declared.frame.Answer.TheVariants.{Ok}
-use Rattle.tree_specs.specs.Pool.{Pool, row_of, first_kid, left_row}
+use Rattle.tree_specs.specs.Pool.{Pool, row_of, owner_of, first_kid, changed, left_row, place, named_row}
 use Rattle.tree_specs.specs.Items.{Item}
 use Rattle.tree_specs.specs.Calls.{Check, refusals}
-use Rattle.tree_specs.specs.Table.{table, step, lifted, begin_step, begin_by, loop_step, call_step, resume}
+use Rattle.tree_specs.specs.Table.{table, step, lifted, begin_step, begin_by, loop_step, call_step, effect_step, replied, resume}
 use Rattle.tree_specs.specs.Sound.{InLoop, claims, IsWaiting, AllWait, IsLive, Sound}
-use Rattle.tree_specs.proofs.Checks.{taken-doing}
+use Rattle.tree_specs.proofs.Checks.{taken-doing, MayBePlaced, passes-placing, passes-reparent, passes-object}
 use Rattle.std.proofs.Math.Nat.{mul-le-mul_left}
-use Rattle.tree_specs.specs.Story.{turns}
+use Rattle.tree_specs.specs.Story.{owner_reply, turns}
 use Rattle.tree_specs.specs.View.{View}
 use Rattle.tree_specs.specs.Whole.{IsCaller, Based, size, sizes, mark_burden, burden, Light, Whole}
 use Rattle.tree_specs.specs.Measure.{total, mark_weight, weight, waiting_cost, below_cost, loop_kids, top_cost, cost, pending}
-use Rattle.tree_specs.proofs.Rows.{total-without, total-changed, count-length}
+use Rattle.tree_specs.proofs.Rows.{total-without, total-placed, total-changed, count-length}
 use Rattle.tree_specs.proofs.Keeps.{dying-row, claim-here}
 
 -- what a move leads to is based and light
@@ -67,15 +68,29 @@ asking-placed fs p (suc k) b l = λ i g e.
     subst (λ (z : Frame). Based z fs × Light z fs p) t.1 (based-other (frame.Call Asking) (frame.Call (Doing t.0)) fs (λ c. tt) b, l)
 
 doing-placed : (c : Call) (fs : List Frame) (p : Pool) (k : ℕ) → Based (frame.Call (Doing c)) fs → Light (frame.Call (Doing c)) fs p → Placed (call_step (refusals p c) c p) fs k
-doing-placed c fs p k b l = each (refusals p c) c
+doing-placed c fs p k b l = each (refusals p c) refl
   where
     told : (r : Reply) → Based (frame.Call (Telling r)) fs
     told r = based-other (frame.Call (Doing c)) (frame.Call (Telling r)) fs (λ z. tt) b
 
-    each : (check : Check) (d : Call) → Placed (call_step check d p) fs k
-    each (why ∷ later) d = (told (reply.No why), l)
-    each [] (call.New o n name) = (told (reply.Number p.next), omega arith)
-    each [] (call.Free x) = (based-other (frame.Call (Doing c)) (frame.Call (Awaiting x)) fs (λ z. tt) b, omega arith)
+    put : (r : Reply) (o : Owner) (x : Obj) → MayBePlaced p o x → Placed (replied r (place p o x)) fs k
+    put r o x may = let w = total-placed burden p o x may.row may.is refl in (told r, omega (arith, w))
+
+    effect : (d : Call) → refusals p d ≡ [] → Placed (effect_step d p) fs k
+    effect (call.New o n name) none = (told (reply.Number p.next), omega arith)
+    effect (call.Free x) none = (based-other (frame.Call (Doing c)) (frame.Call (Awaiting x)) fs (λ z. tt) b, omega arith)
+    effect (call.Steal o x) none = put reply.Ok o x (passes-placing p o x none)
+    effect (call.Move o x) none = put (reply.Number x.0) o x (passes-placing p o x none)
+    effect (call.Reparent from to x) none = put reply.Ok to x (passes-reparent p from to x none)
+    effect (call.Rename x name) none =
+        let r = passes-object p x none in
+        let w : total burden (changed (named_row name) p.rows x) ≡ total burden p.rows = omega (arith, total-changed burden (named_row name) p.rows x r.0 r.1) in
+        (told reply.Ok, omega (arith, w))
+    effect (call.Parent x) none = (told (owner_reply (owner_of p.rows x)), l)
+
+    each : (check : Check) → refusals p c ≡ check → Placed (call_step check c p) fs k
+    each (why ∷ later) e = (told (reply.No why), l)
+    each [] e = effect c e
 
 beginning-placed : (x : Obj) (fs : List Frame) (p : Pool) (k : ℕ) → AllWait fs → Based (frame.Free (Beginning x)) fs → Light (frame.Free (Beginning x)) fs p
     → Placed (step (frame.Free (Beginning x)) p) fs k

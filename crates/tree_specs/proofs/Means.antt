@@ -76,6 +76,11 @@ doing-turn n c b p is = each c (refusals p c) refl
     each c (why ∷ later) e = rw e (inr refl)
     each (call.New o size name) [] e = rw e (inr refl)
     each (call.Free x) [] e = rw e (inr (simp laws))
+    each (call.Steal o x) [] e = rw e (inr refl)
+    each (call.Move o x) [] e = rw e (inr refl)
+    each (call.Reparent from to x) [] e = rw e (inr refl)
+    each (call.Rename x name) [] e = rw e (inr refl)
+    each (call.Parent x) [] e = rw e (inr refl)
 
 beginning-turn : (n : ℕ) (x : Obj) (b : Option Begun) (p : Pool) (is : List Input)
     → Below (Turn n (frame.Free (Beginning x)) b (lifted (begin_step x (row_of p.rows x) p)) p is) (free (suc n) x p is)

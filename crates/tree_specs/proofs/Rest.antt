@@ -165,6 +165,11 @@ no-end (frame.Call (Doing c)) p q a h r e = each (refusals p c) c e
     each (why ∷ later) c e = cc
     each [] (call.New o size name) e = cc
     each [] (call.Free x) e = cc
+    each [] (call.Steal o x) e = cc
+    each [] (call.Move o x) e = cc
+    each [] (call.Reparent from to x) e = cc
+    each [] (call.Rename x name) e = cc
+    each [] (call.Parent x) e = cc
 
 -- only a caller that is to be asked asks
 pub waits-asking : (f : Frame) (p q : Pool) (i : Item) (g : Frame) → step f p ≡ Do.Wait i g q → f ≡ frame.Call Asking
@@ -177,6 +182,11 @@ waits-asking (frame.Call (Doing c)) p q i g e = absurd (each (refusals p c) c e)
     each (why ∷ later) c e = cc
     each [] (call.New o size name) e = cc
     each [] (call.Free x) e = cc
+    each [] (call.Steal o x) e = cc
+    each [] (call.Move o x) e = cc
+    each [] (call.Reparent from to x) e = cc
+    each [] (call.Rename x name) e = cc
+    each [] (call.Parent x) e = cc
 waits-asking (frame.Free (Leaving x)) p q i g e = cc
 waits-asking (frame.Free (Trying x c)) p q i g e = cc
 waits-asking (frame.Free (Ending a)) p q i g e = cc

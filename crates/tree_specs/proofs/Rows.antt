@@ -4,7 +4,7 @@ use Rattle.tree_specs.specs.declared.object.Obj.{Obj}
 use Rattle.tree_specs.specs.declared.object.Owner.{Owner}
 use Rattle.tree_specs.specs.declared.row.Row.{Row}
 use Rattle.tree_specs.specs.Objects.{same}
-use Rattle.tree_specs.specs.Pool.{row_of, without, changed, owner_in, owner_of, is_below, first_kid}
+use Rattle.tree_specs.specs.Pool.{Pool, row_of, without, changed, owner_in, owner_of, is_below, first_kid, place}
 use Rattle.tree_specs.specs.Sound.{Distinct}
 use Rattle.tree_specs.specs.Measure.{total, count}
 use Rattle.tree_specs.proofs.Numbered.{by_test, same-true, same-equal, same-false, is_below-some}
@@ -21,6 +21,10 @@ total-changed g f [] x r e = cc
 total-changed g f (s ∷ rs) x r e = by_test (same s.serial x)
     (λ h. let e' : Some s ≡ Some r = rw h at e in let e'' : s ≡ r = cc in rw (h, e'') (omega arith))
     (λ h. let e' : row_of rs x ≡ Some r = rw h at e in let ih = total-changed g f rs x r e' in rw h (omega (arith, ih)))
+
+-- a weight that doesn't look at the owner is the same after an object was put elsewhere
+pub total-placed : (g : Row → ℕ) (p : Pool) (o : Owner) (x : Obj) (r : Row) → row_of p.rows x ≡ Some r → g (record r { owner = Some o }) ≡ g r → total g (place p o x).rows ≡ total g p.rows
+total-placed g p o x r e same_weight = let w = total-without g p.rows x r e in rw e (omega (arith, w, same_weight))
 
 pub row_of-serial : (rs : List Row) (x : Obj) (r : Row) → row_of rs x ≡ Some r → r.serial ≡ x
 row_of-serial [] x r e = cc

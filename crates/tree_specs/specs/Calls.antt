@@ -2,12 +2,13 @@
 use Rattle.std.specs.Prelude.{ℕ, ◌+◌, ◌^◌, Bool, not, nat_lt, nat_le, if◌then◌else◌, List, [], ◌∷◌, ◌++◌, length}
 use Rattle.tree_specs.specs.declared.object.Obj.{Obj}
 use Rattle.tree_specs.specs.declared.object.Owner.{Owner}
+use Rattle.tree_specs.specs.declared.object.Owner.TheVariants.{Of}
 use Rattle.tree_specs.specs.declared.call.Call.{Call}
-use Rattle.tree_specs.specs.declared.call.Call.TheVariants.{New, Free}
+use Rattle.tree_specs.specs.declared.call.Call.TheVariants.{New, Free, Steal, Move, Reparent, Rename, Parent}
 use Rattle.tree_specs.specs.declared.reply.Refusal.{Refusal}
-use Rattle.tree_specs.specs.declared.reply.Refusal.TheVariants.{NoSuch, Full, Spent, TooBig}
+use Rattle.tree_specs.specs.declared.reply.Refusal.TheVariants.{NoSuch, NotParent, Loop, Dying, Full, Spent, TooBig}
 use Rattle.tree_specs.specs.Objects.{owner_number}
-use Rattle.tree_specs.specs.Pool.{Pool, is_row, is_owner}
+use Rattle.tree_specs.specs.Pool.{Pool, is_row, is_owner, is_below, owner_of, is_dying, is_inside}
 
 -- the size of an object is below this, in bytes
 abbrev pub size_limit : ℕ
@@ -44,6 +45,27 @@ room p k =
     refuse_if (nat_lt row_limit (length p.rows + k)) (Full (length p.rows))
     before refuse_if (nat_le (2 ^ 64) (p.next + k)) Spent
 
+-- an object that is being freed stays where it is
+abbrev pub staying : Pool → Obj → Check
+staying p x = refuse_if (is_dying p.rows x) (Dying x)
+
+-- no object comes to be inside itself
+abbrev pub apart : Pool → Obj → Owner → Check
+apart p x o = refuse_if (is_inside p.rows o (Of x)) (Loop x o)
+
+-- an object is put below an owner
+abbrev pub placing : Pool → Owner → Obj → Check
+placing p o x = object p x before owner p o before staying p x before apart p x o
+
+-- only its owner gives it away
+abbrev pub given_by : Pool → Owner → Owner → Obj → Check
+given_by p from to x = if is_below (owner_of p.rows x) from then apart p x to else NotParent x from ∷ []
+
 abbrev pub refusals : Pool → Call → Check
 refusals p (New o size name) = small size before owner p o before room p 1
 refusals p (Free x) = object p x
+refusals p (Steal o x) = placing p o x
+refusals p (Move o x) = placing p o x
+refusals p (Reparent from to x) = object p x before owner p from before owner p to before staying p x before given_by p from to x
+refusals p (Rename x name) = object p x
+refusals p (Parent x) = object p x before staying p x

@@ -7,7 +7,7 @@ use Rattle.std.specs.Str.Parse.{digits_value}
 use Rattle.tree_specs.specs.declared.object.Obj.{Obj}
 use Rattle.tree_specs.specs.declared.object.Owner.{Owner}
 use Rattle.tree_specs.specs.declared.call.Call.{Call}
-use Rattle.tree_specs.specs.declared.call.Call.TheVariants.{New, Free}
+use Rattle.tree_specs.specs.declared.call.Call.TheVariants.{New, Free, Steal, Move, Reparent, Rename, Parent}
 use Rattle.tree_specs.specs.declared.question.Input.{Input}
 use Rattle.tree_specs.specs.declared.question.Input.TheVariants as inputs
 use Rattle.tree_specs.specs.Names.{is_name}
@@ -64,12 +64,52 @@ free_of (x ∷ []) = do
   Some (Free object)
 free_of _ = None
 
+-- an owner and an object
+abbrev pub placing_of : (Owner → Obj → Call) → List (List ℕ) → Option Call
+placing_of call (p ∷ x ∷ []) = do
+  owner ← owner_of p
+  object ← object_of x
+  Some (call owner object)
+placing_of call _ = None
+
+unfoldable pub steal_of : List (List ℕ) → Option Call
+steal_of fields = placing_of Steal fields
+
+unfoldable pub move_of : List (List ℕ) → Option Call
+move_of fields = placing_of Move fields
+
+unfoldable pub reparent_of : List (List ℕ) → Option Call
+reparent_of (p ∷ q ∷ x ∷ []) = do
+  from ← owner_of p
+  to ← owner_of q
+  object ← object_of x
+  Some (Reparent from to object)
+reparent_of _ = None
+
+unfoldable pub rename_of : List (List ℕ) → Option Call
+rename_of (x ∷ n ∷ []) = do
+  object ← object_of x
+  name ← name_of n
+  Some (Rename object name)
+rename_of _ = None
+
+unfoldable pub parent_of : List (List ℕ) → Option Call
+parent_of (x ∷ []) = do
+  object ← object_of x
+  Some (Parent object)
+parent_of _ = None
+
 -- a verb and its fields
 unfoldable pub call_of_words : List (List ℕ) → Option Call
 call_of_words [] = None
 call_of_words (verb ∷ fields) =
     if bytes_eq verb (codes "new") then new_of fields else
-    if bytes_eq verb (codes "free") then free_of fields else None
+    if bytes_eq verb (codes "free") then free_of fields else
+    if bytes_eq verb (codes "steal") then steal_of fields else
+    if bytes_eq verb (codes "move") then move_of fields else
+    if bytes_eq verb (codes "reparent") then reparent_of fields else
+    if bytes_eq verb (codes "rename") then rename_of fields else
+    if bytes_eq verb (codes "parent") then parent_of fields else None
 
 unfoldable pub call_of : List ℕ → Option Call
 call_of text = call_of_words (words text)

@@ -1,9 +1,10 @@
 -- The pool: the rows of the objects, the most recently placed first, and the next serial number.
-use Rattle.std.specs.Prelude.{ℕ, ◌+◌, Bool, true, false, List, [], ◌∷◌, Option, Some, None, is_some, unwrap_or, if◌then◌else◌}
+use Rattle.std.specs.Prelude.{ℕ, suc, zero, ◌+◌, Bool, true, false, ◌||◌, List, [], ◌∷◌, length, Option, Some, None, is_some, unwrap_or, if◌then◌else◌}
 use Rattle.tree_specs.specs.declared.object.Obj.{Obj}
 use Rattle.tree_specs.specs.declared.object.Owner.{Owner}
 use Rattle.tree_specs.specs.declared.object.Owner.TheVariants.{Root, Of}
 use Rattle.tree_specs.specs.declared.row.Row.{Row}
+use Rattle.tree_specs.specs.declared.row.Mark.{Mark}
 use Rattle.tree_specs.specs.declared.row.Mark.TheVariants.{Quiet, Dying}
 use Rattle.tree_specs.specs.Objects.{same, same_owner}
 
@@ -50,6 +51,33 @@ owner_in (Some r) = r.owner
 abbrev pub owner_of : List Row → Obj → Option Owner
 owner_of rs x = owner_in (row_of rs x)
 
+-- the object is being freed
+abbrev pub is_dying_mark : Mark → Bool
+is_dying_mark Quiet = false
+is_dying_mark (Dying former) = true
+
+abbrev pub is_dying_row : Option Row → Bool
+is_dying_row None = false
+is_dying_row (Some r) = is_dying_mark r.mark
+
+abbrev pub is_dying : List Row → Obj → Bool
+is_dying rs x = is_dying_row (row_of rs x)
+
+-- the owner of an owner; the root has none
+abbrev pub next_owner : List Row → Owner → Option Owner
+next_owner rs Root = None
+next_owner rs (Of x) = owner_of rs x
+
+-- from owner to owner, in at most n steps, one comes to y
+abbrev pub reaches : ℕ → List Row → Option Owner → Owner → Bool
+reaches n rs None y = false
+reaches zero rs (Some o) y = same_owner o y
+reaches (suc n) rs (Some o) y = same_owner o y || reaches n rs (next_owner rs o) y
+
+-- o is y, or inside it
+abbrev pub is_inside : List Row → Owner → Owner → Bool
+is_inside rs o y = reaches (length rs) rs (Some o) y
+
 -- ---- changing
 
 -- the row of an object is taken out
@@ -78,3 +106,18 @@ detach p x = record p { rows = changed left_row p.rows x }
 
 abbrev pub remove : Pool → Obj → Pool
 remove p x = record p { rows = without p.rows x }
+
+-- a row is put below an owner, in front of all others
+abbrev pub in_front : Option Row → Owner → List Row → List Row
+in_front None o rs = rs
+in_front (Some r) o rs = record r { owner = Some o } ∷ rs
+
+-- an object is put below an owner, as its newest child
+abbrev pub place : Pool → Owner → Obj → Pool
+place p o x = record p { rows = in_front (row_of p.rows x) o (without p.rows x) }
+
+abbrev pub named_row : List ℕ → Row → Row
+named_row name r = record r { name = name }
+
+abbrev pub rename : Pool → Obj → List ℕ → Pool
+rename p x name = record p { rows = changed (named_row name) p.rows x }

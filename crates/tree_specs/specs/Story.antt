@@ -1,8 +1,9 @@
 -- The rules of freeing and of calls, and the story that they tell. Each turn hands on one less.
-use Rattle.std.specs.Prelude.{ℕ, suc, zero, ◌+◌, ◌*◌, List, [], ◌∷◌, length, map, Option, Some, None, if◌then◌else◌}
+use Rattle.std.specs.Prelude.{ℕ, suc, zero, ◌+◌, ◌*◌, List, [], ◌∷◌, length, map, Option, Some, None, unwrap_or, if◌then◌else◌}
 use Rattle.step_machine.specs.Machine.{items as told_by}
 use Rattle.tree_specs.specs.declared.object.Obj.{Obj}
-use Rattle.tree_specs.specs.declared.object.Owner.TheVariants.{Of}
+use Rattle.tree_specs.specs.declared.object.Owner.TheVariants.{Root, Of}
+use Rattle.tree_specs.specs.declared.object.Owner.{Owner}
 use Rattle.tree_specs.specs.declared.row.Mark.TheVariants.{Quiet, Dying}
 use Rattle.tree_specs.specs.declared.call.Call.{Call}
 use Rattle.tree_specs.specs.declared.call.Call.TheVariants as call
@@ -14,7 +15,8 @@ use Rattle.tree_specs.specs.declared.question.Input.{Input}
 use Rattle.tree_specs.specs.declared.question.Input.TheVariants as input
 use Rattle.tree_specs.specs.declared.frame.Answer.{Answer}
 use Rattle.tree_specs.specs.declared.frame.Answer.TheVariants.{Ok}
-use Rattle.tree_specs.specs.Pool.{empty, row_of, first_kid, add, detach, remove}
+use Rattle.tree_specs.specs.Objects.{owner_number}
+use Rattle.tree_specs.specs.Pool.{empty, row_of, owner_of, first_kid, add, detach, remove, place, rename}
 use Rattle.tree_specs.specs.Items.{Item}
 use Rattle.tree_specs.specs.Items.Item.{Told, Asked}
 use Rattle.tree_specs.specs.Soundness.{is_sound_call}
@@ -24,6 +26,10 @@ use Rattle.tree_specs.specs.Works.{Work, Scene, Begun, ◌>>=◌, ◌>>◌, give
 -- the reply to a call that frees
 abbrev pub freed_reply : Answer → Reply
 freed_reply Ok = reply.Ok
+
+-- an owner by its number
+abbrev pub owner_reply : Option Owner → Reply
+owner_reply o = reply.Number (owner_number (unwrap_or o Root))
 
 -- an input that fits the question of a host at rest leads to its call
 abbrev pub heard : {A : Type 0} → (Call → A) → Input → Option A
@@ -43,6 +49,21 @@ effect free (call.New o size name) = do
 effect free (call.Free x) = do
   answer ← free x
   gives (freed_reply answer)
+effect free (call.Steal o x) = do
+  change (λ p. place p o x)
+  gives reply.Ok
+effect free (call.Move o x) = do
+  change (λ p. place p o x)
+  gives (reply.Number x.0)
+effect free (call.Reparent from to x) = do
+  change (λ p. place p to x)
+  gives reply.Ok
+effect free (call.Rename x name) = do
+  change (λ p. rename p x name)
+  gives reply.Ok
+effect free (call.Parent x) = do
+  p ← pool
+  gives (owner_reply (owner_of p.rows x))
 
 abbrev mutual
   -- An object is freed. One that is on its way already is left to that.

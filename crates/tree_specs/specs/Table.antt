@@ -10,6 +10,7 @@ use Rattle.tree_specs.specs.declared.row.Mark.{Mark}
 use Rattle.tree_specs.specs.declared.row.Mark.TheVariants.{Quiet, Dying}
 use Rattle.tree_specs.specs.declared.call.Call.{Call}
 use Rattle.tree_specs.specs.declared.call.Call.TheVariants as call
+use Rattle.tree_specs.specs.declared.reply.Reply.{Reply}
 use Rattle.tree_specs.specs.declared.reply.Reply.TheVariants as reply
 use Rattle.tree_specs.specs.declared.event.Event.{Event}
 use Rattle.tree_specs.specs.declared.event.Event.TheVariants.{Replied, Freed}
@@ -23,12 +24,12 @@ use Rattle.tree_specs.specs.declared.frame.FreeFrame.{FreeFrame}
 use Rattle.tree_specs.specs.declared.frame.FreeFrame.TheVariants.{Beginning, Leaving, Looping, Trying, Ending}
 use Rattle.tree_specs.specs.declared.frame.Answer.{Answer}
 use Rattle.tree_specs.specs.declared.frame.Answer.TheVariants.{Ok}
-use Rattle.tree_specs.specs.Pool.{Pool, row_of, first_kid, add, detach, remove}
+use Rattle.tree_specs.specs.Pool.{Pool, row_of, owner_of, first_kid, add, detach, remove, place, rename}
 use Rattle.tree_specs.specs.Items.{Item}
 use Rattle.tree_specs.specs.Items.Item.{Told, Asked}
 use Rattle.tree_specs.specs.Calls.{Check, refusals}
 use Rattle.tree_specs.specs.Works.{Begun}
-use Rattle.tree_specs.specs.Story.{freed_reply, heard}
+use Rattle.tree_specs.specs.Story.{freed_reply, owner_reply, heard}
 
 -- ---- freeing
 
@@ -77,14 +78,23 @@ lifted (Do.Emit e f p) = Do.Emit (Told e) (frame.Free f) p
 lifted (Do.Wait e f p) = Do.Wait (Told e) (frame.Free f) p
 lifted (Do.Call g f p) = Do.Call (frame.Free g) (frame.Free f) p
 
+-- the reply is told next
+abbrev pub replied : Reply → Pool → Step
+replied r p = Do.Go (frame.Call (Telling r)) p
+
 abbrev pub effect_step : Call → Pool → Step
-effect_step (call.New o size name) p = Do.Go (frame.Call (Telling (reply.Number p.next))) (add p o size name)
+effect_step (call.New o size name) p = replied (reply.Number p.next) (add p o size name)
 effect_step (call.Free x) p = Do.Call (frame.Free (Beginning x)) (frame.Call (Awaiting x)) p
+effect_step (call.Steal o x) p = replied reply.Ok (place p o x)
+effect_step (call.Move o x) p = replied (reply.Number x.0) (place p o x)
+effect_step (call.Reparent from to x) p = replied reply.Ok (place p to x)
+effect_step (call.Rename x name) p = replied reply.Ok (rename p x name)
+effect_step (call.Parent x) p = replied (owner_reply (owner_of p.rows x)) p
 
 -- the first refusal that applies, otherwise the effect
 abbrev pub call_step : Check → Call → Pool → Step
 call_step [] c p = effect_step c p
-call_step (why ∷ later) c p = Do.Go (frame.Call (Telling (reply.No why))) p
+call_step (why ∷ later) c p = replied (reply.No why) p
 
 abbrev pub caller_step : CallFrame → Pool → Step
 caller_step Asking p = Do.Wait (Asked AtRest) (frame.Call Asking) p

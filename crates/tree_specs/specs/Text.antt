@@ -3,9 +3,9 @@ use Rattle.std.specs.Prelude.{ℕ, List, [], ◌∷◌, ◌++◌, Option, Some, 
 use Rattle.std.specs.Fmt.{decimal}
 use Rattle.std.specs.Option.{option_map}
 use Rattle.tree_specs.specs.declared.call.Call.{Call}
-use Rattle.tree_specs.specs.declared.call.Call.TheVariants.{New, Free}
+use Rattle.tree_specs.specs.declared.call.Call.TheVariants.{New, Free, Steal, Move, Reparent, Rename, Parent}
 use Rattle.tree_specs.specs.declared.reply.Refusal.{Refusal}
-use Rattle.tree_specs.specs.declared.reply.Refusal.TheVariants.{NoSuch, Full, Spent, TooBig}
+use Rattle.tree_specs.specs.declared.reply.Refusal.TheVariants.{NoSuch, NotParent, Loop, Dying, Full, Spent, TooBig}
 use Rattle.tree_specs.specs.declared.reply.Reply.{Reply}
 use Rattle.tree_specs.specs.declared.reply.Reply.TheVariants as replies
 use Rattle.tree_specs.specs.declared.event.Event.{Event}
@@ -25,6 +25,11 @@ newline = 10 ∷ []
 unfoldable pub call_text : Call → List ℕ
 call_text (New owner size name) = codes "new " ++ decimal (owner_number owner) ++ codes " " ++ decimal size ++ codes " " ++ name
 call_text (Free x) = codes "free " ++ decimal x.0
+call_text (Steal owner x) = codes "steal " ++ decimal (owner_number owner) ++ codes " " ++ decimal x.0
+call_text (Move owner x) = codes "move " ++ decimal (owner_number owner) ++ codes " " ++ decimal x.0
+call_text (Reparent from to x) = codes "reparent " ++ decimal (owner_number from) ++ codes " " ++ decimal (owner_number to) ++ codes " " ++ decimal x.0
+call_text (Rename x name) = codes "rename " ++ decimal x.0 ++ codes " " ++ name
+call_text (Parent x) = codes "parent " ++ decimal x.0
 
 -- an input as its line
 unfoldable pub input_text : Input → List ℕ
@@ -33,6 +38,9 @@ input_text (inputs.Call c) = codes "call " ++ call_text c ++ newline
 -- a refusal's number and what it carries
 unfoldable pub refusal_text : Refusal → List ℕ
 refusal_text (NoSuch n) = codes "1 " ++ decimal n
+refusal_text (NotParent x owner) = codes "6 " ++ decimal x.0 ++ codes " " ++ decimal (owner_number owner)
+refusal_text (Loop x owner) = codes "7 " ++ decimal x.0 ++ codes " " ++ decimal (owner_number owner)
+refusal_text (Dying x) = codes "8 " ++ decimal x.0
 refusal_text (Full n) = codes "10 " ++ decimal n
 refusal_text Spent = codes "11"
 refusal_text (TooBig n) = codes "14 " ++ decimal n

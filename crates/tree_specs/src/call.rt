@@ -8,4 +8,14 @@ pub enum Call {
     New { owner: Owner, size: u64, name: Name },
     /// `free X`: gives up the object with all that is below it, as `talloc_free` does.
     Free { x: Obj },
+    /// `steal P X`: puts the object below another owner, as `talloc_steal` does.
+    Steal { owner: Owner, x: Obj },
+    /// `move P X`: the same, where the reply is the object, as `talloc_move` gives it.
+    Move { owner: Owner, x: Obj },
+    /// `reparent OLD NEW X`: the same, where `from` must be its owner, as `talloc_reparent` does.
+    Reparent { from: Owner, to: Owner, x: Obj },
+    /// `rename X NAME`: gives the object another name, as `talloc_set_name` does.
+    Rename { x: Obj, name: Name },
+    /// `parent X`: the number of its owner, as `talloc_parent` tells.
+    Parent { x: Obj },
 }
