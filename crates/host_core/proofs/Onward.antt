@@ -7,6 +7,7 @@ use Rattle.step_machine.specs.Machine.{Move as Do}
 use Rattle.step_machine.specs.Open.{LastIs}
 use Rattle.step_machine.proofs.Ends.{Leads, silent-leads}
 use Rattle.tree_specs.specs.declared.object.Obj.{Obj}
+use Rattle.tree_specs.specs.declared.object.Owner.{Owner}
 use Rattle.tree_specs.specs.declared.object.Owner.TheVariants.{Of}
 use Rattle.tree_specs.specs.declared.row.Row.{Row}
 use Rattle.tree_specs.specs.declared.row.Mark.{Mark}
@@ -25,11 +26,11 @@ use Rattle.tree_specs.specs.declared.frame.CallFrame.TheVariants.{Asking, Doing,
 use Rattle.tree_specs.specs.declared.frame.FreeFrame.{FreeFrame}
 use Rattle.tree_specs.specs.declared.frame.FreeFrame.TheVariants.{Beginning, Leaving, Looping, Trying, Ending}
 use Rattle.tree_specs.specs.declared.frame.Answer.{Answer}
-use Rattle.tree_specs.specs.Pool.{Pool, row_of, first_kid, left_row, changed}
+use Rattle.tree_specs.specs.Pool.{Pool, row_of, first_kid, left_row, changed, place, named_row}
 use Rattle.tree_specs.specs.Items.{Item, IsQuestion}
 use Rattle.tree_specs.specs.Items.Item.{Told, Asked}
 use Rattle.tree_specs.specs.Calls.{Check, refusals}
-use Rattle.tree_specs.specs.Table.{table, step, resume, taken, doing, lifted, free_step, begin_by, begin_step, loop_step, call_step}
+use Rattle.tree_specs.specs.Table.{table, step, resume, taken, doing, lifted, free_step, begin_by, begin_step, loop_step, call_step, effect_step}
 use Rattle.tree_specs.specs.Sound.{IsWaiting, AllWait, IsLive, Sound, claims, InLoop}
 use Rattle.tree_specs.specs.Measure.{total, cost, pending}
 use Rattle.tree_specs.specs.Schedule.{misfit}
@@ -37,8 +38,8 @@ use Rattle.tree_specs.specs.View.{View, begin, rest_of, question_in, question_of
 use Rattle.tree_specs.proofs.StoryLaws.{begin-whole}
 use Rattle.tree_specs.specs.Whole.{Whole}
 use Rattle.tree_specs.proofs.Numbered.{by_test}
-use Rattle.tree_specs.proofs.Rows.{total-without, total-changed}
-use Rattle.tree_specs.proofs.Checks.{taken-doing}
+use Rattle.tree_specs.proofs.Rows.{total-without, total-placed, total-changed}
+use Rattle.tree_specs.proofs.Checks.{MayBePlaced, passes-placing, passes-reparent, passes-object, taken-doing}
 use Rattle.tree_specs.proofs.Keeps.{dying-row, claim-here}
 use Rattle.tree_specs.specs.Story.{heard}
 use Rattle.tree_specs.proofs.Falls.{Room, lower}
@@ -71,12 +72,23 @@ over-narrow a n [] p w l = tt
 over-narrow a n (g ∷ gs) p w l = let m = resume-places g a w.0 in omega arith
 
 call-narrow : (c : Call) (fs : List Frame) (p : Pool) → Narrow (places (frame.Call (Doing c)) fs p) (step (frame.Call (Doing c)) p) fs
-call-narrow c fs p = each (refusals p c) c
+call-narrow c fs p = each (refusals p c) refl
   where
-    each : (check : Check) (d : Call) → Narrow (places (frame.Call (Doing c)) fs p) (call_step check d p) fs
-    each (why ∷ later) d = omega arith
-    each [] (call.New o n name) = omega arith
-    each [] (call.Free x) = omega arith
+    put : (o : Owner) (x : Obj) → MayBePlaced p o x → total row_places (place p o x).rows ≡ total row_places p.rows
+    put o x may = total-placed row_places p o x may.row may.is refl
+
+    effect : (d : Call) → refusals p d ≡ [] → Narrow (places (frame.Call (Doing c)) fs p) (effect_step d p) fs
+    effect (call.New o n name) none = omega arith
+    effect (call.Free x) none = omega arith
+    effect (call.Steal o x) none = omega (arith, put o x (passes-placing p o x none))
+    effect (call.Move o x) none = omega (arith, put o x (passes-placing p o x none))
+    effect (call.Reparent from to x) none = omega (arith, put to x (passes-reparent p from to x none))
+    effect (call.Rename x name) none = let r = passes-object p x none in omega (arith, total-changed row_places (named_row name) p.rows x r.0 r.1)
+    effect (call.Parent x) none = omega arith
+
+    each : (check : Check) → refusals p c ≡ check → Narrow (places (frame.Call (Doing c)) fs p) (call_step check c p) fs
+    each (why ∷ later) e = omega arith
+    each [] e = effect c e
 
 begin-narrow : (x : Obj) (fs : List Frame) (p : Pool) → AllWait fs → Narrow (places (frame.Free (Beginning x)) fs p) (step (frame.Free (Beginning x)) p) fs
 begin-narrow x fs p w = each (row_of p.rows x)
@@ -146,6 +158,11 @@ calm (frame.Call (Doing c)) fs p s = each (refusals p c) c
     each (why ∷ later) d = refl
     each [] (call.New o n name) = refl
     each [] (call.Free x) = refl
+    each [] (call.Steal o x) = refl
+    each [] (call.Move o x) = refl
+    each [] (call.Reparent from to x) = refl
+    each [] (call.Rename x name) = refl
+    each [] (call.Parent x) = refl
 calm (frame.Free (Leaving x)) fs p s = refl
 calm (frame.Free (Trying x c)) fs p s = absurd s.rests
 calm (frame.Free (Ending a)) fs p s = over-calm a fs p s.waiting
@@ -260,6 +277,11 @@ tells-event (frame.Call (Doing c)) p q i g e = absurd (each (refusals p c) c e)
     each (why ∷ later) c e = cc
     each [] (call.New o size name) e = cc
     each [] (call.Free x) e = cc
+    each [] (call.Steal o x) e = cc
+    each [] (call.Move o x) e = cc
+    each [] (call.Reparent from to x) e = cc
+    each [] (call.Rename x name) e = cc
+    each [] (call.Parent x) e = cc
 tells-event (frame.Free f) p q i g e = each (free_step f p) e
   where
     each : (m : Move FreeFrame Answer Pool Event) → lifted m ≡ Do.Emit i g q → (e : Event) × (i ≡ Told e)

@@ -1,5 +1,5 @@
 -- What the code calls a move, and a refusal.
-use Rattle.std.specs.Prelude.{ℕ, List, [], ◌∷◌, Option, Some, None}
+use Rattle.std.specs.Prelude.{ℕ, List, [], ◌∷◌, Result, Ok, Err}
 use Rattle.step_machine.specs.Machine.{Move}
 use Rattle.step_machine.specs.Machine.{Move as Do}
 use Rattle.tree_specs.specs.declared.call.Call.{Call}
@@ -30,9 +30,9 @@ abbrev pub telling : Reply → Motion
 telling r = Goes (frame.Call (Telling r))
 
 -- the first refusal that applies
-abbrev pub first_of : Check → Option Refusal
-first_of [] = None
-first_of (why ∷ later) = Some why
+abbrev pub checked : Check → Result (Unit {0}) Refusal
+checked [] = Ok tt
+checked (why ∷ later) = Err why
 
 -- the rows that the host's own work may still add
 abbrev pub pending_of : CallFrame → ℕ

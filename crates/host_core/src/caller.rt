@@ -1,21 +1,14 @@
 //! The steps of the host's own work: it asks for a call, does it, and tells the reply.
-ghost use Rattle.std.specs.Prelude.{◌≡◌, ◌<◌, ◌≤◌, ◌+◌, None};
-ghost use Rattle.tree_specs.specs.Objects.{owner_number as number_of};
-ghost use Rattle.tree_specs.specs.Pool.{is_owner as is_owner_in};
-ghost use Rattle.tree_specs.specs.Calls.{◌before◌, small, owner as owner_check, object, room, refusals};
+ghost use Rattle.std.specs.Prelude.{◌≡◌, ◌<◌, ◌≤◌, ◌+◌, Ok};
+ghost use Rattle.tree_specs.specs.Calls.{refusals};
 ghost use Rattle.tree_specs.specs.Table.{call_step, effect_step, caller_step, caller_resume};
 ghost use Rattle.tree_links.specs.Links.{pool_of};
-ghost use Rattle.host_core.specs.Moves.{move_of, telling as telling_of, first_of, pending_of};
+ghost use Rattle.host_core.specs.Moves.{move_of, telling as telling_of, checked, pending_of};
 
+use crate::checks::{check, owner_number};
 use crate::motion::Motion;
 use tree_links::{NewRow, Tree};
-use tree_specs::{Answer, Ask, Call, CallFrame, Event, Frame, FreeFrame, Obj, Owner, Refusal, Reply};
-
-/// The size of an object is below this, in bytes.
-const SIZE_LIMIT: u64 = 268_435_456;
-
-/// At most so many objects are live.
-const ROW_LIMIT: usize = 1_048_576;
+use tree_specs::{Answer, Ask, Call, CallFrame, Event, Frame, FreeFrame, Owner, Reply};
 
 fn telling(reply: Reply) -> Motion
     ensures { result ≡ telling_of reply }
@@ -23,66 +16,11 @@ fn telling(reply: Reply) -> Motion
     Motion::Goes(Frame::Call(CallFrame::Telling { reply }))
 }
 
-/// The number of an owner; 0 is the root.
-fn owner_number(owner: Owner) -> u64
-    ensures { result ≡ number_of owner }
-{
-    match owner {
-        Owner::Root => 0,
-        Owner::Of(Obj(n)) => n,
-    }
-}
-
-fn is_owner(owner: Owner, tree: &Tree) -> bool
-    ensures { result ≡ is_owner_in tree.now.rows owner }
-{
-    match owner {
-        Owner::Root => true,
-        Owner::Of(x) => tree.row(x).is_some(),
-    }
-}
-
-fn new_refusal(owner: Owner, size: u64, tree: &Tree) -> Option<Refusal>
-    ensures { result ≡ first_of (small size before (owner_check (pool_of tree.now) owner before room (pool_of tree.now) 1)) }
-{
-    if size >= SIZE_LIMIT {
-        Some(Refusal::TooBig(size))
-    } else if !is_owner(owner, tree) {
-        Some(Refusal::NoSuch(owner_number(owner)))
-    } else if tree.len() >= ROW_LIMIT {
-        Some(Refusal::Full(tree.len() as u64))
-    } else if tree.next_number() == u64::MAX {
-        Some(Refusal::Spent)
-    } else {
-        None
-    }
-}
-
-fn object_refusal(x: Obj, tree: &Tree) -> Option<Refusal>
-    ensures { result ≡ first_of (object (pool_of tree.now) x) }
-{
-    if tree.row(x).is_some() {
-        None
-    } else {
-        Some(Refusal::NoSuch(x.0))
-    }
-}
-
-/// The first refusal that applies.
-fn refusal(call: &Call, tree: &Tree) -> Option<Refusal>
-    ensures { result ≡ first_of (refusals (pool_of tree.now) call.now) }
-{
-    match call {
-        Call::New { owner, size, .. } => new_refusal(*owner, *size, tree),
-        Call::Free { x } => object_refusal(*x, tree),
-    }
-}
-
 /// Does a call that isn't refused.
 #[tactic(auto, using(crate::proofs::Allowed::numbered))]
 fn effect(call: Call, tree: &mut Tree) -> Motion
     requires room { 0 < tree.old.spare }
-    requires allowed { first_of (refusals (pool_of tree.old) call) ≡ None }
+    requires allowed { checked (refusals (pool_of tree.old) call) ≡ Ok tt }
     ensures moved { move_of result (pool_of tree.new) ≡ effect_step call (pool_of tree.old) }
     ensures spare { tree.old.spare ≤ tree.new.spare + 1 }
 {
@@ -95,6 +33,26 @@ fn effect(call: Call, tree: &mut Tree) -> Motion
             Frame::Free(FreeFrame::Beginning { x }),
             Frame::Call(CallFrame::Awaiting { x }),
         ),
+        Call::Steal { owner, x } => {
+            tree.place(x, owner);
+            telling(Reply::Ok)
+        }
+        Call::Move { owner, x } => {
+            tree.place(x, owner);
+            telling(Reply::Number(x.0))
+        }
+        Call::Reparent { to, x, .. } => {
+            tree.place(x, to);
+            telling(Reply::Ok)
+        }
+        Call::Rename { x, name } => {
+            tree.set_name(x, name);
+            telling(Reply::Ok)
+        }
+        Call::Parent { x } => {
+            let owner = tree.parent(x).unwrap_or(Owner::Root);
+            telling(Reply::Number(owner_number(owner)))
+        }
     }
 }
 
@@ -105,9 +63,9 @@ fn call_move(call: Call, tree: &mut Tree) -> Motion
     ensures moved { move_of result (pool_of tree.new) ≡ call_step (refusals (pool_of tree.old) call) call (pool_of tree.old) }
     ensures spare { tree.old.spare ≤ tree.new.spare + 1 }
 {
-    match refusal(&call, tree) {
-        Some(why) => telling(Reply::No(why)),
-        None => effect(call, tree),
+    match check(&call, tree) {
+        Ok(()) => effect(call, tree),
+        Err(why) => telling(Reply::No(why)),
     }
 }
 

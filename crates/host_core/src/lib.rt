@@ -2,6 +2,7 @@
 #![tactic(auto)]
 
 mod caller;
+mod checks;
 mod fault;
 mod freeing;
 mod host;

@@ -47,7 +47,7 @@ impl Tree {
     ghost use Rattle.std.specs.Prelude.{position, ◌≡◌, ℕ, ◌+◌, ◌-◌, ◌^◌, ◌<◌, ◌≤◌, ◌∷◌, [], ◌↔◌, IsTrue, OnOk, MatchOption, length};
     ghost use Rattle.std.specs.Option.{option_copied};
     ghost use Rattle.tree_specs.specs.Objects.{same};
-    ghost use Rattle.tree_specs.specs.Pool.{empty, row_of, is_below, first_kid as kid_first, add as added, detach as detached, remove as removed};
+    ghost use Rattle.tree_specs.specs.Pool.{empty, row_of, is_below, first_kid as kid_first, add as added, detach as detached, remove as removed, place as placed, rename as renamed, owner_of, next_owner as owner_after, is_inside as is_inside_of};
     ghost use Rattle.tree_links.specs.Links.{pool_of};
     ghost use Rattle.tree_links.specs.Found.{StandsAt, StandsNowhere};
 
@@ -146,6 +146,64 @@ impl Tree {
     {
         let i = self.kid_index(owner)?;
         Some(self.rows[i].serial)
+    }
+
+    /// The owner of an object. None exactly where it is no object, or has left its owner.
+    pub fn parent(&self, x: Obj) -> Option<Owner>
+        ensures { result ≡ owner_of self.now.rows x }
+    {
+        self.row(x)?.owner
+    }
+
+    fn next_owner(&self, owner: Owner) -> Option<Owner>
+        ensures { result ≡ owner_after self.now.rows owner }
+    {
+        match owner {
+            Owner::Root => None,
+            Owner::Of(x) => self.parent(x),
+        }
+    }
+
+    /// Whether an owner is another one, or inside it: from owner to owner one comes to it.
+    pub fn is_inside(&self, from: Owner, to: Owner) -> bool
+        ensures { result ≡ is_inside_of self.now.rows from to }
+    {
+        let mut at = from;
+        let mut steps = self.rows.len();
+        while !is_below(Some(at), to) {
+            if steps == 0 {
+                return false;
+            }
+            steps -= 1;
+            match self.next_owner(at) {
+                Some(owner) => at = owner,
+                None => return false,
+            }
+        }
+        true
+    }
+
+    /// Puts an object below an owner, as its newest child. It takes no memory.
+    pub fn place(&mut self, x: Obj, owner: Owner)
+        ensures rows { pool_of self.new ≡ placed (pool_of self.old) owner x }
+        ensures spare { self.old.spare ≤ self.new.spare }
+    {
+        if let Some(i) = self.find(x)
+            && let Some(mut row) = self.rows.remove(i)
+        {
+            row.owner = Some(owner);
+            self.rows.push_front_reserved(row);
+        }
+    }
+
+    /// Gives an object another name. It takes no memory.
+    pub fn set_name(&mut self, x: Obj, name: Name)
+        ensures rows { pool_of self.new ≡ renamed (pool_of self.old) x name }
+        ensures spare { self.old.spare ≤ self.new.spare }
+    {
+        if let Some(i) = self.find(x) {
+            self.rows[i].name = name;
+        }
     }
 
     /// The object leaves its owner, and is dying of it from then on. It takes no memory.

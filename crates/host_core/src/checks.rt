@@ -1,0 +1,174 @@
+//! What a call is refused for. The checks stand in the order in which they are tried.
+ghost use Rattle.std.specs.Prelude.{◌≡◌};
+ghost use Rattle.tree_specs.specs.Objects.{owner_number as number_of};
+ghost use Rattle.tree_specs.specs.Pool.{is_owner as is_owner_in, is_below, owner_of};
+ghost use Rattle.tree_specs.specs.Calls.{◌before◌, small, owner, object, room, staying, apart, placing, given_by, refusals};
+ghost use Rattle.tree_links.specs.Links.{pool_of};
+ghost use Rattle.host_core.specs.Moves.{checked};
+
+use tree_links::Tree;
+use tree_specs::{Call, Mark, Obj, Owner, Refusal, Row};
+
+/// The size of an object is below this, in bytes.
+const SIZE_LIMIT: u64 = 268_435_456;
+
+/// At most so many objects are live.
+const ROW_LIMIT: usize = 1_048_576;
+
+/// The number of an owner; 0 is the root.
+pub fn owner_number(owner: Owner) -> u64
+    ensures { result ≡ number_of owner }
+{
+    match owner {
+        Owner::Root => 0,
+        Owner::Of(Obj(n)) => n,
+    }
+}
+
+fn is_owner(owner: Owner, tree: &Tree) -> bool
+    ensures { result ≡ is_owner_in tree.now.rows owner }
+{
+    match owner {
+        Owner::Root => true,
+        Owner::Of(x) => tree.row(x).is_some(),
+    }
+}
+
+fn check_size(size: u64) -> Result<(), Refusal>
+    ensures { result ≡ checked (small size) }
+{
+    if size >= SIZE_LIMIT {
+        return Err(Refusal::TooBig(size));
+    }
+    Ok(())
+}
+
+fn check_owner(o: Owner, tree: &Tree) -> Result<(), Refusal>
+    ensures { result ≡ checked (owner (pool_of tree.now) o) }
+{
+    if !is_owner(o, tree) {
+        return Err(Refusal::NoSuch(owner_number(o)));
+    }
+    Ok(())
+}
+
+fn check_object(x: Obj, tree: &Tree) -> Result<(), Refusal>
+    ensures { result ≡ checked (object (pool_of tree.now) x) }
+{
+    if tree.row(x).is_none() {
+        return Err(Refusal::NoSuch(x.0));
+    }
+    Ok(())
+}
+
+/// Whether there is room for a row and a number.
+fn check_room(tree: &Tree) -> Result<(), Refusal>
+    ensures { result ≡ checked (room (pool_of tree.now) 1) }
+{
+    if tree.len() >= ROW_LIMIT {
+        return Err(Refusal::Full(tree.len() as u64));
+    }
+    if tree.next_number() == u64::MAX {
+        return Err(Refusal::Spent);
+    }
+    Ok(())
+}
+
+/// An object that is being freed stays where it is.
+fn check_staying(x: Obj, tree: &Tree) -> Result<(), Refusal>
+    ensures { result ≡ checked (staying (pool_of tree.now) x) }
+{
+    match tree.row(x) {
+        Some(Row {
+            mark: Mark::Dying(_),
+            ..
+        }) => Err(Refusal::Dying(x)),
+        _ => Ok(()),
+    }
+}
+
+/// No object comes to be inside itself.
+fn check_apart(x: Obj, owner: Owner, tree: &Tree) -> Result<(), Refusal>
+    ensures { result ≡ checked (apart (pool_of tree.now) x owner) }
+{
+    if tree.is_inside(owner, Owner::Of(x)) {
+        return Err(Refusal::Loop { object: x, owner });
+    }
+    Ok(())
+}
+
+/// An object is put below an owner.
+#[tactic(auto, using(crate::proofs::Allowed::refused_first, crate::proofs::Allowed::allowed_first))]
+fn check_placing(o: Owner, x: Obj, tree: &Tree) -> Result<(), Refusal>
+    ensures { result ≡ checked (placing (pool_of tree.now) o x) }
+{
+    check_object(x, tree)?;
+    check_owner(o, tree)?;
+    check_staying(x, tree)?;
+    check_apart(x, o, tree)
+}
+
+/// Whether an owner owns an object.
+fn is_child(x: Obj, owner: Owner, tree: &Tree) -> bool
+    ensures { result ≡ is_below (owner_of tree.now.rows x) owner }
+{
+    match (tree.parent(x), owner) {
+        (Some(Owner::Root), Owner::Root) => true,
+        (Some(Owner::Of(p)), Owner::Of(o)) => p.0 == o.0,
+        _ => false,
+    }
+}
+
+/// Only its owner gives an object away.
+fn check_given(from: Owner, to: Owner, x: Obj, tree: &Tree) -> Result<(), Refusal>
+    ensures { result ≡ checked (given_by (pool_of tree.now) from to x) }
+{
+    if !is_child(x, from, tree) {
+        return Err(Refusal::NotParent {
+            object: x,
+            owner: from,
+        });
+    }
+    check_apart(x, to, tree)
+}
+
+#[tactic(auto, using(crate::proofs::Allowed::refused_first, crate::proofs::Allowed::allowed_first))]
+fn check_reparent(from: Owner, to: Owner, x: Obj, tree: &Tree) -> Result<(), Refusal>
+    ensures { result ≡ checked (object (pool_of tree.now) x before owner (pool_of tree.now) from before owner (pool_of tree.now) to before staying (pool_of tree.now) x before given_by (pool_of tree.now) from to x) }
+{
+    check_object(x, tree)?;
+    check_owner(from, tree)?;
+    check_owner(to, tree)?;
+    check_staying(x, tree)?;
+    check_given(from, to, x, tree)
+}
+
+#[tactic(auto, using(crate::proofs::Allowed::refused_first, crate::proofs::Allowed::allowed_first))]
+fn check_new(o: Owner, size: u64, tree: &Tree) -> Result<(), Refusal>
+    ensures { result ≡ checked (small size before owner (pool_of tree.now) o before room (pool_of tree.now) 1) }
+{
+    check_size(size)?;
+    check_owner(o, tree)?;
+    check_room(tree)
+}
+
+#[tactic(auto, using(crate::proofs::Allowed::refused_first, crate::proofs::Allowed::allowed_first))]
+fn check_parent(x: Obj, tree: &Tree) -> Result<(), Refusal>
+    ensures { result ≡ checked (object (pool_of tree.now) x before staying (pool_of tree.now) x) }
+{
+    check_object(x, tree)?;
+    check_staying(x, tree)
+}
+
+/// Whether a call is allowed, and else its first refusal.
+pub fn check(call: &Call, tree: &Tree) -> Result<(), Refusal>
+    ensures { result ≡ checked (refusals (pool_of tree.now) call.now) }
+{
+    match call {
+        Call::New { owner, size, .. } => check_new(*owner, *size, tree),
+        Call::Free { x } | Call::Rename { x, .. } => check_object(*x, tree),
+        Call::Steal { owner, x } | Call::Move { owner, x } => check_placing(*owner, *x, tree),
+        Call::Reparent { from, to, x } => check_reparent(*from, *to, *x, tree),
+        Call::Parent { x } => check_parent(*x, tree),
+    }
+}

@@ -1,0 +1,10 @@
+use Rattle.std.proofs.Common.{ap}
+use Rattle.tree_specs.specs.Pool.{named_row}
+use Rattle.tree_links.specs.Links.{Links}
+use Rattle.tree_links.proofs.Finding.{changed-in-place}
+use Rattle.tree_links.proofs.tree.Tree.set_name.Goals as goal
+
+pub returns-in-Some-clause-rows : goal.returns-in-Some-clause-rows
+returns-in-Some-clause-rows c =
+    changed-in-place (named_row c.args.name) _ _ c.args.x c.in-Some.i c.index_mut.result.now _ _ c.in-Some.ensures
+    (ap (λ (t : Links). t.rows) c.self.view_is) (ap (λ (t : Links). t.next) c.self.view_is) c.index_mut.ensures.value
