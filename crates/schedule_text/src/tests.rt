@@ -85,6 +85,31 @@ fn writes_events(rt: HostRuntime) -> Result<(), Fail> {
             b"reply no 1 7\n".as_slice(),
         ),
         (
+            Event::Replied(Reply::No(Refusal::NotParent {
+                object: Obj(3),
+                owner: Owner::Of(Obj(2)),
+            })),
+            b"reply no 6 3 2\n".as_slice(),
+        ),
+        (
+            Event::Replied(Reply::No(Refusal::Loop {
+                object: Obj(3),
+                owner: Owner::Of(Obj(5)),
+            })),
+            b"reply no 7 3 5\n".as_slice(),
+        ),
+        (
+            Event::Replied(Reply::No(Refusal::NotParent {
+                object: Obj(3),
+                owner: Owner::Root,
+            })),
+            b"reply no 6 3 0\n".as_slice(),
+        ),
+        (
+            Event::Replied(Reply::No(Refusal::Dying(Obj(3)))),
+            b"reply no 8 3\n".as_slice(),
+        ),
+        (
             Event::Replied(Reply::No(Refusal::Full(1_048_576))),
             b"reply no 10 1048576\n".as_slice(),
         ),

@@ -6,8 +6,10 @@ use Rattle.std.specs.List.{list_all}
 use Rattle.std.specs.Str.{bytes_eq}
 use Rattle.std.proofs.lemmas.Slice.Eq.{bytes_eq-Decides}
 use Rattle.tree_specs.specs.declared.call.Call.{Call}
-use Rattle.tree_specs.specs.declared.call.Call.TheVariants.{New, Free}
-use Rattle.tree_specs.specs.Grammar.{words, new_of, free_of, call_of_words, call_of}
+use Rattle.tree_specs.specs.declared.call.Call.TheVariants.{New, Free, Steal, Move, Reparent, Rename, Parent}
+use Rattle.tree_specs.specs.declared.object.Obj.{Obj}
+use Rattle.tree_specs.specs.declared.object.Owner.{Owner}
+use Rattle.tree_specs.specs.Grammar.{◌>>=◌, words, object_of, placing_of, new_of, free_of, steal_of, move_of, reparent_of, rename_of, parent_of, call_of_words, call_of}
 use Rattle.tree_specs.specs.Names.{is_name}
 use Rattle.tree_specs.specs.Objects.{owner_number}
 use Rattle.tree_specs.specs.Soundness.{is_number, is_sound_owner, is_sound_call}
@@ -15,7 +17,9 @@ use Rattle.tree_specs.specs.Text.{call_text}
 use Rattle.text_forms.specs.declared.form.FormFault.{FormFault}
 use Rattle.text_forms.specs.declared.form.FormFault.TheVariants.{NoForm, Memory}
 use Rattle.text_forms.specs.Reads.{Reads}
+use Rattle.text_forms.specs.Shapes.{only_object_of}
 use Rattle.text_forms.proofs.Fields.{has_read, number_field, owner_field, object_field, name_field}
+use Rattle.text_forms.proofs.Shapes.{free_is_only, parent_is_only}
 use Rattle.text_forms.proofs.Bools.{and_true}
 use Rattle.text_forms.proofs.Words.{is_unspaced, joined, words-joined, joined-words}
 
@@ -24,10 +28,20 @@ use Rattle.text_forms.proofs.Words.{is_unspaced, joined, words-joined, joined-wo
 abbrev verb_of : Call → List ℕ
 verb_of (New owner size name) = codes "new"
 verb_of (Free x) = codes "free"
+verb_of (Steal owner x) = codes "steal"
+verb_of (Move owner x) = codes "move"
+verb_of (Reparent from to x) = codes "reparent"
+verb_of (Rename x name) = codes "rename"
+verb_of (Parent x) = codes "parent"
 
 abbrev fields_of : Call → List (List ℕ)
 fields_of (New owner size name) = decimal (owner_number owner) ∷ decimal size ∷ name ∷ []
 fields_of (Free x) = decimal x.0 ∷ []
+fields_of (Steal owner x) = decimal (owner_number owner) ∷ decimal x.0 ∷ []
+fields_of (Move owner x) = decimal (owner_number owner) ∷ decimal x.0 ∷ []
+fields_of (Reparent from to x) = decimal (owner_number from) ∷ decimal (owner_number to) ∷ decimal x.0 ∷ []
+fields_of (Rename x name) = decimal x.0 ∷ name ∷ []
+fields_of (Parent x) = decimal x.0 ∷ []
 
 abbrev words_of : Call → List (List ℕ)
 words_of c = verb_of c ∷ fields_of c
@@ -36,6 +50,11 @@ call_text-words : (c : Call) → call_text c ≡ joined (words_of c)
 unfolding call_text
 call_text-words (New owner size name) = simp append_assoc
 call_text-words (Free x) = refl
+call_text-words (Steal owner x) = simp append_assoc
+call_text-words (Move owner x) = simp append_assoc
+call_text-words (Reparent from to x) = simp append_assoc
+call_text-words (Rename x name) = simp append_assoc
+call_text-words (Parent x) = refl
 
 -- ---- from a call to its words and back
 
@@ -44,8 +63,24 @@ record AreWords (c : Call) (ws : List (List ℕ)) : Type 0 where
   unspaced : list_all is_unspaced ws ≡ true
   again : call_of_words ws ≡ Some c
 
+-- a verb with an object and nothing more
+object_fits : (verb : List ℕ) (call : Obj → Call) (x : Obj) → is_unspaced verb ≡ true → is_number x.0 ≡ true → call_of_words (verb ∷ decimal x.0 ∷ []) ≡ (object_of (decimal x.0) >>= (λ object. Some (call object))) → AreWords (call x) (verb ∷ decimal x.0 ∷ [])
+object_fits verb call x is_word h reads = record {
+  unspaced = rw (is_word, object_field.is_word x h) refl;
+  again = reads ∙ rw (object_field.again x h) refl;
+}
+
+-- a verb with an owner, and then an object
+placing_fits : (verb : List ℕ) (call : Owner → Obj → Call) (owner : Owner) (x : Obj) → is_unspaced verb ≡ true → (is_sound_owner owner && is_number x.0) ≡ true → call_of_words (verb ∷ decimal (owner_number owner) ∷ decimal x.0 ∷ []) ≡ placing_of call (decimal (owner_number owner) ∷ decimal x.0 ∷ []) → AreWords (call owner x) (verb ∷ decimal (owner_number owner) ∷ decimal x.0 ∷ [])
+placing_fits verb call owner x is_word h reads =
+    let parts = and_true (is_sound_owner owner) (is_number x.0) h in
+    record {
+      unspaced = rw (is_word, owner_field.is_word owner parts.0, object_field.is_word x parts.1) refl;
+      again = reads ∙ rw (owner_field.again owner parts.0, object_field.again x parts.1) refl;
+    }
+
 words_fit : (c : Call) → is_sound_call c ≡ true → AreWords c (words_of c)
-unfolding call_of_words new_of free_of
+unfolding call_of_words new_of free_of steal_of move_of reparent_of rename_of parent_of
 words_fit (New owner size name) h =
     let named = and_true (is_sound_owner owner && is_number size) (is_name name) h in
     let sized = and_true (is_sound_owner owner) (is_number size) named.0 in
@@ -53,7 +88,23 @@ words_fit (New owner size name) h =
       unspaced = rw (owner_field.is_word owner sized.0, number_field.is_word size sized.1, name_field.is_word name named.1) refl;
       again = rw (owner_field.again owner sized.0, number_field.again size sized.1, name_field.again name named.1) refl;
     }
-words_fit (Free x) h = record { unspaced = rw (object_field.is_word x h) refl; again = rw (object_field.again x h) refl }
+words_fit (Free x) h = object_fits (codes "free") Free x refl h refl
+words_fit (Steal owner x) h = placing_fits (codes "steal") Steal owner x refl h refl
+words_fit (Move owner x) h = placing_fits (codes "move") Move owner x refl h refl
+words_fit (Reparent from to x) h =
+    let placed = and_true (is_sound_owner from && is_sound_owner to) (is_number x.0) h in
+    let owners = and_true (is_sound_owner from) (is_sound_owner to) placed.0 in
+    record {
+      unspaced = rw (owner_field.is_word from owners.0, owner_field.is_word to owners.1, object_field.is_word x placed.1) refl;
+      again = rw (owner_field.again from owners.0, owner_field.again to owners.1, object_field.again x placed.1) refl;
+    }
+words_fit (Rename x name) h =
+    let parts = and_true (is_number x.0) (is_name name) h in
+    record {
+      unspaced = rw (object_field.is_word x parts.0, name_field.is_word name parts.1) refl;
+      again = rw (object_field.again x parts.0, name_field.again name parts.1) refl;
+    }
+words_fit (Parent x) h = object_fits (codes "parent") Parent x refl h refl
 
 pub call_again : (c : Call) → is_sound_call c ≡ true → call_of (call_text c) ≡ Some c
 unfolding call_of
@@ -88,13 +139,51 @@ new_spelled (p ∷ s ∷ n ∷ []) c e =
     name.goes_on
 new_spelled (p ∷ s ∷ n ∷ m ∷ more) c e = absurd cc
 
-free_spelled : (fields : List (List ℕ)) (c : Call) → free_of fields ≡ Some c → IsSpelling (codes "free" ∷ fields) c
-unfolding free_of
-free_spelled [] c e = absurd cc
-free_spelled (x ∷ []) c e =
+reparent_spelled : (fields : List (List ℕ)) (c : Call) → reparent_of fields ≡ Some c → IsSpelling (codes "reparent" ∷ fields) c
+unfolding reparent_of
+reparent_spelled [] c e = absurd cc
+reparent_spelled (p ∷ []) c e = absurd cc
+reparent_spelled (p ∷ q ∷ []) c e = absurd cc
+reparent_spelled (p ∷ q ∷ x ∷ []) c e =
+    let from = has_read owner_field p _ c e in
+    let to = has_read owner_field q _ c from.goes_on in
+    let object = has_read object_field x _ c to.goes_on in
+    spelling_of _ (Reparent from.value to.value object.value) c
+    (cc)
+    (rw (from.value_is_sound, to.value_is_sound, object.value_is_sound) refl)
+    object.goes_on
+reparent_spelled (p ∷ q ∷ x ∷ m ∷ more) c e = absurd cc
+
+rename_spelled : (fields : List (List ℕ)) (c : Call) → rename_of fields ≡ Some c → IsSpelling (codes "rename" ∷ fields) c
+unfolding rename_of
+rename_spelled [] c e = absurd cc
+rename_spelled (x ∷ []) c e = absurd cc
+rename_spelled (x ∷ n ∷ []) c e =
     let object = has_read object_field x _ c e in
-    spelling_of _ (Free object.value) c (cc) object.value_is_sound object.goes_on
-free_spelled (x ∷ m ∷ more) c e = absurd cc
+    let name = has_read name_field n _ c object.goes_on in
+    spelling_of _ (Rename object.value name.value) c (cc) (rw (object.value_is_sound, name.value_is_sound) refl) name.goes_on
+rename_spelled (x ∷ n ∷ m ∷ more) c e = absurd cc
+
+-- a verb with an object and nothing more
+object_spelled : (verb : List ℕ) (call : Obj → Call) → ((x : Obj) → words_of (call x) ≡ verb ∷ decimal x.0 ∷ []) → ((x : Obj) → is_sound_call (call x) ≡ is_number x.0) → (fields : List (List ℕ)) (c : Call) → (only_object_of fields >>= (λ x. Some (call x))) ≡ Some c → IsSpelling (verb ∷ fields) c
+object_spelled verb call words_are sound [] c e = absurd cc
+object_spelled verb call words_are sound (x ∷ []) c e =
+    let object = has_read object_field x _ c e in
+    spelling_of _ (call object.value) c (cc (words_are object.value)) (sound object.value ∙ object.value_is_sound) object.goes_on
+object_spelled verb call words_are sound (x ∷ m ∷ more) c e = absurd cc
+
+-- a verb with an owner, and then an object
+placing_spelled : (verb : List ℕ) (call : Owner → Obj → Call) → ((owner : Owner) (x : Obj) → words_of (call owner x) ≡ verb ∷ decimal (owner_number owner) ∷ decimal x.0 ∷ []) → ((owner : Owner) (x : Obj) → is_sound_call (call owner x) ≡ (is_sound_owner owner && is_number x.0)) → (fields : List (List ℕ)) (c : Call) → placing_of call fields ≡ Some c → IsSpelling (verb ∷ fields) c
+placing_spelled verb call words_are sound [] c e = absurd cc
+placing_spelled verb call words_are sound (p ∷ []) c e = absurd cc
+placing_spelled verb call words_are sound (p ∷ x ∷ []) c e =
+    let owner = has_read owner_field p _ c e in
+    let object = has_read object_field x _ c owner.goes_on in
+    spelling_of _ (call owner.value object.value) c
+    (cc (words_are owner.value object.value))
+    (sound owner.value object.value ∙ rw (owner.value_is_sound, object.value_is_sound) refl)
+    object.goes_on
+placing_spelled verb call words_are sound (p ∷ x ∷ m ∷ more) c e = absurd cc
 
 -- the fields are read by this verb's reader, or else by the readers of other verbs
 by_verb : (name : List ℕ) (read : List (List ℕ) → Option Call) → ((fields : List (List ℕ)) (c : Call) → read fields ≡ Some c → IsSpelling (name ∷ fields) c) → (verb : List ℕ) (fields : List (List ℕ)) (c : Call) (others : Option Call) → (others ≡ Some c → IsSpelling (verb ∷ fields) c) → cond (bytes_eq verb name) (read fields) others ≡ Some c → IsSpelling (verb ∷ fields) c
@@ -105,11 +194,17 @@ by_verb name read spelled verb fields c others otherwise e = by_test (bytes_eq v
     by_test true h f = rw ((bytes_eq-Decides verb name).0 h) (spelled fields c f)
 
 words_spelled : (ws : List (List ℕ)) (c : Call) → call_of_words ws ≡ Some c → IsSpelling ws c
-unfolding call_of_words
+unfolding call_of_words steal_of move_of
 words_spelled [] c e = absurd cc
 words_spelled (verb ∷ fields) c e =
     by_verb (codes "new") new_of new_spelled verb fields c _
-    (by_verb (codes "free") free_of free_spelled verb fields c _ (λ none. absurd cc))
+    (by_verb (codes "free") free_of (λ fs c f. object_spelled (codes "free") Free (λ x. refl) (λ x. refl) fs c (sym (free_is_only fs) ∙ f)) verb fields c _
+    (by_verb (codes "steal") steal_of (placing_spelled (codes "steal") Steal (λ owner x. refl) (λ owner x. refl)) verb fields c _
+    (by_verb (codes "move") move_of (placing_spelled (codes "move") Move (λ owner x. refl) (λ owner x. refl)) verb fields c _
+    (by_verb (codes "reparent") reparent_of reparent_spelled verb fields c _
+    (by_verb (codes "rename") rename_of rename_spelled verb fields c _
+    (by_verb (codes "parent") parent_of (λ fs c f. object_spelled (codes "parent") Parent (λ x. refl) (λ x. refl) fs c (sym (parent_is_only fs) ∙ f)) verb fields c _
+    (λ none. absurd cc)))))))
     e
 
 call_spelled : (text : List ℕ) (c : Call) → call_of text ≡ Some c → (text ≡ call_text c) × (is_sound_call c ≡ true)

@@ -1,11 +1,11 @@
 ghost use Rattle.std.specs.Prelude.{◌≡◌, ◌≢◌, map, IfOk, IsTrue, Err};
 ghost use Rattle.tree_specs.specs.declared.call.Call.{Call};
-ghost use Rattle.tree_specs.specs.Grammar.{call_of, call_of_words, new_of, free_of};
+ghost use Rattle.tree_specs.specs.Grammar.{call_of, call_of_words, new_of, free_of, steal_of, move_of, reparent_of, rename_of, parent_of};
 ghost use Rattle.tree_specs.specs.Soundness.{is_sound_call};
 ghost use Rattle.tree_specs.specs.Text.{call_text};
 ghost use Rattle.text_forms.specs.Reads.{Reads};
 
-use crate::field::{number, object, owner};
+use crate::field::{number, object, only_object, owner, owner_and_object};
 use crate::form::FormFault;
 use crate::name::read_name;
 use crate::split::words_of;
@@ -27,17 +27,65 @@ fn new_call(alloc: Global, fields: &[&[u8]]) -> Result<Call, FormFault>
     }
 }
 
-#[tactic(auto, unfolding(tree_specs::specs::Grammar::free_of))]
+#[tactic(auto, using(crate::proofs::Shapes::free_is_only))]
 fn free_call(fields: &[&[u8]]) -> Result<Call, FormFault>
     ensures { Reads result (free_of (map (λ w. w.now) fields.now)) }
 {
+    let x = only_object(fields)?;
+    Ok(Call::Free { x })
+}
+
+#[tactic(auto, using(crate::proofs::Shapes::steal_is_pair))]
+fn steal_call(fields: &[&[u8]]) -> Result<Call, FormFault>
+    ensures { Reads result (steal_of (map (λ w. w.now) fields.now)) }
+{
+    let (owner, x) = owner_and_object(fields)?;
+    Ok(Call::Steal { owner, x })
+}
+
+#[tactic(auto, using(crate::proofs::Shapes::move_is_pair))]
+fn move_call(fields: &[&[u8]]) -> Result<Call, FormFault>
+    ensures { Reads result (move_of (map (λ w. w.now) fields.now)) }
+{
+    let (owner, x) = owner_and_object(fields)?;
+    Ok(Call::Move { owner, x })
+}
+
+#[tactic(auto, unfolding(tree_specs::specs::Grammar::reparent_of))]
+fn reparent_call(fields: &[&[u8]]) -> Result<Call, FormFault>
+    ensures { Reads result (reparent_of (map (λ w. w.now) fields.now)) }
+{
     match fields {
-        [x] => {
+        [p, q, x] => {
+            let from = owner(p)?;
+            let to = owner(q)?;
             let x = object(x)?;
-            Ok(Call::Free { x })
+            Ok(Call::Reparent { from, to, x })
         }
         _ => Err(FormFault::NoForm),
     }
+}
+
+#[tactic(auto, unfolding(tree_specs::specs::Grammar::rename_of))]
+fn rename_call(alloc: Global, fields: &[&[u8]]) -> Result<Call, FormFault>
+    ensures { Reads result (rename_of (map (λ w. w.now) fields.now)) }
+{
+    match fields {
+        [x, n] => {
+            let x = object(x)?;
+            let name = read_name(alloc, n)?;
+            Ok(Call::Rename { x, name })
+        }
+        _ => Err(FormFault::NoForm),
+    }
+}
+
+#[tactic(auto, using(crate::proofs::Shapes::parent_is_only))]
+fn parent_call(fields: &[&[u8]]) -> Result<Call, FormFault>
+    ensures { Reads result (parent_of (map (λ w. w.now) fields.now)) }
+{
+    let x = only_object(fields)?;
+    Ok(Call::Parent { x })
 }
 
 // A call's verb decides how its fields are read.
@@ -52,6 +100,16 @@ fn call_from_words(alloc: Global, words: &[&[u8]]) -> Result<Call, FormFault>
                 new_call(alloc, fields)
             } else if *verb == b"free".as_slice() {
                 free_call(fields)
+            } else if *verb == b"steal".as_slice() {
+                steal_call(fields)
+            } else if *verb == b"move".as_slice() {
+                move_call(fields)
+            } else if *verb == b"reparent".as_slice() {
+                reparent_call(fields)
+            } else if *verb == b"rename".as_slice() {
+                rename_call(alloc, fields)
+            } else if *verb == b"parent".as_slice() {
+                parent_call(fields)
             } else {
                 Err(FormFault::NoForm)
             }

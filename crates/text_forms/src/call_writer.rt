@@ -1,6 +1,8 @@
-ghost use Rattle.std.specs.Prelude.{◌≡◌, IsTrue, Some};
-ghost use Rattle.tree_specs.specs.declared.call.Call.TheVariants.{New, Free};
+ghost use Rattle.std.specs.Prelude.{◌≡◌, ◌++◌, IsTrue, Some, codes};
+ghost use Rattle.std.specs.Fmt.{decimal};
+ghost use Rattle.tree_specs.specs.declared.call.Call.TheVariants.{New, Reparent, Rename};
 ghost use Rattle.tree_specs.specs.Grammar.{call_of};
+ghost use Rattle.tree_specs.specs.Objects as objects;
 ghost use Rattle.tree_specs.specs.Soundness.{is_sound_call};
 ghost use Rattle.tree_specs.specs.Text.{call_text};
 ghost use Rattle.tree_specs.specs.Written.{Writes};
@@ -31,12 +33,70 @@ fn write_new(owner: Owner, size: u64, name: &Name, out: &mut Vec<u8>) -> Result<
     )
 }
 
-#[tactic(auto, unfolding(tree_specs::specs::Text::call_text))]
-fn write_free(x: Obj, out: &mut Vec<u8>) -> Result<(), Memory>
-    ensures { Writes out.old.items out.new.items result (call_text (Free x)) }
+// A call of this verb with an object and nothing more.
+fn write_only_object(verb: &[u8], x: Obj, out: &mut Vec<u8>) -> Result<(), Memory>
+    ensures { Writes out.old.items out.new.items result (verb.now ++ decimal x.0) }
 {
     let mut buffer = Buffer::new();
-    write_pieces(&[b"free ".as_slice(), buffer.format(x.0).as_bytes()], out)
+    write_pieces(&[verb, buffer.format(x.0).as_bytes()], out)
+}
+
+// A call of this verb with an owner, and then an object.
+fn write_owner_and_object(
+    verb: &[u8],
+    owner: Owner,
+    x: Obj,
+    out: &mut Vec<u8>,
+) -> Result<(), Memory>
+    ensures { Writes out.old.items out.new.items result (verb.now ++ decimal (objects.owner_number owner) ++ codes " " ++ decimal x.0) }
+{
+    let mut owner_buffer = Buffer::new();
+    let mut buffer = Buffer::new();
+    let owner = owner_buffer.format(owner_number(owner)).as_bytes();
+    let x = buffer.format(x.0).as_bytes();
+    write_pieces(&[verb, owner, b" ".as_slice(), x], out)
+}
+
+#[tactic(auto, unfolding(tree_specs::specs::Text::call_text))]
+fn write_reparent(from: Owner, to: Owner, x: Obj, out: &mut Vec<u8>) -> Result<(), Memory>
+    ensures { Writes out.old.items out.new.items result (call_text (Reparent from to x)) }
+{
+    let mut from_buffer = Buffer::new();
+    let mut to_buffer = Buffer::new();
+    let mut buffer = Buffer::new();
+    let from = from_buffer.format(owner_number(from)).as_bytes();
+    let to = to_buffer.format(owner_number(to)).as_bytes();
+    let x = buffer.format(x.0).as_bytes();
+    let space = b" ".as_slice();
+    write_pieces(&[b"reparent ".as_slice(), from, space, to, space, x], out)
+}
+
+#[tactic(auto, unfolding(tree_specs::specs::Text::call_text))]
+fn write_rename(x: Obj, name: &Name, out: &mut Vec<u8>) -> Result<(), Memory>
+    ensures { Writes out.old.items out.new.items result (call_text (Rename x name.now)) }
+{
+    let mut buffer = Buffer::new();
+    let x = buffer.format(x.0).as_bytes();
+    write_pieces(
+        &[b"rename ".as_slice(), x, b" ".as_slice(), name.as_slice()],
+        out,
+    )
+}
+
+// The call's verb and its fields, as the text's definition has them.
+#[tactic(auto, unfolding(tree_specs::specs::Text::call_text))]
+fn write_text(call: &Call, out: &mut Vec<u8>) -> Result<(), Memory>
+    ensures { Writes out.old.items out.new.items result (call_text call.now) }
+{
+    match call {
+        Call::New { owner, size, name } => write_new(*owner, *size, name, out),
+        Call::Free { x } => write_only_object(b"free ", *x, out),
+        Call::Steal { owner, x } => write_owner_and_object(b"steal ", *owner, *x, out),
+        Call::Move { owner, x } => write_owner_and_object(b"move ", *owner, *x, out),
+        Call::Reparent { from, to, x } => write_reparent(*from, *to, *x, out),
+        Call::Rename { x, name } => write_rename(*x, name, out),
+        Call::Parent { x } => write_only_object(b"parent ", *x, out),
+    }
 }
 
 /// Appends the one spelling of a call. Where memory is wanted, a front of it was appended.
@@ -47,8 +107,5 @@ pub fn write_call(call: &Call, out: &mut Vec<u8>) -> Result<(), Memory>
     ensures written { Writes out.old.items out.new.items result (call_text call.now) }
     ensures read_back { call_of (call_text call.now) ≡ Some call.now }
 {
-    match call {
-        Call::New { owner, size, name } => write_new(*owner, *size, name, out),
-        Call::Free { x } => write_free(*x, out),
-    }
+    write_text(call, out)
 }

@@ -1,9 +1,10 @@
 //! The fields of a call, each by its kind.
 
-ghost use Rattle.std.specs.Prelude.{◌≡◌};
+ghost use Rattle.std.specs.Prelude.{◌≡◌, map};
 ghost use Rattle.tree_specs.specs.Grammar.{number_of, owner_of, object_of};
 ghost use Rattle.tree_specs.specs.Objects as objects;
 ghost use Rattle.text_forms.specs.Reads.{Reads};
+ghost use Rattle.text_forms.specs.Shapes.{only_object_of, owner_and_object_of};
 
 use crate::form::FormFault;
 use crate::number::read_number;
@@ -38,8 +39,32 @@ pub(crate) fn object(text: &[u8]) -> Result<Obj, FormFault>
     Ok(Obj(n))
 }
 
-// The number that an owner field has.
-pub(crate) fn owner_number(owner: Owner) -> u64
+// The fields of a call with an object and nothing more.
+pub(crate) fn only_object(fields: &[&[u8]]) -> Result<Obj, FormFault>
+    ensures { Reads result (only_object_of (map (λ w. w.now) fields.now)) }
+{
+    match fields {
+        [x] => object(x),
+        _ => Err(FormFault::NoForm),
+    }
+}
+
+// The fields of a call with an owner, and then an object.
+pub(crate) fn owner_and_object(fields: &[&[u8]]) -> Result<(Owner, Obj), FormFault>
+    ensures { Reads result (owner_and_object_of (map (λ w. w.now) fields.now)) }
+{
+    match fields {
+        [p, x] => {
+            let owner = owner(p)?;
+            let x = object(x)?;
+            Ok((owner, x))
+        }
+        _ => Err(FormFault::NoForm),
+    }
+}
+
+/// The number that an owner has in texts.
+pub fn owner_number(owner: Owner) -> u64
     ensures { result ≡ objects.owner_number owner }
 {
     match owner {

@@ -66,7 +66,7 @@ fn reads_and_writes_new(rt: HostRuntime) -> Result<(), Fail> {
             assert_eq!(rt; size, 10);
             assert_eq!(rt; name.as_slice(), b"a-b".as_slice());
         }
-        _ => assert!(rt; false, "another call"),
+        _other => assert!(rt; false, "another call"),
     }
     Ok(())
 }
@@ -101,6 +101,66 @@ fn writes_the_root_as_zero(rt: HostRuntime) -> Result<(), Fail> {
 }
 
 #[test]
+fn reads_calls_that_place_an_object(rt: HostRuntime) -> Result<(), Fail> {
+    match read_call(rt.alloc(), b"steal 7 9")? {
+        Call::Steal { owner, x } => {
+            assert_eq!(rt; owner, Owner::Of(Obj(7)));
+            assert_eq!(rt; x, Obj(9));
+        }
+        _ => assert!(rt; false, "another call"),
+    }
+    match read_call(rt.alloc(), b"move 0 9")? {
+        Call::Move { owner, x } => {
+            assert_eq!(rt; owner, Owner::Root);
+            assert_eq!(rt; x, Obj(9));
+        }
+        _ => assert!(rt; false, "another call"),
+    }
+    match read_call(rt.alloc(), b"reparent 7 0 9")? {
+        Call::Reparent { from, to, x } => {
+            assert_eq!(rt; from, Owner::Of(Obj(7)));
+            assert_eq!(rt; to, Owner::Root);
+            assert_eq!(rt; x, Obj(9));
+        }
+        _ => assert!(rt; false, "another call"),
+    }
+    Ok(())
+}
+
+#[test]
+fn reads_rename_and_parent(rt: HostRuntime) -> Result<(), Fail> {
+    match read_call(rt.alloc(), b"rename 9 a-b")? {
+        Call::Rename { x, name } => {
+            assert_eq!(rt; x, Obj(9));
+            assert_eq!(rt; name.as_slice(), b"a-b".as_slice());
+        }
+        _ => assert!(rt; false, "another call"),
+    }
+    match read_call(rt.alloc(), b"parent 9")? {
+        Call::Parent { x } => assert_eq!(rt; x, Obj(9)),
+        _ => assert!(rt; false, "another call"),
+    }
+    Ok(())
+}
+
+#[test]
+fn writes_calls_on_objects(rt: HostRuntime) -> Result<(), Fail> {
+    for text in [
+        b"steal 7 9".as_slice(),
+        b"move 0 9".as_slice(),
+        b"reparent 7 0 9".as_slice(),
+        b"rename 9 a-b".as_slice(),
+        b"parent 9".as_slice(),
+    ] {
+        let mut out = Vec::new(rt.alloc());
+        let call = read_call(rt.alloc(), text)?;
+        write_call(&call, &mut out)?;
+        assert_eq!(rt; out.as_slice(), text);
+    }
+    Ok(())
+}
+
+#[test]
 fn reads_no_call(rt: HostRuntime) {
     let texts = [
         b"".as_slice(),
@@ -113,6 +173,11 @@ fn reads_no_call(rt: HostRuntime) {
         b"new 7 10".as_slice(),
         b"new 7 10 a b".as_slice(),
         b"new  7 10 a".as_slice(),
+        b"steal 9".as_slice(),
+        b"move 7 9 9".as_slice(),
+        b"reparent 7 9".as_slice(),
+        b"rename 9".as_slice(),
+        b"parent".as_slice(),
     ];
     for text in texts {
         assert!(rt;

@@ -1,5 +1,5 @@
 //! Laws of the definitions, each the clause of a function that does nothing.
-#![tactic(auto, unfolding(crate::specs::Grammar::number_of, crate::specs::Grammar::owner_of, crate::specs::Grammar::object_of, crate::specs::Grammar::name_of, crate::specs::Grammar::new_of, crate::specs::Grammar::free_of, crate::specs::Grammar::call_of_words, crate::specs::Grammar::call_of, crate::specs::Grammar::input_of, crate::specs::Text::refusal_text, crate::specs::Text::reply_text, crate::specs::Text::event_text, crate::specs::Text::ask_text, crate::specs::Text::answered_text, crate::specs::Text::item_text, crate::specs::Text::end_text, crate::specs::Text::body_text, crate::specs::Schedule::lines_of_parts, crate::specs::Schedule::lines, crate::specs::Schedule::line_input, crate::specs::Schedule::judged_from, crate::specs::Schedule::judged_lines, crate::specs::Schedule::open_question))]
+#![tactic(auto, unfolding(crate::specs::Grammar::number_of, crate::specs::Grammar::owner_of, crate::specs::Grammar::object_of, crate::specs::Grammar::name_of, crate::specs::Grammar::new_of, crate::specs::Grammar::free_of, crate::specs::Grammar::steal_of, crate::specs::Grammar::move_of, crate::specs::Grammar::reparent_of, crate::specs::Grammar::rename_of, crate::specs::Grammar::parent_of, crate::specs::Grammar::call_of_words, crate::specs::Grammar::call_of, crate::specs::Grammar::input_of, crate::specs::Text::refusal_text, crate::specs::Text::reply_text, crate::specs::Text::event_text, crate::specs::Text::ask_text, crate::specs::Text::answered_text, crate::specs::Text::item_text, crate::specs::Text::end_text, crate::specs::Text::body_text, crate::specs::Schedule::lines_of_parts, crate::specs::Schedule::lines, crate::specs::Schedule::line_input, crate::specs::Schedule::judged_from, crate::specs::Schedule::judged_lines, crate::specs::Schedule::open_question))]
 
 ghost use Rattle.std.specs.Prelude.{◌≡◌, ◌≢◌, ◌≤◌, ℕ, codes, Some, None, List, [], ◌∷◌, length};
 ghost use Rattle.step_machine.specs.Machine.{run, items as told_by};
@@ -24,6 +24,15 @@ pub fn nothing_is_called()
 pub fn children_are_freed_newest_first()
     ensures { transcript (items (story 1 (inputs_of (codes "tv schedule 1 pool\ncall new 0 0 a\ncall new 1 10 b\ncall new 1 20 c\ncall new 1 30 d\ncall free 1\ncall free 1\n"))))
         ≡ Some (codes "tv transcript 1\nreply 1\nreply 2\nreply 3\nreply 4\nfreed 4 0\nfreed 3 0\nfreed 2 0\nfreed 1 0\nreply ok\nreply no 1 1\nend quiet\n") }
+{}
+
+/// Worked examples: objects go from owner to owner, never into what is inside them, and are freed where
+/// they came to be.
+pub fn objects_go_from_owner_to_owner()
+    ensures apart { transcript (items (story 1 (inputs_of (codes "tv schedule 1 pool\ncall new 0 0 a\ncall new 1 0 b\ncall new 1 0 c\ncall steal 2 1\ncall steal 1 1\ncall steal 1 2\ncall free 1\n"))))
+        ≡ Some (codes "tv transcript 1\nreply 1\nreply 2\nreply 3\nreply no 7 1 2\nreply no 7 1 1\nreply ok\nfreed 2 0\nfreed 3 0\nfreed 1 0\nreply ok\nend quiet\n") }
+    ensures given { transcript (items (story 1 (inputs_of (codes "tv schedule 1 pool\ncall new 0 5 a\ncall new 1 6 b\ncall new 0 0 c\ncall rename 1 z\ncall move 3 1\ncall reparent 0 3 1\ncall parent 1\ncall reparent 3 0 1\ncall parent 1\n"))))
+        ≡ Some (codes "tv transcript 1\nreply 1\nreply 2\nreply 3\nreply ok\nreply 1\nreply no 6 1 0\nreply 3\nreply ok\nreply 0\nend quiet\n") }
 {}
 
 /// The stated number of turns is enough for every list of inputs, and more turns give the same.
