@@ -14,7 +14,7 @@ use std::alloc::Global;
 use std::marker::Model;
 use std::mem;
 use tree_links::Tree;
-use tree_specs::{Ask, CallFrame, Event, Frame, Input, Memory};
+use tree_specs::{Ask, CallFrame, Event, Frame, Input, Memory, Obj, Owner};
 
 /// The work of a host at rest that was given an answer.
 fn given(input: Input) -> Frame
@@ -64,6 +64,9 @@ impl Model for Host {
 }
 
 impl Host {
+    ghost use Rattle.std.specs.Prelude.{◌&&◌};
+    ghost use Rattle.tree_specs.specs.declared.object.Owner.TheVariants.{Of as At};
+    ghost use Rattle.tree_specs.specs.Pool.{is_row, is_inside as inside};
     ghost use Rattle.host_core.specs.Promises.{Waits, NextLaw, TakesAnswer};
 
     /// A host with no objects, whose first one gets the number `first`. It waits for a call.
@@ -78,6 +81,27 @@ impl Host {
             below: Vec::new(alloc),
             tree: Tree::new(alloc, first),
         })
+    }
+
+    /// Whether the number names a live object. The root is none.
+    pub fn is_live(&self, x: Obj) -> bool
+        ensures { result ≡ is_row self.now.pool.rows x }
+    {
+        self.tree.row(x).is_some()
+    }
+
+    /// Whether an object is another one, or inside it. False where either is no live object.
+    pub fn is_inside(&self, x: Obj, p: Obj) -> bool
+        ensures { result ≡ (is_row self.now.pool.rows x && (is_row self.now.pool.rows p && inside self.now.pool.rows (At x) (At p))) }
+    {
+        self.is_live(x) && self.is_live(p) && self.tree.is_inside(Owner::Of(x), Owner::Of(p))
+    }
+
+    /// How many objects are live.
+    pub fn live(&self) -> u64
+        ensures { result ≡ length self.now.pool.rows }
+    {
+        self.tree.len() as u64
     }
 
     /// The open question. None exactly where an event is still to come.
