@@ -9,7 +9,9 @@ ghost use Rattle.host_core.specs.Moves.{move_of, telling as telling_of, first_of
 
 use crate::motion::Motion;
 use tree_links::{NewRow, Tree};
-use tree_specs::{Answer, Ask, Call, CallFrame, Event, Frame, FreeFrame, Obj, Owner, Refusal, Reply};
+use tree_specs::{
+    Answer, Ask, Call, CallFrame, Event, Frame, FreeFrame, Obj, Owner, Refusal, Reply,
+};
 
 /// The size of an object is below this, in bytes.
 const SIZE_LIMIT: u64 = 268_435_456;
