@@ -36,9 +36,7 @@ fn look(x: Obj, tree: &mut Tree) -> Motion
             tree.remove(x);
             Motion::Tells(
                 Event::Freed { object: x, hook: 0 },
-                Frame::Free(FreeFrame::Ending {
-                    answer: Answer::Ok,
-                }),
+                Frame::Free(FreeFrame::Ending { answer: Answer::Ok }),
             )
         }
     }

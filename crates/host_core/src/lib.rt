@@ -7,6 +7,8 @@ mod fault;
 mod freeing;
 mod host;
 mod motion;
+#[cfg(test)]
+mod tests;
 mod works;
 
 pub use fault::OfferFault;

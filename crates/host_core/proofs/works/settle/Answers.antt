@@ -1,4 +1,4 @@
-use Rattle.std.proofs.Common.{◌≡◌, ◌+◌, ◌≤◌, ◌∙◌, length, vec_capacity, arith, sym, false}
+use Rattle.std.proofs.Common.{◌≡◌, ◌+◌, ◌∙◌, length, arith, sym, false}
 use Rattle.tree_specs.specs.Measure.{pending}
 use Rattle.tree_specs.specs.View.{View}
 use Rattle.host_core.specs.Hosts.{view_of, speaking}

@@ -1,11 +1,7 @@
-use Rattle.std.proofs.Common.{◌≡◌, ◌≢◌, ◌∙◌, ◌∷◌, refl, sym, ap, subst, arith, Some, None, Option, vec_capacity, Bool, false, true}
-use Rattle.tree_specs.specs.declared.event.Event.{Event}
+use Rattle.std.proofs.Common.{◌≡◌, ◌∙◌, ◌∷◌, refl, sym, ap, subst, arith, false}
 use Rattle.tree_specs.specs.declared.frame.Frame.{Frame}
-use Rattle.tree_specs.specs.declared.frame.Frame.TheVariants as frame
-use Rattle.tree_specs.specs.declared.frame.CallFrame.TheVariants.{Asking}
 use Rattle.tree_specs.specs.Items.Item.{Told}
 use Rattle.tree_specs.specs.Table.{step}
-use Rattle.tree_links.specs.Links.{pool_of}
 use Rattle.tree_specs.specs.View.{View, rest_of, question_of}
 use Rattle.host_core.specs.Hosts.{view_of, asking, moved, next_of}
 use Rattle.host_core.specs.Promises.{Waits}

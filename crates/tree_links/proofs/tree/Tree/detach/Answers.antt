@@ -7,4 +7,4 @@ use Rattle.tree_links.proofs.tree.Tree.detach.Goals as goal
 pub returns-in-Some-clause-rows : goal.returns-in-Some-clause-rows
 returns-in-Some-clause-rows c =
     rw c.unwrap_or.ensures (changed-in-place left_row _ _ c.args.x c.in-Some.i c.index_mut-row.result.now _ _ c.in-Some.ensures
-        (ap (λ (t : Links). t.rows) c.self.view_is) (ap (λ (t : Links). t.next) c.self.view_is) c.index_mut-row.ensures.value)
+    (ap (λ (t : Links). t.rows) c.self.view_is) (ap (λ (t : Links). t.next) c.self.view_is) c.index_mut-row.ensures.value)
