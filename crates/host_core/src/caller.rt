@@ -5,7 +5,7 @@ ghost use Rattle.tree_specs.specs.Table.{call_step, effect_step, caller_step, ca
 ghost use Rattle.tree_links.specs.Links.{pool_of};
 ghost use Rattle.host_core.specs.Moves.{move_of, telling as telling_of, checked, pending_of};
 
-use crate::checks::{check, owner_number};
+use crate::checks::check;
 use crate::motion::Motion;
 use tree_links::{NewRow, Tree};
 use tree_specs::{Answer, Ask, Call, CallFrame, Event, Frame, FreeFrame, Owner, Reply};
@@ -51,7 +51,7 @@ fn effect(call: Call, tree: &mut Tree) -> Motion
         }
         Call::Parent { x } => {
             let owner = tree.parent(x).unwrap_or(Owner::Root);
-            telling(Reply::Number(owner_number(owner)))
+            telling(Reply::Number(owner.number()))
         }
     }
 }

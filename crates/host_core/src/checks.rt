@@ -1,6 +1,5 @@
 //! What a call is refused for. The checks stand in the order in which they are tried.
 ghost use Rattle.std.specs.Prelude.{◌≡◌};
-ghost use Rattle.tree_specs.specs.Objects.{owner_number as number_of};
 ghost use Rattle.tree_specs.specs.Pool.{is_owner as is_owner_in, is_below, owner_of};
 ghost use Rattle.tree_specs.specs.Calls.{◌before◌, small, owner, object, room, staying, apart, placing, given_by, refusals};
 ghost use Rattle.tree_links.specs.Links.{pool_of};
@@ -14,16 +13,6 @@ const SIZE_LIMIT: u64 = 268_435_456;
 
 /// At most so many objects are live.
 const ROW_LIMIT: usize = 1_048_576;
-
-/// The number of an owner; 0 is the root.
-pub fn owner_number(owner: Owner) -> u64
-    ensures { result ≡ number_of owner }
-{
-    match owner {
-        Owner::Root => 0,
-        Owner::Of(Obj(n)) => n,
-    }
-}
 
 fn is_owner(owner: Owner, tree: &Tree) -> bool
     ensures { result ≡ is_owner_in tree.now.rows owner }
@@ -47,7 +36,7 @@ fn check_owner(o: Owner, tree: &Tree) -> Result<(), Refusal>
     ensures { result ≡ checked (owner (pool_of tree.now) o) }
 {
     if !is_owner(o, tree) {
-        return Err(Refusal::NoSuch(owner_number(o)));
+        return Err(Refusal::NoSuch(o.number()));
     }
     Ok(())
 }

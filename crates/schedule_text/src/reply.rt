@@ -4,7 +4,6 @@ ghost use Rattle.tree_specs.specs.Text.{event_text};
 ghost use Rattle.tree_specs.specs.Written.{Writes};
 
 use crate::numbers::write_numbers;
-use text_forms::owner_number;
 use tree_specs::{Memory, Refusal, Reply};
 
 // Appends the line of a refusal: its number, and what it carries.
@@ -15,10 +14,10 @@ fn write_refusal(why: Refusal, out: &mut Vec<u8>) -> Result<(), Memory>
     match why {
         Refusal::NoSuch(n) => write_numbers(b"reply no 1", &[n], b"\n", out),
         Refusal::NotParent { object, owner } => {
-            write_numbers(b"reply no 6", &[object.0, owner_number(owner)], b"\n", out)
+            write_numbers(b"reply no 6", &[object.0, owner.number()], b"\n", out)
         }
         Refusal::Loop { object, owner } => {
-            write_numbers(b"reply no 7", &[object.0, owner_number(owner)], b"\n", out)
+            write_numbers(b"reply no 7", &[object.0, owner.number()], b"\n", out)
         }
         Refusal::Dying(object) => write_numbers(b"reply no 8", &[object.0], b"\n", out),
         Refusal::Full(n) => write_numbers(b"reply no 10", &[n], b"\n", out),

@@ -7,7 +7,6 @@ ghost use Rattle.tree_specs.specs.Soundness.{is_sound_call};
 ghost use Rattle.tree_specs.specs.Text.{call_text};
 ghost use Rattle.tree_specs.specs.Written.{Writes};
 
-use crate::field::owner_number;
 use crate::piece::write_pieces;
 use itoa::Buffer;
 use tree_specs::{Call, Memory, Name, Obj, Owner};
@@ -18,7 +17,7 @@ fn write_new(owner: Owner, size: u64, name: &Name, out: &mut Vec<u8>) -> Result<
 {
     let mut owner_buffer = Buffer::new();
     let mut size_buffer = Buffer::new();
-    let owner = owner_buffer.format(owner_number(owner)).as_bytes();
+    let owner = owner_buffer.format(owner.number()).as_bytes();
     let size = size_buffer.format(size).as_bytes();
     write_pieces(
         &[
@@ -52,7 +51,7 @@ fn write_owner_and_object(
 {
     let mut owner_buffer = Buffer::new();
     let mut buffer = Buffer::new();
-    let owner = owner_buffer.format(owner_number(owner)).as_bytes();
+    let owner = owner_buffer.format(owner.number()).as_bytes();
     let x = buffer.format(x.0).as_bytes();
     write_pieces(&[verb, owner, b" ".as_slice(), x], out)
 }
@@ -64,8 +63,8 @@ fn write_reparent(from: Owner, to: Owner, x: Obj, out: &mut Vec<u8>) -> Result<(
     let mut from_buffer = Buffer::new();
     let mut to_buffer = Buffer::new();
     let mut buffer = Buffer::new();
-    let from = from_buffer.format(owner_number(from)).as_bytes();
-    let to = to_buffer.format(owner_number(to)).as_bytes();
+    let from = from_buffer.format(from.number()).as_bytes();
+    let to = to_buffer.format(to.number()).as_bytes();
     let x = buffer.format(x.0).as_bytes();
     let space = b" ".as_slice();
     write_pieces(&[b"reparent ".as_slice(), from, space, to, space, x], out)

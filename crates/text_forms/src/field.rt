@@ -2,7 +2,6 @@
 
 ghost use Rattle.std.specs.Prelude.{◌≡◌, map};
 ghost use Rattle.tree_specs.specs.Grammar.{number_of, owner_of, object_of};
-ghost use Rattle.tree_specs.specs.Objects as objects;
 ghost use Rattle.text_forms.specs.Reads.{Reads};
 ghost use Rattle.text_forms.specs.Shapes.{only_object_of, owner_and_object_of};
 
@@ -60,15 +59,5 @@ pub(crate) fn owner_and_object(fields: &[&[u8]]) -> Result<(Owner, Obj), FormFau
             Ok((owner, x))
         }
         _ => Err(FormFault::NoForm),
-    }
-}
-
-/// The number that an owner has in texts.
-pub fn owner_number(owner: Owner) -> u64
-    ensures { result ≡ objects.owner_number owner }
-{
-    match owner {
-        Owner::Root => 0,
-        Owner::Of(Obj(n)) => n,
     }
 }

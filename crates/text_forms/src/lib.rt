@@ -15,7 +15,6 @@ mod tests;
 
 pub use call_reader::read_call;
 pub use call_writer::write_call;
-pub use field::owner_number;
 pub use form::FormFault;
 pub use name::read_name;
 pub use number::{read_number, write_number};

@@ -1,3 +1,6 @@
+ghost use Rattle.std.specs.Prelude.{◌≡◌};
+ghost use Rattle.tree_specs.specs.Objects.{owner_number};
+
 /// An object of the tree, named by its serial number, from 1 upwards. No number is used twice.
 #[derive(Clone, Copy, Debug, PartialEq, Eq)]
 pub struct Obj(pub u64);
@@ -9,4 +12,16 @@ pub enum Owner {
     Root,
     /// An object, whose number is at least 1.
     Of(Obj),
+}
+
+impl Owner {
+    /// The number that texts and replies have for it; 0 is the root.
+    pub fn number(self) -> u64
+        ensures { result ≡ owner_number self }
+    {
+        match self {
+            Owner::Root => 0,
+            Owner::Of(Obj(n)) => n,
+        }
+    }
 }
