@@ -5,8 +5,11 @@ use outside::{FineSink, MemSink, MemSource, StdSink, StdSource};
 use std::test::Fail;
 use tree_specs::Reason;
 
-const CHILDREN: &[u8] = b"tv schedule 1 pool\ncall new 0 0 a\ncall new 1 10 b\ncall new 1 20 c\ncall new 1 30 d\ncall free 1\ncall free 1\n";
-const CHILDREN_FREED: &[u8] = b"tv transcript 1\nreply 1\nreply 2\nreply 3\nreply 4\nfreed 4 0\nfreed 3 0\nfreed 2 0\nfreed 1 0\nreply ok\nreply no 1 1\nend quiet\n";
+const CHILDREN: &[u8] =
+    b"tv schedule 1 pool\ncall new 0 0 a\ncall new 1 10 b\ncall new 1 20 c\ncall new 1 30 d\ncall free 1\ncall free 1\n";
+
+const CHILDREN_FREED: &[u8] =
+    b"tv transcript 1\nreply 1\nreply 2\nreply 3\nreply 4\nfreed 4 0\nfreed 3 0\nfreed 2 0\nfreed 1 0\nreply ok\nreply no 1 1\nend quiet\n";
 
 /// A run of the word `replay`: what it answered, wrote and said.
 #[derive(Drop)]
@@ -33,7 +36,11 @@ fn run_with(
     requires { 1 ≤ most }
 {
     let words = word(rt, "replay")?;
-    let mut input = MemSource::new(bytes.to_vec(rt.alloc())?, most, reads_fail.to_vec(rt.alloc())?);
+    let mut input = MemSource::new(
+        bytes.to_vec(rt.alloc())?,
+        most,
+        reads_fail.to_vec(rt.alloc())?,
+    );
     let mut out = MemSink::new(rt.alloc(), most, 0, puts_fail.to_vec(rt.alloc())?)?;
     let mut err = FineSink::new(rt.alloc(), 0)?;
     let status = host_main(rt.alloc(), &words, &mut input, &mut out, &mut err);
@@ -52,7 +59,10 @@ fn run(rt: &HostRuntime, bytes: &[u8]) -> Result<Answer, Fail> {
 fn replays_no_calls(rt: HostRuntime) -> Result<(), Fail> {
     let told = run(&rt, b"tv schedule 1 pool\n")?;
     assert_eq!(rt; told.status, Status::Done);
-    assert_eq!(rt; told.out.as_slice(), b"tv transcript 1\nend quiet\n".as_slice());
+    assert_eq!(rt;
+        told.out.as_slice(),
+        b"tv transcript 1\nend quiet\n".as_slice()
+    );
     assert_eq!(rt; told.err.len(), 0);
     Ok(())
 }
@@ -77,7 +87,13 @@ fn takes_bytes_one_by_one(rt: HostRuntime) -> Result<(), Fail> {
 #[test]
 fn refuses_no_bytes(rt: HostRuntime) -> Result<(), Fail> {
     let told = run(&rt, b"")?;
-    assert_eq!(rt; told.status, Status::BadSchedule { line: 1, reason: Reason::Form });
+    assert_eq!(rt;
+        told.status,
+        Status::BadSchedule {
+            line: 1,
+            reason: Reason::Form
+        }
+    );
     assert_eq!(rt; told.out.len(), 0);
     assert_eq!(rt; told.err.as_slice(), b"line 1: form\n".as_slice());
     Ok(())
@@ -86,8 +102,17 @@ fn refuses_no_bytes(rt: HostRuntime) -> Result<(), Fail> {
 #[test]
 fn refuses_a_line_that_breaks_off(rt: HostRuntime) -> Result<(), Fail> {
     let told = run(&rt, b"tv schedule 1 pool\ncall new 0 0 a\ncall fre")?;
-    assert_eq!(rt; told.status, Status::BadSchedule { line: 3, reason: Reason::Form });
-    assert_eq!(rt; told.out.as_slice(), b"tv transcript 1\nreply 1\nend quiet\n".as_slice());
+    assert_eq!(rt;
+        told.status,
+        Status::BadSchedule {
+            line: 3,
+            reason: Reason::Form
+        }
+    );
+    assert_eq!(rt;
+        told.out.as_slice(),
+        b"tv transcript 1\nreply 1\nend quiet\n".as_slice()
+    );
     assert_eq!(rt; told.err.as_slice(), b"line 3: form\n".as_slice());
     Ok(())
 }
@@ -95,8 +120,17 @@ fn refuses_a_line_that_breaks_off(rt: HostRuntime) -> Result<(), Fail> {
 #[test]
 fn refuses_leading_zeros(rt: HostRuntime) -> Result<(), Fail> {
     let told = run(&rt, b"tv schedule 1 pool\ncall free 01\ncall free 1\n")?;
-    assert_eq!(rt; told.status, Status::BadSchedule { line: 2, reason: Reason::Form });
-    assert_eq!(rt; told.out.as_slice(), b"tv transcript 1\nend quiet\n".as_slice());
+    assert_eq!(rt;
+        told.status,
+        Status::BadSchedule {
+            line: 2,
+            reason: Reason::Form
+        }
+    );
+    assert_eq!(rt;
+        told.out.as_slice(),
+        b"tv transcript 1\nend quiet\n".as_slice()
+    );
     assert_eq!(rt; told.err.as_slice(), b"line 2: form\n".as_slice());
     Ok(())
 }
@@ -106,8 +140,17 @@ fn refuses_a_line_past_the_limit(rt: HostRuntime) -> Result<(), Fail> {
     let mut bytes = b"tv schedule 1 pool\n".as_slice().to_vec(rt.alloc())?;
     bytes.resize(19 + 262_145, b'x')?;
     let told = run(&rt, &bytes)?;
-    assert_eq!(rt; told.status, Status::BadSchedule { line: 2, reason: Reason::Limit });
-    assert_eq!(rt; told.out.as_slice(), b"tv transcript 1\nend quiet\n".as_slice());
+    assert_eq!(rt;
+        told.status,
+        Status::BadSchedule {
+            line: 2,
+            reason: Reason::Limit
+        }
+    );
+    assert_eq!(rt;
+        told.out.as_slice(),
+        b"tv transcript 1\nend quiet\n".as_slice()
+    );
     assert_eq!(rt; told.err.as_slice(), b"line 2: limit\n".as_slice());
     Ok(())
 }
@@ -125,7 +168,10 @@ fn a_source_that_fails_at_once_is_a_read_fault(rt: HostRuntime) -> Result<(), Fa
 fn a_later_read_fault_leaves_what_whole_lines_tell(rt: HostRuntime) -> Result<(), Fail> {
     let told = run_with(&rt, CHILDREN, 20, &[3], &[])?;
     assert_eq!(rt; told.status, Status::ReadFault);
-    assert_eq!(rt; told.out.as_slice(), b"tv transcript 1\nreply 1\n".as_slice());
+    assert_eq!(rt;
+        told.out.as_slice(),
+        b"tv transcript 1\nreply 1\n".as_slice()
+    );
     assert_eq!(rt; told.err.as_slice(), b"read fault\n".as_slice());
     Ok(())
 }
@@ -159,7 +205,13 @@ fn a_fault_of_what_is_said_changes_no_status(rt: HostRuntime) -> Result<(), Fail
     let mut out = FineSink::new(rt.alloc(), 0)?;
     let mut err = MemSink::new(rt.alloc(), 4, 0, [2u64].to_vec(rt.alloc())?)?;
     let status = host_main(rt.alloc(), &words, &mut input, &mut out, &mut err);
-    assert_eq!(rt; status, Status::BadSchedule { line: 1, reason: Reason::Form });
+    assert_eq!(rt;
+        status,
+        Status::BadSchedule {
+            line: 1,
+            reason: Reason::Form
+        }
+    );
     assert_eq!(rt; err.held(), b"line".as_slice());
     Ok(())
 }

@@ -1,22 +1,19 @@
 -- Replaying byte by byte.
-use Rattle.std.proofs.Common.{◌≡◌, ◌≢◌, ℕ, ◌+◌, ◌^◌, ◌-◌, ◌<◌, ◌≤◌, Bool, true, false, cond, eqb, ltb, not, ◌||◌, List, [], ◌∷◌, ◌++◌, length, take, drop, get_or, Option, Some, None, Result, Ok, Err, refl, sym, ap, subst, ◌∙◌, append_assoc, arith, length-append, ◌⊎◌, inl, inr}
-use Rattle.std.specs.Option.{option_map}
+use Rattle.std.proofs.Common.{◌≡◌, ◌≢◌, ℕ, ◌+◌, ◌^◌, ◌-◌, ◌<◌, ◌≤◌, Bool, true, false, eqb, ltb, ◌||◌, List, [], ◌∷◌, ◌++◌, length, take, drop, get_or, Option, Some, None, Result, Ok, Err, refl, sym, ap, subst, ◌∙◌, append_assoc, arith, length-append, ◌⊎◌, inl, inr}
 use Rattle.std.proofs.lemmas.List.{append-nil, take-append-drop, take_more}
 use Rattle.std.proofs.lemmas.Bool.{eqb-true}
 use Rattle.std.proofs.lemmas.Bool.Decides.{nat_tests}
-use Rattle.tree_specs.specs.declared.question.Ask.{Ask}
 use Rattle.tree_specs.specs.declared.schedule.Reason.{Reason}
 use Rattle.tree_specs.specs.declared.schedule.Reason.TheVariants.{Limit, Form}
-use Rattle.tree_specs.specs.Written.{WritesFront, IsFront}
-use Rattle.tree_specs.specs.Text.{end_text}
+use Rattle.tree_specs.specs.Written.{WritesFront}
 use Rattle.tree_specs.specs.Schedule.{Line, lines, lines_of_parts, is_over_limit, line_limit, lines_limit}
 use Rattle.tree_specs.specs.View.{View}
 use Rattle.host_core.specs.Promises.{Waits}
 use Rattle.schedule_replay.specs.declared.refusal.LineError.{LineError}
 use Rattle.schedule_replay.specs.declared.refusal.LineError.TheVariants as errors
-use Rattle.schedule_replay.specs.Replays.{Replayed, with_front, replayed_lines, replayed_all, replayed_from, refused_at_once, ended_line, BeginsText, is_plain, has_no_lf}
-use Rattle.schedule_replay.specs.Readings.{Reading, from_line, with_more, refused_text, RefusesHere, LineDone, TakesLine, Advances, Refuses, BreaksOff, Takes, Ends, EndsFront, Finishes, IsReady}
-use Rattle.schedule_replay.proofs.TextLaws.{behind, behind-behind, behind-nil, begins_nil, begins_behind}
+use Rattle.schedule_replay.specs.Replays.{Replayed, with_front, replayed_from, ended_line, BeginsText, is_plain, has_no_lf}
+use Rattle.schedule_replay.specs.Readings.{Reading, from_line, with_more, refused_text, RefusesHere, LineDone, TakesLine, Advances, Takes, EndsFront, Finishes, IsReady}
+use Rattle.schedule_replay.proofs.TextLaws.{behind-behind, behind-nil, begins_behind}
 use Rattle.schedule_replay.proofs.LineLaws.{lines_ended, lines_from, lines_last, lines_some, plain_push}
 use Rattle.schedule_replay.proofs.ReplayLaws.{refuses, ends, cut-input, limit-input, from-first, from-later, header-refused, header-form, no-lines, no-header}
 use Rattle.schedule_replay.proofs.StateLaws.{refused-first, refused-later}

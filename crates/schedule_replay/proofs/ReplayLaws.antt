@@ -1,24 +1,21 @@
 -- Replaying line by line.
-use Rattle.std.proofs.Common.{◌≡◌, ◌≢◌, ℕ, ◌+◌, ◌^◌, ◌<◌, ◌≤◌, ◌-◌, Bool, true, false, cond, eqb, ltb, ◌&&◌, ◌||◌, List, [], ◌∷◌, ◌++◌, map, length, Option, Some, None, Result, Ok, Err, refl, sym, ap, subst, ◌∙◌, append_assoc, arith}
-use Rattle.std.specs.Option.{option_map}
+use Rattle.std.proofs.Common.{◌≡◌, ◌≢◌, ℕ, ◌+◌, ◌^◌, ◌<◌, ◌≤◌, ◌-◌, Bool, true, false, eqb, ltb, ◌&&◌, List, [], ◌∷◌, ◌++◌, map, length, Option, Some, None, Ok, Err, refl, sym, ap, ◌∙◌, arith}
 use Rattle.std.specs.Str.{bytes_eq}
-use Rattle.std.proofs.lemmas.List.{append-nil}
-use Rattle.std.proofs.lemmas.Bool.{eqb-true}
 use Rattle.std.proofs.lemmas.Bool.Decides.{nat_tests}
 use Rattle.std.proofs.lemmas.Slice.Eq.{bytes_eq-Decides}
 use Rattle.tree_specs.specs.declared.event.Event.{Event}
 use Rattle.tree_specs.specs.declared.question.Ask.{Ask}
 use Rattle.tree_specs.specs.declared.question.Input.{Input}
 use Rattle.tree_specs.specs.declared.schedule.Reason.{Reason}
-use Rattle.tree_specs.specs.declared.schedule.Reason.TheVariants.{Limit, Form, NotAsked}
+use Rattle.tree_specs.specs.declared.schedule.Reason.TheVariants.{Limit, Form}
 use Rattle.tree_specs.specs.Items.{Item}
 use Rattle.tree_specs.specs.Items.Item.{Told, Asked}
 use Rattle.tree_specs.specs.Grammar.{input_of}
 use Rattle.tree_specs.specs.Text.{answered_text, end_text, item_text, body_text, header}
-use Rattle.tree_specs.specs.Schedule.{Line, Judged, line_input, judged_one, judged_from, open_question, is_over_limit, is_header, header_reason, schedule_header, line_limit, lines_limit, fitting, misfit, ok_unless}
-use Rattle.tree_specs.specs.View.{View, rest_of, question_of}
+use Rattle.tree_specs.specs.Schedule.{Line, Judged, line_input, judged_one, judged_from, open_question, is_over_limit, is_header, header_reason, schedule_header, fitting, misfit, ok_unless}
+use Rattle.tree_specs.specs.View.{View, rest_of}
 use Rattle.host_core.specs.Promises.{Waits, TakesAnswer}
-use Rattle.schedule_replay.specs.Replays.{Replayed, with_front, of_judged, replayed_lines, replayed_all, replayed_from, refused_at_once, ended_line, BeginsText}
+use Rattle.schedule_replay.specs.Replays.{with_front, replayed_lines, replayed_all, replayed_from, refused_at_once, ended_line, BeginsText}
 use Rattle.schedule_replay.specs.Tellings.{event_texts}
 use Rattle.schedule_replay.proofs.TextLaws.{behind, behind-behind, begins_behind, question-skip, text-skip, last-question, last-text, asked-text, question-after, text-after}
 

@@ -1,24 +1,22 @@
 -- Replaying what a source gives, piece by piece.
-use Rattle.std.proofs.Common.{◌≡◌, ◌≢◌, ℕ, ◌+◌, Bool, true, false, eqb, List, [], ◌∷◌, ◌++◌, take, drop, length, Option, Some, None, Result, Ok, Err, refl, sym, ap, subst, ◌∙◌, append_assoc, arith}
+use Rattle.std.proofs.Common.{◌≡◌, ◌≢◌, ℕ, Bool, true, false, eqb, List, [], ◌∷◌, ◌++◌, take, drop, Option, Some, None, Result, Ok, Err, refl, sym, ap, subst, ◌∙◌, append_assoc, arith}
 use Rattle.std.specs.Prelude.{IfSome}
 use Rattle.std.specs.Io.KnownBytes.{Appends, Consumes, IsAtEnd, Keeps}
-use Rattle.std.proofs.KnownBytes.{Consumes-nil, Appends-nil, Appends-trans, Consumes-trans, Consumes-kept, Appends-kept}
+use Rattle.std.proofs.KnownBytes.{Consumes-nil, Appends-nil, Appends-trans, Consumes-trans, Consumes-kept}
 use Rattle.std.proofs.lemmas.List.{append-nil, take-append-drop}
 use Rattle.std.proofs.lemmas.Bool.{eqb-true}
 use Rattle.std.proofs.lemmas.Bool.Decides.{nat_tests}
-use Rattle.tree_specs.specs.declared.schedule.Reason.{Reason}
 use Rattle.tree_specs.specs.declared.schedule.Reason.TheVariants.{Form}
 use Rattle.tree_specs.specs.Text.{end_text}
-use Rattle.tree_specs.specs.Schedule.{Line, lines}
 use Rattle.schedule_replay.specs.declared.refusal.LineError.{LineError}
 use Rattle.schedule_replay.specs.declared.refusal.LineError.TheVariants as line_errors
 use Rattle.outside.specs.declared.output.PutError.{PutError}
 use Rattle.outside.specs.declared.output.PutError.TheVariants as put_errors
 use Rattle.schedule_replay.specs.declared.ran.ReplayError.{ReplayError}
 use Rattle.schedule_replay.specs.declared.ran.ReplayError.TheVariants as errors
-use Rattle.schedule_replay.specs.Replays.{Replayed, with_front, replayed, replayed_from, replayed_all, replayed_lines, refused_at_once, BeginsText, has_no_lf}
-use Rattle.outside.specs.Outputs.{PutsFront, PutsAll}
-use Rattle.schedule_replay.specs.Readings.{Reading, from_line, with_more, Advances, Refuses, BreaksOff, Takes, Ends, EndsFront, Finishes, IsReady, fresh}
+use Rattle.schedule_replay.specs.Replays.{Replayed, with_front, replayed, replayed_from, refused_at_once, BeginsText}
+use Rattle.outside.specs.Outputs.{PutsFront}
+use Rattle.schedule_replay.specs.Readings.{Reading, from_line, with_more, Advances, BreaksOff, Takes, EndsFront, Finishes, IsReady, fresh}
 use Rattle.schedule_replay.specs.Passes.{replay_error_of_line, replay_error_of_put, with_text, TakesPiece, PassesPiece, TakesEnd, PassesEnd}
 use Rattle.schedule_replay.specs.Runs.{Replays, ran_of, IsFrontOf, IsCutShort, IsCutTranscript}
 use Rattle.schedule_replay.proofs.TextLaws.{behind, begins_behind, begins_front, begins_nil}
@@ -160,7 +158,7 @@ so-far-error (Some bytes) l1 l2 h0 h1 h2 t u piece e empty s c p = by_rest l2 (C
     by_rest None c = absurd c
     by_rest (Some rest) c =
         rw c (by-error (Some rest) h0 h2 (with_text (s.text ++ p.written) u) (s.taken ++ piece) rest e
-            (from-fresh t u s.taken s.text piece p.written (Err e) empty s.done p.taken) (Appends-trans h0 h1 h2 s.text p.written s.put p.put))
+        (from-fresh t u s.taken s.text piece p.written (Err e) empty s.done p.taken) (Appends-trans h0 h1 h2 s.text p.written s.put p.put))
 
 -- at the end of the schedule
 by-end : (l2 h0 h2 : Option (List ℕ)) (t : Reading) (taken text x : List ℕ) (r : Result (Unit {0}) ReplayError) → IsAtEnd l2 → t.text ≡ [] → Advances fresh taken (with_text text t) → TakesEnd t (with_text x t) r → Appends h0 h2 (text ++ x)

@@ -1,26 +1,26 @@
 -- What the end of a line does to a replay.
-use Rattle.std.proofs.Common.{◌≡◌, ◌≢◌, ℕ, ◌+◌, ◌^◌, ◌-◌, ◌<◌, ◌≤◌, Bool, true, false, cond, eqb, List, [], ◌∷◌, ◌++◌, map, length, Option, Some, None, Result, Ok, Err, refl, sym, ap, subst, ◌∙◌, append_assoc, arith}
+use Rattle.std.proofs.Common.{◌≡◌, ◌≢◌, ℕ, ◌+◌, ◌^◌, ◌-◌, ◌≤◌, true, false, eqb, List, [], ◌∷◌, ◌++◌, length, Option, Some, None, Result, Ok, Err, refl, sym, ap, subst, ◌∙◌, append_assoc, arith}
 use Rattle.std.proofs.lemmas.List.{append-nil}
 use Rattle.std.proofs.lemmas.Bool.Decides.{nat_tests}
 use Rattle.tree_specs.specs.declared.question.Ask.{Ask}
 use Rattle.tree_specs.specs.declared.question.Input.{Input}
 use Rattle.tree_specs.specs.declared.schedule.Reason.{Reason}
-use Rattle.tree_specs.specs.declared.schedule.Reason.TheVariants.{Limit, Form, NotAsked}
+use Rattle.tree_specs.specs.declared.schedule.Reason.TheVariants.{Form, NotAsked}
 use Rattle.tree_specs.specs.Items.{Item}
-use Rattle.tree_specs.specs.Items.Item.{Told, Asked}
+use Rattle.tree_specs.specs.Items.Item.{Asked}
 use Rattle.tree_specs.specs.Grammar.{input_of}
-use Rattle.tree_specs.specs.Written.{WritesFront, IsFront}
+use Rattle.tree_specs.specs.Written.{IsFront}
 use Rattle.tree_specs.specs.Text.{answered_text, end_text, header}
 use Rattle.tree_specs.specs.Schedule.{Line, line_input, is_header, misfit}
 use Rattle.tree_specs.specs.View.{View, rest_of, question_of}
 use Rattle.host_core.specs.Promises.{Waits, TakesAnswer}
 use Rattle.schedule_replay.specs.declared.refusal.LineError.{LineError}
 use Rattle.schedule_replay.specs.declared.refusal.LineError.TheVariants as errors
-use Rattle.schedule_replay.specs.Replays.{Replayed, with_front, replayed_lines, replayed_all, replayed_from, ended_line, BeginsText, has_no_lf}
+use Rattle.schedule_replay.specs.Replays.{Replayed, with_front, replayed_from, ended_line, BeginsText}
 use Rattle.schedule_replay.specs.Questions.{answered_of}
 use Rattle.schedule_replay.specs.Tellings.{event_texts, TellsAll, TellsFront}
-use Rattle.schedule_replay.specs.Readings.{Reading, end_of, refused_text, RefusesHere, TakesLine, LineDone, LineBroken, IsReady}
-use Rattle.schedule_replay.proofs.TextLaws.{begins_nil, begins_behind, begins_front, text-skip, asked-text}
+use Rattle.schedule_replay.specs.Readings.{Reading, refused_text, RefusesHere, TakesLine, IsReady}
+use Rattle.schedule_replay.proofs.TextLaws.{begins_nil}
 use Rattle.schedule_replay.proofs.ReplayLaws.{Answered, accepts, begins-accepted, refuses, input-fits, input-misfits, no-input, from-first, from-later, header-taken, header-refused, header-form}
 
 -- ---- a refusal

@@ -1,21 +1,19 @@
 -- The text of a story, item by item.
-use Rattle.std.proofs.Common.{◌≡◌, ℕ, suc, ◌+◌, ◌<◌, List, [], ◌∷◌, ◌++◌, map, length, Option, Some, None, Result, Ok, Err, refl, sym, ap, subst, ◌∙◌, append_assoc, arith}
+use Rattle.std.proofs.Common.{◌≡◌, ℕ, List, [], ◌∷◌, ◌++◌, map, Option, Some, None, refl, sym, ap, subst, ◌∙◌, append_assoc}
 use Rattle.std.specs.Option.{option_map}
-use Rattle.std.specs.List.{flat_map}
 use Rattle.std.proofs.lemmas.List.{append-nil}
 use Rattle.tree_specs.specs.declared.event.Event.{Event}
-use Rattle.tree_specs.specs.declared.memory.Memory.{Memory}
 use Rattle.tree_specs.specs.declared.question.Ask.{Ask}
 use Rattle.tree_specs.specs.declared.question.Input.{Input}
 use Rattle.tree_specs.specs.Items.{Item}
 use Rattle.tree_specs.specs.Items.Item.{Told, Asked}
-use Rattle.tree_specs.specs.Written.{Writes, WritesFront, IsFront}
+use Rattle.tree_specs.specs.Written.{WritesFront, IsFront}
 use Rattle.tree_specs.specs.Text.{event_text, answered_text, item_text, end_text, body_text}
 use Rattle.tree_specs.specs.Schedule.{open_question}
 use Rattle.tree_specs.specs.View.{View, rest_of}
 use Rattle.host_core.specs.Promises.{Waits}
 use Rattle.schedule_replay.specs.Replays.{BeginsText}
-use Rattle.schedule_replay.specs.Tellings.{event_texts, TellsAll, TellsFront, Tells}
+use Rattle.schedule_replay.specs.Tellings.{event_texts, TellsAll, TellsFront}
 
 -- ---- a text behind a text
 
@@ -137,7 +135,7 @@ begins-event : (front : List ℕ) (e : Event) (rest : List Item) → IsFront fro
 begins-event front e [] f = no-text front e
 begins-event front e (j ∷ rest) f =
     subst (λ (o : Option (List ℕ)). BeginsText front o) (sym (text-skip (Told e) j rest ∙ ap (λ (t : List ℕ). behind t (body_text (j ∷ rest))) (told-text e)))
-        (begins_front front (event_text e) (body_text (j ∷ rest)) f)
+    (begins_front front (event_text e) (body_text (j ∷ rest)) f)
 
 begins-after : (events : List Event) (front : List ℕ) (e : Event) (rest : List Item) → IsFront front (event_text e)
     → BeginsText (event_texts events ++ front) (body_text (map Told events ++ Told e ∷ rest))
@@ -146,7 +144,7 @@ begins-after (x ∷ events) front e rest f =
     let g = goes-on events (Told e) rest in
     let t : body_text (Told x ∷ (map Told events ++ Told e ∷ rest)) ≡ behind (event_text x) (body_text (map Told events ++ Told e ∷ rest)) = text-told x (map Told events ++ Told e ∷ rest) g.0 g.1 g.2 in
     rw (t, append_assoc (event_text x) (event_texts events) front)
-        (begins_behind (event_text x) (event_texts events ++ front) (body_text (map Told events ++ Told e ∷ rest)) (begins-after events front e rest f))
+    (begins_behind (event_text x) (event_texts events ++ front) (body_text (map Told events ++ Told e ∷ rest)) (begins-after events front e rest f))
 
 pub told-front : (old now next : View) (before text after : List ℕ) (e : Event) → ToldSoFar old before now text → ((is : List Input) → rest_of now is ≡ Told e ∷ rest_of next is) → WritesFront text after (event_text e)
     → TellsFront old before after

@@ -1,16 +1,15 @@
 -- A whole replay, in the words of schedules and transcripts.
 use Rattle.std.proofs.Common.{◌≡◌, ℕ, Bool, true, false, cond, List, [], ◌∷◌, ◌++◌, Option, Some, None, refl, sym, ap, subst, ◌∙◌, arith}
-use Rattle.std.specs.Io.KnownBytes.{Appends, Consumes, IsAtEnd, Keeps}
+use Rattle.std.specs.Io.KnownBytes.{Appends, IsAtEnd}
 use Rattle.step_machine.specs.Open.{LastIs}
 use Rattle.tree_specs.specs.declared.schedule.Reason.{Reason}
-use Rattle.tree_specs.specs.declared.schedule.Reason.TheVariants.{Form}
 use Rattle.tree_specs.specs.declared.question.Ask.{Ask}
 use Rattle.tree_specs.specs.declared.question.Input.{Input}
 use Rattle.tree_specs.specs.Items.{Item, IsQuestion}
 use Rattle.tree_specs.specs.Items.Item.{Told, Asked}
 use Rattle.tree_specs.specs.Story.{story, items}
 use Rattle.tree_specs.specs.Text.{transcript, header, item_text, body_text, end_text}
-use Rattle.tree_specs.specs.Schedule.{Line, Judged, lines, judged_lines, judged_from, judge, inputs_of, transcript_of, open_question, is_header, has_header, header_reason}
+use Rattle.tree_specs.specs.Schedule.{Line, lines, judged_lines, judged_from, judge, inputs_of, transcript_of, open_question, is_header, has_header, header_reason}
 use Rattle.tree_specs.specs.View.{begin, rest_of}
 use Rattle.tree_specs.proofs.StoryLaws.{story-items, story-asks}
 use Rattle.schedule_replay.specs.Replays.{Replayed, with_front, replayed, replayed_all, replayed_lines, refused_at_once, BeginsText}

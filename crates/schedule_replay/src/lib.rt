@@ -9,3 +9,6 @@ mod telling;
 
 pub use ran::Ran;
 pub use session::replay;
+
+#[cfg(test)]
+mod tests;

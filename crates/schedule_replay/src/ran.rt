@@ -4,8 +4,8 @@ ghost use Rattle.schedule_replay.specs.declared.ran.ReplayError.TheVariants as e
 ghost use Rattle.schedule_replay.specs.Passes.{replay_error_of_line, replay_error_of_put};
 ghost use Rattle.schedule_replay.specs.Runs.{ran_of};
 
-use outside::PutError;
 use crate::refusal::LineError;
+use outside::PutError;
 use tree_specs::{Memory, Reason};
 
 /// How a replay ended.

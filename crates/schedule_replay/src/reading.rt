@@ -67,7 +67,9 @@ impl Replay {
         ensures written { Writes self.old.text.items self.new.text.items result (refused_text (reading_of self.old)) }
         ensures number { self.new.number ≡ self.old.number }
     {
-        if self.number != 1 && let Some(ask) = self.host.question() {
+        if self.number != 1
+            && let Some(ask) = self.host.question()
+        {
             write_end(ask, &mut self.text)?;
         }
         Ok(())
@@ -198,7 +200,8 @@ impl Replay {
     /// Takes the end of the schedule.
     pub fn finish(&mut self) -> Result<(), LineError>
         requires { IsReady (reading_of self.old) }
-        ensures { Finishes (reading_of self.old) (reading_of self.new) result }
+        ensures finished { Finishes (reading_of self.old) (reading_of self.new) result }
+        ensures number { self.new.number ≡ self.old.number }
     {
         if self.number == 1 || !self.line.is_empty() {
             return self.refuse(Reason::Form);

@@ -28,11 +28,7 @@ fn put_text<K: Sink>(replay: &mut Replay, out: &mut K) -> Result<(), PutError>
 }
 
 /// Takes the next bytes, and writes what comes of them, before an error too.
-fn take_piece<K: Sink>(
-    replay: &mut Replay,
-    piece: &[u8],
-    out: &mut K,
-) -> Result<(), ReplayError>
+fn take_piece<K: Sink>(replay: &mut Replay, piece: &[u8], out: &mut K) -> Result<(), ReplayError>
     requires ready { IsReady (reading_of replay.old) }
     requires empty { replay.old.text.items ≡ [] }
     ensures passed { PassesPiece (reading_of replay.old) piece.now (reading_of replay.new) (K.held out.old) (K.held out.new) result }
@@ -61,11 +57,7 @@ fn take_end<K: Sink>(replay: &mut Replay, out: &mut K) -> Result<(), ReplayError
 }
 
 /// Reads a schedule to its end, and writes its transcript.
-fn run<S: Source, K: Sink>(
-    alloc: Global,
-    input: &mut S,
-    out: &mut K,
-) -> Result<(), ReplayError>
+fn run<S: Source, K: Sink>(alloc: Global, input: &mut S, out: &mut K) -> Result<(), ReplayError>
     ensures replays { IfSome (S.left input.old) (λ bytes. Replays bytes (S.left input.new) (K.held out.old) (K.held out.new) (ran_of result)) }
     ensures reads { Counts (S.faults input.old) (S.faults input.new) (result ≡ Err ReplayError.Read) }
     ensures writes { Counts (K.faults out.old) (K.faults out.new) (result ≡ Err ReplayError.Write) }

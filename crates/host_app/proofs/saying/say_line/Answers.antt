@@ -16,7 +16,7 @@ returns-in_err-put_all-2-clause-bytes g c =
     let p = err_from_is_err_and c.from_residual-in_err-put_all-2.result c.from_residual-in_err-put_all-2.ensures.1 in
     let digits : c.as_bytes.result.now ≡ decimal c.args.line = c.as_bytes.ensures.value ∙ c.format.ensures.text in
     rw p.1 (puts-then _ _ _ (codes "line ") (decimal c.args.line ++ reason_text c.args.reason) (Err c.in_err-put_all-2.field-0.0) c.in_ok-put_all.ensures.bytes
-        (puts-first _ _ (decimal c.args.line) (reason_text c.args.reason) c.in_err-put_all-2.field-0.0 (rw digits at c.in_err-put_all-2.ensures.bytes)))
+    (puts-first _ _ (decimal c.args.line) (reason_text c.args.reason) c.in_err-put_all-2.field-0.0 (rw digits at c.in_err-put_all-2.ensures.bytes)))
 
 pub returns-clause-bytes : goal.returns-clause-bytes
 returns-clause-bytes g c =
@@ -31,4 +31,4 @@ returns-clause-room g c =
     omega (arith, length-append (decimal c.args.line) (reason_text c.args.reason)) in
     subst (λ (n : ℕ). LeavesRoom (g.E.Sink.room c.args.err.now) (g.E.Sink.room c.put_all-3.new.out) c.put_all-3.result n) whole
     (leaves-then _ _ _ 5 (length (decimal c.args.line) + length (reason_text c.args.reason)) c.put_all-3.result c.in_ok-put_all.ensures.room
-        (leaves-then _ _ _ (length (decimal c.args.line)) (length (reason_text c.args.reason)) c.put_all-3.result (rw digits at c.in_ok-put_all-2.ensures.room) (rw c.reason_bytes.ensures at c.put_all-3.ensures.room)))
+    (leaves-then _ _ _ (length (decimal c.args.line)) (length (reason_text c.args.reason)) c.put_all-3.result (rw digits at c.in_ok-put_all-2.ensures.room) (rw c.reason_bytes.ensures at c.put_all-3.ensures.room)))

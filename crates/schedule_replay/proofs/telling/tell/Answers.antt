@@ -1,4 +1,4 @@
-use Rattle.std.proofs.Common.{◌≡◌, length, ap, arith, []}
+use Rattle.std.proofs.Common.{length, ap, arith, []}
 use Rattle.std.proofs.lemmas.Result.{err_from_is_err_and}
 use Rattle.schedule_replay.proofs.TextLaws.{told-more, told-front}
 use Rattle.schedule_replay.proofs.telling.tell.Goals as goal

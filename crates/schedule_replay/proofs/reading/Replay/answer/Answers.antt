@@ -1,4 +1,3 @@
-use Rattle.std.proofs.Common.{◌∙◌}
 use Rattle.std.proofs.lemmas.Result.{err_from_is_err_and}
 use Rattle.schedule_replay.specs.States.{reading_of}
 use Rattle.schedule_replay.proofs.StateLaws.{takes-answer, breaks-answer}
@@ -8,8 +7,8 @@ pub returns-in_err-tell-in-Ok-clause-taken : goal.returns-in_err-tell-in-Ok-clau
 returns-in_err-tell-in-Ok-clause-taken c =
     let p = err_from_is_err_and c.from_residual-in_err-tell-in-Ok.result c.from_residual-in_err-tell-in-Ok.ensures.1 in
     rw (p.1, p.2) (breaks-answer (reading_of c.args.self.now) _ c.args.input c.offer.new.self c.in_ok-asked.asked.items c.extend_from_slice.new.self.items
-        c.requires.ready c.requires.numbered c.requires.later c.requires.spelled c.in_ok-asked.ensures c.in-Ok.ensures.ok
-        (rw c.deref.ensures.value at c.in_ok-extend_from_slice-in-Ok.ensures.items) c.in_err-tell-in-Ok.ensures)
+    c.requires.ready c.requires.numbered c.requires.later c.requires.spelled c.in_ok-asked.ensures c.in-Ok.ensures.ok
+    (rw c.deref.ensures.value at c.in_ok-extend_from_slice-in-Ok.ensures.items) c.in_err-tell-in-Ok.ensures)
 
 pub returns-in-Ok-clause-taken : goal.returns-in-Ok-clause-taken
 returns-in-Ok-clause-taken c =

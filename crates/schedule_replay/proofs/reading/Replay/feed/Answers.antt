@@ -1,4 +1,4 @@
-use Rattle.std.proofs.Common.{◌≡◌, ◌+◌, arith, Ok, Err}
+use Rattle.std.proofs.Common.{◌+◌, arith, Ok, Err}
 use Rattle.std.proofs.lemmas.Result.{err_from_is_err_and}
 use Rattle.schedule_replay.specs.States.{reading_of}
 use Rattle.schedule_replay.proofs.ByteLaws.{advances-none, takes-more, err-whole}
@@ -15,7 +15,7 @@ pub returns-in_err-push-clause-taken : goal.returns-in_err-push-clause-taken
 returns-in_err-push-clause-taken c =
     let p = err_from_is_err_and c.from_residual.result c.from_residual.ensures.1 in
     rw (p.1, p.2) (err-whole (reading_of c.args.self.now) c.args.piece.now (c.loop-byte.byte-index + 1) _ c.in_err-push.field-0.0
-        (takes-more (reading_of c.args.self.now) c.args.piece.now c.loop-byte.byte-index _ _ (Err c.in_err-push.field-0.0) c.loop-byte-test.true c.loop-byte.invariant.advances c.in_err-push.ensures.taken))
+    (takes-more (reading_of c.args.self.now) c.args.piece.now c.loop-byte.byte-index _ _ (Err c.in_err-push.field-0.0) c.loop-byte-test.true c.loop-byte.invariant.advances c.in_err-push.ensures.taken))
 
 pub loop-byte-preserved : goal.loop-byte-preserved
 loop-byte-preserved c = record {

@@ -1,4 +1,4 @@
-use Rattle.std.proofs.Common.{◌≡◌, ◌∙◌, sym, ap, None, List, ℕ}
+use Rattle.std.proofs.Common.{◌≡◌, ◌∙◌, sym, ap, None}
 use Rattle.tree_specs.specs.Grammar.{input_of}
 use Rattle.schedule_replay.specs.States.{reading_of}
 use Rattle.schedule_replay.proofs.StateLaws.{refuses-form}
