@@ -1,6 +1,6 @@
 -- One step of a host, and all that it keeps.
-use Rattle.std.proofs.Common.{◌≡◌, ◌≢◌, ℕ, suc, zero, ◌+◌, ◌*◌, ◌≤◌, ◌<◌, List, [], ◌∷◌, length, Option, Some, None, Bool, true, false, refl, sym, ◌∙◌, ap, subst, arith}
-use Rattle.std.specs.Prelude.{if◌then◌else◌, reverse}
+use Rattle.std.proofs.Common.{◌≡◌, ◌≢◌, ℕ, ◌+◌, ◌≤◌, ◌<◌, List, [], ◌∷◌, length, Option, Some, None, true, false, refl, sym, ◌∙◌, ap, subst, arith}
+use Rattle.std.specs.Prelude.{reverse}
 use Rattle.std.proofs.lemmas.List.{length-reverse}
 use Rattle.step_machine.specs.Machine.{Move, State, silent}
 use Rattle.step_machine.specs.Machine.{Move as Do}
@@ -26,7 +26,7 @@ use Rattle.tree_specs.specs.declared.frame.CallFrame.TheVariants.{Asking, Doing,
 use Rattle.tree_specs.specs.declared.frame.FreeFrame.{FreeFrame}
 use Rattle.tree_specs.specs.declared.frame.FreeFrame.TheVariants.{Beginning, Leaving, Looping, Trying, Ending}
 use Rattle.tree_specs.specs.declared.frame.Answer.{Answer}
-use Rattle.tree_specs.specs.Pool.{Pool, row_of, first_kid, left_row, changed, place, named_row}
+use Rattle.tree_specs.specs.Pool.{Pool, row_of, first_kid, left_row, place, named_row}
 use Rattle.tree_specs.specs.Items.{Item, IsQuestion}
 use Rattle.tree_specs.specs.Items.Item.{Told, Asked}
 use Rattle.tree_specs.specs.Calls.{Check, refusals}
@@ -37,9 +37,8 @@ use Rattle.tree_specs.specs.Schedule.{misfit}
 use Rattle.tree_specs.specs.View.{View, begin, rest_of, question_in, question_of}
 use Rattle.tree_specs.proofs.StoryLaws.{begin-whole}
 use Rattle.tree_specs.specs.Whole.{Whole}
-use Rattle.tree_specs.proofs.Numbered.{by_test}
 use Rattle.tree_specs.proofs.Rows.{total-without, total-placed, total-changed}
-use Rattle.tree_specs.proofs.Checks.{MayBePlaced, passes-placing, passes-reparent, passes-object, taken-doing}
+use Rattle.tree_specs.proofs.Checks.{MayBePlaced, passes-placing, passes-reparent, passes-object}
 use Rattle.tree_specs.proofs.Keeps.{dying-row, claim-here}
 use Rattle.tree_specs.specs.Story.{heard}
 use Rattle.tree_specs.proofs.Falls.{Room, lower}

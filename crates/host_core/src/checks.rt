@@ -68,10 +68,12 @@ fn check_staying(x: Obj, tree: &Tree) -> Result<(), Refusal>
     ensures { result ≡ checked (staying (pool_of tree.now) x) }
 {
     match tree.row(x) {
-        Some(Row {
-            mark: Mark::Dying(_),
-            ..
-        }) => Err(Refusal::Dying(x)),
+        Some(
+            Row {
+                mark: Mark::Dying(_),
+                ..
+            },
+        ) => Err(Refusal::Dying(x)),
         _ => Ok(()),
     }
 }
