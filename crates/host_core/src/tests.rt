@@ -43,6 +43,15 @@ fn free(number: u64) -> Input
     Input::Call(Call::Free { x: Obj(number) })
 }
 
+fn steal(parent: u64, number: u64) -> Input
+    ensures { IsTrue (is_sound result) }
+{
+    Input::Call(Call::Steal {
+        owner: owner(parent),
+        x: Obj(number),
+    })
+}
+
 fn freed(number: u64) -> Event {
     Event::Freed {
         object: Obj(number),
@@ -137,6 +146,57 @@ fn a_long_chain_is_freed_by_one_call(rt: HostRuntime) -> Result<(), Fail> {
     }
     assert_eq!(rt; host.next(), Some(Event::Replied(Reply::Ok)));
     assert_eq!(rt; host.next(), None);
+    Ok(())
+}
+
+#[test]
+fn a_long_chain_of_stolen_objects_is_freed_by_one_call(rt: HostRuntime) -> Result<(), Fail> {
+    let mut host = Host::new(rt.alloc(), 1)?;
+    for before in 0..2_000u64 {
+        let reply = Event::Replied(Reply::Number(before.saturating_add(1)));
+        tells(&rt, &mut host, new(&rt, rt.alloc(), 0, 0), &[reply]);
+    }
+    // From the end, so that each new owner still stands below the root.
+    for before in 0..1_999u64 {
+        let parent = 1_999u64.saturating_sub(before);
+        let call = steal(parent, parent.saturating_add(1));
+        tells(&rt, &mut host, call, &[Event::Replied(Reply::Ok)]);
+    }
+    assert!(rt; host.is_inside(Obj(2_000), Obj(1)), "the chain is whole");
+    assert_eq!(rt; host.offer(free(1)), Ok(()));
+    for before in 0..2_000u64 {
+        assert_eq!(rt; host.next(), Some(freed(2_000u64.saturating_sub(before))));
+    }
+    assert_eq!(rt; host.next(), Some(Event::Replied(Reply::Ok)));
+    assert_eq!(rt; host.live(), 0);
+    Ok(())
+}
+
+#[test]
+fn objects_are_looked_up(rt: HostRuntime) -> Result<(), Fail> {
+    let mut host = Host::new(rt.alloc(), 1)?;
+    for (parent, number) in [(0, 1), (1, 2), (0, 3)] {
+        let reply = Event::Replied(Reply::Number(number));
+        tells(&rt, &mut host, new(&rt, rt.alloc(), parent, 10), &[reply]);
+    }
+    assert_eq!(rt; host.live(), 3);
+    assert!(rt; host.is_live(Obj(3)), "it lives");
+    assert!(rt; !host.is_live(Obj(0)), "the root is no object");
+    assert!(rt; !host.is_live(Obj(4)), "no such object");
+    assert!(rt;
+        host.is_inside(Obj(2), Obj(2)),
+        "an object is inside itself"
+    );
+    assert!(rt;
+        host.is_inside(Obj(2), Obj(1)),
+        "a child is inside its owner"
+    );
+    assert!(rt;
+        !host.is_inside(Obj(1), Obj(2)),
+        "an owner is not inside its child"
+    );
+    assert!(rt; !host.is_inside(Obj(3), Obj(1)), "a stranger is not inside");
+    assert!(rt; !host.is_inside(Obj(1), Obj(0)), "the root is no object");
     Ok(())
 }
 
