@@ -1,4 +1,6 @@
 use super::*;
+use std::alloc::Global;
+use std::process::Abort;
 use std::test::Fail;
 use text_forms::{FormFault, read_name};
 use tree_specs::{Ask, Call, Event, Input, Obj, Owner, Refusal, Reply};
@@ -76,70 +78,74 @@ fn writes_after_what_is_there(rt: HostRuntime) -> Result<(), Fail> {
     Ok(())
 }
 
+fn writes(rt: &impl Abort, alloc: Global, cases: &[(Event, &[u8])]) -> Result<(), Fail> {
+    for (event, want) in cases {
+        let mut out = Vec::new(alloc);
+        write_event(event, &mut out)?;
+        assert_eq!(rt; out.as_slice(), *want, "at {event:?}");
+    }
+    Ok(())
+}
+
+fn refused(why: Refusal) -> Event {
+    Event::Replied(Reply::No(why))
+}
+
 #[test]
 fn writes_events(rt: HostRuntime) -> Result<(), Fail> {
     let largest = 18_446_744_073_709_551_615;
-    let cases = [
-        (Event::Replied(Reply::Ok), b"reply ok\n".as_slice()),
-        (
-            Event::Replied(Reply::Number(largest)),
-            b"reply 18446744073709551615\n".as_slice(),
-        ),
-        (
-            Event::Replied(Reply::No(Refusal::NoSuch(7))),
-            b"reply no 1 7\n".as_slice(),
-        ),
-        (
-            Event::Replied(Reply::No(Refusal::NotParent {
-                object: Obj(3),
-                owner: Owner::Of(Obj(2)),
-            })),
-            b"reply no 6 3 2\n".as_slice(),
-        ),
-        (
-            Event::Replied(Reply::No(Refusal::Loop {
-                object: Obj(3),
-                owner: Owner::Of(Obj(5)),
-            })),
-            b"reply no 7 3 5\n".as_slice(),
-        ),
-        (
-            Event::Replied(Reply::No(Refusal::NotParent {
-                object: Obj(3),
-                owner: Owner::Root,
-            })),
-            b"reply no 6 3 0\n".as_slice(),
-        ),
-        (
-            Event::Replied(Reply::No(Refusal::Dying(Obj(3)))),
-            b"reply no 8 3\n".as_slice(),
-        ),
-        (
-            Event::Replied(Reply::No(Refusal::Full(1_048_576))),
-            b"reply no 10 1048576\n".as_slice(),
-        ),
-        (
-            Event::Replied(Reply::No(Refusal::Spent)),
-            b"reply no 11\n".as_slice(),
-        ),
-        (
-            Event::Replied(Reply::No(Refusal::TooBig(268_435_456))),
-            b"reply no 14 268435456\n".as_slice(),
-        ),
-        (
-            Event::Freed {
-                object: Obj(3),
-                hook: 4_294_967_295,
-            },
-            b"freed 3 4294967295\n".as_slice(),
-        ),
-    ];
-    for (event, want) in cases {
-        let mut out = Vec::new(rt.alloc());
-        write_event(&event, &mut out)?;
-        assert_eq!(rt; out.as_slice(), want, "at {event:?}");
-    }
-    Ok(())
+    let freed = Event::Freed {
+        object: Obj(3),
+        hook: 4_294_967_295,
+    };
+    writes(
+        &rt,
+        rt.alloc(),
+        &[
+            (Event::Replied(Reply::Ok), b"reply ok\n".as_slice()),
+            (
+                Event::Replied(Reply::Number(largest)),
+                b"reply 18446744073709551615\n".as_slice(),
+            ),
+            (freed, b"freed 3 4294967295\n".as_slice()),
+        ],
+    )
+}
+
+#[test]
+fn writes_refusals(rt: HostRuntime) -> Result<(), Fail> {
+    let object = Obj(3);
+    let below = Owner::Of(Obj(2));
+    let not_parent = |owner| refused(Refusal::NotParent { object, owner });
+    writes(
+        &rt,
+        rt.alloc(),
+        &[
+            (refused(Refusal::NoSuch(7)), b"reply no 1 7\n".as_slice()),
+            (not_parent(below), b"reply no 6 3 2\n".as_slice()),
+            (not_parent(Owner::Root), b"reply no 6 3 0\n".as_slice()),
+            (
+                refused(Refusal::Loop {
+                    object,
+                    owner: below,
+                }),
+                b"reply no 7 3 2\n".as_slice(),
+            ),
+            (
+                refused(Refusal::Dying(object)),
+                b"reply no 8 3\n".as_slice(),
+            ),
+            (
+                refused(Refusal::Full(1_048_576)),
+                b"reply no 10 1048576\n".as_slice(),
+            ),
+            (refused(Refusal::Spent), b"reply no 11\n".as_slice()),
+            (
+                refused(Refusal::TooBig(268_435_456)),
+                b"reply no 14 268435456\n".as_slice(),
+            ),
+        ],
+    )
 }
 
 #[test]
