@@ -28,7 +28,8 @@ use Rattle.tree_specs.specs.Items.{Item, IsQuestion}
 use Rattle.tree_specs.specs.Items.Item.{Told, Asked}
 use Rattle.tree_specs.specs.Calls.{Check, refusals}
 use Rattle.tree_specs.specs.Table.{table, step, taken, doing, lifted, free_step, call_step}
-use Rattle.tree_specs.specs.Measure.{total, cost, pending}
+use Rattle.tree_specs.specs.Inside.{total}
+use Rattle.tree_specs.specs.Measure.{cost, pending}
 use Rattle.tree_specs.specs.Schedule.{misfit}
 use Rattle.tree_specs.specs.View.{View, begin, rest_of, question_in, question_of}
 use Rattle.tree_specs.proofs.StoryLaws.{begin-whole}

@@ -21,7 +21,8 @@ use Rattle.tree_specs.specs.Items.{Item}
 use Rattle.tree_specs.specs.Calls.{Check, refusals}
 use Rattle.tree_specs.specs.Table.{table, step, resume, lifted, begin_by, begin_step, loop_step, call_step, effect_step}
 use Rattle.tree_specs.specs.Sound.{IsWaiting, AllWait, IsLive, Sound, claims, InLoop}
-use Rattle.tree_specs.specs.Measure.{total, pending}
+use Rattle.tree_specs.specs.Inside.{total}
+use Rattle.tree_specs.specs.Measure.{pending}
 use Rattle.tree_specs.proofs.Rows.{total-without, total-placed, total-changed}
 use Rattle.tree_specs.proofs.Checks.{MayBePlaced, passes-placing, passes-reparent, passes-object}
 use Rattle.tree_specs.proofs.Keeps.{dying-row, claim-here}

@@ -8,7 +8,7 @@ use Rattle.tree_specs.specs.declared.frame.Frame.TheVariants as frame
 use Rattle.tree_specs.specs.declared.frame.CallFrame.TheVariants.{Asking, Doing, Awaiting, Telling}
 use Rattle.tree_specs.specs.declared.frame.FreeFrame.TheVariants.{Beginning, Leaving, Looping, Trying, Ending}
 use Rattle.tree_specs.specs.Pool.{Pool}
-use Rattle.tree_specs.specs.Measure.{total}
+use Rattle.tree_specs.specs.Inside.{total}
 
 -- a row whose freeing has still to come wants one place for its loop
 abbrev pub mark_places : Mark → ℕ

@@ -27,7 +27,8 @@ use Rattle.tree_specs.specs.Table.{table, step, lifted, begin_step, loop_step, c
 use Rattle.tree_specs.specs.Sound.{InLoop, claims, AllWait, IsLive, Tries, Sound}
 use Rattle.tree_specs.proofs.Numbered.{by_test}
 use Rattle.tree_specs.proofs.Checks.{taken-doing, MayBePlaced, passes-placing, passes-reparent, passes-object}
-use Rattle.tree_specs.specs.Measure.{total, count, mark_weight, weight, unit, top_cost, cost, pending}
+use Rattle.tree_specs.specs.Inside.{total}
+use Rattle.tree_specs.specs.Measure.{count, mark_weight, weight, unit, top_cost, cost, pending}
 use Rattle.tree_specs.proofs.Rows.{total-without, total-placed, total-changed, total-length, count-length}
 use Rattle.tree_specs.proofs.Keeps.{sound-kept, dying-row, claim-here, owned-row}
 use Rattle.step_machine.proofs.Ends.{Falls}

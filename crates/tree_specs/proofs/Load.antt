@@ -29,7 +29,8 @@ use Rattle.std.proofs.Math.Nat.{mul-le-mul_left}
 use Rattle.tree_specs.specs.Story.{owner_reply, turns}
 use Rattle.tree_specs.specs.View.{View}
 use Rattle.tree_specs.specs.Whole.{IsCaller, Based, size, sizes, mark_burden, burden, Light, Whole}
-use Rattle.tree_specs.specs.Measure.{total, mark_weight, weight, waiting_cost, below_cost, loop_kids, top_cost, cost, pending}
+use Rattle.tree_specs.specs.Inside.{total}
+use Rattle.tree_specs.specs.Measure.{mark_weight, weight, waiting_cost, below_cost, loop_kids, top_cost, cost, pending}
 use Rattle.tree_specs.proofs.Rows.{total-without, total-placed, total-changed, count-length}
 use Rattle.tree_specs.proofs.Keeps.{dying-row, claim-here}
 

@@ -6,7 +6,8 @@ use Rattle.tree_specs.specs.declared.row.Row.{Row}
 use Rattle.tree_specs.specs.Objects.{same}
 use Rattle.tree_specs.specs.Pool.{Pool, row_of, without, changed, owner_in, owner_of, is_below, first_kid, place}
 use Rattle.tree_specs.specs.Sound.{Distinct}
-use Rattle.tree_specs.specs.Measure.{total, count}
+use Rattle.tree_specs.specs.Inside.{total}
+use Rattle.tree_specs.specs.Measure.{count}
 use Rattle.tree_specs.proofs.Numbered.{by_test, same-true, same-equal, same-false, is_below-some}
 
 pub total-without : (g : Row → ℕ) (rs : List Row) (x : Obj) (r : Row) → row_of rs x ≡ Some r → total g rs ≡ g r + total g (without rs x)

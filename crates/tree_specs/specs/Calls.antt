@@ -4,7 +4,7 @@ use Rattle.tree_specs.specs.declared.object.Obj.{Obj}
 use Rattle.tree_specs.specs.declared.object.Owner.{Owner}
 use Rattle.tree_specs.specs.declared.object.Owner.TheVariants.{Of}
 use Rattle.tree_specs.specs.declared.call.Call.{Call}
-use Rattle.tree_specs.specs.declared.call.Call.TheVariants.{New, Free, Steal, Move, Reparent, Rename, Parent}
+use Rattle.tree_specs.specs.declared.call.Call.TheVariants.{New, Free, Freekids, Steal, Move, Reparent, Rename, Parent, Total, Count, Report}
 use Rattle.tree_specs.specs.declared.reply.Refusal.{Refusal}
 use Rattle.tree_specs.specs.declared.reply.Refusal.TheVariants.{NoSuch, NotParent, Loop, Dying, Full, Spent, TooBig}
 use Rattle.tree_specs.specs.Objects.{owner_number}
@@ -64,8 +64,12 @@ given_by p from to x = if is_below (owner_of p.rows x) from then apart p x to el
 abbrev pub refusals : Pool → Call → Check
 refusals p (New o size name) = small size before owner p o before room p 1
 refusals p (Free x) = object p x
+refusals p (Freekids x) = object p x
 refusals p (Steal o x) = placing p o x
 refusals p (Move o x) = placing p o x
 refusals p (Reparent from to x) = object p x before owner p from before owner p to before staying p x before given_by p from to x
 refusals p (Rename x name) = object p x
 refusals p (Parent x) = object p x before staying p x
+refusals p (Total o) = owner p o
+refusals p (Count o) = owner p o
+refusals p (Report o) = owner p o

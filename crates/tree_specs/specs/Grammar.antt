@@ -7,7 +7,7 @@ use Rattle.std.specs.Str.Parse.{digits_value}
 use Rattle.tree_specs.specs.declared.object.Obj.{Obj}
 use Rattle.tree_specs.specs.declared.object.Owner.{Owner}
 use Rattle.tree_specs.specs.declared.call.Call.{Call}
-use Rattle.tree_specs.specs.declared.call.Call.TheVariants.{New, Free, Steal, Move, Reparent, Rename, Parent}
+use Rattle.tree_specs.specs.declared.call.Call.TheVariants.{New, Free, Freekids, Steal, Move, Reparent, Rename, Parent, Total, Count, Report}
 use Rattle.tree_specs.specs.declared.question.Input.{Input}
 use Rattle.tree_specs.specs.declared.question.Input.TheVariants as inputs
 use Rattle.tree_specs.specs.Names.{is_name}
@@ -48,6 +48,26 @@ name_of text = if is_name text then Some text else None
 abbrev pub words : List ℕ → List (List ℕ)
 words text = slice_split (λ b. b == 32) text
 
+-- ---- fields
+
+-- an object and nothing more
+abbrev pub only_object_of : List (List ℕ) → Option Obj
+only_object_of (x ∷ []) = object_of x
+only_object_of _ = None
+
+-- an owner and nothing more
+abbrev pub only_owner_of : List (List ℕ) → Option Owner
+only_owner_of (p ∷ []) = owner_of p
+only_owner_of _ = None
+
+-- an owner, and then an object
+abbrev pub owner_and_object_of : List (List ℕ) → Option (Owner × Obj)
+owner_and_object_of (p ∷ x ∷ []) = do
+  owner ← owner_of p
+  object ← object_of x
+  Some (owner, object)
+owner_and_object_of _ = None
+
 -- ---- calls, by their fields
 
 unfoldable pub new_of : List (List ℕ) → Option Call
@@ -58,25 +78,17 @@ new_of (p ∷ s ∷ n ∷ []) = do
   Some (New owner size name)
 new_of _ = None
 
-unfoldable pub free_of : List (List ℕ) → Option Call
-free_of (x ∷ []) = do
-  object ← object_of x
-  Some (Free object)
-free_of _ = None
+-- a call that has an object and nothing more
+unfoldable pub of_object : (Obj → Call) → List (List ℕ) → Option Call
+of_object call fields = option_map call (only_object_of fields)
 
--- an owner and an object
-abbrev pub placing_of : (Owner → Obj → Call) → List (List ℕ) → Option Call
-placing_of call (p ∷ x ∷ []) = do
-  owner ← owner_of p
-  object ← object_of x
-  Some (call owner object)
-placing_of call _ = None
+-- a call that has an owner and nothing more
+unfoldable pub of_owner : (Owner → Call) → List (List ℕ) → Option Call
+of_owner call fields = option_map call (only_owner_of fields)
 
-unfoldable pub steal_of : List (List ℕ) → Option Call
-steal_of fields = placing_of Steal fields
-
-unfoldable pub move_of : List (List ℕ) → Option Call
-move_of fields = placing_of Move fields
+-- a call that has an owner, and then an object
+unfoldable pub placing_of : (Owner → Obj → Call) → List (List ℕ) → Option Call
+placing_of call fields = option_map (λ pair. call pair.0 pair.1) (owner_and_object_of fields)
 
 unfoldable pub reparent_of : List (List ℕ) → Option Call
 reparent_of (p ∷ q ∷ x ∷ []) = do
@@ -93,23 +105,21 @@ rename_of (x ∷ n ∷ []) = do
   Some (Rename object name)
 rename_of _ = None
 
-unfoldable pub parent_of : List (List ℕ) → Option Call
-parent_of (x ∷ []) = do
-  object ← object_of x
-  Some (Parent object)
-parent_of _ = None
-
 -- a verb and its fields
 unfoldable pub call_of_words : List (List ℕ) → Option Call
 call_of_words [] = None
 call_of_words (verb ∷ fields) =
     if bytes_eq verb (codes "new") then new_of fields else
-    if bytes_eq verb (codes "free") then free_of fields else
-    if bytes_eq verb (codes "steal") then steal_of fields else
-    if bytes_eq verb (codes "move") then move_of fields else
+    if bytes_eq verb (codes "free") then of_object Free fields else
+    if bytes_eq verb (codes "freekids") then of_object Freekids fields else
+    if bytes_eq verb (codes "steal") then placing_of Steal fields else
+    if bytes_eq verb (codes "move") then placing_of Move fields else
     if bytes_eq verb (codes "reparent") then reparent_of fields else
     if bytes_eq verb (codes "rename") then rename_of fields else
-    if bytes_eq verb (codes "parent") then parent_of fields else None
+    if bytes_eq verb (codes "parent") then of_object Parent fields else
+    if bytes_eq verb (codes "total") then of_owner Total fields else
+    if bytes_eq verb (codes "count") then of_owner Count fields else
+    if bytes_eq verb (codes "report") then of_owner Report fields else None
 
 unfoldable pub call_of : List ℕ → Option Call
 call_of text = call_of_words (words text)

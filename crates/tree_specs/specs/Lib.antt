@@ -1,6 +1,10 @@
 pub mod Names
+pub mod Octets
 pub mod Objects
 pub mod Pool
+pub mod Inside
+pub mod Heirs
+pub mod Reports
 pub mod Items
 pub mod Soundness
 pub mod Calls

@@ -4,17 +4,15 @@ use Rattle.tree_specs.specs.declared.object.Owner.{Owner}
 use Rattle.tree_specs.specs.declared.object.Owner.TheVariants.{Of}
 use Rattle.tree_specs.specs.declared.row.Row.{Row}
 use Rattle.tree_specs.specs.declared.row.Mark.{Mark}
-use Rattle.tree_specs.specs.declared.row.Mark.TheVariants.{Quiet, Dying}
+use Rattle.tree_specs.specs.declared.row.Mark.TheVariants.{Quiet, Asked, Busy, Doomed, Dying}
 use Rattle.tree_specs.specs.declared.frame.Frame.{Frame}
 use Rattle.tree_specs.specs.declared.frame.Frame.TheVariants as frame
 use Rattle.tree_specs.specs.declared.frame.CallFrame.TheVariants.{Asking, Doing, Awaiting, Telling}
-use Rattle.tree_specs.specs.declared.frame.FreeFrame.TheVariants.{Beginning, Leaving, Looping, Trying, Ending}
+use Rattle.tree_specs.specs.declared.frame.FreeFrame.TheVariants.{Beginning, Leaving, Looping, Trying, Tried, Ending}
+use Rattle.tree_specs.specs.declared.frame.Answer.{Answer}
+use Rattle.tree_specs.specs.declared.frame.Answer.TheVariants.{Ok, Running}
 use Rattle.tree_specs.specs.Pool.{Pool, is_below}
-
--- a weight over all rows
-abbrev pub total : (Row → ℕ) → List Row → ℕ
-total g [] = 0
-total g (r ∷ rs) = g r + total g rs
+use Rattle.tree_specs.specs.Inside.{total}
 
 -- how many children
 abbrev pub count : List Row → Owner → ℕ
@@ -23,6 +21,9 @@ count rs p = total (λ r. if is_below r.owner p then 1 else 0) rs
 -- A row pays once when it leaves its owner, and once when it is removed.
 abbrev pub mark_weight : Mark → ℕ
 mark_weight Quiet = 2
+mark_weight Asked = 2
+mark_weight Busy = 2
+mark_weight Doomed = 2
 mark_weight (Dying former) = 1
 
 abbrev pub weight : Row → ℕ
@@ -44,10 +45,11 @@ waiting_cost (frame.Call (Awaiting x)) = 1
 waiting_cost (frame.Call Asking) = 0
 waiting_cost (frame.Call (Doing c)) = 0
 waiting_cost (frame.Call (Telling r)) = 0
-waiting_cost (frame.Free (Trying x c)) = 1
+waiting_cost (frame.Free (Trying x c purpose)) = 0
 waiting_cost (frame.Free (Beginning x)) = 0
 waiting_cost (frame.Free (Leaving x)) = 0
-waiting_cost (frame.Free (Looping x)) = 0
+waiting_cost (frame.Free (Looping x purpose)) = 0
+waiting_cost (frame.Free (Tried x c purpose answer)) = 0
 waiting_cost (frame.Free (Ending answer)) = 0
 
 abbrev pub below_cost : List Frame → ℕ
@@ -57,8 +59,13 @@ below_cost (f ∷ fs) = waiting_cost f + below_cost fs
 -- the children that the loop below still has
 abbrev pub loop_kids : List Row → List Frame → ℕ
 loop_kids rows [] = 0
-loop_kids rows (frame.Free (Trying x c) ∷ fs) = 4 * count rows (Of x)
+loop_kids rows (frame.Free (Trying x c purpose) ∷ fs) = 4 * count rows (Of x)
 loop_kids rows (_ ∷ fs) = 0
+
+-- what comes before the next look at the children
+abbrev pub tried_cost : Answer → ℕ
+tried_cost Ok = 8
+tried_cost Running = 4
 
 -- what the innermost work costs until the next question
 abbrev pub top_cost : ℕ → Frame → List Frame → List Row → ℕ
@@ -68,9 +75,10 @@ top_cost R (frame.Call (Awaiting x)) fs rows = 0
 top_cost R (frame.Call (Telling r)) fs rows = 1
 top_cost R (frame.Free (Beginning x)) fs rows = loop_kids rows fs + 5
 top_cost R (frame.Free (Leaving x)) fs rows = 0
-top_cost R (frame.Free (Looping x)) fs rows = 4 * count rows (Of x) + 7
-top_cost R (frame.Free (Trying x c)) fs rows = 0
-top_cost R (frame.Free (Ending answer)) fs rows = 4 * R + 8
+top_cost R (frame.Free (Looping x purpose)) fs rows = 4 * count rows (Of x) + 7
+top_cost R (frame.Free (Trying x c purpose)) fs rows = 0
+top_cost R (frame.Free (Tried x c purpose answer)) fs rows = 4 * count rows (Of x) + tried_cost answer
+top_cost R (frame.Free (Ending answer)) fs rows = 4 * R + 9
 
 -- the measure, for k inputs left
 abbrev pub cost : ℕ → Frame → List Frame → Pool → ℕ → ℕ

@@ -1,11 +1,12 @@
 -- The pool: the rows of the objects, the most recently placed first, and the next serial number.
-use Rattle.std.specs.Prelude.{ℕ, suc, zero, ◌+◌, Bool, true, false, ◌||◌, List, [], ◌∷◌, length, Option, Some, None, is_some, unwrap_or, if◌then◌else◌}
+use Rattle.std.specs.Prelude.{ℕ, suc, zero, ◌+◌, Bool, true, false, ◌||◌, List, [], ◌∷◌, length, map, filter, Option, Some, None, is_some, unwrap_or, if◌then◌else◌}
 use Rattle.tree_specs.specs.declared.object.Obj.{Obj}
 use Rattle.tree_specs.specs.declared.object.Owner.{Owner}
 use Rattle.tree_specs.specs.declared.object.Owner.TheVariants.{Root, Of}
 use Rattle.tree_specs.specs.declared.row.Row.{Row}
 use Rattle.tree_specs.specs.declared.row.Mark.{Mark}
-use Rattle.tree_specs.specs.declared.row.Mark.TheVariants.{Quiet, Dying}
+use Rattle.tree_specs.specs.declared.row.Mark.TheVariants.{Quiet, Asked, Busy, Doomed, Dying}
+use Rattle.tree_specs.specs.declared.kind.Kind.{Kind}
 use Rattle.tree_specs.specs.Objects.{same, same_owner}
 
 pub record Pool : Type 0 where
@@ -40,6 +41,7 @@ abbrev pub kids : List Row → Owner → List Obj
 kids [] p = []
 kids (r ∷ rs) p = if is_below r.owner p then r.serial ∷ kids rs p else kids rs p
 
+-- the first child
 abbrev pub first_kid : List Row → Owner → Option Obj
 first_kid [] p = None
 first_kid (r ∷ rs) p = if is_below r.owner p then Some r.serial else first_kid rs p
@@ -51,9 +53,25 @@ owner_in (Some r) = r.owner
 abbrev pub owner_of : List Row → Obj → Option Owner
 owner_of rs x = owner_in (row_of rs x)
 
+-- the rows behind that of an object
+abbrev pub behind : List Row → Obj → List Row
+behind [] x = []
+behind (r ∷ rs) x = if same r.serial x then rs else behind rs x
+
+abbrev pub kid_behind : List Row → Obj → Option Owner → Option Obj
+kid_behind rs x None = None
+kid_behind rs x (Some p) = first_kid (behind rs x) p
+
+-- the next child of the same owner
+abbrev pub next_kid : List Row → Obj → Option Obj
+next_kid rs x = kid_behind rs x (owner_of rs x)
+
 -- the object is being freed
 abbrev pub is_dying_mark : Mark → Bool
 is_dying_mark Quiet = false
+is_dying_mark Asked = false
+is_dying_mark Busy = false
+is_dying_mark Doomed = false
 is_dying_mark (Dying former) = true
 
 abbrev pub is_dying_row : Option Row → Bool
@@ -90,12 +108,16 @@ abbrev pub changed : (Row → Row) → List Row → Obj → List Row
 changed f [] x = []
 changed f (r ∷ rs) x = if same r.serial x then f r ∷ rs else r ∷ changed f rs x
 
-abbrev pub new_row : Obj → Owner → ℕ → List ℕ → Row
-new_row x owner size name = record { serial = x; owner = Some owner; name = name; size = size; mark = Quiet }
+abbrev pub new_row : Obj → Kind → Owner → ℕ → List ℕ → Row
+new_row x kind owner size name = record { serial = x; owner = Some owner; name = name; size = size; kind = kind; mark = Quiet; hook = 0 }
 
 -- a new object is placed at the front below its owner
-abbrev pub add : Pool → Owner → ℕ → List ℕ → Pool
-add p owner size name = record { rows = new_row (record { 0 = p.next }) owner size name ∷ p.rows; next = p.next + 1 }
+abbrev pub add : Pool → Kind → Owner → ℕ → List ℕ → Pool
+add p kind owner size name = record { rows = new_row (record { 0 = p.next }) kind owner size name ∷ p.rows; next = p.next + 1 }
+
+-- a number is taken, which no object gets
+abbrev pub take_number : Pool → Pool
+take_number p = record p { next = p.next + 1 }
 
 abbrev pub left_row : Row → Row
 left_row r = record r { owner = None; mark = Dying (unwrap_or r.owner Root) }
@@ -121,3 +143,21 @@ named_row name r = record r { name = name }
 
 abbrev pub rename : Pool → Obj → List ℕ → Pool
 rename p x name = record p { rows = changed (named_row name) p.rows x }
+
+abbrev pub marked_row : Mark → Row → Row
+marked_row mark r = record r { mark = mark }
+
+abbrev pub set_mark : Pool → Obj → Mark → Pool
+set_mark p x mark = record p { rows = changed (marked_row mark) p.rows x }
+
+abbrev pub hooked_row : ℕ → Row → Row
+hooked_row hook r = record r { hook = hook }
+
+abbrev pub set_hook : Pool → Obj → ℕ → Pool
+set_hook p x hook = record p { rows = changed (hooked_row hook) p.rows x }
+
+abbrev pub sized_row : ℕ → Row → Row
+sized_row size r = record r { size = size }
+
+abbrev pub set_size : Pool → Obj → ℕ → Pool
+set_size p x size = record p { rows = changed (sized_row size) p.rows x }

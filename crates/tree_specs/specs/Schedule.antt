@@ -3,9 +3,11 @@ use Rattle.std.specs.Prelude.{ℕ, ◌+◌, ◌-◌, ◌^◌, Bool, true, false,
 use Rattle.std.specs.List.{slice_split}
 use Rattle.std.specs.Str.{bytes_eq}
 use Rattle.tree_specs.specs.declared.question.Ask.{Ask}
-use Rattle.tree_specs.specs.declared.question.Ask.TheVariants.{Quiet}
+use Rattle.tree_specs.specs.declared.question.Ask.TheVariants.{Quiet, Routine, Clock, Wait, Accept, Read, Write}
 use Rattle.tree_specs.specs.declared.question.Input.{Input}
 use Rattle.tree_specs.specs.declared.question.Input.TheVariants as inputs
+use Rattle.tree_specs.specs.declared.schedule.Mode.{Mode}
+use Rattle.tree_specs.specs.declared.schedule.Mode.TheVariants.{Pool}
 use Rattle.tree_specs.specs.declared.schedule.Reason.{Reason}
 use Rattle.tree_specs.specs.declared.schedule.Reason.TheVariants.{Limit, Form, NotAsked}
 use Rattle.tree_specs.specs.Items.{Item}
@@ -58,6 +60,12 @@ pub record Judged : Type 0 where
 abbrev pub misfit : Option Ask → Input → Option Reason
 misfit None i = Some NotAsked
 misfit (Some Quiet) (inputs.Call call) = None
+misfit (Some (Routine m)) (inputs.Call call) = Some NotAsked
+misfit (Some Clock) (inputs.Call call) = Some NotAsked
+misfit (Some (Wait limit)) (inputs.Call call) = Some NotAsked
+misfit (Some (Accept descriptor)) (inputs.Call call) = Some NotAsked
+misfit (Some (Read descriptor most)) (inputs.Call call) = Some NotAsked
+misfit (Some (Write descriptor bytes)) (inputs.Call call) = Some NotAsked
 
 abbrev pub ok_unless : Input → Option Reason → Result Input Reason
 ok_unless i None = Ok i
@@ -85,6 +93,10 @@ judged_from open_after n (line ∷ rest) =
 
 abbrev pub schedule_header : List ℕ
 schedule_header = codes "tv schedule 1 pool"
+
+-- what the first line of a schedule says, without its LF
+unfoldable pub mode_of : List ℕ → Option Mode
+mode_of text = if bytes_eq text schedule_header then Some Pool else None
 
 abbrev pub is_header : Line → Bool
 is_header line = line.ended && bytes_eq line.text schedule_header

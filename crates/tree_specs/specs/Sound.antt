@@ -5,18 +5,27 @@ use Rattle.tree_specs.specs.declared.object.Owner.{Owner}
 use Rattle.tree_specs.specs.declared.object.Owner.TheVariants.{Of}
 use Rattle.tree_specs.specs.declared.row.Row.{Row}
 use Rattle.tree_specs.specs.declared.row.Mark.{Mark}
-use Rattle.tree_specs.specs.declared.row.Mark.TheVariants.{Quiet, Dying}
+use Rattle.tree_specs.specs.declared.row.Mark.TheVariants.{Quiet, Asked, Busy, Doomed, Dying}
 use Rattle.tree_specs.specs.declared.frame.Frame.{Frame}
 use Rattle.tree_specs.specs.declared.frame.Frame.TheVariants as frame
 use Rattle.tree_specs.specs.declared.frame.CallFrame.TheVariants.{Asking, Doing, Awaiting, Telling}
-use Rattle.tree_specs.specs.declared.frame.FreeFrame.TheVariants.{Beginning, Leaving, Looping, Trying, Ending}
+use Rattle.tree_specs.specs.declared.frame.FreeFrame.TheVariants.{Beginning, Leaving, Looping, Trying, Tried, Ending}
+use Rattle.tree_specs.specs.declared.frame.Purpose.{Purpose}
+use Rattle.tree_specs.specs.declared.frame.Purpose.TheVariants.{Removal, Emptying}
+use Rattle.tree_specs.specs.declared.frame.Answer.TheVariants.{Ok}
 use Rattle.tree_specs.specs.Objects.{same}
 use Rattle.tree_specs.specs.Pool.{Pool, row_of, owner_of}
 
 -- an owner or a former owner is another object; a dying row has no owner, and every other one has
+abbrev pub Owned : Option Owner → Obj → Type 0
+Owned (Some o) x = o ≢ Of x
+Owned None x = ⊥
+
 abbrev pub Shaped : Mark → Option Owner → Obj → Type 0
-Shaped Quiet (Some o) x = o ≢ Of x
-Shaped Quiet None x = ⊥
+Shaped Quiet owner x = Owned owner x
+Shaped Asked owner x = Owned owner x
+Shaped Busy owner x = Owned owner x
+Shaped Doomed owner x = Owned owner x
 Shaped (Dying former) (Some o) x = ⊥
 Shaped (Dying former) None x = former ≢ Of x
 
@@ -30,13 +39,18 @@ abbrev pub Distinct : List Row → Type 0
 Distinct [] = Unit {0}
 Distinct (r ∷ rs) = (row_of rs r.serial ≡ None) × Distinct rs
 
--- how far the freeing of an object is
+-- what is going on with an object
 pub data Phase : Type 0 where
+  -- its destructor or its handler runs
+  InRun : Phase
   -- its children are being freed
   InLoop : Phase
 
 abbrev pub phase_of : Mark → List Phase
 phase_of Quiet = []
+phase_of Asked = InRun ∷ []
+phase_of Busy = InRun ∷ []
+phase_of Doomed = InRun ∷ []
 phase_of (Dying former) = InLoop ∷ []
 
 abbrev pub phases : Option Row → List Phase
@@ -47,42 +61,62 @@ abbrev pub claim_if : Bool → Phase → List Phase
 claim_if true a = a ∷ []
 claim_if false a = []
 
+-- an object that is only emptied may be in any phase
+abbrev pub loop_claim : Purpose → Bool → List Phase
+loop_claim Removal b = claim_if b InLoop
+loop_claim Emptying b = []
+
 -- what an open work claims of x
 abbrev pub claim : Obj → Frame → List Phase
 claim x (frame.Call f) = []
 claim x (frame.Free (Beginning y)) = []
 claim x (frame.Free (Leaving y)) = []
-claim x (frame.Free (Looping y)) = claim_if (same y x) InLoop
-claim x (frame.Free (Trying y c)) = claim_if (same y x) InLoop
+claim x (frame.Free (Looping y purpose)) = loop_claim purpose (same y x)
+claim x (frame.Free (Trying y c purpose)) = loop_claim purpose (same y x)
+claim x (frame.Free (Tried y c purpose answer)) = loop_claim purpose (same y x)
 claim x (frame.Free (Ending answer)) = []
 
 abbrev pub claims : Obj → List Frame → List Phase
 claims x [] = []
 claims x (f ∷ fs) = claim x f ++ claims x fs
 
+-- the call that waits for it stands right below
+abbrev pub IsCalled : List Frame → Type 0
+IsCalled (frame.Call (Awaiting x) ∷ fs) = Unit {0}
+IsCalled fs = ⊥
+
+-- a loop that only empties an object is a call's own
+abbrev pub Stands : Purpose → List Frame → Type 0
+Stands Removal fs = Unit {0}
+Stands Emptying fs = IsCalled fs
+
 -- the works below the innermost wait for the one above them
-abbrev pub IsWaiting : Frame → Type 0
-IsWaiting (frame.Call (Awaiting x)) = Unit {0}
-IsWaiting (frame.Call Asking) = ⊥
-IsWaiting (frame.Call (Doing c)) = ⊥
-IsWaiting (frame.Call (Telling r)) = ⊥
-IsWaiting (frame.Free (Trying x c)) = Unit {0}
-IsWaiting (frame.Free (Beginning x)) = ⊥
-IsWaiting (frame.Free (Leaving x)) = ⊥
-IsWaiting (frame.Free (Looping x)) = ⊥
-IsWaiting (frame.Free (Ending answer)) = ⊥
+abbrev pub IsWaiting : Frame → List Frame → Type 0
+IsWaiting (frame.Call (Awaiting x)) fs = Unit {0}
+IsWaiting (frame.Call Asking) fs = ⊥
+IsWaiting (frame.Call (Doing c)) fs = ⊥
+IsWaiting (frame.Call (Telling r)) fs = ⊥
+IsWaiting (frame.Free (Trying x c purpose)) fs = Stands purpose fs
+IsWaiting (frame.Free (Beginning x)) fs = ⊥
+IsWaiting (frame.Free (Leaving x)) fs = ⊥
+IsWaiting (frame.Free (Looping x purpose)) fs = ⊥
+IsWaiting (frame.Free (Tried x c purpose answer)) fs = ⊥
+IsWaiting (frame.Free (Ending answer)) fs = ⊥
 
 abbrev pub AllWait : List Frame → Type 0
 AllWait [] = Unit {0}
-AllWait (f ∷ fs) = IsWaiting f × AllWait fs
+AllWait (f ∷ fs) = IsWaiting f fs × AllWait fs
 
 abbrev pub IsLive : Mark → Type 0
 IsLive Quiet = Unit {0}
+IsLive Asked = Unit {0}
+IsLive Busy = Unit {0}
+IsLive Doomed = Unit {0}
 IsLive (Dying former) = ⊥
 
 -- an object whose freeing begins is the child that is tried, where the work below tries one
 abbrev pub Tries : Obj → List Frame → Pool → Type 0
-Tries c (frame.Free (Trying x d) ∷ fs) p = (d ≡ c) × (owner_of p.rows c ≡ Some (Of x))
+Tries c (frame.Free (Trying x d purpose) ∷ fs) p = (d ≡ c) × (owner_of p.rows c ≡ Some (Of x))
 Tries c (frame.Call (Awaiting x) ∷ fs) p = Unit {0}
 Tries c fs p = fs ≡ []
 
@@ -93,10 +127,12 @@ Rests (frame.Call (Doing c)) fs p = Unit {0}
 Rests (frame.Call (Awaiting x)) fs p = ⊥
 Rests (frame.Call (Telling r)) fs p = Unit {0}
 Rests (frame.Free (Beginning x)) fs p = Tries x fs p
-Rests (frame.Free (Leaving x)) fs p = (r : Row) × (row_of p.rows x ≡ Some r) × IsLive r.mark
-Rests (frame.Free (Looping x)) fs p = Unit {0}
-Rests (frame.Free (Trying x c)) fs p = ⊥
-Rests (frame.Free (Ending answer)) fs p = Unit {0}
+Rests (frame.Free (Leaving x)) fs p = (r : Row) × (row_of p.rows x ≡ Some r) × (r.mark ≡ Quiet)
+Rests (frame.Free (Looping x purpose)) fs p = Stands purpose fs
+Rests (frame.Free (Trying x c purpose)) fs p = ⊥
+-- no object runs as yet, so each child that is tried is freed
+Rests (frame.Free (Tried x c purpose answer)) fs p = (answer ≡ Ok) × Stands purpose fs
+Rests (frame.Free (Ending answer)) fs p = answer ≡ Ok
 
 pub record Sound (f : Frame) (fs : List Frame) (p : Pool) : Type 0 where
   pub started : 0 < p.next

@@ -3,7 +3,7 @@ use Rattle.std.specs.Prelude.{ℕ, ◌^◌, Bool, true, ◌&&◌, nat_lt}
 use Rattle.tree_specs.specs.declared.object.Owner.{Owner}
 use Rattle.tree_specs.specs.declared.object.Owner.TheVariants.{Root, Of}
 use Rattle.tree_specs.specs.declared.call.Call.{Call}
-use Rattle.tree_specs.specs.declared.call.Call.TheVariants.{New, Free, Steal, Move, Reparent, Rename, Parent}
+use Rattle.tree_specs.specs.declared.call.Call.TheVariants.{New, Free, Freekids, Steal, Move, Reparent, Rename, Parent, Total, Count, Report}
 use Rattle.tree_specs.specs.declared.question.Input.{Input}
 use Rattle.tree_specs.specs.declared.question.Input.TheVariants as inputs
 use Rattle.tree_specs.specs.Names.{is_name}
@@ -19,11 +19,15 @@ is_sound_owner (Of x) = nat_lt 0 x.0 && is_number x.0
 abbrev pub is_sound_call : Call → Bool
 is_sound_call (New owner size name) = is_sound_owner owner && is_number size && is_name name
 is_sound_call (Free x) = is_number x.0
+is_sound_call (Freekids x) = is_number x.0
 is_sound_call (Steal owner x) = is_sound_owner owner && is_number x.0
 is_sound_call (Move owner x) = is_sound_owner owner && is_number x.0
 is_sound_call (Reparent from to x) = is_sound_owner from && is_sound_owner to && is_number x.0
 is_sound_call (Rename x name) = is_number x.0 && is_name name
 is_sound_call (Parent x) = is_number x.0
+is_sound_call (Total owner) = is_sound_owner owner
+is_sound_call (Count owner) = is_sound_owner owner
+is_sound_call (Report owner) = is_sound_owner owner
 
 abbrev pub is_sound : Input → Bool
 is_sound (inputs.Call call) = is_sound_call call

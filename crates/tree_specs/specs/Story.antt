@@ -4,19 +4,24 @@ use Rattle.step_machine.specs.Machine.{items as told_by}
 use Rattle.tree_specs.specs.declared.object.Obj.{Obj}
 use Rattle.tree_specs.specs.declared.object.Owner.TheVariants.{Root, Of}
 use Rattle.tree_specs.specs.declared.object.Owner.{Owner}
-use Rattle.tree_specs.specs.declared.row.Mark.TheVariants.{Quiet, Dying}
+use Rattle.tree_specs.specs.declared.kind.Kind.TheVariants.{Plain}
+use Rattle.tree_specs.specs.declared.row.Mark.TheVariants as mark
 use Rattle.tree_specs.specs.declared.call.Call.{Call}
 use Rattle.tree_specs.specs.declared.call.Call.TheVariants as call
+use Rattle.tree_specs.specs.declared.reply.Refusal.TheVariants as refusal
 use Rattle.tree_specs.specs.declared.reply.Reply.{Reply}
 use Rattle.tree_specs.specs.declared.reply.Reply.TheVariants as reply
-use Rattle.tree_specs.specs.declared.event.Event.TheVariants.{Replied, Freed}
+use Rattle.tree_specs.specs.declared.event.Event.TheVariants.{Replied, Moved, Freed}
 use Rattle.tree_specs.specs.declared.question.Ask.TheVariants.{Quiet as AtRest}
 use Rattle.tree_specs.specs.declared.question.Input.{Input}
 use Rattle.tree_specs.specs.declared.question.Input.TheVariants as input
 use Rattle.tree_specs.specs.declared.frame.Answer.{Answer}
-use Rattle.tree_specs.specs.declared.frame.Answer.TheVariants.{Ok}
+use Rattle.tree_specs.specs.declared.frame.Answer.TheVariants.{Ok, Running}
 use Rattle.tree_specs.specs.Objects.{owner_number}
-use Rattle.tree_specs.specs.Pool.{empty, row_of, owner_of, first_kid, add, detach, remove, place, rename}
+use Rattle.tree_specs.specs.Pool.{empty, row_of, is_below, owner_of, first_kid, add, detach, remove, place, rename, set_mark}
+use Rattle.tree_specs.specs.Inside.{size_inside, count_inside}
+use Rattle.tree_specs.specs.Heirs.{heir}
+use Rattle.tree_specs.specs.Reports.{report}
 use Rattle.tree_specs.specs.Items.{Item}
 use Rattle.tree_specs.specs.Items.Item.{Told, Asked}
 use Rattle.tree_specs.specs.Soundness.{is_sound_call}
@@ -24,8 +29,9 @@ use Rattle.tree_specs.specs.Calls.{Check, refusals}
 use Rattle.tree_specs.specs.Works.{Work, Scene, Begun, ◌>>=◌, ◌>>◌, gives, pool, change, tells, told_about, asks, short}
 
 -- the reply to a call that frees
-abbrev pub freed_reply : Answer → Reply
-freed_reply Ok = reply.Ok
+abbrev pub freed_reply : Obj → Answer → Reply
+freed_reply x Ok = reply.Ok
+freed_reply x Running = reply.No (refusal.Running x)
 
 -- an owner by its number
 abbrev pub owner_reply : Option Owner → Reply
@@ -40,33 +46,56 @@ abbrev pub unless_refused : Check → Work Reply → Work Reply
 unless_refused [] effect = effect
 unless_refused (why ∷ later) effect = gives (reply.No why)
 
--- the effect of a call and its reply, where `free` frees an object
-abbrev pub effect : (Obj → Work Answer) → Call → Work Reply
-effect free (call.New o size name) = do
+-- the effect of a call and its reply, where `free` frees an object and `children` those of an object
+abbrev pub effect : (Obj → Work Answer) → (Obj → Work (Unit {0})) → Call → Work Reply
+effect free children (call.New o size name) = do
   p ← pool
-  change (λ q. add q o size name)
+  change (λ q. add q Plain o size name)
   gives (reply.Number p.next)
-effect free (call.Free x) = do
+effect free children (call.Free x) = do
   answer ← free x
-  gives (freed_reply answer)
-effect free (call.Steal o x) = do
+  gives (freed_reply x answer)
+effect free children (call.Freekids x) = do
+  children x
+  gives reply.Ok
+effect free children (call.Steal o x) = do
   change (λ p. place p o x)
   gives reply.Ok
-effect free (call.Move o x) = do
+effect free children (call.Move o x) = do
   change (λ p. place p o x)
   gives (reply.Number x.0)
-effect free (call.Reparent from to x) = do
+effect free children (call.Reparent from to x) = do
   change (λ p. place p to x)
   gives reply.Ok
-effect free (call.Rename x name) = do
+effect free children (call.Rename x name) = do
   change (λ p. rename p x name)
   gives reply.Ok
-effect free (call.Parent x) = do
+effect free children (call.Parent x) = do
   p ← pool
   gives (owner_reply (owner_of p.rows x))
+effect free children (call.Total o) = do
+  p ← pool
+  gives (reply.Number (size_inside p.rows o))
+effect free children (call.Count o) = do
+  p ← pool
+  gives (reply.Number (count_inside p.rows o))
+effect free children (call.Report o) = do
+  p ← pool
+  gives (reply.Rows (report p.rows o))
+
+-- a child of x that wasn't freed goes to its heir, where x still is its owner
+abbrev pub hand_on : Obj → Obj → Answer → Work (Unit {0})
+hand_on x c Ok = gives tt
+hand_on x c Running = do
+  p ← pool
+  if is_below (owner_of p.rows c) (Of x)
+      then (do
+        tells (Told (Moved c (heir p.rows x c)))
+        change (λ q. place q (heir p.rows x c) c))
+      else gives tt
 
 abbrev mutual
-  -- An object is freed. One that is on its way already is left to that.
+  -- An object is freed. One that is dying is left to the free that it is in, and one that runs can't be freed now.
   pub free : ℕ → Obj → Work Answer
   free zero x = short
   free (suc n) x = do
@@ -74,8 +103,13 @@ abbrev mutual
     elim (row_of p.rows x) [
       | None ↦ gives Ok
       | Some r ↦ elim r.mark [
-        | Dying former ↦ gives Ok
-        | Quiet ↦ leave n x
+        | mark.Quiet ↦ leave n x
+        | mark.Asked ↦ gives Running
+        | mark.Busy ↦ (do
+          change (λ q. set_mark q x mark.Doomed)
+          gives Running)
+        | mark.Doomed ↦ gives Running
+        | mark.Dying former ↦ gives Ok
       ]
     ]
 
@@ -97,9 +131,16 @@ abbrev mutual
     elim (first_kid p.rows (Of x)) [
       | None ↦ gives tt
       | Some c ↦ (do
-        free n c
-        children n x)
+        answer ← free n c
+        tried n x c answer)
     ]
+
+  -- a child that wasn't freed is handed on, and the next one is looked for
+  pub tried : ℕ → Obj → Obj → Answer → Work (Unit {0})
+  tried zero x c answer = short
+  tried (suc n) x c answer = do
+    hand_on x c answer
+    children n x
 
 -- The caller is asked, call after call.
 abbrev mutual
@@ -111,7 +152,7 @@ abbrev mutual
   acting zero c = short
   acting (suc n) c = do
     p ← pool
-    r ← unless_refused (refusals p c) (effect (free n) c)
+    r ← unless_refused (refusals p c) (effect (free n) (children n) c)
     telling n (Some (record { call = c; start = p })) r
 
   pub telling : ℕ → Option Begun → Reply → Work Answer

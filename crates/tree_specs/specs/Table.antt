@@ -1,5 +1,5 @@
 -- The same rules as a table of single steps, one row for each kind of open work.
-use Rattle.std.specs.Prelude.{[], ◌∷◌, Option, Some, None}
+use Rattle.std.specs.Prelude.{[], ◌∷◌, Option, Some, None, if◌then◌else◌}
 use Rattle.step_machine.specs.Machine.{Move, Table}
 use Rattle.step_machine.specs.Machine.{Move as Do}
 use Rattle.step_machine.specs.Noted.{Notes}
@@ -7,13 +7,14 @@ use Rattle.tree_specs.specs.declared.object.Obj.{Obj}
 use Rattle.tree_specs.specs.declared.object.Owner.TheVariants.{Of}
 use Rattle.tree_specs.specs.declared.row.Row.{Row}
 use Rattle.tree_specs.specs.declared.row.Mark.{Mark}
-use Rattle.tree_specs.specs.declared.row.Mark.TheVariants.{Quiet, Dying}
+use Rattle.tree_specs.specs.declared.row.Mark.TheVariants as mark
+use Rattle.tree_specs.specs.declared.kind.Kind.TheVariants.{Plain}
 use Rattle.tree_specs.specs.declared.call.Call.{Call}
 use Rattle.tree_specs.specs.declared.call.Call.TheVariants as call
 use Rattle.tree_specs.specs.declared.reply.Reply.{Reply}
 use Rattle.tree_specs.specs.declared.reply.Reply.TheVariants as reply
 use Rattle.tree_specs.specs.declared.event.Event.{Event}
-use Rattle.tree_specs.specs.declared.event.Event.TheVariants.{Replied, Freed}
+use Rattle.tree_specs.specs.declared.event.Event.TheVariants.{Replied, Moved, Freed}
 use Rattle.tree_specs.specs.declared.question.Ask.TheVariants.{Quiet as AtRest}
 use Rattle.tree_specs.specs.declared.question.Input.{Input}
 use Rattle.tree_specs.specs.declared.frame.Frame.{Frame}
@@ -21,10 +22,15 @@ use Rattle.tree_specs.specs.declared.frame.Frame.TheVariants as frame
 use Rattle.tree_specs.specs.declared.frame.CallFrame.{CallFrame}
 use Rattle.tree_specs.specs.declared.frame.CallFrame.TheVariants.{Asking, Doing, Awaiting, Telling}
 use Rattle.tree_specs.specs.declared.frame.FreeFrame.{FreeFrame}
-use Rattle.tree_specs.specs.declared.frame.FreeFrame.TheVariants.{Beginning, Leaving, Looping, Trying, Ending}
+use Rattle.tree_specs.specs.declared.frame.FreeFrame.TheVariants.{Beginning, Leaving, Looping, Trying, Tried, Ending}
+use Rattle.tree_specs.specs.declared.frame.Purpose.{Purpose}
+use Rattle.tree_specs.specs.declared.frame.Purpose.TheVariants.{Removal, Emptying}
 use Rattle.tree_specs.specs.declared.frame.Answer.{Answer}
-use Rattle.tree_specs.specs.declared.frame.Answer.TheVariants.{Ok}
-use Rattle.tree_specs.specs.Pool.{Pool, row_of, owner_of, first_kid, add, detach, remove, place, rename}
+use Rattle.tree_specs.specs.declared.frame.Answer.TheVariants.{Ok, Running}
+use Rattle.tree_specs.specs.Pool.{Pool, row_of, is_below, owner_of, first_kid, add, detach, remove, place, rename, set_mark}
+use Rattle.tree_specs.specs.Inside.{size_inside, count_inside}
+use Rattle.tree_specs.specs.Heirs.{heir}
+use Rattle.tree_specs.specs.Reports.{report}
 use Rattle.tree_specs.specs.Items.{Item}
 use Rattle.tree_specs.specs.Items.Item.{Told, Asked}
 use Rattle.tree_specs.specs.Calls.{Check, refusals}
@@ -39,30 +45,48 @@ FreeStep = Move FreeFrame Answer Pool Event
 
 -- the freeing of an object begins, by what is going on with it
 abbrev pub begin_by : Obj → Mark → Pool → FreeStep
-begin_by x Quiet p = Do.Go (Leaving x) p
-begin_by x (Dying former) p = Do.Done Ok p
+begin_by x mark.Quiet p = Do.Go (Leaving x) p
+begin_by x mark.Asked p = Do.Done Running p
+begin_by x mark.Busy p = Do.Done Running (set_mark p x mark.Doomed)
+begin_by x mark.Doomed p = Do.Done Running p
+begin_by x (mark.Dying former) p = Do.Done Ok p
 
 abbrev pub begin_step : Obj → Option Row → Pool → FreeStep
 begin_step x None p = Do.Done Ok p
 begin_step x (Some r) p = begin_by x r.mark p
 
-abbrev pub loop_step : Obj → Option Obj → Pool → FreeStep
-loop_step x None p = Do.Emit (Freed x 0) (Ending Ok) (remove p x)
-loop_step x (Some c) p = Do.Call (Beginning c) (Trying x c) p
+-- there are no more children
+abbrev pub last_step : Obj → Purpose → Pool → FreeStep
+last_step x Removal p = Do.Emit (Freed x 0) (Ending Ok) (remove p x)
+last_step x Emptying p = Do.Done Ok p
+
+abbrev pub loop_step : Obj → Purpose → Option Obj → Pool → FreeStep
+loop_step x purpose None p = last_step x purpose p
+loop_step x purpose (Some c) p = Do.Call (Beginning c) (Trying x c purpose) p
+
+-- a child that wasn't freed goes to its heir, where x still is its owner
+abbrev pub tried_step : Obj → Obj → Purpose → Answer → Pool → FreeStep
+tried_step x c purpose Ok p = Do.Go (Looping x purpose) p
+tried_step x c purpose Running p =
+    if is_below (owner_of p.rows c) (Of x)
+    then Do.Emit (Moved c (heir p.rows x c)) (Looping x purpose) (place p (heir p.rows x c) c)
+    else Do.Go (Looping x purpose) p
 
 abbrev pub free_step : FreeFrame → Pool → FreeStep
 free_step (Beginning x) p = begin_step x (row_of p.rows x) p
-free_step (Leaving x) p = Do.Go (Looping x) (detach p x)
-free_step (Looping x) p = loop_step x (first_kid p.rows (Of x)) p
+free_step (Leaving x) p = Do.Go (Looping x Removal) (detach p x)
+free_step (Looping x purpose) p = loop_step x purpose (first_kid p.rows (Of x)) p
 -- it waits for the work above it
-free_step (Trying x c) p = Do.Done Ok p
+free_step (Trying x c purpose) p = Do.Done Ok p
+free_step (Tried x c purpose answer) p = tried_step x c purpose answer p
 free_step (Ending answer) p = Do.Done answer p
 
 abbrev pub free_resume : FreeFrame → Answer → FreeFrame
-free_resume (Trying x c) answer = Looping x
+free_resume (Trying x c purpose) answer = Tried x c purpose answer
 free_resume (Beginning x) answer = Beginning x
 free_resume (Leaving x) answer = Leaving x
-free_resume (Looping x) answer = Looping x
+free_resume (Looping x purpose) answer = Looping x purpose
+free_resume (Tried x c purpose a) answer = Tried x c purpose a
 free_resume (Ending a) answer = Ending a
 
 -- ---- the host
@@ -83,13 +107,17 @@ abbrev pub replied : Reply → Pool → Step
 replied r p = Do.Go (frame.Call (Telling r)) p
 
 abbrev pub effect_step : Call → Pool → Step
-effect_step (call.New o size name) p = replied (reply.Number p.next) (add p o size name)
+effect_step (call.New o size name) p = replied (reply.Number p.next) (add p Plain o size name)
 effect_step (call.Free x) p = Do.Call (frame.Free (Beginning x)) (frame.Call (Awaiting x)) p
+effect_step (call.Freekids x) p = Do.Call (frame.Free (Looping x Emptying)) (frame.Call (Awaiting x)) p
 effect_step (call.Steal o x) p = replied reply.Ok (place p o x)
 effect_step (call.Move o x) p = replied (reply.Number x.0) (place p o x)
 effect_step (call.Reparent from to x) p = replied reply.Ok (place p to x)
 effect_step (call.Rename x name) p = replied reply.Ok (rename p x name)
 effect_step (call.Parent x) p = replied (owner_reply (owner_of p.rows x)) p
+effect_step (call.Total o) p = replied (reply.Number (size_inside p.rows o)) p
+effect_step (call.Count o) p = replied (reply.Number (count_inside p.rows o)) p
+effect_step (call.Report o) p = replied (reply.Rows (report p.rows o)) p
 
 -- the first refusal that applies, otherwise the effect
 abbrev pub call_step : Check → Call → Pool → Step
@@ -108,7 +136,7 @@ step (frame.Call f) p = caller_step f p
 step (frame.Free f) p = lifted (free_step f p)
 
 abbrev pub caller_resume : CallFrame → Answer → CallFrame
-caller_resume (Awaiting x) answer = Telling (freed_reply answer)
+caller_resume (Awaiting x) answer = Telling (freed_reply x answer)
 caller_resume Asking answer = Asking
 caller_resume (Doing c) answer = Doing c
 caller_resume (Telling r) answer = Telling r

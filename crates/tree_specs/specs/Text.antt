@@ -1,17 +1,23 @@
 -- The one text of calls, events, questions and transcripts.
-use Rattle.std.specs.Prelude.{ℕ, List, [], ◌∷◌, ◌++◌, Option, Some, None, codes}
+use Rattle.std.specs.Prelude.{ℕ, List, [], ◌∷◌, ◌++◌, length, flat_map, Option, Some, None, codes}
 use Rattle.std.specs.Fmt.{decimal}
 use Rattle.std.specs.Option.{option_map}
+use Rattle.hex.specs.Hex.{encode_lower}
 use Rattle.tree_specs.specs.declared.call.Call.{Call}
-use Rattle.tree_specs.specs.declared.call.Call.TheVariants.{New, Free, Steal, Move, Reparent, Rename, Parent}
+use Rattle.tree_specs.specs.declared.call.Call.TheVariants.{New, Free, Freekids, Steal, Move, Reparent, Rename, Parent, Total, Count, Report}
 use Rattle.tree_specs.specs.declared.reply.Refusal.{Refusal}
-use Rattle.tree_specs.specs.declared.reply.Refusal.TheVariants.{NoSuch, NotParent, Loop, Dying, Full, Spent, TooBig}
+use Rattle.tree_specs.specs.declared.reply.Refusal.TheVariants.{NoSuch, WrongKind, Running, Held, Refused, NotParent, Loop, Dying, OverLimit, Full, Spent, InUse, BadState, TooBig, Nested}
 use Rattle.tree_specs.specs.declared.reply.Reply.{Reply}
 use Rattle.tree_specs.specs.declared.reply.Reply.TheVariants as replies
 use Rattle.tree_specs.specs.declared.event.Event.{Event}
-use Rattle.tree_specs.specs.declared.event.Event.TheVariants.{Replied, Freed}
+use Rattle.tree_specs.specs.declared.event.Event.TheVariants as events
+use Rattle.tree_specs.specs.declared.moment.What.{What}
+use Rattle.tree_specs.specs.declared.moment.What.TheVariants as whats
+use Rattle.tree_specs.specs.declared.report.RowKind.{RowKind}
+use Rattle.tree_specs.specs.declared.report.RowKind.TheVariants as row_kinds
+use Rattle.tree_specs.specs.declared.report.ReportRow.{ReportRow}
 use Rattle.tree_specs.specs.declared.question.Ask.{Ask}
-use Rattle.tree_specs.specs.declared.question.Ask.TheVariants.{Quiet}
+use Rattle.tree_specs.specs.declared.question.Ask.TheVariants as asks
 use Rattle.tree_specs.specs.declared.question.Input.{Input}
 use Rattle.tree_specs.specs.declared.question.Input.TheVariants as inputs
 use Rattle.tree_specs.specs.Objects.{owner_number}
@@ -25,42 +31,124 @@ newline = 10 ∷ []
 unfoldable pub call_text : Call → List ℕ
 call_text (New owner size name) = codes "new " ++ decimal (owner_number owner) ++ codes " " ++ decimal size ++ codes " " ++ name
 call_text (Free x) = codes "free " ++ decimal x.0
+call_text (Freekids x) = codes "freekids " ++ decimal x.0
 call_text (Steal owner x) = codes "steal " ++ decimal (owner_number owner) ++ codes " " ++ decimal x.0
 call_text (Move owner x) = codes "move " ++ decimal (owner_number owner) ++ codes " " ++ decimal x.0
 call_text (Reparent from to x) = codes "reparent " ++ decimal (owner_number from) ++ codes " " ++ decimal (owner_number to) ++ codes " " ++ decimal x.0
 call_text (Rename x name) = codes "rename " ++ decimal x.0 ++ codes " " ++ name
 call_text (Parent x) = codes "parent " ++ decimal x.0
+call_text (Total owner) = codes "total " ++ decimal (owner_number owner)
+call_text (Count owner) = codes "count " ++ decimal (owner_number owner)
+call_text (Report owner) = codes "report " ++ decimal (owner_number owner)
 
 -- an input as its line
 unfoldable pub input_text : Input → List ℕ
 input_text (inputs.Call c) = codes "call " ++ call_text c ++ newline
 
--- a refusal's number and what it carries
-unfoldable pub refusal_text : Refusal → List ℕ
-refusal_text (NoSuch n) = codes "1 " ++ decimal n
-refusal_text (NotParent x owner) = codes "6 " ++ decimal x.0 ++ codes " " ++ decimal (owner_number owner)
-refusal_text (Loop x owner) = codes "7 " ++ decimal x.0 ++ codes " " ++ decimal (owner_number owner)
-refusal_text (Dying x) = codes "8 " ++ decimal x.0
-refusal_text (Full n) = codes "10 " ++ decimal n
-refusal_text Spent = codes "11"
-refusal_text (TooBig n) = codes "14 " ++ decimal n
+-- ---- events
 
+-- each number, with a space before it
+abbrev pub numbers_text : List ℕ → List ℕ
+numbers_text ns = flat_map (λ n. codes " " ++ decimal n) ns
+
+-- a refusal's number and what it carries
+unfoldable pub refusal_numbers : Refusal → List ℕ
+refusal_numbers (NoSuch n) = 1 ∷ n ∷ []
+refusal_numbers (WrongKind x) = 2 ∷ x.0 ∷ []
+refusal_numbers (Running x) = 3 ∷ x.0 ∷ []
+refusal_numbers (Held x) = 4 ∷ x.0 ∷ []
+refusal_numbers (Refused x answer) = 5 ∷ x.0 ∷ answer ∷ []
+refusal_numbers (NotParent x owner) = 6 ∷ x.0 ∷ owner_number owner ∷ []
+refusal_numbers (Loop x owner) = 7 ∷ x.0 ∷ owner_number owner ∷ []
+refusal_numbers (Dying x) = 8 ∷ x.0 ∷ []
+refusal_numbers (OverLimit x sum wanted limit) = 9 ∷ x.0 ∷ sum ∷ wanted ∷ limit ∷ []
+refusal_numbers (Full n) = 10 ∷ n ∷ []
+refusal_numbers Spent = 11 ∷ []
+refusal_numbers (InUse descriptor) = 12 ∷ descriptor ∷ []
+refusal_numbers (BadState x state) = 13 ∷ x.0 ∷ state ∷ []
+refusal_numbers (TooBig n) = 14 ∷ n ∷ []
+refusal_numbers Nested = 15 ∷ []
+
+unfoldable pub row_kind_text : RowKind → List ℕ
+row_kind_text row_kinds.Root = codes "root"
+row_kind_text row_kinds.Plain = codes "plain"
+row_kind_text row_kinds.Reference = codes "reference"
+row_kind_text row_kinds.Timer = codes "timer"
+row_kind_text row_kinds.Immediate = codes "immediate"
+row_kind_text row_kinds.Fd = codes "fd"
+row_kind_text row_kinds.Request = codes "request"
+row_kind_text row_kinds.Queue = codes "queue"
+row_kind_text row_kinds.Entry = codes "entry"
+
+-- a row of a report, as its line
+unfoldable pub row_text : ReportRow → List ℕ
+row_text r =
+    codes "row" ++ numbers_text (r.depth ∷ r.id ∷ []) ++ codes " " ++ row_kind_text r.kind
+    ++ numbers_text (r.size ∷ r.refs ∷ r.target ∷ []) ++ codes " " ++ r.name ++ newline
+
+abbrev pub rows_text : List ReportRow → List ℕ
+rows_text rows = flat_map (λ r. row_text r) rows
+
+-- a reply as its line, after the lines of a report's rows
 unfoldable pub reply_text : Reply → List ℕ
-reply_text replies.Ok = codes "ok"
-reply_text (replies.Number n) = decimal n
-reply_text (replies.No why) = codes "no " ++ refusal_text why
+reply_text replies.Ok = codes "reply ok\n"
+reply_text (replies.Number n) = codes "reply" ++ numbers_text (n ∷ []) ++ newline
+reply_text (replies.Pair a b) = codes "reply" ++ numbers_text (a ∷ b ∷ []) ++ newline
+reply_text (replies.Rows rows) = rows_text rows ++ codes "reply rows" ++ numbers_text (length rows ∷ []) ++ newline
+reply_text (replies.Bytes bytes) = codes "reply got " ++ encode_lower bytes ++ newline
+reply_text replies.Again = codes "reply again\n"
+reply_text replies.Fault = codes "reply fault\n"
+reply_text replies.End = codes "reply end\n"
+reply_text (replies.No why) = codes "reply no" ++ numbers_text (refusal_numbers why) ++ newline
+
+unfoldable pub what_text : What → List ℕ
+what_text whats.Hook = codes "hook"
+what_text whats.Timer = codes "timer"
+what_text whats.Immediate = codes "immediate"
+what_text whats.Descriptor = codes "fd"
+what_text whats.Callback = codes "callback"
+what_text whats.Cleanup = codes "cleanup"
+what_text whats.Cancel = codes "cancel"
+what_text whats.Trigger = codes "trigger"
 
 -- an event as its line
 unfoldable pub event_text : Event → List ℕ
-event_text (Replied reply) = codes "reply " ++ reply_text reply ++ newline
-event_text (Freed x hook) = codes "freed " ++ decimal x.0 ++ codes " " ++ decimal hook ++ newline
+event_text (events.Replied reply) = reply_text reply
+event_text (events.Fired what x routine) = codes "fired " ++ what_text what ++ numbers_text (x.0 ∷ routine ∷ []) ++ newline
+event_text (events.Accepted x) = codes "accepted" ++ numbers_text (x.0 ∷ []) ++ newline
+event_text (events.Refused x answer) = codes "refused" ++ numbers_text (x.0 ∷ answer ∷ []) ++ newline
+event_text (events.Moved x owner) = codes "moved" ++ numbers_text (x.0 ∷ owner_number owner ∷ []) ++ newline
+event_text (events.Warned x) = codes "warned" ++ numbers_text (x.0 ∷ []) ++ newline
+event_text (events.Freed x hook) = codes "freed" ++ numbers_text (x.0 ∷ hook ∷ []) ++ newline
+event_text (events.Unreferenced reference target) = codes "unreferenced" ++ numbers_text (reference.0 ∷ target.0 ∷ []) ++ newline
+event_text (events.Closed descriptor) = codes "closed" ++ numbers_text (descriptor ∷ []) ++ newline
+event_text (events.State x state) = codes "state" ++ numbers_text (x.0 ∷ state ∷ []) ++ newline
+
+-- ---- questions
 
 unfoldable pub ask_text : Ask → List ℕ
-ask_text Quiet = codes "quiet"
+ask_text asks.Quiet = codes "quiet"
+ask_text (asks.Routine m) = what_text m.what ++ numbers_text (m.object.0 ∷ m.routine ∷ m.user ∷ m.now ∷ m.flags ∷ m.step ∷ [])
+ask_text asks.Clock = codes "clock"
+ask_text (asks.Wait limit) = codes "wait" ++ numbers_text (limit ∷ [])
+ask_text (asks.Accept descriptor) = codes "accept" ++ numbers_text (descriptor ∷ [])
+ask_text (asks.Read descriptor most) = codes "read" ++ numbers_text (descriptor ∷ most ∷ [])
+ask_text (asks.Write descriptor bytes) = codes "write" ++ numbers_text (descriptor ∷ []) ++ codes " " ++ encode_lower bytes
+
+abbrev pub asked_text : Ask → List ℕ
+asked_text q = codes "ask " ++ ask_text q ++ newline
 
 -- a question that was answered, as its line; Quiet has none
 unfoldable pub answered_text : Ask → List ℕ
-answered_text Quiet = []
+answered_text asks.Quiet = []
+answered_text (asks.Routine m) = asked_text (asks.Routine m)
+answered_text asks.Clock = asked_text asks.Clock
+answered_text (asks.Wait limit) = asked_text (asks.Wait limit)
+answered_text (asks.Accept descriptor) = asked_text (asks.Accept descriptor)
+answered_text (asks.Read descriptor most) = asked_text (asks.Read descriptor most)
+answered_text (asks.Write descriptor bytes) = asked_text (asks.Write descriptor bytes)
+
+-- ---- transcripts
 
 -- an item that is not the last
 unfoldable pub item_text : Item → List ℕ

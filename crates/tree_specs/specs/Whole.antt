@@ -2,12 +2,14 @@
 use Rattle.std.specs.Prelude.{ℕ, ◌+◌, ◌≤◌, List, [], ◌∷◌}
 use Rattle.tree_specs.specs.declared.row.Row.{Row}
 use Rattle.tree_specs.specs.declared.row.Mark.{Mark}
-use Rattle.tree_specs.specs.declared.row.Mark.TheVariants.{Quiet, Dying}
+use Rattle.tree_specs.specs.declared.row.Mark.TheVariants.{Quiet, Asked, Busy, Doomed, Dying}
 use Rattle.tree_specs.specs.declared.frame.Frame.{Frame}
 use Rattle.tree_specs.specs.declared.frame.Frame.TheVariants as frame
-use Rattle.tree_specs.specs.declared.frame.FreeFrame.TheVariants.{Beginning, Leaving, Looping, Trying, Ending}
+use Rattle.tree_specs.specs.declared.frame.FreeFrame.TheVariants.{Beginning, Leaving, Looping, Trying, Tried, Ending}
+use Rattle.tree_specs.specs.declared.frame.Purpose.{Purpose}
+use Rattle.tree_specs.specs.declared.frame.Purpose.TheVariants.{Removal, Emptying}
 use Rattle.tree_specs.specs.Pool.{Pool}
-use Rattle.tree_specs.specs.Measure.{total}
+use Rattle.tree_specs.specs.Inside.{total}
 use Rattle.tree_specs.specs.Sound.{Sound}
 use Rattle.tree_specs.specs.View.{View}
 
@@ -23,12 +25,17 @@ Based f (g ∷ gs) = Based g gs
 
 -- The open works are no more than the dying rows pay for, so that the turns stay enough.
 
+abbrev pub loop_size : Purpose → ℕ
+loop_size Removal = 3
+loop_size Emptying = 0
+
 abbrev pub size : Frame → ℕ
 size (frame.Call f) = 2
 size (frame.Free (Beginning x)) = 0
 size (frame.Free (Leaving x)) = 0
-size (frame.Free (Looping x)) = 3
-size (frame.Free (Trying x c)) = 3
+size (frame.Free (Looping x purpose)) = loop_size purpose
+size (frame.Free (Trying x c purpose)) = loop_size purpose
+size (frame.Free (Tried x c purpose answer)) = loop_size purpose
 size (frame.Free (Ending answer)) = 0
 
 abbrev pub sizes : List Frame → ℕ
@@ -37,6 +44,9 @@ sizes (f ∷ fs) = size f + sizes fs
 
 abbrev pub mark_burden : Mark → ℕ
 mark_burden Quiet = 0
+mark_burden Asked = 0
+mark_burden Busy = 0
+mark_burden Doomed = 0
 mark_burden (Dying former) = 3
 
 abbrev pub burden : Row → ℕ

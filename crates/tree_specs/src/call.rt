@@ -8,6 +8,8 @@ pub enum Call {
     New { owner: Owner, size: u64, name: Name },
     /// `free X`: gives up the object with all that is below it, as `talloc_free` does.
     Free { x: Obj },
+    /// `freekids X`: gives up all that is below the object, as `talloc_free_children` does.
+    Freekids { x: Obj },
     /// `steal P X`: puts the object below another owner, as `talloc_steal` does.
     Steal { owner: Owner, x: Obj },
     /// `move P X`: the same, where the reply is the object, as `talloc_move` gives it.
@@ -18,4 +20,10 @@ pub enum Call {
     Rename { x: Obj, name: Name },
     /// `parent X`: the number of its owner, as `talloc_parent` tells.
     Parent { x: Obj },
+    /// `total P`: the sizes of all objects inside the owner, in bytes, as `talloc_total_size` tells.
+    Total { owner: Owner },
+    /// `count P`: how many objects are inside the owner, as `talloc_total_blocks` tells; the root isn't one.
+    Count { owner: Owner },
+    /// `report P`: a row for the owner and for all that is below it, as `talloc_report` writes them.
+    Report { owner: Owner },
 }

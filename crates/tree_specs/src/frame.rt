@@ -16,10 +16,19 @@ pub enum CallFrame {
     Asking,
     /// The call is to be done.
     Doing { call: Call },
-    /// The call waits for the freeing of `x`.
+    /// The call waits for the freeing of `x`, or of its children.
     Awaiting { x: Obj },
     /// The reply is to be told.
     Telling { reply: Reply },
+}
+
+/// What the children of an object are freed for.
+#[derive(Clone, Copy, Debug, PartialEq, Eq)]
+pub enum Purpose {
+    /// The object itself is removed after them.
+    Removal,
+    /// It stays.
+    Emptying,
 }
 
 /// What is still to do of one free.
@@ -29,10 +38,21 @@ pub enum FreeFrame {
     Beginning { x: Obj },
     /// `x` is to leave its owner.
     Leaving { x: Obj },
-    /// The children of `x` are to be freed, and then `x` is removed.
-    Looping { x: Obj },
+    /// The children of `x` are to be freed.
+    Looping { x: Obj, purpose: Purpose },
     /// `x` waits for the freeing of its child.
-    Trying { x: Obj, child: Obj },
+    Trying {
+        x: Obj,
+        child: Obj,
+        purpose: Purpose,
+    },
+    /// The freeing of the child is over. One that wasn't freed is to go to its heir.
+    Tried {
+        x: Obj,
+        child: Obj,
+        purpose: Purpose,
+        answer: Answer,
+    },
     /// It is over.
     Ending { answer: Answer },
 }
@@ -42,4 +62,6 @@ pub enum FreeFrame {
 pub enum Answer {
     /// The object is gone, or on its way.
     Ok,
+    /// Its destructor or its handler runs, or the work that comes before its freeing.
+    Running,
 }

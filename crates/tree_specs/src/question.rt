@@ -1,10 +1,24 @@
 use crate::call::Call;
+use crate::moment::Moment;
+use crate::octets::Octets;
 
 /// What the host waits for.
-#[derive(Clone, Copy, Debug, PartialEq, Eq)]
+#[derive(Debug, PartialEq, Eq, Drop)]
 pub enum Ask {
     /// Nothing goes on: it waits for a call.
     Quiet,
+    /// What a routine does at this moment.
+    Routine(Moment),
+    /// The time, in microseconds.
+    Clock,
+    /// Which descriptors are ready, within so many microseconds.
+    Wait(u64),
+    /// Who connects to the listener of this descriptor.
+    Accept(u32),
+    /// What can be read from this descriptor, and how many bytes at most.
+    Read(u32, u32),
+    /// How many of these bytes this descriptor takes.
+    Write(u32, Octets),
 }
 
 /// An answer to the host's question.

@@ -1,3 +1,4 @@
+use crate::kind::Kind;
 use crate::name::Name;
 use crate::object::{Obj, Owner};
 
@@ -6,6 +7,12 @@ use crate::object::{Obj, Owner};
 pub enum Mark {
     /// Nothing.
     Quiet,
+    /// Its destructor runs, or the work that comes before its freeing.
+    Asked,
+    /// It is an event whose own handler runs.
+    Busy,
+    /// It is a busy event that somebody tried to free.
+    Doomed,
     /// It has left this owner, and its children are being freed.
     Dying(Owner),
 }
@@ -19,5 +26,8 @@ pub struct Row {
     pub name: Name,
     /// In bytes, below 268,435,456.
     pub size: u64,
+    pub kind: Kind,
     pub mark: Mark,
+    /// The routine of its destructor; 0 is none.
+    pub hook: u32,
 }

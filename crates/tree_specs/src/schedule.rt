@@ -1,3 +1,10 @@
+/// What runs the lines of a schedule, which its first line says.
+#[derive(Clone, Copy, Debug, PartialEq, Eq)]
+pub enum Mode {
+    /// A host of its own, whose first object gets the number 1.
+    Pool,
+}
+
 /// Why a line of a schedule was refused. They are tried in this order.
 #[derive(Clone, Copy, Debug, PartialEq, Eq)]
 pub enum Reason {

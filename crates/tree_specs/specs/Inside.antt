@@ -1,0 +1,31 @@
+-- What is inside an owner, and sums over it.
+use Rattle.std.specs.Prelude.{ℕ, ◌+◌, Bool, true, false, ◌&&◌, not, List, [], ◌∷◌, if◌then◌else◌}
+use Rattle.tree_specs.specs.declared.object.Owner.{Owner}
+use Rattle.tree_specs.specs.declared.object.Owner.TheVariants.{Of}
+use Rattle.tree_specs.specs.declared.kind.Kind.{Kind}
+use Rattle.tree_specs.specs.declared.kind.Kind.TheVariants.{Plain, Reference, Timer, Immediate, Descriptor, Request, Queue, Entry}
+use Rattle.tree_specs.specs.declared.row.Row.{Row}
+use Rattle.tree_specs.specs.Pool.{is_inside}
+
+-- a weight over all rows
+abbrev pub total : (Row → ℕ) → List Row → ℕ
+total g [] = 0
+total g (r ∷ rs) = g r + total g rs
+
+abbrev pub is_reference : Kind → Bool
+is_reference Plain = false
+is_reference (Reference target) = true
+is_reference Timer = false
+is_reference Immediate = false
+is_reference Descriptor = false
+is_reference Request = false
+is_reference Queue = false
+is_reference Entry = false
+
+-- the sizes of all rows inside an owner
+abbrev pub size_inside : List Row → Owner → ℕ
+size_inside rs p = total (λ r. if is_inside rs (Of r.serial) p then r.size else 0) rs
+
+-- how many rows are inside an owner, without references
+abbrev pub count_inside : List Row → Owner → ℕ
+count_inside rs p = total (λ r. if is_inside rs (Of r.serial) p && not (is_reference r.kind) then 1 else 0) rs

@@ -1,0 +1,65 @@
+ghost use Rattle.std.specs.Prelude.{◌≡◌, List, ℕ, IsTrue, IfSome, IsSome, ◌↔◌};
+ghost use Rattle.tree_specs.specs.Octets.{is_octets};
+
+ghost use Rattle.std.specs.Prelude.{nat_eq};
+ghost use Rattle.std.specs.Cmp.Lexicographic.{pointwise};
+ghost use Rattle.std.specs.Cmp.Lexicographic.{nat_list_eq_equiv};
+ghost use Rattle.std.specs.Cmp.{partial_equiv_from_equiv};
+
+use std::marker::Model;
+
+fn is_octets_len(bytes: &[u8]) -> bool
+    ensures { result ≡ is_octets bytes.now }
+{
+    1 <= bytes.len() && bytes.len() <= 65_536
+}
+
+/// What one read gives or one write takes: 1 to 65,536 bytes. Contracts see it as the list of its bytes.
+#[derive(Debug, Drop)]
+pub struct Octets {
+    bytes: Vec<u8>,
+}
+
+impl Model for Octets {
+    ghost Value = { List ℕ };
+
+    ghost view = { λ o. o.bytes.items };
+
+    ghost invariant = { λ o. IsTrue (is_octets o.bytes.items) };
+}
+
+impl Octets {
+    /// These bytes. None exactly where they are none or more than 65,536. It takes no memory.
+    pub fn make(bytes: Vec<u8>) -> Option<Octets>
+        ensures some { IsSome result ↔ IsTrue (is_octets bytes.items) }
+        ensures same { IfSome result (λ o. o ≡ bytes.items) }
+    {
+        if is_octets_len(&bytes) {
+            Some(Octets { bytes })
+        } else {
+            None
+        }
+    }
+
+    /// Lends the bytes.
+    pub fn as_slice(&self) -> &[u8]
+        ensures value { result.now ≡ self.now }
+        ensures sound { IsTrue (is_octets self.now) }
+    {
+        &self.bytes
+    }
+}
+
+impl PartialEq for Octets {
+    ghost eq = { pointwise nat_eq };
+
+    ghost laws = { partial_equiv_from_equiv nat_list_eq_equiv };
+
+    fn eq(&self, other: &Self) -> bool {
+        self.bytes == other.bytes
+    }
+}
+
+impl Eq for Octets {
+    ghost laws = { nat_list_eq_equiv };
+}

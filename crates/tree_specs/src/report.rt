@@ -1,0 +1,84 @@
+ghost use Rattle.std.specs.Prelude.{◌≡◌};
+
+ghost use Rattle.std.specs.Cmp.Lexicographic.{pointwise, lists_per, lists_equiv};
+
+use crate::name::Name;
+use std::marker::Model;
+
+/// What a row of a report is about.
+#[derive(Clone, Copy, Debug, PartialEq, Eq)]
+pub enum RowKind {
+    /// The null context.
+    Root,
+    Plain,
+    Reference,
+    Timer,
+    Immediate,
+    /// An event on a descriptor.
+    Fd,
+    Request,
+    Queue,
+    Entry,
+}
+
+/// What a report says of one object, as `talloc_report` does.
+#[derive(Debug, PartialEq, Eq, Drop)]
+pub struct ReportRow {
+    /// How many owners are between it and the first row, which has depth 0.
+    pub depth: u32,
+    /// Its number; 0 is the root.
+    pub id: u64,
+    pub kind: RowKind,
+    /// In bytes.
+    pub size: u64,
+    /// How many references there are to it.
+    pub refs: u32,
+    /// The object that a reference refers to, and 0 elsewhere.
+    pub target: u64,
+    pub name: Name,
+}
+
+/// The rows of a report, each owner before its children. Contracts see the list of them.
+#[derive(Debug, Drop)]
+pub struct ReportRows {
+    rows: Vec<ReportRow>,
+}
+
+impl Model for ReportRows {
+    ghost use Rattle.std.specs.Prelude.{List};
+    ghost use Rattle.tree_specs.specs.declared.report.ReportRow.{ReportRow as ReportRowData};
+
+    ghost Value = { List ReportRowData };
+
+    ghost view = { λ r. r.rows.items };
+}
+
+impl ReportRows {
+    /// These rows. It takes no memory.
+    pub fn make(rows: Vec<ReportRow>) -> ReportRows
+        ensures { result ≡ rows.items }
+    {
+        ReportRows { rows }
+    }
+
+    /// Lends the rows.
+    pub fn as_slice(&self) -> &[ReportRow]
+        ensures { result.now ≡ self.now }
+    {
+        &self.rows
+    }
+}
+
+impl PartialEq for ReportRows {
+    ghost eq = { pointwise ReportRow.eq };
+
+    ghost laws = { lists_per ReportRow.PartialEq.laws };
+
+    fn eq(&self, other: &Self) -> bool {
+        self.rows == other.rows
+    }
+}
+
+impl Eq for ReportRows {
+    ghost laws = { lists_equiv ReportRow.Eq.laws };
+}
