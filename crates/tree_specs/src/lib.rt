@@ -7,6 +7,7 @@ mod event;
 mod frame;
 mod kind;
 pub mod laws;
+mod listed;
 mod memory;
 mod moment;
 mod name;

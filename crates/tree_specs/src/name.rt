@@ -2,11 +2,7 @@ ghost use Rattle.std.specs.Prelude.{◌≡◌, List, ℕ, IsTrue, IfSome, IsSome
 ghost use Rattle.tree_specs.specs.Names.{is_name, is_graphic};
 ghost use Rattle.std.specs.List.{list_all};
 
-ghost use Rattle.std.specs.Prelude.{nat_eq};
-ghost use Rattle.std.specs.Cmp.Lexicographic.{pointwise};
-ghost use Rattle.std.specs.Cmp.Lexicographic.{nat_list_eq_equiv};
-ghost use Rattle.std.specs.Cmp.{partial_equiv_from_equiv};
-
+use crate::listed::Listed;
 use std::marker::Model;
 
 fn is_graphic_byte(b: u8) -> bool
@@ -30,17 +26,19 @@ pub fn is_name_text(bytes: &[u8]) -> bool
 }
 
 /// The name of an object: 1 to 255 bytes from 0x21 to 0x7E. Contracts see it as the list of its bytes.
-#[derive(Debug, Drop)]
+#[derive(Debug, PartialEq, Eq, Drop)]
 pub struct Name {
-    bytes: Vec<u8>,
+    bytes: Listed<u8>,
 }
 
 impl Model for Name {
     ghost Value = { List ℕ };
 
-    ghost view = { λ n. n.bytes.items };
+    ghost view = { λ n. n.bytes };
 
-    ghost invariant = { λ n. IsTrue (is_name n.bytes.items) };
+    ghost inverse = { λ bytes. record { bytes = bytes } };
+
+    ghost invariant = { λ n. IsTrue (is_name n.bytes) };
 }
 
 impl Name {
@@ -50,7 +48,9 @@ impl Name {
         ensures same { IfSome result (λ n. n ≡ bytes.items) }
     {
         if is_name_text(&bytes) {
-            Some(Name { bytes })
+            Some(Name {
+                bytes: Listed::make(bytes),
+            })
         } else {
             None
         }
@@ -61,20 +61,6 @@ impl Name {
         ensures value { result.now ≡ self.now }
         ensures sound { IsTrue (is_name self.now) }
     {
-        &self.bytes
+        self.bytes.as_slice()
     }
-}
-
-impl PartialEq for Name {
-    ghost eq = { pointwise nat_eq };
-
-    ghost laws = { partial_equiv_from_equiv nat_list_eq_equiv };
-
-    fn eq(&self, other: &Self) -> bool {
-        self.bytes == other.bytes
-    }
-}
-
-impl Eq for Name {
-    ghost laws = { nat_list_eq_equiv };
 }

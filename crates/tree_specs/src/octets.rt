@@ -1,11 +1,7 @@
 ghost use Rattle.std.specs.Prelude.{◌≡◌, List, ℕ, IsTrue, IfSome, IsSome, ◌↔◌};
 ghost use Rattle.tree_specs.specs.Octets.{is_octets};
 
-ghost use Rattle.std.specs.Prelude.{nat_eq};
-ghost use Rattle.std.specs.Cmp.Lexicographic.{pointwise};
-ghost use Rattle.std.specs.Cmp.Lexicographic.{nat_list_eq_equiv};
-ghost use Rattle.std.specs.Cmp.{partial_equiv_from_equiv};
-
+use crate::listed::Listed;
 use std::marker::Model;
 
 fn is_octets_len(bytes: &[u8]) -> bool
@@ -15,17 +11,19 @@ fn is_octets_len(bytes: &[u8]) -> bool
 }
 
 /// What one read gives or one write takes: 1 to 65,536 bytes. Contracts see it as the list of its bytes.
-#[derive(Debug, Drop)]
+#[derive(Debug, PartialEq, Eq, Drop)]
 pub struct Octets {
-    bytes: Vec<u8>,
+    bytes: Listed<u8>,
 }
 
 impl Model for Octets {
     ghost Value = { List ℕ };
 
-    ghost view = { λ o. o.bytes.items };
+    ghost view = { λ o. o.bytes };
 
-    ghost invariant = { λ o. IsTrue (is_octets o.bytes.items) };
+    ghost inverse = { λ bytes. record { bytes = bytes } };
+
+    ghost invariant = { λ o. IsTrue (is_octets o.bytes) };
 }
 
 impl Octets {
@@ -35,7 +33,9 @@ impl Octets {
         ensures same { IfSome result (λ o. o ≡ bytes.items) }
     {
         if is_octets_len(&bytes) {
-            Some(Octets { bytes })
+            Some(Octets {
+                bytes: Listed::make(bytes),
+            })
         } else {
             None
         }
@@ -46,20 +46,6 @@ impl Octets {
         ensures value { result.now ≡ self.now }
         ensures sound { IsTrue (is_octets self.now) }
     {
-        &self.bytes
+        self.bytes.as_slice()
     }
-}
-
-impl PartialEq for Octets {
-    ghost eq = { pointwise nat_eq };
-
-    ghost laws = { partial_equiv_from_equiv nat_list_eq_equiv };
-
-    fn eq(&self, other: &Self) -> bool {
-        self.bytes == other.bytes
-    }
-}
-
-impl Eq for Octets {
-    ghost laws = { nat_list_eq_equiv };
 }

@@ -1,7 +1,6 @@
 ghost use Rattle.std.specs.Prelude.{◌≡◌};
 
-ghost use Rattle.std.specs.Cmp.Lexicographic.{pointwise, lists_per, lists_equiv};
-
+use crate::listed::Listed;
 use crate::name::Name;
 use std::marker::Model;
 
@@ -39,9 +38,9 @@ pub struct ReportRow {
 }
 
 /// The rows of a report, each owner before its children. Contracts see the list of them.
-#[derive(Debug, Drop)]
+#[derive(Debug, PartialEq, Eq, Drop)]
 pub struct ReportRows {
-    rows: Vec<ReportRow>,
+    rows: Listed<ReportRow>,
 }
 
 impl Model for ReportRows {
@@ -50,7 +49,9 @@ impl Model for ReportRows {
 
     ghost Value = { List ReportRowData };
 
-    ghost view = { λ r. r.rows.items };
+    ghost view = { λ r. r.rows };
+
+    ghost inverse = { λ rows. record { rows = rows } };
 }
 
 impl ReportRows {
@@ -58,27 +59,15 @@ impl ReportRows {
     pub fn make(rows: Vec<ReportRow>) -> ReportRows
         ensures { result ≡ rows.items }
     {
-        ReportRows { rows }
+        ReportRows {
+            rows: Listed::make(rows),
+        }
     }
 
     /// Lends the rows.
     pub fn as_slice(&self) -> &[ReportRow]
         ensures { result.now ≡ self.now }
     {
-        &self.rows
+        self.rows.as_slice()
     }
-}
-
-impl PartialEq for ReportRows {
-    ghost eq = { pointwise ReportRow.eq };
-
-    ghost laws = { lists_per ReportRow.PartialEq.laws };
-
-    fn eq(&self, other: &Self) -> bool {
-        self.rows == other.rows
-    }
-}
-
-impl Eq for ReportRows {
-    ghost laws = { lists_equiv ReportRow.Eq.laws };
 }
