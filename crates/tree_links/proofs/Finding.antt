@@ -1,17 +1,18 @@
 -- The first row of a serial, by its index.
 use Rattle.std.proofs.Common.{◌≡◌, ℕ, suc, zero, ◌+◌, ◌<◌, List, [], ◌∷◌, length, Option, Some, None, Bool, true, false, refl, sym, ◌∙◌, ap, arith, get_or, MatchOption}
-use Rattle.std.specs.Prelude.{position, slice_get, remove}
+use Rattle.std.specs.Prelude.{position, slice_get, remove, drop}
 use Rattle.std.proofs.Math.ListN.{set}
 use Rattle.std.proofs.lemmas.List.Quantifiers.{position-Some}
 use Rattle.std.proofs.lemmas.Option.{slice_get-get_or}
 use Rattle.std.specs.List.{position_from}
 use Rattle.std.proofs.lemmas.Iterator.Adapters.{position_from-zero}
+use Rattle.tree_specs.specs.declared.kind.Kind.TheVariants.{Plain}
 use Rattle.tree_specs.specs.declared.row.Mark.TheVariants.{Quiet}
 use Rattle.tree_specs.specs.declared.row.Row.{Row}
 use Rattle.tree_specs.specs.declared.object.Obj.{Obj}
 use Rattle.tree_specs.specs.declared.object.Owner.{Owner}
 use Rattle.tree_specs.specs.Objects.{same}
-use Rattle.tree_specs.specs.Pool.{Pool, row_of, without, changed, is_below, first_kid}
+use Rattle.tree_specs.specs.Pool.{Pool, row_of, behind, without, changed}
 use Rattle.tree_links.specs.Found.{StandsAt, StandsNowhere}
 use Rattle.tree_specs.proofs.Numbered.{by_test}
 
@@ -20,13 +21,13 @@ test x r = same r.serial x
 
 -- what stands at the first index that passes
 first-at : (rs : List Row) (x : Obj) (i : ℕ) (d : Row) → i < length rs → test x (get_or rs i d) ≡ true → ((k : ℕ) → k < i → test x (get_or rs k d) ≡ false)
-    → (row_of rs x ≡ Some (get_or rs i d)) × (without rs x ≡ remove rs i) × ((f : Row → Row) → changed f rs x ≡ set rs i (f (get_or rs i d)))
+    → (row_of rs x ≡ Some (get_or rs i d)) × (without rs x ≡ remove rs i) × (behind rs x ≡ drop (suc i) rs) × ((f : Row → Row) → changed f rs x ≡ set rs i (f (get_or rs i d)))
 first-at [] x i d l t h = absurd (omega arith)
-first-at (r ∷ rs) x zero d l t h = (rw t refl, rw t refl, λ f. rw t refl)
+first-at (r ∷ rs) x zero d l t h = (rw t refl, rw t refl, rw t refl, λ f. rw t refl)
 first-at (r ∷ rs) x (suc i) d l t h =
     let z : test x r ≡ false = h 0 (omega arith) in
     let ih = first-at rs x i d (omega arith) t (λ k b. h (suc k) (omega arith)) in
-    (rw z ih.0, rw z (ap (λ q. r ∷ q) ih.1), λ f. rw z (ap (λ q. r ∷ q) (ih.2 f)))
+    (rw z ih.0, rw z (ap (λ q. r ∷ q) ih.1), rw z ih.2, λ f. rw z (ap (λ q. r ∷ q) (ih.3 f)))
 
 pub nowhere : (rs : List Row) (x : Obj) → row_of rs x ≡ None → StandsNowhere rs x
 nowhere [] x e = record { row = refl; not_taken_out = refl; not_replaced = λ f. refl }
@@ -36,7 +37,7 @@ nowhere (r ∷ rs) x e = by_test (same r.serial x)
     record { row = rw t e'; not_taken_out = rw t (ap (λ q. r ∷ q) ih.not_taken_out); not_replaced = λ f. rw t (ap (λ q. r ∷ q) (ih.not_replaced f)) })
 
 a_row : Row
-a_row = record { serial = record { 0 = 0 }; owner = None; name = []; size = 0; mark = Quiet }
+a_row = record { serial = record { 0 = 0 }; owner = None; name = []; size = 0; kind = Plain; mark = Quiet; hook = 0 }
 
 get_or-default : (rs : List Row) (i : ℕ) (d e : Row) → i < length rs → get_or rs i d ≡ get_or rs i e
 get_or-default [] i d e l = absurd (omega arith)
@@ -52,7 +53,8 @@ stands-at rs x i e =
       in_range = p.0;
       row = f.0 ∙ sym g;
       taken_out = f.1;
-      replaced = λ h r q. f.2 h ∙ ap (λ (z : Row). set rs i (h z)) (get_or-default rs i a_row r p.0 ∙ sym q);
+      behind_it = f.2 ∙ ap (λ (n : ℕ). drop n rs) (let e : suc i ≡ i + 1 = omega arith in e);
+      replaced = λ h r q. f.3 h ∙ ap (λ (z : Row). set rs i (h z)) (get_or-default rs i a_row r p.0 ∙ sym q);
     }
 
 none-from : (rs : List Row) (x : Obj) (i : ℕ) → position_from (test x) i rs ≡ None → row_of rs x ≡ None
@@ -64,36 +66,6 @@ none-from (r ∷ rs) x i e = by_test (same r.serial x)
 pub found : (rs : List Row) (x : Obj) (o : Option ℕ) → o ≡ position (test x) rs → MatchOption o (StandsNowhere rs x) (λ i. StandsAt rs x i)
 found rs x None e = nowhere rs x (none-from rs x 0 (sym (position_from-zero (test x) rs) ∙ sym e))
 found rs x (Some i) e = stands-at rs x i (sym e)
-
--- ---- the first child
-
-abbrev pub kid_test : Owner → Row → Bool
-kid_test p r = is_below r.owner p
-
-kid-at : (rs : List Row) (p : Owner) (i : ℕ) (d : Row) → i < length rs → kid_test p (get_or rs i d) ≡ true → ((k : ℕ) → k < i → kid_test p (get_or rs k d) ≡ false)
-    → first_kid rs p ≡ Some (get_or rs i d).serial
-kid-at [] p i d l t h = absurd (omega arith)
-kid-at (r ∷ rs) p zero d l t h = rw t refl
-kid-at (r ∷ rs) p (suc i) d l t h =
-    let z : kid_test p r ≡ false = h 0 (omega arith) in
-    rw z (kid-at rs p i d (omega arith) t (λ k b. h (suc k) (omega arith)))
-
-pub kid_found : (rs : List Row) (p : Owner) (i : ℕ) (r : Row) → position (kid_test p) rs ≡ Some i → r ≡ get_or rs i r → first_kid rs p ≡ Some r.serial
-kid_found rs p i r e q =
-    let k = position-Some (kid_test p) rs i r e in
-    kid-at rs p i r k.0 k.1 k.2 ∙ ap (λ (z : Row). Some z.serial) (sym q)
-
-pub kid_in_range : (rs : List Row) (p : Owner) (i : ℕ) → position (kid_test p) rs ≡ Some i → i < length rs
-kid_in_range rs p i e = (position-Some (kid_test p) rs i a_row e).0
-
-kid-none : (rs : List Row) (p : Owner) (i : ℕ) → position_from (kid_test p) i rs ≡ None → first_kid rs p ≡ None
-kid-none [] p i e = refl
-kid-none (r ∷ rs) p i e = by_test (kid_test p r)
-    (λ t. let bad : Some i ≡ None = rw t at e in cc)
-    (λ t. let e' : position_from (kid_test p) (i + 1) rs ≡ None = rw t at e in rw t (kid-none rs p (i + 1) e'))
-
-pub no_kid : (rs : List Row) (p : Owner) → position (kid_test p) rs ≡ None → first_kid rs p ≡ None
-no_kid rs p e = kid-none rs p 0 (sym (position_from-zero (kid_test p) rs) ∙ e)
 
 -- ---- one row is changed in its place
 

@@ -2,11 +2,15 @@ use super::*;
 use std::alloc::Global;
 use std::process::Abort;
 use std::test::Fail;
-use tree_specs::{Mark, Name, Obj, Owner};
+use tree_specs::{Kind, Mark, Name, Obj, Owner};
 
 fn new_row(rt: &impl Abort, alloc: Global, size: u64) -> Result<NewRow, Fail> {
     let name = Name::make(b"a-b".as_slice().to_vec(alloc)?).expect(rt, "a name");
-    Ok(NewRow { name, size })
+    Ok(NewRow {
+        kind: Kind::Plain,
+        name,
+        size,
+    })
 }
 
 #[test]

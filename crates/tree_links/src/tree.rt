@@ -4,11 +4,12 @@ ghost use Rattle.tree_specs.specs.Pool.{is_below as is_child_of};
 use std::alloc::Global;
 use std::collections::VecDeque;
 use std::marker::Model;
-use tree_specs::{Mark, Memory, Name, Obj, Owner, Row};
+use tree_specs::{Kind, Mark, Memory, Name, Obj, Owner, Row};
 
-/// What a new object begins with. It is quiet.
+/// What a new object begins with. It is quiet, and has no destructor.
 #[derive(Debug, Drop)]
 pub struct NewRow {
+    pub kind: Kind,
     pub name: Name,
     /// In bytes, below 268,435,456.
     pub size: u64,
@@ -23,7 +24,7 @@ pub struct Tree {
 }
 
 impl Model for Tree {
-    ghost use Rattle.tree_links.specs.Links.{Links};
+    ghost use Rattle.tree_links.specs.Links.{Links, IsTree};
 
     ghost Value = { Links };
 
@@ -31,6 +32,8 @@ impl Model for Tree {
     ghost use Rattle.std.specs.VecDeque.{deque_len, deque_capacity};
 
     ghost view = { λ t. record { rows = t.rows.items; next = t.next; spare = deque_capacity t.rows - deque_len t.rows } };
+
+    ghost invariant = { λ t. IsTree t.rows.items t.next };
 }
 
 fn is_below(owner: Option<Owner>, p: Owner) -> bool
@@ -44,11 +47,13 @@ fn is_below(owner: Option<Owner>, p: Owner) -> bool
 }
 
 impl Tree {
-    ghost use Rattle.std.specs.Prelude.{position, ◌≡◌, ℕ, ◌+◌, ◌-◌, ◌^◌, ◌<◌, ◌≤◌, ◌∷◌, [], ◌↔◌, IsTrue, OnOk, MatchOption, length};
+    ghost use Rattle.std.specs.Prelude.{position, ◌≡◌, ℕ, ◌+◌, ◌-◌, ◌^◌, ◌<◌, ◌≤◌, ◌∷◌, [], ◌↔◌, drop, true, false, None, ◌&&◌, IsTrue, IsSome, OnOk, MatchOption, length};
     ghost use Rattle.std.specs.Option.{option_copied};
+    ghost use Rattle.tree_specs.specs.declared.object.Owner.TheVariants.{Of as At};
     ghost use Rattle.tree_specs.specs.Objects.{same};
-    ghost use Rattle.tree_specs.specs.Pool.{empty, row_of, is_below, first_kid as kid_first, add as added, detach as detached, remove as removed, place as placed, rename as renamed, owner_of, next_owner as owner_after, is_inside as is_inside_of};
-    ghost use Rattle.tree_links.specs.Links.{pool_of};
+    ghost use Rattle.tree_specs.specs.Calls.{row_limit, size_limit};
+    ghost use Rattle.tree_specs.specs.Pool.{empty, is_row, is_owner, is_dying, row_of, is_below, first_kid as kid_first, next_kid as kid_next, add as added, take_number as number_taken, detach as detached, remove as removed, place as placed, rename as renamed, set_mark as marked, set_hook as hooked, set_size as resized, owner_of, next_owner as owner_after, is_inside as is_inside_of, is_dying_mark};
+    ghost use Rattle.tree_links.specs.Links.{IsTree, pool_of, number_after};
     ghost use Rattle.tree_links.specs.Found.{StandsAt, StandsNowhere};
 
     /// A tree with no rows, whose next serial number is `first`. It takes no memory.
@@ -74,9 +79,12 @@ impl Tree {
     /// Adds an object at the front below its owner, and gives its serial number. It takes no memory.
     pub fn add(&mut self, row: NewRow, owner: Owner) -> Obj
         requires room { 0 < self.old.spare }
+        requires few { length self.old.rows < row_limit }
+        requires small { row.size < size_limit }
         requires numbered { self.old.next < 2 ^ 64 - 1 }
+        requires owner { is_owner self.old.rows owner ≡ true }
         ensures serial { result ≡ record { 0 = self.old.next } }
-        ensures rows { pool_of self.new ≡ added (pool_of self.old) owner row.size row.name }
+        ensures rows { pool_of self.new ≡ added (pool_of self.old) row.kind owner row.size row.name }
         ensures spare { self.old.spare ≤ self.new.spare + 1 }
     {
         let serial = Obj(self.next);
@@ -85,15 +93,34 @@ impl Tree {
             owner: Some(owner),
             name: row.name,
             size: row.size,
+            kind: row.kind,
             mark: Mark::Quiet,
+            hook: 0,
         });
         self.next += 1;
         serial
     }
 
+    /// Takes the next serial number for something that is no object. None exactly where it is the greatest
+    /// `u64`. It takes no memory.
+    pub fn take_number(&mut self) -> Option<u64>
+        ensures number { result ≡ number_after self.old.next }
+        ensures taken { IsSome result → pool_of self.new ≡ number_taken (pool_of self.old) }
+        ensures spent { result ≡ None → self.new ≡ self.old }
+        ensures spare { self.new.spare ≡ self.old.spare }
+    {
+        if self.next == u64::MAX {
+            return None;
+        }
+        let number = self.next;
+        self.next = number + 1;
+        Some(number)
+    }
+
     /// How many rows there are.
     pub fn len(&self) -> usize
-        ensures { result ≡ length self.now.rows }
+        ensures count { result ≡ length self.now.rows }
+        ensures sound { IsTree self.now.rows self.now.next }
     {
         self.rows.len()
     }
@@ -133,19 +160,34 @@ impl Tree {
         Some(&self.rows[i])
     }
 
-    fn kid_index(&self, owner: Owner) -> Option<usize>
-        ensures { result ≡ position (λ r. is_below r.owner owner) self.now.rows }
+    /// The first child among the rows from this index on.
+    fn kid_from(&self, from: usize, owner: Owner) -> Option<Obj>
+        ensures { result ≡ kid_first (drop from self.now.rows) owner }
     {
-        self.rows.iter().position(|r| is_below(r.owner, owner))
+        for i in from..self.rows.len() {
+            let row = &self.rows[i];
+            if is_below(row.owner, owner) {
+                return Some(row.serial);
+            }
+        }
+        None
     }
 
     /// The child that was placed last. None exactly where there is none.
-    #[tactic(auto, using(crate::proofs::Finding::no_kid, crate::proofs::Finding::kid_found, crate::proofs::Finding::kid_in_range))]
     pub fn first_kid(&self, owner: Owner) -> Option<Obj>
         ensures { result ≡ kid_first self.now.rows owner }
     {
-        let i = self.kid_index(owner)?;
-        Some(self.rows[i].serial)
+        self.kid_from(0, owner)
+    }
+
+    /// The child of the same owner that was placed last before this one. None exactly where there is none, or
+    /// `x` has no owner.
+    pub fn next_kid(&self, x: Obj) -> Option<Obj>
+        ensures { result ≡ kid_next self.now.rows x }
+    {
+        let i = self.find(x)?;
+        let owner = self.rows[i].owner?;
+        self.kid_from(i + 1, owner)
     }
 
     /// The owner of an object. None exactly where it is no object, or has left its owner.
@@ -183,8 +225,19 @@ impl Tree {
         true
     }
 
+    /// Whether an object is the owner, or inside it. False where it is no object.
+    pub fn inside(&self, x: Obj, owner: Owner) -> bool
+        ensures { result ≡ (is_row self.now.rows x && is_inside_of self.now.rows (At x) owner) }
+    {
+        self.row(x).is_some() && self.is_inside(Owner::Of(x), owner)
+    }
+
     /// Puts an object below an owner, as its newest child. It takes no memory.
     pub fn place(&mut self, x: Obj, owner: Owner)
+        requires is { is_row self.old.rows x ≡ true }
+        requires live { is_dying self.old.rows x ≡ false }
+        requires owner { is_owner self.old.rows owner ≡ true }
+        requires apart { is_inside_of self.old.rows owner (At x) ≡ false }
         ensures rows { pool_of self.new ≡ placed (pool_of self.old) owner x }
         ensures spare { self.old.spare ≤ self.new.spare }
     {
@@ -198,6 +251,7 @@ impl Tree {
 
     /// Gives an object another name. It takes no memory.
     pub fn set_name(&mut self, x: Obj, name: Name)
+        requires { is_row self.old.rows x ≡ true }
         ensures rows { pool_of self.new ≡ renamed (pool_of self.old) x name }
         ensures spare { self.old.spare ≤ self.new.spare }
     {
@@ -206,8 +260,46 @@ impl Tree {
         }
     }
 
+    /// Gives an object another mark. It takes no memory.
+    pub fn set_mark(&mut self, x: Obj, mark: Mark)
+        requires is { is_row self.old.rows x ≡ true }
+        requires live { is_dying self.old.rows x ≡ false }
+        requires other { is_dying_mark mark ≡ false }
+        ensures rows { pool_of self.new ≡ marked (pool_of self.old) x mark }
+        ensures spare { self.old.spare ≤ self.new.spare }
+    {
+        if let Some(i) = self.find(x) {
+            self.rows[i].mark = mark;
+        }
+    }
+
+    /// Gives an object another destructor, by its routine; 0 is none. It takes no memory.
+    pub fn set_hook(&mut self, x: Obj, hook: u32)
+        requires { is_row self.old.rows x ≡ true }
+        ensures rows { pool_of self.new ≡ hooked (pool_of self.old) x hook }
+        ensures spare { self.old.spare ≤ self.new.spare }
+    {
+        if let Some(i) = self.find(x) {
+            self.rows[i].hook = hook;
+        }
+    }
+
+    /// Gives an object another size, in bytes. It takes no memory.
+    pub fn set_size(&mut self, x: Obj, size: u64)
+        requires is { is_row self.old.rows x ≡ true }
+        requires small { size < size_limit }
+        ensures rows { pool_of self.new ≡ resized (pool_of self.old) x size }
+        ensures spare { self.old.spare ≤ self.new.spare }
+    {
+        if let Some(i) = self.find(x) {
+            self.rows[i].size = size;
+        }
+    }
+
     /// The object leaves its owner, and is dying of it from then on. It takes no memory.
     pub fn detach(&mut self, x: Obj)
+        requires is { is_row self.old.rows x ≡ true }
+        requires live { is_dying self.old.rows x ≡ false }
         ensures rows { pool_of self.new ≡ detached (pool_of self.old) x }
         ensures spare { self.old.spare ≤ self.new.spare }
     {
@@ -220,6 +312,8 @@ impl Tree {
 
     /// The object is no more. It takes no memory.
     pub fn remove(&mut self, x: Obj)
+        requires dying { is_dying self.old.rows x ≡ true }
+        requires alone { kid_first self.old.rows (At x) ≡ None }
         ensures rows { pool_of self.new ≡ removed (pool_of self.old) x }
         ensures spare { self.old.spare ≤ self.new.spare }
     {

@@ -6,7 +6,7 @@ use Rattle.tree_specs.specs.declared.object.Owner.{Owner}
 use Rattle.tree_specs.specs.declared.object.Owner.TheVariants.{Of}
 use Rattle.tree_specs.specs.declared.row.Row.{Row}
 use Rattle.tree_specs.specs.declared.row.Mark.{Mark}
-use Rattle.tree_specs.specs.declared.row.Mark.TheVariants.{Quiet, Dying}
+use Rattle.tree_specs.specs.declared.row.Mark.TheVariants.{Quiet, Asked, Busy, Doomed, Dying}
 use Rattle.tree_specs.specs.declared.call.Call.{Call}
 use Rattle.tree_specs.specs.declared.call.Call.TheVariants as call
 use Rattle.tree_specs.specs.declared.reply.Refusal.{Refusal}
@@ -19,6 +19,7 @@ use Rattle.tree_specs.specs.declared.frame.Frame.TheVariants as frame
 use Rattle.tree_specs.specs.declared.frame.CallFrame.TheVariants.{Doing}
 use Rattle.tree_specs.specs.Pool.{Pool, row_of, is_owner, is_below, owner_of, is_dying_row, reaches}
 use Rattle.tree_specs.specs.Calls.{Check, refuse_if, refusals, small, object, owner, room, staying, apart, placing, given_by}
+use Rattle.tree_specs.specs.Sound.{IsLive}
 use Rattle.tree_specs.specs.Soundness.{is_sound_call}
 use Rattle.tree_specs.specs.Table.{doing}
 use Rattle.tree_specs.specs.Story.{heard}
@@ -48,7 +49,7 @@ passes p o size name e =
 pub record MayBePlaced (p : Pool) (o : Owner) (x : Obj) : Type 0 where
   pub row : Row
   pub is : row_of p.rows x ≡ Some row
-  pub quiet : row.mark ≡ Quiet
+  pub live : IsLive row.mark
   pub apart : o ≢ Of x
 
 -- an object that exists
@@ -59,14 +60,17 @@ passes-object p x e = each (row_of p.rows x) refl (not-false _ (refuse_if-none _
     each None h t = cc
     each (Some r) h t = (r, h)
 
-quiet-row : (p : Pool) (x : Obj) (r : Row) → row_of p.rows x ≡ Some r → staying p x ≡ [] → r.mark ≡ Quiet
-quiet-row p x r h e = each r.mark refl
+live-row : (p : Pool) (x : Obj) (r : Row) → row_of p.rows x ≡ Some r → staying p x ≡ [] → IsLive r.mark
+live-row p x r h e = each r.mark refl
   where
     dying : is_dying_row (row_of p.rows x) ≡ false
     dying = refuse_if-none _ _ e
 
-    each : (m : Mark) → r.mark ≡ m → r.mark ≡ Quiet
-    each Quiet m = m
+    each : (m : Mark) → r.mark ≡ m → IsLive m
+    each Quiet m = tt
+    each Asked m = tt
+    each Busy m = tt
+    each Doomed m = tt
     each (Dying former) m = let bad : true ≡ false = rw (h, m) at dying in cc
 
 apart-owner : (p : Pool) (x : Obj) (o : Owner) → apart p x o ≡ [] → o ≢ Of x
@@ -81,7 +85,7 @@ apart-owner p x o e = λ same_as. (
     first (suc n) t = rw t refl
 
 may-be : (p : Pool) (o : Owner) (x : Obj) → object p x ≡ [] → staying p x ≡ [] → apart p x o ≡ [] → MayBePlaced p o x
-may-be p o x e s a = let r = passes-object p x e in record { row = r.0; is = r.1; quiet = quiet-row p x r.0 r.1 s; apart = apart-owner p x o a }
+may-be p o x e s a = let r = passes-object p x e in record { row = r.0; is = r.1; live = live-row p x r.0 r.1 s; apart = apart-owner p x o a }
 
 pub passes-placing : (p : Pool) (o : Owner) (x : Obj) → placing p o x ≡ [] → MayBePlaced p o x
 passes-placing p o x e =

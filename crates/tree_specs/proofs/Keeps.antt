@@ -1,5 +1,5 @@
 -- Each step of the machine keeps what is sound.
-use Rattle.std.proofs.Common.{◌≡◌, ◌≢◌, ℕ, suc, zero, ◌+◌, ◌<◌, List, [], ◌∷◌, ◌++◌, Option, Some, None, true, false, refl, sym, ◌∙◌, ap, subst, inl, inr, arith}
+use Rattle.std.proofs.Common.{◌≡◌, ◌≢◌, ℕ, suc, zero, ◌+◌, ◌<◌, List, [], ◌∷◌, ◌++◌, Option, Some, None, Bool, true, false, refl, sym, ◌∙◌, ap, subst, ◌⊎◌, inl, inr, arith}
 use Rattle.std.specs.Prelude.{is_some, unwrap_or}
 use Rattle.step_machine.specs.Machine.{Move}
 use Rattle.step_machine.specs.Machine.{Move as Do}
@@ -9,23 +9,29 @@ use Rattle.tree_specs.specs.declared.object.Owner.{Owner}
 use Rattle.tree_specs.specs.declared.object.Owner.TheVariants.{Root, Of}
 use Rattle.tree_specs.specs.declared.row.Row.{Row}
 use Rattle.tree_specs.specs.declared.row.Mark.{Mark}
-use Rattle.tree_specs.specs.declared.row.Mark.TheVariants.{Quiet, Dying}
+use Rattle.tree_specs.specs.declared.row.Mark.TheVariants.{Quiet, Asked, Busy, Doomed, Dying}
 use Rattle.tree_specs.specs.declared.call.Call.{Call}
 use Rattle.tree_specs.specs.declared.call.Call.TheVariants as call
+use Rattle.tree_specs.specs.declared.reply.Reply.{Reply}
 use Rattle.tree_specs.specs.declared.reply.Reply.TheVariants as reply
 use Rattle.tree_specs.specs.declared.frame.Frame.{Frame}
 use Rattle.tree_specs.specs.declared.frame.Frame.TheVariants as frame
 use Rattle.tree_specs.specs.declared.frame.CallFrame.TheVariants.{Asking, Doing, Awaiting, Telling}
-use Rattle.tree_specs.specs.declared.frame.FreeFrame.TheVariants.{Beginning, Leaving, Looping, Trying, Ending}
+use Rattle.tree_specs.specs.declared.frame.FreeFrame.TheVariants.{Beginning, Leaving, Looping, Trying, Tried, Ending}
+use Rattle.tree_specs.specs.declared.frame.Purpose.{Purpose}
+use Rattle.tree_specs.specs.declared.frame.Purpose.TheVariants.{Removal, Emptying}
 use Rattle.tree_specs.specs.declared.frame.Answer.{Answer}
-use Rattle.tree_specs.specs.declared.frame.Answer.TheVariants.{Ok}
+use Rattle.tree_specs.specs.declared.frame.Answer.TheVariants.{Ok, Running}
+use Rattle.tree_specs.specs.declared.kind.Kind.TheVariants.{Plain}
 use Rattle.tree_specs.specs.Objects.{same}
 use Rattle.tree_specs.specs.Pool.{Pool, row_of, is_owner, owner_of, first_kid, without, changed, add, remove, left_row, place, rename, named_row}
+use Rattle.tree_specs.specs.Inside.{size_inside, count_inside}
+use Rattle.tree_specs.specs.Reports.{report}
 use Rattle.tree_specs.specs.Items.{Item}
 use Rattle.tree_specs.specs.Calls.{Check, refusals}
 use Rattle.tree_specs.specs.Story.{owner_reply}
-use Rattle.tree_specs.specs.Table.{table, step, lifted, begin_step, loop_step, call_step, effect_step}
-use Rattle.tree_specs.specs.Sound.{Shaped, ValidAt, Distinct, Phase, InLoop, phase_of, phases, claim_if, claim, claims, AllWait, IsLive, Rests, Sound}
+use Rattle.tree_specs.specs.Table.{table, step, lifted, begin_step, last_step, loop_step, call_step, effect_step}
+use Rattle.tree_specs.specs.Sound.{Owned, Shaped, ValidAt, Distinct, Phase, InRun, InLoop, phase_of, phases, claim_if, loop_claim, claim, claims, AllWait, IsLive, Stands, Rests, Sound}
 use Rattle.tree_specs.proofs.Numbered.{by_test, same-true, same-equal, same-false, same_or_not}
 use Rattle.tree_specs.proofs.Rows.{row_of-serial, row_of-changed-other, row_of-changed-same, row_of-without-other, row_of-without-same, Distinct-without, Distinct-changed, first_kid-owner}
 use Rattle.tree_specs.proofs.Checks.{passes, MayBePlaced, passes-placing, passes-reparent, passes-object, taken-doing}
@@ -55,15 +61,45 @@ dying-row (Some r) l e = marks r.mark refl e
   where
     marks : (m : Mark) → r.mark ≡ m → InLoop ∷ l ≡ phase_of r.mark → (s : Row) × (Some r ≡ Some s) × (former : Owner) × (s.mark ≡ Dying former) × (l ≡ [])
     marks Quiet m e = let e' : InLoop ∷ l ≡ [] = rw m at e in cc
+    marks Asked m e = let e' : InLoop ∷ l ≡ InRun ∷ [] = rw m at e in cc
+    marks Busy m e = let e' : InLoop ∷ l ≡ InRun ∷ [] = rw m at e in cc
+    marks Doomed m e = let e' : InLoop ∷ l ≡ InRun ∷ [] = rw m at e in cc
     marks (Dying former) m e = let e' : InLoop ∷ l ≡ InLoop ∷ [] = rw m at e in (r, refl, former, m, cc)
+
+loop-run : (purpose : Purpose) (b : Bool) (more l : List Phase) → (more ≡ InRun ∷ l → ⊥) → loop_claim purpose b ++ more ≡ InRun ∷ l → ⊥
+loop-run Removal true more l none e = cc
+loop-run Removal false more l none e = none e
+loop-run Emptying b more l none e = none e
+
+-- no open work claims that an object runs
+claims-run : (x : Obj) (fs : List Frame) (l : List Phase) → claims x fs ≡ InRun ∷ l → ⊥
+claims-run x [] l e = cc
+claims-run x (frame.Call f ∷ fs) l e = claims-run x fs l e
+claims-run x (frame.Free (Beginning y) ∷ fs) l e = claims-run x fs l e
+claims-run x (frame.Free (Leaving y) ∷ fs) l e = claims-run x fs l e
+claims-run x (frame.Free (Ending a) ∷ fs) l e = claims-run x fs l e
+claims-run x (frame.Free (Looping y purpose) ∷ fs) l e = loop-run purpose (same y x) (claims x fs) l (claims-run x fs l) e
+claims-run x (frame.Free (Trying y c purpose) ∷ fs) l e = loop-run purpose (same y x) (claims x fs) l (claims-run x fs l) e
+claims-run x (frame.Free (Tried y c purpose a) ∷ fs) l e = loop-run purpose (same y x) (claims x fs) l (claims-run x fs l) e
+
+-- a row that is neither claimed nor dying is quiet
+pub settled-row : (x : Obj) (fs : List Frame) (r : Row) → claims x fs ≡ phase_of r.mark → (r.mark ≡ Quiet) ⊎ ((former : Owner) × (r.mark ≡ Dying former))
+settled-row x fs r e = marks r.mark refl e
+  where
+    marks : (m : Mark) → r.mark ≡ m → claims x fs ≡ phase_of r.mark → (r.mark ≡ Quiet) ⊎ ((former : Owner) × (r.mark ≡ Dying former))
+    marks Quiet m e = inl m
+    marks Asked m e = absurd (claims-run x fs [] (rw m at e))
+    marks Busy m e = absurd (claims-run x fs [] (rw m at e))
+    marks Doomed m e = absurd (claims-run x fs [] (rw m at e))
+    marks (Dying former) m e = inr (former, m)
 
 -- what a claim on x says
 pub claim-here : (x : Obj) (a : Phase) (l : List Phase) (o : Option Row) → claim_if (same x x) a ++ l ≡ phases o → a ∷ l ≡ phases o
 claim-here x a l o h = let self : same x x ≡ true = same-equal x x refl in rw self at h
 
 -- what a step leads to is sound
-abbrev pub Stands : Move Frame Answer Pool Item → List Frame → ℕ → Type 0
-Stands m fs k = Leads table (λ g gs q j. Sound g gs q) m fs k
+abbrev pub KeptBy : Move Frame Answer Pool Item → List Frame → ℕ → Type 0
+KeptBy m fs k = Leads table (λ g gs q j. Sound g gs q) m fs k
 
 -- the same rows under another innermost work that claims as much
 goes_on : (f f' : Frame) (fs : List Frame) (p : Pool) → ((x : Obj) → claim x f' ≡ claim x f) → Rests f' fs p → Sound f fs p → Sound f' fs p
@@ -76,42 +112,43 @@ goes_on f f' fs p e h s = record {
   open_frees = λ x. ap (λ (l : List Phase). l ++ claims x fs) (e x) ∙ s.open_frees x;
 }
 
-asking : (fs : List Frame) (p : Pool) (k : ℕ) → Sound (frame.Call Asking) fs p → Stands (step (frame.Call Asking) p) fs k
+asking : (fs : List Frame) (p : Pool) (k : ℕ) → Sound (frame.Call Asking) fs p → KeptBy (step (frame.Call Asking) p) fs k
 asking fs p zero s = tt
 asking fs p (suc k) s = λ i g e.
     let t = taken-doing i g e in
     subst (λ (z : Frame). Sound z fs p) t.1 (goes_on (frame.Call Asking) (frame.Call (Doing t.0)) fs p (λ x. refl) tt s)
 
 -- a work that ends leaves the work below it sound
-ended : (a : Answer) (fs : List Frame) (p : Pool) (k : ℕ) → 0 < p.next → Distinct p.rows → ((x : Obj) → ValidAt p.next (row_of p.rows x) x)
-    → ((x : Obj) → claims x fs ≡ phases (row_of p.rows x)) → AllWait fs → Stands (Do.Done a p) fs k
-ended a [] p k z d v o w = tt
-ended a (frame.Call (Awaiting x) ∷ fs) p k z d v o w = record { started = z; distinct = d; valid = v; open_frees = o; waiting = w.1; rests = tt }
-ended a (frame.Free (Trying x c) ∷ fs) p k z d v o w = record { started = z; distinct = d; valid = v; open_frees = o; waiting = w.1; rests = tt }
-ended a (frame.Call Asking ∷ fs) p k z d v o w = absurd w.0
-ended a (frame.Call (Doing c) ∷ fs) p k z d v o w = absurd w.0
-ended a (frame.Call (Telling r) ∷ fs) p k z d v o w = absurd w.0
-ended a (frame.Free (Beginning x) ∷ fs) p k z d v o w = absurd w.0
-ended a (frame.Free (Leaving x) ∷ fs) p k z d v o w = absurd w.0
-ended a (frame.Free (Looping x) ∷ fs) p k z d v o w = absurd w.0
-ended a (frame.Free (Ending b) ∷ fs) p k z d v o w = absurd w.0
+ended : (fs : List Frame) (p : Pool) (k : ℕ) → 0 < p.next → Distinct p.rows → ((x : Obj) → ValidAt p.next (row_of p.rows x) x)
+    → ((x : Obj) → claims x fs ≡ phases (row_of p.rows x)) → AllWait fs → KeptBy (Do.Done Ok p) fs k
+ended [] p k z d v o w = tt
+ended (frame.Call (Awaiting x) ∷ fs) p k z d v o w = record { started = z; distinct = d; valid = v; open_frees = o; waiting = w.1; rests = tt }
+ended (frame.Free (Trying x c purpose) ∷ fs) p k z d v o w = record { started = z; distinct = d; valid = v; open_frees = o; waiting = w.1; rests = (refl, w.0) }
+ended (frame.Call Asking ∷ fs) p k z d v o w = absurd w.0
+ended (frame.Call (Doing c) ∷ fs) p k z d v o w = absurd w.0
+ended (frame.Call (Telling r) ∷ fs) p k z d v o w = absurd w.0
+ended (frame.Free (Beginning x) ∷ fs) p k z d v o w = absurd w.0
+ended (frame.Free (Leaving x) ∷ fs) p k z d v o w = absurd w.0
+ended (frame.Free (Looping x purpose) ∷ fs) p k z d v o w = absurd w.0
+ended (frame.Free (Tried x c purpose a) ∷ fs) p k z d v o w = absurd w.0
+ended (frame.Free (Ending b) ∷ fs) p k z d v o w = absurd w.0
 
 -- ---- freeing
 
-leaving : (x : Obj) (fs : List Frame) (p : Pool) (k : ℕ) → Sound (frame.Free (Leaving x)) fs p → Stands (step (frame.Free (Leaving x)) p) fs k
+leaving : (x : Obj) (fs : List Frame) (p : Pool) (k : ℕ) → Sound (frame.Free (Leaving x)) fs p → KeptBy (step (frame.Free (Leaving x)) p) fs k
 leaving x fs p k s =
     let self : same x x ≡ true = same-equal x x refl in
     let r : Row = s.rests.0 in
     let e : row_of p.rows x ≡ Some r = s.rests.1 in
     let v : ValidAt p.next (Some r) x = rw e at (s.valid x) in
-    let none : claims x fs ≡ [] = s.open_frees x ∙ ap phases e ∙ quiet r.mark s.rests.2 in
+    let none : claims x fs ≡ [] = s.open_frees x ∙ ap phases e ∙ ap phase_of s.rests.2 in
     let new : row_of (changed left_row p.rows x) x ≡ Some (left_row r) = row_of-changed-same left_row p.rows x r (λ q. refl) e in
     record {
       started = s.started;
       distinct = Distinct-changed left_row p.rows x (λ q. refl) s.distinct;
       valid = valid-at p.next p.rows (changed left_row p.rows x) x s.valid (λ y ne. row_of-changed-other left_row p.rows x y (λ q. refl) ne)
-          (rw new (v.0, v.1, left r.mark r.owner s.rests.2 v.2));
-      open_frees = frees-at (frame.Free (Leaving x)) (frame.Free (Looping x)) fs fs p.rows (changed left_row p.rows x) x s.open_frees
+          (rw new (v.0, v.1, left r.owner (subst (λ (m : Mark). Shaped m r.owner x) s.rests.2 v.2)));
+      open_frees = frees-at (frame.Free (Leaving x)) (frame.Free (Looping x Removal)) fs fs p.rows (changed left_row p.rows x) x s.open_frees
           (λ y ne. row_of-changed-other left_row p.rows x y (λ q. refl) ne)
           (λ y ne. let u : same x y ≡ false = same-false x y ne in rw u refl)
           (rw (self, none, new) refl);
@@ -119,17 +156,12 @@ leaving x fs p k s =
       rests = tt;
     }
   where
-    quiet : (m : Mark) → IsLive m → phase_of m ≡ []
-    quiet Quiet l = refl
-    quiet (Dying former) l = absurd l
-
-    left : (m : Mark) (o : Option Owner) → IsLive m → Shaped m o x → Shaped (Dying (unwrap_or o Root)) None x
-    left Quiet (Some o) l h = h
-    left Quiet None l h = absurd h
-    left (Dying former) o l h = absurd l
+    left : (o : Option Owner) → Owned o x → Shaped (Dying (unwrap_or o Root)) None x
+    left (Some o) h = h
+    left None h = absurd h
 
 -- the last child is gone, and the object is removed
-removed : (x : Obj) (fs : List Frame) (p : Pool) → Sound (frame.Free (Looping x)) fs p → Sound (frame.Free (Ending Ok)) fs (remove p x)
+removed : (x : Obj) (fs : List Frame) (p : Pool) → Sound (frame.Free (Looping x Removal)) fs p → Sound (frame.Free (Ending Ok)) fs (remove p x)
 removed x fs p s =
     let self : same x x ≡ true = same-equal x x refl in
     let row = dying-row (row_of p.rows x) (claims x fs) (claim-here x InLoop (claims x fs) (row_of p.rows x) (s.open_frees x)) in
@@ -139,39 +171,51 @@ removed x fs p s =
       started = s.started;
       distinct = Distinct-without p.rows x s.distinct;
       valid = valid-at p.next p.rows (without p.rows x) x s.valid (λ y ne. row_of-without-other p.rows x y ne) (rw gone tt);
-      open_frees = frees-at (frame.Free (Looping x)) (frame.Free (Ending Ok)) fs fs p.rows (without p.rows x) x s.open_frees (λ y ne. row_of-without-other p.rows x y ne)
+      open_frees = frees-at (frame.Free (Looping x Removal)) (frame.Free (Ending Ok)) fs fs p.rows (without p.rows x) x s.open_frees (λ y ne. row_of-without-other p.rows x y ne)
           (λ y ne. let u : same x y ≡ false = same-false x y ne in rw u refl) (rw (none, gone) refl);
       waiting = s.waiting;
-      rests = tt;
+      rests = refl;
     }
 
-looping : (x : Obj) (fs : List Frame) (p : Pool) (k : ℕ) → Sound (frame.Free (Looping x)) fs p → Stands (step (frame.Free (Looping x)) p) fs k
-looping x fs p k s = each (first_kid p.rows (Of x)) refl
+looping : (x : Obj) (purpose : Purpose) (fs : List Frame) (p : Pool) (k : ℕ) → Sound (frame.Free (Looping x purpose)) fs p → KeptBy (step (frame.Free (Looping x purpose)) p) fs k
+looping x purpose fs p k s = each (first_kid p.rows (Of x)) refl
   where
-    each : (o : Option Obj) → first_kid p.rows (Of x) ≡ o → Stands (lifted (loop_step x (first_kid p.rows (Of x)) p)) fs k
-    each None e = rw e (removed x fs p s)
+    last : (purpose : Purpose) → Sound (frame.Free (Looping x purpose)) fs p → KeptBy (lifted (last_step x purpose p)) fs k
+    last Removal s = removed x fs p s
+    last Emptying s = ended fs p k s.started s.distinct s.valid s.open_frees s.waiting
+
+    each : (o : Option Obj) → first_kid p.rows (Of x) ≡ o → KeptBy (lifted (loop_step x purpose (first_kid p.rows (Of x)) p)) fs k
+    each None e = rw e (last purpose s)
     each (Some c) e = rw e (record {
       started = s.started;
       distinct = s.distinct;
       valid = s.valid;
       open_frees = s.open_frees;
-      waiting = (tt, s.waiting);
+      waiting = (s.rests, s.waiting);
       rests = (refl, first_kid-owner p.rows (Of x) c s.distinct e);
     })
 
-beginning : (x : Obj) (fs : List Frame) (p : Pool) (k : ℕ) → Sound (frame.Free (Beginning x)) fs p → Stands (step (frame.Free (Beginning x)) p) fs k
+-- the freeing of a child is over
+tried : (x c : Obj) (purpose : Purpose) (a : Answer) (fs : List Frame) (p : Pool) (k : ℕ) → Sound (frame.Free (Tried x c purpose a)) fs p
+    → KeptBy (step (frame.Free (Tried x c purpose a)) p) fs k
+tried x c purpose Ok fs p k s = goes_on (frame.Free (Tried x c purpose Ok)) (frame.Free (Looping x purpose)) fs p (λ y. refl) s.rests.1 s
+tried x c purpose Running fs p k s = let e : Running ≡ Ok = s.rests.0 in cc
+
+beginning : (x : Obj) (fs : List Frame) (p : Pool) (k : ℕ) → Sound (frame.Free (Beginning x)) fs p → KeptBy (step (frame.Free (Beginning x)) p) fs k
 beginning x fs p k s = each (row_of p.rows x) refl
   where
-    over : Stands (Do.Done Ok p) fs k
-    over = ended Ok fs p k s.started s.distinct s.valid s.open_frees s.waiting
+    over : KeptBy (Do.Done Ok p) fs k
+    over = ended fs p k s.started s.distinct s.valid s.open_frees s.waiting
 
-    marks : (r : Row) (m : Mark) → r.mark ≡ m → row_of p.rows x ≡ Some r → Stands (lifted (begin_step x (row_of p.rows x) p)) fs k
-    marks r (Dying former) m e = rw (e, m) over
-    marks r Quiet m e = rw (e, m) (goes_on (frame.Free (Beginning x)) (frame.Free (Leaving x)) fs p (λ y. refl) (r, e, rw m tt) s)
+    found : (r : Row) → row_of p.rows x ≡ Some r → KeptBy (lifted (begin_step x (row_of p.rows x) p)) fs k
+    found r e = elim (settled-row x fs r (s.open_frees x ∙ ap phases e)) [
+      | inl m ↦ rw (e, m) (goes_on (frame.Free (Beginning x)) (frame.Free (Leaving x)) fs p (λ y. refl) (r, e, m) s)
+      | inr d ↦ rw (e, d.1) over
+    ]
 
-    each : (o : Option Row) → row_of p.rows x ≡ o → Stands (lifted (begin_step x (row_of p.rows x) p)) fs k
+    each : (o : Option Row) → row_of p.rows x ≡ o → KeptBy (lifted (begin_step x (row_of p.rows x) p)) fs k
     each None e = rw e over
-    each (Some r) e = marks r r.mark refl e
+    each (Some r) e = found r e
 
 -- an owner stands only on a row that is live
 pub owned-row : (p : Pool) (c : Obj) (o : Owner) → ((y : Obj) → ValidAt p.next (row_of p.rows y) y) → owner_of p.rows c ≡ Some o → (r : Row) × (row_of p.rows c ≡ Some r) × IsLive r.mark
@@ -179,6 +223,9 @@ owned-row p c o valid e = each (row_of p.rows c) refl
   where
     live : (m : Mark) (w : Option Owner) → w ≡ Some o → Shaped m w c → IsLive m
     live Quiet w e s = tt
+    live Asked w e s = tt
+    live Busy w e s = tt
+    live Doomed w e s = tt
     live (Dying former) None e s = cc
     live (Dying former) (Some w) e s = s
 
@@ -189,11 +236,15 @@ owned-row p c o valid e = each (row_of p.rows c) refl
         let v : ValidAt p.next (Some r) c = rw h at (valid c) in
         (r, h, live r.mark r.owner w v.2)
 
+ending : (a : Answer) (fs : List Frame) (p : Pool) (k : ℕ) → Sound (frame.Free (Ending a)) fs p → KeptBy (step (frame.Free (Ending a)) p) fs k
+ending Ok fs p k s = ended fs p k s.started s.distinct s.valid s.open_frees s.waiting
+ending Running fs p k s = let e : Running ≡ Ok = s.rests in cc
+
 -- ---- calls
 
 -- a new row is sound below an owner
 pub new-sound : (f f' : Frame) (o : Owner) (size : ℕ) (name : List ℕ) (fs : List Frame) (p : Pool) → Sound f fs p → is_owner p.rows o ≡ true
-    → ((x : Obj) → claim x f' ≡ claim x f) → Rests f' fs (add p o size name) → Sound f' fs (add p o size name)
+    → ((x : Obj) → claim x f' ≡ claim x f) → Rests f' fs (add p Plain o size name) → Sound f' fs (add p Plain o size name)
 new-sound f f' o size name fs p s e claim-same h =
     let n : Obj = record { 0 = p.next } in
     let none : row_of p.rows n ≡ None = fresh (row_of p.rows n) (s.valid n) in
@@ -227,9 +278,13 @@ new-sound f f' o size name fs p s e claim-same h =
     higher None y v = tt
     higher (Some r) y v = let l : y.0 < p.next = v.1 in (v.0, omega arith, v.2)
 
--- a row that is quiet claims nothing
-quiet-phases : (r : Row) → r.mark ≡ Quiet → phase_of r.mark ≡ []
-quiet-phases r e = rw e refl
+-- a row that isn't dying has its shape with any other owner
+owned-shape : (m : Mark) (o : Owner) (x : Obj) → IsLive m → o ≢ Of x → Shaped m (Some o) x
+owned-shape Quiet o x l ne = ne
+owned-shape Asked o x l ne = ne
+owned-shape Busy o x l ne = ne
+owned-shape Doomed o x l ne = ne
+owned-shape (Dying former) o x l ne = absurd l
 
 -- an object that is put below another owner
 pub placed-sound : (f f' : Frame) (o : Owner) (x : Obj) (fs : List Frame) (p : Pool) → Sound f fs p → MayBePlaced p o x → ((y : Obj) → claim y f' ≡ claim y f) → Rests f' fs (place p o x)
@@ -248,7 +303,7 @@ placed-sound f f' o x fs p s may claim-same h =
     record {
       started = s.started;
       distinct = rw rows (ap (row_of (without p.rows x)) at ∙ gone, Distinct-without p.rows x s.distinct);
-      valid = valid-at p.next p.rows (place p o x).rows x s.valid other (rw (here, may.quiet) (v.0, v.1, may.apart));
+      valid = valid-at p.next p.rows (place p o x).rows x s.valid other (rw here (v.0, v.1, owned-shape r.mark o x may.live may.apart));
       open_frees = frees-at f f' fs fs p.rows (place p o x).rows x s.open_frees other (λ y ne. ap (λ (l : List Phase). l ++ claims y fs) (claim-same y))
           (ap (λ (l : List Phase). l ++ claims x fs) (claim-same x) ∙ s.open_frees x ∙ ap phases may.is ∙ sym (ap phases here));
       waiting = s.waiting;
@@ -273,7 +328,11 @@ named-sound f f' x name fs p s r is claim-same h =
       rests = h;
     }
 
-effected : (c : Call) (fs : List Frame) (p : Pool) (k : ℕ) → Sound (frame.Call (Doing c)) fs p → refusals p c ≡ [] → Stands (effect_step c p) fs k
+-- a call that only looks
+told : (c : Call) (r : Reply) (fs : List Frame) (p : Pool) → Sound (frame.Call (Doing c)) fs p → Sound (frame.Call (Telling r)) fs p
+told c r fs p s = goes_on (frame.Call (Doing c)) (frame.Call (Telling r)) fs p (λ y. refl) tt s
+
+effected : (c : Call) (fs : List Frame) (p : Pool) (k : ℕ) → Sound (frame.Call (Doing c)) fs p → refusals p c ≡ [] → KeptBy (effect_step c p) fs k
 effected (call.New o size name) fs p k s none = new-sound (frame.Call (Doing (call.New o size name))) (frame.Call (Telling (reply.Number p.next))) o size name fs p s (passes p o size name none) (λ x. refl) tt
 effected (call.Steal o x) fs p k s none = placed-sound (frame.Call (Doing (call.Steal o x))) (frame.Call (Telling reply.Ok)) o x fs p s (passes-placing p o x none) (λ y. refl) tt
 effected (call.Move o x) fs p k s none = placed-sound (frame.Call (Doing (call.Move o x))) (frame.Call (Telling (reply.Number x.0))) o x fs p s (passes-placing p o x none) (λ y. refl) tt
@@ -282,24 +341,29 @@ effected (call.Reparent from to x) fs p k s none =
 effected (call.Rename x name) fs p k s none =
     let r = passes-object p x none in
     named-sound (frame.Call (Doing (call.Rename x name))) (frame.Call (Telling reply.Ok)) x name fs p s r.0 r.1 (λ y. refl) tt
-effected (call.Parent x) fs p k s none = goes_on (frame.Call (Doing (call.Parent x))) (frame.Call (Telling (owner_reply (owner_of p.rows x)))) fs p (λ y. refl) tt s
+effected (call.Parent x) fs p k s none = told (call.Parent x) (owner_reply (owner_of p.rows x)) fs p s
+effected (call.Freekids x) fs p k s none = record { started = s.started; distinct = s.distinct; valid = s.valid; open_frees = s.open_frees; waiting = (tt, s.waiting); rests = tt }
+effected (call.Total o) fs p k s none = told (call.Total o) (reply.Number (size_inside p.rows o)) fs p s
+effected (call.Count o) fs p k s none = told (call.Count o) (reply.Number (count_inside p.rows o)) fs p s
+effected (call.Report o) fs p k s none = told (call.Report o) (reply.Rows (report p.rows o)) fs p s
 effected (call.Free x) fs p k s none = record { started = s.started; distinct = s.distinct; valid = s.valid; open_frees = s.open_frees; waiting = (tt, s.waiting); rests = tt }
 
-doing : (c : Call) (fs : List Frame) (p : Pool) (k : ℕ) → Sound (frame.Call (Doing c)) fs p → Stands (step (frame.Call (Doing c)) p) fs k
+doing : (c : Call) (fs : List Frame) (p : Pool) (k : ℕ) → Sound (frame.Call (Doing c)) fs p → KeptBy (step (frame.Call (Doing c)) p) fs k
 doing c fs p k s = each (refusals p c) refl
   where
-    each : (check : Check) → refusals p c ≡ check → Stands (call_step (refusals p c) c p) fs k
+    each : (check : Check) → refusals p c ≡ check → KeptBy (call_step (refusals p c) c p) fs k
     each [] e = rw e (effected c fs p k s e)
-    each (why ∷ later) e = rw e (goes_on (frame.Call (Doing c)) (frame.Call (Telling (reply.No why))) fs p (λ x. refl) tt s)
+    each (why ∷ later) e = rw e (told c (reply.No why) fs p s)
 
 -- every step keeps what is sound
-pub sound-kept : (f : Frame) (fs : List Frame) (p : Pool) (k : ℕ) → Sound f fs p → Stands (step f p) fs k
+pub sound-kept : (f : Frame) (fs : List Frame) (p : Pool) (k : ℕ) → Sound f fs p → KeptBy (step f p) fs k
 sound-kept (frame.Call Asking) fs p k s = asking fs p k s
 sound-kept (frame.Call (Doing c)) fs p k s = doing c fs p k s
 sound-kept (frame.Call (Awaiting x)) fs p k s = absurd s.rests
 sound-kept (frame.Call (Telling r)) fs p k s = goes_on (frame.Call (Telling r)) (frame.Call Asking) fs p (λ x. refl) tt s
 sound-kept (frame.Free (Beginning x)) fs p k s = beginning x fs p k s
 sound-kept (frame.Free (Leaving x)) fs p k s = leaving x fs p k s
-sound-kept (frame.Free (Looping x)) fs p k s = looping x fs p k s
-sound-kept (frame.Free (Trying x c)) fs p k s = absurd s.rests
-sound-kept (frame.Free (Ending answer)) fs p k s = ended answer fs p k s.started s.distinct s.valid s.open_frees s.waiting
+sound-kept (frame.Free (Looping x purpose)) fs p k s = looping x purpose fs p k s
+sound-kept (frame.Free (Trying x c purpose)) fs p k s = absurd s.rests
+sound-kept (frame.Free (Tried x c purpose a)) fs p k s = tried x c purpose a fs p k s
+sound-kept (frame.Free (Ending a)) fs p k s = ending a fs p k s

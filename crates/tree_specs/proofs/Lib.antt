@@ -1,5 +1,10 @@
 pub mod Numbered
 pub mod Rows
+pub mod Kids
+pub mod Settling
+pub mod Ancestry
+pub mod Rooted
+pub mod Walk
 pub mod Checks
 pub mod Keeps
 pub mod Falls

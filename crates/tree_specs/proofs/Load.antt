@@ -1,5 +1,5 @@
 -- The stated number of turns is above the measure at every moment, and a host's own work stays below all others.
-use Rattle.std.proofs.Common.{◌≡◌, ℕ, suc, zero, ◌+◌, ◌*◌, ◌≤◌, ◌<◌, List, [], ◌∷◌, length, Option, Some, None, refl, ap, subst, arith}
+use Rattle.std.proofs.Common.{◌⊎◌, inl, inr, ◌≡◌, ℕ, suc, zero, ◌+◌, ◌*◌, ◌≤◌, ◌<◌, List, [], ◌∷◌, length, Option, Some, None, refl, ◌∙◌, ap, subst, arith}
 use Rattle.step_machine.specs.Machine.{Move}
 use Rattle.step_machine.specs.Machine.{Move as Do}
 use Rattle.step_machine.proofs.Ends.{Leads}
@@ -8,7 +8,7 @@ use Rattle.tree_specs.specs.declared.object.Owner.{Owner}
 use Rattle.tree_specs.specs.declared.object.Owner.TheVariants.{Of}
 use Rattle.tree_specs.specs.declared.row.Row.{Row}
 use Rattle.tree_specs.specs.declared.row.Mark.{Mark}
-use Rattle.tree_specs.specs.declared.row.Mark.TheVariants.{Quiet, Dying}
+use Rattle.tree_specs.specs.declared.row.Mark.TheVariants.{Quiet, Asked, Busy, Doomed, Dying}
 use Rattle.tree_specs.specs.declared.call.Call.{Call}
 use Rattle.tree_specs.specs.declared.call.Call.TheVariants as call
 use Rattle.tree_specs.specs.declared.reply.Reply.{Reply}
@@ -16,23 +16,26 @@ use Rattle.tree_specs.specs.declared.reply.Reply.TheVariants as reply
 use Rattle.tree_specs.specs.declared.frame.Frame.{Frame}
 use Rattle.tree_specs.specs.declared.frame.Frame.TheVariants as frame
 use Rattle.tree_specs.specs.declared.frame.CallFrame.TheVariants.{Asking, Doing, Awaiting, Telling}
-use Rattle.tree_specs.specs.declared.frame.FreeFrame.TheVariants.{Beginning, Leaving, Looping, Trying, Ending}
+use Rattle.tree_specs.specs.declared.frame.FreeFrame.TheVariants.{Beginning, Leaving, Looping, Trying, Tried, Ending}
+use Rattle.tree_specs.specs.declared.frame.Purpose.{Purpose}
+use Rattle.tree_specs.specs.declared.frame.Purpose.TheVariants.{Removal, Emptying}
 use Rattle.tree_specs.specs.declared.frame.Answer.{Answer}
-use Rattle.tree_specs.specs.declared.frame.Answer.TheVariants.{Ok}
+use Rattle.tree_specs.specs.declared.frame.Answer.TheVariants.{Ok, Running}
 use Rattle.tree_specs.specs.Pool.{Pool, row_of, owner_of, first_kid, changed, left_row, place, named_row}
 use Rattle.tree_specs.specs.Items.{Item}
 use Rattle.tree_specs.specs.Calls.{Check, refusals}
-use Rattle.tree_specs.specs.Table.{table, step, lifted, begin_step, begin_by, loop_step, call_step, effect_step, replied, resume}
-use Rattle.tree_specs.specs.Sound.{InLoop, claims, IsWaiting, AllWait, IsLive, Sound}
+use Rattle.tree_specs.specs.Table.{table, step, lifted, begin_step, last_step, loop_step, call_step, effect_step, replied, resume}
+use Rattle.tree_specs.specs.Sound.{phases, InLoop, claims, IsWaiting, AllWait, IsLive, Sound}
 use Rattle.tree_specs.proofs.Checks.{taken-doing, MayBePlaced, passes-placing, passes-reparent, passes-object}
 use Rattle.std.proofs.Math.Nat.{mul-le-mul_left}
 use Rattle.tree_specs.specs.Story.{owner_reply, turns}
 use Rattle.tree_specs.specs.View.{View}
 use Rattle.tree_specs.specs.Whole.{IsCaller, Based, size, sizes, mark_burden, burden, Light, Whole}
-use Rattle.tree_specs.specs.Inside.{total}
+use Rattle.tree_specs.specs.Inside.{total, size_inside, count_inside}
+use Rattle.tree_specs.specs.Reports.{report}
 use Rattle.tree_specs.specs.Measure.{mark_weight, weight, waiting_cost, below_cost, loop_kids, top_cost, cost, pending}
 use Rattle.tree_specs.proofs.Rows.{total-without, total-placed, total-changed, count-length}
-use Rattle.tree_specs.proofs.Keeps.{dying-row, claim-here}
+use Rattle.tree_specs.proofs.Keeps.{settled-row, dying-row, claim-here}
 
 -- what a move leads to is based and light
 abbrev pub Placed : Move Frame Answer Pool Item → List Frame → ℕ → Type 0
@@ -47,20 +50,21 @@ based-other : (f g : Frame) (fs : List Frame) → (IsCaller f → IsCaller g) �
 based-other f g [] c b = c b
 based-other f g (h ∷ fs) c b = b
 
-size-resume : (g : Frame) (a : Answer) → IsWaiting g → size (resume g a) ≡ size g
-size-resume (frame.Call (Awaiting x)) a w = refl
-size-resume (frame.Free (Trying x c)) a w = refl
-size-resume (frame.Call Asking) a w = absurd w
-size-resume (frame.Call (Doing c)) a w = absurd w
-size-resume (frame.Call (Telling r)) a w = absurd w
-size-resume (frame.Free (Beginning x)) a w = absurd w
-size-resume (frame.Free (Leaving x)) a w = absurd w
-size-resume (frame.Free (Looping x)) a w = absurd w
-size-resume (frame.Free (Ending b)) a w = absurd w
+size-resume : (g : Frame) (gs : List Frame) (a : Answer) → IsWaiting g gs → size (resume g a) ≡ size g
+size-resume (frame.Call (Awaiting x)) gs a w = refl
+size-resume (frame.Free (Trying x c purpose)) gs a w = refl
+size-resume (frame.Call Asking) gs a w = absurd w
+size-resume (frame.Call (Doing c)) gs a w = absurd w
+size-resume (frame.Call (Telling r)) gs a w = absurd w
+size-resume (frame.Free (Beginning x)) gs a w = absurd w
+size-resume (frame.Free (Leaving x)) gs a w = absurd w
+size-resume (frame.Free (Looping x purpose)) gs a w = absurd w
+size-resume (frame.Free (Tried x c purpose b)) gs a w = absurd w
+size-resume (frame.Free (Ending b)) gs a w = absurd w
 
 over : (a : Answer) (f : Frame) (fs : List Frame) (p : Pool) (k : ℕ) → AllWait fs → Based f fs → Light f fs p → Placed (Do.Done a p) fs k
 over a f [] p k w b l = tt
-over a f (g ∷ gs) p k w b l = (based-resume g gs a b, omega (arith, size-resume g a w.0))
+over a f (g ∷ gs) p k w b l = (based-resume g gs a b, omega (arith, size-resume g gs a w.0))
 
 asking-placed : (fs : List Frame) (p : Pool) (k : ℕ) → Based (frame.Call Asking) fs → Light (frame.Call Asking) fs p → Placed (step (frame.Call Asking) p) fs k
 asking-placed fs p zero b l = tt
@@ -80,6 +84,7 @@ doing-placed c fs p k b l = each (refusals p c) refl
     effect : (d : Call) → refusals p d ≡ [] → Placed (effect_step d p) fs k
     effect (call.New o n name) none = (told (reply.Number p.next), omega arith)
     effect (call.Free x) none = (based-other (frame.Call (Doing c)) (frame.Call (Awaiting x)) fs (λ z. tt) b, omega arith)
+    effect (call.Freekids x) none = (based-other (frame.Call (Doing c)) (frame.Call (Awaiting x)) fs (λ z. tt) b, omega arith)
     effect (call.Steal o x) none = put reply.Ok o x (passes-placing p o x none)
     effect (call.Move o x) none = put (reply.Number x.0) o x (passes-placing p o x none)
     effect (call.Reparent from to x) none = put reply.Ok to x (passes-reparent p from to x none)
@@ -88,58 +93,69 @@ doing-placed c fs p k b l = each (refusals p c) refl
         let w : total burden (changed (named_row name) p.rows x) ≡ total burden p.rows = omega (arith, total-changed burden (named_row name) p.rows x r.0 r.1) in
         (told reply.Ok, omega (arith, w))
     effect (call.Parent x) none = (told (owner_reply (owner_of p.rows x)), l)
+    effect (call.Total o) none = (told (reply.Number (size_inside p.rows o)), l)
+    effect (call.Count o) none = (told (reply.Number (count_inside p.rows o)), l)
+    effect (call.Report o) none = (told (reply.Rows (report p.rows o)), l)
 
     each : (check : Check) → refusals p c ≡ check → Placed (call_step check c p) fs k
     each (why ∷ later) e = (told (reply.No why), l)
     each [] e = effect c e
 
-beginning-placed : (x : Obj) (fs : List Frame) (p : Pool) (k : ℕ) → AllWait fs → Based (frame.Free (Beginning x)) fs → Light (frame.Free (Beginning x)) fs p
+beginning-placed : (x : Obj) (fs : List Frame) (p : Pool) (k : ℕ) → Sound (frame.Free (Beginning x)) fs p → Based (frame.Free (Beginning x)) fs → Light (frame.Free (Beginning x)) fs p
     → Placed (step (frame.Free (Beginning x)) p) fs k
-beginning-placed x fs p k w b l = each (row_of p.rows x)
+beginning-placed x fs p k s b l = each (row_of p.rows x) refl
   where
-    marks : (m : Mark) → Placed (lifted (begin_by x m p)) fs k
-    marks (Dying former) = over Ok (frame.Free (Beginning x)) fs p k w b l
-    marks Quiet = (based-other (frame.Free (Beginning x)) (frame.Free (Leaving x)) fs (λ z. z) b, l)
+    done : Placed (Do.Done Ok p) fs k
+    done = over Ok (frame.Free (Beginning x)) fs p k s.waiting b l
 
-    each : (o : Option Row) → Placed (lifted (begin_step x o p)) fs k
-    each None = over Ok (frame.Free (Beginning x)) fs p k w b l
-    each (Some r) = marks r.mark
+    found : (r : Row) → row_of p.rows x ≡ Some r → Placed (lifted (begin_step x (row_of p.rows x) p)) fs k
+    found r e = elim (settled-row x fs r (s.open_frees x ∙ ap phases e)) [
+      | inl m ↦ rw (e, m) (based-other (frame.Free (Beginning x)) (frame.Free (Leaving x)) fs (λ z. z) b, l)
+      | inr d ↦ rw (e, d.1) done
+    ]
+
+    each : (o : Option Row) → row_of p.rows x ≡ o → Placed (lifted (begin_step x (row_of p.rows x) p)) fs k
+    each None e = rw e done
+    each (Some r) e = found r e
 
 leaving-placed : (x : Obj) (fs : List Frame) (p : Pool) (k : ℕ) → Sound (frame.Free (Leaving x)) fs p → Based (frame.Free (Leaving x)) fs → Light (frame.Free (Leaving x)) fs p
     → Placed (step (frame.Free (Leaving x)) p) fs k
-leaving-placed x fs p k s b l = by-row s.rests.0 s.rests.1 s.rests.2
-  where
-    light : (m : Mark) → IsLive m → mark_burden m ≡ 0
-    light Quiet v = refl
-    light (Dying former) v = absurd v
+leaving-placed x fs p k s b l =
+    let w = total-changed burden left_row p.rows x s.rests.0 s.rests.1 in
+    (based-other (frame.Free (Leaving x)) (frame.Free (Looping x Removal)) fs (λ z. z) b, omega (arith, w, ap mark_burden s.rests.2))
 
-    by-row : (r : Row) → row_of p.rows x ≡ Some r → IsLive r.mark → Placed (step (frame.Free (Leaving x)) p) fs k
-    by-row r e v =
-        let w = total-changed burden left_row p.rows x r e in
-        let m = light r.mark v in
-        (based-other (frame.Free (Leaving x)) (frame.Free (Looping x)) fs (λ z. z) b, omega (arith, w, m))
-
-looping-placed : (x : Obj) (fs : List Frame) (p : Pool) (k : ℕ) → Sound (frame.Free (Looping x)) fs p → Based (frame.Free (Looping x)) fs → Light (frame.Free (Looping x)) fs p
-    → Placed (step (frame.Free (Looping x)) p) fs k
-looping-placed x fs p k s b l = each (first_kid p.rows (Of x))
+looping-placed : (x : Obj) (purpose : Purpose) (fs : List Frame) (p : Pool) (k : ℕ) → Sound (frame.Free (Looping x purpose)) fs p → Based (frame.Free (Looping x purpose)) fs
+    → Light (frame.Free (Looping x purpose)) fs p → Placed (step (frame.Free (Looping x purpose)) p) fs k
+looping-placed x purpose fs p k s b l = each (first_kid p.rows (Of x))
   where
-    each : (o : Option Obj) → Placed (lifted (loop_step x o p)) fs k
-    each (Some c) = (based-other (frame.Free (Looping x)) (frame.Free (Trying x c)) fs (λ z. z) b, omega arith)
-    each None =
+    last : (purpose : Purpose) → Sound (frame.Free (Looping x purpose)) fs p → Based (frame.Free (Looping x purpose)) fs → Light (frame.Free (Looping x purpose)) fs p
+        → Placed (lifted (last_step x purpose p)) fs k
+    last Removal s b l =
         let row = dying-row (row_of p.rows x) (claims x fs) (claim-here x InLoop (claims x fs) (row_of p.rows x) (s.open_frees x)) in
         let w = total-without burden p.rows x row.0 row.1 in
         let i : burden row.0 ≡ 3 = ap mark_burden row.3 in
-        (based-other (frame.Free (Looping x)) (frame.Free (Ending Ok)) fs (λ z. z) b, omega (arith, w, i))
+        (based-other (frame.Free (Looping x Removal)) (frame.Free (Ending Ok)) fs (λ z. z) b, omega (arith, w, i))
+    last Emptying s b l = over Ok (frame.Free (Looping x Emptying)) fs p k s.waiting b l
+
+    each : (o : Option Obj) → Placed (lifted (loop_step x purpose o p)) fs k
+    each (Some c) = (based-other (frame.Free (Looping x purpose)) (frame.Free (Trying x c purpose)) fs (λ z. z) b, omega arith)
+    each None = last purpose s b l
+
+tried-placed : (x c : Obj) (purpose : Purpose) (a : Answer) (fs : List Frame) (p : Pool) (k : ℕ) → Sound (frame.Free (Tried x c purpose a)) fs p → Based (frame.Free (Tried x c purpose a)) fs
+    → Light (frame.Free (Tried x c purpose a)) fs p → Placed (step (frame.Free (Tried x c purpose a)) p) fs k
+tried-placed x c purpose Ok fs p k s b l = (based-other (frame.Free (Tried x c purpose Ok)) (frame.Free (Looping x purpose)) fs (λ z. z) b, l)
+tried-placed x c purpose Running fs p k s b l = let e : Running ≡ Ok = s.rests.0 in cc
 
 pub placed-kept : (f : Frame) (fs : List Frame) (p : Pool) (k : ℕ) → Sound f fs p → Based f fs → Light f fs p → Placed (step f p) fs k
 placed-kept (frame.Call Asking) fs p k s b l = asking-placed fs p k b l
 placed-kept (frame.Call (Doing c)) fs p k s b l = doing-placed c fs p k b l
 placed-kept (frame.Call (Awaiting x)) fs p k s b l = absurd s.rests
 placed-kept (frame.Call (Telling r)) fs p k s b l = (based-other (frame.Call (Telling r)) (frame.Call Asking) fs (λ z. z) b, l)
-placed-kept (frame.Free (Beginning x)) fs p k s b l = beginning-placed x fs p k s.waiting b l
+placed-kept (frame.Free (Beginning x)) fs p k s b l = beginning-placed x fs p k s b l
 placed-kept (frame.Free (Leaving x)) fs p k s b l = leaving-placed x fs p k s b l
-placed-kept (frame.Free (Looping x)) fs p k s b l = looping-placed x fs p k s b l
-placed-kept (frame.Free (Trying x c)) fs p k s b l = absurd s.rests
+placed-kept (frame.Free (Looping x purpose)) fs p k s b l = looping-placed x purpose fs p k s b l
+placed-kept (frame.Free (Trying x c purpose)) fs p k s b l = absurd s.rests
+placed-kept (frame.Free (Tried x c purpose a)) fs p k s b l = tried-placed x c purpose a fs p k s b l
 placed-kept (frame.Free (Ending answer)) fs p k s b l = over answer (frame.Free (Ending answer)) fs p k s.waiting b l
 
 -- ---- the measure against the number of turns
@@ -155,8 +171,9 @@ below-light (f ∷ fs) = let ih = below-light fs in omega (arith, ih, one f)
     one (frame.Call (Telling r)) = omega arith
     one (frame.Free (Beginning x)) = omega arith
     one (frame.Free (Leaving x)) = omega arith
-    one (frame.Free (Looping x)) = omega arith
-    one (frame.Free (Trying x c)) = omega arith
+    one (frame.Free (Looping x purpose)) = omega arith
+    one (frame.Free (Trying x c purpose)) = omega arith
+    one (frame.Free (Tried x c purpose a)) = omega arith
     one (frame.Free (Ending a)) = omega arith
 
 burden-most : (rs : List Row) → total burden rs ≤ 3 * length rs
@@ -165,6 +182,9 @@ burden-most (r ∷ rs) = let ih = burden-most rs in omega (arith, ih, most r.mar
   where
     most : (m : Mark) → mark_burden m ≤ 3
     most Quiet = omega arith
+    most Asked = omega arith
+    most Busy = omega arith
+    most Doomed = omega arith
     most (Dying former) = omega arith
 
 weight-most : (rs : List Row) → total weight rs ≤ 2 * length rs
@@ -173,6 +193,9 @@ weight-most (r ∷ rs) = let ih = weight-most rs in omega (arith, ih, most r.mar
   where
     most : (m : Mark) → mark_weight m ≤ 2
     most Quiet = omega arith
+    most Asked = omega arith
+    most Busy = omega arith
+    most Doomed = omega arith
     most (Dying former) = omega arith
 
 top-most : (R : ℕ) (f : Frame) (fs : List Frame) (rows : List Row) → length rows ≤ R → top_cost R f fs rows ≤ 16 * R + 52
@@ -184,11 +207,13 @@ top-most R (frame.Free (Beginning x)) fs rows h = let m = kids-most fs in omega 
   where
     kids-most : (fs : List Frame) → loop_kids rows fs ≤ 4 * R
     kids-most [] = omega arith
-    kids-most (frame.Free (Trying y c) ∷ fs) = let n = count-length rows (Of y) in omega arith
+    kids-most (frame.Free (Trying y c purpose) ∷ fs) = let n = count-length rows (Of y) in omega arith
     kids-most (g ∷ fs) = omega arith
 top-most R (frame.Free (Leaving x)) fs rows h = omega arith
-top-most R (frame.Free (Looping x)) fs rows h = let n = count-length rows (Of x) in omega arith
-top-most R (frame.Free (Trying x c)) fs rows h = omega arith
+top-most R (frame.Free (Looping x purpose)) fs rows h = let n = count-length rows (Of x) in omega arith
+top-most R (frame.Free (Trying x c purpose)) fs rows h = omega arith
+top-most R (frame.Free (Tried x c purpose Ok)) fs rows h = let n = count-length rows (Of x) in omega arith
+top-most R (frame.Free (Tried x c purpose Running)) fs rows h = let n = count-length rows (Of x) in omega arith
 top-most R (frame.Free (Ending a)) fs rows h = omega arith
 
 numbers : (r k w z d e : ℕ) → w ≤ 2 * r → z ≤ 3 * r + 2 → d ≤ z → e ≤ 16 * (r + 2 * k + 2) + 52

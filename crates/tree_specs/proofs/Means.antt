@@ -7,7 +7,7 @@ use Rattle.tree_specs.specs.declared.object.Obj.{Obj}
 use Rattle.tree_specs.specs.declared.object.Owner.TheVariants.{Of}
 use Rattle.tree_specs.specs.declared.row.Row.{Row}
 use Rattle.tree_specs.specs.declared.row.Mark.{Mark}
-use Rattle.tree_specs.specs.declared.row.Mark.TheVariants.{Quiet, Dying}
+use Rattle.tree_specs.specs.declared.row.Mark.TheVariants.{Quiet, Asked, Busy, Doomed, Dying}
 use Rattle.tree_specs.specs.declared.call.Call.{Call}
 use Rattle.tree_specs.specs.declared.call.Call.TheVariants as call
 use Rattle.tree_specs.specs.declared.event.Event.TheVariants.{Freed}
@@ -16,17 +16,19 @@ use Rattle.tree_specs.specs.declared.question.Input.TheVariants as input
 use Rattle.tree_specs.specs.declared.frame.Frame.{Frame}
 use Rattle.tree_specs.specs.declared.frame.Frame.TheVariants as frame
 use Rattle.tree_specs.specs.declared.frame.CallFrame.TheVariants.{Asking, Doing, Awaiting, Telling}
-use Rattle.tree_specs.specs.declared.frame.FreeFrame.TheVariants.{Beginning, Leaving, Looping, Trying, Ending}
+use Rattle.tree_specs.specs.declared.frame.FreeFrame.TheVariants.{Beginning, Leaving, Looping, Trying, Tried, Ending}
+use Rattle.tree_specs.specs.declared.frame.Purpose.{Purpose}
+use Rattle.tree_specs.specs.declared.frame.Purpose.TheVariants.{Removal, Emptying}
 use Rattle.tree_specs.specs.declared.frame.Answer.{Answer}
-use Rattle.tree_specs.specs.declared.frame.Answer.TheVariants.{Ok}
-use Rattle.tree_specs.specs.Pool.{Pool, row_of, first_kid, remove}
+use Rattle.tree_specs.specs.declared.frame.Answer.TheVariants.{Ok, Running}
+use Rattle.tree_specs.specs.Pool.{Pool, row_of, is_below, owner_of, first_kid, remove}
 use Rattle.tree_specs.specs.Items.{Item}
 use Rattle.tree_specs.specs.Items.Item.{Told}
 use Rattle.tree_specs.specs.Soundness.{is_sound_call}
 use Rattle.tree_specs.specs.Calls.{Check, refusals}
 use Rattle.tree_specs.specs.Works.{Work, Scene, Begun, ◌>>◌, gives, change, tells}
-use Rattle.tree_specs.specs.Story.{free, leave, children, asked, acting, telling}
-use Rattle.tree_specs.specs.Table.{table, notes, step, lifted, begin_step, loop_step, call_step}
+use Rattle.tree_specs.specs.Story.{free, leave, children, tried, hand_on, asked, acting, telling}
+use Rattle.tree_specs.specs.Table.{table, notes, step, lifted, begin_step, loop_step, tried_step, call_step}
 use Rattle.tree_specs.proofs.Numbered.{by_test}
 
 ruleset laws = (followed-tell, followed-tells, followed-followed)
@@ -36,11 +38,14 @@ abbrev pub noted_table : Table (Noted Frame Begun) Answer Pool Input Scene
 noted_table = noted notes table
 
 -- what follows the children of an object
-abbrev pub looped : Obj → Work (Unit {0}) → Work Answer
-looped x w = do
+abbrev pub looped : Obj → Purpose → Work (Unit {0}) → Work Answer
+looped x Removal w = do
   w
   tells (Told (Freed x 0))
   change (λ p. remove p x)
+  gives Ok
+looped x Emptying w = do
+  w
   gives Ok
 
 -- what a work does, by the text
@@ -51,8 +56,9 @@ mean n (frame.Call (Awaiting x)) b = gives Ok
 mean n (frame.Call (Telling r)) b = telling n b r
 mean n (frame.Free (Beginning x)) b = free n x
 mean n (frame.Free (Leaving x)) b = leave n x
-mean n (frame.Free (Looping x)) b = looped x (children n x)
-mean n (frame.Free (Trying x c)) b = gives Ok
+mean n (frame.Free (Looping x purpose)) b = looped x purpose (children n x)
+mean n (frame.Free (Trying x c purpose)) b = gives Ok
+mean n (frame.Free (Tried x c purpose a)) b = looped x purpose (tried n x c a)
 mean n (frame.Free (Ending a)) b = gives a
 
 abbrev pub noted_mean : ℕ → Noted Frame Begun → Work Answer
@@ -76,11 +82,15 @@ doing-turn n c b p is = each c (refusals p c) refl
     each c (why ∷ later) e = rw e (inr refl)
     each (call.New o size name) [] e = rw e (inr refl)
     each (call.Free x) [] e = rw e (inr (simp laws))
+    each (call.Freekids x) [] e = rw e (inr (simp laws))
     each (call.Steal o x) [] e = rw e (inr refl)
     each (call.Move o x) [] e = rw e (inr refl)
     each (call.Reparent from to x) [] e = rw e (inr refl)
     each (call.Rename x name) [] e = rw e (inr refl)
     each (call.Parent x) [] e = rw e (inr refl)
+    each (call.Total o) [] e = rw e (inr refl)
+    each (call.Count o) [] e = rw e (inr refl)
+    each (call.Report o) [] e = rw e (inr refl)
 
 beginning-turn : (n : ℕ) (x : Obj) (b : Option Begun) (p : Pool) (is : List Input)
     → Below (Turn n (frame.Free (Beginning x)) b (lifted (begin_step x (row_of p.rows x) p)) p is) (free (suc n) x p is)
@@ -88,22 +98,34 @@ beginning-turn n x b p is = each (row_of p.rows x) refl
   where
     marks : (r : Row) (m : Mark) → r.mark ≡ m → row_of p.rows x ≡ Some r
         → Below (Turn n (frame.Free (Beginning x)) b (lifted (begin_step x (row_of p.rows x) p)) p is) (free (suc n) x p is)
-    marks r (Dying former) m e = rw (e, m) (inr refl)
     marks r Quiet m e = rw (e, m) (inr refl)
+    marks r Asked m e = rw (e, m) (inr refl)
+    marks r Busy m e = rw (e, m) (inr refl)
+    marks r Doomed m e = rw (e, m) (inr refl)
+    marks r (Dying former) m e = rw (e, m) (inr refl)
 
     each : (o : Option Row) → row_of p.rows x ≡ o
         → Below (Turn n (frame.Free (Beginning x)) b (lifted (begin_step x (row_of p.rows x) p)) p is) (free (suc n) x p is)
     each None e = rw e (inr refl)
     each (Some r) e = marks r r.mark refl e
 
-looping-turn : (n : ℕ) (x : Obj) (b : Option Begun) (p : Pool) (is : List Input)
-    → Below (Turn n (frame.Free (Looping x)) b (lifted (loop_step x (first_kid p.rows (Of x)) p)) p is) (looped x (children (suc n) x) p is)
-looping-turn n x b p is = each (first_kid p.rows (Of x)) refl
+looping-turn : (n : ℕ) (x : Obj) (purpose : Purpose) (b : Option Begun) (p : Pool) (is : List Input)
+    → Below (Turn n (frame.Free (Looping x purpose)) b (lifted (loop_step x purpose (first_kid p.rows (Of x)) p)) p is) (looped x purpose (children (suc n) x) p is)
+looping-turn n x purpose b p is = each purpose (first_kid p.rows (Of x)) refl
   where
-    each : (o : Option Obj) → first_kid p.rows (Of x) ≡ o
-        → Below (Turn n (frame.Free (Looping x)) b (lifted (loop_step x (first_kid p.rows (Of x)) p)) p is) (looped x (children (suc n) x) p is)
-    each None e = rw e (inr refl)
-    each (Some c) e = rw e (inr (simp laws))
+    each : (purpose : Purpose) (o : Option Obj) → first_kid p.rows (Of x) ≡ o
+        → Below (Turn n (frame.Free (Looping x purpose)) b (lifted (loop_step x purpose (first_kid p.rows (Of x)) p)) p is) (looped x purpose (children (suc n) x) p is)
+    each Removal None e = rw e (inr refl)
+    each Emptying None e = rw e (inr refl)
+    each Removal (Some c) e = rw e (inr (simp laws))
+    each Emptying (Some c) e = rw e (inr (simp laws))
+
+tried-turn : (n : ℕ) (x c : Obj) (purpose : Purpose) (a : Answer) (b : Option Begun) (p : Pool) (is : List Input)
+    → Below (Turn n (frame.Free (Tried x c purpose a)) b (lifted (tried_step x c purpose a p)) p is) (looped x purpose (tried (suc n) x c a) p is)
+tried-turn n x c Removal Ok b p is = inr refl
+tried-turn n x c Emptying Ok b p is = inr refl
+tried-turn n x c Removal Running b p is = by_test (is_below (owner_of p.rows c) (Of x)) (λ t. rw t (inr (simp laws))) (λ t. rw t (inr refl))
+tried-turn n x c Emptying Running b p is = by_test (is_below (owner_of p.rows c) (Of x)) (λ t. rw t (inr (simp laws))) (λ t. rw t (inr refl))
 
 -- one turn of the machine is one turn of the text
 pub turn : (n : ℕ) (f : Frame) (b : Option Begun) (p : Pool) (is : List Input) → Below (Turn n f b (step f p) p is) (mean (suc n) f b p is)
@@ -113,8 +135,9 @@ turn n (frame.Call (Awaiting x)) b p is = inr refl
 turn n (frame.Call (Telling r)) b p is = inr refl
 turn n (frame.Free (Beginning x)) b p is = beginning-turn n x b p is
 turn n (frame.Free (Leaving x)) b p is = inr refl
-turn n (frame.Free (Looping x)) b p is = looping-turn n x b p is
-turn n (frame.Free (Trying x c)) b p is = inr refl
+turn n (frame.Free (Looping x purpose)) b p is = looping-turn n x purpose b p is
+turn n (frame.Free (Trying x c purpose)) b p is = inr refl
+turn n (frame.Free (Tried x c purpose a)) b p is = tried-turn n x c purpose a b p is
 turn n (frame.Free (Ending a)) b p is = inr refl
 
 -- the machine's run of a work is what the text says of it

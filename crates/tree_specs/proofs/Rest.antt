@@ -1,6 +1,7 @@
 -- The laws of the story still to come.
-use Rattle.std.proofs.Common.{◌≡◌, ℕ, suc, zero, ◌+◌, ◌*◌, ◌<◌, List, [], ◌∷◌, length, Option, Some, None, refl, sym, ◌∙◌, ap, subst, arith}
+use Rattle.std.proofs.Common.{Bool, true, false, ◌≡◌, ℕ, suc, zero, ◌+◌, ◌*◌, ◌<◌, List, [], ◌∷◌, length, Option, Some, None, refl, sym, ◌∙◌, ap, subst, arith}
 use Rattle.step_machine.specs.Machine.{Move, Outcome, State, silent, tell, given, asks, leads, rest, walk, items as told_by}
+use Rattle.std.specs.Prelude.{if◌then◌else◌}
 use Rattle.step_machine.specs.Machine.{Move as Do}
 use Rattle.step_machine.specs.Machine.Outcome.{Ended, Waits, Stray, Short}
 use Rattle.step_machine.specs.Open.{LastIs}
@@ -11,16 +12,21 @@ use Rattle.tree_specs.specs.declared.frame.Frame.{Frame}
 use Rattle.tree_specs.specs.declared.frame.Frame.TheVariants as frame
 use Rattle.tree_specs.specs.declared.frame.CallFrame.TheVariants.{Asking, Doing, Awaiting, Telling}
 use Rattle.tree_specs.specs.declared.frame.Answer.{Answer}
+use Rattle.tree_specs.specs.declared.frame.Answer.TheVariants.{Ok, Running}
 use Rattle.tree_specs.specs.declared.call.Call.{Call}
 use Rattle.tree_specs.specs.declared.call.Call.TheVariants as call
 use Rattle.tree_specs.specs.declared.object.Obj.{Obj}
 use Rattle.tree_specs.specs.declared.object.Owner.TheVariants.{Of}
 use Rattle.tree_specs.specs.declared.row.Row.{Row}
 use Rattle.tree_specs.specs.declared.row.Mark.{Mark}
-use Rattle.tree_specs.specs.declared.row.Mark.TheVariants.{Quiet as at_rest, Dying}
+use Rattle.tree_specs.specs.declared.row.Mark.TheVariants.{Quiet as at_rest, Asked as in_run, Busy, Doomed, Dying}
 use Rattle.tree_specs.specs.declared.question.Ask.TheVariants.{Quiet}
-use Rattle.tree_specs.specs.declared.frame.FreeFrame.TheVariants.{Beginning, Leaving, Looping, Trying, Ending}
-use Rattle.tree_specs.specs.Pool.{Pool, row_of, first_kid}
+use Rattle.tree_specs.specs.declared.frame.FreeFrame.TheVariants.{Beginning, Leaving, Looping, Trying, Tried, Ending}
+use Rattle.tree_specs.specs.declared.frame.Purpose.{Purpose}
+use Rattle.tree_specs.specs.declared.frame.Purpose.TheVariants.{Removal, Emptying}
+use Rattle.tree_specs.specs.declared.event.Event.TheVariants.{Moved}
+use Rattle.tree_specs.specs.Pool.{Pool, row_of, is_below, owner_of, first_kid, place}
+use Rattle.tree_specs.specs.Heirs.{heir}
 use Rattle.tree_specs.specs.Items.{Item, IsQuestion}
 use Rattle.tree_specs.specs.Items.Item.{Asked}
 use Rattle.tree_specs.specs.Calls.{Check, refusals}
@@ -170,6 +176,10 @@ no-end (frame.Call (Doing c)) p q a h r e = each (refusals p c) c e
     each [] (call.Reparent from to x) e = cc
     each [] (call.Rename x name) e = cc
     each [] (call.Parent x) e = cc
+    each [] (call.Freekids x) e = cc
+    each [] (call.Total o) e = cc
+    each [] (call.Count o) e = cc
+    each [] (call.Report o) e = cc
 
 -- only a caller that is to be asked asks
 pub waits-asking : (f : Frame) (p q : Pool) (i : Item) (g : Frame) → step f p ≡ Do.Wait i g q → f ≡ frame.Call Asking
@@ -187,23 +197,37 @@ waits-asking (frame.Call (Doing c)) p q i g e = absurd (each (refusals p c) c e)
     each [] (call.Reparent from to x) e = cc
     each [] (call.Rename x name) e = cc
     each [] (call.Parent x) e = cc
+    each [] (call.Freekids x) e = cc
+    each [] (call.Total o) e = cc
+    each [] (call.Count o) e = cc
+    each [] (call.Report o) e = cc
 waits-asking (frame.Free (Leaving x)) p q i g e = cc
-waits-asking (frame.Free (Trying x c)) p q i g e = cc
+waits-asking (frame.Free (Trying x c purpose)) p q i g e = cc
+waits-asking (frame.Free (Tried x c purpose Ok)) p q i g e = cc
+waits-asking (frame.Free (Tried x c purpose Running)) p q i g e = absurd (each (is_below (owner_of p.rows c) (Of x)) e)
+  where
+    each : (b : Bool) → lifted (if b then Do.Emit (Moved c (heir p.rows x c)) (Looping x purpose) (place p (heir p.rows x c) c) else Do.Go (Looping x purpose) p) ≡ Do.Wait i g q → ⊥
+    each true e = cc
+    each false e = cc
 waits-asking (frame.Free (Ending a)) p q i g e = cc
 waits-asking (frame.Free (Beginning x)) p q i g e = absurd (each (row_of p.rows x) e)
   where
     marks : (m : Mark) → lifted (begin_by x m p) ≡ Do.Wait i g q → ⊥
     marks at_rest e = cc
+    marks in_run e = cc
+    marks Busy e = cc
+    marks Doomed e = cc
     marks (Dying former) e = cc
 
     each : (o : Option Row) → lifted (begin_step x o p) ≡ Do.Wait i g q → ⊥
     each None e = cc
     each (Some r) e = marks r.mark e
-waits-asking (frame.Free (Looping x)) p q i g e = absurd (each (first_kid p.rows (Of x)) e)
+waits-asking (frame.Free (Looping x purpose)) p q i g e = absurd (each purpose (first_kid p.rows (Of x)) e)
   where
-    each : (o : Option Obj) → lifted (loop_step x o p) ≡ Do.Wait i g q → ⊥
-    each None e = cc
-    each (Some c) e = cc
+    each : (purpose : Purpose) (o : Option Obj) → lifted (loop_step x purpose o p) ≡ Do.Wait i g q → ⊥
+    each Removal None e = cc
+    each Emptying None e = cc
+    each purpose (Some c) e = cc
 
 -- what a step asks is a question
 only-asks : (f : Frame) (p q : Pool) (i : Item) (g : Frame) → step f p ≡ Do.Wait i g q → IsQuestion i

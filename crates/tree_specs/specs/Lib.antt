@@ -3,6 +3,7 @@ pub mod Octets
 pub mod Objects
 pub mod Pool
 pub mod Inside
+pub mod Ancestry
 pub mod Heirs
 pub mod Reports
 pub mod Items

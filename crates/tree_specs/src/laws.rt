@@ -1,13 +1,18 @@
 //! Laws of the definitions, each the clause of a function that does nothing.
-#![tactic(auto, unfolding(crate::specs::Grammar::number_of, crate::specs::Grammar::owner_of, crate::specs::Grammar::object_of, crate::specs::Grammar::name_of, crate::specs::Grammar::new_of, crate::specs::Grammar::free_of, crate::specs::Grammar::steal_of, crate::specs::Grammar::move_of, crate::specs::Grammar::reparent_of, crate::specs::Grammar::rename_of, crate::specs::Grammar::parent_of, crate::specs::Grammar::call_of_words, crate::specs::Grammar::call_of, crate::specs::Grammar::input_of, crate::specs::Text::refusal_text, crate::specs::Text::reply_text, crate::specs::Text::event_text, crate::specs::Text::ask_text, crate::specs::Text::answered_text, crate::specs::Text::item_text, crate::specs::Text::end_text, crate::specs::Text::body_text, crate::specs::Schedule::lines_of_parts, crate::specs::Schedule::lines, crate::specs::Schedule::line_input, crate::specs::Schedule::judged_from, crate::specs::Schedule::judged_lines, crate::specs::Schedule::open_question))]
+#![tactic(auto, unfolding(crate::specs::Grammar::number_of, crate::specs::Grammar::owner_of, crate::specs::Grammar::object_of, crate::specs::Grammar::name_of, crate::specs::Grammar::new_of, crate::specs::Grammar::of_object, crate::specs::Grammar::of_owner, crate::specs::Grammar::placing_of, crate::specs::Grammar::reparent_of, crate::specs::Grammar::rename_of, crate::specs::Grammar::call_of_words, crate::specs::Grammar::call_of, crate::specs::Grammar::input_of, crate::specs::Text::refusal_numbers, crate::specs::Text::row_kind_text, crate::specs::Text::row_text, crate::specs::Text::reply_text, crate::specs::Text::event_text, crate::specs::Text::ask_text, crate::specs::Text::answered_text, crate::specs::Text::item_text, crate::specs::Text::end_text, crate::specs::Text::body_text, crate::specs::Schedule::lines_of_parts, crate::specs::Schedule::lines, crate::specs::Schedule::line_input, crate::specs::Schedule::judged_from, crate::specs::Schedule::judged_lines, crate::specs::Schedule::open_question))]
 
-ghost use Rattle.std.specs.Prelude.{◌≡◌, ◌≢◌, ◌≤◌, ℕ, codes, Some, None, List, [], ◌∷◌, length};
+ghost use Rattle.std.specs.Prelude.{◌≡◌, ◌≢◌, ◌≤◌, ℕ, codes, Some, None, List, [], ◌∷◌, ◌++◌, length, slice_get};
 ghost use Rattle.step_machine.specs.Machine.{run, items as told_by};
 ghost use Rattle.step_machine.specs.Machine.Outcome.{Short};
 ghost use Rattle.step_machine.specs.Noted.{noted, with_note};
 ghost use Rattle.step_machine.specs.Open.{LastIs};
 ghost use Rattle.tree_specs.specs.declared.question.Input.{Input as InputData};
-ghost use Rattle.tree_specs.specs.Pool.{empty};
+ghost use Rattle.tree_specs.specs.declared.object.Obj.{Obj as ObjData};
+ghost use Rattle.tree_specs.specs.declared.object.Owner.{Owner as OwnerData};
+ghost use Rattle.tree_specs.specs.declared.row.Row.{Row as RowData};
+ghost use Rattle.tree_specs.specs.declared.schedule.Reason.TheVariants.{Form};
+ghost use Rattle.tree_specs.specs.Pool.{empty, kids, first_kid, next_kid};
+ghost use Rattle.tree_specs.specs.Sound.{Distinct};
 ghost use Rattle.tree_specs.specs.Items.{IsQuestion};
 ghost use Rattle.tree_specs.specs.Story.{story, items, asked, turns};
 ghost use Rattle.tree_specs.specs.Table.{table, notes};
@@ -24,6 +29,26 @@ pub fn nothing_is_called()
 pub fn children_are_freed_newest_first()
     ensures { transcript (items (story 1 (inputs_of (codes "tv schedule 1 pool\ncall new 0 0 a\ncall new 1 10 b\ncall new 1 20 c\ncall new 1 30 d\ncall free 1\ncall free 1\n"))))
         ≡ Some (codes "tv transcript 1\nreply 1\nreply 2\nreply 3\nreply 4\nfreed 4 0\nfreed 3 0\nfreed 2 0\nfreed 1 0\nreply ok\nreply no 1 1\nend quiet\n") }
+{}
+
+/// A worked example: a report, sums over what is inside an owner, and children that are freed without it.
+pub fn a_report_shows_who_owns_whom()
+    ensures { transcript (items (story 1 (inputs_of (codes "tv schedule 1 pool\ncall new 0 5 a\ncall new 1 6 b\ncall new 0 0 c\ncall report 0\ncall total 0\ncall count 1\ncall freekids 1\ncall rename 1 z\ncall report 1\ncall move 3 1\ncall reparent 0 3 1\ncall parent 1\n"))))
+        ≡ Some (codes "tv transcript 1\nreply 1\nreply 2\nreply 3\nrow 0 0 root 0 0 0 null_context\nrow 1 3 plain 0 0 0 c\nrow 1 1 plain 5 0 0 a\nrow 2 2 plain 6 0 0 b\nreply rows 4\nreply 11\nreply 2\nfreed 2 0\nreply ok\nreply ok\nrow 0 1 plain 5 0 0 z\nreply rows 1\nreply 1\nreply no 6 1 0\nreply 3\nend quiet\n") }
+{}
+
+/// Worked examples: the first line that is refused, with the reason; a call that the host refuses is none.
+pub fn the_first_refused_line_is_found()
+    ensures no_bytes { judge [] ≡ Some (1, Form) }
+    ensures no_lf { judge (codes "tv schedule 1 pool\ncall new 0 0 a\ncall fre") ≡ Some (3, Form) }
+    ensures leading_zero { judge (codes "tv schedule 1 pool\ncall new 0 01 a\n") ≡ Some (2, Form) }
+    ensures refused_call { judge (codes "tv schedule 1 pool\ncall free 1\n") ≡ None }
+{}
+
+/// The children of an owner, newest placed first, are its first child and then each next one.
+pub fn children_follow_one_another()
+    ensures first { (rows : List RowData) (p : OwnerData) → first_kid rows p ≡ slice_get (kids rows p) 0 }
+    ensures next { (rows : List RowData) (p : OwnerData) (x : ObjData) (before after : List ObjData) → Distinct rows → kids rows p ≡ before ++ x ∷ after → next_kid rows x ≡ slice_get after 0 }
 {}
 
 /// Worked examples: objects go from owner to owner, never into what is inside them, and are freed where
