@@ -8,9 +8,10 @@ use Rattle.step_machine.specs.Open.{LastIs}
 use Rattle.step_machine.proofs.Ends.{silent-leads}
 use Rattle.tree_specs.specs.declared.row.Row.{Row}
 use Rattle.tree_specs.specs.declared.row.Mark.{Mark}
-use Rattle.tree_specs.specs.declared.row.Mark.TheVariants.{Quiet, Dying}
+use Rattle.tree_specs.specs.declared.row.Mark.TheVariants.{Quiet, Asked as InHook, Busy, Doomed, Dying}
 use Rattle.tree_specs.specs.declared.call.Call.{Call}
 use Rattle.tree_specs.specs.declared.call.Call.TheVariants as call
+use Rattle.tree_specs.specs.declared.reply.Reply.{Reply}
 use Rattle.tree_specs.specs.declared.event.Event.{Event}
 use Rattle.tree_specs.specs.declared.event.Event.TheVariants.{Replied}
 use Rattle.tree_specs.specs.declared.question.Ask.{Ask}
@@ -21,7 +22,7 @@ use Rattle.tree_specs.specs.declared.frame.Frame.{Frame}
 use Rattle.tree_specs.specs.declared.frame.Frame.TheVariants as frame
 use Rattle.tree_specs.specs.declared.frame.CallFrame.TheVariants.{Asking, Doing, Awaiting, Telling}
 use Rattle.tree_specs.specs.declared.frame.FreeFrame.{FreeFrame}
-use Rattle.tree_specs.specs.declared.frame.FreeFrame.TheVariants.{Beginning, Leaving, Looping, Trying, Ending}
+use Rattle.tree_specs.specs.declared.frame.FreeFrame.TheVariants.{Beginning, Leaving, Looping, Trying, Tried, Ending}
 use Rattle.tree_specs.specs.declared.frame.Answer.{Answer}
 use Rattle.tree_specs.specs.Pool.{Pool}
 use Rattle.tree_specs.specs.Items.{Item, IsQuestion}
@@ -29,6 +30,7 @@ use Rattle.tree_specs.specs.Items.Item.{Told, Asked}
 use Rattle.tree_specs.specs.Calls.{Check, refusals}
 use Rattle.tree_specs.specs.Table.{table, step, taken, doing, lifted, free_step, call_step}
 use Rattle.tree_specs.specs.Inside.{total}
+use Rattle.tree_specs.specs.Soundness.{is_sound_call, is_sound}
 use Rattle.tree_specs.specs.Measure.{cost, pending}
 use Rattle.tree_specs.specs.Schedule.{misfit}
 use Rattle.tree_specs.specs.View.{View, begin, rest_of, question_in, question_of}
@@ -42,7 +44,7 @@ use Rattle.step_machine.specs.Machine.{items as told_by}
 use Rattle.tree_links.specs.Links.{Links, pool_of}
 use Rattle.host_core.specs.Promises.{Waits}
 use Rattle.host_core.specs.Room.{mark_places, row_places, work_places, places}
-use Rattle.host_core.specs.Hosts.{view_of, Ready, speaks, event_in, moved, next_of, speaking, asking}
+use Rattle.host_core.specs.Hosts.{view_of, Ready, speaks, event_in, moved, next_of, speaking, asking, Begins, Calls, Replies, BeginsWith}
 use Rattle.host_core.proofs.Steps.{places-kept, calm}
 
 -- ---- a step that tells nothing
@@ -84,14 +86,10 @@ silent-onward v s h e = record {
     lowered : (R : ℕ) → length v.pool.rows + pending v.innermost ≤ R → Room R s.now s.pool 0 × (cost R s.now s.below s.pool 0 < cost R v.innermost v.below v.pool 0)
     lowered R r = silent-leads table (λ g gs q j. Room R g q j × (cost R g gs q j < cost R v.innermost v.below v.pool 0)) (step v.innermost v.pool) v.below 0 s (lower R v.innermost v.below v.pool 0 h.sound (omega arith)) e
 
-pub onward : (v w : View) (i : Option Event) → Whole v → speaking v ≡ false → next_of v ≡ (i, w) → Onward v w
-onward v w i h t e =
+pub onward : (v w : View) → Whole v → speaking v ≡ false → (next_of v).1 ≡ w → Onward v w
+onward v w h t e =
     let n = silent-next v h t in
-    subst (λ (z : View). Onward v z) (ap (λ (z : Option Event × View). z.1) (sym n.2 ∙ e)) (silent-onward v n.0 h n.1)
-
-pub next-places : (v : View) (taken : ℕ) → Whole v → speaking v ≡ false → places v.innermost v.below v.pool ≤ taken → length (next_of v).1.below ≤ taken
-next-places v taken h t r =
-    let o = (onward v (next_of v).1 (next_of v).0 h t refl).narrow in omega arith
+    subst (λ (z : View). Onward v z) (sym (ap (λ (z : Option Event × View). z.1) n.2) ∙ e) (silent-onward v n.0 h n.1)
 
 -- ---- an event
 
@@ -146,6 +144,10 @@ tells-event (frame.Call (Doing c)) p q i g e = absurd (each (refusals p c) c e)
     each [] (call.Reparent from to x) e = cc
     each [] (call.Rename x name) e = cc
     each [] (call.Parent x) e = cc
+    each [] (call.Freekids x) e = cc
+    each [] (call.Total o) e = cc
+    each [] (call.Count o) e = cc
+    each [] (call.Report o) e = cc
 tells-event (frame.Free f) p q i g e = each (free_step f p) e
   where
     each : (m : Move FreeFrame Answer Pool Event) → lifted m ≡ Do.Emit i g q → (e : Event) × (i ≡ Told e)
@@ -203,17 +205,21 @@ row-places-most (r ∷ rs) = let ih = row-places-most rs in omega (arith, ih, fe
   where
     few : (m : Mark) → mark_places m ≤ 1
     few Quiet = omega arith
+    few InHook = omega arith
+    few Busy = omega arith
+    few Doomed = omega arith
     few (Dying former) = omega arith
 
-few-places : (f : Frame) → work_places f ≤ 1
+few-places : (f : Frame) → work_places f ≤ 2
 few-places (frame.Call Asking) = omega arith
 few-places (frame.Call (Doing c)) = omega arith
 few-places (frame.Call (Awaiting x)) = omega arith
 few-places (frame.Call (Telling r)) = omega arith
 few-places (frame.Free (Beginning x)) = omega arith
 few-places (frame.Free (Leaving x)) = omega arith
-few-places (frame.Free (Looping x)) = omega arith
-few-places (frame.Free (Trying x c)) = omega arith
+few-places (frame.Free (Looping x purpose)) = omega arith
+few-places (frame.Free (Trying x c purpose)) = omega arith
+few-places (frame.Free (Tried x c purpose a)) = omega arith
 few-places (frame.Free (Ending a)) = omega arith
 
 same-view : (g : Frame) (below below' : List Frame) (tree tree' : Links) → below' ≡ below → pool_of tree' ≡ pool_of tree
@@ -222,28 +228,68 @@ same-view g below below' tree tree' b p =
     ap (λ (z : List Frame). let w : View = record { innermost = g; below = reverse z; pool = pool_of tree } in w) (sym b)
     ∙ ap (λ (z : Pool). let w : View = record { innermost = g; below = reverse below'; pool = z } in w) (sym p)
 
--- a host that was given an input it waited for has room for what comes
-pub input-ready : (g : Frame) (below below' : List Frame) (tree tree' : Links) (cap : ℕ) (i : Input) → Whole (view_of (frame.Call Asking) below tree) → heard doing i ≡ Some g
-    → below' ≡ below → pool_of tree' ≡ pool_of tree → length below + length tree.rows + 1 ≤ cap → 2 ≤ tree'.spare → Ready g below' tree' cap
-input-ready g below below' tree tree' cap i h t b p room rows =
+-- a call whose only step is its reply
+replied-onward : (c : Call) (r : Reply) (below : List Frame) (tree : Links) → Whole (view_of (doing c) below tree) → step (doing c) (pool_of tree) ≡ Do.Go (frame.Call (Telling r)) (pool_of tree)
+    → Onward (view_of (doing c) below tree) (view_of (frame.Call (Telling r)) below tree)
+replied-onward c r below tree h e =
+    silent-onward (view_of (doing c) below tree) (record { now = frame.Call (Telling r); below = reverse below; pool = pool_of tree }) h
+    (ap (λ (m : Move Frame Answer Pool Item). silent table m (reverse below)) e)
+
+-- a host that was given a call has room for what comes
+given-ready : (c : Call) (below below' : List Frame) (tree tree' : Links) (cap : ℕ) → Whole (view_of (frame.Call Asking) below tree) → is_sound_call c ≡ true
+    → below' ≡ below → pool_of tree' ≡ pool_of tree → length below + length tree.rows + 2 ≤ cap → Whole (view_of (doing c) below' tree') × (places (doing c) (reverse below') (pool_of tree') ≤ cap)
+given-ready c below below' tree tree' cap h t b p room =
     let v : View = view_of (frame.Call Asking) below tree in
-    let e = same-view g below below' tree tree' b p in
+    let e = same-view (doing c) below below' tree tree' b p in
     let l : length (reverse below) ≡ length below = length-reverse below in
     let m = row-places-most tree.rows in
-    let f = few-places g in
-    let n : length tree'.rows ≡ length tree.rows = ap (λ (z : Pool). length z.rows) p in
-    record {
-      whole = subst Whole e (question-whole v (Asked AtRest) (frame.Call Asking) g (pool_of tree) i h refl t);
-      places = subst (λ (z : View). places z.innermost z.below z.pool ≤ cap) e (omega arith);
-      rows = omega (arith, pending-most g);
-    }
+    let f = few-places (doing c) in
+    let taken_up : heard doing (input.Call c) ≡ Some (doing c) = rw t refl in (
+      subst Whole e (question-whole v (Asked AtRest) (frame.Call Asking) (doing c) (pool_of tree) (input.Call c) h refl taken_up),
+      subst (λ (z : View). places z.innermost z.below z.pool ≤ cap) e (omega arith),
+    )
+
+-- what it begins with is ready
+call-ready : (g : Frame) (below below' : List Frame) (tree tree' : Links) (cap : ℕ) (c : Call) → Whole (view_of (frame.Call Asking) below tree) → is_sound_call c ≡ true
+    → Begins c (pool_of tree) g → below' ≡ below → pool_of tree' ≡ pool_of tree → length below + length tree.rows + 2 ≤ cap → 2 ≤ tree'.spare → Ready g below' tree' cap
+call-ready _ below below' tree tree' cap c h t (Calls short) b p room rows =
+    let w = given-ready c below below' tree tree' cap h t b p room in
+    record { whole = w.0; places = w.1; rows = rows; rests = short }
+call-ready _ below below' tree tree' cap c h t (Replies r moves) b p room rows =
+    let w = given-ready c below below' tree tree' cap h t b p room in
+    let o = replied-onward c r below' tree' w.0 (ap (step (doing c)) p ∙ moves ∙ ap (λ (q : Pool). Do.Go (frame.Call (Telling r)) q) (sym p)) in
+    record { whole = o.whole; places = omega (arith, o.narrow, w.1); rows = omega arith; rests = tt }
 
 -- and its story goes on
-pub input-law : (g : Frame) (below below' : List Frame) (tree tree' : Links) (i : Input) (is : List Input) → Whole (view_of (frame.Call Asking) below tree) → heard doing i ≡ Some g
-    → below' ≡ below → pool_of tree' ≡ pool_of tree → rest_of (view_of (frame.Call Asking) below tree) (i ∷ is) ≡ Asked AtRest ∷ rest_of (view_of g below' tree') is
-input-law g below below' tree tree' i is h t b p =
-    question-items (view_of (frame.Call Asking) below tree) (Asked AtRest) (frame.Call Asking) g (pool_of tree) i is h refl t
-    ∙ ap (λ (z : View). Asked AtRest ∷ rest_of z is) (same-view g below below' tree tree' b p)
+call-law : (g : Frame) (below below' : List Frame) (tree tree' : Links) (c : Call) (is : List Input) → Whole (view_of (frame.Call Asking) below tree) → is_sound_call c ≡ true
+    → Begins c (pool_of tree) g → below' ≡ below → pool_of tree' ≡ pool_of tree
+    → rest_of (view_of (frame.Call Asking) below tree) (input.Call c ∷ is) ≡ Asked AtRest ∷ rest_of (view_of g below' tree') is
+call-law g below below' tree tree' c is h t begins b p = given begins ∙ ap (λ (l : List Item). Asked AtRest ∷ l) (on begins)
+  where
+    taken_up : heard doing (input.Call c) ≡ Some (doing c)
+    taken_up = rw t refl
+
+    e : (let v : View = record { innermost = doing c; below = reverse below; pool = pool_of tree } in v) ≡ view_of (doing c) below' tree'
+    e = same-view (doing c) below below' tree tree' b p
+
+    whole : Whole (view_of (doing c) below' tree')
+    whole = subst Whole e (question-whole (view_of (frame.Call Asking) below tree) (Asked AtRest) (frame.Call Asking) (doing c) (pool_of tree) (input.Call c) h refl taken_up)
+
+    given : Begins c (pool_of tree) g → rest_of (view_of (frame.Call Asking) below tree) (input.Call c ∷ is) ≡ Asked AtRest ∷ rest_of (view_of (doing c) below' tree') is
+    given z = question-items (view_of (frame.Call Asking) below tree) (Asked AtRest) (frame.Call Asking) (doing c) (pool_of tree) (input.Call c) is h refl taken_up
+        ∙ ap (λ (z : View). Asked AtRest ∷ rest_of z is) e
+
+    on : {f : Frame} → Begins c (pool_of tree) f → rest_of (view_of (doing c) below' tree') is ≡ rest_of (view_of f below' tree') is
+    on (Calls short) = refl
+    on (Replies r moves) = (replied-onward c r below' tree' whole (ap (step (doing c)) p ∙ moves ∙ ap (λ (q : Pool). Do.Go (frame.Call (Telling r)) q) (sym p))).same is
+
+pub begun-ready : (g : Frame) (below below' : List Frame) (tree tree' : Links) (cap : ℕ) (i : Input) → Whole (view_of (frame.Call Asking) below tree) → is_sound i ≡ true
+    → BeginsWith i (pool_of tree) g → below' ≡ below → pool_of tree' ≡ pool_of tree → length below + length tree.rows + 2 ≤ cap → 2 ≤ tree'.spare → Ready g below' tree' cap
+begun-ready g below below' tree tree' cap (input.Call c) h t begins b p room rows = call-ready g below below' tree tree' cap c h t begins b p room rows
+
+pub begun-law : (g : Frame) (below below' : List Frame) (tree tree' : Links) (i : Input) (is : List Input) → Whole (view_of (frame.Call Asking) below tree) → is_sound i ≡ true
+    → BeginsWith i (pool_of tree) g → below' ≡ below → pool_of tree' ≡ pool_of tree → rest_of (view_of (frame.Call Asking) below tree) (i ∷ is) ≡ Asked AtRest ∷ rest_of (view_of g below' tree') is
+begun-law g below below' tree tree' (input.Call c) is h t begins b p = call-law g below below' tree tree' c is h t begins b p
 
 -- ---- the open question, by the test
 

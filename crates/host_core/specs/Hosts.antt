@@ -1,5 +1,5 @@
 -- A host by its parts, and what it promises.
-use Rattle.std.specs.Prelude.{ℕ, ◌≤◌, Bool, true, false, List, [], ◌∷◌, reverse, Option, Some, None}
+use Rattle.std.specs.Prelude.{◌≡◌, ℕ, ◌≤◌, Bool, true, false, List, [], ◌∷◌, reverse, Option, Some, None}
 use Rattle.step_machine.specs.Machine.{Move}
 use Rattle.step_machine.specs.Machine.{Move as Do}
 use Rattle.tree_specs.specs.declared.event.Event.{Event}
@@ -11,12 +11,17 @@ use Rattle.tree_specs.specs.declared.frame.Answer.{Answer}
 use Rattle.tree_specs.specs.Pool.{Pool}
 use Rattle.tree_specs.specs.Items.{Item}
 use Rattle.tree_specs.specs.Items.Item.{Told, Asked}
-use Rattle.tree_specs.specs.Table.{step, resume}
+use Rattle.tree_specs.specs.declared.call.Call.{Call}
+use Rattle.tree_specs.specs.declared.reply.Reply.{Reply}
+use Rattle.tree_specs.specs.declared.question.Input.{Input}
+use Rattle.tree_specs.specs.declared.question.Input.TheVariants as inputs
+use Rattle.tree_specs.specs.Table.{step, resume, doing}
 use Rattle.tree_specs.specs.Measure.{pending}
 use Rattle.tree_specs.specs.View.{View}
 use Rattle.tree_specs.specs.Whole.{Whole}
 use Rattle.tree_links.specs.Links.{Links, pool_of}
 use Rattle.host_core.specs.Room.{places}
+use Rattle.host_core.specs.Moves.{StepRests, report_of}
 
 -- the works below stand in a stack, whose last is the next innermost
 abbrev pub view_of : Frame → List Frame → Links → View
@@ -27,6 +32,7 @@ pub record Ready (now : Frame) (below : List Frame) (tree : Links) (places_taken
   pub whole : Whole (view_of now below tree)
   pub places : places now (reverse below) (pool_of tree) ≤ places_taken
   pub rows : pending now ≤ tree.spare
+  pub rests : StepRests now (pool_of tree)
 
 -- an event or a question comes with the next step
 abbrev pub speaks : Move Frame Answer Pool Item → Bool
@@ -62,3 +68,11 @@ asking (frame.Call (Doing c)) = false
 asking (frame.Call (Awaiting x)) = false
 asking (frame.Call (Telling r)) = false
 asking (frame.Free f) = false
+
+-- what the host begins with where it was given a call: the call itself, or at once the reply that is its only step
+pub data Begins (c : Call) (p : Pool) : Frame → Type 0 where
+  Calls : report_of c ≡ None → Begins c p (doing c)
+  Replies : (r : Reply) → step (doing c) p ≡ Do.Go (frame.Call (Telling r)) p → Begins c p (frame.Call (Telling r))
+
+abbrev pub BeginsWith : Input → Pool → Frame → Type 0
+BeginsWith (inputs.Call c) p f = Begins c p f

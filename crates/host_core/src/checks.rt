@@ -32,7 +32,8 @@ fn check_size(size: u64) -> Result<(), Refusal>
     Ok(())
 }
 
-fn check_owner(o: Owner, tree: &Tree) -> Result<(), Refusal>
+/// An owner is the root or an object.
+pub fn check_owner(o: Owner, tree: &Tree) -> Result<(), Refusal>
     ensures { result ≡ checked (owner (pool_of tree.now) o) }
 {
     if !is_owner(o, tree) {
@@ -157,9 +158,12 @@ pub fn check(call: &Call, tree: &Tree) -> Result<(), Refusal>
 {
     match call {
         Call::New { owner, size, .. } => check_new(*owner, *size, tree),
-        Call::Free { x } | Call::Rename { x, .. } => check_object(*x, tree),
+        Call::Free { x } | Call::Freekids { x } | Call::Rename { x, .. } => check_object(*x, tree),
         Call::Steal { owner, x } | Call::Move { owner, x } => check_placing(*owner, *x, tree),
         Call::Reparent { from, to, x } => check_reparent(*from, *to, *x, tree),
         Call::Parent { x } => check_parent(*x, tree),
+        Call::Total { owner } | Call::Count { owner } | Call::Report { owner } => {
+            check_owner(*owner, tree)
+        }
     }
 }

@@ -3,26 +3,69 @@ ghost use Rattle.std.specs.Option.{option_copied};
 ghost use Rattle.tree_specs.specs.declared.schedule.Reason.TheVariants as reasons;
 ghost use Rattle.tree_specs.specs.Schedule.{misfit};
 ghost use Rattle.tree_specs.specs.Soundness.{is_sound};
-ghost use Rattle.tree_specs.specs.Story.{heard};
-ghost use Rattle.tree_specs.specs.Table.{doing};
+ghost use Rattle.tree_specs.specs.declared.call.Call.TheVariants.{Report as ReportOf};
+ghost use Rattle.tree_specs.specs.Calls.{refusals};
+ghost use Rattle.tree_specs.specs.Inside.{NoReferences};
+ghost use Rattle.tree_specs.specs.Table.{call_step, replied};
 ghost use Rattle.tree_specs.specs.View.{begin, question_of};
 ghost use Rattle.tree_links.specs.Links.{pool_of};
+ghost use Rattle.host_core.specs.Hosts.{Begins, BeginsWith};
+ghost use Rattle.host_core.specs.Moves.{report_of};
 
+use crate::checks::check_owner;
 use crate::fault::OfferFault;
 use crate::works::{advance, is_asking, settle};
 use std::alloc::Global;
 use std::marker::Model;
 use std::mem;
 use tree_links::Tree;
-use tree_specs::{Ask, CallFrame, Event, Frame, Input, Memory, Obj, Owner};
+use tree_report::rows;
+use tree_specs::{Ask, Call, CallFrame, Event, Frame, Input, Kind, Memory, Obj, Owner, Reply};
 
-/// The work of a host at rest that was given an answer.
-fn given(input: Input) -> Frame
-    requires { IsTrue (is_sound input) }
-    ensures { heard doing input ≡ Some result }
+/// The reply to a report: all that it tells is copied.
+#[tactic(auto, using(crate::proofs::Allowed::refused_step, crate::proofs::Allowed::allowed_step))]
+fn report_reply(alloc: Global, owner: Owner, tree: &Tree) -> Result<Reply, Memory>
+    requires { NoReferences tree.now.rows }
+    ensures { IfOk result (λ r. call_step (refusals (pool_of tree.now) (ReportOf owner)) (ReportOf owner) (pool_of tree.now) ≡ replied r (pool_of tree.now)) }
+{
+    if let Err(why) = check_owner(owner, tree) {
+        return Ok(Reply::No(why));
+    }
+    Ok(Reply::Rows(rows(alloc, tree, owner)?))
+}
+
+/// The owner that a report is about. None for every other call.
+fn report_owner(call: &Call) -> Option<Owner>
+    ensures { result ≡ report_of call.now }
+{
+    match call {
+        Call::Report { owner } => Some(*owner),
+        _ => None,
+    }
+}
+
+/// What the host begins with where it was given a call. A report is made at once, as its reply takes memory.
+#[tactic(auto, using(crate::proofs::Allowed::begins_call))]
+fn begun_call(alloc: Global, call: Call, tree: &Tree) -> Result<Frame, Memory>
+    requires { NoReferences tree.now.rows }
+    ensures { IfOk result (λ f. Begins call (pool_of tree.now) f) }
+{
+    match report_owner(&call) {
+        Some(owner) => {
+            let reply = report_reply(alloc, owner, tree)?;
+            Ok(Frame::Call(CallFrame::Telling { reply }))
+        }
+        None => Ok(Frame::Call(CallFrame::Doing { call })),
+    }
+}
+
+/// The same for an answer to the question of a host at rest.
+fn begun(alloc: Global, input: Input, tree: &Tree) -> Result<Frame, Memory>
+    requires { NoReferences tree.now.rows }
+    ensures { IfOk result (λ f. BeginsWith input (pool_of tree.now) f) }
 {
     match input {
-        Input::Call(call) => Frame::Call(CallFrame::Doing { call }),
+        Input::Call(call) => begun_call(alloc, call, tree),
     }
 }
 
@@ -32,10 +75,10 @@ fn make_room(below: &mut Vec<Frame>, tree: &mut Tree) -> Result<(), Memory>
     ensures rows { pool_of tree.new ≡ pool_of tree.old }
     ensures works_kept { vec_capacity below.old ≤ vec_capacity below.new }
     ensures rows_kept { tree.old.spare ≤ tree.new.spare }
-    ensures works_room { OnOk result (length below.old.items + length tree.old.rows + 1 ≤ vec_capacity below.new) }
+    ensures works_room { OnOk result (length below.old.items + length tree.old.rows + 2 ≤ vec_capacity below.new) }
     ensures rows_room { OnOk result (2 ≤ tree.new.spare) }
 {
-    let places = tree.len().checked_add(1).ok_or(Memory)?;
+    let places = tree.len().checked_add(2).ok_or(Memory)?;
     below.reserve(places)?;
     tree.reserve(2)?;
     Ok(())
@@ -48,6 +91,8 @@ pub struct Host {
     innermost: Frame,
     below: Vec<Frame>,
     tree: Tree,
+    /// The question of a host at rest, to be lent.
+    at_rest: Ask,
 }
 
 impl Model for Host {
@@ -56,17 +101,19 @@ impl Model for Host {
     ghost Value = { View };
 
     ghost use Rattle.std.specs.Prelude.{◌≡◌, true, vec_capacity};
+    ghost use Rattle.tree_specs.specs.declared.question.Ask.TheVariants.{Quiet};
     ghost use Rattle.host_core.specs.Hosts.{view_of, Ready, speaking};
 
     ghost view = { λ h. view_of h.innermost h.below.items h.tree };
 
-    ghost invariant = { λ h. Ready h.innermost h.below.items h.tree (vec_capacity h.below) × (speaking (view_of h.innermost h.below.items h.tree) ≡ true) };
+    ghost invariant = { λ h. Ready h.innermost h.below.items h.tree (vec_capacity h.below) × (speaking (view_of h.innermost h.below.items h.tree) ≡ true) × (h.at_rest ≡ Quiet) };
 }
 
 impl Host {
     ghost use Rattle.std.specs.Prelude.{◌&&◌};
     ghost use Rattle.tree_specs.specs.declared.object.Owner.TheVariants.{Of as At};
-    ghost use Rattle.tree_specs.specs.Pool.{is_row, is_inside as inside};
+    ghost use Rattle.std.specs.Option.{option_map};
+    ghost use Rattle.tree_specs.specs.Pool.{row_of, is_row, is_inside as inside};
     ghost use Rattle.host_core.specs.Promises.{Waits, NextLaw, TakesAnswer};
 
     /// A host with no objects, whose first one gets the number `first`. It waits for a call.
@@ -80,6 +127,7 @@ impl Host {
             innermost: Frame::Call(CallFrame::Asking),
             below: Vec::new(alloc),
             tree: Tree::new(alloc, first),
+            at_rest: Ask::Quiet,
         })
     }
 
@@ -90,11 +138,18 @@ impl Host {
         self.tree.row(x).is_some()
     }
 
+    /// What the object is. None exactly where it is no live object.
+    pub fn kind(&self, x: Obj) -> Option<Kind>
+        ensures { result ≡ option_map (λ r. r.kind) (row_of self.now.pool.rows x) }
+    {
+        Some(self.tree.row(x)?.kind)
+    }
+
     /// Whether an object is another one, or inside it. False where either is no live object.
     pub fn is_inside(&self, x: Obj, p: Obj) -> bool
-        ensures { result ≡ (is_row self.now.pool.rows x && (is_row self.now.pool.rows p && inside self.now.pool.rows (At x) (At p))) }
+        ensures { result ≡ (is_row self.now.pool.rows p && (is_row self.now.pool.rows x && inside self.now.pool.rows (At x) (At p))) }
     {
-        self.is_live(x) && self.is_live(p) && self.tree.is_inside(Owner::Of(x), Owner::Of(p))
+        self.is_live(p) && self.tree.inside(x, Owner::Of(p))
     }
 
     /// How many objects are live.
@@ -111,7 +166,7 @@ impl Host {
         ensures waits { IsSome result → Waits self.now }
     {
         if is_asking(&self.innermost) {
-            Some(&Ask::Quiet)
+            Some(&self.at_rest)
         } else {
             None
         }
@@ -144,8 +199,9 @@ impl Host {
         if !is_asking(&self.innermost) {
             return Err(OfferFault::NotAsked);
         }
+        let first = begun(*self.below.allocator(), input, &self.tree)?;
         make_room(&mut self.below, &mut self.tree)?;
-        self.innermost = settle(given(input), &mut self.below, &mut self.tree);
+        self.innermost = settle(first, &mut self.below, &mut self.tree);
         Ok(())
     }
 }

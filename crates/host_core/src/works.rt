@@ -5,14 +5,14 @@ ghost use Rattle.tree_specs.specs.Table.{step, resume};
 ghost use Rattle.tree_specs.specs.Measure.{pending};
 ghost use Rattle.tree_specs.specs.View.{rest_of};
 ghost use Rattle.tree_links.specs.Links.{pool_of};
-ghost use Rattle.host_core.specs.Moves.{move_of};
+ghost use Rattle.host_core.specs.Moves.{move_of, StepRests};
 ghost use Rattle.host_core.specs.Hosts.{view_of, moved, speaks as speaks_in, speaking, asking, Ready};
 
 use crate::caller::{caller_move, caller_resumed};
 use crate::freeing::{free_move, free_resumed};
 use crate::motion::Motion;
 use tree_links::Tree;
-use tree_specs::{Answer, CallFrame, Event, Frame, FreeFrame, Owner};
+use tree_specs::{Answer, CallFrame, Event, Frame, FreeFrame, Owner, Purpose};
 
 /// What a step told, and the work that is innermost after it.
 #[derive(Debug, Drop)]
@@ -23,7 +23,8 @@ pub struct Progress {
 
 /// One step of a work.
 fn move_once(frame: Frame, tree: &mut Tree) -> Motion
-    requires { pending frame ≤ tree.old.spare }
+    requires room { pending frame ≤ tree.old.spare }
+    requires rests { StepRests frame (pool_of tree.old) }
     ensures moved { move_of result (pool_of tree.new) ≡ step frame (pool_of tree.old) }
     ensures spare { tree.old.spare ≤ tree.new.spare + pending frame }
 {
@@ -46,6 +47,7 @@ fn resumed(frame: Frame, answer: Answer) -> Frame
 /// One step of the works, innermost first. It takes no memory.
 pub fn advance(now: Frame, below: &mut Vec<Frame>, tree: &mut Tree) -> Progress
     requires rows { pending now ≤ tree.old.spare }
+    requires rests { StepRests now (pool_of tree.old) }
     requires room { length (moved (step now (pool_of tree.old)) (reverse below.old.items)).1.below ≤ vec_capacity below.old }
     ensures moved { moved (step now (pool_of tree.old)) (reverse below.old.items) ≡ (result.event, view_of result.now below.new.items tree.new) }
     ensures spare { tree.old.spare ≤ tree.new.spare + pending now }
@@ -84,6 +86,18 @@ pub fn advance(now: Frame, below: &mut Vec<Frame>, tree: &mut Tree) -> Progress
     }
 }
 
+/// One step that tells nothing.
+fn go_on(now: Frame, below: &mut Vec<Frame>, tree: &mut Tree) -> Frame
+    requires rows { pending now ≤ tree.old.spare }
+    requires rests { StepRests now (pool_of tree.old) }
+    requires room { length (moved (step now (pool_of tree.old)) (reverse below.old.items)).1.below ≤ vec_capacity below.old }
+    ensures moved { (moved (step now (pool_of tree.old)) (reverse below.old.items)).1 ≡ view_of result below.new.items tree.new }
+    ensures spare { tree.old.spare ≤ tree.new.spare + pending now }
+    ensures kept { vec_capacity below.old ≤ vec_capacity below.new }
+{
+    advance(now, below, tree).now
+}
+
 /// Whether the host waits for a call.
 pub fn is_asking(frame: &Frame) -> bool
     ensures { result ≡ asking frame.now }
@@ -93,11 +107,17 @@ pub fn is_asking(frame: &Frame) -> bool
 
 /// Whether the next step tells or asks.
 fn speaks(frame: &Frame, tree: &Tree) -> bool
+    requires { StepRests frame.now (pool_of tree.now) }
     ensures { result ≡ speaks_in (step frame.now (pool_of tree.now)) }
 {
     match frame {
         Frame::Call(CallFrame::Asking | CallFrame::Telling { .. }) => true,
-        Frame::Free(FreeFrame::Looping { x }) => tree.first_kid(Owner::Of(*x)).is_none(),
+        Frame::Free(
+            FreeFrame::Looping {
+                x,
+                purpose: Purpose::Removal,
+            },
+        ) => tree.first_kid(Owner::Of(*x)).is_none(),
         _ => false,
     }
 }
@@ -111,7 +131,7 @@ pub fn settle(now: Frame, below: &mut Vec<Frame>, tree: &mut Tree) -> Frame
 {
     let mut now = now;
     while !speaks(&now, tree) {
-        now = advance(now, below, tree).now;
+        now = go_on(now, below, tree);
     }
     now
 }

@@ -16,7 +16,7 @@ mod std_source;
 pub use memory_sink::{FineSink, MemSink};
 pub use memory_source::{FineSource, MemSource};
 pub use output::{PutError, put_all};
-pub use sink::{Put, Sink};
+pub use sink::{Done, Put, Sink};
 pub use source::{Got, Source};
 pub use std_sink::StdSink;
 pub use std_source::StdSource;

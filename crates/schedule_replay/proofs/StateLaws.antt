@@ -11,7 +11,15 @@ use Rattle.tree_specs.specs.Items.Item.{Asked}
 use Rattle.tree_specs.specs.Grammar.{input_of}
 use Rattle.tree_specs.specs.Written.{IsFront}
 use Rattle.tree_specs.specs.Text.{answered_text, end_text, header}
-use Rattle.tree_specs.specs.Schedule.{Line, line_input, is_header, misfit}
+use Rattle.std.specs.Str.{bytes_eq}
+use Rattle.std.specs.Prelude.{not, is_err}
+use Rattle.text_forms.specs.declared.form.FormFault.{FormFault}
+use Rattle.text_forms.specs.declared.form.FormFault.TheVariants.{NoForm, Memory as NoMemory}
+use Rattle.text_forms.specs.Reads.{Reads}
+use Rattle.tree_specs.specs.declared.schedule.Mode.{Mode}
+use Rattle.tree_specs.specs.declared.schedule.Mode.TheVariants.{Pool}
+use Rattle.tree_specs.proofs.Numbered.{by_test}
+use Rattle.tree_specs.specs.Schedule.{Line, schedule_header, mode_of, line_input, is_header, misfit}
 use Rattle.tree_specs.specs.View.{View, rest_of, question_of}
 use Rattle.host_core.specs.Promises.{Waits, TakesAnswer}
 use Rattle.schedule_replay.specs.declared.refusal.LineError.{LineError}
@@ -70,6 +78,21 @@ pub breaks-off : (s t : Reading) → t.text ≡ s.text → TakesLine s t (Err er
 breaks-off s t e = record { written = []; text = e ∙ sym (append-nil s.text); begins = λ rest. begins_nil _ }
 
 -- ---- the header
+
+-- a line is the header exactly where reading it is no error
+pub header-is : (r : Result Mode FormFault) (line : List ℕ) → Reads r (mode_of line) → r ≢ Err NoMemory → bytes_eq line schedule_header ≡ not (is_err r)
+unfolding mode_of
+header-is r line e other = by_test (bytes_eq line schedule_header) (λ t. rw t (here r (rw t at e) other)) (λ t. rw t (there r (rw t at e)))
+  where
+    here : (r : Result Mode FormFault) → Reads r (Some Pool) → r ≢ Err NoMemory → true ≡ not (is_err r)
+    here (Ok m) e other = refl
+    here (Err NoForm) e other = cc
+    here (Err NoMemory) e other = absurd (other refl)
+
+    there : (r : Result Mode FormFault) → Reads r None → false ≡ not (is_err r)
+    there (Ok m) e = cc
+    there (Err NoForm) e = refl
+    there (Err NoMemory) e = refl
 
 pub takes-header : (s t : Reading) → IsReady s → s.number ≡ 1 → is_header (ended_line s.line) ≡ true → t.host ≡ s.host → t.text ≡ s.text ++ header → TakesLine s t (Ok tt)
 takes-header s t ready first h same e = record {

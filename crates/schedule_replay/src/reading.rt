@@ -11,7 +11,7 @@ ghost use Rattle.host_core.specs.Promises.{Waits};
 use crate::refusal::LineError;
 use crate::telling::tell;
 use host_core::{Host, OfferFault};
-use schedule_text::{is_schedule_header, read_line, write_answered, write_end};
+use schedule_text::{read_header, read_line, write_answered, write_end};
 use std::alloc::Global;
 use text_forms::FormFault;
 use tree_specs::{Input, Memory, Reason};
@@ -92,7 +92,7 @@ impl Replay {
         ensures taken { TakesLine (reading_of self.old) (reading_of self.new) result }
         ensures number { self.new.number ≡ self.old.number }
     {
-        if !is_schedule_header(&self.line) {
+        if read_header(&self.line).is_err() {
             return self.refuse(Reason::Form);
         }
         self.text.extend_from_slice(b"tv transcript 1\n")?;

@@ -1,4 +1,3 @@
 pub mod Fronts
-pub mod Writing
 pub mod Inputs
-pub mod Spaced
+pub mod Parts

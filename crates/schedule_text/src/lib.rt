@@ -4,15 +4,19 @@
 
 mod event;
 mod front;
+mod header;
 mod line_reader;
 mod line_writer;
-mod numbers;
+mod moment;
+mod octets;
 mod question;
+mod refusal;
 mod reply;
 #[cfg(test)]
 mod tests;
 
 pub use event::write_event;
-pub use line_reader::{is_schedule_header, read_line};
+pub use header::read_header;
+pub use line_reader::read_line;
 pub use line_writer::write_input;
 pub use question::{write_answered, write_ask, write_end};

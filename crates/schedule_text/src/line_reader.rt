@@ -1,8 +1,6 @@
 ghost use Rattle.std.specs.Prelude.{◌≡◌, ◌≢◌, ◌++◌, IfOk, IsTrue, Err};
-ghost use Rattle.std.specs.Str.{bytes_eq};
 ghost use Rattle.tree_specs.specs.declared.question.Input.{Input as InputData};
 ghost use Rattle.tree_specs.specs.Grammar.{input_of, call_input_of};
-ghost use Rattle.tree_specs.specs.Schedule.{schedule_header};
 ghost use Rattle.tree_specs.specs.Soundness.{is_sound};
 ghost use Rattle.tree_specs.specs.Text.{input_text, newline};
 ghost use Rattle.text_forms.specs.Reads.{Reads};
@@ -42,11 +40,4 @@ pub fn read_line(alloc: Global, line: &[u8]) -> Result<Input, FormFault>
     ensures none { result ≡ Err FormFault.NoForm → (i : InputData) → IsTrue (is_sound i) → line.now ++ newline ≢ input_text i }
 {
     input_value(alloc, line)
-}
-
-/// Whether a line, without its LF, is the first line of a schedule: `tv schedule 1 pool`.
-pub fn is_schedule_header(line: &[u8]) -> bool
-    ensures { result ≡ bytes_eq line.now schedule_header }
-{
-    line == b"tv schedule 1 pool".as_slice()
 }

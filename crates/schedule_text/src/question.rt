@@ -1,25 +1,52 @@
-ghost use Rattle.std.specs.Prelude.{◌++◌};
-ghost use Rattle.tree_specs.specs.Text.{ask_text, answered_text, end_text};
+ghost use Rattle.tree_specs.specs.declared.question.Ask.TheVariants as asks;
+ghost use Rattle.tree_specs.specs.Text.{ask_text, asked_text, answered_text, end_text};
 ghost use Rattle.tree_specs.specs.Written.{Writes};
 
-use text_forms::write_pieces;
-use tree_specs::{Ask, Memory};
+use crate::moment::write_moment;
+use crate::octets::write_octets;
+use text_forms::{write_numbers, write_pieces};
+use tree_specs::{Ask, Memory, Octets};
 
-// Appends the text of a question between a front and an end.
+// Appends the question of how many of these bytes a descriptor takes.
 #[tactic(auto, unfolding(tree_specs::specs::Text::ask_text))]
-fn write_question(front: &[u8], ask: &Ask, end: &[u8], out: &mut Vec<u8>) -> Result<(), Memory>
-    ensures { Writes out.old.items out.new.items result (front.now ++ ask_text ask.now ++ end.now) }
+fn write_ask_of_write(descriptor: u32, bytes: &Octets, out: &mut Vec<u8>) -> Result<(), Memory>
+    ensures { Writes out.old.items out.new.items result (ask_text (asks.Write descriptor bytes.now)) }
 {
-    match ask {
-        Ask::Quiet => write_pieces(&[front, b"quiet".as_slice(), end], out),
-    }
+    write_numbers(b"write", &[u64::from(descriptor)], b" ", out)?;
+    write_octets(bytes, out)
 }
 
 /// Appends the text of a question, with no LF. Where memory is wanted, a front of it was appended.
+#[tactic(auto, unfolding(tree_specs::specs::Text::ask_text))]
 pub fn write_ask(ask: &Ask, out: &mut Vec<u8>) -> Result<(), Memory>
     ensures { Writes out.old.items out.new.items result (ask_text ask.now) }
 {
-    write_question(b"", ask, b"", out)
+    match ask {
+        Ask::Quiet => write_pieces(&[b"quiet".as_slice()], out),
+        Ask::Routine(moment) => write_moment(moment, out),
+        Ask::Clock => write_pieces(&[b"clock".as_slice()], out),
+        Ask::Wait(limit) => write_numbers(b"wait", &[*limit], b"", out),
+        Ask::Accept(descriptor) => write_numbers(b"accept", &[u64::from(*descriptor)], b"", out),
+        Ask::Read(descriptor, most) => {
+            write_numbers(
+                b"read",
+                &[u64::from(*descriptor), u64::from(*most)],
+                b"",
+                out,
+            )
+        }
+        Ask::Write(descriptor, bytes) => write_ask_of_write(*descriptor, bytes, out),
+    }
+}
+
+// Appends the line of a question that was answered.
+fn write_asked(ask: &Ask, out: &mut Vec<u8>) -> Result<(), Memory>
+    ensures { Writes out.old.items out.new.items result (asked_text ask.now) }
+{
+    out.extend_from_slice(b"ask ")?;
+    write_ask(ask, out)?;
+    out.push(b'\n')?;
+    Ok(())
 }
 
 /// Appends the line of a question that was answered, with its LF; Quiet has none. Where memory is
@@ -30,6 +57,12 @@ pub fn write_answered(ask: &Ask, out: &mut Vec<u8>) -> Result<(), Memory>
 {
     match ask {
         Ask::Quiet => Ok(()),
+        Ask::Routine(_)
+        | Ask::Clock
+        | Ask::Wait(_)
+        | Ask::Accept(_)
+        | Ask::Read(_, _)
+        | Ask::Write(_, _) => write_asked(ask, out),
     }
 }
 
@@ -39,5 +72,8 @@ pub fn write_answered(ask: &Ask, out: &mut Vec<u8>) -> Result<(), Memory>
 pub fn write_end(ask: &Ask, out: &mut Vec<u8>) -> Result<(), Memory>
     ensures { Writes out.old.items out.new.items result (end_text ask.now) }
 {
-    write_question(b"end ", ask, b"\n", out)
+    out.extend_from_slice(b"end ")?;
+    write_ask(ask, out)?;
+    out.push(b'\n')?;
+    Ok(())
 }

@@ -1,39 +1,46 @@
-ghost use Rattle.tree_specs.specs.declared.event.Event.TheVariants.{Replied};
 ghost use Rattle.tree_specs.specs.declared.reply.Reply.TheVariants as replies;
-ghost use Rattle.tree_specs.specs.Text.{event_text};
+ghost use Rattle.tree_specs.specs.Text.{reply_text};
 ghost use Rattle.tree_specs.specs.Written.{Writes};
 
-use crate::numbers::write_numbers;
-use tree_specs::{Memory, Refusal, Reply};
+use crate::octets::write_octets;
+use crate::refusal::write_refusal;
+use text_forms::{write_numbers, write_pieces, write_report_rows};
+use tree_specs::{Memory, Octets, Reply, ReportRows};
 
-// Appends the line of a refusal: its number, and what it carries.
-#[tactic(auto, unfolding(tree_specs::specs::Text::event_text, tree_specs::specs::Text::reply_text, tree_specs::specs::Text::refusal_text))]
-fn write_refusal(why: Refusal, out: &mut Vec<u8>) -> Result<(), Memory>
-    ensures { Writes out.old.items out.new.items result (event_text (Replied (replies.No why))) }
+// Appends the lines of a report, and then the line that tells how many they are.
+fn write_report(report: &ReportRows, out: &mut Vec<u8>) -> Result<(), Memory>
+    ensures { Writes out.old.items out.new.items result (reply_text (replies.Rows report.now)) }
 {
-    match why {
-        Refusal::NoSuch(n) => write_numbers(b"reply no 1", &[n], b"\n", out),
-        Refusal::NotParent { object, owner } => {
-            write_numbers(b"reply no 6", &[object.0, owner.number()], b"\n", out)
-        }
-        Refusal::Loop { object, owner } => {
-            write_numbers(b"reply no 7", &[object.0, owner.number()], b"\n", out)
-        }
-        Refusal::Dying(object) => write_numbers(b"reply no 8", &[object.0], b"\n", out),
-        Refusal::Full(n) => write_numbers(b"reply no 10", &[n], b"\n", out),
-        Refusal::Spent => write_numbers(b"reply no 11", &[], b"\n", out),
-        Refusal::TooBig(n) => write_numbers(b"reply no 14", &[n], b"\n", out),
-    }
+    let rows = report.as_slice();
+    write_report_rows(rows, out)?;
+    write_numbers(b"reply rows", &[rows.len() as u64], b"\n", out)
 }
 
-// Appends the line of a reply, with its LF.
-#[tactic(auto, unfolding(tree_specs::specs::Text::event_text, tree_specs::specs::Text::reply_text))]
-pub(crate) fn write_reply(reply: Reply, out: &mut Vec<u8>) -> Result<(), Memory>
-    ensures { Writes out.old.items out.new.items result (event_text (Replied reply)) }
+// Appends the line with the bytes that were read.
+#[tactic(auto, unfolding(tree_specs::specs::Text::reply_text))]
+fn write_got(bytes: &Octets, out: &mut Vec<u8>) -> Result<(), Memory>
+    ensures { Writes out.old.items out.new.items result (reply_text (replies.Bytes bytes.now)) }
+{
+    out.extend_from_slice(b"reply got ")?;
+    write_octets(bytes, out)?;
+    out.push(b'\n')?;
+    Ok(())
+}
+
+// Appends a reply as its line, with its LF.
+#[tactic(auto, unfolding(tree_specs::specs::Text::reply_text))]
+pub(crate) fn write_reply(reply: &Reply, out: &mut Vec<u8>) -> Result<(), Memory>
+    ensures { Writes out.old.items out.new.items result (reply_text reply.now) }
 {
     match reply {
-        Reply::Ok => write_numbers(b"reply ok", &[], b"\n", out),
-        Reply::Number(n) => write_numbers(b"reply", &[n], b"\n", out),
-        Reply::No(why) => write_refusal(why, out),
+        Reply::Ok => write_pieces(&[b"reply ok\n".as_slice()], out),
+        Reply::Number(n) => write_numbers(b"reply", &[*n], b"\n", out),
+        Reply::Pair(a, b) => write_numbers(b"reply", &[*a, *b], b"\n", out),
+        Reply::Rows(rows) => write_report(rows, out),
+        Reply::Bytes(bytes) => write_got(bytes, out),
+        Reply::Again => write_pieces(&[b"reply again\n".as_slice()], out),
+        Reply::Fault => write_pieces(&[b"reply fault\n".as_slice()], out),
+        Reply::End => write_pieces(&[b"reply end\n".as_slice()], out),
+        Reply::No(why) => write_refusal(*why, out),
     }
 }

@@ -3,13 +3,14 @@ use Rattle.std.proofs.Common.{◌≡◌, ◌≢◌, ℕ, Bool, true, false, ◌&
 use Rattle.std.specs.Prelude.{IfOk}
 use Rattle.std.specs.Fmt.{decimal}
 use Rattle.std.specs.List.{list_all}
+use Rattle.std.specs.Option.{option_map}
 use Rattle.std.specs.Str.{bytes_eq}
 use Rattle.std.proofs.lemmas.Slice.Eq.{bytes_eq-Decides}
 use Rattle.tree_specs.specs.declared.call.Call.{Call}
-use Rattle.tree_specs.specs.declared.call.Call.TheVariants.{New, Free, Steal, Move, Reparent, Rename, Parent}
+use Rattle.tree_specs.specs.declared.call.Call.TheVariants.{New, Free, Freekids, Steal, Move, Reparent, Rename, Parent, Total, Count, Report}
 use Rattle.tree_specs.specs.declared.object.Obj.{Obj}
 use Rattle.tree_specs.specs.declared.object.Owner.{Owner}
-use Rattle.tree_specs.specs.Grammar.{◌>>=◌, words, object_of, placing_of, new_of, free_of, steal_of, move_of, reparent_of, rename_of, parent_of, call_of_words, call_of}
+use Rattle.tree_specs.specs.Grammar.{◌>>=◌, words, object_of, owner_of, new_of, of_object, of_owner, placing_of, reparent_of, rename_of, call_of_words, call_of}
 use Rattle.tree_specs.specs.Names.{is_name}
 use Rattle.tree_specs.specs.Objects.{owner_number}
 use Rattle.tree_specs.specs.Soundness.{is_number, is_sound_owner, is_sound_call}
@@ -17,9 +18,7 @@ use Rattle.tree_specs.specs.Text.{call_text}
 use Rattle.text_forms.specs.declared.form.FormFault.{FormFault}
 use Rattle.text_forms.specs.declared.form.FormFault.TheVariants.{NoForm, Memory}
 use Rattle.text_forms.specs.Reads.{Reads}
-use Rattle.text_forms.specs.Shapes.{only_object_of}
 use Rattle.text_forms.proofs.Fields.{has_read, number_field, owner_field, object_field, name_field}
-use Rattle.text_forms.proofs.Shapes.{free_is_only, parent_is_only}
 use Rattle.text_forms.proofs.Bools.{and_true}
 use Rattle.text_forms.proofs.Words.{is_unspaced, joined, words-joined, joined-words}
 
@@ -28,20 +27,28 @@ use Rattle.text_forms.proofs.Words.{is_unspaced, joined, words-joined, joined-wo
 abbrev verb_of : Call → List ℕ
 verb_of (New owner size name) = codes "new"
 verb_of (Free x) = codes "free"
+verb_of (Freekids x) = codes "freekids"
 verb_of (Steal owner x) = codes "steal"
 verb_of (Move owner x) = codes "move"
 verb_of (Reparent from to x) = codes "reparent"
 verb_of (Rename x name) = codes "rename"
 verb_of (Parent x) = codes "parent"
+verb_of (Total owner) = codes "total"
+verb_of (Count owner) = codes "count"
+verb_of (Report owner) = codes "report"
 
 abbrev fields_of : Call → List (List ℕ)
 fields_of (New owner size name) = decimal (owner_number owner) ∷ decimal size ∷ name ∷ []
 fields_of (Free x) = decimal x.0 ∷ []
+fields_of (Freekids x) = decimal x.0 ∷ []
 fields_of (Steal owner x) = decimal (owner_number owner) ∷ decimal x.0 ∷ []
 fields_of (Move owner x) = decimal (owner_number owner) ∷ decimal x.0 ∷ []
 fields_of (Reparent from to x) = decimal (owner_number from) ∷ decimal (owner_number to) ∷ decimal x.0 ∷ []
 fields_of (Rename x name) = decimal x.0 ∷ name ∷ []
 fields_of (Parent x) = decimal x.0 ∷ []
+fields_of (Total owner) = decimal (owner_number owner) ∷ []
+fields_of (Count owner) = decimal (owner_number owner) ∷ []
+fields_of (Report owner) = decimal (owner_number owner) ∷ []
 
 abbrev words_of : Call → List (List ℕ)
 words_of c = verb_of c ∷ fields_of c
@@ -50,11 +57,15 @@ call_text-words : (c : Call) → call_text c ≡ joined (words_of c)
 unfolding call_text
 call_text-words (New owner size name) = simp append_assoc
 call_text-words (Free x) = refl
+call_text-words (Freekids x) = refl
 call_text-words (Steal owner x) = simp append_assoc
 call_text-words (Move owner x) = simp append_assoc
 call_text-words (Reparent from to x) = simp append_assoc
 call_text-words (Rename x name) = simp append_assoc
 call_text-words (Parent x) = refl
+call_text-words (Total owner) = refl
+call_text-words (Count owner) = refl
+call_text-words (Report owner) = refl
 
 -- ---- from a call to its words and back
 
@@ -64,14 +75,22 @@ record AreWords (c : Call) (ws : List (List ℕ)) : Type 0 where
   again : call_of_words ws ≡ Some c
 
 -- a verb with an object and nothing more
-object_fits : (verb : List ℕ) (call : Obj → Call) (x : Obj) → is_unspaced verb ≡ true → is_number x.0 ≡ true → call_of_words (verb ∷ decimal x.0 ∷ []) ≡ (object_of (decimal x.0) >>= (λ object. Some (call object))) → AreWords (call x) (verb ∷ decimal x.0 ∷ [])
+object_fits : (verb : List ℕ) (call : Obj → Call) (x : Obj) → is_unspaced verb ≡ true → is_number x.0 ≡ true → call_of_words (verb ∷ decimal x.0 ∷ []) ≡ option_map call (object_of (decimal x.0)) → AreWords (call x) (verb ∷ decimal x.0 ∷ [])
 object_fits verb call x is_word h reads = record {
   unspaced = rw (is_word, object_field.is_word x h) refl;
   again = reads ∙ rw (object_field.again x h) refl;
 }
 
+-- a verb with an owner and nothing more
+owner_fits : (verb : List ℕ) (call : Owner → Call) (owner : Owner) → is_unspaced verb ≡ true → is_sound_owner owner ≡ true → call_of_words (verb ∷ decimal (owner_number owner) ∷ []) ≡ option_map call (owner_of (decimal (owner_number owner))) → AreWords (call owner) (verb ∷ decimal (owner_number owner) ∷ [])
+owner_fits verb call owner is_word h reads = record {
+  unspaced = rw (is_word, owner_field.is_word owner h) refl;
+  again = reads ∙ rw (owner_field.again owner h) refl;
+}
+
 -- a verb with an owner, and then an object
 placing_fits : (verb : List ℕ) (call : Owner → Obj → Call) (owner : Owner) (x : Obj) → is_unspaced verb ≡ true → (is_sound_owner owner && is_number x.0) ≡ true → call_of_words (verb ∷ decimal (owner_number owner) ∷ decimal x.0 ∷ []) ≡ placing_of call (decimal (owner_number owner) ∷ decimal x.0 ∷ []) → AreWords (call owner x) (verb ∷ decimal (owner_number owner) ∷ decimal x.0 ∷ [])
+unfolding placing_of
 placing_fits verb call owner x is_word h reads =
     let parts = and_true (is_sound_owner owner) (is_number x.0) h in
     record {
@@ -80,7 +99,7 @@ placing_fits verb call owner x is_word h reads =
     }
 
 words_fit : (c : Call) → is_sound_call c ≡ true → AreWords c (words_of c)
-unfolding call_of_words new_of free_of steal_of move_of reparent_of rename_of parent_of
+unfolding call_of_words new_of of_object of_owner reparent_of rename_of
 words_fit (New owner size name) h =
     let named = and_true (is_sound_owner owner && is_number size) (is_name name) h in
     let sized = and_true (is_sound_owner owner) (is_number size) named.0 in
@@ -89,6 +108,7 @@ words_fit (New owner size name) h =
       again = rw (owner_field.again owner sized.0, number_field.again size sized.1, name_field.again name named.1) refl;
     }
 words_fit (Free x) h = object_fits (codes "free") Free x refl h refl
+words_fit (Freekids x) h = object_fits (codes "freekids") Freekids x refl h refl
 words_fit (Steal owner x) h = placing_fits (codes "steal") Steal owner x refl h refl
 words_fit (Move owner x) h = placing_fits (codes "move") Move owner x refl h refl
 words_fit (Reparent from to x) h =
@@ -105,6 +125,9 @@ words_fit (Rename x name) h =
       again = rw (object_field.again x parts.0, name_field.again name parts.1) refl;
     }
 words_fit (Parent x) h = object_fits (codes "parent") Parent x refl h refl
+words_fit (Total owner) h = owner_fits (codes "total") Total owner refl h refl
+words_fit (Count owner) h = owner_fits (codes "count") Count owner refl h refl
+words_fit (Report owner) h = owner_fits (codes "report") Report owner refl h refl
 
 pub call_again : (c : Call) → is_sound_call c ≡ true → call_of (call_text c) ≡ Some c
 unfolding call_of
@@ -164,20 +187,42 @@ rename_spelled (x ∷ n ∷ []) c e =
     spelling_of _ (Rename object.value name.value) c (cc) (rw (object.value_is_sound, name.value_is_sound) refl) name.goes_on
 rename_spelled (x ∷ n ∷ m ∷ more) c e = absurd cc
 
+-- what a call is made of was read first
+made_from : {A : Type 0} (make : A → Call) (read : Option A) (c : Call) → option_map make read ≡ Some c → (read >>= (λ x. Some (make x))) ≡ Some c
+made_from make None c e = absurd cc
+made_from make (Some x) c e = e
+
 -- a verb with an object and nothing more
-object_spelled : (verb : List ℕ) (call : Obj → Call) → ((x : Obj) → words_of (call x) ≡ verb ∷ decimal x.0 ∷ []) → ((x : Obj) → is_sound_call (call x) ≡ is_number x.0) → (fields : List (List ℕ)) (c : Call) → (only_object_of fields >>= (λ x. Some (call x))) ≡ Some c → IsSpelling (verb ∷ fields) c
+object_spelled : (verb : List ℕ) (call : Obj → Call) → ((x : Obj) → words_of (call x) ≡ verb ∷ decimal x.0 ∷ []) → ((x : Obj) → is_sound_call (call x) ≡ is_number x.0) → (fields : List (List ℕ)) (c : Call) → of_object call fields ≡ Some c → IsSpelling (verb ∷ fields) c
+unfolding of_object
 object_spelled verb call words_are sound [] c e = absurd cc
 object_spelled verb call words_are sound (x ∷ []) c e =
-    let object = has_read object_field x _ c e in
+    let object = has_read object_field x _ c (made_from call (object_of x) c e) in
     spelling_of _ (call object.value) c (cc (words_are object.value)) (sound object.value ∙ object.value_is_sound) object.goes_on
 object_spelled verb call words_are sound (x ∷ m ∷ more) c e = absurd cc
 
+-- a verb with an owner and nothing more
+owner_spelled : (verb : List ℕ) (call : Owner → Call) → ((owner : Owner) → words_of (call owner) ≡ verb ∷ decimal (owner_number owner) ∷ []) → ((owner : Owner) → is_sound_call (call owner) ≡ is_sound_owner owner) → (fields : List (List ℕ)) (c : Call) → of_owner call fields ≡ Some c → IsSpelling (verb ∷ fields) c
+unfolding of_owner
+owner_spelled verb call words_are sound [] c e = absurd cc
+owner_spelled verb call words_are sound (p ∷ []) c e =
+    let owner = has_read owner_field p _ c (made_from call (owner_of p) c e) in
+    spelling_of _ (call owner.value) c (cc (words_are owner.value)) (sound owner.value ∙ owner.value_is_sound) owner.goes_on
+owner_spelled verb call words_are sound (p ∷ m ∷ more) c e = absurd cc
+
+-- an owner and an object were read, one after the other
+made_from_two : (call : Owner → Obj → Call) (owner : Option Owner) (object : Option Obj) (c : Call) → option_map (λ (pair : Owner × Obj). call pair.0 pair.1) (owner >>= (λ p. object >>= (λ x. Some (p, x)))) ≡ Some c → (owner >>= (λ p. object >>= (λ x. Some (call p x)))) ≡ Some c
+made_from_two call None object c e = absurd cc
+made_from_two call (Some p) None c e = absurd cc
+made_from_two call (Some p) (Some x) c e = e
+
 -- a verb with an owner, and then an object
 placing_spelled : (verb : List ℕ) (call : Owner → Obj → Call) → ((owner : Owner) (x : Obj) → words_of (call owner x) ≡ verb ∷ decimal (owner_number owner) ∷ decimal x.0 ∷ []) → ((owner : Owner) (x : Obj) → is_sound_call (call owner x) ≡ (is_sound_owner owner && is_number x.0)) → (fields : List (List ℕ)) (c : Call) → placing_of call fields ≡ Some c → IsSpelling (verb ∷ fields) c
+unfolding placing_of
 placing_spelled verb call words_are sound [] c e = absurd cc
 placing_spelled verb call words_are sound (p ∷ []) c e = absurd cc
 placing_spelled verb call words_are sound (p ∷ x ∷ []) c e =
-    let owner = has_read owner_field p _ c e in
+    let owner = has_read owner_field p _ c (made_from_two call (owner_of p) (object_of x) c e) in
     let object = has_read object_field x _ c owner.goes_on in
     spelling_of _ (call owner.value object.value) c
     (cc (words_are owner.value object.value))
@@ -194,17 +239,21 @@ by_verb name read spelled verb fields c others otherwise e = by_test (bytes_eq v
     by_test true h f = rw ((bytes_eq-Decides verb name).0 h) (spelled fields c f)
 
 words_spelled : (ws : List (List ℕ)) (c : Call) → call_of_words ws ≡ Some c → IsSpelling ws c
-unfolding call_of_words steal_of move_of
+unfolding call_of_words
 words_spelled [] c e = absurd cc
 words_spelled (verb ∷ fields) c e =
     by_verb (codes "new") new_of new_spelled verb fields c _
-    (by_verb (codes "free") free_of (λ fs c f. object_spelled (codes "free") Free (λ x. refl) (λ x. refl) fs c (sym (free_is_only fs) ∙ f)) verb fields c _
-    (by_verb (codes "steal") steal_of (placing_spelled (codes "steal") Steal (λ owner x. refl) (λ owner x. refl)) verb fields c _
-    (by_verb (codes "move") move_of (placing_spelled (codes "move") Move (λ owner x. refl) (λ owner x. refl)) verb fields c _
+    (by_verb (codes "free") (of_object Free) (object_spelled (codes "free") Free (λ x. refl) (λ x. refl)) verb fields c _
+    (by_verb (codes "freekids") (of_object Freekids) (object_spelled (codes "freekids") Freekids (λ x. refl) (λ x. refl)) verb fields c _
+    (by_verb (codes "steal") (placing_of Steal) (placing_spelled (codes "steal") Steal (λ owner x. refl) (λ owner x. refl)) verb fields c _
+    (by_verb (codes "move") (placing_of Move) (placing_spelled (codes "move") Move (λ owner x. refl) (λ owner x. refl)) verb fields c _
     (by_verb (codes "reparent") reparent_of reparent_spelled verb fields c _
     (by_verb (codes "rename") rename_of rename_spelled verb fields c _
-    (by_verb (codes "parent") parent_of (λ fs c f. object_spelled (codes "parent") Parent (λ x. refl) (λ x. refl) fs c (sym (parent_is_only fs) ∙ f)) verb fields c _
-    (λ none. absurd cc)))))))
+    (by_verb (codes "parent") (of_object Parent) (object_spelled (codes "parent") Parent (λ x. refl) (λ x. refl)) verb fields c _
+    (by_verb (codes "total") (of_owner Total) (owner_spelled (codes "total") Total (λ owner. refl) (λ owner. refl)) verb fields c _
+    (by_verb (codes "count") (of_owner Count) (owner_spelled (codes "count") Count (λ owner. refl) (λ owner. refl)) verb fields c _
+    (by_verb (codes "report") (of_owner Report) (owner_spelled (codes "report") Report (λ owner. refl) (λ owner. refl)) verb fields c _
+    (λ none. absurd cc)))))))))))
     e
 
 call_spelled : (text : List ℕ) (c : Call) → call_of text ≡ Some c → (text ≡ call_text c) × (is_sound_call c ≡ true)

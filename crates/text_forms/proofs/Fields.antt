@@ -13,7 +13,7 @@ use Rattle.tree_specs.specs.Grammar.{◌>>=◌, number_of, owner_of, object_of, 
 use Rattle.tree_specs.specs.Names.{is_name, is_graphic}
 use Rattle.tree_specs.specs.Objects.{owner_number, numbered_owner}
 use Rattle.tree_specs.specs.Soundness.{is_number, is_sound_owner}
-use Rattle.text_forms.proofs.Numbers.{number_spelled, number_again, decimal_digits}
+use Rattle.text_forms.proofs.Numerals.{number_spelled, number_again, decimal_digits}
 use Rattle.text_forms.proofs.Bools.{and_true, list_all-weaker}
 use Rattle.text_forms.proofs.Words.{is_unspaced}
 

@@ -1,8 +1,9 @@
 pub mod Bools
 pub mod Digits
-pub mod Numbers
+pub mod Numerals
 pub mod Words
 pub mod Fields
-pub mod Shapes
 pub mod Calls
 pub mod Pieces
+pub mod Writing
+pub mod Rows

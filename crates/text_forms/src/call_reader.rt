@@ -1,11 +1,11 @@
 ghost use Rattle.std.specs.Prelude.{◌≡◌, ◌≢◌, map, IfOk, IsTrue, Err};
 ghost use Rattle.tree_specs.specs.declared.call.Call.{Call};
-ghost use Rattle.tree_specs.specs.Grammar.{call_of, call_of_words, new_of, free_of, steal_of, move_of, reparent_of, rename_of, parent_of};
+ghost use Rattle.tree_specs.specs.Grammar.{call_of, call_of_words, new_of, reparent_of, rename_of};
 ghost use Rattle.tree_specs.specs.Soundness.{is_sound_call};
 ghost use Rattle.tree_specs.specs.Text.{call_text};
 ghost use Rattle.text_forms.specs.Reads.{Reads};
 
-use crate::field::{number, object, only_object, owner, owner_and_object};
+use crate::field::{number, object, only_object, only_owner, owner, owner_and_object};
 use crate::form::FormFault;
 use crate::name::read_name;
 use crate::split::words_of;
@@ -25,30 +25,6 @@ fn new_call(alloc: Global, fields: &[&[u8]]) -> Result<Call, FormFault>
         }
         _ => Err(FormFault::NoForm),
     }
-}
-
-#[tactic(auto, using(crate::proofs::Shapes::free_is_only))]
-fn free_call(fields: &[&[u8]]) -> Result<Call, FormFault>
-    ensures { Reads result (free_of (map (λ w. w.now) fields.now)) }
-{
-    let x = only_object(fields)?;
-    Ok(Call::Free { x })
-}
-
-#[tactic(auto, using(crate::proofs::Shapes::steal_is_pair))]
-fn steal_call(fields: &[&[u8]]) -> Result<Call, FormFault>
-    ensures { Reads result (steal_of (map (λ w. w.now) fields.now)) }
-{
-    let (owner, x) = owner_and_object(fields)?;
-    Ok(Call::Steal { owner, x })
-}
-
-#[tactic(auto, using(crate::proofs::Shapes::move_is_pair))]
-fn move_call(fields: &[&[u8]]) -> Result<Call, FormFault>
-    ensures { Reads result (move_of (map (λ w. w.now) fields.now)) }
-{
-    let (owner, x) = owner_and_object(fields)?;
-    Ok(Call::Move { owner, x })
 }
 
 #[tactic(auto, unfolding(tree_specs::specs::Grammar::reparent_of))]
@@ -80,40 +56,38 @@ fn rename_call(alloc: Global, fields: &[&[u8]]) -> Result<Call, FormFault>
     }
 }
 
-#[tactic(auto, using(crate::proofs::Shapes::parent_is_only))]
-fn parent_call(fields: &[&[u8]]) -> Result<Call, FormFault>
-    ensures { Reads result (parent_of (map (λ w. w.now) fields.now)) }
-{
-    let x = only_object(fields)?;
-    Ok(Call::Parent { x })
-}
-
 // A call's verb decides how its fields are read.
-#[tactic(auto, unfolding(tree_specs::specs::Grammar::call_of_words))]
+#[tactic(auto, unfolding(tree_specs::specs::Grammar::call_of_words, tree_specs::specs::Grammar::of_object, tree_specs::specs::Grammar::of_owner, tree_specs::specs::Grammar::placing_of))]
 fn call_from_words(alloc: Global, words: &[&[u8]]) -> Result<Call, FormFault>
     ensures { Reads result (call_of_words (map (λ w. w.now) words.now)) }
 {
-    match words {
-        [] => Err(FormFault::NoForm),
-        [verb, fields @ ..] => {
-            if *verb == b"new".as_slice() {
-                new_call(alloc, fields)
-            } else if *verb == b"free".as_slice() {
-                free_call(fields)
-            } else if *verb == b"steal".as_slice() {
-                steal_call(fields)
-            } else if *verb == b"move".as_slice() {
-                move_call(fields)
-            } else if *verb == b"reparent".as_slice() {
-                reparent_call(fields)
-            } else if *verb == b"rename".as_slice() {
-                rename_call(alloc, fields)
-            } else if *verb == b"parent".as_slice() {
-                parent_call(fields)
-            } else {
-                Err(FormFault::NoForm)
-            }
-        }
+    let Some((verb, fields)) = words.split_first() else {
+        return Err(FormFault::NoForm);
+    };
+    if *verb == b"new".as_slice() {
+        new_call(alloc, fields)
+    } else if *verb == b"free".as_slice() {
+        only_object(fields).map(|x| Call::Free { x })
+    } else if *verb == b"freekids".as_slice() {
+        only_object(fields).map(|x| Call::Freekids { x })
+    } else if *verb == b"steal".as_slice() {
+        owner_and_object(fields).map(|(owner, x)| Call::Steal { owner, x })
+    } else if *verb == b"move".as_slice() {
+        owner_and_object(fields).map(|(owner, x)| Call::Move { owner, x })
+    } else if *verb == b"reparent".as_slice() {
+        reparent_call(fields)
+    } else if *verb == b"rename".as_slice() {
+        rename_call(alloc, fields)
+    } else if *verb == b"parent".as_slice() {
+        only_object(fields).map(|x| Call::Parent { x })
+    } else if *verb == b"total".as_slice() {
+        only_owner(fields).map(|owner| Call::Total { owner })
+    } else if *verb == b"count".as_slice() {
+        only_owner(fields).map(|owner| Call::Count { owner })
+    } else if *verb == b"report".as_slice() {
+        only_owner(fields).map(|owner| Call::Report { owner })
+    } else {
+        Err(FormFault::NoForm)
     }
 }
 

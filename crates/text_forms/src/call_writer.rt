@@ -40,6 +40,14 @@ fn write_only_object(verb: &[u8], x: Obj, out: &mut Vec<u8>) -> Result<(), Memor
     write_pieces(&[verb, buffer.format(x.0).as_bytes()], out)
 }
 
+// A call of this verb with an owner and nothing more.
+fn write_only_owner(verb: &[u8], owner: Owner, out: &mut Vec<u8>) -> Result<(), Memory>
+    ensures { Writes out.old.items out.new.items result (verb.now ++ decimal (objects.owner_number owner)) }
+{
+    let mut buffer = Buffer::new();
+    write_pieces(&[verb, buffer.format(owner.number()).as_bytes()], out)
+}
+
 // A call of this verb with an owner, and then an object.
 fn write_owner_and_object(
     verb: &[u8],
@@ -90,11 +98,15 @@ fn write_text(call: &Call, out: &mut Vec<u8>) -> Result<(), Memory>
     match call {
         Call::New { owner, size, name } => write_new(*owner, *size, name, out),
         Call::Free { x } => write_only_object(b"free ", *x, out),
+        Call::Freekids { x } => write_only_object(b"freekids ", *x, out),
         Call::Steal { owner, x } => write_owner_and_object(b"steal ", *owner, *x, out),
         Call::Move { owner, x } => write_owner_and_object(b"move ", *owner, *x, out),
         Call::Reparent { from, to, x } => write_reparent(*from, *to, *x, out),
         Call::Rename { x, name } => write_rename(*x, name, out),
         Call::Parent { x } => write_only_object(b"parent ", *x, out),
+        Call::Total { owner } => write_only_owner(b"total ", *owner, out),
+        Call::Count { owner } => write_only_owner(b"count ", *owner, out),
+        Call::Report { owner } => write_only_owner(b"report ", *owner, out),
     }
 }
 

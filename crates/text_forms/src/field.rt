@@ -1,9 +1,8 @@
 //! The fields of a call, each by its kind.
 
 ghost use Rattle.std.specs.Prelude.{◌≡◌, map};
-ghost use Rattle.tree_specs.specs.Grammar.{number_of, owner_of, object_of};
+ghost use Rattle.tree_specs.specs.Grammar.{number_of, owner_of, object_of, only_object_of, only_owner_of, owner_and_object_of};
 ghost use Rattle.text_forms.specs.Reads.{Reads};
-ghost use Rattle.text_forms.specs.Shapes.{only_object_of, owner_and_object_of};
 
 use crate::form::FormFault;
 use crate::number::read_number;
@@ -44,6 +43,16 @@ pub(crate) fn only_object(fields: &[&[u8]]) -> Result<Obj, FormFault>
 {
     match fields {
         [x] => object(x),
+        _ => Err(FormFault::NoForm),
+    }
+}
+
+// The fields of a call with an owner and nothing more.
+pub(crate) fn only_owner(fields: &[&[u8]]) -> Result<Owner, FormFault>
+    ensures { Reads result (only_owner_of (map (λ w. w.now) fields.now)) }
+{
+    match fields {
+        [p] => owner(p),
         _ => Err(FormFault::NoForm),
     }
 }

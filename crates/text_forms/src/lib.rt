@@ -1,4 +1,4 @@
-//! Numbers, names and calls as text. Each value has one spelling: what is written is read back as
+//! Numbers, names, calls and rows of reports as text. Each value has one spelling: what is written is read back as
 //! the same value, and no other text is read as it.
 #![tactic(auto)]
 
@@ -8,7 +8,9 @@ mod field;
 mod form;
 mod name;
 mod number;
+mod numbers;
 mod piece;
+mod report_row;
 mod split;
 #[cfg(test)]
 mod tests;
@@ -18,4 +20,6 @@ pub use call_writer::write_call;
 pub use form::FormFault;
 pub use name::read_name;
 pub use number::{read_number, write_number};
+pub use numbers::write_numbers;
 pub use piece::write_pieces;
+pub use report_row::write_report_rows;

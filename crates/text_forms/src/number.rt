@@ -48,7 +48,7 @@ fn number_value(text: &[u8]) -> Option<u64>
 
 /// The number below 2 ^ 64 that the text spells: decimal digits with no leading zero. None exactly
 /// where it spells no such number.
-#[tactic(auto, using(crate::proofs::Numbers::spelled_some, crate::proofs::Numbers::spelled_none))]
+#[tactic(auto, using(crate::proofs::Numerals::spelled_some, crate::proofs::Numerals::spelled_none))]
 pub fn read_number(text: &[u8]) -> Option<u64>
     ensures value { result ≡ number_of text.now }
     // A number has one spelling, and what is none is the spelling of no number.

@@ -1,6 +1,6 @@
 use super::*;
 use std::test::Fail;
-use tree_specs::{Call, Name, Obj, Owner};
+use tree_specs::{Call, Name, Obj, Owner, ReportRow, RowKind};
 
 #[test]
 fn reads_numbers(rt: HostRuntime) {
@@ -131,15 +131,45 @@ fn reads_rename_and_parent(rt: HostRuntime) -> Result<(), Fail> {
 }
 
 #[test]
+fn reads_calls_of_what_is_below(rt: HostRuntime) -> Result<(), Fail> {
+    match read_call(rt.alloc(), b"freekids 9")? {
+        Call::Freekids { x } => assert_eq!(rt; x, Obj(9)),
+        _ => assert!(rt; false, "another call"),
+    }
+    match read_call(rt.alloc(), b"total 0")? {
+        Call::Total { owner } => assert_eq!(rt; owner, Owner::Root),
+        _ => assert!(rt; false, "another call"),
+    }
+    match read_call(rt.alloc(), b"count 7")? {
+        Call::Count { owner } => assert_eq!(rt; owner, Owner::Of(Obj(7))),
+        _ => assert!(rt; false, "another call"),
+    }
+    match read_call(rt.alloc(), b"report 18446744073709551615")? {
+        Call::Report { owner } => {
+            assert_eq!(rt; owner, Owner::Of(Obj(18_446_744_073_709_551_615)));
+        }
+        _ => assert!(rt; false, "another call"),
+    }
+    Ok(())
+}
+
+#[test]
 fn writes_what_was_read(rt: HostRuntime) -> Result<(), Fail> {
     for text in [
         b"new 7 10 a-b".as_slice(),
         b"free 9".as_slice(),
+        b"freekids 9".as_slice(),
         b"steal 7 9".as_slice(),
         b"move 0 9".as_slice(),
         b"reparent 7 0 9".as_slice(),
         b"rename 9 a-b".as_slice(),
         b"parent 9".as_slice(),
+        b"total 0".as_slice(),
+        b"total 7".as_slice(),
+        b"count 0".as_slice(),
+        b"count 7".as_slice(),
+        b"report 0".as_slice(),
+        b"report 7".as_slice(),
     ] {
         let mut out = Vec::new(rt.alloc());
         let call = read_call(rt.alloc(), text)?;
@@ -167,6 +197,15 @@ fn reads_no_call(rt: HostRuntime) {
         b"reparent 7 9".as_slice(),
         b"rename 9".as_slice(),
         b"parent".as_slice(),
+        b"freekids".as_slice(),
+        b"freekids 9 9".as_slice(),
+        b"freekid 9".as_slice(),
+        b"total".as_slice(),
+        b"total 0 0".as_slice(),
+        b"count 07".as_slice(),
+        b"count 7 ".as_slice(),
+        b"report".as_slice(),
+        b"report 7 0".as_slice(),
     ];
     for text in texts {
         assert!(rt;
@@ -174,4 +213,95 @@ fn reads_no_call(rt: HostRuntime) {
             "at {text:?}"
         );
     }
+}
+
+#[test]
+fn writes_numbers_between_a_front_and_an_end(rt: HostRuntime) -> Result<(), Fail> {
+    let mut out = Vec::new(rt.alloc());
+    write_numbers(b"a", &[0, 70, 18_446_744_073_709_551_615], b"z", &mut out)?;
+    assert_eq!(rt; out.as_slice(), b"a 0 70 18446744073709551615z".as_slice());
+    write_numbers(b"b", &[], b"\n", &mut out)?;
+    assert_eq!(rt;
+        out.as_slice(),
+        b"a 0 70 18446744073709551615zb\n".as_slice()
+    );
+    Ok(())
+}
+
+fn row(kind: RowKind, name: Name) -> ReportRow {
+    ReportRow {
+        depth: 1,
+        id: 3,
+        kind,
+        size: 16,
+        refs: 5,
+        target: 7,
+        name,
+    }
+}
+
+#[test]
+fn writes_each_kind_of_row(rt: HostRuntime) -> Result<(), Fail> {
+    let cases = [
+        (RowKind::Root, b"row 1 3 root 16 5 7 a-b\n".as_slice()),
+        (RowKind::Plain, b"row 1 3 plain 16 5 7 a-b\n".as_slice()),
+        (
+            RowKind::Reference,
+            b"row 1 3 reference 16 5 7 a-b\n".as_slice(),
+        ),
+        (RowKind::Timer, b"row 1 3 timer 16 5 7 a-b\n".as_slice()),
+        (
+            RowKind::Immediate,
+            b"row 1 3 immediate 16 5 7 a-b\n".as_slice(),
+        ),
+        (RowKind::Fd, b"row 1 3 fd 16 5 7 a-b\n".as_slice()),
+        (RowKind::Request, b"row 1 3 request 16 5 7 a-b\n".as_slice()),
+        (RowKind::Queue, b"row 1 3 queue 16 5 7 a-b\n".as_slice()),
+        (RowKind::Entry, b"row 1 3 entry 16 5 7 a-b\n".as_slice()),
+    ];
+    for (kind, want) in cases {
+        let mut out = Vec::new(rt.alloc());
+        let rows = [row(kind, read_name(rt.alloc(), b"a-b")?)];
+        write_report_rows(&rows, &mut out)?;
+        assert_eq!(rt; out.as_slice(), want, "at {kind:?}");
+    }
+    Ok(())
+}
+
+#[test]
+fn writes_the_rows_of_a_report(rt: HostRuntime) -> Result<(), Fail> {
+    let null_context = ReportRow {
+        depth: 0,
+        id: 0,
+        kind: RowKind::Root,
+        size: 0,
+        refs: 0,
+        target: 0,
+        name: read_name(rt.alloc(), b"null_context")?,
+    };
+    let reference = ReportRow {
+        depth: 2,
+        id: 4,
+        kind: RowKind::Reference,
+        size: 0,
+        refs: 0,
+        target: 2,
+        name: read_name(rt.alloc(), b"reference")?,
+    };
+    let largest = ReportRow {
+        depth: 4_294_967_295,
+        id: 18_446_744_073_709_551_615,
+        kind: RowKind::Plain,
+        size: 268_435_455,
+        refs: 4_294_967_295,
+        target: 18_446_744_073_709_551_614,
+        name: read_name(rt.alloc(), b"~")?,
+    };
+    let rows = [null_context, reference, largest];
+    let mut out = Vec::new(rt.alloc());
+    write_report_rows(&rows, &mut out)?;
+    let want =
+        b"row 0 0 root 0 0 0 null_context\nrow 2 4 reference 0 0 2 reference\nrow 4294967295 18446744073709551615 plain 268435455 4294967295 18446744073709551614 ~\n";
+    assert_eq!(rt; out.as_slice(), want.as_slice());
+    Ok(())
 }

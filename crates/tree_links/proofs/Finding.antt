@@ -10,7 +10,6 @@ use Rattle.tree_specs.specs.declared.kind.Kind.TheVariants.{Plain}
 use Rattle.tree_specs.specs.declared.row.Mark.TheVariants.{Quiet}
 use Rattle.tree_specs.specs.declared.row.Row.{Row}
 use Rattle.tree_specs.specs.declared.object.Obj.{Obj}
-use Rattle.tree_specs.specs.declared.object.Owner.{Owner}
 use Rattle.tree_specs.specs.Objects.{same}
 use Rattle.tree_specs.specs.Pool.{Pool, row_of, behind, without, changed}
 use Rattle.tree_links.specs.Found.{StandsAt, StandsNowhere}

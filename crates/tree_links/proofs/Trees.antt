@@ -1,5 +1,5 @@
 -- What keeps that the rows are a tree.
-use Rattle.std.proofs.Common.{◌≡◌, ◌≢◌, ℕ, ◌+◌, ◌<◌, ◌≤◌, List, [], ◌∷◌, length, Option, Some, None, true, false, refl, sym, ◌∙◌, ap, subst, arith}
+use Rattle.std.proofs.Common.{◌≡◌, ℕ, ◌+◌, ◌<◌, ◌≤◌, List, [], ◌∷◌, length, Option, Some, None, true, false, refl, sym, ◌∙◌, ap, subst, arith}
 use Rattle.std.specs.Prelude.{slice_index_or, slice_set, remove, IsSome, OnSome, ◌↔◌}
 use Rattle.std.proofs.lemmas.Option.{slice_get-get_or}
 use Rattle.tree_specs.specs.declared.kind.Kind.{Kind}
@@ -9,8 +9,7 @@ use Rattle.tree_specs.specs.declared.object.Owner.TheVariants.{Root, Of}
 use Rattle.tree_specs.specs.declared.row.Row.{Row}
 use Rattle.tree_specs.specs.Objects.{same}
 use Rattle.tree_specs.specs.Calls.{row_limit, size_limit}
-use Rattle.tree_specs.specs.Pool.{Pool, row_of, is_row, is_owner, is_inside, first_kid, without, changed, new_row, left_row, place}
-use Rattle.tree_specs.specs.Sound.{Distinct}
+use Rattle.tree_specs.specs.Pool.{Pool, row_of, is_owner, is_inside, first_kid, without, changed, new_row, left_row, place}
 use Rattle.tree_specs.specs.Ancestry.{Rooted}
 use Rattle.tree_specs.proofs.Numbered.{by_test, same-true}
 use Rattle.tree_specs.proofs.Rows.{Distinct-without, Distinct-changed, row_of-serial, row_of-without-same}

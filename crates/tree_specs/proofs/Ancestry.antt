@@ -1,19 +1,14 @@
 -- From owner to owner: no bound on steps bites, and what is inside what.
-use Rattle.std.proofs.Common.{◌≡◌, ◌≢◌, ℕ, zero, suc, ◌+◌, ◌-◌, ◌<◌, ◌≤◌, List, [], ◌∷◌, length, Option, Some, None, Bool, true, false, ◌||◌, if◌then◌else◌, is_some, refl, sym, ◌∙◌, ap, ◌⊎◌, inl, inr, arith}
+use Rattle.std.proofs.Common.{◌≡◌, ℕ, zero, suc, ◌≤◌, List, length, Option, Some, None, true, false, ◌||◌, refl, sym, ◌∙◌, ap, arith}
 use Rattle.std.proofs.Math.Bool.{or-true}
 use Rattle.tree_specs.specs.declared.object.Obj.{Obj}
 use Rattle.tree_specs.specs.declared.object.Owner.{Owner}
 use Rattle.tree_specs.specs.declared.object.Owner.TheVariants.{Root, Of}
 use Rattle.tree_specs.specs.declared.row.Row.{Row}
-use Rattle.tree_specs.specs.declared.kind.Kind.{Kind}
-use Rattle.tree_specs.specs.Objects.{same, same_owner}
-use Rattle.tree_specs.specs.Pool.{Pool, row_of, is_row, is_owner, is_below, first_kid, owner_in, owner_of, next_owner, reaches, is_inside, without, changed, new_row, left_row, place}
-use Rattle.tree_specs.specs.Inside.{total}
-use Rattle.tree_specs.specs.Sound.{Distinct}
-use Rattle.tree_specs.specs.Ancestry.{ends, Rooted, IsThere, OwnersAre, AllOwned}
-use Rattle.tree_specs.proofs.Numbered.{by_test, same-true, same-equal, same-false, same_or_not, same_owner-true, same_owner-equal}
-use Rattle.tree_specs.proofs.Rows.{row_of-serial, row_of-changed-other, row_of-changed-same, row_of-changed-none, row_of-without-other, row_of-without-same}
-
+use Rattle.tree_specs.specs.Objects.{same_owner}
+use Rattle.tree_specs.specs.Pool.{row_of, owner_in, owner_of, next_owner, reaches, is_inside}
+use Rattle.tree_specs.specs.Ancestry.{ends, Rooted}
+use Rattle.tree_specs.proofs.Numbered.{by_test, same_owner-true, same_owner-equal}
 -- ---- a test that may hold of more objects with each step settles within as many steps as there are rows
 use Rattle.tree_specs.proofs.Settling.{Settling, settles}
 

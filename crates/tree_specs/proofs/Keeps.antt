@@ -31,7 +31,7 @@ use Rattle.tree_specs.specs.Items.{Item}
 use Rattle.tree_specs.specs.Calls.{Check, refusals}
 use Rattle.tree_specs.specs.Story.{owner_reply}
 use Rattle.tree_specs.specs.Table.{table, step, lifted, begin_step, last_step, loop_step, call_step, effect_step}
-use Rattle.tree_specs.specs.Sound.{Owned, Shaped, ValidAt, Distinct, Phase, InRun, InLoop, phase_of, phases, claim_if, loop_claim, claim, claims, AllWait, IsLive, Stands, Rests, Sound}
+use Rattle.tree_specs.specs.Sound.{Owned, Shaped, ValidAt, Distinct, Phase, InRun, InLoop, phase_of, phases, claim_if, loop_claim, claim, claims, AllWait, IsLive, Rests, Sound}
 use Rattle.tree_specs.proofs.Numbered.{by_test, same-true, same-equal, same-false, same_or_not}
 use Rattle.tree_specs.proofs.Rows.{row_of-serial, row_of-changed-other, row_of-changed-same, row_of-without-other, row_of-without-same, Distinct-without, Distinct-changed, first_kid-owner}
 use Rattle.tree_specs.proofs.Checks.{passes, MayBePlaced, passes-placing, passes-reparent, passes-object, taken-doing}

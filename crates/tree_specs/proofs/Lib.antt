@@ -10,5 +10,6 @@ pub mod Keeps
 pub mod Falls
 pub mod Means
 pub mod Load
+pub mod Plainness
 pub mod Rest
 pub mod StoryLaws

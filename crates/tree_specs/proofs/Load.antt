@@ -1,5 +1,5 @@
 -- The stated number of turns is above the measure at every moment, and a host's own work stays below all others.
-use Rattle.std.proofs.Common.{◌⊎◌, inl, inr, ◌≡◌, ℕ, suc, zero, ◌+◌, ◌*◌, ◌≤◌, ◌<◌, List, [], ◌∷◌, length, Option, Some, None, refl, ◌∙◌, ap, subst, arith}
+use Rattle.std.proofs.Common.{inl, inr, ◌≡◌, ℕ, suc, zero, ◌+◌, ◌*◌, ◌≤◌, ◌<◌, List, [], ◌∷◌, length, Option, Some, None, refl, ◌∙◌, ap, subst, arith}
 use Rattle.step_machine.specs.Machine.{Move}
 use Rattle.step_machine.specs.Machine.{Move as Do}
 use Rattle.step_machine.proofs.Ends.{Leads}
@@ -25,7 +25,7 @@ use Rattle.tree_specs.specs.Pool.{Pool, row_of, owner_of, first_kid, changed, le
 use Rattle.tree_specs.specs.Items.{Item}
 use Rattle.tree_specs.specs.Calls.{Check, refusals}
 use Rattle.tree_specs.specs.Table.{table, step, lifted, begin_step, last_step, loop_step, call_step, effect_step, replied, resume}
-use Rattle.tree_specs.specs.Sound.{phases, InLoop, claims, IsWaiting, AllWait, IsLive, Sound}
+use Rattle.tree_specs.specs.Sound.{phases, InLoop, claims, IsWaiting, AllWait, Sound}
 use Rattle.tree_specs.proofs.Checks.{taken-doing, MayBePlaced, passes-placing, passes-reparent, passes-object}
 use Rattle.std.proofs.Math.Nat.{mul-le-mul_left}
 use Rattle.tree_specs.specs.Story.{owner_reply, turns}

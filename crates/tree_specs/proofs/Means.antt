@@ -27,7 +27,7 @@ use Rattle.tree_specs.specs.Items.Item.{Told}
 use Rattle.tree_specs.specs.Soundness.{is_sound_call}
 use Rattle.tree_specs.specs.Calls.{Check, refusals}
 use Rattle.tree_specs.specs.Works.{Work, Scene, Begun, ◌>>◌, gives, change, tells}
-use Rattle.tree_specs.specs.Story.{free, leave, children, tried, hand_on, asked, acting, telling}
+use Rattle.tree_specs.specs.Story.{free, leave, children, tried, asked, acting, telling}
 use Rattle.tree_specs.specs.Table.{table, notes, step, lifted, begin_step, loop_step, tried_step, call_step}
 use Rattle.tree_specs.proofs.Numbered.{by_test}
 

@@ -38,6 +38,7 @@ use Rattle.tree_specs.specs.View.{View, rest_of}
 use Rattle.tree_specs.specs.Whole.{IsCaller, Based, Whole}
 use Rattle.tree_specs.proofs.Keeps.{sound-kept}
 use Rattle.tree_specs.proofs.Falls.{Well, falls}
+use Rattle.tree_specs.proofs.Plainness.{StaysPlain, plain-kept}
 use Rattle.tree_specs.proofs.Load.{Placed, placed-kept, cost-turns, pending-most}
 
 abbrev pub outcome : View → List Input → Outcome Answer Pool Input Item
@@ -70,17 +71,19 @@ not-short v is h =
 -- ---- what a step keeps
 
 Leads-whole : (m : Move Frame Answer Pool Item) (fs : List Frame) (k : ℕ)
-    → Leads table (λ g gs q j. Sound g gs q) m fs k → Placed m fs k → Leads table (λ g gs q j. Whole (record { innermost = g; below = gs; pool = q })) m fs k
-Leads-whole (Do.Done a p) [] k s l = tt
-Leads-whole (Do.Done a p) (g ∷ gs) k s l = record { sound = s; based = l.0; light = l.1 }
-Leads-whole (Do.Go f p) fs k s l = record { sound = s; based = l.0; light = l.1 }
-Leads-whole (Do.Emit e f p) fs k s l = record { sound = s; based = l.0; light = l.1 }
-Leads-whole (Do.Wait q f p) fs zero s l = tt
-Leads-whole (Do.Wait q f p) fs (suc k) s l = λ i g e. record { sound = s i g e; based = (l i g e).0; light = (l i g e).1 }
-Leads-whole (Do.Call g f p) fs k s l = record { sound = s; based = l.0; light = l.1 }
+    → Leads table (λ g gs q j. Sound g gs q) m fs k → Placed m fs k → StaysPlain m fs k → Leads table (λ g gs q j. Whole (record { innermost = g; below = gs; pool = q })) m fs k
+Leads-whole (Do.Done a p) [] k s l h = tt
+Leads-whole (Do.Done a p) (g ∷ gs) k s l h = record { sound = s; based = l.0; light = l.1; plain = h }
+Leads-whole (Do.Go f p) fs k s l h = record { sound = s; based = l.0; light = l.1; plain = h }
+Leads-whole (Do.Emit e f p) fs k s l h = record { sound = s; based = l.0; light = l.1; plain = h }
+Leads-whole (Do.Wait q f p) fs zero s l h = tt
+Leads-whole (Do.Wait q f p) fs (suc k) s l h = λ i g e. record { sound = s i g e; based = (l i g e).0; light = (l i g e).1; plain = h i g e }
+Leads-whole (Do.Call g f p) fs k s l h = record { sound = s; based = l.0; light = l.1; plain = h }
 
 pub whole-kept : (v : View) (k : ℕ) → Whole v → Leads table (λ g gs q j. Whole (record { innermost = g; below = gs; pool = q })) (step v.innermost v.pool) v.below k
-whole-kept v k h = Leads-whole (step v.innermost v.pool) v.below k (sound-kept v.innermost v.below v.pool k h.sound) (placed-kept v.innermost v.below v.pool k h.sound h.based h.light)
+whole-kept v k h =
+    Leads-whole (step v.innermost v.pool) v.below k (sound-kept v.innermost v.below v.pool k h.sound) (placed-kept v.innermost v.below v.pool k h.sound h.based h.light)
+    (plain-kept v.innermost v.below v.pool k h.plain)
 
 stays : (v : View) (k : ℕ) → Whole v
     → Leads table (λ g gs q j. Well (most v k) g gs q j × (cost (most v k) g gs q j < cost (most v k) v.innermost v.below v.pool k)) (step v.innermost v.pool) v.below k

@@ -1,5 +1,5 @@
 -- What keeps that all owners are there, and that from owner to owner one comes to an end.
-use Rattle.std.proofs.Common.{◌≡◌, ◌≢◌, ℕ, zero, suc, ◌+◌, ◌-◌, ◌<◌, ◌≤◌, List, [], ◌∷◌, length, Option, Some, None, Bool, true, false, ◌||◌, if◌then◌else◌, is_some, refl, sym, ◌∙◌, ap, ◌⊎◌, inl, inr, arith}
+use Rattle.std.proofs.Common.{◌≡◌, ◌≢◌, ℕ, zero, suc, ◌+◌, List, [], ◌∷◌, length, Option, Some, None, true, false, is_some, refl, sym, ◌∙◌, ap, inl, inr, arith}
 use Rattle.std.proofs.Math.Bool.{or-true}
 use Rattle.tree_specs.specs.declared.object.Obj.{Obj}
 use Rattle.tree_specs.specs.declared.object.Owner.{Owner}
@@ -8,14 +8,12 @@ use Rattle.tree_specs.specs.declared.row.Row.{Row}
 use Rattle.tree_specs.specs.declared.kind.Kind.{Kind}
 use Rattle.tree_specs.specs.Objects.{same, same_owner}
 use Rattle.tree_specs.specs.Pool.{Pool, row_of, is_row, is_owner, is_below, first_kid, owner_in, owner_of, next_owner, reaches, is_inside, without, changed, new_row, left_row, place}
-use Rattle.tree_specs.specs.Inside.{total}
 use Rattle.tree_specs.specs.Sound.{Distinct}
 use Rattle.tree_specs.specs.Ancestry.{ends, Rooted, IsThere, OwnersAre, AllOwned}
-use Rattle.tree_specs.proofs.Numbered.{by_test, same-true, same-equal, same-false, same_or_not, same_owner-true, same_owner-equal}
+use Rattle.tree_specs.proofs.Numbered.{by_test, same-equal, same-false, same_or_not, same_owner-true}
 use Rattle.tree_specs.proofs.Rows.{row_of-serial, row_of-changed-other, row_of-changed-same, row_of-changed-none, row_of-without-other, row_of-without-same}
-
 -- ---- a test that may hold of more objects with each step settles within as many steps as there are rows
-use Rattle.tree_specs.proofs.Ancestry.{ends-more, ends-bound, reaches-inside, inside-self}
+use Rattle.tree_specs.proofs.Ancestry.{ends-more, ends-bound, reaches-inside}
 
 -- ---- what keeps that all owners are there
 
@@ -31,9 +29,9 @@ reaches-is_owner rs zero (Some o) y a h r = let e : o ≡ y = same_owner-true o 
 reaches-is_owner rs (suc n) (Some o) y a h r = by_test (same_owner o y)
     (λ t. let e : o ≡ y = same_owner-true o y t in rw e at h)
     (λ t. let r' : reaches n rs (next_owner rs o) y ≡ true = rw t at r in reaches-is_owner rs n (next_owner rs o) y a (there o) r') where
-  there : (o : Owner) → IsThere rs (next_owner rs o)
-  there Root = tt
-  there (Of x) = is_there-owner rs rs x a
+      there : (o : Owner) → IsThere rs (next_owner rs o)
+      there Root = tt
+      there (Of x) = is_there-owner rs rs x a
 
 is_there-more : (rs qs : List Row) (o : Option Owner) → ((y : Obj) → is_row rs y ≡ true → is_row qs y ≡ true) → IsThere rs o → IsThere qs o
 is_there-more rs qs None k h = tt
@@ -63,12 +61,12 @@ is_row-changed : (f : Row → Row) (rs : List Row) (x y : Obj) → ((r : Row) �
 is_row-changed f [] x y k h = cc
 is_row-changed f (s ∷ rs) x y k h = by_test (same s.serial y)
     (λ u. let u2 : same (f s).serial y ≡ true = ap (λ q. same q y) (k s) ∙ u in by_test (same s.serial x)
-        (λ t. rw (t, u2) refl)
-        (λ t. rw (t, u) refl))
+    (λ t. rw (t, u2) refl)
+    (λ t. rw (t, u) refl))
     (λ u. let u2 : same (f s).serial y ≡ false = ap (λ q. same q y) (k s) ∙ u in
     let h' : is_row rs y ≡ true = rw u at h in by_test (same s.serial x)
-        (λ t. rw (t, u2) h')
-        (λ t. let ih : is_row (changed f rs x) y ≡ true = is_row-changed f rs x y k h' in rw (t, u) ih))
+    (λ t. rw (t, u2) h')
+    (λ t. let ih : is_row (changed f rs x) y ≡ true = is_row-changed f rs x y k h' in rw (t, u) ih))
 
 -- a new object whose owner is there
 pub AllOwned-new : (rs : List Row) (s : Obj) (kind : Kind) (o : Owner) (size : ℕ) (name : List ℕ) → AllOwned rs → is_owner rs o ≡ true
@@ -82,8 +80,9 @@ pub AllOwned-placed : (p : Pool) (o : Owner) (x : Obj) (r : Row) → AllOwned p.
 AllOwned-placed p o x r a e h = let s : Row = record r { owner = Some o } in
     let rs : List Row = s ∷ without p.rows x in
     let more : (y : Obj) → is_row p.rows y ≡ true → is_row rs y ≡ true = λ y k. elim (same_or_not x y) [
-        inl q ↦ let t : same r.serial y ≡ true = same-equal _ _ (row_of-serial p.rows x r e ∙ q) in rw t refl
-      | inr q ↦ is_row-front s (without p.rows x) y (ap is_some (row_of-without-other p.rows x y q) ∙ k) ] in
+      | inl q ↦ let t : same r.serial y ≡ true = same-equal _ _ (row_of-serial p.rows x r e ∙ q) in rw t refl
+      | inr q ↦ is_row-front s (without p.rows x) y (ap is_some (row_of-without-other p.rows x y q) ∙ k)
+    ] in
     rw e (is_there-more p.rows rs (Some o) more h, owners-more p.rows rs (without p.rows x) more (owners-without p.rows p.rows x a))
 
 -- a row is changed, and keeps its owner
@@ -102,11 +101,11 @@ owners-no_kid rs [] x e h = tt
 owners-no_kid rs (r ∷ qs) x e h = by_test (is_below r.owner (Of x))
     (λ t. let bad : Some r.serial ≡ None = rw t at e in cc)
     (λ t. let e' : first_kid qs (Of x) ≡ None = rw t at e in (there r.owner t h.0, owners-no_kid rs qs x e' h.1)) where
-  there : (o : Option Owner) → is_below o (Of x) ≡ false → IsThere rs o → IsThere (without rs x) o
-  there None t k = tt
-  there (Some Root) t k = refl
-  there (Some (Of y)) t k = let ne : x ≢ y = λ q. let u : same y x ≡ true = same-equal y x (sym q) in let bad : true ≡ false = sym u ∙ t in cc in
-      ap is_some (row_of-without-other rs x y ne) ∙ k
+      there : (o : Option Owner) → is_below o (Of x) ≡ false → IsThere rs o → IsThere (without rs x) o
+      there None t k = tt
+      there (Some Root) t k = refl
+      there (Some (Of y)) t k = let ne : x ≢ y = λ q. let u : same y x ≡ true = same-equal y x (sym q) in let bad : true ≡ false = sym u ∙ t in cc in
+          ap is_some (row_of-without-other rs x y ne) ∙ k
 
 -- a row without a child is taken out
 pub AllOwned-without : (rs : List Row) (x : Obj) → AllOwned rs → first_kid rs (Of x) ≡ None → AllOwned (without rs x)
@@ -135,10 +134,11 @@ ends-through rs rs' x but j last k None h = refl
 ends-through rs rs' x but j last zero (Some o) h = cc
 ends-through rs rs' x but j last (suc k) (Some Root) h = ends-more rs' (suc zero) (suc k + j) (Some Root) refl (omega arith)
 ends-through rs rs' x but j last (suc k) (Some (Of y)) h = elim (same_or_not x y) [
-    inl e ↦ let last' : ends j rs' (Some (Of y)) ≡ true = rw e at last in ends-more rs' j (suc k + j) (Some (Of y)) last' (omega arith)
+  | inl e ↦ let last' : ends j rs' (Some (Of y)) ≡ true = rw e at last in ends-more rs' j (suc k + j) (Some (Of y)) last' (omega arith)
   | inr ne ↦ let e : suc k + j ≡ suc (k + j) = omega arith in
       let ih : ends (k + j) rs' (owner_of rs y) ≡ true = ends-through rs rs' x but j last k (owner_of rs y) h in
-      let w : owner_of rs' y ≡ owner_of rs y = but y ne in rw e (ap (ends (k + j) rs') w ∙ ih) ]
+      let w : owner_of rs' y ≡ owner_of rs y = but y ne in rw e (ap (ends (k + j) rs') w ∙ ih)
+]
 
 Rooted-but : (rs rs' : List Row) (x : Obj) → SameBut rs rs' x → Rooted rs → (j : ℕ) → ends j rs' (Some (Of x)) ≡ true → Rooted rs'
 Rooted-but rs rs' x but rooted j last o =
@@ -152,8 +152,8 @@ Rooted-below : (rs rs' : List Row) (x : Obj) (o : Owner) → SameBut rs rs' x �
     → Rooted rs'
 Rooted-below rs rs' x o but rooted e out =
     let apart : (n : ℕ) (y : Obj) → reaches n rs (Some o) (Of y) ≡ true → x ≢ y = λ n y r q.
-        let r' : reaches n rs (Some o) (Of x) ≡ true = rw q r in
-        let bad : true ≡ false = sym (reaches-inside rs n o (Of x) r') ∙ out in cc in
+    let r' : reaches n rs (Some o) (Of x) ≡ true = rw q r in
+    let bad : true ≡ false = sym (reaches-inside rs n o (Of x) r') ∙ out in cc in
     let last : ends (suc (length rs)) rs' (Some o) ≡ true = ends-same rs rs' (suc (length rs)) (Some o) (λ n y r. but y (apart n y r)) (rooted o) in
     Rooted-but rs rs' x but rooted (suc (suc (length rs))) (ap (ends (suc (length rs)) rs') e ∙ last)
 
@@ -163,9 +163,9 @@ pub Rooted-new : (rs : List Row) (s : Obj) (kind : Kind) (o : Owner) (size : ℕ
 Rooted-new rs s kind o size name rooted a e h = let r : Row = new_row s kind o size name in
     let there : same s s ≡ true = same-equal s s refl in
     let out : is_inside rs o (Of s) ≡ false = by_test (is_inside rs o (Of s))
-        (λ t. let row : is_row rs s ≡ true = reaches-is_owner rs (length rs) (Some o) (Of s) a h t in
-            let bad : false ≡ true = ap is_some (sym e) ∙ row in cc)
-        (λ t. t) in
+    (λ t. let row : is_row rs s ≡ true = reaches-is_owner rs (length rs) (Some o) (Of s) a h t in
+    let bad : false ≡ true = ap is_some (sym e) ∙ row in cc)
+    (λ t. t) in
     Rooted-below rs (r ∷ rs) s o (λ y ne. let u : same s y ≡ false = same-false s y ne in rw u refl) rooted (rw there refl) out
 
 -- an object is put below an owner that is not inside it
@@ -175,8 +175,8 @@ Rooted-placed p o x r rooted e out = let s : Row = record r { owner = Some o } i
     let is : r.serial ≡ x = row_of-serial p.rows x r e in
     let there : same r.serial x ≡ true = same-equal _ _ is in
     let but : SameBut p.rows (s ∷ without p.rows x) x = λ y ne.
-        let u : same r.serial y ≡ false = same-false _ _ (λ q. ne (sym is ∙ q)) in
-        let w : row_of (without p.rows x) y ≡ row_of p.rows y = row_of-without-other p.rows x y ne in rw (u, w) refl in
+    let u : same r.serial y ≡ false = same-false _ _ (λ q. ne (sym is ∙ q)) in
+    let w : row_of (without p.rows x) y ≡ row_of p.rows y = row_of-without-other p.rows x y ne in rw (u, w) refl in
     rw e (Rooted-below p.rows (s ∷ without p.rows x) x o but rooted (rw there refl) out)
 
 owner_of-changed : (f : Row → Row) (rs : List Row) (x y : Obj) → ((r : Row) → (f r).serial ≡ r.serial) → ((r : Row) → (f r).owner ≡ r.owner)
@@ -184,11 +184,11 @@ owner_of-changed : (f : Row → Row) (rs : List Row) (x y : Obj) → ((r : Row) 
 owner_of-changed f [] x y k same_owners = refl
 owner_of-changed f (s ∷ rs) x y k same_owners = by_test (same s.serial x)
     (λ t. let u : same (f s).serial y ≡ same s.serial y = ap (λ q. same q y) (k s) in by_test (same s.serial y)
-        (λ v. let u2 : same (f s).serial y ≡ true = u ∙ v in rw (t, u2, v) (same_owners s))
-        (λ v. let u2 : same (f s).serial y ≡ false = u ∙ v in rw (t, u2, v) refl))
+    (λ v. let u2 : same (f s).serial y ≡ true = u ∙ v in rw (t, u2, v) (same_owners s))
+    (λ v. let u2 : same (f s).serial y ≡ false = u ∙ v in rw (t, u2, v) refl))
     (λ t. let ih = owner_of-changed f rs x y k same_owners in by_test (same s.serial y)
-        (λ v. rw (t, v) refl)
-        (λ v. rw (t, v) ih))
+    (λ v. rw (t, v) refl)
+    (λ v. rw (t, v) ih))
 
 -- a row is changed, and keeps its owner
 pub Rooted-changed : (f : Row → Row) (rs : List Row) (x : Obj) → ((r : Row) → (f r).serial ≡ r.serial) → ((r : Row) → (f r).owner ≡ r.owner)

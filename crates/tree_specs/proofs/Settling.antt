@@ -1,20 +1,11 @@
 -- A test that may hold of more objects with each step settles within as many steps as there are rows.
-use Rattle.std.proofs.Common.{◌≡◌, ◌≢◌, ℕ, zero, suc, ◌+◌, ◌-◌, ◌<◌, ◌≤◌, List, [], ◌∷◌, length, Option, Some, None, Bool, true, false, ◌||◌, if◌then◌else◌, is_some, refl, sym, ◌∙◌, ap, ◌⊎◌, inl, inr, arith}
-use Rattle.std.proofs.Math.Bool.{or-true}
+use Rattle.std.proofs.Common.{◌≡◌, ℕ, zero, suc, ◌+◌, ◌-◌, ◌<◌, ◌≤◌, List, [], ◌∷◌, length, Option, Some, None, Bool, true, if◌then◌else◌, refl, sym, ◌∙◌, ap, ◌⊎◌, inl, inr, arith}
 use Rattle.tree_specs.specs.declared.object.Obj.{Obj}
-use Rattle.tree_specs.specs.declared.object.Owner.{Owner}
-use Rattle.tree_specs.specs.declared.object.Owner.TheVariants.{Root, Of}
 use Rattle.tree_specs.specs.declared.row.Row.{Row}
-use Rattle.tree_specs.specs.declared.kind.Kind.{Kind}
-use Rattle.tree_specs.specs.Objects.{same, same_owner}
-use Rattle.tree_specs.specs.Pool.{Pool, row_of, is_row, is_owner, is_below, first_kid, owner_in, owner_of, next_owner, reaches, is_inside, without, changed, new_row, left_row, place}
+use Rattle.tree_specs.specs.Objects.{same}
+use Rattle.tree_specs.specs.Pool.{row_of}
 use Rattle.tree_specs.specs.Inside.{total}
-use Rattle.tree_specs.specs.Sound.{Distinct}
-use Rattle.tree_specs.specs.Ancestry.{ends, Rooted, IsThere, OwnersAre, AllOwned}
-use Rattle.tree_specs.proofs.Numbered.{by_test, same-true, same-equal, same-false, same_or_not, same_owner-true, same_owner-equal}
-use Rattle.tree_specs.proofs.Rows.{row_of-serial, row_of-changed-other, row_of-changed-same, row_of-changed-none, row_of-without-other, row_of-without-same}
-
-
+use Rattle.tree_specs.proofs.Numbered.{by_test, same-true}
 
 abbrev number : (Obj → Bool) → List Row → ℕ
 number f qs = total (λ r. if f r.serial then 1 else 0) qs
@@ -42,13 +33,15 @@ agree_or_more : (f h : Obj → Bool) (qs : List Row) → ((x : Obj) → f x ≡ 
 agree_or_more f h [] k = inl (λ x r e. cc)
 agree_or_more f h (r ∷ qs) k = let up = number-grows f h qs k in by_test (f r.serial)
     (λ t. let u : h r.serial ≡ true = k r.serial t in elim (agree_or_more f h qs k) [
-        inl a ↦ inl (agree-more f h r qs (u ∙ sym t) a)
-      | inr m ↦ inr (rw (t, u) (omega (arith, m))) ])
+      | inl a ↦ inl (agree-more f h r qs (u ∙ sym t) a)
+      | inr m ↦ inr (rw (t, u) (omega (arith, m)))
+    ])
     (λ t. by_test (h r.serial)
     (λ u. inr (rw (t, u) (omega (arith, up))))
     (λ u. elim (agree_or_more f h qs k) [
-        inl a ↦ inl (agree-more f h r qs (u ∙ sym t) a)
-      | inr m ↦ inr (rw (t, u) (omega (arith, m))) ]))
+      | inl a ↦ inl (agree-more f h r qs (u ∙ sym t) a)
+      | inr m ↦ inr (rw (t, u) (omega (arith, m)))
+    ]))
 
 -- a test for each number of steps: what it holds of it holds of with more steps; where one step more changes nothing, no further
 -- step does; of what is no row it holds at once or never
@@ -67,10 +60,12 @@ settles_or_more : (rs : List Row) (f : ℕ → Obj → Bool) → Settling rs f �
     → ((i : ℕ) × (i < j) × ((x : Obj) → f (suc i) x ≡ f i x)) ⊎ (j ≤ number (f j) rs)
 settles_or_more rs f s zero = inr (omega arith)
 settles_or_more rs f s (suc j) = elim (settles_or_more rs f s j) [
-    inl w ↦ let below : w.0 < j = w.1 in inl (w.0, omega (arith, below), w.2)
+  | inl w ↦ let below : w.0 < j = w.1 in inl (w.0, omega (arith, below), w.2)
   | inr m ↦ elim (agree_or_more (f j) (f (suc j)) rs (s.grows j)) [
-        inl a ↦ inl (j, omega arith, agree-all rs f s j a)
-      | inr u ↦ inr (omega (arith, m, u)) ] ]
+    | inl a ↦ inl (j, omega arith, agree-all rs f s j a)
+    | inr u ↦ inr (omega (arith, m, u))
+  ]
+]
 
 grows-on : (rs : List Row) (f : ℕ → Obj → Bool) → Settling rs f → (d n : ℕ) (x : Obj) → f n x ≡ true → f (d + n) x ≡ true
 grows-on rs f s zero n x h = let e : 0 + n ≡ n = omega arith in rw e h
@@ -91,10 +86,11 @@ back rs f s n h (suc d) x t = let e : suc d + n ≡ suc (d + n) = omega arith in
 -- what holds within some number of steps holds within as many as there are rows
 pub settles : (rs : List Row) (f : ℕ → Obj → Bool) → Settling rs f → (k : ℕ) (x : Obj) → f k x ≡ true → f (length rs) x ≡ true
 settles rs f s k x t = elim (settles_or_more rs f s (suc (length rs))) [
-    inl w ↦ let i : ℕ = w.0 in
-    let below : i < suc (length rs) = w.1 in
-    let e1 : i + k ≡ k + i = omega arith in
-    let e2 : (length rs - i) + i ≡ length rs = omega (arith, below) in
-    let far : f (k + i) x ≡ true = rw e1 at (grows-on rs f s i k x t) in
-    rw e2 at (grows-on rs f s (length rs - i) i x (back rs f s i w.2 k x far))
-  | inr m ↦ let most = number-most (f (suc (length rs))) rs in absurd (omega (arith, m, most)) ]
+  | inl w ↦ let i : ℕ = w.0 in
+      let below : i < suc (length rs) = w.1 in
+      let e1 : i + k ≡ k + i = omega arith in
+      let e2 : (length rs - i) + i ≡ length rs = omega (arith, below) in
+      let far : f (k + i) x ≡ true = rw e1 at (grows-on rs f s i k x t) in
+      rw e2 at (grows-on rs f s (length rs - i) i x (back rs f s i w.2 k x far))
+  | inr m ↦ let most = number-most (f (suc (length rs))) rs in absurd (omega (arith, m, most))
+]

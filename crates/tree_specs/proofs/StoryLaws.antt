@@ -28,6 +28,7 @@ begin-whole first h = record {
   sound = record { started = omega arith; distinct = tt; valid = λ x. tt; open_frees = λ x. refl; waiting = tt; rests = tt };
   based = tt;
   light = omega arith;
+  plain = tt;
 }
 
 abbrev item_of : Scene → Item

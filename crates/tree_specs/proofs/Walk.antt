@@ -69,13 +69,13 @@ kids-next w rs Root p d = total_of-none (kids rs p)
 kids-next w [] (Of y) p d = refl
 kids-next w (s ∷ rs) (Of y) p d = let ih = kids-next w rs (Of y) p d.1 in by_test (same s.serial y)
     (λ t. let e : s.serial ≡ y = same-true s.serial y t in
-        let u : same y s.serial ≡ true = same-equal _ _ (sym e) in
-        let gone : row_of rs y ≡ None = ap (row_of rs) (sym e) ∙ d.0 in
-        let none : total_of (λ x. if same_owner (Of y) (Of x) then w else 0) (kids rs p) ≡ 0 = rw gone at ih in
-        by_test (is_below s.owner p) (λ v. rw (t, v, u) (omega (arith, none))) (λ v. rw (t, v) none))
+    let u : same y s.serial ≡ true = same-equal _ _ (sym e) in
+    let gone : row_of rs y ≡ None = ap (row_of rs) (sym e) ∙ d.0 in
+    let none : total_of (λ x. if same_owner (Of y) (Of x) then w else 0) (kids rs p) ≡ 0 = rw gone at ih in
+    by_test (is_below s.owner p) (λ v. rw (t, v, u) (omega (arith, none))) (λ v. rw (t, v) none))
     (λ t. let u : same y s.serial ≡ false = same-false _ _ (λ q. let v : same s.serial y ≡ true = same-equal _ _ (sym q) in
-            let bad : true ≡ false = sym v ∙ t in cc) in
-        by_test (is_below s.owner p) (λ v. rw (t, v, u) (omega (arith, ih))) (λ v. rw (t, v) ih))
+    let bad : true ≡ false = sym v ∙ t in cc) in
+    by_test (is_below s.owner p) (λ v. rw (t, v, u) (omega (arith, ih))) (λ v. rw (t, v) ih))
 
 kids-total : (h : Obj → ℕ) (rs : List Row) (p : Owner) → total_of h (kids rs p) ≡ total (λ r. if is_below r.owner p then h r.serial else 0) rs
 kids-total h [] p = refl
@@ -116,9 +116,9 @@ met-once n rs w None p rooted = refl
 met-once zero rs w (Some o) p rooted = omega arith
 met-once (suc n) rs w (Some o) p rooted = let ih = met-once n rs w (next_owner rs o) p rooted in by_test (same_owner o p)
     (λ t. let e : o ≡ p = same_owner-true o p t in
-        let gone : reaches n rs (next_owner rs o) p ≡ false = rw (← e) (no_way_back rs n (suc (length rs)) o (rooted o)) in
-        let none : met (suc n) rs w (next_owner rs o) p ≡ 0 = rw gone at ih in
-        rw t (omega (arith, none)))
+    let gone : reaches n rs (next_owner rs o) p ≡ false = rw (← e) (no_way_back rs n (suc (length rs)) o (rooted o)) in
+    let none : met (suc n) rs w (next_owner rs o) p ≡ 0 = rw gone at ih in
+    rw t (omega (arith, none)))
     (λ t. rw t (omega (arith, ih)))
 
 -- ---- the walk
@@ -130,16 +130,16 @@ walk-met (suc n) g rs p d =
     let f : Obj → List Obj = λ x. x ∷ walked n rs (kids rs (Of x)) in
     let below : Obj → ℕ = λ x. total (λ r. met n rs (g r) r.owner (Of x)) rs in
     let e1 : total_of (weight_at g rs) (walked (suc n) rs (kids rs p)) ≡ total_of (λ x. total_of (weight_at g rs) (f x)) (kids rs p)
-        = total_of-flat_map (weight_at g rs) f (kids rs p) in
+    = total_of-flat_map (weight_at g rs) f (kids rs p) in
     let e2 : total_of (λ x. total_of (weight_at g rs) (f x)) (kids rs p) ≡ total_of (λ x. weight_at g rs x + below x) (kids rs p)
-        = total_of-same _ _ (kids rs p) (λ x. let ih = walk-met n g rs (Of x) d in omega (arith, ih)) in
+    = total_of-same _ _ (kids rs p) (λ x. let ih = walk-met n g rs (Of x) d in omega (arith, ih)) in
     let e3 = total_of-plus (weight_at g rs) below (kids rs p) in
     let e4 = kids-weight g rs p d in
     let e5 = total_of-total (λ x r. met n rs (g r) r.owner (Of x)) (kids rs p) rs in
     let e6 = total-plus (λ r. if is_below r.owner p then g r else 0) (λ r. total_of (λ x. met n rs (g r) r.owner (Of x)) (kids rs p)) rs in
     let e7 : total (λ r. met (suc n) rs (g r) r.owner p) rs
-        ≡ total (λ r. (if is_below r.owner p then g r else 0) + total_of (λ x. met n rs (g r) r.owner (Of x)) (kids rs p)) rs
-        = total-same _ _ rs d (λ r q. met-kids n rs (g r) r.owner p d) in
+    ≡ total (λ r. (if is_below r.owner p then g r else 0) + total_of (λ x. met n rs (g r) r.owner (Of x)) (kids rs p)) rs
+    = total-same _ _ rs d (λ r q. met-kids n rs (g r) r.owner p d) in
     omega (arith, e1, e2, e3, e4, e5, e6, e7)
 
 own-weight : (g : Row → ℕ) (rs : List Row) (p : Owner) → Distinct rs → total (λ r. if same_owner (Of r.serial) p then g r else 0) rs ≡ own g rs p
@@ -147,7 +147,7 @@ own-weight g rs Root d = total-none rs
 own-weight g [] (Of x) d = refl
 own-weight g (s ∷ rs) (Of x) d = let ih = own-weight g rs (Of x) d.1 in by_test (same s.serial x)
     (λ t. let gone : row_of rs x ≡ None = ap (row_of rs) (sym (same-true s.serial x t)) ∙ d.0 in
-        let none : total (λ r. if same_owner (Of r.serial) (Of x) then g r else 0) rs ≡ 0 = rw gone at ih in rw t (omega (arith, none)))
+    let none : total (λ r. if same_owner (Of r.serial) (Of x) then g r else 0) rs ≡ 0 = rw gone at ih in rw t (omega (arith, none)))
     (λ t. rw t (omega (arith, ih)))
 
 -- a weight over all rows inside an owner is that of its own row and that of a walk over what is below it
@@ -155,15 +155,15 @@ pub inside-walked : (g : Row → ℕ) (rs : List Row) (p : Owner) → Distinct r
     → total (λ r. if is_inside rs (Of r.serial) p then g r else 0) rs ≡ own g rs p + total_of (weight_at g rs) (walked (length rs) rs (kids rs p))
 inside-walked g rs p d rooted =
     let each : (r : Row) → row_of rs r.serial ≡ Some r → (if is_inside rs (Of r.serial) p then g r else 0)
-        ≡ (if same_owner (Of r.serial) p then g r else 0) + met (length rs) rs (g r) r.owner p
-        = λ r q. let e : owner_of rs r.serial ≡ r.owner = ap owner_in q in
-            let once : met (suc (length rs)) rs (g r) (Some (Of r.serial)) p ≡ (if is_inside rs (Of r.serial) p then g r else 0)
-                = met-once (length rs) rs (g r) (Some (Of r.serial)) p rooted in
-            let e' : met (length rs) rs (g r) (owner_of rs r.serial) p ≡ met (length rs) rs (g r) r.owner p
-                = ap (λ o. met (length rs) rs (g r) o p) e in
-            omega (arith, once, e') in
+    ≡ (if same_owner (Of r.serial) p then g r else 0) + met (length rs) rs (g r) r.owner p
+    = λ r q. let e : owner_of rs r.serial ≡ r.owner = ap owner_in q in
+    let once : met (suc (length rs)) rs (g r) (Some (Of r.serial)) p ≡ (if is_inside rs (Of r.serial) p then g r else 0)
+    = met-once (length rs) rs (g r) (Some (Of r.serial)) p rooted in
+    let e' : met (length rs) rs (g r) (owner_of rs r.serial) p ≡ met (length rs) rs (g r) r.owner p
+    = ap (λ o. met (length rs) rs (g r) o p) e in
+    omega (arith, once, e') in
     let e1 = total-same (λ r. if is_inside rs (Of r.serial) p then g r else 0)
-        (λ r. (if same_owner (Of r.serial) p then g r else 0) + met (length rs) rs (g r) r.owner p) rs d each in
+    (λ r. (if same_owner (Of r.serial) p then g r else 0) + met (length rs) rs (g r) r.owner p) rs d each in
     let e2 = total-plus (λ r. if same_owner (Of r.serial) p then g r else 0) (λ r. met (length rs) rs (g r) r.owner p) rs in
     let e3 = own-weight g rs p d in
     let e4 = walk-met (length rs) g rs p d in

@@ -1,5 +1,5 @@
 -- What is inside an owner, and sums over it.
-use Rattle.std.specs.Prelude.{ℕ, ◌+◌, Bool, true, false, ◌&&◌, not, List, [], ◌∷◌, if◌then◌else◌}
+use Rattle.std.specs.Prelude.{◌≡◌, ℕ, ◌+◌, Bool, true, false, ◌&&◌, not, List, [], ◌∷◌, if◌then◌else◌}
 use Rattle.tree_specs.specs.declared.object.Owner.{Owner}
 use Rattle.tree_specs.specs.declared.object.Owner.TheVariants.{Of}
 use Rattle.tree_specs.specs.declared.kind.Kind.{Kind}
@@ -21,6 +21,11 @@ is_reference Descriptor = false
 is_reference Request = false
 is_reference Queue = false
 is_reference Entry = false
+
+-- no row is a reference
+abbrev pub NoReferences : List Row → Type 0
+NoReferences [] = Unit {0}
+NoReferences (r ∷ rs) = (is_reference r.kind ≡ false) × NoReferences rs
 
 -- the sizes of all rows inside an owner
 abbrev pub size_inside : List Row → Owner → ℕ

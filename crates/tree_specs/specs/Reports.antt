@@ -1,5 +1,5 @@
 -- The report of an owner: a row for itself and for all that is below it, depth first, each owner before its children.
-use Rattle.std.specs.Prelude.{ℕ, suc, zero, ◌+◌, Bool, false, List, [], ◌∷◌, ◌++◌, length, flat_map, Option, Some, None, codes, if◌then◌else◌}
+use Rattle.std.specs.Prelude.{ℕ, suc, zero, ◌+◌, Bool, false, List, [], ◌∷◌, length, flat_map, Option, Some, None, codes, if◌then◌else◌}
 use Rattle.tree_specs.specs.declared.object.Obj.{Obj}
 use Rattle.tree_specs.specs.declared.object.Owner.{Owner}
 use Rattle.tree_specs.specs.declared.object.Owner.TheVariants.{Root, Of}

@@ -9,7 +9,7 @@ use Rattle.tree_specs.specs.declared.frame.FreeFrame.TheVariants.{Beginning, Lea
 use Rattle.tree_specs.specs.declared.frame.Purpose.{Purpose}
 use Rattle.tree_specs.specs.declared.frame.Purpose.TheVariants.{Removal, Emptying}
 use Rattle.tree_specs.specs.Pool.{Pool}
-use Rattle.tree_specs.specs.Inside.{total}
+use Rattle.tree_specs.specs.Inside.{total, NoReferences}
 use Rattle.tree_specs.specs.Sound.{Sound}
 use Rattle.tree_specs.specs.View.{View}
 
@@ -59,3 +59,5 @@ pub record Whole (v : View) : Type 0 where
   pub sound : Sound v.innermost v.below v.pool
   pub based : Based v.innermost v.below
   pub light : Light v.innermost v.below v.pool
+  -- no call makes a reference as yet
+  pub plain : NoReferences v.pool.rows

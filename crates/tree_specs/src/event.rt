@@ -16,17 +16,32 @@ pub enum Event {
     /// The object's destructor returned 0.
     Accepted(Obj),
     /// It returned this number, which isn't 0.
-    Refused { object: Obj, answer: u32 },
+    Refused {
+        object: Obj,
+        answer: u32,
+    },
     /// An object that wasn't freed with its owner goes to another one.
-    Moved { object: Obj, owner: Owner },
+    Moved {
+        object: Obj,
+        owner: Owner,
+    },
     /// An object that has references was given to another owner.
     Warned(Obj),
     /// An object is no more. `hook` is the destructor that it had, and 0 means none.
-    Freed { object: Obj, hook: u32 },
+    Freed {
+        object: Obj,
+        hook: u32,
+    },
     /// A reference is no more.
-    Unreferenced { reference: Obj, target: Obj },
+    Unreferenced {
+        reference: Obj,
+        target: Obj,
+    },
     /// A descriptor was closed.
     Closed(u32),
     /// A request is in another state.
-    State { request: Obj, state: u32 },
+    State {
+        request: Obj,
+        state: u32,
+    },
 }

@@ -35,11 +35,18 @@ pub enum Purpose {
 #[derive(Clone, Copy, Debug, PartialEq, Eq)]
 pub enum FreeFrame {
     /// The freeing of `x` begins.
-    Beginning { x: Obj },
+    Beginning {
+        x: Obj,
+    },
     /// `x` is to leave its owner.
-    Leaving { x: Obj },
+    Leaving {
+        x: Obj,
+    },
     /// The children of `x` are to be freed.
-    Looping { x: Obj, purpose: Purpose },
+    Looping {
+        x: Obj,
+        purpose: Purpose,
+    },
     /// `x` waits for the freeing of its child.
     Trying {
         x: Obj,
@@ -54,7 +61,9 @@ pub enum FreeFrame {
         answer: Answer,
     },
     /// It is over.
-    Ending { answer: Answer },
+    Ending {
+        answer: Answer,
+    },
 }
 
 /// What a work that is over answers to the work below it.

@@ -14,11 +14,20 @@ pub enum Refusal {
     /// There are references to the object.
     Held(Obj),
     /// The object's destructor returned this number, which isn't 0.
-    Refused { object: Obj, answer: u32 },
+    Refused {
+        object: Obj,
+        answer: u32,
+    },
     /// The owner doesn't own the object, nor a reference to it.
-    NotParent { object: Obj, owner: Owner },
+    NotParent {
+        object: Obj,
+        owner: Owner,
+    },
     /// The new owner is inside the object, or is it.
-    Loop { object: Obj, owner: Owner },
+    Loop {
+        object: Obj,
+        owner: Owner,
+    },
     /// The object is being freed.
     Dying(Obj),
     /// So many bytes are wanted, and this object's limit has no room for them beside its sum.
@@ -35,7 +44,10 @@ pub enum Refusal {
     /// An event has this descriptor.
     InUse(u32),
     /// The request is in this state.
-    BadState { object: Obj, state: u32 },
+    BadState {
+        object: Obj,
+        state: u32,
+    },
     /// The size isn't below 268,435,456 bytes (talloc's bound on one block).
     TooBig(u64),
     /// A turn within a routine.

@@ -8,9 +8,9 @@ loop-event-smaller c = let e = ap length (c.in-Some.ensures.1 []) in omega (arit
 
 pub loop-event-preserved : goal.loop-event-preserved
 loop-event-preserved c =
-    told-more _ _ _ _ _ _ c.in-Some.event c.loop-event.invariant c.in-Some.ensures.1 c.in_ok-write_event.ensures
+    told-more _ _ _ _ _ _ c.in-Some.event c.loop-event.invariant c.in-Some.ensures.1 c.in_ok-write_told.ensures
 
-pub returns-in_err-write_event : goal.returns-in_err-write_event
-returns-in_err-write_event c =
+pub returns-in_err-write_told : goal.returns-in_err-write_told
+returns-in_err-write_told c =
     let p = err_from_is_err_and c.from_residual.result c.from_residual.ensures.1 in
-    rw p.1 (told-front _ _ _ _ _ _ c.in-Some.event c.loop-event.invariant c.in-Some.ensures.1 c.in_err-write_event.ensures)
+    rw p.1 (told-front _ _ _ _ _ _ c.in-Some.event c.loop-event.invariant c.in-Some.ensures.1 c.in_err-write_told.ensures)

@@ -5,6 +5,7 @@ use Rattle.tree_specs.specs.Table.{step}
 use Rattle.tree_specs.specs.View.{View, rest_of, question_of}
 use Rattle.host_core.specs.Hosts.{view_of, asking, moved, next_of}
 use Rattle.host_core.specs.Promises.{Waits}
+use Rattle.host_core.proofs.Steps.{step-rests}
 use Rattle.host_core.proofs.Onward.{AfterEvent, told, no_question, asking-false, waits-rest}
 use Rattle.host_core.proofs.host.Host.next.Goals as goal
 
@@ -21,7 +22,7 @@ settle-requires c =
     let m : next_of v ≡ (c.advance-progress.result.event, w) = ap (λ (f : Frame). moved (step f v.pool) v.below) (sym c.replace-now.ensures.value) ∙ c.advance-progress.ensures.moved in
     let t = told v w c.advance-progress.result.event c.self.invariant.0.whole c.self.invariant.1 (asking-false _ (sym c.is_asking.ensures ∙ c.if-is_asking.false)) m in
     let a : AfterEvent v w t.0 = t.2 in
-    record { whole = a.whole; places = omega (arith, a.narrow, c.self.invariant.0.places, c.advance-progress.ensures.kept); rows = omega (arith, a.calm) }
+    record { whole = a.whole; places = omega (arith, a.narrow, c.self.invariant.0.places, c.advance-progress.ensures.kept); rows = omega (arith, a.calm); rests = step-rests _ _ _ a.whole.sound a.calm }
 
 pub returns : goal.returns
 returns c =

@@ -9,7 +9,7 @@ use Rattle.tree_specs.specs.Schedule.{misfit}
 use Rattle.tree_specs.specs.View.{View, rest_of, question_of}
 use Rattle.tree_specs.specs.Whole.{Whole}
 use Rattle.host_core.specs.Hosts.{view_of, asking}
-use Rattle.host_core.proofs.Onward.{asking-true, open_question, fits-rest, input-ready, input-law, always-more}
+use Rattle.host_core.proofs.Onward.{asking-true, open_question, fits-rest, begun-ready, begun-law, always-more}
 use Rattle.host_core.proofs.host.Host.offer.Goals as goal
 
 pub settle-requires : goal.settle-requires
@@ -17,7 +17,7 @@ settle-requires c =
     let f : c.self.inside.innermost ≡ frame.Call Asking = asking-true _ (sym c.is_asking.ensures ∙ c.if-not-is_asking.false) in
     let h : Whole (view_of (frame.Call Asking) c.self.inside.below.items c.self.inside.tree) =
     subst (λ (z : Frame). Whole (view_of z c.self.inside.below.items c.self.inside.tree)) f c.self.invariant.0.whole in
-    input-ready c.given.result c.self.inside.below.items c.make_room.new.below.items c.self.inside.tree c.make_room.new.tree _ c.args.input h c.given.ensures
+    begun-ready c.in_ok-first.first c.self.inside.below.items c.make_room.new.below.items c.self.inside.tree c.make_room.new.tree _ c.args.input h c.requires c.in_ok-first.ensures
     c.make_room.ensures.works c.make_room.ensures.rows c.in_ok-make_room.ensures.works_room c.in_ok-make_room.ensures.rows_room
 
 pub returns-clause-ok : goal.returns-clause-ok
@@ -32,7 +32,7 @@ returns-clause-ok c =
       open_before = ap question_of (sym c.self.view_is) ∙ open_question v asks;
       fits = ap (λ (z : View). misfit (question_of z) c.args.input) (sym c.self.view_is) ∙ fits-rest v c.args.input asks;
       goes_on = λ is. ap (λ (z : View). rest_of z (c.args.input ∷ is)) (sym c.self.view_is ∙ g)
-          ∙ input-law c.given.result c.self.inside.below.items c.make_room.new.below.items c.self.inside.tree c.make_room.new.tree c.args.input is h c.given.ensures c.make_room.ensures.works c.make_room.ensures.rows
+          ∙ begun-law c.in_ok-first.first c.self.inside.below.items c.make_room.new.below.items c.self.inside.tree c.make_room.new.tree c.args.input is h c.requires c.in_ok-first.ensures c.make_room.ensures.works c.make_room.ensures.rows
           ∙ ap (λ (l : List Item). Asked Quiet ∷ l) (c.settle.ensures.same is);
       more = λ is. always-more (view_of c.settle.result c.settle.new.below.items c.settle.new.tree) is c.settle.ensures.ready.whole;
     }

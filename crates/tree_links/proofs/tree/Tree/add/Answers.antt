@@ -1,4 +1,4 @@
-use Rattle.std.proofs.Common.{◌<◌, length, sym, ap, subst, true, ◌≡◌}
+use Rattle.std.proofs.Common.{◌<◌, length, sym, subst, true, ◌≡◌}
 use Rattle.tree_specs.specs.Calls.{row_limit}
 use Rattle.tree_specs.specs.Pool.{is_owner}
 use Rattle.tree_links.specs.Links.{Links}

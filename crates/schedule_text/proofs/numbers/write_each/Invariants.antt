@@ -1,6 +1,0 @@
-use Rattle.std.proofs.Common.{◌≡◌, ◌++◌, take, []}
-use Rattle.schedule_text.specs.Numbers.{numbers_text}
-use Rattle.schedule_text.proofs.numbers.write_each.Given as goal
-
-abbrev pub invariant-loop-n : goal.invariant-loop-n
-invariant-loop-n l = l.out.items ≡ l.fn.out.items ++ numbers_text (take l.n-index l.numbers) []

@@ -1,0 +1,86 @@
+use super::writes;
+use std::test::Fail;
+use tree_specs::{Event, Obj, Owner, What};
+
+fn fired(what: What) -> Event {
+    Event::Fired {
+        what,
+        object: Obj(3),
+        routine: 18,
+    }
+}
+
+#[test]
+fn writes_what_fired(rt: HostRuntime) -> Result<(), Fail> {
+    writes(
+        &rt,
+        rt.alloc(),
+        &[
+            (fired(What::Hook), b"fired hook 3 18\n".as_slice()),
+            (fired(What::Timer), b"fired timer 3 18\n".as_slice()),
+            (fired(What::Immediate), b"fired immediate 3 18\n".as_slice()),
+            (fired(What::Descriptor), b"fired fd 3 18\n".as_slice()),
+            (fired(What::Callback), b"fired callback 3 18\n".as_slice()),
+            (fired(What::Cleanup), b"fired cleanup 3 18\n".as_slice()),
+            (fired(What::Cancel), b"fired cancel 3 18\n".as_slice()),
+            (fired(What::Trigger), b"fired trigger 3 18\n".as_slice()),
+        ],
+    )
+}
+
+#[test]
+fn writes_what_happens_to_objects(rt: HostRuntime) -> Result<(), Fail> {
+    let moved = |owner| Event::Moved {
+        object: Obj(2),
+        owner,
+    };
+    writes(
+        &rt,
+        rt.alloc(),
+        &[
+            (Event::Accepted(Obj(2)), b"accepted 2\n".as_slice()),
+            (
+                Event::Refused {
+                    object: Obj(4),
+                    answer: 1,
+                },
+                b"refused 4 1\n".as_slice(),
+            ),
+            (moved(Owner::Root), b"moved 2 0\n".as_slice()),
+            (moved(Owner::Of(Obj(7))), b"moved 2 7\n".as_slice()),
+            (Event::Warned(Obj(2)), b"warned 2\n".as_slice()),
+            (
+                Event::Freed {
+                    object: Obj(3),
+                    hook: 4_294_967_295,
+                },
+                b"freed 3 4294967295\n".as_slice(),
+            ),
+            (
+                Event::Unreferenced {
+                    reference: Obj(4),
+                    target: Obj(2),
+                },
+                b"unreferenced 4 2\n".as_slice(),
+            ),
+        ],
+    )
+}
+
+#[test]
+fn writes_what_happens_outside(rt: HostRuntime) -> Result<(), Fail> {
+    writes(
+        &rt,
+        rt.alloc(),
+        &[
+            (Event::Closed(6), b"closed 6\n".as_slice()),
+            (
+                Event::State {
+                    request: Obj(1),
+                    state: 2,
+                },
+                b"state 1 2\n".as_slice(),
+            ),
+        ],
+    )
+}

@@ -1,0 +1,41 @@
+ghost use Rattle.std.specs.Prelude.{◌++◌, codes};
+ghost use Rattle.std.specs.Fmt.{decimal};
+ghost use Rattle.tree_specs.specs.Text.{numbers_text};
+ghost use Rattle.tree_specs.specs.Written.{Writes};
+
+use itoa::Buffer;
+use tree_specs::Memory;
+
+fn write_spaced(n: u64, out: &mut Vec<u8>) -> Result<(), Memory>
+    ensures { Writes out.old.items out.new.items result (codes " " ++ decimal n) }
+{
+    let mut buffer = Buffer::new();
+    out.push(b' ')?;
+    out.extend_from_slice(buffer.format(n).as_bytes())?;
+    Ok(())
+}
+
+fn write_each(numbers: &[u64], out: &mut Vec<u8>) -> Result<(), Memory>
+    ensures { Writes out.old.items out.new.items result (numbers_text numbers.now) }
+{
+    for n in numbers {
+        write_spaced(*n, out)?;
+    }
+    Ok(())
+}
+
+/// Appends a front, then each number with a space before it, and then an end: most lines, refusals
+/// and questions are such texts. Where memory is wanted, a front of it was appended.
+pub fn write_numbers(
+    front: &[u8],
+    numbers: &[u64],
+    end: &[u8],
+    out: &mut Vec<u8>,
+) -> Result<(), Memory>
+    ensures { Writes out.old.items out.new.items result (front.now ++ numbers_text numbers.now ++ end.now) }
+{
+    out.extend_from_slice(front)?;
+    write_each(numbers, out)?;
+    out.extend_from_slice(end)?;
+    Ok(())
+}

@@ -1,0 +1,4 @@
+pub mod References
+pub mod Walking
+pub mod Weighing
+pub mod Showing

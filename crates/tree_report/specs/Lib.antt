@@ -1,0 +1,4 @@
+pub mod Walk
+pub mod Weights
+pub mod Shown
+pub mod Written

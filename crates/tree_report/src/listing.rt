@@ -1,0 +1,133 @@
+ghost use Rattle.std.specs.Prelude.{◌≡◌, ◌++◌, IfOk, OnOk, ℕ, List};
+ghost use Rattle.std.specs.Option.{option_to_list};
+ghost use Rattle.tree_specs.specs.Reports.{report, row_kind, target_of, target_number, count_refs, root_row};
+ghost use Rattle.tree_specs.specs.declared.object.Owner.TheVariants.{Of as At};
+ghost use Rattle.tree_specs.specs.Inside.{NoReferences};
+ghost use Rattle.tree_report.specs.Shown.{shown_at};
+
+use crate::walk::{first_place, know_tree, next_place};
+use std::alloc::Global;
+use tree_links::Tree;
+use tree_specs::{Kind, Memory, Name, Obj, Owner, ReportRow, ReportRows, RowKind};
+
+fn kind_in_report(kind: Kind) -> RowKind
+    ensures { result ≡ row_kind kind }
+{
+    match kind {
+        Kind::Plain => RowKind::Plain,
+        Kind::Reference { .. } => RowKind::Reference,
+        Kind::Timer => RowKind::Timer,
+        Kind::Immediate => RowKind::Immediate,
+        Kind::Descriptor => RowKind::Fd,
+        Kind::Request => RowKind::Request,
+        Kind::Queue => RowKind::Queue,
+        Kind::Entry => RowKind::Entry,
+    }
+}
+
+/// The number of the object that a reference refers to, and 0 elsewhere.
+fn target(kind: Kind) -> u64
+    ensures { result ≡ target_number (target_of kind) }
+{
+    match kind {
+        Kind::Reference { target } => target.0,
+        _ => 0,
+    }
+}
+
+/// How many references there are to an object: none, since there are no references.
+fn refs(tree: &Tree, x: Obj) -> u32
+    requires { NoReferences tree.now.rows }
+    ensures { result ≡ count_refs tree.now.rows x }
+{
+    0
+}
+
+fn copied(alloc: Global, name: &Name) -> Result<Name, Memory>
+    ensures { IfOk result (λ n. n ≡ name.now) }
+{
+    let bytes = name.as_slice().to_vec(alloc)?;
+    match Name::make(bytes) {
+        Some(copy) => Ok(copy),
+        None => unreachable!(),
+    }
+}
+
+fn row_of_root(alloc: Global) -> Result<ReportRow, Memory>
+    ensures { IfOk result (λ r. r ≡ root_row) }
+{
+    let bytes = b"null_context".as_slice().to_vec(alloc)?;
+    match Name::make(bytes) {
+        Some(name) => Ok(ReportRow {
+            depth: 0,
+            id: 0,
+            kind: RowKind::Root,
+            size: 0,
+            refs: 0,
+            target: 0,
+            name,
+        }),
+        None => unreachable!(),
+    }
+}
+
+/// The row of an object at this depth. None where there is no such object.
+fn row_of_object(
+    alloc: Global,
+    tree: &Tree,
+    x: Obj,
+    depth: u32,
+) -> Result<Option<ReportRow>, Memory>
+    requires { NoReferences tree.now.rows }
+    ensures { IfOk result (λ r. option_to_list r ≡ shown_at tree.now.rows depth (At x)) }
+{
+    let Some(row) = tree.row(x) else {
+        return Ok(None);
+    };
+    Ok(Some(ReportRow {
+        depth,
+        id: row.serial.0,
+        kind: kind_in_report(row.kind),
+        size: row.size,
+        refs: refs(tree, row.serial),
+        target: target(row.kind),
+        name: copied(alloc, &row.name)?,
+    }))
+}
+
+fn row_at(alloc: Global, tree: &Tree, owner: Owner, depth: u32) -> Result<Option<ReportRow>, Memory>
+    requires { NoReferences tree.now.rows }
+    ensures { IfOk result (λ r. option_to_list r ≡ shown_at tree.now.rows depth owner) }
+{
+    match owner {
+        Owner::Root => Ok(Some(row_of_root(alloc)?)),
+        Owner::Of(x) => row_of_object(alloc, tree, x, depth),
+    }
+}
+
+fn keep(rows: &mut Vec<ReportRow>, row: Option<ReportRow>) -> Result<(), Memory>
+    ensures { OnOk result (rows.new.items ≡ rows.old.items ++ option_to_list row) }
+{
+    if let Some(row) = row {
+        rows.push(row)?;
+    }
+    Ok(())
+}
+
+/// The report of an owner, as `talloc_report_full` shows it: a row for the owner, at depth 0, and one for each
+/// object below it, each owner before its children and these the newest placed first. Sizes are in bytes.
+/// There are no rows where the owner is neither the root nor an object. An error is want of memory.
+pub fn rows(alloc: Global, tree: &Tree, from: Owner) -> Result<ReportRows, Memory>
+    requires { NoReferences tree.now.rows }
+    ensures { IfOk result (λ rows. rows ≡ report tree.now.rows from) }
+{
+    know_tree(tree);
+    let mut rows = Vec::new(alloc);
+    let mut at = Some(first_place(from));
+    while let Some(place) = at {
+        let row = row_at(alloc, tree, place.owner, place.depth)?;
+        keep(&mut rows, row)?;
+        at = next_place(tree, place);
+    }
+    Ok(ReportRows::make(rows))
+}

@@ -1,0 +1,236 @@
+ghost use Rattle.std.specs.Prelude.{◌≡◌, ◌<◌, not, ◌&&◌, true, false, IfOk};
+ghost use Rattle.tree_specs.specs.Calls.{size_limit};
+ghost use Rattle.tree_specs.specs.Pool.{is_row, is_owner as is_owner_of, is_dying};
+ghost use Rattle.tree_specs.specs.Inside.{NoReferences};
+
+use super::*;
+use outside::{Done, FineSink, MemSink};
+use std::alloc::Global;
+use std::process::Abort;
+use std::test::Fail;
+use tree_links::{NewRow, Tree};
+use tree_specs::{Kind, Mark, Name, Obj, Owner, ReportRows, RowKind};
+
+// Whether it is the root or an object.
+fn is_owner(tree: &Tree, owner: Owner) -> bool
+    ensures { result ≡ is_owner_of tree.now.rows owner }
+{
+    match owner {
+        Owner::Root => true,
+        Owner::Of(x) => tree.row(x).is_some(),
+    }
+}
+
+// Whether it is an object that has not left its owner.
+fn is_live(tree: &Tree, x: Obj) -> bool
+    ensures { result ≡ (is_row tree.now.rows x && not (is_dying tree.now.rows x)) }
+{
+    match tree.row(x) {
+        Some(row) => !matches!(row.mark, Mark::Dying(_)),
+        None => false,
+    }
+}
+
+// Adds a plain object.
+fn add(
+    rt: &impl Abort,
+    tree: &mut Tree,
+    alloc: Global,
+    name: &str,
+    size: u64,
+    owner: Owner,
+) -> Result<Obj, Fail>
+    requires small { size < size_limit }
+    requires plain { NoReferences tree.old.rows }
+    ensures { NoReferences tree.new.rows }
+{
+    let name = Name::make(name.as_bytes().to_vec(alloc)?).expect(rt, "a name");
+    let row = NewRow {
+        kind: Kind::Plain,
+        name,
+        size,
+    };
+    tree.reserve(1)?;
+    assert!(rt; tree.len() < 1_048_576);
+    assert!(rt; tree.next_number() < u64::MAX);
+    assert!(rt; is_owner(tree, owner));
+    Ok(tree.add(row, owner))
+}
+
+fn detach(rt: &impl Abort, tree: &mut Tree, x: Obj)
+    requires { NoReferences tree.old.rows }
+    ensures { NoReferences tree.new.rows }
+{
+    assert!(rt; is_live(tree, x));
+    tree.detach(x);
+}
+
+// The root owns 1 and 5, 1 owns 2 and 4, and 2 owns 3.
+fn five(rt: &impl Abort, alloc: Global) -> Result<Tree, Fail>
+    ensures { IfOk result (λ t. NoReferences t.rows) }
+{
+    let mut tree = Tree::new(alloc, 1);
+    let top = add(rt, &mut tree, alloc, "top", 10, Owner::Root)?;
+    let left = add(rt, &mut tree, alloc, "left", 200, Owner::Of(top))?;
+    add(rt, &mut tree, alloc, "leaf", 3_000, Owner::Of(left))?;
+    add(rt, &mut tree, alloc, "right", 40_000, Owner::Of(top))?;
+    add(rt, &mut tree, alloc, "aside", 500_000, Owner::Root)?;
+    Ok(tree)
+}
+
+// Each row by its depth, its number, its size and its name.
+fn expect_rows(rt: &impl Abort, report: &ReportRows, want: &[(u32, u64, u64, &str)]) {
+    let rows = report.as_slice();
+    assert_eq!(rt; rows.len(), want.len());
+    for (row, (depth, id, size, name)) in rows.iter().zip(want.iter()) {
+        let kind = if *id == 0 {
+            RowKind::Root
+        } else {
+            RowKind::Plain
+        };
+        assert_eq!(rt; row.depth, *depth, "at {id}");
+        assert_eq!(rt; row.id, *id);
+        assert_eq!(rt; row.kind, kind, "at {id}");
+        assert_eq!(rt; row.size, *size, "at {id}");
+        assert_eq!(rt; row.refs, 0, "at {id}");
+        assert_eq!(rt; row.target, 0, "at {id}");
+        assert_eq!(rt; row.name.as_slice(), name.as_bytes(), "at {id}");
+    }
+}
+
+#[test]
+fn each_owner_comes_before_its_children(rt: HostRuntime) -> Result<(), Fail> {
+    let tree = five(&rt, rt.alloc())?;
+    let all = rows(rt.alloc(), &tree, Owner::Root)?;
+    expect_rows(
+        &rt,
+        &all,
+        &[
+            (0, 0, 0, "null_context"),
+            (1, 5, 500_000, "aside"),
+            (1, 1, 10, "top"),
+            (2, 4, 40_000, "right"),
+            (2, 2, 200, "left"),
+            (3, 3, 3_000, "leaf"),
+        ],
+    );
+    let middle = rows(rt.alloc(), &tree, Owner::Of(Obj(2)))?;
+    expect_rows(&rt, &middle, &[(0, 2, 200, "left"), (1, 3, 3_000, "leaf")]);
+    let leaf = rows(rt.alloc(), &tree, Owner::Of(Obj(3)))?;
+    expect_rows(&rt, &leaf, &[(0, 3, 3_000, "leaf")]);
+    let none = rows(rt.alloc(), &tree, Owner::Of(Obj(6)))?;
+    expect_rows(&rt, &none, &[]);
+    Ok(())
+}
+
+#[test]
+fn a_sum_is_over_all_that_is_inside(rt: HostRuntime) -> Result<(), Fail> {
+    let tree = five(&rt, rt.alloc())?;
+    for (from, size, number) in [
+        (Owner::Root, 543_210, 5),
+        (Owner::Of(Obj(1)), 43_210, 4),
+        (Owner::Of(Obj(2)), 3_200, 2),
+        (Owner::Of(Obj(3)), 3_000, 1),
+        (Owner::Of(Obj(5)), 500_000, 1),
+        (Owner::Of(Obj(6)), 0, 0),
+    ] {
+        assert_eq!(rt; total(&tree, from), size, "in {from:?}");
+        assert_eq!(rt; count(&tree, from), number, "in {from:?}");
+    }
+    Ok(())
+}
+
+#[test]
+fn what_a_dying_object_owns_is_not_inside_the_root(rt: HostRuntime) -> Result<(), Fail> {
+    let mut tree = five(&rt, rt.alloc())?;
+    detach(&rt, &mut tree, Obj(2));
+    for (from, size, number) in [
+        (Owner::Root, 540_010, 3),
+        (Owner::Of(Obj(1)), 40_010, 2),
+        (Owner::Of(Obj(2)), 3_200, 2),
+        (Owner::Of(Obj(3)), 3_000, 1),
+    ] {
+        assert_eq!(rt; total(&tree, from), size, "in {from:?}");
+        assert_eq!(rt; count(&tree, from), number, "in {from:?}");
+    }
+    let all = rows(rt.alloc(), &tree, Owner::Root)?;
+    expect_rows(
+        &rt,
+        &all,
+        &[
+            (0, 0, 0, "null_context"),
+            (1, 5, 500_000, "aside"),
+            (1, 1, 10, "top"),
+            (2, 4, 40_000, "right"),
+        ],
+    );
+    let dying = rows(rt.alloc(), &tree, Owner::Of(Obj(2)))?;
+    expect_rows(&rt, &dying, &[(0, 2, 200, "left"), (1, 3, 3_000, "leaf")]);
+    Ok(())
+}
+
+#[test]
+fn a_long_chain_is_walked_down(rt: HostRuntime) -> Result<(), Fail> {
+    let mut tree = Tree::new(rt.alloc(), 1);
+    let mut owner = Owner::Root;
+    for _n in 0..300 {
+        owner = Owner::Of(add(&rt, &mut tree, rt.alloc(), "link", 2, owner)?);
+    }
+    assert_eq!(rt; total(&tree, Owner::Root), 600);
+    assert_eq!(rt; count(&tree, Owner::Root), 300);
+    assert_eq!(rt; total(&tree, Owner::Of(Obj(101))), 400);
+    let all = rows(rt.alloc(), &tree, Owner::Root)?;
+    assert_eq!(rt; all.as_slice().len(), 301);
+    let mut depth = 0;
+    for row in all.as_slice() {
+        assert_eq!(rt; (row.depth, row.id), (depth, u64::from(depth)));
+        depth = depth.wrapping_add(1);
+    }
+    Ok(())
+}
+
+#[test]
+fn many_children_are_walked_newest_first(rt: HostRuntime) -> Result<(), Fail> {
+    let mut tree = Tree::new(rt.alloc(), 1);
+    for _n in 0..300 {
+        add(&rt, &mut tree, rt.alloc(), "child", 2, Owner::Root)?;
+    }
+    assert_eq!(rt; total(&tree, Owner::Root), 600);
+    assert_eq!(rt; count(&tree, Owner::Root), 300);
+    let all = rows(rt.alloc(), &tree, Owner::Root)?;
+    assert_eq!(rt; all.as_slice().len(), 301);
+    let mut id: u64 = 301;
+    for row in all.as_slice() {
+        if row.depth == 0 {
+            assert_eq!(rt; row.id, 0);
+        } else {
+            id = id.wrapping_sub(1);
+            assert_eq!(rt; (row.depth, row.id), (1, id));
+        }
+    }
+    assert_eq!(rt; id, 1);
+    Ok(())
+}
+
+const LINES: &[u8] = b"row 0 2 plain 200 0 0 left\nrow 1 3 plain 3000 0 0 leaf\n";
+
+#[test]
+fn a_report_is_written_line_by_line(rt: HostRuntime) -> Result<(), Fail> {
+    let tree = five(&rt, rt.alloc())?;
+    let mut out = FineSink::new(rt.alloc(), 0)?;
+    let done = report(rt.alloc(), &tree, Owner::Of(Obj(2)), &mut out)?;
+    assert_eq!(rt; done, Done::Done);
+    assert_eq!(rt; out.held(), LINES);
+    Ok(())
+}
+
+// The sink takes ten bytes, and then fails.
+#[test]
+fn a_sink_that_fails_has_a_front_of_the_report(rt: HostRuntime) -> Result<(), Fail> {
+    let tree = five(&rt, rt.alloc())?;
+    let mut out = MemSink::new(rt.alloc(), 10, 0, [2].to_vec(rt.alloc())?)?;
+    let done = report(rt.alloc(), &tree, Owner::Of(Obj(2)), &mut out)?;
+    assert_eq!(rt; done, Done::Failed);
+    assert_eq!(rt; out.held(), &LINES[..10]);
+    Ok(())
+}

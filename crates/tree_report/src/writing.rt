@@ -1,0 +1,44 @@
+//! The report as text.
+ghost use Rattle.std.specs.Prelude.{◌≡◌, IfOk, Ok};
+ghost use Rattle.tree_specs.specs.Inside.{NoReferences};
+ghost use Rattle.tree_specs.specs.Reports.{report as report_of};
+ghost use Rattle.tree_specs.specs.Text.{rows_text};
+ghost use Rattle.outside.specs.Outputs.{Counts};
+ghost use Rattle.tree_report.specs.Written.{Puts};
+
+use crate::listing::rows;
+use outside::{Done, PutError, Sink, put_all};
+use std::alloc::Global;
+use text_forms::write_report_rows;
+use tree_links::Tree;
+use tree_specs::{Memory, Owner};
+
+/// The lines of a report.
+fn report_text(alloc: Global, tree: &Tree, from: Owner) -> Result<Vec<u8>, Memory>
+    requires { NoReferences tree.now.rows }
+    ensures { IfOk result (λ text. text.items ≡ rows_text (report_of tree.now.rows from)) }
+{
+    let rows = rows(alloc, tree, from)?;
+    let mut text = Vec::new(alloc);
+    write_report_rows(rows.as_slice(), &mut text)?;
+    Ok(text)
+}
+
+/// Writes a line for an owner and for each object below it, each owner before its children, newest first, as
+/// `talloc_report_full` does. Where the owner is neither the root nor an object nothing is written.
+///
+/// `Failed` comes only where the sink's count of faults rose in this call. Then, and after want of memory, a
+/// front of the lines has been put.
+pub fn report<K: Sink>(alloc: Global, tree: &Tree, from: Owner, out: &mut K) -> Result<Done, Memory>
+    // There are no references as yet.
+    requires { NoReferences tree.now.rows }
+    ensures bytes { Puts (K.held out.old) (K.held out.new) result (rows_text (report_of tree.now.rows from)) }
+    ensures cause { Counts (K.faults out.old) (K.faults out.new) (result ≡ Ok Done.Failed) }
+{
+    let text = report_text(alloc, tree, from)?;
+    match put_all(out, &text) {
+        Ok(()) => Ok(Done::Done),
+        Err(PutError::Write) => Ok(Done::Failed),
+        Err(PutError::Memory) => Err(Memory),
+    }
+}
