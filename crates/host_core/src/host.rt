@@ -114,6 +114,7 @@ impl Host {
     ghost use Rattle.tree_specs.specs.declared.object.Owner.TheVariants.{Of as At};
     ghost use Rattle.std.specs.Option.{option_map};
     ghost use Rattle.tree_specs.specs.Pool.{row_of, is_row, is_inside as inside};
+    ghost use Rattle.tree_specs.specs.Sound.{Sound};
     ghost use Rattle.host_core.specs.Promises.{Waits, NextLaw, TakesAnswer};
 
     /// A host with no objects, whose first one gets the number `first`. It waits for a call.
@@ -154,7 +155,12 @@ impl Host {
 
     /// How many objects are live.
     pub fn live(&self) -> u64
-        ensures { result ≡ length self.now.pool.rows }
+        ensures count { result ≡ length self.now.pool.rows }
+
+        // At every moment, between two events too: each number stands once and below the next one, each owner is
+        // the root or a live object, from owner to owner one comes to an end, and each dying object is in exactly
+        // one open free.
+        ensures sound { Sound self.now.innermost self.now.below self.now.pool }
     {
         self.tree.len() as u64
     }

@@ -17,13 +17,6 @@ use Rattle.tree_specs.proofs.Rooted.{AllOwned-new, AllOwned-placed, AllOwned-cha
 use Rattle.tree_links.specs.Links.{AllFit, IsTree}
 use Rattle.tree_links.specs.Found.{StandsAt}
 
-pub empty-tree : (next : ℕ) → IsTree [] next
-empty-tree next = record { distinct = tt; fit = tt; few = omega arith; owned = tt; rooted = none }
-  where
-    none : Rooted []
-    none Root = refl
-    none (Of x) = refl
-
 -- ---- a new row
 
 fit-more : (next : ℕ) (rs : List Row) → AllFit next rs → AllFit (next + 1) rs

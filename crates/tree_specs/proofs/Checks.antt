@@ -10,14 +10,14 @@ use Rattle.tree_specs.specs.declared.row.Mark.TheVariants.{Quiet, Asked, Busy, D
 use Rattle.tree_specs.specs.declared.call.Call.{Call}
 use Rattle.tree_specs.specs.declared.call.Call.TheVariants as call
 use Rattle.tree_specs.specs.declared.reply.Refusal.{Refusal}
-use Rattle.tree_specs.specs.declared.reply.Refusal.TheVariants.{NotParent}
+use Rattle.tree_specs.specs.declared.reply.Refusal.TheVariants.{NotParent, Loop}
 use Rattle.tree_specs.specs.Objects.{same_owner}
 use Rattle.tree_specs.specs.declared.question.Input.{Input}
 use Rattle.tree_specs.specs.declared.question.Input.TheVariants as input
 use Rattle.tree_specs.specs.declared.frame.Frame.{Frame}
 use Rattle.tree_specs.specs.declared.frame.Frame.TheVariants as frame
 use Rattle.tree_specs.specs.declared.frame.CallFrame.TheVariants.{Doing}
-use Rattle.tree_specs.specs.Pool.{Pool, row_of, is_owner, is_below, owner_of, is_dying_row, reaches}
+use Rattle.tree_specs.specs.Pool.{Pool, row_of, is_owner, is_below, owner_of, is_dying_row, reaches, is_inside}
 use Rattle.tree_specs.specs.Calls.{Check, refuse_if, refusals, small, object, owner, room, staying, apart, placing, given_by}
 use Rattle.tree_specs.specs.Sound.{IsLive}
 use Rattle.tree_specs.specs.Soundness.{is_sound_call}
@@ -51,6 +51,8 @@ pub record MayBePlaced (p : Pool) (o : Owner) (x : Obj) : Type 0 where
   pub is : row_of p.rows x ≡ Some row
   pub live : IsLive row.mark
   pub apart : o ≢ Of x
+  pub there : is_owner p.rows o ≡ true
+  pub outside : is_inside p.rows o (Of x) ≡ false
 
 -- an object that exists
 pub passes-object : (p : Pool) (x : Obj) → object p x ≡ [] → (r : Row) × (row_of p.rows x ≡ Some r)
@@ -84,15 +86,24 @@ apart-owner p x o e = λ same_as. (
     first zero t = t
     first (suc n) t = rw t refl
 
-may-be : (p : Pool) (o : Owner) (x : Obj) → object p x ≡ [] → staying p x ≡ [] → apart p x o ≡ [] → MayBePlaced p o x
-may-be p o x e s a = let r = passes-object p x e in record { row = r.0; is = r.1; live = live-row p x r.0 r.1 s; apart = apart-owner p x o a }
+may-be : (p : Pool) (o : Owner) (x : Obj) → object p x ≡ [] → owner p o ≡ [] → staying p x ≡ [] → apart p x o ≡ [] → MayBePlaced p o x
+may-be p o x e own s a =
+    let r = passes-object p x e in
+    record {
+      row = r.0;
+      is = r.1;
+      live = live-row p x r.0 r.1 s;
+      apart = apart-owner p x o a;
+      there = not-false _ (refuse_if-none _ _ own);
+      outside = refuse_if-none (is_inside p.rows o (Of x)) (Loop x o) a;
+    }
 
 pub passes-placing : (p : Pool) (o : Owner) (x : Obj) → placing p o x ≡ [] → MayBePlaced p o x
 passes-placing p o x e =
     let a = both-none (object p x) (owner p o ++ (staying p x ++ apart p x o)) e in
     let b = both-none (owner p o) (staying p x ++ apart p x o) a.1 in
     let c = both-none (staying p x) (apart p x o) b.1 in
-    may-be p o x a.0 c.0 c.1
+    may-be p o x a.0 b.0 c.0 c.1
 
 pub passes-reparent : (p : Pool) (from to : Owner) (x : Obj) → refusals p (call.Reparent from to x) ≡ [] → MayBePlaced p to x
 passes-reparent p from to x e =
@@ -100,7 +111,7 @@ passes-reparent p from to x e =
     let b = both-none (owner p from) (owner p to ++ (staying p x ++ given_by p from to x)) a.1 in
     let c = both-none (owner p to) (staying p x ++ given_by p from to x) b.1 in
     let d = both-none (staying p x) (given_by p from to x) c.1 in
-    may-be p to x a.0 d.0 (given (is_below (owner_of p.rows x) from) d.1)
+    may-be p to x a.0 c.0 d.0 (given (is_below (owner_of p.rows x) from) d.1)
   where
     given : (b : Bool) → cond b (apart p x to) (NotParent x from ∷ []) ≡ [] → apart p x to ≡ []
     given true e = e

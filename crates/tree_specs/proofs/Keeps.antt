@@ -34,6 +34,8 @@ use Rattle.tree_specs.specs.Table.{table, step, lifted, begin_step, last_step, l
 use Rattle.tree_specs.specs.Sound.{Owned, Shaped, ValidAt, Distinct, Phase, InRun, InLoop, phase_of, phases, claim_if, loop_claim, claim, claims, AllWait, IsLive, Rests, Sound}
 use Rattle.tree_specs.proofs.Numbered.{by_test, same-true, same-equal, same-false, same_or_not}
 use Rattle.tree_specs.proofs.Rows.{row_of-serial, row_of-changed-other, row_of-changed-same, row_of-without-other, row_of-without-same, Distinct-without, Distinct-changed, first_kid-owner}
+use Rattle.tree_specs.specs.Ancestry.{AllOwned, Rooted}
+use Rattle.tree_specs.proofs.Rooted.{AllOwned-new, AllOwned-placed, AllOwned-changed, AllOwned-left, AllOwned-without, Rooted-new, Rooted-placed, Rooted-changed, Rooted-left, Rooted-without}
 use Rattle.tree_specs.proofs.Checks.{passes, MayBePlaced, passes-placing, passes-reparent, passes-object, taken-doing}
 
 -- a fact on each object, where one row was changed
@@ -107,6 +109,8 @@ goes_on f f' fs p e h s = record {
   started = s.started;
   distinct = s.distinct;
   valid = s.valid;
+  owned = s.owned;
+  rooted = s.rooted;
   waiting = s.waiting;
   rests = h;
   open_frees = λ x. ap (λ (l : List Phase). l ++ claims x fs) (e x) ∙ s.open_frees x;
@@ -120,18 +124,18 @@ asking fs p (suc k) s = λ i g e.
 
 -- a work that ends leaves the work below it sound
 ended : (fs : List Frame) (p : Pool) (k : ℕ) → 0 < p.next → Distinct p.rows → ((x : Obj) → ValidAt p.next (row_of p.rows x) x)
-    → ((x : Obj) → claims x fs ≡ phases (row_of p.rows x)) → AllWait fs → KeptBy (Do.Done Ok p) fs k
-ended [] p k z d v o w = tt
-ended (frame.Call (Awaiting x) ∷ fs) p k z d v o w = record { started = z; distinct = d; valid = v; open_frees = o; waiting = w.1; rests = tt }
-ended (frame.Free (Trying x c purpose) ∷ fs) p k z d v o w = record { started = z; distinct = d; valid = v; open_frees = o; waiting = w.1; rests = (refl, w.0) }
-ended (frame.Call Asking ∷ fs) p k z d v o w = absurd w.0
-ended (frame.Call (Doing c) ∷ fs) p k z d v o w = absurd w.0
-ended (frame.Call (Telling r) ∷ fs) p k z d v o w = absurd w.0
-ended (frame.Free (Beginning x) ∷ fs) p k z d v o w = absurd w.0
-ended (frame.Free (Leaving x) ∷ fs) p k z d v o w = absurd w.0
-ended (frame.Free (Looping x purpose) ∷ fs) p k z d v o w = absurd w.0
-ended (frame.Free (Tried x c purpose a) ∷ fs) p k z d v o w = absurd w.0
-ended (frame.Free (Ending b) ∷ fs) p k z d v o w = absurd w.0
+    → AllOwned p.rows → Rooted p.rows → ((x : Obj) → claims x fs ≡ phases (row_of p.rows x)) → AllWait fs → KeptBy (Do.Done Ok p) fs k
+ended [] p k z d v q t o w = tt
+ended (frame.Call (Awaiting x) ∷ fs) p k z d v q t o w = record { started = z; distinct = d; valid = v; owned = q; rooted = t; open_frees = o; waiting = w.1; rests = tt }
+ended (frame.Free (Trying x c purpose) ∷ fs) p k z d v q t o w = record { started = z; distinct = d; valid = v; owned = q; rooted = t; open_frees = o; waiting = w.1; rests = (refl, w.0) }
+ended (frame.Call Asking ∷ fs) p k z d v q t o w = absurd w.0
+ended (frame.Call (Doing c) ∷ fs) p k z d v q t o w = absurd w.0
+ended (frame.Call (Telling r) ∷ fs) p k z d v q t o w = absurd w.0
+ended (frame.Free (Beginning x) ∷ fs) p k z d v q t o w = absurd w.0
+ended (frame.Free (Leaving x) ∷ fs) p k z d v q t o w = absurd w.0
+ended (frame.Free (Looping x purpose) ∷ fs) p k z d v q t o w = absurd w.0
+ended (frame.Free (Tried x c purpose a) ∷ fs) p k z d v q t o w = absurd w.0
+ended (frame.Free (Ending b) ∷ fs) p k z d v q t o w = absurd w.0
 
 -- ---- freeing
 
@@ -146,6 +150,8 @@ leaving x fs p k s =
     record {
       started = s.started;
       distinct = Distinct-changed left_row p.rows x (λ q. refl) s.distinct;
+      owned = AllOwned-left p.rows x s.owned;
+      rooted = Rooted-left p.rows x s.rooted;
       valid = valid-at p.next p.rows (changed left_row p.rows x) x s.valid (λ y ne. row_of-changed-other left_row p.rows x y (λ q. refl) ne)
           (rw new (v.0, v.1, left r.owner (subst (λ (m : Mark). Shaped m r.owner x) s.rests.2 v.2)));
       open_frees = frees-at (frame.Free (Leaving x)) (frame.Free (Looping x Removal)) fs fs p.rows (changed left_row p.rows x) x s.open_frees
@@ -161,8 +167,8 @@ leaving x fs p k s =
     left None h = absurd h
 
 -- the last child is gone, and the object is removed
-removed : (x : Obj) (fs : List Frame) (p : Pool) → Sound (frame.Free (Looping x Removal)) fs p → Sound (frame.Free (Ending Ok)) fs (remove p x)
-removed x fs p s =
+removed : (x : Obj) (fs : List Frame) (p : Pool) → first_kid p.rows (Of x) ≡ None → Sound (frame.Free (Looping x Removal)) fs p → Sound (frame.Free (Ending Ok)) fs (remove p x)
+removed x fs p alone s =
     let self : same x x ≡ true = same-equal x x refl in
     let row = dying-row (row_of p.rows x) (claims x fs) (claim-here x InLoop (claims x fs) (row_of p.rows x) (s.open_frees x)) in
     let none : claims x fs ≡ [] = row.4 in
@@ -170,6 +176,8 @@ removed x fs p s =
     record {
       started = s.started;
       distinct = Distinct-without p.rows x s.distinct;
+      owned = AllOwned-without p.rows x s.owned alone;
+      rooted = Rooted-without p.rows x s.distinct s.rooted;
       valid = valid-at p.next p.rows (without p.rows x) x s.valid (λ y ne. row_of-without-other p.rows x y ne) (rw gone tt);
       open_frees = frees-at (frame.Free (Looping x Removal)) (frame.Free (Ending Ok)) fs fs p.rows (without p.rows x) x s.open_frees (λ y ne. row_of-without-other p.rows x y ne)
           (λ y ne. let u : same x y ≡ false = same-false x y ne in rw u refl) (rw (none, gone) refl);
@@ -180,16 +188,18 @@ removed x fs p s =
 looping : (x : Obj) (purpose : Purpose) (fs : List Frame) (p : Pool) (k : ℕ) → Sound (frame.Free (Looping x purpose)) fs p → KeptBy (step (frame.Free (Looping x purpose)) p) fs k
 looping x purpose fs p k s = each (first_kid p.rows (Of x)) refl
   where
-    last : (purpose : Purpose) → Sound (frame.Free (Looping x purpose)) fs p → KeptBy (lifted (last_step x purpose p)) fs k
-    last Removal s = removed x fs p s
-    last Emptying s = ended fs p k s.started s.distinct s.valid s.open_frees s.waiting
+    last : (purpose : Purpose) → first_kid p.rows (Of x) ≡ None → Sound (frame.Free (Looping x purpose)) fs p → KeptBy (lifted (last_step x purpose p)) fs k
+    last Removal e s = removed x fs p e s
+    last Emptying e s = ended fs p k s.started s.distinct s.valid s.owned s.rooted s.open_frees s.waiting
 
     each : (o : Option Obj) → first_kid p.rows (Of x) ≡ o → KeptBy (lifted (loop_step x purpose (first_kid p.rows (Of x)) p)) fs k
-    each None e = rw e (last purpose s)
+    each None e = rw e (last purpose e s)
     each (Some c) e = rw e (record {
       started = s.started;
       distinct = s.distinct;
       valid = s.valid;
+      owned = s.owned;
+      rooted = s.rooted;
       open_frees = s.open_frees;
       waiting = (s.rests, s.waiting);
       rests = (refl, first_kid-owner p.rows (Of x) c s.distinct e);
@@ -205,7 +215,7 @@ beginning : (x : Obj) (fs : List Frame) (p : Pool) (k : ℕ) → Sound (frame.Fr
 beginning x fs p k s = each (row_of p.rows x) refl
   where
     over : KeptBy (Do.Done Ok p) fs k
-    over = ended fs p k s.started s.distinct s.valid s.open_frees s.waiting
+    over = ended fs p k s.started s.distinct s.valid s.owned s.rooted s.open_frees s.waiting
 
     found : (r : Row) → row_of p.rows x ≡ Some r → KeptBy (lifted (begin_step x (row_of p.rows x) p)) fs k
     found r e = elim (settled-row x fs r (s.open_frees x ∙ ap phases e)) [
@@ -237,7 +247,7 @@ owned-row p c o valid e = each (row_of p.rows c) refl
         (r, h, live r.mark r.owner w v.2)
 
 ending : (a : Answer) (fs : List Frame) (p : Pool) (k : ℕ) → Sound (frame.Free (Ending a)) fs p → KeptBy (step (frame.Free (Ending a)) p) fs k
-ending Ok fs p k s = ended fs p k s.started s.distinct s.valid s.open_frees s.waiting
+ending Ok fs p k s = ended fs p k s.started s.distinct s.valid s.owned s.rooted s.open_frees s.waiting
 ending Running fs p k s = let e : Running ≡ Ok = s.rests in cc
 
 -- ---- calls
@@ -252,6 +262,8 @@ new-sound f f' o size name fs p s e claim-same h =
     record {
       started = omega arith;
       distinct = (none, s.distinct);
+      owned = AllOwned-new p.rows n Plain o size name s.owned e;
+      rooted = Rooted-new p.rows n Plain o size name s.rooted s.owned none e;
       valid = λ y. by_test (same n y)
           (λ z. let q : n ≡ y = same-true n y z in rw z (subst (λ (v : Obj). (0 < v.0) × (v.0 < p.next + 1) × (o ≢ Of v)) q (s.started, omega arith, ne)))
           (λ z. rw z (higher (row_of p.rows y) y (s.valid y)));
@@ -303,6 +315,8 @@ placed-sound f f' o x fs p s may claim-same h =
     record {
       started = s.started;
       distinct = rw rows (ap (row_of (without p.rows x)) at ∙ gone, Distinct-without p.rows x s.distinct);
+      owned = AllOwned-placed p o x r s.owned may.is may.there;
+      rooted = Rooted-placed p o x r s.rooted may.is may.outside;
       valid = valid-at p.next p.rows (place p o x).rows x s.valid other (rw here (v.0, v.1, owned-shape r.mark o x may.live may.apart));
       open_frees = frees-at f f' fs fs p.rows (place p o x).rows x s.open_frees other (λ y ne. ap (λ (l : List Phase). l ++ claims y fs) (claim-same y))
           (ap (λ (l : List Phase). l ++ claims x fs) (claim-same x) ∙ s.open_frees x ∙ ap phases may.is ∙ sym (ap phases here));
@@ -321,6 +335,8 @@ named-sound f f' x name fs p s r is claim-same h =
     record {
       started = s.started;
       distinct = Distinct-changed (named_row name) p.rows x (λ q. refl) s.distinct;
+      owned = AllOwned-changed (named_row name) p.rows x (λ q. refl) (λ q. refl) s.owned;
+      rooted = Rooted-changed (named_row name) p.rows x (λ q. refl) (λ q. refl) s.rooted;
       valid = valid-at p.next p.rows rows x s.valid other (rw here v);
       open_frees = frees-at f f' fs fs p.rows rows x s.open_frees other (λ y ne. ap (λ (l : List Phase). l ++ claims y fs) (claim-same y))
           (ap (λ (l : List Phase). l ++ claims x fs) (claim-same x) ∙ s.open_frees x ∙ ap phases is ∙ sym (ap phases here));
@@ -342,11 +358,11 @@ effected (call.Rename x name) fs p k s none =
     let r = passes-object p x none in
     named-sound (frame.Call (Doing (call.Rename x name))) (frame.Call (Telling reply.Ok)) x name fs p s r.0 r.1 (λ y. refl) tt
 effected (call.Parent x) fs p k s none = told (call.Parent x) (owner_reply (owner_of p.rows x)) fs p s
-effected (call.Freekids x) fs p k s none = record { started = s.started; distinct = s.distinct; valid = s.valid; open_frees = s.open_frees; waiting = (tt, s.waiting); rests = tt }
+effected (call.Freekids x) fs p k s none = record { started = s.started; distinct = s.distinct; valid = s.valid; owned = s.owned; rooted = s.rooted; open_frees = s.open_frees; waiting = (tt, s.waiting); rests = tt }
 effected (call.Total o) fs p k s none = told (call.Total o) (reply.Number (size_inside p.rows o)) fs p s
 effected (call.Count o) fs p k s none = told (call.Count o) (reply.Number (count_inside p.rows o)) fs p s
 effected (call.Report o) fs p k s none = told (call.Report o) (reply.Rows (report p.rows o)) fs p s
-effected (call.Free x) fs p k s none = record { started = s.started; distinct = s.distinct; valid = s.valid; open_frees = s.open_frees; waiting = (tt, s.waiting); rests = tt }
+effected (call.Free x) fs p k s none = record { started = s.started; distinct = s.distinct; valid = s.valid; owned = s.owned; rooted = s.rooted; open_frees = s.open_frees; waiting = (tt, s.waiting); rests = tt }
 
 doing : (c : Call) (fs : List Frame) (p : Pool) (k : ℕ) → Sound (frame.Call (Doing c)) fs p → KeptBy (step (frame.Call (Doing c)) p) fs k
 doing c fs p k s = each (refusals p c) refl

@@ -113,6 +113,11 @@ AllOwned-without rs x a e = owners-without (without rs x) rs x (owners-no_kid rs
 
 -- ---- what keeps that all ways end
 
+-- where there are no rows
+pub Rooted-none : Rooted []
+Rooted-none Root = refl
+Rooted-none (Of x) = refl
+
 -- a way whose objects have the same owners in other rows ends in those too
 ends-same : (rs rs' : List Row) (k : ℕ) (o : Option Owner)
     → ((n : ℕ) (y : Obj) → reaches n rs o (Of y) ≡ true → owner_of rs' y ≡ owner_of rs y) → ends k rs o ≡ true → ends k rs' o ≡ true

@@ -18,6 +18,7 @@ use Rattle.tree_specs.specs.Story.{asked, turns, story, items}
 use Rattle.tree_specs.specs.Table.{table, notes}
 use Rattle.tree_specs.specs.View.{View, begin, rest_of}
 use Rattle.tree_specs.specs.Whole.{Whole}
+use Rattle.tree_specs.proofs.Rooted.{Rooted-none}
 use Rattle.tree_specs.proofs.Load.{cost-turns}
 use Rattle.tree_specs.proofs.Means.{noted_table, run-means}
 use Rattle.tree_specs.proofs.Rest.{outcome, rest-enough, not-short, ends-asked}
@@ -25,7 +26,7 @@ use Rattle.tree_specs.proofs.Rest.{outcome, rest-enough, not-short, ends-asked}
 -- a host at its beginning
 pub begin-whole : (first : ℕ) → 1 ≤ first → Whole (begin first)
 begin-whole first h = record {
-  sound = record { started = omega arith; distinct = tt; valid = λ x. tt; open_frees = λ x. refl; waiting = tt; rests = tt };
+  sound = record { started = omega arith; distinct = tt; valid = λ x. tt; owned = tt; rooted = Rooted-none; open_frees = λ x. refl; waiting = tt; rests = tt };
   based = tt;
   light = omega arith;
   plain = tt;

@@ -15,6 +15,7 @@ use Rattle.tree_specs.specs.declared.frame.Purpose.TheVariants.{Removal, Emptyin
 use Rattle.tree_specs.specs.declared.frame.Answer.TheVariants.{Ok}
 use Rattle.tree_specs.specs.Objects.{same}
 use Rattle.tree_specs.specs.Pool.{Pool, row_of, owner_of}
+use Rattle.tree_specs.specs.Ancestry.{AllOwned, Rooted}
 
 -- an owner or a former owner is another object; a dying row has no owner, and every other one has
 abbrev pub Owned : Option Owner → Obj → Type 0
@@ -138,6 +139,9 @@ pub record Sound (f : Frame) (fs : List Frame) (p : Pool) : Type 0 where
   pub started : 0 < p.next
   pub distinct : Distinct p.rows
   pub valid : (x : Obj) → ValidAt p.next (row_of p.rows x) x
+  -- the owner of each row is the root or a row, and from owner to owner one comes to an end
+  pub owned : AllOwned p.rows
+  pub rooted : Rooted p.rows
   -- each dying row is in exactly one open free, and no other row is
   pub open_frees : (x : Obj) → claim x f ++ claims x fs ≡ phases (row_of p.rows x)
   pub waiting : AllWait fs
