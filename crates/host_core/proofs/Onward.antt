@@ -28,7 +28,7 @@ use Rattle.tree_specs.specs.Pool.{Pool}
 use Rattle.tree_specs.specs.Items.{Item, IsQuestion}
 use Rattle.tree_specs.specs.Items.Item.{Told, Asked}
 use Rattle.tree_specs.specs.Calls.{Check, refusals}
-use Rattle.tree_specs.specs.Table.{table, step, taken, doing, lifted, free_step, call_step}
+use Rattle.tree_specs.specs.Table.{table, step, doing, lifted, free_step, call_step}
 use Rattle.tree_specs.specs.Inside.{total}
 use Rattle.tree_specs.specs.Soundness.{is_sound_call, is_sound}
 use Rattle.tree_specs.specs.Measure.{cost, pending}
@@ -38,7 +38,6 @@ use Rattle.tree_specs.proofs.StoryLaws.{begin-whole}
 use Rattle.tree_specs.specs.Whole.{Whole}
 use Rattle.tree_specs.specs.Story.{heard}
 use Rattle.tree_specs.proofs.Falls.{Room, lower}
-use Rattle.tree_specs.proofs.Load.{pending-most}
 use Rattle.tree_specs.proofs.Rest.{event-whole, event-items, question-whole, question-items, open-items, begins-items, ends-asked, silent-whole, silent-law, no-end, waits-asking, view_of_state}
 use Rattle.step_machine.specs.Machine.{items as told_by}
 use Rattle.tree_links.specs.Links.{Links, pool_of}
