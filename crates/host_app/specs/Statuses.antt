@@ -15,6 +15,15 @@ status_of (rans.BadSchedule line reason) = statuses.BadSchedule line reason
 status_of rans.WriteFault = statuses.WriteFault
 status_of rans.Memory = statuses.NoMemory
 
+-- the number that the program ends with
+abbrev pub status_number : Status → ℕ
+status_number statuses.Done = 0
+status_number statuses.ReadFault = 1
+status_number statuses.Usage = 2
+status_number (statuses.BadSchedule line reason) = 3
+status_number statuses.WriteFault = 4
+status_number statuses.NoMemory = 6
+
 -- what follows the number of a refused line
 abbrev pub reason_text : Reason → List ℕ
 reason_text Limit = codes ": limit\n"

@@ -1,6 +1,7 @@
 //! What the program says of its status on standard error.
 ghost use Rattle.std.specs.Prelude.{◌≡◌, Err, length};
-ghost use Rattle.outside.specs.Outputs.{PutsAll, Counts, LeavesRoom};
+ghost use Rattle.outside.specs.Causes.{Counts};
+ghost use Rattle.outside.specs.Outputs.{PutsAll, LeavesRoom};
 ghost use Rattle.host_app.specs.Statuses.{reason_text, line_text, status_text};
 
 use crate::status::Status;

@@ -1,5 +1,5 @@
 ghost use Rattle.std.specs.Prelude.{◌≡◌};
-ghost use Rattle.host_app.specs.Statuses.{status_of};
+ghost use Rattle.host_app.specs.Statuses.{status_of, status_number};
 
 use schedule_replay::Ran;
 use tree_specs::Reason;
@@ -19,6 +19,22 @@ pub enum Status {
     WriteFault,
     /// There was no memory. Status 6.
     NoMemory,
+}
+
+impl Status {
+    /// The number that the program ends with.
+    pub fn number(self) -> u8
+        ensures { result ≡ status_number self }
+    {
+        match self {
+            Status::Done => 0,
+            Status::ReadFault => 1,
+            Status::Usage => 2,
+            Status::BadSchedule { .. } => 3,
+            Status::WriteFault => 4,
+            Status::NoMemory => 6,
+        }
+    }
 }
 
 impl From<Ran> for Status {

@@ -1,11 +1,11 @@
 -- Bytes that are put one part after another.
-use Rattle.std.proofs.Common.{◌≡◌, ℕ, ◌+◌, ◌≤◌, ◌<◌, List, ◌++◌, take, drop, length, min, Option, Some, None, Result, Ok, Err, arith, length-append}
+use Rattle.std.proofs.Common.{ℕ, ◌+◌, ◌≤◌, List, ◌++◌, take, drop, length, min, Option, Some, None, Result, Ok, Err, arith}
 use Rattle.std.specs.Io.KnownBytes.{Appends}
 use Rattle.std.proofs.KnownBytes.{Appends-trans}
 use Rattle.std.proofs.Math.Seq.{take-add, take-append-add}
 use Rattle.std.proofs.lemmas.List.{take-append-le, take_min}
 use Rattle.outside.specs.Puts.{LosesAtMost, IsBeyond}
-use Rattle.outside.specs.Outputs.{PutsFront, PutsAll, LeavesRoom}
+use Rattle.outside.specs.Outputs.{PutsAll, LeavesRoom}
 use Rattle.outside.specs.declared.output.PutError.{PutError}
 use Rattle.outside.specs.declared.output.PutError.TheVariants as errors
 

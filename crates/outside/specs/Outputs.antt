@@ -1,7 +1,6 @@
 -- Bytes that are put to a sink in as many puts as it needs.
-use Rattle.std.specs.Prelude.{◌≡◌, ℕ, ◌≤◌, List, take, Option, Result, Ok, Err}
+use Rattle.std.specs.Prelude.{ℕ, List, take, Option, Result, Ok, Err}
 use Rattle.std.specs.Io.KnownBytes.{Appends}
-use Rattle.outside.specs.Causes.{Rose}
 use Rattle.outside.specs.Puts.{LosesAtMost, IsBeyond}
 use Rattle.outside.specs.declared.output.PutError.{PutError}
 use Rattle.outside.specs.declared.output.PutError.TheVariants as errors
@@ -14,11 +13,6 @@ PutsFront old new bytes = (n : ℕ) × Appends old new (take n bytes)
 abbrev pub PutsAll : Option (List ℕ) → Option (List ℕ) → Result (Unit {0}) PutError → List ℕ → Type 0
 PutsAll old new (Ok done) bytes = Appends old new bytes
 PutsAll old new (Err e) bytes = PutsFront old new bytes
-
--- a count has not fallen, and it has risen where this came
-pub record Counts (before now : ℕ) (fault : Type 0) : Type 0 where
-  pub later : before ≤ now
-  pub counted : fault → Rose before now
 
 -- so many bytes use up the room, and memory is wanted only where they are more than the room
 abbrev pub LeavesRoom : Option ℕ → Option ℕ → Result (Unit {0}) PutError → ℕ → Type 0

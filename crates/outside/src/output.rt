@@ -1,5 +1,6 @@
 ghost use Rattle.std.specs.Prelude.{◌≡◌, Err, length};
-ghost use Rattle.outside.specs.Outputs.{PutsAll, Counts, LeavesRoom};
+ghost use Rattle.outside.specs.Causes.{Counts};
+ghost use Rattle.outside.specs.Outputs.{PutsAll, LeavesRoom};
 
 use crate::sink::{Put, Sink};
 use tree_specs::Memory;

@@ -1,8 +1,8 @@
 //! Replaying what a source gives into what a sink takes.
 ghost use Rattle.std.specs.Prelude.{◌≡◌, ◌≤◌, ◌+◌, ◌⊎◌, [], None, Err, IfSome, OnOk, length};
 ghost use Rattle.tree_specs.specs.Schedule.{judge};
-ghost use Rattle.outside.specs.Causes.{Rose};
-ghost use Rattle.outside.specs.Outputs.{PutsAll, Counts};
+ghost use Rattle.outside.specs.Causes.{Rose, Counts};
+ghost use Rattle.outside.specs.Outputs.{PutsAll};
 ghost use Rattle.schedule_replay.specs.Readings.{IsReady, room_left};
 ghost use Rattle.schedule_replay.specs.States.{reading_of};
 ghost use Rattle.schedule_replay.specs.Passes.{PassesPiece, PassesEnd};

@@ -3,7 +3,7 @@ ghost use Rattle.std.specs.Prelude.{◌≡◌, IfOk, Ok};
 ghost use Rattle.tree_specs.specs.Inside.{NoReferences};
 ghost use Rattle.tree_specs.specs.Reports.{report as report_of};
 ghost use Rattle.tree_specs.specs.Text.{rows_text};
-ghost use Rattle.outside.specs.Outputs.{Counts};
+ghost use Rattle.outside.specs.Causes.{Counts};
 ghost use Rattle.tree_report.specs.Written.{Puts};
 
 use crate::listing::rows;

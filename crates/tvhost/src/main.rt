@@ -10,18 +10,6 @@ use std::{env, io};
 /// The status number of the program for its words that the runtime refuses.
 const NO_WORDS: u8 = 8;
 
-/// The number that the program ends with.
-fn number(status: Status) -> u8 {
-    match status {
-        Status::Done => 0,
-        Status::ReadFault => 1,
-        Status::Usage => 2,
-        Status::BadSchedule { .. } => 3,
-        Status::WriteFault => 4,
-        Status::NoMemory => 6,
-    }
-}
-
 /// The words after the program's name.
 fn words(rt: &HostRuntime) -> io::Result<Vec<String>> {
     let words = env::args(rt)?;
@@ -33,7 +21,7 @@ fn main(rt: HostRuntime) -> ExitCode {
         Ok(words) => words,
         Err(why) if why.kind() == ErrorKind::OutOfMemory => {
             let _ = rt.eprintln("no memory");
-            return ExitCode::from(number(Status::NoMemory));
+            return ExitCode::from(Status::NoMemory.number());
         }
         Err(_) => {
             let _ = rt.eprintln("no words");
@@ -44,5 +32,5 @@ fn main(rt: HostRuntime) -> ExitCode {
     let mut out = StdSink::new(io::writer(&rt));
     let mut err = StdSink::new(rt.stderr());
     let status = host_main(rt.alloc(), &words, &mut input, &mut out, &mut err);
-    ExitCode::from(number(status))
+    ExitCode::from(status.number())
 }
