@@ -1,34 +1,31 @@
 -- What follows where a call is refused, and where it isn't.
-use Rattle.std.proofs.Common.{◌≡◌, ℕ, ◌+◌, ◌-◌, ◌^◌, ◌<◌, List, [], ◌∷◌, ◌++◌, length, Bool, true, false, cond, not, Some, None, Ok, Err, refl, ap, ◌∙◌, arith}
+use Rattle.std.proofs.Common.{◌≡◌, ℕ, ◌+◌, ◌-◌, ◌^◌, ◌<◌, List, [], ◌∷◌, ◌++◌, length, Bool, true, false, not, Ok, Err, refl, arith}
 use Rattle.std.proofs.lemmas.Bool.Decides.{nat_tests}
 use Rattle.std.specs.Prelude.{nat_lt, nat_le}
-use Rattle.step_machine.specs.Machine.{Move as Do}
 use Rattle.tree_specs.specs.declared.object.Obj.{Obj}
 use Rattle.tree_specs.specs.declared.object.Owner.{Owner}
-use Rattle.tree_specs.specs.declared.object.Owner.TheVariants.{Of}
+use Rattle.tree_specs.specs.declared.question.Ask.{Ask}
 use Rattle.tree_specs.specs.declared.call.Call.{Call}
 use Rattle.tree_specs.specs.declared.call.Call.TheVariants as call
 use Rattle.tree_specs.specs.declared.reply.Refusal.{Refusal}
-use Rattle.tree_specs.specs.declared.reply.Refusal.TheVariants.{NoSuch, NotParent, Loop, Dying, Full, Spent, TooBig}
-use Rattle.tree_specs.specs.declared.reply.Reply.{Reply}
+use Rattle.tree_specs.specs.declared.reply.Refusal.TheVariants.{NoSuch, Full, Spent, TooBig}
 use Rattle.tree_specs.specs.declared.reply.Reply.TheVariants as reply
-use Rattle.tree_specs.specs.declared.frame.Frame.TheVariants as frame
-use Rattle.tree_specs.specs.declared.frame.CallFrame.TheVariants.{Telling}
 use Rattle.tree_specs.specs.Objects.{owner_number}
-use Rattle.tree_specs.specs.Pool.{Pool, is_row, is_owner, is_below, owner_of, is_dying, is_inside}
-use Rattle.tree_specs.specs.Calls.{Check, refusals, row_limit, size_limit, small, object, owner, room, staying, apart, placing, given_by, refuse_if}
-use Rattle.tree_specs.specs.Table.{call_step, effect_step, replied, doing}
-use Rattle.tree_specs.proofs.Checks.{both-none, refuse_if-none}
-use Rattle.host_core.specs.Moves.{checked, report_of, MayGo}
-use Rattle.host_core.specs.Hosts.{Begins, Calls, Replies}
+use Rattle.tree_specs.specs.Pool.{Pool, is_row, is_owner}
+use Rattle.tree_specs.specs.Calls.{Check, refusals, row_limit, size_limit, small, object, owner, room, placing, hooking, refuse_if}
+use Rattle.tree_specs.specs.Table.{call_step, effect_step, replied}
+use Rattle.tree_specs.proofs.Checks.{both-none, refuse_if-none, passes-placing, passes-reparent, passes-hooking, passes-object}
+use Rattle.tree_links.specs.Links.{MayPlace}
+use Rattle.destructors.proofs.Keeping.{placeable}
+use Rattle.host_core.specs.Moves.{checked}
 
-pub refused_step : (check : Check) (c : Call) (p : Pool) (why : Refusal) → checked check ≡ Err why → call_step check c p ≡ Do.Go (frame.Call (Telling (reply.No why))) p
-refused_step [] c p why e = cc
-refused_step (other ∷ later) c p why e = let e' : other ≡ why = cc in rw e' refl
+pub refused_step : (check : Check) (q : Ask) (c : Call) (p : Pool) (why : Refusal) → checked check ≡ Err why → call_step check q c p ≡ replied q (reply.No why) p
+refused_step [] q c p why e = cc
+refused_step (other ∷ more) q c p why e = let e' : other ≡ why = cc in rw e' refl
 
-pub allowed_step : (check : Check) (c : Call) (p : Pool) → checked check ≡ Ok tt → call_step check c p ≡ effect_step c p
-allowed_step [] c p e = refl
-allowed_step (why ∷ later) c p e = cc
+pub allowed_step : (check : Check) (q : Ask) (c : Call) (p : Pool) → checked check ≡ Ok tt → call_step check q c p ≡ effect_step q c p
+allowed_step [] q c p e = refl
+allowed_step (why ∷ more) q c p e = cc
 
 -- one check before others
 pub refused_first : (first later : Check) (why : Refusal) → checked first ≡ Err why → checked (first ++ later) ≡ Err why
@@ -84,58 +81,25 @@ small_size p o size name e = (fits p o size name e).small
 pub owned : (p : Pool) (o : Owner) (size : ℕ) (name : List ℕ) → checked (refusals p (call.New o size name)) ≡ Ok tt → is_owner p.rows o ≡ true
 owned p o size name e = (fits p o size name e).owner
 
--- ---- an object that isn't refused another place or name
+-- ---- an object that isn't refused another place, destructor or name
 
-may-go : (p : Pool) (o : Owner) (x : Obj) → object p x ≡ [] → owner p o ≡ [] → staying p x ≡ [] → apart p x o ≡ [] → MayGo p o x
-may-go p o x is own stays from = record {
-  is = not_none (is_row p.rows x) (NoSuch x.0) is;
-  live = refuse_if-none (is_dying p.rows x) (Dying x) stays;
-  owner = not_none (is_owner p.rows o) (NoSuch (owner_number o)) own;
-  apart = refuse_if-none (is_inside p.rows o (Of x)) (Loop x o) from;
-}
+pub steal_goes : (p : Pool) (o : Owner) (x : Obj) → checked (refusals p (call.Steal o x)) ≡ Ok tt → MayPlace p.rows x o
+steal_goes p o x e = placeable p o x (passes-placing p o x (none-first (placing p o x) e))
 
-placing-goes : (p : Pool) (o : Owner) (x : Obj) → placing p o x ≡ [] → MayGo p o x
-placing-goes p o x e =
-    let a = both-none (object p x) (owner p o ++ (staying p x ++ apart p x o)) e in
-    let b = both-none (owner p o) (staying p x ++ apart p x o) a.1 in
-    let c = both-none (staying p x) (apart p x o) b.1 in
-    may-go p o x a.0 b.0 c.0 c.1
+pub move_goes : (p : Pool) (o : Owner) (x : Obj) → checked (refusals p (call.Move o x)) ≡ Ok tt → MayPlace p.rows x o
+move_goes p o x e = placeable p o x (passes-placing p o x (none-first (placing p o x) e))
 
-pub steal_goes : (p : Pool) (o : Owner) (x : Obj) → checked (refusals p (call.Steal o x)) ≡ Ok tt → MayGo p o x
-steal_goes p o x e = placing-goes p o x (none-first (placing p o x) e)
+pub reparent_goes : (p : Pool) (from to : Owner) (x : Obj) → checked (refusals p (call.Reparent from to x)) ≡ Ok tt → MayPlace p.rows x to
+reparent_goes p from to x e = placeable p to x (passes-reparent p from to x (none-first (refusals p (call.Reparent from to x)) e))
 
-pub move_goes : (p : Pool) (o : Owner) (x : Obj) → checked (refusals p (call.Move o x)) ≡ Ok tt → MayGo p o x
-move_goes p o x e = placing-goes p o x (none-first (placing p o x) e)
+hooks : (p : Pool) (x : Obj) → checked (hooking p x) ≡ Ok tt → is_row p.rows x ≡ true
+hooks p x e = let may = passes-hooking p x (none-first (hooking p x) e) in rw may.is refl
 
-pub reparent_goes : (p : Pool) (from to : Owner) (x : Obj) → checked (refusals p (call.Reparent from to x)) ≡ Ok tt → MayGo p to x
-reparent_goes p from to x e =
-    let a = both-none (object p x) (owner p from ++ (owner p to ++ (staying p x ++ given_by p from to x))) (none-first (refusals p (call.Reparent from to x)) e) in
-    let b = both-none (owner p from) (owner p to ++ (staying p x ++ given_by p from to x)) a.1 in
-    let c = both-none (owner p to) (staying p x ++ given_by p from to x) b.1 in
-    let d = both-none (staying p x) (given_by p from to x) c.1 in
-    may-go p to x a.0 c.0 d.0 (given (is_below (owner_of p.rows x) from) d.1)
-  where
-    given : (b : Bool) → cond b (apart p x to) (NotParent x from ∷ []) ≡ [] → apart p x to ≡ []
-    given true e = e
-    given false e = cc
+pub hook_goes : (p : Pool) (x : Obj) (routine : ℕ) → checked (refusals p (call.Hook x routine)) ≡ Ok tt → is_row p.rows x ≡ true
+hook_goes p x routine e = hooks p x e
+
+pub unhook_goes : (p : Pool) (x : Obj) → checked (refusals p (call.Unhook x)) ≡ Ok tt → is_row p.rows x ≡ true
+unhook_goes p x e = hooks p x e
 
 pub named : (p : Pool) (x : Obj) (name : List ℕ) → checked (refusals p (call.Rename x name)) ≡ Ok tt → is_row p.rows x ≡ true
-named p x name e = not_none (is_row p.rows x) (NoSuch x.0) (none-first (object p x) e)
-
--- ---- what a call begins with
-
-pub begins_call : (c : Call) (p : Pool) → report_of c ≡ None → Begins c p (doing c)
-begins_call c p e = Calls e
-
-pub begins_reply : (c : Call) (p : Pool) (o : Owner) (r : Reply) → report_of c ≡ Some o → call_step (refusals p (call.Report o)) (call.Report o) p ≡ replied r p → Begins c p (frame.Call (Telling r))
-begins_reply (call.New o size name) p o' r e h = cc
-begins_reply (call.Free x) p o' r e h = cc
-begins_reply (call.Freekids x) p o' r e h = cc
-begins_reply (call.Steal o x) p o' r e h = cc
-begins_reply (call.Move o x) p o' r e h = cc
-begins_reply (call.Reparent from to x) p o' r e h = cc
-begins_reply (call.Rename x name) p o' r e h = cc
-begins_reply (call.Parent x) p o' r e h = cc
-begins_reply (call.Total o) p o' r e h = cc
-begins_reply (call.Count o) p o' r e h = cc
-begins_reply (call.Report o) p o' r e h = let e' : o ≡ o' = cc in Replies r (ap (λ (z : Owner). call_step (refusals p (call.Report z)) (call.Report z) p) e' ∙ h)
+named p x name e = let r = passes-object p x (none-first (object p x) e) in rw r.1 refl

@@ -1,3 +1,9 @@
 pub mod Allowed
-pub mod Steps
 pub mod Onward
+pub mod FreeSteps
+pub mod CallSteps
+pub mod Hosting
+pub mod Calling
+pub mod Stepping
+pub mod Offering
+pub mod Nexts

@@ -1,4 +1,3 @@
 pub mod Moves
-pub mod Room
 pub mod Hosts
 pub mod Promises

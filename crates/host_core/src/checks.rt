@@ -1,12 +1,12 @@
 //! What a call is refused for. The checks stand in the order in which they are tried.
 ghost use Rattle.std.specs.Prelude.{◌≡◌};
-ghost use Rattle.tree_specs.specs.Pool.{is_owner as is_owner_in, is_below, owner_of};
-ghost use Rattle.tree_specs.specs.Calls.{◌before◌, small, owner, object, room, staying, apart, placing, given_by, refusals};
+ghost use Rattle.tree_specs.specs.Pool.{is_owner as is_owner_in};
+ghost use Rattle.tree_specs.specs.Calls.{◌before◌, small, owner, object, plain, room, staying, apart, placing, hooking, given_by, refusals};
 ghost use Rattle.tree_links.specs.Links.{pool_of};
 ghost use Rattle.host_core.specs.Moves.{checked};
 
 use tree_links::Tree;
-use tree_specs::{Call, Mark, Obj, Owner, Refusal, Row};
+use tree_specs::{Call, Kind, Mark, Obj, Owner, Refusal, Row};
 
 /// The size of an object is below this, in bytes.
 const SIZE_LIMIT: u64 = 268_435_456;
@@ -49,6 +49,21 @@ fn check_object(x: Obj, tree: &Tree) -> Result<(), Refusal>
         return Err(Refusal::NoSuch(x.0));
     }
     Ok(())
+}
+
+/// Only plain objects have destructors.
+fn check_plain(x: Obj, tree: &Tree) -> Result<(), Refusal>
+    ensures { result ≡ checked (plain (pool_of tree.now) x) }
+{
+    match tree.row(x) {
+        Some(
+            Row {
+                kind: Kind::Plain,
+                ..
+            },
+        ) => Ok(()),
+        _ => Err(Refusal::WrongKind(x)),
+    }
 }
 
 /// Whether there is room for a row and a number.
@@ -100,22 +115,11 @@ fn check_placing(o: Owner, x: Obj, tree: &Tree) -> Result<(), Refusal>
     check_apart(x, o, tree)
 }
 
-/// Whether an owner owns an object.
-fn is_child(x: Obj, owner: Owner, tree: &Tree) -> bool
-    ensures { result ≡ is_below (owner_of tree.now.rows x) owner }
-{
-    match (tree.parent(x), owner) {
-        (Some(Owner::Root), Owner::Root) => true,
-        (Some(Owner::Of(p)), Owner::Of(o)) => p.0 == o.0,
-        _ => false,
-    }
-}
-
 /// Only its owner gives an object away.
 fn check_given(from: Owner, to: Owner, x: Obj, tree: &Tree) -> Result<(), Refusal>
     ensures { result ≡ checked (given_by (pool_of tree.now) from to x) }
 {
-    if !is_child(x, from, tree) {
+    if !tree.owns(from, x) {
         return Err(Refusal::NotParent {
             object: x,
             owner: from,
@@ -145,6 +149,15 @@ fn check_new(o: Owner, size: u64, tree: &Tree) -> Result<(), Refusal>
 }
 
 #[tactic(auto, using(crate::proofs::Allowed::refused_first, crate::proofs::Allowed::allowed_first))]
+fn check_hooking(x: Obj, tree: &Tree) -> Result<(), Refusal>
+    ensures { result ≡ checked (hooking (pool_of tree.now) x) }
+{
+    check_object(x, tree)?;
+    check_plain(x, tree)?;
+    check_staying(x, tree)
+}
+
+#[tactic(auto, using(crate::proofs::Allowed::refused_first, crate::proofs::Allowed::allowed_first))]
 fn check_parent(x: Obj, tree: &Tree) -> Result<(), Refusal>
     ensures { result ≡ checked (object (pool_of tree.now) x before staying (pool_of tree.now) x) }
 {
@@ -161,6 +174,7 @@ pub fn check(call: &Call, tree: &Tree) -> Result<(), Refusal>
         Call::Free { x } | Call::Freekids { x } | Call::Rename { x, .. } => check_object(*x, tree),
         Call::Steal { owner, x } | Call::Move { owner, x } => check_placing(*owner, *x, tree),
         Call::Reparent { from, to, x } => check_reparent(*from, *to, *x, tree),
+        Call::Hook { x, .. } | Call::Unhook { x } => check_hooking(*x, tree),
         Call::Parent { x } => check_parent(*x, tree),
         Call::Total { owner } | Call::Count { owner } | Call::Report { owner } => {
             check_owner(*owner, tree)

@@ -1,85 +1,71 @@
-ghost use Rattle.std.specs.Prelude.{◌≡◌, ◌≤◌, ◌+◌, ◌↔◌, Some, Err, IsTrue, IsSome, IfOk, OnOk, OnErr, length, vec_capacity};
+ghost use Rattle.std.specs.Prelude.{◌≡◌, ◌≤◌, ◌<◌, ◌+◌, ◌↔◌, Some, Err, IsTrue, IsSome, IfOk, OnOk, OnErr, length, vec_capacity};
 ghost use Rattle.std.specs.Option.{option_copied};
 ghost use Rattle.tree_specs.specs.declared.schedule.Reason.TheVariants as reasons;
 ghost use Rattle.tree_specs.specs.Schedule.{misfit};
 ghost use Rattle.tree_specs.specs.Soundness.{is_sound};
-ghost use Rattle.tree_specs.specs.declared.call.Call.TheVariants.{Report as ReportOf};
-ghost use Rattle.tree_specs.specs.Calls.{refusals};
-ghost use Rattle.tree_specs.specs.Inside.{NoReferences};
-ghost use Rattle.tree_specs.specs.Table.{call_step, replied};
+ghost use Rattle.tree_specs.specs.Table.{event_of};
 ghost use Rattle.tree_specs.specs.View.{begin, question_of};
 ghost use Rattle.tree_links.specs.Links.{pool_of};
-ghost use Rattle.host_core.specs.Hosts.{Begins, BeginsWith};
-ghost use Rattle.host_core.specs.Moves.{report_of};
+ghost use Rattle.host_core.specs.Hosts.{CallRoom, told_by, after_telling};
 
-use crate::checks::check_owner;
+use crate::active::Active;
+use crate::begun::{asked, begun, takes};
 use crate::fault::OfferFault;
-use crate::works::{advance, is_asking, settle};
+use crate::reports::wanted_report;
+use crate::works::settle;
+use destructors::FreeEngine;
 use std::alloc::Global;
 use std::marker::Model;
 use std::mem;
 use tree_links::Tree;
-use tree_report::rows;
-use tree_specs::{Ask, Call, CallFrame, Event, Frame, Input, Kind, Memory, Obj, Owner, Reply};
+use tree_specs::{Ask, CallFrame, Event, FreeStep, Input, Kind, Memory, Obj, Owner};
 
-/// The reply to a report: all that it tells is copied.
-#[tactic(auto, using(crate::proofs::Allowed::refused_step, crate::proofs::Allowed::allowed_step))]
-fn report_reply(alloc: Global, owner: Owner, tree: &Tree) -> Result<Reply, Memory>
-    requires { NoReferences tree.now.rows }
-    ensures { IfOk result (λ r. call_step (refusals (pool_of tree.now) (ReportOf owner)) (ReportOf owner) (pool_of tree.now) ≡ replied r (pool_of tree.now)) }
+/// What a step of a free is to the host. None where it isn't told.
+fn event(step: FreeStep) -> Option<Event>
+    ensures { result ≡ event_of step }
 {
-    if let Err(why) = check_owner(owner, tree) {
-        return Ok(Reply::No(why));
-    }
-    Ok(Reply::Rows(rows(alloc, tree, owner)?))
-}
-
-/// The owner that a report is about. None for every other call.
-fn report_owner(call: &Call) -> Option<Owner>
-    ensures { result ≡ report_of call.now }
-{
-    match call {
-        Call::Report { owner } => Some(*owner),
-        _ => None,
+    match step {
+        FreeStep::Refused { object, answer } => Some(Event::Refused { object, answer }),
+        FreeStep::Accepted(object) => Some(Event::Accepted(object)),
+        FreeStep::Moved { object, owner, .. } => Some(Event::Moved { object, owner }),
+        FreeStep::Gone { object, hook } => Some(Event::Freed { object, hook }),
+        FreeStep::Ask(_) | FreeStep::Left { .. } | FreeStep::Done(_) => None,
     }
 }
 
-/// What the host begins with where it was given a call. A report is made at once, as its reply takes memory.
-#[tactic(auto, using(crate::proofs::Allowed::begins_call))]
-fn begun_call(alloc: Global, call: Call, tree: &Tree) -> Result<Frame, Memory>
-    requires { NoReferences tree.now.rows }
-    ensures { IfOk result (λ f. Begins call (pool_of tree.now) f) }
+/// What a caller tells, and how it goes on.
+#[derive(Debug, Drop)]
+struct Reported {
+    event: Option<Event>,
+    frame: CallFrame,
+}
+
+/// A reply that is to be told is told. Any other caller tells nothing.
+fn tell(frame: CallFrame) -> Reported
+    ensures event { result.event ≡ told_by frame }
+    ensures frame { result.frame ≡ after_telling frame }
 {
-    match report_owner(&call) {
-        Some(owner) => {
-            let reply = report_reply(alloc, owner, tree)?;
-            Ok(Frame::Call(CallFrame::Telling { reply }))
-        }
-        None => Ok(Frame::Call(CallFrame::Doing { call })),
+    match frame {
+        CallFrame::Telling { ask, reply } => Reported {
+            event: Some(Event::Replied(reply)),
+            frame: CallFrame::Asking { ask },
+        },
+        frame => Reported { event: None, frame },
     }
 }
 
-/// The same for an answer to the question of a host at rest.
-fn begun(alloc: Global, input: Input, tree: &Tree) -> Result<Frame, Memory>
-    requires { NoReferences tree.now.rows }
-    ensures { IfOk result (λ f. BeginsWith input (pool_of tree.now) f) }
-{
-    match input {
-        Input::Call(call) => begun_call(alloc, call, tree),
-    }
-}
-
-/// Takes the memory for all that a call can want. After want of memory the works and the objects are as they were.
-fn make_room(below: &mut Vec<Frame>, tree: &mut Tree) -> Result<(), Memory>
-    ensures works { below.new.items ≡ below.old.items }
+/// Takes the memory for all that comes up to the next question. After want of memory callers and objects are as
+/// they were.
+fn make_room(callers: &mut Vec<CallFrame>, tree: &mut Tree) -> Result<(), Memory>
+    ensures callers { callers.new.items ≡ callers.old.items }
     ensures rows { pool_of tree.new ≡ pool_of tree.old }
-    ensures works_kept { vec_capacity below.old ≤ vec_capacity below.new }
-    ensures rows_kept { tree.old.spare ≤ tree.new.spare }
-    ensures works_room { OnOk result (length below.old.items + length tree.old.rows + 2 ≤ vec_capacity below.new) }
-    ensures rows_room { OnOk result (2 ≤ tree.new.spare) }
+    ensures works { tree.new.frees ≡ tree.old.frees }
+    ensures callers_kept { vec_capacity callers.old ≤ vec_capacity callers.new }
+    ensures spare_kept { tree.old.spare ≤ tree.new.spare }
+    ensures room_kept { tree.old.room ≤ tree.new.room }
+    ensures room { OnOk result (CallRoom callers.new.items tree.new (vec_capacity callers.new)) }
 {
-    let places = tree.len().checked_add(2).ok_or(Memory)?;
-    below.reserve(places)?;
+    callers.reserve(1)?;
     tree.reserve(2)?;
     Ok(())
 }
@@ -88,11 +74,11 @@ fn make_room(below: &mut Vec<Frame>, tree: &mut Tree) -> Result<(), Memory>
 /// thereby the question that is open and the story still to come.
 #[derive(Drop)]
 pub struct Host {
-    innermost: Frame,
-    below: Vec<Frame>,
+    active: Active,
+    /// Those that wait, the innermost last.
+    callers: Vec<CallFrame>,
+    engine: FreeEngine,
     tree: Tree,
-    /// The question of a host at rest, to be lent.
-    at_rest: Ask,
 }
 
 impl Model for Host {
@@ -101,12 +87,11 @@ impl Model for Host {
     ghost Value = { View };
 
     ghost use Rattle.std.specs.Prelude.{◌≡◌, true, vec_capacity};
-    ghost use Rattle.tree_specs.specs.declared.question.Ask.TheVariants.{Quiet};
-    ghost use Rattle.host_core.specs.Hosts.{view_of, Ready, speaking};
+    ghost use Rattle.host_core.specs.Hosts.{view_of, Ready, speaking_view};
 
-    ghost view = { λ h. view_of h.innermost h.below.items h.tree };
+    ghost view = { λ h. view_of h.active h.callers.items h.engine h.tree };
 
-    ghost invariant = { λ h. Ready h.innermost h.below.items h.tree (vec_capacity h.below) × (speaking (view_of h.innermost h.below.items h.tree) ≡ true) × (h.at_rest ≡ Quiet) };
+    ghost invariant = { λ h. Ready h.active h.callers.items h.engine h.tree (vec_capacity h.callers) × (speaking_view (view_of h.active h.callers.items h.engine h.tree) ≡ true) };
 }
 
 impl Host {
@@ -125,10 +110,10 @@ impl Host {
         ensures waits { IfOk result (λ host. Waits host) }
     {
         Ok(Host {
-            innermost: Frame::Call(CallFrame::Asking),
-            below: Vec::new(alloc),
+            active: Active::Caller(CallFrame::Asking { ask: Ask::Quiet }),
+            callers: Vec::new(alloc),
+            engine: FreeEngine::new(),
             tree: Tree::new(alloc, first),
-            at_rest: Ask::Quiet,
         })
     }
 
@@ -166,16 +151,11 @@ impl Host {
     }
 
     /// The open question. None exactly where an event is still to come.
-    #[tactic(auto, using(crate::proofs::Onward::open_question, crate::proofs::Onward::no_question))]
     pub fn question(&self) -> Option<&Ask>
         ensures question { option_copied result ≡ question_of self.now }
         ensures waits { IsSome result → Waits self.now }
     {
-        if is_asking(&self.innermost) {
-            Some(&self.at_rest)
-        } else {
-            None
-        }
+        asked(&self.active)
     }
 
     /// The next event, which is told now and not again. None exactly where a question is open, and then
@@ -183,31 +163,46 @@ impl Host {
     pub fn next(&mut self) -> Option<Event>
         ensures { NextLaw result self.old self.new }
     {
-        if is_asking(&self.innermost) {
-            return None;
+        match mem::replace(&mut self.active, Active::Freeing) {
+            Active::Caller(frame) => {
+                let next = tell(frame);
+                self.active = Active::Caller(next.frame);
+                next.event
+            }
+            Active::Freeing => {
+                let step = self.engine.step(&mut self.tree);
+                self.active = settle(
+                    Active::Freeing,
+                    &mut self.callers,
+                    &mut self.engine,
+                    &mut self.tree,
+                );
+                event(step)
+            }
         }
-        let now = mem::replace(&mut self.innermost, Frame::Call(CallFrame::Asking));
-        let progress = advance(now, &mut self.below, &mut self.tree);
-        self.innermost = settle(progress.now, &mut self.below, &mut self.tree);
-        progress.event
     }
 
     /// Gives the answer to the open question. All memory up to the next question is taken first, and after a
     /// fault the host is as it was; the answer is dropped then. NotAsked comes exactly where no question is
     /// open or the open one takes no such answer.
-    #[tactic(auto, using(crate::proofs::Onward::open_question, crate::proofs::Onward::no_question))]
     pub fn offer(&mut self, input: Input) -> Result<(), OfferFault>
         requires { IsTrue (is_sound input) }
         ensures ok { OnOk result (TakesAnswer self.old input self.new) }
         ensures err { OnErr result (self.new ≡ self.old) }
         ensures not_asked { (result ≡ Err OfferFault.NotAsked) ↔ (misfit (question_of self.old) input ≡ Some reasons.NotAsked) }
     {
-        if !is_asking(&self.innermost) {
+        if !takes(&self.active, &input) {
             return Err(OfferFault::NotAsked);
         }
-        let first = begun(*self.below.allocator(), input, &self.tree)?;
-        make_room(&mut self.below, &mut self.tree)?;
-        self.innermost = settle(first, &mut self.below, &mut self.tree);
+        let report = wanted_report(*self.callers.allocator(), &input, &self.tree)?;
+        make_room(&mut self.callers, &mut self.tree)?;
+        let active = mem::replace(&mut self.active, Active::Freeing);
+        self.active = settle(
+            begun(active, input, report),
+            &mut self.callers,
+            &mut self.engine,
+            &mut self.tree,
+        );
         Ok(())
     }
 }

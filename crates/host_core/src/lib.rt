@@ -1,12 +1,15 @@
 //! The host: a tree of objects as a state machine that is given answers and gives events and questions.
 #![tactic(auto)]
 
-mod caller;
+mod active;
+mod begun;
+mod brief;
+mod calls;
 mod checks;
 mod fault;
-mod freeing;
 mod host;
 mod motion;
+mod reports;
 #[cfg(test)]
 mod tests;
 mod works;

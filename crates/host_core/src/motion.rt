@@ -1,16 +1,12 @@
-use tree_specs::{Answer, Ask, Event, Frame};
+use tree_specs::{Ask, CallFrame, Obj};
 
-/// What one step of the innermost work does.
+/// What a call does first, for a caller who is known by his question.
 #[derive(Debug, Drop)]
 pub enum Motion {
-    /// It ends, and answers the work below it.
-    Ends(Answer),
-    /// It goes on.
-    Goes(Frame),
-    /// It tells an event and goes on.
-    Tells(Event, Frame),
-    /// It asks a question and waits for the answer.
-    Asks(Ask, Frame),
-    /// It puts the first work before itself, and waits as the second.
-    Pushes(Frame, Frame),
+    /// The caller goes on.
+    Goes(CallFrame),
+    /// The object is freed, and the caller waits.
+    Frees(Ask, Obj),
+    /// Its children are freed, and the caller waits.
+    Empties(Ask, Obj),
 }

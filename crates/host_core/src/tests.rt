@@ -1,4 +1,4 @@
-ghost use Rattle.std.specs.Prelude.{IsTrue};
+ghost use Rattle.std.specs.Prelude.{◌<◌, IsTrue};
 ghost use Rattle.tree_specs.specs.Names.{is_name};
 ghost use Rattle.tree_specs.specs.Soundness.{is_sound, is_sound_owner};
 
@@ -6,9 +6,10 @@ use super::*;
 use std::alloc::Global;
 use std::process::Abort;
 use std::test::Fail;
-use tree_specs::{Ask, Call, Event, Input, Name, Obj, Owner, Refusal, Reply};
+use tree_specs::{Act, Ask, Call, Event, Input, Moment, Name, Obj, Owner, Refusal, Reply, What};
 
 mod freeing;
+mod hooks;
 mod lookups;
 mod questions;
 mod reports;
@@ -92,6 +93,60 @@ fn steal(parent: u64, number: u64) -> Input
     })
 }
 
+// A routine is a number from 1 upwards.
+fn hook(number: u64, routine: u32) -> Input
+    requires { 0 < routine }
+    ensures { IsTrue (is_sound result) }
+{
+    Input::Call(Call::Hook {
+        x: Obj(number),
+        routine,
+    })
+}
+
+fn unhook(number: u64) -> Input
+    ensures { IsTrue (is_sound result) }
+{
+    Input::Call(Call::Unhook { x: Obj(number) })
+}
+
+fn parent(number: u64) -> Input
+    ensures { IsTrue (is_sound result) }
+{
+    Input::Call(Call::Parent { x: Obj(number) })
+}
+
+// The same call, where a routine does it.
+fn act(call: Input) -> Input
+    requires { IsTrue (is_sound call) }
+    ensures { IsTrue (is_sound result) }
+{
+    match call {
+        Input::Call(call) => Input::Act(Act::Do(call)),
+        other => other,
+    }
+}
+
+fn ret(value: u32) -> Input
+    ensures { IsTrue (is_sound result) }
+{
+    Input::Act(Act::Ret(value))
+}
+
+// What the destructor of an object is asked after so many calls, the last of which had this reply.
+fn moment(number: u64, routine: u32, step: u32, last: Option<Reply>) -> Ask {
+    Ask::Routine(Moment {
+        what: What::Hook,
+        object: Obj(number),
+        routine,
+        user: 0,
+        now: 0,
+        flags: 0,
+        step,
+        last,
+    })
+}
+
 fn freed(number: u64) -> Event {
     Event::Freed {
         object: Obj(number),
@@ -107,19 +162,26 @@ fn told_number(number: u64) -> Event {
     Event::Replied(Reply::Number(number))
 }
 
-// The call is taken, these events are told, and then the host waits again.
-fn tells(rt: &impl Abort, host: &mut Host, call: Input, events: &[Event])
-    requires { IsTrue (is_sound call) }
+// The answer is taken, these events are told, and then this question is open.
+fn leads(rt: &impl Abort, host: &mut Host, answer: Input, events: &[Event], question: Ask)
+    requires { IsTrue (is_sound answer) }
 {
-    assert_eq!(rt; host.question(), Some(&Ask::Quiet));
     assert_eq!(rt; host.next(), None);
-    assert_eq!(rt; host.offer(call), Ok(()));
+    assert_eq!(rt; host.offer(answer), Ok(()));
     for event in events {
         assert_eq!(rt; host.question(), None);
         assert_eq!(rt; host.next().as_ref(), Some(event));
     }
     assert_eq!(rt; host.next(), None);
+    assert_eq!(rt; host.question(), Some(&question));
+}
+
+// The call is taken, these events are told, and then the host waits again.
+fn tells(rt: &impl Abort, host: &mut Host, call: Input, events: &[Event])
+    requires { IsTrue (is_sound call) }
+{
     assert_eq!(rt; host.question(), Some(&Ask::Quiet));
+    leads(rt, host, call, events, Ask::Quiet);
 }
 
 // Each object under its owner, with its size; the first one is 1.

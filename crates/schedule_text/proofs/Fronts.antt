@@ -3,9 +3,9 @@ use Rattle.std.proofs.Common.{◌≡◌, ◌≢◌, ℕ, Bool, true, false, eqb,
 use Rattle.std.specs.Option.{option_map, MatchOption}
 use Rattle.std.proofs.lemmas.Bool.{eqb-true}
 use Rattle.std.proofs.lemmas.Bool.Decides.{Decides-eqb}
-use Rattle.tree_specs.specs.Grammar.{◌>>=◌, strip}
+use Rattle.tree_specs.specs.Grammar.{◌>>=◌, ◌or◌, strip}
 
-pub strip-front : (front rest : List ℕ) → strip front (front ++ rest) ≡ Some rest
+strip-front : (front rest : List ℕ) → strip front (front ++ rest) ≡ Some rest
 strip-front [] rest = refl
 strip-front (p ∷ ps) rest = rw ((Decides-eqb p p).1 refl) (strip-front ps rest)
 
@@ -38,3 +38,8 @@ has_front {A} front read line result e = by_cases (strip front line) refl e
     by_cases : (found : Option (List ℕ)) → strip front line ≡ found → (found >>= read) ≡ Some result → HasFront front read line result
     by_cases None was f = absurd cc
     by_cases (Some rest) was f = record { rest = rest; line_is = strip_some front line rest was; reads = f }
+
+-- what one of two readers gives
+pub from_either : {A : Type 0} {P : Type 0} (a b : Option A) (x : A) → (a ≡ Some x → P) → (b ≡ Some x → P) → (a or b) ≡ Some x → P
+from_either None b x first second e = second e
+from_either (Some y) b x first second e = first e

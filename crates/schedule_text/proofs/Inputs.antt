@@ -1,33 +1,41 @@
 -- Inputs: their lines, both ways. A new kind of line adds a clause to each of the lemmas by cases.
-use Rattle.std.proofs.Common.{◌≡◌, ◌≢◌, ℕ, true, List, ◌++◌, Option, Some, None, Result, Ok, Err, refl, sym, ap, ◌∙◌, codes, append_assoc}
+use Rattle.std.proofs.Common.{◌≡◌, ◌≢◌, ℕ, Bool, true, List, ◌++◌, Option, Some, None, Result, Ok, Err, refl, sym, ap, ◌∙◌, codes, append_assoc}
 use Rattle.std.specs.Prelude.{IfOk}
+use Rattle.std.specs.Fmt.{decimal}
 use Rattle.std.specs.Option.{option_map}
 use Rattle.std.proofs.lemmas.List.{append_cancel_right}
-use Rattle.tree_specs.specs.declared.call.Call.{Call}
+use Rattle.tree_specs.specs.declared.question.Act.TheVariants as acts
 use Rattle.tree_specs.specs.declared.question.Input.{Input}
 use Rattle.tree_specs.specs.declared.question.Input.TheVariants as inputs
-use Rattle.tree_specs.specs.Grammar.{◌>>=◌, call_of, call_input_of, input_of}
-use Rattle.tree_specs.specs.Soundness.{is_sound}
+use Rattle.tree_specs.specs.Grammar.{◌>>=◌, strip, call_of, return_of, input_of}
+use Rattle.tree_specs.specs.Soundness.{is_return, is_sound_call, is_sound}
 use Rattle.tree_specs.specs.Text.{call_text, input_text, newline}
 use Rattle.text_forms.specs.declared.form.FormFault.{FormFault}
 use Rattle.text_forms.specs.declared.form.FormFault.TheVariants.{NoForm, Memory}
 use Rattle.text_forms.specs.Reads.{Reads}
 use Rattle.text_forms.proofs.Calls as calls
-use Rattle.schedule_text.proofs.Fronts.{strip-front, has_front}
+use Rattle.text_forms.proofs.Fields.{return_field}
+use Rattle.schedule_text.proofs.Fronts.{HasFront, has_front, from_either}
 
 -- ---- from an input to its line and back
 
 -- an input's line, without its LF
 abbrev line_of : Input → List ℕ
 line_of (inputs.Call c) = codes "call " ++ call_text c
+line_of (inputs.Act (acts.Do c)) = codes "act " ++ call_text c
+line_of (inputs.Act (acts.Ret value)) = codes "ret " ++ decimal value
 
 input_text-line : (i : Input) → input_text i ≡ line_of i ++ newline
 unfolding input_text
 input_text-line (inputs.Call c) = sym (append_assoc (codes "call ") (call_text c) newline)
+input_text-line (inputs.Act (acts.Do c)) = sym (append_assoc (codes "act ") (call_text c) newline)
+input_text-line (inputs.Act (acts.Ret value)) = sym (append_assoc (codes "ret ") (decimal value) newline)
 
 input_again : (i : Input) → is_sound i ≡ true → input_of (line_of i) ≡ Some i
 unfolding input_of
-input_again (inputs.Call c) h = ap (λ (found : Option (List ℕ)). found >>= call_input_of) (strip-front (codes "call ") (call_text c)) ∙ ap (option_map inputs.Call) (calls.call_again c h)
+input_again (inputs.Call c) h = rw (calls.call_again c h) refl
+input_again (inputs.Act (acts.Do c)) h = rw (calls.call_again c h) refl
+input_again (inputs.Act (acts.Ret value)) h = rw (return_field.again value h) refl
 
 -- ---- from a line to an input and back
 
@@ -36,23 +44,31 @@ record IsLine (line : List ℕ) (i : Input) : Type 0 where
   line_is : line ≡ line_of i
   is_sound : is_sound i ≡ true
 
-call_spelled : (text : List ℕ) (i : Input) → call_input_of text ≡ Some i → IsLine (codes "call " ++ text) i
-call_spelled text i e = by_cases (call_of text) refl e
+-- a line of this front, and then the spelling of a value
+front_spelled : {A : Type 0} (front : List ℕ) (read : List ℕ → Option A) (spell : A → List ℕ) (is_sound_value : A → Bool) (make : A → Input) → ((text : List ℕ) (x : A) → read text ≡ Some x → (text ≡ spell x) × (is_sound_value x ≡ true)) → ((x : A) → line_of (make x) ≡ front ++ spell x) → ((x : A) → is_sound (make x) ≡ is_sound_value x) → (line : List ℕ) (i : Input) → (strip front line >>= (λ text. option_map make (read text))) ≡ Some i → IsLine line i
+front_spelled {A} front read spell is_sound_value make spelled line_is sound line i e = after_front (has_front front (λ text. option_map make (read text)) line i e)
   where
-    by_cases : (found : Option Call) → call_of text ≡ found → option_map inputs.Call found ≡ Some i → IsLine (codes "call " ++ text) i
-    by_cases None was f = absurd cc
-    by_cases (Some c) was f =
-        let same : inputs.Call c ≡ i = cc in
+    by_cases : (text : List ℕ) (found : Option A) → read text ≡ found → option_map make found ≡ Some i → IsLine (front ++ text) i
+    by_cases text None was f = absurd cc
+    by_cases text (Some x) was f =
+        let same : make x ≡ i = cc in
         record {
-          line_is = ap (λ l. codes "call " ++ l) (calls.read_is_spelled (Ok c) text was) ∙ ap line_of same;
-          is_sound = sym (ap is_sound same) ∙ calls.read_is_sound (Ok c) text was;
+          line_is = ap (λ l. front ++ l) (spelled text x was).0 ∙ sym (line_is x) ∙ ap line_of same;
+          is_sound = sym (ap is_sound same) ∙ sound x ∙ (spelled text x was).1;
         }
+
+    after_front : HasFront front (λ text. option_map make (read text)) line i → IsLine line i
+    after_front found = rw found.line_is (by_cases found.rest (read found.rest) refl found.reads)
 
 line_spelled : (line : List ℕ) (i : Input) → input_of line ≡ Some i → IsLine line i
 unfolding input_of
 line_spelled line i e =
-    let call = has_front (codes "call ") call_input_of line i e in
-    rw call.line_is (call_spelled call.rest i call.reads)
+    from_either _ _ i
+    (from_either _ _ i
+    (front_spelled (codes "call ") call_of call_text is_sound_call inputs.Call calls.call_spelled (λ c. refl) (λ c. refl) line i)
+    (front_spelled (codes "act ") call_of call_text is_sound_call (λ c. inputs.Act (acts.Do c)) calls.call_spelled (λ c. refl) (λ c. refl) line i))
+    (front_spelled (codes "ret ") return_of decimal is_return (λ value. inputs.Act (acts.Ret value)) return_field.spelled (λ value. refl) (λ value. refl) line i)
+    e
 
 -- ---- what reading a line answers
 

@@ -1,21 +1,14 @@
 ghost use Rattle.std.specs.Prelude.{◌≡◌, ◌≢◌, ◌++◌, IfOk, IsTrue, Err};
 ghost use Rattle.tree_specs.specs.declared.question.Input.{Input as InputData};
-ghost use Rattle.tree_specs.specs.Grammar.{input_of, call_input_of};
+ghost use Rattle.tree_specs.specs.Grammar.{input_of};
 ghost use Rattle.tree_specs.specs.Soundness.{is_sound};
 ghost use Rattle.tree_specs.specs.Text.{input_text, newline};
 ghost use Rattle.text_forms.specs.Reads.{Reads};
 
 use crate::front::after_front;
 use std::alloc::Global;
-use text_forms::{FormFault, read_call};
-use tree_specs::Input;
-
-fn call_input(alloc: Global, text: &[u8]) -> Result<Input, FormFault>
-    ensures { Reads result (call_input_of text.now) }
-{
-    let call = read_call(alloc, text)?;
-    Ok(Input::Call(call))
-}
+use text_forms::{FormFault, read_call, read_return};
+use tree_specs::{Act, Input};
 
 // The input that the line spells, as the grammar defines it: its front decides how the rest is read.
 #[tactic(auto, unfolding(tree_specs::specs::Grammar::input_of))]
@@ -23,7 +16,13 @@ fn input_value(alloc: Global, line: &[u8]) -> Result<Input, FormFault>
     ensures { Reads result (input_of line.now) }
 {
     if let Some(text) = after_front(line, b"call ") {
-        call_input(alloc, text)
+        read_call(alloc, text).map(Input::Call)
+    } else if let Some(text) = after_front(line, b"act ") {
+        read_call(alloc, text).map(|call| Input::Act(Act::Do(call)))
+    } else if let Some(text) = after_front(line, b"ret ") {
+        read_return(text)
+            .map(|value| Input::Act(Act::Ret(value)))
+            .ok_or(FormFault::NoForm)
     } else {
         Err(FormFault::NoForm)
     }

@@ -1,30 +1,32 @@
-ghost use Rattle.std.specs.Prelude.{IsTrue};
-ghost use Rattle.tree_specs.specs.declared.question.Input.TheVariants as inputs;
+ghost use Rattle.std.specs.Prelude.{◌++◌, IsTrue};
 ghost use Rattle.tree_specs.specs.Soundness.{is_sound, is_sound_call};
-ghost use Rattle.tree_specs.specs.Text.{input_text};
+ghost use Rattle.tree_specs.specs.Text.{call_text, input_text, newline};
 ghost use Rattle.tree_specs.specs.Written.{Writes};
 
-use text_forms::write_call;
-use tree_specs::{Call, Input, Memory};
+use text_forms::{write_call, write_numbers};
+use tree_specs::{Act, Call, Input, Memory};
 
-#[tactic(auto, unfolding(tree_specs::specs::Text::input_text))]
-fn write_call_line(call: &Call, out: &mut Vec<u8>) -> Result<(), Memory>
+// The line of a call after this front.
+fn write_call_line(front: &[u8], call: &Call, out: &mut Vec<u8>) -> Result<(), Memory>
     requires { IsTrue (is_sound_call call.now) }
-    ensures { Writes out.old.items out.new.items result (input_text (inputs.Call call.now)) }
+    ensures { Writes out.old.items out.new.items result (front.now ++ call_text call.now ++ newline) }
 {
-    out.extend_from_slice(b"call ")?;
+    out.extend_from_slice(front)?;
     write_call(call, out)?;
     out.push(b'\n')?;
     Ok(())
 }
 
 /// Appends the one line of an input, with its LF. Where memory is wanted, a front of it was appended.
+#[tactic(auto, unfolding(tree_specs::specs::Text::input_text))]
 pub fn write_input(input: &Input, out: &mut Vec<u8>) -> Result<(), Memory>
     // Each number is in the range of its field.
     requires { IsTrue (is_sound input.now) }
     ensures written { Writes out.old.items out.new.items result (input_text input.now) }
 {
     match input {
-        Input::Call(call) => write_call_line(call, out),
+        Input::Call(call) => write_call_line(b"call ", call, out),
+        Input::Act(Act::Do(call)) => write_call_line(b"act ", call, out),
+        Input::Act(Act::Ret(value)) => write_numbers(b"ret", &[u64::from(*value)], b"\n", out),
     }
 }

@@ -1,5 +1,6 @@
+ghost use Rattle.std.specs.Prelude.{◌++◌};
 ghost use Rattle.tree_specs.specs.declared.question.Ask.TheVariants as asks;
-ghost use Rattle.tree_specs.specs.Text.{ask_text, asked_text, answered_text, end_text};
+ghost use Rattle.tree_specs.specs.Text.{ask_text, answered_text, end_text, newline};
 ghost use Rattle.tree_specs.specs.Written.{Writes};
 
 use crate::moment::write_moment;
@@ -39,11 +40,11 @@ pub fn write_ask(ask: &Ask, out: &mut Vec<u8>) -> Result<(), Memory>
     }
 }
 
-// Appends the line of a question that was answered.
-fn write_asked(ask: &Ask, out: &mut Vec<u8>) -> Result<(), Memory>
-    ensures { Writes out.old.items out.new.items result (asked_text ask.now) }
+// Appends the line of a question after this front.
+fn write_line(front: &[u8], ask: &Ask, out: &mut Vec<u8>) -> Result<(), Memory>
+    ensures { Writes out.old.items out.new.items result (front.now ++ ask_text ask.now ++ newline) }
 {
-    out.extend_from_slice(b"ask ")?;
+    out.extend_from_slice(front)?;
     write_ask(ask, out)?;
     out.push(b'\n')?;
     Ok(())
@@ -62,7 +63,7 @@ pub fn write_answered(ask: &Ask, out: &mut Vec<u8>) -> Result<(), Memory>
         | Ask::Wait(_)
         | Ask::Accept(_)
         | Ask::Read(_, _)
-        | Ask::Write(_, _) => write_asked(ask, out),
+        | Ask::Write(_, _) => write_line(b"ask ", ask, out),
     }
 }
 
@@ -72,8 +73,5 @@ pub fn write_answered(ask: &Ask, out: &mut Vec<u8>) -> Result<(), Memory>
 pub fn write_end(ask: &Ask, out: &mut Vec<u8>) -> Result<(), Memory>
     ensures { Writes out.old.items out.new.items result (end_text ask.now) }
 {
-    out.extend_from_slice(b"end ")?;
-    write_ask(ask, out)?;
-    out.push(b'\n')?;
-    Ok(())
+    write_line(b"end ", ask, out)
 }

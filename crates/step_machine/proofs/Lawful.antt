@@ -4,7 +4,7 @@ use Rattle.step_machine.specs.Machine.{Move, Table, Outcome, tell, given, asks, 
 use Rattle.step_machine.specs.Machine.Move.{Done, Go, Emit, Wait, Call}
 use Rattle.step_machine.specs.Machine.Outcome.{Ended, Waits, Stray, Short}
 
-append-none : {T : Type 0} (h : List T) → h ++ [] ≡ h
+pub append-none : {T : Type 0} (h : List T) → h ++ [] ≡ h
 append-none [] = refl
 append-none (t ∷ h) = ap (λ x. t ∷ x) (append-none h)
 

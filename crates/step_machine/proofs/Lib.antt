@@ -4,3 +4,4 @@ pub mod Uses
 pub mod Lawful
 pub mod NotedLaws
 pub mod Open
+pub mod History

@@ -1,6 +1,6 @@
 -- A machine with notes tells the items of the machine without them.
 use Rattle.std.proofs.Common.{◌≡◌, ℕ, suc, zero, List, [], ◌∷◌, ◌++◌, Option, Some, None, refl, sym, ◌∙◌, ap, map}
-use Rattle.step_machine.specs.Machine.{Move, Table, Outcome, map_items, tell, tells, followed, given, asks, after, run}
+use Rattle.step_machine.specs.Machine.{Move, Table, Outcome, map_items, tell, tells, followed, given, asks, after, run, leads, walk}
 use Rattle.step_machine.specs.Machine.Move.{Done, Go, Emit, Wait, Call}
 use Rattle.step_machine.specs.Machine.Outcome.{Ended, Waits, Stray, Short}
 use Rattle.step_machine.specs.Noted.{Scene, Noted, Notes, noted, noted_move, noted_work, with_note, scene}
@@ -50,3 +50,27 @@ module _ {F A P I T N : Type 0} (notes : Notes F P N) (t : Table F A P I T) wher
   pub noted-run : (n : ℕ) (w : Noted F N) (p : P) (is : List I) → map_items item_of (run (noted notes t) n w p is) ≡ run t n w.work p is
   noted-run zero w p is = refl
   noted-run (suc n) w p is = noted-after n (noted-run n) w.work w.note p (t.step w.work p) is
+
+  abbrev pub work_of : Noted F N → F
+  work_of w = w.work
+
+  noted-leads : (n : ℕ) → ((w : Noted F N) (ws : List (Noted F N)) (p : P) (is : List I) → map_items item_of (walk (noted notes t) n w ws p is) ≡ walk t n w.work (map work_of ws) p is)
+      → (f : F) (m : Option N) (p : P) (move : Move F A P T) (ws : List (Noted F N)) (is : List I)
+      → map_items item_of (leads (noted notes t) (walk (noted notes t) n) (noted_move notes f m p move) ws is) ≡ leads t (walk t n) move (map work_of ws) is
+  noted-leads n ih f m p (Done a q) [] is = refl
+  noted-leads n ih f m p (Done a q) (w ∷ ws) is = ih _ ws q is
+  noted-leads n ih f m p (Go g q) ws is = ih _ ws q is
+  noted-leads n ih f m p (Emit e g q) ws is = map_items-tell item_of _ _ ∙ ap (tell e) (ih _ ws q is)
+  noted-leads n ih f m p (Wait e g q) ws [] = refl
+  noted-leads n ih f m p (Wait e g q) ws (i ∷ is) = each (t.taken g q i)
+    where
+      each : (o : Option F) → map_items item_of (given (λ w p' left. walk (noted notes t) n w ws p' left) (scene notes f m p e) q is (noted_work (notes.after f p m) o))
+          ≡ given (λ g p' left. walk t n g (map work_of ws) p' left) e q is o
+      each None = refl
+      each (Some h) = map_items-tell item_of _ _ ∙ ap (tell e) (ih _ ws q is)
+  noted-leads n ih f m p (Call g h q) ws is = ih (with_note None g) (with_note (notes.after f p m) h ∷ ws) q is
+
+  -- the same a step at a time
+  pub noted-walk : (n : ℕ) (w : Noted F N) (ws : List (Noted F N)) (p : P) (is : List I) → map_items item_of (walk (noted notes t) n w ws p is) ≡ walk t n w.work (map work_of ws) p is
+  noted-walk zero w ws p is = refl
+  noted-walk (suc n) w ws p is = noted-leads n (noted-walk n) w.work w.note p (t.step w.work p) ws is

@@ -1,3 +1,4 @@
+pub mod History
 pub mod Machine
 pub mod Noted
 pub mod Open

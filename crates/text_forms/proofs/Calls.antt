@@ -7,10 +7,10 @@ use Rattle.std.specs.Option.{option_map}
 use Rattle.std.specs.Str.{bytes_eq}
 use Rattle.std.proofs.lemmas.Slice.Eq.{bytes_eq-Decides}
 use Rattle.tree_specs.specs.declared.call.Call.{Call}
-use Rattle.tree_specs.specs.declared.call.Call.TheVariants.{New, Free, Freekids, Steal, Move, Reparent, Rename, Parent, Total, Count, Report}
+use Rattle.tree_specs.specs.declared.call.Call.TheVariants.{New, Free, Freekids, Steal, Move, Reparent, Hook, Unhook, Rename, Parent, Total, Count, Report}
 use Rattle.tree_specs.specs.declared.object.Obj.{Obj}
 use Rattle.tree_specs.specs.declared.object.Owner.{Owner}
-use Rattle.tree_specs.specs.Grammar.{◌>>=◌, words, object_of, owner_of, new_of, of_object, of_owner, placing_of, reparent_of, rename_of, call_of_words, call_of}
+use Rattle.tree_specs.specs.Grammar.{◌>>=◌, words, object_of, owner_of, new_of, of_object, of_owner, placing_of, reparent_of, hook_of, rename_of, call_of_words, call_of}
 use Rattle.tree_specs.specs.Names.{is_name}
 use Rattle.tree_specs.specs.Objects.{owner_number}
 use Rattle.tree_specs.specs.Soundness.{is_number, is_sound_owner, is_sound_call}
@@ -18,7 +18,7 @@ use Rattle.tree_specs.specs.Text.{call_text}
 use Rattle.text_forms.specs.declared.form.FormFault.{FormFault}
 use Rattle.text_forms.specs.declared.form.FormFault.TheVariants.{NoForm, Memory}
 use Rattle.text_forms.specs.Reads.{Reads}
-use Rattle.text_forms.proofs.Fields.{has_read, number_field, owner_field, object_field, name_field}
+use Rattle.text_forms.proofs.Fields.{IsField, has_read, number_field, routine_field, owner_field, object_field, name_field}
 use Rattle.text_forms.proofs.Bools.{and_true}
 use Rattle.text_forms.proofs.Words.{is_unspaced, joined, words-joined, joined-words}
 
@@ -31,6 +31,8 @@ verb_of (Freekids x) = codes "freekids"
 verb_of (Steal owner x) = codes "steal"
 verb_of (Move owner x) = codes "move"
 verb_of (Reparent from to x) = codes "reparent"
+verb_of (Hook x routine) = codes "hook"
+verb_of (Unhook x) = codes "unhook"
 verb_of (Rename x name) = codes "rename"
 verb_of (Parent x) = codes "parent"
 verb_of (Total owner) = codes "total"
@@ -44,6 +46,8 @@ fields_of (Freekids x) = decimal x.0 ∷ []
 fields_of (Steal owner x) = decimal (owner_number owner) ∷ decimal x.0 ∷ []
 fields_of (Move owner x) = decimal (owner_number owner) ∷ decimal x.0 ∷ []
 fields_of (Reparent from to x) = decimal (owner_number from) ∷ decimal (owner_number to) ∷ decimal x.0 ∷ []
+fields_of (Hook x routine) = decimal x.0 ∷ decimal routine ∷ []
+fields_of (Unhook x) = decimal x.0 ∷ []
 fields_of (Rename x name) = decimal x.0 ∷ name ∷ []
 fields_of (Parent x) = decimal x.0 ∷ []
 fields_of (Total owner) = decimal (owner_number owner) ∷ []
@@ -61,6 +65,8 @@ call_text-words (Freekids x) = refl
 call_text-words (Steal owner x) = simp append_assoc
 call_text-words (Move owner x) = simp append_assoc
 call_text-words (Reparent from to x) = simp append_assoc
+call_text-words (Hook x routine) = simp append_assoc
+call_text-words (Unhook x) = refl
 call_text-words (Rename x name) = simp append_assoc
 call_text-words (Parent x) = refl
 call_text-words (Total owner) = refl
@@ -74,32 +80,30 @@ record AreWords (c : Call) (ws : List (List ℕ)) : Type 0 where
   unspaced : list_all is_unspaced ws ≡ true
   again : call_of_words ws ≡ Some c
 
--- a verb with an object and nothing more
-object_fits : (verb : List ℕ) (call : Obj → Call) (x : Obj) → is_unspaced verb ≡ true → is_number x.0 ≡ true → call_of_words (verb ∷ decimal x.0 ∷ []) ≡ option_map call (object_of (decimal x.0)) → AreWords (call x) (verb ∷ decimal x.0 ∷ [])
-object_fits verb call x is_word h reads = record {
-  unspaced = rw (is_word, object_field.is_word x h) refl;
-  again = reads ∙ rw (object_field.again x h) refl;
+-- a verb with one field
+one_fits : {A : Type 0} {read : List ℕ → Option A} {spell : A → List ℕ} {is_sound : A → Bool} (field : IsField read spell is_sound) (verb : List ℕ) (call : A → Call) (x : A) → is_unspaced verb ≡ true → is_sound x ≡ true → call_of_words (verb ∷ spell x ∷ []) ≡ option_map call (read (spell x)) → AreWords (call x) (verb ∷ spell x ∷ [])
+one_fits field verb call x is_word h reads = record {
+  unspaced = rw (is_word, field.is_word x h) refl;
+  again = reads ∙ rw (field.again x h) refl;
 }
 
--- a verb with an owner and nothing more
-owner_fits : (verb : List ℕ) (call : Owner → Call) (owner : Owner) → is_unspaced verb ≡ true → is_sound_owner owner ≡ true → call_of_words (verb ∷ decimal (owner_number owner) ∷ []) ≡ option_map call (owner_of (decimal (owner_number owner))) → AreWords (call owner) (verb ∷ decimal (owner_number owner) ∷ [])
-owner_fits verb call owner is_word h reads = record {
-  unspaced = rw (is_word, owner_field.is_word owner h) refl;
-  again = reads ∙ rw (owner_field.again owner h) refl;
-}
-
--- a verb with an owner, and then an object
-placing_fits : (verb : List ℕ) (call : Owner → Obj → Call) (owner : Owner) (x : Obj) → is_unspaced verb ≡ true → (is_sound_owner owner && is_number x.0) ≡ true → call_of_words (verb ∷ decimal (owner_number owner) ∷ decimal x.0 ∷ []) ≡ placing_of call (decimal (owner_number owner) ∷ decimal x.0 ∷ []) → AreWords (call owner x) (verb ∷ decimal (owner_number owner) ∷ decimal x.0 ∷ [])
-unfolding placing_of
-placing_fits verb call owner x is_word h reads =
-    let parts = and_true (is_sound_owner owner) (is_number x.0) h in
+-- a verb with two fields
+two_fit : {A B : Type 0} {read : List ℕ → Option A} {spell : A → List ℕ} {is_sound : A → Bool} {read_next : List ℕ → Option B} {spell_next : B → List ℕ} {is_sound_next : B → Bool} (field : IsField read spell is_sound) (next : IsField read_next spell_next is_sound_next) (verb : List ℕ) (call : A → B → Call) (x : A) (y : B) → is_unspaced verb ≡ true → (is_sound x && is_sound_next y) ≡ true → call_of_words (verb ∷ spell x ∷ spell_next y ∷ []) ≡ (read (spell x) >>= (λ a. read_next (spell_next y) >>= (λ b. Some (call a b)))) → AreWords (call x y) (verb ∷ spell x ∷ spell_next y ∷ [])
+two_fit {is_sound} {is_sound_next} field next verb call x y is_word h reads =
+    let parts = and_true (is_sound x) (is_sound_next y) h in
     record {
-      unspaced = rw (is_word, owner_field.is_word owner parts.0, object_field.is_word x parts.1) refl;
-      again = reads ∙ rw (owner_field.again owner parts.0, object_field.again x parts.1) refl;
+      unspaced = rw (is_word, field.is_word x parts.0, next.is_word y parts.1) refl;
+      again = reads ∙ rw (field.again x parts.0, next.again y parts.1) refl;
     }
 
+-- an owner and an object are read, one after the other
+pair_read : (call : Owner → Obj → Call) (owner : Option Owner) (object : Option Obj) → option_map (λ (pair : Owner × Obj). call pair.0 pair.1) (owner >>= (λ p. object >>= (λ x. Some (p, x)))) ≡ (owner >>= (λ p. object >>= (λ x. Some (call p x))))
+pair_read call None object = refl
+pair_read call (Some p) None = refl
+pair_read call (Some p) (Some x) = refl
+
 words_fit : (c : Call) → is_sound_call c ≡ true → AreWords c (words_of c)
-unfolding call_of_words new_of of_object of_owner reparent_of rename_of
+unfolding call_of_words new_of of_object of_owner placing_of reparent_of hook_of rename_of
 words_fit (New owner size name) h =
     let named = and_true (is_sound_owner owner && is_number size) (is_name name) h in
     let sized = and_true (is_sound_owner owner) (is_number size) named.0 in
@@ -107,10 +111,10 @@ words_fit (New owner size name) h =
       unspaced = rw (owner_field.is_word owner sized.0, number_field.is_word size sized.1, name_field.is_word name named.1) refl;
       again = rw (owner_field.again owner sized.0, number_field.again size sized.1, name_field.again name named.1) refl;
     }
-words_fit (Free x) h = object_fits (codes "free") Free x refl h refl
-words_fit (Freekids x) h = object_fits (codes "freekids") Freekids x refl h refl
-words_fit (Steal owner x) h = placing_fits (codes "steal") Steal owner x refl h refl
-words_fit (Move owner x) h = placing_fits (codes "move") Move owner x refl h refl
+words_fit (Free x) h = one_fits object_field (codes "free") Free x refl h refl
+words_fit (Freekids x) h = one_fits object_field (codes "freekids") Freekids x refl h refl
+words_fit (Steal owner x) h = two_fit owner_field object_field (codes "steal") Steal owner x refl h (pair_read Steal _ _)
+words_fit (Move owner x) h = two_fit owner_field object_field (codes "move") Move owner x refl h (pair_read Move _ _)
 words_fit (Reparent from to x) h =
     let placed = and_true (is_sound_owner from && is_sound_owner to) (is_number x.0) h in
     let owners = and_true (is_sound_owner from) (is_sound_owner to) placed.0 in
@@ -118,16 +122,13 @@ words_fit (Reparent from to x) h =
       unspaced = rw (owner_field.is_word from owners.0, owner_field.is_word to owners.1, object_field.is_word x placed.1) refl;
       again = rw (owner_field.again from owners.0, owner_field.again to owners.1, object_field.again x placed.1) refl;
     }
-words_fit (Rename x name) h =
-    let parts = and_true (is_number x.0) (is_name name) h in
-    record {
-      unspaced = rw (object_field.is_word x parts.0, name_field.is_word name parts.1) refl;
-      again = rw (object_field.again x parts.0, name_field.again name parts.1) refl;
-    }
-words_fit (Parent x) h = object_fits (codes "parent") Parent x refl h refl
-words_fit (Total owner) h = owner_fits (codes "total") Total owner refl h refl
-words_fit (Count owner) h = owner_fits (codes "count") Count owner refl h refl
-words_fit (Report owner) h = owner_fits (codes "report") Report owner refl h refl
+words_fit (Hook x routine) h = two_fit object_field routine_field (codes "hook") Hook x routine refl h refl
+words_fit (Unhook x) h = one_fits object_field (codes "unhook") Unhook x refl h refl
+words_fit (Rename x name) h = two_fit object_field name_field (codes "rename") Rename x name refl h refl
+words_fit (Parent x) h = one_fits object_field (codes "parent") Parent x refl h refl
+words_fit (Total owner) h = one_fits owner_field (codes "total") Total owner refl h refl
+words_fit (Count owner) h = one_fits owner_field (codes "count") Count owner refl h refl
+words_fit (Report owner) h = one_fits owner_field (codes "report") Report owner refl h refl
 
 pub call_again : (c : Call) → is_sound_call c ≡ true → call_of (call_text c) ≡ Some c
 unfolding call_of
@@ -177,58 +178,59 @@ reparent_spelled (p ∷ q ∷ x ∷ []) c e =
     object.goes_on
 reparent_spelled (p ∷ q ∷ x ∷ m ∷ more) c e = absurd cc
 
-rename_spelled : (fields : List (List ℕ)) (c : Call) → rename_of fields ≡ Some c → IsSpelling (codes "rename" ∷ fields) c
-unfolding rename_of
-rename_spelled [] c e = absurd cc
-rename_spelled (x ∷ []) c e = absurd cc
-rename_spelled (x ∷ n ∷ []) c e =
-    let object = has_read object_field x _ c e in
-    let name = has_read name_field n _ c object.goes_on in
-    spelling_of _ (Rename object.value name.value) c (cc) (rw (object.value_is_sound, name.value_is_sound) refl) name.goes_on
-rename_spelled (x ∷ n ∷ m ∷ more) c e = absurd cc
-
 -- what a call is made of was read first
 made_from : {A : Type 0} (make : A → Call) (read : Option A) (c : Call) → option_map make read ≡ Some c → (read >>= (λ x. Some (make x))) ≡ Some c
 made_from make None c e = absurd cc
 made_from make (Some x) c e = e
 
--- a verb with an object and nothing more
+-- a verb with one field
+one_spelled : {A : Type 0} {read : List ℕ → Option A} {spell : A → List ℕ} {is_sound : A → Bool} (field : IsField read spell is_sound) (verb : List ℕ) (call : A → Call) → ((x : A) → words_of (call x) ≡ verb ∷ spell x ∷ []) → ((x : A) → is_sound_call (call x) ≡ is_sound x) → (text : List ℕ) (c : Call) → option_map call (read text) ≡ Some c → IsSpelling (verb ∷ text ∷ []) c
+one_spelled {read} field verb call words_are sound text c e =
+    let x = has_read field text _ c (made_from call (read text) c e) in
+    spelling_of _ (call x.value) c (cc (words_are x.value)) (sound x.value ∙ x.value_is_sound) x.goes_on
+
 object_spelled : (verb : List ℕ) (call : Obj → Call) → ((x : Obj) → words_of (call x) ≡ verb ∷ decimal x.0 ∷ []) → ((x : Obj) → is_sound_call (call x) ≡ is_number x.0) → (fields : List (List ℕ)) (c : Call) → of_object call fields ≡ Some c → IsSpelling (verb ∷ fields) c
 unfolding of_object
 object_spelled verb call words_are sound [] c e = absurd cc
-object_spelled verb call words_are sound (x ∷ []) c e =
-    let object = has_read object_field x _ c (made_from call (object_of x) c e) in
-    spelling_of _ (call object.value) c (cc (words_are object.value)) (sound object.value ∙ object.value_is_sound) object.goes_on
+object_spelled verb call words_are sound (x ∷ []) c e = one_spelled object_field verb call words_are sound x c e
 object_spelled verb call words_are sound (x ∷ m ∷ more) c e = absurd cc
 
--- a verb with an owner and nothing more
 owner_spelled : (verb : List ℕ) (call : Owner → Call) → ((owner : Owner) → words_of (call owner) ≡ verb ∷ decimal (owner_number owner) ∷ []) → ((owner : Owner) → is_sound_call (call owner) ≡ is_sound_owner owner) → (fields : List (List ℕ)) (c : Call) → of_owner call fields ≡ Some c → IsSpelling (verb ∷ fields) c
 unfolding of_owner
 owner_spelled verb call words_are sound [] c e = absurd cc
-owner_spelled verb call words_are sound (p ∷ []) c e =
-    let owner = has_read owner_field p _ c (made_from call (owner_of p) c e) in
-    spelling_of _ (call owner.value) c (cc (words_are owner.value)) (sound owner.value ∙ owner.value_is_sound) owner.goes_on
+owner_spelled verb call words_are sound (p ∷ []) c e = one_spelled owner_field verb call words_are sound p c e
 owner_spelled verb call words_are sound (p ∷ m ∷ more) c e = absurd cc
 
--- an owner and an object were read, one after the other
-made_from_two : (call : Owner → Obj → Call) (owner : Option Owner) (object : Option Obj) (c : Call) → option_map (λ (pair : Owner × Obj). call pair.0 pair.1) (owner >>= (λ p. object >>= (λ x. Some (p, x)))) ≡ Some c → (owner >>= (λ p. object >>= (λ x. Some (call p x)))) ≡ Some c
-made_from_two call None object c e = absurd cc
-made_from_two call (Some p) None c e = absurd cc
-made_from_two call (Some p) (Some x) c e = e
+-- a verb with two fields
+two_spelled : {A B : Type 0} {read : List ℕ → Option A} {spell : A → List ℕ} {is_sound : A → Bool} {read_next : List ℕ → Option B} {spell_next : B → List ℕ} {is_sound_next : B → Bool} (field : IsField read spell is_sound) (next : IsField read_next spell_next is_sound_next) (verb : List ℕ) (call : A → B → Call) → ((x : A) (y : B) → words_of (call x y) ≡ verb ∷ spell x ∷ spell_next y ∷ []) → ((x : A) (y : B) → is_sound_call (call x y) ≡ (is_sound x && is_sound_next y)) → (text more : List ℕ) (c : Call) → (read text >>= (λ a. read_next more >>= (λ b. Some (call a b)))) ≡ Some c → IsSpelling (verb ∷ text ∷ more ∷ []) c
+two_spelled field next verb call words_are sound text more c e =
+    let x = has_read field text _ c e in
+    let y = has_read next more _ c x.goes_on in
+    spelling_of _ (call x.value y.value) c
+    (cc (words_are x.value y.value))
+    (sound x.value y.value ∙ rw (x.value_is_sound, y.value_is_sound) refl)
+    y.goes_on
 
--- a verb with an owner, and then an object
 placing_spelled : (verb : List ℕ) (call : Owner → Obj → Call) → ((owner : Owner) (x : Obj) → words_of (call owner x) ≡ verb ∷ decimal (owner_number owner) ∷ decimal x.0 ∷ []) → ((owner : Owner) (x : Obj) → is_sound_call (call owner x) ≡ (is_sound_owner owner && is_number x.0)) → (fields : List (List ℕ)) (c : Call) → placing_of call fields ≡ Some c → IsSpelling (verb ∷ fields) c
 unfolding placing_of
 placing_spelled verb call words_are sound [] c e = absurd cc
 placing_spelled verb call words_are sound (p ∷ []) c e = absurd cc
-placing_spelled verb call words_are sound (p ∷ x ∷ []) c e =
-    let owner = has_read owner_field p _ c (made_from_two call (owner_of p) (object_of x) c e) in
-    let object = has_read object_field x _ c owner.goes_on in
-    spelling_of _ (call owner.value object.value) c
-    (cc (words_are owner.value object.value))
-    (sound owner.value object.value ∙ rw (owner.value_is_sound, object.value_is_sound) refl)
-    object.goes_on
+placing_spelled verb call words_are sound (p ∷ x ∷ []) c e = two_spelled owner_field object_field verb call words_are sound p x c (sym (pair_read call (owner_of p) (object_of x)) ∙ e)
 placing_spelled verb call words_are sound (p ∷ x ∷ m ∷ more) c e = absurd cc
+
+hook_spelled : (fields : List (List ℕ)) (c : Call) → hook_of fields ≡ Some c → IsSpelling (codes "hook" ∷ fields) c
+unfolding hook_of
+hook_spelled [] c e = absurd cc
+hook_spelled (x ∷ []) c e = absurd cc
+hook_spelled (x ∷ r ∷ []) c e = two_spelled object_field routine_field (codes "hook") Hook (λ x routine. refl) (λ x routine. refl) x r c e
+hook_spelled (x ∷ r ∷ m ∷ more) c e = absurd cc
+
+rename_spelled : (fields : List (List ℕ)) (c : Call) → rename_of fields ≡ Some c → IsSpelling (codes "rename" ∷ fields) c
+unfolding rename_of
+rename_spelled [] c e = absurd cc
+rename_spelled (x ∷ []) c e = absurd cc
+rename_spelled (x ∷ n ∷ []) c e = two_spelled object_field name_field (codes "rename") Rename (λ x name. refl) (λ x name. refl) x n c e
+rename_spelled (x ∷ n ∷ m ∷ more) c e = absurd cc
 
 -- the fields are read by this verb's reader, or else by the readers of other verbs
 by_verb : (name : List ℕ) (read : List (List ℕ) → Option Call) → ((fields : List (List ℕ)) (c : Call) → read fields ≡ Some c → IsSpelling (name ∷ fields) c) → (verb : List ℕ) (fields : List (List ℕ)) (c : Call) (others : Option Call) → (others ≡ Some c → IsSpelling (verb ∷ fields) c) → cond (bytes_eq verb name) (read fields) others ≡ Some c → IsSpelling (verb ∷ fields) c
@@ -248,15 +250,17 @@ words_spelled (verb ∷ fields) c e =
     (by_verb (codes "steal") (placing_of Steal) (placing_spelled (codes "steal") Steal (λ owner x. refl) (λ owner x. refl)) verb fields c _
     (by_verb (codes "move") (placing_of Move) (placing_spelled (codes "move") Move (λ owner x. refl) (λ owner x. refl)) verb fields c _
     (by_verb (codes "reparent") reparent_of reparent_spelled verb fields c _
+    (by_verb (codes "hook") hook_of hook_spelled verb fields c _
+    (by_verb (codes "unhook") (of_object Unhook) (object_spelled (codes "unhook") Unhook (λ x. refl) (λ x. refl)) verb fields c _
     (by_verb (codes "rename") rename_of rename_spelled verb fields c _
     (by_verb (codes "parent") (of_object Parent) (object_spelled (codes "parent") Parent (λ x. refl) (λ x. refl)) verb fields c _
     (by_verb (codes "total") (of_owner Total) (owner_spelled (codes "total") Total (λ owner. refl) (λ owner. refl)) verb fields c _
     (by_verb (codes "count") (of_owner Count) (owner_spelled (codes "count") Count (λ owner. refl) (λ owner. refl)) verb fields c _
     (by_verb (codes "report") (of_owner Report) (owner_spelled (codes "report") Report (λ owner. refl) (λ owner. refl)) verb fields c _
-    (λ none. absurd cc)))))))))))
+    (λ none. absurd cc)))))))))))))
     e
 
-call_spelled : (text : List ℕ) (c : Call) → call_of text ≡ Some c → (text ≡ call_text c) × (is_sound_call c ≡ true)
+pub call_spelled : (text : List ℕ) (c : Call) → call_of text ≡ Some c → (text ≡ call_text c) × (is_sound_call c ≡ true)
 unfolding call_of
 call_spelled text c e =
     let spelling = words_spelled (words text) c e in

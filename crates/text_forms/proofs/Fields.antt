@@ -1,5 +1,6 @@
 -- Each kind of field: its spelling, both ways.
-use Rattle.std.proofs.Common.{◌≡◌, ℕ, zero, suc, ◌^◌, ◌<◌, Bool, true, false, eqb, ltb, leb, not, ◌&&◌, List, [], ◌∷◌, length, Option, Some, None, refl, sym, ap, ◌∙◌, cond, arith}
+use Rattle.std.proofs.Common.{◌≡◌, ◌≢◌, ℕ, zero, suc, ◌^◌, ◌<◌, Bool, true, false, eqb, ltb, leb, not, ◌&&◌, List, [], ◌∷◌, length, Option, Some, None, refl, sym, ap, ◌∙◌, cond, arith}
+use Rattle.std.specs.Prelude.{IfSome, IfNone}
 use Rattle.std.specs.Char.{is_ascii_digit}
 use Rattle.std.specs.Fmt.{decimal}
 use Rattle.std.specs.List.{list_all}
@@ -9,12 +10,12 @@ use Rattle.std.proofs.lemmas.Bool.Decides.{nat_tests}
 use Rattle.tree_specs.specs.declared.object.Obj.{Obj}
 use Rattle.tree_specs.specs.declared.object.Owner.{Owner}
 use Rattle.tree_specs.specs.declared.object.Owner.TheVariants.{Root, Of}
-use Rattle.tree_specs.specs.Grammar.{◌>>=◌, number_of, owner_of, object_of, name_of}
+use Rattle.tree_specs.specs.Grammar.{◌>>=◌, number_of, return_of, routine_of, owner_of, object_of, name_of}
 use Rattle.tree_specs.specs.Names.{is_name, is_graphic}
 use Rattle.tree_specs.specs.Objects.{owner_number, numbered_owner}
-use Rattle.tree_specs.specs.Soundness.{is_number, is_sound_owner}
+use Rattle.tree_specs.specs.Soundness.{is_number, is_return, is_routine, is_sound_owner}
 use Rattle.text_forms.proofs.Numerals.{number_spelled, number_again, decimal_digits}
-use Rattle.text_forms.proofs.Bools.{and_true, list_all-weaker}
+use Rattle.text_forms.proofs.Bools.{and_true, taken_where, list_all-weaker}
 use Rattle.text_forms.proofs.Words.{is_unspaced}
 
 -- a sound value is read from its spelling, and from no other text; its spelling is one word
@@ -51,6 +52,9 @@ digits_are_unspaced (d ∷ ds) h =
 is_number_from : (n : ℕ) → n < 2 ^ 64 → is_number n ≡ true
 is_number_from n lt = grind (arith, nat_tests)
 
+above_zero : (n : ℕ) → ltb 0 (suc n) ≡ true
+above_zero n = grind (arith, nat_tests)
+
 decimal_is_word : (n : ℕ) → is_number n ≡ true → is_unspaced (decimal n) ≡ true
 decimal_is_word n h = digits_are_unspaced (decimal n) (decimal_digits n (ltb-true n (2 ^ 64) h))
 
@@ -61,31 +65,63 @@ number_field = record {
   is_word = decimal_is_word;
 }
 
+-- ---- values that are made of another field's value
+
+-- a value that is made of another field's, where it can be, and has that one's spelling
+by_field : {A B : Type 0} {read : List ℕ → Option A} {spell : A → List ℕ} {is_sound_part : A → Bool} (field : IsField read spell is_sound_part) (make : A → Option B) (part : B → A) (is_sound : B → Bool) → ((x : A) (y : B) → is_sound_part x ≡ true → make x ≡ Some y → (part y ≡ x) × (is_sound y ≡ true)) → ((y : B) → is_sound y ≡ true → (is_sound_part (part y) ≡ true) × (make (part y) ≡ Some y)) → IsField (λ text. read text >>= make) (λ y. spell (part y)) is_sound
+by_field {A} {B} {read} {spell} {is_sound_part} field make part is_sound made taken = record {
+  spelled = λ text y e. spelled text y (has_read field text make y e);
+  again = λ y h. rw (field.again (part y) (taken y h).0) (taken y h).1;
+  is_word = λ y h. field.is_word (part y) (taken y h).0;
+}
+  where
+    spelled : (text : List ℕ) (y : B) → HasRead spell is_sound_part text make y → (text ≡ spell (part y)) × (is_sound y ≡ true)
+    spelled text y r =
+        let m = made r.value y r.value_is_sound r.goes_on in
+        (r.text_is ∙ ap spell (sym m.0), m.1)
+
+-- ---- what a routine returns, and routines
+
+return_made : (n y : ℕ) → is_number n ≡ true → cond (is_return n) (Some n) None ≡ Some y → (y ≡ n) × (is_return y ≡ true)
+return_made n y h e = let taken = taken_where is_return n y e in (sym taken.0, taken.1)
+
+return_taken : (n : ℕ) → is_return n ≡ true → (is_number n ≡ true) × (cond (is_return n) (Some n) None ≡ Some n)
+return_taken n h = (grind (arith, nat_tests), rw h refl)
+
+pub return_field : IsField return_of decimal is_return
+unfolding return_of
+return_field = by_field number_field (λ n. cond (is_return n) (Some n) None) (λ n. n) is_return return_made return_taken
+
+not_zero : (n : ℕ) → eqb (suc n) 0 ≡ false
+not_zero n = grind (arith, nat_tests)
+
+routine_made : (n y : ℕ) → is_return n ≡ true → cond (eqb n 0) None (Some n) ≡ Some y → (y ≡ n) × (is_routine y ≡ true)
+routine_made zero y h e = absurd cc
+routine_made (suc n) y h e = let same : suc n ≡ y = cc (not_zero n) in (sym same, sym (ap is_routine same) ∙ rw (above_zero n, h) refl)
+
+routine_taken : (n : ℕ) → is_routine n ≡ true → (is_return n ≡ true) × (cond (eqb n 0) None (Some n) ≡ Some n)
+routine_taken zero h = absurd cc
+routine_taken (suc n) h = ((and_true (ltb 0 (suc n)) (is_return (suc n)) h).1, rw (not_zero n) refl)
+
+pub routine_field : IsField routine_of decimal is_routine
+unfolding routine_of
+routine_field = by_field return_field (λ n. cond (eqb n 0) None (Some n)) (λ n. n) is_routine routine_made routine_taken
+
 -- ---- owners and objects
 
 -- a value that is made of a number, and has the number's spelling
 by_number : {A : Type 0} (make : ℕ → A) (number : A → ℕ) (is_sound : A → Bool) → ((n : ℕ) → n < 2 ^ 64 → (number (make n) ≡ n) × (is_sound (make n) ≡ true)) → ((x : A) → is_sound x ≡ true → (is_number (number x) ≡ true) × (make (number x) ≡ x)) → IsField (λ text. number_of text >>= (λ n. Some (make n))) (λ x. decimal (number x)) is_sound
-by_number {A} make number is_sound made taken = record {
-  spelled = λ text x e. spelled text x (has_read number_field text (λ n. Some (make n)) x e);
-  again = λ x h. again x (taken x h);
-  is_word = λ x h. decimal_is_word (number x) (taken x h).0;
-}
+by_number {A} make number is_sound made taken = by_field number_field (λ n. Some (make n)) number is_sound from_some (λ x h. ((taken x h).0, ap Some (taken x h).1))
   where
-    spelled : (text : List ℕ) (x : A) → HasRead decimal is_number text (λ n. Some (make n)) x → (text ≡ decimal (number x)) × (is_sound x ≡ true)
-    spelled text x r =
-        let m = made r.value (ltb-true r.value (2 ^ 64) r.value_is_sound) in
-        let same : make r.value ≡ x = cc (r.goes_on) in
-        (r.text_is ∙ ap decimal (sym m.0 ∙ ap number same), sym (ap is_sound same) ∙ m.1)
-
-    again : (x : A) → (is_number (number x) ≡ true) × (make (number x) ≡ x) → (number_of (decimal (number x)) >>= (λ n. Some (make n))) ≡ Some x
-    again x t = rw (number_again (number x) (ltb-true (number x) (2 ^ 64) t.0), t.1) refl
+    from_some : (n : ℕ) (x : A) → is_number n ≡ true → Some (make n) ≡ Some x → (number x ≡ n) × (is_sound x ≡ true)
+    from_some n x h e =
+        let m = made n (ltb-true n (2 ^ 64) h) in
+        let same : make n ≡ x = cc in
+        (sym (ap number same) ∙ m.0, sym (ap is_sound same) ∙ m.1)
 
 numbered : (n : ℕ) → n < 2 ^ 64 → (owner_number (numbered_owner n) ≡ n) × (is_sound_owner (numbered_owner n) ≡ true)
 numbered zero lt = (refl, refl)
-numbered (suc n) lt = (refl, rw (is_number_from (suc n) lt) (above_zero n))
-  where
-    above_zero : (n : ℕ) → (ltb 0 (suc n) && true) ≡ true
-    above_zero n = grind (arith, nat_tests)
+numbered (suc n) lt = (refl, rw (is_number_from (suc n) lt, above_zero n) refl)
 
 owner_taken : (owner : Owner) → is_sound_owner owner ≡ true → (is_number (owner_number owner) ≡ true) × (numbered_owner (owner_number owner) ≡ owner)
 owner_taken Root h = (refl, refl)
@@ -105,6 +141,33 @@ pub object_field : IsField object_of (λ x. decimal x.0) (λ x. is_number x.0)
 unfolding object_of
 object_field = by_number (λ n. record { 0 = n }) (λ (x : Obj). x.0) (λ x. is_number x.0) (λ n lt. (refl, is_number_from n lt)) (λ x h. (h, refl))
 
+-- ---- what reading a number answers
+
+-- what is read is the spelling of its value
+spelled_some : {read : List ℕ → Option ℕ} {is_sound : ℕ → Bool} (field : IsField read decimal is_sound) (o : Option ℕ) (ds : List ℕ) → o ≡ read ds → IfSome o (λ n. ds ≡ decimal n)
+spelled_some field None ds e = tt
+spelled_some field (Some n) ds e = (field.spelled ds n (sym e)).0
+
+-- what is none is the spelling of no number below the limit
+spelled_none : {read : List ℕ → Option ℕ} (limit : ℕ) (field : IsField read decimal (λ n. ltb n limit)) (o : Option ℕ) (ds : List ℕ) → o ≡ read ds → IfNone o ((n : ℕ) → n < limit → ds ≢ decimal n)
+spelled_none {read} limit field None ds e = λ n lt same. none_some n (e ∙ ap read same ∙ field.again n (grind (arith, nat_tests)))
+  where
+    none_some : (n : ℕ) → None ≡ Some n → ⊥
+    none_some n e = absurd cc
+spelled_none {read} limit field (Some n) ds e = tt
+
+pub number_spelled_some : (o : Option ℕ) (ds : List ℕ) → o ≡ number_of ds → IfSome o (λ n. ds ≡ decimal n)
+number_spelled_some o ds e = spelled_some number_field o ds e
+
+pub number_spelled_none : (o : Option ℕ) (ds : List ℕ) → o ≡ number_of ds → IfNone o ((n : ℕ) → n < 2 ^ 64 → ds ≢ decimal n)
+number_spelled_none o ds e = spelled_none (2 ^ 64) number_field o ds e
+
+pub return_spelled_some : (o : Option ℕ) (ds : List ℕ) → o ≡ return_of ds → IfSome o (λ n. ds ≡ decimal n)
+return_spelled_some o ds e = spelled_some return_field o ds e
+
+pub return_spelled_none : (o : Option ℕ) (ds : List ℕ) → o ≡ return_of ds → IfNone o ((n : ℕ) → n < 2 ^ 32 → ds ≢ decimal n)
+return_spelled_none o ds e = spelled_none (2 ^ 32) return_field o ds e
+
 -- ---- names
 
 graphic_is_unspaced : (b : ℕ) → is_graphic b ≡ true → not (eqb b 32) ≡ true
@@ -112,11 +175,7 @@ graphic_is_unspaced b h = grind (arith, nat_tests)
 
 pub name_spelled : (text name : List ℕ) → name_of text ≡ Some name → (text ≡ name) × (is_name name ≡ true)
 unfolding name_of
-name_spelled text name e = by_test (is_name text) refl e
-  where
-    by_test : (b : Bool) → is_name text ≡ b → cond b (Some text) None ≡ Some name → (text ≡ name) × (is_name name ≡ true)
-    by_test false h f = absurd cc
-    by_test true h f = let same : text ≡ name = cc in (same, sym (ap is_name same) ∙ h)
+name_spelled text name e = taken_where is_name text name e
 
 name_again : (name : List ℕ) → is_name name ≡ true → name_of name ≡ Some name
 unfolding name_of

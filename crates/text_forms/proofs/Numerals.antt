@@ -1,6 +1,5 @@
 -- Each number has one spelling.
-use Rattle.std.proofs.Common.{◌≡◌, ◌≢◌, ℕ, zero, suc, ◌^◌, ◌<◌, Bool, true, false, cond, eqb, ltb, not, ◌&&◌, List, [], ◌∷◌, length, get_or, Option, Some, None, refl, sym, ap, ◌∙◌, arith}
-use Rattle.std.specs.Prelude.{IfSome, IfNone}
+use Rattle.std.proofs.Common.{◌≡◌, ℕ, zero, suc, ◌^◌, ◌<◌, Bool, true, false, cond, eqb, ltb, not, ◌&&◌, List, [], ◌∷◌, length, get_or, Some, None, refl, sym, ap, ◌∙◌, arith}
 use Rattle.std.specs.Fmt.{decimal}
 use Rattle.std.specs.Str.{all_ascii_digits}
 use Rattle.std.specs.Str.Parse.{digits_value}
@@ -56,17 +55,6 @@ number_again n lt =
     let value : digits_value 10 (decimal n) ≡ n = digits_value-decimal own n lt in
     let low : ltb n (2 ^ 64) ≡ true = grind (arith, nat_tests) in
     rw (short, digits_decimal own n lt, value, low) refl
-
-pub spelled_some : (o : Option ℕ) (ds : List ℕ) → o ≡ number_of ds → IfSome o (λ n. ds ≡ decimal n)
-spelled_some None ds e = tt
-spelled_some (Some n) ds e = (number_spelled ds n (sym e)).0
-
-pub spelled_none : (o : Option ℕ) (ds : List ℕ) → o ≡ number_of ds → IfNone o ((n : ℕ) → n < 2 ^ 64 → ds ≢ decimal n)
-spelled_none None ds e = λ n lt same. none_some n (e ∙ ap number_of same ∙ number_again n lt)
-  where
-    none_some : (n : ℕ) → None ≡ Some n → ⊥
-    none_some n e = absurd cc
-spelled_none (Some n) ds e = tt
 
 pub decimal_digits : (n : ℕ) → n < 2 ^ 64 → all_ascii_digits (decimal n) ≡ true
 decimal_digits n lt = digits_decimal own n lt

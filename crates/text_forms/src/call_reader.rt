@@ -1,11 +1,11 @@
 ghost use Rattle.std.specs.Prelude.{◌≡◌, ◌≢◌, map, IfOk, IsTrue, Err};
 ghost use Rattle.tree_specs.specs.declared.call.Call.{Call};
-ghost use Rattle.tree_specs.specs.Grammar.{call_of, call_of_words, new_of, reparent_of, rename_of};
+ghost use Rattle.tree_specs.specs.Grammar.{call_of, call_of_words, new_of, reparent_of, hook_of, rename_of};
 ghost use Rattle.tree_specs.specs.Soundness.{is_sound_call};
 ghost use Rattle.tree_specs.specs.Text.{call_text};
 ghost use Rattle.text_forms.specs.Reads.{Reads};
 
-use crate::field::{number, object, only_object, only_owner, owner, owner_and_object};
+use crate::field::{number, object, only_object, only_owner, owner, owner_and_object, routine};
 use crate::form::FormFault;
 use crate::name::read_name;
 use crate::split::words_of;
@@ -37,6 +37,20 @@ fn reparent_call(fields: &[&[u8]]) -> Result<Call, FormFault>
             let to = owner(q)?;
             let x = object(x)?;
             Ok(Call::Reparent { from, to, x })
+        }
+        _ => Err(FormFault::NoForm),
+    }
+}
+
+#[tactic(auto, unfolding(tree_specs::specs::Grammar::hook_of))]
+fn hook_call(fields: &[&[u8]]) -> Result<Call, FormFault>
+    ensures { Reads result (hook_of (map (λ w. w.now) fields.now)) }
+{
+    match fields {
+        [x, r] => {
+            let x = object(x)?;
+            let routine = routine(r)?;
+            Ok(Call::Hook { x, routine })
         }
         _ => Err(FormFault::NoForm),
     }
@@ -76,6 +90,10 @@ fn call_from_words(alloc: Global, words: &[&[u8]]) -> Result<Call, FormFault>
         owner_and_object(fields).map(|(owner, x)| Call::Move { owner, x })
     } else if *verb == b"reparent".as_slice() {
         reparent_call(fields)
+    } else if *verb == b"hook".as_slice() {
+        hook_call(fields)
+    } else if *verb == b"unhook".as_slice() {
+        only_object(fields).map(|x| Call::Unhook { x })
     } else if *verb == b"rename".as_slice() {
         rename_call(alloc, fields)
     } else if *verb == b"parent".as_slice() {

@@ -1,93 +1,27 @@
 ghost use Rattle.std.specs.Prelude.{◌≡◌, ◌++◌, IsTrue, Some, codes};
-ghost use Rattle.std.specs.Fmt.{decimal};
-ghost use Rattle.tree_specs.specs.declared.call.Call.TheVariants.{New, Reparent, Rename};
 ghost use Rattle.tree_specs.specs.Grammar.{call_of};
-ghost use Rattle.tree_specs.specs.Objects as objects;
 ghost use Rattle.tree_specs.specs.Soundness.{is_sound_call};
-ghost use Rattle.tree_specs.specs.Text.{call_text};
+ghost use Rattle.tree_specs.specs.Text.{call_text, numbers_text};
 ghost use Rattle.tree_specs.specs.Written.{Writes};
 
+use crate::numbers::write_numbers;
 use crate::piece::write_pieces;
-use itoa::Buffer;
-use tree_specs::{Call, Memory, Name, Obj, Owner};
+use tree_specs::{Call, Memory, Name};
 
-#[tactic(auto, unfolding(tree_specs::specs::Text::call_text))]
-fn write_new(owner: Owner, size: u64, name: &Name, out: &mut Vec<u8>) -> Result<(), Memory>
-    ensures { Writes out.old.items out.new.items result (call_text (New owner size name.now)) }
+// A call of this verb, whose fields are all numbers.
+fn write_fields(verb: &[u8], numbers: &[u64], out: &mut Vec<u8>) -> Result<(), Memory>
+    ensures { Writes out.old.items out.new.items result (verb.now ++ numbers_text numbers.now) }
 {
-    let mut owner_buffer = Buffer::new();
-    let mut size_buffer = Buffer::new();
-    let owner = owner_buffer.format(owner.number()).as_bytes();
-    let size = size_buffer.format(size).as_bytes();
-    write_pieces(
-        &[
-            b"new ".as_slice(),
-            owner,
-            b" ".as_slice(),
-            size,
-            b" ".as_slice(),
-            name.as_slice(),
-        ],
-        out,
-    )
+    write_numbers(verb, numbers, b"", out)
 }
 
-// A call of this verb with an object and nothing more.
-fn write_only_object(verb: &[u8], x: Obj, out: &mut Vec<u8>) -> Result<(), Memory>
-    ensures { Writes out.old.items out.new.items result (verb.now ++ decimal x.0) }
+// A call of this verb, whose fields are numbers and then a name.
+fn write_named(verb: &[u8], numbers: &[u64], name: &Name, out: &mut Vec<u8>) -> Result<(), Memory>
+    ensures { Writes out.old.items out.new.items result (verb.now ++ numbers_text numbers.now ++ codes " " ++ name.now) }
 {
-    let mut buffer = Buffer::new();
-    write_pieces(&[verb, buffer.format(x.0).as_bytes()], out)
-}
-
-// A call of this verb with an owner and nothing more.
-fn write_only_owner(verb: &[u8], owner: Owner, out: &mut Vec<u8>) -> Result<(), Memory>
-    ensures { Writes out.old.items out.new.items result (verb.now ++ decimal (objects.owner_number owner)) }
-{
-    let mut buffer = Buffer::new();
-    write_pieces(&[verb, buffer.format(owner.number()).as_bytes()], out)
-}
-
-// A call of this verb with an owner, and then an object.
-fn write_owner_and_object(
-    verb: &[u8],
-    owner: Owner,
-    x: Obj,
-    out: &mut Vec<u8>,
-) -> Result<(), Memory>
-    ensures { Writes out.old.items out.new.items result (verb.now ++ decimal (objects.owner_number owner) ++ codes " " ++ decimal x.0) }
-{
-    let mut owner_buffer = Buffer::new();
-    let mut buffer = Buffer::new();
-    let owner = owner_buffer.format(owner.number()).as_bytes();
-    let x = buffer.format(x.0).as_bytes();
-    write_pieces(&[verb, owner, b" ".as_slice(), x], out)
-}
-
-#[tactic(auto, unfolding(tree_specs::specs::Text::call_text))]
-fn write_reparent(from: Owner, to: Owner, x: Obj, out: &mut Vec<u8>) -> Result<(), Memory>
-    ensures { Writes out.old.items out.new.items result (call_text (Reparent from to x)) }
-{
-    let mut from_buffer = Buffer::new();
-    let mut to_buffer = Buffer::new();
-    let mut buffer = Buffer::new();
-    let from = from_buffer.format(from.number()).as_bytes();
-    let to = to_buffer.format(to.number()).as_bytes();
-    let x = buffer.format(x.0).as_bytes();
-    let space = b" ".as_slice();
-    write_pieces(&[b"reparent ".as_slice(), from, space, to, space, x], out)
-}
-
-#[tactic(auto, unfolding(tree_specs::specs::Text::call_text))]
-fn write_rename(x: Obj, name: &Name, out: &mut Vec<u8>) -> Result<(), Memory>
-    ensures { Writes out.old.items out.new.items result (call_text (Rename x name.now)) }
-{
-    let mut buffer = Buffer::new();
-    let x = buffer.format(x.0).as_bytes();
-    write_pieces(
-        &[b"rename ".as_slice(), x, b" ".as_slice(), name.as_slice()],
-        out,
-    )
+    write_numbers(verb, numbers, b" ", out)?;
+    out.extend_from_slice(name.as_slice())?;
+    Ok(())
 }
 
 // The call's verb and its fields, as the text's definition has them.
@@ -96,17 +30,21 @@ fn write_text(call: &Call, out: &mut Vec<u8>) -> Result<(), Memory>
     ensures { Writes out.old.items out.new.items result (call_text call.now) }
 {
     match call {
-        Call::New { owner, size, name } => write_new(*owner, *size, name, out),
-        Call::Free { x } => write_only_object(b"free ", *x, out),
-        Call::Freekids { x } => write_only_object(b"freekids ", *x, out),
-        Call::Steal { owner, x } => write_owner_and_object(b"steal ", *owner, *x, out),
-        Call::Move { owner, x } => write_owner_and_object(b"move ", *owner, *x, out),
-        Call::Reparent { from, to, x } => write_reparent(*from, *to, *x, out),
-        Call::Rename { x, name } => write_rename(*x, name, out),
-        Call::Parent { x } => write_only_object(b"parent ", *x, out),
-        Call::Total { owner } => write_only_owner(b"total ", *owner, out),
-        Call::Count { owner } => write_only_owner(b"count ", *owner, out),
-        Call::Report { owner } => write_only_owner(b"report ", *owner, out),
+        Call::New { owner, size, name } => write_named(b"new", &[owner.number(), *size], name, out),
+        Call::Free { x } => write_fields(b"free", &[x.0], out),
+        Call::Freekids { x } => write_fields(b"freekids", &[x.0], out),
+        Call::Steal { owner, x } => write_fields(b"steal", &[owner.number(), x.0], out),
+        Call::Move { owner, x } => write_fields(b"move", &[owner.number(), x.0], out),
+        Call::Reparent { from, to, x } => {
+            write_fields(b"reparent", &[from.number(), to.number(), x.0], out)
+        }
+        Call::Hook { x, routine } => write_fields(b"hook", &[x.0, u64::from(*routine)], out),
+        Call::Unhook { x } => write_fields(b"unhook", &[x.0], out),
+        Call::Rename { x, name } => write_named(b"rename", &[x.0], name, out),
+        Call::Parent { x } => write_fields(b"parent", &[x.0], out),
+        Call::Total { owner } => write_fields(b"total", &[owner.number()], out),
+        Call::Count { owner } => write_fields(b"count", &[owner.number()], out),
+        Call::Report { owner } => write_fields(b"report", &[owner.number()], out),
     }
 }
 

@@ -1,11 +1,11 @@
 //! The fields of a call, each by its kind.
 
 ghost use Rattle.std.specs.Prelude.{◌≡◌, map};
-ghost use Rattle.tree_specs.specs.Grammar.{number_of, owner_of, object_of, only_object_of, only_owner_of, owner_and_object_of};
+ghost use Rattle.tree_specs.specs.Grammar.{number_of, owner_of, object_of, routine_of, only_object_of, only_owner_of, owner_and_object_of};
 ghost use Rattle.text_forms.specs.Reads.{Reads};
 
 use crate::form::FormFault;
-use crate::number::read_number;
+use crate::number::{read_number, read_return};
 use tree_specs::{Obj, Owner};
 
 // A number field.
@@ -35,6 +35,16 @@ pub(crate) fn object(text: &[u8]) -> Result<Obj, FormFault>
 {
     let n = number(text)?;
     Ok(Obj(n))
+}
+
+// A routine field: routines are numbered from 1 upwards.
+#[tactic(auto, unfolding(tree_specs::specs::Grammar::routine_of))]
+pub(crate) fn routine(text: &[u8]) -> Result<u32, FormFault>
+    ensures { Reads result (routine_of text.now) }
+{
+    read_return(text)
+        .filter(|n| *n != 0)
+        .ok_or(FormFault::NoForm)
 }
 
 // The fields of a call with an object and nothing more.

@@ -1,4 +1,6 @@
 use super::*;
+use std::alloc::Global;
+use std::process::Abort;
 use std::test::Fail;
 use tree_specs::{Call, Name, Obj, Owner, ReportRow, RowKind};
 
@@ -20,6 +22,24 @@ fn reads_numbers(rt: HostRuntime) {
     ];
     for (text, want) in cases {
         assert_eq!(rt; read_number(text), want, "at {text:?}");
+    }
+}
+
+#[test]
+fn reads_what_a_routine_returns(rt: HostRuntime) {
+    let cases = [
+        (b"0".as_slice(), Some(0)),
+        (b"16".as_slice(), Some(16)),
+        (b"4294967295".as_slice(), Some(4_294_967_295)),
+        (b"4294967296".as_slice(), None),
+        (b"18446744073709551616".as_slice(), None),
+        (b"01".as_slice(), None),
+        (b"-1".as_slice(), None),
+        (b"0 ".as_slice(), None),
+        (b"".as_slice(), None),
+    ];
+    for (text, want) in cases {
+        assert_eq!(rt; read_return(text), want, "at {text:?}");
     }
 }
 
@@ -115,6 +135,29 @@ fn reads_calls_that_place_an_object(rt: HostRuntime) -> Result<(), Fail> {
 }
 
 #[test]
+fn reads_hook_and_unhook(rt: HostRuntime) -> Result<(), Fail> {
+    let cases = [
+        (b"hook 1 16".as_slice(), 16),
+        (b"hook 1 1".as_slice(), 1),
+        (b"hook 1 4294967295".as_slice(), 4_294_967_295),
+    ];
+    for (text, want) in cases {
+        match read_call(rt.alloc(), text)? {
+            Call::Hook { x, routine } => {
+                assert_eq!(rt; x, Obj(1), "at {text:?}");
+                assert_eq!(rt; routine, want, "at {text:?}");
+            }
+            _ => assert!(rt; false, "another call"),
+        }
+    }
+    match read_call(rt.alloc(), b"unhook 1")? {
+        Call::Unhook { x } => assert_eq!(rt; x, Obj(1)),
+        _ => assert!(rt; false, "another call"),
+    }
+    Ok(())
+}
+
+#[test]
 fn reads_rename_and_parent(rt: HostRuntime) -> Result<(), Fail> {
     match read_call(rt.alloc(), b"rename 9 a-b")? {
         Call::Rename { x, name } => {
@@ -162,6 +205,9 @@ fn writes_what_was_read(rt: HostRuntime) -> Result<(), Fail> {
         b"steal 7 9".as_slice(),
         b"move 0 9".as_slice(),
         b"reparent 7 0 9".as_slice(),
+        b"hook 1 16".as_slice(),
+        b"hook 18446744073709551615 4294967295".as_slice(),
+        b"unhook 1".as_slice(),
         b"rename 9 a-b".as_slice(),
         b"parent 9".as_slice(),
         b"total 0".as_slice(),
@@ -177,6 +223,16 @@ fn writes_what_was_read(rt: HostRuntime) -> Result<(), Fail> {
         assert_eq!(rt; out.as_slice(), text);
     }
     Ok(())
+}
+
+// None of these texts is a call.
+fn are_no_calls(rt: &impl Abort, alloc: Global, texts: &[&[u8]]) {
+    for text in texts {
+        assert!(rt;
+            matches!(read_call(alloc, text), Err(FormFault::NoForm)),
+            "at {text:?}"
+        );
+    }
 }
 
 #[test]
@@ -207,12 +263,25 @@ fn reads_no_call(rt: HostRuntime) {
         b"report".as_slice(),
         b"report 7 0".as_slice(),
     ];
-    for text in texts {
-        assert!(rt;
-            matches!(read_call(rt.alloc(), text), Err(FormFault::NoForm)),
-            "at {text:?}"
-        );
-    }
+    are_no_calls(&rt, rt.alloc(), &texts);
+}
+
+#[test]
+fn reads_no_hook(rt: HostRuntime) {
+    let texts = [
+        b"hook".as_slice(),
+        b"hook 1".as_slice(),
+        b"hook 1 0".as_slice(),
+        b"hook 1 4294967296".as_slice(),
+        b"hook 1 016".as_slice(),
+        b"hook 01 16".as_slice(),
+        b"hook 1 16 2".as_slice(),
+        b"hook 1 16 ".as_slice(),
+        b"unhook".as_slice(),
+        b"unhook 01".as_slice(),
+        b"unhook 1 16".as_slice(),
+    ];
+    are_no_calls(&rt, rt.alloc(), &texts);
 }
 
 #[test]

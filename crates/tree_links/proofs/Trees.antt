@@ -5,15 +5,13 @@ use Rattle.std.proofs.lemmas.Option.{slice_get-get_or}
 use Rattle.tree_specs.specs.declared.kind.Kind.{Kind}
 use Rattle.tree_specs.specs.declared.object.Obj.{Obj}
 use Rattle.tree_specs.specs.declared.object.Owner.{Owner}
-use Rattle.tree_specs.specs.declared.object.Owner.TheVariants.{Root, Of}
+use Rattle.tree_specs.specs.declared.object.Owner.TheVariants.{Of}
 use Rattle.tree_specs.specs.declared.row.Row.{Row}
 use Rattle.tree_specs.specs.Objects.{same}
 use Rattle.tree_specs.specs.Calls.{row_limit, size_limit}
 use Rattle.tree_specs.specs.Pool.{Pool, row_of, is_owner, is_inside, first_kid, without, changed, new_row, left_row, place}
-use Rattle.tree_specs.specs.Ancestry.{Rooted}
 use Rattle.tree_specs.proofs.Numbered.{by_test, same-true}
-use Rattle.tree_specs.proofs.Rows.{Distinct-without, Distinct-changed, row_of-serial, row_of-without-same}
-use Rattle.tree_specs.proofs.Rooted.{AllOwned-new, AllOwned-placed, AllOwned-changed, AllOwned-left, AllOwned-without, Rooted-new, Rooted-placed, Rooted-changed, Rooted-left, Rooted-without}
+use Rattle.tree_specs.proofs.Rooted.{KeepsPlace, forest-new, forest-placed, forest-changed, forest-left, forest-without}
 use Rattle.tree_links.specs.Links.{AllFit, IsTree}
 use Rattle.tree_links.specs.Found.{StandsAt}
 
@@ -33,24 +31,20 @@ fresh next (r ∷ rs) f = by_test (same r.serial (record { 0 = next }))
 pub added-tree : (rs : List Row) (next : ℕ) (kind : Kind) (o : Owner) (size : ℕ) (name : List ℕ) → IsTree rs next → length rs < row_limit → size < size_limit → is_owner rs o ≡ true
     → IsTree (new_row (record { 0 = next }) kind o size name ∷ rs) (next + 1)
 added-tree rs next kind o size name t few small owner =
-    let none = fresh next rs t.fit in
     record {
-      distinct = (none, t.distinct);
+      forest = forest-new rs (record { 0 = next }) kind o size name t.forest (fresh next rs t.fit) owner;
       fit = (omega arith, small, fit-more next rs t.fit);
       few = omega (arith, few);
-      owned = AllOwned-new rs (record { 0 = next }) kind o size name t.owned owner;
-      rooted = Rooted-new rs (record { 0 = next }) kind o size name t.rooted t.owned none owner;
     }
 
 pub numbered-tree : (rs : List Row) (next : ℕ) → IsTree rs next → IsTree rs (next + 1)
-numbered-tree rs next t = record { distinct = t.distinct; fit = fit-more next rs t.fit; few = t.few; owned = t.owned; rooted = t.rooted }
+numbered-tree rs next t = record { forest = t.forest; fit = fit-more next rs t.fit; few = t.few }
 
 -- ---- a row that is changed in its place
 
 -- a change that leaves the number and the owner, and leaves the size small
 pub record Mends (f : Row → Row) : Type 0 where
-  pub serial : (r : Row) → (f r).serial ≡ r.serial
-  pub owner : (r : Row) → (f r).owner ≡ r.owner
+  pub place : KeepsPlace f
   pub size : (r : Row) → r.size < size_limit → (f r).size < size_limit
 
 fit-changed : (f : Row → Row) (next : ℕ) (rs : List Row) (x : Obj) → ((r : Row) → (f r).serial ≡ r.serial) → ((r : Row) → r.size < size_limit → (f r).size < size_limit) → AllFit next rs → AllFit next (changed f rs x)
@@ -65,20 +59,16 @@ length-changed f (r ∷ rs) x = let ih = length-changed f rs x in by_test (same 
 
 pub changed-tree : (f : Row → Row) (rs : List Row) (next : ℕ) (x : Obj) → Mends f → IsTree rs next → IsTree (changed f rs x) next
 changed-tree f rs next x m t = record {
-  distinct = Distinct-changed f rs x m.serial t.distinct;
-  fit = fit-changed f next rs x m.serial m.size t.fit;
+  forest = forest-changed f rs x m.place t.forest;
+  fit = fit-changed f next rs x m.place.serial m.size t.fit;
   few = (let l = length-changed f rs x in omega (arith, l, t.few));
-  owned = AllOwned-changed f rs x m.serial m.owner t.owned;
-  rooted = Rooted-changed f rs x m.serial m.owner t.rooted;
 }
 
 pub left-tree : (rs : List Row) (next : ℕ) (x : Obj) → IsTree rs next → IsTree (changed left_row rs x) next
 left-tree rs next x t = record {
-  distinct = Distinct-changed left_row rs x (λ r. refl) t.distinct;
+  forest = forest-left rs x t.forest;
   fit = fit-changed left_row next rs x (λ r. refl) (λ r l. l) t.fit;
   few = (let l = length-changed left_row rs x in omega (arith, l, t.few));
-  owned = AllOwned-left rs x t.owned;
-  rooted = Rooted-left rs x t.rooted;
 }
 
 -- ---- a row that goes, or goes to another owner
@@ -111,11 +101,9 @@ shorter rs x None e = none rs e
 
 pub without-tree : (rs : List Row) (next : ℕ) (x : Obj) → IsTree rs next → first_kid rs (Of x) ≡ None → IsTree (without rs x) next
 without-tree rs next x t alone = record {
-  distinct = Distinct-without rs x t.distinct;
+  forest = forest-without rs x t.forest alone;
   fit = fit-without next rs x t.fit;
   few = (let l = shorter rs x (row_of rs x) refl in omega (arith, l, t.few));
-  owned = AllOwned-without rs x t.owned alone;
-  rooted = Rooted-without rs x t.distinct t.rooted;
 }
 
 pub placed-tree : (p : Pool) (o : Owner) (x : Obj) (r : Row) → IsTree p.rows p.next → row_of p.rows x ≡ Some r → is_owner p.rows o ≡ true → is_inside p.rows o (Of x) ≡ false
@@ -125,11 +113,9 @@ placed-tree p o x r t e owner apart =
     let f = fit-row p.next p.rows x r t.fit e in
     let l = length-without p.rows x r e in
     record {
-      distinct = (ap (row_of (without p.rows x)) (row_of-serial p.rows x r e) ∙ row_of-without-same p.rows x t.distinct, Distinct-without p.rows x t.distinct);
+      forest = rw rows at (forest-placed p o x r t.forest e owner apart);
       fit = (f.0, f.1, fit-without p.next p.rows x t.fit);
       few = omega (arith, l, t.few);
-      owned = rw rows at (AllOwned-placed p o x r t.owned e owner);
-      rooted = rw rows at (Rooted-placed p o x r t.rooted e apart);
     }
 
 -- ---- the same of the row at an index

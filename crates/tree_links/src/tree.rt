@@ -4,7 +4,7 @@ ghost use Rattle.tree_specs.specs.Pool.{is_below as is_child_of};
 use std::alloc::Global;
 use std::collections::VecDeque;
 use std::marker::Model;
-use tree_specs::{Kind, Mark, Memory, Name, Obj, Owner, Row};
+use tree_specs::{FreeFrame, Kind, Mark, Memory, Name, Obj, Owner, Row};
 
 /// What a new object begins with. It is quiet, and has no destructor.
 #[derive(Debug, Drop)]
@@ -15,12 +15,15 @@ pub struct NewRow {
     pub size: u64,
 }
 
-/// The objects and who owns them. Contracts see the list of rows, the most recently placed first, the next
-/// serial number, and spare: so many rows can be added without taking memory.
+/// The objects and who owns them, with the works of the frees that are open on them. Contracts see the list of
+/// rows, the most recently placed first, the next serial number, and spare: so many rows can be added without
+/// taking memory; and the list of works, the innermost first, with room for so many more.
 #[derive(Debug, Drop)]
 pub struct Tree {
     rows: VecDeque<Row>,
     next: u64,
+    /// The innermost work is the last.
+    frees: Vec<FreeFrame>,
 }
 
 impl Model for Tree {
@@ -28,10 +31,10 @@ impl Model for Tree {
 
     ghost Value = { Links };
 
-    ghost use Rattle.std.specs.Prelude.{◌-◌};
+    ghost use Rattle.std.specs.Prelude.{◌-◌, length, reverse, vec_capacity};
     ghost use Rattle.std.specs.VecDeque.{deque_len, deque_capacity};
 
-    ghost view = { λ t. record { rows = t.rows.items; next = t.next; spare = deque_capacity t.rows - deque_len t.rows } };
+    ghost view = { λ t. record { rows = t.rows.items; next = t.next; spare = deque_capacity t.rows - deque_len t.rows; frees = reverse t.frees.items; room = vec_capacity t.frees - length t.frees.items } };
 
     ghost invariant = { λ t. IsTree t.rows.items t.next };
 }
@@ -47,33 +50,71 @@ fn is_below(owner: Option<Owner>, p: Owner) -> bool
 }
 
 impl Tree {
-    ghost use Rattle.std.specs.Prelude.{position, ◌≡◌, ℕ, ◌+◌, ◌-◌, ◌^◌, ◌<◌, ◌≤◌, ◌∷◌, [], ◌↔◌, drop, true, false, None, ◌&&◌, IsTrue, IsSome, OnOk, MatchOption, length};
+    ghost use Rattle.std.specs.Prelude.{slice_get, position, ◌≡◌, ℕ, ◌+◌, ◌-◌, ◌^◌, ◌<◌, ◌≤◌, ◌∷◌, [], ◌↔◌, drop, true, false, None, ◌&&◌, IsTrue, IsSome, OnOk, MatchOption, length};
     ghost use Rattle.std.specs.Option.{option_copied};
     ghost use Rattle.tree_specs.specs.declared.object.Owner.TheVariants.{Of as At};
     ghost use Rattle.tree_specs.specs.Objects.{same};
     ghost use Rattle.tree_specs.specs.Calls.{row_limit, size_limit};
     ghost use Rattle.tree_specs.specs.Pool.{empty, is_row, is_owner, is_dying, row_of, is_below, first_kid as kid_first, next_kid as kid_next, add as added, take_number as number_taken, detach as detached, remove as removed, place as placed, rename as renamed, set_mark as marked, set_hook as hooked, set_size as resized, owner_of, next_owner as owner_after, is_inside as is_inside_of, is_dying_mark};
-    ghost use Rattle.tree_links.specs.Links.{IsTree, pool_of, number_after};
+    ghost use Rattle.tree_links.specs.Links.{IsTree, pool_of, works_of, number_after};
     ghost use Rattle.tree_links.specs.Found.{StandsAt, StandsNowhere};
 
-    /// A tree with no rows, whose next serial number is `first`. It takes no memory.
+    /// A tree with no rows, whose next serial number is `first`, and no open free. It takes no memory.
     pub fn new(alloc: Global, first: u64) -> Self
-        ensures { pool_of result ≡ empty first }
+        ensures rows { pool_of result ≡ empty first }
+        ensures works { result.frees ≡ [] }
     {
         Tree {
             rows: VecDeque::new(alloc),
             next: first,
+            frees: Vec::new(alloc),
         }
     }
 
-    /// Takes memory for so many more rows. After want of memory the rows are as they were.
+    /// Takes memory for so many more rows, and for the works of all frees that these and the present rows can
+    /// want until the next destructor runs: one for each of them, and two. After want of memory rows and works
+    /// are as they were.
     pub fn reserve(&mut self, rows: usize) -> Result<(), Memory>
         ensures rows { pool_of self.new ≡ pool_of self.old }
         ensures spare { OnOk result (rows ≤ self.new.spare) }
         ensures kept { self.old.spare ≤ self.new.spare }
+        ensures works { self.new.frees ≡ self.old.frees }
+        ensures room { OnOk result (length self.old.rows + rows + 2 ≤ self.new.room) }
+        ensures room_kept { self.old.room ≤ self.new.room }
     {
+        let works = self.rows.len().checked_add(rows).ok_or(Memory)?;
+        self.frees.reserve(works.checked_add(2).ok_or(Memory)?)?;
         self.rows.reserve(rows)?;
         Ok(())
+    }
+
+    /// The work of the innermost open free. None exactly where no free is open.
+    pub fn innermost_free(&self) -> Option<FreeFrame>
+        ensures { result ≡ slice_get self.now.frees 0 }
+    {
+        self.frees.last().copied()
+    }
+
+    /// Puts a work before those of the open frees. It takes no memory.
+    pub fn push_free(&mut self, work: FreeFrame)
+        requires { 0 < self.old.room }
+        ensures rows { pool_of self.new ≡ pool_of self.old }
+        ensures spare { self.new.spare ≡ self.old.spare }
+        ensures works { self.new.frees ≡ work ∷ self.old.frees }
+        ensures room { self.old.room ≤ self.new.room + 1 }
+    {
+        self.frees.push_reserved(work);
+    }
+
+    /// Takes the innermost work of the open frees away. None exactly where no free is open.
+    pub fn pop_free(&mut self) -> Option<FreeFrame>
+        ensures rows { pool_of self.new ≡ pool_of self.old }
+        ensures spare { self.new.spare ≡ self.old.spare }
+        ensures work { result ≡ slice_get self.old.frees 0 }
+        ensures works { self.new.frees ≡ drop 1 self.old.frees }
+        ensures room { length self.old.frees + self.old.room ≤ length self.new.frees + self.new.room }
+    {
+        self.frees.pop()
     }
 
     /// Adds an object at the front below its owner, and gives its serial number. It takes no memory.
@@ -86,6 +127,7 @@ impl Tree {
         ensures serial { result ≡ record { 0 = self.old.next } }
         ensures rows { pool_of self.new ≡ added (pool_of self.old) row.kind owner row.size row.name }
         ensures spare { self.old.spare ≤ self.new.spare + 1 }
+        ensures works { works_of self.new ≡ works_of self.old }
     {
         let serial = Obj(self.next);
         self.rows.push_front_reserved(Row {
@@ -108,6 +150,7 @@ impl Tree {
         ensures taken { IsSome result → pool_of self.new ≡ number_taken (pool_of self.old) }
         ensures spent { result ≡ None → self.new ≡ self.old }
         ensures spare { self.new.spare ≡ self.old.spare }
+        ensures works { works_of self.new ≡ works_of self.old }
     {
         if self.next == u64::MAX {
             return None;
@@ -197,6 +240,13 @@ impl Tree {
         self.row(x)?.owner
     }
 
+    /// Whether an owner owns an object: it is its own owner, and not only one that it is inside.
+    pub fn owns(&self, owner: Owner, x: Obj) -> bool
+        ensures { result ≡ is_below (owner_of self.now.rows x) owner }
+    {
+        is_below(self.parent(x), owner)
+    }
+
     fn next_owner(&self, owner: Owner) -> Option<Owner>
         ensures { result ≡ owner_after self.now.rows owner }
     {
@@ -240,6 +290,7 @@ impl Tree {
         requires apart { is_inside_of self.old.rows owner (At x) ≡ false }
         ensures rows { pool_of self.new ≡ placed (pool_of self.old) owner x }
         ensures spare { self.old.spare ≤ self.new.spare }
+        ensures works { works_of self.new ≡ works_of self.old }
     {
         if let Some(i) = self.find(x)
             && let Some(mut row) = self.rows.remove(i)
@@ -254,6 +305,7 @@ impl Tree {
         requires { is_row self.old.rows x ≡ true }
         ensures rows { pool_of self.new ≡ renamed (pool_of self.old) x name }
         ensures spare { self.old.spare ≤ self.new.spare }
+        ensures works { works_of self.new ≡ works_of self.old }
     {
         if let Some(i) = self.find(x) {
             self.rows[i].name = name;
@@ -267,6 +319,7 @@ impl Tree {
         requires other { is_dying_mark mark ≡ false }
         ensures rows { pool_of self.new ≡ marked (pool_of self.old) x mark }
         ensures spare { self.old.spare ≤ self.new.spare }
+        ensures works { works_of self.new ≡ works_of self.old }
     {
         if let Some(i) = self.find(x) {
             self.rows[i].mark = mark;
@@ -278,6 +331,7 @@ impl Tree {
         requires { is_row self.old.rows x ≡ true }
         ensures rows { pool_of self.new ≡ hooked (pool_of self.old) x hook }
         ensures spare { self.old.spare ≤ self.new.spare }
+        ensures works { works_of self.new ≡ works_of self.old }
     {
         if let Some(i) = self.find(x) {
             self.rows[i].hook = hook;
@@ -290,6 +344,7 @@ impl Tree {
         requires small { size < size_limit }
         ensures rows { pool_of self.new ≡ resized (pool_of self.old) x size }
         ensures spare { self.old.spare ≤ self.new.spare }
+        ensures works { works_of self.new ≡ works_of self.old }
     {
         if let Some(i) = self.find(x) {
             self.rows[i].size = size;
@@ -302,6 +357,7 @@ impl Tree {
         requires live { is_dying self.old.rows x ≡ false }
         ensures rows { pool_of self.new ≡ detached (pool_of self.old) x }
         ensures spare { self.old.spare ≤ self.new.spare }
+        ensures works { works_of self.new ≡ works_of self.old }
     {
         if let Some(i) = self.find(x) {
             let row = &mut self.rows[i];
@@ -316,6 +372,7 @@ impl Tree {
         requires alone { kid_first self.old.rows (At x) ≡ None }
         ensures rows { pool_of self.new ≡ removed (pool_of self.old) x }
         ensures spare { self.old.spare ≤ self.new.spare }
+        ensures works { works_of self.new ≡ works_of self.old }
     {
         if let Some(i) = self.find(x) {
             let _row = self.rows.remove(i);

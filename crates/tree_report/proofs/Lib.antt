@@ -1,4 +1,3 @@
-pub mod References
 pub mod Walking
 pub mod Weighing
 pub mod Showing

@@ -8,12 +8,11 @@ use Rattle.tree_specs.specs.declared.report.ReportRow.{ReportRow}
 use Rattle.tree_specs.specs.declared.row.Row.{Row}
 use Rattle.tree_specs.specs.Pool.{row_of, owner_in, owner_of, is_owner, kids}
 use Rattle.tree_specs.specs.Reports.{with_below, report_each, report_below, report}
-use Rattle.tree_specs.specs.Sound.{Distinct}
-use Rattle.tree_specs.specs.Ancestry.{IsThere, AllOwned}
+use Rattle.tree_specs.specs.Forest.{Distinct, IsThere, AllOwned}
 use Rattle.tree_specs.proofs.Rooted.{is_there-owner}
 use Rattle.tree_links.specs.Links.{IsTree}
 use Rattle.tree_report.specs.declared.walk.Place.{Place}
-use Rattle.tree_report.specs.Walk.{placed, from_here}
+use Rattle.tree_report.specs.Walk.{placed, walk_from}
 use Rattle.tree_report.specs.Shown.{shown_row, shown_at, shown}
 use Rattle.tree_report.proofs.Walking.{EachOwned, kids-owned}
 
@@ -71,16 +70,9 @@ report-from rs (Of x) distinct a = go (row_of rs x) refl
         let alone : kids rs (Of x) ≡ [] = no-owner rs x (kids rs (Of x)) a e (kids-owned rs (Of x) distinct) in
         rw e (sym (nothing-below (length rs) rs 1) ∙ ap (report_each (length rs) rs 1) (sym alone))
 
-whole-shown : (rs : List Row) (next : ℕ) (p : Owner) → IsTree rs next → shown rs (from_here rs (Some (record { owner = p; depth = 0 }))) ≡ report rs p
-whole-shown rs next p t =
-    ap (λ (l : List Place). shown_at rs 0 p ++ shown rs l) (append-nil (placed (length rs) rs 1 (kids rs p)))
-    ∙ ap (λ (l : List ReportRow). shown_at rs 0 p ++ l) (sym (placed-shown (length rs) 1 rs p t.distinct))
-    ∙ sym (report-from rs p t.distinct t.owned)
-
 -- the report is the rows of the walk
-pub report-shown : (rs : List Row) (next : ℕ) (place : Place) (from : Owner) (rows : List ReportRow) → IsTree rs next → place ≡ record { owner = from; depth = 0 } → rows ≡ []
-    → rows ++ shown rs (from_here rs (Some place)) ≡ report rs from
-report-shown rs next place from rows t e q =
-    ap (λ (l : List ReportRow). l ++ shown rs (from_here rs (Some place))) q
-    ∙ ap (λ (p : Place). shown rs (from_here rs (Some p))) e
-    ∙ whole-shown rs next from t
+pub walk_shown : (rs : List Row) (next : ℕ) (from : Owner) → IsTree rs next → shown rs (walk_from rs from) ≡ report rs from
+walk_shown rs next from t =
+    ap (λ (l : List Place). shown_at rs 0 from ++ shown rs l) (append-nil (placed (length rs) rs 1 (kids rs from)))
+    ∙ ap (λ (l : List ReportRow). shown_at rs 0 from ++ l) (sym (placed-shown (length rs) 1 rs from t.forest.distinct))
+    ∙ sym (report-from rs from t.forest.distinct t.forest.owned)

@@ -7,8 +7,7 @@ use Rattle.tree_specs.specs.declared.object.Owner.TheVariants.{Of}
 use Rattle.tree_specs.specs.declared.row.Row.{Row}
 use Rattle.tree_specs.specs.Objects.{same}
 use Rattle.tree_specs.specs.Pool.{owner_of, next_owner, is_below, kids, first_kid, behind, kid_behind, next_kid}
-use Rattle.tree_specs.specs.Sound.{Distinct}
-use Rattle.tree_specs.specs.Ancestry.{ends, Rooted}
+use Rattle.tree_specs.specs.Forest.{Distinct, ends, Rooted}
 use Rattle.tree_specs.proofs.Numbered.{by_test, same-true, same_owner-equal}
 use Rattle.tree_specs.proofs.Kids.{first_kid-kids, kids-split}
 use Rattle.tree_links.specs.Links.{IsTree}
@@ -78,7 +77,7 @@ apart rs (suc d) (suc m) (Some o) f t = let ih = apart rs d m (next_owner rs o) 
 
 -- an owner is at most as deep as there are rows
 pub deep-bound : (rs : List Row) (next : ℕ) (place : Place) → IsTree rs next → IsDeep rs (Some place) → place.depth ≤ length rs
-deep-bound rs next place t deep = let h = apart rs place.depth (suc (length rs)) (Some place.owner) deep (t.rooted place.owner) in omega (arith, h)
+deep-bound rs next place t deep = let h = apart rs place.depth (suc (length rs)) (Some place.owner) deep (t.forest.rooted place.owner) in omega (arith, h)
 
 kid-deep : (rs : List Row) (h : ℕ) (p : Owner) (x : Obj) → owner_of rs x ≡ Some p → ends h rs (Some p) ≡ false → ends (suc h) rs (Some (Of x)) ≡ false
 kid-deep rs h p x e f = ap (ends h rs) e ∙ f
@@ -143,13 +142,13 @@ pub down-place : (rs : List Row) (next : ℕ) (place : Place) (y : Obj) → IsTr
     → ahead rs place ≡ from_here rs (Some (at_depth (place.depth + 1) y))
 down-place rs next place y t e =
     let q : suc place.depth ≡ place.depth + 1 = omega arith in
-    subst (λ (d : ℕ). ahead rs place ≡ from_here rs (Some (at_depth d y))) q (down rs place.depth place.owner y t.distinct t.rooted e)
+    subst (λ (d : ℕ). ahead rs place ≡ from_here rs (Some (at_depth d y))) q (down rs place.depth place.owner y t.forest.distinct t.forest.rooted e)
 
 pub down-deep : (rs : List Row) (next : ℕ) (place : Place) (y : Obj) → IsTree rs next → first_kid rs place.owner ≡ Some y → IsDeep rs (Some place)
     → IsDeep rs (Some (at_depth (place.depth + 1) y))
 down-deep rs next place y t e deep =
     let b = first-kid rs place.owner y e in
-    let s = kids-split rs place.owner y [] b.others t.distinct b.split in
+    let s = kids-split rs place.owner y [] b.others t.forest.distinct b.split in
     let q : suc place.depth ≡ place.depth + 1 = omega arith in
     subst (λ (d : ℕ). ends d rs (Some (Of y)) ≡ false) q (kid-deep rs place.depth place.owner y s.owned deep)
 
@@ -188,12 +187,12 @@ pub on-place : (rs : List Row) (next : ℕ) (d : ℕ) (o : Owner) (x y : Obj) (w
     → whole ≡ from_here rs (Some (at_depth d y))
 on-place rs next zero o x y whole t l q e w = absurd (omega arith)
 on-place rs next (suc d) o x y whole t l q e w =
-    w ∙ ap (λ (p : Owner). left (suc d) rs (Some p)) q ∙ (on rs d x y t.distinct (sym e)).left
+    w ∙ ap (λ (p : Owner). left (suc d) rs (Some p)) q ∙ (on rs d x y t.forest.distinct (sym e)).left
 
 pub on-deep : (rs : List Row) (next : ℕ) (d : ℕ) (o : Owner) (x y : Obj) → IsTree rs next → 0 < d → o ≡ Of x → Some y ≡ next_kid rs x → ends d rs (Some o) ≡ false
     → ends d rs (Some (Of y)) ≡ false
 on-deep rs next zero o x y t l q e f = absurd (omega arith)
-on-deep rs next (suc d) o x y t l q e f = (on rs d x y t.distinct (sym e)).deep ∙ ap (λ (p : Owner). ends (suc d) rs (Some p)) (sym q) ∙ f
+on-deep rs next (suc d) o x y t l q e f = (on rs d x y t.forest.distinct (sym e)).deep ∙ ap (λ (p : Owner). ends (suc d) rs (Some p)) (sym q) ∙ f
 
 -- up to the owner
 no-next : (rs : List Row) (x : Obj) (o : Owner) → next_kid rs x ≡ None → owner_of rs x ≡ Some o → later rs (Of x) ≡ []
@@ -214,6 +213,3 @@ up-deep rs zero o p x l q w f = absurd (omega arith)
 up-deep rs (suc d) o p x l q w f =
     let k : suc d - 1 ≡ d = omega arith in
     ap (λ (n : ℕ). ends n rs (Some p)) k ∙ ap (ends d rs) w ∙ ap (λ (z : Owner). ends (suc d) rs (Some z)) (sym q) ∙ f
-
-pub start-deep : (rs : List Row) (place : Place) (from : Owner) → place ≡ record { owner = from; depth = 0 } → IsDeep rs (Some place)
-start-deep rs place from e = ap (λ (p : Place). ends p.depth rs (Some p.owner)) e

@@ -1,82 +1,97 @@
 -- The sums over what is inside an owner are sums over a walk.
-use Rattle.std.proofs.Common.{◌≡◌, ℕ, zero, suc, ◌+◌, ◌*◌, ◌^◌, ◌<◌, ◌≤◌, List, [], ◌∷◌, ◌++◌, length, Some, Bool, ◌&&◌, not, if◌then◌else◌, refl, ◌∙◌, ap, arith}
+use Rattle.std.proofs.Common.{◌≡◌, ℕ, zero, suc, ◌*◌, ◌^◌, ◌<◌, ◌≤◌, List, [], ◌∷◌, length, map, Bool, if◌then◌else◌, refl, ap, arith}
+use Rattle.std.specs.List.{flat_map, sum_by}
 use Rattle.std.proofs.lemmas.List.{append-nil}
+use Rattle.std.proofs.lemmas.List.Recursion.{is_sum_by}
+use Rattle.std.proofs.lemmas.List.Sums.{sum_by-cons, sum_by-append}
+use Rattle.std.specs.Fn.{Called}
+use Rattle.std.specs.Iterator.{YieldsFirst}
+use Rattle.std.specs.Iterator.Adapters.{map_source, map_callee}
+use Rattle.std.specs.declared.iter.Map.{Map}
+use Rattle.std.proofs.lemmas.Iterator.{YieldsList, maps, YieldsList-from_map}
+use Rattle.std.proofs.lemmas.Iterator.Consumers.{YieldsList-from_first}
+use denote.Param.Members.{Mut}
 use Rattle.tree_specs.specs.declared.object.Obj.{Obj}
 use Rattle.tree_specs.specs.declared.object.Owner.{Owner}
-use Rattle.tree_specs.specs.declared.object.Owner.TheVariants.{Of}
+use Rattle.tree_specs.specs.declared.object.Owner.TheVariants.{Root, Of}
 use Rattle.tree_specs.specs.declared.row.Row.{Row}
 use Rattle.tree_specs.specs.Calls.{size_limit}
 use Rattle.tree_specs.specs.Pool.{kids, is_inside}
-use Rattle.tree_specs.specs.Inside.{total, is_reference, size_inside, count_inside}
-use Rattle.tree_specs.specs.Ancestry.{walked, weight_at, total_of}
+use Rattle.tree_specs.specs.Inside.{total, is_reference, count_inside}
+use Rattle.tree_specs.specs.Walks.{walked, weight_in, weight_at, own, total_of}
 use Rattle.tree_specs.proofs.Numbered.{by_test}
-use Rattle.tree_specs.proofs.Walk.{inside-walked}
+use Rattle.tree_specs.proofs.Walk.{total-same, inside-walked}
 use Rattle.tree_links.specs.Links.{AllFit, IsTree}
 use Rattle.tree_report.specs.declared.walk.Place.{Place}
-use Rattle.tree_report.specs.Walk.{placed, from_here}
-use Rattle.tree_report.specs.Weights.{sized, counted, weight_of}
+use Rattle.tree_report.specs.Walk.{at_depth, placed, ahead, walk_from}
+use Rattle.tree_report.specs.Weights.{own_row, sized, counted, weight_of}
+
+-- the weight of all rows inside an owner
+abbrev pub inside_weight : (Row → ℕ) → List Row → Owner → ℕ
+inside_weight g rs from = total (λ r. if is_inside rs (Of r.serial) from then g r else 0) rs
 
 -- ---- weights along a walk
 
-weight_of-append : (g : Row → ℕ) (rs : List Row) (ps qs : List Place) → weight_of g rs (ps ++ qs) ≡ weight_of g rs ps + weight_of g rs qs
-weight_of-append g rs [] qs = omega arith
-weight_of-append g rs (p ∷ ps) qs = let ih = weight_of-append g rs ps qs in omega (arith, ih)
+flat-weight : (f : Place → ℕ) (h : Obj → ℕ) (places : Obj → List Place) (objects : Obj → List Obj) → ((x : Obj) → sum_by f (places x) ≡ sum_by h (objects x)) → (xs : List Obj)
+    → sum_by f (flat_map places xs) ≡ sum_by h (flat_map objects xs)
+flat-weight f h places objects k [] = refl
+flat-weight f h places objects k (x ∷ xs) =
+    let ih = flat-weight f h places objects k xs in
+    omega (arith, ih, k x, sum_by-append f (places x) (flat_map places xs), sum_by-append h (objects x) (flat_map objects xs))
 
-total_of-append : (h : Obj → ℕ) (xs ys : List Obj) → total_of h (xs ++ ys) ≡ total_of h xs + total_of h ys
-total_of-append h [] ys = omega arith
-total_of-append h (x ∷ xs) ys = let ih = total_of-append h xs ys in omega (arith, ih)
-
-each-weight : (n d : ℕ) (g : Row → ℕ) (rs : List Row) (xs : List Obj)
-    → ((x : Obj) → weight_of g rs (placed n rs (suc d) (kids rs (Of x))) ≡ total_of (weight_at g rs) (walked n rs (kids rs (Of x))))
-    → weight_of g rs (placed (suc n) rs d xs) ≡ total_of (weight_at g rs) (walked (suc n) rs xs)
-each-weight n d g rs [] k = refl
-each-weight n d g rs (x ∷ xs) k =
-    let ih = each-weight n d g rs xs k in
-    let e1 = weight_of-append g rs (placed n rs (suc d) (kids rs (Of x))) (placed (suc n) rs d xs) in
-    let e2 = total_of-append (weight_at g rs) (walked n rs (kids rs (Of x))) (walked (suc n) rs xs) in
-    let e3 = k x in
-    omega (arith, ih, e1, e2, e3)
-
-placed-weight : (n d : ℕ) (g : Row → ℕ) (rs : List Row) (xs : List Obj) → weight_of g rs (placed n rs d xs) ≡ total_of (weight_at g rs) (walked n rs xs)
+placed-weight : (n d : ℕ) (g : Row → ℕ) (rs : List Row) (xs : List Obj) → sum_by (weight_of g rs) (placed n rs d xs) ≡ sum_by (weight_at g rs) (walked n rs xs)
 placed-weight zero d g rs xs = refl
-placed-weight (suc n) d g rs xs = each-weight n d g rs xs (λ x. placed-weight n (suc d) g rs (kids rs (Of x)))
+placed-weight (suc n) d g rs xs = flat-weight (weight_of g rs) (weight_at g rs) (λ x. at_depth d x ∷ placed n rs (suc d) (kids rs (Of x))) (λ x. x ∷ walked n rs (kids rs (Of x)))
+    (λ x. let ih = placed-weight n (suc d) g rs (kids rs (Of x)) in
+    omega (arith, ih, sum_by-cons (weight_of g rs) (at_depth d x) (placed n rs (suc d) (kids rs (Of x))), sum_by-cons (weight_at g rs) x (walked n rs (kids rs (Of x)))))
+    xs
 
--- the weight over all rows inside an owner is the weight along the walk from it
-whole-weight : (g : Row → ℕ) (rs : List Row) (next : ℕ) (from : Owner) → IsTree rs next
-    → weight_of g rs (from_here rs (Some (record { owner = from; depth = 0 }))) ≡ total (λ r. if is_inside rs (Of r.serial) from then g r else 0) rs
+own-weight : (g : Row → ℕ) (rs : List Row) (from : Owner) → weight_in g (own_row rs from) ≡ own g rs from
+own-weight g rs Root = refl
+own-weight g rs (Of x) = refl
+
+-- the weight along the walk from an owner
+pub whole-weight : (g : Row → ℕ) (rs : List Row) (next : ℕ) (from : Owner) → IsTree rs next
+    → sum_by (weight_of g rs) (walk_from rs from) ≡ inside_weight g rs from
 whole-weight g rs next from t =
-    let e1 = ap (weight_of g rs) (append-nil (placed (length rs) rs 1 (kids rs from))) in
+    let place : Place = record { owner = from; depth = 0 } in
+    let e0 = sum_by-cons (weight_of g rs) place (ahead rs place) in
+    let e1 = ap (sum_by (weight_of g rs)) (append-nil (placed (length rs) rs 1 (kids rs from))) in
     let e2 = placed-weight (length rs) 1 g rs (kids rs from) in
-    let e3 = inside-walked g rs from t.distinct t.rooted in
-    omega (arith, e1, e2, e3)
+    let e3 = is_sum_by (total_of (weight_at g rs)) (weight_at g rs) refl (λ x xs. refl) (walked (length rs) rs (kids rs from)) in
+    let e4 = own-weight g rs from in
+    let e5 = inside-walked g rs from t.forest.distinct t.forest.rooted in
+    omega (arith, e0, e1, e2, e3, e4, e5)
 
-pub size-weight : (rs : List Row) (next : ℕ) (place : Place) (from : Owner) → IsTree rs next → place ≡ record { owner = from; depth = 0 }
-    → weight_of sized rs (from_here rs (Some place)) ≡ size_inside rs from
-size-weight rs next place from t e = ap (λ (p : Place). weight_of sized rs (from_here rs (Some p))) e ∙ whole-weight sized rs next from t
-
-same-count : (rs : List Row) (p : Owner) (qs : List Row)
-    → total (λ r. if is_inside rs (Of r.serial) p then counted r else 0) qs ≡ total (λ r. if is_inside rs (Of r.serial) p && not (is_reference r.kind) then 1 else 0) qs
-same-count rs p [] = refl
-same-count rs p (r ∷ qs) = let ih = same-count rs p qs in by_test (is_inside rs (Of r.serial) p)
-    (λ t. by_test (is_reference r.kind) (λ u. rw (t, u) (omega (arith, ih))) (λ u. rw (t, u) (omega (arith, ih))))
-    (λ t. rw t (omega (arith, ih)))
-
-pub count-weight : (rs : List Row) (next : ℕ) (place : Place) (from : Owner) → IsTree rs next → place ≡ record { owner = from; depth = 0 }
-    → weight_of counted rs (from_here rs (Some place)) ≡ count_inside rs from
-count-weight rs next place from t e = ap (λ (p : Place). weight_of counted rs (from_here rs (Some p))) e ∙ whole-weight counted rs next from t ∙ same-count rs from rs
+pub count-weight : (rs : List Row) (next : ℕ) (from : Owner) → IsTree rs next → inside_weight counted rs from ≡ count_inside rs from
+count-weight rs next from t = total-same _ _ rs t.forest.distinct (λ r e. by_test (is_inside rs (Of r.serial) from) (λ q. rw q refl) (λ q. rw q refl))
 
 -- ---- the sums fit
 
-sizes-bound : (b : Row → Bool) (next : ℕ) (rs : List Row) → AllFit next rs → total (λ r. if b r then r.size else 0) rs ≤ length rs * size_limit
-sizes-bound b next [] f = omega arith
-sizes-bound b next (r ∷ rs) f = let ih = sizes-bound b next rs f.2 in by_test (b r) (λ t. rw t (omega (arith, ih, f.1))) (λ t. rw t (omega (arith, ih)))
+-- the weight of each row that fits is small
+abbrev pub IsSmall : (Row → ℕ) → Type 0
+IsSmall g = (r : Row) → r.size < size_limit → g r ≤ size_limit
 
-pub size-fits : (rs : List Row) (next : ℕ) (from : Owner) → IsTree rs next → size_inside rs from < 2 ^ 64
-size-fits rs next from t = let b = sizes-bound (λ r. is_inside rs (Of r.serial) from) next rs t.fit in omega (arith, b, t.few)
+pub sized-small : IsSmall sized
+sized-small r l = omega (arith, l)
 
-counts-bound : (b : Row → Bool) (rs : List Row) → total (λ r. if b r then 1 else 0) rs ≤ length rs
-counts-bound b [] = omega arith
-counts-bound b (r ∷ rs) = let ih = counts-bound b rs in by_test (b r) (λ t. rw t (omega (arith, ih))) (λ t. rw t (omega (arith, ih)))
+pub counted-small : IsSmall counted
+counted-small r l = by_test (is_reference r.kind) (λ t. rw t (omega arith)) (λ t. rw t (omega arith))
 
-pub count-fits : (rs : List Row) (next : ℕ) (from : Owner) → IsTree rs next → count_inside rs from < 2 ^ 64
-count-fits rs next from t = let b = counts-bound (λ r. is_inside rs (Of r.serial) from && not (is_reference r.kind)) rs in omega (arith, b, t.few)
+weights-bound : (g : Row → ℕ) (b : Row → Bool) (next : ℕ) (rs : List Row) → IsSmall g → AllFit next rs → total (λ r. if b r then g r else 0) rs ≤ length rs * size_limit
+weights-bound g b next [] small f = omega arith
+weights-bound g b next (r ∷ rs) small f =
+    let ih = weights-bound g b next rs small f.2 in
+    by_test (b r) (λ t. rw t (omega (arith, ih, small r f.1))) (λ t. rw t (omega (arith, ih)))
+
+pub weight-fits : (g : Row → ℕ) (rs : List Row) (next : ℕ) (from : Owner) → IsSmall g → IsTree rs next → sum_by (weight_of g rs) (walk_from rs from) < 2 ^ 64
+weight-fits g rs next from small t =
+    let b = weights-bound g (λ r. is_inside rs (Of r.serial) from) next rs small t.fit in
+    let e = whole-weight g rs next from t in
+    omega (arith, e, b, t.few)
+
+-- ---- what a chain of iterators gives that weighs each place of a walk
+
+pub weights : {F : Type 0} {s : Map (List Place) F} {f : F} (call : Mut F (Place × Unit {0}) ℕ) (g : Row → ℕ) (rs : List Row) (from : Owner) → map_source s ≡ walk_from rs from → map_callee s ≡ f
+    → ((place : Place) (r : ℕ) (q : F) → Called call f (place, tt) r q → (q ≡ f) × (r ≡ weight_of g rs place)) → YieldsList (maps (YieldsFirst (λ w. w)) call) (λ r. r) s (map (weight_of g rs) (walk_from rs from))
+weights call g rs from source closure calls = YieldsList-from_map call (weight_of g rs) (YieldsList-from_first (λ p. p) (λ w. w) (walk_from rs from) source) closure calls

@@ -5,7 +5,7 @@ use Rattle.tree_specs.specs.declared.object.Owner.{Owner}
 use Rattle.tree_specs.specs.declared.object.Owner.TheVariants.{Root, Of}
 use Rattle.tree_specs.specs.declared.row.Row.{Row}
 use Rattle.tree_specs.specs.Pool.{kids, behind, owner_of, next_owner}
-use Rattle.tree_specs.specs.Ancestry.{ends}
+use Rattle.tree_specs.specs.Forest.{ends}
 use Rattle.tree_report.specs.declared.walk.Place.{Place}
 
 abbrev pub at_depth : ℕ → Obj → Place
@@ -39,6 +39,10 @@ ahead rs place = placed (length rs) rs (suc place.depth) (kids rs place.owner) +
 abbrev pub from_here : List Row → Option Place → List Place
 from_here rs None = []
 from_here rs (Some place) = place ∷ ahead rs place
+
+-- the places of a walk from an owner
+abbrev pub walk_from : List Row → Owner → List Place
+walk_from rs from = from_here rs (Some (record { owner = from; depth = 0 }))
 
 -- a place, where there is one, has as many owners above it as its depth says
 abbrev pub IsDeep : List Row → Option Place → Type 0

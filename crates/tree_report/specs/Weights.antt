@@ -1,9 +1,17 @@
 -- What each place of a walk adds to a sum.
-use Rattle.std.specs.Prelude.{ℕ, ◌+◌, List, [], ◌∷◌, if◌then◌else◌}
+use Rattle.std.specs.Prelude.{ℕ, List, Option, None, if◌then◌else◌, not}
+use Rattle.tree_specs.specs.declared.object.Owner.{Owner}
+use Rattle.tree_specs.specs.declared.object.Owner.TheVariants.{Root, Of}
 use Rattle.tree_specs.specs.declared.row.Row.{Row}
 use Rattle.tree_specs.specs.Inside.{is_reference}
-use Rattle.tree_specs.specs.Ancestry.{own}
+use Rattle.tree_specs.specs.Pool.{row_of}
+use Rattle.tree_specs.specs.Walks.{weight_in}
 use Rattle.tree_report.specs.declared.walk.Place.{Place}
+
+-- the row of an owner; the root has none
+abbrev pub own_row : List Row → Owner → Option Row
+own_row rs Root = None
+own_row rs (Of x) = row_of rs x
 
 -- the weight of a row in a total of sizes
 abbrev pub sized : Row → ℕ
@@ -11,9 +19,8 @@ sized r = r.size
 
 -- the weight of a row in a count of objects
 abbrev pub counted : Row → ℕ
-counted r = if is_reference r.kind then 0 else 1
+counted r = if not (is_reference r.kind) then 1 else 0
 
--- the weights at these places
-abbrev pub weight_of : (Row → ℕ) → List Row → List Place → ℕ
-weight_of g rs [] = 0
-weight_of g rs (place ∷ places) = own g rs place.owner + weight_of g rs places
+-- the weight at a place
+abbrev pub weight_of : (Row → ℕ) → List Row → Place → ℕ
+weight_of g rs place = weight_in g (own_row rs place.owner)

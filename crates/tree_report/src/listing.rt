@@ -1,11 +1,11 @@
 ghost use Rattle.std.specs.Prelude.{◌≡◌, ◌++◌, IfOk, OnOk, ℕ, List};
 ghost use Rattle.std.specs.Option.{option_to_list};
-ghost use Rattle.tree_specs.specs.Reports.{report, row_kind, target_of, target_number, count_refs, root_row};
+ghost use Rattle.tree_specs.specs.Reports.{report, row_kind, target_number, count_refs, root_row};
 ghost use Rattle.tree_specs.specs.declared.object.Owner.TheVariants.{Of as At};
-ghost use Rattle.tree_specs.specs.Inside.{NoReferences};
+ghost use Rattle.tree_specs.specs.Inside.{target_of, NoReferences};
 ghost use Rattle.tree_report.specs.Shown.{shown_at};
 
-use crate::walk::{first_place, know_tree, next_place};
+use crate::walk::Walk;
 use std::alloc::Global;
 use tree_links::Tree;
 use tree_specs::{Kind, Memory, Name, Obj, Owner, ReportRow, ReportRows, RowKind};
@@ -117,17 +117,15 @@ fn keep(rows: &mut Vec<ReportRow>, row: Option<ReportRow>) -> Result<(), Memory>
 /// The report of an owner, as `talloc_report_full` shows it: a row for the owner, at depth 0, and one for each
 /// object below it, each owner before its children and these the newest placed first. Sizes are in bytes.
 /// There are no rows where the owner is neither the root nor an object. An error is want of memory.
+#[tactic(auto, using(crate::proofs::Showing::walk_shown))]
 pub fn rows(alloc: Global, tree: &Tree, from: Owner) -> Result<ReportRows, Memory>
     requires { NoReferences tree.now.rows }
     ensures { IfOk result (λ rows. rows ≡ report tree.now.rows from) }
 {
-    know_tree(tree);
     let mut rows = Vec::new(alloc);
-    let mut at = Some(first_place(from));
-    while let Some(place) = at {
+    for place in Walk::new(tree, from) {
         let row = row_at(alloc, tree, place.owner, place.depth)?;
         keep(&mut rows, row)?;
-        at = next_place(tree, place);
     }
     Ok(ReportRows::make(rows))
 }

@@ -1,39 +1,38 @@
 ghost use Rattle.std.specs.Prelude.{◌≡◌};
+ghost use Rattle.std.specs.Option.{option_copied};
 ghost use Rattle.tree_specs.specs.Inside.{size_inside, count_inside};
-ghost use Rattle.tree_specs.specs.Ancestry.{own};
-ghost use Rattle.tree_report.specs.Weights.{sized, counted};
+ghost use Rattle.tree_specs.specs.Walks.{weight_in};
+ghost use Rattle.tree_report.specs.Weights.{own_row, sized, counted};
 
-use crate::walk::{first_place, know_tree, next_place};
+use crate::walk::Walk;
 use tree_links::Tree;
-use tree_specs::{Kind, Owner};
+use tree_specs::{Kind, Owner, Row};
+
+/// The row of an owner that is an object.
+fn row_of(tree: &Tree, owner: Owner) -> Option<&Row>
+    ensures { option_copied result ≡ own_row tree.now.rows owner }
+{
+    match owner {
+        Owner::Root => None,
+        Owner::Of(x) => tree.row(x),
+    }
+}
 
 /// The size of an object in bytes, and 0 elsewhere.
 fn own_size(tree: &Tree, owner: Owner) -> u64
-    ensures { result ≡ own sized tree.now.rows owner }
+    ensures { result ≡ weight_in sized (own_row tree.now.rows owner) }
 {
-    match owner {
-        Owner::Root => 0,
-        Owner::Of(x) => match tree.row(x) {
-            Some(row) => row.size,
-            None => 0,
-        },
-    }
+    row_of(tree, owner).map_or(0, |row| row.size)
 }
 
 /// 1 for an object that is no reference, and 0 elsewhere.
 fn own_count(tree: &Tree, owner: Owner) -> u64
-    ensures { result ≡ own counted tree.now.rows owner }
+    ensures { result ≡ weight_in counted (own_row tree.now.rows owner) }
 {
-    match owner {
-        Owner::Root => 0,
-        Owner::Of(x) => match tree.row(x) {
-            Some(row) => match row.kind {
-                Kind::Reference { .. } => 0,
-                _ => 1,
-            },
-            None => 0,
-        },
-    }
+    row_of(tree, owner).map_or(0, |row| match row.kind {
+        Kind::Reference { .. } => 0,
+        _ => 1,
+    })
 }
 
 /// The sum of the sizes, in bytes, of an object and of all that it owns, and of all that these own, or of all
@@ -42,14 +41,9 @@ fn own_count(tree: &Tree, owner: Owner) -> u64
 pub fn total(tree: &Tree, from: Owner) -> u64
     ensures { result ≡ size_inside tree.now.rows from }
 {
-    know_tree(tree);
-    let mut sum = 0;
-    let mut at = Some(first_place(from));
-    while let Some(place) = at {
-        sum += own_size(tree, place.owner);
-        at = next_place(tree, place);
-    }
-    sum
+    Walk::new(tree, from)
+        .map(|place| own_size(tree, place.owner))
+        .sum()
 }
 
 /// How many objects there are: an object and all that it owns, and all that these own, or all that is below
@@ -58,12 +52,7 @@ pub fn total(tree: &Tree, from: Owner) -> u64
 pub fn count(tree: &Tree, from: Owner) -> u64
     ensures { result ≡ count_inside tree.now.rows from }
 {
-    know_tree(tree);
-    let mut sum = 0;
-    let mut at = Some(first_place(from));
-    while let Some(place) = at {
-        sum += own_count(tree, place.owner);
-        at = next_place(tree, place);
-    }
-    sum
+    Walk::new(tree, from)
+        .map(|place| own_count(tree, place.owner))
+        .sum()
 }

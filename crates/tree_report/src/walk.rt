@@ -1,12 +1,12 @@
 ghost use Rattle.std.specs.Prelude.{◌≡◌, Some};
 ghost use Rattle.tree_links.specs.Links.{IsTree};
-ghost use Rattle.tree_report.specs.Walk.{left, ahead as all_ahead, from_here, IsDeep};
+ghost use Rattle.tree_report.specs.Walk.{left, ahead as all_ahead, from_here, walk_from, IsDeep};
 
+use std::marker::Model;
 use tree_links::Tree;
 use tree_specs::Owner;
 
-/// Where a walk is. It goes over an owner and all that is below it, each owner before its children and these
-/// the newest placed first, and takes no memory.
+/// Where a walk comes to.
 #[derive(Clone, Copy, Debug, PartialEq, Eq)]
 pub(crate) struct Place {
     pub(crate) owner: Owner,
@@ -14,18 +14,75 @@ pub(crate) struct Place {
     pub(crate) depth: u32,
 }
 
-/// It does nothing: its contract says that the rows are a tree, so a walk ends and comes to each object once.
-pub(crate) fn know_tree(tree: &Tree)
-    ensures { IsTree tree.now.rows tree.now.next }
-{
-    let _rows = tree.len();
+/// A walk over an owner and all that is below it, each owner before its children and these the newest placed
+/// first. It takes no memory. Contracts see the places that are still to come.
+#[derive(Drop)]
+pub(crate) struct Walk<'a> {
+    tree: &'a Tree,
+    at: Option<Place>,
 }
 
-/// Where a walk begins.
-pub(crate) fn first_place(owner: Owner) -> Place
-    ensures { result ≡ record { owner = owner; depth = 0 } }
+impl<'a> Model for Walk<'a> {
+    ghost use Rattle.std.specs.Prelude.{List};
+    ghost use Rattle.tree_links.specs.Links.{IsTree};
+    ghost use Rattle.tree_report.specs.declared.walk.Place.{Place};
+    ghost use Rattle.tree_report.specs.Walk.{from_here, IsDeep};
+
+    ghost Value = { List Place };
+
+    ghost view = { λ w. from_here w.tree.now.rows w.at };
+
+    ghost invariant = { λ w. IsTree w.tree.now.rows w.tree.now.next × IsDeep w.tree.now.rows w.at };
+}
+
+impl<'a> Walk<'a> {
+    /// It begins at this owner.
+    pub(crate) fn new(tree: &'a Tree, from: Owner) -> Self
+        ensures sound { IsTree tree.now.rows tree.now.next }
+        ensures places { result ≡ walk_from tree.now.rows from }
+    {
+        // All that is wanted of `len` is its contract: the rows are a tree, so a walk ends.
+        let _rows = tree.len();
+        Walk {
+            tree,
+            at: Some(Place {
+                owner: from,
+                depth: 0,
+            }),
+        }
+    }
+}
+
+impl<'a> Iterator for Walk<'a> {
+    ghost use Rattle.std.specs.Iterator.{YieldsFirst, item_count};
+
+    type Item = Place;
+
+    ghost next_gives = { YieldsFirst (λ w. w) };
+
+    ghost remaining = { item_count (λ w. w) };
+
+    fn next(&mut self) -> Option<Place> {
+        let place = self.at?;
+        self.at = next_place(self.tree, place);
+        Some(place)
+    }
+}
+
+/// The next place of a walk. None where it is at its end.
+fn next_place(tree: &Tree, place: Place) -> Option<Place>
+    requires sound { IsTree tree.now.rows tree.now.next }
+    requires deep { IsDeep tree.now.rows (Some place) }
+    ensures ahead { all_ahead tree.now.rows place ≡ from_here tree.now.rows result }
+    ensures deep { IsDeep tree.now.rows result }
 {
-    Place { owner, depth: 0 }
+    match tree.first_kid(place.owner) {
+        Some(x) => Some(Place {
+            owner: Owner::Of(x),
+            depth: place.depth + 1,
+        }),
+        None => place_after(tree, place),
+    }
 }
 
 /// The place that a walk comes to after this one and all that is below it.
@@ -49,20 +106,4 @@ fn place_after(tree: &Tree, place: Place) -> Option<Place>
         depth -= 1;
     }
     None
-}
-
-/// The next place of a walk. None where it is at its end.
-pub(crate) fn next_place(tree: &Tree, place: Place) -> Option<Place>
-    requires sound { IsTree tree.now.rows tree.now.next }
-    requires deep { IsDeep tree.now.rows (Some place) }
-    ensures ahead { all_ahead tree.now.rows place ≡ from_here tree.now.rows result }
-    ensures deep { IsDeep tree.now.rows result }
-{
-    match tree.first_kid(place.owner) {
-        Some(x) => Some(Place {
-            owner: Owner::Of(x),
-            depth: place.depth + 1,
-        }),
-        None => place_after(tree, place),
-    }
 }

@@ -7,7 +7,7 @@ use Rattle.tree_specs.specs.declared.object.Owner.TheVariants.{Root, Of}
 use Rattle.tree_specs.specs.declared.row.Row.{Row}
 use Rattle.tree_specs.specs.Objects.{same_owner}
 use Rattle.tree_specs.specs.Pool.{row_of, owner_in, owner_of, next_owner, reaches, is_inside}
-use Rattle.tree_specs.specs.Ancestry.{ends, Rooted}
+use Rattle.tree_specs.specs.Forest.{ends, Rooted}
 use Rattle.tree_specs.proofs.Numbered.{by_test, same_owner-true, same_owner-equal}
 -- ---- a test that may hold of more objects with each step settles within as many steps as there are rows
 use Rattle.tree_specs.proofs.Settling.{Settling, settles}

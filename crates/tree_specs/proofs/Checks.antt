@@ -1,5 +1,5 @@
 -- What it means that no refusal applies, and that an input fits.
-use Rattle.std.proofs.Common.{◌≡◌, ◌≢◌, ℕ, suc, zero, List, [], ◌∷◌, ◌++◌, length, Option, Some, None, Bool, true, false, cond, refl, sym, ◌∙◌}
+use Rattle.std.proofs.Common.{◌≡◌, ◌≢◌, ℕ, suc, zero, List, [], ◌∷◌, ◌++◌, length, Option, Some, None, Bool, true, false, cond, refl, sym, ◌∙◌, subst}
 use Rattle.std.specs.Prelude.{not, is_some}
 use Rattle.tree_specs.specs.declared.object.Obj.{Obj}
 use Rattle.tree_specs.specs.declared.object.Owner.{Owner}
@@ -12,17 +12,20 @@ use Rattle.tree_specs.specs.declared.call.Call.TheVariants as call
 use Rattle.tree_specs.specs.declared.reply.Refusal.{Refusal}
 use Rattle.tree_specs.specs.declared.reply.Refusal.TheVariants.{NotParent, Loop}
 use Rattle.tree_specs.specs.Objects.{same_owner}
+use Rattle.tree_specs.specs.declared.question.Ask.{Ask}
+use Rattle.tree_specs.specs.declared.question.Ask.TheVariants as ask
+use Rattle.tree_specs.specs.declared.question.Act.{Act}
+use Rattle.tree_specs.specs.declared.question.Act.TheVariants as act
 use Rattle.tree_specs.specs.declared.question.Input.{Input}
 use Rattle.tree_specs.specs.declared.question.Input.TheVariants as input
 use Rattle.tree_specs.specs.declared.frame.Frame.{Frame}
-use Rattle.tree_specs.specs.declared.frame.Frame.TheVariants as frame
-use Rattle.tree_specs.specs.declared.frame.CallFrame.TheVariants.{Doing}
 use Rattle.tree_specs.specs.Pool.{Pool, row_of, is_owner, is_below, owner_of, is_dying_row, reaches, is_inside}
-use Rattle.tree_specs.specs.Calls.{Check, refuse_if, refusals, small, object, owner, room, staying, apart, placing, given_by}
+use Rattle.tree_specs.specs.Calls.{Check, refuse_if, refusals, small, is_plain, is_plain_row, object, plain, owner, room, staying, apart, placing, hooking, given_by}
 use Rattle.tree_specs.specs.Sound.{IsLive}
-use Rattle.tree_specs.specs.Soundness.{is_sound_call}
-use Rattle.tree_specs.specs.Table.{doing}
-use Rattle.tree_specs.specs.Story.{heard}
+use Rattle.tree_specs.specs.Soundness.{is_sound_call, is_return}
+use Rattle.tree_specs.specs.Table.{doing, returning}
+use Rattle.tree_specs.specs.Story.{acted, heard}
+use Rattle.tree_specs.specs.Whole.{IsOfRoutine}
 use Rattle.tree_specs.proofs.Numbered.{by_test, same_owner-equal}
 
 -- where no check of two applies, neither does
@@ -117,8 +120,46 @@ passes-reparent p from to x e =
     given true e = e
     given false e = cc
 
--- an input that a caller takes is a sound call
-pub taken-doing : (i : Input) (g : Frame) → heard doing i ≡ Some g → (c : Call) × (frame.Call (Doing c) ≡ g)
-taken-doing (input.Call c) g e = by_test (is_sound_call c)
-    (λ t. let e' : Some (frame.Call (Doing c)) ≡ Some g = rw t at e in (c, cc))
+-- an object that may get another destructor
+pub record MayBeHooked (p : Pool) (x : Obj) : Type 0 where
+  pub row : Row
+  pub is : row_of p.rows x ≡ Some row
+  pub plain : is_plain row.kind ≡ true
+  pub live : IsLive row.mark
+
+pub passes-hooking : (p : Pool) (x : Obj) → hooking p x ≡ [] → MayBeHooked p x
+passes-hooking p x e =
+    let a = both-none (object p x) (plain p x ++ staying p x) e in
+    let b = both-none (plain p x) (staying p x) a.1 in
+    let r = passes-object p x a.0 in
+    let k : is_plain_row (row_of p.rows x) ≡ true = not-false _ (refuse_if-none _ _ b.0) in
+    record { row = r.0; is = r.1; plain = rw r.1 at k; live = live-row p x r.0 r.1 b.1 }
+
+-- ---- what an input that fits leads to
+
+pub data Heard (q : Ask) : Frame → Type 0 where
+  -- a call
+  Does : (c : Call) → Heard q (doing q c)
+  -- the end of a routine's run
+  Returns : (v : ℕ) → IsOfRoutine q → Heard q (returning v)
+
+acted-heard : (q : Ask) (a : Act) (g : Frame) → IsOfRoutine q → acted (doing q) returning a ≡ Some g → Heard q g
+acted-heard q (act.Do c) g of e = by_test (is_sound_call c)
+    (λ t. let e' : Some (doing q c) ≡ Some g = rw t at e in let e'' : doing q c ≡ g = cc in subst (Heard q) e'' (Does c))
     (λ t. let e' : None ≡ Some g = rw t at e in cc)
+acted-heard q (act.Ret v) g of e = by_test (is_return v)
+    (λ t. let e' : Some (returning v) ≡ Some g = rw t at e in let e'' : returning v ≡ g = cc in subst (Heard q) e'' (Returns v of))
+    (λ t. let e' : None ≡ Some g = rw t at e in cc)
+
+pub heard-leads : (q : Ask) (i : Input) (g : Frame) → heard q (doing q) returning i ≡ Some g → Heard q g
+heard-leads ask.Quiet (input.Call c) g e = by_test (is_sound_call c)
+    (λ t. let e' : Some (doing ask.Quiet c) ≡ Some g = rw t at e in let e'' : doing ask.Quiet c ≡ g = cc in subst (Heard ask.Quiet) e'' (Does c))
+    (λ t. let e' : None ≡ Some g = rw t at e in cc)
+heard-leads ask.Quiet (input.Act a) g e = cc
+heard-leads (ask.Routine m) (input.Call c) g e = cc
+heard-leads (ask.Routine m) (input.Act a) g e = acted-heard (ask.Routine m) a g tt e
+heard-leads ask.Clock i g e = cc
+heard-leads (ask.Wait limit) i g e = cc
+heard-leads (ask.Accept descriptor) i g e = cc
+heard-leads (ask.Read descriptor most) i g e = cc
+heard-leads (ask.Write descriptor bytes) i g e = cc

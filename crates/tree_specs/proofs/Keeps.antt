@@ -1,6 +1,7 @@
 -- Each step of the machine keeps what is sound.
-use Rattle.std.proofs.Common.{◌≡◌, ◌≢◌, ℕ, suc, zero, ◌+◌, ◌<◌, List, [], ◌∷◌, ◌++◌, Option, Some, None, Bool, true, false, refl, sym, ◌∙◌, ap, subst, ◌⊎◌, inl, inr, arith}
+use Rattle.std.proofs.Common.{◌≡◌, ◌≢◌, ℕ, suc, zero, ◌+◌, ◌<◌, List, [], ◌∷◌, ◌++◌, Option, Some, None, true, false, nat_eq, refl, sym, ◌∙◌, ap, subst, inl, inr, arith}
 use Rattle.std.specs.Prelude.{is_some, unwrap_or}
+use Rattle.std.proofs.lemmas.Bool.{eqb-true}
 use Rattle.step_machine.specs.Machine.{Move}
 use Rattle.step_machine.specs.Machine.{Move as Do}
 use Rattle.step_machine.proofs.Ends.{Leads}
@@ -12,31 +13,36 @@ use Rattle.tree_specs.specs.declared.row.Mark.{Mark}
 use Rattle.tree_specs.specs.declared.row.Mark.TheVariants.{Quiet, Asked, Busy, Doomed, Dying}
 use Rattle.tree_specs.specs.declared.call.Call.{Call}
 use Rattle.tree_specs.specs.declared.call.Call.TheVariants as call
+use Rattle.tree_specs.specs.declared.question.Ask.{Ask}
+use Rattle.tree_specs.specs.declared.question.Ask.TheVariants.{Routine}
 use Rattle.tree_specs.specs.declared.reply.Reply.{Reply}
 use Rattle.tree_specs.specs.declared.reply.Reply.TheVariants as reply
 use Rattle.tree_specs.specs.declared.frame.Frame.{Frame}
 use Rattle.tree_specs.specs.declared.frame.Frame.TheVariants as frame
-use Rattle.tree_specs.specs.declared.frame.CallFrame.TheVariants.{Asking, Doing, Awaiting, Telling}
-use Rattle.tree_specs.specs.declared.frame.FreeFrame.TheVariants.{Beginning, Leaving, Looping, Trying, Tried, Ending}
+use Rattle.tree_specs.specs.declared.frame.CallFrame.TheVariants.{Asking, Doing, Awaiting, Telling, Returning}
+use Rattle.tree_specs.specs.declared.frame.FreeFrame.TheVariants.{Beginning, Hooked, Judged, Leaving, Looping, Trying, Tried, Ending}
 use Rattle.tree_specs.specs.declared.frame.Purpose.{Purpose}
 use Rattle.tree_specs.specs.declared.frame.Purpose.TheVariants.{Removal, Emptying}
 use Rattle.tree_specs.specs.declared.frame.Answer.{Answer}
-use Rattle.tree_specs.specs.declared.frame.Answer.TheVariants.{Ok, Running}
+use Rattle.tree_specs.specs.declared.frame.Answer.TheVariants.{Freed, Returned}
+use Rattle.tree_specs.specs.declared.free_step.FreeReply.{FreeReply}
+use Rattle.tree_specs.specs.declared.free_step.FreeReply.TheVariants.{Ok, Running, Refused}
 use Rattle.tree_specs.specs.declared.kind.Kind.TheVariants.{Plain}
 use Rattle.tree_specs.specs.Objects.{same}
-use Rattle.tree_specs.specs.Pool.{Pool, row_of, is_owner, owner_of, first_kid, without, changed, add, remove, left_row, place, rename, named_row}
+use Rattle.tree_specs.specs.Pool.{Pool, row_of, is_owner, is_below, owner_of, first_kid, without, changed, add, remove, left_row, place, named_row, set_mark, marked_row, set_hook, hooked_row}
 use Rattle.tree_specs.specs.Inside.{size_inside, count_inside}
 use Rattle.tree_specs.specs.Reports.{report}
 use Rattle.tree_specs.specs.Items.{Item}
 use Rattle.tree_specs.specs.Calls.{Check, refusals}
-use Rattle.tree_specs.specs.Story.{owner_reply}
-use Rattle.tree_specs.specs.Table.{table, step, lifted, begin_step, last_step, loop_step, call_step, effect_step}
-use Rattle.tree_specs.specs.Sound.{Owned, Shaped, ValidAt, Distinct, Phase, InRun, InLoop, phase_of, phases, claim_if, loop_claim, claim, claims, AllWait, IsLive, Rests, Sound}
-use Rattle.tree_specs.proofs.Numbered.{by_test, same-true, same-equal, same-false, same_or_not}
-use Rattle.tree_specs.proofs.Rows.{row_of-serial, row_of-changed-other, row_of-changed-same, row_of-without-other, row_of-without-same, Distinct-without, Distinct-changed, first_kid-owner}
-use Rattle.tree_specs.specs.Ancestry.{AllOwned, Rooted}
-use Rattle.tree_specs.proofs.Rooted.{AllOwned-new, AllOwned-placed, AllOwned-changed, AllOwned-left, AllOwned-without, Rooted-new, Rooted-placed, Rooted-changed, Rooted-left, Rooted-without}
-use Rattle.tree_specs.proofs.Checks.{passes, MayBePlaced, passes-placing, passes-reparent, passes-object, taken-doing}
+use Rattle.tree_specs.specs.Story.{owner_reply, hook_moment, later}
+use Rattle.tree_specs.specs.Table.{table, step, lifted, begin_quiet, begin_step, judge_step, last_step, loop_step, hand_on_step, call_step, effect_step, reply_in}
+use Rattle.tree_specs.specs.Heirs.{heir}
+use Rattle.tree_specs.specs.Sound.{Owned, Shaped, ValidAt, Phase, InRun, InLoop, phase_of, phases, claim_if, claim, claims, AllWait, IsLive, Tries, StillThere, IsOver, Rests, Sound}
+use Rattle.tree_specs.proofs.Numbered.{by_test, same-true, same-equal, same-false, same_or_not, is_below-some}
+use Rattle.tree_specs.proofs.Rows.{row_of-changed-other, row_of-changed-same, row_of-without-other, row_of-without-same, row_of-placed-other, row_of-placed-same, first_kid-owner}
+use Rattle.tree_specs.proofs.Rooted.{KeepsPlace, forest-new, forest-placed, forest-changed, forest-left, forest-without}
+use Rattle.tree_specs.proofs.Heirs.{heir-may_take}
+use Rattle.tree_specs.proofs.Checks.{passes, MayBePlaced, passes-placing, passes-reparent, passes-object, MayBeHooked, passes-hooking, Heard, Does, Returns, heard-leads}
 
 -- a fact on each object, where one row was changed
 valid-at : (next : ℕ) (rs rs' : List Row) (x : Obj) → ((y : Obj) → ValidAt next (row_of rs y) y)
@@ -68,32 +74,17 @@ dying-row (Some r) l e = marks r.mark refl e
     marks Doomed m e = let e' : InLoop ∷ l ≡ InRun ∷ [] = rw m at e in cc
     marks (Dying former) m e = let e' : InLoop ∷ l ≡ InLoop ∷ [] = rw m at e in (r, refl, former, m, cc)
 
-loop-run : (purpose : Purpose) (b : Bool) (more l : List Phase) → (more ≡ InRun ∷ l → ⊥) → loop_claim purpose b ++ more ≡ InRun ∷ l → ⊥
-loop-run Removal true more l none e = cc
-loop-run Removal false more l none e = none e
-loop-run Emptying b more l none e = none e
-
--- no open work claims that an object runs
-claims-run : (x : Obj) (fs : List Frame) (l : List Phase) → claims x fs ≡ InRun ∷ l → ⊥
-claims-run x [] l e = cc
-claims-run x (frame.Call f ∷ fs) l e = claims-run x fs l e
-claims-run x (frame.Free (Beginning y) ∷ fs) l e = claims-run x fs l e
-claims-run x (frame.Free (Leaving y) ∷ fs) l e = claims-run x fs l e
-claims-run x (frame.Free (Ending a) ∷ fs) l e = claims-run x fs l e
-claims-run x (frame.Free (Looping y purpose) ∷ fs) l e = loop-run purpose (same y x) (claims x fs) l (claims-run x fs l) e
-claims-run x (frame.Free (Trying y c purpose) ∷ fs) l e = loop-run purpose (same y x) (claims x fs) l (claims-run x fs l) e
-claims-run x (frame.Free (Tried y c purpose a) ∷ fs) l e = loop-run purpose (same y x) (claims x fs) l (claims-run x fs l) e
-
--- a row that is neither claimed nor dying is quiet
-pub settled-row : (x : Obj) (fs : List Frame) (r : Row) → claims x fs ≡ phase_of r.mark → (r.mark ≡ Quiet) ⊎ ((former : Owner) × (r.mark ≡ Dying former))
-settled-row x fs r e = marks r.mark refl e
+-- a row of which a free says that it runs is live, and claimed once
+pub running-row : (o : Option Row) (l : List Phase) → InRun ∷ l ≡ phases o → (r : Row) × (o ≡ Some r) × IsLive r.mark × (l ≡ [])
+running-row None l e = cc
+running-row (Some r) l e = marks r.mark refl e
   where
-    marks : (m : Mark) → r.mark ≡ m → claims x fs ≡ phase_of r.mark → (r.mark ≡ Quiet) ⊎ ((former : Owner) × (r.mark ≡ Dying former))
-    marks Quiet m e = inl m
-    marks Asked m e = absurd (claims-run x fs [] (rw m at e))
-    marks Busy m e = absurd (claims-run x fs [] (rw m at e))
-    marks Doomed m e = absurd (claims-run x fs [] (rw m at e))
-    marks (Dying former) m e = inr (former, m)
+    marks : (m : Mark) → r.mark ≡ m → InRun ∷ l ≡ phase_of r.mark → (s : Row) × (Some r ≡ Some s) × IsLive s.mark × (l ≡ [])
+    marks Quiet m e = let e' : InRun ∷ l ≡ [] = rw m at e in cc
+    marks Asked m e = let e' : InRun ∷ l ≡ InRun ∷ [] = rw m at e in (r, refl, rw m tt, cc)
+    marks Busy m e = let e' : InRun ∷ l ≡ InRun ∷ [] = rw m at e in (r, refl, rw m tt, cc)
+    marks Doomed m e = let e' : InRun ∷ l ≡ InRun ∷ [] = rw m at e in (r, refl, rw m tt, cc)
+    marks (Dying former) m e = let e' : InRun ∷ l ≡ InLoop ∷ [] = rw m at e in cc
 
 -- what a claim on x says
 pub claim-here : (x : Obj) (a : Phase) (l : List Phase) (o : Option Row) → claim_if (same x x) a ++ l ≡ phases o → a ∷ l ≡ phases o
@@ -103,60 +94,119 @@ claim-here x a l o h = let self : same x x ≡ true = same-equal x x refl in rw 
 abbrev pub KeptBy : Move Frame Answer Pool Item → List Frame → ℕ → Type 0
 KeptBy m fs k = Leads table (λ g gs q j. Sound g gs q) m fs k
 
--- the same rows under another innermost work that claims as much
-goes_on : (f f' : Frame) (fs : List Frame) (p : Pool) → ((x : Obj) → claim x f' ≡ claim x f) → Rests f' fs p → Sound f fs p → Sound f' fs p
-goes_on f f' fs p e h s = record {
-  started = s.started;
-  distinct = s.distinct;
-  valid = s.valid;
-  owned = s.owned;
-  rooted = s.rooted;
-  waiting = s.waiting;
-  rests = h;
-  open_frees = λ x. ap (λ (l : List Phase). l ++ claims x fs) (e x) ∙ s.open_frees x;
-}
+-- the same rows under other works that claim as much
+pub stands : (f f' : Frame) (fs fs' : List Frame) (p : Pool) → ((x : Obj) → claim x f' ++ claims x fs' ≡ claim x f ++ claims x fs) → AllWait fs' → Rests f' fs' p → Sound f fs p → Sound f' fs' p
+stands f f' fs fs' p e w h s = record { started = s.started; valid = s.valid; forest = s.forest; waiting = w; rests = h; open_frees = λ x. e x ∙ s.open_frees x }
 
-asking : (fs : List Frame) (p : Pool) (k : ℕ) → Sound (frame.Call Asking) fs p → KeptBy (step (frame.Call Asking) p) fs k
-asking fs p zero s = tt
-asking fs p (suc k) s = λ i g e.
-    let t = taken-doing i g e in
-    subst (λ (z : Frame). Sound z fs p) t.1 (goes_on (frame.Call Asking) (frame.Call (Doing t.0)) fs p (λ x. refl) tt s)
+-- the same under another innermost work
+goes_on : (f f' : Frame) (fs : List Frame) (p : Pool) → ((x : Obj) → claim x f' ≡ claim x f) → Rests f' fs p → Sound f fs p → Sound f' fs p
+goes_on f f' fs p e h s = stands f f' fs fs p (λ x. ap (λ (l : List Phase). l ++ claims x fs) (e x)) s.waiting h s
+
+asking : (q : Ask) (fs : List Frame) (p : Pool) (k : ℕ) → Sound (frame.Call (Asking q)) fs p → KeptBy (step (frame.Call (Asking q)) p) fs k
+asking q fs p zero s = tt
+asking q fs p (suc k) s = λ i g e. leads g (heard-leads q i g e)
+  where
+    leads : (g : Frame) → Heard q g → Sound g fs p
+    leads _ (Does c) = goes_on (frame.Call (Asking q)) (frame.Call (Doing q c)) fs p (λ x. refl) tt s
+    leads _ (Returns v of) = goes_on (frame.Call (Asking q)) (frame.Call (Returning v)) fs p (λ x. refl) tt s
 
 -- a work that ends leaves the work below it sound
-ended : (fs : List Frame) (p : Pool) (k : ℕ) → 0 < p.next → Distinct p.rows → ((x : Obj) → ValidAt p.next (row_of p.rows x) x)
-    → AllOwned p.rows → Rooted p.rows → ((x : Obj) → claims x fs ≡ phases (row_of p.rows x)) → AllWait fs → KeptBy (Do.Done Ok p) fs k
-ended [] p k z d v q t o w = tt
-ended (frame.Call (Awaiting x) ∷ fs) p k z d v q t o w = record { started = z; distinct = d; valid = v; owned = q; rooted = t; open_frees = o; waiting = w.1; rests = tt }
-ended (frame.Free (Trying x c purpose) ∷ fs) p k z d v q t o w = record { started = z; distinct = d; valid = v; owned = q; rooted = t; open_frees = o; waiting = w.1; rests = (refl, w.0) }
-ended (frame.Call Asking ∷ fs) p k z d v q t o w = absurd w.0
-ended (frame.Call (Doing c) ∷ fs) p k z d v q t o w = absurd w.0
-ended (frame.Call (Telling r) ∷ fs) p k z d v q t o w = absurd w.0
-ended (frame.Free (Beginning x) ∷ fs) p k z d v q t o w = absurd w.0
-ended (frame.Free (Leaving x) ∷ fs) p k z d v q t o w = absurd w.0
-ended (frame.Free (Looping x purpose) ∷ fs) p k z d v q t o w = absurd w.0
-ended (frame.Free (Tried x c purpose a) ∷ fs) p k z d v q t o w = absurd w.0
-ended (frame.Free (Ending b) ∷ fs) p k z d v q t o w = absurd w.0
+ended : (a : Answer) (f : Frame) (fs : List Frame) (p : Pool) (k : ℕ) → Sound f fs p → ((x : Obj) → claim x f ≡ [])
+    → ((x c : Obj) (purpose : Purpose) (gs : List Frame) → fs ≡ frame.Free (Trying x c purpose) ∷ gs → StillThere (reply_in a) x c p) → KeptBy (Do.Done a p) fs k
+ended a f fs p k s none there = below fs s there
+  where
+    below : (fs : List Frame) → Sound f fs p
+        → ((x c : Obj) (purpose : Purpose) (gs : List Frame) → fs ≡ frame.Free (Trying x c purpose) ∷ gs → StillThere (reply_in a) x c p) → KeptBy (Do.Done a p) fs k
+    below [] s there = tt
+    below (frame.Call (Awaiting q x) ∷ fs) s there = stands f _ (frame.Call (Awaiting q x) ∷ fs) fs p (λ y. rw (none y) refl) s.waiting.1 tt s
+    below (frame.Free (Hooked x h) ∷ fs) s there = stands f _ (frame.Free (Hooked x h) ∷ fs) fs p (λ y. rw (none y) refl) s.waiting.1 s.waiting.0 s
+    below (frame.Free (Trying x c purpose) ∷ fs) s there = stands f _ (frame.Free (Trying x c purpose) ∷ fs) fs p (λ y. rw (none y) refl) s.waiting.1 (there x c purpose fs refl, s.waiting.0) s
+    below (frame.Call (Asking q) ∷ fs) s there = absurd s.waiting.0
+    below (frame.Call (Doing q c) ∷ fs) s there = absurd s.waiting.0
+    below (frame.Call (Telling q r) ∷ fs) s there = absurd s.waiting.0
+    below (frame.Call (Returning v) ∷ fs) s there = absurd s.waiting.0
+    below (frame.Free (Beginning x) ∷ fs) s there = absurd s.waiting.0
+    below (frame.Free (Judged x h v) ∷ fs) s there = absurd s.waiting.0
+    below (frame.Free (Leaving x h) ∷ fs) s there = absurd s.waiting.0
+    below (frame.Free (Looping x purpose) ∷ fs) s there = absurd s.waiting.0
+    below (frame.Free (Tried x c purpose b) ∷ fs) s there = absurd s.waiting.0
+    below (frame.Free (Ending b) ∷ fs) s there = absurd s.waiting.0
+
+-- a child that isn't said to run need not be where it was
+pub still-there : (a : FreeReply) (x c : Obj) (p : Pool) → IsOver a → StillThere a x c p
+still-there Ok x c p h = tt
+still-there Running x c p h = absurd h
+still-there (Refused v) x c p h = tt
+
+-- ---- a row that is changed in its place
+
+changed-sound : (g : Row → Row) (f f' : Frame) (fs fs' : List Frame) (p : Pool) (x : Obj) (r : Row) → Sound f fs p → KeepsPlace g → row_of p.rows x ≡ Some r → Shaped (g r).mark (g r).owner x
+    → ((y : Obj) → x ≢ y → claim y f' ++ claims y fs' ≡ claim y f ++ claims y fs) → claim x f' ++ claims x fs' ≡ phase_of (g r).mark
+    → AllWait fs' → Rests f' fs' (record p { rows = changed g p.rows x }) → Sound f' fs' (record p { rows = changed g p.rows x })
+changed-sound g f f' fs fs' p x r s k e shaped others here w h =
+    let new : row_of (changed g p.rows x) x ≡ Some (g r) = row_of-changed-same g p.rows x r k.serial e in
+    let other : (y : Obj) → x ≢ y → row_of (changed g p.rows x) y ≡ row_of p.rows y = (λ y ne. row_of-changed-other g p.rows x y k.serial ne) in
+    let v : ValidAt p.next (Some r) x = rw e at (s.valid x) in
+    record {
+      started = s.started;
+      valid = valid-at p.next p.rows (changed g p.rows x) x s.valid other (rw new (v.0, v.1, shaped));
+      forest = forest-changed g p.rows x k s.forest;
+      open_frees = frees-at f f' fs fs' p.rows (changed g p.rows x) x s.open_frees other others (rw new here);
+      waiting = w;
+      rests = h;
+    }
+
+shape-of : (p : Pool) (x : Obj) (r : Row) → ((y : Obj) → ValidAt p.next (row_of p.rows y) y) → row_of p.rows x ≡ Some r → Shaped r.mark r.owner x
+shape-of p x r valid e = let v : ValidAt p.next (Some r) x = rw e at (valid x) in v.2
+
+-- a row that isn't dying has an owner, another object
+live-owned : (m : Mark) (o : Option Owner) (x : Obj) → IsLive m → Shaped m o x → Owned o x
+live-owned Quiet o x l s = s
+live-owned Asked o x l s = s
+live-owned Busy o x l s = s
+live-owned Doomed o x l s = s
+live-owned (Dying former) o x l s = absurd l
+
+owned-live : (m : Mark) (o : Option Owner) (x : Obj) → IsLive m → Owned o x → Shaped m o x
+owned-live Quiet o x l s = s
+owned-live Asked o x l s = s
+owned-live Busy o x l s = s
+owned-live Doomed o x l s = s
+owned-live (Dying former) o x l s = absurd l
+
+pub marks-place : (m : Mark) → KeepsPlace (marked_row m)
+marks-place m = record { serial = λ r. refl; owner = λ r. refl }
+
+pub hooks-place : (h : ℕ) → KeepsPlace (hooked_row h)
+hooks-place h = record { serial = λ r. refl; owner = λ r. refl }
+
+pub names-place : (name : List ℕ) → KeepsPlace (named_row name)
+names-place name = record { serial = λ r. refl; owner = λ r. refl }
+
+-- a change that says nothing of what is going on
+unmarked-sound : (g : Row → Row) (f f' : Frame) (fs : List Frame) (p : Pool) (x : Obj) (r : Row) → Sound f fs p → KeepsPlace g → ((r : Row) → (g r).mark ≡ r.mark) → row_of p.rows x ≡ Some r
+    → ((y : Obj) → claim y f' ≡ claim y f) → Rests f' fs (record p { rows = changed g p.rows x }) → Sound f' fs (record p { rows = changed g p.rows x })
+unmarked-sound g f f' fs p x r s k m e claim-same h =
+    changed-sound g f f' fs fs p x r s k e (rw (m r, k.owner r) (shape-of p x r s.valid e)) (λ y ne. ap (λ (l : List Phase). l ++ claims y fs) (claim-same y))
+    (ap (λ (l : List Phase). l ++ claims x fs) (claim-same x) ∙ s.open_frees x ∙ ap phases e ∙ ap phase_of (sym (m r))) s.waiting h
 
 -- ---- freeing
 
-leaving : (x : Obj) (fs : List Frame) (p : Pool) (k : ℕ) → Sound (frame.Free (Leaving x)) fs p → KeptBy (step (frame.Free (Leaving x)) p) fs k
-leaving x fs p k s =
+leaving : (x : Obj) (h : ℕ) (fs : List Frame) (p : Pool) (k : ℕ) → Sound (frame.Free (Leaving x h)) fs p → KeptBy (step (frame.Free (Leaving x h)) p) fs k
+leaving x h fs p k s =
     let self : same x x ≡ true = same-equal x x refl in
     let r : Row = s.rests.0 in
     let e : row_of p.rows x ≡ Some r = s.rests.1 in
     let v : ValidAt p.next (Some r) x = rw e at (s.valid x) in
-    let none : claims x fs ≡ [] = s.open_frees x ∙ ap phases e ∙ ap phase_of s.rests.2 in
+    let none : claims x fs ≡ [] = s.rests.3 in
     let new : row_of (changed left_row p.rows x) x ≡ Some (left_row r) = row_of-changed-same left_row p.rows x r (λ q. refl) e in
+    let other : (y : Obj) → x ≢ y → row_of (changed left_row p.rows x) y ≡ row_of p.rows y = (λ y ne. row_of-changed-other left_row p.rows x y (λ q. refl) ne) in
     record {
       started = s.started;
-      distinct = Distinct-changed left_row p.rows x (λ q. refl) s.distinct;
-      owned = AllOwned-left p.rows x s.owned;
-      rooted = Rooted-left p.rows x s.rooted;
-      valid = valid-at p.next p.rows (changed left_row p.rows x) x s.valid (λ y ne. row_of-changed-other left_row p.rows x y (λ q. refl) ne)
-          (rw new (v.0, v.1, left r.owner (subst (λ (m : Mark). Shaped m r.owner x) s.rests.2 v.2)));
-      open_frees = frees-at (frame.Free (Leaving x)) (frame.Free (Looping x Removal)) fs fs p.rows (changed left_row p.rows x) x s.open_frees
-          (λ y ne. row_of-changed-other left_row p.rows x y (λ q. refl) ne)
-          (λ y ne. let u : same x y ≡ false = same-false x y ne in rw u refl)
+      valid = valid-at p.next p.rows (changed left_row p.rows x) x s.valid other (rw new (v.0, v.1, left r.owner (live-owned r.mark r.owner x s.rests.2 v.2)));
+      forest = forest-left p.rows x s.forest;
+      open_frees = frees-at (frame.Free (Leaving x h)) (frame.Free (Looping x (Removal h))) fs fs p.rows (changed left_row p.rows x) x s.open_frees other
+          (λ y ne. let u : same x y ≡ false = same-false x y ne in by_test (nat_eq h 0) (λ t. rw (u, t) refl) (λ t. rw (u, t) refl))
           (rw (self, none, new) refl);
       waiting = s.waiting;
       rests = tt;
@@ -167,65 +217,32 @@ leaving x fs p k s =
     left None h = absurd h
 
 -- the last child is gone, and the object is removed
-removed : (x : Obj) (fs : List Frame) (p : Pool) → first_kid p.rows (Of x) ≡ None → Sound (frame.Free (Looping x Removal)) fs p → Sound (frame.Free (Ending Ok)) fs (remove p x)
-removed x fs p alone s =
-    let self : same x x ≡ true = same-equal x x refl in
+removed : (x : Obj) (h : ℕ) (fs : List Frame) (p : Pool) → first_kid p.rows (Of x) ≡ None → Sound (frame.Free (Looping x (Removal h))) fs p → Sound (frame.Free (Ending Ok)) fs (remove p x)
+removed x h fs p alone s =
     let row = dying-row (row_of p.rows x) (claims x fs) (claim-here x InLoop (claims x fs) (row_of p.rows x) (s.open_frees x)) in
     let none : claims x fs ≡ [] = row.4 in
-    let gone : row_of (without p.rows x) x ≡ None = row_of-without-same p.rows x s.distinct in
+    let gone : row_of (without p.rows x) x ≡ None = row_of-without-same p.rows x s.forest.distinct in
     record {
       started = s.started;
-      distinct = Distinct-without p.rows x s.distinct;
-      owned = AllOwned-without p.rows x s.owned alone;
-      rooted = Rooted-without p.rows x s.distinct s.rooted;
       valid = valid-at p.next p.rows (without p.rows x) x s.valid (λ y ne. row_of-without-other p.rows x y ne) (rw gone tt);
-      open_frees = frees-at (frame.Free (Looping x Removal)) (frame.Free (Ending Ok)) fs fs p.rows (without p.rows x) x s.open_frees (λ y ne. row_of-without-other p.rows x y ne)
+      forest = forest-without p.rows x s.forest alone;
+      open_frees = frees-at (frame.Free (Looping x (Removal h))) (frame.Free (Ending Ok)) fs fs p.rows (without p.rows x) x s.open_frees (λ y ne. row_of-without-other p.rows x y ne)
           (λ y ne. let u : same x y ≡ false = same-false x y ne in rw u refl) (rw (none, gone) refl);
       waiting = s.waiting;
-      rests = refl;
+      rests = tt;
     }
 
 looping : (x : Obj) (purpose : Purpose) (fs : List Frame) (p : Pool) (k : ℕ) → Sound (frame.Free (Looping x purpose)) fs p → KeptBy (step (frame.Free (Looping x purpose)) p) fs k
 looping x purpose fs p k s = each (first_kid p.rows (Of x)) refl
   where
     last : (purpose : Purpose) → first_kid p.rows (Of x) ≡ None → Sound (frame.Free (Looping x purpose)) fs p → KeptBy (lifted (last_step x purpose p)) fs k
-    last Removal e s = removed x fs p e s
-    last Emptying e s = ended fs p k s.started s.distinct s.valid s.owned s.rooted s.open_frees s.waiting
+    last (Removal h) e s = removed x h fs p e s
+    last Emptying e s = ended (Freed Ok) (frame.Free (Looping x Emptying)) fs p k s (λ y. refl) (λ y c b gs q. tt)
 
     each : (o : Option Obj) → first_kid p.rows (Of x) ≡ o → KeptBy (lifted (loop_step x purpose (first_kid p.rows (Of x)) p)) fs k
     each None e = rw e (last purpose e s)
-    each (Some c) e = rw e (record {
-      started = s.started;
-      distinct = s.distinct;
-      valid = s.valid;
-      owned = s.owned;
-      rooted = s.rooted;
-      open_frees = s.open_frees;
-      waiting = (s.rests, s.waiting);
-      rests = (refl, first_kid-owner p.rows (Of x) c s.distinct e);
-    })
-
--- the freeing of a child is over
-tried : (x c : Obj) (purpose : Purpose) (a : Answer) (fs : List Frame) (p : Pool) (k : ℕ) → Sound (frame.Free (Tried x c purpose a)) fs p
-    → KeptBy (step (frame.Free (Tried x c purpose a)) p) fs k
-tried x c purpose Ok fs p k s = goes_on (frame.Free (Tried x c purpose Ok)) (frame.Free (Looping x purpose)) fs p (λ y. refl) s.rests.1 s
-tried x c purpose Running fs p k s = let e : Running ≡ Ok = s.rests.0 in cc
-
-beginning : (x : Obj) (fs : List Frame) (p : Pool) (k : ℕ) → Sound (frame.Free (Beginning x)) fs p → KeptBy (step (frame.Free (Beginning x)) p) fs k
-beginning x fs p k s = each (row_of p.rows x) refl
-  where
-    over : KeptBy (Do.Done Ok p) fs k
-    over = ended fs p k s.started s.distinct s.valid s.owned s.rooted s.open_frees s.waiting
-
-    found : (r : Row) → row_of p.rows x ≡ Some r → KeptBy (lifted (begin_step x (row_of p.rows x) p)) fs k
-    found r e = elim (settled-row x fs r (s.open_frees x ∙ ap phases e)) [
-      | inl m ↦ rw (e, m) (goes_on (frame.Free (Beginning x)) (frame.Free (Leaving x)) fs p (λ y. refl) (r, e, m) s)
-      | inr d ↦ rw (e, d.1) over
-    ]
-
-    each : (o : Option Row) → row_of p.rows x ≡ o → KeptBy (lifted (begin_step x (row_of p.rows x) p)) fs k
-    each None e = rw e over
-    each (Some r) e = found r e
+    each (Some c) e = rw e (stands (frame.Free (Looping x purpose)) (frame.Free (Beginning c)) fs (frame.Free (Trying x c purpose) ∷ fs) p (λ y. refl) (s.rests, s.waiting)
+        (refl, first_kid-owner p.rows (Of x) c s.forest.distinct e) s)
 
 -- an owner stands only on a row that is live
 pub owned-row : (p : Pool) (c : Obj) (o : Owner) → ((y : Obj) → ValidAt p.next (row_of p.rows y) y) → owner_of p.rows c ≡ Some o → (r : Row) × (row_of p.rows c ≡ Some r) × IsLive r.mark
@@ -246,9 +263,119 @@ owned-row p c o valid e = each (row_of p.rows c) refl
         let v : ValidAt p.next (Some r) c = rw h at (valid c) in
         (r, h, live r.mark r.owner w v.2)
 
-ending : (a : Answer) (fs : List Frame) (p : Pool) (k : ℕ) → Sound (frame.Free (Ending a)) fs p → KeptBy (step (frame.Free (Ending a)) p) fs k
-ending Ok fs p k s = ended fs p k s.started s.distinct s.valid s.owned s.rooted s.open_frees s.waiting
-ending Running fs p k s = let e : Running ≡ Ok = s.rests in cc
+-- an object that is put below another owner
+pub placed-sound : (f f' : Frame) (o : Owner) (x : Obj) (fs : List Frame) (p : Pool) → Sound f fs p → MayBePlaced p o x → ((y : Obj) → claim y f' ≡ claim y f) → Rests f' fs (place p o x)
+    → Sound f' fs (place p o x)
+placed-sound f f' o x fs p s may claim-same h =
+    let r : Row = may.row in
+    let here : row_of (place p o x).rows x ≡ Some (record r { owner = Some o }) = row_of-placed-same p o x r may.is in
+    let other : (y : Obj) → x ≢ y → row_of (place p o x).rows y ≡ row_of p.rows y = (λ y ne. row_of-placed-other p o x y r may.is ne) in
+    let v : ValidAt p.next (Some r) x = rw may.is at (s.valid x) in
+    record {
+      started = s.started;
+      valid = valid-at p.next p.rows (place p o x).rows x s.valid other (rw here (v.0, v.1, owned-live r.mark (Some o) x may.live may.apart));
+      forest = forest-placed p o x r s.forest may.is may.there may.outside;
+      open_frees = frees-at f f' fs fs p.rows (place p o x).rows x s.open_frees other (λ y ne. ap (λ (l : List Phase). l ++ claims y fs) (claim-same y))
+          (ap (λ (l : List Phase). l ++ claims x fs) (claim-same x) ∙ s.open_frees x ∙ ap phases may.is ∙ sym (ap phases here));
+      waiting = s.waiting;
+      rests = h;
+    }
+
+-- a child may be put below its heir
+pub heir-placed : (x c : Obj) (f : Frame) (fs : List Frame) (p : Pool) → Sound f fs p → is_below (owner_of p.rows c) (Of x) ≡ true → MayBePlaced p (heir p.rows x c) c
+heir-placed x c f fs p s below =
+    let row = owned-row p c (Of x) s.valid (is_below-some (owner_of p.rows c) (Of x) below) in
+    let may = heir-may_take p.rows x c in
+    record { row = row.0; is = row.1; live = row.2; apart = may.apart; there = may.there; outside = may.outside }
+
+-- the freeing of a child is over
+tried : (x c : Obj) (purpose : Purpose) (a : FreeReply) (fs : List Frame) (p : Pool) (k : ℕ) → Sound (frame.Free (Tried x c purpose a)) fs p
+    → KeptBy (step (frame.Free (Tried x c purpose a)) p) fs k
+tried x c purpose a fs p k s = each a s
+  where
+    handed : (b : FreeReply) → Sound (frame.Free (Tried x c purpose b)) fs p → KeptBy (lifted (hand_on_step x c purpose p)) fs k
+    handed b s = by_test (is_below (owner_of p.rows c) (Of x))
+        (λ t. rw t (placed-sound (frame.Free (Tried x c purpose b)) (frame.Free (Looping x purpose)) (heir p.rows x c) c fs p s (heir-placed x c _ fs p s t) (λ y. refl) s.rests.1))
+        (λ t. rw t (goes_on (frame.Free (Tried x c purpose b)) (frame.Free (Looping x purpose)) fs p (λ y. refl) s.rests.1 s))
+
+    each : (b : FreeReply) → Sound (frame.Free (Tried x c purpose b)) fs p → KeptBy (step (frame.Free (Tried x c purpose b)) p) fs k
+    each Ok s = goes_on (frame.Free (Tried x c purpose Ok)) (frame.Free (Looping x purpose)) fs p (λ y. refl) s.rests.1 s
+    each Running s = handed Running s
+    each (Refused v) s = handed (Refused v) s
+
+positive : (h : ℕ) → nat_eq h 0 ≡ false → 0 < h
+positive zero t = cc
+positive (suc h) t = omega arith
+
+pub not-zero : (h : ℕ) → 0 < h → nat_eq h 0 ≡ false
+not-zero h l = by_test (nat_eq h 0) (λ t. let e : h ≡ 0 = eqb-true h 0 t in absurd (omega arith)) (λ t. t)
+
+beginning : (x : Obj) (fs : List Frame) (p : Pool) (k : ℕ) → Sound (frame.Free (Beginning x)) fs p → KeptBy (step (frame.Free (Beginning x)) p) fs k
+beginning x fs p k s = each (row_of p.rows x) refl
+  where
+    still : (q : Pool) → owner_of q.rows x ≡ owner_of p.rows x → (fs : List Frame) → Tries x fs p → (y c : Obj) (purpose : Purpose) (gs : List Frame) → fs ≡ frame.Free (Trying y c purpose) ∷ gs
+        → StillThere Running y c q
+    still q o fs t y c purpose gs e =
+        let t' : (c ≡ x) × (owner_of p.rows x ≡ Some (Of y)) = subst (λ (l : List Frame). Tries x l p) e t in
+        subst (λ (z : Obj). owner_of q.rows z ≡ Some (Of y)) (sym t'.0) (o ∙ t'.1)
+
+    over : KeptBy (Do.Done (Freed Ok) p) fs k
+    over = ended (Freed Ok) (frame.Free (Beginning x)) fs p k s (λ y. refl) (λ y c b gs q. tt)
+
+    runs : KeptBy (Do.Done (Freed Running) p) fs k
+    runs = ended (Freed Running) (frame.Free (Beginning x)) fs p k s (λ y. refl) (still p refl fs s.rests)
+
+    -- the claims on an event stay when it is doomed
+    dooms : (r : Row) → row_of p.rows x ≡ Some r → r.mark ≡ Busy → KeptBy (Do.Done (Freed Running) (set_mark p x Doomed)) fs k
+    dooms r e m =
+        let same_owner : owner_of (set_mark p x Doomed).rows x ≡ owner_of p.rows x = rw (e, row_of-changed-same (marked_row Doomed) p.rows x r (λ q. refl) e) refl in
+        let t : Sound (frame.Free (Ending Ok)) fs (set_mark p x Doomed) = changed-sound (marked_row Doomed) (frame.Free (Beginning x)) (frame.Free (Ending Ok)) fs fs p x r s (marks-place Doomed) e
+        (live-owned r.mark r.owner x (rw m tt) (shape-of p x r s.valid e)) (λ y ne. refl) (s.open_frees x ∙ ap phases e ∙ ap phase_of m) s.waiting tt in
+        ended (Freed Running) (frame.Free (Ending Ok)) fs (set_mark p x Doomed) k t (λ y. refl) (still (set_mark p x Doomed) same_owner fs s.rests)
+
+    quiet : (r : Row) → row_of p.rows x ≡ Some r → r.mark ≡ Quiet → KeptBy (lifted (begin_quiet x r.hook p)) fs k
+    quiet r e m =
+        let none : claims x fs ≡ [] = s.open_frees x ∙ ap phases e ∙ ap phase_of m in
+        let self : same x x ≡ true = same-equal x x refl in
+        by_test (nat_eq r.hook 0)
+        (λ t. rw t (goes_on (frame.Free (Beginning x)) (frame.Free (Leaving x 0)) fs p (λ y. refl) (r, e, rw m tt, none) s))
+        (λ t. rw t (changed-sound (marked_row Asked) (frame.Free (Beginning x)) (frame.Free (Hooked x r.hook)) fs fs p x r s (marks-place Asked) e
+        (live-owned r.mark r.owner x (rw m tt) (shape-of p x r s.valid e))
+        (λ y ne. let u : same x y ≡ false = same-false x y ne in rw u refl) (rw (self, none) refl) s.waiting
+        (positive r.hook t, rw (row_of-changed-same (marked_row Asked) p.rows x r (λ q. refl) e) refl)))
+
+    marks : (r : Row) (m : Mark) → r.mark ≡ m → row_of p.rows x ≡ Some r → KeptBy (lifted (begin_step x (row_of p.rows x) p)) fs k
+    marks r Quiet m e = rw (e, m) (quiet r e m)
+    marks r Asked m e = rw (e, m) runs
+    marks r Busy m e = rw (e, m) (dooms r e m)
+    marks r Doomed m e = rw (e, m) runs
+    marks r (Dying former) m e = rw (e, m) over
+
+    each : (o : Option Row) → row_of p.rows x ≡ o → KeptBy (lifted (begin_step x (row_of p.rows x) p)) fs k
+    each None e = rw e over
+    each (Some r) e = marks r r.mark refl e
+
+-- the destructor's run begins
+hooked : (x : Obj) (h : ℕ) (fs : List Frame) (p : Pool) (k : ℕ) → Sound (frame.Free (Hooked x h)) fs p → KeptBy (step (frame.Free (Hooked x h)) p) fs k
+hooked x h fs p k s = stands (frame.Free (Hooked x h)) (frame.Call (Asking (Routine (hook_moment x h)))) fs (frame.Free (Hooked x h) ∷ fs) p (λ y. refl) (s.rests.0, s.waiting) tt s
+
+judged : (x : Obj) (h v : ℕ) (fs : List Frame) (p : Pool) (k : ℕ) → Sound (frame.Free (Judged x h v)) fs p → KeptBy (step (frame.Free (Judged x h v)) p) fs k
+judged x h v fs p k s =
+    let row = running-row (row_of p.rows x) (claims x fs) (claim-here x InRun (claims x fs) (row_of p.rows x) (s.open_frees x)) in
+    by-row row.0 row.1 row.2 row.3
+  where
+    self : same x x ≡ true
+    self = same-equal x x refl
+
+    hh : nat_eq h 0 ≡ false
+    hh = not-zero h s.rests
+
+    by-row : (r : Row) → row_of p.rows x ≡ Some r → IsLive r.mark → claims x fs ≡ [] → KeptBy (lifted (judge_step x h v p)) fs k
+    by-row r e live none = by_test (nat_eq v 0)
+        (λ t. rw t (unmarked-sound (hooked_row 0) (frame.Free (Judged x h v)) (frame.Free (Leaving x h)) fs p x r s (hooks-place 0) (λ q. refl) e (λ y. rw hh refl)
+        (hooked_row 0 r, row_of-changed-same (hooked_row 0) p.rows x r (λ q. refl) e, live, none)))
+        (λ t. rw t (changed-sound (marked_row Quiet) (frame.Free (Judged x h v)) (frame.Free (Ending (Refused v))) fs fs p x r s (marks-place Quiet) e
+        (live-owned r.mark r.owner x live (shape-of p x r s.valid e)) (λ y ne. let u : same x y ≡ false = same-false x y ne in rw u refl) none s.waiting tt))
 
 -- ---- calls
 
@@ -261,9 +388,7 @@ new-sound f f' o size name fs p s e claim-same h =
     let ne : o ≢ Of n = other o e in
     record {
       started = omega arith;
-      distinct = (none, s.distinct);
-      owned = AllOwned-new p.rows n Plain o size name s.owned e;
-      rooted = Rooted-new p.rows n Plain o size name s.rooted s.owned none e;
+      forest = forest-new p.rows n Plain o size name s.forest none e;
       valid = λ y. by_test (same n y)
           (λ z. let q : n ≡ y = same-true n y z in rw z (subst (λ (v : Obj). (0 < v.0) × (v.0 < p.next + 1) × (o ≢ Of v)) q (s.started, omega arith, ne)))
           (λ z. rw z (higher (row_of p.rows y) y (s.valid y)));
@@ -290,96 +415,57 @@ new-sound f f' o size name fs p s e claim-same h =
     higher None y v = tt
     higher (Some r) y v = let l : y.0 < p.next = v.1 in (v.0, omega arith, v.2)
 
--- a row that isn't dying has its shape with any other owner
-owned-shape : (m : Mark) (o : Owner) (x : Obj) → IsLive m → o ≢ Of x → Shaped m (Some o) x
-owned-shape Quiet o x l ne = ne
-owned-shape Asked o x l ne = ne
-owned-shape Busy o x l ne = ne
-owned-shape Doomed o x l ne = ne
-owned-shape (Dying former) o x l ne = absurd l
+-- a call without a free leaves what it does, and is told
+module _ (q : Ask) (c : Call) (fs : List Frame) (p : Pool) (s : Sound (frame.Call (Doing q c)) fs p) where
+  -- a call that only looks
+  told : (r : Reply) → Sound (frame.Call (Telling (later q r) r)) fs p
+  told r = goes_on (frame.Call (Doing q c)) (frame.Call (Telling (later q r) r)) fs p (λ y. refl) tt s
 
--- an object that is put below another owner
-pub placed-sound : (f f' : Frame) (o : Owner) (x : Obj) (fs : List Frame) (p : Pool) → Sound f fs p → MayBePlaced p o x → ((y : Obj) → claim y f' ≡ claim y f) → Rests f' fs (place p o x)
-    → Sound f' fs (place p o x)
-placed-sound f f' o x fs p s may claim-same h =
-    let r : Row = may.row in
-    let rows : (place p o x).rows ≡ record r { owner = Some o } ∷ without p.rows x = rw may.is refl in
-    let at : r.serial ≡ x = row_of-serial p.rows x r may.is in
-    let gone : row_of (without p.rows x) x ≡ None = row_of-without-same p.rows x s.distinct in
-    let self : same r.serial x ≡ true = same-equal r.serial x at in
-    let here : row_of (place p o x).rows x ≡ Some (record r { owner = Some o }) = rw (rows, self) refl in
-    let other : (y : Obj) → x ≢ y → row_of (place p o x).rows y ≡ row_of p.rows y = (λ y ne.
-    let u : same r.serial y ≡ false = same-false r.serial y (λ q. ne (sym at ∙ q)) in
-    rw (rows, u) (row_of-without-other p.rows x y ne)) in
-    let v : ValidAt p.next (Some r) x = rw may.is at (s.valid x) in
-    record {
-      started = s.started;
-      distinct = rw rows (ap (row_of (without p.rows x)) at ∙ gone, Distinct-without p.rows x s.distinct);
-      owned = AllOwned-placed p o x r s.owned may.is may.there;
-      rooted = Rooted-placed p o x r s.rooted may.is may.outside;
-      valid = valid-at p.next p.rows (place p o x).rows x s.valid other (rw here (v.0, v.1, owned-shape r.mark o x may.live may.apart));
-      open_frees = frees-at f f' fs fs p.rows (place p o x).rows x s.open_frees other (λ y ne. ap (λ (l : List Phase). l ++ claims y fs) (claim-same y))
-          (ap (λ (l : List Phase). l ++ claims x fs) (claim-same x) ∙ s.open_frees x ∙ ap phases may.is ∙ sym (ap phases here));
-      waiting = s.waiting;
-      rests = h;
-    }
+  put : (r : Reply) (o : Owner) (x : Obj) → MayBePlaced p o x → Sound (frame.Call (Telling (later q r) r)) fs (place p o x)
+  put r o x may = placed-sound (frame.Call (Doing q c)) (frame.Call (Telling (later q r) r)) o x fs p s may (λ y. refl) tt
 
--- an object that gets another name
-pub named-sound : (f f' : Frame) (x : Obj) (name : List ℕ) (fs : List Frame) (p : Pool) → Sound f fs p → (r : Row) → row_of p.rows x ≡ Some r → ((y : Obj) → claim y f' ≡ claim y f) → Rests f' fs (rename p x name)
-    → Sound f' fs (rename p x name)
-named-sound f f' x name fs p s r is claim-same h =
-    let rows : List Row = changed (named_row name) p.rows x in
-    let here : row_of rows x ≡ Some (named_row name r) = row_of-changed-same (named_row name) p.rows x r (λ q. refl) is in
-    let other : (y : Obj) → x ≢ y → row_of rows y ≡ row_of p.rows y = (λ y ne. row_of-changed-other (named_row name) p.rows x y (λ q. refl) ne) in
-    let v : ValidAt p.next (Some r) x = rw is at (s.valid x) in
-    record {
-      started = s.started;
-      distinct = Distinct-changed (named_row name) p.rows x (λ q. refl) s.distinct;
-      owned = AllOwned-changed (named_row name) p.rows x (λ q. refl) (λ q. refl) s.owned;
-      rooted = Rooted-changed (named_row name) p.rows x (λ q. refl) (λ q. refl) s.rooted;
-      valid = valid-at p.next p.rows rows x s.valid other (rw here v);
-      open_frees = frees-at f f' fs fs p.rows rows x s.open_frees other (λ y ne. ap (λ (l : List Phase). l ++ claims y fs) (claim-same y))
-          (ap (λ (l : List Phase). l ++ claims x fs) (claim-same x) ∙ s.open_frees x ∙ ap phases is ∙ sym (ap phases here));
-      waiting = s.waiting;
-      rests = h;
-    }
+  mended : (g : Row → Row) (x : Obj) (r : Row) → KeepsPlace g → ((r : Row) → (g r).mark ≡ r.mark) → row_of p.rows x ≡ Some r
+      → Sound (frame.Call (Telling (later q reply.Ok) reply.Ok)) fs (record p { rows = changed g p.rows x })
+  mended g x r k m e = unmarked-sound g (frame.Call (Doing q c)) (frame.Call (Telling (later q reply.Ok) reply.Ok)) fs p x r s k m e (λ y. refl) tt
 
--- a call that only looks
-told : (c : Call) (r : Reply) (fs : List Frame) (p : Pool) → Sound (frame.Call (Doing c)) fs p → Sound (frame.Call (Telling r)) fs p
-told c r fs p s = goes_on (frame.Call (Doing c)) (frame.Call (Telling r)) fs p (λ y. refl) tt s
+  hooks : (x : Obj) (h : ℕ) → MayBeHooked p x → Sound (frame.Call (Telling (later q reply.Ok) reply.Ok)) fs (set_hook p x h)
+  hooks x h may = mended (hooked_row h) x may.row (hooks-place h) (λ r. refl) may.is
 
-effected : (c : Call) (fs : List Frame) (p : Pool) (k : ℕ) → Sound (frame.Call (Doing c)) fs p → refusals p c ≡ [] → KeptBy (effect_step c p) fs k
-effected (call.New o size name) fs p k s none = new-sound (frame.Call (Doing (call.New o size name))) (frame.Call (Telling (reply.Number p.next))) o size name fs p s (passes p o size name none) (λ x. refl) tt
-effected (call.Steal o x) fs p k s none = placed-sound (frame.Call (Doing (call.Steal o x))) (frame.Call (Telling reply.Ok)) o x fs p s (passes-placing p o x none) (λ y. refl) tt
-effected (call.Move o x) fs p k s none = placed-sound (frame.Call (Doing (call.Move o x))) (frame.Call (Telling (reply.Number x.0))) o x fs p s (passes-placing p o x none) (λ y. refl) tt
-effected (call.Reparent from to x) fs p k s none =
-    placed-sound (frame.Call (Doing (call.Reparent from to x))) (frame.Call (Telling reply.Ok)) to x fs p s (passes-reparent p from to x none) (λ y. refl) tt
-effected (call.Rename x name) fs p k s none =
-    let r = passes-object p x none in
-    named-sound (frame.Call (Doing (call.Rename x name))) (frame.Call (Telling reply.Ok)) x name fs p s r.0 r.1 (λ y. refl) tt
-effected (call.Parent x) fs p k s none = told (call.Parent x) (owner_reply (owner_of p.rows x)) fs p s
-effected (call.Freekids x) fs p k s none = record { started = s.started; distinct = s.distinct; valid = s.valid; owned = s.owned; rooted = s.rooted; open_frees = s.open_frees; waiting = (tt, s.waiting); rests = tt }
-effected (call.Total o) fs p k s none = told (call.Total o) (reply.Number (size_inside p.rows o)) fs p s
-effected (call.Count o) fs p k s none = told (call.Count o) (reply.Number (count_inside p.rows o)) fs p s
-effected (call.Report o) fs p k s none = told (call.Report o) (reply.Rows (report p.rows o)) fs p s
-effected (call.Free x) fs p k s none = record { started = s.started; distinct = s.distinct; valid = s.valid; owned = s.owned; rooted = s.rooted; open_frees = s.open_frees; waiting = (tt, s.waiting); rests = tt }
+effected : (q : Ask) (c : Call) (fs : List Frame) (p : Pool) (k : ℕ) → Sound (frame.Call (Doing q c)) fs p → refusals p c ≡ [] → KeptBy (effect_step q c p) fs k
+effected q (call.New o size name) fs p k s none =
+    new-sound (frame.Call (Doing q (call.New o size name))) (frame.Call (Telling (later q (reply.Number p.next)) (reply.Number p.next))) o size name fs p s (passes p o size name none) (λ x. refl) tt
+effected q (call.Free x) fs p k s none = stands _ _ fs (frame.Call (Awaiting q x) ∷ fs) p (λ y. refl) (tt, s.waiting) tt s
+effected q (call.Freekids x) fs p k s none = stands _ _ fs (frame.Call (Awaiting q x) ∷ fs) p (λ y. refl) (tt, s.waiting) tt s
+effected q (call.Steal o x) fs p k s none = put q _ fs p s reply.Ok o x (passes-placing p o x none)
+effected q (call.Move o x) fs p k s none = put q _ fs p s (reply.Number x.0) o x (passes-placing p o x none)
+effected q (call.Reparent from to x) fs p k s none = put q _ fs p s reply.Ok to x (passes-reparent p from to x none)
+effected q (call.Hook x h) fs p k s none = hooks q _ fs p s x h (passes-hooking p x none)
+effected q (call.Unhook x) fs p k s none = hooks q _ fs p s x 0 (passes-hooking p x none)
+effected q (call.Rename x name) fs p k s none = let r = passes-object p x none in mended q _ fs p s (named_row name) x r.0 (names-place name) (λ r. refl) r.1
+effected q (call.Parent x) fs p k s none = told q _ fs p s (owner_reply (owner_of p.rows x))
+effected q (call.Total o) fs p k s none = told q _ fs p s (reply.Number (size_inside p.rows o))
+effected q (call.Count o) fs p k s none = told q _ fs p s (reply.Number (count_inside p.rows o))
+effected q (call.Report o) fs p k s none = told q _ fs p s (reply.Rows (report p.rows o))
 
-doing : (c : Call) (fs : List Frame) (p : Pool) (k : ℕ) → Sound (frame.Call (Doing c)) fs p → KeptBy (step (frame.Call (Doing c)) p) fs k
-doing c fs p k s = each (refusals p c) refl
+doing : (q : Ask) (c : Call) (fs : List Frame) (p : Pool) (k : ℕ) → Sound (frame.Call (Doing q c)) fs p → KeptBy (step (frame.Call (Doing q c)) p) fs k
+doing q c fs p k s = each (refusals p c) refl
   where
-    each : (check : Check) → refusals p c ≡ check → KeptBy (call_step (refusals p c) c p) fs k
-    each [] e = rw e (effected c fs p k s e)
-    each (why ∷ later) e = rw e (told c (reply.No why) fs p s)
+    each : (check : Check) → refusals p c ≡ check → KeptBy (call_step (refusals p c) q c p) fs k
+    each [] e = rw e (effected q c fs p k s e)
+    each (why ∷ later_checks) e = rw e (told q c fs p s (reply.No why))
 
 -- every step keeps what is sound
 pub sound-kept : (f : Frame) (fs : List Frame) (p : Pool) (k : ℕ) → Sound f fs p → KeptBy (step f p) fs k
-sound-kept (frame.Call Asking) fs p k s = asking fs p k s
-sound-kept (frame.Call (Doing c)) fs p k s = doing c fs p k s
-sound-kept (frame.Call (Awaiting x)) fs p k s = absurd s.rests
-sound-kept (frame.Call (Telling r)) fs p k s = goes_on (frame.Call (Telling r)) (frame.Call Asking) fs p (λ x. refl) tt s
+sound-kept (frame.Call (Asking q)) fs p k s = asking q fs p k s
+sound-kept (frame.Call (Doing q c)) fs p k s = doing q c fs p k s
+sound-kept (frame.Call (Awaiting q x)) fs p k s = absurd s.rests
+sound-kept (frame.Call (Telling q r)) fs p k s = goes_on (frame.Call (Telling q r)) (frame.Call (Asking q)) fs p (λ x. refl) tt s
+sound-kept (frame.Call (Returning v)) fs p k s = ended (Returned v) (frame.Call (Returning v)) fs p k s (λ x. refl) (λ x c b gs e. tt)
 sound-kept (frame.Free (Beginning x)) fs p k s = beginning x fs p k s
-sound-kept (frame.Free (Leaving x)) fs p k s = leaving x fs p k s
+sound-kept (frame.Free (Hooked x h)) fs p k s = hooked x h fs p k s
+sound-kept (frame.Free (Judged x h v)) fs p k s = judged x h v fs p k s
+sound-kept (frame.Free (Leaving x h)) fs p k s = leaving x h fs p k s
 sound-kept (frame.Free (Looping x purpose)) fs p k s = looping x purpose fs p k s
 sound-kept (frame.Free (Trying x c purpose)) fs p k s = absurd s.rests
 sound-kept (frame.Free (Tried x c purpose a)) fs p k s = tried x c purpose a fs p k s
-sound-kept (frame.Free (Ending a)) fs p k s = ending a fs p k s
+sound-kept (frame.Free (Ending a)) fs p k s = ended (Freed a) (frame.Free (Ending a)) fs p k s (λ x. refl) (λ x c b gs e. still-there a x c p s.rests)

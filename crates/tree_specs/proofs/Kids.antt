@@ -5,7 +5,7 @@ use Rattle.tree_specs.specs.declared.object.Owner.{Owner}
 use Rattle.tree_specs.specs.declared.row.Row.{Row}
 use Rattle.tree_specs.specs.Objects.{same}
 use Rattle.tree_specs.specs.Pool.{owner_in, owner_of, is_below, kids, first_kid, behind, kid_behind, next_kid}
-use Rattle.tree_specs.specs.Sound.{Distinct}
+use Rattle.tree_specs.specs.Forest.{Distinct}
 use Rattle.tree_specs.proofs.Numbered.{by_test, same-equal, same-false, is_below-some}
 
 pub first_kid-kids : (rs : List Row) (p : Owner) → first_kid rs p ≡ slice_get (kids rs p) 0

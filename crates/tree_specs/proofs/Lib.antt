@@ -5,6 +5,7 @@ pub mod Settling
 pub mod Ancestry
 pub mod Rooted
 pub mod Walk
+pub mod Heirs
 pub mod Checks
 pub mod Keeps
 pub mod Falls
@@ -13,3 +14,11 @@ pub mod Load
 pub mod Plainness
 pub mod Rest
 pub mod StoryLaws
+pub mod Later
+pub mod Past
+pub mod Causes
+pub mod Fitting
+pub mod Orderliness
+pub mod References
+pub mod OwnRefusals
+pub mod StoryOrder

@@ -1,5 +1,5 @@
--- The stated number of turns is above the measure at every moment, and a host's own work stays below all others.
-use Rattle.std.proofs.Common.{inl, inr, ◌≡◌, ℕ, suc, zero, ◌+◌, ◌*◌, ◌≤◌, ◌<◌, List, [], ◌∷◌, length, Option, Some, None, refl, ◌∙◌, ap, subst, arith}
+-- The stated number of turns is above the measure at every moment, and each work stands where it may.
+use Rattle.std.proofs.Common.{◌≡◌, ℕ, suc, zero, ◌+◌, ◌*◌, ◌≤◌, ◌<◌, List, [], ◌∷◌, length, Option, Some, None, nat_eq, refl, sym, ◌∙◌, ap, arith}
 use Rattle.step_machine.specs.Machine.{Move}
 use Rattle.step_machine.specs.Machine.{Move as Do}
 use Rattle.step_machine.proofs.Ends.{Leads}
@@ -11,166 +11,299 @@ use Rattle.tree_specs.specs.declared.row.Mark.{Mark}
 use Rattle.tree_specs.specs.declared.row.Mark.TheVariants.{Quiet, Asked, Busy, Doomed, Dying}
 use Rattle.tree_specs.specs.declared.call.Call.{Call}
 use Rattle.tree_specs.specs.declared.call.Call.TheVariants as call
+use Rattle.tree_specs.specs.declared.question.Ask.{Ask}
+use Rattle.tree_specs.specs.declared.question.Ask.TheVariants as asks
 use Rattle.tree_specs.specs.declared.reply.Reply.{Reply}
 use Rattle.tree_specs.specs.declared.reply.Reply.TheVariants as reply
 use Rattle.tree_specs.specs.declared.frame.Frame.{Frame}
 use Rattle.tree_specs.specs.declared.frame.Frame.TheVariants as frame
-use Rattle.tree_specs.specs.declared.frame.CallFrame.TheVariants.{Asking, Doing, Awaiting, Telling}
-use Rattle.tree_specs.specs.declared.frame.FreeFrame.TheVariants.{Beginning, Leaving, Looping, Trying, Tried, Ending}
+use Rattle.tree_specs.specs.declared.frame.CallFrame.TheVariants.{Asking, Doing, Awaiting, Telling, Returning}
+use Rattle.tree_specs.specs.declared.frame.FreeFrame.{FreeFrame}
+use Rattle.tree_specs.specs.declared.frame.FreeFrame.TheVariants.{Beginning, Hooked, Judged, Leaving, Looping, Trying, Tried, Ending}
 use Rattle.tree_specs.specs.declared.frame.Purpose.{Purpose}
 use Rattle.tree_specs.specs.declared.frame.Purpose.TheVariants.{Removal, Emptying}
 use Rattle.tree_specs.specs.declared.frame.Answer.{Answer}
-use Rattle.tree_specs.specs.declared.frame.Answer.TheVariants.{Ok, Running}
-use Rattle.tree_specs.specs.Pool.{Pool, row_of, owner_of, first_kid, changed, left_row, place, named_row}
+use Rattle.tree_specs.specs.declared.frame.Answer.TheVariants.{Freed, Returned}
+use Rattle.tree_specs.specs.declared.free_step.FreeReply.{FreeReply}
+use Rattle.tree_specs.specs.declared.free_step.FreeReply.TheVariants.{Ok, Running, Refused}
+use Rattle.tree_specs.specs.Pool.{Pool, row_of, is_below, owner_of, first_kid, changed, left_row, place, named_row, set_mark, marked_row, hooked_row}
+use Rattle.tree_specs.specs.Heirs.{heir}
 use Rattle.tree_specs.specs.Items.{Item}
 use Rattle.tree_specs.specs.Calls.{Check, refusals}
-use Rattle.tree_specs.specs.Table.{table, step, lifted, begin_step, last_step, loop_step, call_step, effect_step, replied, resume}
-use Rattle.tree_specs.specs.Sound.{phases, InLoop, claims, IsWaiting, AllWait, Sound}
-use Rattle.tree_specs.proofs.Checks.{taken-doing, MayBePlaced, passes-placing, passes-reparent, passes-object}
+use Rattle.tree_specs.specs.Table.{table, step, lifted, begin_quiet, begin_step, judge_step, last_step, loop_step, hand_on_step, call_step, effect_step, replied, resume}
+use Rattle.tree_specs.specs.Sound.{phase_of, phases, InRun, InLoop, claims, IsWaiting, AllWait, Sound}
+use Rattle.tree_specs.proofs.Numbered.{by_test}
+use Rattle.tree_specs.proofs.Checks.{MayBePlaced, passes-placing, passes-reparent, passes-object, passes-hooking, Heard, Does, Returns, heard-leads}
 use Rattle.std.proofs.Math.Nat.{mul-le-mul_left}
-use Rattle.tree_specs.specs.Story.{owner_reply, turns}
+use Rattle.tree_specs.specs.Story.{owner_reply, later, turns}
 use Rattle.tree_specs.specs.View.{View}
-use Rattle.tree_specs.specs.Whole.{IsCaller, Based, size, sizes, mark_burden, burden, Light, Whole}
+use Rattle.tree_specs.specs.Whole.{IsQuiet, IsOfRoutine, IsCaller, IsRun, IsFree, Seat, Seated, size, innermost_size, sizes, mark_burden, burden, Light, Whole}
 use Rattle.tree_specs.specs.Inside.{total, size_inside, count_inside}
 use Rattle.tree_specs.specs.Reports.{report}
 use Rattle.tree_specs.specs.Measure.{mark_weight, weight, waiting_cost, below_cost, loop_kids, top_cost, cost, pending}
 use Rattle.tree_specs.proofs.Rows.{total-without, total-placed, total-changed, count-length}
-use Rattle.tree_specs.proofs.Keeps.{settled-row, dying-row, claim-here}
+use Rattle.tree_specs.proofs.Keeps.{dying-row, running-row, claim-here, heir-placed}
+use Rattle.tree_specs.proofs.Falls.{total-kept}
 
--- what a move leads to is based and light
+-- what a move leads to stands where it may, and is light
 abbrev pub Placed : Move Frame Answer Pool Item → List Frame → ℕ → Type 0
-Placed m fs k = Leads table (λ g gs q j. Based g gs × Light g gs q) m fs k
+Placed m fs k = Leads table (λ g gs q j. Seated g gs × Light g gs q) m fs k
 
-based-resume : (g : Frame) (gs : List Frame) (a : Answer) → Based g gs → Based (resume g a) gs
-based-resume g (h ∷ gs) a b = b
-based-resume (frame.Call f) [] a b = tt
-based-resume (frame.Free f) [] a b = absurd b
+-- ---- a work in the place of another
 
-based-other : (f g : Frame) (fs : List Frame) → (IsCaller f → IsCaller g) → Based f fs → Based g fs
-based-other f g [] c b = c b
-based-other f g (h ∷ fs) c b = b
-
-size-resume : (g : Frame) (gs : List Frame) (a : Answer) → IsWaiting g gs → size (resume g a) ≡ size g
-size-resume (frame.Call (Awaiting x)) gs a w = refl
-size-resume (frame.Free (Trying x c purpose)) gs a w = refl
-size-resume (frame.Call Asking) gs a w = absurd w
-size-resume (frame.Call (Doing c)) gs a w = absurd w
-size-resume (frame.Call (Telling r)) gs a w = absurd w
-size-resume (frame.Free (Beginning x)) gs a w = absurd w
-size-resume (frame.Free (Leaving x)) gs a w = absurd w
-size-resume (frame.Free (Looping x purpose)) gs a w = absurd w
-size-resume (frame.Free (Tried x c purpose b)) gs a w = absurd w
-size-resume (frame.Free (Ending b)) gs a w = absurd w
-
-over : (a : Answer) (f : Frame) (fs : List Frame) (p : Pool) (k : ℕ) → AllWait fs → Based f fs → Light f fs p → Placed (Do.Done a p) fs k
-over a f [] p k w b l = tt
-over a f (g ∷ gs) p k w b l = (based-resume g gs a b, omega (arith, size-resume g gs a w.0))
-
-asking-placed : (fs : List Frame) (p : Pool) (k : ℕ) → Based (frame.Call Asking) fs → Light (frame.Call Asking) fs p → Placed (step (frame.Call Asking) p) fs k
-asking-placed fs p zero b l = tt
-asking-placed fs p (suc k) b l = λ i g e.
-    let t = taken-doing i g e in
-    subst (λ (z : Frame). Based z fs × Light z fs p) t.1 (based-other (frame.Call Asking) (frame.Call (Doing t.0)) fs (λ c. tt) b, l)
-
-doing-placed : (c : Call) (fs : List Frame) (p : Pool) (k : ℕ) → Based (frame.Call (Doing c)) fs → Light (frame.Call (Doing c)) fs p → Placed (call_step (refusals p c) c p) fs k
-doing-placed c fs p k b l = each (refusals p c) refl
+pub reseat : (f g : Frame) (fs : List Frame) → (IsCaller f → IsCaller g) → (IsRun f → IsRun g) → (IsFree f → IsFree g) → Seated f fs → Seated g fs
+reseat f g [] c r k s = c s
+reseat f g (h ∷ hs) c r k s = (seat h s.0, s.1)
   where
-    told : (r : Reply) → Based (frame.Call (Telling r)) fs
-    told r = based-other (frame.Call (Doing c)) (frame.Call (Telling r)) fs (λ z. tt) b
+    seat : (h : Frame) → Seat f (h ∷ hs) → Seat g (h ∷ hs)
+    seat (frame.Call d) s = k s
+    seat (frame.Free (Hooked x h)) s = r s
+    seat (frame.Free (Beginning x)) s = k s
+    seat (frame.Free (Judged x h v)) s = k s
+    seat (frame.Free (Leaving x h)) s = k s
+    seat (frame.Free (Looping x purpose)) s = k s
+    seat (frame.Free (Trying x c purpose)) s = k s
+    seat (frame.Free (Tried x c purpose a)) s = k s
+    seat (frame.Free (Ending a)) s = k s
 
-    put : (r : Reply) (o : Owner) (x : Obj) → MayBePlaced p o x → Placed (replied r (place p o x)) fs k
-    put r o x may = let w = total-placed burden p o x may.row may.is refl in (told r, omega (arith, w))
+pub reseat-free : (f g : FreeFrame) (fs : List Frame) → Seated (frame.Free f) fs → Seated (frame.Free g) fs
+reseat-free f g fs s = reseat (frame.Free f) (frame.Free g) fs (λ c. c) (λ r. r) (λ k. tt) s
 
-    effect : (d : Call) → refusals p d ≡ [] → Placed (effect_step d p) fs k
-    effect (call.New o n name) none = (told (reply.Number p.next), omega arith)
-    effect (call.Free x) none = (based-other (frame.Call (Doing c)) (frame.Call (Awaiting x)) fs (λ z. tt) b, omega arith)
-    effect (call.Freekids x) none = (based-other (frame.Call (Doing c)) (frame.Call (Awaiting x)) fs (λ z. tt) b, omega arith)
+quiet-later : (q : Ask) (r : Reply) → IsQuiet q → IsQuiet (later q r)
+quiet-later asks.Quiet r h = tt
+quiet-later (asks.Routine m) r h = absurd h
+quiet-later asks.Clock r h = absurd h
+quiet-later (asks.Wait limit) r h = absurd h
+quiet-later (asks.Accept descriptor) r h = absurd h
+quiet-later (asks.Read descriptor most) r h = absurd h
+quiet-later (asks.Write descriptor bytes) r h = absurd h
+
+routine-later : (q : Ask) (r : Reply) → IsOfRoutine q → IsOfRoutine (later q r)
+routine-later asks.Quiet r h = absurd h
+routine-later (asks.Routine m) r h = tt
+routine-later asks.Clock r h = absurd h
+routine-later (asks.Wait limit) r h = absurd h
+routine-later (asks.Accept descriptor) r h = absurd h
+routine-later (asks.Read descriptor most) r h = absurd h
+routine-later (asks.Write descriptor bytes) r h = absurd h
+
+not-both : (q : Ask) → IsQuiet q → IsOfRoutine q → ⊥
+not-both asks.Quiet h k = k
+not-both (asks.Routine m) h k = h
+not-both asks.Clock h k = h
+not-both (asks.Wait limit) h k = h
+not-both (asks.Accept descriptor) h k = h
+not-both (asks.Read descriptor most) h k = h
+not-both (asks.Write descriptor bytes) h k = h
+
+reseat-told : (q : Ask) (c : Call) (r : Reply) (fs : List Frame) → Seated (frame.Call (Doing q c)) fs → Seated (frame.Call (Telling (later q r) r)) fs
+reseat-told q c r fs s = reseat (frame.Call (Doing q c)) (frame.Call (Telling (later q r) r)) fs (quiet-later q r) (routine-later q r) (λ k. k) s
+
+resumed-seated : (g : Frame) (gs : List Frame) (a : Answer) → IsWaiting g gs → Seated g gs → Seated (resume g a) gs
+resumed-seated (frame.Call (Awaiting q x)) gs a w s = reseat (frame.Call (Awaiting q x)) (resume (frame.Call (Awaiting q x)) a) gs (quiet-later q _) (routine-later q _) (λ k. k) s
+resumed-seated (frame.Free f) gs a w s = reseat (frame.Free f) (resume (frame.Free f) a) gs (λ c. c) (λ r. r) (λ k. tt) s
+resumed-seated (frame.Call (Asking q)) gs a w s = absurd w
+resumed-seated (frame.Call (Doing q c)) gs a w s = absurd w
+resumed-seated (frame.Call (Telling q r)) gs a w s = absurd w
+resumed-seated (frame.Call (Returning v)) gs a w s = absurd w
+
+run-size : (f : Frame) → IsRun f → innermost_size f ≡ 2
+run-size (frame.Call f) r = refl
+run-size (frame.Free f) r = absurd r
+
+-- a work that goes on is no larger than it and the work that has ended
+size-resume : (f g : Frame) (gs : List Frame) (a : Answer) → IsWaiting g gs → Seat f (g ∷ gs) → innermost_size (resume g a) ≤ size g + innermost_size f
+size-resume f (frame.Call (Awaiting q x)) gs a w s = omega arith
+size-resume f (frame.Free (Trying x c purpose)) gs a w s = omega arith
+size-resume f (frame.Free (Hooked x h)) gs a w s = let n = run-size f s in omega (arith, n)
+size-resume f (frame.Call (Asking q)) gs a w s = absurd w
+size-resume f (frame.Call (Doing q c)) gs a w s = absurd w
+size-resume f (frame.Call (Telling q r)) gs a w s = absurd w
+size-resume f (frame.Call (Returning v)) gs a w s = absurd w
+size-resume f (frame.Free (Beginning x)) gs a w s = absurd w
+size-resume f (frame.Free (Judged x h v)) gs a w s = absurd w
+size-resume f (frame.Free (Leaving x h)) gs a w s = absurd w
+size-resume f (frame.Free (Looping x purpose)) gs a w s = absurd w
+size-resume f (frame.Free (Tried x c purpose b)) gs a w s = absurd w
+size-resume f (frame.Free (Ending b)) gs a w s = absurd w
+
+-- a work that ends, over rows whose burden is as great
+over : (a : Answer) (f : Frame) (fs : List Frame) (p : Pool) (k : ℕ) → AllWait fs → Seated f fs → Light f fs p → Placed (Do.Done a p) fs k
+over a f [] p k w s l = tt
+over a f (g ∷ gs) p k w s l = (resumed-seated g gs a w.0 s.1, omega (arith, l, size-resume f g gs a w.0 s.0))
+
+asking-placed : (q : Ask) (fs : List Frame) (p : Pool) (k : ℕ) → Seated (frame.Call (Asking q)) fs → Light (frame.Call (Asking q)) fs p → Placed (step (frame.Call (Asking q)) p) fs k
+asking-placed q fs p zero s l = tt
+asking-placed q fs p (suc k) s l = λ i g e. leads g (heard-leads q i g e)
+  where
+    leads : (g : Frame) → Heard q g → Seated g fs × Light g fs p
+    leads _ (Does c) = (reseat (frame.Call (Asking q)) (frame.Call (Doing q c)) fs (λ z. z) (λ z. z) (λ z. z) s, l)
+    leads _ (Returns v of) = (reseat (frame.Call (Asking q)) (frame.Call (Returning v)) fs (λ z. not-both q z of) (λ z. tt) (λ z. z) s, l)
+
+doing-placed : (q : Ask) (c : Call) (fs : List Frame) (p : Pool) (k : ℕ) → Seated (frame.Call (Doing q c)) fs → Light (frame.Call (Doing q c)) fs p → Placed (call_step (refusals p c) q c p) fs k
+doing-placed q c fs p k s l = each (refusals p c) refl
+  where
+    told : (r : Reply) → Placed (replied q r p) fs k
+    told r = (reseat-told q c r fs s, l)
+
+    put : (r : Reply) (o : Owner) (x : Obj) → MayBePlaced p o x → Placed (replied q r (place p o x)) fs k
+    put r o x may = let w = total-placed burden p o x may.row may.is refl in (reseat-told q c r fs s, omega (arith, w, l))
+
+    mended : (g : Row → Row) (x : Obj) (r : Row) → row_of p.rows x ≡ Some r → burden (g r) ≡ burden r → Placed (replied q reply.Ok (record p { rows = changed g p.rows x })) fs k
+    mended g x r e b = let w = total-kept burden g p.rows x r e b in (reseat-told q c reply.Ok fs s, omega (arith, w, l))
+
+    awaits : (x : Obj) → Seated (frame.Call (Awaiting q x)) fs
+    awaits x = reseat (frame.Call (Doing q c)) (frame.Call (Awaiting q x)) fs (λ z. z) (λ z. z) (λ z. z) s
+
+    effect : (d : Call) → refusals p d ≡ [] → Placed (effect_step q d p) fs k
+    effect (call.New o n name) none = (reseat-told q c (reply.Number p.next) fs s, omega (arith, l))
+    effect (call.Free x) none = ((tt, awaits x), omega (arith, l))
+    effect (call.Freekids x) none = ((tt, awaits x), omega (arith, l))
     effect (call.Steal o x) none = put reply.Ok o x (passes-placing p o x none)
     effect (call.Move o x) none = put (reply.Number x.0) o x (passes-placing p o x none)
     effect (call.Reparent from to x) none = put reply.Ok to x (passes-reparent p from to x none)
-    effect (call.Rename x name) none =
-        let r = passes-object p x none in
-        let w : total burden (changed (named_row name) p.rows x) ≡ total burden p.rows = omega (arith, total-changed burden (named_row name) p.rows x r.0 r.1) in
-        (told reply.Ok, omega (arith, w))
-    effect (call.Parent x) none = (told (owner_reply (owner_of p.rows x)), l)
-    effect (call.Total o) none = (told (reply.Number (size_inside p.rows o)), l)
-    effect (call.Count o) none = (told (reply.Number (count_inside p.rows o)), l)
-    effect (call.Report o) none = (told (reply.Rows (report p.rows o)), l)
+    effect (call.Hook x h) none = let may = passes-hooking p x none in mended (hooked_row h) x may.row may.is refl
+    effect (call.Unhook x) none = let may = passes-hooking p x none in mended (hooked_row 0) x may.row may.is refl
+    effect (call.Rename x name) none = let r = passes-object p x none in mended (named_row name) x r.0 r.1 refl
+    effect (call.Parent x) none = told (owner_reply (owner_of p.rows x))
+    effect (call.Total o) none = told (reply.Number (size_inside p.rows o))
+    effect (call.Count o) none = told (reply.Number (count_inside p.rows o))
+    effect (call.Report o) none = told (reply.Rows (report p.rows o))
 
-    each : (check : Check) → refusals p c ≡ check → Placed (call_step check c p) fs k
-    each (why ∷ later) e = (told (reply.No why), l)
+    each : (check : Check) → refusals p c ≡ check → Placed (call_step check q c p) fs k
+    each (why ∷ later_checks) e = told (reply.No why)
     each [] e = effect c e
 
-beginning-placed : (x : Obj) (fs : List Frame) (p : Pool) (k : ℕ) → Sound (frame.Free (Beginning x)) fs p → Based (frame.Free (Beginning x)) fs → Light (frame.Free (Beginning x)) fs p
+beginning-placed : (x : Obj) (fs : List Frame) (p : Pool) (k : ℕ) → AllWait fs → Seated (frame.Free (Beginning x)) fs → Light (frame.Free (Beginning x)) fs p
     → Placed (step (frame.Free (Beginning x)) p) fs k
-beginning-placed x fs p k s b l = each (row_of p.rows x) refl
+beginning-placed x fs p k w s l = each (row_of p.rows x) refl
   where
-    done : Placed (Do.Done Ok p) fs k
-    done = over Ok (frame.Free (Beginning x)) fs p k s.waiting b l
+    done : (a : FreeReply) → Placed (Do.Done (Freed a) p) fs k
+    done a = over (Freed a) (frame.Free (Beginning x)) fs p k w s l
 
-    found : (r : Row) → row_of p.rows x ≡ Some r → Placed (lifted (begin_step x (row_of p.rows x) p)) fs k
-    found r e = elim (settled-row x fs r (s.open_frees x ∙ ap phases e)) [
-      | inl m ↦ rw (e, m) (based-other (frame.Free (Beginning x)) (frame.Free (Leaving x)) fs (λ z. z) b, l)
-      | inr d ↦ rw (e, d.1) done
-    ]
+    quiet : (r : Row) → row_of p.rows x ≡ Some r → r.mark ≡ Quiet → Placed (lifted (begin_quiet x r.hook p)) fs k
+    quiet r e m = by_test (nat_eq r.hook 0)
+        (λ t. rw t (reseat-free (Beginning x) (Leaving x 0) fs s, l))
+        (λ t. let u = total-changed burden (marked_row Asked) p.rows x r e in
+        rw t (reseat-free (Beginning x) (Hooked x r.hook) fs s, omega (arith, u, l, ap mark_burden m)))
+
+    marks : (r : Row) (m : Mark) → r.mark ≡ m → row_of p.rows x ≡ Some r → Placed (lifted (begin_step x (row_of p.rows x) p)) fs k
+    marks r Quiet m e = rw (e, m) (quiet r e m)
+    marks r Asked m e = rw (e, m) (done Running)
+    marks r Busy m e =
+        let u : total burden (changed (marked_row Doomed) p.rows x) ≡ total burden p.rows = total-kept burden (marked_row Doomed) p.rows x r e (sym (ap mark_burden m)) in
+        rw (e, m) (over (Freed Running) (frame.Free (Beginning x)) fs (set_mark p x Doomed) k w s (omega (arith, u, l)))
+    marks r Doomed m e = rw (e, m) (done Running)
+    marks r (Dying former) m e = rw (e, m) (done Ok)
 
     each : (o : Option Row) → row_of p.rows x ≡ o → Placed (lifted (begin_step x (row_of p.rows x) p)) fs k
-    each None e = rw e done
-    each (Some r) e = found r e
+    each None e = rw e (done Ok)
+    each (Some r) e = marks r r.mark refl e
 
-leaving-placed : (x : Obj) (fs : List Frame) (p : Pool) (k : ℕ) → Sound (frame.Free (Leaving x)) fs p → Based (frame.Free (Leaving x)) fs → Light (frame.Free (Leaving x)) fs p
-    → Placed (step (frame.Free (Leaving x)) p) fs k
-leaving-placed x fs p k s b l =
-    let w = total-changed burden left_row p.rows x s.rests.0 s.rests.1 in
-    (based-other (frame.Free (Leaving x)) (frame.Free (Looping x Removal)) fs (λ z. z) b, omega (arith, w, ap mark_burden s.rests.2))
+mark_burden-most : (m : Mark) → mark_burden m ≤ 3
+mark_burden-most Quiet = omega arith
+mark_burden-most Asked = omega arith
+mark_burden-most Busy = omega arith
+mark_burden-most Doomed = omega arith
+mark_burden-most (Dying former) = omega arith
 
-looping-placed : (x : Obj) (purpose : Purpose) (fs : List Frame) (p : Pool) (k : ℕ) → Sound (frame.Free (Looping x purpose)) fs p → Based (frame.Free (Looping x purpose)) fs
-    → Light (frame.Free (Looping x purpose)) fs p → Placed (step (frame.Free (Looping x purpose)) p) fs k
-looping-placed x purpose fs p k s b l = each (first_kid p.rows (Of x))
+judged-placed : (x : Obj) (h v : ℕ) (fs : List Frame) (p : Pool) (k : ℕ) → Sound (frame.Free (Judged x h v)) fs p → Seated (frame.Free (Judged x h v)) fs → Light (frame.Free (Judged x h v)) fs p
+    → Placed (step (frame.Free (Judged x h v)) p) fs k
+judged-placed x h v fs p k s seats l =
+    let row = running-row (row_of p.rows x) (claims x fs) (claim-here x InRun (claims x fs) (row_of p.rows x) (s.open_frees x)) in
+    by-row row.0 row.1
   where
-    last : (purpose : Purpose) → Sound (frame.Free (Looping x purpose)) fs p → Based (frame.Free (Looping x purpose)) fs → Light (frame.Free (Looping x purpose)) fs p
+    by-row : (r : Row) → row_of p.rows x ≡ Some r → Placed (lifted (judge_step x h v p)) fs k
+    by-row r e = by_test (nat_eq v 0)
+        (λ t. let u = total-kept burden (hooked_row 0) p.rows x r e refl in
+        rw t (reseat-free (Judged x h v) (Leaving x h) fs seats, by_test (nat_eq h 0) (λ y. rw y (omega (arith, u, l))) (λ y. rw y (omega (arith, u, l)))))
+        (λ t. let u = total-changed burden (marked_row Quiet) p.rows x r e in
+        rw t (reseat-free (Judged x h v) (Ending (Refused v)) fs seats, omega (arith, u, l, mark_burden-most r.mark)))
+
+leaving-placed : (x : Obj) (h : ℕ) (fs : List Frame) (p : Pool) (k : ℕ) → Sound (frame.Free (Leaving x h)) fs p → Seated (frame.Free (Leaving x h)) fs → Light (frame.Free (Leaving x h)) fs p
+    → Placed (step (frame.Free (Leaving x h)) p) fs k
+leaving-placed x h fs p k s seats l = (reseat-free (Leaving x h) (Looping x (Removal h)) fs seats, lighter s.rests.0 s.rests.1 s.rests.3)
+  where
+    calm : (m : Mark) → [] ≡ phase_of m → mark_burden m ≡ 0
+    calm Quiet e = refl
+    calm Asked e = cc
+    calm Busy e = cc
+    calm Doomed e = cc
+    calm (Dying former) e = cc
+
+    lighter : (r : Row) → row_of p.rows x ≡ Some r → claims x fs ≡ [] → Light (frame.Free (Looping x (Removal h))) fs (record p { rows = changed left_row p.rows x })
+    lighter r e none = let w = total-changed burden left_row p.rows x r e in by_test (nat_eq h 0)
+        (λ t. let o : claims x fs ≡ phases (row_of p.rows x) = rw t at (s.open_frees x) in
+        let i : mark_burden r.mark ≡ 0 = calm r.mark (sym none ∙ o ∙ ap phases e) in
+        let l' : 0 + sizes fs ≤ total burden p.rows + 2 = rw t at l in omega (arith, w, i, l'))
+        (λ t. let l' : 3 + sizes fs ≤ total burden p.rows + 2 = rw t at l in omega (arith, w, mark_burden-most r.mark, l'))
+
+looping-placed : (x : Obj) (purpose : Purpose) (fs : List Frame) (p : Pool) (k : ℕ) → Sound (frame.Free (Looping x purpose)) fs p → Seated (frame.Free (Looping x purpose)) fs
+    → Light (frame.Free (Looping x purpose)) fs p → Placed (step (frame.Free (Looping x purpose)) p) fs k
+looping-placed x purpose fs p k s seats l = each (first_kid p.rows (Of x))
+  where
+    last : (purpose : Purpose) → Sound (frame.Free (Looping x purpose)) fs p → Seated (frame.Free (Looping x purpose)) fs → Light (frame.Free (Looping x purpose)) fs p
         → Placed (lifted (last_step x purpose p)) fs k
-    last Removal s b l =
+    last (Removal h) s seats l =
         let row = dying-row (row_of p.rows x) (claims x fs) (claim-here x InLoop (claims x fs) (row_of p.rows x) (s.open_frees x)) in
         let w = total-without burden p.rows x row.0 row.1 in
         let i : burden row.0 ≡ 3 = ap mark_burden row.3 in
-        (based-other (frame.Free (Looping x Removal)) (frame.Free (Ending Ok)) fs (λ z. z) b, omega (arith, w, i))
-    last Emptying s b l = over Ok (frame.Free (Looping x Emptying)) fs p k s.waiting b l
+        (reseat-free (Looping x (Removal h)) (Ending Ok) fs seats, omega (arith, w, i, l))
+    last Emptying s seats l = over (Freed Ok) (frame.Free (Looping x Emptying)) fs p k s.waiting seats l
 
     each : (o : Option Obj) → Placed (lifted (loop_step x purpose o p)) fs k
-    each (Some c) = (based-other (frame.Free (Looping x purpose)) (frame.Free (Trying x c purpose)) fs (λ z. z) b, omega arith)
-    each None = last purpose s b l
+    each (Some c) = ((tt, reseat-free (Looping x purpose) (Trying x c purpose) fs seats), omega (arith, l))
+    each None = last purpose s seats l
 
-tried-placed : (x c : Obj) (purpose : Purpose) (a : Answer) (fs : List Frame) (p : Pool) (k : ℕ) → Sound (frame.Free (Tried x c purpose a)) fs p → Based (frame.Free (Tried x c purpose a)) fs
+tried-placed : (x c : Obj) (purpose : Purpose) (a : FreeReply) (fs : List Frame) (p : Pool) (k : ℕ) → Sound (frame.Free (Tried x c purpose a)) fs p → Seated (frame.Free (Tried x c purpose a)) fs
     → Light (frame.Free (Tried x c purpose a)) fs p → Placed (step (frame.Free (Tried x c purpose a)) p) fs k
-tried-placed x c purpose Ok fs p k s b l = (based-other (frame.Free (Tried x c purpose Ok)) (frame.Free (Looping x purpose)) fs (λ z. z) b, l)
-tried-placed x c purpose Running fs p k s b l = let e : Running ≡ Ok = s.rests.0 in cc
+tried-placed x c purpose a fs p k s seats l = each a
+  where
+    on : Seated (frame.Free (Looping x purpose)) fs
+    on = reseat-free (Tried x c purpose a) (Looping x purpose) fs seats
 
-pub placed-kept : (f : Frame) (fs : List Frame) (p : Pool) (k : ℕ) → Sound f fs p → Based f fs → Light f fs p → Placed (step f p) fs k
-placed-kept (frame.Call Asking) fs p k s b l = asking-placed fs p k b l
-placed-kept (frame.Call (Doing c)) fs p k s b l = doing-placed c fs p k b l
-placed-kept (frame.Call (Awaiting x)) fs p k s b l = absurd s.rests
-placed-kept (frame.Call (Telling r)) fs p k s b l = (based-other (frame.Call (Telling r)) (frame.Call Asking) fs (λ z. z) b, l)
-placed-kept (frame.Free (Beginning x)) fs p k s b l = beginning-placed x fs p k s b l
-placed-kept (frame.Free (Leaving x)) fs p k s b l = leaving-placed x fs p k s b l
+    handed : Placed (lifted (hand_on_step x c purpose p)) fs k
+    handed = by_test (is_below (owner_of p.rows c) (Of x))
+        (λ t. let may = heir-placed x c _ fs p s t in
+        let w = total-placed burden p (heir p.rows x c) c may.row may.is refl in rw t (on, omega (arith, w, l)))
+        (λ t. rw t (on, l))
+
+    each : (b : FreeReply) → Placed (step (frame.Free (Tried x c purpose b)) p) fs k
+    each Ok = (on, l)
+    each Running = handed
+    each (Refused v) = handed
+
+pub placed-kept : (f : Frame) (fs : List Frame) (p : Pool) (k : ℕ) → Sound f fs p → Seated f fs → Light f fs p → Placed (step f p) fs k
+placed-kept (frame.Call (Asking q)) fs p k s b l = asking-placed q fs p k b l
+placed-kept (frame.Call (Doing q c)) fs p k s b l = doing-placed q c fs p k b l
+placed-kept (frame.Call (Awaiting q x)) fs p k s b l = absurd s.rests
+placed-kept (frame.Call (Telling q r)) fs p k s b l = (reseat (frame.Call (Telling q r)) (frame.Call (Asking q)) fs (λ z. z) (λ z. z) (λ z. z) b, l)
+placed-kept (frame.Call (Returning v)) fs p k s b l = over (Returned v) (frame.Call (Returning v)) fs p k s.waiting b l
+placed-kept (frame.Free (Beginning x)) fs p k s b l = beginning-placed x fs p k s.waiting b l
+placed-kept (frame.Free (Hooked x h)) fs p k s b l = ((tt, b), omega (arith, l))
+placed-kept (frame.Free (Judged x h v)) fs p k s b l = judged-placed x h v fs p k s b l
+placed-kept (frame.Free (Leaving x h)) fs p k s b l = leaving-placed x h fs p k s b l
 placed-kept (frame.Free (Looping x purpose)) fs p k s b l = looping-placed x purpose fs p k s b l
 placed-kept (frame.Free (Trying x c purpose)) fs p k s b l = absurd s.rests
 placed-kept (frame.Free (Tried x c purpose a)) fs p k s b l = tried-placed x c purpose a fs p k s b l
-placed-kept (frame.Free (Ending answer)) fs p k s b l = over answer (frame.Free (Ending answer)) fs p k s.waiting b l
+placed-kept (frame.Free (Ending answer)) fs p k s b l = over (Freed answer) (frame.Free (Ending answer)) fs p k s.waiting b l
 
 -- ---- the measure against the number of turns
 
-below-light : (fs : List Frame) → below_cost fs ≤ sizes fs
+below-light : (fs : List Frame) → below_cost fs ≤ 3 * sizes fs
 below-light [] = omega arith
 below-light (f ∷ fs) = let ih = below-light fs in omega (arith, ih, one f)
   where
-    one : (f : Frame) → waiting_cost f ≤ size f
-    one (frame.Call Asking) = omega arith
-    one (frame.Call (Doing c)) = omega arith
-    one (frame.Call (Awaiting x)) = omega arith
-    one (frame.Call (Telling r)) = omega arith
+    one : (f : Frame) → waiting_cost f ≤ 3 * size f
+    one (frame.Call (Asking q)) = omega arith
+    one (frame.Call (Doing q c)) = omega arith
+    one (frame.Call (Awaiting q x)) = omega arith
+    one (frame.Call (Telling q r)) = omega arith
+    one (frame.Call (Returning v)) = omega arith
     one (frame.Free (Beginning x)) = omega arith
-    one (frame.Free (Leaving x)) = omega arith
+    one (frame.Free (Hooked x h)) = omega arith
+    one (frame.Free (Judged x h v)) = omega arith
+    one (frame.Free (Leaving x h)) = omega arith
     one (frame.Free (Looping x purpose)) = omega arith
     one (frame.Free (Trying x c purpose)) = omega arith
     one (frame.Free (Tried x c purpose a)) = omega arith
@@ -178,14 +311,7 @@ below-light (f ∷ fs) = let ih = below-light fs in omega (arith, ih, one f)
 
 burden-most : (rs : List Row) → total burden rs ≤ 3 * length rs
 burden-most [] = omega arith
-burden-most (r ∷ rs) = let ih = burden-most rs in omega (arith, ih, most r.mark)
-  where
-    most : (m : Mark) → mark_burden m ≤ 3
-    most Quiet = omega arith
-    most Asked = omega arith
-    most Busy = omega arith
-    most Doomed = omega arith
-    most (Dying former) = omega arith
+burden-most (r ∷ rs) = let ih = burden-most rs in omega (arith, ih, mark_burden-most r.mark)
 
 weight-most : (rs : List Row) → total weight rs ≤ 2 * length rs
 weight-most [] = omega arith
@@ -199,24 +325,28 @@ weight-most (r ∷ rs) = let ih = weight-most rs in omega (arith, ih, most r.mar
     most (Dying former) = omega arith
 
 top-most : (R : ℕ) (f : Frame) (fs : List Frame) (rows : List Row) → length rows ≤ R → top_cost R f fs rows ≤ 16 * R + 52
-top-most R (frame.Call Asking) fs rows h = omega arith
-top-most R (frame.Call (Doing c)) fs rows h = omega arith
-top-most R (frame.Call (Awaiting x)) fs rows h = omega arith
-top-most R (frame.Call (Telling r)) fs rows h = omega arith
+top-most R (frame.Call (Asking q)) fs rows h = omega arith
+top-most R (frame.Call (Doing q c)) fs rows h = omega arith
+top-most R (frame.Call (Awaiting q x)) fs rows h = omega arith
+top-most R (frame.Call (Telling q r)) fs rows h = omega arith
+top-most R (frame.Call (Returning v)) fs rows h = omega arith
 top-most R (frame.Free (Beginning x)) fs rows h = let m = kids-most fs in omega arith
   where
     kids-most : (fs : List Frame) → loop_kids rows fs ≤ 4 * R
     kids-most [] = omega arith
     kids-most (frame.Free (Trying y c purpose) ∷ fs) = let n = count-length rows (Of y) in omega arith
     kids-most (g ∷ fs) = omega arith
-top-most R (frame.Free (Leaving x)) fs rows h = omega arith
+top-most R (frame.Free (Hooked x k)) fs rows h = omega arith
+top-most R (frame.Free (Judged x k v)) fs rows h = omega arith
+top-most R (frame.Free (Leaving x k)) fs rows h = omega arith
 top-most R (frame.Free (Looping x purpose)) fs rows h = let n = count-length rows (Of x) in omega arith
 top-most R (frame.Free (Trying x c purpose)) fs rows h = omega arith
 top-most R (frame.Free (Tried x c purpose Ok)) fs rows h = let n = count-length rows (Of x) in omega arith
 top-most R (frame.Free (Tried x c purpose Running)) fs rows h = let n = count-length rows (Of x) in omega arith
+top-most R (frame.Free (Tried x c purpose (Refused v))) fs rows h = let n = count-length rows (Of x) in omega arith
 top-most R (frame.Free (Ending a)) fs rows h = omega arith
 
-numbers : (r k w z d e : ℕ) → w ≤ 2 * r → z ≤ 3 * r + 2 → d ≤ z → e ≤ 16 * (r + 2 * k + 2) + 52
+numbers : (r k w z d e : ℕ) → w ≤ 2 * r → z ≤ 3 * r + 2 → d ≤ 3 * z → e ≤ 16 * (r + 2 * k + 2) + 52
     → (4 * (r + 2 * k + 2) + 16) * w + (16 * (r + 2 * k + 2) + 53) * k + d + e < 64 * (k + 1) * ((r + 2 * k + 2) * (r + 2 * k + 2))
 numbers r k w z d e hw hz hd he =
     let a : (4 * (r + 2 * k + 2) + 16) * w ≤ (4 * (r + 2 * k + 2) + 16) * (2 * r) = mul-le-mul_left (4 * (r + 2 * k + 2) + 16) hw in
@@ -230,8 +360,9 @@ cost-turns v k h =
     (below-light v.below) (top-most (length v.pool.rows + 2 * k + 2) v.innermost v.below v.pool.rows (omega arith))
 
 pub pending-most : (f : Frame) → pending f ≤ 2
-pending-most (frame.Call Asking) = omega arith
-pending-most (frame.Call (Doing c)) = omega arith
-pending-most (frame.Call (Awaiting x)) = omega arith
-pending-most (frame.Call (Telling r)) = omega arith
+pending-most (frame.Call (Asking q)) = omega arith
+pending-most (frame.Call (Doing q c)) = omega arith
+pending-most (frame.Call (Awaiting q x)) = omega arith
+pending-most (frame.Call (Telling q r)) = omega arith
+pending-most (frame.Call (Returning v)) = omega arith
 pending-most (frame.Free f) = omega arith

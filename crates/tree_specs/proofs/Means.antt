@@ -1,5 +1,5 @@
 -- The machine does what the rules' text says.
-use Rattle.std.proofs.Common.{◌≡◌, ℕ, suc, zero, List, [], ◌∷◌, Option, Some, None, refl, inl, inr}
+use Rattle.std.proofs.Common.{◌≡◌, ℕ, suc, zero, nat_eq, List, [], ◌∷◌, Option, Some, None, refl, inl, inr}
 use Rattle.step_machine.specs.Machine.{Move, Table, Outcome, after, run}
 use Rattle.step_machine.specs.Noted.{Noted, noted, noted_move}
 use Rattle.step_machine.proofs.Laws.{Below, Below-trans, Below-after, followed-tell, followed-tells, followed-followed}
@@ -10,25 +10,30 @@ use Rattle.tree_specs.specs.declared.row.Mark.{Mark}
 use Rattle.tree_specs.specs.declared.row.Mark.TheVariants.{Quiet, Asked, Busy, Doomed, Dying}
 use Rattle.tree_specs.specs.declared.call.Call.{Call}
 use Rattle.tree_specs.specs.declared.call.Call.TheVariants as call
-use Rattle.tree_specs.specs.declared.event.Event.TheVariants.{Freed}
+use Rattle.tree_specs.specs.declared.event.Event.TheVariants.{Freed as IsFreed}
+use Rattle.tree_specs.specs.declared.question.Ask.{Ask}
+use Rattle.tree_specs.specs.declared.question.Ask.TheVariants as ask
+use Rattle.tree_specs.specs.declared.question.Act.TheVariants as act
 use Rattle.tree_specs.specs.declared.question.Input.{Input}
 use Rattle.tree_specs.specs.declared.question.Input.TheVariants as input
 use Rattle.tree_specs.specs.declared.frame.Frame.{Frame}
 use Rattle.tree_specs.specs.declared.frame.Frame.TheVariants as frame
-use Rattle.tree_specs.specs.declared.frame.CallFrame.TheVariants.{Asking, Doing, Awaiting, Telling}
-use Rattle.tree_specs.specs.declared.frame.FreeFrame.TheVariants.{Beginning, Leaving, Looping, Trying, Tried, Ending}
+use Rattle.tree_specs.specs.declared.frame.CallFrame.TheVariants.{Asking, Doing, Awaiting, Telling, Returning}
+use Rattle.tree_specs.specs.declared.frame.FreeFrame.TheVariants.{Beginning, Hooked, Judged, Leaving, Looping, Trying, Tried, Ending}
 use Rattle.tree_specs.specs.declared.frame.Purpose.{Purpose}
 use Rattle.tree_specs.specs.declared.frame.Purpose.TheVariants.{Removal, Emptying}
 use Rattle.tree_specs.specs.declared.frame.Answer.{Answer}
-use Rattle.tree_specs.specs.declared.frame.Answer.TheVariants.{Ok, Running}
+use Rattle.tree_specs.specs.declared.frame.Answer.TheVariants.{Freed, Returned}
+use Rattle.tree_specs.specs.declared.free_step.FreeReply.{FreeReply}
+use Rattle.tree_specs.specs.declared.free_step.FreeReply.TheVariants.{Ok, Running, Refused}
 use Rattle.tree_specs.specs.Pool.{Pool, row_of, is_below, owner_of, first_kid, remove}
 use Rattle.tree_specs.specs.Items.{Item}
 use Rattle.tree_specs.specs.Items.Item.{Told}
-use Rattle.tree_specs.specs.Soundness.{is_sound_call}
+use Rattle.tree_specs.specs.Soundness.{is_sound_call, is_return}
 use Rattle.tree_specs.specs.Calls.{Check, refusals}
-use Rattle.tree_specs.specs.Works.{Work, Scene, Begun, ◌>>◌, gives, change, tells}
-use Rattle.tree_specs.specs.Story.{free, leave, children, tried, asked, acting, telling}
-use Rattle.tree_specs.specs.Table.{table, notes, step, lifted, begin_step, loop_step, tried_step, call_step}
+use Rattle.tree_specs.specs.Works.{Work, Scene, Begun, ◌>>=◌, ◌>>◌, gives, change, tells}
+use Rattle.tree_specs.specs.Story.{free, hooked, judged, leave, children, tried, asked, acting, telling, returning}
+use Rattle.tree_specs.specs.Table.{table, notes, step, lifted, begin_step, judge_step, loop_step, tried_step, call_step}
 use Rattle.tree_specs.proofs.Numbered.{by_test}
 
 ruleset laws = (followed-tell, followed-tells, followed-followed)
@@ -37,29 +42,43 @@ ruleset laws = (followed-tell, followed-tells, followed-followed)
 abbrev pub noted_table : Table (Noted Frame Begun) Answer Pool Input Scene
 noted_table = noted notes table
 
+-- a free, and a routine's run, as works of the machine
+abbrev pub freed : Work FreeReply → Work Answer
+freed w = do
+  a ← w
+  gives (Freed a)
+
+abbrev pub returned : Work ℕ → Work Answer
+returned w = do
+  v ← w
+  gives (Returned v)
+
 -- what follows the children of an object
 abbrev pub looped : Obj → Purpose → Work (Unit {0}) → Work Answer
-looped x Removal w = do
+looped x (Removal h) w = do
   w
-  tells (Told (Freed x 0))
+  tells (Told (IsFreed x h))
   change (λ p. remove p x)
-  gives Ok
+  gives (Freed Ok)
 looped x Emptying w = do
   w
-  gives Ok
+  gives (Freed Ok)
 
 -- what a work does, by the text
 abbrev pub mean : ℕ → Frame → Option Begun → Work Answer
-mean n (frame.Call Asking) b = asked n
-mean n (frame.Call (Doing c)) b = acting n c
-mean n (frame.Call (Awaiting x)) b = gives Ok
-mean n (frame.Call (Telling r)) b = telling n b r
-mean n (frame.Free (Beginning x)) b = free n x
-mean n (frame.Free (Leaving x)) b = leave n x
+mean n (frame.Call (Asking q)) b = returned (asked n q)
+mean n (frame.Call (Doing q c)) b = returned (acting n q c)
+mean n (frame.Call (Awaiting q x)) b = gives (Freed Ok)
+mean n (frame.Call (Telling q r)) b = returned (telling n b q r)
+mean n (frame.Call (Returning v)) b = returned (returning n v)
+mean n (frame.Free (Beginning x)) b = freed (free n x)
+mean n (frame.Free (Hooked x h)) b = freed (hooked n x h)
+mean n (frame.Free (Judged x h v)) b = freed (judged n x h v)
+mean n (frame.Free (Leaving x h)) b = freed (leave n x h)
 mean n (frame.Free (Looping x purpose)) b = looped x purpose (children n x)
-mean n (frame.Free (Trying x c purpose)) b = gives Ok
+mean n (frame.Free (Trying x c purpose)) b = gives (Freed Ok)
 mean n (frame.Free (Tried x c purpose a)) b = looped x purpose (tried n x c a)
-mean n (frame.Free (Ending a)) b = gives a
+mean n (frame.Free (Ending a)) b = gives (Freed a)
 
 abbrev pub noted_mean : ℕ → Noted Frame Begun → Work Answer
 noted_mean n w = mean n w.work w.note
@@ -68,17 +87,26 @@ noted_mean n w = mean n w.work w.note
 abbrev Turn : ℕ → Frame → Option Begun → Move Frame Answer Pool Item → Pool → List Input → Outcome Answer Pool Input Scene
 Turn n f b m p is = after noted_table (noted_mean n) (noted_move notes f b p m) is
 
-asking-turn : (n : ℕ) (b : Option Begun) (p : Pool) (is : List Input)
-    → Below (Turn n (frame.Call Asking) b (step (frame.Call Asking) p) p is) (mean (suc n) (frame.Call Asking) b p is)
-asking-turn n b p [] = inr refl
-asking-turn n b p (input.Call c ∷ is) = by_test (is_sound_call c) (λ t. rw t (inr refl)) (λ t. rw t (inr refl))
+asking-turn : (n : ℕ) (q : Ask) (b : Option Begun) (p : Pool) (is : List Input)
+    → Below (Turn n (frame.Call (Asking q)) b (step (frame.Call (Asking q)) p) p is) (mean (suc n) (frame.Call (Asking q)) b p is)
+asking-turn n q b p [] = inr refl
+asking-turn n ask.Quiet b p (input.Call c ∷ is) = by_test (is_sound_call c) (λ t. rw t (inr (simp laws))) (λ t. rw t (inr refl))
+asking-turn n ask.Quiet b p (input.Act a ∷ is) = inr refl
+asking-turn n (ask.Routine m) b p (input.Call c ∷ is) = inr refl
+asking-turn n (ask.Routine m) b p (input.Act (act.Do c) ∷ is) = by_test (is_sound_call c) (λ t. rw t (inr (simp laws))) (λ t. rw t (inr refl))
+asking-turn n (ask.Routine m) b p (input.Act (act.Ret v) ∷ is) = by_test (is_return v) (λ t. rw t (inr (simp laws))) (λ t. rw t (inr refl))
+asking-turn n ask.Clock b p (i ∷ is) = inr refl
+asking-turn n (ask.Wait limit) b p (i ∷ is) = inr refl
+asking-turn n (ask.Accept descriptor) b p (i ∷ is) = inr refl
+asking-turn n (ask.Read descriptor most) b p (i ∷ is) = inr refl
+asking-turn n (ask.Write descriptor bytes) b p (i ∷ is) = inr refl
 
-doing-turn : (n : ℕ) (c : Call) (b : Option Begun) (p : Pool) (is : List Input)
-    → Below (Turn n (frame.Call (Doing c)) b (call_step (refusals p c) c p) p is) (mean (suc n) (frame.Call (Doing c)) b p is)
-doing-turn n c b p is = each c (refusals p c) refl
+doing-turn : (n : ℕ) (q : Ask) (c : Call) (b : Option Begun) (p : Pool) (is : List Input)
+    → Below (Turn n (frame.Call (Doing q c)) b (call_step (refusals p c) q c p) p is) (mean (suc n) (frame.Call (Doing q c)) b p is)
+doing-turn n q c b p is = each c (refusals p c) refl
   where
     each : (c : Call) (check : Check) → refusals p c ≡ check
-        → Below (Turn n (frame.Call (Doing c)) b (call_step (refusals p c) c p) p is) (mean (suc n) (frame.Call (Doing c)) b p is)
+        → Below (Turn n (frame.Call (Doing q c)) b (call_step (refusals p c) q c p) p is) (mean (suc n) (frame.Call (Doing q c)) b p is)
     each c (why ∷ later) e = rw e (inr refl)
     each (call.New o size name) [] e = rw e (inr refl)
     each (call.Free x) [] e = rw e (inr (simp laws))
@@ -86,6 +114,8 @@ doing-turn n c b p is = each c (refusals p c) refl
     each (call.Steal o x) [] e = rw e (inr refl)
     each (call.Move o x) [] e = rw e (inr refl)
     each (call.Reparent from to x) [] e = rw e (inr refl)
+    each (call.Hook x h) [] e = rw e (inr refl)
+    each (call.Unhook x) [] e = rw e (inr refl)
     each (call.Rename x name) [] e = rw e (inr refl)
     each (call.Parent x) [] e = rw e (inr refl)
     each (call.Total o) [] e = rw e (inr refl)
@@ -93,21 +123,25 @@ doing-turn n c b p is = each c (refusals p c) refl
     each (call.Report o) [] e = rw e (inr refl)
 
 beginning-turn : (n : ℕ) (x : Obj) (b : Option Begun) (p : Pool) (is : List Input)
-    → Below (Turn n (frame.Free (Beginning x)) b (lifted (begin_step x (row_of p.rows x) p)) p is) (free (suc n) x p is)
+    → Below (Turn n (frame.Free (Beginning x)) b (lifted (begin_step x (row_of p.rows x) p)) p is) (freed (free (suc n) x) p is)
 beginning-turn n x b p is = each (row_of p.rows x) refl
   where
     marks : (r : Row) (m : Mark) → r.mark ≡ m → row_of p.rows x ≡ Some r
-        → Below (Turn n (frame.Free (Beginning x)) b (lifted (begin_step x (row_of p.rows x) p)) p is) (free (suc n) x p is)
-    marks r Quiet m e = rw (e, m) (inr refl)
+        → Below (Turn n (frame.Free (Beginning x)) b (lifted (begin_step x (row_of p.rows x) p)) p is) (freed (free (suc n) x) p is)
+    marks r Quiet m e = by_test (nat_eq r.hook 0) (λ t. rw (e, m, t) (inr refl)) (λ t. rw (e, m, t) (inr refl))
     marks r Asked m e = rw (e, m) (inr refl)
     marks r Busy m e = rw (e, m) (inr refl)
     marks r Doomed m e = rw (e, m) (inr refl)
     marks r (Dying former) m e = rw (e, m) (inr refl)
 
     each : (o : Option Row) → row_of p.rows x ≡ o
-        → Below (Turn n (frame.Free (Beginning x)) b (lifted (begin_step x (row_of p.rows x) p)) p is) (free (suc n) x p is)
+        → Below (Turn n (frame.Free (Beginning x)) b (lifted (begin_step x (row_of p.rows x) p)) p is) (freed (free (suc n) x) p is)
     each None e = rw e (inr refl)
     each (Some r) e = marks r r.mark refl e
+
+judged-turn : (n : ℕ) (x : Obj) (h v : ℕ) (b : Option Begun) (p : Pool) (is : List Input)
+    → Below (Turn n (frame.Free (Judged x h v)) b (lifted (judge_step x h v p)) p is) (freed (judged (suc n) x h v) p is)
+judged-turn n x h v b p is = by_test (nat_eq v 0) (λ t. rw t (inr (simp laws))) (λ t. rw t (inr (simp laws)))
 
 looping-turn : (n : ℕ) (x : Obj) (purpose : Purpose) (b : Option Begun) (p : Pool) (is : List Input)
     → Below (Turn n (frame.Free (Looping x purpose)) b (lifted (loop_step x purpose (first_kid p.rows (Of x)) p)) p is) (looped x purpose (children (suc n) x) p is)
@@ -115,26 +149,31 @@ looping-turn n x purpose b p is = each purpose (first_kid p.rows (Of x)) refl
   where
     each : (purpose : Purpose) (o : Option Obj) → first_kid p.rows (Of x) ≡ o
         → Below (Turn n (frame.Free (Looping x purpose)) b (lifted (loop_step x purpose (first_kid p.rows (Of x)) p)) p is) (looped x purpose (children (suc n) x) p is)
-    each Removal None e = rw e (inr refl)
+    each (Removal h) None e = rw e (inr refl)
     each Emptying None e = rw e (inr refl)
-    each Removal (Some c) e = rw e (inr (simp laws))
+    each (Removal h) (Some c) e = rw e (inr (simp laws))
     each Emptying (Some c) e = rw e (inr (simp laws))
 
-tried-turn : (n : ℕ) (x c : Obj) (purpose : Purpose) (a : Answer) (b : Option Begun) (p : Pool) (is : List Input)
+tried-turn : (n : ℕ) (x c : Obj) (purpose : Purpose) (a : FreeReply) (b : Option Begun) (p : Pool) (is : List Input)
     → Below (Turn n (frame.Free (Tried x c purpose a)) b (lifted (tried_step x c purpose a p)) p is) (looped x purpose (tried (suc n) x c a) p is)
-tried-turn n x c Removal Ok b p is = inr refl
+tried-turn n x c (Removal h) Ok b p is = inr refl
 tried-turn n x c Emptying Ok b p is = inr refl
-tried-turn n x c Removal Running b p is = by_test (is_below (owner_of p.rows c) (Of x)) (λ t. rw t (inr (simp laws))) (λ t. rw t (inr refl))
+tried-turn n x c (Removal h) Running b p is = by_test (is_below (owner_of p.rows c) (Of x)) (λ t. rw t (inr (simp laws))) (λ t. rw t (inr refl))
 tried-turn n x c Emptying Running b p is = by_test (is_below (owner_of p.rows c) (Of x)) (λ t. rw t (inr (simp laws))) (λ t. rw t (inr refl))
+tried-turn n x c (Removal h) (Refused v) b p is = by_test (is_below (owner_of p.rows c) (Of x)) (λ t. rw t (inr (simp laws))) (λ t. rw t (inr refl))
+tried-turn n x c Emptying (Refused v) b p is = by_test (is_below (owner_of p.rows c) (Of x)) (λ t. rw t (inr (simp laws))) (λ t. rw t (inr refl))
 
 -- one turn of the machine is one turn of the text
 pub turn : (n : ℕ) (f : Frame) (b : Option Begun) (p : Pool) (is : List Input) → Below (Turn n f b (step f p) p is) (mean (suc n) f b p is)
-turn n (frame.Call Asking) b p is = asking-turn n b p is
-turn n (frame.Call (Doing c)) b p is = doing-turn n c b p is
-turn n (frame.Call (Awaiting x)) b p is = inr refl
-turn n (frame.Call (Telling r)) b p is = inr refl
+turn n (frame.Call (Asking q)) b p is = asking-turn n q b p is
+turn n (frame.Call (Doing q c)) b p is = doing-turn n q c b p is
+turn n (frame.Call (Awaiting q x)) b p is = inr refl
+turn n (frame.Call (Telling q r)) b p is = inr (simp laws)
+turn n (frame.Call (Returning v)) b p is = inr refl
 turn n (frame.Free (Beginning x)) b p is = beginning-turn n x b p is
-turn n (frame.Free (Leaving x)) b p is = inr refl
+turn n (frame.Free (Hooked x h)) b p is = inr (simp laws)
+turn n (frame.Free (Judged x h v)) b p is = judged-turn n x h v b p is
+turn n (frame.Free (Leaving x h)) b p is = inr (simp laws)
 turn n (frame.Free (Looping x purpose)) b p is = looping-turn n x purpose b p is
 turn n (frame.Free (Trying x c purpose)) b p is = inr refl
 turn n (frame.Free (Tried x c purpose a)) b p is = tried-turn n x c purpose a b p is

@@ -1,7 +1,6 @@
 -- The laws of the story still to come.
-use Rattle.std.proofs.Common.{Bool, true, false, ◌≡◌, ℕ, suc, zero, ◌+◌, ◌*◌, ◌<◌, List, [], ◌∷◌, length, Option, Some, None, refl, sym, ◌∙◌, ap, subst, arith}
+use Rattle.std.proofs.Common.{◌≡◌, ℕ, suc, zero, ◌+◌, ◌*◌, ◌<◌, List, [], ◌∷◌, length, Option, Some, None, refl, sym, ◌∙◌, ap, subst, arith}
 use Rattle.step_machine.specs.Machine.{Move, Outcome, State, silent, tell, given, asks, leads, rest, walk, items as told_by}
-use Rattle.std.specs.Prelude.{if◌then◌else◌}
 use Rattle.step_machine.specs.Machine.{Move as Do}
 use Rattle.step_machine.specs.Machine.Outcome.{Ended, Waits, Stray, Short}
 use Rattle.step_machine.specs.Open.{LastIs}
@@ -10,32 +9,25 @@ use Rattle.step_machine.proofs.Open.{Asks, Asks-items, Stays, walk-asks, items-t
 use Rattle.tree_specs.specs.declared.question.Input.{Input}
 use Rattle.tree_specs.specs.declared.frame.Frame.{Frame}
 use Rattle.tree_specs.specs.declared.frame.Frame.TheVariants as frame
-use Rattle.tree_specs.specs.declared.frame.CallFrame.TheVariants.{Asking, Doing, Awaiting, Telling}
+use Rattle.tree_specs.specs.declared.frame.CallFrame.TheVariants.{Asking, Doing, Awaiting, Telling, Returning}
+use Rattle.tree_specs.specs.declared.frame.FreeFrame.{FreeFrame}
 use Rattle.tree_specs.specs.declared.frame.Answer.{Answer}
-use Rattle.tree_specs.specs.declared.frame.Answer.TheVariants.{Ok, Running}
+use Rattle.tree_specs.specs.declared.free_step.FreeReply.{FreeReply}
+use Rattle.tree_specs.specs.declared.free_step.FreeStep.{FreeStep}
 use Rattle.tree_specs.specs.declared.call.Call.{Call}
 use Rattle.tree_specs.specs.declared.call.Call.TheVariants as call
-use Rattle.tree_specs.specs.declared.object.Obj.{Obj}
-use Rattle.tree_specs.specs.declared.object.Owner.TheVariants.{Of}
-use Rattle.tree_specs.specs.declared.row.Row.{Row}
-use Rattle.tree_specs.specs.declared.row.Mark.{Mark}
-use Rattle.tree_specs.specs.declared.row.Mark.TheVariants.{Quiet as at_rest, Asked as in_run, Busy, Doomed, Dying}
-use Rattle.tree_specs.specs.declared.question.Ask.TheVariants.{Quiet}
-use Rattle.tree_specs.specs.declared.frame.FreeFrame.TheVariants.{Beginning, Leaving, Looping, Trying, Tried, Ending}
-use Rattle.tree_specs.specs.declared.frame.Purpose.{Purpose}
-use Rattle.tree_specs.specs.declared.frame.Purpose.TheVariants.{Removal, Emptying}
-use Rattle.tree_specs.specs.declared.event.Event.TheVariants.{Moved}
-use Rattle.tree_specs.specs.Pool.{Pool, row_of, is_below, owner_of, first_kid, place}
-use Rattle.tree_specs.specs.Heirs.{heir}
+use Rattle.tree_specs.specs.declared.event.Event.{Event}
+use Rattle.tree_specs.specs.declared.question.Ask.{Ask}
+use Rattle.tree_specs.specs.Pool.{Pool}
 use Rattle.tree_specs.specs.Items.{Item, IsQuestion}
 use Rattle.tree_specs.specs.Items.Item.{Asked}
 use Rattle.tree_specs.specs.Calls.{Check, refusals}
 use Rattle.tree_specs.specs.Story.{turns}
-use Rattle.tree_specs.specs.Table.{table, step, call_step, lifted, begin_by, begin_step, loop_step, taken}
+use Rattle.tree_specs.specs.Table.{table, step, free_step, event_of, announced, call_step, lifted, taken}
 use Rattle.tree_specs.specs.Sound.{Sound, Rests}
 use Rattle.tree_specs.specs.Measure.{cost}
 use Rattle.tree_specs.specs.View.{View, rest_of}
-use Rattle.tree_specs.specs.Whole.{IsCaller, Based, Whole}
+use Rattle.tree_specs.specs.Whole.{IsCaller, Seated, Whole}
 use Rattle.tree_specs.proofs.Keeps.{sound-kept}
 use Rattle.tree_specs.proofs.Falls.{Well, falls}
 use Rattle.tree_specs.proofs.Plainness.{StaysPlain, plain-kept}
@@ -60,29 +52,32 @@ rest-enough R m v is h w less =
     rest-any table (Well R) (cost R) (falls R) m (m + n) v.innermost v.below v.pool is w less (omega arith)
     ∙ rest-any table (Well (most v (length is))) (cost (most v (length is))) (falls (most v (length is))) (m + n) n v.innermost v.below v.pool is (well v (length is) h) (omega (arith, c)) c
 
+-- as many steps as the stated turns are enough
+pub walk-whole : (v : View) (is : List Input) → Whole v → NotShort (walk table (turns (length v.pool.rows) (length is)) v.innermost v.below v.pool is)
+walk-whole v is h =
+    let R : ℕ = most v (length is) in
+    enough table (Well R) (cost R) (falls R) (turns (length v.pool.rows) (length is)) v.innermost v.below v.pool is (well v (length is) h) (cost-turns v (length is) h)
+
 pub not-short : (v : View) (is : List Input) → Whole v → NotShort (outcome v is)
 not-short v is h =
     let R : ℕ = most v (length is) in
-    let w = well v (length is) h in
-    let c = cost-turns v (length is) h in
-    subst NotShort (rest-walk table (Well R) (cost R) (falls R) (turns (length v.pool.rows) (length is)) v.innermost v.below v.pool is w c)
-    (enough table (Well R) (cost R) (falls R) (turns (length v.pool.rows) (length is)) v.innermost v.below v.pool is w c)
+    subst NotShort (rest-walk table (Well R) (cost R) (falls R) (turns (length v.pool.rows) (length is)) v.innermost v.below v.pool is (well v (length is) h) (cost-turns v (length is) h)) (walk-whole v is h)
 
 -- ---- what a step keeps
 
 Leads-whole : (m : Move Frame Answer Pool Item) (fs : List Frame) (k : ℕ)
     → Leads table (λ g gs q j. Sound g gs q) m fs k → Placed m fs k → StaysPlain m fs k → Leads table (λ g gs q j. Whole (record { innermost = g; below = gs; pool = q })) m fs k
 Leads-whole (Do.Done a p) [] k s l h = tt
-Leads-whole (Do.Done a p) (g ∷ gs) k s l h = record { sound = s; based = l.0; light = l.1; plain = h }
-Leads-whole (Do.Go f p) fs k s l h = record { sound = s; based = l.0; light = l.1; plain = h }
-Leads-whole (Do.Emit e f p) fs k s l h = record { sound = s; based = l.0; light = l.1; plain = h }
+Leads-whole (Do.Done a p) (g ∷ gs) k s l h = record { sound = s; seated = l.0; light = l.1; plain = h }
+Leads-whole (Do.Go f p) fs k s l h = record { sound = s; seated = l.0; light = l.1; plain = h }
+Leads-whole (Do.Emit e f p) fs k s l h = record { sound = s; seated = l.0; light = l.1; plain = h }
 Leads-whole (Do.Wait q f p) fs zero s l h = tt
-Leads-whole (Do.Wait q f p) fs (suc k) s l h = λ i g e. record { sound = s i g e; based = (l i g e).0; light = (l i g e).1; plain = h i g e }
-Leads-whole (Do.Call g f p) fs k s l h = record { sound = s; based = l.0; light = l.1; plain = h }
+Leads-whole (Do.Wait q f p) fs (suc k) s l h = λ i g e. record { sound = s i g e; seated = (l i g e).0; light = (l i g e).1; plain = h i g e }
+Leads-whole (Do.Call g f p) fs k s l h = record { sound = s; seated = l.0; light = l.1; plain = h }
 
 pub whole-kept : (v : View) (k : ℕ) → Whole v → Leads table (λ g gs q j. Whole (record { innermost = g; below = gs; pool = q })) (step v.innermost v.pool) v.below k
 whole-kept v k h =
-    Leads-whole (step v.innermost v.pool) v.below k (sound-kept v.innermost v.below v.pool k h.sound) (placed-kept v.innermost v.below v.pool k h.sound h.based h.light)
+    Leads-whole (step v.innermost v.pool) v.below k (sound-kept v.innermost v.below v.pool k h.sound) (placed-kept v.innermost v.below v.pool k h.sound h.seated h.light)
     (plain-kept v.innermost v.below v.pool k h.plain)
 
 stays : (v : View) (k : ℕ) → Whole v
@@ -162,81 +157,77 @@ open-items v q f p h is-wait = ap told_by (open-law v q f p h is-wait)
 
 -- ---- the last item is a question
 
+-- ---- what kinds of steps there are
+
+-- the reply of a call is to be told
+abbrev pub IsTelling : Frame → Type 0
+IsTelling (frame.Call (Telling q r)) = Unit {0}
+IsTelling (frame.Call (Asking q)) = ⊥
+IsTelling (frame.Call (Doing q c)) = ⊥
+IsTelling (frame.Call (Awaiting q x)) = ⊥
+IsTelling (frame.Call (Returning v)) = ⊥
+IsTelling (frame.Free f) = ⊥
+
+-- the step tells and asks nothing, and ends no work: it comes to a reply, or begins a work
+abbrev pub GoesOn : Move Frame Answer Pool Item → Type 0
+GoesOn (Do.Done a p) = ⊥
+GoesOn (Do.Go f p) = IsTelling f
+GoesOn (Do.Emit e f p) = ⊥
+GoesOn (Do.Wait q f p) = ⊥
+GoesOn (Do.Call g f p) = Unit {0}
+
+pub call-goes_on : (check : Check) (q : Ask) (c : Call) (p : Pool) → GoesOn (call_step check q c p)
+call-goes_on (why ∷ later) q c p = tt
+call-goes_on [] q (call.New o size name) p = tt
+call-goes_on [] q (call.Free x) p = tt
+call-goes_on [] q (call.Freekids x) p = tt
+call-goes_on [] q (call.Steal o x) p = tt
+call-goes_on [] q (call.Move o x) p = tt
+call-goes_on [] q (call.Reparent from to x) p = tt
+call-goes_on [] q (call.Hook x h) p = tt
+call-goes_on [] q (call.Unhook x) p = tt
+call-goes_on [] q (call.Rename x name) p = tt
+call-goes_on [] q (call.Parent x) p = tt
+call-goes_on [] q (call.Total o) p = tt
+call-goes_on [] q (call.Count o) p = tt
+call-goes_on [] q (call.Report o) p = tt
+
+-- a free by itself asks the host for nothing but runs
+free-waits : (m : Move FreeFrame FreeReply Pool FreeStep) (p : Pool) (i : Item) (g : Frame) → lifted m ≡ Do.Wait i g p → ⊥
+free-waits (Do.Done a q) p i g e = cc
+free-waits (Do.Go f q) p i g e = cc
+free-waits (Do.Emit t f q) p i g e = announced-waits (event_of t) e
+  where
+    announced-waits : (o : Option Event) → announced o f q ≡ Do.Wait i g p → ⊥
+    announced-waits None e = cc
+    announced-waits (Some t) e = cc
+free-waits (Do.Wait t f q) p i g e = cc
+free-waits (Do.Call f h q) p i g e = cc
+
 -- the host's own work doesn't end
 pub no-end : (f : Frame) (p q : Pool) (a : Answer) → IsCaller f → Rests f [] p → step f p ≡ Do.Done a q → ⊥
-no-end (frame.Call Asking) p q a h r e = cc
-no-end (frame.Call (Telling x)) p q a h r e = cc
-no-end (frame.Call (Awaiting x)) p q a h r e = r
+no-end (frame.Call (Asking ask)) p q a h r e = cc
+no-end (frame.Call (Telling ask x)) p q a h r e = cc
+no-end (frame.Call (Awaiting ask x)) p q a h r e = r
+no-end (frame.Call (Returning v)) p q a h r e = h
+no-end (frame.Call (Doing ask c)) p q a h r e = subst GoesOn e (call-goes_on (refusals p c) ask c p)
 no-end (frame.Free f) p q a h r e = h
-no-end (frame.Call (Doing c)) p q a h r e = each (refusals p c) c e
-  where
-    each : (check : Check) (c : Call) → call_step check c p ≡ Do.Done a q → ⊥
-    each (why ∷ later) c e = cc
-    each [] (call.New o size name) e = cc
-    each [] (call.Free x) e = cc
-    each [] (call.Steal o x) e = cc
-    each [] (call.Move o x) e = cc
-    each [] (call.Reparent from to x) e = cc
-    each [] (call.Rename x name) e = cc
-    each [] (call.Parent x) e = cc
-    each [] (call.Freekids x) e = cc
-    each [] (call.Total o) e = cc
-    each [] (call.Count o) e = cc
-    each [] (call.Report o) e = cc
 
 -- only a caller that is to be asked asks
-pub waits-asking : (f : Frame) (p q : Pool) (i : Item) (g : Frame) → step f p ≡ Do.Wait i g q → f ≡ frame.Call Asking
-waits-asking (frame.Call Asking) p q i g e = refl
-waits-asking (frame.Call (Telling x)) p q i g e = cc
-waits-asking (frame.Call (Awaiting x)) p q i g e = cc
-waits-asking (frame.Call (Doing c)) p q i g e = absurd (each (refusals p c) c e)
-  where
-    each : (check : Check) (c : Call) → call_step check c p ≡ Do.Wait i g q → ⊥
-    each (why ∷ later) c e = cc
-    each [] (call.New o size name) e = cc
-    each [] (call.Free x) e = cc
-    each [] (call.Steal o x) e = cc
-    each [] (call.Move o x) e = cc
-    each [] (call.Reparent from to x) e = cc
-    each [] (call.Rename x name) e = cc
-    each [] (call.Parent x) e = cc
-    each [] (call.Freekids x) e = cc
-    each [] (call.Total o) e = cc
-    each [] (call.Count o) e = cc
-    each [] (call.Report o) e = cc
-waits-asking (frame.Free (Leaving x)) p q i g e = cc
-waits-asking (frame.Free (Trying x c purpose)) p q i g e = cc
-waits-asking (frame.Free (Tried x c purpose Ok)) p q i g e = cc
-waits-asking (frame.Free (Tried x c purpose Running)) p q i g e = absurd (each (is_below (owner_of p.rows c) (Of x)) e)
-  where
-    each : (b : Bool) → lifted (if b then Do.Emit (Moved c (heir p.rows x c)) (Looping x purpose) (place p (heir p.rows x c) c) else Do.Go (Looping x purpose) p) ≡ Do.Wait i g q → ⊥
-    each true e = cc
-    each false e = cc
-waits-asking (frame.Free (Ending a)) p q i g e = cc
-waits-asking (frame.Free (Beginning x)) p q i g e = absurd (each (row_of p.rows x) e)
-  where
-    marks : (m : Mark) → lifted (begin_by x m p) ≡ Do.Wait i g q → ⊥
-    marks at_rest e = cc
-    marks in_run e = cc
-    marks Busy e = cc
-    marks Doomed e = cc
-    marks (Dying former) e = cc
-
-    each : (o : Option Row) → lifted (begin_step x o p) ≡ Do.Wait i g q → ⊥
-    each None e = cc
-    each (Some r) e = marks r.mark e
-waits-asking (frame.Free (Looping x purpose)) p q i g e = absurd (each purpose (first_kid p.rows (Of x)) e)
-  where
-    each : (purpose : Purpose) (o : Option Obj) → lifted (loop_step x purpose o p) ≡ Do.Wait i g q → ⊥
-    each Removal None e = cc
-    each Emptying None e = cc
-    each purpose (Some c) e = cc
+pub waits-asking : (f : Frame) (p q : Pool) (i : Item) (g : Frame) → step f p ≡ Do.Wait i g q → (ask : Ask) × (f ≡ frame.Call (Asking ask))
+waits-asking (frame.Call (Asking ask)) p q i g e = (ask, refl)
+waits-asking (frame.Call (Telling ask x)) p q i g e = cc
+waits-asking (frame.Call (Awaiting ask x)) p q i g e = cc
+waits-asking (frame.Call (Returning v)) p q i g e = cc
+waits-asking (frame.Call (Doing ask c)) p q i g e = absurd (subst GoesOn e (call-goes_on (refusals p c) ask c p))
+waits-asking (frame.Free f) p q i g e = absurd (free-waits (free_step f p) q i g e)
 
 -- what a step asks is a question
 only-asks : (f : Frame) (p q : Pool) (i : Item) (g : Frame) → step f p ≡ Do.Wait i g q → IsQuestion i
 only-asks f p q i g e =
-    let e' : Do.Wait (Asked Quiet) (frame.Call Asking) p ≡ Do.Wait i g q = ap (λ (z : Frame). step z p) (sym (waits-asking f p q i g e)) ∙ e in
-    let e'' : Asked Quiet ≡ i = cc in
+    let w = waits-asking f p q i g e in
+    let e' : Do.Wait (Asked w.0) (frame.Call (Asking w.0)) p ≡ Do.Wait i g q = ap (λ (z : Frame). step z p) (sym w.1) ∙ e in
+    let e'' : Asked w.0 ≡ i = cc in
     subst IsQuestion e'' tt
 
 abbrev WholeAt : Frame → List Frame → Pool → Type 0
@@ -247,7 +238,7 @@ asks-kept f fs p h = each (step f p) fs refl refl (whole-kept (record { innermos
   where
     each : (m : Move Frame Answer Pool Item) (gs : List Frame) → step f p ≡ m → fs ≡ gs → Leads table (λ g gs q j. WholeAt g gs q) m gs 1 → Stays table WholeAt IsQuestion m gs
     each (Do.Done a q) [] e d l =
-        let b : Based f [] = subst (λ (z : List Frame). Based f z) d h.based in
+        let b : Seated f [] = subst (λ (z : List Frame). Seated f z) d h.seated in
         let r : Rests f [] p = subst (λ (z : List Frame). Rests f z p) d h.sound.rests in
         no-end f p q a b r e
     each (Do.Done a q) (g ∷ gs) e d l = l

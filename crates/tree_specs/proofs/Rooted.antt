@@ -8,10 +8,9 @@ use Rattle.tree_specs.specs.declared.row.Row.{Row}
 use Rattle.tree_specs.specs.declared.kind.Kind.{Kind}
 use Rattle.tree_specs.specs.Objects.{same, same_owner}
 use Rattle.tree_specs.specs.Pool.{Pool, row_of, is_row, is_owner, is_below, first_kid, owner_in, owner_of, next_owner, reaches, is_inside, without, changed, new_row, left_row, place}
-use Rattle.tree_specs.specs.Sound.{Distinct}
-use Rattle.tree_specs.specs.Ancestry.{ends, Rooted, IsThere, OwnersAre, AllOwned}
+use Rattle.tree_specs.specs.Forest.{Distinct, ends, Rooted, IsThere, OwnersAre, AllOwned, IsForest}
 use Rattle.tree_specs.proofs.Numbered.{by_test, same-equal, same-false, same_or_not, same_owner-true}
-use Rattle.tree_specs.proofs.Rows.{row_of-serial, row_of-changed-other, row_of-changed-same, row_of-changed-none, row_of-without-other, row_of-without-same}
+use Rattle.tree_specs.proofs.Rows.{row_of-serial, row_of-changed-other, row_of-changed-same, row_of-changed-none, row_of-without-other, row_of-without-same, Distinct-without, Distinct-changed}
 -- ---- a test that may hold of more objects with each step settles within as many steps as there are rows
 use Rattle.tree_specs.proofs.Ancestry.{ends-more, ends-bound, reaches-inside}
 
@@ -217,3 +216,55 @@ Rooted-left rs x rooted = Rooted-freed rs (changed left_row rs x) x
 pub Rooted-without : (rs : List Row) (x : Obj) → Distinct rs → Rooted rs → Rooted (without rs x)
 Rooted-without rs x d rooted = Rooted-freed rs (without rs x) x
     (λ y ne. ap owner_in (row_of-without-other rs x y ne)) rooted (ap owner_in (row_of-without-same rs x d))
+
+-- ---- what keeps that the rows are a forest
+
+pub forest-none : IsForest []
+forest-none = record { distinct = tt; owned = tt; rooted = Rooted-none }
+
+-- a new object whose owner is there
+pub forest-new : (rs : List Row) (s : Obj) (kind : Kind) (o : Owner) (size : ℕ) (name : List ℕ) → IsForest rs → row_of rs s ≡ None → is_owner rs o ≡ true
+    → IsForest (new_row s kind o size name ∷ rs)
+forest-new rs s kind o size name f none owner = record {
+  distinct = (none, f.distinct);
+  owned = AllOwned-new rs s kind o size name f.owned owner;
+  rooted = Rooted-new rs s kind o size name f.rooted f.owned none owner;
+}
+
+-- an object is put below an owner that is there and is not inside it
+pub forest-placed : (p : Pool) (o : Owner) (x : Obj) (r : Row) → IsForest p.rows → row_of p.rows x ≡ Some r → is_owner p.rows o ≡ true → is_inside p.rows o (Of x) ≡ false
+    → IsForest (place p o x).rows
+forest-placed p o x r f e owner apart = record {
+  distinct = rw e (ap (row_of (without p.rows x)) (row_of-serial p.rows x r e) ∙ row_of-without-same p.rows x f.distinct, Distinct-without p.rows x f.distinct);
+  owned = AllOwned-placed p o x r f.owned e owner;
+  rooted = Rooted-placed p o x r f.rooted e apart;
+}
+
+-- a change that leaves the number and the owner
+pub record KeepsPlace (f : Row → Row) : Type 0 where
+  pub serial : (r : Row) → (f r).serial ≡ r.serial
+  pub owner : (r : Row) → (f r).owner ≡ r.owner
+
+-- a row is changed, and keeps its place
+pub forest-changed : (g : Row → Row) (rs : List Row) (x : Obj) → KeepsPlace g → IsForest rs → IsForest (changed g rs x)
+forest-changed g rs x k f = record {
+  distinct = Distinct-changed g rs x k.serial f.distinct;
+  owned = AllOwned-changed g rs x k.serial k.owner f.owned;
+  rooted = Rooted-changed g rs x k.serial k.owner f.rooted;
+}
+
+-- an object leaves its owner
+pub forest-left : (rs : List Row) (x : Obj) → IsForest rs → IsForest (changed left_row rs x)
+forest-left rs x f = record {
+  distinct = Distinct-changed left_row rs x (λ r. refl) f.distinct;
+  owned = AllOwned-left rs x f.owned;
+  rooted = Rooted-left rs x f.rooted;
+}
+
+-- an object without children is taken out
+pub forest-without : (rs : List Row) (x : Obj) → IsForest rs → first_kid rs (Of x) ≡ None → IsForest (without rs x)
+forest-without rs x f alone = record {
+  distinct = Distinct-without rs x f.distinct;
+  owned = AllOwned-without rs x f.owned alone;
+  rooted = Rooted-without rs x f.distinct f.rooted;
+}

@@ -5,7 +5,7 @@ use Rattle.tree_specs.specs.declared.object.Owner.{Owner}
 use Rattle.tree_specs.specs.declared.row.Row.{Row}
 use Rattle.tree_specs.specs.Objects.{same}
 use Rattle.tree_specs.specs.Pool.{Pool, row_of, without, changed, owner_in, owner_of, is_below, first_kid, place}
-use Rattle.tree_specs.specs.Sound.{Distinct}
+use Rattle.tree_specs.specs.Forest.{Distinct}
 use Rattle.tree_specs.specs.Inside.{total}
 use Rattle.tree_specs.specs.Measure.{count}
 use Rattle.tree_specs.proofs.Numbered.{by_test, same-true, same-equal, same-false, is_below-some}
@@ -79,6 +79,18 @@ row_of-changed-none f (s ∷ rs) x y k h = by_test (same s.serial y)
     (λ u. let h' : row_of rs y ≡ None = rw u at h in by_test (same s.serial x)
     (λ t. let u2 : same (f s).serial y ≡ false = ap (λ q. same q y) (k s) ∙ u in rw (t, u2, h') refl)
     (λ t. let ih = row_of-changed-none f rs x y k h' in rw (t, u, ih) refl))
+
+-- an object that is placed has another owner, and no other row changes
+pub row_of-placed-other : (p : Pool) (o : Owner) (x y : Obj) (r : Row) → row_of p.rows x ≡ Some r → x ≢ y → row_of (place p o x).rows y ≡ row_of p.rows y
+row_of-placed-other p o x y r e ne =
+    let at : r.serial ≡ x = row_of-serial p.rows x r e in
+    let u : same r.serial y ≡ false = same-false r.serial y (λ q. ne (sym at ∙ q)) in
+    rw (e, u) (row_of-without-other p.rows x y ne)
+
+pub row_of-placed-same : (p : Pool) (o : Owner) (x : Obj) (r : Row) → row_of p.rows x ≡ Some r → row_of (place p o x).rows x ≡ Some (record r { owner = Some o })
+row_of-placed-same p o x r e =
+    let self : same r.serial x ≡ true = same-equal r.serial x (row_of-serial p.rows x r e) in
+    rw (e, self) refl
 
 pub Distinct-without : (rs : List Row) (x : Obj) → Distinct rs → Distinct (without rs x)
 Distinct-without [] x d = tt

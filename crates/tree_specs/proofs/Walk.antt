@@ -7,8 +7,9 @@ use Rattle.tree_specs.specs.declared.row.Row.{Row}
 use Rattle.tree_specs.specs.Objects.{same, same_owner}
 use Rattle.tree_specs.specs.Pool.{row_of, is_below, kids, owner_in, owner_of, next_owner, reaches, is_inside}
 use Rattle.tree_specs.specs.Inside.{total}
-use Rattle.tree_specs.specs.Sound.{Distinct}
-use Rattle.tree_specs.specs.Ancestry.{Rooted, walked, weight_in, weight_at, own, total_of}
+use Rattle.tree_specs.specs.Forest.{Distinct}
+use Rattle.tree_specs.specs.Forest.{Rooted}
+use Rattle.tree_specs.specs.Walks.{walked, weight_in, weight_at, own, total_of}
 use Rattle.tree_specs.proofs.Numbered.{by_test, same-true, same-equal, same-false, same_owner-true}
 use Rattle.tree_specs.proofs.Ancestry.{no_way_back}
 

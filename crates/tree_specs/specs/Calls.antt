@@ -1,14 +1,17 @@
 -- The refusals of each call, in the order in which they are tried.
-use Rattle.std.specs.Prelude.{ℕ, ◌+◌, ◌^◌, Bool, not, nat_lt, nat_le, if◌then◌else◌, List, [], ◌∷◌, ◌++◌, length}
+use Rattle.std.specs.Prelude.{ℕ, ◌+◌, ◌^◌, Bool, true, false, not, nat_lt, nat_le, if◌then◌else◌, List, [], ◌∷◌, ◌++◌, length, Option, Some, None}
 use Rattle.tree_specs.specs.declared.object.Obj.{Obj}
 use Rattle.tree_specs.specs.declared.object.Owner.{Owner}
 use Rattle.tree_specs.specs.declared.object.Owner.TheVariants.{Of}
+use Rattle.tree_specs.specs.declared.kind.Kind.{Kind}
+use Rattle.tree_specs.specs.declared.kind.Kind.TheVariants.{Plain, Reference, Timer, Immediate, Descriptor, Request, Queue, Entry}
+use Rattle.tree_specs.specs.declared.row.Row.{Row}
 use Rattle.tree_specs.specs.declared.call.Call.{Call}
-use Rattle.tree_specs.specs.declared.call.Call.TheVariants.{New, Free, Freekids, Steal, Move, Reparent, Rename, Parent, Total, Count, Report}
+use Rattle.tree_specs.specs.declared.call.Call.TheVariants.{New, Free, Freekids, Steal, Move, Reparent, Hook, Unhook, Rename, Parent, Total, Count, Report}
 use Rattle.tree_specs.specs.declared.reply.Refusal.{Refusal}
-use Rattle.tree_specs.specs.declared.reply.Refusal.TheVariants.{NoSuch, NotParent, Loop, Dying, Full, Spent, TooBig}
+use Rattle.tree_specs.specs.declared.reply.Refusal.TheVariants.{NoSuch, WrongKind, NotParent, Loop, Dying, Full, Spent, TooBig}
 use Rattle.tree_specs.specs.Objects.{owner_number}
-use Rattle.tree_specs.specs.Pool.{Pool, is_row, is_owner, is_below, owner_of, is_dying, is_inside}
+use Rattle.tree_specs.specs.Pool.{Pool, row_of, is_row, is_owner, is_below, owner_of, is_dying, is_inside}
 
 -- the size of an object is below this, in bytes
 abbrev pub size_limit : ℕ
@@ -36,6 +39,24 @@ small size = refuse_if (nat_le size_limit size) (TooBig size)
 abbrev pub object : Pool → Obj → Check
 object p x = refuse_if (not (is_row p.rows x)) (NoSuch x.0)
 
+abbrev pub is_plain : Kind → Bool
+is_plain Plain = true
+is_plain (Reference target) = false
+is_plain Timer = false
+is_plain Immediate = false
+is_plain Descriptor = false
+is_plain Request = false
+is_plain Queue = false
+is_plain Entry = false
+
+abbrev pub is_plain_row : Option Row → Bool
+is_plain_row None = false
+is_plain_row (Some r) = is_plain r.kind
+
+-- only plain objects have destructors
+abbrev pub plain : Pool → Obj → Check
+plain p x = refuse_if (not (is_plain_row (row_of p.rows x))) (WrongKind x)
+
 abbrev pub owner : Pool → Owner → Check
 owner p o = refuse_if (not (is_owner p.rows o)) (NoSuch (owner_number o))
 
@@ -61,6 +82,10 @@ placing p o x = object p x before owner p o before staying p x before apart p x 
 abbrev pub given_by : Pool → Owner → Owner → Obj → Check
 given_by p from to x = if is_below (owner_of p.rows x) from then apart p x to else NotParent x from ∷ []
 
+-- a destructor is given to an object, or taken from it
+abbrev pub hooking : Pool → Obj → Check
+hooking p x = object p x before plain p x before staying p x
+
 abbrev pub refusals : Pool → Call → Check
 refusals p (New o size name) = small size before owner p o before room p 1
 refusals p (Free x) = object p x
@@ -68,6 +93,8 @@ refusals p (Freekids x) = object p x
 refusals p (Steal o x) = placing p o x
 refusals p (Move o x) = placing p o x
 refusals p (Reparent from to x) = object p x before owner p from before owner p to before staying p x before given_by p from to x
+refusals p (Hook x routine) = hooking p x
+refusals p (Unhook x) = hooking p x
 refusals p (Rename x name) = object p x
 refusals p (Parent x) = object p x before staying p x
 refusals p (Total o) = owner p o

@@ -7,7 +7,8 @@ use Rattle.std.specs.Str.Parse.{digits_value}
 use Rattle.tree_specs.specs.declared.object.Obj.{Obj}
 use Rattle.tree_specs.specs.declared.object.Owner.{Owner}
 use Rattle.tree_specs.specs.declared.call.Call.{Call}
-use Rattle.tree_specs.specs.declared.call.Call.TheVariants.{New, Free, Freekids, Steal, Move, Reparent, Rename, Parent, Total, Count, Report}
+use Rattle.tree_specs.specs.declared.call.Call.TheVariants.{New, Free, Freekids, Steal, Move, Reparent, Hook, Unhook, Rename, Parent, Total, Count, Report}
+use Rattle.tree_specs.specs.declared.question.Act.TheVariants as acts
 use Rattle.tree_specs.specs.declared.question.Input.{Input}
 use Rattle.tree_specs.specs.declared.question.Input.TheVariants as inputs
 use Rattle.tree_specs.specs.Names.{is_name}
@@ -30,6 +31,22 @@ is_decimal ds = is_short ds && (all_ascii_digits ds && nat_lt (digits_value 10 d
 
 unfoldable pub number_of : List ℕ → Option ℕ
 number_of ds = if is_decimal ds then Some (digits_value 10 ds) else None
+
+-- a number below a limit
+abbrev pub number_below : ℕ → List ℕ → Option ℕ
+number_below limit ds = do
+  n ← number_of ds
+  if nat_lt n limit then Some n else None
+
+-- what a routine returns
+unfoldable pub return_of : List ℕ → Option ℕ
+return_of ds = number_below (2 ^ 32) ds
+
+-- the number of a routine, which isn't 0
+unfoldable pub routine_of : List ℕ → Option ℕ
+routine_of ds = do
+  n ← return_of ds
+  if n == 0 then None else Some n
 
 unfoldable pub owner_of : List ℕ → Option Owner
 owner_of text = do
@@ -98,6 +115,13 @@ reparent_of (p ∷ q ∷ x ∷ []) = do
   Some (Reparent from to object)
 reparent_of _ = None
 
+unfoldable pub hook_of : List (List ℕ) → Option Call
+hook_of (x ∷ r ∷ []) = do
+  object ← object_of x
+  routine ← routine_of r
+  Some (Hook object routine)
+hook_of _ = None
+
 unfoldable pub rename_of : List (List ℕ) → Option Call
 rename_of (x ∷ n ∷ []) = do
   object ← object_of x
@@ -115,6 +139,8 @@ call_of_words (verb ∷ fields) =
     if bytes_eq verb (codes "steal") then placing_of Steal fields else
     if bytes_eq verb (codes "move") then placing_of Move fields else
     if bytes_eq verb (codes "reparent") then reparent_of fields else
+    if bytes_eq verb (codes "hook") then hook_of fields else
+    if bytes_eq verb (codes "unhook") then of_object Unhook fields else
     if bytes_eq verb (codes "rename") then rename_of fields else
     if bytes_eq verb (codes "parent") then of_object Parent fields else
     if bytes_eq verb (codes "total") then of_owner Total fields else
@@ -135,6 +161,21 @@ strip (p ∷ ps) (x ∷ xs) = if x == p then strip ps xs else None
 abbrev pub call_input_of : List ℕ → Option Input
 call_input_of text = option_map inputs.Call (call_of text)
 
+abbrev pub act_input_of : List ℕ → Option Input
+act_input_of text = option_map (λ c. inputs.Act (acts.Do c)) (call_of text)
+
+abbrev pub return_input_of : List ℕ → Option Input
+return_input_of text = option_map (λ v. inputs.Act (acts.Ret v)) (return_of text)
+
+infixl 9 ◌or◌
+-- the first that there is
+abbrev pub ◌or◌ : {A : Type 0} → Option A → Option A → Option A
+None or o = o
+(Some x) or o = Some x
+
 -- the input that a line spells, without its LF
 unfoldable pub input_of : List ℕ → Option Input
-input_of line = strip (codes "call ") line >>= call_input_of
+input_of line =
+    (strip (codes "call ") line >>= call_input_of)
+    or (strip (codes "act ") line >>= act_input_of)
+    or (strip (codes "ret ") line >>= return_input_of)

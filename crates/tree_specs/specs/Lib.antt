@@ -3,7 +3,8 @@ pub mod Octets
 pub mod Objects
 pub mod Pool
 pub mod Inside
-pub mod Ancestry
+pub mod Forest
+pub mod Walks
 pub mod Heirs
 pub mod Reports
 pub mod Items
@@ -20,3 +21,5 @@ pub mod Sound
 pub mod Measure
 pub mod View
 pub mod Whole
+pub mod Orderly
+pub mod Grounded

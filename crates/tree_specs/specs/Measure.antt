@@ -7,10 +7,10 @@ use Rattle.tree_specs.specs.declared.row.Mark.{Mark}
 use Rattle.tree_specs.specs.declared.row.Mark.TheVariants.{Quiet, Asked, Busy, Doomed, Dying}
 use Rattle.tree_specs.specs.declared.frame.Frame.{Frame}
 use Rattle.tree_specs.specs.declared.frame.Frame.TheVariants as frame
-use Rattle.tree_specs.specs.declared.frame.CallFrame.TheVariants.{Asking, Doing, Awaiting, Telling}
-use Rattle.tree_specs.specs.declared.frame.FreeFrame.TheVariants.{Beginning, Leaving, Looping, Trying, Tried, Ending}
-use Rattle.tree_specs.specs.declared.frame.Answer.{Answer}
-use Rattle.tree_specs.specs.declared.frame.Answer.TheVariants.{Ok, Running}
+use Rattle.tree_specs.specs.declared.frame.CallFrame.TheVariants.{Asking, Doing, Awaiting, Telling, Returning}
+use Rattle.tree_specs.specs.declared.frame.FreeFrame.TheVariants.{Beginning, Hooked, Judged, Leaving, Looping, Trying, Tried, Ending}
+use Rattle.tree_specs.specs.declared.free_step.FreeReply.{FreeReply}
+use Rattle.tree_specs.specs.declared.free_step.FreeReply.TheVariants.{Ok, Running, Refused}
 use Rattle.tree_specs.specs.Pool.{Pool, is_below}
 use Rattle.tree_specs.specs.Inside.{total}
 
@@ -41,13 +41,16 @@ share R = 16 * R + 53
 
 -- what a waiting work still costs
 abbrev pub waiting_cost : Frame → ℕ
-waiting_cost (frame.Call (Awaiting x)) = 1
-waiting_cost (frame.Call Asking) = 0
-waiting_cost (frame.Call (Doing c)) = 0
-waiting_cost (frame.Call (Telling r)) = 0
+waiting_cost (frame.Call (Awaiting q x)) = 1
+waiting_cost (frame.Call (Asking q)) = 0
+waiting_cost (frame.Call (Doing q c)) = 0
+waiting_cost (frame.Call (Telling q r)) = 0
+waiting_cost (frame.Call (Returning v)) = 0
+waiting_cost (frame.Free (Hooked x h)) = 3
 waiting_cost (frame.Free (Trying x c purpose)) = 0
 waiting_cost (frame.Free (Beginning x)) = 0
-waiting_cost (frame.Free (Leaving x)) = 0
+waiting_cost (frame.Free (Judged x h v)) = 0
+waiting_cost (frame.Free (Leaving x h)) = 0
 waiting_cost (frame.Free (Looping x purpose)) = 0
 waiting_cost (frame.Free (Tried x c purpose answer)) = 0
 waiting_cost (frame.Free (Ending answer)) = 0
@@ -63,18 +66,22 @@ loop_kids rows (frame.Free (Trying x c purpose) ∷ fs) = 4 * count rows (Of x)
 loop_kids rows (_ ∷ fs) = 0
 
 -- what comes before the next look at the children
-abbrev pub tried_cost : Answer → ℕ
+abbrev pub tried_cost : FreeReply → ℕ
 tried_cost Ok = 8
 tried_cost Running = 4
+tried_cost (Refused v) = 8
 
 -- what the innermost work costs until the next question
 abbrev pub top_cost : ℕ → Frame → List Frame → List Row → ℕ
-top_cost R (frame.Call Asking) fs rows = 0
-top_cost R (frame.Call (Doing c)) fs rows = 16 * R + 52
-top_cost R (frame.Call (Awaiting x)) fs rows = 0
-top_cost R (frame.Call (Telling r)) fs rows = 1
+top_cost R (frame.Call (Asking q)) fs rows = 0
+top_cost R (frame.Call (Doing q c)) fs rows = 16 * R + 52
+top_cost R (frame.Call (Awaiting q x)) fs rows = 0
+top_cost R (frame.Call (Telling q r)) fs rows = 1
+top_cost R (frame.Call (Returning v)) fs rows = 4 * R + 9
 top_cost R (frame.Free (Beginning x)) fs rows = loop_kids rows fs + 5
-top_cost R (frame.Free (Leaving x)) fs rows = 0
+top_cost R (frame.Free (Hooked x h)) fs rows = 4
+top_cost R (frame.Free (Judged x h v)) fs rows = 4 * R + 10
+top_cost R (frame.Free (Leaving x h)) fs rows = 0
 top_cost R (frame.Free (Looping x purpose)) fs rows = 4 * count rows (Of x) + 7
 top_cost R (frame.Free (Trying x c purpose)) fs rows = 0
 top_cost R (frame.Free (Tried x c purpose answer)) fs rows = 4 * count rows (Of x) + tried_cost answer
@@ -86,8 +93,9 @@ cost R f fs p k = unit R * total weight p.rows + share R * k + below_cost fs + t
 
 -- the rows that a work may add, and those that it may add after the next input
 abbrev pub pending : Frame → ℕ
-pending (frame.Call (Doing c)) = 2
-pending (frame.Call Asking) = 0
-pending (frame.Call (Awaiting x)) = 0
-pending (frame.Call (Telling r)) = 0
+pending (frame.Call (Doing q c)) = 2
+pending (frame.Call (Asking q)) = 0
+pending (frame.Call (Awaiting q x)) = 0
+pending (frame.Call (Telling q r)) = 0
+pending (frame.Call (Returning v)) = 0
 pending (frame.Free f) = 0

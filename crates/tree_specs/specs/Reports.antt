@@ -11,7 +11,7 @@ use Rattle.tree_specs.specs.declared.report.ReportRow.{ReportRow}
 use Rattle.tree_specs.specs.declared.row.Row.{Row}
 use Rattle.tree_specs.specs.Objects.{same}
 use Rattle.tree_specs.specs.Pool.{row_of, kids}
-use Rattle.tree_specs.specs.Inside.{total}
+use Rattle.tree_specs.specs.Inside.{total, target_of}
 
 abbrev pub row_kind : Kind → RowKind
 row_kind Plain = row_kinds.Plain
@@ -22,17 +22,6 @@ row_kind Descriptor = row_kinds.Fd
 row_kind Request = row_kinds.Request
 row_kind Queue = row_kinds.Queue
 row_kind Entry = row_kinds.Entry
-
--- what a reference refers to
-abbrev pub target_of : Kind → Option Obj
-target_of Plain = None
-target_of (Reference target) = Some target
-target_of Timer = None
-target_of Immediate = None
-target_of Descriptor = None
-target_of Request = None
-target_of Queue = None
-target_of Entry = None
 
 abbrev pub is_target : Option Obj → Obj → Bool
 is_target None x = false

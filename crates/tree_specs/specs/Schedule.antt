@@ -60,12 +60,14 @@ pub record Judged : Type 0 where
 abbrev pub misfit : Option Ask → Input → Option Reason
 misfit None i = Some NotAsked
 misfit (Some Quiet) (inputs.Call call) = None
+misfit (Some Quiet) (inputs.Act act) = Some NotAsked
 misfit (Some (Routine m)) (inputs.Call call) = Some NotAsked
-misfit (Some Clock) (inputs.Call call) = Some NotAsked
-misfit (Some (Wait limit)) (inputs.Call call) = Some NotAsked
-misfit (Some (Accept descriptor)) (inputs.Call call) = Some NotAsked
-misfit (Some (Read descriptor most)) (inputs.Call call) = Some NotAsked
-misfit (Some (Write descriptor bytes)) (inputs.Call call) = Some NotAsked
+misfit (Some (Routine m)) (inputs.Act act) = None
+misfit (Some Clock) i = Some NotAsked
+misfit (Some (Wait limit)) i = Some NotAsked
+misfit (Some (Accept descriptor)) i = Some NotAsked
+misfit (Some (Read descriptor most)) i = Some NotAsked
+misfit (Some (Write descriptor bytes)) i = Some NotAsked
 
 abbrev pub ok_unless : Input → Option Reason → Result Input Reason
 ok_unless i None = Ok i

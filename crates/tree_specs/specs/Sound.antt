@@ -1,5 +1,5 @@
 -- What holds at every moment: of the rows, and of what the open works claim of them.
-use Rattle.std.specs.Prelude.{◌≡◌, ◌≢◌, ℕ, ◌<◌, List, [], ◌∷◌, ◌++◌, Option, Some, None, Bool, true, false}
+use Rattle.std.specs.Prelude.{◌≡◌, ◌≢◌, ℕ, ◌<◌, nat_eq, List, [], ◌∷◌, ◌++◌, Option, Some, None, Bool, true, false, if◌then◌else◌}
 use Rattle.tree_specs.specs.declared.object.Obj.{Obj}
 use Rattle.tree_specs.specs.declared.object.Owner.{Owner}
 use Rattle.tree_specs.specs.declared.object.Owner.TheVariants.{Of}
@@ -8,14 +8,15 @@ use Rattle.tree_specs.specs.declared.row.Mark.{Mark}
 use Rattle.tree_specs.specs.declared.row.Mark.TheVariants.{Quiet, Asked, Busy, Doomed, Dying}
 use Rattle.tree_specs.specs.declared.frame.Frame.{Frame}
 use Rattle.tree_specs.specs.declared.frame.Frame.TheVariants as frame
-use Rattle.tree_specs.specs.declared.frame.CallFrame.TheVariants.{Asking, Doing, Awaiting, Telling}
-use Rattle.tree_specs.specs.declared.frame.FreeFrame.TheVariants.{Beginning, Leaving, Looping, Trying, Tried, Ending}
+use Rattle.tree_specs.specs.declared.frame.CallFrame.TheVariants.{Asking, Doing, Awaiting, Telling, Returning}
+use Rattle.tree_specs.specs.declared.frame.FreeFrame.TheVariants.{Beginning, Hooked, Judged, Leaving, Looping, Trying, Tried, Ending}
 use Rattle.tree_specs.specs.declared.frame.Purpose.{Purpose}
 use Rattle.tree_specs.specs.declared.frame.Purpose.TheVariants.{Removal, Emptying}
-use Rattle.tree_specs.specs.declared.frame.Answer.TheVariants.{Ok}
+use Rattle.tree_specs.specs.declared.free_step.FreeReply.{FreeReply}
+use Rattle.tree_specs.specs.declared.free_step.FreeReply.TheVariants.{Ok, Running, Refused}
 use Rattle.tree_specs.specs.Objects.{same}
 use Rattle.tree_specs.specs.Pool.{Pool, row_of, owner_of}
-use Rattle.tree_specs.specs.Ancestry.{AllOwned, Rooted}
+use Rattle.tree_specs.specs.Forest.{IsForest}
 
 -- an owner or a former owner is another object; a dying row has no owner, and every other one has
 abbrev pub Owned : Option Owner → Obj → Type 0
@@ -34,11 +35,6 @@ Shaped (Dying former) None x = former ≢ Of x
 abbrev pub ValidAt : ℕ → Option Row → Obj → Type 0
 ValidAt next None x = Unit {0}
 ValidAt next (Some r) x = (0 < x.0) × (x.0 < next) × Shaped r.mark r.owner x
-
--- each number once
-abbrev pub Distinct : List Row → Type 0
-Distinct [] = Unit {0}
-Distinct (r ∷ rs) = (row_of rs r.serial ≡ None) × Distinct rs
 
 -- what is going on with an object
 pub data Phase : Type 0 where
@@ -64,14 +60,20 @@ claim_if false a = []
 
 -- an object that is only emptied may be in any phase
 abbrev pub loop_claim : Purpose → Bool → List Phase
-loop_claim Removal b = claim_if b InLoop
+loop_claim (Removal h) b = claim_if b InLoop
 loop_claim Emptying b = []
+
+-- an object that leaves its owner runs until then, where a destructor has accepted
+abbrev pub leave_claim : ℕ → Bool → List Phase
+leave_claim h b = if nat_eq h 0 then [] else claim_if b InRun
 
 -- what an open work claims of x
 abbrev pub claim : Obj → Frame → List Phase
 claim x (frame.Call f) = []
 claim x (frame.Free (Beginning y)) = []
-claim x (frame.Free (Leaving y)) = []
+claim x (frame.Free (Hooked y h)) = claim_if (same y x) InRun
+claim x (frame.Free (Judged y h v)) = claim_if (same y x) InRun
+claim x (frame.Free (Leaving y h)) = leave_claim h (same y x)
 claim x (frame.Free (Looping y purpose)) = loop_claim purpose (same y x)
 claim x (frame.Free (Trying y c purpose)) = loop_claim purpose (same y x)
 claim x (frame.Free (Tried y c purpose answer)) = loop_claim purpose (same y x)
@@ -83,23 +85,26 @@ claims x (f ∷ fs) = claim x f ++ claims x fs
 
 -- the call that waits for it stands right below
 abbrev pub IsCalled : List Frame → Type 0
-IsCalled (frame.Call (Awaiting x) ∷ fs) = Unit {0}
+IsCalled (frame.Call (Awaiting q x) ∷ fs) = Unit {0}
 IsCalled fs = ⊥
 
 -- a loop that only empties an object is a call's own
 abbrev pub Stands : Purpose → List Frame → Type 0
-Stands Removal fs = Unit {0}
+Stands (Removal h) fs = Unit {0}
 Stands Emptying fs = IsCalled fs
 
 -- the works below the innermost wait for the one above them
 abbrev pub IsWaiting : Frame → List Frame → Type 0
-IsWaiting (frame.Call (Awaiting x)) fs = Unit {0}
-IsWaiting (frame.Call Asking) fs = ⊥
-IsWaiting (frame.Call (Doing c)) fs = ⊥
-IsWaiting (frame.Call (Telling r)) fs = ⊥
+IsWaiting (frame.Call (Awaiting q x)) fs = Unit {0}
+IsWaiting (frame.Call (Asking q)) fs = ⊥
+IsWaiting (frame.Call (Doing q c)) fs = ⊥
+IsWaiting (frame.Call (Telling q r)) fs = ⊥
+IsWaiting (frame.Call (Returning v)) fs = ⊥
+IsWaiting (frame.Free (Hooked x h)) fs = 0 < h
 IsWaiting (frame.Free (Trying x c purpose)) fs = Stands purpose fs
 IsWaiting (frame.Free (Beginning x)) fs = ⊥
-IsWaiting (frame.Free (Leaving x)) fs = ⊥
+IsWaiting (frame.Free (Judged x h v)) fs = ⊥
+IsWaiting (frame.Free (Leaving x h)) fs = ⊥
 IsWaiting (frame.Free (Looping x purpose)) fs = ⊥
 IsWaiting (frame.Free (Tried x c purpose answer)) fs = ⊥
 IsWaiting (frame.Free (Ending answer)) fs = ⊥
@@ -118,31 +123,48 @@ IsLive (Dying former) = ⊥
 -- an object whose freeing begins is the child that is tried, where the work below tries one
 abbrev pub Tries : Obj → List Frame → Pool → Type 0
 Tries c (frame.Free (Trying x d purpose) ∷ fs) p = (d ≡ c) × (owner_of p.rows c ≡ Some (Of x))
-Tries c (frame.Call (Awaiting x) ∷ fs) p = Unit {0}
+Tries c (frame.Call (Awaiting q x) ∷ fs) p = Unit {0}
 Tries c fs p = fs ≡ []
+
+-- a child that runs is where it was
+abbrev pub StillThere : FreeReply → Obj → Obj → Pool → Type 0
+StillThere Ok x c p = Unit {0}
+StillThere Running x c p = owner_of p.rows c ≡ Some (Of x)
+StillThere (Refused v) x c p = Unit {0}
+
+-- a free that has begun doesn't answer that the object runs
+abbrev pub IsOver : FreeReply → Type 0
+IsOver Ok = Unit {0}
+IsOver Running = ⊥
+IsOver (Refused v) = Unit {0}
+
+-- the destructor that an object has
+abbrev pub HasHook : Option Row → ℕ → Type 0
+HasHook None h = ⊥
+HasHook (Some r) h = r.hook ≡ h
 
 -- what the innermost work rests on
 abbrev pub Rests : Frame → List Frame → Pool → Type 0
-Rests (frame.Call Asking) fs p = Unit {0}
-Rests (frame.Call (Doing c)) fs p = Unit {0}
-Rests (frame.Call (Awaiting x)) fs p = ⊥
-Rests (frame.Call (Telling r)) fs p = Unit {0}
+Rests (frame.Call (Asking q)) fs p = Unit {0}
+Rests (frame.Call (Doing q c)) fs p = Unit {0}
+Rests (frame.Call (Awaiting q x)) fs p = ⊥
+Rests (frame.Call (Telling q r)) fs p = Unit {0}
+Rests (frame.Call (Returning v)) fs p = Unit {0}
 Rests (frame.Free (Beginning x)) fs p = Tries x fs p
-Rests (frame.Free (Leaving x)) fs p = (r : Row) × (row_of p.rows x ≡ Some r) × (r.mark ≡ Quiet)
+Rests (frame.Free (Hooked x h)) fs p = (0 < h) × HasHook (row_of p.rows x) h
+Rests (frame.Free (Judged x h v)) fs p = 0 < h
+Rests (frame.Free (Leaving x h)) fs p = (r : Row) × (row_of p.rows x ≡ Some r) × IsLive r.mark × (claims x fs ≡ [])
 Rests (frame.Free (Looping x purpose)) fs p = Stands purpose fs
 Rests (frame.Free (Trying x c purpose)) fs p = ⊥
--- no object runs as yet, so each child that is tried is freed
-Rests (frame.Free (Tried x c purpose answer)) fs p = (answer ≡ Ok) × Stands purpose fs
-Rests (frame.Free (Ending answer)) fs p = answer ≡ Ok
+Rests (frame.Free (Tried x c purpose answer)) fs p = StillThere answer x c p × Stands purpose fs
+Rests (frame.Free (Ending answer)) fs p = IsOver answer
 
 pub record Sound (f : Frame) (fs : List Frame) (p : Pool) : Type 0 where
   pub started : 0 < p.next
-  pub distinct : Distinct p.rows
   pub valid : (x : Obj) → ValidAt p.next (row_of p.rows x) x
-  -- the owner of each row is the root or a row, and from owner to owner one comes to an end
-  pub owned : AllOwned p.rows
-  pub rooted : Rooted p.rows
-  -- each dying row is in exactly one open free, and no other row is
+  -- each number stands once, the owner of each row is the root or a row, and from owner to owner one comes to an end
+  pub forest : IsForest p.rows
+  -- each object that runs or is dying is in exactly one open free, and no other object is
   pub open_frees : (x : Obj) → claim x f ++ claims x fs ≡ phases (row_of p.rows x)
   pub waiting : AllWait fs
   pub rests : Rests f fs p

@@ -1,5 +1,5 @@
--- The rules of freeing and of calls, and the story that they tell. Each turn hands on one less.
-use Rattle.std.specs.Prelude.{ℕ, suc, zero, ◌+◌, ◌*◌, List, [], ◌∷◌, length, map, Option, Some, None, unwrap_or, if◌then◌else◌}
+-- The rules of freeing, of destructors and of calls, and the story that they tell. Each turn hands on one less.
+use Rattle.std.specs.Prelude.{ℕ, suc, zero, ◌+◌, ◌-◌, ◌*◌, ◌^◌, nat_eq, nat_lt, List, [], ◌∷◌, length, map, Option, Some, None, unwrap_or, if◌then◌else◌}
 use Rattle.step_machine.specs.Machine.{items as told_by}
 use Rattle.tree_specs.specs.declared.object.Obj.{Obj}
 use Rattle.tree_specs.specs.declared.object.Owner.TheVariants.{Root, Of}
@@ -11,35 +11,73 @@ use Rattle.tree_specs.specs.declared.call.Call.TheVariants as call
 use Rattle.tree_specs.specs.declared.reply.Refusal.TheVariants as refusal
 use Rattle.tree_specs.specs.declared.reply.Reply.{Reply}
 use Rattle.tree_specs.specs.declared.reply.Reply.TheVariants as reply
-use Rattle.tree_specs.specs.declared.event.Event.TheVariants.{Replied, Moved, Freed}
-use Rattle.tree_specs.specs.declared.question.Ask.TheVariants.{Quiet as AtRest}
+use Rattle.tree_specs.specs.declared.event.Event.TheVariants.{Replied, Accepted, Refused, Moved, Freed}
+use Rattle.tree_specs.specs.declared.moment.Moment.{Moment}
+use Rattle.tree_specs.specs.declared.moment.What.TheVariants.{Hook as ForHook}
+use Rattle.tree_specs.specs.declared.question.Ask.{Ask}
+use Rattle.tree_specs.specs.declared.question.Ask.TheVariants as ask
+use Rattle.tree_specs.specs.declared.question.Act.{Act}
+use Rattle.tree_specs.specs.declared.question.Act.TheVariants as act
 use Rattle.tree_specs.specs.declared.question.Input.{Input}
 use Rattle.tree_specs.specs.declared.question.Input.TheVariants as input
-use Rattle.tree_specs.specs.declared.frame.Answer.{Answer}
-use Rattle.tree_specs.specs.declared.frame.Answer.TheVariants.{Ok, Running}
+use Rattle.tree_specs.specs.declared.free_step.FreeReply.{FreeReply}
+use Rattle.tree_specs.specs.declared.free_step.FreeReply.TheVariants as free_reply
+use Rattle.tree_specs.specs.declared.free_step.FreeReply.TheVariants.{Ok, Running}
 use Rattle.tree_specs.specs.Objects.{owner_number}
-use Rattle.tree_specs.specs.Pool.{empty, row_of, is_below, owner_of, first_kid, add, detach, remove, place, rename, set_mark}
+use Rattle.tree_specs.specs.Pool.{empty, row_of, is_below, owner_of, first_kid, add, detach, remove, place, rename, set_mark, set_hook}
 use Rattle.tree_specs.specs.Inside.{size_inside, count_inside}
 use Rattle.tree_specs.specs.Heirs.{heir}
 use Rattle.tree_specs.specs.Reports.{report}
 use Rattle.tree_specs.specs.Items.{Item}
 use Rattle.tree_specs.specs.Items.Item.{Told, Asked}
-use Rattle.tree_specs.specs.Soundness.{is_sound_call}
+use Rattle.tree_specs.specs.Soundness.{is_sound_call, is_return}
 use Rattle.tree_specs.specs.Calls.{Check, refusals}
 use Rattle.tree_specs.specs.Works.{Work, Scene, Begun, ◌>>=◌, ◌>>◌, gives, pool, change, tells, told_about, asks, short}
 
 -- the reply to a call that frees
-abbrev pub freed_reply : Obj → Answer → Reply
+abbrev pub freed_reply : Obj → FreeReply → Reply
 freed_reply x Ok = reply.Ok
 freed_reply x Running = reply.No (refusal.Running x)
+freed_reply x (free_reply.Refused v) = reply.No (refusal.Refused x v)
 
 -- an owner by its number
 abbrev pub owner_reply : Option Owner → Reply
 owner_reply o = reply.Number (owner_number (unwrap_or o Root))
 
--- an input that fits the question of a host at rest leads to its call
-abbrev pub heard : {A : Type 0} → (Call → A) → Input → Option A
-heard act (input.Call c) = if is_sound_call c then Some (act c) else None
+-- the first moment in the run of a destructor
+abbrev pub hook_moment : Obj → ℕ → Moment
+hook_moment x h = record { what = ForHook; object = x; routine = h; user = 0; now = 0; flags = 0; step = 0; last = None }
+
+-- the number of a later step; it stays at the greatest one
+abbrev pub step_after : ℕ → ℕ
+step_after k = if nat_lt k (2 ^ 32 - 1) then k + 1 else k
+
+-- what a caller is asked after a call: the host's own caller for the next one, a routine what it does next
+abbrev pub later : Ask → Reply → Ask
+later (ask.Routine m) r = ask.Routine (record m { step = step_after m.step; last = Some r })
+later ask.Quiet r = ask.Quiet
+later ask.Clock r = ask.Clock
+later (ask.Wait limit) r = ask.Wait limit
+later (ask.Accept descriptor) r = ask.Accept descriptor
+later (ask.Read descriptor most) r = ask.Read descriptor most
+later (ask.Write descriptor bytes) r = ask.Write descriptor bytes
+
+-- a routine does a call, or returns
+abbrev pub acted : {A : Type 0} → (Call → A) → (ℕ → A) → Act → Option A
+acted does returns (act.Do c) = if is_sound_call c then Some (does c) else None
+acted does returns (act.Ret v) = if is_return v then Some (returns v) else None
+
+-- an input that fits the question leads to a call of the host's own caller, or to an act of a routine
+abbrev pub heard : {A : Type 0} → Ask → (Call → A) → (ℕ → A) → Input → Option A
+heard ask.Quiet does returns (input.Call c) = if is_sound_call c then Some (does c) else None
+heard ask.Quiet does returns (input.Act a) = None
+heard (ask.Routine m) does returns (input.Call c) = None
+heard (ask.Routine m) does returns (input.Act a) = acted does returns a
+heard ask.Clock does returns i = None
+heard (ask.Wait limit) does returns i = None
+heard (ask.Accept descriptor) does returns i = None
+heard (ask.Read descriptor most) does returns i = None
+heard (ask.Write descriptor bytes) does returns i = None
 
 -- the first refusal that applies, otherwise the effect
 abbrev pub unless_refused : Check → Work Reply → Work Reply
@@ -47,7 +85,7 @@ unless_refused [] effect = effect
 unless_refused (why ∷ later) effect = gives (reply.No why)
 
 -- the effect of a call and its reply, where `free` frees an object and `children` those of an object
-abbrev pub effect : (Obj → Work Answer) → (Obj → Work (Unit {0})) → Call → Work Reply
+abbrev pub effect : (Obj → Work FreeReply) → (Obj → Work (Unit {0})) → Call → Work Reply
 effect free children (call.New o size name) = do
   p ← pool
   change (λ q. add q Plain o size name)
@@ -67,6 +105,12 @@ effect free children (call.Move o x) = do
 effect free children (call.Reparent from to x) = do
   change (λ p. place p to x)
   gives reply.Ok
+effect free children (call.Hook x routine) = do
+  change (λ p. set_hook p x routine)
+  gives reply.Ok
+effect free children (call.Unhook x) = do
+  change (λ p. set_hook p x 0)
+  gives reply.Ok
 effect free children (call.Rename x name) = do
   change (λ p. rename p x name)
   gives reply.Ok
@@ -84,9 +128,8 @@ effect free children (call.Report o) = do
   gives (reply.Rows (report p.rows o))
 
 -- a child of x that wasn't freed goes to its heir, where x still is its owner
-abbrev pub hand_on : Obj → Obj → Answer → Work (Unit {0})
-hand_on x c Ok = gives tt
-hand_on x c Running = do
+abbrev pub hand_on : Obj → Obj → Work (Unit {0})
+hand_on x c = do
   p ← pool
   if is_below (owner_of p.rows c) (Of x)
       then (do
@@ -94,16 +137,25 @@ hand_on x c Running = do
         change (λ q. place q (heir p.rows x c) c))
       else gives tt
 
+abbrev pub hand_on_after : Obj → Obj → FreeReply → Work (Unit {0})
+hand_on_after x c Ok = gives tt
+hand_on_after x c Running = hand_on x c
+hand_on_after x c (free_reply.Refused v) = hand_on x c
+
 abbrev mutual
   -- An object is freed. One that is dying is left to the free that it is in, and one that runs can't be freed now.
-  pub free : ℕ → Obj → Work Answer
+  pub free : ℕ → Obj → Work FreeReply
   free zero x = short
   free (suc n) x = do
     p ← pool
     elim (row_of p.rows x) [
       | None ↦ gives Ok
       | Some r ↦ elim r.mark [
-        | mark.Quiet ↦ leave n x
+        | mark.Quiet ↦ if nat_eq r.hook 0
+            then leave n x 0
+            else (do
+              change (λ q. set_mark q x mark.Asked)
+              hooked n x r.hook)
         | mark.Asked ↦ gives Running
         | mark.Busy ↦ (do
           change (λ q. set_mark q x mark.Doomed)
@@ -113,13 +165,33 @@ abbrev mutual
       ]
     ]
 
+  -- its destructor runs
+  pub hooked : ℕ → Obj → ℕ → Work FreeReply
+  hooked zero x h = short
+  hooked (suc n) x h = do
+    v ← asked n (ask.Routine (hook_moment x h))
+    judged n x h v
+
+  -- the destructor has accepted with 0, or refused with any other number
+  pub judged : ℕ → Obj → ℕ → ℕ → Work FreeReply
+  judged zero x h v = short
+  judged (suc n) x h v = if nat_eq v 0
+      then (do
+        tells (Told (Accepted x))
+        change (λ p. set_hook p x 0)
+        leave n x h)
+      else (do
+        tells (Told (Refused x v))
+        change (λ p. set_mark p x mark.Quiet)
+        gives (free_reply.Refused v))
+
   -- it leaves its owner, its children are freed, and it is removed
-  pub leave : ℕ → Obj → Work Answer
-  leave zero x = short
-  leave (suc n) x = do
+  pub leave : ℕ → Obj → ℕ → Work FreeReply
+  leave zero x h = short
+  leave (suc n) x h = do
     change (λ p. detach p x)
     children n x
-    tells (Told (Freed x 0))
+    tells (Told (Freed x h))
     change (λ p. remove p x)
     gives Ok
 
@@ -136,30 +208,33 @@ abbrev mutual
     ]
 
   -- a child that wasn't freed is handed on, and the next one is looked for
-  pub tried : ℕ → Obj → Obj → Answer → Work (Unit {0})
+  pub tried : ℕ → Obj → Obj → FreeReply → Work (Unit {0})
   tried zero x c answer = short
   tried (suc n) x c answer = do
-    hand_on x c answer
+    hand_on_after x c answer
     children n x
 
--- The caller is asked, call after call.
-abbrev mutual
-  pub asked : ℕ → Work Answer
-  asked zero = short
-  asked (suc n) = asks (Asked AtRest) (heard (acting n))
+  -- A caller is asked: the host's own for call after call, a routine for act after act until it returns.
+  pub asked : ℕ → Ask → Work ℕ
+  asked zero q = short
+  asked (suc n) q = asks (Asked q) (heard q (acting n q) (returning n))
 
-  pub acting : ℕ → Call → Work Answer
-  acting zero c = short
-  acting (suc n) c = do
+  pub acting : ℕ → Ask → Call → Work ℕ
+  acting zero q c = short
+  acting (suc n) q c = do
     p ← pool
     r ← unless_refused (refusals p c) (effect (free n) (children n) c)
-    telling n (Some (record { call = c; start = p })) r
+    telling n (Some (record { call = c; start = p })) (later q r) r
 
-  pub telling : ℕ → Option Begun → Reply → Work Answer
-  telling zero about r = short
-  telling (suc n) about r = do
+  pub telling : ℕ → Option Begun → Ask → Reply → Work ℕ
+  telling zero about q r = short
+  telling (suc n) about q r = do
     told_about about (Told (Replied r))
-    asked n
+    asked n q
+
+  pub returning : ℕ → ℕ → Work ℕ
+  returning zero v = short
+  returning (suc n) v = gives v
 
 -- turns enough for r rows and a inputs
 abbrev pub turns : ℕ → ℕ → ℕ
@@ -167,7 +242,7 @@ turns r a = 64 * (a + 1) * ((r + 2 * a + 2) * (r + 2 * a + 2))
 
 -- the story from an empty pool whose next number is `first`
 abbrev pub story : ℕ → List Input → List Scene
-story first is = told_by (asked (turns 0 (length is)) (empty first) is)
+story first is = told_by (asked (turns 0 (length is)) ask.Quiet (empty first) is)
 
 -- its items
 abbrev pub items : List Scene → List Item

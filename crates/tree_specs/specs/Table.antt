@@ -1,10 +1,10 @@
--- The same rules as a table of single steps, one row for each kind of open work.
-use Rattle.std.specs.Prelude.{[], ◌∷◌, Option, Some, None, if◌then◌else◌}
+-- The same rules as tables of single steps, one row for each kind of open work.
+use Rattle.std.specs.Prelude.{ℕ, nat_eq, [], ◌∷◌, Option, Some, None, unwrap_or, if◌then◌else◌}
 use Rattle.step_machine.specs.Machine.{Move, Table}
 use Rattle.step_machine.specs.Machine.{Move as Do}
 use Rattle.step_machine.specs.Noted.{Notes}
 use Rattle.tree_specs.specs.declared.object.Obj.{Obj}
-use Rattle.tree_specs.specs.declared.object.Owner.TheVariants.{Of}
+use Rattle.tree_specs.specs.declared.object.Owner.TheVariants.{Root, Of}
 use Rattle.tree_specs.specs.declared.row.Row.{Row}
 use Rattle.tree_specs.specs.declared.row.Mark.{Mark}
 use Rattle.tree_specs.specs.declared.row.Mark.TheVariants as mark
@@ -14,20 +14,26 @@ use Rattle.tree_specs.specs.declared.call.Call.TheVariants as call
 use Rattle.tree_specs.specs.declared.reply.Reply.{Reply}
 use Rattle.tree_specs.specs.declared.reply.Reply.TheVariants as reply
 use Rattle.tree_specs.specs.declared.event.Event.{Event}
-use Rattle.tree_specs.specs.declared.event.Event.TheVariants.{Replied, Moved, Freed}
-use Rattle.tree_specs.specs.declared.question.Ask.TheVariants.{Quiet as AtRest}
+use Rattle.tree_specs.specs.declared.event.Event.TheVariants as event
+use Rattle.tree_specs.specs.declared.question.Ask.{Ask}
+use Rattle.tree_specs.specs.declared.question.Ask.TheVariants.{Routine}
 use Rattle.tree_specs.specs.declared.question.Input.{Input}
 use Rattle.tree_specs.specs.declared.frame.Frame.{Frame}
 use Rattle.tree_specs.specs.declared.frame.Frame.TheVariants as frame
 use Rattle.tree_specs.specs.declared.frame.CallFrame.{CallFrame}
-use Rattle.tree_specs.specs.declared.frame.CallFrame.TheVariants.{Asking, Doing, Awaiting, Telling}
+use Rattle.tree_specs.specs.declared.frame.CallFrame.TheVariants.{Asking, Doing, Awaiting, Telling, Returning}
 use Rattle.tree_specs.specs.declared.frame.FreeFrame.{FreeFrame}
-use Rattle.tree_specs.specs.declared.frame.FreeFrame.TheVariants.{Beginning, Leaving, Looping, Trying, Tried, Ending}
+use Rattle.tree_specs.specs.declared.frame.FreeFrame.TheVariants.{Beginning, Hooked, Judged, Leaving, Looping, Trying, Tried, Ending}
 use Rattle.tree_specs.specs.declared.frame.Purpose.{Purpose}
 use Rattle.tree_specs.specs.declared.frame.Purpose.TheVariants.{Removal, Emptying}
 use Rattle.tree_specs.specs.declared.frame.Answer.{Answer}
-use Rattle.tree_specs.specs.declared.frame.Answer.TheVariants.{Ok, Running}
-use Rattle.tree_specs.specs.Pool.{Pool, row_of, is_below, owner_of, first_kid, add, detach, remove, place, rename, set_mark}
+use Rattle.tree_specs.specs.declared.frame.Answer.TheVariants.{Freed, Returned}
+use Rattle.tree_specs.specs.declared.free_step.FreeReply.{FreeReply}
+use Rattle.tree_specs.specs.declared.free_step.FreeReply.TheVariants as free_reply
+use Rattle.tree_specs.specs.declared.free_step.FreeReply.TheVariants.{Ok, Running}
+use Rattle.tree_specs.specs.declared.free_step.FreeStep.{FreeStep}
+use Rattle.tree_specs.specs.declared.free_step.FreeStep.TheVariants.{Ask as AskOf, Refused, Accepted, Left, Moved, Gone, Done as Over}
+use Rattle.tree_specs.specs.Pool.{Pool, row_of, is_below, owner_of, first_kid, add, detach, remove, place, rename, set_mark, set_hook}
 use Rattle.tree_specs.specs.Inside.{size_inside, count_inside}
 use Rattle.tree_specs.specs.Heirs.{heir}
 use Rattle.tree_specs.specs.Reports.{report}
@@ -35,124 +41,198 @@ use Rattle.tree_specs.specs.Items.{Item}
 use Rattle.tree_specs.specs.Items.Item.{Told, Asked}
 use Rattle.tree_specs.specs.Calls.{Check, refusals}
 use Rattle.tree_specs.specs.Works.{Begun}
-use Rattle.tree_specs.specs.Story.{freed_reply, owner_reply, heard}
+use Rattle.tree_specs.specs.Story.{freed_reply, owner_reply, hook_moment, later, heard}
 
 -- ---- freeing
 
 -- a step of a free by itself
-abbrev pub FreeStep : Type 0
-FreeStep = Move FreeFrame Answer Pool Event
+abbrev pub FreeMove : Type 0
+FreeMove = Move FreeFrame FreeReply Pool FreeStep
+
+-- a quiet object with a destructor is asked, and any other leaves its owner
+abbrev pub begin_quiet : Obj → ℕ → Pool → FreeMove
+begin_quiet x h p = if nat_eq h 0 then Do.Go (Leaving x 0) p else Do.Go (Hooked x h) (set_mark p x mark.Asked)
 
 -- the freeing of an object begins, by what is going on with it
-abbrev pub begin_by : Obj → Mark → Pool → FreeStep
-begin_by x mark.Quiet p = Do.Go (Leaving x) p
-begin_by x mark.Asked p = Do.Done Running p
-begin_by x mark.Busy p = Do.Done Running (set_mark p x mark.Doomed)
-begin_by x mark.Doomed p = Do.Done Running p
-begin_by x (mark.Dying former) p = Do.Done Ok p
+abbrev pub begin_by : Obj → ℕ → Mark → Pool → FreeMove
+begin_by x h mark.Quiet p = begin_quiet x h p
+begin_by x h mark.Asked p = Do.Done Running p
+begin_by x h mark.Busy p = Do.Done Running (set_mark p x mark.Doomed)
+begin_by x h mark.Doomed p = Do.Done Running p
+begin_by x h (mark.Dying former) p = Do.Done Ok p
 
-abbrev pub begin_step : Obj → Option Row → Pool → FreeStep
+abbrev pub begin_step : Obj → Option Row → Pool → FreeMove
 begin_step x None p = Do.Done Ok p
-begin_step x (Some r) p = begin_by x r.mark p
+begin_step x (Some r) p = begin_by x r.hook r.mark p
+
+-- a destructor has accepted with 0, or refused with any other number
+abbrev pub judge_step : Obj → ℕ → ℕ → Pool → FreeMove
+judge_step x h v p =
+    if nat_eq v 0 then Do.Emit (Accepted x) (Leaving x h) (set_hook p x 0)
+    else Do.Emit (Refused x v) (Ending (free_reply.Refused v)) (set_mark p x mark.Quiet)
 
 -- there are no more children
-abbrev pub last_step : Obj → Purpose → Pool → FreeStep
-last_step x Removal p = Do.Emit (Freed x 0) (Ending Ok) (remove p x)
+abbrev pub last_step : Obj → Purpose → Pool → FreeMove
+last_step x (Removal h) p = Do.Emit (Gone x h) (Ending Ok) (remove p x)
 last_step x Emptying p = Do.Done Ok p
 
-abbrev pub loop_step : Obj → Purpose → Option Obj → Pool → FreeStep
+abbrev pub loop_step : Obj → Purpose → Option Obj → Pool → FreeMove
 loop_step x purpose None p = last_step x purpose p
 loop_step x purpose (Some c) p = Do.Call (Beginning c) (Trying x c purpose) p
 
 -- a child that wasn't freed goes to its heir, where x still is its owner
-abbrev pub tried_step : Obj → Obj → Purpose → Answer → Pool → FreeStep
-tried_step x c purpose Ok p = Do.Go (Looping x purpose) p
-tried_step x c purpose Running p =
+abbrev pub hand_on_step : Obj → Obj → Purpose → Pool → FreeMove
+hand_on_step x c purpose p =
     if is_below (owner_of p.rows c) (Of x)
-    then Do.Emit (Moved c (heir p.rows x c)) (Looping x purpose) (place p (heir p.rows x c) c)
+    then Do.Emit (Moved c (Of x) (heir p.rows x c)) (Looping x purpose) (place p (heir p.rows x c) c)
     else Do.Go (Looping x purpose) p
 
-abbrev pub free_step : FreeFrame → Pool → FreeStep
+abbrev pub tried_step : Obj → Obj → Purpose → FreeReply → Pool → FreeMove
+tried_step x c purpose Ok p = Do.Go (Looping x purpose) p
+tried_step x c purpose Running p = hand_on_step x c purpose p
+tried_step x c purpose (free_reply.Refused v) p = hand_on_step x c purpose p
+
+abbrev pub free_step : FreeFrame → Pool → FreeMove
 free_step (Beginning x) p = begin_step x (row_of p.rows x) p
-free_step (Leaving x) p = Do.Go (Looping x Removal) (detach p x)
+free_step (Hooked x h) p = Do.Wait (AskOf x) (Hooked x h) p
+free_step (Judged x h v) p = judge_step x h v p
+free_step (Leaving x h) p = Do.Emit (Left x (unwrap_or (owner_of p.rows x) Root)) (Looping x (Removal h)) (detach p x)
 free_step (Looping x purpose) p = loop_step x purpose (first_kid p.rows (Of x)) p
 -- it waits for the work above it
 free_step (Trying x c purpose) p = Do.Done Ok p
 free_step (Tried x c purpose answer) p = tried_step x c purpose answer p
 free_step (Ending answer) p = Do.Done answer p
 
-abbrev pub free_resume : FreeFrame → Answer → FreeFrame
+abbrev pub free_resume : FreeFrame → FreeReply → FreeFrame
 free_resume (Trying x c purpose) answer = Tried x c purpose answer
 free_resume (Beginning x) answer = Beginning x
-free_resume (Leaving x) answer = Leaving x
+free_resume (Hooked x h) answer = Hooked x h
+free_resume (Judged x h v) answer = Judged x h v
+free_resume (Leaving x h) answer = Leaving x h
 free_resume (Looping x purpose) answer = Looping x purpose
 free_resume (Tried x c purpose a) answer = Tried x c purpose a
 free_resume (Ending a) answer = Ending a
+
+-- a free that waits for a destructor, with the number that this returned
+abbrev pub free_taken : FreeFrame → Pool → ℕ → Option FreeFrame
+free_taken (Hooked x h) p v = Some (Judged x h v)
+free_taken (Beginning x) p v = None
+free_taken (Judged x h u) p v = None
+free_taken (Leaving x h) p v = None
+free_taken (Looping x purpose) p v = None
+free_taken (Trying x c purpose) p v = None
+free_taken (Tried x c purpose a) p v = None
+free_taken (Ending a) p v = None
+
+abbrev pub free_table : Table FreeFrame FreeReply Pool ℕ FreeStep
+free_table = record { step = free_step; resume = free_resume; taken = free_taken }
 
 -- ---- the host
 
 abbrev pub Step : Type 0
 Step = Move Frame Answer Pool Item
 
+-- what the host tells of a step of a free
+abbrev pub event_of : FreeStep → Option Event
+event_of (AskOf x) = None
+event_of (Refused x v) = Some (event.Refused x v)
+event_of (Accepted x) = Some (event.Accepted x)
+event_of (Left x from) = None
+event_of (Moved x from owner) = Some (event.Moved x owner)
+event_of (Gone x h) = Some (event.Freed x h)
+event_of (Over answer) = None
+
+abbrev pub announced : Option Event → FreeFrame → Pool → Step
+announced None f p = Do.Go (frame.Free f) p
+announced (Some e) f p = Do.Emit (Told e) (frame.Free f) p
+
+-- what a free waits for: the run of a destructor
+abbrev pub run_for : FreeFrame → Frame
+run_for (Hooked x h) = frame.Call (Asking (Routine (hook_moment x h)))
+run_for f = frame.Free f
+
 -- a step of a free, among the host's works
-abbrev pub lifted : FreeStep → Step
-lifted (Do.Done a p) = Do.Done a p
+abbrev pub lifted : FreeMove → Step
+lifted (Do.Done a p) = Do.Done (Freed a) p
 lifted (Do.Go f p) = Do.Go (frame.Free f) p
-lifted (Do.Emit e f p) = Do.Emit (Told e) (frame.Free f) p
-lifted (Do.Wait e f p) = Do.Wait (Told e) (frame.Free f) p
+lifted (Do.Emit e f p) = announced (event_of e) f p
+lifted (Do.Wait q f p) = Do.Call (run_for f) (frame.Free f) p
 lifted (Do.Call g f p) = Do.Call (frame.Free g) (frame.Free f) p
 
--- the reply is told next
-abbrev pub replied : Reply → Pool → Step
-replied r p = Do.Go (frame.Call (Telling r)) p
+-- the reply is told next, and then the caller is asked again
+abbrev pub replied : Ask → Reply → Pool → Step
+replied q r p = Do.Go (frame.Call (Telling (later q r) r)) p
 
-abbrev pub effect_step : Call → Pool → Step
-effect_step (call.New o size name) p = replied (reply.Number p.next) (add p Plain o size name)
-effect_step (call.Free x) p = Do.Call (frame.Free (Beginning x)) (frame.Call (Awaiting x)) p
-effect_step (call.Freekids x) p = Do.Call (frame.Free (Looping x Emptying)) (frame.Call (Awaiting x)) p
-effect_step (call.Steal o x) p = replied reply.Ok (place p o x)
-effect_step (call.Move o x) p = replied (reply.Number x.0) (place p o x)
-effect_step (call.Reparent from to x) p = replied reply.Ok (place p to x)
-effect_step (call.Rename x name) p = replied reply.Ok (rename p x name)
-effect_step (call.Parent x) p = replied (owner_reply (owner_of p.rows x)) p
-effect_step (call.Total o) p = replied (reply.Number (size_inside p.rows o)) p
-effect_step (call.Count o) p = replied (reply.Number (count_inside p.rows o)) p
-effect_step (call.Report o) p = replied (reply.Rows (report p.rows o)) p
+abbrev pub effect_step : Ask → Call → Pool → Step
+effect_step q (call.New o size name) p = replied q (reply.Number p.next) (add p Plain o size name)
+effect_step q (call.Free x) p = Do.Call (frame.Free (Beginning x)) (frame.Call (Awaiting q x)) p
+effect_step q (call.Freekids x) p = Do.Call (frame.Free (Looping x Emptying)) (frame.Call (Awaiting q x)) p
+effect_step q (call.Steal o x) p = replied q reply.Ok (place p o x)
+effect_step q (call.Move o x) p = replied q (reply.Number x.0) (place p o x)
+effect_step q (call.Reparent from to x) p = replied q reply.Ok (place p to x)
+effect_step q (call.Hook x routine) p = replied q reply.Ok (set_hook p x routine)
+effect_step q (call.Unhook x) p = replied q reply.Ok (set_hook p x 0)
+effect_step q (call.Rename x name) p = replied q reply.Ok (rename p x name)
+effect_step q (call.Parent x) p = replied q (owner_reply (owner_of p.rows x)) p
+effect_step q (call.Total o) p = replied q (reply.Number (size_inside p.rows o)) p
+effect_step q (call.Count o) p = replied q (reply.Number (count_inside p.rows o)) p
+effect_step q (call.Report o) p = replied q (reply.Rows (report p.rows o)) p
 
 -- the first refusal that applies, otherwise the effect
-abbrev pub call_step : Check → Call → Pool → Step
-call_step [] c p = effect_step c p
-call_step (why ∷ later) c p = replied (reply.No why) p
+abbrev pub call_step : Check → Ask → Call → Pool → Step
+call_step [] q c p = effect_step q c p
+call_step (why ∷ later) q c p = replied q (reply.No why) p
 
 abbrev pub caller_step : CallFrame → Pool → Step
-caller_step Asking p = Do.Wait (Asked AtRest) (frame.Call Asking) p
-caller_step (Doing c) p = call_step (refusals p c) c p
+caller_step (Asking q) p = Do.Wait (Asked q) (frame.Call (Asking q)) p
+caller_step (Doing q c) p = call_step (refusals p c) q c p
 -- it waits for the work above it
-caller_step (Awaiting x) p = Do.Done Ok p
-caller_step (Telling r) p = Do.Emit (Told (Replied r)) (frame.Call Asking) p
+caller_step (Awaiting q x) p = Do.Done (Freed Ok) p
+caller_step (Telling q r) p = Do.Emit (Told (event.Replied r)) (frame.Call (Asking q)) p
+caller_step (Returning v) p = Do.Done (Returned v) p
 
 abbrev pub step : Frame → Pool → Step
 step (frame.Call f) p = caller_step f p
 step (frame.Free f) p = lifted (free_step f p)
 
+-- what a work answers, where a free is waited for
+abbrev pub reply_in : Answer → FreeReply
+reply_in (Freed a) = a
+reply_in (Returned v) = Ok
+
+-- what a work answers, where a routine is waited for
+abbrev pub value_in : Answer → ℕ
+value_in (Freed a) = 0
+value_in (Returned v) = v
+
 abbrev pub caller_resume : CallFrame → Answer → CallFrame
-caller_resume (Awaiting x) answer = Telling (freed_reply x answer)
-caller_resume Asking answer = Asking
-caller_resume (Doing c) answer = Doing c
-caller_resume (Telling r) answer = Telling r
+caller_resume (Awaiting q x) a = Telling (later q (freed_reply x (reply_in a))) (freed_reply x (reply_in a))
+caller_resume (Asking q) a = Asking q
+caller_resume (Doing q c) a = Doing q c
+caller_resume (Telling q r) a = Telling q r
+caller_resume (Returning v) a = Returning v
+
+-- a free that has waited goes on with what it waited for
+abbrev pub freeing_resume : FreeFrame → Answer → FreeFrame
+freeing_resume (Hooked x h) a = Judged x h (value_in a)
+freeing_resume f a = free_resume f (reply_in a)
 
 abbrev pub resume : Frame → Answer → Frame
-resume (frame.Call f) answer = frame.Call (caller_resume f answer)
-resume (frame.Free f) answer = frame.Free (free_resume f answer)
+resume (frame.Call f) a = frame.Call (caller_resume f a)
+resume (frame.Free f) a = frame.Free (freeing_resume f a)
 
-abbrev pub doing : Call → Frame
-doing c = frame.Call (Doing c)
+abbrev pub doing : Ask → Call → Frame
+doing q c = frame.Call (Doing q c)
+
+abbrev pub returning : ℕ → Frame
+returning v = frame.Call (Returning v)
 
 abbrev pub caller_taken : CallFrame → Input → Option Frame
-caller_taken Asking i = heard doing i
-caller_taken (Doing c) i = None
-caller_taken (Awaiting x) i = None
-caller_taken (Telling r) i = None
+caller_taken (Asking q) i = heard q (doing q) returning i
+caller_taken (Doing q c) i = None
+caller_taken (Awaiting q x) i = None
+caller_taken (Telling q r) i = None
+caller_taken (Returning v) i = None
 
 -- the pool is what tells open descriptors from others
 abbrev pub taken : Frame → Pool → Input → Option Frame
@@ -165,17 +245,19 @@ table = record { step = step; resume = resume; taken = taken }
 -- ---- what a reply is about: the call, and the pool at its start
 
 abbrev pub note_after : Frame → Pool → Option Begun → Option Begun
-note_after (frame.Call (Doing c)) p b = Some (record { call = c; start = p })
-note_after (frame.Call Asking) p b = b
-note_after (frame.Call (Awaiting x)) p b = b
-note_after (frame.Call (Telling r)) p b = None
+note_after (frame.Call (Doing q c)) p b = Some (record { call = c; start = p })
+note_after (frame.Call (Asking q)) p b = b
+note_after (frame.Call (Awaiting q x)) p b = b
+note_after (frame.Call (Telling q r)) p b = None
+note_after (frame.Call (Returning v)) p b = None
 note_after (frame.Free f) p b = None
 
 abbrev pub about : Frame → Option Begun → Option Begun
-about (frame.Call (Telling r)) b = b
-about (frame.Call Asking) b = None
-about (frame.Call (Doing c)) b = None
-about (frame.Call (Awaiting x)) b = None
+about (frame.Call (Telling q r)) b = b
+about (frame.Call (Asking q)) b = None
+about (frame.Call (Doing q c)) b = None
+about (frame.Call (Awaiting q x)) b = None
+about (frame.Call (Returning v)) b = None
 about (frame.Free f) b = None
 
 abbrev pub notes : Notes Frame Pool Begun

@@ -4,7 +4,7 @@ use Rattle.std.specs.Fmt.{decimal}
 use Rattle.std.specs.Option.{option_map}
 use Rattle.hex.specs.Hex.{encode_lower}
 use Rattle.tree_specs.specs.declared.call.Call.{Call}
-use Rattle.tree_specs.specs.declared.call.Call.TheVariants.{New, Free, Freekids, Steal, Move, Reparent, Rename, Parent, Total, Count, Report}
+use Rattle.tree_specs.specs.declared.call.Call.TheVariants.{New, Free, Freekids, Steal, Move, Reparent, Hook, Unhook, Rename, Parent, Total, Count, Report}
 use Rattle.tree_specs.specs.declared.reply.Refusal.{Refusal}
 use Rattle.tree_specs.specs.declared.reply.Refusal.TheVariants.{NoSuch, WrongKind, Running, Held, Refused, NotParent, Loop, Dying, OverLimit, Full, Spent, InUse, BadState, TooBig, Nested}
 use Rattle.tree_specs.specs.declared.reply.Reply.{Reply}
@@ -18,6 +18,7 @@ use Rattle.tree_specs.specs.declared.report.RowKind.TheVariants as row_kinds
 use Rattle.tree_specs.specs.declared.report.ReportRow.{ReportRow}
 use Rattle.tree_specs.specs.declared.question.Ask.{Ask}
 use Rattle.tree_specs.specs.declared.question.Ask.TheVariants as asks
+use Rattle.tree_specs.specs.declared.question.Act.TheVariants as acts
 use Rattle.tree_specs.specs.declared.question.Input.{Input}
 use Rattle.tree_specs.specs.declared.question.Input.TheVariants as inputs
 use Rattle.tree_specs.specs.Objects.{owner_number}
@@ -35,6 +36,8 @@ call_text (Freekids x) = codes "freekids " ++ decimal x.0
 call_text (Steal owner x) = codes "steal " ++ decimal (owner_number owner) ++ codes " " ++ decimal x.0
 call_text (Move owner x) = codes "move " ++ decimal (owner_number owner) ++ codes " " ++ decimal x.0
 call_text (Reparent from to x) = codes "reparent " ++ decimal (owner_number from) ++ codes " " ++ decimal (owner_number to) ++ codes " " ++ decimal x.0
+call_text (Hook x routine) = codes "hook " ++ decimal x.0 ++ codes " " ++ decimal routine
+call_text (Unhook x) = codes "unhook " ++ decimal x.0
 call_text (Rename x name) = codes "rename " ++ decimal x.0 ++ codes " " ++ name
 call_text (Parent x) = codes "parent " ++ decimal x.0
 call_text (Total owner) = codes "total " ++ decimal (owner_number owner)
@@ -44,6 +47,8 @@ call_text (Report owner) = codes "report " ++ decimal (owner_number owner)
 -- an input as its line
 unfoldable pub input_text : Input → List ℕ
 input_text (inputs.Call c) = codes "call " ++ call_text c ++ newline
+input_text (inputs.Act (acts.Do c)) = codes "act " ++ call_text c ++ newline
+input_text (inputs.Act (acts.Ret value)) = codes "ret " ++ decimal value ++ newline
 
 -- ---- events
 

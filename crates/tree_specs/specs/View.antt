@@ -7,6 +7,7 @@ use Rattle.tree_specs.specs.declared.question.Input.{Input}
 use Rattle.tree_specs.specs.declared.frame.Frame.{Frame}
 use Rattle.tree_specs.specs.declared.frame.Frame.TheVariants as frame
 use Rattle.tree_specs.specs.declared.frame.CallFrame.TheVariants.{Asking}
+use Rattle.tree_specs.specs.declared.question.Ask.TheVariants.{Quiet as AtRest}
 use Rattle.tree_specs.specs.declared.frame.Answer.{Answer}
 use Rattle.tree_specs.specs.Pool.{Pool, empty}
 use Rattle.tree_specs.specs.Items.{Item}
@@ -22,7 +23,7 @@ pub record View : Type 0 where
 
 -- a host at rest over an empty pool
 abbrev pub begin : ℕ → View
-begin first = record { innermost = frame.Call Asking; below = []; pool = empty first }
+begin first = record { innermost = frame.Call (Asking AtRest); below = []; pool = empty first }
 
 -- the story still to come: its items
 abbrev pub rest_of : View → List Input → List Item

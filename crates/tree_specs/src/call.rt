@@ -16,6 +16,10 @@ pub enum Call {
     Move { owner: Owner, x: Obj },
     /// `reparent OLD NEW X`: the same, where `from` must be its owner, as `talloc_reparent` does.
     Reparent { from: Owner, to: Owner, x: Obj },
+    /// `hook X R`: gives the object a destructor, the routine from 1 upwards, as `talloc_set_destructor` does.
+    Hook { x: Obj, routine: u32 },
+    /// `unhook X`: takes its destructor away.
+    Unhook { x: Obj },
     /// `rename X NAME`: gives the object another name, as `talloc_set_name` does.
     Rename { x: Obj, name: Name },
     /// `parent X`: the number of its owner, as `talloc_parent` tells.

@@ -1,5 +1,7 @@
 use crate::call::Call;
+use crate::free_step::FreeReply;
 use crate::object::Obj;
+use crate::question::Ask;
 use crate::reply::Reply;
 
 /// What is still to do of one open work. Works stand on one another, the innermost in front.
@@ -9,24 +11,27 @@ pub enum Frame {
     Free(FreeFrame),
 }
 
-/// What is still to do for the caller, who does one call after another.
+/// What is still to do for a caller, who does one call after another. A caller is known by the question that
+/// it is asked: Quiet is the host's own caller, Routine a routine that runs.
 #[derive(Debug, Drop)]
 pub enum CallFrame {
-    /// The caller is to be asked for the next call.
-    Asking,
-    /// The call is to be done.
-    Doing { call: Call },
+    /// The question is to be asked.
+    Asking { ask: Ask },
+    /// The question was answered with this call, which is to be done.
+    Doing { ask: Ask, call: Call },
     /// The call waits for the freeing of `x`, or of its children.
-    Awaiting { x: Obj },
-    /// The reply is to be told.
-    Telling { reply: Reply },
+    Awaiting { ask: Ask, x: Obj },
+    /// The reply is to be told, and the next question comes after it.
+    Telling { ask: Ask, reply: Reply },
+    /// The routine has returned this number.
+    Returning { value: u32 },
 }
 
 /// What the children of an object are freed for.
 #[derive(Clone, Copy, Debug, PartialEq, Eq)]
 pub enum Purpose {
-    /// The object itself is removed after them.
-    Removal,
+    /// The object itself is removed after them. `hook` is the destructor that accepted this; 0 is none.
+    Removal { hook: u32 },
     /// It stays.
     Emptying,
 }
@@ -38,9 +43,21 @@ pub enum FreeFrame {
     Beginning {
         x: Obj,
     },
-    /// `x` is to leave its owner.
+    /// `x` is to be asked: its destructor is to run. Then it waits for what this returns.
+    Hooked {
+        x: Obj,
+        hook: u32,
+    },
+    /// The destructor of `x` has returned this number.
+    Judged {
+        x: Obj,
+        hook: u32,
+        value: u32,
+    },
+    /// `x` is to leave its owner. `hook` is the destructor that accepted this; 0 is none.
     Leaving {
         x: Obj,
+        hook: u32,
     },
     /// The children of `x` are to be freed.
     Looping {
@@ -58,19 +75,19 @@ pub enum FreeFrame {
         x: Obj,
         child: Obj,
         purpose: Purpose,
-        answer: Answer,
+        answer: FreeReply,
     },
     /// It is over.
     Ending {
-        answer: Answer,
+        answer: FreeReply,
     },
 }
 
 /// What a work that is over answers to the work below it.
 #[derive(Clone, Copy, Debug, PartialEq, Eq)]
 pub enum Answer {
-    /// The object is gone, or on its way.
-    Ok,
-    /// Its destructor or its handler runs, or the work that comes before its freeing.
-    Running,
+    /// A free is over.
+    Freed(FreeReply),
+    /// A routine has returned this number.
+    Returned(u32),
 }

@@ -1,5 +1,5 @@
 //! Laws of the definitions, each the clause of a function that does nothing.
-#![tactic(auto, unfolding(crate::specs::Grammar::number_of, crate::specs::Grammar::owner_of, crate::specs::Grammar::object_of, crate::specs::Grammar::name_of, crate::specs::Grammar::new_of, crate::specs::Grammar::of_object, crate::specs::Grammar::of_owner, crate::specs::Grammar::placing_of, crate::specs::Grammar::reparent_of, crate::specs::Grammar::rename_of, crate::specs::Grammar::call_of_words, crate::specs::Grammar::call_of, crate::specs::Grammar::input_of, crate::specs::Text::refusal_numbers, crate::specs::Text::row_kind_text, crate::specs::Text::row_text, crate::specs::Text::reply_text, crate::specs::Text::event_text, crate::specs::Text::ask_text, crate::specs::Text::answered_text, crate::specs::Text::item_text, crate::specs::Text::end_text, crate::specs::Text::body_text, crate::specs::Schedule::lines_of_parts, crate::specs::Schedule::lines, crate::specs::Schedule::line_input, crate::specs::Schedule::judged_from, crate::specs::Schedule::judged_lines, crate::specs::Schedule::open_question))]
+#![tactic(auto, unfolding(crate::specs::Grammar::number_of, crate::specs::Grammar::owner_of, crate::specs::Grammar::object_of, crate::specs::Grammar::name_of, crate::specs::Grammar::new_of, crate::specs::Grammar::of_object, crate::specs::Grammar::of_owner, crate::specs::Grammar::placing_of, crate::specs::Grammar::reparent_of, crate::specs::Grammar::return_of, crate::specs::Grammar::routine_of, crate::specs::Grammar::hook_of, crate::specs::Grammar::rename_of, crate::specs::Grammar::call_of_words, crate::specs::Grammar::call_of, crate::specs::Grammar::input_of, crate::specs::Text::refusal_numbers, crate::specs::Text::row_kind_text, crate::specs::Text::row_text, crate::specs::Text::reply_text, crate::specs::Text::event_text, crate::specs::Text::ask_text, crate::specs::Text::answered_text, crate::specs::Text::what_text, crate::specs::Text::item_text, crate::specs::Text::end_text, crate::specs::Text::body_text, crate::specs::Schedule::lines_of_parts, crate::specs::Schedule::lines, crate::specs::Schedule::line_input, crate::specs::Schedule::judged_from, crate::specs::Schedule::judged_lines, crate::specs::Schedule::open_question))]
 
 ghost use Rattle.std.specs.Prelude.{◌≡◌, ◌≢◌, ◌≤◌, ℕ, codes, Some, None, List, [], ◌∷◌, ◌++◌, length, slice_get};
 ghost use Rattle.step_machine.specs.Machine.{run, items as told_by};
@@ -7,16 +7,19 @@ ghost use Rattle.step_machine.specs.Machine.Outcome.{Short};
 ghost use Rattle.step_machine.specs.Noted.{noted, with_note};
 ghost use Rattle.step_machine.specs.Open.{LastIs};
 ghost use Rattle.tree_specs.specs.declared.question.Input.{Input as InputData};
+ghost use Rattle.tree_specs.specs.declared.question.Ask.TheVariants.{Quiet};
 ghost use Rattle.tree_specs.specs.declared.object.Obj.{Obj as ObjData};
 ghost use Rattle.tree_specs.specs.declared.object.Owner.{Owner as OwnerData};
 ghost use Rattle.tree_specs.specs.declared.row.Row.{Row as RowData};
 ghost use Rattle.tree_specs.specs.declared.schedule.Reason.TheVariants.{Form};
 ghost use Rattle.tree_specs.specs.Pool.{empty, kids, first_kid, next_kid};
-ghost use Rattle.tree_specs.specs.Sound.{Distinct};
+ghost use Rattle.tree_specs.specs.Forest.{Distinct};
 ghost use Rattle.tree_specs.specs.Items.{IsQuestion};
 ghost use Rattle.tree_specs.specs.Story.{story, items, asked, turns};
 ghost use Rattle.tree_specs.specs.Table.{table, notes};
 ghost use Rattle.tree_specs.specs.View.{begin, rest_of};
+ghost use Rattle.tree_specs.specs.Orderly.{Orderly};
+ghost use Rattle.tree_specs.specs.Grounded.{Grounded};
 ghost use Rattle.tree_specs.specs.Text.{transcript};
 ghost use Rattle.tree_specs.specs.Schedule.{inputs_of, judge};
 
@@ -60,10 +63,44 @@ pub fn objects_go_from_owner_to_owner()
         ≡ Some (codes "tv transcript 1\nreply 1\nreply 2\nreply 3\nreply ok\nreply 1\nreply no 6 1 0\nreply 3\nreply ok\nreply 0\nend quiet\n") }
 {}
 
+/// Worked examples: a destructor that refuses keeps its object, which goes to the former owner of the object that
+/// is freed where it is a child, and is asked again at each outer object.
+pub fn a_destructor_refuses()
+    ensures kept { transcript (items (story 1 (inputs_of (codes "tv schedule 1 pool\ncall new 0 0 a\ncall hook 1 16\ncall free 1\nret 1\ncall unhook 1\ncall free 1\n"))))
+        ≡ Some (codes "tv transcript 1\nreply 1\nreply ok\nask hook 1 16 0 0 0 0\nrefused 1 1\nreply no 5 1 1\nreply ok\nfreed 1 0\nreply ok\nend quiet\n") }
+    ensures handed_on { transcript (items (story 1 (inputs_of (codes "tv schedule 1 pool\ncall new 0 0 g\ncall new 1 0 p\ncall new 2 0 a\ncall new 2 0 b\ncall new 2 0 c\ncall hook 4 16\ncall free 2\nret 1\ncall parent 4\n"))))
+        ≡ Some (codes "tv transcript 1\nreply 1\nreply 2\nreply 3\nreply 4\nreply 5\nreply ok\nfreed 5 0\nask hook 4 16 0 0 0 0\nrefused 4 1\nmoved 4 1\nfreed 3 0\nfreed 2 0\nreply ok\nreply 1\nend quiet\n") }
+    ensures asked_again { transcript (items (story 1 (inputs_of (codes "tv schedule 1 pool\ncall new 0 0 g\ncall new 1 0 p\ncall new 2 0 c\ncall hook 3 16\ncall free 1\nret 1\nret 2\ncall parent 3\n"))))
+        ≡ Some (codes "tv transcript 1\nreply 1\nreply 2\nreply 3\nreply ok\nask hook 3 16 0 0 0 0\nrefused 3 1\nmoved 3 1\nfreed 2 0\nask hook 3 16 0 0 0 0\nrefused 3 2\nmoved 3 0\nfreed 1 0\nreply ok\nreply 0\nend quiet\n") }
+{}
+
+/// Worked examples: a destructor frees its own owner, moves itself, and replaces itself; what comes of it after it
+/// has accepted and after it has refused.
+pub fn a_destructor_acts()
+    ensures owner_freed { transcript (items (story 1 (inputs_of (codes "tv schedule 1 pool\ncall new 0 0 p\ncall new 1 0 c\ncall hook 2 16\ncall free 2\nact free 1\nret 0\n"))))
+        ≡ Some (codes "tv transcript 1\nreply 1\nreply 2\nreply ok\nask hook 2 16 0 0 0 0\nmoved 2 0\nfreed 1 0\nreply ok\nask hook 2 16 0 0 0 1\naccepted 2\nfreed 2 16\nreply ok\nend quiet\n") }
+    ensures owner_freed_and_refused { transcript (items (story 1 (inputs_of (codes "tv schedule 1 pool\ncall new 0 0 p\ncall new 1 0 c\ncall hook 2 16\ncall free 2\nact free 1\nret 3\ncall parent 2\n"))))
+        ≡ Some (codes "tv transcript 1\nreply 1\nreply 2\nreply ok\nask hook 2 16 0 0 0 0\nmoved 2 0\nfreed 1 0\nreply ok\nask hook 2 16 0 0 0 1\nrefused 2 3\nreply no 5 2 3\nreply 0\nend quiet\n") }
+    ensures moved_itself { transcript (items (story 1 (inputs_of (codes "tv schedule 1 pool\ncall new 0 0 p\ncall new 0 0 q\ncall new 1 0 c\ncall hook 3 16\ncall free 1\nact steal 2 3\nret 1\ncall parent 3\n"))))
+        ≡ Some (codes "tv transcript 1\nreply 1\nreply 2\nreply 3\nreply ok\nask hook 3 16 0 0 0 0\nreply ok\nask hook 3 16 0 0 0 1\nrefused 3 1\nfreed 1 0\nreply ok\nreply 2\nend quiet\n") }
+    ensures replaced_itself { transcript (items (story 1 (inputs_of (codes "tv schedule 1 pool\ncall new 0 0 a\ncall hook 1 16\ncall free 1\nact hook 1 17\nret 1\ncall free 1\nact hook 1 18\nret 0\n"))))
+        ≡ Some (codes "tv transcript 1\nreply 1\nreply ok\nask hook 1 16 0 0 0 0\nreply ok\nask hook 1 16 0 0 0 1\nrefused 1 1\nreply no 5 1 1\nask hook 1 17 0 0 0 0\nreply ok\nask hook 1 17 0 0 0 1\naccepted 1\nfreed 1 17\nreply ok\nend quiet\n") }
+    ensures calls_on_the_dying { transcript (items (story 1 (inputs_of (codes "tv schedule 1 pool\ncall new 0 0 p\ncall new 1 0 a\ncall new 1 0 b\ncall hook 3 16\ncall free 1\nact free 2\nact parent 1\nact hook 1 16\nact new 1 0 c\nret 9\n"))))
+        ≡ Some (codes "tv transcript 1\nreply 1\nreply 2\nreply 3\nreply ok\nask hook 3 16 0 0 0 0\nfreed 2 0\nreply ok\nask hook 3 16 0 0 0 1\nreply no 8 1\nask hook 3 16 0 0 0 2\nreply no 8 1\nask hook 3 16 0 0 0 3\nreply 4\nask hook 3 16 0 0 0 4\nrefused 3 9\nmoved 3 0\nfreed 4 0\nfreed 1 0\nreply ok\nend quiet\n") }
+{}
+
+/// Worked examples: two destructors that free each other, and an heir that stands inside the child.
+pub fn destructors_are_nested()
+    ensures each_other { transcript (items (story 1 (inputs_of (codes "tv schedule 1 pool\ncall new 0 0 a\ncall new 0 0 b\ncall hook 1 16\ncall hook 2 17\ncall free 1\nact free 2\nact free 1\nact steal 2 1\nret 0\nret 0\n"))))
+        ≡ Some (codes "tv transcript 1\nreply 1\nreply 2\nreply ok\nreply ok\nask hook 1 16 0 0 0 0\nask hook 2 17 0 0 0 0\nreply no 3 1\nask hook 2 17 0 0 0 1\nreply ok\nask hook 2 17 0 0 0 2\naccepted 2\nmoved 1 0\nfreed 2 17\nreply ok\nask hook 1 16 0 0 0 1\naccepted 1\nfreed 1 16\nreply ok\nend quiet\n") }
+    ensures heir_inside { transcript (items (story 1 (inputs_of (codes "tv schedule 1 pool\ncall new 0 0 g\ncall new 1 0 p\ncall new 2 0 c\ncall hook 3 16\ncall free 2\nact steal 3 1\nret 1\ncall parent 1\n"))))
+        ≡ Some (codes "tv transcript 1\nreply 1\nreply 2\nreply 3\nreply ok\nask hook 3 16 0 0 0 0\nreply ok\nask hook 3 16 0 0 0 1\nrefused 3 1\nmoved 3 0\nfreed 2 0\nreply ok\nreply 3\nend quiet\n") }
+{}
+
 /// The stated number of turns is enough for every list of inputs, and more turns give the same.
 pub fn turns_are_enough()
-    ensures enough { (first : ℕ) (is : List InputData) → 1 ≤ first → asked (turns 0 (length is)) (empty first) is ≢ Short }
-    ensures same { (first n : ℕ) (is : List InputData) → 1 ≤ first → turns 0 (length is) ≤ n → asked n (empty first) is ≡ asked (turns 0 (length is)) (empty first) is }
+    ensures enough { (first : ℕ) (is : List InputData) → 1 ≤ first → asked (turns 0 (length is)) Quiet (empty first) is ≢ Short }
+    ensures same { (first n : ℕ) (is : List InputData) → 1 ≤ first → turns 0 (length is) ≤ n → asked n Quiet (empty first) is ≡ asked (turns 0 (length is)) Quiet (empty first) is }
 {}
 
 /// Every story ends with the question that is open after it.
@@ -76,4 +113,16 @@ pub fn every_story_ends_with_its_question()
 pub fn the_table_tells_the_story()
     ensures scenes { (first : ℕ) (is : List InputData) → 1 ≤ first → told_by (run (noted notes table) (turns 0 (length is)) (with_note None (begin first).innermost) (empty first) is) ≡ story first is }
     ensures items { (first : ℕ) (is : List InputData) → 1 ≤ first → rest_of (begin first) is ≡ items (story first is) }
+{}
+
+/// Every story is orderly: a destructor accepts at most once, a freed object with a destructor had it accept, and
+/// nothing starts for a freed object.
+pub fn every_story_is_orderly()
+    ensures { (first : ℕ) (is : List InputData) → 1 ≤ first → Orderly (items (story first is)) }
+{}
+
+/// Every story is grounded: to free a live object succeeds, or is refused while its destructor or handler runs, or
+/// right after its destructor refused, or while it is held.
+pub fn every_story_is_grounded()
+    ensures { (first : ℕ) (is : List InputData) → 1 ≤ first → Grounded (story first is) }
 {}

@@ -21,9 +21,21 @@ pub enum Ask {
     Write(u32, Octets),
 }
 
+/// What a routine does.
+#[derive(Debug, Drop)]
+pub enum Act {
+    /// It does a call. The reply is told, and then it is asked again.
+    Do(Call),
+    /// It returns a number, and is over. A destructor accepts with 0 and refuses with any other number
+    /// (`talloc_set_destructor` knows -1 alone).
+    Ret(u32),
+}
+
 /// An answer to the host's question.
 #[derive(Debug, Drop)]
 pub enum Input {
     /// A call, where the host is quiet.
     Call(Call),
+    /// What a routine does, where one runs.
+    Act(Act),
 }

@@ -36,15 +36,14 @@ fn plain_row(
     }
 }
 
-// The host tells a report of these objects, each by its depth, its number, its size and its name. That of the root
+// The reply to a report of these objects, each by its depth, its number, its size and its name. That of the root
 // begins with a row for it.
-fn tells_report(
+pub(super) fn rows_of(
     rt: &impl Abort,
     alloc: Global,
-    host: &mut Host,
     from: u64,
     want: &[(u32, u64, u64, &str)],
-) -> Result<(), Fail> {
+) -> Result<Reply, Fail> {
     let mut rows = Vec::new(alloc);
     if from == 0 {
         rows.push(root_row(rt, alloc))?;
@@ -52,7 +51,18 @@ fn tells_report(
     for (depth, id, size, text) in want {
         rows.push(plain_row(rt, alloc, *depth, *id, *size, text))?;
     }
-    let told = Event::Replied(Reply::Rows(ReportRows::make(rows)));
+    Ok(Reply::Rows(ReportRows::make(rows)))
+}
+
+// The host tells such a report.
+fn tells_report(
+    rt: &impl Abort,
+    alloc: Global,
+    host: &mut Host,
+    from: u64,
+    want: &[(u32, u64, u64, &str)],
+) -> Result<(), Fail> {
+    let told = Event::Replied(rows_of(rt, alloc, from, want)?);
     tells(rt, host, report(from), &[told]);
     Ok(())
 }

@@ -1,7 +1,9 @@
 use crate::{read_header, read_line, write_end, write_input};
+use std::alloc::Global;
+use std::process::Abort;
 use std::test::Fail;
 use text_forms::{FormFault, read_name};
-use tree_specs::{Ask, Call, Input, Mode, Obj, Owner};
+use tree_specs::{Act, Ask, Call, Input, Mode, Obj, Owner};
 
 #[test]
 fn reads_a_call_of_new(rt: HostRuntime) -> Result<(), Fail> {
@@ -11,17 +13,78 @@ fn reads_a_call_of_new(rt: HostRuntime) -> Result<(), Fail> {
             assert_eq!(rt; size, 10);
             assert_eq!(rt; name.as_slice(), b"a-b".as_slice());
         }
-        Input::Call(_other) => assert!(rt; false, "another input"),
+        Input::Call(_other) => assert!(rt; false, "another call"),
+        Input::Act(_act) => assert!(rt; false, "an act"),
     }
     Ok(())
 }
 
 #[test]
 fn writes_what_was_read(rt: HostRuntime) -> Result<(), Fail> {
-    let mut out = Vec::new(rt.alloc());
-    let input = read_line(rt.alloc(), b"call new 7 10 a-b")?;
-    write_input(&input, &mut out)?;
-    assert_eq!(rt; out.as_slice(), b"call new 7 10 a-b\n".as_slice());
+    let lines = [
+        b"call new 7 10 a-b".as_slice(),
+        b"call hook 1 16".as_slice(),
+        b"call unhook 1".as_slice(),
+        b"act new 7 10 a-b".as_slice(),
+        b"act free 9".as_slice(),
+        b"act freekids 9".as_slice(),
+        b"act steal 7 9".as_slice(),
+        b"act move 0 9".as_slice(),
+        b"act reparent 7 0 9".as_slice(),
+        b"act hook 1 4294967295".as_slice(),
+        b"act unhook 1".as_slice(),
+        b"act rename 9 a-b".as_slice(),
+        b"act parent 9".as_slice(),
+        b"act total 0".as_slice(),
+        b"act count 7".as_slice(),
+        b"act report 0".as_slice(),
+        b"ret 0".as_slice(),
+        b"ret 4294967295".as_slice(),
+    ];
+    for line in lines {
+        let mut out = Vec::new(rt.alloc());
+        let input = read_line(rt.alloc(), line)?;
+        write_input(&input, &mut out)?;
+        assert_eq!(rt; out.pop(), Some(b'\n'), "at {line:?}");
+        assert_eq!(rt; out.as_slice(), line);
+    }
+    Ok(())
+}
+
+#[test]
+fn reads_acts(rt: HostRuntime) -> Result<(), Fail> {
+    match read_line(rt.alloc(), b"act new 7 10 a-b")? {
+        Input::Act(Act::Do(Call::New { owner, size, name })) => {
+            assert_eq!(rt; owner, Owner::Of(Obj(7)));
+            assert_eq!(rt; size, 10);
+            assert_eq!(rt; name.as_slice(), b"a-b".as_slice());
+        }
+        Input::Act(_other) => assert!(rt; false, "another act"),
+        Input::Call(_call) => assert!(rt; false, "a call"),
+    }
+    match read_line(rt.alloc(), b"act hook 1 16")? {
+        Input::Act(Act::Do(Call::Hook { x, routine })) => {
+            assert_eq!(rt; x, Obj(1));
+            assert_eq!(rt; routine, 16);
+        }
+        _ => assert!(rt; false, "another input"),
+    }
+    Ok(())
+}
+
+#[test]
+fn reads_returns(rt: HostRuntime) -> Result<(), Fail> {
+    let cases = [
+        (b"ret 0".as_slice(), 0),
+        (b"ret 1".as_slice(), 1),
+        (b"ret 4294967295".as_slice(), 4_294_967_295),
+    ];
+    for (line, want) in cases {
+        match read_line(rt.alloc(), line)? {
+            Input::Act(Act::Ret(value)) => assert_eq!(rt; value, want, "at {line:?}"),
+            _ => assert!(rt; false, "another input"),
+        }
+    }
     Ok(())
 }
 
@@ -32,6 +95,16 @@ fn reads_a_call_of_free(rt: HostRuntime) -> Result<(), Fail> {
         _ => assert!(rt; false, "another input"),
     }
     Ok(())
+}
+
+// None of these lines is an input.
+fn are_no_lines(rt: &impl Abort, alloc: Global, lines: &[&[u8]]) {
+    for line in lines {
+        assert!(rt;
+            matches!(read_line(alloc, line), Err(FormFault::NoForm)),
+            "at {line:?}"
+        );
+    }
 }
 
 #[test]
@@ -45,14 +118,45 @@ fn reads_no_line(rt: HostRuntime) {
         b"call  free 9".as_slice(),
         b"Call free 9".as_slice(),
         b"free 9".as_slice(),
-        b"ret 0".as_slice(),
+        b"call ret 0".as_slice(),
     ];
-    for line in lines {
-        assert!(rt;
-            matches!(read_line(rt.alloc(), line), Err(FormFault::NoForm)),
-            "at {line:?}"
-        );
-    }
+    are_no_lines(&rt, rt.alloc(), &lines);
+}
+
+#[test]
+fn reads_no_act(rt: HostRuntime) {
+    let lines = [
+        b"act".as_slice(),
+        b"act ".as_slice(),
+        b"act fre".as_slice(),
+        b"act free".as_slice(),
+        b"act free 9 9".as_slice(),
+        b"act hook 1 0".as_slice(),
+        b"act call free 9".as_slice(),
+        b"act ret 0".as_slice(),
+        b"act  free 9".as_slice(),
+        b"Act free 9".as_slice(),
+        b"act free 9\n".as_slice(),
+    ];
+    are_no_lines(&rt, rt.alloc(), &lines);
+}
+
+#[test]
+fn reads_no_return(rt: HostRuntime) {
+    let lines = [
+        b"ret".as_slice(),
+        b"ret ".as_slice(),
+        b"ret 01".as_slice(),
+        b"ret 4294967296".as_slice(),
+        b"ret -1".as_slice(),
+        b"ret 0 ".as_slice(),
+        b"ret 0 0".as_slice(),
+        b"ret  0".as_slice(),
+        b"Ret 0".as_slice(),
+        b"ret free 9".as_slice(),
+        b"ret 0\n".as_slice(),
+    ];
+    are_no_lines(&rt, rt.alloc(), &lines);
 }
 
 #[test]

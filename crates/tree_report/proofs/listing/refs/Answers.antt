@@ -1,5 +1,5 @@
 use Rattle.std.proofs.Common.{sym}
-use Rattle.tree_report.proofs.References.{no-refs}
+use Rattle.tree_specs.proofs.References.{no-refs}
 use Rattle.tree_report.proofs.listing.refs.Goals as goal
 
 pub returns : goal.returns

@@ -1,15 +1,20 @@
-use Rattle.std.proofs.Common.{arith}
-use Rattle.tree_report.proofs.Walking.{start-deep}
-use Rattle.tree_report.proofs.Weighing.{count-weight, count-fits}
+use Rattle.std.proofs.Common.{rules, ◌∙◌}
+use borrow.Author.Tests.{tests}
+use Rattle.std.proofs.lemmas.Iterator.Consumers.{sum_by_from_yields_List, fits_by_from_yields_list}
+use Rattle.tree_report.specs.Walk.{walk_from}
+use Rattle.tree_report.specs.Weights.{counted, weight_of}
+use Rattle.tree_report.proofs.Weighing.{weights, whole-weight, count-weight, weight-fits, counted-small}
 use Rattle.tree_report.proofs.sums.count.Goals as goal
 
-pub loop-at-init : goal.loop-at-init
-loop-at-init c = record {
-  deep = start-deep c.args.tree.now.rows c.first_place.result c.args.from c.first_place.ensures;
-  sum = omega (arith, count-weight c.args.tree.now.rows c.args.tree.now.next c.first_place.result c.args.from c.know_tree.ensures c.first_place.ensures);
-}
+pub sum-requires-clause-fits : goal.sum-requires-clause-fits
+sum-requires-clause-fits c =
+    fits_by_from_yields_list (weight_of counted c.args.tree.now.rows) (walk_from c.args.tree.now.rows c.args.from) c.map.result _
+    (weights _ counted _ _ (c.map.ensures.source ∙ c.new.ensures.places) c.map.ensures.closure (λ x r q k. search (rules, tests)))
+    (weight-fits counted _ _ _ counted-small c.new.ensures.sound)
 
-pub overflow_add-sum : goal.overflow_add-sum
-overflow_add-sum c =
-    let rest = rw c.in-Some.is at c.loop-at.invariant.sum in
-    omega (arith, rest, count-fits c.args.tree.now.rows c.args.tree.now.next c.args.from c.know_tree.ensures, c.own_count-sum.ensures)
+pub returns : goal.returns
+returns c =
+    sum_by_from_yields_List (weight_of counted c.args.tree.now.rows) (walk_from c.args.tree.now.rows c.args.from) c.map.result _ c.sum.ensures.ran
+    (weights _ counted _ _ (c.map.ensures.source ∙ c.new.ensures.places) c.map.ensures.closure (λ x r q k. search (rules, tests)))
+    ∙ whole-weight counted c.args.tree.now.rows c.args.tree.now.next c.args.from c.new.ensures.sound
+    ∙ count-weight c.args.tree.now.rows c.args.tree.now.next c.args.from c.new.ensures.sound

@@ -1,8 +1,6 @@
-use Rattle.std.proofs.Common.{sym, ap, subst}
-use Rattle.tree_specs.specs.Pool.{Pool}
+use Rattle.std.proofs.Common.{refl, sym, ap, subst}
+use Rattle.tree_specs.specs.Pool.{Pool, left_row}
 use Rattle.tree_specs.specs.Inside.{NoReferences}
-use Rattle.std.proofs.Common.{refl}
-use Rattle.tree_specs.specs.Pool.{left_row}
 use Rattle.tree_specs.proofs.Plainness.{plain-changed}
 use Rattle.tree_report.proofs.tests.detach.Goals as goal
 

@@ -1,35 +1,26 @@
-use Rattle.std.proofs.Common.{◌≡◌, ◌∙◌, ◌∷◌, refl, sym, ap, subst, arith, false}
-use Rattle.tree_specs.specs.declared.frame.Frame.{Frame}
-use Rattle.tree_specs.specs.Items.Item.{Told}
-use Rattle.tree_specs.specs.Table.{step}
-use Rattle.tree_specs.specs.View.{View, rest_of, question_of}
-use Rattle.host_core.specs.Hosts.{view_of, asking, moved, next_of}
-use Rattle.host_core.specs.Promises.{Waits}
-use Rattle.host_core.proofs.Steps.{step-rests}
-use Rattle.host_core.proofs.Onward.{AfterEvent, told, no_question, asking-false, waits-rest}
+use Rattle.std.proofs.Common.{sym, ◌∙◌}
+use Rattle.host_core.proofs.Nexts.{caller-parts, caller-law, free-parts, free-law}
 use Rattle.host_core.proofs.host.Host.next.Goals as goal
 
--- a question is open, and nothing was touched
-pub returns-then-is_asking : goal.returns-then-is_asking
-returns-then-is_asking c =
-    let v : View = view_of c.self.inside.innermost c.self.inside.below.items c.self.inside.tree in
-    (subst Waits c.self.view_is (waits-rest v c.self.invariant.0.whole (sym c.is_asking.ensures ∙ c.if-is_asking.true)), refl)
+pub invariant_of-self : goal.invariant_of-self
+invariant_of-self c =
+    let n = caller-parts c.self.inside.active c.in-Caller.frame c.self.inside.callers.items c.self.inside.engine c.self.inside.tree _ (sym c.replace.ensures.value ∙ c.in-Caller.is) c.self.invariant.0 c.self.invariant.1 in
+    rw c.tell-next.ensures.frame (n.ready, n.speaks)
+
+pub returns-in-Caller : goal.returns-in-Caller
+returns-in-Caller c =
+    let e = sym c.replace.ensures.value ∙ c.in-Caller.is in
+    let n = caller-parts c.self.inside.active c.in-Caller.frame c.self.inside.callers.items c.self.inside.engine c.self.inside.tree _ e c.self.invariant.0 c.self.invariant.1 in
+    rw (c.tell-next.ensures.event, c.tell-next.ensures.frame) (caller-law c.self.inside.active c.in-Caller.frame c.args.self.now c.self.inside.callers.items c.self.inside.engine c.self.inside.tree _ e c.self.view_is n)
 
 pub settle-requires : goal.settle-requires
 settle-requires c =
-    let v : View = view_of c.self.inside.innermost c.self.inside.below.items c.self.inside.tree in
-    let w : View = view_of c.advance-progress.result.now c.advance-progress.new.below.items c.advance-progress.new.tree in
-    let m : next_of v ≡ (c.advance-progress.result.event, w) = ap (λ (f : Frame). moved (step f v.pool) v.below) (sym c.replace-now.ensures.value) ∙ c.advance-progress.ensures.moved in
-    let t = told v w c.advance-progress.result.event c.self.invariant.0.whole c.self.invariant.1 (asking-false _ (sym c.is_asking.ensures ∙ c.if-is_asking.false)) m in
-    let a : AfterEvent v w t.0 = t.2 in
-    record { whole = a.whole; places = omega (arith, a.narrow, c.self.invariant.0.places, c.advance-progress.ensures.kept); rows = omega (arith, a.calm); rests = step-rests _ _ _ a.whole.sound a.calm }
+    (free-parts c.self.inside.active c.self.inside.callers.items c.self.inside.engine c.self.inside.tree c.step-step.result c.step-step.new.self c.step-step.new.tree _ (sym c.replace.ensures.value ∙ c.in-Freeing.is) c.self.invariant.0 c.self.invariant.1
+    c.step-step.ensures.steps c.step-step.ensures.kept c.step-step.ensures.goes_on c.step-step.ensures.room).ready
 
-pub returns : goal.returns
-returns c =
-    let v : View = view_of c.self.inside.innermost c.self.inside.below.items c.self.inside.tree in
-    let w : View = view_of c.advance-progress.result.now c.advance-progress.new.below.items c.advance-progress.new.tree in
-    let m : next_of v ≡ (c.advance-progress.result.event, w) = ap (λ (f : Frame). moved (step f v.pool) v.below) (sym c.replace-now.ensures.value) ∙ c.advance-progress.ensures.moved in
-    let asks : asking v.innermost ≡ false = sym c.is_asking.ensures ∙ c.if-is_asking.false in
-    let t = told v w c.advance-progress.result.event c.self.invariant.0.whole c.self.invariant.1 (asking-false _ asks) m in
-    let a : AfterEvent v w t.0 = t.2 in
-    rw t.1 (ap question_of (sym c.self.view_is) ∙ no_question v asks, λ is. ap (λ (z : View). rest_of z is) (sym c.self.view_is) ∙ a.law is ∙ ap (λ l. Told t.0 ∷ l) (c.settle.ensures.same is))
+pub returns-in-Freeing : goal.returns-in-Freeing
+returns-in-Freeing c =
+    let e = sym c.replace.ensures.value ∙ c.in-Freeing.is in
+    let n = free-parts c.self.inside.active c.self.inside.callers.items c.self.inside.engine c.self.inside.tree c.step-step.result c.step-step.new.self c.step-step.new.tree _ e c.self.invariant.0 c.self.invariant.1
+    c.step-step.ensures.steps c.step-step.ensures.kept c.step-step.ensures.goes_on c.step-step.ensures.room in
+    rw c.event.ensures (free-law c.self.inside.active c.args.self.now c.self.inside.callers.items c.self.inside.engine c.self.inside.tree c.step-step.result c.step-step.new.self c.step-step.new.tree _ _ e c.self.view_is n c.settle.ensures.along)

@@ -1,9 +1,8 @@
-use Rattle.std.proofs.Common.{◌∙◌, sym, subst}
-use Rattle.host_core.specs.Hosts.{view_of}
+use Rattle.std.proofs.Common.{subst}
 use Rattle.host_core.specs.Promises.{Waits}
-use Rattle.host_core.proofs.Onward.{waits-rest}
+use Rattle.host_core.proofs.Offering.{waits-some}
 use Rattle.host_core.proofs.host.Host.question.Goals as goal
 
-pub returns-then-is_asking-clause-waits : goal.returns-then-is_asking-clause-waits
-returns-then-is_asking-clause-waits c = λ some.
-    subst Waits c.self.view_is (waits-rest (view_of c.self.inside.innermost c.self.inside.below.items c.self.inside.tree) c.self.invariant.0.whole (sym c.is_asking.ensures ∙ c.if-is_asking.true))
+pub returns-clause-waits : goal.returns-clause-waits
+returns-clause-waits c = λ some.
+    subst Waits c.self.view_is (waits-some (λ b. b.now) c.asked.result c.self.inside.active c.self.inside.callers.items c.self.inside.engine c.self.inside.tree c.self.invariant.0.whole c.asked.ensures some)

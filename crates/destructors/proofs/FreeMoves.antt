@@ -1,0 +1,88 @@
+-- What moves there are.
+use Rattle.std.proofs.Common.{◌≡◌, ℕ, ◌<◌, nat_eq, Option, Some, None, refl, sym, subst, arith}
+use Rattle.step_machine.specs.Machine.{Move as Do}
+use Rattle.tree_specs.specs.declared.frame.FreeFrame.{FreeFrame}
+use Rattle.tree_specs.specs.declared.frame.FreeFrame.TheVariants.{Beginning, Hooked, Judged, Leaving, Looping, Trying, Tried, Ending}
+use Rattle.tree_specs.specs.declared.frame.Purpose.{Purpose}
+use Rattle.tree_specs.specs.declared.frame.Purpose.TheVariants.{Removal, Emptying}
+use Rattle.tree_specs.specs.declared.free_step.FreeReply.TheVariants.{Ok, Running, Refused}
+use Rattle.tree_specs.specs.declared.free_step.FreeStep.{FreeStep}
+use Rattle.tree_specs.specs.declared.free_step.FreeStep.TheVariants as step
+use Rattle.tree_specs.specs.declared.object.Obj.{Obj}
+use Rattle.tree_specs.specs.declared.object.Owner.TheVariants.{Of}
+use Rattle.tree_specs.specs.declared.row.Row.{Row}
+use Rattle.tree_specs.specs.declared.row.Mark.{Mark}
+use Rattle.tree_specs.specs.declared.row.Mark.TheVariants.{Quiet, Asked, Busy, Doomed, Dying}
+use Rattle.tree_specs.specs.Pool.{Pool, row_of, is_below, owner_of, first_kid}
+use Rattle.tree_specs.specs.Table.{FreeMove, free_step, begin_step, begin_by, loop_step}
+use Rattle.tree_specs.proofs.Numbered.{by_test}
+use Rattle.tree_links.specs.Links.{Links}
+use Rattle.destructors.specs.Room.{work_places}
+use Rattle.destructors.specs.Engine.{HasRoom}
+
+-- a work that may wait for a free
+abbrev pub IsNoHook : FreeFrame → Type 0
+IsNoHook (Hooked x h) = ⊥
+IsNoHook (Beginning x) = Unit {0}
+IsNoHook (Judged x h v) = Unit {0}
+IsNoHook (Leaving x h) = Unit {0}
+IsNoHook (Looping x purpose) = Unit {0}
+IsNoHook (Trying x c purpose) = Unit {0}
+IsNoHook (Tried x c purpose a) = Unit {0}
+IsNoHook (Ending a) = Unit {0}
+
+-- what a free tells while it goes on
+abbrev pub IsNews : FreeStep → Type 0
+IsNews (step.Ask x) = ⊥
+IsNews (step.Refused x v) = Unit {0}
+IsNews (step.Accepted x) = Unit {0}
+IsNews (step.Left x from) = Unit {0}
+IsNews (step.Moved x from owner) = Unit {0}
+IsNews (step.Gone x h) = Unit {0}
+IsNews (step.Done a) = ⊥
+
+-- the work of an object's destructor asks for its run
+abbrev pub AsksFor : FreeStep → FreeFrame → Type 0
+AsksFor (step.Ask x) (Hooked y h) = x ≡ y
+AsksFor t f = ⊥
+
+-- a move of a work over a pool: only a loop over children puts a work before itself, and only the work of a destructor asks and stays
+abbrev pub IsMoveOf : FreeFrame → Pool → FreeMove → Type 0
+IsMoveOf f p (Do.Done a q) = Unit {0}
+IsMoveOf f p (Do.Go g q) = Unit {0}
+IsMoveOf f p (Do.Emit t g q) = IsNews t
+IsMoveOf f p (Do.Wait t g q) = (g ≡ f) × (q ≡ p) × AsksFor t f
+IsMoveOf f p (Do.Call g h q) = (work_places f ≡ 1) × IsNoHook h
+
+pub is_move : (f : FreeFrame) (p : Pool) → IsMoveOf f p (free_step f p)
+is_move (Beginning x) p = each (row_of p.rows x)
+  where
+    marks : (h : ℕ) (m : Mark) → IsMoveOf (Beginning x) p (begin_by x h m p)
+    marks h Quiet = by_test (nat_eq h 0) (λ t. rw t tt) (λ t. rw t tt)
+    marks h Asked = tt
+    marks h Busy = tt
+    marks h Doomed = tt
+    marks h (Dying former) = tt
+
+    each : (o : Option Row) → IsMoveOf (Beginning x) p (begin_step x o p)
+    each None = tt
+    each (Some r) = marks r.hook r.mark
+is_move (Hooked x h) p = (refl, refl, refl)
+is_move (Judged x h v) p = by_test (nat_eq v 0) (λ t. rw t tt) (λ t. rw t tt)
+is_move (Leaving x h) p = tt
+is_move (Looping x purpose) p = each purpose (first_kid p.rows (Of x))
+  where
+    each : (purpose : Purpose) (o : Option Obj) → IsMoveOf (Looping x purpose) p (loop_step x purpose o p)
+    each purpose (Some c) = (refl, tt)
+    each (Removal h) None = tt
+    each Emptying None = tt
+is_move (Trying x c purpose) p = tt
+is_move (Tried x c purpose Ok) p = tt
+is_move (Tried x c purpose Running) p = by_test (is_below (owner_of p.rows c) (Of x)) (λ t. rw t tt) (λ t. rw t tt)
+is_move (Tried x c purpose (Refused v)) p = by_test (is_below (owner_of p.rows c) (Of x)) (λ t. rw t tt) (λ t. rw t tt)
+is_move (Ending a) p = tt
+
+-- there is room for a work that is put below another
+pub push_room : (f : FreeFrame) (tree : Links) (p q : Pool) (g h : FreeFrame) → HasRoom (Some f) tree → Do.Call g h q ≡ free_step f p → 0 < tree.room
+push_room f tree p q g h room e =
+    let w : (work_places f ≡ 1) × IsNoHook h = subst (IsMoveOf f p) (sym e) (is_move f p) in omega (arith, room, w.0)

@@ -1,0 +1,294 @@
+-- What the moves of the open frees keep.
+use Rattle.std.proofs.Common.{◌≡◌, ℕ, ◌+◌, ◌≤◌, ◌<◌, nat_eq, List, [], ◌∷◌, map, length, Option, Some, None, true, false, refl, sym, ap, subst, arith}
+use Rattle.step_machine.specs.Machine.{Move as Do}
+use Rattle.tree_specs.specs.declared.frame.Frame.{Frame}
+use Rattle.tree_specs.specs.declared.frame.Frame.TheVariants as frame
+use Rattle.tree_specs.specs.declared.frame.CallFrame.{CallFrame}
+use Rattle.tree_specs.specs.declared.frame.FreeFrame.{FreeFrame}
+use Rattle.tree_specs.specs.declared.frame.FreeFrame.TheVariants.{Beginning, Hooked, Judged, Leaving, Looping, Trying, Tried, Ending}
+use Rattle.tree_specs.specs.declared.frame.Purpose.{Purpose}
+use Rattle.tree_specs.specs.declared.frame.Purpose.TheVariants.{Removal, Emptying}
+use Rattle.tree_specs.specs.declared.frame.Answer.TheVariants.{Freed}
+use Rattle.tree_specs.specs.declared.free_step.FreeReply.{FreeReply}
+use Rattle.tree_specs.specs.declared.free_step.FreeReply.TheVariants.{Ok, Running, Refused as IsRefused}
+use Rattle.tree_specs.specs.declared.free_step.FreeStep.{FreeStep}
+use Rattle.tree_specs.specs.declared.free_step.FreeStep.TheVariants.{Ask, Refused, Accepted, Left, Moved, Gone, Done}
+use Rattle.tree_specs.specs.declared.object.Obj.{Obj}
+use Rattle.tree_specs.specs.declared.object.Owner.{Owner}
+use Rattle.tree_specs.specs.declared.object.Owner.TheVariants.{Of}
+use Rattle.tree_specs.specs.declared.row.Row.{Row}
+use Rattle.tree_specs.specs.declared.row.Mark.{Mark}
+use Rattle.tree_specs.specs.declared.row.Mark.TheVariants.{Quiet, Asked, Busy, Doomed, Dying}
+use Rattle.tree_specs.specs.Pool.{Pool, row_of, is_below, owner_of, first_kid, marked_row, hooked_row, left_row, set_mark}
+use Rattle.tree_specs.specs.Heirs.{heir}
+use Rattle.tree_specs.specs.Inside.{total}
+use Rattle.tree_specs.specs.Table.{FreeMove, free_step, begin_step, loop_step, hand_on_step, caller_resume}
+use Rattle.tree_specs.specs.Measure.{below_cost, loop_kids, top_cost, cost}
+use Rattle.tree_specs.specs.Sound.{InRun, InLoop, claims, IsLive, Sound}
+use Rattle.tree_specs.specs.Whole.{Seated, Whole}
+use Rattle.tree_specs.proofs.Checks.{MayBePlaced}
+use Rattle.tree_specs.proofs.Numbered.{by_test}
+use Rattle.tree_specs.proofs.Rows.{total-without, total-placed, total-changed}
+use Rattle.tree_specs.proofs.Keeps.{dying-row, running-row, claim-here, heir-placed}
+use Rattle.tree_specs.proofs.Falls.{Room, lower, total-kept}
+use Rattle.tree_specs.proofs.Rest.{whole-kept}
+use Rattle.tree_links.specs.Links.{MayPlace}
+use Rattle.destructors.specs.Frees.{OpenFrees, answered, moved, moves}
+use Rattle.destructors.specs.Works.{standing, free_view, AtWork, IsAtWork, IsAwaiting, GoesOn}
+use Rattle.destructors.specs.Moves.{IsLiveRow, MayHandOn, FreeRests}
+use Rattle.destructors.specs.Room.{mark_places, row_places, work_places, wanted}
+use Rattle.destructors.proofs.Lifting.{OnFree, OnTold, OnMove, OnCaller, lift}
+
+-- ---- what a move rests on
+
+live-row : (p : Pool) (x : Obj) (r : Row) → row_of p.rows x ≡ Some r → IsLive r.mark → IsLiveRow p x
+live-row p x r e live = (rw e refl, rw e (each r.mark live))
+  where
+    each : (m : Mark) → IsLive m → (elim m [ Quiet ↦ false | Asked ↦ false | Busy ↦ false | Doomed ↦ false | Dying former ↦ true ]) ≡ false
+    each Quiet l = refl
+    each Asked l = refl
+    each Busy l = refl
+    each Doomed l = refl
+    each (Dying former) l = absurd l
+
+-- an object that isn't refused another owner may be put below it
+pub placeable : (p : Pool) (o : Owner) (x : Obj) → MayBePlaced p o x → MayPlace p.rows x o
+placeable p o x may = let live = live-row p x may.row may.is may.live in record { is = live.0; live = live.1; there = may.there; apart = may.outside }
+
+hands-on : (x c : Obj) (f : Frame) (fs : List Frame) (p : Pool) → Sound f fs p → MayHandOn p x c
+hands-on x c f fs p s = λ below. placeable p (heir p.rows x c) c (heir-placed x c f fs p s below)
+
+pub rests : (f : FreeFrame) (fs : List Frame) (p : Pool) → Sound (frame.Free f) fs p → FreeRests f p
+rests (Beginning x) fs p s = tt
+rests (Hooked x h) fs p s = tt
+rests (Judged x h v) fs p s =
+    let row = running-row (row_of p.rows x) (claims x fs) (claim-here x InRun (claims x fs) (row_of p.rows x) (s.open_frees x)) in
+    live-row p x row.0 row.1 row.2
+rests (Leaving x h) fs p s = live-row p x s.rests.0 s.rests.1 s.rests.2
+rests (Looping x (Removal h)) fs p s =
+    let row = dying-row (row_of p.rows x) (claims x fs) (claim-here x InLoop (claims x fs) (row_of p.rows x) (s.open_frees x)) in
+    rw (row.1, row.3) refl
+rests (Looping x Emptying) fs p s = tt
+rests (Trying x c purpose) fs p s = tt
+rests (Tried x c purpose a) fs p s = hands-on x c _ fs p s
+rests (Ending a) fs p s = tt
+
+-- ---- what a move leads to
+
+whole-lifted : (f : FreeFrame) (fs : List FreeFrame) (p : Pool) (cs : List CallFrame) → Whole (free_view f fs cs p) → OnMove (λ g gs q j. Whole (record { innermost = g; below = gs; pool = q })) cs 0 (moves (f ∷ fs) p)
+whole-lifted f fs p cs w = lift (λ g gs q j. Whole (record { innermost = g; below = gs; pool = q })) cs 0 f fs p (whole-kept (free_view f fs cs p) 0 w)
+
+-- a move that tells nothing leaves a free at work
+pub kept : (f : FreeFrame) (fs : List FreeFrame) (p : Pool) (t : OpenFrees) → AtWork (f ∷ fs) p → moves (f ∷ fs) p ≡ (None, t) → IsAtWork t
+kept f fs p t w e =
+    let l : OnMove (λ g gs q j. Whole (record { innermost = g; below = gs; pool = q })) w.0 0 (None, t) = subst (OnMove (λ g gs q j. Whole (record { innermost = g; below = gs; pool = q })) w.0 0) e (whole-lifted f fs p w.0 w.1) in
+    at_work t.works l
+  where
+    at_work : (works : List FreeFrame) → OnFree (λ g gs q j. Whole (record { innermost = g; below = gs; pool = q })) w.0 0 works t.pool → AtWork works t.pool
+    at_work [] l = l
+    at_work (g ∷ gs) l = (w.0, l)
+
+-- some caller waits for the innermost free
+pub callers-wait : (f : FreeFrame) (fs : List FreeFrame) (cs : List CallFrame) → Seated (frame.Free f) (standing fs cs) → (c : CallFrame) × (ds : List CallFrame) × (cs ≡ c ∷ ds)
+callers-wait f fs (c ∷ ds) s = (c, ds, refl)
+callers-wait f fs [] s = absurd (none f fs s)
+  where
+    none : (f : FreeFrame) (fs : List FreeFrame) → Seated (frame.Free f) (standing fs []) → ⊥
+    none f [] s = s
+    none f (Hooked x h ∷ fs) s = s.0
+    none f (Beginning x ∷ fs) s = none (Beginning x) fs s.1
+    none f (Judged x h v ∷ fs) s = none (Judged x h v) fs s.1
+    none f (Leaving x h ∷ fs) s = none (Leaving x h) fs s.1
+    none f (Looping x purpose ∷ fs) s = none (Looping x purpose) fs s.1
+    none f (Trying x c purpose ∷ fs) s = none (Trying x c purpose) fs s.1
+    none f (Tried x c purpose a ∷ fs) s = none (Tried x c purpose a) fs s.1
+    none f (Ending a ∷ fs) s = none (Ending a) fs s.1
+
+-- what is told says how the frees go on
+pub told-kept : (f : FreeFrame) (fs : List FreeFrame) (p : Pool) (told : FreeStep) (t : OpenFrees) → AtWork (f ∷ fs) p → moves (f ∷ fs) p ≡ (Some told, t) → GoesOn told t
+told-kept f fs p told t w e = each told (subst (OnMove (λ g gs q j. Whole (record { innermost = g; below = gs; pool = q })) w.0 0) e (whole-lifted f fs p w.0 w.1))
+  where
+    news : (works : List FreeFrame) → OnFree (λ g gs q j. Whole (record { innermost = g; below = gs; pool = q })) w.0 0 works t.pool → AtWork works t.pool
+    news [] l = l
+    news (g ∷ gs) l = (w.0, l)
+
+    over : (a : FreeReply) (c : CallFrame) (ds : List CallFrame) → OnCaller (λ g gs q j. Whole (record { innermost = g; below = gs; pool = q })) w.0 0 a (c ∷ ds) t.works t.pool → IsAwaiting t
+    over a c ds l = record { caller = caller_resume c (Freed a); callers = ds; whole = l }
+
+    asked : (works : List FreeFrame) (x : Obj) → OnTold (λ g gs q j. Whole (record { innermost = g; below = gs; pool = q })) w.0 0 (Ask x) works t.pool → IsAwaiting (record { works = works; pool = t.pool })
+    asked (Hooked y h ∷ gs) x l = record { caller = _; callers = w.0; whole = l }
+    asked [] x l = absurd l
+    asked (Beginning y ∷ gs) x l = absurd l
+    asked (Judged y h v ∷ gs) x l = absurd l
+    asked (Leaving y h ∷ gs) x l = absurd l
+    asked (Looping y purpose ∷ gs) x l = absurd l
+    asked (Trying y c purpose ∷ gs) x l = absurd l
+    asked (Tried y c purpose a ∷ gs) x l = absurd l
+    asked (Ending a ∷ gs) x l = absurd l
+
+    each : (told : FreeStep) → OnTold (λ g gs q j. Whole (record { innermost = g; below = gs; pool = q })) w.0 0 told t.works t.pool → GoesOn told t
+    each (Ask x) l = asked t.works x l
+    each (Refused x v) l = news t.works l
+    each (Accepted x) l = news t.works l
+    each (Left x from) l = news t.works l
+    each (Moved x from owner) l = news t.works l
+    each (Gone x h) l = news t.works l
+    each (Done a) l =
+        let c = callers-wait f fs w.0 w.1.seated in
+        over a c.0 c.1 (subst (λ (z : List CallFrame). OnCaller (λ g gs q j. Whole (record { innermost = g; below = gs; pool = q })) w.0 0 a z t.works t.pool) c.2 l)
+
+-- ---- the measure
+
+-- the cost of the works without their callers
+abbrev pub free_cost : ℕ → List FreeFrame → Pool → ℕ
+free_cost R [] p = 0
+free_cost R (f ∷ fs) p = cost R (frame.Free f) (map (λ g. frame.Free g) fs) p 0
+
+standing-cost : (fs : List FreeFrame) (cs : List CallFrame) → below_cost (standing fs cs) ≡ below_cost (map (λ g. frame.Free g) fs) + below_cost (map (λ c. frame.Call c) cs)
+standing-cost [] cs = omega arith
+standing-cost (Hooked x h ∷ fs) [] = let ih = standing-cost fs [] in omega (arith, ih)
+standing-cost (Hooked x h ∷ fs) (c ∷ cs) = let ih = standing-cost fs cs in omega (arith, ih)
+standing-cost (Beginning x ∷ fs) cs = let ih = standing-cost fs cs in omega (arith, ih)
+standing-cost (Judged x h v ∷ fs) cs = let ih = standing-cost fs cs in omega (arith, ih)
+standing-cost (Leaving x h ∷ fs) cs = let ih = standing-cost fs cs in omega (arith, ih)
+standing-cost (Looping x purpose ∷ fs) cs = let ih = standing-cost fs cs in omega (arith, ih)
+standing-cost (Trying x c purpose ∷ fs) cs = let ih = standing-cost fs cs in omega (arith, ih)
+standing-cost (Tried x c purpose a ∷ fs) cs = let ih = standing-cost fs cs in omega (arith, ih)
+standing-cost (Ending a ∷ fs) cs = let ih = standing-cost fs cs in omega (arith, ih)
+
+standing-kids : (rows : List Row) (fs : List FreeFrame) (cs : List CallFrame) → loop_kids rows (standing fs cs) ≡ loop_kids rows (map (λ g. frame.Free g) fs)
+standing-kids rows [] [] = refl
+standing-kids rows [] (c ∷ cs) = refl
+standing-kids rows (Hooked x h ∷ fs) [] = refl
+standing-kids rows (Hooked x h ∷ fs) (c ∷ cs) = refl
+standing-kids rows (Beginning x ∷ fs) cs = refl
+standing-kids rows (Judged x h v ∷ fs) cs = refl
+standing-kids rows (Leaving x h ∷ fs) cs = refl
+standing-kids rows (Looping x purpose ∷ fs) cs = refl
+standing-kids rows (Trying x c purpose ∷ fs) cs = refl
+standing-kids rows (Tried x c purpose a ∷ fs) cs = refl
+standing-kids rows (Ending a ∷ fs) cs = refl
+
+standing-top : (R : ℕ) (f : FreeFrame) (fs : List FreeFrame) (cs : List CallFrame) (rows : List Row) → top_cost R (frame.Free f) (standing fs cs) rows ≡ top_cost R (frame.Free f) (map (λ g. frame.Free g) fs) rows
+standing-top R (Beginning x) fs cs rows = let k = standing-kids rows fs cs in omega (arith, k)
+standing-top R (Hooked x h) fs cs rows = refl
+standing-top R (Judged x h v) fs cs rows = refl
+standing-top R (Leaving x h) fs cs rows = refl
+standing-top R (Looping x purpose) fs cs rows = refl
+standing-top R (Trying x c purpose) fs cs rows = refl
+standing-top R (Tried x c purpose a) fs cs rows = refl
+standing-top R (Ending a) fs cs rows = refl
+
+-- a move that tells nothing lowers the measure
+pub falls : (R : ℕ) (f : FreeFrame) (fs : List FreeFrame) (p : Pool) (t : OpenFrees) → AtWork (f ∷ fs) p → length p.rows ≤ R → moves (f ∷ fs) p ≡ (None, t)
+    → (length t.pool.rows ≤ R) × (free_cost R t.works t.pool < free_cost R (f ∷ fs) p)
+falls R f fs p t w n e =
+    let l : OnMove Lower w.0 0 (None, t) = subst (OnMove Lower w.0 0) e (lift Lower w.0 0 f fs p (lower R (frame.Free f) (standing fs w.0) p 0 w.1.sound (omega (arith, n)))) in
+    each t.works l
+  where
+    Lower : Frame → List Frame → Pool → ℕ → Type 0
+    Lower g gs q j = Room R g q j × (cost R g gs q j < cost R (frame.Free f) (standing fs w.0) p 0)
+
+    each : (works : List FreeFrame) → OnFree Lower w.0 0 works t.pool → (length t.pool.rows ≤ R) × (free_cost R works t.pool < free_cost R (f ∷ fs) p)
+    each [] l = absurd l
+    each (g ∷ gs) l =
+        let a = standing-cost fs w.0 in
+        let b = standing-cost gs w.0 in
+        let c = standing-top R f fs w.0 p.rows in
+        let d = standing-top R g gs w.0 t.pool.rows in
+        let r = l.0 in
+        let s = l.1 in
+        (omega (arith, r), omega (arith, a, b, c, d, s))
+
+-- ---- room
+
+live-places : (m : Mark) → IsLive m → mark_places m ≡ 1
+live-places Quiet l = refl
+live-places Asked l = refl
+live-places Busy l = refl
+live-places Doomed l = refl
+live-places (Dying former) l = absurd l
+
+-- the places that a move wants, over those that the work has
+abbrev Slim : ℕ → FreeMove → Type 0
+Slim n (Do.Done a q) = total row_places q.rows ≤ n
+Slim n (Do.Go g q) = work_places g + total row_places q.rows ≤ n
+Slim n (Do.Emit t g q) = work_places g + total row_places q.rows ≤ n
+Slim n (Do.Wait t g q) = work_places g + total row_places q.rows ≤ n
+Slim n (Do.Call g h q) = work_places g + 1 + total row_places q.rows ≤ n
+
+slim-begin : (x : Obj) (p : Pool) → Slim (0 + total row_places p.rows) (begin_step x (row_of p.rows x) p)
+slim-begin x p = each (row_of p.rows x) refl
+  where
+    marked : (r : Row) (m : Mark) → row_of p.rows x ≡ Some r → mark_places m ≡ mark_places r.mark → total row_places (set_mark p x m).rows ≡ total row_places p.rows
+    marked r m e same_places = total-kept row_places (marked_row m) p.rows x r e same_places
+
+    marks : (r : Row) (m : Mark) → r.mark ≡ m → row_of p.rows x ≡ Some r → Slim (0 + total row_places p.rows) (begin_step x (row_of p.rows x) p)
+    marks r Quiet m e = by_test (nat_eq r.hook 0)
+        (λ t. rw (e, m, t) (omega arith))
+        (λ t. let u = marked r Asked e (sym (ap mark_places m)) in rw (e, m, t) (omega (arith, u)))
+    marks r Asked m e = rw (e, m) (omega arith)
+    marks r Busy m e = let u = marked r Doomed e (sym (ap mark_places m)) in rw (e, m) (omega (arith, u))
+    marks r Doomed m e = rw (e, m) (omega arith)
+    marks r (Dying former) m e = rw (e, m) (omega arith)
+
+    each : (o : Option Row) → row_of p.rows x ≡ o → Slim (0 + total row_places p.rows) (begin_step x (row_of p.rows x) p)
+    each None e = rw e (omega arith)
+    each (Some r) e = marks r r.mark refl e
+
+slim-handed : (x c : Obj) (purpose : Purpose) (a : FreeReply) (fs : List Frame) (p : Pool) → Sound (frame.Free (Tried x c purpose a)) fs p → Slim (1 + total row_places p.rows) (hand_on_step x c purpose p)
+slim-handed x c purpose a fs p s = by_test (is_below (owner_of p.rows c) (Of x))
+    (λ t. let may = heir-placed x c _ fs p s t in let w = total-placed row_places p (heir p.rows x c) c may.row may.is refl in rw t (omega (arith, w)))
+    (λ t. rw t (omega arith))
+
+slim : (f : FreeFrame) (fs : List Frame) (p : Pool) → Sound (frame.Free f) fs p → Slim (work_places f + total row_places p.rows) (free_step f p)
+slim (Beginning x) fs p s = slim-begin x p
+slim (Hooked x h) fs p s = omega arith
+slim (Judged x h v) fs p s =
+    let row = running-row (row_of p.rows x) (claims x fs) (claim-here x InRun (claims x fs) (row_of p.rows x) (s.open_frees x)) in
+    by_test (nat_eq v 0)
+    (λ t. let u = total-kept row_places (hooked_row 0) p.rows x row.0 row.1 refl in rw t (omega (arith, u)))
+    (λ t. let u = total-kept row_places (marked_row Quiet) p.rows x row.0 row.1 (sym (live-places row.0.mark row.2)) in rw t (omega (arith, u)))
+slim (Leaving x h) fs p s =
+    let w = total-changed row_places left_row p.rows x s.rests.0 s.rests.1 in
+    let l = live-places s.rests.0.mark s.rests.2 in
+    omega (arith, w, l)
+slim (Looping x purpose) fs p s = each purpose s (first_kid p.rows (Of x))
+  where
+    each : (purpose : Purpose) → Sound (frame.Free (Looping x purpose)) fs p → (o : Option Obj) → Slim (1 + total row_places p.rows) (loop_step x purpose o p)
+    each purpose s (Some c) = omega arith
+    each (Removal h) s None =
+        let row = dying-row (row_of p.rows x) (claims x fs) (claim-here x InLoop (claims x fs) (row_of p.rows x) (s.open_frees x)) in
+        let w = total-without row_places p.rows x row.0 row.1 in
+        omega (arith, w)
+    each Emptying s None = omega arith
+slim (Trying x c purpose) fs p s = omega arith
+slim (Tried x c purpose Ok) fs p s = omega arith
+slim (Tried x c purpose Running) fs p s = slim-handed x c purpose Running fs p s
+slim (Tried x c purpose (IsRefused v)) fs p s = slim-handed x c purpose (IsRefused v) fs p s
+slim (Ending a) fs p s = omega arith
+
+wants-answered : (a : FreeReply) (fs : List FreeFrame) (q : Pool) → wanted (answered a q fs).1.works (answered a q fs).1.pool.rows ≤ length fs + total row_places q.rows
+wants-answered a [] q = omega arith
+wants-answered a (Hooked x h ∷ fs) q = omega arith
+wants-answered a (Beginning x ∷ fs) q = omega arith
+wants-answered a (Judged x h v ∷ fs) q = omega arith
+wants-answered a (Leaving x h ∷ fs) q = omega arith
+wants-answered a (Looping x purpose ∷ fs) q = omega arith
+wants-answered a (Trying x c purpose ∷ fs) q = omega arith
+wants-answered a (Tried x c purpose b ∷ fs) q = omega arith
+wants-answered a (Ending b ∷ fs) q = omega arith
+
+-- no move wants more places
+pub narrow : (f : FreeFrame) (fs : List FreeFrame) (p : Pool) (o : Option FreeStep) (t : OpenFrees) → AtWork (f ∷ fs) p → moves (f ∷ fs) p ≡ (o, t)
+    → wanted t.works t.pool.rows ≤ wanted (f ∷ fs) p.rows
+narrow f fs p o t w e =
+    let n = each (free_step f p) (slim f (standing fs w.0) p w.1.sound) in
+    subst (λ (z : Option FreeStep × OpenFrees). wanted z.1.works z.1.pool.rows ≤ wanted (f ∷ fs) p.rows) e n
+  where
+    each : (m : FreeMove) → Slim (work_places f + total row_places p.rows) m → wanted (moved m fs).1.works (moved m fs).1.pool.rows ≤ wanted (f ∷ fs) p.rows
+    each (Do.Done a q) s = let u = wants-answered a fs q in omega (arith, s, u)
+    each (Do.Go g q) s = omega (arith, s)
+    each (Do.Emit t g q) s = omega (arith, s)
+    each (Do.Wait t g q) s = omega (arith, s)
+    each (Do.Call g h q) s = omega (arith, s)

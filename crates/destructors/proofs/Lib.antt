@@ -1,0 +1,6 @@
+pub mod FreeMoves
+pub mod Lifting
+pub mod Resting
+pub mod Keeping
+pub mod Begins
+pub mod Settling

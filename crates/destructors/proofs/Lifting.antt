@@ -1,0 +1,107 @@
+-- A move of the open frees is a step of a host's works, whatever callers wait.
+use Rattle.std.proofs.Common.{◌≡◌, ℕ, List, [], ◌∷◌, map, Option, Some, None, refl, sym, subst}
+use Rattle.step_machine.specs.Machine.{Move as Do}
+use Rattle.step_machine.proofs.Ends.{Leads}
+use Rattle.tree_specs.specs.declared.frame.Frame.{Frame}
+use Rattle.tree_specs.specs.declared.frame.Frame.TheVariants as frame
+use Rattle.tree_specs.specs.declared.frame.CallFrame.{CallFrame}
+use Rattle.tree_specs.specs.declared.frame.CallFrame.TheVariants.{Asking}
+use Rattle.tree_specs.specs.declared.question.Ask.TheVariants.{Routine}
+use Rattle.tree_specs.specs.declared.frame.FreeFrame.{FreeFrame}
+use Rattle.tree_specs.specs.declared.frame.FreeFrame.TheVariants.{Beginning, Hooked, Judged, Leaving, Looping, Trying, Tried, Ending}
+use Rattle.tree_specs.specs.declared.frame.Answer.TheVariants.{Freed}
+use Rattle.tree_specs.specs.declared.free_step.FreeReply.{FreeReply}
+use Rattle.tree_specs.specs.declared.free_step.FreeStep.{FreeStep}
+use Rattle.tree_specs.specs.declared.free_step.FreeStep.TheVariants.{Ask, Refused, Accepted, Left, Moved, Gone, Done}
+use Rattle.tree_specs.specs.declared.object.Obj.{Obj}
+use Rattle.tree_specs.specs.Pool.{Pool}
+use Rattle.tree_specs.specs.Table.{FreeMove, table, free_step, lifted, caller_resume}
+use Rattle.tree_specs.specs.Story.{hook_moment}
+use Rattle.destructors.specs.Frees.{OpenFrees, answered, moved, moves}
+use Rattle.destructors.specs.Works.{standing, under}
+use Rattle.destructors.proofs.FreeMoves.{IsNoHook, IsNews, AsksFor, IsMoveOf, is_move}
+
+-- a work that waits for a free stands right below it
+pub standing-free : (f : FreeFrame) (fs : List FreeFrame) (cs : List CallFrame) → IsNoHook f → standing (f ∷ fs) cs ≡ frame.Free f ∷ standing fs cs
+standing-free (Hooked x h) fs cs n = absurd n
+standing-free (Beginning x) fs cs n = refl
+standing-free (Judged x h v) fs cs n = refl
+standing-free (Leaving x h) fs cs n = refl
+standing-free (Looping x purpose) fs cs n = refl
+standing-free (Trying x c purpose) fs cs n = refl
+standing-free (Tried x c purpose a) fs cs n = refl
+standing-free (Ending a) fs cs n = refl
+
+module _ (Q : Frame → List Frame → Pool → ℕ → Type 0) (cs : List CallFrame) (k : ℕ) where
+  -- the caller that has waited goes on
+  abbrev pub OnCaller : FreeReply → List CallFrame → List FreeFrame → Pool → Type 0
+  OnCaller a [] fs p = Unit {0}
+  OnCaller a (c ∷ ds) fs p = Q (frame.Call (caller_resume c (Freed a))) (under fs ds) p k
+
+  -- the innermost free goes on
+  abbrev pub OnFree : List FreeFrame → Pool → Type 0
+  OnFree [] p = ⊥
+  OnFree (f ∷ fs) p = Q (frame.Free f) (standing fs cs) p k
+
+  -- the run of a destructor begins
+  abbrev pub OnRun : Obj → List FreeFrame → Pool → Type 0
+  OnRun x [] p = ⊥
+  OnRun x (Hooked y h ∷ fs) p = Q (frame.Call (Asking (Routine (hook_moment y h)))) (frame.Free (Hooked y h) ∷ standing fs cs) p k
+  OnRun x (f ∷ fs) p = ⊥
+
+  abbrev pub OnTold : FreeStep → List FreeFrame → Pool → Type 0
+  OnTold (Ask x) fs p = OnRun x fs p
+  OnTold (Refused x v) fs p = OnFree fs p
+  OnTold (Accepted x) fs p = OnFree fs p
+  OnTold (Left x from) fs p = OnFree fs p
+  OnTold (Moved x from owner) fs p = OnFree fs p
+  OnTold (Gone x h) fs p = OnFree fs p
+  OnTold (Done a) fs p = OnCaller a cs fs p
+
+  -- what a move leads to
+  abbrev pub OnMove : Option FreeStep × OpenFrees → Type 0
+  OnMove (None, s) = OnFree s.works s.pool
+  OnMove (Some t, s) = OnTold t s.works s.pool
+
+  lift-answered : (a : FreeReply) (fs : List FreeFrame) (p : Pool) → Leads table Q (Do.Done (Freed a) p) (standing fs cs) k → OnMove (answered a p fs)
+  lift-answered a [] p l = each cs l
+    where
+      each : (ds : List CallFrame) → Leads table Q (Do.Done (Freed a) p) (map (λ c. frame.Call c) ds) k → OnCaller a ds [] p
+      each [] l = tt
+      each (c ∷ ds) l = l
+  lift-answered a (Hooked x h ∷ fs) p l = each cs l
+    where
+      each : (ds : List CallFrame) → Leads table Q (Do.Done (Freed a) p) (standing (Hooked x h ∷ fs) ds) k → OnCaller a ds (Hooked x h ∷ fs) p
+      each [] l = tt
+      each (c ∷ ds) l = l
+  lift-answered a (Beginning x ∷ fs) p l = l
+  lift-answered a (Judged x h v ∷ fs) p l = l
+  lift-answered a (Leaving x h ∷ fs) p l = l
+  lift-answered a (Looping x purpose ∷ fs) p l = l
+  lift-answered a (Trying x c purpose ∷ fs) p l = l
+  lift-answered a (Tried x c purpose b ∷ fs) p l = l
+  lift-answered a (Ending b ∷ fs) p l = l
+
+  lift-told : (t : FreeStep) (f : FreeFrame) (fs : List FreeFrame) (p : Pool) → IsNews t → Leads table Q (lifted (Do.Emit t f p)) (standing fs cs) k → OnTold t (f ∷ fs) p
+  lift-told (Ask x) f fs p n l = absurd n
+  lift-told (Refused x v) f fs p n l = l
+  lift-told (Accepted x) f fs p n l = l
+  lift-told (Left x from) f fs p n l = l
+  lift-told (Moved x from owner) f fs p n l = l
+  lift-told (Gone x h) f fs p n l = l
+  lift-told (Done a) f fs p n l = absurd n
+
+  lift-asked : (t : FreeStep) (f : FreeFrame) (fs : List FreeFrame) (p : Pool) → AsksFor t f → Leads table Q (lifted (Do.Wait t f p)) (standing fs cs) k → OnTold t (f ∷ fs) p
+  lift-asked (Ask x) (Hooked y g) fs p a l = l
+  lift-asked t f fs p a l = absurd a
+
+  lift-move : (f : FreeFrame) (fs : List FreeFrame) (p : Pool) (m : FreeMove) → IsMoveOf f p m → Leads table Q (lifted m) (standing fs cs) k → OnMove (moved m fs)
+  lift-move f fs p (Do.Done a q) of l = lift-answered a fs q l
+  lift-move f fs p (Do.Go g q) of l = l
+  lift-move f fs p (Do.Emit t g q) of l = lift-told t g fs q of l
+  lift-move f fs p (Do.Wait t g q) of l = lift-asked t g fs q (subst (AsksFor t) (sym of.0) of.2) l
+  lift-move f fs p (Do.Call g h q) of l = subst (λ (z : List Frame). Q (frame.Free g) z q k) (sym (standing-free h fs cs of.1)) l
+
+  -- what the step of a host's works leads to, the move of the open frees leads to
+  pub lift : (f : FreeFrame) (fs : List FreeFrame) (p : Pool) → Leads table Q (lifted (free_step f p)) (standing fs cs) k → OnMove (moves (f ∷ fs) p)
+  lift f fs p l = lift-move f fs p (free_step f p) (is_move f p) l

@@ -1,0 +1,67 @@
+-- Trees in which nothing is going on, and engines that ask: what the tests rest on.
+use Rattle.std.proofs.Common.{◌≡◌, ℕ, List, [], ◌∷◌, Option, Some, None, true, refl, sym, ◌∙◌, ap, subst, arith}
+use Rattle.step_machine.specs.Machine.{Move as Do}
+use Rattle.tree_specs.specs.declared.frame.Frame.TheVariants as frame
+use Rattle.tree_specs.specs.declared.frame.CallFrame.TheVariants.{Asking, Doing, Telling}
+use Rattle.tree_specs.specs.declared.frame.FreeFrame.{FreeFrame}
+use Rattle.tree_specs.specs.declared.frame.FreeFrame.TheVariants.{Hooked}
+use Rattle.tree_specs.specs.declared.free_step.FreeStep.TheVariants.{Ask}
+use Rattle.tree_specs.specs.declared.question.Ask.TheVariants.{Quiet}
+use Rattle.tree_specs.specs.declared.call.Call.TheVariants as call
+use Rattle.tree_specs.specs.declared.event.Event.TheVariants as event
+use Rattle.tree_specs.specs.declared.reply.Reply.TheVariants as reply
+use Rattle.tree_specs.specs.declared.kind.Kind.TheVariants.{Plain}
+use Rattle.tree_specs.specs.declared.object.Obj.{Obj}
+use Rattle.tree_specs.specs.declared.object.Owner.{Owner}
+use Rattle.tree_specs.specs.Items.Item.{Told}
+use Rattle.tree_specs.specs.Pool.{Pool, is_owner, add, set_hook}
+use Rattle.tree_specs.specs.Calls.{Check, refusals}
+use Rattle.tree_specs.specs.Table.{step, call_step}
+use Rattle.tree_specs.specs.Whole.{Whole}
+use Rattle.tree_specs.proofs.Keeps.{stands, new-sound}
+use Rattle.tree_specs.proofs.Rest.{whole-kept, event-whole}
+use Rattle.tree_links.specs.Links.{Links, pool_of}
+use Rattle.destructors.specs.Frees.{OpenFrees, before, frees_of, moves, next_of, speaking, Steps}
+use Rattle.destructors.specs.Works.{call_view, AtWork, IsAtWork}
+use Rattle.destructors.specs.Engine.{IsAsked, AreKept}
+use Rattle.destructors.proofs.Settling.{still, asks-hooked}
+
+-- a new object
+pub added-rests : (o : Owner) (size : ℕ) (name : List ℕ) (p : Pool) → is_owner p.rows o ≡ true → Whole (call_view (Asking Quiet) [] [] p) → Whole (call_view (Asking Quiet) [] [] (add p Plain o size name))
+added-rests o size name p there w = record {
+  sound = new-sound (frame.Call (Asking Quiet)) (frame.Call (Asking Quiet)) o size name [] p w.sound there (λ x. refl) tt;
+  seated = w.seated;
+  light = omega arith;
+  plain = (refl, w.plain);
+}
+
+-- an object is given the destructor 16
+pub hooked-rests : (x : Obj) (p : Pool) → refusals p (call.Hook x 16) ≡ [] → Whole (call_view (Asking Quiet) [] [] p) → Whole (call_view (Asking Quiet) [] [] (set_hook p x 16))
+hooked-rests x p none w =
+    let doing : Whole (call_view (Doing Quiet (call.Hook x 16)) [] [] p) =
+    record {
+      sound = stands (frame.Call (Asking Quiet)) (frame.Call (Doing Quiet (call.Hook x 16))) [] [] p (λ y. refl) tt tt w.sound;
+      seated = w.seated;
+      light = w.light;
+      plain = w.plain;
+    } in
+    let goes : step (frame.Call (Doing Quiet (call.Hook x 16))) p ≡ Do.Go (frame.Call (Telling Quiet reply.Ok)) (set_hook p x 16) = ap (λ (check : Check). call_step check Quiet (call.Hook x 16) p) none in
+    let telling : Whole (call_view (Telling Quiet reply.Ok) [] [] (set_hook p x 16)) = rw goes at (whole-kept (call_view (Doing Quiet (call.Hook x 16)) [] [] p) 0 doing) in
+    event-whole (call_view (Telling Quiet reply.Ok) [] [] (set_hook p x 16)) (Told (event.Replied reply.Ok)) (frame.Call (Asking Quiet)) (set_hook p x 16) telling refl
+
+first-is : {A B : Type 0} (a : A × B) (u : A) → a.0 ≡ u → a ≡ (u, a.1)
+first-is {A = A} {B = B} (v, b) u e = ap (λ (z : A). let y : A × B = (z, b) in y) e
+
+-- an engine that has asked waits for a destructor
+pub asked : (o : Option FreeFrame) (old : Links) (x : Obj) (n : Option FreeFrame) (new : Links) → IsAtWork (frees_of o old) → AreKept o old → Steps (frees_of o old) (Ask x) (frees_of n new) → AreKept n new → IsAsked n
+asked None old x n new w k s m = let bad : AtWork [] (pool_of old) = rw k at w in absurd bad
+asked (Some f) old x n new w k s m =
+    let t : OpenFrees = (next_of (frees_of (Some f) old)).1 in
+    let h = asks-hooked f old.frees (pool_of old) x t (first-is (moves (f ∷ old.frees) (pool_of old)) (Some (Ask x)) s.tells) in
+    let is : t ≡ record { works = Hooked x h.0 ∷ old.frees; pool = pool_of old } = h.2 ∙ ap (λ (g : FreeFrame). let y : OpenFrees = record { works = g ∷ old.frees; pool = pool_of old } in y) h.1 in
+    let loud : speaking t ≡ true = rw is refl in
+    each n m h.0 (ap (λ (z : OpenFrees). z.works) (sym (still t (frees_of n new) s.moves_on loud) ∙ is))
+  where
+    each : (n : Option FreeFrame) → AreKept n new → (h : ℕ) → before n new.frees ≡ Hooked x h ∷ old.frees → IsAsked n
+    each None m h e = let bad : Hooked x h ∷ old.frees ≡ [] = sym e ∙ m in cc
+    each (Some g) m h e = let is : Hooked x h ≡ g = cc in subst (λ (z : FreeFrame). IsAsked (Some z)) is tt

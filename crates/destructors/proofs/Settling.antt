@@ -1,0 +1,171 @@
+-- A move that tells nothing, by the parts of an engine.
+use Rattle.std.proofs.Common.{◌≡◌, ℕ, ◌+◌, ◌≤◌, ◌<◌, List, [], ◌∷◌, length, Option, Some, None, true, false, refl, sym, ◌∙◌, ap, subst, inl, inr, arith}
+use Rattle.tree_specs.specs.declared.frame.FreeFrame.{FreeFrame}
+use Rattle.tree_specs.specs.declared.frame.FreeFrame.TheVariants.{Beginning, Hooked, Judged, Leaving, Looping, Trying, Tried, Ending}
+use Rattle.tree_specs.specs.declared.frame.Frame.TheVariants as frame
+use Rattle.step_machine.specs.Machine.{Move as Do}
+use Rattle.tree_specs.specs.declared.object.Obj.{Obj}
+use Rattle.tree_specs.specs.declared.free_step.FreeReply.{FreeReply}
+use Rattle.tree_specs.specs.declared.free_step.FreeStep.{FreeStep}
+use Rattle.tree_specs.specs.declared.free_step.FreeStep.TheVariants.{Ask, Refused, Accepted, Left, Moved, Gone, Done}
+use Rattle.tree_specs.specs.Table.{FreeMove, free_step}
+use Rattle.tree_specs.specs.Whole.{Seated}
+use Rattle.tree_specs.specs.Pool.{Pool}
+use Rattle.tree_links.specs.Links.{Links, pool_of}
+use Rattle.destructors.specs.Frees.{OpenFrees, before, frees_of, answered, moved, moves, speaks, speaking, Silently, Still, On}
+use Rattle.destructors.specs.Works.{under, AtWork, IsAtWork, IsAwaiting, GoesOn}
+use Rattle.destructors.specs.Engine.{AreKept, HasRoom, MayMove, Ready}
+use Rattle.destructors.proofs.FreeMoves.{IsNews, AsksFor, IsMoveOf, is_move}
+use Rattle.destructors.proofs.Keeping.{kept, told-kept, falls, narrow, free_cost}
+
+-- a work whose next move tells nothing is at work
+pub ready-work : (f : FreeFrame) (o : Option FreeFrame) (tree : Links) → o ≡ Some f → Ready o tree → speaking (frees_of (Some f) tree) ≡ false → AtWork (f ∷ tree.frees) (pool_of tree)
+ready-work f o tree e r quiet =
+    let m : MayMove (Some f) tree = rw e at r.moves in
+    elim m [
+      | inl w ↦ w
+      | inr loud ↦ (let bad : true ≡ false = sym loud ∙ quiet in cc)
+    ]
+
+-- what a move tells that tells nothing
+silent : (o : Option FreeStep) (fs : List FreeFrame) (f : FreeFrame) → speaks (f ∷ fs) o ≡ false → o ≡ None
+silent None fs f e = refl
+silent (Some t) fs f e = cc
+
+-- the frees that are at work are at hand
+at-work : (o : Option FreeFrame) (tree : Links) → AreKept o tree → IsAtWork (frees_of o tree) → MayMove o tree
+at-work None tree k w = k
+at-work (Some f) tree k w = inl w
+
+pub record Onward (f : FreeFrame) (before_it : Links) (o : Option FreeFrame) (tree : Links) : Type 0 where
+  pub ready : Ready o tree
+  pub at_work : IsAtWork (frees_of o tree)
+  pub silently : moves (f ∷ before_it.frees) (pool_of before_it) ≡ (None, frees_of o tree)
+  pub rows : (R : ℕ) → length before_it.rows ≤ R → length tree.rows ≤ R
+  pub falls : (R : ℕ) → length before_it.rows ≤ R → free_cost R (before o tree.frees) (pool_of tree) < free_cost R (f ∷ before_it.frees) (pool_of before_it)
+
+pub onward : (f : FreeFrame) (g : Option FreeFrame) (old : Links) (told : Option FreeStep) (o : Option FreeFrame) (new : Links) → g ≡ Some f → Ready g old → speaking (frees_of (Some f) old) ≡ false
+    → moves (f ∷ old.frees) (pool_of old) ≡ (told, frees_of o new) → AreKept o new → length old.frees + old.room ≤ length new.frees + new.room → Onward f old o new
+onward f g old told o new e r quiet m k room =
+    let w = ready-work f g old e r quiet in
+    let n : told ≡ None = ap (λ (z : Option FreeStep × OpenFrees). z.0) (sym m) ∙ silent (moves (f ∷ old.frees) (pool_of old)).0 old.frees f quiet in
+    let m' : moves (f ∷ old.frees) (pool_of old) ≡ (None, frees_of o new) = m ∙ ap (λ (z : Option FreeStep). let y : Option FreeStep × OpenFrees = (z, frees_of o new) in y) n in
+    let had : HasRoom (Some f) old = rw e at r.room in
+    let l = narrow f old.frees (pool_of old) None (frees_of o new) w m' in
+    record {
+      ready = record { moves = at-work o new k (kept f old.frees (pool_of old) (frees_of o new) w m'); room = omega (arith, had, l, room) };
+      at_work = kept f old.frees (pool_of old) (frees_of o new) w m';
+      silently = m';
+      rows = λ R n. (falls R f old.frees (pool_of old) (frees_of o new) w n m').0;
+      falls = λ R n. (falls R f old.frees (pool_of old) (frees_of o new) w n m').1;
+    }
+
+-- ---- a move that tells something
+
+-- a free that waits for its caller has nothing to do but to ask
+pub awaiting-speaks : (s : OpenFrees) → IsAwaiting s → speaking s ≡ true
+awaiting-speaks s a = each s.works a.whole.seated
+  where
+    each : (works : List FreeFrame) → Seated (frame.Call a.caller) (under works a.callers) → speaks works (moves works s.pool).0 ≡ true
+    each [] w = refl
+    each (Hooked x h ∷ fs) w = refl
+    each (Beginning x ∷ fs) w = absurd w.0
+    each (Judged x h v ∷ fs) w = absurd w.0
+    each (Leaving x h ∷ fs) w = absurd w.0
+    each (Looping x purpose ∷ fs) w = absurd w.0
+    each (Trying x c purpose ∷ fs) w = absurd w.0
+    each (Tried x c purpose b ∷ fs) w = absurd w.0
+    each (Ending b ∷ fs) w = absurd w.0
+
+-- where there is nothing to do but to tell, nothing is done silently
+pub still : (s t : OpenFrees) → Silently s t → speaking s ≡ true → s ≡ t
+still s _ Still loud = refl
+still s t (On u _ before_it last) loud =
+    let e : s ≡ u = still s u before_it loud in
+    let last' : moves s.works s.pool ≡ (None, t) = rw e last in
+    quiet s.works loud last'
+  where
+    quiet : (works : List FreeFrame) → speaks works (moves works s.pool).0 ≡ true → moves works s.pool ≡ (None, t) → (let o : OpenFrees = record { works = works; pool = s.pool } in o) ≡ t
+    quiet [] loud m = ap (λ (z : Option FreeStep × OpenFrees). z.1) m
+    quiet (f ∷ fs) loud m =
+        let none : (moves (f ∷ fs) s.pool).0 ≡ None = ap (λ (z : Option FreeStep × OpenFrees). z.0) m in
+        let bad : false ≡ true = rw none at loud in cc
+
+-- the frees may go on after what was told
+pub told-ready : (told : FreeStep) (o : Option FreeFrame) (tree : Links) → AreKept o tree → GoesOn told (frees_of o tree) → MayMove o tree
+told-ready told None tree k g = k
+told-ready told (Some f) tree k g = each told g
+  where
+    each : (told : FreeStep) → GoesOn told (frees_of (Some f) tree) → MayMove (Some f) tree
+    each (Ask x) a = inr (awaiting-speaks (frees_of (Some f) tree) a)
+    each (Refused x v) w = inl w
+    each (Accepted x) w = inl w
+    each (Left x from) w = inl w
+    each (Moved x from owner) w = inl w
+    each (Gone x h) w = inl w
+    each (Done a) w = inr (awaiting-speaks (frees_of (Some f) tree) w)
+
+-- and go on so after the moves that tell nothing
+pub told-settled : (told : FreeStep) (s t : OpenFrees) → GoesOn told s → Silently s t → (IsAtWork s → IsAtWork t) → GoesOn told t
+told-settled (Ask x) s t g moves_on keeps = subst IsAwaiting (still s t moves_on (awaiting-speaks s g)) g
+told-settled (Refused x v) s t g moves_on keeps = keeps g
+told-settled (Accepted x) s t g moves_on keeps = keeps g
+told-settled (Left x from) s t g moves_on keeps = keeps g
+told-settled (Moved x from owner) s t g moves_on keeps = keeps g
+told-settled (Gone x h) s t g moves_on keeps = keeps g
+told-settled (Done a) s t g moves_on keeps = subst IsAwaiting (still s t moves_on (awaiting-speaks s g)) g
+
+-- a move of an engine that tells something
+pub record Tells (told : FreeStep) (o : Option FreeFrame) (tree : Links) : Type 0 where
+  pub ready : Ready o tree
+  pub goes_on : GoesOn told (frees_of o tree)
+
+pub tells : (f : FreeFrame) (g : Option FreeFrame) (old : Links) (told : Option FreeStep) (t : FreeStep) (o : Option FreeFrame) (new : Links) → g ≡ Some f → IsAtWork (frees_of g old) → HasRoom g old → told ≡ Some t
+    → moves (f ∷ old.frees) (pool_of old) ≡ (told, frees_of o new) → AreKept o new → length old.frees + old.room ≤ length new.frees + new.room → Tells t o new
+tells f g old told t o new e w had is m k room =
+    let w' : AtWork (f ∷ old.frees) (pool_of old) = rw e at w in
+    let had' : HasRoom (Some f) old = rw e at had in
+    let m' : moves (f ∷ old.frees) (pool_of old) ≡ (Some t, frees_of o new) = m ∙ ap (λ (z : Option FreeStep). let y : Option FreeStep × OpenFrees = (z, frees_of o new) in y) is in
+    let on = told-kept f old.frees (pool_of old) t (frees_of o new) w' m' in
+    let l = narrow f old.frees (pool_of old) (Some t) (frees_of o new) w' m' in
+    record { ready = record { moves = told-ready t o new k on; room = omega (arith, had', l, room) }; goes_on = on }
+
+-- ---- which work asks
+
+-- only the work of an object's destructor asks for its run, and it stays
+pub asks-hooked : (f : FreeFrame) (fs : List FreeFrame) (p : Pool) (x : Obj) (t : OpenFrees) → moves (f ∷ fs) p ≡ (Some (Ask x), t) → (h : ℕ) × (f ≡ Hooked x h) × (t ≡ record { works = f ∷ fs; pool = p })
+asks-hooked f fs p x t e = each (free_step f p) (is_move f p) e
+  where
+    told : (o : Option FreeStep) (s : OpenFrees) → (let y : Option FreeStep × OpenFrees = (o, s) in y) ≡ (Some (Ask x), t) → (o ≡ Some (Ask x)) × (s ≡ t)
+    told o s e = (ap (λ (z : Option FreeStep × OpenFrees). z.0) e, ap (λ (z : Option FreeStep × OpenFrees). z.1) e)
+
+    hook : (g : FreeFrame) → AsksFor (Ask x) g → (h : ℕ) × (g ≡ Hooked x h)
+    hook (Hooked y h) a = (h, ap (λ (z : Obj). Hooked z h) (sym a))
+    hook g a = absurd a
+
+    over : (a : FreeReply) (q : Pool) (gs : List FreeFrame) → answered a q gs ≡ (Some (Ask x), t) → ⊥
+    over a q [] e = let d = (told _ _ e).0 in let bad : Some (Done a) ≡ Some (Ask x) = d in cc
+    over a q (Hooked y h ∷ gs) e = let bad : Some (Done a) ≡ Some (Ask x) = (told _ _ e).0 in cc
+    over a q (Beginning y ∷ gs) e = let bad : None ≡ Some (Ask x) = (told _ _ e).0 in cc
+    over a q (Judged y h v ∷ gs) e = let bad : None ≡ Some (Ask x) = (told _ _ e).0 in cc
+    over a q (Leaving y h ∷ gs) e = let bad : None ≡ Some (Ask x) = (told _ _ e).0 in cc
+    over a q (Looping y purpose ∷ gs) e = let bad : None ≡ Some (Ask x) = (told _ _ e).0 in cc
+    over a q (Trying y c purpose ∷ gs) e = let bad : None ≡ Some (Ask x) = (told _ _ e).0 in cc
+    over a q (Tried y c purpose b ∷ gs) e = let bad : None ≡ Some (Ask x) = (told _ _ e).0 in cc
+    over a q (Ending b ∷ gs) e = let bad : None ≡ Some (Ask x) = (told _ _ e).0 in cc
+
+    each : (m : FreeMove) → IsMoveOf f p m → moved m fs ≡ (Some (Ask x), t) → (h : ℕ) × (f ≡ Hooked x h) × (t ≡ record { works = f ∷ fs; pool = p })
+    each (Do.Done a q) of e = absurd (over a q fs e)
+    each (Do.Go g q) of e = let bad : None ≡ Some (Ask x) = (told _ _ e).0 in cc
+    each (Do.Call g h q) of e = let bad : None ≡ Some (Ask x) = (told _ _ e).0 in cc
+    each (Do.Emit s g q) of e =
+        let d : Some s ≡ Some (Ask x) = (told _ _ e).0 in
+        let d' : s ≡ Ask x = cc in
+        absurd (subst IsNews d' of)
+    each (Do.Wait s g q) of e =
+        let w = told _ _ e in
+        let d : Some s ≡ Some (Ask x) = w.0 in
+        let d' : s ≡ Ask x = cc in
+        let h = hook f (subst (λ (z : FreeStep). AsksFor z f) d' of.2) in
+        let i : record { works = g ∷ fs; pool = q } ≡ t = w.1 in
+        (h.0, h.1, sym i ∙ ap (λ (z : FreeFrame). let o : OpenFrees = record { works = z ∷ fs; pool = q } in o) of.0 ∙ ap (λ (z : Pool). let o : OpenFrees = record { works = f ∷ fs; pool = z } in o) of.1)

@@ -1,0 +1,84 @@
+-- The open frees, one move after another. The works of all frees stand in one list, the innermost first; each begin stands on the free
+-- whose destructor runs.
+use Rattle.std.specs.Prelude.{◌≡◌, ℕ, Bool, true, false, List, [], ◌∷◌, Option, Some, None, is_some, unwrap_or}
+use Rattle.step_machine.specs.Machine.{Move as Do}
+use Rattle.tree_specs.specs.declared.frame.FreeFrame.{FreeFrame}
+use Rattle.tree_specs.specs.declared.frame.FreeFrame.TheVariants.{Hooked}
+use Rattle.tree_specs.specs.declared.free_step.FreeReply.{FreeReply}
+use Rattle.tree_specs.specs.declared.free_step.FreeStep.{FreeStep}
+use Rattle.tree_specs.specs.declared.free_step.FreeStep.TheVariants.{Done}
+use Rattle.tree_specs.specs.Pool.{Pool}
+use Rattle.tree_specs.specs.Table.{FreeMove, free_step, free_resume, free_taken, event_of}
+use Rattle.tree_links.specs.Links.{Links, pool_of}
+
+pub record OpenFrees : Type 0 where
+  pub works : List FreeFrame
+  pub pool : Pool
+
+-- the innermost work is the engine's, and those that wait for it are the tree's
+abbrev pub before : Option FreeFrame → List FreeFrame → List FreeFrame
+before None fs = fs
+before (Some f) fs = f ∷ fs
+
+abbrev pub frees_of : Option FreeFrame → Links → OpenFrees
+frees_of innermost t = record { works = before innermost t.frees; pool = pool_of t }
+
+-- what a free answers goes to the work below it; where that waits for a destructor, or there is none, the begin is over
+abbrev pub answered : FreeReply → Pool → List FreeFrame → Option FreeStep × OpenFrees
+answered a p [] = (Some (Done a), record { works = []; pool = p })
+answered a p (Hooked x h ∷ fs) = (Some (Done a), record { works = Hooked x h ∷ fs; pool = p })
+answered a p (f ∷ fs) = (None, record { works = free_resume f a ∷ fs; pool = p })
+
+-- what a move tells, and the frees after it
+abbrev pub moved : FreeMove → List FreeFrame → Option FreeStep × OpenFrees
+moved (Do.Done a p) fs = answered a p fs
+moved (Do.Go f p) fs = (None, record { works = f ∷ fs; pool = p })
+moved (Do.Emit t f p) fs = (Some t, record { works = f ∷ fs; pool = p })
+moved (Do.Wait t f p) fs = (Some t, record { works = f ∷ fs; pool = p })
+moved (Do.Call g f p) fs = (None, record { works = g ∷ f ∷ fs; pool = p })
+
+-- the next move of the innermost free
+abbrev pub moves : List FreeFrame → Pool → Option FreeStep × OpenFrees
+moves [] p = (None, record { works = []; pool = p })
+moves (f ∷ fs) p = moved (free_step f p) fs
+
+abbrev pub next_of : OpenFrees → Option FreeStep × OpenFrees
+next_of s = moves s.works s.pool
+
+-- what is told is an event of the tree
+abbrev pub is_event : Option FreeStep → Bool
+is_event None = false
+is_event (Some t) = is_some (event_of t)
+
+-- the destructor that the innermost free waits for has returned a number
+abbrev pub returned : ℕ → OpenFrees → List FreeFrame
+returned v s = judged v s.works
+  where
+    judged : ℕ → List FreeFrame → List FreeFrame
+    judged v [] = []
+    judged v (f ∷ fs) = unwrap_or (free_taken f s.pool v) f ∷ fs
+
+-- moves that tell nothing
+pub data Silently (s : OpenFrees) : OpenFrees → Type 0 where
+  Still : Silently s s
+  On : (t u : OpenFrees) → Silently s t → next_of t ≡ (None, u) → Silently s u
+
+-- the next move tells something, or no free is open
+abbrev pub speaks : List FreeFrame → Option FreeStep → Bool
+speaks [] told = true
+speaks (f ∷ fs) None = false
+speaks (f ∷ fs) (Some t) = true
+
+abbrev pub speaking : OpenFrees → Bool
+speaking s = speaks s.works (next_of s).0
+
+-- What a step tells is what the next move tells, and after it come the moves that tell nothing.
+pub record Steps (old : OpenFrees) (told : FreeStep) (new : OpenFrees) : Type 0 where
+  pub tells : (next_of old).0 ≡ Some told
+  pub moves_on : Silently (next_of old).1 new
+  pub settles : speaking new ≡ true
+
+-- A free that has begun, or was answered, has made the moves that tell nothing.
+pub record Begins (works : List FreeFrame) (pool : Pool) (new : OpenFrees) : Type 0 where
+  pub moves_on : Silently (record { works = works; pool = pool }) new
+  pub settles : speaking new ≡ true

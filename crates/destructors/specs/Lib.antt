@@ -1,0 +1,5 @@
+pub mod Moves
+pub mod Frees
+pub mod Works
+pub mod Room
+pub mod Engine

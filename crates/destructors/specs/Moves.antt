@@ -1,0 +1,52 @@
+-- What the code calls a move, and what a move rests on.
+use Rattle.std.specs.Prelude.{◌≡◌, true, false}
+use Rattle.step_machine.specs.Machine.{Move as Do}
+use Rattle.tree_specs.specs.declared.object.Obj.{Obj}
+use Rattle.tree_specs.specs.declared.object.Owner.TheVariants.{Of}
+use Rattle.tree_specs.specs.declared.frame.FreeFrame.{FreeFrame}
+use Rattle.tree_specs.specs.declared.frame.FreeFrame.TheVariants.{Beginning, Hooked, Judged, Leaving, Looping, Trying, Tried, Ending}
+use Rattle.tree_specs.specs.declared.frame.Purpose.TheVariants.{Removal, Emptying}
+use Rattle.tree_specs.specs.declared.free_step.FreeStep.TheVariants.{Ask}
+use Rattle.tree_specs.specs.Pool.{Pool, is_row, is_below, owner_of, is_dying}
+use Rattle.tree_specs.specs.Heirs.{heir}
+use Rattle.tree_specs.specs.Table.{FreeMove}
+use Rattle.tree_links.specs.Links.{MayPlace}
+use Rattle.destructors.specs.declared.motion.Motion.{Motion}
+use Rattle.destructors.specs.declared.motion.Motion.TheVariants.{Ends, Goes, Tells, Asks, Pushes}
+use Rattle.destructors.specs.declared.motion.Outlook.{Outlook}
+use Rattle.destructors.specs.declared.motion.Outlook.TheVariants.{End, Telling, Silence}
+
+abbrev pub move_of : Motion → Pool → FreeMove
+move_of (Ends a) p = Do.Done a p
+move_of (Goes f) p = Do.Go f p
+move_of (Tells t f) p = Do.Emit t f p
+move_of (Asks x f) p = Do.Wait (Ask x) f p
+move_of (Pushes g f) p = Do.Call g f p
+
+-- what can be said of a move before it is made
+abbrev pub outlook_of : FreeMove → Outlook
+outlook_of (Do.Done a p) = End
+outlook_of (Do.Go f p) = Silence
+outlook_of (Do.Emit t f p) = Telling
+outlook_of (Do.Wait t f p) = Telling
+outlook_of (Do.Call g f p) = Silence
+
+-- an object that is live and may be changed
+abbrev pub IsLiveRow : Pool → Obj → Type 0
+IsLiveRow p x = (is_row p.rows x ≡ true) × (is_dying p.rows x ≡ false)
+
+-- a child that is to be handed on may be put below its heir
+abbrev pub MayHandOn : Pool → Obj → Obj → Type 0
+MayHandOn p x c = is_below (owner_of p.rows c) (Of x) ≡ true → MayPlace p.rows c (heir p.rows x c)
+
+-- what a move rests on
+abbrev pub FreeRests : FreeFrame → Pool → Type 0
+FreeRests (Beginning x) p = Unit {0}
+FreeRests (Hooked x h) p = Unit {0}
+FreeRests (Judged x h v) p = IsLiveRow p x
+FreeRests (Leaving x h) p = IsLiveRow p x
+FreeRests (Looping x (Removal h)) p = is_dying p.rows x ≡ true
+FreeRests (Looping x Emptying) p = Unit {0}
+FreeRests (Trying x c purpose) p = Unit {0}
+FreeRests (Tried x c purpose a) p = MayHandOn p x c
+FreeRests (Ending a) p = Unit {0}

@@ -1,0 +1,14 @@
+//! Freeing, step after step: an object's destructor is asked, it leaves its owner, its children are freed, newest
+//! first, and it is removed (`talloc_free`). Whoever calls runs the destructors, and may do with the tree what he
+//! likes between a question and its answer.
+#![tactic(auto)]
+
+mod engine;
+mod heir;
+mod motion;
+mod moves;
+#[cfg(test)]
+mod tests;
+mod works;
+
+pub use engine::FreeEngine;

@@ -1,0 +1,58 @@
+use super::add;
+use crate::motion::Outlook;
+use crate::moves::outlook;
+use std::test::Fail;
+use tree_links::Tree;
+use tree_specs::{FreeFrame, FreeReply, Obj, Owner, Purpose};
+
+fn looping(x: u64, purpose: Purpose) -> FreeFrame {
+    FreeFrame::Looping { x: Obj(x), purpose }
+}
+
+fn tried(x: u64, child: u64, answer: FreeReply) -> FreeFrame {
+    FreeFrame::Tried {
+        x: Obj(x),
+        child: Obj(child),
+        purpose: Purpose::Emptying,
+        answer,
+    }
+}
+
+// 1 owns 2. There is no 9.
+#[test]
+fn it_is_known_before_a_move_whether_it_tells_something(rt: HostRuntime) -> Result<(), Fail> {
+    let mut tree = Tree::new(rt.alloc(), 1);
+    let top = add(&rt, &mut tree, rt.alloc(), Owner::Root)?;
+    add(&rt, &mut tree, rt.alloc(), Owner::Of(top))?;
+    for work in [
+        looping(2, Purpose::Removal { hook: 0 }),
+        tried(1, 2, FreeReply::Running),
+        tried(1, 2, FreeReply::Refused(7)),
+    ] {
+        assert!(rt;
+            matches!(outlook(work, &tree), Outlook::Telling),
+            "{work:?}"
+        );
+    }
+    for work in [
+        FreeFrame::Beginning { x: Obj(1) },
+        looping(1, Purpose::Emptying),
+        tried(1, 2, FreeReply::Ok),
+        tried(2, 1, FreeReply::Running),
+    ] {
+        assert!(rt;
+            matches!(outlook(work, &tree), Outlook::Silence),
+            "{work:?}"
+        );
+    }
+    for work in [
+        FreeFrame::Beginning { x: Obj(9) },
+        looping(2, Purpose::Emptying),
+        FreeFrame::Ending {
+            answer: FreeReply::Ok,
+        },
+    ] {
+        assert!(rt; matches!(outlook(work, &tree), Outlook::End), "{work:?}");
+    }
+    Ok(())
+}

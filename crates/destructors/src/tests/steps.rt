@@ -1,0 +1,132 @@
+use super::{add, ask, begin, done, event, hook, nest};
+use std::test::Fail;
+use tree_links::Tree;
+use tree_specs::{FreeReply, FreeStep, Obj, Owner};
+
+fn left(x: u64, from: Owner) -> FreeStep {
+    let object = Obj(x);
+    FreeStep::Left { object, from }
+}
+
+fn gone(x: u64, hook: u32) -> FreeStep {
+    let object = Obj(x);
+    FreeStep::Gone { object, hook }
+}
+
+fn moved(x: u64, from: Owner, owner: Owner) -> FreeStep {
+    let object = Obj(x);
+    FreeStep::Moved {
+        object,
+        from,
+        owner,
+    }
+}
+
+#[test]
+fn a_number_that_is_no_object_is_freed_at_once(rt: HostRuntime) -> Result<(), Fail> {
+    let mut tree = Tree::new(rt.alloc(), 1);
+    let mut engine = begin(&mut tree, Obj(5))?;
+    assert!(rt; !engine.announces(&tree));
+    assert_eq!(rt; done(&rt, &mut engine, &mut tree), FreeReply::Ok);
+    assert!(rt; tree.is_empty());
+    Ok(())
+}
+
+// 1 owns 2.
+#[test]
+fn a_child_is_gone_before_its_owner(rt: HostRuntime) -> Result<(), Fail> {
+    let mut tree = Tree::new(rt.alloc(), 1);
+    let top = add(&rt, &mut tree, rt.alloc(), Owner::Root)?;
+    add(&rt, &mut tree, rt.alloc(), Owner::Of(top))?;
+    let mut engine = begin(&mut tree, top)?;
+    assert!(rt; !engine.announces(&tree));
+    assert_eq!(rt; event(&rt, &mut engine, &mut tree), left(1, Owner::Root));
+    assert_eq!(rt; event(&rt, &mut engine, &mut tree), left(2, Owner::Of(top)));
+    assert!(rt; engine.announces(&tree));
+    assert_eq!(rt; event(&rt, &mut engine, &mut tree), gone(2, 0));
+    assert_eq!(rt; event(&rt, &mut engine, &mut tree), gone(1, 0));
+    assert_eq!(rt; done(&rt, &mut engine, &mut tree), FreeReply::Ok);
+    assert!(rt; tree.is_empty());
+    Ok(())
+}
+
+// 1 owns 2, which has a destructor.
+#[test]
+fn a_destructor_accepts(rt: HostRuntime) -> Result<(), Fail> {
+    let mut tree = Tree::new(rt.alloc(), 1);
+    let top = add(&rt, &mut tree, rt.alloc(), Owner::Root)?;
+    let child = add(&rt, &mut tree, rt.alloc(), Owner::Of(top))?;
+    hook(&rt, &mut tree, child);
+    let mut engine = begin(&mut tree, top)?;
+    assert_eq!(rt; event(&rt, &mut engine, &mut tree), left(1, Owner::Root));
+    assert_eq!(rt; ask(&rt, &mut engine, &mut tree, 0), child);
+    let accepted = FreeStep::Accepted(child);
+    assert_eq!(rt; event(&rt, &mut engine, &mut tree), accepted);
+    assert_eq!(rt; event(&rt, &mut engine, &mut tree), left(2, Owner::Of(top)));
+    assert_eq!(rt; event(&rt, &mut engine, &mut tree), gone(2, 16));
+    assert_eq!(rt; event(&rt, &mut engine, &mut tree), gone(1, 0));
+    assert_eq!(rt; done(&rt, &mut engine, &mut tree), FreeReply::Ok);
+    assert!(rt; tree.is_empty());
+    Ok(())
+}
+
+// 1 owns 2, and 2 owns 3, which has a destructor.
+#[test]
+fn a_child_that_refuses_goes_to_its_heir(rt: HostRuntime) -> Result<(), Fail> {
+    let mut tree = Tree::new(rt.alloc(), 1);
+    let top = add(&rt, &mut tree, rt.alloc(), Owner::Root)?;
+    let middle = add(&rt, &mut tree, rt.alloc(), Owner::Of(top))?;
+    let bottom = add(&rt, &mut tree, rt.alloc(), Owner::Of(middle))?;
+    hook(&rt, &mut tree, bottom);
+    let mut engine = begin(&mut tree, middle)?;
+    assert_eq!(rt; event(&rt, &mut engine, &mut tree), left(2, Owner::Of(top)));
+    assert_eq!(rt; ask(&rt, &mut engine, &mut tree, 7), bottom);
+    let refused = FreeStep::Refused {
+        object: bottom,
+        answer: 7,
+    };
+    assert_eq!(rt; event(&rt, &mut engine, &mut tree), refused);
+    let to_heir = moved(3, Owner::Of(middle), Owner::Of(top));
+    assert_eq!(rt; event(&rt, &mut engine, &mut tree), to_heir);
+    assert_eq!(rt; event(&rt, &mut engine, &mut tree), gone(2, 0));
+    assert_eq!(rt; done(&rt, &mut engine, &mut tree), FreeReply::Ok);
+    assert_eq!(rt; tree.parent(bottom), Some(Owner::Of(top)));
+    assert_eq!(rt; tree.len(), 2);
+    Ok(())
+}
+
+// A destructor at the top refuses, and the free answers so.
+#[test]
+fn a_free_answers_that_the_destructor_refused(rt: HostRuntime) -> Result<(), Fail> {
+    let mut tree = Tree::new(rt.alloc(), 1);
+    let top = add(&rt, &mut tree, rt.alloc(), Owner::Root)?;
+    hook(&rt, &mut tree, top);
+    let mut engine = begin(&mut tree, top)?;
+    assert!(rt; !engine.announces(&tree));
+    assert_eq!(rt; ask(&rt, &mut engine, &mut tree, 7), top);
+    assert!(rt; engine.announces(&tree));
+    let refused = FreeStep::Refused {
+        object: top,
+        answer: 7,
+    };
+    assert_eq!(rt; event(&rt, &mut engine, &mut tree), refused);
+    let answer = done(&rt, &mut engine, &mut tree);
+    assert_eq!(rt; answer, FreeReply::Refused(7));
+    assert_eq!(rt; tree.parent(top), Some(Owner::Root));
+    Ok(())
+}
+
+// The destructor of 1 frees 1.
+#[test]
+fn an_object_whose_destructor_runs_is_not_freed(rt: HostRuntime) -> Result<(), Fail> {
+    let mut tree = Tree::new(rt.alloc(), 1);
+    let top = add(&rt, &mut tree, rt.alloc(), Owner::Root)?;
+    hook(&rt, &mut tree, top);
+    let mut engine = begin(&mut tree, top)?;
+    nest(&rt, &mut engine, &mut tree, top)?;
+    assert!(rt; !engine.announces(&tree));
+    let answer = done(&rt, &mut engine, &mut tree);
+    assert_eq!(rt; answer, FreeReply::Running);
+    assert_eq!(rt; tree.parent(top), Some(Owner::Root));
+    Ok(())
+}

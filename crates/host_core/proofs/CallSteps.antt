@@ -1,0 +1,192 @@
+-- The steps of callers, and of the frees that they wait for, by the parts of a host.
+use Rattle.std.proofs.Common.{◌≡◌, ℕ, List, [], ◌∷◌, Option, Some, None, false, refl, sym, ◌∙◌, ap, subst, arith}
+use Rattle.std.specs.Prelude.{is_some}
+use Rattle.step_machine.specs.Machine.{Move}
+use Rattle.step_machine.specs.Machine.{Move as Do}
+use Rattle.tree_specs.specs.declared.call.Call.{Call}
+use Rattle.tree_specs.specs.declared.event.Event.{Event}
+use Rattle.tree_specs.specs.declared.question.Ask.{Ask as AskData}
+use Rattle.tree_specs.specs.declared.question.Ask.TheVariants.{Routine}
+use Rattle.tree_specs.specs.declared.frame.Frame.{Frame}
+use Rattle.tree_specs.specs.declared.frame.Frame.TheVariants as frame
+use Rattle.tree_specs.specs.declared.frame.CallFrame.{CallFrame}
+use Rattle.tree_specs.specs.declared.frame.CallFrame.TheVariants.{Asking, Doing, Awaiting, Returning}
+use Rattle.tree_specs.specs.declared.frame.FreeFrame.{FreeFrame}
+use Rattle.tree_specs.specs.declared.frame.FreeFrame.TheVariants.{Beginning, Hooked, Judged, Leaving, Looping, Trying, Tried, Ending}
+use Rattle.tree_specs.specs.declared.frame.Purpose.TheVariants.{Emptying}
+use Rattle.tree_specs.specs.declared.frame.Answer.{Answer}
+use Rattle.tree_specs.specs.declared.frame.Answer.TheVariants.{Freed}
+use Rattle.tree_specs.specs.declared.free_step.FreeReply.{FreeReply}
+use Rattle.tree_specs.specs.declared.free_step.FreeStep.{FreeStep}
+use Rattle.tree_specs.specs.declared.free_step.FreeStep.TheVariants.{Ask, Refused, Accepted, Left, Moved, Gone, Done}
+use Rattle.tree_specs.specs.declared.object.Obj.{Obj}
+use Rattle.tree_specs.specs.Pool.{Pool, row_of}
+use Rattle.tree_specs.specs.Items.{Item}
+use Rattle.tree_specs.specs.Calls.{refusals}
+use Rattle.tree_specs.specs.Story.{hook_moment}
+use Rattle.tree_specs.specs.Sound.{HasHook, claim}
+use Rattle.tree_specs.specs.Table.{call_step, event_of, caller_resume}
+use Rattle.tree_specs.specs.View.{View}
+use Rattle.tree_specs.specs.Whole.{Seated, innermost_size, Whole}
+use Rattle.tree_specs.proofs.Keeps.{stands}
+use Rattle.tree_specs.proofs.Load.{reseat}
+use Rattle.tree_specs.proofs.Rest.{GoesOn, IsTelling, call-goes_on}
+use Rattle.destructors.specs.Frees.{OpenFrees, moves, is_event, returned, Silently}
+use Rattle.destructors.specs.Works.{standing, under, free_view, call_view, AtWork, IsAtWork, IsAwaiting}
+use Rattle.destructors.proofs.FreeMoves.{IsNews}
+use Rattle.destructors.proofs.Lifting.{OnTold, OnMove, OnCaller}
+use Rattle.destructors.proofs.Keeping.{told-kept}
+use Rattle.destructors.proofs.Settling.{awaiting-speaks, still, asks-hooked}
+use Rattle.host_core.specs.declared.motion.Motion.{Motion}
+use Rattle.host_core.specs.declared.motion.Motion.TheVariants.{Goes, Frees, Empties}
+use Rattle.host_core.specs.declared.active.Active.TheVariants as active
+use Rattle.host_core.specs.Moves.{move_of}
+use Rattle.host_core.specs.Hosts.{seen, motion_view, speaks, moved, next_of, speaking_view, Onward}
+use Rattle.host_core.proofs.Onward.{onward, onward-along, AfterEvent, after-event, event-along}
+use Rattle.host_core.proofs.FreeSteps.{Comes, comes, events, tells, speaks-events, seen-free, silently-along}
+
+-- ---- a call
+
+-- the work that a call puts before its caller stands on him
+stands-on : (c : CallFrame) (works : List FreeFrame) (cs : List CallFrame) (d : CallFrame) → Seated (frame.Call c) (under works cs) → standing works (d ∷ cs) ≡ frame.Call d ∷ under works cs
+stands-on c [] cs d s = refl
+stands-on c (Hooked y h ∷ fs) cs d s = refl
+stands-on c (Beginning y ∷ fs) cs d s = absurd s.0
+stands-on c (Judged y h v ∷ fs) cs d s = absurd s.0
+stands-on c (Leaving y h ∷ fs) cs d s = absurd s.0
+stands-on c (Looping y purpose ∷ fs) cs d s = absurd s.0
+stands-on c (Trying y e purpose ∷ fs) cs d s = absurd s.0
+stands-on c (Tried y e purpose a ∷ fs) cs d s = absurd s.0
+stands-on c (Ending a ∷ fs) cs d s = absurd s.0
+
+-- a call that is done goes on to what it has begun
+pub act-onward : (q : AskData) (c : Call) (works : List FreeFrame) (cs : List CallFrame) (p p' : Pool) (m : Motion) → Whole (call_view (Doing q c) works cs p) → move_of m p' ≡ call_step (refusals p c) q c p
+    → Onward (call_view (Doing q c) works cs p) (motion_view m works cs p')
+act-onward q c works cs p p' m h e =
+    let v : View = call_view (Doing q c) works cs p in
+    onward v (motion_view m works cs p') h (quiet (call_step (refusals p c) q c p) (call-goes_on (refusals p c) q c p)) (ap (λ (z : Move Frame Answer Pool Item). (moved z (under works cs)).1) (sym e) ∙ each m)
+  where
+    quiet : (z : Move Frame Answer Pool Item) → GoesOn z → speaks z ≡ false
+    quiet (Do.Done a s) g = absurd g
+    quiet (Do.Go f s) g = refl
+    quiet (Do.Emit i f s) g = absurd g
+    quiet (Do.Wait i f s) g = absurd g
+    quiet (Do.Call f k s) g = refl
+
+    each : (m : Motion) → (moved (move_of m p') (under works cs)).1 ≡ motion_view m works cs p'
+    each (Goes d) = refl
+    each (Frees r x) = ap (λ (l : List Frame). let z : View = record { innermost = frame.Free (Beginning x); below = l; pool = p' } in z) (sym (stands-on (Doing q c) works cs (Awaiting r x) h.seated))
+    each (Empties r x) = ap (λ (l : List Frame). let z : View = record { innermost = frame.Free (Looping x Emptying); below = l; pool = p' } in z) (sym (stands-on (Doing q c) works cs (Awaiting r x) h.seated))
+
+-- a caller that goes on has his reply
+pub act-tells : (q : AskData) (c : Call) (p p' : Pool) (d : CallFrame) → move_of (Goes d) p' ≡ call_step (refusals p c) q c p → IsTelling (frame.Call d)
+act-tells q c p p' d e = subst GoesOn (sym e) (call-goes_on (refusals p c) q c p)
+
+-- what a call has begun, with its caller at work again
+pub awaited : (f : FreeFrame) (q : AskData) (x : Obj) (works : List FreeFrame) (cs : List CallFrame) (p : Pool) → ((y : Obj) → claim y (frame.Free f) ≡ []) → innermost_size (frame.Free f) ≡ 0
+    → Seated (frame.Call (Awaiting q x)) (under works cs) → Whole (record { innermost = frame.Free f; below = frame.Call (Awaiting q x) ∷ under works cs; pool = p }) → Whole (call_view (Asking q) works cs p)
+awaited f q x works cs p none small seats h =
+    let l = h.light in
+    record {
+      sound = stands (frame.Free f) (frame.Call (Asking q)) (frame.Call (Awaiting q x) ∷ under works cs) (under works cs) p (λ y. rw (none y) refl) h.sound.waiting.1 tt h.sound;
+      seated = reseat (frame.Call (Awaiting q x)) (frame.Call (Asking q)) (under works cs) (λ z. z) (λ z. z) (λ z. z) seats;
+      light = omega (arith, l, small);
+      plain = h.plain;
+    }
+
+-- after a call the innermost free awaits its caller
+pub act-awaits : (q : AskData) (c : Call) (works : List FreeFrame) (cs : List CallFrame) (p p' : Pool) (m : Motion) → Whole (call_view (Doing q c) works cs p) → move_of m p' ≡ call_step (refusals p c) q c p
+    → IsAwaiting (record { works = works; pool = p' })
+act-awaits q c works cs p p' m h e = each m (act-onward q c works cs p p' m h e).along.whole
+  where
+    begun : (f : FreeFrame) (r : AskData) (x : Obj) → ((y : Obj) → claim y (frame.Free f) ≡ []) → innermost_size (frame.Free f) ≡ 0 → Whole (free_view f works (Awaiting r x ∷ cs) p') → IsAwaiting (record { works = works; pool = p' })
+    begun f r x none small w =
+        let e : standing works (Awaiting r x ∷ cs) ≡ frame.Call (Awaiting r x) ∷ under works cs = stands-on (Doing q c) works cs (Awaiting r x) h.seated in
+        let w' : Whole (record { innermost = frame.Free f; below = frame.Call (Awaiting r x) ∷ under works cs; pool = p' }) = subst (λ (l : List Frame). Whole (record { innermost = frame.Free f; below = l; pool = p' })) e w in
+        record { caller = Asking r; callers = cs; whole = awaited f r x works cs p' none small w'.seated.1 w' }
+
+    each : (m : Motion) → Whole (motion_view m works cs p') → IsAwaiting (record { works = works; pool = p' })
+    each (Goes d) w = record { caller = d; callers = cs; whole = w }
+    each (Frees r x) w = begun (Beginning x) r x (λ y. refl) refl w
+    each (Empties r x) w = begun (Looping x Emptying) r x (λ y. refl) refl w
+
+-- ---- a routine that has returned
+
+pub return-onward : (v : ℕ) (works : List FreeFrame) (cs : List CallFrame) (p : Pool) → Whole (call_view (Returning v) works cs p)
+    → Onward (call_view (Returning v) works cs p) (seen active.Freeing (returned v (record { works = works; pool = p })) cs p)
+return-onward v [] [] p h = absurd h.seated
+return-onward v [] (c ∷ cs) p h = absurd h.seated.0
+return-onward v (Hooked x g ∷ fs) cs p h = onward _ _ h refl refl
+return-onward v (Beginning x ∷ fs) cs p h = absurd h.seated.0
+return-onward v (Judged x g u ∷ fs) cs p h = absurd h.seated.0
+return-onward v (Leaving x g ∷ fs) cs p h = absurd h.seated.0
+return-onward v (Looping x purpose ∷ fs) cs p h = absurd h.seated.0
+return-onward v (Trying x c purpose ∷ fs) cs p h = absurd h.seated.0
+return-onward v (Tried x c purpose a ∷ fs) cs p h = absurd h.seated.0
+return-onward v (Ending a ∷ fs) cs p h = absurd h.seated.0
+
+-- ---- a step of the innermost free
+
+-- the works of a free that is at work
+first : (s : OpenFrees) → IsAtWork s → (f : FreeFrame) × (fs : List FreeFrame) × (s.works ≡ f ∷ fs)
+first s w = each s.works w
+  where
+    each : (works : List FreeFrame) → AtWork works s.pool → (f : FreeFrame) × (fs : List FreeFrame) × (works ≡ f ∷ fs)
+    each [] w = absurd w
+    each (f ∷ fs) w = (f, fs, refl)
+
+seen-told : (v : View) (t : FreeStep) (works : List FreeFrame) (cs : List CallFrame) (p : Pool) → IsNews t → OnTold (Comes v) cs 0 t works p → (next_of v).1 ≡ seen active.Freeing works cs p
+seen-told v (Ask x) works cs p n c = absurd n
+seen-told v (Refused x r) works cs p n c = seen-free v works cs p c
+seen-told v (Accepted x) works cs p n c = seen-free v works cs p c
+seen-told v (Left x from) works cs p n c = seen-free v works cs p c
+seen-told v (Moved x from owner) works cs p n c = seen-free v works cs p c
+seen-told v (Gone x h) works cs p n c = seen-free v works cs p c
+seen-told v (Done a) works cs p n c = absurd n
+
+-- it goes on, or tells what the host doesn't
+pub news-onward : (f : FreeFrame) (fs : List FreeFrame) (cs : List CallFrame) (p : Pool) (t : FreeStep) (mid new : OpenFrees) → Whole (free_view f fs cs p) → moves (f ∷ fs) p ≡ (Some t, mid)
+    → event_of t ≡ None → IsNews t → Silently mid new → Onward (free_view f fs cs p) (seen active.Freeing new.works cs new.pool)
+news-onward f fs cs p t mid new h m quiet news on =
+    let v : View = free_view f fs cs p in
+    let c : OnTold (Comes v) cs 0 t mid.works mid.pool = subst (OnMove (Comes v) cs 0) m (comes f fs cs p) in
+    let silent : speaking_view v ≡ false = speaks-events f fs cs p ∙ ap (λ (z : Option FreeStep × OpenFrees). is_event z.0) m ∙ ap is_some quiet in
+    let o : Onward v (seen active.Freeing mid.works cs mid.pool) = onward v (seen active.Freeing mid.works cs mid.pool) h silent (seen-told v t mid.works cs mid.pool news c) in
+    onward-along _ _ _ o (silently-along mid new cs on o.along.whole)
+
+-- it tells an event
+pub news-event : (f : FreeFrame) (fs : List FreeFrame) (cs : List CallFrame) (p : Pool) (t : FreeStep) (e : Event) (mid new : OpenFrees) → Whole (free_view f fs cs p) → moves (f ∷ fs) p ≡ (Some t, mid)
+    → event_of t ≡ Some e → IsNews t → Silently mid new → AfterEvent (free_view f fs cs p) (seen active.Freeing new.works cs new.pool) e
+news-event f fs cs p t e mid new h m loud news on =
+    let v : View = free_view f fs cs p in
+    let c : OnTold (Comes v) cs 0 t mid.works mid.pool = subst (OnMove (Comes v) cs 0) m (comes f fs cs p) in
+    let told : (next_of v).0 ≡ Some e = tells f fs cs p ∙ ap (λ (z : Option FreeStep × OpenFrees). events z.0) m ∙ loud in
+    let leads : (next_of v).1 ≡ seen active.Freeing mid.works cs mid.pool = seen-told v t mid.works cs mid.pool news c in
+    let a = after-event v (seen active.Freeing mid.works cs mid.pool) e h
+    (ap (λ (o : Option Event). let y : Option Event × View = (o, (next_of v).1) in y) told ∙ ap (λ (w : View). let y : Option Event × View = (Some e, w) in y) leads) in
+    event-along _ _ _ e a (silently-along mid new cs on a.whole)
+
+-- it asks for the run of a destructor
+pub ask-onward : (f : FreeFrame) (fs : List FreeFrame) (cs : List CallFrame) (p : Pool) (x : Obj) (mid new : OpenFrees) → Whole (free_view f fs cs p) → moves (f ∷ fs) p ≡ (Some (Ask x), mid) → Silently mid new
+    → (h : ℕ) × HasHook (row_of new.pool.rows x) h × Onward (free_view f fs cs p) (call_view (Asking (Routine (hook_moment x h))) new.works cs new.pool)
+ask-onward f fs cs p x mid new w m on =
+    let a = asks-hooked f fs p x mid m in
+    let h : ℕ = a.0 in
+    let stays : mid ≡ record { works = f ∷ fs; pool = p } = a.2 in
+    let same : record { works = f ∷ fs; pool = p } ≡ new = sym stays ∙ still mid new on (rw stays (rw a.1 refl)) in
+    let w' : Whole (free_view (Hooked x h) fs cs p) = rw a.1 at w in
+    let o : Onward (free_view (Hooked x h) fs cs p) (call_view (Asking (Routine (hook_moment x h))) (Hooked x h ∷ fs) cs p) = onward _ _ w' refl refl in
+    let o' : Onward (free_view f fs cs p) (call_view (Asking (Routine (hook_moment x h))) (Hooked x h ∷ fs) cs p) = subst (λ (z : FreeFrame). Onward (free_view z fs cs p) (call_view (Asking (Routine (hook_moment x h))) (Hooked x h ∷ fs) cs p)) (sym a.1) o in
+    let same' : record { works = Hooked x h ∷ fs; pool = p } ≡ new = ap (λ (z : FreeFrame). let y : OpenFrees = record { works = z ∷ fs; pool = p } in y) (sym a.1) ∙ same in
+    let r = subst (λ (z : OpenFrees). HasHook (row_of z.pool.rows x) h × Onward (free_view f fs cs p) (call_view (Asking (Routine (hook_moment x h))) z.works cs z.pool)) same' (w'.sound.rests.1, o') in
+    (h, r.0, r.1)
+
+-- it is over, and its caller goes on
+pub done-onward : (f : FreeFrame) (fs : List FreeFrame) (c : CallFrame) (ds : List CallFrame) (p : Pool) (a : FreeReply) (mid new : OpenFrees) → Whole (free_view f fs (c ∷ ds) p) → moves (f ∷ fs) p ≡ (Some (Done a), mid)
+    → Silently mid new → Onward (free_view f fs (c ∷ ds) p) (call_view (caller_resume c (Freed a)) new.works ds new.pool)
+done-onward f fs c ds p a mid new h m on =
+    let v : View = free_view f fs (c ∷ ds) p in
+    let l : OnCaller (Comes v) (c ∷ ds) 0 a (c ∷ ds) mid.works mid.pool = subst (OnMove (Comes v) (c ∷ ds) 0) m (comes f fs (c ∷ ds) p) in
+    let silent : speaking_view v ≡ false = speaks-events f fs (c ∷ ds) p ∙ ap (λ (z : Option FreeStep × OpenFrees). is_event z.0) m in
+    let same : mid ≡ new = still mid new on (awaiting-speaks mid (told-kept f fs p (Done a) mid (c ∷ ds, h) m)) in
+    subst (λ (z : OpenFrees). Onward v (call_view (caller_resume c (Freed a)) z.works ds z.pool)) same (onward v (call_view (caller_resume c (Freed a)) mid.works ds mid.pool) h silent l)

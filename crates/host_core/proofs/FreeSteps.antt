@@ -1,0 +1,148 @@
+-- The moves of the open frees as steps of a host.
+use Rattle.std.proofs.Common.{◌≡◌, ℕ, List, [], ◌∷◌, Option, Some, None, false, refl, ◌∙◌, ap, subst}
+use Rattle.std.specs.Prelude.{is_some}
+use Rattle.step_machine.specs.Machine.{Move}
+use Rattle.step_machine.specs.Machine.{Move as Do}
+use Rattle.step_machine.proofs.Ends.{Leads}
+use Rattle.tree_specs.specs.declared.event.Event.{Event}
+use Rattle.tree_specs.specs.declared.frame.Frame.{Frame}
+use Rattle.tree_specs.specs.declared.frame.CallFrame.{CallFrame}
+use Rattle.tree_specs.specs.declared.frame.FreeFrame.{FreeFrame}
+use Rattle.tree_specs.specs.declared.frame.FreeFrame.TheVariants.{Beginning, Hooked, Judged, Leaving, Looping, Trying, Tried, Ending}
+use Rattle.tree_specs.specs.declared.frame.Answer.{Answer}
+use Rattle.tree_specs.specs.declared.frame.Answer.TheVariants.{Freed}
+use Rattle.tree_specs.specs.declared.free_step.FreeReply.{FreeReply}
+use Rattle.tree_specs.specs.declared.free_step.FreeStep.{FreeStep}
+use Rattle.tree_specs.specs.declared.free_step.FreeStep.TheVariants.{Ask}
+use Rattle.tree_specs.specs.Pool.{Pool}
+use Rattle.tree_specs.specs.Items.{Item}
+use Rattle.tree_specs.specs.Table.{FreeMove, table, step, free_step, lifted, event_of, announced}
+use Rattle.tree_specs.specs.View.{View}
+use Rattle.tree_specs.specs.Whole.{Whole}
+use Rattle.destructors.specs.Frees.{OpenFrees, answered, moved as free_moved, moves, is_event, Silently, Still, On}
+use Rattle.destructors.specs.Works.{standing, free_view}
+use Rattle.destructors.proofs.FreeMoves.{AsksFor, IsMoveOf, is_move}
+use Rattle.destructors.proofs.Lifting.{OnFree, OnMove, lift}
+use Rattle.host_core.specs.declared.active.Active.TheVariants as active
+use Rattle.host_core.specs.Hosts.{seen, speaks, moved, next_of, speaking_view, Along, Onward}
+use Rattle.host_core.proofs.Onward.{onward, stays, along-then}
+
+-- ---- where a step leads
+
+-- where the step of a view leads
+abbrev pub Comes : View → Frame → List Frame → Pool → ℕ → Type 0
+Comes v g gs q j = (next_of v).1 ≡ record { innermost = g; below = gs; pool = q }
+
+leads-comes : (v : View) → Leads table (Comes v) (step v.innermost v.pool) v.below 0
+leads-comes v = each (step v.innermost v.pool) v.below refl refl
+  where
+    each : (m : Move Frame Answer Pool Item) (fs : List Frame) → step v.innermost v.pool ≡ m → v.below ≡ fs → Leads table (Comes v) m fs 0
+    each (Do.Done a p) [] e d = tt
+    each (Do.Done a p) (g ∷ gs) e d = rw (e, d) refl
+    each (Do.Go f p) fs e d = rw (e, d) refl
+    each (Do.Emit i f p) fs e d = rw (e, d) refl
+    each (Do.Wait i f p) fs e d = tt
+    each (Do.Call g f p) fs e d = rw (e, d) refl
+
+-- the move of the open frees leads where the step of the host leads
+pub comes : (f : FreeFrame) (fs : List FreeFrame) (cs : List CallFrame) (p : Pool) → OnMove (Comes (free_view f fs cs p)) cs 0 (moves (f ∷ fs) p)
+comes f fs cs p = lift (Comes (free_view f fs cs p)) cs 0 f fs p (leads-comes (free_view f fs cs p))
+
+-- ---- what a step tells
+
+abbrev pub events : Option FreeStep → Option Event
+events None = None
+events (Some t) = event_of t
+
+answered-events : (a : FreeReply) (p : Pool) (fs : List FreeFrame) (below : List Frame) → (moved (Do.Done (Freed a) p) below).0 ≡ events (answered a p fs).0
+answered-events a p fs below = silent below ∙ none fs
+  where
+    none : (fs : List FreeFrame) → None ≡ events (answered a p fs).0
+    none [] = refl
+    none (Hooked x h ∷ fs) = refl
+    none (Beginning x ∷ fs) = refl
+    none (Judged x h v ∷ fs) = refl
+    none (Leaving x h ∷ fs) = refl
+    none (Looping x purpose ∷ fs) = refl
+    none (Trying x c purpose ∷ fs) = refl
+    none (Tried x c purpose b ∷ fs) = refl
+    none (Ending b ∷ fs) = refl
+
+    silent : (below : List Frame) → (moved (Do.Done (Freed a) p) below).0 ≡ None
+    silent [] = refl
+    silent (g ∷ gs) = refl
+
+told-events : (f : FreeFrame) (p : Pool) (m : FreeMove) (fs : List FreeFrame) (below : List Frame) → IsMoveOf f p m → (moved (lifted m) below).0 ≡ events (free_moved m fs).0
+told-events f p (Do.Done a q) fs below of = answered-events a q fs below
+told-events f p (Do.Go g q) fs below of = refl
+told-events f p (Do.Emit t g q) fs below of = each (event_of t)
+  where
+    each : (o : Option Event) → (moved (announced o g q) below).0 ≡ o
+    each None = refl
+    each (Some e) = refl
+told-events f p (Do.Wait t g q) fs below of = asked t f of.2
+  where
+    asked : (t : FreeStep) (f : FreeFrame) → AsksFor t f → None ≡ event_of t
+    asked (Ask x) (Hooked y h) a = refl
+    asked t f a = absurd a
+told-events f p (Do.Call g h q) fs below of = refl
+
+-- the host tells what the move of the open frees tells
+pub tells : (f : FreeFrame) (fs : List FreeFrame) (cs : List CallFrame) (p : Pool) → (next_of (free_view f fs cs p)).0 ≡ events (moves (f ∷ fs) p).0
+tells f fs cs p = told-events f p (free_step f p) fs (standing fs cs) (is_move f p)
+
+-- the step of a free speaks where it tells an event
+pub speaks-events : (f : FreeFrame) (fs : List FreeFrame) (cs : List CallFrame) (p : Pool) → speaking_view (free_view f fs cs p) ≡ is_event (moves (f ∷ fs) p).0
+speaks-events f fs cs p = each (free_step f p) (is_move f p)
+  where
+    over : (a : FreeReply) (q : Pool) (fs : List FreeFrame) → false ≡ is_event (answered a q fs).0
+    over a q [] = refl
+    over a q (Hooked x h ∷ fs) = refl
+    over a q (Beginning x ∷ fs) = refl
+    over a q (Judged x h v ∷ fs) = refl
+    over a q (Leaving x h ∷ fs) = refl
+    over a q (Looping x purpose ∷ fs) = refl
+    over a q (Trying x c purpose ∷ fs) = refl
+    over a q (Tried x c purpose b ∷ fs) = refl
+    over a q (Ending b ∷ fs) = refl
+
+    news : (o : Option Event) (g : FreeFrame) (q : Pool) → speaks (announced o g q) ≡ is_some o
+    news None g q = refl
+    news (Some e) g q = refl
+
+    each : (m : FreeMove) → IsMoveOf f p m → speaks (lifted m) ≡ is_event (free_moved m fs).0
+    each (Do.Done a q) of = over a q fs
+    each (Do.Go g q) of = refl
+    each (Do.Emit t g q) of = news (event_of t) g q
+    each (Do.Wait t g q) of = asked t f of.2
+      where
+        asked : (t : FreeStep) (f : FreeFrame) → AsksFor t f → false ≡ is_some (event_of t)
+        asked (Ask x) (Hooked y h) a = refl
+        asked t f a = absurd a
+    each (Do.Call g h q) of = refl
+
+-- ---- moves that tell nothing
+
+pub seen-free : (v : View) (works : List FreeFrame) (cs : List CallFrame) (p : Pool) → OnFree (Comes v) cs 0 works p → (next_of v).1 ≡ seen active.Freeing works cs p
+seen-free v [] cs p c = absurd c
+seen-free v (g ∷ gs) cs p c = c
+
+pub free-onward : (f : FreeFrame) (fs : List FreeFrame) (cs : List CallFrame) (p : Pool) (t : OpenFrees) → Whole (free_view f fs cs p) → moves (f ∷ fs) p ≡ (None, t)
+    → Onward (free_view f fs cs p) (seen active.Freeing t.works cs t.pool)
+free-onward f fs cs p t h m =
+    let v : View = free_view f fs cs p in
+    let c : OnMove (Comes v) cs 0 (None, t) = subst (OnMove (Comes v) cs 0) m (comes f fs cs p) in
+    onward v (seen active.Freeing t.works cs t.pool) h (speaks-events f fs cs p ∙ ap (λ (z : Option FreeStep × OpenFrees). is_event z.0) m) (seen-free v t.works cs t.pool c)
+
+-- moves that tell nothing lead from one view to another
+pub silently-along : (s t : OpenFrees) (cs : List CallFrame) → Silently s t → Whole (seen active.Freeing s.works cs s.pool) → Along (seen active.Freeing s.works cs s.pool) (seen active.Freeing t.works cs t.pool)
+silently-along s _ cs Still h = stays (seen active.Freeing s.works cs s.pool) h
+silently-along s t cs (On u _ earlier last) h =
+    let a : Along (seen active.Freeing s.works cs s.pool) (seen active.Freeing u.works cs u.pool) = silently-along s u cs earlier h in
+    along-then _ _ _ a (each u.works a.whole last)
+  where
+    each : (works : List FreeFrame) → Whole (seen active.Freeing works cs u.pool) → moves works u.pool ≡ (None, t) → Along (seen active.Freeing works cs u.pool) (seen active.Freeing t.works cs t.pool)
+    each [] w m =
+        let e : (let o : OpenFrees = record { works = []; pool = u.pool } in o) ≡ t = ap (λ (z : Option FreeStep × OpenFrees). z.1) m in
+        subst (λ (z : OpenFrees). Along (seen active.Freeing [] cs u.pool) (seen active.Freeing z.works cs z.pool)) e (stays (seen active.Freeing [] cs u.pool) w)
+    each (f ∷ fs) w m = (free-onward f fs cs u.pool t w m).along

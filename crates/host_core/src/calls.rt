@@ -1,0 +1,124 @@
+//! The steps of a caller: a call is done, or its reply is there.
+ghost use Rattle.std.specs.Prelude.{◌≡◌, ◌≤◌, ◌<◌, ◌+◌, None, Ok};
+ghost use Rattle.tree_specs.specs.Calls.{refusals};
+ghost use Rattle.tree_specs.specs.Pool.{place as placed};
+ghost use Rattle.tree_specs.specs.Story.{freed_reply, later as later_of};
+ghost use Rattle.tree_specs.specs.Table.{call_step, effect_step, replied};
+ghost use Rattle.tree_links.specs.Links.{pool_of, works_of, MayPlace};
+ghost use Rattle.host_core.specs.Moves.{move_of, reply_of, telling as telling_of, checked, report_of};
+
+use crate::brief::Brief;
+use crate::checks::check;
+use crate::motion::Motion;
+use tree_links::{NewRow, Tree};
+use tree_report::{count, total};
+use tree_specs::{Ask, Call, CallFrame, FreeReply, Kind, Obj, Owner, Refusal, Reply};
+
+/// What a caller is asked after a call with this reply.
+pub fn later(ask: Ask, last: Reply) -> Ask
+    ensures { result ≡ later_of ask last }
+{
+    match ask {
+        Ask::Routine(mut moment) => {
+            if moment.step < u32::MAX {
+                moment.step += 1;
+            }
+            moment.last = Some(last);
+            Ask::Routine(moment)
+        }
+        other => other,
+    }
+}
+
+/// The reply is told next, and the caller remembers it.
+pub fn telling(ask: Ask, reply: Brief) -> CallFrame
+    ensures { result ≡ telling_of ask reply }
+{
+    CallFrame::Telling {
+        ask: later(ask, reply.reply()),
+        reply: reply.reply(),
+    }
+}
+
+/// The reply to a call that has freed.
+pub fn freed(x: Obj, answer: FreeReply) -> Brief
+    ensures { reply_of result ≡ freed_reply x answer }
+{
+    match answer {
+        FreeReply::Ok => Brief::Ok,
+        FreeReply::Running => Brief::No(Refusal::Running(x)),
+        FreeReply::Refused(answer) => Brief::No(Refusal::Refused { object: x, answer }),
+    }
+}
+
+fn tells(ask: Ask, reply: Brief) -> Motion
+    ensures { result ≡ Motion.Goes (telling_of ask reply) }
+{
+    Motion::Goes(telling(ask, reply))
+}
+
+/// Puts an object below an owner.
+fn give(ask: Ask, x: Obj, owner: Owner, reply: Brief, tree: &mut Tree) -> Motion
+    requires { MayPlace tree.old.rows x owner }
+    ensures moved { move_of result (pool_of tree.new) ≡ replied ask (reply_of reply) (placed (pool_of tree.old) owner x) }
+    ensures works { works_of tree.new ≡ works_of tree.old }
+{
+    tree.place(x, owner);
+    tells(ask, reply)
+}
+
+/// Does a call that isn't refused, and takes no memory for its reply.
+#[tactic(auto, using(crate::proofs::Allowed::numbered, crate::proofs::Allowed::few, crate::proofs::Allowed::small_size, crate::proofs::Allowed::owned, crate::proofs::Allowed::steal_goes, crate::proofs::Allowed::move_goes, crate::proofs::Allowed::reparent_goes, crate::proofs::Allowed::hook_goes, crate::proofs::Allowed::unhook_goes, crate::proofs::Allowed::named))]
+fn effect(ask: Ask, call: Call, tree: &mut Tree) -> Motion
+    requires room { 0 < tree.old.spare }
+    requires allowed { checked (refusals (pool_of tree.old) call) ≡ Ok tt }
+    requires no_report { report_of call ≡ None }
+    ensures moved { move_of result (pool_of tree.new) ≡ effect_step ask call (pool_of tree.old) }
+    ensures works { works_of tree.new ≡ works_of tree.old }
+{
+    match call {
+        Call::New { owner, size, name } => {
+            let kind = Kind::Plain;
+            let serial = tree.add(NewRow { kind, name, size }, owner);
+            tells(ask, Brief::Number(serial.0))
+        }
+        Call::Free { x } => Motion::Frees(ask, x),
+        Call::Freekids { x } => Motion::Empties(ask, x),
+        Call::Steal { owner, x } => give(ask, x, owner, Brief::Ok, tree),
+        Call::Move { owner, x } => give(ask, x, owner, Brief::Number(x.0), tree),
+        Call::Reparent { to, x, .. } => give(ask, x, to, Brief::Ok, tree),
+        Call::Hook { x, routine } => {
+            tree.set_hook(x, routine);
+            tells(ask, Brief::Ok)
+        }
+        Call::Unhook { x } => {
+            tree.set_hook(x, 0);
+            tells(ask, Brief::Ok)
+        }
+        Call::Rename { x, name } => {
+            tree.set_name(x, name);
+            tells(ask, Brief::Ok)
+        }
+        Call::Parent { x } => {
+            let owner = tree.parent(x).unwrap_or(Owner::Root);
+            tells(ask, Brief::Number(owner.number()))
+        }
+        Call::Total { owner } => tells(ask, Brief::Number(total(tree, owner))),
+        Call::Count { owner } => tells(ask, Brief::Number(count(tree, owner))),
+        Call::Report { .. } => unreachable!(),
+    }
+}
+
+/// Does a call: the first refusal that applies is the reply, otherwise the effect comes.
+#[tactic(auto, using(crate::proofs::Allowed::refused_step, crate::proofs::Allowed::allowed_step))]
+pub fn act(ask: Ask, call: Call, tree: &mut Tree) -> Motion
+    requires room { 0 < tree.old.spare }
+    requires no_report { report_of call ≡ None }
+    ensures moved { move_of result (pool_of tree.new) ≡ call_step (refusals (pool_of tree.old) call) ask call (pool_of tree.old) }
+    ensures works { works_of tree.new ≡ works_of tree.old }
+{
+    match check(&call, tree) {
+        Ok(()) => effect(ask, call, tree),
+        Err(why) => tells(ask, Brief::No(why)),
+    }
+}

@@ -1,0 +1,234 @@
+-- What the items told so far say of the objects and of the open works.
+use Rattle.std.proofs.Common.{◌≡◌, ◌≢◌, ℕ, ◌≤◌, ◌<◌, List, [], ◌∷◌, ◌++◌, Option, Some, None, Bool, true, false, nat_eq, refl, sym, ◌∙◌, ap, subst, ◌⊎◌, inl, inr, arith}
+use Rattle.std.specs.Prelude.{not, ◌||◌}
+use Rattle.std.specs.List.{list_any}
+use Rattle.std.proofs.lemmas.List.Folds.{list_any-append}
+use Rattle.std.proofs.Math.Bool.{or-false}
+use Rattle.tree_specs.specs.declared.object.Obj.{Obj}
+use Rattle.tree_specs.specs.declared.row.Row.{Row}
+use Rattle.tree_specs.specs.declared.row.Mark.{Mark}
+use Rattle.tree_specs.specs.declared.row.Mark.TheVariants.{Quiet, Asked as IsAsked, Busy, Doomed, Dying}
+use Rattle.tree_specs.specs.declared.event.Event.TheVariants.{Accepted, Freed}
+use Rattle.tree_specs.specs.declared.frame.Frame.{Frame}
+use Rattle.tree_specs.specs.declared.frame.Frame.TheVariants as frame
+use Rattle.tree_specs.specs.declared.frame.FreeFrame.TheVariants.{Beginning, Hooked, Judged, Leaving, Looping, Trying, Tried, Ending}
+use Rattle.tree_specs.specs.declared.frame.Purpose.{Purpose}
+use Rattle.tree_specs.specs.declared.frame.Purpose.TheVariants.{Removal, Emptying}
+use Rattle.tree_specs.specs.Objects.{same}
+use Rattle.tree_specs.specs.Pool.{Pool, row_of}
+use Rattle.tree_specs.specs.Items.{Item}
+use Rattle.tree_specs.specs.Items.Item.{Told, Asked}
+use Rattle.tree_specs.specs.Orderly.{accepts, frees}
+use Rattle.tree_specs.specs.Sound.{IsLive, Phase, InLoop, loop_claim, claim, claims, IsWaiting, AllWait}
+use Rattle.tree_specs.proofs.Numbered.{by_test, same-true, same-equal, same-false, same_or_not}
+use Rattle.tree_specs.proofs.Later.{IsDying, IsPast, Later, live-not-dying}
+use Rattle.tree_specs.proofs.Keeps.{not-zero}
+
+-- it leaves its owner with the next step
+abbrev pub IsLeaving : Frame → Obj → Type 0
+IsLeaving (frame.Free (Leaving y h)) x = y ≡ x
+IsLeaving f x = ⊥
+
+-- the destructor that a free asked is the one that accepted
+abbrev pub AsAccepted : List Item → Obj → ℕ → Type 0
+AsAccepted items x h = list_any (accepts x) items ≡ not (nat_eq h 0)
+
+abbrev pub AsRemoved : List Item → Obj → Purpose → Type 0
+AsRemoved items x (Removal h) = AsAccepted items x h
+AsRemoved items x Emptying = Unit {0}
+
+abbrev pub Accounts : List Item → Frame → Type 0
+Accounts items (frame.Free (Leaving x h)) = AsAccepted items x h
+Accounts items (frame.Free (Looping x purpose)) = AsRemoved items x purpose
+Accounts items (frame.Free (Trying x c purpose)) = AsRemoved items x purpose
+Accounts items (frame.Free (Tried x c purpose a)) = AsRemoved items x purpose
+Accounts items f = Unit {0}
+
+abbrev pub AllAccount : List Item → List Frame → Type 0
+AllAccount items [] = Unit {0}
+AllAccount items (f ∷ fs) = Accounts items f × AllAccount items fs
+
+pub record Past (items : List Item) (f : Frame) (fs : List Frame) (p : Pool) : Type 0 where
+  -- what was told as freed is no more
+  pub gone : (x : Obj) → list_any (frees x) items ≡ true → (x.0 < p.next) × (row_of p.rows x ≡ None)
+  -- what has accepted is no more, is dying, or leaves its owner now
+  pub spent : (x : Obj) → list_any (accepts x) items ≡ true → (x.0 < p.next) × (IsPast (row_of p.rows x) ⊎ IsLeaving f x)
+  pub accounts : Accounts items f
+  pub all_account : AllAccount items fs
+
+-- ---- one more item
+
+pub any-more : (q : Item → Bool) (items : List Item) (e : Item) → list_any q (items ++ e ∷ []) ≡ (list_any q items || q e)
+any-more q items e = list_any-append q items (e ∷ []) ∙ ap (λ (b : Bool). list_any q items || b) (or-false (q e))
+
+pub any-as-before : (q : Item → Bool) (items : List Item) (e : Item) → q e ≡ false → list_any q (items ++ e ∷ []) ≡ list_any q items
+any-as-before q items e h = any-more q items e ∙ ap (λ (b : Bool). list_any q items || b) h ∙ or-false (list_any q items)
+
+any-now : (q : Item → Bool) (items : List Item) (e : Item) → q e ≡ true → list_any q (items ++ e ∷ []) ≡ true
+any-now q items e h = any-more q items e ∙ ap (λ (b : Bool). list_any q items || b) h ∙ or-true (list_any q items)
+  where
+    or-true : (b : Bool) → (b || true) ≡ true
+    or-true true = refl
+    or-true false = refl
+
+-- ---- which object a work removes
+
+abbrev RemovesFor : Purpose → Obj → Obj → Type 0
+RemovesFor (Removal h) x y = x ≡ y
+RemovesFor Emptying x y = ⊥
+
+abbrev Removes : Frame → Obj → Type 0
+Removes (frame.Free (Leaving x h)) y = x ≡ y
+Removes (frame.Free (Looping x purpose)) y = RemovesFor purpose x y
+Removes (frame.Free (Trying x c purpose)) y = RemovesFor purpose x y
+Removes (frame.Free (Tried x c purpose a)) y = RemovesFor purpose x y
+Removes f y = ⊥
+
+abbrev AnyRemoves : List Frame → Obj → Type 0
+AnyRemoves [] y = ⊥
+AnyRemoves (f ∷ fs) y = Removes f y ⊎ AnyRemoves fs y
+
+-- a work accounts for as much after an item that isn't its object's destructor accepting
+removed-more : (items : List Item) (e : Item) (x : Obj) (purpose : Purpose) → ((y : Obj) → RemovesFor purpose x y → accepts y e ≡ false) → AsRemoved items x purpose → AsRemoved (items ++ e ∷ []) x purpose
+removed-more items e x (Removal h) other a = any-as-before (accepts x) items e (other x refl) ∙ a
+removed-more items e x Emptying other a = tt
+
+accounts-more : (items : List Item) (e : Item) (f : Frame) → ((y : Obj) → Removes f y → accepts y e ≡ false) → Accounts items f → Accounts (items ++ e ∷ []) f
+accounts-more items e (frame.Free (Leaving x h)) other a = any-as-before (accepts x) items e (other x refl) ∙ a
+accounts-more items e (frame.Free (Looping x purpose)) other a = removed-more items e x purpose other a
+accounts-more items e (frame.Free (Trying x c purpose)) other a = removed-more items e x purpose other a
+accounts-more items e (frame.Free (Tried x c purpose b)) other a = removed-more items e x purpose other a
+accounts-more items e (frame.Free (Beginning x)) other a = tt
+accounts-more items e (frame.Free (Hooked x h)) other a = tt
+accounts-more items e (frame.Free (Judged x h v)) other a = tt
+accounts-more items e (frame.Free (Ending b)) other a = tt
+accounts-more items e (frame.Call c) other a = tt
+
+all-more : (items : List Item) (e : Item) (fs : List Frame) → ((y : Obj) → AnyRemoves fs y → accepts y e ≡ false) → AllAccount items fs → AllAccount (items ++ e ∷ []) fs
+all-more items e [] other a = tt
+all-more items e (f ∷ fs) other a = (accounts-more items e f (λ y r. other y (inl r)) a.0, all-more items e fs (λ y r. other y (inr r)) a.1)
+
+-- an object of which no waiting work claims anything is removed by none
+unclaimed : (x : Obj) (fs : List Frame) → AllWait fs → claims x fs ≡ [] → AnyRemoves fs x → ⊥
+unclaimed x [] w e r = r
+unclaimed x (f ∷ fs) w e r = elim r [
+  | inl here ↦ claimed f refl w.0 here
+  | inr there ↦ unclaimed x fs w.1 (parts (claim x f) (claims x fs) e).1 there
+]
+  where
+    parts : (l m : List Phase) → l ++ m ≡ [] → (l ≡ []) × (m ≡ [])
+    parts [] m e = (refl, e)
+    parts (a ∷ l) m e = cc
+
+    none : claim x f ≡ []
+    none = (parts (claim x f) (claims x fs) e).0
+
+    looped : (y : Obj) (purpose : Purpose) → loop_claim purpose (same y x) ≡ [] → RemovesFor purpose y x → ⊥
+    looped y (Removal h) e r = let t : same y x ≡ true = same-equal y x r in let bad : InLoop ∷ [] ≡ [] = rw t at e in cc
+    looped y Emptying e r = r
+
+    claimed : (g : Frame) → f ≡ g → IsWaiting g fs → Removes g x → ⊥
+    claimed g q w r = claimed-by g w r (ap (claim x) (sym q) ∙ none)
+      where
+        claimed-by : (g : Frame) → IsWaiting g fs → Removes g x → claim x g ≡ [] → ⊥
+        claimed-by (frame.Free (Looping y purpose)) w r e = looped y purpose e r
+        claimed-by (frame.Free (Trying y c purpose)) w r e = looped y purpose e r
+        claimed-by (frame.Free (Tried y c purpose a)) w r e = looped y purpose e r
+        claimed-by (frame.Free (Leaving y h)) w r e = w
+        claimed-by (frame.Free (Beginning y)) w r e = r
+        claimed-by (frame.Free (Hooked y h)) w r e = r
+        claimed-by (frame.Free (Judged y h v)) w r e = r
+        claimed-by (frame.Free (Ending a)) w r e = r
+        claimed-by (frame.Call c) w r e = r
+
+-- ---- steps
+
+-- a step that tells nothing
+pub past-goes : (items : List Item) (f f' : Frame) (fs fs' : List Frame) (p q : Pool) → Past items f fs p → Later p q
+    → ((x : Obj) → IsLeaving f x → IsPast (row_of q.rows x) ⊎ IsLeaving f' x) → Accounts items f' → AllAccount items fs' → Past items f' fs' q
+past-goes items f f' fs fs' p q past later leaves a all = record {
+  gone = λ x t. let g = past.gone x t in let l : x.0 < p.next = g.0 in (omega (arith, later.grows), later.none x l g.1);
+  spent = λ x t. let s = past.spent x t in let l : x.0 < p.next = s.0 in (
+    omega (arith, later.grows),
+    elim s.1 [
+      | inl gone ↦ inl (later.past x l gone)
+      | inr now ↦ leaves x now
+    ],
+  );
+  accounts = a;
+  all_account = all;
+}
+
+-- an item that ends nothing
+pub past-tells : (items : List Item) (e : Item) (f : Frame) (fs : List Frame) (p : Pool) → ((x : Obj) → accepts x e ≡ false) → ((x : Obj) → frees x e ≡ false)
+    → Past items f fs p → Past (items ++ e ∷ []) f fs p
+past-tells items e f fs p a g past = record {
+  gone = λ x t. past.gone x (sym (any-as-before (frees x) items e (g x)) ∙ t);
+  spent = λ x t. past.spent x (sym (any-as-before (accepts x) items e (a x)) ∙ t);
+  accounts = accounts-more items e f (λ y r. a y) past.accounts;
+  all_account = all-more items e fs (λ y r. a y) past.all_account;
+}
+
+-- a destructor accepts
+pub past-accepts : (items : List Item) (x : Obj) (h v : ℕ) (fs : List Frame) (p q : Pool) → Past items (frame.Free (Judged x h v)) fs p → Later p q
+    → x.0 < q.next → 0 < h → AllWait fs → claims x fs ≡ [] → Past (items ++ Told (Accepted x) ∷ []) (frame.Free (Leaving x h)) fs q
+past-accepts items x h v fs p q past later l pos wait none =
+    let e : Item = Told (Accepted x) in
+    let self : same x x ≡ true = same-equal x x refl in
+    record {
+      gone = λ y t. let g = past.gone y (sym (any-as-before (frees y) items e refl) ∙ t) in let b : y.0 < p.next = g.0 in (omega (arith, later.grows), later.none y b g.1);
+      spent = λ y t. elim (same_or_not x y) [
+        | inl same_one ↦ (subst (λ (z : Obj). z.0 < q.next) same_one l, inr same_one)
+        | inr other ↦ before y (sym (any-as-before (accepts y) items e (same-false x y other)) ∙ t)
+      ];
+      accounts = any-now (accepts x) items e self ∙ sym (ap not (not-zero h pos));
+      all_account = all-more items e fs (λ y r. same-false x y (λ same_one. unclaimed x fs wait none (subst (AnyRemoves fs) (sym same_one) r))) past.all_account;
+    }
+  where
+    before : (y : Obj) → list_any (accepts y) items ≡ true → (y.0 < q.next) × (IsPast (row_of q.rows y) ⊎ (x ≡ y))
+    before y t = let s = past.spent y t in let b : y.0 < p.next = s.0 in (
+      omega (arith, later.grows),
+      elim s.1 [
+        | inl gone ↦ inl (later.past y b gone)
+        | inr now ↦ absurd now
+      ],
+    )
+
+-- an object is no more
+pub past-frees : (items : List Item) (x : Obj) (h : ℕ) (f' : Frame) (fs : List Frame) (p q : Pool) → Past items (frame.Free (Looping x (Removal h))) fs p → Later p q
+    → x.0 < q.next → row_of q.rows x ≡ None → Accounts (items ++ Told (Freed x h) ∷ []) f' → Past (items ++ Told (Freed x h) ∷ []) f' fs q
+past-frees items x h f' fs p q past later l none a =
+    let e : Item = Told (Freed x h) in
+    record {
+      gone = λ y t. elim (same_or_not x y) [
+        | inl same_one ↦ subst (λ (z : Obj). (z.0 < q.next) × (row_of q.rows z ≡ None)) same_one (l, none)
+        | inr other ↦ let g = past.gone y (sym (any-as-before (frees y) items e (same-false x y other)) ∙ t) in let b : y.0 < p.next = g.0 in (omega (arith, later.grows), later.none y b g.1)
+      ];
+      spent = λ y t. let s = past.spent y (sym (any-as-before (accepts y) items e refl) ∙ t) in let b : y.0 < p.next = s.0 in (
+        omega (arith, later.grows),
+        elim s.1 [
+          | inl gone ↦ inl (later.past y b gone)
+          | inr now ↦ absurd now
+        ],
+      );
+      accounts = a;
+      all_account = all-more items e fs (λ y r. refl) past.all_account;
+    }
+
+-- ---- what a live object tells
+
+-- a row that is there was not freed
+pub unfreed : (items : List Item) (f : Frame) (fs : List Frame) (p : Pool) (x : Obj) (r : Row) → Past items f fs p → row_of p.rows x ≡ Some r → list_any (frees x) items ≡ false
+unfreed items f fs p x r past e = by_test (list_any (frees x) items)
+    (λ t. let bad : Some r ≡ None = sym e ∙ (past.gone x t).1 in cc)
+    (λ t. t)
+
+-- the destructor of a row that is live, and doesn't leave its owner now, hasn't accepted
+pub unaccepted : (items : List Item) (f : Frame) (fs : List Frame) (p : Pool) (x : Obj) (r : Row) → Past items f fs p → row_of p.rows x ≡ Some r → IsLive r.mark
+    → (IsLeaving f x → ⊥) → list_any (accepts x) items ≡ false
+unaccepted items f fs p x r past e live stays = by_test (list_any (accepts x) items)
+    (λ t. elim (past.spent x t).1 [
+      | inl gone ↦ let d : IsDying r.mark = rw e at gone in absurd (live-not-dying r.mark live d)
+      | inr now ↦ absurd (stays now)
+    ])
+    (λ t. t)

@@ -1,0 +1,44 @@
+use crate::object::{Obj, Owner};
+
+/// What a free answers.
+#[derive(Clone, Copy, Debug, PartialEq, Eq)]
+pub enum FreeReply {
+    /// The object is gone, or on its way.
+    Ok,
+    /// Its destructor or its handler runs, or the work that comes before its freeing.
+    Running,
+    /// Its destructor returned this number, which isn't 0.
+    Refused(u32),
+}
+
+/// What a step of a free tells, or asks for.
+#[derive(Clone, Copy, Debug, PartialEq, Eq)]
+pub enum FreeStep {
+    /// The destructor of the object is to run.
+    Ask(Obj),
+    /// The object's destructor returned this number, which isn't 0, and the object stays.
+    Refused {
+        object: Obj,
+        answer: u32,
+    },
+    /// The object's destructor returned 0.
+    Accepted(Obj),
+    /// The object has left this owner, and its children go next.
+    Left {
+        object: Obj,
+        from: Owner,
+    },
+    /// A child that wasn't freed goes from its owner to its heir.
+    Moved {
+        object: Obj,
+        from: Owner,
+        owner: Owner,
+    },
+    /// The object is no more. `hook` is the destructor that accepted this, and 0 means none.
+    Gone {
+        object: Obj,
+        hook: u32,
+    },
+    /// The free is over.
+    Done(FreeReply),
+}
