@@ -20,7 +20,7 @@ use Rattle.tree_specs.specs.Whole.{Seated}
 use Rattle.std.specs.Prelude.{unwrap_or}
 use Rattle.tree_specs.specs.Table.{free_taken}
 use Rattle.tree_specs.proofs.Numbered.{by_test}
-use Rattle.tree_specs.proofs.Keeps.{stands}
+use Rattle.tree_specs.proofs.Changes.{stands}
 use Rattle.tree_specs.proofs.Load.{reseat-free}
 use Rattle.tree_links.specs.Links.{Links, pool_of}
 use Rattle.destructors.specs.Room.{mark_places, row_places, work_places, wanted}

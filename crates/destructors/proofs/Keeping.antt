@@ -29,7 +29,7 @@ use Rattle.tree_specs.specs.Whole.{Seated, Whole}
 use Rattle.tree_specs.proofs.Checks.{MayBePlaced}
 use Rattle.tree_specs.proofs.Numbered.{by_test}
 use Rattle.tree_specs.proofs.Rows.{total-without, total-placed, total-changed}
-use Rattle.tree_specs.proofs.Keeps.{dying-row, running-row, claim-here, heir-placed}
+use Rattle.tree_specs.proofs.Changes.{dying-row, running-row, claim-here, heir-placed}
 use Rattle.tree_specs.proofs.Falls.{Room, lower, total-kept}
 use Rattle.tree_specs.proofs.Rest.{whole-kept}
 use Rattle.tree_links.specs.Links.{MayPlace}

@@ -18,7 +18,7 @@ use Rattle.tree_specs.specs.Pool.{Pool, is_owner, add, set_hook}
 use Rattle.tree_specs.specs.Calls.{Check, refusals}
 use Rattle.tree_specs.specs.Table.{step, call_step}
 use Rattle.tree_specs.specs.Whole.{Whole}
-use Rattle.tree_specs.proofs.Keeps.{stands, new-sound}
+use Rattle.tree_specs.proofs.Changes.{stands, new-sound}
 use Rattle.tree_specs.proofs.Rest.{whole-kept, event-whole}
 use Rattle.tree_links.specs.Links.{Links, pool_of}
 use Rattle.destructors.specs.Frees.{OpenFrees, before, frees_of, moves, next_of, speaking, Steps}

@@ -1,10 +1,11 @@
 //! The top call.
-ghost use Rattle.std.specs.Prelude.{◌≡◌, ◌↔◌, ◌≤◌, ◌⊎◌, ℕ, None, true, false, IfSome, map};
+ghost use Rattle.std.specs.Prelude.{◌≡◌, ◌≢◌, ◌↔◌, ◌≤◌, ◌⊎◌, ℕ, None, true, false, IfSome, map};
 ghost use Rattle.std.specs.String.{string_bytes};
 ghost use Rattle.tree_specs.specs.declared.schedule.Reason.{Reason};
 ghost use Rattle.tree_specs.specs.Schedule.{judge};
 ghost use Rattle.outside.specs.Causes.{Rose};
 ghost use Rattle.schedule_replay.specs.Runs.{IsDone, IsBad, IsCutShort, IsFrontOf};
+ghost use Rattle.schedule_replay.specs.Stories.{WritesStory};
 ghost use Rattle.host_app.specs.Statuses.{status_text};
 ghost use Rattle.host_app.specs.Mains.{is_replay, Says};
 
@@ -43,6 +44,12 @@ pub fn host_main<S: Source, K: Sink, E: Sink>(
 
     // The first refused line, after the transcript of the lines before it.
     ensures bad { (line : ℕ) (reason : Reason) → result ≡ Status.BadSchedule line reason → IfSome (S.left input.old) (λ bytes. IsBad bytes line reason (K.held out.old) (K.held out.new)) }
+
+    // The story whose transcript that is: a destructor accepts at most once in it, every freed object with a destructor
+    // had it accept, nothing starts for a freed object, and to free a live object is refused only while it is held,
+    // running or refused.
+    ensures story { result ≡ Status.Done → IfSome (S.left input.old) (λ bytes. WritesStory bytes (K.held out.old) (K.held out.new)) }
+    ensures story_before { (line : ℕ) (reason : Reason) → result ≡ Status.BadSchedule line reason → line ≢ 1 → IfSome (S.left input.old) (λ bytes. WritesStory bytes (K.held out.old) (K.held out.new)) }
 
     // After a fault, and without memory, a front of the transcript has been written.
     ensures read_fault { result ≡ Status.ReadFault → Rose (S.faults input.old) (S.faults input.new) }

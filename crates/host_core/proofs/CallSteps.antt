@@ -28,7 +28,7 @@ use Rattle.tree_specs.specs.Sound.{HasHook, claim}
 use Rattle.tree_specs.specs.Table.{call_step, event_of, caller_resume}
 use Rattle.tree_specs.specs.View.{View}
 use Rattle.tree_specs.specs.Whole.{Seated, innermost_size, Whole}
-use Rattle.tree_specs.proofs.Keeps.{stands}
+use Rattle.tree_specs.proofs.Changes.{stands}
 use Rattle.tree_specs.proofs.Load.{reseat}
 use Rattle.tree_specs.proofs.Rest.{GoesOn, IsTelling, call-goes_on}
 use Rattle.destructors.specs.Frees.{OpenFrees, moves, is_event, returned, Silently}

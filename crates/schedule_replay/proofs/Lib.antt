@@ -5,3 +5,4 @@ pub mod StateLaws
 pub mod ByteLaws
 pub mod WholeLaws
 pub mod SessionLaws
+pub mod StoryLaws

@@ -5,3 +5,4 @@ pub mod Readings
 pub mod States
 pub mod Passes
 pub mod Runs
+pub mod Stories

@@ -1,5 +1,5 @@
 //! Replaying what a source gives into what a sink takes.
-ghost use Rattle.std.specs.Prelude.{◌≡◌, ◌≤◌, ◌+◌, ◌⊎◌, [], None, Err, IfSome, OnOk, length};
+ghost use Rattle.std.specs.Prelude.{◌≡◌, ◌≢◌, ℕ, ◌≤◌, ◌+◌, ◌⊎◌, [], None, Err, IfSome, OnOk, length};
 ghost use Rattle.tree_specs.specs.Schedule.{judge};
 ghost use Rattle.outside.specs.Causes.{Rose, Counts};
 ghost use Rattle.outside.specs.Outputs.{PutsAll};
@@ -7,6 +7,8 @@ ghost use Rattle.schedule_replay.specs.Readings.{IsReady, room_left};
 ghost use Rattle.schedule_replay.specs.States.{reading_of};
 ghost use Rattle.schedule_replay.specs.Passes.{PassesPiece, PassesEnd};
 ghost use Rattle.schedule_replay.specs.Runs.{Replays, ran_of};
+ghost use Rattle.schedule_replay.specs.Stories.{WritesStory};
+ghost use Rattle.tree_specs.specs.declared.schedule.Reason.{Reason};
 
 use crate::ran::{Ran, ReplayError, ending};
 use crate::reading::Replay;
@@ -82,6 +84,12 @@ pub fn replay<S: Source, K: Sink>(alloc: Global, input: &mut S, out: &mut K) -> 
     // At the end all is read, no line is refused and the transcript is written; a refused line is the
     // first one; at a fault, and without memory, a front of the transcript is written.
     ensures replays { IfSome (S.left input.old) (λ bytes. Replays bytes (S.left input.new) (K.held out.old) (K.held out.new) result) }
+
+    // What is written of a schedule whose first line is the header is the text of one story, the one over its inputs:
+    // in this story a destructor accepts at most once, what is freed had its destructor accept, nothing starts for
+    // what is freed, and to free a live object is refused only while it is held, running or refused.
+    ensures story { result ≡ Ran.Done → IfSome (S.left input.old) (λ bytes. WritesStory bytes (K.held out.old) (K.held out.new)) }
+    ensures story_before { (line : ℕ) (reason : Reason) → result ≡ Ran.BadSchedule line reason → line ≢ 1 → IfSome (S.left input.old) (λ bytes. WritesStory bytes (K.held out.old) (K.held out.new)) }
     ensures read { Counts (S.faults input.old) (S.faults input.new) (result ≡ Ran.ReadFault) }
     ensures write { Counts (K.faults out.old) (K.faults out.new) (result ≡ Ran.WriteFault) }
 

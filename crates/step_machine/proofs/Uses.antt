@@ -20,6 +20,10 @@ cut (u ∷ us) vs (j ∷ pre) i post e =
       | inr m ↦ let e' : pre ≡ us ++ m.0 = m.1 in inr (m.0, cc, m.2)
     ]
 
+never : {I : Type 0} (pre : List I) (i : I) (post : List I) → [] ≡ pre ++ i ∷ post → ⊥
+never [] i post h = cc
+never (j ∷ pre) i post h = cc
+
 module _ {A P I T : Type 0} where
   -- what stands of a run that ended with these inputs left
   abbrev pub Used : (List I → Outcome A P I T) → A → P → List T → List I → List I → Type 0
@@ -48,7 +52,7 @@ module _ {A P I T : Type 0} where
   tells-waits (u ∷ us) ts = ap (tell u) (tells-waits us ts)
 
   -- what an outcome with an item before it says of the outcome
-  ended-tell : (u : T) (o : Outcome A P I T) (a : A) (p : P) (ts : List T) (left : List I) → tell u o ≡ Ended a p ts left
+  pub ended-tell : (u : T) (o : Outcome A P I T) (a : A) (p : P) (ts : List T) (left : List I) → tell u o ≡ Ended a p ts left
       → (vs : List T) × (o ≡ Ended a p vs left) × (u ∷ vs ≡ ts)
   ended-tell u (Ended b q vs is) a p ts left e =
       let h : u ∷ vs ≡ ts = cc in let e1 : b ≡ a = cc in let e2 : q ≡ p = cc in let e3 : is ≡ left = cc in
@@ -65,8 +69,62 @@ module _ {A P I T : Type 0} where
       let v = ended-tells us o a p w.0 left w.1 in
       (v.0, v.1, ap (λ x. u ∷ x) v.2 ∙ w.2)
 
+  -- the same work in other words
+  pub Used-same : (go go' : List I → Outcome A P I T) → ((js : List I) → go js ≡ go' js) → (a : A) (p : P) (ts : List T) (is left : List I) → Used go' a p ts is left → Used go a p ts is left
+  Used-same go go' law a p ts is left u = (
+    u.0,
+    u.1,
+    record {
+      ends = λ more. law (u.0 ++ more) ∙ u.2.ends more;
+      waits = λ pre i post e. let w = u.2.waits pre i post e in (w.0, w.1, law pre ∙ w.2, w.3);
+    },
+  )
+
+  -- a work that takes no input
+  pub Used-ended : (go : List I → Outcome A P I T) (b : A) (q : P) (us : List T) → ((js : List I) → go js ≡ Ended b q us js)
+      → (a : A) (p : P) (ts : List T) (is left : List I) → go is ≡ Ended a p ts left → Used go a p ts is left
+  Used-ended go b q us law a p ts is left e =
+      let e' : Ended b q us is ≡ Ended a p ts left = sym (law is) ∙ e in
+      let e1 : b ≡ a = cc in let e2 : q ≡ p = cc in let e3 : us ≡ ts = cc in let e4 : is ≡ left = cc in (
+        [],
+        sym e4,
+        record {
+          ends = λ more. law more ∙ cc;
+          waits = λ pre i post h. absurd (never pre i post h);
+        },
+      )
+
+  asked-waits : (go w : List I → Outcome A P I T) (q : T) (i : I) → go [] ≡ Waits (q ∷ []) → ((js : List I) → go (i ∷ js) ≡ tell q (w js)) → (a : A) (p : P) (vs : List T) (used : List I)
+      → EndsBy w a p vs used → (pre : List I) (j : I) (post : List I) → i ∷ used ≡ pre ++ j ∷ post → (us : List T) × (ws : List T) × (go pre ≡ Waits us) × (us ++ ws ≡ q ∷ vs)
+  asked-waits go w q i begins goes a p vs used u [] j post s = (q ∷ [], vs, begins, refl)
+  asked-waits go w q i begins goes a p vs used u (k ∷ pre) j post s =
+      let s1 : i ≡ k = cc in let s2 : used ≡ pre ++ j ∷ post = cc in
+      let v = u.waits pre j post s2 in
+      (q ∷ v.0, v.1, ap (λ x. go (x ∷ pre)) (sym s1) ∙ goes pre ∙ ap (tell q) v.2, ap (λ x. q ∷ x) v.3)
+
+  -- a question, and what its input leads to
+  pub Used-asked : (go w : List I → Outcome A P I T) (q : T) (i : I) → go [] ≡ Waits (q ∷ []) → ((js : List I) → go (i ∷ js) ≡ tell q (w js))
+      → ((a : A) (p : P) (vs : List T) (is left : List I) → w is ≡ Ended a p vs left → Used w a p vs is left)
+      → (a : A) (p : P) (ts : List T) (is left : List I) → go (i ∷ is) ≡ Ended a p ts left → Used go a p ts (i ∷ is) left
+  Used-asked go w q i begins goes ih a p ts is left e =
+      let v = ended-tell q (w is) a p ts left (sym (goes is) ∙ e) in
+      let u = ih a p v.0 is left v.1 in
+      let u' : EndsBy go a p (q ∷ v.0) (i ∷ u.0) = record {
+        ends = λ more. goes (u.0 ++ more) ∙ ap (tell q) (u.2.ends more);
+        waits = λ pre j post s. asked-waits go w q i begins goes a p v.0 u.0 u.2 pre j post s;
+      } in
+      (i ∷ u.0, ap (λ x. i ∷ x) u.1, subst (λ (x : List T). EndsBy go a p x (i ∷ u.0)) v.2 u')
+
+  -- an item, and what follows it
+  pub Used-told : (go w : List I → Outcome A P I T) (t : T) → ((js : List I) → go js ≡ tell t (w js)) → (is : List I)
+      → ((a : A) (p : P) (vs : List T) (left : List I) → w is ≡ Ended a p vs left → Used w a p vs is left)
+      → (a : A) (p : P) (ts : List T) (left : List I) → go is ≡ Ended a p ts left → Used go a p ts is left
+  Used-told go w t law is ih a p ts left e =
+      let v = ended-tell t (w is) a p ts left (sym (law is) ∙ e) in
+      Used-same go (λ js. tell t (w js)) law a p ts is left (Used-tell w t a p v.0 is left ts v.2 (ih a p v.0 left v.1))
+
 module _ {A B P I T : Type 0} where
-  ended-followed : (o : Outcome A P I T) (k : A → P → List I → Outcome B P I T) (b : B) (p : P) (ts : List T) (left : List I) → followed o k ≡ Ended b p ts left
+  pub ended-followed : (o : Outcome A P I T) (k : A → P → List I → Outcome B P I T) (b : B) (p : P) (ts : List T) (left : List I) → followed o k ≡ Ended b p ts left
       → (a : A) × (q : P) × (us vs : List T) × (mid : List I) × (o ≡ Ended a q us mid) × (k a q mid ≡ Ended b p vs left) × (us ++ vs ≡ ts)
   ended-followed (Ended a q us mid) k b p ts left e =
       let w = ended-tells us (k a q mid) b p ts left e in
@@ -87,55 +145,36 @@ module _ {A B P I T : Type 0} where
     ];
   }
 
-module _ {F A P I T : Type 0} (t : Table F A P I T) where
-  asked-waits : (n : ℕ) (q : T) (f g : F) (p : P) (i : I) → t.taken f p i ≡ Some g → (a : A) (p' : P) (ts vs : List T) → q ∷ vs ≡ ts
-      → (used : List I) → EndsBy (run t n g p) a p' vs used → (pre : List I) (j : I) (post : List I) → i ∷ used ≡ pre ++ j ∷ post
-      → (us : List T) × (ws : List T) × (after t (run t n) (Wait q f p) pre ≡ Waits us) × (us ++ ws ≡ ts)
-  asked-waits n q f g p i e a p' ts vs h used u [] j post s = (q ∷ [], vs, refl, h)
-  asked-waits n q f g p i e a p' ts vs h used u (k ∷ pre) j post s =
-      let s1 : i ≡ k = cc in let s2 : used ≡ pre ++ j ∷ post = cc in
-      let w = u.waits pre j post s2 in
-      (q ∷ w.0, w.1, ap (λ x. given (run t n) q p pre (t.taken f p x)) (sym s1) ∙ ap (given (run t n) q p pre) e ∙ ap (tell q) w.2, ap (λ x. q ∷ x) w.3 ∙ h)
+  -- a work, and what follows its end
+  pub Used-followed : (go : List I → Outcome A P I T) (k : A → P → List I → Outcome B P I T) (is : List I)
+      → ((a : A) (q : P) (us : List T) (mid : List I) → go is ≡ Ended a q us mid → Used go a q us is mid)
+      → ((a : A) (q : P) (us : List T) (mid : List I) → go is ≡ Ended a q us mid → (b : B) (p : P) (vs : List T) (left : List I) → k a q mid ≡ Ended b p vs left → Used (k a q) b p vs mid left)
+      → (b : B) (p : P) (ts : List T) (left : List I) → followed (go is) k ≡ Ended b p ts left → Used (λ js. followed (go js) k) b p ts is left
+  Used-followed go k is ih jh b p ts left e =
+      let w = ended-followed (go is) k b p ts left e in
+      let u = ih w.0 w.1 w.2 w.4 w.5 in
+      let v = jh w.0 w.1 w.2 w.4 w.5 b p w.3 left w.6 in (
+        u.0 ++ v.0,
+        append_assoc u.0 v.0 left ∙ ap (λ x. u.0 ++ x) v.1 ∙ u.1,
+        subst (λ (x : List T). EndsBy (λ js. followed (go js) k) b p x (u.0 ++ v.0)) w.7 (EndsBy-followed go k w.0 w.1 w.2 u.0 b p w.3 v.0 u.2 v.2),
+      )
 
+module _ {F A P I T : Type 0} (t : Table F A P I T) where
   -- the same of a move, if it holds of what the move goes on with
   uses-after : (n : ℕ) → ((f : F) (p : P) (is : List I) (a : A) (p' : P) (ts : List T) (left : List I) → run t n f p is ≡ Ended a p' ts left → Used (run t n f p) a p' ts is left)
       → (m : Move F A P T) (is : List I) (a : A) (p' : P) (ts : List T) (left : List I)
       → after t (run t n) m is ≡ Ended a p' ts left → Used (after t (run t n) m) a p' ts is left
-  uses-after n ih (Done b p) is a p' ts left e =
-      let e1 : b ≡ a = cc in let e2 : p ≡ p' = cc in let e3 : is ≡ left = cc in let e4 : [] ≡ ts = cc in
-      ([], sym e3, record { ends = λ more. cc; waits = λ pre i post h. absurd (never pre i post h) })
-    where
-      never : (pre : List I) (i : I) (post : List I) → [] ≡ pre ++ i ∷ post → ⊥
-      never [] i post h = cc
-      never (j ∷ pre) i post h = cc
+  uses-after n ih (Done b p) is a p' ts left e = Used-ended (after t (run t n) (Done b p)) b p [] (λ js. refl) a p' ts is left e
   uses-after n ih (Go f p) is a p' ts left e = ih f p is a p' ts left e
-  uses-after n ih (Emit e f p) is a p' ts left h =
-      let w = ended-tell e (run t n f p is) a p' ts left h in
-      Used-tell (run t n f p) e a p' w.0 is left ts w.2 (ih f p is a p' w.0 left w.1)
+  uses-after n ih (Emit e f p) is a p' ts left h = Used-told (after t (run t n) (Emit e f p)) (run t n f p) e (λ js. refl) is (λ b q vs l k. ih f p is b q vs l k) a p' ts left h
   uses-after n ih (Wait q f p) [] a p' ts left h = cc
-  uses-after n ih (Wait q f p) (i ∷ is) a p' ts left h = each (t.taken f p i) refl h
+  uses-after n ih (Wait q f p) (i ∷ is) a p' ts left h = each (t.taken f p i) refl
     where
-      each : (o : Option F) → t.taken f p i ≡ o → given (run t n) q p is o ≡ Ended a p' ts left → Used (after t (run t n) (Wait q f p)) a p' ts (i ∷ is) left
-      each None e h = cc
-      each (Some g) e h =
-          let w = ended-tell q (run t n g p is) a p' ts left h in
-          let u = ih g p is a p' w.0 left w.1 in (
-            i ∷ u.0,
-            ap (λ x. i ∷ x) u.1,
-            record {
-              ends = λ more. ap (given (run t n) q p (u.0 ++ more)) e ∙ ap (tell q) (u.2.ends more) ∙ ap (λ x. Ended a p' x more) w.2;
-              waits = λ pre j post s. asked-waits n q f g p i e a p' ts w.0 w.2 u.0 u.2 pre j post s;
-            },
-          )
-  uses-after n ih (Call g f p) is a p' ts left h =
-      let w = ended-followed (run t n g p is) (λ b q mid. run t n (t.resume f b) q mid) a p' ts left h in
-      let u = ih g p is w.0 w.1 w.2 w.4 w.5 in
-      let v = ih (t.resume f w.0) w.1 w.4 a p' w.3 left w.6 in (
-        u.0 ++ v.0,
-        append_assoc u.0 v.0 left ∙ ap (λ x. u.0 ++ x) v.1 ∙ u.1,
-        subst (λ (x : List T). EndsBy (after t (run t n) (Call g f p)) a p' x (u.0 ++ v.0)) w.7
-            (EndsBy-followed (run t n g p) (λ b q mid. run t n (t.resume f b) q mid) w.0 w.1 w.2 u.0 a p' w.3 v.0 u.2 v.2),
-      )
+      each : (o : Option F) → t.taken f p i ≡ o → Used (after t (run t n) (Wait q f p)) a p' ts (i ∷ is) left
+      each None e = let h' : Stray (q ∷ []) ≡ Ended a p' ts left = rw e at h in cc
+      each (Some g) e = Used-asked (after t (run t n) (Wait q f p)) (run t n g p) q i refl (λ js. ap (given (run t n) q p js) e) (λ b r vs js l k. ih g p js b r vs l k) a p' ts is left h
+  uses-after n ih (Call g f p) is a p' ts left h = Used-followed (run t n g p) (λ b q mid. run t n (t.resume f b) q mid) is
+      (λ b q us mid k. ih g p is b q us mid k) (λ b q us mid k c r vs l k'. ih (t.resume f b) q mid c r vs l k') a p' ts left h
 
   -- a work that ended took a front of the inputs, and waits after each proper prefix of it
   pub uses : (n : ℕ) (f : F) (p : P) (is : List I) (a : A) (p' : P) (ts : List T) (left : List I)

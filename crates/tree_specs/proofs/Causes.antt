@@ -1,6 +1,5 @@
 -- What the works and the items told so far say of the items to come.
-use Rattle.std.proofs.Common.{◌≡◌, ℕ, List, [], ◌∷◌, ◌++◌, Option, Some, None, Bool, true, false, refl, sym, ◌∙◌, ap, subst, map}
-use Rattle.std.proofs.lemmas.List.{map_push}
+use Rattle.std.proofs.Common.{◌≡◌, List, [], ◌∷◌, Option, Some, None, map}
 use Rattle.step_machine.specs.Noted.{Noted}
 use Rattle.step_machine.specs.Open.{LastIs}
 use Rattle.tree_specs.specs.declared.object.Obj.{Obj}
@@ -13,7 +12,6 @@ use Rattle.tree_specs.specs.declared.reply.Reply.{Reply}
 use Rattle.tree_specs.specs.declared.event.Event.TheVariants.{Replied, Refused}
 use Rattle.tree_specs.specs.declared.frame.Frame.{Frame}
 use Rattle.tree_specs.specs.declared.frame.Frame.TheVariants as frame
-use Rattle.tree_specs.specs.declared.frame.CallFrame.{CallFrame}
 use Rattle.tree_specs.specs.declared.frame.CallFrame.TheVariants.{Asking, Doing, Awaiting, Telling, Returning}
 use Rattle.tree_specs.specs.declared.frame.FreeFrame.TheVariants.{Beginning, Hooked, Judged, Leaving, Looping, Trying, Tried, Ending}
 use Rattle.tree_specs.specs.declared.free_step.FreeReply.{FreeReply}
@@ -21,7 +19,7 @@ use Rattle.tree_specs.specs.declared.free_step.FreeReply.TheVariants as free_rep
 use Rattle.tree_specs.specs.Pool.{Pool}
 use Rattle.tree_specs.specs.Inside.{NoReferences}
 use Rattle.tree_specs.specs.Items.{Item}
-use Rattle.tree_specs.specs.Items.Item.{Told, Asked}
+use Rattle.tree_specs.specs.Items.Item.{Told}
 use Rattle.tree_specs.specs.Works.{Begun, Scene}
 use Rattle.tree_specs.specs.Orderly.{RefusedJustNow}
 use Rattle.tree_specs.specs.Grounded.{OfReply, AnsweredCall, HeldCall, CausedCall, IsItem, AsksHook}
@@ -40,7 +38,7 @@ told scenes = map item_of scenes
 
 -- a free of x
 abbrev pub IsFreeOf : Obj → Frame → Type 0
-IsFreeOf x (frame.Call c) = Unit {0}
+IsFreeOf x (frame.Call c) = ⊥
 IsFreeOf x (frame.Free (Beginning y)) = y ≡ x
 IsFreeOf x (frame.Free (Hooked y h)) = y ≡ x
 IsFreeOf x (frame.Free (Judged y h v)) = y ≡ x
@@ -67,7 +65,7 @@ IsRunOf x (frame.Call (Doing q c)) = IsHookOf x q
 IsRunOf x (frame.Call (Awaiting q y)) = IsHookOf x q
 IsRunOf x (frame.Call (Telling q r)) = IsHookOf x q
 IsRunOf x (frame.Call (Returning v)) = Unit {0}
-IsRunOf x (frame.Free f) = Unit {0}
+IsRunOf x (frame.Free f) = ⊥
 
 -- a call that frees x, or its children
 abbrev pub FreesBy : Obj → Call → Type 0
@@ -80,18 +78,21 @@ abbrev pub Knows : Obj → Option Begun → Type 0
 Knows x None = ⊥
 Knows x (Some b) = FreesBy x b.call × NoReferences b.start.rows
 
-abbrev pub StandsOn : Frame → NotedWork → Type 0
-StandsOn f w = Below f w.work w.note
-  where
-    Below : Frame → Frame → Option Begun → Type 0
-    Below f (frame.Call (Awaiting q x)) b = IsFreeOf x f × Knows x b
-    Below f (frame.Free (Trying x c purpose)) b = IsFreeOf c f
-    Below f (frame.Free (Hooked x h)) b = IsRunOf x f
-    Below f g b = Unit {0}
+-- what a work that waits says of the one that stands on it
+abbrev pub StandsOn : Frame → Frame → Option Begun → Type 0
+StandsOn f (frame.Call (Awaiting q x)) b = IsFreeOf x f × Knows x b
+StandsOn f (frame.Free (Trying x c purpose)) b = IsFreeOf c f
+StandsOn f (frame.Free (Hooked x h)) b = IsRunOf x f
+StandsOn f g b = Unit {0}
 
 abbrev pub Stacked : Frame → List NotedWork → Type 0
 Stacked f [] = Unit {0}
-Stacked f (w ∷ ws) = StandsOn f w × Stacked w.work ws
+Stacked f (w ∷ ws) = StandsOn f w.work w.note × Stacked w.work ws
+
+-- what is said of the work right below, where there is one
+abbrev pub OfNext : (Frame → Option Begun → Type 0) → List NotedWork → Type 0
+OfNext Q [] = Unit {0}
+OfNext Q (w ∷ ws) = Q w.work w.note
 
 -- ---- what the innermost work is about to tell has its cause
 
@@ -100,41 +101,29 @@ abbrev pub IsCaused : List Scene → Option Begun → Reply → Type 0
 IsCaused scenes b r =
     RefusedJustNow (told scenes) (Told (Replied r)) × OfReply AnsweredCall b (Told (Replied r)) × OfReply HeldCall b (Told (Replied r)) × OfReply (CausedCall scenes) b (Told (Replied r))
 
--- the work below waits for x's destructor, which was just asked
-abbrev pub AskedBy : List Scene → List NotedWork → Type 0
-AskedBy scenes [] = Unit {0}
-AskedBy scenes (w ∷ ws) = By w.work
-  where
-    By : Frame → Type 0
-    By (frame.Free (Hooked x h)) = LastIs (AsksHook x) scenes
-    By f = Unit {0}
+-- the destructor for which it waits was just asked
+abbrev pub IsAskedFor : List Scene → Frame → Option Begun → Type 0
+IsAskedFor scenes (frame.Free (Hooked x h)) b = LastIs (AsksHook x) scenes
+IsAskedFor scenes f b = Unit {0}
 
 -- the call that waits is told of a refusal right after this was told
-abbrev pub RefusedFor : List Scene → FreeReply → List NotedWork → Type 0
-RefusedFor scenes a [] = Unit {0}
-RefusedFor scenes a (w ∷ ws) = For a w.work
-  where
-    For : FreeReply → Frame → Type 0
-    For (free_reply.Refused v) (frame.Call (Awaiting q x)) = LastIs (IsItem (Told (Refused x v))) scenes
-    For a f = Unit {0}
+abbrev pub IsRefusedFor : List Scene → FreeReply → Frame → Option Begun → Type 0
+IsRefusedFor scenes (free_reply.Refused v) (frame.Call (Awaiting q x)) b = LastIs (IsItem (Told (Refused x v))) scenes
+IsRefusedFor scenes a f b = Unit {0}
 
 abbrev pub IsStart : Pool → Option Begun → Type 0
 IsStart p None = ⊥
 IsStart p (Some b) = b.start ≡ p
 
 -- the call that waits has just begun
-abbrev pub JustBegun : Pool → List NotedWork → Type 0
-JustBegun p [] = Unit {0}
-JustBegun p (w ∷ ws) = At w.work w.note
-  where
-    At : Frame → Option Begun → Type 0
-    At (frame.Call (Awaiting q x)) b = IsStart p b
-    At f b = Unit {0}
+abbrev pub HasJustBegun : Pool → Frame → Option Begun → Type 0
+HasJustBegun p (frame.Call (Awaiting q x)) b = IsStart p b
+HasJustBegun p f b = Unit {0}
 
 abbrev pub Cause : List Scene → Frame → Option Begun → List NotedWork → Pool → Type 0
 Cause scenes (frame.Call (Telling q r)) b ws p = IsCaused scenes b r
-Cause scenes (frame.Call (Returning v)) b ws p = AskedBy scenes ws
+Cause scenes (frame.Call (Returning v)) b ws p = OfNext (IsAskedFor scenes) ws
 Cause scenes (frame.Free (Judged x h v)) b ws p = LastIs (AsksHook x) scenes
-Cause scenes (frame.Free (Ending a)) b ws p = RefusedFor scenes a ws
-Cause scenes (frame.Free (Beginning x)) b ws p = JustBegun p ws
+Cause scenes (frame.Free (Ending a)) b ws p = OfNext (IsRefusedFor scenes a) ws
+Cause scenes (frame.Free (Beginning x)) b ws p = OfNext (HasJustBegun p) ws
 Cause scenes f b ws p = Unit {0}

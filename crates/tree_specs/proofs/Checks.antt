@@ -1,5 +1,5 @@
 -- What it means that no refusal applies, and that an input fits.
-use Rattle.std.proofs.Common.{◌≡◌, ◌≢◌, ℕ, suc, zero, List, [], ◌∷◌, ◌++◌, length, Option, Some, None, Bool, true, false, cond, refl, sym, ◌∙◌, subst}
+use Rattle.std.proofs.Common.{◌≡◌, ◌≢◌, ℕ, suc, zero, List, [], ◌∷◌, ◌++◌, length, Option, Some, None, Bool, true, false, cond, refl, sym, ◌∙◌, subst, ◌⊎◌, inl, inr}
 use Rattle.std.specs.Prelude.{not, is_some}
 use Rattle.tree_specs.specs.declared.object.Obj.{Obj}
 use Rattle.tree_specs.specs.declared.object.Owner.{Owner}
@@ -14,7 +14,6 @@ use Rattle.tree_specs.specs.declared.reply.Refusal.TheVariants.{NotParent, Loop}
 use Rattle.tree_specs.specs.Objects.{same_owner}
 use Rattle.tree_specs.specs.declared.question.Ask.{Ask}
 use Rattle.tree_specs.specs.declared.question.Ask.TheVariants as ask
-use Rattle.tree_specs.specs.declared.question.Act.{Act}
 use Rattle.tree_specs.specs.declared.question.Act.TheVariants as act
 use Rattle.tree_specs.specs.declared.question.Input.{Input}
 use Rattle.tree_specs.specs.declared.question.Input.TheVariants as input
@@ -24,7 +23,7 @@ use Rattle.tree_specs.specs.Calls.{Check, refuse_if, refusals, small, is_plain, 
 use Rattle.tree_specs.specs.Sound.{IsLive}
 use Rattle.tree_specs.specs.Soundness.{is_sound_call, is_return}
 use Rattle.tree_specs.specs.Table.{doing, returning}
-use Rattle.tree_specs.specs.Story.{acted, heard}
+use Rattle.tree_specs.specs.Story.{heard}
 use Rattle.tree_specs.specs.Whole.{IsOfRoutine}
 use Rattle.tree_specs.proofs.Numbered.{by_test, same_owner-equal}
 
@@ -137,29 +136,34 @@ passes-hooking p x e =
 
 -- ---- what an input that fits leads to
 
+-- a call, or the end of a routine's run
+pub heard-by : {A : Type 0} (q : Ask) (does : Call → A) (returns : ℕ → A) (i : Input) (a : A) → heard q does returns i ≡ Some a
+    → ((c : Call) × (a ≡ does c)) ⊎ ((v : ℕ) × (i ≡ input.Act (act.Ret v)) × IsOfRoutine q × (a ≡ returns v))
+heard-by ask.Quiet does returns (input.Call c) a e = by_test (is_sound_call c)
+    (λ t. let e' : Some (does c) ≡ Some a = rw t at e in inl (c, cc))
+    (λ t. let e' : None ≡ Some a = rw t at e in cc)
+heard-by (ask.Routine m) does returns (input.Act (act.Do c)) a e = by_test (is_sound_call c)
+    (λ t. let e' : Some (does c) ≡ Some a = rw t at e in inl (c, cc))
+    (λ t. let e' : None ≡ Some a = rw t at e in cc)
+heard-by (ask.Routine m) does returns (input.Act (act.Ret v)) a e = by_test (is_return v)
+    (λ t. let e' : Some (returns v) ≡ Some a = rw t at e in inr (v, refl, tt, cc))
+    (λ t. let e' : None ≡ Some a = rw t at e in cc)
+heard-by ask.Quiet does returns (input.Act b) a e = cc
+heard-by (ask.Routine m) does returns (input.Call c) a e = cc
+heard-by ask.Clock does returns i a e = cc
+heard-by (ask.Wait limit) does returns i a e = cc
+heard-by (ask.Accept descriptor) does returns i a e = cc
+heard-by (ask.Read descriptor most) does returns i a e = cc
+heard-by (ask.Write descriptor bytes) does returns i a e = cc
+
 pub data Heard (q : Ask) : Frame → Type 0 where
   -- a call
   Does : (c : Call) → Heard q (doing q c)
   -- the end of a routine's run
   Returns : (v : ℕ) → IsOfRoutine q → Heard q (returning v)
 
-acted-heard : (q : Ask) (a : Act) (g : Frame) → IsOfRoutine q → acted (doing q) returning a ≡ Some g → Heard q g
-acted-heard q (act.Do c) g of e = by_test (is_sound_call c)
-    (λ t. let e' : Some (doing q c) ≡ Some g = rw t at e in let e'' : doing q c ≡ g = cc in subst (Heard q) e'' (Does c))
-    (λ t. let e' : None ≡ Some g = rw t at e in cc)
-acted-heard q (act.Ret v) g of e = by_test (is_return v)
-    (λ t. let e' : Some (returning v) ≡ Some g = rw t at e in let e'' : returning v ≡ g = cc in subst (Heard q) e'' (Returns v of))
-    (λ t. let e' : None ≡ Some g = rw t at e in cc)
-
 pub heard-leads : (q : Ask) (i : Input) (g : Frame) → heard q (doing q) returning i ≡ Some g → Heard q g
-heard-leads ask.Quiet (input.Call c) g e = by_test (is_sound_call c)
-    (λ t. let e' : Some (doing ask.Quiet c) ≡ Some g = rw t at e in let e'' : doing ask.Quiet c ≡ g = cc in subst (Heard ask.Quiet) e'' (Does c))
-    (λ t. let e' : None ≡ Some g = rw t at e in cc)
-heard-leads ask.Quiet (input.Act a) g e = cc
-heard-leads (ask.Routine m) (input.Call c) g e = cc
-heard-leads (ask.Routine m) (input.Act a) g e = acted-heard (ask.Routine m) a g tt e
-heard-leads ask.Clock i g e = cc
-heard-leads (ask.Wait limit) i g e = cc
-heard-leads (ask.Accept descriptor) i g e = cc
-heard-leads (ask.Read descriptor most) i g e = cc
-heard-leads (ask.Write descriptor bytes) i g e = cc
+heard-leads q i g e = elim (heard-by q (doing q) returning i g e) [
+  | inl h ↦ subst (Heard q) (sym h.1) (Does h.0)
+  | inr h ↦ subst (Heard q) (sym h.3) (Returns h.0 h.2)
+]

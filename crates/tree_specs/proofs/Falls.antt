@@ -37,7 +37,9 @@ use Rattle.tree_specs.proofs.Checks.{MayBePlaced, passes-placing, passes-reparen
 use Rattle.tree_specs.specs.Inside.{total}
 use Rattle.tree_specs.specs.Measure.{count, mark_weight, weight, unit, waiting_cost, top_cost, cost, pending}
 use Rattle.tree_specs.proofs.Rows.{total-without, total-placed, total-changed, total-length, count-length}
-use Rattle.tree_specs.proofs.Keeps.{sound-kept, dying-row, running-row, claim-here, owned-row, heir-placed}
+use Rattle.tree_specs.proofs.Waiters.{Waiter, ForFree, ForRun, ForChild, waiter}
+use Rattle.tree_specs.proofs.Changes.{dying-row, running-row, claim-here, owned-row, heir-placed}
+use Rattle.tree_specs.proofs.Keeps.{sound-kept}
 use Rattle.step_machine.proofs.Ends.{Falls}
 
 -- R bounds the rows that there can be
@@ -54,59 +56,35 @@ done-lower : (R : ℕ) (a : Answer) (f : Frame) (fs : List Frame) (p : Pool) (k 
 done-lower R a f [] p k w room pays = tt
 done-lower R a f (g ∷ gs) p k w room pays =
     let l = pays g gs refl w.0 in
-    (calm g w.0, omega (arith, l))
+    (calm g (waiter g gs w.0), omega (arith, l))
   where
-    calm : (g : Frame) → IsWaiting g gs → Room R (resume g a) p k
-    calm (frame.Call (Awaiting q x)) i = omega arith
-    calm (frame.Free f) i = omega arith
-    calm (frame.Call (Asking q)) i = absurd i
-    calm (frame.Call (Doing q c)) i = absurd i
-    calm (frame.Call (Telling q r)) i = absurd i
-    calm (frame.Call (Returning v)) i = absurd i
+    calm : (g : Frame) → Waiter g → Room R (resume g a) p k
+    calm _ (ForFree q x) = omega arith
+    calm _ (ForRun x h) = omega arith
+    calm _ (ForChild x c purpose) = omega arith
 
 -- what a work that is over pays for
-over-pays : (R : ℕ) (a : FreeReply) → IsOver a → (rows : List Row) → length rows ≤ R → (g : Frame) (gs : List Frame) → IsWaiting g gs
-    → top_cost R (resume g (Freed a)) gs rows < waiting_cost g + (4 * R + 9)
-over-pays R a o rows n (frame.Call (Awaiting q x)) gs w = omega arith
-over-pays R a o rows n (frame.Free (Hooked x h)) gs w = omega arith
-over-pays R Ok o rows n (frame.Free (Trying x c purpose)) gs w = let m = count-length rows (Of x) in omega (arith, m, n)
-over-pays R (Refused v) o rows n (frame.Free (Trying x c purpose)) gs w = let m = count-length rows (Of x) in omega (arith, m, n)
-over-pays R Running o rows n (frame.Free (Trying x c purpose)) gs w = absurd o
-over-pays R a o rows n (frame.Call (Asking q)) gs w = absurd w
-over-pays R a o rows n (frame.Call (Doing q c)) gs w = absurd w
-over-pays R a o rows n (frame.Call (Telling q r)) gs w = absurd w
-over-pays R a o rows n (frame.Call (Returning v)) gs w = absurd w
-over-pays R a o rows n (frame.Free (Beginning x)) gs w = absurd w
-over-pays R a o rows n (frame.Free (Judged x h v)) gs w = absurd w
-over-pays R a o rows n (frame.Free (Leaving x h)) gs w = absurd w
-over-pays R a o rows n (frame.Free (Looping x purpose)) gs w = absurd w
-over-pays R a o rows n (frame.Free (Tried x c purpose b)) gs w = absurd w
-over-pays R a o rows n (frame.Free (Ending b)) gs w = absurd w
+over-pays : (R : ℕ) (a : FreeReply) → IsOver a → (rows : List Row) → length rows ≤ R → (g : Frame) (gs : List Frame) → Waiter g → top_cost R (resume g (Freed a)) gs rows < waiting_cost g + (4 * R + 9)
+over-pays R a o rows n _ gs (ForFree q x) = omega arith
+over-pays R a o rows n _ gs (ForRun x h) = omega arith
+over-pays R Ok o rows n _ gs (ForChild x c purpose) = let m = count-length rows (Of x) in omega (arith, m, n)
+over-pays R (Refused v) o rows n _ gs (ForChild x c purpose) = let m = count-length rows (Of x) in omega (arith, m, n)
+over-pays R Running o rows n _ gs (ForChild x c purpose) = absurd o
 
 ending-lower : (R : ℕ) (a : FreeReply) (fs : List Frame) (p : Pool) (k : ℕ) → Sound (frame.Free (Ending a)) fs p → Room R (frame.Free (Ending a)) p k
     → Lowers R (cost R (frame.Free (Ending a)) fs p k) (step (frame.Free (Ending a)) p) fs k
-ending-lower R a fs p k s room = done-lower R (Freed a) (frame.Free (Ending a)) fs p k s.waiting (omega arith) (λ g gs e w. over-pays R a s.rests p.rows (omega arith) g gs w)
+ending-lower R a fs p k s room = done-lower R (Freed a) (frame.Free (Ending a)) fs p k s.waiting (omega arith) (λ g gs e w. over-pays R a s.rests p.rows (omega arith) g gs (waiter g gs w))
 
 -- a routine that has returned pays as one that is over
 returning-lower : (R v : ℕ) (fs : List Frame) (p : Pool) (k : ℕ) → Sound (frame.Call (Returning v)) fs p → Room R (frame.Call (Returning v)) p k
     → Lowers R (cost R (frame.Call (Returning v)) fs p k) (step (frame.Call (Returning v)) p) fs k
 returning-lower R v fs p k s room = done-lower R (Returned v) (frame.Call (Returning v)) fs p k s.waiting (omega arith)
-    (λ g gs e w. let l = over-pays R Ok tt p.rows (omega arith) g gs w in omega (arith, l, as-over g gs w))
+    (λ g gs e w. let l = over-pays R Ok tt p.rows (omega arith) g gs (waiter g gs w) in omega (arith, l, as-over g gs (waiter g gs w)))
   where
-    as-over : (g : Frame) (gs : List Frame) → IsWaiting g gs → top_cost R (resume g (Returned v)) gs p.rows ≡ top_cost R (resume g (Freed Ok)) gs p.rows
-    as-over (frame.Call (Awaiting q x)) gs w = refl
-    as-over (frame.Free (Hooked x h)) gs w = refl
-    as-over (frame.Free (Trying x c purpose)) gs w = refl
-    as-over (frame.Call (Asking q)) gs w = absurd w
-    as-over (frame.Call (Doing q c)) gs w = absurd w
-    as-over (frame.Call (Telling q r)) gs w = absurd w
-    as-over (frame.Call (Returning u)) gs w = absurd w
-    as-over (frame.Free (Beginning x)) gs w = absurd w
-    as-over (frame.Free (Judged x h u)) gs w = absurd w
-    as-over (frame.Free (Leaving x h)) gs w = absurd w
-    as-over (frame.Free (Looping x purpose)) gs w = absurd w
-    as-over (frame.Free (Tried x c purpose b)) gs w = absurd w
-    as-over (frame.Free (Ending b)) gs w = absurd w
+    as-over : (g : Frame) (gs : List Frame) → Waiter g → top_cost R (resume g (Returned v)) gs p.rows ≡ top_cost R (resume g (Freed Ok)) gs p.rows
+    as-over _ gs (ForFree q x) = refl
+    as-over _ gs (ForRun x h) = refl
+    as-over _ gs (ForChild x c purpose) = refl
 
 asking-lower : (R : ℕ) (q : Ask) (fs : List Frame) (p : Pool) (k : ℕ) → Room R (frame.Call (Asking q)) p k
     → Lowers R (cost R (frame.Call (Asking q)) fs p k) (step (frame.Call (Asking q)) p) fs k
@@ -228,29 +206,24 @@ at_once-lower : (R : ℕ) (a : FreeReply) (x : Obj) (fs : List Frame) (p p' : Po
     → total weight p'.rows ≡ total weight p.rows → length p'.rows ≡ length p.rows → ((y : Obj) → count p'.rows (Of y) ≡ count p.rows (Of y)) → Room R (frame.Free (Beginning x)) p k
     → Lowers R (cost R (frame.Free (Beginning x)) fs p k) (Do.Done (Freed a) p') fs k
 at_once-lower R a x [] p p' k h t w e n m room = tt
-at_once-lower R a x (frame.Call (Awaiting q y) ∷ fs) p p' k h t w e n m room =
-    let u = ap (λ (z : ℕ). unit R * z) e in (omega (arith, n), omega (arith, u))
-at_once-lower R a x (frame.Free (Trying y c purpose) ∷ fs) p p' k h t w e n m room = elim h [
-  | inl is ↦ runs a is
-  | inr none ↦ absurd (none (Of y) t.1)
-]
+at_once-lower R a x (g ∷ gs) p p' k h t w e n m room = below g (waiter g gs w.0) t
   where
-    runs : (a : FreeReply) → a ≡ Running
-        → Room R (frame.Free (Tried y c purpose a)) p' k × (cost R (frame.Free (Tried y c purpose a)) fs p' k < cost R (frame.Free (Beginning x)) (frame.Free (Trying y c purpose) ∷ fs) p k)
-    runs Running is = let u = ap (λ (z : ℕ). unit R * z) e in (omega (arith, n), omega (arith, u, m y))
-    runs Ok is = cc
-    runs (Refused v) is = cc
-at_once-lower R a x (frame.Free (Hooked y h) ∷ fs) p p' k is t w e n m room = cc
-at_once-lower R a x (frame.Call (Asking q) ∷ fs) p p' k h t w e n m room = absurd w.0
-at_once-lower R a x (frame.Call (Doing q c) ∷ fs) p p' k h t w e n m room = absurd w.0
-at_once-lower R a x (frame.Call (Telling q r) ∷ fs) p p' k h t w e n m room = absurd w.0
-at_once-lower R a x (frame.Call (Returning v) ∷ fs) p p' k h t w e n m room = absurd w.0
-at_once-lower R a x (frame.Free (Beginning y) ∷ fs) p p' k h t w e n m room = absurd w.0
-at_once-lower R a x (frame.Free (Judged y g v) ∷ fs) p p' k h t w e n m room = absurd w.0
-at_once-lower R a x (frame.Free (Leaving y g) ∷ fs) p p' k h t w e n m room = absurd w.0
-at_once-lower R a x (frame.Free (Looping y purpose) ∷ fs) p p' k h t w e n m room = absurd w.0
-at_once-lower R a x (frame.Free (Tried y c purpose b) ∷ fs) p p' k h t w e n m room = absurd w.0
-at_once-lower R a x (frame.Free (Ending b) ∷ fs) p p' k h t w e n m room = absurd w.0
+    u : unit R * total weight p'.rows ≡ unit R * total weight p.rows
+    u = ap (λ (z : ℕ). unit R * z) e
+
+    runs : (y c : Obj) (purpose : Purpose) (a : FreeReply) → a ≡ Running
+        → Room R (frame.Free (Tried y c purpose a)) p' k × (cost R (frame.Free (Tried y c purpose a)) gs p' k < cost R (frame.Free (Beginning x)) (frame.Free (Trying y c purpose) ∷ gs) p k)
+    runs y c purpose Running is = (omega (arith, n), omega (arith, u, m y))
+    runs y c purpose Ok is = cc
+    runs y c purpose (Refused v) is = cc
+
+    below : (g : Frame) → Waiter g → Tries x (g ∷ gs) p → Lowers R (cost R (frame.Free (Beginning x)) (g ∷ gs) p k) (Do.Done (Freed a) p') (g ∷ gs) k
+    below _ (ForFree q y) t = (omega (arith, n), omega (arith, u))
+    below _ (ForRun y f) t = cc
+    below _ (ForChild y c purpose) t = elim h [
+      | inl is ↦ runs y c purpose a is
+      | inr none ↦ absurd (none (Of y) t.1)
+    ]
 
 beginning-lower : (R : ℕ) (x : Obj) (fs : List Frame) (p : Pool) (k : ℕ) → Sound (frame.Free (Beginning x)) fs p → Room R (frame.Free (Beginning x)) p k
     → Lowers R (cost R (frame.Free (Beginning x)) fs p k) (step (frame.Free (Beginning x)) p) fs k

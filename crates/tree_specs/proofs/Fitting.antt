@@ -1,23 +1,23 @@
 -- Each item of the machine fits what was told before it.
-use Rattle.std.proofs.Common.{◌≡◌, ◌≢◌, ℕ, List, [], ◌∷◌, ◌++◌, Option, Some, None, Bool, true, false, nat_eq, refl, sym, ◌∙◌, ap, subst, ◌⊎◌, inl, inr}
-use Rattle.std.specs.Prelude.{not, ◌||◌, ◌&&◌, is_some}
+use Rattle.std.proofs.Common.{◌≡◌, ℕ, List, [], ◌∷◌, ◌++◌, Bool, true, false, refl, sym, ◌∙◌, subst, ◌⊎◌, inl, inr}
+use Rattle.std.specs.Prelude.{◌||◌, ◌&&◌}
 use Rattle.std.specs.List.{list_any}
 use Rattle.step_machine.specs.Open.{LastIs}
 use Rattle.tree_specs.specs.declared.object.Obj.{Obj}
 use Rattle.tree_specs.specs.declared.object.Owner.{Owner}
-use Rattle.tree_specs.specs.declared.object.Owner.TheVariants.{Root, Of}
+use Rattle.tree_specs.specs.declared.object.Owner.TheVariants.{Of}
 use Rattle.tree_specs.specs.declared.row.Row.{Row}
 use Rattle.tree_specs.specs.declared.question.Ask.{Ask}
 use Rattle.tree_specs.specs.declared.question.Ask.TheVariants as ask
 use Rattle.tree_specs.specs.declared.reply.Reply.{Reply}
 use Rattle.tree_specs.specs.declared.event.Event.TheVariants.{Replied, Accepted, Refused, Moved, Freed}
 use Rattle.tree_specs.specs.Objects.{same, same_owner}
-use Rattle.tree_specs.specs.Pool.{row_of, is_row, is_owner}
+use Rattle.tree_specs.specs.Pool.{is_row, is_owner}
 use Rattle.tree_specs.specs.Items.{Item}
 use Rattle.tree_specs.specs.Items.Item.{Told, Asked}
-use Rattle.tree_specs.specs.Orderly.{is_hook, accepts, frees, judges, uses, Fits, FreedOnce, RefusedJustNow}
+use Rattle.tree_specs.specs.Orderly.{is_hook, accepts, frees, Fits, FreedOnce, RefusedJustNow}
 use Rattle.tree_specs.specs.Whole.{IsQuiet}
-use Rattle.tree_specs.proofs.Numbered.{by_test, same-true, same_owner-true}
+use Rattle.tree_specs.proofs.Numbered.{same-true, same_owner-true}
 use Rattle.tree_specs.proofs.Causes.{IsHookOf}
 
 pub last-more : {T : Type 0} (Q : T → Type 0) (ts : List T) (t : T) → Q t → LastIs Q (ts ++ t ∷ [])

@@ -1,7 +1,6 @@
 -- Each step of the machine keeps what is sound.
-use Rattle.std.proofs.Common.{◌≡◌, ◌≢◌, ℕ, suc, zero, ◌+◌, ◌<◌, List, [], ◌∷◌, ◌++◌, Option, Some, None, true, false, nat_eq, refl, sym, ◌∙◌, ap, subst, inl, inr, arith}
-use Rattle.std.specs.Prelude.{is_some, unwrap_or}
-use Rattle.std.proofs.lemmas.Bool.{eqb-true}
+use Rattle.std.proofs.Common.{◌≡◌, ◌≢◌, ℕ, suc, zero, List, [], ◌∷◌, Option, Some, None, true, false, nat_eq, refl, sym, ◌∙◌, ap, subst}
+use Rattle.std.specs.Prelude.{unwrap_or}
 use Rattle.step_machine.specs.Machine.{Move}
 use Rattle.step_machine.specs.Machine.{Move as Do}
 use Rattle.step_machine.proofs.Ends.{Leads}
@@ -27,80 +26,26 @@ use Rattle.tree_specs.specs.declared.frame.Answer.{Answer}
 use Rattle.tree_specs.specs.declared.frame.Answer.TheVariants.{Freed, Returned}
 use Rattle.tree_specs.specs.declared.free_step.FreeReply.{FreeReply}
 use Rattle.tree_specs.specs.declared.free_step.FreeReply.TheVariants.{Ok, Running, Refused}
-use Rattle.tree_specs.specs.declared.kind.Kind.TheVariants.{Plain}
 use Rattle.tree_specs.specs.Objects.{same}
-use Rattle.tree_specs.specs.Pool.{Pool, row_of, is_owner, is_below, owner_of, first_kid, without, changed, add, remove, left_row, place, named_row, set_mark, marked_row, set_hook, hooked_row}
+use Rattle.tree_specs.specs.Pool.{Pool, row_of, is_below, owner_of, first_kid, without, changed, remove, left_row, place, named_row, set_mark, marked_row, set_hook, hooked_row}
 use Rattle.tree_specs.specs.Inside.{size_inside, count_inside}
 use Rattle.tree_specs.specs.Reports.{report}
 use Rattle.tree_specs.specs.Items.{Item}
 use Rattle.tree_specs.specs.Calls.{Check, refusals}
 use Rattle.tree_specs.specs.Story.{owner_reply, hook_moment, later}
-use Rattle.tree_specs.specs.Table.{table, step, lifted, begin_quiet, begin_step, judge_step, last_step, loop_step, hand_on_step, call_step, effect_step, reply_in}
+use Rattle.tree_specs.specs.Table.{table, step, lifted, begin_quiet, begin_step, judge_step, last_step, loop_step, hand_on_step, call_step, effect_step, reply_in, resume}
 use Rattle.tree_specs.specs.Heirs.{heir}
-use Rattle.tree_specs.specs.Sound.{Owned, Shaped, ValidAt, Phase, InRun, InLoop, phase_of, phases, claim_if, claim, claims, AllWait, IsLive, Tries, StillThere, IsOver, Rests, Sound}
-use Rattle.tree_specs.proofs.Numbered.{by_test, same-true, same-equal, same-false, same_or_not, is_below-some}
-use Rattle.tree_specs.proofs.Rows.{row_of-changed-other, row_of-changed-same, row_of-without-other, row_of-without-same, row_of-placed-other, row_of-placed-same, first_kid-owner}
-use Rattle.tree_specs.proofs.Rooted.{KeepsPlace, forest-new, forest-placed, forest-changed, forest-left, forest-without}
-use Rattle.tree_specs.proofs.Heirs.{heir-may_take}
+use Rattle.tree_specs.specs.Sound.{Owned, Shaped, ValidAt, InRun, InLoop, phase_of, phases, claim, claims, IsLive, Tries, StillThere, IsOver, Sound}
+use Rattle.tree_specs.proofs.Numbered.{by_test, same-equal, same-false}
+use Rattle.tree_specs.proofs.Rows.{row_of-changed-other, row_of-changed-same, row_of-without-other, row_of-without-same, first_kid-owner}
+use Rattle.tree_specs.proofs.Rooted.{KeepsPlace, forest-left, forest-without}
+use Rattle.tree_specs.proofs.Waiters.{Waiter, ForFree, ForRun, ForChild, waiter}
 use Rattle.tree_specs.proofs.Checks.{passes, MayBePlaced, passes-placing, passes-reparent, passes-object, MayBeHooked, passes-hooking, Heard, Does, Returns, heard-leads}
-
--- a fact on each object, where one row was changed
-valid-at : (next : ℕ) (rs rs' : List Row) (x : Obj) → ((y : Obj) → ValidAt next (row_of rs y) y)
-    → ((y : Obj) → x ≢ y → row_of rs' y ≡ row_of rs y) → ValidAt next (row_of rs' x) x → (y : Obj) → ValidAt next (row_of rs' y) y
-valid-at next rs rs' x v other here y =
-    elim (same_or_not x y) [
-      | inl e ↦ subst (λ (z : Obj). ValidAt next (row_of rs' z) z) e here
-      | inr ne ↦ rw (other y ne) (v y)
-    ]
-
-frees-at : (f f' : Frame) (fs fs' : List Frame) (rs rs' : List Row) (x : Obj) → ((y : Obj) → claim y f ++ claims y fs ≡ phases (row_of rs y))
-    → ((y : Obj) → x ≢ y → row_of rs' y ≡ row_of rs y) → ((y : Obj) → x ≢ y → claim y f' ++ claims y fs' ≡ claim y f ++ claims y fs)
-    → claim x f' ++ claims x fs' ≡ phases (row_of rs' x) → (y : Obj) → claim y f' ++ claims y fs' ≡ phases (row_of rs' y)
-frees-at f f' fs fs' rs rs' x o other others here y =
-    elim (same_or_not x y) [
-      | inl e ↦ subst (λ (z : Obj). claim z f' ++ claims z fs' ≡ phases (row_of rs' z)) e here
-      | inr ne ↦ others y ne ∙ o y ∙ ap phases (sym (other y ne))
-    ]
-
--- a row that a free in its loop claims is dying, and claimed once
-pub dying-row : (o : Option Row) (l : List Phase) → InLoop ∷ l ≡ phases o → (r : Row) × (o ≡ Some r) × (former : Owner) × (r.mark ≡ Dying former) × (l ≡ [])
-dying-row None l e = cc
-dying-row (Some r) l e = marks r.mark refl e
-  where
-    marks : (m : Mark) → r.mark ≡ m → InLoop ∷ l ≡ phase_of r.mark → (s : Row) × (Some r ≡ Some s) × (former : Owner) × (s.mark ≡ Dying former) × (l ≡ [])
-    marks Quiet m e = let e' : InLoop ∷ l ≡ [] = rw m at e in cc
-    marks Asked m e = let e' : InLoop ∷ l ≡ InRun ∷ [] = rw m at e in cc
-    marks Busy m e = let e' : InLoop ∷ l ≡ InRun ∷ [] = rw m at e in cc
-    marks Doomed m e = let e' : InLoop ∷ l ≡ InRun ∷ [] = rw m at e in cc
-    marks (Dying former) m e = let e' : InLoop ∷ l ≡ InLoop ∷ [] = rw m at e in (r, refl, former, m, cc)
-
--- a row of which a free says that it runs is live, and claimed once
-pub running-row : (o : Option Row) (l : List Phase) → InRun ∷ l ≡ phases o → (r : Row) × (o ≡ Some r) × IsLive r.mark × (l ≡ [])
-running-row None l e = cc
-running-row (Some r) l e = marks r.mark refl e
-  where
-    marks : (m : Mark) → r.mark ≡ m → InRun ∷ l ≡ phase_of r.mark → (s : Row) × (Some r ≡ Some s) × IsLive s.mark × (l ≡ [])
-    marks Quiet m e = let e' : InRun ∷ l ≡ [] = rw m at e in cc
-    marks Asked m e = let e' : InRun ∷ l ≡ InRun ∷ [] = rw m at e in (r, refl, rw m tt, cc)
-    marks Busy m e = let e' : InRun ∷ l ≡ InRun ∷ [] = rw m at e in (r, refl, rw m tt, cc)
-    marks Doomed m e = let e' : InRun ∷ l ≡ InRun ∷ [] = rw m at e in (r, refl, rw m tt, cc)
-    marks (Dying former) m e = let e' : InRun ∷ l ≡ InLoop ∷ [] = rw m at e in cc
-
--- what a claim on x says
-pub claim-here : (x : Obj) (a : Phase) (l : List Phase) (o : Option Row) → claim_if (same x x) a ++ l ≡ phases o → a ∷ l ≡ phases o
-claim-here x a l o h = let self : same x x ≡ true = same-equal x x refl in rw self at h
+use Rattle.tree_specs.proofs.Changes.{dying-row, running-row, claim-here, positive, not-zero, stands, goes_on, changed-sound, shape-of, live-owned, marks-place, hooks-place, names-place, unmarked-sound, valid-at, frees-at, placed-sound, heir-placed, new-sound}
 
 -- what a step leads to is sound
 abbrev pub KeptBy : Move Frame Answer Pool Item → List Frame → ℕ → Type 0
 KeptBy m fs k = Leads table (λ g gs q j. Sound g gs q) m fs k
-
--- the same rows under other works that claim as much
-pub stands : (f f' : Frame) (fs fs' : List Frame) (p : Pool) → ((x : Obj) → claim x f' ++ claims x fs' ≡ claim x f ++ claims x fs) → AllWait fs' → Rests f' fs' p → Sound f fs p → Sound f' fs' p
-stands f f' fs fs' p e w h s = record { started = s.started; valid = s.valid; forest = s.forest; waiting = w; rests = h; open_frees = λ x. e x ∙ s.open_frees x }
-
--- the same under another innermost work
-goes_on : (f f' : Frame) (fs : List Frame) (p : Pool) → ((x : Obj) → claim x f' ≡ claim x f) → Rests f' fs p → Sound f fs p → Sound f' fs p
-goes_on f f' fs p e h s = stands f f' fs fs p (λ x. ap (λ (l : List Phase). l ++ claims x fs) (e x)) s.waiting h s
 
 asking : (q : Ask) (fs : List Frame) (p : Pool) (k : ℕ) → Sound (frame.Call (Asking q)) fs p → KeptBy (step (frame.Call (Asking q)) p) fs k
 asking q fs p zero s = tt
@@ -113,82 +58,20 @@ asking q fs p (suc k) s = λ i g e. leads g (heard-leads q i g e)
 -- a work that ends leaves the work below it sound
 ended : (a : Answer) (f : Frame) (fs : List Frame) (p : Pool) (k : ℕ) → Sound f fs p → ((x : Obj) → claim x f ≡ [])
     → ((x c : Obj) (purpose : Purpose) (gs : List Frame) → fs ≡ frame.Free (Trying x c purpose) ∷ gs → StillThere (reply_in a) x c p) → KeptBy (Do.Done a p) fs k
-ended a f fs p k s none there = below fs s there
+ended a f [] p k s none there = tt
+ended a f (g ∷ gs) p k s none there = below g (waiter g gs s.waiting.0) s there
   where
-    below : (fs : List Frame) → Sound f fs p
-        → ((x c : Obj) (purpose : Purpose) (gs : List Frame) → fs ≡ frame.Free (Trying x c purpose) ∷ gs → StillThere (reply_in a) x c p) → KeptBy (Do.Done a p) fs k
-    below [] s there = tt
-    below (frame.Call (Awaiting q x) ∷ fs) s there = stands f _ (frame.Call (Awaiting q x) ∷ fs) fs p (λ y. rw (none y) refl) s.waiting.1 tt s
-    below (frame.Free (Hooked x h) ∷ fs) s there = stands f _ (frame.Free (Hooked x h) ∷ fs) fs p (λ y. rw (none y) refl) s.waiting.1 s.waiting.0 s
-    below (frame.Free (Trying x c purpose) ∷ fs) s there = stands f _ (frame.Free (Trying x c purpose) ∷ fs) fs p (λ y. rw (none y) refl) s.waiting.1 (there x c purpose fs refl, s.waiting.0) s
-    below (frame.Call (Asking q) ∷ fs) s there = absurd s.waiting.0
-    below (frame.Call (Doing q c) ∷ fs) s there = absurd s.waiting.0
-    below (frame.Call (Telling q r) ∷ fs) s there = absurd s.waiting.0
-    below (frame.Call (Returning v) ∷ fs) s there = absurd s.waiting.0
-    below (frame.Free (Beginning x) ∷ fs) s there = absurd s.waiting.0
-    below (frame.Free (Judged x h v) ∷ fs) s there = absurd s.waiting.0
-    below (frame.Free (Leaving x h) ∷ fs) s there = absurd s.waiting.0
-    below (frame.Free (Looping x purpose) ∷ fs) s there = absurd s.waiting.0
-    below (frame.Free (Tried x c purpose b) ∷ fs) s there = absurd s.waiting.0
-    below (frame.Free (Ending b) ∷ fs) s there = absurd s.waiting.0
+    below : (g : Frame) → Waiter g → Sound f (g ∷ gs) p
+        → ((x c : Obj) (purpose : Purpose) (hs : List Frame) → g ∷ gs ≡ frame.Free (Trying x c purpose) ∷ hs → StillThere (reply_in a) x c p) → Sound (resume g a) gs p
+    below _ (ForFree q x) s there = stands f _ (frame.Call (Awaiting q x) ∷ gs) gs p (λ y. rw (none y) refl) s.waiting.1 tt s
+    below _ (ForRun x h) s there = stands f _ (frame.Free (Hooked x h) ∷ gs) gs p (λ y. rw (none y) refl) s.waiting.1 s.waiting.0 s
+    below _ (ForChild x c purpose) s there = stands f _ (frame.Free (Trying x c purpose) ∷ gs) gs p (λ y. rw (none y) refl) s.waiting.1 (there x c purpose gs refl, s.waiting.0) s
 
 -- a child that isn't said to run need not be where it was
 pub still-there : (a : FreeReply) (x c : Obj) (p : Pool) → IsOver a → StillThere a x c p
 still-there Ok x c p h = tt
 still-there Running x c p h = absurd h
 still-there (Refused v) x c p h = tt
-
--- ---- a row that is changed in its place
-
-changed-sound : (g : Row → Row) (f f' : Frame) (fs fs' : List Frame) (p : Pool) (x : Obj) (r : Row) → Sound f fs p → KeepsPlace g → row_of p.rows x ≡ Some r → Shaped (g r).mark (g r).owner x
-    → ((y : Obj) → x ≢ y → claim y f' ++ claims y fs' ≡ claim y f ++ claims y fs) → claim x f' ++ claims x fs' ≡ phase_of (g r).mark
-    → AllWait fs' → Rests f' fs' (record p { rows = changed g p.rows x }) → Sound f' fs' (record p { rows = changed g p.rows x })
-changed-sound g f f' fs fs' p x r s k e shaped others here w h =
-    let new : row_of (changed g p.rows x) x ≡ Some (g r) = row_of-changed-same g p.rows x r k.serial e in
-    let other : (y : Obj) → x ≢ y → row_of (changed g p.rows x) y ≡ row_of p.rows y = (λ y ne. row_of-changed-other g p.rows x y k.serial ne) in
-    let v : ValidAt p.next (Some r) x = rw e at (s.valid x) in
-    record {
-      started = s.started;
-      valid = valid-at p.next p.rows (changed g p.rows x) x s.valid other (rw new (v.0, v.1, shaped));
-      forest = forest-changed g p.rows x k s.forest;
-      open_frees = frees-at f f' fs fs' p.rows (changed g p.rows x) x s.open_frees other others (rw new here);
-      waiting = w;
-      rests = h;
-    }
-
-shape-of : (p : Pool) (x : Obj) (r : Row) → ((y : Obj) → ValidAt p.next (row_of p.rows y) y) → row_of p.rows x ≡ Some r → Shaped r.mark r.owner x
-shape-of p x r valid e = let v : ValidAt p.next (Some r) x = rw e at (valid x) in v.2
-
--- a row that isn't dying has an owner, another object
-live-owned : (m : Mark) (o : Option Owner) (x : Obj) → IsLive m → Shaped m o x → Owned o x
-live-owned Quiet o x l s = s
-live-owned Asked o x l s = s
-live-owned Busy o x l s = s
-live-owned Doomed o x l s = s
-live-owned (Dying former) o x l s = absurd l
-
-owned-live : (m : Mark) (o : Option Owner) (x : Obj) → IsLive m → Owned o x → Shaped m o x
-owned-live Quiet o x l s = s
-owned-live Asked o x l s = s
-owned-live Busy o x l s = s
-owned-live Doomed o x l s = s
-owned-live (Dying former) o x l s = absurd l
-
-pub marks-place : (m : Mark) → KeepsPlace (marked_row m)
-marks-place m = record { serial = λ r. refl; owner = λ r. refl }
-
-pub hooks-place : (h : ℕ) → KeepsPlace (hooked_row h)
-hooks-place h = record { serial = λ r. refl; owner = λ r. refl }
-
-pub names-place : (name : List ℕ) → KeepsPlace (named_row name)
-names-place name = record { serial = λ r. refl; owner = λ r. refl }
-
--- a change that says nothing of what is going on
-unmarked-sound : (g : Row → Row) (f f' : Frame) (fs : List Frame) (p : Pool) (x : Obj) (r : Row) → Sound f fs p → KeepsPlace g → ((r : Row) → (g r).mark ≡ r.mark) → row_of p.rows x ≡ Some r
-    → ((y : Obj) → claim y f' ≡ claim y f) → Rests f' fs (record p { rows = changed g p.rows x }) → Sound f' fs (record p { rows = changed g p.rows x })
-unmarked-sound g f f' fs p x r s k m e claim-same h =
-    changed-sound g f f' fs fs p x r s k e (rw (m r, k.owner r) (shape-of p x r s.valid e)) (λ y ne. ap (λ (l : List Phase). l ++ claims y fs) (claim-same y))
-    (ap (λ (l : List Phase). l ++ claims x fs) (claim-same x) ∙ s.open_frees x ∙ ap phases e ∙ ap phase_of (sym (m r))) s.waiting h
 
 -- ---- freeing
 
@@ -244,50 +127,6 @@ looping x purpose fs p k s = each (first_kid p.rows (Of x)) refl
     each (Some c) e = rw e (stands (frame.Free (Looping x purpose)) (frame.Free (Beginning c)) fs (frame.Free (Trying x c purpose) ∷ fs) p (λ y. refl) (s.rests, s.waiting)
         (refl, first_kid-owner p.rows (Of x) c s.forest.distinct e) s)
 
--- an owner stands only on a row that is live
-pub owned-row : (p : Pool) (c : Obj) (o : Owner) → ((y : Obj) → ValidAt p.next (row_of p.rows y) y) → owner_of p.rows c ≡ Some o → (r : Row) × (row_of p.rows c ≡ Some r) × IsLive r.mark
-owned-row p c o valid e = each (row_of p.rows c) refl
-  where
-    live : (m : Mark) (w : Option Owner) → w ≡ Some o → Shaped m w c → IsLive m
-    live Quiet w e s = tt
-    live Asked w e s = tt
-    live Busy w e s = tt
-    live Doomed w e s = tt
-    live (Dying former) None e s = cc
-    live (Dying former) (Some w) e s = s
-
-    each : (q : Option Row) → row_of p.rows c ≡ q → (r : Row) × (row_of p.rows c ≡ Some r) × IsLive r.mark
-    each None h = let bad : None ≡ Some o = rw h at e in cc
-    each (Some r) h =
-        let w : r.owner ≡ Some o = rw h at e in
-        let v : ValidAt p.next (Some r) c = rw h at (valid c) in
-        (r, h, live r.mark r.owner w v.2)
-
--- an object that is put below another owner
-pub placed-sound : (f f' : Frame) (o : Owner) (x : Obj) (fs : List Frame) (p : Pool) → Sound f fs p → MayBePlaced p o x → ((y : Obj) → claim y f' ≡ claim y f) → Rests f' fs (place p o x)
-    → Sound f' fs (place p o x)
-placed-sound f f' o x fs p s may claim-same h =
-    let r : Row = may.row in
-    let here : row_of (place p o x).rows x ≡ Some (record r { owner = Some o }) = row_of-placed-same p o x r may.is in
-    let other : (y : Obj) → x ≢ y → row_of (place p o x).rows y ≡ row_of p.rows y = (λ y ne. row_of-placed-other p o x y r may.is ne) in
-    let v : ValidAt p.next (Some r) x = rw may.is at (s.valid x) in
-    record {
-      started = s.started;
-      valid = valid-at p.next p.rows (place p o x).rows x s.valid other (rw here (v.0, v.1, owned-live r.mark (Some o) x may.live may.apart));
-      forest = forest-placed p o x r s.forest may.is may.there may.outside;
-      open_frees = frees-at f f' fs fs p.rows (place p o x).rows x s.open_frees other (λ y ne. ap (λ (l : List Phase). l ++ claims y fs) (claim-same y))
-          (ap (λ (l : List Phase). l ++ claims x fs) (claim-same x) ∙ s.open_frees x ∙ ap phases may.is ∙ sym (ap phases here));
-      waiting = s.waiting;
-      rests = h;
-    }
-
--- a child may be put below its heir
-pub heir-placed : (x c : Obj) (f : Frame) (fs : List Frame) (p : Pool) → Sound f fs p → is_below (owner_of p.rows c) (Of x) ≡ true → MayBePlaced p (heir p.rows x c) c
-heir-placed x c f fs p s below =
-    let row = owned-row p c (Of x) s.valid (is_below-some (owner_of p.rows c) (Of x) below) in
-    let may = heir-may_take p.rows x c in
-    record { row = row.0; is = row.1; live = row.2; apart = may.apart; there = may.there; outside = may.outside }
-
 -- the freeing of a child is over
 tried : (x c : Obj) (purpose : Purpose) (a : FreeReply) (fs : List Frame) (p : Pool) (k : ℕ) → Sound (frame.Free (Tried x c purpose a)) fs p
     → KeptBy (step (frame.Free (Tried x c purpose a)) p) fs k
@@ -302,13 +141,6 @@ tried x c purpose a fs p k s = each a s
     each Ok s = goes_on (frame.Free (Tried x c purpose Ok)) (frame.Free (Looping x purpose)) fs p (λ y. refl) s.rests.1 s
     each Running s = handed Running s
     each (Refused v) s = handed (Refused v) s
-
-positive : (h : ℕ) → nat_eq h 0 ≡ false → 0 < h
-positive zero t = cc
-positive (suc h) t = omega arith
-
-pub not-zero : (h : ℕ) → 0 < h → nat_eq h 0 ≡ false
-not-zero h l = by_test (nat_eq h 0) (λ t. let e : h ≡ 0 = eqb-true h 0 t in absurd (omega arith)) (λ t. t)
 
 beginning : (x : Obj) (fs : List Frame) (p : Pool) (k : ℕ) → Sound (frame.Free (Beginning x)) fs p → KeptBy (step (frame.Free (Beginning x)) p) fs k
 beginning x fs p k s = each (row_of p.rows x) refl
@@ -378,42 +210,6 @@ judged x h v fs p k s =
         (live-owned r.mark r.owner x live (shape-of p x r s.valid e)) (λ y ne. let u : same x y ≡ false = same-false x y ne in rw u refl) none s.waiting tt))
 
 -- ---- calls
-
--- a new row is sound below an owner
-pub new-sound : (f f' : Frame) (o : Owner) (size : ℕ) (name : List ℕ) (fs : List Frame) (p : Pool) → Sound f fs p → is_owner p.rows o ≡ true
-    → ((x : Obj) → claim x f' ≡ claim x f) → Rests f' fs (add p Plain o size name) → Sound f' fs (add p Plain o size name)
-new-sound f f' o size name fs p s e claim-same h =
-    let n : Obj = record { 0 = p.next } in
-    let none : row_of p.rows n ≡ None = fresh (row_of p.rows n) (s.valid n) in
-    let ne : o ≢ Of n = other o e in
-    record {
-      started = omega arith;
-      forest = forest-new p.rows n Plain o size name s.forest none e;
-      valid = λ y. by_test (same n y)
-          (λ z. let q : n ≡ y = same-true n y z in rw z (subst (λ (v : Obj). (0 < v.0) × (v.0 < p.next + 1) × (o ≢ Of v)) q (s.started, omega arith, ne)))
-          (λ z. rw z (higher (row_of p.rows y) y (s.valid y)));
-      open_frees = λ y. ap (λ (l : List Phase). l ++ claims y fs) (claim-same y) ∙ by_test (same n y)
-          (λ z. let q : n ≡ y = same-true n y z in rw z (s.open_frees y ∙ ap phases (ap (row_of p.rows) (sym q) ∙ none)))
-          (λ z. rw z (s.open_frees y));
-      waiting = s.waiting;
-      rests = h;
-    }
-  where
-    fresh : (q : Option Row) → ValidAt p.next q (record { 0 = p.next }) → q ≡ None
-    fresh None v = refl
-    fresh (Some r) v = let l : p.next < p.next = v.1 in absurd (omega arith)
-
-    below : (x : Obj) (q : Option Row) → is_some q ≡ true → ValidAt p.next q x → Of x ≢ Of (record { 0 = p.next })
-    below x None b v = cc
-    below x (Some r) b v = λ d. let l : x.0 < p.next = v.1 in let d' : x ≡ record { 0 = p.next } = cc in let d'' : x.0 ≡ p.next = ap (λ (z : Obj). z.0) d' in absurd (omega arith)
-
-    other : (w : Owner) → is_owner p.rows w ≡ true → w ≢ Of (record { 0 = p.next })
-    other Root b = λ d. cc
-    other (Of x) b = below x (row_of p.rows x) b (s.valid x)
-
-    higher : (q : Option Row) (y : Obj) → ValidAt p.next q y → ValidAt (p.next + 1) q y
-    higher None y v = tt
-    higher (Some r) y v = let l : y.0 < p.next = v.1 in (v.0, omega arith, v.2)
 
 -- a call without a free leaves what it does, and is told
 module _ (q : Ask) (c : Call) (fs : List Frame) (p : Pool) (s : Sound (frame.Call (Doing q c)) fs p) where

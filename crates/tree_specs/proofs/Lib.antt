@@ -7,6 +7,8 @@ pub mod Rooted
 pub mod Walk
 pub mod Heirs
 pub mod Checks
+pub mod Waiters
+pub mod Changes
 pub mod Keeps
 pub mod Falls
 pub mod Means
@@ -18,7 +20,11 @@ pub mod Later
 pub mod Past
 pub mod Causes
 pub mod Fitting
-pub mod Orderliness
 pub mod References
 pub mod OwnRefusals
+pub mod Fine
+pub mod FineCallers
+pub mod FineFrees
 pub mod StoryOrder
+pub mod TextLaws
+pub mod FreeCauses

@@ -31,7 +31,7 @@ use Rattle.tree_specs.specs.Heirs.{heir}
 use Rattle.tree_specs.specs.Items.{Item}
 use Rattle.tree_specs.specs.Calls.{Check, refusals}
 use Rattle.tree_specs.specs.Table.{table, step, lifted, begin_quiet, begin_step, judge_step, last_step, loop_step, hand_on_step, call_step, effect_step, replied, resume}
-use Rattle.tree_specs.specs.Sound.{phase_of, phases, InRun, InLoop, claims, IsWaiting, AllWait, Sound}
+use Rattle.tree_specs.specs.Sound.{phase_of, phases, InRun, InLoop, claims, AllWait, Sound}
 use Rattle.tree_specs.proofs.Numbered.{by_test}
 use Rattle.tree_specs.proofs.Checks.{MayBePlaced, passes-placing, passes-reparent, passes-object, passes-hooking, Heard, Does, Returns, heard-leads}
 use Rattle.std.proofs.Math.Nat.{mul-le-mul_left}
@@ -42,7 +42,8 @@ use Rattle.tree_specs.specs.Inside.{total, size_inside, count_inside}
 use Rattle.tree_specs.specs.Reports.{report}
 use Rattle.tree_specs.specs.Measure.{mark_weight, weight, waiting_cost, below_cost, loop_kids, top_cost, cost, pending}
 use Rattle.tree_specs.proofs.Rows.{total-without, total-placed, total-changed, count-length}
-use Rattle.tree_specs.proofs.Keeps.{dying-row, running-row, claim-here, heir-placed}
+use Rattle.tree_specs.proofs.Waiters.{Waiter, ForFree, ForRun, ForChild, waiter}
+use Rattle.tree_specs.proofs.Changes.{dying-row, running-row, claim-here, heir-placed}
 use Rattle.tree_specs.proofs.Falls.{total-kept}
 
 -- what a move leads to stands where it may, and is light
@@ -99,38 +100,25 @@ not-both (asks.Write descriptor bytes) h k = h
 reseat-told : (q : Ask) (c : Call) (r : Reply) (fs : List Frame) → Seated (frame.Call (Doing q c)) fs → Seated (frame.Call (Telling (later q r) r)) fs
 reseat-told q c r fs s = reseat (frame.Call (Doing q c)) (frame.Call (Telling (later q r) r)) fs (quiet-later q r) (routine-later q r) (λ k. k) s
 
-resumed-seated : (g : Frame) (gs : List Frame) (a : Answer) → IsWaiting g gs → Seated g gs → Seated (resume g a) gs
-resumed-seated (frame.Call (Awaiting q x)) gs a w s = reseat (frame.Call (Awaiting q x)) (resume (frame.Call (Awaiting q x)) a) gs (quiet-later q _) (routine-later q _) (λ k. k) s
-resumed-seated (frame.Free f) gs a w s = reseat (frame.Free f) (resume (frame.Free f) a) gs (λ c. c) (λ r. r) (λ k. tt) s
-resumed-seated (frame.Call (Asking q)) gs a w s = absurd w
-resumed-seated (frame.Call (Doing q c)) gs a w s = absurd w
-resumed-seated (frame.Call (Telling q r)) gs a w s = absurd w
-resumed-seated (frame.Call (Returning v)) gs a w s = absurd w
+resumed-seated : (g : Frame) (gs : List Frame) (a : Answer) → Waiter g → Seated g gs → Seated (resume g a) gs
+resumed-seated _ gs a (ForFree q x) s = reseat (frame.Call (Awaiting q x)) (resume (frame.Call (Awaiting q x)) a) gs (quiet-later q _) (routine-later q _) (λ k. k) s
+resumed-seated _ gs a (ForRun x h) s = reseat-free (Hooked x h) _ gs s
+resumed-seated _ gs a (ForChild x c purpose) s = reseat-free (Trying x c purpose) _ gs s
 
 run-size : (f : Frame) → IsRun f → innermost_size f ≡ 2
 run-size (frame.Call f) r = refl
 run-size (frame.Free f) r = absurd r
 
 -- a work that goes on is no larger than it and the work that has ended
-size-resume : (f g : Frame) (gs : List Frame) (a : Answer) → IsWaiting g gs → Seat f (g ∷ gs) → innermost_size (resume g a) ≤ size g + innermost_size f
-size-resume f (frame.Call (Awaiting q x)) gs a w s = omega arith
-size-resume f (frame.Free (Trying x c purpose)) gs a w s = omega arith
-size-resume f (frame.Free (Hooked x h)) gs a w s = let n = run-size f s in omega (arith, n)
-size-resume f (frame.Call (Asking q)) gs a w s = absurd w
-size-resume f (frame.Call (Doing q c)) gs a w s = absurd w
-size-resume f (frame.Call (Telling q r)) gs a w s = absurd w
-size-resume f (frame.Call (Returning v)) gs a w s = absurd w
-size-resume f (frame.Free (Beginning x)) gs a w s = absurd w
-size-resume f (frame.Free (Judged x h v)) gs a w s = absurd w
-size-resume f (frame.Free (Leaving x h)) gs a w s = absurd w
-size-resume f (frame.Free (Looping x purpose)) gs a w s = absurd w
-size-resume f (frame.Free (Tried x c purpose b)) gs a w s = absurd w
-size-resume f (frame.Free (Ending b)) gs a w s = absurd w
+size-resume : (f g : Frame) (gs : List Frame) (a : Answer) → Waiter g → Seat f (g ∷ gs) → innermost_size (resume g a) ≤ size g + innermost_size f
+size-resume f _ gs a (ForFree q x) s = omega arith
+size-resume f _ gs a (ForChild x c purpose) s = omega arith
+size-resume f _ gs a (ForRun x h) s = let n = run-size f s in omega (arith, n)
 
 -- a work that ends, over rows whose burden is as great
 over : (a : Answer) (f : Frame) (fs : List Frame) (p : Pool) (k : ℕ) → AllWait fs → Seated f fs → Light f fs p → Placed (Do.Done a p) fs k
 over a f [] p k w s l = tt
-over a f (g ∷ gs) p k w s l = (resumed-seated g gs a w.0 s.1, omega (arith, l, size-resume f g gs a w.0 s.0))
+over a f (g ∷ gs) p k w s l = let waits = waiter g gs w.0 in (resumed-seated g gs a waits s.1, omega (arith, l, size-resume f g gs a waits s.0))
 
 asking-placed : (q : Ask) (fs : List Frame) (p : Pool) (k : ℕ) → Seated (frame.Call (Asking q)) fs → Light (frame.Call (Asking q)) fs p → Placed (step (frame.Call (Asking q)) p) fs k
 asking-placed q fs p zero s l = tt

@@ -1,13 +1,11 @@
 -- What the items told so far say of the objects and of the open works.
-use Rattle.std.proofs.Common.{◌≡◌, ◌≢◌, ℕ, ◌≤◌, ◌<◌, List, [], ◌∷◌, ◌++◌, Option, Some, None, Bool, true, false, nat_eq, refl, sym, ◌∙◌, ap, subst, ◌⊎◌, inl, inr, arith}
+use Rattle.std.proofs.Common.{◌≡◌, ℕ, ◌<◌, List, [], ◌∷◌, ◌++◌, Some, None, Bool, true, false, nat_eq, refl, sym, ◌∙◌, ap, subst, ◌⊎◌, inl, inr, arith}
 use Rattle.std.specs.Prelude.{not, ◌||◌}
 use Rattle.std.specs.List.{list_any}
 use Rattle.std.proofs.lemmas.List.Folds.{list_any-append}
 use Rattle.std.proofs.Math.Bool.{or-false}
 use Rattle.tree_specs.specs.declared.object.Obj.{Obj}
 use Rattle.tree_specs.specs.declared.row.Row.{Row}
-use Rattle.tree_specs.specs.declared.row.Mark.{Mark}
-use Rattle.tree_specs.specs.declared.row.Mark.TheVariants.{Quiet, Asked as IsAsked, Busy, Doomed, Dying}
 use Rattle.tree_specs.specs.declared.event.Event.TheVariants.{Accepted, Freed}
 use Rattle.tree_specs.specs.declared.frame.Frame.{Frame}
 use Rattle.tree_specs.specs.declared.frame.Frame.TheVariants as frame
@@ -17,12 +15,12 @@ use Rattle.tree_specs.specs.declared.frame.Purpose.TheVariants.{Removal, Emptyin
 use Rattle.tree_specs.specs.Objects.{same}
 use Rattle.tree_specs.specs.Pool.{Pool, row_of}
 use Rattle.tree_specs.specs.Items.{Item}
-use Rattle.tree_specs.specs.Items.Item.{Told, Asked}
+use Rattle.tree_specs.specs.Items.Item.{Told}
 use Rattle.tree_specs.specs.Orderly.{accepts, frees}
 use Rattle.tree_specs.specs.Sound.{IsLive, Phase, InLoop, loop_claim, claim, claims, IsWaiting, AllWait}
-use Rattle.tree_specs.proofs.Numbered.{by_test, same-true, same-equal, same-false, same_or_not}
+use Rattle.tree_specs.proofs.Numbered.{by_test, same-equal, same-false, same_or_not}
 use Rattle.tree_specs.proofs.Later.{IsDying, IsPast, Later, live-not-dying}
-use Rattle.tree_specs.proofs.Keeps.{not-zero}
+use Rattle.tree_specs.proofs.Changes.{not-zero}
 
 -- it leaves its owner with the next step
 abbrev pub IsLeaving : Frame → Obj → Type 0

@@ -1,9 +1,9 @@
 -- Every story is orderly and grounded.
-use Rattle.std.proofs.Common.{◌≡◌, ℕ, ◌≤◌, List, [], ◌∷◌, length, Option, Some, None, refl, sym, ◌∙◌, ap, subst, map}
+use Rattle.std.proofs.Common.{ℕ, ◌≤◌, List, [], ◌∷◌, length, Option, sym, subst, map}
 use Rattle.step_machine.specs.History.{EachFits}
-use Rattle.step_machine.specs.Machine.{Move, walk, items as told_by}
+use Rattle.step_machine.specs.Machine.{Move}
 use Rattle.step_machine.specs.Machine.{Move as Do}
-use Rattle.step_machine.specs.Noted.{Noted, noted_move, noted_work, with_note}
+use Rattle.step_machine.specs.Noted.{noted_move, with_note}
 use Rattle.step_machine.proofs.Ends.{Leads}
 use Rattle.step_machine.proofs.History.{FitsOn, each-fits, EachFits-map, EachFits-weaker}
 use Rattle.tree_specs.specs.declared.question.Input.{Input}
@@ -17,14 +17,15 @@ use Rattle.tree_specs.specs.Items.{Item}
 use Rattle.tree_specs.specs.Works.{Begun, Scene}
 use Rattle.tree_specs.specs.Story.{story, turns, items}
 use Rattle.tree_specs.specs.Table.{table, notes, step, taken}
-use Rattle.tree_specs.specs.View.{begin}
 use Rattle.tree_specs.specs.Whole.{Whole}
 use Rattle.tree_specs.specs.Orderly.{Fits, Orderly}
 use Rattle.tree_specs.specs.Grounded.{IsGrounded, Grounded}
 use Rattle.tree_specs.proofs.Means.{noted_table}
 use Rattle.tree_specs.proofs.Rest.{whole-kept}
 use Rattle.tree_specs.proofs.Causes.{NotedWork, item_of, told}
-use Rattle.tree_specs.proofs.Orderliness.{work_of, IsFine, Known, FineBy, taken-noted, asking-fine, telling-fine, returning-fine, doing-fine, ending-fine, beginning-fine, hooked-fine, leaving-fine, judged-fine, looping-fine, tried-fine}
+use Rattle.tree_specs.proofs.Fine.{work_of, IsFine, Known, FineBy, taken-noted}
+use Rattle.tree_specs.proofs.FineCallers.{asking-fine, telling-fine, returning-fine, doing-fine}
+use Rattle.tree_specs.proofs.FineFrees.{ending-fine, beginning-fine, hooked-fine, leaving-fine, judged-fine, looping-fine, tried-fine}
 use Rattle.tree_specs.proofs.StoryLaws.{asking, begin-whole, story-walk}
 
 abbrev WholeAt : Frame → List Frame → Pool → Type 0

@@ -1,5 +1,5 @@
 -- When a story is grounded: what it tells of an object agrees with the pool at that time, and has its cause.
-use Rattle.std.specs.Prelude.{◌≡◌, ◌↔◌, ℕ, nat_eq, Bool, true, false, ◌&&◌, not, List, Option, Some, None}
+use Rattle.std.specs.Prelude.{◌≡◌, ◌↔◌, nat_eq, Bool, true, false, ◌&&◌, not, List, Option, Some, None}
 use Rattle.step_machine.specs.History.{EachFits}
 use Rattle.step_machine.specs.Open.{LastIs}
 use Rattle.tree_specs.specs.declared.object.Obj.{Obj}
@@ -23,7 +23,7 @@ use Rattle.tree_specs.specs.Pool.{Pool, row_of, is_below, owner_of}
 use Rattle.tree_specs.specs.Inside.{is_reference}
 use Rattle.tree_specs.specs.Reports.{count_refs}
 use Rattle.tree_specs.specs.Items.{Item}
-use Rattle.tree_specs.specs.Items.Item.{Told, Asked}
+use Rattle.tree_specs.specs.Items.Item.{Told}
 use Rattle.tree_specs.specs.Orderly.{asks_hook}
 use Rattle.tree_specs.specs.Works.{Begun, Scene}
 

@@ -23,3 +23,5 @@ pub mod View
 pub mod Whole
 pub mod Orderly
 pub mod Grounded
+pub mod Acceptances
+pub mod BadStories

@@ -5,7 +5,6 @@ use Rattle.step_machine.specs.History.{EachFits}
 use Rattle.step_machine.specs.Open.{LastIs}
 use Rattle.tree_specs.specs.declared.object.Obj.{Obj}
 use Rattle.tree_specs.specs.declared.object.Owner.TheVariants.{Of}
-use Rattle.tree_specs.specs.declared.moment.Moment.{Moment}
 use Rattle.tree_specs.specs.declared.moment.What.{What}
 use Rattle.tree_specs.specs.declared.moment.What.TheVariants.{Hook}
 use Rattle.tree_specs.specs.declared.question.Ask.TheVariants.{Routine}

@@ -1,9 +1,9 @@
 //! Laws of the definitions, each the clause of a function that does nothing.
 #![tactic(auto, unfolding(crate::specs::Grammar::number_of, crate::specs::Grammar::owner_of, crate::specs::Grammar::object_of, crate::specs::Grammar::name_of, crate::specs::Grammar::new_of, crate::specs::Grammar::of_object, crate::specs::Grammar::of_owner, crate::specs::Grammar::placing_of, crate::specs::Grammar::reparent_of, crate::specs::Grammar::return_of, crate::specs::Grammar::routine_of, crate::specs::Grammar::hook_of, crate::specs::Grammar::rename_of, crate::specs::Grammar::call_of_words, crate::specs::Grammar::call_of, crate::specs::Grammar::input_of, crate::specs::Text::refusal_numbers, crate::specs::Text::row_kind_text, crate::specs::Text::row_text, crate::specs::Text::reply_text, crate::specs::Text::event_text, crate::specs::Text::ask_text, crate::specs::Text::answered_text, crate::specs::Text::what_text, crate::specs::Text::item_text, crate::specs::Text::end_text, crate::specs::Text::body_text, crate::specs::Schedule::lines_of_parts, crate::specs::Schedule::lines, crate::specs::Schedule::line_input, crate::specs::Schedule::judged_from, crate::specs::Schedule::judged_lines, crate::specs::Schedule::open_question))]
 
-ghost use Rattle.std.specs.Prelude.{◌≡◌, ◌≢◌, ◌≤◌, ℕ, codes, Some, None, List, [], ◌∷◌, ◌++◌, length, slice_get};
-ghost use Rattle.step_machine.specs.Machine.{run, items as told_by};
-ghost use Rattle.step_machine.specs.Machine.Outcome.{Short};
+ghost use Rattle.std.specs.Prelude.{◌≡◌, ◌≢◌, ◌≤◌, ℕ, codes, true, Some, None, List, [], ◌∷◌, ◌++◌, length, slice_get};
+ghost use Rattle.step_machine.specs.Machine.{run, EndsBy, items as told_by};
+ghost use Rattle.step_machine.specs.Machine.Outcome.{Ended, Short};
 ghost use Rattle.step_machine.specs.Noted.{noted, with_note};
 ghost use Rattle.step_machine.specs.Open.{LastIs};
 ghost use Rattle.tree_specs.specs.declared.question.Input.{Input as InputData};
@@ -11,15 +11,21 @@ ghost use Rattle.tree_specs.specs.declared.question.Ask.TheVariants.{Quiet};
 ghost use Rattle.tree_specs.specs.declared.object.Obj.{Obj as ObjData};
 ghost use Rattle.tree_specs.specs.declared.object.Owner.{Owner as OwnerData};
 ghost use Rattle.tree_specs.specs.declared.row.Row.{Row as RowData};
+ghost use Rattle.tree_specs.specs.declared.free_step.FreeReply.{FreeReply as FreeReplyData};
+ghost use Rattle.tree_specs.specs.declared.free_step.FreeReply.TheVariants.{Running, Refused};
+ghost use Rattle.tree_specs.specs.declared.event.Event.TheVariants.{Refused as HasRefused};
 ghost use Rattle.tree_specs.specs.declared.schedule.Reason.TheVariants.{Form};
-ghost use Rattle.tree_specs.specs.Pool.{empty, kids, first_kid, next_kid};
+ghost use Rattle.tree_specs.specs.Pool.{Pool, empty, kids, first_kid, next_kid};
 ghost use Rattle.tree_specs.specs.Forest.{Distinct};
 ghost use Rattle.tree_specs.specs.Items.{IsQuestion};
-ghost use Rattle.tree_specs.specs.Story.{story, items, asked, turns};
+ghost use Rattle.tree_specs.specs.Items.Item.{Told};
+ghost use Rattle.tree_specs.specs.Works.{Scene};
+ghost use Rattle.tree_specs.specs.Story.{story, items, asked, free, turns};
 ghost use Rattle.tree_specs.specs.Table.{table, notes};
 ghost use Rattle.tree_specs.specs.View.{begin, rest_of};
 ghost use Rattle.tree_specs.specs.Orderly.{Orderly};
-ghost use Rattle.tree_specs.specs.Grounded.{Grounded};
+ghost use Rattle.tree_specs.specs.Grounded.{Grounded, IsItem, is_running};
+ghost use Rattle.tree_specs.specs.Acceptances.{AcceptsAfterReturns};
 ghost use Rattle.tree_specs.specs.Text.{transcript};
 ghost use Rattle.tree_specs.specs.Schedule.{inputs_of, judge};
 
@@ -113,6 +119,28 @@ pub fn every_story_ends_with_its_question()
 pub fn the_table_tells_the_story()
     ensures scenes { (first : ℕ) (is : List InputData) → 1 ≤ first → told_by (run (noted notes table) (turns 0 (length is)) (with_note None (begin first).innermost) (empty first) is) ≡ story first is }
     ensures items { (first : ℕ) (is : List InputData) → 1 ≤ first → rest_of (begin first) is ≡ items (story first is) }
+{}
+
+/// A free over any objects and inputs, and so within a call, for a child, and in an act: it takes a front of the inputs,
+/// waits at the open question before each of them, and has ended with the last.
+pub fn a_free_waits_for_each_of_its_inputs()
+    ensures { (n : ℕ) (x : ObjData) (p q : Pool) (is left : List InputData) (a : FreeReplyData) (told : List Scene) → free n x p is ≡ Ended a q told left →
+        (used : List InputData) × (used ++ left ≡ is) × EndsBy (λ js. free n x p js) a q told used }
+{}
+
+/// A free over any objects and inputs answers that the object runs only where it ran when the free began, and a
+/// destructor's number only where this was told last.
+pub fn a_free_answers_with_its_cause()
+    ensures running { (n : ℕ) (x : ObjData) (p q : Pool) (is left : List InputData) (told : List Scene) → free n x p is ≡ Ended Running q told left → is_running p x ≡ true }
+    ensures refused { (n v : ℕ) (x : ObjData) (p q : Pool) (is left : List InputData) (told : List Scene) → free n x p is ≡ Ended (Refused v) q told left →
+        LastIs (IsItem (Told (HasRefused x v))) told }
+{}
+
+/// In every free, over any objects and inputs, and in every story each acceptance comes right after the object's
+/// destructor has returned 0.
+pub fn a_destructor_accepts_with_0()
+    ensures in_frees { (n : ℕ) (x : ObjData) (p : Pool) (is : List InputData) → AcceptsAfterReturns None (items (told_by (free n x p is))) is }
+    ensures in_stories { (first : ℕ) (is : List InputData) → AcceptsAfterReturns None (items (story first is)) is }
 {}
 
 /// Every story is orderly: a destructor accepts at most once, a freed object with a destructor had it accept, and

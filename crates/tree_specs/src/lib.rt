@@ -4,6 +4,7 @@
 
 mod call;
 mod event;
+pub mod forbidden;
 mod frame;
 mod free_step;
 mod kind;

@@ -1,0 +1,184 @@
+-- The steps of callers: a question, a call, a reply, a return.
+use Rattle.std.proofs.Common.{◌≡◌, ℕ, List, [], ◌∷◌, ◌++◌, Option, Some, None, true, refl, sym, subst, map}
+use Rattle.step_machine.specs.Machine.{Move as Do}
+use Rattle.step_machine.specs.Noted.{noted_work, with_note, scene}
+use Rattle.tree_specs.specs.declared.object.Obj.{Obj}
+use Rattle.tree_specs.specs.declared.object.Owner.{Owner}
+use Rattle.tree_specs.specs.declared.call.Call.{Call}
+use Rattle.tree_specs.specs.declared.call.Call.TheVariants as call
+use Rattle.tree_specs.specs.declared.question.Ask.{Ask}
+use Rattle.tree_specs.specs.declared.question.Ask.TheVariants as ask
+use Rattle.tree_specs.specs.declared.question.Input.{Input}
+use Rattle.tree_specs.specs.declared.reply.Reply.{Reply}
+use Rattle.tree_specs.specs.declared.reply.Reply.TheVariants as reply
+use Rattle.tree_specs.specs.declared.event.Event.TheVariants.{Replied}
+use Rattle.tree_specs.specs.declared.frame.Frame.{Frame}
+use Rattle.tree_specs.specs.declared.frame.Frame.TheVariants as frame
+use Rattle.tree_specs.specs.declared.frame.CallFrame.TheVariants.{Asking, Doing, Awaiting, Telling, Returning}
+use Rattle.tree_specs.specs.declared.frame.FreeFrame.TheVariants.{Beginning, Looping}
+use Rattle.tree_specs.specs.declared.frame.Purpose.TheVariants.{Emptying}
+use Rattle.tree_specs.specs.declared.frame.Answer.TheVariants as answer
+use Rattle.tree_specs.specs.Pool.{Pool, row_of, owner_of, add, place, set_hook, rename}
+use Rattle.tree_specs.specs.Items.{Item}
+use Rattle.tree_specs.specs.Items.Item.{Told, Asked}
+use Rattle.tree_specs.specs.declared.kind.Kind.TheVariants.{Plain}
+use Rattle.tree_specs.specs.Calls.{Check, refusals}
+use Rattle.tree_specs.specs.Inside.{NoReferences, size_inside, count_inside}
+use Rattle.tree_specs.specs.Reports.{report}
+use Rattle.tree_specs.specs.Works.{Begun, Scene}
+use Rattle.tree_specs.specs.Story.{owner_reply, later}
+use Rattle.tree_specs.specs.Table.{notes, step, taken, call_step, effect_step}
+use Rattle.tree_specs.specs.Orderly.{Fits}
+use Rattle.tree_specs.specs.Orderly.{asks_hook}
+use Rattle.tree_specs.specs.Grounded.{AsksHook}
+use Rattle.tree_specs.specs.Sound.{AllWait, claim, claims, InRun, phases}
+use Rattle.tree_specs.specs.Whole.{Whole, Seated}
+use Rattle.tree_specs.proofs.Numbered.{same-equal}
+use Rattle.tree_specs.proofs.Checks.{MayBePlaced, passes-placing, passes-reparent, passes-object, passes-hooking, Heard, Does, Returns, heard-leads}
+use Rattle.tree_specs.proofs.Changes.{running-row, claim-here}
+use Rattle.tree_specs.proofs.Later.{Later, later-same, later-placed, later-hooked, later-renamed, later-added}
+use Rattle.tree_specs.proofs.Past.{Accounts, Past, past-goes, past-tells, unfreed, unaccepted}
+use Rattle.tree_specs.proofs.Causes.{NotedWork, told, IsFreeOf, IsHookOf, FreesBy, StandsOn, Stacked, IsCaused, IsAskedFor, Cause}
+use Rattle.tree_specs.proofs.Waiters.{Waiter, ForFree, ForRun, ForChild, waiter}
+use Rattle.tree_specs.proofs.OwnRefusals.{IsOwn, AllOwn, own-refusals, own-just-now, own-call}
+use Rattle.tree_specs.proofs.Fitting.{last-more, fits-replied, fits-quiet, fits-asked}
+use Rattle.tree_specs.proofs.Fine.{work_of, Known, FineBy, restacked, of-next, from-next, later-hook, AnswersTo, resumed, known-told, taken-noted}
+
+-- the question of a destructor is of its object
+asks-hook : (x : Obj) (q : Ask) → IsHookOf x q → asks_hook x (Asked q) ≡ true
+asks-hook x (ask.Routine m) h = rw (h.0, same-equal m.object x h.1) refl
+asks-hook x ask.Quiet h = absurd h
+asks-hook x ask.Clock h = absurd h
+asks-hook x (ask.Wait limit) h = absurd h
+asks-hook x (ask.Accept descriptor) h = absurd h
+asks-hook x (ask.Read descriptor most) h = absurd h
+asks-hook x (ask.Write descriptor bytes) h = absurd h
+
+pub asking-fine : (scenes : List Scene) (q : Ask) (b : Option Begun) (ws : List NotedWork) (p : Pool) → Whole (record { innermost = frame.Call (Asking q); below = map work_of ws; pool = p })
+    → Known scenes (with_note b (frame.Call (Asking q))) ws p → FineBy scenes (frame.Call (Asking q)) b p (step (frame.Call (Asking q)) p) ws
+asking-fine scenes q b ws p whole known = (
+  (fits ws whole.seated whole.sound.waiting known.stacked whole.sound.open_frees, record { answered = tt; held = tt; caused = tt; started = tt }),
+  next,
+)
+  where
+    f : Frame
+    f = frame.Call (Asking q)
+
+    s : Scene
+    s = scene notes f b p (Asked q)
+
+    -- of a destructor only where a free waits for it
+    of-hook : (g : Frame) (gs : List Frame) (n : Option Begun) → Waiter g → StandsOn f g n → ((x : Obj) → claim x g ++ claims x gs ≡ phases (row_of p.rows x)) → Fits (told scenes) (Asked q)
+    of-hook _ gs n (ForRun x h) on claimed =
+        let row = running-row (row_of p.rows x) (claims x gs) (claim-here x InRun (claims x gs) (row_of p.rows x) (claimed x)) in
+        fits-asked (told scenes) x (unaccepted (told scenes) f (map work_of ws) p x row.0 known.past row.1 row.2 (λ l. l)) (unfreed (told scenes) f (map work_of ws) p x row.0 known.past row.1) q on
+    of-hook _ gs n (ForFree a x) on claimed = absurd on.0
+    of-hook _ gs n (ForChild x c purpose) on claimed = absurd on
+
+    fits : (us : List NotedWork) → Seated f (map work_of us) → AllWait (map work_of us) → Stacked f us → ((x : Obj) → claims x (map work_of us) ≡ phases (row_of p.rows x)) → Fits (told scenes) (Asked q)
+    fits [] seated wait on claimed = fits-quiet (told scenes) q seated
+    fits (u ∷ us) seated wait on claimed = of-hook u.work (map work_of us) u.note (waiter u.work (map work_of us) wait.0) on.0 claimed
+
+    past : Past (told scenes ++ Asked q ∷ []) f (map work_of ws) p
+    past = past-tells (told scenes) (Asked q) f (map work_of ws) p (λ x. refl) (λ x. refl) known.past
+
+    goes : (g : Frame) → Accounts (told scenes ++ Asked q ∷ []) g → Past (told scenes ++ Asked q ∷ []) g (map work_of ws) p
+    goes g a = past-goes (told scenes ++ Asked q ∷ []) f g (map work_of ws) (map work_of ws) p p past (later-same p) (λ x l. absurd l) a past.all_account
+
+    -- the routine that was just asked returns
+    asked : (g : Frame) (n : Option Begun) → Waiter g → StandsOn f g n → IsAskedFor (scenes ++ s ∷ []) g n
+    asked _ n (ForRun x h) on = last-more (AsksHook x) scenes s (asks-hook x q on)
+    asked _ n (ForFree a x) on = tt
+    asked _ n (ForChild x c purpose) on = tt
+
+    leads : (g : Frame) → Heard q g → Known (scenes ++ s ∷ []) (with_note b g) ws p
+    leads _ (Does c) = known-told scenes s (with_note b (frame.Call (Doing q c))) ws p (goes _ tt) (restacked f (frame.Call (Doing q c)) ws (λ x h. h) (λ x h. h) known.stacked) tt
+    leads _ (Returns v of) = known-told scenes s (with_note b (frame.Call (Returning v))) ws p (goes _ tt) (restacked f (frame.Call (Returning v)) ws (λ x h. h) (λ x h. tt) known.stacked)
+        (of-next (IsAskedFor (scenes ++ s ∷ [])) f ws whole.sound.waiting known.stacked asked)
+
+    next : (i : Input) (g : NotedWork) → noted_work b (taken f p i) ≡ Some g → Known (scenes ++ s ∷ []) g ws p
+    next i g e =
+        let t = taken-noted b (taken f p i) g e in
+        subst (λ (w : NotedWork). Known (scenes ++ s ∷ []) w ws p) (sym t.2) (leads t.0 (heard-leads q i t.0 t.1))
+
+-- ---- the other steps of callers
+
+pub telling-fine : (scenes : List Scene) (q : Ask) (r : Reply) (b : Option Begun) (ws : List NotedWork) (p : Pool)
+    → Known scenes (with_note b (frame.Call (Telling q r))) ws p → FineBy scenes (frame.Call (Telling q r)) b p (step (frame.Call (Telling q r)) p) ws
+telling-fine scenes q r b ws p known =
+    let f : Frame = frame.Call (Telling q r) in
+    let g : Frame = frame.Call (Asking q) in
+    let e : Item = Told (Replied r) in
+    let past = past-tells (told scenes) e f (map work_of ws) p (λ x. refl) (λ x. refl) known.past in (
+      (fits-replied (told scenes) r known.cause.0, record { answered = known.cause.1; held = known.cause.2; caused = known.cause.3; started = tt }),
+      known-told scenes (scene notes f b p e) (with_note None g) ws p
+          (past-goes (told scenes ++ e ∷ []) f g (map work_of ws) (map work_of ws) p p past (later-same p) (λ x l. absurd l) tt past.all_account)
+          (restacked f g ws (λ x h. h) (λ x h. h) known.stacked) tt,
+    )
+
+pub returning-fine : (scenes : List Scene) (v : ℕ) (b : Option Begun) (ws : List NotedWork) (p : Pool) → AllWait (map work_of ws)
+    → Known scenes (with_note b (frame.Call (Returning v))) ws p → FineBy scenes (frame.Call (Returning v)) b p (step (frame.Call (Returning v)) p) ws
+returning-fine scenes v b ws p wait known =
+    resumed scenes (frame.Call (Returning v)) b ws p (answer.Returned v) known.past (λ x l. l) known.stacked wait
+    (from-next (IsAskedFor scenes) (AnswersTo scenes (answer.Returned v)) (frame.Call (Returning v)) ws wait known.stacked known.cause answers)
+  where
+    answers : (g : Frame) (n : Option Begun) → Waiter g → StandsOn (frame.Call (Returning v)) g n → IsAskedFor scenes g n → AnswersTo scenes (answer.Returned v) g n
+    answers _ n (ForRun x h) on last = last
+    answers _ n (ForFree q x) on last = absurd on.0
+    answers _ n (ForChild x c purpose) on last = tt
+
+-- a call that needs no free has its reply told
+module _ (scenes : List Scene) (q : Ask) (c : Call) (b : Option Begun) (ws : List NotedWork) (p : Pool) (known : Known scenes (with_note b (frame.Call (Doing q c))) ws p) where
+  abbrev begun : Begun
+  begun = record { call = c; start = p }
+
+  told-next : (r : Reply) (p' : Pool) → Later p p' → IsCaused scenes (Some begun) r → FineBy scenes (frame.Call (Doing q c)) b p (Do.Go (frame.Call (Telling (later q r) r)) p') ws
+  told-next r p' after cause =
+      let f : Frame = frame.Call (Doing q c) in
+      let g : Frame = frame.Call (Telling (later q r) r) in
+      record {
+        past = past-goes (told scenes) f g (map work_of ws) (map work_of ws) p p' known.past after (λ x l. absurd l) tt known.past.all_account;
+        stacked = restacked f g ws (λ x h. h) (λ x h. later-hook x q r h) known.stacked;
+        cause = cause;
+      }
+
+  -- a call that frees waits for the free
+  frees-next : (x : Obj) (g : Frame) → IsFreeOf x g → FreesBy x c → NoReferences p.rows → Accounts (told scenes) g → Cause scenes g None (with_note (Some begun) (frame.Call (Awaiting q x)) ∷ ws) p
+      → FineBy scenes (frame.Call (Doing q c)) b p (Do.Call g (frame.Call (Awaiting q x)) p) ws
+  frees-next x g of by plain account cause =
+      let f : Frame = frame.Call (Doing q c) in
+      record {
+        past = past-goes (told scenes) f g (map work_of ws) (frame.Call (Awaiting q x) ∷ map work_of ws) p p known.past (later-same p) (λ y l. absurd l) account (tt, known.past.all_account);
+        stacked = ((of, (by, plain)), restacked f (frame.Call (Awaiting q x)) ws (λ y h. h) (λ y h. h) known.stacked);
+        cause = cause;
+      }
+
+  placed-next : (r : Reply) (o : Owner) (x : Obj) → MayBePlaced p o x → IsCaused scenes (Some begun) r → FineBy scenes (frame.Call (Doing q c)) b p (Do.Go (frame.Call (Telling (later q r) r)) (place p o x)) ws
+  placed-next r o x may cause = told-next r (place p o x) (later-placed p o x may.row may.is) cause
+
+effect-fine : (scenes : List Scene) (q : Ask) (c : Call) (b : Option Begun) (ws : List NotedWork) (p : Pool) → Known scenes (with_note b (frame.Call (Doing q c))) ws p → NoReferences p.rows
+    → refusals p c ≡ [] → FineBy scenes (frame.Call (Doing q c)) b p (effect_step q c p) ws
+effect-fine scenes q (call.New o size name) b ws p known plain none = told-next scenes q _ b ws p known (reply.Number p.next) (add p Plain o size name) (later-added p Plain o size name) (tt, tt, tt, tt)
+effect-fine scenes q (call.Free x) b ws p known plain none = frees-next scenes q _ b ws p known x (frame.Free (Beginning x)) refl refl plain tt refl
+effect-fine scenes q (call.Freekids x) b ws p known plain none = frees-next scenes q _ b ws p known x (frame.Free (Looping x Emptying)) refl refl plain tt tt
+effect-fine scenes q (call.Steal o x) b ws p known plain none = placed-next scenes q _ b ws p known reply.Ok o x (passes-placing p o x none) (tt, tt, tt, tt)
+effect-fine scenes q (call.Move o x) b ws p known plain none = placed-next scenes q _ b ws p known (reply.Number x.0) o x (passes-placing p o x none) (tt, tt, tt, tt)
+effect-fine scenes q (call.Reparent from to x) b ws p known plain none = placed-next scenes q _ b ws p known reply.Ok to x (passes-reparent p from to x none) (tt, tt, tt, tt)
+effect-fine scenes q (call.Hook x h) b ws p known plain none = let may = passes-hooking p x none in told-next scenes q _ b ws p known reply.Ok (set_hook p x h) (later-hooked p x may.row h may.is) (tt, tt, tt, tt)
+effect-fine scenes q (call.Unhook x) b ws p known plain none = let may = passes-hooking p x none in told-next scenes q _ b ws p known reply.Ok (set_hook p x 0) (later-hooked p x may.row 0 may.is) (tt, tt, tt, tt)
+effect-fine scenes q (call.Rename x name) b ws p known plain none = let r = passes-object p x none in told-next scenes q _ b ws p known reply.Ok (rename p x name) (later-renamed p x r.0 name r.1) (tt, tt, tt, tt)
+effect-fine scenes q (call.Parent x) b ws p known plain none = told-next scenes q _ b ws p known (owner_reply (owner_of p.rows x)) p (later-same p) (tt, tt, tt, tt)
+effect-fine scenes q (call.Total o) b ws p known plain none = told-next scenes q _ b ws p known (reply.Number (size_inside p.rows o)) p (later-same p) (tt, tt, tt, tt)
+effect-fine scenes q (call.Count o) b ws p known plain none = told-next scenes q _ b ws p known (reply.Number (count_inside p.rows o)) p (later-same p) (tt, tt, tt, tt)
+effect-fine scenes q (call.Report o) b ws p known plain none = told-next scenes q _ b ws p known (reply.Rows (report p.rows o)) p (later-same p) (tt, tt, tt, tt)
+
+pub doing-fine : (scenes : List Scene) (q : Ask) (c : Call) (b : Option Begun) (ws : List NotedWork) (p : Pool) → NoReferences p.rows
+    → Known scenes (with_note b (frame.Call (Doing q c))) ws p → FineBy scenes (frame.Call (Doing q c)) b p (step (frame.Call (Doing q c)) p) ws
+doing-fine scenes q c b ws p plain known = each (refusals p c) refl
+  where
+    each : (check : Check) → refusals p c ≡ check → FineBy scenes (frame.Call (Doing q c)) b p (call_step (refusals p c) q c p) ws
+    each [] e = rw e (effect-fine scenes q c b ws p known plain e)
+    each (why ∷ rest) e =
+        let own : IsOwn why × AllOwn rest = rw e at (own-refusals p c) in
+        let h = own-call scenes p c why rest plain e own.0 in
+        rw e (told-next scenes q c b ws p known (reply.No why) p (later-same p) (own-just-now (told scenes) why own.0, h.0, h.1, h.2))

@@ -1,0 +1,12 @@
+use Rattle.std.proofs.Common.{length, None}
+use Rattle.tree_specs.specs.declared.question.Ask.TheVariants.{Quiet}
+use Rattle.tree_specs.specs.Pool.{empty}
+use Rattle.tree_specs.specs.Story.{turns}
+use Rattle.tree_specs.proofs.TextLaws.{all-lawful, accepts-items}
+use Rattle.tree_specs.proofs.laws.a_destructor_accepts_with_0.Goals as goal
+
+pub returns-clause-in_frees : goal.returns-clause-in_frees
+returns-clause-in_frees c = λ n x p is. accepts-items ((all-lawful n).free x p None) is
+
+pub returns-clause-in_stories : goal.returns-clause-in_stories
+returns-clause-in_stories c = λ first is. accepts-items ((all-lawful (turns 0 (length is))).asked Quiet (empty first) None) is

@@ -1,0 +1,55 @@
+-- What a destructor's acceptance follows: its run, which has just returned 0.
+use Rattle.std.specs.Prelude.{◌≡◌, ℕ, List, [], ◌∷◌, Option, Some, None, if◌then◌else◌}
+use Rattle.tree_specs.specs.declared.object.Obj.{Obj}
+use Rattle.tree_specs.specs.declared.question.Ask.{Ask}
+use Rattle.tree_specs.specs.declared.question.Ask.TheVariants.{Quiet, Routine, Clock, Wait, Accept, Read, Write}
+use Rattle.tree_specs.specs.declared.question.Act.{Act}
+use Rattle.tree_specs.specs.declared.question.Act.TheVariants.{Do, Ret}
+use Rattle.tree_specs.specs.declared.question.Input.{Input}
+use Rattle.tree_specs.specs.declared.question.Input.TheVariants as input
+use Rattle.tree_specs.specs.declared.moment.Moment.{Moment}
+use Rattle.tree_specs.specs.declared.event.Event.TheVariants.{Accepted}
+use Rattle.tree_specs.specs.Items.{Item}
+use Rattle.tree_specs.specs.Items.Item.{Told, Asked}
+use Rattle.tree_specs.specs.Orderly.{is_hook}
+
+-- an object whose destructor has returned, and the number that it returned
+pub record Return : Type 0 where
+  pub object : Obj
+  pub value : ℕ
+
+abbrev pub returned_act : Moment → Act → Option Return
+returned_act m (Do c) = None
+returned_act m (Ret v) = if is_hook m.what then Some (record { object = m.object; value = v }) else None
+
+-- which destructor returns with this input as the answer to the question
+abbrev pub returned_by : Ask → Input → Option Return
+returned_by (Routine m) (input.Act a) = returned_act m a
+returned_by (Routine m) (input.Call c) = None
+returned_by Quiet i = None
+returned_by Clock i = None
+returned_by (Wait limit) i = None
+returned_by (Accept descriptor) i = None
+returned_by (Read descriptor most) i = None
+returned_by (Write descriptor bytes) i = None
+
+-- each question is answered by the next input
+abbrev pub answered_by : Item → List Input → Option Return
+answered_by (Asked q) (i ∷ is) = returned_by q i
+answered_by (Asked q) [] = None
+answered_by (Told e) is = None
+
+abbrev pub inputs_after : Item → List Input → List Input
+inputs_after (Asked q) (i ∷ is) = is
+inputs_after (Asked q) [] = []
+inputs_after (Told e) is = is
+
+abbrev pub AcceptsNow : Option Return → Item → Type 0
+AcceptsNow last (Told (Accepted x)) = last ≡ Some (record { object = x; value = 0 })
+AcceptsNow last item = Unit {0}
+
+-- Over these inputs each acceptance comes right after the destructor of that object has returned 0. `last` is the
+-- return before the first item, where nothing came after it.
+abbrev pub AcceptsAfterReturns : Option Return → List Item → List Input → Type 0
+AcceptsAfterReturns last [] is = Unit {0}
+AcceptsAfterReturns last (item ∷ items) is = AcceptsNow last item × AcceptsAfterReturns (answered_by item is) items (inputs_after item is)
