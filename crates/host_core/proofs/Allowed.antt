@@ -1,5 +1,5 @@
 -- What follows where a call is refused, and where it isn't.
-use Rattle.std.proofs.Common.{◌≡◌, ℕ, ◌+◌, ◌-◌, ◌^◌, ◌<◌, List, [], ◌∷◌, ◌++◌, length, Bool, true, false, not, Ok, Err, refl, arith}
+use Rattle.std.proofs.Common.{◌≡◌, ℕ, ◌+◌, ◌-◌, ◌^◌, ◌<◌, List, [], ◌∷◌, ◌++◌, length, true, false, Ok, Err, refl, ◌∙◌, arith}
 use Rattle.std.proofs.lemmas.Bool.Decides.{nat_tests}
 use Rattle.std.specs.Prelude.{nat_lt, nat_le}
 use Rattle.tree_specs.specs.declared.object.Obj.{Obj}
@@ -8,13 +8,12 @@ use Rattle.tree_specs.specs.declared.question.Ask.{Ask}
 use Rattle.tree_specs.specs.declared.call.Call.{Call}
 use Rattle.tree_specs.specs.declared.call.Call.TheVariants as call
 use Rattle.tree_specs.specs.declared.reply.Refusal.{Refusal}
-use Rattle.tree_specs.specs.declared.reply.Refusal.TheVariants.{NoSuch, Full, Spent, TooBig}
+use Rattle.tree_specs.specs.declared.reply.Refusal.TheVariants.{Full, Spent, TooBig}
 use Rattle.tree_specs.specs.declared.reply.Reply.TheVariants as reply
-use Rattle.tree_specs.specs.Objects.{owner_number}
 use Rattle.tree_specs.specs.Pool.{Pool, is_row, is_owner}
 use Rattle.tree_specs.specs.Calls.{Check, refusals, row_limit, size_limit, small, object, owner, room, placing, hooking, refuse_if}
 use Rattle.tree_specs.specs.Table.{call_step, effect_step, replied}
-use Rattle.tree_specs.proofs.Checks.{both-none, refuse_if-none, passes-placing, passes-reparent, passes-hooking, passes-object}
+use Rattle.tree_specs.proofs.Checks.{both-none, refuse_if-none, passes-placing, passes-reparent, passes-hooking, passes-object, passes-owner}
 use Rattle.tree_links.specs.Links.{MayPlace}
 use Rattle.destructors.proofs.Keeping.{placeable}
 use Rattle.host_core.specs.Moves.{checked}
@@ -36,13 +35,15 @@ pub allowed_first : (first later : Check) → checked first ≡ Ok tt → checke
 allowed_first [] later e = refl
 allowed_first (other ∷ more) later e = cc
 
+pub refused_second : (first second later : Check) (why : Refusal) → checked first ≡ Ok tt → checked second ≡ Err why → checked (first ++ (second ++ later)) ≡ Err why
+refused_second first second later why ok e = allowed_first first (second ++ later) ok ∙ refused_first second later why e
+
+pub refused_third : (first second third later : Check) (why : Refusal) → checked first ≡ Ok tt → checked second ≡ Ok tt → checked third ≡ Err why → checked (first ++ (second ++ (third ++ later))) ≡ Err why
+refused_third first second third later why ok ok2 e = allowed_first first (second ++ (third ++ later)) ok ∙ refused_second second third later why ok2 e
+
 none-first : (check : Check) → checked check ≡ Ok tt → check ≡ []
 none-first [] e = refl
 none-first (why ∷ later) e = cc
-
-not_none : (b : Bool) (why : Refusal) → refuse_if (not b) why ≡ [] → b ≡ true
-not_none true why e = refl
-not_none false why e = cc
 
 -- ---- a new object that isn't refused
 
@@ -64,7 +65,7 @@ fits p o size name e =
     let last : nat_le (2 ^ 64) (p.next + 1) ≡ false = refuse_if-none _ Spent d.1 in
     record {
       small = grind (arith, nat_tests);
-      owner = not_none (is_owner p.rows o) (NoSuch (owner_number o)) b.0;
+      owner = passes-owner p o b.0;
       few = grind (arith, nat_tests);
       number = grind (arith, nat_tests);
     }

@@ -1,6 +1,5 @@
 //! What a call is refused for. The checks stand in the order in which they are tried.
 ghost use Rattle.std.specs.Prelude.{◌≡◌};
-ghost use Rattle.tree_specs.specs.Pool.{is_owner as is_owner_in};
 ghost use Rattle.tree_specs.specs.Calls.{◌before◌, small, owner, object, plain, room, staying, apart, placing, hooking, given_by, refusals};
 ghost use Rattle.tree_links.specs.Links.{pool_of};
 ghost use Rattle.host_core.specs.Moves.{checked};
@@ -14,15 +13,6 @@ const SIZE_LIMIT: u64 = 268_435_456;
 /// At most so many objects are live.
 const ROW_LIMIT: usize = 1_048_576;
 
-fn is_owner(owner: Owner, tree: &Tree) -> bool
-    ensures { result ≡ is_owner_in tree.now.rows owner }
-{
-    match owner {
-        Owner::Root => true,
-        Owner::Of(x) => tree.row(x).is_some(),
-    }
-}
-
 fn check_size(size: u64) -> Result<(), Refusal>
     ensures { result ≡ checked (small size) }
 {
@@ -32,23 +22,27 @@ fn check_size(size: u64) -> Result<(), Refusal>
     Ok(())
 }
 
+/// An object; a reference is none that a call takes.
+fn check_object(x: Obj, tree: &Tree) -> Result<(), Refusal>
+    ensures { result ≡ checked (object (pool_of tree.now) x) }
+{
+    let Some(row) = tree.row(x) else {
+        return Err(Refusal::NoSuch(x.0));
+    };
+    match row.kind {
+        Kind::Reference { .. } => Err(Refusal::WrongKind(x)),
+        _ => Ok(()),
+    }
+}
+
 /// An owner is the root or an object.
 pub fn check_owner(o: Owner, tree: &Tree) -> Result<(), Refusal>
     ensures { result ≡ checked (owner (pool_of tree.now) o) }
 {
-    if !is_owner(o, tree) {
-        return Err(Refusal::NoSuch(o.number()));
+    match o {
+        Owner::Root => Ok(()),
+        Owner::Of(x) => check_object(x, tree),
     }
-    Ok(())
-}
-
-fn check_object(x: Obj, tree: &Tree) -> Result<(), Refusal>
-    ensures { result ≡ checked (object (pool_of tree.now) x) }
-{
-    if tree.row(x).is_none() {
-        return Err(Refusal::NoSuch(x.0));
-    }
-    Ok(())
 }
 
 /// Only plain objects have destructors.

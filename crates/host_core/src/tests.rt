@@ -6,7 +6,7 @@ use super::*;
 use std::alloc::Global;
 use std::process::Abort;
 use std::test::Fail;
-use tree_specs::{Act, Ask, Call, Event, Input, Moment, Name, Obj, Owner, Refusal, Reply, What};
+use tree_specs::{Act, Ask, Call, Event, Input, Moment, Name, Obj, Owner, Reply, What};
 
 mod freeing;
 mod hooks;
@@ -154,10 +154,6 @@ fn freed(number: u64) -> Event {
     }
 }
 
-fn no_such(number: u64) -> Event {
-    Event::Replied(Reply::No(Refusal::NoSuch(number)))
-}
-
 fn told_number(number: u64) -> Event {
     Event::Replied(Reply::Number(number))
 }
@@ -194,18 +190,6 @@ fn family(rt: &impl Abort, alloc: Global, rows: &[(u64, u64, &str)]) -> Result<H
         tells(rt, &mut host, call, &[told_number(number)]);
     }
     Ok(host)
-}
-
-// The root owns 1 and 5, 1 owns 2 and 4, and 2 owns 3.
-fn five(rt: &impl Abort, alloc: Global) -> Result<Host, Fail> {
-    let rows = [
-        (0, 10, "top"),
-        (1, 200, "left"),
-        (2, 3_000, "leaf"),
-        (1, 40_000, "right"),
-        (0, 500_000, "aside"),
-    ];
-    family(rt, alloc, &rows)
 }
 
 // The objects 1 to 2,000, each under the one before it; each is one byte larger than that one, and 1 has none.

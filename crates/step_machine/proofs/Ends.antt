@@ -1,9 +1,9 @@
 -- A measure that falls gives an end, and the laws of a stack's story follow.
-use Rattle.std.proofs.Common.{◌≡◌, ℕ, suc, zero, ◌+◌, ◌≤◌, ◌<◌, List, [], ◌∷◌, ◌++◌, length, Option, Some, None, refl, sym, ◌∙◌, ap, ◌⊎◌, inl, inr, arith, subst}
-use Rattle.step_machine.specs.Machine.{Move, Table, Outcome, State, silent, tell, tells, followed, given, asks, after, run, pass, rest, leads, walk}
+use Rattle.std.proofs.Common.{◌≡◌, ℕ, suc, zero, ◌+◌, ◌<◌, List, [], ◌∷◌, length, Option, Some, None, refl, sym, ◌∙◌, ap, inl, inr, arith, subst}
+use Rattle.step_machine.specs.Machine.{Move, Table, Outcome, State, silent, tell, given, run, rest, leads, walk}
 use Rattle.step_machine.specs.Machine.Move.{Done, Go, Emit, Wait, Call}
 use Rattle.step_machine.specs.Machine.Outcome.{Ended, Waits, Stray, Short}
-use Rattle.step_machine.proofs.Laws.{Below, Below-trans, Below-leads, run-more, walk-more, rest-more, walk-rest}
+use Rattle.step_machine.proofs.Laws.{Below, run-more, walk-more, walk-rest}
 
 abbrev pub NotShort : {A P I T : Type 0} → Outcome A P I T → Type 0
 NotShort (Ended a p ts is) = Unit {0}

@@ -1,5 +1,5 @@
 -- Where each item fits what was told before it, at every step, each item of a story does.
-use Rattle.std.proofs.Common.{◌≡◌, ℕ, List, [], ◌∷◌, ◌++◌, Option, Some, None, refl, sym, ◌∙◌, ap, subst, append_assoc, ◌⊎◌, inl, inr, map}
+use Rattle.std.proofs.Common.{◌≡◌, ℕ, List, [], ◌∷◌, ◌++◌, Some, refl, sym, ◌∙◌, ap, subst, inl, inr, map}
 use Rattle.step_machine.specs.History.{EachFits}
 use Rattle.step_machine.specs.Machine.{Move, Table, items, walk}
 use Rattle.step_machine.specs.Machine.Move.{Done, Go, Emit, Wait, Call}

@@ -1,6 +1,6 @@
 -- What each step keeps of the items told so far, every story keeps.
-use Rattle.std.proofs.Common.{◌≡◌, ℕ, suc, zero, List, [], ◌∷◌, ◌++◌, Option, Some, None, refl, sym, ◌∙◌, ap, subst, append_assoc}
-use Rattle.step_machine.specs.Machine.{Move, Table, Outcome, tell, given, asks, leads, walk, items}
+use Rattle.std.proofs.Common.{◌≡◌, ℕ, suc, zero, List, [], ◌∷◌, ◌++◌, Option, Some, None, refl, sym, ap, subst, append_assoc}
+use Rattle.step_machine.specs.Machine.{Move, Table, Outcome, tell, given, leads, walk, items}
 use Rattle.step_machine.specs.Machine.Move.{Done, Go, Emit, Wait, Call}
 use Rattle.step_machine.specs.Machine.Outcome.{Ended, Waits, Stray, Short}
 

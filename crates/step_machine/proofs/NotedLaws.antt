@@ -1,6 +1,6 @@
 -- A machine with notes tells the items of the machine without them.
-use Rattle.std.proofs.Common.{◌≡◌, ℕ, suc, zero, List, [], ◌∷◌, ◌++◌, Option, Some, None, refl, sym, ◌∙◌, ap, map}
-use Rattle.step_machine.specs.Machine.{Move, Table, Outcome, map_items, tell, tells, followed, given, asks, after, run, leads, walk}
+use Rattle.std.proofs.Common.{◌≡◌, ℕ, suc, zero, List, [], ◌∷◌, Option, Some, None, refl, ◌∙◌, ap, map}
+use Rattle.step_machine.specs.Machine.{Move, Table, Outcome, map_items, tell, tells, followed, given, after, run, leads, walk}
 use Rattle.step_machine.specs.Machine.Move.{Done, Go, Emit, Wait, Call}
 use Rattle.step_machine.specs.Machine.Outcome.{Ended, Waits, Stray, Short}
 use Rattle.step_machine.specs.Noted.{Scene, Noted, Notes, noted, noted_move, noted_work, with_note, scene}

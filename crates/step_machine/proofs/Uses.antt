@@ -1,6 +1,6 @@
 -- A work that takes inputs and ends waits after each proper prefix of what it took.
 use Rattle.std.proofs.Common.{◌≡◌, ℕ, suc, zero, List, [], ◌∷◌, ◌++◌, Option, Some, None, refl, sym, ◌∙◌, ap, ◌⊎◌, inl, inr, append_assoc, subst}
-use Rattle.step_machine.specs.Machine.{Move, Table, Outcome, tell, tells, followed, given, asks, after, run, EndsBy}
+use Rattle.step_machine.specs.Machine.{Move, Table, Outcome, tell, tells, followed, given, after, run, EndsBy}
 use Rattle.step_machine.specs.Machine.Move.{Done, Go, Emit, Wait, Call}
 use Rattle.step_machine.specs.Machine.Outcome.{Ended, Waits, Stray, Short}
 

@@ -1,9 +1,9 @@
 -- What it means that no refusal applies, and that an input fits.
 use Rattle.std.proofs.Common.{◌≡◌, ◌≢◌, ℕ, suc, zero, List, [], ◌∷◌, ◌++◌, length, Option, Some, None, Bool, true, false, cond, refl, sym, ◌∙◌, subst, ◌⊎◌, inl, inr}
-use Rattle.std.specs.Prelude.{not, is_some}
+use Rattle.std.specs.Prelude.{not}
 use Rattle.tree_specs.specs.declared.object.Obj.{Obj}
 use Rattle.tree_specs.specs.declared.object.Owner.{Owner}
-use Rattle.tree_specs.specs.declared.object.Owner.TheVariants.{Of}
+use Rattle.tree_specs.specs.declared.object.Owner.TheVariants.{Root, Of}
 use Rattle.tree_specs.specs.declared.row.Row.{Row}
 use Rattle.tree_specs.specs.declared.row.Mark.{Mark}
 use Rattle.tree_specs.specs.declared.row.Mark.TheVariants.{Quiet, Asked, Busy, Doomed, Dying}
@@ -19,7 +19,7 @@ use Rattle.tree_specs.specs.declared.question.Input.{Input}
 use Rattle.tree_specs.specs.declared.question.Input.TheVariants as input
 use Rattle.tree_specs.specs.declared.frame.Frame.{Frame}
 use Rattle.tree_specs.specs.Pool.{Pool, row_of, is_owner, is_below, owner_of, is_dying_row, reaches, is_inside}
-use Rattle.tree_specs.specs.Calls.{Check, refuse_if, refusals, small, is_plain, is_plain_row, object, plain, owner, room, staying, apart, placing, hooking, given_by}
+use Rattle.tree_specs.specs.Calls.{Check, refuse_if, refusals, small, is_plain, is_plain_row, object_row, object, plain, owner, room, staying, apart, placing, hooking, given_by}
 use Rattle.tree_specs.specs.Sound.{IsLive}
 use Rattle.tree_specs.specs.Soundness.{is_sound_call, is_return}
 use Rattle.tree_specs.specs.Table.{doing, returning}
@@ -40,13 +40,6 @@ not-false : (b : Bool) → not b ≡ false → b ≡ true
 not-false true e = refl
 not-false false e = cc
 
--- a new object that isn't refused has an owner
-pub passes : (p : Pool) (o : Owner) (size : ℕ) (name : List ℕ) → refusals p (call.New o size name) ≡ [] → is_owner p.rows o ≡ true
-passes p o size name e =
-    let a = both-none (small size) (owner p o ++ room p 1) e in
-    let b = both-none (owner p o) (room p 1) a.1 in
-    not-false _ (refuse_if-none _ _ b.0)
-
 -- what is known of an object that may be put below an owner
 pub record MayBePlaced (p : Pool) (o : Owner) (x : Obj) : Type 0 where
   pub row : Row
@@ -58,9 +51,9 @@ pub record MayBePlaced (p : Pool) (o : Owner) (x : Obj) : Type 0 where
 
 -- an object that exists
 pub passes-object : (p : Pool) (x : Obj) → object p x ≡ [] → (r : Row) × (row_of p.rows x ≡ Some r)
-passes-object p x e = each (row_of p.rows x) refl (not-false _ (refuse_if-none _ _ e))
+passes-object p x e = each (row_of p.rows x) refl e
   where
-    each : (q : Option Row) → row_of p.rows x ≡ q → is_some q ≡ true → (r : Row) × (row_of p.rows x ≡ Some r)
+    each : (q : Option Row) → row_of p.rows x ≡ q → object_row x q ≡ [] → (r : Row) × (row_of p.rows x ≡ Some r)
     each None h t = cc
     each (Some r) h t = (r, h)
 
@@ -88,6 +81,15 @@ apart-owner p x o e = λ same_as. (
     first zero t = t
     first (suc n) t = rw t refl
 
+-- an owner that isn't refused is there
+pub passes-owner : (p : Pool) (o : Owner) → owner p o ≡ [] → is_owner p.rows o ≡ true
+passes-owner p Root e = refl
+passes-owner p (Of x) e = let r = passes-object p x e in rw r.1 refl
+
+-- a new object that isn't refused has one
+pub passes : (p : Pool) (o : Owner) (size : ℕ) (name : List ℕ) → refusals p (call.New o size name) ≡ [] → is_owner p.rows o ≡ true
+passes p o size name e = passes-owner p o (both-none (owner p o) (room p 1) (both-none (small size) (owner p o ++ room p 1) e).1).0
+
 may-be : (p : Pool) (o : Owner) (x : Obj) → object p x ≡ [] → owner p o ≡ [] → staying p x ≡ [] → apart p x o ≡ [] → MayBePlaced p o x
 may-be p o x e own s a =
     let r = passes-object p x e in
@@ -96,7 +98,7 @@ may-be p o x e own s a =
       is = r.1;
       live = live-row p x r.0 r.1 s;
       apart = apart-owner p x o a;
-      there = not-false _ (refuse_if-none _ _ own);
+      there = passes-owner p o own;
       outside = refuse_if-none (is_inside p.rows o (Of x)) (Loop x o) a;
     }
 

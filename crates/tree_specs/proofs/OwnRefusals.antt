@@ -3,6 +3,7 @@ use Rattle.std.proofs.Common.{◌≡◌, ℕ, List, [], ◌∷◌, ◌++◌, Opt
 use Rattle.std.specs.Prelude.{◌+◌, ◌^◌, nat_lt, nat_le, length, not}
 use Rattle.tree_specs.specs.declared.object.Obj.{Obj}
 use Rattle.tree_specs.specs.declared.object.Owner.{Owner}
+use Rattle.tree_specs.specs.declared.object.Owner.TheVariants.{Root, Of}
 use Rattle.tree_specs.specs.declared.row.Row.{Row}
 use Rattle.tree_specs.specs.declared.call.Call.{Call}
 use Rattle.tree_specs.specs.declared.call.Call.TheVariants as call
@@ -10,11 +11,11 @@ use Rattle.tree_specs.specs.declared.reply.Reply.TheVariants.{No}
 use Rattle.tree_specs.specs.declared.reply.Refusal.{Refusal}
 use Rattle.tree_specs.specs.declared.reply.Refusal.TheVariants as refusal
 use Rattle.tree_specs.specs.declared.event.Event.TheVariants.{Replied}
-use Rattle.tree_specs.specs.Pool.{Pool, row_of, is_row, is_below, owner_of}
-use Rattle.tree_specs.specs.Inside.{NoReferences}
+use Rattle.tree_specs.specs.Pool.{Pool, row_of, is_below, owner_of}
+use Rattle.tree_specs.specs.Inside.{NoReferences, is_reference}
 use Rattle.tree_specs.specs.Items.{Item}
 use Rattle.tree_specs.specs.Items.Item.{Told}
-use Rattle.tree_specs.specs.Calls.{Check, size_limit, row_limit, refuse_if, refusals, small, object, plain, owner, room, staying, apart, placing, hooking, given_by}
+use Rattle.tree_specs.specs.Calls.{Check, size_limit, row_limit, refuse_if, refusals, small, object_row, object, plain, owner, room, staying, apart, placing, hooking, given_by}
 use Rattle.tree_specs.specs.Works.{Scene}
 use Rattle.tree_specs.specs.Orderly.{RefusedJustNow}
 use Rattle.tree_specs.specs.Grounded.{is_freeable, is_freeable_row, is_answer_of, AnsweredCall, HeldCall, CausedRefusal, CausedCall}
@@ -41,10 +42,15 @@ own-if true why h = (h, tt)
 own-if false why h = tt
 
 own-object : (p : Pool) (x : Obj) → AllOwn (object p x)
-own-object p x = own-if (not (is_row p.rows x)) _ tt
+own-object p x = each (row_of p.rows x)
+  where
+    each : (o : Option Row) → AllOwn (object_row x o)
+    each None = (tt, tt)
+    each (Some r) = own-if _ _ tt
 
 own-owner : (p : Pool) (o : Owner) → AllOwn (owner p o)
-own-owner p o = own-if _ _ tt
+own-owner p Root = tt
+own-owner p (Of x) = own-object p x
 
 own-staying : (p : Pool) (x : Obj) → AllOwn (staying p x)
 own-staying p x = own-if _ _ tt
@@ -120,13 +126,19 @@ own-caused scenes p refusal.Nested h = tt
 own-not-held : (why : Refusal) (x : Obj) → IsOwn why → No why ≡ No (refusal.Held x) → ⊥
 own-not-held why x h e = let e' : why ≡ refusal.Held x = cc in subst IsOwn e' h
 
+not-true : (b : Bool) → not b ≡ true → b ≡ false
+not-true true e = cc
+not-true false e = refl
+
 -- a free is refused at once only where there is no such object
 refused-free : (p : Pool) (x : Obj) (why : Refusal) (later : Check) → object p x ≡ why ∷ later → is_freeable p x ≡ true → is_answer_of x (No why) ≡ true
-refused-free p x why later e free = each (row_of p.rows x) refl free
+refused-free p x why later e free = each (row_of p.rows x) e free
   where
-    each : (o : Option Row) → row_of p.rows x ≡ o → is_freeable_row (row_of p.rows x) ≡ true → is_answer_of x (No why) ≡ true
-    each None q f = let bad : false ≡ true = rw q at f in cc
-    each (Some r) q f = let bad : [] ≡ why ∷ later = rw q at e in cc
+    each : (o : Option Row) → object_row x o ≡ why ∷ later → is_freeable_row o ≡ true → is_answer_of x (No why) ≡ true
+    each None e f = cc
+    each (Some r) e f =
+        let kind : is_reference r.kind ≡ false = not-true (is_reference r.kind) f in
+        let bad : [] ≡ why ∷ later = rw kind at e in cc
 
 pub own-call : (scenes : List Scene) (p : Pool) (c : Call) (why : Refusal) (later : Check) → NoReferences p.rows → refusals p c ≡ why ∷ later → IsOwn why
     → AnsweredCall c p (No why) × HeldCall c p (No why) × CausedCall scenes c p (No why)

@@ -2,7 +2,7 @@
 use Rattle.std.specs.Prelude.{ℕ, ◌+◌, ◌^◌, Bool, true, false, not, nat_lt, nat_le, if◌then◌else◌, List, [], ◌∷◌, ◌++◌, length, Option, Some, None}
 use Rattle.tree_specs.specs.declared.object.Obj.{Obj}
 use Rattle.tree_specs.specs.declared.object.Owner.{Owner}
-use Rattle.tree_specs.specs.declared.object.Owner.TheVariants.{Of}
+use Rattle.tree_specs.specs.declared.object.Owner.TheVariants.{Root, Of}
 use Rattle.tree_specs.specs.declared.kind.Kind.{Kind}
 use Rattle.tree_specs.specs.declared.kind.Kind.TheVariants.{Plain, Reference, Timer, Immediate, Descriptor, Request, Queue, Entry}
 use Rattle.tree_specs.specs.declared.row.Row.{Row}
@@ -10,8 +10,8 @@ use Rattle.tree_specs.specs.declared.call.Call.{Call}
 use Rattle.tree_specs.specs.declared.call.Call.TheVariants.{New, Free, Freekids, Steal, Move, Reparent, Hook, Unhook, Rename, Parent, Total, Count, Report}
 use Rattle.tree_specs.specs.declared.reply.Refusal.{Refusal}
 use Rattle.tree_specs.specs.declared.reply.Refusal.TheVariants.{NoSuch, WrongKind, NotParent, Loop, Dying, Full, Spent, TooBig}
-use Rattle.tree_specs.specs.Objects.{owner_number}
-use Rattle.tree_specs.specs.Pool.{Pool, row_of, is_row, is_owner, is_below, owner_of, is_dying, is_inside}
+use Rattle.tree_specs.specs.Pool.{Pool, row_of, is_below, owner_of, is_dying, is_inside}
+use Rattle.tree_specs.specs.Inside.{is_reference}
 
 -- the size of an object is below this, in bytes
 abbrev pub size_limit : ℕ
@@ -36,8 +36,13 @@ refuse_if b why = if b then why ∷ [] else []
 abbrev pub small : ℕ → Check
 small size = refuse_if (nat_le size_limit size) (TooBig size)
 
+-- a reference is no object that a call takes
+abbrev pub object_row : Obj → Option Row → Check
+object_row x None = NoSuch x.0 ∷ []
+object_row x (Some r) = refuse_if (is_reference r.kind) (WrongKind x)
+
 abbrev pub object : Pool → Obj → Check
-object p x = refuse_if (not (is_row p.rows x)) (NoSuch x.0)
+object p x = object_row x (row_of p.rows x)
 
 abbrev pub is_plain : Kind → Bool
 is_plain Plain = true
@@ -57,8 +62,10 @@ is_plain_row (Some r) = is_plain r.kind
 abbrev pub plain : Pool → Obj → Check
 plain p x = refuse_if (not (is_plain_row (row_of p.rows x))) (WrongKind x)
 
+-- the root, or an object
 abbrev pub owner : Pool → Owner → Check
-owner p o = refuse_if (not (is_owner p.rows o)) (NoSuch (owner_number o))
+owner p Root = []
+owner p (Of x) = object p x
 
 -- room for so many rows, and so many numbers
 abbrev pub room : Pool → ℕ → Check

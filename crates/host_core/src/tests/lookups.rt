@@ -1,7 +1,7 @@
-use super::{family, free, freed, new, tells};
+use super::{new, tells};
 use crate::Host;
 use std::test::Fail;
-use tree_specs::{Event, Kind, Obj, Reply};
+use tree_specs::{Event, Obj, Reply};
 
 #[test]
 fn objects_are_looked_up(rt: HostRuntime) -> Result<(), Fail> {
@@ -28,19 +28,5 @@ fn objects_are_looked_up(rt: HostRuntime) -> Result<(), Fail> {
     );
     assert!(rt; !host.is_inside(Obj(3), Obj(1)), "a stranger is not inside");
     assert!(rt; !host.is_inside(Obj(1), Obj(0)), "the root is no object");
-    Ok(())
-}
-
-#[test]
-fn an_object_is_plain_while_it_lives(rt: HostRuntime) -> Result<(), Fail> {
-    let mut host = family(&rt, rt.alloc(), &[(0, 1, "a"), (1, 2, "b")])?;
-    assert_eq!(rt; host.kind(Obj(0)), None, "the root is no object");
-    assert_eq!(rt; host.kind(Obj(1)), Some(Kind::Plain));
-    assert_eq!(rt; host.kind(Obj(2)), Some(Kind::Plain));
-    assert_eq!(rt; host.kind(Obj(3)), None, "it was never made");
-    let gone = [freed(2), Event::Replied(Reply::Ok)];
-    tells(&rt, &mut host, free(2), &gone);
-    assert_eq!(rt; host.kind(Obj(1)), Some(Kind::Plain));
-    assert_eq!(rt; host.kind(Obj(2)), None, "it is freed");
     Ok(())
 }
