@@ -26,7 +26,7 @@ use Rattle.tree_specs.specs.Table.{FreeMove, free_step, begin_step, loop_step, h
 use Rattle.tree_specs.specs.Measure.{below_cost, loop_kids, top_cost, cost}
 use Rattle.tree_specs.specs.Sound.{InRun, InLoop, claims, IsLive, Sound}
 use Rattle.tree_specs.specs.Whole.{Seated, Whole}
-use Rattle.tree_specs.proofs.Checks.{MayBePlaced}
+use Rattle.tree_specs.specs.Sound.{MayBePlaced}
 use Rattle.tree_specs.proofs.Numbered.{by_test}
 use Rattle.tree_specs.proofs.Rows.{total-without, total-placed, total-changed}
 use Rattle.tree_specs.proofs.Changes.{dying-row, running-row, claim-here, heir-placed}

@@ -12,7 +12,7 @@ ghost use Rattle.tree_specs.specs.declared.object.Obj.{Obj as ObjData};
 ghost use Rattle.tree_specs.specs.declared.object.Owner.{Owner as OwnerData};
 ghost use Rattle.tree_specs.specs.declared.row.Row.{Row as RowData};
 ghost use Rattle.tree_specs.specs.declared.free_step.FreeReply.{FreeReply as FreeReplyData};
-ghost use Rattle.tree_specs.specs.declared.free_step.FreeReply.TheVariants.{Running, Refused};
+ghost use Rattle.tree_specs.specs.declared.free_step.FreeReply.TheVariants.{Held, Running, Refused};
 ghost use Rattle.tree_specs.specs.declared.event.Event.TheVariants.{Refused as HasRefused};
 ghost use Rattle.tree_specs.specs.declared.schedule.Reason.TheVariants.{Form};
 ghost use Rattle.tree_specs.specs.Pool.{Pool, empty, kids, first_kid, next_kid};
@@ -24,7 +24,8 @@ ghost use Rattle.tree_specs.specs.Story.{story, items, asked, free, turns};
 ghost use Rattle.tree_specs.specs.Table.{table, notes};
 ghost use Rattle.tree_specs.specs.View.{begin, rest_of};
 ghost use Rattle.tree_specs.specs.Orderly.{Orderly};
-ghost use Rattle.tree_specs.specs.Grounded.{Grounded, IsItem, is_running};
+ghost use Rattle.tree_specs.specs.Calls.{is_running};
+ghost use Rattle.tree_specs.specs.Grounded.{Grounded, DropsOutside, IsItem};
 ghost use Rattle.tree_specs.specs.Acceptances.{AcceptsAfterReturns};
 ghost use Rattle.tree_specs.specs.Text.{transcript};
 ghost use Rattle.tree_specs.specs.Schedule.{inputs_of, judge};
@@ -128,10 +129,11 @@ pub fn a_free_waits_for_each_of_its_inputs()
         (used : List InputData) × (used ++ left ≡ is) × EndsBy (λ js. free n x p js) a q told used }
 {}
 
-/// A free over any objects and inputs answers that the object runs only where it ran when the free began, and a
-/// destructor's number only where this was told last.
+/// A free over any objects and inputs answers that the object runs only where it runs; that it is held only where the
+/// newest reference was one from outside, and was dropped last; and a destructor's number only where this was told last.
 pub fn a_free_answers_with_its_cause()
-    ensures running { (n : ℕ) (x : ObjData) (p q : Pool) (is left : List InputData) (told : List Scene) → free n x p is ≡ Ended Running q told left → is_running p x ≡ true }
+    ensures running { (n : ℕ) (x : ObjData) (p q : Pool) (is left : List InputData) (told : List Scene) → free n x p is ≡ Ended Running q told left → is_running q x ≡ true }
+    ensures held { (n : ℕ) (x : ObjData) (p q : Pool) (is left : List InputData) (told : List Scene) → free n x p is ≡ Ended Held q told left → LastIs (DropsOutside x) told }
     ensures refused { (n v : ℕ) (x : ObjData) (p q : Pool) (is left : List InputData) (told : List Scene) → free n x p is ≡ Ended (Refused v) q told left →
         LastIs (IsItem (Told (HasRefused x v))) told }
 {}
