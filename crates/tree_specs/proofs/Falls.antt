@@ -34,7 +34,7 @@ use Rattle.tree_specs.specs.Pool.{Pool, row_of, is_below, owner_of, first_kid, w
 use Rattle.tree_specs.specs.Heirs.{heir}
 use Rattle.tree_specs.specs.Items.{Item}
 use Rattle.tree_specs.specs.Calls.{Check, refusals}
-use Rattle.tree_specs.specs.Table.{table, step, resume, lifted, begin_quiet, begin_step, judge_step, last_step, loop_step, call_step, effect_step, replied, child_step, drop_step, refs_step, unlink_step, release_step, hand_on_step, freeing_by, placed_step}
+use Rattle.tree_specs.specs.Table.{table, step, resume, lifted, begin_quiet, begin_step, judge_step, last_step, loop_step, call_step, effect_step, replied, child_step, refs_step, unlink_step, release_step, hand_on_step, freeing_by, placed_step}
 use Rattle.tree_specs.specs.Sound.{InRun, InLoop, claims, IsWaiting, AllWait, IsLive, Stands, Tries, IsOver, Sound, IsQuietRow}
 use Rattle.tree_specs.proofs.Numbered.{by_test, same-equal, same_owner-false}
 use Rattle.tree_specs.proofs.Heirs.{heir-other}

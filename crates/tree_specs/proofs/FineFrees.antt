@@ -34,7 +34,7 @@ use Rattle.tree_specs.specs.Items.{Item}
 use Rattle.tree_specs.specs.Items.Item.{Told}
 use Rattle.tree_specs.specs.Works.{Begun, Scene}
 use Rattle.tree_specs.specs.Story.{hook_moment}
-use Rattle.tree_specs.specs.Table.{notes, step, lifted, begin_quiet, begin_step, judge_step, last_step, loop_step, hand_on_step, child_step, refs_step, drop_step, unlink_step, release_step}
+use Rattle.tree_specs.specs.Table.{notes, step, lifted, begin_quiet, begin_step, judge_step, last_step, loop_step, hand_on_step, child_step, refs_step, unlink_step, release_step}
 use Rattle.tree_specs.specs.Orderly.{frees, accepts}
 use Rattle.tree_specs.specs.Grounded.{IsItem}
 use Rattle.tree_specs.specs.Sound.{IsLive, IsOver, claims, InRun, InLoop, ValidAt, Phase, phases, IsQuietRow, IsReferable, AllWait, Tries}
@@ -114,8 +114,10 @@ module _ (scenes : List Scene) (b : Option Begun) (ws : List NotedWork) (p : Poo
       by-row (Some row) q quiet None k there = absurd there
       by-row (Some row) q quiet (Some target) k there =
           let v : ValidAt p.next (Some row) r = rw q at (whole.sound.valid r) in (
-            (fits-dropped (told scenes) r t (undropped (told scenes) (frame.Free f) (map work_of ws) p r row known.past q) (unfreed (told scenes) (frame.Free f) (map work_of ws) p t target known.past k),
-            record { answered = tt; held = tt; caused = tt; started = tt }),
+            (
+              fits-dropped (told scenes) r t (undropped (told scenes) (frame.Free f) (map work_of ws) p r row known.past q) (unfreed (told scenes) (frame.Free f) (map work_of ws) p t target known.past k),
+              record { answered = tt; held = tt; caused = tt; started = tt },
+            ),
             known-told scenes (scene notes (frame.Free f) b p (Told (Unreferenced r t))) (with_note None (frame.Free g)) ws (remove p r)
                 (past-drops (told scenes) r t (frame.Free f) (frame.Free g) (map work_of ws) p (remove p r) known.past (later-removed p r whole.sound.forest.distinct) v.1 gone stays account)
                 (restacked (frame.Free f) (frame.Free g) ws free (λ y h. h) known.stacked) cause,

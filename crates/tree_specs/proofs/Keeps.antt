@@ -1,7 +1,7 @@
 -- Each step of the machine keeps what is sound.
 use Rattle.tree_specs.specs.declared.kind.Kind.TheVariants.{Plain}
 use Rattle.tree_specs.specs.declared.kind.Kind.TheVariants as kind
-use Rattle.std.proofs.Common.{◌≡◌, ◌≢◌, ℕ, suc, zero, List, [], ◌∷◌, Option, Some, None, true, false, nat_eq, refl, sym, ◌∙◌, ap, subst, Bool, ◌⊎◌, inl, inr}
+use Rattle.std.proofs.Common.{◌≡◌, ◌≢◌, ℕ, suc, zero, List, [], ◌∷◌, Option, Some, None, true, false, nat_eq, refl, sym, ◌∙◌, ap, subst, Bool, inl, inr}
 use Rattle.std.specs.Prelude.{unwrap_or, ◌||◌, codes}
 use Rattle.step_machine.specs.Machine.{Move}
 use Rattle.step_machine.specs.Machine.{Move as Do}
@@ -29,7 +29,7 @@ use Rattle.tree_specs.specs.declared.frame.Answer.TheVariants.{Freed, Returned}
 use Rattle.tree_specs.specs.declared.free_step.FreeReply.{FreeReply}
 use Rattle.tree_specs.specs.declared.free_step.FreeReply.TheVariants.{Ok, Held, Running, Refused}
 use Rattle.tree_specs.specs.Objects.{same}
-use Rattle.tree_specs.specs.Pool.{Pool, row_of, target_in, target_at, newest_ref_of, owner_in, owner_at, noted_owner, is_owner, is_below, owner_of, is_inside, first_kid, without, changed, add, remove, left_row, place, named_row, set_mark, marked_row, set_hook, hooked_row}
+use Rattle.tree_specs.specs.Pool.{Pool, row_of, target_in, target_at, newest_ref_of, owner_in, owner_at, noted_owner, is_owner, is_below, owner_of, is_inside, first_kid, without, changed, remove, left_row, place, named_row, set_mark, marked_row, set_hook, hooked_row}
 use Rattle.tree_specs.specs.Inside.{size_inside, count_inside}
 use Rattle.tree_specs.specs.Reports.{report}
 use Rattle.tree_specs.specs.Items.{Item}
@@ -37,7 +37,7 @@ use Rattle.tree_specs.specs.Calls.{Check, refusals}
 use Rattle.tree_specs.specs.Story.{owner_reply, warns, reparented, hook_moment, later}
 use Rattle.tree_specs.specs.Table.{table, step, lifted, begin_quiet, begin_step, drop_step, refs_step, unlink_step, release_step, judge_step, last_step, child_step, loop_step, hand_on_step, freeing_by, placed_step, call_step, effect_step, reply_in, resume}
 use Rattle.tree_specs.specs.Heirs.{heir}
-use Rattle.tree_specs.specs.Sound.{Owned, Shaped, ValidAt, Phase, InRun, InLoop, phase_of, phases, claim_if, claim, claims, AllWait, IsLive, IsReferable, NotedFor, Tries, StillThere, Refers, IsQuietRow, IsOver, MayAnswer, IsCalled, IsGivenUp, MayBePlaced, Rests, Sound}
+use Rattle.tree_specs.specs.Sound.{Owned, Shaped, ValidAt, InRun, InLoop, phase_of, phases, claim, claims, AllWait, IsLive, IsReferable, NotedFor, Tries, StillThere, Refers, IsQuietRow, IsOver, MayAnswer, IsCalled, IsGivenUp, MayBePlaced, Sound}
 use Rattle.tree_specs.proofs.Numbered.{by_test, same-equal, same-false, is_below-some}
 use Rattle.tree_specs.proofs.Rows.{row_of-changed-other, row_of-changed-same, row_of-without-other, row_of-without-same, first_kid-owner}
 use Rattle.tree_specs.proofs.Rooted.{KeepsPlace, forest-left, forest-without, is_there-owner}
@@ -173,7 +173,7 @@ noted-other x c r noted p f owner newest ne inside h = elim h [
       let at : owner_of p.rows r ≡ Some (Of x) = ap (owner_at p.rows) (sym newest) ∙ sym is ∙ e in
       let other : same r c ≡ false = same-false r c ne in
       let above : is_inside p.rows (Of x) (Of c) ≡ true = (let q : is_inside p.rows (Of r) (Of c) ≡ (same r c || is_inside p.rows (Of x) (Of c)) = inside-owner p.rows r (Of x) (Of c) at in
-          let q' : is_inside p.rows (Of r) (Of c) ≡ is_inside p.rows (Of x) (Of c) = rw other at q in sym q' ∙ inside) in
+      let q' : is_inside p.rows (Of r) (Of c) ≡ is_inside p.rows (Of x) (Of c) = rw other at q in sym q' ∙ inside) in
       let bad : true ≡ false = sym above ∙ inside-not_back p.rows c x f.rooted owner in cc
   | inr other ↦ other
 ]

@@ -47,7 +47,7 @@ use Rattle.tree_specs.specs.View.{View}
 use Rattle.tree_specs.specs.Whole.{IsQuiet, IsOfRoutine, IsCaller, IsRun, IsFree, Seat, Seated, size, innermost_size, sizes, mark_burden, burden, Light, Whole}
 use Rattle.tree_specs.specs.Inside.{total, size_inside, count_inside}
 use Rattle.tree_specs.specs.Reports.{report}
-use Rattle.tree_specs.specs.Measure.{mark_weight, weight, waiting_cost, below_cost, loop_kids, top_cost, cost, pending}
+use Rattle.tree_specs.specs.Measure.{mark_weight, weight, waiting_cost, below_cost, top_cost, cost, pending}
 use Rattle.tree_specs.proofs.Rows.{total-without, total-placed, total-changed, count-length}
 use Rattle.tree_specs.proofs.Waiters.{Waiter, ForFree, ForRun, ForChild, waiter}
 use Rattle.tree_specs.proofs.Changes.{dying-row, running-row, claim-here, heir-placed}

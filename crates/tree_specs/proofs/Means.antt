@@ -35,7 +35,7 @@ use Rattle.tree_specs.specs.Soundness.{is_sound_call, is_return}
 use Rattle.tree_specs.specs.Calls.{Check, refusals}
 use Rattle.tree_specs.specs.Works.{Work, Scene, Begun, ◌>>=◌, ◌>>◌, gives, change, tells}
 use Rattle.tree_specs.specs.Story.{free, hooked, judged, leave, children, tried, asked, acting, telling, returning, warns, warning, unlink, release, given}
-use Rattle.tree_specs.specs.Table.{table, notes, step, lifted, begin_step, judge_step, loop_step, tried_step, call_step, child_step, refs_step, unlink_step, release_step, drop_step}
+use Rattle.tree_specs.specs.Table.{table, notes, step, lifted, judge_step, loop_step, tried_step, call_step, refs_step, unlink_step, release_step}
 use Rattle.tree_specs.proofs.Numbered.{by_test}
 
 ruleset laws = (followed-tell, followed-tells, followed-followed)

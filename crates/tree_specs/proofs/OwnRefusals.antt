@@ -14,15 +14,14 @@ use Rattle.tree_specs.specs.declared.reply.Reply.TheVariants.{No}
 use Rattle.tree_specs.specs.declared.reply.Refusal.{Refusal}
 use Rattle.tree_specs.specs.declared.reply.Refusal.TheVariants as refusal
 use Rattle.tree_specs.specs.declared.event.Event.TheVariants.{Replied}
-use Rattle.tree_specs.specs.Pool.{Pool, row_of, is_object_row, is_object, is_below, owner_of, newest_ref_of}
+use Rattle.tree_specs.specs.Pool.{Pool, row_of, is_below, owner_of, newest_ref_of}
 use Rattle.tree_specs.specs.Targets.{is_reference}
-use Rattle.tree_specs.specs.Inside.{NoReferences}
 use Rattle.tree_specs.specs.Items.{Item}
 use Rattle.tree_specs.specs.Items.Item.{Told}
-use Rattle.tree_specs.specs.Calls.{Check, size_limit, row_limit, refuse_if, refusals, small, object_row, object, plain, owner, room, staying, apart, placing, hooking, given_by, held, is_held, still, interested}
+use Rattle.tree_specs.specs.Calls.{Check, size_limit, row_limit, refuse_if, refusals, small, object_row, object, plain, owner, room, staying, apart, placing, hooking, given_by, held, is_held, still}
 use Rattle.tree_specs.specs.Works.{Scene}
 use Rattle.tree_specs.specs.Orderly.{RefusedJustNow}
-use Rattle.tree_specs.specs.Grounded.{is_answer_of, AnsweredCall, HeldCall, CausedRefusal, CausedCall}
+use Rattle.tree_specs.specs.Grounded.{AnsweredCall, HeldCall, CausedCall}
 use Rattle.tree_specs.proofs.Numbered.{by_test, same-equal}
 use Rattle.tree_specs.proofs.References.{not-held}
 

@@ -1,5 +1,5 @@
 -- What each change leaves of the references.
-use Rattle.std.proofs.Common.{◌≡◌, ◌≢◌, ℕ, suc, zero, length, List, [], ◌∷◌, Option, Some, None, Bool, true, false, refl, sym, ◌∙◌, ap, subst, ◌⊎◌, inl, inr}
+use Rattle.std.proofs.Common.{◌≡◌, ◌≢◌, ℕ, suc, zero, length, List, [], ◌∷◌, Option, Some, None, Bool, true, false, refl, sym, ◌∙◌, ap, subst, inl, inr}
 use Rattle.std.specs.Prelude.{nat_lt, not, ◌&&◌, is_some}
 use Rattle.tree_specs.specs.declared.object.Obj.{Obj}
 use Rattle.tree_specs.specs.declared.object.Owner.{Owner}
@@ -7,9 +7,8 @@ use Rattle.tree_specs.specs.declared.object.Owner.TheVariants.{Root, Of}
 use Rattle.tree_specs.specs.declared.kind.Kind.{Kind}
 use Rattle.tree_specs.specs.declared.kind.Kind.TheVariants as kind
 use Rattle.tree_specs.specs.declared.row.Row.{Row}
-use Rattle.tree_specs.specs.declared.row.Mark.TheVariants.{Quiet}
 use Rattle.tree_specs.specs.Objects.{same, same_owner}
-use Rattle.tree_specs.specs.Targets.{target_of, is_reference, is_target, newer, newest, newest_ref}
+use Rattle.tree_specs.specs.Targets.{target_of, is_target, newer, newest, newest_ref}
 use Rattle.tree_specs.specs.Pool.{reaches, without, owner_in, is_owner, is_inside, next_owner, is_below, newest_ref_of, row_of, is_object_row, target_in, target_at, first_kid, owner_of, changed}
 use Rattle.tree_specs.specs.Calls.{is_plain}
 use Rattle.tree_specs.specs.Forest.{Distinct, IsForest}

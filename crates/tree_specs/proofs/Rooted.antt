@@ -76,7 +76,7 @@ pub AllOwned-new : (rs : List Row) (s : Obj) (kind : Kind) (o : Owner) (size : �
 AllOwned-new rs s kind o size name a none h =
     let r : Row = new_row s kind o size name in
     let more : (y : Obj) → is_object rs y ≡ true → is_object (r ∷ rs) y ≡ true = λ y k. is_object-front r rs y
-        (λ e is. let gone : row_of rs y ≡ None = ap (row_of rs) (sym e) ∙ none in let bad : false ≡ true = rw gone at is in cc) k in
+    (λ e is. let gone : row_of rs y ≡ None = ap (row_of rs) (sym e) ∙ none in let bad : false ≡ true = rw gone at is in cc) k in
     (is_there-more rs (r ∷ rs) (Some o) more h, owners-more rs (r ∷ rs) rs more a)
 
 -- an object is put below an owner that is there

@@ -1,10 +1,10 @@
 -- When a story is grounded: what it tells of an object agrees with the pool at that time, and has its cause.
 use Rattle.tree_specs.specs.Targets.{newest_ref}
-use Rattle.std.specs.Prelude.{◌≡◌, ◌↔◌, nat_eq, Bool, true, false, ◌&&◌, not, List, Option, Some, None}
+use Rattle.std.specs.Prelude.{◌≡◌, ◌↔◌, Bool, true, false, List, Option, Some, None}
 use Rattle.step_machine.specs.History.{EachFits}
 use Rattle.step_machine.specs.Open.{LastIs}
 use Rattle.tree_specs.specs.declared.object.Obj.{Obj}
-use Rattle.tree_specs.specs.declared.object.Owner.TheVariants.{Root, Of}
+use Rattle.tree_specs.specs.declared.object.Owner.TheVariants.{Of}
 use Rattle.tree_specs.specs.declared.kind.Kind.{Kind}
 use Rattle.tree_specs.specs.declared.kind.Kind.TheVariants as kind
 use Rattle.tree_specs.specs.declared.row.Row.{Row}
@@ -20,7 +20,7 @@ use Rattle.tree_specs.specs.declared.reply.Refusal.{Refusal}
 use Rattle.tree_specs.specs.declared.reply.Refusal.TheVariants.{Held, Running, Refused as RefusedBy}
 use Rattle.tree_specs.specs.declared.event.Event.TheVariants.{Replied, Fired, Accepted, Refused, Unreferenced}
 use Rattle.tree_specs.specs.Objects.{same}
-use Rattle.tree_specs.specs.Pool.{Pool, row_of, is_object, is_below, owner_of, is_inside}
+use Rattle.tree_specs.specs.Pool.{Pool, row_of, is_object, is_inside}
 use Rattle.tree_specs.specs.Calls.{is_held, is_running}
 use Rattle.tree_specs.specs.Items.{Item}
 use Rattle.tree_specs.specs.Items.Item.{Told}
