@@ -1,9 +1,10 @@
 -- The references are those of the rows: what each change leaves, and what is looked up in them.
-use Rattle.std.proofs.Common.{◌≡◌, ℕ, suc, zero, ◌+◌, ◌<◌, List, [], ◌∷◌, length, Option, Some, None, Bool, true, false, refl, sym, ◌∙◌, ap, subst, arith}
+use Rattle.std.proofs.Common.{◌≡◌, ℕ, suc, zero, ◌+◌, ◌<◌, List, [], ◌∷◌, length, Option, Some, None, Bool, true, false, refl, sym, ◌∙◌, ap, subst, inl, inr, arith}
 use Rattle.std.specs.Prelude.{nat_lt, ◌&&◌, if◌then◌else◌}
-use Rattle.std.specs.List.{find, count_by}
+use Rattle.std.specs.List.{find, filter}
 use Rattle.std.specs.Option.{option_map}
 use Rattle.std.proofs.lemmas.Bool.{ltb-true, lt-ltb}
+use Rattle.std.proofs.lemmas.List.Sums.{length-filter}
 use Rattle.tree_specs.specs.declared.object.Obj.{Obj}
 use Rattle.tree_specs.specs.declared.object.Owner.{Owner}
 use Rattle.tree_specs.specs.declared.kind.Kind.{Kind}
@@ -69,21 +70,24 @@ by-rows P g (r ∷ rs) ps d k is = each (λ qs d' is'. by-rows P g rs qs d' k.1 
 
 -- ---- how many there are
 
-count-without : (ps : List Pair) (s t x : Obj) → Descends ps → target_of ps s ≡ Some t → count_to ps x ≡ (if same t x then 1 else 0) + count_to (without ps s) x
-count-without [] s t x d e = cc
-count-without (p ∷ ps) s t x d e = by_test (same p.reference s)
+abbrev many : List Pair → Obj → ℕ
+many ps x = length (filter (λ p. same p.target x) ps)
+
+many-without : (ps : List Pair) (s t x : Obj) → Descends ps → target_of ps s ≡ Some t → many ps x ≡ (if same t x then 1 else 0) + many (without ps s) x
+many-without [] s t x d e = cc
+many-without (p ∷ ps) s t x d e = by_test (same p.reference s)
     (λ u. let e' : Some p.target ≡ Some t = rw u at e in let is : p.target ≡ t = cc in
     let above : IsAbove s ps = subst (λ (z : Obj). IsAbove z ps) (same-true p.reference s u) d.0 in
-    rw (u, sym is, above-without ps s above) refl)
-    (λ u. let e' : target_of ps s ≡ Some t = rw u at e in let ih = count-without ps s t x d.1 e' in
+    rw (u, sym is, above-without ps s above) (by_test (same p.target x) (λ v. rw v (omega arith)) (λ v. rw v (omega arith))))
+    (λ u. let e' : target_of ps s ≡ Some t = rw u at e in let ih = many-without ps s t x d.1 e' in
     by_test (same p.target x) (λ v. rw (u, v) (omega (arith, ih))) (λ v. rw (u, v) ih))
 
 -- they are as many as the rows tell
 pub counts : (rs : List Row) (ps : List Pair) (x : Obj) → Descends ps → Distinct rs → AreRefsOf ps rs → count_to ps x ≡ count_refs rs x
-counts rs ps x d k is = by-rows (λ qs ss. count_to qs x ≡ count_refs ss x) (record {
+counts rs ps x d k is = sym (length-filter (λ p. same p.target x) ps) ∙ by-rows (λ qs ss. many qs x ≡ count_refs ss x) (record {
   none = refl;
-  object = λ r ss qs e ih. rw (e, ih) refl;
-  reference = λ r ss qs t e d there ih. count-without qs r.serial t x d there ∙ rw (e, ih) refl;
+  object = λ r ss qs e ih. rw e (omega (arith, ih));
+  reference = λ r ss qs t e d there ih. many-without qs r.serial t x d there ∙ rw (e, ih) refl;
 }) rs ps d k is
 
 -- ---- the newest of those that pass
@@ -134,6 +138,95 @@ first-without q (p ∷ ps) s t d e = by_test (same p.reference s)
         (λ v. by_test (q s t) (λ w. rw (u, v, w, less) refl) (λ w. rw (u, v, w) refl))
         (λ v. rw (u, v) ih))
 
--- what is asked of a row is what is asked of the reference that it is
+-- what is asked of each row is what is asked of the reference that it is
 abbrev pub Agree : (Row → Bool) → (Obj → Obj → Bool) → List Row → Type 0
-Agree h q rs = (y : Obj) (row : Row) → row_of rs y ≡ Some row → h row ≡ asks q y (target_in_kind row.kind)
+Agree h q [] = Unit {0}
+Agree h q (r ∷ rs) = (h r ≡ asks q r.serial (target_in_kind r.kind)) × Agree h q rs
+
+-- the newest row that passes is the first reference that does
+firsts : (h : Row → Bool) (q : Obj → Obj → Bool) (rs : List Row) (ps : List Pair) → Descends ps → Distinct rs → AreRefsOf ps rs → Agree h q rs → first_such q ps ≡ newest h rs
+firsts h q rs ps d k is = by-rows (λ qs ss. Agree h q ss → first_such q qs ≡ newest h ss) (record {
+  none = λ a. refl;
+  object = λ r ss qs e ih a. let no : h r ≡ false = a.0 ∙ ap (asks q r.serial) e in rw no (ih a.1);
+  reference = λ r ss qs t e d there ih a.
+      let yes : h r ≡ q r.serial t = a.0 ∙ ap (asks q r.serial) e in
+      rw yes (first-without q qs r.serial t d there ∙ ap (newer_if (q r.serial t) r.serial) (ih a.1));
+}) rs ps d k is
+
+asks-target : (o : Option Obj) (x y : Obj) → is_target o x ≡ asks (λ z t. same t x) y o
+asks-target None x y = refl
+asks-target (Some t) x y = refl
+
+-- the newest reference to an object
+pub first-newest : (rs : List Row) (ps : List Pair) (x : Obj) → Descends ps → Distinct rs → AreRefsOf ps rs → first_to ps x ≡ newest_ref rs x
+first-newest rs ps x d k is = firsts (λ r. is_target (target_in_kind r.kind) x) (λ y t. same t x) rs ps d k is (agree rs)
+  where
+    agree : (ss : List Row) → Agree (λ r. is_target (target_in_kind r.kind) x) (λ y t. same t x) ss
+    agree [] = tt
+    agree (r ∷ ss) = (asks-target (target_in_kind r.kind) x r.serial, agree ss)
+
+-- of a reference to an object that an owner has
+abbrev pub owned_by : List Row → Owner → Obj → Obj → Obj → Bool
+owned_by rs o x y t = same t x && is_below (owner_of rs y) o
+
+asks-owned : (rs : List Row) (o : Owner) (target : Option Obj) (x y : Obj) (owner : Option Owner) → owner_of rs y ≡ owner → (is_target target x && is_below owner o) ≡ asks (owned_by rs o x) y target
+asks-owned rs o None x y owner e = refl
+asks-owned rs o (Some t) x y owner e = ap (λ (w : Option Owner). same t x && is_below w o) (sym e)
+
+-- the newest reference to an object that an owner has
+pub first-newest-of : (rs : List Row) (ps : List Pair) (o : Owner) (x : Obj) → Descends ps → Distinct rs → AreRefsOf ps rs → first_such (owned_by rs o x) ps ≡ newest_ref_of rs o x
+first-newest-of rs ps o x d k is = firsts (λ r. is_target (target_in_kind r.kind) x && is_below r.owner o) (owned_by rs o x) rs ps d k is (agree rs k (λ y row e. e))
+  where
+    behind : (r : Row) (ss : List Row) (y : Obj) (row : Row) → row_of ss r.serial ≡ None → row_of ss y ≡ Some row → row_of (r ∷ ss) y ≡ Some row
+    behind r ss y row none e =
+        let other : same r.serial y ≡ false = same-false r.serial y (λ u. let bad : None ≡ Some row = sym none ∙ ap (row_of ss) u ∙ e in cc) in
+        rw other e
+
+    agree : (ss : List Row) → Distinct ss → ((y : Obj) (row : Row) → row_of ss y ≡ Some row → row_of rs y ≡ Some row)
+        → Agree (λ r. is_target (target_in_kind r.kind) x && is_below r.owner o) (owned_by rs o x) ss
+    agree [] k there = tt
+    agree (r ∷ ss) k there =
+        let found : row_of rs r.serial ≡ Some r = there r.serial r (rw (same-equal r.serial r.serial refl) refl) in
+        (asks-owned rs o (target_in_kind r.kind) x r.serial r.owner (ap owner_in found), agree ss k.1 (λ y row e. there y row (behind r ss y row k.0 e)))
+
+-- ---- what each change leaves
+
+pub refs-added : (ps : List Pair) (rs : List Row) (s : Obj) (k : Kind) (o : Owner) (size : ℕ) (name : List ℕ) → row_of rs s ≡ None → target_in_kind k ≡ None → AreRefsOf ps rs
+    → AreRefsOf ps (new_row s k o size name ∷ rs)
+refs-added ps rs s k o size name none plain is y = by_test (same s y)
+    (λ u. let e : row_of rs y ≡ None = subst (λ (z : Obj). row_of rs z ≡ None) (same-true s y u) none in rw u (is y ∙ ap target_in e ∙ sym plain))
+    (λ u. rw u (is y))
+
+pub refs-more : (ps : List Pair) (rs : List Row) (s t : Obj) (k : Kind) (o : Owner) (size : ℕ) (name : List ℕ) → target_in_kind k ≡ Some t → AreRefsOf ps rs
+    → AreRefsOf (pair s t ∷ ps) (new_row s k o size name ∷ rs)
+refs-more ps rs s t k o size name e is y = by_test (same s y) (λ u. rw u (sym e)) (λ u. rw u (is y))
+
+target-changed : (f : Row → Row) (rs : List Row) (x y : Obj) → ((r : Row) → (f r).serial ≡ r.serial) → ((r : Row) → (f r).kind ≡ r.kind) → target_at (changed f rs x) y ≡ target_at rs y
+target-changed f [] x y k kinds = refl
+target-changed f (s ∷ rs) x y k kinds =
+    let ih = target-changed f rs x y k kinds in
+    let one : same (f s).serial y ≡ same s.serial y = ap (λ (z : Obj). same z y) (k s) in
+    by_test (same s.serial x)
+    (λ t. by_test (same s.serial y) (λ u. rw (t, u, one ∙ u) (ap target_in_kind (kinds s))) (λ u. rw (t, u, one ∙ u) refl))
+    (λ t. by_test (same s.serial y) (λ u. rw (t, u) refl) (λ u. rw (t, u) ih))
+
+pub refs-changed : (f : Row → Row) (ps : List Pair) (rs : List Row) (x : Obj) → ((r : Row) → (f r).serial ≡ r.serial) → ((r : Row) → (f r).kind ≡ r.kind) → AreRefsOf ps rs → AreRefsOf ps (changed f rs x)
+refs-changed f ps rs x k kinds is y = is y ∙ sym (target-changed f rs x y k kinds)
+
+pub refs-placed : (ps : List Pair) (p : Pool) (o : Owner) (x : Obj) (r : Row) → row_of p.rows x ≡ Some r → AreRefsOf ps p.rows → AreRefsOf ps (place p o x).rows
+refs-placed ps p o x r e is y = is y ∙ elim (same_or_not x y) [
+  | inl u ↦ subst (λ (z : Obj). target_at p.rows z ≡ target_at (place p o x).rows z) u (ap target_in e ∙ sym (ap target_in (row_of-placed-same p o x r e)))
+  | inr ne ↦ sym (ap target_in (row_of-placed-other p o x y r e ne))
+]
+
+pub refs-without : (ps : List Pair) (rs : List Row) (x : Obj) → target_at rs x ≡ None → Distinct rs → AreRefsOf ps rs → AreRefsOf ps (rows_without rs x)
+refs-without ps rs x plain d is y = is y ∙ elim (same_or_not x y) [
+  | inl u ↦ subst (λ (z : Obj). target_at rs z ≡ target_at (rows_without rs x) z) u (plain ∙ sym (ap target_in (row_of-without-same rs x d)))
+  | inr ne ↦ sym (ap target_in (row_of-without-other rs x y ne))
+]
+
+pub refs-dropped : (ps : List Pair) (rs : List Row) (s : Obj) → Distinct rs → AreRefsOf ps rs → AreRefsOf (without ps s) (rows_without rs s)
+refs-dropped ps rs s d is y = elim (same_or_not s y) [
+  | inl u ↦ subst (λ (z : Obj). target_of (without ps s) z ≡ target_at (rows_without rs s) z) u (target-without-same ps s ∙ sym (ap target_in (row_of-without-same rs s d)))
+  | inr ne ↦ target-without-other ps s y (same-false s y ne) ∙ is y ∙ sym (ap target_in (row_of-without-other rs s y ne))
+]
