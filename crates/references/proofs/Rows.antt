@@ -189,6 +189,19 @@ first-newest-of rs ps o x d k is = firsts (λ r. is_target (target_in_kind r.kin
         let found : row_of rs r.serial ≡ Some r = there r.serial r (rw (same-equal r.serial r.serial refl) refl) in
         (asks-owned rs o (target_in_kind r.kind) x r.serial r.owner (ap owner_in found), agree ss k.1 (λ y row e. there y row (behind r ss y row k.0 e)))
 
+-- a number above those of all rows that are references is above all references
+pub above-rows : (rs : List Row) (ps : List Pair) (s : Obj) → Descends ps → AreRefsOf ps rs → ((r t : Obj) → target_at rs r ≡ Some t → r.0 < s.0) → IsAbove s ps
+above-rows rs ps s d is h = above ps (λ r t e. h r t (sym (is r) ∙ e)) d
+  where
+    above : (qs : List Pair) → ((r t : Obj) → target_of qs r ≡ Some t → r.0 < s.0) → Descends qs → IsAbove s qs
+    above [] h d = tt
+    above (q ∷ qs) h d = (h q.reference q.target (rw (same-equal q.reference q.reference refl) refl), above qs (λ r t e. h r t (behind r t e)) d.1)
+      where
+        behind : (r t : Obj) → target_of qs r ≡ Some t → target_of (q ∷ qs) r ≡ Some t
+        behind r t e = by_test (same q.reference r)
+            (λ u. let l : r.0 < q.reference.0 = target-below qs q.reference r t d.0 e in let m : q.reference.0 ≡ r.0 = ap (λ (z : Obj). z.0) (same-true q.reference r u) in absurd (omega (arith, l, m)))
+            (λ u. rw u e)
+
 -- ---- what each change leaves
 
 pub refs-added : (ps : List Pair) (rs : List Row) (s : Obj) (k : Kind) (o : Owner) (size : ℕ) (name : List ℕ) → row_of rs s ≡ None → target_in_kind k ≡ None → AreRefsOf ps rs

@@ -51,7 +51,7 @@ impl Refs {
     ghost use Rattle.std.specs.Option.{option_copied};
     ghost use Rattle.tree_specs.specs.declared.object.Obj.{Obj as ObjData};
     ghost use Rattle.references.specs.Found.{StandsAt, StandsNowhere};
-    ghost use Rattle.references.specs.Pairs.{pair, IsAbove, count_to, first_to, first_below, next_to, target_of, without, most};
+    ghost use Rattle.references.specs.Pairs.{pair, ArePairs, IsAbove, count_to, first_to, first_below, next_to, target_of, without, most};
 
     /// No references. It takes no memory.
     pub fn new(alloc: Global) -> Refs
@@ -120,7 +120,8 @@ impl Refs {
 
     /// The newest reference to an object. None exactly where there is none.
     pub fn first_ref(&self, target: Obj) -> Option<Obj>
-        ensures { result ≡ first_to self.now.pairs target }
+        ensures first { result ≡ first_to self.now.pairs target }
+        ensures sound { ArePairs self.now.pairs }
     {
         let found = self.pairs.iter().find(|p| p.target.0 == target.0)?;
         Some(found.reference)
@@ -144,7 +145,8 @@ impl Refs {
 
     /// How many references there are to an object.
     pub fn count_refs(&self, target: Obj) -> u32
-        ensures { result ≡ count_to self.now.pairs target }
+        ensures count { result ≡ count_to self.now.pairs target }
+        ensures sound { ArePairs self.now.pairs }
     {
         let count = self.pairs.iter().filter(|p| p.target.0 == target.0).count();
         count as u32

@@ -22,7 +22,7 @@ fit-more next [] f = tt
 fit-more next (r ∷ rs) f = (omega (arith, f.0), f.1, fit-more next rs f.2)
 
 -- the next number is no row's
-fresh : (next : ℕ) (rs : List Row) → AllFit next rs → row_of rs (record { 0 = next }) ≡ None
+pub fresh : (next : ℕ) (rs : List Row) → AllFit next rs → row_of rs (record { 0 = next }) ≡ None
 fresh next [] f = refl
 fresh next (r ∷ rs) f = by_test (same r.serial (record { 0 = next }))
     (λ t. let e : r.serial.0 ≡ next = ap (λ (x : Obj). x.0) (same-true r.serial (record { 0 = next }) t) in absurd (omega (arith, f.0, e)))
@@ -77,7 +77,7 @@ fit-without : (next : ℕ) (rs : List Row) (x : Obj) → AllFit next rs → AllF
 fit-without next [] x f = tt
 fit-without next (r ∷ rs) x f = by_test (same r.serial x) (λ t. rw t f.2) (λ t. rw t (f.0, f.1, fit-without next rs x f.2))
 
-fit-row : (next : ℕ) (rs : List Row) (x : Obj) (r : Row) → AllFit next rs → row_of rs x ≡ Some r → (r.serial.0 < next) × (r.size < size_limit)
+pub fit-row : (next : ℕ) (rs : List Row) (x : Obj) (r : Row) → AllFit next rs → row_of rs x ≡ Some r → (r.serial.0 < next) × (r.size < size_limit)
 fit-row next [] x r f e = cc
 fit-row next (s ∷ rs) x r f e = by_test (same s.serial x)
     (λ t. let e' : Some s ≡ Some r = rw t at e in let e'' : s ≡ r = cc in rw (sym e'') (f.0, f.1))

@@ -125,6 +125,7 @@ impl Tree {
         requires numbered { self.old.next < 2 ^ 64 - 1 }
         requires owner { is_owner self.old.rows owner ≡ true }
         ensures serial { result ≡ record { 0 = self.old.next } }
+        ensures fresh { row_of self.old.rows result ≡ None }
         ensures rows { pool_of self.new ≡ added (pool_of self.old) row.kind owner row.size row.name }
         ensures spare { self.old.spare ≤ self.new.spare + 1 }
         ensures works { works_of self.new ≡ works_of self.old }
