@@ -2,10 +2,10 @@
 use Rattle.std.proofs.Common.{◌≡◌, ℕ, ◌<◌, nat_eq, Option, Some, None, refl, sym, subst, arith}
 use Rattle.step_machine.specs.Machine.{Move as Do}
 use Rattle.tree_specs.specs.declared.frame.FreeFrame.{FreeFrame}
-use Rattle.tree_specs.specs.declared.frame.FreeFrame.TheVariants.{Beginning, Hooked, Judged, Leaving, Looping, Trying, Tried, Ending}
+use Rattle.tree_specs.specs.declared.frame.FreeFrame.TheVariants.{Unlinking, Releasing, Giving, Beginning, Hooked, Judged, Leaving, Looping, Trying, Tried, Ending}
 use Rattle.tree_specs.specs.declared.frame.Purpose.{Purpose}
 use Rattle.tree_specs.specs.declared.frame.Purpose.TheVariants.{Removal, Emptying}
-use Rattle.tree_specs.specs.declared.free_step.FreeReply.TheVariants.{Ok, Running, Refused}
+use Rattle.tree_specs.specs.declared.free_step.FreeReply.TheVariants.{Ok, Held, Running, Refused}
 use Rattle.tree_specs.specs.declared.free_step.FreeStep.{FreeStep}
 use Rattle.tree_specs.specs.declared.free_step.FreeStep.TheVariants as step
 use Rattle.tree_specs.specs.declared.object.Obj.{Obj}
@@ -23,17 +23,21 @@ use Rattle.destructors.specs.Engine.{HasRoom}
 -- a work that may wait for a free
 abbrev pub IsNoHook : FreeFrame → Type 0
 IsNoHook (Hooked x h) = ⊥
+IsNoHook (Unlinking o x) = Unit {0}
+IsNoHook (Releasing x) = Unit {0}
+IsNoHook (Giving x o) = Unit {0}
 IsNoHook (Beginning x) = Unit {0}
 IsNoHook (Judged x h v) = Unit {0}
 IsNoHook (Leaving x h) = Unit {0}
 IsNoHook (Looping x purpose) = Unit {0}
-IsNoHook (Trying x c purpose) = Unit {0}
-IsNoHook (Tried x c purpose a) = Unit {0}
+IsNoHook (Trying x c noted purpose) = Unit {0}
+IsNoHook (Tried x c noted purpose a) = Unit {0}
 IsNoHook (Ending a) = Unit {0}
 
 -- what a free tells while it goes on
 abbrev pub IsNews : FreeStep → Type 0
 IsNews (step.Ask x) = ⊥
+IsNews (step.Dropped r target) = Unit {0}
 IsNews (step.Refused x v) = Unit {0}
 IsNews (step.Accepted x) = Unit {0}
 IsNews (step.Left x from) = Unit {0}
@@ -76,10 +80,11 @@ is_move (Looping x purpose) p = each purpose (first_kid p.rows (Of x))
     each purpose (Some c) = (refl, tt)
     each (Removal h) None = tt
     each Emptying None = tt
-is_move (Trying x c purpose) p = tt
-is_move (Tried x c purpose Ok) p = tt
-is_move (Tried x c purpose Running) p = by_test (is_below (owner_of p.rows c) (Of x)) (λ t. rw t tt) (λ t. rw t tt)
-is_move (Tried x c purpose (Refused v)) p = by_test (is_below (owner_of p.rows c) (Of x)) (λ t. rw t tt) (λ t. rw t tt)
+is_move (Trying x c noted purpose) p = tt
+is_move (Tried x c noted purpose Ok) p = tt
+is_move (Tried x c noted purpose Held) p = by_test (is_below (owner_of p.rows c) (Of x)) (λ t. rw t tt) (λ t. rw t tt)
+is_move (Tried x c noted purpose Running) p = by_test (is_below (owner_of p.rows c) (Of x)) (λ t. rw t tt) (λ t. rw t tt)
+is_move (Tried x c noted purpose (Refused v)) p = by_test (is_below (owner_of p.rows c) (Of x)) (λ t. rw t tt) (λ t. rw t tt)
 is_move (Ending a) p = tt
 
 -- there is room for a work that is put below another

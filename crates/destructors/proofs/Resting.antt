@@ -32,7 +32,6 @@ added-rests o size name p there w = record {
   sound = new-sound (frame.Call (Asking Quiet)) (frame.Call (Asking Quiet)) o size name [] p w.sound there (λ x. refl) tt;
   seated = w.seated;
   light = omega arith;
-  plain = (refl, w.plain);
 }
 
 -- an object is given the destructor 16
@@ -43,7 +42,6 @@ hooked-rests x p none w =
       sound = stands (frame.Call (Asking Quiet)) (frame.Call (Doing Quiet (call.Hook x 16))) [] [] p (λ y. refl) tt tt w.sound;
       seated = w.seated;
       light = w.light;
-      plain = w.plain;
     } in
     let goes : step (frame.Call (Doing Quiet (call.Hook x 16))) p ≡ Do.Go (frame.Call (Telling Quiet reply.Ok)) (set_hook p x 16) = ap (λ (check : Check). call_step check Quiet (call.Hook x 16) p) none in
     let telling : Whole (call_view (Telling Quiet reply.Ok) [] [] (set_hook p x 16)) = rw goes at (whole-kept (call_view (Doing Quiet (call.Hook x 16)) [] [] p) 0 doing) in

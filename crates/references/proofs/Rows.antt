@@ -16,9 +16,10 @@ use Rattle.tree_specs.specs.Reports.{count_refs}
 use Rattle.tree_specs.specs.Forest.{Distinct}
 use Rattle.tree_specs.proofs.Numbered.{by_test, same-true, same-equal, same-false, same_or_not}
 use Rattle.tree_specs.proofs.Rows.{row_of-changed-other, row_of-without-other, row_of-without-same, row_of-placed-other, row_of-placed-same}
+use Rattle.tree_specs.proofs.Referring.{newest-refers, newest-of-refers}
 use Rattle.references.specs.declared.refs.Pair.{Pair}
 use Rattle.references.specs.Pairs.{pair, IsAbove, Descends, target_of, first_to, count_to, without}
-use Rattle.references.specs.Rows.{AreRefsOf}
+use Rattle.references.specs.Rows.{AreRefsOf, RefersTo, SameRefs, first_such, owned_by}
 use Rattle.references.proofs.Finding.{above-without, descends-without}
 
 -- ---- without a reference
@@ -92,9 +93,6 @@ counts rs ps x d k is = sym (length-filter (λ p. same p.target x) ps) ∙ by-ro
 
 -- ---- the newest of those that pass
 
-abbrev pub first_such : (Obj → Obj → Bool) → List Pair → Option Obj
-first_such q ps = option_map (λ p. p.reference) (find (λ p. q p.reference p.target) ps)
-
 -- what is asked of a reference and its target, where there is a target
 abbrev pub asks : (Obj → Obj → Bool) → Obj → Option Obj → Bool
 asks q y None = false
@@ -158,24 +156,20 @@ asks-target None x y = refl
 asks-target (Some t) x y = refl
 
 -- the newest reference to an object
-pub first-newest : (rs : List Row) (ps : List Pair) (x : Obj) → Descends ps → Distinct rs → AreRefsOf ps rs → first_to ps x ≡ newest_ref rs x
-first-newest rs ps x d k is = firsts (λ r. is_target (target_in_kind r.kind) x) (λ y t. same t x) rs ps d k is (agree rs)
+pub first_newest : (rs : List Row) (ps : List Pair) (x : Obj) → Descends ps → Distinct rs → AreRefsOf ps rs → first_to ps x ≡ newest_ref rs x
+first_newest rs ps x d k is = firsts (λ r. is_target (target_in_kind r.kind) x) (λ y t. same t x) rs ps d k is (agree rs)
   where
     agree : (ss : List Row) → Agree (λ r. is_target (target_in_kind r.kind) x) (λ y t. same t x) ss
     agree [] = tt
     agree (r ∷ ss) = (asks-target (target_in_kind r.kind) x r.serial, agree ss)
-
--- of a reference to an object that an owner has
-abbrev pub owned_by : List Row → Owner → Obj → Obj → Obj → Bool
-owned_by rs o x y t = same t x && is_below (owner_of rs y) o
 
 asks-owned : (rs : List Row) (o : Owner) (target : Option Obj) (x y : Obj) (owner : Option Owner) → owner_of rs y ≡ owner → (is_target target x && is_below owner o) ≡ asks (owned_by rs o x) y target
 asks-owned rs o None x y owner e = refl
 asks-owned rs o (Some t) x y owner e = ap (λ (w : Option Owner). same t x && is_below w o) (sym e)
 
 -- the newest reference to an object that an owner has
-pub first-newest-of : (rs : List Row) (ps : List Pair) (o : Owner) (x : Obj) → Descends ps → Distinct rs → AreRefsOf ps rs → first_such (owned_by rs o x) ps ≡ newest_ref_of rs o x
-first-newest-of rs ps o x d k is = firsts (λ r. is_target (target_in_kind r.kind) x && is_below r.owner o) (owned_by rs o x) rs ps d k is (agree rs k (λ y row e. e))
+pub first_newest_of : (rs : List Row) (ps : List Pair) (o : Owner) (x : Obj) → Descends ps → Distinct rs → AreRefsOf ps rs → first_such (owned_by rs o x) ps ≡ newest_ref_of rs o x
+first_newest_of rs ps o x d k is = firsts (λ r. is_target (target_in_kind r.kind) x && is_below r.owner o) (owned_by rs o x) rs ps d k is (agree rs k (λ y row e. e))
   where
     behind : (r : Row) (ss : List Row) (y : Obj) (row : Row) → row_of ss r.serial ≡ None → row_of ss y ≡ Some row → row_of (r ∷ ss) y ≡ Some row
     behind r ss y row none e =
@@ -214,7 +208,7 @@ pub refs-more : (ps : List Pair) (rs : List Row) (s t : Obj) (k : Kind) (o : Own
     → AreRefsOf (pair s t ∷ ps) (new_row s k o size name ∷ rs)
 refs-more ps rs s t k o size name e is y = by_test (same s y) (λ u. rw u (sym e)) (λ u. rw u (is y))
 
-target-changed : (f : Row → Row) (rs : List Row) (x y : Obj) → ((r : Row) → (f r).serial ≡ r.serial) → ((r : Row) → (f r).kind ≡ r.kind) → target_at (changed f rs x) y ≡ target_at rs y
+pub target-changed : (f : Row → Row) (rs : List Row) (x y : Obj) → ((r : Row) → (f r).serial ≡ r.serial) → ((r : Row) → (f r).kind ≡ r.kind) → target_at (changed f rs x) y ≡ target_at rs y
 target-changed f [] x y k kinds = refl
 target-changed f (s ∷ rs) x y k kinds =
     let ih = target-changed f rs x y k kinds in
@@ -223,23 +217,35 @@ target-changed f (s ∷ rs) x y k kinds =
     (λ t. by_test (same s.serial y) (λ u. rw (t, u, one ∙ u) (ap target_in_kind (kinds s))) (λ u. rw (t, u, one ∙ u) refl))
     (λ t. by_test (same s.serial y) (λ u. rw (t, u) refl) (λ u. rw (t, u) ih))
 
-pub refs-changed : (f : Row → Row) (ps : List Pair) (rs : List Row) (x : Obj) → ((r : Row) → (f r).serial ≡ r.serial) → ((r : Row) → (f r).kind ≡ r.kind) → AreRefsOf ps rs → AreRefsOf ps (changed f rs x)
-refs-changed f ps rs x k kinds is y = is y ∙ sym (target-changed f rs x y k kinds)
-
-pub refs-placed : (ps : List Pair) (p : Pool) (o : Owner) (x : Obj) (r : Row) → row_of p.rows x ≡ Some r → AreRefsOf ps p.rows → AreRefsOf ps (place p o x).rows
-refs-placed ps p o x r e is y = is y ∙ elim (same_or_not x y) [
-  | inl u ↦ subst (λ (z : Obj). target_at p.rows z ≡ target_at (place p o x).rows z) u (ap target_in e ∙ sym (ap target_in (row_of-placed-same p o x r e)))
-  | inr ne ↦ sym (ap target_in (row_of-placed-other p o x y r e ne))
-]
-
-pub refs-without : (ps : List Pair) (rs : List Row) (x : Obj) → target_at rs x ≡ None → Distinct rs → AreRefsOf ps rs → AreRefsOf ps (rows_without rs x)
-refs-without ps rs x plain d is y = is y ∙ elim (same_or_not x y) [
-  | inl u ↦ subst (λ (z : Obj). target_at rs z ≡ target_at (rows_without rs x) z) u (plain ∙ sym (ap target_in (row_of-without-same rs x d)))
-  | inr ne ↦ sym (ap target_in (row_of-without-other rs x y ne))
-]
-
 pub refs-dropped : (ps : List Pair) (rs : List Row) (s : Obj) → Distinct rs → AreRefsOf ps rs → AreRefsOf (without ps s) (rows_without rs s)
 refs-dropped ps rs s d is y = elim (same_or_not s y) [
   | inl u ↦ subst (λ (z : Obj). target_of (without ps s) z ≡ target_at (rows_without rs s) z) u (target-without-same ps s ∙ sym (ap target_in (row_of-without-same rs s d)))
   | inr ne ↦ target-without-other ps s y (same-false s y ne) ∙ is y ∙ sym (ap target_in (row_of-without-other rs s y ne))
+]
+
+-- ---- a reference that was found
+
+pub newest-is-one : (rs : List Row) (x : Obj) (o : Option Obj) → Distinct rs → o ≡ newest_ref rs x → RefersTo rs o x
+newest-is-one rs x None d e = tt
+newest-is-one rs x (Some r) d e = let w = newest-refers rs x r d (sym e) in ap target_in w.1 ∙ w.2
+
+pub newest-of-is-one : (rs : List Row) (p : Owner) (x : Obj) (o : Option Obj) → Distinct rs → o ≡ newest_ref_of rs p x → RefersTo rs o x
+newest-of-is-one rs p x None d e = tt
+newest-of-is-one rs p x (Some r) d e = let w = newest-of-refers rs p x r d (sym e) in ap target_in w.1 ∙ w.2
+
+-- ---- the same references
+
+pub refs-same : (ps : List Pair) (rs rs' : List Row) → SameRefs rs rs' → AreRefsOf ps rs → AreRefsOf ps rs'
+refs-same ps rs rs' h is y = is y ∙ sym (h y)
+
+pub same-placed : (p : Pool) (o : Owner) (x : Obj) (r : Row) → row_of p.rows x ≡ Some r → SameRefs p.rows (place p o x).rows
+same-placed p o x r e y = elim (same_or_not x y) [
+  | inl u ↦ subst (λ (z : Obj). target_at (place p o x).rows z ≡ target_at p.rows z) u (ap target_in (row_of-placed-same p o x r e) ∙ sym (ap target_in e))
+  | inr ne ↦ ap target_in (row_of-placed-other p o x y r e ne)
+]
+
+pub same-without : (rs : List Row) (x : Obj) → target_at rs x ≡ None → Distinct rs → SameRefs rs (rows_without rs x)
+same-without rs x plain d y = elim (same_or_not x y) [
+  | inl u ↦ subst (λ (z : Obj). target_at (rows_without rs x) z ≡ target_at rs z) u (ap target_in (row_of-without-same rs x d) ∙ sym plain)
+  | inr ne ↦ ap target_in (row_of-without-other rs x y ne)
 ]
