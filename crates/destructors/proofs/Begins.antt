@@ -1,5 +1,5 @@
 -- A free that begins, or is answered, is at work.
-use Rattle.std.proofs.Common.{◌≡◌, ℕ, ◌+◌, ◌≤◌, List, [], ◌∷◌, length, Option, Some, None, true, nat_eq, refl, ◌∙◌, ap, arith}
+use Rattle.std.proofs.Common.{◌≡◌, ℕ, ◌+◌, ◌≤◌, List, [], ◌∷◌, length, Option, Some, None, true, false, nat_eq, refl, ◌∙◌, ap, arith}
 use Rattle.tree_specs.specs.declared.frame.Frame.TheVariants as frame
 use Rattle.tree_specs.specs.declared.frame.CallFrame.{CallFrame}
 use Rattle.tree_specs.specs.declared.frame.CallFrame.TheVariants.{Awaiting}
@@ -14,7 +14,10 @@ use Rattle.tree_specs.specs.declared.row.Mark.{Mark}
 use Rattle.tree_specs.specs.declared.row.Mark.TheVariants as mark
 use Rattle.tree_specs.specs.declared.row.Mark.TheVariants.{Asked, Busy, Doomed, Dying}
 use Rattle.tree_specs.specs.Inside.{total}
-use Rattle.tree_specs.specs.Pool.{Pool}
+use Rattle.tree_specs.specs.Pool.{Pool, row_of, target_at, is_dying_mark}
+use Rattle.tree_specs.specs.Targets.{target_of, newest_ref}
+use Rattle.tree_specs.specs.declared.object.Owner.{Owner}
+use Rattle.tree_specs.specs.Sound.{IsLive}
 use Rattle.tree_specs.specs.Story.{hook_moment}
 use Rattle.tree_specs.specs.Whole.{Seated}
 use Rattle.std.specs.Prelude.{unwrap_or}
@@ -23,6 +26,7 @@ use Rattle.tree_specs.proofs.Numbered.{by_test}
 use Rattle.tree_specs.proofs.Changes.{stands}
 use Rattle.tree_specs.proofs.Load.{reseat-free}
 use Rattle.tree_links.specs.Links.{Links, pool_of}
+use Rattle.destructors.specs.Moves.{IsLiveRow}
 use Rattle.destructors.specs.Room.{mark_places, row_places, work_places, wanted}
 use Rattle.destructors.specs.Engine.{IsAsked, HasRoom}
 use Rattle.destructors.specs.Frees.{OpenFrees, before, frees_of, speaking}
@@ -60,8 +64,25 @@ begins f x s may a =
       }),
     )
 
-pub may-free : (x : Obj) (p : Pool) → MayBegin (Beginning x) p
-may-free x p = record { claims_nothing = λ y. refl; rests = λ q y fs. tt; small = refl }
+pub may-free : (x : Obj) (p : Pool) → newest_ref p.rows x ≡ None → target_at p.rows x ≡ None → MayBegin (Beginning x) p
+may-free x p unheld object = record { claims_nothing = λ y. refl; rests = λ q y fs. (unheld, object); small = refl }
+
+pub may-unlink : (o : Owner) (x : Obj) (p : Pool) → IsLiveRow p x → target_at p.rows x ≡ None → MayBegin (Unlinking o x) p
+may-unlink o x p live object = each (row_of p.rows x) refl
+  where
+    marks : (m : Mark) → is_dying_mark m ≡ false → IsLive m
+    marks mark.Quiet e = tt
+    marks Asked e = tt
+    marks Busy e = tt
+    marks Doomed e = tt
+    marks (Dying former) e = cc
+
+    each : (r : Option Row) → row_of p.rows x ≡ r → MayBegin (Unlinking o x) p
+    each None e = let bad : false ≡ true = rw e at live.0 in cc
+    each (Some r) e =
+        let l : is_dying_mark r.mark ≡ false = rw e at live.1 in
+        let t : target_of r.kind ≡ None = rw e at object in
+        record { claims_nothing = λ y. refl; rests = λ q y fs. (tt, r, e, marks r.mark l, t); small = refl }
 
 pub may-empty : (x : Obj) (p : Pool) → MayBegin (Looping x Emptying) p
 may-empty x p = record { claims_nothing = λ y. refl; rests = λ q y fs. tt; small = refl }

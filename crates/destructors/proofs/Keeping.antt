@@ -1,5 +1,5 @@
 -- What the moves of the open frees keep.
-use Rattle.std.proofs.Common.{◌≡◌, ℕ, ◌+◌, ◌≤◌, ◌<◌, nat_eq, List, [], ◌∷◌, map, length, Option, Some, None, true, false, refl, sym, ap, subst, arith}
+use Rattle.std.proofs.Common.{◌≡◌, ℕ, ◌+◌, ◌≤◌, ◌<◌, nat_eq, List, [], ◌∷◌, map, length, Option, Some, None, true, false, refl, sym, ◌∙◌, ap, subst, arith}
 use Rattle.step_machine.specs.Machine.{Move as Do}
 use Rattle.tree_specs.specs.declared.frame.Frame.{Frame}
 use Rattle.tree_specs.specs.declared.frame.Frame.TheVariants as frame
@@ -19,10 +19,12 @@ use Rattle.tree_specs.specs.declared.object.Owner.TheVariants.{Of}
 use Rattle.tree_specs.specs.declared.row.Row.{Row}
 use Rattle.tree_specs.specs.declared.row.Mark.{Mark}
 use Rattle.tree_specs.specs.declared.row.Mark.TheVariants.{Quiet, Asked, Busy, Doomed, Dying}
-use Rattle.tree_specs.specs.Pool.{Pool, row_of, is_below, owner_of, first_kid, marked_row, hooked_row, left_row, set_mark}
+use Rattle.tree_specs.specs.Pool.{Pool, row_of, is_below, owner_of, first_kid, target_at, newest_ref_of, is_inside, is_dying_mark, without, marked_row, hooked_row, left_row, set_mark}
+use Rattle.tree_specs.specs.Targets.{newest_ref}
+use Rattle.tree_specs.specs.Objects.{same}
 use Rattle.tree_specs.specs.Heirs.{heir}
 use Rattle.tree_specs.specs.Inside.{total}
-use Rattle.tree_specs.specs.Table.{FreeMove, free_step, begin_step, loop_step, hand_on_step, caller_resume}
+use Rattle.tree_specs.specs.Table.{FreeMove, free_step, begin_step, refs_step, unlink_step, release_step, child_step, loop_step, hand_on_step, caller_resume}
 use Rattle.tree_specs.specs.Measure.{below_cost, loop_kids, top_cost, cost}
 use Rattle.tree_specs.specs.Sound.{InRun, InLoop, claims, IsLive, Sound}
 use Rattle.tree_specs.specs.Whole.{Seated, Whole}
@@ -55,13 +57,13 @@ live-row p x r e live = (rw e refl, rw e (each r.mark live))
 pub placeable : (p : Pool) (o : Owner) (x : Obj) → MayBePlaced p o x → MayPlace p.rows x o
 placeable p o x may = let live = live-row p x may.row may.is may.live in record { is = live.0; live = live.1; there = may.there; apart = may.outside }
 
-hands-on : (x c : Obj) (f : Frame) (fs : List Frame) (p : Pool) → Sound f fs p → MayHandOn p x c
-hands-on x c f fs p s = λ below. placeable p (heir p.rows x c) c (heir-placed x c f fs p s below)
+hands-on : (x c : Obj) (noted : Option Owner) (f : Frame) (fs : List Frame) (p : Pool) → Sound f fs p → MayHandOn p x c noted
+hands-on x c noted f fs p s = λ below. placeable p (heir p.rows x c noted) c (heir-placed x c noted f fs p s below)
 
 pub rests : (f : FreeFrame) (fs : List Frame) (p : Pool) → Sound (frame.Free f) fs p → FreeRests f p
 rests (Unlinking o x) fs p s = tt
 rests (Releasing x) fs p s = tt
-rests (Giving x o) fs p s = tt
+rests (Giving x o) fs p s = placeable p o x s.rests
 rests (Beginning x) fs p s = tt
 rests (Hooked x h) fs p s = tt
 rests (Judged x h v) fs p s =
@@ -70,10 +72,16 @@ rests (Judged x h v) fs p s =
 rests (Leaving x h) fs p s = live-row p x s.rests.0 s.rests.1 s.rests.2
 rests (Looping x (Removal h)) fs p s =
     let row = dying-row (row_of p.rows x) (claims x fs) (claim-here x InLoop (claims x fs) (row_of p.rows x) (s.open_frees x)) in
-    rw (row.1, row.3) refl
+    (rw (row.1, row.3) refl, quiet-row row.0 row.1 row.3 (target_at p.rows x) refl)
+  where
+    quiet-row : (r : Row) → row_of p.rows x ≡ Some r → is_dying_mark r.mark ≡ true → (o : Option Obj) → target_at p.rows x ≡ o → target_at p.rows x ≡ None
+    quiet-row r e d None q = q
+    quiet-row r e d (Some t) q =
+        let still : r.mark ≡ Quiet = rw e at (s.refers.quiet x t q) in
+        let bad : false ≡ true = ap is_dying_mark (sym still) ∙ d in cc
 rests (Looping x Emptying) fs p s = tt
 rests (Trying x c noted purpose) fs p s = tt
-rests (Tried x c noted purpose a) fs p s = hands-on x c _ fs p s
+rests (Tried x c noted purpose a) fs p s = hands-on x c noted _ fs p s
 rests (Ending a) fs p s = tt
 
 -- ---- what a move leads to
@@ -255,13 +263,33 @@ slim-begin x p = each (row_of p.rows x) refl
     each None e = rw e (omega arith)
     each (Some r) e = marks r r.mark refl e
 
-slim-handed : (x c : Obj) (purpose : Purpose) (a : FreeReply) (fs : List Frame) (p : Pool) → Sound (frame.Free (Tried x c noted purpose a)) fs p → Slim (1 + total row_places p.rows) (hand_on_step x c purpose p)
-slim-handed x c purpose a fs p s = by_test (is_below (owner_of p.rows c) (Of x))
-    (λ t. let may = heir-placed x c _ fs p s t in let w = total-placed row_places p (heir p.rows x c) c may.row may.is refl in rw t (omega (arith, w)))
+slim-handed : (x c : Obj) (noted : Option Owner) (purpose : Purpose) (a : FreeReply) (fs : List Frame) (p : Pool) → Sound (frame.Free (Tried x c noted purpose a)) fs p → Slim (1 + total row_places p.rows) (hand_on_step x c noted purpose p)
+slim-handed x c noted purpose a fs p s = by_test (is_below (owner_of p.rows c) (Of x))
+    (λ t. let may = heir-placed x c noted _ fs p s t in let w = total-placed row_places p (heir p.rows x c noted) c may.row may.is refl in rw t (omega (arith, w)))
     (λ t. rw t (omega arith))
 
+-- a row that goes wants no place
+fewer-places : (rs : List Row) (x : Obj) → total row_places (without rs x) ≤ total row_places rs
+fewer-places [] x = omega arith
+fewer-places (r ∷ rs) x = let ih = fewer-places rs x in by_test (same r.serial x) (λ t. rw t (omega arith)) (λ t. rw t (omega (arith, ih)))
+
 slim : (f : FreeFrame) (fs : List Frame) (p : Pool) → Sound (frame.Free f) fs p → Slim (work_places f + total row_places p.rows) (free_step f p)
-slim (Beginning x) fs p s = slim-begin x p
+slim (Unlinking o x) fs p s = each (newest_ref_of p.rows o x)
+  where
+    each : (r : Option Obj) → Slim (0 + total row_places p.rows) (unlink_step x r p)
+    each None = omega arith
+    each (Some r) = let l = fewer-places p.rows r in omega (arith, l)
+slim (Releasing x) fs p s = each (newest_ref p.rows x)
+  where
+    each : (r : Option Obj) → Slim (0 + total row_places p.rows) (release_step x r p)
+    each None = omega arith
+    each (Some r) = let l = fewer-places p.rows r in by_test (is_inside p.rows (Of r) (Of x)) (λ t. rw t (omega (arith, l))) (λ t. rw t (omega (arith, l)))
+slim (Giving x o) fs p s = let w = total-placed row_places p o x s.rests.row s.rests.is refl in omega (arith, w)
+slim (Beginning x) fs p s = each (newest_ref p.rows x)
+  where
+    each : (r : Option Obj) → Slim (0 + total row_places p.rows) (refs_step x r p)
+    each None = slim-begin x p
+    each (Some r) = let l = fewer-places p.rows r in by_test (is_inside p.rows (Of r) (Of x)) (λ t. rw t (omega (arith, l))) (λ t. rw t (omega (arith, l)))
 slim (Hooked x h) fs p s = omega arith
 slim (Judged x h v) fs p s =
     let row = running-row (row_of p.rows x) (claims x fs) (claim-here x InRun (claims x fs) (row_of p.rows x) (s.open_frees x)) in
@@ -275,7 +303,11 @@ slim (Leaving x h) fs p s =
 slim (Looping x purpose) fs p s = each purpose s (first_kid p.rows (Of x))
   where
     each : (purpose : Purpose) → Sound (frame.Free (Looping x purpose)) fs p → (o : Option Obj) → Slim (1 + total row_places p.rows) (loop_step x purpose o p)
-    each purpose s (Some c) = omega arith
+    each purpose s (Some c) = taken (target_at p.rows c)
+      where
+        taken : (target : Option Obj) → Slim (1 + total row_places p.rows) (child_step x c purpose target p)
+        taken None = omega arith
+        taken (Some target) = let l = fewer-places p.rows c in omega (arith, l)
     each (Removal h) s None =
         let row = dying-row (row_of p.rows x) (claims x fs) (claim-here x InLoop (claims x fs) (row_of p.rows x) (s.open_frees x)) in
         let w = total-without row_places p.rows x row.0 row.1 in
@@ -283,9 +315,9 @@ slim (Looping x purpose) fs p s = each purpose s (first_kid p.rows (Of x))
     each Emptying s None = omega arith
 slim (Trying x c noted purpose) fs p s = omega arith
 slim (Tried x c noted purpose Ok) fs p s = omega arith
-slim (Tried x c noted purpose Held) fs p s = slim-handed x c purpose Held fs p s
-slim (Tried x c noted purpose Running) fs p s = slim-handed x c purpose Running fs p s
-slim (Tried x c noted purpose (IsRefused v)) fs p s = slim-handed x c purpose (IsRefused v) fs p s
+slim (Tried x c noted purpose Held) fs p s = slim-handed x c noted purpose Held fs p s
+slim (Tried x c noted purpose Running) fs p s = slim-handed x c noted purpose Running fs p s
+slim (Tried x c noted purpose (IsRefused v)) fs p s = slim-handed x c noted purpose (IsRefused v) fs p s
 slim (Ending a) fs p s = omega arith
 
 wants-answered : (a : FreeReply) (fs : List FreeFrame) (q : Pool) → wanted (answered a q fs).1.works (answered a q fs).1.pool.rows ≤ length fs + total row_places q.rows

@@ -29,7 +29,7 @@ use Rattle.destructors.proofs.Settling.{still, asks-hooked}
 -- a new object
 pub added-rests : (o : Owner) (size : ℕ) (name : List ℕ) (p : Pool) → is_owner p.rows o ≡ true → Whole (call_view (Asking Quiet) [] [] p) → Whole (call_view (Asking Quiet) [] [] (add p Plain o size name))
 added-rests o size name p there w = record {
-  sound = new-sound (frame.Call (Asking Quiet)) (frame.Call (Asking Quiet)) o size name [] p w.sound there (λ x. refl) tt;
+  sound = new-sound (frame.Call (Asking Quiet)) (frame.Call (Asking Quiet)) Plain o size name [] p w.sound there (λ t e. cc) (λ x. refl) tt;
   seated = w.seated;
   light = omega arith;
 }
