@@ -72,7 +72,7 @@ rests (Judged x h v) fs p s =
 rests (Leaving x h) fs p s = live-row p x s.rests.0 s.rests.1 s.rests.2
 rests (Looping x (Removal h)) fs p s =
     let row = dying-row (row_of p.rows x) (claims x fs) (claim-here x InLoop (claims x fs) (row_of p.rows x) (s.open_frees x)) in
-    (rw (row.1, row.3) refl, quiet-row row.0 row.1 row.3 (target_at p.rows x) refl)
+    (rw (row.1, row.3) refl, quiet-row row.0 row.1 (ap is_dying_mark row.3) (target_at p.rows x) refl)
   where
     quiet-row : (r : Row) → row_of p.rows x ≡ Some r → is_dying_mark r.mark ≡ true → (o : Option Obj) → target_at p.rows x ≡ o → target_at p.rows x ≡ None
     quiet-row r e d None q = q

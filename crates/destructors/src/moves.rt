@@ -104,6 +104,8 @@ fn finish(x: Obj, purpose: Purpose, tree: &mut Tree) -> Motion
 {
     match purpose {
         Purpose::Removal { hook } => {
+            // All that is wanted of `len` is its contract: each number stands once.
+            let _rows = tree.len();
             tree.remove(x);
             let answer = FreeReply::Ok;
             Motion::Tells(

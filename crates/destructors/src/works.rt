@@ -65,6 +65,7 @@ fn resumed(work: FreeFrame, answer: FreeReply) -> FreeFrame
 /// is none, the free is over.
 fn end(answer: FreeReply, tree: &mut Tree) -> Progress
     ensures moved { answered answer (pool_of tree.old) tree.old.frees ≡ (result.told, frees_of result.innermost tree.new) }
+    ensures rows { pool_of tree.new ≡ pool_of tree.old }
     ensures kept { AreKept result.innermost tree.new }
     ensures spare { tree.new.spare ≡ tree.old.spare }
     ensures room { length tree.old.frees + tree.old.room ≤ length tree.new.frees + tree.new.room }

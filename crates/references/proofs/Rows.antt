@@ -208,7 +208,7 @@ pub refs-more : (ps : List Pair) (rs : List Row) (s t : Obj) (k : Kind) (o : Own
     → AreRefsOf (pair s t ∷ ps) (new_row s k o size name ∷ rs)
 refs-more ps rs s t k o size name e is y = by_test (same s y) (λ u. rw u (sym e)) (λ u. rw u (is y))
 
-pub target-changed : (f : Row → Row) (rs : List Row) (x y : Obj) → ((r : Row) → (f r).serial ≡ r.serial) → ((r : Row) → (f r).kind ≡ r.kind) → target_at (changed f rs x) y ≡ target_at rs y
+target-changed : (f : Row → Row) (rs : List Row) (x y : Obj) → ((r : Row) → (f r).serial ≡ r.serial) → ((r : Row) → (f r).kind ≡ r.kind) → target_at (changed f rs x) y ≡ target_at rs y
 target-changed f [] x y k kinds = refl
 target-changed f (s ∷ rs) x y k kinds =
     let ih = target-changed f rs x y k kinds in
@@ -237,6 +237,9 @@ newest-of-is-one rs p x (Some r) d e = let w = newest-of-refers rs p x r d (sym 
 
 pub refs-same : (ps : List Pair) (rs rs' : List Row) → SameRefs rs rs' → AreRefsOf ps rs → AreRefsOf ps rs'
 refs-same ps rs rs' h is y = is y ∙ sym (h y)
+
+pub same-changed : (f : Row → Row) (rs : List Row) (x : Obj) → ((r : Row) → (f r).serial ≡ r.serial) → ((r : Row) → (f r).kind ≡ r.kind) → SameRefs rs (changed f rs x)
+same-changed f rs x k kinds y = target-changed f rs x y k kinds
 
 pub same-placed : (p : Pool) (o : Owner) (x : Obj) (r : Row) → row_of p.rows x ≡ Some r → SameRefs p.rows (place p o x).rows
 same-placed p o x r e y = elim (same_or_not x y) [
