@@ -179,13 +179,7 @@ fn give(x: Obj, owner: Owner, tree: &mut Tree) -> Motion
 }
 
 /// A child that wasn't freed goes to its heir, where `x` still is its owner.
-fn hand_on(
-    x: Obj,
-    child: Obj,
-    noted: Option<Owner>,
-    purpose: Purpose,
-    tree: &mut Tree,
-) -> Motion
+fn hand_on(x: Obj, child: Obj, noted: Option<Owner>, purpose: Purpose, tree: &mut Tree) -> Motion
     requires { MayHandOn (pool_of tree.old) x child noted }
     ensures moved { move_of result (pool_of tree.new) ≡ hand_on_step x child noted purpose (pool_of tree.old) }
     ensures spare { tree.old.spare ≤ tree.new.spare }
@@ -271,7 +265,13 @@ fn outlook_of_loop(x: Obj, purpose: Purpose, tree: &Tree, refs: &Refs) -> Outloo
 }
 
 /// What can be said of the handing on of a child.
-fn outlook_of_heir(x: Obj, child: Obj, noted: Option<Owner>, purpose: Purpose, tree: &Tree) -> Outlook
+fn outlook_of_heir(
+    x: Obj,
+    child: Obj,
+    noted: Option<Owner>,
+    purpose: Purpose,
+    tree: &Tree,
+) -> Outlook
     ensures { result ≡ outlook_of (hand_on_step x child noted purpose (pool_of tree.now)) }
 {
     if tree.owns(Owner::Of(x), child) {

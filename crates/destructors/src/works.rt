@@ -117,11 +117,7 @@ pub fn speaks(work: FreeFrame, tree: &Tree, refs: &Refs) -> bool
 }
 
 /// The moves that tell nothing, up to the next one that does. It takes no memory.
-pub fn settle(
-    innermost: Option<FreeFrame>,
-    tree: &mut Tree,
-    refs: &mut Refs,
-) -> Option<FreeFrame>
+pub fn settle(innermost: Option<FreeFrame>, tree: &mut Tree, refs: &mut Refs) -> Option<FreeFrame>
     requires ready { Ready innermost tree.old }
     requires refs { AreRefsOf refs.old.pairs tree.old.rows }
     ensures ready { Ready result tree.new }

@@ -1,5 +1,5 @@
 -- The references are those of the rows: what each change leaves, and what is looked up in them.
-use Rattle.std.proofs.Common.{◌≡◌, ℕ, suc, zero, ◌+◌, ◌<◌, List, [], ◌∷◌, length, Option, Some, None, Bool, true, false, refl, sym, ◌∙◌, ap, subst, inl, inr, arith}
+use Rattle.std.proofs.Common.{◌≡◌, ℕ, suc, zero, ◌+◌, ◌<◌, ◌≤◌, List, [], ◌∷◌, length, Option, Some, None, Bool, true, false, refl, sym, ◌∙◌, ap, subst, inl, inr, arith}
 use Rattle.std.specs.Prelude.{nat_lt, ◌&&◌, if◌then◌else◌}
 use Rattle.std.specs.List.{find, filter}
 use Rattle.std.specs.Option.{option_map}
@@ -91,6 +91,21 @@ counts rs ps x d k is = sym (length-filter (λ p. same p.target x) ps) ∙ by-ro
   reference = λ r ss qs t e d there ih. many-without qs r.serial t x d there ∙ rw (e, ih) refl;
 }) rs ps d k is
 
+length-without : (ps : List Pair) (s t : Obj) → Descends ps → target_of ps s ≡ Some t → length ps ≡ length (without ps s) + 1
+length-without [] s t d e = cc
+length-without (p ∷ ps) s t d e = by_test (same p.reference s)
+    (λ u. let above : IsAbove s ps = subst (λ (z : Obj). IsAbove z ps) (same-true p.reference s u) d.0 in
+    rw (u, above-without ps s above) (omega arith))
+    (λ u. let e' : target_of ps s ≡ Some t = rw u at e in let ih = length-without ps s t d.1 e' in rw u (omega (arith, ih)))
+
+-- there are no more of them than rows
+pub no-more : (rs : List Row) (ps : List Pair) → Descends ps → Distinct rs → AreRefsOf ps rs → length ps ≤ length rs
+no-more rs ps d k is = by-rows (λ qs ss. length qs ≤ length ss) (record {
+  none = omega arith;
+  object = λ r ss qs e ih. omega (arith, ih);
+  reference = λ r ss qs t e d there ih. (let l = length-without qs r.serial t d there in omega (arith, l, ih));
+}) rs ps d k is
+
 -- ---- the newest of those that pass
 
 -- what is asked of a reference and its target, where there is a target
@@ -127,14 +142,14 @@ first-without q (p ∷ ps) s t d e = by_test (same p.reference s)
     let above : IsAbove s ps = subst (λ (z : Obj). IsAbove z ps) one d.0 in
     let asked : q p.reference p.target ≡ q s t = ap (λ (z : Obj). q z p.target) one ∙ ap (q s) is in
     rw (u, above-without ps s above) (by_test (q s t)
-        (λ v. rw (v, asked ∙ v) (ap Some one ∙ sym (newer-above s (first_such q ps) (λ y. first-below q ps s y above))))
-        (λ v. rw (v, asked ∙ v) refl)))
+    (λ v. rw (v, asked ∙ v) (ap Some one ∙ sym (newer-above s (first_such q ps) (λ y. first-below q ps s y above))))
+    (λ v. rw (v, asked ∙ v) refl)))
     (λ u. let e' : target_of ps s ≡ Some t = rw u at e in
     let less : nat_lt s.0 p.reference.0 ≡ true = lt-ltb s.0 p.reference.0 (target-below ps p.reference s t d.0 e') in
     let ih = first-without q ps s t d.1 e' in
     by_test (q p.reference p.target)
-        (λ v. by_test (q s t) (λ w. rw (u, v, w, less) refl) (λ w. rw (u, v, w) refl))
-        (λ v. rw (u, v) ih))
+    (λ v. by_test (q s t) (λ w. rw (u, v, w, less) refl) (λ w. rw (u, v, w) refl))
+    (λ v. rw (u, v) ih))
 
 -- what is asked of each row is what is asked of the reference that it is
 abbrev pub Agree : (Row → Bool) → (Obj → Obj → Bool) → List Row → Type 0

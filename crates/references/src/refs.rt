@@ -147,10 +147,8 @@ impl Refs {
         ensures first { result ≡ first_such (owned_by tree.now.rows owner target) self.now.pairs }
         ensures sound { ArePairs self.now.pairs }
     {
-        let found = self
-            .pairs
-            .iter()
-            .find(|p| p.target.0 == target.0 && tree.owns(owner, p.reference))?;
+        let found = self.pairs.iter().find(|p| p.target.0 == target.0
+            && tree.owns(owner, p.reference))?;
         Some(found.reference)
     }
 

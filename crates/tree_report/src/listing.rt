@@ -100,7 +100,13 @@ fn row_of_object(
     }))
 }
 
-fn row_at(alloc: Global, tree: &Tree, refs: &Refs, owner: Owner, depth: u32) -> Result<Option<ReportRow>, Memory>
+fn row_at(
+    alloc: Global,
+    tree: &Tree,
+    refs: &Refs,
+    owner: Owner,
+    depth: u32,
+) -> Result<Option<ReportRow>, Memory>
     requires { AreRefsOf refs.now.pairs tree.now.rows }
     ensures { IfOk result (λ r. option_to_list r ≡ shown_at tree.now.rows depth owner) }
 {

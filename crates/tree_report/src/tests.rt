@@ -64,7 +64,13 @@ impl World {
     }
 
     // Adds a reference.
-    fn refer(&mut self, rt: &impl Abort, alloc: Global, target: Obj, owner: Owner) -> Result<Obj, Fail> {
+    fn refer(
+        &mut self,
+        rt: &impl Abort,
+        alloc: Global,
+        target: Obj,
+        owner: Owner,
+    ) -> Result<Obj, Fail> {
         let row = NewRow {
             kind: Kind::Reference { target },
             name: Name::make(b"reference".to_vec(alloc)?).expect(rt, "a name"),
@@ -75,6 +81,8 @@ impl World {
         assert!(rt; self.tree.len() < 1_048_576);
         assert!(rt; self.tree.next_number() < u64::MAX);
         assert!(rt; self.tree.is_owner(owner));
+        // All that is wanted of the count is its contract: the references stand in order.
+        let _held = self.refs.count_refs(target);
         let reference = self.tree.add(row, owner);
         self.refs.add_ref(reference, target);
         Ok(reference)
@@ -272,7 +280,8 @@ fn a_sink_that_fails_has_a_front_of_the_report(rt: HostRuntime) -> Result<(), Fa
     Ok(())
 }
 
-const REFERENCES: &[u8] = b"row 0 1 plain 10 1 0 top\nrow 1 7 reference 0 0 2 reference\nrow 1 4 plain 40000 0 0 right\nrow 1 2 plain 200 2 0 left\nrow 2 3 plain 3000 0 0 leaf\n";
+const REFERENCES: &[u8] =
+    b"row 0 1 plain 10 1 0 top\nrow 1 7 reference 0 0 2 reference\nrow 1 4 plain 40000 0 0 right\nrow 1 2 plain 200 2 0 left\nrow 2 3 plain 3000 0 0 leaf\n";
 
 // The object that two references refer to shows how many they are, and a reference shows what it refers to.
 #[test]

@@ -30,7 +30,13 @@ fn report_text(alloc: Global, tree: &Tree, refs: &Refs, from: Owner) -> Result<V
 ///
 /// `Failed` comes only where the sink's count of faults rose in this call. Then, and after want of memory, a
 /// front of the lines has been put.
-pub fn report<K: Sink>(alloc: Global, tree: &Tree, refs: &Refs, from: Owner, out: &mut K) -> Result<Done, Memory>
+pub fn report<K: Sink>(
+    alloc: Global,
+    tree: &Tree,
+    refs: &Refs,
+    from: Owner,
+    out: &mut K,
+) -> Result<Done, Memory>
     requires { AreRefsOf refs.now.pairs tree.now.rows }
     ensures bytes { Puts (K.held out.old) (K.held out.new) result (rows_text (report_of tree.now.rows from)) }
     ensures cause { Counts (K.faults out.old) (K.faults out.new) (result ≡ Ok Done.Failed) }

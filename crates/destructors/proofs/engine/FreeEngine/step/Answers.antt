@@ -8,8 +8,8 @@ use Rattle.destructors.proofs.engine.FreeEngine.step.Goals as goal
 pub settle-self-inside-requires : goal.settle-self-inside-requires
 settle-self-inside-requires c = record {
   ready =
-    (tells c.in-Some.work c.args.self.now c.args.tree.now c.advance-progress.result.told c.in-Some-told.told c.advance-progress.result.innermost c.advance-progress.new.tree
-    (sym c.self.view_is ∙ c.in-Some.is) c.requires.at_work c.requires.room c.in-Some-told.is c.advance-progress.ensures.moved c.advance-progress.ensures.kept c.advance-progress.ensures.room).ready;
+      (tells c.in-Some.work c.args.self.now c.args.tree.now c.advance-progress.result.told c.in-Some-told.told c.advance-progress.result.innermost c.advance-progress.new.tree
+      (sym c.self.view_is ∙ c.in-Some.is) c.requires.at_work c.requires.room c.in-Some-told.is c.advance-progress.ensures.moved c.advance-progress.ensures.kept c.advance-progress.ensures.room).ready;
   refs = c.advance-progress.ensures.refs;
 }
 
