@@ -3,6 +3,7 @@
 #   bench/freeing.sh chain N     each object below the one before, all freed by one call
 #   bench/freeing.sh row N       the objects below one owner, all freed by one call
 #   bench/freeing.sh report N    ten objects below each, then a report of all and the sum of their sizes
+#   bench/freeing.sh nest N      objects with destructors, each of which frees the next object
 # It prints the last two lines of the transcript, how many lines of the schedule were replayed in a second of
 # processor time, and the greatest resident memory where /usr/bin/time is there to tell it.
 # TVHOST names a program that is built already. Without it the program is built from the sources that are here.
@@ -24,8 +25,15 @@ calls() {
             echo "call report 0"
             echo "call total 0"
             ;;
+        nest)
+            seq "$2" | sed 's/.*/call new 0 16 hooked/'
+            seq "$2" | sed 's/.*/call hook & 7/'
+            echo "call free 1"
+            seq 2 "$2" | sed 's/.*/act free &/'
+            seq "$2" | sed 's/.*/ret 0/'
+            ;;
         *)
-            echo "usage: bench/freeing.sh chain|row|report [N]" >&2
+            echo "usage: bench/freeing.sh chain|row|report|nest [N]" >&2
             return 1
             ;;
     esac

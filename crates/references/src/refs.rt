@@ -92,7 +92,7 @@ impl Refs {
     fn find(&self, reference: Obj) -> Option<usize>
         ensures { MatchOption result (StandsNowhere self.now.pairs reference) (λ i. StandsAt self.now.pairs reference i) }
     {
-        // The list descends, which is known where it is used.
+        // Nothing is done with the list here: where it is looked at, it is known to descend.
         let _ = &self.pairs;
         self.index_of(reference)
     }
