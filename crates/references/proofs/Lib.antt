@@ -1,2 +1,5 @@
 pub mod Finding
 pub mod Order
+pub mod Rows
+pub mod Adding
+pub mod SameRefs

@@ -1,5 +1,8 @@
--- A measure that every step of the machine lowers.
-use Rattle.std.proofs.Common.{inl, inr, ◌⊎◌, ◌≡◌, ◌≢◌, ℕ, suc, zero, ◌+◌, ◌*◌, ◌≤◌, ◌<◌, List, [], ◌∷◌, length, Option, Some, None, true, false, nat_eq, if◌then◌else◌, refl, sym, ◌∙◌, ap, subst, arith}
+-- Each step lowers the measure.
+use Rattle.tree_specs.proofs.Referring.{newest-of-refers}
+use Rattle.tree_specs.specs.Story.{warns, reparented}
+use Rattle.tree_specs.specs.Targets.{newest_ref}
+use Rattle.std.proofs.Common.{◌≡◌, ℕ, suc, zero, ◌*◌, ◌<◌, List, [], ◌∷◌, length, Option, Some, None, true, false, refl, ap, arith, Bool}
 use Rattle.step_machine.specs.Machine.{Move}
 use Rattle.step_machine.specs.Machine.{Move as Do}
 use Rattle.step_machine.proofs.Ends.{Leads}
@@ -7,8 +10,6 @@ use Rattle.tree_specs.specs.declared.object.Obj.{Obj}
 use Rattle.tree_specs.specs.declared.object.Owner.{Owner}
 use Rattle.tree_specs.specs.declared.object.Owner.TheVariants.{Of}
 use Rattle.tree_specs.specs.declared.row.Row.{Row}
-use Rattle.tree_specs.specs.declared.row.Mark.{Mark}
-use Rattle.tree_specs.specs.declared.row.Mark.TheVariants.{Quiet, Asked, Busy, Doomed, Dying}
 use Rattle.tree_specs.specs.declared.call.Call.{Call}
 use Rattle.tree_specs.specs.declared.call.Call.TheVariants as call
 use Rattle.tree_specs.specs.declared.question.Ask.{Ask}
@@ -16,277 +17,31 @@ use Rattle.tree_specs.specs.declared.reply.Reply.{Reply}
 use Rattle.tree_specs.specs.declared.reply.Reply.TheVariants as reply
 use Rattle.tree_specs.specs.declared.frame.Frame.{Frame}
 use Rattle.tree_specs.specs.declared.frame.Frame.TheVariants as frame
-use Rattle.tree_specs.specs.declared.frame.CallFrame.TheVariants.{Asking, Doing, Awaiting, Telling, Returning}
-use Rattle.tree_specs.specs.declared.frame.FreeFrame.TheVariants.{Beginning, Hooked, Judged, Leaving, Looping, Trying, Tried, Ending}
-use Rattle.tree_specs.specs.declared.frame.Purpose.{Purpose}
-use Rattle.tree_specs.specs.declared.frame.Purpose.TheVariants.{Removal, Emptying}
+use Rattle.tree_specs.specs.declared.frame.CallFrame.TheVariants.{Asking, Doing, Awaiting, Warning, Telling, Returning}
+use Rattle.tree_specs.specs.declared.frame.FreeFrame.TheVariants.{Unlinking, Releasing, Giving, Beginning, Hooked, Judged, Leaving, Looping, Trying, Tried, Ending}
 use Rattle.tree_specs.specs.declared.frame.Answer.{Answer}
-use Rattle.tree_specs.specs.declared.frame.Answer.TheVariants.{Freed, Returned}
-use Rattle.tree_specs.specs.declared.free_step.FreeReply.{FreeReply}
-use Rattle.tree_specs.specs.declared.free_step.FreeReply.TheVariants.{Ok, Running, Refused}
-use Rattle.tree_specs.specs.Objects.{same, same_owner}
-use Rattle.tree_specs.specs.Pool.{Pool, row_of, is_below, owner_of, first_kid, without, changed, remove, left_row, place, named_row, set_mark, marked_row, hooked_row}
-use Rattle.tree_specs.specs.Heirs.{heir}
+use Rattle.tree_specs.specs.Pool.{Pool, row_of, changed, place, named_row, hooked_row}
 use Rattle.tree_specs.specs.Items.{Item}
 use Rattle.tree_specs.specs.Calls.{Check, refusals}
-use Rattle.tree_specs.specs.Table.{table, step, resume, lifted, begin_quiet, begin_step, judge_step, last_step, loop_step, call_step, effect_step, replied}
-use Rattle.tree_specs.specs.Sound.{InRun, InLoop, claims, IsWaiting, AllWait, IsLive, Stands, Tries, IsOver, Sound}
-use Rattle.tree_specs.proofs.Numbered.{by_test, same-equal, same_owner-false}
-use Rattle.tree_specs.proofs.Heirs.{heir-other}
-use Rattle.tree_specs.proofs.Checks.{MayBePlaced, passes-placing, passes-reparent, passes-object, passes-hooking, Heard, Does, Returns, heard-leads}
+use Rattle.tree_specs.specs.Table.{table, step, call_step, effect_step, replied, freeing_by, placed_step}
+use Rattle.tree_specs.specs.Sound.{Sound}
+use Rattle.tree_specs.specs.Sound.{MayBePlaced}
+use Rattle.tree_specs.proofs.Checks.{passes-placing, passes-reparent, passes-object, passes-hooking, MayGo, Itself, ItsRef}
 use Rattle.tree_specs.specs.Inside.{total}
-use Rattle.tree_specs.specs.Measure.{count, mark_weight, weight, unit, waiting_cost, top_cost, cost, pending}
-use Rattle.tree_specs.proofs.Rows.{total-without, total-placed, total-changed, total-length, count-length}
-use Rattle.tree_specs.proofs.Waiters.{Waiter, ForFree, ForRun, ForChild, waiter}
-use Rattle.tree_specs.proofs.Changes.{dying-row, running-row, claim-here, owned-row, heir-placed}
-use Rattle.tree_specs.proofs.Keeps.{sound-kept}
+use Rattle.tree_specs.specs.Measure.{weight, unit, cost}
+use Rattle.tree_specs.proofs.Rows.{total-placed, count-length}
+use Rattle.tree_specs.proofs.Keeps.{sound-kept, ref-placed}
 use Rattle.step_machine.proofs.Ends.{Falls}
-
--- R bounds the rows that there can be
-abbrev pub Room : ℕ → Frame → Pool → ℕ → Type 0
-Room R f p k = length p.rows + 2 * k + pending f ≤ R
-
-abbrev pub Lowers : ℕ → ℕ → Move Frame Answer Pool Item → List Frame → ℕ → Type 0
-Lowers R b m fs k = Leads table (λ g gs q j. Room R g q j × (cost R g gs q j < b)) m fs k
-
--- a work that ends pays for what the work below it begins
-done-lower : (R : ℕ) (a : Answer) (f : Frame) (fs : List Frame) (p : Pool) (k : ℕ) → AllWait fs → length p.rows + 2 * k ≤ R
-    → ((g : Frame) (gs : List Frame) → fs ≡ g ∷ gs → IsWaiting g gs → top_cost R (resume g a) gs p.rows < waiting_cost g + top_cost R f fs p.rows)
-    → Lowers R (cost R f fs p k) (Do.Done a p) fs k
-done-lower R a f [] p k w room pays = tt
-done-lower R a f (g ∷ gs) p k w room pays =
-    let l = pays g gs refl w.0 in
-    (calm g (waiter g gs w.0), omega (arith, l))
-  where
-    calm : (g : Frame) → Waiter g → Room R (resume g a) p k
-    calm _ (ForFree q x) = omega arith
-    calm _ (ForRun x h) = omega arith
-    calm _ (ForChild x c purpose) = omega arith
-
--- what a work that is over pays for
-over-pays : (R : ℕ) (a : FreeReply) → IsOver a → (rows : List Row) → length rows ≤ R → (g : Frame) (gs : List Frame) → Waiter g → top_cost R (resume g (Freed a)) gs rows < waiting_cost g + (4 * R + 9)
-over-pays R a o rows n _ gs (ForFree q x) = omega arith
-over-pays R a o rows n _ gs (ForRun x h) = omega arith
-over-pays R Ok o rows n _ gs (ForChild x c purpose) = let m = count-length rows (Of x) in omega (arith, m, n)
-over-pays R (Refused v) o rows n _ gs (ForChild x c purpose) = let m = count-length rows (Of x) in omega (arith, m, n)
-over-pays R Running o rows n _ gs (ForChild x c purpose) = absurd o
-
-ending-lower : (R : ℕ) (a : FreeReply) (fs : List Frame) (p : Pool) (k : ℕ) → Sound (frame.Free (Ending a)) fs p → Room R (frame.Free (Ending a)) p k
-    → Lowers R (cost R (frame.Free (Ending a)) fs p k) (step (frame.Free (Ending a)) p) fs k
-ending-lower R a fs p k s room = done-lower R (Freed a) (frame.Free (Ending a)) fs p k s.waiting (omega arith) (λ g gs e w. over-pays R a s.rests p.rows (omega arith) g gs (waiter g gs w))
-
--- a routine that has returned pays as one that is over
-returning-lower : (R v : ℕ) (fs : List Frame) (p : Pool) (k : ℕ) → Sound (frame.Call (Returning v)) fs p → Room R (frame.Call (Returning v)) p k
-    → Lowers R (cost R (frame.Call (Returning v)) fs p k) (step (frame.Call (Returning v)) p) fs k
-returning-lower R v fs p k s room = done-lower R (Returned v) (frame.Call (Returning v)) fs p k s.waiting (omega arith)
-    (λ g gs e w. let l = over-pays R Ok tt p.rows (omega arith) g gs (waiter g gs w) in omega (arith, l, as-over g gs (waiter g gs w)))
-  where
-    as-over : (g : Frame) (gs : List Frame) → Waiter g → top_cost R (resume g (Returned v)) gs p.rows ≡ top_cost R (resume g (Freed Ok)) gs p.rows
-    as-over _ gs (ForFree q x) = refl
-    as-over _ gs (ForRun x h) = refl
-    as-over _ gs (ForChild x c purpose) = refl
-
-asking-lower : (R : ℕ) (q : Ask) (fs : List Frame) (p : Pool) (k : ℕ) → Room R (frame.Call (Asking q)) p k
-    → Lowers R (cost R (frame.Call (Asking q)) fs p k) (step (frame.Call (Asking q)) p) fs k
-asking-lower R q fs p zero room = tt
-asking-lower R q fs p (suc k) room = λ i g e. leads g (heard-leads q i g e)
-  where
-    leads : (g : Frame) → Heard q g → Room R g p k × (cost R g fs p k < cost R (frame.Call (Asking q)) fs p (suc k))
-    leads _ (Does c) = (omega arith, omega arith)
-    leads _ (Returns v of) = (omega arith, omega arith)
-
-pub length-changed : (g : Row → Row) (rs : List Row) (x : Obj) → length (changed g rs x) ≡ length rs
-length-changed g [] x = refl
-length-changed g (s ∷ rs) x = let ih = length-changed g rs x in by_test (same s.serial x) (λ t. rw t refl) (λ t. rw t (ap suc ih))
-
-pub length-without : (rs : List Row) (x : Obj) (r : Row) → row_of rs x ≡ Some r → length rs ≡ suc (length (without rs x))
-length-without rs x r e = omega (arith, total-without (λ q. 1) rs x r e, total-length rs, total-length (without rs x))
-
--- a row is changed to one as heavy
-pub total-kept : (w : Row → ℕ) (g : Row → Row) (rs : List Row) (x : Obj) (r : Row) → row_of rs x ≡ Some r → w (g r) ≡ w r → total w (changed g rs x) ≡ total w rs
-total-kept w g rs x r e same_weight = omega (arith, total-changed w g rs x r e, same_weight)
-
-live-weight : (m : Mark) → IsLive m → mark_weight m ≡ 2
-live-weight Quiet l = refl
-live-weight Asked l = refl
-live-weight Busy l = refl
-live-weight Doomed l = refl
-live-weight (Dying former) l = absurd l
-
--- it leaves its owner
-leaving-lower : (R : ℕ) (x : Obj) (h : ℕ) (fs : List Frame) (p : Pool) (k : ℕ) → Sound (frame.Free (Leaving x h)) fs p → Room R (frame.Free (Leaving x h)) p k
-    → Lowers R (cost R (frame.Free (Leaving x h)) fs p k) (step (frame.Free (Leaving x h)) p) fs k
-leaving-lower R x h fs p k s room = by-row s.rests.0 s.rests.1 s.rests.2
-  where
-    by-row : (r : Row) → row_of p.rows x ≡ Some r → IsLive r.mark → Lowers R (cost R (frame.Free (Leaving x h)) fs p k) (step (frame.Free (Leaving x h)) p) fs k
-    by-row r e l =
-        let w : total weight p.rows ≡ total weight (changed left_row p.rows x) + 1 = omega (arith, total-changed weight left_row p.rows x r e, live-weight r.mark l) in
-        let n = length-changed left_row p.rows x in
-        let c = count-length (changed left_row p.rows x) (Of x) in
-        let u = ap (λ (z : ℕ). unit R * z) w in
-        (omega (arith, n), omega (arith, u, n, c))
-
-looping-lower : (R : ℕ) (x : Obj) (purpose : Purpose) (fs : List Frame) (p : Pool) (k : ℕ) → Sound (frame.Free (Looping x purpose)) fs p → Room R (frame.Free (Looping x purpose)) p k
-    → Lowers R (cost R (frame.Free (Looping x purpose)) fs p k) (step (frame.Free (Looping x purpose)) p) fs k
-looping-lower R x purpose fs p k s most = each (first_kid p.rows (Of x)) refl
-  where
-    gone : (h : ℕ) (r : Row) → row_of p.rows x ≡ Some r → (former : Owner) → r.mark ≡ Dying former
-        → Room R (frame.Free (Ending Ok)) (remove p x) k × (cost R (frame.Free (Ending Ok)) fs (remove p x) k < cost R (frame.Free (Looping x (Removal h))) fs p k)
-    gone h r e former m =
-        let w : total weight p.rows ≡ total weight (without p.rows x) + 1 = omega (arith, total-without weight p.rows x r e, ap mark_weight m) in
-        let u = ap (λ (z : ℕ). unit R * z) w in
-        let n = length-without p.rows x r e in
-        (omega (arith, n), omega (arith, u))
-
-    -- a call is what waits for a loop that only empties
-    called : (g : Frame) (gs : List Frame) → Stands Emptying (g ∷ gs) → top_cost R (resume g (Freed Ok)) gs p.rows < waiting_cost g + (4 * count p.rows (Of x) + 7)
-    called (frame.Call (Awaiting q y)) gs c = omega arith
-    called (frame.Call (Asking q)) gs c = absurd c
-    called (frame.Call (Doing q d)) gs c = absurd c
-    called (frame.Call (Telling q r)) gs c = absurd c
-    called (frame.Call (Returning v)) gs c = absurd c
-    called (frame.Free f) gs c = absurd c
-
-    last : (purpose : Purpose) → Sound (frame.Free (Looping x purpose)) fs p → Lowers R (cost R (frame.Free (Looping x purpose)) fs p k) (lifted (last_step x purpose p)) fs k
-    last (Removal h) s =
-        let row = dying-row (row_of p.rows x) (claims x fs) (claim-here x InLoop (claims x fs) (row_of p.rows x) (s.open_frees x)) in
-        gone h row.0 row.1 row.2 row.3
-    last Emptying s = done-lower R (Freed Ok) (frame.Free (Looping x Emptying)) fs p k s.waiting (omega arith)
-        (λ g gs e w. called g gs (subst (λ (l : List Frame). Stands Emptying l) e s.rests))
-
-    each : (o : Option Obj) → first_kid p.rows (Of x) ≡ o → Lowers R (cost R (frame.Free (Looping x purpose)) fs p k) (lifted (loop_step x purpose (first_kid p.rows (Of x)) p)) fs k
-    each (Some c) e = rw e (omega arith, omega arith)
-    each None e = rw e (last purpose s)
-
-pub length-placed : (p : Pool) (o : Owner) (x : Obj) (r : Row) → row_of p.rows x ≡ Some r → length (place p o x).rows ≡ length p.rows
-length-placed p o x r e = omega (arith, total-placed (λ q. 1) p o x r e refl, total-length p.rows, total-length (place p o x).rows)
-
--- a child that goes to its heir is one child fewer
-handed-count : (x c : Obj) (f : Frame) (fs : List Frame) (p : Pool) → Sound f fs p → is_below (owner_of p.rows c) (Of x) ≡ true
-    → count p.rows (Of x) ≡ count (place p (heir p.rows x c) c).rows (Of x) + 1
-handed-count x c f fs p s below =
-    let may = heir-placed x c f fs p s below in
-    let r : Row = may.row in
-    let was : is_below r.owner (Of x) ≡ true = rw may.is at below in
-    let w = total-without (λ q. if is_below q.owner (Of x) then 1 else 0) p.rows c r may.is in
-    let other : same_owner (heir p.rows x c) (Of x) ≡ false = same_owner-false _ _ (heir-other p.rows p.next x c (s.valid x)) in
-    rw (may.is, other) (let w' = rw was at w in omega (arith, w'))
-
-tried-lower : (R : ℕ) (x c : Obj) (purpose : Purpose) (a : FreeReply) (fs : List Frame) (p : Pool) (k : ℕ) → Sound (frame.Free (Tried x c purpose a)) fs p → Room R (frame.Free (Tried x c purpose a)) p k
-    → Lowers R (cost R (frame.Free (Tried x c purpose a)) fs p k) (step (frame.Free (Tried x c purpose a)) p) fs k
-tried-lower R x c purpose a fs p k s room = each a s
-  where
-    moved : (b : FreeReply) → Sound (frame.Free (Tried x c purpose b)) fs p → is_below (owner_of p.rows c) (Of x) ≡ true
-        → Room R (frame.Free (Looping x purpose)) (place p (heir p.rows x c) c) k × (cost R (frame.Free (Looping x purpose)) fs (place p (heir p.rows x c) c) k < cost R (frame.Free (Tried x c purpose b)) fs p k)
-    moved b s below =
-        let may = heir-placed x c _ fs p s below in
-        let n = length-placed p (heir p.rows x c) c may.row may.is in
-        let u = ap (λ (z : ℕ). unit R * z) (total-placed weight p (heir p.rows x c) c may.row may.is refl) in
-        let m = handed-count x c _ fs p s below in
-        (omega (arith, n), cheaper b u m)
-      where
-        cheaper : (b : FreeReply) → unit R * total weight (place p (heir p.rows x c) c).rows ≡ unit R * total weight p.rows
-            → count p.rows (Of x) ≡ count (place p (heir p.rows x c) c).rows (Of x) + 1
-            → cost R (frame.Free (Looping x purpose)) fs (place p (heir p.rows x c) c) k < cost R (frame.Free (Tried x c purpose b)) fs p k
-        cheaper Ok u m = omega (arith, u, m)
-        cheaper Running u m = omega (arith, u, m)
-        cheaper (Refused v) u m = omega (arith, u, m)
-
-    each : (b : FreeReply) → Sound (frame.Free (Tried x c purpose b)) fs p → Lowers R (cost R (frame.Free (Tried x c purpose b)) fs p k) (step (frame.Free (Tried x c purpose b)) p) fs k
-    each Ok s = (omega arith, omega arith)
-    each Running s = by_test (is_below (owner_of p.rows c) (Of x))
-        (λ t. rw t (moved Running s t))
-        (λ t. let there : same_owner (Of x) (Of x) ≡ false = rw s.rests.0 at t in let self = same-equal x x refl in let bad : true ≡ false = sym self ∙ there in cc)
-    each (Refused v) s = by_test (is_below (owner_of p.rows c) (Of x))
-        (λ t. rw t (moved (Refused v) s t))
-        (λ t. rw t (omega arith, omega arith))
-
--- a freeing that ends at once is no loop's child, or is said to run
-at_once-lower : (R : ℕ) (a : FreeReply) (x : Obj) (fs : List Frame) (p p' : Pool) (k : ℕ) → (a ≡ Running) ⊎ ((o : Owner) → owner_of p.rows x ≢ Some o) → Tries x fs p → AllWait fs
-    → total weight p'.rows ≡ total weight p.rows → length p'.rows ≡ length p.rows → ((y : Obj) → count p'.rows (Of y) ≡ count p.rows (Of y)) → Room R (frame.Free (Beginning x)) p k
-    → Lowers R (cost R (frame.Free (Beginning x)) fs p k) (Do.Done (Freed a) p') fs k
-at_once-lower R a x [] p p' k h t w e n m room = tt
-at_once-lower R a x (g ∷ gs) p p' k h t w e n m room = below g (waiter g gs w.0) t
-  where
-    u : unit R * total weight p'.rows ≡ unit R * total weight p.rows
-    u = ap (λ (z : ℕ). unit R * z) e
-
-    runs : (y c : Obj) (purpose : Purpose) (a : FreeReply) → a ≡ Running
-        → Room R (frame.Free (Tried y c purpose a)) p' k × (cost R (frame.Free (Tried y c purpose a)) gs p' k < cost R (frame.Free (Beginning x)) (frame.Free (Trying y c purpose) ∷ gs) p k)
-    runs y c purpose Running is = (omega (arith, n), omega (arith, u, m y))
-    runs y c purpose Ok is = cc
-    runs y c purpose (Refused v) is = cc
-
-    below : (g : Frame) → Waiter g → Tries x (g ∷ gs) p → Lowers R (cost R (frame.Free (Beginning x)) (g ∷ gs) p k) (Do.Done (Freed a) p') (g ∷ gs) k
-    below _ (ForFree q y) t = (omega (arith, n), omega (arith, u))
-    below _ (ForRun y f) t = cc
-    below _ (ForChild y c purpose) t = elim h [
-      | inl is ↦ runs y c purpose a is
-      | inr none ↦ absurd (none (Of y) t.1)
-    ]
-
-beginning-lower : (R : ℕ) (x : Obj) (fs : List Frame) (p : Pool) (k : ℕ) → Sound (frame.Free (Beginning x)) fs p → Room R (frame.Free (Beginning x)) p k
-    → Lowers R (cost R (frame.Free (Beginning x)) fs p k) (step (frame.Free (Beginning x)) p) fs k
-beginning-lower R x fs p k s room = each (row_of p.rows x) refl
-  where
-    dead : (r : Row) (former : Owner) → r.mark ≡ Dying former → row_of p.rows x ≡ Some r → (o : Owner) → owner_of p.rows x ≢ Some o
-    dead r former m e o q =
-        let w = owned-row p x o s.valid q in
-        let d : Some w.0 ≡ Some r = sym w.1 ∙ e in
-        let d' : w.0 ≡ r = cc in
-        let l : IsLive r.mark = subst (λ (z : Row). IsLive z.mark) d' w.2 in
-        let bad : IsLive (Dying former) = rw m at l in bad
-
-    over : ((o : Owner) → owner_of p.rows x ≢ Some o) → Lowers R (cost R (frame.Free (Beginning x)) fs p k) (Do.Done (Freed Ok) p) fs k
-    over none = at_once-lower R Ok x fs p p k (inr none) s.rests s.waiting refl refl (λ y. refl) room
-
-    runs : Lowers R (cost R (frame.Free (Beginning x)) fs p k) (Do.Done (Freed Running) p) fs k
-    runs = at_once-lower R Running x fs p p k (inl refl) s.rests s.waiting refl refl (λ y. refl) room
-
-    dooms : (r : Row) → row_of p.rows x ≡ Some r → r.mark ≡ Busy → Lowers R (cost R (frame.Free (Beginning x)) fs p k) (Do.Done (Freed Running) (set_mark p x Doomed)) fs k
-    dooms r e m = at_once-lower R Running x fs p (set_mark p x Doomed) k (inl refl) s.rests s.waiting
-        (total-kept weight (marked_row Doomed) p.rows x r e (sym (ap mark_weight m))) (length-changed (marked_row Doomed) p.rows x)
-        (λ y. total-kept (λ q. if is_below q.owner (Of y) then 1 else 0) (marked_row Doomed) p.rows x r e refl) room
-
-    quiet : (r : Row) → row_of p.rows x ≡ Some r → r.mark ≡ Quiet → Lowers R (cost R (frame.Free (Beginning x)) fs p k) (lifted (begin_quiet x r.hook p)) fs k
-    quiet r e m = by_test (nat_eq r.hook 0)
-        (λ t. rw t (omega arith, omega arith))
-        (λ t. let u = ap (λ (z : ℕ). unit R * z) (total-kept weight (marked_row Asked) p.rows x r e (sym (ap mark_weight m))) in
-        let n = length-changed (marked_row Asked) p.rows x in
-        rw t (omega (arith, n), omega (arith, u)))
-
-    marks : (r : Row) (m : Mark) → r.mark ≡ m → row_of p.rows x ≡ Some r → Lowers R (cost R (frame.Free (Beginning x)) fs p k) (lifted (begin_step x (row_of p.rows x) p)) fs k
-    marks r Quiet m e = rw (e, m) (quiet r e m)
-    marks r Asked m e = rw (e, m) runs
-    marks r Busy m e = rw (e, m) (dooms r e m)
-    marks r Doomed m e = rw (e, m) runs
-    marks r (Dying former) m e = rw (e, m) (over (dead r former m e))
-
-    each : (o : Option Row) → row_of p.rows x ≡ o → Lowers R (cost R (frame.Free (Beginning x)) fs p k) (lifted (begin_step x (row_of p.rows x) p)) fs k
-    each None e = rw e (over (λ o q. let bad : None ≡ Some o = rw e at q in cc))
-    each (Some r) e = marks r r.mark refl e
-
-judged-lower : (R : ℕ) (x : Obj) (h v : ℕ) (fs : List Frame) (p : Pool) (k : ℕ) → Sound (frame.Free (Judged x h v)) fs p → Room R (frame.Free (Judged x h v)) p k
-    → Lowers R (cost R (frame.Free (Judged x h v)) fs p k) (step (frame.Free (Judged x h v)) p) fs k
-judged-lower R x h v fs p k s room =
-    let row = running-row (row_of p.rows x) (claims x fs) (claim-here x InRun (claims x fs) (row_of p.rows x) (s.open_frees x)) in
-    by-row row.0 row.1 row.2
-  where
-    by-row : (r : Row) → row_of p.rows x ≡ Some r → IsLive r.mark → Lowers R (cost R (frame.Free (Judged x h v)) fs p k) (lifted (judge_step x h v p)) fs k
-    by-row r e live = by_test (nat_eq v 0)
-        (λ t. let u = ap (λ (z : ℕ). unit R * z) (total-kept weight (hooked_row 0) p.rows x r e refl) in
-        let n = length-changed (hooked_row 0) p.rows x in rw t (omega (arith, n), omega (arith, u)))
-        (λ t. let u = ap (λ (z : ℕ). unit R * z) (total-kept weight (marked_row Quiet) p.rows x r e (sym (live-weight r.mark live))) in
-        let n = length-changed (marked_row Quiet) p.rows x in rw t (omega (arith, n), omega (arith, u)))
+use Rattle.tree_specs.proofs.FallingFrees.{Lowers, Room, asking-lower, beginning-lower, ending-lower, giving-lower, judged-lower, leaving-lower, length-changed, length-placed, looping-lower, releasing-lower, returning-lower, total-kept, tried-lower, unlinking-lower}
 
 -- a call that leaves the rows as many and as heavy
 replied-lower : (R : ℕ) (q : Ask) (c : Call) (r : Reply) (fs : List Frame) (p p' : Pool) (k : ℕ) → Room R (frame.Call (Doing q c)) p k → total weight p'.rows ≡ total weight p.rows → length p'.rows ≡ length p.rows
     → Lowers R (cost R (frame.Call (Doing q c)) fs p k) (replied q r p') fs k
 replied-lower R q c r fs p p' k room e n = let u = ap (λ (z : ℕ). unit R * z) e in (omega (arith, n), omega (arith, u))
 
-effect-lower : (R : ℕ) (q : Ask) (c : Call) (fs : List Frame) (p : Pool) (k : ℕ) → Room R (frame.Call (Doing q c)) p k → refusals p c ≡ []
+effect-lower : (R : ℕ) (q : Ask) (c : Call) (fs : List Frame) (p : Pool) (k : ℕ) → Sound (frame.Call (Doing q c)) fs p → Room R (frame.Call (Doing q c)) p k → refusals p c ≡ []
     → Lowers R (cost R (frame.Call (Doing q c)) fs p k) (effect_step q c p) fs k
-effect-lower R q c fs p k room = each c
+effect-lower R q c fs p k s room = each c
   where
     put : (r : Reply) (o : Owner) (x : Obj) → MayBePlaced p o x → Lowers R (cost R (frame.Call (Doing q c)) fs p k) (replied q r (place p o x)) fs k
     put r o x may = replied-lower R q c r fs p (place p o x) k room (total-placed weight p o x may.row may.is refl) (length-placed p o x may.row may.is)
@@ -295,13 +50,32 @@ effect-lower R q c fs p k room = each c
         → Lowers R (cost R (frame.Call (Doing q c)) fs p k) (replied q reply.Ok (record p { rows = changed g p.rows x })) fs k
     mended g x r e w = replied-lower R q c reply.Ok fs p (record p { rows = changed g p.rows x }) k room (total-kept weight g p.rows x r e w) (length-changed g p.rows x)
 
+    placed : (r : Reply) (o : Owner) (x : Obj) → MayBePlaced p o x → (b : Bool) → Lowers R (cost R (frame.Call (Doing q c)) fs p k) (placed_step b q x r (place p o x)) fs k
+    placed r o x may true =
+        let n = length-placed p o x may.row may.is in
+        let u = ap (λ (z : ℕ). unit R * z) (total-placed weight p o x may.row may.is refl) in
+        (omega (arith, n), omega (arith, u))
+    placed r o x may false = put r o x may
+
+    reparents : (from to : Owner) (x : Obj) → MayGo p from to x → Lowers R (cost R (frame.Call (Doing q c)) fs p k) (replied q reply.Ok (reparented p from to x)) fs k
+    reparents from to x (Itself t may) = rw t (put reply.Ok to x may)
+    reparents from to x (ItsRef r t n there) =
+        let w = newest-of-refers p.rows from x r s.forest.distinct n in
+        rw (t, n) (put reply.Ok to r (ref-placed (frame.Call (Doing q c)) fs p to x r s (rw w.1 w.2) there))
+
+    freed : (x : Obj) (n : Option Obj) → Lowers R (cost R (frame.Call (Doing q c)) fs p k) (Do.Call (frame.Free (freeing_by n x)) (frame.Call (Awaiting q x)) p) fs k
+    freed x None = (omega arith, omega arith)
+    freed x (Some r) = (omega arith, omega arith)
+
     each : (d : Call) → refusals p d ≡ [] → Lowers R (cost R (frame.Call (Doing q c)) fs p k) (effect_step q d p) fs k
     each (call.New o size name) none = (omega arith, omega arith)
-    each (call.Free x) none = (omega arith, omega arith)
+    each (call.Free x) none = freed x (newest_ref p.rows x)
     each (call.Freekids x) none = let m = count-length p.rows (Of x) in (omega arith, omega arith)
-    each (call.Steal o x) none = put reply.Ok o x (passes-placing p o x none)
-    each (call.Move o x) none = put (reply.Number x.0) o x (passes-placing p o x none)
-    each (call.Reparent from to x) none = put reply.Ok to x (passes-reparent p from to x none)
+    each (call.Steal o x) none = placed reply.Ok o x (passes-placing p o x none) (warns p o x)
+    each (call.Move o x) none = placed (reply.Number x.0) o x (passes-placing p o x none) (warns p o x)
+    each (call.Reparent from to x) none = reparents from to x (passes-reparent p from to x none)
+    each (call.Reference o x) none = (omega arith, omega arith)
+    each (call.Unlink o x) none = (omega arith, omega arith)
     each (call.Hook x h) none = let may = passes-hooking p x none in mended (hooked_row h) x may.row may.is refl
     each (call.Unhook x) none = let may = passes-hooking p x none in mended (hooked_row 0) x may.row may.is refl
     each (call.Rename x name) none = let r = passes-object p x none in mended (named_row name) x r.0 r.1 refl
@@ -310,28 +84,32 @@ effect-lower R q c fs p k room = each c
     each (call.Count o) none = (omega arith, omega arith)
     each (call.Report o) none = (omega arith, omega arith)
 
-doing-lower : (R : ℕ) (q : Ask) (c : Call) (fs : List Frame) (p : Pool) (k : ℕ) → Room R (frame.Call (Doing q c)) p k
+doing-lower : (R : ℕ) (q : Ask) (c : Call) (fs : List Frame) (p : Pool) (k : ℕ) → Sound (frame.Call (Doing q c)) fs p → Room R (frame.Call (Doing q c)) p k
     → Lowers R (cost R (frame.Call (Doing q c)) fs p k) (call_step (refusals p c) q c p) fs k
-doing-lower R q c fs p k room = each (refusals p c) refl
+doing-lower R q c fs p k s room = each (refusals p c) refl
   where
     each : (check : Check) → refusals p c ≡ check → Lowers R (cost R (frame.Call (Doing q c)) fs p k) (call_step check q c p) fs k
-    each [] e = effect-lower R q c fs p k room e
+    each [] e = effect-lower R q c fs p k s room e
     each (why ∷ later) e = (omega arith, omega arith)
 
 -- every step lowers the measure
 pub lower : (R : ℕ) (f : Frame) (fs : List Frame) (p : Pool) (k : ℕ) → Sound f fs p → Room R f p k → Lowers R (cost R f fs p k) (step f p) fs k
 lower R (frame.Call (Asking q)) fs p k s room = asking-lower R q fs p k room
-lower R (frame.Call (Doing q c)) fs p k s room = doing-lower R q c fs p k room
+lower R (frame.Call (Doing q c)) fs p k s room = doing-lower R q c fs p k s room
 lower R (frame.Call (Awaiting q x)) fs p k s room = absurd s.rests
+lower R (frame.Call (Warning q x r)) fs p k s room = (omega arith, omega arith)
 lower R (frame.Call (Telling q r)) fs p k s room = (omega arith, omega arith)
 lower R (frame.Call (Returning v)) fs p k s room = returning-lower R v fs p k s room
+lower R (frame.Free (Unlinking o x)) fs p k s room = unlinking-lower R o x fs p k s room
+lower R (frame.Free (Releasing x)) fs p k s room = releasing-lower R x fs p k s room
+lower R (frame.Free (Giving x o)) fs p k s room = giving-lower R x o fs p k s room
 lower R (frame.Free (Beginning x)) fs p k s room = beginning-lower R x fs p k s room
 lower R (frame.Free (Hooked x h)) fs p k s room = (omega arith, omega arith)
 lower R (frame.Free (Judged x h v)) fs p k s room = judged-lower R x h v fs p k s room
 lower R (frame.Free (Leaving x h)) fs p k s room = leaving-lower R x h fs p k s room
 lower R (frame.Free (Looping x purpose)) fs p k s room = looping-lower R x purpose fs p k s room
-lower R (frame.Free (Trying x c purpose)) fs p k s room = absurd s.rests
-lower R (frame.Free (Tried x c purpose a)) fs p k s room = tried-lower R x c purpose a fs p k s room
+lower R (frame.Free (Trying x c noted purpose)) fs p k s room = absurd s.rests
+lower R (frame.Free (Tried x c noted purpose a)) fs p k s room = tried-lower R x c noted purpose a fs p k s room
 lower R (frame.Free (Ending answer)) fs p k s room = ending-lower R answer fs p k s room
 
 -- what the measure speaks of

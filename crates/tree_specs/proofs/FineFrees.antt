@@ -1,7 +1,7 @@
 -- The steps of frees.
-use Rattle.std.proofs.Common.{◌≡◌, ℕ, List, [], ◌∷◌, ◌++◌, Option, Some, None, true, false, nat_eq, refl, sym, ◌∙◌, ap, subst, inl, map}
+use Rattle.tree_specs.specs.Calls.{is_running, is_running_row, is_running_mark}
+use Rattle.std.proofs.Common.{◌≡◌, ℕ, List, [], ◌∷◌, ◌++◌, Option, Some, None, true, false, nat_eq, refl, ◌∙◌, ap, subst, inl, map}
 use Rattle.std.specs.List.{list_any}
-use Rattle.step_machine.specs.Machine.{Move}
 use Rattle.step_machine.specs.Machine.{Move as Do}
 use Rattle.step_machine.specs.Noted.{with_note, scene}
 use Rattle.tree_specs.specs.declared.object.Obj.{Obj}
@@ -11,121 +11,38 @@ use Rattle.tree_specs.specs.declared.row.Row.{Row}
 use Rattle.tree_specs.specs.declared.row.Mark.{Mark}
 use Rattle.tree_specs.specs.declared.row.Mark.TheVariants as mark
 use Rattle.tree_specs.specs.declared.question.Ask.TheVariants as ask
-use Rattle.tree_specs.specs.declared.event.Event.TheVariants.{Accepted, Refused, Moved, Freed}
+use Rattle.tree_specs.specs.declared.event.Event.TheVariants.{Accepted, Refused, Moved, Freed, Unreferenced}
 use Rattle.tree_specs.specs.declared.frame.Frame.{Frame}
 use Rattle.tree_specs.specs.declared.frame.Frame.TheVariants as frame
 use Rattle.tree_specs.specs.declared.frame.CallFrame.TheVariants.{Asking}
-use Rattle.tree_specs.specs.declared.frame.FreeFrame.{FreeFrame}
 use Rattle.tree_specs.specs.declared.frame.FreeFrame.TheVariants.{Beginning, Hooked, Judged, Leaving, Looping, Trying, Tried, Ending}
 use Rattle.tree_specs.specs.declared.frame.Purpose.{Purpose}
 use Rattle.tree_specs.specs.declared.frame.Purpose.TheVariants.{Removal, Emptying}
-use Rattle.tree_specs.specs.declared.frame.Answer.{Answer}
-use Rattle.tree_specs.specs.declared.frame.Answer.TheVariants as answer
 use Rattle.tree_specs.specs.declared.free_step.FreeReply.{FreeReply}
 use Rattle.tree_specs.specs.declared.free_step.FreeReply.TheVariants as free_reply
-use Rattle.tree_specs.specs.Pool.{Pool, row_of, is_row, owner_of, is_below, first_kid, remove, detach, left_row, place, set_mark, set_hook}
+use Rattle.tree_specs.specs.Pool.{Pool, row_of, is_row, owner_of, is_below, first_kid, remove, detach, left_row, place, set_mark, set_hook, target_at, noted_owner}
 use Rattle.tree_specs.specs.Heirs.{heir}
-use Rattle.tree_specs.specs.Items.{Item}
 use Rattle.tree_specs.specs.Items.Item.{Told}
 use Rattle.tree_specs.specs.Works.{Begun, Scene}
 use Rattle.tree_specs.specs.Story.{hook_moment}
-use Rattle.tree_specs.specs.Table.{notes, step, lifted, begin_quiet, begin_step, judge_step, last_step, loop_step, hand_on_step}
-use Rattle.tree_specs.specs.Orderly.{frees}
-use Rattle.tree_specs.specs.Grounded.{is_running, is_running_row, is_running_mark, IsItem}
-use Rattle.tree_specs.specs.Sound.{IsLive, IsOver, claims, InRun, InLoop, ValidAt, Phase, phases}
+use Rattle.tree_specs.specs.Table.{notes, lifted, judge_step, last_step, loop_step, hand_on_step, child_step}
+use Rattle.tree_specs.specs.Orderly.{frees, accepts}
+use Rattle.tree_specs.specs.Grounded.{IsItem}
+use Rattle.tree_specs.specs.Sound.{IsLive, claims, InRun, InLoop, ValidAt, Phase, phases}
 use Rattle.tree_specs.specs.Whole.{Whole}
 use Rattle.tree_specs.proofs.Numbered.{by_test}
 use Rattle.tree_specs.proofs.Rows.{row_of-changed-same, row_of-without-same}
 use Rattle.tree_specs.proofs.Changes.{heir-placed, running-row, dying-row, claim-here}
-use Rattle.tree_specs.proofs.Later.{IsPast, Later, later-same, later-placed, later-marked, later-hooked, later-left, later-removed}
-use Rattle.tree_specs.proofs.Past.{IsLeaving, past-goes, past-tells, past-accepts, past-frees, unfreed, unaccepted}
-use Rattle.tree_specs.proofs.Causes.{NotedWork, told, StandsOn, Stacked, IsRefusedFor, IsStart, HasJustBegun}
+use Rattle.tree_specs.proofs.Later.{IsPast, later-same, later-placed, later-marked, later-hooked, later-left, later-removed}
+use Rattle.tree_specs.proofs.Past.{past-goes, past-tells, past-accepts, past-frees, unfreed, unaccepted, Accounts, any-as-before}
+use Rattle.tree_specs.proofs.Causes.{NotedWork, told, StandsOn, Stacked, IsRefusedFor}
 use Rattle.tree_specs.proofs.Waiters.{Waiter, ForFree, ForRun, ForChild}
 use Rattle.tree_specs.proofs.Fitting.{last-more, fits-accepted, fits-refused, fits-freed, fits-moved}
-use Rattle.tree_specs.proofs.Fine.{work_of, Known, FineBy, restacked, of-next, from-next, ReplyCause, AnswersTo, resumed, known-told}
+use Rattle.tree_specs.proofs.Fine.{work_of, Known, FineBy, restacked, of-next, known-told}
+use Rattle.tree_specs.proofs.FineDrops.{At, over-fine, dropped-fine}
 
 module _ (scenes : List Scene) (b : Option Begun) (ws : List NotedWork) (p : Pool) where
-  abbrev At : FreeFrame → Type 0
-  At f = Whole (record { innermost = frame.Free f; below = map work_of ws; pool = p }) → Known scenes (with_note b (frame.Free f)) ws p → FineBy scenes (frame.Free f) b p (step (frame.Free f) p) ws
-
-  -- a destructor waits for no free
-  over-fine : (f : FreeFrame) → Whole (record { innermost = frame.Free f; below = map work_of ws; pool = p }) → Known scenes (with_note b (frame.Free f)) ws p
-      → ((x : Obj) → IsLeaving (frame.Free f) x → ⊥) → FineBy scenes (frame.Free f) b p (Do.Done (answer.Freed free_reply.Ok) p) ws
-  over-fine f whole known stays =
-      resumed scenes (frame.Free f) b ws p (answer.Freed free_reply.Ok) known.past stays known.stacked whole.sound.waiting
-      (of-next (AnswersTo scenes (answer.Freed free_reply.Ok)) (frame.Free f) ws whole.sound.waiting known.stacked answers)
-    where
-      answers : (g : Frame) (n : Option Begun) → Waiter g → StandsOn (frame.Free f) g n → AnswersTo scenes (answer.Freed free_reply.Ok) g n
-      answers _ n (ForFree q x) on = tt
-      answers _ n (ForRun x h) on = absurd on
-      answers _ n (ForChild x c purpose) on = tt
-
-  pub ending-fine : (a : FreeReply) → At (Ending a)
-  ending-fine a whole known =
-      resumed scenes (frame.Free (Ending a)) b ws p (answer.Freed a) known.past (λ x l. l) known.stacked whole.sound.waiting
-      (from-next (IsRefusedFor scenes a) (AnswersTo scenes (answer.Freed a)) (frame.Free (Ending a)) ws whole.sound.waiting known.stacked known.cause (answers a whole.sound.rests))
-    where
-      answers : (a : FreeReply) → IsOver a → (g : Frame) (n : Option Begun) → Waiter g → StandsOn (frame.Free (Ending a)) g n → IsRefusedFor scenes a g n → AnswersTo scenes (answer.Freed a) g n
-      answers free_reply.Ok over _ n (ForFree q x) on last = tt
-      answers free_reply.Running over _ n (ForFree q x) on last = absurd over
-      answers (free_reply.Refused v) over _ n (ForFree q x) on last = last
-      answers a over _ n (ForRun x h) on last = absurd on
-      answers a over _ n (ForChild x c purpose) on last = tt
-
-  -- it stays, since something of it runs
-  runs-fine : (x : Obj) (p' : Pool) → Later p p' → Whole (record { innermost = frame.Free (Beginning x); below = map work_of ws; pool = p }) → Known scenes (with_note b (frame.Free (Beginning x))) ws p
-      → is_running p x ≡ true → FineBy scenes (frame.Free (Beginning x)) b p (Do.Done (answer.Freed free_reply.Running) p') ws
-  runs-fine x p' after whole known running =
-      let f : Frame = frame.Free (Beginning x) in
-      resumed scenes f b ws p' (answer.Freed free_reply.Running) (past-goes (told scenes) f f (map work_of ws) (map work_of ws) p p' known.past after (λ y l. absurd l) tt known.past.all_account)
-      (λ y l. l) known.stacked whole.sound.waiting (from-next (HasJustBegun p) (AnswersTo scenes (answer.Freed free_reply.Running)) f ws whole.sound.waiting known.stacked known.cause answers)
-    where
-      start : (o : Option Begun) (y : Obj) → IsStart p o → x ≡ y → ReplyCause scenes o y free_reply.Running
-      start None y h e = tt
-      start (Some begun) y h e = subst (λ (q : Pool). is_running q y ≡ true) (sym h) (subst (λ (z : Obj). is_running p z ≡ true) e running)
-
-      answers : (g : Frame) (n : Option Begun) → Waiter g → StandsOn (frame.Free (Beginning x)) g n → HasJustBegun p g n → AnswersTo scenes (answer.Freed free_reply.Running) g n
-      answers _ n (ForFree q y) on begun = start n y begun on.0
-      answers _ n (ForRun y h) on begun = absurd on
-      answers _ n (ForChild y c purpose) on begun = tt
-
-  pub beginning-fine : (x : Obj) → At (Beginning x)
-  beginning-fine x whole known = each (row_of p.rows x) refl
-    where
-      f : Frame
-      f = frame.Free (Beginning x)
-
-      Step : Move Frame Answer Pool Item → Type 0
-      Step m = FineBy scenes f b p m ws
-
-      quiet : (r : Row) → row_of p.rows x ≡ Some r → r.mark ≡ mark.Quiet → Step (lifted (begin_quiet x r.hook p))
-      quiet r e m =
-          let live : IsLive r.mark = rw m tt in
-          by_test (nat_eq r.hook 0)
-          (λ t. rw t (record {
-            past = past-goes (told scenes) f (frame.Free (Leaving x 0)) (map work_of ws) (map work_of ws) p p known.past (later-same p) (λ y l. absurd l)
-                (unaccepted (told scenes) f (map work_of ws) p x r known.past e live (λ l. l)) known.past.all_account;
-            stacked = restacked f (frame.Free (Leaving x 0)) ws (λ y h. h) (λ y h. h) known.stacked;
-            cause = tt;
-          }))
-          (λ t. rw t (record {
-            past = past-goes (told scenes) f (frame.Free (Hooked x r.hook)) (map work_of ws) (map work_of ws) p (set_mark p x mark.Asked) known.past (later-marked p x r mark.Asked e live) (λ y l. absurd l) tt known.past.all_account;
-            stacked = restacked f (frame.Free (Hooked x r.hook)) ws (λ y h. h) (λ y h. h) known.stacked;
-            cause = tt;
-          }))
-
-      marks : (r : Row) (m : Mark) → r.mark ≡ m → row_of p.rows x ≡ Some r → Step (lifted (begin_step x (row_of p.rows x) p))
-      marks r mark.Quiet m e = rw (e, m) (quiet r e m)
-      marks r mark.Asked m e = let run : is_running p x ≡ true = rw (e, m) refl in rw (e, m) (runs-fine x p (later-same p) whole known run)
-      marks r mark.Busy m e = let run : is_running p x ≡ true = rw (e, m) refl in rw (e, m) (runs-fine x (set_mark p x mark.Doomed) (later-marked p x r mark.Doomed e (rw m tt)) whole known run)
-      marks r mark.Doomed m e = let run : is_running p x ≡ true = rw (e, m) refl in rw (e, m) (runs-fine x p (later-same p) whole known run)
-      marks r (mark.Dying former) m e = rw (e, m) (over-fine (Beginning x) whole known (λ y l. l))
-
-      each : (o : Option Row) → row_of p.rows x ≡ o → Step (lifted (begin_step x (row_of p.rows x) p))
-      each None e = rw e (over-fine (Beginning x) whole known (λ y l. l))
-      each (Some r) e = marks r r.mark refl e
-
-  pub hooked-fine : (x : Obj) (h : ℕ) → At (Hooked x h)
+  pub hooked-fine : (x : Obj) (h : ℕ) → At scenes b ws p (Hooked x h)
   hooked-fine x h whole known = record {
     past = past-goes (told scenes) (frame.Free (Hooked x h)) (frame.Call (Asking (ask.Routine (hook_moment x h)))) (map work_of ws) (frame.Free (Hooked x h) ∷ map work_of ws) p p known.past (later-same p)
         (λ y l. absurd l) tt (tt, known.past.all_account);
@@ -133,7 +50,7 @@ module _ (scenes : List Scene) (b : Option Begun) (ws : List NotedWork) (p : Poo
     cause = tt;
   }
 
-  pub leaving-fine : (x : Obj) (h : ℕ) → At (Leaving x h)
+  pub leaving-fine : (x : Obj) (h : ℕ) → At scenes b ws p (Leaving x h)
   leaving-fine x h whole known =
       let f : Frame = frame.Free (Leaving x h) in
       let g : Frame = frame.Free (Looping x (Removal h)) in
@@ -164,9 +81,9 @@ module _ (scenes : List Scene) (b : Option Begun) (ws : List NotedWork) (p : Poo
       → IsRefusedFor (scenes ++ s ∷ []) (free_reply.Refused v) g n
   refused-now s x h v w is _ n (ForFree q y) on = last-more (IsItem (Told (Refused y v))) scenes s (is ∙ ap (λ (z : Obj). Told (Refused z v)) on.0)
   refused-now s x h v w is _ n (ForRun y k) on = tt
-  refused-now s x h v w is _ n (ForChild y c purpose) on = tt
+  refused-now s x h v w is _ n (ForChild y c noted purpose) on = tt
 
-  pub judged-fine : (x : Obj) (h v : ℕ) → At (Judged x h v)
+  pub judged-fine : (x : Obj) (h v : ℕ) → At scenes b ws p (Judged x h v)
   judged-fine x h v whole known =
       let phase = claim-here x InRun (claims x (map work_of ws)) (row_of p.rows x) (whole.sound.open_frees x) in
       let row = running-row (row_of p.rows x) (claims x (map work_of ws)) phase in
@@ -191,8 +108,8 @@ module _ (scenes : List Scene) (b : Option Begun) (ws : List NotedWork) (p : Poo
             (fits-refused (told scenes) x free there v, record { answered = tt; held = tt; caused = tt; started = tt }),
             known-told scenes (scene notes f b p (Told (Refused x v))) (with_note None (frame.Free (Ending (free_reply.Refused v)))) ws (set_mark p x mark.Quiet)
                 (past-goes (told scenes ++ Told (Refused x v) ∷ []) f (frame.Free (Ending (free_reply.Refused v))) (map work_of ws) (map work_of ws) p (set_mark p x mark.Quiet)
-                (past-tells (told scenes) (Told (Refused x v)) f (map work_of ws) p (λ y. refl) (λ y. refl) known.past) (later-marked p x r mark.Quiet e live) (λ y l. absurd l) tt
-                (past-tells (told scenes) (Told (Refused x v)) f (map work_of ws) p (λ y. refl) (λ y. refl) known.past).all_account)
+                (past-tells (told scenes) (Told (Refused x v)) f (map work_of ws) p (λ y. refl) (λ y. refl) (λ y. refl) known.past) (later-marked p x r mark.Quiet e live) (λ y l. absurd l) tt
+                (past-tells (told scenes) (Told (Refused x v)) f (map work_of ws) p (λ y. refl) (λ y. refl) (λ y. refl) known.past).all_account)
                 (restacked f (frame.Free (Ending (free_reply.Refused v))) ws (λ y k. tt) (λ y k. k) known.stacked)
                 (of-next (IsRefusedFor (scenes ++ scene notes f b p (Told (Refused x v)) ∷ []) (free_reply.Refused v)) f ws whole.sound.waiting known.stacked
                 (refused-now (scene notes f b p (Told (Refused x v))) x h v v refl)),
@@ -214,36 +131,45 @@ module _ (scenes : List Scene) (b : Option Begun) (ws : List NotedWork) (p : Poo
             (of-next (IsRefusedFor (scenes ++ scene notes f b p (Told (Freed x h)) ∷ []) free_reply.Ok) f ws whole.sound.waiting known.stacked (λ g n waits on. tt)),
       )
 
-  pub looping-fine : (x : Obj) (purpose : Purpose) → At (Looping x purpose)
+  pub looping-fine : (x : Obj) (purpose : Purpose) → At scenes b ws p (Looping x purpose)
   looping-fine x purpose whole known = each (first_kid p.rows (Of x)) refl
     where
       last : (purpose : Purpose) → Whole (record { innermost = frame.Free (Looping x purpose); below = map work_of ws; pool = p }) → Known scenes (with_note b (frame.Free (Looping x purpose))) ws p
           → FineBy scenes (frame.Free (Looping x purpose)) b p (lifted (last_step x purpose p)) ws
       last (Removal h) whole known = removed-fine x h whole known
-      last Emptying whole known = over-fine (Looping x Emptying) whole known (λ y l. l)
+      last Emptying whole known = over-fine scenes b ws p (Looping x Emptying) whole known (λ y l. l)
+
+      -- what the loop accounts for stays so
+      after : (c target : Obj) (purpose : Purpose) → Accounts (told scenes) (frame.Free (Looping x purpose)) → Accounts (told scenes ++ Told (Unreferenced c target) ∷ []) (frame.Free (Looping x purpose))
+      after c target (Removal h) a = any-as-before (accepts x) (told scenes) (Told (Unreferenced c target)) refl ∙ a
+      after c target Emptying a = tt
+
+      child : (c : Obj) (o : Option Obj) → target_at p.rows c ≡ o → FineBy scenes (frame.Free (Looping x purpose)) b p (lifted (child_step x c purpose (target_at p.rows c) p)) ws
+      child c None t = rw t (record {
+        past = past-goes (told scenes) (frame.Free (Looping x purpose)) (frame.Free (Beginning c)) (map work_of ws) (frame.Free (Trying x c (noted_owner p.rows c) purpose) ∷ map work_of ws) p p known.past (later-same p)
+            (λ y l. absurd l) tt (known.past.accounts, known.past.all_account);
+        stacked = (refl, restacked (frame.Free (Looping x purpose)) (frame.Free (Trying x c (noted_owner p.rows c) purpose)) ws (λ y k. k) (λ y k. k) known.stacked);
+        cause = tt;
+      })
+      child c (Some target) t = rw t (dropped-fine scenes b ws p (Looping x purpose) (Looping x purpose) c target whole known t (λ y l. l) (after c target purpose known.past.accounts) (λ y h. h) tt)
 
       each : (o : Option Obj) → first_kid p.rows (Of x) ≡ o → FineBy scenes (frame.Free (Looping x purpose)) b p (lifted (loop_step x purpose (first_kid p.rows (Of x)) p)) ws
       each None e = rw e (last purpose whole known)
-      each (Some c) e = rw e (record {
-        past = past-goes (told scenes) (frame.Free (Looping x purpose)) (frame.Free (Beginning c)) (map work_of ws) (frame.Free (Trying x c purpose) ∷ map work_of ws) p p known.past (later-same p)
-            (λ y l. absurd l) tt (known.past.accounts, known.past.all_account);
-        stacked = (refl, restacked (frame.Free (Looping x purpose)) (frame.Free (Trying x c purpose)) ws (λ y k. k) (λ y k. k) known.stacked);
-        cause = tt;
-      })
+      each (Some c) e = rw e (child c (target_at p.rows c) refl)
 
   -- a child that wasn't freed is handed on
-  handed-fine : (x c : Obj) (purpose : Purpose) (a : FreeReply) → Whole (record { innermost = frame.Free (Tried x c purpose a); below = map work_of ws; pool = p })
-      → Known scenes (with_note b (frame.Free (Tried x c purpose a))) ws p → FineBy scenes (frame.Free (Tried x c purpose a)) b p (lifted (hand_on_step x c purpose p)) ws
-  handed-fine x c purpose a whole known = by_test (is_below (owner_of p.rows c) (Of x)) (λ t. rw t (moves t)) (λ t. rw t stays)
+  handed-fine : (x c : Obj) (noted : Option Owner) (purpose : Purpose) (a : FreeReply) → Whole (record { innermost = frame.Free (Tried x c noted purpose a); below = map work_of ws; pool = p })
+      → Known scenes (with_note b (frame.Free (Tried x c noted purpose a))) ws p → FineBy scenes (frame.Free (Tried x c noted purpose a)) b p (lifted (hand_on_step x c noted purpose p)) ws
+  handed-fine x c noted purpose a whole known = by_test (is_below (owner_of p.rows c) (Of x)) (λ t. rw t (moves t)) (λ t. rw t stays)
     where
       f : Frame
-      f = frame.Free (Tried x c purpose a)
+      f = frame.Free (Tried x c noted purpose a)
 
       g : Frame
       g = frame.Free (Looping x purpose)
 
       o : Owner
-      o = heir p.rows x c
+      o = heir p.rows x c noted
 
       under : Stacked g ws
       under = restacked f g ws (λ y k. k) (λ y k. k) known.stacked
@@ -264,21 +190,22 @@ module _ (scenes : List Scene) (b : Option Begun) (ws : List NotedWork) (p : Poo
 
       moves : is_below (owner_of p.rows c) (Of x) ≡ true → FineBy scenes f b p (Do.Emit (Told (Moved c o)) g (place p o c)) ws
       moves t =
-          let may = heir-placed x c f (map work_of ws) p whole.sound t in
+          let may = heir-placed x c noted f (map work_of ws) p whole.sound t in
           let child : is_row p.rows c ≡ true = rw may.is refl in
-          let past = past-tells (told scenes) (Told (Moved c o)) f (map work_of ws) p (λ y. refl) (λ y. refl) known.past in (
+          let past = past-tells (told scenes) (Told (Moved c o)) f (map work_of ws) p (λ y. refl) (λ y. refl) (λ y. refl) known.past in (
             (fits-moved (told scenes) p.rows c o there child may.there, record { answered = tt; held = tt; caused = tt; started = tt }),
             known-told scenes (scene notes f b p (Told (Moved c o))) (with_note None g) ws (place p o c)
                 (past-goes (told scenes ++ Told (Moved c o) ∷ []) f g (map work_of ws) (map work_of ws) p (place p o c) past (later-placed p o c may.row may.is) (λ y l. absurd l) past.accounts past.all_account)
                 under tt,
           )
 
-  pub tried-fine : (x c : Obj) (purpose : Purpose) (a : FreeReply) → At (Tried x c purpose a)
-  tried-fine x c purpose free_reply.Ok whole known = record {
-    past = past-goes (told scenes) (frame.Free (Tried x c purpose free_reply.Ok)) (frame.Free (Looping x purpose)) (map work_of ws) (map work_of ws) p p known.past (later-same p) (λ y l. absurd l)
+  pub tried-fine : (x c : Obj) (noted : Option Owner) (purpose : Purpose) (a : FreeReply) → At scenes b ws p (Tried x c noted purpose a)
+  tried-fine x c noted purpose free_reply.Ok whole known = record {
+    past = past-goes (told scenes) (frame.Free (Tried x c noted purpose free_reply.Ok)) (frame.Free (Looping x purpose)) (map work_of ws) (map work_of ws) p p known.past (later-same p) (λ y l. absurd l)
         known.past.accounts known.past.all_account;
-    stacked = restacked (frame.Free (Tried x c purpose free_reply.Ok)) (frame.Free (Looping x purpose)) ws (λ y k. k) (λ y k. k) known.stacked;
+    stacked = restacked (frame.Free (Tried x c noted purpose free_reply.Ok)) (frame.Free (Looping x purpose)) ws (λ y k. k) (λ y k. k) known.stacked;
     cause = tt;
   }
-  tried-fine x c purpose free_reply.Running whole known = handed-fine x c purpose free_reply.Running whole known
-  tried-fine x c purpose (free_reply.Refused v) whole known = handed-fine x c purpose (free_reply.Refused v) whole known
+  tried-fine x c noted purpose free_reply.Held whole known = handed-fine x c noted purpose free_reply.Held whole known
+  tried-fine x c noted purpose free_reply.Running whole known = handed-fine x c noted purpose free_reply.Running whole known
+  tried-fine x c noted purpose (free_reply.Refused v) whole known = handed-fine x c noted purpose (free_reply.Refused v) whole known

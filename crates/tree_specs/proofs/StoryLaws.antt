@@ -23,17 +23,16 @@ use Rattle.tree_specs.specs.Table.{table, notes}
 use Rattle.tree_specs.specs.View.{View, begin, rest_of}
 use Rattle.tree_specs.specs.Whole.{Whole}
 use Rattle.tree_specs.proofs.Rooted.{forest-none}
-use Rattle.tree_specs.proofs.Load.{cost-turns}
+use Rattle.tree_specs.proofs.Turns.{cost-turns}
 use Rattle.tree_specs.proofs.Means.{noted_table, returned, run-means}
 use Rattle.tree_specs.proofs.Rest.{outcome, rest-enough, walk-whole, not-short, ends-asked}
 
 -- a host at its beginning
 pub begin-whole : (first : ℕ) → 1 ≤ first → Whole (begin first)
 begin-whole first h = record {
-  sound = record { started = omega arith; valid = λ x. tt; forest = forest-none; open_frees = λ x. refl; waiting = tt; rests = tt };
+  sound = record { started = omega arith; valid = λ x. tt; forest = forest-none; refers = record { target = λ r t e. cc; quiet = λ r t e. cc }; open_frees = λ x. refl; waiting = tt; rests = tt };
   seated = tt;
   light = omega arith;
-  plain = tt;
 }
 
 abbrev item_of : Scene → Item

@@ -1,6 +1,7 @@
 pub mod Names
 pub mod Octets
 pub mod Objects
+pub mod Targets
 pub mod Pool
 pub mod Inside
 pub mod Forest
@@ -25,3 +26,4 @@ pub mod Orderly
 pub mod Grounded
 pub mod Acceptances
 pub mod BadStories
+pub mod Listed
