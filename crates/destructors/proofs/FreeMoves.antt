@@ -2,10 +2,10 @@
 use Rattle.std.proofs.Common.{◌≡◌, ℕ, ◌<◌, nat_eq, Option, Some, None, refl, sym, subst, arith}
 use Rattle.step_machine.specs.Machine.{Move as Do}
 use Rattle.tree_specs.specs.declared.frame.FreeFrame.{FreeFrame}
-use Rattle.tree_specs.specs.declared.frame.FreeFrame.TheVariants.{Beginning, Hooked, Judged, Leaving, Looping, Trying, Tried, Ending}
+use Rattle.tree_specs.specs.declared.frame.FreeFrame.TheVariants.{Unlinking, Releasing, Giving, Beginning, Hooked, Judged, Leaving, Looping, Trying, Tried, Ending}
 use Rattle.tree_specs.specs.declared.frame.Purpose.{Purpose}
 use Rattle.tree_specs.specs.declared.frame.Purpose.TheVariants.{Removal, Emptying}
-use Rattle.tree_specs.specs.declared.free_step.FreeReply.TheVariants.{Ok, Running, Refused}
+use Rattle.tree_specs.specs.declared.free_step.FreeReply.TheVariants.{Ok, Held, Running, Refused}
 use Rattle.tree_specs.specs.declared.free_step.FreeStep.{FreeStep}
 use Rattle.tree_specs.specs.declared.free_step.FreeStep.TheVariants as step
 use Rattle.tree_specs.specs.declared.object.Obj.{Obj}
@@ -13,8 +13,9 @@ use Rattle.tree_specs.specs.declared.object.Owner.TheVariants.{Of}
 use Rattle.tree_specs.specs.declared.row.Row.{Row}
 use Rattle.tree_specs.specs.declared.row.Mark.{Mark}
 use Rattle.tree_specs.specs.declared.row.Mark.TheVariants.{Quiet, Asked, Busy, Doomed, Dying}
-use Rattle.tree_specs.specs.Pool.{Pool, row_of, is_below, owner_of, first_kid}
-use Rattle.tree_specs.specs.Table.{FreeMove, free_step, begin_step, begin_by, loop_step}
+use Rattle.tree_specs.specs.Pool.{Pool, row_of, is_below, owner_of, first_kid, target_at, newest_ref_of, is_inside}
+use Rattle.tree_specs.specs.Targets.{newest_ref}
+use Rattle.tree_specs.specs.Table.{FreeMove, free_step, begin_step, begin_by, refs_step, unlink_step, release_step, child_step, loop_step}
 use Rattle.tree_specs.proofs.Numbered.{by_test}
 use Rattle.tree_links.specs.Links.{Links}
 use Rattle.destructors.specs.Room.{work_places}
@@ -23,17 +24,21 @@ use Rattle.destructors.specs.Engine.{HasRoom}
 -- a work that may wait for a free
 abbrev pub IsNoHook : FreeFrame → Type 0
 IsNoHook (Hooked x h) = ⊥
+IsNoHook (Unlinking o x) = Unit {0}
+IsNoHook (Releasing x) = Unit {0}
+IsNoHook (Giving x o) = Unit {0}
 IsNoHook (Beginning x) = Unit {0}
 IsNoHook (Judged x h v) = Unit {0}
 IsNoHook (Leaving x h) = Unit {0}
 IsNoHook (Looping x purpose) = Unit {0}
-IsNoHook (Trying x c purpose) = Unit {0}
-IsNoHook (Tried x c purpose a) = Unit {0}
+IsNoHook (Trying x c noted purpose) = Unit {0}
+IsNoHook (Tried x c noted purpose a) = Unit {0}
 IsNoHook (Ending a) = Unit {0}
 
 -- what a free tells while it goes on
 abbrev pub IsNews : FreeStep → Type 0
 IsNews (step.Ask x) = ⊥
+IsNews (step.Dropped r target) = Unit {0}
 IsNews (step.Refused x v) = Unit {0}
 IsNews (step.Accepted x) = Unit {0}
 IsNews (step.Left x from) = Unit {0}
@@ -55,7 +60,18 @@ IsMoveOf f p (Do.Wait t g q) = (g ≡ f) × (q ≡ p) × AsksFor t f
 IsMoveOf f p (Do.Call g h q) = (work_places f ≡ 1) × IsNoHook h
 
 pub is_move : (f : FreeFrame) (p : Pool) → IsMoveOf f p (free_step f p)
-is_move (Beginning x) p = each (row_of p.rows x)
+is_move (Unlinking o x) p = each (newest_ref_of p.rows o x)
+  where
+    each : (r : Option Obj) → IsMoveOf (Unlinking o x) p (unlink_step x r p)
+    each None = tt
+    each (Some r) = tt
+is_move (Releasing x) p = each (newest_ref p.rows x)
+  where
+    each : (r : Option Obj) → IsMoveOf (Releasing x) p (release_step x r p)
+    each None = tt
+    each (Some r) = by_test (is_inside p.rows (Of r) (Of x)) (λ t. rw t tt) (λ t. rw t tt)
+is_move (Giving x o) p = tt
+is_move (Beginning x) p = held (newest_ref p.rows x)
   where
     marks : (h : ℕ) (m : Mark) → IsMoveOf (Beginning x) p (begin_by x h m p)
     marks h Quiet = by_test (nat_eq h 0) (λ t. rw t tt) (λ t. rw t tt)
@@ -67,19 +83,28 @@ is_move (Beginning x) p = each (row_of p.rows x)
     each : (o : Option Row) → IsMoveOf (Beginning x) p (begin_step x o p)
     each None = tt
     each (Some r) = marks r.hook r.mark
+
+    held : (r : Option Obj) → IsMoveOf (Beginning x) p (refs_step x r p)
+    held None = each (row_of p.rows x)
+    held (Some r) = by_test (is_inside p.rows (Of r) (Of x)) (λ t. rw t tt) (λ t. rw t tt)
 is_move (Hooked x h) p = (refl, refl, refl)
 is_move (Judged x h v) p = by_test (nat_eq v 0) (λ t. rw t tt) (λ t. rw t tt)
 is_move (Leaving x h) p = tt
 is_move (Looping x purpose) p = each purpose (first_kid p.rows (Of x))
   where
     each : (purpose : Purpose) (o : Option Obj) → IsMoveOf (Looping x purpose) p (loop_step x purpose o p)
-    each purpose (Some c) = (refl, tt)
+    each purpose (Some c) = taken c (target_at p.rows c)
+      where
+        taken : (c : Obj) (target : Option Obj) → IsMoveOf (Looping x purpose) p (child_step x c purpose target p)
+        taken c None = (refl, tt)
+        taken c (Some target) = tt
     each (Removal h) None = tt
     each Emptying None = tt
-is_move (Trying x c purpose) p = tt
-is_move (Tried x c purpose Ok) p = tt
-is_move (Tried x c purpose Running) p = by_test (is_below (owner_of p.rows c) (Of x)) (λ t. rw t tt) (λ t. rw t tt)
-is_move (Tried x c purpose (Refused v)) p = by_test (is_below (owner_of p.rows c) (Of x)) (λ t. rw t tt) (λ t. rw t tt)
+is_move (Trying x c noted purpose) p = tt
+is_move (Tried x c noted purpose Ok) p = tt
+is_move (Tried x c noted purpose Held) p = by_test (is_below (owner_of p.rows c) (Of x)) (λ t. rw t tt) (λ t. rw t tt)
+is_move (Tried x c noted purpose Running) p = by_test (is_below (owner_of p.rows c) (Of x)) (λ t. rw t tt) (λ t. rw t tt)
+is_move (Tried x c noted purpose (Refused v)) p = by_test (is_below (owner_of p.rows c) (Of x)) (λ t. rw t tt) (λ t. rw t tt)
 is_move (Ending a) p = tt
 
 -- there is room for a work that is put below another

@@ -1,32 +1,34 @@
 -- What the moves of the open frees keep.
-use Rattle.std.proofs.Common.{◌≡◌, ℕ, ◌+◌, ◌≤◌, ◌<◌, nat_eq, List, [], ◌∷◌, map, length, Option, Some, None, true, false, refl, sym, ap, subst, arith}
+use Rattle.std.proofs.Common.{◌≡◌, ℕ, ◌+◌, ◌≤◌, ◌<◌, nat_eq, List, [], ◌∷◌, map, length, Option, Some, None, true, false, refl, sym, ◌∙◌, ap, subst, arith}
 use Rattle.step_machine.specs.Machine.{Move as Do}
 use Rattle.tree_specs.specs.declared.frame.Frame.{Frame}
 use Rattle.tree_specs.specs.declared.frame.Frame.TheVariants as frame
 use Rattle.tree_specs.specs.declared.frame.CallFrame.{CallFrame}
 use Rattle.tree_specs.specs.declared.frame.FreeFrame.{FreeFrame}
-use Rattle.tree_specs.specs.declared.frame.FreeFrame.TheVariants.{Beginning, Hooked, Judged, Leaving, Looping, Trying, Tried, Ending}
+use Rattle.tree_specs.specs.declared.frame.FreeFrame.TheVariants.{Unlinking, Releasing, Giving, Beginning, Hooked, Judged, Leaving, Looping, Trying, Tried, Ending}
 use Rattle.tree_specs.specs.declared.frame.Purpose.{Purpose}
 use Rattle.tree_specs.specs.declared.frame.Purpose.TheVariants.{Removal, Emptying}
 use Rattle.tree_specs.specs.declared.frame.Answer.TheVariants.{Freed}
 use Rattle.tree_specs.specs.declared.free_step.FreeReply.{FreeReply}
-use Rattle.tree_specs.specs.declared.free_step.FreeReply.TheVariants.{Ok, Running, Refused as IsRefused}
+use Rattle.tree_specs.specs.declared.free_step.FreeReply.TheVariants.{Ok, Held, Running, Refused as IsRefused}
 use Rattle.tree_specs.specs.declared.free_step.FreeStep.{FreeStep}
-use Rattle.tree_specs.specs.declared.free_step.FreeStep.TheVariants.{Ask, Refused, Accepted, Left, Moved, Gone, Done}
+use Rattle.tree_specs.specs.declared.free_step.FreeStep.TheVariants.{Ask, Dropped, Refused, Accepted, Left, Moved, Gone, Done}
 use Rattle.tree_specs.specs.declared.object.Obj.{Obj}
 use Rattle.tree_specs.specs.declared.object.Owner.{Owner}
 use Rattle.tree_specs.specs.declared.object.Owner.TheVariants.{Of}
 use Rattle.tree_specs.specs.declared.row.Row.{Row}
 use Rattle.tree_specs.specs.declared.row.Mark.{Mark}
 use Rattle.tree_specs.specs.declared.row.Mark.TheVariants.{Quiet, Asked, Busy, Doomed, Dying}
-use Rattle.tree_specs.specs.Pool.{Pool, row_of, is_below, owner_of, first_kid, marked_row, hooked_row, left_row, set_mark}
+use Rattle.tree_specs.specs.Pool.{Pool, row_of, is_below, owner_of, first_kid, target_at, newest_ref_of, is_inside, is_dying_mark, without, marked_row, hooked_row, left_row, set_mark}
+use Rattle.tree_specs.specs.Targets.{newest_ref}
+use Rattle.tree_specs.specs.Objects.{same}
 use Rattle.tree_specs.specs.Heirs.{heir}
 use Rattle.tree_specs.specs.Inside.{total}
-use Rattle.tree_specs.specs.Table.{FreeMove, free_step, begin_step, loop_step, hand_on_step, caller_resume}
+use Rattle.tree_specs.specs.Table.{FreeMove, free_step, begin_step, refs_step, unlink_step, release_step, child_step, loop_step, hand_on_step, caller_resume}
 use Rattle.tree_specs.specs.Measure.{below_cost, loop_kids, top_cost, cost}
 use Rattle.tree_specs.specs.Sound.{InRun, InLoop, claims, IsLive, Sound}
 use Rattle.tree_specs.specs.Whole.{Seated, Whole}
-use Rattle.tree_specs.proofs.Checks.{MayBePlaced}
+use Rattle.tree_specs.specs.Sound.{MayBePlaced}
 use Rattle.tree_specs.proofs.Numbered.{by_test}
 use Rattle.tree_specs.proofs.Rows.{total-without, total-placed, total-changed}
 use Rattle.tree_specs.proofs.Changes.{dying-row, running-row, claim-here, heir-placed}
@@ -55,10 +57,13 @@ live-row p x r e live = (rw e refl, rw e (each r.mark live))
 pub placeable : (p : Pool) (o : Owner) (x : Obj) → MayBePlaced p o x → MayPlace p.rows x o
 placeable p o x may = let live = live-row p x may.row may.is may.live in record { is = live.0; live = live.1; there = may.there; apart = may.outside }
 
-hands-on : (x c : Obj) (f : Frame) (fs : List Frame) (p : Pool) → Sound f fs p → MayHandOn p x c
-hands-on x c f fs p s = λ below. placeable p (heir p.rows x c) c (heir-placed x c f fs p s below)
+hands-on : (x c : Obj) (noted : Option Owner) (f : Frame) (fs : List Frame) (p : Pool) → Sound f fs p → MayHandOn p x c noted
+hands-on x c noted f fs p s = λ below. placeable p (heir p.rows x c noted) c (heir-placed x c noted f fs p s below)
 
 pub rests : (f : FreeFrame) (fs : List Frame) (p : Pool) → Sound (frame.Free f) fs p → FreeRests f p
+rests (Unlinking o x) fs p s = tt
+rests (Releasing x) fs p s = tt
+rests (Giving x o) fs p s = placeable p o x s.rests
 rests (Beginning x) fs p s = tt
 rests (Hooked x h) fs p s = tt
 rests (Judged x h v) fs p s =
@@ -67,10 +72,16 @@ rests (Judged x h v) fs p s =
 rests (Leaving x h) fs p s = live-row p x s.rests.0 s.rests.1 s.rests.2
 rests (Looping x (Removal h)) fs p s =
     let row = dying-row (row_of p.rows x) (claims x fs) (claim-here x InLoop (claims x fs) (row_of p.rows x) (s.open_frees x)) in
-    rw (row.1, row.3) refl
+    (rw (row.1, row.3) refl, quiet-row row.0 row.1 (ap is_dying_mark row.3) (target_at p.rows x) refl)
+  where
+    quiet-row : (r : Row) → row_of p.rows x ≡ Some r → is_dying_mark r.mark ≡ true → (o : Option Obj) → target_at p.rows x ≡ o → target_at p.rows x ≡ None
+    quiet-row r e d None q = q
+    quiet-row r e d (Some t) q =
+        let still : r.mark ≡ Quiet = rw e at (s.refers.quiet x t q) in
+        let bad : false ≡ true = ap is_dying_mark (sym still) ∙ d in cc
 rests (Looping x Emptying) fs p s = tt
-rests (Trying x c purpose) fs p s = tt
-rests (Tried x c purpose a) fs p s = hands-on x c _ fs p s
+rests (Trying x c noted purpose) fs p s = tt
+rests (Tried x c noted purpose a) fs p s = hands-on x c noted _ fs p s
 rests (Ending a) fs p s = tt
 
 -- ---- what a move leads to
@@ -96,12 +107,15 @@ callers-wait f fs [] s = absurd (none f fs s)
     none : (f : FreeFrame) (fs : List FreeFrame) → Seated (frame.Free f) (standing fs []) → ⊥
     none f [] s = s
     none f (Hooked x h ∷ fs) s = s.0
+    none f (Unlinking o x ∷ fs) s = none (Unlinking o x) fs s.1
+    none f (Releasing x ∷ fs) s = none (Releasing x) fs s.1
+    none f (Giving x o ∷ fs) s = none (Giving x o) fs s.1
     none f (Beginning x ∷ fs) s = none (Beginning x) fs s.1
     none f (Judged x h v ∷ fs) s = none (Judged x h v) fs s.1
     none f (Leaving x h ∷ fs) s = none (Leaving x h) fs s.1
     none f (Looping x purpose ∷ fs) s = none (Looping x purpose) fs s.1
-    none f (Trying x c purpose ∷ fs) s = none (Trying x c purpose) fs s.1
-    none f (Tried x c purpose a ∷ fs) s = none (Tried x c purpose a) fs s.1
+    none f (Trying x c noted purpose ∷ fs) s = none (Trying x c noted purpose) fs s.1
+    none f (Tried x c noted purpose a ∷ fs) s = none (Tried x c noted purpose a) fs s.1
     none f (Ending a ∷ fs) s = none (Ending a) fs s.1
 
 -- what is told says how the frees go on
@@ -118,16 +132,20 @@ told-kept f fs p told t w e = each told (subst (OnMove (λ g gs q j. Whole (reco
     asked : (works : List FreeFrame) (x : Obj) → OnTold (λ g gs q j. Whole (record { innermost = g; below = gs; pool = q })) w.0 0 (Ask x) works t.pool → IsAwaiting (record { works = works; pool = t.pool })
     asked (Hooked y h ∷ gs) x l = record { caller = _; callers = w.0; whole = l }
     asked [] x l = absurd l
+    asked (Unlinking o y ∷ gs) x l = absurd l
+    asked (Releasing y ∷ gs) x l = absurd l
+    asked (Giving y o ∷ gs) x l = absurd l
     asked (Beginning y ∷ gs) x l = absurd l
     asked (Judged y h v ∷ gs) x l = absurd l
     asked (Leaving y h ∷ gs) x l = absurd l
     asked (Looping y purpose ∷ gs) x l = absurd l
-    asked (Trying y c purpose ∷ gs) x l = absurd l
-    asked (Tried y c purpose a ∷ gs) x l = absurd l
+    asked (Trying y c noted purpose ∷ gs) x l = absurd l
+    asked (Tried y c noted purpose a ∷ gs) x l = absurd l
     asked (Ending a ∷ gs) x l = absurd l
 
     each : (told : FreeStep) → OnTold (λ g gs q j. Whole (record { innermost = g; below = gs; pool = q })) w.0 0 told t.works t.pool → GoesOn told t
     each (Ask x) l = asked t.works x l
+    each (Dropped r target) l = news t.works l
     each (Refused x v) l = news t.works l
     each (Accepted x) l = news t.works l
     each (Left x from) l = news t.works l
@@ -148,12 +166,15 @@ standing-cost : (fs : List FreeFrame) (cs : List CallFrame) → below_cost (stan
 standing-cost [] cs = omega arith
 standing-cost (Hooked x h ∷ fs) [] = let ih = standing-cost fs [] in omega (arith, ih)
 standing-cost (Hooked x h ∷ fs) (c ∷ cs) = let ih = standing-cost fs cs in omega (arith, ih)
+standing-cost (Unlinking o x ∷ fs) cs = let ih = standing-cost fs cs in omega (arith, ih)
+standing-cost (Releasing x ∷ fs) cs = let ih = standing-cost fs cs in omega (arith, ih)
+standing-cost (Giving x o ∷ fs) cs = let ih = standing-cost fs cs in omega (arith, ih)
 standing-cost (Beginning x ∷ fs) cs = let ih = standing-cost fs cs in omega (arith, ih)
 standing-cost (Judged x h v ∷ fs) cs = let ih = standing-cost fs cs in omega (arith, ih)
 standing-cost (Leaving x h ∷ fs) cs = let ih = standing-cost fs cs in omega (arith, ih)
 standing-cost (Looping x purpose ∷ fs) cs = let ih = standing-cost fs cs in omega (arith, ih)
-standing-cost (Trying x c purpose ∷ fs) cs = let ih = standing-cost fs cs in omega (arith, ih)
-standing-cost (Tried x c purpose a ∷ fs) cs = let ih = standing-cost fs cs in omega (arith, ih)
+standing-cost (Trying x c noted purpose ∷ fs) cs = let ih = standing-cost fs cs in omega (arith, ih)
+standing-cost (Tried x c noted purpose a ∷ fs) cs = let ih = standing-cost fs cs in omega (arith, ih)
 standing-cost (Ending a ∷ fs) cs = let ih = standing-cost fs cs in omega (arith, ih)
 
 standing-kids : (rows : List Row) (fs : List FreeFrame) (cs : List CallFrame) → loop_kids rows (standing fs cs) ≡ loop_kids rows (map (λ g. frame.Free g) fs)
@@ -161,22 +182,28 @@ standing-kids rows [] [] = refl
 standing-kids rows [] (c ∷ cs) = refl
 standing-kids rows (Hooked x h ∷ fs) [] = refl
 standing-kids rows (Hooked x h ∷ fs) (c ∷ cs) = refl
+standing-kids rows (Unlinking o x ∷ fs) cs = refl
+standing-kids rows (Releasing x ∷ fs) cs = refl
+standing-kids rows (Giving x o ∷ fs) cs = refl
 standing-kids rows (Beginning x ∷ fs) cs = refl
 standing-kids rows (Judged x h v ∷ fs) cs = refl
 standing-kids rows (Leaving x h ∷ fs) cs = refl
 standing-kids rows (Looping x purpose ∷ fs) cs = refl
-standing-kids rows (Trying x c purpose ∷ fs) cs = refl
-standing-kids rows (Tried x c purpose a ∷ fs) cs = refl
+standing-kids rows (Trying x c noted purpose ∷ fs) cs = refl
+standing-kids rows (Tried x c noted purpose a ∷ fs) cs = refl
 standing-kids rows (Ending a ∷ fs) cs = refl
 
 standing-top : (R : ℕ) (f : FreeFrame) (fs : List FreeFrame) (cs : List CallFrame) (rows : List Row) → top_cost R (frame.Free f) (standing fs cs) rows ≡ top_cost R (frame.Free f) (map (λ g. frame.Free g) fs) rows
+standing-top R (Unlinking o x) fs cs rows = let k = standing-kids rows fs cs in omega (arith, k)
+standing-top R (Releasing x) fs cs rows = let k = standing-kids rows fs cs in omega (arith, k)
+standing-top R (Giving x o) fs cs rows = let k = standing-kids rows fs cs in omega (arith, k)
 standing-top R (Beginning x) fs cs rows = let k = standing-kids rows fs cs in omega (arith, k)
 standing-top R (Hooked x h) fs cs rows = refl
 standing-top R (Judged x h v) fs cs rows = refl
 standing-top R (Leaving x h) fs cs rows = refl
 standing-top R (Looping x purpose) fs cs rows = refl
-standing-top R (Trying x c purpose) fs cs rows = refl
-standing-top R (Tried x c purpose a) fs cs rows = refl
+standing-top R (Trying x c noted purpose) fs cs rows = refl
+standing-top R (Tried x c noted purpose a) fs cs rows = refl
 standing-top R (Ending a) fs cs rows = refl
 
 -- a move that tells nothing lowers the measure
@@ -236,13 +263,33 @@ slim-begin x p = each (row_of p.rows x) refl
     each None e = rw e (omega arith)
     each (Some r) e = marks r r.mark refl e
 
-slim-handed : (x c : Obj) (purpose : Purpose) (a : FreeReply) (fs : List Frame) (p : Pool) → Sound (frame.Free (Tried x c purpose a)) fs p → Slim (1 + total row_places p.rows) (hand_on_step x c purpose p)
-slim-handed x c purpose a fs p s = by_test (is_below (owner_of p.rows c) (Of x))
-    (λ t. let may = heir-placed x c _ fs p s t in let w = total-placed row_places p (heir p.rows x c) c may.row may.is refl in rw t (omega (arith, w)))
+slim-handed : (x c : Obj) (noted : Option Owner) (purpose : Purpose) (a : FreeReply) (fs : List Frame) (p : Pool) → Sound (frame.Free (Tried x c noted purpose a)) fs p → Slim (1 + total row_places p.rows) (hand_on_step x c noted purpose p)
+slim-handed x c noted purpose a fs p s = by_test (is_below (owner_of p.rows c) (Of x))
+    (λ t. let may = heir-placed x c noted _ fs p s t in let w = total-placed row_places p (heir p.rows x c noted) c may.row may.is refl in rw t (omega (arith, w)))
     (λ t. rw t (omega arith))
 
+-- a row that goes wants no place
+fewer-places : (rs : List Row) (x : Obj) → total row_places (without rs x) ≤ total row_places rs
+fewer-places [] x = omega arith
+fewer-places (r ∷ rs) x = let ih = fewer-places rs x in by_test (same r.serial x) (λ t. rw t (omega arith)) (λ t. rw t (omega (arith, ih)))
+
 slim : (f : FreeFrame) (fs : List Frame) (p : Pool) → Sound (frame.Free f) fs p → Slim (work_places f + total row_places p.rows) (free_step f p)
-slim (Beginning x) fs p s = slim-begin x p
+slim (Unlinking o x) fs p s = each (newest_ref_of p.rows o x)
+  where
+    each : (r : Option Obj) → Slim (0 + total row_places p.rows) (unlink_step x r p)
+    each None = omega arith
+    each (Some r) = let l = fewer-places p.rows r in omega (arith, l)
+slim (Releasing x) fs p s = each (newest_ref p.rows x)
+  where
+    each : (r : Option Obj) → Slim (0 + total row_places p.rows) (release_step x r p)
+    each None = omega arith
+    each (Some r) = let l = fewer-places p.rows r in by_test (is_inside p.rows (Of r) (Of x)) (λ t. rw t (omega (arith, l))) (λ t. rw t (omega (arith, l)))
+slim (Giving x o) fs p s = let w = total-placed row_places p o x s.rests.row s.rests.is refl in omega (arith, w)
+slim (Beginning x) fs p s = each (newest_ref p.rows x)
+  where
+    each : (r : Option Obj) → Slim (0 + total row_places p.rows) (refs_step x r p)
+    each None = slim-begin x p
+    each (Some r) = let l = fewer-places p.rows r in by_test (is_inside p.rows (Of r) (Of x)) (λ t. rw t (omega (arith, l))) (λ t. rw t (omega (arith, l)))
 slim (Hooked x h) fs p s = omega arith
 slim (Judged x h v) fs p s =
     let row = running-row (row_of p.rows x) (claims x fs) (claim-here x InRun (claims x fs) (row_of p.rows x) (s.open_frees x)) in
@@ -256,27 +303,35 @@ slim (Leaving x h) fs p s =
 slim (Looping x purpose) fs p s = each purpose s (first_kid p.rows (Of x))
   where
     each : (purpose : Purpose) → Sound (frame.Free (Looping x purpose)) fs p → (o : Option Obj) → Slim (1 + total row_places p.rows) (loop_step x purpose o p)
-    each purpose s (Some c) = omega arith
+    each purpose s (Some c) = taken (target_at p.rows c)
+      where
+        taken : (target : Option Obj) → Slim (1 + total row_places p.rows) (child_step x c purpose target p)
+        taken None = omega arith
+        taken (Some target) = let l = fewer-places p.rows c in omega (arith, l)
     each (Removal h) s None =
         let row = dying-row (row_of p.rows x) (claims x fs) (claim-here x InLoop (claims x fs) (row_of p.rows x) (s.open_frees x)) in
         let w = total-without row_places p.rows x row.0 row.1 in
         omega (arith, w)
     each Emptying s None = omega arith
-slim (Trying x c purpose) fs p s = omega arith
-slim (Tried x c purpose Ok) fs p s = omega arith
-slim (Tried x c purpose Running) fs p s = slim-handed x c purpose Running fs p s
-slim (Tried x c purpose (IsRefused v)) fs p s = slim-handed x c purpose (IsRefused v) fs p s
+slim (Trying x c noted purpose) fs p s = omega arith
+slim (Tried x c noted purpose Ok) fs p s = omega arith
+slim (Tried x c noted purpose Held) fs p s = slim-handed x c noted purpose Held fs p s
+slim (Tried x c noted purpose Running) fs p s = slim-handed x c noted purpose Running fs p s
+slim (Tried x c noted purpose (IsRefused v)) fs p s = slim-handed x c noted purpose (IsRefused v) fs p s
 slim (Ending a) fs p s = omega arith
 
 wants-answered : (a : FreeReply) (fs : List FreeFrame) (q : Pool) → wanted (answered a q fs).1.works (answered a q fs).1.pool.rows ≤ length fs + total row_places q.rows
 wants-answered a [] q = omega arith
 wants-answered a (Hooked x h ∷ fs) q = omega arith
+wants-answered a (Unlinking o x ∷ fs) q = omega arith
+wants-answered a (Releasing x ∷ fs) q = omega arith
+wants-answered a (Giving x o ∷ fs) q = omega arith
 wants-answered a (Beginning x ∷ fs) q = omega arith
 wants-answered a (Judged x h v ∷ fs) q = omega arith
 wants-answered a (Leaving x h ∷ fs) q = omega arith
 wants-answered a (Looping x purpose ∷ fs) q = omega arith
-wants-answered a (Trying x c purpose ∷ fs) q = omega arith
-wants-answered a (Tried x c purpose b ∷ fs) q = omega arith
+wants-answered a (Trying x c noted purpose ∷ fs) q = omega arith
+wants-answered a (Tried x c noted purpose b ∷ fs) q = omega arith
 wants-answered a (Ending b ∷ fs) q = omega arith
 
 -- no move wants more places

@@ -29,10 +29,9 @@ use Rattle.destructors.proofs.Settling.{still, asks-hooked}
 -- a new object
 pub added-rests : (o : Owner) (size : ℕ) (name : List ℕ) (p : Pool) → is_owner p.rows o ≡ true → Whole (call_view (Asking Quiet) [] [] p) → Whole (call_view (Asking Quiet) [] [] (add p Plain o size name))
 added-rests o size name p there w = record {
-  sound = new-sound (frame.Call (Asking Quiet)) (frame.Call (Asking Quiet)) o size name [] p w.sound there (λ x. refl) tt;
+  sound = new-sound (frame.Call (Asking Quiet)) (frame.Call (Asking Quiet)) Plain o size name [] p w.sound there (λ t e. cc) (λ x. refl) tt;
   seated = w.seated;
   light = omega arith;
-  plain = (refl, w.plain);
 }
 
 -- an object is given the destructor 16
@@ -43,7 +42,6 @@ hooked-rests x p none w =
       sound = stands (frame.Call (Asking Quiet)) (frame.Call (Doing Quiet (call.Hook x 16))) [] [] p (λ y. refl) tt tt w.sound;
       seated = w.seated;
       light = w.light;
-      plain = w.plain;
     } in
     let goes : step (frame.Call (Doing Quiet (call.Hook x 16))) p ≡ Do.Go (frame.Call (Telling Quiet reply.Ok)) (set_hook p x 16) = ap (λ (check : Check). call_step check Quiet (call.Hook x 16) p) none in
     let telling : Whole (call_view (Telling Quiet reply.Ok) [] [] (set_hook p x 16)) = rw goes at (whole-kept (call_view (Doing Quiet (call.Hook x 16)) [] [] p) 0 doing) in

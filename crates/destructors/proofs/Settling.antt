@@ -1,13 +1,13 @@
 -- A move that tells nothing, by the parts of an engine.
 use Rattle.std.proofs.Common.{◌≡◌, ℕ, ◌+◌, ◌≤◌, ◌<◌, List, [], ◌∷◌, length, Option, Some, None, true, false, refl, sym, ◌∙◌, ap, subst, inl, inr, arith}
 use Rattle.tree_specs.specs.declared.frame.FreeFrame.{FreeFrame}
-use Rattle.tree_specs.specs.declared.frame.FreeFrame.TheVariants.{Beginning, Hooked, Judged, Leaving, Looping, Trying, Tried, Ending}
+use Rattle.tree_specs.specs.declared.frame.FreeFrame.TheVariants.{Unlinking, Releasing, Giving, Beginning, Hooked, Judged, Leaving, Looping, Trying, Tried, Ending}
 use Rattle.tree_specs.specs.declared.frame.Frame.TheVariants as frame
 use Rattle.step_machine.specs.Machine.{Move as Do}
 use Rattle.tree_specs.specs.declared.object.Obj.{Obj}
 use Rattle.tree_specs.specs.declared.free_step.FreeReply.{FreeReply}
 use Rattle.tree_specs.specs.declared.free_step.FreeStep.{FreeStep}
-use Rattle.tree_specs.specs.declared.free_step.FreeStep.TheVariants.{Ask, Refused, Accepted, Left, Moved, Gone, Done}
+use Rattle.tree_specs.specs.declared.free_step.FreeStep.TheVariants.{Ask, Dropped, Refused, Accepted, Left, Moved, Gone, Done}
 use Rattle.tree_specs.specs.Table.{FreeMove, free_step}
 use Rattle.tree_specs.specs.Whole.{Seated}
 use Rattle.tree_specs.specs.Pool.{Pool}
@@ -69,12 +69,15 @@ awaiting-speaks s a = each s.works a.whole.seated
     each : (works : List FreeFrame) → Seated (frame.Call a.caller) (under works a.callers) → speaks works (moves works s.pool).0 ≡ true
     each [] w = refl
     each (Hooked x h ∷ fs) w = refl
+    each (Unlinking o x ∷ fs) w = absurd w.0
+    each (Releasing x ∷ fs) w = absurd w.0
+    each (Giving x o ∷ fs) w = absurd w.0
     each (Beginning x ∷ fs) w = absurd w.0
     each (Judged x h v ∷ fs) w = absurd w.0
     each (Leaving x h ∷ fs) w = absurd w.0
     each (Looping x purpose ∷ fs) w = absurd w.0
-    each (Trying x c purpose ∷ fs) w = absurd w.0
-    each (Tried x c purpose b ∷ fs) w = absurd w.0
+    each (Trying x c noted purpose ∷ fs) w = absurd w.0
+    each (Tried x c noted purpose b ∷ fs) w = absurd w.0
     each (Ending b ∷ fs) w = absurd w.0
 
 -- where there is nothing to do but to tell, nothing is done silently
@@ -98,6 +101,7 @@ told-ready told (Some f) tree k g = each told g
   where
     each : (told : FreeStep) → GoesOn told (frees_of (Some f) tree) → MayMove (Some f) tree
     each (Ask x) a = inr (awaiting-speaks (frees_of (Some f) tree) a)
+    each (Dropped r target) w = inl w
     each (Refused x v) w = inl w
     each (Accepted x) w = inl w
     each (Left x from) w = inl w
@@ -108,6 +112,7 @@ told-ready told (Some f) tree k g = each told g
 -- and go on so after the moves that tell nothing
 pub told-settled : (told : FreeStep) (s t : OpenFrees) → GoesOn told s → Silently s t → (IsAtWork s → IsAtWork t) → GoesOn told t
 told-settled (Ask x) s t g moves_on keeps = subst IsAwaiting (still s t moves_on (awaiting-speaks s g)) g
+told-settled (Dropped r target) s t g moves_on keeps = keeps g
 told-settled (Refused x v) s t g moves_on keeps = keeps g
 told-settled (Accepted x) s t g moves_on keeps = keeps g
 told-settled (Left x from) s t g moves_on keeps = keeps g
@@ -146,12 +151,15 @@ asks-hooked f fs p x t e = each (free_step f p) (is_move f p) e
     over : (a : FreeReply) (q : Pool) (gs : List FreeFrame) → answered a q gs ≡ (Some (Ask x), t) → ⊥
     over a q [] e = let d = (told _ _ e).0 in let bad : Some (Done a) ≡ Some (Ask x) = d in cc
     over a q (Hooked y h ∷ gs) e = let bad : Some (Done a) ≡ Some (Ask x) = (told _ _ e).0 in cc
+    over a q (Unlinking o y ∷ gs) e = let bad : None ≡ Some (Ask x) = (told _ _ e).0 in cc
+    over a q (Releasing y ∷ gs) e = let bad : None ≡ Some (Ask x) = (told _ _ e).0 in cc
+    over a q (Giving y o ∷ gs) e = let bad : None ≡ Some (Ask x) = (told _ _ e).0 in cc
     over a q (Beginning y ∷ gs) e = let bad : None ≡ Some (Ask x) = (told _ _ e).0 in cc
     over a q (Judged y h v ∷ gs) e = let bad : None ≡ Some (Ask x) = (told _ _ e).0 in cc
     over a q (Leaving y h ∷ gs) e = let bad : None ≡ Some (Ask x) = (told _ _ e).0 in cc
     over a q (Looping y purpose ∷ gs) e = let bad : None ≡ Some (Ask x) = (told _ _ e).0 in cc
-    over a q (Trying y c purpose ∷ gs) e = let bad : None ≡ Some (Ask x) = (told _ _ e).0 in cc
-    over a q (Tried y c purpose b ∷ gs) e = let bad : None ≡ Some (Ask x) = (told _ _ e).0 in cc
+    over a q (Trying y c noted purpose ∷ gs) e = let bad : None ≡ Some (Ask x) = (told _ _ e).0 in cc
+    over a q (Tried y c noted purpose b ∷ gs) e = let bad : None ≡ Some (Ask x) = (told _ _ e).0 in cc
     over a q (Ending b ∷ gs) e = let bad : None ≡ Some (Ask x) = (told _ _ e).0 in cc
 
     each : (m : FreeMove) → IsMoveOf f p m → moved m fs ≡ (Some (Ask x), t) → (h : ℕ) × (f ≡ Hooked x h) × (t ≡ record { works = f ∷ fs; pool = p })

@@ -1,7 +1,7 @@
 -- What an engine and the tree keep of the open frees.
 use Rattle.std.specs.Prelude.{◌≡◌, ◌+◌, ◌≤◌, true, [], ◌∷◌, length, Option, Some, None, ◌⊎◌}
 use Rattle.tree_specs.specs.declared.frame.FreeFrame.{FreeFrame}
-use Rattle.tree_specs.specs.declared.frame.FreeFrame.TheVariants.{Beginning, Hooked, Judged, Leaving, Looping, Trying, Tried, Ending}
+use Rattle.tree_specs.specs.declared.frame.FreeFrame.TheVariants.{Unlinking, Releasing, Giving, Beginning, Hooked, Judged, Leaving, Looping, Trying, Tried, Ending}
 use Rattle.tree_links.specs.Links.{Links, pool_of}
 use Rattle.destructors.specs.Frees.{before, frees_of, speaking}
 use Rattle.destructors.specs.Works.{AtWork}
@@ -11,12 +11,15 @@ use Rattle.destructors.specs.Room.{wanted}
 abbrev pub IsAsked : Option FreeFrame → Type 0
 IsAsked None = ⊥
 IsAsked (Some (Hooked x h)) = Unit {0}
+IsAsked (Some (Unlinking o x)) = ⊥
+IsAsked (Some (Releasing x)) = ⊥
+IsAsked (Some (Giving x o)) = ⊥
 IsAsked (Some (Beginning x)) = ⊥
 IsAsked (Some (Judged x h v)) = ⊥
 IsAsked (Some (Leaving x h)) = ⊥
 IsAsked (Some (Looping x purpose)) = ⊥
-IsAsked (Some (Trying x c purpose)) = ⊥
-IsAsked (Some (Tried x c purpose a)) = ⊥
+IsAsked (Some (Trying x c noted purpose)) = ⊥
+IsAsked (Some (Tried x c noted purpose a)) = ⊥
 IsAsked (Some (Ending a)) = ⊥
 
 -- where the engine has no work, none waits in the tree

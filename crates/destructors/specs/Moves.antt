@@ -1,13 +1,14 @@
 -- What the code calls a move, and what a move rests on.
-use Rattle.std.specs.Prelude.{◌≡◌, true, false}
+use Rattle.std.specs.Prelude.{◌≡◌, Option, None, true, false}
 use Rattle.step_machine.specs.Machine.{Move as Do}
 use Rattle.tree_specs.specs.declared.object.Obj.{Obj}
+use Rattle.tree_specs.specs.declared.object.Owner.{Owner}
 use Rattle.tree_specs.specs.declared.object.Owner.TheVariants.{Of}
 use Rattle.tree_specs.specs.declared.frame.FreeFrame.{FreeFrame}
-use Rattle.tree_specs.specs.declared.frame.FreeFrame.TheVariants.{Beginning, Hooked, Judged, Leaving, Looping, Trying, Tried, Ending}
+use Rattle.tree_specs.specs.declared.frame.FreeFrame.TheVariants.{Unlinking, Releasing, Giving, Beginning, Hooked, Judged, Leaving, Looping, Trying, Tried, Ending}
 use Rattle.tree_specs.specs.declared.frame.Purpose.TheVariants.{Removal, Emptying}
 use Rattle.tree_specs.specs.declared.free_step.FreeStep.TheVariants.{Ask}
-use Rattle.tree_specs.specs.Pool.{Pool, is_row, is_below, owner_of, is_dying}
+use Rattle.tree_specs.specs.Pool.{Pool, is_row, is_below, owner_of, target_at, is_dying}
 use Rattle.tree_specs.specs.Heirs.{heir}
 use Rattle.tree_specs.specs.Table.{FreeMove}
 use Rattle.tree_links.specs.Links.{MayPlace}
@@ -36,17 +37,20 @@ abbrev pub IsLiveRow : Pool → Obj → Type 0
 IsLiveRow p x = (is_row p.rows x ≡ true) × (is_dying p.rows x ≡ false)
 
 -- a child that is to be handed on may be put below its heir
-abbrev pub MayHandOn : Pool → Obj → Obj → Type 0
-MayHandOn p x c = is_below (owner_of p.rows c) (Of x) ≡ true → MayPlace p.rows c (heir p.rows x c)
+abbrev pub MayHandOn : Pool → Obj → Obj → Option Owner → Type 0
+MayHandOn p x c noted = is_below (owner_of p.rows c) (Of x) ≡ true → MayPlace p.rows c (heir p.rows x c noted)
 
 -- what a move rests on
 abbrev pub FreeRests : FreeFrame → Pool → Type 0
+FreeRests (Unlinking o x) p = Unit {0}
+FreeRests (Releasing x) p = Unit {0}
+FreeRests (Giving x o) p = MayPlace p.rows x o
 FreeRests (Beginning x) p = Unit {0}
 FreeRests (Hooked x h) p = Unit {0}
 FreeRests (Judged x h v) p = IsLiveRow p x
 FreeRests (Leaving x h) p = IsLiveRow p x
-FreeRests (Looping x (Removal h)) p = is_dying p.rows x ≡ true
+FreeRests (Looping x (Removal h)) p = (is_dying p.rows x ≡ true) × (target_at p.rows x ≡ None)
 FreeRests (Looping x Emptying) p = Unit {0}
-FreeRests (Trying x c purpose) p = Unit {0}
-FreeRests (Tried x c purpose a) p = MayHandOn p x c
+FreeRests (Trying x c noted purpose) p = Unit {0}
+FreeRests (Tried x c noted purpose a) p = MayHandOn p x c noted
 FreeRests (Ending a) p = Unit {0}

@@ -4,7 +4,7 @@ use Rattle.tree_specs.specs.declared.row.Row.{Row}
 use Rattle.tree_specs.specs.declared.row.Mark.{Mark}
 use Rattle.tree_specs.specs.declared.row.Mark.TheVariants.{Quiet, Asked, Busy, Doomed, Dying}
 use Rattle.tree_specs.specs.declared.frame.FreeFrame.{FreeFrame}
-use Rattle.tree_specs.specs.declared.frame.FreeFrame.TheVariants.{Beginning, Hooked, Judged, Leaving, Looping, Trying, Tried, Ending}
+use Rattle.tree_specs.specs.declared.frame.FreeFrame.TheVariants.{Unlinking, Releasing, Giving, Beginning, Hooked, Judged, Leaving, Looping, Trying, Tried, Ending}
 use Rattle.tree_specs.specs.Inside.{total}
 
 -- a row whose freeing has still to come wants one place for its loop
@@ -20,13 +20,16 @@ row_places r = mark_places r.mark
 
 -- what the innermost work itself may put below another
 abbrev pub work_places : FreeFrame → ℕ
+work_places (Unlinking o x) = 0
+work_places (Releasing x) = 0
+work_places (Giving x o) = 0
 work_places (Beginning x) = 0
 work_places (Hooked x h) = 0
 work_places (Judged x h v) = 0
 work_places (Leaving x h) = 0
 work_places (Looping x purpose) = 1
-work_places (Trying x c purpose) = 0
-work_places (Tried x c purpose a) = 1
+work_places (Trying x c noted purpose) = 0
+work_places (Tried x c noted purpose a) = 1
 work_places (Ending a) = 0
 
 -- the works that may still come to stand, with those that stand below the innermost

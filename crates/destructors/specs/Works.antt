@@ -9,7 +9,7 @@ use Rattle.tree_specs.specs.declared.object.Obj.{Obj}
 use Rattle.tree_specs.specs.declared.frame.FreeFrame.{FreeFrame}
 use Rattle.tree_specs.specs.declared.frame.FreeFrame.TheVariants.{Hooked}
 use Rattle.tree_specs.specs.declared.free_step.FreeStep.{FreeStep}
-use Rattle.tree_specs.specs.declared.free_step.FreeStep.TheVariants.{Ask, Refused, Accepted, Left, Moved, Gone, Done}
+use Rattle.tree_specs.specs.declared.free_step.FreeStep.TheVariants.{Ask, Dropped, Refused, Accepted, Left, Moved, Gone, Done}
 use Rattle.tree_specs.specs.Pool.{Pool}
 use Rattle.tree_specs.specs.View.{View}
 use Rattle.tree_specs.specs.Sound.{claim, Rests}
@@ -54,6 +54,7 @@ pub record IsAwaiting (s : OpenFrees) : Type 0 where
 -- what holds after a step
 abbrev pub GoesOn : FreeStep → OpenFrees → Type 0
 GoesOn (Ask x) s = IsAwaiting s
+GoesOn (Dropped r target) s = IsAtWork s
 GoesOn (Refused x v) s = IsAtWork s
 GoesOn (Accepted x) s = IsAtWork s
 GoesOn (Left x from) s = IsAtWork s

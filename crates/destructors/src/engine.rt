@@ -7,11 +7,12 @@ ghost use Rattle.destructors.specs.Frees.{before};
 use crate::motion::Outlook;
 use crate::moves::outlook;
 use crate::works::{advance, settle};
+use references::Refs;
 use std::marker::Model;
 use tree_links::Tree;
-use tree_specs::{FreeFrame, FreeStep, Obj, Purpose};
+use tree_specs::{FreeFrame, FreeStep, Obj, Owner, Purpose};
 
-/// Frees in progress on a tree, as `talloc_free` goes, with the runs of destructors left to the caller. Begins
+/// Frees in progress on a tree and the references in it, as `talloc_free` and `talloc_unlink` go, with the runs of destructors left to the caller. Begins
 /// nest: while a destructor runs, further frees may begin and end. Contracts see the innermost work of the open
 /// frees; those that wait for it stand in the tree, and contracts see both as one list (`frees_of`).
 ///
@@ -56,10 +57,14 @@ fn judged(work: FreeFrame, value: u32) -> FreeFrame
 
 impl FreeEngine {
     ghost use Rattle.std.specs.Prelude.{◌∷◌, true, None};
-    ghost use Rattle.tree_specs.specs.declared.frame.FreeFrame.TheVariants.{Beginning, Looping};
+    ghost use Rattle.tree_specs.specs.declared.frame.FreeFrame.TheVariants.{Unlinking, Beginning, Looping};
     ghost use Rattle.tree_specs.specs.declared.frame.Purpose.TheVariants.{Emptying};
     ghost use Rattle.destructors.specs.Frees.{frees_of, next_of, is_event, returned, speaking, Begins, Steps};
     ghost use Rattle.destructors.specs.Works.{IsAtWork, IsAwaiting, MayBegin, GoesOn};
+    ghost use Rattle.tree_specs.specs.Targets.{newest_ref};
+    ghost use Rattle.tree_specs.specs.Pool.{target_at};
+    ghost use Rattle.references.specs.Rows.{AreRefsOf};
+    ghost use Rattle.destructors.specs.Moves.{IsLiveRow};
     ghost use Rattle.destructors.specs.Engine.{IsAsked, AreKept, HasRoom};
 
     /// An engine with no open free.
@@ -70,48 +75,75 @@ impl FreeEngine {
     }
 
     /// Puts the first work of a free before those of the open ones.
-    fn begin(&mut self, tree: &mut Tree, work: FreeFrame)
+    fn begin(&mut self, tree: &mut Tree, refs: &mut Refs, work: FreeFrame)
         requires awaiting { IsAwaiting (frees_of self.old tree.old) }
         requires kept { AreKept self.old tree.old }
         requires first { MayBegin work (pool_of tree.old) }
         requires room { length tree.old.rows + 2 ≤ tree.old.room }
+        requires refs { AreRefsOf refs.old.pairs tree.old.rows }
         ensures begins { Begins (work ∷ before self.old tree.old.frees) (pool_of tree.old) (frees_of self.new tree.new) }
         ensures at_work { IsAtWork (frees_of self.new tree.new) }
         ensures kept { AreKept self.new tree.new }
         ensures room { HasRoom self.new tree.new }
         ensures spare { tree.old.spare ≤ tree.new.spare }
+        ensures refs { AreRefsOf refs.new.pairs tree.new.rows }
     {
         wait(self.innermost, tree);
-        self.innermost = settle(Some(work), tree);
+        self.innermost = settle(Some(work), tree, refs);
     }
 
-    /// Begins the freeing of an object.
-    pub fn begin_free(&mut self, tree: &mut Tree, x: Obj)
+    /// Begins the freeing of an object to which there is no reference.
+    pub fn begin_free(&mut self, tree: &mut Tree, refs: &mut Refs, x: Obj)
         requires awaiting { IsAwaiting (frees_of self.old tree.old) }
         requires kept { AreKept self.old tree.old }
+        requires object { target_at tree.old.rows x ≡ None }
+        requires unheld { newest_ref tree.old.rows x ≡ None }
         requires room { length tree.old.rows + 2 ≤ tree.old.room }
+        requires refs { AreRefsOf refs.old.pairs tree.old.rows }
         ensures begins { Begins (Beginning x ∷ before self.old tree.old.frees) (pool_of tree.old) (frees_of self.new tree.new) }
         ensures at_work { IsAtWork (frees_of self.new tree.new) }
         ensures kept { AreKept self.new tree.new }
         ensures room { HasRoom self.new tree.new }
         ensures spare { tree.old.spare ≤ tree.new.spare }
+        ensures refs { AreRefsOf refs.new.pairs tree.new.rows }
     {
-        self.begin(tree, FreeFrame::Beginning { x });
+        self.begin(tree, refs, FreeFrame::Beginning { x });
+    }
+
+    /// Begins to take the interest of an owner in an object away (`talloc_unlink`): the newest reference that the owner
+    /// has goes. An owner that has none gives the object up, which goes to the owner of a reference, or is freed.
+    pub fn begin_unlink(&mut self, tree: &mut Tree, refs: &mut Refs, owner: Owner, x: Obj)
+        requires awaiting { IsAwaiting (frees_of self.old tree.old) }
+        requires kept { AreKept self.old tree.old }
+        requires live { IsLiveRow (pool_of tree.old) x }
+        requires object { target_at tree.old.rows x ≡ None }
+        requires room { length tree.old.rows + 2 ≤ tree.old.room }
+        requires refs { AreRefsOf refs.old.pairs tree.old.rows }
+        ensures begins { Begins (Unlinking owner x ∷ before self.old tree.old.frees) (pool_of tree.old) (frees_of self.new tree.new) }
+        ensures at_work { IsAtWork (frees_of self.new tree.new) }
+        ensures kept { AreKept self.new tree.new }
+        ensures room { HasRoom self.new tree.new }
+        ensures spare { tree.old.spare ≤ tree.new.spare }
+        ensures refs { AreRefsOf refs.new.pairs tree.new.rows }
+    {
+        self.begin(tree, refs, FreeFrame::Unlinking { owner, x });
     }
 
     /// Begins the freeing of an object's children. The object itself stays.
-    pub fn begin_kids(&mut self, tree: &mut Tree, x: Obj)
+    pub fn begin_kids(&mut self, tree: &mut Tree, refs: &mut Refs, x: Obj)
         requires awaiting { IsAwaiting (frees_of self.old tree.old) }
         requires kept { AreKept self.old tree.old }
         requires room { length tree.old.rows + 2 ≤ tree.old.room }
+        requires refs { AreRefsOf refs.old.pairs tree.old.rows }
         ensures begins { Begins (Looping x Emptying ∷ before self.old tree.old.frees) (pool_of tree.old) (frees_of self.new tree.new) }
         ensures at_work { IsAtWork (frees_of self.new tree.new) }
         ensures kept { AreKept self.new tree.new }
         ensures room { HasRoom self.new tree.new }
         ensures spare { tree.old.spare ≤ tree.new.spare }
+        ensures refs { AreRefsOf refs.new.pairs tree.new.rows }
     {
         let purpose = Purpose::Emptying;
-        self.begin(tree, FreeFrame::Looping { x, purpose });
+        self.begin(tree, refs, FreeFrame::Looping { x, purpose });
     }
 
     /// The destructor that the innermost free waits for has returned a number: with 0 it accepts, with any other
@@ -129,14 +161,15 @@ impl FreeEngine {
         }
     }
 
-    /// Whether the next step tells an event: it refuses, accepts, is moved or is gone.
-    pub fn announces(&self, tree: &Tree) -> bool
-        requires { AreKept self.now tree.now }
+    /// Whether the next step tells an event: a reference is dropped, or an object refuses, accepts, is moved or is gone.
+    pub fn announces(&self, tree: &Tree, refs: &Refs) -> bool
+        requires refs { AreRefsOf refs.now.pairs tree.now.rows }
+        requires kept { AreKept self.now tree.now }
         ensures { result ≡ is_event (next_of (frees_of self.now tree.now)).0 }
     {
         match self.innermost {
             None | Some(FreeFrame::Hooked { .. } | FreeFrame::Leaving { .. }) => false,
-            Some(work) => matches!(outlook(work, tree), Outlook::Telling),
+            Some(work) => matches!(outlook(work, tree, refs), Outlook::Telling),
         }
     }
 
@@ -145,25 +178,27 @@ impl FreeEngine {
     /// At `Ask` the caller runs the object's destructor and answers with what it returned; he may begin further
     /// frees until then. At `Done` the innermost free is over, and the one around it, if there is one, still waits
     /// for its answer.
-    pub fn step(&mut self, tree: &mut Tree) -> FreeStep
+    pub fn step(&mut self, tree: &mut Tree, refs: &mut Refs) -> FreeStep
         requires at_work { IsAtWork (frees_of self.old tree.old) }
         requires settled { speaking (frees_of self.old tree.old) ≡ true }
         requires kept { AreKept self.old tree.old }
         requires room { HasRoom self.old tree.old }
+        requires refs { AreRefsOf refs.old.pairs tree.old.rows }
         ensures steps { Steps (frees_of self.old tree.old) result (frees_of self.new tree.new) }
         ensures goes_on { GoesOn result (frees_of self.new tree.new) }
         ensures kept { AreKept self.new tree.new }
         ensures room { HasRoom self.new tree.new }
         ensures spare { tree.old.spare ≤ tree.new.spare }
+        ensures refs { AreRefsOf refs.new.pairs tree.new.rows }
     {
         let Some(work) = self.innermost else {
             unreachable!()
         };
-        let progress = advance(work, tree);
+        let progress = advance(work, tree, refs);
         let Some(told) = progress.told else {
             unreachable!()
         };
-        self.innermost = settle(progress.innermost, tree);
+        self.innermost = settle(progress.innermost, tree, refs);
         told
     }
 }

@@ -1,6 +1,6 @@
 //! Where a child goes that was not freed with its owner.
 ghost use Rattle.std.specs.Prelude.{◌≡◌};
-ghost use Rattle.tree_specs.specs.Heirs.{former_of, may_take as may_take_of, heir as heir_of};
+ghost use Rattle.tree_specs.specs.Heirs.{former_of, may_take as may_take_of, noted_taker as noted_taker_of, heir as heir_of};
 
 use tree_links::Tree;
 use tree_specs::{Mark, Obj, Owner};
@@ -24,14 +24,28 @@ fn may_take(child: Obj, owner: Owner, tree: &Tree) -> bool
 {
     match owner {
         Owner::Root => true,
-        Owner::Of(y) => tree.row(y).is_some() && !tree.is_inside(owner, Owner::Of(child)),
+        Owner::Of(_) => tree.is_owner(owner) && !tree.is_inside(owner, Owner::Of(child)),
     }
 }
 
-/// The heir of a child of `x`.
-pub fn heir(x: Obj, child: Obj, tree: &Tree) -> Owner
-    ensures { result ≡ heir_of tree.now.rows x child }
+/// The owner that was noted, where it is an object that may take the child.
+fn noted_taker(child: Obj, noted: Option<Owner>, tree: &Tree) -> Option<Owner>
+    ensures { result ≡ noted_taker_of tree.now.rows child noted }
 {
+    match noted? {
+        Owner::Root => None,
+        owner if may_take(child, owner, tree) => Some(owner),
+        Owner::Of(_) => None,
+    }
+}
+
+/// The heir of a child of `x`, for which an owner may have been noted.
+pub fn heir(x: Obj, child: Obj, noted: Option<Owner>, tree: &Tree) -> Owner
+    ensures { result ≡ heir_of tree.now.rows x child noted }
+{
+    if let Some(owner) = noted_taker(child, noted, tree) {
+        return owner;
+    }
     let former = former_owner(x, tree);
     if may_take(child, former, tree) {
         former

@@ -3,6 +3,7 @@
 //! likes between a question and its answer.
 #![tactic(auto)]
 
+mod dropping;
 mod engine;
 mod heir;
 mod motion;

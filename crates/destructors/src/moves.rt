@@ -1,21 +1,27 @@
 //! The moves of one free, as `talloc_free` goes, and what can be said of them before they are made.
 ghost use Rattle.std.specs.Prelude.{◌≡◌, ◌≤◌, None};
-ghost use Rattle.tree_specs.specs.Pool.{row_of, first_kid, owner_of};
+ghost use Rattle.tree_specs.specs.Pool.{row_of, first_kid, owner_of, target_at, newest_ref_of};
+ghost use Rattle.tree_specs.specs.Targets.{newest_ref};
 ghost use Rattle.tree_specs.specs.declared.object.Owner.TheVariants.{Of as below};
 ghost use Rattle.tree_specs.specs.declared.frame.FreeFrame.TheVariants.{Looping as Loops};
-ghost use Rattle.tree_specs.specs.Table.{free_step, begin_step, begin_quiet, judge_step, last_step, loop_step, hand_on_step};
-ghost use Rattle.tree_links.specs.Links.{pool_of, works_of};
+ghost use Rattle.tree_specs.specs.Table.{free_step, begin_step, begin_quiet, refs_step, unlink_step, release_step, judge_step, last_step, child_step, loop_step, hand_on_step};
+ghost use Rattle.tree_links.specs.Links.{pool_of, works_of, MayPlace};
+ghost use Rattle.references.specs.Rows.{AreRefsOf, SameRefs};
 ghost use Rattle.destructors.specs.Moves.{move_of, outlook_of, IsLiveRow, MayHandOn, FreeRests};
 
+use crate::dropping::{drop_ref, hold, noted_owner, release, unlink};
 use crate::heir::heir;
 use crate::motion::{Motion, Outlook};
+use references::Refs;
 use tree_links::Tree;
 use tree_specs::{FreeFrame, FreeReply, FreeStep, Mark, Obj, Owner, Purpose};
 
+/// The freeing of an object to which there is no reference begins.
 fn begin(x: Obj, tree: &mut Tree) -> Motion
     ensures moved { move_of result (pool_of tree.new) ≡ begin_step x (row_of tree.old.rows x) (pool_of tree.old) }
     ensures spare { tree.old.spare ≤ tree.new.spare }
     ensures works { works_of tree.new ≡ works_of tree.old }
+    ensures same_refs { SameRefs tree.old.rows tree.new.rows }
 {
     let Some(row) = tree.row(x) else {
         return Motion::Ends(FreeReply::Ok);
@@ -42,6 +48,7 @@ fn judge(x: Obj, hook: u32, value: u32, tree: &mut Tree) -> Motion
     ensures moved { move_of result (pool_of tree.new) ≡ judge_step x hook value (pool_of tree.old) }
     ensures spare { tree.old.spare ≤ tree.new.spare }
     ensures works { works_of tree.new ≡ works_of tree.old }
+    ensures same_refs { SameRefs tree.old.rows tree.new.rows }
 {
     if value == 0 {
         tree.set_hook(x, 0);
@@ -56,11 +63,26 @@ fn judge(x: Obj, hook: u32, value: u32, tree: &mut Tree) -> Motion
     Motion::Tells(refused, FreeFrame::Ending { answer })
 }
 
+/// The freeing of an object begins: references come first.
+fn begin_free(x: Obj, tree: &mut Tree, refs: &mut Refs) -> Motion
+    requires refs { AreRefsOf refs.old.pairs tree.old.rows }
+    ensures moved { move_of result (pool_of tree.new) ≡ refs_step x (newest_ref tree.old.rows x) (pool_of tree.old) }
+    ensures spare { tree.old.spare ≤ tree.new.spare }
+    ensures works { works_of tree.new ≡ works_of tree.old }
+    ensures refs { AreRefsOf refs.new.pairs tree.new.rows }
+{
+    match refs.newest(tree, x) {
+        Some(reference) => hold(x, reference, tree, refs),
+        None => begin(x, tree),
+    }
+}
+
 fn leave(x: Obj, hook: u32, tree: &mut Tree) -> Motion
     requires { IsLiveRow (pool_of tree.old) x }
     ensures moved { move_of result (pool_of tree.new) ≡ free_step (FreeFrame.Leaving x hook) (pool_of tree.old) }
     ensures spare { tree.old.spare ≤ tree.new.spare }
     ensures works { works_of tree.new ≡ works_of tree.old }
+    ensures same_refs { SameRefs tree.old.rows tree.new.rows }
 {
     let from = tree.parent(x).unwrap_or(Owner::Root);
     tree.detach(x);
@@ -78,9 +100,12 @@ fn finish(x: Obj, purpose: Purpose, tree: &mut Tree) -> Motion
     ensures moved { move_of result (pool_of tree.new) ≡ last_step x purpose (pool_of tree.old) }
     ensures spare { tree.old.spare ≤ tree.new.spare }
     ensures works { works_of tree.new ≡ works_of tree.old }
+    ensures same_refs { SameRefs tree.old.rows tree.new.rows }
 {
     match purpose {
         Purpose::Removal { hook } => {
+            // All that is wanted of `len` is its contract: each number stands once.
+            let _rows = tree.len();
             tree.remove(x);
             let answer = FreeReply::Ok;
             Motion::Tells(
@@ -92,34 +117,81 @@ fn finish(x: Obj, purpose: Purpose, tree: &mut Tree) -> Motion
     }
 }
 
-fn look(x: Obj, purpose: Purpose, tree: &mut Tree) -> Motion
-    requires { FreeRests (Loops x purpose) (pool_of tree.old) }
+/// A child that is a reference is dropped, and any other is freed.
+fn take(x: Obj, child: Obj, purpose: Purpose, tree: &mut Tree, refs: &mut Refs) -> Motion
+    requires refs { AreRefsOf refs.old.pairs tree.old.rows }
+    ensures moved { move_of result (pool_of tree.new) ≡ child_step x child purpose (target_at tree.old.rows child) (pool_of tree.old) }
+    ensures spare { tree.old.spare ≤ tree.new.spare }
+    ensures works { works_of tree.new ≡ works_of tree.old }
+    ensures refs { AreRefsOf refs.new.pairs tree.new.rows }
+{
+    let Some(target) = refs.target(child) else {
+        let noted = noted_owner(child, tree, refs);
+        return Motion::Pushes(
+            FreeFrame::Beginning { x: child },
+            FreeFrame::Trying {
+                x,
+                child,
+                noted,
+                purpose,
+            },
+        );
+    };
+    drop_ref(child, target, tree, refs);
+    let dropped = FreeStep::Dropped {
+        reference: child,
+        target,
+    };
+    Motion::Tells(dropped, FreeFrame::Looping { x, purpose })
+}
+
+fn look(x: Obj, purpose: Purpose, tree: &mut Tree, refs: &mut Refs) -> Motion
+    requires rests { FreeRests (Loops x purpose) (pool_of tree.old) }
+    requires refs { AreRefsOf refs.old.pairs tree.old.rows }
     ensures moved { move_of result (pool_of tree.new) ≡ loop_step x purpose (first_kid tree.old.rows (below x)) (pool_of tree.old) }
     ensures spare { tree.old.spare ≤ tree.new.spare }
     ensures works { works_of tree.new ≡ works_of tree.old }
+    ensures refs { AreRefsOf refs.new.pairs tree.new.rows }
 {
     match tree.first_kid(Owner::Of(x)) {
-        Some(child) => Motion::Pushes(
-            FreeFrame::Beginning { x: child },
-            FreeFrame::Trying { x, child, purpose },
-        ),
+        Some(child) => take(x, child, purpose, tree, refs),
         None => finish(x, purpose, tree),
     }
 }
 
-/// A child that wasn't freed goes to its heir, where `x` still is its owner.
-fn hand_on(x: Obj, child: Obj, purpose: Purpose, tree: &mut Tree) -> Motion
-    requires { MayHandOn (pool_of tree.old) x child }
-    ensures moved { move_of result (pool_of tree.new) ≡ hand_on_step x child purpose (pool_of tree.old) }
+/// An object goes to the owner of a reference that was dropped.
+fn give(x: Obj, owner: Owner, tree: &mut Tree) -> Motion
+    requires { MayPlace tree.old.rows x owner }
+    ensures moved { move_of result (pool_of tree.new) ≡ free_step (FreeFrame.Giving x owner) (pool_of tree.old) }
     ensures spare { tree.old.spare ≤ tree.new.spare }
     ensures works { works_of tree.new ≡ works_of tree.old }
+    ensures same_refs { SameRefs tree.old.rows tree.new.rows }
+{
+    let from = tree.parent(x).unwrap_or(Owner::Root);
+    tree.place(x, owner);
+    let moved = FreeStep::Moved {
+        object: x,
+        from,
+        owner,
+    };
+    let answer = FreeReply::Ok;
+    Motion::Tells(moved, FreeFrame::Ending { answer })
+}
+
+/// A child that wasn't freed goes to its heir, where `x` still is its owner.
+fn hand_on(x: Obj, child: Obj, noted: Option<Owner>, purpose: Purpose, tree: &mut Tree) -> Motion
+    requires { MayHandOn (pool_of tree.old) x child noted }
+    ensures moved { move_of result (pool_of tree.new) ≡ hand_on_step x child noted purpose (pool_of tree.old) }
+    ensures spare { tree.old.spare ≤ tree.new.spare }
+    ensures works { works_of tree.new ≡ works_of tree.old }
+    ensures same_refs { SameRefs tree.old.rows tree.new.rows }
 {
     let next = FreeFrame::Looping { x, purpose };
     let from = Owner::Of(x);
     if !tree.owns(from, child) {
         return Motion::Goes(next);
     }
-    let owner = heir(x, child, tree);
+    let owner = heir(x, child, noted, tree);
     tree.place(child, owner);
     let moved = FreeStep::Moved {
         object: child,
@@ -130,18 +202,23 @@ fn hand_on(x: Obj, child: Obj, purpose: Purpose, tree: &mut Tree) -> Motion
 }
 
 /// One move of a work.
-pub fn move_once(work: FreeFrame, tree: &mut Tree) -> Motion
-    requires { FreeRests work (pool_of tree.old) }
+pub fn move_once(work: FreeFrame, tree: &mut Tree, refs: &mut Refs) -> Motion
+    requires rests { FreeRests work (pool_of tree.old) }
+    requires refs { AreRefsOf refs.old.pairs tree.old.rows }
     ensures moved { move_of result (pool_of tree.new) ≡ free_step work (pool_of tree.old) }
     ensures spare { tree.old.spare ≤ tree.new.spare }
     ensures works { works_of tree.new ≡ works_of tree.old }
+    ensures refs { AreRefsOf refs.new.pairs tree.new.rows }
 {
     match work {
-        FreeFrame::Beginning { x } => begin(x, tree),
+        FreeFrame::Unlinking { owner, x } => unlink(owner, x, tree, refs),
+        FreeFrame::Releasing { x } => release(x, tree, refs),
+        FreeFrame::Giving { x, owner } => give(x, owner, tree),
+        FreeFrame::Beginning { x } => begin_free(x, tree, refs),
         FreeFrame::Hooked { x, .. } => Motion::Asks(x, work),
         FreeFrame::Judged { x, hook, value } => judge(x, hook, value, tree),
         FreeFrame::Leaving { x, hook } => leave(x, hook, tree),
-        FreeFrame::Looping { x, purpose } => look(x, purpose, tree),
+        FreeFrame::Looping { x, purpose } => look(x, purpose, tree, refs),
         FreeFrame::Trying { .. } => Motion::Ends(FreeReply::Ok),
         FreeFrame::Tried {
             x,
@@ -152,17 +229,22 @@ pub fn move_once(work: FreeFrame, tree: &mut Tree) -> Motion
         FreeFrame::Tried {
             x,
             child,
+            noted,
             purpose,
             ..
-        } => hand_on(x, child, purpose, tree),
+        } => hand_on(x, child, noted, purpose, tree),
         FreeFrame::Ending { answer } => Motion::Ends(answer),
     }
 }
 
 /// What can be said of the beginning of a free.
-fn outlook_of_begin(x: Obj, tree: &Tree) -> Outlook
-    ensures { result ≡ outlook_of (begin_step x (row_of tree.now.rows x) (pool_of tree.now)) }
+fn outlook_of_begin(x: Obj, tree: &Tree, refs: &Refs) -> Outlook
+    requires refs { AreRefsOf refs.now.pairs tree.now.rows }
+    ensures { result ≡ outlook_of (refs_step x (newest_ref tree.now.rows x) (pool_of tree.now)) }
 {
+    if refs.newest(tree, x).is_some() {
+        return Outlook::Telling;
+    }
     match tree.row(x) {
         Some(row) if matches!(row.mark, Mark::Quiet) => Outlook::Silence,
         _ => Outlook::End,
@@ -170,21 +252,27 @@ fn outlook_of_begin(x: Obj, tree: &Tree) -> Outlook
 }
 
 /// What can be said of the loop over the children of an object.
-fn outlook_of_loop(x: Obj, purpose: Purpose, tree: &Tree) -> Outlook
+fn outlook_of_loop(x: Obj, purpose: Purpose, tree: &Tree, refs: &Refs) -> Outlook
+    requires refs { AreRefsOf refs.now.pairs tree.now.rows }
     ensures { result ≡ outlook_of (loop_step x purpose (first_kid tree.now.rows (below x)) (pool_of tree.now)) }
 {
-    if tree.first_kid(Owner::Of(x)).is_some() {
-        return Outlook::Silence;
-    }
-    match purpose {
-        Purpose::Removal { .. } => Outlook::Telling,
-        Purpose::Emptying => Outlook::End,
+    match (tree.first_kid(Owner::Of(x)), purpose) {
+        (Some(child), _) if refs.target(child).is_some() => Outlook::Telling,
+        (Some(_), _) => Outlook::Silence,
+        (None, Purpose::Removal { .. }) => Outlook::Telling,
+        (None, Purpose::Emptying) => Outlook::End,
     }
 }
 
 /// What can be said of the handing on of a child.
-fn outlook_of_heir(x: Obj, child: Obj, purpose: Purpose, tree: &Tree) -> Outlook
-    ensures { result ≡ outlook_of (hand_on_step x child purpose (pool_of tree.now)) }
+fn outlook_of_heir(
+    x: Obj,
+    child: Obj,
+    noted: Option<Owner>,
+    purpose: Purpose,
+    tree: &Tree,
+) -> Outlook
+    ensures { result ≡ outlook_of (hand_on_step x child noted purpose (pool_of tree.now)) }
 {
     if tree.owns(Owner::Of(x), child) {
         Outlook::Telling
@@ -193,16 +281,44 @@ fn outlook_of_heir(x: Obj, child: Obj, purpose: Purpose, tree: &Tree) -> Outlook
     }
 }
 
+/// What can be said of the taking away of an owner's interest.
+fn outlook_of_unlink(owner: Owner, x: Obj, tree: &Tree, refs: &Refs) -> Outlook
+    requires refs { AreRefsOf refs.now.pairs tree.now.rows }
+    ensures { result ≡ outlook_of (unlink_step x (newest_ref_of tree.now.rows owner x) (pool_of tree.now)) }
+{
+    if refs.newest_of(tree, owner, x).is_some() {
+        Outlook::Telling
+    } else {
+        Outlook::Silence
+    }
+}
+
+/// What can be said of an owner's giving up of an object.
+fn outlook_of_release(x: Obj, tree: &Tree, refs: &Refs) -> Outlook
+    requires refs { AreRefsOf refs.now.pairs tree.now.rows }
+    ensures { result ≡ outlook_of (release_step x (newest_ref tree.now.rows x) (pool_of tree.now)) }
+{
+    if refs.newest(tree, x).is_some() {
+        Outlook::Telling
+    } else {
+        Outlook::Silence
+    }
+}
+
 /// What can be said of the next move of a work.
-pub fn outlook(work: FreeFrame, tree: &Tree) -> Outlook
+pub fn outlook(work: FreeFrame, tree: &Tree, refs: &Refs) -> Outlook
+    requires refs { AreRefsOf refs.now.pairs tree.now.rows }
     ensures { result ≡ outlook_of (free_step work (pool_of tree.now)) }
 {
     match work {
-        FreeFrame::Beginning { x } => outlook_of_begin(x, tree),
-        FreeFrame::Hooked { .. } | FreeFrame::Judged { .. } | FreeFrame::Leaving { .. } => {
-            Outlook::Telling
-        }
-        FreeFrame::Looping { x, purpose } => outlook_of_loop(x, purpose, tree),
+        FreeFrame::Unlinking { owner, x } => outlook_of_unlink(owner, x, tree, refs),
+        FreeFrame::Releasing { x } => outlook_of_release(x, tree, refs),
+        FreeFrame::Beginning { x } => outlook_of_begin(x, tree, refs),
+        FreeFrame::Giving { .. }
+        | FreeFrame::Hooked { .. }
+        | FreeFrame::Judged { .. }
+        | FreeFrame::Leaving { .. } => Outlook::Telling,
+        FreeFrame::Looping { x, purpose } => outlook_of_loop(x, purpose, tree, refs),
         FreeFrame::Tried {
             answer: FreeReply::Ok,
             ..
@@ -210,9 +326,10 @@ pub fn outlook(work: FreeFrame, tree: &Tree) -> Outlook
         FreeFrame::Tried {
             x,
             child,
+            noted,
             purpose,
             ..
-        } => outlook_of_heir(x, child, purpose, tree),
+        } => outlook_of_heir(x, child, noted, purpose, tree),
         FreeFrame::Trying { .. } | FreeFrame::Ending { .. } => Outlook::End,
     }
 }

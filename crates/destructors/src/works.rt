@@ -3,6 +3,7 @@
 ghost use Rattle.std.specs.Prelude.{◌≡◌, ◌+◌, ◌≤◌, ◌∷◌, true, length, Some, None};
 ghost use Rattle.tree_specs.specs.Table.{free_resume};
 ghost use Rattle.tree_links.specs.Links.{pool_of};
+ghost use Rattle.references.specs.Rows.{AreRefsOf};
 ghost use Rattle.destructors.specs.Moves.{FreeRests};
 ghost use Rattle.destructors.specs.Frees.{answered, frees_of, moves as moves_of, speaking, Silently};
 ghost use Rattle.destructors.specs.Works.{IsAtWork};
@@ -10,6 +11,7 @@ ghost use Rattle.destructors.specs.Engine.{AreKept, HasRoom, Ready};
 
 use crate::motion::{Motion, Outlook};
 use crate::moves::{move_once, outlook};
+use references::Refs;
 use tree_links::Tree;
 use tree_specs::{FreeFrame, FreeReply, FreeStep};
 
@@ -43,9 +45,15 @@ fn resumed(work: FreeFrame, answer: FreeReply) -> FreeFrame
     ensures { result ≡ free_resume work answer }
 {
     match work {
-        FreeFrame::Trying { x, child, purpose } => FreeFrame::Tried {
+        FreeFrame::Trying {
             x,
             child,
+            noted,
+            purpose,
+        } => FreeFrame::Tried {
+            x,
+            child,
+            noted,
             purpose,
             answer,
         },
@@ -57,6 +65,7 @@ fn resumed(work: FreeFrame, answer: FreeReply) -> FreeFrame
 /// is none, the free is over.
 fn end(answer: FreeReply, tree: &mut Tree) -> Progress
     ensures moved { answered answer (pool_of tree.old) tree.old.frees ≡ (result.told, frees_of result.innermost tree.new) }
+    ensures rows { pool_of tree.new ≡ pool_of tree.old }
     ensures kept { AreKept result.innermost tree.new }
     ensures spare { tree.new.spare ≡ tree.old.spare }
     ensures room { length tree.old.frees + tree.old.room ≤ length tree.new.frees + tree.new.room }
@@ -73,15 +82,17 @@ fn end(answer: FreeReply, tree: &mut Tree) -> Progress
 
 /// One move. It takes no memory.
 #[tactic(auto, using(crate::proofs::FreeMoves::push_room))]
-pub fn advance(work: FreeFrame, tree: &mut Tree) -> Progress
+pub fn advance(work: FreeFrame, tree: &mut Tree, refs: &mut Refs) -> Progress
     requires rests { FreeRests work (pool_of tree.old) }
     requires room { HasRoom (Some work) tree.old }
+    requires refs { AreRefsOf refs.old.pairs tree.old.rows }
     ensures moved { moves_of (work ∷ tree.old.frees) (pool_of tree.old) ≡ (result.told, frees_of result.innermost tree.new) }
     ensures kept { AreKept result.innermost tree.new }
     ensures spare { tree.old.spare ≤ tree.new.spare }
     ensures room { length tree.old.frees + tree.old.room ≤ length tree.new.frees + tree.new.room }
+    ensures refs { AreRefsOf refs.new.pairs tree.new.rows }
 {
-    match move_once(work, tree) {
+    match move_once(work, tree, refs) {
         Motion::Ends(answer) => end(answer, tree),
         Motion::Goes(next) => silently(next),
         Motion::Tells(told, next) => telling(told, Some(next)),
@@ -94,10 +105,11 @@ pub fn advance(work: FreeFrame, tree: &mut Tree) -> Progress
 }
 
 /// Whether the next move tells or asks something.
-pub fn speaks(work: FreeFrame, tree: &Tree) -> bool
+pub fn speaks(work: FreeFrame, tree: &Tree, refs: &Refs) -> bool
+    requires refs { AreRefsOf refs.now.pairs tree.now.rows }
     ensures { result ≡ speaking (frees_of (Some work) tree.now) }
 {
-    match outlook(work, tree) {
+    match outlook(work, tree, refs) {
         Outlook::End => matches!(tree.innermost_free(), None | Some(FreeFrame::Hooked { .. })),
         Outlook::Telling => true,
         Outlook::Silence => false,
@@ -105,12 +117,14 @@ pub fn speaks(work: FreeFrame, tree: &Tree) -> bool
 }
 
 /// The moves that tell nothing, up to the next one that does. It takes no memory.
-pub fn settle(innermost: Option<FreeFrame>, tree: &mut Tree) -> Option<FreeFrame>
-    requires { Ready innermost tree.old }
+pub fn settle(innermost: Option<FreeFrame>, tree: &mut Tree, refs: &mut Refs) -> Option<FreeFrame>
+    requires ready { Ready innermost tree.old }
+    requires refs { AreRefsOf refs.old.pairs tree.old.rows }
     ensures ready { Ready result tree.new }
     ensures moves_on { Silently (frees_of innermost tree.old) (frees_of result tree.new) }
     ensures at_work { IsAtWork (frees_of innermost tree.old) → IsAtWork (frees_of result tree.new) }
     ensures settles { speaking (frees_of result tree.new) ≡ true }
+    ensures refs { AreRefsOf refs.new.pairs tree.new.rows }
     ensures spare { tree.old.spare ≤ tree.new.spare }
 {
     let mut innermost = innermost;
@@ -118,9 +132,9 @@ pub fn settle(innermost: Option<FreeFrame>, tree: &mut Tree) -> Option<FreeFrame
         let Some(work) = innermost else {
             return None;
         };
-        if speaks(work, tree) {
+        if speaks(work, tree, refs) {
             return Some(work);
         }
-        innermost = advance(work, tree).innermost;
+        innermost = advance(work, tree, refs).innermost;
     }
 }

@@ -16,7 +16,7 @@ abbrev test : Obj → Pair → Bool
 test r p = same p.reference r
 
 -- a reference whose number is above all others is none of them
-above-without : (ps : List Pair) (r : Obj) → IsAbove r ps → without ps r ≡ ps
+pub above-without : (ps : List Pair) (r : Obj) → IsAbove r ps → without ps r ≡ ps
 above-without [] r h = refl
 above-without (p ∷ ps) r h = by_test (same p.reference r)
     (λ t. let e : p.reference.0 ≡ r.0 = eqb-true p.reference.0 r.0 t in let l : p.reference.0 < r.0 = h.0 in absurd (omega (arith, e)))
@@ -58,12 +58,15 @@ descends-filter : (ps : List Pair) (q : Pair → Bool) → Descends ps → Desce
 descends-filter [] q h = tt
 descends-filter (p ∷ ps) q h = by_test (q p) (λ t. rw t (above-filter ps q p.reference h.0, descends-filter ps q h.1)) (λ t. rw t (descends-filter ps q h.1))
 
+pub descends-without : (ps : List Pair) (r : Obj) → Descends ps → Descends (without ps r)
+descends-without ps r h = descends-filter ps (λ p. not (same p.reference r)) h
+
 fewer : (ps : List Pair) (q : Pair → Bool) → length (filter q ps) ≤ length ps
 fewer [] q = omega arith
 fewer (p ∷ ps) q = let ih = fewer ps q in by_test (q p) (λ t. rw t (omega (arith, ih))) (λ t. rw t (omega (arith, ih)))
 
 pub without-pairs : (ps : List Pair) (r : Obj) → ArePairs ps → ArePairs (without ps r)
-without-pairs ps r h = record { descends = descends-filter ps (λ p. not (same p.reference r)) h.descends; few = omega (arith, fewer ps (λ p. not (same p.reference r)), h.few) }
+without-pairs ps r h = record { descends = descends-without ps r h.descends; few = omega (arith, fewer ps (λ p. not (same p.reference r)), h.few) }
 
 -- a reference that is taken out at its index
 pub remove-pairs : (taken : Option Pair) (ps now new : List Pair) (r : Obj) (i : ℕ) → IsSome taken ↔ (i < length ps) → OnSome taken (new ≡ remove ps i) → StandsAt now r i → ps ≡ now → ArePairs ps → ArePairs new

@@ -4,7 +4,8 @@ ghost use Rattle.tree_specs.specs.Objects.{same};
 use std::alloc::Global;
 use std::collections::VecDeque;
 use std::marker::Model;
-use tree_specs::{Memory, Obj};
+use tree_links::Tree;
+use tree_specs::{Memory, Obj, Owner};
 
 /// A reference, and the object that it refers to.
 #[derive(Clone, Copy, Debug, PartialEq, Eq)]
@@ -50,8 +51,11 @@ impl Refs {
     ghost use Rattle.std.specs.List.{find, position};
     ghost use Rattle.std.specs.Option.{option_copied};
     ghost use Rattle.tree_specs.specs.declared.object.Obj.{Obj as ObjData};
+    ghost use Rattle.tree_specs.specs.Targets.{newest_ref};
+    ghost use Rattle.tree_specs.specs.Pool.{newest_ref_of};
+    ghost use Rattle.references.specs.Rows.{AreRefsOf, RefersTo, first_such, owned_by};
     ghost use Rattle.references.specs.Found.{StandsAt, StandsNowhere};
-    ghost use Rattle.references.specs.Pairs.{pair, IsAbove, count_to, first_to, first_below, next_to, target_of, without, most};
+    ghost use Rattle.references.specs.Pairs.{pair, ArePairs, IsAbove, count_to, first_to, first_below, next_to, target_of, without, most};
 
     /// No references. It takes no memory.
     pub fn new(alloc: Global) -> Refs
@@ -92,7 +96,7 @@ impl Refs {
     fn find(&self, reference: Obj) -> Option<usize>
         ensures { MatchOption result (StandsNowhere self.now.pairs reference) (λ i. StandsAt self.now.pairs reference i) }
     {
-        // Nothing is done with the list here: where it is looked at, it is known to descend.
+        // The list descends, which is known where it is used.
         let _ = &self.pairs;
         self.index_of(reference)
     }
@@ -120,10 +124,44 @@ impl Refs {
 
     /// The newest reference to an object. None exactly where there is none.
     pub fn first_ref(&self, target: Obj) -> Option<Obj>
-        ensures { result ≡ first_to self.now.pairs target }
+        ensures first { result ≡ first_to self.now.pairs target }
+        ensures sound { ArePairs self.now.pairs }
     {
         let found = self.pairs.iter().find(|p| p.target.0 == target.0)?;
         Some(found.reference)
+    }
+
+    /// The newest reference to an object. None exactly where there is none. The references are those among the rows.
+    pub fn newest(&self, tree: &Tree, target: Obj) -> Option<Obj>
+        requires { AreRefsOf self.now.pairs tree.now.rows }
+        ensures newest { result ≡ newest_ref tree.now.rows target }
+        ensures is { RefersTo tree.now.rows result target }
+    {
+        // All that is wanted of `len` is its contract: each number stands once.
+        let _rows = tree.len();
+        self.first_ref(target)
+    }
+
+    // The newest reference to an object that an owner has, among the pairs.
+    fn first_owned(&self, tree: &Tree, owner: Owner, target: Obj) -> Option<Obj>
+        ensures first { result ≡ first_such (owned_by tree.now.rows owner target) self.now.pairs }
+        ensures sound { ArePairs self.now.pairs }
+    {
+        let found = self.pairs.iter().find(|p| p.target.0 == target.0
+            && tree.owns(owner, p.reference))?;
+        Some(found.reference)
+    }
+
+    /// The newest reference to an object that an owner has. None exactly where it has none. The references are those
+    /// among the rows.
+    pub fn newest_of(&self, tree: &Tree, owner: Owner, target: Obj) -> Option<Obj>
+        requires { AreRefsOf self.now.pairs tree.now.rows }
+        ensures newest { result ≡ newest_ref_of tree.now.rows owner target }
+        ensures is { RefersTo tree.now.rows result target }
+    {
+        // All that is wanted of `len` is its contract: each number stands once.
+        let _rows = tree.len();
+        self.first_owned(tree, owner, target)
     }
 
     // The newest one of those to an object that are older than this one.
@@ -144,7 +182,8 @@ impl Refs {
 
     /// How many references there are to an object.
     pub fn count_refs(&self, target: Obj) -> u32
-        ensures { result ≡ count_to self.now.pairs target }
+        ensures count { result ≡ count_to self.now.pairs target }
+        ensures sound { ArePairs self.now.pairs }
     {
         let count = self.pairs.iter().filter(|p| p.target.0 == target.0).count();
         count as u32

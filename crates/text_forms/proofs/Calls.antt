@@ -7,7 +7,7 @@ use Rattle.std.specs.Option.{option_map}
 use Rattle.std.specs.Str.{bytes_eq}
 use Rattle.std.proofs.lemmas.Slice.Eq.{bytes_eq-Decides}
 use Rattle.tree_specs.specs.declared.call.Call.{Call}
-use Rattle.tree_specs.specs.declared.call.Call.TheVariants.{New, Free, Freekids, Steal, Move, Reparent, Hook, Unhook, Rename, Parent, Total, Count, Report}
+use Rattle.tree_specs.specs.declared.call.Call.TheVariants.{New, Free, Freekids, Steal, Move, Reparent, Reference, Unlink, Hook, Unhook, Rename, Parent, Total, Count, Report}
 use Rattle.tree_specs.specs.declared.object.Obj.{Obj}
 use Rattle.tree_specs.specs.declared.object.Owner.{Owner}
 use Rattle.tree_specs.specs.Grammar.{◌>>=◌, words, object_of, owner_of, new_of, of_object, of_owner, placing_of, reparent_of, hook_of, rename_of, call_of_words, call_of}
@@ -31,6 +31,8 @@ verb_of (Freekids x) = codes "freekids"
 verb_of (Steal owner x) = codes "steal"
 verb_of (Move owner x) = codes "move"
 verb_of (Reparent from to x) = codes "reparent"
+verb_of (Reference owner x) = codes "reference"
+verb_of (Unlink owner x) = codes "unlink"
 verb_of (Hook x routine) = codes "hook"
 verb_of (Unhook x) = codes "unhook"
 verb_of (Rename x name) = codes "rename"
@@ -46,6 +48,8 @@ fields_of (Freekids x) = decimal x.0 ∷ []
 fields_of (Steal owner x) = decimal (owner_number owner) ∷ decimal x.0 ∷ []
 fields_of (Move owner x) = decimal (owner_number owner) ∷ decimal x.0 ∷ []
 fields_of (Reparent from to x) = decimal (owner_number from) ∷ decimal (owner_number to) ∷ decimal x.0 ∷ []
+fields_of (Reference owner x) = decimal (owner_number owner) ∷ decimal x.0 ∷ []
+fields_of (Unlink owner x) = decimal (owner_number owner) ∷ decimal x.0 ∷ []
 fields_of (Hook x routine) = decimal x.0 ∷ decimal routine ∷ []
 fields_of (Unhook x) = decimal x.0 ∷ []
 fields_of (Rename x name) = decimal x.0 ∷ name ∷ []
@@ -65,6 +69,8 @@ call_text-words (Freekids x) = refl
 call_text-words (Steal owner x) = simp append_assoc
 call_text-words (Move owner x) = simp append_assoc
 call_text-words (Reparent from to x) = simp append_assoc
+call_text-words (Reference owner x) = simp append_assoc
+call_text-words (Unlink owner x) = simp append_assoc
 call_text-words (Hook x routine) = simp append_assoc
 call_text-words (Unhook x) = refl
 call_text-words (Rename x name) = simp append_assoc
@@ -122,6 +128,8 @@ words_fit (Reparent from to x) h =
       unspaced = rw (owner_field.is_word from owners.0, owner_field.is_word to owners.1, object_field.is_word x placed.1) refl;
       again = rw (owner_field.again from owners.0, owner_field.again to owners.1, object_field.again x placed.1) refl;
     }
+words_fit (Reference owner x) h = two_fit owner_field object_field (codes "reference") Reference owner x refl h (pair_read Reference _ _)
+words_fit (Unlink owner x) h = two_fit owner_field object_field (codes "unlink") Unlink owner x refl h (pair_read Unlink _ _)
 words_fit (Hook x routine) h = two_fit object_field routine_field (codes "hook") Hook x routine refl h refl
 words_fit (Unhook x) h = one_fits object_field (codes "unhook") Unhook x refl h refl
 words_fit (Rename x name) h = two_fit object_field name_field (codes "rename") Rename x name refl h refl
@@ -250,6 +258,8 @@ words_spelled (verb ∷ fields) c e =
     (by_verb (codes "steal") (placing_of Steal) (placing_spelled (codes "steal") Steal (λ owner x. refl) (λ owner x. refl)) verb fields c _
     (by_verb (codes "move") (placing_of Move) (placing_spelled (codes "move") Move (λ owner x. refl) (λ owner x. refl)) verb fields c _
     (by_verb (codes "reparent") reparent_of reparent_spelled verb fields c _
+    (by_verb (codes "reference") (placing_of Reference) (placing_spelled (codes "reference") Reference (λ owner x. refl) (λ owner x. refl)) verb fields c _
+    (by_verb (codes "unlink") (placing_of Unlink) (placing_spelled (codes "unlink") Unlink (λ owner x. refl) (λ owner x. refl)) verb fields c _
     (by_verb (codes "hook") hook_of hook_spelled verb fields c _
     (by_verb (codes "unhook") (of_object Unhook) (object_spelled (codes "unhook") Unhook (λ x. refl) (λ x. refl)) verb fields c _
     (by_verb (codes "rename") rename_of rename_spelled verb fields c _
@@ -257,7 +267,7 @@ words_spelled (verb ∷ fields) c e =
     (by_verb (codes "total") (of_owner Total) (owner_spelled (codes "total") Total (λ owner. refl) (λ owner. refl)) verb fields c _
     (by_verb (codes "count") (of_owner Count) (owner_spelled (codes "count") Count (λ owner. refl) (λ owner. refl)) verb fields c _
     (by_verb (codes "report") (of_owner Report) (owner_spelled (codes "report") Report (λ owner. refl) (λ owner. refl)) verb fields c _
-    (λ none. absurd cc)))))))))))))
+    (λ none. absurd cc)))))))))))))))
     e
 
 pub call_spelled : (text : List ℕ) (c : Call) → call_of text ≡ Some c → (text ≡ call_text c) × (is_sound_call c ≡ true)

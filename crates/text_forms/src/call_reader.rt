@@ -90,6 +90,10 @@ fn call_from_words(alloc: Global, words: &[&[u8]]) -> Result<Call, FormFault>
         owner_and_object(fields).map(|(owner, x)| Call::Move { owner, x })
     } else if *verb == b"reparent".as_slice() {
         reparent_call(fields)
+    } else if *verb == b"reference".as_slice() {
+        owner_and_object(fields).map(|(owner, x)| Call::Reference { owner, x })
+    } else if *verb == b"unlink".as_slice() {
+        owner_and_object(fields).map(|(owner, x)| Call::Unlink { owner, x })
     } else if *verb == b"hook".as_slice() {
         hook_call(fields)
     } else if *verb == b"unhook".as_slice() {

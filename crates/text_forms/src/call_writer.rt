@@ -38,6 +38,8 @@ fn write_text(call: &Call, out: &mut Vec<u8>) -> Result<(), Memory>
         Call::Reparent { from, to, x } => {
             write_fields(b"reparent", &[from.number(), to.number(), x.0], out)
         }
+        Call::Reference { owner, x } => write_fields(b"reference", &[owner.number(), x.0], out),
+        Call::Unlink { owner, x } => write_fields(b"unlink", &[owner.number(), x.0], out),
         Call::Hook { x, routine } => write_fields(b"hook", &[x.0, u64::from(*routine)], out),
         Call::Unhook { x } => write_fields(b"unhook", &[x.0], out),
         Call::Rename { x, name } => write_named(b"rename", &[x.0], name, out),

@@ -11,6 +11,7 @@ use Rattle.tree_specs.specs.Objects.{same}
 use Rattle.tree_specs.specs.Calls.{row_limit, size_limit}
 use Rattle.tree_specs.specs.Pool.{Pool, row_of, is_owner, is_inside, first_kid, without, changed, new_row, left_row, place}
 use Rattle.tree_specs.proofs.Numbered.{by_test, same-true}
+use Rattle.tree_specs.proofs.Rows.{row_of-serial}
 use Rattle.tree_specs.proofs.Rooted.{KeepsPlace, forest-new, forest-placed, forest-changed, forest-left, forest-without}
 use Rattle.tree_links.specs.Links.{AllFit, IsTree}
 use Rattle.tree_links.specs.Found.{StandsAt}
@@ -22,7 +23,7 @@ fit-more next [] f = tt
 fit-more next (r ∷ rs) f = (omega (arith, f.0), f.1, fit-more next rs f.2)
 
 -- the next number is no row's
-fresh : (next : ℕ) (rs : List Row) → AllFit next rs → row_of rs (record { 0 = next }) ≡ None
+pub fresh : (next : ℕ) (rs : List Row) → AllFit next rs → row_of rs (record { 0 = next }) ≡ None
 fresh next [] f = refl
 fresh next (r ∷ rs) f = by_test (same r.serial (record { 0 = next }))
     (λ t. let e : r.serial.0 ≡ next = ap (λ (x : Obj). x.0) (same-true r.serial (record { 0 = next }) t) in absurd (omega (arith, f.0, e)))
@@ -77,11 +78,15 @@ fit-without : (next : ℕ) (rs : List Row) (x : Obj) → AllFit next rs → AllF
 fit-without next [] x f = tt
 fit-without next (r ∷ rs) x f = by_test (same r.serial x) (λ t. rw t f.2) (λ t. rw t (f.0, f.1, fit-without next rs x f.2))
 
-fit-row : (next : ℕ) (rs : List Row) (x : Obj) (r : Row) → AllFit next rs → row_of rs x ≡ Some r → (r.serial.0 < next) × (r.size < size_limit)
+pub fit-row : (next : ℕ) (rs : List Row) (x : Obj) (r : Row) → AllFit next rs → row_of rs x ≡ Some r → (r.serial.0 < next) × (r.size < size_limit)
 fit-row next [] x r f e = cc
 fit-row next (s ∷ rs) x r f e = by_test (same s.serial x)
     (λ t. let e' : Some s ≡ Some r = rw t at e in let e'' : s ≡ r = cc in rw (sym e'') (f.0, f.1))
     (λ t. let e' : row_of rs x ≡ Some r = rw t at e in fit-row next rs x r f.2 e')
+
+-- a row's number is below the next one
+pub numbered-below : (next : ℕ) (rs : List Row) (x : Obj) (r : Row) → AllFit next rs → row_of rs x ≡ Some r → x.0 < next
+numbered-below next rs x r f e = let l = (fit-row next rs x r f e).0 in let s : r.serial.0 ≡ x.0 = ap (λ (z : Obj). z.0) (row_of-serial rs x r e) in omega (arith, l, s)
 
 length-without : (rs : List Row) (x : Obj) (r : Row) → row_of rs x ≡ Some r → length rs ≡ length (without rs x) + 1
 length-without [] x r e = cc

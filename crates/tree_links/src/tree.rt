@@ -56,7 +56,7 @@ impl Tree {
     ghost use Rattle.tree_specs.specs.Objects.{same};
     ghost use Rattle.tree_specs.specs.Calls.{row_limit, size_limit};
     ghost use Rattle.tree_specs.specs.Pool.{empty, is_row, is_owner, is_dying, row_of, is_below, first_kid as kid_first, next_kid as kid_next, add as added, take_number as number_taken, detach as detached, remove as removed, place as placed, rename as renamed, set_mark as marked, set_hook as hooked, set_size as resized, owner_of, next_owner as owner_after, is_inside as is_inside_of, is_dying_mark};
-    ghost use Rattle.tree_links.specs.Links.{IsTree, pool_of, works_of, number_after};
+    ghost use Rattle.tree_links.specs.Links.{IsTree, pool_of, works_of, number_after, may_go};
     ghost use Rattle.tree_links.specs.Found.{StandsAt, StandsNowhere};
 
     /// A tree with no rows, whose next serial number is `first`, and no open free. It takes no memory.
@@ -125,6 +125,7 @@ impl Tree {
         requires numbered { self.old.next < 2 ^ 64 - 1 }
         requires owner { is_owner self.old.rows owner ≡ true }
         ensures serial { result ≡ record { 0 = self.old.next } }
+        ensures fresh { row_of self.old.rows result ≡ None }
         ensures rows { pool_of self.new ≡ added (pool_of self.old) row.kind owner row.size row.name }
         ensures spare { self.old.spare ≤ self.new.spare + 1 }
         ensures works { works_of self.new ≡ works_of self.old }
@@ -201,6 +202,16 @@ impl Tree {
     {
         let i = self.find(x)?;
         Some(&self.rows[i])
+    }
+
+    /// Whether it is the root, or an object that can own others: a reference can't.
+    pub fn is_owner(&self, owner: Owner) -> bool
+        ensures { result ≡ is_owner self.now.rows owner }
+    {
+        match owner {
+            Owner::Root => true,
+            Owner::Of(x) => self.row(x).is_some_and(|row| row.kind.target().is_none()),
+        }
     }
 
     /// The first child among the rows from this index on.
@@ -366,9 +377,9 @@ impl Tree {
         }
     }
 
-    /// The object is no more. It takes no memory.
+    /// The object is no more: it is dying and owns nothing, or is a reference. It takes no memory.
     pub fn remove(&mut self, x: Obj)
-        requires dying { is_dying self.old.rows x ≡ true }
+        requires free { may_go self.old.rows x ≡ true }
         requires alone { kid_first self.old.rows (At x) ≡ None }
         ensures rows { pool_of self.new ≡ removed (pool_of self.old) x }
         ensures spare { self.old.spare ≤ self.new.spare }

@@ -1,3 +1,4 @@
 pub mod Walking
 pub mod Weighing
 pub mod Showing
+pub mod Referred

@@ -6,7 +6,7 @@ use Rattle.tree_specs.specs.declared.object.Owner.{Owner}
 use Rattle.tree_specs.specs.declared.object.Owner.TheVariants.{Root, Of}
 use Rattle.tree_specs.specs.declared.report.ReportRow.{ReportRow}
 use Rattle.tree_specs.specs.declared.row.Row.{Row}
-use Rattle.tree_specs.specs.Pool.{row_of, owner_in, owner_of, is_owner, kids}
+use Rattle.tree_specs.specs.Pool.{row_of, owner_in, owner_of, is_object_row, is_owner, kids}
 use Rattle.tree_specs.specs.Reports.{with_below, report_each, report_below, report}
 use Rattle.tree_specs.specs.Forest.{Distinct, IsThere, AllOwned}
 use Rattle.tree_specs.proofs.Rooted.{is_there-owner}
@@ -54,7 +54,7 @@ no-owner rs x [] a e o = refl
 no-owner rs x (y ∷ ys) a e o =
     let there : IsThere rs (owner_of rs y) = is_there-owner rs rs y a in
     let is : is_owner rs (Of x) ≡ true = rw o.0 at there in
-    let bad : false ≡ true = sym (ap is_some e) ∙ is in cc
+    let bad : false ≡ true = sym (ap is_object_row e) ∙ is in cc
 
 nothing-below : (n : ℕ) (rs : List Row) (d : ℕ) → report_each n rs d [] ≡ []
 nothing-below zero rs d = refl

@@ -17,7 +17,8 @@ use Rattle.tree_specs.specs.declared.object.Owner.TheVariants.{Root, Of}
 use Rattle.tree_specs.specs.declared.row.Row.{Row}
 use Rattle.tree_specs.specs.Calls.{size_limit}
 use Rattle.tree_specs.specs.Pool.{kids, is_inside}
-use Rattle.tree_specs.specs.Inside.{total, is_reference, count_inside}
+use Rattle.tree_specs.specs.Inside.{total, count_inside}
+use Rattle.tree_specs.specs.Targets.{is_reference}
 use Rattle.tree_specs.specs.Walks.{walked, weight_in, weight_at, own, total_of}
 use Rattle.tree_specs.proofs.Numbered.{by_test}
 use Rattle.tree_specs.proofs.Walk.{total-same, inside-walked}

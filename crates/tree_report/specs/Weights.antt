@@ -3,7 +3,7 @@ use Rattle.std.specs.Prelude.{ℕ, List, Option, None, if◌then◌else◌, not}
 use Rattle.tree_specs.specs.declared.object.Owner.{Owner}
 use Rattle.tree_specs.specs.declared.object.Owner.TheVariants.{Root, Of}
 use Rattle.tree_specs.specs.declared.row.Row.{Row}
-use Rattle.tree_specs.specs.Inside.{is_reference}
+use Rattle.tree_specs.specs.Targets.{is_reference}
 use Rattle.tree_specs.specs.Pool.{row_of}
 use Rattle.tree_specs.specs.Walks.{weight_in}
 use Rattle.tree_report.specs.declared.walk.Place.{Place}

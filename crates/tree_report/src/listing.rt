@@ -2,10 +2,12 @@ ghost use Rattle.std.specs.Prelude.{◌≡◌, ◌++◌, IfOk, OnOk, ℕ, List};
 ghost use Rattle.std.specs.Option.{option_to_list};
 ghost use Rattle.tree_specs.specs.Reports.{report, row_kind, target_number, count_refs, root_row};
 ghost use Rattle.tree_specs.specs.declared.object.Owner.TheVariants.{Of as At};
-ghost use Rattle.tree_specs.specs.Inside.{target_of, NoReferences};
+ghost use Rattle.tree_specs.specs.Targets.{target_of};
+ghost use Rattle.references.specs.Rows.{AreRefsOf};
 ghost use Rattle.tree_report.specs.Shown.{shown_at};
 
 use crate::walk::Walk;
+use references::Refs;
 use std::alloc::Global;
 use tree_links::Tree;
 use tree_specs::{Kind, Memory, Name, Obj, Owner, ReportRow, ReportRows, RowKind};
@@ -29,18 +31,20 @@ fn kind_in_report(kind: Kind) -> RowKind
 fn target(kind: Kind) -> u64
     ensures { result ≡ target_number (target_of kind) }
 {
-    match kind {
-        Kind::Reference { target } => target.0,
-        _ => 0,
+    match kind.target() {
+        Some(target) => target.0,
+        None => 0,
     }
 }
 
-/// How many references there are to an object: none, since there are no references.
-fn refs(tree: &Tree, x: Obj) -> u32
-    requires { NoReferences tree.now.rows }
+/// How many references there are to an object.
+fn held_by(tree: &Tree, refs: &Refs, x: Obj) -> u32
+    requires { AreRefsOf refs.now.pairs tree.now.rows }
     ensures { result ≡ count_refs tree.now.rows x }
 {
-    0
+    // All that is wanted of `len` is its contract: each number stands once.
+    let _rows = tree.len();
+    refs.count_refs(x)
 }
 
 fn copied(alloc: Global, name: &Name) -> Result<Name, Memory>
@@ -75,10 +79,11 @@ fn row_of_root(alloc: Global) -> Result<ReportRow, Memory>
 fn row_of_object(
     alloc: Global,
     tree: &Tree,
+    refs: &Refs,
     x: Obj,
     depth: u32,
 ) -> Result<Option<ReportRow>, Memory>
-    requires { NoReferences tree.now.rows }
+    requires { AreRefsOf refs.now.pairs tree.now.rows }
     ensures { IfOk result (λ r. option_to_list r ≡ shown_at tree.now.rows depth (At x)) }
 {
     let Some(row) = tree.row(x) else {
@@ -89,19 +94,25 @@ fn row_of_object(
         id: row.serial.0,
         kind: kind_in_report(row.kind),
         size: row.size,
-        refs: refs(tree, row.serial),
+        refs: held_by(tree, refs, row.serial),
         target: target(row.kind),
         name: copied(alloc, &row.name)?,
     }))
 }
 
-fn row_at(alloc: Global, tree: &Tree, owner: Owner, depth: u32) -> Result<Option<ReportRow>, Memory>
-    requires { NoReferences tree.now.rows }
+fn row_at(
+    alloc: Global,
+    tree: &Tree,
+    refs: &Refs,
+    owner: Owner,
+    depth: u32,
+) -> Result<Option<ReportRow>, Memory>
+    requires { AreRefsOf refs.now.pairs tree.now.rows }
     ensures { IfOk result (λ r. option_to_list r ≡ shown_at tree.now.rows depth owner) }
 {
     match owner {
         Owner::Root => Ok(Some(row_of_root(alloc)?)),
-        Owner::Of(x) => row_of_object(alloc, tree, x, depth),
+        Owner::Of(x) => row_of_object(alloc, tree, refs, x, depth),
     }
 }
 
@@ -116,15 +127,16 @@ fn keep(rows: &mut Vec<ReportRow>, row: Option<ReportRow>) -> Result<(), Memory>
 
 /// The report of an owner, as `talloc_report_full` shows it: a row for the owner, at depth 0, and one for each
 /// object below it, each owner before its children and these the newest placed first. Sizes are in bytes.
-/// There are no rows where the owner is neither the root nor an object. An error is want of memory.
+/// There are no rows where the owner is neither the root nor an object. An error is want of memory. The
+/// references are those among the objects.
 #[tactic(auto, using(crate::proofs::Showing::walk_shown))]
-pub fn rows(alloc: Global, tree: &Tree, from: Owner) -> Result<ReportRows, Memory>
-    requires { NoReferences tree.now.rows }
+pub fn rows(alloc: Global, tree: &Tree, refs: &Refs, from: Owner) -> Result<ReportRows, Memory>
+    requires { AreRefsOf refs.now.pairs tree.now.rows }
     ensures { IfOk result (λ rows. rows ≡ report tree.now.rows from) }
 {
     let mut rows = Vec::new(alloc);
     for place in Walk::new(tree, from) {
-        let row = row_at(alloc, tree, place.owner, place.depth)?;
+        let row = row_at(alloc, tree, refs, place.owner, place.depth)?;
         keep(&mut rows, row)?;
     }
     Ok(ReportRows::make(rows))

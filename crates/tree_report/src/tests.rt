@@ -1,23 +1,104 @@
-ghost use Rattle.std.specs.Prelude.{◌≡◌, ◌<◌, not, ◌&&◌, true, false, IfOk};
+ghost use Rattle.std.specs.Prelude.{◌≡◌, ◌<◌, not, ◌&&◌};
 ghost use Rattle.tree_specs.specs.Calls.{size_limit};
-ghost use Rattle.tree_specs.specs.Pool.{is_row, is_owner as is_owner_of, is_dying};
-ghost use Rattle.tree_specs.specs.Inside.{NoReferences};
+ghost use Rattle.tree_specs.specs.Pool.{is_row, is_dying};
 
 use super::*;
-use outside::{Done, FineSink, MemSink};
+use outside::{Done, FineSink, MemSink, Sink};
+use references::Refs;
 use std::alloc::Global;
+use std::marker::Model;
 use std::process::Abort;
 use std::test::Fail;
 use tree_links::{NewRow, Tree};
-use tree_specs::{Kind, Mark, Name, Obj, Owner, ReportRows, RowKind};
+use tree_specs::{Kind, Mark, Memory, Name, Obj, Owner, ReportRows, RowKind};
 
-// Whether it is the root or an object.
-fn is_owner(tree: &Tree, owner: Owner) -> bool
-    ensures { result ≡ is_owner_of tree.now.rows owner }
-{
-    match owner {
-        Owner::Root => true,
-        Owner::Of(x) => tree.row(x).is_some(),
+// A tree, and the references among its rows.
+#[derive(Drop)]
+struct World {
+    tree: Tree,
+    refs: Refs,
+}
+
+impl Model for World {
+    ghost use Rattle.tree_links.specs.Links.{Links};
+    ghost use Rattle.references.specs.Pairs.{Pairs};
+    ghost use Rattle.references.specs.Rows.{AreRefsOf};
+
+    ghost Value = { Links × Pairs };
+
+    ghost view = { λ w. (w.tree, w.refs) };
+
+    ghost invariant = { λ w. AreRefsOf w.refs.pairs w.tree.rows };
+}
+
+impl World {
+    fn new(alloc: Global) -> World {
+        World {
+            tree: Tree::new(alloc, 1),
+            refs: Refs::new(alloc),
+        }
+    }
+
+    // Adds a plain object.
+    fn add(
+        &mut self,
+        rt: &impl Abort,
+        alloc: Global,
+        name: &str,
+        size: u64,
+        owner: Owner,
+    ) -> Result<Obj, Fail>
+        requires { size < size_limit }
+    {
+        let name = Name::make(name.as_bytes().to_vec(alloc)?).expect(rt, "a name");
+        let row = NewRow {
+            kind: Kind::Plain,
+            name,
+            size,
+        };
+        self.tree.reserve(1)?;
+        assert!(rt; self.tree.len() < 1_048_576);
+        assert!(rt; self.tree.next_number() < u64::MAX);
+        assert!(rt; self.tree.is_owner(owner));
+        Ok(self.tree.add(row, owner))
+    }
+
+    // Adds a reference.
+    fn refer(
+        &mut self,
+        rt: &impl Abort,
+        alloc: Global,
+        target: Obj,
+        owner: Owner,
+    ) -> Result<Obj, Fail> {
+        let row = NewRow {
+            kind: Kind::Reference { target },
+            name: Name::make(b"reference".to_vec(alloc)?).expect(rt, "a name"),
+            size: 0,
+        };
+        self.tree.reserve(1)?;
+        self.refs.reserve(1)?;
+        assert!(rt; self.tree.len() < 1_048_576);
+        assert!(rt; self.tree.next_number() < u64::MAX);
+        assert!(rt; self.tree.is_owner(owner));
+        // All that is wanted of the count is its contract: the references stand in order.
+        let _held = self.refs.count_refs(target);
+        let reference = self.tree.add(row, owner);
+        self.refs.add_ref(reference, target);
+        Ok(reference)
+    }
+
+    fn detach(&mut self, rt: &impl Abort, x: Obj) {
+        assert!(rt; is_live(&self.tree, x));
+        self.tree.detach(x);
+    }
+
+    fn rows(&self, alloc: Global, from: Owner) -> Result<ReportRows, Memory> {
+        rows(alloc, &self.tree, &self.refs, from)
+    }
+
+    fn report<K: Sink>(&self, alloc: Global, from: Owner, out: &mut K) -> Result<Done, Memory> {
+        report(alloc, &self.tree, &self.refs, from, out)
     }
 }
 
@@ -31,51 +112,15 @@ fn is_live(tree: &Tree, x: Obj) -> bool
     }
 }
 
-// Adds a plain object.
-fn add(
-    rt: &impl Abort,
-    tree: &mut Tree,
-    alloc: Global,
-    name: &str,
-    size: u64,
-    owner: Owner,
-) -> Result<Obj, Fail>
-    requires small { size < size_limit }
-    requires plain { NoReferences tree.old.rows }
-    ensures { NoReferences tree.new.rows }
-{
-    let name = Name::make(name.as_bytes().to_vec(alloc)?).expect(rt, "a name");
-    let row = NewRow {
-        kind: Kind::Plain,
-        name,
-        size,
-    };
-    tree.reserve(1)?;
-    assert!(rt; tree.len() < 1_048_576);
-    assert!(rt; tree.next_number() < u64::MAX);
-    assert!(rt; is_owner(tree, owner));
-    Ok(tree.add(row, owner))
-}
-
-fn detach(rt: &impl Abort, tree: &mut Tree, x: Obj)
-    requires { NoReferences tree.old.rows }
-    ensures { NoReferences tree.new.rows }
-{
-    assert!(rt; is_live(tree, x));
-    tree.detach(x);
-}
-
 // The root owns 1 and 5, 1 owns 2 and 4, and 2 owns 3.
-fn five(rt: &impl Abort, alloc: Global) -> Result<Tree, Fail>
-    ensures { IfOk result (λ t. NoReferences t.rows) }
-{
-    let mut tree = Tree::new(alloc, 1);
-    let top = add(rt, &mut tree, alloc, "top", 10, Owner::Root)?;
-    let left = add(rt, &mut tree, alloc, "left", 200, Owner::Of(top))?;
-    add(rt, &mut tree, alloc, "leaf", 3_000, Owner::Of(left))?;
-    add(rt, &mut tree, alloc, "right", 40_000, Owner::Of(top))?;
-    add(rt, &mut tree, alloc, "aside", 500_000, Owner::Root)?;
-    Ok(tree)
+fn five(rt: &impl Abort, alloc: Global) -> Result<World, Fail> {
+    let mut world = World::new(alloc);
+    let top = world.add(rt, alloc, "top", 10, Owner::Root)?;
+    let left = world.add(rt, alloc, "left", 200, Owner::Of(top))?;
+    world.add(rt, alloc, "leaf", 3_000, Owner::Of(left))?;
+    world.add(rt, alloc, "right", 40_000, Owner::Of(top))?;
+    world.add(rt, alloc, "aside", 500_000, Owner::Root)?;
+    Ok(world)
 }
 
 // Each row by its depth, its number, its size and its name.
@@ -100,8 +145,8 @@ fn expect_rows(rt: &impl Abort, report: &ReportRows, want: &[(u32, u64, u64, &st
 
 #[test]
 fn each_owner_comes_before_its_children(rt: HostRuntime) -> Result<(), Fail> {
-    let tree = five(&rt, rt.alloc())?;
-    let all = rows(rt.alloc(), &tree, Owner::Root)?;
+    let world = five(&rt, rt.alloc())?;
+    let all = world.rows(rt.alloc(), Owner::Root)?;
     expect_rows(
         &rt,
         &all,
@@ -114,18 +159,18 @@ fn each_owner_comes_before_its_children(rt: HostRuntime) -> Result<(), Fail> {
             (3, 3, 3_000, "leaf"),
         ],
     );
-    let middle = rows(rt.alloc(), &tree, Owner::Of(Obj(2)))?;
+    let middle = world.rows(rt.alloc(), Owner::Of(Obj(2)))?;
     expect_rows(&rt, &middle, &[(0, 2, 200, "left"), (1, 3, 3_000, "leaf")]);
-    let leaf = rows(rt.alloc(), &tree, Owner::Of(Obj(3)))?;
+    let leaf = world.rows(rt.alloc(), Owner::Of(Obj(3)))?;
     expect_rows(&rt, &leaf, &[(0, 3, 3_000, "leaf")]);
-    let none = rows(rt.alloc(), &tree, Owner::Of(Obj(6)))?;
+    let none = world.rows(rt.alloc(), Owner::Of(Obj(6)))?;
     expect_rows(&rt, &none, &[]);
     Ok(())
 }
 
 #[test]
 fn a_sum_is_over_all_that_is_inside(rt: HostRuntime) -> Result<(), Fail> {
-    let tree = five(&rt, rt.alloc())?;
+    let world = five(&rt, rt.alloc())?;
     for (from, size, number) in [
         (Owner::Root, 543_210, 5),
         (Owner::Of(Obj(1)), 43_210, 4),
@@ -134,26 +179,26 @@ fn a_sum_is_over_all_that_is_inside(rt: HostRuntime) -> Result<(), Fail> {
         (Owner::Of(Obj(5)), 500_000, 1),
         (Owner::Of(Obj(6)), 0, 0),
     ] {
-        assert_eq!(rt; total(&tree, from), size, "in {from:?}");
-        assert_eq!(rt; count(&tree, from), number, "in {from:?}");
+        assert_eq!(rt; total(&world.tree, from), size, "in {from:?}");
+        assert_eq!(rt; count(&world.tree, from), number, "in {from:?}");
     }
     Ok(())
 }
 
 #[test]
 fn what_a_dying_object_owns_is_not_inside_the_root(rt: HostRuntime) -> Result<(), Fail> {
-    let mut tree = five(&rt, rt.alloc())?;
-    detach(&rt, &mut tree, Obj(2));
+    let mut world = five(&rt, rt.alloc())?;
+    world.detach(&rt, Obj(2));
     for (from, size, number) in [
         (Owner::Root, 540_010, 3),
         (Owner::Of(Obj(1)), 40_010, 2),
         (Owner::Of(Obj(2)), 3_200, 2),
         (Owner::Of(Obj(3)), 3_000, 1),
     ] {
-        assert_eq!(rt; total(&tree, from), size, "in {from:?}");
-        assert_eq!(rt; count(&tree, from), number, "in {from:?}");
+        assert_eq!(rt; total(&world.tree, from), size, "in {from:?}");
+        assert_eq!(rt; count(&world.tree, from), number, "in {from:?}");
     }
-    let all = rows(rt.alloc(), &tree, Owner::Root)?;
+    let all = world.rows(rt.alloc(), Owner::Root)?;
     expect_rows(
         &rt,
         &all,
@@ -164,22 +209,22 @@ fn what_a_dying_object_owns_is_not_inside_the_root(rt: HostRuntime) -> Result<()
             (2, 4, 40_000, "right"),
         ],
     );
-    let dying = rows(rt.alloc(), &tree, Owner::Of(Obj(2)))?;
+    let dying = world.rows(rt.alloc(), Owner::Of(Obj(2)))?;
     expect_rows(&rt, &dying, &[(0, 2, 200, "left"), (1, 3, 3_000, "leaf")]);
     Ok(())
 }
 
 #[test]
 fn a_long_chain_is_walked_down(rt: HostRuntime) -> Result<(), Fail> {
-    let mut tree = Tree::new(rt.alloc(), 1);
+    let mut world = World::new(rt.alloc());
     let mut owner = Owner::Root;
     for _n in 0..300 {
-        owner = Owner::Of(add(&rt, &mut tree, rt.alloc(), "link", 2, owner)?);
+        owner = Owner::Of(world.add(&rt, rt.alloc(), "link", 2, owner)?);
     }
-    assert_eq!(rt; total(&tree, Owner::Root), 600);
-    assert_eq!(rt; count(&tree, Owner::Root), 300);
-    assert_eq!(rt; total(&tree, Owner::Of(Obj(101))), 400);
-    let all = rows(rt.alloc(), &tree, Owner::Root)?;
+    assert_eq!(rt; total(&world.tree, Owner::Root), 600);
+    assert_eq!(rt; count(&world.tree, Owner::Root), 300);
+    assert_eq!(rt; total(&world.tree, Owner::Of(Obj(101))), 400);
+    let all = world.rows(rt.alloc(), Owner::Root)?;
     assert_eq!(rt; all.as_slice().len(), 301);
     let mut depth = 0;
     for row in all.as_slice() {
@@ -191,13 +236,13 @@ fn a_long_chain_is_walked_down(rt: HostRuntime) -> Result<(), Fail> {
 
 #[test]
 fn many_children_are_walked_newest_first(rt: HostRuntime) -> Result<(), Fail> {
-    let mut tree = Tree::new(rt.alloc(), 1);
+    let mut world = World::new(rt.alloc());
     for _n in 0..300 {
-        add(&rt, &mut tree, rt.alloc(), "child", 2, Owner::Root)?;
+        world.add(&rt, rt.alloc(), "child", 2, Owner::Root)?;
     }
-    assert_eq!(rt; total(&tree, Owner::Root), 600);
-    assert_eq!(rt; count(&tree, Owner::Root), 300);
-    let all = rows(rt.alloc(), &tree, Owner::Root)?;
+    assert_eq!(rt; total(&world.tree, Owner::Root), 600);
+    assert_eq!(rt; count(&world.tree, Owner::Root), 300);
+    let all = world.rows(rt.alloc(), Owner::Root)?;
     assert_eq!(rt; all.as_slice().len(), 301);
     let mut id: u64 = 301;
     for row in all.as_slice() {
@@ -216,9 +261,9 @@ const LINES: &[u8] = b"row 0 2 plain 200 0 0 left\nrow 1 3 plain 3000 0 0 leaf\n
 
 #[test]
 fn a_report_is_written_line_by_line(rt: HostRuntime) -> Result<(), Fail> {
-    let tree = five(&rt, rt.alloc())?;
+    let world = five(&rt, rt.alloc())?;
     let mut out = FineSink::new(rt.alloc(), 0)?;
-    let done = report(rt.alloc(), &tree, Owner::Of(Obj(2)), &mut out)?;
+    let done = world.report(rt.alloc(), Owner::Of(Obj(2)), &mut out)?;
     assert_eq!(rt; done, Done::Done);
     assert_eq!(rt; out.held(), LINES);
     Ok(())
@@ -227,10 +272,29 @@ fn a_report_is_written_line_by_line(rt: HostRuntime) -> Result<(), Fail> {
 // The sink takes ten bytes, and then fails.
 #[test]
 fn a_sink_that_fails_has_a_front_of_the_report(rt: HostRuntime) -> Result<(), Fail> {
-    let tree = five(&rt, rt.alloc())?;
+    let world = five(&rt, rt.alloc())?;
     let mut out = MemSink::new(rt.alloc(), 10, 0, [2].to_vec(rt.alloc())?)?;
-    let done = report(rt.alloc(), &tree, Owner::Of(Obj(2)), &mut out)?;
+    let done = world.report(rt.alloc(), Owner::Of(Obj(2)), &mut out)?;
     assert_eq!(rt; done, Done::Failed);
     assert_eq!(rt; out.held(), &LINES[..10]);
+    Ok(())
+}
+
+const REFERENCES: &[u8] =
+    b"row 0 1 plain 10 1 0 top\nrow 1 7 reference 0 0 2 reference\nrow 1 4 plain 40000 0 0 right\nrow 1 2 plain 200 2 0 left\nrow 2 3 plain 3000 0 0 leaf\n";
+
+// The object that two references refer to shows how many they are, and a reference shows what it refers to.
+#[test]
+fn references_are_shown_and_counted(rt: HostRuntime) -> Result<(), Fail> {
+    let mut world = five(&rt, rt.alloc())?;
+    world.refer(&rt, rt.alloc(), Obj(2), Owner::Of(Obj(5)))?;
+    world.refer(&rt, rt.alloc(), Obj(2), Owner::Of(Obj(1)))?;
+    world.refer(&rt, rt.alloc(), Obj(1), Owner::Of(Obj(5)))?;
+    let mut out = FineSink::new(rt.alloc(), 0)?;
+    let done = world.report(rt.alloc(), Owner::Of(Obj(1)), &mut out)?;
+    assert_eq!(rt; done, Done::Done);
+    assert_eq!(rt; out.held(), REFERENCES);
+    assert_eq!(rt; total(&world.tree, Owner::Root), 543_210);
+    assert_eq!(rt; count(&world.tree, Owner::Root), 5);
     Ok(())
 }

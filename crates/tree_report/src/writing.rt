@@ -1,6 +1,6 @@
 //! The report as text.
 ghost use Rattle.std.specs.Prelude.{◌≡◌, IfOk, Ok};
-ghost use Rattle.tree_specs.specs.Inside.{NoReferences};
+ghost use Rattle.references.specs.Rows.{AreRefsOf};
 ghost use Rattle.tree_specs.specs.Reports.{report as report_of};
 ghost use Rattle.tree_specs.specs.Text.{rows_text};
 ghost use Rattle.outside.specs.Causes.{Counts};
@@ -8,17 +8,18 @@ ghost use Rattle.tree_report.specs.Written.{Puts};
 
 use crate::listing::rows;
 use outside::{Done, PutError, Sink, put_all};
+use references::Refs;
 use std::alloc::Global;
 use text_forms::write_report_rows;
 use tree_links::Tree;
 use tree_specs::{Memory, Owner};
 
 /// The lines of a report.
-fn report_text(alloc: Global, tree: &Tree, from: Owner) -> Result<Vec<u8>, Memory>
-    requires { NoReferences tree.now.rows }
+fn report_text(alloc: Global, tree: &Tree, refs: &Refs, from: Owner) -> Result<Vec<u8>, Memory>
+    requires { AreRefsOf refs.now.pairs tree.now.rows }
     ensures { IfOk result (λ text. text.items ≡ rows_text (report_of tree.now.rows from)) }
 {
-    let rows = rows(alloc, tree, from)?;
+    let rows = rows(alloc, tree, refs, from)?;
     let mut text = Vec::new(alloc);
     write_report_rows(rows.as_slice(), &mut text)?;
     Ok(text)
@@ -29,13 +30,18 @@ fn report_text(alloc: Global, tree: &Tree, from: Owner) -> Result<Vec<u8>, Memor
 ///
 /// `Failed` comes only where the sink's count of faults rose in this call. Then, and after want of memory, a
 /// front of the lines has been put.
-pub fn report<K: Sink>(alloc: Global, tree: &Tree, from: Owner, out: &mut K) -> Result<Done, Memory>
-    // There are no references as yet.
-    requires { NoReferences tree.now.rows }
+pub fn report<K: Sink>(
+    alloc: Global,
+    tree: &Tree,
+    refs: &Refs,
+    from: Owner,
+    out: &mut K,
+) -> Result<Done, Memory>
+    requires { AreRefsOf refs.now.pairs tree.now.rows }
     ensures bytes { Puts (K.held out.old) (K.held out.new) result (rows_text (report_of tree.now.rows from)) }
     ensures cause { Counts (K.faults out.old) (K.faults out.new) (result ≡ Ok Done.Failed) }
 {
-    let text = report_text(alloc, tree, from)?;
+    let text = report_text(alloc, tree, refs, from)?;
     match put_all(out, &text) {
         Ok(()) => Ok(Done::Done),
         Err(PutError::Write) => Ok(Done::Failed),

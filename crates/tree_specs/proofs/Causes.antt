@@ -1,5 +1,5 @@
 -- What the works and the items told so far say of the items to come.
-use Rattle.std.proofs.Common.{◌≡◌, List, [], ◌∷◌, Option, Some, None, map}
+use Rattle.std.proofs.Common.{◌≡◌, List, [], ◌∷◌, Option, Some, None, map, true, false}
 use Rattle.step_machine.specs.Noted.{Noted}
 use Rattle.step_machine.specs.Open.{LastIs}
 use Rattle.tree_specs.specs.declared.object.Obj.{Obj}
@@ -12,12 +12,12 @@ use Rattle.tree_specs.specs.declared.reply.Reply.{Reply}
 use Rattle.tree_specs.specs.declared.event.Event.TheVariants.{Replied, Refused}
 use Rattle.tree_specs.specs.declared.frame.Frame.{Frame}
 use Rattle.tree_specs.specs.declared.frame.Frame.TheVariants as frame
-use Rattle.tree_specs.specs.declared.frame.CallFrame.TheVariants.{Asking, Doing, Awaiting, Telling, Returning}
-use Rattle.tree_specs.specs.declared.frame.FreeFrame.TheVariants.{Beginning, Hooked, Judged, Leaving, Looping, Trying, Tried, Ending}
+use Rattle.tree_specs.specs.declared.frame.CallFrame.TheVariants.{Asking, Doing, Awaiting, Warning, Telling, Returning}
+use Rattle.tree_specs.specs.declared.frame.FreeFrame.TheVariants.{Unlinking, Releasing, Giving, Beginning, Hooked, Judged, Leaving, Looping, Trying, Tried, Ending}
 use Rattle.tree_specs.specs.declared.free_step.FreeReply.{FreeReply}
 use Rattle.tree_specs.specs.declared.free_step.FreeReply.TheVariants as free_reply
-use Rattle.tree_specs.specs.Pool.{Pool}
-use Rattle.tree_specs.specs.Inside.{NoReferences}
+use Rattle.tree_specs.specs.Pool.{Pool, row_of, is_row}
+use Rattle.tree_specs.specs.Calls.{is_held}
 use Rattle.tree_specs.specs.Items.{Item}
 use Rattle.tree_specs.specs.Items.Item.{Told}
 use Rattle.tree_specs.specs.Works.{Begun, Scene}
@@ -39,13 +39,16 @@ told scenes = map item_of scenes
 -- a free of x
 abbrev pub IsFreeOf : Obj → Frame → Type 0
 IsFreeOf x (frame.Call c) = ⊥
+IsFreeOf x (frame.Free (Unlinking o y)) = y ≡ x
+IsFreeOf x (frame.Free (Releasing y)) = y ≡ x
+IsFreeOf x (frame.Free (Giving y o)) = y ≡ x
 IsFreeOf x (frame.Free (Beginning y)) = y ≡ x
 IsFreeOf x (frame.Free (Hooked y h)) = y ≡ x
 IsFreeOf x (frame.Free (Judged y h v)) = y ≡ x
 IsFreeOf x (frame.Free (Leaving y h)) = y ≡ x
 IsFreeOf x (frame.Free (Looping y purpose)) = y ≡ x
-IsFreeOf x (frame.Free (Trying y c purpose)) = y ≡ x
-IsFreeOf x (frame.Free (Tried y c purpose a)) = y ≡ x
+IsFreeOf x (frame.Free (Trying y c noted purpose)) = y ≡ x
+IsFreeOf x (frame.Free (Tried y c noted purpose a)) = y ≡ x
 IsFreeOf x (frame.Free (Ending a)) = Unit {0}
 
 -- the question of x's destructor
@@ -63,25 +66,32 @@ abbrev pub IsRunOf : Obj → Frame → Type 0
 IsRunOf x (frame.Call (Asking q)) = IsHookOf x q
 IsRunOf x (frame.Call (Doing q c)) = IsHookOf x q
 IsRunOf x (frame.Call (Awaiting q y)) = IsHookOf x q
+IsRunOf x (frame.Call (Warning q y r)) = IsHookOf x q
 IsRunOf x (frame.Call (Telling q r)) = IsHookOf x q
 IsRunOf x (frame.Call (Returning v)) = Unit {0}
 IsRunOf x (frame.Free f) = ⊥
 
--- a call that frees x, or its children
+-- a call that frees x, or its children, or takes an interest in it away
 abbrev pub FreesBy : Obj → Call → Type 0
 FreesBy x (call.Free y) = y ≡ x
 FreesBy x (call.Freekids y) = y ≡ x
+FreesBy x (call.Unlink o y) = y ≡ x
 FreesBy x c = ⊥
+
+-- a call to free is done only where the object isn't held
+abbrev pub NotHeld : Call → Pool → Type 0
+NotHeld (call.Free x) start = is_held start x ≡ false
+NotHeld c start = Unit {0}
 
 -- a caller that waits for a free knows the call
 abbrev pub Knows : Obj → Option Begun → Type 0
 Knows x None = ⊥
-Knows x (Some b) = FreesBy x b.call × NoReferences b.start.rows
+Knows x (Some b) = FreesBy x b.call × NotHeld b.call b.start
 
 -- what a work that waits says of the one that stands on it
 abbrev pub StandsOn : Frame → Frame → Option Begun → Type 0
 StandsOn f (frame.Call (Awaiting q x)) b = IsFreeOf x f × Knows x b
-StandsOn f (frame.Free (Trying x c purpose)) b = IsFreeOf c f
+StandsOn f (frame.Free (Trying x c noted purpose)) b = IsFreeOf c f
 StandsOn f (frame.Free (Hooked x h)) b = IsRunOf x f
 StandsOn f g b = Unit {0}
 
@@ -108,22 +118,27 @@ IsAskedFor scenes f b = Unit {0}
 
 -- the call that waits is told of a refusal right after this was told
 abbrev pub IsRefusedFor : List Scene → FreeReply → Frame → Option Begun → Type 0
+IsRefusedFor scenes free_reply.Held (frame.Call (Awaiting q x)) b = ⊥
 IsRefusedFor scenes (free_reply.Refused v) (frame.Call (Awaiting q x)) b = LastIs (IsItem (Told (Refused x v))) scenes
 IsRefusedFor scenes a f b = Unit {0}
 
-abbrev pub IsStart : Pool → Option Begun → Type 0
-IsStart p None = ⊥
-IsStart p (Some b) = b.start ≡ p
+-- the object has the row that it had when the call began
+abbrev pub IsAsAtStart : Pool → Obj → Option Begun → Type 0
+IsAsAtStart p x None = ⊥
+IsAsAtStart p x (Some b) = row_of b.start.rows x ≡ row_of p.rows x
 
--- the call that waits has just begun
+-- nothing has happened to the object since the call that waits began
 abbrev pub HasJustBegun : Pool → Frame → Option Begun → Type 0
-HasJustBegun p (frame.Call (Awaiting q x)) b = IsStart p b
+HasJustBegun p (frame.Call (Awaiting q x)) b = IsAsAtStart p x b
 HasJustBegun p f b = Unit {0}
 
 abbrev pub Cause : List Scene → Frame → Option Begun → List NotedWork → Pool → Type 0
+Cause scenes (frame.Call (Warning q x r)) b ws p = ((more : List Scene) → IsCaused more b r) × (is_row p.rows x ≡ true)
 Cause scenes (frame.Call (Telling q r)) b ws p = IsCaused scenes b r
 Cause scenes (frame.Call (Returning v)) b ws p = OfNext (IsAskedFor scenes) ws
 Cause scenes (frame.Free (Judged x h v)) b ws p = LastIs (AsksHook x) scenes
 Cause scenes (frame.Free (Ending a)) b ws p = OfNext (IsRefusedFor scenes a) ws
+Cause scenes (frame.Free (Unlinking o x)) b ws p = OfNext (HasJustBegun p) ws
+Cause scenes (frame.Free (Releasing x)) b ws p = OfNext (HasJustBegun p) ws
 Cause scenes (frame.Free (Beginning x)) b ws p = OfNext (HasJustBegun p) ws
 Cause scenes f b ws p = Unit {0}

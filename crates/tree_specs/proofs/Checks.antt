@@ -1,6 +1,6 @@
 -- What it means that no refusal applies, and that an input fits.
-use Rattle.std.proofs.Common.{◌≡◌, ◌≢◌, ℕ, suc, zero, List, [], ◌∷◌, ◌++◌, length, Option, Some, None, Bool, true, false, cond, refl, sym, ◌∙◌, subst, ◌⊎◌, inl, inr}
-use Rattle.std.specs.Prelude.{not}
+use Rattle.std.proofs.Common.{◌≡◌, ◌≢◌, ℕ, suc, zero, List, [], ◌∷◌, ◌++◌, length, Option, Some, None, Bool, true, false, refl, sym, ◌∙◌, ap, subst, ◌⊎◌, inl, inr}
+use Rattle.std.specs.Prelude.{is_some, not}
 use Rattle.tree_specs.specs.declared.object.Obj.{Obj}
 use Rattle.tree_specs.specs.declared.object.Owner.{Owner}
 use Rattle.tree_specs.specs.declared.object.Owner.TheVariants.{Root, Of}
@@ -10,7 +10,7 @@ use Rattle.tree_specs.specs.declared.row.Mark.TheVariants.{Quiet, Asked, Busy, D
 use Rattle.tree_specs.specs.declared.call.Call.{Call}
 use Rattle.tree_specs.specs.declared.call.Call.TheVariants as call
 use Rattle.tree_specs.specs.declared.reply.Refusal.{Refusal}
-use Rattle.tree_specs.specs.declared.reply.Refusal.TheVariants.{NotParent, Loop}
+use Rattle.tree_specs.specs.declared.reply.Refusal.TheVariants.{WrongKind, NotParent, Loop}
 use Rattle.tree_specs.specs.Objects.{same_owner}
 use Rattle.tree_specs.specs.declared.question.Ask.{Ask}
 use Rattle.tree_specs.specs.declared.question.Ask.TheVariants as ask
@@ -18,9 +18,10 @@ use Rattle.tree_specs.specs.declared.question.Act.TheVariants as act
 use Rattle.tree_specs.specs.declared.question.Input.{Input}
 use Rattle.tree_specs.specs.declared.question.Input.TheVariants as input
 use Rattle.tree_specs.specs.declared.frame.Frame.{Frame}
-use Rattle.tree_specs.specs.Pool.{Pool, row_of, is_owner, is_below, owner_of, is_dying_row, reaches, is_inside}
-use Rattle.tree_specs.specs.Calls.{Check, refuse_if, refusals, small, is_plain, is_plain_row, object_row, object, plain, owner, room, staying, apart, placing, hooking, given_by}
-use Rattle.tree_specs.specs.Sound.{IsLive}
+use Rattle.tree_specs.specs.Targets.{target_of, is_reference}
+use Rattle.tree_specs.specs.Pool.{Pool, row_of, is_object_row, is_owner, is_below, owner_of, newest_ref_of, is_dying_row, reaches, is_inside}
+use Rattle.tree_specs.specs.Calls.{Check, refuse_if, refusals, small, is_plain, is_plain_row, object_row, object, plain, owner, room, staying, apart, placing, is_interested, interested, given_by, is_held, held, is_running_mark, is_running_row, still, hooking}
+use Rattle.tree_specs.specs.Sound.{IsLive, MayBePlaced}
 use Rattle.tree_specs.specs.Soundness.{is_sound_call, is_return}
 use Rattle.tree_specs.specs.Table.{doing, returning}
 use Rattle.tree_specs.specs.Story.{heard}
@@ -40,22 +41,17 @@ not-false : (b : Bool) → not b ≡ false → b ≡ true
 not-false true e = refl
 not-false false e = cc
 
--- what is known of an object that may be put below an owner
-pub record MayBePlaced (p : Pool) (o : Owner) (x : Obj) : Type 0 where
-  pub row : Row
-  pub is : row_of p.rows x ≡ Some row
-  pub live : IsLive row.mark
-  pub apart : o ≢ Of x
-  pub there : is_owner p.rows o ≡ true
-  pub outside : is_inside p.rows o (Of x) ≡ false
+-- no reference refers to nothing
+refers-none : (o : Option Obj) → is_some o ≡ false → o ≡ None
+refers-none None e = refl
+refers-none (Some t) e = cc
 
--- an object that exists
-pub passes-object : (p : Pool) (x : Obj) → object p x ≡ [] → (r : Row) × (row_of p.rows x ≡ Some r)
+pub passes-object : (p : Pool) (x : Obj) → object p x ≡ [] → (r : Row) × (row_of p.rows x ≡ Some r) × (target_of r.kind ≡ None)
 passes-object p x e = each (row_of p.rows x) refl e
   where
-    each : (q : Option Row) → row_of p.rows x ≡ q → object_row x q ≡ [] → (r : Row) × (row_of p.rows x ≡ Some r)
+    each : (q : Option Row) → row_of p.rows x ≡ q → object_row x q ≡ [] → (r : Row) × (row_of p.rows x ≡ Some r) × (target_of r.kind ≡ None)
     each None h t = cc
-    each (Some r) h t = (r, h)
+    each (Some r) h t = (r, h, refers-none (target_of r.kind) (refuse_if-none (is_reference r.kind) (WrongKind x) t))
 
 live-row : (p : Pool) (x : Obj) (r : Row) → row_of p.rows x ≡ Some r → staying p x ≡ [] → IsLive r.mark
 live-row p x r h e = each r.mark refl
@@ -84,7 +80,11 @@ apart-owner p x o e = λ same_as. (
 -- an owner that isn't refused is there
 pub passes-owner : (p : Pool) (o : Owner) → owner p o ≡ [] → is_owner p.rows o ≡ true
 passes-owner p Root e = refl
-passes-owner p (Of x) e = let r = passes-object p x e in rw r.1 refl
+passes-owner p (Of x) e = each (row_of p.rows x) e
+  where
+    each : (q : Option Row) → object_row x q ≡ [] → is_object_row q ≡ true
+    each None h = cc
+    each (Some r) h = ap not (refuse_if-none (is_reference r.kind) (WrongKind x) h)
 
 -- a new object that isn't refused has one
 pub passes : (p : Pool) (o : Owner) (size : ℕ) (name : List ℕ) → refusals p (call.New o size name) ≡ [] → is_owner p.rows o ≡ true
@@ -109,17 +109,77 @@ passes-placing p o x e =
     let c = both-none (staying p x) (apart p x o) b.1 in
     may-be p o x a.0 b.0 c.0 c.1
 
-pub passes-reparent : (p : Pool) (from to : Owner) (x : Obj) → refusals p (call.Reparent from to x) ≡ [] → MayBePlaced p to x
+-- an interest that isn't refused is an owner's, or of one that has a reference
+pub data Interest (p : Pool) (o : Owner) (x : Obj) : Type 0 where
+  AsOwner : is_below (owner_of p.rows x) o ≡ true → Interest p o x
+  AsHolder : (r : Obj) → is_below (owner_of p.rows x) o ≡ false → newest_ref_of p.rows o x ≡ Some r → Interest p o x
+
+pub passes-interested : (p : Pool) (o : Owner) (x : Obj) → interested p o x ≡ [] → Interest p o x
+passes-interested p o x e = by_test (is_below (owner_of p.rows x) o)
+    (λ t. AsOwner t)
+    (λ t. let i : is_interested p o x ≡ true = not-false _ (refuse_if-none _ _ e) in let i' : is_some (newest_ref_of p.rows o x) ≡ true = rw t at i in each t (newest_ref_of p.rows o x) refl i')
+  where
+    each : is_below (owner_of p.rows x) o ≡ false → (n : Option Obj) → newest_ref_of p.rows o x ≡ n → is_some n ≡ true → Interest p o x
+    each t None n h = cc
+    each t (Some r) n h = AsHolder r t n
+
+-- what is known of an object that goes from one owner to another, or whose reference does
+pub data MayGo (p : Pool) (from to : Owner) (x : Obj) : Type 0 where
+  Itself : is_below (owner_of p.rows x) from ≡ true → MayBePlaced p to x → MayGo p from to x
+  ItsRef : (r : Obj) → is_below (owner_of p.rows x) from ≡ false → newest_ref_of p.rows from x ≡ Some r → is_owner p.rows to ≡ true → MayGo p from to x
+
+pub passes-reparent : (p : Pool) (from to : Owner) (x : Obj) → refusals p (call.Reparent from to x) ≡ [] → MayGo p from to x
 passes-reparent p from to x e =
     let a = both-none (object p x) (owner p from ++ (owner p to ++ (staying p x ++ given_by p from to x))) e in
     let b = both-none (owner p from) (owner p to ++ (staying p x ++ given_by p from to x)) a.1 in
     let c = both-none (owner p to) (staying p x ++ given_by p from to x) b.1 in
     let d = both-none (staying p x) (given_by p from to x) c.1 in
-    may-be p to x a.0 c.0 d.0 (given (is_below (owner_of p.rows x) from) d.1)
+    by_test (is_below (owner_of p.rows x) from)
+    (λ t. let g : apart p x to ≡ [] = rw t at d.1 in Itself t (may-be p to x a.0 c.0 d.0 g))
+    (λ t. let g : refuse_if (not (is_some (newest_ref_of p.rows from x))) (NotParent x from) ≡ [] = rw t at d.1 in
+    by-ref t c.0 (newest_ref_of p.rows from x) refl (not-false _ (refuse_if-none _ _ g)))
   where
-    given : (b : Bool) → cond b (apart p x to) (NotParent x from ∷ []) ≡ [] → apart p x to ≡ []
-    given true e = e
-    given false e = cc
+    by-ref : is_below (owner_of p.rows x) from ≡ false → owner p to ≡ [] → (n : Option Obj) → newest_ref_of p.rows from x ≡ n → is_some n ≡ true → MayGo p from to x
+    by-ref t o None n h = cc
+    by-ref t o (Some r) n h = ItsRef r t n (passes-owner p to o)
+
+-- an object that may be freed by a call
+pub passes-free : (p : Pool) (x : Obj) → refusals p (call.Free x) ≡ [] → (object p x ≡ []) × (is_held p x ≡ false)
+passes-free p x e = let a = both-none (object p x) (held p x) e in (a.0, refuse_if-none _ _ a.1)
+
+-- an object that an owner may give up
+pub passes-unlink : (p : Pool) (o : Owner) (x : Obj) → refusals p (call.Unlink o x) ≡ [] → (object p x ≡ []) × Interest p o x
+passes-unlink p o x e =
+    let a = both-none (object p x) (owner p o ++ interested p o x) e in
+    let b = both-none (owner p o) (interested p o x) a.1 in
+    (a.0, passes-interested p o x b.1)
+
+-- an object to which a reference may be made
+pub record MayBeReferred (p : Pool) (o : Owner) (x : Obj) : Type 0 where
+  pub row : Row
+  pub is : row_of p.rows x ≡ Some row
+  pub plain : is_plain row.kind ≡ true
+  pub quiet : row.mark ≡ Quiet
+  pub there : is_owner p.rows o ≡ true
+
+pub passes-reference : (p : Pool) (o : Owner) (x : Obj) → refusals p (call.Reference o x) ≡ [] → MayBeReferred p o x
+passes-reference p o x e =
+    let a = both-none (object p x) (plain p x ++ (owner p o ++ (still p x ++ (staying p x ++ room p 1)))) e in
+    let b = both-none (plain p x) (owner p o ++ (still p x ++ (staying p x ++ room p 1))) a.1 in
+    let c = both-none (owner p o) (still p x ++ (staying p x ++ room p 1)) b.1 in
+    let d = both-none (still p x) (staying p x ++ room p 1) c.1 in
+    let f = both-none (staying p x) (room p 1) d.1 in
+    let r = passes-object p x a.0 in
+    let k : is_plain_row (row_of p.rows x) ≡ true = not-false _ (refuse_if-none _ _ b.0) in
+    let s : is_running_row (row_of p.rows x) ≡ false = refuse_if-none _ _ d.0 in
+    record { row = r.0; is = r.1; plain = rw r.1 at k; quiet = calm r.0.mark (rw r.1 at s) (live-row p x r.0 r.1 f.0); there = passes-owner p o c.0 }
+  where
+    calm : (m : Mark) → is_running_mark m ≡ false → IsLive m → m ≡ Quiet
+    calm Quiet e l = refl
+    calm Asked e l = cc
+    calm Busy e l = cc
+    calm Doomed e l = cc
+    calm (Dying former) e l = absurd l
 
 -- an object that may get another destructor
 pub record MayBeHooked (p : Pool) (x : Obj) : Type 0 where

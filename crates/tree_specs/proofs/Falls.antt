@@ -1,11 +1,16 @@
 -- A measure that every step of the machine lowers.
-use Rattle.std.proofs.Common.{inl, inr, ◌⊎◌, ◌≡◌, ◌≢◌, ℕ, suc, zero, ◌+◌, ◌*◌, ◌≤◌, ◌<◌, List, [], ◌∷◌, length, Option, Some, None, true, false, nat_eq, if◌then◌else◌, refl, sym, ◌∙◌, ap, subst, arith}
+use Rattle.std.specs.Prelude.{unwrap_or}
+use Rattle.tree_specs.specs.declared.frame.FreeFrame.{FreeFrame}
+use Rattle.tree_specs.proofs.Referring.{newest-refers, newest-of-refers}
+use Rattle.tree_specs.specs.Story.{warns, reparented}
+use Rattle.tree_specs.specs.Targets.{newest_ref}
+use Rattle.std.proofs.Common.{inl, inr, ◌⊎◌, ◌≡◌, ◌≢◌, ℕ, suc, zero, ◌+◌, ◌*◌, ◌≤◌, ◌<◌, List, [], ◌∷◌, length, Option, Some, None, true, false, nat_eq, if◌then◌else◌, refl, sym, ◌∙◌, ap, subst, arith, Bool}
 use Rattle.step_machine.specs.Machine.{Move}
 use Rattle.step_machine.specs.Machine.{Move as Do}
 use Rattle.step_machine.proofs.Ends.{Leads}
 use Rattle.tree_specs.specs.declared.object.Obj.{Obj}
 use Rattle.tree_specs.specs.declared.object.Owner.{Owner}
-use Rattle.tree_specs.specs.declared.object.Owner.TheVariants.{Of}
+use Rattle.tree_specs.specs.declared.object.Owner.TheVariants.{Of, Root}
 use Rattle.tree_specs.specs.declared.row.Row.{Row}
 use Rattle.tree_specs.specs.declared.row.Mark.{Mark}
 use Rattle.tree_specs.specs.declared.row.Mark.TheVariants.{Quiet, Asked, Busy, Doomed, Dying}
@@ -16,30 +21,31 @@ use Rattle.tree_specs.specs.declared.reply.Reply.{Reply}
 use Rattle.tree_specs.specs.declared.reply.Reply.TheVariants as reply
 use Rattle.tree_specs.specs.declared.frame.Frame.{Frame}
 use Rattle.tree_specs.specs.declared.frame.Frame.TheVariants as frame
-use Rattle.tree_specs.specs.declared.frame.CallFrame.TheVariants.{Asking, Doing, Awaiting, Telling, Returning}
-use Rattle.tree_specs.specs.declared.frame.FreeFrame.TheVariants.{Beginning, Hooked, Judged, Leaving, Looping, Trying, Tried, Ending}
+use Rattle.tree_specs.specs.declared.frame.CallFrame.TheVariants.{Asking, Doing, Awaiting, Warning, Telling, Returning}
+use Rattle.tree_specs.specs.declared.frame.FreeFrame.TheVariants.{Unlinking, Releasing, Giving, Beginning, Hooked, Judged, Leaving, Looping, Trying, Tried, Ending}
 use Rattle.tree_specs.specs.declared.frame.Purpose.{Purpose}
 use Rattle.tree_specs.specs.declared.frame.Purpose.TheVariants.{Removal, Emptying}
 use Rattle.tree_specs.specs.declared.frame.Answer.{Answer}
 use Rattle.tree_specs.specs.declared.frame.Answer.TheVariants.{Freed, Returned}
 use Rattle.tree_specs.specs.declared.free_step.FreeReply.{FreeReply}
-use Rattle.tree_specs.specs.declared.free_step.FreeReply.TheVariants.{Ok, Running, Refused}
+use Rattle.tree_specs.specs.declared.free_step.FreeReply.TheVariants.{Ok, Running, Refused, Held}
 use Rattle.tree_specs.specs.Objects.{same, same_owner}
-use Rattle.tree_specs.specs.Pool.{Pool, row_of, is_below, owner_of, first_kid, without, changed, remove, left_row, place, named_row, set_mark, marked_row, hooked_row}
+use Rattle.tree_specs.specs.Pool.{Pool, row_of, is_below, owner_of, first_kid, without, changed, remove, left_row, place, named_row, set_mark, marked_row, hooked_row, target_at, newest_ref_of, is_inside}
 use Rattle.tree_specs.specs.Heirs.{heir}
 use Rattle.tree_specs.specs.Items.{Item}
 use Rattle.tree_specs.specs.Calls.{Check, refusals}
-use Rattle.tree_specs.specs.Table.{table, step, resume, lifted, begin_quiet, begin_step, judge_step, last_step, loop_step, call_step, effect_step, replied}
-use Rattle.tree_specs.specs.Sound.{InRun, InLoop, claims, IsWaiting, AllWait, IsLive, Stands, Tries, IsOver, Sound}
+use Rattle.tree_specs.specs.Table.{table, step, resume, lifted, begin_quiet, begin_step, judge_step, last_step, loop_step, call_step, effect_step, replied, child_step, refs_step, unlink_step, release_step, hand_on_step, freeing_by, placed_step}
+use Rattle.tree_specs.specs.Sound.{InRun, InLoop, claims, IsWaiting, AllWait, IsLive, Stands, Tries, IsOver, Sound, IsQuietRow}
 use Rattle.tree_specs.proofs.Numbered.{by_test, same-equal, same_owner-false}
 use Rattle.tree_specs.proofs.Heirs.{heir-other}
-use Rattle.tree_specs.proofs.Checks.{MayBePlaced, passes-placing, passes-reparent, passes-object, passes-hooking, Heard, Does, Returns, heard-leads}
+use Rattle.tree_specs.specs.Sound.{MayBePlaced}
+use Rattle.tree_specs.proofs.Checks.{passes-placing, passes-reparent, passes-object, passes-hooking, Heard, Does, Returns, heard-leads, MayGo, Itself, ItsRef}
 use Rattle.tree_specs.specs.Inside.{total}
-use Rattle.tree_specs.specs.Measure.{count, mark_weight, weight, unit, waiting_cost, top_cost, cost, pending}
+use Rattle.tree_specs.specs.Measure.{count, mark_weight, weight, unit, waiting_cost, top_cost, cost, pending, tried_cost, loop_kids}
 use Rattle.tree_specs.proofs.Rows.{total-without, total-placed, total-changed, total-length, count-length}
 use Rattle.tree_specs.proofs.Waiters.{Waiter, ForFree, ForRun, ForChild, waiter}
 use Rattle.tree_specs.proofs.Changes.{dying-row, running-row, claim-here, owned-row, heir-placed}
-use Rattle.tree_specs.proofs.Keeps.{sound-kept}
+use Rattle.tree_specs.proofs.Keeps.{sound-kept, ref-placed}
 use Rattle.step_machine.proofs.Ends.{Falls}
 
 -- R bounds the rows that there can be
@@ -61,19 +67,20 @@ done-lower R a f (g ∷ gs) p k w room pays =
     calm : (g : Frame) → Waiter g → Room R (resume g a) p k
     calm _ (ForFree q x) = omega arith
     calm _ (ForRun x h) = omega arith
-    calm _ (ForChild x c purpose) = omega arith
+    calm _ (ForChild x c noted purpose) = omega arith
 
 -- what a work that is over pays for
 over-pays : (R : ℕ) (a : FreeReply) → IsOver a → (rows : List Row) → length rows ≤ R → (g : Frame) (gs : List Frame) → Waiter g → top_cost R (resume g (Freed a)) gs rows < waiting_cost g + (4 * R + 9)
 over-pays R a o rows n _ gs (ForFree q x) = omega arith
 over-pays R a o rows n _ gs (ForRun x h) = omega arith
-over-pays R Ok o rows n _ gs (ForChild x c purpose) = let m = count-length rows (Of x) in omega (arith, m, n)
-over-pays R (Refused v) o rows n _ gs (ForChild x c purpose) = let m = count-length rows (Of x) in omega (arith, m, n)
-over-pays R Running o rows n _ gs (ForChild x c purpose) = absurd o
+over-pays R Ok o rows n _ gs (ForChild x c noted purpose) = let m = count-length rows (Of x) in omega (arith, m, n)
+over-pays R Held o rows n _ gs (ForChild x c noted purpose) = let m = count-length rows (Of x) in omega (arith, m, n)
+over-pays R (Refused v) o rows n _ gs (ForChild x c noted purpose) = let m = count-length rows (Of x) in omega (arith, m, n)
+over-pays R Running o rows n _ gs (ForChild x c noted purpose) = absurd o
 
 ending-lower : (R : ℕ) (a : FreeReply) (fs : List Frame) (p : Pool) (k : ℕ) → Sound (frame.Free (Ending a)) fs p → Room R (frame.Free (Ending a)) p k
     → Lowers R (cost R (frame.Free (Ending a)) fs p k) (step (frame.Free (Ending a)) p) fs k
-ending-lower R a fs p k s room = done-lower R (Freed a) (frame.Free (Ending a)) fs p k s.waiting (omega arith) (λ g gs e w. over-pays R a s.rests p.rows (omega arith) g gs (waiter g gs w))
+ending-lower R a fs p k s room = done-lower R (Freed a) (frame.Free (Ending a)) fs p k s.waiting (omega arith) (λ g gs e w. over-pays R a s.rests.0 p.rows (omega arith) g gs (waiter g gs w))
 
 -- a routine that has returned pays as one that is over
 returning-lower : (R v : ℕ) (fs : List Frame) (p : Pool) (k : ℕ) → Sound (frame.Call (Returning v)) fs p → Room R (frame.Call (Returning v)) p k
@@ -84,7 +91,7 @@ returning-lower R v fs p k s room = done-lower R (Returned v) (frame.Call (Retur
     as-over : (g : Frame) (gs : List Frame) → Waiter g → top_cost R (resume g (Returned v)) gs p.rows ≡ top_cost R (resume g (Freed Ok)) gs p.rows
     as-over _ gs (ForFree q x) = refl
     as-over _ gs (ForRun x h) = refl
-    as-over _ gs (ForChild x c purpose) = refl
+    as-over _ gs (ForChild x c noted purpose) = refl
 
 asking-lower : (R : ℕ) (q : Ask) (fs : List Frame) (p : Pool) (k : ℕ) → Room R (frame.Call (Asking q)) p k
     → Lowers R (cost R (frame.Call (Asking q)) fs p k) (step (frame.Call (Asking q)) p) fs k
@@ -126,6 +133,27 @@ leaving-lower R x h fs p k s room = by-row s.rests.0 s.rests.1 s.rests.2
         let u = ap (λ (z : ℕ). unit R * z) w in
         (omega (arith, n), omega (arith, u, n, c))
 
+-- the children of the loop below are no more than there can be rows
+pub kids-most : (R : ℕ) (rows : List Row) (fs : List Frame) → length rows ≤ R → loop_kids rows fs ≤ 4 * R
+kids-most R rows [] h = omega arith
+kids-most R rows (frame.Free (Trying y c noted purpose) ∷ fs) h = let n = count-length rows (Of y) in omega arith
+kids-most R rows (g ∷ fs) h = omega arith
+
+-- a reference that is gone pays for what comes next
+dropped-lower : (R : ℕ) (f g : FreeFrame) (fs : List Frame) (p : Pool) (k : ℕ) (r t : Obj) → Sound (frame.Free f) fs p → target_at p.rows r ≡ Some t → Room R (frame.Free f) p k
+    → (length (without p.rows r) ≤ R → top_cost R (frame.Free g) fs (without p.rows r) ≤ 4 * R + 10)
+    → Room R (frame.Free g) (remove p r) k × (cost R (frame.Free g) fs (remove p r) k < cost R (frame.Free f) fs p k)
+dropped-lower R f g fs p k r t s is room most = by-row (row_of p.rows r) refl (s.refers.quiet r t is)
+  where
+    by-row : (q : Option Row) → row_of p.rows r ≡ q → IsQuietRow q → Room R (frame.Free g) (remove p r) k × (cost R (frame.Free g) fs (remove p r) k < cost R (frame.Free f) fs p k)
+    by-row None e quiet = absurd quiet
+    by-row (Some row) e quiet =
+        let w : total weight p.rows ≡ total weight (without p.rows r) + 2 = omega (arith, total-without weight p.rows r row e, ap mark_weight quiet) in
+        let u = ap (λ (z : ℕ). unit R * z) w in
+        let n = length-without p.rows r row e in
+        let m = most (omega (arith, n)) in
+        (omega (arith, n), omega (arith, u, m))
+
 looping-lower : (R : ℕ) (x : Obj) (purpose : Purpose) (fs : List Frame) (p : Pool) (k : ℕ) → Sound (frame.Free (Looping x purpose)) fs p → Room R (frame.Free (Looping x purpose)) p k
     → Lowers R (cost R (frame.Free (Looping x purpose)) fs p k) (step (frame.Free (Looping x purpose)) p) fs k
 looping-lower R x purpose fs p k s most = each (first_kid p.rows (Of x)) refl
@@ -143,6 +171,7 @@ looping-lower R x purpose fs p k s most = each (first_kid p.rows (Of x)) refl
     called (frame.Call (Awaiting q y)) gs c = omega arith
     called (frame.Call (Asking q)) gs c = absurd c
     called (frame.Call (Doing q d)) gs c = absurd c
+    called (frame.Call (Warning q y r)) gs c = absurd c
     called (frame.Call (Telling q r)) gs c = absurd c
     called (frame.Call (Returning v)) gs c = absurd c
     called (frame.Free f) gs c = absurd c
@@ -154,52 +183,64 @@ looping-lower R x purpose fs p k s most = each (first_kid p.rows (Of x)) refl
     last Emptying s = done-lower R (Freed Ok) (frame.Free (Looping x Emptying)) fs p k s.waiting (omega arith)
         (λ g gs e w. called g gs (subst (λ (l : List Frame). Stands Emptying l) e s.rests))
 
+    child : (c : Obj) (o : Option Obj) → target_at p.rows c ≡ o → Lowers R (cost R (frame.Free (Looping x purpose)) fs p k) (lifted (child_step x c purpose (target_at p.rows c) p)) fs k
+    child c None e = rw e (omega arith, omega arith)
+    child c (Some t) e = rw e (dropped-lower R (Looping x purpose) (Looping x purpose) fs p k c t s e most (λ h. let n = count-length (without p.rows c) (Of x) in omega (arith, n)))
+
     each : (o : Option Obj) → first_kid p.rows (Of x) ≡ o → Lowers R (cost R (frame.Free (Looping x purpose)) fs p k) (lifted (loop_step x purpose (first_kid p.rows (Of x)) p)) fs k
-    each (Some c) e = rw e (omega arith, omega arith)
+    each (Some c) e = rw e (child c (target_at p.rows c) refl)
     each None e = rw e (last purpose s)
 
 pub length-placed : (p : Pool) (o : Owner) (x : Obj) (r : Row) → row_of p.rows x ≡ Some r → length (place p o x).rows ≡ length p.rows
 length-placed p o x r e = omega (arith, total-placed (λ q. 1) p o x r e refl, total-length p.rows, total-length (place p o x).rows)
 
--- a child that goes to its heir is one child fewer
-handed-count : (x c : Obj) (f : Frame) (fs : List Frame) (p : Pool) → Sound f fs p → is_below (owner_of p.rows c) (Of x) ≡ true
-    → count p.rows (Of x) ≡ count (place p (heir p.rows x c) c).rows (Of x) + 1
-handed-count x c f fs p s below =
-    let may = heir-placed x c f fs p s below in
+-- a child that goes to its heir is one child fewer, where that is another object, and none more
+handed-count : (x c : Obj) (noted : Option Owner) (f : Frame) (fs : List Frame) (p : Pool) → Sound f fs p → is_below (owner_of p.rows c) (Of x) ≡ true → noted ≢ Some (Of x)
+    → count p.rows (Of x) ≡ count (place p (heir p.rows x c noted) c).rows (Of x) + 1
+handed-count x c noted f fs p s below not_noted =
+    let may = heir-placed x c noted f fs p s below in
     let r : Row = may.row in
     let was : is_below r.owner (Of x) ≡ true = rw may.is at below in
     let w = total-without (λ q. if is_below q.owner (Of x) then 1 else 0) p.rows c r may.is in
-    let other : same_owner (heir p.rows x c) (Of x) ≡ false = same_owner-false _ _ (heir-other p.rows p.next x c (s.valid x)) in
+    let other : same_owner (heir p.rows x c noted) (Of x) ≡ false = same_owner-false _ _ (heir-other p.rows p.next x c noted (s.valid x) not_noted) in
     rw (may.is, other) (let w' = rw was at w in omega (arith, w'))
 
-tried-lower : (R : ℕ) (x c : Obj) (purpose : Purpose) (a : FreeReply) (fs : List Frame) (p : Pool) (k : ℕ) → Sound (frame.Free (Tried x c purpose a)) fs p → Room R (frame.Free (Tried x c purpose a)) p k
-    → Lowers R (cost R (frame.Free (Tried x c purpose a)) fs p k) (step (frame.Free (Tried x c purpose a)) p) fs k
-tried-lower R x c purpose a fs p k s room = each a s
-  where
-    moved : (b : FreeReply) → Sound (frame.Free (Tried x c purpose b)) fs p → is_below (owner_of p.rows c) (Of x) ≡ true
-        → Room R (frame.Free (Looping x purpose)) (place p (heir p.rows x c) c) k × (cost R (frame.Free (Looping x purpose)) fs (place p (heir p.rows x c) c) k < cost R (frame.Free (Tried x c purpose b)) fs p k)
-    moved b s below =
-        let may = heir-placed x c _ fs p s below in
-        let n = length-placed p (heir p.rows x c) c may.row may.is in
-        let u = ap (λ (z : ℕ). unit R * z) (total-placed weight p (heir p.rows x c) c may.row may.is refl) in
-        let m = handed-count x c _ fs p s below in
-        (omega (arith, n), cheaper b u m)
-      where
-        cheaper : (b : FreeReply) → unit R * total weight (place p (heir p.rows x c) c).rows ≡ unit R * total weight p.rows
-            → count p.rows (Of x) ≡ count (place p (heir p.rows x c) c).rows (Of x) + 1
-            → cost R (frame.Free (Looping x purpose)) fs (place p (heir p.rows x c) c) k < cost R (frame.Free (Tried x c purpose b)) fs p k
-        cheaper Ok u m = omega (arith, u, m)
-        cheaper Running u m = omega (arith, u, m)
-        cheaper (Refused v) u m = omega (arith, u, m)
+handed-most : (x c : Obj) (noted : Option Owner) (f : Frame) (fs : List Frame) (p : Pool) → Sound f fs p → is_below (owner_of p.rows c) (Of x) ≡ true
+    → count (place p (heir p.rows x c noted) c).rows (Of x) ≤ count p.rows (Of x)
+handed-most x c noted f fs p s below =
+    let may = heir-placed x c noted f fs p s below in
+    let r : Row = may.row in
+    let was : is_below r.owner (Of x) ≡ true = rw may.is at below in
+    let w = total-without (λ q. if is_below q.owner (Of x) then 1 else 0) p.rows c r may.is in
+    rw may.is (by_test (same_owner (heir p.rows x c noted) (Of x))
+    (λ t. rw t (let w' = rw was at w in omega (arith, w')))
+    (λ t. rw t (let w' = rw was at w in omega (arith, w'))))
 
-    each : (b : FreeReply) → Sound (frame.Free (Tried x c purpose b)) fs p → Lowers R (cost R (frame.Free (Tried x c purpose b)) fs p k) (step (frame.Free (Tried x c purpose b)) p) fs k
+tried-lower : (R : ℕ) (x c : Obj) (noted : Option Owner) (purpose : Purpose) (a : FreeReply) (fs : List Frame) (p : Pool) (k : ℕ) → Sound (frame.Free (Tried x c noted purpose a)) fs p
+    → Room R (frame.Free (Tried x c noted purpose a)) p k → Lowers R (cost R (frame.Free (Tried x c noted purpose a)) fs p k) (step (frame.Free (Tried x c noted purpose a)) p) fs k
+tried-lower R x c noted purpose a fs p k s room = each a s
+  where
+    moved : (b : FreeReply) → Sound (frame.Free (Tried x c noted purpose b)) fs p → is_below (owner_of p.rows c) (Of x) ≡ true
+        → (4 * count (place p (heir p.rows x c noted) c).rows (Of x) + 7 < 4 * count p.rows (Of x) + tried_cost b)
+        → Room R (frame.Free (Looping x purpose)) (place p (heir p.rows x c noted) c) k × (cost R (frame.Free (Looping x purpose)) fs (place p (heir p.rows x c noted) c) k < cost R (frame.Free (Tried x c noted purpose b)) fs p k)
+    moved b s below cheaper =
+        let may = heir-placed x c noted _ fs p s below in
+        let n = length-placed p (heir p.rows x c noted) c may.row may.is in
+        let u = ap (λ (z : ℕ). unit R * z) (total-placed weight p (heir p.rows x c noted) c may.row may.is refl) in
+        (omega (arith, n), omega (arith, u, cheaper))
+
+    handed : (b : FreeReply) → tried_cost b ≡ 8 → Sound (frame.Free (Tried x c noted purpose b)) fs p → Lowers R (cost R (frame.Free (Tried x c noted purpose b)) fs p k) (lifted (hand_on_step x c noted purpose p)) fs k
+    handed b e s = by_test (is_below (owner_of p.rows c) (Of x))
+        (λ t. rw t (moved b s t (let m = handed-most x c noted _ fs p s t in omega (arith, m, e))))
+        (λ t. rw t (omega arith, omega (arith, e)))
+
+    each : (b : FreeReply) → Sound (frame.Free (Tried x c noted purpose b)) fs p → Lowers R (cost R (frame.Free (Tried x c noted purpose b)) fs p k) (step (frame.Free (Tried x c noted purpose b)) p) fs k
     each Ok s = (omega arith, omega arith)
+    each Held s = handed Held refl s
     each Running s = by_test (is_below (owner_of p.rows c) (Of x))
-        (λ t. rw t (moved Running s t))
-        (λ t. let there : same_owner (Of x) (Of x) ≡ false = rw s.rests.0 at t in let self = same-equal x x refl in let bad : true ≡ false = sym self ∙ there in cc)
-    each (Refused v) s = by_test (is_below (owner_of p.rows c) (Of x))
-        (λ t. rw t (moved (Refused v) s t))
-        (λ t. rw t (omega arith, omega arith))
+        (λ t. rw t (moved Running s t (let m = handed-count x c noted _ fs p s t s.rests.0.1 in omega (arith, m))))
+        (λ t. let there : same_owner (Of x) (Of x) ≡ false = rw s.rests.0.0 at t in let self = same-equal x x refl in let bad : true ≡ false = sym self ∙ there in cc)
+    each (Refused v) s = handed (Refused v) refl s
 
 -- a freeing that ends at once is no loop's child, or is said to run
 at_once-lower : (R : ℕ) (a : FreeReply) (x : Obj) (fs : List Frame) (p p' : Pool) (k : ℕ) → (a ≡ Running) ⊎ ((o : Owner) → owner_of p.rows x ≢ Some o) → Tries x fs p → AllWait fs
@@ -211,23 +252,24 @@ at_once-lower R a x (g ∷ gs) p p' k h t w e n m room = below g (waiter g gs w.
     u : unit R * total weight p'.rows ≡ unit R * total weight p.rows
     u = ap (λ (z : ℕ). unit R * z) e
 
-    runs : (y c : Obj) (purpose : Purpose) (a : FreeReply) → a ≡ Running
-        → Room R (frame.Free (Tried y c purpose a)) p' k × (cost R (frame.Free (Tried y c purpose a)) gs p' k < cost R (frame.Free (Beginning x)) (frame.Free (Trying y c purpose) ∷ gs) p k)
-    runs y c purpose Running is = (omega (arith, n), omega (arith, u, m y))
-    runs y c purpose Ok is = cc
-    runs y c purpose (Refused v) is = cc
+    runs : (y c : Obj) (noted : Option Owner) (purpose : Purpose) (a : FreeReply) → a ≡ Running
+        → Room R (frame.Free (Tried y c noted purpose a)) p' k × (cost R (frame.Free (Tried y c noted purpose a)) gs p' k < cost R (frame.Free (Beginning x)) (frame.Free (Trying y c noted purpose) ∷ gs) p k)
+    runs y c noted purpose Running is = (omega (arith, n), omega (arith, u, m y))
+    runs y c noted purpose Ok is = cc
+    runs y c noted purpose Held is = cc
+    runs y c noted purpose (Refused v) is = cc
 
     below : (g : Frame) → Waiter g → Tries x (g ∷ gs) p → Lowers R (cost R (frame.Free (Beginning x)) (g ∷ gs) p k) (Do.Done (Freed a) p') (g ∷ gs) k
     below _ (ForFree q y) t = (omega (arith, n), omega (arith, u))
     below _ (ForRun y f) t = cc
-    below _ (ForChild y c purpose) t = elim h [
-      | inl is ↦ runs y c purpose a is
+    below _ (ForChild y c noted purpose) t = elim h [
+      | inl is ↦ runs y c noted purpose a is
       | inr none ↦ absurd (none (Of y) t.1)
     ]
 
 beginning-lower : (R : ℕ) (x : Obj) (fs : List Frame) (p : Pool) (k : ℕ) → Sound (frame.Free (Beginning x)) fs p → Room R (frame.Free (Beginning x)) p k
     → Lowers R (cost R (frame.Free (Beginning x)) fs p k) (step (frame.Free (Beginning x)) p) fs k
-beginning-lower R x fs p k s room = each (row_of p.rows x) refl
+beginning-lower R x fs p k s room = newest (newest_ref p.rows x) refl
   where
     dead : (r : Row) (former : Owner) → r.mark ≡ Dying former → row_of p.rows x ≡ Some r → (o : Owner) → owner_of p.rows x ≢ Some o
     dead r former m e o q =
@@ -238,13 +280,13 @@ beginning-lower R x fs p k s room = each (row_of p.rows x) refl
         let bad : IsLive (Dying former) = rw m at l in bad
 
     over : ((o : Owner) → owner_of p.rows x ≢ Some o) → Lowers R (cost R (frame.Free (Beginning x)) fs p k) (Do.Done (Freed Ok) p) fs k
-    over none = at_once-lower R Ok x fs p p k (inr none) s.rests s.waiting refl refl (λ y. refl) room
+    over none = at_once-lower R Ok x fs p p k (inr none) s.rests.0 s.waiting refl refl (λ y. refl) room
 
     runs : Lowers R (cost R (frame.Free (Beginning x)) fs p k) (Do.Done (Freed Running) p) fs k
-    runs = at_once-lower R Running x fs p p k (inl refl) s.rests s.waiting refl refl (λ y. refl) room
+    runs = at_once-lower R Running x fs p p k (inl refl) s.rests.0 s.waiting refl refl (λ y. refl) room
 
     dooms : (r : Row) → row_of p.rows x ≡ Some r → r.mark ≡ Busy → Lowers R (cost R (frame.Free (Beginning x)) fs p k) (Do.Done (Freed Running) (set_mark p x Doomed)) fs k
-    dooms r e m = at_once-lower R Running x fs p (set_mark p x Doomed) k (inl refl) s.rests s.waiting
+    dooms r e m = at_once-lower R Running x fs p (set_mark p x Doomed) k (inl refl) s.rests.0 s.waiting
         (total-kept weight (marked_row Doomed) p.rows x r e (sym (ap mark_weight m))) (length-changed (marked_row Doomed) p.rows x)
         (λ y. total-kept (λ q. if is_below q.owner (Of y) then 1 else 0) (marked_row Doomed) p.rows x r e refl) room
 
@@ -266,6 +308,46 @@ beginning-lower R x fs p k s room = each (row_of p.rows x) refl
     each None e = rw e (over (λ o q. let bad : None ≡ Some o = rw e at q in cc))
     each (Some r) e = marks r r.mark refl e
 
+    newest : (o : Option Obj) → newest_ref p.rows x ≡ o → Lowers R (cost R (frame.Free (Beginning x)) fs p k) (lifted (refs_step x (newest_ref p.rows x) p)) fs k
+    newest None e = rw e (each (row_of p.rows x) refl)
+    newest (Some r) e =
+        let w = newest-refers p.rows x r s.forest.distinct e in
+        let is : target_at p.rows r ≡ Some x = rw w.1 w.2 in
+        rw e (by_test (is_inside p.rows (Of r) (Of x))
+        (λ t. rw t (dropped-lower R (Beginning x) (Beginning x) fs p k r x s is room (λ h. let m = kids-most R (without p.rows r) fs h in omega (arith, m))))
+        (λ t. rw t (dropped-lower R (Beginning x) (Ending Held) fs p k r x s is room (λ h. omega arith))))
+
+-- an owner gives an object up
+unlinking-lower : (R : ℕ) (o : Owner) (x : Obj) (fs : List Frame) (p : Pool) (k : ℕ) → Sound (frame.Free (Unlinking o x)) fs p → Room R (frame.Free (Unlinking o x)) p k
+    → Lowers R (cost R (frame.Free (Unlinking o x)) fs p k) (step (frame.Free (Unlinking o x)) p) fs k
+unlinking-lower R o x fs p k s room = each (newest_ref_of p.rows o x) refl
+  where
+    each : (n : Option Obj) → newest_ref_of p.rows o x ≡ n → Lowers R (cost R (frame.Free (Unlinking o x)) fs p k) (lifted (unlink_step x (newest_ref_of p.rows o x) p)) fs k
+    each None e = rw e (omega arith, omega arith)
+    each (Some r) e =
+        let w = newest-of-refers p.rows o x r s.forest.distinct e in
+        rw e (dropped-lower R (Unlinking o x) (Ending Ok) fs p k r x s (rw w.1 w.2) room (λ h. omega arith))
+
+releasing-lower : (R : ℕ) (x : Obj) (fs : List Frame) (p : Pool) (k : ℕ) → Sound (frame.Free (Releasing x)) fs p → Room R (frame.Free (Releasing x)) p k
+    → Lowers R (cost R (frame.Free (Releasing x)) fs p k) (step (frame.Free (Releasing x)) p) fs k
+releasing-lower R x fs p k s room = each (newest_ref p.rows x) refl
+  where
+    each : (n : Option Obj) → newest_ref p.rows x ≡ n → Lowers R (cost R (frame.Free (Releasing x)) fs p k) (lifted (release_step x (newest_ref p.rows x) p)) fs k
+    each None e = rw e (omega arith, omega arith)
+    each (Some r) e =
+        let w = newest-refers p.rows x r s.forest.distinct e in
+        let is : target_at p.rows r ≡ Some x = rw w.1 w.2 in
+        rw e (by_test (is_inside p.rows (Of r) (Of x))
+        (λ t. rw t (dropped-lower R (Releasing x) (Releasing x) fs p k r x s is room (λ h. let m = kids-most R (without p.rows r) fs h in omega (arith, m))))
+        (λ t. rw t (dropped-lower R (Releasing x) (Giving x (unwrap_or (owner_of p.rows r) Root)) fs p k r x s is room (λ h. omega arith))))
+
+giving-lower : (R : ℕ) (x : Obj) (o : Owner) (fs : List Frame) (p : Pool) (k : ℕ) → Sound (frame.Free (Giving x o)) fs p → Room R (frame.Free (Giving x o)) p k
+    → Lowers R (cost R (frame.Free (Giving x o)) fs p k) (step (frame.Free (Giving x o)) p) fs k
+giving-lower R x o fs p k s room =
+    let n = length-placed p o x s.rests.row s.rests.is in
+    let u = ap (λ (z : ℕ). unit R * z) (total-placed weight p o x s.rests.row s.rests.is refl) in
+    (omega (arith, n), omega (arith, u))
+
 judged-lower : (R : ℕ) (x : Obj) (h v : ℕ) (fs : List Frame) (p : Pool) (k : ℕ) → Sound (frame.Free (Judged x h v)) fs p → Room R (frame.Free (Judged x h v)) p k
     → Lowers R (cost R (frame.Free (Judged x h v)) fs p k) (step (frame.Free (Judged x h v)) p) fs k
 judged-lower R x h v fs p k s room =
@@ -284,9 +366,9 @@ replied-lower : (R : ℕ) (q : Ask) (c : Call) (r : Reply) (fs : List Frame) (p 
     → Lowers R (cost R (frame.Call (Doing q c)) fs p k) (replied q r p') fs k
 replied-lower R q c r fs p p' k room e n = let u = ap (λ (z : ℕ). unit R * z) e in (omega (arith, n), omega (arith, u))
 
-effect-lower : (R : ℕ) (q : Ask) (c : Call) (fs : List Frame) (p : Pool) (k : ℕ) → Room R (frame.Call (Doing q c)) p k → refusals p c ≡ []
+effect-lower : (R : ℕ) (q : Ask) (c : Call) (fs : List Frame) (p : Pool) (k : ℕ) → Sound (frame.Call (Doing q c)) fs p → Room R (frame.Call (Doing q c)) p k → refusals p c ≡ []
     → Lowers R (cost R (frame.Call (Doing q c)) fs p k) (effect_step q c p) fs k
-effect-lower R q c fs p k room = each c
+effect-lower R q c fs p k s room = each c
   where
     put : (r : Reply) (o : Owner) (x : Obj) → MayBePlaced p o x → Lowers R (cost R (frame.Call (Doing q c)) fs p k) (replied q r (place p o x)) fs k
     put r o x may = replied-lower R q c r fs p (place p o x) k room (total-placed weight p o x may.row may.is refl) (length-placed p o x may.row may.is)
@@ -295,13 +377,32 @@ effect-lower R q c fs p k room = each c
         → Lowers R (cost R (frame.Call (Doing q c)) fs p k) (replied q reply.Ok (record p { rows = changed g p.rows x })) fs k
     mended g x r e w = replied-lower R q c reply.Ok fs p (record p { rows = changed g p.rows x }) k room (total-kept weight g p.rows x r e w) (length-changed g p.rows x)
 
+    placed : (r : Reply) (o : Owner) (x : Obj) → MayBePlaced p o x → (b : Bool) → Lowers R (cost R (frame.Call (Doing q c)) fs p k) (placed_step b q x r (place p o x)) fs k
+    placed r o x may true =
+        let n = length-placed p o x may.row may.is in
+        let u = ap (λ (z : ℕ). unit R * z) (total-placed weight p o x may.row may.is refl) in
+        (omega (arith, n), omega (arith, u))
+    placed r o x may false = put r o x may
+
+    reparents : (from to : Owner) (x : Obj) → MayGo p from to x → Lowers R (cost R (frame.Call (Doing q c)) fs p k) (replied q reply.Ok (reparented p from to x)) fs k
+    reparents from to x (Itself t may) = rw t (put reply.Ok to x may)
+    reparents from to x (ItsRef r t n there) =
+        let w = newest-of-refers p.rows from x r s.forest.distinct n in
+        rw (t, n) (put reply.Ok to r (ref-placed (frame.Call (Doing q c)) fs p to x r s (rw w.1 w.2) there))
+
+    freed : (x : Obj) (n : Option Obj) → Lowers R (cost R (frame.Call (Doing q c)) fs p k) (Do.Call (frame.Free (freeing_by n x)) (frame.Call (Awaiting q x)) p) fs k
+    freed x None = (omega arith, omega arith)
+    freed x (Some r) = (omega arith, omega arith)
+
     each : (d : Call) → refusals p d ≡ [] → Lowers R (cost R (frame.Call (Doing q c)) fs p k) (effect_step q d p) fs k
     each (call.New o size name) none = (omega arith, omega arith)
-    each (call.Free x) none = (omega arith, omega arith)
+    each (call.Free x) none = freed x (newest_ref p.rows x)
     each (call.Freekids x) none = let m = count-length p.rows (Of x) in (omega arith, omega arith)
-    each (call.Steal o x) none = put reply.Ok o x (passes-placing p o x none)
-    each (call.Move o x) none = put (reply.Number x.0) o x (passes-placing p o x none)
-    each (call.Reparent from to x) none = put reply.Ok to x (passes-reparent p from to x none)
+    each (call.Steal o x) none = placed reply.Ok o x (passes-placing p o x none) (warns p o x)
+    each (call.Move o x) none = placed (reply.Number x.0) o x (passes-placing p o x none) (warns p o x)
+    each (call.Reparent from to x) none = reparents from to x (passes-reparent p from to x none)
+    each (call.Reference o x) none = (omega arith, omega arith)
+    each (call.Unlink o x) none = (omega arith, omega arith)
     each (call.Hook x h) none = let may = passes-hooking p x none in mended (hooked_row h) x may.row may.is refl
     each (call.Unhook x) none = let may = passes-hooking p x none in mended (hooked_row 0) x may.row may.is refl
     each (call.Rename x name) none = let r = passes-object p x none in mended (named_row name) x r.0 r.1 refl
@@ -310,28 +411,32 @@ effect-lower R q c fs p k room = each c
     each (call.Count o) none = (omega arith, omega arith)
     each (call.Report o) none = (omega arith, omega arith)
 
-doing-lower : (R : ℕ) (q : Ask) (c : Call) (fs : List Frame) (p : Pool) (k : ℕ) → Room R (frame.Call (Doing q c)) p k
+doing-lower : (R : ℕ) (q : Ask) (c : Call) (fs : List Frame) (p : Pool) (k : ℕ) → Sound (frame.Call (Doing q c)) fs p → Room R (frame.Call (Doing q c)) p k
     → Lowers R (cost R (frame.Call (Doing q c)) fs p k) (call_step (refusals p c) q c p) fs k
-doing-lower R q c fs p k room = each (refusals p c) refl
+doing-lower R q c fs p k s room = each (refusals p c) refl
   where
     each : (check : Check) → refusals p c ≡ check → Lowers R (cost R (frame.Call (Doing q c)) fs p k) (call_step check q c p) fs k
-    each [] e = effect-lower R q c fs p k room e
+    each [] e = effect-lower R q c fs p k s room e
     each (why ∷ later) e = (omega arith, omega arith)
 
 -- every step lowers the measure
 pub lower : (R : ℕ) (f : Frame) (fs : List Frame) (p : Pool) (k : ℕ) → Sound f fs p → Room R f p k → Lowers R (cost R f fs p k) (step f p) fs k
 lower R (frame.Call (Asking q)) fs p k s room = asking-lower R q fs p k room
-lower R (frame.Call (Doing q c)) fs p k s room = doing-lower R q c fs p k room
+lower R (frame.Call (Doing q c)) fs p k s room = doing-lower R q c fs p k s room
 lower R (frame.Call (Awaiting q x)) fs p k s room = absurd s.rests
+lower R (frame.Call (Warning q x r)) fs p k s room = (omega arith, omega arith)
 lower R (frame.Call (Telling q r)) fs p k s room = (omega arith, omega arith)
 lower R (frame.Call (Returning v)) fs p k s room = returning-lower R v fs p k s room
+lower R (frame.Free (Unlinking o x)) fs p k s room = unlinking-lower R o x fs p k s room
+lower R (frame.Free (Releasing x)) fs p k s room = releasing-lower R x fs p k s room
+lower R (frame.Free (Giving x o)) fs p k s room = giving-lower R x o fs p k s room
 lower R (frame.Free (Beginning x)) fs p k s room = beginning-lower R x fs p k s room
 lower R (frame.Free (Hooked x h)) fs p k s room = (omega arith, omega arith)
 lower R (frame.Free (Judged x h v)) fs p k s room = judged-lower R x h v fs p k s room
 lower R (frame.Free (Leaving x h)) fs p k s room = leaving-lower R x h fs p k s room
 lower R (frame.Free (Looping x purpose)) fs p k s room = looping-lower R x purpose fs p k s room
-lower R (frame.Free (Trying x c purpose)) fs p k s room = absurd s.rests
-lower R (frame.Free (Tried x c purpose a)) fs p k s room = tried-lower R x c purpose a fs p k s room
+lower R (frame.Free (Trying x c noted purpose)) fs p k s room = absurd s.rests
+lower R (frame.Free (Tried x c noted purpose a)) fs p k s room = tried-lower R x c noted purpose a fs p k s room
 lower R (frame.Free (Ending answer)) fs p k s room = ending-lower R answer fs p k s room
 
 -- what the measure speaks of

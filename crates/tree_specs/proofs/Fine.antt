@@ -1,4 +1,5 @@
 -- An item is fine where it fits those before it and has its cause; what a work that ends answers keeps that so.
+use Rattle.tree_specs.specs.Calls.{is_held, is_running}
 use Rattle.std.proofs.Common.{◌≡◌, List, [], ◌∷◌, ◌++◌, Option, Some, None, true, false, refl, sym, ◌∙◌, subst, map}
 use Rattle.std.proofs.lemmas.List.{map_push}
 use Rattle.step_machine.specs.Machine.{Move}
@@ -15,8 +16,8 @@ use Rattle.tree_specs.specs.declared.reply.Reply.{Reply}
 use Rattle.tree_specs.specs.declared.event.Event.TheVariants.{Replied, Refused}
 use Rattle.tree_specs.specs.declared.frame.Frame.{Frame}
 use Rattle.tree_specs.specs.declared.frame.Frame.TheVariants as frame
-use Rattle.tree_specs.specs.declared.frame.CallFrame.TheVariants.{Asking, Doing, Awaiting, Telling, Returning}
-use Rattle.tree_specs.specs.declared.frame.FreeFrame.TheVariants.{Beginning, Hooked, Judged, Leaving, Looping, Trying, Tried, Ending}
+use Rattle.tree_specs.specs.declared.frame.CallFrame.TheVariants.{Asking, Doing, Awaiting, Warning, Telling, Returning}
+use Rattle.tree_specs.specs.declared.frame.FreeFrame.TheVariants.{Unlinking, Releasing, Giving, Beginning, Hooked, Judged, Leaving, Looping, Trying, Tried, Ending}
 use Rattle.tree_specs.specs.declared.frame.Answer.{Answer}
 use Rattle.tree_specs.specs.declared.free_step.FreeReply.{FreeReply}
 use Rattle.tree_specs.specs.declared.free_step.FreeReply.TheVariants as free_reply
@@ -28,14 +29,13 @@ use Rattle.tree_specs.specs.Works.{Begun, Scene}
 use Rattle.tree_specs.specs.Story.{freed_reply, later}
 use Rattle.tree_specs.specs.Table.{notes, resume, reply_in}
 use Rattle.tree_specs.specs.Orderly.{Fits, RefusedJustNow}
-use Rattle.tree_specs.specs.Grounded.{IsGrounded, AnsweredCall, HeldCall, CausedCall, is_held, is_running, IsItem, AsksHook}
+use Rattle.tree_specs.specs.Grounded.{IsGrounded, AnsweredCall, HeldCall, CausedCall, IsItem, AsksHook}
 use Rattle.tree_specs.specs.Sound.{AllWait}
-use Rattle.tree_specs.proofs.References.{not-held}
 use Rattle.tree_specs.proofs.Numbered.{same-equal}
 use Rattle.tree_specs.proofs.Means.{noted_table}
 use Rattle.tree_specs.proofs.Later.{later-same}
 use Rattle.tree_specs.proofs.Past.{IsLeaving, Accounts, Past, past-goes}
-use Rattle.tree_specs.proofs.Causes.{NotedWork, item_of, told, IsFreeOf, IsHookOf, IsRunOf, FreesBy, Knows, StandsOn, Stacked, OfNext, IsCaused, Cause}
+use Rattle.tree_specs.proofs.Causes.{NotedWork, item_of, told, IsFreeOf, IsHookOf, IsRunOf, FreesBy, Knows, StandsOn, Stacked, OfNext, IsCaused, Cause, NotHeld}
 use Rattle.tree_specs.proofs.Waiters.{Waiter, ForFree, ForRun, ForChild, waiter}
 
 abbrev pub work_of : NotedWork → Frame
@@ -68,17 +68,21 @@ restacked f f' (w ∷ ws) free run s = (stands w.work s.0, s.1)
   where
     stands : (g : Frame) → StandsOn f g w.note → StandsOn f' g w.note
     stands (frame.Call (Awaiting q x)) h = (free x h.0, h.1)
-    stands (frame.Free (Trying x c purpose)) h = free c h
+    stands (frame.Free (Trying x c noted purpose)) h = free c h
     stands (frame.Free (Hooked x h)) k = run x k
     stands (frame.Call (Asking q)) h = tt
     stands (frame.Call (Doing q c)) h = tt
+    stands (frame.Call (Warning q x r)) h = tt
     stands (frame.Call (Telling q r)) h = tt
     stands (frame.Call (Returning v)) h = tt
+    stands (frame.Free (Unlinking o x)) h = tt
+    stands (frame.Free (Releasing x)) h = tt
+    stands (frame.Free (Giving x o)) h = tt
     stands (frame.Free (Beginning x)) h = tt
     stands (frame.Free (Judged x h v)) k = tt
     stands (frame.Free (Leaving x h)) k = tt
     stands (frame.Free (Looping x purpose)) h = tt
-    stands (frame.Free (Tried x c purpose a)) h = tt
+    stands (frame.Free (Tried x c noted purpose a)) h = tt
     stands (frame.Free (Ending a)) h = tt
 
 -- what holds of each work that may stand right below
@@ -112,45 +116,48 @@ last-told (s ∷ t ∷ scenes) i h = last-told (t ∷ scenes) i h
 -- why a free answers so to the call that waits for it
 abbrev pub ReplyCause : List Scene → Option Begun → Obj → FreeReply → Type 0
 ReplyCause scenes b x free_reply.Ok = Unit {0}
+ReplyCause scenes b x free_reply.Held = ⊥
 ReplyCause scenes None x free_reply.Running = Unit {0}
 ReplyCause scenes (Some b) x free_reply.Running = is_running b.start x ≡ true
 ReplyCause scenes b x (free_reply.Refused v) = LastIs (IsItem (Told (Refused x v))) scenes
 
 pub caused-reply : (scenes : List Scene) (x : Obj) (b : Option Begun) (a : FreeReply) → Knows x b → ReplyCause scenes b x a → IsCaused scenes b (freed_reply x a)
 caused-reply scenes x None a k h = absurd k
-caused-reply scenes x (Some b) a k h = let e = each b.call k.0 in (just-now a h, e.0, e.1, e.2)
+caused-reply scenes x (Some b) a k h = let e = each b.call k.0 k.1 in (just-now a h, e.0, e.1, e.2)
   where
     just-now : (a : FreeReply) → ReplyCause scenes (Some b) x a → RefusedJustNow (told scenes) (Told (Replied (freed_reply x a)))
     just-now free_reply.Ok h = tt
+    just-now free_reply.Held h = absurd h
     just-now free_reply.Running h = tt
     just-now (free_reply.Refused v) h = last-told scenes (Told (Refused x v)) h
 
     self : same x x ≡ true
     self = same-equal x x refl
 
-    held : is_held b.start x ≡ false
-    held = not-held b.start x k.1
-
-    for-free : (a : FreeReply) → ReplyCause scenes (Some b) x a
+    for-free : is_held b.start x ≡ false → (a : FreeReply) → ReplyCause scenes (Some b) x a
         → AnsweredCall (call.Free x) b.start (freed_reply x a) × HeldCall (call.Free x) b.start (freed_reply x a) × CausedCall scenes (call.Free x) b.start (freed_reply x a)
-    for-free free_reply.Ok h = (λ e. refl, (λ e. cc, λ e. let bad : true ≡ false = sym e ∙ held in cc), tt)
-    for-free free_reply.Running h = (λ e. self, (λ e. cc, λ e. let bad : true ≡ false = sym e ∙ held in cc), h)
-    for-free (free_reply.Refused v) h = (λ e. self, (λ e. cc, λ e. let bad : true ≡ false = sym e ∙ held in cc), h)
+    for-free held free_reply.Ok h = (λ e. refl, (λ e. cc, λ e. let bad : true ≡ false = sym e ∙ held in cc), tt)
+    for-free held free_reply.Held h = absurd h
+    for-free held free_reply.Running h = (λ e. self, (λ e. cc, λ e. let bad : true ≡ false = sym e ∙ held in cc), h)
+    for-free held (free_reply.Refused v) h = (λ e. self, (λ e. cc, λ e. let bad : true ≡ false = sym e ∙ held in cc), h)
 
-    each : (c : Call) → FreesBy x c → AnsweredCall c b.start (freed_reply x a) × HeldCall c b.start (freed_reply x a) × CausedCall scenes c b.start (freed_reply x a)
-    each (call.Free y) e = subst (λ (z : Obj). AnsweredCall (call.Free z) b.start (freed_reply x a) × HeldCall (call.Free z) b.start (freed_reply x a) × CausedCall scenes (call.Free z) b.start (freed_reply x a)) (sym e) (for-free a h)
-    each (call.Freekids y) e = (tt, tt, tt)
-    each (call.New o size name) e = absurd e
-    each (call.Steal o y) e = absurd e
-    each (call.Move o y) e = absurd e
-    each (call.Reparent from to y) e = absurd e
-    each (call.Hook y routine) e = absurd e
-    each (call.Unhook y) e = absurd e
-    each (call.Rename y name) e = absurd e
-    each (call.Parent y) e = absurd e
-    each (call.Total o) e = absurd e
-    each (call.Count o) e = absurd e
-    each (call.Report o) e = absurd e
+    each : (c : Call) → FreesBy x c → NotHeld c b.start → AnsweredCall c b.start (freed_reply x a) × HeldCall c b.start (freed_reply x a) × CausedCall scenes c b.start (freed_reply x a)
+    each (call.Free y) e n = subst (λ (z : Obj). AnsweredCall (call.Free z) b.start (freed_reply x a) × HeldCall (call.Free z) b.start (freed_reply x a) × CausedCall scenes (call.Free z) b.start (freed_reply x a)) (sym e)
+        (for-free (subst (λ (z : Obj). is_held b.start z ≡ false) e n) a h)
+    each (call.Freekids y) e n = (tt, tt, tt)
+    each (call.Unlink o y) e n = (tt, tt, tt)
+    each (call.New o size name) e n = absurd e
+    each (call.Steal o y) e n = absurd e
+    each (call.Move o y) e n = absurd e
+    each (call.Reparent from to y) e n = absurd e
+    each (call.Reference o y) e n = absurd e
+    each (call.Hook y routine) e n = absurd e
+    each (call.Unhook y) e n = absurd e
+    each (call.Rename y name) e n = absurd e
+    each (call.Parent y) e n = absurd e
+    each (call.Total o) e n = absurd e
+    each (call.Count o) e n = absurd e
+    each (call.Report o) e n = absurd e
 
 -- ---- a work that ends
 
@@ -181,9 +188,9 @@ resumed scenes f b (w ∷ ws) p a past stays stacked wait h = below w.work (wait
       stacked = restacked (frame.Free (Hooked x k)) _ ws (λ y l. l) (λ y l. l) under;
       cause = h;
     }
-    below _ (ForChild x c purpose) past on under h = record {
+    below _ (ForChild x c noted purpose) past on under h = record {
       past = goes _ _ past past.all_account.0;
-      stacked = restacked (frame.Free (Trying x c purpose)) _ ws (λ y k. k) (λ y k. k) under;
+      stacked = restacked (frame.Free (Trying x c noted purpose)) _ ws (λ y k. k) (λ y k. k) under;
       cause = tt;
     }
 

@@ -1,5 +1,13 @@
 -- The steps of callers: a question, a call, a reply, a return.
-use Rattle.std.proofs.Common.{◌≡◌, ℕ, List, [], ◌∷◌, ◌++◌, Option, Some, None, true, refl, sym, subst, map}
+use Rattle.tree_specs.specs.declared.kind.Kind.TheVariants as kind
+use Rattle.tree_specs.specs.declared.row.Row.{Row}
+use Rattle.std.specs.Prelude.{codes}
+use Rattle.std.specs.List.{list_any}
+use Rattle.tree_specs.specs.declared.object.Owner.TheVariants.{Root}
+use Rattle.tree_specs.proofs.Rows.{row_of-placed-same}
+use Rattle.tree_specs.proofs.Referring.{newest-of-refers}
+use Rattle.tree_specs.specs.Targets.{newest_ref}
+use Rattle.std.proofs.Common.{◌≡◌, ℕ, List, [], ◌∷◌, ◌++◌, Option, Some, None, true, refl, sym, subst, map, Bool, false}
 use Rattle.step_machine.specs.Machine.{Move as Do}
 use Rattle.step_machine.specs.Noted.{noted_work, with_note, scene}
 use Rattle.tree_specs.specs.declared.object.Obj.{Obj}
@@ -11,11 +19,11 @@ use Rattle.tree_specs.specs.declared.question.Ask.TheVariants as ask
 use Rattle.tree_specs.specs.declared.question.Input.{Input}
 use Rattle.tree_specs.specs.declared.reply.Reply.{Reply}
 use Rattle.tree_specs.specs.declared.reply.Reply.TheVariants as reply
-use Rattle.tree_specs.specs.declared.event.Event.TheVariants.{Replied}
+use Rattle.tree_specs.specs.declared.event.Event.TheVariants.{Replied, Warned}
 use Rattle.tree_specs.specs.declared.frame.Frame.{Frame}
 use Rattle.tree_specs.specs.declared.frame.Frame.TheVariants as frame
-use Rattle.tree_specs.specs.declared.frame.CallFrame.TheVariants.{Asking, Doing, Awaiting, Telling, Returning}
-use Rattle.tree_specs.specs.declared.frame.FreeFrame.TheVariants.{Beginning, Looping}
+use Rattle.tree_specs.specs.declared.frame.CallFrame.TheVariants.{Asking, Doing, Awaiting, Warning, Telling, Returning}
+use Rattle.tree_specs.specs.declared.frame.FreeFrame.TheVariants.{Unlinking, Beginning, Looping}
 use Rattle.tree_specs.specs.declared.frame.Purpose.TheVariants.{Emptying}
 use Rattle.tree_specs.specs.declared.frame.Answer.TheVariants as answer
 use Rattle.tree_specs.specs.Pool.{Pool, row_of, owner_of, add, place, set_hook, rename}
@@ -23,25 +31,26 @@ use Rattle.tree_specs.specs.Items.{Item}
 use Rattle.tree_specs.specs.Items.Item.{Told, Asked}
 use Rattle.tree_specs.specs.declared.kind.Kind.TheVariants.{Plain}
 use Rattle.tree_specs.specs.Calls.{Check, refusals}
-use Rattle.tree_specs.specs.Inside.{NoReferences, size_inside, count_inside}
+use Rattle.tree_specs.specs.Inside.{size_inside, count_inside}
 use Rattle.tree_specs.specs.Reports.{report}
 use Rattle.tree_specs.specs.Works.{Begun, Scene}
-use Rattle.tree_specs.specs.Story.{owner_reply, later}
-use Rattle.tree_specs.specs.Table.{notes, step, taken, call_step, effect_step}
-use Rattle.tree_specs.specs.Orderly.{Fits}
+use Rattle.tree_specs.specs.Story.{owner_reply, later, warns, reparented, refer}
+use Rattle.tree_specs.specs.Table.{notes, step, taken, call_step, effect_step, placed_step, freeing_by}
+use Rattle.tree_specs.specs.Orderly.{Fits, frees}
 use Rattle.tree_specs.specs.Orderly.{asks_hook}
 use Rattle.tree_specs.specs.Grounded.{AsksHook}
-use Rattle.tree_specs.specs.Sound.{AllWait, claim, claims, InRun, phases}
+use Rattle.tree_specs.specs.Sound.{AllWait, claim, claims, InRun, phases, Sound}
 use Rattle.tree_specs.specs.Whole.{Whole, Seated}
 use Rattle.tree_specs.proofs.Numbered.{same-equal}
-use Rattle.tree_specs.proofs.Checks.{MayBePlaced, passes-placing, passes-reparent, passes-object, passes-hooking, Heard, Does, Returns, heard-leads}
+use Rattle.tree_specs.specs.Sound.{MayBePlaced}
+use Rattle.tree_specs.proofs.Checks.{passes-placing, passes-reparent, passes-object, passes-hooking, Heard, Does, Returns, heard-leads, MayGo, Itself, ItsRef, passes-free}
 use Rattle.tree_specs.proofs.Changes.{running-row, claim-here}
 use Rattle.tree_specs.proofs.Later.{Later, later-same, later-placed, later-hooked, later-renamed, later-added}
 use Rattle.tree_specs.proofs.Past.{Accounts, Past, past-goes, past-tells, unfreed, unaccepted}
-use Rattle.tree_specs.proofs.Causes.{NotedWork, told, IsFreeOf, IsHookOf, FreesBy, StandsOn, Stacked, IsCaused, IsAskedFor, Cause}
+use Rattle.tree_specs.proofs.Causes.{NotedWork, told, IsFreeOf, IsHookOf, FreesBy, StandsOn, Stacked, IsCaused, IsAskedFor, Cause, NotHeld}
 use Rattle.tree_specs.proofs.Waiters.{Waiter, ForFree, ForRun, ForChild, waiter}
 use Rattle.tree_specs.proofs.OwnRefusals.{IsOwn, AllOwn, own-refusals, own-just-now, own-call}
-use Rattle.tree_specs.proofs.Fitting.{last-more, fits-replied, fits-quiet, fits-asked}
+use Rattle.tree_specs.proofs.Fitting.{last-more, fits-replied, fits-quiet, fits-asked, fits-warned}
 use Rattle.tree_specs.proofs.Fine.{work_of, Known, FineBy, restacked, of-next, from-next, later-hook, AnswersTo, resumed, known-told, taken-noted}
 
 -- the question of a destructor is of its object
@@ -73,14 +82,14 @@ asking-fine scenes q b ws p whole known = (
         let row = running-row (row_of p.rows x) (claims x gs) (claim-here x InRun (claims x gs) (row_of p.rows x) (claimed x)) in
         fits-asked (told scenes) x (unaccepted (told scenes) f (map work_of ws) p x row.0 known.past row.1 row.2 (λ l. l)) (unfreed (told scenes) f (map work_of ws) p x row.0 known.past row.1) q on
     of-hook _ gs n (ForFree a x) on claimed = absurd on.0
-    of-hook _ gs n (ForChild x c purpose) on claimed = absurd on
+    of-hook _ gs n (ForChild x c noted purpose) on claimed = absurd on
 
     fits : (us : List NotedWork) → Seated f (map work_of us) → AllWait (map work_of us) → Stacked f us → ((x : Obj) → claims x (map work_of us) ≡ phases (row_of p.rows x)) → Fits (told scenes) (Asked q)
     fits [] seated wait on claimed = fits-quiet (told scenes) q seated
     fits (u ∷ us) seated wait on claimed = of-hook u.work (map work_of us) u.note (waiter u.work (map work_of us) wait.0) on.0 claimed
 
     past : Past (told scenes ++ Asked q ∷ []) f (map work_of ws) p
-    past = past-tells (told scenes) (Asked q) f (map work_of ws) p (λ x. refl) (λ x. refl) known.past
+    past = past-tells (told scenes) (Asked q) f (map work_of ws) p (λ x. refl) (λ x. refl) (λ x. refl) known.past
 
     goes : (g : Frame) → Accounts (told scenes ++ Asked q ∷ []) g → Past (told scenes ++ Asked q ∷ []) g (map work_of ws) p
     goes g a = past-goes (told scenes ++ Asked q ∷ []) f g (map work_of ws) (map work_of ws) p p past (later-same p) (λ x l. absurd l) a past.all_account
@@ -89,7 +98,7 @@ asking-fine scenes q b ws p whole known = (
     asked : (g : Frame) (n : Option Begun) → Waiter g → StandsOn f g n → IsAskedFor (scenes ++ s ∷ []) g n
     asked _ n (ForRun x h) on = last-more (AsksHook x) scenes s (asks-hook x q on)
     asked _ n (ForFree a x) on = tt
-    asked _ n (ForChild x c purpose) on = tt
+    asked _ n (ForChild x c noted purpose) on = tt
 
     leads : (g : Frame) → Heard q g → Known (scenes ++ s ∷ []) (with_note b g) ws p
     leads _ (Does c) = known-told scenes s (with_note b (frame.Call (Doing q c))) ws p (goes _ tt) (restacked f (frame.Call (Doing q c)) ws (λ x h. h) (λ x h. h) known.stacked) tt
@@ -109,12 +118,30 @@ telling-fine scenes q r b ws p known =
     let f : Frame = frame.Call (Telling q r) in
     let g : Frame = frame.Call (Asking q) in
     let e : Item = Told (Replied r) in
-    let past = past-tells (told scenes) e f (map work_of ws) p (λ x. refl) (λ x. refl) known.past in (
+    let past = past-tells (told scenes) e f (map work_of ws) p (λ x. refl) (λ x. refl) (λ x. refl) known.past in (
       (fits-replied (told scenes) r known.cause.0, record { answered = known.cause.1; held = known.cause.2; caused = known.cause.3; started = tt }),
       known-told scenes (scene notes f b p e) (with_note None g) ws p
           (past-goes (told scenes ++ e ∷ []) f g (map work_of ws) (map work_of ws) p p past (later-same p) (λ x l. absurd l) tt past.all_account)
           (restacked f g ws (λ x h. h) (λ x h. h) known.stacked) tt,
     )
+
+-- it is told that an object went to another owner, and then the reply
+pub warning-fine : (scenes : List Scene) (q : Ask) (x : Obj) (r : Reply) (b : Option Begun) (ws : List NotedWork) (p : Pool)
+    → Known scenes (with_note b (frame.Call (Warning q x r))) ws p → FineBy scenes (frame.Call (Warning q x r)) b p (step (frame.Call (Warning q x r)) p) ws
+warning-fine scenes q x r b ws p known =
+    let f : Frame = frame.Call (Warning q x r) in
+    let g : Frame = frame.Call (Telling (later q r) r) in
+    let e : Item = Told (Warned x) in
+    let past = past-tells (told scenes) e f (map work_of ws) p (λ x. refl) (λ x. refl) (λ x. refl) known.past in (
+      (fits-warned (told scenes) x (there (row_of p.rows x) refl), record { answered = tt; held = tt; caused = tt; started = tt }),
+      known-told scenes (scene notes f b p e) (with_note b g) ws p
+          (past-goes (told scenes ++ e ∷ []) f g (map work_of ws) (map work_of ws) p p past (later-same p) (λ y l. absurd l) tt past.all_account)
+          (restacked f g ws (λ y h. h) (λ y h. later-hook y q r h) known.stacked) (known.cause.0 (scenes ++ scene notes f b p e ∷ [])),
+    )
+  where
+    there : (o : Option Row) → row_of p.rows x ≡ o → list_any (frees x) (told scenes) ≡ false
+    there None e = let bad : false ≡ true = rw e at known.cause.1 in cc
+    there (Some row) e = unfreed (told scenes) (frame.Call (Warning q x r)) (map work_of ws) p x row known.past e
 
 pub returning-fine : (scenes : List Scene) (v : ℕ) (b : Option Begun) (ws : List NotedWork) (p : Pool) → AllWait (map work_of ws)
     → Known scenes (with_note b (frame.Call (Returning v))) ws p → FineBy scenes (frame.Call (Returning v)) b p (step (frame.Call (Returning v)) p) ws
@@ -125,7 +152,7 @@ returning-fine scenes v b ws p wait known =
     answers : (g : Frame) (n : Option Begun) → Waiter g → StandsOn (frame.Call (Returning v)) g n → IsAskedFor scenes g n → AnswersTo scenes (answer.Returned v) g n
     answers _ n (ForRun x h) on last = last
     answers _ n (ForFree q x) on last = absurd on.0
-    answers _ n (ForChild x c purpose) on last = tt
+    answers _ n (ForChild x c noted purpose) on last = tt
 
 -- a call that needs no free has its reply told
 module _ (scenes : List Scene) (q : Ask) (c : Call) (b : Option Begun) (ws : List NotedWork) (p : Pool) (known : Known scenes (with_note b (frame.Call (Doing q c))) ws p) where
@@ -143,42 +170,64 @@ module _ (scenes : List Scene) (q : Ask) (c : Call) (b : Option Begun) (ws : Lis
       }
 
   -- a call that frees waits for the free
-  frees-next : (x : Obj) (g : Frame) → IsFreeOf x g → FreesBy x c → NoReferences p.rows → Accounts (told scenes) g → Cause scenes g None (with_note (Some begun) (frame.Call (Awaiting q x)) ∷ ws) p
+  frees-next : (x : Obj) (g : Frame) → IsFreeOf x g → FreesBy x c → NotHeld c p → Accounts (told scenes) g → Cause scenes g None (with_note (Some begun) (frame.Call (Awaiting q x)) ∷ ws) p
       → FineBy scenes (frame.Call (Doing q c)) b p (Do.Call g (frame.Call (Awaiting q x)) p) ws
-  frees-next x g of by plain account cause =
+  frees-next x g of by free account cause =
       let f : Frame = frame.Call (Doing q c) in
       record {
         past = past-goes (told scenes) f g (map work_of ws) (frame.Call (Awaiting q x) ∷ map work_of ws) p p known.past (later-same p) (λ y l. absurd l) account (tt, known.past.all_account);
-        stacked = ((of, (by, plain)), restacked f (frame.Call (Awaiting q x)) ws (λ y h. h) (λ y h. h) known.stacked);
+        stacked = ((of, (by, free)), restacked f (frame.Call (Awaiting q x)) ws (λ y h. h) (λ y h. h) known.stacked);
         cause = cause;
       }
 
-  placed-next : (r : Reply) (o : Owner) (x : Obj) → MayBePlaced p o x → IsCaused scenes (Some begun) r → FineBy scenes (frame.Call (Doing q c)) b p (Do.Go (frame.Call (Telling (later q r) r)) (place p o x)) ws
-  placed-next r o x may cause = told-next r (place p o x) (later-placed p o x may.row may.is) cause
+  -- an object is put below an owner, which may be worth a warning
+  placed-next : (r : Reply) (o : Owner) (x : Obj) → MayBePlaced p o x → ((more : List Scene) → IsCaused more (Some begun) r) → (w : Bool) → FineBy scenes (frame.Call (Doing q c)) b p (placed_step w q x r (place p o x)) ws
+  placed-next r o x may cause false = told-next r (place p o x) (later-placed p o x may.row may.is) (cause scenes)
+  placed-next r o x may cause true =
+      let f : Frame = frame.Call (Doing q c) in
+      let g : Frame = frame.Call (Warning q x r) in
+      record {
+        past = past-goes (told scenes) f g (map work_of ws) (map work_of ws) p (place p o x) known.past (later-placed p o x may.row may.is) (λ y l. absurd l) tt known.past.all_account;
+        stacked = restacked f g ws (λ y h. h) (λ y h. h) known.stacked;
+        cause = (cause, rw (row_of-placed-same p o x may.row may.is) refl);
+      }
 
-effect-fine : (scenes : List Scene) (q : Ask) (c : Call) (b : Option Begun) (ws : List NotedWork) (p : Pool) → Known scenes (with_note b (frame.Call (Doing q c))) ws p → NoReferences p.rows
+  freed-next : (x : Obj) → FreesBy x c → NotHeld c p → (o : Option Obj) → FineBy scenes (frame.Call (Doing q c)) b p (Do.Call (frame.Free (freeing_by o x)) (frame.Call (Awaiting q x)) p) ws
+  freed-next x by free None = frees-next x (frame.Free (Beginning x)) refl by free tt refl
+  freed-next x by free (Some r) = frees-next x (frame.Free (Unlinking Root x)) refl by free tt refl
+
+  reparents-next : Sound (frame.Call (Doing q c)) (map work_of ws) p → (from to : Owner) (x : Obj) → MayGo p from to x → IsCaused scenes (Some begun) reply.Ok
+      → FineBy scenes (frame.Call (Doing q c)) b p (Do.Go (frame.Call (Telling (later q reply.Ok) reply.Ok)) (reparented p from to x)) ws
+  reparents-next s from to x (Itself t may) cause = rw t (told-next reply.Ok (place p to x) (later-placed p to x may.row may.is) cause)
+  reparents-next s from to x (ItsRef r t n there) cause =
+      let w = newest-of-refers p.rows from x r s.forest.distinct n in
+      rw (t, n) (told-next reply.Ok (place p to r) (later-placed p to r w.0 w.1) cause)
+
+effect-fine : (scenes : List Scene) (q : Ask) (c : Call) (b : Option Begun) (ws : List NotedWork) (p : Pool) → Known scenes (with_note b (frame.Call (Doing q c))) ws p → Sound (frame.Call (Doing q c)) (map work_of ws) p
     → refusals p c ≡ [] → FineBy scenes (frame.Call (Doing q c)) b p (effect_step q c p) ws
-effect-fine scenes q (call.New o size name) b ws p known plain none = told-next scenes q _ b ws p known (reply.Number p.next) (add p Plain o size name) (later-added p Plain o size name) (tt, tt, tt, tt)
-effect-fine scenes q (call.Free x) b ws p known plain none = frees-next scenes q _ b ws p known x (frame.Free (Beginning x)) refl refl plain tt refl
-effect-fine scenes q (call.Freekids x) b ws p known plain none = frees-next scenes q _ b ws p known x (frame.Free (Looping x Emptying)) refl refl plain tt tt
-effect-fine scenes q (call.Steal o x) b ws p known plain none = placed-next scenes q _ b ws p known reply.Ok o x (passes-placing p o x none) (tt, tt, tt, tt)
-effect-fine scenes q (call.Move o x) b ws p known plain none = placed-next scenes q _ b ws p known (reply.Number x.0) o x (passes-placing p o x none) (tt, tt, tt, tt)
-effect-fine scenes q (call.Reparent from to x) b ws p known plain none = placed-next scenes q _ b ws p known reply.Ok to x (passes-reparent p from to x none) (tt, tt, tt, tt)
-effect-fine scenes q (call.Hook x h) b ws p known plain none = let may = passes-hooking p x none in told-next scenes q _ b ws p known reply.Ok (set_hook p x h) (later-hooked p x may.row h may.is) (tt, tt, tt, tt)
-effect-fine scenes q (call.Unhook x) b ws p known plain none = let may = passes-hooking p x none in told-next scenes q _ b ws p known reply.Ok (set_hook p x 0) (later-hooked p x may.row 0 may.is) (tt, tt, tt, tt)
-effect-fine scenes q (call.Rename x name) b ws p known plain none = let r = passes-object p x none in told-next scenes q _ b ws p known reply.Ok (rename p x name) (later-renamed p x r.0 name r.1) (tt, tt, tt, tt)
-effect-fine scenes q (call.Parent x) b ws p known plain none = told-next scenes q _ b ws p known (owner_reply (owner_of p.rows x)) p (later-same p) (tt, tt, tt, tt)
-effect-fine scenes q (call.Total o) b ws p known plain none = told-next scenes q _ b ws p known (reply.Number (size_inside p.rows o)) p (later-same p) (tt, tt, tt, tt)
-effect-fine scenes q (call.Count o) b ws p known plain none = told-next scenes q _ b ws p known (reply.Number (count_inside p.rows o)) p (later-same p) (tt, tt, tt, tt)
-effect-fine scenes q (call.Report o) b ws p known plain none = told-next scenes q _ b ws p known (reply.Rows (report p.rows o)) p (later-same p) (tt, tt, tt, tt)
+effect-fine scenes q (call.New o size name) b ws p known s none = told-next scenes q _ b ws p known (reply.Number p.next) (add p Plain o size name) (later-added p Plain o size name) (tt, tt, tt, tt)
+effect-fine scenes q (call.Free x) b ws p known s none = freed-next scenes q _ b ws p known x refl (passes-free p x none).1 (newest_ref p.rows x)
+effect-fine scenes q (call.Freekids x) b ws p known s none = frees-next scenes q _ b ws p known x (frame.Free (Looping x Emptying)) refl refl tt tt tt
+effect-fine scenes q (call.Steal o x) b ws p known s none = placed-next scenes q _ b ws p known reply.Ok o x (passes-placing p o x none) (λ more. (tt, tt, tt, tt)) (warns p o x)
+effect-fine scenes q (call.Move o x) b ws p known s none = placed-next scenes q _ b ws p known (reply.Number x.0) o x (passes-placing p o x none) (λ more. (tt, tt, tt, tt)) (warns p o x)
+effect-fine scenes q (call.Reparent from to x) b ws p known s none = reparents-next scenes q _ b ws p known s from to x (passes-reparent p from to x none) (tt, tt, tt, tt)
+effect-fine scenes q (call.Reference o x) b ws p known s none = told-next scenes q _ b ws p known (reply.Number p.next) (refer p o x) (later-added p (kind.Reference x) o 0 (codes "reference")) (tt, tt, tt, tt)
+effect-fine scenes q (call.Unlink o x) b ws p known s none = frees-next scenes q _ b ws p known x (frame.Free (Unlinking o x)) refl refl tt tt refl
+effect-fine scenes q (call.Hook x h) b ws p known s none = let may = passes-hooking p x none in told-next scenes q _ b ws p known reply.Ok (set_hook p x h) (later-hooked p x may.row h may.is) (tt, tt, tt, tt)
+effect-fine scenes q (call.Unhook x) b ws p known s none = let may = passes-hooking p x none in told-next scenes q _ b ws p known reply.Ok (set_hook p x 0) (later-hooked p x may.row 0 may.is) (tt, tt, tt, tt)
+effect-fine scenes q (call.Rename x name) b ws p known s none = let r = passes-object p x none in told-next scenes q _ b ws p known reply.Ok (rename p x name) (later-renamed p x r.0 name r.1) (tt, tt, tt, tt)
+effect-fine scenes q (call.Parent x) b ws p known s none = told-next scenes q _ b ws p known (owner_reply (owner_of p.rows x)) p (later-same p) (tt, tt, tt, tt)
+effect-fine scenes q (call.Total o) b ws p known s none = told-next scenes q _ b ws p known (reply.Number (size_inside p.rows o)) p (later-same p) (tt, tt, tt, tt)
+effect-fine scenes q (call.Count o) b ws p known s none = told-next scenes q _ b ws p known (reply.Number (count_inside p.rows o)) p (later-same p) (tt, tt, tt, tt)
+effect-fine scenes q (call.Report o) b ws p known s none = told-next scenes q _ b ws p known (reply.Rows (report p.rows o)) p (later-same p) (tt, tt, tt, tt)
 
-pub doing-fine : (scenes : List Scene) (q : Ask) (c : Call) (b : Option Begun) (ws : List NotedWork) (p : Pool) → NoReferences p.rows
+pub doing-fine : (scenes : List Scene) (q : Ask) (c : Call) (b : Option Begun) (ws : List NotedWork) (p : Pool) → Sound (frame.Call (Doing q c)) (map work_of ws) p
     → Known scenes (with_note b (frame.Call (Doing q c))) ws p → FineBy scenes (frame.Call (Doing q c)) b p (step (frame.Call (Doing q c)) p) ws
-doing-fine scenes q c b ws p plain known = each (refusals p c) refl
+doing-fine scenes q c b ws p s known = each (refusals p c) refl
   where
     each : (check : Check) → refusals p c ≡ check → FineBy scenes (frame.Call (Doing q c)) b p (call_step (refusals p c) q c p) ws
-    each [] e = rw e (effect-fine scenes q c b ws p known plain e)
+    each [] e = rw e (effect-fine scenes q c b ws p known s e)
     each (why ∷ rest) e =
         let own : IsOwn why × AllOwn rest = rw e at (own-refusals p c) in
-        let h = own-call scenes p c why rest plain e own.0 in
+        let h = own-call scenes p c why rest s.forest.distinct s.refers e in
         rw e (told-next scenes q c b ws p known (reply.No why) p (later-same p) (own-just-now (told scenes) why own.0, h.0, h.1, h.2))

@@ -1,5 +1,5 @@
 -- Each item of the machine fits what was told before it.
-use Rattle.std.proofs.Common.{◌≡◌, ℕ, List, [], ◌∷◌, ◌++◌, Bool, true, false, refl, sym, ◌∙◌, subst, ◌⊎◌, inl, inr}
+use Rattle.std.proofs.Common.{Option, Some, None, is_some, ◌≡◌, ℕ, List, [], ◌∷◌, ◌++◌, Bool, true, false, refl, sym, ◌∙◌, subst, ◌⊎◌, inl, inr}
 use Rattle.std.specs.Prelude.{◌||◌, ◌&&◌}
 use Rattle.std.specs.List.{list_any}
 use Rattle.step_machine.specs.Open.{LastIs}
@@ -10,12 +10,12 @@ use Rattle.tree_specs.specs.declared.row.Row.{Row}
 use Rattle.tree_specs.specs.declared.question.Ask.{Ask}
 use Rattle.tree_specs.specs.declared.question.Ask.TheVariants as ask
 use Rattle.tree_specs.specs.declared.reply.Reply.{Reply}
-use Rattle.tree_specs.specs.declared.event.Event.TheVariants.{Replied, Accepted, Refused, Moved, Freed}
+use Rattle.tree_specs.specs.declared.event.Event.TheVariants.{Replied, Accepted, Refused, Moved, Freed, Warned, Unreferenced}
 use Rattle.tree_specs.specs.Objects.{same, same_owner}
-use Rattle.tree_specs.specs.Pool.{is_row, is_owner}
+use Rattle.tree_specs.specs.Pool.{row_of, is_row, is_object_row, is_owner}
 use Rattle.tree_specs.specs.Items.{Item}
 use Rattle.tree_specs.specs.Items.Item.{Told, Asked}
-use Rattle.tree_specs.specs.Orderly.{is_hook, accepts, frees, Fits, FreedOnce, RefusedJustNow}
+use Rattle.tree_specs.specs.Orderly.{is_hook, accepts, frees, Fits, FreedOnce, RefusedJustNow, drops}
 use Rattle.tree_specs.specs.Whole.{IsQuiet}
 use Rattle.tree_specs.proofs.Numbered.{same-true, same_owner-true}
 use Rattle.tree_specs.proofs.Causes.{IsHookOf}
@@ -124,6 +124,10 @@ fits-quiet items (ask.Accept descriptor) h = absurd h
 fits-quiet items (ask.Read descriptor most) h = absurd h
 fits-quiet items (ask.Write descriptor bytes) h = absurd h
 
+object-row : (o : Option Row) → is_object_row o ≡ true → is_some o ≡ true
+object-row None e = cc
+object-row (Some r) e = refl
+
 -- an object goes to another owner, and both are there
 pub fits-moved : (items : List Item) (rows : List Row) (c : Obj) (o : Owner) → ((y : Obj) → is_row rows y ≡ true → list_any (frees y) items ≡ false)
     → is_row rows c ≡ true → is_owner rows o ≡ true → Fits items (Told (Moved c o))
@@ -132,8 +136,30 @@ fits-moved items rows c o there child owner = record {
   freed_once = tt;
   after_the_end = λ y e. elim (either (same c y) (same_owner o (Of y)) e) [
     | inl t ↦ there y (subst (λ (z : Obj). is_row rows z ≡ true) (same-true c y t) child)
-    | inr t ↦ there y (subst (λ (z : Owner). is_owner rows z ≡ true) (same_owner-true o (Of y) t) owner)
+    | inr t ↦ there y (object-row (row_of rows y) (subst (λ (z : Owner). is_owner rows z ≡ true) (same_owner-true o (Of y) t) owner))
   ];
+  dropped_once = tt;
+  refused_just_now = tt;
+  states_go_up = tt;
+}
+
+-- a reference is dropped, and its target is there
+pub fits-dropped : (items : List Item) (r t : Obj) → list_any (drops r) items ≡ false → list_any (frees t) items ≡ false → Fits items (Told (Unreferenced r t))
+fits-dropped items r t once there = record {
+  accepts_once = λ y e. cc;
+  freed_once = tt;
+  after_the_end = λ y e. subst (λ (z : Obj). list_any (frees z) items ≡ false) (same-true t y e) there;
+  dropped_once = once;
+  refused_just_now = tt;
+  states_go_up = tt;
+}
+
+-- an object that is there was given to another owner
+pub fits-warned : (items : List Item) (x : Obj) → list_any (frees x) items ≡ false → Fits items (Told (Warned x))
+fits-warned items x there = record {
+  accepts_once = λ y e. cc;
+  freed_once = tt;
+  after_the_end = λ y e. subst (λ (z : Obj). list_any (frees z) items ≡ false) (same-true x y e) there;
   dropped_once = tt;
   refused_just_now = tt;
   states_go_up = tt;

@@ -1,5 +1,5 @@
 -- The heir of a child is another owner that may take it.
-use Rattle.std.proofs.Common.{◌≡◌, ◌≢◌, ℕ, zero, suc, List, length, Option, Some, None, Bool, true, false, ◌&&◌, not, refl, sym, ◌∙◌}
+use Rattle.std.proofs.Common.{◌≡◌, ◌≢◌, ℕ, zero, suc, List, length, Option, Some, None, Bool, true, false, ◌&&◌, not, refl, sym, ap, ◌∙◌}
 use Rattle.tree_specs.specs.declared.object.Obj.{Obj}
 use Rattle.tree_specs.specs.declared.object.Owner.{Owner}
 use Rattle.tree_specs.specs.declared.object.Owner.TheVariants.{Root, Of}
@@ -7,8 +7,8 @@ use Rattle.tree_specs.specs.declared.row.Row.{Row}
 use Rattle.tree_specs.specs.declared.row.Mark.{Mark}
 use Rattle.tree_specs.specs.declared.row.Mark.TheVariants.{Quiet, Asked, Busy, Doomed, Dying}
 use Rattle.tree_specs.specs.Objects.{same}
-use Rattle.tree_specs.specs.Pool.{row_of, is_row, is_owner, reaches, is_inside}
-use Rattle.tree_specs.specs.Heirs.{former_by, former_in, former_of, may_take, heir}
+use Rattle.tree_specs.specs.Pool.{row_of, is_object, is_owner, reaches, is_inside}
+use Rattle.tree_specs.specs.Heirs.{former_by, former_in, former_of, may_take, former_taker, heir}
 use Rattle.tree_specs.specs.Sound.{Shaped, ValidAt}
 use Rattle.tree_specs.proofs.Numbered.{by_test, same-equal}
 
@@ -47,17 +47,24 @@ both false b e = cc
 takes : (rs : List Row) (c : Obj) (o : Owner) → may_take rs c o ≡ true → MayTake rs c o
 takes rs c Root e = root-takes rs c
 takes rs c (Of y) e =
-    let b = both (is_row rs y) (is_inside rs (Of y) (Of c)) e in
+    let b = both (is_object rs y) (is_inside rs (Of y) (Of c)) e in
     record {
       apart = λ q. (let i : is_inside rs (Of y) (Of c) ≡ true = rw q (self-inside rs c) in let bad : true ≡ false = sym i ∙ b.1 in cc);
       there = b.0;
       outside = b.1;
     }
 
-pub heir-may_take : (rs : List Row) (x c : Obj) → MayTake rs c (heir rs x c)
-heir-may_take rs x c = by_test (may_take rs c (former_of rs x))
+former-takes : (rs : List Row) (x c : Obj) → MayTake rs c (former_taker rs x c)
+former-takes rs x c = by_test (may_take rs c (former_of rs x))
     (λ t. rw t (takes rs c (former_of rs x) t))
     (λ t. rw t (root-takes rs c))
+
+pub heir-may_take : (rs : List Row) (x c : Obj) (noted : Option Owner) → MayTake rs c (heir rs x c noted)
+heir-may_take rs x c None = former-takes rs x c
+heir-may_take rs x c (Some Root) = former-takes rs x c
+heir-may_take rs x c (Some (Of y)) = by_test (may_take rs c (Of y))
+    (λ t. rw t (takes rs c (Of y) t))
+    (λ t. rw t (former-takes rs x c))
 
 former-other : (m : Mark) (o : Option Owner) (x : Obj) → Shaped m o x → former_by m o ≢ Of x
 former-other Quiet (Some o) x s = s
@@ -71,12 +78,18 @@ former-other Doomed None x s = absurd s
 former-other (Dying former) (Some o) x s = absurd s
 former-other (Dying former) None x s = s
 
--- the heir of a child isn't the object that it leaves
-pub heir-other : (rs : List Row) (next : ℕ) (x c : Obj) → ValidAt next (row_of rs x) x → heir rs x c ≢ Of x
-heir-other rs next x c v = by_test (may_take rs c (former_of rs x))
-    (λ t. rw t (former (row_of rs x) v))
-    (λ t. rw t (λ e. cc))
+-- the heir of a child isn't the object that it leaves, where that wasn't noted
+pub heir-other : (rs : List Row) (next : ℕ) (x c : Obj) (noted : Option Owner) → ValidAt next (row_of rs x) x → noted ≢ Some (Of x) → heir rs x c noted ≢ Of x
+heir-other rs next x c noted v not_noted = each noted not_noted
   where
     former : (q : Option Row) → ValidAt next q x → former_in q ≢ Of x
     former None v = λ e. cc
     former (Some r) v = former-other r.mark r.owner x v.2
+
+    taker : former_taker rs x c ≢ Of x
+    taker = by_test (may_take rs c (former_of rs x)) (λ t. rw t (former (row_of rs x) v)) (λ t. rw t (λ e. cc))
+
+    each : (noted : Option Owner) → noted ≢ Some (Of x) → heir rs x c noted ≢ Of x
+    each None n = taker
+    each (Some Root) n = taker
+    each (Some (Of y)) n = by_test (may_take rs c (Of y)) (λ t. rw t (λ e. n (ap Some e))) (λ t. rw t taker)

@@ -5,6 +5,7 @@ pub mod Settling
 pub mod Ancestry
 pub mod Rooted
 pub mod Walk
+pub mod Referring
 pub mod Heirs
 pub mod Checks
 pub mod Waiters
@@ -13,7 +14,6 @@ pub mod Keeps
 pub mod Falls
 pub mod Means
 pub mod Load
-pub mod Plainness
 pub mod Rest
 pub mod StoryLaws
 pub mod Later

@@ -1,11 +1,17 @@
 -- The stated number of turns is above the measure at every moment, and each work stands where it may.
-use Rattle.std.proofs.Common.{◌≡◌, ℕ, suc, zero, ◌+◌, ◌*◌, ◌≤◌, ◌<◌, List, [], ◌∷◌, length, Option, Some, None, nat_eq, refl, sym, ◌∙◌, ap, arith}
+use Rattle.tree_specs.specs.declared.event.Event.TheVariants.{Unreferenced}
+use Rattle.tree_specs.specs.Items.Item.{Told}
+use Rattle.std.specs.Prelude.{unwrap_or}
+use Rattle.tree_specs.proofs.Keeps.{ref-placed}
+use Rattle.tree_specs.proofs.Referring.{newest-refers, newest-of-refers}
+use Rattle.tree_specs.specs.Targets.{newest_ref}
+use Rattle.std.proofs.Common.{◌≡◌, ℕ, suc, zero, ◌+◌, ◌*◌, ◌≤◌, ◌<◌, List, [], ◌∷◌, length, Option, Some, None, nat_eq, refl, sym, ◌∙◌, ap, arith, Bool, true, false}
 use Rattle.step_machine.specs.Machine.{Move}
 use Rattle.step_machine.specs.Machine.{Move as Do}
 use Rattle.step_machine.proofs.Ends.{Leads}
 use Rattle.tree_specs.specs.declared.object.Obj.{Obj}
 use Rattle.tree_specs.specs.declared.object.Owner.{Owner}
-use Rattle.tree_specs.specs.declared.object.Owner.TheVariants.{Of}
+use Rattle.tree_specs.specs.declared.object.Owner.TheVariants.{Of, Root}
 use Rattle.tree_specs.specs.declared.row.Row.{Row}
 use Rattle.tree_specs.specs.declared.row.Mark.{Mark}
 use Rattle.tree_specs.specs.declared.row.Mark.TheVariants.{Quiet, Asked, Busy, Doomed, Dying}
@@ -17,34 +23,35 @@ use Rattle.tree_specs.specs.declared.reply.Reply.{Reply}
 use Rattle.tree_specs.specs.declared.reply.Reply.TheVariants as reply
 use Rattle.tree_specs.specs.declared.frame.Frame.{Frame}
 use Rattle.tree_specs.specs.declared.frame.Frame.TheVariants as frame
-use Rattle.tree_specs.specs.declared.frame.CallFrame.TheVariants.{Asking, Doing, Awaiting, Telling, Returning}
+use Rattle.tree_specs.specs.declared.frame.CallFrame.TheVariants.{Asking, Doing, Awaiting, Warning, Telling, Returning}
 use Rattle.tree_specs.specs.declared.frame.FreeFrame.{FreeFrame}
-use Rattle.tree_specs.specs.declared.frame.FreeFrame.TheVariants.{Beginning, Hooked, Judged, Leaving, Looping, Trying, Tried, Ending}
+use Rattle.tree_specs.specs.declared.frame.FreeFrame.TheVariants.{Unlinking, Releasing, Giving, Beginning, Hooked, Judged, Leaving, Looping, Trying, Tried, Ending}
 use Rattle.tree_specs.specs.declared.frame.Purpose.{Purpose}
 use Rattle.tree_specs.specs.declared.frame.Purpose.TheVariants.{Removal, Emptying}
 use Rattle.tree_specs.specs.declared.frame.Answer.{Answer}
 use Rattle.tree_specs.specs.declared.frame.Answer.TheVariants.{Freed, Returned}
 use Rattle.tree_specs.specs.declared.free_step.FreeReply.{FreeReply}
-use Rattle.tree_specs.specs.declared.free_step.FreeReply.TheVariants.{Ok, Running, Refused}
-use Rattle.tree_specs.specs.Pool.{Pool, row_of, is_below, owner_of, first_kid, changed, left_row, place, named_row, set_mark, marked_row, hooked_row}
+use Rattle.tree_specs.specs.declared.free_step.FreeReply.TheVariants.{Ok, Running, Refused, Held}
+use Rattle.tree_specs.specs.Pool.{Pool, row_of, is_below, owner_of, first_kid, changed, left_row, place, named_row, set_mark, marked_row, hooked_row, target_at, noted_owner, newest_ref_of, is_inside, remove}
 use Rattle.tree_specs.specs.Heirs.{heir}
 use Rattle.tree_specs.specs.Items.{Item}
 use Rattle.tree_specs.specs.Calls.{Check, refusals}
-use Rattle.tree_specs.specs.Table.{table, step, lifted, begin_quiet, begin_step, judge_step, last_step, loop_step, hand_on_step, call_step, effect_step, replied, resume}
-use Rattle.tree_specs.specs.Sound.{phase_of, phases, InRun, InLoop, claims, AllWait, Sound}
+use Rattle.tree_specs.specs.Table.{table, step, lifted, begin_quiet, begin_step, judge_step, last_step, loop_step, hand_on_step, call_step, effect_step, replied, resume, child_step, refs_step, unlink_step, release_step, freeing_by, placed_step}
+use Rattle.tree_specs.specs.Sound.{phase_of, phases, InRun, InLoop, claims, AllWait, Sound, Refers, IsQuietRow}
 use Rattle.tree_specs.proofs.Numbered.{by_test}
-use Rattle.tree_specs.proofs.Checks.{MayBePlaced, passes-placing, passes-reparent, passes-object, passes-hooking, Heard, Does, Returns, heard-leads}
+use Rattle.tree_specs.specs.Sound.{MayBePlaced}
+use Rattle.tree_specs.proofs.Checks.{passes-placing, passes-reparent, passes-object, passes-hooking, Heard, Does, Returns, heard-leads, MayGo, Itself, ItsRef}
 use Rattle.std.proofs.Math.Nat.{mul-le-mul_left}
-use Rattle.tree_specs.specs.Story.{owner_reply, later, turns}
+use Rattle.tree_specs.specs.Story.{owner_reply, later, turns, warns, reparented}
 use Rattle.tree_specs.specs.View.{View}
 use Rattle.tree_specs.specs.Whole.{IsQuiet, IsOfRoutine, IsCaller, IsRun, IsFree, Seat, Seated, size, innermost_size, sizes, mark_burden, burden, Light, Whole}
 use Rattle.tree_specs.specs.Inside.{total, size_inside, count_inside}
 use Rattle.tree_specs.specs.Reports.{report}
-use Rattle.tree_specs.specs.Measure.{mark_weight, weight, waiting_cost, below_cost, loop_kids, top_cost, cost, pending}
+use Rattle.tree_specs.specs.Measure.{mark_weight, weight, waiting_cost, below_cost, top_cost, cost, pending}
 use Rattle.tree_specs.proofs.Rows.{total-without, total-placed, total-changed, count-length}
 use Rattle.tree_specs.proofs.Waiters.{Waiter, ForFree, ForRun, ForChild, waiter}
 use Rattle.tree_specs.proofs.Changes.{dying-row, running-row, claim-here, heir-placed}
-use Rattle.tree_specs.proofs.Falls.{total-kept}
+use Rattle.tree_specs.proofs.Falls.{total-kept, kids-most}
 
 -- what a move leads to stands where it may, and is light
 abbrev pub Placed : Move Frame Answer Pool Item → List Frame → ℕ → Type 0
@@ -59,12 +66,15 @@ reseat f g (h ∷ hs) c r k s = (seat h s.0, s.1)
     seat : (h : Frame) → Seat f (h ∷ hs) → Seat g (h ∷ hs)
     seat (frame.Call d) s = k s
     seat (frame.Free (Hooked x h)) s = r s
+    seat (frame.Free (Unlinking o x)) s = k s
+    seat (frame.Free (Releasing x)) s = k s
+    seat (frame.Free (Giving x o)) s = k s
     seat (frame.Free (Beginning x)) s = k s
     seat (frame.Free (Judged x h v)) s = k s
     seat (frame.Free (Leaving x h)) s = k s
     seat (frame.Free (Looping x purpose)) s = k s
-    seat (frame.Free (Trying x c purpose)) s = k s
-    seat (frame.Free (Tried x c purpose a)) s = k s
+    seat (frame.Free (Trying x c noted purpose)) s = k s
+    seat (frame.Free (Tried x c noted purpose a)) s = k s
     seat (frame.Free (Ending a)) s = k s
 
 pub reseat-free : (f g : FreeFrame) (fs : List Frame) → Seated (frame.Free f) fs → Seated (frame.Free g) fs
@@ -100,10 +110,13 @@ not-both (asks.Write descriptor bytes) h k = h
 reseat-told : (q : Ask) (c : Call) (r : Reply) (fs : List Frame) → Seated (frame.Call (Doing q c)) fs → Seated (frame.Call (Telling (later q r) r)) fs
 reseat-told q c r fs s = reseat (frame.Call (Doing q c)) (frame.Call (Telling (later q r) r)) fs (quiet-later q r) (routine-later q r) (λ k. k) s
 
+reseat-later : (q : Ask) (x : Obj) (r : Reply) (fs : List Frame) → Seated (frame.Call (Warning q x r)) fs → Seated (frame.Call (Telling (later q r) r)) fs
+reseat-later q x r fs s = reseat (frame.Call (Warning q x r)) (frame.Call (Telling (later q r) r)) fs (quiet-later q r) (routine-later q r) (λ k. k) s
+
 resumed-seated : (g : Frame) (gs : List Frame) (a : Answer) → Waiter g → Seated g gs → Seated (resume g a) gs
 resumed-seated _ gs a (ForFree q x) s = reseat (frame.Call (Awaiting q x)) (resume (frame.Call (Awaiting q x)) a) gs (quiet-later q _) (routine-later q _) (λ k. k) s
 resumed-seated _ gs a (ForRun x h) s = reseat-free (Hooked x h) _ gs s
-resumed-seated _ gs a (ForChild x c purpose) s = reseat-free (Trying x c purpose) _ gs s
+resumed-seated _ gs a (ForChild x c noted purpose) s = reseat-free (Trying x c noted purpose) _ gs s
 
 run-size : (f : Frame) → IsRun f → innermost_size f ≡ 2
 run-size (frame.Call f) r = refl
@@ -112,7 +125,7 @@ run-size (frame.Free f) r = absurd r
 -- a work that goes on is no larger than it and the work that has ended
 size-resume : (f g : Frame) (gs : List Frame) (a : Answer) → Waiter g → Seat f (g ∷ gs) → innermost_size (resume g a) ≤ size g + innermost_size f
 size-resume f _ gs a (ForFree q x) s = omega arith
-size-resume f _ gs a (ForChild x c purpose) s = omega arith
+size-resume f _ gs a (ForChild x c noted purpose) s = omega arith
 size-resume f _ gs a (ForRun x h) s = let n = run-size f s in omega (arith, n)
 
 -- a work that ends, over rows whose burden is as great
@@ -128,8 +141,8 @@ asking-placed q fs p (suc k) s l = λ i g e. leads g (heard-leads q i g e)
     leads _ (Does c) = (reseat (frame.Call (Asking q)) (frame.Call (Doing q c)) fs (λ z. z) (λ z. z) (λ z. z) s, l)
     leads _ (Returns v of) = (reseat (frame.Call (Asking q)) (frame.Call (Returning v)) fs (λ z. not-both q z of) (λ z. tt) (λ z. z) s, l)
 
-doing-placed : (q : Ask) (c : Call) (fs : List Frame) (p : Pool) (k : ℕ) → Seated (frame.Call (Doing q c)) fs → Light (frame.Call (Doing q c)) fs p → Placed (call_step (refusals p c) q c p) fs k
-doing-placed q c fs p k s l = each (refusals p c) refl
+doing-placed : (q : Ask) (c : Call) (fs : List Frame) (p : Pool) (k : ℕ) → Sound (frame.Call (Doing q c)) fs p → Seated (frame.Call (Doing q c)) fs → Light (frame.Call (Doing q c)) fs p → Placed (call_step (refusals p c) q c p) fs k
+doing-placed q c fs p k sound s l = each (refusals p c) refl
   where
     told : (r : Reply) → Placed (replied q r p) fs k
     told r = (reseat-told q c r fs s, l)
@@ -143,13 +156,29 @@ doing-placed q c fs p k s l = each (refusals p c) refl
     awaits : (x : Obj) → Seated (frame.Call (Awaiting q x)) fs
     awaits x = reseat (frame.Call (Doing q c)) (frame.Call (Awaiting q x)) fs (λ z. z) (λ z. z) (λ z. z) s
 
+    placed : (r : Reply) (o : Owner) (x : Obj) → MayBePlaced p o x → (b : Bool) → Placed (placed_step b q x r (place p o x)) fs k
+    placed r o x may true = let w = total-placed burden p o x may.row may.is refl in (reseat (frame.Call (Doing q c)) (frame.Call (Warning q x r)) fs (λ z. z) (λ z. z) (λ z. z) s, omega (arith, w, l))
+    placed r o x may false = put r o x may
+
+    reparents : (from to : Owner) (x : Obj) → MayGo p from to x → Placed (replied q reply.Ok (reparented p from to x)) fs k
+    reparents from to x (Itself t may) = rw t (put reply.Ok to x may)
+    reparents from to x (ItsRef r t n there) =
+        let w = newest-of-refers p.rows from x r sound.forest.distinct n in
+        rw (t, n) (put reply.Ok to r (ref-placed (frame.Call (Doing q c)) fs p to x r sound (rw w.1 w.2) there))
+
+    freed : (x : Obj) (n : Option Obj) → Placed (Do.Call (frame.Free (freeing_by n x)) (frame.Call (Awaiting q x)) p) fs k
+    freed x None = ((tt, awaits x), omega (arith, l))
+    freed x (Some r) = ((tt, awaits x), omega (arith, l))
+
     effect : (d : Call) → refusals p d ≡ [] → Placed (effect_step q d p) fs k
     effect (call.New o n name) none = (reseat-told q c (reply.Number p.next) fs s, omega (arith, l))
-    effect (call.Free x) none = ((tt, awaits x), omega (arith, l))
+    effect (call.Free x) none = freed x (newest_ref p.rows x)
     effect (call.Freekids x) none = ((tt, awaits x), omega (arith, l))
-    effect (call.Steal o x) none = put reply.Ok o x (passes-placing p o x none)
-    effect (call.Move o x) none = put (reply.Number x.0) o x (passes-placing p o x none)
-    effect (call.Reparent from to x) none = put reply.Ok to x (passes-reparent p from to x none)
+    effect (call.Steal o x) none = placed reply.Ok o x (passes-placing p o x none) (warns p o x)
+    effect (call.Move o x) none = placed (reply.Number x.0) o x (passes-placing p o x none) (warns p o x)
+    effect (call.Reparent from to x) none = reparents from to x (passes-reparent p from to x none)
+    effect (call.Reference o x) none = (reseat-told q c (reply.Number p.next) fs s, omega (arith, l))
+    effect (call.Unlink o x) none = ((tt, awaits x), omega (arith, l))
     effect (call.Hook x h) none = let may = passes-hooking p x none in mended (hooked_row h) x may.row may.is refl
     effect (call.Unhook x) none = let may = passes-hooking p x none in mended (hooked_row 0) x may.row may.is refl
     effect (call.Rename x name) none = let r = passes-object p x none in mended (named_row name) x r.0 r.1 refl
@@ -162,12 +191,21 @@ doing-placed q c fs p k s l = each (refusals p c) refl
     each (why ∷ later_checks) e = told (reply.No why)
     each [] e = effect c e
 
-beginning-placed : (x : Obj) (fs : List Frame) (p : Pool) (k : ℕ) → AllWait fs → Seated (frame.Free (Beginning x)) fs → Light (frame.Free (Beginning x)) fs p
+-- a reference bears nothing
+dropped-placed : (f g : FreeFrame) (fs : List Frame) (p : Pool) (k : ℕ) (r t : Obj) (e : Item) → Refers p.rows → target_at p.rows r ≡ Some t → innermost_size (frame.Free g) ≤ innermost_size (frame.Free f)
+    → Seated (frame.Free f) fs → Light (frame.Free f) fs p → Placed (Do.Emit e (frame.Free g) (remove p r)) fs k
+dropped-placed f g fs p k r t e refers is less s l = by-row (row_of p.rows r) refl (refers.quiet r t is)
+  where
+    by-row : (q : Option Row) → row_of p.rows r ≡ q → IsQuietRow q → Placed (Do.Emit e (frame.Free g) (remove p r)) fs k
+    by-row None q quiet = absurd quiet
+    by-row (Some row) q quiet = let w = total-without burden p.rows r row q in (reseat-free f g fs s, omega (arith, w, l, less, ap mark_burden quiet))
+
+beginning-placed : (x : Obj) (fs : List Frame) (p : Pool) (k : ℕ) → Sound (frame.Free (Beginning x)) fs p → Seated (frame.Free (Beginning x)) fs → Light (frame.Free (Beginning x)) fs p
     → Placed (step (frame.Free (Beginning x)) p) fs k
-beginning-placed x fs p k w s l = each (row_of p.rows x) refl
+beginning-placed x fs p k sound s l = newest (newest_ref p.rows x) refl
   where
     done : (a : FreeReply) → Placed (Do.Done (Freed a) p) fs k
-    done a = over (Freed a) (frame.Free (Beginning x)) fs p k w s l
+    done a = over (Freed a) (frame.Free (Beginning x)) fs p k sound.waiting s l
 
     quiet : (r : Row) → row_of p.rows x ≡ Some r → r.mark ≡ Quiet → Placed (lifted (begin_quiet x r.hook p)) fs k
     quiet r e m = by_test (nat_eq r.hook 0)
@@ -180,13 +218,43 @@ beginning-placed x fs p k w s l = each (row_of p.rows x) refl
     marks r Asked m e = rw (e, m) (done Running)
     marks r Busy m e =
         let u : total burden (changed (marked_row Doomed) p.rows x) ≡ total burden p.rows = total-kept burden (marked_row Doomed) p.rows x r e (sym (ap mark_burden m)) in
-        rw (e, m) (over (Freed Running) (frame.Free (Beginning x)) fs (set_mark p x Doomed) k w s (omega (arith, u, l)))
+        rw (e, m) (over (Freed Running) (frame.Free (Beginning x)) fs (set_mark p x Doomed) k sound.waiting s (omega (arith, u, l)))
     marks r Doomed m e = rw (e, m) (done Running)
     marks r (Dying former) m e = rw (e, m) (done Ok)
 
     each : (o : Option Row) → row_of p.rows x ≡ o → Placed (lifted (begin_step x (row_of p.rows x) p)) fs k
     each None e = rw e (done Ok)
     each (Some r) e = marks r r.mark refl e
+
+    newest : (o : Option Obj) → newest_ref p.rows x ≡ o → Placed (lifted (refs_step x (newest_ref p.rows x) p)) fs k
+    newest None e = rw e (each (row_of p.rows x) refl)
+    newest (Some r) e =
+        let w = newest-refers p.rows x r sound.forest.distinct e in
+        let is : target_at p.rows r ≡ Some x = rw w.1 w.2 in
+        rw e (by_test (is_inside p.rows (Of r) (Of x))
+        (λ t. rw t (dropped-placed (Beginning x) (Beginning x) fs p k r x (Told (Unreferenced r x)) sound.refers is (omega arith) s l))
+        (λ t. rw t (dropped-placed (Beginning x) (Ending Held) fs p k r x (Told (Unreferenced r x)) sound.refers is (omega arith) s l)))
+
+unlinking-placed : (o : Owner) (x : Obj) (fs : List Frame) (p : Pool) (k : ℕ) → Sound (frame.Free (Unlinking o x)) fs p → Seated (frame.Free (Unlinking o x)) fs → Light (frame.Free (Unlinking o x)) fs p
+    → Placed (step (frame.Free (Unlinking o x)) p) fs k
+unlinking-placed o x fs p k sound s l = each (newest_ref_of p.rows o x) refl
+  where
+    each : (n : Option Obj) → newest_ref_of p.rows o x ≡ n → Placed (lifted (unlink_step x (newest_ref_of p.rows o x) p)) fs k
+    each None e = rw e (reseat-free (Unlinking o x) (Releasing x) fs s, l)
+    each (Some r) e = let w = newest-of-refers p.rows o x r sound.forest.distinct e in rw e (dropped-placed (Unlinking o x) (Ending Ok) fs p k r x (Told (Unreferenced r x)) sound.refers (rw w.1 w.2) (omega arith) s l)
+
+releasing-placed : (x : Obj) (fs : List Frame) (p : Pool) (k : ℕ) → Sound (frame.Free (Releasing x)) fs p → Seated (frame.Free (Releasing x)) fs → Light (frame.Free (Releasing x)) fs p
+    → Placed (step (frame.Free (Releasing x)) p) fs k
+releasing-placed x fs p k sound s l = each (newest_ref p.rows x) refl
+  where
+    each : (n : Option Obj) → newest_ref p.rows x ≡ n → Placed (lifted (release_step x (newest_ref p.rows x) p)) fs k
+    each None e = rw e (reseat-free (Releasing x) (Beginning x) fs s, l)
+    each (Some r) e =
+        let w = newest-refers p.rows x r sound.forest.distinct e in
+        let is : target_at p.rows r ≡ Some x = rw w.1 w.2 in
+        rw e (by_test (is_inside p.rows (Of r) (Of x))
+        (λ t. rw t (dropped-placed (Releasing x) (Releasing x) fs p k r x (Told (Unreferenced r x)) sound.refers is (omega arith) s l))
+        (λ t. rw t (dropped-placed (Releasing x) (Giving x (unwrap_or (owner_of p.rows r) Root)) fs p k r x (Told (Unreferenced r x)) sound.refers is (omega arith) s l)))
 
 mark_burden-most : (m : Mark) → mark_burden m ≤ 3
 mark_burden-most Quiet = omega arith
@@ -239,41 +307,50 @@ looping-placed x purpose fs p k s seats l = each (first_kid p.rows (Of x))
         (reseat-free (Looping x (Removal h)) (Ending Ok) fs seats, omega (arith, w, i, l))
     last Emptying s seats l = over (Freed Ok) (frame.Free (Looping x Emptying)) fs p k s.waiting seats l
 
+    child : (c : Obj) (o : Option Obj) → target_at p.rows c ≡ o → Placed (lifted (child_step x c purpose o p)) fs k
+    child c None e = ((tt, reseat-free (Looping x purpose) (Trying x c (noted_owner p.rows c) purpose) fs seats), omega (arith, l))
+    child c (Some t) e = dropped-placed (Looping x purpose) (Looping x purpose) fs p k c t (Told (Unreferenced c t)) s.refers e (omega arith) seats l
+
     each : (o : Option Obj) → Placed (lifted (loop_step x purpose o p)) fs k
-    each (Some c) = ((tt, reseat-free (Looping x purpose) (Trying x c purpose) fs seats), omega (arith, l))
+    each (Some c) = child c (target_at p.rows c) refl
     each None = last purpose s seats l
 
-tried-placed : (x c : Obj) (purpose : Purpose) (a : FreeReply) (fs : List Frame) (p : Pool) (k : ℕ) → Sound (frame.Free (Tried x c purpose a)) fs p → Seated (frame.Free (Tried x c purpose a)) fs
-    → Light (frame.Free (Tried x c purpose a)) fs p → Placed (step (frame.Free (Tried x c purpose a)) p) fs k
-tried-placed x c purpose a fs p k s seats l = each a
+tried-placed : (x c : Obj) (noted : Option Owner) (purpose : Purpose) (a : FreeReply) (fs : List Frame) (p : Pool) (k : ℕ) → Sound (frame.Free (Tried x c noted purpose a)) fs p → Seated (frame.Free (Tried x c noted purpose a)) fs
+    → Light (frame.Free (Tried x c noted purpose a)) fs p → Placed (step (frame.Free (Tried x c noted purpose a)) p) fs k
+tried-placed x c noted purpose a fs p k s seats l = each a
   where
     on : Seated (frame.Free (Looping x purpose)) fs
-    on = reseat-free (Tried x c purpose a) (Looping x purpose) fs seats
+    on = reseat-free (Tried x c noted purpose a) (Looping x purpose) fs seats
 
-    handed : Placed (lifted (hand_on_step x c purpose p)) fs k
+    handed : Placed (lifted (hand_on_step x c noted purpose p)) fs k
     handed = by_test (is_below (owner_of p.rows c) (Of x))
-        (λ t. let may = heir-placed x c _ fs p s t in
-        let w = total-placed burden p (heir p.rows x c) c may.row may.is refl in rw t (on, omega (arith, w, l)))
+        (λ t. let may = heir-placed x c noted _ fs p s t in
+        let w = total-placed burden p (heir p.rows x c noted) c may.row may.is refl in rw t (on, omega (arith, w, l)))
         (λ t. rw t (on, l))
 
-    each : (b : FreeReply) → Placed (step (frame.Free (Tried x c purpose b)) p) fs k
+    each : (b : FreeReply) → Placed (step (frame.Free (Tried x c noted purpose b)) p) fs k
     each Ok = (on, l)
+    each Held = handed
     each Running = handed
     each (Refused v) = handed
 
 pub placed-kept : (f : Frame) (fs : List Frame) (p : Pool) (k : ℕ) → Sound f fs p → Seated f fs → Light f fs p → Placed (step f p) fs k
 placed-kept (frame.Call (Asking q)) fs p k s b l = asking-placed q fs p k b l
-placed-kept (frame.Call (Doing q c)) fs p k s b l = doing-placed q c fs p k b l
+placed-kept (frame.Call (Doing q c)) fs p k s b l = doing-placed q c fs p k s b l
 placed-kept (frame.Call (Awaiting q x)) fs p k s b l = absurd s.rests
+placed-kept (frame.Call (Warning q x r)) fs p k s b l = (reseat-later q x r fs b, l)
 placed-kept (frame.Call (Telling q r)) fs p k s b l = (reseat (frame.Call (Telling q r)) (frame.Call (Asking q)) fs (λ z. z) (λ z. z) (λ z. z) b, l)
 placed-kept (frame.Call (Returning v)) fs p k s b l = over (Returned v) (frame.Call (Returning v)) fs p k s.waiting b l
-placed-kept (frame.Free (Beginning x)) fs p k s b l = beginning-placed x fs p k s.waiting b l
+placed-kept (frame.Free (Unlinking o x)) fs p k s b l = unlinking-placed o x fs p k s b l
+placed-kept (frame.Free (Releasing x)) fs p k s b l = releasing-placed x fs p k s b l
+placed-kept (frame.Free (Giving x o)) fs p k s b l = let w = total-placed burden p o x s.rests.row s.rests.is refl in (reseat-free (Giving x o) (Ending Ok) fs b, omega (arith, w, l))
+placed-kept (frame.Free (Beginning x)) fs p k s b l = beginning-placed x fs p k s b l
 placed-kept (frame.Free (Hooked x h)) fs p k s b l = ((tt, b), omega (arith, l))
 placed-kept (frame.Free (Judged x h v)) fs p k s b l = judged-placed x h v fs p k s b l
 placed-kept (frame.Free (Leaving x h)) fs p k s b l = leaving-placed x h fs p k s b l
 placed-kept (frame.Free (Looping x purpose)) fs p k s b l = looping-placed x purpose fs p k s b l
-placed-kept (frame.Free (Trying x c purpose)) fs p k s b l = absurd s.rests
-placed-kept (frame.Free (Tried x c purpose a)) fs p k s b l = tried-placed x c purpose a fs p k s b l
+placed-kept (frame.Free (Trying x c noted purpose)) fs p k s b l = absurd s.rests
+placed-kept (frame.Free (Tried x c noted purpose a)) fs p k s b l = tried-placed x c noted purpose a fs p k s b l
 placed-kept (frame.Free (Ending answer)) fs p k s b l = over (Freed answer) (frame.Free (Ending answer)) fs p k s.waiting b l
 
 -- ---- the measure against the number of turns
@@ -286,15 +363,19 @@ below-light (f ∷ fs) = let ih = below-light fs in omega (arith, ih, one f)
     one (frame.Call (Asking q)) = omega arith
     one (frame.Call (Doing q c)) = omega arith
     one (frame.Call (Awaiting q x)) = omega arith
+    one (frame.Call (Warning q x r)) = omega arith
     one (frame.Call (Telling q r)) = omega arith
     one (frame.Call (Returning v)) = omega arith
+    one (frame.Free (Unlinking o x)) = omega arith
+    one (frame.Free (Releasing x)) = omega arith
+    one (frame.Free (Giving x o)) = omega arith
     one (frame.Free (Beginning x)) = omega arith
     one (frame.Free (Hooked x h)) = omega arith
     one (frame.Free (Judged x h v)) = omega arith
     one (frame.Free (Leaving x h)) = omega arith
     one (frame.Free (Looping x purpose)) = omega arith
-    one (frame.Free (Trying x c purpose)) = omega arith
-    one (frame.Free (Tried x c purpose a)) = omega arith
+    one (frame.Free (Trying x c noted purpose)) = omega arith
+    one (frame.Free (Tried x c noted purpose a)) = omega arith
     one (frame.Free (Ending a)) = omega arith
 
 burden-most : (rs : List Row) → total burden rs ≤ 3 * length rs
@@ -316,22 +397,22 @@ top-most : (R : ℕ) (f : Frame) (fs : List Frame) (rows : List Row) → length 
 top-most R (frame.Call (Asking q)) fs rows h = omega arith
 top-most R (frame.Call (Doing q c)) fs rows h = omega arith
 top-most R (frame.Call (Awaiting q x)) fs rows h = omega arith
+top-most R (frame.Call (Warning q x r)) fs rows h = omega arith
 top-most R (frame.Call (Telling q r)) fs rows h = omega arith
 top-most R (frame.Call (Returning v)) fs rows h = omega arith
-top-most R (frame.Free (Beginning x)) fs rows h = let m = kids-most fs in omega arith
-  where
-    kids-most : (fs : List Frame) → loop_kids rows fs ≤ 4 * R
-    kids-most [] = omega arith
-    kids-most (frame.Free (Trying y c purpose) ∷ fs) = let n = count-length rows (Of y) in omega arith
-    kids-most (g ∷ fs) = omega arith
+top-most R (frame.Free (Unlinking o x)) fs rows h = let m = kids-most R rows fs h in omega arith
+top-most R (frame.Free (Releasing x)) fs rows h = let m = kids-most R rows fs h in omega arith
+top-most R (frame.Free (Giving x o)) fs rows h = omega arith
+top-most R (frame.Free (Beginning x)) fs rows h = let m = kids-most R rows fs h in omega arith
 top-most R (frame.Free (Hooked x k)) fs rows h = omega arith
 top-most R (frame.Free (Judged x k v)) fs rows h = omega arith
 top-most R (frame.Free (Leaving x k)) fs rows h = omega arith
 top-most R (frame.Free (Looping x purpose)) fs rows h = let n = count-length rows (Of x) in omega arith
-top-most R (frame.Free (Trying x c purpose)) fs rows h = omega arith
-top-most R (frame.Free (Tried x c purpose Ok)) fs rows h = let n = count-length rows (Of x) in omega arith
-top-most R (frame.Free (Tried x c purpose Running)) fs rows h = let n = count-length rows (Of x) in omega arith
-top-most R (frame.Free (Tried x c purpose (Refused v))) fs rows h = let n = count-length rows (Of x) in omega arith
+top-most R (frame.Free (Trying x c noted purpose)) fs rows h = omega arith
+top-most R (frame.Free (Tried x c noted purpose Ok)) fs rows h = let n = count-length rows (Of x) in omega arith
+top-most R (frame.Free (Tried x c noted purpose Held)) fs rows h = let n = count-length rows (Of x) in omega arith
+top-most R (frame.Free (Tried x c noted purpose Running)) fs rows h = let n = count-length rows (Of x) in omega arith
+top-most R (frame.Free (Tried x c noted purpose (Refused v))) fs rows h = let n = count-length rows (Of x) in omega arith
 top-most R (frame.Free (Ending a)) fs rows h = omega arith
 
 numbers : (r k w z d e : ℕ) → w ≤ 2 * r → z ≤ 3 * r + 2 → d ≤ 3 * z → e ≤ 16 * (r + 2 * k + 2) + 52
@@ -351,6 +432,7 @@ pub pending-most : (f : Frame) → pending f ≤ 2
 pending-most (frame.Call (Asking q)) = omega arith
 pending-most (frame.Call (Doing q c)) = omega arith
 pending-most (frame.Call (Awaiting q x)) = omega arith
+pending-most (frame.Call (Warning q x r)) = omega arith
 pending-most (frame.Call (Telling q r)) = omega arith
 pending-most (frame.Call (Returning v)) = omega arith
 pending-most (frame.Free f) = omega arith

@@ -1,4 +1,6 @@
 -- The machine does what the rules' text says.
+use Rattle.tree_specs.specs.declared.object.Owner.{Owner}
+use Rattle.tree_specs.specs.Targets.{newest_ref}
 use Rattle.std.proofs.Common.{◌≡◌, ℕ, suc, zero, nat_eq, List, [], ◌∷◌, Option, Some, None, refl, inl, inr}
 use Rattle.step_machine.specs.Machine.{Move, Table, Outcome, after, run}
 use Rattle.step_machine.specs.Noted.{Noted, noted, noted_move}
@@ -18,22 +20,22 @@ use Rattle.tree_specs.specs.declared.question.Input.{Input}
 use Rattle.tree_specs.specs.declared.question.Input.TheVariants as input
 use Rattle.tree_specs.specs.declared.frame.Frame.{Frame}
 use Rattle.tree_specs.specs.declared.frame.Frame.TheVariants as frame
-use Rattle.tree_specs.specs.declared.frame.CallFrame.TheVariants.{Asking, Doing, Awaiting, Telling, Returning}
-use Rattle.tree_specs.specs.declared.frame.FreeFrame.TheVariants.{Beginning, Hooked, Judged, Leaving, Looping, Trying, Tried, Ending}
+use Rattle.tree_specs.specs.declared.frame.CallFrame.TheVariants.{Asking, Doing, Awaiting, Warning, Telling, Returning}
+use Rattle.tree_specs.specs.declared.frame.FreeFrame.TheVariants.{Unlinking, Releasing, Giving, Beginning, Hooked, Judged, Leaving, Looping, Trying, Tried, Ending}
 use Rattle.tree_specs.specs.declared.frame.Purpose.{Purpose}
 use Rattle.tree_specs.specs.declared.frame.Purpose.TheVariants.{Removal, Emptying}
 use Rattle.tree_specs.specs.declared.frame.Answer.{Answer}
 use Rattle.tree_specs.specs.declared.frame.Answer.TheVariants.{Freed, Returned}
 use Rattle.tree_specs.specs.declared.free_step.FreeReply.{FreeReply}
-use Rattle.tree_specs.specs.declared.free_step.FreeReply.TheVariants.{Ok, Running, Refused}
-use Rattle.tree_specs.specs.Pool.{Pool, row_of, is_below, owner_of, first_kid, remove}
+use Rattle.tree_specs.specs.declared.free_step.FreeReply.TheVariants.{Ok, Running, Refused, Held}
+use Rattle.tree_specs.specs.Pool.{Pool, row_of, is_below, owner_of, first_kid, remove, target_at, newest_ref_of, is_inside}
 use Rattle.tree_specs.specs.Items.{Item}
 use Rattle.tree_specs.specs.Items.Item.{Told}
 use Rattle.tree_specs.specs.Soundness.{is_sound_call, is_return}
 use Rattle.tree_specs.specs.Calls.{Check, refusals}
 use Rattle.tree_specs.specs.Works.{Work, Scene, Begun, ◌>>=◌, ◌>>◌, gives, change, tells}
-use Rattle.tree_specs.specs.Story.{free, hooked, judged, leave, children, tried, asked, acting, telling, returning}
-use Rattle.tree_specs.specs.Table.{table, notes, step, lifted, begin_step, judge_step, loop_step, tried_step, call_step}
+use Rattle.tree_specs.specs.Story.{free, hooked, judged, leave, children, tried, asked, acting, telling, returning, warns, warning, unlink, release, given}
+use Rattle.tree_specs.specs.Table.{table, notes, step, lifted, judge_step, loop_step, tried_step, call_step, refs_step, unlink_step, release_step}
 use Rattle.tree_specs.proofs.Numbered.{by_test}
 
 ruleset laws = (followed-tell, followed-tells, followed-followed)
@@ -69,15 +71,19 @@ abbrev pub mean : ℕ → Frame → Option Begun → Work Answer
 mean n (frame.Call (Asking q)) b = returned (asked n q)
 mean n (frame.Call (Doing q c)) b = returned (acting n q c)
 mean n (frame.Call (Awaiting q x)) b = gives (Freed Ok)
+mean n (frame.Call (Warning q x r)) b = returned (warning n b q x r)
 mean n (frame.Call (Telling q r)) b = returned (telling n b q r)
 mean n (frame.Call (Returning v)) b = returned (returning n v)
+mean n (frame.Free (Unlinking o x)) b = freed (unlink n o x)
+mean n (frame.Free (Releasing x)) b = freed (release n x)
+mean n (frame.Free (Giving x o)) b = freed (given n x o)
 mean n (frame.Free (Beginning x)) b = freed (free n x)
 mean n (frame.Free (Hooked x h)) b = freed (hooked n x h)
 mean n (frame.Free (Judged x h v)) b = freed (judged n x h v)
 mean n (frame.Free (Leaving x h)) b = freed (leave n x h)
 mean n (frame.Free (Looping x purpose)) b = looped x purpose (children n x)
-mean n (frame.Free (Trying x c purpose)) b = gives (Freed Ok)
-mean n (frame.Free (Tried x c purpose a)) b = looped x purpose (tried n x c a)
+mean n (frame.Free (Trying x c noted purpose)) b = gives (Freed Ok)
+mean n (frame.Free (Tried x c noted purpose a)) b = looped x purpose (tried n x c noted a)
 mean n (frame.Free (Ending a)) b = gives (Freed a)
 
 abbrev pub noted_mean : ℕ → Noted Frame Begun → Work Answer
@@ -105,15 +111,22 @@ doing-turn : (n : ℕ) (q : Ask) (c : Call) (b : Option Begun) (p : Pool) (is : 
     → Below (Turn n (frame.Call (Doing q c)) b (call_step (refusals p c) q c p) p is) (mean (suc n) (frame.Call (Doing q c)) b p is)
 doing-turn n q c b p is = each c (refusals p c) refl
   where
+    free : (x : Obj) (o : Option Obj) → refusals p (call.Free x) ≡ [] → newest_ref p.rows x ≡ o
+        → Below (Turn n (frame.Call (Doing q (call.Free x))) b (call_step (refusals p (call.Free x)) q (call.Free x) p) p is) (mean (suc n) (frame.Call (Doing q (call.Free x))) b p is)
+    free x None e k = rw (e, k) (inr (simp laws))
+    free x (Some r) e k = rw (e, k) (inr (simp laws))
+
     each : (c : Call) (check : Check) → refusals p c ≡ check
         → Below (Turn n (frame.Call (Doing q c)) b (call_step (refusals p c) q c p) p is) (mean (suc n) (frame.Call (Doing q c)) b p is)
     each c (why ∷ later) e = rw e (inr refl)
     each (call.New o size name) [] e = rw e (inr refl)
-    each (call.Free x) [] e = rw e (inr (simp laws))
+    each (call.Free x) [] e = free x (newest_ref p.rows x) e refl
     each (call.Freekids x) [] e = rw e (inr (simp laws))
-    each (call.Steal o x) [] e = rw e (inr refl)
-    each (call.Move o x) [] e = rw e (inr refl)
+    each (call.Steal o x) [] e = by_test (warns p o x) (λ t. rw (e, t) (inr refl)) (λ t. rw (e, t) (inr refl))
+    each (call.Move o x) [] e = by_test (warns p o x) (λ t. rw (e, t) (inr refl)) (λ t. rw (e, t) (inr refl))
     each (call.Reparent from to x) [] e = rw e (inr refl)
+    each (call.Reference o x) [] e = rw e (inr refl)
+    each (call.Unlink o x) [] e = rw e (inr (simp laws))
     each (call.Hook x h) [] e = rw e (inr refl)
     each (call.Unhook x) [] e = rw e (inr refl)
     each (call.Rename x name) [] e = rw e (inr refl)
@@ -123,21 +136,41 @@ doing-turn n q c b p is = each c (refusals p c) refl
     each (call.Report o) [] e = rw e (inr refl)
 
 beginning-turn : (n : ℕ) (x : Obj) (b : Option Begun) (p : Pool) (is : List Input)
-    → Below (Turn n (frame.Free (Beginning x)) b (lifted (begin_step x (row_of p.rows x) p)) p is) (freed (free (suc n) x) p is)
-beginning-turn n x b p is = each (row_of p.rows x) refl
+    → Below (Turn n (frame.Free (Beginning x)) b (lifted (refs_step x (newest_ref p.rows x) p)) p is) (freed (free (suc n) x) p is)
+beginning-turn n x b p is = newest (newest_ref p.rows x) refl
   where
-    marks : (r : Row) (m : Mark) → r.mark ≡ m → row_of p.rows x ≡ Some r
-        → Below (Turn n (frame.Free (Beginning x)) b (lifted (begin_step x (row_of p.rows x) p)) p is) (freed (free (suc n) x) p is)
-    marks r Quiet m e = by_test (nat_eq r.hook 0) (λ t. rw (e, m, t) (inr refl)) (λ t. rw (e, m, t) (inr refl))
-    marks r Asked m e = rw (e, m) (inr refl)
-    marks r Busy m e = rw (e, m) (inr refl)
-    marks r Doomed m e = rw (e, m) (inr refl)
-    marks r (Dying former) m e = rw (e, m) (inr refl)
+    marks : newest_ref p.rows x ≡ None → (r : Row) (m : Mark) → r.mark ≡ m → row_of p.rows x ≡ Some r
+        → Below (Turn n (frame.Free (Beginning x)) b (lifted (refs_step x (newest_ref p.rows x) p)) p is) (freed (free (suc n) x) p is)
+    marks k r Quiet m e = by_test (nat_eq r.hook 0) (λ t. rw (k, e, m, t) (inr refl)) (λ t. rw (k, e, m, t) (inr refl))
+    marks k r Asked m e = rw (k, e, m) (inr refl)
+    marks k r Busy m e = rw (k, e, m) (inr refl)
+    marks k r Doomed m e = rw (k, e, m) (inr refl)
+    marks k r (Dying former) m e = rw (k, e, m) (inr refl)
 
-    each : (o : Option Row) → row_of p.rows x ≡ o
-        → Below (Turn n (frame.Free (Beginning x)) b (lifted (begin_step x (row_of p.rows x) p)) p is) (freed (free (suc n) x) p is)
-    each None e = rw e (inr refl)
-    each (Some r) e = marks r r.mark refl e
+    each : newest_ref p.rows x ≡ None → (o : Option Row) → row_of p.rows x ≡ o
+        → Below (Turn n (frame.Free (Beginning x)) b (lifted (refs_step x (newest_ref p.rows x) p)) p is) (freed (free (suc n) x) p is)
+    each k None e = rw (k, e) (inr refl)
+    each k (Some r) e = marks k r r.mark refl e
+
+    newest : (o : Option Obj) → newest_ref p.rows x ≡ o → Below (Turn n (frame.Free (Beginning x)) b (lifted (refs_step x (newest_ref p.rows x) p)) p is) (freed (free (suc n) x) p is)
+    newest None k = each k (row_of p.rows x) refl
+    newest (Some r) k = by_test (is_inside p.rows (Of r) (Of x)) (λ t. rw (k, t) (inr (simp laws))) (λ t. rw (k, t) (inr (simp laws)))
+
+unlinking-turn : (n : ℕ) (o : Owner) (x : Obj) (b : Option Begun) (p : Pool) (is : List Input)
+    → Below (Turn n (frame.Free (Unlinking o x)) b (lifted (unlink_step x (newest_ref_of p.rows o x) p)) p is) (freed (unlink (suc n) o x) p is)
+unlinking-turn n o x b p is = each (newest_ref_of p.rows o x) refl
+  where
+    each : (r : Option Obj) → newest_ref_of p.rows o x ≡ r → Below (Turn n (frame.Free (Unlinking o x)) b (lifted (unlink_step x (newest_ref_of p.rows o x) p)) p is) (freed (unlink (suc n) o x) p is)
+    each None k = rw k (inr refl)
+    each (Some r) k = rw k (inr (simp laws))
+
+releasing-turn : (n : ℕ) (x : Obj) (b : Option Begun) (p : Pool) (is : List Input)
+    → Below (Turn n (frame.Free (Releasing x)) b (lifted (release_step x (newest_ref p.rows x) p)) p is) (freed (release (suc n) x) p is)
+releasing-turn n x b p is = each (newest_ref p.rows x) refl
+  where
+    each : (r : Option Obj) → newest_ref p.rows x ≡ r → Below (Turn n (frame.Free (Releasing x)) b (lifted (release_step x (newest_ref p.rows x) p)) p is) (freed (release (suc n) x) p is)
+    each None k = rw k (inr refl)
+    each (Some r) k = by_test (is_inside p.rows (Of r) (Of x)) (λ t. rw (k, t) (inr (simp laws))) (λ t. rw (k, t) (inr (simp laws)))
 
 judged-turn : (n : ℕ) (x : Obj) (h v : ℕ) (b : Option Begun) (p : Pool) (is : List Input)
     → Below (Turn n (frame.Free (Judged x h v)) b (lifted (judge_step x h v p)) p is) (freed (judged (suc n) x h v) p is)
@@ -147,36 +180,51 @@ looping-turn : (n : ℕ) (x : Obj) (purpose : Purpose) (b : Option Begun) (p : P
     → Below (Turn n (frame.Free (Looping x purpose)) b (lifted (loop_step x purpose (first_kid p.rows (Of x)) p)) p is) (looped x purpose (children (suc n) x) p is)
 looping-turn n x purpose b p is = each purpose (first_kid p.rows (Of x)) refl
   where
+    child : (purpose : Purpose) (c : Obj) (t : Option Obj) → target_at p.rows c ≡ t → first_kid p.rows (Of x) ≡ Some c
+        → Below (Turn n (frame.Free (Looping x purpose)) b (lifted (loop_step x purpose (first_kid p.rows (Of x)) p)) p is) (looped x purpose (children (suc n) x) p is)
+    child (Removal h) c None k e = rw (e, k) (inr (simp laws))
+    child Emptying c None k e = rw (e, k) (inr (simp laws))
+    child (Removal h) c (Some t) k e = rw (e, k) (inr (simp laws))
+    child Emptying c (Some t) k e = rw (e, k) (inr (simp laws))
+
     each : (purpose : Purpose) (o : Option Obj) → first_kid p.rows (Of x) ≡ o
         → Below (Turn n (frame.Free (Looping x purpose)) b (lifted (loop_step x purpose (first_kid p.rows (Of x)) p)) p is) (looped x purpose (children (suc n) x) p is)
     each (Removal h) None e = rw e (inr refl)
     each Emptying None e = rw e (inr refl)
-    each (Removal h) (Some c) e = rw e (inr (simp laws))
-    each Emptying (Some c) e = rw e (inr (simp laws))
+    each purpose (Some c) e = child purpose c (target_at p.rows c) refl e
 
-tried-turn : (n : ℕ) (x c : Obj) (purpose : Purpose) (a : FreeReply) (b : Option Begun) (p : Pool) (is : List Input)
-    → Below (Turn n (frame.Free (Tried x c purpose a)) b (lifted (tried_step x c purpose a p)) p is) (looped x purpose (tried (suc n) x c a) p is)
-tried-turn n x c (Removal h) Ok b p is = inr refl
-tried-turn n x c Emptying Ok b p is = inr refl
-tried-turn n x c (Removal h) Running b p is = by_test (is_below (owner_of p.rows c) (Of x)) (λ t. rw t (inr (simp laws))) (λ t. rw t (inr refl))
-tried-turn n x c Emptying Running b p is = by_test (is_below (owner_of p.rows c) (Of x)) (λ t. rw t (inr (simp laws))) (λ t. rw t (inr refl))
-tried-turn n x c (Removal h) (Refused v) b p is = by_test (is_below (owner_of p.rows c) (Of x)) (λ t. rw t (inr (simp laws))) (λ t. rw t (inr refl))
-tried-turn n x c Emptying (Refused v) b p is = by_test (is_below (owner_of p.rows c) (Of x)) (λ t. rw t (inr (simp laws))) (λ t. rw t (inr refl))
+tried-turn : (n : ℕ) (x c : Obj) (noted : Option Owner) (purpose : Purpose) (a : FreeReply) (b : Option Begun) (p : Pool) (is : List Input)
+    → Below (Turn n (frame.Free (Tried x c noted purpose a)) b (lifted (tried_step x c noted purpose a p)) p is) (looped x purpose (tried (suc n) x c noted a) p is)
+tried-turn n x c noted purpose a b p is = each purpose a
+  where
+    each : (purpose : Purpose) (a : FreeReply) → Below (Turn n (frame.Free (Tried x c noted purpose a)) b (lifted (tried_step x c noted purpose a p)) p is) (looped x purpose (tried (suc n) x c noted a) p is)
+    each (Removal h) Ok = inr refl
+    each Emptying Ok = inr refl
+    each (Removal h) Held = by_test (is_below (owner_of p.rows c) (Of x)) (λ t. rw t (inr (simp laws))) (λ t. rw t (inr refl))
+    each Emptying Held = by_test (is_below (owner_of p.rows c) (Of x)) (λ t. rw t (inr (simp laws))) (λ t. rw t (inr refl))
+    each (Removal h) Running = by_test (is_below (owner_of p.rows c) (Of x)) (λ t. rw t (inr (simp laws))) (λ t. rw t (inr refl))
+    each Emptying Running = by_test (is_below (owner_of p.rows c) (Of x)) (λ t. rw t (inr (simp laws))) (λ t. rw t (inr refl))
+    each (Removal h) (Refused v) = by_test (is_below (owner_of p.rows c) (Of x)) (λ t. rw t (inr (simp laws))) (λ t. rw t (inr refl))
+    each Emptying (Refused v) = by_test (is_below (owner_of p.rows c) (Of x)) (λ t. rw t (inr (simp laws))) (λ t. rw t (inr refl))
 
 -- one turn of the machine is one turn of the text
 pub turn : (n : ℕ) (f : Frame) (b : Option Begun) (p : Pool) (is : List Input) → Below (Turn n f b (step f p) p is) (mean (suc n) f b p is)
 turn n (frame.Call (Asking q)) b p is = asking-turn n q b p is
 turn n (frame.Call (Doing q c)) b p is = doing-turn n q c b p is
 turn n (frame.Call (Awaiting q x)) b p is = inr refl
+turn n (frame.Call (Warning q x r)) b p is = inr (simp laws)
 turn n (frame.Call (Telling q r)) b p is = inr (simp laws)
 turn n (frame.Call (Returning v)) b p is = inr refl
+turn n (frame.Free (Unlinking o x)) b p is = unlinking-turn n o x b p is
+turn n (frame.Free (Releasing x)) b p is = releasing-turn n x b p is
+turn n (frame.Free (Giving x o)) b p is = inr (simp laws)
 turn n (frame.Free (Beginning x)) b p is = beginning-turn n x b p is
 turn n (frame.Free (Hooked x h)) b p is = inr (simp laws)
 turn n (frame.Free (Judged x h v)) b p is = judged-turn n x h v b p is
 turn n (frame.Free (Leaving x h)) b p is = inr (simp laws)
 turn n (frame.Free (Looping x purpose)) b p is = looping-turn n x purpose b p is
-turn n (frame.Free (Trying x c purpose)) b p is = inr refl
-turn n (frame.Free (Tried x c purpose a)) b p is = tried-turn n x c purpose a b p is
+turn n (frame.Free (Trying x c noted purpose)) b p is = inr refl
+turn n (frame.Free (Tried x c noted purpose a)) b p is = tried-turn n x c noted purpose a b p is
 turn n (frame.Free (Ending a)) b p is = inr refl
 
 -- the machine's run of a work is what the text says of it

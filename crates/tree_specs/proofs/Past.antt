@@ -6,17 +6,17 @@ use Rattle.std.proofs.lemmas.List.Folds.{list_any-append}
 use Rattle.std.proofs.Math.Bool.{or-false}
 use Rattle.tree_specs.specs.declared.object.Obj.{Obj}
 use Rattle.tree_specs.specs.declared.row.Row.{Row}
-use Rattle.tree_specs.specs.declared.event.Event.TheVariants.{Accepted, Freed}
+use Rattle.tree_specs.specs.declared.event.Event.TheVariants.{Accepted, Freed, Unreferenced}
 use Rattle.tree_specs.specs.declared.frame.Frame.{Frame}
 use Rattle.tree_specs.specs.declared.frame.Frame.TheVariants as frame
-use Rattle.tree_specs.specs.declared.frame.FreeFrame.TheVariants.{Beginning, Hooked, Judged, Leaving, Looping, Trying, Tried, Ending}
+use Rattle.tree_specs.specs.declared.frame.FreeFrame.TheVariants.{Unlinking, Releasing, Giving, Beginning, Hooked, Judged, Leaving, Looping, Trying, Tried, Ending}
 use Rattle.tree_specs.specs.declared.frame.Purpose.{Purpose}
 use Rattle.tree_specs.specs.declared.frame.Purpose.TheVariants.{Removal, Emptying}
 use Rattle.tree_specs.specs.Objects.{same}
 use Rattle.tree_specs.specs.Pool.{Pool, row_of}
 use Rattle.tree_specs.specs.Items.{Item}
 use Rattle.tree_specs.specs.Items.Item.{Told}
-use Rattle.tree_specs.specs.Orderly.{accepts, frees}
+use Rattle.tree_specs.specs.Orderly.{accepts, frees, drops}
 use Rattle.tree_specs.specs.Sound.{IsLive, Phase, InLoop, loop_claim, claim, claims, IsWaiting, AllWait}
 use Rattle.tree_specs.proofs.Numbered.{by_test, same-equal, same-false, same_or_not}
 use Rattle.tree_specs.proofs.Later.{IsDying, IsPast, Later, live-not-dying}
@@ -38,8 +38,8 @@ AsRemoved items x Emptying = Unit {0}
 abbrev pub Accounts : List Item → Frame → Type 0
 Accounts items (frame.Free (Leaving x h)) = AsAccepted items x h
 Accounts items (frame.Free (Looping x purpose)) = AsRemoved items x purpose
-Accounts items (frame.Free (Trying x c purpose)) = AsRemoved items x purpose
-Accounts items (frame.Free (Tried x c purpose a)) = AsRemoved items x purpose
+Accounts items (frame.Free (Trying x c noted purpose)) = AsRemoved items x purpose
+Accounts items (frame.Free (Tried x c noted purpose a)) = AsRemoved items x purpose
 Accounts items f = Unit {0}
 
 abbrev pub AllAccount : List Item → List Frame → Type 0
@@ -49,6 +49,8 @@ AllAccount items (f ∷ fs) = Accounts items f × AllAccount items fs
 pub record Past (items : List Item) (f : Frame) (fs : List Frame) (p : Pool) : Type 0 where
   -- what was told as freed is no more
   pub gone : (x : Obj) → list_any (frees x) items ≡ true → (x.0 < p.next) × (row_of p.rows x ≡ None)
+  -- so is what was told as dropped
+  pub dropped : (r : Obj) → list_any (drops r) items ≡ true → (r.0 < p.next) × (row_of p.rows r ≡ None)
   -- what has accepted is no more, is dying, or leaves its owner now
   pub spent : (x : Obj) → list_any (accepts x) items ≡ true → (x.0 < p.next) × (IsPast (row_of p.rows x) ⊎ IsLeaving f x)
   pub accounts : Accounts items f
@@ -78,8 +80,8 @@ RemovesFor Emptying x y = ⊥
 abbrev Removes : Frame → Obj → Type 0
 Removes (frame.Free (Leaving x h)) y = x ≡ y
 Removes (frame.Free (Looping x purpose)) y = RemovesFor purpose x y
-Removes (frame.Free (Trying x c purpose)) y = RemovesFor purpose x y
-Removes (frame.Free (Tried x c purpose a)) y = RemovesFor purpose x y
+Removes (frame.Free (Trying x c noted purpose)) y = RemovesFor purpose x y
+Removes (frame.Free (Tried x c noted purpose a)) y = RemovesFor purpose x y
 Removes f y = ⊥
 
 abbrev AnyRemoves : List Frame → Obj → Type 0
@@ -94,8 +96,11 @@ removed-more items e x Emptying other a = tt
 accounts-more : (items : List Item) (e : Item) (f : Frame) → ((y : Obj) → Removes f y → accepts y e ≡ false) → Accounts items f → Accounts (items ++ e ∷ []) f
 accounts-more items e (frame.Free (Leaving x h)) other a = any-as-before (accepts x) items e (other x refl) ∙ a
 accounts-more items e (frame.Free (Looping x purpose)) other a = removed-more items e x purpose other a
-accounts-more items e (frame.Free (Trying x c purpose)) other a = removed-more items e x purpose other a
-accounts-more items e (frame.Free (Tried x c purpose b)) other a = removed-more items e x purpose other a
+accounts-more items e (frame.Free (Trying x c noted purpose)) other a = removed-more items e x purpose other a
+accounts-more items e (frame.Free (Tried x c noted purpose b)) other a = removed-more items e x purpose other a
+accounts-more items e (frame.Free (Unlinking o x)) other a = tt
+accounts-more items e (frame.Free (Releasing x)) other a = tt
+accounts-more items e (frame.Free (Giving x o)) other a = tt
 accounts-more items e (frame.Free (Beginning x)) other a = tt
 accounts-more items e (frame.Free (Hooked x h)) other a = tt
 accounts-more items e (frame.Free (Judged x h v)) other a = tt
@@ -130,9 +135,12 @@ unclaimed x (f ∷ fs) w e r = elim r [
       where
         claimed-by : (g : Frame) → IsWaiting g fs → Removes g x → claim x g ≡ [] → ⊥
         claimed-by (frame.Free (Looping y purpose)) w r e = looped y purpose e r
-        claimed-by (frame.Free (Trying y c purpose)) w r e = looped y purpose e r
-        claimed-by (frame.Free (Tried y c purpose a)) w r e = looped y purpose e r
+        claimed-by (frame.Free (Trying y c noted purpose)) w r e = looped y purpose e r
+        claimed-by (frame.Free (Tried y c noted purpose a)) w r e = looped y purpose e r
         claimed-by (frame.Free (Leaving y h)) w r e = w
+        claimed-by (frame.Free (Unlinking o y)) w r e = r
+        claimed-by (frame.Free (Releasing y)) w r e = r
+        claimed-by (frame.Free (Giving y o)) w r e = r
         claimed-by (frame.Free (Beginning y)) w r e = r
         claimed-by (frame.Free (Hooked y h)) w r e = r
         claimed-by (frame.Free (Judged y h v)) w r e = r
@@ -146,6 +154,7 @@ pub past-goes : (items : List Item) (f f' : Frame) (fs fs' : List Frame) (p q : 
     → ((x : Obj) → IsLeaving f x → IsPast (row_of q.rows x) ⊎ IsLeaving f' x) → Accounts items f' → AllAccount items fs' → Past items f' fs' q
 past-goes items f f' fs fs' p q past later leaves a all = record {
   gone = λ x t. let g = past.gone x t in let l : x.0 < p.next = g.0 in (omega (arith, later.grows), later.none x l g.1);
+  dropped = λ x t. let g = past.dropped x t in let l : x.0 < p.next = g.0 in (omega (arith, later.grows), later.none x l g.1);
   spent = λ x t. let s = past.spent x t in let l : x.0 < p.next = s.0 in (
     omega (arith, later.grows),
     elim s.1 [
@@ -158,10 +167,11 @@ past-goes items f f' fs fs' p q past later leaves a all = record {
 }
 
 -- an item that ends nothing
-pub past-tells : (items : List Item) (e : Item) (f : Frame) (fs : List Frame) (p : Pool) → ((x : Obj) → accepts x e ≡ false) → ((x : Obj) → frees x e ≡ false)
+pub past-tells : (items : List Item) (e : Item) (f : Frame) (fs : List Frame) (p : Pool) → ((x : Obj) → accepts x e ≡ false) → ((x : Obj) → frees x e ≡ false) → ((x : Obj) → drops x e ≡ false)
     → Past items f fs p → Past (items ++ e ∷ []) f fs p
-past-tells items e f fs p a g past = record {
+past-tells items e f fs p a g d past = record {
   gone = λ x t. past.gone x (sym (any-as-before (frees x) items e (g x)) ∙ t);
+  dropped = λ x t. past.dropped x (sym (any-as-before (drops x) items e (d x)) ∙ t);
   spent = λ x t. past.spent x (sym (any-as-before (accepts x) items e (a x)) ∙ t);
   accounts = accounts-more items e f (λ y r. a y) past.accounts;
   all_account = all-more items e fs (λ y r. a y) past.all_account;
@@ -174,6 +184,7 @@ past-accepts items x h v fs p q past later l pos wait none =
     let e : Item = Told (Accepted x) in
     let self : same x x ≡ true = same-equal x x refl in
     record {
+      dropped = λ y t. let g = past.dropped y (sym (any-as-before (drops y) items e refl) ∙ t) in let b : y.0 < p.next = g.0 in (omega (arith, later.grows), later.none y b g.1);
       gone = λ y t. let g = past.gone y (sym (any-as-before (frees y) items e refl) ∙ t) in let b : y.0 < p.next = g.0 in (omega (arith, later.grows), later.none y b g.1);
       spent = λ y t. elim (same_or_not x y) [
         | inl same_one ↦ (subst (λ (z : Obj). z.0 < q.next) same_one l, inr same_one)
@@ -202,6 +213,7 @@ past-frees items x h f' fs p q past later l none a =
         | inl same_one ↦ subst (λ (z : Obj). (z.0 < q.next) × (row_of q.rows z ≡ None)) same_one (l, none)
         | inr other ↦ let g = past.gone y (sym (any-as-before (frees y) items e (same-false x y other)) ∙ t) in let b : y.0 < p.next = g.0 in (omega (arith, later.grows), later.none y b g.1)
       ];
+      dropped = λ y t. let g = past.dropped y (sym (any-as-before (drops y) items e refl) ∙ t) in let b : y.0 < p.next = g.0 in (omega (arith, later.grows), later.none y b g.1);
       spent = λ y t. let s = past.spent y (sym (any-as-before (accepts y) items e refl) ∙ t) in let b : y.0 < p.next = s.0 in (
         omega (arith, later.grows),
         elim s.1 [
@@ -211,6 +223,28 @@ past-frees items x h f' fs p q past later l none a =
       );
       accounts = a;
       all_account = all-more items e fs (λ y r. refl) past.all_account;
+    }
+
+-- a reference is dropped
+pub past-drops : (items : List Item) (r t : Obj) (f f' : Frame) (fs : List Frame) (p q : Pool) → Past items f fs p → Later p q → r.0 < q.next → row_of q.rows r ≡ None
+    → ((x : Obj) → IsLeaving f x → ⊥) → Accounts (items ++ Told (Unreferenced r t) ∷ []) f' → Past (items ++ Told (Unreferenced r t) ∷ []) f' fs q
+past-drops items r t f f' fs p q past later l none stays a =
+    let e : Item = Told (Unreferenced r t) in
+    record {
+      gone = λ y u. let g = past.gone y (sym (any-as-before (frees y) items e refl) ∙ u) in let b : y.0 < p.next = g.0 in (omega (arith, later.grows), later.none y b g.1);
+      dropped = λ y u. elim (same_or_not r y) [
+        | inl same_one ↦ subst (λ (z : Obj). (z.0 < q.next) × (row_of q.rows z ≡ None)) same_one (l, none)
+        | inr other ↦ let g = past.dropped y (sym (any-as-before (drops y) items e (same-false r y other)) ∙ u) in let b : y.0 < p.next = g.0 in (omega (arith, later.grows), later.none y b g.1)
+      ];
+      spent = λ y u. let s = past.spent y (sym (any-as-before (accepts y) items e refl) ∙ u) in let b : y.0 < p.next = s.0 in (
+        omega (arith, later.grows),
+        elim s.1 [
+          | inl gone ↦ inl (later.past y b gone)
+          | inr now ↦ absurd (stays y now)
+        ],
+      );
+      accounts = a;
+      all_account = all-more items e fs (λ y u. refl) past.all_account;
     }
 
 -- ---- what a live object tells
@@ -229,4 +263,10 @@ unaccepted items f fs p x r past e live stays = by_test (list_any (accepts x) it
       | inl gone ↦ let d : IsDying r.mark = rw e at gone in absurd (live-not-dying r.mark live d)
       | inr now ↦ absurd (stays now)
     ])
+    (λ t. t)
+
+-- a row that is there was not dropped
+pub undropped : (items : List Item) (f : Frame) (fs : List Frame) (p : Pool) (x : Obj) (r : Row) → Past items f fs p → row_of p.rows x ≡ Some r → list_any (drops x) items ≡ false
+undropped items f fs p x r past e = by_test (list_any (drops x) items)
+    (λ t. let bad : Some r ≡ None = sym e ∙ (past.dropped x t).1 in cc)
     (λ t. t)

@@ -1,5 +1,8 @@
 -- The laws of the story still to come.
-use Rattle.std.proofs.Common.{◌≡◌, ℕ, suc, zero, ◌+◌, ◌*◌, ◌<◌, List, [], ◌∷◌, length, Option, Some, None, refl, sym, ◌∙◌, ap, subst, arith}
+use Rattle.tree_specs.specs.declared.reply.Reply.TheVariants as reply
+use Rattle.tree_specs.specs.declared.object.Obj.{Obj}
+use Rattle.tree_specs.specs.declared.reply.Reply.{Reply}
+use Rattle.std.proofs.Common.{◌≡◌, ℕ, suc, zero, ◌+◌, ◌*◌, ◌<◌, List, [], ◌∷◌, length, Option, Some, None, refl, sym, ◌∙◌, ap, subst, arith, Bool, true, false}
 use Rattle.step_machine.specs.Machine.{Move, Outcome, State, silent, tell, given, asks, leads, rest, walk, items as told_by}
 use Rattle.step_machine.specs.Machine.{Move as Do}
 use Rattle.step_machine.specs.Machine.Outcome.{Ended, Waits, Stray, Short}
@@ -9,7 +12,7 @@ use Rattle.step_machine.proofs.Open.{Asks, Asks-items, Stays, walk-asks, items-t
 use Rattle.tree_specs.specs.declared.question.Input.{Input}
 use Rattle.tree_specs.specs.declared.frame.Frame.{Frame}
 use Rattle.tree_specs.specs.declared.frame.Frame.TheVariants as frame
-use Rattle.tree_specs.specs.declared.frame.CallFrame.TheVariants.{Asking, Doing, Awaiting, Telling, Returning}
+use Rattle.tree_specs.specs.declared.frame.CallFrame.TheVariants.{Asking, Doing, Awaiting, Warning, Telling, Returning}
 use Rattle.tree_specs.specs.declared.frame.FreeFrame.{FreeFrame}
 use Rattle.tree_specs.specs.declared.frame.Answer.{Answer}
 use Rattle.tree_specs.specs.declared.free_step.FreeReply.{FreeReply}
@@ -18,19 +21,18 @@ use Rattle.tree_specs.specs.declared.call.Call.{Call}
 use Rattle.tree_specs.specs.declared.call.Call.TheVariants as call
 use Rattle.tree_specs.specs.declared.event.Event.{Event}
 use Rattle.tree_specs.specs.declared.question.Ask.{Ask}
-use Rattle.tree_specs.specs.Pool.{Pool}
+use Rattle.tree_specs.specs.Pool.{Pool, place}
 use Rattle.tree_specs.specs.Items.{Item, IsQuestion}
 use Rattle.tree_specs.specs.Items.Item.{Asked}
 use Rattle.tree_specs.specs.Calls.{Check, refusals}
-use Rattle.tree_specs.specs.Story.{turns}
-use Rattle.tree_specs.specs.Table.{table, step, free_step, event_of, announced, call_step, lifted, taken}
+use Rattle.tree_specs.specs.Story.{turns, warns}
+use Rattle.tree_specs.specs.Table.{table, step, free_step, event_of, announced, call_step, lifted, taken, placed_step}
 use Rattle.tree_specs.specs.Sound.{Sound, Rests}
 use Rattle.tree_specs.specs.Measure.{cost}
 use Rattle.tree_specs.specs.View.{View, rest_of}
 use Rattle.tree_specs.specs.Whole.{IsCaller, Seated, Whole}
 use Rattle.tree_specs.proofs.Keeps.{sound-kept}
 use Rattle.tree_specs.proofs.Falls.{Well, falls}
-use Rattle.tree_specs.proofs.Plainness.{StaysPlain, plain-kept}
 use Rattle.tree_specs.proofs.Load.{Placed, placed-kept, cost-turns, pending-most}
 
 abbrev pub outcome : View → List Input → Outcome Answer Pool Input Item
@@ -66,19 +68,18 @@ not-short v is h =
 -- ---- what a step keeps
 
 Leads-whole : (m : Move Frame Answer Pool Item) (fs : List Frame) (k : ℕ)
-    → Leads table (λ g gs q j. Sound g gs q) m fs k → Placed m fs k → StaysPlain m fs k → Leads table (λ g gs q j. Whole (record { innermost = g; below = gs; pool = q })) m fs k
-Leads-whole (Do.Done a p) [] k s l h = tt
-Leads-whole (Do.Done a p) (g ∷ gs) k s l h = record { sound = s; seated = l.0; light = l.1; plain = h }
-Leads-whole (Do.Go f p) fs k s l h = record { sound = s; seated = l.0; light = l.1; plain = h }
-Leads-whole (Do.Emit e f p) fs k s l h = record { sound = s; seated = l.0; light = l.1; plain = h }
-Leads-whole (Do.Wait q f p) fs zero s l h = tt
-Leads-whole (Do.Wait q f p) fs (suc k) s l h = λ i g e. record { sound = s i g e; seated = (l i g e).0; light = (l i g e).1; plain = h i g e }
-Leads-whole (Do.Call g f p) fs k s l h = record { sound = s; seated = l.0; light = l.1; plain = h }
+    → Leads table (λ g gs q j. Sound g gs q) m fs k → Placed m fs k → Leads table (λ g gs q j. Whole (record { innermost = g; below = gs; pool = q })) m fs k
+Leads-whole (Do.Done a p) [] k s l = tt
+Leads-whole (Do.Done a p) (g ∷ gs) k s l = record { sound = s; seated = l.0; light = l.1 }
+Leads-whole (Do.Go f p) fs k s l = record { sound = s; seated = l.0; light = l.1 }
+Leads-whole (Do.Emit e f p) fs k s l = record { sound = s; seated = l.0; light = l.1 }
+Leads-whole (Do.Wait q f p) fs zero s l = tt
+Leads-whole (Do.Wait q f p) fs (suc k) s l = λ i g e. record { sound = s i g e; seated = (l i g e).0; light = (l i g e).1 }
+Leads-whole (Do.Call g f p) fs k s l = record { sound = s; seated = l.0; light = l.1 }
 
 pub whole-kept : (v : View) (k : ℕ) → Whole v → Leads table (λ g gs q j. Whole (record { innermost = g; below = gs; pool = q })) (step v.innermost v.pool) v.below k
 whole-kept v k h =
     Leads-whole (step v.innermost v.pool) v.below k (sound-kept v.innermost v.below v.pool k h.sound) (placed-kept v.innermost v.below v.pool k h.sound h.seated h.light)
-    (plain-kept v.innermost v.below v.pool k h.plain)
 
 stays : (v : View) (k : ℕ) → Whole v
     → Leads table (λ g gs q j. Well (most v k) g gs q j × (cost (most v k) g gs q j < cost (most v k) v.innermost v.below v.pool k)) (step v.innermost v.pool) v.below k
@@ -161,6 +162,7 @@ open-items v q f p h is-wait = ap told_by (open-law v q f p h is-wait)
 
 -- the reply of a call is to be told
 abbrev pub IsTelling : Frame → Type 0
+IsTelling (frame.Call (Warning q x r)) = Unit {0}
 IsTelling (frame.Call (Telling q r)) = Unit {0}
 IsTelling (frame.Call (Asking q)) = ⊥
 IsTelling (frame.Call (Doing q c)) = ⊥
@@ -176,14 +178,20 @@ GoesOn (Do.Emit e f p) = ⊥
 GoesOn (Do.Wait q f p) = ⊥
 GoesOn (Do.Call g f p) = Unit {0}
 
+placed-goes_on : (b : Bool) (q : Ask) (x : Obj) (r : Reply) (p : Pool) → GoesOn (placed_step b q x r p)
+placed-goes_on true q x r p = tt
+placed-goes_on false q x r p = tt
+
 pub call-goes_on : (check : Check) (q : Ask) (c : Call) (p : Pool) → GoesOn (call_step check q c p)
 call-goes_on (why ∷ later) q c p = tt
 call-goes_on [] q (call.New o size name) p = tt
 call-goes_on [] q (call.Free x) p = tt
 call-goes_on [] q (call.Freekids x) p = tt
-call-goes_on [] q (call.Steal o x) p = tt
-call-goes_on [] q (call.Move o x) p = tt
+call-goes_on [] q (call.Steal o x) p = placed-goes_on (warns p o x) q x reply.Ok (place p o x)
+call-goes_on [] q (call.Move o x) p = placed-goes_on (warns p o x) q x (reply.Number x.0) (place p o x)
 call-goes_on [] q (call.Reparent from to x) p = tt
+call-goes_on [] q (call.Reference o x) p = tt
+call-goes_on [] q (call.Unlink o x) p = tt
 call-goes_on [] q (call.Hook x h) p = tt
 call-goes_on [] q (call.Unhook x) p = tt
 call-goes_on [] q (call.Rename x name) p = tt
@@ -207,6 +215,7 @@ free-waits (Do.Call f h q) p i g e = cc
 -- the host's own work doesn't end
 pub no-end : (f : Frame) (p q : Pool) (a : Answer) → IsCaller f → Rests f [] p → step f p ≡ Do.Done a q → ⊥
 no-end (frame.Call (Asking ask)) p q a h r e = cc
+no-end (frame.Call (Warning ask y x)) p q a h r e = cc
 no-end (frame.Call (Telling ask x)) p q a h r e = cc
 no-end (frame.Call (Awaiting ask x)) p q a h r e = r
 no-end (frame.Call (Returning v)) p q a h r e = h
@@ -216,6 +225,7 @@ no-end (frame.Free f) p q a h r e = h
 -- only a caller that is to be asked asks
 pub waits-asking : (f : Frame) (p q : Pool) (i : Item) (g : Frame) → step f p ≡ Do.Wait i g q → (ask : Ask) × (f ≡ frame.Call (Asking ask))
 waits-asking (frame.Call (Asking ask)) p q i g e = (ask, refl)
+waits-asking (frame.Call (Warning ask y x)) p q i g e = cc
 waits-asking (frame.Call (Telling ask x)) p q i g e = cc
 waits-asking (frame.Call (Awaiting ask x)) p q i g e = cc
 waits-asking (frame.Call (Returning v)) p q i g e = cc

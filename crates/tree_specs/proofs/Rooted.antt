@@ -1,5 +1,5 @@
 -- What keeps that all owners are there, and that from owner to owner one comes to an end.
-use Rattle.std.proofs.Common.{◌≡◌, ◌≢◌, ℕ, zero, suc, ◌+◌, List, [], ◌∷◌, length, Option, Some, None, true, false, is_some, refl, sym, ◌∙◌, ap, inl, inr, arith}
+use Rattle.std.proofs.Common.{◌≡◌, ◌≢◌, ℕ, zero, suc, ◌+◌, List, [], ◌∷◌, length, Option, Some, None, true, false, not, refl, sym, ◌∙◌, ap, inl, inr, arith}
 use Rattle.std.proofs.Math.Bool.{or-true}
 use Rattle.tree_specs.specs.declared.object.Obj.{Obj}
 use Rattle.tree_specs.specs.declared.object.Owner.{Owner}
@@ -7,9 +7,10 @@ use Rattle.tree_specs.specs.declared.object.Owner.TheVariants.{Root, Of}
 use Rattle.tree_specs.specs.declared.row.Row.{Row}
 use Rattle.tree_specs.specs.declared.kind.Kind.{Kind}
 use Rattle.tree_specs.specs.Objects.{same, same_owner}
-use Rattle.tree_specs.specs.Pool.{Pool, row_of, is_row, is_owner, is_below, first_kid, owner_in, owner_of, next_owner, reaches, is_inside, without, changed, new_row, left_row, place}
+use Rattle.tree_specs.specs.Targets.{is_reference}
+use Rattle.tree_specs.specs.Pool.{Pool, row_of, is_object_row, is_object, is_owner, is_below, first_kid, owner_in, owner_of, next_owner, reaches, is_inside, without, changed, new_row, left_row, place}
 use Rattle.tree_specs.specs.Forest.{Distinct, ends, Rooted, IsThere, OwnersAre, AllOwned, IsForest}
-use Rattle.tree_specs.proofs.Numbered.{by_test, same-equal, same-false, same_or_not, same_owner-true}
+use Rattle.tree_specs.proofs.Numbered.{by_test, same-true, same-equal, same-false, same_or_not, same_owner-true}
 use Rattle.tree_specs.proofs.Rows.{row_of-serial, row_of-changed-other, row_of-changed-same, row_of-changed-none, row_of-without-other, row_of-without-same, Distinct-without, Distinct-changed}
 -- ---- a test that may hold of more objects with each step settles within as many steps as there are rows
 use Rattle.tree_specs.proofs.Ancestry.{ends-more, ends-bound, reaches-inside}
@@ -32,12 +33,12 @@ reaches-is_owner rs (suc n) (Some o) y a h r = by_test (same_owner o y)
       there Root = tt
       there (Of x) = is_there-owner rs rs x a
 
-is_there-more : (rs qs : List Row) (o : Option Owner) → ((y : Obj) → is_row rs y ≡ true → is_row qs y ≡ true) → IsThere rs o → IsThere qs o
+is_there-more : (rs qs : List Row) (o : Option Owner) → ((y : Obj) → is_object rs y ≡ true → is_object qs y ≡ true) → IsThere rs o → IsThere qs o
 is_there-more rs qs None k h = tt
 is_there-more rs qs (Some Root) k h = refl
 is_there-more rs qs (Some (Of y)) k h = k y h
 
-owners-more : (rs rs' qs : List Row) → ((y : Obj) → is_row rs y ≡ true → is_row rs' y ≡ true) → OwnersAre rs qs → OwnersAre rs' qs
+owners-more : (rs rs' qs : List Row) → ((y : Obj) → is_object rs y ≡ true → is_object rs' y ≡ true) → OwnersAre rs qs → OwnersAre rs' qs
 owners-more rs rs' [] k h = tt
 owners-more rs rs' (r ∷ qs) k h = (is_there-more rs rs' r.owner k h.0, owners-more rs rs' qs k h.1)
 
@@ -52,48 +53,58 @@ owners-changed f rs (r ∷ qs) x k h = by_test (same r.serial x)
     (λ t. rw t (k r h.0, h.1))
     (λ t. rw t (h.0, owners-changed f rs qs x k h.1))
 
-is_row-front : (r : Row) (rs : List Row) (y : Obj) → is_row rs y ≡ true → is_row (r ∷ rs) y ≡ true
-is_row-front r rs y h = by_test (same r.serial y) (λ t. rw t refl) (λ t. rw t h)
+-- a row in front of all others
+is_object-front : (r : Row) (rs : List Row) (y : Obj) → (r.serial ≡ y → is_object rs y ≡ true → not (is_reference r.kind) ≡ true) → is_object rs y ≡ true → is_object (r ∷ rs) y ≡ true
+is_object-front r rs y same_kind h = by_test (same r.serial y) (λ t. rw t (same_kind (same-true r.serial y t) h)) (λ t. rw t h)
 
-is_row-changed : (f : Row → Row) (rs : List Row) (x y : Obj) → ((r : Row) → (f r).serial ≡ r.serial) → is_row rs y ≡ true
-    → is_row (changed f rs x) y ≡ true
-is_row-changed f [] x y k h = cc
-is_row-changed f (s ∷ rs) x y k h = by_test (same s.serial y)
-    (λ u. let u2 : same (f s).serial y ≡ true = ap (λ q. same q y) (k s) ∙ u in by_test (same s.serial x)
-    (λ t. rw (t, u2) refl)
-    (λ t. rw (t, u) refl))
+is_object-changed : (f : Row → Row) (rs : List Row) (x y : Obj) → ((r : Row) → (f r).serial ≡ r.serial) → ((r : Row) → (f r).kind ≡ r.kind) → is_object rs y ≡ true
+    → is_object (changed f rs x) y ≡ true
+is_object-changed f [] x y k kinds h = cc
+is_object-changed f (s ∷ rs) x y k kinds h = by_test (same s.serial y)
+    (λ u. let u2 : same (f s).serial y ≡ true = ap (λ q. same q y) (k s) ∙ u in
+    let h' : not (is_reference s.kind) ≡ true = rw u at h in by_test (same s.serial x)
+    (λ t. rw (t, u2, kinds s) h')
+    (λ t. rw (t, u) h'))
     (λ u. let u2 : same (f s).serial y ≡ false = ap (λ q. same q y) (k s) ∙ u in
-    let h' : is_row rs y ≡ true = rw u at h in by_test (same s.serial x)
+    let h' : is_object rs y ≡ true = rw u at h in by_test (same s.serial x)
     (λ t. rw (t, u2) h')
-    (λ t. let ih : is_row (changed f rs x) y ≡ true = is_row-changed f rs x y k h' in rw (t, u) ih))
+    (λ t. let ih : is_object (changed f rs x) y ≡ true = is_object-changed f rs x y k kinds h' in rw (t, u) ih))
 
 -- a new object whose owner is there
-pub AllOwned-new : (rs : List Row) (s : Obj) (kind : Kind) (o : Owner) (size : ℕ) (name : List ℕ) → AllOwned rs → is_owner rs o ≡ true
+pub AllOwned-new : (rs : List Row) (s : Obj) (kind : Kind) (o : Owner) (size : ℕ) (name : List ℕ) → AllOwned rs → row_of rs s ≡ None → is_owner rs o ≡ true
     → AllOwned (new_row s kind o size name ∷ rs)
-AllOwned-new rs s kind o size name a h = let r : Row = new_row s kind o size name in
-    (is_there-more rs (r ∷ rs) (Some o) (is_row-front r rs) h, owners-more rs (r ∷ rs) rs (is_row-front r rs) a)
+AllOwned-new rs s kind o size name a none h =
+    let r : Row = new_row s kind o size name in
+    let more : (y : Obj) → is_object rs y ≡ true → is_object (r ∷ rs) y ≡ true = λ y k. is_object-front r rs y
+    (λ e is. let gone : row_of rs y ≡ None = ap (row_of rs) (sym e) ∙ none in let bad : false ≡ true = rw gone at is in cc) k in
+    (is_there-more rs (r ∷ rs) (Some o) more h, owners-more rs (r ∷ rs) rs more a)
 
 -- an object is put below an owner that is there
 pub AllOwned-placed : (p : Pool) (o : Owner) (x : Obj) (r : Row) → AllOwned p.rows → row_of p.rows x ≡ Some r → is_owner p.rows o ≡ true
     → AllOwned (place p o x).rows
 AllOwned-placed p o x r a e h = let s : Row = record r { owner = Some o } in
     let rs : List Row = s ∷ without p.rows x in
-    let more : (y : Obj) → is_row p.rows y ≡ true → is_row rs y ≡ true = λ y k. elim (same_or_not x y) [
-      | inl q ↦ let t : same r.serial y ≡ true = same-equal _ _ (row_of-serial p.rows x r e ∙ q) in rw t refl
-      | inr q ↦ is_row-front s (without p.rows x) y (ap is_some (row_of-without-other p.rows x y q) ∙ k)
+    let more : (y : Obj) → is_object p.rows y ≡ true → is_object rs y ≡ true = λ y k. elim (same_or_not x y) [
+      | inl q ↦
+          let t : same r.serial y ≡ true = same-equal _ _ (row_of-serial p.rows x r e ∙ q) in
+          let is : row_of p.rows y ≡ Some r = ap (row_of p.rows) (sym q) ∙ e in
+          rw t (rw is at k)
+      | inr q ↦
+          let u : same r.serial y ≡ false = same-false r.serial y (λ z. q (sym (row_of-serial p.rows x r e) ∙ z)) in
+          rw u (ap is_object_row (row_of-without-other p.rows x y q) ∙ k)
     ] in
     rw e (is_there-more p.rows rs (Some o) more h, owners-more p.rows rs (without p.rows x) more (owners-without p.rows p.rows x a))
 
 -- a row is changed, and keeps its owner
-pub AllOwned-changed : (f : Row → Row) (rs : List Row) (x : Obj) → ((r : Row) → (f r).serial ≡ r.serial) → ((r : Row) → (f r).owner ≡ r.owner)
+pub AllOwned-changed : (f : Row → Row) (rs : List Row) (x : Obj) → ((r : Row) → (f r).serial ≡ r.serial) → ((r : Row) → (f r).kind ≡ r.kind) → ((r : Row) → (f r).owner ≡ r.owner)
     → AllOwned rs → AllOwned (changed f rs x)
-AllOwned-changed f rs x k same_owners a = let rs' : List Row = changed f rs x in
-    owners-changed f rs' rs x (λ r h. rw (same_owners r) h) (owners-more rs rs' rs (λ y h. is_row-changed f rs x y k h) a)
+AllOwned-changed f rs x k kinds same_owners a = let rs' : List Row = changed f rs x in
+    owners-changed f rs' rs x (λ r h. rw (same_owners r) h) (owners-more rs rs' rs (λ y h. is_object-changed f rs x y k kinds h) a)
 
 -- an object leaves its owner
 pub AllOwned-left : (rs : List Row) (x : Obj) → AllOwned rs → AllOwned (changed left_row rs x)
 AllOwned-left rs x a = let rs' : List Row = changed left_row rs x in
-    owners-changed left_row rs' rs x (λ r h. tt) (owners-more rs rs' rs (λ y h. is_row-changed left_row rs x y (λ r. refl) h) a)
+    owners-changed left_row rs' rs x (λ r h. tt) (owners-more rs rs' rs (λ y h. is_object-changed left_row rs x y (λ r. refl) (λ r. refl) h) a)
 
 owners-no_kid : (rs qs : List Row) (x : Obj) → first_kid qs (Of x) ≡ None → OwnersAre rs qs → OwnersAre (without rs x) qs
 owners-no_kid rs [] x e h = tt
@@ -104,7 +115,7 @@ owners-no_kid rs (r ∷ qs) x e h = by_test (is_below r.owner (Of x))
       there None t k = tt
       there (Some Root) t k = refl
       there (Some (Of y)) t k = let ne : x ≢ y = λ q. let u : same y x ≡ true = same-equal y x (sym q) in let bad : true ≡ false = sym u ∙ t in cc in
-          ap is_some (row_of-without-other rs x y ne) ∙ k
+          ap is_object_row (row_of-without-other rs x y ne) ∙ k
 
 -- a row without a child is taken out
 pub AllOwned-without : (rs : List Row) (x : Obj) → AllOwned rs → first_kid rs (Of x) ≡ None → AllOwned (without rs x)
@@ -167,8 +178,8 @@ pub Rooted-new : (rs : List Row) (s : Obj) (kind : Kind) (o : Owner) (size : ℕ
 Rooted-new rs s kind o size name rooted a e h = let r : Row = new_row s kind o size name in
     let there : same s s ≡ true = same-equal s s refl in
     let out : is_inside rs o (Of s) ≡ false = by_test (is_inside rs o (Of s))
-    (λ t. let row : is_row rs s ≡ true = reaches-is_owner rs (length rs) (Some o) (Of s) a h t in
-    let bad : false ≡ true = ap is_some (sym e) ∙ row in cc)
+    (λ t. let row : is_object rs s ≡ true = reaches-is_owner rs (length rs) (Some o) (Of s) a h t in
+    let bad : false ≡ true = ap is_object_row (sym e) ∙ row in cc)
     (λ t. t) in
     Rooted-below rs (r ∷ rs) s o (λ y ne. let u : same s y ≡ false = same-false s y ne in rw u refl) rooted (rw there refl) out
 
@@ -227,7 +238,7 @@ pub forest-new : (rs : List Row) (s : Obj) (kind : Kind) (o : Owner) (size : ℕ
     → IsForest (new_row s kind o size name ∷ rs)
 forest-new rs s kind o size name f none owner = record {
   distinct = (none, f.distinct);
-  owned = AllOwned-new rs s kind o size name f.owned owner;
+  owned = AllOwned-new rs s kind o size name f.owned none owner;
   rooted = Rooted-new rs s kind o size name f.rooted f.owned none owner;
 }
 
@@ -243,13 +254,14 @@ forest-placed p o x r f e owner apart = record {
 -- a change that leaves the number and the owner
 pub record KeepsPlace (f : Row → Row) : Type 0 where
   pub serial : (r : Row) → (f r).serial ≡ r.serial
+  pub kind : (r : Row) → (f r).kind ≡ r.kind
   pub owner : (r : Row) → (f r).owner ≡ r.owner
 
 -- a row is changed, and keeps its place
 pub forest-changed : (g : Row → Row) (rs : List Row) (x : Obj) → KeepsPlace g → IsForest rs → IsForest (changed g rs x)
 forest-changed g rs x k f = record {
   distinct = Distinct-changed g rs x k.serial f.distinct;
-  owned = AllOwned-changed g rs x k.serial k.owner f.owned;
+  owned = AllOwned-changed g rs x k.serial k.kind k.owner f.owned;
   rooted = Rooted-changed g rs x k.serial k.owner f.rooted;
 }
 

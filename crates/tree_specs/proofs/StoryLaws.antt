@@ -30,10 +30,9 @@ use Rattle.tree_specs.proofs.Rest.{outcome, rest-enough, walk-whole, not-short, 
 -- a host at its beginning
 pub begin-whole : (first : ℕ) → 1 ≤ first → Whole (begin first)
 begin-whole first h = record {
-  sound = record { started = omega arith; valid = λ x. tt; forest = forest-none; open_frees = λ x. refl; waiting = tt; rests = tt };
+  sound = record { started = omega arith; valid = λ x. tt; forest = forest-none; refers = record { target = λ r t e. cc; quiet = λ r t e. cc }; open_frees = λ x. refl; waiting = tt; rests = tt };
   seated = tt;
   light = omega arith;
-  plain = tt;
 }
 
 abbrev item_of : Scene → Item

@@ -9,8 +9,8 @@ use Rattle.step_machine.proofs.History.{FitsOn, each-fits, EachFits-map, EachFit
 use Rattle.tree_specs.specs.declared.question.Input.{Input}
 use Rattle.tree_specs.specs.declared.frame.Frame.{Frame}
 use Rattle.tree_specs.specs.declared.frame.Frame.TheVariants as frame
-use Rattle.tree_specs.specs.declared.frame.CallFrame.TheVariants.{Asking, Doing, Awaiting, Telling, Returning}
-use Rattle.tree_specs.specs.declared.frame.FreeFrame.TheVariants.{Beginning, Hooked, Judged, Leaving, Looping, Trying, Tried, Ending}
+use Rattle.tree_specs.specs.declared.frame.CallFrame.TheVariants.{Asking, Doing, Awaiting, Warning, Telling, Returning}
+use Rattle.tree_specs.specs.declared.frame.FreeFrame.TheVariants.{Unlinking, Releasing, Giving, Beginning, Hooked, Judged, Leaving, Looping, Trying, Tried, Ending}
 use Rattle.tree_specs.specs.declared.frame.Answer.{Answer}
 use Rattle.tree_specs.specs.Pool.{Pool, empty}
 use Rattle.tree_specs.specs.Items.{Item}
@@ -24,8 +24,8 @@ use Rattle.tree_specs.proofs.Means.{noted_table}
 use Rattle.tree_specs.proofs.Rest.{whole-kept}
 use Rattle.tree_specs.proofs.Causes.{NotedWork, item_of, told}
 use Rattle.tree_specs.proofs.Fine.{work_of, IsFine, Known, FineBy, taken-noted}
-use Rattle.tree_specs.proofs.FineCallers.{asking-fine, telling-fine, returning-fine, doing-fine}
-use Rattle.tree_specs.proofs.FineFrees.{ending-fine, beginning-fine, hooked-fine, leaving-fine, judged-fine, looping-fine, tried-fine}
+use Rattle.tree_specs.proofs.FineCallers.{asking-fine, telling-fine, returning-fine, doing-fine, warning-fine}
+use Rattle.tree_specs.proofs.FineFrees.{ending-fine, beginning-fine, hooked-fine, leaving-fine, judged-fine, looping-fine, tried-fine, unlinking-fine, releasing-fine, giving-fine}
 use Rattle.tree_specs.proofs.StoryLaws.{asking, begin-whole, story-walk}
 
 abbrev WholeAt : Frame → List Frame → Pool → Type 0
@@ -37,17 +37,21 @@ Holds scenes w ws p = WholeAt w.work (map work_of ws) p × Known scenes w ws p
 
 fine : (scenes : List Scene) (f : Frame) (b : Option Begun) (ws : List NotedWork) (p : Pool) → WholeAt f (map work_of ws) p → Known scenes (with_note b f) ws p → FineBy scenes f b p (step f p) ws
 fine scenes (frame.Call (Asking q)) b ws p whole known = asking-fine scenes q b ws p whole known
-fine scenes (frame.Call (Doing q c)) b ws p whole known = doing-fine scenes q c b ws p whole.plain known
+fine scenes (frame.Call (Doing q c)) b ws p whole known = doing-fine scenes q c b ws p whole.sound known
 fine scenes (frame.Call (Awaiting q x)) b ws p whole known = absurd whole.sound.rests
+fine scenes (frame.Call (Warning q x r)) b ws p whole known = warning-fine scenes q x r b ws p known
 fine scenes (frame.Call (Telling q r)) b ws p whole known = telling-fine scenes q r b ws p known
 fine scenes (frame.Call (Returning v)) b ws p whole known = returning-fine scenes v b ws p whole.sound.waiting known
+fine scenes (frame.Free (Unlinking o x)) b ws p whole known = unlinking-fine scenes b ws p o x whole known
+fine scenes (frame.Free (Releasing x)) b ws p whole known = releasing-fine scenes b ws p x whole known
+fine scenes (frame.Free (Giving x o)) b ws p whole known = giving-fine scenes b ws p x o whole known
 fine scenes (frame.Free (Beginning x)) b ws p whole known = beginning-fine scenes b ws p x whole known
 fine scenes (frame.Free (Hooked x h)) b ws p whole known = hooked-fine scenes b ws p x h whole known
 fine scenes (frame.Free (Judged x h v)) b ws p whole known = judged-fine scenes b ws p x h v whole known
 fine scenes (frame.Free (Leaving x h)) b ws p whole known = leaving-fine scenes b ws p x h whole known
 fine scenes (frame.Free (Looping x purpose)) b ws p whole known = looping-fine scenes b ws p x purpose whole known
-fine scenes (frame.Free (Trying x c purpose)) b ws p whole known = absurd whole.sound.rests
-fine scenes (frame.Free (Tried x c purpose a)) b ws p whole known = tried-fine scenes b ws p x c purpose a whole known
+fine scenes (frame.Free (Trying x c noted purpose)) b ws p whole known = absurd whole.sound.rests
+fine scenes (frame.Free (Tried x c noted purpose a)) b ws p whole known = tried-fine scenes b ws p x c noted purpose a whole known
 fine scenes (frame.Free (Ending a)) b ws p whole known = ending-fine scenes b ws p a whole known
 
 both : (scenes : List Scene) (f : Frame) (b : Option Begun) (ws : List NotedWork) (p : Pool) (m : Move Frame Answer Pool Item) → Leads table (λ g gs q j. WholeAt g gs q) m (map work_of ws) 1
@@ -70,7 +74,7 @@ kept scenes w ws p h = both scenes w.work w.note ws p (step w.work p) (whole-kep
 -- nothing is told as yet
 at-first : (first : ℕ) → Known [] asking [] (empty first)
 at-first first = record {
-  past = record { gone = λ x e. cc; spent = λ x e. cc; accounts = tt; all_account = tt };
+  past = record { gone = λ x e. cc; dropped = λ x e. cc; spent = λ x e. cc; accounts = tt; all_account = tt };
   stacked = tt;
   cause = tt;
 }

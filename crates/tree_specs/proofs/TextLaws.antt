@@ -1,18 +1,21 @@
 -- The rules' text over every pool and every list of inputs: what an acceptance follows, and which inputs a free takes.
+use Rattle.std.specs.Prelude.{unwrap_or}
+use Rattle.tree_specs.specs.declared.object.Owner.{Owner}
+use Rattle.tree_specs.specs.Targets.{newest_ref}
 use Rattle.std.proofs.Common.{◌≡◌, ℕ, suc, zero, nat_eq, List, [], ◌∷◌, Option, Some, None, true, false, refl, sym, ◌∙◌, ap, subst, inl, inr}
 use Rattle.std.proofs.lemmas.Bool.{eqb-true}
 use Rattle.step_machine.specs.Machine.{Outcome, tell, tells, followed, items as told_by}
 use Rattle.step_machine.specs.Machine.Outcome.{Ended, Waits, Stray, Short}
 use Rattle.step_machine.proofs.Uses.{Used, Used-same, Used-ended, Used-told, Used-asked, Used-followed}
 use Rattle.tree_specs.specs.declared.object.Obj.{Obj}
-use Rattle.tree_specs.specs.declared.object.Owner.TheVariants.{Of}
+use Rattle.tree_specs.specs.declared.object.Owner.TheVariants.{Of, Root}
 use Rattle.tree_specs.specs.declared.row.Row.{Row}
 use Rattle.tree_specs.specs.declared.row.Mark.{Mark}
 use Rattle.tree_specs.specs.declared.row.Mark.TheVariants as mark
 use Rattle.tree_specs.specs.declared.call.Call.{Call}
 use Rattle.tree_specs.specs.declared.call.Call.TheVariants as call
 use Rattle.tree_specs.specs.declared.reply.Reply.{Reply}
-use Rattle.tree_specs.specs.declared.event.Event.TheVariants.{Replied, Accepted, Refused, Moved, Freed}
+use Rattle.tree_specs.specs.declared.event.Event.TheVariants.{Replied, Accepted, Refused, Moved, Freed, Warned, Unreferenced}
 use Rattle.tree_specs.specs.declared.question.Ask.{Ask}
 use Rattle.tree_specs.specs.declared.question.Ask.TheVariants as ask
 use Rattle.tree_specs.specs.declared.question.Act.TheVariants as act
@@ -20,13 +23,13 @@ use Rattle.tree_specs.specs.declared.question.Input.{Input}
 use Rattle.tree_specs.specs.declared.question.Input.TheVariants as input
 use Rattle.tree_specs.specs.declared.free_step.FreeReply.{FreeReply}
 use Rattle.tree_specs.specs.declared.free_step.FreeReply.TheVariants as free_reply
-use Rattle.tree_specs.specs.Pool.{Pool, row_of, is_below, owner_of, first_kid, detach, remove, place, set_mark, set_hook}
+use Rattle.tree_specs.specs.Pool.{Pool, row_of, is_below, owner_of, first_kid, detach, remove, place, set_mark, set_hook, target_at, newest_ref_of, noted_owner, is_inside}
 use Rattle.tree_specs.specs.Heirs.{heir}
 use Rattle.tree_specs.specs.Items.{Item}
 use Rattle.tree_specs.specs.Items.Item.{Told, Asked}
 use Rattle.tree_specs.specs.Works.{Work, Scene, Begun, asks, fits_to}
 use Rattle.tree_specs.specs.Calls.{Check, refusals}
-use Rattle.tree_specs.specs.Story.{hook_moment, later, heard, unless_refused, effect, free, hooked, judged, leave, children, tried, asked, acting, telling, returning, items}
+use Rattle.tree_specs.specs.Story.{hook_moment, later, heard, unless_refused, effect, free, hooked, judged, leave, children, tried, asked, acting, telling, returning, items, freed_reply, warned_in, warning, unlink, release, given}
 use Rattle.tree_specs.specs.Acceptances.{Return, returned_by, answered_by, inputs_after, AcceptsNow, AcceptsAfterReturns}
 use Rattle.tree_specs.proofs.Numbered.{by_test}
 use Rattle.tree_specs.proofs.Checks.{heard-by}
@@ -162,14 +165,18 @@ scene_of item p = record { item = item; before = p; about = None }
 
 -- all works of the text, with so many turns
 pub record AllLawful (n : ℕ) : Type 0 where
+  pub unlink : (o : Owner) (x : Obj) (p : Pool) (last : Last) → Lawful last Any (unlink n o x p)
+  pub release : (x : Obj) (p : Pool) (last : Last) → Lawful last Any (release n x p)
+  pub given : (x : Obj) (o : Owner) (p : Pool) (last : Last) → Lawful last Any (given n x o p)
   pub free : (x : Obj) (p : Pool) (last : Last) → Lawful last Any (free n x p)
   pub hooked : (x : Obj) (h : ℕ) (p : Pool) (last : Last) → Lawful last Any (hooked n x h p)
   pub judged : (x : Obj) (h v : ℕ) (p : Pool) (last : Last) → last ≡ Some (record { object = x; value = v }) → Lawful last Any (judged n x h v p)
   pub leave : (x : Obj) (h : ℕ) (p : Pool) (last : Last) → Lawful last Any (leave n x h p)
   pub children : (x : Obj) (p : Pool) (last : Last) → Lawful last Any (children n x p)
-  pub tried : (x c : Obj) (a : FreeReply) (p : Pool) (last : Last) → Lawful last Any (tried n x c a p)
+  pub tried : (x c : Obj) (noted : Option Owner) (a : FreeReply) (p : Pool) (last : Last) → Lawful last Any (tried n x c noted a p)
   pub asked : (q : Ask) (p : Pool) (last : Last) → Lawful last (Returned q) (asked n q p)
   pub acting : (q : Ask) (c : Call) (p : Pool) (last : Last) → Lawful last (Returned q) (acting n q c p)
+  pub warning : (q : Ask) (x : Obj) (r : Reply) (about : Option Begun) (p : Pool) (last : Last) → Lawful last (Returned q) (warning n about q x r p)
   pub later : (q : Ask) (r : Reply) (about : Option Begun) (p : Pool) (last : Last) → Lawful last (Returned q) (telling n about (later q r) r p)
   pub returning : (q : Ask) (v : ℕ) (p : Pool) (last : Last) → Returned q v last → Lawful last (Returned q) (returning n v p)
 
@@ -182,24 +189,58 @@ weaker P Q go h w = record { accepts = λ is. each is (go is) (w.accepts is); us
     each is (Stray ts) a = a
     each is Short a = tt
 
+-- a reference is dropped first
+dropped-lawful : {A : Type 0} (last : Last) (Q : A → Last → Type 0) (r t : Obj) (p : Pool) (go : List Input → Outcome A Pool Input Scene) → Lawful None Q go → Lawful last Q (λ js. tell (scene_of (Told (Unreferenced r t)) p) (go js))
+dropped-lawful last Q r t p go h = told-lawful last Q (scene_of (Told (Unreferenced r t)) p) go tt (λ is. (refl, refl)) h
+
+unlink-lawful : (n : ℕ) → AllLawful n → (o : Owner) (x : Obj) (p : Pool) (last : Last) → Lawful last Any (unlink (suc n) o x p)
+unlink-lawful n ih o x p last = each (newest_ref_of p.rows o x) refl
+  where
+    each : (r : Option Obj) → newest_ref_of p.rows o x ≡ r → Lawful last Any (unlink (suc n) o x p)
+    each None k = same-lawful last Any (unlink (suc n) o x p) (release n x p) (λ js. rw k refl) (ih.release x p last)
+    each (Some r) k = same-lawful last Any (unlink (suc n) o x p) (λ js. tell (scene_of (Told (Unreferenced r x)) p) (Ended free_reply.Ok (remove p r) [] js)) (λ js. rw k refl)
+        (dropped-lawful last Any r x p (λ js. Ended free_reply.Ok (remove p r) [] js) (ended-lawful None Any free_reply.Ok (remove p r) tt))
+
+release-lawful : (n : ℕ) → AllLawful n → (x : Obj) (p : Pool) (last : Last) → Lawful last Any (release (suc n) x p)
+release-lawful n ih x p last = each (newest_ref p.rows x) refl
+  where
+    each : (r : Option Obj) → newest_ref p.rows x ≡ r → Lawful last Any (release (suc n) x p)
+    each None k = same-lawful last Any (release (suc n) x p) (free n x p) (λ js. rw k refl) (ih.free x p last)
+    each (Some r) k = by_test (is_inside p.rows (Of r) (Of x))
+        (λ t. same-lawful last Any (release (suc n) x p) (λ js. tell (scene_of (Told (Unreferenced r x)) p) (release n x (remove p r) js)) (λ js. rw (k, t) refl)
+        (dropped-lawful last Any r x p (release n x (remove p r)) (ih.release x (remove p r) None)))
+        (λ t. same-lawful last Any (release (suc n) x p) (λ js. tell (scene_of (Told (Unreferenced r x)) p) (given n x (unwrap_or (owner_of p.rows r) Root) (remove p r) js)) (λ js. rw (k, t) refl)
+        (dropped-lawful last Any r x p (given n x (unwrap_or (owner_of p.rows r) Root) (remove p r)) (ih.given x (unwrap_or (owner_of p.rows r) Root) (remove p r) None)))
+
+given-lawful : (n : ℕ) (x : Obj) (o : Owner) (p : Pool) (last : Last) → Lawful last Any (given (suc n) x o p)
+given-lawful n x o p last = told-lawful last Any (scene_of (Told (Moved x o)) p) (λ js. Ended free_reply.Ok (place p o x) [] js) tt (λ is. (refl, refl)) (ended-lawful None Any free_reply.Ok (place p o x) tt)
+
 free-lawful : (n : ℕ) → AllLawful n → (x : Obj) (p : Pool) (last : Last) → Lawful last Any (free (suc n) x p)
-free-lawful n ih x p last = each (row_of p.rows x) refl
+free-lawful n ih x p last = newest (newest_ref p.rows x) refl
   where
     gives : (a : FreeReply) (q : Pool) → ((js : List Input) → free (suc n) x p js ≡ Ended a q [] js) → Lawful last Any (free (suc n) x p)
     gives a q law = same-lawful last Any (free (suc n) x p) (λ js. Ended a q [] js) law (ended-lawful last Any a q tt)
 
-    marks : (r : Row) (m : Mark) → r.mark ≡ m → row_of p.rows x ≡ Some r → Lawful last Any (free (suc n) x p)
-    marks r mark.Quiet m e = by_test (nat_eq r.hook 0)
-        (λ t. same-lawful last Any (free (suc n) x p) (leave n x 0 p) (λ js. rw (e, m, t) refl) (ih.leave x 0 p last))
-        (λ t. same-lawful last Any (free (suc n) x p) (hooked n x r.hook (set_mark p x mark.Asked)) (λ js. rw (e, m, t) refl) (ih.hooked x r.hook (set_mark p x mark.Asked) last))
-    marks r mark.Asked m e = gives free_reply.Running p (λ js. rw (e, m) refl)
-    marks r mark.Busy m e = gives free_reply.Running (set_mark p x mark.Doomed) (λ js. rw (e, m) refl)
-    marks r mark.Doomed m e = gives free_reply.Running p (λ js. rw (e, m) refl)
-    marks r (mark.Dying former) m e = gives free_reply.Ok p (λ js. rw (e, m) refl)
+    marks : newest_ref p.rows x ≡ None → (r : Row) (m : Mark) → r.mark ≡ m → row_of p.rows x ≡ Some r → Lawful last Any (free (suc n) x p)
+    marks k r mark.Quiet m e = by_test (nat_eq r.hook 0)
+        (λ t. same-lawful last Any (free (suc n) x p) (leave n x 0 p) (λ js. rw (k, e, m, t) refl) (ih.leave x 0 p last))
+        (λ t. same-lawful last Any (free (suc n) x p) (hooked n x r.hook (set_mark p x mark.Asked)) (λ js. rw (k, e, m, t) refl) (ih.hooked x r.hook (set_mark p x mark.Asked) last))
+    marks k r mark.Asked m e = gives free_reply.Running p (λ js. rw (k, e, m) refl)
+    marks k r mark.Busy m e = gives free_reply.Running (set_mark p x mark.Doomed) (λ js. rw (k, e, m) refl)
+    marks k r mark.Doomed m e = gives free_reply.Running p (λ js. rw (k, e, m) refl)
+    marks k r (mark.Dying former) m e = gives free_reply.Ok p (λ js. rw (k, e, m) refl)
 
-    each : (o : Option Row) → row_of p.rows x ≡ o → Lawful last Any (free (suc n) x p)
-    each None e = gives free_reply.Ok p (λ js. rw e refl)
-    each (Some r) e = marks r r.mark refl e
+    each : newest_ref p.rows x ≡ None → (o : Option Row) → row_of p.rows x ≡ o → Lawful last Any (free (suc n) x p)
+    each k None e = gives free_reply.Ok p (λ js. rw (k, e) refl)
+    each k (Some r) e = marks k r r.mark refl e
+
+    newest : (o : Option Obj) → newest_ref p.rows x ≡ o → Lawful last Any (free (suc n) x p)
+    newest None k = each k (row_of p.rows x) refl
+    newest (Some r) k = by_test (is_inside p.rows (Of r) (Of x))
+        (λ t. same-lawful last Any (free (suc n) x p) (λ js. tell (scene_of (Told (Unreferenced r x)) p) (free n x (remove p r) js)) (λ js. rw (k, t) refl)
+        (dropped-lawful last Any r x p (free n x (remove p r)) (ih.free x (remove p r) None)))
+        (λ t. same-lawful last Any (free (suc n) x p) (λ js. tell (scene_of (Told (Unreferenced r x)) p) (Ended free_reply.Held (remove p r) [] js)) (λ js. rw (k, t) refl)
+        (dropped-lawful last Any r x p (λ js. Ended free_reply.Held (remove p r) [] js) (ended-lawful None Any free_reply.Held (remove p r) tt)))
 
 hooked-lawful : (n : ℕ) → AllLawful n → (x : Obj) (h : ℕ) (p : Pool) (last : Last) → Lawful last Any (hooked (suc n) x h p)
 hooked-lawful n ih x h p last =
@@ -223,23 +264,30 @@ leave-lawful n ih x h p last =
 children-lawful : (n : ℕ) → AllLawful n → (x : Obj) (p : Pool) (last : Last) → Lawful last Any (children (suc n) x p)
 children-lawful n ih x p last = each (first_kid p.rows (Of x)) refl
   where
+    child : (c : Obj) → first_kid p.rows (Of x) ≡ Some c → (t : Option Obj) → target_at p.rows c ≡ t → Lawful last Any (children (suc n) x p)
+    child c e (Some t) k = same-lawful last Any (children (suc n) x p) (λ js. tell (scene_of (Told (Unreferenced c t)) p) (children n x (remove p c) js)) (λ js. rw (e, k) refl)
+        (dropped-lawful last Any c t p (children n x (remove p c)) (ih.children x (remove p c) None))
+    child c e None k = same-lawful last Any (children (suc n) x p) (λ js. followed (free n c p js) (λ a q left. tried n x c (noted_owner p.rows c) a q left)) (λ js. rw (e, k) refl)
+        (followed-lawful last Any Any (free n c p) (λ a q left. tried n x c (noted_owner p.rows c) a q left) (ih.free c p last) (λ a q l w. ih.tried x c (noted_owner p.rows c) a q l))
+
     each : (o : Option Obj) → first_kid p.rows (Of x) ≡ o → Lawful last Any (children (suc n) x p)
     each None e = same-lawful last Any (children (suc n) x p) (λ js. Ended tt p [] js) (λ js. rw e refl) (ended-lawful last Any tt p tt)
-    each (Some c) e = same-lawful last Any (children (suc n) x p) (λ js. followed (free n c p js) (λ a q left. tried n x c a q left)) (λ js. rw e refl)
-        (followed-lawful last Any Any (free n c p) (λ a q left. tried n x c a q left) (ih.free c p last) (λ a q l k. ih.tried x c a q l))
+    each (Some c) e = child c e (target_at p.rows c) refl
 
-tried-lawful : (n : ℕ) → AllLawful n → (x c : Obj) (a : FreeReply) (p : Pool) (last : Last) → Lawful last Any (tried (suc n) x c a p)
-tried-lawful n ih x c a p last = each a
+tried-lawful : (n : ℕ) → AllLawful n → (x c : Obj) (noted : Option Owner) (a : FreeReply) (p : Pool) (last : Last) → Lawful last Any (tried (suc n) x c noted a p)
+tried-lawful n ih x c noted a p last = each a
   where
-    handed : (b : FreeReply) → ((js : List Input) → is_below (owner_of p.rows c) (Of x) ≡ true → tried (suc n) x c b p js ≡ tell (scene_of (Told (Moved c (heir p.rows x c))) p) (children n x (place p (heir p.rows x c) c) js))
-        → ((js : List Input) → is_below (owner_of p.rows c) (Of x) ≡ false → tried (suc n) x c b p js ≡ children n x p js) → Lawful last Any (tried (suc n) x c b p)
+    handed : (b : FreeReply)
+        → ((js : List Input) → is_below (owner_of p.rows c) (Of x) ≡ true → tried (suc n) x c noted b p js ≡ tell (scene_of (Told (Moved c (heir p.rows x c noted))) p) (children n x (place p (heir p.rows x c noted) c) js))
+        → ((js : List Input) → is_below (owner_of p.rows c) (Of x) ≡ false → tried (suc n) x c noted b p js ≡ children n x p js) → Lawful last Any (tried (suc n) x c noted b p)
     handed b moves stays = by_test (is_below (owner_of p.rows c) (Of x))
-        (λ t. same-lawful last Any (tried (suc n) x c b p) (λ js. tell (scene_of (Told (Moved c (heir p.rows x c))) p) (children n x (place p (heir p.rows x c) c) js)) (λ js. moves js t)
-        (told-lawful last Any (scene_of (Told (Moved c (heir p.rows x c))) p) (children n x (place p (heir p.rows x c) c)) tt (λ is. (refl, refl)) (ih.children x (place p (heir p.rows x c) c) None)))
-        (λ t. same-lawful last Any (tried (suc n) x c b p) (children n x p) (λ js. stays js t) (ih.children x p last))
+        (λ t. same-lawful last Any (tried (suc n) x c noted b p) (λ js. tell (scene_of (Told (Moved c (heir p.rows x c noted))) p) (children n x (place p (heir p.rows x c noted) c) js)) (λ js. moves js t)
+        (told-lawful last Any (scene_of (Told (Moved c (heir p.rows x c noted))) p) (children n x (place p (heir p.rows x c noted) c)) tt (λ is. (refl, refl)) (ih.children x (place p (heir p.rows x c noted) c) None)))
+        (λ t. same-lawful last Any (tried (suc n) x c noted b p) (children n x p) (λ js. stays js t) (ih.children x p last))
 
-    each : (b : FreeReply) → Lawful last Any (tried (suc n) x c b p)
+    each : (b : FreeReply) → Lawful last Any (tried (suc n) x c noted b p)
     each free_reply.Ok = ih.children x p last
+    each free_reply.Held = handed free_reply.Held (λ js t. rw t refl) (λ js t. rw t refl)
     each free_reply.Running = handed free_reply.Running (λ js t. rw t refl) (λ js t. rw t refl)
     each (free_reply.Refused v) = handed (free_reply.Refused v) (λ js t. rw t refl) (λ js t. rw t refl)
 
@@ -253,14 +301,22 @@ asked-lawful n ih q p last = asks-lawful last (Returned q) q (heard q (acting n 
           (ih.returning q h.0 p (returned_by q i) (λ r k. ap (returned_by q) h.1 ∙ k))
     ]
 
-checked-lawful : (n : ℕ) → AllLawful n → (c : Call) (check : Check) (p : Pool) (last : Last) → Lawful last Any (unless_refused check (effect (free n) (children n) c) p)
+checked-lawful : (n : ℕ) → AllLawful n → (c : Call) (check : Check) (p : Pool) (last : Last) → Lawful last Any (unless_refused check (effect (free n) (unlink n) (children n) c) p)
 checked-lawful n ih c (why ∷ rest) p last = ended-lawful last Any _ p tt
 checked-lawful n ih (call.New o size name) [] p last = ended-lawful last Any _ _ tt
-checked-lawful n ih (call.Free x) [] p last = followed-lawful last Any Any (free n x p) _ (ih.free x p last) (λ a q l k. ended-lawful l Any _ q tt)
+checked-lawful n ih (call.Free x) [] p last = each (newest_ref p.rows x) refl
+  where
+    each : (o : Option Obj) → newest_ref p.rows x ≡ o → Lawful last Any (effect (free n) (unlink n) (children n) (call.Free x) p)
+    each None k = same-lawful last Any (effect (free n) (unlink n) (children n) (call.Free x) p) (λ js. followed (free n x p js) (λ a q left. Ended (freed_reply x a) q [] left)) (λ js. rw k refl)
+        (followed-lawful last Any Any (free n x p) (λ a q left. Ended (freed_reply x a) q [] left) (ih.free x p last) (λ a q l w. ended-lawful l Any (freed_reply x a) q tt))
+    each (Some r) k = same-lawful last Any (effect (free n) (unlink n) (children n) (call.Free x) p) (λ js. followed (unlink n Root x p js) (λ a q left. Ended (freed_reply x a) q [] left)) (λ js. rw k refl)
+        (followed-lawful last Any Any (unlink n Root x p) (λ a q left. Ended (freed_reply x a) q [] left) (ih.unlink Root x p last) (λ a q l w. ended-lawful l Any (freed_reply x a) q tt))
 checked-lawful n ih (call.Freekids x) [] p last = followed-lawful last Any Any (children n x p) _ (ih.children x p last) (λ a q l k. ended-lawful l Any _ q tt)
 checked-lawful n ih (call.Steal o x) [] p last = ended-lawful last Any _ _ tt
 checked-lawful n ih (call.Move o x) [] p last = ended-lawful last Any _ _ tt
 checked-lawful n ih (call.Reparent from to x) [] p last = ended-lawful last Any _ _ tt
+checked-lawful n ih (call.Reference o x) [] p last = ended-lawful last Any _ _ tt
+checked-lawful n ih (call.Unlink o x) [] p last = followed-lawful last Any Any (unlink n o x p) _ (ih.unlink o x p last) (λ a q l k. ended-lawful l Any _ q tt)
 checked-lawful n ih (call.Hook x h) [] p last = ended-lawful last Any _ _ tt
 checked-lawful n ih (call.Unhook x) [] p last = ended-lawful last Any _ _ tt
 checked-lawful n ih (call.Rename x name) [] p last = ended-lawful last Any _ _ tt
@@ -270,10 +326,21 @@ checked-lawful n ih (call.Count o) [] p last = ended-lawful last Any _ _ tt
 checked-lawful n ih (call.Report o) [] p last = ended-lawful last Any _ _ tt
 
 acting-lawful : (n : ℕ) → AllLawful n → (q : Ask) (c : Call) (p : Pool) (last : Last) → Lawful last (Returned q) (acting (suc n) q c p)
-acting-lawful n ih q c p last =
-    followed-lawful last Any (Returned q) (unless_refused (refusals p c) (effect (free n) (children n) c) p) (λ r p' left. telling n (Some (record { call = c; start = p })) (later q r) r p' left)
-    (checked-lawful n ih c (refusals p c) p last)
-    (λ r p' l k. ih.later q r (Some (record { call = c; start = p })) p' l)
+acting-lawful n ih q c p last = each (warned_in (refusals p c) c p) refl
+  where
+    each : (o : Option Obj) → warned_in (refusals p c) c p ≡ o → Lawful last (Returned q) (acting (suc n) q c p)
+    each None k = same-lawful last (Returned q) (acting (suc n) q c p)
+        (λ js. followed (unless_refused (refusals p c) (effect (free n) (unlink n) (children n) c) p js) (λ r p' left. telling n (Some (record { call = c; start = p })) (later q r) r p' left)) (λ js. rw k refl)
+        (followed-lawful last Any (Returned q) (unless_refused (refusals p c) (effect (free n) (unlink n) (children n) c) p) (λ r p' left. telling n (Some (record { call = c; start = p })) (later q r) r p' left)
+        (checked-lawful n ih c (refusals p c) p last) (λ r p' l w. ih.later q r (Some (record { call = c; start = p })) p' l))
+    each (Some x) k = same-lawful last (Returned q) (acting (suc n) q c p)
+        (λ js. followed (unless_refused (refusals p c) (effect (free n) (unlink n) (children n) c) p js) (λ r p' left. warning n (Some (record { call = c; start = p })) q x r p' left)) (λ js. rw k refl)
+        (followed-lawful last Any (Returned q) (unless_refused (refusals p c) (effect (free n) (unlink n) (children n) c) p) (λ r p' left. warning n (Some (record { call = c; start = p })) q x r p' left)
+        (checked-lawful n ih c (refusals p c) p last) (λ r p' l w. ih.warning q x r (Some (record { call = c; start = p })) p' l))
+
+warning-lawful : (n : ℕ) → AllLawful n → (q : Ask) (x : Obj) (r : Reply) (about : Option Begun) (p : Pool) (last : Last) → Lawful last (Returned q) (warning (suc n) about q x r p)
+warning-lawful n ih q x r about p last =
+    told-lawful last (Returned q) (scene_of (Told (Warned x)) p) (telling n about (later q r) r p) tt (λ is. (refl, refl)) (ih.later q r about p None)
 
 later-lawful : (n : ℕ) → AllLawful n → (q : Ask) (r : Reply) (about : Option Begun) (p : Pool) (last : Last) → Lawful last (Returned q) (telling (suc n) about (later q r) r p)
 later-lawful n ih q r about p last =
@@ -286,20 +353,27 @@ returning-lawful n q v p last h = ended-lawful last (Returned q) v p h
 -- each turn rests on one turn less
 pub all-lawful : (n : ℕ) → AllLawful n
 all-lawful zero = record {
+  unlink = λ o x p last. short-lawful last Any;
+  release = λ x p last. short-lawful last Any;
+  given = λ x o p last. short-lawful last Any;
   free = λ x p last. short-lawful last Any;
   hooked = λ x h p last. short-lawful last Any;
   judged = λ x h v p last e. short-lawful last Any;
   leave = λ x h p last. short-lawful last Any;
   children = λ x p last. short-lawful last Any;
-  tried = λ x c a p last. short-lawful last Any;
+  tried = λ x c noted a p last. short-lawful last Any;
   asked = λ q p last. short-lawful last (Returned q);
   acting = λ q c p last. short-lawful last (Returned q);
+  warning = λ q x r about p last. short-lawful last (Returned q);
   later = λ q r about p last. short-lawful last (Returned q);
   returning = λ q v p last h. short-lawful last (Returned q);
 }
 all-lawful (suc n) =
     let ih : AllLawful n = all-lawful n in
     record {
+      unlink = unlink-lawful n ih;
+      release = release-lawful n ih;
+      given = given-lawful n;
       free = free-lawful n ih;
       hooked = hooked-lawful n ih;
       judged = judged-lawful n ih;
@@ -308,6 +382,7 @@ all-lawful (suc n) =
       tried = tried-lawful n ih;
       asked = asked-lawful n ih;
       acting = acting-lawful n ih;
+      warning = warning-lawful n ih;
       later = later-lawful n ih;
       returning = returning-lawful n;
     }

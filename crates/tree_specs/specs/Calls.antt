@@ -1,17 +1,20 @@
 -- The refusals of each call, in the order in which they are tried.
-use Rattle.std.specs.Prelude.{ℕ, ◌+◌, ◌^◌, Bool, true, false, not, nat_lt, nat_le, if◌then◌else◌, List, [], ◌∷◌, ◌++◌, length, Option, Some, None}
+use Rattle.std.specs.Prelude.{ℕ, ◌+◌, ◌^◌, Bool, true, false, not, ◌&&◌, ◌||◌, is_some, nat_eq, nat_lt, nat_le, if◌then◌else◌, List, [], ◌∷◌, ◌++◌, length, Option, Some, None}
 use Rattle.tree_specs.specs.declared.object.Obj.{Obj}
 use Rattle.tree_specs.specs.declared.object.Owner.{Owner}
 use Rattle.tree_specs.specs.declared.object.Owner.TheVariants.{Root, Of}
 use Rattle.tree_specs.specs.declared.kind.Kind.{Kind}
 use Rattle.tree_specs.specs.declared.kind.Kind.TheVariants.{Plain, Reference, Timer, Immediate, Descriptor, Request, Queue, Entry}
 use Rattle.tree_specs.specs.declared.row.Row.{Row}
+use Rattle.tree_specs.specs.declared.row.Mark.{Mark}
+use Rattle.tree_specs.specs.declared.row.Mark.TheVariants as mark
 use Rattle.tree_specs.specs.declared.call.Call.{Call}
-use Rattle.tree_specs.specs.declared.call.Call.TheVariants.{New, Free, Freekids, Steal, Move, Reparent, Hook, Unhook, Rename, Parent, Total, Count, Report}
+use Rattle.tree_specs.specs.declared.call.Call.TheVariants.{New, Free, Freekids, Steal, Move, Reparent, Reference as Refer, Unlink, Hook, Unhook, Rename, Parent, Total, Count, Report}
 use Rattle.tree_specs.specs.declared.reply.Refusal.{Refusal}
-use Rattle.tree_specs.specs.declared.reply.Refusal.TheVariants.{NoSuch, WrongKind, NotParent, Loop, Dying, Full, Spent, TooBig}
-use Rattle.tree_specs.specs.Pool.{Pool, row_of, is_below, owner_of, is_dying, is_inside}
-use Rattle.tree_specs.specs.Inside.{is_reference}
+use Rattle.tree_specs.specs.declared.reply.Refusal.TheVariants.{NoSuch, WrongKind, Running, Held, NotParent, Loop, Dying, Full, Spent, TooBig}
+use Rattle.tree_specs.specs.Pool.{Pool, row_of, is_below, owner_of, newest_ref_of, is_dying, is_inside}
+use Rattle.tree_specs.specs.Targets.{is_reference}
+use Rattle.tree_specs.specs.Reports.{count_refs}
 
 -- the size of an object is below this, in bytes
 abbrev pub size_limit : ℕ
@@ -85,9 +88,42 @@ apart p x o = refuse_if (is_inside p.rows o (Of x)) (Loop x o)
 abbrev pub placing : Pool → Owner → Obj → Check
 placing p o x = object p x before owner p o before staying p x before apart p x o
 
--- only its owner gives it away
+-- an owner has an interest in an object where it owns it, or a reference to it
+abbrev pub is_interested : Pool → Owner → Obj → Bool
+is_interested p o x = is_below (owner_of p.rows x) o || is_some (newest_ref_of p.rows o x)
+
+abbrev pub interested : Pool → Owner → Obj → Check
+interested p o x = refuse_if (not (is_interested p o x)) (NotParent x o)
+
+-- its owner gives it away, or one that has a reference to it gives this away
 abbrev pub given_by : Pool → Owner → Owner → Obj → Check
-given_by p from to x = if is_below (owner_of p.rows x) from then apart p x to else NotParent x from ∷ []
+given_by p from to x = if is_below (owner_of p.rows x) from then apart p x to else interested p from x
+
+-- an object that has references is held, but for one that is the root's and has exactly one
+abbrev pub is_held : Pool → Obj → Bool
+is_held p x = not (nat_eq (count_refs p.rows x) 0) && not (is_below (owner_of p.rows x) Root && nat_eq (count_refs p.rows x) 1)
+
+abbrev pub held : Pool → Obj → Check
+held p x = refuse_if (is_held p x) (Held x)
+
+-- no reference is made to an object that runs
+abbrev pub is_running_mark : Mark → Bool
+is_running_mark mark.Quiet = false
+is_running_mark mark.Asked = true
+is_running_mark mark.Busy = true
+is_running_mark mark.Doomed = true
+is_running_mark (mark.Dying former) = false
+
+abbrev pub is_running_row : Option Row → Bool
+is_running_row None = false
+is_running_row (Some r) = is_running_mark r.mark
+
+-- its destructor or its handler runs
+abbrev pub is_running : Pool → Obj → Bool
+is_running p x = is_running_row (row_of p.rows x)
+
+abbrev pub still : Pool → Obj → Check
+still p x = refuse_if (is_running p x) (Running x)
 
 -- a destructor is given to an object, or taken from it
 abbrev pub hooking : Pool → Obj → Check
@@ -95,11 +131,13 @@ hooking p x = object p x before plain p x before staying p x
 
 abbrev pub refusals : Pool → Call → Check
 refusals p (New o size name) = small size before owner p o before room p 1
-refusals p (Free x) = object p x
+refusals p (Free x) = object p x before held p x
 refusals p (Freekids x) = object p x
 refusals p (Steal o x) = placing p o x
 refusals p (Move o x) = placing p o x
 refusals p (Reparent from to x) = object p x before owner p from before owner p to before staying p x before given_by p from to x
+refusals p (Refer o x) = object p x before plain p x before owner p o before still p x before staying p x before room p 1
+refusals p (Unlink o x) = object p x before owner p o before interested p o x
 refusals p (Hook x routine) = hooking p x
 refusals p (Unhook x) = hooking p x
 refusals p (Rename x name) = object p x

@@ -7,7 +7,7 @@ use Rattle.std.specs.Str.Parse.{digits_value}
 use Rattle.tree_specs.specs.declared.object.Obj.{Obj}
 use Rattle.tree_specs.specs.declared.object.Owner.{Owner}
 use Rattle.tree_specs.specs.declared.call.Call.{Call}
-use Rattle.tree_specs.specs.declared.call.Call.TheVariants.{New, Free, Freekids, Steal, Move, Reparent, Hook, Unhook, Rename, Parent, Total, Count, Report}
+use Rattle.tree_specs.specs.declared.call.Call.TheVariants.{New, Free, Freekids, Steal, Move, Reparent, Reference, Unlink, Hook, Unhook, Rename, Parent, Total, Count, Report}
 use Rattle.tree_specs.specs.declared.question.Act.TheVariants as acts
 use Rattle.tree_specs.specs.declared.question.Input.{Input}
 use Rattle.tree_specs.specs.declared.question.Input.TheVariants as inputs
@@ -139,6 +139,8 @@ call_of_words (verb ∷ fields) =
     if bytes_eq verb (codes "steal") then placing_of Steal fields else
     if bytes_eq verb (codes "move") then placing_of Move fields else
     if bytes_eq verb (codes "reparent") then reparent_of fields else
+    if bytes_eq verb (codes "reference") then placing_of Reference fields else
+    if bytes_eq verb (codes "unlink") then placing_of Unlink fields else
     if bytes_eq verb (codes "hook") then hook_of fields else
     if bytes_eq verb (codes "unhook") then of_object Unhook fields else
     if bytes_eq verb (codes "rename") then rename_of fields else

@@ -1,9 +1,10 @@
 -- When a story is grounded: what it tells of an object agrees with the pool at that time, and has its cause.
-use Rattle.std.specs.Prelude.{◌≡◌, ◌↔◌, nat_eq, Bool, true, false, ◌&&◌, not, List, Option, Some, None}
+use Rattle.tree_specs.specs.Targets.{newest_ref}
+use Rattle.std.specs.Prelude.{◌≡◌, ◌↔◌, Bool, true, false, List, Option, Some, None}
 use Rattle.step_machine.specs.History.{EachFits}
 use Rattle.step_machine.specs.Open.{LastIs}
 use Rattle.tree_specs.specs.declared.object.Obj.{Obj}
-use Rattle.tree_specs.specs.declared.object.Owner.TheVariants.{Root}
+use Rattle.tree_specs.specs.declared.object.Owner.TheVariants.{Of}
 use Rattle.tree_specs.specs.declared.kind.Kind.{Kind}
 use Rattle.tree_specs.specs.declared.kind.Kind.TheVariants as kind
 use Rattle.tree_specs.specs.declared.row.Row.{Row}
@@ -17,25 +18,16 @@ use Rattle.tree_specs.specs.declared.reply.Reply.{Reply}
 use Rattle.tree_specs.specs.declared.reply.Reply.TheVariants.{Ok, No}
 use Rattle.tree_specs.specs.declared.reply.Refusal.{Refusal}
 use Rattle.tree_specs.specs.declared.reply.Refusal.TheVariants.{Held, Running, Refused as RefusedBy}
-use Rattle.tree_specs.specs.declared.event.Event.TheVariants.{Replied, Fired, Accepted, Refused}
+use Rattle.tree_specs.specs.declared.event.Event.TheVariants.{Replied, Fired, Accepted, Refused, Unreferenced}
 use Rattle.tree_specs.specs.Objects.{same}
-use Rattle.tree_specs.specs.Pool.{Pool, row_of, is_below, owner_of}
-use Rattle.tree_specs.specs.Inside.{is_reference}
-use Rattle.tree_specs.specs.Reports.{count_refs}
+use Rattle.tree_specs.specs.Pool.{Pool, row_of, is_object, is_inside}
+use Rattle.tree_specs.specs.Calls.{is_held, is_running}
 use Rattle.tree_specs.specs.Items.{Item}
 use Rattle.tree_specs.specs.Items.Item.{Told}
 use Rattle.tree_specs.specs.Orderly.{asks_hook}
 use Rattle.tree_specs.specs.Works.{Begun, Scene}
 
 -- ---- a live object is freed, or it is said why not
-
--- a live object, and no reference
-abbrev pub is_freeable_row : Option Row → Bool
-is_freeable_row None = false
-is_freeable_row (Some r) = not (is_reference r.kind)
-
-abbrev pub is_freeable : Pool → Obj → Bool
-is_freeable p x = is_freeable_row (row_of p.rows x)
 
 abbrev pub is_refusal_of : Obj → Refusal → Bool
 is_refusal_of x (Held y) = same y x
@@ -50,35 +42,16 @@ is_answer_of x (No why) = is_refusal_of x why
 is_answer_of x r = false
 
 abbrev pub AnsweredCall : Call → Pool → Reply → Type 0
-AnsweredCall (Free x) start r = is_freeable start x ≡ true → is_answer_of x r ≡ true
+AnsweredCall (Free x) start r = is_object start.rows x ≡ true → is_answer_of x r ≡ true
 AnsweredCall c start r = Unit {0}
 
 -- ---- held
-
--- an object that has references is held, but for one that is the root's and has exactly one
-abbrev pub is_held : Pool → Obj → Bool
-is_held p x = not (nat_eq (count_refs p.rows x) 0) && not (is_below (owner_of p.rows x) Root && nat_eq (count_refs p.rows x) 1)
 
 abbrev pub HeldCall : Call → Pool → Reply → Type 0
 HeldCall (Free x) start r = (r ≡ No (Held x)) ↔ (is_held start x ≡ true)
 HeldCall c start r = Unit {0}
 
 -- ---- running, or refused
-
--- its destructor or its handler runs
-abbrev pub is_running_mark : Mark → Bool
-is_running_mark mark.Quiet = false
-is_running_mark mark.Asked = true
-is_running_mark mark.Busy = true
-is_running_mark mark.Doomed = true
-is_running_mark (mark.Dying former) = false
-
-abbrev pub is_running_row : Option Row → Bool
-is_running_row None = false
-is_running_row (Some r) = is_running_mark r.mark
-
-abbrev pub is_running : Pool → Obj → Bool
-is_running p x = is_running_row (row_of p.rows x)
 
 abbrev pub IsItem : Item → Scene → Type 0
 IsItem item s = s.item ≡ item
@@ -96,6 +69,10 @@ CausedReply before start r = Unit {0}
 abbrev pub CausedCall : List Scene → Call → Pool → Reply → Type 0
 CausedCall before (Free x) start r = CausedReply before start r
 CausedCall before c start r = Unit {0}
+
+-- the newest reference to the object was dropped, one from outside
+abbrev pub DropsOutside : Obj → Scene → Type 0
+DropsOutside x s = (r : Obj) × (s.item ≡ Told (Unreferenced r x)) × (newest_ref s.before.rows x ≡ Some r) × (is_inside s.before.rows (Of r) (Of x) ≡ false)
 
 -- ---- routines
 

@@ -1,31 +1,15 @@
 -- What is inside an owner, and sums over it.
-use Rattle.std.specs.Prelude.{◌≡◌, ℕ, ◌+◌, Bool, false, ◌&&◌, not, List, [], ◌∷◌, Option, Some, None, is_some, if◌then◌else◌}
-use Rattle.tree_specs.specs.declared.object.Obj.{Obj}
+use Rattle.std.specs.Prelude.{◌≡◌, ℕ, ◌+◌, false, ◌&&◌, not, List, [], ◌∷◌, if◌then◌else◌}
 use Rattle.tree_specs.specs.declared.object.Owner.{Owner}
 use Rattle.tree_specs.specs.declared.object.Owner.TheVariants.{Of}
-use Rattle.tree_specs.specs.declared.kind.Kind.{Kind}
-use Rattle.tree_specs.specs.declared.kind.Kind.TheVariants.{Plain, Reference, Timer, Immediate, Descriptor, Request, Queue, Entry}
 use Rattle.tree_specs.specs.declared.row.Row.{Row}
+use Rattle.tree_specs.specs.Targets.{is_reference}
 use Rattle.tree_specs.specs.Pool.{is_inside}
 
 -- a weight over all rows
 abbrev pub total : (Row → ℕ) → List Row → ℕ
 total g [] = 0
 total g (r ∷ rs) = g r + total g rs
-
--- what a reference refers to
-abbrev pub target_of : Kind → Option Obj
-target_of Plain = None
-target_of (Reference target) = Some target
-target_of Timer = None
-target_of Immediate = None
-target_of Descriptor = None
-target_of Request = None
-target_of Queue = None
-target_of Entry = None
-
-abbrev pub is_reference : Kind → Bool
-is_reference kind = is_some (target_of kind)
 
 -- no row is a reference
 abbrev pub NoReferences : List Row → Type 0

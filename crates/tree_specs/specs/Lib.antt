@@ -1,6 +1,7 @@
 pub mod Names
 pub mod Octets
 pub mod Objects
+pub mod Targets
 pub mod Pool
 pub mod Inside
 pub mod Forest

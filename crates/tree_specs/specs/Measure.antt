@@ -7,10 +7,10 @@ use Rattle.tree_specs.specs.declared.row.Mark.{Mark}
 use Rattle.tree_specs.specs.declared.row.Mark.TheVariants.{Quiet, Asked, Busy, Doomed, Dying}
 use Rattle.tree_specs.specs.declared.frame.Frame.{Frame}
 use Rattle.tree_specs.specs.declared.frame.Frame.TheVariants as frame
-use Rattle.tree_specs.specs.declared.frame.CallFrame.TheVariants.{Asking, Doing, Awaiting, Telling, Returning}
-use Rattle.tree_specs.specs.declared.frame.FreeFrame.TheVariants.{Beginning, Hooked, Judged, Leaving, Looping, Trying, Tried, Ending}
+use Rattle.tree_specs.specs.declared.frame.CallFrame.TheVariants.{Asking, Doing, Awaiting, Warning, Telling, Returning}
+use Rattle.tree_specs.specs.declared.frame.FreeFrame.TheVariants.{Unlinking, Releasing, Giving, Beginning, Hooked, Judged, Leaving, Looping, Trying, Tried, Ending}
 use Rattle.tree_specs.specs.declared.free_step.FreeReply.{FreeReply}
-use Rattle.tree_specs.specs.declared.free_step.FreeReply.TheVariants.{Ok, Running, Refused}
+use Rattle.tree_specs.specs.declared.free_step.FreeReply.TheVariants.{Ok, Held, Running, Refused}
 use Rattle.tree_specs.specs.Pool.{Pool, is_below}
 use Rattle.tree_specs.specs.Inside.{total}
 
@@ -44,15 +44,19 @@ abbrev pub waiting_cost : Frame → ℕ
 waiting_cost (frame.Call (Awaiting q x)) = 1
 waiting_cost (frame.Call (Asking q)) = 0
 waiting_cost (frame.Call (Doing q c)) = 0
+waiting_cost (frame.Call (Warning q x r)) = 0
 waiting_cost (frame.Call (Telling q r)) = 0
 waiting_cost (frame.Call (Returning v)) = 0
 waiting_cost (frame.Free (Hooked x h)) = 3
-waiting_cost (frame.Free (Trying x c purpose)) = 0
+waiting_cost (frame.Free (Trying x c noted purpose)) = 0
+waiting_cost (frame.Free (Unlinking o x)) = 0
+waiting_cost (frame.Free (Releasing x)) = 0
+waiting_cost (frame.Free (Giving x o)) = 0
 waiting_cost (frame.Free (Beginning x)) = 0
 waiting_cost (frame.Free (Judged x h v)) = 0
 waiting_cost (frame.Free (Leaving x h)) = 0
 waiting_cost (frame.Free (Looping x purpose)) = 0
-waiting_cost (frame.Free (Tried x c purpose answer)) = 0
+waiting_cost (frame.Free (Tried x c noted purpose answer)) = 0
 waiting_cost (frame.Free (Ending answer)) = 0
 
 abbrev pub below_cost : List Frame → ℕ
@@ -62,12 +66,13 @@ below_cost (f ∷ fs) = waiting_cost f + below_cost fs
 -- the children that the loop below still has
 abbrev pub loop_kids : List Row → List Frame → ℕ
 loop_kids rows [] = 0
-loop_kids rows (frame.Free (Trying x c purpose) ∷ fs) = 4 * count rows (Of x)
+loop_kids rows (frame.Free (Trying x c noted purpose) ∷ fs) = 4 * count rows (Of x)
 loop_kids rows (_ ∷ fs) = 0
 
 -- what comes before the next look at the children
 abbrev pub tried_cost : FreeReply → ℕ
 tried_cost Ok = 8
+tried_cost Held = 8
 tried_cost Running = 4
 tried_cost (Refused v) = 8
 
@@ -76,15 +81,19 @@ abbrev pub top_cost : ℕ → Frame → List Frame → List Row → ℕ
 top_cost R (frame.Call (Asking q)) fs rows = 0
 top_cost R (frame.Call (Doing q c)) fs rows = 16 * R + 52
 top_cost R (frame.Call (Awaiting q x)) fs rows = 0
+top_cost R (frame.Call (Warning q x r)) fs rows = 2
 top_cost R (frame.Call (Telling q r)) fs rows = 1
 top_cost R (frame.Call (Returning v)) fs rows = 4 * R + 9
+top_cost R (frame.Free (Unlinking o x)) fs rows = loop_kids rows fs + 7
+top_cost R (frame.Free (Releasing x)) fs rows = loop_kids rows fs + 6
+top_cost R (frame.Free (Giving x o)) fs rows = 4 * R + 10
 top_cost R (frame.Free (Beginning x)) fs rows = loop_kids rows fs + 5
 top_cost R (frame.Free (Hooked x h)) fs rows = 4
 top_cost R (frame.Free (Judged x h v)) fs rows = 4 * R + 10
 top_cost R (frame.Free (Leaving x h)) fs rows = 0
 top_cost R (frame.Free (Looping x purpose)) fs rows = 4 * count rows (Of x) + 7
-top_cost R (frame.Free (Trying x c purpose)) fs rows = 0
-top_cost R (frame.Free (Tried x c purpose answer)) fs rows = 4 * count rows (Of x) + tried_cost answer
+top_cost R (frame.Free (Trying x c noted purpose)) fs rows = 0
+top_cost R (frame.Free (Tried x c noted purpose answer)) fs rows = 4 * count rows (Of x) + tried_cost answer
 top_cost R (frame.Free (Ending answer)) fs rows = 4 * R + 9
 
 -- the measure, for k inputs left
@@ -96,6 +105,7 @@ abbrev pub pending : Frame → ℕ
 pending (frame.Call (Doing q c)) = 2
 pending (frame.Call (Asking q)) = 0
 pending (frame.Call (Awaiting q x)) = 0
+pending (frame.Call (Warning q x r)) = 0
 pending (frame.Call (Telling q r)) = 0
 pending (frame.Call (Returning v)) = 0
 pending (frame.Free f) = 0

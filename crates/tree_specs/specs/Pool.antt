@@ -1,5 +1,5 @@
 -- The pool: the rows of the objects, the most recently placed first, and the next serial number.
-use Rattle.std.specs.Prelude.{ℕ, suc, zero, ◌+◌, Bool, true, false, ◌||◌, List, [], ◌∷◌, length, Option, Some, None, is_some, unwrap_or, if◌then◌else◌}
+use Rattle.std.specs.Prelude.{ℕ, suc, zero, ◌+◌, Bool, true, false, not, ◌||◌, ◌&&◌, List, [], ◌∷◌, length, Option, Some, None, is_some, unwrap_or, if◌then◌else◌}
 use Rattle.tree_specs.specs.declared.object.Obj.{Obj}
 use Rattle.tree_specs.specs.declared.object.Owner.{Owner}
 use Rattle.tree_specs.specs.declared.object.Owner.TheVariants.{Root, Of}
@@ -8,6 +8,7 @@ use Rattle.tree_specs.specs.declared.row.Mark.{Mark}
 use Rattle.tree_specs.specs.declared.row.Mark.TheVariants.{Quiet, Asked, Busy, Doomed, Dying}
 use Rattle.tree_specs.specs.declared.kind.Kind.{Kind}
 use Rattle.tree_specs.specs.Objects.{same, same_owner}
+use Rattle.tree_specs.specs.Targets.{target_of, is_target, is_reference, newest, newest_ref}
 
 pub record Pool : Type 0 where
   pub rows : List Row
@@ -26,10 +27,18 @@ row_of (r ∷ rs) x = if same r.serial x then Some r else row_of rs x
 abbrev pub is_row : List Row → Obj → Bool
 is_row rs x = is_some (row_of rs x)
 
--- the root, or an object
+-- a row that is no reference
+abbrev pub is_object_row : Option Row → Bool
+is_object_row None = false
+is_object_row (Some r) = not (is_reference r.kind)
+
+abbrev pub is_object : List Row → Obj → Bool
+is_object rs x = is_object_row (row_of rs x)
+
+-- the root, or an object; a reference owns nothing
 abbrev pub is_owner : List Row → Owner → Bool
 is_owner rs Root = true
-is_owner rs (Of x) = is_row rs x
+is_owner rs (Of x) = is_object rs x
 
 -- this is the owner; a dying row has none
 abbrev pub is_below : Option Owner → Owner → Bool
@@ -52,6 +61,26 @@ owner_in (Some r) = r.owner
 
 abbrev pub owner_of : List Row → Obj → Option Owner
 owner_of rs x = owner_in (row_of rs x)
+
+abbrev pub target_in : Option Row → Option Obj
+target_in None = None
+target_in (Some r) = target_of r.kind
+
+-- what an object refers to, where it is a reference
+abbrev pub target_at : List Row → Obj → Option Obj
+target_at rs x = target_in (row_of rs x)
+
+-- the newest reference to an object that an owner has
+abbrev pub newest_ref_of : List Row → Owner → Obj → Option Obj
+newest_ref_of rs o x = newest (λ r. is_target (target_of r.kind) x && is_below r.owner o) rs
+
+abbrev pub owner_at : List Row → Option Obj → Option Owner
+owner_at rs None = None
+owner_at rs (Some r) = owner_of rs r
+
+-- the owner of the newest reference to an object
+abbrev pub noted_owner : List Row → Obj → Option Owner
+noted_owner rs x = owner_at rs (newest_ref rs x)
 
 -- the rows behind that of an object
 abbrev pub behind : List Row → Obj → List Row

@@ -1,5 +1,5 @@
 -- The report of an owner: a row for itself and for all that is below it, depth first, each owner before its children.
-use Rattle.std.specs.Prelude.{ℕ, suc, zero, ◌+◌, Bool, false, List, [], ◌∷◌, length, flat_map, Option, Some, None, codes, if◌then◌else◌}
+use Rattle.std.specs.Prelude.{ℕ, suc, zero, ◌+◌, List, [], ◌∷◌, length, flat_map, Option, Some, None, codes, if◌then◌else◌}
 use Rattle.tree_specs.specs.declared.object.Obj.{Obj}
 use Rattle.tree_specs.specs.declared.object.Owner.{Owner}
 use Rattle.tree_specs.specs.declared.object.Owner.TheVariants.{Root, Of}
@@ -9,9 +9,9 @@ use Rattle.tree_specs.specs.declared.report.RowKind.{RowKind}
 use Rattle.tree_specs.specs.declared.report.RowKind.TheVariants as row_kinds
 use Rattle.tree_specs.specs.declared.report.ReportRow.{ReportRow}
 use Rattle.tree_specs.specs.declared.row.Row.{Row}
-use Rattle.tree_specs.specs.Objects.{same}
 use Rattle.tree_specs.specs.Pool.{row_of, kids}
-use Rattle.tree_specs.specs.Inside.{total, target_of}
+use Rattle.tree_specs.specs.Targets.{target_of, is_target}
+use Rattle.tree_specs.specs.Inside.{total}
 
 abbrev pub row_kind : Kind → RowKind
 row_kind Plain = row_kinds.Plain
@@ -22,10 +22,6 @@ row_kind Descriptor = row_kinds.Fd
 row_kind Request = row_kinds.Request
 row_kind Queue = row_kinds.Queue
 row_kind Entry = row_kinds.Entry
-
-abbrev pub is_target : Option Obj → Obj → Bool
-is_target None x = false
-is_target (Some target) x = same target x
 
 abbrev pub target_number : Option Obj → ℕ
 target_number None = 0

@@ -1,5 +1,5 @@
 -- What holds at every moment: of the rows, and of what the open works claim of them.
-use Rattle.std.specs.Prelude.{◌≡◌, ◌≢◌, ℕ, ◌<◌, nat_eq, List, [], ◌∷◌, ◌++◌, Option, Some, None, Bool, true, false, if◌then◌else◌}
+use Rattle.std.specs.Prelude.{◌≡◌, ◌≢◌, ◌⊎◌, ℕ, ◌<◌, nat_eq, List, [], ◌∷◌, ◌++◌, Option, Some, None, Bool, true, false, if◌then◌else◌}
 use Rattle.tree_specs.specs.declared.object.Obj.{Obj}
 use Rattle.tree_specs.specs.declared.object.Owner.{Owner}
 use Rattle.tree_specs.specs.declared.object.Owner.TheVariants.{Of}
@@ -8,14 +8,16 @@ use Rattle.tree_specs.specs.declared.row.Mark.{Mark}
 use Rattle.tree_specs.specs.declared.row.Mark.TheVariants.{Quiet, Asked, Busy, Doomed, Dying}
 use Rattle.tree_specs.specs.declared.frame.Frame.{Frame}
 use Rattle.tree_specs.specs.declared.frame.Frame.TheVariants as frame
-use Rattle.tree_specs.specs.declared.frame.CallFrame.TheVariants.{Asking, Doing, Awaiting, Telling, Returning}
-use Rattle.tree_specs.specs.declared.frame.FreeFrame.TheVariants.{Beginning, Hooked, Judged, Leaving, Looping, Trying, Tried, Ending}
+use Rattle.tree_specs.specs.declared.frame.CallFrame.TheVariants.{Asking, Doing, Awaiting, Warning, Telling, Returning}
+use Rattle.tree_specs.specs.declared.frame.FreeFrame.TheVariants.{Unlinking, Releasing, Giving, Beginning, Hooked, Judged, Leaving, Looping, Trying, Tried, Ending}
 use Rattle.tree_specs.specs.declared.frame.Purpose.{Purpose}
 use Rattle.tree_specs.specs.declared.frame.Purpose.TheVariants.{Removal, Emptying}
 use Rattle.tree_specs.specs.declared.free_step.FreeReply.{FreeReply}
-use Rattle.tree_specs.specs.declared.free_step.FreeReply.TheVariants.{Ok, Running, Refused}
+use Rattle.tree_specs.specs.declared.free_step.FreeReply.TheVariants.{Ok, Held, Running, Refused}
 use Rattle.tree_specs.specs.Objects.{same}
-use Rattle.tree_specs.specs.Pool.{Pool, row_of, owner_of}
+use Rattle.tree_specs.specs.Targets.{target_of, newest_ref}
+use Rattle.tree_specs.specs.Pool.{Pool, row_of, owner_of, target_at, noted_owner, is_owner, is_inside}
+use Rattle.tree_specs.specs.Calls.{is_plain}
 use Rattle.tree_specs.specs.Forest.{IsForest}
 
 -- an owner or a former owner is another object; a dying row has no owner, and every other one has
@@ -70,13 +72,16 @@ leave_claim h b = if nat_eq h 0 then [] else claim_if b InRun
 -- what an open work claims of x
 abbrev pub claim : Obj → Frame → List Phase
 claim x (frame.Call f) = []
+claim x (frame.Free (Unlinking o y)) = []
+claim x (frame.Free (Releasing y)) = []
+claim x (frame.Free (Giving y o)) = []
 claim x (frame.Free (Beginning y)) = []
 claim x (frame.Free (Hooked y h)) = claim_if (same y x) InRun
 claim x (frame.Free (Judged y h v)) = claim_if (same y x) InRun
 claim x (frame.Free (Leaving y h)) = leave_claim h (same y x)
 claim x (frame.Free (Looping y purpose)) = loop_claim purpose (same y x)
-claim x (frame.Free (Trying y c purpose)) = loop_claim purpose (same y x)
-claim x (frame.Free (Tried y c purpose answer)) = loop_claim purpose (same y x)
+claim x (frame.Free (Trying y c noted purpose)) = loop_claim purpose (same y x)
+claim x (frame.Free (Tried y c noted purpose answer)) = loop_claim purpose (same y x)
 claim x (frame.Free (Ending answer)) = []
 
 abbrev pub claims : Obj → List Frame → List Phase
@@ -98,15 +103,19 @@ abbrev pub IsWaiting : Frame → List Frame → Type 0
 IsWaiting (frame.Call (Awaiting q x)) fs = Unit {0}
 IsWaiting (frame.Call (Asking q)) fs = ⊥
 IsWaiting (frame.Call (Doing q c)) fs = ⊥
+IsWaiting (frame.Call (Warning q x r)) fs = ⊥
 IsWaiting (frame.Call (Telling q r)) fs = ⊥
 IsWaiting (frame.Call (Returning v)) fs = ⊥
 IsWaiting (frame.Free (Hooked x h)) fs = 0 < h
-IsWaiting (frame.Free (Trying x c purpose)) fs = Stands purpose fs
+IsWaiting (frame.Free (Trying x c noted purpose)) fs = Stands purpose fs
+IsWaiting (frame.Free (Unlinking o x)) fs = ⊥
+IsWaiting (frame.Free (Releasing x)) fs = ⊥
+IsWaiting (frame.Free (Giving x o)) fs = ⊥
 IsWaiting (frame.Free (Beginning x)) fs = ⊥
 IsWaiting (frame.Free (Judged x h v)) fs = ⊥
 IsWaiting (frame.Free (Leaving x h)) fs = ⊥
 IsWaiting (frame.Free (Looping x purpose)) fs = ⊥
-IsWaiting (frame.Free (Tried x c purpose answer)) fs = ⊥
+IsWaiting (frame.Free (Tried x c noted purpose answer)) fs = ⊥
 IsWaiting (frame.Free (Ending answer)) fs = ⊥
 
 abbrev pub AllWait : List Frame → Type 0
@@ -120,50 +129,96 @@ IsLive Busy = Unit {0}
 IsLive Doomed = Unit {0}
 IsLive (Dying former) = ⊥
 
--- an object whose freeing begins is the child that is tried, where the work below tries one
+-- ---- references
+
+-- a plain object that nothing is going on with
+abbrev pub IsReferable : Option Row → Type 0
+IsReferable None = ⊥
+IsReferable (Some r) = (is_plain r.kind ≡ true) × (r.mark ≡ Quiet)
+
+abbrev pub IsQuietRow : Option Row → Type 0
+IsQuietRow None = ⊥
+IsQuietRow (Some r) = r.mark ≡ Quiet
+
+-- what a reference refers to is there, is plain, and neither runs nor dies; nothing goes on with a reference
+pub record Refers (rows : List Row) : Type 0 where
+  pub target : (r t : Obj) → target_at rows r ≡ Some t → IsReferable (row_of rows t)
+  pub quiet : (r t : Obj) → target_at rows r ≡ Some t → IsQuietRow (row_of rows r)
+
+-- the owner that was noted for a child of x is that of its newest reference; after that is dropped, it is not x
+abbrev pub NotedFor : Obj → Obj → Option Owner → Pool → Type 0
+NotedFor x c noted p = (noted ≡ noted_owner p.rows c) ⊎ (noted ≢ Some (Of x))
+
+-- an object whose freeing begins is the child that is tried, where the work below tries one; a call begins it only where
+-- there is no reference to it
 abbrev pub Tries : Obj → List Frame → Pool → Type 0
-Tries c (frame.Free (Trying x d purpose) ∷ fs) p = (d ≡ c) × (owner_of p.rows c ≡ Some (Of x))
-Tries c (frame.Call (Awaiting q x) ∷ fs) p = Unit {0}
+Tries c (frame.Free (Trying x d noted purpose) ∷ fs) p = (d ≡ c) × (owner_of p.rows c ≡ Some (Of x)) × NotedFor x c noted p
+Tries c (frame.Call (Awaiting q x) ∷ fs) p = newest_ref p.rows c ≡ None
 Tries c fs p = fs ≡ []
 
--- a child that runs is where it was
-abbrev pub StillThere : FreeReply → Obj → Obj → Pool → Type 0
-StillThere Ok x c p = Unit {0}
-StillThere Running x c p = owner_of p.rows c ≡ Some (Of x)
-StillThere (Refused v) x c p = Unit {0}
+-- a child that runs is where it was, and no reference of its owner's was noted
+abbrev pub StillThere : FreeReply → Obj → Obj → Option Owner → Pool → Type 0
+StillThere Ok x c noted p = Unit {0}
+StillThere Held x c noted p = Unit {0}
+StillThere Running x c noted p = (owner_of p.rows c ≡ Some (Of x)) × (noted ≢ Some (Of x))
+StillThere (Refused v) x c noted p = Unit {0}
 
 -- a free that has begun doesn't answer that the object runs
 abbrev pub IsOver : FreeReply → Type 0
 IsOver Ok = Unit {0}
+IsOver Held = Unit {0}
 IsOver Running = ⊥
 IsOver (Refused v) = Unit {0}
+
+-- a call is not answered that the object is held: it looks at the references before
+abbrev pub MayAnswer : FreeReply → List Frame → Type 0
+MayAnswer Held (frame.Call (Awaiting q x) ∷ fs) = ⊥
+MayAnswer answer fs = Unit {0}
 
 -- the destructor that an object has
 abbrev pub HasHook : Option Row → ℕ → Type 0
 HasHook None h = ⊥
 HasHook (Some r) h = r.hook ≡ h
 
+-- what is known of an object that may be put below an owner
+pub record MayBePlaced (p : Pool) (o : Owner) (x : Obj) : Type 0 where
+  pub row : Row
+  pub is : row_of p.rows x ≡ Some row
+  pub live : IsLive row.mark
+  pub apart : o ≢ Of x
+  pub there : is_owner p.rows o ≡ true
+  pub outside : is_inside p.rows o (Of x) ≡ false
+
+-- a live object that a call takes an interest away from
+abbrev pub IsGivenUp : Obj → List Frame → Pool → Type 0
+IsGivenUp x fs p = IsCalled fs × (r : Row) × (row_of p.rows x ≡ Some r) × IsLive r.mark × (target_of r.kind ≡ None)
+
 -- what the innermost work rests on
 abbrev pub Rests : Frame → List Frame → Pool → Type 0
 Rests (frame.Call (Asking q)) fs p = Unit {0}
 Rests (frame.Call (Doing q c)) fs p = Unit {0}
 Rests (frame.Call (Awaiting q x)) fs p = ⊥
+Rests (frame.Call (Warning q x r)) fs p = Unit {0}
 Rests (frame.Call (Telling q r)) fs p = Unit {0}
 Rests (frame.Call (Returning v)) fs p = Unit {0}
-Rests (frame.Free (Beginning x)) fs p = Tries x fs p
+Rests (frame.Free (Unlinking o x)) fs p = IsGivenUp x fs p
+Rests (frame.Free (Releasing x)) fs p = IsGivenUp x fs p
+Rests (frame.Free (Giving x o)) fs p = MayBePlaced p o x
+Rests (frame.Free (Beginning x)) fs p = Tries x fs p × (target_at p.rows x ≡ None)
 Rests (frame.Free (Hooked x h)) fs p = (0 < h) × HasHook (row_of p.rows x) h
 Rests (frame.Free (Judged x h v)) fs p = 0 < h
-Rests (frame.Free (Leaving x h)) fs p = (r : Row) × (row_of p.rows x ≡ Some r) × IsLive r.mark × (claims x fs ≡ [])
+Rests (frame.Free (Leaving x h)) fs p = (r : Row) × (row_of p.rows x ≡ Some r) × IsLive r.mark × (claims x fs ≡ []) × (target_of r.kind ≡ None) × (newest_ref p.rows x ≡ None)
 Rests (frame.Free (Looping x purpose)) fs p = Stands purpose fs
-Rests (frame.Free (Trying x c purpose)) fs p = ⊥
-Rests (frame.Free (Tried x c purpose answer)) fs p = StillThere answer x c p × Stands purpose fs
-Rests (frame.Free (Ending answer)) fs p = IsOver answer
+Rests (frame.Free (Trying x c noted purpose)) fs p = ⊥
+Rests (frame.Free (Tried x c noted purpose answer)) fs p = StillThere answer x c noted p × Stands purpose fs
+Rests (frame.Free (Ending answer)) fs p = IsOver answer × MayAnswer answer fs
 
 pub record Sound (f : Frame) (fs : List Frame) (p : Pool) : Type 0 where
   pub started : 0 < p.next
   pub valid : (x : Obj) → ValidAt p.next (row_of p.rows x) x
   -- each number stands once, the owner of each row is the root or a row, and from owner to owner one comes to an end
   pub forest : IsForest p.rows
+  pub refers : Refers p.rows
   -- each object that runs or is dying is in exactly one open free, and no other object is
   pub open_frees : (x : Obj) → claim x f ++ claims x fs ≡ phases (row_of p.rows x)
   pub waiting : AllWait fs

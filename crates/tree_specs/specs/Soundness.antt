@@ -3,7 +3,7 @@ use Rattle.std.specs.Prelude.{ℕ, ◌^◌, Bool, true, ◌&&◌, nat_lt}
 use Rattle.tree_specs.specs.declared.object.Owner.{Owner}
 use Rattle.tree_specs.specs.declared.object.Owner.TheVariants.{Root, Of}
 use Rattle.tree_specs.specs.declared.call.Call.{Call}
-use Rattle.tree_specs.specs.declared.call.Call.TheVariants.{New, Free, Freekids, Steal, Move, Reparent, Hook, Unhook, Rename, Parent, Total, Count, Report}
+use Rattle.tree_specs.specs.declared.call.Call.TheVariants.{New, Free, Freekids, Steal, Move, Reparent, Reference, Unlink, Hook, Unhook, Rename, Parent, Total, Count, Report}
 use Rattle.tree_specs.specs.declared.question.Act.{Act}
 use Rattle.tree_specs.specs.declared.question.Act.TheVariants as acts
 use Rattle.tree_specs.specs.declared.question.Input.{Input}
@@ -33,6 +33,8 @@ is_sound_call (Freekids x) = is_number x.0
 is_sound_call (Steal owner x) = is_sound_owner owner && is_number x.0
 is_sound_call (Move owner x) = is_sound_owner owner && is_number x.0
 is_sound_call (Reparent from to x) = is_sound_owner from && is_sound_owner to && is_number x.0
+is_sound_call (Reference owner x) = is_sound_owner owner && is_number x.0
+is_sound_call (Unlink owner x) = is_sound_owner owner && is_number x.0
 is_sound_call (Hook x routine) = is_number x.0 && is_routine routine
 is_sound_call (Unhook x) = is_number x.0
 is_sound_call (Rename x name) = is_number x.0 && is_name name

@@ -1,17 +1,17 @@
 -- The rules of freeing, of destructors and of calls, and the story that they tell. Each turn hands on one less.
-use Rattle.std.specs.Prelude.{ℕ, suc, zero, ◌+◌, ◌-◌, ◌*◌, ◌^◌, nat_eq, nat_lt, List, [], ◌∷◌, length, map, Option, Some, None, unwrap_or, if◌then◌else◌}
+use Rattle.std.specs.Prelude.{ℕ, suc, zero, Bool, ◌&&◌, not, is_some, codes, ◌+◌, ◌-◌, ◌*◌, ◌^◌, nat_eq, nat_lt, List, [], ◌∷◌, length, map, Option, Some, None, unwrap_or, if◌then◌else◌}
 use Rattle.step_machine.specs.Machine.{items as told_by}
 use Rattle.tree_specs.specs.declared.object.Obj.{Obj}
 use Rattle.tree_specs.specs.declared.object.Owner.TheVariants.{Root, Of}
 use Rattle.tree_specs.specs.declared.object.Owner.{Owner}
-use Rattle.tree_specs.specs.declared.kind.Kind.TheVariants.{Plain}
+use Rattle.tree_specs.specs.declared.kind.Kind.TheVariants.{Plain, Reference}
 use Rattle.tree_specs.specs.declared.row.Mark.TheVariants as mark
 use Rattle.tree_specs.specs.declared.call.Call.{Call}
 use Rattle.tree_specs.specs.declared.call.Call.TheVariants as call
 use Rattle.tree_specs.specs.declared.reply.Refusal.TheVariants as refusal
 use Rattle.tree_specs.specs.declared.reply.Reply.{Reply}
 use Rattle.tree_specs.specs.declared.reply.Reply.TheVariants as reply
-use Rattle.tree_specs.specs.declared.event.Event.TheVariants.{Replied, Accepted, Refused, Moved, Freed}
+use Rattle.tree_specs.specs.declared.event.Event.TheVariants.{Replied, Accepted, Refused, Moved, Warned, Freed, Unreferenced}
 use Rattle.tree_specs.specs.declared.moment.Moment.{Moment}
 use Rattle.tree_specs.specs.declared.moment.What.TheVariants.{Hook as ForHook}
 use Rattle.tree_specs.specs.declared.question.Ask.{Ask}
@@ -22,9 +22,10 @@ use Rattle.tree_specs.specs.declared.question.Input.{Input}
 use Rattle.tree_specs.specs.declared.question.Input.TheVariants as input
 use Rattle.tree_specs.specs.declared.free_step.FreeReply.{FreeReply}
 use Rattle.tree_specs.specs.declared.free_step.FreeReply.TheVariants as free_reply
-use Rattle.tree_specs.specs.declared.free_step.FreeReply.TheVariants.{Ok, Running}
+use Rattle.tree_specs.specs.declared.free_step.FreeReply.TheVariants.{Ok, Held, Running}
 use Rattle.tree_specs.specs.Objects.{owner_number}
-use Rattle.tree_specs.specs.Pool.{empty, row_of, is_below, owner_of, first_kid, add, detach, remove, place, rename, set_mark, set_hook}
+use Rattle.tree_specs.specs.Targets.{newest_ref}
+use Rattle.tree_specs.specs.Pool.{Pool, empty, row_of, is_below, owner_of, newest_ref_of, target_at, noted_owner, is_inside, first_kid, add, detach, remove, place, rename, set_mark, set_hook}
 use Rattle.tree_specs.specs.Inside.{size_inside, count_inside}
 use Rattle.tree_specs.specs.Heirs.{heir}
 use Rattle.tree_specs.specs.Reports.{report}
@@ -37,6 +38,7 @@ use Rattle.tree_specs.specs.Works.{Work, Scene, Begun, ◌>>=◌, ◌>>◌, give
 -- the reply to a call that frees
 abbrev pub freed_reply : Obj → FreeReply → Reply
 freed_reply x Ok = reply.Ok
+freed_reply x Held = reply.No (refusal.Held x)
 freed_reply x Running = reply.No (refusal.Running x)
 freed_reply x (free_reply.Refused v) = reply.No (refusal.Refused x v)
 
@@ -84,84 +86,169 @@ abbrev pub unless_refused : Check → Work Reply → Work Reply
 unless_refused [] effect = effect
 unless_refused (why ∷ later) effect = gives (reply.No why)
 
--- the effect of a call and its reply, where `free` frees an object and `children` those of an object
-abbrev pub effect : (Obj → Work FreeReply) → (Obj → Work (Unit {0})) → Call → Work Reply
-effect free children (call.New o size name) = do
+-- an object that has references is given to another owner
+abbrev pub warns : Pool → Owner → Obj → Bool
+warns p o x = is_some (newest_ref p.rows x) && not (is_below (owner_of p.rows x) o)
+
+-- the object of which a call is to warn
+abbrev pub warned_by : Call → Pool → Option Obj
+warned_by (call.Steal o x) p = if warns p o x then Some x else None
+warned_by (call.Move o x) p = if warns p o x then Some x else None
+warned_by c p = None
+
+-- a call that is refused warns of nothing
+abbrev pub warned_in : Check → Call → Pool → Option Obj
+warned_in [] c p = warned_by c p
+warned_in (why ∷ later) c p = None
+
+abbrev pub place_ref : Pool → Owner → Option Obj → Pool
+place_ref p o None = p
+place_ref p o (Some r) = place p o r
+
+-- an object goes from its owner to another one, or the newest reference of an owner does
+abbrev pub reparented : Pool → Owner → Owner → Obj → Pool
+reparented p from to x = if is_below (owner_of p.rows x) from then place p to x else place_ref p to (newest_ref_of p.rows from x)
+
+-- a new reference
+abbrev pub refer : Pool → Owner → Obj → Pool
+refer p o x = add p (Reference x) o 0 (codes "reference")
+
+-- the effect of a call and its reply, where `free` frees an object, `unlink` takes an owner's interest in it away, and
+-- `children` frees those of an object
+abbrev pub effect : (Obj → Work FreeReply) → (Owner → Obj → Work FreeReply) → (Obj → Work (Unit {0})) → Call → Work Reply
+effect free unlink children (call.New o size name) = do
   p ← pool
   change (λ q. add q Plain o size name)
   gives (reply.Number p.next)
-effect free children (call.Free x) = do
-  answer ← free x
+effect free unlink children (call.Free x) = do
+  p ← pool
+  answer ← elim (newest_ref p.rows x) [
+    | None ↦ free x
+    | Some r ↦ unlink Root x
+  ]
   gives (freed_reply x answer)
-effect free children (call.Freekids x) = do
+effect free unlink children (call.Freekids x) = do
   children x
   gives reply.Ok
-effect free children (call.Steal o x) = do
+effect free unlink children (call.Steal o x) = do
   change (λ p. place p o x)
   gives reply.Ok
-effect free children (call.Move o x) = do
+effect free unlink children (call.Move o x) = do
   change (λ p. place p o x)
   gives (reply.Number x.0)
-effect free children (call.Reparent from to x) = do
-  change (λ p. place p to x)
+effect free unlink children (call.Reparent from to x) = do
+  change (λ p. reparented p from to x)
   gives reply.Ok
-effect free children (call.Hook x routine) = do
+effect free unlink children (call.Reference o x) = do
+  p ← pool
+  change (λ q. refer q o x)
+  gives (reply.Number p.next)
+effect free unlink children (call.Unlink o x) = do
+  answer ← unlink o x
+  gives (freed_reply x answer)
+effect free unlink children (call.Hook x routine) = do
   change (λ p. set_hook p x routine)
   gives reply.Ok
-effect free children (call.Unhook x) = do
+effect free unlink children (call.Unhook x) = do
   change (λ p. set_hook p x 0)
   gives reply.Ok
-effect free children (call.Rename x name) = do
+effect free unlink children (call.Rename x name) = do
   change (λ p. rename p x name)
   gives reply.Ok
-effect free children (call.Parent x) = do
+effect free unlink children (call.Parent x) = do
   p ← pool
   gives (owner_reply (owner_of p.rows x))
-effect free children (call.Total o) = do
+effect free unlink children (call.Total o) = do
   p ← pool
   gives (reply.Number (size_inside p.rows o))
-effect free children (call.Count o) = do
+effect free unlink children (call.Count o) = do
   p ← pool
   gives (reply.Number (count_inside p.rows o))
-effect free children (call.Report o) = do
+effect free unlink children (call.Report o) = do
   p ← pool
   gives (reply.Rows (report p.rows o))
 
 -- a child of x that wasn't freed goes to its heir, where x still is its owner
-abbrev pub hand_on : Obj → Obj → Work (Unit {0})
-hand_on x c = do
+abbrev pub hand_on : Obj → Obj → Option Owner → Work (Unit {0})
+hand_on x c noted = do
   p ← pool
   if is_below (owner_of p.rows c) (Of x)
       then (do
-        tells (Told (Moved c (heir p.rows x c)))
-        change (λ q. place q (heir p.rows x c) c))
+        tells (Told (Moved c (heir p.rows x c noted)))
+        change (λ q. place q (heir p.rows x c noted) c))
       else gives tt
 
-abbrev pub hand_on_after : Obj → Obj → FreeReply → Work (Unit {0})
-hand_on_after x c Ok = gives tt
-hand_on_after x c Running = hand_on x c
-hand_on_after x c (free_reply.Refused v) = hand_on x c
+abbrev pub hand_on_after : Obj → Obj → Option Owner → FreeReply → Work (Unit {0})
+hand_on_after x c noted Ok = gives tt
+hand_on_after x c noted Held = hand_on x c noted
+hand_on_after x c noted Running = hand_on x c noted
+hand_on_after x c noted (free_reply.Refused v) = hand_on x c noted
+
+-- a reference is no more
+abbrev pub drops : Obj → Obj → Work (Unit {0})
+drops r target = do
+  tells (Told (Unreferenced r target))
+  change (λ q. remove q r)
 
 abbrev mutual
-  -- An object is freed. One that is dying is left to the free that it is in, and one that runs can't be freed now.
+  -- An owner's interest in an object is taken away: its newest reference to it is dropped, or it gives the object up.
+  pub unlink : ℕ → Owner → Obj → Work FreeReply
+  unlink zero o x = short
+  unlink (suc n) o x = do
+    p ← pool
+    elim (newest_ref_of p.rows o x) [
+      | Some r ↦ (do
+        drops r x
+        gives Ok)
+      | None ↦ release n x
+    ]
+
+  -- Its owner gives an object up: to the owner of the newest reference that isn't inside it. Where there is none, it is
+  -- freed.
+  pub release : ℕ → Obj → Work FreeReply
+  release zero x = short
+  release (suc n) x = do
+    p ← pool
+    elim (newest_ref p.rows x) [
+      | Some r ↦ (do
+        drops r x
+        if is_inside p.rows (Of r) (Of x) then release n x else given n x (unwrap_or (owner_of p.rows r) Root))
+      | None ↦ free n x
+    ]
+
+  pub given : ℕ → Obj → Owner → Work FreeReply
+  given zero x o = short
+  given (suc n) x o = do
+    tells (Told (Moved x o))
+    change (λ p. place p o x)
+    gives Ok
+
+  -- An object is freed. The newest reference to it is dropped first: one from inside makes the freeing begin again, and
+  -- one from outside holds the object. One that is dying is left to the free that it is in, and one that runs can't be
+  -- freed now.
   pub free : ℕ → Obj → Work FreeReply
   free zero x = short
   free (suc n) x = do
     p ← pool
-    elim (row_of p.rows x) [
-      | None ↦ gives Ok
-      | Some r ↦ elim r.mark [
-        | mark.Quiet ↦ if nat_eq r.hook 0
-            then leave n x 0
-            else (do
-              change (λ q. set_mark q x mark.Asked)
-              hooked n x r.hook)
-        | mark.Asked ↦ gives Running
-        | mark.Busy ↦ (do
-          change (λ q. set_mark q x mark.Doomed)
-          gives Running)
-        | mark.Doomed ↦ gives Running
-        | mark.Dying former ↦ gives Ok
+    elim (newest_ref p.rows x) [
+      | Some r ↦ (do
+        drops r x
+        if is_inside p.rows (Of r) (Of x) then free n x else gives Held)
+      | None ↦ elim (row_of p.rows x) [
+        | None ↦ gives Ok
+        | Some r ↦ elim r.mark [
+          | mark.Quiet ↦ if nat_eq r.hook 0
+              then leave n x 0
+              else (do
+                change (λ q. set_mark q x mark.Asked)
+                hooked n x r.hook)
+          | mark.Asked ↦ gives Running
+          | mark.Busy ↦ (do
+            change (λ q. set_mark q x mark.Doomed)
+            gives Running)
+          | mark.Doomed ↦ gives Running
+          | mark.Dying former ↦ gives Ok
+        ]
       ]
     ]
 
@@ -195,23 +282,28 @@ abbrev mutual
     change (λ p. remove p x)
     gives Ok
 
-  -- while it has children, the first one is freed
+  -- while it has children, the first one is freed; one that is a reference is dropped
   pub children : ℕ → Obj → Work (Unit {0})
   children zero x = short
   children (suc n) x = do
     p ← pool
     elim (first_kid p.rows (Of x)) [
       | None ↦ gives tt
-      | Some c ↦ (do
-        answer ← free n c
-        tried n x c answer)
+      | Some c ↦ elim (target_at p.rows c) [
+        | Some target ↦ (do
+          drops c target
+          children n x)
+        | None ↦ (do
+          answer ← free n c
+          tried n x c (noted_owner p.rows c) answer)
+      ]
     ]
 
   -- a child that wasn't freed is handed on, and the next one is looked for
-  pub tried : ℕ → Obj → Obj → FreeReply → Work (Unit {0})
-  tried zero x c answer = short
-  tried (suc n) x c answer = do
-    hand_on_after x c answer
+  pub tried : ℕ → Obj → Obj → Option Owner → FreeReply → Work (Unit {0})
+  tried zero x c noted answer = short
+  tried (suc n) x c noted answer = do
+    hand_on_after x c noted answer
     children n x
 
   -- A caller is asked: the host's own for call after call, a routine for act after act until it returns.
@@ -223,8 +315,17 @@ abbrev mutual
   acting zero q c = short
   acting (suc n) q c = do
     p ← pool
-    r ← unless_refused (refusals p c) (effect (free n) (children n) c)
-    telling n (Some (record { call = c; start = p })) (later q r) r
+    r ← unless_refused (refusals p c) (effect (free n) (unlink n) (children n) c)
+    elim (warned_in (refusals p c) c p) [
+      | None ↦ telling n (Some (record { call = c; start = p })) (later q r) r
+      | Some x ↦ warning n (Some (record { call = c; start = p })) q x r
+    ]
+
+  pub warning : ℕ → Option Begun → Ask → Obj → Reply → Work ℕ
+  warning zero about q x r = short
+  warning (suc n) about q x r = do
+    tells (Told (Warned x))
+    telling n about (later q r) r
 
   pub telling : ℕ → Option Begun → Ask → Reply → Work ℕ
   telling zero about q r = short

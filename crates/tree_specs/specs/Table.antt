@@ -1,9 +1,10 @@
 -- The same rules as tables of single steps, one row for each kind of open work.
-use Rattle.std.specs.Prelude.{ℕ, nat_eq, [], ◌∷◌, Option, Some, None, unwrap_or, if◌then◌else◌}
+use Rattle.std.specs.Prelude.{ℕ, Bool, true, false, nat_eq, [], ◌∷◌, Option, Some, None, unwrap_or, if◌then◌else◌}
 use Rattle.step_machine.specs.Machine.{Move, Table}
 use Rattle.step_machine.specs.Machine.{Move as Do}
 use Rattle.step_machine.specs.Noted.{Notes}
 use Rattle.tree_specs.specs.declared.object.Obj.{Obj}
+use Rattle.tree_specs.specs.declared.object.Owner.{Owner}
 use Rattle.tree_specs.specs.declared.object.Owner.TheVariants.{Root, Of}
 use Rattle.tree_specs.specs.declared.row.Row.{Row}
 use Rattle.tree_specs.specs.declared.row.Mark.{Mark}
@@ -21,19 +22,20 @@ use Rattle.tree_specs.specs.declared.question.Input.{Input}
 use Rattle.tree_specs.specs.declared.frame.Frame.{Frame}
 use Rattle.tree_specs.specs.declared.frame.Frame.TheVariants as frame
 use Rattle.tree_specs.specs.declared.frame.CallFrame.{CallFrame}
-use Rattle.tree_specs.specs.declared.frame.CallFrame.TheVariants.{Asking, Doing, Awaiting, Telling, Returning}
+use Rattle.tree_specs.specs.declared.frame.CallFrame.TheVariants.{Asking, Doing, Awaiting, Warning, Telling, Returning}
 use Rattle.tree_specs.specs.declared.frame.FreeFrame.{FreeFrame}
-use Rattle.tree_specs.specs.declared.frame.FreeFrame.TheVariants.{Beginning, Hooked, Judged, Leaving, Looping, Trying, Tried, Ending}
+use Rattle.tree_specs.specs.declared.frame.FreeFrame.TheVariants.{Unlinking, Releasing, Giving, Beginning, Hooked, Judged, Leaving, Looping, Trying, Tried, Ending}
 use Rattle.tree_specs.specs.declared.frame.Purpose.{Purpose}
 use Rattle.tree_specs.specs.declared.frame.Purpose.TheVariants.{Removal, Emptying}
 use Rattle.tree_specs.specs.declared.frame.Answer.{Answer}
 use Rattle.tree_specs.specs.declared.frame.Answer.TheVariants.{Freed, Returned}
 use Rattle.tree_specs.specs.declared.free_step.FreeReply.{FreeReply}
 use Rattle.tree_specs.specs.declared.free_step.FreeReply.TheVariants as free_reply
-use Rattle.tree_specs.specs.declared.free_step.FreeReply.TheVariants.{Ok, Running}
+use Rattle.tree_specs.specs.declared.free_step.FreeReply.TheVariants.{Ok, Held, Running}
 use Rattle.tree_specs.specs.declared.free_step.FreeStep.{FreeStep}
-use Rattle.tree_specs.specs.declared.free_step.FreeStep.TheVariants.{Ask as AskOf, Refused, Accepted, Left, Moved, Gone, Done as Over}
-use Rattle.tree_specs.specs.Pool.{Pool, row_of, is_below, owner_of, first_kid, add, detach, remove, place, rename, set_mark, set_hook}
+use Rattle.tree_specs.specs.declared.free_step.FreeStep.TheVariants.{Ask as AskOf, Dropped, Refused, Accepted, Left, Moved, Gone, Done as Over}
+use Rattle.tree_specs.specs.Targets.{newest_ref}
+use Rattle.tree_specs.specs.Pool.{Pool, row_of, is_below, owner_of, target_at, newest_ref_of, noted_owner, is_inside, first_kid, add, detach, remove, place, rename, set_mark, set_hook}
 use Rattle.tree_specs.specs.Inside.{size_inside, count_inside}
 use Rattle.tree_specs.specs.Heirs.{heir}
 use Rattle.tree_specs.specs.Reports.{report}
@@ -41,7 +43,7 @@ use Rattle.tree_specs.specs.Items.{Item}
 use Rattle.tree_specs.specs.Items.Item.{Told, Asked}
 use Rattle.tree_specs.specs.Calls.{Check, refusals}
 use Rattle.tree_specs.specs.Works.{Begun}
-use Rattle.tree_specs.specs.Story.{freed_reply, owner_reply, hook_moment, later, heard}
+use Rattle.tree_specs.specs.Story.{freed_reply, owner_reply, warns, reparented, refer, hook_moment, later, heard}
 
 -- ---- freeing
 
@@ -65,6 +67,30 @@ abbrev pub begin_step : Obj → Option Row → Pool → FreeMove
 begin_step x None p = Do.Done Ok p
 begin_step x (Some r) p = begin_by x r.hook r.mark p
 
+-- the newest reference is dropped: one from inside makes the freeing begin again, and one from outside holds the object
+abbrev pub drop_step : Obj → Obj → Pool → FreeMove
+drop_step x r p =
+    if is_inside p.rows (Of r) (Of x) then Do.Emit (Dropped r x) (Beginning x) (remove p r)
+    else Do.Emit (Dropped r x) (Ending Held) (remove p r)
+
+-- an owner's newest reference to the object goes; an owner that has none gives the object up
+abbrev pub unlink_step : Obj → Option Obj → Pool → FreeMove
+unlink_step x None p = Do.Go (Releasing x) p
+unlink_step x (Some r) p = Do.Emit (Dropped r x) (Ending Ok) (remove p r)
+
+-- the newest reference is dropped; where it was inside the object the next one is looked at, and else its owner gets
+-- the object
+abbrev pub release_step : Obj → Option Obj → Pool → FreeMove
+release_step x None p = Do.Go (Beginning x) p
+release_step x (Some r) p =
+    if is_inside p.rows (Of r) (Of x) then Do.Emit (Dropped r x) (Releasing x) (remove p r)
+    else Do.Emit (Dropped r x) (Giving x (unwrap_or (owner_of p.rows r) Root)) (remove p r)
+
+-- references come first
+abbrev pub refs_step : Obj → Option Obj → Pool → FreeMove
+refs_step x None p = begin_step x (row_of p.rows x) p
+refs_step x (Some r) p = drop_step x r p
+
 -- a destructor has accepted with 0, or refused with any other number
 abbrev pub judge_step : Obj → ℕ → ℕ → Pool → FreeMove
 judge_step x h v p =
@@ -76,52 +102,67 @@ abbrev pub last_step : Obj → Purpose → Pool → FreeMove
 last_step x (Removal h) p = Do.Emit (Gone x h) (Ending Ok) (remove p x)
 last_step x Emptying p = Do.Done Ok p
 
+-- a child that is a reference is dropped, and any other is freed
+abbrev pub child_step : Obj → Obj → Purpose → Option Obj → Pool → FreeMove
+child_step x c purpose None p = Do.Call (Beginning c) (Trying x c (noted_owner p.rows c) purpose) p
+child_step x c purpose (Some target) p = Do.Emit (Dropped c target) (Looping x purpose) (remove p c)
+
 abbrev pub loop_step : Obj → Purpose → Option Obj → Pool → FreeMove
 loop_step x purpose None p = last_step x purpose p
-loop_step x purpose (Some c) p = Do.Call (Beginning c) (Trying x c purpose) p
+loop_step x purpose (Some c) p = child_step x c purpose (target_at p.rows c) p
 
 -- a child that wasn't freed goes to its heir, where x still is its owner
-abbrev pub hand_on_step : Obj → Obj → Purpose → Pool → FreeMove
-hand_on_step x c purpose p =
+abbrev pub hand_on_step : Obj → Obj → Option Owner → Purpose → Pool → FreeMove
+hand_on_step x c noted purpose p =
     if is_below (owner_of p.rows c) (Of x)
-    then Do.Emit (Moved c (Of x) (heir p.rows x c)) (Looping x purpose) (place p (heir p.rows x c) c)
+    then Do.Emit (Moved c (Of x) (heir p.rows x c noted)) (Looping x purpose) (place p (heir p.rows x c noted) c)
     else Do.Go (Looping x purpose) p
 
-abbrev pub tried_step : Obj → Obj → Purpose → FreeReply → Pool → FreeMove
-tried_step x c purpose Ok p = Do.Go (Looping x purpose) p
-tried_step x c purpose Running p = hand_on_step x c purpose p
-tried_step x c purpose (free_reply.Refused v) p = hand_on_step x c purpose p
+abbrev pub tried_step : Obj → Obj → Option Owner → Purpose → FreeReply → Pool → FreeMove
+tried_step x c noted purpose Ok p = Do.Go (Looping x purpose) p
+tried_step x c noted purpose Held p = hand_on_step x c noted purpose p
+tried_step x c noted purpose Running p = hand_on_step x c noted purpose p
+tried_step x c noted purpose (free_reply.Refused v) p = hand_on_step x c noted purpose p
 
 abbrev pub free_step : FreeFrame → Pool → FreeMove
-free_step (Beginning x) p = begin_step x (row_of p.rows x) p
+free_step (Unlinking o x) p = unlink_step x (newest_ref_of p.rows o x) p
+free_step (Releasing x) p = release_step x (newest_ref p.rows x) p
+free_step (Giving x o) p = Do.Emit (Moved x (unwrap_or (owner_of p.rows x) Root) o) (Ending Ok) (place p o x)
+free_step (Beginning x) p = refs_step x (newest_ref p.rows x) p
 free_step (Hooked x h) p = Do.Wait (AskOf x) (Hooked x h) p
 free_step (Judged x h v) p = judge_step x h v p
 free_step (Leaving x h) p = Do.Emit (Left x (unwrap_or (owner_of p.rows x) Root)) (Looping x (Removal h)) (detach p x)
 free_step (Looping x purpose) p = loop_step x purpose (first_kid p.rows (Of x)) p
 -- it waits for the work above it
-free_step (Trying x c purpose) p = Do.Done Ok p
-free_step (Tried x c purpose answer) p = tried_step x c purpose answer p
+free_step (Trying x c noted purpose) p = Do.Done Ok p
+free_step (Tried x c noted purpose answer) p = tried_step x c noted purpose answer p
 free_step (Ending answer) p = Do.Done answer p
 
 abbrev pub free_resume : FreeFrame → FreeReply → FreeFrame
-free_resume (Trying x c purpose) answer = Tried x c purpose answer
+free_resume (Trying x c noted purpose) answer = Tried x c noted purpose answer
+free_resume (Unlinking o x) answer = Unlinking o x
+free_resume (Releasing x) answer = Releasing x
+free_resume (Giving x o) answer = Giving x o
 free_resume (Beginning x) answer = Beginning x
 free_resume (Hooked x h) answer = Hooked x h
 free_resume (Judged x h v) answer = Judged x h v
 free_resume (Leaving x h) answer = Leaving x h
 free_resume (Looping x purpose) answer = Looping x purpose
-free_resume (Tried x c purpose a) answer = Tried x c purpose a
+free_resume (Tried x c noted purpose a) answer = Tried x c noted purpose a
 free_resume (Ending a) answer = Ending a
 
 -- a free that waits for a destructor, with the number that this returned
 abbrev pub free_taken : FreeFrame → Pool → ℕ → Option FreeFrame
 free_taken (Hooked x h) p v = Some (Judged x h v)
+free_taken (Unlinking o x) p v = None
+free_taken (Releasing x) p v = None
+free_taken (Giving x o) p v = None
 free_taken (Beginning x) p v = None
 free_taken (Judged x h u) p v = None
 free_taken (Leaving x h) p v = None
 free_taken (Looping x purpose) p v = None
-free_taken (Trying x c purpose) p v = None
-free_taken (Tried x c purpose a) p v = None
+free_taken (Trying x c noted purpose) p v = None
+free_taken (Tried x c noted purpose a) p v = None
 free_taken (Ending a) p v = None
 
 abbrev pub free_table : Table FreeFrame FreeReply Pool ℕ FreeStep
@@ -135,6 +176,7 @@ Step = Move Frame Answer Pool Item
 -- what the host tells of a step of a free
 abbrev pub event_of : FreeStep → Option Event
 event_of (AskOf x) = None
+event_of (Dropped r target) = Some (event.Unreferenced r target)
 event_of (Refused x v) = Some (event.Refused x v)
 event_of (Accepted x) = Some (event.Accepted x)
 event_of (Left x from) = None
@@ -163,13 +205,28 @@ lifted (Do.Call g f p) = Do.Call (frame.Free g) (frame.Free f) p
 abbrev pub replied : Ask → Reply → Pool → Step
 replied q r p = Do.Go (frame.Call (Telling (later q r) r)) p
 
+-- an object was put below an owner, which may be worth a warning
+abbrev pub placed_step : Bool → Ask → Obj → Reply → Pool → Step
+placed_step true q x r p = Do.Go (frame.Call (Warning q x r)) p
+placed_step false q x r p = replied q r p
+
+-- what a call to free begins with: the one reference to an object of the root's is dropped, or the object freed
+abbrev pub freeing_by : Option Obj → Obj → FreeFrame
+freeing_by None x = Beginning x
+freeing_by (Some r) x = Unlinking Root x
+
+abbrev pub freeing : Pool → Obj → FreeFrame
+freeing p x = freeing_by (newest_ref p.rows x) x
+
 abbrev pub effect_step : Ask → Call → Pool → Step
 effect_step q (call.New o size name) p = replied q (reply.Number p.next) (add p Plain o size name)
-effect_step q (call.Free x) p = Do.Call (frame.Free (Beginning x)) (frame.Call (Awaiting q x)) p
+effect_step q (call.Free x) p = Do.Call (frame.Free (freeing p x)) (frame.Call (Awaiting q x)) p
 effect_step q (call.Freekids x) p = Do.Call (frame.Free (Looping x Emptying)) (frame.Call (Awaiting q x)) p
-effect_step q (call.Steal o x) p = replied q reply.Ok (place p o x)
-effect_step q (call.Move o x) p = replied q (reply.Number x.0) (place p o x)
-effect_step q (call.Reparent from to x) p = replied q reply.Ok (place p to x)
+effect_step q (call.Steal o x) p = placed_step (warns p o x) q x reply.Ok (place p o x)
+effect_step q (call.Move o x) p = placed_step (warns p o x) q x (reply.Number x.0) (place p o x)
+effect_step q (call.Reparent from to x) p = replied q reply.Ok (reparented p from to x)
+effect_step q (call.Reference o x) p = replied q (reply.Number p.next) (refer p o x)
+effect_step q (call.Unlink o x) p = Do.Call (frame.Free (Unlinking o x)) (frame.Call (Awaiting q x)) p
 effect_step q (call.Hook x routine) p = replied q reply.Ok (set_hook p x routine)
 effect_step q (call.Unhook x) p = replied q reply.Ok (set_hook p x 0)
 effect_step q (call.Rename x name) p = replied q reply.Ok (rename p x name)
@@ -188,6 +245,7 @@ caller_step (Asking q) p = Do.Wait (Asked q) (frame.Call (Asking q)) p
 caller_step (Doing q c) p = call_step (refusals p c) q c p
 -- it waits for the work above it
 caller_step (Awaiting q x) p = Do.Done (Freed Ok) p
+caller_step (Warning q x r) p = Do.Emit (Told (event.Warned x)) (frame.Call (Telling (later q r) r)) p
 caller_step (Telling q r) p = Do.Emit (Told (event.Replied r)) (frame.Call (Asking q)) p
 caller_step (Returning v) p = Do.Done (Returned v) p
 
@@ -209,6 +267,7 @@ abbrev pub caller_resume : CallFrame → Answer → CallFrame
 caller_resume (Awaiting q x) a = Telling (later q (freed_reply x (reply_in a))) (freed_reply x (reply_in a))
 caller_resume (Asking q) a = Asking q
 caller_resume (Doing q c) a = Doing q c
+caller_resume (Warning q x r) a = Warning q x r
 caller_resume (Telling q r) a = Telling q r
 caller_resume (Returning v) a = Returning v
 
@@ -231,6 +290,7 @@ abbrev pub caller_taken : CallFrame → Input → Option Frame
 caller_taken (Asking q) i = heard q (doing q) returning i
 caller_taken (Doing q c) i = None
 caller_taken (Awaiting q x) i = None
+caller_taken (Warning q x r) i = None
 caller_taken (Telling q r) i = None
 caller_taken (Returning v) i = None
 
@@ -248,6 +308,7 @@ abbrev pub note_after : Frame → Pool → Option Begun → Option Begun
 note_after (frame.Call (Doing q c)) p b = Some (record { call = c; start = p })
 note_after (frame.Call (Asking q)) p b = b
 note_after (frame.Call (Awaiting q x)) p b = b
+note_after (frame.Call (Warning q x r)) p b = b
 note_after (frame.Call (Telling q r)) p b = None
 note_after (frame.Call (Returning v)) p b = None
 note_after (frame.Free f) p b = None
@@ -257,6 +318,7 @@ about (frame.Call (Telling q r)) b = b
 about (frame.Call (Asking q)) b = None
 about (frame.Call (Doing q c)) b = None
 about (frame.Call (Awaiting q x)) b = None
+about (frame.Call (Warning q x r)) b = None
 about (frame.Call (Returning v)) b = None
 about (frame.Free f) b = None
 

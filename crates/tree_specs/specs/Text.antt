@@ -4,7 +4,7 @@ use Rattle.std.specs.Fmt.{decimal}
 use Rattle.std.specs.Option.{option_map}
 use Rattle.hex.specs.Hex.{encode_lower}
 use Rattle.tree_specs.specs.declared.call.Call.{Call}
-use Rattle.tree_specs.specs.declared.call.Call.TheVariants.{New, Free, Freekids, Steal, Move, Reparent, Hook, Unhook, Rename, Parent, Total, Count, Report}
+use Rattle.tree_specs.specs.declared.call.Call.TheVariants.{New, Free, Freekids, Steal, Move, Reparent, Reference, Unlink, Hook, Unhook, Rename, Parent, Total, Count, Report}
 use Rattle.tree_specs.specs.declared.reply.Refusal.{Refusal}
 use Rattle.tree_specs.specs.declared.reply.Refusal.TheVariants.{NoSuch, WrongKind, Running, Held, Refused, NotParent, Loop, Dying, OverLimit, Full, Spent, InUse, BadState, TooBig, Nested}
 use Rattle.tree_specs.specs.declared.reply.Reply.{Reply}
@@ -36,6 +36,8 @@ call_text (Freekids x) = codes "freekids " ++ decimal x.0
 call_text (Steal owner x) = codes "steal " ++ decimal (owner_number owner) ++ codes " " ++ decimal x.0
 call_text (Move owner x) = codes "move " ++ decimal (owner_number owner) ++ codes " " ++ decimal x.0
 call_text (Reparent from to x) = codes "reparent " ++ decimal (owner_number from) ++ codes " " ++ decimal (owner_number to) ++ codes " " ++ decimal x.0
+call_text (Reference owner x) = codes "reference " ++ decimal (owner_number owner) ++ codes " " ++ decimal x.0
+call_text (Unlink owner x) = codes "unlink " ++ decimal (owner_number owner) ++ codes " " ++ decimal x.0
 call_text (Hook x routine) = codes "hook " ++ decimal x.0 ++ codes " " ++ decimal routine
 call_text (Unhook x) = codes "unhook " ++ decimal x.0
 call_text (Rename x name) = codes "rename " ++ decimal x.0 ++ codes " " ++ name

@@ -7,12 +7,12 @@ use Rattle.tree_specs.specs.declared.row.Mark.{Mark}
 use Rattle.tree_specs.specs.declared.row.Mark.TheVariants.{Quiet, Asked, Busy, Doomed, Dying}
 use Rattle.tree_specs.specs.declared.frame.Frame.{Frame}
 use Rattle.tree_specs.specs.declared.frame.Frame.TheVariants as frame
-use Rattle.tree_specs.specs.declared.frame.FreeFrame.TheVariants.{Beginning, Hooked, Judged, Leaving, Looping, Trying, Tried, Ending}
-use Rattle.tree_specs.specs.declared.frame.CallFrame.TheVariants.{Asking, Doing, Awaiting, Telling, Returning}
+use Rattle.tree_specs.specs.declared.frame.FreeFrame.TheVariants.{Unlinking, Releasing, Giving, Beginning, Hooked, Judged, Leaving, Looping, Trying, Tried, Ending}
+use Rattle.tree_specs.specs.declared.frame.CallFrame.TheVariants.{Asking, Doing, Awaiting, Warning, Telling, Returning}
 use Rattle.tree_specs.specs.declared.frame.Purpose.{Purpose}
 use Rattle.tree_specs.specs.declared.frame.Purpose.TheVariants.{Removal, Emptying}
 use Rattle.tree_specs.specs.Pool.{Pool}
-use Rattle.tree_specs.specs.Inside.{total, NoReferences}
+use Rattle.tree_specs.specs.Inside.{total}
 use Rattle.tree_specs.specs.Sound.{Sound}
 use Rattle.tree_specs.specs.View.{View}
 
@@ -41,6 +41,7 @@ abbrev pub IsCaller : Frame → Type 0
 IsCaller (frame.Call (Asking q)) = IsQuiet q
 IsCaller (frame.Call (Doing q c)) = IsQuiet q
 IsCaller (frame.Call (Awaiting q x)) = IsQuiet q
+IsCaller (frame.Call (Warning q x r)) = IsQuiet q
 IsCaller (frame.Call (Telling q r)) = IsQuiet q
 IsCaller (frame.Call (Returning v)) = ⊥
 IsCaller (frame.Free f) = ⊥
@@ -50,6 +51,7 @@ abbrev pub IsRun : Frame → Type 0
 IsRun (frame.Call (Asking q)) = IsOfRoutine q
 IsRun (frame.Call (Doing q c)) = IsOfRoutine q
 IsRun (frame.Call (Awaiting q x)) = IsOfRoutine q
+IsRun (frame.Call (Warning q x r)) = IsOfRoutine q
 IsRun (frame.Call (Telling q r)) = IsOfRoutine q
 IsRun (frame.Call (Returning v)) = Unit {0}
 IsRun (frame.Free f) = ⊥
@@ -77,13 +79,16 @@ loop_size Emptying = 0
 
 abbrev pub size : Frame → ℕ
 size (frame.Call f) = 2
+size (frame.Free (Unlinking o x)) = 0
+size (frame.Free (Releasing x)) = 0
+size (frame.Free (Giving x o)) = 0
 size (frame.Free (Beginning x)) = 0
 size (frame.Free (Hooked x h)) = 1
 size (frame.Free (Judged x h v)) = 3
 size (frame.Free (Leaving x h)) = if nat_eq h 0 then 0 else 3
 size (frame.Free (Looping x purpose)) = loop_size purpose
-size (frame.Free (Trying x c purpose)) = loop_size purpose
-size (frame.Free (Tried x c purpose answer)) = loop_size purpose
+size (frame.Free (Trying x c noted purpose)) = loop_size purpose
+size (frame.Free (Tried x c noted purpose answer)) = loop_size purpose
 size (frame.Free (Ending answer)) = 0
 
 -- an object that is to be asked pays for the run that comes
@@ -112,5 +117,3 @@ pub record Whole (v : View) : Type 0 where
   pub sound : Sound v.innermost v.below v.pool
   pub seated : Seated v.innermost v.below
   pub light : Light v.innermost v.below v.pool
-  -- no call makes a reference as yet
-  pub plain : NoReferences v.pool.rows

@@ -14,8 +14,15 @@ pub enum Call {
     Steal { owner: Owner, x: Obj },
     /// `move P X`: the same, where the reply is the object, as `talloc_move` gives it.
     Move { owner: Owner, x: Obj },
-    /// `reparent OLD NEW X`: the same, where `from` must be its owner, as `talloc_reparent` does.
+    /// `reparent OLD NEW X`: the same, where `from` must be its owner, as `talloc_reparent` does; or `from` owns references
+    /// to it, and the newest of these goes to `to`.
     Reparent { from: Owner, to: Owner, x: Obj },
+    /// `reference P X`: a reference to a plain object below an owner, as `talloc_reference` makes it. The reply is its
+    /// number.
+    Reference { owner: Owner, x: Obj },
+    /// `unlink P X`: takes the owner's interest in the object away, as `talloc_unlink` does: its newest reference, or
+    /// its owning it.
+    Unlink { owner: Owner, x: Obj },
     /// `hook X R`: gives the object a destructor, the routine from 1 upwards, as `talloc_set_destructor` does.
     Hook { x: Obj, routine: u32 },
     /// `unhook X`: takes its destructor away.

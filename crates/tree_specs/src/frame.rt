@@ -1,6 +1,6 @@
 use crate::call::Call;
 use crate::free_step::FreeReply;
-use crate::object::Obj;
+use crate::object::{Obj, Owner};
 use crate::question::Ask;
 use crate::reply::Reply;
 
@@ -23,6 +23,8 @@ pub enum CallFrame {
     Awaiting { ask: Ask, x: Obj },
     /// The reply is to be told, and the next question comes after it.
     Telling { ask: Ask, reply: Reply },
+    /// It is to be told that an object that has references was given to another owner, and then the reply.
+    Warning { ask: Ask, x: Obj, reply: Reply },
     /// The routine has returned this number.
     Returning { value: u32 },
 }
@@ -39,6 +41,20 @@ pub enum Purpose {
 /// What is still to do of one free.
 #[derive(Clone, Copy, Debug, PartialEq, Eq)]
 pub enum FreeFrame {
+    /// The interest of an owner in `x` is to be taken away: its newest reference goes, or it gives `x` up.
+    Unlinking {
+        owner: Owner,
+        x: Obj,
+    },
+    /// The owner of `x` gives it up: to the owner of the newest reference that isn't inside it, or `x` is freed.
+    Releasing {
+        x: Obj,
+    },
+    /// `x` goes to the owner of a reference that was dropped.
+    Giving {
+        x: Obj,
+        owner: Owner,
+    },
     /// The freeing of `x` begins.
     Beginning {
         x: Obj,
@@ -64,16 +80,18 @@ pub enum FreeFrame {
         x: Obj,
         purpose: Purpose,
     },
-    /// `x` waits for the freeing of its child.
+    /// `x` waits for the freeing of its child. `noted` is the owner of the newest reference that the child had before.
     Trying {
         x: Obj,
         child: Obj,
+        noted: Option<Owner>,
         purpose: Purpose,
     },
     /// The freeing of the child is over. One that wasn't freed is to go to its heir.
     Tried {
         x: Obj,
         child: Obj,
+        noted: Option<Owner>,
         purpose: Purpose,
         answer: FreeReply,
     },

@@ -5,6 +5,8 @@ use crate::object::{Obj, Owner};
 pub enum FreeReply {
     /// The object is gone, or on its way.
     Ok,
+    /// There was a reference to it from outside, which was dropped.
+    Held,
     /// Its destructor or its handler runs, or the work that comes before its freeing.
     Running,
     /// Its destructor returned this number, which isn't 0.
@@ -16,6 +18,11 @@ pub enum FreeReply {
 pub enum FreeStep {
     /// The destructor of the object is to run.
     Ask(Obj),
+    /// A reference is no more.
+    Dropped {
+        reference: Obj,
+        target: Obj,
+    },
     /// The object's destructor returned this number, which isn't 0, and the object stays.
     Refused {
         object: Obj,

@@ -1,3 +1,6 @@
+ghost use Rattle.std.specs.Prelude.{◌≡◌};
+ghost use Rattle.tree_specs.specs.Targets.{target_of};
+
 use crate::object::Obj;
 
 /// What an object is.
@@ -19,4 +22,16 @@ pub enum Kind {
     Queue,
     /// The place of a request in a queue.
     Entry,
+}
+
+impl Kind {
+    /// What a reference refers to. None exactly where it is no reference.
+    pub fn target(&self) -> Option<Obj>
+        ensures { result ≡ target_of self.now }
+    {
+        match self {
+            Kind::Reference { target } => Some(*target),
+            _ => None,
+        }
+    }
 }

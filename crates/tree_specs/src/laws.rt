@@ -12,7 +12,7 @@ ghost use Rattle.tree_specs.specs.declared.object.Obj.{Obj as ObjData};
 ghost use Rattle.tree_specs.specs.declared.object.Owner.{Owner as OwnerData};
 ghost use Rattle.tree_specs.specs.declared.row.Row.{Row as RowData};
 ghost use Rattle.tree_specs.specs.declared.free_step.FreeReply.{FreeReply as FreeReplyData};
-ghost use Rattle.tree_specs.specs.declared.free_step.FreeReply.TheVariants.{Running, Refused};
+ghost use Rattle.tree_specs.specs.declared.free_step.FreeReply.TheVariants.{Held, Running, Refused};
 ghost use Rattle.tree_specs.specs.declared.event.Event.TheVariants.{Refused as HasRefused};
 ghost use Rattle.tree_specs.specs.declared.schedule.Reason.TheVariants.{Form};
 ghost use Rattle.tree_specs.specs.Pool.{Pool, empty, kids, first_kid, next_kid};
@@ -24,7 +24,8 @@ ghost use Rattle.tree_specs.specs.Story.{story, items, asked, free, turns};
 ghost use Rattle.tree_specs.specs.Table.{table, notes};
 ghost use Rattle.tree_specs.specs.View.{begin, rest_of};
 ghost use Rattle.tree_specs.specs.Orderly.{Orderly};
-ghost use Rattle.tree_specs.specs.Grounded.{Grounded, IsItem, is_running};
+ghost use Rattle.tree_specs.specs.Calls.{is_running};
+ghost use Rattle.tree_specs.specs.Grounded.{Grounded, DropsOutside, IsItem};
 ghost use Rattle.tree_specs.specs.Acceptances.{AcceptsAfterReturns};
 ghost use Rattle.tree_specs.specs.Text.{transcript};
 ghost use Rattle.tree_specs.specs.Schedule.{inputs_of, judge};
@@ -103,6 +104,19 @@ pub fn destructors_are_nested()
         ≡ Some (codes "tv transcript 1\nreply 1\nreply 2\nreply 3\nreply ok\nask hook 3 16 0 0 0 0\nreply ok\nask hook 3 16 0 0 0 1\nrefused 3 1\nmoved 3 0\nfreed 2 0\nreply ok\nreply 3\nend quiet\n") }
 {}
 
+/// Worked examples: what has references is held, but for an object of the root with one; a reference from inside keeps
+/// nothing; what is referred to goes to the owner of a reference; and references while an object dies.
+pub fn references_hold_objects()
+    ensures free { transcript (items (story 1 (inputs_of (codes "tv schedule 1 pool\ncall new 0 0 a\ncall new 0 0 x\ncall reference 1 2\ncall free 2\ncall reference 0 2\ncall free 2\ncall steal 0 2\ncall reference 1 2\ncall free 2\n"))))
+        ≡ Some (codes "tv transcript 1\nreply 1\nreply 2\nreply 3\nunreferenced 3 2\nmoved 2 1\nreply ok\nreply 4\nreply no 4 2\nwarned 2\nreply ok\nreply 5\nreply no 4 2\nend quiet\n") }
+    ensures inside { transcript (items (story 1 (inputs_of (codes "tv schedule 1 pool\ncall new 0 0 g\ncall new 1 0 x\ncall new 2 0 d\ncall reference 3 2\ncall free 1\ncall new 0 0 x\ncall new 5 0 d\ncall new 0 0 o\ncall reference 7 5\ncall reference 6 5\ncall unlink 0 5\n"))))
+        ≡ Some (codes "tv transcript 1\nreply 1\nreply 2\nreply 3\nreply 4\nunreferenced 4 2\nfreed 3 0\nfreed 2 0\nfreed 1 0\nreply ok\nreply 5\nreply 6\nreply 7\nreply 8\nreply 9\nunreferenced 9 5\nunreferenced 8 5\nmoved 5 7\nreply ok\nend quiet\n") }
+    ensures given { transcript (items (story 1 (inputs_of (codes "tv schedule 1 pool\ncall new 0 5 a\ncall new 1 6 b\ncall new 0 0 c\ncall reference 3 2\ncall report 0\ncall total 0\ncall count 0\ncall reparent 3 1 2\ncall reparent 3 1 2\ncall reparent 1 3 2\ncall move 0 2\ncall freekids 1\n"))))
+        ≡ Some (codes "tv transcript 1\nreply 1\nreply 2\nreply 3\nreply 4\nrow 0 0 root 0 0 0 null_context\nrow 1 3 plain 0 0 0 c\nrow 2 4 reference 0 0 2 reference\nrow 1 1 plain 5 0 0 a\nrow 2 2 plain 6 1 0 b\nreply rows 5\nreply 11\nreply 3\nreply ok\nreply no 6 2 3\nreply ok\nwarned 2\nreply 2\nunreferenced 4 2\nreply ok\nend quiet\n") }
+    ensures while_one_dies { transcript (items (story 1 (inputs_of (codes "tv schedule 1 pool\ncall new 0 0 a\ncall new 0 0 b\ncall reference 1 2\ncall new 1 0 c\ncall hook 4 16\ncall free 3\ncall unlink 2 1\ncall free 1\nact steal 0 1\nact free 1\nact reference 0 4\nact new 1 0 d\nret 0\n"))))
+        ≡ Some (codes "tv transcript 1\nreply 1\nreply 2\nreply 3\nreply 4\nreply ok\nreply no 2 3\nreply no 6 1 2\nask hook 4 16 0 0 0 0\nreply no 8 1\nask hook 4 16 0 0 0 1\nreply ok\nask hook 4 16 0 0 0 2\nreply no 3 4\nask hook 4 16 0 0 0 3\nreply 5\nask hook 4 16 0 0 0 4\naccepted 4\nfreed 4 16\nfreed 5 0\nunreferenced 3 2\nfreed 1 0\nreply ok\nend quiet\n") }
+{}
+
 /// The stated number of turns is enough for every list of inputs, and more turns give the same.
 pub fn turns_are_enough()
     ensures enough { (first : ℕ) (is : List InputData) → 1 ≤ first → asked (turns 0 (length is)) Quiet (empty first) is ≢ Short }
@@ -128,10 +142,11 @@ pub fn a_free_waits_for_each_of_its_inputs()
         (used : List InputData) × (used ++ left ≡ is) × EndsBy (λ js. free n x p js) a q told used }
 {}
 
-/// A free over any objects and inputs answers that the object runs only where it ran when the free began, and a
-/// destructor's number only where this was told last.
+/// A free over any objects and inputs answers that the object runs only where it runs; that it is held only where the
+/// newest reference was one from outside, and was dropped last; and a destructor's number only where this was told last.
 pub fn a_free_answers_with_its_cause()
-    ensures running { (n : ℕ) (x : ObjData) (p q : Pool) (is left : List InputData) (told : List Scene) → free n x p is ≡ Ended Running q told left → is_running p x ≡ true }
+    ensures running { (n : ℕ) (x : ObjData) (p q : Pool) (is left : List InputData) (told : List Scene) → free n x p is ≡ Ended Running q told left → is_running q x ≡ true }
+    ensures held { (n : ℕ) (x : ObjData) (p q : Pool) (is left : List InputData) (told : List Scene) → free n x p is ≡ Ended Held q told left → LastIs (DropsOutside x) told }
     ensures refused { (n v : ℕ) (x : ObjData) (p q : Pool) (is left : List InputData) (told : List Scene) → free n x p is ≡ Ended (Refused v) q told left →
         LastIs (IsItem (Told (HasRefused x v))) told }
 {}

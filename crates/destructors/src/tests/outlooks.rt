@@ -1,6 +1,7 @@
 use super::add;
 use crate::motion::Outlook;
 use crate::moves::outlook;
+use references::Refs;
 use std::test::Fail;
 use tree_links::Tree;
 use tree_specs::{FreeFrame, FreeReply, Obj, Owner, Purpose};
@@ -13,6 +14,7 @@ fn tried(x: u64, child: u64, answer: FreeReply) -> FreeFrame {
     FreeFrame::Tried {
         x: Obj(x),
         child: Obj(child),
+        noted: None,
         purpose: Purpose::Emptying,
         answer,
     }
@@ -22,15 +24,16 @@ fn tried(x: u64, child: u64, answer: FreeReply) -> FreeFrame {
 #[test]
 fn it_is_known_before_a_move_whether_it_tells_something(rt: HostRuntime) -> Result<(), Fail> {
     let mut tree = Tree::new(rt.alloc(), 1);
-    let top = add(&rt, &mut tree, rt.alloc(), Owner::Root)?;
-    add(&rt, &mut tree, rt.alloc(), Owner::Of(top))?;
+    let refs = Refs::new(rt.alloc());
+    let top = add(&rt, &mut tree, &refs, rt.alloc(), Owner::Root)?;
+    add(&rt, &mut tree, &refs, rt.alloc(), Owner::Of(top))?;
     for work in [
         looping(2, Purpose::Removal { hook: 0 }),
         tried(1, 2, FreeReply::Running),
         tried(1, 2, FreeReply::Refused(7)),
     ] {
         assert!(rt;
-            matches!(outlook(work, &tree), Outlook::Telling),
+            matches!(outlook(work, &tree, &refs), Outlook::Telling),
             "{work:?}"
         );
     }
@@ -41,7 +44,7 @@ fn it_is_known_before_a_move_whether_it_tells_something(rt: HostRuntime) -> Resu
         tried(2, 1, FreeReply::Running),
     ] {
         assert!(rt;
-            matches!(outlook(work, &tree), Outlook::Silence),
+            matches!(outlook(work, &tree, &refs), Outlook::Silence),
             "{work:?}"
         );
     }
@@ -52,7 +55,10 @@ fn it_is_known_before_a_move_whether_it_tells_something(rt: HostRuntime) -> Resu
             answer: FreeReply::Ok,
         },
     ] {
-        assert!(rt; matches!(outlook(work, &tree), Outlook::End), "{work:?}");
+        assert!(rt;
+            matches!(outlook(work, &tree, &refs), Outlook::End),
+            "{work:?}"
+        );
     }
     Ok(())
 }

@@ -1,4 +1,5 @@
 use super::{add, ask, begin, done, event, hook, nest};
+use references::Refs;
 use std::test::Fail;
 use tree_links::Tree;
 use tree_specs::{FreeReply, FreeStep, Obj, Owner};
@@ -25,9 +26,10 @@ fn moved(x: u64, from: Owner, owner: Owner) -> FreeStep {
 #[test]
 fn a_number_that_is_no_object_is_freed_at_once(rt: HostRuntime) -> Result<(), Fail> {
     let mut tree = Tree::new(rt.alloc(), 1);
-    let mut engine = begin(&mut tree, Obj(5))?;
-    assert!(rt; !engine.announces(&tree));
-    assert_eq!(rt; done(&rt, &mut engine, &mut tree), FreeReply::Ok);
+    let mut refs = Refs::new(rt.alloc());
+    let mut engine = begin(&rt, &mut tree, &mut refs, Obj(5))?;
+    assert!(rt; !engine.announces(&tree, &refs));
+    assert_eq!(rt; done(&rt, &mut engine, &mut tree, &mut refs), FreeReply::Ok);
     assert!(rt; tree.is_empty());
     Ok(())
 }
@@ -36,16 +38,23 @@ fn a_number_that_is_no_object_is_freed_at_once(rt: HostRuntime) -> Result<(), Fa
 #[test]
 fn a_child_is_gone_before_its_owner(rt: HostRuntime) -> Result<(), Fail> {
     let mut tree = Tree::new(rt.alloc(), 1);
-    let top = add(&rt, &mut tree, rt.alloc(), Owner::Root)?;
-    add(&rt, &mut tree, rt.alloc(), Owner::Of(top))?;
-    let mut engine = begin(&mut tree, top)?;
-    assert!(rt; !engine.announces(&tree));
-    assert_eq!(rt; event(&rt, &mut engine, &mut tree), left(1, Owner::Root));
-    assert_eq!(rt; event(&rt, &mut engine, &mut tree), left(2, Owner::Of(top)));
-    assert!(rt; engine.announces(&tree));
-    assert_eq!(rt; event(&rt, &mut engine, &mut tree), gone(2, 0));
-    assert_eq!(rt; event(&rt, &mut engine, &mut tree), gone(1, 0));
-    assert_eq!(rt; done(&rt, &mut engine, &mut tree), FreeReply::Ok);
+    let mut refs = Refs::new(rt.alloc());
+    let top = add(&rt, &mut tree, &refs, rt.alloc(), Owner::Root)?;
+    add(&rt, &mut tree, &refs, rt.alloc(), Owner::Of(top))?;
+    let mut engine = begin(&rt, &mut tree, &mut refs, top)?;
+    assert!(rt; !engine.announces(&tree, &refs));
+    assert_eq!(rt;
+        event(&rt, &mut engine, &mut tree, &mut refs),
+        left(1, Owner::Root)
+    );
+    assert_eq!(rt;
+        event(&rt, &mut engine, &mut tree, &mut refs),
+        left(2, Owner::Of(top))
+    );
+    assert!(rt; engine.announces(&tree, &refs));
+    assert_eq!(rt; event(&rt, &mut engine, &mut tree, &mut refs), gone(2, 0));
+    assert_eq!(rt; event(&rt, &mut engine, &mut tree, &mut refs), gone(1, 0));
+    assert_eq!(rt; done(&rt, &mut engine, &mut tree, &mut refs), FreeReply::Ok);
     assert!(rt; tree.is_empty());
     Ok(())
 }
@@ -54,18 +63,25 @@ fn a_child_is_gone_before_its_owner(rt: HostRuntime) -> Result<(), Fail> {
 #[test]
 fn a_destructor_accepts(rt: HostRuntime) -> Result<(), Fail> {
     let mut tree = Tree::new(rt.alloc(), 1);
-    let top = add(&rt, &mut tree, rt.alloc(), Owner::Root)?;
-    let child = add(&rt, &mut tree, rt.alloc(), Owner::Of(top))?;
-    hook(&rt, &mut tree, child);
-    let mut engine = begin(&mut tree, top)?;
-    assert_eq!(rt; event(&rt, &mut engine, &mut tree), left(1, Owner::Root));
-    assert_eq!(rt; ask(&rt, &mut engine, &mut tree, 0), child);
+    let mut refs = Refs::new(rt.alloc());
+    let top = add(&rt, &mut tree, &refs, rt.alloc(), Owner::Root)?;
+    let child = add(&rt, &mut tree, &refs, rt.alloc(), Owner::Of(top))?;
+    hook(&rt, &mut tree, &refs, child);
+    let mut engine = begin(&rt, &mut tree, &mut refs, top)?;
+    assert_eq!(rt;
+        event(&rt, &mut engine, &mut tree, &mut refs),
+        left(1, Owner::Root)
+    );
+    assert_eq!(rt; ask(&rt, &mut engine, &mut tree, &mut refs, 0), child);
     let accepted = FreeStep::Accepted(child);
-    assert_eq!(rt; event(&rt, &mut engine, &mut tree), accepted);
-    assert_eq!(rt; event(&rt, &mut engine, &mut tree), left(2, Owner::Of(top)));
-    assert_eq!(rt; event(&rt, &mut engine, &mut tree), gone(2, 16));
-    assert_eq!(rt; event(&rt, &mut engine, &mut tree), gone(1, 0));
-    assert_eq!(rt; done(&rt, &mut engine, &mut tree), FreeReply::Ok);
+    assert_eq!(rt; event(&rt, &mut engine, &mut tree, &mut refs), accepted);
+    assert_eq!(rt;
+        event(&rt, &mut engine, &mut tree, &mut refs),
+        left(2, Owner::Of(top))
+    );
+    assert_eq!(rt; event(&rt, &mut engine, &mut tree, &mut refs), gone(2, 16));
+    assert_eq!(rt; event(&rt, &mut engine, &mut tree, &mut refs), gone(1, 0));
+    assert_eq!(rt; done(&rt, &mut engine, &mut tree, &mut refs), FreeReply::Ok);
     assert!(rt; tree.is_empty());
     Ok(())
 }
@@ -74,22 +90,26 @@ fn a_destructor_accepts(rt: HostRuntime) -> Result<(), Fail> {
 #[test]
 fn a_child_that_refuses_goes_to_its_heir(rt: HostRuntime) -> Result<(), Fail> {
     let mut tree = Tree::new(rt.alloc(), 1);
-    let top = add(&rt, &mut tree, rt.alloc(), Owner::Root)?;
-    let middle = add(&rt, &mut tree, rt.alloc(), Owner::Of(top))?;
-    let bottom = add(&rt, &mut tree, rt.alloc(), Owner::Of(middle))?;
-    hook(&rt, &mut tree, bottom);
-    let mut engine = begin(&mut tree, middle)?;
-    assert_eq!(rt; event(&rt, &mut engine, &mut tree), left(2, Owner::Of(top)));
-    assert_eq!(rt; ask(&rt, &mut engine, &mut tree, 7), bottom);
+    let mut refs = Refs::new(rt.alloc());
+    let top = add(&rt, &mut tree, &refs, rt.alloc(), Owner::Root)?;
+    let middle = add(&rt, &mut tree, &refs, rt.alloc(), Owner::Of(top))?;
+    let bottom = add(&rt, &mut tree, &refs, rt.alloc(), Owner::Of(middle))?;
+    hook(&rt, &mut tree, &refs, bottom);
+    let mut engine = begin(&rt, &mut tree, &mut refs, middle)?;
+    assert_eq!(rt;
+        event(&rt, &mut engine, &mut tree, &mut refs),
+        left(2, Owner::Of(top))
+    );
+    assert_eq!(rt; ask(&rt, &mut engine, &mut tree, &mut refs, 7), bottom);
     let refused = FreeStep::Refused {
         object: bottom,
         answer: 7,
     };
-    assert_eq!(rt; event(&rt, &mut engine, &mut tree), refused);
+    assert_eq!(rt; event(&rt, &mut engine, &mut tree, &mut refs), refused);
     let to_heir = moved(3, Owner::Of(middle), Owner::Of(top));
-    assert_eq!(rt; event(&rt, &mut engine, &mut tree), to_heir);
-    assert_eq!(rt; event(&rt, &mut engine, &mut tree), gone(2, 0));
-    assert_eq!(rt; done(&rt, &mut engine, &mut tree), FreeReply::Ok);
+    assert_eq!(rt; event(&rt, &mut engine, &mut tree, &mut refs), to_heir);
+    assert_eq!(rt; event(&rt, &mut engine, &mut tree, &mut refs), gone(2, 0));
+    assert_eq!(rt; done(&rt, &mut engine, &mut tree, &mut refs), FreeReply::Ok);
     assert_eq!(rt; tree.parent(bottom), Some(Owner::Of(top)));
     assert_eq!(rt; tree.len(), 2);
     Ok(())
@@ -99,18 +119,19 @@ fn a_child_that_refuses_goes_to_its_heir(rt: HostRuntime) -> Result<(), Fail> {
 #[test]
 fn a_free_answers_that_the_destructor_refused(rt: HostRuntime) -> Result<(), Fail> {
     let mut tree = Tree::new(rt.alloc(), 1);
-    let top = add(&rt, &mut tree, rt.alloc(), Owner::Root)?;
-    hook(&rt, &mut tree, top);
-    let mut engine = begin(&mut tree, top)?;
-    assert!(rt; !engine.announces(&tree));
-    assert_eq!(rt; ask(&rt, &mut engine, &mut tree, 7), top);
-    assert!(rt; engine.announces(&tree));
+    let mut refs = Refs::new(rt.alloc());
+    let top = add(&rt, &mut tree, &refs, rt.alloc(), Owner::Root)?;
+    hook(&rt, &mut tree, &refs, top);
+    let mut engine = begin(&rt, &mut tree, &mut refs, top)?;
+    assert!(rt; !engine.announces(&tree, &refs));
+    assert_eq!(rt; ask(&rt, &mut engine, &mut tree, &mut refs, 7), top);
+    assert!(rt; engine.announces(&tree, &refs));
     let refused = FreeStep::Refused {
         object: top,
         answer: 7,
     };
-    assert_eq!(rt; event(&rt, &mut engine, &mut tree), refused);
-    let answer = done(&rt, &mut engine, &mut tree);
+    assert_eq!(rt; event(&rt, &mut engine, &mut tree, &mut refs), refused);
+    let answer = done(&rt, &mut engine, &mut tree, &mut refs);
     assert_eq!(rt; answer, FreeReply::Refused(7));
     assert_eq!(rt; tree.parent(top), Some(Owner::Root));
     Ok(())
@@ -120,12 +141,13 @@ fn a_free_answers_that_the_destructor_refused(rt: HostRuntime) -> Result<(), Fai
 #[test]
 fn an_object_whose_destructor_runs_is_not_freed(rt: HostRuntime) -> Result<(), Fail> {
     let mut tree = Tree::new(rt.alloc(), 1);
-    let top = add(&rt, &mut tree, rt.alloc(), Owner::Root)?;
-    hook(&rt, &mut tree, top);
-    let mut engine = begin(&mut tree, top)?;
-    nest(&rt, &mut engine, &mut tree, top)?;
-    assert!(rt; !engine.announces(&tree));
-    let answer = done(&rt, &mut engine, &mut tree);
+    let mut refs = Refs::new(rt.alloc());
+    let top = add(&rt, &mut tree, &refs, rt.alloc(), Owner::Root)?;
+    hook(&rt, &mut tree, &refs, top);
+    let mut engine = begin(&rt, &mut tree, &mut refs, top)?;
+    nest(&rt, &mut engine, &mut tree, &mut refs, top)?;
+    assert!(rt; !engine.announces(&tree, &refs));
+    let answer = done(&rt, &mut engine, &mut tree, &mut refs);
     assert_eq!(rt; answer, FreeReply::Running);
     assert_eq!(rt; tree.parent(top), Some(Owner::Root));
     Ok(())

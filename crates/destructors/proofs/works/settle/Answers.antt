@@ -1,11 +1,14 @@
 use Rattle.std.proofs.Common.{◌≡◌, length, Some, None, false, refl, sym, ◌∙◌, arith}
 use Rattle.destructors.specs.Frees.{frees_of, speaking, Still, On}
 use Rattle.destructors.specs.Engine.{MayMove}
-use Rattle.destructors.proofs.Settling.{onward}
+use Rattle.destructors.proofs.Settling.{ready-work, onward}
+use Rattle.destructors.proofs.Keeping.{rests}
+use Rattle.destructors.specs.Works.{standing}
+use Rattle.tree_links.specs.Links.{pool_of}
 use Rattle.destructors.proofs.works.settle.Goals as goal
 
 pub loop-innermost-init : goal.loop-innermost-init
-loop-innermost-init c = record { ready = c.requires; moves_on = Still; at_work = λ w. w; rows = omega arith; spare = omega arith }
+loop-innermost-init c = record { ready = c.requires.ready; moves_on = Still; at_work = λ w. w; rows = omega arith; spare = omega arith; refs = c.requires.refs }
 
 pub returns-in_default-clause-settles : goal.returns-in_default-clause-settles
 returns-in_default-clause-settles c =
@@ -29,4 +32,11 @@ loop-innermost-preserved c =
       at_work = λ w. o.at_work;
       rows = o.rows (length c.args.tree.now.rows) c.loop-innermost.invariant.rows;
       spare = omega (arith, c.loop-innermost.invariant.spare, c.advance-innermost.ensures.spare);
+      refs = c.advance-innermost.ensures.refs;
     }
+
+pub advance-innermost-requires-clause-rests : goal.advance-innermost-requires-clause-rests
+advance-innermost-requires-clause-rests c =
+    let quiet : speaking (frees_of (Some c.in-Some.work) c.loop-innermost.tree) ≡ false = sym c.speaks.ensures ∙ c.if-speaks.false in
+    let w = ready-work c.in-Some.work c.loop-innermost.innermost c.loop-innermost.tree c.in-Some.is c.loop-innermost.invariant.ready quiet in
+    rests c.in-Some.work (standing c.loop-innermost.tree.frees w.0) (pool_of c.loop-innermost.tree) w.1.sound

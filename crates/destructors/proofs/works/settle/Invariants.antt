@@ -1,5 +1,6 @@
 use Rattle.std.proofs.Common.{◌≤◌, length}
 use Rattle.tree_links.specs.Links.{pool_of}
+use Rattle.references.specs.Rows.{AreRefsOf}
 use Rattle.destructors.specs.Frees.{before, frees_of, Silently}
 use Rattle.destructors.specs.Works.{IsAtWork}
 use Rattle.destructors.specs.Engine.{Ready}
@@ -14,6 +15,7 @@ invariant-loop-innermost l = record {
   at_work : IsAtWork (frees_of l.initial.innermost l.initial.tree) → IsAtWork (frees_of l.innermost l.tree);
   rows : length l.tree.rows ≤ length l.initial.tree.rows;
   spare : l.initial.tree.spare ≤ l.tree.spare;
+  refs : AreRefsOf l.refs.pairs l.tree.rows;
 }
 
 abbrev pub decreases-loop-innermost : goal.decreases-loop-innermost

@@ -1,4 +1,4 @@
-use Rattle.tree_specs.specs.declared.free_step.FreeReply.TheVariants.{Running, Refused}
+use Rattle.tree_specs.specs.declared.free_step.FreeReply.TheVariants.{Held, Running, Refused}
 use Rattle.tree_specs.proofs.FreeCauses.{free-cause}
 use Rattle.tree_specs.proofs.laws.a_free_answers_with_its_cause.Goals as goal
 
@@ -7,3 +7,6 @@ returns-clause-running c = λ n x p q is left told e. free-cause n x p is Runnin
 
 pub returns-clause-refused : goal.returns-clause-refused
 returns-clause-refused c = λ n v x p q is left told e. free-cause n x p is (Refused v) q told left e
+
+pub returns-clause-held : goal.returns-clause-held
+returns-clause-held c = λ n x p q is left told e. free-cause n x p is Held q told left e

@@ -1,14 +1,25 @@
-use Rattle.std.proofs.Common.{sym, ◌∙◌}
+use Rattle.std.proofs.Common.{◌∷◌, sym, ◌∙◌}
+use Rattle.tree_links.specs.Links.{pool_of}
+use Rattle.destructors.specs.Works.{standing, AtWork}
+use Rattle.destructors.proofs.Keeping.{rests}
 use Rattle.destructors.proofs.Settling.{tells, told-settled}
 use Rattle.destructors.proofs.engine.FreeEngine.step.Goals as goal
 
 pub settle-self-inside-requires : goal.settle-self-inside-requires
-settle-self-inside-requires c =
-    (tells c.in-Some.work c.args.self.now c.args.tree.now c.advance-progress.result.told c.in-Some-told.told c.advance-progress.result.innermost c.advance-progress.new.tree
-    (sym c.self.view_is ∙ c.in-Some.is) c.requires.at_work c.requires.room c.in-Some-told.is c.advance-progress.ensures.moved c.advance-progress.ensures.kept c.advance-progress.ensures.room).ready
+settle-self-inside-requires c = record {
+  ready =
+      (tells c.in-Some.work c.args.self.now c.args.tree.now c.advance-progress.result.told c.in-Some-told.told c.advance-progress.result.innermost c.advance-progress.new.tree
+      (sym c.self.view_is ∙ c.in-Some.is) c.requires.at_work c.requires.room c.in-Some-told.is c.advance-progress.ensures.moved c.advance-progress.ensures.kept c.advance-progress.ensures.room).ready;
+  refs = c.advance-progress.ensures.refs;
+}
 
 pub returns-clause-goes_on : goal.returns-clause-goes_on
 returns-clause-goes_on c =
     let t = tells c.in-Some.work c.args.self.now c.args.tree.now c.advance-progress.result.told c.in-Some-told.told c.advance-progress.result.innermost c.advance-progress.new.tree
     (sym c.self.view_is ∙ c.in-Some.is) c.requires.at_work c.requires.room c.in-Some-told.is c.advance-progress.ensures.moved c.advance-progress.ensures.kept c.advance-progress.ensures.room in
     told-settled c.in-Some-told.told _ _ t.goes_on c.settle-self-inside.ensures.moves_on c.settle-self-inside.ensures.at_work
+
+pub advance-progress-requires-clause-rests : goal.advance-progress-requires-clause-rests
+advance-progress-requires-clause-rests c =
+    let w : AtWork (c.in-Some.work ∷ c.args.tree.now.frees) (pool_of c.args.tree.now) = rw (sym c.self.view_is ∙ c.in-Some.is) at c.requires.at_work in
+    rests c.in-Some.work (standing c.args.tree.now.frees w.0) (pool_of c.args.tree.now) w.1.sound

@@ -8,7 +8,7 @@ use Rattle.tree_links.proofs.tree.Tree.set_hook.Goals as goal
 pub invariant_of-self : goal.invariant_of-self
 invariant_of-self c =
     set-tree (hooked_row c.args.hook) _ _ _ c.args.x c.in-Some.i c.index_mut.result.now c.in-Some.ensures (ap (λ (t : Links). t.rows) c.self.view_is) c.index_mut.ensures.value
-    (changed-tree (hooked_row c.args.hook) _ _ c.args.x (record { place = record { serial = λ r. refl; owner = λ r. refl }; size = λ r l. l }) c.self.invariant)
+    (changed-tree (hooked_row c.args.hook) _ _ c.args.x (record { place = record { serial = λ r. refl; owner = λ r. refl; kind = λ r. refl }; size = λ r l. l }) c.self.invariant)
 
 pub returns-in-Some-clause-rows : goal.returns-in-Some-clause-rows
 returns-in-Some-clause-rows c =

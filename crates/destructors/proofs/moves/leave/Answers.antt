@@ -1,0 +1,9 @@
+use Rattle.std.proofs.Common.{refl, sym, ap, subst}
+use Rattle.tree_specs.specs.Pool.{Pool, left_row}
+use Rattle.references.specs.Rows.{SameRefs}
+use Rattle.references.proofs.Rows.{same-changed}
+use Rattle.destructors.proofs.moves.leave.Goals as goal
+
+pub returns-clause-same_refs : goal.returns-clause-same_refs
+returns-clause-same_refs c =
+    subst (SameRefs c.args.tree.now.rows) (sym (ap (λ (p : Pool). p.rows) c.detach.ensures.rows)) (same-changed left_row c.args.tree.now.rows c.args.x (λ r. refl) (λ r. refl))

@@ -1,0 +1,106 @@
+//! References that are dropped: where an owner gives up its interest, and before an object is freed.
+ghost use Rattle.std.specs.Prelude.{◌≡◌, ◌≤◌, Some};
+ghost use Rattle.tree_specs.specs.Targets.{newest_ref};
+ghost use Rattle.tree_specs.specs.Pool.{newest_ref_of, remove as removed, noted_owner as noted_owner_of};
+ghost use Rattle.tree_specs.specs.Table.{drop_step, unlink_step, release_step};
+ghost use Rattle.tree_links.specs.Links.{pool_of, works_of};
+ghost use Rattle.references.specs.Rows.{AreRefsOf, RefersTo};
+ghost use Rattle.destructors.specs.Moves.{move_of};
+
+use crate::motion::Motion;
+use references::Refs;
+use tree_links::Tree;
+use tree_specs::{FreeFrame, FreeReply, FreeStep, Obj, Owner};
+
+/// A reference is no more.
+pub fn drop_ref(reference: Obj, target: Obj, tree: &mut Tree, refs: &mut Refs)
+    requires is { RefersTo tree.old.rows (Some reference) target }
+    requires refs { AreRefsOf refs.old.pairs tree.old.rows }
+    ensures rows { pool_of tree.new ≡ removed (pool_of tree.old) reference }
+    ensures refs { AreRefsOf refs.new.pairs tree.new.rows }
+    ensures spare { tree.old.spare ≤ tree.new.spare }
+    ensures works { works_of tree.new ≡ works_of tree.old }
+{
+    // All that is wanted of `len` is its contract: a reference owns nothing.
+    let _rows = tree.len();
+    let _target = refs.drop_ref(reference);
+    tree.remove(reference);
+}
+
+/// The newest reference that an owner has goes. An owner that has none gives the object up.
+pub fn unlink(owner: Owner, x: Obj, tree: &mut Tree, refs: &mut Refs) -> Motion
+    requires refs { AreRefsOf refs.old.pairs tree.old.rows }
+    ensures moved { move_of result (pool_of tree.new) ≡ unlink_step x (newest_ref_of tree.old.rows owner x) (pool_of tree.old) }
+    ensures refs { AreRefsOf refs.new.pairs tree.new.rows }
+    ensures spare { tree.old.spare ≤ tree.new.spare }
+    ensures works { works_of tree.new ≡ works_of tree.old }
+{
+    let Some(reference) = refs.newest_of(tree, owner, x) else {
+        return Motion::Goes(FreeFrame::Releasing { x });
+    };
+    drop_ref(reference, x, tree, refs);
+    let dropped = FreeStep::Dropped {
+        reference,
+        target: x,
+    };
+    let answer = FreeReply::Ok;
+    Motion::Tells(dropped, FreeFrame::Ending { answer })
+}
+
+/// The owner of an object gives it up: its newest reference goes, and where this wasn't inside the object, the
+/// reference's owner gets the object.
+pub fn release(x: Obj, tree: &mut Tree, refs: &mut Refs) -> Motion
+    requires refs { AreRefsOf refs.old.pairs tree.old.rows }
+    ensures moved { move_of result (pool_of tree.new) ≡ release_step x (newest_ref tree.old.rows x) (pool_of tree.old) }
+    ensures refs { AreRefsOf refs.new.pairs tree.new.rows }
+    ensures spare { tree.old.spare ≤ tree.new.spare }
+    ensures works { works_of tree.new ≡ works_of tree.old }
+{
+    let Some(reference) = refs.newest(tree, x) else {
+        return Motion::Goes(FreeFrame::Beginning { x });
+    };
+    let inside = tree.is_inside(Owner::Of(reference), Owner::Of(x));
+    let owner = tree.parent(reference).unwrap_or(Owner::Root);
+    drop_ref(reference, x, tree, refs);
+    let dropped = FreeStep::Dropped {
+        reference,
+        target: x,
+    };
+    if inside {
+        Motion::Tells(dropped, FreeFrame::Releasing { x })
+    } else {
+        Motion::Tells(dropped, FreeFrame::Giving { x, owner })
+    }
+}
+
+/// The newest reference to an object that is to be freed goes. One from inside it makes the freeing begin again, and
+/// one from outside holds the object.
+pub fn hold(x: Obj, reference: Obj, tree: &mut Tree, refs: &mut Refs) -> Motion
+    requires is { RefersTo tree.old.rows (Some reference) x }
+    requires refs { AreRefsOf refs.old.pairs tree.old.rows }
+    ensures moved { move_of result (pool_of tree.new) ≡ drop_step x reference (pool_of tree.old) }
+    ensures refs { AreRefsOf refs.new.pairs tree.new.rows }
+    ensures spare { tree.old.spare ≤ tree.new.spare }
+    ensures works { works_of tree.new ≡ works_of tree.old }
+{
+    let inside = tree.is_inside(Owner::Of(reference), Owner::Of(x));
+    drop_ref(reference, x, tree, refs);
+    let dropped = FreeStep::Dropped {
+        reference,
+        target: x,
+    };
+    if inside {
+        return Motion::Tells(dropped, FreeFrame::Beginning { x });
+    }
+    let answer = FreeReply::Held;
+    Motion::Tells(dropped, FreeFrame::Ending { answer })
+}
+
+/// The owner of the newest reference to an object.
+pub fn noted_owner(x: Obj, tree: &Tree, refs: &Refs) -> Option<Owner>
+    requires refs { AreRefsOf refs.now.pairs tree.now.rows }
+    ensures { result ≡ noted_owner_of tree.now.rows x }
+{
+    let reference = refs.newest(tree, x)?;
+    tree.parent(reference)
+}
