@@ -1,4 +1,3 @@
 pub mod Walking
 pub mod Weighing
 pub mod Showing
-pub mod Referred

@@ -57,21 +57,17 @@ fn copied(alloc: Global, name: &Name) -> Result<Name, Memory>
     }
 }
 
-fn row_of_root(alloc: Global) -> Result<ReportRow, Memory>
-    ensures { IfOk result (λ r. r ≡ root_row) }
+fn row_of_root(alloc: Global) -> ReportRow
+    ensures { result ≡ root_row }
 {
-    let bytes = b"null_context".as_slice().to_vec(alloc)?;
-    match Name::make(bytes) {
-        Some(name) => Ok(ReportRow {
-            depth: 0,
-            id: 0,
-            kind: RowKind::Root,
-            size: 0,
-            refs: 0,
-            target: 0,
-            name,
-        }),
-        None => unreachable!(),
+    ReportRow {
+        depth: 0,
+        id: 0,
+        kind: RowKind::Root,
+        size: 0,
+        refs: 0,
+        target: 0,
+        name: Name::fixed(alloc, b"null_context"),
     }
 }
 
@@ -111,7 +107,7 @@ fn row_at(
     ensures { IfOk result (λ r. option_to_list r ≡ shown_at tree.now.rows depth owner) }
 {
     match owner {
-        Owner::Root => Ok(Some(row_of_root(alloc)?)),
+        Owner::Root => Ok(Some(row_of_root(alloc))),
         Owner::Of(x) => row_of_object(alloc, tree, refs, x, depth),
     }
 }

@@ -4,7 +4,7 @@ ghost use Rattle.tree_specs.specs.Pool.{is_row, is_dying};
 
 use super::*;
 use outside::{Done, FineSink, MemSink, Sink};
-use references::Refs;
+use references::{Refs, refer};
 use std::alloc::Global;
 use std::marker::Model;
 use std::process::Abort;
@@ -71,21 +71,18 @@ impl World {
         target: Obj,
         owner: Owner,
     ) -> Result<Obj, Fail> {
-        let row = NewRow {
-            kind: Kind::Reference { target },
-            name: Name::make(b"reference".to_vec(alloc)?).expect(rt, "a name"),
-            size: 0,
-        };
         self.tree.reserve(1)?;
         self.refs.reserve(1)?;
         assert!(rt; self.tree.len() < 1_048_576);
         assert!(rt; self.tree.next_number() < u64::MAX);
         assert!(rt; self.tree.is_owner(owner));
-        // All that is wanted of the count is its contract: the references stand in order.
-        let _held = self.refs.count_refs(target);
-        let reference = self.tree.add(row, owner);
-        self.refs.add_ref(reference, target);
-        Ok(reference)
+        Ok(refer(
+            alloc,
+            target,
+            owner,
+            &mut self.tree,
+            &mut self.refs,
+        ))
     }
 
     fn detach(&mut self, rt: &impl Abort, x: Obj) {

@@ -26,3 +26,4 @@ pub mod Orderly
 pub mod Grounded
 pub mod Acceptances
 pub mod BadStories
+pub mod Listed

@@ -3,6 +3,7 @@ ghost use Rattle.tree_specs.specs.Names.{is_name, is_graphic};
 ghost use Rattle.std.specs.List.{list_all};
 
 use crate::listed::Listed;
+use std::alloc::Global;
 use std::marker::Model;
 
 fn is_graphic_byte(b: u8) -> bool
@@ -53,6 +54,16 @@ impl Name {
             })
         } else {
             None
+        }
+    }
+
+    /// A name that stands in the program. It takes no memory.
+    pub fn fixed(alloc: Global, bytes: &'static [u8]) -> Name
+        requires { IsTrue (is_name bytes.now) }
+        ensures { result ≡ bytes.now }
+    {
+        Name {
+            bytes: Listed::fixed(alloc, bytes),
         }
     }
 
