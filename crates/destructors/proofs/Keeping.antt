@@ -43,7 +43,7 @@ use Rattle.destructors.proofs.Lifting.{OnFree, OnTold, OnMove, OnCaller, lift}
 
 -- ---- what a move rests on
 
-live-row : (p : Pool) (x : Obj) (r : Row) → row_of p.rows x ≡ Some r → IsLive r.mark → IsLiveRow p x
+pub live-row : (p : Pool) (x : Obj) (r : Row) → row_of p.rows x ≡ Some r → IsLive r.mark → IsLiveRow p x
 live-row p x r e live = (rw e refl, rw e (each r.mark live))
   where
     each : (m : Mark) → IsLive m → (elim m [ Quiet ↦ false | Asked ↦ false | Busy ↦ false | Doomed ↦ false | Dying former ↦ true ]) ≡ false

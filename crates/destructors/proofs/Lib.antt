@@ -4,4 +4,3 @@ pub mod Resting
 pub mod Keeping
 pub mod Begins
 pub mod Settling
-pub mod SameRefs

@@ -12,13 +12,13 @@ use Rattle.tree_specs.specs.declared.frame.Frame.TheVariants as frame
 use Rattle.tree_specs.specs.declared.frame.CallFrame.{CallFrame}
 use Rattle.tree_specs.specs.declared.frame.CallFrame.TheVariants.{Asking, Doing, Awaiting, Returning}
 use Rattle.tree_specs.specs.declared.frame.FreeFrame.{FreeFrame}
-use Rattle.tree_specs.specs.declared.frame.FreeFrame.TheVariants.{Beginning, Hooked, Judged, Leaving, Looping, Trying, Tried, Ending}
+use Rattle.tree_specs.specs.declared.frame.FreeFrame.TheVariants.{Unlinking, Releasing, Giving, Beginning, Hooked, Judged, Leaving, Looping, Trying, Tried, Ending}
 use Rattle.tree_specs.specs.declared.frame.Purpose.TheVariants.{Emptying}
 use Rattle.tree_specs.specs.declared.frame.Answer.{Answer}
 use Rattle.tree_specs.specs.declared.frame.Answer.TheVariants.{Freed}
 use Rattle.tree_specs.specs.declared.free_step.FreeReply.{FreeReply}
 use Rattle.tree_specs.specs.declared.free_step.FreeStep.{FreeStep}
-use Rattle.tree_specs.specs.declared.free_step.FreeStep.TheVariants.{Ask, Refused, Accepted, Left, Moved, Gone, Done}
+use Rattle.tree_specs.specs.declared.free_step.FreeStep.TheVariants.{Ask, Dropped, Refused, Accepted, Left, Moved, Gone, Done}
 use Rattle.tree_specs.specs.declared.object.Obj.{Obj}
 use Rattle.tree_specs.specs.Pool.{Pool, row_of}
 use Rattle.tree_specs.specs.Items.{Item}
@@ -38,7 +38,7 @@ use Rattle.destructors.proofs.Lifting.{OnTold, OnMove, OnCaller}
 use Rattle.destructors.proofs.Keeping.{told-kept}
 use Rattle.destructors.proofs.Settling.{awaiting-speaks, still, asks-hooked}
 use Rattle.host_core.specs.declared.motion.Motion.{Motion}
-use Rattle.host_core.specs.declared.motion.Motion.TheVariants.{Goes, Frees, Empties}
+use Rattle.host_core.specs.declared.motion.Motion.TheVariants.{Goes, Frees, Unlinks, Empties}
 use Rattle.host_core.specs.declared.active.Active.TheVariants as active
 use Rattle.host_core.specs.Moves.{move_of}
 use Rattle.host_core.specs.Hosts.{seen, motion_view, speaks, moved, next_of, speaking_view, Onward}
@@ -48,16 +48,19 @@ use Rattle.host_core.proofs.FreeSteps.{Comes, comes, events, tells, speaks-event
 -- ---- a call
 
 -- the work that a call puts before its caller stands on him
-stands-on : (c : CallFrame) (works : List FreeFrame) (cs : List CallFrame) (d : CallFrame) → Seated (frame.Call c) (under works cs) → standing works (d ∷ cs) ≡ frame.Call d ∷ under works cs
-stands-on c [] cs d s = refl
-stands-on c (Hooked y h ∷ fs) cs d s = refl
-stands-on c (Beginning y ∷ fs) cs d s = absurd s.0
-stands-on c (Judged y h v ∷ fs) cs d s = absurd s.0
-stands-on c (Leaving y h ∷ fs) cs d s = absurd s.0
-stands-on c (Looping y purpose ∷ fs) cs d s = absurd s.0
-stands-on c (Trying y e purpose ∷ fs) cs d s = absurd s.0
-stands-on c (Tried y e purpose a ∷ fs) cs d s = absurd s.0
-stands-on c (Ending a ∷ fs) cs d s = absurd s.0
+pub stands-on : (c : CallFrame) (works : List FreeFrame) (cs : List CallFrame) (d : CallFrame) (ds : List CallFrame) → Seated (frame.Call c) (under works cs) → standing works (d ∷ ds) ≡ frame.Call d ∷ under works ds
+stands-on c [] cs d ds s = refl
+stands-on c (Hooked y h ∷ fs) cs d ds s = refl
+stands-on c (Unlinking o y ∷ fs) cs d ds s = absurd s.0
+stands-on c (Releasing y ∷ fs) cs d ds s = absurd s.0
+stands-on c (Giving y o ∷ fs) cs d ds s = absurd s.0
+stands-on c (Beginning y ∷ fs) cs d ds s = absurd s.0
+stands-on c (Judged y h v ∷ fs) cs d ds s = absurd s.0
+stands-on c (Leaving y h ∷ fs) cs d ds s = absurd s.0
+stands-on c (Looping y purpose ∷ fs) cs d ds s = absurd s.0
+stands-on c (Trying y e noted purpose ∷ fs) cs d ds s = absurd s.0
+stands-on c (Tried y e noted purpose a ∷ fs) cs d ds s = absurd s.0
+stands-on c (Ending a ∷ fs) cs d ds s = absurd s.0
 
 -- a call that is done goes on to what it has begun
 pub act-onward : (q : AskData) (c : Call) (works : List FreeFrame) (cs : List CallFrame) (p p' : Pool) (m : Motion) → Whole (call_view (Doing q c) works cs p) → move_of m p' ≡ call_step (refusals p c) q c p
@@ -75,8 +78,9 @@ act-onward q c works cs p p' m h e =
 
     each : (m : Motion) → (moved (move_of m p') (under works cs)).1 ≡ motion_view m works cs p'
     each (Goes d) = refl
-    each (Frees r x) = ap (λ (l : List Frame). let z : View = record { innermost = frame.Free (Beginning x); below = l; pool = p' } in z) (sym (stands-on (Doing q c) works cs (Awaiting r x) h.seated))
-    each (Empties r x) = ap (λ (l : List Frame). let z : View = record { innermost = frame.Free (Looping x Emptying); below = l; pool = p' } in z) (sym (stands-on (Doing q c) works cs (Awaiting r x) h.seated))
+    each (Frees r x) = ap (λ (l : List Frame). let z : View = record { innermost = frame.Free (Beginning x); below = l; pool = p' } in z) (sym (stands-on (Doing q c) works cs (Awaiting r x) cs h.seated))
+    each (Unlinks r o x) = ap (λ (l : List Frame). let z : View = record { innermost = frame.Free (Unlinking o x); below = l; pool = p' } in z) (sym (stands-on (Doing q c) works cs (Awaiting r x) cs h.seated))
+    each (Empties r x) = ap (λ (l : List Frame). let z : View = record { innermost = frame.Free (Looping x Emptying); below = l; pool = p' } in z) (sym (stands-on (Doing q c) works cs (Awaiting r x) cs h.seated))
 
 -- a caller that goes on has his reply
 pub act-tells : (q : AskData) (c : Call) (p p' : Pool) (d : CallFrame) → move_of (Goes d) p' ≡ call_step (refusals p c) q c p → IsTelling (frame.Call d)
@@ -91,7 +95,6 @@ awaited f q x works cs p none small seats h =
       sound = stands (frame.Free f) (frame.Call (Asking q)) (frame.Call (Awaiting q x) ∷ under works cs) (under works cs) p (λ y. rw (none y) refl) h.sound.waiting.1 tt h.sound;
       seated = reseat (frame.Call (Awaiting q x)) (frame.Call (Asking q)) (under works cs) (λ z. z) (λ z. z) (λ z. z) seats;
       light = omega (arith, l, small);
-      plain = h.plain;
     }
 
 -- after a call the innermost free awaits its caller
@@ -101,13 +104,14 @@ act-awaits q c works cs p p' m h e = each m (act-onward q c works cs p p' m h e)
   where
     begun : (f : FreeFrame) (r : AskData) (x : Obj) → ((y : Obj) → claim y (frame.Free f) ≡ []) → innermost_size (frame.Free f) ≡ 0 → Whole (free_view f works (Awaiting r x ∷ cs) p') → IsAwaiting (record { works = works; pool = p' })
     begun f r x none small w =
-        let e : standing works (Awaiting r x ∷ cs) ≡ frame.Call (Awaiting r x) ∷ under works cs = stands-on (Doing q c) works cs (Awaiting r x) h.seated in
+        let e : standing works (Awaiting r x ∷ cs) ≡ frame.Call (Awaiting r x) ∷ under works cs = stands-on (Doing q c) works cs (Awaiting r x) cs h.seated in
         let w' : Whole (record { innermost = frame.Free f; below = frame.Call (Awaiting r x) ∷ under works cs; pool = p' }) = subst (λ (l : List Frame). Whole (record { innermost = frame.Free f; below = l; pool = p' })) e w in
         record { caller = Asking r; callers = cs; whole = awaited f r x works cs p' none small w'.seated.1 w' }
 
     each : (m : Motion) → Whole (motion_view m works cs p') → IsAwaiting (record { works = works; pool = p' })
     each (Goes d) w = record { caller = d; callers = cs; whole = w }
     each (Frees r x) w = begun (Beginning x) r x (λ y. refl) refl w
+    each (Unlinks r o x) w = begun (Unlinking o x) r x (λ y. refl) refl w
     each (Empties r x) w = begun (Looping x Emptying) r x (λ y. refl) refl w
 
 -- ---- a routine that has returned
@@ -117,12 +121,15 @@ pub return-onward : (v : ℕ) (works : List FreeFrame) (cs : List CallFrame) (p 
 return-onward v [] [] p h = absurd h.seated
 return-onward v [] (c ∷ cs) p h = absurd h.seated.0
 return-onward v (Hooked x g ∷ fs) cs p h = onward _ _ h refl refl
+return-onward v (Unlinking o x ∷ fs) cs p h = absurd h.seated.0
+return-onward v (Releasing x ∷ fs) cs p h = absurd h.seated.0
+return-onward v (Giving x o ∷ fs) cs p h = absurd h.seated.0
 return-onward v (Beginning x ∷ fs) cs p h = absurd h.seated.0
 return-onward v (Judged x g u ∷ fs) cs p h = absurd h.seated.0
 return-onward v (Leaving x g ∷ fs) cs p h = absurd h.seated.0
 return-onward v (Looping x purpose ∷ fs) cs p h = absurd h.seated.0
-return-onward v (Trying x c purpose ∷ fs) cs p h = absurd h.seated.0
-return-onward v (Tried x c purpose a ∷ fs) cs p h = absurd h.seated.0
+return-onward v (Trying x c noted purpose ∷ fs) cs p h = absurd h.seated.0
+return-onward v (Tried x c noted purpose a ∷ fs) cs p h = absurd h.seated.0
 return-onward v (Ending a ∷ fs) cs p h = absurd h.seated.0
 
 -- ---- a step of the innermost free
@@ -137,6 +144,7 @@ first s w = each s.works w
 
 seen-told : (v : View) (t : FreeStep) (works : List FreeFrame) (cs : List CallFrame) (p : Pool) → IsNews t → OnTold (Comes v) cs 0 t works p → (next_of v).1 ≡ seen active.Freeing works cs p
 seen-told v (Ask x) works cs p n c = absurd n
+seen-told v (Dropped r target) works cs p n c = seen-free v works cs p c
 seen-told v (Refused x r) works cs p n c = seen-free v works cs p c
 seen-told v (Accepted x) works cs p n c = seen-free v works cs p c
 seen-told v (Left x from) works cs p n c = seen-free v works cs p c

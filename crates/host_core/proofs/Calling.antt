@@ -5,7 +5,7 @@ use Rattle.tree_specs.specs.declared.call.Call.{Call}
 use Rattle.tree_specs.specs.declared.question.Ask.{Ask}
 use Rattle.tree_specs.specs.declared.frame.Frame.TheVariants as frame
 use Rattle.tree_specs.specs.declared.frame.CallFrame.{CallFrame}
-use Rattle.tree_specs.specs.declared.frame.CallFrame.TheVariants.{Asking, Doing, Awaiting, Telling, Returning}
+use Rattle.tree_specs.specs.declared.frame.CallFrame.TheVariants.{Asking, Doing, Awaiting, Warning, Telling, Returning}
 use Rattle.tree_specs.specs.declared.frame.FreeFrame.{FreeFrame}
 use Rattle.tree_specs.specs.Calls.{refusals}
 use Rattle.tree_specs.specs.Table.{call_step}
@@ -17,10 +17,10 @@ use Rattle.destructors.specs.Works.{call_view, IsAtWork, IsAwaiting}
 use Rattle.destructors.specs.Engine.{IsAsked, AreKept}
 use Rattle.destructors.proofs.Begins.{any-room}
 use Rattle.host_core.specs.declared.motion.Motion.{Motion}
-use Rattle.host_core.specs.declared.motion.Motion.TheVariants.{Goes, Frees, Empties}
+use Rattle.host_core.specs.declared.motion.Motion.TheVariants.{Goes, Frees, Unlinks, Empties}
 use Rattle.host_core.specs.declared.active.Active.TheVariants as active
 use Rattle.host_core.specs.Moves.{move_of}
-use Rattle.host_core.specs.Hosts.{view_of, motion_view, CallRoom, Ready, IsReply, Onward}
+use Rattle.host_core.specs.Hosts.{Places, view_of, motion_view, CallRoom, Ready, IsReply, Onward}
 use Rattle.host_core.proofs.CallSteps.{act-onward, act-tells, act-awaits, return-onward}
 use Rattle.host_core.proofs.Hosting.{asked}
 
@@ -32,15 +32,17 @@ pub record Acts (frame : CallFrame) (o : Option FreeFrame) (callers : List CallF
   pub room : length tree'.rows + 2 ≤ tree'.room
 
 replies : (m : Motion) → ((d : CallFrame) → m ≡ Goes d → IsTelling (frame.Call d)) → IsReply m
+replies (Goes (Warning q x r)) t = tt
 replies (Goes (Telling q r)) t = tt
 replies (Goes (Asking q)) t = t (Asking q) refl
 replies (Goes (Doing q c)) t = t (Doing q c) refl
 replies (Goes (Awaiting q x)) t = t (Awaiting q x) refl
 replies (Goes (Returning v)) t = t (Returning v) refl
 replies (Frees q x) t = tt
+replies (Unlinks q o x) t = tt
 replies (Empties q x) t = tt
 
-pub acts : (q : Ask) (c : Call) (f : CallFrame) (o : Option FreeFrame) (callers : List CallFrame) (tree : Links) (m : Motion) (tree' : Links) (places : ℕ) → f ≡ Doing q c → Ready (active.Caller f) callers o tree places
+pub acts : (q : Ask) (c : Call) (f : CallFrame) (o : Option FreeFrame) (callers : List CallFrame) (tree : Links) (m : Motion) (tree' : Links) (places : Places) → f ≡ Doing q c → Ready (active.Caller f) callers o tree places
     → move_of m (pool_of tree') ≡ call_step (refusals (pool_of tree) c) q c (pool_of tree) → works_of tree' ≡ works_of tree → Acts f o callers tree m tree'
 acts q c f o callers tree m tree' places is ready e works =
     let ready' : Ready (active.Caller (Doing q c)) callers o tree places = rw is at ready in
@@ -62,6 +64,7 @@ acts q c f o callers tree m tree' places is ready e works =
     rows : (m : Motion) → length (motion_view m (before o tree.frees) (reverse callers) (pool_of tree')).pool.rows + pending (motion_view m (before o tree.frees) (reverse callers) (pool_of tree')).innermost ≤ length tree.rows + 2 → length tree'.rows ≤ length tree.rows + 2
     rows (Goes d) n = omega (arith, n)
     rows (Frees r x) n = omega (arith, n)
+    rows (Unlinks r o x) n = omega (arith, n)
     rows (Empties r x) n = omega (arith, n)
 
 -- a routine that has returned
@@ -69,10 +72,10 @@ pub record Returns (frame : CallFrame) (o : Option FreeFrame) (callers : List Ca
   pub asked : IsAsked o
   pub onward : (o' : Option FreeFrame) → frees_of o' tree ≡ record { works = returned v (frees_of o tree); pool = pool_of tree }
       → Onward (call_view frame (before o tree.frees) (reverse callers) (pool_of tree)) (view_of active.Freeing callers o' tree)
-  pub ready : (o' : Option FreeFrame) (places : ℕ) → frees_of o' tree ≡ record { works = returned v (frees_of o tree); pool = pool_of tree } → speaking (frees_of o' tree) ≡ true → IsAtWork (frees_of o' tree) → AreKept o' tree
+  pub ready : (o' : Option FreeFrame) (places : Places) → frees_of o' tree ≡ record { works = returned v (frees_of o tree); pool = pool_of tree } → speaking (frees_of o' tree) ≡ true → IsAtWork (frees_of o' tree) → AreKept o' tree
       → Ready active.Freeing callers o' tree places
 
-pub returns : (v : ℕ) (f : CallFrame) (o : Option FreeFrame) (callers : List CallFrame) (tree : Links) (places : ℕ) → f ≡ Returning v → Ready (active.Caller f) callers o tree places → Returns f o callers tree v
+pub returns : (v : ℕ) (f : CallFrame) (o : Option FreeFrame) (callers : List CallFrame) (tree : Links) (places : Places) → f ≡ Returning v → Ready (active.Caller f) callers o tree places → Returns f o callers tree v
 returns v f o callers tree places is ready = record {
   asked = asked o tree v (reverse callers) ready'.kept ready'.whole;
   onward = on;

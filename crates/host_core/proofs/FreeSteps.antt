@@ -8,7 +8,7 @@ use Rattle.tree_specs.specs.declared.event.Event.{Event}
 use Rattle.tree_specs.specs.declared.frame.Frame.{Frame}
 use Rattle.tree_specs.specs.declared.frame.CallFrame.{CallFrame}
 use Rattle.tree_specs.specs.declared.frame.FreeFrame.{FreeFrame}
-use Rattle.tree_specs.specs.declared.frame.FreeFrame.TheVariants.{Beginning, Hooked, Judged, Leaving, Looping, Trying, Tried, Ending}
+use Rattle.tree_specs.specs.declared.frame.FreeFrame.TheVariants.{Unlinking, Releasing, Giving, Beginning, Hooked, Judged, Leaving, Looping, Trying, Tried, Ending}
 use Rattle.tree_specs.specs.declared.frame.Answer.{Answer}
 use Rattle.tree_specs.specs.declared.frame.Answer.TheVariants.{Freed}
 use Rattle.tree_specs.specs.declared.free_step.FreeReply.{FreeReply}
@@ -60,12 +60,15 @@ answered-events a p fs below = silent below ∙ none fs
     none : (fs : List FreeFrame) → None ≡ events (answered a p fs).0
     none [] = refl
     none (Hooked x h ∷ fs) = refl
+    none (Unlinking o x ∷ fs) = refl
+    none (Releasing x ∷ fs) = refl
+    none (Giving x o ∷ fs) = refl
     none (Beginning x ∷ fs) = refl
     none (Judged x h v ∷ fs) = refl
     none (Leaving x h ∷ fs) = refl
     none (Looping x purpose ∷ fs) = refl
-    none (Trying x c purpose ∷ fs) = refl
-    none (Tried x c purpose b ∷ fs) = refl
+    none (Trying x c noted purpose ∷ fs) = refl
+    none (Tried x c noted purpose b ∷ fs) = refl
     none (Ending b ∷ fs) = refl
 
     silent : (below : List Frame) → (moved (Do.Done (Freed a) p) below).0 ≡ None
@@ -98,12 +101,15 @@ speaks-events f fs cs p = each (free_step f p) (is_move f p)
     over : (a : FreeReply) (q : Pool) (fs : List FreeFrame) → false ≡ is_event (answered a q fs).0
     over a q [] = refl
     over a q (Hooked x h ∷ fs) = refl
+    over a q (Unlinking o x ∷ fs) = refl
+    over a q (Releasing x ∷ fs) = refl
+    over a q (Giving x o ∷ fs) = refl
     over a q (Beginning x ∷ fs) = refl
     over a q (Judged x h v ∷ fs) = refl
     over a q (Leaving x h ∷ fs) = refl
     over a q (Looping x purpose ∷ fs) = refl
-    over a q (Trying x c purpose ∷ fs) = refl
-    over a q (Tried x c purpose b ∷ fs) = refl
+    over a q (Trying x c noted purpose ∷ fs) = refl
+    over a q (Tried x c noted purpose b ∷ fs) = refl
     over a q (Ending b ∷ fs) = refl
 
     news : (o : Option Event) (g : FreeFrame) (q : Pool) → speaks (announced o g q) ≡ is_some o

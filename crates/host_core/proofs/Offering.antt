@@ -18,7 +18,7 @@ use Rattle.tree_specs.specs.declared.schedule.Reason.TheVariants.{NotAsked}
 use Rattle.tree_specs.specs.declared.frame.Frame.{Frame}
 use Rattle.tree_specs.specs.declared.frame.Frame.TheVariants as frame
 use Rattle.tree_specs.specs.declared.frame.CallFrame.{CallFrame}
-use Rattle.tree_specs.specs.declared.frame.CallFrame.TheVariants.{Asking, Doing, Awaiting, Telling, Returning}
+use Rattle.tree_specs.specs.declared.frame.CallFrame.TheVariants.{Asking, Doing, Awaiting, Warning, Telling, Returning}
 use Rattle.tree_specs.specs.declared.frame.FreeFrame.{FreeFrame}
 use Rattle.tree_specs.specs.declared.frame.Answer.{Answer}
 use Rattle.tree_specs.specs.declared.free_step.FreeReply.{FreeReply}
@@ -43,7 +43,7 @@ use Rattle.host_core.specs.declared.active.Active.TheVariants as active
 use Rattle.host_core.specs.declared.reports.Report.{Report}
 use Rattle.host_core.specs.Moves.{report_of, call_of, reported}
 use Rattle.host_core.specs.Promises.{Waits, TakesAnswer}
-use Rattle.host_core.specs.Hosts.{seen, view_of, speaking_view, CallRoom, CallReady, Ready, Along, asked_now, remembers, called_with, begins_with, IsReplyOf, IsCopy, IsReport}
+use Rattle.host_core.specs.Hosts.{Places, seen, view_of, speaking_view, CallRoom, CallReady, Ready, Along, asked_now, remembers, called_with, begins_with, IsReplyOf, IsCopy, IsReport}
 use Rattle.host_core.proofs.Onward.{onward, waits-asked, always-more}
 
 -- ---- the open question
@@ -70,6 +70,7 @@ pub question-seen : (now : Active) (works : List FreeFrame) (cs : List CallFrame
 question-seen (active.Caller (Asking q)) works cs p = refl
 question-seen (active.Caller (Doing q c)) works cs p = quiet-moves (call_step (refusals p c) q c p) (call-goes_on (refusals p c) q c p)
 question-seen (active.Caller (Awaiting q x)) works cs p = refl
+question-seen (active.Caller (Warning q x r)) works cs p = refl
 question-seen (active.Caller (Telling q r)) works cs p = refl
 question-seen (active.Caller (Returning v)) works cs p = refl
 question-seen active.Freeing [] cs p = refl
@@ -79,6 +80,7 @@ asking : (now : Active) (q : Ask) → asked_now now ≡ Some q → now ≡ activ
 asking (active.Caller (Asking r)) q e = let e' : r ≡ q = cc in ap (λ (z : Ask). active.Caller (Asking z)) e'
 asking (active.Caller (Doing r c)) q e = cc
 asking (active.Caller (Awaiting r x)) q e = cc
+asking (active.Caller (Warning r x a)) q e = cc
 asking (active.Caller (Telling r a)) q e = cc
 asking (active.Caller (Returning v)) q e = cc
 asking active.Freeing q e = cc
@@ -122,6 +124,8 @@ is-report (call.Freekids x) p e = cc
 is-report (call.Steal o x) p e = cc
 is-report (call.Move o x) p e = cc
 is-report (call.Reparent from to x) p e = cc
+is-report (call.Reference o x) p e = cc
+is-report (call.Unlink o x) p e = cc
 is-report (call.Hook x routine) p e = cc
 is-report (call.Unhook x) p e = cc
 is-report (call.Rename x name) p e = cc
@@ -206,7 +210,7 @@ goes q (input.Act (act.Do c)) report works cs p m s r h = goes-called q c (input
 goes q (input.Act (act.Ret v)) report works cs p m s r h = goes-heard q (input.Act (act.Ret v)) works cs p m s h
 
 -- there is room for what comes
-begun-room : (q : Ask) (i : Input) (report : Option Report) (p : Pool) (callers : List CallFrame) (tree : Links) (places : ℕ) → IsReport i (reported (call_of i)) report p → CallRoom callers tree places → CallReady (begins_with q i report) callers tree places
+begun-room : (q : Ask) (i : Input) (report : Option Report) (p : Pool) (callers : List CallFrame) (tree : Links) (places : Places) → IsReport i (reported (call_of i)) report p → CallRoom callers tree places → CallReady (begins_with q i report) callers tree places
 begun-room q (input.Act (act.Ret v)) report p callers tree places r room = room.room
 begun-room q (input.Call c) (Some s) p callers tree places r room = tt
 begun-room q (input.Act (act.Do c)) (Some s) p callers tree places r room = tt
@@ -224,14 +228,14 @@ begun-room q (input.Act (act.Do c)) None p callers tree places r room = (unrepor
 -- ---- by the parts of a host
 
 -- a host that was given an answer
-pub record Offered (now : Active) (callers : List CallFrame) (o : Option FreeFrame) (tree : Links) (i : Input) (begun : Active) (callers' : List CallFrame) (tree' : Links) (places : ℕ) : Type 0 where
+pub record Offered (now : Active) (callers : List CallFrame) (o : Option FreeFrame) (tree : Links) (i : Input) (begun : Active) (callers' : List CallFrame) (tree' : Links) (places : Places) : Type 0 where
   pub question : Ask
   pub open_before : asked_now now ≡ Some question
   pub fits : misfit (asked_now now) i ≡ None
   pub ready : Ready begun callers' o tree' places
   pub law : (is : List Input) → rest_of (view_of now callers o tree) (i ∷ is) ≡ Asked question ∷ rest_of (view_of begun callers' o tree') is
 
-pub offered : (now : Active) (callers : List CallFrame) (o : Option FreeFrame) (tree : Links) (places : ℕ) (i : Input) (report : Option Report) (begun : Active) (callers' : List CallFrame) (tree' : Links) (places' : ℕ)
+pub offered : (now : Active) (callers : List CallFrame) (o : Option FreeFrame) (tree : Links) (places : Places) (i : Input) (report : Option Report) (begun : Active) (callers' : List CallFrame) (tree' : Links) (places' : Places)
     → Ready now callers o tree places → is_none (misfit (asked_now now) i) ≡ true → is_sound i ≡ true → IsReport i (reported (call_of i)) report (pool_of tree)
     → ((q : Ask) → asked_now now ≡ Some q → begun ≡ active.Caller (begins_with q i report)) → callers' ≡ callers → pool_of tree' ≡ pool_of tree → tree'.frees ≡ tree.frees → CallRoom callers' tree' places'
     → Offered now callers o tree i begun callers' tree' places'
@@ -271,7 +275,7 @@ waits-some v None now callers o tree h e s = cc
 waits-some v (Some r) now callers o tree h e s = waits-now now (v r) (before o tree.frees) (reverse callers) (pool_of tree) (sym e) h
 
 -- the answer was taken, and the story goes on after the steps that tell nothing
-pub takes-answer : (v : View) (now : Active) (callers : List CallFrame) (o : Option FreeFrame) (tree : Links) (i : Input) (begun : Active) (callers' : List CallFrame) (tree' : Links) (places : ℕ) (w : View) → view_of now callers o tree ≡ v
+pub takes-answer : (v : View) (now : Active) (callers : List CallFrame) (o : Option FreeFrame) (tree : Links) (i : Input) (begun : Active) (callers' : List CallFrame) (tree' : Links) (places : Places) (w : View) → view_of now callers o tree ≡ v
     → Offered now callers o tree i begun callers' tree' places → Along (view_of begun callers' o tree') w → TakesAnswer v i w
 takes-answer v now callers o tree i begun callers' tree' places w e f a = record {
   question = f.question;

@@ -22,16 +22,16 @@ use Rattle.destructors.specs.Engine.{AreKept, HasRoom}
 use Rattle.destructors.proofs.FreeMoves.{IsNews}
 use Rattle.host_core.specs.declared.active.Active.{Active}
 use Rattle.host_core.specs.declared.active.Active.TheVariants as active
-use Rattle.host_core.specs.Hosts.{view_of, speaking_view, Ready, Onward, Finished}
+use Rattle.host_core.specs.Hosts.{Places, view_of, speaking_view, Ready, Onward, Finished}
 use Rattle.host_core.proofs.Onward.{AfterEvent}
 use Rattle.host_core.proofs.Hosting.{step-news, step-event, step-ask, step-done, news-work}
 
 -- where a step has led
 pub record Led (callers : List CallFrame) (o : Option FreeFrame) (tree : Links) (now : Active) (callers' : List CallFrame) (o' : Option FreeFrame) (tree' : Links) : Type 0 where
   pub onward : Onward (view_of active.Freeing callers o tree) (view_of now callers' o' tree')
-  pub ready : (places' : ℕ) → Ready now callers' o' tree' places'
+  pub ready : (places' : Places) → Ready now callers' o' tree' places'
 
-module _ (callers : List CallFrame) (o : Option FreeFrame) (tree : Links) (o' : Option FreeFrame) (tree' : Links) (t : FreeStep) (places : ℕ)
+module _ (callers : List CallFrame) (o : Option FreeFrame) (tree : Links) (o' : Option FreeFrame) (tree' : Links) (t : FreeStep) (places : Places)
     (had : Ready active.Freeing callers o tree places) (s : Steps (frees_of o tree) t (frees_of o' tree')) (kept : AreKept o' tree') where
   -- the run of a destructor begins
   pub asks : (x : Obj) (f : CallFrame) → t ≡ Ask x → ((h : ℕ) → HasHook (row_of tree'.rows x) h → f ≡ Asking (Routine (hook_moment x h))) → Led callers o tree (active.Caller f) callers o' tree'
@@ -59,7 +59,7 @@ module _ (callers : List CallFrame) (o : Option FreeFrame) (tree : Links) (o' : 
 
   -- an event was told, and the free goes on
   pub event_told : (e : Event) → event_of t ≡ Some e → IsNews t → GoesOn t (frees_of o' tree') → HasRoom o' tree'
-      → AfterEvent (view_of active.Freeing callers o tree) (view_of active.Freeing callers o' tree') e × ((places' : ℕ) → Ready active.Freeing callers o' tree' places')
+      → AfterEvent (view_of active.Freeing callers o tree) (view_of active.Freeing callers o' tree') e × ((places' : Places) → Ready active.Freeing callers o' tree' places')
   event_told e loud news g room =
       let a = step-event (before o tree.frees) (reverse callers) (pool_of tree) t e (frees_of o' tree') had.whole s loud news in
       (a, λ places'. record { whole = a.whole; kept = kept; parts = record { at_work = news-work t (frees_of o' tree') news g; settled = s.settles; room = room } })

@@ -1,15 +1,15 @@
 -- A host by its parts, and what they keep.
-use Rattle.std.specs.Prelude.{◌≡◌, ℕ, ◌+◌, ◌≤◌, ◌<◌, Bool, true, false, List, [], ◌∷◌, length, map, reverse, Option, Some, None}
+use Rattle.std.specs.Prelude.{◌≡◌, ℕ, ◌+◌, ◌≤◌, ◌<◌, Bool, true, false, List, [], ◌∷◌, length, map, reverse, vec_capacity, Option, Some, None}
 use Rattle.step_machine.specs.Machine.{Move}
 use Rattle.step_machine.specs.Machine.{Move as Do}
 use Rattle.tree_specs.specs.declared.event.Event.{Event}
-use Rattle.tree_specs.specs.declared.event.Event.TheVariants.{Replied}
+use Rattle.tree_specs.specs.declared.event.Event.TheVariants.{Warned, Replied}
 use Rattle.tree_specs.specs.declared.frame.Frame.{Frame}
 use Rattle.tree_specs.specs.declared.frame.Frame.TheVariants as frame
 use Rattle.tree_specs.specs.declared.frame.CallFrame.{CallFrame}
-use Rattle.tree_specs.specs.declared.frame.CallFrame.TheVariants.{Asking, Doing, Awaiting, Telling, Returning}
+use Rattle.tree_specs.specs.declared.frame.CallFrame.TheVariants.{Asking, Doing, Awaiting, Warning, Telling, Returning}
 use Rattle.tree_specs.specs.declared.frame.FreeFrame.{FreeFrame}
-use Rattle.tree_specs.specs.declared.frame.FreeFrame.TheVariants.{Beginning, Looping, Ending}
+use Rattle.tree_specs.specs.declared.frame.FreeFrame.TheVariants.{Unlinking, Beginning, Looping, Ending}
 use Rattle.tree_specs.specs.declared.frame.Purpose.TheVariants.{Emptying}
 use Rattle.tree_specs.specs.declared.frame.Answer.{Answer}
 use Rattle.tree_specs.specs.declared.frame.Answer.TheVariants.{Freed}
@@ -36,11 +36,14 @@ use Rattle.tree_links.specs.Links.{Links, pool_of}
 use Rattle.destructors.specs.Frees.{before, frees_of, speaking}
 use Rattle.destructors.specs.Works.{free_view, call_view, IsAtWork}
 use Rattle.destructors.specs.Engine.{AreKept, HasRoom}
+use Rattle.references.specs.Pairs.{Pairs}
+use Rattle.references.specs.Rows.{AreRefsOf}
+use Rattle.host_core.specs.declared.parts.Parts.{Parts}
 use Rattle.host_core.specs.declared.active.Active.{Active}
 use Rattle.host_core.specs.declared.active.Active.TheVariants as active
 use Rattle.host_core.specs.declared.motion.Motion.{Motion}
 use Rattle.host_core.specs.declared.reports.Report.{Report}
-use Rattle.host_core.specs.declared.motion.Motion.TheVariants.{Goes, Frees, Empties}
+use Rattle.host_core.specs.declared.motion.Motion.TheVariants.{Goes, Frees, Unlinks, Empties}
 use Rattle.host_core.specs.Moves.{report_of}
 
 -- the works of a host whose callers wait in this order, the innermost first
@@ -53,22 +56,33 @@ seen active.Freeing (f ∷ fs) callers p = free_view f fs callers p
 abbrev pub motion_view : Motion → List FreeFrame → List CallFrame → Pool → View
 motion_view (Goes c) works callers p = call_view c works callers p
 motion_view (Frees q x) works callers p = free_view (Beginning x) works (Awaiting q x ∷ callers) p
+motion_view (Unlinks q o x) works callers p = free_view (Unlinking o x) works (Awaiting q x ∷ callers) p
 motion_view (Empties q x) works callers p = free_view (Looping x Emptying) works (Awaiting q x ∷ callers) p
 
 -- the callers stand in a stack, whose last is the innermost
 abbrev pub view_of : Active → List CallFrame → Option FreeFrame → Links → View
 view_of now callers innermost tree = seen now (before innermost tree.frees) (reverse callers) (pool_of tree)
 
+-- how many callers there is memory for, and how many further references
+pub record Places : Type 0 where
+  pub callers : ℕ
+  pub references : ℕ
+
+abbrev pub places : ℕ → Pairs → Places
+places callers refs = record { callers = callers; references = refs.spare }
+
 -- the memory that a caller's step may want, with all that comes up to the next question
-pub record CallRoom (callers : List CallFrame) (tree : Links) (places : ℕ) : Type 0 where
+pub record CallRoom (callers : List CallFrame) (tree : Links) (places : Places) : Type 0 where
   pub spare : 0 < tree.spare
   pub room : length tree.rows + 4 ≤ tree.room
-  pub place : length callers < places
+  pub place : length callers < places.callers
+  pub reference : 0 < places.references
 
-abbrev pub CallReady : CallFrame → List CallFrame → Links → ℕ → Type 0
+abbrev pub CallReady : CallFrame → List CallFrame → Links → Places → Type 0
 CallReady (Asking q) callers tree places = Unit {0}
 CallReady (Doing q c) callers tree places = (report_of c ≡ None) × CallRoom callers tree places
 CallReady (Awaiting q x) callers tree places = Unit {0}
+CallReady (Warning q x r) callers tree places = Unit {0}
 CallReady (Telling q r) callers tree places = Unit {0}
 CallReady (Returning v) callers tree places = length tree.rows + 4 ≤ tree.room
 
@@ -79,14 +93,29 @@ pub record FreeReady (innermost : Option FreeFrame) (tree : Links) : Type 0 wher
   pub room : HasRoom innermost tree
 
 -- what the parts keep besides what holds of a host at every moment
-abbrev pub PartsReady : Active → List CallFrame → Option FreeFrame → Links → ℕ → Type 0
+abbrev pub PartsReady : Active → List CallFrame → Option FreeFrame → Links → Places → Type 0
 PartsReady (active.Caller c) callers innermost tree places = CallReady c callers tree places
 PartsReady active.Freeing callers innermost tree places = FreeReady innermost tree
 
-pub record Ready (now : Active) (callers : List CallFrame) (innermost : Option FreeFrame) (tree : Links) (places : ℕ) : Type 0 where
+pub record Ready (now : Active) (callers : List CallFrame) (innermost : Option FreeFrame) (tree : Links) (places : Places) : Type 0 where
   pub whole : Whole (view_of now callers innermost tree)
   pub kept : AreKept innermost tree
   pub parts : PartsReady now callers innermost tree places
+
+-- ---- the same of the parts as one
+
+abbrev pub view_in : Active → Parts → View
+view_in now parts = view_of now parts.callers.items parts.engine parts.tree
+
+
+abbrev pub IsReady : Active → Parts → Type 0
+IsReady now parts = Ready now parts.callers.items parts.engine parts.tree (places (vec_capacity parts.callers) parts.refs)
+
+-- the references are those among the rows
+abbrev pub HasRefs : Parts → Type 0
+HasRefs parts = AreRefsOf parts.refs.pairs parts.tree.rows
+
+-- ---- a step
 
 -- an event or a question comes with the next step
 abbrev pub speaks : Move Frame Answer Pool Item → Bool
@@ -129,22 +158,25 @@ pub record Onward (v w : View) : Type 0 where
 
 -- a caller that goes on has his reply
 abbrev pub IsReply : Motion → Type 0
+IsReply (Goes (Warning q x r)) = Unit {0}
 IsReply (Goes (Telling q r)) = Unit {0}
 IsReply (Goes (Asking q)) = ⊥
 IsReply (Goes (Doing q c)) = ⊥
 IsReply (Goes (Awaiting q x)) = ⊥
 IsReply (Goes (Returning v)) = ⊥
 IsReply (Frees q x) = Unit {0}
+IsReply (Unlinks q o x) = Unit {0}
 IsReply (Empties q x) = Unit {0}
 
 -- the innermost caller goes on with what the free that he has waited for answers
 abbrev pub Finished : FreeReply → List CallFrame → Active → List CallFrame → Type 0
 Finished a old now new = (c : CallFrame) (cs : List CallFrame) → reverse old ≡ c ∷ cs → (now ≡ active.Caller (caller_resume c (Freed a))) × (reverse new ≡ cs)
 
--- ---- a reply that is told
+-- ---- what is told
 
 -- what a caller tells
 abbrev pub told_by : CallFrame → Option Event
+told_by (Warning q x r) = Some (Warned x)
 told_by (Telling q r) = Some (Replied r)
 told_by (Asking q) = None
 told_by (Doing q c) = None
@@ -153,6 +185,7 @@ told_by (Returning v) = None
 
 -- and how it goes on
 abbrev pub after_telling : CallFrame → CallFrame
+after_telling (Warning q x r) = Telling q r
 after_telling (Telling q r) = Asking q
 after_telling (Asking q) = Asking q
 after_telling (Doing q c) = Doing q c
@@ -166,6 +199,7 @@ abbrev pub asked_now : Active → Option Ask
 asked_now (active.Caller (Asking q)) = Some q
 asked_now (active.Caller (Doing q c)) = None
 asked_now (active.Caller (Awaiting q x)) = None
+asked_now (active.Caller (Warning q x r)) = None
 asked_now (active.Caller (Telling q r)) = None
 asked_now (active.Caller (Returning v)) = None
 asked_now active.Freeing = None

@@ -2,14 +2,19 @@
 ghost use Rattle.std.specs.Prelude.{◌≡◌, ◌≤◌, ◌<◌, ◌+◌, None, Ok};
 ghost use Rattle.tree_specs.specs.Calls.{refusals};
 ghost use Rattle.tree_specs.specs.Pool.{place as placed};
-ghost use Rattle.tree_specs.specs.Story.{freed_reply, later as later_of};
-ghost use Rattle.tree_specs.specs.Table.{call_step, effect_step, replied};
+ghost use Rattle.tree_specs.specs.declared.call.Call.TheVariants.{Free as FreeOf};
+ghost use Rattle.tree_specs.specs.Story.{freed_reply, later as later_of, warns as worth_a_warning};
+ghost use Rattle.tree_specs.specs.Table.{call_step, effect_step, placed_step};
 ghost use Rattle.tree_links.specs.Links.{pool_of, works_of, MayPlace};
-ghost use Rattle.host_core.specs.Moves.{move_of, reply_of, telling as telling_of, checked, report_of};
+ghost use Rattle.references.specs.Rows.{AreRefsOf};
+ghost use Rattle.host_core.specs.Moves.{move_of, reply_of, telling as telling_of, checked, report_of, RefsMayGo};
 
 use crate::brief::Brief;
+use crate::changes::{place, reparent, warns};
 use crate::checks::check;
 use crate::motion::Motion;
+use references::{Refs, refer};
+use std::alloc::Global;
 use tree_links::{NewRow, Tree};
 use tree_report::{count, total};
 use tree_specs::{Ask, Call, CallFrame, FreeReply, Kind, Obj, Owner, Refusal, Reply};
@@ -46,6 +51,7 @@ pub fn freed(x: Obj, answer: FreeReply) -> Brief
 {
     match answer {
         FreeReply::Ok => Brief::Ok,
+        FreeReply::Held => Brief::No(Refusal::Held(x)),
         FreeReply::Running => Brief::No(Refusal::Running(x)),
         FreeReply::Refused(answer) => Brief::No(Refusal::Refused { object: x, answer }),
     }
@@ -57,23 +63,55 @@ fn tells(ask: Ask, reply: Brief) -> Motion
     Motion::Goes(telling(ask, reply))
 }
 
-/// Puts an object below an owner.
-fn give(ask: Ask, x: Obj, owner: Owner, reply: Brief, tree: &mut Tree) -> Motion
-    requires { MayPlace tree.old.rows x owner }
-    ensures moved { move_of result (pool_of tree.new) ≡ replied ask (reply_of reply) (placed (pool_of tree.old) owner x) }
+/// Puts an object below an owner. What is worth a warning is told before the reply.
+fn give(
+    ask: Ask,
+    x: Obj,
+    owner: Owner,
+    reply: Brief,
+    tree: &mut Tree,
+    refs: &Refs,
+) -> Motion
+    requires may { MayPlace tree.old.rows x owner }
+    requires refs { AreRefsOf refs.now.pairs tree.old.rows }
+    ensures moved { move_of result (pool_of tree.new) ≡ placed_step (worth_a_warning (pool_of tree.old) owner x) ask x (reply_of reply) (placed (pool_of tree.old) owner x) }
+    ensures refs { AreRefsOf refs.now.pairs tree.new.rows }
     ensures works { works_of tree.new ≡ works_of tree.old }
 {
-    tree.place(x, owner);
-    tells(ask, reply)
+    let warned = warns(owner, x, tree, refs);
+    place(x, owner, tree, refs);
+    if !warned {
+        return tells(ask, reply);
+    }
+    Motion::Goes(CallFrame::Warning {
+        ask: later(ask, reply.reply()),
+        x,
+        reply: reply.reply(),
+    })
+}
+
+/// Frees an object to which there is no reference. The one reference to an object of the root's is dropped instead.
+fn free(ask: Ask, x: Obj, tree: &Tree, refs: &Refs) -> Motion
+    requires { AreRefsOf refs.now.pairs tree.now.rows }
+    ensures { move_of result (pool_of tree.now) ≡ effect_step ask (FreeOf x) (pool_of tree.now) }
+{
+    match refs.newest(tree, x) {
+        Some(_) => Motion::Unlinks(ask, Owner::Root, x),
+        None => Motion::Frees(ask, x),
+    }
 }
 
 /// Does a call that isn't refused, and takes no memory for its reply.
-#[tactic(auto, using(crate::proofs::Allowed::numbered, crate::proofs::Allowed::few, crate::proofs::Allowed::small_size, crate::proofs::Allowed::owned, crate::proofs::Allowed::steal_goes, crate::proofs::Allowed::move_goes, crate::proofs::Allowed::reparent_goes, crate::proofs::Allowed::hook_goes, crate::proofs::Allowed::unhook_goes, crate::proofs::Allowed::named))]
-fn effect(ask: Ask, call: Call, tree: &mut Tree) -> Motion
+#[tactic(auto, using(crate::proofs::Allowed::numbered, crate::proofs::Allowed::few, crate::proofs::Allowed::small_size, crate::proofs::Allowed::owned, crate::proofs::Allowed::steal_goes, crate::proofs::Allowed::move_goes, crate::proofs::Allowed::hook_goes, crate::proofs::Allowed::unhook_goes, crate::proofs::Allowed::named, crate::proofs::Allowed::reparent_itself, crate::proofs::Allowed::reparent_there, crate::proofs::Allowed::reference_numbered, crate::proofs::Allowed::reference_few, crate::proofs::Allowed::reference_owned))]
+fn effect(alloc: Global, ask: Ask, call: Call, tree: &mut Tree, refs: &mut Refs) -> Motion
     requires room { 0 < tree.old.spare }
+    requires place { 0 < refs.old.spare }
     requires allowed { checked (refusals (pool_of tree.old) call) ≡ Ok tt }
     requires no_report { report_of call ≡ None }
+    requires reference { RefsMayGo tree.old.rows }
+    requires refs { AreRefsOf refs.old.pairs tree.old.rows }
     ensures moved { move_of result (pool_of tree.new) ≡ effect_step ask call (pool_of tree.old) }
+    ensures refs { AreRefsOf refs.new.pairs tree.new.rows }
     ensures works { works_of tree.new ≡ works_of tree.old }
 {
     match call {
@@ -82,11 +120,19 @@ fn effect(ask: Ask, call: Call, tree: &mut Tree) -> Motion
             let serial = tree.add(NewRow { kind, name, size }, owner);
             tells(ask, Brief::Number(serial.0))
         }
-        Call::Free { x } => Motion::Frees(ask, x),
+        Call::Free { x } => free(ask, x, tree, refs),
         Call::Freekids { x } => Motion::Empties(ask, x),
-        Call::Steal { owner, x } => give(ask, x, owner, Brief::Ok, tree),
-        Call::Move { owner, x } => give(ask, x, owner, Brief::Number(x.0), tree),
-        Call::Reparent { to, x, .. } => give(ask, x, to, Brief::Ok, tree),
+        Call::Steal { owner, x } => give(ask, x, owner, Brief::Ok, tree, refs),
+        Call::Move { owner, x } => give(ask, x, owner, Brief::Number(x.0), tree, refs),
+        Call::Reparent { from, to, x } => {
+            reparent(from, to, x, tree, refs);
+            tells(ask, Brief::Ok)
+        }
+        Call::Reference { owner, x } => {
+            let serial = refer(alloc, x, owner, tree, refs);
+            tells(ask, Brief::Number(serial.0))
+        }
+        Call::Unlink { owner, x } => Motion::Unlinks(ask, owner, x),
         Call::Hook { x, routine } => {
             tree.set_hook(x, routine);
             tells(ask, Brief::Ok)
@@ -111,14 +157,18 @@ fn effect(ask: Ask, call: Call, tree: &mut Tree) -> Motion
 
 /// Does a call: the first refusal that applies is the reply, otherwise the effect comes.
 #[tactic(auto, using(crate::proofs::Allowed::refused_step, crate::proofs::Allowed::allowed_step))]
-pub fn act(ask: Ask, call: Call, tree: &mut Tree) -> Motion
+pub fn act(alloc: Global, ask: Ask, call: Call, tree: &mut Tree, refs: &mut Refs) -> Motion
     requires room { 0 < tree.old.spare }
+    requires place { 0 < refs.old.spare }
     requires no_report { report_of call ≡ None }
+    requires reference { RefsMayGo tree.old.rows }
+    requires refs { AreRefsOf refs.old.pairs tree.old.rows }
     ensures moved { move_of result (pool_of tree.new) ≡ call_step (refusals (pool_of tree.old) call) ask call (pool_of tree.old) }
+    ensures refs { AreRefsOf refs.new.pairs tree.new.rows }
     ensures works { works_of tree.new ≡ works_of tree.old }
 {
-    match check(&call, tree) {
-        Ok(()) => effect(ask, call, tree),
+    match check(&call, tree, refs) {
+        Ok(()) => effect(alloc, ask, call, tree, refs),
         Err(why) => tells(ask, Brief::No(why)),
     }
 }

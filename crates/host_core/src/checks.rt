@@ -1,9 +1,11 @@
 //! What a call is refused for. The checks stand in the order in which they are tried.
 ghost use Rattle.std.specs.Prelude.{◌≡◌};
-ghost use Rattle.tree_specs.specs.Calls.{◌before◌, small, owner, object, plain, room, staying, apart, placing, hooking, given_by, refusals};
+ghost use Rattle.tree_specs.specs.Calls.{◌before◌, small, owner, object, plain, room, staying, still, apart, placing, hooking, held, interested, given_by, refusals};
 ghost use Rattle.tree_links.specs.Links.{pool_of};
+ghost use Rattle.references.specs.Rows.{AreRefsOf};
 ghost use Rattle.host_core.specs.Moves.{checked};
 
+use references::Refs;
 use tree_links::Tree;
 use tree_specs::{Call, Kind, Mark, Obj, Owner, Refusal, Row};
 
@@ -109,28 +111,123 @@ fn check_placing(o: Owner, x: Obj, tree: &Tree) -> Result<(), Refusal>
     check_apart(x, o, tree)
 }
 
-/// Only its owner gives an object away.
-fn check_given(from: Owner, to: Owner, x: Obj, tree: &Tree) -> Result<(), Refusal>
+/// No reference is made to an object whose destructor or handler runs.
+fn check_still(x: Obj, tree: &Tree) -> Result<(), Refusal>
+    ensures { result ≡ checked (still (pool_of tree.now) x) }
+{
+    match tree.row(x) {
+        Some(
+            Row {
+                mark: Mark::Asked | Mark::Busy | Mark::Doomed,
+                ..
+            },
+        ) => Err(Refusal::Running(x)),
+        _ => Ok(()),
+    }
+}
+
+/// An object that has references is held, but for one that is the root's and has exactly one.
+fn check_held(x: Obj, tree: &Tree, refs: &Refs) -> Result<(), Refusal>
+    requires { AreRefsOf refs.now.pairs tree.now.rows }
+    ensures { result ≡ checked (held (pool_of tree.now) x) }
+{
+    let count = refs.count(tree, x);
+    if count != 0 && !(tree.owns(Owner::Root, x) && count == 1) {
+        return Err(Refusal::Held(x));
+    }
+    Ok(())
+}
+
+/// An owner has an interest in an object where it owns it, or a reference to it.
+fn check_interested(o: Owner, x: Obj, tree: &Tree, refs: &Refs) -> Result<(), Refusal>
+    requires { AreRefsOf refs.now.pairs tree.now.rows }
+    ensures { result ≡ checked (interested (pool_of tree.now) o x) }
+{
+    if tree.owns(o, x) || refs.newest_of(tree, o, x).is_some() {
+        return Ok(());
+    }
+    Err(Refusal::NotParent {
+        object: x,
+        owner: o,
+    })
+}
+
+/// Its owner gives an object away, or one that has a reference to it gives this away.
+fn check_given(from: Owner, to: Owner, x: Obj, tree: &Tree, refs: &Refs) -> Result<(), Refusal>
+    requires { AreRefsOf refs.now.pairs tree.now.rows }
     ensures { result ≡ checked (given_by (pool_of tree.now) from to x) }
 {
-    if !tree.owns(from, x) {
-        return Err(Refusal::NotParent {
-            object: x,
-            owner: from,
-        });
+    if tree.owns(from, x) {
+        return check_apart(x, to, tree);
     }
-    check_apart(x, to, tree)
+    check_interested(from, x, tree, refs)
 }
 
 #[tactic(auto, using(crate::proofs::Allowed::refused_first, crate::proofs::Allowed::allowed_first))]
-fn check_reparent(from: Owner, to: Owner, x: Obj, tree: &Tree) -> Result<(), Refusal>
+fn check_taken(from: Owner, to: Owner, x: Obj, tree: &Tree, refs: &Refs) -> Result<(), Refusal>
+    requires { AreRefsOf refs.now.pairs tree.now.rows }
+    ensures { result ≡ checked (owner (pool_of tree.now) to before staying (pool_of tree.now) x before given_by (pool_of tree.now) from to x) }
+{
+    check_owner(to, tree)?;
+    check_staying(x, tree)?;
+    check_given(from, to, x, tree, refs)
+}
+
+#[tactic(auto, using(crate::proofs::Allowed::refused_first, crate::proofs::Allowed::allowed_first))]
+fn check_reparent(from: Owner, to: Owner, x: Obj, tree: &Tree, refs: &Refs) -> Result<(), Refusal>
+    requires { AreRefsOf refs.now.pairs tree.now.rows }
     ensures { result ≡ checked (object (pool_of tree.now) x before owner (pool_of tree.now) from before owner (pool_of tree.now) to before staying (pool_of tree.now) x before given_by (pool_of tree.now) from to x) }
 {
     check_object(x, tree)?;
     check_owner(from, tree)?;
-    check_owner(to, tree)?;
+    check_taken(from, to, x, tree, refs)
+}
+
+#[tactic(auto, using(crate::proofs::Allowed::refused_first, crate::proofs::Allowed::allowed_first))]
+fn check_free(x: Obj, tree: &Tree, refs: &Refs) -> Result<(), Refusal>
+    requires { AreRefsOf refs.now.pairs tree.now.rows }
+    ensures { result ≡ checked (object (pool_of tree.now) x before held (pool_of tree.now) x) }
+{
+    check_object(x, tree)?;
+    check_held(x, tree, refs)
+}
+
+#[tactic(auto, using(crate::proofs::Allowed::refused_first, crate::proofs::Allowed::allowed_first))]
+fn check_unlink(o: Owner, x: Obj, tree: &Tree, refs: &Refs) -> Result<(), Refusal>
+    requires { AreRefsOf refs.now.pairs tree.now.rows }
+    ensures { result ≡ checked (object (pool_of tree.now) x before owner (pool_of tree.now) o before interested (pool_of tree.now) o x) }
+{
+    check_object(x, tree)?;
+    check_owner(o, tree)?;
+    check_interested(o, x, tree, refs)
+}
+
+/// Nothing goes on with an object, and there is room for a reference to it.
+#[tactic(auto, using(crate::proofs::Allowed::refused_first, crate::proofs::Allowed::allowed_first))]
+fn check_quiet(x: Obj, tree: &Tree) -> Result<(), Refusal>
+    ensures { result ≡ checked (still (pool_of tree.now) x before staying (pool_of tree.now) x before room (pool_of tree.now) 1) }
+{
+    check_still(x, tree)?;
     check_staying(x, tree)?;
-    check_given(from, to, x, tree)
+    check_room(tree)
+}
+
+/// Only plain objects that nothing goes on with are referred to.
+#[tactic(auto, using(crate::proofs::Allowed::refused_first, crate::proofs::Allowed::allowed_first))]
+fn check_target(o: Owner, x: Obj, tree: &Tree) -> Result<(), Refusal>
+    ensures { result ≡ checked (plain (pool_of tree.now) x before owner (pool_of tree.now) o before still (pool_of tree.now) x before staying (pool_of tree.now) x before room (pool_of tree.now) 1) }
+{
+    check_plain(x, tree)?;
+    check_owner(o, tree)?;
+    check_quiet(x, tree)
+}
+
+#[tactic(auto, using(crate::proofs::Allowed::refused_first, crate::proofs::Allowed::allowed_first))]
+fn check_reference(o: Owner, x: Obj, tree: &Tree) -> Result<(), Refusal>
+    ensures { result ≡ checked (object (pool_of tree.now) x before plain (pool_of tree.now) x before owner (pool_of tree.now) o before still (pool_of tree.now) x before staying (pool_of tree.now) x before room (pool_of tree.now) 1) }
+{
+    check_object(x, tree)?;
+    check_target(o, x, tree)
 }
 
 #[tactic(auto, using(crate::proofs::Allowed::refused_first, crate::proofs::Allowed::allowed_first))]
@@ -160,14 +257,18 @@ fn check_parent(x: Obj, tree: &Tree) -> Result<(), Refusal>
 }
 
 /// Whether a call is allowed, and else its first refusal.
-pub fn check(call: &Call, tree: &Tree) -> Result<(), Refusal>
+pub fn check(call: &Call, tree: &Tree, refs: &Refs) -> Result<(), Refusal>
+    requires { AreRefsOf refs.now.pairs tree.now.rows }
     ensures { result ≡ checked (refusals (pool_of tree.now) call.now) }
 {
     match call {
         Call::New { owner, size, .. } => check_new(*owner, *size, tree),
-        Call::Free { x } | Call::Freekids { x } | Call::Rename { x, .. } => check_object(*x, tree),
+        Call::Free { x } => check_free(*x, tree, refs),
+        Call::Freekids { x } | Call::Rename { x, .. } => check_object(*x, tree),
         Call::Steal { owner, x } | Call::Move { owner, x } => check_placing(*owner, *x, tree),
-        Call::Reparent { from, to, x } => check_reparent(*from, *to, *x, tree),
+        Call::Reparent { from, to, x } => check_reparent(*from, *to, *x, tree, refs),
+        Call::Reference { owner, x } => check_reference(*owner, *x, tree),
+        Call::Unlink { owner, x } => check_unlink(*owner, *x, tree, refs),
         Call::Hook { x, .. } | Call::Unhook { x } => check_hooking(*x, tree),
         Call::Parent { x } => check_parent(*x, tree),
         Call::Total { owner } | Call::Count { owner } | Call::Report { owner } => {

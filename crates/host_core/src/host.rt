@@ -6,14 +6,16 @@ ghost use Rattle.tree_specs.specs.Soundness.{is_sound};
 ghost use Rattle.tree_specs.specs.Table.{event_of};
 ghost use Rattle.tree_specs.specs.View.{begin, question_of};
 ghost use Rattle.tree_links.specs.Links.{pool_of};
-ghost use Rattle.host_core.specs.Hosts.{CallRoom, told_by, after_telling};
+ghost use Rattle.host_core.specs.Hosts.{CallRoom, places, told_by, after_telling};
 
 use crate::active::Active;
 use crate::begun::{asked, begun, takes};
 use crate::fault::OfferFault;
+use crate::parts::Parts;
 use crate::reports::wanted_report;
 use crate::works::settle;
 use destructors::FreeEngine;
+use references::Refs;
 use std::alloc::Global;
 use std::marker::Model;
 use std::mem;
@@ -25,6 +27,7 @@ fn event(step: FreeStep) -> Option<Event>
     ensures { result ≡ event_of step }
 {
     match step {
+        FreeStep::Dropped { reference, target } => Some(Event::Unreferenced { reference, target }),
         FreeStep::Refused { object, answer } => Some(Event::Refused { object, answer }),
         FreeStep::Accepted(object) => Some(Event::Accepted(object)),
         FreeStep::Moved { object, owner, .. } => Some(Event::Moved { object, owner }),
@@ -40,12 +43,16 @@ struct Reported {
     frame: CallFrame,
 }
 
-/// A reply that is to be told is told. Any other caller tells nothing.
+/// A warning or a reply that is to be told is told. Any other caller tells nothing.
 fn tell(frame: CallFrame) -> Reported
     ensures event { result.event ≡ told_by frame }
     ensures frame { result.frame ≡ after_telling frame }
 {
     match frame {
+        CallFrame::Warning { ask, x, reply } => Reported {
+            event: Some(Event::Warned(x)),
+            frame: CallFrame::Telling { ask, reply },
+        },
         CallFrame::Telling { ask, reply } => Reported {
             event: Some(Event::Replied(reply)),
             frame: CallFrame::Asking { ask },
@@ -54,19 +61,26 @@ fn tell(frame: CallFrame) -> Reported
     }
 }
 
-/// Takes the memory for all that comes up to the next question. After want of memory callers and objects are as
-/// they were.
-fn make_room(callers: &mut Vec<CallFrame>, tree: &mut Tree) -> Result<(), Memory>
+/// Takes the memory for all that comes up to the next question. After want of memory callers, objects and references
+/// are as they were.
+fn make_room(
+    callers: &mut Vec<CallFrame>,
+    tree: &mut Tree,
+    refs: &mut Refs,
+) -> Result<(), Memory>
     ensures callers { callers.new.items ≡ callers.old.items }
     ensures rows { pool_of tree.new ≡ pool_of tree.old }
     ensures works { tree.new.frees ≡ tree.old.frees }
+    ensures refs { refs.new.pairs ≡ refs.old.pairs }
     ensures callers_kept { vec_capacity callers.old ≤ vec_capacity callers.new }
     ensures spare_kept { tree.old.spare ≤ tree.new.spare }
     ensures room_kept { tree.old.room ≤ tree.new.room }
-    ensures room { OnOk result (CallRoom callers.new.items tree.new (vec_capacity callers.new)) }
+    ensures places_kept { refs.old.spare ≤ refs.new.spare }
+    ensures room { OnOk result (CallRoom callers.new.items tree.new (places (vec_capacity callers.new) refs.new)) }
 {
     callers.reserve(1)?;
     tree.reserve(2)?;
+    refs.reserve(1)?;
     Ok(())
 }
 
@@ -75,10 +89,7 @@ fn make_room(callers: &mut Vec<CallFrame>, tree: &mut Tree) -> Result<(), Memory
 #[derive(Drop)]
 pub struct Host {
     active: Active,
-    /// Those that wait, the innermost last.
-    callers: Vec<CallFrame>,
-    engine: FreeEngine,
-    tree: Tree,
+    parts: Parts,
 }
 
 impl Model for Host {
@@ -86,12 +97,12 @@ impl Model for Host {
 
     ghost Value = { View };
 
-    ghost use Rattle.std.specs.Prelude.{◌≡◌, true, vec_capacity};
-    ghost use Rattle.host_core.specs.Hosts.{view_of, Ready, speaking_view};
+    ghost use Rattle.std.specs.Prelude.{◌≡◌, true};
+    ghost use Rattle.host_core.specs.Hosts.{view_in, IsReady, HasRefs, speaking_view};
 
-    ghost view = { λ h. view_of h.active h.callers.items h.engine h.tree };
+    ghost view = { λ h. view_in h.active h.parts };
 
-    ghost invariant = { λ h. Ready h.active h.callers.items h.engine h.tree (vec_capacity h.callers) × (speaking_view (view_of h.active h.callers.items h.engine h.tree) ≡ true) };
+    ghost invariant = { λ h. IsReady h.active h.parts × (speaking_view (view_in h.active h.parts) ≡ true) × HasRefs h.parts };
 }
 
 impl Host {
@@ -111,9 +122,12 @@ impl Host {
     {
         Ok(Host {
             active: Active::Caller(CallFrame::Asking { ask: Ask::Quiet }),
-            callers: Vec::new(alloc),
-            engine: FreeEngine::new(),
-            tree: Tree::new(alloc, first),
+            parts: Parts {
+                callers: Vec::new(alloc),
+                engine: FreeEngine::new(),
+                tree: Tree::new(alloc, first),
+                refs: Refs::new(alloc),
+            },
         })
     }
 
@@ -121,21 +135,21 @@ impl Host {
     pub fn is_live(&self, x: Obj) -> bool
         ensures { result ≡ is_row self.now.pool.rows x }
     {
-        self.tree.row(x).is_some()
+        self.parts.tree.row(x).is_some()
     }
 
     /// What the object is. None exactly where it is no live object.
     pub fn kind(&self, x: Obj) -> Option<Kind>
         ensures { result ≡ option_map (λ r. r.kind) (row_of self.now.pool.rows x) }
     {
-        Some(self.tree.row(x)?.kind)
+        Some(self.parts.tree.row(x)?.kind)
     }
 
     /// Whether an object is another one, or inside it. False where either is no live object.
     pub fn is_inside(&self, x: Obj, p: Obj) -> bool
         ensures { result ≡ (is_row self.now.pool.rows p && (is_row self.now.pool.rows x && inside self.now.pool.rows (At x) (At p))) }
     {
-        self.is_live(p) && self.tree.inside(x, Owner::Of(p))
+        self.is_live(p) && self.parts.tree.inside(x, Owner::Of(p))
     }
 
     /// How many objects are live.
@@ -147,7 +161,7 @@ impl Host {
         // one open free.
         ensures sound { Sound self.now.innermost self.now.below self.now.pool }
     {
-        self.tree.len() as u64
+        self.parts.tree.len() as u64
     }
 
     /// The open question. None exactly where an event is still to come.
@@ -170,13 +184,11 @@ impl Host {
                 next.event
             }
             Active::Freeing => {
-                let step = self.engine.step(&mut self.tree);
-                self.active = settle(
-                    Active::Freeing,
-                    &mut self.callers,
-                    &mut self.engine,
-                    &mut self.tree,
-                );
+                let Parts {
+                    engine, tree, refs, ..
+                } = &mut self.parts;
+                let step = engine.step(tree, refs);
+                self.active = settle(Active::Freeing, &mut self.parts);
                 event(step)
             }
         }
@@ -194,15 +206,22 @@ impl Host {
         if !takes(&self.active, &input) {
             return Err(OfferFault::NotAsked);
         }
-        let report = wanted_report(*self.callers.allocator(), &input, &self.tree)?;
-        make_room(&mut self.callers, &mut self.tree)?;
+        let Parts {
+            callers,
+            tree,
+            refs,
+            ..
+        } = &self.parts;
+        let report = wanted_report(*callers.allocator(), &input, tree, refs)?;
+        let Parts {
+            callers,
+            tree,
+            refs,
+            ..
+        } = &mut self.parts;
+        make_room(callers, tree, refs)?;
         let active = mem::replace(&mut self.active, Active::Freeing);
-        self.active = settle(
-            begun(active, input, report),
-            &mut self.callers,
-            &mut self.engine,
-            &mut self.tree,
-        );
+        self.active = settle(begun(active, input, report), &mut self.parts);
         Ok(())
     }
 }

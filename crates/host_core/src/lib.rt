@@ -5,10 +5,12 @@ mod active;
 mod begun;
 mod brief;
 mod calls;
+mod changes;
 mod checks;
 mod fault;
 mod host;
 mod motion;
+mod parts;
 mod reports;
 #[cfg(test)]
 mod tests;

@@ -1,4 +1,4 @@
-use tree_specs::{Ask, CallFrame, Obj};
+use tree_specs::{Ask, CallFrame, Obj, Owner};
 
 /// What a call does first, for a caller who is known by his question.
 #[derive(Debug, Drop)]
@@ -7,6 +7,8 @@ pub enum Motion {
     Goes(CallFrame),
     /// The object is freed, and the caller waits.
     Frees(Ask, Obj),
+    /// The interest of an owner in the object is taken away, and the caller waits.
+    Unlinks(Ask, Owner, Obj),
     /// Its children are freed, and the caller waits.
     Empties(Ask, Obj),
 }

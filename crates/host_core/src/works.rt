@@ -1,6 +1,5 @@
 //! The open works, step after step: callers and frees, each on the one that waits for it.
-ghost use Rattle.std.specs.Prelude.{◌≡◌, ◌<◌, ◌≤◌, ◌+◌, ℕ, List, true, false, length, reverse, vec_capacity};
-ghost use Rattle.tree_specs.specs.declared.frame.CallFrame.{CallFrame as CallFrameData};
+ghost use Rattle.std.specs.Prelude.{◌≡◌, ◌<◌, ◌≤◌, ◌+◌, ℕ, true, false, length, reverse, vec_capacity};
 ghost use Rattle.tree_specs.specs.declared.frame.CallFrame.TheVariants.{Asking};
 ghost use Rattle.tree_specs.specs.declared.frame.Answer.TheVariants.{Freed};
 ghost use Rattle.tree_specs.specs.declared.question.Ask.TheVariants.{Routine};
@@ -13,12 +12,12 @@ ghost use Rattle.tree_links.specs.Links.{pool_of};
 ghost use Rattle.destructors.specs.Frees.{before, frees_of};
 ghost use Rattle.destructors.specs.Works.{IsAwaiting};
 ghost use Rattle.destructors.specs.Engine.{AreKept};
-ghost use Rattle.host_core.specs.Hosts.{motion_view, view_of, speaking_view, IsReply, Along, Onward, Ready, Finished};
+ghost use Rattle.host_core.specs.Hosts.{motion_view, view_in, speaking_view, IsReply, Along, Onward, IsReady, HasRefs, Finished};
 
 use crate::active::Active;
 use crate::calls::{act, freed, telling};
 use crate::motion::Motion;
-use destructors::FreeEngine;
+use crate::parts::Parts;
 use tree_links::Tree;
 use tree_specs::{Ask, CallFrame, FreeReply, FreeStep, Moment, Obj, What};
 
@@ -52,55 +51,61 @@ fn resumed(frame: CallFrame, answer: FreeReply) -> CallFrame
 }
 
 /// Goes on with what a call has begun.
-fn start(
-    motion: Motion,
-    callers: &mut Vec<CallFrame>,
-    engine: &mut FreeEngine,
-    tree: &mut Tree,
-) -> Active
-    requires whole { Whole (motion_view motion (before engine.old tree.old.frees) (reverse callers.old.items) (pool_of tree.old)) }
+fn start(motion: Motion, parts: &mut Parts) -> Active
+    requires whole { Whole (motion_view motion (before parts.old.engine parts.old.tree.frees) (reverse parts.old.callers.items) (pool_of parts.old.tree)) }
     requires reply { IsReply motion }
-    requires awaiting { IsAwaiting (frees_of engine.old tree.old) }
-    requires kept { AreKept engine.old tree.old }
-    requires place { length callers.old.items < vec_capacity callers.old }
-    requires room { length tree.old.rows + 2 ≤ tree.old.room }
-    ensures along { Along (motion_view motion (before engine.old tree.old.frees) (reverse callers.old.items) (pool_of tree.old)) (view_of result callers.new.items engine.new tree.new) }
-    ensures ready { Ready result callers.new.items engine.new tree.new (vec_capacity callers.new) }
+    requires awaiting { IsAwaiting (frees_of parts.old.engine parts.old.tree) }
+    requires kept { AreKept parts.old.engine parts.old.tree }
+    requires place { length parts.old.callers.items < vec_capacity parts.old.callers }
+    requires room { length parts.old.tree.rows + 2 ≤ parts.old.tree.room }
+    requires refs { HasRefs parts.old }
+    ensures along { Along (motion_view motion (before parts.old.engine parts.old.tree.frees) (reverse parts.old.callers.items) (pool_of parts.old.tree)) (view_in result parts.new) }
+    ensures ready { IsReady result parts.new }
+    ensures refs { HasRefs parts.new }
 {
+    let Parts {
+        callers,
+        engine,
+        tree,
+        refs,
+    } = parts;
     match motion {
         Motion::Goes(frame) => Active::Caller(frame),
         Motion::Frees(ask, x) => {
             callers.push_reserved(CallFrame::Awaiting { ask, x });
-            engine.begin_free(tree, x);
+            engine.begin_free(tree, refs, x);
+            Active::Freeing
+        }
+        Motion::Unlinks(ask, owner, x) => {
+            callers.push_reserved(CallFrame::Awaiting { ask, x });
+            engine.begin_unlink(tree, refs, owner, x);
             Active::Freeing
         }
         Motion::Empties(ask, x) => {
             callers.push_reserved(CallFrame::Awaiting { ask, x });
-            engine.begin_kids(tree, x);
+            engine.begin_kids(tree, refs, x);
             Active::Freeing
         }
     }
 }
 
 /// A step of a caller that has a call to do, or has returned.
-fn call_on(
-    frame: CallFrame,
-    callers: &mut Vec<CallFrame>,
-    engine: &mut FreeEngine,
-    tree: &mut Tree,
-) -> Active
-    requires ready { Ready (Active.Caller frame) callers.old.items engine.old tree.old (vec_capacity callers.old) }
-    requires quiet { speaking_view (view_of (Active.Caller frame) callers.old.items engine.old tree.old) ≡ false }
-    ensures onward { Onward (view_of (Active.Caller frame) callers.old.items engine.old tree.old) (view_of result callers.new.items engine.new tree.new) }
-    ensures ready { Ready result callers.new.items engine.new tree.new (vec_capacity callers.new) }
+fn call_on(frame: CallFrame, parts: &mut Parts) -> Active
+    requires ready { IsReady (Active.Caller frame) parts.old }
+    requires refs { HasRefs parts.old }
+    requires quiet { speaking_view (view_in (Active.Caller frame) parts.old) ≡ false }
+    ensures onward { Onward (view_in (Active.Caller frame) parts.old) (view_in result parts.new) }
+    ensures ready { IsReady result parts.new }
+    ensures refs { HasRefs parts.new }
 {
     match frame {
         CallFrame::Doing { ask, call } => {
-            let motion = act(ask, call, tree);
-            start(motion, callers, engine, tree)
+            let alloc = *parts.callers.allocator();
+            let motion = act(alloc, ask, call, &mut parts.tree, &mut parts.refs);
+            start(motion, parts)
         }
         CallFrame::Returning { value } => {
-            engine.answer(tree, value);
+            parts.engine.answer(&parts.tree, value);
             Active::Freeing
         }
         frame => Active::Caller(frame),
@@ -119,65 +124,63 @@ fn finish(answer: FreeReply, callers: &mut Vec<CallFrame>) -> Active
 }
 
 /// A step of the innermost free that tells no event.
-fn free_on(callers: &mut Vec<CallFrame>, engine: &mut FreeEngine, tree: &mut Tree) -> Active
-    requires ready { Ready Active.Freeing callers.old.items engine.old tree.old (vec_capacity callers.old) }
-    requires quiet { speaking_view (view_of Active.Freeing callers.old.items engine.old tree.old) ≡ false }
-    ensures onward { Onward (view_of Active.Freeing callers.old.items engine.old tree.old) (view_of result callers.new.items engine.new tree.new) }
-    ensures ready { Ready result callers.new.items engine.new tree.new (vec_capacity callers.new) }
+fn free_on(parts: &mut Parts) -> Active
+    requires ready { IsReady Active.Freeing parts.old }
+    requires refs { HasRefs parts.old }
+    requires quiet { speaking_view (view_in Active.Freeing parts.old) ≡ false }
+    ensures onward { Onward (view_in Active.Freeing parts.old) (view_in result parts.new) }
+    ensures ready { IsReady result parts.new }
+    ensures refs { HasRefs parts.new }
 {
-    match engine.step(tree) {
-        FreeStep::Ask(x) => Active::Caller(run(x, tree)),
-        FreeStep::Done(answer) => finish(answer, callers),
+    match parts.engine.step(&mut parts.tree, &mut parts.refs) {
+        FreeStep::Ask(x) => Active::Caller(run(x, &parts.tree)),
+        FreeStep::Done(answer) => finish(answer, &mut parts.callers),
         _ => Active::Freeing,
     }
 }
 
 /// A step that tells nothing.
-fn go_on(
-    now: Active,
-    callers: &mut Vec<CallFrame>,
-    engine: &mut FreeEngine,
-    tree: &mut Tree,
-) -> Active
-    requires ready { Ready now callers.old.items engine.old tree.old (vec_capacity callers.old) }
-    requires quiet { speaking_view (view_of now callers.old.items engine.old tree.old) ≡ false }
-    ensures onward { Onward (view_of now callers.old.items engine.old tree.old) (view_of result callers.new.items engine.new tree.new) }
-    ensures ready { Ready result callers.new.items engine.new tree.new (vec_capacity callers.new) }
+fn go_on(now: Active, parts: &mut Parts) -> Active
+    requires ready { IsReady now parts.old }
+    requires refs { HasRefs parts.old }
+    requires quiet { speaking_view (view_in now parts.old) ≡ false }
+    ensures onward { Onward (view_in now parts.old) (view_in result parts.new) }
+    ensures ready { IsReady result parts.new }
+    ensures refs { HasRefs parts.new }
 {
     match now {
-        Active::Caller(frame) => call_on(frame, callers, engine, tree),
-        Active::Freeing => free_on(callers, engine, tree),
+        Active::Caller(frame) => call_on(frame, parts),
+        Active::Freeing => free_on(parts),
     }
 }
 
 /// Whether the next step tells an event or asks a question.
-fn speaks(now: &Active, engine: &FreeEngine, tree: &Tree) -> bool
-    requires { AreKept engine.now tree.now }
-    ensures { (callers : List CallFrameData) → result ≡ speaking_view (view_of now.now callers engine.now tree.now) }
+fn speaks(now: &Active, parts: &Parts) -> bool
+    requires kept { AreKept parts.now.engine parts.now.tree }
+    requires refs { HasRefs parts.now }
+    ensures { result ≡ speaking_view (view_in now.now parts.now) }
 {
     match now {
-        Active::Caller(frame) => {
-            matches!(frame, CallFrame::Asking { .. } | CallFrame::Telling { .. })
-        }
-        Active::Freeing => engine.announces(tree),
+        Active::Caller(frame) => matches!(
+            frame,
+            CallFrame::Asking { .. } | CallFrame::Warning { .. } | CallFrame::Telling { .. }
+        ),
+        Active::Freeing => parts.engine.announces(&parts.tree, &parts.refs),
     }
 }
 
 /// The steps that tell nothing, up to the next event or question.
-pub fn settle(
-    now: Active,
-    callers: &mut Vec<CallFrame>,
-    engine: &mut FreeEngine,
-    tree: &mut Tree,
-) -> Active
-    requires { Ready now callers.old.items engine.old tree.old (vec_capacity callers.old) }
-    ensures along { Along (view_of now callers.old.items engine.old tree.old) (view_of result callers.new.items engine.new tree.new) }
-    ensures ready { Ready result callers.new.items engine.new tree.new (vec_capacity callers.new) }
-    ensures settled { speaking_view (view_of result callers.new.items engine.new tree.new) ≡ true }
+pub fn settle(now: Active, parts: &mut Parts) -> Active
+    requires ready { IsReady now parts.old }
+    requires refs { HasRefs parts.old }
+    ensures along { Along (view_in now parts.old) (view_in result parts.new) }
+    ensures ready { IsReady result parts.new }
+    ensures refs { HasRefs parts.new }
+    ensures settled { speaking_view (view_in result parts.new) ≡ true }
 {
     let mut now = now;
-    while !speaks(&now, engine, tree) {
-        now = go_on(now, callers, engine, tree);
+    while !speaks(&now, parts) {
+        now = go_on(now, parts);
     }
     now
 }

@@ -51,6 +51,7 @@ impl Refs {
     ghost use Rattle.std.specs.List.{find, position};
     ghost use Rattle.std.specs.Option.{option_copied};
     ghost use Rattle.tree_specs.specs.declared.object.Obj.{Obj as ObjData};
+    ghost use Rattle.tree_specs.specs.Reports.{count_refs};
     ghost use Rattle.tree_specs.specs.Targets.{newest_ref};
     ghost use Rattle.tree_specs.specs.Pool.{newest_ref_of};
     ghost use Rattle.references.specs.Rows.{AreRefsOf, RefersTo, first_such, owned_by};
@@ -187,5 +188,15 @@ impl Refs {
     {
         let count = self.pairs.iter().filter(|p| p.target.0 == target.0).count();
         count as u32
+    }
+
+    /// How many references there are to an object. The references are those among the rows.
+    pub fn count(&self, tree: &Tree, target: Obj) -> u32
+        requires { AreRefsOf self.now.pairs tree.now.rows }
+        ensures { result ≡ count_refs tree.now.rows target }
+    {
+        // All that is wanted of `len` is its contract: each number stands once.
+        let _rows = tree.len();
+        self.count_refs(target)
     }
 }

@@ -1,6 +1,6 @@
 ghost use Rattle.std.specs.Prelude.{◌≡◌, ◌++◌, IfOk, OnOk, ℕ, List};
 ghost use Rattle.std.specs.Option.{option_to_list};
-ghost use Rattle.tree_specs.specs.Reports.{report, row_kind, target_number, count_refs, root_row};
+ghost use Rattle.tree_specs.specs.Reports.{report, row_kind, target_number, root_row};
 ghost use Rattle.tree_specs.specs.declared.object.Owner.TheVariants.{Of as At};
 ghost use Rattle.tree_specs.specs.Targets.{target_of};
 ghost use Rattle.references.specs.Rows.{AreRefsOf};
@@ -35,16 +35,6 @@ fn target(kind: Kind) -> u64
         Some(target) => target.0,
         None => 0,
     }
-}
-
-/// How many references there are to an object.
-fn held_by(tree: &Tree, refs: &Refs, x: Obj) -> u32
-    requires { AreRefsOf refs.now.pairs tree.now.rows }
-    ensures { result ≡ count_refs tree.now.rows x }
-{
-    // All that is wanted of `len` is its contract: each number stands once.
-    let _rows = tree.len();
-    refs.count_refs(x)
 }
 
 fn copied(alloc: Global, name: &Name) -> Result<Name, Memory>
@@ -90,7 +80,7 @@ fn row_of_object(
         id: row.serial.0,
         kind: kind_in_report(row.kind),
         size: row.size,
-        refs: held_by(tree, refs, row.serial),
+        refs: refs.count(tree, row.serial),
         target: target(row.kind),
         name: copied(alloc, &row.name)?,
     }))

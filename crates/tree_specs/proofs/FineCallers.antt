@@ -130,13 +130,13 @@ pub warning-fine : (scenes : List Scene) (q : Ask) (x : Obj) (r : Reply) (b : Op
     → Known scenes (with_note b (frame.Call (Warning q x r))) ws p → FineBy scenes (frame.Call (Warning q x r)) b p (step (frame.Call (Warning q x r)) p) ws
 warning-fine scenes q x r b ws p known =
     let f : Frame = frame.Call (Warning q x r) in
-    let g : Frame = frame.Call (Telling (later q r) r) in
+    let g : Frame = frame.Call (Telling q r) in
     let e : Item = Told (Warned x) in
     let past = past-tells (told scenes) e f (map work_of ws) p (λ x. refl) (λ x. refl) (λ x. refl) known.past in (
       (fits-warned (told scenes) x (there (row_of p.rows x) refl), record { answered = tt; held = tt; caused = tt; started = tt }),
       known-told scenes (scene notes f b p e) (with_note b g) ws p
           (past-goes (told scenes ++ e ∷ []) f g (map work_of ws) (map work_of ws) p p past (later-same p) (λ y l. absurd l) tt past.all_account)
-          (restacked f g ws (λ y h. h) (λ y h. later-hook y q r h) known.stacked) (known.cause.0 (scenes ++ scene notes f b p e ∷ [])),
+          (restacked f g ws (λ y h. h) (λ y h. h) known.stacked) (known.cause.0 (scenes ++ scene notes f b p e ∷ [])),
     )
   where
     there : (o : Option Row) → row_of p.rows x ≡ o → list_any (frees x) (told scenes) ≡ false
@@ -185,10 +185,10 @@ module _ (scenes : List Scene) (q : Ask) (c : Call) (b : Option Begun) (ws : Lis
   placed-next r o x may cause false = told-next r (place p o x) (later-placed p o x may.row may.is) (cause scenes)
   placed-next r o x may cause true =
       let f : Frame = frame.Call (Doing q c) in
-      let g : Frame = frame.Call (Warning q x r) in
+      let g : Frame = frame.Call (Warning (later q r) x r) in
       record {
         past = past-goes (told scenes) f g (map work_of ws) (map work_of ws) p (place p o x) known.past (later-placed p o x may.row may.is) (λ y l. absurd l) tt known.past.all_account;
-        stacked = restacked f g ws (λ y h. h) (λ y h. h) known.stacked;
+        stacked = restacked f g ws (λ y h. h) (λ y h. later-hook y q r h) known.stacked;
         cause = (cause, rw (row_of-placed-same p o x may.row may.is) refl);
       }
 

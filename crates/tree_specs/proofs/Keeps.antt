@@ -391,7 +391,7 @@ module _ (q : Ask) (c : Call) (fs : List Frame) (p : Pool) (s : Sound (frame.Cal
 -- an object is put below an owner, which may be worth a warning
 placed : (q : Ask) (c : Call) (fs : List Frame) (p : Pool) (k : ℕ) → Sound (frame.Call (Doing q c)) fs p → (r : Reply) (o : Owner) (x : Obj) → MayBePlaced p o x
     → (b : Bool) → KeptBy (placed_step b q x r (place p o x)) fs k
-placed q c fs p k s r o x may true = placed-sound (frame.Call (Doing q c)) (frame.Call (Warning q x r)) o x fs p s may (λ y. refl) tt
+placed q c fs p k s r o x may true = placed-sound (frame.Call (Doing q c)) (frame.Call (Warning (later q r) x r)) o x fs p s may (λ y. refl) tt
 placed q c fs p k s r o x may false = put q c fs p s r o x may
 
 -- the reference that goes in the place of its target
@@ -465,7 +465,7 @@ pub sound-kept : (f : Frame) (fs : List Frame) (p : Pool) (k : ℕ) → Sound f 
 sound-kept (frame.Call (Asking q)) fs p k s = asking q fs p k s
 sound-kept (frame.Call (Doing q c)) fs p k s = doing q c fs p k s
 sound-kept (frame.Call (Awaiting q x)) fs p k s = absurd s.rests
-sound-kept (frame.Call (Warning q x r)) fs p k s = goes_on (frame.Call (Warning q x r)) (frame.Call (Telling (later q r) r)) fs p (λ y. refl) tt s
+sound-kept (frame.Call (Warning q x r)) fs p k s = goes_on (frame.Call (Warning q x r)) (frame.Call (Telling q r)) fs p (λ y. refl) tt s
 sound-kept (frame.Call (Telling q r)) fs p k s = goes_on (frame.Call (Telling q r)) (frame.Call (Asking q)) fs p (λ x. refl) tt s
 sound-kept (frame.Call (Returning v)) fs p k s = ended (Returned v) (frame.Call (Returning v)) fs p k s (λ x. refl) (λ x c n b gs e. tt)
 sound-kept (frame.Free (Unlinking o x)) fs p k s = unlinking o x fs p k s

@@ -110,9 +110,6 @@ not-both (asks.Write descriptor bytes) h k = h
 reseat-told : (q : Ask) (c : Call) (r : Reply) (fs : List Frame) → Seated (frame.Call (Doing q c)) fs → Seated (frame.Call (Telling (later q r) r)) fs
 reseat-told q c r fs s = reseat (frame.Call (Doing q c)) (frame.Call (Telling (later q r) r)) fs (quiet-later q r) (routine-later q r) (λ k. k) s
 
-reseat-later : (q : Ask) (x : Obj) (r : Reply) (fs : List Frame) → Seated (frame.Call (Warning q x r)) fs → Seated (frame.Call (Telling (later q r) r)) fs
-reseat-later q x r fs s = reseat (frame.Call (Warning q x r)) (frame.Call (Telling (later q r) r)) fs (quiet-later q r) (routine-later q r) (λ k. k) s
-
 resumed-seated : (g : Frame) (gs : List Frame) (a : Answer) → Waiter g → Seated g gs → Seated (resume g a) gs
 resumed-seated _ gs a (ForFree q x) s = reseat (frame.Call (Awaiting q x)) (resume (frame.Call (Awaiting q x)) a) gs (quiet-later q _) (routine-later q _) (λ k. k) s
 resumed-seated _ gs a (ForRun x h) s = reseat-free (Hooked x h) _ gs s
@@ -157,7 +154,7 @@ doing-placed q c fs p k sound s l = each (refusals p c) refl
     awaits x = reseat (frame.Call (Doing q c)) (frame.Call (Awaiting q x)) fs (λ z. z) (λ z. z) (λ z. z) s
 
     placed : (r : Reply) (o : Owner) (x : Obj) → MayBePlaced p o x → (b : Bool) → Placed (placed_step b q x r (place p o x)) fs k
-    placed r o x may true = let w = total-placed burden p o x may.row may.is refl in (reseat (frame.Call (Doing q c)) (frame.Call (Warning q x r)) fs (λ z. z) (λ z. z) (λ z. z) s, omega (arith, w, l))
+    placed r o x may true = let w = total-placed burden p o x may.row may.is refl in (reseat (frame.Call (Doing q c)) (frame.Call (Warning (later q r) x r)) fs (quiet-later q r) (routine-later q r) (λ z. z) s, omega (arith, w, l))
     placed r o x may false = put r o x may
 
     reparents : (from to : Owner) (x : Obj) → MayGo p from to x → Placed (replied q reply.Ok (reparented p from to x)) fs k
@@ -338,7 +335,7 @@ pub placed-kept : (f : Frame) (fs : List Frame) (p : Pool) (k : ℕ) → Sound f
 placed-kept (frame.Call (Asking q)) fs p k s b l = asking-placed q fs p k b l
 placed-kept (frame.Call (Doing q c)) fs p k s b l = doing-placed q c fs p k s b l
 placed-kept (frame.Call (Awaiting q x)) fs p k s b l = absurd s.rests
-placed-kept (frame.Call (Warning q x r)) fs p k s b l = (reseat-later q x r fs b, l)
+placed-kept (frame.Call (Warning q x r)) fs p k s b l = (reseat (frame.Call (Warning q x r)) (frame.Call (Telling q r)) fs (λ z. z) (λ z. z) (λ z. z) b, l)
 placed-kept (frame.Call (Telling q r)) fs p k s b l = (reseat (frame.Call (Telling q r)) (frame.Call (Asking q)) fs (λ z. z) (λ z. z) (λ z. z) b, l)
 placed-kept (frame.Call (Returning v)) fs p k s b l = over (Returned v) (frame.Call (Returning v)) fs p k s.waiting b l
 placed-kept (frame.Free (Unlinking o x)) fs p k s b l = unlinking-placed o x fs p k s b l

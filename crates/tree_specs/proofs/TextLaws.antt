@@ -176,7 +176,7 @@ pub record AllLawful (n : ℕ) : Type 0 where
   pub tried : (x c : Obj) (noted : Option Owner) (a : FreeReply) (p : Pool) (last : Last) → Lawful last Any (tried n x c noted a p)
   pub asked : (q : Ask) (p : Pool) (last : Last) → Lawful last (Returned q) (asked n q p)
   pub acting : (q : Ask) (c : Call) (p : Pool) (last : Last) → Lawful last (Returned q) (acting n q c p)
-  pub warning : (q : Ask) (x : Obj) (r : Reply) (about : Option Begun) (p : Pool) (last : Last) → Lawful last (Returned q) (warning n about q x r p)
+  pub warning : (q : Ask) (x : Obj) (r : Reply) (about : Option Begun) (p : Pool) (last : Last) → Lawful last (Returned q) (warning n about (later q r) x r p)
   pub later : (q : Ask) (r : Reply) (about : Option Begun) (p : Pool) (last : Last) → Lawful last (Returned q) (telling n about (later q r) r p)
   pub returning : (q : Ask) (v : ℕ) (p : Pool) (last : Last) → Returned q v last → Lawful last (Returned q) (returning n v p)
 
@@ -334,11 +334,11 @@ acting-lawful n ih q c p last = each (warned_in (refusals p c) c p) refl
         (followed-lawful last Any (Returned q) (unless_refused (refusals p c) (effect (free n) (unlink n) (children n) c) p) (λ r p' left. telling n (Some (record { call = c; start = p })) (later q r) r p' left)
         (checked-lawful n ih c (refusals p c) p last) (λ r p' l w. ih.later q r (Some (record { call = c; start = p })) p' l))
     each (Some x) k = same-lawful last (Returned q) (acting (suc n) q c p)
-        (λ js. followed (unless_refused (refusals p c) (effect (free n) (unlink n) (children n) c) p js) (λ r p' left. warning n (Some (record { call = c; start = p })) q x r p' left)) (λ js. rw k refl)
-        (followed-lawful last Any (Returned q) (unless_refused (refusals p c) (effect (free n) (unlink n) (children n) c) p) (λ r p' left. warning n (Some (record { call = c; start = p })) q x r p' left)
+        (λ js. followed (unless_refused (refusals p c) (effect (free n) (unlink n) (children n) c) p js) (λ r p' left. warning n (Some (record { call = c; start = p })) (later q r) x r p' left)) (λ js. rw k refl)
+        (followed-lawful last Any (Returned q) (unless_refused (refusals p c) (effect (free n) (unlink n) (children n) c) p) (λ r p' left. warning n (Some (record { call = c; start = p })) (later q r) x r p' left)
         (checked-lawful n ih c (refusals p c) p last) (λ r p' l w. ih.warning q x r (Some (record { call = c; start = p })) p' l))
 
-warning-lawful : (n : ℕ) → AllLawful n → (q : Ask) (x : Obj) (r : Reply) (about : Option Begun) (p : Pool) (last : Last) → Lawful last (Returned q) (warning (suc n) about q x r p)
+warning-lawful : (n : ℕ) → AllLawful n → (q : Ask) (x : Obj) (r : Reply) (about : Option Begun) (p : Pool) (last : Last) → Lawful last (Returned q) (warning (suc n) about (later q r) x r p)
 warning-lawful n ih q x r about p last =
     told-lawful last (Returned q) (scene_of (Told (Warned x)) p) (telling n about (later q r) r p) tt (λ is. (refl, refl)) (ih.later q r about p None)
 

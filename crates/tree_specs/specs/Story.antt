@@ -318,14 +318,14 @@ abbrev mutual
     r ← unless_refused (refusals p c) (effect (free n) (unlink n) (children n) c)
     elim (warned_in (refusals p c) c p) [
       | None ↦ telling n (Some (record { call = c; start = p })) (later q r) r
-      | Some x ↦ warning n (Some (record { call = c; start = p })) q x r
+      | Some x ↦ warning n (Some (record { call = c; start = p })) (later q r) x r
     ]
 
   pub warning : ℕ → Option Begun → Ask → Obj → Reply → Work ℕ
   warning zero about q x r = short
   warning (suc n) about q x r = do
     tells (Told (Warned x))
-    telling n about (later q r) r
+    telling n about q r
 
   pub telling : ℕ → Option Begun → Ask → Reply → Work ℕ
   telling zero about q r = short

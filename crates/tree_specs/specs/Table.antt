@@ -207,7 +207,7 @@ replied q r p = Do.Go (frame.Call (Telling (later q r) r)) p
 
 -- an object was put below an owner, which may be worth a warning
 abbrev pub placed_step : Bool → Ask → Obj → Reply → Pool → Step
-placed_step true q x r p = Do.Go (frame.Call (Warning q x r)) p
+placed_step true q x r p = Do.Go (frame.Call (Warning (later q r) x r)) p
 placed_step false q x r p = replied q r p
 
 -- what a call to free begins with: the one reference to an object of the root's is dropped, or the object freed
@@ -245,7 +245,7 @@ caller_step (Asking q) p = Do.Wait (Asked q) (frame.Call (Asking q)) p
 caller_step (Doing q c) p = call_step (refusals p c) q c p
 -- it waits for the work above it
 caller_step (Awaiting q x) p = Do.Done (Freed Ok) p
-caller_step (Warning q x r) p = Do.Emit (Told (event.Warned x)) (frame.Call (Telling (later q r) r)) p
+caller_step (Warning q x r) p = Do.Emit (Told (event.Warned x)) (frame.Call (Telling q r)) p
 caller_step (Telling q r) p = Do.Emit (Told (event.Replied r)) (frame.Call (Asking q)) p
 caller_step (Returning v) p = Do.Done (Returned v) p
 

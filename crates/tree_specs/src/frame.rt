@@ -23,7 +23,8 @@ pub enum CallFrame {
     Awaiting { ask: Ask, x: Obj },
     /// The reply is to be told, and the next question comes after it.
     Telling { ask: Ask, reply: Reply },
-    /// It is to be told that an object that has references was given to another owner, and then the reply.
+    /// It is to be told that an object that has references was given to another owner, then the reply, and the next
+    /// question comes after it.
     Warning { ask: Ask, x: Obj, reply: Reply },
     /// The routine has returned this number.
     Returning { value: u32 },

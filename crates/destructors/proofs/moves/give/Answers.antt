@@ -2,7 +2,7 @@ use Rattle.std.proofs.Common.{sym, ap, subst}
 use Rattle.tree_specs.specs.Pool.{Pool}
 use Rattle.tree_links.specs.Links.{pool_of}
 use Rattle.references.specs.Rows.{SameRefs}
-use Rattle.destructors.proofs.SameRefs.{put-elsewhere}
+use Rattle.references.proofs.SameRefs.{put-elsewhere}
 use Rattle.destructors.proofs.moves.give.Goals as goal
 
 pub returns-clause-same_refs : goal.returns-clause-same_refs

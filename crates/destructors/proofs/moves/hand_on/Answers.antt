@@ -3,7 +3,7 @@ use Rattle.tree_specs.specs.Pool.{Pool, is_below, owner_of}
 use Rattle.tree_specs.specs.declared.object.Owner.TheVariants.{Of}
 use Rattle.tree_links.specs.Links.{pool_of}
 use Rattle.references.specs.Rows.{SameRefs}
-use Rattle.destructors.proofs.SameRefs.{put-elsewhere}
+use Rattle.references.proofs.SameRefs.{put-elsewhere}
 use Rattle.destructors.proofs.moves.hand_on.Goals as goal
 
 pub returns-clause-same_refs : goal.returns-clause-same_refs

@@ -1,8 +1,12 @@
-use Rattle.std.proofs.Common.{subst}
+use Rattle.std.proofs.Common.{sym, ◌∙◌, subst}
 use Rattle.host_core.specs.Promises.{Waits}
-use Rattle.host_core.proofs.Offering.{waits-some}
+use Rattle.host_core.proofs.Offering.{question-view, waits-some}
 use Rattle.host_core.proofs.host.Host.question.Goals as goal
+
+pub returns-clause-question : goal.returns-clause-question
+returns-clause-question c =
+    c.asked.ensures ∙ sym (question-view c.args.self.now c.self.inside.active c.self.inside.parts.callers.items c.self.inside.parts.engine c.self.inside.parts.tree c.self.view_is)
 
 pub returns-clause-waits : goal.returns-clause-waits
 returns-clause-waits c = λ some.
-    subst Waits c.self.view_is (waits-some (λ b. b.now) c.asked.result c.self.inside.active c.self.inside.callers.items c.self.inside.engine c.self.inside.tree c.self.invariant.0.whole c.asked.ensures some)
+    subst Waits c.self.view_is (waits-some (λ b. b.now) c.asked.result c.self.inside.active c.self.inside.parts.callers.items c.self.inside.parts.engine c.self.inside.parts.tree c.self.invariant.0.whole c.asked.ensures some)
