@@ -12,6 +12,7 @@ mod freeing;
 mod hooks;
 mod lookups;
 mod questions;
+mod references;
 mod reports;
 mod sums;
 
