@@ -32,7 +32,8 @@ use Rattle.tree_specs.specs.Sound.{MayBePlaced}
 use Rattle.tree_specs.proofs.Numbered.{by_test}
 use Rattle.tree_specs.proofs.Rows.{total-without, total-placed, total-changed}
 use Rattle.tree_specs.proofs.Changes.{dying-row, running-row, claim-here, heir-placed}
-use Rattle.tree_specs.proofs.Falls.{Room, lower, total-kept}
+use Rattle.tree_specs.proofs.FallingFrees.{Room, total-kept}
+use Rattle.tree_specs.proofs.Falls.{lower}
 use Rattle.tree_specs.proofs.Rest.{whole-kept}
 use Rattle.tree_links.specs.Links.{MayPlace}
 use Rattle.destructors.specs.Frees.{OpenFrees, answered, moved, moves}

@@ -20,7 +20,8 @@ use Rattle.tree_specs.specs.Measure.{cost, pending}
 use Rattle.tree_specs.specs.View.{View, begin, rest_of}
 use Rattle.tree_specs.specs.Whole.{Whole}
 use Rattle.tree_specs.proofs.StoryLaws.{begin-whole}
-use Rattle.tree_specs.proofs.Falls.{Room, lower}
+use Rattle.tree_specs.proofs.FallingFrees.{Room}
+use Rattle.tree_specs.proofs.Falls.{lower}
 use Rattle.tree_specs.proofs.Rest.{event-whole, event-items, open-items, begins-items, ends-asked, silent-whole, silent-law, no-end, view_of_state}
 use Rattle.host_core.specs.Promises.{Waits}
 use Rattle.host_core.specs.Hosts.{speaks, moved, next_of, speaking_view, Along, Onward}

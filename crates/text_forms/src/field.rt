@@ -5,7 +5,7 @@ ghost use Rattle.tree_specs.specs.Grammar.{number_of, owner_of, object_of, routi
 ghost use Rattle.text_forms.specs.Reads.{Reads};
 
 use crate::form::FormFault;
-use crate::number::{read_number, read_return};
+use crate::number::{read_number, read_u32};
 use tree_specs::{Obj, Owner};
 
 // A number field.
@@ -42,9 +42,7 @@ pub(crate) fn object(text: &[u8]) -> Result<Obj, FormFault>
 pub(crate) fn routine(text: &[u8]) -> Result<u32, FormFault>
     ensures { Reads result (routine_of text.now) }
 {
-    read_return(text)
-        .filter(|n| *n != 0)
-        .ok_or(FormFault::NoForm)
+    read_u32(text).filter(|n| *n != 0).ok_or(FormFault::NoForm)
 }
 
 // The fields of a call with an object and nothing more.

@@ -67,10 +67,10 @@ fn return_value(text: &[u8]) -> Option<u32>
     u32::try_from(n).ok()
 }
 
-/// The number that a routine returns, as the text spells it: from 0 to 4,294,967,295, in decimal digits
+/// The number that the text spells, from 0 to 4,294,967,295: a routine, or what one returns. It is in decimal digits
 /// with no leading zero. None exactly where the text spells no such number.
 #[tactic(auto, using(crate::proofs::Fields::return_spelled_some, crate::proofs::Fields::return_spelled_none))]
-pub fn read_return(text: &[u8]) -> Option<u32>
+pub fn read_u32(text: &[u8]) -> Option<u32>
     ensures value { result ≡ return_of text.now }
     // Such a number has one spelling, and what is none is the spelling of no such number.
     ensures spelled { IfSome result (λ n. text.now ≡ decimal n) }

@@ -39,7 +39,7 @@ fn reads_what_a_routine_returns(rt: HostRuntime) {
         (b"".as_slice(), None),
     ];
     for (text, want) in cases {
-        assert_eq!(rt; read_return(text), want, "at {text:?}");
+        assert_eq!(rt; read_u32(text), want, "at {text:?}");
     }
 }
 

@@ -88,14 +88,14 @@ impl Tree {
         Ok(())
     }
 
-    /// The work of the innermost open free. None exactly where no free is open.
+    /// The innermost of the works of frees that wait. None exactly where none waits.
     pub fn innermost_free(&self) -> Option<FreeFrame>
         ensures { result ≡ slice_get self.now.frees 0 }
     {
         self.frees.last().copied()
     }
 
-    /// Puts a work before those of the open frees. It takes no memory.
+    /// Puts a work before those that wait. It takes no memory.
     pub fn push_free(&mut self, work: FreeFrame)
         requires { 0 < self.old.room }
         ensures rows { pool_of self.new ≡ pool_of self.old }
@@ -106,7 +106,7 @@ impl Tree {
         self.frees.push_reserved(work);
     }
 
-    /// Takes the innermost work of the open frees away. None exactly where no free is open.
+    /// Takes the innermost of the works that wait away. None exactly where none waits.
     pub fn pop_free(&mut self) -> Option<FreeFrame>
         ensures rows { pool_of self.new ≡ pool_of self.old }
         ensures spare { self.new.spare ≡ self.old.spare }

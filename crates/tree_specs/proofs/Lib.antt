@@ -10,10 +10,13 @@ pub mod Heirs
 pub mod Checks
 pub mod Waiters
 pub mod Changes
+pub mod KeptFrees
 pub mod Keeps
+pub mod FallingFrees
 pub mod Falls
 pub mod Means
 pub mod Load
+pub mod Turns
 pub mod Rest
 pub mod StoryLaws
 pub mod Later
@@ -24,6 +27,7 @@ pub mod References
 pub mod OwnRefusals
 pub mod Fine
 pub mod FineCallers
+pub mod FineDrops
 pub mod FineFrees
 pub mod StoryOrder
 pub mod TextLaws

@@ -5,7 +5,7 @@ use Rattle.std.specs.Prelude.{unwrap_or}
 use Rattle.tree_specs.proofs.Keeps.{ref-placed}
 use Rattle.tree_specs.proofs.Referring.{newest-refers, newest-of-refers}
 use Rattle.tree_specs.specs.Targets.{newest_ref}
-use Rattle.std.proofs.Common.{◌≡◌, ℕ, suc, zero, ◌+◌, ◌*◌, ◌≤◌, ◌<◌, List, [], ◌∷◌, length, Option, Some, None, nat_eq, refl, sym, ◌∙◌, ap, arith, Bool, true, false}
+use Rattle.std.proofs.Common.{◌≡◌, ℕ, suc, zero, ◌+◌, ◌≤◌, List, [], ◌∷◌, Option, Some, None, nat_eq, refl, sym, ◌∙◌, ap, arith, Bool, true, false}
 use Rattle.step_machine.specs.Machine.{Move}
 use Rattle.step_machine.specs.Machine.{Move as Do}
 use Rattle.step_machine.proofs.Ends.{Leads}
@@ -41,17 +41,14 @@ use Rattle.tree_specs.specs.Sound.{phase_of, phases, InRun, InLoop, claims, AllW
 use Rattle.tree_specs.proofs.Numbered.{by_test}
 use Rattle.tree_specs.specs.Sound.{MayBePlaced}
 use Rattle.tree_specs.proofs.Checks.{passes-placing, passes-reparent, passes-object, passes-hooking, Heard, Does, Returns, heard-leads, MayGo, Itself, ItsRef}
-use Rattle.std.proofs.Math.Nat.{mul-le-mul_left}
-use Rattle.tree_specs.specs.Story.{owner_reply, later, turns, warns, reparented}
-use Rattle.tree_specs.specs.View.{View}
-use Rattle.tree_specs.specs.Whole.{IsQuiet, IsOfRoutine, IsCaller, IsRun, IsFree, Seat, Seated, size, innermost_size, sizes, mark_burden, burden, Light, Whole}
+use Rattle.tree_specs.specs.Story.{owner_reply, later, warns, reparented}
+use Rattle.tree_specs.specs.Whole.{IsQuiet, IsOfRoutine, IsCaller, IsRun, IsFree, Seat, Seated, size, innermost_size, sizes, mark_burden, burden, Light}
 use Rattle.tree_specs.specs.Inside.{total, size_inside, count_inside}
 use Rattle.tree_specs.specs.Reports.{report}
-use Rattle.tree_specs.specs.Measure.{mark_weight, weight, waiting_cost, below_cost, top_cost, cost, pending}
-use Rattle.tree_specs.proofs.Rows.{total-without, total-placed, total-changed, count-length}
+use Rattle.tree_specs.proofs.Rows.{total-without, total-placed, total-changed}
 use Rattle.tree_specs.proofs.Waiters.{Waiter, ForFree, ForRun, ForChild, waiter}
 use Rattle.tree_specs.proofs.Changes.{dying-row, running-row, claim-here, heir-placed}
-use Rattle.tree_specs.proofs.Falls.{total-kept, kids-most}
+use Rattle.tree_specs.proofs.FallingFrees.{total-kept}
 
 -- what a move leads to stands where it may, and is light
 abbrev pub Placed : Move Frame Answer Pool Item → List Frame → ℕ → Type 0
@@ -253,7 +250,7 @@ releasing-placed x fs p k sound s l = each (newest_ref p.rows x) refl
         (λ t. rw t (dropped-placed (Releasing x) (Releasing x) fs p k r x (Told (Unreferenced r x)) sound.refers is (omega arith) s l))
         (λ t. rw t (dropped-placed (Releasing x) (Giving x (unwrap_or (owner_of p.rows r) Root)) fs p k r x (Told (Unreferenced r x)) sound.refers is (omega arith) s l)))
 
-mark_burden-most : (m : Mark) → mark_burden m ≤ 3
+pub mark_burden-most : (m : Mark) → mark_burden m ≤ 3
 mark_burden-most Quiet = omega arith
 mark_burden-most Asked = omega arith
 mark_burden-most Busy = omega arith
@@ -349,87 +346,3 @@ placed-kept (frame.Free (Looping x purpose)) fs p k s b l = looping-placed x pur
 placed-kept (frame.Free (Trying x c noted purpose)) fs p k s b l = absurd s.rests
 placed-kept (frame.Free (Tried x c noted purpose a)) fs p k s b l = tried-placed x c noted purpose a fs p k s b l
 placed-kept (frame.Free (Ending answer)) fs p k s b l = over (Freed answer) (frame.Free (Ending answer)) fs p k s.waiting b l
-
--- ---- the measure against the number of turns
-
-below-light : (fs : List Frame) → below_cost fs ≤ 3 * sizes fs
-below-light [] = omega arith
-below-light (f ∷ fs) = let ih = below-light fs in omega (arith, ih, one f)
-  where
-    one : (f : Frame) → waiting_cost f ≤ 3 * size f
-    one (frame.Call (Asking q)) = omega arith
-    one (frame.Call (Doing q c)) = omega arith
-    one (frame.Call (Awaiting q x)) = omega arith
-    one (frame.Call (Warning q x r)) = omega arith
-    one (frame.Call (Telling q r)) = omega arith
-    one (frame.Call (Returning v)) = omega arith
-    one (frame.Free (Unlinking o x)) = omega arith
-    one (frame.Free (Releasing x)) = omega arith
-    one (frame.Free (Giving x o)) = omega arith
-    one (frame.Free (Beginning x)) = omega arith
-    one (frame.Free (Hooked x h)) = omega arith
-    one (frame.Free (Judged x h v)) = omega arith
-    one (frame.Free (Leaving x h)) = omega arith
-    one (frame.Free (Looping x purpose)) = omega arith
-    one (frame.Free (Trying x c noted purpose)) = omega arith
-    one (frame.Free (Tried x c noted purpose a)) = omega arith
-    one (frame.Free (Ending a)) = omega arith
-
-burden-most : (rs : List Row) → total burden rs ≤ 3 * length rs
-burden-most [] = omega arith
-burden-most (r ∷ rs) = let ih = burden-most rs in omega (arith, ih, mark_burden-most r.mark)
-
-weight-most : (rs : List Row) → total weight rs ≤ 2 * length rs
-weight-most [] = omega arith
-weight-most (r ∷ rs) = let ih = weight-most rs in omega (arith, ih, most r.mark)
-  where
-    most : (m : Mark) → mark_weight m ≤ 2
-    most Quiet = omega arith
-    most Asked = omega arith
-    most Busy = omega arith
-    most Doomed = omega arith
-    most (Dying former) = omega arith
-
-top-most : (R : ℕ) (f : Frame) (fs : List Frame) (rows : List Row) → length rows ≤ R → top_cost R f fs rows ≤ 16 * R + 52
-top-most R (frame.Call (Asking q)) fs rows h = omega arith
-top-most R (frame.Call (Doing q c)) fs rows h = omega arith
-top-most R (frame.Call (Awaiting q x)) fs rows h = omega arith
-top-most R (frame.Call (Warning q x r)) fs rows h = omega arith
-top-most R (frame.Call (Telling q r)) fs rows h = omega arith
-top-most R (frame.Call (Returning v)) fs rows h = omega arith
-top-most R (frame.Free (Unlinking o x)) fs rows h = let m = kids-most R rows fs h in omega arith
-top-most R (frame.Free (Releasing x)) fs rows h = let m = kids-most R rows fs h in omega arith
-top-most R (frame.Free (Giving x o)) fs rows h = omega arith
-top-most R (frame.Free (Beginning x)) fs rows h = let m = kids-most R rows fs h in omega arith
-top-most R (frame.Free (Hooked x k)) fs rows h = omega arith
-top-most R (frame.Free (Judged x k v)) fs rows h = omega arith
-top-most R (frame.Free (Leaving x k)) fs rows h = omega arith
-top-most R (frame.Free (Looping x purpose)) fs rows h = let n = count-length rows (Of x) in omega arith
-top-most R (frame.Free (Trying x c noted purpose)) fs rows h = omega arith
-top-most R (frame.Free (Tried x c noted purpose Ok)) fs rows h = let n = count-length rows (Of x) in omega arith
-top-most R (frame.Free (Tried x c noted purpose Held)) fs rows h = let n = count-length rows (Of x) in omega arith
-top-most R (frame.Free (Tried x c noted purpose Running)) fs rows h = let n = count-length rows (Of x) in omega arith
-top-most R (frame.Free (Tried x c noted purpose (Refused v))) fs rows h = let n = count-length rows (Of x) in omega arith
-top-most R (frame.Free (Ending a)) fs rows h = omega arith
-
-numbers : (r k w z d e : ℕ) → w ≤ 2 * r → z ≤ 3 * r + 2 → d ≤ 3 * z → e ≤ 16 * (r + 2 * k + 2) + 52
-    → (4 * (r + 2 * k + 2) + 16) * w + (16 * (r + 2 * k + 2) + 53) * k + d + e < 64 * (k + 1) * ((r + 2 * k + 2) * (r + 2 * k + 2))
-numbers r k w z d e hw hz hd he =
-    let a : (4 * (r + 2 * k + 2) + 16) * w ≤ (4 * (r + 2 * k + 2) + 16) * (2 * r) = mul-le-mul_left (4 * (r + 2 * k + 2) + 16) hw in
-    omega arith
-
--- the measure is below the stated number of turns at every moment
-pub cost-turns : (v : View) (k : ℕ) → Whole v → cost (length v.pool.rows + 2 * k + 2) v.innermost v.below v.pool k < turns (length v.pool.rows) k
-cost-turns v k h =
-    numbers (length v.pool.rows) k (total weight v.pool.rows) (sizes v.below) (below_cost v.below) (top_cost (length v.pool.rows + 2 * k + 2) v.innermost v.below v.pool.rows)
-    (weight-most v.pool.rows) (let m = burden-most v.pool.rows in let l = h.light in omega arith)
-    (below-light v.below) (top-most (length v.pool.rows + 2 * k + 2) v.innermost v.below v.pool.rows (omega arith))
-
-pub pending-most : (f : Frame) → pending f ≤ 2
-pending-most (frame.Call (Asking q)) = omega arith
-pending-most (frame.Call (Doing q c)) = omega arith
-pending-most (frame.Call (Awaiting q x)) = omega arith
-pending-most (frame.Call (Warning q x r)) = omega arith
-pending-most (frame.Call (Telling q r)) = omega arith
-pending-most (frame.Call (Returning v)) = omega arith
-pending-most (frame.Free f) = omega arith

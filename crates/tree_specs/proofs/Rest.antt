@@ -33,7 +33,8 @@ use Rattle.tree_specs.specs.View.{View, rest_of}
 use Rattle.tree_specs.specs.Whole.{IsCaller, Seated, Whole}
 use Rattle.tree_specs.proofs.Keeps.{sound-kept}
 use Rattle.tree_specs.proofs.Falls.{Well, falls}
-use Rattle.tree_specs.proofs.Load.{Placed, placed-kept, cost-turns, pending-most}
+use Rattle.tree_specs.proofs.Load.{Placed, placed-kept}
+use Rattle.tree_specs.proofs.Turns.{cost-turns, pending-most}
 
 abbrev pub outcome : View → List Input → Outcome Answer Pool Input Item
 outcome v is = rest table (turns (length v.pool.rows) (length is)) v.innermost v.below v.pool is

@@ -25,7 +25,8 @@ use Rattle.tree_specs.proofs.Rest.{whole-kept}
 use Rattle.tree_specs.proofs.Causes.{NotedWork, item_of, told}
 use Rattle.tree_specs.proofs.Fine.{work_of, IsFine, Known, FineBy, taken-noted}
 use Rattle.tree_specs.proofs.FineCallers.{asking-fine, telling-fine, returning-fine, doing-fine, warning-fine}
-use Rattle.tree_specs.proofs.FineFrees.{ending-fine, beginning-fine, hooked-fine, leaving-fine, judged-fine, looping-fine, tried-fine, unlinking-fine, releasing-fine, giving-fine}
+use Rattle.tree_specs.proofs.FineFrees.{hooked-fine, leaving-fine, judged-fine, looping-fine, tried-fine}
+use Rattle.tree_specs.proofs.FineDrops.{ending-fine, beginning-fine, unlinking-fine, releasing-fine, giving-fine}
 use Rattle.tree_specs.proofs.StoryLaws.{asking, begin-whole, story-walk}
 
 abbrev WholeAt : Frame → List Frame → Pool → Type 0
