@@ -111,10 +111,19 @@ pub fn references_hold_objects()
         ≡ Some (codes "tv transcript 1\nreply 1\nreply 2\nreply 3\nunreferenced 3 2\nmoved 2 1\nreply ok\nreply 4\nreply no 4 2\nwarned 2\nreply ok\nreply 5\nreply no 4 2\nend quiet\n") }
     ensures inside { transcript (items (story 1 (inputs_of (codes "tv schedule 1 pool\ncall new 0 0 g\ncall new 1 0 x\ncall new 2 0 d\ncall reference 3 2\ncall free 1\ncall new 0 0 x\ncall new 5 0 d\ncall new 0 0 o\ncall reference 7 5\ncall reference 6 5\ncall unlink 0 5\n"))))
         ≡ Some (codes "tv transcript 1\nreply 1\nreply 2\nreply 3\nreply 4\nunreferenced 4 2\nfreed 3 0\nfreed 2 0\nfreed 1 0\nreply ok\nreply 5\nreply 6\nreply 7\nreply 8\nreply 9\nunreferenced 9 5\nunreferenced 8 5\nmoved 5 7\nreply ok\nend quiet\n") }
-    ensures given { transcript (items (story 1 (inputs_of (codes "tv schedule 1 pool\ncall new 0 5 a\ncall new 1 6 b\ncall new 0 0 c\ncall reference 3 2\ncall report 0\ncall total 0\ncall count 0\ncall reparent 3 1 2\ncall reparent 3 1 2\ncall reparent 1 3 2\ncall move 0 2\ncall freekids 1\n"))))
-        ≡ Some (codes "tv transcript 1\nreply 1\nreply 2\nreply 3\nreply 4\nrow 0 0 root 0 0 0 null_context\nrow 1 3 plain 0 0 0 c\nrow 2 4 reference 0 0 2 reference\nrow 1 1 plain 5 0 0 a\nrow 2 2 plain 6 1 0 b\nreply rows 5\nreply 11\nreply 3\nreply ok\nreply no 6 2 3\nreply ok\nwarned 2\nreply 2\nunreferenced 4 2\nreply ok\nend quiet\n") }
+    ensures given { transcript (items (story 1 (inputs_of (codes "tv schedule 1 pool\ncall new 0 5 a\ncall new 1 6 b\ncall new 0 0 c\ncall reference 3 2\ncall report 0\ncall total 0\ncall count 0\ncall sum 0\ncall reparent 3 1 2\ncall reparent 3 1 2\ncall reparent 1 3 2\ncall move 0 2\ncall freekids 1\n"))))
+        ≡ Some (codes "tv transcript 1\nreply 1\nreply 2\nreply 3\nreply 4\nrow 0 0 root 0 0 0 null_context\nrow 1 3 plain 0 0 0 c\nrow 2 4 reference 0 0 2 reference\nrow 1 1 plain 5 0 0 a\nrow 2 2 plain 6 1 0 b\nreply rows 5\nreply 11\nreply 3\nreply 299\nreply ok\nreply no 6 2 3\nreply ok\nwarned 2\nreply 2\nunreferenced 4 2\nreply ok\nend quiet\n") }
     ensures while_one_dies { transcript (items (story 1 (inputs_of (codes "tv schedule 1 pool\ncall new 0 0 a\ncall new 0 0 b\ncall reference 1 2\ncall new 1 0 c\ncall hook 4 16\ncall free 3\ncall unlink 2 1\ncall free 1\nact steal 0 1\nact free 1\nact reference 0 4\nact new 1 0 d\nret 0\n"))))
         ≡ Some (codes "tv transcript 1\nreply 1\nreply 2\nreply 3\nreply 4\nreply ok\nreply no 2 3\nreply no 6 1 2\nask hook 4 16 0 0 0 0\nreply no 8 1\nask hook 4 16 0 0 0 1\nreply ok\nask hook 4 16 0 0 0 2\nreply no 3 4\nask hook 4 16 0 0 0 3\nreply 5\nask hook 4 16 0 0 0 4\naccepted 4\nfreed 4 16\nfreed 5 0\nunreferenced 3 2\nfreed 1 0\nreply ok\nend quiet\n") }
+{}
+
+/// A worked example of `talloc_set_memlimit`: an object with a limit holds objects below it that count no more than this
+/// together, wherever they came from; what is stolen counts no more, and what comes by a steal isn't refused.
+pub fn limits_bound_what_is_inside()
+    ensures below { transcript (items (story 1 (inputs_of (codes "tv schedule 1 pool\ncall new 0 0 a\ncall limit 1 300\ncall new 1 108 b\ncall new 1 0 c\ncall free 2\ncall new 1 109 b\ncall new 0 500 d\ncall steal 1 3\ncall sum 1\ncall limit 3 1000000\ncall new 3 0 f\ncall steal 0 3\ncall sum 1\ncall new 0 268435456 z\ncall new 0 268435455 z\n"))))
+        ≡ Some (codes "tv transcript 1\nreply 1\nreply ok\nreply 2\nreply no 9 1 300 96 300\nfreed 2 0\nreply ok\nreply no 9 1 96 205 300\nreply 3\nreply ok\nreply 692\nreply ok\nreply no 9 1 692 96 300\nreply ok\nreply 96\nreply no 14 268435456\nreply 4\nend quiet\n") }
+    ensures grows { transcript (items (story 1 (inputs_of (codes "tv schedule 1 pool\ncall new 0 10 a\ncall resize 1 20\ncall limit 1 116\ncall resize 1 21\ncall resize 1 0\ncall sum 1\ncall resize 1 268435456\ncall reference 0 1\ncall resize 1 5\n"))))
+        ≡ Some (codes "tv transcript 1\nreply 1\nreply ok\nreply ok\nreply no 9 1 116 1 116\nreply ok\nreply 96\nreply no 14 268435456\nreply 2\nreply no 4 1\nend quiet\n") }
 {}
 
 /// The stated number of turns is enough for every list of inputs, and more turns give the same.
