@@ -85,6 +85,14 @@ owner_and_object_of (p ∷ x ∷ []) = do
   Some (owner, object)
 owner_and_object_of _ = None
 
+-- an object, and then a number
+abbrev pub object_and_number_of : List (List ℕ) → Option (Obj × ℕ)
+object_and_number_of (x ∷ n ∷ []) = do
+  object ← object_of x
+  number ← number_of n
+  Some (object, number)
+object_and_number_of _ = None
+
 -- ---- calls, by their fields
 
 unfoldable pub new_of : List (List ℕ) → Option Call
@@ -107,6 +115,10 @@ of_owner call fields = option_map call (only_owner_of fields)
 unfoldable pub placing_of : (Owner → Obj → Call) → List (List ℕ) → Option Call
 placing_of call fields = option_map (λ pair. call pair.0 pair.1) (owner_and_object_of fields)
 
+-- a call that has an object, and then a number
+unfoldable pub numbered_of : (Obj → ℕ → Call) → List (List ℕ) → Option Call
+numbered_of call fields = option_map (λ pair. call pair.0 pair.1) (object_and_number_of fields)
+
 unfoldable pub reparent_of : List (List ℕ) → Option Call
 reparent_of (p ∷ q ∷ x ∷ []) = do
   from ← owner_of p
@@ -128,14 +140,6 @@ rename_of (x ∷ n ∷ []) = do
   name ← name_of n
   Some (Rename object name)
 rename_of _ = None
-
--- a call that has an object, and then a number
-unfoldable pub numbered_of : (Obj → ℕ → Call) → List (List ℕ) → Option Call
-numbered_of call (x ∷ n ∷ []) = do
-  object ← object_of x
-  number ← number_of n
-  Some (call object number)
-numbered_of call _ = None
 
 -- a verb and its fields
 unfoldable pub call_of_words : List (List ℕ) → Option Call
