@@ -1,5 +1,5 @@
 -- What an answer to the open question leads to.
-use Rattle.std.proofs.Common.{◌≡◌, ℕ, List, [], ◌∷◌, Option, Some, None, true, false, refl, sym, ◌∙◌, ap, subst}
+use Rattle.std.proofs.Common.{◌≡◌, List, [], ◌∷◌, Option, Some, None, true, false, refl, sym, ◌∙◌, ap, subst}
 use Rattle.std.specs.Prelude.{reverse, is_none, is_some}
 use Rattle.std.specs.Option.{option_map}
 use Rattle.step_machine.specs.Machine.{Move}

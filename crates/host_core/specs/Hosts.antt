@@ -107,7 +107,6 @@ pub record Ready (now : Active) (callers : List CallFrame) (innermost : Option F
 abbrev pub view_in : Active → Parts → View
 view_in now parts = view_of now parts.callers.items parts.engine parts.tree
 
-
 abbrev pub IsReady : Active → Parts → Type 0
 IsReady now parts = Ready now parts.callers.items parts.engine parts.tree (places (vec_capacity parts.callers) parts.refs)
 

@@ -64,14 +64,7 @@ fn tells(ask: Ask, reply: Brief) -> Motion
 }
 
 /// Puts an object below an owner. What is worth a warning is told before the reply.
-fn give(
-    ask: Ask,
-    x: Obj,
-    owner: Owner,
-    reply: Brief,
-    tree: &mut Tree,
-    refs: &Refs,
-) -> Motion
+fn give(ask: Ask, x: Obj, owner: Owner, reply: Brief, tree: &mut Tree, refs: &Refs) -> Motion
     requires may { MayPlace tree.old.rows x owner }
     requires refs { AreRefsOf refs.now.pairs tree.old.rows }
     ensures moved { move_of result (pool_of tree.new) ≡ placed_step (worth_a_warning (pool_of tree.old) owner x) ask x (reply_of reply) (placed (pool_of tree.old) owner x) }

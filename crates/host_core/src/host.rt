@@ -63,11 +63,7 @@ fn tell(frame: CallFrame) -> Reported
 
 /// Takes the memory for all that comes up to the next question. After want of memory callers, objects and references
 /// are as they were.
-fn make_room(
-    callers: &mut Vec<CallFrame>,
-    tree: &mut Tree,
-    refs: &mut Refs,
-) -> Result<(), Memory>
+fn make_room(callers: &mut Vec<CallFrame>, tree: &mut Tree, refs: &mut Refs) -> Result<(), Memory>
     ensures callers { callers.new.items ≡ callers.old.items }
     ensures rows { pool_of tree.new ≡ pool_of tree.old }
     ensures works { tree.new.frees ≡ tree.old.frees }
@@ -185,7 +181,10 @@ impl Host {
             }
             Active::Freeing => {
                 let Parts {
-                    engine, tree, refs, ..
+                    engine,
+                    tree,
+                    refs,
+                    ..
                 } = &mut self.parts;
                 let step = engine.step(tree, refs);
                 self.active = settle(Active::Freeing, &mut self.parts);

@@ -76,13 +76,7 @@ impl World {
         assert!(rt; self.tree.len() < 1_048_576);
         assert!(rt; self.tree.next_number() < u64::MAX);
         assert!(rt; self.tree.is_owner(owner));
-        Ok(refer(
-            alloc,
-            target,
-            owner,
-            &mut self.tree,
-            &mut self.refs,
-        ))
+        Ok(refer(alloc, target, owner, &mut self.tree, &mut self.refs))
     }
 
     fn detach(&mut self, rt: &impl Abort, x: Obj) {

@@ -1,6 +1,5 @@
 use Rattle.std.proofs.Common.{List, sym, ap, subst}
 use Rattle.tree_specs.specs.Pool.{Pool}
-use Rattle.tree_specs.specs.declared.row.Row.{Row}
 use Rattle.tree_specs.proofs.Referring.{reference-childless}
 use Rattle.references.specs.declared.refs.Pair.{Pair}
 use Rattle.references.specs.Pairs.{without}

@@ -1,10 +1,7 @@
-use Rattle.std.proofs.Common.{◌≡◌, Some, None, true, sym, ap, subst}
+use Rattle.std.proofs.Common.{◌≡◌, None, true, sym, ap, subst}
 use Rattle.tree_specs.specs.Pool.{Pool, is_dying, target_at}
 use Rattle.references.specs.Rows.{SameRefs}
 use Rattle.references.proofs.Rows.{same-without}
-use Rattle.destructors.specs.Moves.{FreeRests}
-use Rattle.tree_specs.specs.declared.frame.FreeFrame.TheVariants.{Looping}
-use Rattle.tree_links.specs.Links.{pool_of}
 use Rattle.destructors.proofs.moves.finish.Goals as goal
 
 pub returns-in-Removal-clause-same_refs : goal.returns-in-Removal-clause-same_refs

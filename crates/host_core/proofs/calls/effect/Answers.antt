@@ -15,7 +15,6 @@ give-requires-clause-may c = steal_goes (pool_of c.args.tree.now) c.in-Steal.own
 pub give-requires-in-Move-clause-may : goal.give-requires-in-Move-clause-may
 give-requires-in-Move-clause-may c = move_goes (pool_of c.args.tree.now) c.in-Move.owner c.in-Move.x (subst (λ (call : Call). checked (refusals (pool_of c.args.tree.now) call) ≡ Ok tt) c.in-Move.is c.requires.allowed)
 
-
 pub reparent-requires-clause-itself : goal.reparent-requires-clause-itself
 reparent-requires-clause-itself c =
     reparent_itself (pool_of c.args.tree.now) c.in-Reparent.from c.in-Reparent.to c.in-Reparent.x (subst (λ (call : Call). checked (refusals (pool_of c.args.tree.now) call) ≡ Ok tt) c.in-Reparent.is c.requires.allowed)
