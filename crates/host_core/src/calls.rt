@@ -7,7 +7,8 @@ ghost use Rattle.tree_specs.specs.Story.{freed_reply, later as later_of, warns a
 ghost use Rattle.tree_specs.specs.Table.{call_step, effect_step, placed_step};
 ghost use Rattle.tree_links.specs.Links.{pool_of, works_of, MayPlace};
 ghost use Rattle.references.specs.Rows.{AreRefsOf};
-ghost use Rattle.host_core.specs.Moves.{move_of, reply_of, telling as telling_of, checked, report_of, RefsMayGo};
+ghost use Rattle.host_core.specs.Moves.{move_of, reply_of, telling as telling_of, report_of, RefsMayGo};
+ghost use Rattle.tree_specs.specs.Calls.{checked};
 
 use crate::brief::Brief;
 use crate::changes::{place, reparent, warns};

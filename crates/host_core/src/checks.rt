@@ -3,7 +3,7 @@ ghost use Rattle.std.specs.Prelude.{◌≡◌};
 ghost use Rattle.tree_specs.specs.Calls.{◌before◌, small, owner, object, plain, room, staying, still, apart, placing, hooking, held, interested, given_by, refusals};
 ghost use Rattle.tree_links.specs.Links.{pool_of};
 ghost use Rattle.references.specs.Rows.{AreRefsOf};
-ghost use Rattle.host_core.specs.Moves.{checked};
+ghost use Rattle.tree_specs.specs.Calls.{checked};
 
 use references::Refs;
 use tree_links::Tree;

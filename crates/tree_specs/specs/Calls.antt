@@ -1,5 +1,5 @@
 -- The refusals of each call, in the order in which they are tried.
-use Rattle.std.specs.Prelude.{ℕ, zero, suc, ◌-◌, ◌+◌, ◌^◌, Bool, true, false, not, ◌&&◌, ◌||◌, is_some, nat_eq, nat_lt, nat_le, if◌then◌else◌, List, [], ◌∷◌, ◌++◌, length, Option, Some, None}
+use Rattle.std.specs.Prelude.{ℕ, zero, suc, ◌-◌, ◌+◌, ◌^◌, Bool, true, false, not, ◌&&◌, ◌||◌, is_some, nat_eq, nat_lt, nat_le, if◌then◌else◌, List, [], ◌∷◌, ◌++◌, length, Option, Some, None, Result, Ok, Err}
 use Rattle.tree_specs.specs.declared.object.Obj.{Obj}
 use Rattle.tree_specs.specs.declared.object.Owner.{Owner}
 use Rattle.tree_specs.specs.declared.object.Owner.TheVariants.{Root, Of}
@@ -28,6 +28,11 @@ row_limit = 1048576
 -- the refusals that apply, the first one first
 abbrev pub Check : Type 0
 Check = List Refusal
+
+-- the first refusal that applies
+abbrev pub checked : Check → Result (Unit {0}) Refusal
+checked [] = Ok tt
+checked (why ∷ later) = Err why
 
 -- one check before the others
 infixr 10 ◌before◌

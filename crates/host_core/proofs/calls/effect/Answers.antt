@@ -5,7 +5,7 @@ use Rattle.references.proofs.Rows.{refs-same, same-changed}
 use Rattle.tree_specs.specs.declared.call.Call.{Call}
 use Rattle.tree_specs.specs.Calls.{refusals}
 use Rattle.tree_links.specs.Links.{pool_of}
-use Rattle.host_core.specs.Moves.{checked}
+use Rattle.tree_specs.specs.Calls.{checked}
 use Rattle.host_core.proofs.Allowed.{steal_goes, move_goes, reparent_itself}
 use Rattle.host_core.proofs.calls.effect.Goals as goal
 
