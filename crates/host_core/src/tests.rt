@@ -9,10 +9,10 @@ use std::test::Fail;
 use tree_specs::{Act, Ask, Call, Event, Input, Moment, Name, Obj, Owner, Reply, What};
 
 mod freeing;
+mod holding;
 mod hooks;
 mod lookups;
 mod questions;
-mod references;
 mod reports;
 mod sums;
 
