@@ -62,9 +62,12 @@ report_of (call.Unlink o x) = None
 report_of (call.Hook x routine) = None
 report_of (call.Unhook x) = None
 report_of (call.Rename x name) = None
+report_of (call.Resize x size) = None
+report_of (call.Limit x max) = None
 report_of (call.Parent x) = None
 report_of (call.Total o) = None
 report_of (call.Count o) = None
+report_of (call.Sum o) = None
 report_of (call.Report o) = Some o
 
 -- the call that an input is to do

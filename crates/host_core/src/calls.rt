@@ -17,7 +17,7 @@ use crate::motion::Motion;
 use references::{Refs, refer};
 use std::alloc::Global;
 use tree_links::{NewRow, Tree};
-use tree_report::{count, total};
+use tree_report::{count, sum, total};
 use tree_specs::{Ask, Call, CallFrame, FreeReply, Kind, Obj, Owner, Refusal, Reply};
 
 /// What a caller is asked after a call with this reply.
@@ -96,7 +96,7 @@ fn free(ask: Ask, x: Obj, tree: &Tree, refs: &Refs) -> Motion
 }
 
 /// Does a call that isn't refused, and takes no memory for its reply.
-#[tactic(auto, using(crate::proofs::Allowed::numbered, crate::proofs::Allowed::few, crate::proofs::Allowed::small_size, crate::proofs::Allowed::owned, crate::proofs::Allowed::steal_goes, crate::proofs::Allowed::move_goes, crate::proofs::Allowed::hook_goes, crate::proofs::Allowed::unhook_goes, crate::proofs::Allowed::named, crate::proofs::Allowed::reparent_itself, crate::proofs::Allowed::reparent_there, crate::proofs::Allowed::reference_numbered, crate::proofs::Allowed::reference_few, crate::proofs::Allowed::reference_owned))]
+#[tactic(auto, using(crate::proofs::Allowed::numbered, crate::proofs::Allowed::few, crate::proofs::Allowed::small_size, crate::proofs::Allowed::owned, crate::proofs::Allowed::steal_goes, crate::proofs::Allowed::move_goes, crate::proofs::Allowed::hook_goes, crate::proofs::Allowed::unhook_goes, crate::proofs::Allowed::named, crate::proofs::Allowed::resized, crate::proofs::Allowed::resized_small, crate::proofs::Allowed::limited, crate::proofs::Allowed::reparent_itself, crate::proofs::Allowed::reparent_there, crate::proofs::Allowed::reference_numbered, crate::proofs::Allowed::reference_few, crate::proofs::Allowed::reference_owned))]
 fn effect(alloc: Global, ask: Ask, call: Call, tree: &mut Tree, refs: &mut Refs) -> Motion
     requires room { 0 < tree.old.spare }
     requires place { 0 < refs.old.spare }
@@ -139,12 +139,21 @@ fn effect(alloc: Global, ask: Ask, call: Call, tree: &mut Tree, refs: &mut Refs)
             tree.set_name(x, name);
             tells(ask, Brief::Ok)
         }
+        Call::Resize { x, size } => {
+            tree.set_size(x, size);
+            tells(ask, Brief::Ok)
+        }
+        Call::Limit { x, max } => {
+            tree.set_limit(x, max);
+            tells(ask, Brief::Ok)
+        }
         Call::Parent { x } => {
             let owner = tree.parent(x).unwrap_or(Owner::Root);
             tells(ask, Brief::Number(owner.number()))
         }
         Call::Total { owner } => tells(ask, Brief::Number(total(tree, owner))),
         Call::Count { owner } => tells(ask, Brief::Number(count(tree, owner))),
+        Call::Sum { owner } => tells(ask, Brief::Number(sum(tree, owner))),
         Call::Report { .. } => unreachable!(),
     }
 }

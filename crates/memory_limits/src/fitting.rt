@@ -44,6 +44,7 @@ fn check_one(tree: &Tree, x: Obj, wanted: u64) -> Result<(), Refusal>
 
 /// Whether so many more bytes fit below an owner: neither it nor one above it has a limit that they would exceed. The
 /// refusal names the nearest one that has no room, with the sum of what is inside it and its limit.
+#[tactic(auto, unfolding(tree_specs::specs::Calls::fits))]
 pub fn fits(tree: &Tree, owner: Owner, wanted: u64) -> Result<(), Refusal>
     ensures { result ≡ checked (fit (pool_of tree.now) owner wanted) }
 {

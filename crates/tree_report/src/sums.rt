@@ -36,8 +36,8 @@ fn own_count(tree: &Tree, owner: Owner) -> u64
     })
 }
 
-/// Beside its size an object counts so many bytes.
-const OVERHEAD: u64 = 96;
+/// Beside its size an object that is no reference counts so many bytes against a limit.
+pub const OVERHEAD: u64 = 96;
 
 /// What an object that is no reference counts against a limit, in bytes, and 0 elsewhere.
 fn own_charge(tree: &Tree, owner: Owner) -> u64

@@ -3,6 +3,7 @@ pub mod Rows
 pub mod Kids
 pub mod Settling
 pub mod Ancestry
+pub mod Attached
 pub mod Rooted
 pub mod Walk
 pub mod Referring

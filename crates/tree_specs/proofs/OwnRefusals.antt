@@ -19,7 +19,7 @@ use Rattle.tree_specs.specs.Pool.{Pool, row_of, is_below, owner_of, newest_ref_o
 use Rattle.tree_specs.specs.Targets.{is_reference}
 use Rattle.tree_specs.specs.Items.{Item}
 use Rattle.tree_specs.specs.Items.Item.{Told}
-use Rattle.tree_specs.specs.Calls.{Check, size_limit, row_limit, refuse_if, refusals, over, fits_in, unreferenced, growing, small, object_row, object, plain, owner, room, staying, apart, placing, hooking, given_by, held, is_held, still}
+use Rattle.tree_specs.specs.Calls.{Check, size_limit, row_limit, refuse_if, refusals, over, fits_in, fits, unreferenced, growing, small, object_row, object, plain, owner, room, staying, apart, placing, hooking, given_by, held, is_held, still}
 use Rattle.tree_specs.specs.Works.{Scene}
 use Rattle.tree_specs.specs.Orderly.{RefusedJustNow}
 use Rattle.tree_specs.specs.Grounded.{AnsweredCall, HeldCall, CausedCall}
@@ -82,15 +82,19 @@ own-fits n rs wanted (Some Root) = tt
 own-fits zero rs wanted (Some (Of x)) = tt
 own-fits (suc n) rs wanted (Some (Of x)) = own-both (over rs wanted x) _ (own-if _ _ tt) (own-fits n rs wanted (owner_of rs x))
 
+own-below : (p : Pool) (o : Owner) (wanted : ℕ) → AllOwn (fits p o wanted)
+unfolding fits
+own-below p o wanted = own-fits (length p.rows) p.rows wanted (Some o)
+
 own-growing : (p : Pool) (x : Obj) (size : ℕ) → AllOwn (growing p x size)
-own-growing p x size = by_test (nat_lt (size_at p.rows x) size) (λ t. rw t (own-fits (length p.rows) p.rows (size - size_at p.rows x) (Some (Of x)))) (λ t. rw t tt)
+own-growing p x size = by_test (nat_lt (size_at p.rows x) size) (λ t. rw t (own-below p (Of x) (size - size_at p.rows x))) (λ t. rw t tt)
 
 own-resize : (p : Pool) (x : Obj) (size : ℕ) → AllOwn (refusals p (call.Resize x size))
 own-resize p x size =
     own-both (small size) _ (own-small size) (own-both (object p x) _ (own-object p x) (own-both (plain p x) _ (own-if _ _ tt) (own-both (unreferenced p x) _ (own-if _ _ tt) (own-both (staying p x) _ (own-staying p x) (own-growing p x size)))))
 
 pub own-refusals : (p : Pool) (c : Call) → AllOwn (refusals p c)
-own-refusals p (call.New o size name) = own-both (small size) _ (own-small size) (own-both (owner p o) _ (own-owner p o) (own-both (room p 1) _ (own-room p 1) (own-fits (length p.rows) p.rows (size + overhead) (Some o))))
+own-refusals p (call.New o size name) = own-both (small size) _ (own-small size) (own-both (owner p o) _ (own-owner p o) (own-both (room p 1) _ (own-room p 1) (own-below p o (size + overhead))))
 own-refusals p (call.Free x) = own-both (object p x) _ (own-object p x) (own-if _ _ tt)
 own-refusals p (call.Freekids x) = own-object p x
 own-refusals p (call.Steal o x) = own-placing p o x

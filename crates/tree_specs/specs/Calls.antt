@@ -94,7 +94,7 @@ fits_in zero rs wanted (Some (Of x)) = []
 fits_in (suc n) rs wanted (Some (Of x)) = over rs wanted x before fits_in n rs wanted (owner_of rs x)
 
 -- so many more bytes fit below an owner
-abbrev pub fits : Pool → Owner → ℕ → Check
+unfoldable pub fits : Pool → Owner → ℕ → Check
 fits p o wanted = fits_in (length p.rows) p.rows wanted (Some o)
 
 -- an object that is being freed stays where it is

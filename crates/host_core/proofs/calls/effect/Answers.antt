@@ -1,5 +1,5 @@
 use Rattle.std.proofs.Common.{◌≡◌, Ok, refl, sym, ap, subst}
-use Rattle.tree_specs.specs.Pool.{Pool, hooked_row, named_row}
+use Rattle.tree_specs.specs.Pool.{Pool, hooked_row, named_row, sized_row, limited_row}
 use Rattle.references.specs.Rows.{AreRefsOf}
 use Rattle.references.proofs.Rows.{refs-same, same-changed}
 use Rattle.tree_specs.specs.declared.call.Call.{Call}
@@ -33,3 +33,13 @@ pub returns-in-Rename-clause-refs : goal.returns-in-Rename-clause-refs
 returns-in-Rename-clause-refs c =
     subst (AreRefsOf c.args.refs.now.pairs) (sym (ap (λ (p : Pool). p.rows) c.set_name.ensures.rows))
     (refs-same c.args.refs.now.pairs c.args.tree.now.rows _ (same-changed (named_row c.in-Rename.name) c.args.tree.now.rows c.in-Rename.x (λ r. refl) (λ r. refl)) c.requires.refs)
+
+pub returns-in-Resize-clause-refs : goal.returns-in-Resize-clause-refs
+returns-in-Resize-clause-refs c =
+    subst (AreRefsOf c.args.refs.now.pairs) (sym (ap (λ (p : Pool). p.rows) c.set_size.ensures.rows))
+    (refs-same c.args.refs.now.pairs c.args.tree.now.rows _ (same-changed (sized_row c.in-Resize.size) c.args.tree.now.rows c.in-Resize.x (λ r. refl) (λ r. refl)) c.requires.refs)
+
+pub returns-in-Limit-clause-refs : goal.returns-in-Limit-clause-refs
+returns-in-Limit-clause-refs c =
+    subst (AreRefsOf c.args.refs.now.pairs) (sym (ap (λ (p : Pool). p.rows) c.set_limit.ensures.rows))
+    (refs-same c.args.refs.now.pairs c.args.tree.now.rows _ (same-changed (limited_row c.in-Limit.max) c.args.tree.now.rows c.in-Limit.x (λ r. refl) (λ r. refl)) c.requires.refs)

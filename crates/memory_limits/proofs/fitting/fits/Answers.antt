@@ -1,22 +1,26 @@
 use Rattle.std.proofs.Common.{rules, ◌≡◌, Some, Err, sym, ◌∙◌, ap}
 use Rattle.tree_specs.specs.declared.object.Owner.{Owner}
-use Rattle.tree_specs.specs.Calls.{checked, fits_in}
+use Rattle.tree_specs.specs.Calls.{checked, fits_in, fits}
 use Rattle.memory_limits.proofs.Upward.{above-all, far-enough, lacks, topmost}
 use Rattle.memory_limits.proofs.fitting.fits.Goals as goal
 
 pub returns-in_default : goal.returns-in_default
+unfolding fits
 returns-in_default c = sym (above-all c.loop-steps.steps c.args.tree.now.rows c.args.wanted c.loop-steps.at c.in_default.not-Of) ∙ c.loop-steps.invariant
 
 pub returns-in_err-check_one : goal.returns-in_err-check_one
+unfolding fits
 returns-in_err-check_one c =
     let fails : c.from_residual.result ≡ Err c.in_err-check_one.field-0.0 = search rules in
     fails ∙ sym (lacks c.loop-steps.steps c.args.tree.now.rows c.args.wanted c.in-Of.x _ c.loop-steps-test.true (sym c.check_one.ensures ∙ c.in_err-check_one.was))
     ∙ ap (λ (o : Owner). checked (fits_in c.loop-steps.steps c.args.tree.now.rows c.args.wanted (Some o))) (sym c.in-Of.is) ∙ c.loop-steps.invariant
 
 pub returns-in_default-parent : goal.returns-in_default-parent
+unfolding fits
 returns-in_default-parent c =
     sym (topmost c.loop-steps.steps c.args.tree.now.rows c.args.wanted c.in-Of.x c.loop-steps-test.true (sym c.check_one.ensures ∙ c.in_ok-check_one.was) (sym c.parent.ensures ∙ c.in_default-parent.is))
     ∙ ap (λ (o : Owner). checked (fits_in c.loop-steps.steps c.args.tree.now.rows c.args.wanted (Some o))) (sym c.in-Of.is) ∙ c.loop-steps.invariant
 
 pub returns : goal.returns
+unfolding fits
 returns c = sym (far-enough c.loop-steps.steps c.args.tree.now.rows c.args.wanted c.loop-steps.at c.loop-steps-test.false) ∙ c.loop-steps.invariant
