@@ -2,5 +2,9 @@
 #![tactic(auto)]
 
 mod fitting;
+mod limited;
+mod limits;
 
 pub use fitting::fits;
+pub use limited::Limited;
+pub use limits::Sums;

@@ -3,8 +3,9 @@ pub mod Rows
 pub mod Kids
 pub mod Settling
 pub mod Ancestry
-pub mod Attached
 pub mod Rooted
+pub mod Attached
+pub mod SumLaws
 pub mod Walk
 pub mod Referring
 pub mod Heirs

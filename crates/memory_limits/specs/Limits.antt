@@ -1,0 +1,43 @@
+-- Limits as their callers see them, and the sums that are kept beside them.
+use Rattle.std.specs.Prelude.{◌≡◌, ℕ, ◌+◌, ◌-◌, ◌^◌, min, List, [], ◌∷◌, Some, if◌then◌else◌}
+use Rattle.tree_specs.specs.declared.object.Obj.{Obj}
+use Rattle.tree_specs.specs.declared.object.Owner.{Owner}
+use Rattle.tree_specs.specs.declared.object.Owner.TheVariants.{Of}
+use Rattle.tree_specs.specs.declared.row.Row.{Row}
+use Rattle.tree_specs.specs.Objects.{same}
+use Rattle.tree_specs.specs.Pool.{is_inside}
+use Rattle.tree_specs.specs.Sums.{sum_inside, limit_at}
+use Rattle.memory_limits.specs.declared.limited.Limited.{Limited}
+
+pub record Limits : Type 0 where
+  -- the objects with a limit
+  pub limited : List Limited
+  -- so many can be added without taking memory
+  pub spare : ℕ
+
+-- the limit of an object, where 0 is none
+abbrev pub limit_of : List Limited → Obj → ℕ
+limit_of [] x = 0
+limit_of (l ∷ ls) x = if same l.object x then l.limit else limit_of ls x
+
+-- each kept sum is that of what is inside
+abbrev pub AllSums : List Limited → List Row → Type 0
+AllSums [] rs = Unit {0}
+AllSums (l ∷ ls) rs = (l.sum ≡ sum_inside rs (Of l.object)) × AllSums ls rs
+
+-- the limits are those of the rows, and the sums are kept
+pub record AreLimitsOf (ls : List Limited) (rs : List Row) : Type 0 where
+  pub limits : (x : Obj) → limit_of ls x ≡ limit_at rs x
+  pub sums : AllSums ls rs
+
+-- a row below this owner
+abbrev pub owned_row : Owner → Row → Row
+owned_row o r = record r { owner = Some o }
+
+-- what an owner is inside of counts more, where numbers go
+abbrev pub more : List Row → Owner → ℕ → Limited → Limited
+more rs o weight l = if is_inside rs o (Of l.object) then record l { sum = min (l.sum + weight) (2 ^ 64 - 1) } else l
+
+-- what an owner is inside of counts less
+abbrev pub less : List Row → Owner → ℕ → Limited → Limited
+less rs o weight l = if is_inside rs o (Of l.object) then record l { sum = l.sum - weight } else l
