@@ -1,5 +1,5 @@
 -- Limits as their callers see them, and the sums that are kept beside them.
-use Rattle.std.specs.Prelude.{◌≡◌, ℕ, ◌+◌, ◌-◌, ◌^◌, min, List, [], ◌∷◌, Some, if◌then◌else◌}
+use Rattle.std.specs.Prelude.{◌≡◌, ℕ, ◌+◌, ◌-◌, ◌^◌, min, List, [], ◌∷◌, if◌then◌else◌}
 use Rattle.tree_specs.specs.declared.object.Obj.{Obj}
 use Rattle.tree_specs.specs.declared.object.Owner.{Owner}
 use Rattle.tree_specs.specs.declared.object.Owner.TheVariants.{Of}
@@ -29,10 +29,6 @@ AllSums (l ∷ ls) rs = (l.sum ≡ sum_inside rs (Of l.object)) × AllSums ls rs
 pub record AreLimitsOf (ls : List Limited) (rs : List Row) : Type 0 where
   pub limits : (x : Obj) → limit_of ls x ≡ limit_at rs x
   pub sums : AllSums ls rs
-
--- a row below this owner
-abbrev pub owned_row : Owner → Row → Row
-owned_row o r = record r { owner = Some o }
 
 -- what an owner is inside of counts more, where numbers go
 abbrev pub more : List Row → Owner → ℕ → Limited → Limited

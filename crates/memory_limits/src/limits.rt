@@ -1,4 +1,4 @@
-ghost use Rattle.std.specs.Prelude.{◌≡◌, map, false};
+ghost use Rattle.std.specs.Prelude.{◌≡◌, map, vec_capacity};
 ghost use Rattle.memory_limits.specs.Limits.{more as counts_more, less as counts_less};
 
 use crate::limited::Limited;
@@ -20,8 +20,9 @@ fn more(tree: &Tree, owner: Owner, weight: u64, limited: Limited) -> Limited
 }
 
 /// All objects that an owner is inside of do.
-fn add_above(tree: &Tree, owner: Owner, weight: u64, all: &mut [Limited])
-    ensures { all.new ≡ map (counts_more tree.now.rows owner weight) all.old }
+fn add_above(tree: &Tree, owner: Owner, weight: u64, all: &mut Vec<Limited>)
+    ensures items { all.new.items ≡ map (counts_more tree.now.rows owner weight) all.old.items }
+    ensures capacity { vec_capacity all.new ≡ vec_capacity all.old }
 {
     for limited in all.iter_mut() {
         *limited = more(tree, owner, weight, *limited);
@@ -40,8 +41,9 @@ fn less(tree: &Tree, owner: Owner, weight: u64, limited: Limited) -> Limited
 }
 
 /// All objects that an owner is inside of do.
-fn take_above(tree: &Tree, owner: Owner, weight: u64, all: &mut [Limited])
-    ensures { all.new ≡ map (counts_less tree.now.rows owner weight) all.old }
+fn take_above(tree: &Tree, owner: Owner, weight: u64, all: &mut Vec<Limited>)
+    ensures items { all.new.items ≡ map (counts_less tree.now.rows owner weight) all.old.items }
+    ensures capacity { vec_capacity all.new ≡ vec_capacity all.old }
 {
     for limited in all.iter_mut() {
         *limited = less(tree, owner, weight, *limited);
@@ -66,10 +68,10 @@ impl Model for Sums {
 }
 
 impl Sums {
-    ghost use Rattle.std.specs.Prelude.{◌≤◌, [], OnOk};
+    ghost use Rattle.std.specs.Prelude.{◌≤◌, [], OnOk, true, false};
     ghost use Rattle.tree_specs.specs.declared.object.Owner.TheVariants.{Of as At};
-    ghost use Rattle.tree_specs.specs.Pool.{is_inside, changed, left_row};
-    ghost use Rattle.memory_limits.specs.Limits.{AllSums, owned_row};
+    ghost use Rattle.tree_specs.specs.Pool.{is_row, is_inside, changed, left_row, owned_row};
+    ghost use Rattle.memory_limits.specs.Limits.{AllSums};
 
     /// No limits. It takes no memory.
     pub fn new(alloc: Global) -> Sums
@@ -108,6 +110,7 @@ impl Sums {
 
     /// An object has left an owner that isn't inside it, with all that is inside it, to another owner or to none.
     pub fn left(&mut self, tree: &Tree, x: Obj, from: Owner)
+        requires is { is_row tree.now.rows x ≡ true }
         requires apart { is_inside tree.now.rows from (At x) ≡ false }
         requires sums { AllSums self.old.limited (changed (owned_row from) tree.now.rows x) }
         ensures { AllSums self.new.limited (changed left_row tree.now.rows x) }

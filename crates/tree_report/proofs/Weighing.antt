@@ -18,7 +18,7 @@ use Rattle.tree_specs.specs.declared.row.Row.{Row}
 use Rattle.tree_specs.specs.Calls.{size_limit}
 use Rattle.tree_specs.specs.Pool.{kids, is_inside}
 use Rattle.tree_specs.specs.Inside.{total, count_inside}
-use Rattle.tree_specs.specs.Sums.{overhead, charge}
+use Rattle.tree_specs.specs.Sums.{overhead, charge, sum_inside}
 use Rattle.tree_specs.specs.Targets.{is_reference}
 use Rattle.tree_specs.specs.Walks.{walked, weight_in, weight_at, own, total_of}
 use Rattle.tree_specs.proofs.Numbered.{by_test}
@@ -95,6 +95,10 @@ weight-fits g rs next from small t =
     let b = weights-bound g (λ r. is_inside rs (Of r.serial) from) next rs small t.fit in
     let e = whole-weight g rs next from t in
     omega (arith, e, b, t.few)
+
+-- what is inside an owner counts less than numbers go
+pub sum-small : (rs : List Row) (next : ℕ) (from : Owner) → IsTree rs next → sum_inside rs from < 2 ^ 64
+sum-small rs next from t = let b = weights-bound charge (λ r. is_inside rs (Of r.serial) from) next rs charge-small t.fit in omega (arith, b, t.few)
 
 -- ---- what a chain of iterators gives that weighs each place of a walk
 

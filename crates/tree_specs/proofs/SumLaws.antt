@@ -6,15 +6,15 @@ use Rattle.tree_specs.specs.declared.object.Owner.{Owner}
 use Rattle.tree_specs.specs.declared.object.Owner.TheVariants.{Root, Of}
 use Rattle.tree_specs.specs.declared.row.Row.{Row}
 use Rattle.tree_specs.specs.Objects.{same, same_owner}
-use Rattle.tree_specs.specs.Pool.{row_of, owner_in, owner_of, next_owner, reaches, is_inside, changed, left_row}
+use Rattle.tree_specs.specs.Pool.{row_of, owner_in, owner_of, reaches, is_inside, changed, left_row, owned_row}
 use Rattle.tree_specs.specs.Forest.{Rooted, IsForest}
 use Rattle.tree_specs.specs.Inside.{total}
 use Rattle.tree_specs.specs.Sums.{charge, sum_inside}
 use Rattle.tree_specs.proofs.Numbered.{by_test, same_or_not}
 use Rattle.tree_specs.proofs.Rows.{row_of-changed-other, row_of-changed-same, row_of-changed-none, total-changed}
-use Rattle.tree_specs.proofs.Ancestry.{reach-root, reaches-inside, no_way_back}
-use Rattle.tree_specs.proofs.Rooted.{Rooted-left}
-use Rattle.tree_specs.proofs.Attached.{SameWeights, SameOwners, weight-same, attached, own-weight, owner-stays}
+use Rattle.tree_specs.proofs.Ancestry.{reaches-inside, inside-self, inside-owner, no_way_back}
+use Rattle.tree_specs.proofs.Rooted.{Rooted-left, Rooted-below}
+use Rattle.tree_specs.proofs.Attached.{SameWeights, SameOwners, inside-same, weight-same, attached, own-weight, owner-stays}
 
 -- ---- a row is changed
 
@@ -79,3 +79,96 @@ module _ (rs : List Row) (x : Obj) (o : Owner) (rooted : Rooted rs) (below : own
   -- which is the same as where it has left
   pub sum-own : sum_inside rs (Of x) ≡ sum_inside low (Of x)
   sum-own = own-weight low rs x o (λ y ne. owner-other rs x y ne) (owner-left rs x) below (Rooted-left rs x rooted) apart charge weights
+
+-- ---- an object without an owner
+
+-- it leaves nobody
+pub sum-lone : (rs : List Row) (x : Obj) → owner_of rs x ≡ None → (y : Owner) → sum_inside rs y ≡ sum_inside (changed left_row rs x) y
+sum-lone rs x lone y = weight-same charge (changed left_row rs x) rs owners (λ k. sym (changed-weights charge left_row rs x (λ r. refl) (λ r. refl) k)) y
+  where
+    owners : SameOwners (changed left_row rs x) rs
+    owners z = elim (same_or_not x z) [
+      | inl is ↦ subst (λ (v : Obj). owner_of rs v ≡ owner_of (changed left_row rs x) v) is (lone ∙ sym (owner-left rs x))
+      | inr ne ↦ owner-other rs x z ne
+    ]
+
+-- what is inside it is the same wherever it is
+sum-anywhere : (rs : List Row) (x : Obj) → Rooted rs → sum_inside rs (Of x) ≡ sum_inside (changed left_row rs x) (Of x)
+sum-anywhere rs x rooted = each (owner_of rs x) refl
+  where
+    each : (o : Option Owner) → owner_of rs x ≡ o → sum_inside rs (Of x) ≡ sum_inside (changed left_row rs x) (Of x)
+    each None e = sum-lone rs x e (Of x)
+    each (Some o) e = sum-own rs x o rooted e
+
+-- ---- an owner that an object has left
+
+-- a way that doesn't come to x is the same without it
+reach-past : (rs : List Row) (x : Obj) (n : ℕ) (q y : Owner) → is_inside rs q (Of x) ≡ false → reaches n rs (Some q) y ≡ reaches n (changed left_row rs x) (Some q) y
+reach-past rs x zero q y out = refl
+reach-past rs x (suc n) Root y out = refl
+reach-past rs x (suc n) (Of z) y out = ap (λ (b : Bool). same_owner (Of z) y || b) (on (λ q h. reach-past rs x n q y h) (owner_of rs z) refl)
+  where
+    ne : x ≢ z
+    ne e = let back : is_inside rs (Of z) (Of x) ≡ true = subst (λ (v : Obj). is_inside rs (Of z) (Of v) ≡ true) (sym e) (inside-self rs (Of z)) in let bad : true ≡ false = sym back ∙ out in cc
+
+    on : ((q : Owner) → is_inside rs q (Of x) ≡ false → reaches n rs (Some q) y ≡ reaches n (changed left_row rs x) (Some q) y) → (o : Option Owner) → owner_of rs z ≡ o
+        → reaches n rs (owner_of rs z) y ≡ reaches n (changed left_row rs x) (owner_of (changed left_row rs x) z) y
+    on ih None e = ap (λ (o : Option Owner). reaches n rs o y) e ∙ sym (ap (λ (o : Option Owner). reaches n (changed left_row rs x) o y) (sym (owner-other rs x z ne) ∙ e))
+    on ih (Some q) e =
+        let apart : (same_owner (Of z) (Of x) || is_inside rs q (Of x)) ≡ false = sym (inside-owner rs z q (Of x) e) ∙ out in
+        let far : is_inside rs q (Of x) ≡ false = second (same_owner (Of z) (Of x)) (is_inside rs q (Of x)) apart in
+        ap (λ (o : Option Owner). reaches n rs o y) e ∙ ih q far ∙ sym (ap (λ (o : Option Owner). reaches n (changed left_row rs x) o y) (sym (owner-other rs x z ne) ∙ e))
+      where
+        second : (a b : Bool) → (a || b) ≡ false → b ≡ false
+        second true b h = cc
+        second false b h = h
+
+inside-past : (rs : List Row) (x : Obj) (q y : Owner) → is_inside rs q (Of x) ≡ false → is_inside rs q y ≡ is_inside (changed left_row rs x) q y
+inside-past rs x q y out = by_test (is_inside rs q y)
+    (λ t. t ∙ sym (reaches-inside (changed left_row rs x) (length rs) q y (sym (reach-past rs x (length rs) q y out) ∙ t)))
+    (λ t. by_test (is_inside (changed left_row rs x) q y)
+    (λ u. let v : is_inside rs q y ≡ true = reaches-inside rs (length (changed left_row rs x)) q y (reach-past rs x (length (changed left_row rs x)) q y out ∙ u) in v ∙ sym u)
+    (λ u. t ∙ sym u))
+
+-- what an object took from those that its owner was inside of
+module _ (rs : List Row) (x : Obj) (r : Row) (from : Owner) (rooted : Rooted rs) (is : row_of rs x ≡ Some r) (out : is_inside rs from (Of x) ≡ false) where
+  abbrev before : List Row
+  before = changed (owned_row from) rs x
+
+  was-below : owner_of before x ≡ Some from
+  was-below = ap owner_in (row_of-changed-same (owned_row from) rs x r (λ q. refl) is)
+
+  was-other : (y : Obj) → x ≢ y → owner_of before y ≡ owner_of rs y
+  was-other y ne = ap owner_in (row_of-changed-other (owned_row from) rs x y (λ q. refl) ne)
+
+  rooted-before : Rooted before
+  rooted-before = Rooted-below rs before x from was-other rooted was-below out
+
+  left-owners : SameOwners (changed left_row rs x) (changed left_row before x)
+  left-owners y = elim (same_or_not x y) [
+    | inl e ↦ subst (λ (v : Obj). owner_of (changed left_row before x) v ≡ owner_of (changed left_row rs x) v) e (owner-left before x ∙ sym (owner-left rs x))
+    | inr ne ↦ sym (owner-other before x y ne) ∙ was-other y ne ∙ owner-other rs x y ne
+  ]
+
+  left-weights : SameWeights charge (changed left_row rs x) (changed left_row before x)
+  left-weights k =
+      let a = changed-weights charge left_row before x (λ q. refl) (λ q. refl) k in
+      let b = changed-weights charge (owned_row from) rs x (λ q. refl) (λ q. refl) k in
+      let c = changed-weights charge left_row rs x (λ q. refl) (λ q. refl) k in
+      omega (arith, a, b, c)
+
+  left-sum : (y : Owner) → sum_inside (changed left_row before x) y ≡ sum_inside (changed left_row rs x) y
+  left-sum y = weight-same charge (changed left_row rs x) (changed left_row before x) left-owners left-weights y
+
+  inside-before : (y : Owner) → is_inside before from y ≡ is_inside rs from y
+  inside-before y =
+      inside-past before x from y (by_test (is_inside before from (Of x))
+      (λ t. let no : reaches (length before) before (owner_of before x) (Of x) ≡ false = no_way_back before (length before) (suc (length before)) (Of x) (rooted-before (Of x)) in
+      let no' : is_inside before from (Of x) ≡ false = sym (ap (λ (p : Option Owner). reaches (length before) before p (Of x)) was-below) ∙ no in let bad : true ≡ false = sym t ∙ no' in cc)
+      (λ t. t))
+      ∙ inside-same (changed left_row rs x) (changed left_row before x) left-owners from y ∙ sym (inside-past rs x from y out)
+
+  pub sum-before : (y : Owner) → sum_inside before y ≡ sum_inside (changed left_row rs x) y + (if is_inside rs from y then sum_inside rs (Of x) else 0)
+  sum-before y =
+      sum-below before x from rooted-before was-below y
+      ∙ rw (left-sum y, inside-before y, sum-anywhere before x rooted-before ∙ left-sum (Of x) ∙ sym (sum-anywhere rs x rooted)) refl

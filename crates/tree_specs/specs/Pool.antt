@@ -163,6 +163,10 @@ abbrev pub in_front : Option Row → Owner → List Row → List Row
 in_front None o rs = rs
 in_front (Some r) o rs = record r { owner = Some o } ∷ rs
 
+-- a row below this owner
+abbrev pub owned_row : Owner → Row → Row
+owned_row o r = record r { owner = Some o }
+
 -- an object is put below an owner, as its newest child
 abbrev pub place : Pool → Owner → Obj → Pool
 place p o x = record p { rows = in_front (row_of p.rows x) o (without p.rows x) }

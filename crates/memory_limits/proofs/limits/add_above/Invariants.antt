@@ -4,4 +4,4 @@ use Rattle.memory_limits.proofs.limits.add_above.Given as goal
 
 -- those that were met are changed
 abbrev pub invariant-loop-limited : goal.invariant-loop-limited
-invariant-loop-limited l = l.all ≡ map (more l.tree.rows l.owner l.weight) (take l.limited-index l.fn.all) ++ drop l.limited-index l.fn.all
+invariant-loop-limited l = l.limited-items ≡ map (more l.tree.rows l.owner l.weight) (take l.limited-index l.initial.limited-items) ++ drop l.limited-index l.initial.limited-items
