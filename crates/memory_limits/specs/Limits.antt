@@ -1,5 +1,6 @@
 -- Limits as their callers see them, and the sums that are kept beside them.
-use Rattle.std.specs.Prelude.{◌≡◌, ℕ, ◌+◌, ◌-◌, ◌^◌, min, List, [], ◌∷◌, if◌then◌else◌}
+use Rattle.std.specs.Prelude.{◌≡◌, ℕ, ◌+◌, ◌-◌, ◌^◌, min, List, [], ◌∷◌, if◌then◌else◌, not}
+use Rattle.std.specs.List.{filter}
 use Rattle.tree_specs.specs.declared.object.Obj.{Obj}
 use Rattle.tree_specs.specs.declared.object.Owner.{Owner}
 use Rattle.tree_specs.specs.declared.object.Owner.TheVariants.{Of}
@@ -19,6 +20,10 @@ pub record Limits : Type 0 where
 abbrev pub limit_of : List Limited → Obj → ℕ
 limit_of [] x = 0
 limit_of (l ∷ ls) x = if same l.object x then l.limit else limit_of ls x
+
+-- all but this object
+abbrev pub unlimited : List Limited → Obj → List Limited
+unlimited ls x = filter (λ l. not (same l.object x)) ls
 
 -- each kept sum is that of what is inside
 abbrev pub AllSums : List Limited → List Row → Type 0

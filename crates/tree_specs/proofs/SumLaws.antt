@@ -6,15 +6,16 @@ use Rattle.tree_specs.specs.declared.object.Owner.{Owner}
 use Rattle.tree_specs.specs.declared.object.Owner.TheVariants.{Root, Of}
 use Rattle.tree_specs.specs.declared.row.Row.{Row}
 use Rattle.tree_specs.specs.Objects.{same, same_owner}
-use Rattle.tree_specs.specs.Pool.{row_of, owner_in, owner_of, reaches, is_inside, changed, left_row, owned_row}
-use Rattle.tree_specs.specs.Forest.{Rooted, IsForest}
+use Rattle.tree_specs.specs.Pool.{row_of, owner_in, owner_of, reaches, is_inside, changed, without, left_row, owned_row, sized_row}
+use Rattle.tree_specs.specs.Forest.{Rooted, Distinct}
 use Rattle.tree_specs.specs.Inside.{total}
-use Rattle.tree_specs.specs.Sums.{charge, sum_inside}
-use Rattle.tree_specs.proofs.Numbered.{by_test, same_or_not}
-use Rattle.tree_specs.proofs.Rows.{row_of-changed-other, row_of-changed-same, row_of-changed-none, total-changed}
+use Rattle.tree_specs.specs.Targets.{is_reference}
+use Rattle.tree_specs.specs.Sums.{overhead, charge, sum_inside}
+use Rattle.tree_specs.proofs.Numbered.{by_test, same_or_not, same-false}
+use Rattle.tree_specs.proofs.Rows.{row_of-changed-other, row_of-changed-same, row_of-changed-none, row_of-without-same, row_of-without-other, row_of-serial, total-changed, total-without}
 use Rattle.tree_specs.proofs.Ancestry.{reaches-inside, inside-self, inside-owner, no_way_back}
 use Rattle.tree_specs.proofs.Rooted.{Rooted-left, Rooted-below}
-use Rattle.tree_specs.proofs.Attached.{SameWeights, SameOwners, inside-same, weight-same, attached, own-weight, owner-stays}
+use Rattle.tree_specs.proofs.Attached.{SameWeights, SameOwners, inside-same, inside-lone, weight-same, attached, own-weight, owner-stays}
 
 -- ---- a row is changed
 
@@ -172,3 +173,54 @@ module _ (rs : List Row) (x : Obj) (r : Row) (from : Owner) (rooted : Rooted rs)
   sum-before y =
       sum-below before x from rooted-before was-below y
       ∙ rw (left-sum y, inside-before y, sum-anywhere before x rooted-before ∙ left-sum (Of x) ∙ sym (sum-anywhere rs x rooted)) refl
+
+-- ---- another size
+
+-- an object of another size counts so much more or less where it is inside
+pub sum-sized : (rs : List Row) (x : Obj) (r : Row) (size : ℕ) → row_of rs x ≡ Some r → is_reference r.kind ≡ false → (y : Owner)
+    → (sum_inside (changed (sized_row size) rs x) y + (if is_inside rs (Of x) y then r.size else 0) ≡ sum_inside rs y + (if is_inside rs (Of x) y then size else 0))
+    × ((if is_inside rs (Of x) y then size else 0) ≤ sum_inside (changed (sized_row size) rs x) y)
+sum-sized rs x r size is object y =
+    let h : Row → ℕ = λ q. if is_inside rs (Of q.serial) y then charge q else 0 in
+    let t = total-changed h (sized_row size) rs x r is in
+    let least = total-without h rs x r is in
+    let s : r.serial ≡ x = row_of-serial rs x r is in
+    let new : h (sized_row size r) ≡ (if is_inside rs (Of x) y then size + overhead else 0) = rw (s, object) refl in
+    let old : h r ≡ (if is_inside rs (Of x) y then r.size + overhead else 0) = rw (s, object) refl in
+    let e = same-view (changed (sized_row size) rs x) in
+    by_test (is_inside rs (Of x) y)
+    (λ u. let new' = rw u at new in let old' = rw u at old in rw u (omega (arith, t, e, new', old'), omega (arith, t, e, new', old', least)))
+    (λ u. let new' = rw u at new in let old' = rw u at old in rw u (omega (arith, t, e, new', old'), omega arith))
+  where
+    owners : SameOwners rs (changed (sized_row size) rs x)
+    owners z = elim (same_or_not x z) [
+      | inl e ↦ subst (λ (v : Obj). owner_of (changed (sized_row size) rs x) v ≡ owner_of rs v) e (ap owner_in (row_of-changed-same (sized_row size) rs x r (λ q. refl) is) ∙ sym (ap owner_in is))
+      | inr ne ↦ ap owner_in (row_of-changed-other (sized_row size) rs x z (λ q. refl) ne)
+    ]
+
+    same-view : (qs : List Row) → total (λ q. if is_inside (changed (sized_row size) rs x) (Of q.serial) y then charge q else 0) qs ≡ total (λ q. if is_inside rs (Of q.serial) y then charge q else 0) qs
+    same-view [] = refl
+    same-view (q ∷ qs) = let ih = same-view qs in let e = ap (λ (b : Bool). if b then charge q else 0) (inside-same rs (changed (sized_row size) rs x) owners (Of q.serial) y) in omega (arith, ih, e)
+
+-- ---- an object that is no more
+
+-- one without an owner counts for no other
+pub sum-gone : (rs : List Row) (x : Obj) (r : Row) → Distinct rs → row_of rs x ≡ Some r → owner_of rs x ≡ None → (y : Obj) → x ≢ y → sum_inside (without rs x) (Of y) ≡ sum_inside rs (Of y)
+sum-gone rs x r distinct is lone y ne =
+    let h : Row → ℕ = λ q. if is_inside rs (Of q.serial) (Of y) then charge q else 0 in
+    let t = total-without h rs x r is in
+    let s : r.serial ≡ x = row_of-serial rs x r is in
+    let far : is_inside rs (Of x) (Of y) ≡ false = inside-lone rs x (Of y) lone ∙ same-false x y ne in
+    let none : h r ≡ 0 = rw (s, far) refl in
+    let e = same-view (without rs x) in
+    omega (arith, t, none, e)
+  where
+    owners : SameOwners rs (without rs x)
+    owners z = elim (same_or_not x z) [
+      | inl e ↦ subst (λ (v : Obj). owner_of (without rs x) v ≡ owner_of rs v) e (ap owner_in (row_of-without-same rs x distinct) ∙ sym lone)
+      | inr other ↦ ap owner_in (row_of-without-other rs x z other)
+    ]
+
+    same-view : (qs : List Row) → total (λ q. if is_inside (without rs x) (Of q.serial) (Of y) then charge q else 0) qs ≡ total (λ q. if is_inside rs (Of q.serial) (Of y) then charge q else 0) qs
+    same-view [] = refl
+    same-view (q ∷ qs) = let ih = same-view qs in let e = ap (λ (b : Bool). if b then charge q else 0) (inside-same rs (without rs x) owners (Of q.serial) (Of y)) in omega (arith, ih, e)

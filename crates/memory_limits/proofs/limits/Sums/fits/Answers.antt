@@ -1,8 +1,12 @@
-use Rattle.std.proofs.Common.{rules, ◌≡◌, Some, Err, sym, ◌∙◌, ap}
+use Rattle.std.proofs.Common.{rules, ◌≡◌, length, List, [], Some, Err, sym, ◌∙◌, ap, subst}
+use Rattle.tree_specs.specs.Sums.{limit_at}
+use Rattle.memory_limits.specs.declared.limited.Limited.{Limited}
+use Rattle.memory_limits.specs.Limits.{Limits, limit_of}
+use Rattle.memory_limits.proofs.Kept.{unlimited-fits}
 use Rattle.tree_specs.specs.declared.object.Owner.{Owner}
 use Rattle.tree_specs.specs.Calls.{checked, fits_in, fits}
 use Rattle.memory_limits.proofs.Upward.{above-all, far-enough, lacks, topmost}
-use Rattle.memory_limits.proofs.fitting.fits.Goals as goal
+use Rattle.memory_limits.proofs.limits.Sums.fits.Goals as goal
 
 pub returns-in_default : goal.returns-in_default
 unfolding fits
@@ -24,3 +28,10 @@ returns-in_default-parent c =
 pub returns : goal.returns
 unfolding fits
 returns c = sym (far-enough c.loop-steps.steps c.args.tree.now.rows c.args.wanted c.loop-steps.at c.loop-steps-test.false) ∙ c.loop-steps.invariant
+
+pub returns-then-is_empty : goal.returns-then-is_empty
+unfolding fits
+returns-then-is_empty c =
+    let none : c.self.inside.limited.items ≡ [] = search rules in
+    let empty : c.args.self.now.limited ≡ [] = sym (ap (λ (v : Limits). v.limited) c.self.view_is) ∙ none in
+    sym (ap checked (unlimited-fits (length c.args.tree.now.rows) c.args.tree.now.rows c.args.wanted (Some c.args.owner) (λ x. subst (λ (ls : List Limited). limit_of ls x ≡ limit_at c.args.tree.now.rows x) empty (c.requires.limits x))))

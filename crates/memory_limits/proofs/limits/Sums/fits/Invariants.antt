@@ -1,6 +1,6 @@
 use Rattle.std.proofs.Common.{◌≡◌, length, Some}
 use Rattle.tree_specs.specs.Calls.{checked, fits_in}
-use Rattle.memory_limits.proofs.fitting.fits.Given as goal
+use Rattle.memory_limits.proofs.limits.Sums.fits.Given as goal
 
 -- what is left to look at decides
 abbrev pub invariant-loop-steps : goal.invariant-loop-steps
