@@ -1,5 +1,5 @@
 -- The sums stay those of what is inside, where it is told what has changed.
-use Rattle.std.proofs.Common.{◌≡◌, ℕ, zero, suc, ◌+◌, ◌-◌, ◌^◌, ◌<◌, min, List, [], ◌∷◌, ◌++◌, map, Option, Some, None, Ok, Err, true, false, ◌&&◌, nat_lt, if◌then◌else◌, refl, sym, ◌∙◌, ap, arith}
+use Rattle.std.proofs.Common.{◌≡◌, ℕ, zero, suc, ◌+◌, ◌-◌, ◌^◌, ◌<◌, min, List, [], ◌∷◌, ◌++◌, length, map, Option, Some, None, Ok, Err, true, false, ◌&&◌, nat_lt, if◌then◌else◌, refl, sym, ◌∙◌, ap, arith}
 use Rattle.tree_specs.specs.declared.object.Obj.{Obj}
 use Rattle.tree_specs.specs.declared.object.Owner.{Owner}
 use Rattle.tree_specs.specs.declared.object.Owner.TheVariants.{Root, Of}
@@ -186,3 +186,7 @@ limit-added (k ∷ ls) l y =
     (λ t. by_test (same k.object y)
     (λ v. let o : k.object ≡ y = same-true k.object y v in let u : same l.object y ≡ false = same-false l.object y (λ q. let w : same k.object l.object ≡ true = same-equal k.object l.object (o ∙ sym q) in let bad : true ≡ false = sym w ∙ t in cc) in rw (t, u, v) refl)
     (λ v. rw (t, v) ih))
+
+pub no-limits : (ls : List Limited) → length ls ≡ 0 → ls ≡ []
+no-limits [] e = refl
+no-limits (l ∷ ls) e = absurd (omega (arith, e))

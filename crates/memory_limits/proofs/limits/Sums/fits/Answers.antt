@@ -2,7 +2,7 @@ use Rattle.std.proofs.Common.{rules, ◌≡◌, length, List, [], Some, Err, sym
 use Rattle.tree_specs.specs.Sums.{limit_at}
 use Rattle.memory_limits.specs.declared.limited.Limited.{Limited}
 use Rattle.memory_limits.specs.Limits.{Limits, limit_of}
-use Rattle.memory_limits.proofs.Kept.{unlimited-fits}
+use Rattle.memory_limits.proofs.Kept.{unlimited-fits, no-limits}
 use Rattle.tree_specs.specs.declared.object.Owner.{Owner}
 use Rattle.tree_specs.specs.Calls.{checked, fits_in, fits}
 use Rattle.memory_limits.proofs.Upward.{above-all, far-enough, lacks, topmost}
@@ -32,6 +32,7 @@ returns c = sym (far-enough c.loop-steps.steps c.args.tree.now.rows c.args.wante
 pub returns-then-is_empty : goal.returns-then-is_empty
 unfolding fits
 returns-then-is_empty c =
-    let none : c.self.inside.limited.items ≡ [] = search rules in
+    let zero : length c.self.inside.limited.items ≡ 0 = search rules in
+    let none : c.self.inside.limited.items ≡ [] = no-limits c.self.inside.limited.items zero in
     let empty : c.args.self.now.limited ≡ [] = sym (ap (λ (v : Limits). v.limited) c.self.view_is) ∙ none in
     sym (ap checked (unlimited-fits (length c.args.tree.now.rows) c.args.tree.now.rows c.args.wanted (Some c.args.owner) (λ x. subst (λ (ls : List Limited). limit_of ls x ≡ limit_at c.args.tree.now.rows x) empty (c.requires.limits x))))
