@@ -18,7 +18,7 @@ use Rattle.tree_specs.proofs.SumLaws.{sum-below, sum-lone, sum-before, sum-sized
 use Rattle.tree_links.specs.Links.{IsTree}
 use Rattle.tree_report.proofs.Weighing.{sum-small}
 use Rattle.memory_limits.specs.declared.limited.Limited.{Limited}
-use Rattle.memory_limits.specs.Limits.{limit_of, unlimited, AllSums, AreLimitsOf, more, less}
+use Rattle.memory_limits.specs.Limits.{limit_of, unlimited, bound_of, SameBounds, AllBound, AllSums, AreLimitsOf, more, less}
 
 -- a change that says for each sum what it becomes
 changes : (f : Limited → Limited) (rs rs' : List Row) → ((l : Limited) → l.sum ≡ sum_inside rs (Of l.object) → (f l).sum ≡ sum_inside rs' (Of (f l).object)) → (ls : List Limited) → AllSums ls rs → AllSums (map f ls) rs'
@@ -190,3 +190,23 @@ limit-added (k ∷ ls) l y =
 pub no-limits : (ls : List Limited) → length ls ≡ 0 → ls ≡ []
 no-limits [] e = refl
 no-limits (l ∷ ls) e = absurd (omega (arith, e))
+
+-- ---- the limits stay
+
+pub bounds-changed : (f : Limited → Limited) → ((l : Limited) → bound_of (f l) ≡ bound_of l) → (ls : List Limited) → SameBounds ls (map f ls)
+bounds-changed f h [] = refl
+bounds-changed f h (l ∷ ls) = ap (λ (b : Obj × ℕ). b ∷ map bound_of (map f ls)) (h l) ∙ ap (λ (bs : List (Obj × ℕ)). bound_of l ∷ bs) (bounds-changed f h ls)
+
+pub more-bound : (rs : List Row) (o : Owner) (w : ℕ) (l : Limited) → bound_of (more rs o w l) ≡ bound_of l
+more-bound rs o w l = by_test (is_inside rs o (Of l.object)) (λ t. rw t refl) (λ t. rw t refl)
+
+pub less-bound : (rs : List Row) (o : Owner) (w : ℕ) (l : Limited) → bound_of (less rs o w l) ≡ bound_of l
+less-bound rs o w l = by_test (is_inside rs o (Of l.object)) (λ t. rw t refl) (λ t. rw t refl)
+
+pub bound-unlimited : (ls : List Limited) (x : Obj) → AllBound ls → AllBound (unlimited ls x)
+bound-unlimited [] x b = tt
+bound-unlimited (l ∷ ls) x b = let ih = bound-unlimited ls x b.1 in by_test (same l.object x) (λ t. rw t ih) (λ t. rw t (b.0, ih))
+
+pub bound-added : (ls : List Limited) (l : Limited) → AllBound ls → 0 < l.limit → AllBound (ls ++ l ∷ [])
+bound-added [] l b h = (h, tt)
+bound-added (k ∷ ls) l b h = (b.0, bound-added ls l b.1 h)

@@ -1,5 +1,5 @@
 -- Limits as their callers see them, and the sums that are kept beside them.
-use Rattle.std.specs.Prelude.{◌≡◌, ℕ, ◌+◌, ◌-◌, ◌^◌, min, List, [], ◌∷◌, if◌then◌else◌, not}
+use Rattle.std.specs.Prelude.{◌≡◌, ℕ, ◌+◌, ◌-◌, ◌^◌, min, ◌<◌, List, [], ◌∷◌, map, if◌then◌else◌, not}
 use Rattle.std.specs.List.{filter}
 use Rattle.tree_specs.specs.declared.object.Obj.{Obj}
 use Rattle.tree_specs.specs.declared.object.Owner.{Owner}
@@ -25,6 +25,19 @@ limit_of (l ∷ ls) x = if same l.object x then l.limit else limit_of ls x
 abbrev pub unlimited : List Limited → Obj → List Limited
 unlimited ls x = filter (λ l. not (same l.object x)) ls
 
+-- an object and its limit
+abbrev pub bound_of : Limited → Obj × ℕ
+bound_of l = (l.object, l.limit)
+
+-- the same objects have the same limits
+abbrev pub SameBounds : List Limited → List Limited → Type 0
+SameBounds old new = map bound_of new ≡ map bound_of old
+
+-- who is named here has a limit
+abbrev pub AllBound : List Limited → Type 0
+AllBound [] = Unit {0}
+AllBound (l ∷ ls) = (0 < l.limit) × AllBound ls
+
 -- each kept sum is that of what is inside
 abbrev pub AllSums : List Limited → List Row → Type 0
 AllSums [] rs = Unit {0}
@@ -33,6 +46,7 @@ AllSums (l ∷ ls) rs = (l.sum ≡ sum_inside rs (Of l.object)) × AllSums ls rs
 -- the limits are those of the rows, and the sums are kept
 pub record AreLimitsOf (ls : List Limited) (rs : List Row) : Type 0 where
   pub limits : (x : Obj) → limit_of ls x ≡ limit_at rs x
+  pub bound : AllBound ls
   pub sums : AllSums ls rs
 
 -- what an owner is inside of counts more, where numbers go

@@ -93,7 +93,7 @@ impl Sums {
     ghost use Rattle.tree_links.specs.Links.{pool_of};
     ghost use Rattle.tree_specs.specs.declared.object.Owner.TheVariants.{Of as At};
     ghost use Rattle.tree_specs.specs.Pool.{row_of, is_row, is_inside, changed, left_row, owned_row, sized_row};
-    ghost use Rattle.memory_limits.specs.Limits.{AllSums, AreLimitsOf, limit_of, unlimited};
+    ghost use Rattle.memory_limits.specs.Limits.{AllSums, AllBound, SameBounds, AreLimitsOf, limit_of, unlimited};
 
     /// No limits. It takes no memory.
     pub fn new(alloc: Global) -> Sums
@@ -117,7 +117,9 @@ impl Sums {
     /// An object came below its owner, with all that is inside it.
     pub fn joined(&mut self, tree: &Tree, x: Obj)
         requires { AllSums self.old.limited (changed left_row tree.now.rows x) }
-        ensures { AllSums self.new.limited tree.now.rows }
+        ensures sums { AllSums self.new.limited tree.now.rows }
+        ensures bounds { SameBounds self.old.limited self.new.limited }
+        ensures spare { self.new.spare ≡ self.old.spare }
     {
         if self.limited.is_empty() {
             return;
@@ -135,7 +137,9 @@ impl Sums {
         requires is { is_row tree.now.rows x ≡ true }
         requires apart { is_inside tree.now.rows from (At x) ≡ false }
         requires sums { AllSums self.old.limited (changed (owned_row from) tree.now.rows x) }
-        ensures { AllSums self.new.limited (changed left_row tree.now.rows x) }
+        ensures left { AllSums self.new.limited (changed left_row tree.now.rows x) }
+        ensures bounds { SameBounds self.old.limited self.new.limited }
+        ensures spare { self.new.spare ≡ self.old.spare }
     {
         if self.limited.is_empty() {
             return;
@@ -150,7 +154,9 @@ impl Sums {
     pub fn resized(&mut self, tree: &Tree, x: Obj, before: u64)
         requires plain { is_plain_row (row_of tree.now.rows x) ≡ true }
         requires sums { AllSums self.old.limited (changed (sized_row before) tree.now.rows x) }
-        ensures { AllSums self.new.limited tree.now.rows }
+        ensures sums { AllSums self.new.limited tree.now.rows }
+        ensures bounds { SameBounds self.old.limited self.new.limited }
+        ensures spare { self.new.spare ≡ self.old.spare }
     {
         // All that is wanted of `len` is its contract: the objects are small.
         let _rows = tree.len();
@@ -173,6 +179,7 @@ impl Sums {
         requires sums { AllSums self.old.limited tree.now.rows }
         ensures limits { (y : ObjData) → limit_of self.new.limited y ≡ (if same x y then max else limit_of self.old.limited y) }
         ensures sums { AllSums self.new.limited tree.now.rows }
+        ensures bound { AllBound self.old.limited → AllBound self.new.limited }
     {
         self.gone(x);
         if max == 0 {

@@ -1,7 +1,7 @@
-use Rattle.std.proofs.Common.{◌≡◌, List, [], ◌∷◌, ◌++◌, sym, ◌∙◌, ap, subst}
+use Rattle.std.proofs.Common.{rules, ◌≡◌, ◌<◌, List, [], ◌∷◌, ◌++◌, sym, ◌∙◌, ap, subst}
 use Rattle.memory_limits.specs.declared.limited.Limited.{Limited}
-use Rattle.memory_limits.specs.Limits.{Limits, limit_of, unlimited, AllSums}
-use Rattle.memory_limits.proofs.Kept.{kept-unlimited, limit-unlimited, sums-added, limit-added}
+use Rattle.memory_limits.specs.Limits.{Limits, limit_of, unlimited, AllSums, AllBound}
+use Rattle.memory_limits.proofs.Kept.{bound-unlimited, bound-added, kept-unlimited, limit-unlimited, sums-added, limit-added}
 use Rattle.memory_limits.proofs.limits.Sums.set_limit.Goals as goal
 
 pub returns-then-max-eq0-clause-limits : goal.returns-then-max-eq0-clause-limits
@@ -24,3 +24,14 @@ returns-clause-sums c =
     c.push_reserved.ensures.items ∙ ap (λ (v : Limits). v.limited ++ added ∷ []) c.self.view_is ∙ ap (λ (ls : List Limited). ls ++ added ∷ []) c.gone.ensures.limits in
     subst (λ (ls : List Limited). AllSums ls c.args.tree.now.rows) (sym items)
     (sums-added (unlimited c.args.self.now.limited c.args.x) added c.args.tree.now.rows (kept-unlimited c.args.self.now.limited c.args.tree.now.rows c.args.x c.requires.sums) c.sum.ensures)
+
+pub returns-then-max-eq0-clause-bound : goal.returns-then-max-eq0-clause-bound
+returns-then-max-eq0-clause-bound c = λ b. rw c.gone.ensures.limits (bound-unlimited c.args.self.now.limited c.args.x b)
+
+pub returns-clause-bound : goal.returns-clause-bound
+returns-clause-bound c = λ b.
+    let added : Limited = record { object = c.args.x; limit = c.args.max; sum = c.sum.result } in
+    let items : c.push_reserved.new.self.items ≡ unlimited c.args.self.now.limited c.args.x ++ added ∷ [] =
+    c.push_reserved.ensures.items ∙ ap (λ (v : Limits). v.limited ++ added ∷ []) c.self.view_is ∙ ap (λ (ls : List Limited). ls ++ added ∷ []) c.gone.ensures.limits in
+    let above : 0 < c.args.max = search rules in
+    subst AllBound (sym items) (bound-added (unlimited c.args.self.now.limited c.args.x) added (bound-unlimited c.args.self.now.limited c.args.x b) above)
