@@ -28,17 +28,18 @@ use Rattle.tree_specs.proofs.Numbered.{by_test, is_below-some}
 use Rattle.tree_specs.proofs.Referring.{newest-refers, newest-of-refers}
 use Rattle.tree_specs.proofs.Changes.{dying-row, claim-here}
 use Rattle.destructors.specs.Frees.{OpenFrees, answered, moved, moves, next_of, Silently, Still, On, Steps}
-use Rattle.destructors.specs.Works.{AtWork, IsAtWork}
+use Rattle.destructors.specs.Works.{AtWork, IsAtWork, GoesOn}
 use Rattle.destructors.specs.Moves.{FreeRests}
 use Rattle.destructors.specs.Changes.{bare, SameRows, ChangedBy}
-use Rattle.destructors.proofs.Keeping.{rests, kept}
+use Rattle.destructors.proofs.Keeping.{rests, kept, told-kept}
+use Rattle.destructors.proofs.Settling.{awaiting-speaks, still}
 
 -- what a move does
 abbrev pub MoveChanges : FreeMove → List Row → Type 0
 MoveChanges (Do.Done a q) rs = SameRows rs q.rows
 MoveChanges (Do.Go f q) rs = SameRows rs q.rows
 MoveChanges (Do.Emit t f q) rs = ChangedBy t rs q.rows
-MoveChanges (Do.Wait t f q) rs = SameRows rs q.rows
+MoveChanges (Do.Wait t f q) rs = ChangedBy t rs q.rows
 MoveChanges (Do.Call g f q) rs = SameRows rs q.rows
 
 bare-changed : (f : Row → Row) → ((r : Row) → bare (f r) ≡ bare r) → (rs : List Row) (x : Obj) → SameRows rs (changed f rs x)
@@ -139,3 +140,98 @@ module _ (p : Pool) (fs : List Frame) where
   move-changes (Trying x c noted purpose) s = absurd s.rests
   move-changes (Tried x c noted purpose a) s = hands x c noted purpose a s
   move-changes (Ending a) s = refl
+
+-- ---- a move of the open frees
+
+quiet-rows : (m : FreeMove) (fs : List FreeFrame) (rs : List Row) (s : OpenFrees) → MoveChanges m rs → moved m fs ≡ (None, s) → SameRows rs s.pool.rows
+quiet-rows (Do.Done a q) fs rs s c e = c' fs e
+  where
+    c' : (fs : List FreeFrame) → answered a q fs ≡ (None, s) → SameRows rs s.pool.rows
+    c' [] e = let bad : Some (Done a) ≡ None = ap (λ (z : Option FreeStep × OpenFrees). z.0) e in cc
+    c' (Hooked x h ∷ fs) e = let bad : Some (Done a) ≡ None = ap (λ (z : Option FreeStep × OpenFrees). z.0) e in cc
+    c' (Unlinking o x ∷ fs) e = subst (λ (z : OpenFrees). SameRows rs z.pool.rows) (ap (λ (z : Option FreeStep × OpenFrees). z.1) e) c
+    c' (Releasing x ∷ fs) e = subst (λ (z : OpenFrees). SameRows rs z.pool.rows) (ap (λ (z : Option FreeStep × OpenFrees). z.1) e) c
+    c' (Giving x o ∷ fs) e = subst (λ (z : OpenFrees). SameRows rs z.pool.rows) (ap (λ (z : Option FreeStep × OpenFrees). z.1) e) c
+    c' (Beginning x ∷ fs) e = subst (λ (z : OpenFrees). SameRows rs z.pool.rows) (ap (λ (z : Option FreeStep × OpenFrees). z.1) e) c
+    c' (Judged x h v ∷ fs) e = subst (λ (z : OpenFrees). SameRows rs z.pool.rows) (ap (λ (z : Option FreeStep × OpenFrees). z.1) e) c
+    c' (Leaving x h ∷ fs) e = subst (λ (z : OpenFrees). SameRows rs z.pool.rows) (ap (λ (z : Option FreeStep × OpenFrees). z.1) e) c
+    c' (Looping x purpose ∷ fs) e = subst (λ (z : OpenFrees). SameRows rs z.pool.rows) (ap (λ (z : Option FreeStep × OpenFrees). z.1) e) c
+    c' (Trying x d noted purpose ∷ fs) e = subst (λ (z : OpenFrees). SameRows rs z.pool.rows) (ap (λ (z : Option FreeStep × OpenFrees). z.1) e) c
+    c' (Tried x d noted purpose b ∷ fs) e = subst (λ (z : OpenFrees). SameRows rs z.pool.rows) (ap (λ (z : Option FreeStep × OpenFrees). z.1) e) c
+    c' (Ending b ∷ fs) e = subst (λ (z : OpenFrees). SameRows rs z.pool.rows) (ap (λ (z : Option FreeStep × OpenFrees). z.1) e) c
+quiet-rows (Do.Go f q) fs rs s c e = subst (λ (z : OpenFrees). SameRows rs z.pool.rows) (ap (λ (z : Option FreeStep × OpenFrees). z.1) e) c
+quiet-rows (Do.Emit t f q) fs rs s c e = let bad : Some t ≡ None = ap (λ (z : Option FreeStep × OpenFrees). z.0) e in cc
+quiet-rows (Do.Wait t f q) fs rs s c e = let bad : Some t ≡ None = ap (λ (z : Option FreeStep × OpenFrees). z.0) e in cc
+quiet-rows (Do.Call g h q) fs rs s c e = subst (λ (z : OpenFrees). SameRows rs z.pool.rows) (ap (λ (z : Option FreeStep × OpenFrees). z.1) e) c
+
+told-by : (rs : List Row) (told : Option FreeStep) (mid : OpenFrees) (t : FreeStep) (s : OpenFrees) → ((u : FreeStep) → told ≡ Some u → ChangedBy u rs mid.pool.rows) → (let z : Option FreeStep × OpenFrees = (told, mid) in z) ≡ (Some t, s) → ChangedBy t rs s.pool.rows
+told-by rs told mid t s h e = subst (λ (z : OpenFrees). ChangedBy t rs z.pool.rows) (ap (λ (z : Option FreeStep × OpenFrees). z.1) e) (h t (ap (λ (z : Option FreeStep × OpenFrees). z.0) e))
+
+told-rows : (m : FreeMove) (fs : List FreeFrame) (rs : List Row) (t : FreeStep) (s : OpenFrees) → MoveChanges m rs → moved m fs ≡ (Some t, s) → ChangedBy t rs s.pool.rows
+told-rows (Do.Done a q) fs rs t s c e = c' fs e
+  where
+    over : (told : Option FreeStep) → told ≡ Some (Done a) → (mid : OpenFrees) → mid.pool ≡ q → (let z : Option FreeStep × OpenFrees = (told, mid) in z) ≡ (Some t, s) → ChangedBy t rs s.pool.rows
+    over told is mid pool e = told-by rs told mid t s (λ u v. let w : Some (Done a) ≡ Some u = sym is ∙ v in let w' : Done a ≡ u = cc in subst (λ (z : FreeStep). ChangedBy z rs mid.pool.rows) w' (rw pool c)) e
+
+    none : (mid : OpenFrees) → (let z : Option FreeStep × OpenFrees = (None, mid) in z) ≡ (Some t, s) → ChangedBy t rs s.pool.rows
+    none mid e = let bad : None ≡ Some t = ap (λ (z : Option FreeStep × OpenFrees). z.0) e in cc
+
+    c' : (fs : List FreeFrame) → answered a q fs ≡ (Some t, s) → ChangedBy t rs s.pool.rows
+    c' [] e = over (Some (Done a)) refl _ refl e
+    c' (Hooked x h ∷ fs) e = over (Some (Done a)) refl _ refl e
+    c' (Unlinking o x ∷ fs) e = none _ e
+    c' (Releasing x ∷ fs) e = none _ e
+    c' (Giving x o ∷ fs) e = none _ e
+    c' (Beginning x ∷ fs) e = none _ e
+    c' (Judged x h v ∷ fs) e = none _ e
+    c' (Leaving x h ∷ fs) e = none _ e
+    c' (Looping x purpose ∷ fs) e = none _ e
+    c' (Trying x d noted purpose ∷ fs) e = none _ e
+    c' (Tried x d noted purpose b ∷ fs) e = none _ e
+    c' (Ending b ∷ fs) e = none _ e
+told-rows (Do.Go f q) fs rs t s c e = let bad : None ≡ Some t = ap (λ (z : Option FreeStep × OpenFrees). z.0) e in cc
+told-rows (Do.Emit u f q) fs rs t s c e = told-by rs (Some u) _ t s (λ v w. let w' : u ≡ v = cc in subst (λ (z : FreeStep). ChangedBy z rs q.rows) w' c) e
+told-rows (Do.Wait u f q) fs rs t s c e = told-by rs (Some u) _ t s (λ v w. let w' : u ≡ v = cc in subst (λ (z : FreeStep). ChangedBy z rs q.rows) w' c) e
+told-rows (Do.Call g h q) fs rs t s c e = let bad : None ≡ Some t = ap (λ (z : Option FreeStep × OpenFrees). z.0) e in cc
+
+-- ---- one step after another
+
+silent-rows : (s t : OpenFrees) → IsAtWork s → Silently s t → IsAtWork t × SameRows s.pool.rows t.pool.rows
+silent-rows s _ w Still = (w, refl)
+silent-rows s t w (On u _ earlier last) = let a = silent-rows s u w earlier in each u.works a.0 a.1 last
+  where
+    each : (works : List FreeFrame) → AtWork works u.pool → SameRows s.pool.rows u.pool.rows → moves works u.pool ≡ (None, t) → IsAtWork t × SameRows s.pool.rows t.pool.rows
+    each [] v b e = absurd v
+    each (f ∷ fs) v b e = (kept f fs u.pool t v e, quiet-rows (free_step f u.pool) fs u.pool.rows t (move-changes u.pool _ f v.1.sound) e ∙ b)
+
+then-same : (t : FreeStep) (rs mid new : List Row) → ChangedBy t rs mid → SameRows mid new → ChangedBy t rs new
+then-same (Ask x) rs mid new c e = e ∙ c
+then-same (Dropped r target) rs mid new c e = (c.0, e ∙ c.1)
+then-same (Refused x v) rs mid new c e = e ∙ c
+then-same (Accepted x) rs mid new c e = e ∙ c
+then-same (Left x from) rs mid new c e = (c.0, e ∙ c.1)
+then-same (Moved x from o) rs mid new c e = (c.0, c.1, e ∙ c.2)
+then-same (Gone x h) rs mid new c e = (c.0, c.1, e ∙ c.2)
+then-same (Done a) rs mid new c e = e ∙ c
+
+-- what follows a move that told something
+settled-rows : (t : FreeStep) (mid new : OpenFrees) → GoesOn t mid → Silently mid new → SameRows mid.pool.rows new.pool.rows
+settled-rows (Ask x) mid new g on = ap (λ (z : OpenFrees). map bare z.pool.rows) (sym (still mid new on (awaiting-speaks mid g)))
+settled-rows (Dropped r target) mid new g on = (silent-rows mid new g on).1
+settled-rows (Refused x v) mid new g on = (silent-rows mid new g on).1
+settled-rows (Accepted x) mid new g on = (silent-rows mid new g on).1
+settled-rows (Left x from) mid new g on = (silent-rows mid new g on).1
+settled-rows (Moved x from o) mid new g on = (silent-rows mid new g on).1
+settled-rows (Gone x h) mid new g on = (silent-rows mid new g on).1
+settled-rows (Done a) mid new g on = ap (λ (z : OpenFrees). map bare z.pool.rows) (sym (still mid new on (awaiting-speaks mid g)))
+
+pub step-changes : (old new : OpenFrees) (t : FreeStep) → IsAtWork old → Steps old t new → ChangedBy t old.pool.rows new.pool.rows
+step-changes old new t w s = each old.works w s
+  where
+    each : (works : List FreeFrame) → AtWork works old.pool → Steps (record { works = works; pool = old.pool }) t new → ChangedBy t old.pool.rows new.pool.rows
+    each [] v st = absurd v
+    each (f ∷ fs) v st =
+        let mid : OpenFrees = (moves (f ∷ fs) old.pool).1 in
+        let e : moves (f ∷ fs) old.pool ≡ (Some t, mid) = ap (λ (z : Option FreeStep). let y : Option FreeStep × OpenFrees = (z, mid) in y) st.tells in
+        then-same t old.pool.rows mid.pool.rows new.pool.rows (told-rows (free_step f old.pool) fs old.pool.rows t mid (move-changes old.pool _ f v.1.sound) e)
+        (settled-rows t mid new (told-kept f fs old.pool t mid v e) st.moves_on)
