@@ -65,6 +65,7 @@ impl FreeEngine {
     ghost use Rattle.tree_specs.specs.Pool.{target_at};
     ghost use Rattle.references.specs.Rows.{AreRefsOf};
     ghost use Rattle.destructors.specs.Moves.{IsLiveRow};
+    ghost use Rattle.destructors.specs.Changes.{ChangedBy};
     ghost use Rattle.destructors.specs.Engine.{IsAsked, AreKept, HasRoom};
 
     /// An engine with no open free.
@@ -185,6 +186,8 @@ impl FreeEngine {
         requires room { HasRoom self.old tree.old }
         requires refs { AreRefsOf refs.old.pairs tree.old.rows }
         ensures steps { Steps (frees_of self.old tree.old) result (frees_of self.new tree.new) }
+        // What it has done to the rows, but for marks and destructors, which is for those who keep books of their own.
+        ensures changed { ChangedBy result tree.old.rows tree.new.rows }
         ensures goes_on { GoesOn result (frees_of self.new tree.new) }
         ensures kept { AreKept self.new tree.new }
         ensures room { HasRoom self.new tree.new }
