@@ -7,3 +7,4 @@ pub mod Calling
 pub mod Stepping
 pub mod Offering
 pub mod Nexts
+pub mod Counted

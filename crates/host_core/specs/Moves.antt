@@ -24,6 +24,11 @@ use Rattle.tree_specs.specs.Pool.{Pool, target_at, is_owner}
 use Rattle.tree_links.specs.Links.{MayPlace}
 use Rattle.tree_specs.specs.Items.{Item}
 use Rattle.tree_specs.specs.Story.{later}
+use Rattle.tree_specs.specs.declared.free_step.FreeStep.{FreeStep}
+use Rattle.tree_specs.specs.Forest.{IsForest}
+use Rattle.memory_limits.specs.declared.limited.Limited.{Limited}
+use Rattle.memory_limits.specs.Limits.{AreLimitsOf}
+use Rattle.destructors.specs.Changes.{ChangedBy}
 use Rattle.host_core.specs.declared.motion.Motion.{Motion}
 use Rattle.host_core.specs.declared.motion.Motion.TheVariants.{Goes, Frees, Unlinks, Empties}
 use Rattle.host_core.specs.declared.brief.Brief.{Brief}
@@ -79,3 +84,10 @@ call_of (input.Act (act.Ret v)) = None
 abbrev pub reported : Option Call → Option Owner
 reported None = None
 reported (Some c) = report_of c
+
+-- the limits and sums were those of the rows before this step of a free
+pub record WasCounted (t : FreeStep) (ls : List Limited) (rs' : List Row) : Type 0 where
+  pub rows : List Row
+  pub forest : IsForest rows
+  pub were : AreLimitsOf ls rows
+  pub changed : ChangedBy t rows rs'

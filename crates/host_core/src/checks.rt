@@ -4,9 +4,10 @@ ghost use Rattle.tree_specs.specs.Calls.{◌before◌, small, owner, object, pla
 ghost use Rattle.tree_specs.specs.Sums.{overhead, size_at};
 ghost use Rattle.tree_links.specs.Links.{pool_of};
 ghost use Rattle.references.specs.Rows.{AreRefsOf};
+ghost use Rattle.memory_limits.specs.Limits.{AreLimitsOf};
 ghost use Rattle.tree_specs.specs.Calls.{checked};
 
-use memory_limits::fits;
+use memory_limits::Sums;
 use references::Refs;
 use tree_links::Tree;
 use tree_report::OVERHEAD;
@@ -236,21 +237,23 @@ fn check_reference(o: Owner, x: Obj, tree: &Tree) -> Result<(), Refusal>
 
 /// There is room for an object of this size.
 #[tactic(auto, using(crate::proofs::Allowed::refused_first, crate::proofs::Allowed::allowed_first))]
-fn check_added(o: Owner, size: u64, tree: &Tree) -> Result<(), Refusal>
-    requires { size < size_limit }
+fn check_added(o: Owner, size: u64, tree: &Tree, sums: &Sums) -> Result<(), Refusal>
+    requires small { size < size_limit }
+    requires limits { AreLimitsOf sums.now.limited tree.now.rows }
     ensures { result ≡ checked (room (pool_of tree.now) 1 before fitting (pool_of tree.now) o (size + overhead)) }
 {
     check_room(tree)?;
-    fits(tree, o, size + OVERHEAD)
+    sums.fits(tree, o, size + OVERHEAD)
 }
 
 #[tactic(auto, using(crate::proofs::Allowed::refused_first, crate::proofs::Allowed::allowed_first))]
-fn check_new(o: Owner, size: u64, tree: &Tree) -> Result<(), Refusal>
+fn check_new(o: Owner, size: u64, tree: &Tree, sums: &Sums) -> Result<(), Refusal>
+    requires { AreLimitsOf sums.now.limited tree.now.rows }
     ensures { result ≡ checked (small size before owner (pool_of tree.now) o before room (pool_of tree.now) 1 before fitting (pool_of tree.now) o (size + overhead)) }
 {
     check_size(size)?;
     check_owner(o, tree)?;
-    check_added(o, size, tree)
+    check_added(o, size, tree, sums)
 }
 
 /// An object to which there is a reference keeps its size.
@@ -265,49 +268,53 @@ fn check_unreferenced(x: Obj, tree: &Tree, refs: &Refs) -> Result<(), Refusal>
 }
 
 /// The size of an object in bytes, and 0 where there is none.
-fn size_of(x: Obj, tree: &Tree) -> u64
+pub fn size_of(x: Obj, tree: &Tree) -> u64
     ensures { result ≡ size_at tree.now.rows x }
 {
     tree.row(x).map_or(0, |row| row.size)
 }
 
 /// Where an object grows, the growth fits.
-fn check_growing(x: Obj, size: u64, tree: &Tree) -> Result<(), Refusal>
+fn check_growing(x: Obj, size: u64, tree: &Tree, sums: &Sums) -> Result<(), Refusal>
+    requires { AreLimitsOf sums.now.limited tree.now.rows }
     ensures { result ≡ checked (growing (pool_of tree.now) x size) }
 {
     let before = size_of(x, tree);
     if before < size {
-        return fits(tree, Owner::Of(x), size - before);
+        return sums.fits(tree, Owner::Of(x), size - before);
     }
     Ok(())
 }
 
 #[tactic(auto, using(crate::proofs::Allowed::refused_first, crate::proofs::Allowed::allowed_first))]
-fn check_larger(x: Obj, size: u64, tree: &Tree) -> Result<(), Refusal>
+fn check_larger(x: Obj, size: u64, tree: &Tree, sums: &Sums) -> Result<(), Refusal>
+    requires { AreLimitsOf sums.now.limited tree.now.rows }
     ensures { result ≡ checked (staying (pool_of tree.now) x before growing (pool_of tree.now) x size) }
 {
     check_staying(x, tree)?;
-    check_growing(x, size, tree)
+    check_growing(x, size, tree, sums)
 }
 
 #[tactic(auto, using(crate::proofs::Allowed::refused_first, crate::proofs::Allowed::allowed_first))]
-fn check_sized(x: Obj, size: u64, tree: &Tree, refs: &Refs) -> Result<(), Refusal>
-    requires { AreRefsOf refs.now.pairs tree.now.rows }
+fn check_sized(x: Obj, size: u64, tree: &Tree, refs: &Refs, sums: &Sums) -> Result<(), Refusal>
+    requires refs { AreRefsOf refs.now.pairs tree.now.rows }
+    requires limits { AreLimitsOf sums.now.limited tree.now.rows }
     ensures { result ≡ checked (plain (pool_of tree.now) x before unreferenced (pool_of tree.now) x before staying (pool_of tree.now) x before growing (pool_of tree.now) x size) }
 {
     check_plain(x, tree)?;
     check_unreferenced(x, tree, refs)?;
-    check_larger(x, size, tree)
+    check_larger(x, size, tree, sums)
 }
 
 #[tactic(auto, using(crate::proofs::Allowed::refused_first, crate::proofs::Allowed::allowed_first))]
-fn check_resize(x: Obj, size: u64, tree: &Tree, refs: &Refs) -> Result<(), Refusal>
-    requires { AreRefsOf refs.now.pairs tree.now.rows }
+fn check_resize(x: Obj, size: u64, tree: &Tree, refs: &Refs, sums: &Sums) -> Result<(), Refusal>
+    requires refs { AreRefsOf refs.now.pairs tree.now.rows }
+    requires limits { AreLimitsOf sums.now.limited tree.now.rows }
     ensures { result ≡ checked (small size before object (pool_of tree.now) x before plain (pool_of tree.now) x before unreferenced (pool_of tree.now) x before staying (pool_of tree.now) x before growing (pool_of tree.now) x size) }
 {
     check_size(size)?;
     check_object(x, tree)?;
-    check_sized(x, size, tree, refs)
+    check_sized(x, size, tree, refs, sums)
 }
 
 #[tactic(auto, using(crate::proofs::Allowed::refused_first, crate::proofs::Allowed::allowed_first))]
@@ -328,17 +335,18 @@ fn check_parent(x: Obj, tree: &Tree) -> Result<(), Refusal>
 }
 
 /// Whether a call is allowed, and else its first refusal.
-pub fn check(call: &Call, tree: &Tree, refs: &Refs) -> Result<(), Refusal>
-    requires { AreRefsOf refs.now.pairs tree.now.rows }
+pub fn check(call: &Call, tree: &Tree, refs: &Refs, sums: &Sums) -> Result<(), Refusal>
+    requires refs { AreRefsOf refs.now.pairs tree.now.rows }
+    requires limits { AreLimitsOf sums.now.limited tree.now.rows }
     ensures { result ≡ checked (refusals (pool_of tree.now) call.now) }
 {
     match call {
-        Call::New { owner, size, .. } => check_new(*owner, *size, tree),
+        Call::New { owner, size, .. } => check_new(*owner, *size, tree, sums),
         Call::Free { x } => check_free(*x, tree, refs),
         Call::Freekids { x } | Call::Rename { x, .. } | Call::Limit { x, .. } => {
             check_object(*x, tree)
         }
-        Call::Resize { x, size } => check_resize(*x, *size, tree, refs),
+        Call::Resize { x, size } => check_resize(*x, *size, tree, refs, sums),
         Call::Steal { owner, x } | Call::Move { owner, x } => check_placing(*owner, *x, tree),
         Call::Reparent { from, to, x } => check_reparent(*from, *to, *x, tree, refs),
         Call::Reference { owner, x } => check_reference(*owner, *x, tree),

@@ -25,7 +25,7 @@ changes : (f : Limited → Limited) (rs rs' : List Row) → ((l : Limited) → l
 changes f rs rs' h [] s = tt
 changes f rs rs' h (l ∷ ls) s = (h l s.0, changes f rs rs' h ls s.1)
 
-same-sums : (rs rs' : List Row) → ((y : Owner) → sum_inside rs' y ≡ sum_inside rs y) → (ls : List Limited) → AllSums ls rs → AllSums ls rs'
+pub same-sums : (rs rs' : List Row) → ((y : Owner) → sum_inside rs' y ≡ sum_inside rs y) → (ls : List Limited) → AllSums ls rs → AllSums ls rs'
 same-sums rs rs' h [] s = tt
 same-sums rs rs' h (l ∷ ls) s = (s.0 ∙ sym (h (Of l.object)), same-sums rs rs' h ls s.1)
 

@@ -76,7 +76,7 @@ module _ (low rs : List Row) (x : Obj) (o : Owner) (but : (y : Obj) → x ≢ y 
       by-owner ih ne (Some p) f =
           rw (inside-owner rs z p y (but z ne ∙ f), inside-owner low z p y f, inside-owner low z p (Of x) f, other ne, ih p (sym (ap (ends n low) f) ∙ e)) (by_test (same_owner (Of z) y) (λ t. rw t refl) (λ t. rw t refl))
 
-  any-split : (q y : Owner) → is_inside rs q y ≡ (is_inside low q y || (is_inside low q (Of x) && is_inside rs o y))
+  pub any-split : (q y : Owner) → is_inside rs q y ≡ (is_inside low q y || (is_inside low q (Of x) && is_inside rs o y))
   any-split q y = split (suc (length low)) q (rooted q) y
 
   -- the new owner is inside what it was inside of

@@ -27,18 +27,18 @@ changed-weights g f (r ∷ rs) x k w h = by_test (same r.serial x)
     (λ t. let ih = changed-weights g f rs x k w h in rw t (omega (arith, ih)))
 
 -- the owner of an object in the rows where it has left
-owner-left : (rs : List Row) (x : Obj) → owner_of (changed left_row rs x) x ≡ None
+pub owner-left : (rs : List Row) (x : Obj) → owner_of (changed left_row rs x) x ≡ None
 owner-left rs x = each (row_of rs x) refl
   where
     each : (q : Option Row) → row_of rs x ≡ q → owner_of (changed left_row rs x) x ≡ None
     each None e = ap owner_in (row_of-changed-none left_row rs x x (λ r. refl) e)
     each (Some r) e = ap owner_in (row_of-changed-same left_row rs x r (λ q. refl) e)
 
-owner-other : (rs : List Row) (x y : Obj) → x ≢ y → owner_of rs y ≡ owner_of (changed left_row rs x) y
+pub owner-other : (rs : List Row) (x y : Obj) → x ≢ y → owner_of rs y ≡ owner_of (changed left_row rs x) y
 owner-other rs x y ne = sym (ap owner_in (row_of-changed-other left_row rs x y (λ r. refl) ne))
 
 -- where it has left one comes no further
-reach-left : (rs : List Row) (x : Obj) (n : ℕ) (o : Option Owner) (y : Owner) → reaches n (changed left_row rs x) o y ≡ true → reaches n rs o y ≡ true
+pub reach-left : (rs : List Row) (x : Obj) (n : ℕ) (o : Option Owner) (y : Owner) → reaches n (changed left_row rs x) o y ≡ true → reaches n rs o y ≡ true
 reach-left rs x n None y h = h
 reach-left rs x zero (Some o) y h = h
 reach-left rs x (suc n) (Some Root) y h = h
@@ -58,7 +58,7 @@ module _ (rs : List Row) (x : Obj) (o : Owner) (rooted : Rooted rs) (below : own
   abbrev low : List Row
   low = changed left_row rs x
 
-  apart : is_inside low o (Of x) ≡ false
+  pub apart : is_inside low o (Of x) ≡ false
   apart = by_test (is_inside low o (Of x))
       (λ t. let back : is_inside rs o (Of x) ≡ true = reaches-inside rs (length low) o (Of x) (reach-left rs x (length low) (Some o) (Of x) t) in
       let no : reaches (length rs) rs (owner_of rs x) (Of x) ≡ false = no_way_back rs (length rs) (suc (length rs)) (Of x) (rooted (Of x)) in
