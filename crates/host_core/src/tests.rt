@@ -11,7 +11,6 @@ use tree_specs::{Act, Ask, Call, Event, Input, Moment, Name, Obj, Owner, Reply, 
 mod freeing;
 mod holding;
 mod hooks;
-mod lookups;
 mod questions;
 mod reports;
 mod sums;
@@ -53,12 +52,6 @@ fn free(number: u64) -> Input
     ensures { IsTrue (is_sound result) }
 {
     Input::Call(Call::Free { x: Obj(number) })
-}
-
-fn freekids(number: u64) -> Input
-    ensures { IsTrue (is_sound result) }
-{
-    Input::Call(Call::Freekids { x: Obj(number) })
 }
 
 fn total(number: u64) -> Input
@@ -103,18 +96,6 @@ fn hook(number: u64, routine: u32) -> Input
         x: Obj(number),
         routine,
     })
-}
-
-fn unhook(number: u64) -> Input
-    ensures { IsTrue (is_sound result) }
-{
-    Input::Call(Call::Unhook { x: Obj(number) })
-}
-
-fn parent(number: u64) -> Input
-    ensures { IsTrue (is_sound result) }
-{
-    Input::Call(Call::Parent { x: Obj(number) })
 }
 
 // The same call, where a routine does it.
