@@ -12,9 +12,10 @@ use std::marker::Model;
 use tree_links::Tree;
 use tree_specs::{FreeFrame, FreeStep, Obj, Owner, Purpose};
 
-/// Frees in progress on a tree and the references in it, as `talloc_free` and `talloc_unlink` go, with the runs of destructors left to the caller. Begins
-/// nest: while a destructor runs, further frees may begin and end. Contracts see the innermost work of the open
-/// frees; those that wait for it stand in the tree, and contracts see both as one list (`frees_of`).
+/// Frees in progress on a tree and the references in it, as `talloc_free` and `talloc_unlink` go, with the runs of
+/// destructors left to the caller. Begins nest: while a destructor runs, further frees may begin and end. Contracts see
+/// the innermost work of the open frees; those that wait for it stand in the tree, and contracts see both as one list
+/// (`frees_of`).
 ///
 /// The engine takes no memory: `Tree::reserve` takes the room for its works. Between a step that asks and the
 /// answer, the caller may do with the tree what keeps that the open frees await him (`IsAwaiting`).
