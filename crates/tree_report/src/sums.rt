@@ -1,8 +1,9 @@
 ghost use Rattle.std.specs.Prelude.{◌≡◌};
 ghost use Rattle.std.specs.Option.{option_copied};
 ghost use Rattle.tree_specs.specs.Inside.{size_inside, count_inside};
-ghost use Rattle.tree_specs.specs.Walks.{weight_in};
-ghost use Rattle.tree_report.specs.Weights.{own_row, sized, counted};
+ghost use Rattle.tree_specs.specs.Walks.{own_row, own};
+ghost use Rattle.tree_specs.specs.Sums.{charge, sum_inside};
+ghost use Rattle.tree_report.specs.Weights.{sized, counted};
 
 use crate::walk::Walk;
 use tree_links::Tree;
@@ -20,19 +21,40 @@ fn row_of(tree: &Tree, owner: Owner) -> Option<&Row>
 
 /// The size of an object in bytes, and 0 elsewhere.
 fn own_size(tree: &Tree, owner: Owner) -> u64
-    ensures { result ≡ weight_in sized (own_row tree.now.rows owner) }
+    ensures { result ≡ own sized tree.now.rows owner }
 {
     row_of(tree, owner).map_or(0, |row| row.size)
 }
 
 /// 1 for an object that is no reference, and 0 elsewhere.
 fn own_count(tree: &Tree, owner: Owner) -> u64
-    ensures { result ≡ weight_in counted (own_row tree.now.rows owner) }
+    ensures { result ≡ own counted tree.now.rows owner }
 {
     row_of(tree, owner).map_or(0, |row| match row.kind {
         Kind::Reference { .. } => 0,
         _ => 1,
     })
+}
+
+/// Beside its size an object that is no reference counts so many bytes against a limit.
+pub const OVERHEAD: u64 = 96;
+
+/// What an object that is no reference counts against a limit, in bytes, and 0 elsewhere.
+fn own_charge(tree: &Tree, owner: Owner) -> u64
+    ensures { result ≡ own charge tree.now.rows owner }
+{
+    // All that is wanted of `len` is its contract: sizes are small.
+    let _rows = tree.len();
+    match row_of(tree, owner) {
+        None
+        | Some(
+            Row {
+                kind: Kind::Reference { .. },
+                ..
+            },
+        ) => 0,
+        Some(row) => row.size + OVERHEAD,
+    }
 }
 
 /// The sum of the sizes, in bytes, of an object and of all that it owns, and of all that these own, or of all
@@ -54,5 +76,15 @@ pub fn count(tree: &Tree, from: Owner) -> u64
 {
     Walk::new(tree, from)
         .map(|place| own_count(tree, place.owner))
+        .sum()
+}
+
+/// What the objects inside an owner count against its limit (`talloc_set_memlimit`), in bytes: each its size and 96
+/// more, a reference nothing. It is 0 where there is no such owner. It takes no memory.
+pub fn sum(tree: &Tree, from: Owner) -> u64
+    ensures { result ≡ sum_inside tree.now.rows from }
+{
+    Walk::new(tree, from)
+        .map(|place| own_charge(tree, place.owner))
         .sum()
 }

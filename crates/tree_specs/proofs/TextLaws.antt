@@ -1,8 +1,7 @@
 -- The rules' text over every pool and every list of inputs: what an acceptance follows, and which inputs a free takes.
-use Rattle.std.specs.Prelude.{unwrap_or}
 use Rattle.tree_specs.specs.declared.object.Owner.{Owner}
 use Rattle.tree_specs.specs.Targets.{newest_ref}
-use Rattle.std.proofs.Common.{◌≡◌, ℕ, suc, zero, nat_eq, List, [], ◌∷◌, Option, Some, None, true, false, refl, sym, ◌∙◌, ap, subst, inl, inr}
+use Rattle.std.proofs.Common.{◌≡◌, ℕ, suc, zero, nat_eq, List, [], ◌∷◌, Option, Some, None, true, false, refl, sym, ◌∙◌, ap, subst, inl, inr, unwrap_or}
 use Rattle.std.proofs.lemmas.Bool.{eqb-true}
 use Rattle.step_machine.specs.Machine.{Outcome, tell, tells, followed, items as told_by}
 use Rattle.step_machine.specs.Machine.Outcome.{Ended, Waits, Stray, Short}
@@ -320,9 +319,12 @@ checked-lawful n ih (call.Unlink o x) [] p last = followed-lawful last Any Any (
 checked-lawful n ih (call.Hook x h) [] p last = ended-lawful last Any _ _ tt
 checked-lawful n ih (call.Unhook x) [] p last = ended-lawful last Any _ _ tt
 checked-lawful n ih (call.Rename x name) [] p last = ended-lawful last Any _ _ tt
+checked-lawful n ih (call.Resize x size) [] p last = ended-lawful last Any _ _ tt
+checked-lawful n ih (call.Limit x max) [] p last = ended-lawful last Any _ _ tt
 checked-lawful n ih (call.Parent x) [] p last = ended-lawful last Any _ _ tt
 checked-lawful n ih (call.Total o) [] p last = ended-lawful last Any _ _ tt
 checked-lawful n ih (call.Count o) [] p last = ended-lawful last Any _ _ tt
+checked-lawful n ih (call.Sum o) [] p last = ended-lawful last Any _ _ tt
 checked-lawful n ih (call.Report o) [] p last = ended-lawful last Any _ _ tt
 
 acting-lawful : (n : ℕ) → AllLawful n → (q : Ask) (c : Call) (p : Pool) (last : Last) → Lawful last (Returned q) (acting (suc n) q c p)
