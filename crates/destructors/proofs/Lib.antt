@@ -4,3 +4,4 @@ pub mod Resting
 pub mod Keeping
 pub mod Begins
 pub mod Settling
+pub mod Counting

@@ -3,3 +3,4 @@ pub mod Frees
 pub mod Works
 pub mod Room
 pub mod Engine
+pub mod Changes

@@ -12,9 +12,10 @@ use std::marker::Model;
 use tree_links::Tree;
 use tree_specs::{FreeFrame, FreeStep, Obj, Owner, Purpose};
 
-/// Frees in progress on a tree and the references in it, as `talloc_free` and `talloc_unlink` go, with the runs of destructors left to the caller. Begins
-/// nest: while a destructor runs, further frees may begin and end. Contracts see the innermost work of the open
-/// frees; those that wait for it stand in the tree, and contracts see both as one list (`frees_of`).
+/// Frees in progress on a tree and the references in it, as `talloc_free` and `talloc_unlink` go, with the runs of
+/// destructors left to the caller. Begins nest: while a destructor runs, further frees may begin and end. Contracts see
+/// the innermost work of the open frees; those that wait for it stand in the tree, and contracts see both as one list
+/// (`frees_of`).
 ///
 /// The engine takes no memory: `Tree::reserve` takes the room for its works. Between a step that asks and the
 /// answer, the caller may do with the tree what keeps that the open frees await him (`IsAwaiting`).
@@ -65,6 +66,7 @@ impl FreeEngine {
     ghost use Rattle.tree_specs.specs.Pool.{target_at};
     ghost use Rattle.references.specs.Rows.{AreRefsOf};
     ghost use Rattle.destructors.specs.Moves.{IsLiveRow};
+    ghost use Rattle.destructors.specs.Changes.{SameRows, ChangedBy};
     ghost use Rattle.destructors.specs.Engine.{IsAsked, AreKept, HasRoom};
 
     /// An engine with no open free.
@@ -87,12 +89,14 @@ impl FreeEngine {
         ensures room { HasRoom self.new tree.new }
         ensures spare { tree.old.spare ≤ tree.new.spare }
         ensures refs { AreRefsOf refs.new.pairs tree.new.rows }
+        ensures same { SameRows tree.old.rows tree.new.rows }
     {
         wait(self.innermost, tree);
         self.innermost = settle(Some(work), tree, refs);
     }
 
-    /// Begins the freeing of an object to which there is no reference.
+    /// Begins the freeing of an object to which there is no reference. Like the other beginnings it changes the rows in
+    /// nothing but marks and destructors.
     pub fn begin_free(&mut self, tree: &mut Tree, refs: &mut Refs, x: Obj)
         requires awaiting { IsAwaiting (frees_of self.old tree.old) }
         requires kept { AreKept self.old tree.old }
@@ -106,6 +110,7 @@ impl FreeEngine {
         ensures room { HasRoom self.new tree.new }
         ensures spare { tree.old.spare ≤ tree.new.spare }
         ensures refs { AreRefsOf refs.new.pairs tree.new.rows }
+        ensures same { SameRows tree.old.rows tree.new.rows }
     {
         self.begin(tree, refs, FreeFrame::Beginning { x });
     }
@@ -125,6 +130,7 @@ impl FreeEngine {
         ensures room { HasRoom self.new tree.new }
         ensures spare { tree.old.spare ≤ tree.new.spare }
         ensures refs { AreRefsOf refs.new.pairs tree.new.rows }
+        ensures same { SameRows tree.old.rows tree.new.rows }
     {
         self.begin(tree, refs, FreeFrame::Unlinking { owner, x });
     }
@@ -141,6 +147,7 @@ impl FreeEngine {
         ensures room { HasRoom self.new tree.new }
         ensures spare { tree.old.spare ≤ tree.new.spare }
         ensures refs { AreRefsOf refs.new.pairs tree.new.rows }
+        ensures same { SameRows tree.old.rows tree.new.rows }
     {
         let purpose = Purpose::Emptying;
         self.begin(tree, refs, FreeFrame::Looping { x, purpose });
@@ -185,6 +192,8 @@ impl FreeEngine {
         requires room { HasRoom self.old tree.old }
         requires refs { AreRefsOf refs.old.pairs tree.old.rows }
         ensures steps { Steps (frees_of self.old tree.old) result (frees_of self.new tree.new) }
+        // What it has done to the rows, but for marks and destructors, which is for those who keep books of their own.
+        ensures changed { ChangedBy result tree.old.rows tree.new.rows }
         ensures goes_on { GoesOn result (frees_of self.new tree.new) }
         ensures kept { AreKept self.new tree.new }
         ensures room { HasRoom self.new tree.new }

@@ -1,7 +1,7 @@
 -- What follows where a call is refused, and where it isn't.
 use Rattle.std.proofs.Common.{◌≡◌, ℕ, ◌+◌, ◌-◌, ◌^◌, ◌<◌, List, [], ◌∷◌, ◌++◌, length, true, false, Ok, Err, refl, arith}
 use Rattle.std.proofs.lemmas.Bool.Decides.{nat_tests}
-use Rattle.std.specs.Prelude.{nat_lt, nat_le}
+use Rattle.std.specs.Prelude.{Bool, not, nat_lt, nat_le}
 use Rattle.tree_specs.specs.declared.object.Obj.{Obj}
 use Rattle.tree_specs.specs.declared.object.Owner.{Owner}
 use Rattle.tree_specs.specs.declared.question.Ask.{Ask}
@@ -10,16 +10,18 @@ use Rattle.tree_specs.specs.declared.call.Call.TheVariants as call
 use Rattle.tree_specs.specs.declared.reply.Refusal.{Refusal}
 use Rattle.tree_specs.specs.declared.reply.Refusal.TheVariants.{Full, Spent, TooBig}
 use Rattle.tree_specs.specs.declared.reply.Reply.TheVariants as reply
-use Rattle.tree_specs.specs.Pool.{Pool, is_row, is_owner, is_below, owner_of}
-use Rattle.tree_specs.specs.Calls.{Check, refusals, row_limit, size_limit, small, object, plain, owner, still, staying, room, placing, hooking, refuse_if}
+use Rattle.tree_specs.specs.Pool.{Pool, row_of, is_row, is_owner, is_below, owner_of}
+use Rattle.tree_specs.specs.Calls.{Check, refusals, row_limit, size_limit, small, object, plain, owner, still, staying, room, placing, hooking, fits, unreferenced, growing, refuse_if, is_plain_row}
 use Rattle.tree_specs.specs.Table.{call_step, effect_step, replied}
 use Rattle.tree_specs.proofs.Checks.{both-none, refuse_if-none, passes-placing, MayGo, Itself, ItsRef, passes-reparent, passes-reference, passes-hooking, passes-object, passes-owner}
+use Rattle.tree_specs.specs.Sums.{overhead}
 use Rattle.tree_specs.proofs.Keeps.{ref-placed}
 use Rattle.tree_specs.specs.declared.frame.Frame.{Frame}
 use Rattle.tree_specs.specs.Sound.{Sound}
 use Rattle.tree_links.specs.Links.{MayPlace}
 use Rattle.destructors.proofs.Keeping.{placeable}
-use Rattle.host_core.specs.Moves.{checked, RefsMayGo}
+use Rattle.host_core.specs.Moves.{RefsMayGo}
+use Rattle.tree_specs.specs.Calls.{checked}
 
 pub refused_step : (check : Check) (q : Ask) (c : Call) (p : Pool) (why : Refusal) → checked check ≡ Err why → call_step check q c p ≡ replied q (reply.No why) p
 refused_step [] q c p why e = cc
@@ -54,31 +56,34 @@ roomy p e =
     let last : nat_le (2 ^ 64) (p.next + 1) ≡ false = refuse_if-none _ Spent d.1 in
     (grind (arith, nat_tests), grind (arith, nat_tests))
 
+-- a size that isn't refused
+small_enough : (size : ℕ) → small size ≡ [] → size < size_limit
+small_enough size e = let big : nat_le size_limit size ≡ false = refuse_if-none _ (TooBig size) e in grind (arith, nat_tests)
+
 record Fits (p : Pool) (o : Owner) (size : ℕ) : Type 0 where
   small : size < size_limit
   owner : is_owner p.rows o ≡ true
   few : length p.rows < row_limit
   number : p.next < 2 ^ 64 - 1
 
-fits : (p : Pool) (o : Owner) (size : ℕ) (name : List ℕ) → checked (refusals p (call.New o size name)) ≡ Ok tt → Fits p o size
-fits p o size name e =
-    let a = both-none (small size) (owner p o ++ room p 1) (none-first (refusals p (call.New o size name)) e) in
-    let b = both-none (owner p o) (room p 1) a.1 in
-    let big : nat_le size_limit size ≡ false = refuse_if-none _ (TooBig size) a.0 in
-    let r = roomy p b.1 in
-    record { small = grind (arith, nat_tests); owner = passes-owner p o b.0; few = r.0; number = r.1 }
+new-fits : (p : Pool) (o : Owner) (size : ℕ) (name : List ℕ) → checked (refusals p (call.New o size name)) ≡ Ok tt → Fits p o size
+new-fits p o size name e =
+    let a = both-none (small size) (owner p o ++ (room p 1 ++ fits p o (size + overhead))) (none-first (refusals p (call.New o size name)) e) in
+    let b = both-none (owner p o) (room p 1 ++ fits p o (size + overhead)) a.1 in
+    let r = roomy p (both-none (room p 1) (fits p o (size + overhead)) b.1).0 in
+    record { small = small_enough size a.0; owner = passes-owner p o b.0; few = r.0; number = r.1 }
 
 pub numbered : (p : Pool) (o : Owner) (size : ℕ) (name : List ℕ) → checked (refusals p (call.New o size name)) ≡ Ok tt → p.next < 2 ^ 64 - 1
-numbered p o size name e = (fits p o size name e).number
+numbered p o size name e = (new-fits p o size name e).number
 
 pub few : (p : Pool) (o : Owner) (size : ℕ) (name : List ℕ) → checked (refusals p (call.New o size name)) ≡ Ok tt → length p.rows < row_limit
-few p o size name e = (fits p o size name e).few
+few p o size name e = (new-fits p o size name e).few
 
 pub small_size : (p : Pool) (o : Owner) (size : ℕ) (name : List ℕ) → checked (refusals p (call.New o size name)) ≡ Ok tt → size < size_limit
-small_size p o size name e = (fits p o size name e).small
+small_size p o size name e = (new-fits p o size name e).small
 
 pub owned : (p : Pool) (o : Owner) (size : ℕ) (name : List ℕ) → checked (refusals p (call.New o size name)) ≡ Ok tt → is_owner p.rows o ≡ true
-owned p o size name e = (fits p o size name e).owner
+owned p o size name e = (new-fits p o size name e).owner
 
 -- ---- a reference that isn't refused
 
@@ -137,6 +142,24 @@ hook_goes p x routine e = hooks p x e
 
 pub unhook_goes : (p : Pool) (x : Obj) → checked (refusals p (call.Unhook x)) ≡ Ok tt → is_row p.rows x ≡ true
 unhook_goes p x e = hooks p x e
+
+pub resized_small : (p : Pool) (x : Obj) (size : ℕ) → checked (refusals p (call.Resize x size)) ≡ Ok tt → size < size_limit
+resized_small p x size e =
+    small_enough size (both-none (small size) (object p x ++ (plain p x ++ (unreferenced p x ++ (staying p x ++ growing p x size)))) (none-first (refusals p (call.Resize x size)) e)).0
+
+not-false : (b : Bool) → not b ≡ false → b ≡ true
+not-false true e = refl
+not-false false e = cc
+
+pub resized_plain : (p : Pool) (x : Obj) (size : ℕ) → checked (refusals p (call.Resize x size)) ≡ Ok tt → is_plain_row (row_of p.rows x) ≡ true
+resized_plain p x size e =
+    let later : Check = unreferenced p x ++ (staying p x ++ growing p x size) in
+    let a = both-none (small size) (object p x ++ (plain p x ++ later)) (none-first (refusals p (call.Resize x size)) e) in
+    let b = both-none (plain p x) later (both-none (object p x) (plain p x ++ later) a.1).1 in
+    not-false _ (refuse_if-none _ _ b.0)
+
+pub limited : (p : Pool) (x : Obj) (max : ℕ) → checked (refusals p (call.Limit x max)) ≡ Ok tt → is_row p.rows x ≡ true
+limited p x max e = let r = passes-object p x (none-first (object p x) e) in rw r.1 refl
 
 pub named : (p : Pool) (x : Obj) (name : List ℕ) → checked (refusals p (call.Rename x name)) ≡ Ok tt → is_row p.rows x ≡ true
 named p x name e = let r = passes-object p x (none-first (object p x) e) in rw r.1 refl

@@ -7,3 +7,6 @@ pub mod Calling
 pub mod Stepping
 pub mod Offering
 pub mod Nexts
+pub mod Counted
+pub mod Told
+pub mod Fields

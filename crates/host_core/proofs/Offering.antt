@@ -129,9 +129,12 @@ is-report (call.Unlink o x) p e = cc
 is-report (call.Hook x routine) p e = cc
 is-report (call.Unhook x) p e = cc
 is-report (call.Rename x name) p e = cc
+is-report (call.Resize x size) p e = cc
+is-report (call.Limit x max) p e = cc
 is-report (call.Parent x) p e = cc
 is-report (call.Total o) p e = cc
 is-report (call.Count o) p e = cc
+is-report (call.Sum o) p e = cc
 is-report (call.Report o) p e = let e' : o ≡ p = cc in ap call.Report e'
 
 same-reply : (o : Owner) (r s : Reply) (p : Pool) → IsReplyOf o r p → IsReplyOf o s p → r ≡ s

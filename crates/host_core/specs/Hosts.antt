@@ -38,6 +38,7 @@ use Rattle.destructors.specs.Works.{free_view, call_view, IsAtWork}
 use Rattle.destructors.specs.Engine.{AreKept, HasRoom}
 use Rattle.references.specs.Pairs.{Pairs}
 use Rattle.references.specs.Rows.{AreRefsOf}
+use Rattle.memory_limits.specs.Limits.{Limits, AreLimitsOf}
 use Rattle.host_core.specs.declared.parts.Parts.{Parts}
 use Rattle.host_core.specs.declared.active.Active.{Active}
 use Rattle.host_core.specs.declared.active.Active.TheVariants as active
@@ -63,13 +64,14 @@ motion_view (Empties q x) works callers p = free_view (Looping x Emptying) works
 abbrev pub view_of : Active → List CallFrame → Option FreeFrame → Links → View
 view_of now callers innermost tree = seen now (before innermost tree.frees) (reverse callers) (pool_of tree)
 
--- how many callers there is memory for, and how many further references
+-- how many callers there is memory for, and how many further references and limits
 pub record Places : Type 0 where
   pub callers : ℕ
   pub references : ℕ
+  pub limits : ℕ
 
-abbrev pub places : ℕ → Pairs → Places
-places callers refs = record { callers = callers; references = refs.spare }
+abbrev pub places : ℕ → Pairs → Limits → Places
+places callers refs sums = record { callers = callers; references = refs.spare; limits = sums.spare }
 
 -- the memory that a caller's step may want, with all that comes up to the next question
 pub record CallRoom (callers : List CallFrame) (tree : Links) (places : Places) : Type 0 where
@@ -77,6 +79,7 @@ pub record CallRoom (callers : List CallFrame) (tree : Links) (places : Places) 
   pub room : length tree.rows + 4 ≤ tree.room
   pub place : length callers < places.callers
   pub reference : 0 < places.references
+  pub limit : 0 < places.limits
 
 abbrev pub CallReady : CallFrame → List CallFrame → Links → Places → Type 0
 CallReady (Asking q) callers tree places = Unit {0}
@@ -108,11 +111,15 @@ abbrev pub view_in : Active → Parts → View
 view_in now parts = view_of now parts.callers.items parts.engine parts.tree
 
 abbrev pub IsReady : Active → Parts → Type 0
-IsReady now parts = Ready now parts.callers.items parts.engine parts.tree (places (vec_capacity parts.callers) parts.refs)
+IsReady now parts = Ready now parts.callers.items parts.engine parts.tree (places (vec_capacity parts.callers) parts.refs parts.sums)
 
 -- the references are those among the rows
 abbrev pub HasRefs : Parts → Type 0
 HasRefs parts = AreRefsOf parts.refs.pairs parts.tree.rows
+
+-- the limits are those of the rows, and the sums are kept
+abbrev pub HasLimits : Parts → Type 0
+HasLimits parts = AreLimitsOf parts.sums.limited parts.tree.rows
 
 -- ---- a step
 

@@ -1,3 +1,4 @@
 pub mod Moves
+pub mod Counting
 pub mod Hosts
 pub mod Promises

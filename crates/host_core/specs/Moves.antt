@@ -1,8 +1,7 @@
 -- What the code calls a move of a caller, a reply that takes no memory, and a refusal.
-use Rattle.std.specs.Prelude.{◌≡◌, true, List, [], ◌∷◌, Option, Some, None, Result, Ok, Err}
+use Rattle.std.specs.Prelude.{◌≡◌, true, List, Option, Some, None}
 use Rattle.step_machine.specs.Machine.{Move}
 use Rattle.step_machine.specs.Machine.{Move as Do}
-use Rattle.tree_specs.specs.declared.reply.Refusal.{Refusal}
 use Rattle.tree_specs.specs.declared.reply.Reply.{Reply}
 use Rattle.tree_specs.specs.declared.reply.Reply.TheVariants as reply
 use Rattle.tree_specs.specs.declared.question.Ask.{Ask}
@@ -24,7 +23,6 @@ use Rattle.tree_specs.specs.declared.row.Row.{Row}
 use Rattle.tree_specs.specs.Pool.{Pool, target_at, is_owner}
 use Rattle.tree_links.specs.Links.{MayPlace}
 use Rattle.tree_specs.specs.Items.{Item}
-use Rattle.tree_specs.specs.Calls.{Check}
 use Rattle.tree_specs.specs.Story.{later}
 use Rattle.host_core.specs.declared.motion.Motion.{Motion}
 use Rattle.host_core.specs.declared.motion.Motion.TheVariants.{Goes, Frees, Unlinks, Empties}
@@ -47,11 +45,6 @@ reply_of (brief.No why) = reply.No why
 abbrev pub telling : Ask → Brief → CallFrame
 telling q b = Telling (later q (reply_of b)) (reply_of b)
 
--- the first refusal that applies
-abbrev pub checked : Check → Result (Unit {0}) Refusal
-checked [] = Ok tt
-checked (why ∷ later_checks) = Err why
-
 -- a reference may be put below any owner: it owns nothing, and nothing goes on with it
 abbrev pub RefsMayGo : List Row → Type 0
 RefsMayGo rs = (r t : Obj) (o : Owner) → target_at rs r ≡ Some t → is_owner rs o ≡ true → MayPlace rs r o
@@ -69,9 +62,12 @@ report_of (call.Unlink o x) = None
 report_of (call.Hook x routine) = None
 report_of (call.Unhook x) = None
 report_of (call.Rename x name) = None
+report_of (call.Resize x size) = None
+report_of (call.Limit x max) = None
 report_of (call.Parent x) = None
 report_of (call.Total o) = None
 report_of (call.Count o) = None
+report_of (call.Sum o) = None
 report_of (call.Report o) = Some o
 
 -- the call that an input is to do

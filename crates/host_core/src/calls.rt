@@ -7,12 +7,16 @@ ghost use Rattle.tree_specs.specs.Story.{freed_reply, later as later_of, warns a
 ghost use Rattle.tree_specs.specs.Table.{call_step, effect_step, placed_step};
 ghost use Rattle.tree_links.specs.Links.{pool_of, works_of, MayPlace};
 ghost use Rattle.references.specs.Rows.{AreRefsOf};
-ghost use Rattle.host_core.specs.Moves.{move_of, reply_of, telling as telling_of, checked, report_of, RefsMayGo};
+ghost use Rattle.memory_limits.specs.Limits.{AreLimitsOf};
+ghost use Rattle.host_core.specs.Moves.{move_of, reply_of, telling as telling_of, report_of, RefsMayGo};
+ghost use Rattle.tree_specs.specs.Calls.{checked};
 
 use crate::brief::Brief;
-use crate::changes::{place, reparent, warns};
+use crate::changes::{limit, place, reparent, resize, warns};
 use crate::checks::check;
+use crate::counting::count_added;
 use crate::motion::Motion;
+use memory_limits::Sums;
 use references::{Refs, refer};
 use std::alloc::Global;
 use tree_links::{NewRow, Tree};
@@ -64,15 +68,25 @@ fn tells(ask: Ask, reply: Brief) -> Motion
 }
 
 /// Puts an object below an owner. What is worth a warning is told before the reply.
-fn give(ask: Ask, x: Obj, owner: Owner, reply: Brief, tree: &mut Tree, refs: &Refs) -> Motion
+fn give(
+    ask: Ask,
+    x: Obj,
+    owner: Owner,
+    reply: Brief,
+    tree: &mut Tree,
+    refs: &Refs,
+    sums: &mut Sums,
+) -> Motion
     requires may { MayPlace tree.old.rows x owner }
     requires refs { AreRefsOf refs.now.pairs tree.old.rows }
+    requires limits { AreLimitsOf sums.old.limited tree.old.rows }
     ensures moved { move_of result (pool_of tree.new) ≡ placed_step (worth_a_warning (pool_of tree.old) owner x) ask x (reply_of reply) (placed (pool_of tree.old) owner x) }
     ensures refs { AreRefsOf refs.now.pairs tree.new.rows }
+    ensures limits { AreLimitsOf sums.new.limited tree.new.rows }
     ensures works { works_of tree.new ≡ works_of tree.old }
 {
     let warned = warns(owner, x, tree, refs);
-    place(x, owner, tree, refs);
+    place(x, owner, tree, refs, sums);
     if !warned {
         return tells(ask, reply);
     }
@@ -95,34 +109,48 @@ fn free(ask: Ask, x: Obj, tree: &Tree, refs: &Refs) -> Motion
 }
 
 /// Does a call that isn't refused, and takes no memory for its reply.
-#[tactic(auto, using(crate::proofs::Allowed::numbered, crate::proofs::Allowed::few, crate::proofs::Allowed::small_size, crate::proofs::Allowed::owned, crate::proofs::Allowed::steal_goes, crate::proofs::Allowed::move_goes, crate::proofs::Allowed::hook_goes, crate::proofs::Allowed::unhook_goes, crate::proofs::Allowed::named, crate::proofs::Allowed::reparent_itself, crate::proofs::Allowed::reparent_there, crate::proofs::Allowed::reference_numbered, crate::proofs::Allowed::reference_few, crate::proofs::Allowed::reference_owned))]
-fn effect(alloc: Global, ask: Ask, call: Call, tree: &mut Tree, refs: &mut Refs) -> Motion
+#[tactic(auto, using(crate::proofs::Allowed::numbered, crate::proofs::Allowed::few, crate::proofs::Allowed::small_size, crate::proofs::Allowed::owned, crate::proofs::Allowed::steal_goes, crate::proofs::Allowed::move_goes, crate::proofs::Allowed::hook_goes, crate::proofs::Allowed::unhook_goes, crate::proofs::Allowed::named, crate::proofs::Allowed::resized_plain, crate::proofs::Allowed::resized_small, crate::proofs::Allowed::limited, crate::proofs::Allowed::reparent_itself, crate::proofs::Allowed::reparent_there, crate::proofs::Allowed::reference_numbered, crate::proofs::Allowed::reference_few, crate::proofs::Allowed::reference_owned))]
+fn effect(
+    alloc: Global,
+    ask: Ask,
+    call: Call,
+    tree: &mut Tree,
+    refs: &mut Refs,
+    sums: &mut Sums,
+) -> Motion
     requires room { 0 < tree.old.spare }
     requires place { 0 < refs.old.spare }
+    requires limit { 0 < sums.old.spare }
     requires allowed { checked (refusals (pool_of tree.old) call) ≡ Ok tt }
     requires no_report { report_of call ≡ None }
     requires reference { RefsMayGo tree.old.rows }
     requires refs { AreRefsOf refs.old.pairs tree.old.rows }
+    requires limits { AreLimitsOf sums.old.limited tree.old.rows }
     ensures moved { move_of result (pool_of tree.new) ≡ effect_step ask call (pool_of tree.old) }
     ensures refs { AreRefsOf refs.new.pairs tree.new.rows }
+    ensures limits { AreLimitsOf sums.new.limited tree.new.rows }
     ensures works { works_of tree.new ≡ works_of tree.old }
 {
     match call {
         Call::New { owner, size, name } => {
             let kind = Kind::Plain;
             let serial = tree.add(NewRow { kind, name, size }, owner);
+            count_added(serial, tree, sums);
             tells(ask, Brief::Number(serial.0))
         }
         Call::Free { x } => free(ask, x, tree, refs),
         Call::Freekids { x } => Motion::Empties(ask, x),
-        Call::Steal { owner, x } => give(ask, x, owner, Brief::Ok, tree, refs),
-        Call::Move { owner, x } => give(ask, x, owner, Brief::Number(x.0), tree, refs),
+        Call::Steal { owner, x } => give(ask, x, owner, Brief::Ok, tree, refs, sums),
+        Call::Move { owner, x } => {
+            give(ask, x, owner, Brief::Number(x.0), tree, refs, sums)
+        }
         Call::Reparent { from, to, x } => {
-            reparent(from, to, x, tree, refs);
+            reparent(from, to, x, tree, refs, sums);
             tells(ask, Brief::Ok)
         }
         Call::Reference { owner, x } => {
             let serial = refer(alloc, x, owner, tree, refs);
+            count_added(serial, tree, sums);
             tells(ask, Brief::Number(serial.0))
         }
         Call::Unlink { owner, x } => Motion::Unlinks(ask, owner, x),
@@ -138,30 +166,49 @@ fn effect(alloc: Global, ask: Ask, call: Call, tree: &mut Tree, refs: &mut Refs)
             tree.set_name(x, name);
             tells(ask, Brief::Ok)
         }
+        Call::Resize { x, size } => {
+            resize(x, size, tree, refs, sums);
+            tells(ask, Brief::Ok)
+        }
+        Call::Limit { x, max } => {
+            limit(x, max, tree, refs, sums);
+            tells(ask, Brief::Ok)
+        }
         Call::Parent { x } => {
             let owner = tree.parent(x).unwrap_or(Owner::Root);
             tells(ask, Brief::Number(owner.number()))
         }
         Call::Total { owner } => tells(ask, Brief::Number(total(tree, owner))),
         Call::Count { owner } => tells(ask, Brief::Number(count(tree, owner))),
+        Call::Sum { owner } => tells(ask, Brief::Number(sums.sum(tree, owner))),
         Call::Report { .. } => unreachable!(),
     }
 }
 
 /// Does a call: the first refusal that applies is the reply, otherwise the effect comes.
 #[tactic(auto, using(crate::proofs::Allowed::refused_step, crate::proofs::Allowed::allowed_step))]
-pub fn act(alloc: Global, ask: Ask, call: Call, tree: &mut Tree, refs: &mut Refs) -> Motion
+pub fn act(
+    alloc: Global,
+    ask: Ask,
+    call: Call,
+    tree: &mut Tree,
+    refs: &mut Refs,
+    sums: &mut Sums,
+) -> Motion
     requires room { 0 < tree.old.spare }
     requires place { 0 < refs.old.spare }
+    requires limit { 0 < sums.old.spare }
     requires no_report { report_of call ≡ None }
     requires reference { RefsMayGo tree.old.rows }
     requires refs { AreRefsOf refs.old.pairs tree.old.rows }
+    requires limits { AreLimitsOf sums.old.limited tree.old.rows }
     ensures moved { move_of result (pool_of tree.new) ≡ call_step (refusals (pool_of tree.old) call) ask call (pool_of tree.old) }
     ensures refs { AreRefsOf refs.new.pairs tree.new.rows }
+    ensures limits { AreLimitsOf sums.new.limited tree.new.rows }
     ensures works { works_of tree.new ≡ works_of tree.old }
 {
-    match check(&call, tree, refs) {
-        Ok(()) => effect(alloc, ask, call, tree, refs),
+    match check(&call, tree, refs, sums) {
+        Ok(()) => effect(alloc, ask, call, tree, refs, sums),
         Err(why) => tells(ask, Brief::No(why)),
     }
 }

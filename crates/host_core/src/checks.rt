@@ -1,12 +1,16 @@
 //! What a call is refused for. The checks stand in the order in which they are tried.
-ghost use Rattle.std.specs.Prelude.{◌≡◌};
-ghost use Rattle.tree_specs.specs.Calls.{◌before◌, small, owner, object, plain, room, staying, still, apart, placing, hooking, held, interested, given_by, refusals};
+ghost use Rattle.std.specs.Prelude.{◌≡◌, ◌+◌, ◌<◌, IsOk};
+ghost use Rattle.tree_specs.specs.Calls.{◌before◌, small, owner, object, plain, room, staying, still, apart, placing, hooking, held, interested, given_by, fits as fitting, unreferenced, growing, size_limit, refusals};
+ghost use Rattle.tree_specs.specs.Sums.{overhead, size_at};
 ghost use Rattle.tree_links.specs.Links.{pool_of};
 ghost use Rattle.references.specs.Rows.{AreRefsOf};
-ghost use Rattle.host_core.specs.Moves.{checked};
+ghost use Rattle.memory_limits.specs.Limits.{AreLimitsOf};
+ghost use Rattle.tree_specs.specs.Calls.{checked};
 
+use memory_limits::Sums;
 use references::Refs;
 use tree_links::Tree;
+use tree_report::OVERHEAD;
 use tree_specs::{Call, Kind, Mark, Obj, Owner, Refusal, Row};
 
 /// The size of an object is below this, in bytes.
@@ -16,7 +20,8 @@ const SIZE_LIMIT: u64 = 268_435_456;
 const ROW_LIMIT: usize = 1_048_576;
 
 fn check_size(size: u64) -> Result<(), Refusal>
-    ensures { result ≡ checked (small size) }
+    ensures first { result ≡ checked (small size) }
+    ensures small { IsOk result → size < size_limit }
 {
     if size >= SIZE_LIMIT {
         return Err(Refusal::TooBig(size));
@@ -230,13 +235,86 @@ fn check_reference(o: Owner, x: Obj, tree: &Tree) -> Result<(), Refusal>
     check_target(o, x, tree)
 }
 
+/// There is room for an object of this size.
 #[tactic(auto, using(crate::proofs::Allowed::refused_first, crate::proofs::Allowed::allowed_first))]
-fn check_new(o: Owner, size: u64, tree: &Tree) -> Result<(), Refusal>
-    ensures { result ≡ checked (small size before owner (pool_of tree.now) o before room (pool_of tree.now) 1) }
+fn check_added(o: Owner, size: u64, tree: &Tree, sums: &Sums) -> Result<(), Refusal>
+    requires small { size < size_limit }
+    requires limits { AreLimitsOf sums.now.limited tree.now.rows }
+    ensures { result ≡ checked (room (pool_of tree.now) 1 before fitting (pool_of tree.now) o (size + overhead)) }
+{
+    check_room(tree)?;
+    sums.fits(tree, o, size + OVERHEAD)
+}
+
+#[tactic(auto, using(crate::proofs::Allowed::refused_first, crate::proofs::Allowed::allowed_first))]
+fn check_new(o: Owner, size: u64, tree: &Tree, sums: &Sums) -> Result<(), Refusal>
+    requires { AreLimitsOf sums.now.limited tree.now.rows }
+    ensures { result ≡ checked (small size before owner (pool_of tree.now) o before room (pool_of tree.now) 1 before fitting (pool_of tree.now) o (size + overhead)) }
 {
     check_size(size)?;
     check_owner(o, tree)?;
-    check_room(tree)
+    check_added(o, size, tree, sums)
+}
+
+/// An object to which there is a reference keeps its size.
+fn check_unreferenced(x: Obj, tree: &Tree, refs: &Refs) -> Result<(), Refusal>
+    requires { AreRefsOf refs.now.pairs tree.now.rows }
+    ensures { result ≡ checked (unreferenced (pool_of tree.now) x) }
+{
+    if refs.count(tree, x) != 0 {
+        return Err(Refusal::Held(x));
+    }
+    Ok(())
+}
+
+/// The size of an object in bytes, and 0 where there is none.
+pub fn size_of(x: Obj, tree: &Tree) -> u64
+    ensures { result ≡ size_at tree.now.rows x }
+{
+    tree.row(x).map_or(0, |row| row.size)
+}
+
+/// Where an object grows, the growth fits.
+fn check_growing(x: Obj, size: u64, tree: &Tree, sums: &Sums) -> Result<(), Refusal>
+    requires { AreLimitsOf sums.now.limited tree.now.rows }
+    ensures { result ≡ checked (growing (pool_of tree.now) x size) }
+{
+    let before = size_of(x, tree);
+    if before < size {
+        return sums.fits(tree, Owner::Of(x), size - before);
+    }
+    Ok(())
+}
+
+#[tactic(auto, using(crate::proofs::Allowed::refused_first, crate::proofs::Allowed::allowed_first))]
+fn check_larger(x: Obj, size: u64, tree: &Tree, sums: &Sums) -> Result<(), Refusal>
+    requires { AreLimitsOf sums.now.limited tree.now.rows }
+    ensures { result ≡ checked (staying (pool_of tree.now) x before growing (pool_of tree.now) x size) }
+{
+    check_staying(x, tree)?;
+    check_growing(x, size, tree, sums)
+}
+
+#[tactic(auto, using(crate::proofs::Allowed::refused_first, crate::proofs::Allowed::allowed_first))]
+fn check_sized(x: Obj, size: u64, tree: &Tree, refs: &Refs, sums: &Sums) -> Result<(), Refusal>
+    requires refs { AreRefsOf refs.now.pairs tree.now.rows }
+    requires limits { AreLimitsOf sums.now.limited tree.now.rows }
+    ensures { result ≡ checked (plain (pool_of tree.now) x before unreferenced (pool_of tree.now) x before staying (pool_of tree.now) x before growing (pool_of tree.now) x size) }
+{
+    check_plain(x, tree)?;
+    check_unreferenced(x, tree, refs)?;
+    check_larger(x, size, tree, sums)
+}
+
+#[tactic(auto, using(crate::proofs::Allowed::refused_first, crate::proofs::Allowed::allowed_first))]
+fn check_resize(x: Obj, size: u64, tree: &Tree, refs: &Refs, sums: &Sums) -> Result<(), Refusal>
+    requires refs { AreRefsOf refs.now.pairs tree.now.rows }
+    requires limits { AreLimitsOf sums.now.limited tree.now.rows }
+    ensures { result ≡ checked (small size before object (pool_of tree.now) x before plain (pool_of tree.now) x before unreferenced (pool_of tree.now) x before staying (pool_of tree.now) x before growing (pool_of tree.now) x size) }
+{
+    check_size(size)?;
+    check_object(x, tree)?;
+    check_sized(x, size, tree, refs, sums)
 }
 
 #[tactic(auto, using(crate::proofs::Allowed::refused_first, crate::proofs::Allowed::allowed_first))]
@@ -257,22 +335,27 @@ fn check_parent(x: Obj, tree: &Tree) -> Result<(), Refusal>
 }
 
 /// Whether a call is allowed, and else its first refusal.
-pub fn check(call: &Call, tree: &Tree, refs: &Refs) -> Result<(), Refusal>
-    requires { AreRefsOf refs.now.pairs tree.now.rows }
+pub fn check(call: &Call, tree: &Tree, refs: &Refs, sums: &Sums) -> Result<(), Refusal>
+    requires refs { AreRefsOf refs.now.pairs tree.now.rows }
+    requires limits { AreLimitsOf sums.now.limited tree.now.rows }
     ensures { result ≡ checked (refusals (pool_of tree.now) call.now) }
 {
     match call {
-        Call::New { owner, size, .. } => check_new(*owner, *size, tree),
+        Call::New { owner, size, .. } => check_new(*owner, *size, tree, sums),
         Call::Free { x } => check_free(*x, tree, refs),
-        Call::Freekids { x } | Call::Rename { x, .. } => check_object(*x, tree),
+        Call::Freekids { x } | Call::Rename { x, .. } | Call::Limit { x, .. } => {
+            check_object(*x, tree)
+        }
+        Call::Resize { x, size } => check_resize(*x, *size, tree, refs, sums),
         Call::Steal { owner, x } | Call::Move { owner, x } => check_placing(*owner, *x, tree),
         Call::Reparent { from, to, x } => check_reparent(*from, *to, *x, tree, refs),
         Call::Reference { owner, x } => check_reference(*owner, *x, tree),
         Call::Unlink { owner, x } => check_unlink(*owner, *x, tree, refs),
         Call::Hook { x, .. } | Call::Unhook { x } => check_hooking(*x, tree),
         Call::Parent { x } => check_parent(*x, tree),
-        Call::Total { owner } | Call::Count { owner } | Call::Report { owner } => {
-            check_owner(*owner, tree)
-        }
+        Call::Total { owner }
+        | Call::Count { owner }
+        | Call::Sum { owner }
+        | Call::Report { owner } => check_owner(*owner, tree),
     }
 }

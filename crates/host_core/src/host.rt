@@ -10,11 +10,13 @@ ghost use Rattle.host_core.specs.Hosts.{CallRoom, places, told_by, after_telling
 
 use crate::active::Active;
 use crate::begun::{asked, begun, takes};
+use crate::counting::count_step;
 use crate::fault::OfferFault;
 use crate::parts::Parts;
 use crate::reports::wanted_report;
 use crate::works::settle;
 use destructors::FreeEngine;
+use memory_limits::Sums;
 use references::Refs;
 use std::alloc::Global;
 use std::marker::Model;
@@ -61,22 +63,30 @@ fn tell(frame: CallFrame) -> Reported
     }
 }
 
-/// Takes the memory for all that comes up to the next question. After want of memory callers, objects and references
-/// are as they were.
-fn make_room(callers: &mut Vec<CallFrame>, tree: &mut Tree, refs: &mut Refs) -> Result<(), Memory>
+/// Takes the memory for all that comes up to the next question. After want of memory callers, objects, references
+/// and limits are as they were.
+fn make_room(
+    callers: &mut Vec<CallFrame>,
+    tree: &mut Tree,
+    refs: &mut Refs,
+    sums: &mut Sums,
+) -> Result<(), Memory>
     ensures callers { callers.new.items ≡ callers.old.items }
     ensures rows { pool_of tree.new ≡ pool_of tree.old }
     ensures works { tree.new.frees ≡ tree.old.frees }
     ensures refs { refs.new.pairs ≡ refs.old.pairs }
+    ensures limits { sums.new.limited ≡ sums.old.limited }
     ensures callers_kept { vec_capacity callers.old ≤ vec_capacity callers.new }
     ensures spare_kept { tree.old.spare ≤ tree.new.spare }
     ensures room_kept { tree.old.room ≤ tree.new.room }
     ensures places_kept { refs.old.spare ≤ refs.new.spare }
-    ensures room { OnOk result (CallRoom callers.new.items tree.new (places (vec_capacity callers.new) refs.new)) }
+    ensures limits_kept { sums.old.spare ≤ sums.new.spare }
+    ensures room { OnOk result (CallRoom callers.new.items tree.new (places (vec_capacity callers.new) refs.new sums.new)) }
 {
     callers.reserve(1)?;
     tree.reserve(2)?;
     refs.reserve(1)?;
+    sums.reserve(1)?;
     Ok(())
 }
 
@@ -94,11 +104,11 @@ impl Model for Host {
     ghost Value = { View };
 
     ghost use Rattle.std.specs.Prelude.{◌≡◌, true};
-    ghost use Rattle.host_core.specs.Hosts.{view_in, IsReady, HasRefs, speaking_view};
+    ghost use Rattle.host_core.specs.Hosts.{view_in, IsReady, HasRefs, HasLimits, speaking_view};
 
     ghost view = { λ h. view_in h.active h.parts };
 
-    ghost invariant = { λ h. IsReady h.active h.parts × (speaking_view (view_in h.active h.parts) ≡ true) × HasRefs h.parts };
+    ghost invariant = { λ h. IsReady h.active h.parts × (speaking_view (view_in h.active h.parts) ≡ true) × HasRefs h.parts × HasLimits h.parts };
 }
 
 impl Host {
@@ -123,6 +133,7 @@ impl Host {
                 engine: FreeEngine::new(),
                 tree: Tree::new(alloc, first),
                 refs: Refs::new(alloc),
+                sums: Sums::new(alloc),
             },
         })
     }
@@ -184,9 +195,11 @@ impl Host {
                     engine,
                     tree,
                     refs,
+                    sums,
                     ..
                 } = &mut self.parts;
                 let step = engine.step(tree, refs);
+                count_step(&step, tree, sums);
                 self.active = settle(Active::Freeing, &mut self.parts);
                 event(step)
             }
@@ -216,9 +229,10 @@ impl Host {
             callers,
             tree,
             refs,
+            sums,
             ..
         } = &mut self.parts;
-        make_room(callers, tree, refs)?;
+        make_room(callers, tree, refs, sums)?;
         let active = mem::replace(&mut self.active, Active::Freeing);
         self.active = settle(begun(active, input, report), &mut self.parts);
         Ok(())

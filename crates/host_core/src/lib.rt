@@ -7,6 +7,7 @@ mod brief;
 mod calls;
 mod changes;
 mod checks;
+mod counting;
 mod fault;
 mod host;
 mod motion;

@@ -1,4 +1,5 @@
 use destructors::FreeEngine;
+use memory_limits::Sums;
 use references::Refs;
 use tree_links::Tree;
 use tree_specs::CallFrame;
@@ -11,4 +12,5 @@ pub struct Parts {
     pub engine: FreeEngine,
     pub tree: Tree,
     pub refs: Refs,
+    pub sums: Sums,
 }

@@ -12,10 +12,11 @@ ghost use Rattle.tree_links.specs.Links.{pool_of};
 ghost use Rattle.destructors.specs.Frees.{before, frees_of};
 ghost use Rattle.destructors.specs.Works.{IsAwaiting};
 ghost use Rattle.destructors.specs.Engine.{AreKept};
-ghost use Rattle.host_core.specs.Hosts.{motion_view, view_in, speaking_view, IsReply, Along, Onward, IsReady, HasRefs, Finished};
+ghost use Rattle.host_core.specs.Hosts.{motion_view, view_in, speaking_view, IsReply, Along, Onward, IsReady, HasRefs, HasLimits, Finished};
 
 use crate::active::Active;
 use crate::calls::{act, freed, telling};
+use crate::counting::count_step;
 use crate::motion::Motion;
 use crate::parts::Parts;
 use tree_links::Tree;
@@ -59,15 +60,18 @@ fn start(motion: Motion, parts: &mut Parts) -> Active
     requires place { length parts.old.callers.items < vec_capacity parts.old.callers }
     requires room { length parts.old.tree.rows + 2 ≤ parts.old.tree.room }
     requires refs { HasRefs parts.old }
+    requires limits { HasLimits parts.old }
     ensures along { Along (motion_view motion (before parts.old.engine parts.old.tree.frees) (reverse parts.old.callers.items) (pool_of parts.old.tree)) (view_in result parts.new) }
     ensures ready { IsReady result parts.new }
     ensures refs { HasRefs parts.new }
+    ensures limits { HasLimits parts.new }
 {
     let Parts {
         callers,
         engine,
         tree,
         refs,
+        ..
     } = parts;
     match motion {
         Motion::Goes(frame) => Active::Caller(frame),
@@ -93,15 +97,24 @@ fn start(motion: Motion, parts: &mut Parts) -> Active
 fn call_on(frame: CallFrame, parts: &mut Parts) -> Active
     requires ready { IsReady (Active.Caller frame) parts.old }
     requires refs { HasRefs parts.old }
+    requires limits { HasLimits parts.old }
     requires quiet { speaking_view (view_in (Active.Caller frame) parts.old) ≡ false }
     ensures onward { Onward (view_in (Active.Caller frame) parts.old) (view_in result parts.new) }
     ensures ready { IsReady result parts.new }
     ensures refs { HasRefs parts.new }
+    ensures limits { HasLimits parts.new }
 {
     match frame {
         CallFrame::Doing { ask, call } => {
             let alloc = *parts.callers.allocator();
-            let motion = act(alloc, ask, call, &mut parts.tree, &mut parts.refs);
+            let motion = act(
+                alloc,
+                ask,
+                call,
+                &mut parts.tree,
+                &mut parts.refs,
+                &mut parts.sums,
+            );
             start(motion, parts)
         }
         CallFrame::Returning { value } => {
@@ -127,12 +140,16 @@ fn finish(answer: FreeReply, callers: &mut Vec<CallFrame>) -> Active
 fn free_on(parts: &mut Parts) -> Active
     requires ready { IsReady Active.Freeing parts.old }
     requires refs { HasRefs parts.old }
+    requires limits { HasLimits parts.old }
     requires quiet { speaking_view (view_in Active.Freeing parts.old) ≡ false }
     ensures onward { Onward (view_in Active.Freeing parts.old) (view_in result parts.new) }
     ensures ready { IsReady result parts.new }
     ensures refs { HasRefs parts.new }
+    ensures limits { HasLimits parts.new }
 {
-    match parts.engine.step(&mut parts.tree, &mut parts.refs) {
+    let step = parts.engine.step(&mut parts.tree, &mut parts.refs);
+    count_step(&step, &parts.tree, &mut parts.sums);
+    match step {
         FreeStep::Ask(x) => Active::Caller(run(x, &parts.tree)),
         FreeStep::Done(answer) => finish(answer, &mut parts.callers),
         _ => Active::Freeing,
@@ -143,10 +160,12 @@ fn free_on(parts: &mut Parts) -> Active
 fn go_on(now: Active, parts: &mut Parts) -> Active
     requires ready { IsReady now parts.old }
     requires refs { HasRefs parts.old }
+    requires limits { HasLimits parts.old }
     requires quiet { speaking_view (view_in now parts.old) ≡ false }
     ensures onward { Onward (view_in now parts.old) (view_in result parts.new) }
     ensures ready { IsReady result parts.new }
     ensures refs { HasRefs parts.new }
+    ensures limits { HasLimits parts.new }
 {
     match now {
         Active::Caller(frame) => call_on(frame, parts),
@@ -173,9 +192,11 @@ fn speaks(now: &Active, parts: &Parts) -> bool
 pub fn settle(now: Active, parts: &mut Parts) -> Active
     requires ready { IsReady now parts.old }
     requires refs { HasRefs parts.old }
+    requires limits { HasLimits parts.old }
     ensures along { Along (view_in now parts.old) (view_in result parts.new) }
     ensures ready { IsReady result parts.new }
     ensures refs { HasRefs parts.new }
+    ensures limits { HasLimits parts.new }
     ensures settled { speaking_view (view_in result parts.new) ≡ true }
 {
     let mut now = now;

@@ -7,10 +7,10 @@ use Rattle.std.specs.Option.{option_map}
 use Rattle.std.specs.Str.{bytes_eq}
 use Rattle.std.proofs.lemmas.Slice.Eq.{bytes_eq-Decides}
 use Rattle.tree_specs.specs.declared.call.Call.{Call}
-use Rattle.tree_specs.specs.declared.call.Call.TheVariants.{New, Free, Freekids, Steal, Move, Reparent, Reference, Unlink, Hook, Unhook, Rename, Parent, Total, Count, Report}
+use Rattle.tree_specs.specs.declared.call.Call.TheVariants.{New, Free, Freekids, Steal, Move, Reparent, Reference, Unlink, Hook, Unhook, Rename, Resize, Limit, Parent, Total, Count, Sum, Report}
 use Rattle.tree_specs.specs.declared.object.Obj.{Obj}
 use Rattle.tree_specs.specs.declared.object.Owner.{Owner}
-use Rattle.tree_specs.specs.Grammar.{◌>>=◌, words, object_of, owner_of, new_of, of_object, of_owner, placing_of, reparent_of, hook_of, rename_of, call_of_words, call_of}
+use Rattle.tree_specs.specs.Grammar.{◌>>=◌, words, number_of, object_of, owner_of, new_of, of_object, of_owner, placing_of, numbered_of, reparent_of, hook_of, rename_of, call_of_words, call_of}
 use Rattle.tree_specs.specs.Names.{is_name}
 use Rattle.tree_specs.specs.Objects.{owner_number}
 use Rattle.tree_specs.specs.Soundness.{is_number, is_sound_owner, is_sound_call}
@@ -36,9 +36,12 @@ verb_of (Unlink owner x) = codes "unlink"
 verb_of (Hook x routine) = codes "hook"
 verb_of (Unhook x) = codes "unhook"
 verb_of (Rename x name) = codes "rename"
+verb_of (Resize x size) = codes "resize"
+verb_of (Limit x max) = codes "limit"
 verb_of (Parent x) = codes "parent"
 verb_of (Total owner) = codes "total"
 verb_of (Count owner) = codes "count"
+verb_of (Sum owner) = codes "sum"
 verb_of (Report owner) = codes "report"
 
 abbrev fields_of : Call → List (List ℕ)
@@ -53,9 +56,12 @@ fields_of (Unlink owner x) = decimal (owner_number owner) ∷ decimal x.0 ∷ []
 fields_of (Hook x routine) = decimal x.0 ∷ decimal routine ∷ []
 fields_of (Unhook x) = decimal x.0 ∷ []
 fields_of (Rename x name) = decimal x.0 ∷ name ∷ []
+fields_of (Resize x size) = decimal x.0 ∷ decimal size ∷ []
+fields_of (Limit x max) = decimal x.0 ∷ decimal max ∷ []
 fields_of (Parent x) = decimal x.0 ∷ []
 fields_of (Total owner) = decimal (owner_number owner) ∷ []
 fields_of (Count owner) = decimal (owner_number owner) ∷ []
+fields_of (Sum owner) = decimal (owner_number owner) ∷ []
 fields_of (Report owner) = decimal (owner_number owner) ∷ []
 
 abbrev words_of : Call → List (List ℕ)
@@ -74,9 +80,12 @@ call_text-words (Unlink owner x) = simp append_assoc
 call_text-words (Hook x routine) = simp append_assoc
 call_text-words (Unhook x) = refl
 call_text-words (Rename x name) = simp append_assoc
+call_text-words (Resize x size) = simp append_assoc
+call_text-words (Limit x max) = simp append_assoc
 call_text-words (Parent x) = refl
 call_text-words (Total owner) = refl
 call_text-words (Count owner) = refl
+call_text-words (Sum owner) = refl
 call_text-words (Report owner) = refl
 
 -- ---- from a call to its words and back
@@ -102,14 +111,14 @@ two_fit {is_sound} {is_sound_next} field next verb call x y is_word h reads =
       again = reads ∙ rw (field.again x parts.0, next.again y parts.1) refl;
     }
 
--- an owner and an object are read, one after the other
-pair_read : (call : Owner → Obj → Call) (owner : Option Owner) (object : Option Obj) → option_map (λ (pair : Owner × Obj). call pair.0 pair.1) (owner >>= (λ p. object >>= (λ x. Some (p, x)))) ≡ (owner >>= (λ p. object >>= (λ x. Some (call p x))))
-pair_read call None object = refl
-pair_read call (Some p) None = refl
-pair_read call (Some p) (Some x) = refl
+-- two fields are read, one after the other
+pair_read : {A B : Type 0} (call : A → B → Call) (first : Option A) (second : Option B) → option_map (λ (pair : A × B). call pair.0 pair.1) (first >>= (λ a. second >>= (λ b. Some (a, b)))) ≡ (first >>= (λ a. second >>= (λ b. Some (call a b))))
+pair_read call None second = refl
+pair_read call (Some a) None = refl
+pair_read call (Some a) (Some b) = refl
 
 words_fit : (c : Call) → is_sound_call c ≡ true → AreWords c (words_of c)
-unfolding call_of_words new_of of_object of_owner placing_of reparent_of hook_of rename_of
+unfolding call_of_words new_of of_object of_owner placing_of numbered_of reparent_of hook_of rename_of
 words_fit (New owner size name) h =
     let named = and_true (is_sound_owner owner && is_number size) (is_name name) h in
     let sized = and_true (is_sound_owner owner) (is_number size) named.0 in
@@ -133,9 +142,12 @@ words_fit (Unlink owner x) h = two_fit owner_field object_field (codes "unlink")
 words_fit (Hook x routine) h = two_fit object_field routine_field (codes "hook") Hook x routine refl h refl
 words_fit (Unhook x) h = one_fits object_field (codes "unhook") Unhook x refl h refl
 words_fit (Rename x name) h = two_fit object_field name_field (codes "rename") Rename x name refl h refl
+words_fit (Resize x size) h = two_fit object_field number_field (codes "resize") Resize x size refl h (pair_read Resize _ _)
+words_fit (Limit x max) h = two_fit object_field number_field (codes "limit") Limit x max refl h (pair_read Limit _ _)
 words_fit (Parent x) h = one_fits object_field (codes "parent") Parent x refl h refl
 words_fit (Total owner) h = one_fits owner_field (codes "total") Total owner refl h refl
 words_fit (Count owner) h = one_fits owner_field (codes "count") Count owner refl h refl
+words_fit (Sum owner) h = one_fits owner_field (codes "sum") Sum owner refl h refl
 words_fit (Report owner) h = one_fits owner_field (codes "report") Report owner refl h refl
 
 pub call_again : (c : Call) → is_sound_call c ≡ true → call_of (call_text c) ≡ Some c
@@ -226,6 +238,13 @@ placing_spelled verb call words_are sound (p ∷ []) c e = absurd cc
 placing_spelled verb call words_are sound (p ∷ x ∷ []) c e = two_spelled owner_field object_field verb call words_are sound p x c (sym (pair_read call (owner_of p) (object_of x)) ∙ e)
 placing_spelled verb call words_are sound (p ∷ x ∷ m ∷ more) c e = absurd cc
 
+numbered_spelled : (verb : List ℕ) (call : Obj → ℕ → Call) → ((x : Obj) (n : ℕ) → words_of (call x n) ≡ verb ∷ decimal x.0 ∷ decimal n ∷ []) → ((x : Obj) (n : ℕ) → is_sound_call (call x n) ≡ (is_number x.0 && is_number n)) → (fields : List (List ℕ)) (c : Call) → numbered_of call fields ≡ Some c → IsSpelling (verb ∷ fields) c
+unfolding numbered_of
+numbered_spelled verb call words_are sound [] c e = absurd cc
+numbered_spelled verb call words_are sound (x ∷ []) c e = absurd cc
+numbered_spelled verb call words_are sound (x ∷ n ∷ []) c e = two_spelled object_field number_field verb call words_are sound x n c (sym (pair_read call (object_of x) (number_of n)) ∙ e)
+numbered_spelled verb call words_are sound (x ∷ n ∷ m ∷ more) c e = absurd cc
+
 hook_spelled : (fields : List (List ℕ)) (c : Call) → hook_of fields ≡ Some c → IsSpelling (codes "hook" ∷ fields) c
 unfolding hook_of
 hook_spelled [] c e = absurd cc
@@ -263,11 +282,14 @@ words_spelled (verb ∷ fields) c e =
     (by_verb (codes "hook") hook_of hook_spelled verb fields c _
     (by_verb (codes "unhook") (of_object Unhook) (object_spelled (codes "unhook") Unhook (λ x. refl) (λ x. refl)) verb fields c _
     (by_verb (codes "rename") rename_of rename_spelled verb fields c _
+    (by_verb (codes "resize") (numbered_of Resize) (numbered_spelled (codes "resize") Resize (λ x size. refl) (λ x size. refl)) verb fields c _
+    (by_verb (codes "limit") (numbered_of Limit) (numbered_spelled (codes "limit") Limit (λ x max. refl) (λ x max. refl)) verb fields c _
     (by_verb (codes "parent") (of_object Parent) (object_spelled (codes "parent") Parent (λ x. refl) (λ x. refl)) verb fields c _
     (by_verb (codes "total") (of_owner Total) (owner_spelled (codes "total") Total (λ owner. refl) (λ owner. refl)) verb fields c _
     (by_verb (codes "count") (of_owner Count) (owner_spelled (codes "count") Count (λ owner. refl) (λ owner. refl)) verb fields c _
+    (by_verb (codes "sum") (of_owner Sum) (owner_spelled (codes "sum") Sum (λ owner. refl) (λ owner. refl)) verb fields c _
     (by_verb (codes "report") (of_owner Report) (owner_spelled (codes "report") Report (λ owner. refl) (λ owner. refl)) verb fields c _
-    (λ none. absurd cc)))))))))))))))
+    (λ none. absurd cc))))))))))))))))))
     e
 
 pub call_spelled : (text : List ℕ) (c : Call) → call_of text ≡ Some c → (text ≡ call_text c) × (is_sound_call c ≡ true)

@@ -5,7 +5,9 @@ ghost use Rattle.tree_specs.specs.Soundness.{is_sound_call};
 ghost use Rattle.tree_specs.specs.Text.{call_text};
 ghost use Rattle.text_forms.specs.Reads.{Reads};
 
-use crate::field::{number, object, only_object, only_owner, owner, owner_and_object, routine};
+use crate::field::{
+    number, object, object_and_number, only_object, only_owner, owner, owner_and_object, routine,
+};
 use crate::form::FormFault;
 use crate::name::read_name;
 use crate::split::words_of;
@@ -71,7 +73,7 @@ fn rename_call(alloc: Global, fields: &[&[u8]]) -> Result<Call, FormFault>
 }
 
 // A call's verb decides how its fields are read.
-#[tactic(auto, unfolding(tree_specs::specs::Grammar::call_of_words, tree_specs::specs::Grammar::of_object, tree_specs::specs::Grammar::of_owner, tree_specs::specs::Grammar::placing_of))]
+#[tactic(auto, unfolding(tree_specs::specs::Grammar::call_of_words, tree_specs::specs::Grammar::of_object, tree_specs::specs::Grammar::of_owner, tree_specs::specs::Grammar::placing_of, tree_specs::specs::Grammar::numbered_of))]
 fn call_from_words(alloc: Global, words: &[&[u8]]) -> Result<Call, FormFault>
     ensures { Reads result (call_of_words (map (λ w. w.now) words.now)) }
 {
@@ -100,12 +102,18 @@ fn call_from_words(alloc: Global, words: &[&[u8]]) -> Result<Call, FormFault>
         only_object(fields).map(|x| Call::Unhook { x })
     } else if *verb == b"rename".as_slice() {
         rename_call(alloc, fields)
+    } else if *verb == b"resize".as_slice() {
+        object_and_number(fields).map(|(x, size)| Call::Resize { x, size })
+    } else if *verb == b"limit".as_slice() {
+        object_and_number(fields).map(|(x, max)| Call::Limit { x, max })
     } else if *verb == b"parent".as_slice() {
         only_object(fields).map(|x| Call::Parent { x })
     } else if *verb == b"total".as_slice() {
         only_owner(fields).map(|owner| Call::Total { owner })
     } else if *verb == b"count".as_slice() {
         only_owner(fields).map(|owner| Call::Count { owner })
+    } else if *verb == b"sum".as_slice() {
+        only_owner(fields).map(|owner| Call::Sum { owner })
     } else if *verb == b"report".as_slice() {
         only_owner(fields).map(|owner| Call::Report { owner })
     } else {

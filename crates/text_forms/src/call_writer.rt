@@ -43,9 +43,12 @@ fn write_text(call: &Call, out: &mut Vec<u8>) -> Result<(), Memory>
         Call::Hook { x, routine } => write_fields(b"hook", &[x.0, u64::from(*routine)], out),
         Call::Unhook { x } => write_fields(b"unhook", &[x.0], out),
         Call::Rename { x, name } => write_named(b"rename", &[x.0], name, out),
+        Call::Resize { x, size } => write_fields(b"resize", &[x.0, *size], out),
+        Call::Limit { x, max } => write_fields(b"limit", &[x.0, *max], out),
         Call::Parent { x } => write_fields(b"parent", &[x.0], out),
         Call::Total { owner } => write_fields(b"total", &[owner.number()], out),
         Call::Count { owner } => write_fields(b"count", &[owner.number()], out),
+        Call::Sum { owner } => write_fields(b"sum", &[owner.number()], out),
         Call::Report { owner } => write_fields(b"report", &[owner.number()], out),
     }
 }

@@ -1,7 +1,7 @@
 //! The fields of a call, each by its kind.
 
 ghost use Rattle.std.specs.Prelude.{◌≡◌, map};
-ghost use Rattle.tree_specs.specs.Grammar.{number_of, owner_of, object_of, routine_of, only_object_of, only_owner_of, owner_and_object_of};
+ghost use Rattle.tree_specs.specs.Grammar.{number_of, owner_of, object_of, routine_of, only_object_of, only_owner_of, owner_and_object_of, object_and_number_of};
 ghost use Rattle.text_forms.specs.Reads.{Reads};
 
 use crate::form::FormFault;
@@ -74,6 +74,20 @@ pub(crate) fn owner_and_object(fields: &[&[u8]]) -> Result<(Owner, Obj), FormFau
             let owner = owner(p)?;
             let x = object(x)?;
             Ok((owner, x))
+        }
+        _ => Err(FormFault::NoForm),
+    }
+}
+
+// The fields of a call with an object, and then a number.
+pub(crate) fn object_and_number(fields: &[&[u8]]) -> Result<(Obj, u64), FormFault>
+    ensures { Reads result (object_and_number_of (map (λ w. w.now) fields.now)) }
+{
+    match fields {
+        [x, n] => {
+            let x = object(x)?;
+            let n = number(n)?;
+            Ok((x, n))
         }
         _ => Err(FormFault::NoForm),
     }

@@ -36,7 +36,7 @@ nowhere (r ∷ rs) x e = by_test (same r.serial x)
     record { row = rw t e'; not_taken_out = rw t (ap (λ q. r ∷ q) ih.not_taken_out); not_replaced = λ f. rw t (ap (λ q. r ∷ q) (ih.not_replaced f)) })
 
 a_row : Row
-a_row = record { serial = record { 0 = 0 }; owner = None; name = []; size = 0; kind = Plain; mark = Quiet; hook = 0 }
+a_row = record { serial = record { 0 = 0 }; owner = None; name = []; size = 0; kind = Plain; mark = Quiet; hook = 0; limit = 0 }
 
 get_or-default : (rs : List Row) (i : ℕ) (d e : Row) → i < length rs → get_or rs i d ≡ get_or rs i e
 get_or-default [] i d e l = absurd (omega arith)

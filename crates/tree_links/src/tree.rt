@@ -55,7 +55,7 @@ impl Tree {
     ghost use Rattle.tree_specs.specs.declared.object.Owner.TheVariants.{Of as At};
     ghost use Rattle.tree_specs.specs.Objects.{same};
     ghost use Rattle.tree_specs.specs.Calls.{row_limit, size_limit};
-    ghost use Rattle.tree_specs.specs.Pool.{empty, is_row, is_owner, is_dying, row_of, is_below, first_kid as kid_first, next_kid as kid_next, add as added, take_number as number_taken, detach as detached, remove as removed, place as placed, rename as renamed, set_mark as marked, set_hook as hooked, set_size as resized, owner_of, next_owner as owner_after, is_inside as is_inside_of, is_dying_mark};
+    ghost use Rattle.tree_specs.specs.Pool.{empty, is_row, is_owner, is_dying, row_of, is_below, first_kid as kid_first, next_kid as kid_next, add as added, take_number as number_taken, detach as detached, remove as removed, place as placed, rename as renamed, set_mark as marked, set_hook as hooked, set_size as resized, set_limit as limited, owner_of, next_owner as owner_after, is_inside as is_inside_of, is_dying_mark};
     ghost use Rattle.tree_links.specs.Links.{IsTree, pool_of, works_of, number_after, may_go};
     ghost use Rattle.tree_links.specs.Found.{StandsAt, StandsNowhere};
 
@@ -139,6 +139,7 @@ impl Tree {
             kind: row.kind,
             mark: Mark::Quiet,
             hook: 0,
+            limit: 0,
         });
         self.next += 1;
         serial
@@ -359,6 +360,18 @@ impl Tree {
     {
         if let Some(i) = self.find(x) {
             self.rows[i].size = size;
+        }
+    }
+
+    /// Gives an object another limit, in bytes; 0 is none. It takes no memory.
+    pub fn set_limit(&mut self, x: Obj, limit: u64)
+        requires { is_row self.old.rows x ≡ true }
+        ensures rows { pool_of self.new ≡ limited (pool_of self.old) x limit }
+        ensures spare { self.old.spare ≤ self.new.spare }
+        ensures works { works_of self.new ≡ works_of self.old }
+    {
+        if let Some(i) = self.find(x) {
+            self.rows[i].limit = limit;
         }
     }
 

@@ -1,5 +1,5 @@
 -- The sums over what is inside an owner are sums over a walk.
-use Rattle.std.proofs.Common.{◌≡◌, ℕ, zero, suc, ◌*◌, ◌^◌, ◌<◌, ◌≤◌, List, [], ◌∷◌, length, map, Bool, if◌then◌else◌, refl, ap, arith}
+use Rattle.std.proofs.Common.{◌≡◌, ℕ, zero, suc, ◌+◌, ◌*◌, ◌^◌, ◌<◌, ◌≤◌, List, [], ◌∷◌, length, map, Bool, Option, Some, if◌then◌else◌, refl, ap, arith}
 use Rattle.std.specs.List.{flat_map, sum_by}
 use Rattle.std.proofs.lemmas.List.{append-nil}
 use Rattle.std.proofs.lemmas.List.Recursion.{is_sum_by}
@@ -18,11 +18,13 @@ use Rattle.tree_specs.specs.declared.row.Row.{Row}
 use Rattle.tree_specs.specs.Calls.{size_limit}
 use Rattle.tree_specs.specs.Pool.{kids, is_inside}
 use Rattle.tree_specs.specs.Inside.{total, count_inside}
+use Rattle.tree_specs.specs.Sums.{overhead, charge, sum_inside}
 use Rattle.tree_specs.specs.Targets.{is_reference}
 use Rattle.tree_specs.specs.Walks.{walked, weight_in, weight_at, own, total_of}
 use Rattle.tree_specs.proofs.Numbered.{by_test}
 use Rattle.tree_specs.proofs.Walk.{total-same, inside-walked}
 use Rattle.tree_links.specs.Links.{AllFit, IsTree}
+use Rattle.tree_links.proofs.Trees.{fit-row}
 use Rattle.tree_report.specs.declared.walk.Place.{Place}
 use Rattle.tree_report.specs.Walk.{at_depth, placed, ahead, walk_from}
 use Rattle.tree_report.specs.Weights.{own_row, sized, counted, weight_of}
@@ -71,15 +73,18 @@ count-weight rs next from t = total-same _ _ rs t.forest.distinct (λ r e. by_te
 
 -- the weight of each row that fits is small
 abbrev pub IsSmall : (Row → ℕ) → Type 0
-IsSmall g = (r : Row) → r.size < size_limit → g r ≤ size_limit
+IsSmall g = (r : Row) → r.size < size_limit → g r ≤ size_limit + overhead
 
 pub sized-small : IsSmall sized
 sized-small r l = omega (arith, l)
 
+pub charge-small : IsSmall charge
+charge-small r l = by_test (is_reference r.kind) (λ t. rw t (omega arith)) (λ t. rw t (omega (arith, l)))
+
 pub counted-small : IsSmall counted
 counted-small r l = by_test (is_reference r.kind) (λ t. rw t (omega arith)) (λ t. rw t (omega arith))
 
-weights-bound : (g : Row → ℕ) (b : Row → Bool) (next : ℕ) (rs : List Row) → IsSmall g → AllFit next rs → total (λ r. if b r then g r else 0) rs ≤ length rs * size_limit
+weights-bound : (g : Row → ℕ) (b : Row → Bool) (next : ℕ) (rs : List Row) → IsSmall g → AllFit next rs → total (λ r. if b r then g r else 0) rs ≤ length rs * (size_limit + overhead)
 weights-bound g b next [] small f = omega arith
 weights-bound g b next (r ∷ rs) small f =
     let ih = weights-bound g b next rs small f.2 in
@@ -91,8 +96,17 @@ weight-fits g rs next from small t =
     let e = whole-weight g rs next from t in
     omega (arith, e, b, t.few)
 
+-- what is inside an owner counts less than numbers go
+pub sum-small : (rs : List Row) (next : ℕ) (from : Owner) → IsTree rs next → sum_inside rs from < 2 ^ 64
+sum-small rs next from t = let b = weights-bound charge (λ r. is_inside rs (Of r.serial) from) next rs charge-small t.fit in omega (arith, b, t.few)
+
 -- ---- what a chain of iterators gives that weighs each place of a walk
 
 pub weights : {F : Type 0} {s : Map (List Place) F} {f : F} (call : Mut F (Place × Unit {0}) ℕ) (g : Row → ℕ) (rs : List Row) (from : Owner) → map_source s ≡ walk_from rs from → map_callee s ≡ f
     → ((place : Place) (r : ℕ) (q : F) → Called call f (place, tt) r q → (q ≡ f) × (r ≡ weight_of g rs place)) → YieldsList (maps (YieldsFirst (λ w. w)) call) (λ r. r) s (map (weight_of g rs) (walk_from rs from))
 weights call g rs from source closure calls = YieldsList-from_map call (weight_of g rs) (YieldsList-from_first (λ p. p) (λ w. w) (walk_from rs from) source) closure calls
+
+-- the size of an owner's own row
+pub own-size : (rs : List Row) (next : ℕ) (from : Owner) (r : Row) → AllFit next rs → own_row rs from ≡ Some r → r.size < size_limit
+own-size rs next Root r fit e = cc
+own-size rs next (Of x) r fit e = (fit-row next rs x r fit e).1

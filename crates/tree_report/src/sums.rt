@@ -2,6 +2,7 @@ ghost use Rattle.std.specs.Prelude.{◌≡◌};
 ghost use Rattle.std.specs.Option.{option_copied};
 ghost use Rattle.tree_specs.specs.Inside.{size_inside, count_inside};
 ghost use Rattle.tree_specs.specs.Walks.{weight_in};
+ghost use Rattle.tree_specs.specs.Sums.{charge, sum_inside};
 ghost use Rattle.tree_report.specs.Weights.{own_row, sized, counted};
 
 use crate::walk::Walk;
@@ -35,6 +36,27 @@ fn own_count(tree: &Tree, owner: Owner) -> u64
     })
 }
 
+/// Beside its size an object that is no reference counts so many bytes against a limit.
+pub const OVERHEAD: u64 = 96;
+
+/// What an object that is no reference counts against a limit, in bytes, and 0 elsewhere.
+fn own_charge(tree: &Tree, owner: Owner) -> u64
+    ensures { result ≡ weight_in charge (own_row tree.now.rows owner) }
+{
+    // All that is wanted of `len` is its contract: sizes are small.
+    let _rows = tree.len();
+    match row_of(tree, owner) {
+        None
+        | Some(
+            Row {
+                kind: Kind::Reference { .. },
+                ..
+            },
+        ) => 0,
+        Some(row) => row.size + OVERHEAD,
+    }
+}
+
 /// The sum of the sizes, in bytes, of an object and of all that it owns, and of all that these own, or of all
 /// that is below the root, as `talloc_total_size` gives it. It is 0 where there is no such object. It takes no
 /// memory.
@@ -54,5 +76,15 @@ pub fn count(tree: &Tree, from: Owner) -> u64
 {
     Walk::new(tree, from)
         .map(|place| own_count(tree, place.owner))
+        .sum()
+}
+
+/// What the objects inside an owner count against its limit (`talloc_set_memlimit`), in bytes: each its size and 96
+/// more, a reference nothing. It is 0 where there is no such owner. It takes no memory.
+pub fn sum(tree: &Tree, from: Owner) -> u64
+    ensures { result ≡ sum_inside tree.now.rows from }
+{
+    Walk::new(tree, from)
+        .map(|place| own_charge(tree, place.owner))
         .sum()
 }

@@ -54,7 +54,7 @@ reach_more rs (suc n) (Some o) y h = by_test (same_owner o y)
     let ih : reaches (suc n) rs (next_owner rs o) y ≡ true = reach_more rs n (next_owner rs o) y h' in rw t ih)
 
 -- the root and what is no row have no owner
-reach-root : (rs : List Row) (n : ℕ) (y : Owner) → reaches n rs (Some Root) y ≡ same_owner Root y
+pub reach-root : (rs : List Row) (n : ℕ) (y : Owner) → reaches n rs (Some Root) y ≡ same_owner Root y
 reach-root rs zero y = refl
 reach-root rs (suc n) y = by_test (same_owner Root y) (λ t. rw t refl) (λ t. rw t refl)
 

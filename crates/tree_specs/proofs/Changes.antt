@@ -10,7 +10,7 @@ use Rattle.tree_specs.specs.declared.row.Mark.TheVariants.{Quiet, Asked, Busy, D
 use Rattle.tree_specs.specs.declared.frame.Frame.{Frame}
 use Rattle.tree_specs.specs.declared.kind.Kind.{Kind}
 use Rattle.tree_specs.specs.Objects.{same}
-use Rattle.tree_specs.specs.Pool.{Pool, row_of, target_at, is_object_row, is_owner, is_below, owner_of, without, changed, add, remove, place, named_row, marked_row, hooked_row}
+use Rattle.tree_specs.specs.Pool.{Pool, row_of, target_at, is_object_row, is_owner, is_below, owner_of, without, changed, add, remove, place, named_row, sized_row, limited_row, marked_row, hooked_row}
 use Rattle.tree_specs.specs.Heirs.{heir}
 use Rattle.tree_specs.specs.Targets.{target_of, newest_ref}
 use Rattle.tree_specs.specs.Sound.{IsReferable, IsQuietRow, Refers, Owned, Shaped, ValidAt, Phase, InRun, InLoop, phase_of, phases, claim_if, claim, claims, AllWait, IsLive, Rests, Sound}
@@ -138,6 +138,12 @@ hooks-place h = record { serial = λ r. refl; kind = λ r. refl; owner = λ r. r
 
 pub names-place : (name : List ℕ) → KeepsPlace (named_row name)
 names-place name = record { serial = λ r. refl; kind = λ r. refl; owner = λ r. refl }
+
+pub sizes-place : (size : ℕ) → KeepsPlace (sized_row size)
+sizes-place size = record { serial = λ r. refl; kind = λ r. refl; owner = λ r. refl }
+
+pub limits-place : (limit : ℕ) → KeepsPlace (limited_row limit)
+limits-place limit = record { serial = λ r. refl; kind = λ r. refl; owner = λ r. refl }
 
 -- a change that says nothing of what is going on
 pub unmarked-sound : (g : Row → Row) (f f' : Frame) (fs : List Frame) (p : Pool) (x : Obj) (r : Row) → Sound f fs p → KeepsPlace g → ((r : Row) → (g r).mark ≡ r.mark) → row_of p.rows x ≡ Some r

@@ -1,6 +1,6 @@
 -- What it means that no refusal applies, and that an input fits.
 use Rattle.std.proofs.Common.{◌≡◌, ◌≢◌, ℕ, suc, zero, List, [], ◌∷◌, ◌++◌, length, Option, Some, None, Bool, true, false, refl, sym, ◌∙◌, ap, subst, ◌⊎◌, inl, inr}
-use Rattle.std.specs.Prelude.{is_some, not}
+use Rattle.std.specs.Prelude.{◌+◌, is_some, not}
 use Rattle.tree_specs.specs.declared.object.Obj.{Obj}
 use Rattle.tree_specs.specs.declared.object.Owner.{Owner}
 use Rattle.tree_specs.specs.declared.object.Owner.TheVariants.{Root, Of}
@@ -20,7 +20,8 @@ use Rattle.tree_specs.specs.declared.question.Input.TheVariants as input
 use Rattle.tree_specs.specs.declared.frame.Frame.{Frame}
 use Rattle.tree_specs.specs.Targets.{target_of, is_reference}
 use Rattle.tree_specs.specs.Pool.{Pool, row_of, is_object_row, is_owner, is_below, owner_of, newest_ref_of, is_dying_row, reaches, is_inside}
-use Rattle.tree_specs.specs.Calls.{Check, refuse_if, refusals, small, is_plain, is_plain_row, object_row, object, plain, owner, room, staying, apart, placing, is_interested, interested, given_by, is_held, held, is_running_mark, is_running_row, still, hooking}
+use Rattle.tree_specs.specs.Sums.{overhead}
+use Rattle.tree_specs.specs.Calls.{Check, refuse_if, refusals, small, is_plain, is_plain_row, object_row, object, plain, owner, room, staying, apart, placing, is_interested, interested, given_by, is_held, held, is_running_mark, is_running_row, still, hooking, fits, unreferenced, growing}
 use Rattle.tree_specs.specs.Sound.{IsLive, MayBePlaced}
 use Rattle.tree_specs.specs.Soundness.{is_sound_call, is_return}
 use Rattle.tree_specs.specs.Table.{doing, returning}
@@ -88,7 +89,7 @@ passes-owner p (Of x) e = each (row_of p.rows x) e
 
 -- a new object that isn't refused has one
 pub passes : (p : Pool) (o : Owner) (size : ℕ) (name : List ℕ) → refusals p (call.New o size name) ≡ [] → is_owner p.rows o ≡ true
-passes p o size name e = passes-owner p o (both-none (owner p o) (room p 1) (both-none (small size) (owner p o ++ room p 1) e).1).0
+passes p o size name e = passes-owner p o (both-none (owner p o) (room p 1 ++ fits p o (size + overhead)) (both-none (small size) (owner p o ++ (room p 1 ++ fits p o (size + overhead))) e).1).0
 
 may-be : (p : Pool) (o : Owner) (x : Obj) → object p x ≡ [] → owner p o ≡ [] → staying p x ≡ [] → apart p x o ≡ [] → MayBePlaced p o x
 may-be p o x e own s a =
@@ -142,6 +143,12 @@ passes-reparent p from to x e =
     by-ref : is_below (owner_of p.rows x) from ≡ false → owner p to ≡ [] → (n : Option Obj) → newest_ref_of p.rows from x ≡ n → is_some n ≡ true → MayGo p from to x
     by-ref t o None n h = cc
     by-ref t o (Some r) n h = ItsRef r t n (passes-owner p to o)
+
+-- an object that may get another size
+pub passes-resize : (p : Pool) (x : Obj) (size : ℕ) → refusals p (call.Resize x size) ≡ [] → (r : Row) × (row_of p.rows x ≡ Some r) × (target_of r.kind ≡ None)
+passes-resize p x size e =
+    let later : Check = plain p x ++ (unreferenced p x ++ (staying p x ++ growing p x size)) in
+    passes-object p x (both-none (object p x) later (both-none (small size) (object p x ++ later) e).1).0
 
 -- an object that may be freed by a call
 pub passes-free : (p : Pool) (x : Obj) → refusals p (call.Free x) ≡ [] → (object p x ≡ []) × (is_held p x ≡ false)

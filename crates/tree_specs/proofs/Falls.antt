@@ -20,13 +20,14 @@ use Rattle.tree_specs.specs.declared.frame.Frame.TheVariants as frame
 use Rattle.tree_specs.specs.declared.frame.CallFrame.TheVariants.{Asking, Doing, Awaiting, Warning, Telling, Returning}
 use Rattle.tree_specs.specs.declared.frame.FreeFrame.TheVariants.{Unlinking, Releasing, Giving, Beginning, Hooked, Judged, Leaving, Looping, Trying, Tried, Ending}
 use Rattle.tree_specs.specs.declared.frame.Answer.{Answer}
-use Rattle.tree_specs.specs.Pool.{Pool, row_of, changed, place, named_row, hooked_row}
+use Rattle.tree_specs.specs.Pool.{Pool, row_of, changed, place, named_row, sized_row, limited_row, hooked_row}
 use Rattle.tree_specs.specs.Items.{Item}
 use Rattle.tree_specs.specs.Calls.{Check, refusals}
 use Rattle.tree_specs.specs.Table.{table, step, call_step, effect_step, replied, freeing_by, placed_step}
 use Rattle.tree_specs.specs.Sound.{Sound}
 use Rattle.tree_specs.specs.Sound.{MayBePlaced}
-use Rattle.tree_specs.proofs.Checks.{passes-placing, passes-reparent, passes-object, passes-hooking, MayGo, Itself, ItsRef}
+use Rattle.tree_specs.proofs.Checks.{passes-placing, passes-reparent, passes-object, passes-resize, passes-hooking, MayGo, Itself, ItsRef}
+use Rattle.tree_specs.specs.Sums.{sum_inside}
 use Rattle.tree_specs.specs.Inside.{total}
 use Rattle.tree_specs.specs.Measure.{weight, unit, cost}
 use Rattle.tree_specs.proofs.Rows.{total-placed, count-length}
@@ -79,9 +80,12 @@ effect-lower R q c fs p k s room = each c
     each (call.Hook x h) none = let may = passes-hooking p x none in mended (hooked_row h) x may.row may.is refl
     each (call.Unhook x) none = let may = passes-hooking p x none in mended (hooked_row 0) x may.row may.is refl
     each (call.Rename x name) none = let r = passes-object p x none in mended (named_row name) x r.0 r.1 refl
+    each (call.Resize x size) none = let r = passes-resize p x size none in mended (sized_row size) x r.0 r.1 refl
+    each (call.Limit x max) none = let r = passes-object p x none in mended (limited_row max) x r.0 r.1 refl
     each (call.Parent x) none = (omega arith, omega arith)
     each (call.Total o) none = (omega arith, omega arith)
     each (call.Count o) none = (omega arith, omega arith)
+    each (call.Sum o) none = (omega arith, omega arith)
     each (call.Report o) none = (omega arith, omega arith)
 
 doing-lower : (R : ℕ) (q : Ask) (c : Call) (fs : List Frame) (p : Pool) (k : ℕ) → Sound (frame.Call (Doing q c)) fs p → Room R (frame.Call (Doing q c)) p k

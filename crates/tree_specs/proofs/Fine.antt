@@ -154,9 +154,12 @@ caused-reply scenes x (Some b) a k h = let e = each b.call k.0 k.1 in (just-now 
     each (call.Hook y routine) e n = absurd e
     each (call.Unhook y) e n = absurd e
     each (call.Rename y name) e n = absurd e
+    each (call.Resize y size) e n = absurd e
+    each (call.Limit y max) e n = absurd e
     each (call.Parent y) e n = absurd e
     each (call.Total o) e n = absurd e
     each (call.Count o) e n = absurd e
+    each (call.Sum o) e n = absurd e
     each (call.Report o) e n = absurd e
 
 -- ---- a work that ends

@@ -26,11 +26,12 @@ use Rattle.tree_specs.specs.declared.frame.CallFrame.TheVariants.{Asking, Doing,
 use Rattle.tree_specs.specs.declared.frame.FreeFrame.TheVariants.{Unlinking, Beginning, Looping}
 use Rattle.tree_specs.specs.declared.frame.Purpose.TheVariants.{Emptying}
 use Rattle.tree_specs.specs.declared.frame.Answer.TheVariants as answer
-use Rattle.tree_specs.specs.Pool.{Pool, row_of, owner_of, add, place, set_hook, rename}
+use Rattle.tree_specs.specs.Pool.{Pool, row_of, owner_of, add, place, set_hook, rename, set_size, set_limit}
 use Rattle.tree_specs.specs.Items.{Item}
 use Rattle.tree_specs.specs.Items.Item.{Told, Asked}
 use Rattle.tree_specs.specs.declared.kind.Kind.TheVariants.{Plain}
 use Rattle.tree_specs.specs.Calls.{Check, refusals}
+use Rattle.tree_specs.specs.Sums.{sum_inside}
 use Rattle.tree_specs.specs.Inside.{size_inside, count_inside}
 use Rattle.tree_specs.specs.Reports.{report}
 use Rattle.tree_specs.specs.Works.{Begun, Scene}
@@ -43,9 +44,9 @@ use Rattle.tree_specs.specs.Sound.{AllWait, claim, claims, InRun, phases, Sound}
 use Rattle.tree_specs.specs.Whole.{Whole, Seated}
 use Rattle.tree_specs.proofs.Numbered.{same-equal}
 use Rattle.tree_specs.specs.Sound.{MayBePlaced}
-use Rattle.tree_specs.proofs.Checks.{passes-placing, passes-reparent, passes-object, passes-hooking, Heard, Does, Returns, heard-leads, MayGo, Itself, ItsRef, passes-free}
+use Rattle.tree_specs.proofs.Checks.{passes-placing, passes-reparent, passes-object, passes-resize, passes-hooking, Heard, Does, Returns, heard-leads, MayGo, Itself, ItsRef, passes-free}
 use Rattle.tree_specs.proofs.Changes.{running-row, claim-here}
-use Rattle.tree_specs.proofs.Later.{Later, later-same, later-placed, later-hooked, later-renamed, later-added}
+use Rattle.tree_specs.proofs.Later.{Later, later-same, later-placed, later-hooked, later-renamed, later-sized, later-limited, later-added}
 use Rattle.tree_specs.proofs.Past.{Accounts, Past, past-goes, past-tells, unfreed, unaccepted}
 use Rattle.tree_specs.proofs.Causes.{NotedWork, told, IsFreeOf, IsHookOf, FreesBy, StandsOn, Stacked, IsCaused, IsAskedFor, Cause, NotHeld}
 use Rattle.tree_specs.proofs.Waiters.{Waiter, ForFree, ForRun, ForChild, waiter}
@@ -216,9 +217,12 @@ effect-fine scenes q (call.Unlink o x) b ws p known s none = frees-next scenes q
 effect-fine scenes q (call.Hook x h) b ws p known s none = let may = passes-hooking p x none in told-next scenes q _ b ws p known reply.Ok (set_hook p x h) (later-hooked p x may.row h may.is) (tt, tt, tt, tt)
 effect-fine scenes q (call.Unhook x) b ws p known s none = let may = passes-hooking p x none in told-next scenes q _ b ws p known reply.Ok (set_hook p x 0) (later-hooked p x may.row 0 may.is) (tt, tt, tt, tt)
 effect-fine scenes q (call.Rename x name) b ws p known s none = let r = passes-object p x none in told-next scenes q _ b ws p known reply.Ok (rename p x name) (later-renamed p x r.0 name r.1) (tt, tt, tt, tt)
+effect-fine scenes q (call.Resize x size) b ws p known s none = let r = passes-resize p x size none in told-next scenes q _ b ws p known reply.Ok (set_size p x size) (later-sized p x r.0 size r.1) (tt, tt, tt, tt)
+effect-fine scenes q (call.Limit x max) b ws p known s none = let r = passes-object p x none in told-next scenes q _ b ws p known reply.Ok (set_limit p x max) (later-limited p x r.0 max r.1) (tt, tt, tt, tt)
 effect-fine scenes q (call.Parent x) b ws p known s none = told-next scenes q _ b ws p known (owner_reply (owner_of p.rows x)) p (later-same p) (tt, tt, tt, tt)
 effect-fine scenes q (call.Total o) b ws p known s none = told-next scenes q _ b ws p known (reply.Number (size_inside p.rows o)) p (later-same p) (tt, tt, tt, tt)
 effect-fine scenes q (call.Count o) b ws p known s none = told-next scenes q _ b ws p known (reply.Number (count_inside p.rows o)) p (later-same p) (tt, tt, tt, tt)
+effect-fine scenes q (call.Sum o) b ws p known s none = told-next scenes q _ b ws p known (reply.Number (sum_inside p.rows o)) p (later-same p) (tt, tt, tt, tt)
 effect-fine scenes q (call.Report o) b ws p known s none = told-next scenes q _ b ws p known (reply.Rows (report p.rows o)) p (later-same p) (tt, tt, tt, tt)
 
 pub doing-fine : (scenes : List Scene) (q : Ask) (c : Call) (b : Option Begun) (ws : List NotedWork) (p : Pool) → Sound (frame.Call (Doing q c)) (map work_of ws) p

@@ -18,7 +18,8 @@ use Rattle.tree_specs.specs.declared.frame.CallFrame.TheVariants.{Asking, Doing,
 use Rattle.tree_specs.specs.declared.frame.FreeFrame.TheVariants.{Unlinking, Releasing, Giving, Beginning, Hooked, Judged, Leaving, Looping, Trying, Tried, Ending}
 use Rattle.tree_specs.specs.declared.frame.Answer.TheVariants.{Freed, Returned}
 use Rattle.tree_specs.specs.declared.free_step.FreeReply.TheVariants.{Ok}
-use Rattle.tree_specs.specs.Pool.{Pool, row_of, target_at, is_owner, owner_of, changed, place, named_row, set_hook, hooked_row}
+use Rattle.tree_specs.specs.Pool.{Pool, row_of, target_at, is_owner, owner_of, changed, place, named_row, sized_row, limited_row, set_hook, hooked_row}
+use Rattle.tree_specs.specs.Sums.{sum_inside}
 use Rattle.tree_specs.specs.Inside.{size_inside, count_inside}
 use Rattle.tree_specs.specs.Reports.{report}
 use Rattle.tree_specs.specs.Calls.{Check, refusals}
@@ -29,8 +30,8 @@ use Rattle.tree_specs.proofs.Numbered.{is_below-some}
 use Rattle.tree_specs.proofs.Rooted.{KeepsPlace}
 use Rattle.tree_specs.proofs.Referring.{newest-refers, newest-of-refers, refers-nothing, plain-refers, reference-outside, object-refers}
 use Rattle.tree_specs.specs.Targets.{target_of, newest_ref}
-use Rattle.tree_specs.proofs.Checks.{passes, passes-placing, MayGo, Itself, ItsRef, passes-reparent, Interest, AsOwner, AsHolder, passes-free, passes-unlink, passes-reference, passes-object, MayBeHooked, passes-hooking}
-use Rattle.tree_specs.proofs.Changes.{stands, goes_on, hooks-place, names-place, unmarked-sound, placed-sound, new-sound, owned-row}
+use Rattle.tree_specs.proofs.Checks.{passes, passes-placing, MayGo, Itself, ItsRef, passes-reparent, Interest, AsOwner, AsHolder, passes-free, passes-unlink, passes-reference, passes-object, passes-resize, MayBeHooked, passes-hooking}
+use Rattle.tree_specs.proofs.Changes.{stands, goes_on, hooks-place, names-place, sizes-place, limits-place, unmarked-sound, placed-sound, new-sound, owned-row}
 use Rattle.tree_specs.proofs.KeptFrees.{KeptBy, asking, beginning, ended, hooked, judged, leaving, looping, referred-live, releasing, still-there, tried, unlinking}
 
 -- a call without a free leaves what it does, and is told
@@ -109,9 +110,12 @@ effected q (call.Unlink o x) fs p k s none = let u = passes-unlink p o x none in
 effected q (call.Hook x h) fs p k s none = hooks q _ fs p s x h (passes-hooking p x none)
 effected q (call.Unhook x) fs p k s none = hooks q _ fs p s x 0 (passes-hooking p x none)
 effected q (call.Rename x name) fs p k s none = let r = passes-object p x none in mended q _ fs p s (named_row name) x r.0 (names-place name) (λ r. refl) r.1 r.2
+effected q (call.Resize x size) fs p k s none = let r = passes-resize p x size none in mended q _ fs p s (sized_row size) x r.0 (sizes-place size) (λ r. refl) r.1 r.2
+effected q (call.Limit x max) fs p k s none = let r = passes-object p x none in mended q _ fs p s (limited_row max) x r.0 (limits-place max) (λ r. refl) r.1 r.2
 effected q (call.Parent x) fs p k s none = told q _ fs p s (owner_reply (owner_of p.rows x))
 effected q (call.Total o) fs p k s none = told q _ fs p s (reply.Number (size_inside p.rows o))
 effected q (call.Count o) fs p k s none = told q _ fs p s (reply.Number (count_inside p.rows o))
+effected q (call.Sum o) fs p k s none = told q _ fs p s (reply.Number (sum_inside p.rows o))
 effected q (call.Report o) fs p k s none = told q _ fs p s (reply.Rows (report p.rows o))
 
 doing : (q : Ask) (c : Call) (fs : List Frame) (p : Pool) (k : ℕ) → Sound (frame.Call (Doing q c)) fs p → KeptBy (step (frame.Call (Doing q c)) p) fs k

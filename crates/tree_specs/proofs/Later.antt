@@ -7,7 +7,7 @@ use Rattle.tree_specs.specs.declared.row.Row.{Row}
 use Rattle.tree_specs.specs.declared.row.Mark.{Mark}
 use Rattle.tree_specs.specs.declared.row.Mark.TheVariants.{Quiet, Asked, Busy, Doomed, Dying}
 use Rattle.tree_specs.specs.Objects.{same}
-use Rattle.tree_specs.specs.Pool.{Pool, row_of, changed, add, detach, left_row, remove, place, set_mark, marked_row, set_hook, hooked_row, rename, named_row}
+use Rattle.tree_specs.specs.Pool.{Pool, row_of, changed, add, detach, left_row, remove, place, set_mark, marked_row, set_hook, hooked_row, rename, named_row, set_size, sized_row, set_limit, limited_row}
 use Rattle.tree_specs.specs.Forest.{Distinct}
 use Rattle.tree_specs.specs.Sound.{IsLive}
 use Rattle.tree_specs.proofs.Numbered.{same_or_not, same-false}
@@ -75,6 +75,12 @@ later-hooked p x r h e = later-changed (hooked_row h) p x r (λ q. refl) e (λ d
 
 pub later-renamed : (p : Pool) (x : Obj) (r : Row) (name : List ℕ) → row_of p.rows x ≡ Some r → Later p (rename p x name)
 later-renamed p x r name e = later-changed (named_row name) p x r (λ q. refl) e (λ d. d)
+
+pub later-sized : (p : Pool) (x : Obj) (r : Row) (size : ℕ) → row_of p.rows x ≡ Some r → Later p (set_size p x size)
+later-sized p x r size e = later-changed (sized_row size) p x r (λ q. refl) e (λ d. d)
+
+pub later-limited : (p : Pool) (x : Obj) (r : Row) (limit : ℕ) → row_of p.rows x ≡ Some r → Later p (set_limit p x limit)
+later-limited p x r limit e = later-changed (limited_row limit) p x r (λ q. refl) e (λ d. d)
 
 pub later-left : (p : Pool) (x : Obj) (r : Row) → row_of p.rows x ≡ Some r → Later p (detach p x)
 later-left p x r e = later-changed left_row p x r (λ q. refl) e (λ d. tt)

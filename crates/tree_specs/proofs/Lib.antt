@@ -4,6 +4,8 @@ pub mod Kids
 pub mod Settling
 pub mod Ancestry
 pub mod Rooted
+pub mod Attached
+pub mod SumLaws
 pub mod Walk
 pub mod Referring
 pub mod Heirs

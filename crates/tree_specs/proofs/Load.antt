@@ -32,7 +32,7 @@ use Rattle.tree_specs.specs.declared.frame.Answer.{Answer}
 use Rattle.tree_specs.specs.declared.frame.Answer.TheVariants.{Freed, Returned}
 use Rattle.tree_specs.specs.declared.free_step.FreeReply.{FreeReply}
 use Rattle.tree_specs.specs.declared.free_step.FreeReply.TheVariants.{Ok, Running, Refused, Held}
-use Rattle.tree_specs.specs.Pool.{Pool, row_of, is_below, owner_of, first_kid, changed, left_row, place, named_row, set_mark, marked_row, hooked_row, target_at, noted_owner, newest_ref_of, is_inside, remove}
+use Rattle.tree_specs.specs.Pool.{Pool, row_of, is_below, owner_of, first_kid, changed, left_row, place, named_row, sized_row, limited_row, set_mark, marked_row, hooked_row, target_at, noted_owner, newest_ref_of, is_inside, remove}
 use Rattle.tree_specs.specs.Heirs.{heir}
 use Rattle.tree_specs.specs.Items.{Item}
 use Rattle.tree_specs.specs.Calls.{Check, refusals}
@@ -40,9 +40,10 @@ use Rattle.tree_specs.specs.Table.{table, step, lifted, begin_quiet, begin_step,
 use Rattle.tree_specs.specs.Sound.{phase_of, phases, InRun, InLoop, claims, AllWait, Sound, Refers, IsQuietRow}
 use Rattle.tree_specs.proofs.Numbered.{by_test}
 use Rattle.tree_specs.specs.Sound.{MayBePlaced}
-use Rattle.tree_specs.proofs.Checks.{passes-placing, passes-reparent, passes-object, passes-hooking, Heard, Does, Returns, heard-leads, MayGo, Itself, ItsRef}
+use Rattle.tree_specs.proofs.Checks.{passes-placing, passes-reparent, passes-object, passes-resize, passes-hooking, Heard, Does, Returns, heard-leads, MayGo, Itself, ItsRef}
 use Rattle.tree_specs.specs.Story.{owner_reply, later, warns, reparented}
 use Rattle.tree_specs.specs.Whole.{IsQuiet, IsOfRoutine, IsCaller, IsRun, IsFree, Seat, Seated, size, innermost_size, sizes, mark_burden, burden, Light}
+use Rattle.tree_specs.specs.Sums.{sum_inside}
 use Rattle.tree_specs.specs.Inside.{total, size_inside, count_inside}
 use Rattle.tree_specs.specs.Reports.{report}
 use Rattle.tree_specs.proofs.Rows.{total-without, total-placed, total-changed}
@@ -176,9 +177,12 @@ doing-placed q c fs p k sound s l = each (refusals p c) refl
     effect (call.Hook x h) none = let may = passes-hooking p x none in mended (hooked_row h) x may.row may.is refl
     effect (call.Unhook x) none = let may = passes-hooking p x none in mended (hooked_row 0) x may.row may.is refl
     effect (call.Rename x name) none = let r = passes-object p x none in mended (named_row name) x r.0 r.1 refl
+    effect (call.Resize x size) none = let r = passes-resize p x size none in mended (sized_row size) x r.0 r.1 refl
+    effect (call.Limit x max) none = let r = passes-object p x none in mended (limited_row max) x r.0 r.1 refl
     effect (call.Parent x) none = told (owner_reply (owner_of p.rows x))
     effect (call.Total o) none = told (reply.Number (size_inside p.rows o))
     effect (call.Count o) none = told (reply.Number (count_inside p.rows o))
+    effect (call.Sum o) none = told (reply.Number (sum_inside p.rows o))
     effect (call.Report o) none = told (reply.Rows (report p.rows o))
 
     each : (check : Check) → refusals p c ≡ check → Placed (call_step check q c p) fs k

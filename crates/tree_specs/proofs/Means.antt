@@ -130,9 +130,12 @@ doing-turn n q c b p is = each c (refusals p c) refl
     each (call.Hook x h) [] e = rw e (inr refl)
     each (call.Unhook x) [] e = rw e (inr refl)
     each (call.Rename x name) [] e = rw e (inr refl)
+    each (call.Resize x size) [] e = rw e (inr refl)
+    each (call.Limit x max) [] e = rw e (inr refl)
     each (call.Parent x) [] e = rw e (inr refl)
     each (call.Total o) [] e = rw e (inr refl)
     each (call.Count o) [] e = rw e (inr refl)
+    each (call.Sum o) [] e = rw e (inr refl)
     each (call.Report o) [] e = rw e (inr refl)
 
 beginning-turn : (n : ℕ) (x : Obj) (b : Option Begun) (p : Pool) (is : List Input)

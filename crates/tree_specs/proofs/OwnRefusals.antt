@@ -3,7 +3,8 @@ use Rattle.tree_specs.proofs.Referring.{unreferred, plain-refers}
 use Rattle.tree_specs.specs.Forest.{Distinct}
 use Rattle.tree_specs.specs.Sound.{IsReferable, Refers}
 use Rattle.std.proofs.Common.{◌≡◌, ℕ, List, [], ◌∷◌, ◌++◌, Option, Some, None, Bool, true, false, refl, sym, ◌∙◌, subst, ap}
-use Rattle.std.specs.Prelude.{◌+◌, ◌^◌, nat_lt, nat_le, length, not, is_some}
+use Rattle.tree_specs.specs.Sums.{overhead, size_at}
+use Rattle.std.specs.Prelude.{zero, suc, ◌-◌, ◌+◌, ◌^◌, nat_lt, nat_le, length, not, is_some}
 use Rattle.tree_specs.specs.declared.object.Obj.{Obj}
 use Rattle.tree_specs.specs.declared.object.Owner.{Owner}
 use Rattle.tree_specs.specs.declared.object.Owner.TheVariants.{Root, Of}
@@ -18,7 +19,7 @@ use Rattle.tree_specs.specs.Pool.{Pool, row_of, is_below, owner_of, newest_ref_o
 use Rattle.tree_specs.specs.Targets.{is_reference}
 use Rattle.tree_specs.specs.Items.{Item}
 use Rattle.tree_specs.specs.Items.Item.{Told}
-use Rattle.tree_specs.specs.Calls.{Check, size_limit, row_limit, refuse_if, refusals, small, object_row, object, plain, owner, room, staying, apart, placing, hooking, given_by, held, is_held, still}
+use Rattle.tree_specs.specs.Calls.{Check, size_limit, row_limit, refuse_if, refusals, over, fits_in, fits, unreferenced, growing, small, object_row, object, plain, owner, room, staying, apart, placing, hooking, given_by, held, is_held, still}
 use Rattle.tree_specs.specs.Works.{Scene}
 use Rattle.tree_specs.specs.Orderly.{RefusedJustNow}
 use Rattle.tree_specs.specs.Grounded.{AnsweredCall, HeldCall, CausedCall}
@@ -72,8 +73,28 @@ own-hooking p x = own-both (object p x) _ (own-object p x) (own-both (plain p x)
 own-given : (p : Pool) (from to : Owner) (x : Obj) → AllOwn (given_by p from to x)
 own-given p from to x = by_test (is_below (owner_of p.rows x) from) (λ t. rw t (own-apart p x to)) (λ t. rw t (own-if (not (is_some (newest_ref_of p.rows from x))) (refusal.NotParent x from) tt))
 
+own-small : (size : ℕ) → AllOwn (small size)
+own-small size = own-if (nat_le size_limit size) (refusal.TooBig size) tt
+
+own-fits : (n : ℕ) (rs : List Row) (wanted : ℕ) (o : Option Owner) → AllOwn (fits_in n rs wanted o)
+own-fits n rs wanted None = tt
+own-fits n rs wanted (Some Root) = tt
+own-fits zero rs wanted (Some (Of x)) = tt
+own-fits (suc n) rs wanted (Some (Of x)) = own-both (over rs wanted x) _ (own-if _ _ tt) (own-fits n rs wanted (owner_of rs x))
+
+own-below : (p : Pool) (o : Owner) (wanted : ℕ) → AllOwn (fits p o wanted)
+unfolding fits
+own-below p o wanted = own-fits (length p.rows) p.rows wanted (Some o)
+
+own-growing : (p : Pool) (x : Obj) (size : ℕ) → AllOwn (growing p x size)
+own-growing p x size = by_test (nat_lt (size_at p.rows x) size) (λ t. rw t (own-below p (Of x) (size - size_at p.rows x))) (λ t. rw t tt)
+
+own-resize : (p : Pool) (x : Obj) (size : ℕ) → AllOwn (refusals p (call.Resize x size))
+own-resize p x size =
+    own-both (small size) _ (own-small size) (own-both (object p x) _ (own-object p x) (own-both (plain p x) _ (own-if _ _ tt) (own-both (unreferenced p x) _ (own-if _ _ tt) (own-both (staying p x) _ (own-staying p x) (own-growing p x size)))))
+
 pub own-refusals : (p : Pool) (c : Call) → AllOwn (refusals p c)
-own-refusals p (call.New o size name) = own-both (small size) _ (own-if (nat_le size_limit size) (refusal.TooBig size) tt) (own-both (owner p o) _ (own-owner p o) (own-room p 1))
+own-refusals p (call.New o size name) = own-both (small size) _ (own-small size) (own-both (owner p o) _ (own-owner p o) (own-both (room p 1) _ (own-room p 1) (own-below p o (size + overhead))))
 own-refusals p (call.Free x) = own-both (object p x) _ (own-object p x) (own-if _ _ tt)
 own-refusals p (call.Freekids x) = own-object p x
 own-refusals p (call.Steal o x) = own-placing p o x
@@ -86,9 +107,12 @@ own-refusals p (call.Unlink o x) = own-both (object p x) _ (own-object p x) (own
 own-refusals p (call.Hook x routine) = own-hooking p x
 own-refusals p (call.Unhook x) = own-hooking p x
 own-refusals p (call.Rename x name) = own-object p x
+own-refusals p (call.Resize x size) = own-resize p x size
+own-refusals p (call.Limit x max) = own-object p x
 own-refusals p (call.Parent x) = own-both (object p x) _ (own-object p x) (own-staying p x)
 own-refusals p (call.Total o) = own-owner p o
 own-refusals p (call.Count o) = own-owner p o
+own-refusals p (call.Sum o) = own-owner p o
 own-refusals p (call.Report o) = own-owner p o
 
 -- ---- what such a refusal needs: nothing
@@ -157,7 +181,10 @@ own-call scenes p (call.Unlink o x) why later d refers e = (tt, tt, tt)
 own-call scenes p (call.Hook x routine) why later d refers e = (tt, tt, tt)
 own-call scenes p (call.Unhook x) why later d refers e = (tt, tt, tt)
 own-call scenes p (call.Rename x name) why later d refers e = (tt, tt, tt)
+own-call scenes p (call.Resize x size) why later d refers e = (tt, tt, tt)
+own-call scenes p (call.Limit x max) why later d refers e = (tt, tt, tt)
 own-call scenes p (call.Parent x) why later d refers e = (tt, tt, tt)
 own-call scenes p (call.Total o) why later d refers e = (tt, tt, tt)
 own-call scenes p (call.Count o) why later d refers e = (tt, tt, tt)
+own-call scenes p (call.Sum o) why later d refers e = (tt, tt, tt)
 own-call scenes p (call.Report o) why later d refers e = (tt, tt, tt)

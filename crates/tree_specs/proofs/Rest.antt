@@ -196,9 +196,12 @@ call-goes_on [] q (call.Unlink o x) p = tt
 call-goes_on [] q (call.Hook x h) p = tt
 call-goes_on [] q (call.Unhook x) p = tt
 call-goes_on [] q (call.Rename x name) p = tt
+call-goes_on [] q (call.Resize x size) p = tt
+call-goes_on [] q (call.Limit x max) p = tt
 call-goes_on [] q (call.Parent x) p = tt
 call-goes_on [] q (call.Total o) p = tt
 call-goes_on [] q (call.Count o) p = tt
+call-goes_on [] q (call.Sum o) p = tt
 call-goes_on [] q (call.Report o) p = tt
 
 -- a free by itself asks the host for nothing but runs

@@ -140,7 +140,7 @@ ends-same rs rs' (suc k) (Some (Of y)) same_owners h =
     ap (ends k rs') e ∙ ih
 
 -- all owners but that of one object are the same
-abbrev SameBut : List Row → List Row → Obj → Type 0
+abbrev pub SameBut : List Row → List Row → Obj → Type 0
 SameBut rs rs' x = (y : Obj) → x ≢ y → owner_of rs' y ≡ owner_of rs y
 
 ends-through : (rs rs' : List Row) (x : Obj) → SameBut rs rs' x → (j : ℕ) → ends j rs' (Some (Of x)) ≡ true
@@ -163,7 +163,7 @@ Rooted-freed : (rs rs' : List Row) (x : Obj) → SameBut rs rs' x → Rooted rs 
 Rooted-freed rs rs' x but rooted e = Rooted-but rs rs' x but rooted (suc zero) (ap (ends zero rs') e)
 
 -- an object gets an owner that is not inside it
-Rooted-below : (rs rs' : List Row) (x : Obj) (o : Owner) → SameBut rs rs' x → Rooted rs → owner_of rs' x ≡ Some o → is_inside rs o (Of x) ≡ false
+pub Rooted-below : (rs rs' : List Row) (x : Obj) (o : Owner) → SameBut rs rs' x → Rooted rs → owner_of rs' x ≡ Some o → is_inside rs o (Of x) ≡ false
     → Rooted rs'
 Rooted-below rs rs' x o but rooted e out =
     let apart : (n : ℕ) (y : Obj) → reaches n rs (Some o) (Of y) ≡ true → x ≢ y = λ n y r q.

@@ -320,9 +320,12 @@ checked-lawful n ih (call.Unlink o x) [] p last = followed-lawful last Any Any (
 checked-lawful n ih (call.Hook x h) [] p last = ended-lawful last Any _ _ tt
 checked-lawful n ih (call.Unhook x) [] p last = ended-lawful last Any _ _ tt
 checked-lawful n ih (call.Rename x name) [] p last = ended-lawful last Any _ _ tt
+checked-lawful n ih (call.Resize x size) [] p last = ended-lawful last Any _ _ tt
+checked-lawful n ih (call.Limit x max) [] p last = ended-lawful last Any _ _ tt
 checked-lawful n ih (call.Parent x) [] p last = ended-lawful last Any _ _ tt
 checked-lawful n ih (call.Total o) [] p last = ended-lawful last Any _ _ tt
 checked-lawful n ih (call.Count o) [] p last = ended-lawful last Any _ _ tt
+checked-lawful n ih (call.Sum o) [] p last = ended-lawful last Any _ _ tt
 checked-lawful n ih (call.Report o) [] p last = ended-lawful last Any _ _ tt
 
 acting-lawful : (n : ℕ) → AllLawful n → (q : Ask) (c : Call) (p : Pool) (last : Last) → Lawful last (Returned q) (acting (suc n) q c p)

@@ -1,5 +1,5 @@
 -- The refusals of each call, in the order in which they are tried.
-use Rattle.std.specs.Prelude.{ℕ, ◌+◌, ◌^◌, Bool, true, false, not, ◌&&◌, ◌||◌, is_some, nat_eq, nat_lt, nat_le, if◌then◌else◌, List, [], ◌∷◌, ◌++◌, length, Option, Some, None}
+use Rattle.std.specs.Prelude.{ℕ, zero, suc, ◌-◌, ◌+◌, ◌^◌, Bool, true, false, not, ◌&&◌, ◌||◌, is_some, nat_eq, nat_lt, nat_le, if◌then◌else◌, List, [], ◌∷◌, ◌++◌, length, Option, Some, None, Result, Ok, Err}
 use Rattle.tree_specs.specs.declared.object.Obj.{Obj}
 use Rattle.tree_specs.specs.declared.object.Owner.{Owner}
 use Rattle.tree_specs.specs.declared.object.Owner.TheVariants.{Root, Of}
@@ -9,12 +9,13 @@ use Rattle.tree_specs.specs.declared.row.Row.{Row}
 use Rattle.tree_specs.specs.declared.row.Mark.{Mark}
 use Rattle.tree_specs.specs.declared.row.Mark.TheVariants as mark
 use Rattle.tree_specs.specs.declared.call.Call.{Call}
-use Rattle.tree_specs.specs.declared.call.Call.TheVariants.{New, Free, Freekids, Steal, Move, Reparent, Reference as Refer, Unlink, Hook, Unhook, Rename, Parent, Total, Count, Report}
+use Rattle.tree_specs.specs.declared.call.Call.TheVariants.{New, Free, Freekids, Steal, Move, Reparent, Reference as Refer, Unlink, Hook, Unhook, Rename, Resize, Limit, Parent, Total, Count, Sum, Report}
 use Rattle.tree_specs.specs.declared.reply.Refusal.{Refusal}
-use Rattle.tree_specs.specs.declared.reply.Refusal.TheVariants.{NoSuch, WrongKind, Running, Held, NotParent, Loop, Dying, Full, Spent, TooBig}
+use Rattle.tree_specs.specs.declared.reply.Refusal.TheVariants.{NoSuch, WrongKind, Running, Held, NotParent, Loop, Dying, OverLimit, Full, Spent, TooBig}
 use Rattle.tree_specs.specs.Pool.{Pool, row_of, is_below, owner_of, newest_ref_of, is_dying, is_inside}
 use Rattle.tree_specs.specs.Targets.{is_reference}
 use Rattle.tree_specs.specs.Reports.{count_refs}
+use Rattle.tree_specs.specs.Sums.{overhead, sum_inside, limit_at, size_at}
 
 -- the size of an object is below this, in bytes
 abbrev pub size_limit : ℕ
@@ -27,6 +28,11 @@ row_limit = 1048576
 -- the refusals that apply, the first one first
 abbrev pub Check : Type 0
 Check = List Refusal
+
+-- the first refusal that applies
+abbrev pub checked : Check → Result (Unit {0}) Refusal
+checked [] = Ok tt
+checked (why ∷ later) = Err why
 
 -- one check before the others
 infixr 10 ◌before◌
@@ -76,6 +82,21 @@ room p k =
     refuse_if (nat_lt row_limit (length p.rows + k)) (Full (length p.rows))
     before refuse_if (nat_le (2 ^ 64) (p.next + k)) Spent
 
+-- an object with a limit has no room for so many more bytes beside what is inside it
+abbrev pub over : List Row → ℕ → Obj → Check
+over rs wanted x = refuse_if (nat_lt 0 (limit_at rs x) && nat_lt (limit_at rs x) (sum_inside rs (Of x) + wanted)) (OverLimit x (sum_inside rs (Of x)) wanted (limit_at rs x))
+
+-- the same of an owner and those above it, the nearest first, in at most n steps
+abbrev pub fits_in : ℕ → List Row → ℕ → Option Owner → Check
+fits_in n rs wanted None = []
+fits_in n rs wanted (Some Root) = []
+fits_in zero rs wanted (Some (Of x)) = []
+fits_in (suc n) rs wanted (Some (Of x)) = over rs wanted x before fits_in n rs wanted (owner_of rs x)
+
+-- so many more bytes fit below an owner
+unfoldable pub fits : Pool → Owner → ℕ → Check
+fits p o wanted = fits_in (length p.rows) p.rows wanted (Some o)
+
 -- an object that is being freed stays where it is
 abbrev pub staying : Pool → Obj → Check
 staying p x = refuse_if (is_dying p.rows x) (Dying x)
@@ -106,6 +127,14 @@ is_held p x = not (nat_eq (count_refs p.rows x) 0) && not (is_below (owner_of p.
 abbrev pub held : Pool → Obj → Check
 held p x = refuse_if (is_held p x) (Held x)
 
+-- an object to which there is a reference keeps its size
+abbrev pub unreferenced : Pool → Obj → Check
+unreferenced p x = refuse_if (not (nat_eq (count_refs p.rows x) 0)) (Held x)
+
+-- where an object grows, the growth fits
+abbrev pub growing : Pool → Obj → ℕ → Check
+growing p x size = if nat_lt (size_at p.rows x) size then fits p (Of x) (size - size_at p.rows x) else []
+
 -- no reference is made to an object that runs
 abbrev pub is_running_mark : Mark → Bool
 is_running_mark mark.Quiet = false
@@ -130,7 +159,7 @@ abbrev pub hooking : Pool → Obj → Check
 hooking p x = object p x before plain p x before staying p x
 
 abbrev pub refusals : Pool → Call → Check
-refusals p (New o size name) = small size before owner p o before room p 1
+refusals p (New o size name) = small size before owner p o before room p 1 before fits p o (size + overhead)
 refusals p (Free x) = object p x before held p x
 refusals p (Freekids x) = object p x
 refusals p (Steal o x) = placing p o x
@@ -141,7 +170,10 @@ refusals p (Unlink o x) = object p x before owner p o before interested p o x
 refusals p (Hook x routine) = hooking p x
 refusals p (Unhook x) = hooking p x
 refusals p (Rename x name) = object p x
+refusals p (Resize x size) = small size before object p x before plain p x before unreferenced p x before staying p x before growing p x size
+refusals p (Limit x max) = object p x
 refusals p (Parent x) = object p x before staying p x
 refusals p (Total o) = owner p o
 refusals p (Count o) = owner p o
+refusals p (Sum o) = owner p o
 refusals p (Report o) = owner p o

@@ -7,7 +7,7 @@ use Rattle.std.specs.Str.Parse.{digits_value}
 use Rattle.tree_specs.specs.declared.object.Obj.{Obj}
 use Rattle.tree_specs.specs.declared.object.Owner.{Owner}
 use Rattle.tree_specs.specs.declared.call.Call.{Call}
-use Rattle.tree_specs.specs.declared.call.Call.TheVariants.{New, Free, Freekids, Steal, Move, Reparent, Reference, Unlink, Hook, Unhook, Rename, Parent, Total, Count, Report}
+use Rattle.tree_specs.specs.declared.call.Call.TheVariants.{New, Free, Freekids, Steal, Move, Reparent, Reference, Unlink, Hook, Unhook, Rename, Resize, Limit, Parent, Total, Count, Sum, Report}
 use Rattle.tree_specs.specs.declared.question.Act.TheVariants as acts
 use Rattle.tree_specs.specs.declared.question.Input.{Input}
 use Rattle.tree_specs.specs.declared.question.Input.TheVariants as inputs
@@ -85,6 +85,14 @@ owner_and_object_of (p ∷ x ∷ []) = do
   Some (owner, object)
 owner_and_object_of _ = None
 
+-- an object, and then a number
+abbrev pub object_and_number_of : List (List ℕ) → Option (Obj × ℕ)
+object_and_number_of (x ∷ n ∷ []) = do
+  object ← object_of x
+  number ← number_of n
+  Some (object, number)
+object_and_number_of _ = None
+
 -- ---- calls, by their fields
 
 unfoldable pub new_of : List (List ℕ) → Option Call
@@ -106,6 +114,10 @@ of_owner call fields = option_map call (only_owner_of fields)
 -- a call that has an owner, and then an object
 unfoldable pub placing_of : (Owner → Obj → Call) → List (List ℕ) → Option Call
 placing_of call fields = option_map (λ pair. call pair.0 pair.1) (owner_and_object_of fields)
+
+-- a call that has an object, and then a number
+unfoldable pub numbered_of : (Obj → ℕ → Call) → List (List ℕ) → Option Call
+numbered_of call fields = option_map (λ pair. call pair.0 pair.1) (object_and_number_of fields)
 
 unfoldable pub reparent_of : List (List ℕ) → Option Call
 reparent_of (p ∷ q ∷ x ∷ []) = do
@@ -144,9 +156,12 @@ call_of_words (verb ∷ fields) =
     if bytes_eq verb (codes "hook") then hook_of fields else
     if bytes_eq verb (codes "unhook") then of_object Unhook fields else
     if bytes_eq verb (codes "rename") then rename_of fields else
+    if bytes_eq verb (codes "resize") then numbered_of Resize fields else
+    if bytes_eq verb (codes "limit") then numbered_of Limit fields else
     if bytes_eq verb (codes "parent") then of_object Parent fields else
     if bytes_eq verb (codes "total") then of_owner Total fields else
     if bytes_eq verb (codes "count") then of_owner Count fields else
+    if bytes_eq verb (codes "sum") then of_owner Sum fields else
     if bytes_eq verb (codes "report") then of_owner Report fields else None
 
 unfoldable pub call_of : List ℕ → Option Call

@@ -4,6 +4,7 @@ pub mod Objects
 pub mod Targets
 pub mod Pool
 pub mod Inside
+pub mod Sums
 pub mod Forest
 pub mod Walks
 pub mod Heirs

@@ -138,7 +138,7 @@ changed f [] x = []
 changed f (r ∷ rs) x = if same r.serial x then f r ∷ rs else r ∷ changed f rs x
 
 abbrev pub new_row : Obj → Kind → Owner → ℕ → List ℕ → Row
-new_row x kind owner size name = record { serial = x; owner = Some owner; name = name; size = size; kind = kind; mark = Quiet; hook = 0 }
+new_row x kind owner size name = record { serial = x; owner = Some owner; name = name; size = size; kind = kind; mark = Quiet; hook = 0; limit = 0 }
 
 -- a new object is placed at the front below its owner
 abbrev pub add : Pool → Kind → Owner → ℕ → List ℕ → Pool
@@ -162,6 +162,10 @@ remove p x = record p { rows = without p.rows x }
 abbrev pub in_front : Option Row → Owner → List Row → List Row
 in_front None o rs = rs
 in_front (Some r) o rs = record r { owner = Some o } ∷ rs
+
+-- a row below this owner
+abbrev pub owned_row : Owner → Row → Row
+owned_row o r = record r { owner = Some o }
 
 -- an object is put below an owner, as its newest child
 abbrev pub place : Pool → Owner → Obj → Pool
@@ -190,3 +194,9 @@ sized_row size r = record r { size = size }
 
 abbrev pub set_size : Pool → Obj → ℕ → Pool
 set_size p x size = record p { rows = changed (sized_row size) p.rows x }
+
+abbrev pub limited_row : ℕ → Row → Row
+limited_row limit r = record r { limit = limit }
+
+abbrev pub set_limit : Pool → Obj → ℕ → Pool
+set_limit p x limit = record p { rows = changed (limited_row limit) p.rows x }

@@ -3,7 +3,7 @@ use Rattle.std.specs.Prelude.{ℕ, ◌^◌, Bool, true, ◌&&◌, nat_lt}
 use Rattle.tree_specs.specs.declared.object.Owner.{Owner}
 use Rattle.tree_specs.specs.declared.object.Owner.TheVariants.{Root, Of}
 use Rattle.tree_specs.specs.declared.call.Call.{Call}
-use Rattle.tree_specs.specs.declared.call.Call.TheVariants.{New, Free, Freekids, Steal, Move, Reparent, Reference, Unlink, Hook, Unhook, Rename, Parent, Total, Count, Report}
+use Rattle.tree_specs.specs.declared.call.Call.TheVariants.{New, Free, Freekids, Steal, Move, Reparent, Reference, Unlink, Hook, Unhook, Rename, Resize, Limit, Parent, Total, Count, Sum, Report}
 use Rattle.tree_specs.specs.declared.question.Act.{Act}
 use Rattle.tree_specs.specs.declared.question.Act.TheVariants as acts
 use Rattle.tree_specs.specs.declared.question.Input.{Input}
@@ -38,9 +38,12 @@ is_sound_call (Unlink owner x) = is_sound_owner owner && is_number x.0
 is_sound_call (Hook x routine) = is_number x.0 && is_routine routine
 is_sound_call (Unhook x) = is_number x.0
 is_sound_call (Rename x name) = is_number x.0 && is_name name
+is_sound_call (Resize x size) = is_number x.0 && is_number size
+is_sound_call (Limit x max) = is_number x.0 && is_number max
 is_sound_call (Parent x) = is_number x.0
 is_sound_call (Total owner) = is_sound_owner owner
 is_sound_call (Count owner) = is_sound_owner owner
+is_sound_call (Sum owner) = is_sound_owner owner
 is_sound_call (Report owner) = is_sound_owner owner
 
 abbrev pub is_sound_act : Act → Bool

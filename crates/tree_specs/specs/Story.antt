@@ -25,8 +25,9 @@ use Rattle.tree_specs.specs.declared.free_step.FreeReply.TheVariants as free_rep
 use Rattle.tree_specs.specs.declared.free_step.FreeReply.TheVariants.{Ok, Held, Running}
 use Rattle.tree_specs.specs.Objects.{owner_number}
 use Rattle.tree_specs.specs.Targets.{newest_ref}
-use Rattle.tree_specs.specs.Pool.{Pool, empty, row_of, is_below, owner_of, newest_ref_of, target_at, noted_owner, is_inside, first_kid, add, detach, remove, place, rename, set_mark, set_hook}
+use Rattle.tree_specs.specs.Pool.{Pool, empty, row_of, is_below, owner_of, newest_ref_of, target_at, noted_owner, is_inside, first_kid, add, detach, remove, place, rename, set_mark, set_hook, set_size, set_limit}
 use Rattle.tree_specs.specs.Inside.{size_inside, count_inside}
+use Rattle.tree_specs.specs.Sums.{sum_inside}
 use Rattle.tree_specs.specs.Heirs.{heir}
 use Rattle.tree_specs.specs.Reports.{report}
 use Rattle.tree_specs.specs.Items.{Item}
@@ -155,6 +156,12 @@ effect free unlink children (call.Unhook x) = do
 effect free unlink children (call.Rename x name) = do
   change (λ p. rename p x name)
   gives reply.Ok
+effect free unlink children (call.Resize x size) = do
+  change (λ p. set_size p x size)
+  gives reply.Ok
+effect free unlink children (call.Limit x max) = do
+  change (λ p. set_limit p x max)
+  gives reply.Ok
 effect free unlink children (call.Parent x) = do
   p ← pool
   gives (owner_reply (owner_of p.rows x))
@@ -164,6 +171,9 @@ effect free unlink children (call.Total o) = do
 effect free unlink children (call.Count o) = do
   p ← pool
   gives (reply.Number (count_inside p.rows o))
+effect free unlink children (call.Sum o) = do
+  p ← pool
+  gives (reply.Number (sum_inside p.rows o))
 effect free unlink children (call.Report o) = do
   p ← pool
   gives (reply.Rows (report p.rows o))

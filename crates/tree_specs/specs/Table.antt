@@ -35,8 +35,9 @@ use Rattle.tree_specs.specs.declared.free_step.FreeReply.TheVariants.{Ok, Held, 
 use Rattle.tree_specs.specs.declared.free_step.FreeStep.{FreeStep}
 use Rattle.tree_specs.specs.declared.free_step.FreeStep.TheVariants.{Ask as AskOf, Dropped, Refused, Accepted, Left, Moved, Gone, Done as Over}
 use Rattle.tree_specs.specs.Targets.{newest_ref}
-use Rattle.tree_specs.specs.Pool.{Pool, row_of, is_below, owner_of, target_at, newest_ref_of, noted_owner, is_inside, first_kid, add, detach, remove, place, rename, set_mark, set_hook}
+use Rattle.tree_specs.specs.Pool.{Pool, row_of, is_below, owner_of, target_at, newest_ref_of, noted_owner, is_inside, first_kid, add, detach, remove, place, rename, set_mark, set_hook, set_size, set_limit}
 use Rattle.tree_specs.specs.Inside.{size_inside, count_inside}
+use Rattle.tree_specs.specs.Sums.{sum_inside}
 use Rattle.tree_specs.specs.Heirs.{heir}
 use Rattle.tree_specs.specs.Reports.{report}
 use Rattle.tree_specs.specs.Items.{Item}
@@ -230,9 +231,12 @@ effect_step q (call.Unlink o x) p = Do.Call (frame.Free (Unlinking o x)) (frame.
 effect_step q (call.Hook x routine) p = replied q reply.Ok (set_hook p x routine)
 effect_step q (call.Unhook x) p = replied q reply.Ok (set_hook p x 0)
 effect_step q (call.Rename x name) p = replied q reply.Ok (rename p x name)
+effect_step q (call.Resize x size) p = replied q reply.Ok (set_size p x size)
+effect_step q (call.Limit x max) p = replied q reply.Ok (set_limit p x max)
 effect_step q (call.Parent x) p = replied q (owner_reply (owner_of p.rows x)) p
 effect_step q (call.Total o) p = replied q (reply.Number (size_inside p.rows o)) p
 effect_step q (call.Count o) p = replied q (reply.Number (count_inside p.rows o)) p
+effect_step q (call.Sum o) p = replied q (reply.Number (sum_inside p.rows o)) p
 effect_step q (call.Report o) p = replied q (reply.Rows (report p.rows o)) p
 
 -- the first refusal that applies, otherwise the effect

@@ -4,7 +4,7 @@ use Rattle.std.specs.Fmt.{decimal}
 use Rattle.std.specs.Option.{option_map}
 use Rattle.hex.specs.Hex.{encode_lower}
 use Rattle.tree_specs.specs.declared.call.Call.{Call}
-use Rattle.tree_specs.specs.declared.call.Call.TheVariants.{New, Free, Freekids, Steal, Move, Reparent, Reference, Unlink, Hook, Unhook, Rename, Parent, Total, Count, Report}
+use Rattle.tree_specs.specs.declared.call.Call.TheVariants.{New, Free, Freekids, Steal, Move, Reparent, Reference, Unlink, Hook, Unhook, Rename, Resize, Limit, Parent, Total, Count, Sum, Report}
 use Rattle.tree_specs.specs.declared.reply.Refusal.{Refusal}
 use Rattle.tree_specs.specs.declared.reply.Refusal.TheVariants.{NoSuch, WrongKind, Running, Held, Refused, NotParent, Loop, Dying, OverLimit, Full, Spent, InUse, BadState, TooBig, Nested}
 use Rattle.tree_specs.specs.declared.reply.Reply.{Reply}
@@ -41,9 +41,12 @@ call_text (Unlink owner x) = codes "unlink " ++ decimal (owner_number owner) ++ 
 call_text (Hook x routine) = codes "hook " ++ decimal x.0 ++ codes " " ++ decimal routine
 call_text (Unhook x) = codes "unhook " ++ decimal x.0
 call_text (Rename x name) = codes "rename " ++ decimal x.0 ++ codes " " ++ name
+call_text (Resize x size) = codes "resize " ++ decimal x.0 ++ codes " " ++ decimal size
+call_text (Limit x max) = codes "limit " ++ decimal x.0 ++ codes " " ++ decimal max
 call_text (Parent x) = codes "parent " ++ decimal x.0
 call_text (Total owner) = codes "total " ++ decimal (owner_number owner)
 call_text (Count owner) = codes "count " ++ decimal (owner_number owner)
+call_text (Sum owner) = codes "sum " ++ decimal (owner_number owner)
 call_text (Report owner) = codes "report " ++ decimal (owner_number owner)
 
 -- an input as its line

@@ -29,12 +29,20 @@ pub enum Call {
     Unhook { x: Obj },
     /// `rename X NAME`: gives the object another name, as `talloc_set_name` does.
     Rename { x: Obj, name: Name },
+    /// `resize X SIZE`: gives the object another size in bytes, as `talloc_realloc_size` does.
+    Resize { x: Obj, size: u64 },
+    /// `limit X MAX`: what is inside the object may count so many bytes together, as `talloc_set_memlimit` says; 0 is no
+    /// limit.
+    Limit { x: Obj, max: u64 },
     /// `parent X`: the number of its owner, as `talloc_parent` tells.
     Parent { x: Obj },
     /// `total P`: the sizes of all objects inside the owner, in bytes, as `talloc_total_size` tells.
     Total { owner: Owner },
     /// `count P`: how many objects are inside the owner, as `talloc_total_blocks` tells; the root isn't one.
     Count { owner: Owner },
+    /// `sum P`: what the objects inside the owner count, in bytes: the size of each and 96 more, and nothing for a
+    /// reference.
+    Sum { owner: Owner },
     /// `report P`: a row for the owner and for all that is below it, as `talloc_report` writes them.
     Report { owner: Owner },
 }

@@ -30,4 +30,6 @@ pub struct Row {
     pub mark: Mark,
     /// The routine of its destructor; 0 is none.
     pub hook: u32,
+    /// What is inside it may count so many bytes together, itself included; 0 is no limit.
+    pub limit: u64,
 }

@@ -5,7 +5,9 @@ use Rattle.references.proofs.Rows.{refs-same, same-changed}
 use Rattle.tree_specs.specs.declared.call.Call.{Call}
 use Rattle.tree_specs.specs.Calls.{refusals}
 use Rattle.tree_links.specs.Links.{pool_of}
-use Rattle.host_core.specs.Moves.{checked}
+use Rattle.tree_specs.specs.Calls.{checked}
+use Rattle.memory_limits.specs.Limits.{AreLimitsOf}
+use Rattle.host_core.proofs.Fields.{changed-kept}
 use Rattle.host_core.proofs.Allowed.{steal_goes, move_goes, reparent_itself}
 use Rattle.host_core.proofs.calls.effect.Goals as goal
 
@@ -33,3 +35,18 @@ pub returns-in-Rename-clause-refs : goal.returns-in-Rename-clause-refs
 returns-in-Rename-clause-refs c =
     subst (AreRefsOf c.args.refs.now.pairs) (sym (ap (λ (p : Pool). p.rows) c.set_name.ensures.rows))
     (refs-same c.args.refs.now.pairs c.args.tree.now.rows _ (same-changed (named_row c.in-Rename.name) c.args.tree.now.rows c.in-Rename.x (λ r. refl) (λ r. refl)) c.requires.refs)
+
+pub returns-in-Hook-clause-limits : goal.returns-in-Hook-clause-limits
+returns-in-Hook-clause-limits c =
+    subst (AreLimitsOf c.args.sums.now.limited) (sym (ap (λ (p : Pool). p.rows) c.set_hook.ensures.rows))
+    (changed-kept (hooked_row c.in-Hook.routine) c.args.sums.now.limited c.args.tree.now.rows c.in-Hook.x (λ r. refl) (λ r. refl) (λ r. refl) (λ r. refl) c.requires.limits)
+
+pub returns-in-Unhook-clause-limits : goal.returns-in-Unhook-clause-limits
+returns-in-Unhook-clause-limits c =
+    subst (AreLimitsOf c.args.sums.now.limited) (sym (ap (λ (p : Pool). p.rows) c.set_hook-in-Unhook.ensures.rows))
+    (changed-kept (hooked_row 0) c.args.sums.now.limited c.args.tree.now.rows c.in-Unhook.x (λ r. refl) (λ r. refl) (λ r. refl) (λ r. refl) c.requires.limits)
+
+pub returns-in-Rename-clause-limits : goal.returns-in-Rename-clause-limits
+returns-in-Rename-clause-limits c =
+    subst (AreLimitsOf c.args.sums.now.limited) (sym (ap (λ (p : Pool). p.rows) c.set_name.ensures.rows))
+    (changed-kept (named_row c.in-Rename.name) c.args.sums.now.limited c.args.tree.now.rows c.in-Rename.x (λ r. refl) (λ r. refl) (λ r. refl) (λ r. refl) c.requires.limits)

@@ -1,7 +1,7 @@
 use Rattle.std.proofs.Common.{◌+◌, length}
 use Rattle.tree_specs.specs.Measure.{cost, pending}
 use Rattle.tree_specs.specs.View.{View}
-use Rattle.host_core.specs.Hosts.{Along, view_in, IsReady, HasRefs}
+use Rattle.host_core.specs.Hosts.{Along, view_in, IsReady, HasRefs, HasLimits}
 use Rattle.host_core.proofs.works.settle.Given as goal
 
 -- the host is ready, and nothing was told
@@ -9,6 +9,7 @@ abbrev pub invariant-loop-now : goal.invariant-loop-now
 invariant-loop-now l = record {
   ready : IsReady l.now l.parts;
   refs : HasRefs l.parts;
+  limits : HasLimits l.parts;
   along : Along (view_in l.initial.now l.initial.parts) (view_in l.now l.parts);
 }
 

@@ -1,6 +1,7 @@
 use Rattle.tree_specs.specs.declared.frame.CallFrame.TheVariants.{Awaiting}
 use Rattle.tree_specs.specs.declared.frame.FreeFrame.TheVariants.{Unlinking, Beginning, Looping}
 use Rattle.tree_specs.specs.declared.frame.Purpose.TheVariants.{Emptying}
+use Rattle.host_core.proofs.Counted.{same-kept}
 use Rattle.host_core.proofs.Hosting.{begun-along, begun-ready, freed-object, unlinked-object}
 use Rattle.host_core.proofs.works.start.Goals as goal
 
@@ -45,3 +46,12 @@ pub returns-in-Empties-clause-ready : goal.returns-in-Empties-clause-ready
 returns-in-Empties-clause-ready c =
     begun-ready (Looping c.in-Empties.x Emptying) (Awaiting c.in-Empties.ask c.in-Empties.x) c.args.parts.now.engine c.args.parts.now.tree c.args.parts.now.callers.items c.begin_kids.new.self c.begin_kids.new.tree c.push_reserved-in-Empties.new.self.items _
     (rw c.in-Empties.is at c.requires.whole) c.begin_kids.ensures.begins c.push_reserved-in-Empties.ensures.items c.begin_kids.ensures.at_work c.begin_kids.ensures.kept c.begin_kids.ensures.room
+
+pub returns-in-Frees-clause-limits : goal.returns-in-Frees-clause-limits
+returns-in-Frees-clause-limits c = same-kept c.args.parts.now.sums.limited c.args.parts.now.tree.rows c.begin_free.new.tree.rows c.begin_free.ensures.same c.requires.limits
+
+pub returns-in-Unlinks-clause-limits : goal.returns-in-Unlinks-clause-limits
+returns-in-Unlinks-clause-limits c = same-kept c.args.parts.now.sums.limited c.args.parts.now.tree.rows c.begin_unlink.new.tree.rows c.begin_unlink.ensures.same c.requires.limits
+
+pub returns-in-Empties-clause-limits : goal.returns-in-Empties-clause-limits
+returns-in-Empties-clause-limits c = same-kept c.args.parts.now.sums.limited c.args.parts.now.tree.rows c.begin_kids.new.tree.rows c.begin_kids.ensures.same c.requires.limits

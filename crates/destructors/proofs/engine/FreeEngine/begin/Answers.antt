@@ -1,7 +1,10 @@
-use Rattle.std.proofs.Common.{inl, sym, subst}
+use Rattle.std.proofs.Common.{rules, ◌∷◌, inl, sym, subst}
 use Rattle.tree_specs.specs.Pool.{Pool}
 use Rattle.references.specs.Rows.{AreRefsOf}
-use Rattle.destructors.proofs.Begins.{begun, begun-room}
+use Rattle.tree_links.specs.Links.{pool_of}
+use Rattle.destructors.specs.Frees.{before, frees_of}
+use Rattle.destructors.proofs.Begins.{begins, begun, begun-room}
+use Rattle.destructors.proofs.Counting.{silent-rows}
 use Rattle.destructors.proofs.engine.FreeEngine.begin.Goals as goal
 
 pub settle-self-inside-requires : goal.settle-self-inside-requires
@@ -16,3 +19,11 @@ settle-self-inside-requires c = record {
 pub returns-clause-at_work : goal.returns-clause-at_work
 returns-clause-at_work c =
     c.settle-self-inside.ensures.at_work (begun c.args.work c.args.self.now c.self.inside.innermost c.args.tree.now c.wait.new.tree c.self.view_is c.requires.first c.requires.awaiting c.wait.ensures.rows c.wait.ensures.works)
+
+pub returns-clause-begins : goal.returns-clause-begins
+returns-clause-begins c = search rules
+
+pub returns-clause-same : goal.returns-clause-same
+returns-clause-same c =
+    (silent-rows (record { works = c.args.work ∷ before c.args.self.now c.args.tree.now.frees; pool = pool_of c.args.tree.now }) _
+    (begins c.args.work (record { 0 = 0 }) (frees_of c.args.self.now c.args.tree.now) c.requires.first c.requires.awaiting) (returns-clause-begins c).moves_on).1

@@ -1,7 +1,8 @@
-use Rattle.std.proofs.Common.{◌∷◌, sym, ◌∙◌}
+use Rattle.std.proofs.Common.{rules, ◌∷◌, sym, ◌∙◌}
 use Rattle.tree_links.specs.Links.{pool_of}
 use Rattle.destructors.specs.Works.{standing, AtWork}
 use Rattle.destructors.proofs.Keeping.{rests}
+use Rattle.destructors.proofs.Counting.{step-changes}
 use Rattle.destructors.proofs.Settling.{tells, told-settled}
 use Rattle.destructors.proofs.engine.FreeEngine.step.Goals as goal
 
@@ -12,6 +13,12 @@ settle-self-inside-requires c = record {
       (sym c.self.view_is ∙ c.in-Some.is) c.requires.at_work c.requires.room c.in-Some-told.is c.advance-progress.ensures.moved c.advance-progress.ensures.kept c.advance-progress.ensures.room).ready;
   refs = c.advance-progress.ensures.refs;
 }
+
+pub returns-clause-steps : goal.returns-clause-steps
+returns-clause-steps c = search rules
+
+pub returns-clause-changed : goal.returns-clause-changed
+returns-clause-changed c = step-changes _ _ _ c.requires.at_work (returns-clause-steps c)
 
 pub returns-clause-goes_on : goal.returns-clause-goes_on
 returns-clause-goes_on c =

@@ -5,7 +5,7 @@ use Rattle.host_core.proofs.host.Host.next.Goals as goal
 pub invariant_of-self : goal.invariant_of-self
 invariant_of-self c =
     let n = caller-parts c.self.inside.active c.in-Caller.frame c.self.inside.parts.callers.items c.self.inside.parts.engine c.self.inside.parts.tree _ (sym c.replace.ensures.value ∙ c.in-Caller.is) c.self.invariant.0 c.self.invariant.1 in
-    rw c.tell-next.ensures.frame (n.ready, n.speaks, c.self.invariant.2)
+    rw c.tell-next.ensures.frame (n.ready, n.speaks, c.self.invariant.2, c.self.invariant.3)
 
 pub returns-in-Caller : goal.returns-in-Caller
 returns-in-Caller c =

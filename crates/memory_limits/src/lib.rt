@@ -1,0 +1,8 @@
+//! Limits: what is inside an object may count so many bytes together (`talloc_set_memlimit`).
+#![tactic(auto)]
+
+mod limited;
+mod limits;
+
+pub use limited::Limited;
+pub use limits::Sums;
