@@ -12,10 +12,11 @@ use references::Refs;
 use tree_links::Tree;
 use tree_specs::{FreeFrame, FreeReply, FreeStep, Obj, Owner};
 
-/// A reference is no more.
-pub fn drop_ref(reference: Obj, target: Obj, tree: &mut Tree, refs: &mut Refs)
+/// A reference is no more, which is to be told.
+pub fn drop_ref(reference: Obj, target: Obj, tree: &mut Tree, refs: &mut Refs) -> FreeStep
     requires is { RefersTo tree.old.rows (Some reference) target }
     requires refs { AreRefsOf refs.old.pairs tree.old.rows }
+    ensures told { result ≡ FreeStep.Dropped reference target }
     ensures rows { pool_of tree.new ≡ removed (pool_of tree.old) reference }
     ensures refs { AreRefsOf refs.new.pairs tree.new.rows }
     ensures spare { tree.old.spare ≤ tree.new.spare }
@@ -25,6 +26,7 @@ pub fn drop_ref(reference: Obj, target: Obj, tree: &mut Tree, refs: &mut Refs)
     let _rows = tree.len();
     let _target = refs.drop_ref(reference);
     tree.remove(reference);
+    FreeStep::Dropped { reference, target }
 }
 
 /// The newest reference that an owner has goes. An owner that has none gives the object up.
@@ -38,11 +40,7 @@ pub fn unlink(owner: Owner, x: Obj, tree: &mut Tree, refs: &mut Refs) -> Motion
     let Some(reference) = refs.newest_of(tree, owner, x) else {
         return Motion::Goes(FreeFrame::Releasing { x });
     };
-    drop_ref(reference, x, tree, refs);
-    let dropped = FreeStep::Dropped {
-        reference,
-        target: x,
-    };
+    let dropped = drop_ref(reference, x, tree, refs);
     let answer = FreeReply::Ok;
     Motion::Tells(dropped, FreeFrame::Ending { answer })
 }
@@ -61,11 +59,7 @@ pub fn release(x: Obj, tree: &mut Tree, refs: &mut Refs) -> Motion
     };
     let inside = tree.is_inside(Owner::Of(reference), Owner::Of(x));
     let owner = tree.parent(reference).unwrap_or(Owner::Root);
-    drop_ref(reference, x, tree, refs);
-    let dropped = FreeStep::Dropped {
-        reference,
-        target: x,
-    };
+    let dropped = drop_ref(reference, x, tree, refs);
     if inside {
         Motion::Tells(dropped, FreeFrame::Releasing { x })
     } else {
@@ -84,11 +78,7 @@ pub fn hold(x: Obj, reference: Obj, tree: &mut Tree, refs: &mut Refs) -> Motion
     ensures works { works_of tree.new ≡ works_of tree.old }
 {
     let inside = tree.is_inside(Owner::Of(reference), Owner::Of(x));
-    drop_ref(reference, x, tree, refs);
-    let dropped = FreeStep::Dropped {
-        reference,
-        target: x,
-    };
+    let dropped = drop_ref(reference, x, tree, refs);
     if inside {
         return Motion::Tells(dropped, FreeFrame::Beginning { x });
     }

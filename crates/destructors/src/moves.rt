@@ -137,11 +137,7 @@ fn take(x: Obj, child: Obj, purpose: Purpose, tree: &mut Tree, refs: &mut Refs) 
             },
         );
     };
-    drop_ref(child, target, tree, refs);
-    let dropped = FreeStep::Dropped {
-        reference: child,
-        target,
-    };
+    let dropped = drop_ref(child, target, tree, refs);
     Motion::Tells(dropped, FreeFrame::Looping { x, purpose })
 }
 

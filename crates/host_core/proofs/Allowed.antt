@@ -1,7 +1,7 @@
 -- What follows where a call is refused, and where it isn't.
 use Rattle.std.proofs.Common.{◌≡◌, ℕ, ◌+◌, ◌-◌, ◌^◌, ◌<◌, List, [], ◌∷◌, ◌++◌, length, true, false, Ok, Err, refl, arith}
 use Rattle.std.proofs.lemmas.Bool.Decides.{nat_tests}
-use Rattle.std.specs.Prelude.{Bool, not, nat_lt, nat_le}
+use Rattle.std.specs.Prelude.{nat_lt, nat_le}
 use Rattle.tree_specs.specs.declared.object.Obj.{Obj}
 use Rattle.tree_specs.specs.declared.object.Owner.{Owner}
 use Rattle.tree_specs.specs.declared.question.Ask.{Ask}
@@ -13,7 +13,7 @@ use Rattle.tree_specs.specs.declared.reply.Reply.TheVariants as reply
 use Rattle.tree_specs.specs.Pool.{Pool, row_of, is_row, is_owner, is_below, owner_of}
 use Rattle.tree_specs.specs.Calls.{Check, refusals, row_limit, size_limit, small, object, plain, owner, still, staying, room, placing, hooking, fits, unreferenced, growing, refuse_if, is_plain_row}
 use Rattle.tree_specs.specs.Table.{call_step, effect_step, replied}
-use Rattle.tree_specs.proofs.Checks.{both-none, refuse_if-none, passes-placing, MayGo, Itself, ItsRef, passes-reparent, passes-reference, passes-hooking, passes-object, passes-owner}
+use Rattle.tree_specs.proofs.Checks.{not-false, both-none, refuse_if-none, passes-placing, MayGo, Itself, ItsRef, passes-reparent, passes-reference, passes-hooking, passes-object, passes-owner}
 use Rattle.tree_specs.specs.Sums.{overhead}
 use Rattle.tree_specs.proofs.Keeps.{ref-placed}
 use Rattle.tree_specs.specs.declared.frame.Frame.{Frame}
@@ -146,10 +146,6 @@ unhook_goes p x e = hooks p x e
 pub resized_small : (p : Pool) (x : Obj) (size : ℕ) → checked (refusals p (call.Resize x size)) ≡ Ok tt → size < size_limit
 resized_small p x size e =
     small_enough size (both-none (small size) (object p x ++ (plain p x ++ (unreferenced p x ++ (staying p x ++ growing p x size)))) (none-first (refusals p (call.Resize x size)) e)).0
-
-not-false : (b : Bool) → not b ≡ false → b ≡ true
-not-false true e = refl
-not-false false e = cc
 
 pub resized_plain : (p : Pool) (x : Obj) (size : ℕ) → checked (refusals p (call.Resize x size)) ≡ Ok tt → is_plain_row (row_of p.rows x) ≡ true
 resized_plain p x size e =

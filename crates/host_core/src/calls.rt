@@ -12,7 +12,7 @@ ghost use Rattle.host_core.specs.Moves.{move_of, reply_of, telling as telling_of
 ghost use Rattle.tree_specs.specs.Calls.{checked};
 
 use crate::brief::Brief;
-use crate::changes::{limit, place, reparent, resize, warns};
+use crate::changes::{hook, limit, place, rename, reparent, resize, warns};
 use crate::checks::check;
 use crate::counting::count_added;
 use crate::motion::Motion;
@@ -141,39 +141,19 @@ fn effect(
         Call::Free { x } => free(ask, x, tree, refs),
         Call::Freekids { x } => Motion::Empties(ask, x),
         Call::Steal { owner, x } => give(ask, x, owner, Brief::Ok, tree, refs, sums),
-        Call::Move { owner, x } => {
-            give(ask, x, owner, Brief::Number(x.0), tree, refs, sums)
-        }
-        Call::Reparent { from, to, x } => {
-            reparent(from, to, x, tree, refs, sums);
-            tells(ask, Brief::Ok)
-        }
+        Call::Move { owner, x } => { give(ask, x, owner, Brief::Number(x.0), tree, refs, sums) }
+        Call::Reparent { from, to, x } => tells(ask, reparent(from, to, x, tree, refs, sums)),
         Call::Reference { owner, x } => {
             let serial = refer(alloc, x, owner, tree, refs);
             count_added(serial, tree, sums);
             tells(ask, Brief::Number(serial.0))
         }
         Call::Unlink { owner, x } => Motion::Unlinks(ask, owner, x),
-        Call::Hook { x, routine } => {
-            tree.set_hook(x, routine);
-            tells(ask, Brief::Ok)
-        }
-        Call::Unhook { x } => {
-            tree.set_hook(x, 0);
-            tells(ask, Brief::Ok)
-        }
-        Call::Rename { x, name } => {
-            tree.set_name(x, name);
-            tells(ask, Brief::Ok)
-        }
-        Call::Resize { x, size } => {
-            resize(x, size, tree, refs, sums);
-            tells(ask, Brief::Ok)
-        }
-        Call::Limit { x, max } => {
-            limit(x, max, tree, refs, sums);
-            tells(ask, Brief::Ok)
-        }
+        Call::Hook { x, routine } => tells(ask, hook(x, routine, tree)),
+        Call::Unhook { x } => tells(ask, hook(x, 0, tree)),
+        Call::Rename { x, name } => tells(ask, rename(x, name, tree)),
+        Call::Resize { x, size } => tells(ask, resize(x, size, tree, refs, sums)),
+        Call::Limit { x, max } => tells(ask, limit(x, max, tree, refs, sums)),
         Call::Parent { x } => {
             let owner = tree.parent(x).unwrap_or(Owner::Root);
             tells(ask, Brief::Number(owner.number()))

@@ -164,8 +164,8 @@ impl Host {
         ensures count { result ≡ length self.now.pool.rows }
 
         // At every moment, between two events too: each number stands once and below the next one, each owner is
-        // the root or a live object, from owner to owner one comes to an end, and each dying object is in exactly
-        // one open free.
+        // the root or a live object, from owner to owner one comes to an end, what a reference refers to is a live
+        // plain object, and each dying object is in exactly one open free.
         ensures sound { Sound self.now.innermost self.now.below self.now.pool }
     {
         self.parts.tree.len() as u64

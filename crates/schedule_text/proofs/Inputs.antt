@@ -7,14 +7,14 @@ use Rattle.std.proofs.lemmas.List.{append_cancel_right}
 use Rattle.tree_specs.specs.declared.question.Act.TheVariants as acts
 use Rattle.tree_specs.specs.declared.question.Input.{Input}
 use Rattle.tree_specs.specs.declared.question.Input.TheVariants as inputs
-use Rattle.tree_specs.specs.Grammar.{◌>>=◌, strip, call_of, return_of, input_of}
+use Rattle.tree_specs.specs.Grammar.{◌>>=◌, strip, call_of, number32_of, input_of}
 use Rattle.tree_specs.specs.Soundness.{is_return, is_sound_call, is_sound}
 use Rattle.tree_specs.specs.Text.{call_text, input_text, newline}
 use Rattle.text_forms.specs.declared.form.FormFault.{FormFault}
 use Rattle.text_forms.specs.declared.form.FormFault.TheVariants.{NoForm, Memory}
 use Rattle.text_forms.specs.Reads.{Reads}
 use Rattle.text_forms.proofs.Calls as calls
-use Rattle.text_forms.proofs.Fields.{return_field}
+use Rattle.text_forms.proofs.Fields.{number32_field}
 use Rattle.schedule_text.proofs.Fronts.{HasFront, has_front, from_either}
 
 -- ---- from an input to its line and back
@@ -35,7 +35,7 @@ input_again : (i : Input) → is_sound i ≡ true → input_of (line_of i) ≡ S
 unfolding input_of
 input_again (inputs.Call c) h = rw (calls.call_again c h) refl
 input_again (inputs.Act (acts.Do c)) h = rw (calls.call_again c h) refl
-input_again (inputs.Act (acts.Ret value)) h = rw (return_field.again value h) refl
+input_again (inputs.Act (acts.Ret value)) h = rw (number32_field.again value h) refl
 
 -- ---- from a line to an input and back
 
@@ -67,7 +67,7 @@ line_spelled line i e =
     (from_either _ _ i
     (front_spelled (codes "call ") call_of call_text is_sound_call inputs.Call calls.call_spelled (λ c. refl) (λ c. refl) line i)
     (front_spelled (codes "act ") call_of call_text is_sound_call (λ c. inputs.Act (acts.Do c)) calls.call_spelled (λ c. refl) (λ c. refl) line i))
-    (front_spelled (codes "ret ") return_of decimal is_return (λ value. inputs.Act (acts.Ret value)) return_field.spelled (λ value. refl) (λ value. refl) line i)
+    (front_spelled (codes "ret ") number32_of decimal is_return (λ value. inputs.Act (acts.Ret value)) number32_field.spelled (λ value. refl) (λ value. refl) line i)
     e
 
 -- ---- what reading a line answers

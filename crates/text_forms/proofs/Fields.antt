@@ -10,7 +10,7 @@ use Rattle.std.proofs.lemmas.Bool.Decides.{nat_tests}
 use Rattle.tree_specs.specs.declared.object.Obj.{Obj}
 use Rattle.tree_specs.specs.declared.object.Owner.{Owner}
 use Rattle.tree_specs.specs.declared.object.Owner.TheVariants.{Root, Of}
-use Rattle.tree_specs.specs.Grammar.{◌>>=◌, number_of, return_of, routine_of, owner_of, object_of, name_of}
+use Rattle.tree_specs.specs.Grammar.{◌>>=◌, number_of, number32_of, routine_of, owner_of, object_of, name_of}
 use Rattle.tree_specs.specs.Names.{is_name, is_graphic}
 use Rattle.tree_specs.specs.Objects.{owner_number, numbered_owner}
 use Rattle.tree_specs.specs.Soundness.{is_number, is_return, is_routine, is_sound_owner}
@@ -82,15 +82,15 @@ by_field {A} {B} {read} {spell} {is_sound_part} field make part is_sound made ta
 
 -- ---- what a routine returns, and routines
 
-return_made : (n y : ℕ) → is_number n ≡ true → cond (is_return n) (Some n) None ≡ Some y → (y ≡ n) × (is_return y ≡ true)
-return_made n y h e = let taken = taken_where is_return n y e in (sym taken.0, taken.1)
+number32_made : (n y : ℕ) → is_number n ≡ true → cond (is_return n) (Some n) None ≡ Some y → (y ≡ n) × (is_return y ≡ true)
+number32_made n y h e = let taken = taken_where is_return n y e in (sym taken.0, taken.1)
 
-return_taken : (n : ℕ) → is_return n ≡ true → (is_number n ≡ true) × (cond (is_return n) (Some n) None ≡ Some n)
-return_taken n h = (grind (arith, nat_tests), rw h refl)
+number32_taken : (n : ℕ) → is_return n ≡ true → (is_number n ≡ true) × (cond (is_return n) (Some n) None ≡ Some n)
+number32_taken n h = (grind (arith, nat_tests), rw h refl)
 
-pub return_field : IsField return_of decimal is_return
-unfolding return_of
-return_field = by_field number_field (λ n. cond (is_return n) (Some n) None) (λ n. n) is_return return_made return_taken
+pub number32_field : IsField number32_of decimal is_return
+unfolding number32_of
+number32_field = by_field number_field (λ n. cond (is_return n) (Some n) None) (λ n. n) is_return number32_made number32_taken
 
 not_zero : (n : ℕ) → eqb (suc n) 0 ≡ false
 not_zero n = grind (arith, nat_tests)
@@ -105,7 +105,7 @@ routine_taken (suc n) h = ((and_true (ltb 0 (suc n)) (is_return (suc n)) h).1, r
 
 pub routine_field : IsField routine_of decimal is_routine
 unfolding routine_of
-routine_field = by_field return_field (λ n. cond (eqb n 0) None (Some n)) (λ n. n) is_routine routine_made routine_taken
+routine_field = by_field number32_field (λ n. cond (eqb n 0) None (Some n)) (λ n. n) is_routine routine_made routine_taken
 
 -- ---- owners and objects
 
@@ -162,11 +162,11 @@ number_spelled_some o ds e = spelled_some number_field o ds e
 pub number_spelled_none : (o : Option ℕ) (ds : List ℕ) → o ≡ number_of ds → IfNone o ((n : ℕ) → n < 2 ^ 64 → ds ≢ decimal n)
 number_spelled_none o ds e = spelled_none (2 ^ 64) number_field o ds e
 
-pub return_spelled_some : (o : Option ℕ) (ds : List ℕ) → o ≡ return_of ds → IfSome o (λ n. ds ≡ decimal n)
-return_spelled_some o ds e = spelled_some return_field o ds e
+pub number32_spelled_some : (o : Option ℕ) (ds : List ℕ) → o ≡ number32_of ds → IfSome o (λ n. ds ≡ decimal n)
+number32_spelled_some o ds e = spelled_some number32_field o ds e
 
-pub return_spelled_none : (o : Option ℕ) (ds : List ℕ) → o ≡ return_of ds → IfNone o ((n : ℕ) → n < 2 ^ 32 → ds ≢ decimal n)
-return_spelled_none o ds e = spelled_none (2 ^ 32) return_field o ds e
+pub number32_spelled_none : (o : Option ℕ) (ds : List ℕ) → o ≡ number32_of ds → IfNone o ((n : ℕ) → n < 2 ^ 32 → ds ≢ decimal n)
+number32_spelled_none o ds e = spelled_none (2 ^ 32) number32_field o ds e
 
 -- ---- names
 

@@ -2,7 +2,7 @@ ghost use Rattle.std.specs.Prelude.{◌≡◌, ◌≢◌, ℕ, ◌^◌, ◌<◌,
 ghost use Rattle.std.specs.Fmt.{decimal};
 ghost use Rattle.std.specs.Str.{all_ascii_digits};
 ghost use Rattle.std.specs.Str.Parse.{digits_value};
-ghost use Rattle.tree_specs.specs.Grammar.{number_of, return_of, is_short};
+ghost use Rattle.tree_specs.specs.Grammar.{number_of, number32_of, is_short};
 ghost use Rattle.tree_specs.specs.Written.{Writes};
 
 use crate::piece::write_pieces;
@@ -58,10 +58,10 @@ pub fn read_number(text: &[u8]) -> Option<u64>
     number_value(text)
 }
 
-// What a routine returns, as the grammar defines it.
-#[tactic(auto, unfolding(tree_specs::specs::Grammar::return_of))]
-fn return_value(text: &[u8]) -> Option<u32>
-    ensures { result ≡ return_of text.now }
+// A number below 2^32, as the grammar defines it.
+#[tactic(auto, unfolding(tree_specs::specs::Grammar::number32_of))]
+fn number32_value(text: &[u8]) -> Option<u32>
+    ensures { result ≡ number32_of text.now }
 {
     let n = read_number(text)?;
     u32::try_from(n).ok()
@@ -69,14 +69,14 @@ fn return_value(text: &[u8]) -> Option<u32>
 
 /// The number that the text spells, from 0 to 4,294,967,295: a routine, or what one returns. It is in decimal digits
 /// with no leading zero. None exactly where the text spells no such number.
-#[tactic(auto, using(crate::proofs::Fields::return_spelled_some, crate::proofs::Fields::return_spelled_none))]
+#[tactic(auto, using(crate::proofs::Fields::number32_spelled_some, crate::proofs::Fields::number32_spelled_none))]
 pub fn read_u32(text: &[u8]) -> Option<u32>
-    ensures value { result ≡ return_of text.now }
+    ensures value { result ≡ number32_of text.now }
     // Such a number has one spelling, and what is none is the spelling of no such number.
     ensures spelled { IfSome result (λ n. text.now ≡ decimal n) }
     ensures none { IfNone result ((n : ℕ) → n < 2 ^ 32 → text.now ≢ decimal n) }
 {
-    return_value(text)
+    number32_value(text)
 }
 
 /// Appends the one spelling of a number. Where memory is wanted, a front of it was appended.

@@ -20,14 +20,14 @@ use Rattle.tree_specs.specs.Pool.{kids, is_inside}
 use Rattle.tree_specs.specs.Inside.{total, count_inside}
 use Rattle.tree_specs.specs.Sums.{overhead, charge, sum_inside}
 use Rattle.tree_specs.specs.Targets.{is_reference}
-use Rattle.tree_specs.specs.Walks.{walked, weight_in, weight_at, own, total_of}
+use Rattle.tree_specs.specs.Walks.{walked, weight_at, own_row, own, total_of}
 use Rattle.tree_specs.proofs.Numbered.{by_test}
 use Rattle.tree_specs.proofs.Walk.{total-same, inside-walked}
 use Rattle.tree_links.specs.Links.{AllFit, IsTree}
 use Rattle.tree_links.proofs.Trees.{fit-row}
 use Rattle.tree_report.specs.declared.walk.Place.{Place}
 use Rattle.tree_report.specs.Walk.{at_depth, placed, ahead, walk_from}
-use Rattle.tree_report.specs.Weights.{own_row, sized, counted, weight_of}
+use Rattle.tree_report.specs.Weights.{sized, counted, weight_of}
 
 -- the weight of all rows inside an owner
 abbrev pub inside_weight : (Row → ℕ) → List Row → Owner → ℕ
@@ -49,10 +49,6 @@ placed-weight (suc n) d g rs xs = flat-weight (weight_of g rs) (weight_at g rs) 
     omega (arith, ih, sum_by-cons (weight_of g rs) (at_depth d x) (placed n rs (suc d) (kids rs (Of x))), sum_by-cons (weight_at g rs) x (walked n rs (kids rs (Of x)))))
     xs
 
-own-weight : (g : Row → ℕ) (rs : List Row) (from : Owner) → weight_in g (own_row rs from) ≡ own g rs from
-own-weight g rs Root = refl
-own-weight g rs (Of x) = refl
-
 -- the weight along the walk from an owner
 pub whole-weight : (g : Row → ℕ) (rs : List Row) (next : ℕ) (from : Owner) → IsTree rs next
     → sum_by (weight_of g rs) (walk_from rs from) ≡ inside_weight g rs from
@@ -62,9 +58,8 @@ whole-weight g rs next from t =
     let e1 = ap (sum_by (weight_of g rs)) (append-nil (placed (length rs) rs 1 (kids rs from))) in
     let e2 = placed-weight (length rs) 1 g rs (kids rs from) in
     let e3 = is_sum_by (total_of (weight_at g rs)) (weight_at g rs) refl (λ x xs. refl) (walked (length rs) rs (kids rs from)) in
-    let e4 = own-weight g rs from in
     let e5 = inside-walked g rs from t.forest.distinct t.forest.rooted in
-    omega (arith, e0, e1, e2, e3, e4, e5)
+    omega (arith, e0, e1, e2, e3, e5)
 
 pub count-weight : (rs : List Row) (next : ℕ) (from : Owner) → IsTree rs next → inside_weight counted rs from ≡ count_inside rs from
 count-weight rs next from t = total-same _ _ rs t.forest.distinct (λ r e. by_test (is_inside rs (Of r.serial) from) (λ q. rw q refl) (λ q. rw q refl))

@@ -1,9 +1,9 @@
 ghost use Rattle.std.specs.Prelude.{◌≡◌};
 ghost use Rattle.std.specs.Option.{option_copied};
 ghost use Rattle.tree_specs.specs.Inside.{size_inside, count_inside};
-ghost use Rattle.tree_specs.specs.Walks.{weight_in};
+ghost use Rattle.tree_specs.specs.Walks.{own_row, own};
 ghost use Rattle.tree_specs.specs.Sums.{charge, sum_inside};
-ghost use Rattle.tree_report.specs.Weights.{own_row, sized, counted};
+ghost use Rattle.tree_report.specs.Weights.{sized, counted};
 
 use crate::walk::Walk;
 use tree_links::Tree;
@@ -21,14 +21,14 @@ fn row_of(tree: &Tree, owner: Owner) -> Option<&Row>
 
 /// The size of an object in bytes, and 0 elsewhere.
 fn own_size(tree: &Tree, owner: Owner) -> u64
-    ensures { result ≡ weight_in sized (own_row tree.now.rows owner) }
+    ensures { result ≡ own sized tree.now.rows owner }
 {
     row_of(tree, owner).map_or(0, |row| row.size)
 }
 
 /// 1 for an object that is no reference, and 0 elsewhere.
 fn own_count(tree: &Tree, owner: Owner) -> u64
-    ensures { result ≡ weight_in counted (own_row tree.now.rows owner) }
+    ensures { result ≡ own counted tree.now.rows owner }
 {
     row_of(tree, owner).map_or(0, |row| match row.kind {
         Kind::Reference { .. } => 0,
@@ -41,7 +41,7 @@ pub const OVERHEAD: u64 = 96;
 
 /// What an object that is no reference counts against a limit, in bytes, and 0 elsewhere.
 fn own_charge(tree: &Tree, owner: Owner) -> u64
-    ensures { result ≡ weight_in charge (own_row tree.now.rows owner) }
+    ensures { result ≡ own charge tree.now.rows owner }
 {
     // All that is wanted of `len` is its contract: sizes are small.
     let _rows = tree.len();

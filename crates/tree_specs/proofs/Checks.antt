@@ -38,7 +38,7 @@ pub refuse_if-none : (b : Bool) (why : Refusal) → refuse_if b why ≡ [] → b
 refuse_if-none true why e = cc
 refuse_if-none false why e = refl
 
-not-false : (b : Bool) → not b ≡ false → b ≡ true
+pub not-false : (b : Bool) → not b ≡ false → b ≡ true
 not-false true e = refl
 not-false false e = cc
 

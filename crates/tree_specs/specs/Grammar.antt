@@ -38,14 +38,14 @@ number_below limit ds = do
   n ← number_of ds
   if nat_lt n limit then Some n else None
 
--- what a routine returns
-unfoldable pub return_of : List ℕ → Option ℕ
-return_of ds = number_below (2 ^ 32) ds
+-- a number below 2^32, as a routine returns it
+unfoldable pub number32_of : List ℕ → Option ℕ
+number32_of ds = number_below (2 ^ 32) ds
 
 -- the number of a routine, which isn't 0
 unfoldable pub routine_of : List ℕ → Option ℕ
 routine_of ds = do
-  n ← return_of ds
+  n ← number32_of ds
   if n == 0 then None else Some n
 
 unfoldable pub owner_of : List ℕ → Option Owner
@@ -182,7 +182,7 @@ abbrev pub act_input_of : List ℕ → Option Input
 act_input_of text = option_map (λ c. inputs.Act (acts.Do c)) (call_of text)
 
 abbrev pub return_input_of : List ℕ → Option Input
-return_input_of text = option_map (λ v. inputs.Act (acts.Ret v)) (return_of text)
+return_input_of text = option_map (λ v. inputs.Act (acts.Ret v)) (number32_of text)
 
 infixl 9 ◌or◌
 -- the first that there is

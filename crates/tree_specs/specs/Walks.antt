@@ -20,10 +20,14 @@ weight_in g (Some r) = g r
 abbrev pub weight_at : (Row → ℕ) → List Row → Obj → ℕ
 weight_at g rs x = weight_in g (row_of rs x)
 
--- the weight of an owner's own row; the root has none
+-- the row of an owner; the root has none
+abbrev pub own_row : List Row → Owner → Option Row
+own_row rs Root = None
+own_row rs (Of x) = row_of rs x
+
+-- and its weight
 abbrev pub own : (Row → ℕ) → List Row → Owner → ℕ
-own g rs Root = 0
-own g rs (Of x) = weight_at g rs x
+own g rs p = weight_in g (own_row rs p)
 
 -- a weight over all objects of a list
 abbrev pub total_of : (Obj → ℕ) → List Obj → ℕ

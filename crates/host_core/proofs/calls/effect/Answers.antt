@@ -23,30 +23,30 @@ reparent-requires-clause-itself c =
 
 pub returns-in-Hook-clause-refs : goal.returns-in-Hook-clause-refs
 returns-in-Hook-clause-refs c =
-    subst (AreRefsOf c.args.refs.now.pairs) (sym (ap (λ (p : Pool). p.rows) c.set_hook.ensures.rows))
+    subst (AreRefsOf c.args.refs.now.pairs) (sym (ap (λ (p : Pool). p.rows) c.hook.ensures.rows))
     (refs-same c.args.refs.now.pairs c.args.tree.now.rows _ (same-changed (hooked_row c.in-Hook.routine) c.args.tree.now.rows c.in-Hook.x (λ r. refl) (λ r. refl)) c.requires.refs)
 
 pub returns-in-Unhook-clause-refs : goal.returns-in-Unhook-clause-refs
 returns-in-Unhook-clause-refs c =
-    subst (AreRefsOf c.args.refs.now.pairs) (sym (ap (λ (p : Pool). p.rows) c.set_hook-in-Unhook.ensures.rows))
+    subst (AreRefsOf c.args.refs.now.pairs) (sym (ap (λ (p : Pool). p.rows) c.hook-in-Unhook.ensures.rows))
     (refs-same c.args.refs.now.pairs c.args.tree.now.rows _ (same-changed (hooked_row 0) c.args.tree.now.rows c.in-Unhook.x (λ r. refl) (λ r. refl)) c.requires.refs)
 
 pub returns-in-Rename-clause-refs : goal.returns-in-Rename-clause-refs
 returns-in-Rename-clause-refs c =
-    subst (AreRefsOf c.args.refs.now.pairs) (sym (ap (λ (p : Pool). p.rows) c.set_name.ensures.rows))
+    subst (AreRefsOf c.args.refs.now.pairs) (sym (ap (λ (p : Pool). p.rows) c.rename.ensures.rows))
     (refs-same c.args.refs.now.pairs c.args.tree.now.rows _ (same-changed (named_row c.in-Rename.name) c.args.tree.now.rows c.in-Rename.x (λ r. refl) (λ r. refl)) c.requires.refs)
 
 pub returns-in-Hook-clause-limits : goal.returns-in-Hook-clause-limits
 returns-in-Hook-clause-limits c =
-    subst (AreLimitsOf c.args.sums.now.limited) (sym (ap (λ (p : Pool). p.rows) c.set_hook.ensures.rows))
+    subst (AreLimitsOf c.args.sums.now.limited) (sym (ap (λ (p : Pool). p.rows) c.hook.ensures.rows))
     (changed-kept (hooked_row c.in-Hook.routine) c.args.sums.now.limited c.args.tree.now.rows c.in-Hook.x (λ r. refl) (λ r. refl) (λ r. refl) (λ r. refl) c.requires.limits)
 
 pub returns-in-Unhook-clause-limits : goal.returns-in-Unhook-clause-limits
 returns-in-Unhook-clause-limits c =
-    subst (AreLimitsOf c.args.sums.now.limited) (sym (ap (λ (p : Pool). p.rows) c.set_hook-in-Unhook.ensures.rows))
+    subst (AreLimitsOf c.args.sums.now.limited) (sym (ap (λ (p : Pool). p.rows) c.hook-in-Unhook.ensures.rows))
     (changed-kept (hooked_row 0) c.args.sums.now.limited c.args.tree.now.rows c.in-Unhook.x (λ r. refl) (λ r. refl) (λ r. refl) (λ r. refl) c.requires.limits)
 
 pub returns-in-Rename-clause-limits : goal.returns-in-Rename-clause-limits
 returns-in-Rename-clause-limits c =
-    subst (AreLimitsOf c.args.sums.now.limited) (sym (ap (λ (p : Pool). p.rows) c.set_name.ensures.rows))
+    subst (AreLimitsOf c.args.sums.now.limited) (sym (ap (λ (p : Pool). p.rows) c.rename.ensures.rows))
     (changed-kept (named_row c.in-Rename.name) c.args.sums.now.limited c.args.tree.now.rows c.in-Rename.x (λ r. refl) (λ r. refl) (λ r. refl) (λ r. refl) c.requires.limits)
