@@ -1,5 +1,5 @@
 -- What the moves of the open frees do to the rows.
-use Rattle.std.proofs.Common.{◌≡◌, ℕ, nat_eq, List, [], ◌∷◌, map, Option, Some, None, true, false, refl, sym, ◌∙◌, ap, subst}
+use Rattle.std.proofs.Common.{◌≡◌, ℕ, nat_eq, List, [], ◌∷◌, map, Option, Some, None, refl, sym, ◌∙◌, ap, subst}
 use Rattle.std.specs.Prelude.{unwrap_or}
 use Rattle.step_machine.specs.Machine.{Move as Do}
 use Rattle.tree_specs.specs.declared.frame.Frame.{Frame}
@@ -21,15 +21,13 @@ use Rattle.tree_specs.specs.declared.row.Mark.TheVariants as mark
 use Rattle.tree_specs.specs.Objects.{same}
 use Rattle.tree_specs.specs.Targets.{newest_ref}
 use Rattle.tree_specs.specs.Pool.{Pool, row_of, owner_in, is_below, owner_of, target_in, target_at, newest_ref_of, is_inside, first_kid, changed, marked_row, hooked_row}
-use Rattle.tree_specs.specs.Heirs.{heir}
 use Rattle.tree_specs.specs.Table.{FreeMove, free_step, begin_step}
 use Rattle.tree_specs.specs.Sound.{InLoop, claims, IsLive, Shaped, ValidAt, Sound}
 use Rattle.tree_specs.proofs.Numbered.{by_test, is_below-some}
 use Rattle.tree_specs.proofs.Referring.{newest-refers, newest-of-refers}
 use Rattle.tree_specs.proofs.Changes.{dying-row, claim-here}
-use Rattle.destructors.specs.Frees.{OpenFrees, answered, moved, moves, next_of, Silently, Still, On, Steps}
+use Rattle.destructors.specs.Frees.{OpenFrees, answered, moved, moves, Silently, Still, On, Steps}
 use Rattle.destructors.specs.Works.{AtWork, IsAtWork, GoesOn}
-use Rattle.destructors.specs.Moves.{FreeRests}
 use Rattle.destructors.specs.Changes.{bare, SameRows, ChangedBy}
 use Rattle.destructors.proofs.Keeping.{rests, kept, told-kept}
 use Rattle.destructors.proofs.Settling.{awaiting-speaks, still}

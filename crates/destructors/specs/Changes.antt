@@ -1,5 +1,5 @@
 -- What a step of the open frees does to the rows, for those who keep books of their own.
-use Rattle.std.specs.Prelude.{◌≡◌, true, List, map, Option, Some, None}
+use Rattle.std.specs.Prelude.{◌≡◌, true, List, map, Some, None}
 use Rattle.tree_specs.specs.declared.object.Obj.{Obj}
 use Rattle.tree_specs.specs.declared.object.Owner.{Owner}
 use Rattle.tree_specs.specs.declared.row.Row.{Row}

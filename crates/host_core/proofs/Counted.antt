@@ -1,28 +1,19 @@
 -- Limits and sums, where the rows change.
-use Rattle.std.proofs.Common.{◌≡◌, ◌≢◌, ℕ, zero, suc, ◌+◌, List, [], ◌∷◌, map, length, Option, Some, None, Bool, true, false, if◌then◌else◌, refl, sym, ◌∙◌, ap, subst, inl, inr, arith}
-use Rattle.std.specs.Prelude.{not}
+use Rattle.std.proofs.Common.{◌≡◌, ℕ, List, [], ◌∷◌, map, Option, Some, None, true, false, refl, sym, ◌∙◌, ap, arith}
 use Rattle.std.specs.Option.{option_map}
 use Rattle.tree_specs.specs.declared.object.Obj.{Obj}
 use Rattle.tree_specs.specs.declared.object.Owner.{Owner}
-use Rattle.tree_specs.specs.declared.object.Owner.TheVariants.{Root, Of}
 use Rattle.tree_specs.specs.declared.row.Row.{Row}
 use Rattle.tree_specs.specs.Objects.{same}
-use Rattle.tree_specs.specs.Targets.{is_reference}
-use Rattle.tree_specs.specs.Pool.{row_of, is_row, owner_in, owner_of, target_at, is_inside, changed, without, left_row, owned_row, place}
-use Rattle.tree_specs.specs.Forest.{IsForest}
+use Rattle.tree_specs.specs.Pool.{row_of, is_row, owner_in}
 use Rattle.tree_specs.specs.Inside.{total}
 use Rattle.tree_specs.specs.Sums.{charge, sum_inside, limit_in, limit_at}
-use Rattle.tree_specs.proofs.Numbered.{by_test, same_or_not, same-true, same-false}
-use Rattle.tree_specs.proofs.Rows.{row_of-changed-other, row_of-changed-same, row_of-placed-same, row_of-placed-other, row_of-without-same, row_of-without-other, row_of-serial}
-use Rattle.tree_specs.proofs.Ancestry.{reaches-inside}
-use Rattle.tree_specs.proofs.Rooted.{Rooted-left}
-use Rattle.tree_specs.proofs.Attached.{SameOwners, SameWeights, inside-same, weight-same, any-split}
-use Rattle.tree_specs.proofs.SumLaws.{changed-weights, owner-left, owner-other, reach-left, apart, sum-below, sum-lone, sum-gone}
-use Rattle.tree_links.specs.Links.{MayPlace}
+use Rattle.tree_specs.proofs.Numbered.{by_test}
+use Rattle.tree_specs.proofs.Attached.{SameOwners, SameWeights, weight-same}
 use Rattle.memory_limits.specs.declared.limited.Limited.{Limited}
-use Rattle.memory_limits.specs.Limits.{limit_of, unlimited, bound_of, SameBounds, AllBound, AllSums, AreLimitsOf}
-use Rattle.memory_limits.proofs.Kept.{same-sums, settles, kept-unlimited, limit-unlimited, bound-unlimited}
-use Rattle.destructors.specs.Changes.{bare, SameRows, placed_rows}
+use Rattle.memory_limits.specs.Limits.{limit_of, bound_of, SameBounds, AllBound, AllSums, AreLimitsOf}
+use Rattle.memory_limits.proofs.Kept.{same-sums}
+use Rattle.destructors.specs.Changes.{bare, SameRows}
 
 -- ---- rows that are the same but for marks and destructors
 

@@ -1,5 +1,5 @@
 -- Limits and sums, where a row is new or is changed.
-use Rattle.std.proofs.Common.{◌≡◌, ◌≢◌, ℕ, ◌+◌, ◌<◌, List, [], ◌∷◌, Option, Some, None, Bool, true, false, if◌then◌else◌, refl, sym, ◌∙◌, ap, subst, inl, inr, arith}
+use Rattle.std.proofs.Common.{◌≡◌, ◌≢◌, ℕ, ◌<◌, List, [], ◌∷◌, Option, Some, None, true, false, if◌then◌else◌, refl, sym, ◌∙◌, ap, subst, arith}
 use Rattle.tree_specs.specs.declared.object.Obj.{Obj}
 use Rattle.tree_specs.specs.declared.object.Owner.TheVariants.{Of}
 use Rattle.tree_specs.specs.declared.row.Row.{Row}
@@ -8,9 +8,8 @@ use Rattle.tree_specs.specs.Calls.{is_plain_row}
 use Rattle.tree_specs.specs.Pool.{row_of, is_row, owner_in, owner_of, changed, without, left_row, sized_row, limited_row}
 use Rattle.tree_specs.specs.Forest.{Distinct}
 use Rattle.tree_specs.specs.Sums.{charge, sum_inside, limit_in, limit_at, size_at}
-use Rattle.tree_specs.proofs.Numbered.{by_test, same_or_not, same-equal, same-false, same-true}
-use Rattle.tree_specs.proofs.Rows.{row_of-changed-same}
-use Rattle.tree_specs.proofs.Attached.{SameOwners, weight-same}
+use Rattle.tree_specs.proofs.Numbered.{by_test, same-equal, same-false, same-true}
+use Rattle.tree_specs.proofs.Attached.{weight-same}
 use Rattle.tree_specs.proofs.SumLaws.{changed-weights, sum-gone}
 use Rattle.memory_limits.specs.declared.limited.Limited.{Limited}
 use Rattle.memory_limits.specs.Limits.{limit_of, unlimited, AllBound, AllSums, AreLimitsOf}

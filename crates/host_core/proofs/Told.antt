@@ -1,5 +1,5 @@
 -- What the sums need that are told of an object that went elsewhere, or is no more.
-use Rattle.std.proofs.Common.{◌≡◌, ◌≢◌, ℕ, zero, suc, ◌+◌, List, [], ◌∷◌, length, Option, Some, None, Bool, true, false, ◌||◌, if◌then◌else◌, refl, sym, ◌∙◌, ap, subst, inl, inr, arith}
+use Rattle.std.proofs.Common.{◌≡◌, ◌≢◌, ℕ, zero, suc, List, [], ◌∷◌, length, Option, Some, None, Bool, true, false, ◌||◌, if◌then◌else◌, refl, sym, ◌∙◌, ap, subst, inl, inr, arith}
 use Rattle.tree_specs.specs.declared.free_step.FreeStep.{FreeStep}
 use Rattle.tree_specs.specs.declared.free_step.FreeStep.TheVariants.{Ask, Dropped, Refused, Accepted, Left, Moved, Gone, Done}
 use Rattle.tree_specs.specs.declared.object.Obj.{Obj}
@@ -7,24 +7,22 @@ use Rattle.tree_specs.specs.declared.object.Owner.{Owner}
 use Rattle.tree_specs.specs.declared.object.Owner.TheVariants.{Root, Of}
 use Rattle.tree_specs.specs.declared.row.Row.{Row}
 use Rattle.tree_specs.specs.Objects.{same, same_owner}
-use Rattle.tree_specs.specs.Targets.{is_reference}
 use Rattle.tree_specs.specs.Pool.{row_of, is_row, owner_in, owner_of, target_in, target_at, reaches, is_inside, changed, without, left_row, owned_row}
 use Rattle.tree_specs.specs.Forest.{IsForest, Rooted, Distinct}
 use Rattle.tree_specs.specs.Inside.{total}
 use Rattle.tree_specs.specs.Sums.{charge, sum_inside, limit_in, limit_at}
-use Rattle.tree_specs.proofs.Numbered.{by_test, same_or_not, same-false, same-equal, same-true}
-use Rattle.tree_specs.proofs.Rows.{row_of-changed-other, row_of-changed-same, row_of-placed-same, row_of-placed-other, row_of-without-same, row_of-without-other, row_of-serial, total-without, total-placed, Distinct-changed}
+use Rattle.tree_specs.proofs.Numbered.{by_test, same_or_not, same-false, same-equal}
+use Rattle.tree_specs.proofs.Rows.{row_of-changed-other, row_of-changed-same, row_of-placed-same, row_of-placed-other, row_of-without-same, row_of-without-other, total-without, total-placed, Distinct-changed}
 use Rattle.tree_specs.proofs.Ancestry.{reaches-inside}
 use Rattle.tree_specs.proofs.Referring.{reference-outside}
 use Rattle.tree_specs.proofs.Attached.{SameOwners, SameWeights, inside-same, weight-same}
-use Rattle.tree_specs.proofs.SumLaws.{changed-weights, owner-left, owner-other, reach-left, apart, sum-below, sum-lone, sum-gone}
-use Rattle.tree_links.specs.Links.{MayPlace}
+use Rattle.tree_specs.proofs.SumLaws.{changed-weights, owner-left, owner-other, apart, sum-below, sum-lone, sum-gone}
 use Rattle.memory_limits.specs.declared.limited.Limited.{Limited}
-use Rattle.memory_limits.specs.Limits.{limit_of, unlimited, SameBounds, AllBound, AllSums, AreLimitsOf}
-use Rattle.memory_limits.proofs.Kept.{same-sums, settles, kept-unlimited, limit-unlimited, bound-unlimited}
+use Rattle.memory_limits.specs.Limits.{unlimited, AllSums, AreLimitsOf}
+use Rattle.memory_limits.proofs.Kept.{same-sums, limit-unlimited, bound-unlimited}
 use Rattle.destructors.specs.Changes.{SameRows, ChangedBy, placed_rows}
 use Rattle.host_core.specs.Counting.{WentFrom}
-use Rattle.host_core.proofs.Counted.{same-owners, same-limits, same-weights, still-row, same-kept, other-sums}
+use Rattle.host_core.proofs.Counted.{same-owners, same-limits, same-weights, still-row, same-kept}
 
 -- ---- an object that went elsewhere
 

@@ -1,5 +1,5 @@
 -- The sums stay those of what is inside, where it is told what has changed.
-use Rattle.std.proofs.Common.{◌≡◌, ℕ, zero, suc, ◌+◌, ◌-◌, ◌^◌, ◌<◌, min, List, [], ◌∷◌, ◌++◌, length, map, Option, Some, None, Ok, Err, true, false, ◌&&◌, nat_lt, if◌then◌else◌, refl, sym, ◌∙◌, ap, arith}
+use Rattle.std.proofs.Common.{◌≡◌, ℕ, zero, suc, ◌+◌, ◌-◌, ◌<◌, List, [], ◌∷◌, ◌++◌, length, map, Option, Some, None, Ok, Err, true, false, ◌&&◌, nat_lt, if◌then◌else◌, refl, sym, ◌∙◌, ap, arith}
 use Rattle.tree_specs.specs.declared.object.Obj.{Obj}
 use Rattle.tree_specs.specs.declared.object.Owner.{Owner}
 use Rattle.tree_specs.specs.declared.object.Owner.TheVariants.{Root, Of}
@@ -10,15 +10,17 @@ use Rattle.tree_specs.specs.Objects.{same}
 use Rattle.tree_specs.specs.Targets.{is_reference}
 use Rattle.tree_specs.specs.Calls.{is_plain, is_plain_row, checked, refuse_if, over, fits_in}
 use Rattle.tree_specs.specs.declared.reply.Refusal.TheVariants.{OverLimit}
-use Rattle.std.specs.List.{find, filter}
+use Rattle.std.specs.List.{find}
 use Rattle.std.specs.Option.{option_map}
 use Rattle.tree_specs.proofs.Numbered.{by_test, same-true, same-false, same-equal}
 use Rattle.tree_specs.proofs.Referring.{plain-refers}
 use Rattle.tree_specs.proofs.SumLaws.{sum-below, sum-lone, sum-before, sum-sized}
 use Rattle.tree_links.specs.Links.{IsTree}
 use Rattle.tree_report.proofs.Weighing.{sum-small}
+use Rattle.memory_limits.specs.declared.change.Change.{Change}
+use Rattle.memory_limits.specs.declared.change.Change.TheVariants.{More, Less}
 use Rattle.memory_limits.specs.declared.limited.Limited.{Limited}
-use Rattle.memory_limits.specs.Limits.{limit_of, unlimited, bound_of, SameBounds, AllBound, AllSums, AreLimitsOf, more, less}
+use Rattle.memory_limits.specs.Limits.{limit_of, unlimited, bound_of, SameBounds, AllBound, AllSums, AreLimitsOf, counts}
 
 -- a change that says for each sum what it becomes
 changes : (f : Limited → Limited) (rs rs' : List Row) → ((l : Limited) → l.sum ≡ sum_inside rs (Of l.object) → (f l).sum ≡ sum_inside rs' (Of (f l).object)) → (ls : List Limited) → AllSums ls rs → AllSums (map f ls) rs'
@@ -29,10 +31,10 @@ pub same-sums : (rs rs' : List Row) → ((y : Owner) → sum_inside rs' y ≡ su
 same-sums rs rs' h [] s = tt
 same-sums rs rs' h (l ∷ ls) s = (s.0 ∙ sym (h (Of l.object)), same-sums rs rs' h ls s.1)
 
-pub joins : (rs : List Row) (next : ℕ) (x : Obj) (o : Owner) (ls : List Limited) → IsTree rs next → owner_of rs x ≡ Some o → AllSums ls (changed left_row rs x) → AllSums (map (more rs o (sum_inside rs (Of x))) ls) rs
-joins rs next x o ls t below s = changes (more rs o (sum_inside rs (Of x))) (changed left_row rs x) rs one ls s
+pub joins : (rs : List Row) (next : ℕ) (x : Obj) (o : Owner) (ls : List Limited) → IsTree rs next → owner_of rs x ≡ Some o → AllSums ls (changed left_row rs x) → AllSums (map (counts (More (sum_inside rs (Of x))) rs o) ls) rs
+joins rs next x o ls t below s = changes (counts (More (sum_inside rs (Of x))) rs o) (changed left_row rs x) rs one ls s
   where
-    one : (l : Limited) → l.sum ≡ sum_inside (changed left_row rs x) (Of l.object) → (more rs o (sum_inside rs (Of x)) l).sum ≡ sum_inside rs (Of (more rs o (sum_inside rs (Of x)) l).object)
+    one : (l : Limited) → l.sum ≡ sum_inside (changed left_row rs x) (Of l.object) → (counts (More (sum_inside rs (Of x))) rs o l).sum ≡ sum_inside rs (Of (counts (More (sum_inside rs (Of x))) rs o l).object)
     one l e =
         let b = sum-below rs x o t.forest.rooted below (Of l.object) in
         let small = sum-small rs next (Of l.object) t in
@@ -44,20 +46,20 @@ pub settles : (rs : List Row) (x : Obj) (ls : List Limited) → owner_of rs x �
 settles rs x ls lone s = same-sums (changed left_row rs x) rs (λ y. sum-lone rs x lone y) ls s
 
 pub leaves : (rs : List Row) (next : ℕ) (x : Obj) (from : Owner) (ls : List Limited) → IsTree rs next → is_row rs x ≡ true → is_inside rs from (Of x) ≡ false → AllSums ls (changed (owned_row from) rs x)
-    → AllSums (map (less rs from (sum_inside rs (Of x))) ls) (changed left_row rs x)
+    → AllSums (map (counts (Less (sum_inside rs (Of x))) rs from) ls) (changed left_row rs x)
 leaves rs next x from ls t is out s = each (row_of rs x) refl
   where
     one : (r : Row) → row_of rs x ≡ Some r → (l : Limited) → l.sum ≡ sum_inside (changed (owned_row from) rs x) (Of l.object)
-        → (less rs from (sum_inside rs (Of x)) l).sum ≡ sum_inside (changed left_row rs x) (Of (less rs from (sum_inside rs (Of x)) l).object)
+        → (counts (Less (sum_inside rs (Of x))) rs from l).sum ≡ sum_inside (changed left_row rs x) (Of (counts (Less (sum_inside rs (Of x))) rs from l).object)
     one r there l e =
         let b = sum-before rs x r from t.forest.rooted there out (Of l.object) in
         by_test (is_inside rs from (Of l.object))
         (λ u. let b' = rw u at b in rw u (omega (arith, e, b')))
         (λ u. let b' = rw u at b in rw u (omega (arith, e, b')))
 
-    each : (q : Option Row) → row_of rs x ≡ q → AllSums (map (less rs from (sum_inside rs (Of x))) ls) (changed left_row rs x)
+    each : (q : Option Row) → row_of rs x ≡ q → AllSums (map (counts (Less (sum_inside rs (Of x))) rs from) ls) (changed left_row rs x)
     each None e = let bad : false ≡ true = rw e at is in cc
-    each (Some r) e = changes (less rs from (sum_inside rs (Of x))) (changed (owned_row from) rs x) (changed left_row rs x) (one r e) ls s
+    each (Some r) e = changes (counts (Less (sum_inside rs (Of x))) rs from) (changed (owned_row from) rs x) (changed left_row rs x) (one r e) ls s
 
 -- ---- an object that is looked for
 
@@ -113,11 +115,11 @@ unlimited-fits (suc n) rs wanted (Some (Of x)) h = rw (sym (h x)) (unlimited-fit
 -- ---- another size
 
 pub sizes : (rs : List Row) (next : ℕ) (x : Obj) (r : Row) (before : ℕ) (ls : List Limited) → IsTree rs next → row_of rs x ≡ Some r → is_reference r.kind ≡ false → AllSums ls (changed (sized_row before) rs x)
-    → AllSums (map (more rs (Of x) r.size) (map (less rs (Of x) before) ls)) rs
+    → AllSums (map (counts (More r.size) rs (Of x)) (map (counts (Less before) rs (Of x)) ls)) rs
 sizes rs next x r before [] t is object s = tt
 sizes rs next x r before (l ∷ ls) t is object s = (one, sizes rs next x r before ls t is object s.1)
   where
-    one : (more rs (Of x) r.size (less rs (Of x) before l)).sum ≡ sum_inside rs (Of (more rs (Of x) r.size (less rs (Of x) before l)).object)
+    one : (counts (More r.size) rs (Of x) (counts (Less before) rs (Of x) l)).sum ≡ sum_inside rs (Of (counts (More r.size) rs (Of x) (counts (Less before) rs (Of x) l)).object)
     one =
         let both = sum-sized rs x r before is object (Of l.object) in
         let b = both.0 in
@@ -125,8 +127,8 @@ sizes rs next x r before (l ∷ ls) t is object s = (one, sizes rs next x r befo
         let e = s.0 in
         let small = sum-small rs next (Of l.object) t in
         by_test (is_inside rs (Of x) (Of l.object))
-        (λ u. let b' = rw u at b in let least' = rw u at least in let m : less rs (Of x) before l ≡ record l { sum = l.sum - before } = rw u refl in rw (m, u) (omega (arith, e, b', least', small)))
-        (λ u. let b' = rw u at b in let m : less rs (Of x) before l ≡ l = rw u refl in rw (m, u) (omega (arith, e, b')))
+        (λ u. let b' = rw u at b in let least' = rw u at least in let m : counts (Less before) rs (Of x) l ≡ record l { sum = l.sum - before } = rw u refl in rw (m, u) (omega (arith, e, b', least', small)))
+        (λ u. let b' = rw u at b in let m : counts (Less before) rs (Of x) l ≡ l = rw u refl in rw (m, u) (omega (arith, e, b')))
 
 -- what was found
 pub found-itself : (o : Option Limited) → option_map (λ l. l) o ≡ o
@@ -157,10 +159,10 @@ pub over-fits : (ls : List Limited) (rs : List Row) (wanted : ℕ) (x : Obj) (l 
 over-fits ls rs wanted x l are e t = ap checked (over-found ls rs wanted x l are e) ∙ rw t refl
 
 pub resizes : (rs : List Row) (next : ℕ) (x : Obj) (before : ℕ) (ls : List Limited) → IsTree rs next → is_plain_row (row_of rs x) ≡ true → AllSums ls (changed (sized_row before) rs x)
-    → AllSums (map (more rs (Of x) (size_at rs x)) (map (less rs (Of x) before) ls)) rs
+    → AllSums (map (counts (More (size_at rs x)) rs (Of x)) (map (counts (Less before) rs (Of x)) ls)) rs
 resizes rs next x before ls t plain s = each (row_of rs x) refl
   where
-    each : (q : Option Row) → row_of rs x ≡ q → AllSums (map (more rs (Of x) (size_at rs x)) (map (less rs (Of x) before) ls)) rs
+    each : (q : Option Row) → row_of rs x ≡ q → AllSums (map (counts (More (size_at rs x)) rs (Of x)) (map (counts (Less before) rs (Of x)) ls)) rs
     each None e = let bad : false ≡ true = rw e at plain in cc
     each (Some r) e =
         let p : is_plain r.kind ≡ true = rw e at plain in
@@ -197,11 +199,8 @@ pub bounds-changed : (f : Limited → Limited) → ((l : Limited) → bound_of (
 bounds-changed f h [] = refl
 bounds-changed f h (l ∷ ls) = ap (λ (b : Obj × ℕ). b ∷ map bound_of (map f ls)) (h l) ∙ ap (λ (bs : List (Obj × ℕ)). bound_of l ∷ bs) (bounds-changed f h ls)
 
-pub more-bound : (rs : List Row) (o : Owner) (w : ℕ) (l : Limited) → bound_of (more rs o w l) ≡ bound_of l
-more-bound rs o w l = by_test (is_inside rs o (Of l.object)) (λ t. rw t refl) (λ t. rw t refl)
-
-pub less-bound : (rs : List Row) (o : Owner) (w : ℕ) (l : Limited) → bound_of (less rs o w l) ≡ bound_of l
-less-bound rs o w l = by_test (is_inside rs o (Of l.object)) (λ t. rw t refl) (λ t. rw t refl)
+pub counts-bound : (change : Change) (rs : List Row) (o : Owner) (l : Limited) → bound_of (counts change rs o l) ≡ bound_of l
+counts-bound change rs o l = by_test (is_inside rs o (Of l.object)) (λ t. rw t refl) (λ t. rw t refl)
 
 pub bound-unlimited : (ls : List Limited) (x : Obj) → AllBound ls → AllBound (unlimited ls x)
 bound-unlimited [] x b = tt

@@ -1,3 +1,4 @@
 pub mod Upward
 pub mod Mapped
 pub mod Kept
+pub mod Climbing

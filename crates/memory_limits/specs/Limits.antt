@@ -1,5 +1,5 @@
 -- Limits as their callers see them, and the sums that are kept beside them.
-use Rattle.std.specs.Prelude.{◌≡◌, ℕ, ◌+◌, ◌-◌, ◌^◌, min, ◌<◌, List, [], ◌∷◌, map, if◌then◌else◌, not}
+use Rattle.std.specs.Prelude.{◌≡◌, false, ℕ, ◌+◌, ◌-◌, ◌^◌, min, ◌<◌, List, [], ◌∷◌, map, if◌then◌else◌, not}
 use Rattle.std.specs.List.{filter}
 use Rattle.tree_specs.specs.declared.object.Obj.{Obj}
 use Rattle.tree_specs.specs.declared.object.Owner.{Owner}
@@ -8,6 +8,8 @@ use Rattle.tree_specs.specs.declared.row.Row.{Row}
 use Rattle.tree_specs.specs.Objects.{same}
 use Rattle.tree_specs.specs.Pool.{is_inside}
 use Rattle.tree_specs.specs.Sums.{sum_inside, limit_at}
+use Rattle.memory_limits.specs.declared.change.Change.{Change}
+use Rattle.memory_limits.specs.declared.change.Change.TheVariants.{More, Less}
 use Rattle.memory_limits.specs.declared.limited.Limited.{Limited}
 
 pub record Limits : Type 0 where
@@ -43,16 +45,26 @@ abbrev pub AllSums : List Limited → List Row → Type 0
 AllSums [] rs = Unit {0}
 AllSums (l ∷ ls) rs = (l.sum ≡ sum_inside rs (Of l.object)) × AllSums ls rs
 
+-- an owner is inside of none of these
+abbrev pub AllOutside : List Row → Owner → List Limited → Type 0
+AllOutside rs o [] = Unit {0}
+AllOutside rs o (l ∷ ls) = (is_inside rs o (Of l.object) ≡ false) × AllOutside rs o ls
+
 -- the limits are those of the rows, and the sums are kept
 pub record AreLimitsOf (ls : List Limited) (rs : List Row) : Type 0 where
   pub limits : (x : Obj) → limit_of ls x ≡ limit_at rs x
   pub bound : AllBound ls
   pub sums : AllSums ls rs
 
--- what an owner is inside of counts more, where numbers go
-abbrev pub more : List Row → Owner → ℕ → Limited → Limited
-more rs o weight l = if is_inside rs o (Of l.object) then record l { sum = min (l.sum + weight) (2 ^ 64 - 1) } else l
+-- a sum after so many bytes came or went
+abbrev pub summed : Change → ℕ → ℕ
+summed (More weight) sum = min (sum + weight) (2 ^ 64 - 1)
+summed (Less weight) sum = sum - weight
 
--- what an owner is inside of counts less
-abbrev pub less : List Row → Owner → ℕ → Limited → Limited
-less rs o weight l = if is_inside rs o (Of l.object) then record l { sum = l.sum - weight } else l
+-- what one object counts
+abbrev pub counts_at : Change → Obj → Limited → Limited
+counts_at change x l = if same x l.object then record l { sum = summed change l.sum } else l
+
+-- what an owner is inside of counts more, or less
+abbrev pub counts : Change → List Row → Owner → Limited → Limited
+counts change rs o l = if is_inside rs o (Of l.object) then record l { sum = summed change l.sum } else l

@@ -1,55 +1,13 @@
-ghost use Rattle.std.specs.Prelude.{◌≡◌, ◌+◌, ◌&&◌, map, vec_capacity, nat_lt};
+ghost use Rattle.std.specs.Prelude.{◌≡◌, ◌+◌, ◌&&◌, nat_lt};
 ghost use Rattle.tree_specs.specs.Sums.{size_at};
-ghost use Rattle.memory_limits.specs.Limits.{more as counts_more, less as counts_less};
 
+use crate::change::Change;
 use crate::limited::Limited;
 use std::alloc::Global;
 use std::marker::Model;
 use tree_links::Tree;
 use tree_report::sum;
 use tree_specs::{Memory, Obj, Owner, Refusal};
-
-/// An object that an owner is inside of counts so many bytes more.
-fn more(tree: &Tree, owner: Owner, weight: u64, limited: Limited) -> Limited
-    ensures { result ≡ counts_more tree.now.rows owner weight limited }
-{
-    if !tree.is_inside(owner, Owner::Of(limited.object)) {
-        return limited;
-    }
-    let sum = limited.sum.saturating_add(weight);
-    Limited { sum, ..limited }
-}
-
-/// All objects that an owner is inside of do.
-fn add_above(tree: &Tree, owner: Owner, weight: u64, all: &mut Vec<Limited>)
-    ensures items { all.new.items ≡ map (counts_more tree.now.rows owner weight) all.old.items }
-    ensures capacity { vec_capacity all.new ≡ vec_capacity all.old }
-{
-    for limited in all.iter_mut() {
-        *limited = more(tree, owner, weight, *limited);
-    }
-}
-
-/// An object that an owner is inside of counts so many bytes less.
-fn less(tree: &Tree, owner: Owner, weight: u64, limited: Limited) -> Limited
-    ensures { result ≡ counts_less tree.now.rows owner weight limited }
-{
-    if !tree.is_inside(owner, Owner::Of(limited.object)) {
-        return limited;
-    }
-    let sum = limited.sum.saturating_sub(weight);
-    Limited { sum, ..limited }
-}
-
-/// All objects that an owner is inside of do.
-fn take_above(tree: &Tree, owner: Owner, weight: u64, all: &mut Vec<Limited>)
-    ensures items { all.new.items ≡ map (counts_less tree.now.rows owner weight) all.old.items }
-    ensures capacity { vec_capacity all.new ≡ vec_capacity all.old }
-{
-    for limited in all.iter_mut() {
-        *limited = less(tree, owner, weight, *limited);
-    }
-}
 
 /// The size of an object in bytes, and 0 where there is none.
 fn size_of(tree: &Tree, x: Obj) -> u64
@@ -93,7 +51,7 @@ impl Sums {
     ghost use Rattle.tree_links.specs.Links.{pool_of};
     ghost use Rattle.tree_specs.specs.declared.object.Owner.TheVariants.{Of as At};
     ghost use Rattle.tree_specs.specs.Pool.{row_of, is_row, is_inside, changed, left_row, owned_row, sized_row};
-    ghost use Rattle.memory_limits.specs.Limits.{AllSums, AllBound, SameBounds, AreLimitsOf, limit_of, unlimited};
+    ghost use Rattle.memory_limits.specs.Limits.{AllSums, AllBound, AllOutside, SameBounds, AreLimitsOf, limit_of, unlimited};
 
     /// No limits. It takes no memory.
     pub fn new(alloc: Global) -> Sums
@@ -114,6 +72,31 @@ impl Sums {
         Ok(())
     }
 
+    // Whether an owner is inside of an object with a limit.
+    fn are_above(&self, tree: &Tree, owner: Owner) -> bool
+        ensures { result ≡ false → AllOutside tree.now.rows owner self.now.limited }
+    {
+        if self.limited.is_empty() {
+            return false;
+        }
+        let mut at = owner;
+        let mut steps = tree.len() + 1;
+        while steps > 0 {
+            let Owner::Of(x) = at else {
+                return false;
+            };
+            if self.find(x).is_some() {
+                return true;
+            }
+            let Some(next) = tree.parent(x) else {
+                return false;
+            };
+            at = next;
+            steps -= 1;
+        }
+        true
+    }
+
     /// An object came below its owner, with all that is inside it.
     pub fn joined(&mut self, tree: &Tree, x: Obj)
         requires { AllSums self.old.limited (changed left_row tree.now.rows x) }
@@ -121,15 +104,16 @@ impl Sums {
         ensures bounds { SameBounds self.old.limited self.new.limited }
         ensures spare { self.new.spare ≡ self.old.spare }
     {
-        if self.limited.is_empty() {
-            return;
-        }
         // All that is wanted of `len` is its contract: the objects are a forest, and small.
         let _rows = tree.len();
-        let weight = sum(tree, Owner::Of(x));
-        if let Some(owner) = tree.parent(x) {
-            add_above(tree, owner, weight, &mut self.limited);
+        let Some(owner) = tree.parent(x) else {
+            return;
+        };
+        if !self.are_above(tree, owner) {
+            return;
         }
+        let weight = sum(tree, Owner::Of(x));
+        Change::More(weight).count_above(tree, owner, &mut self.limited);
     }
 
     /// An object has left an owner that isn't inside it, with all that is inside it, to another owner or to none.
@@ -141,13 +125,13 @@ impl Sums {
         ensures bounds { SameBounds self.old.limited self.new.limited }
         ensures spare { self.new.spare ≡ self.old.spare }
     {
-        if self.limited.is_empty() {
-            return;
-        }
         // All that is wanted of `len` is its contract: the objects are a forest, and small.
         let _rows = tree.len();
+        if !self.are_above(tree, from) {
+            return;
+        }
         let weight = sum(tree, Owner::Of(x));
-        take_above(tree, from, weight, &mut self.limited);
+        Change::Less(weight).count_above(tree, from, &mut self.limited);
     }
 
     /// A plain object had this size before, in bytes.
@@ -161,8 +145,8 @@ impl Sums {
         // All that is wanted of `len` is its contract: the objects are small.
         let _rows = tree.len();
         let size = size_of(tree, x);
-        take_above(tree, Owner::Of(x), before, &mut self.limited);
-        add_above(tree, Owner::Of(x), size, &mut self.limited);
+        Change::Less(before).count_above(tree, Owner::Of(x), &mut self.limited);
+        Change::More(size).count_above(tree, Owner::Of(x), &mut self.limited);
     }
 
     /// An object has no limit any more, or is no more.

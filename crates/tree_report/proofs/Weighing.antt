@@ -1,5 +1,5 @@
 -- The sums over what is inside an owner are sums over a walk.
-use Rattle.std.proofs.Common.{◌≡◌, ℕ, zero, suc, ◌+◌, ◌*◌, ◌^◌, ◌<◌, ◌≤◌, List, [], ◌∷◌, length, map, Bool, Option, Some, if◌then◌else◌, refl, ap, arith}
+use Rattle.std.proofs.Common.{◌≡◌, ℕ, zero, suc, ◌+◌, ◌*◌, ◌^◌, ◌<◌, ◌≤◌, List, [], ◌∷◌, length, map, Bool, Some, if◌then◌else◌, refl, ap, arith}
 use Rattle.std.specs.List.{flat_map, sum_by}
 use Rattle.std.proofs.lemmas.List.{append-nil}
 use Rattle.std.proofs.lemmas.List.Recursion.{is_sum_by}
@@ -20,7 +20,7 @@ use Rattle.tree_specs.specs.Pool.{kids, is_inside}
 use Rattle.tree_specs.specs.Inside.{total, count_inside}
 use Rattle.tree_specs.specs.Sums.{overhead, charge, sum_inside}
 use Rattle.tree_specs.specs.Targets.{is_reference}
-use Rattle.tree_specs.specs.Walks.{walked, weight_at, own_row, own, total_of}
+use Rattle.tree_specs.specs.Walks.{walked, weight_at, own_row, total_of}
 use Rattle.tree_specs.proofs.Numbered.{by_test}
 use Rattle.tree_specs.proofs.Walk.{total-same, inside-walked}
 use Rattle.tree_links.specs.Links.{AllFit, IsTree}

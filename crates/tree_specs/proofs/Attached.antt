@@ -5,10 +5,10 @@ use Rattle.tree_specs.specs.declared.object.Owner.{Owner}
 use Rattle.tree_specs.specs.declared.object.Owner.TheVariants.{Root, Of}
 use Rattle.tree_specs.specs.declared.row.Row.{Row}
 use Rattle.tree_specs.specs.Objects.{same, same_owner}
-use Rattle.tree_specs.specs.Pool.{owner_of, next_owner, reaches, is_inside}
+use Rattle.tree_specs.specs.Pool.{owner_of, reaches, is_inside}
 use Rattle.tree_specs.specs.Forest.{ends, Rooted}
 use Rattle.tree_specs.specs.Inside.{total}
-use Rattle.tree_specs.proofs.Numbered.{by_test, same_or_not, same-false, same-equal, same_owner-true}
+use Rattle.tree_specs.proofs.Numbered.{by_test, same_or_not, same-false, same_owner-true}
 use Rattle.tree_specs.proofs.Ancestry.{reach-root, reaches-inside, inside-self, inside-owner, inside-trans}
 
 -- what all rows inside an owner weigh

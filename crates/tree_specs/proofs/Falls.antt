@@ -27,7 +27,6 @@ use Rattle.tree_specs.specs.Table.{table, step, call_step, effect_step, replied,
 use Rattle.tree_specs.specs.Sound.{Sound}
 use Rattle.tree_specs.specs.Sound.{MayBePlaced}
 use Rattle.tree_specs.proofs.Checks.{passes-placing, passes-reparent, passes-object, passes-resize, passes-hooking, MayGo, Itself, ItsRef}
-use Rattle.tree_specs.specs.Sums.{sum_inside}
 use Rattle.tree_specs.specs.Inside.{total}
 use Rattle.tree_specs.specs.Measure.{weight, unit, cost}
 use Rattle.tree_specs.proofs.Rows.{total-placed, count-length}

@@ -1,5 +1,3 @@
-use Rattle.std.proofs.Common.{sym, subst}
-use Rattle.memory_limits.specs.Limits.{AreLimitsOf}
 use Rattle.memory_limits.proofs.Kept.{settles}
 use Rattle.host_core.proofs.Told.{has-left, has-none, still-apart, had-owner, gone-kept, dropped-kept, other-step}
 use Rattle.host_core.proofs.Counted.{same-kept, other-sums}

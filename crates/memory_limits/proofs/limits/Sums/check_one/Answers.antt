@@ -1,5 +1,4 @@
-use Rattle.std.proofs.Common.{rules, ◌≡◌, Option, Some, sym, ◌∙◌}
-use Rattle.memory_limits.specs.declared.limited.Limited.{Limited}
+use Rattle.std.proofs.Common.{rules, sym, ◌∙◌}
 use Rattle.memory_limits.proofs.Kept.{over-none, over-lacks, over-fits}
 use Rattle.memory_limits.proofs.limits.Sums.check_one.Goals as goal
 
