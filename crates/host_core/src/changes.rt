@@ -10,7 +10,6 @@ ghost use Rattle.memory_limits.specs.Limits.{AreLimitsOf};
 ghost use Rattle.host_core.specs.Moves.{RefsMayGo};
 
 use crate::brief::Brief;
-use crate::checks::size_of;
 use crate::counting::count_went;
 use memory_limits::Sums;
 use references::Refs;
@@ -108,7 +107,7 @@ pub fn resize(x: Obj, size: u64, tree: &mut Tree, refs: &Refs, sums: &mut Sums) 
 {
     // They stay the same, which is known where this is used.
     let _ = refs;
-    let before = size_of(x, tree);
+    let before = tree.size(x);
     tree.set_size(x, size);
     sums.resized(tree, x, before);
     Brief::Ok

@@ -1,7 +1,7 @@
 //! What a call is refused for. The checks stand in the order in which they are tried.
 ghost use Rattle.std.specs.Prelude.{◌≡◌, ◌+◌, ◌<◌, IsOk};
 ghost use Rattle.tree_specs.specs.Calls.{◌before◌, small, owner, object, plain, room, staying, still, apart, placing, hooking, held, interested, given_by, fits as fitting, unreferenced, growing, size_limit, refusals};
-ghost use Rattle.tree_specs.specs.Sums.{overhead, size_at};
+ghost use Rattle.tree_specs.specs.Sums.{overhead};
 ghost use Rattle.tree_links.specs.Links.{pool_of};
 ghost use Rattle.references.specs.Rows.{AreRefsOf};
 ghost use Rattle.memory_limits.specs.Limits.{AreLimitsOf};
@@ -267,19 +267,12 @@ fn check_unreferenced(x: Obj, tree: &Tree, refs: &Refs) -> Result<(), Refusal>
     Ok(())
 }
 
-/// The size of an object in bytes, and 0 where there is none.
-pub fn size_of(x: Obj, tree: &Tree) -> u64
-    ensures { result ≡ size_at tree.now.rows x }
-{
-    tree.row(x).map_or(0, |row| row.size)
-}
-
 /// Where an object grows, the growth fits.
 fn check_growing(x: Obj, size: u64, tree: &Tree, sums: &Sums) -> Result<(), Refusal>
     requires { AreLimitsOf sums.now.limited tree.now.rows }
     ensures { result ≡ checked (growing (pool_of tree.now) x size) }
 {
-    let before = size_of(x, tree);
+    let before = tree.size(x);
     if before < size {
         return sums.fits(tree, Owner::Of(x), size - before);
     }

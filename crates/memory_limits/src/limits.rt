@@ -1,5 +1,4 @@
 ghost use Rattle.std.specs.Prelude.{◌≡◌, ◌+◌, ◌&&◌, nat_lt};
-ghost use Rattle.tree_specs.specs.Sums.{size_at};
 
 use crate::change::Change;
 use crate::limited::Limited;
@@ -9,13 +8,6 @@ use tree_links::Tree;
 use tree_report::sum;
 use tree_specs::{Memory, Obj, Owner, Refusal};
 
-/// The size of an object in bytes, and 0 where there is none.
-fn size_of(tree: &Tree, x: Obj) -> u64
-    ensures { result ≡ size_at tree.now.rows x }
-{
-    tree.row(x).map_or(0, |row| row.size)
-}
-
 /// Whether there is a limit, and it has no room for so many bytes beside this sum.
 fn lacks(limit: u64, sum: u64, wanted: u64) -> bool
     ensures { result ≡ (nat_lt 0 limit && nat_lt limit (sum + wanted)) }
@@ -23,8 +15,8 @@ fn lacks(limit: u64, sum: u64, wanted: u64) -> bool
     limit != 0 && (sum > limit || limit - sum < wanted)
 }
 
-/// The objects with a limit, and what is inside each of them (`talloc_set_memlimit`). Contracts see the list of them, and
-/// spare. The sums are those of a tree as long as each placing, leaving, removal and change of size is told.
+/// The objects with a limit, and what is inside each of them (`talloc_set_memlimit`). Contracts see the list of them,
+/// and spare. The sums are those of a tree as long as each placing, leaving, removal and change of size is told.
 #[derive(Debug, Drop)]
 pub struct Sums {
     limited: Vec<Limited>,
@@ -144,7 +136,7 @@ impl Sums {
     {
         // All that is wanted of `len` is its contract: the objects are small.
         let _rows = tree.len();
-        let size = size_of(tree, x);
+        let size = tree.size(x);
         Change::Less(before).count_above(tree, Owner::Of(x), &mut self.limited);
         Change::More(size).count_above(tree, Owner::Of(x), &mut self.limited);
     }
@@ -217,8 +209,8 @@ impl Sums {
         })
     }
 
-    /// Whether so many more bytes fit below an owner: neither it nor one above it has a limit that they would exceed. The
-    /// refusal names the nearest one that has no room, with the sum of what is inside it and its limit.
+    /// Whether so many more bytes fit below an owner: neither it nor one above it has a limit that they would exceed.
+    /// The refusal names the nearest one that has no room, with the sum of what is inside it and its limit.
     #[tactic(auto, unfolding(tree_specs::specs::Calls::fits))]
     pub fn fits(&self, tree: &Tree, owner: Owner, wanted: u64) -> Result<(), Refusal>
         requires { AreLimitsOf self.now.limited tree.now.rows }

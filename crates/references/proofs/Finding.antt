@@ -1,7 +1,8 @@
 -- A reference by its index: what is left without it.
 use Rattle.std.proofs.Common.{◌≡◌, ℕ, suc, zero, ◌+◌, ◌<◌, ◌≤◌, List, [], ◌∷◌, length, Option, Some, None, Bool, true, false, refl, sym, ◌∙◌, ap, arith, subst, get_or, MatchOption, ◌↔◌}
 use Rattle.std.specs.Prelude.{position, remove, not, IsSome, OnSome}
-use Rattle.std.specs.List.{filter, position_from}
+use Rattle.std.specs.List.{find, filter, position_from}
+use Rattle.std.specs.Option.{option_map}
 use Rattle.std.proofs.lemmas.List.Quantifiers.{position-Some}
 use Rattle.std.proofs.lemmas.Iterator.Adapters.{position_from-zero}
 use Rattle.std.proofs.lemmas.Bool.{eqb-true}
@@ -39,14 +40,27 @@ none-from (p ∷ ps) r i e = by_test (same p.reference r)
     (λ t. let bad : Some i ≡ None = rw t at e in cc)
     (λ t. let e' : position_from (test r) (i + 1) ps ≡ None = rw t at e in rw t (ap (λ (l : List Pair). p ∷ l) (none-from ps r (i + 1) e')))
 
+found-at : (ps : List Pair) (r : Obj) (i : ℕ) (d e : Pair) → i < length ps → test r (get_or ps i e) ≡ true → ((k : ℕ) → k < i → test r (get_or ps k e) ≡ false) → find (test r) ps ≡ Some (get_or ps i d)
+found-at [] r i d e l t h = absurd (omega arith)
+found-at (p ∷ ps) r zero d e l t h = rw t refl
+found-at (p ∷ ps) r (suc i) d e l t h = let z : test r p ≡ false = h 0 (omega arith) in rw z (found-at ps r i d e (omega arith) t (λ k b. h (suc k) (omega arith)))
+
+found-nowhere : (ps : List Pair) (r : Obj) (i : ℕ) → position_from (test r) i ps ≡ None → find (test r) ps ≡ None
+found-nowhere [] r i e = refl
+found-nowhere (p ∷ ps) r i e = by_test (same p.reference r)
+    (λ t. let bad : Some i ≡ None = rw t at e in cc)
+    (λ t. let e' : position_from (test r) (i + 1) ps ≡ None = rw t at e in rw t (found-nowhere ps r (i + 1) e'))
+
 no_pair : Pair
 no_pair = pair (record { 0 = 0 }) (record { 0 = 0 })
 
 pub found : (ps : List Pair) (r : Obj) (o : Option ℕ) → Descends ps → o ≡ position (test r) ps → MatchOption o (StandsNowhere ps r) (λ i. StandsAt ps r i)
-found ps r None s e = record { not_taken_out = none-from ps r 0 (sym (position_from-zero (test r) ps) ∙ sym e) }
+found ps r None s e =
+    let nowhere : position_from (test r) 0 ps ≡ None = sym (position_from-zero (test r) ps) ∙ sym e in
+    record { not_taken_out = none-from ps r 0 nowhere; refers_not = ap (option_map (λ p. p.target)) (found-nowhere ps r 0 nowhere) }
 found ps r (Some i) s e =
     let p = position-Some (test r) ps i no_pair (sym e) in
-    record { in_range = p.0; taken_out = first-at ps r i no_pair s p.0 p.1 p.2 }
+    record { in_range = p.0; taken_out = first-at ps r i no_pair s p.0 p.1 p.2; refers = λ d. ap (option_map (λ p. p.target)) (found-at ps r i d no_pair p.0 p.1 p.2) }
 
 -- ---- what is left descends too
 

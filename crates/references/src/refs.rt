@@ -108,11 +108,9 @@ impl Refs {
         ensures pairs { self.new.pairs ≡ without self.old.pairs reference }
         ensures spare { self.old.spare ≤ self.new.spare }
     {
-        let target = self.target(reference);
-        if let Some(i) = self.find(reference) {
-            let _pair = self.pairs.remove(i);
-        }
-        target
+        let i = self.find(reference)?;
+        let pair = self.pairs.remove(i)?;
+        Some(pair.target)
     }
 
     /// The target of a reference. None exactly where there is no such reference.

@@ -1,8 +1,11 @@
 //! The rows of the tree: who owns whom, and the order in which children stand.
 #![tactic(auto)]
 
+mod new_row;
+mod owner;
 #[cfg(test)]
 mod tests;
 mod tree;
 
-pub use tree::{NewRow, Tree};
+pub use new_row::NewRow;
+pub use tree::Tree;

@@ -1,19 +1,9 @@
-ghost use Rattle.std.specs.Prelude.{◌≡◌};
-ghost use Rattle.tree_specs.specs.Pool.{is_below as is_child_of};
-
+use crate::new_row::NewRow;
+use crate::owner::is_below;
 use std::alloc::Global;
 use std::collections::VecDeque;
 use std::marker::Model;
-use tree_specs::{FreeFrame, Kind, Mark, Memory, Name, Obj, Owner, Row};
-
-/// What a new object begins with. It is quiet, and has no destructor.
-#[derive(Debug, Drop)]
-pub struct NewRow {
-    pub kind: Kind,
-    pub name: Name,
-    /// In bytes, below 268,435,456.
-    pub size: u64,
-}
+use tree_specs::{FreeFrame, Mark, Memory, Name, Obj, Owner, Row};
 
 /// The objects and who owns them, with the works of the frees that are open on them. Contracts see the list of
 /// rows, the most recently placed first, the next serial number, and spare: so many rows can be added without
@@ -39,22 +29,13 @@ impl Model for Tree {
     ghost invariant = { λ t. IsTree t.rows.items t.next };
 }
 
-fn is_below(owner: Option<Owner>, p: Owner) -> bool
-    ensures { result ≡ is_child_of owner p }
-{
-    match (owner, p) {
-        (Some(Owner::Root), Owner::Root) => true,
-        (Some(Owner::Of(x)), Owner::Of(y)) => x.0 == y.0,
-        _ => false,
-    }
-}
-
 impl Tree {
     ghost use Rattle.std.specs.Prelude.{slice_get, position, ◌≡◌, ℕ, ◌+◌, ◌-◌, ◌^◌, ◌<◌, ◌≤◌, ◌∷◌, [], ◌↔◌, drop, true, false, None, ◌&&◌, IsTrue, IsSome, OnOk, MatchOption, length};
     ghost use Rattle.std.specs.Option.{option_copied};
     ghost use Rattle.tree_specs.specs.declared.object.Owner.TheVariants.{Of as At};
     ghost use Rattle.tree_specs.specs.Objects.{same};
     ghost use Rattle.tree_specs.specs.Calls.{row_limit, size_limit};
+    ghost use Rattle.tree_specs.specs.Sums.{size_at};
     ghost use Rattle.tree_specs.specs.Pool.{empty, is_row, is_owner, is_dying, row_of, is_below, first_kid as kid_first, next_kid as kid_next, add as added, take_number as number_taken, detach as detached, remove as removed, place as placed, rename as renamed, set_mark as marked, set_hook as hooked, set_size as resized, set_limit as limited, owner_of, next_owner as owner_after, is_inside as is_inside_of, is_dying_mark};
     ghost use Rattle.tree_links.specs.Links.{IsTree, pool_of, works_of, number_after, may_go};
     ghost use Rattle.tree_links.specs.Found.{StandsAt, StandsNowhere};
@@ -203,6 +184,13 @@ impl Tree {
     {
         let i = self.find(x)?;
         Some(&self.rows[i])
+    }
+
+    /// The size of an object in bytes, and 0 where there is none.
+    pub fn size(&self, x: Obj) -> u64
+        ensures { result ≡ size_at self.now.rows x }
+    {
+        self.row(x).map_or(0, |row| row.size)
     }
 
     /// Whether it is the root, or an object that can own others: a reference can't.

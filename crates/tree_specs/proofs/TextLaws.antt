@@ -1,8 +1,7 @@
 -- The rules' text over every pool and every list of inputs: what an acceptance follows, and which inputs a free takes.
-use Rattle.std.specs.Prelude.{unwrap_or}
 use Rattle.tree_specs.specs.declared.object.Owner.{Owner}
 use Rattle.tree_specs.specs.Targets.{newest_ref}
-use Rattle.std.proofs.Common.{◌≡◌, ℕ, suc, zero, nat_eq, List, [], ◌∷◌, Option, Some, None, true, false, refl, sym, ◌∙◌, ap, subst, inl, inr}
+use Rattle.std.proofs.Common.{◌≡◌, ℕ, suc, zero, nat_eq, List, [], ◌∷◌, Option, Some, None, true, false, refl, sym, ◌∙◌, ap, subst, inl, inr, unwrap_or}
 use Rattle.std.proofs.lemmas.Bool.{eqb-true}
 use Rattle.step_machine.specs.Machine.{Outcome, tell, tells, followed, items as told_by}
 use Rattle.step_machine.specs.Machine.Outcome.{Ended, Waits, Stray, Short}

@@ -14,8 +14,8 @@ pub enum Call {
     Steal { owner: Owner, x: Obj },
     /// `move P X`: the same, where the reply is the object, as `talloc_move` gives it.
     Move { owner: Owner, x: Obj },
-    /// `reparent OLD NEW X`: the same, where `from` must be its owner, as `talloc_reparent` does; or `from` owns references
-    /// to it, and the newest of these goes to `to`.
+    /// `reparent OLD NEW X`: the same, where `from` must be its owner, as `talloc_reparent` does; or `from` owns
+    /// references to it, and the newest of these goes to `to`.
     Reparent { from: Owner, to: Owner, x: Obj },
     /// `reference P X`: a reference to a plain object below an owner, as `talloc_reference` makes it. The reply is its
     /// number.
@@ -31,8 +31,8 @@ pub enum Call {
     Rename { x: Obj, name: Name },
     /// `resize X SIZE`: gives the object another size in bytes, as `talloc_realloc_size` does.
     Resize { x: Obj, size: u64 },
-    /// `limit X MAX`: what is inside the object may count so many bytes together, as `talloc_set_memlimit` says; 0 is no
-    /// limit.
+    /// `limit X MAX`: what is inside the object may count so many bytes together, as `talloc_set_memlimit` says; 0 is
+    /// no limit.
     Limit { x: Obj, max: u64 },
     /// `parent X`: the number of its owner, as `talloc_parent` tells.
     Parent { x: Obj },

@@ -10,11 +10,11 @@ pub returns-clause-sums : goal.returns-clause-sums
 returns-clause-sums c =
     let kept : AllSums c.self.inside.limited.items (changed (sized_row c.args.before) c.args.tree.now.rows c.args.x) =
     subst (λ (v : Limits). AllSums v.limited (changed (sized_row c.args.before) c.args.tree.now.rows c.args.x)) (sym c.self.view_is) c.requires.sums in
-    rw (c.count_above-2.ensures.items, c.count_above.ensures.items, c.size_of-size.ensures) (resizes c.args.tree.now.rows c.args.tree.now.next c.args.x c.args.before c.self.inside.limited.items c.len-rows.ensures.sound c.requires.plain kept)
+    rw (c.count_above-2.ensures.items, c.count_above.ensures.items, c.size-size.ensures) (resizes c.args.tree.now.rows c.args.tree.now.next c.args.x c.args.before c.self.inside.limited.items c.len-rows.ensures.sound c.requires.plain kept)
 
 pub returns-clause-bounds : goal.returns-clause-bounds
 returns-clause-bounds c =
     subst (λ (v : Limits). SameBounds v.limited c.count_above-2.new.all.items) c.self.view_is
     (subst (SameBounds c.self.inside.limited.items) (sym c.count_above-2.ensures.items)
-    (bounds-changed (counts (More c.size_of-size.result) c.args.tree.now.rows (Of c.args.x)) (counts-bound (More c.size_of-size.result) c.args.tree.now.rows (Of c.args.x)) c.count_above.new.all.items
+    (bounds-changed (counts (More c.size-size.result) c.args.tree.now.rows (Of c.args.x)) (counts-bound (More c.size-size.result) c.args.tree.now.rows (Of c.args.x)) c.count_above.new.all.items
     ∙ ap (map bound_of) c.count_above.ensures.items ∙ bounds-changed (counts (Less c.args.before) c.args.tree.now.rows (Of c.args.x)) (counts-bound (Less c.args.before) c.args.tree.now.rows (Of c.args.x)) c.self.inside.limited.items))
