@@ -27,4 +27,5 @@ pub mod Orderly
 pub mod Grounded
 pub mod Acceptances
 pub mod BadStories
+pub mod Pending
 pub mod Listed

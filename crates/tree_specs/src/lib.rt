@@ -3,6 +3,7 @@
 #![tactic(auto)]
 
 mod call;
+mod due;
 mod event;
 pub mod forbidden;
 mod frame;
@@ -22,6 +23,7 @@ mod row;
 mod schedule;
 
 pub use call::Call;
+pub use due::Due;
 pub use event::Event;
 pub use frame::{Answer, CallFrame, Frame, FreeFrame, Purpose};
 pub use free_step::{FreeReply, FreeStep};

@@ -1,0 +1,6 @@
+//! What comes as soon as it can (`tevent_schedule_immediate`): objects whose turn it is, one after another.
+#![tactic(auto)]
+
+mod soon;
+
+pub use soon::Soon;
