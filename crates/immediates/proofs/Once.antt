@@ -1,21 +1,10 @@
 -- Each object waits once, whatever is taken out or added.
-use Rattle.std.proofs.Common.{◌≡◌, ℕ, ◌+◌, List, [], ◌∷◌, ◌++◌, true, false, refl, sym, ◌∙◌, ap}
-use Rattle.std.specs.Prelude.{is_some, position}
-use Rattle.std.specs.List.{position_from}
-use Rattle.std.proofs.lemmas.Iterator.Adapters.{position_from-zero}
+use Rattle.std.proofs.Common.{◌≡◌, List, [], ◌∷◌, ◌++◌, true, false, refl, sym, ◌∙◌}
 use Rattle.tree_specs.specs.declared.object.Obj.{Obj}
 use Rattle.tree_specs.specs.Objects.{same}
 use Rattle.tree_specs.specs.Pending.{is_scheduled, unscheduled}
 use Rattle.tree_specs.proofs.Numbered.{by_test, same-equal, same-false}
 use Rattle.immediates.specs.Waiting.{AreOnce}
-
-placed-from : (xs : List Obj) (x : Obj) (i : ℕ) → is_some (position_from (λ y. same y x) i xs) ≡ is_scheduled xs x
-placed-from [] x i = refl
-placed-from (y ∷ ys) x i = by_test (same y x) (λ t. rw t refl) (λ t. rw t (placed-from ys x (i + 1)))
-
--- who waits has a place
-pub placed : (xs : List Obj) (x : Obj) → is_some (position (λ y. same y x) xs) ≡ is_scheduled xs x
-placed xs x = ap is_some (position_from-zero (λ y. same y x) xs) ∙ placed-from xs x 0
 
 pub gone : (xs : List Obj) (x : Obj) → is_scheduled (unscheduled xs x) x ≡ false
 gone [] x = refl

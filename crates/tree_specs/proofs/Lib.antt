@@ -34,3 +34,4 @@ pub mod FineFrees
 pub mod StoryOrder
 pub mod TextLaws
 pub mod FreeCauses
+pub mod Placing

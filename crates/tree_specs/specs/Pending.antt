@@ -1,6 +1,6 @@
 -- What waits for its turn: objects that come soon, and objects whose time comes.
-use Rattle.std.specs.Prelude.{ℕ, Bool, true, false, ◌&&◌, ◌||◌, not, nat_eq, nat_lt, List, [], ◌∷◌, ◌++◌, Option, Some, None, if◌then◌else◌}
-use Rattle.std.specs.List.{filter}
+use Rattle.std.specs.Prelude.{ℕ, Bool, ◌&&◌, ◌||◌, not, nat_eq, nat_lt, List, [], ◌∷◌, ◌++◌, is_some, if◌then◌else◌}
+use Rattle.std.specs.List.{find, filter}
 use Rattle.tree_specs.specs.declared.due.Due.{Due}
 use Rattle.tree_specs.specs.declared.object.Obj.{Obj}
 use Rattle.tree_specs.specs.Objects.{same}
@@ -8,8 +8,7 @@ use Rattle.tree_specs.specs.Objects.{same}
 -- ---- soon: first in, first out, each object once
 
 abbrev pub is_scheduled : List Obj → Obj → Bool
-is_scheduled [] x = false
-is_scheduled (y ∷ ys) x = same y x || is_scheduled ys x
+is_scheduled xs x = is_some (find (λ y. same y x) xs)
 
 abbrev pub unscheduled : List Obj → Obj → List Obj
 unscheduled xs x = filter (λ y. not (same y x)) xs
@@ -18,11 +17,10 @@ unscheduled xs x = filter (λ y. not (same y x)) xs
 abbrev pub scheduled : List Obj → Obj → List Obj
 scheduled xs x = unscheduled xs x ++ x ∷ []
 
--- ---- times: in the order of time and then number, each object once
+-- ---- times: in the order of time and then number
 
 abbrev pub is_armed : List Due → Obj → Bool
-is_armed [] x = false
-is_armed (d ∷ ds) x = same d.object x || is_armed ds x
+is_armed ds x = is_some (find (λ d. same d.object x) ds)
 
 abbrev pub disarmed : List Due → Obj → List Due
 disarmed ds x = filter (λ d. not (same d.object x)) ds

@@ -1,0 +1,24 @@
+-- The times as their callers see them.
+use Rattle.std.specs.Prelude.{◌≡◌, ℕ, false, List, [], ◌∷◌, Option, Some, None}
+use Rattle.tree_specs.specs.declared.due.Due.{Due}
+use Rattle.tree_specs.specs.Pending.{comes_before}
+
+pub record Timetable : Type 0 where
+  -- the first one first
+  pub dues : List Due
+  -- so many can be added without taking memory
+  pub spare : ℕ
+
+-- none of these comes before it
+abbrev pub NoneBefore : Due → List Due → Type 0
+NoneBefore d [] = Unit {0}
+NoneBefore d (e ∷ es) = (comes_before e d ≡ false) × NoneBefore d es
+
+-- in the order of time, and at equal times of number
+abbrev pub AreInOrder : List Due → Type 0
+AreInOrder [] = Unit {0}
+AreInOrder (d ∷ ds) = NoneBefore d ds × AreInOrder ds
+
+abbrev pub first_of : List Due → Option Due
+first_of [] = None
+first_of (d ∷ ds) = Some d

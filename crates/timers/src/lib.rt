@@ -1,0 +1,6 @@
+//! What comes at a time (`tevent_add_timer`): objects in the order of their times.
+#![tactic(auto)]
+
+mod times;
+
+pub use times::Times;
