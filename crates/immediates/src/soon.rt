@@ -27,7 +27,7 @@ impl Model for Soon {
 }
 
 impl Soon {
-    ghost use Rattle.std.specs.Prelude.{◌+◌, ◌<◌, ◌≤◌, ◌↔◌, [], ◌++◌, IsTrue, OnOk, length, option_to_list};
+    ghost use Rattle.std.specs.Prelude.{◌+◌, ◌<◌, ◌≤◌, ◌↔◌, [], ◌++◌, IsTrue, OnOk, length, slice_get, drop};
     ghost use Rattle.std.specs.List.{position};
     ghost use Rattle.tree_specs.specs.Objects.{same};
     ghost use Rattle.tree_specs.specs.Pending.{is_scheduled as waits, scheduled, unscheduled};
@@ -81,7 +81,8 @@ impl Soon {
 
     /// Takes out the object whose turn it is. None exactly where none waits.
     pub fn pop(&mut self) -> Option<Obj>
-        ensures objects { self.old.objects ≡ option_to_list result ++ self.new.objects }
+        ensures first { result ≡ slice_get self.old.objects 0 }
+        ensures objects { self.new.objects ≡ drop 1 self.old.objects }
         ensures spare { self.old.spare ≤ self.new.spare }
     {
         self.objects.pop_front()

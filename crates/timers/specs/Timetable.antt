@@ -1,5 +1,5 @@
 -- The times as their callers see them.
-use Rattle.std.specs.Prelude.{◌≡◌, ℕ, false, List, [], ◌∷◌, Option, Some, None}
+use Rattle.std.specs.Prelude.{◌≡◌, ℕ, false, List, [], ◌∷◌}
 use Rattle.tree_specs.specs.declared.due.Due.{Due}
 use Rattle.tree_specs.specs.Pending.{comes_before}
 
@@ -18,7 +18,3 @@ NoneBefore d (e ∷ es) = (comes_before e d ≡ false) × NoneBefore d es
 abbrev pub AreInOrder : List Due → Type 0
 AreInOrder [] = Unit {0}
 AreInOrder (d ∷ ds) = NoneBefore d ds × AreInOrder ds
-
-abbrev pub first_of : List Due → Option Due
-first_of [] = None
-first_of (d ∷ ds) = Some d

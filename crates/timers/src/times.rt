@@ -32,12 +32,12 @@ impl Model for Times {
 }
 
 impl Times {
-    ghost use Rattle.std.specs.Prelude.{◌+◌, ◌<◌, ◌≤◌, ◌↔◌, [], IsTrue, OnOk, length, unwrap_or};
+    ghost use Rattle.std.specs.Prelude.{◌+◌, ◌<◌, ◌≤◌, ◌↔◌, [], IsTrue, OnOk, length, unwrap_or, slice_get, drop};
     ghost use Rattle.std.specs.List.{position};
     ghost use Rattle.std.specs.Option.{option_copied};
     ghost use Rattle.tree_specs.specs.Objects.{same};
     ghost use Rattle.tree_specs.specs.Pending.{is_armed, armed, disarmed, comes_before as is_before};
-    ghost use Rattle.timers.specs.Timetable.{AreInOrder, first_of};
+    ghost use Rattle.timers.specs.Timetable.{AreInOrder};
 
     /// No times. It takes no memory.
     pub fn new(alloc: Global) -> Times
@@ -104,9 +104,21 @@ impl Times {
 
     /// The time that comes first. None exactly where there is none.
     pub fn first(&self) -> Option<Due>
-        ensures { result ≡ first_of self.now.dues }
+        ensures { result ≡ slice_get self.now.dues 0 }
     {
         Some(*self.dues.first()?)
+    }
+
+    /// Takes out the time that comes first. None exactly where there is none.
+    pub fn pop(&mut self) -> Option<Due>
+        ensures first { result ≡ slice_get self.old.dues 0 }
+        ensures dues { self.new.dues ≡ drop 1 self.old.dues }
+        ensures spare { self.old.spare ≤ self.new.spare }
+    {
+        if self.dues.is_empty() {
+            return None;
+        }
+        Some(self.dues.remove(0))
     }
 
     /// How many times there are.

@@ -28,4 +28,6 @@ pub mod Grounded
 pub mod Acceptances
 pub mod BadStories
 pub mod Pending
+pub mod Wants
+pub mod Picks
 pub mod Listed
