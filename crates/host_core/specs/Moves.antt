@@ -75,6 +75,7 @@ abbrev pub call_of : Input → Option Call
 call_of (input.Call c) = Some c
 call_of (input.Act (act.Do c)) = Some c
 call_of (input.Act (act.Ret v)) = None
+call_of (input.Clock now) = None
 
 abbrev pub reported : Option Call → Option Owner
 reported None = None

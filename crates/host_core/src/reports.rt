@@ -59,8 +59,8 @@ fn report_copy(
     ensures { IfOk result (λ copy. IsCopy input.now copy owner (pool_of tree.now)) }
 {
     match input {
-        Input::Call(_) => Ok(None),
         Input::Act(_) => Ok(Some(report_reply(alloc, owner, tree, refs)?)),
+        Input::Call(_) | Input::Clock(_) => Ok(None),
     }
 }
 

@@ -7,14 +7,14 @@ use Rattle.std.proofs.lemmas.List.{append_cancel_right}
 use Rattle.tree_specs.specs.declared.question.Act.TheVariants as acts
 use Rattle.tree_specs.specs.declared.question.Input.{Input}
 use Rattle.tree_specs.specs.declared.question.Input.TheVariants as inputs
-use Rattle.tree_specs.specs.Grammar.{◌>>=◌, strip, call_of, number32_of, input_of}
-use Rattle.tree_specs.specs.Soundness.{is_return, is_sound_call, is_sound}
+use Rattle.tree_specs.specs.Grammar.{◌>>=◌, strip, call_of, number32_of, time_of, input_of}
+use Rattle.tree_specs.specs.Soundness.{is_return, is_time, is_sound_call, is_sound}
 use Rattle.tree_specs.specs.Text.{call_text, input_text, newline}
 use Rattle.text_forms.specs.declared.form.FormFault.{FormFault}
 use Rattle.text_forms.specs.declared.form.FormFault.TheVariants.{NoForm, Memory}
 use Rattle.text_forms.specs.Reads.{Reads}
 use Rattle.text_forms.proofs.Calls as calls
-use Rattle.text_forms.proofs.Fields.{number32_field}
+use Rattle.text_forms.proofs.Fields.{number32_field, time_field}
 use Rattle.schedule_text.proofs.Fronts.{HasFront, has_front, from_either}
 
 -- ---- from an input to its line and back
@@ -24,18 +24,21 @@ abbrev line_of : Input → List ℕ
 line_of (inputs.Call c) = codes "call " ++ call_text c
 line_of (inputs.Act (acts.Do c)) = codes "act " ++ call_text c
 line_of (inputs.Act (acts.Ret value)) = codes "ret " ++ decimal value
+line_of (inputs.Clock now) = codes "clock " ++ decimal now
 
 input_text-line : (i : Input) → input_text i ≡ line_of i ++ newline
 unfolding input_text
 input_text-line (inputs.Call c) = sym (append_assoc (codes "call ") (call_text c) newline)
 input_text-line (inputs.Act (acts.Do c)) = sym (append_assoc (codes "act ") (call_text c) newline)
 input_text-line (inputs.Act (acts.Ret value)) = sym (append_assoc (codes "ret ") (decimal value) newline)
+input_text-line (inputs.Clock now) = sym (append_assoc (codes "clock ") (decimal now) newline)
 
 input_again : (i : Input) → is_sound i ≡ true → input_of (line_of i) ≡ Some i
 unfolding input_of
 input_again (inputs.Call c) h = rw (calls.call_again c h) refl
 input_again (inputs.Act (acts.Do c)) h = rw (calls.call_again c h) refl
 input_again (inputs.Act (acts.Ret value)) h = rw (number32_field.again value h) refl
+input_again (inputs.Clock now) h = rw (time_field.again now h) refl
 
 -- ---- from a line to an input and back
 
@@ -65,9 +68,11 @@ unfolding input_of
 line_spelled line i e =
     from_either _ _ i
     (from_either _ _ i
+    (from_either _ _ i
     (front_spelled (codes "call ") call_of call_text is_sound_call inputs.Call calls.call_spelled (λ c. refl) (λ c. refl) line i)
     (front_spelled (codes "act ") call_of call_text is_sound_call (λ c. inputs.Act (acts.Do c)) calls.call_spelled (λ c. refl) (λ c. refl) line i))
-    (front_spelled (codes "ret ") number32_of decimal is_return (λ value. inputs.Act (acts.Ret value)) number32_field.spelled (λ value. refl) (λ value. refl) line i)
+    (front_spelled (codes "ret ") number32_of decimal is_return (λ value. inputs.Act (acts.Ret value)) number32_field.spelled (λ value. refl) (λ value. refl) line i))
+    (front_spelled (codes "clock ") time_of decimal is_time inputs.Clock time_field.spelled (λ now. refl) (λ now. refl) line i)
     e
 
 -- ---- what reading a line answers

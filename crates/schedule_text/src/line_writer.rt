@@ -28,5 +28,6 @@ pub fn write_input(input: &Input, out: &mut Vec<u8>) -> Result<(), Memory>
         Input::Call(call) => write_call_line(b"call ", call, out),
         Input::Act(Act::Do(call)) => write_call_line(b"act ", call, out),
         Input::Act(Act::Ret(value)) => write_numbers(b"ret", &[u64::from(*value)], b"\n", out),
+        Input::Clock(now) => write_numbers(b"clock", &[*now], b"\n", out),
     }
 }

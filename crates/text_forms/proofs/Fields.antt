@@ -1,5 +1,5 @@
 -- Each kind of field: its spelling, both ways.
-use Rattle.std.proofs.Common.{◌≡◌, ◌≢◌, ℕ, zero, suc, ◌^◌, ◌<◌, Bool, true, false, eqb, ltb, leb, not, ◌&&◌, List, [], ◌∷◌, length, Option, Some, None, refl, sym, ap, ◌∙◌, cond, arith}
+use Rattle.std.proofs.Common.{◌+◌, ◌≡◌, ◌≢◌, ℕ, zero, suc, ◌^◌, ◌<◌, Bool, true, false, eqb, ltb, leb, not, ◌&&◌, List, [], ◌∷◌, length, Option, Some, None, refl, sym, ap, ◌∙◌, cond, arith}
 use Rattle.std.specs.Prelude.{IfSome, IfNone}
 use Rattle.std.specs.Char.{is_ascii_digit}
 use Rattle.std.specs.Fmt.{decimal}
@@ -10,10 +10,10 @@ use Rattle.std.proofs.lemmas.Bool.Decides.{nat_tests}
 use Rattle.tree_specs.specs.declared.object.Obj.{Obj}
 use Rattle.tree_specs.specs.declared.object.Owner.{Owner}
 use Rattle.tree_specs.specs.declared.object.Owner.TheVariants.{Root, Of}
-use Rattle.tree_specs.specs.Grammar.{◌>>=◌, number_of, number32_of, routine_of, owner_of, object_of, name_of}
+use Rattle.tree_specs.specs.Grammar.{◌>>=◌, number_of, number32_of, time_of, routine_of, owner_of, object_of, name_of}
 use Rattle.tree_specs.specs.Names.{is_name, is_graphic}
 use Rattle.tree_specs.specs.Objects.{owner_number, numbered_owner}
-use Rattle.tree_specs.specs.Soundness.{is_number, is_return, is_routine, is_sound_owner}
+use Rattle.tree_specs.specs.Soundness.{is_number, is_return, is_time, is_routine, is_sound_owner}
 use Rattle.text_forms.proofs.Numerals.{number_spelled, number_again, decimal_digits}
 use Rattle.text_forms.proofs.Bools.{and_true, taken_where, list_all-weaker}
 use Rattle.text_forms.proofs.Words.{is_unspaced}
@@ -80,7 +80,7 @@ by_field {A} {B} {read} {spell} {is_sound_part} field make part is_sound made ta
         let m = made r.value y r.value_is_sound r.goes_on in
         (r.text_is ∙ ap spell (sym m.0), m.1)
 
--- ---- what a routine returns, and routines
+-- ---- what a routine returns
 
 number32_made : (n y : ℕ) → is_number n ≡ true → cond (is_return n) (Some n) None ≡ Some y → (y ≡ n) × (is_return y ≡ true)
 number32_made n y h e = let taken = taken_where is_return n y e in (sym taken.0, taken.1)
@@ -91,6 +91,20 @@ number32_taken n h = (grind (arith, nat_tests), rw h refl)
 pub number32_field : IsField number32_of decimal is_return
 unfolding number32_of
 number32_field = by_field number_field (λ n. cond (is_return n) (Some n) None) (λ n. n) is_return number32_made number32_taken
+
+-- ---- times
+
+time_made : (n y : ℕ) → is_number n ≡ true → cond (is_time n) (Some n) None ≡ Some y → (y ≡ n) × (is_time y ≡ true)
+time_made n y h e = let taken = taken_where is_time n y e in (sym taken.0, taken.1)
+
+time_taken : (n : ℕ) → is_time n ≡ true → (is_number n ≡ true) × (cond (is_time n) (Some n) None ≡ Some n)
+time_taken n h = (grind (arith, nat_tests), rw h refl)
+
+pub time_field : IsField time_of decimal is_time
+unfolding time_of
+time_field = by_field number_field (λ n. cond (is_time n) (Some n) None) (λ n. n) is_time time_made time_taken
+
+-- ---- routines
 
 not_zero : (n : ℕ) → eqb (suc n) 0 ≡ false
 not_zero n = grind (arith, nat_tests)
@@ -167,6 +181,12 @@ number32_spelled_some o ds e = spelled_some number32_field o ds e
 
 pub number32_spelled_none : (o : Option ℕ) (ds : List ℕ) → o ≡ number32_of ds → IfNone o ((n : ℕ) → n < 2 ^ 32 → ds ≢ decimal n)
 number32_spelled_none o ds e = spelled_none (2 ^ 32) number32_field o ds e
+
+pub time_spelled_some : (o : Option ℕ) (ds : List ℕ) → o ≡ time_of ds → IfSome o (λ n. ds ≡ decimal n)
+time_spelled_some o ds e = spelled_some time_field o ds e
+
+pub time_spelled_none : (o : Option ℕ) (ds : List ℕ) → o ≡ time_of ds → IfNone o ((n : ℕ) → n < 2 ^ 62 + 1 → ds ≢ decimal n)
+time_spelled_none o ds e = spelled_none (2 ^ 62 + 1) time_field o ds e
 
 -- ---- names
 

@@ -19,7 +19,7 @@ pub use call_reader::read_call;
 pub use call_writer::write_call;
 pub use form::FormFault;
 pub use name::read_name;
-pub use number::{read_number, read_u32, write_number};
+pub use number::{read_number, read_time, read_u32, write_number};
 pub use numbers::write_numbers;
 pub use piece::write_pieces;
 pub use report_row::write_report_rows;

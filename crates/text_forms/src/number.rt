@@ -1,8 +1,8 @@
-ghost use Rattle.std.specs.Prelude.{◌≡◌, ◌≢◌, ℕ, ◌^◌, ◌<◌, ◌&&◌, nat_lt, IfSome, IfNone, if◌then◌else◌, Some, None};
+ghost use Rattle.std.specs.Prelude.{◌+◌, ◌≡◌, ◌≢◌, ℕ, ◌^◌, ◌<◌, ◌&&◌, nat_lt, IfSome, IfNone, if◌then◌else◌, Some, None};
 ghost use Rattle.std.specs.Fmt.{decimal};
 ghost use Rattle.std.specs.Str.{all_ascii_digits};
 ghost use Rattle.std.specs.Str.Parse.{digits_value};
-ghost use Rattle.tree_specs.specs.Grammar.{number_of, number32_of, is_short};
+ghost use Rattle.tree_specs.specs.Grammar.{number_of, number32_of, time_of, is_short};
 ghost use Rattle.tree_specs.specs.Written.{Writes};
 
 use crate::piece::write_pieces;
@@ -77,6 +77,30 @@ pub fn read_u32(text: &[u8]) -> Option<u32>
     ensures none { IfNone result ((n : ℕ) → n < 2 ^ 32 → text.now ≢ decimal n) }
 {
     number32_value(text)
+}
+
+// A time, as the grammar defines it.
+#[tactic(auto, unfolding(tree_specs::specs::Grammar::time_of))]
+fn time_value(text: &[u8]) -> Option<u64>
+    ensures { result ≡ time_of text.now }
+{
+    let n = read_number(text)?;
+    if n > 4_611_686_018_427_387_904 {
+        return None;
+    }
+    Some(n)
+}
+
+/// The time in microseconds that the text spells, from 0 to 4,611,686,018,427,387,904. None exactly where it spells no
+/// such number.
+#[tactic(auto, using(crate::proofs::Fields::time_spelled_some, crate::proofs::Fields::time_spelled_none))]
+pub fn read_time(text: &[u8]) -> Option<u64>
+    ensures value { result ≡ time_of text.now }
+    // Such a number has one spelling, and what is none is the spelling of no such number.
+    ensures spelled { IfSome result (λ n. text.now ≡ decimal n) }
+    ensures none { IfNone result ((n : ℕ) → n < 2 ^ 62 + 1 → text.now ≢ decimal n) }
+{
+    time_value(text)
 }
 
 /// Appends the one spelling of a number. Where memory is wanted, a front of it was appended.

@@ -1,5 +1,5 @@
 -- The grammar of numbers, names, calls and schedule lines: the value that a text spells, or none.
-use Rattle.std.specs.Prelude.{ℕ, ◌^◌, Bool, true, false, ◌==◌, ◌&&◌, not, nat_lt, if◌then◌else◌, List, [], ◌∷◌, Option, Some, None, codes}
+use Rattle.std.specs.Prelude.{◌+◌, ℕ, ◌^◌, Bool, true, false, ◌==◌, ◌&&◌, not, nat_lt, if◌then◌else◌, List, [], ◌∷◌, Option, Some, None, codes}
 use Rattle.std.specs.List.{slice_split}
 use Rattle.std.specs.Option.{option_map}
 use Rattle.std.specs.Str.{all_ascii_digits, bytes_eq}
@@ -41,6 +41,10 @@ number_below limit ds = do
 -- a number below 2^32, as a routine returns it
 unfoldable pub number32_of : List ℕ → Option ℕ
 number32_of ds = number_below (2 ^ 32) ds
+
+-- a time in microseconds
+unfoldable pub time_of : List ℕ → Option ℕ
+time_of ds = number_below (2 ^ 62 + 1) ds
 
 -- the number of a routine, which isn't 0
 unfoldable pub routine_of : List ℕ → Option ℕ
@@ -184,6 +188,9 @@ act_input_of text = option_map (λ c. inputs.Act (acts.Do c)) (call_of text)
 abbrev pub return_input_of : List ℕ → Option Input
 return_input_of text = option_map (λ v. inputs.Act (acts.Ret v)) (number32_of text)
 
+abbrev pub clock_input_of : List ℕ → Option Input
+clock_input_of text = option_map inputs.Clock (time_of text)
+
 infixl 9 ◌or◌
 -- the first that there is
 abbrev pub ◌or◌ : {A : Type 0} → Option A → Option A → Option A
@@ -196,3 +203,4 @@ input_of line =
     (strip (codes "call ") line >>= call_input_of)
     or (strip (codes "act ") line >>= act_input_of)
     or (strip (codes "ret ") line >>= return_input_of)
+    or (strip (codes "clock ") line >>= clock_input_of)

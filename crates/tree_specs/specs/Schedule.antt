@@ -61,8 +61,10 @@ abbrev pub misfit : Option Ask → Input → Option Reason
 misfit None i = Some NotAsked
 misfit (Some Quiet) (inputs.Call call) = None
 misfit (Some Quiet) (inputs.Act act) = Some NotAsked
+misfit (Some Quiet) (inputs.Clock now) = Some NotAsked
 misfit (Some (Routine m)) (inputs.Call call) = Some NotAsked
 misfit (Some (Routine m)) (inputs.Act act) = None
+misfit (Some (Routine m)) (inputs.Clock now) = Some NotAsked
 misfit (Some Clock) i = Some NotAsked
 misfit (Some (Wait limit)) i = Some NotAsked
 misfit (Some (Accept descriptor)) i = Some NotAsked

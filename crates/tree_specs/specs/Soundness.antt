@@ -1,5 +1,5 @@
 -- Inputs whose numbers have the ranges of their fields.
-use Rattle.std.specs.Prelude.{ℕ, ◌^◌, Bool, true, ◌&&◌, nat_lt}
+use Rattle.std.specs.Prelude.{ℕ, ◌+◌, ◌^◌, Bool, true, ◌&&◌, nat_lt}
 use Rattle.tree_specs.specs.declared.object.Owner.{Owner}
 use Rattle.tree_specs.specs.declared.object.Owner.TheVariants.{Root, Of}
 use Rattle.tree_specs.specs.declared.call.Call.{Call}
@@ -16,6 +16,10 @@ is_number n = nat_lt n (2 ^ 64)
 -- what a routine returns
 abbrev pub is_return : ℕ → Bool
 is_return n = nat_lt n (2 ^ 32)
+
+-- a time in microseconds
+abbrev pub is_time : ℕ → Bool
+is_time n = nat_lt n (2 ^ 62 + 1)
 
 -- routines are numbered from 1 upwards
 abbrev pub is_routine : ℕ → Bool
@@ -53,3 +57,4 @@ is_sound_act (acts.Ret value) = is_return value
 abbrev pub is_sound : Input → Bool
 is_sound (inputs.Call call) = is_sound_call call
 is_sound (inputs.Act act) = is_sound_act act
+is_sound (inputs.Clock now) = is_time now

@@ -54,6 +54,7 @@ unfoldable pub input_text : Input → List ℕ
 input_text (inputs.Call c) = codes "call " ++ call_text c ++ newline
 input_text (inputs.Act (acts.Do c)) = codes "act " ++ call_text c ++ newline
 input_text (inputs.Act (acts.Ret value)) = codes "ret " ++ decimal value ++ newline
+input_text (inputs.Clock now) = codes "clock " ++ decimal now ++ newline
 
 -- ---- events
 

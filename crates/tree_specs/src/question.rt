@@ -38,4 +38,6 @@ pub enum Input {
     Call(Call),
     /// What a routine does, where one runs.
     Act(Act),
+    /// The time in microseconds, from 0 to 4,611,686,018,427,387,904, where it is asked.
+    Clock(u64),
 }
