@@ -68,7 +68,7 @@ number_field = record {
 -- ---- values that are made of another field's value
 
 -- a value that is made of another field's, where it can be, and has that one's spelling
-by_field : {A B : Type 0} {read : List ℕ → Option A} {spell : A → List ℕ} {is_sound_part : A → Bool} (field : IsField read spell is_sound_part) (make : A → Option B) (part : B → A) (is_sound : B → Bool) → ((x : A) (y : B) → is_sound_part x ≡ true → make x ≡ Some y → (part y ≡ x) × (is_sound y ≡ true)) → ((y : B) → is_sound y ≡ true → (is_sound_part (part y) ≡ true) × (make (part y) ≡ Some y)) → IsField (λ text. read text >>= make) (λ y. spell (part y)) is_sound
+pub by_field : {A B : Type 0} {read : List ℕ → Option A} {spell : A → List ℕ} {is_sound_part : A → Bool} (field : IsField read spell is_sound_part) (make : A → Option B) (part : B → A) (is_sound : B → Bool) → ((x : A) (y : B) → is_sound_part x ≡ true → make x ≡ Some y → (part y ≡ x) × (is_sound y ≡ true)) → ((y : B) → is_sound y ≡ true → (is_sound_part (part y) ≡ true) × (make (part y) ≡ Some y)) → IsField (λ text. read text >>= make) (λ y. spell (part y)) is_sound
 by_field {A} {B} {read} {spell} {is_sound_part} field make part is_sound made taken = record {
   spelled = λ text y e. spelled text y (has_read field text make y e);
   again = λ y h. rw (field.again (part y) (taken y h).0) (taken y h).1;

@@ -7,3 +7,4 @@ pub mod Calls
 pub mod Pieces
 pub mod Writing
 pub mod Rows
+pub mod Descriptors

@@ -1,5 +1,5 @@
 -- What reading a text answers.
-use Rattle.std.specs.Prelude.{◌≡◌, Option, Some, None, Result, Ok, Err}
+use Rattle.std.specs.Prelude.{◌≡◌, List, Vec, Option, Some, None, Result, Ok, Err}
 use Rattle.text_forms.specs.declared.form.FormFault.{FormFault}
 use Rattle.text_forms.specs.declared.form.FormFault.TheVariants.{NoForm, Memory}
 
@@ -8,3 +8,9 @@ abbrev pub Reads : {A : Type 0} → Result A FormFault → Option A → Type 0
 Reads (Ok x) value = value ≡ Some x
 Reads (Err NoForm) value = value ≡ None
 Reads (Err Memory) value = Unit {0}
+
+-- the same of a list
+abbrev pub ReadsList : {A Z : Type 0} → Result (Vec A Z) FormFault → Option (List A) → Type 0
+ReadsList (Ok xs) value = value ≡ Some xs.items
+ReadsList (Err NoForm) value = value ≡ None
+ReadsList (Err Memory) value = Unit {0}

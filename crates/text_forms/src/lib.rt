@@ -14,6 +14,7 @@ mod report_row;
 mod split;
 #[cfg(test)]
 mod tests;
+mod wants;
 
 pub use call_reader::read_call;
 pub use call_writer::write_call;
@@ -23,3 +24,4 @@ pub use number::{read_number, read_time, read_u32, write_number};
 pub use numbers::write_numbers;
 pub use piece::write_pieces;
 pub use report_row::write_report_rows;
+pub use wants::read_ready;

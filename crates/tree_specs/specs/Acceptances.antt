@@ -27,6 +27,7 @@ abbrev pub returned_by : Ask → Input → Option Return
 returned_by (Routine m) (input.Act a) = returned_act m a
 returned_by (Routine m) (input.Call c) = None
 returned_by (Routine m) (input.Clock now) = None
+returned_by (Routine m) (input.Ready list) = None
 returned_by Quiet i = None
 returned_by Clock i = None
 returned_by (Wait limit) i = None

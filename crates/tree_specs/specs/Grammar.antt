@@ -13,6 +13,8 @@ use Rattle.tree_specs.specs.declared.question.Input.{Input}
 use Rattle.tree_specs.specs.declared.question.Input.TheVariants as inputs
 use Rattle.tree_specs.specs.Names.{is_name}
 use Rattle.tree_specs.specs.Objects.{numbered_owner}
+use Rattle.tree_specs.specs.declared.wants.Want.{Want}
+use Rattle.tree_specs.specs.Wants.{are_wants}
 
 infixl 10 ◌>>=◌
 abbrev pub ◌>>=◌ : {A B : Type 0} → Option A → (A → Option B) → Option B
@@ -191,6 +193,44 @@ return_input_of text = option_map (λ v. inputs.Act (acts.Ret v)) (number32_of t
 abbrev pub clock_input_of : List ℕ → Option Input
 clock_input_of text = option_map inputs.Clock (time_of text)
 
+-- flags from 1 to 3
+unfoldable pub flags_of : List ℕ → Option ℕ
+flags_of ds = do
+  n ← number_below 4 ds
+  if n == 0 then None else Some n
+
+-- `FD:F`
+abbrev pub want_parts : List (List ℕ) → Option Want
+want_parts (fd ∷ flags ∷ []) = do
+  f ← number32_of fd
+  g ← flags_of flags
+  Some (record { fd = f; flags = g })
+want_parts _ = None
+
+unfoldable pub want_of : List ℕ → Option Want
+want_of text = want_parts (slice_split (λ b. b == 58) text)
+
+abbrev pub wants_of : List (List ℕ) → Option (List Want)
+wants_of [] = Some []
+wants_of (text ∷ more) = do
+  want ← want_of text
+  wants ← wants_of more
+  Some (want ∷ wants)
+
+abbrev pub rising : List Want → Option (List Want)
+rising list = if are_wants 0 list then Some list else None
+
+-- `ready`, and then each descriptor
+abbrev pub ready_words : List (List ℕ) → Option (List Want)
+ready_words [] = None
+ready_words (verb ∷ fields) = if bytes_eq verb (codes "ready") then (wants_of fields >>= rising) else None
+
+abbrev pub ready_of : List ℕ → Option (List Want)
+ready_of text = ready_words (words text)
+
+abbrev pub ready_input_of : List ℕ → Option Input
+ready_input_of text = option_map inputs.Ready (ready_of text)
+
 infixl 9 ◌or◌
 -- the first that there is
 abbrev pub ◌or◌ : {A : Type 0} → Option A → Option A → Option A
@@ -204,3 +244,4 @@ input_of line =
     or (strip (codes "act ") line >>= act_input_of)
     or (strip (codes "ret ") line >>= return_input_of)
     or (strip (codes "clock ") line >>= clock_input_of)
+    or ready_input_of line

@@ -9,6 +9,7 @@ use Rattle.tree_specs.specs.declared.question.Act.TheVariants as acts
 use Rattle.tree_specs.specs.declared.question.Input.{Input}
 use Rattle.tree_specs.specs.declared.question.Input.TheVariants as inputs
 use Rattle.tree_specs.specs.Names.{is_name}
+use Rattle.tree_specs.specs.Wants.{are_wants}
 
 abbrev pub is_number : ℕ → Bool
 is_number n = nat_lt n (2 ^ 64)
@@ -58,3 +59,4 @@ abbrev pub is_sound : Input → Bool
 is_sound (inputs.Call call) = is_sound_call call
 is_sound (inputs.Act act) = is_sound_act act
 is_sound (inputs.Clock now) = is_time now
+is_sound (inputs.Ready list) = are_wants 0 list

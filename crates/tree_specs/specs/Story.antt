@@ -75,9 +75,11 @@ abbrev pub heard : {A : Type 0} → Ask → (Call → A) → (ℕ → A) → Inp
 heard ask.Quiet does returns (input.Call c) = if is_sound_call c then Some (does c) else None
 heard ask.Quiet does returns (input.Act a) = None
 heard ask.Quiet does returns (input.Clock now) = None
+heard ask.Quiet does returns (input.Ready list) = None
 heard (ask.Routine m) does returns (input.Call c) = None
 heard (ask.Routine m) does returns (input.Act a) = acted does returns a
 heard (ask.Routine m) does returns (input.Clock now) = None
+heard (ask.Routine m) does returns (input.Ready list) = None
 heard ask.Clock does returns i = None
 heard (ask.Wait limit) does returns i = None
 heard (ask.Accept descriptor) does returns i = None

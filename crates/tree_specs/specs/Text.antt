@@ -20,6 +20,7 @@ use Rattle.tree_specs.specs.declared.question.Ask.{Ask}
 use Rattle.tree_specs.specs.declared.question.Ask.TheVariants as asks
 use Rattle.tree_specs.specs.declared.question.Act.TheVariants as acts
 use Rattle.tree_specs.specs.declared.question.Input.{Input}
+use Rattle.tree_specs.specs.declared.wants.Want.{Want}
 use Rattle.tree_specs.specs.declared.question.Input.TheVariants as inputs
 use Rattle.tree_specs.specs.Objects.{owner_number}
 use Rattle.tree_specs.specs.Items.{Item}
@@ -49,12 +50,21 @@ call_text (Count owner) = codes "count " ++ decimal (owner_number owner)
 call_text (Sum owner) = codes "sum " ++ decimal (owner_number owner)
 call_text (Report owner) = codes "report " ++ decimal (owner_number owner)
 
+abbrev pub want_text : Want → List ℕ
+want_text w = decimal w.fd ++ codes ":" ++ decimal w.flags
+
+-- each with a space before it
+abbrev pub wants_text : List Want → List ℕ
+wants_text [] = []
+wants_text (w ∷ ws) = codes " " ++ want_text w ++ wants_text ws
+
 -- an input as its line
 unfoldable pub input_text : Input → List ℕ
 input_text (inputs.Call c) = codes "call " ++ call_text c ++ newline
 input_text (inputs.Act (acts.Do c)) = codes "act " ++ call_text c ++ newline
 input_text (inputs.Act (acts.Ret value)) = codes "ret " ++ decimal value ++ newline
 input_text (inputs.Clock now) = codes "clock " ++ decimal now ++ newline
+input_text (inputs.Ready list) = codes "ready" ++ wants_text list ++ newline
 
 -- ---- events
 

@@ -1,6 +1,7 @@
 use crate::call::Call;
 use crate::moment::Moment;
 use crate::octets::Octets;
+use crate::wants::Wants;
 
 /// What the host waits for.
 #[derive(Debug, PartialEq, Eq, Drop)]
@@ -40,4 +41,6 @@ pub enum Input {
     Act(Act),
     /// The time in microseconds, from 0 to 4,611,686,018,427,387,904, where it is asked.
     Clock(u64),
+    /// Which descriptors are ready, where this is asked.
+    Ready(Wants),
 }
