@@ -12,6 +12,7 @@ use Rattle.tree_specs.specs.declared.question.Ask.{Ask}
 use Rattle.tree_specs.specs.declared.question.Ask.TheVariants as ask
 use Rattle.tree_specs.specs.declared.question.Act.TheVariants as act
 use Rattle.tree_specs.specs.declared.question.Input.{Input}
+use Rattle.tree_specs.specs.declared.wants.Want.{Want}
 use Rattle.tree_specs.specs.declared.question.Input.TheVariants as input
 use Rattle.tree_specs.specs.declared.reply.Reply.{Reply}
 use Rattle.tree_specs.specs.declared.schedule.Reason.TheVariants.{NotAsked}
@@ -98,9 +99,11 @@ unasked None i e = refl
 unasked (Some ask.Quiet) (input.Call c) e = cc
 unasked (Some ask.Quiet) (input.Act a) e = refl
 unasked (Some ask.Quiet) (input.Clock now) e = refl
+unasked (Some ask.Quiet) (input.Ready list) e = refl
 unasked (Some (ask.Routine m)) (input.Call c) e = refl
 unasked (Some (ask.Routine m)) (input.Act a) e = cc
 unasked (Some (ask.Routine m)) (input.Clock now) e = refl
+unasked (Some (ask.Routine m)) (input.Ready list) e = refl
 unasked (Some ask.Clock) i e = refl
 unasked (Some (ask.Wait limit)) i e = refl
 unasked (Some (ask.Accept d)) i e = refl
@@ -147,8 +150,10 @@ pub copy-is : (q : Ask) (i : Input) (r : Report) (o : Owner) (p : Pool) → misf
 copy-is ask.Quiet (input.Call c) r o p m a k = rw k refl
 copy-is ask.Quiet (input.Act b) r o p m a k = cc
 copy-is ask.Quiet (input.Clock now) r o p m a k = cc
+copy-is ask.Quiet (input.Ready list) r o p m a k = cc
 copy-is (ask.Routine n) (input.Call c) r o p m a k = cc
 copy-is (ask.Routine n) (input.Clock now) r o p m a k = cc
+copy-is (ask.Routine n) (input.Ready list) r o p m a k = cc
 copy-is (ask.Routine n) (input.Act b) r o p m a k = remembered r.copy k
   where
     remembered : (copy : Option Reply) → IsCopy (input.Act b) copy o p → remembers (ask.Routine n) copy ≡ later (ask.Routine n) r.reply
@@ -167,8 +172,10 @@ answered : (q : Ask) (i : Input) → misfit (Some q) i ≡ None → is_sound i �
 answered ask.Quiet (input.Call c) m s = rw s refl
 answered ask.Quiet (input.Act a) m s = cc
 answered ask.Quiet (input.Clock now) m s = cc
+answered ask.Quiet (input.Ready list) m s = cc
 answered (ask.Routine n) (input.Call c) m s = cc
 answered (ask.Routine n) (input.Clock now) m s = cc
+answered (ask.Routine n) (input.Ready list) m s = cc
 answered (ask.Routine n) (input.Act (act.Do c)) m s = rw s refl
 answered (ask.Routine n) (input.Act (act.Ret v)) m s = rw s refl
 answered ask.Clock i m s = cc
@@ -212,27 +219,41 @@ goes-called q c i (Some s) v works cs p m r g = each (report_of c) refl r
         let l : remembers q s.copy ≡ later q s.reply = copy-is q i s o p m r.0 r.1 in
         rw l (goes-replied q c s.reply i v works cs p (rw is (r.0 q)) g)
 
--- nobody asks the clock
-no-clock : (q : Ask) (now : ℕ) → misfit (Some q) (input.Clock now) ≡ None → ⊥
-no-clock ask.Quiet now m = cc
-no-clock (ask.Routine n) now m = cc
-no-clock ask.Clock now m = cc
-no-clock (ask.Wait limit) now m = cc
-no-clock (ask.Accept fd) now m = cc
-no-clock (ask.Read fd most) now m = cc
-no-clock (ask.Write fd bytes) now m = cc
+-- an answer that nobody asks for yet
+no-answer : (q : Ask) (i : Input) → ((a : Ask) → misfit (Some a) i ≡ Some NotAsked) → misfit (Some q) i ≡ None → ⊥
+no-answer q i never m = let bad : Some NotAsked ≡ None = sym (never q) ∙ m in cc
+
+never-clock : (now : ℕ) (a : Ask) → misfit (Some a) (input.Clock now) ≡ Some NotAsked
+never-clock now ask.Quiet = refl
+never-clock now (ask.Routine n) = refl
+never-clock now ask.Clock = refl
+never-clock now (ask.Wait limit) = refl
+never-clock now (ask.Accept fd) = refl
+never-clock now (ask.Read fd most) = refl
+never-clock now (ask.Write fd bytes) = refl
+
+never-ready : (list : List Want) (a : Ask) → misfit (Some a) (input.Ready list) ≡ Some NotAsked
+never-ready list ask.Quiet = refl
+never-ready list (ask.Routine n) = refl
+never-ready list ask.Clock = refl
+never-ready list (ask.Wait limit) = refl
+never-ready list (ask.Accept fd) = refl
+never-ready list (ask.Read fd most) = refl
+never-ready list (ask.Write fd bytes) = refl
 
 goes : (q : Ask) (i : Input) (report : Option Report) (works : List FreeFrame) (cs : List CallFrame) (p : Pool) → misfit (Some q) i ≡ None → is_sound i ≡ true → IsReport i (reported (call_of i)) report p → Whole (call_view (Asking q) works cs p)
     → Goes q i (call_view (Asking q) works cs p) (begins_with q i report) works cs p
 goes q (input.Call c) report works cs p m s r h = goes-called q c (input.Call c) report _ works cs p m r (goes-heard q (input.Call c) works cs p m s h)
 goes q (input.Act (act.Do c)) report works cs p m s r h = goes-called q c (input.Act (act.Do c)) report _ works cs p m r (goes-heard q (input.Act (act.Do c)) works cs p m s h)
 goes q (input.Act (act.Ret v)) report works cs p m s r h = goes-heard q (input.Act (act.Ret v)) works cs p m s h
-goes q (input.Clock now) report works cs p m s r h = absurd (no-clock q now m)
+goes q (input.Clock now) report works cs p m s r h = absurd (no-answer q (input.Clock now) (never-clock now) m)
+goes q (input.Ready list) report works cs p m s r h = absurd (no-answer q (input.Ready list) (never-ready list) m)
 
 -- there is room for what comes
 begun-room : (q : Ask) (i : Input) (report : Option Report) (p : Pool) (callers : List CallFrame) (tree : Links) (places : Places) → IsReport i (reported (call_of i)) report p → CallRoom callers tree places → CallReady (begins_with q i report) callers tree places
 begun-room q (input.Act (act.Ret v)) report p callers tree places r room = room.room
 begun-room q (input.Clock now) report p callers tree places r room = tt
+begun-room q (input.Ready list) report p callers tree places r room = tt
 begun-room q (input.Call c) (Some s) p callers tree places r room = tt
 begun-room q (input.Act (act.Do c)) (Some s) p callers tree places r room = tt
 begun-room q (input.Call c) None p callers tree places r room = (unreported (report_of c) r, room)

@@ -226,6 +226,7 @@ begins_with q (input.Call c) report = called_with q c report
 begins_with q (input.Act (act.Do c)) report = called_with q c report
 begins_with q (input.Act (act.Ret v)) report = Returning v
 begins_with q (input.Clock now) report = Asking q
+begins_with q (input.Ready list) report = Asking q
 
 -- the reply that a report of this owner has, whoever asks for it
 abbrev pub IsReplyOf : Owner → Reply → Pool → Type 0
@@ -235,6 +236,7 @@ IsReplyOf o r p = (q : Ask) → call_step (refusals p (call.Report o)) q (call.R
 abbrev pub IsCopy : Input → Option Reply → Owner → Pool → Type 0
 IsCopy (input.Call c) copy o p = copy ≡ None
 IsCopy (input.Clock now) copy o p = copy ≡ None
+IsCopy (input.Ready list) copy o p = copy ≡ None
 IsCopy (input.Act a) None o p = ⊥
 IsCopy (input.Act a) (Some r) o p = IsReplyOf o r p
 

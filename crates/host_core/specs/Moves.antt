@@ -76,6 +76,7 @@ call_of (input.Call c) = Some c
 call_of (input.Act (act.Do c)) = Some c
 call_of (input.Act (act.Ret v)) = None
 call_of (input.Clock now) = None
+call_of (input.Ready list) = None
 
 abbrev pub reported : Option Call → Option Owner
 reported None = None

@@ -60,7 +60,7 @@ fn begun_by(ask: Ask, input: Input, report: Option<Report>) -> CallFrame
     match input {
         Input::Call(call) | Input::Act(Act::Do(call)) => called(ask, call, report),
         Input::Act(Act::Ret(value)) => CallFrame::Returning { value },
-        Input::Clock(_) => CallFrame::Asking { ask },
+        Input::Clock(_) | Input::Ready(_) => CallFrame::Asking { ask },
     }
 }
 

@@ -60,7 +60,7 @@ fn report_copy(
 {
     match input {
         Input::Act(_) => Ok(Some(report_reply(alloc, owner, tree, refs)?)),
-        Input::Call(_) | Input::Clock(_) => Ok(None),
+        Input::Call(_) | Input::Clock(_) | Input::Ready(_) => Ok(None),
     }
 }
 

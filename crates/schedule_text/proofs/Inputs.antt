@@ -7,14 +7,16 @@ use Rattle.std.proofs.lemmas.List.{append_cancel_right}
 use Rattle.tree_specs.specs.declared.question.Act.TheVariants as acts
 use Rattle.tree_specs.specs.declared.question.Input.{Input}
 use Rattle.tree_specs.specs.declared.question.Input.TheVariants as inputs
-use Rattle.tree_specs.specs.Grammar.{◌>>=◌, strip, call_of, number32_of, time_of, input_of}
+use Rattle.tree_specs.specs.Grammar.{◌>>=◌, strip, call_of, number32_of, time_of, ready_of, input_of}
 use Rattle.tree_specs.specs.Soundness.{is_return, is_time, is_sound_call, is_sound}
-use Rattle.tree_specs.specs.Text.{call_text, input_text, newline}
+use Rattle.tree_specs.specs.Text.{call_text, wants_text, input_text, newline}
 use Rattle.text_forms.specs.declared.form.FormFault.{FormFault}
 use Rattle.text_forms.specs.declared.form.FormFault.TheVariants.{NoForm, Memory}
 use Rattle.text_forms.specs.Reads.{Reads}
 use Rattle.text_forms.proofs.Calls as calls
 use Rattle.text_forms.proofs.Fields.{number32_field, time_field}
+use Rattle.text_forms.proofs.Descriptors.{ready_again, ready_spelled}
+use Rattle.tree_specs.specs.declared.wants.Want.{Want}
 use Rattle.schedule_text.proofs.Fronts.{HasFront, has_front, from_either}
 
 -- ---- from an input to its line and back
@@ -25,6 +27,7 @@ line_of (inputs.Call c) = codes "call " ++ call_text c
 line_of (inputs.Act (acts.Do c)) = codes "act " ++ call_text c
 line_of (inputs.Act (acts.Ret value)) = codes "ret " ++ decimal value
 line_of (inputs.Clock now) = codes "clock " ++ decimal now
+line_of (inputs.Ready list) = codes "ready" ++ wants_text list
 
 input_text-line : (i : Input) → input_text i ≡ line_of i ++ newline
 unfolding input_text
@@ -32,6 +35,7 @@ input_text-line (inputs.Call c) = sym (append_assoc (codes "call ") (call_text c
 input_text-line (inputs.Act (acts.Do c)) = sym (append_assoc (codes "act ") (call_text c) newline)
 input_text-line (inputs.Act (acts.Ret value)) = sym (append_assoc (codes "ret ") (decimal value) newline)
 input_text-line (inputs.Clock now) = sym (append_assoc (codes "clock ") (decimal now) newline)
+input_text-line (inputs.Ready list) = sym (append_assoc (codes "ready") (wants_text list) newline)
 
 input_again : (i : Input) → is_sound i ≡ true → input_of (line_of i) ≡ Some i
 unfolding input_of
@@ -39,6 +43,7 @@ input_again (inputs.Call c) h = rw (calls.call_again c h) refl
 input_again (inputs.Act (acts.Do c)) h = rw (calls.call_again c h) refl
 input_again (inputs.Act (acts.Ret value)) h = rw (number32_field.again value h) refl
 input_again (inputs.Clock now) h = rw (time_field.again now h) refl
+input_again (inputs.Ready list) h = rw (ready_again list h) refl
 
 -- ---- from a line to an input and back
 
@@ -63,16 +68,25 @@ front_spelled {A} front read spell is_sound_value make spelled line_is sound lin
     after_front : HasFront front (λ text. option_map make (read text)) line i → IsLine line i
     after_front found = rw found.line_is (by_cases found.rest (read found.rest) refl found.reads)
 
+ready_line : (line : List ℕ) (i : Input) (o : Option (List Want)) → ready_of line ≡ o → option_map inputs.Ready o ≡ Some i → IsLine line i
+ready_line line i None was e = absurd cc
+ready_line line i (Some list) was e =
+    let same : inputs.Ready list ≡ i = cc in
+    let r = ready_spelled line list was in
+    record { line_is = r.0 ∙ ap line_of same; is_sound = sym (ap is_sound same) ∙ r.1 }
+
 line_spelled : (line : List ℕ) (i : Input) → input_of line ≡ Some i → IsLine line i
 unfolding input_of
 line_spelled line i e =
     from_either _ _ i
     (from_either _ _ i
     (from_either _ _ i
+    (from_either _ _ i
     (front_spelled (codes "call ") call_of call_text is_sound_call inputs.Call calls.call_spelled (λ c. refl) (λ c. refl) line i)
     (front_spelled (codes "act ") call_of call_text is_sound_call (λ c. inputs.Act (acts.Do c)) calls.call_spelled (λ c. refl) (λ c. refl) line i))
     (front_spelled (codes "ret ") number32_of decimal is_return (λ value. inputs.Act (acts.Ret value)) number32_field.spelled (λ value. refl) (λ value. refl) line i))
-    (front_spelled (codes "clock ") time_of decimal is_time inputs.Clock time_field.spelled (λ now. refl) (λ now. refl) line i)
+    (front_spelled (codes "clock ") time_of decimal is_time inputs.Clock time_field.spelled (λ now. refl) (λ now. refl) line i))
+    (ready_line line i (ready_of line) refl)
     e
 
 -- ---- what reading a line answers

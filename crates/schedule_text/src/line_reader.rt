@@ -7,7 +7,7 @@ ghost use Rattle.text_forms.specs.Reads.{Reads};
 
 use crate::front::after_front;
 use std::alloc::Global;
-use text_forms::{FormFault, read_call, read_time, read_u32};
+use text_forms::{FormFault, read_call, read_ready, read_time, read_u32};
 use tree_specs::{Act, Input};
 
 // The input that the line spells, as the grammar defines it: its front decides how the rest is read.
@@ -26,7 +26,7 @@ fn input_value(alloc: Global, line: &[u8]) -> Result<Input, FormFault>
     } else if let Some(text) = after_front(line, b"clock ") {
         read_time(text).map(Input::Clock).ok_or(FormFault::NoForm)
     } else {
-        Err(FormFault::NoForm)
+        read_ready(alloc, line).map(Input::Ready)
     }
 }
 

@@ -3,7 +3,7 @@ ghost use Rattle.tree_specs.specs.Soundness.{is_sound, is_sound_call};
 ghost use Rattle.tree_specs.specs.Text.{call_text, input_text, newline};
 ghost use Rattle.tree_specs.specs.Written.{Writes};
 
-use text_forms::{write_call, write_numbers};
+use text_forms::{write_call, write_numbers, write_ready};
 use tree_specs::{Act, Call, Input, Memory};
 
 // The line of a call after this front.
@@ -29,5 +29,6 @@ pub fn write_input(input: &Input, out: &mut Vec<u8>) -> Result<(), Memory>
         Input::Act(Act::Do(call)) => write_call_line(b"act ", call, out),
         Input::Act(Act::Ret(value)) => write_numbers(b"ret", &[u64::from(*value)], b"\n", out),
         Input::Clock(now) => write_numbers(b"clock", &[*now], b"\n", out),
+        Input::Ready(list) => write_ready(list, out),
     }
 }

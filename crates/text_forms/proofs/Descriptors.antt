@@ -3,19 +3,20 @@ use Rattle.std.proofs.Common.{◌≡◌, ℕ, zero, suc, ◌+◌, ◌^◌, ◌<�
 use Rattle.std.specs.Char.{is_ascii_digit}
 use Rattle.std.specs.Fmt.{decimal}
 use Rattle.std.specs.List.{list_all, join_with_byte, slice_split}
-use Rattle.std.specs.Str.{all_ascii_digits}
+use Rattle.std.specs.Str.{all_ascii_digits, bytes_eq}
+use Rattle.std.proofs.lemmas.Slice.Eq.{bytes_eq-Decides}
 use Rattle.std.proofs.lemmas.Bool.{ltb-true}
 use Rattle.std.proofs.lemmas.Bool.Decides.{nat_tests}
 use Rattle.std.proofs.lemmas.List.Splits.{join_with_byte-slice_split}
 use Rattle.tree_specs.specs.declared.wants.Want.{Want}
-use Rattle.tree_specs.specs.Grammar.{◌>>=◌, number_below, number32_of, flags_of, want_parts, want_of, wants_of}
+use Rattle.tree_specs.specs.Grammar.{◌>>=◌, number_below, number32_of, flags_of, want_parts, want_of, wants_of, rising, ready_words, ready_of, words}
 use Rattle.tree_specs.specs.Soundness.{is_number, is_return}
 use Rattle.tree_specs.specs.Text.{want_text, wants_text}
 use Rattle.tree_specs.specs.Wants.{is_want, are_flags, are_wants}
 use Rattle.text_forms.proofs.Bools.{and_true, taken_where}
 use Rattle.text_forms.proofs.Numerals.{decimal_digits}
 use Rattle.text_forms.proofs.Fields.{IsField, HasRead, has_read, by_field, number_field, number32_field}
-use Rattle.text_forms.proofs.Words.{is_without, is_unspaced, joined, one_part, more_parts}
+use Rattle.text_forms.proofs.Words.{is_without, is_unspaced, joined, one_part, more_parts, words-joined, joined-words}
 
 -- ---- flags
 
@@ -140,3 +141,45 @@ wants_joined verb [] = sym (append-nil verb)
 wants_joined verb (w ∷ ws) =
     let space : 32 ∷ want_text w ≡ codes " " ++ want_text w = refl in
     ap (λ (t : List ℕ). verb ++ 32 ∷ t) (wants_joined (want_text w) ws) ∙ ap (λ (t : List ℕ). verb ++ (t ++ wants_text ws)) space
+
+-- ---- the whole text
+
+pub ready_again : (ws : List Want) → are_wants 0 ws ≡ true → ready_of (codes "ready" ++ wants_text ws) ≡ Some ws
+ready_again ws h =
+    let line : words (codes "ready" ++ wants_text ws) ≡ codes "ready" ∷ map want_text ws =
+        ap words (sym (wants_joined (codes "ready") ws)) ∙ words-joined (codes "ready") (map want_text ws) (rw (wants_are_words 0 ws h) refl) in
+    rw (line, wants_again 0 ws h, h) refl
+
+-- what was read, and is in order
+record IsReady (verb : List ℕ) (fields : List (List ℕ)) (ws : List Want) : Type 0 where
+  verb_is : verb ≡ codes "ready"
+  fields_are : fields ≡ map want_text ws
+  in_order : are_wants 0 ws ≡ true
+
+ready_parts : (verb : List ℕ) (fields : List (List ℕ)) (ws : List Want) → ready_words (verb ∷ fields) ≡ Some ws → IsReady verb fields ws
+ready_parts verb fields ws e = first (bytes_eq verb (codes "ready")) refl e
+  where
+    last : verb ≡ codes "ready" → (found : List Want) → wants_of fields ≡ Some found → (b : Bool) → are_wants 0 found ≡ b → cond b (Some found) None ≡ Some ws → IsReady verb fields ws
+    last v found was false s k = cc
+    last v found was true s k =
+        let same : found ≡ ws = cc in
+        record { verb_is = v; fields_are = wants_spelled fields found was ∙ ap (map want_text) same; in_order = sym (ap (are_wants 0) same) ∙ s }
+
+    second : verb ≡ codes "ready" → (o : Option (List Want)) → wants_of fields ≡ o → (o >>= rising) ≡ Some ws → IsReady verb fields ws
+    second v None was k = cc
+    second v (Some found) was k = last v found was (are_wants 0 found) refl k
+
+    first : (b : Bool) → bytes_eq verb (codes "ready") ≡ b → cond b (wants_of fields >>= rising) None ≡ Some ws → IsReady verb fields ws
+    first false s k = cc
+    first true s k = second ((bytes_eq-Decides verb (codes "ready")).0 s) (wants_of fields) refl k
+
+pub ready_spelled : (text : List ℕ) (ws : List Want) → ready_of text ≡ Some ws → (text ≡ codes "ready" ++ wants_text ws) × (are_wants 0 ws ≡ true)
+ready_spelled text ws e = each (words text) refl e
+  where
+    each : (ls : List (List ℕ)) → words text ≡ ls → ready_words ls ≡ Some ws → (text ≡ codes "ready" ++ wants_text ws) × (are_wants 0 ws ≡ true)
+    each [] s k = cc
+    each (verb ∷ fields) s k =
+        let r = ready_parts verb fields ws k in
+        let first : joined (verb ∷ fields) ≡ joined (codes "ready" ∷ fields) = ap (λ (v : List ℕ). joined (v ∷ fields)) r.verb_is in
+        let rest : joined (codes "ready" ∷ fields) ≡ joined (codes "ready" ∷ map want_text ws) = ap (λ (fs : List (List ℕ)). joined (codes "ready" ∷ fs)) r.fields_are in
+        (sym (joined-words text) ∙ ap joined s ∙ first ∙ rest ∙ wants_joined (codes "ready") ws, r.in_order)

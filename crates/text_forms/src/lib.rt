@@ -24,4 +24,4 @@ pub use number::{read_number, read_time, read_u32, write_number};
 pub use numbers::write_numbers;
 pub use piece::write_pieces;
 pub use report_row::write_report_rows;
-pub use wants::read_ready;
+pub use wants::{read_ready, write_ready};

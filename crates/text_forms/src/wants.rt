@@ -1,14 +1,17 @@
 //! Descriptors that are ready, with their flags.
 ghost use Rattle.std.specs.Prelude.{◌≡◌, ◌++◌, map, IfOk, codes};
 ghost use Rattle.tree_specs.specs.Grammar.{flags_of, want_parts, want_of, wants_of, rising, ready_words, ready_of};
-ghost use Rattle.tree_specs.specs.Text.{wants_text};
+ghost use Rattle.tree_specs.specs.Text.{want_text, wants_text, newline};
+ghost use Rattle.tree_specs.specs.Written.{Writes};
 ghost use Rattle.text_forms.specs.Reads.{Reads, ReadsList};
 
 use crate::form::FormFault;
 use crate::number::{read_number, read_u32};
+use crate::piece::write_pieces;
 use crate::split::{parts_of, words_of};
+use itoa::Buffer;
 use std::alloc::Global;
-use tree_specs::{Want, Wants};
+use tree_specs::{Memory, Want, Wants};
 
 // Flags from 1 to 3.
 #[tactic(auto, unfolding(tree_specs::specs::Grammar::flags_of))]
@@ -72,4 +75,34 @@ pub fn read_ready(alloc: Global, text: &[u8]) -> Result<Wants, FormFault>
 {
     let words = words_of(alloc, text)?;
     wants(alloc, &words)
+}
+
+fn write_want(want: Want, out: &mut Vec<u8>) -> Result<(), Memory>
+    ensures { Writes out.old.items out.new.items result (codes " " ++ want_text want) }
+{
+    let mut fd = Buffer::new();
+    let mut flags = Buffer::new();
+    let fd = fd.format(want.fd).as_bytes();
+    let flags = flags.format(want.flags).as_bytes();
+    write_pieces(&[b" ".as_slice(), fd, b":".as_slice(), flags], out)
+}
+
+fn write_each(list: &[Want], out: &mut Vec<u8>) -> Result<(), Memory>
+    ensures { Writes out.old.items out.new.items result (wants_text list.now) }
+{
+    for want in list {
+        write_want(*want, out)?;
+    }
+    Ok(())
+}
+
+/// Appends the one spelling of the descriptors that are ready, and the end of the line. Where memory is wanted, a front
+/// of it was appended.
+pub fn write_ready(list: &Wants, out: &mut Vec<u8>) -> Result<(), Memory>
+    ensures { Writes out.old.items out.new.items result (codes "ready" ++ wants_text list.now ++ newline) }
+{
+    out.extend_from_slice(b"ready")?;
+    write_each(list.as_slice(), out)?;
+    out.push(b'\n')?;
+    Ok(())
 }

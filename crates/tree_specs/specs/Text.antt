@@ -55,8 +55,7 @@ want_text w = decimal w.fd ++ codes ":" ++ decimal w.flags
 
 -- each with a space before it
 abbrev pub wants_text : List Want → List ℕ
-wants_text [] = []
-wants_text (w ∷ ws) = codes " " ++ want_text w ++ wants_text ws
+wants_text list = flat_map (λ w. codes " " ++ want_text w) list
 
 -- an input as its line
 unfoldable pub input_text : Input → List ℕ

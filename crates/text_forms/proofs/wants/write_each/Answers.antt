@@ -1,0 +1,7 @@
+use Rattle.std.proofs.Common.{◌++◌, codes}
+use Rattle.tree_specs.specs.Text.{want_text}
+use Rattle.text_forms.proofs.Writing.{in_each}
+use Rattle.text_forms.proofs.wants.write_each.Goals as goal
+
+pub returns-in_err-write_want : goal.returns-in_err-write_want
+returns-in_err-write_want c = in_each (λ w. codes " " ++ want_text w) _ c.args.out.now.items c.loop-want.out.items c.write_want.new.out.items c.args.list.now c.loop-want.want-index c.from_residual.result c.loop-want-test.true c.loop-want.invariant c.in_err-write_want.ensures c.from_residual.ensures.0
