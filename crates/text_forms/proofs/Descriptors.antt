@@ -1,21 +1,20 @@
 -- Descriptors with flags: their spelling, both ways.
-use Rattle.std.proofs.Common.{◌≡◌, ℕ, zero, suc, ◌+◌, ◌^◌, ◌<◌, Bool, true, false, eqb, ltb, not, ◌&&◌, List, [], ◌∷◌, ◌++◌, map, Option, Some, None, cond, refl, sym, ap, ◌∙◌, codes, append_assoc, append-nil, leb, arith}
+use Rattle.std.proofs.Common.{◌≡◌, ℕ, ◌+◌, ◌^◌, ◌<◌, Bool, true, false, eqb, ltb, not, ◌&&◌, List, [], ◌∷◌, ◌++◌, map, Option, Some, None, cond, refl, sym, ap, ◌∙◌, codes, append_assoc, append-nil, leb, arith}
 use Rattle.std.specs.Char.{is_ascii_digit}
 use Rattle.std.specs.Fmt.{decimal}
 use Rattle.std.specs.List.{list_all, join_with_byte, slice_split}
 use Rattle.std.specs.Str.{all_ascii_digits, bytes_eq}
 use Rattle.std.proofs.lemmas.Slice.Eq.{bytes_eq-Decides}
-use Rattle.std.proofs.lemmas.Bool.{ltb-true}
 use Rattle.std.proofs.lemmas.Bool.Decides.{nat_tests}
 use Rattle.std.proofs.lemmas.List.Splits.{join_with_byte-slice_split}
 use Rattle.tree_specs.specs.declared.wants.Want.{Want}
-use Rattle.tree_specs.specs.Grammar.{◌>>=◌, number_below, number32_of, flags_of, want_parts, want_of, wants_of, rising, ready_words, ready_of, words}
-use Rattle.tree_specs.specs.Soundness.{is_number, is_return}
+use Rattle.tree_specs.specs.Grammar.{◌>>=◌, number_below, flags_of, want_parts, want_of, wants_of, rising, ready_words, ready_of, words}
+use Rattle.tree_specs.specs.Soundness.{is_number}
 use Rattle.tree_specs.specs.Text.{want_text, wants_text}
 use Rattle.tree_specs.specs.Wants.{is_want, are_flags, are_wants}
 use Rattle.text_forms.proofs.Bools.{and_true, taken_where}
 use Rattle.text_forms.proofs.Numerals.{decimal_digits}
-use Rattle.text_forms.proofs.Fields.{IsField, HasRead, has_read, by_field, number_field, number32_field}
+use Rattle.text_forms.proofs.Fields.{IsField, has_read, by_field, number_field, number32_field}
 use Rattle.text_forms.proofs.Words.{is_without, is_unspaced, joined, one_part, more_parts, words-joined, joined-words}
 
 -- ---- flags
@@ -65,7 +64,7 @@ cut_text : (f g : ℕ) → f < 2 ^ 64 → g < 2 ^ 64 → slice_split (λ b. eqb 
 cut_text f g h k =
     let colon : codes ":" ≡ 58 ∷ [] = refl in
     let cut : slice_split (λ b. eqb b 58) (decimal f ++ 58 ∷ decimal g) ≡ decimal f ∷ decimal g ∷ [] =
-        more_parts 58 (decimal f) (decimal g) (decimal_is_uncut f h) ∙ ap (λ (ps : List (List ℕ)). decimal f ∷ ps) (one_part 58 (decimal g) (decimal_is_uncut g k)) in
+    more_parts 58 (decimal f) (decimal g) (decimal_is_uncut f h) ∙ ap (λ (ps : List (List ℕ)). decimal f ∷ ps) (one_part 58 (decimal g) (decimal_is_uncut g k)) in
     let text : codes ":" ++ decimal g ≡ 58 ∷ decimal g = ap (λ (c : List ℕ). c ++ decimal g) colon in
     ap (slice_split (λ b. eqb b 58)) (append_assoc (decimal f) (codes ":") (decimal g)) ∙ ap (λ (t : List ℕ). slice_split (λ b. eqb b 58) (decimal f ++ t)) text ∙ cut
 
@@ -147,7 +146,7 @@ wants_joined verb (w ∷ ws) =
 pub ready_again : (ws : List Want) → are_wants 0 ws ≡ true → ready_of (codes "ready" ++ wants_text ws) ≡ Some ws
 ready_again ws h =
     let line : words (codes "ready" ++ wants_text ws) ≡ codes "ready" ∷ map want_text ws =
-        ap words (sym (wants_joined (codes "ready") ws)) ∙ words-joined (codes "ready") (map want_text ws) (rw (wants_are_words 0 ws h) refl) in
+    ap words (sym (wants_joined (codes "ready") ws)) ∙ words-joined (codes "ready") (map want_text ws) (rw (wants_are_words 0 ws h) refl) in
     rw (line, wants_again 0 ws h, h) refl
 
 -- what was read, and is in order
