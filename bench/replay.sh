@@ -4,7 +4,7 @@
 #   bench/replay.sh row N       N objects below one owner, all freed by one call
 #   bench/replay.sh report N    N objects, ten below each, then a report of all and the sum of their sizes
 #   bench/replay.sh nest N      N objects with destructors, each of which frees the next object
-#   bench/replay.sh limits N    N objects below one owner with a limit, each of which it looks at
+#   bench/replay.sh limits N    N objects below one owner with a limit, all freed by one call
 #   bench/replay.sh mix N       N rounds of calls that all succeed: a request with a buffer and a timer, most of
 #                               them freed in the same round
 #   bench/replay.sh drawn N     N calls that are drawn, most of which are refused
