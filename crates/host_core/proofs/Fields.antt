@@ -15,7 +15,7 @@ use Rattle.memory_limits.specs.declared.limited.Limited.{Limited}
 use Rattle.memory_limits.specs.Limits.{limit_of, unlimited, AllBound, AllSums, AreLimitsOf}
 use Rattle.memory_limits.proofs.Kept.{same-sums}
 use Rattle.host_core.specs.Counting.{WasAdded}
-use Rattle.host_core.proofs.Told.{others-same}
+use Rattle.memory_limits.proofs.Gone.{others-same}
 
 -- ---- a row is changed
 

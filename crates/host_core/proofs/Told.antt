@@ -1,5 +1,5 @@
 -- What the sums need that are told of an object that went elsewhere, or is no more.
-use Rattle.std.proofs.Common.{◌≡◌, ◌≢◌, ℕ, zero, suc, List, [], ◌∷◌, length, Option, Some, None, Bool, true, false, ◌||◌, if◌then◌else◌, refl, sym, ◌∙◌, ap, subst, inl, inr, arith}
+use Rattle.std.proofs.Common.{◌≡◌, ◌≢◌, ℕ, zero, suc, List, length, Option, Some, None, Bool, true, false, ◌||◌, if◌then◌else◌, refl, sym, ◌∙◌, ap, subst, inl, inr}
 use Rattle.tree_specs.specs.declared.free_step.FreeStep.{FreeStep}
 use Rattle.tree_specs.specs.declared.free_step.FreeStep.TheVariants.{Ask, Dropped, Refused, Accepted, Left, Moved, Gone, Done}
 use Rattle.tree_specs.specs.declared.object.Obj.{Obj}
@@ -7,18 +7,16 @@ use Rattle.tree_specs.specs.declared.object.Owner.{Owner}
 use Rattle.tree_specs.specs.declared.object.Owner.TheVariants.{Root, Of}
 use Rattle.tree_specs.specs.declared.row.Row.{Row}
 use Rattle.tree_specs.specs.Objects.{same, same_owner}
-use Rattle.tree_specs.specs.Pool.{row_of, is_row, owner_in, owner_of, target_in, target_at, reaches, is_inside, changed, without, left_row, owned_row}
-use Rattle.tree_specs.specs.Forest.{IsForest, Rooted, Distinct}
-use Rattle.tree_specs.specs.Inside.{total}
-use Rattle.tree_specs.specs.Sums.{charge, sum_inside, limit_in, limit_at}
+use Rattle.tree_specs.specs.Pool.{row_of, is_row, owner_in, owner_of, target_at, reaches, is_inside, changed, without, left_row, owned_row}
+use Rattle.tree_specs.specs.Forest.{Rooted, Distinct}
+use Rattle.tree_specs.specs.Sums.{charge, limit_in, limit_at}
 use Rattle.tree_specs.proofs.Numbered.{by_test, same_or_not, same-false, same-equal}
-use Rattle.tree_specs.proofs.Rows.{row_of-changed-other, row_of-changed-same, row_of-placed-same, row_of-placed-other, row_of-without-same, row_of-without-other, total-without, total-placed, Distinct-changed}
+use Rattle.tree_specs.proofs.Rows.{row_of-changed-other, row_of-changed-same, row_of-placed-same, row_of-placed-other, row_of-without-same, row_of-without-other, total-placed}
 use Rattle.tree_specs.proofs.Ancestry.{reaches-inside}
-use Rattle.tree_specs.proofs.Referring.{reference-outside}
 use Rattle.tree_specs.proofs.Attached.{SameOwners, SameWeights, inside-same, weight-same}
-use Rattle.tree_specs.proofs.SumLaws.{changed-weights, owner-left, owner-other, apart, sum-below, sum-lone, sum-gone}
+use Rattle.tree_specs.proofs.SumLaws.{changed-weights, owner-left, owner-other, apart}
 use Rattle.memory_limits.specs.declared.limited.Limited.{Limited}
-use Rattle.memory_limits.specs.Limits.{unlimited, AllSums, AreLimitsOf}
+use Rattle.memory_limits.specs.Limits.{limit_of, unlimited, AllBound, AllSums, AreLimitsOf}
 use Rattle.memory_limits.proofs.Kept.{same-sums, limit-unlimited, bound-unlimited}
 use Rattle.destructors.specs.Changes.{SameRows, ChangedBy, placed_rows}
 use Rattle.host_core.specs.Counting.{WentFrom}
@@ -146,88 +144,27 @@ has-none rs rs' x e = same-owners (changed left_row rs x) rs' e x ∙ owner-left
 
 -- ---- an object that is no more
 
--- it counts for nobody else
-pub others-same : (ls : List Limited) (rs rs' : List Row) (x : Obj) → ((y : Obj) → x ≢ y → sum_inside rs' (Of y) ≡ sum_inside rs (Of y)) → AllSums ls rs → AllSums (unlimited ls x) rs'
-others-same [] rs rs' x h s = tt
-others-same (l ∷ ls) rs rs' x h s =
-    let ih = others-same ls rs rs' x h s.1 in
-    elim (same_or_not x l.object) [
-      | inl e ↦ let t : same l.object x ≡ true = same-equal l.object x (sym e) in rw t ih
-      | inr ne ↦ let t : same l.object x ≡ false = same-false l.object x (λ e. ne (sym e)) in rw t (s.0 ∙ sym (h l.object ne), ih)
-    ]
-
 no-more-limit : (rs : List Row) (x y : Obj) → Distinct rs → limit_at (without rs x) y ≡ (if same x y then 0 else limit_at rs y)
 no-more-limit rs x y d = elim (same_or_not x y) [
   | inl e ↦ let t : same x y ≡ true = same-equal x y e in rw t (subst (λ (v : Obj). limit_at (without rs x) v ≡ 0) e (ap limit_in (row_of-without-same rs x d)))
   | inr ne ↦ let t : same x y ≡ false = same-false x y ne in rw t (ap limit_in (row_of-without-other rs x y ne))
 ]
 
-no-more : (ls : List Limited) (rs rs' : List Row) (x : Obj) → Distinct rs → ((y : Obj) → x ≢ y → sum_inside (without rs x) (Of y) ≡ sum_inside rs (Of y)) → SameRows (without rs x) rs' → AreLimitsOf ls rs → AreLimitsOf (unlimited ls x) rs'
-no-more ls rs rs' x d h e a = same-kept (unlimited ls x) (without rs x) rs' e (record {
-  limits = λ y. limit-unlimited ls x y ∙ ap (λ (n : ℕ). if same x y then 0 else n) (a.limits y) ∙ sym (no-more-limit rs x y d);
-  bound = bound-unlimited ls x a.bound;
-  sums = others-same ls rs (without rs x) x h a.sums;
+-- what is kept without it is right, where the sums are
+pub no-more : (ls ls' : List Limited) (rs rs' : List Row) (x : Obj) → Distinct rs → ls' ≡ unlimited ls x → AllSums ls' (without rs x) → SameRows (without rs x) rs' → AreLimitsOf ls rs → AreLimitsOf ls' rs'
+no-more ls ls' rs rs' x d is s e a = same-kept ls' (without rs x) rs' e (record {
+  limits = λ y. ap (λ (ks : List Limited). limit_of ks y) is ∙ limit-unlimited ls x y ∙ ap (λ (n : ℕ). if same x y then 0 else n) (a.limits y) ∙ sym (no-more-limit rs x y d);
+  bound = subst AllBound (sym is) (bound-unlimited ls x a.bound);
+  sums = s;
 })
 
--- one without an owner
-pub gone-kept : (ls : List Limited) (rs rs' : List Row) (x : Obj) → IsForest rs → owner_of rs x ≡ None → is_row rs x ≡ true → SameRows (without rs x) rs' → AreLimitsOf ls rs → AreLimitsOf (unlimited ls x) rs'
-gone-kept ls rs rs' x f lone is e a = each (row_of rs x) refl
+-- what a reference refers to tells that it is there
+pub refers-row : (rs : List Row) (r t : Obj) → target_at rs r ≡ Some t → is_row rs r ≡ true
+refers-row rs r t is = each (row_of rs r) refl
   where
-    each : (q : Option Row) → row_of rs x ≡ q → AreLimitsOf (unlimited ls x) rs'
-    each None q = let bad : false ≡ true = rw q at is in cc
-    each (Some r) q = no-more ls rs rs' x f.distinct (λ y ne. sum-gone rs x r f.distinct q lone y ne) e a
-
--- ---- a reference that is dropped
-
--- nothing but a reference itself is inside it, and it counts nothing
-reference-empty : (rs : List Row) (r t : Obj) → IsForest rs → target_at rs r ≡ Some t → sum_inside rs (Of r) ≡ 0
-reference-empty rs r t f is = each (row_of rs r) refl
-  where
-    none : (qs : List Row) → row_of qs r ≡ None → total (λ q. if is_inside rs (Of q.serial) (Of r) then charge q else 0) qs ≡ 0
-    none [] e = refl
-    none (q ∷ qs) e = by_test (same q.serial r)
-        (λ u. let bad : Some q ≡ None = rw u at e in cc)
-        (λ u. let e' : row_of qs r ≡ None = rw u at e in
-        let ne : q.serial ≢ r = λ w. let v = same-equal q.serial r w in let bad : true ≡ false = sym v ∙ u in cc in
-        let out : is_inside rs (Of q.serial) (Of r) ≡ false = reference-outside rs r t (Of q.serial) f is (λ w. ne (let w' : q.serial ≡ r = cc in w')) in
-        let ih = none qs e' in rw out (omega (arith, ih)))
-
-    each : (q : Option Row) → row_of rs r ≡ q → sum_inside rs (Of r) ≡ 0
+    each : (q : Option Row) → row_of rs r ≡ q → is_row rs r ≡ true
     each None e = let bad : None ≡ Some t = rw e at is in cc
-    each (Some q) e =
-        let h : Row → ℕ = λ q. if is_inside rs (Of q.serial) (Of r) then charge q else 0 in
-        let a = total-without h rs r q e in
-        let b = none (without rs r) (row_of-without-same rs r f.distinct) in
-        let c : charge q ≡ 0 = (let refers : target_in (Some q) ≡ Some t = rw e at is in rw refers refl) in
-        let z : h q ≡ 0 = by_test (is_inside rs (Of q.serial) (Of r)) (λ u. rw u c) (λ u. rw u refl) in
-        omega (arith, a, b, z)
-
--- without x, whatever became of it before
-without-changed : (f : Row → Row) (rs : List Row) (x : Obj) → ((r : Row) → (f r).serial ≡ r.serial) → without (changed f rs x) x ≡ without rs x
-without-changed f [] x k = refl
-without-changed f (r ∷ rs) x k = by_test (same r.serial x)
-    (λ t. let u : same (f r).serial x ≡ true = ap (λ (z : Obj). same z x) (k r) ∙ t in rw (t, u) refl)
-    (λ t. let a : changed f (r ∷ rs) x ≡ r ∷ changed f rs x = rw t refl in
-    let b : without (r ∷ changed f rs x) x ≡ r ∷ without (changed f rs x) x = rw t refl in
-    let c : without (r ∷ rs) x ≡ r ∷ without rs x = rw t refl in
-    ap (λ (qs : List Row). without qs x) a ∙ b ∙ ap (λ (qs : List Row). r ∷ qs) (without-changed f rs x k) ∙ sym c)
-
-pub dropped-kept : (ls : List Limited) (rs rs' : List Row) (r t : Obj) → IsForest rs → target_at rs r ≡ Some t → SameRows (without rs r) rs' → AreLimitsOf ls rs → AreLimitsOf (unlimited ls r) rs'
-dropped-kept ls rs rs' r t f is e a = each (row_of rs r) refl
-  where
-    same-when-left : (o : Option Owner) → owner_of rs r ≡ o → (y : Owner) → sum_inside (changed left_row rs r) y ≡ sum_inside rs y
-    same-when-left None w y = sym (sum-lone rs r w y)
-    same-when-left (Some o) w y =
-        let b = sum-below rs r o f.rooted w y in
-        let z = reference-empty rs r t f is in
-        by_test (is_inside rs o y) (λ u. let b' = rw (u, z) at b in omega (arith, b')) (λ u. let b' = rw u at b in omega (arith, b'))
-
-    each : (q : Option Row) → row_of rs r ≡ q → AreLimitsOf (unlimited ls r) rs'
-    each None q = let bad : None ≡ Some t = rw q at is in cc
-    each (Some row) q = no-more ls rs rs' r f.distinct
-        (λ y ne. ap (λ (qs : List Row). sum_inside qs (Of y)) (sym (without-changed left_row rs r (λ z. refl)))
-        ∙ sum-gone (changed left_row rs r) r (left_row row) (Distinct-changed left_row rs r (λ z. refl) f.distinct) (row_of-changed-same left_row rs r row (λ z. refl) q) (owner-left rs r) y ne
-        ∙ same-when-left (owner_of rs r) refl (Of y)) e a
+    each (Some q) e = rw e refl
 
 -- ---- a step that changes nothing that counts
 

@@ -1,12 +1,12 @@
 -- Limits as their callers see them, and the sums that are kept beside them.
-use Rattle.std.specs.Prelude.{◌≡◌, false, ℕ, ◌+◌, ◌-◌, ◌^◌, min, ◌<◌, List, [], ◌∷◌, map, if◌then◌else◌, not}
+use Rattle.std.specs.Prelude.{◌≡◌, false, ℕ, ◌+◌, ◌-◌, ◌^◌, min, ◌<◌, List, [], ◌∷◌, map, if◌then◌else◌, not, ◌⊎◌, Some, None}
 use Rattle.std.specs.List.{filter}
 use Rattle.tree_specs.specs.declared.object.Obj.{Obj}
 use Rattle.tree_specs.specs.declared.object.Owner.{Owner}
 use Rattle.tree_specs.specs.declared.object.Owner.TheVariants.{Of}
 use Rattle.tree_specs.specs.declared.row.Row.{Row}
 use Rattle.tree_specs.specs.Objects.{same}
-use Rattle.tree_specs.specs.Pool.{is_inside}
+use Rattle.tree_specs.specs.Pool.{is_inside, owner_of, target_at}
 use Rattle.tree_specs.specs.Sums.{sum_inside, limit_at}
 use Rattle.memory_limits.specs.declared.change.Change.{Change}
 use Rattle.memory_limits.specs.declared.change.Change.TheVariants.{More, Less}
@@ -49,6 +49,10 @@ AllSums (l ∷ ls) rs = (l.sum ≡ sum_inside rs (Of l.object)) × AllSums ls rs
 abbrev pub AllOutside : List Row → Owner → List Limited → Type 0
 AllOutside rs o [] = Unit {0}
 AllOutside rs o (l ∷ ls) = (is_inside rs o (Of l.object) ≡ false) × AllOutside rs o ls
+
+-- an object counts nowhere but for itself: it has left its owner, or is a reference
+abbrev pub HasLeft : List Row → Obj → Type 0
+HasLeft rs x = (owner_of rs x ≡ None) ⊎ ((target : Obj) × (target_at rs x ≡ Some target))
 
 -- the limits are those of the rows, and the sums are kept
 pub record AreLimitsOf (ls : List Limited) (rs : List Row) : Type 0 where

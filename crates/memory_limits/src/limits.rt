@@ -33,7 +33,7 @@ impl Model for Sums {
 }
 
 impl Sums {
-    ghost use Rattle.std.specs.Prelude.{◌≤◌, ◌<◌, [], OnOk, true, false, if◌then◌else◌};
+    ghost use Rattle.std.specs.Prelude.{◌≤◌, ◌<◌, List, [], OnOk, true, false, if◌then◌else◌};
     ghost use Rattle.std.specs.List.{find as find_by};
     ghost use Rattle.std.specs.Option.{option_map};
     ghost use Rattle.tree_specs.specs.declared.object.Obj.{Obj as ObjData};
@@ -41,9 +41,11 @@ impl Sums {
     ghost use Rattle.tree_specs.specs.Calls.{checked, over, fits as fitting, is_plain_row};
     ghost use Rattle.tree_specs.specs.Sums.{sum_inside};
     ghost use Rattle.tree_links.specs.Links.{pool_of};
+    ghost use Rattle.tree_specs.specs.Forest.{IsForest};
+    ghost use Rattle.tree_specs.specs.declared.row.Row.{Row as RowData};
     ghost use Rattle.tree_specs.specs.declared.object.Owner.TheVariants.{Of as At};
-    ghost use Rattle.tree_specs.specs.Pool.{row_of, is_row, is_inside, changed, left_row, owned_row, sized_row};
-    ghost use Rattle.memory_limits.specs.Limits.{AllSums, AllBound, AllOutside, SameBounds, AreLimitsOf, limit_of, unlimited};
+    ghost use Rattle.tree_specs.specs.Pool.{row_of, is_row, is_inside, without, changed, left_row, owned_row, sized_row};
+    ghost use Rattle.memory_limits.specs.Limits.{AllSums, AllBound, AllOutside, SameBounds, HasLeft, AreLimitsOf, limit_of, unlimited};
 
     /// No limits. It takes no memory.
     pub fn new(alloc: Global) -> Sums
@@ -141,9 +143,11 @@ impl Sums {
         Change::More(size).count_above(tree, Owner::Of(x), &mut self.limited);
     }
 
-    /// An object has no limit any more, or is no more.
+    /// An object has no limit any more, or is no more. Where it had left its owner, or is a reference, the sums are then
+    /// those of the objects without it.
     pub fn gone(&mut self, x: Obj)
         ensures limits { self.new.limited ≡ unlimited self.old.limited x }
+        ensures sums { (rows : List RowData) → IsForest rows → is_row rows x ≡ true → HasLeft rows x → AllSums self.old.limited rows → AllSums self.new.limited (without rows x) }
         ensures kept { self.old.spare ≤ self.new.spare }
     {
         self.limited.retain(|limited| limited.object.0 != x.0);

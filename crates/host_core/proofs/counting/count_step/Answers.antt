@@ -1,5 +1,6 @@
+use Rattle.std.proofs.Common.{inl, inr}
 use Rattle.memory_limits.proofs.Kept.{settles}
-use Rattle.host_core.proofs.Told.{has-left, has-none, still-apart, had-owner, gone-kept, dropped-kept, other-step}
+use Rattle.host_core.proofs.Told.{has-left, has-none, still-apart, had-owner, no-more, refers-row, other-step}
 use Rattle.host_core.proofs.Counted.{same-kept, other-sums}
 use Rattle.host_core.proofs.counting.count_step.Goals as goal
 
@@ -25,12 +26,15 @@ returns-in-Left c =
 pub returns-in-Dropped : goal.returns-in-Dropped
 returns-in-Dropped c =
     let g = rw c.in-Dropped.is at c.requires.changed in
-    rw c.gone.ensures.limits (dropped-kept c.args.sums.now.limited c.requires.rows c.args.tree.now.rows c.in-Dropped.reference c.in-Dropped.target c.requires.forest g.0 g.1 c.requires.were)
+    let is = refers-row c.requires.rows c.in-Dropped.reference c.in-Dropped.target g.0 in
+    no-more c.args.sums.now.limited c.gone.new.self.limited c.requires.rows c.args.tree.now.rows c.in-Dropped.reference c.requires.forest.distinct c.gone.ensures.limits
+    (c.gone.ensures.sums c.requires.rows c.requires.forest is (inr (c.in-Dropped.target, g.0)) c.requires.were.sums) g.1 c.requires.were
 
 pub returns-in-Gone : goal.returns-in-Gone
 returns-in-Gone c =
     let g = rw c.in-Gone.is at c.requires.changed in
-    rw c.gone-in-Gone.ensures.limits (gone-kept c.args.sums.now.limited c.requires.rows c.args.tree.now.rows c.in-Gone.object c.requires.forest g.0 g.1 g.2 c.requires.were)
+    no-more c.args.sums.now.limited c.gone-in-Gone.new.self.limited c.requires.rows c.args.tree.now.rows c.in-Gone.object c.requires.forest.distinct c.gone-in-Gone.ensures.limits
+    (c.gone-in-Gone.ensures.sums c.requires.rows c.requires.forest g.1 (inl g.0) c.requires.were.sums) g.2 c.requires.were
 
 pub returns-in_default : goal.returns-in_default
 returns-in_default c =
