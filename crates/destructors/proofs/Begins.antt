@@ -1,5 +1,6 @@
 -- A free that begins, or is answered, is at work.
 use Rattle.std.proofs.Common.{◌≡◌, ℕ, ◌+◌, ◌≤◌, List, [], ◌∷◌, length, Option, Some, None, true, false, nat_eq, refl, ◌∙◌, ap, arith}
+use Rattle.tree_specs.specs.Profiles.{profile}
 use Rattle.tree_specs.specs.declared.frame.Frame.TheVariants as frame
 use Rattle.tree_specs.specs.declared.frame.CallFrame.{CallFrame}
 use Rattle.tree_specs.specs.declared.frame.CallFrame.TheVariants.{Awaiting}
@@ -19,7 +20,7 @@ use Rattle.tree_specs.specs.Targets.{target_of, newest_ref}
 use Rattle.tree_specs.specs.declared.object.Owner.{Owner}
 use Rattle.tree_specs.specs.Sound.{IsLive}
 use Rattle.tree_specs.specs.Story.{hook_moment}
-use Rattle.tree_specs.specs.Whole.{Seated}
+use Rattle.tree_specs.specs.Whole.{Seated, Serves}
 use Rattle.std.specs.Prelude.{unwrap_or}
 use Rattle.tree_specs.specs.Table.{free_taken}
 use Rattle.tree_specs.proofs.Numbered.{by_test}
@@ -36,7 +37,11 @@ use Rattle.destructors.specs.Works.{standing, under, AtWork, IsAwaiting, MayBegi
 waiting-under : (c : CallFrame) (works : List FreeFrame) (cs : List CallFrame) (x : Obj) → Seated (frame.Call c) (under works cs)
     → (q : Ask) × (standing works (Awaiting q x ∷ cs) ≡ frame.Call (Awaiting q x) ∷ under works cs) × Seated (frame.Call (Awaiting q x)) (under works cs)
 waiting-under c [] [] x s = (Quiet, refl, tt)
-waiting-under c [] (d ∷ ds) x s = absurd s.0
+waiting-under c [] (d ∷ ds) x s = absurd (no-call d s.0)
+  where
+    no-call : (d : CallFrame) → Serves (profile (frame.Call d)).waits (frame.Call c) → ⊥
+    no-call (Awaiting q y) h = h
+    no-call _ h = h
 waiting-under c (Hooked y h ∷ fs) cs x s = (Routine (hook_moment y h), refl, (tt, s.1))
 waiting-under c (Unlinking o y ∷ fs) cs x s = absurd s.0
 waiting-under c (Releasing y ∷ fs) cs x s = absurd s.0

@@ -1,6 +1,7 @@
 -- What the moves of the open frees keep.
 use Rattle.std.proofs.Common.{◌≡◌, ℕ, ◌+◌, ◌≤◌, ◌<◌, nat_eq, List, [], ◌∷◌, map, length, Option, Some, None, true, false, refl, sym, ◌∙◌, ap, subst, arith}
 use Rattle.step_machine.specs.Machine.{Move as Do}
+use Rattle.tree_specs.specs.Profiles.{InRun, InLoop}
 use Rattle.tree_specs.specs.declared.frame.Frame.{Frame}
 use Rattle.tree_specs.specs.declared.frame.Frame.TheVariants as frame
 use Rattle.tree_specs.specs.declared.frame.CallFrame.{CallFrame}
@@ -26,7 +27,7 @@ use Rattle.tree_specs.specs.Heirs.{heir}
 use Rattle.tree_specs.specs.Inside.{total}
 use Rattle.tree_specs.specs.Table.{FreeMove, free_step, begin_step, refs_step, unlink_step, release_step, child_step, loop_step, hand_on_step, caller_resume}
 use Rattle.tree_specs.specs.Measure.{below_cost, loop_kids, top_cost, cost}
-use Rattle.tree_specs.specs.Sound.{InRun, InLoop, claims, IsLive, Sound}
+use Rattle.tree_specs.specs.Sound.{claims, IsLive, Sound}
 use Rattle.tree_specs.specs.Whole.{Seated, Whole}
 use Rattle.tree_specs.specs.Sound.{MayBePlaced}
 use Rattle.tree_specs.proofs.Numbered.{by_test}

@@ -20,7 +20,7 @@ use Rattle.tree_specs.specs.declared.frame.Frame.{Frame}
 use Rattle.tree_specs.specs.Sound.{Sound}
 use Rattle.tree_links.specs.Links.{MayPlace}
 use Rattle.destructors.proofs.Keeping.{placeable}
-use Rattle.host_core.specs.Moves.{RefsMayGo}
+use Rattle.object_pool.specs.Objects.{RefsMayGo}
 use Rattle.tree_specs.specs.Calls.{checked}
 
 pub refused_step : (check : Check) (q : Ask) (c : Call) (p : Pool) (why : Refusal) → checked check ≡ Err why → call_step check q c p ≡ replied q (reply.No why) p

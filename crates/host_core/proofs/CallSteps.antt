@@ -27,10 +27,11 @@ use Rattle.tree_specs.specs.Story.{hook_moment}
 use Rattle.tree_specs.specs.Sound.{HasHook, claim}
 use Rattle.tree_specs.specs.Table.{call_step, event_of, caller_resume}
 use Rattle.tree_specs.specs.View.{View}
-use Rattle.tree_specs.specs.Whole.{Seated, innermost_size, Whole}
+use Rattle.tree_specs.specs.Profiles.{profile}
+use Rattle.tree_specs.specs.Whole.{Seated, Serves, innermost_size, Whole}
 use Rattle.tree_specs.proofs.Changes.{stands}
 use Rattle.tree_specs.proofs.Load.{reseat}
-use Rattle.tree_specs.proofs.Rest.{GoesOn, IsTelling, call-goes_on}
+use Rattle.tree_specs.proofs.Rest.{GoesOn, call-goes_on}
 use Rattle.destructors.specs.Frees.{OpenFrees, moves, is_event, returned, Silently}
 use Rattle.destructors.specs.Works.{standing, under, free_view, call_view, AtWork, IsAtWork, IsAwaiting}
 use Rattle.destructors.proofs.FreeMoves.{IsNews}
@@ -38,9 +39,9 @@ use Rattle.destructors.proofs.Lifting.{OnTold, OnMove, OnCaller}
 use Rattle.destructors.proofs.Keeping.{told-kept}
 use Rattle.destructors.proofs.Settling.{awaiting-speaks, still, asks-hooked}
 use Rattle.host_core.specs.declared.motion.Motion.{Motion}
-use Rattle.host_core.specs.declared.motion.Motion.TheVariants.{Goes, Frees, Unlinks, Empties}
+use Rattle.host_core.specs.declared.motion.Motion.TheVariants.{Replies, Warns, Frees, Unlinks, Empties}
 use Rattle.host_core.specs.declared.active.Active.TheVariants as active
-use Rattle.host_core.specs.Moves.{move_of}
+use Rattle.host_core.specs.Moves.{move_of, telling, warning}
 use Rattle.host_core.specs.Hosts.{seen, motion_view, speaks, moved, next_of, speaking_view, Onward}
 use Rattle.host_core.proofs.Onward.{onward, onward-along, AfterEvent, after-event, event-along}
 use Rattle.host_core.proofs.FreeSteps.{Comes, comes, events, tells, speaks-events, seen-free, silently-along}
@@ -63,11 +64,11 @@ stands-on c (Tried y e noted purpose a ∷ fs) cs d ds s = absurd s.0
 stands-on c (Ending a ∷ fs) cs d ds s = absurd s.0
 
 -- a call that is done goes on to what it has begun
-pub act-onward : (q : AskData) (c : Call) (works : List FreeFrame) (cs : List CallFrame) (p p' : Pool) (m : Motion) → Whole (call_view (Doing q c) works cs p) → move_of m p' ≡ call_step (refusals p c) q c p
-    → Onward (call_view (Doing q c) works cs p) (motion_view m works cs p')
+pub act-onward : (q : AskData) (c : Call) (works : List FreeFrame) (cs : List CallFrame) (p p' : Pool) (m : Motion) → Whole (call_view (Doing q c) works cs p) → move_of q m p' ≡ call_step (refusals p c) q c p
+    → Onward (call_view (Doing q c) works cs p) (motion_view q m works cs p')
 act-onward q c works cs p p' m h e =
     let v : View = call_view (Doing q c) works cs p in
-    onward v (motion_view m works cs p') h (quiet (call_step (refusals p c) q c p) (call-goes_on (refusals p c) q c p)) (ap (λ (z : Move Frame Answer Pool Item). (moved z (under works cs)).1) (sym e) ∙ each m)
+    onward v (motion_view q m works cs p') h (quiet (call_step (refusals p c) q c p) (call-goes_on (refusals p c) q c p)) (ap (λ (z : Move Frame Answer Pool Item). (moved z (under works cs)).1) (sym e) ∙ each m)
   where
     quiet : (z : Move Frame Answer Pool Item) → GoesOn z → speaks z ≡ false
     quiet (Do.Done a s) g = absurd g
@@ -76,15 +77,12 @@ act-onward q c works cs p p' m h e =
     quiet (Do.Wait i f s) g = absurd g
     quiet (Do.Call f k s) g = refl
 
-    each : (m : Motion) → (moved (move_of m p') (under works cs)).1 ≡ motion_view m works cs p'
-    each (Goes d) = refl
-    each (Frees r x) = ap (λ (l : List Frame). let z : View = record { innermost = frame.Free (Beginning x); below = l; pool = p' } in z) (sym (stands-on (Doing q c) works cs (Awaiting r x) cs h.seated))
-    each (Unlinks r o x) = ap (λ (l : List Frame). let z : View = record { innermost = frame.Free (Unlinking o x); below = l; pool = p' } in z) (sym (stands-on (Doing q c) works cs (Awaiting r x) cs h.seated))
-    each (Empties r x) = ap (λ (l : List Frame). let z : View = record { innermost = frame.Free (Looping x Emptying); below = l; pool = p' } in z) (sym (stands-on (Doing q c) works cs (Awaiting r x) cs h.seated))
-
--- a caller that goes on has his reply
-pub act-tells : (q : AskData) (c : Call) (p p' : Pool) (d : CallFrame) → move_of (Goes d) p' ≡ call_step (refusals p c) q c p → IsTelling (frame.Call d)
-act-tells q c p p' d e = subst GoesOn (sym e) (call-goes_on (refusals p c) q c p)
+    each : (m : Motion) → (moved (move_of q m p') (under works cs)).1 ≡ motion_view q m works cs p'
+    each (Replies b) = refl
+    each (Warns x b) = refl
+    each (Frees x) = ap (λ (l : List Frame). let z : View = record { innermost = frame.Free (Beginning x); below = l; pool = p' } in z) (sym (stands-on (Doing q c) works cs (Awaiting q x) cs h.seated))
+    each (Unlinks o x) = ap (λ (l : List Frame). let z : View = record { innermost = frame.Free (Unlinking o x); below = l; pool = p' } in z) (sym (stands-on (Doing q c) works cs (Awaiting q x) cs h.seated))
+    each (Empties x) = ap (λ (l : List Frame). let z : View = record { innermost = frame.Free (Looping x Emptying); below = l; pool = p' } in z) (sym (stands-on (Doing q c) works cs (Awaiting q x) cs h.seated))
 
 -- what a call has begun, with its caller at work again
 pub awaited : (f : FreeFrame) (q : AskData) (x : Obj) (works : List FreeFrame) (cs : List CallFrame) (p : Pool) → ((y : Obj) → claim y (frame.Free f) ≡ []) → innermost_size (frame.Free f) ≡ 0
@@ -98,7 +96,7 @@ awaited f q x works cs p none small seats h =
     }
 
 -- after a call the innermost free awaits its caller
-pub act-awaits : (q : AskData) (c : Call) (works : List FreeFrame) (cs : List CallFrame) (p p' : Pool) (m : Motion) → Whole (call_view (Doing q c) works cs p) → move_of m p' ≡ call_step (refusals p c) q c p
+pub act-awaits : (q : AskData) (c : Call) (works : List FreeFrame) (cs : List CallFrame) (p p' : Pool) (m : Motion) → Whole (call_view (Doing q c) works cs p) → move_of q m p' ≡ call_step (refusals p c) q c p
     → IsAwaiting (record { works = works; pool = p' })
 act-awaits q c works cs p p' m h e = each m (act-onward q c works cs p p' m h e).along.whole
   where
@@ -108,18 +106,23 @@ act-awaits q c works cs p p' m h e = each m (act-onward q c works cs p p' m h e)
         let w' : Whole (record { innermost = frame.Free f; below = frame.Call (Awaiting r x) ∷ under works cs; pool = p' }) = subst (λ (l : List Frame). Whole (record { innermost = frame.Free f; below = l; pool = p' })) e w in
         record { caller = Asking r; callers = cs; whole = awaited f r x works cs p' none small w'.seated.1 w' }
 
-    each : (m : Motion) → Whole (motion_view m works cs p') → IsAwaiting (record { works = works; pool = p' })
-    each (Goes d) w = record { caller = d; callers = cs; whole = w }
-    each (Frees r x) w = begun (Beginning x) r x (λ y. refl) refl w
-    each (Unlinks r o x) w = begun (Unlinking o x) r x (λ y. refl) refl w
-    each (Empties r x) w = begun (Looping x Emptying) r x (λ y. refl) refl w
+    each : (m : Motion) → Whole (motion_view q m works cs p') → IsAwaiting (record { works = works; pool = p' })
+    each (Replies b) w = record { caller = telling q b; callers = cs; whole = w }
+    each (Warns x b) w = record { caller = warning q x b; callers = cs; whole = w }
+    each (Frees x) w = begun (Beginning x) q x (λ y. refl) refl w
+    each (Unlinks o x) w = begun (Unlinking o x) q x (λ y. refl) refl w
+    each (Empties x) w = begun (Looping x Emptying) q x (λ y. refl) refl w
 
 -- ---- a routine that has returned
 
 pub return-onward : (v : ℕ) (works : List FreeFrame) (cs : List CallFrame) (p : Pool) → Whole (call_view (Returning v) works cs p)
     → Onward (call_view (Returning v) works cs p) (seen active.Freeing (returned v (record { works = works; pool = p })) cs p)
 return-onward v [] [] p h = absurd h.seated
-return-onward v [] (c ∷ cs) p h = absurd h.seated.0
+return-onward v [] (c ∷ cs) p h = absurd (no-call c h.seated.0)
+  where
+    no-call : (d : CallFrame) → Serves (profile (frame.Call d)).waits (frame.Call (Returning v)) → ⊥
+    no-call (Awaiting q y) s = s
+    no-call _ s = s
 return-onward v (Hooked x g ∷ fs) cs p h = onward _ _ h refl refl
 return-onward v (Unlinking o x ∷ fs) cs p h = absurd h.seated.0
 return-onward v (Releasing x ∷ fs) cs p h = absurd h.seated.0

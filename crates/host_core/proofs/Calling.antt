@@ -1,93 +1,77 @@
 -- A caller's step by the parts of a host.
-use Rattle.std.proofs.Common.{◌≡◌, ℕ, ◌+◌, ◌≤◌, List, length, Option, true, refl, ap, arith}
-use Rattle.std.specs.Prelude.{reverse}
+use Rattle.std.proofs.Common.{◌≡◌, ℕ, List, ◌∷◌, Option, Some, None, true, refl, ap, sym, ◌∙◌, subst}
+use Rattle.std.specs.Prelude.{IsSome, slice_get}
 use Rattle.tree_specs.specs.declared.call.Call.{Call}
 use Rattle.tree_specs.specs.declared.question.Ask.{Ask}
-use Rattle.tree_specs.specs.declared.frame.Frame.TheVariants as frame
 use Rattle.tree_specs.specs.declared.frame.CallFrame.{CallFrame}
-use Rattle.tree_specs.specs.declared.frame.CallFrame.TheVariants.{Asking, Doing, Awaiting, Warning, Telling, Returning}
+use Rattle.tree_specs.specs.declared.frame.CallFrame.TheVariants.{Doing, Returning}
 use Rattle.tree_specs.specs.declared.frame.FreeFrame.{FreeFrame}
+use Rattle.tree_specs.specs.Pool.{Pool}
 use Rattle.tree_specs.specs.Calls.{refusals}
 use Rattle.tree_specs.specs.Table.{call_step}
-use Rattle.tree_specs.specs.Measure.{pending}
-use Rattle.tree_specs.proofs.Rest.{IsTelling}
-use Rattle.tree_links.specs.Links.{Links, pool_of, works_of}
-use Rattle.destructors.specs.Frees.{OpenFrees, before, frees_of, returned, speaking}
+use Rattle.tree_specs.specs.Whole.{Whole}
+use Rattle.destructors.specs.Frees.{returned, speaking}
 use Rattle.destructors.specs.Works.{call_view, IsAtWork, IsAwaiting}
-use Rattle.destructors.specs.Engine.{IsAsked, AreKept}
-use Rattle.destructors.proofs.Begins.{any-room}
+use Rattle.destructors.specs.Engine.{IsAsked}
+use Rattle.object_pool.specs.Objects.{Objects, frees_in}
 use Rattle.host_core.specs.declared.motion.Motion.{Motion}
-use Rattle.host_core.specs.declared.motion.Motion.TheVariants.{Goes, Frees, Unlinks, Empties}
+use Rattle.host_core.specs.declared.active.Active.{Active}
 use Rattle.host_core.specs.declared.active.Active.TheVariants as active
+use Rattle.host_core.specs.declared.caller.Caller.{Caller}
+use Rattle.host_core.specs.declared.caller.Stage.{Stage}
+use Rattle.host_core.specs.declared.caller.Stage.TheVariants as stage
+use Rattle.host_core.specs.declared.caller.Waiting.{Waiting}
 use Rattle.host_core.specs.Moves.{move_of}
-use Rattle.host_core.specs.Hosts.{Places, view_of, motion_view, CallRoom, Ready, IsReply, Onward}
-use Rattle.host_core.proofs.CallSteps.{act-onward, act-tells, act-awaits, return-onward}
+use Rattle.host_core.specs.Hosts.{seen, view_of, motion_view, stack_of, asked_now, staged, frame_of, speaking_view, StandsAs, Ready, Along, Onward}
+use Rattle.host_core.proofs.CallSteps.{act-onward, act-awaits, return-onward}
 use Rattle.host_core.proofs.Hosting.{asked}
+use Rattle.host_core.proofs.Onward.{stays}
+
+-- the question that is open
+pub open_question : (now : Active) → IsSome (asked_now now) → (q : Ask) × (asked_now now ≡ Some q)
+open_question now s = each (asked_now now) refl s
+  where
+    each : (o : Option Ask) → asked_now now ≡ o → IsSome o → (q : Ask) × (asked_now now ≡ Some q)
+    each None e s = cc
+    each (Some q) e s = (q, e)
+
+pub caller-speaks : (c : Caller) (works : List FreeFrame) (cs : List CallFrame) (p : Pool) → speaking_view (call_view (frame_of c) works cs p) ≡ true
+caller-speaks c works cs p = each c.stage
+  where
+    each : (s : Stage) → speaking_view (call_view (staged c.ask s) works cs p) ≡ true
+    each stage.Asking = refl
+    each (stage.Telling r) = refl
+    each (stage.Warning x r) = refl
+
+-- a caller at work, with the parts that are with it
+pub stays-at : (now : Active) (f : CallFrame) (callers : List Waiting) (objects : Objects) → StandsAs now f → Whole (call_view f objects.works (stack_of callers) objects.pool)
+    → Along (call_view f objects.works (stack_of callers) objects.pool) (view_of now callers objects) × Ready now callers objects
+stays-at (active.Caller c) f callers objects e h =
+    let w : Whole (view_of (active.Caller c) callers objects) = subst (λ (z : CallFrame). Whole (call_view z objects.works (stack_of callers) objects.pool)) (sym e) h in
+    (subst (λ (z : CallFrame). Along (call_view z objects.works (stack_of callers) objects.pool) (view_of (active.Caller c) callers objects)) e (stays _ w), record { whole = w; parts = tt })
+stays-at active.Freeing f callers objects e h = absurd e
+
+-- a caller at work tells something next, or asks
+pub speaks-at : (now : Active) (f : CallFrame) (works : List FreeFrame) (cs : List CallFrame) (p : Pool) → StandsAs now f → speaking_view (seen now works cs p) ≡ true
+speaks-at (active.Caller c) f works cs p e = caller-speaks c works cs p
+speaks-at active.Freeing f works cs p e = absurd e
 
 -- a call that was done
-pub record Acts (frame : CallFrame) (o : Option FreeFrame) (callers : List CallFrame) (tree : Links) (m : Motion) (tree' : Links) : Type 0 where
-  pub onward : Onward (call_view frame (before o tree.frees) (reverse callers) (pool_of tree)) (motion_view m (before o tree'.frees) (reverse callers) (pool_of tree'))
-  pub reply : IsReply m
-  pub awaiting : IsAwaiting (frees_of o tree')
-  pub room : length tree'.rows + 2 ≤ tree'.room
+module _ (q : Ask) (c : Call) (callers : List Waiting) (objects : Objects) (m : Motion) (objects' : Objects)
+    (h : Whole (call_view (Doing q c) objects.works (stack_of callers) objects.pool)) (e : move_of q m objects'.pool ≡ call_step (refusals objects.pool c) q c objects.pool) (same : objects'.works ≡ objects.works) where
+  pub acts : Onward (call_view (Doing q c) objects.works (stack_of callers) objects.pool) (motion_view q m objects'.works (stack_of callers) objects'.pool)
+  acts = rw same (act-onward q c objects.works (stack_of callers) objects.pool objects'.pool m h e)
 
-replies : (m : Motion) → ((d : CallFrame) → m ≡ Goes d → IsTelling (frame.Call d)) → IsReply m
-replies (Goes (Warning q x r)) t = tt
-replies (Goes (Telling q r)) t = tt
-replies (Goes (Asking q)) t = t (Asking q) refl
-replies (Goes (Doing q c)) t = t (Doing q c) refl
-replies (Goes (Awaiting q x)) t = t (Awaiting q x) refl
-replies (Goes (Returning v)) t = t (Returning v) refl
-replies (Frees q x) t = tt
-replies (Unlinks q o x) t = tt
-replies (Empties q x) t = tt
-
-pub acts : (q : Ask) (c : Call) (f : CallFrame) (o : Option FreeFrame) (callers : List CallFrame) (tree : Links) (m : Motion) (tree' : Links) (places : Places) → f ≡ Doing q c → Ready (active.Caller f) callers o tree places
-    → move_of m (pool_of tree') ≡ call_step (refusals (pool_of tree) c) q c (pool_of tree) → works_of tree' ≡ works_of tree → Acts f o callers tree m tree'
-acts q c f o callers tree m tree' places is ready e works =
-    let ready' : Ready (active.Caller (Doing q c)) callers o tree places = rw is at ready in
-    let cs : List CallFrame = reverse callers in
-    let same : tree'.frees ≡ tree.frees = ap (λ (z : List FreeFrame × ℕ). z.0) works in
-    let room : tree'.room ≡ tree.room = ap (λ (z : List FreeFrame × ℕ). z.1) works in
-    let had : CallRoom callers tree places = ready'.parts.1 in
-    let l : length tree.rows + 4 ≤ tree.room = had.room in
-    let on = act-onward q c (before o tree.frees) cs (pool_of tree) (pool_of tree') m ready'.whole e in
-    let few = on.along.rows (length tree.rows + 2) (omega arith) in
-    let waits = act-awaits q c (before o tree.frees) cs (pool_of tree) (pool_of tree') m ready'.whole e in
-    record {
-      onward = rw (is, same) on;
-      reply = replies m (λ d g. act-tells q c (pool_of tree) (pool_of tree') d (rw g at e));
-      awaiting = rw same waits;
-      room = (let n = rows m few in omega (arith, n, l, room));
-    }
-  where
-    rows : (m : Motion) → length (motion_view m (before o tree.frees) (reverse callers) (pool_of tree')).pool.rows + pending (motion_view m (before o tree.frees) (reverse callers) (pool_of tree')).innermost ≤ length tree.rows + 2 → length tree'.rows ≤ length tree.rows + 2
-    rows (Goes d) n = omega (arith, n)
-    rows (Frees r x) n = omega (arith, n)
-    rows (Unlinks r o x) n = omega (arith, n)
-    rows (Empties r x) n = omega (arith, n)
+  pub awaits : IsAwaiting (frees_in objects')
+  awaits = rw same (act-awaits q c objects.works (stack_of callers) objects.pool objects'.pool m h e)
 
 -- a routine that has returned
-pub record Returns (frame : CallFrame) (o : Option FreeFrame) (callers : List CallFrame) (tree : Links) (v : ℕ) : Type 0 where
-  pub asked : IsAsked o
-  pub onward : (o' : Option FreeFrame) → frees_of o' tree ≡ record { works = returned v (frees_of o tree); pool = pool_of tree }
-      → Onward (call_view frame (before o tree.frees) (reverse callers) (pool_of tree)) (view_of active.Freeing callers o' tree)
-  pub ready : (o' : Option FreeFrame) (places : Places) → frees_of o' tree ≡ record { works = returned v (frees_of o tree); pool = pool_of tree } → speaking (frees_of o' tree) ≡ true → IsAtWork (frees_of o' tree) → AreKept o' tree
-      → Ready active.Freeing callers o' tree places
+module _ (v : ℕ) (callers : List Waiting) (objects : Objects) (h : Whole (call_view (Returning v) objects.works (stack_of callers) objects.pool)) where
+  pub is-asked : IsAsked (slice_get objects.works 0)
+  is-asked = asked objects.works v (stack_of callers) objects.pool h
 
-pub returns : (v : ℕ) (f : CallFrame) (o : Option FreeFrame) (callers : List CallFrame) (tree : Links) (places : Places) → f ≡ Returning v → Ready (active.Caller f) callers o tree places → Returns f o callers tree v
-returns v f o callers tree places is ready = record {
-  asked = asked o tree v (reverse callers) ready'.kept ready'.whole;
-  onward = on;
-  ready = λ o' places e loud work kept. record { whole = (on o' e).along.whole; kept = kept; parts = record { at_work = work; settled = loud; room = any-room o' tree (let l : length tree.rows + 4 ≤ tree.room = ready'.parts in omega arith) } };
-}
-  where
-    ready' : Ready (active.Caller (Returning v)) callers o tree places
-    ready' = rw is at ready
+  pub returns : (objects' : Objects) → objects' ≡ record objects { works = returned v (frees_in objects) } → Onward (call_view (Returning v) objects.works (stack_of callers) objects.pool) (view_of active.Freeing callers objects')
+  returns objects' e = rw e (return-onward v objects.works (stack_of callers) objects.pool h)
 
-    on : (o' : Option FreeFrame) → frees_of o' tree ≡ record { works = returned v (frees_of o tree); pool = pool_of tree }
-        → Onward (call_view f (before o tree.frees) (reverse callers) (pool_of tree)) (view_of active.Freeing callers o' tree)
-    on o' e =
-        let r = return-onward v (before o tree.frees) (reverse callers) (pool_of tree) ready'.whole in
-        let w : before o' tree.frees ≡ returned v (frees_of o tree) = ap (λ (z : OpenFrees). z.works) e in
-        rw (is, w) r
+  pub returned-ready : (objects' : Objects) → objects' ≡ record objects { works = returned v (frees_in objects) } → speaking (frees_in objects') ≡ true → IsAtWork (frees_in objects') → Ready active.Freeing callers objects'
+  returned-ready objects' e loud work = record { whole = (returns objects' e).along.whole; parts = record { at_work = work; settled = loud } }

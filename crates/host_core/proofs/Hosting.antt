@@ -1,6 +1,6 @@
 -- What the steps of a host leave ready.
 use Rattle.std.proofs.Common.{◌≡◌, ℕ, List, [], ◌∷◌, ◌++◌, Option, Some, None, false, refl, sym, ◌∙◌, ap, subst}
-use Rattle.std.specs.Prelude.{is_some, reverse}
+use Rattle.std.specs.Prelude.{map, is_some, reverse, slice_get}
 use Rattle.std.proofs.lemmas.List.{reverse-append}
 use Rattle.tree_specs.specs.declared.event.Event.{Event}
 use Rattle.tree_specs.specs.declared.question.Ask.{Ask}
@@ -18,20 +18,22 @@ use Rattle.tree_specs.specs.declared.free_step.FreeStep.TheVariants.{Ask as AskO
 use Rattle.tree_specs.specs.declared.object.Obj.{Obj}
 use Rattle.tree_specs.specs.Pool.{Pool, row_of, target_at}
 use Rattle.tree_specs.specs.Story.{hook_moment}
-use Rattle.tree_specs.specs.Sound.{HasHook, IsWaiting, AllWait, Rests}
+use Rattle.tree_specs.specs.Sound.{HasHook, Rests}
 use Rattle.tree_specs.specs.Targets.{newest_ref}
 use Rattle.tree_specs.specs.declared.object.Owner.{Owner}
 use Rattle.tree_specs.specs.Table.{event_of, caller_resume}
-use Rattle.tree_specs.specs.Whole.{Seated, Whole}
-use Rattle.tree_links.specs.Links.{Links, pool_of}
-use Rattle.destructors.specs.Frees.{OpenFrees, before, frees_of, moves, is_event, Begins, Steps}
-use Rattle.destructors.specs.Works.{standing, under, free_view, call_view, IsAtWork, IsAwaiting, GoesOn}
+use Rattle.tree_specs.specs.Profiles.{profile}
+use Rattle.tree_specs.specs.Whole.{Seated, Serves, Whole}
+use Rattle.destructors.specs.Frees.{OpenFrees, moves, is_event, Begins, Steps}
+use Rattle.destructors.specs.Works.{under, free_view, call_view, IsAtWork, IsAwaiting, GoesOn}
 use Rattle.destructors.specs.Moves.{IsLiveRow}
-use Rattle.destructors.specs.Engine.{IsAsked, AreKept, HasRoom}
+use Rattle.destructors.specs.Engine.{IsAsked}
 use Rattle.destructors.proofs.FreeMoves.{IsNews}
 use Rattle.destructors.proofs.Keeping.{callers-wait, live-row}
+use Rattle.object_pool.specs.Objects.{Objects, frees_in}
 use Rattle.host_core.specs.declared.active.Active.TheVariants as active
-use Rattle.host_core.specs.Hosts.{Places, seen, view_of, speaking_view, CallReady, Ready, Along, Onward}
+use Rattle.host_core.specs.declared.caller.Waiting.{Waiting}
+use Rattle.host_core.specs.Hosts.{seen, view_of, stack_of, awaiting, speaking_view, Ready, Along, Onward}
 use Rattle.host_core.proofs.Onward.{AfterEvent}
 use Rattle.host_core.proofs.FreeSteps.{speaks-events, silently-along}
 use Rattle.host_core.proofs.CallSteps.{stands-on, news-onward, news-event, ask-onward, done-onward}
@@ -70,28 +72,16 @@ pub step-ask : (works : List FreeFrame) (cs : List CallFrame) (p : Pool) (x : Ob
 step-ask [] cs p x new h s = tells-nothing p (AskOf x) new s
 step-ask (f ∷ fs) cs p x new h s = ask-onward f fs cs p x (moves (f ∷ fs) p).1 new h (told-by (f ∷ fs) p (AskOf x) new s) s.moves_on
 
--- the caller that waits for a free waits for its answer
-first-waits : (fs : List FreeFrame) (c : CallFrame) (ds : List CallFrame) → AllWait (standing fs (c ∷ ds)) → (gs : List Frame) × IsWaiting (frame.Call c) gs
-first-waits [] c ds w = (_, w.0)
-first-waits (Hooked x h ∷ fs) c ds w = (_, w.0)
-first-waits (Unlinking o x ∷ fs) c ds w = first-waits fs c ds w.1
-first-waits (Releasing x ∷ fs) c ds w = first-waits fs c ds w.1
-first-waits (Giving x o ∷ fs) c ds w = first-waits fs c ds w.1
-first-waits (Beginning x ∷ fs) c ds w = first-waits fs c ds w.1
-first-waits (Judged x h v ∷ fs) c ds w = first-waits fs c ds w.1
-first-waits (Leaving x h ∷ fs) c ds w = first-waits fs c ds w.1
-first-waits (Looping x purpose ∷ fs) c ds w = first-waits fs c ds w.1
-first-waits (Trying x d noted purpose ∷ fs) c ds w = first-waits fs c ds w.1
-first-waits (Tried x d noted purpose a ∷ fs) c ds w = first-waits fs c ds w.1
-first-waits (Ending a ∷ fs) c ds w = first-waits fs c ds w.1
+-- ---- callers that wait, as frames
 
-resumed-ready : (c : CallFrame) (gs : List Frame) (a : FreeReply) (callers : List CallFrame) (tree : Links) (places : Places) → IsWaiting (frame.Call c) gs → CallReady (caller_resume c (Freed a)) callers tree places
-resumed-ready (Awaiting q x) gs a callers tree places w = tt
-resumed-ready (Asking q) gs a callers tree places w = absurd w
-resumed-ready (Doing q c) gs a callers tree places w = absurd w
-resumed-ready (Warning q x r) gs a callers tree places w = absurd w
-resumed-ready (Telling q r) gs a callers tree places w = absurd w
-resumed-ready (Returning v) gs a callers tree places w = absurd w
+-- the innermost of them
+pub innermost : (ws : List Waiting) (c : CallFrame) (cs : List CallFrame) → map awaiting ws ≡ c ∷ cs → (w : Waiting) × (vs : List Waiting) × (ws ≡ w ∷ vs) × (awaiting w ≡ c) × (map awaiting vs ≡ cs)
+innermost [] c cs e = cc
+innermost (w ∷ vs) c cs e = let a : awaiting w ≡ c = cc in let b : map awaiting vs ≡ cs = cc in (w, vs, refl, a, b)
+
+-- one more that waits is the innermost
+pub stacked : (old new : List Waiting) (w : Waiting) → new ≡ old ++ w ∷ [] → stack_of new ≡ awaiting w ∷ stack_of old
+stacked old new w e = ap stack_of e ∙ ap (map awaiting) (reverse-append old (w ∷ []))
 
 -- a free that is over, and the caller that has waited for it
 pub record Over (works : List FreeFrame) (cs : List CallFrame) (p : Pool) (a : FreeReply) (new : OpenFrees) : Type 0 where
@@ -99,7 +89,6 @@ pub record Over (works : List FreeFrame) (cs : List CallFrame) (p : Pool) (a : F
   pub callers : List CallFrame
   pub waited : cs ≡ caller ∷ callers
   pub onward : Onward (seen active.Freeing works cs p) (call_view (caller_resume caller (Freed a)) new.works callers new.pool)
-  pub ready : (ds : List CallFrame) (tree : Links) (places : Places) → CallReady (caller_resume caller (Freed a)) ds tree places
 
 pub step-done : (works : List FreeFrame) (cs : List CallFrame) (p : Pool) (a : FreeReply) (new : OpenFrees) → Whole (seen active.Freeing works cs p) → Steps (record { works = works; pool = p }) (Done a) new → Over works cs p a new
 step-done [] cs p a new h s = tells-nothing p (Done a) new s
@@ -108,13 +97,11 @@ step-done (f ∷ fs) cs p a new h s =
     let e : cs ≡ w.0 ∷ w.1 = w.2 in
     let h' : Whole (free_view f fs (w.0 ∷ w.1) p) = subst (λ (z : List CallFrame). Whole (free_view f fs z p)) e h in
     let o = done-onward f fs w.0 w.1 p a (moves (f ∷ fs) p).1 new h' (told-by (f ∷ fs) p (Done a) new s) s.moves_on in
-    let i = first-waits fs w.0 w.1 h'.sound.waiting in
     record {
       caller = w.0;
       callers = w.1;
       waited = e;
       onward = subst (λ (z : List CallFrame). Onward (free_view f fs z p) (call_view (caller_resume w.0 (Freed a)) new.works w.1 new.pool)) (sym e) o;
-      ready = λ ds tree places. resumed-ready w.0 i.0 a ds tree places i.1;
     }
 
 -- news leaves the innermost free at work
@@ -142,40 +129,40 @@ other-news (Done a) ask done = done a refl
 -- ---- a routine that has returned
 
 -- the innermost free waits for the routine that has returned
-pub asked : (o : Option FreeFrame) (tree : Links) (v : ℕ) (cs : List CallFrame) → AreKept o tree → Whole (call_view (Returning v) (before o tree.frees) cs (pool_of tree)) → IsAsked o
-asked None tree v cs k h = none cs (rw k at h.seated)
+pub asked : (works : List FreeFrame) (v : ℕ) (cs : List CallFrame) (p : Pool) → Whole (call_view (Returning v) works cs p) → IsAsked (slice_get works 0)
+asked [] v cs p h = none cs h.seated
   where
+    no-call : (d : CallFrame) → Serves (profile (frame.Call d)).waits (frame.Call (Returning v)) → ⊥
+    no-call (Awaiting q y) s = s
+    no-call _ s = s
+
     none : (cs : List CallFrame) → Seated (frame.Call (Returning v)) (under [] cs) → ⊥
     none [] s = s
-    none (c ∷ cs) s = s.0
-asked (Some (Hooked x g)) tree v cs k h = tt
-asked (Some (Unlinking o x)) tree v cs k h = h.seated.0
-asked (Some (Releasing x)) tree v cs k h = h.seated.0
-asked (Some (Giving x o)) tree v cs k h = h.seated.0
-asked (Some (Beginning x)) tree v cs k h = h.seated.0
-asked (Some (Judged x g u)) tree v cs k h = h.seated.0
-asked (Some (Leaving x g)) tree v cs k h = h.seated.0
-asked (Some (Looping x purpose)) tree v cs k h = h.seated.0
-asked (Some (Trying x c noted purpose)) tree v cs k h = h.seated.0
-asked (Some (Tried x c noted purpose a)) tree v cs k h = h.seated.0
-asked (Some (Ending a)) tree v cs k h = h.seated.0
+    none (c ∷ cs) s = no-call c s.0
+asked (Hooked x g ∷ fs) v cs p h = tt
+asked (Unlinking o x ∷ fs) v cs p h = h.seated.0
+asked (Releasing x ∷ fs) v cs p h = h.seated.0
+asked (Giving x o ∷ fs) v cs p h = h.seated.0
+asked (Beginning x ∷ fs) v cs p h = h.seated.0
+asked (Judged x g u ∷ fs) v cs p h = h.seated.0
+asked (Leaving x g ∷ fs) v cs p h = h.seated.0
+asked (Looping x purpose ∷ fs) v cs p h = h.seated.0
+asked (Trying x c noted purpose ∷ fs) v cs p h = h.seated.0
+asked (Tried x c noted purpose a ∷ fs) v cs p h = h.seated.0
+asked (Ending a ∷ fs) v cs p h = h.seated.0
 
 -- ---- a free that has begun
 
 -- a free that a call has begun goes on above it
-pub begun-along : (f : FreeFrame) (c : CallFrame) (o : Option FreeFrame) (tree : Links) (callers : List CallFrame) (o' : Option FreeFrame) (tree' : Links) (callers' : List CallFrame)
-    → Whole (free_view f (before o tree.frees) (c ∷ reverse callers) (pool_of tree)) → Begins (f ∷ before o tree.frees) (pool_of tree) (frees_of o' tree') → callers' ≡ callers ++ c ∷ []
-    → Along (free_view f (before o tree.frees) (c ∷ reverse callers) (pool_of tree)) (view_of active.Freeing callers' o' tree')
-begun-along f c o tree callers o' tree' callers' h b e =
-    let l : reverse callers' ≡ c ∷ reverse callers = ap reverse e ∙ reverse-append callers (c ∷ []) in
-    subst (λ (z : List CallFrame). Along (free_view f (before o tree.frees) (c ∷ reverse callers) (pool_of tree)) (seen active.Freeing (before o' tree'.frees) z (pool_of tree'))) (sym l)
-    (silently-along (record { works = f ∷ before o tree.frees; pool = pool_of tree }) (frees_of o' tree') (c ∷ reverse callers) b.moves_on h)
+module _ (f : FreeFrame) (q : Ask) (x : Obj) (objects objects' : Objects) (callers callers' : List Waiting)
+    (h : Whole (free_view f objects.works (Awaiting q x ∷ stack_of callers) objects.pool)) (b : Begins (f ∷ objects.works) objects.pool (frees_in objects')) (e : callers' ≡ callers ++ record { ask = q; x = x } ∷ []) where
+  pub begun-along : Along (free_view f objects.works (Awaiting q x ∷ stack_of callers) objects.pool) (view_of active.Freeing callers' objects')
+  begun-along =
+      subst (λ (z : List CallFrame). Along (free_view f objects.works (Awaiting q x ∷ stack_of callers) objects.pool) (seen active.Freeing objects'.works z objects'.pool)) (sym (stacked callers callers' (record { ask = q; x = x }) e))
+      (silently-along (record { works = f ∷ objects.works; pool = objects.pool }) (frees_in objects') (Awaiting q x ∷ stack_of callers) b.moves_on h)
 
-pub begun-ready : (f : FreeFrame) (c : CallFrame) (o : Option FreeFrame) (tree : Links) (callers : List CallFrame) (o' : Option FreeFrame) (tree' : Links) (callers' : List CallFrame) (places : Places)
-    → Whole (free_view f (before o tree.frees) (c ∷ reverse callers) (pool_of tree)) → Begins (f ∷ before o tree.frees) (pool_of tree) (frees_of o' tree') → callers' ≡ callers ++ c ∷ []
-    → IsAtWork (frees_of o' tree') → AreKept o' tree' → HasRoom o' tree' → Ready active.Freeing callers' o' tree' places
-begun-ready f c o tree callers o' tree' callers' places h b e work kept room =
-    record { whole = (begun-along f c o tree callers o' tree' callers' h b e).whole; kept = kept; parts = record { at_work = work; settled = b.settles; room = room } }
+  pub begun-ready : IsAtWork (frees_in objects') → Ready active.Freeing callers' objects'
+  begun-ready work = record { whole = begun-along.whole; parts = record { at_work = work; settled = b.settles } }
 
 -- ---- what a free that a call begins rests on
 

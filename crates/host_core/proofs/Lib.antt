@@ -7,6 +7,3 @@ pub mod Calling
 pub mod Stepping
 pub mod Offering
 pub mod Nexts
-pub mod Counted
-pub mod Told
-pub mod Fields

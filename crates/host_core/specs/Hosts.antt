@@ -32,94 +32,92 @@ use Rattle.tree_specs.specs.Story.{later}
 use Rattle.tree_specs.specs.Measure.{pending, cost}
 use Rattle.tree_specs.specs.View.{View, rest_of}
 use Rattle.tree_specs.specs.Whole.{Whole}
-use Rattle.tree_links.specs.Links.{Links, pool_of}
-use Rattle.destructors.specs.Frees.{before, frees_of, speaking}
+use Rattle.destructors.specs.Frees.{speaking}
 use Rattle.destructors.specs.Works.{free_view, call_view, IsAtWork}
-use Rattle.destructors.specs.Engine.{AreKept, HasRoom}
-use Rattle.references.specs.Pairs.{Pairs}
-use Rattle.references.specs.Rows.{AreRefsOf}
-use Rattle.memory_limits.specs.Limits.{Limits, AreLimitsOf}
+use Rattle.object_pool.specs.Objects.{Objects, frees_in}
 use Rattle.host_core.specs.declared.parts.Parts.{Parts}
 use Rattle.host_core.specs.declared.active.Active.{Active}
+use Rattle.host_core.specs.declared.caller.Caller.{Caller}
+use Rattle.host_core.specs.declared.caller.Stage.{Stage}
+use Rattle.host_core.specs.declared.caller.Stage.TheVariants as stage
+use Rattle.host_core.specs.declared.caller.Waiting.{Waiting}
 use Rattle.host_core.specs.declared.active.Active.TheVariants as active
 use Rattle.host_core.specs.declared.motion.Motion.{Motion}
 use Rattle.host_core.specs.declared.reports.Report.{Report}
-use Rattle.host_core.specs.declared.motion.Motion.TheVariants.{Goes, Frees, Unlinks, Empties}
-use Rattle.host_core.specs.Moves.{report_of}
+use Rattle.host_core.specs.declared.motion.Motion.TheVariants.{Replies, Warns, Frees, Unlinks, Empties}
+use Rattle.host_core.specs.Moves.{report_of, telling, warning}
+
+-- ---- the callers of a host, as frames
+
+-- what comes next of a caller with this question
+abbrev pub staged : Ask → Stage → CallFrame
+staged q stage.Asking = Asking q
+staged q (stage.Telling r) = Telling q r
+staged q (stage.Warning x r) = Warning q x r
+
+abbrev pub frame_of : Caller → CallFrame
+frame_of c = staged c.ask c.stage
+
+abbrev pub awaiting : Waiting → CallFrame
+awaiting w = Awaiting w.ask w.x
+
+-- the callers that wait, the innermost first; it stands last among them
+abbrev pub stack_of : List Waiting → List CallFrame
+stack_of ws = map awaiting (reverse ws)
+
+-- a caller is at work, at this frame
+abbrev pub StandsAs : Active → CallFrame → Type 0
+StandsAs (active.Caller c) f = frame_of c ≡ f
+StandsAs active.Freeing f = ⊥
 
 -- the works of a host whose callers wait in this order, the innermost first
 abbrev pub seen : Active → List FreeFrame → List CallFrame → Pool → View
-seen (active.Caller c) works callers p = call_view c works callers p
+seen (active.Caller c) works callers p = call_view (frame_of c) works callers p
 seen active.Freeing [] callers p = record { innermost = frame.Free (Ending Ok); below = map (λ c. frame.Call c) callers; pool = p }
 seen active.Freeing (f ∷ fs) callers p = free_view f fs callers p
 
--- the works of a host whose caller has done a call: he goes on, or waits for what the call has begun
-abbrev pub motion_view : Motion → List FreeFrame → List CallFrame → Pool → View
-motion_view (Goes c) works callers p = call_view c works callers p
-motion_view (Frees q x) works callers p = free_view (Beginning x) works (Awaiting q x ∷ callers) p
-motion_view (Unlinks q o x) works callers p = free_view (Unlinking o x) works (Awaiting q x ∷ callers) p
-motion_view (Empties q x) works callers p = free_view (Looping x Emptying) works (Awaiting q x ∷ callers) p
+-- the works of a host whose caller, which was asked this, has done a call: it goes on, or waits for what the call has begun
+abbrev pub motion_view : Ask → Motion → List FreeFrame → List CallFrame → Pool → View
+motion_view q (Replies b) works callers p = call_view (telling q b) works callers p
+motion_view q (Warns x b) works callers p = call_view (warning q x b) works callers p
+motion_view q (Frees x) works callers p = free_view (Beginning x) works (Awaiting q x ∷ callers) p
+motion_view q (Unlinks o x) works callers p = free_view (Unlinking o x) works (Awaiting q x ∷ callers) p
+motion_view q (Empties x) works callers p = free_view (Looping x Emptying) works (Awaiting q x ∷ callers) p
 
--- the callers stand in a stack, whose last is the innermost
-abbrev pub view_of : Active → List CallFrame → Option FreeFrame → Links → View
-view_of now callers innermost tree = seen now (before innermost tree.frees) (reverse callers) (pool_of tree)
+abbrev pub view_of : Active → List Waiting → Objects → View
+view_of now callers objects = seen now objects.works (stack_of callers) objects.pool
 
--- how many callers there is memory for, and how many further references and limits
-pub record Places : Type 0 where
-  pub callers : ℕ
-  pub references : ℕ
-  pub limits : ℕ
+-- a call that is to be done has the memory that it may want, with all that comes up to the next question
+pub record MayDo (c : Call) (waiting places : ℕ) (taken : Bool) : Type 0 where
+  pub no_report : report_of c ≡ None
+  pub place : waiting < places
+  pub ready : taken ≡ true
 
-abbrev pub places : ℕ → Pairs → Limits → Places
-places callers refs sums = record { callers = callers; references = refs.spare; limits = sums.spare }
-
--- the memory that a caller's step may want, with all that comes up to the next question
-pub record CallRoom (callers : List CallFrame) (tree : Links) (places : Places) : Type 0 where
-  pub spare : 0 < tree.spare
-  pub room : length tree.rows + 4 ≤ tree.room
-  pub place : length callers < places.callers
-  pub reference : 0 < places.references
-  pub limit : 0 < places.limits
-
-abbrev pub CallReady : CallFrame → List CallFrame → Links → Places → Type 0
-CallReady (Asking q) callers tree places = Unit {0}
-CallReady (Doing q c) callers tree places = (report_of c ≡ None) × CallRoom callers tree places
-CallReady (Awaiting q x) callers tree places = Unit {0}
-CallReady (Warning q x r) callers tree places = Unit {0}
-CallReady (Telling q r) callers tree places = Unit {0}
-CallReady (Returning v) callers tree places = length tree.rows + 4 ≤ tree.room
-
--- the innermost free is at work, tells something with its next step, and has room
-pub record FreeReady (innermost : Option FreeFrame) (tree : Links) : Type 0 where
-  pub at_work : IsAtWork (frees_of innermost tree)
-  pub settled : speaking (frees_of innermost tree) ≡ true
-  pub room : HasRoom innermost tree
+-- the innermost free is at work, and tells something with its next step
+pub record FreeReady (objects : Objects) : Type 0 where
+  pub at_work : IsAtWork (frees_in objects)
+  pub settled : speaking (frees_in objects) ≡ true
 
 -- what the parts keep besides what holds of a host at every moment
-abbrev pub PartsReady : Active → List CallFrame → Option FreeFrame → Links → Places → Type 0
-PartsReady (active.Caller c) callers innermost tree places = CallReady c callers tree places
-PartsReady active.Freeing callers innermost tree places = FreeReady innermost tree
+abbrev pub PartsReady : Active → Objects → Type 0
+PartsReady (active.Caller c) objects = Unit {0}
+PartsReady active.Freeing objects = FreeReady objects
 
-pub record Ready (now : Active) (callers : List CallFrame) (innermost : Option FreeFrame) (tree : Links) (places : Places) : Type 0 where
-  pub whole : Whole (view_of now callers innermost tree)
-  pub kept : AreKept innermost tree
-  pub parts : PartsReady now callers innermost tree places
+pub record Ready (now : Active) (callers : List Waiting) (objects : Objects) : Type 0 where
+  pub whole : Whole (view_of now callers objects)
+  pub parts : PartsReady now objects
 
 -- ---- the same of the parts as one
 
 abbrev pub view_in : Active → Parts → View
-view_in now parts = view_of now parts.callers.items parts.engine parts.tree
+view_in now parts = view_of now parts.callers.items parts.objects
 
 abbrev pub IsReady : Active → Parts → Type 0
-IsReady now parts = Ready now parts.callers.items parts.engine parts.tree (places (vec_capacity parts.callers) parts.refs parts.sums)
+IsReady now parts = Ready now parts.callers.items parts.objects
 
--- the references are those among the rows
-abbrev pub HasRefs : Parts → Type 0
-HasRefs parts = AreRefsOf parts.refs.pairs parts.tree.rows
-
--- the limits are those of the rows, and the sums are kept
-abbrev pub HasLimits : Parts → Type 0
-HasLimits parts = AreLimitsOf parts.sums.limited parts.tree.rows
+-- the works of a host whose caller is at this frame
+abbrev pub view_at : CallFrame → Parts → View
+view_at f parts = call_view f parts.objects.works (stack_of parts.callers.items) parts.objects.pool
 
 -- ---- a step
 
@@ -162,21 +160,9 @@ pub record Onward (v w : View) : Type 0 where
   pub along : Along v w
   pub cheaper : (R : ℕ) → length v.pool.rows + pending v.innermost ≤ R → cost R w.innermost w.below w.pool 0 < cost R v.innermost v.below v.pool 0
 
--- a caller that goes on has his reply
-abbrev pub IsReply : Motion → Type 0
-IsReply (Goes (Warning q x r)) = Unit {0}
-IsReply (Goes (Telling q r)) = Unit {0}
-IsReply (Goes (Asking q)) = ⊥
-IsReply (Goes (Doing q c)) = ⊥
-IsReply (Goes (Awaiting q x)) = ⊥
-IsReply (Goes (Returning v)) = ⊥
-IsReply (Frees q x) = Unit {0}
-IsReply (Unlinks q o x) = Unit {0}
-IsReply (Empties q x) = Unit {0}
-
--- the innermost caller goes on with what the free that he has waited for answers
-abbrev pub Finished : FreeReply → List CallFrame → Active → List CallFrame → Type 0
-Finished a old now new = (c : CallFrame) (cs : List CallFrame) → reverse old ≡ c ∷ cs → (now ≡ active.Caller (caller_resume c (Freed a))) × (reverse new ≡ cs)
+-- the innermost caller goes on with what the free that it has waited for answers
+abbrev pub Finished : FreeReply → List Waiting → Active → List Waiting → Type 0
+Finished a old now new = (w : Waiting) (ws : List Waiting) → reverse old ≡ w ∷ ws → StandsAs now (caller_resume (awaiting w) (Freed a)) × (reverse new ≡ ws)
 
 -- ---- what is told
 
@@ -184,30 +170,24 @@ Finished a old now new = (c : CallFrame) (cs : List CallFrame) → reverse old �
 abbrev pub told_by : CallFrame → Option Event
 told_by (Warning q x r) = Some (Warned x)
 told_by (Telling q r) = Some (Replied r)
-told_by (Asking q) = None
-told_by (Doing q c) = None
-told_by (Awaiting q x) = None
-told_by (Returning v) = None
+told_by f = None
 
 -- and how it goes on
 abbrev pub after_telling : CallFrame → CallFrame
 after_telling (Warning q x r) = Telling q r
 after_telling (Telling q r) = Asking q
-after_telling (Asking q) = Asking q
-after_telling (Doing q c) = Doing q c
-after_telling (Awaiting q x) = Awaiting q x
-after_telling (Returning v) = Returning v
+after_telling f = f
 
 -- ---- an answer to the open question
 
+-- the question that is open at this stage
+abbrev pub open_at : Stage → Ask → Option Ask
+open_at stage.Asking q = Some q
+open_at s q = None
+
 -- the question that is open
 abbrev pub asked_now : Active → Option Ask
-asked_now (active.Caller (Asking q)) = Some q
-asked_now (active.Caller (Doing q c)) = None
-asked_now (active.Caller (Awaiting q x)) = None
-asked_now (active.Caller (Warning q x r)) = None
-asked_now (active.Caller (Telling q r)) = None
-asked_now (active.Caller (Returning v)) = None
+asked_now (active.Caller c) = open_at c.stage c.ask
 asked_now active.Freeing = None
 
 -- the question with what a routine is to remember
@@ -215,16 +195,17 @@ abbrev pub remembers : Ask → Option Reply → Ask
 remembers q None = q
 remembers q (Some r) = later q r
 
--- a call that is to be done, or whose report was made at once
-abbrev pub called_with : Ask → Call → Option Report → CallFrame
-called_with q c None = Doing q c
-called_with q c (Some r) = Telling (remembers q r.copy) r.reply
+-- what a caller begins with that was asked
+abbrev pub begins_with : Ask → Input → CallFrame
+begins_with q (input.Call c) = Doing q c
+begins_with q (input.Act (act.Do c)) = Doing q c
+begins_with q (input.Act (act.Ret v)) = Returning v
 
--- what a caller begins with who was asked
-abbrev pub begins_with : Ask → Input → Option Report → CallFrame
-begins_with q (input.Call c) report = called_with q c report
-begins_with q (input.Act (act.Do c)) report = called_with q c report
-begins_with q (input.Act (act.Ret v)) report = Returning v
+-- the memory that this may want is there
+abbrev pub MayBegin : Input → ℕ → ℕ → Bool → Type 0
+MayBegin (input.Call c) waiting places ready = MayDo c waiting places ready
+MayBegin (input.Act (act.Do c)) waiting places ready = MayDo c waiting places ready
+MayBegin (input.Act (act.Ret v)) waiting places ready = Unit {0}
 
 -- the reply that a report of this owner has, whoever asks for it
 abbrev pub IsReplyOf : Owner → Reply → Pool → Type 0
@@ -236,9 +217,7 @@ IsCopy (input.Call c) copy o p = copy ≡ None
 IsCopy (input.Act a) None o p = ⊥
 IsCopy (input.Act a) (Some r) o p = IsReplyOf o r p
 
--- the report that an input wants
-abbrev pub IsReport : Input → Option Owner → Option Report → Pool → Type 0
-IsReport i None None p = Unit {0}
-IsReport i None (Some r) p = ⊥
-IsReport i (Some o) None p = ⊥
-IsReport i (Some o) (Some r) p = IsReplyOf o r.reply p × IsCopy i r.copy o p
+-- the report that an input wants, which is about this owner
+pub record IsReport (i : Input) (r : Report) (o : Owner) (p : Pool) : Type 0 where
+  pub reply : IsReplyOf o r.reply p
+  pub copy : IsCopy i r.copy o p

@@ -1,4 +1,3 @@
 pub mod Moves
-pub mod Counting
 pub mod Hosts
 pub mod Promises

@@ -1,10 +1,79 @@
-use tree_specs::CallFrame;
+//! What is at work in a host, above all that waits.
+ghost use Rattle.std.specs.Prelude.{◌≡◌, Some, IsSome, is_none};
+ghost use Rattle.std.specs.Option.{option_copied};
+ghost use Rattle.tree_specs.specs.declared.question.Ask.{Ask as AskData};
+ghost use Rattle.tree_specs.specs.declared.frame.CallFrame.TheVariants.{Telling};
+ghost use Rattle.tree_specs.specs.Schedule.{misfit};
+ghost use Rattle.host_core.specs.Hosts.{remembers, asked_now, StandsAs};
+ghost use Rattle.host_core.specs.Moves.{telling, warning};
+
+use crate::brief::Brief;
+use crate::caller::{Caller, Stage};
+use crate::reports::Report;
+use tree_specs::{Ask, Input, Obj};
 
 /// What is at work, above all that waits.
 #[derive(Debug, Drop)]
 pub enum Active {
     /// A caller: the host's own, or a routine that runs.
-    Caller(CallFrame),
+    Caller(Caller),
     /// The innermost free.
     Freeing,
+}
+
+impl Active {
+    /// The question that is open. None where none is.
+    pub fn question(&self) -> Option<&Ask>
+        ensures { option_copied result ≡ asked_now self.now }
+    {
+        match self {
+            Active::Caller(
+                Caller {
+                    ask,
+                    stage: Stage::Asking,
+                },
+            ) => Some(ask),
+            _ => None,
+        }
+    }
+
+    /// Whether a question is open that takes such an answer.
+    pub fn takes(&self, input: &Input) -> bool
+        ensures { result ≡ is_none (misfit (asked_now self.now) input.now) }
+    {
+        match (self.question(), input) {
+            (Some(Ask::Quiet), Input::Call(_)) | (Some(Ask::Routine(_)), Input::Act(_)) => true,
+            _ => false,
+        }
+    }
+
+    /// The reply to the call of the caller that was asked comes next.
+    pub fn reply(&mut self, reply: Brief)
+        requires { IsSome (asked_now self.old) }
+        ensures { (q : AskData) → asked_now self.old ≡ Some q → StandsAs self.new (telling q reply) }
+    {
+        if let Active::Caller(caller) = self {
+            caller.reply(reply);
+        }
+    }
+
+    /// A warning comes next, and then the reply to the call of the caller that was asked.
+    pub fn warn(&mut self, x: Obj, reply: Brief)
+        requires { IsSome (asked_now self.old) }
+        ensures { (q : AskData) → asked_now self.old ≡ Some q → StandsAs self.new (warning q x reply) }
+    {
+        if let Active::Caller(caller) = self {
+            caller.warn(x, reply);
+        }
+    }
+
+    /// A report comes next to the caller that was asked.
+    pub fn report(&mut self, report: Report)
+        requires { IsSome (asked_now self.old) }
+        ensures { (q : AskData) → asked_now self.old ≡ Some q → StandsAs self.new (Telling (remembers q report.copy) report.reply) }
+    {
+        if let Active::Caller(caller) = self {
+            caller.reply_whole(report.reply, report.copy);
+        }
+    }
 }

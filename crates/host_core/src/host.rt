@@ -1,28 +1,21 @@
-ghost use Rattle.std.specs.Prelude.{◌≡◌, ◌≤◌, ◌<◌, ◌+◌, ◌↔◌, Some, Err, IsTrue, IsSome, IfOk, OnOk, OnErr, length, vec_capacity};
+ghost use Rattle.std.specs.Prelude.{◌≡◌, ◌≤◌, ◌<◌, ◌↔◌, true, Some, Err, IsTrue, IsSome, IfOk, OnOk, OnErr, length, vec_capacity};
 ghost use Rattle.std.specs.Option.{option_copied};
 ghost use Rattle.tree_specs.specs.declared.schedule.Reason.TheVariants as reasons;
 ghost use Rattle.tree_specs.specs.Schedule.{misfit};
 ghost use Rattle.tree_specs.specs.Soundness.{is_sound};
 ghost use Rattle.tree_specs.specs.Table.{event_of};
 ghost use Rattle.tree_specs.specs.View.{begin, question_of};
-ghost use Rattle.tree_links.specs.Links.{pool_of};
-ghost use Rattle.host_core.specs.Hosts.{CallRoom, places, told_by, after_telling};
 
 use crate::active::Active;
-use crate::begun::{asked, begun, takes};
-use crate::counting::count_step;
+use crate::caller::{Caller, Stage, Waiting};
 use crate::fault::OfferFault;
 use crate::parts::Parts;
-use crate::reports::wanted_report;
-use crate::works::settle;
-use destructors::FreeEngine;
-use memory_limits::Sums;
-use references::Refs;
+use crate::reports::{made_report, report_owner};
+use crate::works::{answer_on, settle};
+use object_pool::ObjectPool;
 use std::alloc::Global;
 use std::marker::Model;
-use std::mem;
-use tree_links::Tree;
-use tree_specs::{Ask, CallFrame, Event, FreeStep, Input, Kind, Memory, Obj, Owner};
+use tree_specs::{Ask, Event, FreeStep, Input, Kind, Memory, Obj, Owner};
 
 /// What a step of a free is to the host. None where it isn't told.
 fn event(step: FreeStep) -> Option<Event>
@@ -38,55 +31,17 @@ fn event(step: FreeStep) -> Option<Event>
     }
 }
 
-/// What a caller tells, and how it goes on.
-#[derive(Debug, Drop)]
-struct Reported {
-    event: Option<Event>,
-    frame: CallFrame,
-}
-
-/// A warning or a reply that is to be told is told. Any other caller tells nothing.
-fn tell(frame: CallFrame) -> Reported
-    ensures event { result.event ≡ told_by frame }
-    ensures frame { result.frame ≡ after_telling frame }
-{
-    match frame {
-        CallFrame::Warning { ask, x, reply } => Reported {
-            event: Some(Event::Warned(x)),
-            frame: CallFrame::Telling { ask, reply },
-        },
-        CallFrame::Telling { ask, reply } => Reported {
-            event: Some(Event::Replied(reply)),
-            frame: CallFrame::Asking { ask },
-        },
-        frame => Reported { event: None, frame },
-    }
-}
-
-/// Takes the memory for all that comes up to the next question. After want of memory callers, objects, references
-/// and limits are as they were.
-fn make_room(
-    callers: &mut Vec<CallFrame>,
-    tree: &mut Tree,
-    refs: &mut Refs,
-    sums: &mut Sums,
-) -> Result<(), Memory>
+/// Takes the memory for all that comes up to the next question. After want of memory callers and objects are as they
+/// were.
+fn make_room(callers: &mut Vec<Waiting>, objects: &mut ObjectPool) -> Result<(), Memory>
     ensures callers { callers.new.items ≡ callers.old.items }
-    ensures rows { pool_of tree.new ≡ pool_of tree.old }
-    ensures works { tree.new.frees ≡ tree.old.frees }
-    ensures refs { refs.new.pairs ≡ refs.old.pairs }
-    ensures limits { sums.new.limited ≡ sums.old.limited }
-    ensures callers_kept { vec_capacity callers.old ≤ vec_capacity callers.new }
-    ensures spare_kept { tree.old.spare ≤ tree.new.spare }
-    ensures room_kept { tree.old.room ≤ tree.new.room }
-    ensures places_kept { refs.old.spare ≤ refs.new.spare }
-    ensures limits_kept { sums.old.spare ≤ sums.new.spare }
-    ensures room { OnOk result (CallRoom callers.new.items tree.new (places (vec_capacity callers.new) refs.new sums.new)) }
+    ensures kept { vec_capacity callers.old ≤ vec_capacity callers.new }
+    ensures place { OnOk result (length callers.new.items < vec_capacity callers.new) }
+    ensures ok { OnOk result (objects.new ≡ record objects.old { ready = true }) }
+    ensures err { OnErr result (objects.new ≡ objects.old) }
 {
     callers.reserve(1)?;
-    tree.reserve(2)?;
-    refs.reserve(1)?;
-    sums.reserve(1)?;
+    objects.reserve()?;
     Ok(())
 }
 
@@ -104,11 +59,11 @@ impl Model for Host {
     ghost Value = { View };
 
     ghost use Rattle.std.specs.Prelude.{◌≡◌, true};
-    ghost use Rattle.host_core.specs.Hosts.{view_in, IsReady, HasRefs, HasLimits, speaking_view};
+    ghost use Rattle.host_core.specs.Hosts.{view_in, IsReady, speaking_view};
 
     ghost view = { λ h. view_in h.active h.parts };
 
-    ghost invariant = { λ h. IsReady h.active h.parts × (speaking_view (view_in h.active h.parts) ≡ true) × HasRefs h.parts × HasLimits h.parts };
+    ghost invariant = { λ h. IsReady h.active h.parts × (speaking_view (view_in h.active h.parts) ≡ true) };
 }
 
 impl Host {
@@ -127,13 +82,13 @@ impl Host {
         ensures waits { IfOk result (λ host. Waits host) }
     {
         Ok(Host {
-            active: Active::Caller(CallFrame::Asking { ask: Ask::Quiet }),
+            active: Active::Caller(Caller {
+                ask: Ask::Quiet,
+                stage: Stage::Asking,
+            }),
             parts: Parts {
                 callers: Vec::new(alloc),
-                engine: FreeEngine::new(),
-                tree: Tree::new(alloc, first),
-                refs: Refs::new(alloc),
-                sums: Sums::new(alloc),
+                objects: ObjectPool::new(alloc, first),
             },
         })
     }
@@ -142,21 +97,21 @@ impl Host {
     pub fn is_live(&self, x: Obj) -> bool
         ensures { result ≡ is_row self.now.pool.rows x }
     {
-        self.parts.tree.row(x).is_some()
+        self.parts.objects.row(x).is_some()
     }
 
     /// What the object is. None exactly where it is no live object.
     pub fn kind(&self, x: Obj) -> Option<Kind>
         ensures { result ≡ option_map (λ r. r.kind) (row_of self.now.pool.rows x) }
     {
-        Some(self.parts.tree.row(x)?.kind)
+        Some(self.parts.objects.row(x)?.kind)
     }
 
     /// Whether an object is another one, or inside it. False where either is no live object.
     pub fn is_inside(&self, x: Obj, p: Obj) -> bool
         ensures { result ≡ (is_row self.now.pool.rows p && (is_row self.now.pool.rows x && inside self.now.pool.rows (At x) (At p))) }
     {
-        self.is_live(p) && self.parts.tree.inside(x, Owner::Of(p))
+        self.is_live(p) && self.parts.objects.inside(x, Owner::Of(p))
     }
 
     /// How many objects are live.
@@ -168,7 +123,7 @@ impl Host {
         // plain object, and each dying object is in exactly one open free.
         ensures sound { Sound self.now.innermost self.now.below self.now.pool }
     {
-        self.parts.tree.len() as u64
+        self.parts.objects.len() as u64
     }
 
     /// The open question. None exactly where an event is still to come.
@@ -176,7 +131,7 @@ impl Host {
         ensures question { option_copied result ≡ question_of self.now }
         ensures waits { IsSome result → Waits self.now }
     {
-        asked(&self.active)
+        self.active.question()
     }
 
     /// The next event, which is told now and not again. None exactly where a question is open, and then
@@ -184,23 +139,11 @@ impl Host {
     pub fn next(&mut self) -> Option<Event>
         ensures { NextLaw result self.old self.new }
     {
-        match mem::replace(&mut self.active, Active::Freeing) {
-            Active::Caller(frame) => {
-                let next = tell(frame);
-                self.active = Active::Caller(next.frame);
-                next.event
-            }
+        match &mut self.active {
+            Active::Caller(caller) => caller.tell(),
             Active::Freeing => {
-                let Parts {
-                    engine,
-                    tree,
-                    refs,
-                    sums,
-                    ..
-                } = &mut self.parts;
-                let step = engine.step(tree, refs);
-                count_step(&step, tree, sums);
-                self.active = settle(Active::Freeing, &mut self.parts);
+                let step = self.parts.objects.step();
+                settle(&mut self.active, &mut self.parts);
                 event(step)
             }
         }
@@ -215,26 +158,18 @@ impl Host {
         ensures err { OnErr result (self.new ≡ self.old) }
         ensures not_asked { (result ≡ Err OfferFault.NotAsked) ↔ (misfit (question_of self.old) input ≡ Some reasons.NotAsked) }
     {
-        if !takes(&self.active, &input) {
+        if !self.active.takes(&input) {
             return Err(OfferFault::NotAsked);
         }
-        let Parts {
-            callers,
-            tree,
-            refs,
-            ..
-        } = &self.parts;
-        let report = wanted_report(*callers.allocator(), &input, tree, refs)?;
-        let Parts {
-            callers,
-            tree,
-            refs,
-            sums,
-            ..
-        } = &mut self.parts;
-        make_room(callers, tree, refs, sums)?;
-        let active = mem::replace(&mut self.active, Active::Freeing);
-        self.active = settle(begun(active, input, report), &mut self.parts);
+        let Parts { callers, objects } = &mut self.parts;
+        if let Some(owner) = report_owner(&input) {
+            let report = made_report(*callers.allocator(), &input, owner, objects)?;
+            self.active.report(report);
+            return Ok(());
+        }
+        make_room(callers, objects)?;
+        answer_on(&mut self.active, input, &mut self.parts);
+        settle(&mut self.active, &mut self.parts);
         Ok(())
     }
 }

@@ -2,12 +2,10 @@
 #![tactic(auto)]
 
 mod active;
-mod begun;
 mod brief;
+mod caller;
 mod calls;
-mod changes;
 mod checks;
-mod counting;
 mod fault;
 mod host;
 mod motion;

@@ -1,14 +1,17 @@
-use tree_specs::{Ask, CallFrame, Obj, Owner};
+use crate::brief::Brief;
+use tree_specs::{Obj, Owner};
 
-/// What a call does first, for a caller who is known by his question.
-#[derive(Debug, Drop)]
+/// What a call does first.
+#[derive(Clone, Copy, Debug)]
 pub enum Motion {
-    /// The caller goes on.
-    Goes(CallFrame),
+    /// It is done, and this is its reply.
+    Replies(Brief),
+    /// It is done. That the object has references and went to another owner is told before the reply.
+    Warns(Obj, Brief),
     /// The object is freed, and the caller waits.
-    Frees(Ask, Obj),
+    Frees(Obj),
     /// The interest of an owner in the object is taken away, and the caller waits.
-    Unlinks(Ask, Owner, Obj),
+    Unlinks(Owner, Obj),
     /// Its children are freed, and the caller waits.
-    Empties(Ask, Obj),
+    Empties(Obj),
 }

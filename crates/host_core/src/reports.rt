@@ -4,16 +4,12 @@ ghost use Rattle.tree_specs.specs.declared.question.Ask.{Ask as AskData};
 ghost use Rattle.tree_specs.specs.declared.call.Call.TheVariants.{Report as ReportOf};
 ghost use Rattle.tree_specs.specs.Calls.{refusals};
 ghost use Rattle.tree_specs.specs.Table.{call_step, replied};
-ghost use Rattle.tree_links.specs.Links.{pool_of};
-ghost use Rattle.references.specs.Rows.{AreRefsOf};
 ghost use Rattle.host_core.specs.Moves.{call_of, reported};
 ghost use Rattle.host_core.specs.Hosts.{IsCopy, IsReport};
 
 use crate::checks::check_owner;
-use references::Refs;
+use object_pool::ObjectPool;
 use std::alloc::Global;
-use tree_links::Tree;
-use tree_report::rows;
 use tree_specs::{Act, Call, Input, Memory, Owner, Reply};
 
 /// The reply to a report, with a copy where a routine is to remember it.
@@ -24,7 +20,7 @@ pub struct Report {
 }
 
 /// The owner that a report is about. None for every other input.
-fn report_owner(input: &Input) -> Option<Owner>
+pub fn report_owner(input: &Input) -> Option<Owner>
     ensures { result ≡ reported (call_of input.now) }
 {
     match input {
@@ -37,14 +33,13 @@ fn report_owner(input: &Input) -> Option<Owner>
 
 /// The reply to a report: all that it tells is copied.
 #[tactic(auto, using(crate::proofs::Allowed::refused_step, crate::proofs::Allowed::allowed_step))]
-fn report_reply(alloc: Global, owner: Owner, tree: &Tree, refs: &Refs) -> Result<Reply, Memory>
-    requires { AreRefsOf refs.now.pairs tree.now.rows }
-    ensures { IfOk result (λ r. (q : AskData) → call_step (refusals (pool_of tree.now) (ReportOf owner)) q (ReportOf owner) (pool_of tree.now) ≡ replied q r (pool_of tree.now)) }
+fn report_reply(alloc: Global, owner: Owner, pool: &ObjectPool) -> Result<Reply, Memory>
+    ensures { IfOk result (λ r. (q : AskData) → call_step (refusals pool.now.pool (ReportOf owner)) q (ReportOf owner) pool.now.pool ≡ replied q r pool.now.pool) }
 {
-    if let Err(why) = check_owner(owner, tree) {
+    if let Err(why) = check_owner(owner, pool) {
         return Ok(Reply::No(why));
     }
-    Ok(Reply::Rows(rows(alloc, tree, refs, owner)?))
+    Ok(Reply::Rows(pool.report(alloc, owner)?))
 }
 
 /// The same once more, where a routine is to remember it.
@@ -52,32 +47,26 @@ fn report_copy(
     alloc: Global,
     input: &Input,
     owner: Owner,
-    tree: &Tree,
-    refs: &Refs,
+    pool: &ObjectPool,
 ) -> Result<Option<Reply>, Memory>
-    requires { AreRefsOf refs.now.pairs tree.now.rows }
-    ensures { IfOk result (λ copy. IsCopy input.now copy owner (pool_of tree.now)) }
+    ensures { IfOk result (λ copy. IsCopy input.now copy owner pool.now.pool) }
 {
     match input {
         Input::Call(_) => Ok(None),
-        Input::Act(_) => Ok(Some(report_reply(alloc, owner, tree, refs)?)),
+        Input::Act(_) => Ok(Some(report_reply(alloc, owner, pool)?)),
     }
 }
 
-/// The report that an input wants. None where it wants none.
-pub fn wanted_report(
+/// The report that an input wants, which is about this owner.
+pub fn made_report(
     alloc: Global,
     input: &Input,
-    tree: &Tree,
-    refs: &Refs,
-) -> Result<Option<Report>, Memory>
-    requires { AreRefsOf refs.now.pairs tree.now.rows }
-    ensures { IfOk result (λ o. IsReport input.now (reported (call_of input.now)) o (pool_of tree.now)) }
+    owner: Owner,
+    pool: &ObjectPool,
+) -> Result<Report, Memory>
+    ensures { IfOk result (λ r. IsReport input.now r owner pool.now.pool) }
 {
-    let Some(owner) = report_owner(input) else {
-        return Ok(None);
-    };
-    let reply = report_reply(alloc, owner, tree, refs)?;
-    let copy = report_copy(alloc, input, owner, tree, refs)?;
-    Ok(Some(Report { reply, copy }))
+    let reply = report_reply(alloc, owner, pool)?;
+    let copy = report_copy(alloc, input, owner, pool)?;
+    Ok(Report { reply, copy })
 }

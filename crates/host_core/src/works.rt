@@ -1,137 +1,101 @@
 //! The open works, step after step: callers and frees, each on the one that waits for it.
-ghost use Rattle.std.specs.Prelude.{◌≡◌, ◌<◌, ◌≤◌, ◌+◌, ℕ, true, false, length, reverse, vec_capacity};
-ghost use Rattle.tree_specs.specs.declared.frame.CallFrame.TheVariants.{Asking};
-ghost use Rattle.tree_specs.specs.declared.frame.Answer.TheVariants.{Freed};
-ghost use Rattle.tree_specs.specs.declared.question.Ask.TheVariants.{Routine};
-ghost use Rattle.tree_specs.specs.Pool.{row_of};
-ghost use Rattle.tree_specs.specs.Sound.{HasHook};
-ghost use Rattle.tree_specs.specs.Story.{hook_moment};
-ghost use Rattle.tree_specs.specs.Table.{caller_resume};
+ghost use Rattle.std.specs.Prelude.{◌≡◌, ◌<◌, [], ◌∷◌, ◌++◌, Some, IsSome, true, false, length, vec_capacity};
+ghost use Rattle.tree_specs.specs.declared.frame.CallFrame.TheVariants.{Doing};
+ghost use Rattle.tree_specs.specs.declared.question.Ask.{Ask as AskData};
 ghost use Rattle.tree_specs.specs.Whole.{Whole};
-ghost use Rattle.tree_links.specs.Links.{pool_of};
-ghost use Rattle.destructors.specs.Frees.{before, frees_of};
 ghost use Rattle.destructors.specs.Works.{IsAwaiting};
-ghost use Rattle.destructors.specs.Engine.{AreKept};
-ghost use Rattle.host_core.specs.Hosts.{motion_view, view_in, speaking_view, IsReply, Along, Onward, IsReady, HasRefs, HasLimits, Finished};
+ghost use Rattle.object_pool.specs.Objects.{frees_in};
+ghost use Rattle.host_core.specs.Moves.{ReadyFor};
+ghost use Rattle.host_core.specs.Hosts.{stack_of, motion_view, view_in, view_at, speaking_view, asked_now, begins_with, MayDo, MayBegin, Along, Onward, IsReady, Finished};
 
 use crate::active::Active;
-use crate::calls::{act, freed, telling};
-use crate::counting::count_step;
+use crate::caller::{Caller, Waiting};
+use crate::calls::act;
 use crate::motion::Motion;
 use crate::parts::Parts;
-use tree_links::Tree;
-use tree_specs::{Ask, CallFrame, FreeReply, FreeStep, Moment, Obj, What};
+use object_pool::ObjectPool;
+use std::mem;
+use tree_specs::{Act, Call, FreeReply, FreeStep, Input, Obj};
 
-/// The run of an object's destructor, at its first moment.
-fn run(x: Obj, tree: &Tree) -> CallFrame
-    ensures { (h : ℕ) → HasHook (row_of tree.now.rows x) h → result ≡ Asking (Routine (hook_moment x h)) }
+/// The caller that was asked waits for a free, which is at work from then on.
+fn wait(now: &mut Active, callers: &mut Vec<Waiting>, x: Obj)
+    requires asks { IsSome (asked_now now.old) }
+    requires place { length callers.old.items < vec_capacity callers.old }
+    ensures freeing { now.new ≡ Active.Freeing }
+    ensures waits { (q : AskData) → asked_now now.old ≡ Some q → callers.new.items ≡ callers.old.items ++ record { ask = q; x = x } ∷ [] }
 {
-    let routine = tree.row(x).map_or(0, |row| row.hook);
-    CallFrame::Asking {
-        ask: Ask::Routine(Moment {
-            what: What::Hook,
-            object: x,
-            routine,
-            user: 0,
-            now: 0,
-            flags: 0,
-            step: 0,
-            last: None,
-        }),
+    match mem::replace(now, Active::Freeing) {
+        Active::Caller(Caller { ask, .. }) => callers.push_reserved(Waiting { ask, x }),
+        Active::Freeing => unreachable!(),
     }
 }
 
-/// A caller that has waited for a free, with its answer.
-fn resumed(frame: CallFrame, answer: FreeReply) -> CallFrame
-    ensures { result ≡ caller_resume frame (Freed answer) }
-{
-    match frame {
-        CallFrame::Awaiting { ask, x } => telling(ask, freed(x, answer)),
-        frame => frame,
-    }
-}
-
-/// Goes on with what a call has begun.
-fn start(motion: Motion, parts: &mut Parts) -> Active
-    requires whole { Whole (motion_view motion (before parts.old.engine parts.old.tree.frees) (reverse parts.old.callers.items) (pool_of parts.old.tree)) }
-    requires reply { IsReply motion }
-    requires awaiting { IsAwaiting (frees_of parts.old.engine parts.old.tree) }
-    requires kept { AreKept parts.old.engine parts.old.tree }
+/// The caller that was asked goes on with what its call does first.
+fn go_on(now: &mut Active, motion: Motion, parts: &mut Parts)
+    requires asks { IsSome (asked_now now.old) }
+    requires whole { (q : AskData) → asked_now now.old ≡ Some q → Whole (motion_view q motion parts.old.objects.works (stack_of parts.old.callers.items) parts.old.objects.pool) }
+    requires awaiting { IsAwaiting (frees_in parts.old.objects) }
     requires place { length parts.old.callers.items < vec_capacity parts.old.callers }
-    requires room { length parts.old.tree.rows + 2 ≤ parts.old.tree.room }
-    requires refs { HasRefs parts.old }
-    requires limits { HasLimits parts.old }
-    ensures along { Along (motion_view motion (before parts.old.engine parts.old.tree.frees) (reverse parts.old.callers.items) (pool_of parts.old.tree)) (view_in result parts.new) }
-    ensures ready { IsReady result parts.new }
-    ensures refs { HasRefs parts.new }
-    ensures limits { HasLimits parts.new }
+    requires room { ReadyFor motion parts.old.objects.ready }
+    ensures along { (q : AskData) → asked_now now.old ≡ Some q → Along (motion_view q motion parts.old.objects.works (stack_of parts.old.callers.items) parts.old.objects.pool) (view_in now.new parts.new) }
+    ensures ready { IsReady now.new parts.new }
 {
-    let Parts {
-        callers,
-        engine,
-        tree,
-        refs,
-        ..
-    } = parts;
+    let Parts { callers, objects } = parts;
     match motion {
-        Motion::Goes(frame) => Active::Caller(frame),
-        Motion::Frees(ask, x) => {
-            callers.push_reserved(CallFrame::Awaiting { ask, x });
-            engine.begin_free(tree, refs, x);
-            Active::Freeing
+        Motion::Replies(reply) => now.reply(reply),
+        Motion::Warns(x, reply) => now.warn(x, reply),
+        Motion::Frees(x) => {
+            wait(now, callers, x);
+            objects.begin_free(x);
         }
-        Motion::Unlinks(ask, owner, x) => {
-            callers.push_reserved(CallFrame::Awaiting { ask, x });
-            engine.begin_unlink(tree, refs, owner, x);
-            Active::Freeing
+        Motion::Unlinks(owner, x) => {
+            wait(now, callers, x);
+            objects.begin_unlink(owner, x);
         }
-        Motion::Empties(ask, x) => {
-            callers.push_reserved(CallFrame::Awaiting { ask, x });
-            engine.begin_kids(tree, refs, x);
-            Active::Freeing
+        Motion::Empties(x) => {
+            wait(now, callers, x);
+            objects.begin_kids(x);
         }
     }
 }
 
-/// A step of a caller that has a call to do, or has returned.
-fn call_on(frame: CallFrame, parts: &mut Parts) -> Active
-    requires ready { IsReady (Active.Caller frame) parts.old }
-    requires refs { HasRefs parts.old }
-    requires limits { HasLimits parts.old }
-    requires quiet { speaking_view (view_in (Active.Caller frame) parts.old) ≡ false }
-    ensures onward { Onward (view_in (Active.Caller frame) parts.old) (view_in result parts.new) }
-    ensures ready { IsReady result parts.new }
-    ensures refs { HasRefs parts.new }
-    ensures limits { HasLimits parts.new }
+/// Does a call for the caller that was asked.
+fn call_on(now: &mut Active, call: Call, parts: &mut Parts)
+    requires asks { IsSome (asked_now now.old) }
+    requires whole { (q : AskData) → asked_now now.old ≡ Some q → Whole (view_at (Doing q call) parts.old) }
+    requires may { MayDo call (length parts.old.callers.items) (vec_capacity parts.old.callers) parts.old.objects.ready }
+    ensures along { (q : AskData) → asked_now now.old ≡ Some q → Along (view_at (Doing q call) parts.old) (view_in now.new parts.new) }
+    ensures ready { IsReady now.new parts.new }
 {
-    match frame {
-        CallFrame::Doing { ask, call } => {
-            let alloc = *parts.callers.allocator();
-            let motion = act(
-                alloc,
-                ask,
-                call,
-                &mut parts.tree,
-                &mut parts.refs,
-                &mut parts.sums,
-            );
-            start(motion, parts)
+    let alloc = *parts.callers.allocator();
+    let motion = act(alloc, call, &mut parts.objects);
+    go_on(now, motion, parts);
+}
+
+/// The caller that was asked goes on with the answer.
+pub fn answer_on(now: &mut Active, input: Input, parts: &mut Parts)
+    requires asks { IsSome (asked_now now.old) }
+    requires whole { (q : AskData) → asked_now now.old ≡ Some q → Whole (view_at (begins_with q input) parts.old) }
+    requires may { MayBegin input (length parts.old.callers.items) (vec_capacity parts.old.callers) parts.old.objects.ready }
+    ensures along { (q : AskData) → asked_now now.old ≡ Some q → Along (view_at (begins_with q input) parts.old) (view_in now.new parts.new) }
+    ensures ready { IsReady now.new parts.new }
+{
+    match input {
+        Input::Call(call) => call_on(now, call, parts),
+        Input::Act(Act::Do(call)) => call_on(now, call, parts),
+        Input::Act(Act::Ret(value)) => {
+            parts.objects.answer(value);
+            *now = Active::Freeing;
         }
-        CallFrame::Returning { value } => {
-            parts.engine.answer(&parts.tree, value);
-            Active::Freeing
-        }
-        frame => Active::Caller(frame),
     }
 }
 
 /// The innermost free is over, and the caller that has waited for it goes on.
-fn finish(answer: FreeReply, callers: &mut Vec<CallFrame>) -> Active
-    ensures finished { Finished answer callers.old.items result callers.new.items }
-    ensures kept { vec_capacity callers.old ≤ vec_capacity callers.new }
+fn finish(answer: FreeReply, callers: &mut Vec<Waiting>) -> Active
+    ensures { Finished answer callers.old.items result callers.new.items }
 {
     match callers.pop() {
-        Some(frame) => Active::Caller(resumed(frame, answer)),
+        Some(waiting) => Active::Caller(waiting.resumed(answer)),
         None => Active::Freeing,
     }
 }
@@ -139,69 +103,40 @@ fn finish(answer: FreeReply, callers: &mut Vec<CallFrame>) -> Active
 /// A step of the innermost free that tells no event.
 fn free_on(parts: &mut Parts) -> Active
     requires ready { IsReady Active.Freeing parts.old }
-    requires refs { HasRefs parts.old }
-    requires limits { HasLimits parts.old }
     requires quiet { speaking_view (view_in Active.Freeing parts.old) ≡ false }
     ensures onward { Onward (view_in Active.Freeing parts.old) (view_in result parts.new) }
     ensures ready { IsReady result parts.new }
-    ensures refs { HasRefs parts.new }
-    ensures limits { HasLimits parts.new }
 {
-    let step = parts.engine.step(&mut parts.tree, &mut parts.refs);
-    count_step(&step, &parts.tree, &mut parts.sums);
-    match step {
-        FreeStep::Ask(x) => Active::Caller(run(x, &parts.tree)),
+    match parts.objects.step() {
+        FreeStep::Ask(x) => Active::Caller(Caller::run(x, &parts.objects)),
         FreeStep::Done(answer) => finish(answer, &mut parts.callers),
         _ => Active::Freeing,
     }
 }
 
-/// A step that tells nothing.
-fn go_on(now: Active, parts: &mut Parts) -> Active
-    requires ready { IsReady now parts.old }
-    requires refs { HasRefs parts.old }
-    requires limits { HasLimits parts.old }
-    requires quiet { speaking_view (view_in now parts.old) ≡ false }
-    ensures onward { Onward (view_in now parts.old) (view_in result parts.new) }
+/// The steps of the innermost free that tell nothing, up to its next event, or to a caller that goes on.
+fn free_up(parts: &mut Parts) -> Active
+    requires { IsReady Active.Freeing parts.old }
+    ensures along { Along (view_in Active.Freeing parts.old) (view_in result parts.new) }
     ensures ready { IsReady result parts.new }
-    ensures refs { HasRefs parts.new }
-    ensures limits { HasLimits parts.new }
+    ensures settled { speaking_view (view_in result parts.new) ≡ true }
 {
-    match now {
-        Active::Caller(frame) => call_on(frame, parts),
-        Active::Freeing => free_on(parts),
+    while !parts.objects.announces() {
+        if let Active::Caller(caller) = free_on(parts) {
+            return Active::Caller(caller);
+        }
     }
-}
-
-/// Whether the next step tells an event or asks a question.
-fn speaks(now: &Active, parts: &Parts) -> bool
-    requires kept { AreKept parts.now.engine parts.now.tree }
-    requires refs { HasRefs parts.now }
-    ensures { result ≡ speaking_view (view_in now.now parts.now) }
-{
-    match now {
-        Active::Caller(frame) => matches!(
-            frame,
-            CallFrame::Asking { .. } | CallFrame::Warning { .. } | CallFrame::Telling { .. }
-        ),
-        Active::Freeing => parts.engine.announces(&parts.tree, &parts.refs),
-    }
+    Active::Freeing
 }
 
 /// The steps that tell nothing, up to the next event or question.
-pub fn settle(now: Active, parts: &mut Parts) -> Active
-    requires ready { IsReady now parts.old }
-    requires refs { HasRefs parts.old }
-    requires limits { HasLimits parts.old }
-    ensures along { Along (view_in now parts.old) (view_in result parts.new) }
-    ensures ready { IsReady result parts.new }
-    ensures refs { HasRefs parts.new }
-    ensures limits { HasLimits parts.new }
-    ensures settled { speaking_view (view_in result parts.new) ≡ true }
+pub fn settle(now: &mut Active, parts: &mut Parts)
+    requires { IsReady now.old parts.old }
+    ensures along { Along (view_in now.old parts.old) (view_in now.new parts.new) }
+    ensures ready { IsReady now.new parts.new }
+    ensures settled { speaking_view (view_in now.new parts.new) ≡ true }
 {
-    let mut now = now;
-    while !speaks(&now, parts) {
-        now = go_on(now, parts);
+    if matches!(now, Active::Freeing) {
+        *now = free_up(parts);
     }
-    now
 }

@@ -14,8 +14,7 @@ use Rattle.tree_specs.proofs.Ancestry.{reach-root, inside-owner, no_way_back}
 use Rattle.tree_specs.proofs.Attached.{inside-lone}
 use Rattle.memory_limits.specs.declared.change.Change.{Change}
 use Rattle.memory_limits.specs.declared.limited.Limited.{Limited}
-use Rattle.memory_limits.specs.Limits.{counts, counts_at, AllOutside}
-use Rattle.memory_limits.proofs.Kept.{found}
+use Rattle.memory_limits.specs.Limits.{counts, counts_at, found, nearest_in, nearest_limited}
 
 -- what the objects count after a way up of at most n owners
 abbrev pub climbed : ℕ → Change → List Row → Option Owner → List Limited → List Limited
@@ -85,57 +84,57 @@ no-owner (suc n) change rs x ls more none = ap (λ (p : Option Owner). climbed n
     ended zero = refl
     ended (suc n) = refl
 
--- ---- nobody with a limit is above
+-- ---- the nearest with a limit
 
--- two owners are inside of the same objects among these
-abbrev pub AllAlike : List Row → Owner → Owner → List Limited → Type 0
-AllAlike rs o p [] = Unit {0}
-AllAlike rs o p (l ∷ ls) = (is_inside rs o (Of l.object) ≡ is_inside rs p (Of l.object)) × AllAlike rs o p ls
-
-pub alike-on : (rs : List Row) (x : Obj) (o at from : Owner) → at ≡ Of x → owner_of rs x ≡ Some o → (ls : List Limited) → found ls x ≡ None → AllAlike rs at from ls → AllAlike rs o from ls
-alike-on rs x o at from is e [] n a = tt
-alike-on rs x o at from is e (l ∷ ls) n a = by_test (same l.object x)
-    (λ t. let bad : Some l ≡ None = rw t at n in cc)
-    (λ t. let n' : found ls x ≡ None = rw t at n in
+-- who has no limit counts nothing
+pub not-found : (change : Change) (x : Obj) (ls : List Limited) → is_some (found ls x) ≡ false → map (counts_at change x) ls ≡ ls
+not-found change x [] n = refl
+not-found change x (l ∷ ls) n = by_test (same l.object x)
+    (λ t. let bad : true ≡ false = rw t at n in cc)
+    (λ t. let n' : is_some (found ls x) ≡ false = rw t at n in
     let apart : same x l.object ≡ false = same-false x l.object (λ q. let u : same l.object x ≡ true = same-equal l.object x (sym q) in let bad : true ≡ false = sym u ∙ t in cc) in
-    let on : is_inside rs (Of x) (Of l.object) ≡ (same x l.object || is_inside rs o (Of l.object)) = inside-owner rs x o (Of l.object) e in
-    let on' : is_inside rs (Of x) (Of l.object) ≡ is_inside rs o (Of l.object) = rw apart at on in
-    (sym on' ∙ ap (λ (p : Owner). is_inside rs p (Of l.object)) (sym is) ∙ a.0, alike-on rs x o at from is e ls n' a.1))
+    let kept : counts_at change x l ≡ l = rw apart refl in
+    ap (λ (k : Limited). k ∷ map (counts_at change x) ls) kept ∙ ap (λ (ks : List Limited). l ∷ ks) (not-found change x ls n'))
 
-alike-root : (rs : List Row) (from : Owner) (ls : List Limited) → AllAlike rs Root from ls → AllOutside rs from ls
-alike-root rs from [] a = tt
-alike-root rs from (l ∷ ls) a = (sym a.0 ∙ reach-root rs (length rs) (Of l.object), alike-root rs from ls a.1)
+nearest-by : (n : ℕ) (change : Change) (rs : List Row) (o : Option Owner) (ls : List Limited) → Rooted rs → ends n rs o ≡ true → (p : Option Obj) → nearest_in n ls rs o ≡ p → map (counts_by change rs (option_map Of p)) ls ≡ map (counts_by change rs o) ls
+nearest-by n change rs None ls r e p is = ap (λ (q : Option Obj). map (counts_by change rs (option_map Of q)) ls) (sym is)
+nearest-by zero change rs (Some o) ls r e p is = cc
+nearest-by (suc n) change rs (Some Root) ls r e p is =
+    ap (λ (q : Option Obj). map (counts_by change rs (option_map Of q)) ls) (sym is)
+    ∙ mapped-same (λ l. l) (λ l. refl) ls ∙ sym (mapped-same (counts change rs Root) (root-counts change rs) ls)
+nearest-by (suc n) change rs (Some (Of x)) ls r e p is = by_test (is_some (found ls x))
+    (λ t. let here : Some x ≡ p = rw t at is in ap (λ (q : Option Obj). map (counts_by change rs (option_map Of q)) ls) (sym here))
+    (λ t. let above : nearest_in n ls rs (owner_of rs x) ≡ p = rw t at is in
+    nearest-by n change rs (owner_of rs x) ls r e p above
+    ∙ ap (map (counts_by change rs (owner_of rs x))) (sym (not-found change x ls t))
+    ∙ mapped-then (counts_at change x) (counts_by change rs (owner_of rs x)) (counts change rs (Of x)) (λ l. then-counts change rs x l (r (Of x)) (owner_of rs x) refl) ls)
 
-pub alike-top : (rs : List Row) (o from : Owner) (ls : List Limited) → ((x : Obj) → o ≡ Of x → ⊥) → AllAlike rs o from ls → AllOutside rs from ls
-alike-top rs Root from ls not a = alike-root rs from ls a
-alike-top rs (Of x) from ls not a = absurd (not x refl)
+-- where the nearest has a limit, all count that an owner is inside of; and where none has one, nothing is counted
+pub nearest-counts : (change : Change) (rs : List Row) (o : Owner) (x : Obj) (ls : List Limited) → Rooted rs → nearest_limited ls rs o ≡ Some x → map (counts change rs (Of x)) ls ≡ map (counts change rs o) ls
+nearest-counts change rs o x ls r is = nearest-by (suc (length rs)) change rs (Some o) ls r (r o) (Some x) is
 
-pub alike-lone : (rs : List Row) (x : Obj) (at from : Owner) → at ≡ Of x → owner_of rs x ≡ None → (ls : List Limited) → found ls x ≡ None → AllAlike rs at from ls → AllOutside rs from ls
-alike-lone rs x at from is lone [] n a = tt
-alike-lone rs x at from is lone (l ∷ ls) n a = by_test (same l.object x)
-    (λ t. let bad : Some l ≡ None = rw t at n in cc)
-    (λ t. let n' : found ls x ≡ None = rw t at n in
-    let apart : same x l.object ≡ false = same-false x l.object (λ q. let u : same l.object x ≡ true = same-equal l.object x (sym q) in let bad : true ≡ false = sym u ∙ t in cc) in
-    (sym a.0 ∙ ap (λ (p : Owner). is_inside rs p (Of l.object)) is ∙ inside-lone rs x (Of l.object) lone ∙ apart, alike-lone rs x at from is lone ls n' a.1))
+pub none-counts : (change : Change) (rs : List Row) (o : Owner) (ls : List Limited) → Rooted rs → nearest_limited ls rs o ≡ None → map (counts change rs o) ls ≡ ls
+none-counts change rs o ls r is = sym (nearest-by (suc (length rs)) change rs (Some o) ls r (r o) None is) ∙ mapped-same (λ l. l) (λ l. refl) ls
 
-pub alike-itself : (rs : List Row) (o : Owner) (ls : List Limited) → AllAlike rs o o ls
-alike-itself rs o [] = tt
-alike-itself rs o (l ∷ ls) = (refl, alike-itself rs o ls)
+-- ---- one step up to the nearest
 
--- then nothing is counted
-pub outside-counts : (change : Change) (rs : List Row) (o : Owner) (ls : List Limited) → AllOutside rs o ls → map (counts change rs o) ls ≡ ls
-outside-counts change rs o [] a = refl
-outside-counts change rs o (l ∷ ls) a =
-    let out = a.0 in
-    let same_one : counts change rs o l ≡ l = rw out refl in
-    ap (λ (k : Limited). k ∷ map (counts change rs o) ls) same_one ∙ ap (λ (ks : List Limited). l ∷ ks) (outside-counts change rs o ls a.1)
+pub is_some-map : {A B : Type 0} (f : A → B) (o : Option A) → is_some (option_map f o) ≡ is_some o
+is_some-map f None = refl
+is_some-map f (Some a) = refl
 
--- ---- one step up
+pub nearest-root : (n : ℕ) (ls : List Limited) (rs : List Row) (o : Owner) → ((x : Obj) → o ≡ Of x → ⊥) → nearest_in n ls rs (Some o) ≡ None
+nearest-root n ls rs Root not = refl
+nearest-root n ls rs (Of x) not = absurd (not x refl)
 
-pub none-found : (o q : Option Limited) → q ≡ option_map (λ l. l) o → is_some q ≡ false → o ≡ None
-none-found None q e n = refl
-none-found (Some l) q e n = let bad : is_some q ≡ true = rw e refl in let bad' : true ≡ false = sym bad ∙ n in cc
+pub nearest-end : (n : ℕ) (ls : List Limited) (rs : List Row) (o : Owner) → n ≤ 0 → nearest_in n ls rs (Some o) ≡ None
+nearest-end zero ls rs Root e = refl
+nearest-end zero ls rs (Of x) e = refl
+nearest-end (suc n) ls rs o e = absurd (omega (arith, e))
 
-pub ends-on : (n : ℕ) (rs : List Row) (x : Obj) (at next : Owner) → 0 < n → at ≡ Of x → owner_of rs x ≡ Some next → ends n rs (Some at) ≡ true → ends (n - 1) rs (Some next) ≡ true
-ends-on zero rs x at next more is e h = absurd (omega (arith, more))
-ends-on (suc n) rs x at next more is e h = let m : suc n - 1 ≡ n = omega arith in rw m (sym (ap (ends n rs) e) ∙ sym (ap (λ (o : Owner). ends (suc n) rs (Some o)) is) ∙ h)
+pub nearest-here : (n : ℕ) (ls : List Limited) (rs : List Row) (x : Obj) → 0 < n → is_some (found ls x) ≡ true → nearest_in n ls rs (Some (Of x)) ≡ Some x
+nearest-here zero ls rs x more t = absurd (omega (arith, more))
+nearest-here (suc n) ls rs x more t = rw t refl
+
+pub nearest-above : (n : ℕ) (ls : List Limited) (rs : List Row) (x : Obj) → 0 < n → is_some (found ls x) ≡ false → nearest_in n ls rs (Some (Of x)) ≡ nearest_in (n - 1) ls rs (owner_of rs x)
+nearest-above zero ls rs x more t = absurd (omega (arith, more))
+nearest-above (suc n) ls rs x more t = let m : suc n - 1 ≡ n = omega arith in rw (m, t) refl

@@ -1,5 +1,6 @@
 pub mod Upward
-pub mod Mapped
+pub mod Listed
 pub mod Kept
 pub mod Climbing
 pub mod Gone
+pub mod Relimited

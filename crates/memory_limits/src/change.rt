@@ -1,54 +1,42 @@
-ghost use Rattle.std.specs.Prelude.{◌≡◌, ◌+◌, map, vec_capacity, if◌then◌else◌};
-ghost use Rattle.tree_specs.specs.Objects.{same};
-ghost use Rattle.memory_limits.specs.Limits.{summed, counts, counts_at};
+ghost use Rattle.std.specs.Prelude.{◌≡◌, map};
+ghost use Rattle.tree_specs.specs.declared.object.Owner.TheVariants.{Of as At};
+ghost use Rattle.memory_limits.specs.Limits.{listed, summed, counts, counts_at};
 
-use crate::limited::Limited;
+use crate::allowance::Allowance;
+use pool_arena::Arena;
 use tree_links::Tree;
 use tree_specs::{Obj, Owner};
 
-/// So many bytes came to be inside an object, or are no more.
+/// So many bytes inside an object are no more, and then so many came to be there.
 #[derive(Clone, Copy, Debug)]
-pub enum Change {
-    More(u64),
-    Less(u64),
+pub(crate) struct Change {
+    pub less: u64,
+    pub more: u64,
 }
 
 impl Change {
     fn summed(self, sum: u64) -> u64
         ensures { result ≡ summed self sum }
     {
-        match self {
-            Change::More(weight) => sum.saturating_add(weight),
-            Change::Less(weight) => sum.saturating_sub(weight),
-        }
-    }
-
-    fn counted(self, x: Obj, limited: Limited) -> Limited
-        ensures { result ≡ counts_at self x limited }
-    {
-        if limited.object.0 != x.0 {
-            return limited;
-        }
-        let sum = self.summed(limited.sum);
-        Limited { sum, ..limited }
+        sum.saturating_sub(self.less).saturating_add(self.more)
     }
 
     // What an object counts, where it has a limit.
-    fn count_at(self, x: Obj, all: &mut Vec<Limited>)
-        ensures items { all.new.items ≡ map (counts_at self x) all.old.items }
-        ensures capacity { vec_capacity all.new ≡ vec_capacity all.old }
+    fn count_at(self, x: Obj, all: &mut Arena<Allowance>)
+        ensures limited { listed all.new.pairs ≡ map (counts_at self x) (listed all.old.pairs) }
+        ensures spare { all.new.spare ≡ all.old.spare }
     {
-        for limited in all.iter_mut() {
-            *limited = self.counted(x, *limited);
+        if let Some(allowance) = all.get_mut(x.0) {
+            allowance.sum = self.summed(allowance.sum);
         }
     }
 
-    /// All objects that an owner is inside of count so many bytes more, or less. It walks up from the owner.
-    pub fn count_above(self, tree: &Tree, owner: Owner, all: &mut Vec<Limited>)
-        ensures items { all.new.items ≡ map (counts self tree.now.rows owner) all.old.items }
-        ensures capacity { vec_capacity all.new ≡ vec_capacity all.old }
+    /// All objects with a limit that an object is inside of count it, itself included. It walks up from the object.
+    pub fn count_above(self, tree: &Tree, x: Obj, all: &mut Arena<Allowance>)
+        ensures limited { listed all.new.pairs ≡ map (counts self tree.now.rows (At x)) (listed all.old.pairs) }
+        ensures spare { all.new.spare ≡ all.old.spare }
     {
-        let mut at = owner;
+        let mut at = Owner::Of(x);
         let mut steps = tree.len() + 1;
         while steps > 0 {
             let Owner::Of(x) = at else {

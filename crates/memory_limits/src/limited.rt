@@ -1,6 +1,6 @@
 use tree_specs::Obj;
 
-/// An object with a limit.
+/// An object with a limit, as contracts see it.
 #[derive(Clone, Copy, Debug, PartialEq, Eq)]
 pub struct Limited {
     pub object: Obj,

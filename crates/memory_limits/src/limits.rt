@@ -1,25 +1,21 @@
-ghost use Rattle.std.specs.Prelude.{◌≡◌, ◌+◌, ◌&&◌, nat_lt};
+ghost use Rattle.std.specs.Prelude.{◌≡◌};
 
+use crate::allowance::Allowance;
 use crate::change::Change;
-use crate::limited::Limited;
+use pool_arena::Arena;
 use std::alloc::Global;
 use std::marker::Model;
 use tree_links::Tree;
 use tree_report::sum;
 use tree_specs::{Memory, Obj, Owner, Refusal};
 
-/// Whether there is a limit, and it has no room for so many bytes beside this sum.
-fn lacks(limit: u64, sum: u64, wanted: u64) -> bool
-    ensures { result ≡ (nat_lt 0 limit && nat_lt limit (sum + wanted)) }
-{
-    limit != 0 && (sum > limit || limit - sum < wanted)
-}
-
 /// The objects with a limit, and what is inside each of them (`talloc_set_memlimit`). Contracts see the list of them,
-/// and spare. The sums are those of a tree as long as each placing, leaving, removal and change of size is told.
+/// in the order of their numbers, and spare. The sums are those of a tree as long as each placing, leaving, removal and
+/// change of size is told. An object is looked up in the same time however many have a limit, and where none has one
+/// nothing is done.
 #[derive(Debug, Drop)]
 pub struct Sums {
-    limited: Vec<Limited>,
+    limited: Arena<Allowance>,
 }
 
 impl Model for Sums {
@@ -27,32 +23,31 @@ impl Model for Sums {
 
     ghost Value = { Limits };
 
-    ghost use Rattle.std.specs.Prelude.{◌-◌, length, vec_capacity};
+    ghost use Rattle.memory_limits.specs.Limits.{listed};
 
-    ghost view = { λ s. record { limited = s.limited.items; spare = vec_capacity s.limited - length s.limited.items } };
+    ghost view = { λ s. record { limited = listed s.limited.pairs; spare = s.limited.spare } };
 }
 
 impl Sums {
-    ghost use Rattle.std.specs.Prelude.{◌≤◌, ◌<◌, List, [], OnOk, true, false, if◌then◌else◌};
-    ghost use Rattle.std.specs.List.{find as find_by};
+    ghost use Rattle.std.specs.Prelude.{◌≤◌, ◌<◌, ◌↔◌, IsTrue, List, [], OnOk, true, false, if◌then◌else◌};
     ghost use Rattle.std.specs.Option.{option_map};
     ghost use Rattle.tree_specs.specs.declared.object.Obj.{Obj as ObjData};
     ghost use Rattle.tree_specs.specs.Objects.{same};
     ghost use Rattle.tree_specs.specs.Calls.{checked, over, fits as fitting, is_plain_row};
-    ghost use Rattle.tree_specs.specs.Sums.{sum_inside};
+    ghost use Rattle.tree_specs.specs.Sums.{sum_inside, limit_at};
     ghost use Rattle.tree_links.specs.Links.{pool_of};
     ghost use Rattle.tree_specs.specs.Forest.{IsForest};
     ghost use Rattle.tree_specs.specs.declared.row.Row.{Row as RowData};
     ghost use Rattle.tree_specs.specs.declared.object.Owner.TheVariants.{Of as At};
     ghost use Rattle.tree_specs.specs.Pool.{row_of, is_row, is_inside, without, changed, left_row, owned_row, sized_row};
-    ghost use Rattle.memory_limits.specs.Limits.{AllSums, AllBound, AllOutside, SameBounds, HasLeft, AreLimitsOf, limit_of, unlimited};
+    ghost use Rattle.memory_limits.specs.Limits.{AllSums, AllBound, SameBounds, HasLeft, AreLimitsOf, limit_of, limited_at, found, nearest_limited, unlimited};
 
     /// No limits. It takes no memory.
     pub fn new(alloc: Global) -> Sums
         ensures { result.limited ≡ [] }
     {
         Sums {
-            limited: Vec::new(alloc),
+            limited: Arena::new(alloc),
         }
     }
 
@@ -66,29 +61,35 @@ impl Sums {
         Ok(())
     }
 
-    // Whether an owner is inside of an object with a limit.
-    fn are_above(&self, tree: &Tree, owner: Owner) -> bool
-        ensures { result ≡ false → AllOutside tree.now.rows owner self.now.limited }
+    fn is_empty(&self) -> bool
+        ensures { IsTrue result ↔ (self.now.limited ≡ []) }
     {
-        if self.limited.is_empty() {
-            return false;
-        }
+        self.limited.len() == 0
+    }
+
+    fn find(&self, x: Obj) -> Option<Allowance>
+        ensures { option_map (limited_at x.0) result ≡ found self.now.limited x }
+    {
+        self.limited.get(x.0).copied()
+    }
+
+    // The nearest object with a limit from an owner upward, the owner included.
+    fn nearest(&self, tree: &Tree, owner: Owner) -> Option<Obj>
+        ensures { result ≡ nearest_limited self.now.limited tree.now.rows owner }
+    {
         let mut at = owner;
         let mut steps = tree.len() + 1;
         while steps > 0 {
             let Owner::Of(x) = at else {
-                return false;
+                return None;
             };
             if self.find(x).is_some() {
-                return true;
+                return Some(x);
             }
-            let Some(next) = tree.parent(x) else {
-                return false;
-            };
-            at = next;
+            at = tree.parent(x)?;
             steps -= 1;
         }
-        true
+        None
     }
 
     /// An object came below its owner, with all that is inside it.
@@ -98,16 +99,19 @@ impl Sums {
         ensures bounds { SameBounds self.old.limited self.new.limited }
         ensures spare { self.new.spare ≡ self.old.spare }
     {
+        if self.is_empty() {
+            return;
+        }
         // All that is wanted of `len` is its contract: the objects are a forest, and small.
         let _rows = tree.len();
         let Some(owner) = tree.parent(x) else {
             return;
         };
-        if !self.are_above(tree, owner) {
+        let Some(nearest) = self.nearest(tree, owner) else {
             return;
-        }
-        let weight = sum(tree, Owner::Of(x));
-        Change::More(weight).count_above(tree, owner, &mut self.limited);
+        };
+        let more = sum(tree, Owner::Of(x));
+        Change { less: 0, more }.count_above(tree, nearest, &mut self.limited);
     }
 
     /// An object has left an owner that isn't inside it, with all that is inside it, to another owner or to none.
@@ -119,13 +123,16 @@ impl Sums {
         ensures bounds { SameBounds self.old.limited self.new.limited }
         ensures spare { self.new.spare ≡ self.old.spare }
     {
-        // All that is wanted of `len` is its contract: the objects are a forest, and small.
-        let _rows = tree.len();
-        if !self.are_above(tree, from) {
+        if self.is_empty() {
             return;
         }
-        let weight = sum(tree, Owner::Of(x));
-        Change::Less(weight).count_above(tree, from, &mut self.limited);
+        // All that is wanted of `len` is its contract: the objects are a forest, and small.
+        let _rows = tree.len();
+        let Some(nearest) = self.nearest(tree, from) else {
+            return;
+        };
+        let less = sum(tree, Owner::Of(x));
+        Change { less, more: 0 }.count_above(tree, nearest, &mut self.limited);
     }
 
     /// A plain object had this size before, in bytes.
@@ -136,11 +143,13 @@ impl Sums {
         ensures bounds { SameBounds self.old.limited self.new.limited }
         ensures spare { self.new.spare ≡ self.old.spare }
     {
+        if self.is_empty() {
+            return;
+        }
         // All that is wanted of `len` is its contract: the objects are small.
         let _rows = tree.len();
-        let size = tree.size(x);
-        Change::Less(before).count_above(tree, Owner::Of(x), &mut self.limited);
-        Change::More(size).count_above(tree, Owner::Of(x), &mut self.limited);
+        let (less, more) = (before, tree.size(x));
+        Change { less, more }.count_above(tree, x, &mut self.limited);
     }
 
     /// An object has no limit any more, or is no more. Where it had left its owner, or is a reference, the sums are then
@@ -150,7 +159,10 @@ impl Sums {
         ensures sums { (rows : List RowData) → IsForest rows → is_row rows x ≡ true → HasLeft rows x → AllSums self.old.limited rows → AllSums self.new.limited (without rows x) }
         ensures kept { self.old.spare ≤ self.new.spare }
     {
-        self.limited.retain(|limited| limited.object.0 != x.0);
+        if self.is_empty() {
+            return;
+        }
+        self.limited.take(x.0);
     }
 
     /// An object gets a limit in bytes, where 0 is none. It takes no memory.
@@ -161,22 +173,13 @@ impl Sums {
         ensures sums { AllSums self.new.limited tree.now.rows }
         ensures bound { AllBound self.old.limited → AllBound self.new.limited }
     {
-        self.gone(x);
         if max == 0 {
+            self.gone(x);
             return;
         }
-        self.limited.push_reserved(Limited {
-            object: x,
-            limit: max,
-            sum: sum(tree, Owner::Of(x)),
-        });
-    }
-
-    fn find(&self, x: Obj) -> Option<Limited>
-        ensures { result ≡ option_map (λ l. l) (find_by (λ l. same l.object x) self.now.limited) }
-    {
-        let found = self.limited.iter().find(|limited| limited.object.0 == x.0)?;
-        Some(*found)
+        let sum = self.sum(tree, Owner::Of(x));
+        self.gone(x);
+        self.limited.add(x.0, Allowance { limit: max, sum });
     }
 
     /// What the objects inside an owner count, in bytes: each its size and 96 more, a reference nothing. It is kept for
@@ -189,25 +192,29 @@ impl Sums {
             return sum(tree, owner);
         };
         match self.find(x) {
-            Some(limited) => limited.sum,
+            Some(allowance) => allowance.sum,
             None => sum(tree, owner),
         }
     }
 
-    /// Whether an object has room for so many more bytes inside it.
-    fn check_one(&self, x: Obj, wanted: u64, _tree: &Tree) -> Result<(), Refusal>
-        requires { AreLimitsOf self.now.limited _tree.now.rows }
+    /// Whether an object, whose row has this limit, has room for so many more bytes inside it.
+    fn check_one(&self, x: Obj, limit: u64, wanted: u64, _tree: &Tree) -> Result<(), Refusal>
+        requires limits { AreLimitsOf self.now.limited _tree.now.rows }
+        requires limit { limit ≡ limit_at _tree.now.rows x }
         ensures { result ≡ checked (over _tree.now.rows wanted x) }
     {
-        let Some(Limited { limit, sum, .. }) = self.find(x) else {
+        if limit == 0 {
+            return Ok(());
+        }
+        let Some(allowance) = self.find(x) else {
             return Ok(());
         };
-        if !lacks(limit, sum, wanted) {
+        if !allowance.lacks(wanted) {
             return Ok(());
         }
         Err(Refusal::OverLimit {
             row: x,
-            sum,
+            sum: allowance.sum,
             wanted,
             limit,
         })
@@ -220,7 +227,7 @@ impl Sums {
         requires { AreLimitsOf self.now.limited tree.now.rows }
         ensures { result ≡ checked (fitting (pool_of tree.now) owner wanted) }
     {
-        if self.limited.is_empty() {
+        if self.is_empty() {
             return Ok(());
         }
         let mut at = owner;
@@ -229,8 +236,11 @@ impl Sums {
             let Owner::Of(x) = at else {
                 return Ok(());
             };
-            self.check_one(x, wanted, tree)?;
-            let Some(next) = tree.parent(x) else {
+            let Some(row) = tree.row(x) else {
+                return Ok(());
+            };
+            self.check_one(x, row.limit, wanted, tree)?;
+            let Some(next) = row.owner else {
                 return Ok(());
             };
             at = next;

@@ -1,5 +1,10 @@
+pub mod Children
 pub mod Finding
 pub mod Order
 pub mod Rows
 pub mod Adding
 pub mod SameRefs
+pub mod Passing
+pub mod Lanes
+pub mod Listing
+pub mod Linking

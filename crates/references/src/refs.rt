@@ -1,8 +1,13 @@
 ghost use Rattle.std.specs.Prelude.{◌≡◌};
-ghost use Rattle.tree_specs.specs.Objects.{same};
+ghost use Rattle.std.specs.Option.{option_map};
+ghost use Rattle.tree_specs.specs.Targets.{newer as newer_of};
+ghost use Rattle.references.specs.Linked.{numbered, with_ref};
 
+use crate::head::{Head, count, join, leave, newest};
+use crate::node::{Node, set_newer, set_older};
+use linked_lanes::Sides;
+use pool_arena::Arena;
 use std::alloc::Global;
-use std::collections::VecDeque;
 use std::marker::Model;
 use tree_links::Tree;
 use tree_specs::{Memory, Obj, Owner};
@@ -10,40 +15,53 @@ use tree_specs::{Memory, Obj, Owner};
 /// A reference, and the object that it refers to.
 #[derive(Clone, Copy, Debug, PartialEq, Eq)]
 pub struct Pair {
+    /// The reference, which is an object of its own.
     pub reference: Obj,
+    /// The object that it refers to.
     pub target: Obj,
-}
-
-impl Pair {
-    ghost use Rattle.std.specs.Prelude.{◌≡◌, nat_lt, ◌&&◌};
-    ghost use Rattle.tree_specs.specs.Objects.{same};
-
-    /// Whether it refers to this target, and is older than this reference.
-    fn is_below(&self, reference: Obj, target: Obj) -> bool
-        ensures { result ≡ (same self.now.target target && nat_lt self.now.reference.0 reference.0) }
-    {
-        self.target.0 == target.0 && self.reference.0 < reference.0
-    }
 }
 
 /// The references that there are. Contracts see the list of pairs, the greatest reference first, and spare: so many
 /// can be added without taking memory. There are at most 4,294,967,295.
 #[derive(Debug, Drop)]
 pub struct Refs {
-    pairs: VecDeque<Pair>,
+    /// Under the numbers of the references.
+    nodes: Arena<Node>,
+    /// Under the numbers of the objects that have references.
+    heads: Arena<Head>,
 }
 
 impl Model for Refs {
-    ghost use Rattle.references.specs.Pairs.{Pairs, ArePairs};
+    ghost use Rattle.references.specs.Pairs.{Pairs};
 
     ghost Value = { Pairs };
 
-    ghost use Rattle.std.specs.Prelude.{◌-◌};
-    ghost use Rattle.std.specs.VecDeque.{deque_len, deque_capacity};
+    ghost use Rattle.std.specs.Prelude.{min};
+    ghost use Rattle.references.specs.Linked.{pairs_in, IsLinked};
 
-    ghost view = { λ r. record { pairs = r.pairs.items; spare = deque_capacity r.pairs - deque_len r.pairs } };
+    ghost view = { λ r. record { pairs = pairs_in r.nodes.pairs; spare = min r.nodes.spare r.heads.spare } };
 
-    ghost invariant = { λ r. ArePairs r.pairs.items };
+    ghost invariant = { λ r. IsLinked r.nodes.pairs r.heads.pairs };
+}
+
+// The object of this number, where there is one.
+fn obj(number: Option<u64>) -> Option<Obj>
+    ensures { result ≡ option_map numbered number }
+{
+    match number {
+        None => None,
+        Some(n) => Some(Obj(n)),
+    }
+}
+
+// The newer of a reference and another one, where there is one.
+fn newer(reference: Obj, other: Option<Obj>) -> Option<Obj>
+    ensures { result ≡ newer_of reference other }
+{
+    match other {
+        Some(x) if reference.0 < x.0 => Some(x),
+        _ => Some(reference),
+    }
 }
 
 impl Refs {
@@ -54,8 +72,8 @@ impl Refs {
     ghost use Rattle.tree_specs.specs.Reports.{count_refs};
     ghost use Rattle.tree_specs.specs.Targets.{newest_ref};
     ghost use Rattle.tree_specs.specs.Pool.{newest_ref_of};
-    ghost use Rattle.references.specs.Rows.{AreRefsOf, RefersTo, first_such, owned_by};
-    ghost use Rattle.references.specs.Found.{StandsAt, StandsNowhere};
+    ghost use Rattle.tree_specs.specs.Forest.{Distinct};
+    ghost use Rattle.references.specs.Rows.{AreRefsOf, RefersTo};
     ghost use Rattle.references.specs.Pairs.{pair, ArePairs, IsAbove, count_to, first_to, first_below, next_to, target_of, without, most};
 
     /// No references. It takes no memory.
@@ -63,7 +81,8 @@ impl Refs {
         ensures { result.pairs ≡ [] }
     {
         Refs {
-            pairs: VecDeque::new(alloc),
+            nodes: Arena::new(alloc),
+            heads: Arena::new(alloc),
         }
     }
 
@@ -73,7 +92,8 @@ impl Refs {
         ensures spare { OnOk result (more ≤ self.new.spare) }
         ensures kept { self.old.spare ≤ self.new.spare }
     {
-        self.pairs.reserve(more)?;
+        self.nodes.reserve(more)?;
+        self.heads.reserve(more)?;
         Ok(())
     }
 
@@ -85,21 +105,16 @@ impl Refs {
         ensures pairs { self.new.pairs ≡ pair reference target ∷ self.old.pairs }
         ensures spare { self.old.spare ≤ self.new.spare + 1 }
     {
-        self.pairs.push_front_reserved(Pair { reference, target });
-    }
-
-    fn index_of(&self, reference: Obj) -> Option<usize>
-        ensures { result ≡ position (λ p. same p.reference reference) self.now.pairs }
-    {
-        self.pairs.iter().position(|p| p.reference.0 == reference.0)
-    }
-
-    fn find(&self, reference: Obj) -> Option<usize>
-        ensures { MatchOption result (StandsNowhere self.now.pairs reference) (λ i. StandsAt self.now.pairs reference i) }
-    {
-        // The list descends, which is known where it is used.
-        let _ = &self.pairs;
-        self.index_of(reference)
+        let older = join(&mut self.heads, target.0, reference.0);
+        set_newer(&mut self.nodes, older, Some(reference.0));
+        let sides = Sides { newer: None, older };
+        self.nodes.add(
+            reference.0,
+            Node {
+                target: target.0,
+                sides,
+            },
+        );
     }
 
     /// Drops a reference, and gives its target. None exactly where there is no such reference. It takes no memory.
@@ -108,17 +123,21 @@ impl Refs {
         ensures pairs { self.new.pairs ≡ without self.old.pairs reference }
         ensures spare { self.old.spare ≤ self.new.spare }
     {
-        let i = self.find(reference)?;
-        let pair = self.pairs.remove(i)?;
-        Some(pair.target)
+        let Node { target, sides } = self.nodes.take(reference.0)?;
+        leave(&mut self.heads, target, sides);
+        set_older(&mut self.nodes, sides.newer, sides.older);
+        set_newer(&mut self.nodes, sides.older, sides.newer);
+        Some(Obj(target))
     }
 
     /// The target of a reference. None exactly where there is no such reference.
     pub fn target(&self, reference: Obj) -> Option<Obj>
         ensures { result ≡ target_of self.now.pairs reference }
     {
-        let found = self.pairs.iter().find(|p| p.reference.0 == reference.0)?;
-        Some(found.target)
+        match self.nodes.get(reference.0) {
+            None => None,
+            Some(node) => Some(Obj(node.target)),
+        }
     }
 
     /// The newest reference to an object. None exactly where there is none.
@@ -126,8 +145,7 @@ impl Refs {
         ensures first { result ≡ first_to self.now.pairs target }
         ensures sound { ArePairs self.now.pairs }
     {
-        let found = self.pairs.iter().find(|p| p.target.0 == target.0)?;
-        Some(found.reference)
+        obj(newest(&self.heads, target.0))
     }
 
     /// The newest reference to an object. None exactly where there is none. The references are those among the rows.
@@ -141,18 +159,48 @@ impl Refs {
         self.first_ref(target)
     }
 
-    // The newest reference to an object that an owner has, among the pairs.
-    fn first_owned(&self, tree: &Tree, owner: Owner, target: Obj) -> Option<Obj>
-        ensures first { result ≡ first_such (owned_by tree.now.rows owner target) self.now.pairs }
-        ensures sound { ArePairs self.now.pairs }
+    // The newer of a child and those before it, where the child refers to the object.
+    fn with_child(&self, child: Obj, newest: Option<Obj>, target: Obj) -> Option<Obj>
+        ensures { result ≡ with_ref self.now.pairs target child newest }
     {
-        let found = self.pairs.iter().find(|p| p.target.0 == target.0
-            && tree.owns(owner, p.reference))?;
-        Some(found.reference)
+        match self.target(child) {
+            Some(x) if x.0 == target.0 => newer(child, newest),
+            _ => newest,
+        }
+    }
+
+    // The newest reference to an object that an owner has. An object may have very many references, and an owner very
+    // many children: so both are gone through, one of each in turn, until either ends.
+    fn first_owned(&self, tree: &Tree, owner: Owner, target: Obj) -> Option<Obj>
+        requires refs { AreRefsOf self.now.pairs tree.now.rows }
+        requires distinct { Distinct tree.now.rows }
+        ensures { result ≡ newest_ref_of tree.now.rows owner target }
+    {
+        let mut at = self.first_ref(target);
+        let mut left = self.count_refs(target);
+        let mut child = tree.first_kid(owner);
+        let mut newest = None;
+        while left > 0 {
+            left -= 1;
+            let Some(reference) = at else {
+                return None;
+            };
+            if tree.owns(owner, reference) {
+                return Some(reference);
+            }
+            at = self.next_ref(reference);
+            let Some(kid) = child else {
+                return newest;
+            };
+            newest = self.with_child(kid, newest, target);
+            child = tree.next_kid(kid);
+        }
+        None
     }
 
     /// The newest reference to an object that an owner has. None exactly where it has none. The references are those
-    /// among the rows.
+    /// among the rows. It goes through the references to the object and the children of the owner side by side, and ends
+    /// with whichever ends first.
     pub fn newest_of(&self, tree: &Tree, owner: Owner, target: Obj) -> Option<Obj>
         requires { AreRefsOf self.now.pairs tree.now.rows }
         ensures newest { result ≡ newest_ref_of tree.now.rows owner target }
@@ -163,20 +211,15 @@ impl Refs {
         self.first_owned(tree, owner, target)
     }
 
-    // The newest one of those to an object that are older than this one.
-    fn first_below(&self, reference: Obj, target: Obj) -> Option<Obj>
-        ensures { result ≡ first_below self.now.pairs reference (Some target) }
-    {
-        let found = self.pairs.iter().find(|p| p.is_below(reference, target))?;
-        Some(found.reference)
-    }
-
     /// The newest reference to the same object that is older than this one. None exactly where there is none, or no
     /// such reference as this one.
     pub fn next_ref(&self, reference: Obj) -> Option<Obj>
         ensures { result ≡ next_to self.now.pairs reference }
     {
-        self.first_below(reference, self.target(reference)?)
+        match self.nodes.get(reference.0) {
+            None => None,
+            Some(node) => obj(node.sides.older),
+        }
     }
 
     /// How many references there are to an object.
@@ -184,8 +227,7 @@ impl Refs {
         ensures count { result ≡ count_to self.now.pairs target }
         ensures sound { ArePairs self.now.pairs }
     {
-        let count = self.pairs.iter().filter(|p| p.target.0 == target.0).count();
-        count as u32
+        count(&self.heads, target.0)
     }
 
     /// How many references there are to an object. The references are those among the rows.

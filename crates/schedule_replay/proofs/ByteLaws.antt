@@ -1,6 +1,6 @@
--- Replaying byte by byte.
-use Rattle.std.proofs.Common.{◌≡◌, ◌≢◌, ℕ, ◌+◌, ◌^◌, ◌-◌, ◌<◌, ◌≤◌, Bool, true, false, eqb, ltb, ◌||◌, List, [], ◌∷◌, ◌++◌, length, take, drop, get_or, Option, Some, None, Result, Ok, Err, refl, sym, ap, subst, ◌∙◌, append_assoc, arith, length-append, ◌⊎◌, inl, inr}
-use Rattle.std.proofs.lemmas.List.{append-nil, take-append-drop, take_more}
+-- Replaying piece by piece.
+use Rattle.std.proofs.Common.{◌≡◌, ◌≢◌, ℕ, ◌+◌, ◌^◌, ◌-◌, ◌<◌, ◌≤◌, Bool, true, false, eqb, ltb, ◌||◌, List, [], ◌∷◌, ◌++◌, length, Option, Some, None, Result, Ok, Err, refl, sym, ap, subst, ◌∙◌, append_assoc, arith, length-append, ◌⊎◌, inl, inr}
+use Rattle.std.proofs.lemmas.List.{append-nil}
 use Rattle.std.proofs.lemmas.Bool.{eqb-true}
 use Rattle.std.proofs.lemmas.Bool.Decides.{nat_tests}
 use Rattle.tree_specs.specs.declared.schedule.Reason.{Reason}
@@ -11,10 +11,11 @@ use Rattle.tree_specs.specs.View.{View}
 use Rattle.host_core.specs.Promises.{Waits}
 use Rattle.schedule_replay.specs.declared.refusal.LineError.{LineError}
 use Rattle.schedule_replay.specs.declared.refusal.LineError.TheVariants as errors
-use Rattle.schedule_replay.specs.Replays.{Replayed, with_front, replayed_from, ended_line, BeginsText, is_plain, has_no_lf}
+use Rattle.schedule_replay.specs.Replays.{Replayed, with_front, replayed_from, ended_line, BeginsText, has_no_lf}
 use Rattle.schedule_replay.specs.Readings.{Reading, from_line, with_more, refused_text, RefusesHere, LineDone, TakesLine, Advances, Takes, EndsFront, Finishes, IsReady}
+use Rattle.schedule_replay.specs.Cuts.{at_line}
 use Rattle.schedule_replay.proofs.TextLaws.{behind-behind, behind-nil, begins_behind}
-use Rattle.schedule_replay.proofs.LineLaws.{lines_ended, lines_from, lines_last, lines_some, plain_push}
+use Rattle.schedule_replay.proofs.LineLaws.{lines_ended, lines_from, lines_last, lines_some, plain_append}
 use Rattle.schedule_replay.proofs.ReplayLaws.{refuses, ends, cut-input, limit-input, from-first, from-later, header-refused, header-form, no-lines, no-header}
 use Rattle.schedule_replay.proofs.StateLaws.{refused-first, refused-later}
 
@@ -54,6 +55,10 @@ breaks-line s t errors.Memory ready h = record {
   begins = λ bytes. rw (lines_ended s.line bytes ready.plain) (h.begins (lines bytes));
 }
 
+-- a line that stands whole in the piece, where none has begun
+pub here-ready : (s : Reading) (line : List ℕ) → IsReady s → has_no_lf line ≡ true → length line ≤ 262144 → s.number ≤ 2 ^ 32 - 1 → IsReady (at_line s line)
+here-ready s line ready plain short low = record { plain = plain; short = short; first = ready.first; last = ready.last; numbered = λ some. low; waits = ready.waits }
+
 -- ---- a refusal within a line
 
 pub refuses-piece : (s : Reading) (piece : List ℕ) (t : Reading) (why : Reason) (r : Result (Unit {0}) LineError) → RefusesHere s t why r
@@ -80,11 +85,15 @@ long-refused s w line ls lt = by_test (eqb s.number 1) refl
         let ne : s.number ≢ 1 = grind (arith, nat_tests) in
         from-later s.host s.number (line ∷ ls) ne ∙ refuses s.host w s.number line ls Limit (limit-input s.number (Some w.question) line (over s.number)) ∙ rw (refused-later s w ne) refl
 
-pub long-after : (s : Reading) (b : ℕ) (bytes : List ℕ) → IsReady s → is_plain b ≡ true → 262144 ≤ length s.line → with_more s (b ∷ bytes) ≡ record { text = Some (refused_text s); refused = Some (s.number, Limit) }
-long-after s b bytes ready other long =
-    let f = lines_from (s.line ++ b ∷ []) bytes (omega (arith, length-append s.line (b ∷ []))) (plain_push s.line b ready.plain other) in
-    let same : lines (s.line ++ b ∷ bytes) ≡ record { text = (s.line ++ b ∷ []) ++ f.0; ended = f.1 } ∷ f.2 = ap lines (sym (append_assoc s.line (b ∷ []) bytes)) ∙ f.3 in
-    rw same (long-refused s ready.waits (record { text = (s.line ++ b ∷ []) ++ f.0; ended = f.1 }) f.2 (omega (arith, length-append (s.line ++ b ∷ []) f.0, length-append s.line (b ∷ []))))
+pub long-run : (s : Reading) (run bytes : List ℕ) → IsReady s → has_no_lf run ≡ true → 262144 < length s.line + length run → with_more s (run ++ bytes) ≡ record { text = Some (refused_text s); refused = Some (s.number, Limit) }
+long-run s run bytes ready plain long =
+    let n = length-append s.line run in
+    let f = lines_from (s.line ++ run) bytes (omega (arith, n)) (plain_append s.line run ready.plain plain) in
+    let same : lines (s.line ++ (run ++ bytes)) ≡ record { text = (s.line ++ run) ++ f.0; ended = f.1 } ∷ f.2 = ap lines (sym (append_assoc s.line run bytes)) ∙ f.3 in
+    rw same (long-refused s ready.waits (record { text = (s.line ++ run) ++ f.0; ended = f.1 }) f.2 (omega (arith, length-append (s.line ++ run) f.0, n)))
+
+pub long-line : (s : Reading) (line bytes : List ℕ) → IsReady s → has_no_lf line ≡ true → 262144 < length line → with_more s ((line ++ 10 ∷ []) ++ bytes) ≡ record { text = Some (refused_text s); refused = Some (s.number, Limit) }
+long-line s line bytes ready plain long = ap (with_more s) (append_assoc line (10 ∷ []) bytes) ∙ long-run s line (10 ∷ bytes) ready plain (omega arith)
 
 -- a line past the limit of lines
 late-refused : (s : Reading) (w : Waits s.host) (line : Line) (ls : List Line) → 2 ^ 32 - 1 < s.number → replayed_from s.host s.number (line ∷ ls) ≡ record { text = Some (refused_text s); refused = Some (s.number, Limit) }
@@ -105,24 +114,35 @@ late-after s b bytes ready late = each s.line (λ some. let n = ready.numbered s
     each [] none = let f = lines_some b bytes in rw f.2 (late-refused s ready.waits f.0 f.1 late)
     each (x ∷ l) none = absurd (none (omega arith))
 
--- ---- a byte within a line
-
-pub adds-byte : (s t : Reading) (b : ℕ) → t.host ≡ s.host → t.number ≡ s.number → t.line ≡ s.line ++ b ∷ [] → t.text ≡ s.text → Advances s (b ∷ []) t
-adds-byte s t b host number line text = record {
-  whole = [];
-  cut = sym line;
-  written = [];
-  text = text ∙ sym (append-nil s.text);
-  goes_on = λ bytes. front-nil (from_line s bytes)
-      ∙ ap (λ (v : View). with_front [] (replayed_from v s.number (lines bytes))) (sym host)
-      ∙ ap (λ (n : ℕ). with_front [] (replayed_from t.host n (lines bytes))) (sym number);
-  begun = λ e. (sym number ∙ e, refl);
-}
+pub late-run : (s : Reading) (run bytes : List ℕ) → IsReady s → 0 < length run → 2 ^ 32 - 1 < s.number → with_more s (run ++ bytes) ≡ record { text = Some (refused_text s); refused = Some (s.number, Limit) }
+late-run s [] bytes ready some late = absurd (omega arith)
+late-run s (b ∷ run) bytes ready some late = late-after s b (run ++ bytes) ready late
 
 -- ---- piece after piece
 
+moved : (s : Reading) (line run p bytes : List ℕ) → line ≡ s.line ++ run → s.line ++ ((run ++ p) ++ bytes) ≡ line ++ (p ++ bytes)
+moved s line run p bytes e =
+    ap (λ (l : List ℕ). s.line ++ l) (append_assoc run p bytes) ∙ sym (append_assoc s.line run (p ++ bytes)) ∙ ap (λ (l : List ℕ). l ++ (p ++ bytes)) (sym e)
+
 pub advances-none : (s : Reading) → Advances s [] s
 advances-none s = record { whole = []; cut = append-nil s.line; written = []; text = sym (append-nil s.text); goes_on = λ bytes. front-nil (from_line s bytes); begun = λ e. (e, refl) }
+
+-- bytes are the same whether they have come of the line or still come
+pub onto : (s : Reading) (line run p : List ℕ) (t : Reading) (r : Result (Unit {0}) LineError) → line ≡ s.line ++ run → Takes (at_line s line) p t r → Takes s (run ++ p) t r
+onto s line run p t (Ok done) e a = record {
+  whole = a.whole;
+  cut = sym (append_assoc s.line run p) ∙ ap (λ (l : List ℕ). l ++ p) (sym e) ∙ a.cut;
+  written = a.written;
+  text = a.text;
+  goes_on = a.goes_on;
+  begun = a.begun;
+}
+onto s line run p t (Err (errors.Refused number reason)) e a = record { written = a.written; text = a.text; ends = λ bytes. ap (from_line s) (moved s line run p bytes e) ∙ a.ends bytes }
+onto s line run p t (Err errors.Memory) e a = record {
+  written = a.written;
+  text = a.text;
+  begins = λ bytes. subst (λ (l : List ℕ). BeginsText a.written (from_line s l).text) (sym (moved s line run p bytes e)) (a.begins bytes);
+}
 
 -- what is replayed after a piece
 pub after-piece : (s : Reading) (p : List ℕ) (t : Reading) (a : Advances s p t) (bytes : List ℕ) → with_more s (p ++ bytes) ≡ with_front a.written (with_more t bytes)
@@ -161,12 +181,32 @@ err-more s p q u errors.Memory h = record {
   begins = λ bytes. subst (λ (z : Replayed). BeginsText h.written z.text) (sym (ap (with_more s) (append_assoc p q bytes))) (h.begins (q ++ bytes));
 }
 
--- one byte more of a piece
-pub takes-more : (s : Reading) (piece : List ℕ) (i : ℕ) (t u : Reading) (r : Result (Unit {0}) LineError) → i < length piece → Advances s (take i piece) t → Takes t (get_or piece i 0 ∷ []) u r → Takes s (take (i + 1) piece) u r
-takes-more s piece i t u r lt a b = rw (take_more piece i 0 lt) (advances-then s (take i piece) t (get_or piece i 0 ∷ []) u r a b)
+-- what was taken of a piece, where this still comes
+pub record Fed (s : Reading) (piece : List ℕ) (t : Reading) (rest : List ℕ) : Type 0 where
+  pub taken : List ℕ
+  pub whole : piece ≡ taken ++ rest
+  pub advances : Advances s taken t
 
-pub err-whole : (s : Reading) (piece : List ℕ) (i : ℕ) (u : Reading) (e : LineError) → Takes s (take i piece) u (Err e) → Takes s piece u (Err e)
-err-whole s piece i u e h = subst (λ (p : List ℕ). Takes s p u (Err e)) (take-append-drop i piece) (err-more s (take i piece) (drop i piece) u e h)
+pub fed-none : (s : Reading) (piece : List ℕ) → Fed s piece s piece
+fed-none s piece = record { taken = []; whole = refl; advances = advances-none s }
+
+pub fed-last : (s : Reading) (piece : List ℕ) (t : Reading) (rest : List ℕ) (u : Reading) (r : Result (Unit {0}) LineError) → Fed s piece t rest → Takes t rest u r → Takes s piece u r
+fed-last s piece t rest u r f h = subst (λ (p : List ℕ). Takes s p u r) (sym f.whole) (advances-then s f.taken t rest u r f.advances h)
+
+-- the next line of it
+line-cut : (line after : List ℕ) → line ++ 10 ∷ after ≡ (line ++ 10 ∷ []) ++ after
+line-cut line after = sym (append_assoc line (10 ∷ []) after)
+
+pub fed-line : (s : Reading) (piece : List ℕ) (t : Reading) (rest line after : List ℕ) (u : Reading) → Fed s piece t rest → rest ≡ line ++ 10 ∷ after → Takes t (line ++ 10 ∷ []) u (Ok tt) → Fed s piece u after
+fed-line s piece t rest line after u f cut h = record {
+  taken = f.taken ++ (line ++ 10 ∷ []);
+  whole = f.whole ∙ ap (λ (l : List ℕ). f.taken ++ l) (cut ∙ line-cut line after) ∙ sym (append_assoc f.taken (line ++ 10 ∷ []) after);
+  advances = advances-then s f.taken t (line ++ 10 ∷ []) u (Ok tt) f.advances h;
+}
+
+pub fed-error : (s : Reading) (piece : List ℕ) (t : Reading) (rest line after : List ℕ) (u : Reading) (e : LineError) → Fed s piece t rest → rest ≡ line ++ 10 ∷ after → Takes t (line ++ 10 ∷ []) u (Err e) → Takes s piece u (Err e)
+fed-error s piece t rest line after u e f cut h =
+    fed-last s piece t rest u (Err e) f (subst (λ (p : List ℕ). Takes t p u (Err e)) (sym (cut ∙ line-cut line after)) (err-more t (line ++ 10 ∷ []) after u e h))
 
 -- ---- the end of the schedule
 

@@ -1,9 +1,11 @@
 -- Cutting bytes into lines.
-use Rattle.std.proofs.Common.{◌≡◌, ℕ, ◌<◌, Bool, true, false, cond, eqb, not, ◌&&◌, List, [], ◌∷◌, ◌++◌, length, refl, ap, subst, arith}
+use Rattle.std.proofs.Common.{◌≡◌, ℕ, zero, suc, ◌+◌, ◌<◌, Bool, true, false, cond, eqb, not, ◌&&◌, List, [], ◌∷◌, ◌++◌, length, take, drop, slice_index, Option, Some, None, refl, ap, subst, ◌∙◌, arith}
 use Rattle.std.specs.List.{slice_split, onto_first}
 use Rattle.std.proofs.lemmas.List.{append-nil}
 use Rattle.std.proofs.lemmas.Bool.{eqb-true}
 use Rattle.tree_specs.specs.Schedule.{Line, lines, lines_of_parts}
+use Rattle.memchr.specs.Find.{IsFirstByte, is_byte}
+use Rattle.schedule_replay.specs.Cuts.{EndsAt, EndsFirst}
 use Rattle.schedule_replay.specs.Replays.{has_no_lf, is_plain, ended_line}
 
 abbrev is_lf : ℕ → Bool
@@ -82,6 +84,34 @@ lines_some x rest = by_test (is_plain x) refl
     by_test true h = let f = lines_begun x [] rest (rw h refl) in (record { text = (x ∷ []) ++ f.0; ended = f.1 }, f.2, f.3)
     by_test false h = (ended_line [], lines rest, rw (not_plain x h) (lines_ended [] rest refl))
 
-pub plain_push : (l : List ℕ) (b : ℕ) → has_no_lf l ≡ true → is_plain b ≡ true → has_no_lf (l ++ b ∷ []) ≡ true
-plain_push [] b h p = rw p refl
-plain_push (x ∷ l) b h p = let q = plain_parts x (has_no_lf l) h in rw (q.0, plain_push l b q.1 p) refl
+pub plain_append : (l run : List ℕ) → has_no_lf l ≡ true → has_no_lf run ≡ true → has_no_lf (l ++ run) ≡ true
+plain_append [] run h p = p
+plain_append (x ∷ l) run h p = let q = plain_parts x (has_no_lf l) h in rw (q.0, plain_append l run q.1 p) refl
+
+-- ---- the first LF of some bytes
+
+not_true : (b : Bool) → (b ≡ true → ⊥) → b ≡ false
+not_true true h = absurd (h refl)
+not_true false h = refl
+
+plain_each : (bytes : List ℕ) → ((k : ℕ) → k < length bytes → is_lf (slice_index bytes k) ≡ false) → has_no_lf bytes ≡ true
+plain_each [] h = refl
+plain_each (x ∷ l) h = rw (h 0 (omega arith), plain_each l (λ k lt. h (suc k) (omega arith))) refl
+
+ends_at : (bytes : List ℕ) (n : ℕ) → n < length bytes → ((k : ℕ) → k < n → is_lf (slice_index bytes k) ≡ false) → is_lf (slice_index bytes n) ≡ true → EndsAt bytes n
+ends_at [] n lt before h = absurd (omega arith)
+ends_at (x ∷ l) zero lt before h = record { within = lt; plain = refl; cut = ap (λ (b : ℕ). b ∷ l) (eqb-true x 10 h) }
+ends_at (x ∷ l) (suc n) lt before h =
+    let e = ends_at l n (omega arith) (λ k a. before (suc k) (omega arith)) h in
+    record {
+      within = lt;
+      plain = rw (before 0 (omega arith), e.plain) refl;
+      cut = ap (λ (m : List ℕ). x ∷ m) e.cut ∙ ap (λ (m : ℕ). x ∷ (take n l ++ 10 ∷ drop m (x ∷ l))) (next n);
+    }
+  where
+    next : (m : ℕ) → suc (m + 1) ≡ suc m + 1
+    next m = omega arith
+
+pub ends_first : (bytes : List ℕ) (r : Option ℕ) → IsFirstByte (is_byte 10) bytes r → EndsFirst bytes r
+ends_first bytes None h = plain_each bytes (λ k lt. not_true (is_lf (slice_index bytes k)) (h k (omega arith) lt))
+ends_first bytes (Some n) h = ends_at bytes n h.0.high (λ k lt. not_true (is_lf (slice_index bytes k)) (h.0.before k (omega arith) lt)) h.1

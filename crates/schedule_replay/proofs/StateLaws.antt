@@ -1,5 +1,5 @@
 -- What the end of a line does to a replay.
-use Rattle.std.proofs.Common.{◌≡◌, ◌≢◌, ℕ, ◌+◌, ◌^◌, ◌-◌, ◌≤◌, true, false, eqb, List, [], ◌∷◌, ◌++◌, length, Option, Some, None, Result, Ok, Err, refl, sym, ap, subst, ◌∙◌, append_assoc, arith}
+use Rattle.std.proofs.Common.{◌≡◌, ◌≢◌, ℕ, ◌+◌, ◌^◌, ◌-◌, ◌≤◌, true, false, eqb, List, [], ◌∷◌, ◌++◌, length, take, Option, Some, None, Result, Ok, Err, refl, sym, ap, subst, ◌∙◌, append_assoc, arith}
 use Rattle.std.proofs.lemmas.List.{append-nil}
 use Rattle.std.proofs.lemmas.Bool.Decides.{nat_tests}
 use Rattle.tree_specs.specs.declared.question.Ask.{Ask}
@@ -76,6 +76,20 @@ refuses-misfit s t i r ready low ne e m refused =
 
 pub breaks-off : (s t : Reading) → t.text ≡ s.text → TakesLine s t (Err errors.Memory)
 breaks-off s t e = record { written = []; text = e ∙ sym (append-nil s.text); begins = λ rest. begins_nil _ }
+
+-- what was written is taken back
+take-front : (xs ys : List ℕ) → take (length xs) (xs ++ ys) ≡ xs
+take-front [] ys = refl
+take-front (x ∷ xs) ys = ap (λ (l : List ℕ). x ∷ l) (take-front xs ys)
+
+pub taken-back : (old asked now : List ℕ) (n : ℕ) → n ≡ length old → now ≡ old ++ asked → take n now ≡ old
+taken-back old asked now n e written = rw (e, written) (take-front old asked)
+
+-- where the host is as it was
+pub refused-same : (s u t : Reading) (why : Reason) (r : Result (Unit {0}) LineError) → u.host ≡ s.host → u.number ≡ s.number → u.text ≡ s.text → RefusesHere u t why r → RefusesHere s t why r
+refused-same s u t why (Ok done) host number text h = h
+refused-same s u t why (Err (errors.Refused line reason)) host number text h = rw (sym host, sym number, sym text) h
+refused-same s u t why (Err errors.Memory) host number text h = rw (sym host, sym number, sym text) h
 
 -- ---- the header
 

@@ -6,3 +6,4 @@ pub mod States
 pub mod Passes
 pub mod Runs
 pub mod Stories
+pub mod Cuts

@@ -1,18 +1,21 @@
-//! Reading a schedule, byte by byte.
-ghost use Rattle.std.specs.Prelude.{◌≡◌, ◌≢◌, ◌<◌, ◌≤◌, ◌+◌, ◌-◌, ◌*◌, ◌^◌, [], ◌∷◌, IfOk, OnOk, IsTrue, Some, length};
+//! Reading a schedule, piece by piece.
+ghost use Rattle.std.specs.Prelude.{◌≡◌, ◌≢◌, ◌<◌, ◌≤◌, ◌+◌, ◌-◌, ◌*◌, ◌^◌, [], ◌∷◌, ◌++◌, IfOk, OnOk, OnErr, IsTrue, Some, length};
 ghost use Rattle.tree_specs.specs.Written.{Writes};
 ghost use Rattle.tree_specs.specs.Text.{answered_text};
 ghost use Rattle.tree_specs.specs.View.{question_of};
 ghost use Rattle.tree_specs.specs.Soundness.{is_sound};
 ghost use Rattle.tree_specs.specs.Grammar.{input_of};
 ghost use Rattle.schedule_replay.specs.Questions.{answered_of};
+ghost use Rattle.schedule_replay.specs.Cuts.{EndsFirst};
 ghost use Rattle.host_core.specs.Promises.{Waits};
 
 use crate::refusal::LineError;
 use crate::telling::tell;
 use host_core::{Host, OfferFault};
+use memchr::memchr;
 use schedule_text::{read_header, read_line, write_answered, write_end};
 use std::alloc::Global;
+use std::mem;
 use text_forms::FormFault;
 use tree_specs::{Input, Memory, Reason};
 
@@ -22,15 +25,21 @@ const LINE_LIMIT: usize = 262_144;
 /// A schedule has at most so many lines.
 const LINES_LIMIT: u64 = 4_294_967_295;
 
-/// The line of the open question as one that is answered.
-fn answered(alloc: Global, host: &Host) -> Result<Vec<u8>, Memory>
-    ensures { IfOk result (λ text. text.items ≡ answered_of (question_of host.now)) }
+/// Writes the line of the open question as one that is answered.
+fn write_asked(host: &Host, text: &mut Vec<u8>) -> Result<(), Memory>
+    ensures { Writes text.old.items text.new.items result (answered_of (question_of host.now)) }
 {
-    let mut text = Vec::new(alloc);
-    if let Some(ask) = host.question() {
-        write_answered(ask, &mut text)?;
+    match host.question() {
+        Some(ask) => write_answered(ask, text),
+        None => Ok(()),
     }
-    Ok(text)
+}
+
+/// Where the first line of these bytes ends; None where none does.
+fn line_end(bytes: &[u8]) -> Option<usize>
+    ensures { EndsFirst bytes.now result }
+{
+    memchr(b'\n', bytes)
 }
 
 /// A replay in the midst of its schedule.
@@ -47,7 +56,9 @@ pub struct Replay {
 
 impl Replay {
     ghost use Rattle.schedule_replay.specs.States.{reading_of};
+    ghost use Rattle.schedule_replay.specs.Cuts.{at_line};
     ghost use Rattle.schedule_replay.specs.Readings.{fresh, IsReady, room_left, refused_text, RefusesHere, TakesLine, Takes, Finishes};
+    ghost use Rattle.schedule_replay.specs.Replays.{has_no_lf};
 
     /// A replay before its first byte.
     pub fn new(alloc: Global) -> Result<Replay, Memory>
@@ -66,6 +77,7 @@ impl Replay {
     fn end_transcript(&mut self) -> Result<(), Memory>
         ensures written { Writes self.old.text.items self.new.text.items result (refused_text (reading_of self.old)) }
         ensures number { self.new.number ≡ self.old.number }
+        ensures line { self.new.line ≡ self.old.line }
     {
         if self.number != 1
             && let Some(ask) = self.host.question()
@@ -79,6 +91,7 @@ impl Replay {
     fn refuse(&mut self, reason: Reason) -> Result<(), LineError>
         ensures refused { RefusesHere (reading_of self.old) (reading_of self.new) reason result }
         ensures number { self.new.number ≡ self.old.number }
+        ensures line { self.new.line ≡ self.old.line }
     {
         let line = self.number;
         self.end_transcript()?;
@@ -86,102 +99,169 @@ impl Replay {
     }
 
     /// Takes the first line, which is the header.
-    fn take_header(&mut self) -> Result<(), LineError>
-        requires ready { IsReady (reading_of self.old) }
+    fn take_header(&mut self, line: &[u8]) -> Result<(), LineError>
+        requires ready { IsReady (at_line (reading_of self.old) line.now) }
         requires first { self.old.number ≡ 1 }
-        ensures taken { TakesLine (reading_of self.old) (reading_of self.new) result }
+        ensures taken { TakesLine (at_line (reading_of self.old) line.now) (reading_of self.new) result }
         ensures number { self.new.number ≡ self.old.number }
+        ensures line { self.new.line ≡ self.old.line }
     {
-        if read_header(&self.line).is_err() {
+        if read_header(line).is_err() {
             return self.refuse(Reason::Form);
         }
         self.text.extend_from_slice(b"tv transcript 1\n")?;
         Ok(())
     }
 
-    /// Gives an input to the host, and writes what it tells.
-    fn answer(&mut self, input: Input) -> Result<(), LineError>
-        requires ready { IsReady (reading_of self.old) }
+    /// Writes the line of the open question as one that is answered, or nothing where memory is wanted.
+    fn write_question(&mut self) -> Result<(), Memory>
+        ensures text { OnOk result (self.new.text.items ≡ self.old.text.items ++ answered_of (question_of self.old.host)) }
+        ensures kept { OnErr result (self.new.text.items ≡ self.old.text.items) }
+        ensures host { self.new.host ≡ self.old.host }
+        ensures number { self.new.number ≡ self.old.number }
+        ensures line { self.new.line ≡ self.old.line }
+    {
+        let began = self.text.len();
+        let written = write_asked(&self.host, &mut self.text);
+        if written.is_err() {
+            self.text.truncate(began);
+        }
+        written
+    }
+
+    /// Gives an input, which the line spells, to the host, and writes what it tells.
+    fn answer(&mut self, line: &[u8], input: Input) -> Result<(), LineError>
+        requires ready { IsReady (at_line (reading_of self.old) line.now) }
         requires numbered { self.old.number ≤ 2 ^ 32 - 1 }
         requires later { self.old.number ≢ 1 }
-        requires spelled { input_of self.old.line.items ≡ Some input }
+        requires spelled { input_of line.now ≡ Some input }
         requires sound { IsTrue (is_sound input) }
-        ensures taken { TakesLine (reading_of self.old) (reading_of self.new) result }
+        ensures taken { TakesLine (at_line (reading_of self.old) line.now) (reading_of self.new) result }
         ensures number { self.new.number ≡ self.old.number }
+        ensures line { self.new.line ≡ self.old.line }
     {
-        let asked = answered(*self.text.allocator(), &self.host)?;
+        let began = self.text.len();
+        self.write_question()?;
         match self.host.offer(input) {
             Ok(()) => {
-                self.text.extend_from_slice(&asked)?;
                 tell(&mut self.host, &mut self.text)?;
                 Ok(())
             }
-            Err(OfferFault::NotAsked) => self.refuse(Reason::NotAsked),
-            Err(OfferFault::Memory) => Err(LineError::Memory),
+            Err(OfferFault::NotAsked) => {
+                self.text.truncate(began);
+                self.refuse(Reason::NotAsked)
+            }
+            Err(OfferFault::Memory) => {
+                self.text.truncate(began);
+                Err(LineError::Memory)
+            }
         }
     }
 
     /// Takes a line after the first.
-    fn take_input(&mut self) -> Result<(), LineError>
-        requires ready { IsReady (reading_of self.old) }
+    fn take_input(&mut self, line: &[u8]) -> Result<(), LineError>
+        requires ready { IsReady (at_line (reading_of self.old) line.now) }
         requires numbered { self.old.number ≤ 2 ^ 32 - 1 }
         requires later { self.old.number ≢ 1 }
-        ensures taken { TakesLine (reading_of self.old) (reading_of self.new) result }
+        ensures taken { TakesLine (at_line (reading_of self.old) line.now) (reading_of self.new) result }
         ensures number { self.new.number ≡ self.old.number }
+        ensures line { self.new.line ≡ self.old.line }
     {
-        match read_line(*self.line.allocator(), &self.line) {
-            Ok(input) => self.answer(input),
+        match read_line(*self.line.allocator(), line) {
+            Ok(input) => self.answer(line, input),
             Err(FormFault::NoForm) => self.refuse(Reason::Form),
             Err(FormFault::Memory) => Err(LineError::Memory),
         }
     }
 
     /// Takes a line that is whole.
-    fn take_line(&mut self) -> Result<(), LineError>
-        requires ready { IsReady (reading_of self.old) }
+    fn take_line(&mut self, line: &[u8]) -> Result<(), LineError>
+        requires ready { IsReady (at_line (reading_of self.old) line.now) }
         requires numbered { self.old.number ≤ 2 ^ 32 - 1 }
-        ensures taken { TakesLine (reading_of self.old) (reading_of self.new) result }
+        ensures taken { TakesLine (at_line (reading_of self.old) line.now) (reading_of self.new) result }
         ensures number { self.new.number ≡ self.old.number }
+        ensures line { self.new.line ≡ self.old.line }
     {
         if self.number == 1 {
-            self.take_header()
+            self.take_header(line)
         } else {
-            self.take_input()
+            self.take_input(line)
         }
     }
 
-    /// Takes the LF of a line.
-    fn end_line(&mut self) -> Result<(), LineError>
+    /// Takes bytes of the line that has begun.
+    fn lengthen(&mut self, run: &[u8]) -> Result<(), LineError>
         requires ready { IsReady (reading_of self.old) }
-        requires numbered { self.old.number ≤ 2 ^ 32 - 1 }
-        ensures taken { Takes (reading_of self.old) (10 ∷ []) (reading_of self.new) result }
+        requires plain { IsTrue (has_no_lf run.now) }
+        ensures taken { Takes (reading_of self.old) run.now (reading_of self.new) result }
         ensures ready { OnOk result (IsReady (reading_of self.new)) }
-        ensures progress { OnOk result (room_left (reading_of self.new) + 1 ≤ room_left (reading_of self.old)) }
+        ensures progress { OnOk result (room_left (reading_of self.new) + length run.now ≤ room_left (reading_of self.old)) }
     {
-        self.take_line()?;
-        self.line.clear();
-        self.number += 1;
+        if run.is_empty() {
+            return Ok(());
+        }
+        if self.number > LINES_LIMIT {
+            return self.refuse(Reason::Limit);
+        }
+        if run.len() > LINE_LIMIT - self.line.len() {
+            return self.refuse(Reason::Limit);
+        }
+        self.line.extend_from_slice(run)?;
         Ok(())
     }
 
-    /// Takes a byte.
-    fn push(&mut self, byte: u8) -> Result<(), LineError>
+    /// Takes the LF of the line that has begun.
+    fn end_line(&mut self) -> Result<(), LineError>
         requires { IsReady (reading_of self.old) }
-        ensures taken { Takes (reading_of self.old) (byte ∷ []) (reading_of self.new) result }
+        ensures taken { Takes (reading_of self.old) (10 ∷ []) (reading_of self.new) result }
         ensures ready { OnOk result (IsReady (reading_of self.new)) }
         ensures progress { OnOk result (room_left (reading_of self.new) + 1 ≤ room_left (reading_of self.old)) }
     {
         if self.number > LINES_LIMIT {
             return self.refuse(Reason::Limit);
         }
-        if byte == b'\n' {
-            return self.end_line();
-        }
-        if self.line.len() >= LINE_LIMIT {
+        let alloc = *self.line.allocator();
+        let line = mem::replace(&mut self.line, Vec::new(alloc));
+        self.take_line(&line)?;
+        self.line = line;
+        self.line.clear();
+        self.number += 1;
+        Ok(())
+    }
+
+    /// Takes a line that stands whole in the piece, where none has begun.
+    fn take_here(&mut self, line: &[u8]) -> Result<(), LineError>
+        requires ready { IsReady (reading_of self.old) }
+        requires none { self.old.line.items ≡ [] }
+        requires plain { IsTrue (has_no_lf line.now) }
+        ensures taken { Takes (reading_of self.old) (line.now ++ 10 ∷ []) (reading_of self.new) result }
+        ensures ready { OnOk result (IsReady (reading_of self.new)) }
+        ensures progress { OnOk result (room_left (reading_of self.new) + length line.now + 1 ≤ room_left (reading_of self.old)) }
+    {
+        if self.number > LINES_LIMIT {
             return self.refuse(Reason::Limit);
         }
-        self.line.push(byte)?;
+        if line.len() > LINE_LIMIT {
+            return self.refuse(Reason::Limit);
+        }
+        self.take_line(line)?;
+        self.number += 1;
         Ok(())
+    }
+
+    /// Takes the rest of a line, and its LF.
+    fn take_rest(&mut self, run: &[u8]) -> Result<(), LineError>
+        requires ready { IsReady (reading_of self.old) }
+        requires plain { IsTrue (has_no_lf run.now) }
+        ensures taken { Takes (reading_of self.old) (run.now ++ 10 ∷ []) (reading_of self.new) result }
+        ensures ready { OnOk result (IsReady (reading_of self.new)) }
+        ensures progress { OnOk result (room_left (reading_of self.new) + length run.now + 1 ≤ room_left (reading_of self.old)) }
+    {
+        if self.line.is_empty() {
+            return self.take_here(run);
+        }
+        self.lengthen(run)?;
+        self.end_line()
     }
 
     /// Takes the next bytes. What is to be written of them stands at the end of `text`, at an error too.
@@ -191,10 +271,12 @@ impl Replay {
         ensures ready { OnOk result (IsReady (reading_of self.new)) }
         ensures progress { OnOk result (room_left (reading_of self.new) + length piece.now ≤ room_left (reading_of self.old)) }
     {
-        for byte in piece {
-            self.push(*byte)?;
+        let mut rest = piece;
+        'lines: while let Some(end) = line_end(rest) {
+            self.take_rest(&rest[..end])?;
+            rest = &rest[end + 1..];
         }
-        Ok(())
+        self.lengthen(rest)
     }
 
     /// Takes the end of the schedule.

@@ -3,7 +3,7 @@ ghost use Rattle.std.specs.Prelude.{◌≡◌, ◌≢◌, ℕ, ◌≤◌, ◌+�
 ghost use Rattle.tree_specs.specs.Schedule.{judge};
 ghost use Rattle.outside.specs.Causes.{Rose, Counts};
 ghost use Rattle.outside.specs.Outputs.{PutsAll};
-ghost use Rattle.schedule_replay.specs.Readings.{IsReady, room_left};
+ghost use Rattle.schedule_replay.specs.Readings.{IsReady, room_left, fresh};
 ghost use Rattle.schedule_replay.specs.States.{reading_of};
 ghost use Rattle.schedule_replay.specs.Passes.{PassesPiece, PassesEnd};
 ghost use Rattle.schedule_replay.specs.Runs.{Replays, ran_of};
@@ -58,6 +58,28 @@ fn take_end<K: Sink>(replay: &mut Replay, out: &mut K) -> Result<(), ReplayError
     Ok(())
 }
 
+/// Reads a schedule to its end into a replay that begins, and writes its transcript.
+fn pass<S: Source, K: Sink>(
+    replay: &mut Replay,
+    input: &mut S,
+    out: &mut K,
+) -> Result<(), ReplayError>
+    requires fresh { reading_of replay.old ≡ fresh }
+    requires ready { IsReady (reading_of replay.old) }
+    ensures replays { IfSome (S.left input.old) (λ bytes. Replays bytes (S.left input.new) (K.held out.old) (K.held out.new) (ran_of result)) }
+    ensures reads { Counts (S.faults input.old) (S.faults input.new) (result ≡ Err ReplayError.Read) }
+    ensures writes { Counts (K.faults out.old) (K.faults out.new) (result ≡ Err ReplayError.Write) }
+{
+    let mut chunk = [0u8; 4096];
+    'reads: loop {
+        match input.read(&mut chunk) {
+            Got::Some(n) => take_piece(replay, &chunk[..n as usize], out)?,
+            Got::End => return take_end(replay, out),
+            Got::Failed => return Err(ReplayError::Read),
+        }
+    }
+}
+
 /// Reads a schedule to its end, and writes its transcript.
 fn run<S: Source, K: Sink>(alloc: Global, input: &mut S, out: &mut K) -> Result<(), ReplayError>
     ensures replays { IfSome (S.left input.old) (λ bytes. Replays bytes (S.left input.new) (K.held out.old) (K.held out.new) (ran_of result)) }
@@ -65,14 +87,7 @@ fn run<S: Source, K: Sink>(alloc: Global, input: &mut S, out: &mut K) -> Result<
     ensures writes { Counts (K.faults out.old) (K.faults out.new) (result ≡ Err ReplayError.Write) }
 {
     let mut replay = Replay::new(alloc)?;
-    let mut chunk = [0u8; 4096];
-    'reads: loop {
-        match input.read(&mut chunk) {
-            Got::Some(n) => take_piece(&mut replay, &chunk[..n as usize], out)?,
-            Got::End => return take_end(&mut replay, out),
-            Got::Failed => return Err(ReplayError::Read),
-        }
-    }
+    pass(&mut replay, input, out)
 }
 
 /// Replays the schedule that the source gives into its transcript, which goes to the sink piece by

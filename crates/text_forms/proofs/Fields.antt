@@ -40,10 +40,10 @@ has_read {A} {B} {read} {spell} {is_sound} field text after result e = by_cases 
 
 -- ---- numbers
 
-digit_is_unspaced : (b : ℕ) → is_ascii_digit b ≡ true → not (eqb b 32) ≡ true
+pub digit_is_unspaced : (b : ℕ) → is_ascii_digit b ≡ true → not (eqb b 32) ≡ true
 digit_is_unspaced b h = grind (arith, nat_tests)
 
-digits_are_unspaced : (ds : List ℕ) → all_ascii_digits ds ≡ true → is_unspaced ds ≡ true
+pub digits_are_unspaced : (ds : List ℕ) → all_ascii_digits ds ≡ true → is_unspaced ds ≡ true
 digits_are_unspaced [] h = refl
 digits_are_unspaced (d ∷ ds) h =
     let parts = and_true (is_ascii_digit d) (all_ascii_digits ds) h in

@@ -4,6 +4,8 @@ pub mod Numerals
 pub mod Words
 pub mod Fields
 pub mod Calls
+pub mod Cursor
+pub mod Verbs
 pub mod Pieces
 pub mod Writing
 pub mod Rows

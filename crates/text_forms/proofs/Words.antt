@@ -1,7 +1,9 @@
 -- Words with single spaces between them, as a list and as a text.
-use Rattle.std.proofs.Common.{◌≡◌, ℕ, Bool, true, eqb, not, List, [], ◌∷◌, ◌++◌, refl, ap, ◌∙◌}
+use Rattle.std.proofs.Common.{◌≡◌, ◌≢◌, ℕ, suc, Bool, true, eqb, not, List, [], ◌∷◌, ◌++◌, ◌<◌, ◌≤◌, ◌+◌, ◌-◌, length, take, drop, get_or, refl, sym, ap, ◌∙◌, arith}
 use Rattle.std.specs.List.{list_all, join_with_byte}
-use Rattle.std.proofs.lemmas.List.Splits.{join_with_byte-slice_split}
+use Rattle.std.proofs.lemmas.List.Splits.{join_with_byte-slice_split, length-slice_split}
+use Rattle.std.proofs.lemmas.List.{take-append-drop, take_rest, take_all}
+use Rattle.std.proofs.Math.Seq.{drop-cons}
 use Rattle.tree_specs.specs.Grammar.{words}
 use Rattle.text_forms.proofs.Bools.{and_true, not_true}
 
@@ -12,14 +14,14 @@ abbrev pub joined : List (List ℕ) → List ℕ
 joined ws = join_with_byte 32 ws
 
 -- a text with no space is its only word
-words_one : (word : List ℕ) → is_unspaced word ≡ true → words word ≡ word ∷ []
+pub words_one : (word : List ℕ) → is_unspaced word ≡ true → words word ≡ word ∷ []
 words_one [] h = refl
 words_one (b ∷ bs) h =
     let parts = and_true (not (eqb b 32)) (is_unspaced bs) h in
     rw (not_true (eqb b 32) parts.0, words_one bs parts.1) refl
 
 -- the first word ends at the first space
-words_more : (word rest : List ℕ) → is_unspaced word ≡ true → words (word ++ 32 ∷ rest) ≡ word ∷ words rest
+pub words_more : (word rest : List ℕ) → is_unspaced word ≡ true → words (word ++ 32 ∷ rest) ≡ word ∷ words rest
 words_more [] rest h = refl
 words_more (b ∷ bs) rest h =
     let parts = and_true (not (eqb b 32)) (is_unspaced bs) h in
@@ -33,3 +35,17 @@ words-joined word (next ∷ more) h =
 
 pub joined-words : (text : List ℕ) → joined (words text) ≡ text
 joined-words text = join_with_byte-slice_split 32 text
+
+-- all before this index is the first word, and a space stands at it
+pub word_ends : (text : List ℕ) (i : ℕ) → i < length text → is_unspaced (take i text) ≡ true → get_or text i 0 ≡ 32 → words text ≡ take i text ∷ words (take (length text - (i + 1)) (drop (i + 1) text))
+word_ends text i lt h space =
+    let next : suc i ≡ i + 1 = omega arith in
+    let parts : text ≡ take i text ++ 32 ∷ drop (i + 1) text = sym (take-append-drop i text) ∙ ap (λ (l : List ℕ). take i text ++ l) (drop-cons text i 0 lt ∙ ap (λ b. b ∷ drop (suc i) text) space ∙ ap (λ (j : ℕ). 32 ∷ drop j text) next) in
+    rw take_rest (ap words parts ∙ words_more (take i text) (drop (i + 1) text) h)
+
+pub word_is_all : (text : List ℕ) (i : ℕ) → length text ≤ i → is_unspaced (take i text) ≡ true → words text ≡ text ∷ []
+word_is_all text i le h = words_one text (sym (ap is_unspaced (take_all i text le)) ∙ h)
+
+-- there is always a first word
+pub has_words : (text : List ℕ) → words text ≢ []
+has_words text e = absurd (omega (arith, ap length e, length-slice_split (λ b. eqb b 32) text))

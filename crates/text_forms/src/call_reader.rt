@@ -1,133 +1,73 @@
-ghost use Rattle.std.specs.Prelude.{◌≡◌, ◌≢◌, map, IfOk, IsTrue, Err};
+ghost use Rattle.std.specs.Prelude.{◌≡◌, ◌≢◌, IfOk, IsTrue, Err};
 ghost use Rattle.tree_specs.specs.declared.call.Call.{Call};
-ghost use Rattle.tree_specs.specs.Grammar.{call_of, call_of_words, new_of, reparent_of, hook_of, rename_of};
+ghost use Rattle.tree_specs.specs.Grammar.{call_of};
 ghost use Rattle.tree_specs.specs.Soundness.{is_sound_call};
 ghost use Rattle.tree_specs.specs.Text.{call_text};
+ghost use Rattle.text_forms.specs.Cursor.{Takes};
 ghost use Rattle.text_forms.specs.Reads.{Reads};
+ghost use Rattle.text_forms.specs.Verbs.{fields_read};
 
-use crate::field::{
-    number, object, object_and_number, only_object, only_owner, owner, owner_and_object, routine,
-};
+use crate::field::{Fields, object_and_number, owner_and_object};
 use crate::form::FormFault;
-use crate::name::read_name;
-use crate::split::words_of;
+use crate::split::split_word;
+use crate::verb::Verb;
 use std::alloc::Global;
 use tree_specs::Call;
 
-#[tactic(auto, unfolding(tree_specs::specs::Grammar::new_of))]
-fn new_call(alloc: Global, fields: &[&[u8]]) -> Result<Call, FormFault>
-    ensures { Reads result (new_of (map (λ w. w.now) fields.now)) }
+// The call of this verb whose fields come next.
+#[tactic(auto, unfolding(crate::specs::Verbs::fields_read))]
+fn read_fields(alloc: Global, verb: Verb, fields: &mut Fields) -> Result<Call, FormFault>
+    ensures { Takes result (fields_read verb fields.old) fields.new }
 {
-    match fields {
-        [p, s, n] => {
-            let owner = owner(p)?;
-            let size = number(s)?;
-            let name = read_name(alloc, n)?;
-            Ok(Call::New { owner, size, name })
-        }
-        _ => Err(FormFault::NoForm),
-    }
-}
-
-#[tactic(auto, unfolding(tree_specs::specs::Grammar::reparent_of))]
-fn reparent_call(fields: &[&[u8]]) -> Result<Call, FormFault>
-    ensures { Reads result (reparent_of (map (λ w. w.now) fields.now)) }
-{
-    match fields {
-        [p, q, x] => {
-            let from = owner(p)?;
-            let to = owner(q)?;
-            let x = object(x)?;
-            Ok(Call::Reparent { from, to, x })
-        }
-        _ => Err(FormFault::NoForm),
-    }
-}
-
-#[tactic(auto, unfolding(tree_specs::specs::Grammar::hook_of))]
-fn hook_call(fields: &[&[u8]]) -> Result<Call, FormFault>
-    ensures { Reads result (hook_of (map (λ w. w.now) fields.now)) }
-{
-    match fields {
-        [x, r] => {
-            let x = object(x)?;
-            let routine = routine(r)?;
-            Ok(Call::Hook { x, routine })
-        }
-        _ => Err(FormFault::NoForm),
-    }
-}
-
-#[tactic(auto, unfolding(tree_specs::specs::Grammar::rename_of))]
-fn rename_call(alloc: Global, fields: &[&[u8]]) -> Result<Call, FormFault>
-    ensures { Reads result (rename_of (map (λ w. w.now) fields.now)) }
-{
-    match fields {
-        [x, n] => {
-            let x = object(x)?;
-            let name = read_name(alloc, n)?;
-            Ok(Call::Rename { x, name })
-        }
-        _ => Err(FormFault::NoForm),
-    }
-}
-
-// A call's verb decides how its fields are read.
-#[tactic(auto, unfolding(tree_specs::specs::Grammar::call_of_words, tree_specs::specs::Grammar::of_object, tree_specs::specs::Grammar::of_owner, tree_specs::specs::Grammar::placing_of, tree_specs::specs::Grammar::numbered_of))]
-fn call_from_words(alloc: Global, words: &[&[u8]]) -> Result<Call, FormFault>
-    ensures { Reads result (call_of_words (map (λ w. w.now) words.now)) }
-{
-    let Some((verb, fields)) = words.split_first() else {
-        return Err(FormFault::NoForm);
-    };
-    if *verb == b"new".as_slice() {
-        new_call(alloc, fields)
-    } else if *verb == b"free".as_slice() {
-        only_object(fields).map(|x| Call::Free { x })
-    } else if *verb == b"freekids".as_slice() {
-        only_object(fields).map(|x| Call::Freekids { x })
-    } else if *verb == b"steal".as_slice() {
-        owner_and_object(fields).map(|(owner, x)| Call::Steal { owner, x })
-    } else if *verb == b"move".as_slice() {
-        owner_and_object(fields).map(|(owner, x)| Call::Move { owner, x })
-    } else if *verb == b"reparent".as_slice() {
-        reparent_call(fields)
-    } else if *verb == b"reference".as_slice() {
-        owner_and_object(fields).map(|(owner, x)| Call::Reference { owner, x })
-    } else if *verb == b"unlink".as_slice() {
-        owner_and_object(fields).map(|(owner, x)| Call::Unlink { owner, x })
-    } else if *verb == b"hook".as_slice() {
-        hook_call(fields)
-    } else if *verb == b"unhook".as_slice() {
-        only_object(fields).map(|x| Call::Unhook { x })
-    } else if *verb == b"rename".as_slice() {
-        rename_call(alloc, fields)
-    } else if *verb == b"resize".as_slice() {
-        object_and_number(fields).map(|(x, size)| Call::Resize { x, size })
-    } else if *verb == b"limit".as_slice() {
-        object_and_number(fields).map(|(x, max)| Call::Limit { x, max })
-    } else if *verb == b"parent".as_slice() {
-        only_object(fields).map(|x| Call::Parent { x })
-    } else if *verb == b"total".as_slice() {
-        only_owner(fields).map(|owner| Call::Total { owner })
-    } else if *verb == b"count".as_slice() {
-        only_owner(fields).map(|owner| Call::Count { owner })
-    } else if *verb == b"sum".as_slice() {
-        only_owner(fields).map(|owner| Call::Sum { owner })
-    } else if *verb == b"report".as_slice() {
-        only_owner(fields).map(|owner| Call::Report { owner })
-    } else {
-        Err(FormFault::NoForm)
+    match verb {
+        Verb::New => Ok(Call::New {
+            owner: fields.owner()?,
+            size: fields.number()?,
+            name: fields.name(alloc)?,
+        }),
+        Verb::Free => fields.object().map(|x| Call::Free { x }),
+        Verb::Freekids => fields.object().map(|x| Call::Freekids { x }),
+        Verb::Steal => owner_and_object(fields).map(|(owner, x)| Call::Steal { owner, x }),
+        Verb::Move => owner_and_object(fields).map(|(owner, x)| Call::Move { owner, x }),
+        Verb::Reparent => Ok(Call::Reparent {
+            from: fields.owner()?,
+            to: fields.owner()?,
+            x: fields.object()?,
+        }),
+        Verb::Reference => owner_and_object(fields).map(|(owner, x)| Call::Reference { owner, x }),
+        Verb::Unlink => owner_and_object(fields).map(|(owner, x)| Call::Unlink { owner, x }),
+        Verb::Hook => Ok(Call::Hook {
+            x: fields.object()?,
+            routine: fields.routine()?,
+        }),
+        Verb::Unhook => fields.object().map(|x| Call::Unhook { x }),
+        Verb::Rename => Ok(Call::Rename {
+            x: fields.object()?,
+            name: fields.name(alloc)?,
+        }),
+        Verb::Resize => object_and_number(fields).map(|(x, size)| Call::Resize { x, size }),
+        Verb::Limit => object_and_number(fields).map(|(x, max)| Call::Limit { x, max }),
+        Verb::Parent => fields.object().map(|x| Call::Parent { x }),
+        Verb::Total => fields.owner().map(|owner| Call::Total { owner }),
+        Verb::Count => fields.owner().map(|owner| Call::Count { owner }),
+        Verb::Sum => fields.owner().map(|owner| Call::Sum { owner }),
+        Verb::Report => fields.owner().map(|owner| Call::Report { owner }),
     }
 }
 
 // The call that the text spells, as the grammar defines it.
-#[tactic(auto, unfolding(tree_specs::specs::Grammar::call_of))]
+#[tactic(auto, using(crate::proofs::Verbs::no_verb, crate::proofs::Verbs::no_fields, crate::proofs::Verbs::no_end, crate::proofs::Verbs::all_read))]
 fn call_value(alloc: Global, text: &[u8]) -> Result<Call, FormFault>
     ensures { Reads result (call_of text.now) }
 {
-    let words = words_of(alloc, text)?;
-    call_from_words(alloc, &words)
+    let (word, rest) = split_word(text);
+    let Some(verb) = Verb::from_word(word) else {
+        return Err(FormFault::NoForm);
+    };
+    let mut fields = Fields::make(rest);
+    let call = read_fields(alloc, verb, &mut fields)?;
+    fields.end()?;
+    Ok(call)
 }
 
 /// The call that the text spells: a verb and its fields, with single spaces between them. NoForm

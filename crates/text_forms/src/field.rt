@@ -1,94 +1,124 @@
 //! The fields of a call, each by its kind.
 
-ghost use Rattle.std.specs.Prelude.{◌≡◌, map};
-ghost use Rattle.tree_specs.specs.Grammar.{number_of, owner_of, object_of, routine_of, only_object_of, only_owner_of, owner_and_object_of, object_and_number_of};
-ghost use Rattle.text_forms.specs.Reads.{Reads};
+ghost use Rattle.std.specs.Prelude.{◌≡◌, List, ℕ};
+ghost use Rattle.std.specs.Option.{option_map};
+ghost use Rattle.tree_specs.specs.Grammar.{words, number_of, owner_of, object_of, routine_of, name_of};
+ghost use Rattle.text_forms.specs.Cursor.{words_left, field, both, last_field, Takes, Ends};
 
 use crate::form::FormFault;
-use crate::number::{read_number, read_u32};
-use tree_specs::{Obj, Owner};
+use crate::name::read_name;
+use crate::number::leading_number;
+use std::alloc::Global;
+use std::marker::Model;
+use tree_specs::{Name, Obj, Owner};
 
-// A number field.
-pub(crate) fn number(text: &[u8]) -> Result<u64, FormFault>
-    ensures { Reads result (number_of text.now) }
+// The number that the text's first word spells, and what follows the space behind the word, where there is one.
+#[tactic(auto, using(crate::proofs::Cursor::number_field))]
+fn number_field(text: &[u8]) -> Option<(u64, Option<&[u8]>)>
+    ensures { option_map (λ r. (r.0, words_left r.1)) result ≡ field number_of (words text.now) }
 {
-    read_number(text).ok_or(FormFault::NoForm)
-}
-
-// An owner field: 0 is the root.
-#[tactic(auto, unfolding(tree_specs::specs::Grammar::owner_of))]
-pub(crate) fn owner(text: &[u8]) -> Result<Owner, FormFault>
-    ensures { Reads result (owner_of text.now) }
-{
-    let n = number(text)?;
-    if n == 0 {
-        Ok(Owner::Root)
-    } else {
-        Ok(Owner::Of(Obj(n)))
+    let (n, rest) = leading_number(text)?;
+    match rest {
+        [] => Some((n, None)),
+        [b' ', rest @ ..] => Some((n, Some(rest))),
+        _ => None,
     }
 }
 
-// An object field.
-#[tactic(auto, unfolding(tree_specs::specs::Grammar::object_of))]
-pub(crate) fn object(text: &[u8]) -> Result<Obj, FormFault>
-    ensures { Reads result (object_of text.now) }
-{
-    let n = number(text)?;
-    Ok(Obj(n))
+// The fields of a call that are still to come. Contracts see the words that spell them.
+#[derive(Drop)]
+pub(crate) struct Fields<'a> {
+    // What follows the last space; None where the text ended in its place.
+    rest: Option<&'a [u8]>,
 }
 
-// A routine field: routines are numbered from 1 upwards.
-#[tactic(auto, unfolding(tree_specs::specs::Grammar::routine_of))]
-pub(crate) fn routine(text: &[u8]) -> Result<u32, FormFault>
-    ensures { Reads result (routine_of text.now) }
-{
-    read_u32(text).filter(|n| *n != 0).ok_or(FormFault::NoForm)
+impl<'a> Model for Fields<'a> {
+    ghost Value = { List (List ℕ) };
+
+    ghost view = { λ fields. words_left fields.rest };
 }
 
-// The fields of a call with an object and nothing more.
-pub(crate) fn only_object(fields: &[&[u8]]) -> Result<Obj, FormFault>
-    ensures { Reads result (only_object_of (map (λ w. w.now) fields.now)) }
-{
-    match fields {
-        [x] => object(x),
-        _ => Err(FormFault::NoForm),
+impl<'a> Fields<'a> {
+    pub(crate) fn make(rest: Option<&'a [u8]>) -> Fields<'a>
+        ensures { result ≡ words_left rest.entry }
+    {
+        Fields { rest }
     }
-}
 
-// The fields of a call with an owner and nothing more.
-pub(crate) fn only_owner(fields: &[&[u8]]) -> Result<Owner, FormFault>
-    ensures { Reads result (only_owner_of (map (λ w. w.now) fields.now)) }
-{
-    match fields {
-        [p] => owner(p),
-        _ => Err(FormFault::NoForm),
+    // A number field.
+    pub(crate) fn number(&mut self) -> Result<u64, FormFault>
+        ensures { Takes result (field number_of self.old) self.new }
+    {
+        let text = self.rest.ok_or(FormFault::NoForm)?;
+        let (n, rest) = number_field(text).ok_or(FormFault::NoForm)?;
+        self.rest = rest;
+        Ok(n)
     }
-}
 
-// The fields of a call with an owner, and then an object.
-pub(crate) fn owner_and_object(fields: &[&[u8]]) -> Result<(Owner, Obj), FormFault>
-    ensures { Reads result (owner_and_object_of (map (λ w. w.now) fields.now)) }
-{
-    match fields {
-        [p, x] => {
-            let owner = owner(p)?;
-            let x = object(x)?;
-            Ok((owner, x))
+    // An owner field: 0 is the root.
+    #[tactic(auto, unfolding(tree_specs::specs::Grammar::owner_of))]
+    pub(crate) fn owner(&mut self) -> Result<Owner, FormFault>
+        ensures { Takes result (field owner_of self.old) self.new }
+    {
+        let n = self.number()?;
+        if n == 0 {
+            Ok(Owner::Root)
+        } else {
+            Ok(Owner::Of(Obj(n)))
         }
-        _ => Err(FormFault::NoForm),
+    }
+
+    // An object field.
+    #[tactic(auto, unfolding(tree_specs::specs::Grammar::object_of))]
+    pub(crate) fn object(&mut self) -> Result<Obj, FormFault>
+        ensures { Takes result (field object_of self.old) self.new }
+    {
+        let n = self.number()?;
+        Ok(Obj(n))
+    }
+
+    // A routine field: routines are numbered from 1 upwards.
+    #[tactic(auto, unfolding(tree_specs::specs::Grammar::routine_of, tree_specs::specs::Grammar::number32_of))]
+    pub(crate) fn routine(&mut self) -> Result<u32, FormFault>
+        ensures { Takes result (field routine_of self.old) self.new }
+    {
+        match u32::try_from(self.number()?) {
+            Ok(0) | Err(_) => Err(FormFault::NoForm),
+            Ok(n) => Ok(n),
+        }
+    }
+
+    // A name field, which no other follows: a name has no space, so it is all that is left of the text.
+    #[tactic(auto, using(crate::proofs::Cursor::name_taken))]
+    pub(crate) fn name(&mut self, alloc: Global) -> Result<Name, FormFault>
+        ensures { Takes result (last_field name_of self.old) self.new }
+    {
+        let text = self.rest.take().ok_or(FormFault::NoForm)?;
+        read_name(alloc, text)
+    }
+
+    // There are no more fields.
+    #[tactic(auto, using(crate::proofs::Words::has_words))]
+    pub(crate) fn end(&self) -> Result<(), FormFault>
+        ensures { Ends result self.now }
+    {
+        match self.rest {
+            None => Ok(()),
+            Some(_) => Err(FormFault::NoForm),
+        }
     }
 }
 
-// The fields of a call with an object, and then a number.
-pub(crate) fn object_and_number(fields: &[&[u8]]) -> Result<(Obj, u64), FormFault>
-    ensures { Reads result (object_and_number_of (map (λ w. w.now) fields.now)) }
+// An owner field, and then an object field.
+pub(crate) fn owner_and_object(fields: &mut Fields) -> Result<(Owner, Obj), FormFault>
+    ensures { Takes result (both owner_of object_of fields.old) fields.new }
 {
-    match fields {
-        [x, n] => {
-            let x = object(x)?;
-            let n = number(n)?;
-            Ok((x, n))
-        }
-        _ => Err(FormFault::NoForm),
-    }
+    Ok((fields.owner()?, fields.object()?))
+}
+
+// An object field, and then a number field.
+pub(crate) fn object_and_number(fields: &mut Fields) -> Result<(Obj, u64), FormFault>
+    ensures { Takes result (both object_of number_of fields.old) fields.new }
+{
+    Ok((fields.object()?, fields.number()?))
 }

@@ -14,6 +14,7 @@ mod report_row;
 mod split;
 #[cfg(test)]
 mod tests;
+mod verb;
 
 pub use call_reader::read_call;
 pub use call_writer::write_call;

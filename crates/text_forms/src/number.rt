@@ -1,26 +1,27 @@
-ghost use Rattle.std.specs.Prelude.{◌≡◌, ◌≢◌, ℕ, ◌^◌, ◌<◌, ◌&&◌, nat_lt, IfSome, IfNone, if◌then◌else◌, Some, None};
+ghost use Rattle.std.specs.Prelude.{◌≡◌, ◌≢◌, ℕ, ◌^◌, ◌<◌, ◌&&◌, nat_lt, IfSome, IfNone, Some, None};
 ghost use Rattle.std.specs.Fmt.{decimal};
-ghost use Rattle.std.specs.Str.{all_ascii_digits};
+ghost use Rattle.std.specs.Option.{option_map};
 ghost use Rattle.std.specs.Str.Parse.{digits_value};
 ghost use Rattle.tree_specs.specs.Grammar.{number_of, number32_of, is_short};
 ghost use Rattle.tree_specs.specs.Written.{Writes};
+ghost use Rattle.text_forms.specs.Cursor.{leading_digits_of, number_at};
 
 use crate::piece::write_pieces;
 use itoa::Buffer;
 use tree_specs::Memory;
 
-// The value of digits, where it is below 2 ^ 64.
-fn value_of_digits(text: &[u8]) -> Option<u64>
-    ensures { result ≡ (if all_ascii_digits text.now && nat_lt (digits_value 10 text.now) (2 ^ 64) then Some (digits_value 10 text.now) else None) }
+// The value of the digits at the front, where it is below 2 ^ 64, and how many they are.
+fn leading_digits(text: &[u8]) -> Option<(u64, usize)>
+    ensures { result ≡ leading_digits_of text.now }
 {
     let mut n: u64 = 0;
-    for b in text {
+    for (i, b) in text.iter().enumerate() {
         if !b.is_ascii_digit() {
-            return None;
+            return Some((n, i));
         }
         n = n.checked_mul(10)?.checked_add(u64::from(*b - b'0'))?;
     }
-    Some(n)
+    Some((n, text.len()))
 }
 
 // Whether there is a digit, and no zero before others.
@@ -34,16 +35,27 @@ fn has_short_form(text: &[u8]) -> bool
     }
 }
 
-// The number that the text spells, as the grammar defines it.
-#[tactic(auto, unfolding(tree_specs::specs::Grammar::number_of))]
-fn number_value(text: &[u8]) -> Option<u64>
-    ensures { result ≡ number_of text.now }
+// The number that the digits at the front spell, and what follows them. None where they spell none.
+#[tactic(auto, unfolding(crate::specs::Cursor::number_at, tree_specs::specs::Grammar::number_of))]
+pub(crate) fn leading_number(text: &[u8]) -> Option<(u64, &[u8])>
+    ensures { option_map (λ r. (r.0, r.1.now)) result ≡ number_at text.now }
 {
-    if has_short_form(text) {
-        value_of_digits(text)
+    let (n, count) = leading_digits(text)?;
+    let (digits, rest) = text.split_at(count);
+    if has_short_form(digits) {
+        Some((n, rest))
     } else {
         None
     }
+}
+
+// The number that the text spells, as the grammar defines it.
+#[tactic(auto, using(crate::proofs::Cursor::number_is))]
+fn number_value(text: &[u8]) -> Option<u64>
+    ensures { result ≡ number_of text.now }
+{
+    let (n, rest) = leading_number(text)?;
+    if rest.is_empty() { Some(n) } else { None }
 }
 
 /// The number below 2 ^ 64 that the text spells: decimal digits with no leading zero. None exactly

@@ -1,11 +1,15 @@
-ghost use Rattle.std.specs.Prelude.{◌≡◌, map, IfOk};
+ghost use Rattle.std.specs.Prelude.{◌≡◌, ◌∷◌};
 ghost use Rattle.tree_specs.specs.Grammar.{words};
+ghost use Rattle.text_forms.specs.Cursor.{words_left};
 
-use std::alloc::{AllocError, Global};
-
-// The words between single spaces.
-pub(crate) fn words_of(alloc: Global, text: &[u8]) -> Result<Vec<&[u8]>, AllocError>
-    ensures { IfOk result (λ v. map (λ w. w.now) v.items ≡ words text.now) }
+// The first word of a text, and what follows the space behind it, where there is one.
+pub(crate) fn split_word(text: &[u8]) -> (&[u8], Option<&[u8]>)
+    ensures { words text.now ≡ result.0.now ∷ words_left result.1 }
 {
-    text.split(|b| *b == b' ').collect(alloc)
+    for (i, b) in text.iter().enumerate() {
+        if *b == b' ' {
+            return (&text[..i], Some(&text[i + 1..]));
+        }
+    }
+    (text, None)
 }

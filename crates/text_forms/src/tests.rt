@@ -209,7 +209,12 @@ fn writes_what_was_read(rt: HostRuntime) -> Result<(), Fail> {
         b"hook 18446744073709551615 4294967295".as_slice(),
         b"unhook 1".as_slice(),
         b"rename 9 a-b".as_slice(),
+        b"reference 7 9".as_slice(),
+        b"unlink 0 9".as_slice(),
+        b"resize 9 10".as_slice(),
+        b"limit 9 10".as_slice(),
         b"parent 9".as_slice(),
+        b"sum 7".as_slice(),
         b"total 0".as_slice(),
         b"total 7".as_slice(),
         b"count 0".as_slice(),
@@ -262,6 +267,12 @@ fn reads_no_call(rt: HostRuntime) {
         b"count 7 ".as_slice(),
         b"report".as_slice(),
         b"report 7 0".as_slice(),
+        b"free 9x".as_slice(),
+        b"free x".as_slice(),
+        b"free 18446744073709551616".as_slice(),
+        b"freekids9".as_slice(),
+        b"rename 9 ".as_slice(),
+        b"steal 7  9".as_slice(),
     ];
     are_no_calls(&rt, rt.alloc(), &texts);
 }

@@ -1,2 +1,6 @@
-pub mod Finding
+pub mod Steps
+pub mod Moves
+pub mod Listing
 pub mod Trees
+pub mod Keeping
+pub mod Leaf

@@ -1,7 +1,5 @@
 -- What keeps that the rows are a tree.
-use Rattle.std.proofs.Common.{◌≡◌, ℕ, ◌+◌, ◌<◌, ◌≤◌, List, [], ◌∷◌, length, Option, Some, None, true, false, refl, sym, ◌∙◌, ap, subst, arith}
-use Rattle.std.specs.Prelude.{slice_index_or, slice_set, remove, IsSome, OnSome, ◌↔◌}
-use Rattle.std.proofs.lemmas.Option.{slice_get-get_or}
+use Rattle.std.proofs.Common.{◌≡◌, ℕ, ◌+◌, ◌<◌, ◌≤◌, List, [], ◌∷◌, length, Option, Some, None, true, false, refl, sym, ap, arith}
 use Rattle.tree_specs.specs.declared.kind.Kind.{Kind}
 use Rattle.tree_specs.specs.declared.object.Obj.{Obj}
 use Rattle.tree_specs.specs.declared.object.Owner.{Owner}
@@ -14,7 +12,6 @@ use Rattle.tree_specs.proofs.Numbered.{by_test, same-true}
 use Rattle.tree_specs.proofs.Rows.{row_of-serial}
 use Rattle.tree_specs.proofs.Rooted.{KeepsPlace, forest-new, forest-placed, forest-changed, forest-left, forest-without}
 use Rattle.tree_links.specs.Links.{AllFit, IsTree}
-use Rattle.tree_links.specs.Found.{StandsAt}
 
 -- ---- a new row
 
@@ -54,7 +51,7 @@ fit-changed f next (r ∷ rs) x k s h = by_test (same r.serial x)
     (λ t. rw t (let l : r.serial.0 < next = h.0 in rw (k r) l, s r h.1, h.2))
     (λ t. rw t (h.0, h.1, fit-changed f next rs x k s h.2))
 
-length-changed : (f : Row → Row) (rs : List Row) (x : Obj) → length (changed f rs x) ≡ length rs
+pub length-changed : (f : Row → Row) (rs : List Row) (x : Obj) → length (changed f rs x) ≡ length rs
 length-changed f [] x = refl
 length-changed f (r ∷ rs) x = let ih = length-changed f rs x in by_test (same r.serial x) (λ t. rw t refl) (λ t. rw t (omega (arith, ih)))
 
@@ -88,7 +85,7 @@ fit-row next (s ∷ rs) x r f e = by_test (same s.serial x)
 pub numbered-below : (next : ℕ) (rs : List Row) (x : Obj) (r : Row) → AllFit next rs → row_of rs x ≡ Some r → x.0 < next
 numbered-below next rs x r f e = let l = (fit-row next rs x r f e).0 in let s : r.serial.0 ≡ x.0 = ap (λ (z : Obj). z.0) (row_of-serial rs x r e) in omega (arith, l, s)
 
-length-without : (rs : List Row) (x : Obj) (r : Row) → row_of rs x ≡ Some r → length rs ≡ length (without rs x) + 1
+pub length-without : (rs : List Row) (x : Obj) (r : Row) → row_of rs x ≡ Some r → length rs ≡ length (without rs x) + 1
 length-without [] x r e = cc
 length-without (s ∷ rs) x r e = by_test (same s.serial x)
     (λ t. rw t (omega arith))
@@ -122,43 +119,3 @@ placed-tree p o x r t e owner apart =
       fit = (f.0, f.1, fit-without p.next p.rows x t.fit);
       few = omega (arith, l, t.few);
     }
-
--- ---- the same of the row at an index
-
-pub set-tree : (f : Row → Row) (rs now : List Row) (next : ℕ) (x : Obj) (i : ℕ) (r : Row) → StandsAt now x i → rs ≡ now → r ≡ slice_index_or rs i r → IsTree (changed f rs x) next
-    → IsTree (slice_set rs i (f r)) next
-set-tree f rs now next x i r s e q t =
-    let s' : StandsAt rs x i = subst (λ (l : List Row). StandsAt l x i) (sym e) s in
-    subst (λ (l : List Row). IsTree l next) (s'.replaced f r q) t
-
-at-row : (rs : List Row) (x : Obj) (i : ℕ) (r : Row) → StandsAt rs x i → r ≡ slice_index_or rs i r → row_of rs x ≡ Some r
-at-row rs x i r s q = s.row ∙ slice_get-get_or rs i r s.in_range ∙ ap Some (sym q)
-
--- a row that is taken out at its index
-pub remove-tree : (taken : Option Row) (rs now new : List Row) (next : ℕ) (x : Obj) (i : ℕ) → IsSome taken ↔ (i < length rs) → OnSome taken (new ≡ remove rs i) → StandsAt now x i → rs ≡ now
-    → first_kid now (Of x) ≡ None → IsTree rs next → IsTree new next
-remove-tree None rs now new next x i found items s e alone t =
-    let l : i < length rs = subst (λ (l : List Row). i < length l) (sym e) s.in_range in
-    let bad : false ≡ true = found.1 l in cc
-remove-tree (Some r) rs now new next x i found items s e alone t =
-    let s' : StandsAt rs x i = subst (λ (l : List Row). StandsAt l x i) (sym e) s in
-    let alone' : first_kid rs (Of x) ≡ None = subst (λ (l : List Row). first_kid l (Of x) ≡ None) (sym e) alone in
-    subst (λ (l : List Row). IsTree l next) (s'.taken_out ∙ sym items) (without-tree rs next x t alone')
-
-pub place-tree : (rs now : List Row) (next : ℕ) (o : Owner) (x : Obj) (i : ℕ) (r : Row) → StandsAt now x i → rs ≡ now → r ≡ slice_index_or rs i r → is_owner now o ≡ true → is_inside now o (Of x) ≡ false
-    → IsTree rs next → IsTree (record r { owner = Some o } ∷ remove rs i) next
-place-tree rs now next o x i r s e q owner apart t =
-    let s' : StandsAt rs x i = subst (λ (l : List Row). StandsAt l x i) (sym e) s in
-    let owner' : is_owner rs o ≡ true = subst (λ (l : List Row). is_owner l o ≡ true) (sym e) owner in
-    let apart' : is_inside rs o (Of x) ≡ false = subst (λ (l : List Row). is_inside l o (Of x) ≡ false) (sym e) apart in
-    subst (λ (l : List Row). IsTree (record r { owner = Some o } ∷ l) next) s'.taken_out (placed-tree (record { rows = rs; next = next }) o x r t (at-row rs x i r s' q) owner' apart')
-
-pub place-rows : (rs now : List Row) (next next' : ℕ) (o : Owner) (x : Obj) (i : ℕ) (r : Row) → StandsAt now x i → rs ≡ now → next ≡ next' → r ≡ slice_index_or rs i r
-    → (let p : Pool = record { rows = record r { owner = Some o } ∷ remove rs i; next = next } in p) ≡ place (record { rows = now; next = next' }) o x
-place-rows rs now next next' o x i r s e d q =
-    let q' : r ≡ slice_index_or now i r = q ∙ ap (λ (l : List Row). slice_index_or l i r) e in
-    let found : row_of now x ≡ Some r = at-row now x i r s q' in
-    ap (λ (l : List Row). let p : Pool = record { rows = record r { owner = Some o } ∷ remove l i; next = next } in p) e
-    ∙ ap (λ (l : List Row). let p : Pool = record { rows = record r { owner = Some o } ∷ l; next = next } in p) (sym s.taken_out)
-    ∙ ap (λ (n : ℕ). let p : Pool = record { rows = record r { owner = Some o } ∷ without now x; next = n } in p) d
-    ∙ sym (rw found refl)

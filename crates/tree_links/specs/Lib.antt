@@ -1,2 +1,2 @@
 pub mod Links
-pub mod Found
+pub mod Nodes

@@ -2,10 +2,12 @@
 #![tactic(auto)]
 
 mod new_row;
+mod node;
 mod owner;
 #[cfg(test)]
 mod tests;
 mod tree;
+mod works;
 
 pub use new_row::NewRow;
 pub use tree::Tree;

@@ -1,7 +1,15 @@
+ghost use Rattle.std.specs.Prelude.{◌≡◌};
+ghost use Rattle.tree_links.specs.Nodes.{next_in};
+
 use crate::new_row::NewRow;
+use crate::node::{
+    Node, enter, forget, head, leave_kin_of, leave_placed, meet_newer, set_head, set_left,
+    write_hook, write_limit, write_mark, write_name, write_size,
+};
 use crate::owner::is_below;
+use linked_lanes::Sides;
+use pool_arena::Arena;
 use std::alloc::Global;
-use std::collections::VecDeque;
 use std::marker::Model;
 use tree_specs::{FreeFrame, Mark, Memory, Name, Obj, Owner, Row};
 
@@ -10,23 +18,37 @@ use tree_specs::{FreeFrame, Mark, Memory, Name, Obj, Owner, Row};
 /// taking memory; and the list of works, the innermost first, with room for so many more.
 #[derive(Debug, Drop)]
 pub struct Tree {
-    rows: VecDeque<Row>,
+    nodes: Arena<Node>,
+    /// The row that was placed last.
+    front: Option<u64>,
+    /// The first child of the root.
+    root: Option<u64>,
     next: u64,
-    /// The innermost work is the last.
-    frees: Vec<FreeFrame>,
+    /// The works of the frees that are open on them. The innermost is the last.
+    pub(crate) frees: Vec<FreeFrame>,
 }
 
 impl Model for Tree {
-    ghost use Rattle.tree_links.specs.Links.{Links, IsTree};
+    ghost use Rattle.tree_links.specs.Links.{Links};
 
     ghost Value = { Links };
 
     ghost use Rattle.std.specs.Prelude.{◌-◌, length, reverse, vec_capacity};
-    ghost use Rattle.std.specs.VecDeque.{deque_len, deque_capacity};
+    ghost use Rattle.tree_links.specs.Nodes.{rows_of, IsLinked};
 
-    ghost view = { λ t. record { rows = t.rows.items; next = t.next; spare = deque_capacity t.rows - deque_len t.rows; frees = reverse t.frees.items; room = vec_capacity t.frees - length t.frees.items } };
+    ghost view = { λ t. record { rows = rows_of t.nodes.pairs t.front; next = t.next; spare = t.nodes.spare; frees = reverse t.frees.items; room = vec_capacity t.frees - length t.frees.items } };
 
-    ghost invariant = { λ t. IsTree t.rows.items t.next };
+    ghost invariant = { λ t. IsLinked t.nodes.pairs t.front t.root t.next };
+}
+
+// The child of the same owner that was placed last before this one, where it has an owner.
+fn next_in(node: &Node) -> Option<Obj>
+    ensures { result ≡ next_in node.now }
+{
+    match (node.row.owner, node.kin.older) {
+        (Some(_), Some(x)) => Some(Obj(x)),
+        _ => None,
+    }
 }
 
 impl Tree {
@@ -38,7 +60,6 @@ impl Tree {
     ghost use Rattle.tree_specs.specs.Sums.{size_at};
     ghost use Rattle.tree_specs.specs.Pool.{empty, is_row, is_owner, is_dying, row_of, is_below, first_kid as kid_first, next_kid as kid_next, add as added, take_number as number_taken, detach as detached, remove as removed, place as placed, rename as renamed, set_mark as marked, set_hook as hooked, set_size as resized, set_limit as limited, owner_of, next_owner as owner_after, is_inside as is_inside_of, is_dying_mark};
     ghost use Rattle.tree_links.specs.Links.{IsTree, pool_of, works_of, number_after, may_go};
-    ghost use Rattle.tree_links.specs.Found.{StandsAt, StandsNowhere};
 
     /// A tree with no rows, whose next serial number is `first`, and no open free. It takes no memory.
     pub fn new(alloc: Global, first: u64) -> Self
@@ -46,7 +67,9 @@ impl Tree {
         ensures works { result.frees ≡ [] }
     {
         Tree {
-            rows: VecDeque::new(alloc),
+            nodes: Arena::new(alloc),
+            front: None,
+            root: None,
             next: first,
             frees: Vec::new(alloc),
         }
@@ -63,39 +86,10 @@ impl Tree {
         ensures room { OnOk result (length self.old.rows + rows + 2 ≤ self.new.room) }
         ensures room_kept { self.old.room ≤ self.new.room }
     {
-        let works = self.rows.len().checked_add(rows).ok_or(Memory)?;
+        let works = self.nodes.len().checked_add(rows).ok_or(Memory)?;
         self.frees.reserve(works.checked_add(2).ok_or(Memory)?)?;
-        self.rows.reserve(rows)?;
+        self.nodes.reserve(rows)?;
         Ok(())
-    }
-
-    /// The innermost of the works of frees that wait. None exactly where none waits.
-    pub fn innermost_free(&self) -> Option<FreeFrame>
-        ensures { result ≡ slice_get self.now.frees 0 }
-    {
-        self.frees.last().copied()
-    }
-
-    /// Puts a work before those that wait. It takes no memory.
-    pub fn push_free(&mut self, work: FreeFrame)
-        requires { 0 < self.old.room }
-        ensures rows { pool_of self.new ≡ pool_of self.old }
-        ensures spare { self.new.spare ≡ self.old.spare }
-        ensures works { self.new.frees ≡ work ∷ self.old.frees }
-        ensures room { self.old.room ≤ self.new.room + 1 }
-    {
-        self.frees.push_reserved(work);
-    }
-
-    /// Takes the innermost of the works that wait away. None exactly where none waits.
-    pub fn pop_free(&mut self) -> Option<FreeFrame>
-        ensures rows { pool_of self.new ≡ pool_of self.old }
-        ensures spare { self.new.spare ≡ self.old.spare }
-        ensures work { result ≡ slice_get self.old.frees 0 }
-        ensures works { self.new.frees ≡ drop 1 self.old.frees }
-        ensures room { length self.old.frees + self.old.room ≤ length self.new.frees + self.new.room }
-    {
-        self.frees.pop()
     }
 
     /// Adds an object at the front below its owner, and gives its serial number. It takes no memory.
@@ -112,16 +106,33 @@ impl Tree {
         ensures works { works_of self.new ≡ works_of self.old }
     {
         let serial = Obj(self.next);
-        self.rows.push_front_reserved(Row {
-            serial,
-            owner: Some(owner),
-            name: row.name,
-            size: row.size,
-            kind: row.kind,
-            mark: Mark::Quiet,
-            hook: 0,
-            limit: 0,
-        });
+        let first = set_head(&mut self.nodes, &mut self.root, owner, Some(serial.0));
+        self.nodes.add(
+            serial.0,
+            Node {
+                row: Row {
+                    serial,
+                    owner: Some(owner),
+                    name: row.name,
+                    size: row.size,
+                    kind: row.kind,
+                    mark: Mark::Quiet,
+                    hook: 0,
+                    limit: 0,
+                },
+                placed: Sides {
+                    newer: None,
+                    older: self.front,
+                },
+                kin: Sides {
+                    newer: None,
+                    older: first,
+                },
+                first: None,
+            },
+        );
+        meet_newer(&mut self.nodes, self.front, first, serial.0);
+        self.front = Some(serial.0);
         self.next += 1;
         serial
     }
@@ -148,14 +159,14 @@ impl Tree {
         ensures count { result ≡ length self.now.rows }
         ensures sound { IsTree self.now.rows self.now.next }
     {
-        self.rows.len()
+        self.nodes.len()
     }
 
     /// Whether there are no rows.
     pub fn is_empty(&self) -> bool
         ensures { IsTrue result ↔ (self.now.rows ≡ []) }
     {
-        self.rows.is_empty()
+        self.nodes.len() == 0
     }
 
     /// The serial number that the next object takes.
@@ -165,25 +176,14 @@ impl Tree {
         self.next
     }
 
-    fn index_of(&self, x: Obj) -> Option<usize>
-        ensures { result ≡ position (λ r. same r.serial x) self.now.rows }
-    {
-        self.rows.iter().position(|r| r.serial.0 == x.0)
-    }
-
-    #[tactic(auto, using(crate::proofs::Finding::found))]
-    fn find(&self, x: Obj) -> Option<usize>
-        ensures { MatchOption result (StandsNowhere self.now.rows x) (λ i. StandsAt self.now.rows x i) }
-    {
-        self.index_of(x)
-    }
-
     /// The row of an object. None exactly where there is none.
     pub fn row(&self, x: Obj) -> Option<&Row>
         ensures { option_copied result ≡ row_of self.now.rows x }
     {
-        let i = self.find(x)?;
-        Some(&self.rows[i])
+        match self.nodes.get(x.0) {
+            None => None,
+            Some(node) => Some(&node.row),
+        }
     }
 
     /// The size of an object in bytes, and 0 where there is none.
@@ -203,24 +203,14 @@ impl Tree {
         }
     }
 
-    /// The first child among the rows from this index on.
-    fn kid_from(&self, from: usize, owner: Owner) -> Option<Obj>
-        ensures { result ≡ kid_first (drop from self.now.rows) owner }
-    {
-        for i in from..self.rows.len() {
-            let row = &self.rows[i];
-            if is_below(row.owner, owner) {
-                return Some(row.serial);
-            }
-        }
-        None
-    }
-
     /// The child that was placed last. None exactly where there is none.
     pub fn first_kid(&self, owner: Owner) -> Option<Obj>
         ensures { result ≡ kid_first self.now.rows owner }
     {
-        self.kid_from(0, owner)
+        match head(&self.nodes, self.root, owner) {
+            None => None,
+            Some(x) => Some(Obj(x)),
+        }
     }
 
     /// The child of the same owner that was placed last before this one. None exactly where there is none, or
@@ -228,9 +218,10 @@ impl Tree {
     pub fn next_kid(&self, x: Obj) -> Option<Obj>
         ensures { result ≡ kid_next self.now.rows x }
     {
-        let i = self.find(x)?;
-        let owner = self.rows[i].owner?;
-        self.kid_from(i + 1, owner)
+        match self.nodes.get(x.0) {
+            None => None,
+            Some(node) => next_in(node),
+        }
     }
 
     /// The owner of an object. None exactly where it is no object, or has left its owner.
@@ -256,12 +247,12 @@ impl Tree {
         }
     }
 
-    /// Whether an owner is another one, or inside it: from owner to owner one comes to it.
-    pub fn is_inside(&self, from: Owner, to: Owner) -> bool
+    // Whether one comes from owner to owner to another one. It takes as many steps as there are owners above.
+    fn leads_to(&self, from: Owner, to: Owner) -> bool
         ensures { result ≡ is_inside_of self.now.rows from to }
     {
         let mut at = from;
-        let mut steps = self.rows.len();
+        let mut steps = self.nodes.len();
         while !is_below(Some(at), to) {
             if steps == 0 {
                 return false;
@@ -273,6 +264,17 @@ impl Tree {
             }
         }
         true
+    }
+
+    /// Whether an owner is another one, or inside it: from owner to owner one comes to it.
+    pub fn is_inside(&self, from: Owner, to: Owner) -> bool
+        ensures { result ≡ is_inside_of self.now.rows from to }
+    {
+        // Nothing else is inside an owner with no children.
+        if self.first_kid(to).is_none() {
+            return is_below(Some(from), to);
+        }
+        self.leads_to(from, to)
     }
 
     /// Whether an object is the owner, or inside it. False where it is no object.
@@ -292,11 +294,16 @@ impl Tree {
         ensures spare { self.old.spare ≤ self.new.spare }
         ensures works { works_of self.new ≡ works_of self.old }
     {
-        if let Some(i) = self.find(x)
-            && let Some(mut row) = self.rows.remove(i)
-        {
-            row.owner = Some(owner);
-            self.rows.push_front_reserved(row);
+        if let Some(node) = self.nodes.get(x.0) {
+            let placed = node.placed;
+            let kin = node.kin;
+            let former = node.row.owner;
+            leave_placed(&mut self.nodes, &mut self.front, placed);
+            leave_kin_of(&mut self.nodes, &mut self.root, former, kin);
+            let first = set_head(&mut self.nodes, &mut self.root, owner, Some(x.0));
+            enter(&mut self.nodes, x.0, owner, self.front, first);
+            meet_newer(&mut self.nodes, self.front, first, x.0);
+            self.front = Some(x.0);
         }
     }
 
@@ -307,9 +314,7 @@ impl Tree {
         ensures spare { self.old.spare ≤ self.new.spare }
         ensures works { works_of self.new ≡ works_of self.old }
     {
-        if let Some(i) = self.find(x) {
-            self.rows[i].name = name;
-        }
+        write_name(&mut self.nodes, x.0, name);
     }
 
     /// Gives an object another mark. It takes no memory.
@@ -321,9 +326,7 @@ impl Tree {
         ensures spare { self.old.spare ≤ self.new.spare }
         ensures works { works_of self.new ≡ works_of self.old }
     {
-        if let Some(i) = self.find(x) {
-            self.rows[i].mark = mark;
-        }
+        write_mark(&mut self.nodes, x.0, mark);
     }
 
     /// Gives an object another destructor, by its routine; 0 is none. It takes no memory.
@@ -333,9 +336,7 @@ impl Tree {
         ensures spare { self.old.spare ≤ self.new.spare }
         ensures works { works_of self.new ≡ works_of self.old }
     {
-        if let Some(i) = self.find(x) {
-            self.rows[i].hook = hook;
-        }
+        write_hook(&mut self.nodes, x.0, hook);
     }
 
     /// Gives an object another size, in bytes. It takes no memory.
@@ -346,9 +347,7 @@ impl Tree {
         ensures spare { self.old.spare ≤ self.new.spare }
         ensures works { works_of self.new ≡ works_of self.old }
     {
-        if let Some(i) = self.find(x) {
-            self.rows[i].size = size;
-        }
+        write_size(&mut self.nodes, x.0, size);
     }
 
     /// Gives an object another limit, in bytes; 0 is none. It takes no memory.
@@ -358,9 +357,7 @@ impl Tree {
         ensures spare { self.old.spare ≤ self.new.spare }
         ensures works { works_of self.new ≡ works_of self.old }
     {
-        if let Some(i) = self.find(x) {
-            self.rows[i].limit = limit;
-        }
+        write_limit(&mut self.nodes, x.0, limit);
     }
 
     /// The object leaves its owner, and is dying of it from then on. It takes no memory.
@@ -371,10 +368,8 @@ impl Tree {
         ensures spare { self.old.spare ≤ self.new.spare }
         ensures works { works_of self.new ≡ works_of self.old }
     {
-        if let Some(i) = self.find(x) {
-            let row = &mut self.rows[i];
-            row.mark = Mark::Dying(row.owner.unwrap_or(Owner::Root));
-            row.owner = None;
+        if let Some((former, kin)) = set_left(&mut self.nodes, x.0) {
+            leave_kin_of(&mut self.nodes, &mut self.root, former, kin);
         }
     }
 
@@ -386,8 +381,13 @@ impl Tree {
         ensures spare { self.old.spare ≤ self.new.spare }
         ensures works { works_of self.new ≡ works_of self.old }
     {
-        if let Some(i) = self.find(x) {
-            let _row = self.rows.remove(i);
+        if let Some(node) = self.nodes.get(x.0) {
+            let placed = node.placed;
+            let kin = node.kin;
+            let former = node.row.owner;
+            leave_placed(&mut self.nodes, &mut self.front, placed);
+            leave_kin_of(&mut self.nodes, &mut self.root, former, kin);
+            forget(&mut self.nodes, x.0);
         }
     }
 }

@@ -104,14 +104,13 @@ fn is_live(tree: &Tree, x: Obj) -> bool
 }
 
 // The root owns 1 and 5, 1 owns 2 and 4, and 2 owns 3.
-fn five(rt: &impl Abort, alloc: Global) -> Result<World, Fail> {
-    let mut world = World::new(alloc);
+fn add_five(rt: &impl Abort, alloc: Global, world: &mut World) -> Result<(), Fail> {
     let top = world.add(rt, alloc, "top", 10, Owner::Root)?;
     let left = world.add(rt, alloc, "left", 200, Owner::Of(top))?;
     world.add(rt, alloc, "leaf", 3_000, Owner::Of(left))?;
     world.add(rt, alloc, "right", 40_000, Owner::Of(top))?;
     world.add(rt, alloc, "aside", 500_000, Owner::Root)?;
-    Ok(world)
+    Ok(())
 }
 
 // Each row by its depth, its number, its size and its name.
@@ -136,10 +135,19 @@ fn expect_rows(rt: &impl Abort, report: &ReportRows, want: &[(u32, u64, u64, &st
 
 #[test]
 fn each_owner_comes_before_its_children(rt: HostRuntime) -> Result<(), Fail> {
-    let world = five(&rt, rt.alloc())?;
-    let all = world.rows(rt.alloc(), Owner::Root)?;
+    let mut world = World::new(rt.alloc());
+    show_that_each_owner_comes_before_its_children(&rt, rt.alloc(), &mut world)
+}
+
+fn show_that_each_owner_comes_before_its_children(
+    rt: &impl Abort,
+    alloc: Global,
+    world: &mut World,
+) -> Result<(), Fail> {
+    add_five(rt, alloc, world)?;
+    let all = world.rows(alloc, Owner::Root)?;
     expect_rows(
-        &rt,
+        rt,
         &all,
         &[
             (0, 0, 0, "null_context"),
@@ -150,18 +158,27 @@ fn each_owner_comes_before_its_children(rt: HostRuntime) -> Result<(), Fail> {
             (3, 3, 3_000, "leaf"),
         ],
     );
-    let middle = world.rows(rt.alloc(), Owner::Of(Obj(2)))?;
-    expect_rows(&rt, &middle, &[(0, 2, 200, "left"), (1, 3, 3_000, "leaf")]);
-    let leaf = world.rows(rt.alloc(), Owner::Of(Obj(3)))?;
-    expect_rows(&rt, &leaf, &[(0, 3, 3_000, "leaf")]);
-    let none = world.rows(rt.alloc(), Owner::Of(Obj(6)))?;
-    expect_rows(&rt, &none, &[]);
+    let middle = world.rows(alloc, Owner::Of(Obj(2)))?;
+    expect_rows(rt, &middle, &[(0, 2, 200, "left"), (1, 3, 3_000, "leaf")]);
+    let leaf = world.rows(alloc, Owner::Of(Obj(3)))?;
+    expect_rows(rt, &leaf, &[(0, 3, 3_000, "leaf")]);
+    let none = world.rows(alloc, Owner::Of(Obj(6)))?;
+    expect_rows(rt, &none, &[]);
     Ok(())
 }
 
 #[test]
 fn a_sum_is_over_all_that_is_inside(rt: HostRuntime) -> Result<(), Fail> {
-    let world = five(&rt, rt.alloc())?;
+    let mut world = World::new(rt.alloc());
+    show_that_a_sum_is_over_all_that_is_inside(&rt, rt.alloc(), &mut world)
+}
+
+fn show_that_a_sum_is_over_all_that_is_inside(
+    rt: &impl Abort,
+    alloc: Global,
+    world: &mut World,
+) -> Result<(), Fail> {
+    add_five(rt, alloc, world)?;
     for (from, size, number) in [
         (Owner::Root, 543_210, 5),
         (Owner::Of(Obj(1)), 43_210, 4),
@@ -178,8 +195,17 @@ fn a_sum_is_over_all_that_is_inside(rt: HostRuntime) -> Result<(), Fail> {
 
 #[test]
 fn what_a_dying_object_owns_is_not_inside_the_root(rt: HostRuntime) -> Result<(), Fail> {
-    let mut world = five(&rt, rt.alloc())?;
-    world.detach(&rt, Obj(2));
+    let mut world = World::new(rt.alloc());
+    show_that_what_a_dying_object_owns_is_not_inside_the_root(&rt, rt.alloc(), &mut world)
+}
+
+fn show_that_what_a_dying_object_owns_is_not_inside_the_root(
+    rt: &impl Abort,
+    alloc: Global,
+    world: &mut World,
+) -> Result<(), Fail> {
+    add_five(rt, alloc, world)?;
+    world.detach(rt, Obj(2));
     for (from, size, number) in [
         (Owner::Root, 540_010, 3),
         (Owner::Of(Obj(1)), 40_010, 2),
@@ -189,9 +215,9 @@ fn what_a_dying_object_owns_is_not_inside_the_root(rt: HostRuntime) -> Result<()
         assert_eq!(rt; total(&world.tree, from), size, "in {from:?}");
         assert_eq!(rt; count(&world.tree, from), number, "in {from:?}");
     }
-    let all = world.rows(rt.alloc(), Owner::Root)?;
+    let all = world.rows(alloc, Owner::Root)?;
     expect_rows(
-        &rt,
+        rt,
         &all,
         &[
             (0, 0, 0, "null_context"),
@@ -200,22 +226,30 @@ fn what_a_dying_object_owns_is_not_inside_the_root(rt: HostRuntime) -> Result<()
             (2, 4, 40_000, "right"),
         ],
     );
-    let dying = world.rows(rt.alloc(), Owner::Of(Obj(2)))?;
-    expect_rows(&rt, &dying, &[(0, 2, 200, "left"), (1, 3, 3_000, "leaf")]);
+    let dying = world.rows(alloc, Owner::Of(Obj(2)))?;
+    expect_rows(rt, &dying, &[(0, 2, 200, "left"), (1, 3, 3_000, "leaf")]);
     Ok(())
 }
 
 #[test]
 fn a_long_chain_is_walked_down(rt: HostRuntime) -> Result<(), Fail> {
     let mut world = World::new(rt.alloc());
+    show_that_a_long_chain_is_walked_down(&rt, rt.alloc(), &mut world)
+}
+
+fn show_that_a_long_chain_is_walked_down(
+    rt: &impl Abort,
+    alloc: Global,
+    world: &mut World,
+) -> Result<(), Fail> {
     let mut owner = Owner::Root;
     for _n in 0..300 {
-        owner = Owner::Of(world.add(&rt, rt.alloc(), "link", 2, owner)?);
+        owner = Owner::Of(world.add(rt, alloc, "link", 2, owner)?);
     }
     assert_eq!(rt; total(&world.tree, Owner::Root), 600);
     assert_eq!(rt; count(&world.tree, Owner::Root), 300);
     assert_eq!(rt; total(&world.tree, Owner::Of(Obj(101))), 400);
-    let all = world.rows(rt.alloc(), Owner::Root)?;
+    let all = world.rows(alloc, Owner::Root)?;
     assert_eq!(rt; all.as_slice().len(), 301);
     let mut depth = 0;
     for row in all.as_slice() {
@@ -228,12 +262,20 @@ fn a_long_chain_is_walked_down(rt: HostRuntime) -> Result<(), Fail> {
 #[test]
 fn many_children_are_walked_newest_first(rt: HostRuntime) -> Result<(), Fail> {
     let mut world = World::new(rt.alloc());
+    show_that_many_children_are_walked_newest_first(&rt, rt.alloc(), &mut world)
+}
+
+fn show_that_many_children_are_walked_newest_first(
+    rt: &impl Abort,
+    alloc: Global,
+    world: &mut World,
+) -> Result<(), Fail> {
     for _n in 0..300 {
-        world.add(&rt, rt.alloc(), "child", 2, Owner::Root)?;
+        world.add(rt, alloc, "child", 2, Owner::Root)?;
     }
     assert_eq!(rt; total(&world.tree, Owner::Root), 600);
     assert_eq!(rt; count(&world.tree, Owner::Root), 300);
-    let all = world.rows(rt.alloc(), Owner::Root)?;
+    let all = world.rows(alloc, Owner::Root)?;
     assert_eq!(rt; all.as_slice().len(), 301);
     let mut id: u64 = 301;
     for row in all.as_slice() {
@@ -252,9 +294,18 @@ const LINES: &[u8] = b"row 0 2 plain 200 0 0 left\nrow 1 3 plain 3000 0 0 leaf\n
 
 #[test]
 fn a_report_is_written_line_by_line(rt: HostRuntime) -> Result<(), Fail> {
-    let world = five(&rt, rt.alloc())?;
-    let mut out = FineSink::new(rt.alloc(), 0)?;
-    let done = world.report(rt.alloc(), Owner::Of(Obj(2)), &mut out)?;
+    let mut world = World::new(rt.alloc());
+    show_that_a_report_is_written_line_by_line(&rt, rt.alloc(), &mut world)
+}
+
+fn show_that_a_report_is_written_line_by_line(
+    rt: &impl Abort,
+    alloc: Global,
+    world: &mut World,
+) -> Result<(), Fail> {
+    add_five(rt, alloc, world)?;
+    let mut out = FineSink::new(alloc, 0)?;
+    let done = world.report(alloc, Owner::Of(Obj(2)), &mut out)?;
     assert_eq!(rt; done, Done::Done);
     assert_eq!(rt; out.held(), LINES);
     Ok(())
@@ -263,9 +314,18 @@ fn a_report_is_written_line_by_line(rt: HostRuntime) -> Result<(), Fail> {
 // The sink takes ten bytes, and then fails.
 #[test]
 fn a_sink_that_fails_has_a_front_of_the_report(rt: HostRuntime) -> Result<(), Fail> {
-    let world = five(&rt, rt.alloc())?;
-    let mut out = MemSink::new(rt.alloc(), 10, 0, [2].to_vec(rt.alloc())?)?;
-    let done = world.report(rt.alloc(), Owner::Of(Obj(2)), &mut out)?;
+    let mut world = World::new(rt.alloc());
+    show_that_a_sink_that_fails_has_a_front_of_the_report(&rt, rt.alloc(), &mut world)
+}
+
+fn show_that_a_sink_that_fails_has_a_front_of_the_report(
+    rt: &impl Abort,
+    alloc: Global,
+    world: &mut World,
+) -> Result<(), Fail> {
+    add_five(rt, alloc, world)?;
+    let mut out = MemSink::new(alloc, 10, 0, [2].to_vec(alloc)?)?;
+    let done = world.report(alloc, Owner::Of(Obj(2)), &mut out)?;
     assert_eq!(rt; done, Done::Failed);
     assert_eq!(rt; out.held(), &LINES[..10]);
     Ok(())
@@ -277,12 +337,21 @@ const REFERENCES: &[u8] =
 // The object that two references refer to shows how many they are, and a reference shows what it refers to.
 #[test]
 fn references_are_shown_and_counted(rt: HostRuntime) -> Result<(), Fail> {
-    let mut world = five(&rt, rt.alloc())?;
-    world.refer(&rt, rt.alloc(), Obj(2), Owner::Of(Obj(5)))?;
-    world.refer(&rt, rt.alloc(), Obj(2), Owner::Of(Obj(1)))?;
-    world.refer(&rt, rt.alloc(), Obj(1), Owner::Of(Obj(5)))?;
-    let mut out = FineSink::new(rt.alloc(), 0)?;
-    let done = world.report(rt.alloc(), Owner::Of(Obj(1)), &mut out)?;
+    let mut world = World::new(rt.alloc());
+    show_that_references_are_shown_and_counted(&rt, rt.alloc(), &mut world)
+}
+
+fn show_that_references_are_shown_and_counted(
+    rt: &impl Abort,
+    alloc: Global,
+    world: &mut World,
+) -> Result<(), Fail> {
+    add_five(rt, alloc, world)?;
+    world.refer(rt, alloc, Obj(2), Owner::Of(Obj(5)))?;
+    world.refer(rt, alloc, Obj(2), Owner::Of(Obj(1)))?;
+    world.refer(rt, alloc, Obj(1), Owner::Of(Obj(5)))?;
+    let mut out = FineSink::new(alloc, 0)?;
+    let done = world.report(alloc, Owner::Of(Obj(1)), &mut out)?;
     assert_eq!(rt; done, Done::Done);
     assert_eq!(rt; out.held(), REFERENCES);
     assert_eq!(rt; total(&world.tree, Owner::Root), 543_210);

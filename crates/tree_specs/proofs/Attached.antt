@@ -26,10 +26,8 @@ SameOwners rs rs' = (y : Obj) → owner_of rs' y ≡ owner_of rs y
 -- ---- the same owners
 
 reach-same : (rs rs' : List Row) → SameOwners rs rs' → (n : ℕ) (o : Option Owner) (y : Owner) → reaches n rs' o y ≡ reaches n rs o y
-reach-same rs rs' h n None y = refl
-reach-same rs rs' h zero (Some o) y = refl
-reach-same rs rs' h (suc n) (Some Root) y = refl
 reach-same rs rs' h (suc n) (Some (Of x)) y = ap (λ (b : Bool). same_owner (Of x) y || b) (ap (λ (o : Option Owner). reaches n rs' o y) (h x) ∙ reach-same rs rs' h n (owner_of rs x) y)
+reach-same rs rs' h _ _ y = refl
 
 pub inside-same : (rs rs' : List Row) → SameOwners rs rs' → (o y : Owner) → is_inside rs' o y ≡ is_inside rs o y
 inside-same rs rs' h o y = by_test (is_inside rs o y)

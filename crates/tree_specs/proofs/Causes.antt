@@ -12,8 +12,8 @@ use Rattle.tree_specs.specs.declared.reply.Reply.{Reply}
 use Rattle.tree_specs.specs.declared.event.Event.TheVariants.{Replied, Refused}
 use Rattle.tree_specs.specs.declared.frame.Frame.{Frame}
 use Rattle.tree_specs.specs.declared.frame.Frame.TheVariants as frame
-use Rattle.tree_specs.specs.declared.frame.CallFrame.TheVariants.{Asking, Doing, Awaiting, Warning, Telling, Returning}
-use Rattle.tree_specs.specs.declared.frame.FreeFrame.TheVariants.{Unlinking, Releasing, Giving, Beginning, Hooked, Judged, Leaving, Looping, Trying, Tried, Ending}
+use Rattle.tree_specs.specs.declared.frame.CallFrame.TheVariants.{Awaiting, Warning, Telling, Returning}
+use Rattle.tree_specs.specs.declared.frame.FreeFrame.TheVariants.{Unlinking, Releasing, Beginning, Hooked, Judged, Ending}
 use Rattle.tree_specs.specs.declared.free_step.FreeReply.{FreeReply}
 use Rattle.tree_specs.specs.declared.free_step.FreeReply.TheVariants as free_reply
 use Rattle.tree_specs.specs.Pool.{Pool, row_of, is_row}
@@ -21,6 +21,7 @@ use Rattle.tree_specs.specs.Calls.{is_held}
 use Rattle.tree_specs.specs.Items.{Item}
 use Rattle.tree_specs.specs.Items.Item.{Told}
 use Rattle.tree_specs.specs.Works.{Begun, Scene}
+use Rattle.tree_specs.specs.Profiles.{Role, Calls, Frees, Waits, Never, AFree, ARun, AChild, profile}
 use Rattle.tree_specs.specs.Orderly.{RefusedJustNow}
 use Rattle.tree_specs.specs.Grounded.{OfReply, AnsweredCall, HeldCall, CausedCall, IsItem, AsksHook}
 
@@ -36,40 +37,28 @@ told scenes = map item_of scenes
 
 -- ---- which work stands on which
 
+abbrev pub FreesObject : Obj → Role → Type 0
+FreesObject x (Frees (Some y)) = y ≡ x
+FreesObject x (Frees None) = Unit {0}
+FreesObject x _ = ⊥
+
 -- a free of x
 abbrev pub IsFreeOf : Obj → Frame → Type 0
-IsFreeOf x (frame.Call c) = ⊥
-IsFreeOf x (frame.Free (Unlinking o y)) = y ≡ x
-IsFreeOf x (frame.Free (Releasing y)) = y ≡ x
-IsFreeOf x (frame.Free (Giving y o)) = y ≡ x
-IsFreeOf x (frame.Free (Beginning y)) = y ≡ x
-IsFreeOf x (frame.Free (Hooked y h)) = y ≡ x
-IsFreeOf x (frame.Free (Judged y h v)) = y ≡ x
-IsFreeOf x (frame.Free (Leaving y h)) = y ≡ x
-IsFreeOf x (frame.Free (Looping y purpose)) = y ≡ x
-IsFreeOf x (frame.Free (Trying y c noted purpose)) = y ≡ x
-IsFreeOf x (frame.Free (Tried y c noted purpose a)) = y ≡ x
-IsFreeOf x (frame.Free (Ending a)) = Unit {0}
+IsFreeOf x f = FreesObject x (profile f).role
 
 -- the question of x's destructor
 abbrev pub IsHookOf : Obj → Ask → Type 0
 IsHookOf x (ask.Routine m) = (m.what ≡ ForHook) × (m.object ≡ x)
-IsHookOf x ask.Quiet = ⊥
-IsHookOf x ask.Clock = ⊥
-IsHookOf x (ask.Wait limit) = ⊥
-IsHookOf x (ask.Accept descriptor) = ⊥
-IsHookOf x (ask.Read descriptor most) = ⊥
-IsHookOf x (ask.Write descriptor bytes) = ⊥
+IsHookOf x _ = ⊥
+
+abbrev pub RunsHook : Obj → Role → Type 0
+RunsHook x (Calls (Some q)) = IsHookOf x q
+RunsHook x (Calls None) = Unit {0}
+RunsHook x _ = ⊥
 
 -- the run of x's destructor
 abbrev pub IsRunOf : Obj → Frame → Type 0
-IsRunOf x (frame.Call (Asking q)) = IsHookOf x q
-IsRunOf x (frame.Call (Doing q c)) = IsHookOf x q
-IsRunOf x (frame.Call (Awaiting q y)) = IsHookOf x q
-IsRunOf x (frame.Call (Warning q y r)) = IsHookOf x q
-IsRunOf x (frame.Call (Telling q r)) = IsHookOf x q
-IsRunOf x (frame.Call (Returning v)) = Unit {0}
-IsRunOf x (frame.Free f) = ⊥
+IsRunOf x f = RunsHook x (profile f).role
 
 -- a call that frees x, or its children, or takes an interest in it away
 abbrev pub FreesBy : Obj → Call → Type 0
@@ -88,12 +77,15 @@ abbrev pub Knows : Obj → Option Begun → Type 0
 Knows x None = ⊥
 Knows x (Some b) = FreesBy x b.call × NotHeld b.call b.start
 
+abbrev pub StandsFor : Waits → Frame → Option Begun → Type 0
+StandsFor (AFree x) f b = IsFreeOf x f × Knows x b
+StandsFor (AChild c purpose) f b = IsFreeOf c f
+StandsFor (ARun x h) f b = IsRunOf x f
+StandsFor Never f b = Unit {0}
+
 -- what a work that waits says of the one that stands on it
 abbrev pub StandsOn : Frame → Frame → Option Begun → Type 0
-StandsOn f (frame.Call (Awaiting q x)) b = IsFreeOf x f × Knows x b
-StandsOn f (frame.Free (Trying x c noted purpose)) b = IsFreeOf c f
-StandsOn f (frame.Free (Hooked x h)) b = IsRunOf x f
-StandsOn f g b = Unit {0}
+StandsOn f g b = StandsFor (profile g).waits f b
 
 abbrev pub Stacked : Frame → List NotedWork → Type 0
 Stacked f [] = Unit {0}

@@ -1,19 +1,20 @@
 -- What a change of the rows, or of the works, keeps sound.
 use Rattle.std.proofs.Common.{◌≡◌, ◌≢◌, ℕ, suc, zero, ◌+◌, ◌<◌, List, [], ◌∷◌, ◌++◌, Option, Some, None, true, false, nat_eq, refl, sym, ◌∙◌, ap, subst, ◌⊎◌, inl, inr, arith}
 use Rattle.std.proofs.lemmas.Bool.{eqb-true}
+use Rattle.tree_specs.specs.Profiles.{Phase, InRun, InLoop}
 use Rattle.tree_specs.specs.declared.object.Obj.{Obj}
 use Rattle.tree_specs.specs.declared.object.Owner.{Owner}
 use Rattle.tree_specs.specs.declared.object.Owner.TheVariants.{Root, Of}
 use Rattle.tree_specs.specs.declared.row.Row.{Row}
 use Rattle.tree_specs.specs.declared.row.Mark.{Mark}
-use Rattle.tree_specs.specs.declared.row.Mark.TheVariants.{Quiet, Asked, Busy, Doomed, Dying}
+use Rattle.tree_specs.specs.declared.row.Mark.TheVariants.{Quiet, Dying}
 use Rattle.tree_specs.specs.declared.frame.Frame.{Frame}
 use Rattle.tree_specs.specs.declared.kind.Kind.{Kind}
 use Rattle.tree_specs.specs.Objects.{same}
 use Rattle.tree_specs.specs.Pool.{Pool, row_of, target_at, is_object_row, is_owner, is_below, owner_of, without, changed, add, remove, place, named_row, sized_row, limited_row, marked_row, hooked_row}
 use Rattle.tree_specs.specs.Heirs.{heir}
 use Rattle.tree_specs.specs.Targets.{target_of, newest_ref}
-use Rattle.tree_specs.specs.Sound.{IsReferable, IsQuietRow, Refers, Owned, Shaped, ValidAt, Phase, InRun, InLoop, phase_of, phases, claim_if, claim, claims, AllWait, IsLive, Rests, Sound}
+use Rattle.tree_specs.specs.Sound.{IsReferable, IsQuietRow, Refers, Owned, Shaped, ValidAt, phase_of, phases, claim_if, claim, claims, AllWait, IsLive, Rests, Sound}
 use Rattle.tree_specs.proofs.Numbered.{by_test, same-true, same-equal, same-false, same_or_not, is_below-some}
 use Rattle.tree_specs.proofs.Rows.{row_of-changed-other, row_of-changed-same, row_of-without-other, row_of-without-same, row_of-placed-other, row_of-placed-same}
 use Rattle.tree_specs.proofs.Rooted.{KeepsPlace, forest-new, forest-placed, forest-changed, forest-without}
@@ -32,10 +33,8 @@ dying-row (Some r) l e = marks r.mark refl e
   where
     marks : (m : Mark) → r.mark ≡ m → InLoop ∷ l ≡ phase_of r.mark → (s : Row) × (Some r ≡ Some s) × (former : Owner) × (s.mark ≡ Dying former) × (l ≡ [])
     marks Quiet m e = let e' : InLoop ∷ l ≡ [] = rw m at e in cc
-    marks Asked m e = let e' : InLoop ∷ l ≡ InRun ∷ [] = rw m at e in cc
-    marks Busy m e = let e' : InLoop ∷ l ≡ InRun ∷ [] = rw m at e in cc
-    marks Doomed m e = let e' : InLoop ∷ l ≡ InRun ∷ [] = rw m at e in cc
     marks (Dying former) m e = let e' : InLoop ∷ l ≡ InLoop ∷ [] = rw m at e in (r, refl, former, m, cc)
+    marks _ m e = let e' : InLoop ∷ l ≡ InRun ∷ [] = rw m at e in cc
 
 -- a row of which a free says that it runs is live, and claimed once
 pub running-row : (o : Option Row) (l : List Phase) → InRun ∷ l ≡ phases o → (r : Row) × (o ≡ Some r) × IsLive r.mark × (l ≡ [])
@@ -44,10 +43,8 @@ running-row (Some r) l e = marks r.mark refl e
   where
     marks : (m : Mark) → r.mark ≡ m → InRun ∷ l ≡ phase_of r.mark → (s : Row) × (Some r ≡ Some s) × IsLive s.mark × (l ≡ [])
     marks Quiet m e = let e' : InRun ∷ l ≡ [] = rw m at e in cc
-    marks Asked m e = let e' : InRun ∷ l ≡ InRun ∷ [] = rw m at e in (r, refl, rw m tt, cc)
-    marks Busy m e = let e' : InRun ∷ l ≡ InRun ∷ [] = rw m at e in (r, refl, rw m tt, cc)
-    marks Doomed m e = let e' : InRun ∷ l ≡ InRun ∷ [] = rw m at e in (r, refl, rw m tt, cc)
     marks (Dying former) m e = let e' : InRun ∷ l ≡ InLoop ∷ [] = rw m at e in cc
+    marks _ m e = let e' : InRun ∷ l ≡ InRun ∷ [] = rw m at e in (r, refl, rw m tt, cc)
 
 -- what a claim on x says
 pub claim-here : (x : Obj) (a : Phase) (l : List Phase) (o : Option Row) → claim_if (same x x) a ++ l ≡ phases o → a ∷ l ≡ phases o
@@ -117,18 +114,12 @@ shape-of p x r valid e = let v : ValidAt p.next (Some r) x = rw e at (valid x) i
 
 -- a row that isn't dying has an owner, another object
 pub live-owned : (m : Mark) (o : Option Owner) (x : Obj) → IsLive m → Shaped m o x → Owned o x
-live-owned Quiet o x l s = s
-live-owned Asked o x l s = s
-live-owned Busy o x l s = s
-live-owned Doomed o x l s = s
 live-owned (Dying former) o x l s = absurd l
+live-owned _ o x l s = s
 
 owned-live : (m : Mark) (o : Option Owner) (x : Obj) → IsLive m → Owned o x → Shaped m o x
-owned-live Quiet o x l s = s
-owned-live Asked o x l s = s
-owned-live Busy o x l s = s
-owned-live Doomed o x l s = s
 owned-live (Dying former) o x l s = absurd l
+owned-live _ o x l s = s
 
 pub marks-place : (m : Mark) → KeepsPlace (marked_row m)
 marks-place m = record { serial = λ r. refl; kind = λ r. refl; owner = λ r. refl }
@@ -159,12 +150,9 @@ pub owned-row : (p : Pool) (c : Obj) (o : Owner) → ((y : Obj) → ValidAt p.ne
 owned-row p c o valid e = each (row_of p.rows c) refl
   where
     live : (m : Mark) (w : Option Owner) → w ≡ Some o → Shaped m w c → IsLive m
-    live Quiet w e s = tt
-    live Asked w e s = tt
-    live Busy w e s = tt
-    live Doomed w e s = tt
     live (Dying former) None e s = cc
     live (Dying former) (Some w) e s = s
+    live _ w e s = tt
 
     each : (q : Option Row) → row_of p.rows c ≡ q → (r : Row) × (row_of p.rows c ≡ Some r) × IsLive r.mark
     each None h = let bad : None ≡ Some o = rw h at e in cc

@@ -6,7 +6,7 @@ use Rattle.tree_specs.specs.declared.object.Owner.{Owner}
 use Rattle.tree_specs.specs.declared.object.Owner.TheVariants.{Root, Of}
 use Rattle.tree_specs.specs.declared.row.Row.{Row}
 use Rattle.tree_specs.specs.declared.row.Mark.{Mark}
-use Rattle.tree_specs.specs.declared.row.Mark.TheVariants.{Quiet, Asked, Busy, Doomed, Dying}
+use Rattle.tree_specs.specs.declared.row.Mark.TheVariants.{Quiet, Dying}
 use Rattle.tree_specs.specs.declared.call.Call.{Call}
 use Rattle.tree_specs.specs.declared.call.Call.TheVariants as call
 use Rattle.tree_specs.specs.declared.reply.Refusal.{Refusal}
@@ -61,11 +61,8 @@ live-row p x r h e = each r.mark refl
     dying = refuse_if-none _ _ e
 
     each : (m : Mark) → r.mark ≡ m → IsLive m
-    each Quiet m = tt
-    each Asked m = tt
-    each Busy m = tt
-    each Doomed m = tt
     each (Dying former) m = let bad : true ≡ false = rw (h, m) at dying in cc
+    each _ m = tt
 
 apart-owner : (p : Pool) (x : Obj) (o : Owner) → apart p x o ≡ [] → o ≢ Of x
 apart-owner p x o e = λ same_as. (
@@ -183,10 +180,8 @@ passes-reference p o x e =
   where
     calm : (m : Mark) → is_running_mark m ≡ false → IsLive m → m ≡ Quiet
     calm Quiet e l = refl
-    calm Asked e l = cc
-    calm Busy e l = cc
-    calm Doomed e l = cc
     calm (Dying former) e l = absurd l
+    calm _ e l = cc
 
 -- an object that may get another destructor
 pub record MayBeHooked (p : Pool) (x : Obj) : Type 0 where
@@ -217,13 +212,7 @@ heard-by (ask.Routine m) does returns (input.Act (act.Do c)) a e = by_test (is_s
 heard-by (ask.Routine m) does returns (input.Act (act.Ret v)) a e = by_test (is_return v)
     (λ t. let e' : Some (returns v) ≡ Some a = rw t at e in inr (v, refl, tt, cc))
     (λ t. let e' : None ≡ Some a = rw t at e in cc)
-heard-by ask.Quiet does returns (input.Act b) a e = cc
-heard-by (ask.Routine m) does returns (input.Call c) a e = cc
-heard-by ask.Clock does returns i a e = cc
-heard-by (ask.Wait limit) does returns i a e = cc
-heard-by (ask.Accept descriptor) does returns i a e = cc
-heard-by (ask.Read descriptor most) does returns i a e = cc
-heard-by (ask.Write descriptor bytes) does returns i a e = cc
+heard-by _ does returns _ a e = cc
 
 pub data Heard (q : Ask) : Frame → Type 0 where
   -- a call

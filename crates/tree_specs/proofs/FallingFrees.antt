@@ -1,5 +1,6 @@
 -- Each step of a free lowers the measure.
 use Rattle.std.specs.Prelude.{unwrap_or}
+use Rattle.tree_specs.specs.Profiles.{InRun, InLoop, tried_cost}
 use Rattle.tree_specs.specs.declared.frame.FreeFrame.{FreeFrame}
 use Rattle.tree_specs.proofs.Referring.{newest-refers, newest-of-refers}
 use Rattle.tree_specs.specs.Targets.{newest_ref}
@@ -16,7 +17,7 @@ use Rattle.tree_specs.specs.declared.row.Mark.TheVariants.{Quiet, Asked, Busy, D
 use Rattle.tree_specs.specs.declared.question.Ask.{Ask}
 use Rattle.tree_specs.specs.declared.frame.Frame.{Frame}
 use Rattle.tree_specs.specs.declared.frame.Frame.TheVariants as frame
-use Rattle.tree_specs.specs.declared.frame.CallFrame.TheVariants.{Asking, Doing, Awaiting, Warning, Telling, Returning}
+use Rattle.tree_specs.specs.declared.frame.CallFrame.TheVariants.{Asking, Awaiting, Returning}
 use Rattle.tree_specs.specs.declared.frame.FreeFrame.TheVariants.{Unlinking, Releasing, Giving, Beginning, Judged, Leaving, Looping, Trying, Tried, Ending}
 use Rattle.tree_specs.specs.declared.frame.Purpose.{Purpose}
 use Rattle.tree_specs.specs.declared.frame.Purpose.TheVariants.{Removal, Emptying}
@@ -29,12 +30,12 @@ use Rattle.tree_specs.specs.Pool.{Pool, row_of, is_below, owner_of, first_kid, w
 use Rattle.tree_specs.specs.Heirs.{heir}
 use Rattle.tree_specs.specs.Items.{Item}
 use Rattle.tree_specs.specs.Table.{table, step, resume, lifted, begin_quiet, begin_step, judge_step, last_step, loop_step, child_step, refs_step, unlink_step, release_step, hand_on_step}
-use Rattle.tree_specs.specs.Sound.{InRun, InLoop, claims, IsWaiting, AllWait, IsLive, Stands, Tries, IsOver, Sound, IsQuietRow}
+use Rattle.tree_specs.specs.Sound.{claims, IsWaiting, AllWait, IsLive, Stands, Tries, IsOver, Sound, IsQuietRow}
 use Rattle.tree_specs.proofs.Numbered.{by_test, same-equal, same_owner-false}
 use Rattle.tree_specs.proofs.Heirs.{heir-other}
 use Rattle.tree_specs.proofs.Checks.{Heard, Does, Returns, heard-leads}
 use Rattle.tree_specs.specs.Inside.{total}
-use Rattle.tree_specs.specs.Measure.{count, mark_weight, weight, unit, waiting_cost, top_cost, cost, pending, tried_cost, loop_kids}
+use Rattle.tree_specs.specs.Measure.{count, mark_weight, weight, unit, waiting_cost, top_cost, cost, pending, loop_kids}
 use Rattle.tree_specs.proofs.Rows.{total-without, total-placed, total-changed, total-length, count-length}
 use Rattle.tree_specs.proofs.Waiters.{Waiter, ForFree, ForRun, ForChild, waiter}
 use Rattle.tree_specs.proofs.Changes.{dying-row, running-row, claim-here, owned-row, heir-placed}
@@ -71,7 +72,7 @@ over-pays R Running o rows n _ gs (ForChild x c noted purpose) = absurd o
 
 pub ending-lower : (R : ℕ) (a : FreeReply) (fs : List Frame) (p : Pool) (k : ℕ) → Sound (frame.Free (Ending a)) fs p → Room R (frame.Free (Ending a)) p k
     → Lowers R (cost R (frame.Free (Ending a)) fs p k) (step (frame.Free (Ending a)) p) fs k
-ending-lower R a fs p k s room = done-lower R (Freed a) (frame.Free (Ending a)) fs p k s.waiting (omega arith) (λ g gs e w. over-pays R a s.rests.0 p.rows (omega arith) g gs (waiter g gs w))
+ending-lower R a fs p k s room = done-lower R (Freed a) (frame.Free (Ending a)) fs p k s.waiting (omega arith) (λ g gs e w. let l = over-pays R a s.rests.0 p.rows (omega arith) g gs (waiter g gs w) in omega (arith, l))
 
 -- a routine that has returned pays as one that is over
 pub returning-lower : (R v : ℕ) (fs : List Frame) (p : Pool) (k : ℕ) → Sound (frame.Call (Returning v)) fs p → Room R (frame.Call (Returning v)) p k
@@ -105,11 +106,8 @@ pub total-kept : (w : Row → ℕ) (g : Row → Row) (rs : List Row) (x : Obj) (
 total-kept w g rs x r e same_weight = omega (arith, total-changed w g rs x r e, same_weight)
 
 live-weight : (m : Mark) → IsLive m → mark_weight m ≡ 2
-live-weight Quiet l = refl
-live-weight Asked l = refl
-live-weight Busy l = refl
-live-weight Doomed l = refl
 live-weight (Dying former) l = absurd l
+live-weight _ l = refl
 
 -- it leaves its owner
 pub leaving-lower : (R : ℕ) (x : Obj) (h : ℕ) (fs : List Frame) (p : Pool) (k : ℕ) → Sound (frame.Free (Leaving x h)) fs p → Room R (frame.Free (Leaving x h)) p k
@@ -160,19 +158,14 @@ looping-lower R x purpose fs p k s most = each (first_kid p.rows (Of x)) refl
     -- a call is what waits for a loop that only empties
     called : (g : Frame) (gs : List Frame) → Stands Emptying (g ∷ gs) → top_cost R (resume g (Freed Ok)) gs p.rows < waiting_cost g + (4 * count p.rows (Of x) + 7)
     called (frame.Call (Awaiting q y)) gs c = omega arith
-    called (frame.Call (Asking q)) gs c = absurd c
-    called (frame.Call (Doing q d)) gs c = absurd c
-    called (frame.Call (Warning q y r)) gs c = absurd c
-    called (frame.Call (Telling q r)) gs c = absurd c
-    called (frame.Call (Returning v)) gs c = absurd c
-    called (frame.Free f) gs c = absurd c
+    called _ gs c = absurd c
 
     last : (purpose : Purpose) → Sound (frame.Free (Looping x purpose)) fs p → Lowers R (cost R (frame.Free (Looping x purpose)) fs p k) (lifted (last_step x purpose p)) fs k
     last (Removal h) s =
         let row = dying-row (row_of p.rows x) (claims x fs) (claim-here x InLoop (claims x fs) (row_of p.rows x) (s.open_frees x)) in
         gone h row.0 row.1 row.2 row.3
     last Emptying s = done-lower R (Freed Ok) (frame.Free (Looping x Emptying)) fs p k s.waiting (omega arith)
-        (λ g gs e w. called g gs (subst (λ (l : List Frame). Stands Emptying l) e s.rests))
+        (λ g gs e w. let l = called g gs (subst (λ (l : List Frame). Stands Emptying l) e s.rests) in omega (arith, l))
 
     child : (c : Obj) (o : Option Obj) → target_at p.rows c ≡ o → Lowers R (cost R (frame.Free (Looping x purpose)) fs p k) (lifted (child_step x c purpose (target_at p.rows c) p)) fs k
     child c None e = rw e (omega arith, omega arith)
@@ -246,9 +239,7 @@ at_once-lower R a x (g ∷ gs) p p' k h t w e n m room = below g (waiter g gs w.
     runs : (y c : Obj) (noted : Option Owner) (purpose : Purpose) (a : FreeReply) → a ≡ Running
         → Room R (frame.Free (Tried y c noted purpose a)) p' k × (cost R (frame.Free (Tried y c noted purpose a)) gs p' k < cost R (frame.Free (Beginning x)) (frame.Free (Trying y c noted purpose) ∷ gs) p k)
     runs y c noted purpose Running is = (omega (arith, n), omega (arith, u, m y))
-    runs y c noted purpose Ok is = cc
-    runs y c noted purpose Held is = cc
-    runs y c noted purpose (Refused v) is = cc
+    runs y c noted purpose _ is = cc
 
     below : (g : Frame) → Waiter g → Tries x (g ∷ gs) p → Lowers R (cost R (frame.Free (Beginning x)) (g ∷ gs) p k) (Do.Done (Freed a) p') (g ∷ gs) k
     below _ (ForFree q y) t = (omega (arith, n), omega (arith, u))

@@ -17,8 +17,8 @@ use Rattle.tree_specs.specs.declared.reply.Reply.{Reply}
 use Rattle.tree_specs.specs.declared.reply.Reply.TheVariants as reply
 use Rattle.tree_specs.specs.declared.frame.Frame.{Frame}
 use Rattle.tree_specs.specs.declared.frame.Frame.TheVariants as frame
-use Rattle.tree_specs.specs.declared.frame.CallFrame.TheVariants.{Asking, Doing, Awaiting, Warning, Telling, Returning}
-use Rattle.tree_specs.specs.declared.frame.FreeFrame.TheVariants.{Unlinking, Releasing, Giving, Beginning, Hooked, Judged, Leaving, Looping, Trying, Tried, Ending}
+use Rattle.tree_specs.specs.declared.frame.CallFrame.TheVariants.{Asking, Doing, Awaiting, Returning}
+use Rattle.tree_specs.specs.declared.frame.FreeFrame.TheVariants.{Unlinking, Releasing, Giving, Beginning, Judged, Leaving, Looping, Trying, Tried, Ending}
 use Rattle.tree_specs.specs.declared.frame.Answer.{Answer}
 use Rattle.tree_specs.specs.Pool.{Pool, row_of, changed, place, named_row, sized_row, limited_row, hooked_row}
 use Rattle.tree_specs.specs.Items.{Item}
@@ -68,24 +68,17 @@ effect-lower R q c fs p k s room = each c
     freed x (Some r) = (omega arith, omega arith)
 
     each : (d : Call) → refusals p d ≡ [] → Lowers R (cost R (frame.Call (Doing q c)) fs p k) (effect_step q d p) fs k
-    each (call.New o size name) none = (omega arith, omega arith)
     each (call.Free x) none = freed x (newest_ref p.rows x)
     each (call.Freekids x) none = let m = count-length p.rows (Of x) in (omega arith, omega arith)
     each (call.Steal o x) none = placed reply.Ok o x (passes-placing p o x none) (warns p o x)
     each (call.Move o x) none = placed (reply.Number x.0) o x (passes-placing p o x none) (warns p o x)
     each (call.Reparent from to x) none = reparents from to x (passes-reparent p from to x none)
-    each (call.Reference o x) none = (omega arith, omega arith)
-    each (call.Unlink o x) none = (omega arith, omega arith)
     each (call.Hook x h) none = let may = passes-hooking p x none in mended (hooked_row h) x may.row may.is refl
     each (call.Unhook x) none = let may = passes-hooking p x none in mended (hooked_row 0) x may.row may.is refl
     each (call.Rename x name) none = let r = passes-object p x none in mended (named_row name) x r.0 r.1 refl
     each (call.Resize x size) none = let r = passes-resize p x size none in mended (sized_row size) x r.0 r.1 refl
     each (call.Limit x max) none = let r = passes-object p x none in mended (limited_row max) x r.0 r.1 refl
-    each (call.Parent x) none = (omega arith, omega arith)
-    each (call.Total o) none = (omega arith, omega arith)
-    each (call.Count o) none = (omega arith, omega arith)
-    each (call.Sum o) none = (omega arith, omega arith)
-    each (call.Report o) none = (omega arith, omega arith)
+    each _ none = (omega arith, omega arith)
 
 doing-lower : (R : ℕ) (q : Ask) (c : Call) (fs : List Frame) (p : Pool) (k : ℕ) → Sound (frame.Call (Doing q c)) fs p → Room R (frame.Call (Doing q c)) p k
     → Lowers R (cost R (frame.Call (Doing q c)) fs p k) (call_step (refusals p c) q c p) fs k
@@ -100,20 +93,18 @@ pub lower : (R : ℕ) (f : Frame) (fs : List Frame) (p : Pool) (k : ℕ) → Sou
 lower R (frame.Call (Asking q)) fs p k s room = asking-lower R q fs p k room
 lower R (frame.Call (Doing q c)) fs p k s room = doing-lower R q c fs p k s room
 lower R (frame.Call (Awaiting q x)) fs p k s room = absurd s.rests
-lower R (frame.Call (Warning q x r)) fs p k s room = (omega arith, omega arith)
-lower R (frame.Call (Telling q r)) fs p k s room = (omega arith, omega arith)
 lower R (frame.Call (Returning v)) fs p k s room = returning-lower R v fs p k s room
 lower R (frame.Free (Unlinking o x)) fs p k s room = unlinking-lower R o x fs p k s room
 lower R (frame.Free (Releasing x)) fs p k s room = releasing-lower R x fs p k s room
 lower R (frame.Free (Giving x o)) fs p k s room = giving-lower R x o fs p k s room
 lower R (frame.Free (Beginning x)) fs p k s room = beginning-lower R x fs p k s room
-lower R (frame.Free (Hooked x h)) fs p k s room = (omega arith, omega arith)
 lower R (frame.Free (Judged x h v)) fs p k s room = judged-lower R x h v fs p k s room
 lower R (frame.Free (Leaving x h)) fs p k s room = leaving-lower R x h fs p k s room
 lower R (frame.Free (Looping x purpose)) fs p k s room = looping-lower R x purpose fs p k s room
 lower R (frame.Free (Trying x c noted purpose)) fs p k s room = absurd s.rests
 lower R (frame.Free (Tried x c noted purpose a)) fs p k s room = tried-lower R x c noted purpose a fs p k s room
 lower R (frame.Free (Ending answer)) fs p k s room = ending-lower R answer fs p k s room
+lower R _ fs p k s room = (omega arith, omega arith)
 
 -- what the measure speaks of
 abbrev pub Well : ℕ → Frame → List Frame → Pool → ℕ → Type 0

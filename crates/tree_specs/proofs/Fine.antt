@@ -16,8 +16,8 @@ use Rattle.tree_specs.specs.declared.reply.Reply.{Reply}
 use Rattle.tree_specs.specs.declared.event.Event.TheVariants.{Replied, Refused}
 use Rattle.tree_specs.specs.declared.frame.Frame.{Frame}
 use Rattle.tree_specs.specs.declared.frame.Frame.TheVariants as frame
-use Rattle.tree_specs.specs.declared.frame.CallFrame.TheVariants.{Asking, Doing, Awaiting, Warning, Telling, Returning}
-use Rattle.tree_specs.specs.declared.frame.FreeFrame.TheVariants.{Unlinking, Releasing, Giving, Beginning, Hooked, Judged, Leaving, Looping, Trying, Tried, Ending}
+use Rattle.tree_specs.specs.declared.frame.CallFrame.TheVariants.{Awaiting, Telling}
+use Rattle.tree_specs.specs.declared.frame.FreeFrame.TheVariants.{Hooked, Trying}
 use Rattle.tree_specs.specs.declared.frame.Answer.{Answer}
 use Rattle.tree_specs.specs.declared.free_step.FreeReply.{FreeReply}
 use Rattle.tree_specs.specs.declared.free_step.FreeReply.TheVariants as free_reply
@@ -28,6 +28,7 @@ use Rattle.tree_specs.specs.Items.Item.{Told}
 use Rattle.tree_specs.specs.Works.{Begun, Scene}
 use Rattle.tree_specs.specs.Story.{freed_reply, later}
 use Rattle.tree_specs.specs.Table.{notes, resume, reply_in}
+use Rattle.tree_specs.specs.Profiles.{Waits, Never, AFree, ARun, AChild, profile}
 use Rattle.tree_specs.specs.Orderly.{Fits, RefusedJustNow}
 use Rattle.tree_specs.specs.Grounded.{IsGrounded, AnsweredCall, HeldCall, CausedCall, IsItem, AsksHook}
 use Rattle.tree_specs.specs.Sound.{AllWait}
@@ -35,7 +36,7 @@ use Rattle.tree_specs.proofs.Numbered.{same-equal}
 use Rattle.tree_specs.proofs.Means.{noted_table}
 use Rattle.tree_specs.proofs.Later.{later-same}
 use Rattle.tree_specs.proofs.Past.{IsLeaving, Accounts, Past, past-goes}
-use Rattle.tree_specs.proofs.Causes.{NotedWork, item_of, told, IsFreeOf, IsHookOf, IsRunOf, FreesBy, Knows, StandsOn, Stacked, OfNext, IsCaused, Cause, NotHeld}
+use Rattle.tree_specs.proofs.Causes.{NotedWork, item_of, told, IsFreeOf, IsHookOf, IsRunOf, FreesBy, Knows, StandsFor, StandsOn, Stacked, OfNext, IsCaused, Cause, NotHeld}
 use Rattle.tree_specs.proofs.Waiters.{Waiter, ForFree, ForRun, ForChild, waiter}
 
 abbrev pub work_of : NotedWork → Frame
@@ -64,26 +65,13 @@ told-more scenes s = map_push item_of scenes s
 -- another work in the place of one, for which it does as well
 pub restacked : (f f' : Frame) (ws : List NotedWork) → ((x : Obj) → IsFreeOf x f → IsFreeOf x f') → ((x : Obj) → IsRunOf x f → IsRunOf x f') → Stacked f ws → Stacked f' ws
 restacked f f' [] free run s = tt
-restacked f f' (w ∷ ws) free run s = (stands w.work s.0, s.1)
+restacked f f' (w ∷ ws) free run s = (stands (profile w.work).waits s.0, s.1)
   where
-    stands : (g : Frame) → StandsOn f g w.note → StandsOn f' g w.note
-    stands (frame.Call (Awaiting q x)) h = (free x h.0, h.1)
-    stands (frame.Free (Trying x c noted purpose)) h = free c h
-    stands (frame.Free (Hooked x h)) k = run x k
-    stands (frame.Call (Asking q)) h = tt
-    stands (frame.Call (Doing q c)) h = tt
-    stands (frame.Call (Warning q x r)) h = tt
-    stands (frame.Call (Telling q r)) h = tt
-    stands (frame.Call (Returning v)) h = tt
-    stands (frame.Free (Unlinking o x)) h = tt
-    stands (frame.Free (Releasing x)) h = tt
-    stands (frame.Free (Giving x o)) h = tt
-    stands (frame.Free (Beginning x)) h = tt
-    stands (frame.Free (Judged x h v)) k = tt
-    stands (frame.Free (Leaving x h)) k = tt
-    stands (frame.Free (Looping x purpose)) h = tt
-    stands (frame.Free (Tried x c noted purpose a)) h = tt
-    stands (frame.Free (Ending a)) h = tt
+    stands : (g : Waits) → StandsFor g f w.note → StandsFor g f' w.note
+    stands (AFree x) h = (free x h.0, h.1)
+    stands (AChild c purpose) h = free c h
+    stands (ARun x k) h = run x h
+    stands Never h = tt
 
 -- what holds of each work that may stand right below
 pub of-next : (Q : Frame → Option Begun → Type 0) (f : Frame) (ws : List NotedWork) → AllWait (map work_of ws) → Stacked f ws
@@ -99,12 +87,7 @@ from-next P Q f (w ∷ ws) wait s h each = each w.work w.note (waiter w.work (ma
 -- a later question is of the same destructor
 pub later-hook : (x : Obj) (q : Ask) (r : Reply) → IsHookOf x q → IsHookOf x (later q r)
 later-hook x (ask.Routine m) r h = h
-later-hook x ask.Quiet r h = h
-later-hook x ask.Clock r h = h
-later-hook x (ask.Wait limit) r h = h
-later-hook x (ask.Accept descriptor) r h = h
-later-hook x (ask.Read descriptor most) r h = h
-later-hook x (ask.Write descriptor bytes) r h = h
+later-hook x _ r h = h
 
 -- ---- replies
 
@@ -146,21 +129,7 @@ caused-reply scenes x (Some b) a k h = let e = each b.call k.0 k.1 in (just-now 
         (for-free (subst (λ (z : Obj). is_held b.start z ≡ false) e n) a h)
     each (call.Freekids y) e n = (tt, tt, tt)
     each (call.Unlink o y) e n = (tt, tt, tt)
-    each (call.New o size name) e n = absurd e
-    each (call.Steal o y) e n = absurd e
-    each (call.Move o y) e n = absurd e
-    each (call.Reparent from to y) e n = absurd e
-    each (call.Reference o y) e n = absurd e
-    each (call.Hook y routine) e n = absurd e
-    each (call.Unhook y) e n = absurd e
-    each (call.Rename y name) e n = absurd e
-    each (call.Resize y size) e n = absurd e
-    each (call.Limit y max) e n = absurd e
-    each (call.Parent y) e n = absurd e
-    each (call.Total o) e n = absurd e
-    each (call.Count o) e n = absurd e
-    each (call.Sum o) e n = absurd e
-    each (call.Report o) e n = absurd e
+    each _ e n = absurd e
 
 -- ---- a work that ends
 

@@ -1,4 +1,5 @@
 -- The steps of callers: a question, a call, a reply, a return.
+use Rattle.tree_specs.specs.Profiles.{InRun}
 use Rattle.tree_specs.specs.declared.kind.Kind.TheVariants as kind
 use Rattle.tree_specs.specs.declared.row.Row.{Row}
 use Rattle.std.specs.Prelude.{codes}
@@ -40,7 +41,7 @@ use Rattle.tree_specs.specs.Table.{notes, step, taken, call_step, effect_step, p
 use Rattle.tree_specs.specs.Orderly.{Fits, frees}
 use Rattle.tree_specs.specs.Orderly.{asks_hook}
 use Rattle.tree_specs.specs.Grounded.{AsksHook}
-use Rattle.tree_specs.specs.Sound.{AllWait, claim, claims, InRun, phases, Sound}
+use Rattle.tree_specs.specs.Sound.{AllWait, claim, claims, phases, Sound}
 use Rattle.tree_specs.specs.Whole.{Whole, Seated}
 use Rattle.tree_specs.proofs.Numbered.{same-equal}
 use Rattle.tree_specs.specs.Sound.{MayBePlaced}
@@ -57,12 +58,7 @@ use Rattle.tree_specs.proofs.Fine.{work_of, Known, FineBy, restacked, of-next, f
 -- the question of a destructor is of its object
 asks-hook : (x : Obj) (q : Ask) → IsHookOf x q → asks_hook x (Asked q) ≡ true
 asks-hook x (ask.Routine m) h = rw (h.0, same-equal m.object x h.1) refl
-asks-hook x ask.Quiet h = absurd h
-asks-hook x ask.Clock h = absurd h
-asks-hook x (ask.Wait limit) h = absurd h
-asks-hook x (ask.Accept descriptor) h = absurd h
-asks-hook x (ask.Read descriptor most) h = absurd h
-asks-hook x (ask.Write descriptor bytes) h = absurd h
+asks-hook x _ h = absurd h
 
 pub asking-fine : (scenes : List Scene) (q : Ask) (b : Option Begun) (ws : List NotedWork) (p : Pool) → Whole (record { innermost = frame.Call (Asking q); below = map work_of ws; pool = p })
     → Known scenes (with_note b (frame.Call (Asking q))) ws p → FineBy scenes (frame.Call (Asking q)) b p (step (frame.Call (Asking q)) p) ws

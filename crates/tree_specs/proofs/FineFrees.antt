@@ -1,4 +1,5 @@
 -- The steps of frees.
+use Rattle.tree_specs.specs.Profiles.{InRun, InLoop, Phase}
 use Rattle.tree_specs.specs.Calls.{is_running, is_running_row, is_running_mark}
 use Rattle.std.proofs.Common.{◌≡◌, ℕ, List, [], ◌∷◌, ◌++◌, Option, Some, None, true, false, nat_eq, refl, ◌∙◌, ap, subst, inl, map}
 use Rattle.std.specs.List.{list_any}
@@ -28,7 +29,7 @@ use Rattle.tree_specs.specs.Story.{hook_moment}
 use Rattle.tree_specs.specs.Table.{notes, lifted, judge_step, last_step, loop_step, hand_on_step, child_step}
 use Rattle.tree_specs.specs.Orderly.{frees, accepts}
 use Rattle.tree_specs.specs.Grounded.{IsItem}
-use Rattle.tree_specs.specs.Sound.{IsLive, claims, InRun, InLoop, ValidAt, Phase, phases}
+use Rattle.tree_specs.specs.Sound.{IsLive, claims, ValidAt, phases}
 use Rattle.tree_specs.specs.Whole.{Whole}
 use Rattle.tree_specs.proofs.Numbered.{by_test}
 use Rattle.tree_specs.proofs.Rows.{row_of-changed-same, row_of-without-same}
@@ -71,10 +72,8 @@ module _ (scenes : List Scene) (b : Option Begun) (ws : List NotedWork) (p : Poo
     where
       marks : (m : Mark) → r.mark ≡ m → is_running_mark r.mark ≡ true
       marks mark.Quiet m = let bad : InRun ∷ l ≡ [] = rw m at e in cc
-      marks mark.Asked m = rw m refl
-      marks mark.Busy m = rw m refl
-      marks mark.Doomed m = rw m refl
       marks (mark.Dying former) m = let bad : InRun ∷ l ≡ InLoop ∷ [] = rw m at e in cc
+      marks _ m = rw m refl
 
   -- a destructor's refusal is told right before the call that waits is
   refused-now : (s : Scene) (x : Obj) (h v w : ℕ) → s.item ≡ Told (Refused x v) → (g : Frame) (n : Option Begun) → Waiter g → StandsOn (frame.Free (Judged x h w)) g n

@@ -102,11 +102,7 @@ module _ (items : List Item) (x : Obj) (free : list_any (accepts x) items ≡ fa
         | inr f ↦ cc
       ]
   fits-asked ask.Quiet h = absurd h
-  fits-asked ask.Clock h = absurd h
-  fits-asked (ask.Wait limit) h = absurd h
-  fits-asked (ask.Accept descriptor) h = absurd h
-  fits-asked (ask.Read descriptor most) h = absurd h
-  fits-asked (ask.Write descriptor bytes) h = absurd h
+  fits-asked _ h = absurd h
 
 pub fits-quiet : (items : List Item) (q : Ask) → IsQuiet q → Fits items (Asked q)
 fits-quiet items ask.Quiet h = record {
@@ -118,11 +114,7 @@ fits-quiet items ask.Quiet h = record {
   states_go_up = tt;
 }
 fits-quiet items (ask.Routine m) h = absurd h
-fits-quiet items ask.Clock h = absurd h
-fits-quiet items (ask.Wait limit) h = absurd h
-fits-quiet items (ask.Accept descriptor) h = absurd h
-fits-quiet items (ask.Read descriptor most) h = absurd h
-fits-quiet items (ask.Write descriptor bytes) h = absurd h
+fits-quiet items _ h = absurd h
 
 object-row : (o : Option Row) → is_object_row o ≡ true → is_some o ≡ true
 object-row None e = cc

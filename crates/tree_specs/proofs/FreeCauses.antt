@@ -44,9 +44,7 @@ behind-cause q x s ts (free_reply.Refused v) h = last-behind (IsItem (Told (Refu
 
 is-ok : (p : Pool) (x : Obj) (told : List Scene) (a : FreeReply) → a ≡ free_reply.Ok → FreeCause p x told a
 is-ok p x told free_reply.Ok e = tt
-is-ok p x told free_reply.Held e = cc
-is-ok p x told free_reply.Running e = cc
-is-ok p x told (free_reply.Refused v) e = cc
+is-ok p x told _ e = cc
 
 -- an object that leaves its owner is freed
 leave-ok : (n : ℕ) (x : Obj) (h : ℕ) (p : Pool) (is : List Input) (a : FreeReply) (q : Pool) (ts : List Scene) (left : List Input) → leave n x h p is ≡ Ended a q ts left → a ≡ free_reply.Ok

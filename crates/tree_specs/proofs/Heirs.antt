@@ -67,16 +67,12 @@ heir-may_take rs x c (Some (Of y)) = by_test (may_take rs c (Of y))
     (λ t. rw t (former-takes rs x c))
 
 former-other : (m : Mark) (o : Option Owner) (x : Obj) → Shaped m o x → former_by m o ≢ Of x
-former-other Quiet (Some o) x s = s
 former-other Quiet None x s = absurd s
-former-other Asked (Some o) x s = s
 former-other Asked None x s = absurd s
-former-other Busy (Some o) x s = s
 former-other Busy None x s = absurd s
-former-other Doomed (Some o) x s = s
 former-other Doomed None x s = absurd s
 former-other (Dying former) (Some o) x s = absurd s
-former-other (Dying former) None x s = s
+former-other _ _ x s = s
 
 -- the heir of a child isn't the object that it leaves, where that wasn't noted
 pub heir-other : (rs : List Row) (next : ℕ) (x c : Obj) (noted : Option Owner) → ValidAt next (row_of rs x) x → noted ≢ Some (Of x) → heir rs x c noted ≢ Of x

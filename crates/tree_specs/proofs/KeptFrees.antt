@@ -4,6 +4,7 @@ use Rattle.std.specs.Prelude.{unwrap_or, ◌||◌}
 use Rattle.step_machine.specs.Machine.{Move}
 use Rattle.step_machine.specs.Machine.{Move as Do}
 use Rattle.step_machine.proofs.Ends.{Leads}
+use Rattle.tree_specs.specs.Profiles.{InRun, InLoop}
 use Rattle.tree_specs.specs.declared.object.Obj.{Obj}
 use Rattle.tree_specs.specs.declared.object.Owner.{Owner}
 use Rattle.tree_specs.specs.declared.object.Owner.TheVariants.{Root, Of}
@@ -28,7 +29,7 @@ use Rattle.tree_specs.specs.Items.{Item}
 use Rattle.tree_specs.specs.Story.{hook_moment}
 use Rattle.tree_specs.specs.Table.{table, step, lifted, begin_quiet, begin_step, drop_step, refs_step, unlink_step, release_step, judge_step, last_step, child_step, loop_step, hand_on_step, reply_in, resume}
 use Rattle.tree_specs.specs.Heirs.{heir}
-use Rattle.tree_specs.specs.Sound.{Owned, Shaped, ValidAt, InRun, InLoop, phase_of, phases, claim, claims, AllWait, IsLive, IsReferable, NotedFor, Tries, StillThere, Refers, IsQuietRow, IsOver, MayAnswer, IsCalled, IsGivenUp, MayBePlaced, Sound}
+use Rattle.tree_specs.specs.Sound.{Owned, Shaped, ValidAt, phase_of, phases, claim, claims, AllWait, IsLive, IsReferable, NotedFor, Tries, StillThere, Refers, IsQuietRow, IsOver, MayAnswer, IsCalled, IsGivenUp, MayBePlaced, Sound}
 use Rattle.tree_specs.proofs.Numbered.{by_test, same-equal, same-false}
 use Rattle.tree_specs.proofs.Rows.{row_of-changed-other, row_of-changed-same, row_of-without-other, row_of-without-same, first_kid-owner}
 use Rattle.tree_specs.proofs.Rooted.{forest-left, forest-without, is_there-owner}
@@ -66,10 +67,8 @@ ended a f (g ∷ gs) p k s none there = below g (waiter g gs s.waiting.0) s ther
 
 -- a child that isn't said to run need not be where it was
 pub still-there : (a : FreeReply) (x c : Obj) (noted : Option Owner) (p : Pool) → IsOver a → StillThere a x c noted p
-still-there Ok x c noted p h = tt
-still-there Held x c noted p h = tt
 still-there Running x c noted p h = absurd h
-still-there (Refused v) x c noted p h = tt
+still-there _ x c noted p h = tt
 
 -- ---- freeing
 
@@ -90,7 +89,7 @@ leaving x h fs p k s =
       refers = refers-at p.rows (changed left_row p.rows x) x other
           (λ t q. let q' : target_of r.kind ≡ Some t = rw new at q in let bad : None ≡ Some t = sym s.rests.4 ∙ q' in cc) (λ y q. absurd (none-refers p.rows x y unreferred q)) s.refers;
       open_frees = frees-at (frame.Free (Leaving x h)) (frame.Free (Looping x (Removal h))) fs fs p.rows (changed left_row p.rows x) x s.open_frees other
-          (λ y ne. let u : same x y ≡ false = same-false x y ne in by_test (nat_eq h 0) (λ t. rw (u, t) refl) (λ t. rw (u, t) refl))
+          (λ y ne. let u : same x y ≡ false = same-false x y ne in by_test (nat_eq h 0) (λ t. rw (t, u) refl) (λ t. rw (t, u) refl))
           (rw (self, none, new) refl);
       waiting = s.waiting;
       rests = tt;

@@ -5,7 +5,7 @@ use Rattle.tree_specs.specs.declared.object.Owner.{Owner}
 use Rattle.tree_specs.specs.declared.kind.Kind.{Kind}
 use Rattle.tree_specs.specs.declared.row.Row.{Row}
 use Rattle.tree_specs.specs.declared.row.Mark.{Mark}
-use Rattle.tree_specs.specs.declared.row.Mark.TheVariants.{Quiet, Asked, Busy, Doomed, Dying}
+use Rattle.tree_specs.specs.declared.row.Mark.TheVariants.{Dying}
 use Rattle.tree_specs.specs.Objects.{same}
 use Rattle.tree_specs.specs.Pool.{Pool, row_of, changed, add, detach, left_row, remove, place, set_mark, marked_row, set_hook, hooked_row, rename, named_row, set_size, sized_row, set_limit, limited_row}
 use Rattle.tree_specs.specs.Forest.{Distinct}
@@ -14,11 +14,8 @@ use Rattle.tree_specs.proofs.Numbered.{same_or_not, same-false}
 use Rattle.tree_specs.proofs.Rows.{row_of-changed-other, row_of-changed-same, row_of-without-other, row_of-without-same, row_of-placed-other, row_of-placed-same}
 
 abbrev pub IsDying : Mark → Type 0
-IsDying Quiet = ⊥
-IsDying Asked = ⊥
-IsDying Busy = ⊥
-IsDying Doomed = ⊥
 IsDying (Dying former) = Unit {0}
+IsDying _ = ⊥
 
 -- there is no such row, or it is dying
 abbrev pub IsPast : Option Row → Type 0
@@ -61,11 +58,8 @@ later-changed g p x r serial e h =
     later-there p (record p { rows = changed g p.rows x }) x r (g r) (omega arith) (λ y ne. row_of-changed-other g p.rows x y serial ne) e (row_of-changed-same g p.rows x r serial e) h
 
 pub live-not-dying : (m : Mark) → IsLive m → IsDying m → ⊥
-live-not-dying Quiet l d = d
-live-not-dying Asked l d = d
-live-not-dying Busy l d = d
-live-not-dying Doomed l d = d
 live-not-dying (Dying former) l d = l
+live-not-dying _ l d = d
 
 pub later-marked : (p : Pool) (x : Obj) (r : Row) (m : Mark) → row_of p.rows x ≡ Some r → IsLive r.mark → Later p (set_mark p x m)
 later-marked p x r m e l = later-changed (marked_row m) p x r (λ q. refl) e (λ d. absurd (live-not-dying r.mark l d))

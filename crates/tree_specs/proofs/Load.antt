@@ -1,4 +1,5 @@
 -- The stated number of turns is above the measure at every moment, and each work stands where it may.
+use Rattle.tree_specs.specs.Profiles.{InRun, InLoop}
 use Rattle.tree_specs.specs.declared.event.Event.TheVariants.{Unreferenced}
 use Rattle.tree_specs.specs.Items.Item.{Told}
 use Rattle.std.specs.Prelude.{unwrap_or}
@@ -37,12 +38,13 @@ use Rattle.tree_specs.specs.Heirs.{heir}
 use Rattle.tree_specs.specs.Items.{Item}
 use Rattle.tree_specs.specs.Calls.{Check, refusals}
 use Rattle.tree_specs.specs.Table.{table, step, lifted, begin_quiet, begin_step, judge_step, last_step, loop_step, hand_on_step, call_step, effect_step, replied, resume, child_step, refs_step, unlink_step, release_step, freeing_by, placed_step}
-use Rattle.tree_specs.specs.Sound.{phase_of, phases, InRun, InLoop, claims, AllWait, Sound, Refers, IsQuietRow}
+use Rattle.tree_specs.specs.Sound.{phase_of, phases, claims, AllWait, Sound, Refers, IsQuietRow}
 use Rattle.tree_specs.proofs.Numbered.{by_test}
 use Rattle.tree_specs.specs.Sound.{MayBePlaced}
 use Rattle.tree_specs.proofs.Checks.{passes-placing, passes-reparent, passes-object, passes-resize, passes-hooking, Heard, Does, Returns, heard-leads, MayGo, Itself, ItsRef}
 use Rattle.tree_specs.specs.Story.{owner_reply, later, warns, reparented}
-use Rattle.tree_specs.specs.Whole.{IsQuiet, IsOfRoutine, IsCaller, IsRun, IsFree, Seat, Seated, size, innermost_size, sizes, mark_burden, burden, Light}
+use Rattle.tree_specs.specs.Whole.{IsQuiet, IsOfRoutine, IsCaller, IsRun, IsFree, Seat, Serves, Seated, size, innermost_size, sizes, mark_burden, burden, Light}
+use Rattle.tree_specs.specs.Profiles.{Waits, ARun, profile}
 use Rattle.tree_specs.specs.Sums.{sum_inside}
 use Rattle.tree_specs.specs.Inside.{total, size_inside, count_inside}
 use Rattle.tree_specs.specs.Reports.{report}
@@ -59,51 +61,26 @@ Placed m fs k = Leads table (λ g gs q j. Seated g gs × Light g gs q) m fs k
 
 pub reseat : (f g : Frame) (fs : List Frame) → (IsCaller f → IsCaller g) → (IsRun f → IsRun g) → (IsFree f → IsFree g) → Seated f fs → Seated g fs
 reseat f g [] c r k s = c s
-reseat f g (h ∷ hs) c r k s = (seat h s.0, s.1)
+reseat f g (h ∷ hs) c r k s = (serve (profile h).waits s.0, s.1)
   where
-    seat : (h : Frame) → Seat f (h ∷ hs) → Seat g (h ∷ hs)
-    seat (frame.Call d) s = k s
-    seat (frame.Free (Hooked x h)) s = r s
-    seat (frame.Free (Unlinking o x)) s = k s
-    seat (frame.Free (Releasing x)) s = k s
-    seat (frame.Free (Giving x o)) s = k s
-    seat (frame.Free (Beginning x)) s = k s
-    seat (frame.Free (Judged x h v)) s = k s
-    seat (frame.Free (Leaving x h)) s = k s
-    seat (frame.Free (Looping x purpose)) s = k s
-    seat (frame.Free (Trying x c noted purpose)) s = k s
-    seat (frame.Free (Tried x c noted purpose a)) s = k s
-    seat (frame.Free (Ending a)) s = k s
+    serve : (w : Waits) → Serves w f → Serves w g
+    serve (ARun x h) s = r s
+    serve _ s = k s
 
 pub reseat-free : (f g : FreeFrame) (fs : List Frame) → Seated (frame.Free f) fs → Seated (frame.Free g) fs
 reseat-free f g fs s = reseat (frame.Free f) (frame.Free g) fs (λ c. c) (λ r. r) (λ k. tt) s
 
 quiet-later : (q : Ask) (r : Reply) → IsQuiet q → IsQuiet (later q r)
 quiet-later asks.Quiet r h = tt
-quiet-later (asks.Routine m) r h = absurd h
-quiet-later asks.Clock r h = absurd h
-quiet-later (asks.Wait limit) r h = absurd h
-quiet-later (asks.Accept descriptor) r h = absurd h
-quiet-later (asks.Read descriptor most) r h = absurd h
-quiet-later (asks.Write descriptor bytes) r h = absurd h
+quiet-later _ r h = absurd h
 
 routine-later : (q : Ask) (r : Reply) → IsOfRoutine q → IsOfRoutine (later q r)
-routine-later asks.Quiet r h = absurd h
 routine-later (asks.Routine m) r h = tt
-routine-later asks.Clock r h = absurd h
-routine-later (asks.Wait limit) r h = absurd h
-routine-later (asks.Accept descriptor) r h = absurd h
-routine-later (asks.Read descriptor most) r h = absurd h
-routine-later (asks.Write descriptor bytes) r h = absurd h
+routine-later _ r h = absurd h
 
 not-both : (q : Ask) → IsQuiet q → IsOfRoutine q → ⊥
 not-both asks.Quiet h k = k
-not-both (asks.Routine m) h k = h
-not-both asks.Clock h k = h
-not-both (asks.Wait limit) h k = h
-not-both (asks.Accept descriptor) h k = h
-not-both (asks.Read descriptor most) h k = h
-not-both (asks.Write descriptor bytes) h k = h
+not-both _ h k = h
 
 reseat-told : (q : Ask) (c : Call) (r : Reply) (fs : List Frame) → Seated (frame.Call (Doing q c)) fs → Seated (frame.Call (Telling (later q r) r)) fs
 reseat-told q c r fs s = reseat (frame.Call (Doing q c)) (frame.Call (Telling (later q r) r)) fs (quiet-later q r) (routine-later q r) (λ k. k) s
@@ -256,10 +233,7 @@ releasing-placed x fs p k sound s l = each (newest_ref p.rows x) refl
 
 pub mark_burden-most : (m : Mark) → mark_burden m ≤ 3
 mark_burden-most Quiet = omega arith
-mark_burden-most Asked = omega arith
-mark_burden-most Busy = omega arith
-mark_burden-most Doomed = omega arith
-mark_burden-most (Dying former) = omega arith
+mark_burden-most _ = omega arith
 
 judged-placed : (x : Obj) (h v : ℕ) (fs : List Frame) (p : Pool) (k : ℕ) → Sound (frame.Free (Judged x h v)) fs p → Seated (frame.Free (Judged x h v)) fs → Light (frame.Free (Judged x h v)) fs p
     → Placed (step (frame.Free (Judged x h v)) p) fs k
@@ -280,10 +254,7 @@ leaving-placed x h fs p k s seats l = (reseat-free (Leaving x h) (Looping x (Rem
   where
     calm : (m : Mark) → [] ≡ phase_of m → mark_burden m ≡ 0
     calm Quiet e = refl
-    calm Asked e = cc
-    calm Busy e = cc
-    calm Doomed e = cc
-    calm (Dying former) e = cc
+    calm _ e = cc
 
     lighter : (r : Row) → row_of p.rows x ≡ Some r → claims x fs ≡ [] → Light (frame.Free (Looping x (Removal h))) fs (record p { rows = changed left_row p.rows x })
     lighter r e none = let w = total-changed burden left_row p.rows x r e in by_test (nat_eq h 0)
@@ -328,9 +299,7 @@ tried-placed x c noted purpose a fs p k s seats l = each a
 
     each : (b : FreeReply) → Placed (step (frame.Free (Tried x c noted purpose b)) p) fs k
     each Ok = (on, l)
-    each Held = handed
-    each Running = handed
-    each (Refused v) = handed
+    each _ = handed
 
 pub placed-kept : (f : Frame) (fs : List Frame) (p : Pool) (k : ℕ) → Sound f fs p → Seated f fs → Light f fs p → Placed (step f p) fs k
 placed-kept (frame.Call (Asking q)) fs p k s b l = asking-placed q fs p k b l

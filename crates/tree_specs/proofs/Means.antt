@@ -9,7 +9,7 @@ use Rattle.tree_specs.specs.declared.object.Obj.{Obj}
 use Rattle.tree_specs.specs.declared.object.Owner.TheVariants.{Of}
 use Rattle.tree_specs.specs.declared.row.Row.{Row}
 use Rattle.tree_specs.specs.declared.row.Mark.{Mark}
-use Rattle.tree_specs.specs.declared.row.Mark.TheVariants.{Quiet, Asked, Busy, Doomed, Dying}
+use Rattle.tree_specs.specs.declared.row.Mark.TheVariants.{Quiet}
 use Rattle.tree_specs.specs.declared.call.Call.{Call}
 use Rattle.tree_specs.specs.declared.call.Call.TheVariants as call
 use Rattle.tree_specs.specs.declared.event.Event.TheVariants.{Freed as IsFreed}
@@ -27,7 +27,7 @@ use Rattle.tree_specs.specs.declared.frame.Purpose.TheVariants.{Removal, Emptyin
 use Rattle.tree_specs.specs.declared.frame.Answer.{Answer}
 use Rattle.tree_specs.specs.declared.frame.Answer.TheVariants.{Freed, Returned}
 use Rattle.tree_specs.specs.declared.free_step.FreeReply.{FreeReply}
-use Rattle.tree_specs.specs.declared.free_step.FreeReply.TheVariants.{Ok, Running, Refused, Held}
+use Rattle.tree_specs.specs.declared.free_step.FreeReply.TheVariants.{Ok}
 use Rattle.tree_specs.specs.Pool.{Pool, row_of, is_below, owner_of, first_kid, remove, target_at, newest_ref_of, is_inside}
 use Rattle.tree_specs.specs.Items.{Item}
 use Rattle.tree_specs.specs.Items.Item.{Told}
@@ -145,10 +145,7 @@ beginning-turn n x b p is = newest (newest_ref p.rows x) refl
     marks : newest_ref p.rows x ≡ None → (r : Row) (m : Mark) → r.mark ≡ m → row_of p.rows x ≡ Some r
         → Below (Turn n (frame.Free (Beginning x)) b (lifted (refs_step x (newest_ref p.rows x) p)) p is) (freed (free (suc n) x) p is)
     marks k r Quiet m e = by_test (nat_eq r.hook 0) (λ t. rw (k, e, m, t) (inr refl)) (λ t. rw (k, e, m, t) (inr refl))
-    marks k r Asked m e = rw (k, e, m) (inr refl)
-    marks k r Busy m e = rw (k, e, m) (inr refl)
-    marks k r Doomed m e = rw (k, e, m) (inr refl)
-    marks k r (Dying former) m e = rw (k, e, m) (inr refl)
+    marks k r _ m e = rw (k, e, m) (inr refl)
 
     each : newest_ref p.rows x ≡ None → (o : Option Row) → row_of p.rows x ≡ o
         → Below (Turn n (frame.Free (Beginning x)) b (lifted (refs_step x (newest_ref p.rows x) p)) p is) (freed (free (suc n) x) p is)
@@ -203,32 +200,23 @@ tried-turn n x c noted purpose a b p is = each purpose a
     each : (purpose : Purpose) (a : FreeReply) → Below (Turn n (frame.Free (Tried x c noted purpose a)) b (lifted (tried_step x c noted purpose a p)) p is) (looped x purpose (tried (suc n) x c noted a) p is)
     each (Removal h) Ok = inr refl
     each Emptying Ok = inr refl
-    each (Removal h) Held = by_test (is_below (owner_of p.rows c) (Of x)) (λ t. rw t (inr (simp laws))) (λ t. rw t (inr refl))
-    each Emptying Held = by_test (is_below (owner_of p.rows c) (Of x)) (λ t. rw t (inr (simp laws))) (λ t. rw t (inr refl))
-    each (Removal h) Running = by_test (is_below (owner_of p.rows c) (Of x)) (λ t. rw t (inr (simp laws))) (λ t. rw t (inr refl))
-    each Emptying Running = by_test (is_below (owner_of p.rows c) (Of x)) (λ t. rw t (inr (simp laws))) (λ t. rw t (inr refl))
-    each (Removal h) (Refused v) = by_test (is_below (owner_of p.rows c) (Of x)) (λ t. rw t (inr (simp laws))) (λ t. rw t (inr refl))
-    each Emptying (Refused v) = by_test (is_below (owner_of p.rows c) (Of x)) (λ t. rw t (inr (simp laws))) (λ t. rw t (inr refl))
+    each _ _ = by_test (is_below (owner_of p.rows c) (Of x)) (λ t. rw t (inr (simp laws))) (λ t. rw t (inr refl))
 
 -- one turn of the machine is one turn of the text
 pub turn : (n : ℕ) (f : Frame) (b : Option Begun) (p : Pool) (is : List Input) → Below (Turn n f b (step f p) p is) (mean (suc n) f b p is)
 turn n (frame.Call (Asking q)) b p is = asking-turn n q b p is
 turn n (frame.Call (Doing q c)) b p is = doing-turn n q c b p is
 turn n (frame.Call (Awaiting q x)) b p is = inr refl
-turn n (frame.Call (Warning q x r)) b p is = inr (simp laws)
-turn n (frame.Call (Telling q r)) b p is = inr (simp laws)
 turn n (frame.Call (Returning v)) b p is = inr refl
 turn n (frame.Free (Unlinking o x)) b p is = unlinking-turn n o x b p is
 turn n (frame.Free (Releasing x)) b p is = releasing-turn n x b p is
-turn n (frame.Free (Giving x o)) b p is = inr (simp laws)
 turn n (frame.Free (Beginning x)) b p is = beginning-turn n x b p is
-turn n (frame.Free (Hooked x h)) b p is = inr (simp laws)
 turn n (frame.Free (Judged x h v)) b p is = judged-turn n x h v b p is
-turn n (frame.Free (Leaving x h)) b p is = inr (simp laws)
 turn n (frame.Free (Looping x purpose)) b p is = looping-turn n x purpose b p is
 turn n (frame.Free (Trying x c noted purpose)) b p is = inr refl
 turn n (frame.Free (Tried x c noted purpose a)) b p is = tried-turn n x c noted purpose a b p is
 turn n (frame.Free (Ending a)) b p is = inr refl
+turn n _ b p is = inr (simp laws)
 
 -- the machine's run of a work is what the text says of it
 pub run-means : (n : ℕ) (w : Noted Frame Begun) (p : Pool) (is : List Input) → Below (run noted_table n w p is) (noted_mean n w p is)

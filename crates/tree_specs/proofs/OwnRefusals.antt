@@ -119,20 +119,7 @@ own-refusals p (call.Report o) = own-owner p o
 
 pub own-just-now : (items : List Item) (why : Refusal) → IsOwn why → RefusedJustNow items (Told (Replied (No why)))
 own-just-now items (refusal.Refused x v) h = absurd h
-own-just-now items (refusal.Running x) h = tt
-own-just-now items (refusal.Held x) h = tt
-own-just-now items (refusal.NoSuch n) h = tt
-own-just-now items (refusal.WrongKind x) h = tt
-own-just-now items (refusal.NotParent x o) h = tt
-own-just-now items (refusal.Loop x o) h = tt
-own-just-now items (refusal.Dying x) h = tt
-own-just-now items (refusal.OverLimit x sum wanted limit) h = tt
-own-just-now items (refusal.Full n) h = tt
-own-just-now items refusal.Spent h = tt
-own-just-now items (refusal.InUse d) h = tt
-own-just-now items (refusal.BadState x s) h = tt
-own-just-now items (refusal.TooBig n) h = tt
-own-just-now items refusal.Nested h = tt
+own-just-now items _ h = tt
 
 not-true : (b : Bool) → not b ≡ true → b ≡ false
 not-true true e = cc
@@ -171,20 +158,4 @@ own-free scenes p x why later d refers e = each (row_of p.rows x) refl e
 pub own-call : (scenes : List Scene) (p : Pool) (c : Call) (why : Refusal) (later : Check) → Distinct p.rows → Refers p.rows → refusals p c ≡ why ∷ later
     → AnsweredCall c p (No why) × HeldCall c p (No why) × CausedCall scenes c p (No why)
 own-call scenes p (call.Free x) why later d refers e = own-free scenes p x why later d refers e
-own-call scenes p (call.Freekids x) why later d refers e = (tt, tt, tt)
-own-call scenes p (call.New o size name) why later d refers e = (tt, tt, tt)
-own-call scenes p (call.Steal o x) why later d refers e = (tt, tt, tt)
-own-call scenes p (call.Move o x) why later d refers e = (tt, tt, tt)
-own-call scenes p (call.Reparent from to x) why later d refers e = (tt, tt, tt)
-own-call scenes p (call.Reference o x) why later d refers e = (tt, tt, tt)
-own-call scenes p (call.Unlink o x) why later d refers e = (tt, tt, tt)
-own-call scenes p (call.Hook x routine) why later d refers e = (tt, tt, tt)
-own-call scenes p (call.Unhook x) why later d refers e = (tt, tt, tt)
-own-call scenes p (call.Rename x name) why later d refers e = (tt, tt, tt)
-own-call scenes p (call.Resize x size) why later d refers e = (tt, tt, tt)
-own-call scenes p (call.Limit x max) why later d refers e = (tt, tt, tt)
-own-call scenes p (call.Parent x) why later d refers e = (tt, tt, tt)
-own-call scenes p (call.Total o) why later d refers e = (tt, tt, tt)
-own-call scenes p (call.Count o) why later d refers e = (tt, tt, tt)
-own-call scenes p (call.Sum o) why later d refers e = (tt, tt, tt)
-own-call scenes p (call.Report o) why later d refers e = (tt, tt, tt)
+own-call scenes p _ why later d refers e = (tt, tt, tt)

@@ -1,15 +1,17 @@
 -- What the items told so far say of the objects and of the open works.
-use Rattle.std.proofs.Common.{◌≡◌, ℕ, ◌<◌, List, [], ◌∷◌, ◌++◌, Some, None, Bool, true, false, nat_eq, refl, sym, ◌∙◌, ap, subst, ◌⊎◌, inl, inr, arith}
+use Rattle.std.proofs.Common.{◌≡◌, ℕ, ◌<◌, List, [], ◌∷◌, ◌++◌, Option, Some, None, Bool, true, false, nat_eq, refl, sym, ◌∙◌, ap, subst, ◌⊎◌, inl, inr, arith}
 use Rattle.std.specs.Prelude.{not, ◌||◌}
 use Rattle.std.specs.List.{list_any}
 use Rattle.std.proofs.lemmas.List.Folds.{list_any-append}
 use Rattle.std.proofs.Math.Bool.{or-false}
+use Rattle.tree_specs.specs.Profiles.{Phase, InLoop, Removing, loops, loop_removes, profile}
 use Rattle.tree_specs.specs.declared.object.Obj.{Obj}
 use Rattle.tree_specs.specs.declared.row.Row.{Row}
 use Rattle.tree_specs.specs.declared.event.Event.TheVariants.{Accepted, Freed, Unreferenced}
 use Rattle.tree_specs.specs.declared.frame.Frame.{Frame}
 use Rattle.tree_specs.specs.declared.frame.Frame.TheVariants as frame
-use Rattle.tree_specs.specs.declared.frame.FreeFrame.TheVariants.{Unlinking, Releasing, Giving, Beginning, Hooked, Judged, Leaving, Looping, Trying, Tried, Ending}
+use Rattle.tree_specs.specs.declared.frame.CallFrame.TheVariants.{Awaiting}
+use Rattle.tree_specs.specs.declared.frame.FreeFrame.TheVariants.{Hooked, Judged, Leaving, Looping, Trying}
 use Rattle.tree_specs.specs.declared.frame.Purpose.{Purpose}
 use Rattle.tree_specs.specs.declared.frame.Purpose.TheVariants.{Removal, Emptying}
 use Rattle.tree_specs.specs.Objects.{same}
@@ -17,7 +19,7 @@ use Rattle.tree_specs.specs.Pool.{Pool, row_of}
 use Rattle.tree_specs.specs.Items.{Item}
 use Rattle.tree_specs.specs.Items.Item.{Told}
 use Rattle.tree_specs.specs.Orderly.{accepts, frees, drops}
-use Rattle.tree_specs.specs.Sound.{IsLive, Phase, InLoop, loop_claim, claim, claims, IsWaiting, AllWait}
+use Rattle.tree_specs.specs.Sound.{IsLive, claim_by, claim, claims, IsWaiting, AllWait}
 use Rattle.tree_specs.proofs.Numbered.{by_test, same-equal, same-false, same_or_not}
 use Rattle.tree_specs.proofs.Later.{IsDying, IsPast, Later, live-not-dying}
 use Rattle.tree_specs.proofs.Changes.{not-zero}
@@ -31,16 +33,12 @@ IsLeaving f x = ⊥
 abbrev pub AsAccepted : List Item → Obj → ℕ → Type 0
 AsAccepted items x h = list_any (accepts x) items ≡ not (nat_eq h 0)
 
-abbrev pub AsRemoved : List Item → Obj → Purpose → Type 0
-AsRemoved items x (Removal h) = AsAccepted items x h
-AsRemoved items x Emptying = Unit {0}
+abbrev pub AsRemoved : List Item → Option Removing → Type 0
+AsRemoved items (Some r) = AsAccepted items r.object r.hook
+AsRemoved items None = Unit {0}
 
 abbrev pub Accounts : List Item → Frame → Type 0
-Accounts items (frame.Free (Leaving x h)) = AsAccepted items x h
-Accounts items (frame.Free (Looping x purpose)) = AsRemoved items x purpose
-Accounts items (frame.Free (Trying x c noted purpose)) = AsRemoved items x purpose
-Accounts items (frame.Free (Tried x c noted purpose a)) = AsRemoved items x purpose
-Accounts items f = Unit {0}
+Accounts items f = AsRemoved items (profile f).removes
 
 abbrev pub AllAccount : List Item → List Frame → Type 0
 AllAccount items [] = Unit {0}
@@ -73,39 +71,24 @@ any-now q items e h = any-more q items e ∙ ap (λ (b : Bool). list_any q items
 
 -- ---- which object a work removes
 
-abbrev RemovesFor : Purpose → Obj → Obj → Type 0
-RemovesFor (Removal h) x y = x ≡ y
-RemovesFor Emptying x y = ⊥
+abbrev RemovesBy : Option Removing → Obj → Type 0
+RemovesBy (Some r) y = r.object ≡ y
+RemovesBy None y = ⊥
 
 abbrev Removes : Frame → Obj → Type 0
-Removes (frame.Free (Leaving x h)) y = x ≡ y
-Removes (frame.Free (Looping x purpose)) y = RemovesFor purpose x y
-Removes (frame.Free (Trying x c noted purpose)) y = RemovesFor purpose x y
-Removes (frame.Free (Tried x c noted purpose a)) y = RemovesFor purpose x y
-Removes f y = ⊥
+Removes f y = RemovesBy (profile f).removes y
 
 abbrev AnyRemoves : List Frame → Obj → Type 0
 AnyRemoves [] y = ⊥
 AnyRemoves (f ∷ fs) y = Removes f y ⊎ AnyRemoves fs y
 
 -- a work accounts for as much after an item that isn't its object's destructor accepting
-removed-more : (items : List Item) (e : Item) (x : Obj) (purpose : Purpose) → ((y : Obj) → RemovesFor purpose x y → accepts y e ≡ false) → AsRemoved items x purpose → AsRemoved (items ++ e ∷ []) x purpose
-removed-more items e x (Removal h) other a = any-as-before (accepts x) items e (other x refl) ∙ a
-removed-more items e x Emptying other a = tt
+removed-more : (items : List Item) (e : Item) (r : Option Removing) → ((y : Obj) → RemovesBy r y → accepts y e ≡ false) → AsRemoved items r → AsRemoved (items ++ e ∷ []) r
+removed-more items e (Some r) other a = any-as-before (accepts r.object) items e (other r.object refl) ∙ a
+removed-more items e None other a = tt
 
 accounts-more : (items : List Item) (e : Item) (f : Frame) → ((y : Obj) → Removes f y → accepts y e ≡ false) → Accounts items f → Accounts (items ++ e ∷ []) f
-accounts-more items e (frame.Free (Leaving x h)) other a = any-as-before (accepts x) items e (other x refl) ∙ a
-accounts-more items e (frame.Free (Looping x purpose)) other a = removed-more items e x purpose other a
-accounts-more items e (frame.Free (Trying x c noted purpose)) other a = removed-more items e x purpose other a
-accounts-more items e (frame.Free (Tried x c noted purpose b)) other a = removed-more items e x purpose other a
-accounts-more items e (frame.Free (Unlinking o x)) other a = tt
-accounts-more items e (frame.Free (Releasing x)) other a = tt
-accounts-more items e (frame.Free (Giving x o)) other a = tt
-accounts-more items e (frame.Free (Beginning x)) other a = tt
-accounts-more items e (frame.Free (Hooked x h)) other a = tt
-accounts-more items e (frame.Free (Judged x h v)) other a = tt
-accounts-more items e (frame.Free (Ending b)) other a = tt
-accounts-more items e (frame.Call c) other a = tt
+accounts-more items e f other a = removed-more items e (profile f).removes other a
 
 all-more : (items : List Item) (e : Item) (fs : List Frame) → ((y : Obj) → AnyRemoves fs y → accepts y e ≡ false) → AllAccount items fs → AllAccount (items ++ e ∷ []) fs
 all-more items e [] other a = tt
@@ -115,7 +98,7 @@ all-more items e (f ∷ fs) other a = (accounts-more items e f (λ y r. other y 
 unclaimed : (x : Obj) (fs : List Frame) → AllWait fs → claims x fs ≡ [] → AnyRemoves fs x → ⊥
 unclaimed x [] w e r = r
 unclaimed x (f ∷ fs) w e r = elim r [
-  | inl here ↦ claimed f refl w.0 here
+  | inl here ↦ claimed f w.0 here none
   | inr there ↦ unclaimed x fs w.1 (parts (claim x f) (claims x fs) e).1 there
 ]
   where
@@ -126,26 +109,16 @@ unclaimed x (f ∷ fs) w e r = elim r [
     none : claim x f ≡ []
     none = (parts (claim x f) (claims x fs) e).0
 
-    looped : (y : Obj) (purpose : Purpose) → loop_claim purpose (same y x) ≡ [] → RemovesFor purpose y x → ⊥
+    looped : (y : Obj) (purpose : Purpose) → claim_by x (loops y purpose) ≡ [] → RemovesBy (loop_removes y purpose) x → ⊥
     looped y (Removal h) e r = let t : same y x ≡ true = same-equal y x r in let bad : InLoop ∷ [] ≡ [] = rw t at e in cc
     looped y Emptying e r = r
 
-    claimed : (g : Frame) → f ≡ g → IsWaiting g fs → Removes g x → ⊥
-    claimed g q w r = claimed-by g w r (ap (claim x) (sym q) ∙ none)
-      where
-        claimed-by : (g : Frame) → IsWaiting g fs → Removes g x → claim x g ≡ [] → ⊥
-        claimed-by (frame.Free (Looping y purpose)) w r e = looped y purpose e r
-        claimed-by (frame.Free (Trying y c noted purpose)) w r e = looped y purpose e r
-        claimed-by (frame.Free (Tried y c noted purpose a)) w r e = looped y purpose e r
-        claimed-by (frame.Free (Leaving y h)) w r e = w
-        claimed-by (frame.Free (Unlinking o y)) w r e = r
-        claimed-by (frame.Free (Releasing y)) w r e = r
-        claimed-by (frame.Free (Giving y o)) w r e = r
-        claimed-by (frame.Free (Beginning y)) w r e = r
-        claimed-by (frame.Free (Hooked y h)) w r e = r
-        claimed-by (frame.Free (Judged y h v)) w r e = r
-        claimed-by (frame.Free (Ending a)) w r e = r
-        claimed-by (frame.Call c) w r e = r
+    -- what waits and removes an object is its loop
+    claimed : (g : Frame) → IsWaiting g fs → Removes g x → claim x g ≡ [] → ⊥
+    claimed (frame.Free (Trying y c noted purpose)) w r e = looped y purpose e r
+    claimed (frame.Call (Awaiting q y)) w r e = r
+    claimed (frame.Free (Hooked y h)) w r e = r
+    claimed _ w r e = absurd w
 
 -- ---- steps
 

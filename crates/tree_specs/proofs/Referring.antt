@@ -120,13 +120,7 @@ refers-nothing rs x t e q = let bad : None ≡ Some t = sym e ∙ q in cc
 -- what may be referred to is no reference
 pub plain-refers : (k : Kind) → is_plain k ≡ true → target_of k ≡ None
 plain-refers kind.Plain e = refl
-plain-refers (kind.Reference t) e = cc
-plain-refers kind.Timer e = cc
-plain-refers kind.Immediate e = cc
-plain-refers kind.Descriptor e = cc
-plain-refers kind.Request e = cc
-plain-refers kind.Queue e = cc
-plain-refers kind.Entry e = cc
+plain-refers _ e = cc
 
 pub referable-refers : (o : Option Row) → IsReferable o → target_in o ≡ None
 referable-refers None h = absurd h

@@ -165,19 +165,13 @@ open-items v q f p h is-wait = ap told_by (open-law v q f p h is-wait)
 abbrev pub IsTelling : Frame → Type 0
 IsTelling (frame.Call (Warning q x r)) = Unit {0}
 IsTelling (frame.Call (Telling q r)) = Unit {0}
-IsTelling (frame.Call (Asking q)) = ⊥
-IsTelling (frame.Call (Doing q c)) = ⊥
-IsTelling (frame.Call (Awaiting q x)) = ⊥
-IsTelling (frame.Call (Returning v)) = ⊥
-IsTelling (frame.Free f) = ⊥
+IsTelling _ = ⊥
 
 -- the step tells and asks nothing, and ends no work: it comes to a reply, or begins a work
 abbrev pub GoesOn : Move Frame Answer Pool Item → Type 0
-GoesOn (Do.Done a p) = ⊥
 GoesOn (Do.Go f p) = IsTelling f
-GoesOn (Do.Emit e f p) = ⊥
-GoesOn (Do.Wait q f p) = ⊥
 GoesOn (Do.Call g f p) = Unit {0}
+GoesOn _ = ⊥
 
 placed-goes_on : (b : Bool) (q : Ask) (x : Obj) (r : Reply) (p : Pool) → GoesOn (placed_step b q x r p)
 placed-goes_on true q x r p = tt
@@ -218,23 +212,18 @@ free-waits (Do.Call f h q) p i g e = cc
 
 -- the host's own work doesn't end
 pub no-end : (f : Frame) (p q : Pool) (a : Answer) → IsCaller f → Rests f [] p → step f p ≡ Do.Done a q → ⊥
-no-end (frame.Call (Asking ask)) p q a h r e = cc
-no-end (frame.Call (Warning ask y x)) p q a h r e = cc
-no-end (frame.Call (Telling ask x)) p q a h r e = cc
 no-end (frame.Call (Awaiting ask x)) p q a h r e = r
 no-end (frame.Call (Returning v)) p q a h r e = h
 no-end (frame.Call (Doing ask c)) p q a h r e = subst GoesOn e (call-goes_on (refusals p c) ask c p)
 no-end (frame.Free f) p q a h r e = h
+no-end (frame.Call _) p q a h r e = cc
 
 -- only a caller that is to be asked asks
 pub waits-asking : (f : Frame) (p q : Pool) (i : Item) (g : Frame) → step f p ≡ Do.Wait i g q → (ask : Ask) × (f ≡ frame.Call (Asking ask))
 waits-asking (frame.Call (Asking ask)) p q i g e = (ask, refl)
-waits-asking (frame.Call (Warning ask y x)) p q i g e = cc
-waits-asking (frame.Call (Telling ask x)) p q i g e = cc
-waits-asking (frame.Call (Awaiting ask x)) p q i g e = cc
-waits-asking (frame.Call (Returning v)) p q i g e = cc
 waits-asking (frame.Call (Doing ask c)) p q i g e = absurd (subst GoesOn e (call-goes_on (refusals p c) ask c p))
 waits-asking (frame.Free f) p q i g e = absurd (free-waits (free_step f p) q i g e)
+waits-asking (frame.Call _) p q i g e = cc
 
 -- what a step asks is a question
 only-asks : (f : Frame) (p q : Pool) (i : Item) (g : Frame) → step f p ≡ Do.Wait i g q → IsQuestion i

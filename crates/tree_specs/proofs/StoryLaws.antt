@@ -58,9 +58,7 @@ returned-answering w p is = each (w p is)
   where
     each : (o : Told ℕ) → followed o (λ v. gives (Returned v)) ≡ answering o
     each (Ended v q ts left) = tells-ended ts v q left
-    each (Waits ts) = refl
-    each (Stray ts) = refl
-    each Short = refl
+    each _ = refl
 
 answering-same : (o u : Told ℕ) → answering o ≡ answering u → o ≡ u
 answering-same (Ended v p ts is) (Ended w q us js) e = cc
@@ -82,15 +80,11 @@ answering-same Short Short e = refl
 
 answering-items : (o : Told ℕ) → told_by (answering o) ≡ told_by o
 answering-items (Ended v p ts is) = refl
-answering-items (Waits ts) = refl
-answering-items (Stray ts) = refl
-answering-items Short = refl
+answering-items _ = refl
 
 answering-whole : (o : Told ℕ) → NotShort (answering o) → NotShort o
 answering-whole (Ended v p ts is) h = h
-answering-whole (Waits ts) h = h
-answering-whole (Stray ts) h = h
-answering-whole Short h = h
+answering-whole _ h = h
 
 -- ---- the text and the table
 
@@ -145,10 +139,8 @@ story-more first n is h big =
     answering-same _ _ (sym u.0 ∙ ap (λ (k : ℕ). run noted_table k asking (empty first) is) (sym d) ∙ sym (run-same noted_table m (n - m) asking (empty first) is whole) ∙ t.0)
 
 pub not-the-short : {A P I T : Type 0} (o : Outcome A P I T) → NotShort o → o ≢ Short
-not-the-short (Ended a p ts is) h = λ e. cc
-not-the-short (Waits ts) h = λ e. cc
-not-the-short (Stray ts) h = λ e. cc
 not-the-short Short h = absurd h
+not-the-short _ h = λ e. cc
 
 -- the same a step at a time
 pub story-walk : (first : ℕ) (is : List Input) → 1 ≤ first → told_by (walk noted_table (turns 0 (length is)) asking [] (empty first) is) ≡ story first is

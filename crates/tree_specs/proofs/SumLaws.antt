@@ -39,9 +39,6 @@ owner-other rs x y ne = sym (ap owner_in (row_of-changed-other left_row rs x y (
 
 -- where it has left one comes no further
 pub reach-left : (rs : List Row) (x : Obj) (n : ℕ) (o : Option Owner) (y : Owner) → reaches n (changed left_row rs x) o y ≡ true → reaches n rs o y ≡ true
-reach-left rs x n None y h = h
-reach-left rs x zero (Some o) y h = h
-reach-left rs x (suc n) (Some Root) y h = h
 reach-left rs x (suc n) (Some (Of z)) y h = by_test (same_owner (Of z) y)
     (λ t. rw t refl)
     (λ t. let h' : reaches n (changed left_row rs x) (owner_of (changed left_row rs x) z) y ≡ true = rw t at h in rw t (up (λ o k. reach-left rs x n o y k) h'))
@@ -51,6 +48,7 @@ reach-left rs x (suc n) (Some (Of z)) y h = by_test (same_owner (Of z) y)
       | inl is ↦ let none : owner_of (changed left_row rs x) z ≡ None = subst (λ (v : Obj). owner_of (changed left_row rs x) v ≡ None) is (owner-left rs x) in let bad : false ≡ true = rw none at k in cc
       | inr ne ↦ ih (owner_of rs z) (ap (λ (o : Option Owner). reaches n (changed left_row rs x) o y) (owner-other rs x z ne) ∙ k)
     ]
+reach-left rs x _ _ y h = h
 
 -- ---- an object below its owner
 

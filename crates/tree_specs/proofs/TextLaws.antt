@@ -152,12 +152,7 @@ Returned q v l = (r : Return) → returned_by q (input.Act (act.Ret v)) ≡ Some
 
 returned-later : (q : Ask) (r : Reply) (v : ℕ) → returned_by (later q r) (input.Act (act.Ret v)) ≡ returned_by q (input.Act (act.Ret v))
 returned-later (ask.Routine m) r v = refl
-returned-later ask.Quiet r v = refl
-returned-later ask.Clock r v = refl
-returned-later (ask.Wait limit) r v = refl
-returned-later (ask.Accept descriptor) r v = refl
-returned-later (ask.Read descriptor most) r v = refl
-returned-later (ask.Write descriptor bytes) r v = refl
+returned-later _ r v = refl
 
 abbrev scene_of : Item → Pool → Scene
 scene_of item p = record { item = item; before = p; about = None }
@@ -311,21 +306,8 @@ checked-lawful n ih (call.Free x) [] p last = each (newest_ref p.rows x) refl
     each (Some r) k = same-lawful last Any (effect (free n) (unlink n) (children n) (call.Free x) p) (λ js. followed (unlink n Root x p js) (λ a q left. Ended (freed_reply x a) q [] left)) (λ js. rw k refl)
         (followed-lawful last Any Any (unlink n Root x p) (λ a q left. Ended (freed_reply x a) q [] left) (ih.unlink Root x p last) (λ a q l w. ended-lawful l Any (freed_reply x a) q tt))
 checked-lawful n ih (call.Freekids x) [] p last = followed-lawful last Any Any (children n x p) _ (ih.children x p last) (λ a q l k. ended-lawful l Any _ q tt)
-checked-lawful n ih (call.Steal o x) [] p last = ended-lawful last Any _ _ tt
-checked-lawful n ih (call.Move o x) [] p last = ended-lawful last Any _ _ tt
-checked-lawful n ih (call.Reparent from to x) [] p last = ended-lawful last Any _ _ tt
-checked-lawful n ih (call.Reference o x) [] p last = ended-lawful last Any _ _ tt
 checked-lawful n ih (call.Unlink o x) [] p last = followed-lawful last Any Any (unlink n o x p) _ (ih.unlink o x p last) (λ a q l k. ended-lawful l Any _ q tt)
-checked-lawful n ih (call.Hook x h) [] p last = ended-lawful last Any _ _ tt
-checked-lawful n ih (call.Unhook x) [] p last = ended-lawful last Any _ _ tt
-checked-lawful n ih (call.Rename x name) [] p last = ended-lawful last Any _ _ tt
-checked-lawful n ih (call.Resize x size) [] p last = ended-lawful last Any _ _ tt
-checked-lawful n ih (call.Limit x max) [] p last = ended-lawful last Any _ _ tt
-checked-lawful n ih (call.Parent x) [] p last = ended-lawful last Any _ _ tt
-checked-lawful n ih (call.Total o) [] p last = ended-lawful last Any _ _ tt
-checked-lawful n ih (call.Count o) [] p last = ended-lawful last Any _ _ tt
-checked-lawful n ih (call.Sum o) [] p last = ended-lawful last Any _ _ tt
-checked-lawful n ih (call.Report o) [] p last = ended-lawful last Any _ _ tt
+checked-lawful n ih _ [] p last = ended-lawful last Any _ _ tt
 
 acting-lawful : (n : ℕ) → AllLawful n → (q : Ask) (c : Call) (p : Pool) (last : Last) → Lawful last (Returned q) (acting (suc n) q c p)
 acting-lawful n ih q c p last = each (warned_in (refusals p c) c p) refl

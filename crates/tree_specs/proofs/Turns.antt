@@ -3,46 +3,58 @@ use Rattle.std.proofs.Common.{ℕ, ◌+◌, ◌*◌, ◌≤◌, ◌<◌, List, [
 use Rattle.tree_specs.specs.declared.object.Owner.TheVariants.{Of}
 use Rattle.tree_specs.specs.declared.row.Row.{Row}
 use Rattle.tree_specs.specs.declared.row.Mark.{Mark}
-use Rattle.tree_specs.specs.declared.row.Mark.TheVariants.{Quiet, Asked, Busy, Doomed, Dying}
+use Rattle.tree_specs.specs.declared.row.Mark.TheVariants.{Quiet}
 use Rattle.tree_specs.specs.declared.frame.Frame.{Frame}
 use Rattle.tree_specs.specs.declared.frame.Frame.TheVariants as frame
-use Rattle.tree_specs.specs.declared.frame.CallFrame.TheVariants.{Asking, Doing, Awaiting, Warning, Telling, Returning}
-use Rattle.tree_specs.specs.declared.frame.FreeFrame.TheVariants.{Unlinking, Releasing, Giving, Beginning, Hooked, Judged, Leaving, Looping, Trying, Tried, Ending}
-use Rattle.tree_specs.specs.declared.free_step.FreeReply.TheVariants.{Ok, Running, Refused, Held}
+use Rattle.tree_specs.specs.declared.frame.CallFrame.TheVariants.{Asking}
+use Rattle.tree_specs.specs.declared.frame.FreeFrame.TheVariants.{Tried}
+use Rattle.tree_specs.specs.declared.free_step.FreeReply.TheVariants.{Running}
+use Rattle.tree_specs.specs.declared.free_step.FreeReply.{FreeReply}
+use Rattle.tree_specs.specs.declared.frame.FreeFrame.{FreeFrame}
+use Rattle.tree_specs.specs.declared.frame.CallFrame.{CallFrame}
 use Rattle.std.proofs.Math.Nat.{mul-le-mul_left}
+use Rattle.tree_specs.specs.Profiles.{Looks, AtNone, AtKids, AtBelow, Cost, Profile, tried_cost, profile}
 use Rattle.tree_specs.specs.Story.{turns}
 use Rattle.tree_specs.specs.View.{View}
-use Rattle.tree_specs.specs.Whole.{size, sizes, burden, Whole}
+use Rattle.tree_specs.specs.Whole.{sizes, burden, Whole}
 use Rattle.tree_specs.specs.Inside.{total}
-use Rattle.tree_specs.specs.Measure.{mark_weight, weight, waiting_cost, below_cost, top_cost, cost, pending}
+use Rattle.tree_specs.specs.Measure.{mark_weight, weight, below_cost, look_cost, top_cost, cost, pending}
 use Rattle.tree_specs.proofs.Rows.{count-length}
 use Rattle.tree_specs.proofs.FallingFrees.{kids-most}
 use Rattle.tree_specs.proofs.Load.{mark_burden-most}
 
 -- ---- the measure against the number of turns
 
+abbrev look_rounds : Looks → ℕ
+look_rounds AtNone = 0
+look_rounds _ = 4
+
+-- the numbers of a work are in bounds
+record Fits (f : Profile) : Type 0 where
+  waiting : f.waiting_cost ≤ 3 * f.size
+  rounds : f.cost.rounds + look_rounds f.cost.looks ≤ 16
+  steps : f.cost.steps ≤ 52
+  adds : f.adds ≤ 2
+
+tried-most : (a : FreeReply) → tried_cost a ≤ 8
+tried-most Running = omega arith
+tried-most _ = omega arith
+
+free-fits : (f : FreeFrame) → Fits (profile (frame.Free f))
+free-fits (Tried x c noted purpose a) = record { waiting = omega arith; rounds = omega arith; steps = omega (arith, tried-most a); adds = omega arith }
+free-fits _ = record { waiting = omega arith; rounds = omega arith; steps = omega arith; adds = omega arith }
+
+call-fits : (f : CallFrame) → Fits (profile (frame.Call f))
+call-fits (Asking q) = record { waiting = omega arith; rounds = omega arith; steps = omega arith; adds = omega arith }
+call-fits _ = record { waiting = omega arith; rounds = omega arith; steps = omega arith; adds = omega arith }
+
+fits : (f : Frame) → Fits (profile f)
+fits (frame.Free f) = free-fits f
+fits (frame.Call f) = call-fits f
+
 below-light : (fs : List Frame) → below_cost fs ≤ 3 * sizes fs
 below-light [] = omega arith
-below-light (f ∷ fs) = let ih = below-light fs in omega (arith, ih, one f)
-  where
-    one : (f : Frame) → waiting_cost f ≤ 3 * size f
-    one (frame.Call (Asking q)) = omega arith
-    one (frame.Call (Doing q c)) = omega arith
-    one (frame.Call (Awaiting q x)) = omega arith
-    one (frame.Call (Warning q x r)) = omega arith
-    one (frame.Call (Telling q r)) = omega arith
-    one (frame.Call (Returning v)) = omega arith
-    one (frame.Free (Unlinking o x)) = omega arith
-    one (frame.Free (Releasing x)) = omega arith
-    one (frame.Free (Giving x o)) = omega arith
-    one (frame.Free (Beginning x)) = omega arith
-    one (frame.Free (Hooked x h)) = omega arith
-    one (frame.Free (Judged x h v)) = omega arith
-    one (frame.Free (Leaving x h)) = omega arith
-    one (frame.Free (Looping x purpose)) = omega arith
-    one (frame.Free (Trying x c noted purpose)) = omega arith
-    one (frame.Free (Tried x c noted purpose a)) = omega arith
-    one (frame.Free (Ending a)) = omega arith
+below-light (f ∷ fs) = let ih = below-light fs in omega (arith, ih, (fits f).waiting)
 
 burden-most : (rs : List Row) → total burden rs ≤ 3 * length rs
 burden-most [] = omega arith
@@ -54,32 +66,20 @@ weight-most (r ∷ rs) = let ih = weight-most rs in omega (arith, ih, most r.mar
   where
     most : (m : Mark) → mark_weight m ≤ 2
     most Quiet = omega arith
-    most Asked = omega arith
-    most Busy = omega arith
-    most Doomed = omega arith
-    most (Dying former) = omega arith
+    most _ = omega arith
+
+look-most : (R : ℕ) (l : Looks) (fs : List Frame) (rows : List Row) → length rows ≤ R → look_cost l fs rows ≤ look_rounds l * R
+look-most R AtNone fs rows h = omega arith
+look-most R (AtKids x) fs rows h = let n = count-length rows (Of x) in omega arith
+look-most R AtBelow fs rows h = let m = kids-most R rows fs h in omega arith
 
 top-most : (R : ℕ) (f : Frame) (fs : List Frame) (rows : List Row) → length rows ≤ R → top_cost R f fs rows ≤ 16 * R + 52
-top-most R (frame.Call (Asking q)) fs rows h = omega arith
-top-most R (frame.Call (Doing q c)) fs rows h = omega arith
-top-most R (frame.Call (Awaiting q x)) fs rows h = omega arith
-top-most R (frame.Call (Warning q x r)) fs rows h = omega arith
-top-most R (frame.Call (Telling q r)) fs rows h = omega arith
-top-most R (frame.Call (Returning v)) fs rows h = omega arith
-top-most R (frame.Free (Unlinking o x)) fs rows h = let m = kids-most R rows fs h in omega arith
-top-most R (frame.Free (Releasing x)) fs rows h = let m = kids-most R rows fs h in omega arith
-top-most R (frame.Free (Giving x o)) fs rows h = omega arith
-top-most R (frame.Free (Beginning x)) fs rows h = let m = kids-most R rows fs h in omega arith
-top-most R (frame.Free (Hooked x k)) fs rows h = omega arith
-top-most R (frame.Free (Judged x k v)) fs rows h = omega arith
-top-most R (frame.Free (Leaving x k)) fs rows h = omega arith
-top-most R (frame.Free (Looping x purpose)) fs rows h = let n = count-length rows (Of x) in omega arith
-top-most R (frame.Free (Trying x c noted purpose)) fs rows h = omega arith
-top-most R (frame.Free (Tried x c noted purpose Ok)) fs rows h = let n = count-length rows (Of x) in omega arith
-top-most R (frame.Free (Tried x c noted purpose Held)) fs rows h = let n = count-length rows (Of x) in omega arith
-top-most R (frame.Free (Tried x c noted purpose Running)) fs rows h = let n = count-length rows (Of x) in omega arith
-top-most R (frame.Free (Tried x c noted purpose (Refused v))) fs rows h = let n = count-length rows (Of x) in omega arith
-top-most R (frame.Free (Ending a)) fs rows h = omega arith
+top-most R f fs rows h =
+    let c : Cost = (profile f).cost in
+    let l : look_cost c.looks fs rows ≤ look_rounds c.looks * R = look-most R c.looks fs rows h in
+    let m : R * (c.rounds + look_rounds c.looks) ≤ R * 16 = mul-le-mul_left R (fits f).rounds in
+    let t : c.steps ≤ 52 = (fits f).steps in
+    omega arith
 
 numbers : (r k w z d e : ℕ) → w ≤ 2 * r → z ≤ 3 * r + 2 → d ≤ 3 * z → e ≤ 16 * (r + 2 * k + 2) + 52
     → (4 * (r + 2 * k + 2) + 16) * w + (16 * (r + 2 * k + 2) + 53) * k + d + e < 64 * (k + 1) * ((r + 2 * k + 2) * (r + 2 * k + 2))
@@ -95,10 +95,4 @@ cost-turns v k h =
     (below-light v.below) (top-most (length v.pool.rows + 2 * k + 2) v.innermost v.below v.pool.rows (omega arith))
 
 pub pending-most : (f : Frame) → pending f ≤ 2
-pending-most (frame.Call (Asking q)) = omega arith
-pending-most (frame.Call (Doing q c)) = omega arith
-pending-most (frame.Call (Awaiting q x)) = omega arith
-pending-most (frame.Call (Warning q x r)) = omega arith
-pending-most (frame.Call (Telling q r)) = omega arith
-pending-most (frame.Call (Returning v)) = omega arith
-pending-most (frame.Free f) = omega arith
+pending-most f = (fits f).adds

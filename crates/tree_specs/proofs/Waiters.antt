@@ -5,8 +5,8 @@ use Rattle.tree_specs.specs.declared.object.Owner.{Owner}
 use Rattle.tree_specs.specs.declared.question.Ask.{Ask}
 use Rattle.tree_specs.specs.declared.frame.Frame.{Frame}
 use Rattle.tree_specs.specs.declared.frame.Frame.TheVariants as frame
-use Rattle.tree_specs.specs.declared.frame.CallFrame.TheVariants.{Asking, Doing, Awaiting, Warning, Telling, Returning}
-use Rattle.tree_specs.specs.declared.frame.FreeFrame.TheVariants.{Unlinking, Releasing, Giving, Beginning, Hooked, Judged, Leaving, Looping, Trying, Tried, Ending}
+use Rattle.tree_specs.specs.declared.frame.CallFrame.TheVariants.{Awaiting}
+use Rattle.tree_specs.specs.declared.frame.FreeFrame.TheVariants.{Hooked, Trying}
 use Rattle.tree_specs.specs.declared.frame.Purpose.{Purpose}
 use Rattle.tree_specs.specs.Sound.{IsWaiting}
 
@@ -20,17 +20,4 @@ pub waiter : (g : Frame) (gs : List Frame) → IsWaiting g gs → Waiter g
 waiter (frame.Call (Awaiting q x)) gs w = ForFree q x
 waiter (frame.Free (Hooked x h)) gs w = ForRun x h
 waiter (frame.Free (Trying x c noted purpose)) gs w = ForChild x c noted purpose
-waiter (frame.Call (Asking q)) gs w = absurd w
-waiter (frame.Call (Doing q c)) gs w = absurd w
-waiter (frame.Call (Warning q x r)) gs w = absurd w
-waiter (frame.Call (Telling q r)) gs w = absurd w
-waiter (frame.Call (Returning v)) gs w = absurd w
-waiter (frame.Free (Unlinking o x)) gs w = absurd w
-waiter (frame.Free (Releasing x)) gs w = absurd w
-waiter (frame.Free (Giving x o)) gs w = absurd w
-waiter (frame.Free (Beginning x)) gs w = absurd w
-waiter (frame.Free (Judged x h v)) gs w = absurd w
-waiter (frame.Free (Leaving x h)) gs w = absurd w
-waiter (frame.Free (Looping x purpose)) gs w = absurd w
-waiter (frame.Free (Tried x c noted purpose a)) gs w = absurd w
-waiter (frame.Free (Ending a)) gs w = absurd w
+waiter _ gs w = absurd w

@@ -19,6 +19,7 @@ pub mod Text
 pub mod Written
 pub mod Schedule
 pub mod Table
+pub mod Profiles
 pub mod Sound
 pub mod Measure
 pub mod View

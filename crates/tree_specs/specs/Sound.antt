@@ -1,11 +1,11 @@
 -- What holds at every moment: of the rows, and of what the open works claim of them.
-use Rattle.std.specs.Prelude.{◌≡◌, ◌≢◌, ◌⊎◌, ℕ, ◌<◌, nat_eq, List, [], ◌∷◌, ◌++◌, Option, Some, None, Bool, true, false, if◌then◌else◌}
+use Rattle.std.specs.Prelude.{◌≡◌, ◌≢◌, ◌⊎◌, ℕ, ◌<◌, List, [], ◌∷◌, ◌++◌, Option, Some, None, Bool, true, false}
 use Rattle.tree_specs.specs.declared.object.Obj.{Obj}
 use Rattle.tree_specs.specs.declared.object.Owner.{Owner}
 use Rattle.tree_specs.specs.declared.object.Owner.TheVariants.{Of}
 use Rattle.tree_specs.specs.declared.row.Row.{Row}
 use Rattle.tree_specs.specs.declared.row.Mark.{Mark}
-use Rattle.tree_specs.specs.declared.row.Mark.TheVariants.{Quiet, Asked, Busy, Doomed, Dying}
+use Rattle.tree_specs.specs.declared.row.Mark.TheVariants.{Quiet}
 use Rattle.tree_specs.specs.declared.frame.Frame.{Frame}
 use Rattle.tree_specs.specs.declared.frame.Frame.TheVariants as frame
 use Rattle.tree_specs.specs.declared.frame.CallFrame.TheVariants.{Asking, Doing, Awaiting, Warning, Telling, Returning}
@@ -19,38 +19,32 @@ use Rattle.tree_specs.specs.Targets.{target_of, newest_ref}
 use Rattle.tree_specs.specs.Pool.{Pool, row_of, owner_of, target_at, noted_owner, is_owner, is_inside}
 use Rattle.tree_specs.specs.Calls.{is_plain}
 use Rattle.tree_specs.specs.Forest.{IsForest}
+use Rattle.tree_specs.specs.Profiles.{Phase, Claim, former_in, phase_in, Waits, Never, AFree, ARun, AChild, profile}
 
 -- an owner or a former owner is another object; a dying row has no owner, and every other one has
 abbrev pub Owned : Option Owner → Obj → Type 0
 Owned (Some o) x = o ≢ Of x
 Owned None x = ⊥
 
+abbrev pub ShapedBy : Option Owner → Option Owner → Obj → Type 0
+ShapedBy None owner x = Owned owner x
+ShapedBy (Some former) (Some o) x = ⊥
+ShapedBy (Some former) None x = former ≢ Of x
+
 abbrev pub Shaped : Mark → Option Owner → Obj → Type 0
-Shaped Quiet owner x = Owned owner x
-Shaped Asked owner x = Owned owner x
-Shaped Busy owner x = Owned owner x
-Shaped Doomed owner x = Owned owner x
-Shaped (Dying former) (Some o) x = ⊥
-Shaped (Dying former) None x = former ≢ Of x
+Shaped m owner x = ShapedBy (former_in m) owner x
 
 -- a row's number is from 1 upwards and below the next one
 abbrev pub ValidAt : ℕ → Option Row → Obj → Type 0
 ValidAt next None x = Unit {0}
 ValidAt next (Some r) x = (0 < x.0) × (x.0 < next) × Shaped r.mark r.owner x
 
--- what is going on with an object
-pub data Phase : Type 0 where
-  -- its destructor or its handler runs
-  InRun : Phase
-  -- its children are being freed
-  InLoop : Phase
+abbrev pub all_of : Option Phase → List Phase
+all_of None = []
+all_of (Some a) = a ∷ []
 
 abbrev pub phase_of : Mark → List Phase
-phase_of Quiet = []
-phase_of Asked = InRun ∷ []
-phase_of Busy = InRun ∷ []
-phase_of Doomed = InRun ∷ []
-phase_of (Dying former) = InLoop ∷ []
+phase_of m = all_of (phase_in m)
 
 abbrev pub phases : Option Row → List Phase
 phases None = []
@@ -60,29 +54,13 @@ abbrev pub claim_if : Bool → Phase → List Phase
 claim_if true a = a ∷ []
 claim_if false a = []
 
--- an object that is only emptied may be in any phase
-abbrev pub loop_claim : Purpose → Bool → List Phase
-loop_claim (Removal h) b = claim_if b InLoop
-loop_claim Emptying b = []
-
--- an object that leaves its owner runs until then, where a destructor has accepted
-abbrev pub leave_claim : ℕ → Bool → List Phase
-leave_claim h b = if nat_eq h 0 then [] else claim_if b InRun
+abbrev pub claim_by : Obj → Option Claim → List Phase
+claim_by x None = []
+claim_by x (Some c) = claim_if (same c.object x) c.phase
 
 -- what an open work claims of x
 abbrev pub claim : Obj → Frame → List Phase
-claim x (frame.Call f) = []
-claim x (frame.Free (Unlinking o y)) = []
-claim x (frame.Free (Releasing y)) = []
-claim x (frame.Free (Giving y o)) = []
-claim x (frame.Free (Beginning y)) = []
-claim x (frame.Free (Hooked y h)) = claim_if (same y x) InRun
-claim x (frame.Free (Judged y h v)) = claim_if (same y x) InRun
-claim x (frame.Free (Leaving y h)) = leave_claim h (same y x)
-claim x (frame.Free (Looping y purpose)) = loop_claim purpose (same y x)
-claim x (frame.Free (Trying y c noted purpose)) = loop_claim purpose (same y x)
-claim x (frame.Free (Tried y c noted purpose answer)) = loop_claim purpose (same y x)
-claim x (frame.Free (Ending answer)) = []
+claim x f = claim_by x (profile f).claims
 
 abbrev pub claims : Obj → List Frame → List Phase
 claims x [] = []
@@ -98,36 +76,26 @@ abbrev pub Stands : Purpose → List Frame → Type 0
 Stands (Removal h) fs = Unit {0}
 Stands Emptying fs = IsCalled fs
 
+abbrev pub MayWait : Waits → List Frame → Type 0
+MayWait Never fs = ⊥
+MayWait (AFree x) fs = Unit {0}
+MayWait (ARun x h) fs = 0 < h
+MayWait (AChild c purpose) fs = Stands purpose fs
+
 -- the works below the innermost wait for the one above them
 abbrev pub IsWaiting : Frame → List Frame → Type 0
-IsWaiting (frame.Call (Awaiting q x)) fs = Unit {0}
-IsWaiting (frame.Call (Asking q)) fs = ⊥
-IsWaiting (frame.Call (Doing q c)) fs = ⊥
-IsWaiting (frame.Call (Warning q x r)) fs = ⊥
-IsWaiting (frame.Call (Telling q r)) fs = ⊥
-IsWaiting (frame.Call (Returning v)) fs = ⊥
-IsWaiting (frame.Free (Hooked x h)) fs = 0 < h
-IsWaiting (frame.Free (Trying x c noted purpose)) fs = Stands purpose fs
-IsWaiting (frame.Free (Unlinking o x)) fs = ⊥
-IsWaiting (frame.Free (Releasing x)) fs = ⊥
-IsWaiting (frame.Free (Giving x o)) fs = ⊥
-IsWaiting (frame.Free (Beginning x)) fs = ⊥
-IsWaiting (frame.Free (Judged x h v)) fs = ⊥
-IsWaiting (frame.Free (Leaving x h)) fs = ⊥
-IsWaiting (frame.Free (Looping x purpose)) fs = ⊥
-IsWaiting (frame.Free (Tried x c noted purpose answer)) fs = ⊥
-IsWaiting (frame.Free (Ending answer)) fs = ⊥
+IsWaiting f fs = MayWait (profile f).waits fs
 
 abbrev pub AllWait : List Frame → Type 0
 AllWait [] = Unit {0}
 AllWait (f ∷ fs) = IsWaiting f fs × AllWait fs
 
+abbrev pub IsNoOwner : Option Owner → Type 0
+IsNoOwner None = Unit {0}
+IsNoOwner (Some o) = ⊥
+
 abbrev pub IsLive : Mark → Type 0
-IsLive Quiet = Unit {0}
-IsLive Asked = Unit {0}
-IsLive Busy = Unit {0}
-IsLive Doomed = Unit {0}
-IsLive (Dying former) = ⊥
+IsLive m = IsNoOwner (former_in m)
 
 -- ---- references
 

@@ -141,30 +141,12 @@ free_step (Ending answer) p = Do.Done answer p
 
 abbrev pub free_resume : FreeFrame → FreeReply → FreeFrame
 free_resume (Trying x c noted purpose) answer = Tried x c noted purpose answer
-free_resume (Unlinking o x) answer = Unlinking o x
-free_resume (Releasing x) answer = Releasing x
-free_resume (Giving x o) answer = Giving x o
-free_resume (Beginning x) answer = Beginning x
-free_resume (Hooked x h) answer = Hooked x h
-free_resume (Judged x h v) answer = Judged x h v
-free_resume (Leaving x h) answer = Leaving x h
-free_resume (Looping x purpose) answer = Looping x purpose
-free_resume (Tried x c noted purpose a) answer = Tried x c noted purpose a
-free_resume (Ending a) answer = Ending a
+free_resume f answer = f
 
 -- a free that waits for a destructor, with the number that this returned
 abbrev pub free_taken : FreeFrame → Pool → ℕ → Option FreeFrame
 free_taken (Hooked x h) p v = Some (Judged x h v)
-free_taken (Unlinking o x) p v = None
-free_taken (Releasing x) p v = None
-free_taken (Giving x o) p v = None
-free_taken (Beginning x) p v = None
-free_taken (Judged x h u) p v = None
-free_taken (Leaving x h) p v = None
-free_taken (Looping x purpose) p v = None
-free_taken (Trying x c noted purpose) p v = None
-free_taken (Tried x c noted purpose a) p v = None
-free_taken (Ending a) p v = None
+free_taken f p v = None
 
 abbrev pub free_table : Table FreeFrame FreeReply Pool ℕ FreeStep
 free_table = record { step = free_step; resume = free_resume; taken = free_taken }
@@ -269,11 +251,7 @@ value_in (Returned v) = v
 
 abbrev pub caller_resume : CallFrame → Answer → CallFrame
 caller_resume (Awaiting q x) a = Telling (later q (freed_reply x (reply_in a))) (freed_reply x (reply_in a))
-caller_resume (Asking q) a = Asking q
-caller_resume (Doing q c) a = Doing q c
-caller_resume (Warning q x r) a = Warning q x r
-caller_resume (Telling q r) a = Telling q r
-caller_resume (Returning v) a = Returning v
+caller_resume f a = f
 
 -- a free that has waited goes on with what it waited for
 abbrev pub freeing_resume : FreeFrame → Answer → FreeFrame
@@ -292,11 +270,7 @@ returning v = frame.Call (Returning v)
 
 abbrev pub caller_taken : CallFrame → Input → Option Frame
 caller_taken (Asking q) i = heard q (doing q) returning i
-caller_taken (Doing q c) i = None
-caller_taken (Awaiting q x) i = None
-caller_taken (Warning q x r) i = None
-caller_taken (Telling q r) i = None
-caller_taken (Returning v) i = None
+caller_taken f i = None
 
 -- the pool is what tells open descriptors from others
 abbrev pub taken : Frame → Pool → Input → Option Frame
@@ -313,18 +287,11 @@ note_after (frame.Call (Doing q c)) p b = Some (record { call = c; start = p })
 note_after (frame.Call (Asking q)) p b = b
 note_after (frame.Call (Awaiting q x)) p b = b
 note_after (frame.Call (Warning q x r)) p b = b
-note_after (frame.Call (Telling q r)) p b = None
-note_after (frame.Call (Returning v)) p b = None
-note_after (frame.Free f) p b = None
+note_after f p b = None
 
 abbrev pub about : Frame → Option Begun → Option Begun
 about (frame.Call (Telling q r)) b = b
-about (frame.Call (Asking q)) b = None
-about (frame.Call (Doing q c)) b = None
-about (frame.Call (Awaiting q x)) b = None
-about (frame.Call (Warning q x r)) b = None
-about (frame.Call (Returning v)) b = None
-about (frame.Free f) b = None
+about f b = None
 
 abbrev pub notes : Notes Frame Pool Begun
 notes = record { after = note_after; about = about }

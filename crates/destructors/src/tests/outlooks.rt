@@ -1,7 +1,17 @@
+ghost use Rattle.std.specs.Prelude.{◌≡◌, []};
+ghost use Rattle.tree_specs.specs.declared.frame.CallFrame.TheVariants.{Asking};
+ghost use Rattle.tree_specs.specs.declared.question.Ask.TheVariants.{Quiet};
+ghost use Rattle.tree_specs.specs.Whole.{Whole};
+ghost use Rattle.tree_links.specs.Links.{pool_of};
+ghost use Rattle.references.specs.Rows.{AreRefsOf};
+ghost use Rattle.destructors.specs.Works.{call_view};
+
 use super::add;
 use crate::motion::Outlook;
 use crate::moves::outlook;
 use references::Refs;
+use std::alloc::Global;
+use std::process::Abort;
 use std::test::Fail;
 use tree_links::Tree;
 use tree_specs::{FreeFrame, FreeReply, Obj, Owner, Purpose};
@@ -24,16 +34,34 @@ fn tried(x: u64, child: u64, answer: FreeReply) -> FreeFrame {
 #[test]
 fn it_is_known_before_a_move_whether_it_tells_something(rt: HostRuntime) -> Result<(), Fail> {
     let mut tree = Tree::new(rt.alloc(), 1);
-    let refs = Refs::new(rt.alloc());
-    let top = add(&rt, &mut tree, &refs, rt.alloc(), Owner::Root)?;
-    add(&rt, &mut tree, &refs, rt.alloc(), Owner::Of(top))?;
+    let mut refs = Refs::new(rt.alloc());
+    show_that_it_is_known_before_a_move_whether_it_tells_something(
+        &rt,
+        rt.alloc(),
+        &mut tree,
+        &mut refs,
+    )
+}
+
+fn show_that_it_is_known_before_a_move_whether_it_tells_something(
+    rt: &impl Abort,
+    alloc: Global,
+    tree: &mut Tree,
+    refs: &mut Refs,
+) -> Result<(), Fail>
+    requires refs { AreRefsOf refs.old.pairs tree.old.rows }
+    requires at_rest { Whole (call_view (Asking Quiet) [] [] (pool_of tree.old)) }
+    requires alone { tree.old.frees ≡ [] }
+{
+    let top = add(rt, tree, refs, alloc, Owner::Root)?;
+    add(rt, tree, refs, alloc, Owner::Of(top))?;
     for work in [
         looping(2, Purpose::Removal { hook: 0 }),
         tried(1, 2, FreeReply::Running),
         tried(1, 2, FreeReply::Refused(7)),
     ] {
         assert!(rt;
-            matches!(outlook(work, &tree, &refs), Outlook::Telling),
+            matches!(outlook(work, tree, refs), Outlook::Telling),
             "{work:?}"
         );
     }
@@ -44,7 +72,7 @@ fn it_is_known_before_a_move_whether_it_tells_something(rt: HostRuntime) -> Resu
         tried(2, 1, FreeReply::Running),
     ] {
         assert!(rt;
-            matches!(outlook(work, &tree, &refs), Outlook::Silence),
+            matches!(outlook(work, tree, refs), Outlook::Silence),
             "{work:?}"
         );
     }
@@ -56,7 +84,7 @@ fn it_is_known_before_a_move_whether_it_tells_something(rt: HostRuntime) -> Resu
         },
     ] {
         assert!(rt;
-            matches!(outlook(work, &tree, &refs), Outlook::End),
+            matches!(outlook(work, tree, refs), Outlook::End),
             "{work:?}"
         );
     }

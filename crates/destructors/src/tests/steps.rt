@@ -1,5 +1,15 @@
+ghost use Rattle.std.specs.Prelude.{◌≡◌, []};
+ghost use Rattle.tree_specs.specs.declared.frame.CallFrame.TheVariants.{Asking};
+ghost use Rattle.tree_specs.specs.declared.question.Ask.TheVariants.{Quiet};
+ghost use Rattle.tree_specs.specs.Whole.{Whole};
+ghost use Rattle.tree_links.specs.Links.{pool_of};
+ghost use Rattle.references.specs.Rows.{AreRefsOf};
+ghost use Rattle.destructors.specs.Works.{call_view};
+
 use super::{add, ask, begin, done, event, hook, nest};
 use references::Refs;
+use std::alloc::Global;
+use std::process::Abort;
 use std::test::Fail;
 use tree_links::Tree;
 use tree_specs::{FreeReply, FreeStep, Obj, Owner};
@@ -27,9 +37,21 @@ fn moved(x: u64, from: Owner, owner: Owner) -> FreeStep {
 fn a_number_that_is_no_object_is_freed_at_once(rt: HostRuntime) -> Result<(), Fail> {
     let mut tree = Tree::new(rt.alloc(), 1);
     let mut refs = Refs::new(rt.alloc());
-    let mut engine = begin(&rt, &mut tree, &mut refs, Obj(5))?;
-    assert!(rt; !engine.announces(&tree, &refs));
-    assert_eq!(rt; done(&rt, &mut engine, &mut tree, &mut refs), FreeReply::Ok);
+    show_that_a_number_that_is_no_object_is_freed_at_once(&rt, &mut tree, &mut refs)
+}
+
+fn show_that_a_number_that_is_no_object_is_freed_at_once(
+    rt: &impl Abort,
+    tree: &mut Tree,
+    refs: &mut Refs,
+) -> Result<(), Fail>
+    requires refs { AreRefsOf refs.old.pairs tree.old.rows }
+    requires at_rest { Whole (call_view (Asking Quiet) [] [] (pool_of tree.old)) }
+    requires alone { tree.old.frees ≡ [] }
+{
+    let mut engine = begin(rt, tree, refs, Obj(5))?;
+    assert!(rt; !engine.announces(tree, refs));
+    assert_eq!(rt; done(rt, &mut engine, tree, refs), FreeReply::Ok);
     assert!(rt; tree.is_empty());
     Ok(())
 }
@@ -39,22 +61,29 @@ fn a_number_that_is_no_object_is_freed_at_once(rt: HostRuntime) -> Result<(), Fa
 fn a_child_is_gone_before_its_owner(rt: HostRuntime) -> Result<(), Fail> {
     let mut tree = Tree::new(rt.alloc(), 1);
     let mut refs = Refs::new(rt.alloc());
-    let top = add(&rt, &mut tree, &refs, rt.alloc(), Owner::Root)?;
-    add(&rt, &mut tree, &refs, rt.alloc(), Owner::Of(top))?;
-    let mut engine = begin(&rt, &mut tree, &mut refs, top)?;
-    assert!(rt; !engine.announces(&tree, &refs));
-    assert_eq!(rt;
-        event(&rt, &mut engine, &mut tree, &mut refs),
-        left(1, Owner::Root)
-    );
-    assert_eq!(rt;
-        event(&rt, &mut engine, &mut tree, &mut refs),
-        left(2, Owner::Of(top))
-    );
-    assert!(rt; engine.announces(&tree, &refs));
-    assert_eq!(rt; event(&rt, &mut engine, &mut tree, &mut refs), gone(2, 0));
-    assert_eq!(rt; event(&rt, &mut engine, &mut tree, &mut refs), gone(1, 0));
-    assert_eq!(rt; done(&rt, &mut engine, &mut tree, &mut refs), FreeReply::Ok);
+    show_that_a_child_is_gone_before_its_owner(&rt, rt.alloc(), &mut tree, &mut refs)
+}
+
+fn show_that_a_child_is_gone_before_its_owner(
+    rt: &impl Abort,
+    alloc: Global,
+    tree: &mut Tree,
+    refs: &mut Refs,
+) -> Result<(), Fail>
+    requires refs { AreRefsOf refs.old.pairs tree.old.rows }
+    requires at_rest { Whole (call_view (Asking Quiet) [] [] (pool_of tree.old)) }
+    requires alone { tree.old.frees ≡ [] }
+{
+    let top = add(rt, tree, refs, alloc, Owner::Root)?;
+    add(rt, tree, refs, alloc, Owner::Of(top))?;
+    let mut engine = begin(rt, tree, refs, top)?;
+    assert!(rt; !engine.announces(tree, refs));
+    assert_eq!(rt; event(rt, &mut engine, tree, refs), left(1, Owner::Root));
+    assert_eq!(rt; event(rt, &mut engine, tree, refs), left(2, Owner::Of(top)));
+    assert!(rt; engine.announces(tree, refs));
+    assert_eq!(rt; event(rt, &mut engine, tree, refs), gone(2, 0));
+    assert_eq!(rt; event(rt, &mut engine, tree, refs), gone(1, 0));
+    assert_eq!(rt; done(rt, &mut engine, tree, refs), FreeReply::Ok);
     assert!(rt; tree.is_empty());
     Ok(())
 }
@@ -64,24 +93,31 @@ fn a_child_is_gone_before_its_owner(rt: HostRuntime) -> Result<(), Fail> {
 fn a_destructor_accepts(rt: HostRuntime) -> Result<(), Fail> {
     let mut tree = Tree::new(rt.alloc(), 1);
     let mut refs = Refs::new(rt.alloc());
-    let top = add(&rt, &mut tree, &refs, rt.alloc(), Owner::Root)?;
-    let child = add(&rt, &mut tree, &refs, rt.alloc(), Owner::Of(top))?;
-    hook(&rt, &mut tree, &refs, child);
-    let mut engine = begin(&rt, &mut tree, &mut refs, top)?;
-    assert_eq!(rt;
-        event(&rt, &mut engine, &mut tree, &mut refs),
-        left(1, Owner::Root)
-    );
-    assert_eq!(rt; ask(&rt, &mut engine, &mut tree, &mut refs, 0), child);
+    show_that_a_destructor_accepts(&rt, rt.alloc(), &mut tree, &mut refs)
+}
+
+fn show_that_a_destructor_accepts(
+    rt: &impl Abort,
+    alloc: Global,
+    tree: &mut Tree,
+    refs: &mut Refs,
+) -> Result<(), Fail>
+    requires refs { AreRefsOf refs.old.pairs tree.old.rows }
+    requires at_rest { Whole (call_view (Asking Quiet) [] [] (pool_of tree.old)) }
+    requires alone { tree.old.frees ≡ [] }
+{
+    let top = add(rt, tree, refs, alloc, Owner::Root)?;
+    let child = add(rt, tree, refs, alloc, Owner::Of(top))?;
+    hook(rt, tree, refs, child);
+    let mut engine = begin(rt, tree, refs, top)?;
+    assert_eq!(rt; event(rt, &mut engine, tree, refs), left(1, Owner::Root));
+    assert_eq!(rt; ask(rt, &mut engine, tree, refs, 0), child);
     let accepted = FreeStep::Accepted(child);
-    assert_eq!(rt; event(&rt, &mut engine, &mut tree, &mut refs), accepted);
-    assert_eq!(rt;
-        event(&rt, &mut engine, &mut tree, &mut refs),
-        left(2, Owner::Of(top))
-    );
-    assert_eq!(rt; event(&rt, &mut engine, &mut tree, &mut refs), gone(2, 16));
-    assert_eq!(rt; event(&rt, &mut engine, &mut tree, &mut refs), gone(1, 0));
-    assert_eq!(rt; done(&rt, &mut engine, &mut tree, &mut refs), FreeReply::Ok);
+    assert_eq!(rt; event(rt, &mut engine, tree, refs), accepted);
+    assert_eq!(rt; event(rt, &mut engine, tree, refs), left(2, Owner::Of(top)));
+    assert_eq!(rt; event(rt, &mut engine, tree, refs), gone(2, 16));
+    assert_eq!(rt; event(rt, &mut engine, tree, refs), gone(1, 0));
+    assert_eq!(rt; done(rt, &mut engine, tree, refs), FreeReply::Ok);
     assert!(rt; tree.is_empty());
     Ok(())
 }
@@ -91,25 +127,35 @@ fn a_destructor_accepts(rt: HostRuntime) -> Result<(), Fail> {
 fn a_child_that_refuses_goes_to_its_heir(rt: HostRuntime) -> Result<(), Fail> {
     let mut tree = Tree::new(rt.alloc(), 1);
     let mut refs = Refs::new(rt.alloc());
-    let top = add(&rt, &mut tree, &refs, rt.alloc(), Owner::Root)?;
-    let middle = add(&rt, &mut tree, &refs, rt.alloc(), Owner::Of(top))?;
-    let bottom = add(&rt, &mut tree, &refs, rt.alloc(), Owner::Of(middle))?;
-    hook(&rt, &mut tree, &refs, bottom);
-    let mut engine = begin(&rt, &mut tree, &mut refs, middle)?;
-    assert_eq!(rt;
-        event(&rt, &mut engine, &mut tree, &mut refs),
-        left(2, Owner::Of(top))
-    );
-    assert_eq!(rt; ask(&rt, &mut engine, &mut tree, &mut refs, 7), bottom);
+    show_that_a_child_that_refuses_goes_to_its_heir(&rt, rt.alloc(), &mut tree, &mut refs)
+}
+
+fn show_that_a_child_that_refuses_goes_to_its_heir(
+    rt: &impl Abort,
+    alloc: Global,
+    tree: &mut Tree,
+    refs: &mut Refs,
+) -> Result<(), Fail>
+    requires refs { AreRefsOf refs.old.pairs tree.old.rows }
+    requires at_rest { Whole (call_view (Asking Quiet) [] [] (pool_of tree.old)) }
+    requires alone { tree.old.frees ≡ [] }
+{
+    let top = add(rt, tree, refs, alloc, Owner::Root)?;
+    let middle = add(rt, tree, refs, alloc, Owner::Of(top))?;
+    let bottom = add(rt, tree, refs, alloc, Owner::Of(middle))?;
+    hook(rt, tree, refs, bottom);
+    let mut engine = begin(rt, tree, refs, middle)?;
+    assert_eq!(rt; event(rt, &mut engine, tree, refs), left(2, Owner::Of(top)));
+    assert_eq!(rt; ask(rt, &mut engine, tree, refs, 7), bottom);
     let refused = FreeStep::Refused {
         object: bottom,
         answer: 7,
     };
-    assert_eq!(rt; event(&rt, &mut engine, &mut tree, &mut refs), refused);
+    assert_eq!(rt; event(rt, &mut engine, tree, refs), refused);
     let to_heir = moved(3, Owner::Of(middle), Owner::Of(top));
-    assert_eq!(rt; event(&rt, &mut engine, &mut tree, &mut refs), to_heir);
-    assert_eq!(rt; event(&rt, &mut engine, &mut tree, &mut refs), gone(2, 0));
-    assert_eq!(rt; done(&rt, &mut engine, &mut tree, &mut refs), FreeReply::Ok);
+    assert_eq!(rt; event(rt, &mut engine, tree, refs), to_heir);
+    assert_eq!(rt; event(rt, &mut engine, tree, refs), gone(2, 0));
+    assert_eq!(rt; done(rt, &mut engine, tree, refs), FreeReply::Ok);
     assert_eq!(rt; tree.parent(bottom), Some(Owner::Of(top)));
     assert_eq!(rt; tree.len(), 2);
     Ok(())
@@ -120,18 +166,31 @@ fn a_child_that_refuses_goes_to_its_heir(rt: HostRuntime) -> Result<(), Fail> {
 fn a_free_answers_that_the_destructor_refused(rt: HostRuntime) -> Result<(), Fail> {
     let mut tree = Tree::new(rt.alloc(), 1);
     let mut refs = Refs::new(rt.alloc());
-    let top = add(&rt, &mut tree, &refs, rt.alloc(), Owner::Root)?;
-    hook(&rt, &mut tree, &refs, top);
-    let mut engine = begin(&rt, &mut tree, &mut refs, top)?;
-    assert!(rt; !engine.announces(&tree, &refs));
-    assert_eq!(rt; ask(&rt, &mut engine, &mut tree, &mut refs, 7), top);
-    assert!(rt; engine.announces(&tree, &refs));
+    show_that_a_free_answers_that_the_destructor_refused(&rt, rt.alloc(), &mut tree, &mut refs)
+}
+
+fn show_that_a_free_answers_that_the_destructor_refused(
+    rt: &impl Abort,
+    alloc: Global,
+    tree: &mut Tree,
+    refs: &mut Refs,
+) -> Result<(), Fail>
+    requires refs { AreRefsOf refs.old.pairs tree.old.rows }
+    requires at_rest { Whole (call_view (Asking Quiet) [] [] (pool_of tree.old)) }
+    requires alone { tree.old.frees ≡ [] }
+{
+    let top = add(rt, tree, refs, alloc, Owner::Root)?;
+    hook(rt, tree, refs, top);
+    let mut engine = begin(rt, tree, refs, top)?;
+    assert!(rt; !engine.announces(tree, refs));
+    assert_eq!(rt; ask(rt, &mut engine, tree, refs, 7), top);
+    assert!(rt; engine.announces(tree, refs));
     let refused = FreeStep::Refused {
         object: top,
         answer: 7,
     };
-    assert_eq!(rt; event(&rt, &mut engine, &mut tree, &mut refs), refused);
-    let answer = done(&rt, &mut engine, &mut tree, &mut refs);
+    assert_eq!(rt; event(rt, &mut engine, tree, refs), refused);
+    let answer = done(rt, &mut engine, tree, refs);
     assert_eq!(rt; answer, FreeReply::Refused(7));
     assert_eq!(rt; tree.parent(top), Some(Owner::Root));
     Ok(())
@@ -142,12 +201,25 @@ fn a_free_answers_that_the_destructor_refused(rt: HostRuntime) -> Result<(), Fai
 fn an_object_whose_destructor_runs_is_not_freed(rt: HostRuntime) -> Result<(), Fail> {
     let mut tree = Tree::new(rt.alloc(), 1);
     let mut refs = Refs::new(rt.alloc());
-    let top = add(&rt, &mut tree, &refs, rt.alloc(), Owner::Root)?;
-    hook(&rt, &mut tree, &refs, top);
-    let mut engine = begin(&rt, &mut tree, &mut refs, top)?;
-    nest(&rt, &mut engine, &mut tree, &mut refs, top)?;
-    assert!(rt; !engine.announces(&tree, &refs));
-    let answer = done(&rt, &mut engine, &mut tree, &mut refs);
+    show_that_an_object_whose_destructor_runs_is_not_freed(&rt, rt.alloc(), &mut tree, &mut refs)
+}
+
+fn show_that_an_object_whose_destructor_runs_is_not_freed(
+    rt: &impl Abort,
+    alloc: Global,
+    tree: &mut Tree,
+    refs: &mut Refs,
+) -> Result<(), Fail>
+    requires refs { AreRefsOf refs.old.pairs tree.old.rows }
+    requires at_rest { Whole (call_view (Asking Quiet) [] [] (pool_of tree.old)) }
+    requires alone { tree.old.frees ≡ [] }
+{
+    let top = add(rt, tree, refs, alloc, Owner::Root)?;
+    hook(rt, tree, refs, top);
+    let mut engine = begin(rt, tree, refs, top)?;
+    nest(rt, &mut engine, tree, refs, top)?;
+    assert!(rt; !engine.announces(tree, refs));
+    let answer = done(rt, &mut engine, tree, refs);
     assert_eq!(rt; answer, FreeReply::Running);
     assert_eq!(rt; tree.parent(top), Some(Owner::Root));
     Ok(())

@@ -5,22 +5,22 @@ use Rattle.host_core.proofs.works.free_on.Goals as goal
 
 pub returns-in-Ask-clause-onward : goal.returns-in-Ask-clause-onward
 returns-in-Ask-clause-onward c =
-    (asks c.args.parts.now.callers.items c.args.parts.now.engine c.args.parts.now.tree c.step-step.new.self c.step-step.new.tree c.step-step.result _ c.requires.ready c.step-step.ensures.steps c.step-step.ensures.kept c.in-Ask.x c.run.result c.in-Ask.is c.run.ensures).onward
+    (asks c.args.parts.now.callers.items c.args.parts.now.objects c.step.new.self c.step.result c.requires.ready c.step.ensures.steps c.in-Ask.x c.run.result c.in-Ask.is c.run.ensures).onward
 
 pub returns-in-Ask-clause-ready : goal.returns-in-Ask-clause-ready
 returns-in-Ask-clause-ready c =
-    (asks c.args.parts.now.callers.items c.args.parts.now.engine c.args.parts.now.tree c.step-step.new.self c.step-step.new.tree c.step-step.result _ c.requires.ready c.step-step.ensures.steps c.step-step.ensures.kept c.in-Ask.x c.run.result c.in-Ask.is c.run.ensures).ready _
+    (asks c.args.parts.now.callers.items c.args.parts.now.objects c.step.new.self c.step.result c.requires.ready c.step.ensures.steps c.in-Ask.x c.run.result c.in-Ask.is c.run.ensures).ready
 
 pub returns-in-Done-clause-onward : goal.returns-in-Done-clause-onward
 returns-in-Done-clause-onward c =
-    (ends c.args.parts.now.callers.items c.args.parts.now.engine c.args.parts.now.tree c.step-step.new.self c.step-step.new.tree c.step-step.result _ c.requires.ready c.step-step.ensures.steps c.step-step.ensures.kept c.in-Done.answer c.finish.result c.finish.new.callers.items c.in-Done.is c.finish.ensures.finished).onward
+    (ends c.args.parts.now.callers.items c.args.parts.now.objects c.step.new.self c.step.result c.requires.ready c.step.ensures.steps c.in-Done.answer c.finish.result c.finish.new.callers.items c.in-Done.is c.finish.ensures).onward
 
 pub returns-in-Done-clause-ready : goal.returns-in-Done-clause-ready
 returns-in-Done-clause-ready c =
-    (ends c.args.parts.now.callers.items c.args.parts.now.engine c.args.parts.now.tree c.step-step.new.self c.step-step.new.tree c.step-step.result _ c.requires.ready c.step-step.ensures.steps c.step-step.ensures.kept c.in-Done.answer c.finish.result c.finish.new.callers.items c.in-Done.is c.finish.ensures.finished).ready _
+    (ends c.args.parts.now.callers.items c.args.parts.now.objects c.step.new.self c.step.result c.requires.ready c.step.ensures.steps c.in-Done.answer c.finish.result c.finish.new.callers.items c.in-Done.is c.finish.ensures).ready
 
 pub returns-in_default : goal.returns-in_default
 returns-in_default c =
-    let news : IsNews c.step-step.result = other-news c.step-step.result c.in_default.not-Ask c.in_default.not-Done in
-    let l = goes_on c.args.parts.now.callers.items c.args.parts.now.engine c.args.parts.now.tree c.step-step.new.self c.step-step.new.tree c.step-step.result _ c.requires.ready c.step-step.ensures.steps c.step-step.ensures.kept news c.step-step.ensures.goes_on c.step-step.ensures.room c.requires.quiet in
-    record { onward = l.onward; ready = l.ready _; refs = c.step-step.ensures.refs; limits = c.count_step.ensures }
+    let news : IsNews c.step.result = other-news c.step.result c.in_default.not-Ask c.in_default.not-Done in
+    let l = goes_on c.args.parts.now.callers.items c.args.parts.now.objects c.step.new.self c.step.result c.requires.ready c.step.ensures.steps news c.step.ensures.goes_on c.requires.quiet in
+    record { onward = l.onward; ready = l.ready }

@@ -1,28 +1,35 @@
-use Rattle.std.proofs.Common.{List, sym, subst}
-use Rattle.tree_specs.specs.Pool.{changed, left_row, owned_row}
+use Rattle.std.proofs.Common.{◌≡◌, ℕ, List, map, sym, ◌∙◌, ap, subst}
+use Rattle.tree_specs.specs.Pool.{changed, left_row}
 use Rattle.tree_specs.specs.declared.object.Owner.TheVariants.{Of}
 use Rattle.tree_specs.specs.Sums.{sum_inside}
 use Rattle.memory_limits.specs.declared.limited.Limited.{Limited}
-use Rattle.memory_limits.specs.declared.change.Change.TheVariants.{Less}
-use Rattle.memory_limits.specs.Limits.{Limits, AllSums, SameBounds, counts}
-use Rattle.memory_limits.proofs.Kept.{leaves, bounds-changed, counts-bound}
-use Rattle.memory_limits.proofs.Climbing.{outside-counts}
+use Rattle.memory_limits.specs.Limits.{Limits, listed, AllSums, counts}
+use Rattle.memory_limits.proofs.Kept.{go, leaves, bounds-counted}
+use Rattle.memory_limits.proofs.Climbing.{nearest-counts, none-counts}
 use Rattle.memory_limits.proofs.limits.Sums.left.Goals as goal
+
+pub returns-then-is_empty-clause-left : goal.returns-then-is_empty-clause-left
+returns-then-is_empty-clause-left c = subst (λ (ls : List Limited). AllSums ls (changed left_row c.args.tree.now.rows c.args.x)) (sym (c.is_empty.ensures.0 c.if-is_empty.true)) tt
 
 pub returns-clause-left : goal.returns-clause-left
 returns-clause-left c =
-    let kept : AllSums c.self.inside.limited.items (changed (owned_row c.args.from) c.args.tree.now.rows c.args.x) =
-    subst (λ (v : Limits). AllSums v.limited (changed (owned_row c.args.from) c.args.tree.now.rows c.args.x)) (sym c.self.view_is) c.requires.sums in
-    rw (c.count_above.ensures.items, c.sum-weight.ensures) (leaves c.args.tree.now.rows c.args.tree.now.next c.args.x c.args.from c.self.inside.limited.items c.len-rows.ensures.sound c.requires.is c.requires.apart kept)
+    let gone = go (sum_inside c.args.tree.now.rows (Of c.args.x)) in
+    let all : listed c.count_above.new.all.pairs ≡ map (counts gone c.args.tree.now.rows c.args.from) c.args.self.now.limited =
+    c.count_above.ensures.limited
+    ∙ ap (λ (n : ℕ). map (counts (go n) c.args.tree.now.rows (Of c.in-Some.nearest)) (listed c.self.inside.limited.pairs)) c.sum-less.ensures
+    ∙ ap (λ (v : Limits). map (counts gone c.args.tree.now.rows (Of c.in-Some.nearest)) v.limited) c.self.view_is
+    ∙ nearest-counts gone c.args.tree.now.rows c.args.from c.in-Some.nearest c.args.self.now.limited c.len-rows.ensures.sound.forest.rooted (sym c.nearest.ensures ∙ c.in-Some.is) in
+    subst (λ (ls : List Limited). AllSums ls (changed left_row c.args.tree.now.rows c.args.x)) (sym all)
+    (leaves c.args.tree.now.rows c.args.tree.now.next c.args.x c.args.from c.args.self.now.limited c.len-rows.ensures.sound c.requires.is c.requires.apart c.requires.sums)
 
 pub returns-clause-bounds : goal.returns-clause-bounds
 returns-clause-bounds c =
-    subst (λ (v : Limits). SameBounds v.limited c.count_above.new.all.items) c.self.view_is
-    (subst (SameBounds c.self.inside.limited.items) (sym c.count_above.ensures.items) (bounds-changed (counts (Less c.sum-weight.result) c.args.tree.now.rows c.args.from) (counts-bound (Less c.sum-weight.result) c.args.tree.now.rows c.args.from) c.self.inside.limited.items))
+    bounds-counted (go c.sum-less.result) c.args.tree.now.rows (Of c.in-Some.nearest) c.args.self.now.limited (listed c.count_above.new.all.pairs)
+    (c.count_above.ensures.limited ∙ ap (λ (v : Limits). map (counts (go c.sum-less.result) c.args.tree.now.rows (Of c.in-Some.nearest)) v.limited) c.self.view_is)
 
 -- nobody counted what has left
-pub returns-then-not-are_above-clause-left : goal.returns-then-not-are_above-clause-left
-returns-then-not-are_above-clause-left c =
+pub returns-in_default-clause-left : goal.returns-in_default-clause-left
+returns-in_default-clause-left c =
     subst (λ (ls : List Limited). AllSums ls (changed left_row c.args.tree.now.rows c.args.x))
-    (outside-counts (Less (sum_inside c.args.tree.now.rows (Of c.args.x))) c.args.tree.now.rows c.args.from c.args.self.now.limited (c.are_above.ensures c.if-not-are_above.true))
+    (none-counts (go (sum_inside c.args.tree.now.rows (Of c.args.x))) c.args.tree.now.rows c.args.from c.args.self.now.limited c.len-rows.ensures.sound.forest.rooted (sym c.nearest.ensures ∙ c.in_default.is))
     (leaves c.args.tree.now.rows c.args.tree.now.next c.args.x c.args.from c.args.self.now.limited c.len-rows.ensures.sound c.requires.is c.requires.apart c.requires.sums)

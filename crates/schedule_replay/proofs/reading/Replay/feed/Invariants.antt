@@ -1,11 +1,15 @@
-use Rattle.std.proofs.Common.{◌≤◌, ◌+◌, take}
-use Rattle.schedule_replay.specs.Readings.{Advances, IsReady, room_left}
+use Rattle.std.proofs.Common.{◌≤◌, ◌+◌, length}
+use Rattle.schedule_replay.specs.Readings.{IsReady, room_left}
 use Rattle.schedule_replay.specs.States.{reading_of}
+use Rattle.schedule_replay.proofs.ByteLaws.{Fed}
 use Rattle.schedule_replay.proofs.reading.Replay.feed.Given as goal
 
-abbrev pub invariant-loop-byte : goal.invariant-loop-byte
-invariant-loop-byte l = record {
+abbrev pub invariant-lines : goal.invariant-lines
+invariant-lines l = record {
   ready : IsReady (reading_of l.self);
-  advances : Advances (reading_of l.initial.self) (take l.byte-index l.piece) (reading_of l.self);
-  progress : room_left (reading_of l.self) + l.byte-index ≤ room_left (reading_of l.initial.self);
+  fed : Fed (reading_of l.initial.self) l.piece (reading_of l.self) l.rest;
+  progress : room_left (reading_of l.self) + length l.piece ≤ room_left (reading_of l.initial.self) + length l.rest;
 }
+
+abbrev pub decreases-lines : goal.decreases-lines
+decreases-lines l = length l.rest

@@ -1,14 +1,82 @@
-use Rattle.std.proofs.Common.{ap}
-use Rattle.tree_links.specs.Links.{Links}
-use Rattle.tree_links.proofs.Trees.{place-tree, place-rows}
+use Rattle.std.proofs.Common.{◌≡◌, ℕ, true, false, cond, nat_eq, IsSome, List, Some, Option, refl, sym, ap, subst, ◌∙◌, ◌∷◌}
+use Rattle.std.proofs.lemmas.Bool.{eqb-true}
+use Rattle.std.specs.Option.{option_map, option_and_then}
+use Rattle.std.specs.FinMap as map
+use Rattle.tree_specs.specs.declared.row.Row.{Row}
+use Rattle.tree_specs.specs.declared.object.Owner.TheVariants.{Of}
+use Rattle.tree_specs.specs.Pool.{is_owner, is_inside, row_of, owned_row, place, without as rows_without, in_front}
+use Rattle.tree_links.specs.Links.{IsTree, Links, pool_of}
+use Rattle.tree_links.specs.Nodes.{Holds, Linked, Enters, numbers, children, rows_of, row_at, row_in, placed_in, kin_in, first_in, entered}
+use Rattle.tree_links.specs.declared.node.Node.{Node}
+use Rattle.tree_links.proofs.Listing.{obj, lane-distinct, children-apart, held-rows}
+use Rattle.tree_links.proofs.Trees.{placed-tree}
+use Rattle.tree_links.proofs.Keeping.{its-row, is-numbered, its-placed, its-kin, is-node, owner-node, out-once, out-numbers, out-children, out-linked, placed-holds, is-linked, pool-rows}
+use Rattle.tree_links.proofs.Moves.{part, given, same_first, same_heads}
 use Rattle.tree_links.proofs.tree.Tree.place.Goals as goal
 
-pub invariant_of-self-2 : goal.invariant_of-self-2
-invariant_of-self-2 c =
-    rw (c.push_front_reserved.ensures.items, c.in-Some-remove.ensures.items) (place-tree _ _ _ c.args.owner c.args.x c.in-Some.i c.in-Some-remove.row c.in-Some.ensures (ap (λ (t : Links). t.rows) c.self.view_is) c.in-Some-remove.ensures.value
-    c.requires.owner c.requires.apart c.self.invariant)
+abbrev rows : goal.After-self-1 → List Row
+rows c = rows_of c.self.inside.nodes.pairs c.self.inside.front
 
-pub returns-in-Some-remove-clause-rows : goal.returns-in-Some-remove-clause-rows
-returns-in-Some-remove-clause-rows c =
-    rw (c.push_front_reserved.ensures.items, c.in-Some-remove.ensures.items) (place-rows _ _ _ _ c.args.owner c.args.x c.in-Some.i c.in-Some-remove.row c.in-Some.ensures (ap (λ (t : Links). t.rows) c.self.view_is)
-    (ap (λ (t : Links). t.next) c.self.view_is) c.in-Some-remove.ensures.value)
+at : (c : goal.After-self-1) → row_of (rows c) c.args.x ≡ Some c.in-Some.node.now.row
+at c = its-row c.self.inside.nodes.pairs c.self.inside.front c.self.inside.root (rows c) c.self.invariant.tree.forest.distinct c.self.invariant.holds c.args.x.0 c.in-Some.node.now c.in-Some.ensures
+
+left : (c : goal.After-self-1) → Linked c.leave_kin_of.new.nodes.pairs c.leave_placed.new.front c.leave_kin_of.new.root (numbers (rows_without (rows c) c.args.x)) (children (rows_without (rows c) c.args.x))
+left c =
+    let d = c.self.invariant.tree.forest.distinct in
+    let h = c.self.invariant.holds in
+    let x = c.args.x.0 in
+    let v = c.in-Some.node.now in
+    let e = c.in-Some.ensures in
+    let l1 = c.leave_placed.ensures.linked c.self.inside.root (numbers (rows c)) (children (rows c)) x (lane-distinct (λ r. true) (rows c) d) (is-numbered _ _ _ (rows c) d h x v e) (its-placed _ _ _ (rows c) d h x v e) h.linked in
+    out-linked (rows c) d x _ _ _ (c.leave_kin_of.ensures.linked c.leave_placed.new.front _ (rows c) x v.row d (at c) refl (its-kin _ _ _ (rows c) d h x v e) l1)
+
+owner : (c : goal.After-self-1) → is_owner (rows c) c.args.owner ≡ true
+owner c = subst (λ (t : Links). is_owner t.rows c.args.owner ≡ true) (sym c.self.view_is) c.requires.owner
+
+left-rows : (c : goal.After-self-1) (q : ℕ) → row_at c.leave_kin_of.new.nodes.pairs q ≡ row_of (rows c) (obj q)
+left-rows c q = c.leave_kin_of.ensures.rows q ∙ c.leave_placed.ensures.rows q ∙ c.self.invariant.holds.row q
+
+there : (c : goal.After-self-1) (q : ℕ) → nat_eq c.args.x.0 q ≡ true → IsSome (map.get c.set_head-first.new.nodes.pairs q)
+there c q t = subst (λ q. IsSome (map.get c.set_head-first.new.nodes.pairs q)) (eqb-true c.args.x.0 q t)
+    (is-node _ c.args.x.0 c.in-Some.node.now.row (c.set_head-first.ensures.rows c.args.x.0 ∙ left-rows c c.args.x.0 ∙ at c))
+
+-- the change of its node
+abbrev change : goal.After-self-1 → Node → Node
+change c = entered c.args.owner c.leave_placed.new.front c.set_head-first.result
+
+enters : (c : goal.After-self-1) → Enters c.leave_kin_of.new.nodes.pairs c.enter.new.nodes.pairs c.leave_placed.new.front c.set_head-first.result c.leave_kin_of.new.root c.set_head-first.new.root c.args.owner c.args.x.0
+enters c =
+    let m = c.set_head-first.new.nodes.pairs in
+    let x = c.args.x.0 in
+    record {
+      head = c.set_head-first.ensures.former;
+      placed = λ q. ap (option_map placed_in) (c.enter.ensures.nodes q) ∙ given placed_in (change c) _ (λ v. refl) (nat_eq x q) (map.get m q) (there c q) ∙ ap (cond (nat_eq x q) _) (c.set_head-first.ensures.placed q);
+      kin = λ q. ap (option_map kin_in) (c.enter.ensures.nodes q) ∙ given kin_in (change c) _ (λ v. refl) (nat_eq x q) (map.get m q) (there c q) ∙ ap (cond (nat_eq x q) _) (c.set_head-first.ensures.kin q);
+      heads = λ p. same_heads m _ _ (λ q. ap (option_and_then first_in) (c.enter.ensures.nodes q) ∙ same_first (change c) (λ v. refl) (nat_eq x q) (map.get m q)) p
+          ∙ c.set_head-first.ensures.heads (owner-node _ (rows c) c.args.owner (left-rows c) (owner c)) p;
+    }
+
+held : (c : goal.After-self-1) → Holds c.meet_newer.new.nodes.pairs (Some c.args.x.0) c.set_head-first.new.root (owned_row c.args.owner c.in-Some.node.now.row ∷ rows_without (rows c) c.args.x)
+held c =
+    let d = c.self.invariant.tree.forest.distinct in
+    let x = c.args.x.0 in
+    placed-holds _ _ _ (rows c) x c.in-Some.node.now.row c.args.owner d (at c)
+    (λ q. c.meet_newer.ensures.rows q ∙ ap (option_map row_in) (c.enter.ensures.nodes q) ∙ part row_in (change c) (owned_row c.args.owner) (λ v. refl) (nat_eq x q) (map.get c.set_head-first.new.nodes.pairs q)
+    ∙ ap (λ (o : Option Row). cond (nat_eq x q) (option_map (owned_row c.args.owner) o) o) (c.set_head-first.ensures.rows q ∙ left-rows c q))
+    (c.meet_newer.ensures.len ∙ c.enter.ensures.len ∙ c.set_head-first.ensures.len ∙ c.leave_kin_of.ensures.len ∙ c.leave_placed.ensures.len ∙ c.self.invariant.holds.count)
+    (c.meet_newer.ensures.linked _ _ _ c.args.owner _ _ (out-numbers (rows c) d x) (out-children (rows c) d x)
+    (children-apart (rows_without (rows c) c.args.x) (out-once (rows c) d x) c.args.owner) (enters c) (left c))
+
+tree : (c : goal.After-self-1) → IsTree (owned_row c.args.owner c.in-Some.node.now.row ∷ rows_without (rows c) c.args.x) c.self.inside.next
+tree c =
+    placed-tree (record { rows = rows c; next = c.self.inside.next }) c.args.owner c.args.x c.in-Some.node.now.row c.self.invariant.tree (at c)
+    (owner c)
+    (subst (λ (t : Links). is_inside t.rows c.args.owner (Of c.args.x) ≡ false) (sym c.self.view_is) c.requires.apart)
+
+pub invariant_of-self : goal.invariant_of-self
+invariant_of-self c = is-linked _ _ _ _ _ (tree c) (held c)
+
+pub returns-in-Some-clause-rows : goal.returns-in-Some-clause-rows
+returns-in-Some-clause-rows c =
+    pool-rows _ _ _ (held-rows _ _ _ _ (tree c).forest.distinct (held c) ∙ sym (ap (λ (o : Option Row). in_front o c.args.owner (rows_without (rows c) c.args.x)) (at c)))
+    ∙ ap (λ (t : Links). place (pool_of t) c.args.owner c.args.x) c.self.view_is

@@ -1,0 +1,25 @@
+use Rattle.std.proofs.Common.{subst, arith}
+use Rattle.host_core.specs.declared.active.Active.{Active}
+use Rattle.host_core.specs.declared.active.Active.TheVariants as active
+use Rattle.host_core.specs.Hosts.{Onward, IsReady, view_in, stack_of}
+use Rattle.host_core.proofs.Onward.{stays, along-then}
+use Rattle.host_core.proofs.Calling.{caller-speaks}
+use Rattle.host_core.proofs.works.free_up.Goals as goal
+
+pub loop-parts-init : goal.loop-parts-init
+loop-parts-init c = record { ready = c.requires; along = stays _ c.requires.whole }
+
+pub returns-in-Caller-clause-along : goal.returns-in-Caller-clause-along
+returns-in-Caller-clause-along c = along-then _ _ _ c.loop-parts.invariant.along (subst (λ (z : Active). Onward (view_in active.Freeing c.loop-parts.parts) (view_in z c.free_on.new.parts)) c.in-Caller.is c.free_on.ensures.onward).along
+
+pub returns-in-Caller-clause-settled : goal.returns-in-Caller-clause-settled
+returns-in-Caller-clause-settled c = caller-speaks c.in-Caller.caller c.free_on.new.parts.objects.works (stack_of c.free_on.new.parts.callers.items) c.free_on.new.parts.objects.pool
+
+pub loop-parts-smaller : goal.loop-parts-smaller
+loop-parts-smaller c = (subst (λ (z : Active). Onward (view_in active.Freeing c.loop-parts.parts) (view_in z c.free_on.new.parts)) c.in_default.is c.free_on.ensures.onward).cheaper _ (c.loop-parts.invariant.along.rows _ (omega arith))
+
+pub loop-parts-preserved : goal.loop-parts-preserved
+loop-parts-preserved c = record {
+  ready = subst (λ (z : Active). IsReady z c.free_on.new.parts) c.in_default.is c.free_on.ensures.ready;
+  along = along-then _ _ _ c.loop-parts.invariant.along (subst (λ (z : Active). Onward (view_in active.Freeing c.loop-parts.parts) (view_in z c.free_on.new.parts)) c.in_default.is c.free_on.ensures.onward).along;
+}

@@ -1,0 +1,132 @@
+//! Callers: each is asked, does a call, and is told the reply.
+ghost use Rattle.std.specs.Prelude.{◌≡◌, ℕ};
+ghost use Rattle.tree_specs.specs.declared.frame.CallFrame.TheVariants.{Asking, Telling};
+ghost use Rattle.tree_specs.specs.declared.frame.Answer.TheVariants.{Freed};
+ghost use Rattle.tree_specs.specs.declared.question.Ask.TheVariants.{Routine};
+ghost use Rattle.tree_specs.specs.Pool.{row_of};
+ghost use Rattle.tree_specs.specs.Sound.{HasHook};
+ghost use Rattle.tree_specs.specs.Story.{later, hook_moment};
+ghost use Rattle.tree_specs.specs.Table.{caller_resume};
+ghost use Rattle.host_core.specs.Hosts.{frame_of, awaiting, after_telling, told_by, remembers};
+ghost use Rattle.host_core.specs.Moves.{telling, warning};
+
+use crate::brief::Brief;
+use crate::calls::freed;
+use object_pool::ObjectPool;
+use std::mem;
+use tree_specs::{Ask, Event, FreeReply, Moment, Obj, Reply, What};
+
+/// One that is asked for calls, and is told the reply to each. It is known by its question.
+#[derive(Debug, Drop)]
+pub struct Caller {
+    pub ask: Ask,
+    pub stage: Stage,
+}
+
+/// What comes next of a caller.
+#[derive(Debug, Drop)]
+pub enum Stage {
+    /// Its question.
+    Asking,
+    /// The reply to its call, and then the question.
+    Telling(Reply),
+    /// The warning that this object has references and went to another owner, and then the reply.
+    Warning(Obj, Reply),
+}
+
+/// A caller whose call waits for the freeing of an object, or of its children.
+#[derive(Debug, Drop)]
+pub struct Waiting {
+    pub ask: Ask,
+    pub x: Obj,
+}
+
+/// A routine remembers the reply to its last call, and how many calls it has done.
+fn remember(ask: &mut Ask, last: Reply)
+    ensures { ask.new ≡ later ask.old last }
+{
+    if let Ask::Routine(moment) = ask {
+        if moment.step < u32::MAX {
+            moment.step += 1;
+        }
+        moment.last = Some(last);
+    }
+}
+
+impl Caller {
+    /// The run of an object's destructor, at its first moment.
+    pub fn run(x: Obj, objects: &ObjectPool) -> Caller
+        ensures { (h : ℕ) → HasHook (row_of objects.now.pool.rows x) h → frame_of result ≡ Asking (Routine (hook_moment x h)) }
+    {
+        let routine = objects.row(x).map_or(0, |row| row.hook);
+        let moment = Moment {
+            what: What::Hook,
+            object: x,
+            routine,
+            user: 0,
+            now: 0,
+            flags: 0,
+            step: 0,
+            last: None,
+        };
+        Caller {
+            ask: Ask::Routine(moment),
+            stage: Stage::Asking,
+        }
+    }
+
+    /// The reply to its call comes next, and the caller remembers it.
+    pub fn reply(&mut self, reply: Brief)
+        ensures { frame_of self.new ≡ telling self.old.ask reply }
+    {
+        remember(&mut self.ask, reply.reply());
+        self.stage = Stage::Telling(reply.reply());
+    }
+
+    /// A warning comes next, and then the reply, which the caller remembers.
+    pub fn warn(&mut self, x: Obj, reply: Brief)
+        ensures { frame_of self.new ≡ warning self.old.ask x reply }
+    {
+        remember(&mut self.ask, reply.reply());
+        self.stage = Stage::Warning(x, reply.reply());
+    }
+
+    /// A reply that owns memory comes next. A routine remembers the copy.
+    pub fn reply_whole(&mut self, reply: Reply, copy: Option<Reply>)
+        ensures { frame_of self.new ≡ Telling (remembers self.old.ask copy) reply }
+    {
+        if let Some(last) = copy {
+            remember(&mut self.ask, last);
+        }
+        self.stage = Stage::Telling(reply);
+    }
+
+    /// The event that comes next, which is told now. None where the caller asks.
+    pub fn tell(&mut self) -> Option<Event>
+        ensures event { result ≡ told_by (frame_of self.old) }
+        ensures frame { frame_of self.new ≡ after_telling (frame_of self.old) }
+    {
+        match mem::replace(&mut self.stage, Stage::Asking) {
+            Stage::Asking => None,
+            Stage::Telling(reply) => Some(Event::Replied(reply)),
+            Stage::Warning(x, reply) => {
+                self.stage = Stage::Telling(reply);
+                Some(Event::Warned(x))
+            }
+        }
+    }
+}
+
+impl Waiting {
+    /// The caller goes on, once the free that it has waited for has answered.
+    pub fn resumed(self, answer: FreeReply) -> Caller
+        ensures { frame_of result ≡ caller_resume (awaiting self) (Freed answer) }
+    {
+        let mut caller = Caller {
+            ask: self.ask,
+            stage: Stage::Asking,
+        };
+        caller.reply(freed(self.x, answer));
+        caller
+    }
+}

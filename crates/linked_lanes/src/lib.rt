@@ -1,0 +1,34 @@
+//! Lanes: distinct numbers in an order, newest first, kept by the neighbours that are noted beside each of them.
+//! Whoever keeps a lane keeps the neighbours and the head; this crate says what they are, and proves what leaving
+//! the lane and joining it at its front do to them.
+#![tactic(auto)]
+
+ghost use Rattle.std.specs.Prelude.{◌≡◌};
+ghost use Rattle.linked_lanes.specs.Chain.{head_left};
+
+/// The neighbours of one in its lane.
+#[derive(Clone, Copy, Debug)]
+pub struct Sides {
+    /// The one that joined next after it. None exactly where it is the head of its lane.
+    pub newer: Option<u64>,
+    /// The one that joined next before it. None exactly where it is the last.
+    pub older: Option<u64>,
+}
+
+impl Sides {
+    /// No neighbours: those of one that is in no lane yet, or alone in its lane.
+    pub const NONE: Sides = Sides {
+        newer: None,
+        older: None,
+    };
+
+    /// The head of a lane once one with these neighbours has left it, where `head` was its head before.
+    pub fn head_after(self, head: Option<u64>) -> Option<u64>
+        ensures { result ≡ head_left head self }
+    {
+        match self.newer {
+            None => self.older,
+            Some(_) => head,
+        }
+    }
+}

@@ -1,0 +1,4 @@
+pub mod Counted
+pub mod Told
+pub mod Fields
+pub mod Keeping

@@ -1,0 +1,15 @@
+-- What a pool of objects keeps.
+use Rattle.std.specs.Prelude.{◌≡◌, true}
+use Rattle.references.specs.Rows.{AreRefsOf}
+use Rattle.memory_limits.specs.Limits.{AreLimitsOf}
+use Rattle.destructors.specs.Engine.{AreKept, HasRoom}
+use Rattle.object_pool.specs.declared.pool.ObjectPool.TheInside.{Inside}
+use Rattle.object_pool.specs.Objects.{HasCallRoom}
+
+-- references and limits are those of the rows, and there is room for what is open
+pub record AgreeWith (b : Inside) : Type 0 where
+  pub references : AreRefsOf b.refs.pairs b.tree.rows
+  pub limits : AreLimitsOf b.sums.limited b.tree.rows
+  pub kept : AreKept b.engine b.tree
+  pub room : HasRoom b.engine b.tree
+  pub call : b.ready ≡ true → HasCallRoom b.tree b.refs b.sums

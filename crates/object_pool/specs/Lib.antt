@@ -1,0 +1,3 @@
+pub mod Counting
+pub mod Objects
+pub mod Agreeing

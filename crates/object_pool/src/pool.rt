@@ -1,0 +1,363 @@
+use crate::counting::{count_added, count_step, count_went};
+use destructors::FreeEngine;
+use memory_limits::Sums;
+use references::{Refs, refer};
+use std::alloc::Global;
+use std::marker::Model;
+use tree_links::{NewRow, Tree};
+use tree_report::{count, rows, total};
+use tree_specs::{FreeStep, Kind, Memory, Name, Obj, Owner, Refusal, ReportRows, Row};
+
+/// The objects: who owns whom, what refers to what, what their limits are, and the frees that are open on them.
+/// Contracts see the pool, the works of the open frees, the innermost first, and whether the memory for one call is
+/// taken. No change takes memory: what may want some asks for that before.
+#[derive(Debug, Drop)]
+pub struct ObjectPool {
+    engine: FreeEngine,
+    tree: Tree,
+    refs: Refs,
+    sums: Sums,
+    /// The memory for one call is taken.
+    ready: bool,
+}
+
+impl Model for ObjectPool {
+    ghost use Rattle.object_pool.specs.Objects.{Objects};
+
+    ghost Value = { Objects };
+
+    ghost use Rattle.object_pool.specs.Objects.{objects_of};
+    ghost use Rattle.object_pool.specs.Agreeing.{AgreeWith};
+
+    ghost view = { λ p. objects_of p.engine p.tree p.ready };
+
+    ghost invariant = { AgreeWith };
+}
+
+impl ObjectPool {
+    ghost use Rattle.std.specs.Prelude.{◌≡◌, ℕ, ◌^◌, ◌-◌, ◌<◌, ◌∷◌, [], true, false, None, ◌&&◌, IfOk, OnOk, OnErr, length, slice_get};
+    ghost use Rattle.std.specs.Option.{option_copied};
+    ghost use Rattle.tree_specs.specs.declared.object.Owner.TheVariants.{Of as At};
+    ghost use Rattle.tree_specs.specs.declared.kind.Kind.TheVariants as kinds;
+    ghost use Rattle.tree_specs.specs.declared.frame.FreeFrame.TheVariants.{Unlinking, Beginning, Looping};
+    ghost use Rattle.tree_specs.specs.declared.frame.Purpose.TheVariants.{Emptying};
+    ghost use Rattle.tree_specs.specs.Pool.{empty, row_of, is_row, is_owner, is_below, is_inside as is_inside_of, owner_of, target_at, newest_ref_of, add as added, place as placed, rename as renamed, set_hook as hooked, set_size as sized, set_limit as limited};
+    ghost use Rattle.tree_specs.specs.Targets.{newest_ref};
+    ghost use Rattle.tree_specs.specs.Story.{refer as referred, reparented};
+    ghost use Rattle.tree_specs.specs.Calls.{checked, row_limit, size_limit, is_plain_row, fits as fitting};
+    ghost use Rattle.tree_specs.specs.Sums.{size_at, sum_inside};
+    ghost use Rattle.tree_specs.specs.Reports.{report, count_refs};
+    ghost use Rattle.tree_specs.specs.Inside.{size_inside, count_inside};
+    ghost use Rattle.tree_links.specs.Links.{IsTree, MayPlace};
+    ghost use Rattle.references.specs.Rows.{RefersTo};
+    ghost use Rattle.destructors.specs.Frees.{next_of, is_event, returned, speaking, Begins, Steps};
+    ghost use Rattle.destructors.specs.Works.{IsAtWork, IsAwaiting, GoesOn};
+    ghost use Rattle.destructors.specs.Moves.{IsLiveRow};
+    ghost use Rattle.destructors.specs.Engine.{IsAsked};
+    ghost use Rattle.object_pool.specs.Objects.{frees_in, RefsMayGo};
+
+    /// No objects, of which the first gets the number `first`. It takes no memory.
+    pub fn new(alloc: Global, first: u64) -> Self
+        ensures { result ≡ record { pool = empty first; works = []; ready = false } }
+    {
+        ObjectPool {
+            engine: FreeEngine::new(),
+            tree: Tree::new(alloc, first),
+            refs: Refs::new(alloc),
+            sums: Sums::new(alloc),
+            ready: false,
+        }
+    }
+
+    /// Takes the memory for one call, with all that comes of it up to the next question.
+    pub fn reserve(&mut self) -> Result<(), Memory>
+        ensures ok { OnOk result (self.new ≡ record self.old { ready = true }) }
+        ensures err { OnErr result (self.new ≡ self.old) }
+    {
+        self.refs.reserve(1)?;
+        self.sums.reserve(1)?;
+        self.tree.reserve(2)?;
+        self.ready = true;
+        Ok(())
+    }
+
+    /// Adds a plain object as the newest child of an owner, and gives its number.
+    pub fn add(&mut self, name: Name, size: u64, owner: Owner) -> Obj
+        requires ready { self.old.ready ≡ true }
+        requires few { length self.old.pool.rows < row_limit }
+        requires small { size < size_limit }
+        requires numbered { self.old.pool.next < 2 ^ 64 - 1 }
+        requires owner { is_owner self.old.pool.rows owner ≡ true }
+        ensures serial { result ≡ record { 0 = self.old.pool.next } }
+        ensures added { self.new ≡ record self.old { pool = added self.old.pool kinds.Plain owner size name; ready = false } }
+    {
+        self.ready = false;
+        let kind = Kind::Plain;
+        let serial = self.tree.add(NewRow { kind, name, size }, owner);
+        count_added(serial, &self.tree, &mut self.sums);
+        serial
+    }
+
+    /// An owner gets a reference to an object, which is an object with a number of its own.
+    pub fn refer(&mut self, alloc: Global, target: Obj, owner: Owner) -> Obj
+        requires ready { self.old.ready ≡ true }
+        requires few { length self.old.pool.rows < row_limit }
+        requires numbered { self.old.pool.next < 2 ^ 64 - 1 }
+        requires owner { is_owner self.old.pool.rows owner ≡ true }
+        ensures serial { result ≡ record { 0 = self.old.pool.next } }
+        ensures referred { self.new ≡ record self.old { pool = referred self.old.pool owner target; ready = false } }
+    {
+        self.ready = false;
+        let serial = refer(alloc, target, owner, &mut self.tree, &mut self.refs);
+        count_added(serial, &self.tree, &mut self.sums);
+        serial
+    }
+
+    /// Puts an object below an owner, as its newest child.
+    pub fn place(&mut self, x: Obj, owner: Owner)
+        requires { MayPlace self.old.pool.rows x owner }
+        ensures { self.new ≡ record self.old { pool = placed self.old.pool owner x } }
+    {
+        // All that is wanted of `len` is its contract: the objects are a forest.
+        let _rows = self.tree.len();
+        let from = self.tree.parent(x);
+        self.tree.place(x, owner);
+        count_went(x, from, &self.tree, &mut self.sums);
+    }
+
+    /// An object goes from its owner to another one. An owner that only has references to it gives the newest of them.
+    pub fn reparent(&mut self, from: Owner, to: Owner, x: Obj)
+        requires itself { is_below (owner_of self.old.pool.rows x) from ≡ true → MayPlace self.old.pool.rows x to }
+        requires reference { RefsMayGo self.old.pool.rows }
+        requires there { is_owner self.old.pool.rows to ≡ true }
+        ensures { self.new ≡ record self.old { pool = reparented self.old.pool from to x } }
+    {
+        if self.owns(from, x) {
+            self.place(x, to);
+        } else if let Some(reference) = self.newest_of(from, x) {
+            self.place(reference, to);
+        }
+    }
+
+    /// An object gets a routine as its destructor, where 0 is none.
+    pub fn hook(&mut self, x: Obj, routine: u32)
+        requires { is_row self.old.pool.rows x ≡ true }
+        ensures { self.new ≡ record self.old { pool = hooked self.old.pool x routine } }
+    {
+        self.tree.set_hook(x, routine);
+    }
+
+    /// An object gets another name.
+    pub fn rename(&mut self, x: Obj, name: Name)
+        requires { is_row self.old.pool.rows x ≡ true }
+        ensures { self.new ≡ record self.old { pool = renamed self.old.pool x name } }
+    {
+        self.tree.set_name(x, name);
+    }
+
+    /// A plain object gets another size, in bytes.
+    pub fn resize(&mut self, x: Obj, size: u64)
+        requires plain { is_plain_row (row_of self.old.pool.rows x) ≡ true }
+        requires small { size < size_limit }
+        ensures { self.new ≡ record self.old { pool = sized self.old.pool x size } }
+    {
+        let before = self.tree.size(x);
+        self.tree.set_size(x, size);
+        self.sums.resized(&self.tree, x, before);
+    }
+
+    /// An object gets a limit in bytes for what is inside it, where 0 is none.
+    pub fn limit(&mut self, x: Obj, max: u64)
+        requires ready { self.old.ready ≡ true }
+        requires is { is_row self.old.pool.rows x ≡ true }
+        ensures { self.new ≡ record self.old { pool = limited self.old.pool x max; ready = false } }
+    {
+        self.ready = false;
+        self.tree.set_limit(x, max);
+        self.sums.set_limit(&self.tree, x, max);
+    }
+
+    /// Begins the freeing of an object to which there is no reference.
+    pub fn begin_free(&mut self, x: Obj)
+        requires ready { self.old.ready ≡ true }
+        requires awaiting { IsAwaiting (frees_in self.old) }
+        requires object { target_at self.old.pool.rows x ≡ None }
+        requires unheld { newest_ref self.old.pool.rows x ≡ None }
+        ensures begins { Begins (Beginning x ∷ self.old.works) self.old.pool (frees_in self.new) }
+        ensures at_work { IsAtWork (frees_in self.new) }
+    {
+        self.ready = false;
+        self.engine.begin_free(&mut self.tree, &mut self.refs, x);
+    }
+
+    /// Begins to take the interest of an owner in an object away.
+    pub fn begin_unlink(&mut self, owner: Owner, x: Obj)
+        requires ready { self.old.ready ≡ true }
+        requires awaiting { IsAwaiting (frees_in self.old) }
+        requires live { IsLiveRow self.old.pool x }
+        requires object { target_at self.old.pool.rows x ≡ None }
+        ensures begins { Begins (Unlinking owner x ∷ self.old.works) self.old.pool (frees_in self.new) }
+        ensures at_work { IsAtWork (frees_in self.new) }
+    {
+        self.ready = false;
+        self.engine
+            .begin_unlink(&mut self.tree, &mut self.refs, owner, x);
+    }
+
+    /// Begins the freeing of an object's children. The object itself stays.
+    pub fn begin_kids(&mut self, x: Obj)
+        requires ready { self.old.ready ≡ true }
+        requires awaiting { IsAwaiting (frees_in self.old) }
+        ensures begins { Begins (Looping x Emptying ∷ self.old.works) self.old.pool (frees_in self.new) }
+        ensures at_work { IsAtWork (frees_in self.new) }
+    {
+        self.ready = false;
+        self.engine.begin_kids(&mut self.tree, &mut self.refs, x);
+    }
+
+    /// The destructor that the innermost free waits for has returned a number.
+    pub fn answer(&mut self, value: u32)
+        requires asked { IsAsked (slice_get self.old.works 0) }
+        requires awaiting { IsAwaiting (frees_in self.old) }
+        ensures returned { self.new ≡ record self.old { works = returned value (frees_in self.old) } }
+        ensures settles { speaking (frees_in self.new) ≡ true }
+        ensures at_work { IsAtWork (frees_in self.new) }
+    {
+        self.engine.answer(&self.tree, value);
+    }
+
+    /// Whether the next step of the innermost free tells an event.
+    pub fn announces(&self) -> bool
+        ensures { result ≡ is_event (next_of (frees_in self.now)).0 }
+    {
+        self.engine.announces(&self.tree, &self.refs)
+    }
+
+    /// What comes next of the innermost free.
+    pub fn step(&mut self) -> FreeStep
+        requires at_work { IsAtWork (frees_in self.old) }
+        requires settled { speaking (frees_in self.old) ≡ true }
+        ensures steps { Steps (frees_in self.old) result (frees_in self.new) }
+        ensures goes_on { GoesOn result (frees_in self.new) }
+    {
+        // All that is wanted of `len` is its contract: the objects are a forest.
+        let _rows = self.tree.len();
+        self.ready = false;
+        let step = self.engine.step(&mut self.tree, &mut self.refs);
+        count_step(&step, &self.tree, &mut self.sums);
+        step
+    }
+
+    /// How many objects there are.
+    pub fn len(&self) -> usize
+        ensures { result ≡ length self.now.pool.rows }
+    {
+        self.tree.len()
+    }
+
+    /// The number that the next object gets.
+    pub fn next_number(&self) -> u64
+        ensures { result ≡ self.now.pool.next }
+    {
+        self.tree.next_number()
+    }
+
+    /// The row of an object. None exactly where there is none.
+    pub fn row(&self, x: Obj) -> Option<&Row>
+        ensures { option_copied result ≡ row_of self.now.pool.rows x }
+    {
+        self.tree.row(x)
+    }
+
+    /// The size of an object in bytes, and 0 where there is none.
+    pub fn size(&self, x: Obj) -> u64
+        ensures { result ≡ size_at self.now.pool.rows x }
+    {
+        self.tree.size(x)
+    }
+
+    /// The owner of an object. None exactly where it is no object, or has left its owner.
+    pub fn parent(&self, x: Obj) -> Option<Owner>
+        ensures { result ≡ owner_of self.now.pool.rows x }
+    {
+        self.tree.parent(x)
+    }
+
+    /// Whether an owner owns an object.
+    pub fn owns(&self, owner: Owner, x: Obj) -> bool
+        ensures { result ≡ is_below (owner_of self.now.pool.rows x) owner }
+    {
+        self.tree.owns(owner, x)
+    }
+
+    /// Whether an owner is another one, or inside it.
+    pub fn is_inside(&self, from: Owner, to: Owner) -> bool
+        ensures { result ≡ is_inside_of self.now.pool.rows from to }
+    {
+        self.tree.is_inside(from, to)
+    }
+
+    /// Whether an object is the owner, or inside it. False where it is no object.
+    pub fn inside(&self, x: Obj, owner: Owner) -> bool
+        ensures { result ≡ (is_row self.now.pool.rows x && is_inside_of self.now.pool.rows (At x) owner) }
+    {
+        self.tree.inside(x, owner)
+    }
+
+    /// The newest reference to an object. None exactly where there is none.
+    pub fn newest(&self, target: Obj) -> Option<Obj>
+        ensures { result ≡ newest_ref self.now.pool.rows target }
+    {
+        self.refs.newest(&self.tree, target)
+    }
+
+    /// The newest reference to an object that an owner has. None exactly where it has none.
+    pub fn newest_of(&self, owner: Owner, target: Obj) -> Option<Obj>
+        ensures newest { result ≡ newest_ref_of self.now.pool.rows owner target }
+        ensures is { RefersTo self.now.pool.rows result target }
+    {
+        self.refs.newest_of(&self.tree, owner, target)
+    }
+
+    /// How many references there are to an object.
+    pub fn count_refs(&self, target: Obj) -> u32
+        ensures { result ≡ count_refs self.now.pool.rows target }
+    {
+        self.refs.count(&self.tree, target)
+    }
+
+    /// The sizes of what is inside an owner together, in bytes.
+    pub fn total(&self, owner: Owner) -> u64
+        ensures { result ≡ size_inside self.now.pool.rows owner }
+    {
+        total(&self.tree, owner)
+    }
+
+    /// How many objects are inside an owner.
+    pub fn count(&self, owner: Owner) -> u64
+        ensures { result ≡ count_inside self.now.pool.rows owner }
+    {
+        count(&self.tree, owner)
+    }
+
+    /// What the objects inside an owner count, in bytes.
+    pub fn sum(&self, owner: Owner) -> u64
+        ensures { result ≡ sum_inside self.now.pool.rows owner }
+    {
+        self.sums.sum(&self.tree, owner)
+    }
+
+    /// Whether so many more bytes fit below an owner.
+    pub fn fits(&self, owner: Owner, wanted: u64) -> Result<(), Refusal>
+        ensures { result ≡ checked (fitting self.now.pool owner wanted) }
+    {
+        self.sums.fits(&self.tree, owner, wanted)
+    }
+
+    /// The report of an owner. An error is want of memory.
+    pub fn report(&self, alloc: Global, owner: Owner) -> Result<ReportRows, Memory>
+        ensures { IfOk result (λ rows. rows ≡ report self.now.pool.rows owner) }
+    {
+        rows(alloc, &self.tree, &self.refs, owner)
+    }
+}

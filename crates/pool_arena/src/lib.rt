@@ -1,0 +1,133 @@
+//! Values under serial numbers, each found at once however many there are. A value stays in its slot until it is taken
+//! out, and the slot then serves the next one.
+#![tactic(auto)]
+
+ghost use Rattle.indexmap.specs.IndexMap.{get as place_get};
+ghost use Rattle.std.specs.Prelude.{nat_eq, ◌≡◌, ◌≤◌, ◌+◌, IsOk, OnOk, OnErr, Some, None, option_copied, IsSome};
+ghost use Rattle.std.specs.Option.{option_copied_mut};
+ghost use Rattle.std.specs.Ordering.{nat_cmp};
+ghost use Rattle.std.specs.FinMap as map;
+ghost use Rattle.std.specs.Borrow.{sem};
+
+use indexmap::IndexMap;
+use slab::Slab;
+use std::alloc::{AllocError, Global};
+use std::fmt;
+use std::marker::Model;
+
+#[cfg(test)]
+mod tests;
+
+/// Values, each under a key of its own. Contracts see a finite map from keys to values, and spare: so many more values
+/// can be added without taking memory. Only `reserve` takes memory.
+#[derive(Drop)]
+pub struct Arena<T> {
+    slots: Slab<T>,
+    /// The slot of each key.
+    places: IndexMap<u64, usize>,
+}
+
+impl<T> Model for Arena<T> {
+    ghost use Rattle.pool_arena.specs.Arena.{Held, held_code, held, IsSound};
+
+    ghost Value = { Held T };
+
+    ghost coded = { held_code T.code };
+
+    ghost view = { λ a. held a.places a.slots };
+
+    ghost invariant = { λ a. IsSound a.places a.slots };
+}
+
+/// The slot of a key. None exactly where it isn't held.
+fn slot_of(places: &IndexMap<u64, usize>, key: u64) -> Option<usize>
+    ensures { result ≡ place_get nat_eq places.now key }
+{
+    places.get(&key).copied()
+}
+
+impl<T> Arena<T> {
+    ghost use Rattle.pool_arena.specs.Arena.{get};
+    ghost use Rattle.pool_arena.specs.Lends.{lends_get};
+
+    /// No values. It takes no memory.
+    pub fn new(alloc: Global) -> Self
+        ensures empty { result.pairs ≡ map.empty }
+        ensures spare { result.spare ≡ 0 }
+    {
+        Arena {
+            slots: Slab::new(alloc),
+            places: IndexMap::new(alloc),
+        }
+    }
+
+    /// Takes memory for so many more values. After want of memory the values are as they were.
+    pub fn reserve(&mut self, n: usize) -> Result<(), AllocError>
+        ensures pairs { self.new.pairs ≡ self.old.pairs }
+        ensures spare { self.old.spare ≤ self.new.spare }
+        ensures room { OnOk result (n ≤ self.new.spare) }
+    {
+        self.slots.reserve(n)?;
+        self.places.reserve(n)
+    }
+
+    /// Adds a value under a key that isn't held.
+    pub fn add(&mut self, key: u64, value: T)
+        requires vacant { get self.old key ≡ None }
+        requires room { 1 ≤ self.old.spare }
+        ensures pairs { self.new.pairs ≡ map.insert self.old.pairs key value }
+        ensures spare { self.old.spare ≤ self.new.spare + 1 }
+    {
+        let slot = self.slots.insert_reserved(value);
+        match self.places.insert(key, slot) {
+            Ok(_) => (),
+            Err(_) => unreachable!(),
+        }
+    }
+
+    /// The value of a key. None exactly where it isn't held.
+    pub fn get(&self, key: u64) -> Option<&T>
+        ensures { option_copied result ≡ get self.now key }
+    {
+        match slot_of(&self.places, key) {
+            Some(slot) => self.slots.get(slot),
+            None => None,
+        }
+    }
+
+    /// The value of a key, to be changed. None exactly where it isn't held.
+    pub fn get_mut(&mut self, key: u64) -> Option<&mut T>
+        ensures* writes_back { sem 𝓛 (lends_get T.row self.entry key result) }
+        ensures value { option_copied_mut result ≡ get self.old key }
+    {
+        match slot_of(&self.places, key) {
+            Some(slot) => self.slots.get_mut(slot),
+            None => None,
+        }
+    }
+
+    /// Takes the value of a key out, which isn't held from then on. None exactly where it wasn't held.
+    pub fn take(&mut self, key: u64) -> Option<T>
+        ensures value { result ≡ get self.old key }
+        ensures pairs { self.new.pairs ≡ map.remove self.old.pairs key }
+        ensures spare { self.old.spare ≤ self.new.spare }
+    {
+        match self.places.swap_remove(&key) {
+            Some(slot) => self.slots.try_remove(slot),
+            None => None,
+        }
+    }
+
+    /// How many values there are.
+    pub fn len(&self) -> usize
+        ensures { result ≡ map.len self.now.pairs }
+    {
+        self.places.len()
+    }
+}
+
+impl<T> fmt::Debug for Arena<T> {
+    fn fmt<W: fmt::Write>(&self, f: &mut fmt::Formatter<W>) -> fmt::Result {
+        f.debug_struct("Arena").field("len", &self.len()).finish()
+    }
+}

@@ -1,7 +1,0 @@
-use Rattle.std.proofs.Common.{◌≡◌, ◌<◌, ◌^◌, true, take}
-use Rattle.std.specs.Str.{all_ascii_digits}
-use Rattle.std.specs.Str.Parse.{digits_value}
-use Rattle.text_forms.proofs.number.value_of_digits.Given as goal
-
-abbrev pub invariant-loop-b : goal.invariant-loop-b
-invariant-loop-b l = record { digits : all_ascii_digits (take l.b-index l.text) ≡ true; value : l.n ≡ digits_value 10 (take l.b-index l.text); fits : l.n < 2 ^ 64 }

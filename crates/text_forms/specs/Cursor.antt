@@ -1,0 +1,67 @@
+-- Reading a text from left to right.
+use Rattle.std.specs.Prelude.{ℕ, ◌≡◌, ◌≢◌, ◌^◌, nat_lt, if◌then◌else◌, List, [], ◌∷◌, take, drop, Option, Some, None, Result, Ok, Err}
+use Rattle.std.specs.Char.{is_ascii_digit}
+use Rattle.std.specs.List.{prefix_len}
+use Rattle.std.specs.Str.Parse.{digits_value}
+use Rattle.std.specs.Borrow.{Bor}
+use Rattle.tree_specs.specs.Grammar.{◌>>=◌, number_of, words}
+use Rattle.text_forms.specs.declared.form.FormFault.{FormFault}
+use Rattle.text_forms.specs.declared.form.FormFault.TheVariants.{NoForm, Memory}
+
+-- how many digits stand at the front, and which
+abbrev pub digit_count : List ℕ → ℕ
+digit_count text = prefix_len is_ascii_digit text
+
+abbrev pub digits_at : List ℕ → List ℕ
+digits_at text = take (digit_count text) text
+
+-- their value, where it is below 2 ^ 64, and how many they are
+abbrev pub leading_digits_of : List ℕ → Option (ℕ × ℕ)
+leading_digits_of text = if nat_lt (digits_value 10 (digits_at text)) (2 ^ 64) then Some (digits_value 10 (digits_at text), digit_count text) else None
+
+-- the number that the digits at the front spell, and what follows them
+unfoldable pub number_at : List ℕ → Option (ℕ × List ℕ)
+number_at text = do
+  n ← number_of (digits_at text)
+  Some (n, drop (digit_count text) text)
+
+-- the words of what is left of a line, where it has not ended
+abbrev pub words_left : Option (Bor (List ℕ)) → List (List ℕ)
+words_left None = []
+words_left (Some text) = words text.now
+
+infix 11 ◌leaving◌
+-- a value that was read, where there is one, and the words that it left
+abbrev pub ◌leaving◌ : {A : Type 0} → Option A → List (List ℕ) → Option (A × List (List ℕ))
+read leaving words = do
+  x ← read
+  Some (x, words)
+
+-- the first word, read as a field, and the words after it
+abbrev pub field : {A : Type 0} → (List ℕ → Option A) → List (List ℕ) → Option (A × List (List ℕ))
+field read [] = None
+field read (word ∷ more) = read word leaving more
+
+-- two fields, one after the other
+abbrev pub both : {A B : Type 0} → (List ℕ → Option A) → (List ℕ → Option B) → List (List ℕ) → Option ((A × B) × List (List ℕ))
+both read next words = do
+  x ← field read words
+  y ← field next x.1
+  Some ((x.0, y.0), y.1)
+
+-- the first word, read as a field, where no word comes after it
+abbrev pub last_field : {A : Type 0} → (List ℕ → Option A) → List (List ℕ) → Option (A × List (List ℕ))
+last_field read (word ∷ []) = field read (word ∷ [])
+last_field read _ = None
+
+-- what a reader gave, and what it left: it reads NoForm exactly where the definition gives none
+abbrev pub Takes : {A : Type 0} → Result A FormFault → Option (A × List (List ℕ)) → List (List ℕ) → Type 0
+Takes (Ok x) taken left = taken ≡ Some (x, left)
+Takes (Err NoForm) taken left = taken ≡ None
+Takes (Err Memory) taken left = Unit {0}
+
+-- whether no word is left
+abbrev pub Ends : Result (Unit {0}) FormFault → List (List ℕ) → Type 0
+Ends (Ok done) left = left ≡ []
+Ends (Err NoForm) left = left ≢ []
+Ends (Err Memory) left = ⊥

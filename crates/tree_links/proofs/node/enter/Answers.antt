@@ -1,0 +1,9 @@
+use Rattle.tree_links.specs.Nodes.{entered}
+use Rattle.tree_links.proofs.Steps.{mapped-at, len-old}
+use Rattle.tree_links.proofs.node.enter.Goals as goal
+
+pub returns-in-Some-clause-nodes : goal.returns-in-Some-clause-nodes
+returns-in-Some-clause-nodes c = λ q. mapped-at c.args.nodes.now c.args.x (entered c.args.owner c.args.front c.args.first) c.in-Some.node.now c.in-Some.ensures.value q
+
+pub returns-in-Some-clause-len : goal.returns-in-Some-clause-len
+returns-in-Some-clause-len c = len-old c.args.nodes.now.pairs c.args.x _ c.in-Some.node.now c.in-Some.ensures.value

@@ -1,0 +1,300 @@
+ghost use Rattle.std.specs.Prelude.{◌≡◌, ◌≤◌, ℕ, Option, Some, None, cond, true, false, nat_eq, List, ◌∷◌, IsSome};
+ghost use Rattle.std.specs.Option.{option_map, option_and_then};
+ghost use Rattle.std.specs.FinMap as map;
+ghost use Rattle.pool_arena.specs.Arena.{get};
+ghost use Rattle.tree_specs.specs.Objects.{same_owner};
+ghost use Rattle.tree_specs.specs.declared.object.Owner.{Owner as OwnerData};
+ghost use Rattle.tree_specs.specs.declared.row.Row.{Row as RowData};
+ghost use Rattle.tree_specs.specs.Pool.{row_of, left_row, named_row, marked_row, hooked_row, sized_row, limited_row};
+ghost use Rattle.tree_specs.specs.Forest.{Distinct as Once};
+ghost use Rattle.linked_lanes.specs.Lane.{is_at, has, without, Distinct};
+ghost use Rattle.linked_lanes.specs.Chain.{head_left, sides_in};
+ghost use Rattle.tree_links.specs.Nodes.{placed_newer, placed_older, kin_newer, kin_older, entered, first_in, owned_in, with_first, with_row, row_at, head_of, HasHead, Nodes, Linked, Enters, Apart, kin_at, placed_at, children};
+
+use linked_lanes::Sides;
+use pool_arena::Arena;
+use tree_specs::{Mark, Name, Owner, Row};
+
+/// A row with its places: among all rows, among the children of its owner, and its first child.
+#[derive(Debug, Drop)]
+pub(crate) struct Node {
+    pub row: Row,
+    pub placed: Sides,
+    pub kin: Sides,
+    pub first: Option<u64>,
+}
+
+fn set_placed_newer(nodes: &mut Arena<Node>, at: Option<u64>, newer: Option<u64>)
+    ensures nodes { (q : ℕ) → get nodes.new q ≡ cond (is_at at q) (option_map (placed_newer newer) (get nodes.old q)) (get nodes.old q) }
+    ensures len { map.len nodes.new.pairs ≡ map.len nodes.old.pairs }
+    ensures spare { nodes.new.spare ≡ nodes.old.spare }
+{
+    if let Some(x) = at
+        && let Some(node) = nodes.get_mut(x)
+    {
+        node.placed.newer = newer;
+    }
+}
+
+fn set_placed_older(nodes: &mut Arena<Node>, at: Option<u64>, older: Option<u64>)
+    ensures nodes { (q : ℕ) → get nodes.new q ≡ cond (is_at at q) (option_map (placed_older older) (get nodes.old q)) (get nodes.old q) }
+    ensures len { map.len nodes.new.pairs ≡ map.len nodes.old.pairs }
+    ensures spare { nodes.new.spare ≡ nodes.old.spare }
+{
+    if let Some(x) = at
+        && let Some(node) = nodes.get_mut(x)
+    {
+        node.placed.older = older;
+    }
+}
+
+fn set_kin_newer(nodes: &mut Arena<Node>, at: Option<u64>, newer: Option<u64>)
+    ensures nodes { (q : ℕ) → get nodes.new q ≡ cond (is_at at q) (option_map (kin_newer newer) (get nodes.old q)) (get nodes.old q) }
+    ensures len { map.len nodes.new.pairs ≡ map.len nodes.old.pairs }
+    ensures spare { nodes.new.spare ≡ nodes.old.spare }
+{
+    if let Some(x) = at
+        && let Some(node) = nodes.get_mut(x)
+    {
+        node.kin.newer = newer;
+    }
+}
+
+fn set_kin_older(nodes: &mut Arena<Node>, at: Option<u64>, older: Option<u64>)
+    ensures nodes { (q : ℕ) → get nodes.new q ≡ cond (is_at at q) (option_map (kin_older older) (get nodes.old q)) (get nodes.old q) }
+    ensures len { map.len nodes.new.pairs ≡ map.len nodes.old.pairs }
+    ensures spare { nodes.new.spare ≡ nodes.old.spare }
+{
+    if let Some(x) = at
+        && let Some(node) = nodes.get_mut(x)
+    {
+        node.kin.older = older;
+    }
+}
+
+// Another first child. Gives the one before.
+fn set_first(nodes: &mut Arena<Node>, x: u64, first: Option<u64>) -> Option<u64>
+    ensures former { result ≡ option_and_then first_in (get nodes.old x) }
+    ensures nodes { (q : ℕ) → get nodes.new q ≡ cond (nat_eq x q) (option_map (with_first first) (get nodes.old q)) (get nodes.old q) }
+    ensures len { map.len nodes.new.pairs ≡ map.len nodes.old.pairs }
+    ensures spare { nodes.new.spare ≡ nodes.old.spare }
+{
+    match nodes.get_mut(x) {
+        None => None,
+        Some(node) => {
+            let former = node.first;
+            node.first = first;
+            former
+        }
+    }
+}
+
+/// One with these neighbours leaves the lane of all rows.
+pub(crate) fn leave_placed(nodes: &mut Arena<Node>, front: &mut Option<u64>, sides: Sides)
+    ensures rows { (q : ℕ) → row_at nodes.new.pairs q ≡ row_at nodes.old.pairs q }
+    ensures linked { (root : Option ℕ) (A : List ℕ) (K : OwnerData → List ℕ) (x : ℕ) → Distinct A → has A x ≡ true → sides ≡ sides_in A x → Linked nodes.old.pairs front.old root A K → Linked nodes.new.pairs front.new root (without A x) K }
+    ensures len { map.len nodes.new.pairs ≡ map.len nodes.old.pairs }
+    ensures spare { nodes.new.spare ≡ nodes.old.spare }
+{
+    set_placed_older(nodes, sides.newer, sides.older);
+    set_placed_newer(nodes, sides.older, sides.newer);
+    *front = sides.head_after(*front);
+}
+
+/// The first child of an owner.
+pub(crate) fn head(nodes: &Arena<Node>, root: Option<u64>, owner: Owner) -> Option<u64>
+    ensures { result ≡ head_of nodes.now.pairs root owner }
+{
+    match owner {
+        Owner::Root => root,
+        Owner::Of(x) => match nodes.get(x.0) {
+            None => None,
+            Some(node) => node.first,
+        },
+    }
+}
+
+/// The first child of an owner is another one. Gives the one before.
+pub(crate) fn set_head(
+    nodes: &mut Arena<Node>,
+    root: &mut Option<u64>,
+    owner: Owner,
+    first: Option<u64>,
+) -> Option<u64>
+    ensures former { result ≡ head_of nodes.old.pairs root.old owner }
+    ensures rows { (q : ℕ) → row_at nodes.new.pairs q ≡ row_at nodes.old.pairs q }
+    ensures placed { (q : ℕ) → placed_at nodes.new.pairs q ≡ placed_at nodes.old.pairs q }
+    ensures kin { (q : ℕ) → kin_at nodes.new.pairs q ≡ kin_at nodes.old.pairs q }
+    ensures heads { HasHead nodes.old.pairs owner → (p : OwnerData) → head_of nodes.new.pairs root.new p ≡ cond (same_owner owner p) first (head_of nodes.old.pairs root.old p) }
+    ensures len { map.len nodes.new.pairs ≡ map.len nodes.old.pairs }
+    ensures spare { nodes.new.spare ≡ nodes.old.spare }
+{
+    match owner {
+        Owner::Root => {
+            let former = *root;
+            *root = first;
+            former
+        }
+        Owner::Of(x) => set_first(nodes, x.0, first),
+    }
+}
+
+fn mend_head(nodes: &mut Arena<Node>, root: &mut Option<u64>, owner: Owner, sides: Sides)
+    ensures rows { (q : ℕ) → row_at nodes.new.pairs q ≡ row_at nodes.old.pairs q }
+    ensures placed { (q : ℕ) → placed_at nodes.new.pairs q ≡ placed_at nodes.old.pairs q }
+    ensures kin { (q : ℕ) → kin_at nodes.new.pairs q ≡ kin_at nodes.old.pairs q }
+    ensures heads { HasHead nodes.old.pairs owner → (p : OwnerData) → head_of nodes.new.pairs root.new p ≡ cond (same_owner owner p) (head_left (head_of nodes.old.pairs root.old p) sides) (head_of nodes.old.pairs root.old p) }
+    ensures len { map.len nodes.new.pairs ≡ map.len nodes.old.pairs }
+    ensures spare { nodes.new.spare ≡ nodes.old.spare }
+{
+    match sides.newer {
+        None => {
+            let _former = set_head(nodes, root, owner, sides.older);
+        }
+        Some(_) => (),
+    }
+}
+
+/// One with these neighbours leaves the lane of an owner's children.
+pub(crate) fn leave_kin(nodes: &mut Arena<Node>, root: &mut Option<u64>, owner: Owner, sides: Sides)
+    ensures rows { (q : ℕ) → row_at nodes.new.pairs q ≡ row_at nodes.old.pairs q }
+    ensures linked { (front : Option ℕ) (A : List ℕ) (K : OwnerData → List ℕ) (x : ℕ) → Distinct (K owner) → has (K owner) x ≡ true → sides ≡ sides_in (K owner) x → Apart K owner → Linked nodes.old.pairs front root.old A K → Linked nodes.new.pairs front root.new A (λ p. without (K p) x) }
+    ensures len { map.len nodes.new.pairs ≡ map.len nodes.old.pairs }
+    ensures spare { nodes.new.spare ≡ nodes.old.spare }
+{
+    set_kin_older(nodes, sides.newer, sides.older);
+    set_kin_newer(nodes, sides.older, sides.newer);
+    mend_head(nodes, root, owner, sides);
+}
+
+/// One with these neighbours leaves the lane of its owner's children, if it has an owner.
+pub(crate) fn leave_kin_of(
+    nodes: &mut Arena<Node>,
+    root: &mut Option<u64>,
+    owner: Option<Owner>,
+    sides: Sides,
+)
+    ensures rows { (q : ℕ) → row_at nodes.new.pairs q ≡ row_at nodes.old.pairs q }
+    ensures linked { (front : Option ℕ) (A : List ℕ) (rs : List RowData) (x : ℕ) (r : RowData) → Once rs → row_of rs (record { 0 = x }) ≡ Some r → r.owner ≡ owner → ((p : OwnerData) → owner ≡ Some p → sides ≡ sides_in (children rs p) x) → Linked nodes.old.pairs front root.old A (children rs) → Linked nodes.new.pairs front root.new A (λ p. without (children rs p) x) }
+    ensures len { map.len nodes.new.pairs ≡ map.len nodes.old.pairs }
+    ensures spare { nodes.new.spare ≡ nodes.old.spare }
+{
+    match owner {
+        None => (),
+        Some(owner) => leave_kin(nodes, root, owner, sides),
+    }
+}
+
+/// A row comes below another owner, in front of these heads of the lane of all rows and of that of the owner's
+/// children.
+pub(crate) fn enter(
+    nodes: &mut Arena<Node>,
+    x: u64,
+    owner: Owner,
+    front: Option<u64>,
+    first: Option<u64>,
+)
+    ensures nodes { (q : ℕ) → get nodes.new q ≡ cond (nat_eq x q) (option_map (entered owner front first) (get nodes.old q)) (get nodes.old q) }
+    ensures len { map.len nodes.new.pairs ≡ map.len nodes.old.pairs }
+    ensures spare { nodes.new.spare ≡ nodes.old.spare }
+{
+    if let Some(node) = nodes.get_mut(x) {
+        node.row.owner = Some(owner);
+        node.placed = Sides {
+            newer: None,
+            older: front,
+        };
+        node.kin = Sides {
+            newer: None,
+            older: first,
+        };
+    }
+}
+
+/// The heads of two lanes get a newer neighbour, which has entered in front of them.
+pub(crate) fn meet_newer(nodes: &mut Arena<Node>, front: Option<u64>, first: Option<u64>, x: u64)
+    ensures rows { (q : ℕ) → row_at nodes.new.pairs q ≡ row_at nodes.old.pairs q }
+    ensures linked { (m : Nodes) (former root : Option ℕ) (o : OwnerData) (A : List ℕ) (K : OwnerData → List ℕ) → has A x ≡ false → ((p : OwnerData) → has (K p) x ≡ false) → Apart K o → Enters m nodes.old.pairs front first former root o x → Linked m front former A K → Linked nodes.new.pairs (Some x) root (x ∷ A) (λ p. cond (same_owner o p) (x ∷ K p) (K p)) }
+    ensures len { map.len nodes.new.pairs ≡ map.len nodes.old.pairs }
+    ensures spare { nodes.new.spare ≡ nodes.old.spare }
+{
+    set_placed_newer(nodes, front, Some(x));
+    set_kin_newer(nodes, first, Some(x));
+}
+
+/// A row has left its owner. Gives that owner, and its neighbours among the owner's children, which still note it.
+/// None exactly where there is no such node.
+pub(crate) fn set_left(nodes: &mut Arena<Node>, x: u64) -> Option<(Option<Owner>, Sides)>
+    ensures former { result ≡ option_map owned_in (get nodes.old x) }
+    ensures nodes { (q : ℕ) → get nodes.new q ≡ cond (nat_eq x q) (option_map (with_row left_row) (get nodes.old q)) (get nodes.old q) }
+    ensures len { map.len nodes.new.pairs ≡ map.len nodes.old.pairs }
+    ensures spare { nodes.new.spare ≡ nodes.old.spare }
+{
+    match nodes.get_mut(x) {
+        None => None,
+        Some(node) => {
+            let owner = node.row.owner;
+            node.row.mark = Mark::Dying(owner.unwrap_or(Owner::Root));
+            node.row.owner = None;
+            Some((owner, node.kin))
+        }
+    }
+}
+
+pub(crate) fn write_name(nodes: &mut Arena<Node>, x: u64, name: Name)
+    ensures nodes { (q : ℕ) → get nodes.new q ≡ cond (nat_eq x q) (option_map (with_row (named_row name)) (get nodes.old q)) (get nodes.old q) }
+    ensures len { map.len nodes.new.pairs ≡ map.len nodes.old.pairs }
+    ensures spare { nodes.new.spare ≡ nodes.old.spare }
+{
+    if let Some(node) = nodes.get_mut(x) {
+        node.row.name = name;
+    }
+}
+
+pub(crate) fn write_mark(nodes: &mut Arena<Node>, x: u64, mark: Mark)
+    ensures nodes { (q : ℕ) → get nodes.new q ≡ cond (nat_eq x q) (option_map (with_row (marked_row mark)) (get nodes.old q)) (get nodes.old q) }
+    ensures len { map.len nodes.new.pairs ≡ map.len nodes.old.pairs }
+    ensures spare { nodes.new.spare ≡ nodes.old.spare }
+{
+    if let Some(node) = nodes.get_mut(x) {
+        node.row.mark = mark;
+    }
+}
+
+pub(crate) fn write_hook(nodes: &mut Arena<Node>, x: u64, hook: u32)
+    ensures nodes { (q : ℕ) → get nodes.new q ≡ cond (nat_eq x q) (option_map (with_row (hooked_row hook)) (get nodes.old q)) (get nodes.old q) }
+    ensures len { map.len nodes.new.pairs ≡ map.len nodes.old.pairs }
+    ensures spare { nodes.new.spare ≡ nodes.old.spare }
+{
+    if let Some(node) = nodes.get_mut(x) {
+        node.row.hook = hook;
+    }
+}
+
+pub(crate) fn write_size(nodes: &mut Arena<Node>, x: u64, size: u64)
+    ensures nodes { (q : ℕ) → get nodes.new q ≡ cond (nat_eq x q) (option_map (with_row (sized_row size)) (get nodes.old q)) (get nodes.old q) }
+    ensures len { map.len nodes.new.pairs ≡ map.len nodes.old.pairs }
+    ensures spare { nodes.new.spare ≡ nodes.old.spare }
+{
+    if let Some(node) = nodes.get_mut(x) {
+        node.row.size = size;
+    }
+}
+
+pub(crate) fn write_limit(nodes: &mut Arena<Node>, x: u64, limit: u64)
+    ensures nodes { (q : ℕ) → get nodes.new q ≡ cond (nat_eq x q) (option_map (with_row (limited_row limit)) (get nodes.old q)) (get nodes.old q) }
+    ensures len { map.len nodes.new.pairs ≡ map.len nodes.old.pairs }
+    ensures spare { nodes.new.spare ≡ nodes.old.spare }
+{
+    if let Some(node) = nodes.get_mut(x) {
+        node.row.limit = limit;
+    }
+}
+
+/// There is no such node any more.
+pub(crate) fn forget(nodes: &mut Arena<Node>, x: u64)
+    ensures pairs { nodes.new.pairs ≡ map.remove nodes.old.pairs x }
+    ensures spare { nodes.old.spare ≤ nodes.new.spare }
+{
+    let _node = nodes.take(x);
+}

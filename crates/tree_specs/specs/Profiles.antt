@@ -1,0 +1,197 @@
+-- What each kind of open work is to the others: what it claims, what it waits for, what it weighs and what it costs.
+-- One row a frame; a row names what is not as in the first row of its family.
+use Rattle.std.specs.Prelude.{ℕ, nat_eq, Option, Some, None, if◌then◌else◌}
+use Rattle.tree_specs.specs.declared.object.Obj.{Obj}
+use Rattle.tree_specs.specs.declared.object.Owner.{Owner}
+use Rattle.tree_specs.specs.declared.row.Mark.{Mark}
+use Rattle.tree_specs.specs.declared.row.Mark.TheVariants.{Quiet, Dying}
+use Rattle.tree_specs.specs.declared.question.Ask.{Ask}
+use Rattle.tree_specs.specs.declared.frame.Frame.{Frame}
+use Rattle.tree_specs.specs.declared.frame.Frame.TheVariants as frame
+use Rattle.tree_specs.specs.declared.frame.CallFrame.{CallFrame}
+use Rattle.tree_specs.specs.declared.frame.CallFrame.TheVariants.{Asking, Doing, Awaiting, Warning, Telling, Returning}
+use Rattle.tree_specs.specs.declared.frame.FreeFrame.{FreeFrame}
+use Rattle.tree_specs.specs.declared.frame.FreeFrame.TheVariants.{Unlinking, Releasing, Giving, Beginning, Hooked, Judged, Leaving, Looping, Trying, Tried, Ending}
+use Rattle.tree_specs.specs.declared.frame.Purpose.{Purpose}
+use Rattle.tree_specs.specs.declared.frame.Purpose.TheVariants.{Removal, Emptying}
+use Rattle.tree_specs.specs.declared.free_step.FreeReply.{FreeReply}
+use Rattle.tree_specs.specs.declared.free_step.FreeReply.TheVariants.{Running}
+
+-- what is going on with an object
+pub data Phase : Type 0 where
+  -- its destructor or its handler runs
+  InRun : Phase
+  -- its children are being freed
+  InLoop : Phase
+
+-- ---- the two things that a mark says
+
+-- the owner that a dying object had
+abbrev pub former_in : Mark → Option Owner
+former_in (Dying former) = Some former
+former_in _ = None
+
+abbrev pub phase_in : Mark → Option Phase
+phase_in Quiet = None
+phase_in (Dying former) = Some InLoop
+phase_in _ = Some InRun
+
+-- ---- what a work says of itself
+
+-- who it is to the work below it
+pub data Role : Type 0 where
+  -- a caller, known by its question; none where it is a routine that has returned
+  Calls : Option Ask → Role
+  -- a free of this object; none where it is over
+  Frees : Option Obj → Role
+
+-- what it waits for below another work
+pub data Waits : Type 0 where
+  -- it stands only innermost
+  Never : Waits
+  -- a call about this object, for a free
+  AFree : Obj → Waits
+  -- for the run of this object's destructor
+  ARun : Obj → ℕ → Waits
+  -- for the freeing of this child
+  AChild : Obj → Purpose → Waits
+
+-- that something is going on with an object
+pub record Claim : Type 0 where
+  pub object : Obj
+  pub phase : Phase
+
+-- whose children are still to be looked at
+pub data Looks : Type 0 where
+  AtNone : Looks
+  -- at its own
+  AtKids : Obj → Looks
+  -- those of the loop below it
+  AtBelow : Looks
+
+-- what it costs until the next question, where it is innermost
+pub record Cost : Type 0 where
+  -- so often as many steps as there can be rows
+  pub rounds : ℕ
+  pub steps : ℕ
+  pub looks : Looks
+
+-- that an object is removed after this work, and the destructor that accepted it; 0 is none
+pub record Removing : Type 0 where
+  pub object : Obj
+  pub hook : ℕ
+
+pub record Profile : Type 0 where
+  pub role : Role
+  pub waits : Waits
+  pub claims : Option Claim
+  pub removes : Option Removing
+  -- what it takes of what the rows that run or die pay for: below others, and innermost
+  pub size : ℕ
+  pub top_size : ℕ
+  -- the steps that it still costs below others, and those innermost
+  pub waiting_cost : ℕ
+  pub cost : Cost
+  -- the rows that it may add before the next question
+  pub adds : ℕ
+
+abbrev pub at_most : ℕ → ℕ → Looks → Cost
+at_most rounds steps looks = record { rounds = rounds; steps = steps; looks = looks }
+
+-- ---- frees
+
+abbrev pub runs : Obj → Option Claim
+runs x = Some (record { object = x; phase = InRun })
+
+abbrev pub dies : Obj → Option Claim
+dies x = Some (record { object = x; phase = InLoop })
+
+-- an object that is only emptied may be in any phase
+abbrev pub loops : Obj → Purpose → Option Claim
+loops x (Removal h) = dies x
+loops x Emptying = None
+
+abbrev pub removed : Obj → ℕ → Option Removing
+removed x h = Some (record { object = x; hook = h })
+
+abbrev pub loop_removes : Obj → Purpose → Option Removing
+loop_removes x (Removal h) = removed x h
+loop_removes x Emptying = None
+
+abbrev pub loop_size : Purpose → ℕ
+loop_size (Removal h) = 3
+loop_size Emptying = 0
+
+-- what comes before the next look at the children
+abbrev pub tried_cost : FreeReply → ℕ
+tried_cost Running = 4
+tried_cost _ = 8
+
+-- a free: what is the same of all stands in `of_free`
+pub record FreeProfile : Type 0 where
+  pub object : Option Obj
+  pub waits : Waits
+  pub claims : Option Claim
+  pub removes : Option Removing
+  pub size : ℕ
+  pub top_size : ℕ
+  pub waiting_cost : ℕ
+  pub cost : Cost
+
+abbrev pub a_free : Obj → FreeProfile
+a_free x = record { object = Some x; waits = Never; claims = None; removes = None; size = 0; top_size = 0; waiting_cost = 0; cost = at_most 0 0 AtNone }
+
+abbrev pub a_loop : Obj → Purpose → FreeProfile
+a_loop x purpose = record (a_free x) { claims = loops x purpose; removes = loop_removes x purpose; size = loop_size purpose; top_size = loop_size purpose }
+
+abbrev pub free_profile : FreeFrame → FreeProfile
+free_profile (Unlinking o x) = record (a_free x) { cost = at_most 0 7 AtBelow }
+free_profile (Releasing x) = record (a_free x) { cost = at_most 0 6 AtBelow }
+free_profile (Giving x o) = record (a_free x) { cost = at_most 4 10 AtNone }
+free_profile (Beginning x) = record (a_free x) { cost = at_most 0 5 AtBelow }
+-- an object that is to be asked pays for the run that comes
+free_profile (Hooked x h) = record (a_free x) { waits = ARun x h; claims = runs x; size = 1; top_size = 3; waiting_cost = 3; cost = at_most 0 4 AtNone }
+free_profile (Judged x h v) = record (a_free x) { claims = runs x; size = 3; top_size = 3; cost = at_most 4 10 AtNone }
+-- it runs until it leaves its owner, where a destructor has accepted
+free_profile (Leaving x h) = record (a_free x) {
+  claims = if nat_eq h 0 then None else runs x;
+  removes = removed x h;
+  size = if nat_eq h 0 then 0 else 3;
+  top_size = if nat_eq h 0 then 0 else 3;
+}
+free_profile (Looping x purpose) = record (a_loop x purpose) { cost = at_most 0 7 (AtKids x) }
+free_profile (Trying x c noted purpose) = record (a_loop x purpose) { waits = AChild c purpose }
+free_profile (Tried x c noted purpose answer) = record (a_loop x purpose) { cost = at_most 0 (tried_cost answer) (AtKids x) }
+free_profile (Ending answer) = record { object = None; waits = Never; claims = None; removes = None; size = 0; top_size = 0; waiting_cost = 0; cost = at_most 4 9 AtNone }
+
+abbrev pub of_free : FreeProfile → Profile
+of_free f = record { role = Frees f.object; waits = f.waits; claims = f.claims; removes = f.removes; size = f.size; top_size = f.top_size; waiting_cost = f.waiting_cost; cost = f.cost; adds = 0 }
+
+-- ---- callers
+
+pub record CallProfile : Type 0 where
+  pub ask : Option Ask
+  pub waits : Waits
+  pub waiting_cost : ℕ
+  pub cost : Cost
+  pub adds : ℕ
+
+abbrev pub a_caller : Ask → CallProfile
+a_caller q = record { ask = Some q; waits = Never; waiting_cost = 0; cost = at_most 0 0 AtNone; adds = 0 }
+
+abbrev pub call_profile : CallFrame → CallProfile
+call_profile (Asking q) = a_caller q
+call_profile (Doing q c) = record (a_caller q) { cost = at_most 16 52 AtNone; adds = 2 }
+call_profile (Awaiting q x) = record (a_caller q) { waits = AFree x; waiting_cost = 1 }
+call_profile (Warning q x r) = record (a_caller q) { cost = at_most 0 2 AtNone }
+call_profile (Telling q r) = record (a_caller q) { cost = at_most 0 1 AtNone }
+call_profile (Returning v) = record { ask = None; waits = Never; waiting_cost = 0; cost = at_most 4 9 AtNone; adds = 0 }
+
+abbrev pub of_call : CallProfile → Profile
+of_call f = record { role = Calls f.ask; waits = f.waits; claims = None; removes = None; size = 2; top_size = 2; waiting_cost = f.waiting_cost; cost = f.cost; adds = f.adds }
+
+-- ---- all
+
+abbrev pub profile : Frame → Profile
+profile (frame.Call f) = of_call (call_profile f)
+profile (frame.Free f) = of_free (free_profile f)
