@@ -32,20 +32,14 @@ fn owner(number: u64) -> Owner
     }
 }
 
-fn new_named(rt: &impl Abort, alloc: Global, number: u64, size: u64, text: &str) -> Input
+fn new(rt: &impl Abort, alloc: Global, number: u64, size: u64) -> Input
     ensures { IsTrue (is_sound result) }
 {
     Input::Call(Call::New {
         owner: owner(number),
         size,
-        name: name_of(rt, alloc, text),
+        name: name_of(rt, alloc, "a"),
     })
-}
-
-fn new(rt: &impl Abort, alloc: Global, number: u64, size: u64) -> Input
-    ensures { IsTrue (is_sound result) }
-{
-    new_named(rt, alloc, number, size, "a")
 }
 
 fn free(number: u64) -> Input
@@ -140,74 +134,60 @@ fn told_number(number: u64) -> Event {
     Event::Replied(Reply::Number(number))
 }
 
-// The answer is taken, these events are told, and then this question is open.
-fn leads(rt: &impl Abort, host: &mut Host, answer: Input, events: &[Event], question: Ask)
+// The event that is told next.
+fn next_is(rt: &impl Abort, host: &mut Host, event: &Event) {
+    assert_eq!(rt; host.next().as_ref(), Some(event));
+}
+
+// Nothing more is told, and this question is open.
+fn waits(rt: &impl Abort, host: &mut Host, question: &Ask) {
+    assert_eq!(rt; host.next(), None);
+    assert_eq!(rt; host.question(), Some(question));
+}
+
+// The answer is taken.
+fn takes(rt: &impl Abort, host: &mut Host, answer: Input)
     requires { IsTrue (is_sound answer) }
 {
     assert_eq!(rt; host.next(), None);
     assert_eq!(rt; host.offer(answer), Ok(()));
+}
+
+// The answer is taken, these events are told, and then this question is open.
+fn leads(rt: &impl Abort, host: &mut Host, answer: Input, events: &[Event], question: &Ask)
+    requires { IsTrue (is_sound answer) }
+{
+    takes(rt, host, answer);
     for event in events {
         assert_eq!(rt; host.question(), None);
-        assert_eq!(rt; host.next().as_ref(), Some(event));
+        next_is(rt, host, event);
     }
-    assert_eq!(rt; host.next(), None);
-    assert_eq!(rt; host.question(), Some(&question));
+    waits(rt, host, question);
 }
 
 // The call is taken, these events are told, and then the host waits again.
 fn tells(rt: &impl Abort, host: &mut Host, call: Input, events: &[Event])
     requires { IsTrue (is_sound call) }
 {
-    assert_eq!(rt; host.question(), Some(&Ask::Quiet));
-    leads(rt, host, call, events, Ask::Quiet);
+    waits(rt, host, &Ask::Quiet);
+    leads(rt, host, call, events, &Ask::Quiet);
 }
 
-// Each object under its owner, with its size; the first one is 1.
-fn family(rt: &impl Abort, alloc: Global, rows: &[(u64, u64, &str)]) -> Result<Host, Fail> {
-    let mut host = Host::new(alloc, 1)?;
-    let mut number = 0u64;
-    for (parent, size, text) in rows {
-        number = number.saturating_add(1);
-        let call = new_named(rt, alloc, *parent, *size, text);
-        tells(rt, &mut host, call, &[told_number(number)]);
-    }
-    Ok(host)
+// A new object under an owner gets this number.
+fn adds(rt: &impl Abort, alloc: Global, host: &mut Host, parent: u64, size: u64, number: u64) {
+    tells(rt, host, new(rt, alloc, parent, size), &[told_number(number)]);
 }
 
 // The objects 1 to 2,000, each under the one before it; each is one byte larger than that one, and 1 has none.
-fn chain_of_stolen(rt: &impl Abort, alloc: Global) -> Result<Host, Fail> {
-    let mut host = Host::new(alloc, 1)?;
+fn add_stolen_chain(rt: &impl Abort, alloc: Global, host: &mut Host) {
     for before in 0..2_000u64 {
-        let call = new(rt, alloc, 0, before);
-        tells(
-            rt,
-            &mut host,
-            call,
-            &[told_number(before.saturating_add(1))],
-        );
+        adds(rt, alloc, host, 0, before, before.saturating_add(1));
     }
     // From the end, so that each new owner still stands below the root.
     for before in 0..1_999u64 {
         let parent = 1_999u64.saturating_sub(before);
         let call = steal(parent, parent.saturating_add(1));
-        tells(rt, &mut host, call, &[Event::Replied(Reply::Ok)]);
+        tells(rt, host, call, &[Event::Replied(Reply::Ok)]);
     }
     assert!(rt; host.is_inside(Obj(2_000), Obj(1)), "the chain is whole");
-    Ok(host)
-}
-
-// The objects 2 to 2,001 under 1.
-fn row_of_children(rt: &impl Abort, alloc: Global) -> Result<Host, Fail> {
-    let mut host = Host::new(alloc, 1)?;
-    tells(rt, &mut host, new(rt, alloc, 0, 0), &[told_number(1)]);
-    for before in 0..2_000u64 {
-        let call = new(rt, alloc, 1, 0);
-        tells(
-            rt,
-            &mut host,
-            call,
-            &[told_number(before.saturating_add(2))],
-        );
-    }
-    Ok(host)
 }
