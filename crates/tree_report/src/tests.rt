@@ -133,6 +133,21 @@ fn expect_rows(rt: &impl Abort, report: &ReportRows, want: &[(u32, u64, u64, &st
     }
 }
 
+// The report of an owner has these lines.
+fn expect_report(
+    rt: &impl Abort,
+    alloc: Global,
+    world: &World,
+    from: Owner,
+    want: &[u8],
+) -> Result<(), Fail> {
+    let mut out = FineSink::new(alloc, 0)?;
+    let done = world.report(alloc, from, &mut out)?;
+    assert_eq!(rt; done, Done::Done);
+    assert_eq!(rt; out.held(), want);
+    Ok(())
+}
+
 #[test]
 fn each_owner_comes_before_its_children(rt: HostRuntime) -> Result<(), Fail> {
     let mut world = World::new(rt.alloc());
@@ -304,11 +319,7 @@ fn show_that_a_report_is_written_line_by_line(
     world: &mut World,
 ) -> Result<(), Fail> {
     add_five(rt, alloc, world)?;
-    let mut out = FineSink::new(alloc, 0)?;
-    let done = world.report(alloc, Owner::Of(Obj(2)), &mut out)?;
-    assert_eq!(rt; done, Done::Done);
-    assert_eq!(rt; out.held(), LINES);
-    Ok(())
+    expect_report(rt, alloc, world, Owner::Of(Obj(2)), LINES)
 }
 
 // The sink takes ten bytes, and then fails.
@@ -350,10 +361,7 @@ fn show_that_references_are_shown_and_counted(
     world.refer(rt, alloc, Obj(2), Owner::Of(Obj(5)))?;
     world.refer(rt, alloc, Obj(2), Owner::Of(Obj(1)))?;
     world.refer(rt, alloc, Obj(1), Owner::Of(Obj(5)))?;
-    let mut out = FineSink::new(alloc, 0)?;
-    let done = world.report(alloc, Owner::Of(Obj(1)), &mut out)?;
-    assert_eq!(rt; done, Done::Done);
-    assert_eq!(rt; out.held(), REFERENCES);
+    expect_report(rt, alloc, world, Owner::Of(Obj(1)), REFERENCES)?;
     assert_eq!(rt; total(&world.tree, Owner::Root), 543_210);
     assert_eq!(rt; count(&world.tree, Owner::Root), 5);
     Ok(())
