@@ -31,113 +31,85 @@ use Rattle.destructors.specs.Moves.{IsLiveRow}
 use Rattle.destructors.specs.Room.{mark_places, row_places, work_places, wanted}
 use Rattle.destructors.specs.Engine.{IsAsked, HasRoom}
 use Rattle.destructors.specs.Frees.{OpenFrees, before, frees_of, speaking}
-use Rattle.destructors.specs.Works.{standing, under, AtWork, IsAwaiting, MayBegin}
+use Rattle.tree_specs.specs.Sound.Footing.{OnCall}
+use Rattle.tree_specs.specs.Alone.{free_footing, free_claims, AwaitsRun}
+use Rattle.destructors.specs.Works.{AtWork, IsAwaiting, MayBegin}
 
--- the work below a caller that waits
-waiting-under : (c : CallFrame) (works : List FreeFrame) (cs : List CallFrame) (x : Obj) → Seated (frame.Call c) (under works cs)
-    → (q : Ask) × (standing works (Awaiting q x ∷ cs) ≡ frame.Call (Awaiting q x) ∷ under works cs) × Seated (frame.Call (Awaiting q x)) (under works cs)
-waiting-under c [] [] x s = (Quiet, refl, tt)
-waiting-under c [] (d ∷ ds) x s = absurd (no-call d s.0)
-  where
-    no-call : (d : CallFrame) → Serves (profile (frame.Call d)).waits (frame.Call c) → ⊥
-    no-call (Awaiting q y) h = h
-    no-call _ h = h
-waiting-under c (Hooked y h ∷ fs) cs x s = (Routine (hook_moment y h), refl, (tt, s.1))
-waiting-under c (Unlinking o y ∷ fs) cs x s = absurd s.0
-waiting-under c (Releasing y ∷ fs) cs x s = absurd s.0
-waiting-under c (Giving y o ∷ fs) cs x s = absurd s.0
-waiting-under c (Beginning y ∷ fs) cs x s = absurd s.0
-waiting-under c (Judged y h v ∷ fs) cs x s = absurd s.0
-waiting-under c (Leaving y h ∷ fs) cs x s = absurd s.0
-waiting-under c (Looping y purpose ∷ fs) cs x s = absurd s.0
-waiting-under c (Trying y d noted purpose ∷ fs) cs x s = absurd s.0
-waiting-under c (Tried y d noted purpose a ∷ fs) cs x s = absurd s.0
-waiting-under c (Ending a ∷ fs) cs x s = absurd s.0
+-- what is begun stands on the call that it is for
+on-call : (fs : List FreeFrame) → AwaitsRun fs → free_footing fs ≡ OnCall
+on-call [] w = refl
+on-call (Hooked x h ∷ fs) w = refl
+on-call (_ ∷ fs) w = absurd w
 
-pub begins : (f : FreeFrame) (x : Obj) (s : OpenFrees) → MayBegin f s.pool → IsAwaiting s → AtWork (f ∷ s.works) s.pool
-begins f x s may a =
-    let w = waiting-under a.caller s.works a.callers x a.whole.seated in
-    let below : standing s.works (Awaiting w.0 x ∷ a.callers) ≡ frame.Call (Awaiting w.0 x) ∷ under s.works a.callers = w.1 in
-    let l = a.whole.light in
-    let n = may.small in (
-      Awaiting w.0 x ∷ a.callers,
-      rw below (record {
-        sound = stands (frame.Call a.caller) (frame.Free f) (under s.works a.callers) (frame.Call (Awaiting w.0 x) ∷ under s.works a.callers) s.pool (λ y. rw (may.claims_nothing y) refl)
-            (tt, a.whole.sound.waiting) (may.rests w.0 x (under s.works a.callers)) a.whole.sound;
-        seated = (tt, w.2);
-        light = omega (arith, l, n);
-      }),
-    )
+pub begins : (f : FreeFrame) (s : OpenFrees) → MayBegin f s.pool → IsAwaiting s → AtWork (f ∷ s.works) s.pool
+begins f s may a =
+    let l = a.light in
+    let n = may.small in
+    record {
+      sound = record {
+        started = a.sound.started;
+        valid = a.sound.valid;
+        forest = a.sound.forest;
+        refers = a.sound.refers;
+        open_frees = λ x. rw (may.claims_nothing x) (a.sound.open_frees x);
+        waiting = a.sound.waiting;
+        rests = rw (on-call s.works a.sound.rests) (may.rests (λ x. free_claims x s.works));
+      };
+      light = omega (arith, l, n);
+    }
 
 pub may-free : (x : Obj) (p : Pool) → newest_ref p.rows x ≡ None → target_at p.rows x ≡ None → MayBegin (Beginning x) p
-may-free x p unheld object = record { claims_nothing = λ y. refl; rests = λ q y fs. (unheld, object); small = refl }
+may-free x p unheld object = record { claims_nothing = λ y. refl; rests = λ claimed. (unheld, object); small = refl }
 
 pub may-unlink : (o : Owner) (x : Obj) (p : Pool) → IsLiveRow p x → target_at p.rows x ≡ None → MayBegin (Unlinking o x) p
 may-unlink o x p live object = each (row_of p.rows x) refl
   where
     marks : (m : Mark) → is_dying_mark m ≡ false → IsLive m
-    marks mark.Quiet e = tt
-    marks Asked e = tt
-    marks Busy e = tt
-    marks Doomed e = tt
     marks (Dying former) e = cc
+    marks _ e = tt
 
     each : (r : Option Row) → row_of p.rows x ≡ r → MayBegin (Unlinking o x) p
     each None e = let bad : false ≡ true = rw e at live.0 in cc
     each (Some r) e =
         let l : is_dying_mark r.mark ≡ false = rw e at live.1 in
         let t : target_of r.kind ≡ None = rw e at object in
-        record { claims_nothing = λ y. refl; rests = λ q y fs. (tt, r, e, marks r.mark l, t); small = refl }
+        record { claims_nothing = λ y. refl; rests = λ claimed. (tt, r, e, marks r.mark l, t); small = refl }
 
 pub may-empty : (x : Obj) (p : Pool) → MayBegin (Looping x Emptying) p
-may-empty x p = record { claims_nothing = λ y. refl; rests = λ q y fs. tt; small = refl }
+may-empty x p = record { claims_nothing = λ y. refl; rests = λ claimed. tt; small = refl }
 
 -- the destructor has returned
 pub judges : (x : Obj) (h v : ℕ) (fs : List FreeFrame) (p : Pool) → IsAwaiting (record { works = Hooked x h ∷ fs; pool = p }) → AtWork (Judged x h v ∷ fs) p
 judges x h v fs p a =
-    let l = a.whole.light in
-    let w = a.whole.sound.waiting in (
-      a.callers,
-      record {
-        sound = stands (frame.Call a.caller) (frame.Free (Judged x h v)) (under (Hooked x h ∷ fs) a.callers) (standing fs a.callers) p (λ y. refl) w.1 w.0 a.whole.sound;
-        seated = reseat-free (Hooked x h) (Judged x h v) (standing fs a.callers) a.whole.seated.1;
-        light = omega (arith, l);
-      },
-    )
+    let l = a.light in
+    record {
+      sound = record {
+        started = a.sound.started;
+        valid = a.sound.valid;
+        forest = a.sound.forest;
+        refers = a.sound.refers;
+        open_frees = a.sound.open_frees;
+        waiting = a.sound.waiting.1;
+        rests = a.sound.waiting.0;
+      };
+      light = omega (arith, l);
+    }
 
 -- ---- by the parts of an engine
 
 pub answered : (f : FreeFrame) (v : ℕ) (fs : List FreeFrame) (p : Pool) → IsAsked (Some f) → IsAwaiting (record { works = f ∷ fs; pool = p }) → AtWork (unwrap_or (free_taken f p v) f ∷ fs) p
 answered (Hooked x h) v fs p asked a = judges x h v fs p a
-answered (Unlinking o x) v fs p asked a = absurd asked
-answered (Releasing x) v fs p asked a = absurd asked
-answered (Giving x o) v fs p asked a = absurd asked
-answered (Beginning x) v fs p asked a = absurd asked
-answered (Judged x h u) v fs p asked a = absurd asked
-answered (Leaving x h) v fs p asked a = absurd asked
-answered (Looping x purpose) v fs p asked a = absurd asked
-answered (Trying x c noted purpose) v fs p asked a = absurd asked
-answered (Tried x c noted purpose b) v fs p asked a = absurd asked
-answered (Ending b) v fs p asked a = absurd asked
+answered _ v fs p asked a = absurd asked
 
 pub answered-speaks : (f : FreeFrame) (v : ℕ) (fs : List FreeFrame) (p : Pool) → IsAsked (Some f) → speaking (record { works = unwrap_or (free_taken f p v) f ∷ fs; pool = p }) ≡ true
 answered-speaks (Hooked x h) v fs p asked = by_test (nat_eq v 0) (λ t. rw t refl) (λ t. rw t refl)
-answered-speaks (Unlinking o x) v fs p asked = absurd asked
-answered-speaks (Releasing x) v fs p asked = absurd asked
-answered-speaks (Giving x o) v fs p asked = absurd asked
-answered-speaks (Beginning x) v fs p asked = absurd asked
-answered-speaks (Judged x h u) v fs p asked = absurd asked
-answered-speaks (Leaving x h) v fs p asked = absurd asked
-answered-speaks (Looping x purpose) v fs p asked = absurd asked
-answered-speaks (Trying x c noted purpose) v fs p asked = absurd asked
-answered-speaks (Tried x c noted purpose b) v fs p asked = absurd asked
-answered-speaks (Ending b) v fs p asked = absurd asked
+answered-speaks _ v fs p asked = absurd asked
 
 -- a first work that is put before the works that wait
 pub begun : (f : FreeFrame) (o o' : Option FreeFrame) (old new : Links) → o' ≡ o → MayBegin f (pool_of old) → IsAwaiting (frees_of o old) → pool_of new ≡ pool_of old → new.frees ≡ before o' old.frees
     → AtWork (f ∷ new.frees) (pool_of new)
 begun f o o' old new same may a rows works =
-    let w : AtWork (f ∷ before o old.frees) (pool_of old) = begins f (record { 0 = 0 }) (frees_of o old) may a in
+    let w : AtWork (f ∷ before o old.frees) (pool_of old) = begins f (frees_of o old) may a in
     let l : new.frees ≡ before o old.frees = works ∙ ap (λ (z : Option FreeFrame). before z old.frees) same in
     rw (l, rows) w
 
@@ -147,23 +119,11 @@ row_places-most (r ∷ rs) = let ih = row_places-most rs in omega (arith, ih, fe
   where
     few : (m : Mark) → mark_places m ≤ 1
     few mark.Quiet = omega arith
-    few Asked = omega arith
-    few Busy = omega arith
-    few Doomed = omega arith
-    few (Dying former) = omega arith
+    few _ = omega arith
 
 work_places-most : (f : FreeFrame) → work_places f ≤ 1
 work_places-most (Unlinking o x) = omega arith
-work_places-most (Releasing x) = omega arith
-work_places-most (Giving x o) = omega arith
-work_places-most (Beginning x) = omega arith
-work_places-most (Hooked x h) = omega arith
-work_places-most (Judged x h v) = omega arith
-work_places-most (Leaving x h) = omega arith
-work_places-most (Looping x purpose) = omega arith
-work_places-most (Trying x c noted purpose) = omega arith
-work_places-most (Tried x c noted purpose a) = omega arith
-work_places-most (Ending a) = omega arith
+work_places-most _ = omega arith
 
 -- as much room is enough for any work
 pub any-room : (o : Option FreeFrame) (tree : Links) → length tree.rows + 2 ≤ tree.room → HasRoom o tree

@@ -30,6 +30,7 @@ use Rattle.tree_specs.proofs.Changes.{dying-row, claim-here}
 use Rattle.destructors.specs.Frees.{OpenFrees, answered, moved, moves, Silently, Still, On, Steps}
 use Rattle.destructors.specs.Works.{AtWork, IsAtWork, GoesOn}
 use Rattle.destructors.specs.Changes.{bare, SameRows, ChangedBy}
+use Rattle.destructors.proofs.Callers.{among}
 use Rattle.destructors.proofs.Keeping.{rests, kept, told-kept}
 use Rattle.destructors.proofs.Settling.{awaiting-speaks, still}
 
@@ -87,10 +88,8 @@ module _ (p : Pool) (fs : List Frame) where
     where
       each : (m : Mark) → MoveChanges (begin_step x (Some (record r { mark = m })) p) p.rows
       each mark.Quiet = by_test (nat_eq r.hook 0) (λ t. rw t refl) (λ t. rw t (marked-same mark.Asked p.rows x))
-      each mark.Asked = refl
       each mark.Busy = marked-same mark.Doomed p.rows x
-      each mark.Doomed = refl
-      each (mark.Dying former) = refl
+      each _ = refl
 
   hands : (x c : Obj) (noted : Option Owner) (purpose : Purpose) (a : FreeReply) → Sound (frame.Free (Tried x c noted purpose a)) fs p → MoveChanges (free_step (Tried x c noted purpose a) p) p.rows
   hands x c noted purpose replies.Ok s = refl
@@ -201,28 +200,20 @@ silent-rows s t w (On u _ earlier last) = let a = silent-rows s u w earlier in e
   where
     each : (works : List FreeFrame) → AtWork works u.pool → SameRows s.pool.rows u.pool.rows → moves works u.pool ≡ (None, t) → IsAtWork t × SameRows s.pool.rows t.pool.rows
     each [] v b e = absurd v
-    each (f ∷ fs) v b e = (kept f fs u.pool t v e, quiet-rows (free_step f u.pool) fs u.pool.rows t (move-changes u.pool _ f v.1.sound) e ∙ b)
+    each (f ∷ fs) v b e = (kept f fs u.pool t v e, quiet-rows (free_step f u.pool) fs u.pool.rows t (move-changes u.pool _ f (among f fs u.pool v).sound) e ∙ b)
 
 then-same : (t : FreeStep) (rs mid new : List Row) → ChangedBy t rs mid → SameRows mid new → ChangedBy t rs new
-then-same (Ask x) rs mid new c e = e ∙ c
 then-same (Dropped r target) rs mid new c e = (c.0, e ∙ c.1)
-then-same (Refused x v) rs mid new c e = e ∙ c
-then-same (Accepted x) rs mid new c e = e ∙ c
 then-same (Left x from) rs mid new c e = (c.0, e ∙ c.1)
 then-same (Moved x from o) rs mid new c e = (c.0, c.1, e ∙ c.2)
 then-same (Gone x h) rs mid new c e = (c.0, c.1, e ∙ c.2)
-then-same (Done a) rs mid new c e = e ∙ c
+then-same _ rs mid new c e = e ∙ c
 
 -- what follows a move that told something
 settled-rows : (t : FreeStep) (mid new : OpenFrees) → GoesOn t mid → Silently mid new → SameRows mid.pool.rows new.pool.rows
 settled-rows (Ask x) mid new g on = ap (λ (z : OpenFrees). map bare z.pool.rows) (sym (still mid new on (awaiting-speaks mid g)))
-settled-rows (Dropped r target) mid new g on = (silent-rows mid new g on).1
-settled-rows (Refused x v) mid new g on = (silent-rows mid new g on).1
-settled-rows (Accepted x) mid new g on = (silent-rows mid new g on).1
-settled-rows (Left x from) mid new g on = (silent-rows mid new g on).1
-settled-rows (Moved x from o) mid new g on = (silent-rows mid new g on).1
-settled-rows (Gone x h) mid new g on = (silent-rows mid new g on).1
 settled-rows (Done a) mid new g on = ap (λ (z : OpenFrees). map bare z.pool.rows) (sym (still mid new on (awaiting-speaks mid g)))
+settled-rows _ mid new g on = (silent-rows mid new g on).1
 
 pub step-changes : (old new : OpenFrees) (t : FreeStep) → IsAtWork old → Steps old t new → ChangedBy t old.pool.rows new.pool.rows
 step-changes old new t w s = each old.works w s
@@ -232,5 +223,5 @@ step-changes old new t w s = each old.works w s
     each (f ∷ fs) v st =
         let mid : OpenFrees = (moves (f ∷ fs) old.pool).1 in
         let e : moves (f ∷ fs) old.pool ≡ (Some t, mid) = ap (λ (z : Option FreeStep). let y : Option FreeStep × OpenFrees = (z, mid) in y) st.tells in
-        then-same t old.pool.rows mid.pool.rows new.pool.rows (told-rows (free_step f old.pool) fs old.pool.rows t mid (move-changes old.pool _ f v.1.sound) e)
+        then-same t old.pool.rows mid.pool.rows new.pool.rows (told-rows (free_step f old.pool) fs old.pool.rows t mid (move-changes old.pool _ f (among f fs old.pool v).sound) e)
         (settled-rows t mid new (told-kept f fs old.pool t mid v e) st.moves_on)

@@ -24,27 +24,13 @@ use Rattle.destructors.specs.Engine.{HasRoom}
 -- a work that may wait for a free
 abbrev pub IsNoHook : FreeFrame → Type 0
 IsNoHook (Hooked x h) = ⊥
-IsNoHook (Unlinking o x) = Unit {0}
-IsNoHook (Releasing x) = Unit {0}
-IsNoHook (Giving x o) = Unit {0}
-IsNoHook (Beginning x) = Unit {0}
-IsNoHook (Judged x h v) = Unit {0}
-IsNoHook (Leaving x h) = Unit {0}
-IsNoHook (Looping x purpose) = Unit {0}
-IsNoHook (Trying x c noted purpose) = Unit {0}
-IsNoHook (Tried x c noted purpose a) = Unit {0}
-IsNoHook (Ending a) = Unit {0}
+IsNoHook _ = Unit {0}
 
 -- what a free tells while it goes on
 abbrev pub IsNews : FreeStep → Type 0
 IsNews (step.Ask x) = ⊥
-IsNews (step.Dropped r target) = Unit {0}
-IsNews (step.Refused x v) = Unit {0}
-IsNews (step.Accepted x) = Unit {0}
-IsNews (step.Left x from) = Unit {0}
-IsNews (step.Moved x from owner) = Unit {0}
-IsNews (step.Gone x h) = Unit {0}
 IsNews (step.Done a) = ⊥
+IsNews _ = Unit {0}
 
 -- the work of an object's destructor asks for its run
 abbrev pub AsksFor : FreeStep → FreeFrame → Type 0
@@ -75,10 +61,7 @@ is_move (Beginning x) p = held (newest_ref p.rows x)
   where
     marks : (h : ℕ) (m : Mark) → IsMoveOf (Beginning x) p (begin_by x h m p)
     marks h Quiet = by_test (nat_eq h 0) (λ t. rw t tt) (λ t. rw t tt)
-    marks h Asked = tt
-    marks h Busy = tt
-    marks h Doomed = tt
-    marks h (Dying former) = tt
+    marks h _ = tt
 
     each : (o : Option Row) → IsMoveOf (Beginning x) p (begin_step x o p)
     each None = tt
@@ -100,12 +83,10 @@ is_move (Looping x purpose) p = each purpose (first_kid p.rows (Of x))
         taken c (Some target) = tt
     each (Removal h) None = tt
     each Emptying None = tt
-is_move (Trying x c noted purpose) p = tt
-is_move (Tried x c noted purpose Ok) p = tt
 is_move (Tried x c noted purpose Held) p = by_test (is_below (owner_of p.rows c) (Of x)) (λ t. rw t tt) (λ t. rw t tt)
 is_move (Tried x c noted purpose Running) p = by_test (is_below (owner_of p.rows c) (Of x)) (λ t. rw t tt) (λ t. rw t tt)
 is_move (Tried x c noted purpose (Refused v)) p = by_test (is_below (owner_of p.rows c) (Of x)) (λ t. rw t tt) (λ t. rw t tt)
-is_move (Ending a) p = tt
+is_move _ p = tt
 
 -- there is room for a work that is put below another
 pub push_room : (f : FreeFrame) (tree : Links) (p q : Pool) (g h : FreeFrame) → HasRoom (Some f) tree → Do.Call g h q ≡ free_step f p → 0 < tree.room

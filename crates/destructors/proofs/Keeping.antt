@@ -38,9 +38,11 @@ use Rattle.tree_specs.proofs.Falls.{lower}
 use Rattle.tree_specs.proofs.Rest.{whole-kept}
 use Rattle.tree_links.specs.Links.{MayPlace}
 use Rattle.destructors.specs.Frees.{OpenFrees, answered, moved, moves}
-use Rattle.destructors.specs.Works.{standing, free_view, AtWork, IsAtWork, IsAwaiting, GoesOn}
-use Rattle.destructors.specs.Moves.{IsLiveRow, MayHandOn, FreeRests}
+use Rattle.destructors.specs.Works.{AtWork, IsAtWork, IsAwaiting, GoesOn}
+use Rattle.destructors.specs.Callers.{standing, free_view}
+use Rattle.destructors.specs.Moves.{IsLiveRow, MayHandOn, MoveRests}
 use Rattle.destructors.specs.Room.{mark_places, row_places, work_places, wanted}
+use Rattle.destructors.proofs.Callers.{some_callers, among, work-alone, call-alone}
 use Rattle.destructors.proofs.Lifting.{OnFree, OnTold, OnMove, OnCaller, lift}
 
 -- ---- what a move rests on
@@ -49,11 +51,8 @@ pub live-row : (p : Pool) (x : Obj) (r : Row) → row_of p.rows x ≡ Some r →
 live-row p x r e live = (rw e refl, rw e (each r.mark live))
   where
     each : (m : Mark) → IsLive m → (elim m [ Quiet ↦ false | Asked ↦ false | Busy ↦ false | Doomed ↦ false | Dying former ↦ true ]) ≡ false
-    each Quiet l = refl
-    each Asked l = refl
-    each Busy l = refl
-    each Doomed l = refl
     each (Dying former) l = absurd l
+    each _ l = refl
 
 -- an object that isn't refused another owner may be put below it
 pub placeable : (p : Pool) (o : Owner) (x : Obj) → MayBePlaced p o x → MayPlace p.rows x o
@@ -62,12 +61,8 @@ placeable p o x may = let live = live-row p x may.row may.is may.live in record 
 hands-on : (x c : Obj) (noted : Option Owner) (f : Frame) (fs : List Frame) (p : Pool) → Sound f fs p → MayHandOn p x c noted
 hands-on x c noted f fs p s = λ below. placeable p (heir p.rows x c noted) c (heir-placed x c noted f fs p s below)
 
-pub rests : (f : FreeFrame) (fs : List Frame) (p : Pool) → Sound (frame.Free f) fs p → FreeRests f p
-rests (Unlinking o x) fs p s = tt
-rests (Releasing x) fs p s = tt
+pub rests : (f : FreeFrame) (fs : List Frame) (p : Pool) → Sound (frame.Free f) fs p → MoveRests f p
 rests (Giving x o) fs p s = placeable p o x s.rests
-rests (Beginning x) fs p s = tt
-rests (Hooked x h) fs p s = tt
 rests (Judged x h v) fs p s =
     let row = running-row (row_of p.rows x) (claims x fs) (claim-here x InRun (claims x fs) (row_of p.rows x) (s.open_frees x)) in
     live-row p x row.0 row.1 row.2
@@ -81,25 +76,30 @@ rests (Looping x (Removal h)) fs p s =
     quiet-row r e d (Some t) q =
         let still : r.mark ≡ Quiet = rw e at (s.refers.quiet x t q) in
         let bad : false ≡ true = ap is_dying_mark (sym still) ∙ d in cc
-rests (Looping x Emptying) fs p s = tt
-rests (Trying x c noted purpose) fs p s = tt
 rests (Tried x c noted purpose a) fs p s = hands-on x c noted _ fs p s
-rests (Ending a) fs p s = tt
+rests _ fs p s = tt
+
+pub work-rests : (f : FreeFrame) (fs : List FreeFrame) (p : Pool) → AtWork (f ∷ fs) p → MoveRests f p
+work-rests f fs p w = rests f (standing fs (some_callers fs)) p (among f fs p w).sound
 
 -- ---- what a move leads to
 
-whole-lifted : (f : FreeFrame) (fs : List FreeFrame) (p : Pool) (cs : List CallFrame) → Whole (free_view f fs cs p) → OnMove (λ g gs q j. Whole (record { innermost = g; below = gs; pool = q })) cs 0 (moves (f ∷ fs) p)
-whole-lifted f fs p cs w = lift (λ g gs q j. Whole (record { innermost = g; below = gs; pool = q })) cs 0 f fs p (whole-kept (free_view f fs cs p) 0 w)
+-- the works of a host, whatever inputs are left
+abbrev IsHost : Frame → List Frame → Pool → ℕ → Type 0
+IsHost f fs p k = Whole (record { innermost = f; below = fs; pool = p })
+
+-- a move leads from works of a host to works of a host, with the callers that the frees could have
+whole-lifted : (f : FreeFrame) (fs : List FreeFrame) (p : Pool) → AtWork (f ∷ fs) p → OnMove IsHost (some_callers fs) 0 (moves (f ∷ fs) p)
+whole-lifted f fs p w = lift IsHost (some_callers fs) 0 f fs p (whole-kept (free_view f fs (some_callers fs) p) 0 (among f fs p w))
+
+-- a free that is at work in a host is at work
+news : (works : List FreeFrame) (cs : List CallFrame) (p : Pool) → OnFree IsHost cs 0 works p → AtWork works p
+news [] cs p l = l
+news (g ∷ gs) cs p l = work-alone g gs cs p l
 
 -- a move that tells nothing leaves a free at work
 pub kept : (f : FreeFrame) (fs : List FreeFrame) (p : Pool) (t : OpenFrees) → AtWork (f ∷ fs) p → moves (f ∷ fs) p ≡ (None, t) → IsAtWork t
-kept f fs p t w e =
-    let l : OnMove (λ g gs q j. Whole (record { innermost = g; below = gs; pool = q })) w.0 0 (None, t) = subst (OnMove (λ g gs q j. Whole (record { innermost = g; below = gs; pool = q })) w.0 0) e (whole-lifted f fs p w.0 w.1) in
-    at_work t.works l
-  where
-    at_work : (works : List FreeFrame) → OnFree (λ g gs q j. Whole (record { innermost = g; below = gs; pool = q })) w.0 0 works t.pool → AtWork works t.pool
-    at_work [] l = l
-    at_work (g ∷ gs) l = (w.0, l)
+kept f fs p t w e = news t.works (some_callers fs) t.pool (subst (OnMove IsHost (some_callers fs) 0) e (whole-lifted f fs p w))
 
 -- some caller waits for the innermost free
 pub callers-wait : (f : FreeFrame) (fs : List FreeFrame) (cs : List CallFrame) → Seated (frame.Free f) (standing fs cs) → (c : CallFrame) × (ds : List CallFrame) × (cs ≡ c ∷ ds)
@@ -109,53 +109,25 @@ callers-wait f fs [] s = absurd (none f fs s)
     none : (f : FreeFrame) (fs : List FreeFrame) → Seated (frame.Free f) (standing fs []) → ⊥
     none f [] s = s
     none f (Hooked x h ∷ fs) s = s.0
-    none f (Unlinking o x ∷ fs) s = none (Unlinking o x) fs s.1
-    none f (Releasing x ∷ fs) s = none (Releasing x) fs s.1
-    none f (Giving x o ∷ fs) s = none (Giving x o) fs s.1
-    none f (Beginning x ∷ fs) s = none (Beginning x) fs s.1
-    none f (Judged x h v ∷ fs) s = none (Judged x h v) fs s.1
-    none f (Leaving x h ∷ fs) s = none (Leaving x h) fs s.1
-    none f (Looping x purpose ∷ fs) s = none (Looping x purpose) fs s.1
-    none f (Trying x c noted purpose ∷ fs) s = none (Trying x c noted purpose) fs s.1
-    none f (Tried x c noted purpose a ∷ fs) s = none (Tried x c noted purpose a) fs s.1
-    none f (Ending a ∷ fs) s = none (Ending a) fs s.1
+    none f (g ∷ fs) s = none g fs s.1
 
 -- what is told says how the frees go on
 pub told-kept : (f : FreeFrame) (fs : List FreeFrame) (p : Pool) (told : FreeStep) (t : OpenFrees) → AtWork (f ∷ fs) p → moves (f ∷ fs) p ≡ (Some told, t) → GoesOn told t
-told-kept f fs p told t w e = each told (subst (OnMove (λ g gs q j. Whole (record { innermost = g; below = gs; pool = q })) w.0 0) e (whole-lifted f fs p w.0 w.1))
+told-kept f fs p told t w e = each told (subst (OnMove IsHost (some_callers fs) 0) e (whole-lifted f fs p w))
   where
-    news : (works : List FreeFrame) → OnFree (λ g gs q j. Whole (record { innermost = g; below = gs; pool = q })) w.0 0 works t.pool → AtWork works t.pool
-    news [] l = l
-    news (g ∷ gs) l = (w.0, l)
+    over : (a : FreeReply) (c : CallFrame) (ds : List CallFrame) → OnCaller IsHost (some_callers fs) 0 a (c ∷ ds) t.works t.pool → IsAwaiting t
+    over a c ds l = call-alone (caller_resume c (Freed a)) t.works ds t.pool l
 
-    over : (a : FreeReply) (c : CallFrame) (ds : List CallFrame) → OnCaller (λ g gs q j. Whole (record { innermost = g; below = gs; pool = q })) w.0 0 a (c ∷ ds) t.works t.pool → IsAwaiting t
-    over a c ds l = record { caller = caller_resume c (Freed a); callers = ds; whole = l }
+    asked : (works : List FreeFrame) (x : Obj) → OnTold IsHost (some_callers fs) 0 (Ask x) works t.pool → IsAwaiting (record { works = works; pool = t.pool })
+    asked (Hooked y h ∷ gs) x l = call-alone _ (Hooked y h ∷ gs) (some_callers fs) t.pool l
+    asked _ x l = absurd l
 
-    asked : (works : List FreeFrame) (x : Obj) → OnTold (λ g gs q j. Whole (record { innermost = g; below = gs; pool = q })) w.0 0 (Ask x) works t.pool → IsAwaiting (record { works = works; pool = t.pool })
-    asked (Hooked y h ∷ gs) x l = record { caller = _; callers = w.0; whole = l }
-    asked [] x l = absurd l
-    asked (Unlinking o y ∷ gs) x l = absurd l
-    asked (Releasing y ∷ gs) x l = absurd l
-    asked (Giving y o ∷ gs) x l = absurd l
-    asked (Beginning y ∷ gs) x l = absurd l
-    asked (Judged y h v ∷ gs) x l = absurd l
-    asked (Leaving y h ∷ gs) x l = absurd l
-    asked (Looping y purpose ∷ gs) x l = absurd l
-    asked (Trying y c noted purpose ∷ gs) x l = absurd l
-    asked (Tried y c noted purpose a ∷ gs) x l = absurd l
-    asked (Ending a ∷ gs) x l = absurd l
-
-    each : (told : FreeStep) → OnTold (λ g gs q j. Whole (record { innermost = g; below = gs; pool = q })) w.0 0 told t.works t.pool → GoesOn told t
+    each : (told : FreeStep) → OnTold IsHost (some_callers fs) 0 told t.works t.pool → GoesOn told t
     each (Ask x) l = asked t.works x l
-    each (Dropped r target) l = news t.works l
-    each (Refused x v) l = news t.works l
-    each (Accepted x) l = news t.works l
-    each (Left x from) l = news t.works l
-    each (Moved x from owner) l = news t.works l
-    each (Gone x h) l = news t.works l
     each (Done a) l =
-        let c = callers-wait f fs w.0 w.1.seated in
-        over a c.0 c.1 (subst (λ (z : List CallFrame). OnCaller (λ g gs q j. Whole (record { innermost = g; below = gs; pool = q })) w.0 0 a z t.works t.pool) c.2 l)
+        let c = callers-wait f fs (some_callers fs) (among f fs p w).seated in
+        over a c.0 c.1 (subst (λ (z : List CallFrame). OnCaller IsHost (some_callers fs) 0 a z t.works t.pool) c.2 l)
+    each _ l = news t.works (some_callers fs) t.pool l
 
 -- ---- the measure
 
@@ -168,63 +140,39 @@ standing-cost : (fs : List FreeFrame) (cs : List CallFrame) → below_cost (stan
 standing-cost [] cs = omega arith
 standing-cost (Hooked x h ∷ fs) [] = let ih = standing-cost fs [] in omega (arith, ih)
 standing-cost (Hooked x h ∷ fs) (c ∷ cs) = let ih = standing-cost fs cs in omega (arith, ih)
-standing-cost (Unlinking o x ∷ fs) cs = let ih = standing-cost fs cs in omega (arith, ih)
-standing-cost (Releasing x ∷ fs) cs = let ih = standing-cost fs cs in omega (arith, ih)
-standing-cost (Giving x o ∷ fs) cs = let ih = standing-cost fs cs in omega (arith, ih)
-standing-cost (Beginning x ∷ fs) cs = let ih = standing-cost fs cs in omega (arith, ih)
-standing-cost (Judged x h v ∷ fs) cs = let ih = standing-cost fs cs in omega (arith, ih)
-standing-cost (Leaving x h ∷ fs) cs = let ih = standing-cost fs cs in omega (arith, ih)
-standing-cost (Looping x purpose ∷ fs) cs = let ih = standing-cost fs cs in omega (arith, ih)
-standing-cost (Trying x c noted purpose ∷ fs) cs = let ih = standing-cost fs cs in omega (arith, ih)
-standing-cost (Tried x c noted purpose a ∷ fs) cs = let ih = standing-cost fs cs in omega (arith, ih)
-standing-cost (Ending a ∷ fs) cs = let ih = standing-cost fs cs in omega (arith, ih)
+standing-cost (f ∷ fs) cs = let ih = standing-cost fs cs in omega (arith, ih)
 
 standing-kids : (rows : List Row) (fs : List FreeFrame) (cs : List CallFrame) → loop_kids rows (standing fs cs) ≡ loop_kids rows (map (λ g. frame.Free g) fs)
 standing-kids rows [] [] = refl
 standing-kids rows [] (c ∷ cs) = refl
 standing-kids rows (Hooked x h ∷ fs) [] = refl
 standing-kids rows (Hooked x h ∷ fs) (c ∷ cs) = refl
-standing-kids rows (Unlinking o x ∷ fs) cs = refl
-standing-kids rows (Releasing x ∷ fs) cs = refl
-standing-kids rows (Giving x o ∷ fs) cs = refl
-standing-kids rows (Beginning x ∷ fs) cs = refl
-standing-kids rows (Judged x h v ∷ fs) cs = refl
-standing-kids rows (Leaving x h ∷ fs) cs = refl
-standing-kids rows (Looping x purpose ∷ fs) cs = refl
-standing-kids rows (Trying x c noted purpose ∷ fs) cs = refl
-standing-kids rows (Tried x c noted purpose a ∷ fs) cs = refl
-standing-kids rows (Ending a ∷ fs) cs = refl
+standing-kids rows (f ∷ fs) cs = refl
 
 standing-top : (R : ℕ) (f : FreeFrame) (fs : List FreeFrame) (cs : List CallFrame) (rows : List Row) → top_cost R (frame.Free f) (standing fs cs) rows ≡ top_cost R (frame.Free f) (map (λ g. frame.Free g) fs) rows
 standing-top R (Unlinking o x) fs cs rows = let k = standing-kids rows fs cs in omega (arith, k)
 standing-top R (Releasing x) fs cs rows = let k = standing-kids rows fs cs in omega (arith, k)
 standing-top R (Giving x o) fs cs rows = let k = standing-kids rows fs cs in omega (arith, k)
 standing-top R (Beginning x) fs cs rows = let k = standing-kids rows fs cs in omega (arith, k)
-standing-top R (Hooked x h) fs cs rows = refl
-standing-top R (Judged x h v) fs cs rows = refl
-standing-top R (Leaving x h) fs cs rows = refl
-standing-top R (Looping x purpose) fs cs rows = refl
-standing-top R (Trying x c noted purpose) fs cs rows = refl
-standing-top R (Tried x c noted purpose a) fs cs rows = refl
-standing-top R (Ending a) fs cs rows = refl
+standing-top R _ fs cs rows = refl
 
 -- a move that tells nothing lowers the measure
 pub falls : (R : ℕ) (f : FreeFrame) (fs : List FreeFrame) (p : Pool) (t : OpenFrees) → AtWork (f ∷ fs) p → length p.rows ≤ R → moves (f ∷ fs) p ≡ (None, t)
     → (length t.pool.rows ≤ R) × (free_cost R t.works t.pool < free_cost R (f ∷ fs) p)
 falls R f fs p t w n e =
-    let l : OnMove Lower w.0 0 (None, t) = subst (OnMove Lower w.0 0) e (lift Lower w.0 0 f fs p (lower R (frame.Free f) (standing fs w.0) p 0 w.1.sound (omega (arith, n)))) in
+    let l : OnMove Lower (some_callers fs) 0 (None, t) = subst (OnMove Lower (some_callers fs) 0) e (lift Lower (some_callers fs) 0 f fs p (lower R (frame.Free f) (standing fs (some_callers fs)) p 0 (among f fs p w).sound (omega (arith, n)))) in
     each t.works l
   where
     Lower : Frame → List Frame → Pool → ℕ → Type 0
-    Lower g gs q j = Room R g q j × (cost R g gs q j < cost R (frame.Free f) (standing fs w.0) p 0)
+    Lower g gs q j = Room R g q j × (cost R g gs q j < cost R (frame.Free f) (standing fs (some_callers fs)) p 0)
 
-    each : (works : List FreeFrame) → OnFree Lower w.0 0 works t.pool → (length t.pool.rows ≤ R) × (free_cost R works t.pool < free_cost R (f ∷ fs) p)
+    each : (works : List FreeFrame) → OnFree Lower (some_callers fs) 0 works t.pool → (length t.pool.rows ≤ R) × (free_cost R works t.pool < free_cost R (f ∷ fs) p)
     each [] l = absurd l
     each (g ∷ gs) l =
-        let a = standing-cost fs w.0 in
-        let b = standing-cost gs w.0 in
-        let c = standing-top R f fs w.0 p.rows in
-        let d = standing-top R g gs w.0 t.pool.rows in
+        let a = standing-cost fs (some_callers fs) in
+        let b = standing-cost gs (some_callers fs) in
+        let c = standing-top R f fs (some_callers fs) p.rows in
+        let d = standing-top R g gs (some_callers fs) t.pool.rows in
         let r = l.0 in
         let s = l.1 in
         (omega (arith, r), omega (arith, a, b, c, d, s))
@@ -232,11 +180,8 @@ falls R f fs p t w n e =
 -- ---- room
 
 live-places : (m : Mark) → IsLive m → mark_places m ≡ 1
-live-places Quiet l = refl
-live-places Asked l = refl
-live-places Busy l = refl
-live-places Doomed l = refl
 live-places (Dying former) l = absurd l
+live-places _ l = refl
 
 -- the places that a move wants, over those that the work has
 abbrev Slim : ℕ → FreeMove → Type 0
@@ -256,10 +201,8 @@ slim-begin x p = each (row_of p.rows x) refl
     marks r Quiet m e = by_test (nat_eq r.hook 0)
         (λ t. rw (e, m, t) (omega arith))
         (λ t. let u = marked r Asked e (sym (ap mark_places m)) in rw (e, m, t) (omega (arith, u)))
-    marks r Asked m e = rw (e, m) (omega arith)
     marks r Busy m e = let u = marked r Doomed e (sym (ap mark_places m)) in rw (e, m) (omega (arith, u))
-    marks r Doomed m e = rw (e, m) (omega arith)
-    marks r (Dying former) m e = rw (e, m) (omega arith)
+    marks r _ m e = rw (e, m) (omega arith)
 
     each : (o : Option Row) → row_of p.rows x ≡ o → Slim (0 + total row_places p.rows) (begin_step x (row_of p.rows x) p)
     each None e = rw e (omega arith)
@@ -315,37 +258,23 @@ slim (Looping x purpose) fs p s = each purpose s (first_kid p.rows (Of x))
         let w = total-without row_places p.rows x row.0 row.1 in
         omega (arith, w)
     each Emptying s None = omega arith
-slim (Trying x c noted purpose) fs p s = omega arith
-slim (Tried x c noted purpose Ok) fs p s = omega arith
 slim (Tried x c noted purpose Held) fs p s = slim-handed x c noted purpose Held fs p s
 slim (Tried x c noted purpose Running) fs p s = slim-handed x c noted purpose Running fs p s
 slim (Tried x c noted purpose (IsRefused v)) fs p s = slim-handed x c noted purpose (IsRefused v) fs p s
-slim (Ending a) fs p s = omega arith
+slim _ fs p s = omega arith
 
 wants-answered : (a : FreeReply) (fs : List FreeFrame) (q : Pool) → wanted (answered a q fs).1.works (answered a q fs).1.pool.rows ≤ length fs + total row_places q.rows
 wants-answered a [] q = omega arith
 wants-answered a (Hooked x h ∷ fs) q = omega arith
-wants-answered a (Unlinking o x ∷ fs) q = omega arith
-wants-answered a (Releasing x ∷ fs) q = omega arith
-wants-answered a (Giving x o ∷ fs) q = omega arith
-wants-answered a (Beginning x ∷ fs) q = omega arith
-wants-answered a (Judged x h v ∷ fs) q = omega arith
-wants-answered a (Leaving x h ∷ fs) q = omega arith
-wants-answered a (Looping x purpose ∷ fs) q = omega arith
-wants-answered a (Trying x c noted purpose ∷ fs) q = omega arith
-wants-answered a (Tried x c noted purpose b ∷ fs) q = omega arith
-wants-answered a (Ending b ∷ fs) q = omega arith
+wants-answered a (_ ∷ fs) q = omega arith
 
 -- no move wants more places
 pub narrow : (f : FreeFrame) (fs : List FreeFrame) (p : Pool) (o : Option FreeStep) (t : OpenFrees) → AtWork (f ∷ fs) p → moves (f ∷ fs) p ≡ (o, t)
     → wanted t.works t.pool.rows ≤ wanted (f ∷ fs) p.rows
 narrow f fs p o t w e =
-    let n = each (free_step f p) (slim f (standing fs w.0) p w.1.sound) in
+    let n = each (free_step f p) (slim f (standing fs (some_callers fs)) p (among f fs p w).sound) in
     subst (λ (z : Option FreeStep × OpenFrees). wanted z.1.works z.1.pool.rows ≤ wanted (f ∷ fs) p.rows) e n
   where
     each : (m : FreeMove) → Slim (work_places f + total row_places p.rows) m → wanted (moved m fs).1.works (moved m fs).1.pool.rows ≤ wanted (f ∷ fs) p.rows
     each (Do.Done a q) s = let u = wants-answered a fs q in omega (arith, s, u)
-    each (Do.Go g q) s = omega (arith, s)
-    each (Do.Emit t g q) s = omega (arith, s)
-    each (Do.Wait t g q) s = omega (arith, s)
-    each (Do.Call g h q) s = omega (arith, s)
+    each _ s = omega (arith, s)

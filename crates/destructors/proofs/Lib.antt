@@ -1,5 +1,6 @@
 pub mod FreeMoves
 pub mod Lifting
+pub mod Callers
 pub mod Resting
 pub mod Keeping
 pub mod Begins

@@ -18,22 +18,13 @@ use Rattle.tree_specs.specs.Pool.{Pool}
 use Rattle.tree_specs.specs.Table.{FreeMove, table, free_step, lifted, caller_resume}
 use Rattle.tree_specs.specs.Story.{hook_moment}
 use Rattle.destructors.specs.Frees.{OpenFrees, answered, moved, moves}
-use Rattle.destructors.specs.Works.{standing, under}
+use Rattle.destructors.specs.Callers.{standing, under}
 use Rattle.destructors.proofs.FreeMoves.{IsNoHook, IsNews, AsksFor, IsMoveOf, is_move}
 
 -- a work that waits for a free stands right below it
 pub standing-free : (f : FreeFrame) (fs : List FreeFrame) (cs : List CallFrame) → IsNoHook f → standing (f ∷ fs) cs ≡ frame.Free f ∷ standing fs cs
 standing-free (Hooked x h) fs cs n = absurd n
-standing-free (Unlinking o x) fs cs n = refl
-standing-free (Releasing x) fs cs n = refl
-standing-free (Giving x o) fs cs n = refl
-standing-free (Beginning x) fs cs n = refl
-standing-free (Judged x h v) fs cs n = refl
-standing-free (Leaving x h) fs cs n = refl
-standing-free (Looping x purpose) fs cs n = refl
-standing-free (Trying x c noted purpose) fs cs n = refl
-standing-free (Tried x c noted purpose a) fs cs n = refl
-standing-free (Ending a) fs cs n = refl
+standing-free _ fs cs n = refl
 
 module _ (Q : Frame → List Frame → Pool → ℕ → Type 0) (cs : List CallFrame) (k : ℕ) where
   -- the caller that has waited goes on
@@ -54,13 +45,8 @@ module _ (Q : Frame → List Frame → Pool → ℕ → Type 0) (cs : List CallF
 
   abbrev pub OnTold : FreeStep → List FreeFrame → Pool → Type 0
   OnTold (Ask x) fs p = OnRun x fs p
-  OnTold (Dropped r target) fs p = OnFree fs p
-  OnTold (Refused x v) fs p = OnFree fs p
-  OnTold (Accepted x) fs p = OnFree fs p
-  OnTold (Left x from) fs p = OnFree fs p
-  OnTold (Moved x from owner) fs p = OnFree fs p
-  OnTold (Gone x h) fs p = OnFree fs p
   OnTold (Done a) fs p = OnCaller a cs fs p
+  OnTold _ fs p = OnFree fs p
 
   -- what a move leads to
   abbrev pub OnMove : Option FreeStep × OpenFrees → Type 0
@@ -78,26 +64,12 @@ module _ (Q : Frame → List Frame → Pool → ℕ → Type 0) (cs : List CallF
       each : (ds : List CallFrame) → Leads table Q (Do.Done (Freed a) p) (standing (Hooked x h ∷ fs) ds) k → OnCaller a ds (Hooked x h ∷ fs) p
       each [] l = tt
       each (c ∷ ds) l = l
-  lift-answered a (Unlinking o x ∷ fs) p l = l
-  lift-answered a (Releasing x ∷ fs) p l = l
-  lift-answered a (Giving x o ∷ fs) p l = l
-  lift-answered a (Beginning x ∷ fs) p l = l
-  lift-answered a (Judged x h v ∷ fs) p l = l
-  lift-answered a (Leaving x h ∷ fs) p l = l
-  lift-answered a (Looping x purpose ∷ fs) p l = l
-  lift-answered a (Trying x c noted purpose ∷ fs) p l = l
-  lift-answered a (Tried x c noted purpose b ∷ fs) p l = l
-  lift-answered a (Ending b ∷ fs) p l = l
+  lift-answered a (f ∷ fs) p l = l
 
   lift-told : (t : FreeStep) (f : FreeFrame) (fs : List FreeFrame) (p : Pool) → IsNews t → Leads table Q (lifted (Do.Emit t f p)) (standing fs cs) k → OnTold t (f ∷ fs) p
   lift-told (Ask x) f fs p n l = absurd n
-  lift-told (Dropped r target) f fs p n l = l
-  lift-told (Refused x v) f fs p n l = l
-  lift-told (Accepted x) f fs p n l = l
-  lift-told (Left x from) f fs p n l = l
-  lift-told (Moved x from owner) f fs p n l = l
-  lift-told (Gone x h) f fs p n l = l
   lift-told (Done a) f fs p n l = absurd n
+  lift-told _ f fs p n l = l
 
   lift-asked : (t : FreeStep) (f : FreeFrame) (fs : List FreeFrame) (p : Pool) → AsksFor t f → Leads table Q (lifted (Do.Wait t f p)) (standing fs cs) k → OnTold t (f ∷ fs) p
   lift-asked (Ask x) (Hooked y g) fs p a l = l

@@ -22,7 +22,8 @@ use Rattle.tree_specs.proofs.Changes.{stands, new-sound}
 use Rattle.tree_specs.proofs.Rest.{whole-kept, event-whole}
 use Rattle.tree_links.specs.Links.{Links, pool_of}
 use Rattle.destructors.specs.Frees.{OpenFrees, before, frees_of, moves, next_of, speaking, Steps}
-use Rattle.destructors.specs.Works.{call_view, AtWork, IsAtWork}
+use Rattle.destructors.specs.Works.{AtWork, IsAtWork}
+use Rattle.destructors.specs.Callers.{call_view}
 use Rattle.destructors.specs.Engine.{IsAsked, AreKept}
 use Rattle.destructors.proofs.Settling.{still, asks-hooked}
 

@@ -13,7 +13,8 @@ use Rattle.tree_specs.specs.Whole.{Seated}
 use Rattle.tree_specs.specs.Pool.{Pool}
 use Rattle.tree_links.specs.Links.{Links, pool_of}
 use Rattle.destructors.specs.Frees.{OpenFrees, before, frees_of, answered, moved, moves, speaks, speaking, Silently, Still, On}
-use Rattle.destructors.specs.Works.{under, AtWork, IsAtWork, IsAwaiting, GoesOn}
+use Rattle.tree_specs.specs.Alone.{AwaitsRun}
+use Rattle.destructors.specs.Works.{AtWork, IsAtWork, IsAwaiting, GoesOn}
 use Rattle.destructors.specs.Engine.{AreKept, HasRoom, MayMove, Ready}
 use Rattle.destructors.proofs.FreeMoves.{IsNews, AsksFor, IsMoveOf, is_move}
 use Rattle.destructors.proofs.Keeping.{kept, told-kept, falls, narrow, free_cost}
@@ -64,21 +65,12 @@ onward f g old told o new e r quiet m k room =
 
 -- a free that waits for its caller has nothing to do but to ask
 pub awaiting-speaks : (s : OpenFrees) → IsAwaiting s → speaking s ≡ true
-awaiting-speaks s a = each s.works a.whole.seated
+awaiting-speaks s a = each s.works a.sound.rests
   where
-    each : (works : List FreeFrame) → Seated (frame.Call a.caller) (under works a.callers) → speaks works (moves works s.pool).0 ≡ true
+    each : (works : List FreeFrame) → AwaitsRun works → speaks works (moves works s.pool).0 ≡ true
     each [] w = refl
     each (Hooked x h ∷ fs) w = refl
-    each (Unlinking o x ∷ fs) w = absurd w.0
-    each (Releasing x ∷ fs) w = absurd w.0
-    each (Giving x o ∷ fs) w = absurd w.0
-    each (Beginning x ∷ fs) w = absurd w.0
-    each (Judged x h v ∷ fs) w = absurd w.0
-    each (Leaving x h ∷ fs) w = absurd w.0
-    each (Looping x purpose ∷ fs) w = absurd w.0
-    each (Trying x c noted purpose ∷ fs) w = absurd w.0
-    each (Tried x c noted purpose b ∷ fs) w = absurd w.0
-    each (Ending b ∷ fs) w = absurd w.0
+    each (_ ∷ fs) w = absurd w
 
 -- where there is nothing to do but to tell, nothing is done silently
 pub still : (s t : OpenFrees) → Silently s t → speaking s ≡ true → s ≡ t
@@ -101,24 +93,14 @@ told-ready told (Some f) tree k g = each told g
   where
     each : (told : FreeStep) → GoesOn told (frees_of (Some f) tree) → MayMove (Some f) tree
     each (Ask x) a = inr (awaiting-speaks (frees_of (Some f) tree) a)
-    each (Dropped r target) w = inl w
-    each (Refused x v) w = inl w
-    each (Accepted x) w = inl w
-    each (Left x from) w = inl w
-    each (Moved x from owner) w = inl w
-    each (Gone x h) w = inl w
     each (Done a) w = inr (awaiting-speaks (frees_of (Some f) tree) w)
+    each _ w = inl w
 
 -- and go on so after the moves that tell nothing
 pub told-settled : (told : FreeStep) (s t : OpenFrees) → GoesOn told s → Silently s t → (IsAtWork s → IsAtWork t) → GoesOn told t
 told-settled (Ask x) s t g moves_on keeps = subst IsAwaiting (still s t moves_on (awaiting-speaks s g)) g
-told-settled (Dropped r target) s t g moves_on keeps = keeps g
-told-settled (Refused x v) s t g moves_on keeps = keeps g
-told-settled (Accepted x) s t g moves_on keeps = keeps g
-told-settled (Left x from) s t g moves_on keeps = keeps g
-told-settled (Moved x from owner) s t g moves_on keeps = keeps g
-told-settled (Gone x h) s t g moves_on keeps = keeps g
 told-settled (Done a) s t g moves_on keeps = subst IsAwaiting (still s t moves_on (awaiting-speaks s g)) g
+told-settled _ s t g moves_on keeps = keeps g
 
 -- a move of an engine that tells something
 pub record Tells (told : FreeStep) (o : Option FreeFrame) (tree : Links) : Type 0 where
@@ -151,16 +133,7 @@ asks-hooked f fs p x t e = each (free_step f p) (is_move f p) e
     over : (a : FreeReply) (q : Pool) (gs : List FreeFrame) → answered a q gs ≡ (Some (Ask x), t) → ⊥
     over a q [] e = let d = (told _ _ e).0 in let bad : Some (Done a) ≡ Some (Ask x) = d in cc
     over a q (Hooked y h ∷ gs) e = let bad : Some (Done a) ≡ Some (Ask x) = (told _ _ e).0 in cc
-    over a q (Unlinking o y ∷ gs) e = let bad : None ≡ Some (Ask x) = (told _ _ e).0 in cc
-    over a q (Releasing y ∷ gs) e = let bad : None ≡ Some (Ask x) = (told _ _ e).0 in cc
-    over a q (Giving y o ∷ gs) e = let bad : None ≡ Some (Ask x) = (told _ _ e).0 in cc
-    over a q (Beginning y ∷ gs) e = let bad : None ≡ Some (Ask x) = (told _ _ e).0 in cc
-    over a q (Judged y h v ∷ gs) e = let bad : None ≡ Some (Ask x) = (told _ _ e).0 in cc
-    over a q (Leaving y h ∷ gs) e = let bad : None ≡ Some (Ask x) = (told _ _ e).0 in cc
-    over a q (Looping y purpose ∷ gs) e = let bad : None ≡ Some (Ask x) = (told _ _ e).0 in cc
-    over a q (Trying y c noted purpose ∷ gs) e = let bad : None ≡ Some (Ask x) = (told _ _ e).0 in cc
-    over a q (Tried y c noted purpose b ∷ gs) e = let bad : None ≡ Some (Ask x) = (told _ _ e).0 in cc
-    over a q (Ending b ∷ gs) e = let bad : None ≡ Some (Ask x) = (told _ _ e).0 in cc
+    over a q (_ ∷ gs) e = let bad : None ≡ Some (Ask x) = (told _ _ e).0 in cc
 
     each : (m : FreeMove) → IsMoveOf f p m → moved m fs ≡ (Some (Ask x), t) → (h : ℕ) × (f ≡ Hooked x h) × (t ≡ record { works = f ∷ fs; pool = p })
     each (Do.Done a q) of e = absurd (over a q fs e)

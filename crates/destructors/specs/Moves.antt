@@ -41,16 +41,16 @@ abbrev pub MayHandOn : Pool → Obj → Obj → Option Owner → Type 0
 MayHandOn p x c noted = is_below (owner_of p.rows c) (Of x) ≡ true → MayPlace p.rows c (heir p.rows x c noted)
 
 -- what a move rests on
-abbrev pub FreeRests : FreeFrame → Pool → Type 0
-FreeRests (Unlinking o x) p = Unit {0}
-FreeRests (Releasing x) p = Unit {0}
-FreeRests (Giving x o) p = MayPlace p.rows x o
-FreeRests (Beginning x) p = Unit {0}
-FreeRests (Hooked x h) p = Unit {0}
-FreeRests (Judged x h v) p = IsLiveRow p x
-FreeRests (Leaving x h) p = IsLiveRow p x
-FreeRests (Looping x (Removal h)) p = (is_dying p.rows x ≡ true) × (target_at p.rows x ≡ None)
-FreeRests (Looping x Emptying) p = Unit {0}
-FreeRests (Trying x c noted purpose) p = Unit {0}
-FreeRests (Tried x c noted purpose a) p = MayHandOn p x c noted
-FreeRests (Ending a) p = Unit {0}
+abbrev pub MoveRests : FreeFrame → Pool → Type 0
+MoveRests (Unlinking o x) p = Unit {0}
+MoveRests (Releasing x) p = Unit {0}
+MoveRests (Giving x o) p = MayPlace p.rows x o
+MoveRests (Beginning x) p = Unit {0}
+MoveRests (Hooked x h) p = Unit {0}
+MoveRests (Judged x h v) p = IsLiveRow p x
+MoveRests (Leaving x h) p = IsLiveRow p x
+MoveRests (Looping x (Removal h)) p = (is_dying p.rows x ≡ true) × (target_at p.rows x ≡ None)
+MoveRests (Looping x Emptying) p = Unit {0}
+MoveRests (Trying x c noted purpose) p = Unit {0}
+MoveRests (Tried x c noted purpose a) p = MayHandOn p x c noted
+MoveRests (Ending a) p = Unit {0}

@@ -7,7 +7,7 @@ ghost use Rattle.tree_specs.specs.declared.frame.FreeFrame.TheVariants.{Looping 
 ghost use Rattle.tree_specs.specs.Table.{free_step, begin_step, begin_quiet, refs_step, unlink_step, release_step, judge_step, last_step, child_step, loop_step, hand_on_step};
 ghost use Rattle.tree_links.specs.Links.{pool_of, works_of, MayPlace};
 ghost use Rattle.references.specs.Rows.{AreRefsOf, SameRefs};
-ghost use Rattle.destructors.specs.Moves.{move_of, outlook_of, IsLiveRow, MayHandOn, FreeRests};
+ghost use Rattle.destructors.specs.Moves.{move_of, outlook_of, IsLiveRow, MayHandOn, MoveRests};
 
 use crate::dropping::{drop_ref, hold, noted_owner, release, unlink};
 use crate::heir::heir;
@@ -95,7 +95,7 @@ fn leave(x: Obj, hook: u32, tree: &mut Tree) -> Motion
 
 /// There are no more children.
 fn finish(x: Obj, purpose: Purpose, tree: &mut Tree) -> Motion
-    requires rests { FreeRests (Loops x purpose) (pool_of tree.old) }
+    requires rests { MoveRests (Loops x purpose) (pool_of tree.old) }
     requires alone { first_kid tree.old.rows (below x) ≡ None }
     ensures moved { move_of result (pool_of tree.new) ≡ last_step x purpose (pool_of tree.old) }
     ensures spare { tree.old.spare ≤ tree.new.spare }
@@ -142,7 +142,7 @@ fn take(x: Obj, child: Obj, purpose: Purpose, tree: &mut Tree, refs: &mut Refs) 
 }
 
 fn look(x: Obj, purpose: Purpose, tree: &mut Tree, refs: &mut Refs) -> Motion
-    requires rests { FreeRests (Loops x purpose) (pool_of tree.old) }
+    requires rests { MoveRests (Loops x purpose) (pool_of tree.old) }
     requires refs { AreRefsOf refs.old.pairs tree.old.rows }
     ensures moved { move_of result (pool_of tree.new) ≡ loop_step x purpose (first_kid tree.old.rows (below x)) (pool_of tree.old) }
     ensures spare { tree.old.spare ≤ tree.new.spare }
@@ -199,7 +199,7 @@ fn hand_on(x: Obj, child: Obj, noted: Option<Owner>, purpose: Purpose, tree: &mu
 
 /// One move of a work.
 pub fn move_once(work: FreeFrame, tree: &mut Tree, refs: &mut Refs) -> Motion
-    requires rests { FreeRests work (pool_of tree.old) }
+    requires rests { MoveRests work (pool_of tree.old) }
     requires refs { AreRefsOf refs.old.pairs tree.old.rows }
     ensures moved { move_of result (pool_of tree.new) ≡ free_step work (pool_of tree.old) }
     ensures spare { tree.old.spare ≤ tree.new.spare }

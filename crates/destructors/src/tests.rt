@@ -8,7 +8,8 @@ ghost use Rattle.tree_specs.specs.Whole.{Whole};
 ghost use Rattle.tree_links.specs.Links.{pool_of};
 ghost use Rattle.references.specs.Rows.{AreRefsOf};
 ghost use Rattle.destructors.specs.Frees.{frees_of, speaking};
-ghost use Rattle.destructors.specs.Works.{call_view, IsAtWork, IsAwaiting};
+ghost use Rattle.destructors.specs.Works.{IsAtWork, IsAwaiting};
+ghost use Rattle.destructors.specs.Callers.{call_view};
 ghost use Rattle.destructors.specs.Engine.{AreKept, HasRoom};
 
 use crate::FreeEngine;

@@ -4,7 +4,7 @@ ghost use Rattle.std.specs.Prelude.{◌≡◌, ◌+◌, ◌≤◌, ◌∷◌, tr
 ghost use Rattle.tree_specs.specs.Table.{free_resume};
 ghost use Rattle.tree_links.specs.Links.{pool_of};
 ghost use Rattle.references.specs.Rows.{AreRefsOf};
-ghost use Rattle.destructors.specs.Moves.{FreeRests};
+ghost use Rattle.destructors.specs.Moves.{MoveRests};
 ghost use Rattle.destructors.specs.Frees.{answered, frees_of, moves as moves_of, speaking, Silently};
 ghost use Rattle.destructors.specs.Works.{IsAtWork};
 ghost use Rattle.destructors.specs.Engine.{AreKept, HasRoom, Ready};
@@ -83,7 +83,7 @@ fn end(answer: FreeReply, tree: &mut Tree) -> Progress
 /// One move. It takes no memory.
 #[tactic(auto, using(crate::proofs::FreeMoves::push_room))]
 pub fn advance(work: FreeFrame, tree: &mut Tree, refs: &mut Refs) -> Progress
-    requires rests { FreeRests work (pool_of tree.old) }
+    requires rests { MoveRests work (pool_of tree.old) }
     requires room { HasRoom (Some work) tree.old }
     requires refs { AreRefsOf refs.old.pairs tree.old.rows }
     ensures moved { moves_of (work ∷ tree.old.frees) (pool_of tree.old) ≡ (result.told, frees_of result.innermost tree.new) }

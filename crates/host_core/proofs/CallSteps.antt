@@ -33,7 +33,9 @@ use Rattle.tree_specs.proofs.Changes.{stands}
 use Rattle.tree_specs.proofs.Load.{reseat}
 use Rattle.tree_specs.proofs.Rest.{GoesOn, call-goes_on}
 use Rattle.destructors.specs.Frees.{OpenFrees, moves, is_event, returned, Silently}
-use Rattle.destructors.specs.Works.{standing, under, free_view, call_view, AtWork, IsAtWork, IsAwaiting}
+use Rattle.destructors.specs.Works.{AtWork, IsAtWork, IsAwaiting}
+use Rattle.destructors.proofs.Callers.{call-alone, work-alone}
+use Rattle.destructors.specs.Callers.{standing, under, free_view, call_view}
 use Rattle.destructors.proofs.FreeMoves.{IsNews}
 use Rattle.destructors.proofs.Lifting.{OnTold, OnMove, OnCaller}
 use Rattle.destructors.proofs.Keeping.{told-kept}
@@ -52,16 +54,7 @@ use Rattle.host_core.proofs.FreeSteps.{Comes, comes, events, tells, speaks-event
 pub stands-on : (c : CallFrame) (works : List FreeFrame) (cs : List CallFrame) (d : CallFrame) (ds : List CallFrame) → Seated (frame.Call c) (under works cs) → standing works (d ∷ ds) ≡ frame.Call d ∷ under works ds
 stands-on c [] cs d ds s = refl
 stands-on c (Hooked y h ∷ fs) cs d ds s = refl
-stands-on c (Unlinking o y ∷ fs) cs d ds s = absurd s.0
-stands-on c (Releasing y ∷ fs) cs d ds s = absurd s.0
-stands-on c (Giving y o ∷ fs) cs d ds s = absurd s.0
-stands-on c (Beginning y ∷ fs) cs d ds s = absurd s.0
-stands-on c (Judged y h v ∷ fs) cs d ds s = absurd s.0
-stands-on c (Leaving y h ∷ fs) cs d ds s = absurd s.0
-stands-on c (Looping y purpose ∷ fs) cs d ds s = absurd s.0
-stands-on c (Trying y e noted purpose ∷ fs) cs d ds s = absurd s.0
-stands-on c (Tried y e noted purpose a ∷ fs) cs d ds s = absurd s.0
-stands-on c (Ending a ∷ fs) cs d ds s = absurd s.0
+stands-on c (_ ∷ fs) cs d ds s = absurd s.0
 
 -- a call that is done goes on to what it has begun
 pub act-onward : (q : AskData) (c : Call) (works : List FreeFrame) (cs : List CallFrame) (p p' : Pool) (m : Motion) → Whole (call_view (Doing q c) works cs p) → move_of q m p' ≡ call_step (refusals p c) q c p
@@ -71,11 +64,9 @@ act-onward q c works cs p p' m h e =
     onward v (motion_view q m works cs p') h (quiet (call_step (refusals p c) q c p) (call-goes_on (refusals p c) q c p)) (ap (λ (z : Move Frame Answer Pool Item). (moved z (under works cs)).1) (sym e) ∙ each m)
   where
     quiet : (z : Move Frame Answer Pool Item) → GoesOn z → speaks z ≡ false
-    quiet (Do.Done a s) g = absurd g
     quiet (Do.Go f s) g = refl
-    quiet (Do.Emit i f s) g = absurd g
-    quiet (Do.Wait i f s) g = absurd g
     quiet (Do.Call f k s) g = refl
+    quiet _ g = absurd g
 
     each : (m : Motion) → (moved (move_of q m p') (under works cs)).1 ≡ motion_view q m works cs p'
     each (Replies b) = refl
@@ -104,11 +95,11 @@ act-awaits q c works cs p p' m h e = each m (act-onward q c works cs p p' m h e)
     begun f r x none small w =
         let e : standing works (Awaiting r x ∷ cs) ≡ frame.Call (Awaiting r x) ∷ under works cs = stands-on (Doing q c) works cs (Awaiting r x) cs h.seated in
         let w' : Whole (record { innermost = frame.Free f; below = frame.Call (Awaiting r x) ∷ under works cs; pool = p' }) = subst (λ (l : List Frame). Whole (record { innermost = frame.Free f; below = l; pool = p' })) e w in
-        record { caller = Asking r; callers = cs; whole = awaited f r x works cs p' none small w'.seated.1 w' }
+        call-alone (Asking r) works cs p' (awaited f r x works cs p' none small w'.seated.1 w')
 
     each : (m : Motion) → Whole (motion_view q m works cs p') → IsAwaiting (record { works = works; pool = p' })
-    each (Replies b) w = record { caller = telling q b; callers = cs; whole = w }
-    each (Warns x b) w = record { caller = warning q x b; callers = cs; whole = w }
+    each (Replies b) w = call-alone (telling q b) works cs p' w
+    each (Warns x b) w = call-alone (warning q x b) works cs p' w
     each (Frees x) w = begun (Beginning x) q x (λ y. refl) refl w
     each (Unlinks o x) w = begun (Unlinking o x) q x (λ y. refl) refl w
     each (Empties x) w = begun (Looping x Emptying) q x (λ y. refl) refl w
@@ -124,16 +115,7 @@ return-onward v [] (c ∷ cs) p h = absurd (no-call c h.seated.0)
     no-call (Awaiting q y) s = s
     no-call _ s = s
 return-onward v (Hooked x g ∷ fs) cs p h = onward _ _ h refl refl
-return-onward v (Unlinking o x ∷ fs) cs p h = absurd h.seated.0
-return-onward v (Releasing x ∷ fs) cs p h = absurd h.seated.0
-return-onward v (Giving x o ∷ fs) cs p h = absurd h.seated.0
-return-onward v (Beginning x ∷ fs) cs p h = absurd h.seated.0
-return-onward v (Judged x g u ∷ fs) cs p h = absurd h.seated.0
-return-onward v (Leaving x g ∷ fs) cs p h = absurd h.seated.0
-return-onward v (Looping x purpose ∷ fs) cs p h = absurd h.seated.0
-return-onward v (Trying x c noted purpose ∷ fs) cs p h = absurd h.seated.0
-return-onward v (Tried x c noted purpose a ∷ fs) cs p h = absurd h.seated.0
-return-onward v (Ending a ∷ fs) cs p h = absurd h.seated.0
+return-onward v (_ ∷ fs) cs p h = absurd h.seated.0
 
 -- ---- a step of the innermost free
 
@@ -145,15 +127,18 @@ first s w = each s.works w
     each [] w = absurd w
     each (f ∷ fs) w = (f, fs, refl)
 
+-- a free that is at work speaks where its next move tells an event
+pub free-speaks : (s : OpenFrees) (cs : List CallFrame) → IsAtWork s → speaking_view (seen active.Freeing s.works cs s.pool) ≡ is_event (moves s.works s.pool).0
+free-speaks s cs w = each s.works w
+  where
+    each : (works : List FreeFrame) → AtWork works s.pool → speaking_view (seen active.Freeing works cs s.pool) ≡ is_event (moves works s.pool).0
+    each [] w = absurd w
+    each (f ∷ fs) w = speaks-events f fs cs s.pool
+
 seen-told : (v : View) (t : FreeStep) (works : List FreeFrame) (cs : List CallFrame) (p : Pool) → IsNews t → OnTold (Comes v) cs 0 t works p → (next_of v).1 ≡ seen active.Freeing works cs p
 seen-told v (Ask x) works cs p n c = absurd n
-seen-told v (Dropped r target) works cs p n c = seen-free v works cs p c
-seen-told v (Refused x r) works cs p n c = seen-free v works cs p c
-seen-told v (Accepted x) works cs p n c = seen-free v works cs p c
-seen-told v (Left x from) works cs p n c = seen-free v works cs p c
-seen-told v (Moved x from owner) works cs p n c = seen-free v works cs p c
-seen-told v (Gone x h) works cs p n c = seen-free v works cs p c
 seen-told v (Done a) works cs p n c = absurd n
+seen-told v _ works cs p n c = seen-free v works cs p c
 
 -- it goes on, or tells what the host doesn't
 pub news-onward : (f : FreeFrame) (fs : List FreeFrame) (cs : List CallFrame) (p : Pool) (t : FreeStep) (mid new : OpenFrees) → Whole (free_view f fs cs p) → moves (f ∷ fs) p ≡ (Some t, mid)
@@ -199,5 +184,5 @@ done-onward f fs c ds p a mid new h m on =
     let v : View = free_view f fs (c ∷ ds) p in
     let l : OnCaller (Comes v) (c ∷ ds) 0 a (c ∷ ds) mid.works mid.pool = subst (OnMove (Comes v) (c ∷ ds) 0) m (comes f fs (c ∷ ds) p) in
     let silent : speaking_view v ≡ false = speaks-events f fs (c ∷ ds) p ∙ ap (λ (z : Option FreeStep × OpenFrees). is_event z.0) m in
-    let same : mid ≡ new = still mid new on (awaiting-speaks mid (told-kept f fs p (Done a) mid (c ∷ ds, h) m)) in
+    let same : mid ≡ new = still mid new on (awaiting-speaks mid (told-kept f fs p (Done a) mid (work-alone f fs (c ∷ ds) p h) m)) in
     subst (λ (z : OpenFrees). Onward v (call_view (caller_resume c (Freed a)) z.works ds z.pool)) same (onward v (call_view (caller_resume c (Freed a)) mid.works ds mid.pool) h silent l)

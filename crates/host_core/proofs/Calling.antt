@@ -11,7 +11,8 @@ use Rattle.tree_specs.specs.Calls.{refusals}
 use Rattle.tree_specs.specs.Table.{call_step}
 use Rattle.tree_specs.specs.Whole.{Whole}
 use Rattle.destructors.specs.Frees.{returned, speaking}
-use Rattle.destructors.specs.Works.{call_view, IsAtWork, IsAwaiting}
+use Rattle.destructors.specs.Works.{IsAtWork, IsAwaiting}
+use Rattle.destructors.specs.Callers.{call_view}
 use Rattle.destructors.specs.Engine.{IsAsked}
 use Rattle.object_pool.specs.Objects.{Objects, frees_in}
 use Rattle.host_core.specs.declared.motion.Motion.{Motion}

@@ -20,7 +20,7 @@ use Rattle.tree_specs.specs.Table.{FreeMove, table, step, free_step, lifted, eve
 use Rattle.tree_specs.specs.View.{View}
 use Rattle.tree_specs.specs.Whole.{Whole}
 use Rattle.destructors.specs.Frees.{OpenFrees, answered, moved as free_moved, moves, is_event, Silently, Still, On}
-use Rattle.destructors.specs.Works.{standing, free_view}
+use Rattle.destructors.specs.Callers.{standing, free_view}
 use Rattle.destructors.proofs.FreeMoves.{AsksFor, IsMoveOf, is_move}
 use Rattle.destructors.proofs.Lifting.{OnFree, OnMove, lift}
 use Rattle.host_core.specs.declared.active.Active.TheVariants as active
@@ -60,16 +60,7 @@ answered-events a p fs below = silent below ∙ none fs
     none : (fs : List FreeFrame) → None ≡ events (answered a p fs).0
     none [] = refl
     none (Hooked x h ∷ fs) = refl
-    none (Unlinking o x ∷ fs) = refl
-    none (Releasing x ∷ fs) = refl
-    none (Giving x o ∷ fs) = refl
-    none (Beginning x ∷ fs) = refl
-    none (Judged x h v ∷ fs) = refl
-    none (Leaving x h ∷ fs) = refl
-    none (Looping x purpose ∷ fs) = refl
-    none (Trying x c noted purpose ∷ fs) = refl
-    none (Tried x c noted purpose b ∷ fs) = refl
-    none (Ending b ∷ fs) = refl
+    none (_ ∷ fs) = refl
 
     silent : (below : List Frame) → (moved (Do.Done (Freed a) p) below).0 ≡ None
     silent [] = refl
@@ -101,16 +92,7 @@ speaks-events f fs cs p = each (free_step f p) (is_move f p)
     over : (a : FreeReply) (q : Pool) (fs : List FreeFrame) → false ≡ is_event (answered a q fs).0
     over a q [] = refl
     over a q (Hooked x h ∷ fs) = refl
-    over a q (Unlinking o x ∷ fs) = refl
-    over a q (Releasing x ∷ fs) = refl
-    over a q (Giving x o ∷ fs) = refl
-    over a q (Beginning x ∷ fs) = refl
-    over a q (Judged x h v ∷ fs) = refl
-    over a q (Leaving x h ∷ fs) = refl
-    over a q (Looping x purpose ∷ fs) = refl
-    over a q (Trying x c noted purpose ∷ fs) = refl
-    over a q (Tried x c noted purpose b ∷ fs) = refl
-    over a q (Ending b ∷ fs) = refl
+    over a q (_ ∷ fs) = refl
 
     news : (o : Option Event) (g : FreeFrame) (q : Pool) → speaks (announced o g q) ≡ is_some o
     news None g q = refl

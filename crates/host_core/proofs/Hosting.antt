@@ -25,7 +25,9 @@ use Rattle.tree_specs.specs.Table.{event_of, caller_resume}
 use Rattle.tree_specs.specs.Profiles.{profile}
 use Rattle.tree_specs.specs.Whole.{Seated, Serves, Whole}
 use Rattle.destructors.specs.Frees.{OpenFrees, moves, is_event, Begins, Steps}
-use Rattle.destructors.specs.Works.{under, free_view, call_view, IsAtWork, IsAwaiting, GoesOn}
+use Rattle.destructors.specs.Works.{IsAtWork, IsAwaiting, GoesOn}
+use Rattle.destructors.proofs.Callers.{on-caller}
+use Rattle.destructors.specs.Callers.{under, free_view, call_view}
 use Rattle.destructors.specs.Moves.{IsLiveRow}
 use Rattle.destructors.specs.Engine.{IsAsked}
 use Rattle.destructors.proofs.FreeMoves.{IsNews}
@@ -107,24 +109,14 @@ step-done (f ∷ fs) cs p a new h s =
 -- news leaves the innermost free at work
 pub news-work : (t : FreeStep) (s : OpenFrees) → IsNews t → GoesOn t s → IsAtWork s
 news-work (AskOf x) s n g = absurd n
-news-work (Dropped r target) s n g = g
-news-work (Refused x v) s n g = g
-news-work (Accepted x) s n g = g
-news-work (Left x from) s n g = g
-news-work (Moved x from owner) s n g = g
-news-work (Gone x h) s n g = g
 news-work (Done a) s n g = absurd n
+news-work _ s n g = g
 
 -- what neither asks nor is over is news
 pub other-news : (t : FreeStep) → ((x : Obj) → t ≡ AskOf x → ⊥) → ((a : FreeReply) → t ≡ Done a → ⊥) → IsNews t
 other-news (AskOf x) ask done = ask x refl
-other-news (Dropped r target) ask done = tt
-other-news (Refused x v) ask done = tt
-other-news (Accepted x) ask done = tt
-other-news (Left x from) ask done = tt
-other-news (Moved x from owner) ask done = tt
-other-news (Gone x h) ask done = tt
 other-news (Done a) ask done = done a refl
+other-news _ ask done = tt
 
 -- ---- a routine that has returned
 
@@ -140,16 +132,7 @@ asked [] v cs p h = none cs h.seated
     none [] s = s
     none (c ∷ cs) s = no-call c s.0
 asked (Hooked x g ∷ fs) v cs p h = tt
-asked (Unlinking o x ∷ fs) v cs p h = h.seated.0
-asked (Releasing x ∷ fs) v cs p h = h.seated.0
-asked (Giving x o ∷ fs) v cs p h = h.seated.0
-asked (Beginning x ∷ fs) v cs p h = h.seated.0
-asked (Judged x g u ∷ fs) v cs p h = h.seated.0
-asked (Leaving x g ∷ fs) v cs p h = h.seated.0
-asked (Looping x purpose ∷ fs) v cs p h = h.seated.0
-asked (Trying x c noted purpose ∷ fs) v cs p h = h.seated.0
-asked (Tried x c noted purpose a ∷ fs) v cs p h = h.seated.0
-asked (Ending a ∷ fs) v cs p h = h.seated.0
+asked (_ ∷ fs) v cs p h = h.seated.0
 
 -- ---- a free that has begun
 
@@ -168,7 +151,7 @@ module _ (f : FreeFrame) (q : Ask) (x : Obj) (objects objects' : Objects) (calle
 
 begun-rests : (f : FreeFrame) (q : Ask) (x : Obj) (works : List FreeFrame) (cs : List CallFrame) (p : Pool) → IsAwaiting (record { works = works; pool = p }) → Whole (free_view f works (Awaiting q x ∷ cs) p)
     → Rests (frame.Free f) (frame.Call (Awaiting q x) ∷ under works cs) p
-begun-rests f q x works cs p a w = subst (λ (l : List Frame). Rests (frame.Free f) l p) (stands-on a.caller works a.callers (Awaiting q x) cs a.whole.seated) w.sound.rests
+begun-rests f q x works cs p a w = subst (λ (l : List Frame). Rests (frame.Free f) l p) (on-caller works (Awaiting q x) cs a.sound.rests) w.sound.rests
 
 -- there is no reference to an object that is freed
 pub freed-object : (q : Ask) (x : Obj) (works : List FreeFrame) (cs : List CallFrame) (p : Pool) → IsAwaiting (record { works = works; pool = p }) → Whole (free_view (Beginning x) works (Awaiting q x ∷ cs) p)

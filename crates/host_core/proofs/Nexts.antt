@@ -19,7 +19,8 @@ use Rattle.tree_specs.specs.Table.{event_of}
 use Rattle.tree_specs.specs.View.{View, question_of}
 use Rattle.tree_specs.specs.Whole.{Whole}
 use Rattle.destructors.specs.Frees.{OpenFrees, is_event, Steps}
-use Rattle.destructors.specs.Works.{call_view, GoesOn as FreesGoOn}
+use Rattle.destructors.specs.Works.{GoesOn as FreesGoOn}
+use Rattle.destructors.specs.Callers.{call_view}
 use Rattle.destructors.proofs.FreeMoves.{IsNews}
 use Rattle.object_pool.specs.Objects.{Objects, frees_in}
 use Rattle.host_core.specs.declared.active.Active.{Active}
@@ -64,13 +65,9 @@ loud (f ∷ fs) cs p t new s st = ap is_event (sym st.tells) ∙ sym (speaks-eve
 -- what is told is news
 told-news : (t : FreeStep) → is_some (event_of t) ≡ true → (e : Event) × (event_of t ≡ Some e) × IsNews t
 told-news (Ask x) l = cc
-told-news (Dropped r target) l = (_, refl, tt)
-told-news (Refused x v) l = (_, refl, tt)
-told-news (Accepted x) l = (_, refl, tt)
 told-news (Left x from) l = cc
-told-news (Moved x from owner) l = (_, refl, tt)
-told-news (Gone x h) l = (_, refl, tt)
 told-news (Done a) l = cc
+told-news _ l = (_, refl, tt)
 
 -- what comes next of a free, and what it leaves
 pub record FreeNext (callers : List Waiting) (objects : Objects) (t : FreeStep) (objects' : Objects) : Type 0 where

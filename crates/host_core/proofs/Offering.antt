@@ -34,7 +34,7 @@ use Rattle.tree_specs.specs.Table.{call_step, replied, doing, returning, lifted,
 use Rattle.tree_specs.specs.View.{View, rest_of, question_in, question_of}
 use Rattle.tree_specs.specs.Whole.{Whole}
 use Rattle.tree_specs.proofs.Rest.{question-whole, question-items}
-use Rattle.destructors.specs.Works.{under, call_view}
+use Rattle.destructors.specs.Callers.{under, call_view}
 use Rattle.object_pool.specs.Objects.{Objects}
 use Rattle.host_core.specs.declared.active.Active.{Active}
 use Rattle.host_core.specs.declared.active.Active.TheVariants as active
@@ -92,16 +92,9 @@ waits-now now q works cs p e h =
 
 -- an answer that doesn't fit isn't asked for
 pub unasked : (o : Option Ask) (i : Input) → is_none (misfit o i) ≡ false → misfit o i ≡ Some NotAsked
-unasked None i e = refl
 unasked (Some ask.Quiet) (input.Call c) e = cc
-unasked (Some ask.Quiet) (input.Act a) e = refl
-unasked (Some (ask.Routine m)) (input.Call c) e = refl
 unasked (Some (ask.Routine m)) (input.Act a) e = cc
-unasked (Some ask.Clock) i e = refl
-unasked (Some (ask.Wait limit)) i e = refl
-unasked (Some (ask.Accept d)) i e = refl
-unasked (Some (ask.Read d most)) i e = refl
-unasked (Some (ask.Write d bytes)) i e = refl
+unasked _ _ e = refl
 
 -- an answer that fits comes to a question
 pub fitting : (o : Option Ask) (i : Input) → is_none (misfit o i) ≡ true → (q : Ask) × (o ≡ Some q) × (misfit (Some q) i ≡ None)
@@ -133,10 +126,7 @@ copy-is (ask.Routine n) (input.Act b) r o p m a k = remembered r.copy k
     remembered None k = absurd k
     remembered (Some s) k = ap (later (ask.Routine n)) (same-reply o s r.reply p k a)
 copy-is ask.Clock i r o p m a k = cc
-copy-is (ask.Wait limit) i r o p m a k = cc
-copy-is (ask.Accept d) i r o p m a k = cc
-copy-is (ask.Read d most) i r o p m a k = cc
-copy-is (ask.Write d bytes) i r o p m a k = cc
+copy-is _ i r o p m a k = cc
 
 -- ---- a question with its answer
 

@@ -15,7 +15,8 @@ use Rattle.tree_specs.specs.Story.{hook_moment}
 use Rattle.tree_specs.specs.Sound.{HasHook}
 use Rattle.tree_specs.specs.Table.{event_of, caller_resume}
 use Rattle.destructors.specs.Frees.{Steps}
-use Rattle.destructors.specs.Works.{call_view, GoesOn}
+use Rattle.destructors.specs.Works.{GoesOn}
+use Rattle.destructors.specs.Callers.{call_view}
 use Rattle.destructors.proofs.FreeMoves.{IsNews}
 use Rattle.object_pool.specs.Objects.{Objects, frees_in}
 use Rattle.host_core.specs.declared.active.Active.{Active}

@@ -33,7 +33,8 @@ use Rattle.tree_specs.specs.Measure.{pending, cost}
 use Rattle.tree_specs.specs.View.{View, rest_of}
 use Rattle.tree_specs.specs.Whole.{Whole}
 use Rattle.destructors.specs.Frees.{speaking}
-use Rattle.destructors.specs.Works.{free_view, call_view, IsAtWork}
+use Rattle.destructors.specs.Works.{IsAtWork}
+use Rattle.destructors.specs.Callers.{free_view, call_view}
 use Rattle.object_pool.specs.Objects.{Objects, frees_in}
 use Rattle.host_core.specs.declared.parts.Parts.{Parts}
 use Rattle.host_core.specs.declared.active.Active.{Active}

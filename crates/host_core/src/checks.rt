@@ -5,14 +5,7 @@ ghost use Rattle.tree_specs.specs.Sums.{overhead};
 ghost use Rattle.tree_specs.specs.Calls.{checked};
 
 use object_pool::ObjectPool;
-use tree_report::OVERHEAD;
-use tree_specs::{Call, Kind, Mark, Obj, Owner, Refusal, Row};
-
-/// The size of an object is below this, in bytes.
-const SIZE_LIMIT: u64 = 268_435_456;
-
-/// At most so many objects are live.
-const ROW_LIMIT: usize = 1_048_576;
+use tree_specs::{Call, Kind, Mark, OVERHEAD, Obj, Owner, ROW_LIMIT, Refusal, Row, SIZE_LIMIT};
 
 fn check_size(size: u64) -> Result<(), Refusal>
     ensures first { result ≡ checked (small size) }

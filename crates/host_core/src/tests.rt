@@ -175,7 +175,12 @@ fn tells(rt: &impl Abort, host: &mut Host, call: Input, events: &[Event])
 
 // A new object under an owner gets this number.
 fn adds(rt: &impl Abort, alloc: Global, host: &mut Host, parent: u64, size: u64, number: u64) {
-    tells(rt, host, new(rt, alloc, parent, size), &[told_number(number)]);
+    tells(
+        rt,
+        host,
+        new(rt, alloc, parent, size),
+        &[told_number(number)],
+    );
 }
 
 // The objects 1 to 2,000, each under the one before it; each is one byte larger than that one, and 1 has none.

@@ -35,7 +35,7 @@ impl Sums {
     ghost use Rattle.tree_specs.specs.Objects.{same};
     ghost use Rattle.tree_specs.specs.Calls.{checked, over, fits as fitting, is_plain_row};
     ghost use Rattle.tree_specs.specs.Sums.{sum_inside, limit_at};
-    ghost use Rattle.tree_links.specs.Links.{pool_of};
+    ghost use Rattle.tree_links.specs.Links.{IsTree, pool_of};
     ghost use Rattle.tree_specs.specs.Forest.{IsForest};
     ghost use Rattle.tree_specs.specs.declared.row.Row.{Row as RowData};
     ghost use Rattle.tree_specs.specs.declared.object.Owner.TheVariants.{Of as At};
@@ -75,7 +75,8 @@ impl Sums {
 
     // The nearest object with a limit from an owner upward, the owner included.
     fn nearest(&self, tree: &Tree, owner: Owner) -> Option<Obj>
-        ensures { result ≡ nearest_limited self.now.limited tree.now.rows owner }
+        ensures nearest { result ≡ nearest_limited self.now.limited tree.now.rows owner }
+        ensures sound { IsTree tree.now.rows tree.now.next }
     {
         let mut at = owner;
         let mut steps = tree.len() + 1;
@@ -102,8 +103,6 @@ impl Sums {
         if self.is_empty() {
             return;
         }
-        // All that is wanted of `len` is its contract: the objects are a forest, and small.
-        let _rows = tree.len();
         let Some(owner) = tree.parent(x) else {
             return;
         };
@@ -126,8 +125,6 @@ impl Sums {
         if self.is_empty() {
             return;
         }
-        // All that is wanted of `len` is its contract: the objects are a forest, and small.
-        let _rows = tree.len();
         let Some(nearest) = self.nearest(tree, from) else {
             return;
         };
@@ -146,8 +143,6 @@ impl Sums {
         if self.is_empty() {
             return;
         }
-        // All that is wanted of `len` is its contract: the objects are small.
-        let _rows = tree.len();
         let (less, more) = (before, tree.size(x));
         Change { less, more }.count_above(tree, x, &mut self.limited);
     }

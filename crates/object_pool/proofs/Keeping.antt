@@ -135,12 +135,4 @@ answer-room (Some (Hooked x g)) o' t v e i h =
     let w : before o' t.frees ≡ Judged x g v ∷ t.frees = ap (λ (z : OpenFrees). z.works) e in
     subst (λ (fs : List FreeFrame). wanted fs t.rows ≤ length t.frees + t.room) (sym w) h
 answer-room (Some (Unlinking p x)) o' t v e i h = absurd i
-answer-room (Some (Releasing x)) o' t v e i h = absurd i
-answer-room (Some (Giving x p)) o' t v e i h = absurd i
-answer-room (Some (Beginning x)) o' t v e i h = absurd i
-answer-room (Some (Judged x g u)) o' t v e i h = absurd i
-answer-room (Some (Leaving x g)) o' t v e i h = absurd i
-answer-room (Some (Looping x purpose)) o' t v e i h = absurd i
-answer-room (Some (Trying x c noted purpose)) o' t v e i h = absurd i
-answer-room (Some (Tried x c noted purpose a)) o' t v e i h = absurd i
-answer-room (Some (Ending a)) o' t v e i h = absurd i
+answer-room (Some _) o' t v e i h = absurd i

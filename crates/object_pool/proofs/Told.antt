@@ -66,14 +66,12 @@ placed-elsewhere rs o x r is = record {
 
 -- the way to an object doesn't tell its own owner
 reach-to : (rs : List Row) (x : Obj) (n : ℕ) (o : Option Owner) → reaches n (changed left_row rs x) o (Of x) ≡ reaches n rs o (Of x)
-reach-to rs x n None = refl
-reach-to rs x zero (Some o) = refl
-reach-to rs x (suc n) (Some Root) = refl
 reach-to rs x (suc n) (Some (Of z)) = elim (same_or_not z x) [
   | inl e ↦ let t : same z x ≡ true = same-equal z x e in rw t refl
   | inr ne ↦ ap (λ (b : Bool). same_owner (Of z) (Of x) || b)
       (reach-to rs x n (owner_of (changed left_row rs x) z) ∙ ap (λ (o : Option Owner). reaches n rs o (Of x)) (sym (owner-other rs x z (λ e. ne (sym e)))))
 ]
+reach-to rs x _ _ = refl
 
 module _ (rs rs' : List Row) (x : Obj) (g : GoesElsewhere rs rs' x) where
   low-owners : SameOwners (changed left_row rs x) (changed left_row rs' x)
@@ -170,11 +168,8 @@ refers-row rs r t is = each (row_of rs r) refl
 
 pub other-step : (t : FreeStep) (rs rs' : List Row) → ((r target : Obj) → t ≡ Dropped r target → ⊥) → ((x : Obj) (from : Owner) → t ≡ Left x from → ⊥) → ((x : Obj) (from o : Owner) → t ≡ Moved x from o → ⊥) → ((x : Obj) (h : ℕ) → t ≡ Gone x h → ⊥)
     → ChangedBy t rs rs' → SameRows rs rs'
-other-step (Ask x) rs rs' d l m g c = c
 other-step (Dropped r target) rs rs' d l m g c = absurd (d r target refl)
-other-step (Refused x v) rs rs' d l m g c = c
-other-step (Accepted x) rs rs' d l m g c = c
 other-step (Left x from) rs rs' d l m g c = absurd (l x from refl)
 other-step (Moved x from o) rs rs' d l m g c = absurd (m x from o refl)
 other-step (Gone x h) rs rs' d l m g c = absurd (g x h refl)
-other-step (Done a) rs rs' d l m g c = c
+other-step _ rs rs' d l m g c = c

@@ -118,8 +118,6 @@ impl ObjectPool {
         requires { MayPlace self.old.pool.rows x owner }
         ensures { self.new ≡ record self.old { pool = placed self.old.pool owner x } }
     {
-        // All that is wanted of `len` is its contract: the objects are a forest.
-        let _rows = self.tree.len();
         let from = self.tree.parent(x);
         self.tree.place(x, owner);
         count_went(x, from, &self.tree, &mut self.sums);

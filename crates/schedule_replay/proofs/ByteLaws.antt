@@ -56,7 +56,7 @@ breaks-line s t errors.Memory ready h = record {
 }
 
 -- a line that stands whole in the piece, where none has begun
-pub here-ready : (s : Reading) (line : List ℕ) → IsReady s → has_no_lf line ≡ true → length line ≤ 262144 → s.number ≤ 2 ^ 32 - 1 → IsReady (at_line s line)
+pub here-ready : (s : Reading) (line : List ℕ) → IsReady s → has_no_lf line ≡ true → length line ≤ line_limit → s.number ≤ lines_limit → IsReady (at_line s line)
 here-ready s line ready plain short low = record { plain = plain; short = short; first = ready.first; last = ready.last; numbered = λ some. low; waits = ready.waits }
 
 -- ---- a refusal within a line
@@ -68,10 +68,10 @@ refuses-piece s piece t why (Err (errors.Refused line reason)) h e = record { wr
 refuses-piece s piece t why (Err errors.Memory) h e = record { written = h.front; text = h.written; begins = λ bytes. rw (e bytes) (h.begins.rest, h.begins.whole) }
 
 -- a line past the limit of bytes
-long-refused : (s : Reading) (w : Waits s.host) (line : Line) (ls : List Line) → 262144 < length line.text → replayed_from s.host s.number (line ∷ ls) ≡ record { text = Some (refused_text s); refused = Some (s.number, Limit) }
+long-refused : (s : Reading) (w : Waits s.host) (line : Line) (ls : List Line) → line_limit < length line.text → replayed_from s.host s.number (line ∷ ls) ≡ record { text = Some (refused_text s); refused = Some (s.number, Limit) }
 long-refused s w line ls lt = by_test (eqb s.number 1) refl
   where
-    long : ltb 262144 (length line.text) ≡ true
+    long : ltb line_limit (length line.text) ≡ true
     long = grind (arith, nat_tests)
 
     over : (m : ℕ) → is_over_limit m line ≡ true
@@ -85,18 +85,18 @@ long-refused s w line ls lt = by_test (eqb s.number 1) refl
         let ne : s.number ≢ 1 = grind (arith, nat_tests) in
         from-later s.host s.number (line ∷ ls) ne ∙ refuses s.host w s.number line ls Limit (limit-input s.number (Some w.question) line (over s.number)) ∙ rw (refused-later s w ne) refl
 
-pub long-run : (s : Reading) (run bytes : List ℕ) → IsReady s → has_no_lf run ≡ true → 262144 < length s.line + length run → with_more s (run ++ bytes) ≡ record { text = Some (refused_text s); refused = Some (s.number, Limit) }
+pub long-run : (s : Reading) (run bytes : List ℕ) → IsReady s → has_no_lf run ≡ true → line_limit < length s.line + length run → with_more s (run ++ bytes) ≡ record { text = Some (refused_text s); refused = Some (s.number, Limit) }
 long-run s run bytes ready plain long =
     let n = length-append s.line run in
     let f = lines_from (s.line ++ run) bytes (omega (arith, n)) (plain_append s.line run ready.plain plain) in
     let same : lines (s.line ++ (run ++ bytes)) ≡ record { text = (s.line ++ run) ++ f.0; ended = f.1 } ∷ f.2 = ap lines (sym (append_assoc s.line run bytes)) ∙ f.3 in
     rw same (long-refused s ready.waits (record { text = (s.line ++ run) ++ f.0; ended = f.1 }) f.2 (omega (arith, length-append (s.line ++ run) f.0, n)))
 
-pub long-line : (s : Reading) (line bytes : List ℕ) → IsReady s → has_no_lf line ≡ true → 262144 < length line → with_more s ((line ++ 10 ∷ []) ++ bytes) ≡ record { text = Some (refused_text s); refused = Some (s.number, Limit) }
+pub long-line : (s : Reading) (line bytes : List ℕ) → IsReady s → has_no_lf line ≡ true → line_limit < length line → with_more s ((line ++ 10 ∷ []) ++ bytes) ≡ record { text = Some (refused_text s); refused = Some (s.number, Limit) }
 long-line s line bytes ready plain long = ap (with_more s) (append_assoc line (10 ∷ []) bytes) ∙ long-run s line (10 ∷ bytes) ready plain (omega arith)
 
 -- a line past the limit of lines
-late-refused : (s : Reading) (w : Waits s.host) (line : Line) (ls : List Line) → 2 ^ 32 - 1 < s.number → replayed_from s.host s.number (line ∷ ls) ≡ record { text = Some (refused_text s); refused = Some (s.number, Limit) }
+late-refused : (s : Reading) (w : Waits s.host) (line : Line) (ls : List Line) → lines_limit < s.number → replayed_from s.host s.number (line ∷ ls) ≡ record { text = Some (refused_text s); refused = Some (s.number, Limit) }
 late-refused s w line ls lt =
     let late : ltb lines_limit s.number ≡ true = grind (arith, nat_tests) in
     let over : is_over_limit s.number line ≡ true = rw late (or_true (ltb line_limit (length line.text))) in
@@ -107,14 +107,14 @@ late-refused s w line ls lt =
     or_true true = refl
     or_true false = refl
 
-pub late-after : (s : Reading) (b : ℕ) (bytes : List ℕ) → IsReady s → 2 ^ 32 - 1 < s.number → with_more s (b ∷ bytes) ≡ record { text = Some (refused_text s); refused = Some (s.number, Limit) }
+pub late-after : (s : Reading) (b : ℕ) (bytes : List ℕ) → IsReady s → lines_limit < s.number → with_more s (b ∷ bytes) ≡ record { text = Some (refused_text s); refused = Some (s.number, Limit) }
 late-after s b bytes ready late = each s.line (λ some. let n = ready.numbered some in absurd (omega arith))
   where
     each : (l : List ℕ) → (0 < length l → ⊥) → replayed_from s.host s.number (lines (l ++ b ∷ bytes)) ≡ record { text = Some (refused_text s); refused = Some (s.number, Limit) }
     each [] none = let f = lines_some b bytes in rw f.2 (late-refused s ready.waits f.0 f.1 late)
     each (x ∷ l) none = absurd (none (omega arith))
 
-pub late-run : (s : Reading) (run bytes : List ℕ) → IsReady s → 0 < length run → 2 ^ 32 - 1 < s.number → with_more s (run ++ bytes) ≡ record { text = Some (refused_text s); refused = Some (s.number, Limit) }
+pub late-run : (s : Reading) (run bytes : List ℕ) → IsReady s → 0 < length run → lines_limit < s.number → with_more s (run ++ bytes) ≡ record { text = Some (refused_text s); refused = Some (s.number, Limit) }
 late-run s [] bytes ready some late = absurd (omega arith)
 late-run s (b ∷ run) bytes ready some late = late-after s b (run ++ bytes) ready late
 
@@ -219,12 +219,12 @@ finish-refused s t why (Err errors.Memory) h e = record { written = h.front; tex
 ends-cut : (s : Reading) (l : List ℕ) → IsReady s → l ≡ s.line → 0 < length l → replayed_from s.host s.number (lines l) ≡ record { text = Some (refused_text s); refused = Some (s.number, Form) }
 ends-cut s l ready same some =
     let plain : has_no_lf l ≡ true = ap has_no_lf same ∙ ready.plain in
-    let short : length l ≤ 262144 = (let n = ap length same in let m = ready.short in omega arith) in
-    let low : s.number ≤ 2 ^ 32 - 1 = ready.numbered (let n = ap length same in omega arith) in
+    let short : length l ≤ line_limit = (let n = ap length same in let m = ready.short in omega arith) in
+    let low : s.number ≤ lines_limit = ready.numbered (let n = ap length same in omega arith) in
     let cut : Line = record { text = l; ended = false } in
     ap (replayed_from s.host s.number) (lines_last l some plain) ∙ by_test cut short low (eqb s.number 1) refl
   where
-    by_test : (cut : Line) → length cut.text ≤ 262144 → s.number ≤ 2 ^ 32 - 1 → (b : Bool) → eqb s.number 1 ≡ b
+    by_test : (cut : Line) → length cut.text ≤ line_limit → s.number ≤ lines_limit → (b : Bool) → eqb s.number 1 ≡ b
         → replayed_from s.host s.number ((let z : Line = record { text = cut.text; ended = false } in z) ∷ []) ≡ record { text = Some (refused_text s); refused = Some (s.number, Form) }
     by_test cut short low true h =
         let one : s.number ≡ 1 = eqb-true s.number 1 h in

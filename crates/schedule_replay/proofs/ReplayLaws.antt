@@ -12,7 +12,7 @@ use Rattle.tree_specs.specs.Items.{Item}
 use Rattle.tree_specs.specs.Items.Item.{Told, Asked}
 use Rattle.tree_specs.specs.Grammar.{input_of}
 use Rattle.tree_specs.specs.Text.{answered_text, end_text, item_text, body_text, header}
-use Rattle.tree_specs.specs.Schedule.{Line, Judged, line_input, judged_one, judged_from, open_question, is_over_limit, is_header, header_reason, schedule_header, fitting, misfit, ok_unless}
+use Rattle.tree_specs.specs.Schedule.{Line, Judged, line_input, judged_one, judged_from, open_question, is_over_limit, is_header, header_reason, schedule_header, fitting, misfit, ok_unless, line_limit, lines_limit}
 use Rattle.tree_specs.specs.View.{View, rest_of}
 use Rattle.host_core.specs.Promises.{Waits, TakesAnswer}
 use Rattle.schedule_replay.specs.Replays.{with_front, replayed_lines, replayed_all, replayed_from, refused_at_once, ended_line, BeginsText}
@@ -112,26 +112,26 @@ ends v w n = rw (w.last, last-text w.question) refl
 
 -- ---- the input of a line
 
-not-over : (n : ℕ) (line : Line) → n ≤ 2 ^ 32 - 1 → length line.text ≤ 262144 → is_over_limit n line ≡ false
+not-over : (n : ℕ) (line : Line) → n ≤ lines_limit → length line.text ≤ line_limit → is_over_limit n line ≡ false
 not-over n line low short =
-    let a : ltb 262144 (length line.text) ≡ false = grind (arith, nat_tests) in
-    let b : ltb (2 ^ 32 - 1) n ≡ false = grind (arith, nat_tests) in
+    let a : ltb line_limit (length line.text) ≡ false = grind (arith, nat_tests) in
+    let b : ltb lines_limit n ≡ false = grind (arith, nat_tests) in
     rw (a, b) refl
 
-line-within : (n : ℕ) (q : Option Ask) (text : List ℕ) → length text ≤ 262144 → n ≤ 2 ^ 32 - 1 → line_input n q (ended_line text) ≡ fitting q (input_of text)
+line-within : (n : ℕ) (q : Option Ask) (text : List ℕ) → length text ≤ line_limit → n ≤ lines_limit → line_input n q (ended_line text) ≡ fitting q (input_of text)
 unfolding line_input
 line-within n q text short low = rw (not-over n (ended_line text) low short) refl
 
-pub input-fits : (n : ℕ) (q : Option Ask) (text : List ℕ) (i : Input) → length text ≤ 262144 → n ≤ 2 ^ 32 - 1 → input_of text ≡ Some i → misfit q i ≡ None → line_input n q (ended_line text) ≡ Ok i
+pub input-fits : (n : ℕ) (q : Option Ask) (text : List ℕ) (i : Input) → length text ≤ line_limit → n ≤ lines_limit → input_of text ≡ Some i → misfit q i ≡ None → line_input n q (ended_line text) ≡ Ok i
 input-fits n q text i short low e f = line-within n q text short low ∙ ap (fitting q) e ∙ ap (ok_unless i) f
 
-pub input-misfits : (n : ℕ) (q : Option Ask) (text : List ℕ) (i : Input) (why : Reason) → length text ≤ 262144 → n ≤ 2 ^ 32 - 1 → input_of text ≡ Some i → misfit q i ≡ Some why → line_input n q (ended_line text) ≡ Err why
+pub input-misfits : (n : ℕ) (q : Option Ask) (text : List ℕ) (i : Input) (why : Reason) → length text ≤ line_limit → n ≤ lines_limit → input_of text ≡ Some i → misfit q i ≡ Some why → line_input n q (ended_line text) ≡ Err why
 input-misfits n q text i why short low e f = line-within n q text short low ∙ ap (fitting q) e ∙ ap (ok_unless i) f
 
-pub no-input : (n : ℕ) (q : Option Ask) (text : List ℕ) → length text ≤ 262144 → n ≤ 2 ^ 32 - 1 → input_of text ≡ None → line_input n q (ended_line text) ≡ Err Form
+pub no-input : (n : ℕ) (q : Option Ask) (text : List ℕ) → length text ≤ line_limit → n ≤ lines_limit → input_of text ≡ None → line_input n q (ended_line text) ≡ Err Form
 no-input n q text short low e = line-within n q text short low ∙ ap (fitting q) e
 
-pub cut-input : (n : ℕ) (q : Option Ask) (l : List ℕ) → n ≤ 2 ^ 32 - 1 → length l ≤ 262144 → line_input n q (record { text = l; ended = false }) ≡ Err Form
+pub cut-input : (n : ℕ) (q : Option Ask) (l : List ℕ) → n ≤ lines_limit → length l ≤ line_limit → line_input n q (record { text = l; ended = false }) ≡ Err Form
 unfolding line_input
 cut-input n q l low short = rw (not-over n (record { text = l; ended = false }) low short) refl
 
@@ -161,7 +161,7 @@ pub no-lines : (v : View) → replayed_all v [] ≡ refused_at_once Form
 unfolding replayed_all
 no-lines v = refl
 
-pub header-form : (line : Line) → length line.text ≤ 262144 → header_reason line ≡ Form
+pub header-form : (line : Line) → length line.text ≤ line_limit → header_reason line ≡ Form
 header-form line short = rw (not-over 1 line (omega arith) short) refl
 
 -- a line past a limit is no header
@@ -172,7 +172,7 @@ header-short line h = by_ended line.ended (bytes_eq line.text schedule_header) h
     by_ended true b e f = f e
     by_ended false b e f = absurd cc
 
-pub no-header : (line : Line) → 262144 < length line.text → is_header line ≡ false
+pub no-header : (line : Line) → line_limit < length line.text → is_header line ≡ false
 no-header line lt = by_test (is_header line) refl
   where
     by_test : (b : Bool) → is_header line ≡ b → b ≡ false

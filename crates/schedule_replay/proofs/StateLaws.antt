@@ -19,7 +19,7 @@ use Rattle.text_forms.specs.Reads.{Reads}
 use Rattle.tree_specs.specs.declared.schedule.Mode.{Mode}
 use Rattle.tree_specs.specs.declared.schedule.Mode.TheVariants.{Pool}
 use Rattle.tree_specs.proofs.Numbered.{by_test}
-use Rattle.tree_specs.specs.Schedule.{Line, schedule_header, mode_of, line_input, is_header, misfit}
+use Rattle.tree_specs.specs.Schedule.{Line, schedule_header, mode_of, line_input, is_header, misfit, line_limit, lines_limit}
 use Rattle.tree_specs.specs.View.{View, rest_of, question_of}
 use Rattle.host_core.specs.Promises.{Waits, TakesAnswer}
 use Rattle.schedule_replay.specs.declared.refusal.LineError.{LineError}
@@ -51,7 +51,7 @@ refused-later s w ne =
     let a : eqb s.number 1 ≡ false = grind (arith, nat_tests) in
     rw (a, w.open_now) refl
 
-pub refuses-header : (s t : Reading) (r : Result (Unit {0}) LineError) → s.number ≡ 1 → length s.line ≤ 262144 → is_header (ended_line s.line) ≡ false → RefusesHere s t Form r → TakesLine s t r
+pub refuses-header : (s t : Reading) (r : Result (Unit {0}) LineError) → s.number ≡ 1 → length s.line ≤ line_limit → is_header (ended_line s.line) ≡ false → RefusesHere s t Form r → TakesLine s t r
 refuses-header s t r first short h refused =
     refuses-line s t Form r refused (λ rest.
     from-first s.host s.number (ended_line s.line ∷ rest) first ∙ header-refused s.host (ended_line s.line) rest h
@@ -63,10 +63,10 @@ refuses-by s t why r w ne e refused =
     from-later s.host s.number (ended_line s.line ∷ rest) ne ∙ refuses s.host w s.number (ended_line s.line) rest why e
     ∙ rw (refused-later s w ne) refl)
 
-pub refuses-form : (s t : Reading) (r : Result (Unit {0}) LineError) → IsReady s → s.number ≤ 2 ^ 32 - 1 → s.number ≢ 1 → input_of s.line ≡ None → RefusesHere s t Form r → TakesLine s t r
+pub refuses-form : (s t : Reading) (r : Result (Unit {0}) LineError) → IsReady s → s.number ≤ lines_limit → s.number ≢ 1 → input_of s.line ≡ None → RefusesHere s t Form r → TakesLine s t r
 refuses-form s t r ready low ne e refused = refuses-by s t Form r ready.waits ne (no-input s.number _ s.line ready.short low e) refused
 
-pub refuses-misfit : (s t : Reading) (i : Input) (r : Result (Unit {0}) LineError) → IsReady s → s.number ≤ 2 ^ 32 - 1 → s.number ≢ 1 → input_of s.line ≡ Some i → misfit (question_of s.host) i ≡ Some NotAsked
+pub refuses-misfit : (s t : Reading) (i : Input) (r : Result (Unit {0}) LineError) → IsReady s → s.number ≤ lines_limit → s.number ≢ 1 → input_of s.line ≡ Some i → misfit (question_of s.host) i ≡ Some NotAsked
     → RefusesHere s t NotAsked r → TakesLine s t r
 refuses-misfit s t i r ready low ne e m refused =
     let m' : misfit (Some ready.waits.question) i ≡ Some NotAsked = ap (λ (q : Option Ask). misfit q i) (sym ready.waits.open_now) ∙ m in
@@ -131,7 +131,7 @@ answered-by v w x i before after ready taken told = record {
   after = told.waits;
 }
 
-fits-now : (s : Reading) (i : Input) (w : View) → IsReady s → s.number ≤ 2 ^ 32 - 1 → input_of s.line ≡ Some i → (ready : Waits s.host) → TakesAnswer s.host i w → line_input s.number (Some ready.question) (ended_line s.line) ≡ Ok i
+fits-now : (s : Reading) (i : Input) (w : View) → IsReady s → s.number ≤ lines_limit → input_of s.line ≡ Some i → (ready : Waits s.host) → TakesAnswer s.host i w → line_input s.number (Some ready.question) (ended_line s.line) ≡ Ok i
 fits-now s i w r low e ready taken =
     input-fits s.number (Some ready.question) s.line i r.short low e (ap (λ (q : Option Ask). misfit q i) (sym ready.open_now) ∙ taken.fits)
 
@@ -139,7 +139,7 @@ answered-now : (v : View) (w : Waits v) → answered_of (question_of v) ≡ answ
 answered-now v w = ap answered_of w.open_now
 
 -- all of it was told
-pub takes-answer : (s t : Reading) (i : Input) (w : View) (asked text : List ℕ) → IsReady s → s.number ≤ 2 ^ 32 - 1 → s.number ≢ 1 → input_of s.line ≡ Some i
+pub takes-answer : (s t : Reading) (i : Input) (w : View) (asked text : List ℕ) → IsReady s → s.number ≤ lines_limit → s.number ≢ 1 → input_of s.line ≡ Some i
     → asked ≡ answered_of (question_of s.host) → TakesAnswer s.host i w → text ≡ s.text ++ asked → TellsAll w text t.host t.text → TakesLine s t (Ok tt)
 unfolding answered-by
 takes-answer s t i w asked text ready low ne e a taken written told =
@@ -156,7 +156,7 @@ takes-answer s t i w asked text ready low ne e a taken written told =
     }
 
 -- a front of it was told
-pub breaks-answer : (s t : Reading) (i : Input) (w : View) (asked text : List ℕ) → IsReady s → s.number ≤ 2 ^ 32 - 1 → s.number ≢ 1 → input_of s.line ≡ Some i
+pub breaks-answer : (s t : Reading) (i : Input) (w : View) (asked text : List ℕ) → IsReady s → s.number ≤ lines_limit → s.number ≢ 1 → input_of s.line ≡ Some i
     → asked ≡ answered_of (question_of s.host) → TakesAnswer s.host i w → text ≡ s.text ++ asked → TellsFront w text t.text → TakesLine s t (Err errors.Memory)
 breaks-answer s t i w asked text ready low ne e a taken written told = record {
   written = answered_text ready.waits.question ++ told.written;

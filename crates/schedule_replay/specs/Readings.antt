@@ -1,10 +1,10 @@
 -- A replay in the midst of a schedule, and what the next bytes do to it.
-use Rattle.std.specs.Prelude.{◌≡◌, ℕ, ◌+◌, ◌-◌, ◌*◌, ◌^◌, ◌<◌, ◌≤◌, true, List, [], ◌++◌, length, Option, Some, None, Result, Ok, Err, if◌then◌else◌, ◌==◌, ◌∷◌}
+use Rattle.std.specs.Prelude.{◌≡◌, ℕ, suc, ◌+◌, ◌-◌, ◌*◌, ◌^◌, ◌<◌, ◌≤◌, true, List, [], ◌++◌, length, Option, Some, None, Result, Ok, Err, if◌then◌else◌, ◌==◌, ◌∷◌}
 use Rattle.tree_specs.specs.declared.schedule.Reason.{Reason}
 use Rattle.tree_specs.specs.declared.question.Ask.{Ask}
 use Rattle.tree_specs.specs.Written.{WritesFront}
 use Rattle.tree_specs.specs.Text.{end_text}
-use Rattle.tree_specs.specs.Schedule.{Line, lines}
+use Rattle.tree_specs.specs.Schedule.{Line, lines, line_limit, lines_limit}
 use Rattle.tree_specs.specs.View.{View, begin, question_of}
 use Rattle.host_core.specs.Promises.{Waits}
 use Rattle.schedule_replay.specs.declared.refusal.LineError.{LineError}
@@ -113,15 +113,15 @@ Finishes s t (Err errors.Memory) = EndsFront s t
 -- what holds between two bytes
 pub record IsReady (s : Reading) : Type 0 where
   pub plain : has_no_lf s.line ≡ true
-  pub short : length s.line ≤ 262144
+  pub short : length s.line ≤ line_limit
   pub first : 1 ≤ s.number
-  pub last : s.number ≤ 2 ^ 32
-  pub numbered : 0 < length s.line → s.number ≤ 2 ^ 32 - 1
+  pub last : s.number ≤ suc lines_limit
+  pub numbered : 0 < length s.line → s.number ≤ lines_limit
   pub waits : Waits s.host
 
 -- at most so many bytes can still be taken
 abbrev pub room_left : Reading → ℕ
-room_left s = 262145 * (2 ^ 32 - s.number) + (262144 - length s.line)
+room_left s = suc line_limit * (suc lines_limit - s.number) + (line_limit - length s.line)
 
 -- a replay before its first byte
 abbrev pub fresh : Reading

@@ -1,5 +1,6 @@
 //! Reading a schedule, piece by piece.
-ghost use Rattle.std.specs.Prelude.{◌≡◌, ◌≢◌, ◌<◌, ◌≤◌, ◌+◌, ◌-◌, ◌*◌, ◌^◌, [], ◌∷◌, ◌++◌, IfOk, OnOk, OnErr, IsTrue, Some, length};
+ghost use Rattle.std.specs.Prelude.{◌≡◌, ◌≢◌, ◌<◌, ◌≤◌, ◌+◌, ◌-◌, ◌*◌, [], ◌∷◌, ◌++◌, IfOk, OnOk, OnErr, IsTrue, ◌↔◌, Some, length};
+ghost use Rattle.tree_specs.specs.Schedule.{lines_limit};
 ghost use Rattle.tree_specs.specs.Written.{Writes};
 ghost use Rattle.tree_specs.specs.Text.{answered_text};
 ghost use Rattle.tree_specs.specs.View.{question_of};
@@ -17,13 +18,7 @@ use schedule_text::{read_header, read_line, write_answered, write_end};
 use std::alloc::Global;
 use std::mem;
 use text_forms::FormFault;
-use tree_specs::{Input, Memory, Reason};
-
-/// A line has at most so many bytes, without its LF.
-const LINE_LIMIT: usize = 262_144;
-
-/// A schedule has at most so many lines.
-const LINES_LIMIT: u64 = 4_294_967_295;
+use tree_specs::{Input, LINE_LIMIT, LINES_LIMIT, Memory, Reason};
 
 /// Writes the line of the open question as one that is answered.
 fn write_asked(host: &Host, text: &mut Vec<u8>) -> Result<(), Memory>
@@ -132,7 +127,7 @@ impl Replay {
     /// Gives an input, which the line spells, to the host, and writes what it tells.
     fn answer(&mut self, line: &[u8], input: Input) -> Result<(), LineError>
         requires ready { IsReady (at_line (reading_of self.old) line.now) }
-        requires numbered { self.old.number ≤ 2 ^ 32 - 1 }
+        requires numbered { self.old.number ≤ lines_limit }
         requires later { self.old.number ≢ 1 }
         requires spelled { input_of line.now ≡ Some input }
         requires sound { IsTrue (is_sound input) }
@@ -161,7 +156,7 @@ impl Replay {
     /// Takes a line after the first.
     fn take_input(&mut self, line: &[u8]) -> Result<(), LineError>
         requires ready { IsReady (at_line (reading_of self.old) line.now) }
-        requires numbered { self.old.number ≤ 2 ^ 32 - 1 }
+        requires numbered { self.old.number ≤ lines_limit }
         requires later { self.old.number ≢ 1 }
         ensures taken { TakesLine (at_line (reading_of self.old) line.now) (reading_of self.new) result }
         ensures number { self.new.number ≡ self.old.number }
@@ -174,10 +169,17 @@ impl Replay {
         }
     }
 
+    /// Whether the line that has begun is one too many.
+    fn is_late(&self) -> bool
+        ensures { IsTrue result ↔ (lines_limit < self.now.number) }
+    {
+        self.number > LINES_LIMIT
+    }
+
     /// Takes a line that is whole.
     fn take_line(&mut self, line: &[u8]) -> Result<(), LineError>
         requires ready { IsReady (at_line (reading_of self.old) line.now) }
-        requires numbered { self.old.number ≤ 2 ^ 32 - 1 }
+        requires numbered { self.old.number ≤ lines_limit }
         ensures taken { TakesLine (at_line (reading_of self.old) line.now) (reading_of self.new) result }
         ensures number { self.new.number ≡ self.old.number }
         ensures line { self.new.line ≡ self.old.line }
@@ -200,7 +202,7 @@ impl Replay {
         if run.is_empty() {
             return Ok(());
         }
-        if self.number > LINES_LIMIT {
+        if self.is_late() {
             return self.refuse(Reason::Limit);
         }
         if run.len() > LINE_LIMIT - self.line.len() {
@@ -217,7 +219,7 @@ impl Replay {
         ensures ready { OnOk result (IsReady (reading_of self.new)) }
         ensures progress { OnOk result (room_left (reading_of self.new) + 1 ≤ room_left (reading_of self.old)) }
     {
-        if self.number > LINES_LIMIT {
+        if self.is_late() {
             return self.refuse(Reason::Limit);
         }
         let alloc = *self.line.allocator();
@@ -238,7 +240,7 @@ impl Replay {
         ensures ready { OnOk result (IsReady (reading_of self.new)) }
         ensures progress { OnOk result (room_left (reading_of self.new) + length line.now + 1 ≤ room_left (reading_of self.old)) }
     {
-        if self.number > LINES_LIMIT {
+        if self.is_late() {
             return self.refuse(Reason::Limit);
         }
         if line.len() > LINE_LIMIT {

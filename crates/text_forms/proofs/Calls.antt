@@ -69,24 +69,15 @@ words_of c = verb_of c ∷ fields_of c
 
 call_text-words : (c : Call) → call_text c ≡ joined (words_of c)
 unfolding call_text
-call_text-words (New owner size name) = simp append_assoc
 call_text-words (Free x) = refl
 call_text-words (Freekids x) = refl
-call_text-words (Steal owner x) = simp append_assoc
-call_text-words (Move owner x) = simp append_assoc
-call_text-words (Reparent from to x) = simp append_assoc
-call_text-words (Reference owner x) = simp append_assoc
-call_text-words (Unlink owner x) = simp append_assoc
-call_text-words (Hook x routine) = simp append_assoc
 call_text-words (Unhook x) = refl
-call_text-words (Rename x name) = simp append_assoc
-call_text-words (Resize x size) = simp append_assoc
-call_text-words (Limit x max) = simp append_assoc
 call_text-words (Parent x) = refl
 call_text-words (Total owner) = refl
 call_text-words (Count owner) = refl
 call_text-words (Sum owner) = refl
 call_text-words (Report owner) = refl
+call_text-words _ = simp append_assoc
 
 -- ---- from a call to its words and back
 

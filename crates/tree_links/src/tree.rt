@@ -178,7 +178,8 @@ impl Tree {
 
     /// The row of an object. None exactly where there is none.
     pub fn row(&self, x: Obj) -> Option<&Row>
-        ensures { option_copied result ≡ row_of self.now.rows x }
+        ensures row { option_copied result ≡ row_of self.now.rows x }
+        ensures sound { IsTree self.now.rows self.now.next }
     {
         match self.nodes.get(x.0) {
             None => None,
@@ -188,7 +189,8 @@ impl Tree {
 
     /// The size of an object in bytes, and 0 where there is none.
     pub fn size(&self, x: Obj) -> u64
-        ensures { result ≡ size_at self.now.rows x }
+        ensures size { result ≡ size_at self.now.rows x }
+        ensures sound { IsTree self.now.rows self.now.next }
     {
         self.row(x).map_or(0, |row| row.size)
     }
@@ -226,7 +228,8 @@ impl Tree {
 
     /// The owner of an object. None exactly where it is no object, or has left its owner.
     pub fn parent(&self, x: Obj) -> Option<Owner>
-        ensures { result ≡ owner_of self.now.rows x }
+        ensures owner { result ≡ owner_of self.now.rows x }
+        ensures sound { IsTree self.now.rows self.now.next }
     {
         self.row(x)?.owner
     }

@@ -9,5 +9,5 @@ mod walk;
 mod writing;
 
 pub use listing::rows;
-pub use sums::{OVERHEAD, count, sum, total};
+pub use sums::{count, sum, total};
 pub use writing::report;

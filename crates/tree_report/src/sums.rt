@@ -1,17 +1,20 @@
-ghost use Rattle.std.specs.Prelude.{◌≡◌};
+ghost use Rattle.std.specs.Prelude.{◌≡◌, ◌<◌, Some};
 ghost use Rattle.std.specs.Option.{option_copied};
 ghost use Rattle.tree_specs.specs.Inside.{size_inside, count_inside};
+ghost use Rattle.tree_specs.specs.declared.row.Row.{Row as RowData};
 ghost use Rattle.tree_specs.specs.Walks.{own_row, own};
+ghost use Rattle.tree_specs.specs.Calls.{size_limit};
 ghost use Rattle.tree_specs.specs.Sums.{charge, sum_inside};
 ghost use Rattle.tree_report.specs.Weights.{sized, counted};
 
 use crate::walk::Walk;
 use tree_links::Tree;
-use tree_specs::{Kind, Owner, Row};
+use tree_specs::{Kind, OVERHEAD, Owner, Row};
 
 /// The row of an owner that is an object.
 fn row_of(tree: &Tree, owner: Owner) -> Option<&Row>
-    ensures { option_copied result ≡ own_row tree.now.rows owner }
+    ensures row { option_copied result ≡ own_row tree.now.rows owner }
+    ensures small { (row : RowData) → own_row tree.now.rows owner ≡ Some row → row.size < size_limit }
 {
     match owner {
         Owner::Root => None,
@@ -36,15 +39,10 @@ fn own_count(tree: &Tree, owner: Owner) -> u64
     })
 }
 
-/// Beside its size an object that is no reference counts so many bytes against a limit.
-pub const OVERHEAD: u64 = 96;
-
 /// What an object that is no reference counts against a limit, in bytes, and 0 elsewhere.
 fn own_charge(tree: &Tree, owner: Owner) -> u64
     ensures { result ≡ own charge tree.now.rows owner }
 {
-    // All that is wanted of `len` is its contract: sizes are small.
-    let _rows = tree.len();
     match row_of(tree, owner) {
         None
         | Some(

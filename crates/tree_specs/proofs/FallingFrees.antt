@@ -30,7 +30,7 @@ use Rattle.tree_specs.specs.Pool.{Pool, row_of, is_below, owner_of, first_kid, w
 use Rattle.tree_specs.specs.Heirs.{heir}
 use Rattle.tree_specs.specs.Items.{Item}
 use Rattle.tree_specs.specs.Table.{table, step, resume, lifted, begin_quiet, begin_step, judge_step, last_step, loop_step, child_step, refs_step, unlink_step, release_step, hand_on_step}
-use Rattle.tree_specs.specs.Sound.{claims, IsWaiting, AllWait, IsLive, Stands, Tries, IsOver, Sound, IsQuietRow}
+use Rattle.tree_specs.specs.Sound.{claims, IsWaiting, AllWait, IsLive, Stands, Tries, IsOver, Sound, IsQuietRow, footing}
 use Rattle.tree_specs.proofs.Numbered.{by_test, same-equal, same_owner-false}
 use Rattle.tree_specs.proofs.Heirs.{heir-other}
 use Rattle.tree_specs.proofs.Checks.{Heard, Does, Returns, heard-leads}
@@ -156,7 +156,7 @@ looping-lower R x purpose fs p k s most = each (first_kid p.rows (Of x)) refl
         (omega (arith, n), omega (arith, u))
 
     -- a call is what waits for a loop that only empties
-    called : (g : Frame) (gs : List Frame) → Stands Emptying (g ∷ gs) → top_cost R (resume g (Freed Ok)) gs p.rows < waiting_cost g + (4 * count p.rows (Of x) + 7)
+    called : (g : Frame) (gs : List Frame) → Stands Emptying (footing (g ∷ gs)) → top_cost R (resume g (Freed Ok)) gs p.rows < waiting_cost g + (4 * count p.rows (Of x) + 7)
     called (frame.Call (Awaiting q y)) gs c = omega arith
     called _ gs c = absurd c
 
@@ -165,7 +165,7 @@ looping-lower R x purpose fs p k s most = each (first_kid p.rows (Of x)) refl
         let row = dying-row (row_of p.rows x) (claims x fs) (claim-here x InLoop (claims x fs) (row_of p.rows x) (s.open_frees x)) in
         gone h row.0 row.1 row.2 row.3
     last Emptying s = done-lower R (Freed Ok) (frame.Free (Looping x Emptying)) fs p k s.waiting (omega arith)
-        (λ g gs e w. let l = called g gs (subst (λ (l : List Frame). Stands Emptying l) e s.rests) in omega (arith, l))
+        (λ g gs e w. let l = called g gs (subst (λ (l : List Frame). Stands Emptying (footing l)) e s.rests) in omega (arith, l))
 
     child : (c : Obj) (o : Option Obj) → target_at p.rows c ≡ o → Lowers R (cost R (frame.Free (Looping x purpose)) fs p k) (lifted (child_step x c purpose (target_at p.rows c) p)) fs k
     child c None e = rw e (omega arith, omega arith)
@@ -227,7 +227,7 @@ tried-lower R x c noted purpose a fs p k s room = each a s
     each (Refused v) s = handed (Refused v) refl s
 
 -- a freeing that ends at once is no loop's child, or is said to run
-at_once-lower : (R : ℕ) (a : FreeReply) (x : Obj) (fs : List Frame) (p p' : Pool) (k : ℕ) → (a ≡ Running) ⊎ ((o : Owner) → owner_of p.rows x ≢ Some o) → Tries x fs p → AllWait fs
+at_once-lower : (R : ℕ) (a : FreeReply) (x : Obj) (fs : List Frame) (p p' : Pool) (k : ℕ) → (a ≡ Running) ⊎ ((o : Owner) → owner_of p.rows x ≢ Some o) → Tries x (footing fs) p → AllWait fs
     → total weight p'.rows ≡ total weight p.rows → length p'.rows ≡ length p.rows → ((y : Obj) → count p'.rows (Of y) ≡ count p.rows (Of y)) → Room R (frame.Free (Beginning x)) p k
     → Lowers R (cost R (frame.Free (Beginning x)) fs p k) (Do.Done (Freed a) p') fs k
 at_once-lower R a x [] p p' k h t w e n m room = tt
@@ -241,9 +241,9 @@ at_once-lower R a x (g ∷ gs) p p' k h t w e n m room = below g (waiter g gs w.
     runs y c noted purpose Running is = (omega (arith, n), omega (arith, u, m y))
     runs y c noted purpose _ is = cc
 
-    below : (g : Frame) → Waiter g → Tries x (g ∷ gs) p → Lowers R (cost R (frame.Free (Beginning x)) (g ∷ gs) p k) (Do.Done (Freed a) p') (g ∷ gs) k
+    below : (g : Frame) → Waiter g → Tries x (footing (g ∷ gs)) p → Lowers R (cost R (frame.Free (Beginning x)) (g ∷ gs) p k) (Do.Done (Freed a) p') (g ∷ gs) k
     below _ (ForFree q y) t = (omega (arith, n), omega (arith, u))
-    below _ (ForRun y f) t = cc
+    below _ (ForRun y f) t = absurd t
     below _ (ForChild y c noted purpose) t = elim h [
       | inl is ↦ runs y c noted purpose a is
       | inr none ↦ absurd (none (Of y) t.1)

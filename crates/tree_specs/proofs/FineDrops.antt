@@ -30,7 +30,7 @@ use Rattle.tree_specs.specs.Items.Item.{Told}
 use Rattle.tree_specs.specs.Works.{Begun, Scene}
 use Rattle.tree_specs.specs.Table.{notes, step, lifted, begin_quiet, begin_step, refs_step, unlink_step, release_step}
 use Rattle.tree_specs.specs.Orderly.{frees}
-use Rattle.tree_specs.specs.Sound.{IsLive, IsOver, ValidAt, IsQuietRow, IsReferable, AllWait, Tries}
+use Rattle.tree_specs.specs.Sound.{IsLive, IsOver, ValidAt, IsQuietRow, IsReferable, AllWait, Tries, footing}
 use Rattle.tree_specs.specs.Whole.{Whole}
 use Rattle.tree_specs.proofs.Numbered.{by_test}
 use Rattle.tree_specs.proofs.Rows.{row_of-without-same, row_of-without-other}
@@ -129,11 +129,11 @@ module _ (scenes : List Scene) (b : Option Begun) (ws : List NotedWork) (p : Poo
       each _ n (ForChild y c noted purpose) on h = tt
 
   -- a call's own free is never held
-  no-held : (more : List Scene) (x r : Obj) (us : List NotedWork) → AllWait (map work_of us) → Tries x (map work_of us) p → newest_ref p.rows x ≡ Some r → OfNext (IsRefusedFor more free_reply.Held) us
+  no-held : (more : List Scene) (x r : Obj) (us : List NotedWork) → AllWait (map work_of us) → Tries x (footing (map work_of us)) p → newest_ref p.rows x ≡ Some r → OfNext (IsRefusedFor more free_reply.Held) us
   no-held more x r [] wait tries e = tt
   no-held more x r (u ∷ us) wait tries e = below u.work (waiter u.work (map work_of us) wait.0) tries
     where
-      below : (g : Frame) → Waiter g → Tries x (g ∷ map work_of us) p → IsRefusedFor more free_reply.Held g u.note
+      below : (g : Frame) → Waiter g → Tries x (footing (g ∷ map work_of us)) p → IsRefusedFor more free_reply.Held g u.note
       below _ (ForFree q y) t = let bad : None ≡ Some r = sym t ∙ e in cc
       below _ (ForRun y h) t = tt
       below _ (ForChild y c noted purpose) t = tt

@@ -29,7 +29,7 @@ use Rattle.tree_specs.specs.Items.{Item}
 use Rattle.tree_specs.specs.Story.{hook_moment}
 use Rattle.tree_specs.specs.Table.{table, step, lifted, begin_quiet, begin_step, drop_step, refs_step, unlink_step, release_step, judge_step, last_step, child_step, loop_step, hand_on_step, reply_in, resume}
 use Rattle.tree_specs.specs.Heirs.{heir}
-use Rattle.tree_specs.specs.Sound.{Owned, Shaped, ValidAt, phase_of, phases, claim, claims, AllWait, IsLive, IsReferable, NotedFor, Tries, StillThere, Refers, IsQuietRow, IsOver, MayAnswer, IsCalled, IsGivenUp, MayBePlaced, Sound}
+use Rattle.tree_specs.specs.Sound.{Owned, Shaped, ValidAt, phase_of, phases, claim, claims, AllWait, IsLive, IsReferable, NotedFor, Tries, StillThere, Refers, IsQuietRow, IsOver, MayAnswer, IsCalled, IsGivenUp, MayBePlaced, Sound, footing}
 use Rattle.tree_specs.proofs.Numbered.{by_test, same-equal, same-false}
 use Rattle.tree_specs.proofs.Rows.{row_of-changed-other, row_of-changed-same, row_of-without-other, row_of-without-same, first_kid-owner}
 use Rattle.tree_specs.proofs.Rooted.{forest-left, forest-without, is_there-owner}
@@ -168,23 +168,23 @@ noted-other x c r noted p f owner newest ne inside h = elim h [
   | inr other ↦ other
 ]
 
-tries-dropped : (x r : Obj) (fs : List Frame) (p : Pool) → Sound (frame.Free (Beginning x)) fs p → newest_ref p.rows x ≡ Some r → r ≢ x → is_inside p.rows (Of r) (Of x) ≡ true → Tries x fs (remove p r)
-tries-dropped x r [] p s newest ne inside = refl
+tries-dropped : (x r : Obj) (fs : List Frame) (p : Pool) → Sound (frame.Free (Beginning x)) fs p → newest_ref p.rows x ≡ Some r → r ≢ x → is_inside p.rows (Of r) (Of x) ≡ true → Tries x (footing fs) (remove p r)
+tries-dropped x r [] p s newest ne inside = tt
 tries-dropped x r (g ∷ gs) p s newest ne inside = below g (waiter g gs s.waiting.0) s.rests.0
   where
-    below : (g : Frame) → Waiter g → Tries x (g ∷ gs) p → Tries x (g ∷ gs) (remove p r)
+    below : (g : Frame) → Waiter g → Tries x (footing (g ∷ gs)) p → Tries x (footing (g ∷ gs)) (remove p r)
     below _ (ForFree q y) t = let bad : None ≡ Some r = sym t ∙ newest in cc
-    below _ (ForRun y h) t = cc
+    below _ (ForRun y h) t = absurd t
     below _ (ForChild y c noted purpose) t =
         let same_row : row_of (without p.rows r) x ≡ row_of p.rows x = row_of-without-other p.rows r x ne in
         let n : NotedFor y x noted p = subst (λ (z : Obj). NotedFor y z noted p) refl t.2 in
         (t.0, ap owner_in same_row ∙ t.1, inr (noted-other y x r noted p s.forest t.1 newest ne inside n))
 
-may-hold : (x r : Obj) (fs : List Frame) (p : Pool) → Sound (frame.Free (Beginning x)) fs p → newest_ref p.rows x ≡ Some r → MayAnswer Held fs
+may-hold : (x r : Obj) (fs : List Frame) (p : Pool) → Sound (frame.Free (Beginning x)) fs p → newest_ref p.rows x ≡ Some r → MayAnswer Held (footing fs)
 may-hold x r [] p s newest = tt
 may-hold x r (g ∷ gs) p s newest = below g (waiter g gs s.waiting.0) s.rests.0
   where
-    below : (g : Frame) → Waiter g → Tries x (g ∷ gs) p → MayAnswer Held (g ∷ gs)
+    below : (g : Frame) → Waiter g → Tries x (footing (g ∷ gs)) p → MayAnswer Held (footing (g ∷ gs))
     below _ (ForFree q y) t = let bad : None ≡ Some r = sym t ∙ newest in cc
     below _ (ForRun y h) t = tt
     below _ (ForChild y c noted purpose) t = tt
@@ -209,10 +209,10 @@ beginning x fs p k s = newest (newest_ref p.rows x) refl
       | inr other ↦ other
     ]
 
-    still : newest_ref p.rows x ≡ None → (q : Pool) → owner_of q.rows x ≡ owner_of p.rows x → (fs : List Frame) → Tries x fs p
+    still : newest_ref p.rows x ≡ None → (q : Pool) → owner_of q.rows x ≡ owner_of p.rows x → (fs : List Frame) → Tries x (footing fs) p
         → (y c : Obj) (noted : Option Owner) (purpose : Purpose) (gs : List Frame) → fs ≡ frame.Free (Trying y c noted purpose) ∷ gs → StillThere Running y c noted q
     still none q o fs t y c noted purpose gs e =
-        let t' : (c ≡ x) × (owner_of p.rows x ≡ Some (Of y)) × NotedFor y x noted p = subst (λ (l : List Frame). Tries x l p) e t in
+        let t' : (c ≡ x) × (owner_of p.rows x ≡ Some (Of y)) × NotedFor y x noted p = subst (λ (l : List Frame). Tries x (footing l) p) e t in
         (subst (λ (z : Obj). owner_of q.rows z ≡ Some (Of y)) (sym t'.0) (o ∙ t'.1), no-noted y noted none t'.2)
 
     over : KeptBy (Do.Done (Freed Ok) p) fs k
@@ -265,10 +265,10 @@ pub referred-live : (p : Pool) (x r : Obj) (row : Row) → Refers p.rows → tar
 referred-live p x r row refers is e = let h : IsReferable (Some row) = rw e at (refers.target r x is) in rw h.1 tt
 
 -- the same object is given up after a reference to it is gone
-given_up-dropped : (x r : Obj) (fs : List Frame) (p : Pool) → IsGivenUp x fs p → r ≢ x → IsGivenUp x fs (remove p r)
+given_up-dropped : (x r : Obj) (fs : List Frame) (p : Pool) → IsGivenUp x (footing fs) p → r ≢ x → IsGivenUp x (footing fs) (remove p r)
 given_up-dropped x r fs p h ne = (h.0, h.1, row_of-without-other p.rows r x ne ∙ h.2, h.3, h.4)
 
-pub given_up-object : (x : Obj) (fs : List Frame) (p : Pool) → IsGivenUp x fs p → target_at p.rows x ≡ None
+pub given_up-object : (x : Obj) (fs : List Frame) (p : Pool) → IsGivenUp x (footing fs) p → target_at p.rows x ≡ None
 given_up-object x fs p h = rw h.2 h.4
 
 pub unlinking : (o : Owner) (x : Obj) (fs : List Frame) (p : Pool) (k : ℕ) → Sound (frame.Free (Unlinking o x)) fs p → KeptBy (step (frame.Free (Unlinking o x)) p) fs k
@@ -282,7 +282,7 @@ unlinking o x fs p k s = each (newest_ref_of p.rows o x) refl
         rw e (dropped-sound (frame.Free (Unlinking o x)) (frame.Free (Ending Ok)) fs p r x s is (λ y. refl) (tt, tt))
 
 -- the owner of a reference from outside may take the object
-giver : (f : Frame) (fs : List Frame) (p : Pool) (x r : Obj) → Sound f fs p → IsGivenUp x fs p → target_at p.rows r ≡ Some x → is_inside p.rows (Of r) (Of x) ≡ false
+giver : (f : Frame) (fs : List Frame) (p : Pool) (x r : Obj) → Sound f fs p → IsGivenUp x (footing fs) p → target_at p.rows r ≡ Some x → is_inside p.rows (Of r) (Of x) ≡ false
     → MayBePlaced (remove p r) (unwrap_or (owner_of p.rows r) Root) x
 giver f fs p x r s h is out = by-row (row_of p.rows r) refl (s.refers.quiet r x is) (s.valid r)
   where
@@ -316,11 +316,11 @@ giver f fs p x r s h is out = by-row (row_of p.rows r) refl (s.refers.quiet r x 
 pub releasing : (x : Obj) (fs : List Frame) (p : Pool) (k : ℕ) → Sound (frame.Free (Releasing x)) fs p → KeptBy (step (frame.Free (Releasing x)) p) fs k
 releasing x fs p k s = each (newest_ref p.rows x) refl
   where
-    tries : newest_ref p.rows x ≡ None → (fs : List Frame) → AllWait fs → IsCalled fs → Tries x fs p
+    tries : newest_ref p.rows x ≡ None → (fs : List Frame) → AllWait fs → IsCalled (footing fs) → Tries x (footing fs) p
     tries e [] w c = absurd c
     tries e (g ∷ gs) w c = below g (waiter g gs w.0) c
       where
-        below : (g : Frame) → Waiter g → IsCalled (g ∷ gs) → Tries x (g ∷ gs) p
+        below : (g : Frame) → Waiter g → IsCalled (footing (g ∷ gs)) → Tries x (footing (g ∷ gs)) p
         below _ (ForFree q y) c = e
         below _ (ForRun y h) c = absurd c
         below _ (ForChild y d noted purpose) c = absurd c

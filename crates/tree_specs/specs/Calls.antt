@@ -1,5 +1,6 @@
 -- The refusals of each call, in the order in which they are tried.
 use Rattle.std.specs.Prelude.{ℕ, zero, suc, ◌-◌, ◌+◌, ◌^◌, Bool, true, false, not, ◌&&◌, ◌||◌, is_some, nat_eq, nat_lt, nat_le, if◌then◌else◌, List, [], ◌∷◌, ◌++◌, length, Option, Some, None, Result, Ok, Err}
+use Rattle.tree_specs.specs.declared.bounds.TheConstants.{ROW_LIMIT, SIZE_LIMIT}
 use Rattle.tree_specs.specs.declared.object.Obj.{Obj}
 use Rattle.tree_specs.specs.declared.object.Owner.{Owner}
 use Rattle.tree_specs.specs.declared.object.Owner.TheVariants.{Root, Of}
@@ -19,11 +20,11 @@ use Rattle.tree_specs.specs.Sums.{overhead, sum_inside, limit_at, size_at}
 
 -- the size of an object is below this, in bytes
 abbrev pub size_limit : ℕ
-size_limit = 268435456
+size_limit = SIZE_LIMIT
 
 -- at most so many objects are live
 abbrev pub row_limit : ℕ
-row_limit = 1048576
+row_limit = ROW_LIMIT
 
 -- the refusals that apply, the first one first
 abbrev pub Check : Type 0

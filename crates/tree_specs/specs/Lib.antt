@@ -24,6 +24,7 @@ pub mod Sound
 pub mod Measure
 pub mod View
 pub mod Whole
+pub mod Alone
 pub mod Orderly
 pub mod Grounded
 pub mod Acceptances

@@ -187,8 +187,12 @@ call_profile (Warning q x r) = record (a_caller q) { cost = at_most 0 2 AtNone }
 call_profile (Telling q r) = record (a_caller q) { cost = at_most 0 1 AtNone }
 call_profile (Returning v) = record { ask = None; waits = Never; waiting_cost = 0; cost = at_most 4 9 AtNone; adds = 0 }
 
+-- what a caller weighs, whatever it waits for
+abbrev pub caller_size : ℕ
+caller_size = 2
+
 abbrev pub of_call : CallProfile → Profile
-of_call f = record { role = Calls f.ask; waits = f.waits; claims = None; removes = None; size = 2; top_size = 2; waiting_cost = f.waiting_cost; cost = f.cost; adds = f.adds }
+of_call f = record { role = Calls f.ask; waits = f.waits; claims = None; removes = None; size = caller_size; top_size = caller_size; waiting_cost = f.waiting_cost; cost = f.cost; adds = f.adds }
 
 -- ---- all
 

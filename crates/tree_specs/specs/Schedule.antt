@@ -2,6 +2,7 @@
 use Rattle.std.specs.Prelude.{ℕ, ◌+◌, ◌-◌, ◌^◌, Bool, true, false, ◌==◌, ◌||◌, ◌&&◌, nat_lt, if◌then◌else◌, List, [], ◌∷◌, length, Option, Some, None, Result, Ok, Err, codes}
 use Rattle.std.specs.List.{slice_split}
 use Rattle.std.specs.Str.{bytes_eq}
+use Rattle.tree_specs.specs.declared.bounds.TheConstants.{LINE_LIMIT, LINES_LIMIT}
 use Rattle.tree_specs.specs.declared.question.Ask.{Ask}
 use Rattle.tree_specs.specs.declared.question.Ask.TheVariants.{Quiet, Routine, Clock, Wait, Accept, Read, Write}
 use Rattle.tree_specs.specs.declared.question.Input.{Input}
@@ -39,11 +40,11 @@ lines bytes = lines_of_parts (slice_split (λ b. b == 10) bytes)
 
 -- a line has at most so many bytes without its LF
 abbrev pub line_limit : ℕ
-line_limit = 262144
+line_limit = LINE_LIMIT
 
 -- a schedule has at most so many lines
 abbrev pub lines_limit : ℕ
-lines_limit = 2 ^ 32 - 1
+lines_limit = LINES_LIMIT
 
 abbrev pub is_over_limit : ℕ → Line → Bool
 is_over_limit n line = nat_lt line_limit (length line.text) || nat_lt lines_limit n

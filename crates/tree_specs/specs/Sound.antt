@@ -9,6 +9,7 @@ use Rattle.tree_specs.specs.declared.row.Mark.TheVariants.{Quiet}
 use Rattle.tree_specs.specs.declared.frame.Frame.{Frame}
 use Rattle.tree_specs.specs.declared.frame.Frame.TheVariants as frame
 use Rattle.tree_specs.specs.declared.frame.CallFrame.TheVariants.{Asking, Doing, Awaiting, Warning, Telling, Returning}
+use Rattle.tree_specs.specs.declared.frame.FreeFrame.{FreeFrame}
 use Rattle.tree_specs.specs.declared.frame.FreeFrame.TheVariants.{Unlinking, Releasing, Giving, Beginning, Hooked, Judged, Leaving, Looping, Trying, Tried, Ending}
 use Rattle.tree_specs.specs.declared.frame.Purpose.{Purpose}
 use Rattle.tree_specs.specs.declared.frame.Purpose.TheVariants.{Removal, Emptying}
@@ -66,25 +67,41 @@ abbrev pub claims : Obj → List Frame → List Phase
 claims x [] = []
 claims x (f ∷ fs) = claim x f ++ claims x fs
 
--- the call that waits for it stands right below
-abbrev pub IsCalled : List Frame → Type 0
-IsCalled (frame.Call (Awaiting q x) ∷ fs) = Unit {0}
-IsCalled fs = ⊥
+-- ---- what a work stands on
+
+pub data Footing : Type 0 where
+  -- the call that waits for it
+  OnCall : Footing
+  -- a free
+  OnFree : FreeFrame → Footing
+  -- a caller that waits for no free
+  OnOther : Footing
+  AtBottom : Footing
+
+abbrev pub footing : List Frame → Footing
+footing [] = AtBottom
+footing (frame.Free f ∷ fs) = OnFree f
+footing (frame.Call (Awaiting q x) ∷ fs) = OnCall
+footing (frame.Call c ∷ fs) = OnOther
+
+abbrev pub IsCalled : Footing → Type 0
+IsCalled OnCall = Unit {0}
+IsCalled _ = ⊥
 
 -- a loop that only empties an object is a call's own
-abbrev pub Stands : Purpose → List Frame → Type 0
-Stands (Removal h) fs = Unit {0}
-Stands Emptying fs = IsCalled fs
+abbrev pub Stands : Purpose → Footing → Type 0
+Stands (Removal h) on = Unit {0}
+Stands Emptying on = IsCalled on
 
-abbrev pub MayWait : Waits → List Frame → Type 0
-MayWait Never fs = ⊥
-MayWait (AFree x) fs = Unit {0}
-MayWait (ARun x h) fs = 0 < h
-MayWait (AChild c purpose) fs = Stands purpose fs
+abbrev pub MayWait : Waits → Footing → Type 0
+MayWait Never on = ⊥
+MayWait (AFree x) on = Unit {0}
+MayWait (ARun x h) on = 0 < h
+MayWait (AChild c purpose) on = Stands purpose on
 
 -- the works below the innermost wait for the one above them
 abbrev pub IsWaiting : Frame → List Frame → Type 0
-IsWaiting f fs = MayWait (profile f).waits fs
+IsWaiting f fs = MayWait (profile f).waits (footing fs)
 
 abbrev pub AllWait : List Frame → Type 0
 AllWait [] = Unit {0}
@@ -119,10 +136,11 @@ NotedFor x c noted p = (noted ≡ noted_owner p.rows c) ⊎ (noted ≢ Some (Of 
 
 -- an object whose freeing begins is the child that is tried, where the work below tries one; a call begins it only where
 -- there is no reference to it
-abbrev pub Tries : Obj → List Frame → Pool → Type 0
-Tries c (frame.Free (Trying x d noted purpose) ∷ fs) p = (d ≡ c) × (owner_of p.rows c ≡ Some (Of x)) × NotedFor x c noted p
-Tries c (frame.Call (Awaiting q x) ∷ fs) p = newest_ref p.rows c ≡ None
-Tries c fs p = fs ≡ []
+abbrev pub Tries : Obj → Footing → Pool → Type 0
+Tries c (OnFree (Trying x d noted purpose)) p = (d ≡ c) × (owner_of p.rows c ≡ Some (Of x)) × NotedFor x c noted p
+Tries c OnCall p = newest_ref p.rows c ≡ None
+Tries c AtBottom p = Unit {0}
+Tries c _ p = ⊥
 
 -- a child that runs is where it was, and no reference of its owner's was noted
 abbrev pub StillThere : FreeReply → Obj → Obj → Option Owner → Pool → Type 0
@@ -139,9 +157,9 @@ IsOver Running = ⊥
 IsOver (Refused v) = Unit {0}
 
 -- a call is not answered that the object is held: it looks at the references before
-abbrev pub MayAnswer : FreeReply → List Frame → Type 0
-MayAnswer Held (frame.Call (Awaiting q x) ∷ fs) = ⊥
-MayAnswer answer fs = Unit {0}
+abbrev pub MayAnswer : FreeReply → Footing → Type 0
+MayAnswer Held OnCall = ⊥
+MayAnswer answer on = Unit {0}
 
 -- the destructor that an object has
 abbrev pub HasHook : Option Row → ℕ → Type 0
@@ -158,8 +176,22 @@ pub record MayBePlaced (p : Pool) (o : Owner) (x : Obj) : Type 0 where
   pub outside : is_inside p.rows o (Of x) ≡ false
 
 -- a live object that a call takes an interest away from
-abbrev pub IsGivenUp : Obj → List Frame → Pool → Type 0
-IsGivenUp x fs p = IsCalled fs × (r : Row) × (row_of p.rows x ≡ Some r) × IsLive r.mark × (target_of r.kind ≡ None)
+abbrev pub IsGivenUp : Obj → Footing → Pool → Type 0
+IsGivenUp x on p = IsCalled on × (r : Row) × (row_of p.rows x ≡ Some r) × IsLive r.mark × (target_of r.kind ≡ None)
+
+-- what the innermost free rests on, by what it stands on and what the works below it claim
+abbrev pub FreeRests : FreeFrame → Footing → (Obj → List Phase) → Pool → Type 0
+FreeRests (Unlinking o x) on claimed p = IsGivenUp x on p
+FreeRests (Releasing x) on claimed p = IsGivenUp x on p
+FreeRests (Giving x o) on claimed p = MayBePlaced p o x
+FreeRests (Beginning x) on claimed p = Tries x on p × (target_at p.rows x ≡ None)
+FreeRests (Hooked x h) on claimed p = (0 < h) × HasHook (row_of p.rows x) h
+FreeRests (Judged x h v) on claimed p = 0 < h
+FreeRests (Leaving x h) on claimed p = (r : Row) × (row_of p.rows x ≡ Some r) × IsLive r.mark × (claimed x ≡ []) × (target_of r.kind ≡ None) × (newest_ref p.rows x ≡ None)
+FreeRests (Looping x purpose) on claimed p = Stands purpose on
+FreeRests (Trying x c noted purpose) on claimed p = ⊥
+FreeRests (Tried x c noted purpose answer) on claimed p = StillThere answer x c noted p × Stands purpose on
+FreeRests (Ending answer) on claimed p = IsOver answer × MayAnswer answer on
 
 -- what the innermost work rests on
 abbrev pub Rests : Frame → List Frame → Pool → Type 0
@@ -169,17 +201,7 @@ Rests (frame.Call (Awaiting q x)) fs p = ⊥
 Rests (frame.Call (Warning q x r)) fs p = Unit {0}
 Rests (frame.Call (Telling q r)) fs p = Unit {0}
 Rests (frame.Call (Returning v)) fs p = Unit {0}
-Rests (frame.Free (Unlinking o x)) fs p = IsGivenUp x fs p
-Rests (frame.Free (Releasing x)) fs p = IsGivenUp x fs p
-Rests (frame.Free (Giving x o)) fs p = MayBePlaced p o x
-Rests (frame.Free (Beginning x)) fs p = Tries x fs p × (target_at p.rows x ≡ None)
-Rests (frame.Free (Hooked x h)) fs p = (0 < h) × HasHook (row_of p.rows x) h
-Rests (frame.Free (Judged x h v)) fs p = 0 < h
-Rests (frame.Free (Leaving x h)) fs p = (r : Row) × (row_of p.rows x ≡ Some r) × IsLive r.mark × (claims x fs ≡ []) × (target_of r.kind ≡ None) × (newest_ref p.rows x ≡ None)
-Rests (frame.Free (Looping x purpose)) fs p = Stands purpose fs
-Rests (frame.Free (Trying x c noted purpose)) fs p = ⊥
-Rests (frame.Free (Tried x c noted purpose answer)) fs p = StillThere answer x c noted p × Stands purpose fs
-Rests (frame.Free (Ending answer)) fs p = IsOver answer × MayAnswer answer fs
+Rests (frame.Free f) fs p = FreeRests f (footing fs) (λ x. claims x fs) p
 
 pub record Sound (f : Frame) (fs : List Frame) (p : Pool) : Type 0 where
   pub started : 0 < p.next

@@ -1,5 +1,6 @@
 -- What the objects inside an owner count against its limit.
 use Rattle.std.specs.Prelude.{ℕ, ◌+◌, if◌then◌else◌, List, Option, Some, None}
+use Rattle.tree_specs.specs.declared.bounds.TheConstants.{OVERHEAD}
 use Rattle.tree_specs.specs.declared.object.Obj.{Obj}
 use Rattle.tree_specs.specs.declared.object.Owner.{Owner}
 use Rattle.tree_specs.specs.declared.object.Owner.TheVariants.{Of}
@@ -10,7 +11,7 @@ use Rattle.tree_specs.specs.Inside.{total}
 
 -- beside its size an object counts so many bytes
 abbrev pub overhead : ℕ
-overhead = 96
+overhead = OVERHEAD
 
 -- what an object counts; a reference counts nothing
 abbrev pub charge : Row → ℕ

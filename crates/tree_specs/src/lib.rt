@@ -2,6 +2,7 @@
 //! every contract above cites. The laws of these definitions are the clauses of functions in `laws`.
 #![tactic(auto)]
 
+mod bounds;
 mod call;
 mod event;
 pub mod forbidden;
@@ -21,6 +22,9 @@ mod report;
 mod row;
 mod schedule;
 
+pub use bounds::{
+    LINE_LIMIT, LINES_LIMIT, NAME_LIMIT, OCTETS_LIMIT, OVERHEAD, ROW_LIMIT, SIZE_LIMIT,
+};
 pub use call::Call;
 pub use event::Event;
 pub use frame::{Answer, CallFrame, Frame, FreeFrame, Purpose};

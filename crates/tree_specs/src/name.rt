@@ -2,6 +2,7 @@ ghost use Rattle.std.specs.Prelude.{◌≡◌, List, ℕ, IsTrue, IfSome, IsSome
 ghost use Rattle.tree_specs.specs.Names.{is_name, is_graphic};
 ghost use Rattle.std.specs.List.{list_all};
 
+use crate::bounds::NAME_LIMIT;
 use crate::listed::Listed;
 use std::alloc::Global;
 use std::marker::Model;
@@ -23,7 +24,7 @@ pub fn is_name_text(bytes: &[u8]) -> bool
     ensures { result ≡ is_name bytes.now }
 {
     let graphic = is_graphic_text(bytes);
-    graphic && 1 <= bytes.len() && bytes.len() <= 255
+    graphic && 1 <= bytes.len() && bytes.len() <= NAME_LIMIT
 }
 
 /// The name of an object: 1 to 255 bytes from 0x21 to 0x7E. Contracts see it as the list of its bytes.

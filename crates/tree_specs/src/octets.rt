@@ -1,13 +1,14 @@
 ghost use Rattle.std.specs.Prelude.{◌≡◌, List, ℕ, IsTrue, IfSome, IsSome, ◌↔◌};
 ghost use Rattle.tree_specs.specs.Octets.{is_octets};
 
+use crate::bounds::OCTETS_LIMIT;
 use crate::listed::Listed;
 use std::marker::Model;
 
 fn is_octets_len(bytes: &[u8]) -> bool
     ensures { result ≡ is_octets bytes.now }
 {
-    1 <= bytes.len() && bytes.len() <= 65_536
+    1 <= bytes.len() && bytes.len() <= OCTETS_LIMIT
 }
 
 /// What one read gives or one write takes: 1 to 65,536 bytes. Contracts see it as the list of its bytes.

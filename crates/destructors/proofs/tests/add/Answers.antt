@@ -4,7 +4,7 @@ use Rattle.tree_specs.specs.declared.question.Ask.TheVariants.{Quiet}
 use Rattle.tree_specs.specs.Pool.{is_owner}
 use Rattle.tree_specs.specs.Whole.{Whole}
 use Rattle.tree_links.specs.Links.{pool_of}
-use Rattle.destructors.specs.Works.{call_view}
+use Rattle.destructors.specs.Callers.{call_view}
 use Rattle.destructors.proofs.Resting.{added-rests}
 use Rattle.destructors.proofs.tests.add.Goals as goal
 

@@ -2,8 +2,7 @@ use Rattle.std.proofs.Common.{◌≡◌, length, Some, None, false, refl, sym, �
 use Rattle.destructors.specs.Frees.{frees_of, speaking, Still, On}
 use Rattle.destructors.specs.Engine.{MayMove}
 use Rattle.destructors.proofs.Settling.{ready-work, onward}
-use Rattle.destructors.proofs.Keeping.{rests}
-use Rattle.destructors.specs.Works.{standing}
+use Rattle.destructors.proofs.Keeping.{work-rests}
 use Rattle.tree_links.specs.Links.{pool_of}
 use Rattle.destructors.proofs.works.settle.Goals as goal
 
@@ -39,4 +38,4 @@ pub advance-innermost-requires-clause-rests : goal.advance-innermost-requires-cl
 advance-innermost-requires-clause-rests c =
     let quiet : speaking (frees_of (Some c.in-Some.work) c.loop-innermost.tree) ≡ false = sym c.speaks.ensures ∙ c.if-speaks.false in
     let w = ready-work c.in-Some.work c.loop-innermost.innermost c.loop-innermost.tree c.in-Some.is c.loop-innermost.invariant.ready quiet in
-    rests c.in-Some.work (standing c.loop-innermost.tree.frees w.0) (pool_of c.loop-innermost.tree) w.1.sound
+    work-rests c.in-Some.work c.loop-innermost.tree.frees (pool_of c.loop-innermost.tree) w

@@ -7,6 +7,7 @@ use Rattle.tree_specs.specs.declared.frame.CallFrame.TheVariants.{Returning}
 use Rattle.tree_specs.specs.Whole.{Whole}
 use Rattle.host_core.specs.Hosts.{begins_with, view_at, stack_of}
 use Rattle.host_core.proofs.Calling.{open_question, is-asked, returns, returned-ready}
+use Rattle.destructors.proofs.Callers.{call-alone}
 use Rattle.host_core.proofs.works.answer_on.Goals as goal
 
 pub answer-requires-clause-asked : goal.answer-requires-clause-asked
@@ -17,7 +18,8 @@ answer-requires-clause-asked c =
 pub answer-requires-clause-awaiting : goal.answer-requires-clause-awaiting
 answer-requires-clause-awaiting c =
     let q = open_question c.args.now.now c.requires.asks in
-    record { caller = Returning c.in-Act-Ret.value; callers = stack_of c.args.parts.now.callers.items; whole = subst (λ (z : Input). Whole (view_at (begins_with q.0 z) c.args.parts.now)) (c.in-Act-Ret.is ∙ ap input.Act c.in-Act-Ret.field-0-is) (c.requires.whole q.0 q.1) }
+    call-alone (Returning c.in-Act-Ret.value) c.args.parts.now.objects.works (stack_of c.args.parts.now.callers.items) c.args.parts.now.objects.pool
+    (subst (λ (z : Input). Whole (view_at (begins_with q.0 z) c.args.parts.now)) (c.in-Act-Ret.is ∙ ap input.Act c.in-Act-Ret.field-0-is) (c.requires.whole q.0 q.1))
 
 pub returns-in-Act-Ret-clause-along : goal.returns-in-Act-Ret-clause-along
 returns-in-Act-Ret-clause-along c = λ q e.

@@ -1,8 +1,10 @@
-use Rattle.std.proofs.Common.{subst, arith}
+use Rattle.std.proofs.Common.{sym, ◌∙◌, subst, arith}
 use Rattle.host_core.specs.declared.active.Active.{Active}
 use Rattle.host_core.specs.declared.active.Active.TheVariants as active
 use Rattle.host_core.specs.Hosts.{Onward, IsReady, view_in, stack_of}
 use Rattle.host_core.proofs.Onward.{stays, along-then}
+use Rattle.object_pool.specs.Objects.{frees_in}
+use Rattle.host_core.proofs.CallSteps.{free-speaks}
 use Rattle.host_core.proofs.Calling.{caller-speaks}
 use Rattle.host_core.proofs.works.free_up.Goals as goal
 
@@ -23,3 +25,7 @@ loop-parts-preserved c = record {
   ready = subst (λ (z : Active). IsReady z c.free_on.new.parts) c.in_default.is c.free_on.ensures.ready;
   along = along-then _ _ _ c.loop-parts.invariant.along (subst (λ (z : Active). Onward (view_in active.Freeing c.loop-parts.parts) (view_in z c.free_on.new.parts)) c.in_default.is c.free_on.ensures.onward).along;
 }
+
+pub returns-clause-settled : goal.returns-clause-settled
+returns-clause-settled c =
+    free-speaks (frees_in c.loop-parts.parts.objects) (stack_of c.loop-parts.parts.callers.items) c.loop-parts.invariant.ready.parts.at_work ∙ sym c.announces.ensures ∙ c.loop-parts-test.false

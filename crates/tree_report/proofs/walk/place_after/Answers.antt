@@ -11,6 +11,6 @@ returns-in-Some-clause-deep c =
 
 pub loop-depth-preserved : goal.loop-depth-preserved
 loop-depth-preserved c = record {
-  left = up-place c.args.tree.now.rows c.loop-depth.depth c.loop-depth.owner c.in_ok-owner.owner c.in-Of.x _ c.loop-depth-test.true c.in-Of.is c.in_default-next_kid.ensures c.in_ok-owner.ensures c.loop-depth.invariant.left;
-  deep = up-deep c.args.tree.now.rows c.loop-depth.depth c.loop-depth.owner c.in_ok-owner.owner c.in-Of.x c.loop-depth-test.true c.in-Of.is c.in_ok-owner.ensures c.loop-depth.invariant.deep;
+  left = up-place c.args.tree.now.rows c.loop-depth.depth c.loop-depth.owner c.in_ok-owner.owner c.in-Of.x _ c.loop-depth-test.true c.in-Of.is c.in_default-next_kid.ensures c.in_ok-owner.ensures.owner c.loop-depth.invariant.left;
+  deep = up-deep c.args.tree.now.rows c.loop-depth.depth c.loop-depth.owner c.in_ok-owner.owner c.in-Of.x c.loop-depth-test.true c.in-Of.is c.in_ok-owner.ensures.owner c.loop-depth.invariant.deep;
 }

@@ -26,4 +26,4 @@ returns-clause-begins c = search rules
 pub returns-clause-same : goal.returns-clause-same
 returns-clause-same c =
     (silent-rows (record { works = c.args.work ∷ before c.args.self.now c.args.tree.now.frees; pool = pool_of c.args.tree.now }) _
-    (begins c.args.work (record { 0 = 0 }) (frees_of c.args.self.now c.args.tree.now) c.requires.first c.requires.awaiting) (returns-clause-begins c).moves_on).1
+    (begins c.args.work (frees_of c.args.self.now c.args.tree.now) c.requires.first c.requires.awaiting) (returns-clause-begins c).moves_on).1

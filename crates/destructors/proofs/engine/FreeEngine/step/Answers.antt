@@ -1,7 +1,7 @@
 use Rattle.std.proofs.Common.{rules, ◌∷◌, sym, ◌∙◌}
 use Rattle.tree_links.specs.Links.{pool_of}
-use Rattle.destructors.specs.Works.{standing, AtWork}
-use Rattle.destructors.proofs.Keeping.{rests}
+use Rattle.destructors.specs.Works.{AtWork}
+use Rattle.destructors.proofs.Keeping.{work-rests}
 use Rattle.destructors.proofs.Counting.{step-changes}
 use Rattle.destructors.proofs.Settling.{tells, told-settled}
 use Rattle.destructors.proofs.engine.FreeEngine.step.Goals as goal
@@ -29,4 +29,4 @@ returns-clause-goes_on c =
 pub advance-progress-requires-clause-rests : goal.advance-progress-requires-clause-rests
 advance-progress-requires-clause-rests c =
     let w : AtWork (c.in-Some.work ∷ c.args.tree.now.frees) (pool_of c.args.tree.now) = rw (sym c.self.view_is ∙ c.in-Some.is) at c.requires.at_work in
-    rests c.in-Some.work (standing c.args.tree.now.frees w.0) (pool_of c.args.tree.now) w.1.sound
+    work-rests c.in-Some.work c.args.tree.now.frees (pool_of c.args.tree.now) w

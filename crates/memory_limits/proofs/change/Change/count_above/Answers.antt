@@ -13,7 +13,7 @@ returns-in_default-clause-limited c =
 pub returns-in_default-parent-clause-limited : goal.returns-in_default-parent-clause-limited
 returns-in_default-parent-clause-limited c =
     c.count_at.ensures.limited
-    ∙ sym (no-owner c.loop-steps.steps c.args.self c.args.tree.now.rows c.in-Of.x (listed c.loop-steps.all.pairs) c.loop-steps-test.true (sym c.parent.ensures ∙ c.in_default-parent.is))
+    ∙ sym (no-owner c.loop-steps.steps c.args.self c.args.tree.now.rows c.in-Of.x (listed c.loop-steps.all.pairs) c.loop-steps-test.true (sym c.parent.ensures.owner ∙ c.in_default-parent.is))
     ∙ ap (λ (o : Owner). climbed c.loop-steps.steps c.args.self c.args.tree.now.rows (Some o) (listed c.loop-steps.all.pairs)) (sym c.in-Of.is)
     ∙ c.loop-steps.invariant.limited ∙ climbs-all c.args.self c.args.tree.now.rows (Of c.args.x) (listed c.args.all.now.pairs) c.len-steps.ensures.sound.forest.rooted
 

@@ -23,7 +23,7 @@ returns-in_default c = sym (above-all c.loop-steps.steps c.args.tree.now.rows c.
 pub returns-in_default-row : goal.returns-in_default-row
 unfolding fits
 returns-in_default-row c =
-    let none = sym c.row.ensures ∙ ap option_copied c.in_default-row.is in
+    let none = sym c.row.ensures.row ∙ ap option_copied c.in_default-row.is in
     sym (topmost c.loop-steps.steps c.args.tree.now.rows c.args.wanted c.in-Of.x c.loop-steps-test.true (over-unlimited c.args.tree.now.rows c.args.wanted c.in-Of.x (ap limit_in none)) (ap owner_in none))
     ∙ ap (λ (o : Owner). checked (fits_in c.loop-steps.steps c.args.tree.now.rows c.args.wanted (Some o))) (sym c.in-Of.is) ∙ c.loop-steps.invariant
 
@@ -37,7 +37,7 @@ returns-in_err-check_one c =
 pub returns-in_default-owner : goal.returns-in_default-owner
 unfolding fits
 returns-in_default-owner c =
-    let lone = ap owner_in (sym c.row.ensures ∙ ap option_copied c.in-Some.is) ∙ c.in_default-owner.is in
+    let lone = ap owner_in (sym c.row.ensures.row ∙ ap option_copied c.in-Some.is) ∙ c.in_default-owner.is in
     sym (topmost c.loop-steps.steps c.args.tree.now.rows c.args.wanted c.in-Of.x c.loop-steps-test.true (sym c.check_one.ensures ∙ c.in_ok-check_one.was) lone)
     ∙ ap (λ (o : Owner). checked (fits_in c.loop-steps.steps c.args.tree.now.rows c.args.wanted (Some o))) (sym c.in-Of.is) ∙ c.loop-steps.invariant
 

@@ -11,7 +11,7 @@ pub returns-then-is_empty-clause-sums : goal.returns-then-is_empty-clause-sums
 returns-then-is_empty-clause-sums c = subst (λ (ls : List Limited). AllSums ls c.args.tree.now.rows) (sym (c.is_empty.ensures.0 c.if-is_empty.true)) tt
 
 pub returns-in_default-clause-sums : goal.returns-in_default-clause-sums
-returns-in_default-clause-sums c = settles c.args.tree.now.rows c.args.x c.args.self.now.limited (sym c.parent.ensures ∙ c.in_default.is) c.requires
+returns-in_default-clause-sums c = settles c.args.tree.now.rows c.args.x c.args.self.now.limited (sym c.parent.ensures.owner ∙ c.in_default.is) c.requires
 
 pub returns-clause-sums : goal.returns-clause-sums
 returns-clause-sums c =
@@ -20,9 +20,9 @@ returns-clause-sums c =
     c.count_above.ensures.limited
     ∙ ap (λ (n : ℕ). map (counts (come n) c.args.tree.now.rows (Of c.in-Some-nearest.nearest)) (listed c.self.inside.limited.pairs)) c.sum-more.ensures
     ∙ ap (λ (v : Limits). map (counts more c.args.tree.now.rows (Of c.in-Some-nearest.nearest)) v.limited) c.self.view_is
-    ∙ nearest-counts more c.args.tree.now.rows c.in-Some.owner c.in-Some-nearest.nearest c.args.self.now.limited c.len-rows.ensures.sound.forest.rooted (sym c.nearest.ensures ∙ c.in-Some-nearest.is) in
+    ∙ nearest-counts more c.args.tree.now.rows c.in-Some.owner c.in-Some-nearest.nearest c.args.self.now.limited c.parent.ensures.sound.forest.rooted (sym c.nearest.ensures.nearest ∙ c.in-Some-nearest.is) in
     subst (λ (ls : List Limited). AllSums ls c.args.tree.now.rows) (sym all)
-    (joins c.args.tree.now.rows c.args.tree.now.next c.args.x c.in-Some.owner c.args.self.now.limited c.len-rows.ensures.sound (sym c.parent.ensures ∙ c.in-Some.is) c.requires)
+    (joins c.args.tree.now.rows c.args.tree.now.next c.args.x c.in-Some.owner c.args.self.now.limited c.parent.ensures.sound (sym c.parent.ensures.owner ∙ c.in-Some.is) c.requires)
 
 pub returns-clause-bounds : goal.returns-clause-bounds
 returns-clause-bounds c =
@@ -33,5 +33,5 @@ returns-clause-bounds c =
 pub returns-in_default-nearest-clause-sums : goal.returns-in_default-nearest-clause-sums
 returns-in_default-nearest-clause-sums c =
     subst (λ (ls : List Limited). AllSums ls c.args.tree.now.rows)
-    (none-counts (come (sum_inside c.args.tree.now.rows (Of c.args.x))) c.args.tree.now.rows c.in-Some.owner c.args.self.now.limited c.len-rows.ensures.sound.forest.rooted (sym c.nearest.ensures ∙ c.in_default-nearest.is))
-    (joins c.args.tree.now.rows c.args.tree.now.next c.args.x c.in-Some.owner c.args.self.now.limited c.len-rows.ensures.sound (sym c.parent.ensures ∙ c.in-Some.is) c.requires)
+    (none-counts (come (sum_inside c.args.tree.now.rows (Of c.args.x))) c.args.tree.now.rows c.in-Some.owner c.args.self.now.limited c.parent.ensures.sound.forest.rooted (sym c.nearest.ensures.nearest ∙ c.in_default-nearest.is))
+    (joins c.args.tree.now.rows c.args.tree.now.next c.args.x c.in-Some.owner c.args.self.now.limited c.parent.ensures.sound (sym c.parent.ensures.owner ∙ c.in-Some.is) c.requires)

@@ -18,9 +18,9 @@ returns-clause-left c =
     c.count_above.ensures.limited
     ∙ ap (λ (n : ℕ). map (counts (go n) c.args.tree.now.rows (Of c.in-Some.nearest)) (listed c.self.inside.limited.pairs)) c.sum-less.ensures
     ∙ ap (λ (v : Limits). map (counts gone c.args.tree.now.rows (Of c.in-Some.nearest)) v.limited) c.self.view_is
-    ∙ nearest-counts gone c.args.tree.now.rows c.args.from c.in-Some.nearest c.args.self.now.limited c.len-rows.ensures.sound.forest.rooted (sym c.nearest.ensures ∙ c.in-Some.is) in
+    ∙ nearest-counts gone c.args.tree.now.rows c.args.from c.in-Some.nearest c.args.self.now.limited c.nearest.ensures.sound.forest.rooted (sym c.nearest.ensures.nearest ∙ c.in-Some.is) in
     subst (λ (ls : List Limited). AllSums ls (changed left_row c.args.tree.now.rows c.args.x)) (sym all)
-    (leaves c.args.tree.now.rows c.args.tree.now.next c.args.x c.args.from c.args.self.now.limited c.len-rows.ensures.sound c.requires.is c.requires.apart c.requires.sums)
+    (leaves c.args.tree.now.rows c.args.tree.now.next c.args.x c.args.from c.args.self.now.limited c.nearest.ensures.sound c.requires.is c.requires.apart c.requires.sums)
 
 pub returns-clause-bounds : goal.returns-clause-bounds
 returns-clause-bounds c =
@@ -31,5 +31,5 @@ returns-clause-bounds c =
 pub returns-in_default-clause-left : goal.returns-in_default-clause-left
 returns-in_default-clause-left c =
     subst (λ (ls : List Limited). AllSums ls (changed left_row c.args.tree.now.rows c.args.x))
-    (none-counts (go (sum_inside c.args.tree.now.rows (Of c.args.x))) c.args.tree.now.rows c.args.from c.args.self.now.limited c.len-rows.ensures.sound.forest.rooted (sym c.nearest.ensures ∙ c.in_default.is))
-    (leaves c.args.tree.now.rows c.args.tree.now.next c.args.x c.args.from c.args.self.now.limited c.len-rows.ensures.sound c.requires.is c.requires.apart c.requires.sums)
+    (none-counts (go (sum_inside c.args.tree.now.rows (Of c.args.x))) c.args.tree.now.rows c.args.from c.args.self.now.limited c.nearest.ensures.sound.forest.rooted (sym c.nearest.ensures.nearest ∙ c.in_default.is))
+    (leaves c.args.tree.now.rows c.args.tree.now.next c.args.x c.args.from c.args.self.now.limited c.nearest.ensures.sound c.requires.is c.requires.apart c.requires.sums)

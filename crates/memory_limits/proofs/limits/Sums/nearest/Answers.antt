@@ -12,17 +12,17 @@ loop-steps-init c =
 
 pub loop-steps-preserved : goal.loop-steps-preserved
 loop-steps-preserved c =
-    ap (nearest_in (c.loop-steps.steps - 1) c.args.self.now.limited c.args.tree.now.rows) (sym c.in_ok-at.was ∙ c.parent.ensures)
+    ap (nearest_in (c.loop-steps.steps - 1) c.args.self.now.limited c.args.tree.now.rows) (sym c.in_ok-at.was ∙ c.parent.ensures.owner)
     ∙ sym (nearest-above c.loop-steps.steps c.args.self.now.limited c.args.tree.now.rows c.in-Of.x c.loop-steps-test.true (ap is_some (sym c.find.ensures) ∙ is_some-map (limited_at c.in-Of.x.0) c.find.result ∙ sym c.is_some.ensures ∙ c.if-is_some.false))
     ∙ ap (λ (o : Owner). nearest_in c.loop-steps.steps c.args.self.now.limited c.args.tree.now.rows (Some o)) (sym c.in-Of.is) ∙ c.loop-steps.invariant
 
-pub returns-in_default : goal.returns-in_default
-returns-in_default c = sym (nearest-root c.loop-steps.steps c.args.self.now.limited c.args.tree.now.rows c.loop-steps.at c.in_default.not-Of) ∙ c.loop-steps.invariant
+pub returns-in_default-clause-nearest : goal.returns-in_default-clause-nearest
+returns-in_default-clause-nearest c = sym (nearest-root c.loop-steps.steps c.args.self.now.limited c.args.tree.now.rows c.loop-steps.at c.in_default.not-Of) ∙ c.loop-steps.invariant
 
-pub returns-then-is_some : goal.returns-then-is_some
-returns-then-is_some c =
+pub returns-then-is_some-clause-nearest : goal.returns-then-is_some-clause-nearest
+returns-then-is_some-clause-nearest c =
     sym (nearest-here c.loop-steps.steps c.args.self.now.limited c.args.tree.now.rows c.in-Of.x c.loop-steps-test.true (ap is_some (sym c.find.ensures) ∙ is_some-map (limited_at c.in-Of.x.0) c.find.result ∙ sym c.is_some.ensures ∙ c.if-is_some.true))
     ∙ ap (λ (o : Owner). nearest_in c.loop-steps.steps c.args.self.now.limited c.args.tree.now.rows (Some o)) (sym c.in-Of.is) ∙ c.loop-steps.invariant
 
-pub returns : goal.returns
-returns c = sym (nearest-end c.loop-steps.steps c.args.self.now.limited c.args.tree.now.rows c.loop-steps.at c.loop-steps-test.false) ∙ c.loop-steps.invariant
+pub returns-clause-nearest : goal.returns-clause-nearest
+returns-clause-nearest c = sym (nearest-end c.loop-steps.steps c.args.self.now.limited c.args.tree.now.rows c.loop-steps.at c.loop-steps-test.false) ∙ c.loop-steps.invariant

@@ -13,10 +13,10 @@ pub returns-clause-sums : goal.returns-clause-sums
 returns-clause-sums c =
     let all : listed c.count_above.new.all.pairs ≡ map (counts (record { less = c.args.before; more = size_at c.args.tree.now.rows c.args.x }) c.args.tree.now.rows (Of c.args.x)) c.args.self.now.limited =
     c.count_above.ensures.limited
-    ∙ ap (λ (n : ℕ). map (counts (record { less = c.args.before; more = n }) c.args.tree.now.rows (Of c.args.x)) (listed c.self.inside.limited.pairs)) c.size-more.ensures
+    ∙ ap (λ (n : ℕ). map (counts (record { less = c.args.before; more = n }) c.args.tree.now.rows (Of c.args.x)) (listed c.self.inside.limited.pairs)) c.size-more.ensures.size
     ∙ ap (λ (v : Limits). map (counts (record { less = c.args.before; more = size_at c.args.tree.now.rows c.args.x }) c.args.tree.now.rows (Of c.args.x)) v.limited) c.self.view_is in
     subst (λ (ls : List Limited). AllSums ls c.args.tree.now.rows) (sym all)
-    (resizes c.args.tree.now.rows c.args.tree.now.next c.args.x c.args.before c.args.self.now.limited c.len-rows.ensures.sound c.requires.plain c.requires.sums)
+    (resizes c.args.tree.now.rows c.args.tree.now.next c.args.x c.args.before c.args.self.now.limited c.size-more.ensures.sound c.requires.plain c.requires.sums)
 
 pub returns-clause-bounds : goal.returns-clause-bounds
 returns-clause-bounds c =

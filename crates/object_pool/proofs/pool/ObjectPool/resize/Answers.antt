@@ -19,7 +19,7 @@ resized-requires-clause-plain c =
 
 pub resized-requires-clause-sums : goal.resized-requires-clause-sums
 resized-requires-clause-sums c =
-    let size = ap (λ (n : ℕ). changed (sized_row n) c.set_size.new.self.rows c.args.x) c.size-before.ensures in
+    let size = ap (λ (n : ℕ). changed (sized_row n) c.set_size.new.self.rows c.args.x) c.size-before.ensures.size in
     let rows = ap (λ (p : Pool). changed (sized_row (size_at c.self.inside.tree.rows c.args.x)) p.rows c.args.x) c.set_size.ensures.rows in
     subst (AllSums c.self.inside.sums.limited) (sym (size ∙ rows ∙ sized-back c.self.inside.tree.rows c.args.x c.args.size)) c.self.invariant.limits.sums
 

@@ -7,10 +7,10 @@ use Rattle.schedule_replay.specs.States.{reading_of}
 use Rattle.schedule_replay.proofs.ByteLaws.{ends-line, breaks-line, refuses-piece, late-after}
 use Rattle.schedule_replay.proofs.reading.Replay.end_line.Goals as goal
 
-pub returns-then-self-gt-LINES_LIMIT-clause-taken : goal.returns-then-self-gt-LINES_LIMIT-clause-taken
-returns-then-self-gt-LINES_LIMIT-clause-taken c =
+pub returns-then-is_late-clause-taken : goal.returns-then-is_late-clause-taken
+returns-then-is_late-clause-taken c =
     refuses-piece (reading_of c.args.self.now) (10 ∷ []) (reading_of c.refuse.new.self) Limit c.refuse.result c.refuse.ensures.refused
-    (λ bytes. late-after (reading_of c.args.self.now) 10 bytes c.requires c.if-self-gt-LINES_LIMIT.true)
+    (λ bytes. late-after (reading_of c.args.self.now) 10 bytes c.requires (c.is_late.ensures.0 c.if-is_late.true))
 
 pub returns-in_err-take_line-clause-taken : goal.returns-in_err-take_line-clause-taken
 returns-in_err-take_line-clause-taken c =

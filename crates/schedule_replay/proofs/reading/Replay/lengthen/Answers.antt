@@ -12,11 +12,11 @@ returns-then-is_empty-clause-taken c =
     let none = is-empty c.args.run.now (eqb-true _ _ (sym c.is_empty.ensures ∙ c.if-is_empty.true)) in
     subst (λ (run : List ℕ). Advances (reading_of c.args.self.now) run (reading_of c.args.self.now)) (sym none) (advances-none (reading_of c.args.self.now))
 
-pub returns-then-self-gt-LINES_LIMIT-clause-taken : goal.returns-then-self-gt-LINES_LIMIT-clause-taken
-returns-then-self-gt-LINES_LIMIT-clause-taken c =
+pub returns-then-is_late-clause-taken : goal.returns-then-is_late-clause-taken
+returns-then-is_late-clause-taken c =
     let some : 0 < length c.args.run.now = grind (arith, nat_tests) in
     refuses-piece (reading_of c.args.self.now) c.args.run.now (reading_of c.refuse.new.self) Limit c.refuse.result c.refuse.ensures.refused
-    (λ bytes. late-run (reading_of c.args.self.now) c.args.run.now bytes c.requires.ready some c.if-self-gt-LINES_LIMIT.true)
+    (λ bytes. late-run (reading_of c.args.self.now) c.args.run.now bytes c.requires.ready some (c.is_late.ensures.0 c.if-is_late.true))
 
 pub returns-then-run-len-clause-taken : goal.returns-then-run-len-clause-taken
 returns-then-run-len-clause-taken c =

@@ -6,10 +6,10 @@ use Rattle.schedule_replay.specs.States.{reading_of}
 use Rattle.schedule_replay.proofs.ByteLaws.{ends-line, breaks-line, here-ready, onto, refuses-piece, late-run, long-line}
 use Rattle.schedule_replay.proofs.reading.Replay.take_here.Goals as goal
 
-pub returns-then-self-gt-LINES_LIMIT-clause-taken : goal.returns-then-self-gt-LINES_LIMIT-clause-taken
-returns-then-self-gt-LINES_LIMIT-clause-taken c =
+pub returns-then-is_late-clause-taken : goal.returns-then-is_late-clause-taken
+returns-then-is_late-clause-taken c =
     refuses-piece (reading_of c.args.self.now) (c.args.line.now ++ 10 ∷ []) (reading_of c.refuse.new.self) Limit c.refuse.result c.refuse.ensures.refused
-    (λ bytes. late-run (reading_of c.args.self.now) (c.args.line.now ++ 10 ∷ []) bytes c.requires.ready (omega (arith, length-append c.args.line.now (10 ∷ []))) c.if-self-gt-LINES_LIMIT.true)
+    (λ bytes. late-run (reading_of c.args.self.now) (c.args.line.now ++ 10 ∷ []) bytes c.requires.ready (omega (arith, length-append c.args.line.now (10 ∷ []))) (c.is_late.ensures.0 c.if-is_late.true))
 
 pub returns-then-line-gt-LINE_LIMIT-clause-taken : goal.returns-then-line-gt-LINE_LIMIT-clause-taken
 returns-then-line-gt-LINE_LIMIT-clause-taken c =
