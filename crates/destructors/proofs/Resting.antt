@@ -25,28 +25,39 @@ use Rattle.destructors.specs.Frees.{OpenFrees, before, frees_of, moves, next_of,
 use Rattle.destructors.specs.Works.{AtWork, IsAtWork}
 use Rattle.destructors.specs.Callers.{call_view}
 use Rattle.destructors.specs.Engine.{IsAsked, AreKept}
+use Rattle.tree_specs.specs.Alone.{FreesWait}
+use Rattle.destructors.proofs.Callers.{call-alone}
 use Rattle.destructors.proofs.Settling.{still, asks-hooked}
 
--- a new object
-pub added-rests : (o : Owner) (size : ℕ) (name : List ℕ) (p : Pool) → is_owner p.rows o ≡ true → Whole (call_view (Asking Quiet) [] [] p) → Whole (call_view (Asking Quiet) [] [] (add p Plain o size name))
-added-rests o size name p there w = record {
-  sound = new-sound (frame.Call (Asking Quiet)) (frame.Call (Asking Quiet)) Plain o size name [] p w.sound there (λ t e. cc) (λ x. refl) tt;
-  seated = w.seated;
-  light = omega arith;
+-- objects with which nothing goes on, in a host that waits
+hosted : (p : Pool) → FreesWait [] p → Whole (call_view (Asking Quiet) [] [] p)
+hosted p w = record {
+  sound = record { started = w.sound.started; valid = w.sound.valid; forest = w.sound.forest; refers = w.sound.refers; open_frees = w.sound.open_frees; waiting = tt; rests = tt };
+  seated = tt;
+  light = w.light;
 }
 
+-- a new object
+pub added-rests : (o : Owner) (size : ℕ) (name : List ℕ) (p : Pool) → is_owner p.rows o ≡ true → FreesWait [] p → FreesWait [] (add p Plain o size name)
+added-rests o size name p there w = call-alone (Asking Quiet) [] [] (add p Plain o size name) (record {
+  sound = new-sound (frame.Call (Asking Quiet)) (frame.Call (Asking Quiet)) Plain o size name [] p (hosted p w).sound there (λ t e. cc) (λ x. refl) tt;
+  seated = tt;
+  light = omega arith;
+})
+
 -- an object is given the destructor 16
-pub hooked-rests : (x : Obj) (p : Pool) → refusals p (call.Hook x 16) ≡ [] → Whole (call_view (Asking Quiet) [] [] p) → Whole (call_view (Asking Quiet) [] [] (set_hook p x 16))
+pub hooked-rests : (x : Obj) (p : Pool) → refusals p (call.Hook x 16) ≡ [] → FreesWait [] p → FreesWait [] (set_hook p x 16)
 hooked-rests x p none w =
     let doing : Whole (call_view (Doing Quiet (call.Hook x 16)) [] [] p) =
     record {
-      sound = stands (frame.Call (Asking Quiet)) (frame.Call (Doing Quiet (call.Hook x 16))) [] [] p (λ y. refl) tt tt w.sound;
-      seated = w.seated;
+      sound = stands (frame.Call (Asking Quiet)) (frame.Call (Doing Quiet (call.Hook x 16))) [] [] p (λ y. refl) tt tt (hosted p w).sound;
+      seated = tt;
       light = w.light;
     } in
     let goes : step (frame.Call (Doing Quiet (call.Hook x 16))) p ≡ Do.Go (frame.Call (Telling Quiet reply.Ok)) (set_hook p x 16) = ap (λ (check : Check). call_step check Quiet (call.Hook x 16) p) none in
     let telling : Whole (call_view (Telling Quiet reply.Ok) [] [] (set_hook p x 16)) = rw goes at (whole-kept (call_view (Doing Quiet (call.Hook x 16)) [] [] p) 0 doing) in
-    event-whole (call_view (Telling Quiet reply.Ok) [] [] (set_hook p x 16)) (Told (event.Replied reply.Ok)) (frame.Call (Asking Quiet)) (set_hook p x 16) telling refl
+    call-alone (Asking Quiet) [] [] (set_hook p x 16)
+    (event-whole (call_view (Telling Quiet reply.Ok) [] [] (set_hook p x 16)) (Told (event.Replied reply.Ok)) (frame.Call (Asking Quiet)) (set_hook p x 16) telling refl)
 
 first-is : {A B : Type 0} (a : A × B) (u : A) → a.0 ≡ u → a ≡ (u, a.1)
 first-is {A = A} {B = B} (v, b) u e = ap (λ (z : A). let y : A × B = (z, b) in y) e

@@ -4,6 +4,9 @@ use Rattle.tree_specs.specs.declared.frame.FreeFrame.{FreeFrame}
 use Rattle.tree_specs.specs.declared.frame.FreeFrame.TheVariants.{Unlinking, Releasing, Giving, Beginning, Hooked, Judged, Leaving, Looping, Trying, Tried, Ending}
 use Rattle.tree_links.specs.Links.{Links, pool_of}
 use Rattle.destructors.specs.Frees.{before, frees_of, speaking}
+use Rattle.tree_specs.specs.Alone.{FreesWait}
+use Rattle.references.specs.Pairs.{Pairs}
+use Rattle.references.specs.Rows.{AreRefsOf}
 use Rattle.destructors.specs.Works.{AtWork}
 use Rattle.destructors.specs.Room.{wanted}
 
@@ -35,6 +38,12 @@ HasRoom innermost tree = wanted (before innermost tree.frees) tree.rows ≤ leng
 abbrev pub MayMove : Option FreeFrame → Links → Type 0
 MayMove None tree = tree.frees ≡ []
 MayMove (Some f) tree = AtWork (f ∷ tree.frees) (pool_of tree) ⊎ (speaking (frees_of (Some f) tree) ≡ true)
+
+-- no free is open, and none of the objects is asked or dying
+pub record IsAtRest (tree : Links) (pairs : Pairs) : Type 0 where
+  pub alone : tree.frees ≡ []
+  pub waiting : FreesWait [] (pool_of tree)
+  pub refs : AreRefsOf pairs.pairs tree.rows
 
 pub record Ready (innermost : Option FreeFrame) (tree : Links) : Type 0 where
   pub moves : MayMove innermost tree

@@ -4,8 +4,6 @@ ghost use Rattle.tree_specs.specs.Table.{free_taken};
 ghost use Rattle.tree_links.specs.Links.{pool_of};
 ghost use Rattle.destructors.specs.Frees.{before};
 
-use crate::motion::Outlook;
-use crate::moves::outlook;
 use crate::works::{advance, settle};
 use references::Refs;
 use std::marker::Model;
@@ -169,14 +167,27 @@ impl FreeEngine {
     }
 
     /// Whether the next step tells an event: a reference is dropped, or an object refuses, accepts, is moved or is gone.
+    /// Since it is known that the innermost work tells or asks something, or is over, most works say so themselves.
     pub fn announces(&self, tree: &Tree, refs: &Refs) -> bool
         requires refs { AreRefsOf refs.now.pairs tree.now.rows }
         requires kept { AreKept self.now tree.now }
+        requires settled { speaking (frees_of self.now tree.now) ≡ true }
         ensures { result ≡ is_event (next_of (frees_of self.now tree.now)).0 }
     {
-        match self.innermost {
-            None | Some(FreeFrame::Hooked { .. } | FreeFrame::Leaving { .. }) => false,
-            Some(work) => matches!(outlook(work, tree, refs), Outlook::Telling),
+        let Some(work) = self.innermost else {
+            return false;
+        };
+        match work {
+            FreeFrame::Hooked { .. }
+            | FreeFrame::Leaving { .. }
+            | FreeFrame::Trying { .. }
+            | FreeFrame::Ending { .. } => false,
+            FreeFrame::Beginning { x } => refs.newest(tree, x).is_some(),
+            FreeFrame::Looping {
+                x,
+                purpose: Purpose::Emptying,
+            } => tree.first_kid(Owner::Of(x)).is_some(),
+            _ => true,
         }
     }
 

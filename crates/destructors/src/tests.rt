@@ -1,16 +1,11 @@
 ghost use Rattle.std.specs.Prelude.{◌≡◌, ◌+◌, ◌≤◌, not, ◌&&◌, IfOk, OnOk, true, [], length};
-ghost use Rattle.tree_specs.specs.declared.frame.CallFrame.TheVariants.{Asking};
-ghost use Rattle.tree_specs.specs.declared.question.Ask.TheVariants.{Quiet};
 ghost use Rattle.tree_specs.specs.Calls.{is_plain_row};
 ghost use Rattle.tree_specs.specs.Pool.{is_row, is_dying, row_of, target_at};
 ghost use Rattle.tree_specs.specs.Targets.{newest_ref};
-ghost use Rattle.tree_specs.specs.Whole.{Whole};
-ghost use Rattle.tree_links.specs.Links.{pool_of};
 ghost use Rattle.references.specs.Rows.{AreRefsOf};
 ghost use Rattle.destructors.specs.Frees.{frees_of, speaking};
 ghost use Rattle.destructors.specs.Works.{IsAtWork, IsAwaiting};
-ghost use Rattle.destructors.specs.Callers.{call_view};
-ghost use Rattle.destructors.specs.Engine.{AreKept, HasRoom};
+ghost use Rattle.destructors.specs.Engine.{AreKept, HasRoom, IsAtRest};
 
 use crate::FreeEngine;
 use references::Refs;
@@ -52,11 +47,8 @@ fn add(
     alloc: Global,
     owner: Owner,
 ) -> Result<Obj, Fail>
-    requires refs { AreRefsOf refs.now.pairs tree.old.rows }
-    requires at_rest { Whole (call_view (Asking Quiet) [] [] (pool_of tree.old)) }
-    ensures refs { AreRefsOf refs.now.pairs tree.new.rows }
-    ensures at_rest { Whole (call_view (Asking Quiet) [] [] (pool_of tree.new)) }
-    ensures works { tree.new.frees ≡ tree.old.frees }
+    requires { IsAtRest tree.old refs.now }
+    ensures { IsAtRest tree.new refs.now }
 {
     tree.reserve(1)?;
     let row = NewRow {
@@ -72,11 +64,8 @@ fn add(
 
 // Gives an object a destructor, in a tree in which nothing is going on.
 fn hook(rt: &impl Abort, tree: &mut Tree, refs: &Refs, x: Obj)
-    requires refs { AreRefsOf refs.now.pairs tree.old.rows }
-    requires at_rest { Whole (call_view (Asking Quiet) [] [] (pool_of tree.old)) }
-    ensures refs { AreRefsOf refs.now.pairs tree.new.rows }
-    ensures at_rest { Whole (call_view (Asking Quiet) [] [] (pool_of tree.new)) }
-    ensures works { tree.new.frees ≡ tree.old.frees }
+    requires { IsAtRest tree.old refs.now }
+    ensures { IsAtRest tree.new refs.now }
 {
     assert!(rt; is_live(tree, x));
     assert!(rt; is_plain(tree, x));
@@ -85,9 +74,7 @@ fn hook(rt: &impl Abort, tree: &mut Tree, refs: &Refs, x: Obj)
 
 // An engine that frees an object of a tree in which nothing is going on.
 fn begin(rt: &impl Abort, tree: &mut Tree, refs: &mut Refs, x: Obj) -> Result<FreeEngine, Fail>
-    requires refs { AreRefsOf refs.old.pairs tree.old.rows }
-    requires at_rest { Whole (call_view (Asking Quiet) [] [] (pool_of tree.old)) }
-    requires alone { tree.old.frees ≡ [] }
+    requires { IsAtRest tree.old refs.old }
     ensures refs { AreRefsOf refs.new.pairs tree.new.rows }
     ensures at_work { IfOk result (λ engine. IsAtWork (frees_of engine tree.new)) }
     ensures settled { IfOk result (λ engine. speaking (frees_of engine tree.new) ≡ true) }

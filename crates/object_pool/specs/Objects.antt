@@ -1,5 +1,5 @@
 -- Objects as their callers see them, and what is kept of them.
-use Rattle.std.specs.Prelude.{◌≡◌, true, ◌+◌, ◌<◌, ◌≤◌, Bool, List, length, Option, Some}
+use Rattle.std.specs.Prelude.{◌≡◌, true, false, ◌+◌, ◌<◌, ◌≤◌, Bool, List, length, Option, Some}
 use Rattle.tree_specs.specs.declared.frame.FreeFrame.{FreeFrame}
 use Rattle.tree_specs.specs.declared.object.Obj.{Obj}
 use Rattle.tree_specs.specs.declared.object.Owner.{Owner}
@@ -16,6 +16,10 @@ pub record Objects : Type 0 where
   pub works : List FreeFrame
   -- the memory for one call is taken
   pub ready : Bool
+
+-- all but the objects and the works stays as it was; the memory for a call is used up
+abbrev pub LeavesRest : Objects → Objects → Type 0
+LeavesRest old new = new ≡ record old { pool = new.pool; works = new.works; ready = false }
 
 -- the open frees
 abbrev pub frees_in : Objects → OpenFrees

@@ -54,7 +54,7 @@ impl ObjectPool {
     ghost use Rattle.destructors.specs.Works.{IsAtWork, IsAwaiting, GoesOn};
     ghost use Rattle.destructors.specs.Moves.{IsLiveRow};
     ghost use Rattle.destructors.specs.Engine.{IsAsked};
-    ghost use Rattle.object_pool.specs.Objects.{frees_in, RefsMayGo};
+    ghost use Rattle.object_pool.specs.Objects.{frees_in, LeavesRest, RefsMayGo};
 
     /// No objects, of which the first gets the number `first`. It takes no memory.
     pub fn new(alloc: Global, first: u64) -> Self
@@ -183,6 +183,7 @@ impl ObjectPool {
         requires unheld { newest_ref self.old.pool.rows x ≡ None }
         ensures begins { Begins (Beginning x ∷ self.old.works) self.old.pool (frees_in self.new) }
         ensures at_work { IsAtWork (frees_in self.new) }
+        ensures rest { LeavesRest self.old self.new }
     {
         self.ready = false;
         self.engine.begin_free(&mut self.tree, &mut self.refs, x);
@@ -196,6 +197,7 @@ impl ObjectPool {
         requires object { target_at self.old.pool.rows x ≡ None }
         ensures begins { Begins (Unlinking owner x ∷ self.old.works) self.old.pool (frees_in self.new) }
         ensures at_work { IsAtWork (frees_in self.new) }
+        ensures rest { LeavesRest self.old self.new }
     {
         self.ready = false;
         self.engine
@@ -208,6 +210,7 @@ impl ObjectPool {
         requires awaiting { IsAwaiting (frees_in self.old) }
         ensures begins { Begins (Looping x Emptying ∷ self.old.works) self.old.pool (frees_in self.new) }
         ensures at_work { IsAtWork (frees_in self.new) }
+        ensures rest { LeavesRest self.old self.new }
     {
         self.ready = false;
         self.engine.begin_kids(&mut self.tree, &mut self.refs, x);
@@ -226,6 +229,7 @@ impl ObjectPool {
 
     /// Whether the next step of the innermost free tells an event.
     pub fn announces(&self) -> bool
+        requires { speaking (frees_in self.now) ≡ true }
         ensures { result ≡ is_event (next_of (frees_in self.now)).0 }
     {
         self.engine.announces(&self.tree, &self.refs)
@@ -237,6 +241,7 @@ impl ObjectPool {
         requires settled { speaking (frees_in self.old) ≡ true }
         ensures steps { Steps (frees_in self.old) result (frees_in self.new) }
         ensures goes_on { GoesOn result (frees_in self.new) }
+        ensures rest { LeavesRest self.old self.new }
     {
         // All that is wanted of `len` is its contract: the objects are a forest.
         let _rows = self.tree.len();

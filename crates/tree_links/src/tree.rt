@@ -7,11 +7,12 @@ use crate::node::{
     write_hook, write_limit, write_mark, write_name, write_size,
 };
 use crate::owner::is_below;
+use crate::works::Works;
 use linked_lanes::Sides;
 use pool_arena::Arena;
 use std::alloc::Global;
 use std::marker::Model;
-use tree_specs::{FreeFrame, Mark, Memory, Name, Obj, Owner, Row};
+use tree_specs::{Mark, Memory, Name, Obj, Owner, Row};
 
 /// The objects and who owns them, with the works of the frees that are open on them. Contracts see the list of
 /// rows, the most recently placed first, the next serial number, and spare: so many rows can be added without
@@ -24,8 +25,8 @@ pub struct Tree {
     /// The first child of the root.
     root: Option<u64>,
     next: u64,
-    /// The works of the frees that are open on them. The innermost is the last.
-    pub(crate) frees: Vec<FreeFrame>,
+    /// The works of the frees that are open on them.
+    pub(crate) works: Works,
 }
 
 impl Model for Tree {
@@ -33,10 +34,9 @@ impl Model for Tree {
 
     ghost Value = { Links };
 
-    ghost use Rattle.std.specs.Prelude.{◌-◌, length, reverse, vec_capacity};
     ghost use Rattle.tree_links.specs.Nodes.{rows_of, IsLinked};
 
-    ghost view = { λ t. record { rows = rows_of t.nodes.pairs t.front; next = t.next; spare = t.nodes.spare; frees = reverse t.frees.items; room = vec_capacity t.frees - length t.frees.items } };
+    ghost view = { λ t. record { rows = rows_of t.nodes.pairs t.front; next = t.next; spare = t.nodes.spare; frees = t.works.frees; room = t.works.room } };
 
     ghost invariant = { λ t. IsLinked t.nodes.pairs t.front t.root t.next };
 }
@@ -71,7 +71,7 @@ impl Tree {
             front: None,
             root: None,
             next: first,
-            frees: Vec::new(alloc),
+            works: Works::new(alloc),
         }
     }
 
@@ -87,7 +87,7 @@ impl Tree {
         ensures room_kept { self.old.room ≤ self.new.room }
     {
         let works = self.nodes.len().checked_add(rows).ok_or(Memory)?;
-        self.frees.reserve(works.checked_add(2).ok_or(Memory)?)?;
+        self.works.reserve(works.checked_add(2).ok_or(Memory)?)?;
         self.nodes.reserve(rows)?;
         Ok(())
     }

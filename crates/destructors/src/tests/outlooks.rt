@@ -1,10 +1,4 @@
-ghost use Rattle.std.specs.Prelude.{◌≡◌, []};
-ghost use Rattle.tree_specs.specs.declared.frame.CallFrame.TheVariants.{Asking};
-ghost use Rattle.tree_specs.specs.declared.question.Ask.TheVariants.{Quiet};
-ghost use Rattle.tree_specs.specs.Whole.{Whole};
-ghost use Rattle.tree_links.specs.Links.{pool_of};
-ghost use Rattle.references.specs.Rows.{AreRefsOf};
-ghost use Rattle.destructors.specs.Callers.{call_view};
+ghost use Rattle.destructors.specs.Engine.{IsAtRest};
 
 use super::add;
 use crate::motion::Outlook;
@@ -49,9 +43,7 @@ fn show_that_it_is_known_before_a_move_whether_it_tells_something(
     tree: &mut Tree,
     refs: &mut Refs,
 ) -> Result<(), Fail>
-    requires refs { AreRefsOf refs.old.pairs tree.old.rows }
-    requires at_rest { Whole (call_view (Asking Quiet) [] [] (pool_of tree.old)) }
-    requires alone { tree.old.frees ≡ [] }
+    requires { IsAtRest tree.old refs.old }
 {
     let top = add(rt, tree, refs, alloc, Owner::Root)?;
     add(rt, tree, refs, alloc, Owner::Of(top))?;

@@ -1,10 +1,4 @@
-ghost use Rattle.std.specs.Prelude.{◌≡◌, []};
-ghost use Rattle.tree_specs.specs.declared.frame.CallFrame.TheVariants.{Asking};
-ghost use Rattle.tree_specs.specs.declared.question.Ask.TheVariants.{Quiet};
-ghost use Rattle.tree_specs.specs.Whole.{Whole};
-ghost use Rattle.tree_links.specs.Links.{pool_of};
-ghost use Rattle.references.specs.Rows.{AreRefsOf};
-ghost use Rattle.destructors.specs.Callers.{call_view};
+ghost use Rattle.destructors.specs.Engine.{IsAtRest};
 
 use super::{add, ask, begin, done, event, hook, nest};
 use references::Refs;
@@ -45,9 +39,7 @@ fn show_that_a_number_that_is_no_object_is_freed_at_once(
     tree: &mut Tree,
     refs: &mut Refs,
 ) -> Result<(), Fail>
-    requires refs { AreRefsOf refs.old.pairs tree.old.rows }
-    requires at_rest { Whole (call_view (Asking Quiet) [] [] (pool_of tree.old)) }
-    requires alone { tree.old.frees ≡ [] }
+    requires { IsAtRest tree.old refs.old }
 {
     let mut engine = begin(rt, tree, refs, Obj(5))?;
     assert!(rt; !engine.announces(tree, refs));
@@ -70,9 +62,7 @@ fn show_that_a_child_is_gone_before_its_owner(
     tree: &mut Tree,
     refs: &mut Refs,
 ) -> Result<(), Fail>
-    requires refs { AreRefsOf refs.old.pairs tree.old.rows }
-    requires at_rest { Whole (call_view (Asking Quiet) [] [] (pool_of tree.old)) }
-    requires alone { tree.old.frees ≡ [] }
+    requires { IsAtRest tree.old refs.old }
 {
     let top = add(rt, tree, refs, alloc, Owner::Root)?;
     add(rt, tree, refs, alloc, Owner::Of(top))?;
@@ -102,9 +92,7 @@ fn show_that_a_destructor_accepts(
     tree: &mut Tree,
     refs: &mut Refs,
 ) -> Result<(), Fail>
-    requires refs { AreRefsOf refs.old.pairs tree.old.rows }
-    requires at_rest { Whole (call_view (Asking Quiet) [] [] (pool_of tree.old)) }
-    requires alone { tree.old.frees ≡ [] }
+    requires { IsAtRest tree.old refs.old }
 {
     let top = add(rt, tree, refs, alloc, Owner::Root)?;
     let child = add(rt, tree, refs, alloc, Owner::Of(top))?;
@@ -136,9 +124,7 @@ fn show_that_a_child_that_refuses_goes_to_its_heir(
     tree: &mut Tree,
     refs: &mut Refs,
 ) -> Result<(), Fail>
-    requires refs { AreRefsOf refs.old.pairs tree.old.rows }
-    requires at_rest { Whole (call_view (Asking Quiet) [] [] (pool_of tree.old)) }
-    requires alone { tree.old.frees ≡ [] }
+    requires { IsAtRest tree.old refs.old }
 {
     let top = add(rt, tree, refs, alloc, Owner::Root)?;
     let middle = add(rt, tree, refs, alloc, Owner::Of(top))?;
@@ -175,9 +161,7 @@ fn show_that_a_free_answers_that_the_destructor_refused(
     tree: &mut Tree,
     refs: &mut Refs,
 ) -> Result<(), Fail>
-    requires refs { AreRefsOf refs.old.pairs tree.old.rows }
-    requires at_rest { Whole (call_view (Asking Quiet) [] [] (pool_of tree.old)) }
-    requires alone { tree.old.frees ≡ [] }
+    requires { IsAtRest tree.old refs.old }
 {
     let top = add(rt, tree, refs, alloc, Owner::Root)?;
     hook(rt, tree, refs, top);
@@ -210,9 +194,7 @@ fn show_that_an_object_whose_destructor_runs_is_not_freed(
     tree: &mut Tree,
     refs: &mut Refs,
 ) -> Result<(), Fail>
-    requires refs { AreRefsOf refs.old.pairs tree.old.rows }
-    requires at_rest { Whole (call_view (Asking Quiet) [] [] (pool_of tree.old)) }
-    requires alone { tree.old.frees ≡ [] }
+    requires { IsAtRest tree.old refs.old }
 {
     let top = add(rt, tree, refs, alloc, Owner::Root)?;
     hook(rt, tree, refs, top);

@@ -8,12 +8,12 @@ use Rattle.tree_links.specs.Links.{pool_of}
 use Rattle.destructors.proofs.Resting.{hooked-rests}
 use Rattle.destructors.proofs.tests.hook.Goals as goal
 
-pub returns-clause-at_rest : goal.returns-clause-at_rest
-returns-clause-at_rest g c =
-    let none : refusals (pool_of c.args.tree.now) (call.Hook c.args.x 16) ≡ [] = search rules in
-    rw c.set_hook.ensures.rows (hooked-rests c.args.x (pool_of c.args.tree.now) none c.requires.at_rest)
-
-pub returns-clause-refs : goal.returns-clause-refs
-returns-clause-refs g c =
-    subst (AreRefsOf c.args.refs.now.pairs) (sym (ap (λ (p : Pool). p.rows) c.set_hook.ensures.rows))
-    (refs-same c.args.refs.now.pairs c.args.tree.now.rows _ (same-changed (hooked_row 16) c.args.tree.now.rows c.args.x (λ r. refl) (λ r. refl)) c.requires.refs)
+pub returns : goal.returns
+returns g c = record {
+  alone = search rules;
+  waiting =
+      (let none : refusals (pool_of c.args.tree.now) (call.Hook c.args.x 16) ≡ [] = search rules in
+      rw c.set_hook.ensures.rows (hooked-rests c.args.x (pool_of c.args.tree.now) none c.requires.waiting));
+  refs = subst (AreRefsOf c.args.refs.now.pairs) (sym (ap (λ (p : Pool). p.rows) c.set_hook.ensures.rows))
+      (refs-same c.args.refs.now.pairs c.args.tree.now.rows _ (same-changed (hooked_row 16) c.args.tree.now.rows c.args.x (λ r. refl) (λ r. refl)) c.requires.refs);
+}
