@@ -107,6 +107,15 @@ late-refused s w line ls lt =
     or_true true = refl
     or_true false = refl
 
+pub in-time : (n : ℕ) (b : Bool) → (lines_limit < n → b ≡ true) → b ≡ false → n ≤ lines_limit
+in-time n b late e = each (ltb lines_limit n) refl
+  where
+    each : (t : Bool) → ltb lines_limit n ≡ t → n ≤ lines_limit
+    each true t =
+        let l : lines_limit < n = grind (arith, nat_tests) in
+        let bad : false ≡ true = sym e ∙ late l in cc
+    each false t = grind (arith, nat_tests)
+
 pub late-after : (s : Reading) (b : ℕ) (bytes : List ℕ) → IsReady s → lines_limit < s.number → with_more s (b ∷ bytes) ≡ record { text = Some (refused_text s); refused = Some (s.number, Limit) }
 late-after s b bytes ready late = each s.line (λ some. let n = ready.numbered some in absurd (omega arith))
   where
