@@ -8,7 +8,7 @@ ghost use Rattle.tree_specs.specs.Sound.{HasHook};
 ghost use Rattle.tree_specs.specs.Story.{later, hook_moment};
 ghost use Rattle.tree_specs.specs.Table.{caller_resume};
 ghost use Rattle.host_core.specs.Hosts.{frame_of, awaiting, after_telling, told_by, remembers};
-ghost use Rattle.host_core.specs.Moves.{telling, warning};
+ghost use Rattle.host_core.specs.Moves.{reply_of, telling, warning};
 
 use crate::brief::Brief;
 use crate::calls::freed;
@@ -41,15 +41,31 @@ pub struct Waiting {
     pub x: Obj,
 }
 
+/// The moment after one more call, to which this was the reply.
+fn note(moment: &mut Moment, last: Reply)
+    ensures { Routine moment.new ≡ later (Routine moment.old) last }
+{
+    if moment.step < u32::MAX {
+        moment.step += 1;
+    }
+    moment.last = Some(last);
+}
+
 /// A routine remembers the reply to its last call, and how many calls it has done.
-fn remember(ask: &mut Ask, last: Reply)
-    ensures { ask.new ≡ later ask.old last }
+fn remember(ask: &mut Ask, last: Brief)
+    ensures { ask.new ≡ later ask.old (reply_of last) }
 {
     if let Ask::Routine(moment) = ask {
-        if moment.step < u32::MAX {
-            moment.step += 1;
-        }
-        moment.last = Some(last);
+        note(moment, last.reply());
+    }
+}
+
+/// A routine remembers a reply that owns memory, of which it has the copy.
+fn remember_copy(ask: &mut Ask, copy: Option<Reply>)
+    ensures { ask.new ≡ remembers ask.old copy }
+{
+    if let (Ask::Routine(moment), Some(last)) = (ask, copy) {
+        note(moment, last);
     }
 }
 
@@ -79,7 +95,7 @@ impl Caller {
     pub fn reply(&mut self, reply: Brief)
         ensures { frame_of self.new ≡ telling self.old.ask reply }
     {
-        remember(&mut self.ask, reply.reply());
+        remember(&mut self.ask, reply);
         self.stage = Stage::Telling(reply.reply());
     }
 
@@ -87,7 +103,7 @@ impl Caller {
     pub fn warn(&mut self, x: Obj, reply: Brief)
         ensures { frame_of self.new ≡ warning self.old.ask x reply }
     {
-        remember(&mut self.ask, reply.reply());
+        remember(&mut self.ask, reply);
         self.stage = Stage::Warning(x, reply.reply());
     }
 
@@ -95,9 +111,7 @@ impl Caller {
     pub fn reply_whole(&mut self, reply: Reply, copy: Option<Reply>)
         ensures { frame_of self.new ≡ Telling (remembers self.old.ask copy) reply }
     {
-        if let Some(last) = copy {
-            remember(&mut self.ask, last);
-        }
+        remember_copy(&mut self.ask, copy);
         self.stage = Stage::Telling(reply);
     }
 
