@@ -1,13 +1,18 @@
-//! What a call is refused for. The checks stand in the order in which they are tried.
-ghost use Rattle.std.specs.Prelude.{◌≡◌, ◌+◌, ◌<◌, IsOk};
-ghost use Rattle.tree_specs.specs.Calls.{◌before◌, small, owner, object, plain, room, staying, still, apart, placing, hooking, held, interested, given_by, fits as fitting, unreferenced, growing, size_limit, refusals};
-ghost use Rattle.tree_specs.specs.Sums.{overhead};
-ghost use Rattle.tree_specs.specs.Calls.{checked};
+//! What a call is refused for: each test, and tests one after another.
+ghost use Rattle.std.specs.Prelude.{◌≡◌, ◌<◌, [], ◌∷◌, IsOk};
+ghost use Rattle.std.specs.Option.{option_copied};
+ghost use Rattle.tree_specs.specs.Calls.{checked, small, owner, object_row, plain, room, staying, still, apart, held, interested, given_by, unreferenced, growing, size_limit, refusal_of, refused};
 
+use crate::subject::Subject;
 use object_pool::ObjectPool;
-use tree_specs::{Call, Kind, Mark, OVERHEAD, Obj, Owner, ROW_LIMIT, Refusal, Row, SIZE_LIMIT};
+use tree_specs::Test::{
+    Fits, HasRoom, IsApart, IsInterested, IsObject, IsOwner, IsPlain, IsSmall, IsStaying, IsStill,
+    IsUnheld, IsUnreferenced, MayGive, MayGrow,
+};
+use tree_specs::{Kind, Mark, Obj, Owner, ROW_LIMIT, Refusal, Row, SIZE_LIMIT, Test};
 
-fn check_size(size: u64) -> Result<(), Refusal>
+/// An object is below the greatest size.
+pub fn check_size(size: u64) -> Result<(), Refusal>
     ensures first { result ≡ checked (small size) }
     ensures small { IsOk result → size < size_limit }
 {
@@ -17,11 +22,12 @@ fn check_size(size: u64) -> Result<(), Refusal>
     Ok(())
 }
 
-/// An object; a reference is none that a call takes.
-fn check_object(x: Obj, pool: &ObjectPool) -> Result<(), Refusal>
-    ensures { result ≡ checked (object pool.now.pool x) }
+/// An object by its row; a reference is none that a call takes.
+#[inline]
+pub fn check_row(x: Obj, row: Option<&Row>) -> Result<(), Refusal>
+    ensures { result ≡ checked (object_row x (option_copied row.entry)) }
 {
-    let Some(row) = pool.row(x) else {
+    let Some(row) = row else {
         return Err(Refusal::NoSuch(x.0));
     };
     match row.kind {
@@ -31,20 +37,22 @@ fn check_object(x: Obj, pool: &ObjectPool) -> Result<(), Refusal>
 }
 
 /// An owner is the root or an object.
+#[inline]
 pub fn check_owner(o: Owner, pool: &ObjectPool) -> Result<(), Refusal>
     ensures { result ≡ checked (owner pool.now.pool o) }
 {
     match o {
         Owner::Root => Ok(()),
-        Owner::Of(x) => check_object(x, pool),
+        Owner::Of(x) => check_row(x, pool.row(x)),
     }
 }
 
 /// Only plain objects have destructors.
-fn check_plain(x: Obj, pool: &ObjectPool) -> Result<(), Refusal>
-    ensures { result ≡ checked (plain pool.now.pool x) }
+#[inline]
+fn check_plain(x: Obj, objects: &Subject) -> Result<(), Refusal>
+    ensures { result ≡ checked (plain objects.now x) }
 {
-    match pool.row(x) {
+    match objects.row(x) {
         Some(
             Row {
                 kind: Kind::Plain,
@@ -55,24 +63,25 @@ fn check_plain(x: Obj, pool: &ObjectPool) -> Result<(), Refusal>
     }
 }
 
-/// Whether there is room for a row and a number.
-fn check_room(pool: &ObjectPool) -> Result<(), Refusal>
-    ensures { result ≡ checked (room pool.now.pool 1) }
+/// Whether there is room for so many rows, and whether there are so many numbers.
+fn check_room(rows: u8, pool: &ObjectPool) -> Result<(), Refusal>
+    ensures { result ≡ checked (room pool.now.pool rows) }
 {
-    if pool.len() >= ROW_LIMIT {
+    if pool.len() > ROW_LIMIT - rows as usize {
         return Err(Refusal::Full(pool.len() as u64));
     }
-    if pool.next_number() == u64::MAX {
+    if pool.next_number() > u64::MAX - rows as u64 {
         return Err(Refusal::Spent);
     }
     Ok(())
 }
 
 /// An object that is being freed stays where it is.
-fn check_staying(x: Obj, pool: &ObjectPool) -> Result<(), Refusal>
-    ensures { result ≡ checked (staying pool.now.pool x) }
+#[inline]
+fn check_staying(x: Obj, objects: &Subject) -> Result<(), Refusal>
+    ensures { result ≡ checked (staying objects.now x) }
 {
-    match pool.row(x) {
+    match objects.row(x) {
         Some(
             Row {
                 mark: Mark::Dying(_),
@@ -93,22 +102,12 @@ fn check_apart(x: Obj, owner: Owner, pool: &ObjectPool) -> Result<(), Refusal>
     Ok(())
 }
 
-/// An object is put below an owner.
-#[tactic(auto, using(crate::proofs::Allowed::refused_first, crate::proofs::Allowed::allowed_first))]
-fn check_placing(o: Owner, x: Obj, pool: &ObjectPool) -> Result<(), Refusal>
-    ensures { result ≡ checked (placing pool.now.pool o x) }
-{
-    check_object(x, pool)?;
-    check_owner(o, pool)?;
-    check_staying(x, pool)?;
-    check_apart(x, o, pool)
-}
-
 /// No reference is made to an object whose destructor or handler runs.
-fn check_still(x: Obj, pool: &ObjectPool) -> Result<(), Refusal>
-    ensures { result ≡ checked (still pool.now.pool x) }
+#[inline]
+fn check_still(x: Obj, objects: &Subject) -> Result<(), Refusal>
+    ensures { result ≡ checked (still objects.now x) }
 {
-    match pool.row(x) {
+    match objects.row(x) {
         Some(
             Row {
                 mark: Mark::Asked | Mark::Busy | Mark::Doomed,
@@ -153,88 +152,6 @@ fn check_given(from: Owner, to: Owner, x: Obj, pool: &ObjectPool) -> Result<(), 
     check_interested(from, x, pool)
 }
 
-#[tactic(auto, using(crate::proofs::Allowed::refused_first, crate::proofs::Allowed::allowed_first))]
-fn check_taken(from: Owner, to: Owner, x: Obj, pool: &ObjectPool) -> Result<(), Refusal>
-    ensures { result ≡ checked (owner pool.now.pool to before staying pool.now.pool x before given_by pool.now.pool from to x) }
-{
-    check_owner(to, pool)?;
-    check_staying(x, pool)?;
-    check_given(from, to, x, pool)
-}
-
-#[tactic(auto, using(crate::proofs::Allowed::refused_first, crate::proofs::Allowed::allowed_first))]
-fn check_reparent(from: Owner, to: Owner, x: Obj, pool: &ObjectPool) -> Result<(), Refusal>
-    ensures { result ≡ checked (object pool.now.pool x before owner pool.now.pool from before owner pool.now.pool to before staying pool.now.pool x before given_by pool.now.pool from to x) }
-{
-    check_object(x, pool)?;
-    check_owner(from, pool)?;
-    check_taken(from, to, x, pool)
-}
-
-#[tactic(auto, using(crate::proofs::Allowed::refused_first, crate::proofs::Allowed::allowed_first))]
-fn check_free(x: Obj, pool: &ObjectPool) -> Result<(), Refusal>
-    ensures { result ≡ checked (object pool.now.pool x before held pool.now.pool x) }
-{
-    check_object(x, pool)?;
-    check_held(x, pool)
-}
-
-#[tactic(auto, using(crate::proofs::Allowed::refused_first, crate::proofs::Allowed::allowed_first))]
-fn check_unlink(o: Owner, x: Obj, pool: &ObjectPool) -> Result<(), Refusal>
-    ensures { result ≡ checked (object pool.now.pool x before owner pool.now.pool o before interested pool.now.pool o x) }
-{
-    check_object(x, pool)?;
-    check_owner(o, pool)?;
-    check_interested(o, x, pool)
-}
-
-/// Nothing goes on with an object, and there is room for a reference to it.
-#[tactic(auto, using(crate::proofs::Allowed::refused_first, crate::proofs::Allowed::allowed_first))]
-fn check_quiet(x: Obj, pool: &ObjectPool) -> Result<(), Refusal>
-    ensures { result ≡ checked (still pool.now.pool x before staying pool.now.pool x before room pool.now.pool 1) }
-{
-    check_still(x, pool)?;
-    check_staying(x, pool)?;
-    check_room(pool)
-}
-
-/// Only plain objects that nothing goes on with are referred to.
-#[tactic(auto, using(crate::proofs::Allowed::refused_first, crate::proofs::Allowed::allowed_first))]
-fn check_target(o: Owner, x: Obj, pool: &ObjectPool) -> Result<(), Refusal>
-    ensures { result ≡ checked (plain pool.now.pool x before owner pool.now.pool o before still pool.now.pool x before staying pool.now.pool x before room pool.now.pool 1) }
-{
-    check_plain(x, pool)?;
-    check_owner(o, pool)?;
-    check_quiet(x, pool)
-}
-
-#[tactic(auto, using(crate::proofs::Allowed::refused_first, crate::proofs::Allowed::allowed_first))]
-fn check_reference(o: Owner, x: Obj, pool: &ObjectPool) -> Result<(), Refusal>
-    ensures { result ≡ checked (object pool.now.pool x before plain pool.now.pool x before owner pool.now.pool o before still pool.now.pool x before staying pool.now.pool x before room pool.now.pool 1) }
-{
-    check_object(x, pool)?;
-    check_target(o, x, pool)
-}
-
-/// There is room for an object of this size.
-#[tactic(auto, using(crate::proofs::Allowed::refused_first, crate::proofs::Allowed::allowed_first))]
-fn check_added(o: Owner, size: u64, pool: &ObjectPool) -> Result<(), Refusal>
-    requires small { size < size_limit }
-    ensures { result ≡ checked (room pool.now.pool 1 before fitting pool.now.pool o (size + overhead)) }
-{
-    check_room(pool)?;
-    pool.fits(o, size + OVERHEAD)
-}
-
-#[tactic(auto, using(crate::proofs::Allowed::refused_first, crate::proofs::Allowed::allowed_first))]
-fn check_new(o: Owner, size: u64, pool: &ObjectPool) -> Result<(), Refusal>
-    ensures { result ≡ checked (small size before owner pool.now.pool o before room pool.now.pool 1 before fitting pool.now.pool o (size + overhead)) }
-{
-    check_size(size)?;
-    check_owner(o, pool)?;
-    check_added(o, size, pool)
-}
-
 /// An object to which there is a reference keeps its size.
 fn check_unreferenced(x: Obj, pool: &ObjectPool) -> Result<(), Refusal>
     ensures { result ≡ checked (unreferenced pool.now.pool x) }
@@ -246,79 +163,106 @@ fn check_unreferenced(x: Obj, pool: &ObjectPool) -> Result<(), Refusal>
 }
 
 /// Where an object grows, the growth fits.
-fn check_growing(x: Obj, size: u64, pool: &ObjectPool) -> Result<(), Refusal>
-    ensures { result ≡ checked (growing pool.now.pool x size) }
+fn check_growing(x: Obj, size: u64, objects: &Subject) -> Result<(), Refusal>
+    ensures { result ≡ checked (growing objects.now x size) }
 {
-    let before = pool.size(x);
+    let before = objects.row(x).map_or(0, |row| row.size);
     if before < size {
-        return pool.fits(Owner::Of(x), size - before);
+        return objects.pool().fits(Owner::Of(x), size - before);
     }
     Ok(())
 }
 
-#[tactic(auto, using(crate::proofs::Allowed::refused_first, crate::proofs::Allowed::allowed_first))]
-fn check_larger(x: Obj, size: u64, pool: &ObjectPool) -> Result<(), Refusal>
-    ensures { result ≡ checked (staying pool.now.pool x before growing pool.now.pool x size) }
+/// What is refused where the test isn't passed.
+#[inline(always)]
+fn check_test(test: Test, objects: &Subject) -> Result<(), Refusal>
+    ensures { result ≡ checked (refusal_of objects.now test) }
 {
-    check_staying(x, pool)?;
-    check_growing(x, size, pool)
-}
-
-#[tactic(auto, using(crate::proofs::Allowed::refused_first, crate::proofs::Allowed::allowed_first))]
-fn check_sized(x: Obj, size: u64, pool: &ObjectPool) -> Result<(), Refusal>
-    ensures { result ≡ checked (plain pool.now.pool x before unreferenced pool.now.pool x before staying pool.now.pool x before growing pool.now.pool x size) }
-{
-    check_plain(x, pool)?;
-    check_unreferenced(x, pool)?;
-    check_larger(x, size, pool)
-}
-
-#[tactic(auto, using(crate::proofs::Allowed::refused_first, crate::proofs::Allowed::allowed_first))]
-fn check_resize(x: Obj, size: u64, pool: &ObjectPool) -> Result<(), Refusal>
-    ensures { result ≡ checked (small size before object pool.now.pool x before plain pool.now.pool x before unreferenced pool.now.pool x before staying pool.now.pool x before growing pool.now.pool x size) }
-{
-    check_size(size)?;
-    check_object(x, pool)?;
-    check_sized(x, size, pool)
-}
-
-#[tactic(auto, using(crate::proofs::Allowed::refused_first, crate::proofs::Allowed::allowed_first))]
-fn check_hooking(x: Obj, pool: &ObjectPool) -> Result<(), Refusal>
-    ensures { result ≡ checked (hooking pool.now.pool x) }
-{
-    check_object(x, pool)?;
-    check_plain(x, pool)?;
-    check_staying(x, pool)
-}
-
-#[tactic(auto, using(crate::proofs::Allowed::refused_first, crate::proofs::Allowed::allowed_first))]
-fn check_parent(x: Obj, pool: &ObjectPool) -> Result<(), Refusal>
-    ensures { result ≡ checked (object pool.now.pool x before staying pool.now.pool x) }
-{
-    check_object(x, pool)?;
-    check_staying(x, pool)
-}
-
-/// Whether a call is allowed, and else its first refusal.
-pub fn check(call: &Call, pool: &ObjectPool) -> Result<(), Refusal>
-    ensures { result ≡ checked (refusals pool.now.pool call.now) }
-{
-    match call {
-        Call::New { owner, size, .. } => check_new(*owner, *size, pool),
-        Call::Free { x } => check_free(*x, pool),
-        Call::Freekids { x } | Call::Rename { x, .. } | Call::Limit { x, .. } => {
-            check_object(*x, pool)
-        }
-        Call::Resize { x, size } => check_resize(*x, *size, pool),
-        Call::Steal { owner, x } | Call::Move { owner, x } => check_placing(*owner, *x, pool),
-        Call::Reparent { from, to, x } => check_reparent(*from, *to, *x, pool),
-        Call::Reference { owner, x } => check_reference(*owner, *x, pool),
-        Call::Unlink { owner, x } => check_unlink(*owner, *x, pool),
-        Call::Hook { x, .. } | Call::Unhook { x } => check_hooking(*x, pool),
-        Call::Parent { x } => check_parent(*x, pool),
-        Call::Total { owner }
-        | Call::Count { owner }
-        | Call::Sum { owner }
-        | Call::Report { owner } => check_owner(*owner, pool),
+    match test {
+        IsSmall(size) => check_size(size),
+        IsObject(x) => check_row(x, objects.row(x)),
+        IsOwner(owner) => check_owner(owner, objects.pool()),
+        IsPlain(x) => check_plain(x, objects),
+        HasRoom(rows) => check_room(rows, objects.pool()),
+        Fits(owner, wanted) => objects.pool().fits(owner, wanted),
+        MayGrow(x, size) => check_growing(x, size, objects),
+        IsStaying(x) => check_staying(x, objects),
+        IsStill(x) => check_still(x, objects),
+        IsApart(x, owner) => check_apart(x, owner, objects.pool()),
+        IsUnheld(x) => check_held(x, objects.pool()),
+        IsUnreferenced(x) => check_unreferenced(x, objects.pool()),
+        IsInterested(owner, x) => check_interested(owner, x, objects.pool()),
+        MayGive(from, to, x) => check_given(from, to, x, objects.pool()),
     }
+}
+
+/// What is refused for the first of two tests that isn't passed.
+#[inline(always)]
+#[tactic(auto, using(crate::proofs::Allowed::refused_first, crate::proofs::Allowed::allowed_first))]
+pub fn check_two(first: Test, second: Test, objects: &Subject) -> Result<(), Refusal>
+    ensures { result ≡ checked (refused objects.now (first ∷ second ∷ [])) }
+{
+    check_test(first, objects)?;
+    check_test(second, objects)
+}
+
+/// What is refused for the first of three tests that isn't passed.
+#[inline(always)]
+#[tactic(auto, using(crate::proofs::Allowed::refused_first, crate::proofs::Allowed::allowed_first))]
+pub fn check_three(first: Test, second: Test, third: Test, objects: &Subject) -> Result<(), Refusal>
+    ensures { result ≡ checked (refused objects.now (first ∷ second ∷ third ∷ [])) }
+{
+    check_test(first, objects)?;
+    check_two(second, third, objects)
+}
+
+/// What is refused for the first of four tests that isn't passed.
+#[inline(always)]
+#[tactic(auto, using(crate::proofs::Allowed::refused_first, crate::proofs::Allowed::allowed_first))]
+pub fn check_four(
+    first: Test,
+    second: Test,
+    third: Test,
+    fourth: Test,
+    objects: &Subject,
+) -> Result<(), Refusal>
+    ensures { result ≡ checked (refused objects.now (first ∷ second ∷ third ∷ fourth ∷ [])) }
+{
+    check_test(first, objects)?;
+    check_three(second, third, fourth, objects)
+}
+
+/// What is refused for the first of five tests that isn't passed.
+#[inline(always)]
+#[tactic(auto, using(crate::proofs::Allowed::refused_first, crate::proofs::Allowed::allowed_first))]
+pub fn check_five(
+    first: Test,
+    second: Test,
+    third: Test,
+    fourth: Test,
+    fifth: Test,
+    objects: &Subject,
+) -> Result<(), Refusal>
+    ensures { result ≡ checked (refused objects.now (first ∷ second ∷ third ∷ fourth ∷ fifth ∷ [])) }
+{
+    check_test(first, objects)?;
+    check_four(second, third, fourth, fifth, objects)
+}
+
+/// What is refused for the first of six tests that isn't passed.
+#[inline(always)]
+#[tactic(auto, using(crate::proofs::Allowed::refused_first, crate::proofs::Allowed::allowed_first))]
+pub fn check_six(
+    first: Test,
+    second: Test,
+    third: Test,
+    fourth: Test,
+    fifth: Test,
+    sixth: Test,
+    objects: &Subject,
+) -> Result<(), Refusal>
+    ensures { result ≡ checked (refused objects.now (first ∷ second ∷ third ∷ fourth ∷ fifth ∷ sixth ∷ [])) }
+{
+    check_test(first, objects)?;
+    check_five(second, third, fourth, fifth, sixth, objects)
 }

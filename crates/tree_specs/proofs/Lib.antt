@@ -13,6 +13,7 @@ pub mod Checks
 pub mod Waiters
 pub mod Changes
 pub mod KeptFrees
+pub mod Plans
 pub mod Keeps
 pub mod FallingFrees
 pub mod Falls

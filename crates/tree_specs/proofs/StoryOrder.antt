@@ -39,7 +39,6 @@ Holds scenes w ws p = WholeAt w.work (map work_of ws) p × Known scenes w ws p
 fine : (scenes : List Scene) (f : Frame) (b : Option Begun) (ws : List NotedWork) (p : Pool) → WholeAt f (map work_of ws) p → Known scenes (with_note b f) ws p → FineBy scenes f b p (step f p) ws
 fine scenes (frame.Call (Asking q)) b ws p whole known = asking-fine scenes q b ws p whole known
 fine scenes (frame.Call (Doing q c)) b ws p whole known = doing-fine scenes q c b ws p whole.sound known
-fine scenes (frame.Call (Awaiting q x)) b ws p whole known = absurd whole.sound.rests
 fine scenes (frame.Call (Warning q x r)) b ws p whole known = warning-fine scenes q x r b ws p known
 fine scenes (frame.Call (Telling q r)) b ws p whole known = telling-fine scenes q r b ws p known
 fine scenes (frame.Call (Returning v)) b ws p whole known = returning-fine scenes v b ws p whole.sound.waiting known
@@ -51,9 +50,9 @@ fine scenes (frame.Free (Hooked x h)) b ws p whole known = hooked-fine scenes b 
 fine scenes (frame.Free (Judged x h v)) b ws p whole known = judged-fine scenes b ws p x h v whole known
 fine scenes (frame.Free (Leaving x h)) b ws p whole known = leaving-fine scenes b ws p x h whole known
 fine scenes (frame.Free (Looping x purpose)) b ws p whole known = looping-fine scenes b ws p x purpose whole known
-fine scenes (frame.Free (Trying x c noted purpose)) b ws p whole known = absurd whole.sound.rests
 fine scenes (frame.Free (Tried x c noted purpose a)) b ws p whole known = tried-fine scenes b ws p x c noted purpose a whole known
 fine scenes (frame.Free (Ending a)) b ws p whole known = ending-fine scenes b ws p a whole known
+fine scenes _ b ws p whole known = absurd whole.sound.rests
 
 both : (scenes : List Scene) (f : Frame) (b : Option Begun) (ws : List NotedWork) (p : Pool) (m : Move Frame Answer Pool Item) → Leads table (λ g gs q j. WholeAt g gs q) m (map work_of ws) 1
     → FineBy scenes f b p m ws → FitsOn noted_table IsFine Holds scenes (noted_move notes f b p m) ws

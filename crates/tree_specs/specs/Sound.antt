@@ -82,7 +82,7 @@ abbrev pub footing : List Frame → Footing
 footing [] = AtBottom
 footing (frame.Free f ∷ fs) = OnFree f
 footing (frame.Call (Awaiting q x) ∷ fs) = OnCall
-footing (frame.Call c ∷ fs) = OnOther
+footing (_ ∷ fs) = OnOther
 
 abbrev pub IsCalled : Footing → Type 0
 IsCalled OnCall = Unit {0}

@@ -21,6 +21,7 @@ mod reply;
 mod report;
 mod row;
 mod schedule;
+mod test;
 
 pub use bounds::{
     LINE_LIMIT, LINES_LIMIT, NAME_LIMIT, OCTETS_LIMIT, OVERHEAD, ROW_LIMIT, SIZE_LIMIT,
@@ -40,3 +41,4 @@ pub use reply::{Refusal, Reply};
 pub use report::{ReportRow, ReportRows, RowKind};
 pub use row::{Mark, Row};
 pub use schedule::{Mode, Reason};
+pub use test::Test;
