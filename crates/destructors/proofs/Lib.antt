@@ -3,6 +3,7 @@ pub mod Lifting
 pub mod Callers
 pub mod Resting
 pub mod Keeping
+pub mod Quiet
 pub mod Begins
 pub mod Settling
 pub mod Counting

@@ -45,20 +45,20 @@ pub record Onward (f : FreeFrame) (before_it : Links) (o : Option FreeFrame) (tr
   pub rows : (R : ℕ) → length before_it.rows ≤ R → length tree.rows ≤ R
   pub falls : (R : ℕ) → length before_it.rows ≤ R → free_cost R (before o tree.frees) (pool_of tree) < free_cost R (f ∷ before_it.frees) (pool_of before_it)
 
-pub onward : (f : FreeFrame) (g : Option FreeFrame) (old : Links) (told : Option FreeStep) (o : Option FreeFrame) (new : Links) → g ≡ Some f → Ready g old → speaking (frees_of (Some f) old) ≡ false
-    → moves (f ∷ old.frees) (pool_of old) ≡ (told, frees_of o new) → AreKept o new → length old.frees + old.room ≤ length new.frees + new.room → Onward f old o new
-onward f g old told o new e r quiet m k room =
+pub onward : (f : FreeFrame) (g : Option FreeFrame) (old : Links) (next : FreeFrame) (new : Links) → g ≡ Some f → Ready g old
+    → moves (f ∷ old.frees) (pool_of old) ≡ (None, frees_of (Some next) new) → length old.frees + old.room ≤ length new.frees + new.room → Onward f old (Some next) new
+onward f g old next new e r m room =
+    let quiet : speaking (frees_of (Some f) old) ≡ false = ap (λ (z : Option FreeStep × OpenFrees). speaks (f ∷ old.frees) z.0) m in
     let w = ready-work f g old e r quiet in
-    let n : told ≡ None = ap (λ (z : Option FreeStep × OpenFrees). z.0) (sym m) ∙ silent (moves (f ∷ old.frees) (pool_of old)).0 old.frees f quiet in
-    let m' : moves (f ∷ old.frees) (pool_of old) ≡ (None, frees_of o new) = m ∙ ap (λ (z : Option FreeStep). let y : Option FreeStep × OpenFrees = (z, frees_of o new) in y) n in
     let had : HasRoom (Some f) old = rw e at r.room in
-    let l = narrow f old.frees (pool_of old) None (frees_of o new) w m' in
+    let l = narrow f old.frees (pool_of old) None (frees_of (Some next) new) w m in
+    let work : IsAtWork (frees_of (Some next) new) = kept f old.frees (pool_of old) (frees_of (Some next) new) w m in
     record {
-      ready = record { moves = at-work o new k (kept f old.frees (pool_of old) (frees_of o new) w m'); room = omega (arith, had, l, room) };
-      at_work = kept f old.frees (pool_of old) (frees_of o new) w m';
-      silently = m';
-      rows = λ R n. (falls R f old.frees (pool_of old) (frees_of o new) w n m').0;
-      falls = λ R n. (falls R f old.frees (pool_of old) (frees_of o new) w n m').1;
+      ready = record { moves = inl work; room = omega (arith, had, l, room) };
+      at_work = work;
+      silently = m;
+      rows = λ R n. (falls R f old.frees (pool_of old) (frees_of (Some next) new) w n m).0;
+      falls = λ R n. (falls R f old.frees (pool_of old) (frees_of (Some next) new) w n m).1;
     }
 
 -- ---- a move that tells something

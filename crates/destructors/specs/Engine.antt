@@ -3,7 +3,7 @@ use Rattle.std.specs.Prelude.{◌≡◌, ◌+◌, ◌≤◌, true, [], ◌∷◌
 use Rattle.tree_specs.specs.declared.frame.FreeFrame.{FreeFrame}
 use Rattle.tree_specs.specs.declared.frame.FreeFrame.TheVariants.{Unlinking, Releasing, Giving, Beginning, Hooked, Judged, Leaving, Looping, Trying, Tried, Ending}
 use Rattle.tree_links.specs.Links.{Links, pool_of}
-use Rattle.destructors.specs.Frees.{before, frees_of, speaking}
+use Rattle.destructors.specs.Frees.{before, frees_of, moves, speaking}
 use Rattle.tree_specs.specs.Alone.{FreesWait}
 use Rattle.references.specs.Pairs.{Pairs}
 use Rattle.references.specs.Rows.{AreRefsOf}
@@ -38,6 +38,11 @@ HasRoom innermost tree = wanted (before innermost tree.frees) tree.rows ≤ leng
 abbrev pub MayMove : Option FreeFrame → Links → Type 0
 MayMove None tree = tree.frees ≡ []
 MayMove (Some f) tree = AtWork (f ∷ tree.frees) (pool_of tree) ⊎ (speaking (frees_of (Some f) tree) ≡ true)
+
+-- the next move of a work tells nothing, and leads to this work; or it speaks, and nothing is done
+abbrev pub MovesQuietly : FreeFrame → Links → Option FreeFrame → Links → Type 0
+MovesQuietly work tree None tree' = (speaking (frees_of (Some work) tree) ≡ true) × (tree' ≡ tree)
+MovesQuietly work tree (Some next) tree' = moves (work ∷ tree.frees) (pool_of tree) ≡ (None, frees_of (Some next) tree')
 
 -- no free is open, and none of the objects is asked or dying
 pub record IsAtRest (tree : Links) (pairs : Pairs) : Type 0 where

@@ -1,5 +1,5 @@
 -- What the code calls a move, and what a move rests on.
-use Rattle.std.specs.Prelude.{◌≡◌, Option, None, true, false}
+use Rattle.std.specs.Prelude.{◌≡◌, Option, Some, None, true, false}
 use Rattle.step_machine.specs.Machine.{Move as Do}
 use Rattle.tree_specs.specs.declared.object.Obj.{Obj}
 use Rattle.tree_specs.specs.declared.object.Owner.{Owner}
@@ -8,14 +8,17 @@ use Rattle.tree_specs.specs.declared.frame.FreeFrame.{FreeFrame}
 use Rattle.tree_specs.specs.declared.frame.FreeFrame.TheVariants.{Unlinking, Releasing, Giving, Beginning, Hooked, Judged, Leaving, Looping, Trying, Tried, Ending}
 use Rattle.tree_specs.specs.declared.frame.Purpose.TheVariants.{Removal, Emptying}
 use Rattle.tree_specs.specs.declared.free_step.FreeStep.TheVariants.{Ask}
-use Rattle.tree_specs.specs.Pool.{Pool, is_row, is_below, owner_of, target_at, is_dying}
+use Rattle.tree_specs.specs.declared.row.Row.{Row}
+use Rattle.tree_specs.specs.declared.row.Mark.{Mark}
+use Rattle.tree_specs.specs.declared.row.Mark.TheVariants as mark
+use Rattle.tree_specs.specs.Pool.{Pool, is_row, is_below, row_of, owner_of, target_at, is_dying, set_mark}
 use Rattle.tree_specs.specs.Heirs.{heir}
 use Rattle.tree_specs.specs.Table.{FreeMove}
 use Rattle.tree_links.specs.Links.{MayPlace}
 use Rattle.destructors.specs.declared.motion.Motion.{Motion}
 use Rattle.destructors.specs.declared.motion.Motion.TheVariants.{Ends, Goes, Tells, Asks, Pushes}
 use Rattle.destructors.specs.declared.motion.Outlook.{Outlook}
-use Rattle.destructors.specs.declared.motion.Outlook.TheVariants.{End, Telling, Silence}
+use Rattle.destructors.specs.declared.motion.Outlook.TheVariants.{Telling, Ending as Over, Going, Pushing}
 
 abbrev pub move_of : Motion → Pool → FreeMove
 move_of (Ends a) p = Do.Done a p
@@ -26,15 +29,37 @@ move_of (Pushes g f) p = Do.Call g f p
 
 -- what can be said of a move before it is made
 abbrev pub outlook_of : FreeMove → Outlook
-outlook_of (Do.Done a p) = End
-outlook_of (Do.Go f p) = Silence
+outlook_of (Do.Done a p) = Over a
+outlook_of (Do.Go f p) = Going f
 outlook_of (Do.Emit t f p) = Telling
 outlook_of (Do.Wait t f p) = Telling
-outlook_of (Do.Call g f p) = Silence
+outlook_of (Do.Call g f p) = Pushing g f
 
 -- an object that is live and may be changed
 abbrev pub IsLiveRow : Pool → Obj → Type 0
 IsLiveRow p x = (is_row p.rows x ≡ true) × (is_dying p.rows x ≡ false)
+
+-- what a move that tells nothing does to the objects: one that is to be asked is marked so,
+abbrev pub entered : FreeFrame → Pool → Pool
+entered (Hooked x h) p = set_mark p x mark.Asked
+entered f p = p
+
+abbrev pub MayEnter : FreeFrame → Pool → Type 0
+MayEnter (Hooked x h) p = IsLiveRow p x
+MayEnter f p = Unit {0}
+
+-- and one that is to be freed while its handler runs is doomed
+abbrev pub doomed_by : Obj → Mark → Pool → Pool
+doomed_by x mark.Busy p = set_mark p x mark.Doomed
+doomed_by x m p = p
+
+abbrev pub doomed : Obj → Option Row → Pool → Pool
+doomed x None p = p
+doomed x (Some r) p = doomed_by x r.mark p
+
+abbrev pub ended : FreeFrame → Pool → Pool
+ended (Beginning x) p = doomed x (row_of p.rows x) p
+ended f p = p
 
 -- a child that is to be handed on may be put below its heir
 abbrev pub MayHandOn : Pool → Obj → Obj → Option Owner → Type 0

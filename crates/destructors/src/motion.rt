@@ -15,13 +15,15 @@ pub enum Motion {
     Pushes(FreeFrame, FreeFrame),
 }
 
-/// What can be said of a move before it is made.
+/// What comes next of a work, as far as it tells nothing.
 #[derive(Clone, Copy, Debug)]
 pub enum Outlook {
-    /// The work ends.
-    End,
     /// It tells or asks something.
     Telling,
-    /// Neither.
-    Silence,
+    /// It ends, and answers the work below it.
+    Ending(FreeReply),
+    /// It goes on.
+    Going(FreeFrame),
+    /// It puts the first work before itself, and waits as the second.
+    Pushing(FreeFrame, FreeFrame),
 }

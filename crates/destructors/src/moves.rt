@@ -233,7 +233,7 @@ pub fn move_once(work: FreeFrame, tree: &mut Tree, refs: &mut Refs) -> Motion
     }
 }
 
-/// What can be said of the beginning of a free.
+/// What comes next of the beginning of a free.
 fn outlook_of_begin(x: Obj, tree: &Tree, refs: &Refs) -> Outlook
     requires refs { AreRefsOf refs.now.pairs tree.now.rows }
     ensures { result ≡ outlook_of (refs_step x (newest_ref tree.now.rows x) (pool_of tree.now)) }
@@ -241,26 +241,45 @@ fn outlook_of_begin(x: Obj, tree: &Tree, refs: &Refs) -> Outlook
     if refs.newest(tree, x).is_some() {
         return Outlook::Telling;
     }
-    match tree.row(x) {
-        Some(row) if matches!(row.mark, Mark::Quiet) => Outlook::Silence,
-        _ => Outlook::End,
+    let Some(row) = tree.row(x) else {
+        return Outlook::Ending(FreeReply::Ok);
+    };
+    let hook = row.hook;
+    match row.mark {
+        Mark::Quiet if hook == 0 => Outlook::Going(FreeFrame::Leaving { x, hook }),
+        Mark::Quiet => Outlook::Going(FreeFrame::Hooked { x, hook }),
+        Mark::Asked | Mark::Busy | Mark::Doomed => Outlook::Ending(FreeReply::Running),
+        Mark::Dying(_) => Outlook::Ending(FreeReply::Ok),
     }
 }
 
-/// What can be said of the loop over the children of an object.
+/// What comes next of the loop over the children of an object.
 fn outlook_of_loop(x: Obj, purpose: Purpose, tree: &Tree, refs: &Refs) -> Outlook
     requires refs { AreRefsOf refs.now.pairs tree.now.rows }
     ensures { result ≡ outlook_of (loop_step x purpose (first_kid tree.now.rows (below x)) (pool_of tree.now)) }
 {
     match (tree.first_kid(Owner::Of(x)), purpose) {
-        (Some(child), _) if refs.target(child).is_some() => Outlook::Telling,
-        (Some(_), _) => Outlook::Silence,
+        (Some(child), _) => {
+            if refs.target(child).is_some() {
+                return Outlook::Telling;
+            }
+            let noted = noted_owner(child, tree, refs);
+            Outlook::Pushing(
+                FreeFrame::Beginning { x: child },
+                FreeFrame::Trying {
+                    x,
+                    child,
+                    noted,
+                    purpose,
+                },
+            )
+        }
         (None, Purpose::Removal { .. }) => Outlook::Telling,
-        (None, Purpose::Emptying) => Outlook::End,
+        (None, Purpose::Emptying) => Outlook::Ending(FreeReply::Ok),
     }
 }
 
-/// What can be said of the handing on of a child.
+/// What comes next of the handing on of a child.
 fn outlook_of_heir(
     x: Obj,
     child: Obj,
@@ -273,11 +292,11 @@ fn outlook_of_heir(
     if tree.owns(Owner::Of(x), child) {
         Outlook::Telling
     } else {
-        Outlook::Silence
+        Outlook::Going(FreeFrame::Looping { x, purpose })
     }
 }
 
-/// What can be said of the taking away of an owner's interest.
+/// Whether `unlink` tells something next.
 fn outlook_of_unlink(owner: Owner, x: Obj, tree: &Tree, refs: &Refs) -> Outlook
     requires refs { AreRefsOf refs.now.pairs tree.now.rows }
     ensures { result ≡ outlook_of (unlink_step x (newest_ref_of tree.now.rows owner x) (pool_of tree.now)) }
@@ -285,11 +304,11 @@ fn outlook_of_unlink(owner: Owner, x: Obj, tree: &Tree, refs: &Refs) -> Outlook
     if refs.newest_of(tree, owner, x).is_some() {
         Outlook::Telling
     } else {
-        Outlook::Silence
+        Outlook::Going(FreeFrame::Releasing { x })
     }
 }
 
-/// What can be said of an owner's giving up of an object.
+/// Whether an owner that gives an object up tells something next.
 fn outlook_of_release(x: Obj, tree: &Tree, refs: &Refs) -> Outlook
     requires refs { AreRefsOf refs.now.pairs tree.now.rows }
     ensures { result ≡ outlook_of (release_step x (newest_ref tree.now.rows x) (pool_of tree.now)) }
@@ -297,11 +316,11 @@ fn outlook_of_release(x: Obj, tree: &Tree, refs: &Refs) -> Outlook
     if refs.newest(tree, x).is_some() {
         Outlook::Telling
     } else {
-        Outlook::Silence
+        Outlook::Going(FreeFrame::Beginning { x })
     }
 }
 
-/// What can be said of the next move of a work.
+/// What comes next of a work, as far as it tells nothing.
 pub fn outlook(work: FreeFrame, tree: &Tree, refs: &Refs) -> Outlook
     requires refs { AreRefsOf refs.now.pairs tree.now.rows }
     ensures { result ≡ outlook_of (free_step work (pool_of tree.now)) }
@@ -316,9 +335,11 @@ pub fn outlook(work: FreeFrame, tree: &Tree, refs: &Refs) -> Outlook
         | FreeFrame::Leaving { .. } => Outlook::Telling,
         FreeFrame::Looping { x, purpose } => outlook_of_loop(x, purpose, tree, refs),
         FreeFrame::Tried {
+            x,
+            purpose,
             answer: FreeReply::Ok,
             ..
-        } => Outlook::Silence,
+        } => Outlook::Going(FreeFrame::Looping { x, purpose }),
         FreeFrame::Tried {
             x,
             child,
@@ -326,6 +347,7 @@ pub fn outlook(work: FreeFrame, tree: &Tree, refs: &Refs) -> Outlook
             purpose,
             ..
         } => outlook_of_heir(x, child, noted, purpose, tree),
-        FreeFrame::Trying { .. } | FreeFrame::Ending { .. } => Outlook::End,
+        FreeFrame::Trying { .. } => Outlook::Ending(FreeReply::Ok),
+        FreeFrame::Ending { answer } => Outlook::Ending(answer),
     }
 }

@@ -16,7 +16,6 @@ use tree_links::{NewRow, Tree};
 use tree_specs::{FreeReply, FreeStep, Kind, Mark, Name, Obj, Owner};
 
 mod heirs;
-mod outlooks;
 mod steps;
 
 // Whether it is an object that has not left its owner.

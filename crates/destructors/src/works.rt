@@ -1,19 +1,20 @@
 //! The works of all open frees, move after move. The innermost work is at hand, and those that wait for it stand in
 //! the tree.
 ghost use Rattle.std.specs.Prelude.{◌≡◌, ◌+◌, ◌≤◌, ◌∷◌, true, length, Some, None};
-ghost use Rattle.tree_specs.specs.Table.{free_resume};
-ghost use Rattle.tree_links.specs.Links.{pool_of};
-ghost use Rattle.references.specs.Rows.{AreRefsOf};
-ghost use Rattle.destructors.specs.Moves.{MoveRests};
+ghost use Rattle.step_machine.specs.Machine.{Move as Do};
+ghost use Rattle.tree_specs.specs.Table.{free_resume, free_step};
+ghost use Rattle.tree_links.specs.Links.{pool_of, works_of};
+ghost use Rattle.references.specs.Rows.{AreRefsOf, SameRefs};
+ghost use Rattle.destructors.specs.Moves.{MoveRests, MayEnter, entered, ended};
 ghost use Rattle.destructors.specs.Frees.{answered, frees_of, moves as moves_of, speaking, Silently};
 ghost use Rattle.destructors.specs.Works.{IsAtWork};
-ghost use Rattle.destructors.specs.Engine.{AreKept, HasRoom, Ready};
+ghost use Rattle.destructors.specs.Engine.{AreKept, HasRoom, MovesQuietly, Ready};
 
 use crate::motion::{Motion, Outlook};
 use crate::moves::{move_once, outlook};
 use references::Refs;
 use tree_links::Tree;
-use tree_specs::{FreeFrame, FreeReply, FreeStep};
+use tree_specs::{FreeFrame, FreeReply, FreeStep, Mark};
 
 /// What a move told, and the work that is innermost after it.
 #[derive(Clone, Copy, Debug)]
@@ -104,15 +105,74 @@ pub fn advance(work: FreeFrame, tree: &mut Tree, refs: &mut Refs) -> Progress
     }
 }
 
-/// Whether the next move tells or asks something.
-pub fn speaks(work: FreeFrame, tree: &Tree, refs: &Refs) -> bool
-    requires refs { AreRefsOf refs.now.pairs tree.now.rows }
-    ensures { result ≡ speaking (frees_of (Some work) tree.now) }
+/// An object whose destructor is to be asked is marked so.
+fn enter(next: FreeFrame, tree: &mut Tree)
+    requires { MayEnter next (pool_of tree.old) }
+    ensures rows { pool_of tree.new ≡ entered next (pool_of tree.old) }
+    ensures works { works_of tree.new ≡ works_of tree.old }
+    ensures spare { tree.old.spare ≤ tree.new.spare }
+{
+    if let FreeFrame::Hooked { x, .. } = next {
+        tree.set_mark(x, Mark::Asked);
+    }
+}
+
+/// An object that is to be freed while its handler runs is doomed.
+fn doom(work: FreeFrame, tree: &mut Tree)
+    ensures rows { pool_of tree.new ≡ ended work (pool_of tree.old) }
+    ensures works { works_of tree.new ≡ works_of tree.old }
+    ensures spare { tree.old.spare ≤ tree.new.spare }
+{
+    let FreeFrame::Beginning { x } = work else {
+        return;
+    };
+    let Some(row) = tree.row(x) else {
+        return;
+    };
+    if matches!(row.mark, Mark::Busy) {
+        tree.set_mark(x, Mark::Doomed);
+    }
+}
+
+/// A work ends, and the free that waits for it goes on. None where none waits but for the run of a destructor: then the
+/// free is over, which is told, and nothing is done.
+fn end_quietly(work: FreeFrame, answer: FreeReply, tree: &mut Tree) -> Option<FreeFrame>
+    requires { free_step work (pool_of tree.old) ≡ Do.Done answer (ended work (pool_of tree.old)) }
+    ensures moved { MovesQuietly work tree.old result tree.new }
+    ensures spare { tree.old.spare ≤ tree.new.spare }
+    ensures room { length tree.old.frees + tree.old.room ≤ length tree.new.frees + tree.new.room }
+    ensures same_refs { SameRefs tree.old.rows tree.new.rows }
+{
+    let waiting = tree.innermost_free()?;
+    if matches!(waiting, FreeFrame::Hooked { .. }) {
+        return None;
+    }
+    doom(work, tree);
+    tree.pop_free();
+    Some(resumed(waiting, answer))
+}
+
+/// The next move of a work where it tells nothing, with the work that is innermost after it. None where the move tells or
+/// asks something, or ends the free: then nothing is done. It takes no memory.
+pub fn move_quietly(work: FreeFrame, tree: &mut Tree, refs: &Refs) -> Option<FreeFrame>
+    requires room { HasRoom (Some work) tree.old }
+    requires refs { AreRefsOf refs.now.pairs tree.old.rows }
+    ensures moved { MovesQuietly work tree.old result tree.new }
+    ensures spare { tree.old.spare ≤ tree.new.spare }
+    ensures room { length tree.old.frees + tree.old.room ≤ length tree.new.frees + tree.new.room }
+    ensures refs { AreRefsOf refs.now.pairs tree.new.rows }
 {
     match outlook(work, tree, refs) {
-        Outlook::End => matches!(tree.innermost_free(), None | Some(FreeFrame::Hooked { .. })),
-        Outlook::Telling => true,
-        Outlook::Silence => false,
+        Outlook::Telling => None,
+        Outlook::Ending(answer) => end_quietly(work, answer, tree),
+        Outlook::Going(next) => {
+            enter(next, tree);
+            Some(next)
+        }
+        Outlook::Pushing(first, second) => {
+            tree.push_free(second);
+            Some(first)
+        }
     }
 }
 
@@ -132,9 +192,9 @@ pub fn settle(innermost: Option<FreeFrame>, tree: &mut Tree, refs: &mut Refs) ->
         let Some(work) = innermost else {
             return None;
         };
-        if speaks(work, tree, refs) {
+        let Some(next) = move_quietly(work, tree, refs) else {
             return Some(work);
-        }
-        innermost = advance(work, tree, refs).innermost;
+        };
+        innermost = Some(next);
     }
 }

@@ -1,9 +1,7 @@
 use Rattle.std.proofs.Common.{◌≡◌, length, Some, None, false, refl, sym, ◌∙◌, arith}
-use Rattle.destructors.specs.Frees.{frees_of, speaking, Still, On}
-use Rattle.destructors.specs.Engine.{MayMove}
-use Rattle.destructors.proofs.Settling.{ready-work, onward}
-use Rattle.destructors.proofs.Keeping.{work-rests}
-use Rattle.tree_links.specs.Links.{pool_of}
+use Rattle.destructors.specs.Frees.{frees_of, Still, On}
+use Rattle.destructors.specs.Engine.{MayMove, HasRoom, MovesQuietly}
+use Rattle.destructors.proofs.Settling.{onward}
 use Rattle.destructors.proofs.works.settle.Goals as goal
 
 pub loop-innermost-init : goal.loop-innermost-init
@@ -13,29 +11,24 @@ pub returns-in_default-clause-settles : goal.returns-in_default-clause-settles
 returns-in_default-clause-settles c =
     let none : MayMove None c.loop-innermost.tree = rw c.in_default.is at c.loop-innermost.invariant.ready.moves in rw none refl
 
+pub move_quietly-requires-clause-room : goal.move_quietly-requires-clause-room
+move_quietly-requires-clause-room c = let had : HasRoom (Some c.in-Some.work) c.loop-innermost.tree = rw c.in-Some.is at c.loop-innermost.invariant.ready.room in had
+
 pub loop-innermost-smaller : goal.loop-innermost-smaller
 loop-innermost-smaller c =
-    let quiet : speaking (frees_of (Some c.in-Some.work) c.loop-innermost.tree) ≡ false = sym c.speaks.ensures ∙ c.if-speaks.false in
-    let o = onward c.in-Some.work c.loop-innermost.innermost c.loop-innermost.tree c.advance-innermost.result.told c.advance-innermost.result.innermost c.advance-innermost.new.tree
-    c.in-Some.is c.loop-innermost.invariant.ready quiet c.advance-innermost.ensures.moved c.advance-innermost.ensures.kept c.advance-innermost.ensures.room in
+    let m : MovesQuietly c.in-Some.work c.loop-innermost.tree (Some c.in-Some-move_quietly.next) c.move_quietly.new.tree = rw c.in-Some-move_quietly.is at c.move_quietly.ensures.moved in
+    let o = onward c.in-Some.work c.loop-innermost.innermost c.loop-innermost.tree c.in-Some-move_quietly.next c.move_quietly.new.tree c.in-Some.is c.loop-innermost.invariant.ready m c.move_quietly.ensures.room in
     rw c.in-Some.is (o.falls (length c.args.tree.now.rows) c.loop-innermost.invariant.rows)
 
 pub loop-innermost-preserved : goal.loop-innermost-preserved
 loop-innermost-preserved c =
-    let quiet : speaking (frees_of (Some c.in-Some.work) c.loop-innermost.tree) ≡ false = sym c.speaks.ensures ∙ c.if-speaks.false in
-    let o = onward c.in-Some.work c.loop-innermost.innermost c.loop-innermost.tree c.advance-innermost.result.told c.advance-innermost.result.innermost c.advance-innermost.new.tree
-    c.in-Some.is c.loop-innermost.invariant.ready quiet c.advance-innermost.ensures.moved c.advance-innermost.ensures.kept c.advance-innermost.ensures.room in
+    let m : MovesQuietly c.in-Some.work c.loop-innermost.tree (Some c.in-Some-move_quietly.next) c.move_quietly.new.tree = rw c.in-Some-move_quietly.is at c.move_quietly.ensures.moved in
+    let o = onward c.in-Some.work c.loop-innermost.innermost c.loop-innermost.tree c.in-Some-move_quietly.next c.move_quietly.new.tree c.in-Some.is c.loop-innermost.invariant.ready m c.move_quietly.ensures.room in
     record {
       ready = o.ready;
       moves_on = On (frees_of (Some c.in-Some.work) c.loop-innermost.tree) _ (rw c.in-Some.is at c.loop-innermost.invariant.moves_on) o.silently;
       at_work = λ w. o.at_work;
       rows = o.rows (length c.args.tree.now.rows) c.loop-innermost.invariant.rows;
-      spare = omega (arith, c.loop-innermost.invariant.spare, c.advance-innermost.ensures.spare);
-      refs = c.advance-innermost.ensures.refs;
+      spare = omega (arith, c.loop-innermost.invariant.spare, c.move_quietly.ensures.spare);
+      refs = c.move_quietly.ensures.refs;
     }
-
-pub advance-innermost-requires-clause-rests : goal.advance-innermost-requires-clause-rests
-advance-innermost-requires-clause-rests c =
-    let quiet : speaking (frees_of (Some c.in-Some.work) c.loop-innermost.tree) ≡ false = sym c.speaks.ensures ∙ c.if-speaks.false in
-    let w = ready-work c.in-Some.work c.loop-innermost.innermost c.loop-innermost.tree c.in-Some.is c.loop-innermost.invariant.ready quiet in
-    work-rests c.in-Some.work c.loop-innermost.tree.frees (pool_of c.loop-innermost.tree) w
