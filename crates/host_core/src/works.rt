@@ -136,7 +136,9 @@ pub fn settle(now: &mut Active, parts: &mut Parts)
     ensures ready { IsReady now.new parts.new }
     ensures settled { speaking_view (view_in now.new parts.new) ≡ true }
 {
-    if matches!(now, Active::Freeing) {
-        *now = free_up(parts);
+    if matches!(now, Active::Freeing)
+        && let Active::Caller(caller) = free_up(parts)
+    {
+        *now = Active::Caller(caller);
     }
 }
