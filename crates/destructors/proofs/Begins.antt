@@ -1,14 +1,8 @@
 -- A free that begins, or is answered, is at work.
 use Rattle.std.proofs.Common.{◌≡◌, ℕ, ◌+◌, ◌≤◌, List, [], ◌∷◌, length, Option, Some, None, true, false, nat_eq, refl, ◌∙◌, ap, arith}
-use Rattle.tree_specs.specs.Profiles.{profile}
-use Rattle.tree_specs.specs.declared.frame.Frame.TheVariants as frame
-use Rattle.tree_specs.specs.declared.frame.CallFrame.{CallFrame}
-use Rattle.tree_specs.specs.declared.frame.CallFrame.TheVariants.{Awaiting}
 use Rattle.tree_specs.specs.declared.frame.FreeFrame.{FreeFrame}
-use Rattle.tree_specs.specs.declared.frame.FreeFrame.TheVariants.{Unlinking, Releasing, Giving, Beginning, Hooked, Judged, Leaving, Looping, Trying, Tried, Ending}
+use Rattle.tree_specs.specs.declared.frame.FreeFrame.TheVariants.{Unlinking, Beginning, Hooked, Judged, Looping}
 use Rattle.tree_specs.specs.declared.frame.Purpose.TheVariants.{Emptying}
-use Rattle.tree_specs.specs.declared.question.Ask.{Ask}
-use Rattle.tree_specs.specs.declared.question.Ask.TheVariants.{Quiet, Routine}
 use Rattle.tree_specs.specs.declared.object.Obj.{Obj}
 use Rattle.tree_specs.specs.declared.row.Row.{Row}
 use Rattle.tree_specs.specs.declared.row.Mark.{Mark}
@@ -19,13 +13,9 @@ use Rattle.tree_specs.specs.Pool.{Pool, row_of, target_at, is_dying_mark}
 use Rattle.tree_specs.specs.Targets.{target_of, newest_ref}
 use Rattle.tree_specs.specs.declared.object.Owner.{Owner}
 use Rattle.tree_specs.specs.Sound.{IsLive}
-use Rattle.tree_specs.specs.Story.{hook_moment}
-use Rattle.tree_specs.specs.Whole.{Seated, Serves}
 use Rattle.std.specs.Prelude.{unwrap_or}
 use Rattle.tree_specs.specs.Table.{free_taken}
 use Rattle.tree_specs.proofs.Numbered.{by_test}
-use Rattle.tree_specs.proofs.Changes.{stands}
-use Rattle.tree_specs.proofs.Load.{reseat-free}
 use Rattle.tree_links.specs.Links.{Links, pool_of}
 use Rattle.destructors.specs.Moves.{IsLiveRow}
 use Rattle.destructors.specs.Room.{mark_places, row_places, work_places, wanted}

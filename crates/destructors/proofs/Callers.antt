@@ -1,5 +1,5 @@
 -- Open frees by themselves, and among the works of a host: what holds of the one holds of the other, whatever callers wait.
-use Rattle.std.proofs.Common.{◌≡◌, ℕ, ◌+◌, ◌≤◌, List, [], ◌∷◌, ◌++◌, map, refl, sym, ◌∙◌, ap, subst, arith}
+use Rattle.std.proofs.Common.{◌≡◌, ◌+◌, List, [], ◌∷◌, ◌++◌, map, refl, sym, ◌∙◌, ap, subst, arith}
 use Rattle.tree_specs.specs.declared.frame.Frame.{Frame}
 use Rattle.tree_specs.specs.declared.frame.Frame.TheVariants as frame
 use Rattle.tree_specs.specs.declared.frame.CallFrame.{CallFrame}
@@ -9,12 +9,11 @@ use Rattle.tree_specs.specs.declared.frame.FreeFrame.TheVariants.{Hooked, Leavin
 use Rattle.tree_specs.specs.declared.question.Ask.TheVariants.{Quiet, Routine}
 use Rattle.tree_specs.specs.declared.object.Obj.{Obj}
 use Rattle.tree_specs.specs.Pool.{Pool}
-use Rattle.tree_specs.specs.Inside.{total}
 use Rattle.tree_specs.specs.Story.{hook_moment}
-use Rattle.tree_specs.specs.Profiles.{Phase, Waits, free_profile, call_profile}
+use Rattle.tree_specs.specs.Profiles.{Phase, free_profile, call_profile}
 use Rattle.tree_specs.specs.Sound.{Footing, footing, claims, MayWait, IsWaiting, AllWait, FreeRests}
 use Rattle.tree_specs.specs.Sound.Footing.{OnCall}
-use Rattle.tree_specs.specs.Whole.{Serves, Seated, sizes, burden, Whole}
+use Rattle.tree_specs.specs.Whole.{Serves, Seated, sizes, Whole}
 use Rattle.tree_specs.specs.Alone.{free_footing, free_claim, free_claims, AllFreesWait, free_sizes, AwaitsRun, FreesWork, FreesWait}
 use Rattle.destructors.specs.Callers.{standing, under, free_view, call_view}
 

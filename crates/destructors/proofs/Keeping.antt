@@ -6,14 +6,14 @@ use Rattle.tree_specs.specs.declared.frame.Frame.{Frame}
 use Rattle.tree_specs.specs.declared.frame.Frame.TheVariants as frame
 use Rattle.tree_specs.specs.declared.frame.CallFrame.{CallFrame}
 use Rattle.tree_specs.specs.declared.frame.FreeFrame.{FreeFrame}
-use Rattle.tree_specs.specs.declared.frame.FreeFrame.TheVariants.{Unlinking, Releasing, Giving, Beginning, Hooked, Judged, Leaving, Looping, Trying, Tried, Ending}
+use Rattle.tree_specs.specs.declared.frame.FreeFrame.TheVariants.{Unlinking, Releasing, Giving, Beginning, Hooked, Judged, Leaving, Looping, Tried}
 use Rattle.tree_specs.specs.declared.frame.Purpose.{Purpose}
 use Rattle.tree_specs.specs.declared.frame.Purpose.TheVariants.{Removal, Emptying}
 use Rattle.tree_specs.specs.declared.frame.Answer.TheVariants.{Freed}
 use Rattle.tree_specs.specs.declared.free_step.FreeReply.{FreeReply}
-use Rattle.tree_specs.specs.declared.free_step.FreeReply.TheVariants.{Ok, Held, Running, Refused as IsRefused}
+use Rattle.tree_specs.specs.declared.free_step.FreeReply.TheVariants.{Held, Running, Refused as IsRefused}
 use Rattle.tree_specs.specs.declared.free_step.FreeStep.{FreeStep}
-use Rattle.tree_specs.specs.declared.free_step.FreeStep.TheVariants.{Ask, Dropped, Refused, Accepted, Left, Moved, Gone, Done}
+use Rattle.tree_specs.specs.declared.free_step.FreeStep.TheVariants.{Ask, Done}
 use Rattle.tree_specs.specs.declared.object.Obj.{Obj}
 use Rattle.tree_specs.specs.declared.object.Owner.{Owner}
 use Rattle.tree_specs.specs.declared.object.Owner.TheVariants.{Of}

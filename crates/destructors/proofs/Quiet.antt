@@ -1,8 +1,8 @@
 -- What is known of a move that tells nothing, by what comes next of the work.
-use Rattle.std.proofs.Common.{◌≡◌, ℕ, true, false, nat_eq, Option, Some, None, refl, sym, ◌∙◌, ap}
+use Rattle.std.proofs.Common.{◌≡◌, nat_eq, Option, Some, None, refl, ap}
 use Rattle.step_machine.specs.Machine.{Move as Do}
 use Rattle.tree_specs.specs.declared.frame.FreeFrame.{FreeFrame}
-use Rattle.tree_specs.specs.declared.frame.FreeFrame.TheVariants.{Unlinking, Releasing, Giving, Beginning, Hooked, Judged, Leaving, Looping, Trying, Tried, Ending}
+use Rattle.tree_specs.specs.declared.frame.FreeFrame.TheVariants.{Unlinking, Releasing, Beginning, Hooked, Judged, Looping, Trying, Tried, Ending}
 use Rattle.tree_specs.specs.declared.frame.Purpose.{Purpose}
 use Rattle.tree_specs.specs.declared.frame.Purpose.TheVariants.{Removal, Emptying}
 use Rattle.tree_specs.specs.declared.free_step.FreeReply.{FreeReply}
@@ -14,10 +14,9 @@ use Rattle.tree_specs.specs.declared.row.Mark.{Mark}
 use Rattle.tree_specs.specs.declared.row.Mark.TheVariants.{Quiet, Asked, Busy, Doomed, Dying}
 use Rattle.tree_specs.specs.Pool.{Pool, marked_row, row_of, is_below, owner_of, first_kid, target_at, newest_ref_of, is_inside}
 use Rattle.tree_specs.specs.Targets.{newest_ref}
-use Rattle.tree_specs.specs.Table.{FreeMove, free_step, begin_by, begin_quiet, begin_step, refs_step, unlink_step, release_step, judge_step, child_step, loop_step, hand_on_step, tried_step}
+use Rattle.tree_specs.specs.Table.{FreeMove, free_step, begin_by, begin_step, refs_step, unlink_step, release_step, child_step, loop_step, hand_on_step, tried_step}
 use Rattle.tree_specs.proofs.Numbered.{by_test}
-use Rattle.destructors.specs.declared.motion.Outlook.{Outlook}
-use Rattle.destructors.specs.declared.motion.Outlook.TheVariants.{Telling, Ending as Over, Going, Pushing}
+use Rattle.destructors.specs.declared.motion.Outlook.TheVariants.{Ending as Over, Going, Pushing}
 use Rattle.references.specs.Rows.{SameRefs}
 use Rattle.references.proofs.Rows.{same-changed}
 use Rattle.destructors.specs.Moves.{outlook_of, entered, doomed_by, doomed, ended, MayEnter}

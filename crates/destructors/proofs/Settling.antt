@@ -1,15 +1,13 @@
 -- A move that tells nothing, by the parts of an engine.
 use Rattle.std.proofs.Common.{◌≡◌, ℕ, ◌+◌, ◌≤◌, ◌<◌, List, [], ◌∷◌, length, Option, Some, None, true, false, refl, sym, ◌∙◌, ap, subst, inl, inr, arith}
 use Rattle.tree_specs.specs.declared.frame.FreeFrame.{FreeFrame}
-use Rattle.tree_specs.specs.declared.frame.FreeFrame.TheVariants.{Unlinking, Releasing, Giving, Beginning, Hooked, Judged, Leaving, Looping, Trying, Tried, Ending}
-use Rattle.tree_specs.specs.declared.frame.Frame.TheVariants as frame
+use Rattle.tree_specs.specs.declared.frame.FreeFrame.TheVariants.{Hooked}
 use Rattle.step_machine.specs.Machine.{Move as Do}
 use Rattle.tree_specs.specs.declared.object.Obj.{Obj}
 use Rattle.tree_specs.specs.declared.free_step.FreeReply.{FreeReply}
 use Rattle.tree_specs.specs.declared.free_step.FreeStep.{FreeStep}
-use Rattle.tree_specs.specs.declared.free_step.FreeStep.TheVariants.{Ask, Dropped, Refused, Accepted, Left, Moved, Gone, Done}
+use Rattle.tree_specs.specs.declared.free_step.FreeStep.TheVariants.{Ask, Done}
 use Rattle.tree_specs.specs.Table.{FreeMove, free_step}
-use Rattle.tree_specs.specs.Whole.{Seated}
 use Rattle.tree_specs.specs.Pool.{Pool}
 use Rattle.tree_links.specs.Links.{Links, pool_of}
 use Rattle.destructors.specs.Frees.{OpenFrees, before, frees_of, answered, moved, moves, speaks, speaking, Silently, Still, On}

@@ -1,6 +1,6 @@
 -- What the steps of a host leave ready.
 use Rattle.std.proofs.Common.{◌≡◌, ℕ, List, [], ◌∷◌, ◌++◌, Option, Some, None, false, refl, sym, ◌∙◌, ap, subst}
-use Rattle.std.specs.Prelude.{map, is_some, reverse, slice_get}
+use Rattle.std.specs.Prelude.{map, is_some, slice_get}
 use Rattle.std.proofs.lemmas.List.{reverse-append}
 use Rattle.tree_specs.specs.declared.event.Event.{Event}
 use Rattle.tree_specs.specs.declared.question.Ask.{Ask}
@@ -8,13 +8,13 @@ use Rattle.tree_specs.specs.declared.question.Ask.TheVariants.{Routine}
 use Rattle.tree_specs.specs.declared.frame.Frame.{Frame}
 use Rattle.tree_specs.specs.declared.frame.Frame.TheVariants as frame
 use Rattle.tree_specs.specs.declared.frame.CallFrame.{CallFrame}
-use Rattle.tree_specs.specs.declared.frame.CallFrame.TheVariants.{Asking, Doing, Awaiting, Warning, Telling, Returning}
+use Rattle.tree_specs.specs.declared.frame.CallFrame.TheVariants.{Asking, Awaiting, Returning}
 use Rattle.tree_specs.specs.declared.frame.FreeFrame.{FreeFrame}
-use Rattle.tree_specs.specs.declared.frame.FreeFrame.TheVariants.{Unlinking, Releasing, Giving, Beginning, Hooked, Judged, Leaving, Looping, Trying, Tried, Ending}
+use Rattle.tree_specs.specs.declared.frame.FreeFrame.TheVariants.{Unlinking, Beginning, Hooked}
 use Rattle.tree_specs.specs.declared.frame.Answer.TheVariants.{Freed}
 use Rattle.tree_specs.specs.declared.free_step.FreeReply.{FreeReply}
 use Rattle.tree_specs.specs.declared.free_step.FreeStep.{FreeStep}
-use Rattle.tree_specs.specs.declared.free_step.FreeStep.TheVariants.{Ask as AskOf, Dropped, Refused, Accepted, Left, Moved, Gone, Done}
+use Rattle.tree_specs.specs.declared.free_step.FreeStep.TheVariants.{Ask as AskOf, Done}
 use Rattle.tree_specs.specs.declared.object.Obj.{Obj}
 use Rattle.tree_specs.specs.Pool.{Pool, row_of, target_at}
 use Rattle.tree_specs.specs.Story.{hook_moment}
@@ -38,7 +38,7 @@ use Rattle.host_core.specs.declared.caller.Waiting.{Waiting}
 use Rattle.host_core.specs.Hosts.{seen, view_of, stack_of, awaiting, speaking_view, Ready, Along, Onward}
 use Rattle.host_core.proofs.Onward.{AfterEvent}
 use Rattle.host_core.proofs.FreeSteps.{speaks-events, silently-along}
-use Rattle.host_core.proofs.CallSteps.{stands-on, news-onward, news-event, ask-onward, done-onward}
+use Rattle.host_core.proofs.CallSteps.{news-onward, news-event, ask-onward, done-onward}
 
 -- ---- a step of the innermost free
 

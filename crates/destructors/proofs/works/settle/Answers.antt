@@ -1,4 +1,4 @@
-use Rattle.std.proofs.Common.{◌≡◌, length, Some, None, false, refl, sym, ◌∙◌, arith}
+use Rattle.std.proofs.Common.{length, Some, None, refl, arith}
 use Rattle.destructors.specs.Frees.{frees_of, Still, On}
 use Rattle.destructors.specs.Engine.{MayMove, HasRoom, MovesQuietly}
 use Rattle.destructors.proofs.Settling.{onward}

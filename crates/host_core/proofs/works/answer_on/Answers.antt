@@ -1,6 +1,4 @@
-use Rattle.std.proofs.Common.{◌≡◌, ◌∙◌, subst, ap}
-use Rattle.tree_specs.specs.declared.question.Ask.{Ask}
-use Rattle.tree_specs.specs.declared.question.Act.TheVariants as act
+use Rattle.std.proofs.Common.{◌∙◌, subst, ap}
 use Rattle.tree_specs.specs.declared.question.Input.{Input}
 use Rattle.tree_specs.specs.declared.question.Input.TheVariants as input
 use Rattle.tree_specs.specs.declared.frame.CallFrame.TheVariants.{Returning}

@@ -1,10 +1,6 @@
-use Rattle.std.proofs.Common.{◌≡◌, List, refl, sym, ◌∙◌, ap, subst}
+use Rattle.std.proofs.Common.{refl, sym, ◌∙◌, ap}
 use Rattle.tree_specs.specs.Schedule.{misfit}
-use Rattle.tree_specs.specs.Whole.{Whole}
-use Rattle.object_pool.specs.Objects.{Objects}
-use Rattle.host_core.specs.declared.caller.Waiting.{Waiting}
-use Rattle.destructors.specs.Callers.{call_view}
-use Rattle.host_core.specs.Hosts.{begins_with, stack_of, view_at, Along, view_in}
+use Rattle.host_core.specs.Hosts.{stack_of}
 use Rattle.host_core.proofs.Calling.{open_question, stays-at, speaks-at}
 use Rattle.host_core.proofs.Offering.{asks-now, offered, offered-report, unasked, question-view, takes-answer}
 use Rattle.host_core.proofs.Onward.{along-then}
