@@ -2,7 +2,7 @@ use super::*;
 use std::alloc::Global;
 use std::process::Abort;
 use std::test::Fail;
-use tree_specs::{Call, Name, Obj, Owner, ReportRow, RowKind};
+use tree_specs::{Call, Name, Owner, ReportRow, RowKind};
 
 #[test]
 fn reads_numbers(rt: HostRuntime) {
@@ -75,23 +75,6 @@ fn reads_names(rt: HostRuntime) -> Result<(), Fail> {
 }
 
 #[test]
-fn reads_new_and_free(rt: HostRuntime) -> Result<(), Fail> {
-    match read_call(rt.alloc(), b"new 7 10 a-b")? {
-        Call::New { owner, size, name } => {
-            assert_eq!(rt; owner, Owner::Of(Obj(7)));
-            assert_eq!(rt; size, 10);
-            assert_eq!(rt; name.as_slice(), b"a-b".as_slice());
-        }
-        _ => assert!(rt; false, "another call"),
-    }
-    match read_call(rt.alloc(), b"free 9")? {
-        Call::Free { x } => assert_eq!(rt; x, Obj(9)),
-        _ => assert!(rt; false, "another call"),
-    }
-    Ok(())
-}
-
-#[test]
 fn writes_the_root_as_zero(rt: HostRuntime) -> Result<(), Fail> {
     let mut out = Vec::new(rt.alloc());
     let name = read_name(rt.alloc(), b"top")?;
@@ -104,95 +87,6 @@ fn writes_the_root_as_zero(rt: HostRuntime) -> Result<(), Fail> {
         &mut out,
     )?;
     assert_eq!(rt; out.as_slice(), b"new 0 0 top".as_slice());
-    Ok(())
-}
-
-#[test]
-fn reads_calls_that_place_an_object(rt: HostRuntime) -> Result<(), Fail> {
-    match read_call(rt.alloc(), b"steal 7 9")? {
-        Call::Steal { owner, x } => {
-            assert_eq!(rt; owner, Owner::Of(Obj(7)));
-            assert_eq!(rt; x, Obj(9));
-        }
-        _ => assert!(rt; false, "another call"),
-    }
-    match read_call(rt.alloc(), b"move 0 9")? {
-        Call::Move { owner, x } => {
-            assert_eq!(rt; owner, Owner::Root);
-            assert_eq!(rt; x, Obj(9));
-        }
-        _ => assert!(rt; false, "another call"),
-    }
-    match read_call(rt.alloc(), b"reparent 7 0 9")? {
-        Call::Reparent { from, to, x } => {
-            assert_eq!(rt; from, Owner::Of(Obj(7)));
-            assert_eq!(rt; to, Owner::Root);
-            assert_eq!(rt; x, Obj(9));
-        }
-        _ => assert!(rt; false, "another call"),
-    }
-    Ok(())
-}
-
-#[test]
-fn reads_hook_and_unhook(rt: HostRuntime) -> Result<(), Fail> {
-    let cases = [
-        (b"hook 1 16".as_slice(), 16),
-        (b"hook 1 1".as_slice(), 1),
-        (b"hook 1 4294967295".as_slice(), 4_294_967_295),
-    ];
-    for (text, want) in cases {
-        match read_call(rt.alloc(), text)? {
-            Call::Hook { x, routine } => {
-                assert_eq!(rt; x, Obj(1), "at {text:?}");
-                assert_eq!(rt; routine, want, "at {text:?}");
-            }
-            _ => assert!(rt; false, "another call"),
-        }
-    }
-    match read_call(rt.alloc(), b"unhook 1")? {
-        Call::Unhook { x } => assert_eq!(rt; x, Obj(1)),
-        _ => assert!(rt; false, "another call"),
-    }
-    Ok(())
-}
-
-#[test]
-fn reads_rename_and_parent(rt: HostRuntime) -> Result<(), Fail> {
-    match read_call(rt.alloc(), b"rename 9 a-b")? {
-        Call::Rename { x, name } => {
-            assert_eq!(rt; x, Obj(9));
-            assert_eq!(rt; name.as_slice(), b"a-b".as_slice());
-        }
-        _ => assert!(rt; false, "another call"),
-    }
-    match read_call(rt.alloc(), b"parent 9")? {
-        Call::Parent { x } => assert_eq!(rt; x, Obj(9)),
-        _ => assert!(rt; false, "another call"),
-    }
-    Ok(())
-}
-
-#[test]
-fn reads_calls_of_what_is_below(rt: HostRuntime) -> Result<(), Fail> {
-    match read_call(rt.alloc(), b"freekids 9")? {
-        Call::Freekids { x } => assert_eq!(rt; x, Obj(9)),
-        _ => assert!(rt; false, "another call"),
-    }
-    match read_call(rt.alloc(), b"total 0")? {
-        Call::Total { owner } => assert_eq!(rt; owner, Owner::Root),
-        _ => assert!(rt; false, "another call"),
-    }
-    match read_call(rt.alloc(), b"count 7")? {
-        Call::Count { owner } => assert_eq!(rt; owner, Owner::Of(Obj(7))),
-        _ => assert!(rt; false, "another call"),
-    }
-    match read_call(rt.alloc(), b"report 18446744073709551615")? {
-        Call::Report { owner } => {
-            assert_eq!(rt; owner, Owner::Of(Obj(18_446_744_073_709_551_615)));
-        }
-        _ => assert!(rt; false, "another call"),
-    }
     Ok(())
 }
 
