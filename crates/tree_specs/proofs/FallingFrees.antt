@@ -33,7 +33,7 @@ use Rattle.tree_specs.specs.Table.{table, step, resume, lifted, begin_quiet, beg
 use Rattle.tree_specs.specs.Sound.{claims, IsWaiting, AllWait, IsLive, Stands, Tries, IsOver, Sound, IsQuietRow}
 use Rattle.tree_specs.proofs.Numbered.{by_test, same-equal, same_owner-false}
 use Rattle.tree_specs.proofs.Heirs.{heir-other}
-use Rattle.tree_specs.proofs.Checks.{Heard, Does, Returns, heard-leads}
+use Rattle.tree_specs.proofs.Checks.{Heard, HeardCall, HeardReturn, heard-leads}
 use Rattle.tree_specs.specs.Inside.{total}
 use Rattle.tree_specs.specs.Measure.{count, mark_weight, weight, unit, waiting_cost, top_cost, cost, pending, loop_kids}
 use Rattle.tree_specs.proofs.Rows.{total-without, total-placed, total-changed, total-length, count-length}
@@ -91,8 +91,8 @@ asking-lower R q fs p zero room = tt
 asking-lower R q fs p (suc k) room = λ i g e. leads g (heard-leads q i g e)
   where
     leads : (g : Frame) → Heard q g → Room R g p k × (cost R g fs p k < cost R (frame.Call (Asking q)) fs p (suc k))
-    leads _ (Does c) = (omega arith, omega arith)
-    leads _ (Returns v of) = (omega arith, omega arith)
+    leads _ (HeardCall c) = (omega arith, omega arith)
+    leads _ (HeardReturn v of) = (omega arith, omega arith)
 
 pub length-changed : (g : Row → Row) (rs : List Row) (x : Obj) → length (changed g rs x) ≡ length rs
 length-changed g [] x = refl

@@ -1,25 +1,18 @@
 -- The steps of callers: a question, a call, a reply, a return.
 use Rattle.tree_specs.specs.Profiles.{InRun}
-use Rattle.tree_specs.specs.declared.kind.Kind.TheVariants as kind
 use Rattle.tree_specs.specs.declared.row.Row.{Row}
-use Rattle.std.specs.Prelude.{codes}
 use Rattle.std.specs.List.{list_any}
-use Rattle.tree_specs.specs.declared.object.Owner.TheVariants.{Root}
-use Rattle.tree_specs.proofs.Rows.{row_of-placed-same}
-use Rattle.tree_specs.proofs.Referring.{newest-of-refers}
 use Rattle.tree_specs.specs.Targets.{newest_ref}
-use Rattle.std.proofs.Common.{◌≡◌, ℕ, List, [], ◌∷◌, ◌++◌, Option, Some, None, true, refl, sym, subst, map, Bool, false}
+use Rattle.std.proofs.Common.{◌≡◌, ℕ, List, [], ◌∷◌, ◌++◌, Option, Some, None, true, refl, sym, subst, map, false}
 use Rattle.step_machine.specs.Machine.{Move as Do}
 use Rattle.step_machine.specs.Noted.{noted_work, with_note, scene}
 use Rattle.tree_specs.specs.declared.object.Obj.{Obj}
-use Rattle.tree_specs.specs.declared.object.Owner.{Owner}
 use Rattle.tree_specs.specs.declared.call.Call.{Call}
 use Rattle.tree_specs.specs.declared.call.Call.TheVariants as call
 use Rattle.tree_specs.specs.declared.question.Ask.{Ask}
 use Rattle.tree_specs.specs.declared.question.Ask.TheVariants as ask
 use Rattle.tree_specs.specs.declared.question.Input.{Input}
 use Rattle.tree_specs.specs.declared.reply.Reply.{Reply}
-use Rattle.tree_specs.specs.declared.reply.Reply.TheVariants as reply
 use Rattle.tree_specs.specs.declared.event.Event.TheVariants.{Replied, Warned}
 use Rattle.tree_specs.specs.declared.frame.Frame.{Frame}
 use Rattle.tree_specs.specs.declared.frame.Frame.TheVariants as frame
@@ -27,31 +20,30 @@ use Rattle.tree_specs.specs.declared.frame.CallFrame.TheVariants.{Asking, Doing,
 use Rattle.tree_specs.specs.declared.frame.FreeFrame.TheVariants.{Unlinking, Beginning, Looping}
 use Rattle.tree_specs.specs.declared.frame.Purpose.TheVariants.{Emptying}
 use Rattle.tree_specs.specs.declared.frame.Answer.TheVariants as answer
-use Rattle.tree_specs.specs.Pool.{Pool, row_of, owner_of, add, place, set_hook, rename, set_size, set_limit}
+use Rattle.tree_specs.specs.Pool.{Pool, row_of}
 use Rattle.tree_specs.specs.Items.{Item}
 use Rattle.tree_specs.specs.Items.Item.{Told, Asked}
-use Rattle.tree_specs.specs.declared.kind.Kind.TheVariants.{Plain}
-use Rattle.tree_specs.specs.Calls.{Check, refusals}
-use Rattle.tree_specs.specs.Sums.{sum_inside}
-use Rattle.tree_specs.specs.Inside.{size_inside, count_inside}
-use Rattle.tree_specs.specs.Reports.{report}
+use Rattle.tree_specs.specs.Calls.{Check, refusals, tests, is_held}
 use Rattle.tree_specs.specs.Works.{Begun, Scene}
-use Rattle.tree_specs.specs.Story.{owner_reply, later, warns, reparented, refer}
-use Rattle.tree_specs.specs.Table.{notes, step, taken, call_step, effect_step, placed_step, freeing_by}
-use Rattle.tree_specs.specs.Orderly.{Fits, frees}
+use Rattle.tree_specs.specs.Story.{later}
+use Rattle.tree_specs.specs.Table.{notes, step, taken, plan_step}
+use Rattle.tree_specs.specs.Orderly.{Fits, frees as tells_free}
 use Rattle.tree_specs.specs.Orderly.{asks_hook}
 use Rattle.tree_specs.specs.Grounded.{AsksHook}
-use Rattle.tree_specs.specs.Sound.{AllWait, claim, claims, phases, Sound}
+use Rattle.tree_specs.specs.Sound.{AllWait, claim, claims, phases, Refers, Sound}
 use Rattle.tree_specs.specs.Whole.{Whole, Seated}
 use Rattle.tree_specs.proofs.Numbered.{same-equal}
-use Rattle.tree_specs.specs.Sound.{MayBePlaced}
-use Rattle.tree_specs.proofs.Checks.{passes-placing, passes-reparent, passes-object, passes-resize, passes-hooking, Heard, Does, Returns, heard-leads, MayGo, Itself, ItsRef, passes-free}
+use Rattle.tree_specs.proofs.Checks.{all-pass, Heard, HeardCall, HeardReturn, heard-leads}
+use Rattle.tree_specs.proofs.Plans.{May, follows, may-planned}
+use Rattle.tree_specs.specs.Forest.{Distinct}
+use Rattle.tree_specs.specs.Plans.{Plan, plan, planned, unless_refused, changed_by, frees, hands_on, gift}
+use Rattle.tree_specs.specs.Plans.Plan.{Does, Frees, Unlinks, Empties}
 use Rattle.tree_specs.proofs.Changes.{running-row, claim-here}
-use Rattle.tree_specs.proofs.Later.{Later, later-same, later-placed, later-hooked, later-renamed, later-sized, later-limited, later-added}
+use Rattle.tree_specs.proofs.Later.{Later, later-same}
 use Rattle.tree_specs.proofs.Past.{Accounts, Past, past-goes, past-tells, unfreed, unaccepted}
 use Rattle.tree_specs.proofs.Causes.{NotedWork, told, IsFreeOf, IsHookOf, FreesBy, StandsOn, Stacked, IsCaused, IsAskedFor, Cause, NotHeld}
 use Rattle.tree_specs.proofs.Waiters.{Waiter, ForFree, ForRun, ForChild, waiter}
-use Rattle.tree_specs.proofs.OwnRefusals.{IsOwn, AllOwn, own-refusals, own-just-now, own-call}
+use Rattle.tree_specs.proofs.OwnRefusals.{AllOwn, own-refused, own-just-now, own-call}
 use Rattle.tree_specs.proofs.Fitting.{last-more, fits-replied, fits-quiet, fits-asked, fits-warned}
 use Rattle.tree_specs.proofs.Fine.{work_of, Known, FineBy, restacked, of-next, from-next, later-hook, AnswersTo, resumed, known-told, taken-noted}
 
@@ -98,8 +90,8 @@ asking-fine scenes q b ws p whole known = (
     asked _ n (ForChild x c noted purpose) on = tt
 
     leads : (g : Frame) → Heard q g → Known (scenes ++ s ∷ []) (with_note b g) ws p
-    leads _ (Does c) = known-told scenes s (with_note b (frame.Call (Doing q c))) ws p (goes _ tt) (restacked f (frame.Call (Doing q c)) ws (λ x h. h) (λ x h. h) known.stacked) tt
-    leads _ (Returns v of) = known-told scenes s (with_note b (frame.Call (Returning v))) ws p (goes _ tt) (restacked f (frame.Call (Returning v)) ws (λ x h. h) (λ x h. tt) known.stacked)
+    leads _ (HeardCall c) = known-told scenes s (with_note b (frame.Call (Doing q c))) ws p (goes _ tt) (restacked f (frame.Call (Doing q c)) ws (λ x h. h) (λ x h. h) known.stacked) tt
+    leads _ (HeardReturn v of) = known-told scenes s (with_note b (frame.Call (Returning v))) ws p (goes _ tt) (restacked f (frame.Call (Returning v)) ws (λ x h. h) (λ x h. tt) known.stacked)
         (of-next (IsAskedFor (scenes ++ s ∷ [])) f ws whole.sound.waiting known.stacked asked)
 
     next : (i : Input) (g : NotedWork) → noted_work b (taken f p i) ≡ Some g → Known (scenes ++ s ∷ []) g ws p
@@ -136,7 +128,7 @@ warning-fine scenes q x r b ws p known =
           (restacked f g ws (λ y h. h) (λ y h. h) known.stacked) (known.cause.0 (scenes ++ scene notes f b p e ∷ [])),
     )
   where
-    there : (o : Option Row) → row_of p.rows x ≡ o → list_any (frees x) (told scenes) ≡ false
+    there : (o : Option Row) → row_of p.rows x ≡ o → list_any (tells_free x) (told scenes) ≡ false
     there None e = let bad : false ≡ true = rw e at known.cause.1 in cc
     there (Some row) e = unfreed (told scenes) (frame.Call (Warning q x r)) (map work_of ws) p x row known.past e
 
@@ -150,6 +142,38 @@ returning-fine scenes v b ws p wait known =
     answers _ n (ForRun x h) on last = last
     answers _ n (ForFree q x) on last = absurd on.0
     answers _ n (ForChild x c noted purpose) on last = tt
+
+-- ---- calls
+
+-- why a plan replies so, or which call it is that frees
+abbrev CausedBy : Pool → Call → Plan → Type 0
+CausedBy p c (Does change warned r) = (scenes : List Scene) → IsCaused scenes (Some (record { call = c; start = p })) r
+CausedBy p c (Frees x) = FreesBy x c × NotHeld c p
+CausedBy p c (Unlinks o x) = FreesBy x c × NotHeld c p
+CausedBy p c (Empties x) = FreesBy x c × NotHeld c p
+
+-- what isn't said of a call is a reply that needs no cause
+caused : (p : Pool) (c : Call) → refusals p c ≡ [] → CausedBy p c (plan p c)
+caused p (call.Free x) none = each (newest_ref p.rows x) ((all-pass p (tests (call.Free x)) none).1.0)
+  where
+    each : (o : Option Obj) → is_held p x ≡ false → CausedBy p (call.Free x) (frees o x)
+    each None free = (refl, free)
+    each (Some r) free = (refl, free)
+caused p (call.Freekids x) none = (refl, tt)
+caused p (call.Unlink o x) none = (refl, tt)
+caused p (call.Reparent from to x) none = each (gift p from x)
+  where
+    each : (o : Option Obj) → CausedBy p (call.Reparent from to x) (hands_on to o)
+    each None = λ scenes. (tt, tt, tt, tt)
+    each (Some r) = λ scenes. (tt, tt, tt, tt)
+caused p c none = λ scenes. (tt, tt, tt, tt)
+
+caused-planned : (p : Pool) (c : Call) → Distinct p.rows → Refers p.rows → CausedBy p c (planned p c)
+caused-planned p c d refers = each (refusals p c) refl (own-refused p (tests c))
+  where
+    each : (check : Check) → refusals p c ≡ check → AllOwn check → CausedBy p c (unless_refused check (plan p c))
+    each [] none own = caused p c none
+    each (why ∷ rest) e own = λ scenes. (let h = own-call scenes p c why rest d refers e in (own-just-now (told scenes) why own.0, h.0, h.1, h.2))
 
 -- a call that needs no free has its reply told
 module _ (scenes : List Scene) (q : Ask) (c : Call) (b : Option Begun) (ws : List NotedWork) (p : Pool) (known : Known scenes (with_note b (frame.Call (Doing q c))) ws p) where
@@ -177,57 +201,20 @@ module _ (scenes : List Scene) (q : Ask) (c : Call) (b : Option Begun) (ws : Lis
         cause = cause;
       }
 
-  -- an object is put below an owner, which may be worth a warning
-  placed-next : (r : Reply) (o : Owner) (x : Obj) → MayBePlaced p o x → ((more : List Scene) → IsCaused more (Some begun) r) → (w : Bool) → FineBy scenes (frame.Call (Doing q c)) b p (placed_step w q x r (place p o x)) ws
-  placed-next r o x may cause false = told-next r (place p o x) (later-placed p o x may.row may.is) (cause scenes)
-  placed-next r o x may cause true =
+  planned-next : (plan : Plan) → May p plan → CausedBy p c plan → FineBy scenes (frame.Call (Doing q c)) b p (plan_step q plan p) ws
+  planned-next (Does change None r) may cause = told-next r (changed_by change p) (follows p change may.0).later (cause scenes)
+  planned-next (Does change (Some x) r) may cause =
       let f : Frame = frame.Call (Doing q c) in
       let g : Frame = frame.Call (Warning (later q r) x r) in
       record {
-        past = past-goes (told scenes) f g (map work_of ws) (map work_of ws) p (place p o x) known.past (later-placed p o x may.row may.is) (λ y l. absurd l) tt known.past.all_account;
+        past = past-goes (told scenes) f g (map work_of ws) (map work_of ws) p (changed_by change p) known.past (follows p change may.0).later (λ y l. absurd l) tt known.past.all_account;
         stacked = restacked f g ws (λ y h. h) (λ y h. later-hook y q r h) known.stacked;
-        cause = (cause, rw (row_of-placed-same p o x may.row may.is) refl);
+        cause = (cause, may.2);
       }
-
-  freed-next : (x : Obj) → FreesBy x c → NotHeld c p → (o : Option Obj) → FineBy scenes (frame.Call (Doing q c)) b p (Do.Call (frame.Free (freeing_by o x)) (frame.Call (Awaiting q x)) p) ws
-  freed-next x by free None = frees-next x (frame.Free (Beginning x)) refl by free tt refl
-  freed-next x by free (Some r) = frees-next x (frame.Free (Unlinking Root x)) refl by free tt refl
-
-  reparents-next : Sound (frame.Call (Doing q c)) (map work_of ws) p → (from to : Owner) (x : Obj) → MayGo p from to x → IsCaused scenes (Some begun) reply.Ok
-      → FineBy scenes (frame.Call (Doing q c)) b p (Do.Go (frame.Call (Telling (later q reply.Ok) reply.Ok)) (reparented p from to x)) ws
-  reparents-next s from to x (Itself t may) cause = rw t (told-next reply.Ok (place p to x) (later-placed p to x may.row may.is) cause)
-  reparents-next s from to x (ItsRef r t n there) cause =
-      let w = newest-of-refers p.rows from x r s.forest.distinct n in
-      rw (t, n) (told-next reply.Ok (place p to r) (later-placed p to r w.0 w.1) cause)
-
-effect-fine : (scenes : List Scene) (q : Ask) (c : Call) (b : Option Begun) (ws : List NotedWork) (p : Pool) → Known scenes (with_note b (frame.Call (Doing q c))) ws p → Sound (frame.Call (Doing q c)) (map work_of ws) p
-    → refusals p c ≡ [] → FineBy scenes (frame.Call (Doing q c)) b p (effect_step q c p) ws
-effect-fine scenes q (call.New o size name) b ws p known s none = told-next scenes q _ b ws p known (reply.Number p.next) (add p Plain o size name) (later-added p Plain o size name) (tt, tt, tt, tt)
-effect-fine scenes q (call.Free x) b ws p known s none = freed-next scenes q _ b ws p known x refl (passes-free p x none).1 (newest_ref p.rows x)
-effect-fine scenes q (call.Freekids x) b ws p known s none = frees-next scenes q _ b ws p known x (frame.Free (Looping x Emptying)) refl refl tt tt tt
-effect-fine scenes q (call.Steal o x) b ws p known s none = placed-next scenes q _ b ws p known reply.Ok o x (passes-placing p o x none) (λ more. (tt, tt, tt, tt)) (warns p o x)
-effect-fine scenes q (call.Move o x) b ws p known s none = placed-next scenes q _ b ws p known (reply.Number x.0) o x (passes-placing p o x none) (λ more. (tt, tt, tt, tt)) (warns p o x)
-effect-fine scenes q (call.Reparent from to x) b ws p known s none = reparents-next scenes q _ b ws p known s from to x (passes-reparent p from to x none) (tt, tt, tt, tt)
-effect-fine scenes q (call.Reference o x) b ws p known s none = told-next scenes q _ b ws p known (reply.Number p.next) (refer p o x) (later-added p (kind.Reference x) o 0 (codes "reference")) (tt, tt, tt, tt)
-effect-fine scenes q (call.Unlink o x) b ws p known s none = frees-next scenes q _ b ws p known x (frame.Free (Unlinking o x)) refl refl tt tt refl
-effect-fine scenes q (call.Hook x h) b ws p known s none = let may = passes-hooking p x none in told-next scenes q _ b ws p known reply.Ok (set_hook p x h) (later-hooked p x may.row h may.is) (tt, tt, tt, tt)
-effect-fine scenes q (call.Unhook x) b ws p known s none = let may = passes-hooking p x none in told-next scenes q _ b ws p known reply.Ok (set_hook p x 0) (later-hooked p x may.row 0 may.is) (tt, tt, tt, tt)
-effect-fine scenes q (call.Rename x name) b ws p known s none = let r = passes-object p x none in told-next scenes q _ b ws p known reply.Ok (rename p x name) (later-renamed p x r.0 name r.1) (tt, tt, tt, tt)
-effect-fine scenes q (call.Resize x size) b ws p known s none = let r = passes-resize p x size none in told-next scenes q _ b ws p known reply.Ok (set_size p x size) (later-sized p x r.0 size r.1) (tt, tt, tt, tt)
-effect-fine scenes q (call.Limit x max) b ws p known s none = let r = passes-object p x none in told-next scenes q _ b ws p known reply.Ok (set_limit p x max) (later-limited p x r.0 max r.1) (tt, tt, tt, tt)
-effect-fine scenes q (call.Parent x) b ws p known s none = told-next scenes q _ b ws p known (owner_reply (owner_of p.rows x)) p (later-same p) (tt, tt, tt, tt)
-effect-fine scenes q (call.Total o) b ws p known s none = told-next scenes q _ b ws p known (reply.Number (size_inside p.rows o)) p (later-same p) (tt, tt, tt, tt)
-effect-fine scenes q (call.Count o) b ws p known s none = told-next scenes q _ b ws p known (reply.Number (count_inside p.rows o)) p (later-same p) (tt, tt, tt, tt)
-effect-fine scenes q (call.Sum o) b ws p known s none = told-next scenes q _ b ws p known (reply.Number (sum_inside p.rows o)) p (later-same p) (tt, tt, tt, tt)
-effect-fine scenes q (call.Report o) b ws p known s none = told-next scenes q _ b ws p known (reply.Rows (report p.rows o)) p (later-same p) (tt, tt, tt, tt)
+  planned-next (Frees x) may cause = frees-next x (frame.Free (Beginning x)) refl cause.0 cause.1 tt refl
+  planned-next (Unlinks o x) may cause = frees-next x (frame.Free (Unlinking o x)) refl cause.0 cause.1 tt refl
+  planned-next (Empties x) may cause = frees-next x (frame.Free (Looping x Emptying)) refl cause.0 cause.1 tt tt
 
 pub doing-fine : (scenes : List Scene) (q : Ask) (c : Call) (b : Option Begun) (ws : List NotedWork) (p : Pool) → Sound (frame.Call (Doing q c)) (map work_of ws) p
     → Known scenes (with_note b (frame.Call (Doing q c))) ws p → FineBy scenes (frame.Call (Doing q c)) b p (step (frame.Call (Doing q c)) p) ws
-doing-fine scenes q c b ws p s known = each (refusals p c) refl
-  where
-    each : (check : Check) → refusals p c ≡ check → FineBy scenes (frame.Call (Doing q c)) b p (call_step (refusals p c) q c p) ws
-    each [] e = rw e (effect-fine scenes q c b ws p known s e)
-    each (why ∷ rest) e =
-        let own : IsOwn why × AllOwn rest = rw e at (own-refusals p c) in
-        let h = own-call scenes p c why rest s.forest.distinct s.refers e in
-        rw e (told-next scenes q c b ws p known (reply.No why) p (later-same p) (own-just-now (told scenes) why own.0, h.0, h.1, h.2))
+doing-fine scenes q c b ws p s known = planned-next scenes q c b ws p known (planned p c) (may-planned (frame.Call (Doing q c)) (map work_of ws) p s c) (caused-planned p c s.forest.distinct s.refers)

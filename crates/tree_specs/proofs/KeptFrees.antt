@@ -38,7 +38,7 @@ use Rattle.tree_specs.proofs.Ancestry.{inside-self, inside-owner, inside-not_bac
 use Rattle.tree_specs.specs.Forest.{IsForest}
 use Rattle.tree_specs.specs.Targets.{target_of, newest_ref}
 use Rattle.tree_specs.proofs.Waiters.{Waiter, ForFree, ForRun, ForChild, waiter}
-use Rattle.tree_specs.proofs.Checks.{Heard, Does, Returns, heard-leads}
+use Rattle.tree_specs.proofs.Checks.{Heard, HeardCall, HeardReturn, heard-leads}
 use Rattle.tree_specs.proofs.Changes.{run-refers, run-unreferred, dropped-sound, dying-row, running-row, claim-here, positive, not-zero, stands, goes_on, changed-sound, shape-of, live-owned, marks-place, hooks-place, unmarked-sound, valid-at, frees-at, placed-sound, heir-placed}
 
 -- what a step leads to is sound
@@ -50,8 +50,8 @@ asking q fs p zero s = tt
 asking q fs p (suc k) s = λ i g e. leads g (heard-leads q i g e)
   where
     leads : (g : Frame) → Heard q g → Sound g fs p
-    leads _ (Does c) = goes_on (frame.Call (Asking q)) (frame.Call (Doing q c)) fs p (λ x. refl) tt s
-    leads _ (Returns v of) = goes_on (frame.Call (Asking q)) (frame.Call (Returning v)) fs p (λ x. refl) tt s
+    leads _ (HeardCall c) = goes_on (frame.Call (Asking q)) (frame.Call (Doing q c)) fs p (λ x. refl) tt s
+    leads _ (HeardReturn v of) = goes_on (frame.Call (Asking q)) (frame.Call (Returning v)) fs p (λ x. refl) tt s
 
 -- a work that ends leaves the work below it sound
 pub ended : (a : Answer) (f : Frame) (fs : List Frame) (p : Pool) (k : ℕ) → Sound f fs p → ((x : Obj) → claim x f ≡ [])

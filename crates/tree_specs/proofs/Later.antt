@@ -7,7 +7,7 @@ use Rattle.tree_specs.specs.declared.row.Row.{Row}
 use Rattle.tree_specs.specs.declared.row.Mark.{Mark}
 use Rattle.tree_specs.specs.declared.row.Mark.TheVariants.{Dying}
 use Rattle.tree_specs.specs.Objects.{same}
-use Rattle.tree_specs.specs.Pool.{Pool, row_of, changed, add, detach, left_row, remove, place, set_mark, marked_row, set_hook, hooked_row, rename, named_row, set_size, sized_row, set_limit, limited_row}
+use Rattle.tree_specs.specs.Pool.{Pool, row_of, changed, add, detach, left_row, remove, place, set_mark, marked_row, set_hook, hooked_row}
 use Rattle.tree_specs.specs.Forest.{Distinct}
 use Rattle.tree_specs.specs.Sound.{IsLive}
 use Rattle.tree_specs.proofs.Numbered.{same_or_not, same-false}
@@ -26,6 +26,13 @@ pub record Later (p q : Pool) : Type 0 where
   pub grows : p.next ≤ q.next
   pub none : (x : Obj) → x.0 < p.next → row_of p.rows x ≡ None → row_of q.rows x ≡ None
   pub past : (x : Obj) → x.0 < p.next → IsPast (row_of p.rows x) → IsPast (row_of q.rows x)
+
+pub later-still : {p q r : Pool} → Later p q → Later q r → Later p r
+later-still {p = p} {q = q} {r = r} a b = let g = a.grows in let h = b.grows in record {
+  grows = omega arith;
+  none = λ x l e. b.none x (omega arith) (a.none x l e);
+  past = λ x l d. b.past x (omega arith) (a.past x l d);
+}
 
 pub later-same : (p : Pool) → Later p p
 later-same p = record { grows = omega arith; none = λ x l e. e; past = λ x l e. e }
@@ -52,7 +59,7 @@ later-there p q x r s grows other was is h =
     later-at p q x grows other (λ l e. let bad : Some r ≡ None = sym was ∙ e in cc)
     (λ l e. let d : IsDying r.mark = rw was at e in rw is (h d))
 
-later-changed : (g : Row → Row) (p : Pool) (x : Obj) (r : Row) → ((r : Row) → (g r).serial ≡ r.serial) → row_of p.rows x ≡ Some r → (IsDying r.mark → IsDying (g r).mark)
+pub later-changed : (g : Row → Row) (p : Pool) (x : Obj) (r : Row) → ((r : Row) → (g r).serial ≡ r.serial) → row_of p.rows x ≡ Some r → (IsDying r.mark → IsDying (g r).mark)
     → Later p (record p { rows = changed g p.rows x })
 later-changed g p x r serial e h =
     later-there p (record p { rows = changed g p.rows x }) x r (g r) (omega arith) (λ y ne. row_of-changed-other g p.rows x y serial ne) e (row_of-changed-same g p.rows x r serial e) h
@@ -66,15 +73,6 @@ later-marked p x r m e l = later-changed (marked_row m) p x r (λ q. refl) e (λ
 
 pub later-hooked : (p : Pool) (x : Obj) (r : Row) (h : ℕ) → row_of p.rows x ≡ Some r → Later p (set_hook p x h)
 later-hooked p x r h e = later-changed (hooked_row h) p x r (λ q. refl) e (λ d. d)
-
-pub later-renamed : (p : Pool) (x : Obj) (r : Row) (name : List ℕ) → row_of p.rows x ≡ Some r → Later p (rename p x name)
-later-renamed p x r name e = later-changed (named_row name) p x r (λ q. refl) e (λ d. d)
-
-pub later-sized : (p : Pool) (x : Obj) (r : Row) (size : ℕ) → row_of p.rows x ≡ Some r → Later p (set_size p x size)
-later-sized p x r size e = later-changed (sized_row size) p x r (λ q. refl) e (λ d. d)
-
-pub later-limited : (p : Pool) (x : Obj) (r : Row) (limit : ℕ) → row_of p.rows x ≡ Some r → Later p (set_limit p x limit)
-later-limited p x r limit e = later-changed (limited_row limit) p x r (λ q. refl) e (λ d. d)
 
 pub later-left : (p : Pool) (x : Obj) (r : Row) → row_of p.rows x ≡ Some r → Later p (detach p x)
 later-left p x r e = later-changed left_row p x r (λ q. refl) e (λ d. tt)

@@ -13,6 +13,7 @@ pub mod Checks
 pub mod Waiters
 pub mod Changes
 pub mod KeptFrees
+pub mod Plans
 pub mod Keeps
 pub mod FallingFrees
 pub mod Falls
@@ -34,3 +35,4 @@ pub mod FineFrees
 pub mod StoryOrder
 pub mod TextLaws
 pub mod FreeCauses
+pub mod Same

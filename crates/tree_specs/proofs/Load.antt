@@ -3,10 +3,12 @@ use Rattle.tree_specs.specs.Profiles.{InRun, InLoop}
 use Rattle.tree_specs.specs.declared.event.Event.TheVariants.{Unreferenced}
 use Rattle.tree_specs.specs.Items.Item.{Told}
 use Rattle.std.specs.Prelude.{unwrap_or}
-use Rattle.tree_specs.proofs.Keeps.{ref-placed}
 use Rattle.tree_specs.proofs.Referring.{newest-refers, newest-of-refers}
+use Rattle.tree_specs.proofs.Plans.{May, follows, may-planned}
+use Rattle.tree_specs.specs.Plans.{Plan, planned}
+use Rattle.tree_specs.specs.Plans.Plan.{Does, Frees, Unlinks, Empties}
 use Rattle.tree_specs.specs.Targets.{newest_ref}
-use Rattle.std.proofs.Common.{◌≡◌, ℕ, suc, zero, ◌+◌, ◌≤◌, List, [], ◌∷◌, Option, Some, None, nat_eq, refl, sym, ◌∙◌, ap, arith, Bool, true, false}
+use Rattle.std.proofs.Common.{◌≡◌, ℕ, suc, zero, ◌+◌, ◌≤◌, List, [], ◌∷◌, Option, Some, None, nat_eq, refl, sym, ◌∙◌, ap, arith}
 use Rattle.step_machine.specs.Machine.{Move}
 use Rattle.step_machine.specs.Machine.{Move as Do}
 use Rattle.step_machine.proofs.Ends.{Leads}
@@ -17,11 +19,9 @@ use Rattle.tree_specs.specs.declared.row.Row.{Row}
 use Rattle.tree_specs.specs.declared.row.Mark.{Mark}
 use Rattle.tree_specs.specs.declared.row.Mark.TheVariants.{Quiet, Asked, Busy, Doomed, Dying}
 use Rattle.tree_specs.specs.declared.call.Call.{Call}
-use Rattle.tree_specs.specs.declared.call.Call.TheVariants as call
 use Rattle.tree_specs.specs.declared.question.Ask.{Ask}
 use Rattle.tree_specs.specs.declared.question.Ask.TheVariants as asks
 use Rattle.tree_specs.specs.declared.reply.Reply.{Reply}
-use Rattle.tree_specs.specs.declared.reply.Reply.TheVariants as reply
 use Rattle.tree_specs.specs.declared.frame.Frame.{Frame}
 use Rattle.tree_specs.specs.declared.frame.Frame.TheVariants as frame
 use Rattle.tree_specs.specs.declared.frame.CallFrame.TheVariants.{Asking, Doing, Awaiting, Warning, Telling, Returning}
@@ -33,21 +33,17 @@ use Rattle.tree_specs.specs.declared.frame.Answer.{Answer}
 use Rattle.tree_specs.specs.declared.frame.Answer.TheVariants.{Freed, Returned}
 use Rattle.tree_specs.specs.declared.free_step.FreeReply.{FreeReply}
 use Rattle.tree_specs.specs.declared.free_step.FreeReply.TheVariants.{Ok, Running, Refused, Held}
-use Rattle.tree_specs.specs.Pool.{Pool, row_of, is_below, owner_of, first_kid, changed, left_row, place, named_row, sized_row, limited_row, set_mark, marked_row, hooked_row, target_at, noted_owner, newest_ref_of, is_inside, remove}
+use Rattle.tree_specs.specs.Pool.{Pool, row_of, is_below, owner_of, first_kid, changed, left_row, set_mark, marked_row, hooked_row, target_at, noted_owner, newest_ref_of, is_inside, remove}
 use Rattle.tree_specs.specs.Heirs.{heir}
 use Rattle.tree_specs.specs.Items.{Item}
-use Rattle.tree_specs.specs.Calls.{Check, refusals}
-use Rattle.tree_specs.specs.Table.{table, step, lifted, begin_quiet, begin_step, judge_step, last_step, loop_step, hand_on_step, call_step, effect_step, replied, resume, child_step, refs_step, unlink_step, release_step, freeing_by, placed_step}
+use Rattle.tree_specs.specs.Table.{table, step, lifted, begin_quiet, begin_step, judge_step, last_step, loop_step, hand_on_step, plan_step, resume, child_step, refs_step, unlink_step, release_step}
 use Rattle.tree_specs.specs.Sound.{phase_of, phases, claims, AllWait, Sound, Refers, IsQuietRow}
 use Rattle.tree_specs.proofs.Numbered.{by_test}
-use Rattle.tree_specs.specs.Sound.{MayBePlaced}
-use Rattle.tree_specs.proofs.Checks.{passes-placing, passes-reparent, passes-object, passes-resize, passes-hooking, Heard, Does, Returns, heard-leads, MayGo, Itself, ItsRef}
-use Rattle.tree_specs.specs.Story.{owner_reply, later, warns, reparented}
-use Rattle.tree_specs.specs.Whole.{IsQuiet, IsOfRoutine, IsCaller, IsRun, IsFree, Seat, Serves, Seated, size, innermost_size, sizes, mark_burden, burden, Light}
 use Rattle.tree_specs.specs.Profiles.{Waits, ARun, profile}
-use Rattle.tree_specs.specs.Sums.{sum_inside}
-use Rattle.tree_specs.specs.Inside.{total, size_inside, count_inside}
-use Rattle.tree_specs.specs.Reports.{report}
+use Rattle.tree_specs.proofs.Checks.{Heard, HeardCall, HeardReturn, heard-leads}
+use Rattle.tree_specs.specs.Story.{later}
+use Rattle.tree_specs.specs.Whole.{IsQuiet, IsOfRoutine, IsCaller, IsRun, IsFree, Seat, Serves, Seated, size, innermost_size, sizes, mark_burden, burden, Light}
+use Rattle.tree_specs.specs.Inside.{total}
 use Rattle.tree_specs.proofs.Rows.{total-without, total-placed, total-changed}
 use Rattle.tree_specs.proofs.Waiters.{Waiter, ForFree, ForRun, ForChild, waiter}
 use Rattle.tree_specs.proofs.Changes.{dying-row, running-row, claim-here, heir-placed}
@@ -110,61 +106,22 @@ asking-placed q fs p zero s l = tt
 asking-placed q fs p (suc k) s l = λ i g e. leads g (heard-leads q i g e)
   where
     leads : (g : Frame) → Heard q g → Seated g fs × Light g fs p
-    leads _ (Does c) = (reseat (frame.Call (Asking q)) (frame.Call (Doing q c)) fs (λ z. z) (λ z. z) (λ z. z) s, l)
-    leads _ (Returns v of) = (reseat (frame.Call (Asking q)) (frame.Call (Returning v)) fs (λ z. not-both q z of) (λ z. tt) (λ z. z) s, l)
+    leads _ (HeardCall c) = (reseat (frame.Call (Asking q)) (frame.Call (Doing q c)) fs (λ z. z) (λ z. z) (λ z. z) s, l)
+    leads _ (HeardReturn v of) = (reseat (frame.Call (Asking q)) (frame.Call (Returning v)) fs (λ z. not-both q z of) (λ z. tt) (λ z. z) s, l)
 
-doing-placed : (q : Ask) (c : Call) (fs : List Frame) (p : Pool) (k : ℕ) → Sound (frame.Call (Doing q c)) fs p → Seated (frame.Call (Doing q c)) fs → Light (frame.Call (Doing q c)) fs p → Placed (call_step (refusals p c) q c p) fs k
-doing-placed q c fs p k sound s l = each (refusals p c) refl
+-- the first step of a plan that may be carried out
+planned-placed : (q : Ask) (c : Call) (fs : List Frame) (p : Pool) (k : ℕ) → Seated (frame.Call (Doing q c)) fs → Light (frame.Call (Doing q c)) fs p → (plan : Plan) → May p plan → Placed (plan_step q plan p) fs k
+planned-placed q c fs p k s l plan may = each plan may
   where
-    told : (r : Reply) → Placed (replied q r p) fs k
-    told r = (reseat-told q c r fs s, l)
-
-    put : (r : Reply) (o : Owner) (x : Obj) → MayBePlaced p o x → Placed (replied q r (place p o x)) fs k
-    put r o x may = let w = total-placed burden p o x may.row may.is refl in (reseat-told q c r fs s, omega (arith, w, l))
-
-    mended : (g : Row → Row) (x : Obj) (r : Row) → row_of p.rows x ≡ Some r → burden (g r) ≡ burden r → Placed (replied q reply.Ok (record p { rows = changed g p.rows x })) fs k
-    mended g x r e b = let w = total-kept burden g p.rows x r e b in (reseat-told q c reply.Ok fs s, omega (arith, w, l))
-
     awaits : (x : Obj) → Seated (frame.Call (Awaiting q x)) fs
     awaits x = reseat (frame.Call (Doing q c)) (frame.Call (Awaiting q x)) fs (λ z. z) (λ z. z) (λ z. z) s
 
-    placed : (r : Reply) (o : Owner) (x : Obj) → MayBePlaced p o x → (b : Bool) → Placed (placed_step b q x r (place p o x)) fs k
-    placed r o x may true = let w = total-placed burden p o x may.row may.is refl in (reseat (frame.Call (Doing q c)) (frame.Call (Warning (later q r) x r)) fs (quiet-later q r) (routine-later q r) (λ z. z) s, omega (arith, w, l))
-    placed r o x may false = put r o x may
-
-    reparents : (from to : Owner) (x : Obj) → MayGo p from to x → Placed (replied q reply.Ok (reparented p from to x)) fs k
-    reparents from to x (Itself t may) = rw t (put reply.Ok to x may)
-    reparents from to x (ItsRef r t n there) =
-        let w = newest-of-refers p.rows from x r sound.forest.distinct n in
-        rw (t, n) (put reply.Ok to r (ref-placed (frame.Call (Doing q c)) fs p to x r sound (rw w.1 w.2) there))
-
-    freed : (x : Obj) (n : Option Obj) → Placed (Do.Call (frame.Free (freeing_by n x)) (frame.Call (Awaiting q x)) p) fs k
-    freed x None = ((tt, awaits x), omega (arith, l))
-    freed x (Some r) = ((tt, awaits x), omega (arith, l))
-
-    effect : (d : Call) → refusals p d ≡ [] → Placed (effect_step q d p) fs k
-    effect (call.New o n name) none = (reseat-told q c (reply.Number p.next) fs s, omega (arith, l))
-    effect (call.Free x) none = freed x (newest_ref p.rows x)
-    effect (call.Freekids x) none = ((tt, awaits x), omega (arith, l))
-    effect (call.Steal o x) none = placed reply.Ok o x (passes-placing p o x none) (warns p o x)
-    effect (call.Move o x) none = placed (reply.Number x.0) o x (passes-placing p o x none) (warns p o x)
-    effect (call.Reparent from to x) none = reparents from to x (passes-reparent p from to x none)
-    effect (call.Reference o x) none = (reseat-told q c (reply.Number p.next) fs s, omega (arith, l))
-    effect (call.Unlink o x) none = ((tt, awaits x), omega (arith, l))
-    effect (call.Hook x h) none = let may = passes-hooking p x none in mended (hooked_row h) x may.row may.is refl
-    effect (call.Unhook x) none = let may = passes-hooking p x none in mended (hooked_row 0) x may.row may.is refl
-    effect (call.Rename x name) none = let r = passes-object p x none in mended (named_row name) x r.0 r.1 refl
-    effect (call.Resize x size) none = let r = passes-resize p x size none in mended (sized_row size) x r.0 r.1 refl
-    effect (call.Limit x max) none = let r = passes-object p x none in mended (limited_row max) x r.0 r.1 refl
-    effect (call.Parent x) none = told (owner_reply (owner_of p.rows x))
-    effect (call.Total o) none = told (reply.Number (size_inside p.rows o))
-    effect (call.Count o) none = told (reply.Number (count_inside p.rows o))
-    effect (call.Sum o) none = told (reply.Number (sum_inside p.rows o))
-    effect (call.Report o) none = told (reply.Rows (report p.rows o))
-
-    each : (check : Check) → refusals p c ≡ check → Placed (call_step check q c p) fs k
-    each (why ∷ later_checks) e = told (reply.No why)
-    each [] e = effect c e
+    each : (plan : Plan) → May p plan → Placed (plan_step q plan p) fs k
+    each (Does change None r) may = (reseat-told q c r fs s, omega (arith, l, (follows p change may.0).burden))
+    each (Does change (Some x) r) may = (reseat (frame.Call (Doing q c)) (frame.Call (Warning (later q r) x r)) fs (quiet-later q r) (routine-later q r) (λ z. z) s, omega (arith, l, (follows p change may.0).burden))
+    each (Frees x) may = ((tt, awaits x), omega (arith, l))
+    each (Unlinks o x) may = ((tt, awaits x), omega (arith, l))
+    each (Empties x) may = ((tt, awaits x), omega (arith, l))
 
 -- a reference bears nothing
 dropped-placed : (f g : FreeFrame) (fs : List Frame) (p : Pool) (k : ℕ) (r t : Obj) (e : Item) → Refers p.rows → target_at p.rows r ≡ Some t → innermost_size (frame.Free g) ≤ innermost_size (frame.Free f)
@@ -303,7 +260,7 @@ tried-placed x c noted purpose a fs p k s seats l = each a
 
 pub placed-kept : (f : Frame) (fs : List Frame) (p : Pool) (k : ℕ) → Sound f fs p → Seated f fs → Light f fs p → Placed (step f p) fs k
 placed-kept (frame.Call (Asking q)) fs p k s b l = asking-placed q fs p k b l
-placed-kept (frame.Call (Doing q c)) fs p k s b l = doing-placed q c fs p k s b l
+placed-kept (frame.Call (Doing q c)) fs p k s b l = planned-placed q c fs p k b l (planned p c) (may-planned (frame.Call (Doing q c)) fs p s c)
 placed-kept (frame.Call (Awaiting q x)) fs p k s b l = absurd s.rests
 placed-kept (frame.Call (Warning q x r)) fs p k s b l = (reseat (frame.Call (Warning q x r)) (frame.Call (Telling q r)) fs (λ z. z) (λ z. z) (λ z. z) b, l)
 placed-kept (frame.Call (Telling q r)) fs p k s b l = (reseat (frame.Call (Telling q r)) (frame.Call (Asking q)) fs (λ z. z) (λ z. z) (λ z. z) b, l)

@@ -11,13 +11,9 @@ use Rattle.tree_specs.specs.declared.row.Row.{Row}
 use Rattle.tree_specs.specs.declared.row.Mark.{Mark}
 use Rattle.tree_specs.specs.declared.row.Mark.TheVariants.{Quiet}
 use Rattle.tree_specs.specs.declared.call.Call.{Call}
-use Rattle.tree_specs.specs.declared.call.Call.TheVariants as call
 use Rattle.tree_specs.specs.declared.event.Event.TheVariants.{Freed as IsFreed}
 use Rattle.tree_specs.specs.declared.question.Ask.{Ask}
-use Rattle.tree_specs.specs.declared.question.Ask.TheVariants as ask
-use Rattle.tree_specs.specs.declared.question.Act.TheVariants as act
 use Rattle.tree_specs.specs.declared.question.Input.{Input}
-use Rattle.tree_specs.specs.declared.question.Input.TheVariants as input
 use Rattle.tree_specs.specs.declared.frame.Frame.{Frame}
 use Rattle.tree_specs.specs.declared.frame.Frame.TheVariants as frame
 use Rattle.tree_specs.specs.declared.frame.CallFrame.TheVariants.{Asking, Doing, Awaiting, Warning, Telling, Returning}
@@ -32,10 +28,13 @@ use Rattle.tree_specs.specs.Pool.{Pool, row_of, is_below, owner_of, first_kid, r
 use Rattle.tree_specs.specs.Items.{Item}
 use Rattle.tree_specs.specs.Items.Item.{Told}
 use Rattle.tree_specs.specs.Soundness.{is_sound_call, is_return}
-use Rattle.tree_specs.specs.Calls.{Check, refusals}
+use Rattle.tree_specs.specs.Given.{Given, given_to}
+use Rattle.tree_specs.specs.Given.Given.{Calls, Returns}
+use Rattle.tree_specs.specs.Plans.{Plan, planned}
+use Rattle.tree_specs.specs.Plans.Plan.{Does, Frees, Unlinks, Empties}
 use Rattle.tree_specs.specs.Works.{Work, Scene, Begun, ◌>>=◌, ◌>>◌, gives, change, tells}
-use Rattle.tree_specs.specs.Story.{free, hooked, judged, leave, children, tried, asked, acting, telling, returning, warns, warning, unlink, release, given}
-use Rattle.tree_specs.specs.Table.{table, notes, step, lifted, judge_step, loop_step, tried_step, call_step, refs_step, unlink_step, release_step}
+use Rattle.tree_specs.specs.Story.{free, hooked, judged, leave, children, tried, asked, acting, telling, returning, warning, unlink, release, given}
+use Rattle.tree_specs.specs.Table.{table, notes, step, lifted, judge_step, loop_step, tried_step, plan_step, refs_step, unlink_step, release_step}
 use Rattle.tree_specs.proofs.Numbered.{by_test}
 
 ruleset laws = (followed-tell, followed-tells, followed-followed)
@@ -96,47 +95,23 @@ Turn n f b m p is = after noted_table (noted_mean n) (noted_move notes f b p m) 
 asking-turn : (n : ℕ) (q : Ask) (b : Option Begun) (p : Pool) (is : List Input)
     → Below (Turn n (frame.Call (Asking q)) b (step (frame.Call (Asking q)) p) p is) (mean (suc n) (frame.Call (Asking q)) b p is)
 asking-turn n q b p [] = inr refl
-asking-turn n ask.Quiet b p (input.Call c ∷ is) = by_test (is_sound_call c) (λ t. rw t (inr (simp laws))) (λ t. rw t (inr refl))
-asking-turn n ask.Quiet b p (input.Act a ∷ is) = inr refl
-asking-turn n (ask.Routine m) b p (input.Call c ∷ is) = inr refl
-asking-turn n (ask.Routine m) b p (input.Act (act.Do c) ∷ is) = by_test (is_sound_call c) (λ t. rw t (inr (simp laws))) (λ t. rw t (inr refl))
-asking-turn n (ask.Routine m) b p (input.Act (act.Ret v) ∷ is) = by_test (is_return v) (λ t. rw t (inr (simp laws))) (λ t. rw t (inr refl))
-asking-turn n ask.Clock b p (i ∷ is) = inr refl
-asking-turn n (ask.Wait limit) b p (i ∷ is) = inr refl
-asking-turn n (ask.Accept descriptor) b p (i ∷ is) = inr refl
-asking-turn n (ask.Read descriptor most) b p (i ∷ is) = inr refl
-asking-turn n (ask.Write descriptor bytes) b p (i ∷ is) = inr refl
+asking-turn n q b p (i ∷ is) = each (given_to q i) refl
+  where
+    each : (g : Option Given) → given_to q i ≡ g → Below (Turn n (frame.Call (Asking q)) b (step (frame.Call (Asking q)) p) p (i ∷ is)) (mean (suc n) (frame.Call (Asking q)) b p (i ∷ is))
+    each None e = rw e (inr refl)
+    each (Some (Calls c)) e = by_test (is_sound_call c) (λ t. rw (e, t) (inr (simp laws))) (λ t. rw (e, t) (inr refl))
+    each (Some (Returns v)) e = by_test (is_return v) (λ t. rw (e, t) (inr (simp laws))) (λ t. rw (e, t) (inr refl))
 
 doing-turn : (n : ℕ) (q : Ask) (c : Call) (b : Option Begun) (p : Pool) (is : List Input)
-    → Below (Turn n (frame.Call (Doing q c)) b (call_step (refusals p c) q c p) p is) (mean (suc n) (frame.Call (Doing q c)) b p is)
-doing-turn n q c b p is = each c (refusals p c) refl
+    → Below (Turn n (frame.Call (Doing q c)) b (plan_step q (planned p c) p) p is) (mean (suc n) (frame.Call (Doing q c)) b p is)
+doing-turn n q c b p is = each (planned p c) refl
   where
-    free : (x : Obj) (o : Option Obj) → refusals p (call.Free x) ≡ [] → newest_ref p.rows x ≡ o
-        → Below (Turn n (frame.Call (Doing q (call.Free x))) b (call_step (refusals p (call.Free x)) q (call.Free x) p) p is) (mean (suc n) (frame.Call (Doing q (call.Free x))) b p is)
-    free x None e k = rw (e, k) (inr (simp laws))
-    free x (Some r) e k = rw (e, k) (inr (simp laws))
-
-    each : (c : Call) (check : Check) → refusals p c ≡ check
-        → Below (Turn n (frame.Call (Doing q c)) b (call_step (refusals p c) q c p) p is) (mean (suc n) (frame.Call (Doing q c)) b p is)
-    each c (why ∷ later) e = rw e (inr refl)
-    each (call.New o size name) [] e = rw e (inr refl)
-    each (call.Free x) [] e = free x (newest_ref p.rows x) e refl
-    each (call.Freekids x) [] e = rw e (inr (simp laws))
-    each (call.Steal o x) [] e = by_test (warns p o x) (λ t. rw (e, t) (inr refl)) (λ t. rw (e, t) (inr refl))
-    each (call.Move o x) [] e = by_test (warns p o x) (λ t. rw (e, t) (inr refl)) (λ t. rw (e, t) (inr refl))
-    each (call.Reparent from to x) [] e = rw e (inr refl)
-    each (call.Reference o x) [] e = rw e (inr refl)
-    each (call.Unlink o x) [] e = rw e (inr (simp laws))
-    each (call.Hook x h) [] e = rw e (inr refl)
-    each (call.Unhook x) [] e = rw e (inr refl)
-    each (call.Rename x name) [] e = rw e (inr refl)
-    each (call.Resize x size) [] e = rw e (inr refl)
-    each (call.Limit x max) [] e = rw e (inr refl)
-    each (call.Parent x) [] e = rw e (inr refl)
-    each (call.Total o) [] e = rw e (inr refl)
-    each (call.Count o) [] e = rw e (inr refl)
-    each (call.Sum o) [] e = rw e (inr refl)
-    each (call.Report o) [] e = rw e (inr refl)
+    each : (plan : Plan) → planned p c ≡ plan → Below (Turn n (frame.Call (Doing q c)) b (plan_step q (planned p c) p) p is) (mean (suc n) (frame.Call (Doing q c)) b p is)
+    each (Does change None r) e = rw e (inr refl)
+    each (Does change (Some x) r) e = rw e (inr refl)
+    each (Frees x) e = rw e (inr (simp laws))
+    each (Unlinks o x) e = rw e (inr (simp laws))
+    each (Empties x) e = rw e (inr (simp laws))
 
 beginning-turn : (n : ℕ) (x : Obj) (b : Option Begun) (p : Pool) (is : List Input)
     → Below (Turn n (frame.Free (Beginning x)) b (lifted (refs_step x (newest_ref p.rows x) p)) p is) (freed (free (suc n) x) p is)

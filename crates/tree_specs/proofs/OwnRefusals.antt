@@ -3,7 +3,7 @@ use Rattle.tree_specs.proofs.Referring.{unreferred, plain-refers}
 use Rattle.tree_specs.specs.Forest.{Distinct}
 use Rattle.tree_specs.specs.Sound.{IsReferable, Refers}
 use Rattle.std.proofs.Common.{◌≡◌, ℕ, List, [], ◌∷◌, ◌++◌, Option, Some, None, Bool, true, false, refl, sym, ◌∙◌, subst, ap}
-use Rattle.tree_specs.specs.Sums.{overhead, size_at}
+use Rattle.tree_specs.specs.Sums.{size_at}
 use Rattle.std.specs.Prelude.{zero, suc, ◌-◌, ◌+◌, ◌^◌, nat_lt, nat_le, length, not, is_some}
 use Rattle.tree_specs.specs.declared.object.Obj.{Obj}
 use Rattle.tree_specs.specs.declared.object.Owner.{Owner}
@@ -15,11 +15,13 @@ use Rattle.tree_specs.specs.declared.reply.Reply.TheVariants.{No}
 use Rattle.tree_specs.specs.declared.reply.Refusal.{Refusal}
 use Rattle.tree_specs.specs.declared.reply.Refusal.TheVariants as refusal
 use Rattle.tree_specs.specs.declared.event.Event.TheVariants.{Replied}
-use Rattle.tree_specs.specs.Pool.{Pool, row_of, is_below, owner_of, newest_ref_of}
+use Rattle.tree_specs.specs.Pool.{Pool, row_of, is_below, owner_of}
 use Rattle.tree_specs.specs.Targets.{is_reference}
 use Rattle.tree_specs.specs.Items.{Item}
 use Rattle.tree_specs.specs.Items.Item.{Told}
-use Rattle.tree_specs.specs.Calls.{Check, size_limit, row_limit, refuse_if, refusals, over, fits_in, fits, unreferenced, growing, small, object_row, object, plain, owner, room, staying, apart, placing, hooking, given_by, held, is_held, still}
+use Rattle.tree_specs.specs.declared.test.Test.{Test}
+use Rattle.tree_specs.specs.Calls.{Check, row_limit, refuse_if, refusal_of, refused, refusals, over, fits_in, fits, growing, object_row, object, owner, room, given_by, held, is_held}
+use Rattle.tree_specs.specs.declared.test.Test.TheVariants.{IsSmall, IsObject, IsOwner, IsPlain, HasRoom, Fits, MayGrow, IsStaying, IsStill, IsApart, IsUnheld, IsUnreferenced, IsInterested, MayGive}
 use Rattle.tree_specs.specs.Works.{Scene}
 use Rattle.tree_specs.specs.Orderly.{RefusedJustNow}
 use Rattle.tree_specs.specs.Grounded.{AnsweredCall, HeldCall, CausedCall}
@@ -54,27 +56,9 @@ own-owner : (p : Pool) (o : Owner) → AllOwn (owner p o)
 own-owner p Root = tt
 own-owner p (Of x) = own-object p x
 
-own-staying : (p : Pool) (x : Obj) → AllOwn (staying p x)
-own-staying p x = own-if _ _ tt
-
-own-apart : (p : Pool) (x : Obj) (o : Owner) → AllOwn (apart p x o)
-own-apart p x o = own-if _ _ tt
-
 own-room : (p : Pool) (k : ℕ) → AllOwn (room p k)
 own-room p k =
     own-both (refuse_if (nat_lt row_limit (length p.rows + k)) (refusal.Full (length p.rows))) (refuse_if (nat_le (2 ^ 64) (p.next + k)) refusal.Spent) (own-if _ _ tt) (own-if _ _ tt)
-
-own-placing : (p : Pool) (o : Owner) (x : Obj) → AllOwn (placing p o x)
-own-placing p o x = own-both (object p x) _ (own-object p x) (own-both (owner p o) _ (own-owner p o) (own-both (staying p x) _ (own-staying p x) (own-apart p x o)))
-
-own-hooking : (p : Pool) (x : Obj) → AllOwn (hooking p x)
-own-hooking p x = own-both (object p x) _ (own-object p x) (own-both (plain p x) _ (own-if _ _ tt) (own-staying p x))
-
-own-given : (p : Pool) (from to : Owner) (x : Obj) → AllOwn (given_by p from to x)
-own-given p from to x = by_test (is_below (owner_of p.rows x) from) (λ t. rw t (own-apart p x to)) (λ t. rw t (own-if (not (is_some (newest_ref_of p.rows from x))) (refusal.NotParent x from) tt))
-
-own-small : (size : ℕ) → AllOwn (small size)
-own-small size = own-if (nat_le size_limit size) (refusal.TooBig size) tt
 
 own-fits : (n : ℕ) (rs : List Row) (wanted : ℕ) (o : Option Owner) → AllOwn (fits_in n rs wanted o)
 own-fits n rs wanted None = tt
@@ -89,31 +73,29 @@ own-below p o wanted = own-fits (length p.rows) p.rows wanted (Some o)
 own-growing : (p : Pool) (x : Obj) (size : ℕ) → AllOwn (growing p x size)
 own-growing p x size = by_test (nat_lt (size_at p.rows x) size) (λ t. rw t (own-below p (Of x) (size - size_at p.rows x))) (λ t. rw t tt)
 
-own-resize : (p : Pool) (x : Obj) (size : ℕ) → AllOwn (refusals p (call.Resize x size))
-own-resize p x size =
-    own-both (small size) _ (own-small size) (own-both (object p x) _ (own-object p x) (own-both (plain p x) _ (own-if _ _ tt) (own-both (unreferenced p x) _ (own-if _ _ tt) (own-both (staying p x) _ (own-staying p x) (own-growing p x size)))))
+own-given : (p : Pool) (from to : Owner) (x : Obj) → AllOwn (given_by p from to x)
+own-given p from to x = by_test (is_below (owner_of p.rows x) from) (λ t. rw t (own-if _ (refusal.Loop x to) tt)) (λ t. rw t (own-if _ (refusal.NotParent x from) tt))
 
-pub own-refusals : (p : Pool) (c : Call) → AllOwn (refusals p c)
-own-refusals p (call.New o size name) = own-both (small size) _ (own-small size) (own-both (owner p o) _ (own-owner p o) (own-both (room p 1) _ (own-room p 1) (own-below p o (size + overhead))))
-own-refusals p (call.Free x) = own-both (object p x) _ (own-object p x) (own-if _ _ tt)
-own-refusals p (call.Freekids x) = own-object p x
-own-refusals p (call.Steal o x) = own-placing p o x
-own-refusals p (call.Move o x) = own-placing p o x
-own-refusals p (call.Reparent from to x) = own-both (object p x) _ (own-object p x) (own-both (owner p from) _ (own-owner p from)
-    (own-both (owner p to) _ (own-owner p to) (own-both (staying p x) _ (own-staying p x) (own-given p from to x))))
-own-refusals p (call.Reference o x) =
-    own-both (object p x) _ (own-object p x) (own-both (plain p x) _ (own-if _ _ tt) (own-both (owner p o) _ (own-owner p o) (own-both (still p x) _ (own-if _ _ tt) (own-both (staying p x) _ (own-staying p x) (own-room p 1)))))
-own-refusals p (call.Unlink o x) = own-both (object p x) _ (own-object p x) (own-both (owner p o) _ (own-owner p o) (own-if _ _ tt))
-own-refusals p (call.Hook x routine) = own-hooking p x
-own-refusals p (call.Unhook x) = own-hooking p x
-own-refusals p (call.Rename x name) = own-object p x
-own-refusals p (call.Resize x size) = own-resize p x size
-own-refusals p (call.Limit x max) = own-object p x
-own-refusals p (call.Parent x) = own-both (object p x) _ (own-object p x) (own-staying p x)
-own-refusals p (call.Total o) = own-owner p o
-own-refusals p (call.Count o) = own-owner p o
-own-refusals p (call.Sum o) = own-owner p o
-own-refusals p (call.Report o) = own-owner p o
+own-test : (p : Pool) (t : Test) → AllOwn (refusal_of p t)
+own-test p (IsSmall size) = own-if _ _ tt
+own-test p (IsObject x) = own-object p x
+own-test p (IsOwner o) = own-owner p o
+own-test p (IsPlain x) = own-if _ _ tt
+own-test p (HasRoom k) = own-room p k
+own-test p (Fits o wanted) = own-below p o wanted
+own-test p (MayGrow x size) = own-growing p x size
+own-test p (IsStaying x) = own-if _ _ tt
+own-test p (IsStill x) = own-if _ _ tt
+own-test p (IsApart x o) = own-if _ _ tt
+own-test p (IsUnheld x) = own-if _ _ tt
+own-test p (IsUnreferenced x) = own-if _ _ tt
+own-test p (IsInterested o x) = own-if _ _ tt
+own-test p (MayGive from to x) = own-given p from to x
+
+pub own-refused : (p : Pool) (ts : List Test) → AllOwn (refused p ts)
+own-refused p [] = tt
+own-refused p (t ∷ []) = own-test p t
+own-refused p (t ∷ u ∷ ts) = own-both (refusal_of p t) (refused p (u ∷ ts)) (own-test p t) (own-refused p (u ∷ ts))
 
 -- ---- what such a refusal needs: nothing
 

@@ -1,8 +1,5 @@
 -- The laws of the story still to come.
-use Rattle.tree_specs.specs.declared.reply.Reply.TheVariants as reply
-use Rattle.tree_specs.specs.declared.object.Obj.{Obj}
-use Rattle.tree_specs.specs.declared.reply.Reply.{Reply}
-use Rattle.std.proofs.Common.{◌≡◌, ℕ, suc, zero, ◌+◌, ◌*◌, ◌<◌, List, [], ◌∷◌, length, Option, Some, None, refl, sym, ◌∙◌, ap, subst, arith, Bool, true, false}
+use Rattle.std.proofs.Common.{◌≡◌, ℕ, suc, zero, ◌+◌, ◌*◌, ◌<◌, List, [], ◌∷◌, length, Option, Some, None, refl, sym, ◌∙◌, ap, subst, arith}
 use Rattle.step_machine.specs.Machine.{Move, Outcome, State, silent, tell, given, asks, leads, rest, walk, items as told_by}
 use Rattle.step_machine.specs.Machine.{Move as Do}
 use Rattle.step_machine.specs.Machine.Outcome.{Ended, Waits, Stray, Short}
@@ -17,16 +14,15 @@ use Rattle.tree_specs.specs.declared.frame.FreeFrame.{FreeFrame}
 use Rattle.tree_specs.specs.declared.frame.Answer.{Answer}
 use Rattle.tree_specs.specs.declared.free_step.FreeReply.{FreeReply}
 use Rattle.tree_specs.specs.declared.free_step.FreeStep.{FreeStep}
-use Rattle.tree_specs.specs.declared.call.Call.{Call}
-use Rattle.tree_specs.specs.declared.call.Call.TheVariants as call
 use Rattle.tree_specs.specs.declared.event.Event.{Event}
 use Rattle.tree_specs.specs.declared.question.Ask.{Ask}
-use Rattle.tree_specs.specs.Pool.{Pool, place}
+use Rattle.tree_specs.specs.Pool.{Pool}
 use Rattle.tree_specs.specs.Items.{Item, IsQuestion}
 use Rattle.tree_specs.specs.Items.Item.{Asked}
-use Rattle.tree_specs.specs.Calls.{Check, refusals}
-use Rattle.tree_specs.specs.Story.{turns, warns}
-use Rattle.tree_specs.specs.Table.{table, step, free_step, event_of, announced, call_step, lifted, taken, placed_step}
+use Rattle.tree_specs.specs.Plans.{Plan, planned}
+use Rattle.tree_specs.specs.Plans.Plan.{Does, Frees, Unlinks, Empties}
+use Rattle.tree_specs.specs.Story.{turns}
+use Rattle.tree_specs.specs.Table.{table, step, free_step, event_of, announced, plan_step, lifted, taken}
 use Rattle.tree_specs.specs.Sound.{Sound, Rests}
 use Rattle.tree_specs.specs.Measure.{cost}
 use Rattle.tree_specs.specs.View.{View, rest_of}
@@ -173,30 +169,12 @@ GoesOn (Do.Go f p) = IsTelling f
 GoesOn (Do.Call g f p) = Unit {0}
 GoesOn _ = ⊥
 
-placed-goes_on : (b : Bool) (q : Ask) (x : Obj) (r : Reply) (p : Pool) → GoesOn (placed_step b q x r p)
-placed-goes_on true q x r p = tt
-placed-goes_on false q x r p = tt
-
-pub call-goes_on : (check : Check) (q : Ask) (c : Call) (p : Pool) → GoesOn (call_step check q c p)
-call-goes_on (why ∷ later) q c p = tt
-call-goes_on [] q (call.New o size name) p = tt
-call-goes_on [] q (call.Free x) p = tt
-call-goes_on [] q (call.Freekids x) p = tt
-call-goes_on [] q (call.Steal o x) p = placed-goes_on (warns p o x) q x reply.Ok (place p o x)
-call-goes_on [] q (call.Move o x) p = placed-goes_on (warns p o x) q x (reply.Number x.0) (place p o x)
-call-goes_on [] q (call.Reparent from to x) p = tt
-call-goes_on [] q (call.Reference o x) p = tt
-call-goes_on [] q (call.Unlink o x) p = tt
-call-goes_on [] q (call.Hook x h) p = tt
-call-goes_on [] q (call.Unhook x) p = tt
-call-goes_on [] q (call.Rename x name) p = tt
-call-goes_on [] q (call.Resize x size) p = tt
-call-goes_on [] q (call.Limit x max) p = tt
-call-goes_on [] q (call.Parent x) p = tt
-call-goes_on [] q (call.Total o) p = tt
-call-goes_on [] q (call.Count o) p = tt
-call-goes_on [] q (call.Sum o) p = tt
-call-goes_on [] q (call.Report o) p = tt
+pub plan-goes_on : (q : Ask) (plan : Plan) (p : Pool) → GoesOn (plan_step q plan p)
+plan-goes_on q (Does change None r) p = tt
+plan-goes_on q (Does change (Some x) r) p = tt
+plan-goes_on q (Frees x) p = tt
+plan-goes_on q (Unlinks o x) p = tt
+plan-goes_on q (Empties x) p = tt
 
 -- a free by itself asks the host for nothing but runs
 free-waits : (m : Move FreeFrame FreeReply Pool FreeStep) (p : Pool) (i : Item) (g : Frame) → lifted m ≡ Do.Wait i g p → ⊥
@@ -214,14 +192,14 @@ free-waits (Do.Call f h q) p i g e = cc
 pub no-end : (f : Frame) (p q : Pool) (a : Answer) → IsCaller f → Rests f [] p → step f p ≡ Do.Done a q → ⊥
 no-end (frame.Call (Awaiting ask x)) p q a h r e = r
 no-end (frame.Call (Returning v)) p q a h r e = h
-no-end (frame.Call (Doing ask c)) p q a h r e = subst GoesOn e (call-goes_on (refusals p c) ask c p)
+no-end (frame.Call (Doing ask c)) p q a h r e = subst GoesOn e (plan-goes_on ask (planned p c) p)
 no-end (frame.Free f) p q a h r e = h
 no-end (frame.Call _) p q a h r e = cc
 
 -- only a caller that is to be asked asks
 pub waits-asking : (f : Frame) (p q : Pool) (i : Item) (g : Frame) → step f p ≡ Do.Wait i g q → (ask : Ask) × (f ≡ frame.Call (Asking ask))
 waits-asking (frame.Call (Asking ask)) p q i g e = (ask, refl)
-waits-asking (frame.Call (Doing ask c)) p q i g e = absurd (subst GoesOn e (call-goes_on (refusals p c) ask c p))
+waits-asking (frame.Call (Doing ask c)) p q i g e = absurd (subst GoesOn e (plan-goes_on ask (planned p c) p))
 waits-asking (frame.Free f) p q i g e = absurd (free-waits (free_step f p) q i g e)
 waits-asking (frame.Call _) p q i g e = cc
 

@@ -12,7 +12,6 @@ use Rattle.tree_specs.specs.declared.row.Row.{Row}
 use Rattle.tree_specs.specs.declared.row.Mark.{Mark}
 use Rattle.tree_specs.specs.declared.row.Mark.TheVariants as mark
 use Rattle.tree_specs.specs.declared.call.Call.{Call}
-use Rattle.tree_specs.specs.declared.call.Call.TheVariants as call
 use Rattle.tree_specs.specs.declared.reply.Reply.{Reply}
 use Rattle.tree_specs.specs.declared.event.Event.TheVariants.{Replied, Accepted, Refused, Moved, Freed, Warned, Unreferenced}
 use Rattle.tree_specs.specs.declared.question.Ask.{Ask}
@@ -27,8 +26,9 @@ use Rattle.tree_specs.specs.Heirs.{heir}
 use Rattle.tree_specs.specs.Items.{Item}
 use Rattle.tree_specs.specs.Items.Item.{Told, Asked}
 use Rattle.tree_specs.specs.Works.{Work, Scene, Begun, asks, fits_to}
-use Rattle.tree_specs.specs.Calls.{Check, refusals}
-use Rattle.tree_specs.specs.Story.{hook_moment, later, heard, unless_refused, effect, free, hooked, judged, leave, children, tried, asked, acting, telling, returning, items, freed_reply, warned_in, warning, unlink, release, given}
+use Rattle.tree_specs.specs.Plans.{Plan, planned, warned_by, changed_by}
+use Rattle.tree_specs.specs.Plans.Plan.{Does, Frees, Unlinks, Empties}
+use Rattle.tree_specs.specs.Story.{hook_moment, later, heard, effect, free, hooked, judged, leave, children, tried, asked, acting, telling, returning, items, warning, unlink, release, given}
 use Rattle.tree_specs.specs.Acceptances.{Return, returned_by, answered_by, inputs_after, AcceptsNow, AcceptsAfterReturns}
 use Rattle.tree_specs.proofs.Numbered.{by_test}
 use Rattle.tree_specs.proofs.Checks.{heard-by}
@@ -295,32 +295,24 @@ asked-lawful n ih q p last = asks-lawful last (Returned q) q (heard q (acting n 
           (ih.returning q h.0 p (returned_by q i) (λ r k. ap (returned_by q) h.1 ∙ k))
     ]
 
-checked-lawful : (n : ℕ) → AllLawful n → (c : Call) (check : Check) (p : Pool) (last : Last) → Lawful last Any (unless_refused check (effect (free n) (unlink n) (children n) c) p)
-checked-lawful n ih c (why ∷ rest) p last = ended-lawful last Any _ p tt
-checked-lawful n ih (call.New o size name) [] p last = ended-lawful last Any _ _ tt
-checked-lawful n ih (call.Free x) [] p last = each (newest_ref p.rows x) refl
-  where
-    each : (o : Option Obj) → newest_ref p.rows x ≡ o → Lawful last Any (effect (free n) (unlink n) (children n) (call.Free x) p)
-    each None k = same-lawful last Any (effect (free n) (unlink n) (children n) (call.Free x) p) (λ js. followed (free n x p js) (λ a q left. Ended (freed_reply x a) q [] left)) (λ js. rw k refl)
-        (followed-lawful last Any Any (free n x p) (λ a q left. Ended (freed_reply x a) q [] left) (ih.free x p last) (λ a q l w. ended-lawful l Any (freed_reply x a) q tt))
-    each (Some r) k = same-lawful last Any (effect (free n) (unlink n) (children n) (call.Free x) p) (λ js. followed (unlink n Root x p js) (λ a q left. Ended (freed_reply x a) q [] left)) (λ js. rw k refl)
-        (followed-lawful last Any Any (unlink n Root x p) (λ a q left. Ended (freed_reply x a) q [] left) (ih.unlink Root x p last) (λ a q l w. ended-lawful l Any (freed_reply x a) q tt))
-checked-lawful n ih (call.Freekids x) [] p last = followed-lawful last Any Any (children n x p) _ (ih.children x p last) (λ a q l k. ended-lawful l Any _ q tt)
-checked-lawful n ih (call.Unlink o x) [] p last = followed-lawful last Any Any (unlink n o x p) _ (ih.unlink o x p last) (λ a q l k. ended-lawful l Any _ q tt)
-checked-lawful n ih _ [] p last = ended-lawful last Any _ _ tt
+plan-lawful : (n : ℕ) → AllLawful n → (plan : Plan) (p : Pool) (last : Last) → Lawful last Any (effect (free n) (unlink n) (children n) plan p)
+plan-lawful n ih (Does change warned r) p last = ended-lawful last Any r (changed_by change p) tt
+plan-lawful n ih (Frees x) p last = followed-lawful last Any Any (free n x p) _ (ih.free x p last) (λ a q l k. ended-lawful l Any _ q tt)
+plan-lawful n ih (Unlinks o x) p last = followed-lawful last Any Any (unlink n o x p) _ (ih.unlink o x p last) (λ a q l k. ended-lawful l Any _ q tt)
+plan-lawful n ih (Empties x) p last = followed-lawful last Any Any (children n x p) _ (ih.children x p last) (λ a q l k. ended-lawful l Any _ q tt)
 
 acting-lawful : (n : ℕ) → AllLawful n → (q : Ask) (c : Call) (p : Pool) (last : Last) → Lawful last (Returned q) (acting (suc n) q c p)
-acting-lawful n ih q c p last = each (warned_in (refusals p c) c p) refl
+acting-lawful n ih q c p last = each (warned_by (planned p c)) refl
   where
-    each : (o : Option Obj) → warned_in (refusals p c) c p ≡ o → Lawful last (Returned q) (acting (suc n) q c p)
+    each : (o : Option Obj) → warned_by (planned p c) ≡ o → Lawful last (Returned q) (acting (suc n) q c p)
     each None k = same-lawful last (Returned q) (acting (suc n) q c p)
-        (λ js. followed (unless_refused (refusals p c) (effect (free n) (unlink n) (children n) c) p js) (λ r p' left. telling n (Some (record { call = c; start = p })) (later q r) r p' left)) (λ js. rw k refl)
-        (followed-lawful last Any (Returned q) (unless_refused (refusals p c) (effect (free n) (unlink n) (children n) c) p) (λ r p' left. telling n (Some (record { call = c; start = p })) (later q r) r p' left)
-        (checked-lawful n ih c (refusals p c) p last) (λ r p' l w. ih.later q r (Some (record { call = c; start = p })) p' l))
+        (λ js. followed (effect (free n) (unlink n) (children n) (planned p c) p js) (λ r p' left. telling n (Some (record { call = c; start = p })) (later q r) r p' left)) (λ js. rw k refl)
+        (followed-lawful last Any (Returned q) (effect (free n) (unlink n) (children n) (planned p c) p) (λ r p' left. telling n (Some (record { call = c; start = p })) (later q r) r p' left)
+        (plan-lawful n ih (planned p c) p last) (λ r p' l w. ih.later q r (Some (record { call = c; start = p })) p' l))
     each (Some x) k = same-lawful last (Returned q) (acting (suc n) q c p)
-        (λ js. followed (unless_refused (refusals p c) (effect (free n) (unlink n) (children n) c) p js) (λ r p' left. warning n (Some (record { call = c; start = p })) (later q r) x r p' left)) (λ js. rw k refl)
-        (followed-lawful last Any (Returned q) (unless_refused (refusals p c) (effect (free n) (unlink n) (children n) c) p) (λ r p' left. warning n (Some (record { call = c; start = p })) (later q r) x r p' left)
-        (checked-lawful n ih c (refusals p c) p last) (λ r p' l w. ih.warning q x r (Some (record { call = c; start = p })) p' l))
+        (λ js. followed (effect (free n) (unlink n) (children n) (planned p c) p js) (λ r p' left. warning n (Some (record { call = c; start = p })) (later q r) x r p' left)) (λ js. rw k refl)
+        (followed-lawful last Any (Returned q) (effect (free n) (unlink n) (children n) (planned p c) p) (λ r p' left. warning n (Some (record { call = c; start = p })) (later q r) x r p' left)
+        (plan-lawful n ih (planned p c) p last) (λ r p' l w. ih.warning q x r (Some (record { call = c; start = p })) p' l))
 
 warning-lawful : (n : ℕ) → AllLawful n → (q : Ask) (x : Obj) (r : Reply) (about : Option Begun) (p : Pool) (last : Last) → Lawful last (Returned q) (warning (suc n) about (later q r) x r p)
 warning-lawful n ih q x r about p last =

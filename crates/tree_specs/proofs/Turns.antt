@@ -33,7 +33,7 @@ look_rounds _ = 4
 record Fits (f : Profile) : Type 0 where
   waiting : f.waiting_cost ≤ 3 * f.size
   rounds : f.cost.rounds + look_rounds f.cost.looks ≤ 16
-  steps : f.cost.steps ≤ 52
+  steps : f.cost.steps ≤ 67
   adds : f.adds ≤ 2
 
 tried-most : (a : FreeReply) → tried_cost a ≤ 8
@@ -73,16 +73,16 @@ look-most R AtNone fs rows h = omega arith
 look-most R (AtKids x) fs rows h = let n = count-length rows (Of x) in omega arith
 look-most R AtBelow fs rows h = let m = kids-most R rows fs h in omega arith
 
-top-most : (R : ℕ) (f : Frame) (fs : List Frame) (rows : List Row) → length rows ≤ R → top_cost R f fs rows ≤ 16 * R + 52
+top-most : (R : ℕ) (f : Frame) (fs : List Frame) (rows : List Row) → length rows ≤ R → top_cost R f fs rows ≤ 16 * R + 67
 top-most R f fs rows h =
     let c : Cost = (profile f).cost in
     let l : look_cost c.looks fs rows ≤ look_rounds c.looks * R = look-most R c.looks fs rows h in
     let m : R * (c.rounds + look_rounds c.looks) ≤ R * 16 = mul-le-mul_left R (fits f).rounds in
-    let t : c.steps ≤ 52 = (fits f).steps in
+    let t : c.steps ≤ 67 = (fits f).steps in
     omega arith
 
-numbers : (r k w z d e : ℕ) → w ≤ 2 * r → z ≤ 3 * r + 2 → d ≤ 3 * z → e ≤ 16 * (r + 2 * k + 2) + 52
-    → (4 * (r + 2 * k + 2) + 16) * w + (16 * (r + 2 * k + 2) + 53) * k + d + e < 64 * (k + 1) * ((r + 2 * k + 2) * (r + 2 * k + 2))
+numbers : (r k w z d e : ℕ) → w ≤ 2 * r → z ≤ 3 * r + 2 → d ≤ 3 * z → e ≤ 16 * (r + 2 * k + 2) + 67
+    → (4 * (r + 2 * k + 2) + 16) * w + (16 * (r + 2 * k + 2) + 68) * k + d + e < 64 * (k + 1) * ((r + 2 * k + 2) * (r + 2 * k + 2))
 numbers r k w z d e hw hz hd he =
     let a : (4 * (r + 2 * k + 2) + 16) * w ≤ (4 * (r + 2 * k + 2) + 16) * (2 * r) = mul-le-mul_left (4 * (r + 2 * k + 2) + 16) hw in
     omega arith

@@ -2,13 +2,11 @@
 use Rattle.std.specs.Prelude.{◌≡◌, ℕ, List, [], ◌∷◌, Option, Some, None, if◌then◌else◌}
 use Rattle.tree_specs.specs.declared.object.Obj.{Obj}
 use Rattle.tree_specs.specs.declared.question.Ask.{Ask}
-use Rattle.tree_specs.specs.declared.question.Ask.TheVariants.{Quiet, Routine, Clock, Wait, Accept, Read, Write}
-use Rattle.tree_specs.specs.declared.question.Act.{Act}
-use Rattle.tree_specs.specs.declared.question.Act.TheVariants.{Do, Ret}
+use Rattle.tree_specs.specs.declared.question.Ask.TheVariants.{Routine}
 use Rattle.tree_specs.specs.declared.question.Input.{Input}
-use Rattle.tree_specs.specs.declared.question.Input.TheVariants as input
-use Rattle.tree_specs.specs.declared.moment.Moment.{Moment}
 use Rattle.tree_specs.specs.declared.event.Event.TheVariants.{Accepted}
+use Rattle.tree_specs.specs.Given.{Given, given_to}
+use Rattle.tree_specs.specs.Given.Given.{Returns}
 use Rattle.tree_specs.specs.Items.{Item}
 use Rattle.tree_specs.specs.Items.Item.{Told, Asked}
 use Rattle.tree_specs.specs.Orderly.{is_hook}
@@ -18,20 +16,14 @@ pub record Return : Type 0 where
   pub object : Obj
   pub value : ℕ
 
-abbrev pub returned_act : Moment → Act → Option Return
-returned_act m (Do c) = None
-returned_act m (Ret v) = if is_hook m.what then Some (record { object = m.object; value = v }) else None
+-- which destructor returns with what was given to the question
+abbrev pub returned : Ask → Option Given → Option Return
+returned (Routine m) (Some (Returns v)) = if is_hook m.what then Some (record { object = m.object; value = v }) else None
+returned q g = None
 
 -- which destructor returns with this input as the answer to the question
 abbrev pub returned_by : Ask → Input → Option Return
-returned_by (Routine m) (input.Act a) = returned_act m a
-returned_by (Routine m) (input.Call c) = None
-returned_by Quiet i = None
-returned_by Clock i = None
-returned_by (Wait limit) i = None
-returned_by (Accept descriptor) i = None
-returned_by (Read descriptor most) i = None
-returned_by (Write descriptor bytes) i = None
+returned_by q i = returned q (given_to q i)
 
 -- each question is answered by the next input
 abbrev pub answered_by : Item → List Input → Option Return

@@ -10,6 +10,8 @@ use Rattle.tree_specs.specs.declared.row.Mark.{Mark}
 use Rattle.tree_specs.specs.declared.row.Mark.TheVariants as mark
 use Rattle.tree_specs.specs.declared.call.Call.{Call}
 use Rattle.tree_specs.specs.declared.call.Call.TheVariants.{New, Free, Freekids, Steal, Move, Reparent, Reference as Refer, Unlink, Hook, Unhook, Rename, Resize, Limit, Parent, Total, Count, Sum, Report}
+use Rattle.tree_specs.specs.declared.test.Test.{Test}
+use Rattle.tree_specs.specs.declared.test.Test.TheVariants.{IsSmall, IsObject, IsOwner, IsPlain, HasRoom, Fits, MayGrow, IsStaying, IsStill, IsApart, IsUnheld, IsUnreferenced, IsInterested, MayGive}
 use Rattle.tree_specs.specs.declared.reply.Refusal.{Refusal}
 use Rattle.tree_specs.specs.declared.reply.Refusal.TheVariants.{NoSuch, WrongKind, Running, Held, NotParent, Loop, Dying, OverLimit, Full, Spent, TooBig}
 use Rattle.tree_specs.specs.Pool.{Pool, row_of, is_below, owner_of, newest_ref_of, is_dying, is_inside}
@@ -105,10 +107,6 @@ staying p x = refuse_if (is_dying p.rows x) (Dying x)
 abbrev pub apart : Pool → Obj → Owner → Check
 apart p x o = refuse_if (is_inside p.rows o (Of x)) (Loop x o)
 
--- an object is put below an owner
-abbrev pub placing : Pool → Owner → Obj → Check
-placing p o x = object p x before owner p o before staying p x before apart p x o
-
 -- an owner has an interest in an object where it owns it, or a reference to it
 abbrev pub is_interested : Pool → Owner → Obj → Bool
 is_interested p o x = is_below (owner_of p.rows x) o || is_some (newest_ref_of p.rows o x)
@@ -154,26 +152,50 @@ is_running p x = is_running_row (row_of p.rows x)
 abbrev pub still : Pool → Obj → Check
 still p x = refuse_if (is_running p x) (Running x)
 
--- a destructor is given to an object, or taken from it
-abbrev pub hooking : Pool → Obj → Check
-hooking p x = object p x before plain p x before staying p x
+-- ---- the tests of each call
+
+-- what is refused where a test isn't passed
+abbrev pub refusal_of : Pool → Test → Check
+refusal_of p (IsSmall size) = small size
+refusal_of p (IsObject x) = object p x
+refusal_of p (IsOwner o) = owner p o
+refusal_of p (IsPlain x) = plain p x
+refusal_of p (HasRoom k) = room p k
+refusal_of p (Fits o wanted) = fits p o wanted
+refusal_of p (MayGrow x size) = growing p x size
+refusal_of p (IsStaying x) = staying p x
+refusal_of p (IsStill x) = still p x
+refusal_of p (IsApart x o) = apart p x o
+refusal_of p (IsUnheld x) = held p x
+refusal_of p (IsUnreferenced x) = unreferenced p x
+refusal_of p (IsInterested o x) = interested p o x
+refusal_of p (MayGive from to x) = given_by p from to x
+
+abbrev pub tests : Call → List Test
+tests (New o size name) = IsSmall size ∷ IsOwner o ∷ HasRoom 1 ∷ Fits o (size + overhead) ∷ []
+tests (Free x) = IsObject x ∷ IsUnheld x ∷ []
+tests (Freekids x) = IsObject x ∷ []
+tests (Steal o x) = IsObject x ∷ IsOwner o ∷ IsStaying x ∷ IsApart x o ∷ []
+tests (Move o x) = IsObject x ∷ IsOwner o ∷ IsStaying x ∷ IsApart x o ∷ []
+tests (Reparent from to x) = IsObject x ∷ IsOwner from ∷ IsOwner to ∷ IsStaying x ∷ MayGive from to x ∷ []
+tests (Refer o x) = IsObject x ∷ IsPlain x ∷ IsOwner o ∷ IsStill x ∷ IsStaying x ∷ HasRoom 1 ∷ []
+tests (Unlink o x) = IsObject x ∷ IsOwner o ∷ IsInterested o x ∷ []
+tests (Hook x routine) = IsObject x ∷ IsPlain x ∷ IsStaying x ∷ []
+tests (Unhook x) = IsObject x ∷ IsPlain x ∷ IsStaying x ∷ []
+tests (Rename x name) = IsObject x ∷ []
+tests (Resize x size) = IsSmall size ∷ IsObject x ∷ IsPlain x ∷ IsUnreferenced x ∷ IsStaying x ∷ MayGrow x size ∷ []
+tests (Limit x max) = IsObject x ∷ []
+tests (Parent x) = IsObject x ∷ IsStaying x ∷ []
+tests (Total o) = IsOwner o ∷ []
+tests (Count o) = IsOwner o ∷ []
+tests (Sum o) = IsOwner o ∷ []
+tests (Report o) = IsOwner o ∷ []
+
+-- the refusals of tests, one after another
+abbrev pub refused : Pool → List Test → Check
+refused p [] = []
+refused p (t ∷ []) = refusal_of p t
+refused p (t ∷ u ∷ ts) = refusal_of p t before refused p (u ∷ ts)
 
 abbrev pub refusals : Pool → Call → Check
-refusals p (New o size name) = small size before owner p o before room p 1 before fits p o (size + overhead)
-refusals p (Free x) = object p x before held p x
-refusals p (Freekids x) = object p x
-refusals p (Steal o x) = placing p o x
-refusals p (Move o x) = placing p o x
-refusals p (Reparent from to x) = object p x before owner p from before owner p to before staying p x before given_by p from to x
-refusals p (Refer o x) = object p x before plain p x before owner p o before still p x before staying p x before room p 1
-refusals p (Unlink o x) = object p x before owner p o before interested p o x
-refusals p (Hook x routine) = hooking p x
-refusals p (Unhook x) = hooking p x
-refusals p (Rename x name) = object p x
-refusals p (Resize x size) = small size before object p x before plain p x before unreferenced p x before staying p x before growing p x size
-refusals p (Limit x max) = object p x
-refusals p (Parent x) = object p x before staying p x
-refusals p (Total o) = owner p o
-refusals p (Count o) = owner p o
-refusals p (Sum o) = owner p o
-refusals p (Report o) = owner p o
+refusals p c = refused p (tests c)

@@ -141,28 +141,46 @@ rename_of (x ∷ n ∷ []) = do
   Some (Rename object name)
 rename_of _ = None
 
+-- a verb, and what reads its fields
+pub record Form : Type 0 where
+  pub verb : List ℕ
+  pub read : List (List ℕ) → Option Call
+
+infixr 8 ◌reads◌
+abbrev pub ◌reads◌ : List ℕ → (List (List ℕ) → Option Call) → Form
+verb reads read = record { verb = verb; read = read }
+
+abbrev pub forms : List Form
+forms =
+    (codes "new" reads new_of)
+    ∷ (codes "free" reads of_object Free)
+    ∷ (codes "freekids" reads of_object Freekids)
+    ∷ (codes "steal" reads placing_of Steal)
+    ∷ (codes "move" reads placing_of Move)
+    ∷ (codes "reparent" reads reparent_of)
+    ∷ (codes "reference" reads placing_of Reference)
+    ∷ (codes "unlink" reads placing_of Unlink)
+    ∷ (codes "hook" reads hook_of)
+    ∷ (codes "unhook" reads of_object Unhook)
+    ∷ (codes "rename" reads rename_of)
+    ∷ (codes "resize" reads numbered_of Resize)
+    ∷ (codes "limit" reads numbered_of Limit)
+    ∷ (codes "parent" reads of_object Parent)
+    ∷ (codes "total" reads of_owner Total)
+    ∷ (codes "count" reads of_owner Count)
+    ∷ (codes "sum" reads of_owner Sum)
+    ∷ (codes "report" reads of_owner Report)
+    ∷ []
+
+-- the form with this verb reads the fields
+abbrev pub read_by : List Form → List ℕ → List (List ℕ) → Option Call
+read_by [] verb fields = None
+read_by (f ∷ fs) verb fields = if bytes_eq verb f.verb then f.read fields else read_by fs verb fields
+
 -- a verb and its fields
 unfoldable pub call_of_words : List (List ℕ) → Option Call
 call_of_words [] = None
-call_of_words (verb ∷ fields) =
-    if bytes_eq verb (codes "new") then new_of fields else
-    if bytes_eq verb (codes "free") then of_object Free fields else
-    if bytes_eq verb (codes "freekids") then of_object Freekids fields else
-    if bytes_eq verb (codes "steal") then placing_of Steal fields else
-    if bytes_eq verb (codes "move") then placing_of Move fields else
-    if bytes_eq verb (codes "reparent") then reparent_of fields else
-    if bytes_eq verb (codes "reference") then placing_of Reference fields else
-    if bytes_eq verb (codes "unlink") then placing_of Unlink fields else
-    if bytes_eq verb (codes "hook") then hook_of fields else
-    if bytes_eq verb (codes "unhook") then of_object Unhook fields else
-    if bytes_eq verb (codes "rename") then rename_of fields else
-    if bytes_eq verb (codes "resize") then numbered_of Resize fields else
-    if bytes_eq verb (codes "limit") then numbered_of Limit fields else
-    if bytes_eq verb (codes "parent") then of_object Parent fields else
-    if bytes_eq verb (codes "total") then of_owner Total fields else
-    if bytes_eq verb (codes "count") then of_owner Count fields else
-    if bytes_eq verb (codes "sum") then of_owner Sum fields else
-    if bytes_eq verb (codes "report") then of_owner Report fields else None
+call_of_words (verb ∷ fields) = read_by forms verb fields
 
 unfoldable pub call_of : List ℕ → Option Call
 call_of text = call_of_words (words text)

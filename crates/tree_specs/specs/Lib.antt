@@ -10,8 +10,11 @@ pub mod Walks
 pub mod Heirs
 pub mod Reports
 pub mod Items
+pub mod Spelling
 pub mod Soundness
+pub mod Given
 pub mod Calls
+pub mod Plans
 pub mod Works
 pub mod Story
 pub mod Grammar

@@ -34,7 +34,7 @@ unit R = 4 * R + 16
 
 -- what an input is worth: the rows that its call may add, and the call's own steps
 abbrev pub share : ℕ → ℕ
-share R = 16 * R + 53
+share R = 16 * R + 68
 
 -- what a waiting work still costs
 abbrev pub waiting_cost : Frame → ℕ

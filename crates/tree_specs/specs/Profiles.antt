@@ -181,7 +181,7 @@ a_caller q = record { ask = Some q; waits = Never; waiting_cost = 0; cost = at_m
 
 abbrev pub call_profile : CallFrame → CallProfile
 call_profile (Asking q) = a_caller q
-call_profile (Doing q c) = record (a_caller q) { cost = at_most 16 52 AtNone; adds = 2 }
+call_profile (Doing q c) = record (a_caller q) { cost = at_most 16 67 AtNone; adds = 2 }
 call_profile (Awaiting q x) = record (a_caller q) { waits = AFree x; waiting_cost = 1 }
 call_profile (Warning q x r) = record (a_caller q) { cost = at_most 0 2 AtNone }
 call_profile (Telling q r) = record (a_caller q) { cost = at_most 0 1 AtNone }

@@ -3,13 +3,12 @@ use Rattle.std.specs.Prelude.{ℕ, ◌+◌, ◌-◌, ◌^◌, Bool, true, false,
 use Rattle.std.specs.List.{slice_split}
 use Rattle.std.specs.Str.{bytes_eq}
 use Rattle.tree_specs.specs.declared.question.Ask.{Ask}
-use Rattle.tree_specs.specs.declared.question.Ask.TheVariants.{Quiet, Routine, Clock, Wait, Accept, Read, Write}
 use Rattle.tree_specs.specs.declared.question.Input.{Input}
-use Rattle.tree_specs.specs.declared.question.Input.TheVariants as inputs
 use Rattle.tree_specs.specs.declared.schedule.Mode.{Mode}
 use Rattle.tree_specs.specs.declared.schedule.Mode.TheVariants.{Pool}
 use Rattle.tree_specs.specs.declared.schedule.Reason.{Reason}
 use Rattle.tree_specs.specs.declared.schedule.Reason.TheVariants.{Limit, Form, NotAsked}
+use Rattle.tree_specs.specs.Given.{Given, given_to}
 use Rattle.tree_specs.specs.Items.{Item}
 use Rattle.tree_specs.specs.Items.Item.{Told, Asked}
 use Rattle.tree_specs.specs.Grammar.{input_of}
@@ -56,18 +55,15 @@ pub record Judged : Type 0 where
   -- its number, from 1, and the reason
   pub refused : Option (ℕ × Reason)
 
+-- an input that is no answer to the open question is refused
+abbrev pub unless_given : Option Given → Option Reason
+unless_given None = Some NotAsked
+unless_given (Some g) = None
+
 -- why an input doesn't fit the open question
 abbrev pub misfit : Option Ask → Input → Option Reason
 misfit None i = Some NotAsked
-misfit (Some Quiet) (inputs.Call call) = None
-misfit (Some Quiet) (inputs.Act act) = Some NotAsked
-misfit (Some (Routine m)) (inputs.Call call) = Some NotAsked
-misfit (Some (Routine m)) (inputs.Act act) = None
-misfit (Some Clock) i = Some NotAsked
-misfit (Some (Wait limit)) i = Some NotAsked
-misfit (Some (Accept descriptor)) i = Some NotAsked
-misfit (Some (Read descriptor most)) i = Some NotAsked
-misfit (Some (Write descriptor bytes)) i = Some NotAsked
+misfit (Some q) i = unless_given (given_to q i)
 
 abbrev pub ok_unless : Input → Option Reason → Result Input Reason
 ok_unless i None = Ok i

@@ -1,14 +1,15 @@
 -- Inputs whose numbers have the ranges of their fields.
-use Rattle.std.specs.Prelude.{ℕ, ◌^◌, Bool, true, ◌&&◌, nat_lt}
+use Rattle.std.specs.Prelude.{ℕ, ◌^◌, Bool, true, ◌&&◌, nat_lt, List, [], ◌∷◌}
 use Rattle.tree_specs.specs.declared.object.Owner.{Owner}
 use Rattle.tree_specs.specs.declared.object.Owner.TheVariants.{Root, Of}
 use Rattle.tree_specs.specs.declared.call.Call.{Call}
-use Rattle.tree_specs.specs.declared.call.Call.TheVariants.{New, Free, Freekids, Steal, Move, Reparent, Reference, Unlink, Hook, Unhook, Rename, Resize, Limit, Parent, Total, Count, Sum, Report}
 use Rattle.tree_specs.specs.declared.question.Act.{Act}
 use Rattle.tree_specs.specs.declared.question.Act.TheVariants as acts
 use Rattle.tree_specs.specs.declared.question.Input.{Input}
 use Rattle.tree_specs.specs.declared.question.Input.TheVariants as inputs
 use Rattle.tree_specs.specs.Names.{is_name}
+use Rattle.tree_specs.specs.Spelling.{Field, spelling}
+use Rattle.tree_specs.specs.Spelling.Field.{AnOwner, AnObject, ANumber, ARoutine, AName}
 
 abbrev pub is_number : ℕ → Bool
 is_number n = nat_lt n (2 ^ 64)
@@ -26,25 +27,20 @@ abbrev pub is_sound_owner : Owner → Bool
 is_sound_owner Root = true
 is_sound_owner (Of x) = nat_lt 0 x.0 && is_number x.0
 
+abbrev pub is_sound_field : Field → Bool
+is_sound_field (AnOwner o) = is_sound_owner o
+is_sound_field (AnObject x) = is_number x.0
+is_sound_field (ANumber n) = is_number n
+is_sound_field (ARoutine r) = is_routine r
+is_sound_field (AName name) = is_name name
+
+abbrev pub all_sound : List Field → Bool
+all_sound [] = true
+all_sound (f ∷ []) = is_sound_field f
+all_sound (f ∷ g ∷ fs) = is_sound_field f && all_sound (g ∷ fs)
+
 abbrev pub is_sound_call : Call → Bool
-is_sound_call (New owner size name) = is_sound_owner owner && is_number size && is_name name
-is_sound_call (Free x) = is_number x.0
-is_sound_call (Freekids x) = is_number x.0
-is_sound_call (Steal owner x) = is_sound_owner owner && is_number x.0
-is_sound_call (Move owner x) = is_sound_owner owner && is_number x.0
-is_sound_call (Reparent from to x) = is_sound_owner from && is_sound_owner to && is_number x.0
-is_sound_call (Reference owner x) = is_sound_owner owner && is_number x.0
-is_sound_call (Unlink owner x) = is_sound_owner owner && is_number x.0
-is_sound_call (Hook x routine) = is_number x.0 && is_routine routine
-is_sound_call (Unhook x) = is_number x.0
-is_sound_call (Rename x name) = is_number x.0 && is_name name
-is_sound_call (Resize x size) = is_number x.0 && is_number size
-is_sound_call (Limit x max) = is_number x.0 && is_number max
-is_sound_call (Parent x) = is_number x.0
-is_sound_call (Total owner) = is_sound_owner owner
-is_sound_call (Count owner) = is_sound_owner owner
-is_sound_call (Sum owner) = is_sound_owner owner
-is_sound_call (Report owner) = is_sound_owner owner
+is_sound_call c = all_sound (spelling c).fields
 
 abbrev pub is_sound_act : Act → Bool
 is_sound_act (acts.Do call) = is_sound_call call

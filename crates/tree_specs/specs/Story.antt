@@ -1,13 +1,11 @@
 -- The rules of freeing, of destructors and of calls, and the story that they tell. Each turn hands on one less.
-use Rattle.std.specs.Prelude.{ℕ, suc, zero, Bool, ◌&&◌, not, is_some, codes, ◌+◌, ◌-◌, ◌*◌, ◌^◌, nat_eq, nat_lt, List, [], ◌∷◌, length, map, Option, Some, None, unwrap_or, if◌then◌else◌}
+use Rattle.std.specs.Prelude.{ℕ, suc, zero, ◌+◌, ◌-◌, ◌*◌, ◌^◌, nat_eq, nat_lt, List, length, map, Option, Some, None, unwrap_or, if◌then◌else◌}
 use Rattle.step_machine.specs.Machine.{items as told_by}
 use Rattle.tree_specs.specs.declared.object.Obj.{Obj}
 use Rattle.tree_specs.specs.declared.object.Owner.TheVariants.{Root, Of}
 use Rattle.tree_specs.specs.declared.object.Owner.{Owner}
-use Rattle.tree_specs.specs.declared.kind.Kind.TheVariants.{Plain, Reference}
 use Rattle.tree_specs.specs.declared.row.Mark.TheVariants as mark
 use Rattle.tree_specs.specs.declared.call.Call.{Call}
-use Rattle.tree_specs.specs.declared.call.Call.TheVariants as call
 use Rattle.tree_specs.specs.declared.reply.Refusal.TheVariants as refusal
 use Rattle.tree_specs.specs.declared.reply.Reply.{Reply}
 use Rattle.tree_specs.specs.declared.reply.Reply.TheVariants as reply
@@ -16,24 +14,20 @@ use Rattle.tree_specs.specs.declared.moment.Moment.{Moment}
 use Rattle.tree_specs.specs.declared.moment.What.TheVariants.{Hook as ForHook}
 use Rattle.tree_specs.specs.declared.question.Ask.{Ask}
 use Rattle.tree_specs.specs.declared.question.Ask.TheVariants as ask
-use Rattle.tree_specs.specs.declared.question.Act.{Act}
-use Rattle.tree_specs.specs.declared.question.Act.TheVariants as act
 use Rattle.tree_specs.specs.declared.question.Input.{Input}
-use Rattle.tree_specs.specs.declared.question.Input.TheVariants as input
 use Rattle.tree_specs.specs.declared.free_step.FreeReply.{FreeReply}
 use Rattle.tree_specs.specs.declared.free_step.FreeReply.TheVariants as free_reply
 use Rattle.tree_specs.specs.declared.free_step.FreeReply.TheVariants.{Ok, Held, Running}
-use Rattle.tree_specs.specs.Objects.{owner_number}
 use Rattle.tree_specs.specs.Targets.{newest_ref}
-use Rattle.tree_specs.specs.Pool.{Pool, empty, row_of, is_below, owner_of, newest_ref_of, target_at, noted_owner, is_inside, first_kid, add, detach, remove, place, rename, set_mark, set_hook, set_size, set_limit}
-use Rattle.tree_specs.specs.Inside.{size_inside, count_inside}
-use Rattle.tree_specs.specs.Sums.{sum_inside}
+use Rattle.tree_specs.specs.Pool.{empty, row_of, is_below, owner_of, newest_ref_of, target_at, noted_owner, is_inside, first_kid, detach, remove, place, set_mark, set_hook}
 use Rattle.tree_specs.specs.Heirs.{heir}
-use Rattle.tree_specs.specs.Reports.{report}
 use Rattle.tree_specs.specs.Items.{Item}
 use Rattle.tree_specs.specs.Items.Item.{Told, Asked}
 use Rattle.tree_specs.specs.Soundness.{is_sound_call, is_return}
-use Rattle.tree_specs.specs.Calls.{Check, refusals}
+use Rattle.tree_specs.specs.Given.{Given, given_to}
+use Rattle.tree_specs.specs.Given.Given.{Calls, Returns}
+use Rattle.tree_specs.specs.Plans.{Plan, planned, warned_by, changed_by}
+use Rattle.tree_specs.specs.Plans.Plan.{Does, Frees, Unlinks, Empties}
 use Rattle.tree_specs.specs.Works.{Work, Scene, Begun, ◌>>=◌, ◌>>◌, gives, pool, change, tells, told_about, asks, short}
 
 -- the reply to a call that frees
@@ -42,10 +36,6 @@ freed_reply x Ok = reply.Ok
 freed_reply x Held = reply.No (refusal.Held x)
 freed_reply x Running = reply.No (refusal.Running x)
 freed_reply x (free_reply.Refused v) = reply.No (refusal.Refused x v)
-
--- an owner by its number
-abbrev pub owner_reply : Option Owner → Reply
-owner_reply o = reply.Number (owner_number (unwrap_or o Root))
 
 -- the first moment in the run of a destructor
 abbrev pub hook_moment : Obj → ℕ → Moment
@@ -65,118 +55,30 @@ later (ask.Accept descriptor) r = ask.Accept descriptor
 later (ask.Read descriptor most) r = ask.Read descriptor most
 later (ask.Write descriptor bytes) r = ask.Write descriptor bytes
 
--- a routine does a call, or returns
-abbrev pub acted : {A : Type 0} → (Call → A) → (ℕ → A) → Act → Option A
-acted does returns (act.Do c) = if is_sound_call c then Some (does c) else None
-acted does returns (act.Ret v) = if is_return v then Some (returns v) else None
+-- what was given leads to a call, or to the end of a routine's run, where its numbers have their ranges
+abbrev pub led : {A : Type 0} → (Call → A) → (ℕ → A) → Option Given → Option A
+led does returns None = None
+led does returns (Some (Calls c)) = if is_sound_call c then Some (does c) else None
+led does returns (Some (Returns v)) = if is_return v then Some (returns v) else None
 
--- an input that fits the question leads to a call of the host's own caller, or to an act of a routine
 abbrev pub heard : {A : Type 0} → Ask → (Call → A) → (ℕ → A) → Input → Option A
-heard ask.Quiet does returns (input.Call c) = if is_sound_call c then Some (does c) else None
-heard ask.Quiet does returns (input.Act a) = None
-heard (ask.Routine m) does returns (input.Call c) = None
-heard (ask.Routine m) does returns (input.Act a) = acted does returns a
-heard ask.Clock does returns i = None
-heard (ask.Wait limit) does returns i = None
-heard (ask.Accept descriptor) does returns i = None
-heard (ask.Read descriptor most) does returns i = None
-heard (ask.Write descriptor bytes) does returns i = None
+heard q does returns i = led does returns (given_to q i)
 
--- the first refusal that applies, otherwise the effect
-abbrev pub unless_refused : Check → Work Reply → Work Reply
-unless_refused [] effect = effect
-unless_refused (why ∷ later) effect = gives (reply.No why)
-
--- an object that has references is given to another owner
-abbrev pub warns : Pool → Owner → Obj → Bool
-warns p o x = is_some (newest_ref p.rows x) && not (is_below (owner_of p.rows x) o)
-
--- the object of which a call is to warn
-abbrev pub warned_by : Call → Pool → Option Obj
-warned_by (call.Steal o x) p = if warns p o x then Some x else None
-warned_by (call.Move o x) p = if warns p o x then Some x else None
-warned_by c p = None
-
--- a call that is refused warns of nothing
-abbrev pub warned_in : Check → Call → Pool → Option Obj
-warned_in [] c p = warned_by c p
-warned_in (why ∷ later) c p = None
-
-abbrev pub place_ref : Pool → Owner → Option Obj → Pool
-place_ref p o None = p
-place_ref p o (Some r) = place p o r
-
--- an object goes from its owner to another one, or the newest reference of an owner does
-abbrev pub reparented : Pool → Owner → Owner → Obj → Pool
-reparented p from to x = if is_below (owner_of p.rows x) from then place p to x else place_ref p to (newest_ref_of p.rows from x)
-
--- a new reference
-abbrev pub refer : Pool → Owner → Obj → Pool
-refer p o x = add p (Reference x) o 0 (codes "reference")
-
--- the effect of a call and its reply, where `free` frees an object, `unlink` takes an owner's interest in it away, and
--- `children` frees those of an object
-abbrev pub effect : (Obj → Work FreeReply) → (Owner → Obj → Work FreeReply) → (Obj → Work (Unit {0})) → Call → Work Reply
-effect free unlink children (call.New o size name) = do
-  p ← pool
-  change (λ q. add q Plain o size name)
-  gives (reply.Number p.next)
-effect free unlink children (call.Free x) = do
-  p ← pool
-  answer ← elim (newest_ref p.rows x) [
-    | None ↦ free x
-    | Some r ↦ unlink Root x
-  ]
+-- A plan carried out, with the reply to it. `free` frees an object, `unlink` takes an owner's interest in it away, and
+-- `children` frees those of an object.
+abbrev pub effect : (Obj → Work FreeReply) → (Owner → Obj → Work FreeReply) → (Obj → Work (Unit {0})) → Plan → Work Reply
+effect free unlink children (Does c warned r) = do
+  change (λ p. changed_by c p)
+  gives r
+effect free unlink children (Frees x) = do
+  answer ← free x
   gives (freed_reply x answer)
-effect free unlink children (call.Freekids x) = do
-  children x
-  gives reply.Ok
-effect free unlink children (call.Steal o x) = do
-  change (λ p. place p o x)
-  gives reply.Ok
-effect free unlink children (call.Move o x) = do
-  change (λ p. place p o x)
-  gives (reply.Number x.0)
-effect free unlink children (call.Reparent from to x) = do
-  change (λ p. reparented p from to x)
-  gives reply.Ok
-effect free unlink children (call.Reference o x) = do
-  p ← pool
-  change (λ q. refer q o x)
-  gives (reply.Number p.next)
-effect free unlink children (call.Unlink o x) = do
+effect free unlink children (Unlinks o x) = do
   answer ← unlink o x
   gives (freed_reply x answer)
-effect free unlink children (call.Hook x routine) = do
-  change (λ p. set_hook p x routine)
+effect free unlink children (Empties x) = do
+  children x
   gives reply.Ok
-effect free unlink children (call.Unhook x) = do
-  change (λ p. set_hook p x 0)
-  gives reply.Ok
-effect free unlink children (call.Rename x name) = do
-  change (λ p. rename p x name)
-  gives reply.Ok
-effect free unlink children (call.Resize x size) = do
-  change (λ p. set_size p x size)
-  gives reply.Ok
-effect free unlink children (call.Limit x max) = do
-  change (λ p. set_limit p x max)
-  gives reply.Ok
-effect free unlink children (call.Parent x) = do
-  p ← pool
-  gives (owner_reply (owner_of p.rows x))
-effect free unlink children (call.Total o) = do
-  p ← pool
-  gives (reply.Number (size_inside p.rows o))
-effect free unlink children (call.Count o) = do
-  p ← pool
-  gives (reply.Number (count_inside p.rows o))
-effect free unlink children (call.Sum o) = do
-  p ← pool
-  gives (reply.Number (sum_inside p.rows o))
-effect free unlink children (call.Report o) = do
-  p ← pool
-  gives (reply.Rows (report p.rows o))
 
 -- a child of x that wasn't freed goes to its heir, where x still is its owner
 abbrev pub hand_on : Obj → Obj → Option Owner → Work (Unit {0})
@@ -325,8 +227,8 @@ abbrev mutual
   acting zero q c = short
   acting (suc n) q c = do
     p ← pool
-    r ← unless_refused (refusals p c) (effect (free n) (unlink n) (children n) c)
-    elim (warned_in (refusals p c) c p) [
+    r ← effect (free n) (unlink n) (children n) (planned p c)
+    elim (warned_by (planned p c)) [
       | None ↦ telling n (Some (record { call = c; start = p })) (later q r) r
       | Some x ↦ warning n (Some (record { call = c; start = p })) (later q r) x r
     ]

@@ -1,5 +1,5 @@
 -- The same rules as tables of single steps, one row for each kind of open work.
-use Rattle.std.specs.Prelude.{ℕ, Bool, true, false, nat_eq, [], ◌∷◌, Option, Some, None, unwrap_or, if◌then◌else◌}
+use Rattle.std.specs.Prelude.{ℕ, nat_eq, Option, Some, None, unwrap_or, if◌then◌else◌}
 use Rattle.step_machine.specs.Machine.{Move, Table}
 use Rattle.step_machine.specs.Machine.{Move as Do}
 use Rattle.step_machine.specs.Noted.{Notes}
@@ -9,11 +9,8 @@ use Rattle.tree_specs.specs.declared.object.Owner.TheVariants.{Root, Of}
 use Rattle.tree_specs.specs.declared.row.Row.{Row}
 use Rattle.tree_specs.specs.declared.row.Mark.{Mark}
 use Rattle.tree_specs.specs.declared.row.Mark.TheVariants as mark
-use Rattle.tree_specs.specs.declared.kind.Kind.TheVariants.{Plain}
 use Rattle.tree_specs.specs.declared.call.Call.{Call}
-use Rattle.tree_specs.specs.declared.call.Call.TheVariants as call
 use Rattle.tree_specs.specs.declared.reply.Reply.{Reply}
-use Rattle.tree_specs.specs.declared.reply.Reply.TheVariants as reply
 use Rattle.tree_specs.specs.declared.event.Event.{Event}
 use Rattle.tree_specs.specs.declared.event.Event.TheVariants as event
 use Rattle.tree_specs.specs.declared.question.Ask.{Ask}
@@ -35,16 +32,14 @@ use Rattle.tree_specs.specs.declared.free_step.FreeReply.TheVariants.{Ok, Held, 
 use Rattle.tree_specs.specs.declared.free_step.FreeStep.{FreeStep}
 use Rattle.tree_specs.specs.declared.free_step.FreeStep.TheVariants.{Ask as AskOf, Dropped, Refused, Accepted, Left, Moved, Gone, Done as Over}
 use Rattle.tree_specs.specs.Targets.{newest_ref}
-use Rattle.tree_specs.specs.Pool.{Pool, row_of, is_below, owner_of, target_at, newest_ref_of, noted_owner, is_inside, first_kid, add, detach, remove, place, rename, set_mark, set_hook, set_size, set_limit}
-use Rattle.tree_specs.specs.Inside.{size_inside, count_inside}
-use Rattle.tree_specs.specs.Sums.{sum_inside}
+use Rattle.tree_specs.specs.Pool.{Pool, row_of, is_below, owner_of, target_at, newest_ref_of, noted_owner, is_inside, first_kid, detach, remove, place, set_mark, set_hook}
 use Rattle.tree_specs.specs.Heirs.{heir}
-use Rattle.tree_specs.specs.Reports.{report}
 use Rattle.tree_specs.specs.Items.{Item}
 use Rattle.tree_specs.specs.Items.Item.{Told, Asked}
-use Rattle.tree_specs.specs.Calls.{Check, refusals}
+use Rattle.tree_specs.specs.Plans.{Plan, planned, changed_by}
+use Rattle.tree_specs.specs.Plans.Plan.{Does, Frees, Unlinks, Empties}
 use Rattle.tree_specs.specs.Works.{Begun}
-use Rattle.tree_specs.specs.Story.{freed_reply, owner_reply, warns, reparented, refer, hook_moment, later, heard}
+use Rattle.tree_specs.specs.Story.{freed_reply, hook_moment, later, heard}
 
 -- ---- freeing
 
@@ -188,47 +183,21 @@ lifted (Do.Call g f p) = Do.Call (frame.Free g) (frame.Free f) p
 abbrev pub replied : Ask → Reply → Pool → Step
 replied q r p = Do.Go (frame.Call (Telling (later q r) r)) p
 
--- an object was put below an owner, which may be worth a warning
-abbrev pub placed_step : Bool → Ask → Obj → Reply → Pool → Step
-placed_step true q x r p = Do.Go (frame.Call (Warning (later q r) x r)) p
-placed_step false q x r p = replied q r p
+-- the object of which it warns is told before the reply
+abbrev pub warned_step : Option Obj → Ask → Reply → Pool → Step
+warned_step None q r p = replied q r p
+warned_step (Some x) q r p = Do.Go (frame.Call (Warning (later q r) x r)) p
 
--- what a call to free begins with: the one reference to an object of the root's is dropped, or the object freed
-abbrev pub freeing_by : Option Obj → Obj → FreeFrame
-freeing_by None x = Beginning x
-freeing_by (Some r) x = Unlinking Root x
-
-abbrev pub freeing : Pool → Obj → FreeFrame
-freeing p x = freeing_by (newest_ref p.rows x) x
-
-abbrev pub effect_step : Ask → Call → Pool → Step
-effect_step q (call.New o size name) p = replied q (reply.Number p.next) (add p Plain o size name)
-effect_step q (call.Free x) p = Do.Call (frame.Free (freeing p x)) (frame.Call (Awaiting q x)) p
-effect_step q (call.Freekids x) p = Do.Call (frame.Free (Looping x Emptying)) (frame.Call (Awaiting q x)) p
-effect_step q (call.Steal o x) p = placed_step (warns p o x) q x reply.Ok (place p o x)
-effect_step q (call.Move o x) p = placed_step (warns p o x) q x (reply.Number x.0) (place p o x)
-effect_step q (call.Reparent from to x) p = replied q reply.Ok (reparented p from to x)
-effect_step q (call.Reference o x) p = replied q (reply.Number p.next) (refer p o x)
-effect_step q (call.Unlink o x) p = Do.Call (frame.Free (Unlinking o x)) (frame.Call (Awaiting q x)) p
-effect_step q (call.Hook x routine) p = replied q reply.Ok (set_hook p x routine)
-effect_step q (call.Unhook x) p = replied q reply.Ok (set_hook p x 0)
-effect_step q (call.Rename x name) p = replied q reply.Ok (rename p x name)
-effect_step q (call.Resize x size) p = replied q reply.Ok (set_size p x size)
-effect_step q (call.Limit x max) p = replied q reply.Ok (set_limit p x max)
-effect_step q (call.Parent x) p = replied q (owner_reply (owner_of p.rows x)) p
-effect_step q (call.Total o) p = replied q (reply.Number (size_inside p.rows o)) p
-effect_step q (call.Count o) p = replied q (reply.Number (count_inside p.rows o)) p
-effect_step q (call.Sum o) p = replied q (reply.Number (sum_inside p.rows o)) p
-effect_step q (call.Report o) p = replied q (reply.Rows (report p.rows o)) p
-
--- the first refusal that applies, otherwise the effect
-abbrev pub call_step : Check → Ask → Call → Pool → Step
-call_step [] q c p = effect_step q c p
-call_step (why ∷ later) q c p = replied q (reply.No why) p
+-- the first step of a plan
+abbrev pub plan_step : Ask → Plan → Pool → Step
+plan_step q (Does c warned r) p = warned_step warned q r (changed_by c p)
+plan_step q (Frees x) p = Do.Call (frame.Free (Beginning x)) (frame.Call (Awaiting q x)) p
+plan_step q (Unlinks o x) p = Do.Call (frame.Free (Unlinking o x)) (frame.Call (Awaiting q x)) p
+plan_step q (Empties x) p = Do.Call (frame.Free (Looping x Emptying)) (frame.Call (Awaiting q x)) p
 
 abbrev pub caller_step : CallFrame → Pool → Step
 caller_step (Asking q) p = Do.Wait (Asked q) (frame.Call (Asking q)) p
-caller_step (Doing q c) p = call_step (refusals p c) q c p
+caller_step (Doing q c) p = plan_step q (planned p c) p
 -- it waits for the work above it
 caller_step (Awaiting q x) p = Do.Done (Freed Ok) p
 caller_step (Warning q x r) p = Do.Emit (Told (event.Warned x)) (frame.Call (Telling q r)) p

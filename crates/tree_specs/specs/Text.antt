@@ -4,7 +4,6 @@ use Rattle.std.specs.Fmt.{decimal}
 use Rattle.std.specs.Option.{option_map}
 use Rattle.hex.specs.Hex.{encode_lower}
 use Rattle.tree_specs.specs.declared.call.Call.{Call}
-use Rattle.tree_specs.specs.declared.call.Call.TheVariants.{New, Free, Freekids, Steal, Move, Reparent, Reference, Unlink, Hook, Unhook, Rename, Resize, Limit, Parent, Total, Count, Sum, Report}
 use Rattle.tree_specs.specs.declared.reply.Refusal.{Refusal}
 use Rattle.tree_specs.specs.declared.reply.Refusal.TheVariants.{NoSuch, WrongKind, Running, Held, Refused, NotParent, Loop, Dying, OverLimit, Full, Spent, InUse, BadState, TooBig, Nested}
 use Rattle.tree_specs.specs.declared.reply.Reply.{Reply}
@@ -22,32 +21,24 @@ use Rattle.tree_specs.specs.declared.question.Act.TheVariants as acts
 use Rattle.tree_specs.specs.declared.question.Input.{Input}
 use Rattle.tree_specs.specs.declared.question.Input.TheVariants as inputs
 use Rattle.tree_specs.specs.Objects.{owner_number}
+use Rattle.tree_specs.specs.Spelling.{Field, spelling}
+use Rattle.tree_specs.specs.Spelling.Field.{AnOwner, AnObject, ANumber, ARoutine, AName}
 use Rattle.tree_specs.specs.Items.{Item}
 use Rattle.tree_specs.specs.Items.Item.{Told, Asked}
 
 abbrev pub newline : List ℕ
 newline = 10 ∷ []
 
+abbrev pub field_text : Field → List ℕ
+field_text (AnOwner o) = decimal (owner_number o)
+field_text (AnObject x) = decimal x.0
+field_text (ANumber n) = decimal n
+field_text (ARoutine r) = decimal r
+field_text (AName name) = name
+
 -- the verb and the fields, with single spaces between them
 unfoldable pub call_text : Call → List ℕ
-call_text (New owner size name) = codes "new " ++ decimal (owner_number owner) ++ codes " " ++ decimal size ++ codes " " ++ name
-call_text (Free x) = codes "free " ++ decimal x.0
-call_text (Freekids x) = codes "freekids " ++ decimal x.0
-call_text (Steal owner x) = codes "steal " ++ decimal (owner_number owner) ++ codes " " ++ decimal x.0
-call_text (Move owner x) = codes "move " ++ decimal (owner_number owner) ++ codes " " ++ decimal x.0
-call_text (Reparent from to x) = codes "reparent " ++ decimal (owner_number from) ++ codes " " ++ decimal (owner_number to) ++ codes " " ++ decimal x.0
-call_text (Reference owner x) = codes "reference " ++ decimal (owner_number owner) ++ codes " " ++ decimal x.0
-call_text (Unlink owner x) = codes "unlink " ++ decimal (owner_number owner) ++ codes " " ++ decimal x.0
-call_text (Hook x routine) = codes "hook " ++ decimal x.0 ++ codes " " ++ decimal routine
-call_text (Unhook x) = codes "unhook " ++ decimal x.0
-call_text (Rename x name) = codes "rename " ++ decimal x.0 ++ codes " " ++ name
-call_text (Resize x size) = codes "resize " ++ decimal x.0 ++ codes " " ++ decimal size
-call_text (Limit x max) = codes "limit " ++ decimal x.0 ++ codes " " ++ decimal max
-call_text (Parent x) = codes "parent " ++ decimal x.0
-call_text (Total owner) = codes "total " ++ decimal (owner_number owner)
-call_text (Count owner) = codes "count " ++ decimal (owner_number owner)
-call_text (Sum owner) = codes "sum " ++ decimal (owner_number owner)
-call_text (Report owner) = codes "report " ++ decimal (owner_number owner)
+call_text c = (spelling c).verb ++ flat_map (λ f. codes " " ++ field_text f) (spelling c).fields
 
 -- an input as its line
 unfoldable pub input_text : Input → List ℕ

@@ -20,6 +20,7 @@ mod reply;
 mod report;
 mod row;
 mod schedule;
+mod test;
 
 pub use call::Call;
 pub use event::Event;
@@ -36,3 +37,4 @@ pub use reply::{Refusal, Reply};
 pub use report::{ReportRow, ReportRows, RowKind};
 pub use row::{Mark, Row};
 pub use schedule::{Mode, Reason};
+pub use test::Test;

@@ -1,0 +1,34 @@
+use crate::object::{Obj, Owner};
+
+/// What is looked at before a call is done. Where it isn't so, the call is refused.
+#[derive(Debug, Clone, Copy, PartialEq, Eq)]
+pub enum Test {
+    /// A size in bytes is below the greatest one.
+    IsSmall(u64),
+    /// There is such an object, and it is no reference.
+    IsObject(Obj),
+    /// It is the root or such an object.
+    IsOwner(Owner),
+    /// The object is a plain one.
+    IsPlain(Obj),
+    /// There is room for so many rows, and there are so many numbers.
+    HasRoom(u8),
+    /// The limits leave room for so many more bytes below the owner.
+    Fits(Owner, u64),
+    /// The object gets this size: where it grows, the limits leave room for it.
+    MayGrow(Obj, u64),
+    /// The object isn't being freed.
+    IsStaying(Obj),
+    /// Neither its destructor nor its handler runs.
+    IsStill(Obj),
+    /// The owner isn't inside the object.
+    IsApart(Obj, Owner),
+    /// No reference keeps the object from being freed.
+    IsUnheld(Obj),
+    /// There is no reference to the object.
+    IsUnreferenced(Obj),
+    /// The owner owns the object, or a reference to it.
+    IsInterested(Owner, Obj),
+    /// The first owner gives the object, or its reference to it, to the second one.
+    MayGive(Owner, Owner, Obj),
+}
