@@ -16,7 +16,8 @@ use Rattle.tree_specs.specs.declared.object.Owner.{Owner}
 use Rattle.tree_specs.specs.Items.Item.{Told}
 use Rattle.tree_specs.specs.Pool.{Pool, is_owner, add, set_hook}
 use Rattle.tree_specs.specs.Calls.{Check, refusals}
-use Rattle.tree_specs.specs.Table.{step, call_step}
+use Rattle.tree_specs.specs.Plans.{plan, unless_refused}
+use Rattle.tree_specs.specs.Table.{step, plan_step}
 use Rattle.tree_specs.specs.Whole.{Whole}
 use Rattle.tree_specs.proofs.Changes.{stands, new-sound}
 use Rattle.tree_specs.proofs.Rest.{whole-kept, event-whole}
@@ -43,7 +44,7 @@ hooked-rests x p none w =
       seated = w.seated;
       light = w.light;
     } in
-    let goes : step (frame.Call (Doing Quiet (call.Hook x 16))) p ≡ Do.Go (frame.Call (Telling Quiet reply.Ok)) (set_hook p x 16) = ap (λ (check : Check). call_step check Quiet (call.Hook x 16) p) none in
+    let goes : step (frame.Call (Doing Quiet (call.Hook x 16))) p ≡ Do.Go (frame.Call (Telling Quiet reply.Ok)) (set_hook p x 16) = ap (λ (check : Check). plan_step Quiet (unless_refused check (plan p (call.Hook x 16))) p) none in
     let telling : Whole (call_view (Telling Quiet reply.Ok) [] [] (set_hook p x 16)) = rw goes at (whole-kept (call_view (Doing Quiet (call.Hook x 16)) [] [] p) 0 doing) in
     event-whole (call_view (Telling Quiet reply.Ok) [] [] (set_hook p x 16)) (Told (event.Replied reply.Ok)) (frame.Call (Asking Quiet)) (set_hook p x 16) telling refl
 

@@ -1,6 +1,6 @@
 -- Calls: their text, both ways. A new verb adds a clause to each of the lemmas by cases.
-use Rattle.std.proofs.Common.{◌≡◌, ◌≢◌, ℕ, Bool, true, false, ◌&&◌, List, [], ◌∷◌, Option, Some, None, Result, Ok, Err, cond, refl, sym, ap, ◌∙◌, codes, append_assoc}
-use Rattle.std.specs.Prelude.{IfOk}
+use Rattle.std.proofs.Common.{◌≡◌, ◌≢◌, ℕ, Bool, true, false, ◌&&◌, List, [], ◌∷◌, Option, Some, None, Result, Ok, Err, cond, refl, sym, ap, ◌∙◌, codes, append-nil, ◌++◌, map}
+use Rattle.std.specs.Prelude.{IfOk, flat_map}
 use Rattle.std.specs.Fmt.{decimal}
 use Rattle.std.specs.List.{list_all}
 use Rattle.std.specs.Option.{option_map}
@@ -10,7 +10,7 @@ use Rattle.tree_specs.specs.declared.call.Call.{Call}
 use Rattle.tree_specs.specs.declared.call.Call.TheVariants.{New, Free, Freekids, Steal, Move, Reparent, Reference, Unlink, Hook, Unhook, Rename, Resize, Limit, Parent, Total, Count, Sum, Report}
 use Rattle.tree_specs.specs.declared.object.Obj.{Obj}
 use Rattle.tree_specs.specs.declared.object.Owner.{Owner}
-use Rattle.tree_specs.specs.Grammar.{◌>>=◌, words, number_of, object_of, owner_of, new_of, of_object, of_owner, placing_of, numbered_of, reparent_of, hook_of, rename_of, call_of_words, call_of}
+use Rattle.tree_specs.specs.Grammar.{◌>>=◌, words, number_of, object_of, owner_of, new_of, of_object, of_owner, placing_of, numbered_of, reparent_of, hook_of, rename_of, Form, forms, read_by, call_of_words, call_of}
 use Rattle.tree_specs.specs.Names.{is_name}
 use Rattle.tree_specs.specs.Objects.{owner_number}
 use Rattle.tree_specs.specs.Soundness.{is_number, is_sound_owner, is_sound_call}
@@ -18,75 +18,24 @@ use Rattle.tree_specs.specs.Text.{call_text}
 use Rattle.text_forms.specs.declared.form.FormFault.{FormFault}
 use Rattle.text_forms.specs.declared.form.FormFault.TheVariants.{NoForm, Memory}
 use Rattle.text_forms.specs.Reads.{Reads}
+use Rattle.tree_specs.specs.Spelling.{Field, spelling}
+use Rattle.tree_specs.specs.Text.{field_text}
 use Rattle.text_forms.proofs.Fields.{IsField, has_read, number_field, routine_field, owner_field, object_field, name_field}
 use Rattle.text_forms.proofs.Bools.{and_true}
 use Rattle.text_forms.proofs.Words.{is_unspaced, joined, words-joined, joined-words}
 
 -- ---- the words of a call
 
-abbrev verb_of : Call → List ℕ
-verb_of (New owner size name) = codes "new"
-verb_of (Free x) = codes "free"
-verb_of (Freekids x) = codes "freekids"
-verb_of (Steal owner x) = codes "steal"
-verb_of (Move owner x) = codes "move"
-verb_of (Reparent from to x) = codes "reparent"
-verb_of (Reference owner x) = codes "reference"
-verb_of (Unlink owner x) = codes "unlink"
-verb_of (Hook x routine) = codes "hook"
-verb_of (Unhook x) = codes "unhook"
-verb_of (Rename x name) = codes "rename"
-verb_of (Resize x size) = codes "resize"
-verb_of (Limit x max) = codes "limit"
-verb_of (Parent x) = codes "parent"
-verb_of (Total owner) = codes "total"
-verb_of (Count owner) = codes "count"
-verb_of (Sum owner) = codes "sum"
-verb_of (Report owner) = codes "report"
-
-abbrev fields_of : Call → List (List ℕ)
-fields_of (New owner size name) = decimal (owner_number owner) ∷ decimal size ∷ name ∷ []
-fields_of (Free x) = decimal x.0 ∷ []
-fields_of (Freekids x) = decimal x.0 ∷ []
-fields_of (Steal owner x) = decimal (owner_number owner) ∷ decimal x.0 ∷ []
-fields_of (Move owner x) = decimal (owner_number owner) ∷ decimal x.0 ∷ []
-fields_of (Reparent from to x) = decimal (owner_number from) ∷ decimal (owner_number to) ∷ decimal x.0 ∷ []
-fields_of (Reference owner x) = decimal (owner_number owner) ∷ decimal x.0 ∷ []
-fields_of (Unlink owner x) = decimal (owner_number owner) ∷ decimal x.0 ∷ []
-fields_of (Hook x routine) = decimal x.0 ∷ decimal routine ∷ []
-fields_of (Unhook x) = decimal x.0 ∷ []
-fields_of (Rename x name) = decimal x.0 ∷ name ∷ []
-fields_of (Resize x size) = decimal x.0 ∷ decimal size ∷ []
-fields_of (Limit x max) = decimal x.0 ∷ decimal max ∷ []
-fields_of (Parent x) = decimal x.0 ∷ []
-fields_of (Total owner) = decimal (owner_number owner) ∷ []
-fields_of (Count owner) = decimal (owner_number owner) ∷ []
-fields_of (Sum owner) = decimal (owner_number owner) ∷ []
-fields_of (Report owner) = decimal (owner_number owner) ∷ []
-
 abbrev words_of : Call → List (List ℕ)
-words_of c = verb_of c ∷ fields_of c
+words_of c = (spelling c).verb ∷ map field_text (spelling c).fields
+
+joined-fields : (verb : List ℕ) (fs : List Field) → verb ++ flat_map (λ f. codes " " ++ field_text f) fs ≡ joined (verb ∷ map field_text fs)
+joined-fields verb [] = append-nil verb
+joined-fields verb (f ∷ fs) = ap (λ (l : List ℕ). verb ++ (codes " " ++ l)) (joined-fields (field_text f) fs)
 
 call_text-words : (c : Call) → call_text c ≡ joined (words_of c)
 unfolding call_text
-call_text-words (New owner size name) = simp append_assoc
-call_text-words (Free x) = refl
-call_text-words (Freekids x) = refl
-call_text-words (Steal owner x) = simp append_assoc
-call_text-words (Move owner x) = simp append_assoc
-call_text-words (Reparent from to x) = simp append_assoc
-call_text-words (Reference owner x) = simp append_assoc
-call_text-words (Unlink owner x) = simp append_assoc
-call_text-words (Hook x routine) = simp append_assoc
-call_text-words (Unhook x) = refl
-call_text-words (Rename x name) = simp append_assoc
-call_text-words (Resize x size) = simp append_assoc
-call_text-words (Limit x max) = simp append_assoc
-call_text-words (Parent x) = refl
-call_text-words (Total owner) = refl
-call_text-words (Count owner) = refl
-call_text-words (Sum owner) = refl
-call_text-words (Report owner) = refl
+call_text-words c = joined-fields (spelling c).verb (spelling c).fields
 
 -- ---- from a call to its words and back
 
@@ -120,22 +69,22 @@ pair_read call (Some a) (Some b) = refl
 words_fit : (c : Call) → is_sound_call c ≡ true → AreWords c (words_of c)
 unfolding call_of_words new_of of_object of_owner placing_of numbered_of reparent_of hook_of rename_of
 words_fit (New owner size name) h =
-    let named = and_true (is_sound_owner owner && is_number size) (is_name name) h in
-    let sized = and_true (is_sound_owner owner) (is_number size) named.0 in
+    let owned = and_true (is_sound_owner owner) (is_number size && is_name name) h in
+    let sized = and_true (is_number size) (is_name name) owned.1 in
     record {
-      unspaced = rw (owner_field.is_word owner sized.0, number_field.is_word size sized.1, name_field.is_word name named.1) refl;
-      again = rw (owner_field.again owner sized.0, number_field.again size sized.1, name_field.again name named.1) refl;
+      unspaced = rw (owner_field.is_word owner owned.0, number_field.is_word size sized.0, name_field.is_word name sized.1) refl;
+      again = rw (owner_field.again owner owned.0, number_field.again size sized.0, name_field.again name sized.1) refl;
     }
 words_fit (Free x) h = one_fits object_field (codes "free") Free x refl h refl
 words_fit (Freekids x) h = one_fits object_field (codes "freekids") Freekids x refl h refl
 words_fit (Steal owner x) h = two_fit owner_field object_field (codes "steal") Steal owner x refl h (pair_read Steal _ _)
 words_fit (Move owner x) h = two_fit owner_field object_field (codes "move") Move owner x refl h (pair_read Move _ _)
 words_fit (Reparent from to x) h =
-    let placed = and_true (is_sound_owner from && is_sound_owner to) (is_number x.0) h in
-    let owners = and_true (is_sound_owner from) (is_sound_owner to) placed.0 in
+    let first = and_true (is_sound_owner from) (is_sound_owner to && is_number x.0) h in
+    let rest = and_true (is_sound_owner to) (is_number x.0) first.1 in
     record {
-      unspaced = rw (owner_field.is_word from owners.0, owner_field.is_word to owners.1, object_field.is_word x placed.1) refl;
-      again = rw (owner_field.again from owners.0, owner_field.again to owners.1, object_field.again x placed.1) refl;
+      unspaced = rw (owner_field.is_word from first.0, owner_field.is_word to rest.0, object_field.is_word x rest.1) refl;
+      again = rw (owner_field.again from first.0, owner_field.again to rest.0, object_field.again x rest.1) refl;
     }
 words_fit (Reference owner x) h = two_fit owner_field object_field (codes "reference") Reference owner x refl h (pair_read Reference _ _)
 words_fit (Unlink owner x) h = two_fit owner_field object_field (codes "unlink") Unlink owner x refl h (pair_read Unlink _ _)
@@ -154,7 +103,7 @@ pub call_again : (c : Call) → is_sound_call c ≡ true → call_of (call_text 
 unfolding call_of
 call_again c h =
     let fit = words_fit c h in
-    rw (call_text-words c, words-joined (verb_of c) (fields_of c) fit.unspaced) fit.again
+    rw (call_text-words c, words-joined (spelling c).verb (map field_text (spelling c).fields) fit.unspaced) fit.again
 
 -- ---- from words to a call and back
 
@@ -259,38 +208,49 @@ rename_spelled (x ∷ []) c e = absurd cc
 rename_spelled (x ∷ n ∷ []) c e = two_spelled object_field name_field (codes "rename") Rename (λ x name. refl) (λ x name. refl) x n c e
 rename_spelled (x ∷ n ∷ m ∷ more) c e = absurd cc
 
--- the fields are read by this verb's reader, or else by the readers of other verbs
-by_verb : (name : List ℕ) (read : List (List ℕ) → Option Call) → ((fields : List (List ℕ)) (c : Call) → read fields ≡ Some c → IsSpelling (name ∷ fields) c) → (verb : List ℕ) (fields : List (List ℕ)) (c : Call) (others : Option Call) → (others ≡ Some c → IsSpelling (verb ∷ fields) c) → cond (bytes_eq verb name) (read fields) others ≡ Some c → IsSpelling (verb ∷ fields) c
-by_verb name read spelled verb fields c others otherwise e = by_test (bytes_eq verb name) refl e
+-- what a form reads is spelled so
+abbrev Spells : Form → Type 0
+Spells f = (fields : List (List ℕ)) (c : Call) → f.read fields ≡ Some c → IsSpelling (f.verb ∷ fields) c
+
+infixr 6 ◌also◌
+data AllSpell : List Form → Type 0 where
+  no_more : AllSpell []
+  ◌also◌ : {f : Form} {fs : List Form} → Spells f → AllSpell fs → AllSpell (f ∷ fs)
+
+all-spell : AllSpell forms
+all-spell =
+    new_spelled
+    also object_spelled (codes "free") Free (λ x. refl) (λ x. refl)
+    also object_spelled (codes "freekids") Freekids (λ x. refl) (λ x. refl)
+    also placing_spelled (codes "steal") Steal (λ owner x. refl) (λ owner x. refl)
+    also placing_spelled (codes "move") Move (λ owner x. refl) (λ owner x. refl)
+    also reparent_spelled
+    also placing_spelled (codes "reference") Reference (λ owner x. refl) (λ owner x. refl)
+    also placing_spelled (codes "unlink") Unlink (λ owner x. refl) (λ owner x. refl)
+    also hook_spelled
+    also object_spelled (codes "unhook") Unhook (λ x. refl) (λ x. refl)
+    also rename_spelled
+    also numbered_spelled (codes "resize") Resize (λ x size. refl) (λ x size. refl)
+    also numbered_spelled (codes "limit") Limit (λ x max. refl) (λ x max. refl)
+    also object_spelled (codes "parent") Parent (λ x. refl) (λ x. refl)
+    also owner_spelled (codes "total") Total (λ owner. refl) (λ owner. refl)
+    also owner_spelled (codes "count") Count (λ owner. refl) (λ owner. refl)
+    also owner_spelled (codes "sum") Sum (λ owner. refl) (λ owner. refl)
+    also owner_spelled (codes "report") Report (λ owner. refl) (λ owner. refl)
+    also no_more
+
+read_spelled : (fs : List Form) → AllSpell fs → (verb : List ℕ) (fields : List (List ℕ)) (c : Call) → read_by fs verb fields ≡ Some c → IsSpelling (verb ∷ fields) c
+read_spelled [] all verb fields c e = absurd cc
+read_spelled (f ∷ fs) (spells also all) verb fields c e = by_test (bytes_eq verb f.verb) refl (read_spelled fs all verb fields c) e
   where
-    by_test : (b : Bool) → bytes_eq verb name ≡ b → cond b (read fields) others ≡ Some c → IsSpelling (verb ∷ fields) c
-    by_test false h f = otherwise f
-    by_test true h f = rw ((bytes_eq-Decides verb name).0 h) (spelled fields c f)
+    by_test : (b : Bool) → bytes_eq verb f.verb ≡ b → (read_by fs verb fields ≡ Some c → IsSpelling (verb ∷ fields) c) → cond b (f.read fields) (read_by fs verb fields) ≡ Some c → IsSpelling (verb ∷ fields) c
+    by_test false h later k = later k
+    by_test true h later k = rw ((bytes_eq-Decides verb f.verb).0 h) (spells fields c k)
 
 words_spelled : (ws : List (List ℕ)) (c : Call) → call_of_words ws ≡ Some c → IsSpelling ws c
 unfolding call_of_words
 words_spelled [] c e = absurd cc
-words_spelled (verb ∷ fields) c e =
-    by_verb (codes "new") new_of new_spelled verb fields c _
-    (by_verb (codes "free") (of_object Free) (object_spelled (codes "free") Free (λ x. refl) (λ x. refl)) verb fields c _
-    (by_verb (codes "freekids") (of_object Freekids) (object_spelled (codes "freekids") Freekids (λ x. refl) (λ x. refl)) verb fields c _
-    (by_verb (codes "steal") (placing_of Steal) (placing_spelled (codes "steal") Steal (λ owner x. refl) (λ owner x. refl)) verb fields c _
-    (by_verb (codes "move") (placing_of Move) (placing_spelled (codes "move") Move (λ owner x. refl) (λ owner x. refl)) verb fields c _
-    (by_verb (codes "reparent") reparent_of reparent_spelled verb fields c _
-    (by_verb (codes "reference") (placing_of Reference) (placing_spelled (codes "reference") Reference (λ owner x. refl) (λ owner x. refl)) verb fields c _
-    (by_verb (codes "unlink") (placing_of Unlink) (placing_spelled (codes "unlink") Unlink (λ owner x. refl) (λ owner x. refl)) verb fields c _
-    (by_verb (codes "hook") hook_of hook_spelled verb fields c _
-    (by_verb (codes "unhook") (of_object Unhook) (object_spelled (codes "unhook") Unhook (λ x. refl) (λ x. refl)) verb fields c _
-    (by_verb (codes "rename") rename_of rename_spelled verb fields c _
-    (by_verb (codes "resize") (numbered_of Resize) (numbered_spelled (codes "resize") Resize (λ x size. refl) (λ x size. refl)) verb fields c _
-    (by_verb (codes "limit") (numbered_of Limit) (numbered_spelled (codes "limit") Limit (λ x max. refl) (λ x max. refl)) verb fields c _
-    (by_verb (codes "parent") (of_object Parent) (object_spelled (codes "parent") Parent (λ x. refl) (λ x. refl)) verb fields c _
-    (by_verb (codes "total") (of_owner Total) (owner_spelled (codes "total") Total (λ owner. refl) (λ owner. refl)) verb fields c _
-    (by_verb (codes "count") (of_owner Count) (owner_spelled (codes "count") Count (λ owner. refl) (λ owner. refl)) verb fields c _
-    (by_verb (codes "sum") (of_owner Sum) (owner_spelled (codes "sum") Sum (λ owner. refl) (λ owner. refl)) verb fields c _
-    (by_verb (codes "report") (of_owner Report) (owner_spelled (codes "report") Report (λ owner. refl) (λ owner. refl)) verb fields c _
-    (λ none. absurd cc))))))))))))))))))
-    e
+words_spelled (verb ∷ fields) c e = read_spelled forms all-spell verb fields c e
 
 pub call_spelled : (text : List ℕ) (c : Call) → call_of text ≡ Some c → (text ≡ call_text c) × (is_sound_call c ≡ true)
 unfolding call_of
