@@ -36,7 +36,7 @@ use Rattle.tree_specs.proofs.Numbered.{same-equal}
 use Rattle.tree_specs.proofs.Checks.{all-pass, Heard, HeardCall, HeardReturn, heard-leads}
 use Rattle.tree_specs.proofs.Plans.{May, follows, may-planned}
 use Rattle.tree_specs.specs.Forest.{Distinct}
-use Rattle.tree_specs.specs.Plans.{Plan, plan, planned, unless_refused, changed_by, frees, hands_on, gift}
+use Rattle.tree_specs.specs.Plans.{Plan, plan, planned, unless_refused, changed_by, frees}
 use Rattle.tree_specs.specs.Plans.Plan.{Does, Frees, Unlinks, Empties}
 use Rattle.tree_specs.proofs.Changes.{running-row, claim-here}
 use Rattle.tree_specs.proofs.Later.{Later, later-same}
@@ -161,11 +161,6 @@ caused p (call.Free x) none = each (newest_ref p.rows x) ((all-pass p (tests (ca
     each (Some r) free = (refl, free)
 caused p (call.Freekids x) none = (refl, tt)
 caused p (call.Unlink o x) none = (refl, tt)
-caused p (call.Reparent from to x) none = each (gift p from x)
-  where
-    each : (o : Option Obj) → CausedBy p (call.Reparent from to x) (hands_on to o)
-    each None = λ scenes. (tt, tt, tt, tt)
-    each (Some r) = λ scenes. (tt, tt, tt, tt)
 caused p c none = λ scenes. (tt, tt, tt, tt)
 
 caused-planned : (p : Pool) (c : Call) → Distinct p.rows → Refers p.rows → CausedBy p c (planned p c)

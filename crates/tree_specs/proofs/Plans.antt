@@ -20,7 +20,7 @@ use Rattle.tree_specs.specs.Measure.{weight, mark_weight}
 use Rattle.tree_specs.specs.Whole.{burden, mark_burden}
 use Rattle.tree_specs.specs.Calls.{Check, tests, refusals}
 use Rattle.tree_specs.specs.declared.test.Test.TheVariants.{IsObject}
-use Rattle.tree_specs.specs.Plans.{Change, Plan, changed_by, plan, planned, unless_refused, places, warns, frees, hands_on, gift}
+use Rattle.tree_specs.specs.Plans.{Change, Plan, changed_by, plan, planned, unless_refused, places, warns, frees, handed, gift}
 use Rattle.tree_specs.specs.Plans.Change.{Nothing, Edit, Add, Place, Then}
 use Rattle.tree_specs.specs.Plans.Plan.{Does, Frees, Unlinks, Empties}
 use Rattle.tree_specs.specs.Sound.{IsLive, IsReferable, IsQuietRow, MayBePlaced, Rests, Sound, claim}
@@ -160,7 +160,7 @@ module _ (f : Frame) (fs : List Frame) (p : Pool) (s : Sound f fs p) where
   unlinked o x h (AsHolder r t e) = let w = newest-of-refers p.rows o x r s.forest.distinct e in referred o x r h (rw w.1 w.2)
 
   given : (from to : Owner) (x : Obj) → Gives p from to x → is_owner p.rows to ≡ true → (is_inside p.rows to (Of x) ≡ false → MayBePlaced p to x)
-      → May p (hands_on to (gift p from x))
+      → May p (Does (handed to (gift p from x)) None reply.Ok)
   given from to x (Itself t outside) there placed = rw t (placed outside, omega arith, tt)
   given from to x (ItsRef r t n) there placed =
       let w = newest-of-refers p.rows from x r s.forest.distinct n in

@@ -15,14 +15,16 @@ use Rattle.tree_specs.specs.declared.frame.Answer.{Answer}
 use Rattle.tree_specs.specs.declared.free_step.FreeReply.{FreeReply}
 use Rattle.tree_specs.specs.declared.free_step.FreeStep.{FreeStep}
 use Rattle.tree_specs.specs.declared.event.Event.{Event}
+use Rattle.tree_specs.specs.declared.call.Call.{Call}
 use Rattle.tree_specs.specs.declared.question.Ask.{Ask}
 use Rattle.tree_specs.specs.Pool.{Pool}
 use Rattle.tree_specs.specs.Items.{Item, IsQuestion}
 use Rattle.tree_specs.specs.Items.Item.{Asked}
-use Rattle.tree_specs.specs.Plans.{Plan, planned}
+use Rattle.tree_specs.specs.Plans.{Plan, planned, plan, unless_refused}
 use Rattle.tree_specs.specs.Plans.Plan.{Does, Frees, Unlinks, Empties}
 use Rattle.tree_specs.specs.Story.{turns}
-use Rattle.tree_specs.specs.Table.{table, step, free_step, event_of, announced, plan_step, lifted, taken}
+use Rattle.tree_specs.specs.Calls.{Check}
+use Rattle.tree_specs.specs.Table.{call_step, table, step, free_step, event_of, announced, plan_step, lifted, taken}
 use Rattle.tree_specs.specs.Sound.{Sound, Rests}
 use Rattle.tree_specs.specs.Measure.{cost}
 use Rattle.tree_specs.specs.View.{View, rest_of}
@@ -175,6 +177,9 @@ plan-goes_on q (Does change (Some x) r) p = tt
 plan-goes_on q (Frees x) p = tt
 plan-goes_on q (Unlinks o x) p = tt
 plan-goes_on q (Empties x) p = tt
+
+pub call-goes_on : (check : Check) (q : Ask) (c : Call) (p : Pool) → GoesOn (call_step check q c p)
+call-goes_on check q c p = plan-goes_on q (unless_refused check (plan p c)) p
 
 -- a free by itself asks the host for nothing but runs
 free-waits : (m : Move FreeFrame FreeReply Pool FreeStep) (p : Pool) (i : Item) (g : Frame) → lifted m ≡ Do.Wait i g p → ⊥

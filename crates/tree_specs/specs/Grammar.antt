@@ -7,11 +7,12 @@ use Rattle.std.specs.Str.Parse.{digits_value}
 use Rattle.tree_specs.specs.declared.object.Obj.{Obj}
 use Rattle.tree_specs.specs.declared.object.Owner.{Owner}
 use Rattle.tree_specs.specs.declared.call.Call.{Call}
-use Rattle.tree_specs.specs.declared.call.Call.TheVariants.{New, Free, Freekids, Steal, Move, Reparent, Reference, Unlink, Hook, Unhook, Rename, Resize, Limit, Parent, Total, Count, Sum, Report}
 use Rattle.tree_specs.specs.declared.question.Act.TheVariants as acts
 use Rattle.tree_specs.specs.declared.question.Input.{Input}
 use Rattle.tree_specs.specs.declared.question.Input.TheVariants as inputs
 use Rattle.tree_specs.specs.Names.{is_name}
+use Rattle.tree_specs.specs.Spelling.{Reading, Form, forms}
+use Rattle.tree_specs.specs.Spelling.Reading.{Whole, TakesOwner, TakesObject, TakesNumber, TakesRoutine, EndsInName}
 use Rattle.tree_specs.specs.Objects.{numbered_owner}
 
 infixl 10 ◌>>=◌
@@ -65,122 +66,39 @@ name_of text = if is_name text then Some text else None
 abbrev pub words : List ℕ → List (List ℕ)
 words text = slice_split (λ b. b == 32) text
 
--- ---- fields
+-- ---- calls
 
--- an object and nothing more
-abbrev pub only_object_of : List (List ℕ) → Option Obj
-only_object_of (x ∷ []) = object_of x
-only_object_of _ = None
+-- each field is a word, and a name is the last one
+abbrev pub read : Reading → List (List ℕ) → Option Call
+read (Whole call) [] = Some call
+read (TakesOwner next) (word ∷ more) = do
+  owner ← owner_of word
+  read (next owner) more
+read (TakesObject next) (word ∷ more) = do
+  object ← object_of word
+  read (next object) more
+read (TakesNumber next) (word ∷ more) = do
+  number ← number_of word
+  read (next number) more
+read (TakesRoutine next) (word ∷ more) = do
+  routine ← routine_of word
+  read (next routine) more
+read (EndsInName call) (word ∷ []) = do
+  name ← name_of word
+  Some (call name)
+read _ words = None
 
--- an owner and nothing more
-abbrev pub only_owner_of : List (List ℕ) → Option Owner
-only_owner_of (p ∷ []) = owner_of p
-only_owner_of _ = None
-
--- an owner, and then an object
-abbrev pub owner_and_object_of : List (List ℕ) → Option (Owner × Obj)
-owner_and_object_of (p ∷ x ∷ []) = do
-  owner ← owner_of p
-  object ← object_of x
-  Some (owner, object)
-owner_and_object_of _ = None
-
--- an object, and then a number
-abbrev pub object_and_number_of : List (List ℕ) → Option (Obj × ℕ)
-object_and_number_of (x ∷ n ∷ []) = do
-  object ← object_of x
-  number ← number_of n
-  Some (object, number)
-object_and_number_of _ = None
-
--- ---- calls, by their fields
-
-unfoldable pub new_of : List (List ℕ) → Option Call
-new_of (p ∷ s ∷ n ∷ []) = do
-  owner ← owner_of p
-  size ← number_of s
-  name ← name_of n
-  Some (New owner size name)
-new_of _ = None
-
--- a call that has an object and nothing more
-unfoldable pub of_object : (Obj → Call) → List (List ℕ) → Option Call
-of_object call fields = option_map call (only_object_of fields)
-
--- a call that has an owner and nothing more
-unfoldable pub of_owner : (Owner → Call) → List (List ℕ) → Option Call
-of_owner call fields = option_map call (only_owner_of fields)
-
--- a call that has an owner, and then an object
-unfoldable pub placing_of : (Owner → Obj → Call) → List (List ℕ) → Option Call
-placing_of call fields = option_map (λ pair. call pair.0 pair.1) (owner_and_object_of fields)
-
--- a call that has an object, and then a number
-unfoldable pub numbered_of : (Obj → ℕ → Call) → List (List ℕ) → Option Call
-numbered_of call fields = option_map (λ pair. call pair.0 pair.1) (object_and_number_of fields)
-
-unfoldable pub reparent_of : List (List ℕ) → Option Call
-reparent_of (p ∷ q ∷ x ∷ []) = do
-  from ← owner_of p
-  to ← owner_of q
-  object ← object_of x
-  Some (Reparent from to object)
-reparent_of _ = None
-
-unfoldable pub hook_of : List (List ℕ) → Option Call
-hook_of (x ∷ r ∷ []) = do
-  object ← object_of x
-  routine ← routine_of r
-  Some (Hook object routine)
-hook_of _ = None
-
-unfoldable pub rename_of : List (List ℕ) → Option Call
-rename_of (x ∷ n ∷ []) = do
-  object ← object_of x
-  name ← name_of n
-  Some (Rename object name)
-rename_of _ = None
-
--- a verb, and what reads its fields
-pub record Form : Type 0 where
-  pub verb : List ℕ
-  pub read : List (List ℕ) → Option Call
-
-infixr 8 ◌reads◌
-abbrev pub ◌reads◌ : List ℕ → (List (List ℕ) → Option Call) → Form
-verb reads read = record { verb = verb; read = read }
-
-abbrev pub forms : List Form
-forms =
-    (codes "new" reads new_of)
-    ∷ (codes "free" reads of_object Free)
-    ∷ (codes "freekids" reads of_object Freekids)
-    ∷ (codes "steal" reads placing_of Steal)
-    ∷ (codes "move" reads placing_of Move)
-    ∷ (codes "reparent" reads reparent_of)
-    ∷ (codes "reference" reads placing_of Reference)
-    ∷ (codes "unlink" reads placing_of Unlink)
-    ∷ (codes "hook" reads hook_of)
-    ∷ (codes "unhook" reads of_object Unhook)
-    ∷ (codes "rename" reads rename_of)
-    ∷ (codes "resize" reads numbered_of Resize)
-    ∷ (codes "limit" reads numbered_of Limit)
-    ∷ (codes "parent" reads of_object Parent)
-    ∷ (codes "total" reads of_owner Total)
-    ∷ (codes "count" reads of_owner Count)
-    ∷ (codes "sum" reads of_owner Sum)
-    ∷ (codes "report" reads of_owner Report)
-    ∷ []
-
--- the form with this verb reads the fields
-abbrev pub read_by : List Form → List ℕ → List (List ℕ) → Option Call
-read_by [] verb fields = None
-read_by (f ∷ fs) verb fields = if bytes_eq verb f.verb then f.read fields else read_by fs verb fields
+-- the first form with this verb
+abbrev pub form_in : List Form → List ℕ → Option Reading
+form_in [] verb = None
+form_in (f ∷ fs) verb = if bytes_eq verb f.verb then Some f.reading else form_in fs verb
 
 -- a verb and its fields
 unfoldable pub call_of_words : List (List ℕ) → Option Call
 call_of_words [] = None
-call_of_words (verb ∷ fields) = read_by forms verb fields
+call_of_words (verb ∷ fields) = do
+  reading ← form_in forms verb
+  read reading fields
 
 unfoldable pub call_of : List ℕ → Option Call
 call_of text = call_of_words (words text)

@@ -67,9 +67,13 @@ places p o x r = Does (Place o x) (if warns p o x then Some x else None) r
 abbrev pub gift : Pool → Owner → Obj → Option Obj
 gift p from x = if is_below (owner_of p.rows x) from then Some x else newest_ref_of p.rows from x
 
-abbrev pub hands_on : Owner → Option Obj → Plan
-hands_on to None = replies Ok
-hands_on to (Some r) = Does (Place to r) None Ok
+abbrev pub handed : Owner → Option Obj → Change
+handed to None = Nothing
+handed to (Some r) = Place to r
+
+-- an object goes from its owner to another one, or the newest reference of an owner does
+abbrev pub reparented : Pool → Owner → Owner → Obj → Pool
+reparented p from to x = changed_by (handed to (gift p from x)) p
 
 -- the one reference to an object of the root's is dropped
 abbrev pub frees : Option Obj → Obj → Plan
@@ -90,7 +94,7 @@ plan p (call.Free x) = frees (newest_ref p.rows x) x
 plan p (call.Freekids x) = Empties x
 plan p (call.Steal o x) = places p o x Ok
 plan p (call.Move o x) = places p o x (Number x.0)
-plan p (call.Reparent from to x) = hands_on to (gift p from x)
+plan p (call.Reparent from to x) = Does (handed to (gift p from x)) None Ok
 plan p (call.Reference o x) = adds p (Reference x) o 0 (codes "reference")
 plan p (call.Unlink o x) = Unlinks o x
 plan p (call.Hook x routine) = edits x (hooked_row routine)

@@ -1,4 +1,4 @@
--- How each call is spelled: its verb, and its fields in order.
+-- How each call is spelled: its verb, and its fields in order. One row writes it, and one reads it.
 use Rattle.std.specs.Prelude.{ℕ, List, [], ◌∷◌, codes}
 use Rattle.tree_specs.specs.declared.object.Obj.{Obj}
 use Rattle.tree_specs.specs.declared.object.Owner.{Owner}
@@ -39,3 +39,57 @@ spelling (Total owner) = codes "total" with (AnOwner owner ∷ [])
 spelling (Count owner) = codes "count" with (AnOwner owner ∷ [])
 spelling (Sum owner) = codes "sum" with (AnOwner owner ∷ [])
 spelling (Report owner) = codes "report" with (AnOwner owner ∷ [])
+
+-- ---- reading
+
+-- the fields that are still to come, and the call that they make
+pub data Reading : Type 0 where
+  Whole : Call → Reading
+  TakesOwner : (Owner → Reading) → Reading
+  TakesObject : (Obj → Reading) → Reading
+  TakesNumber : (ℕ → Reading) → Reading
+  TakesRoutine : (ℕ → Reading) → Reading
+  -- a name comes last
+  EndsInName : (List ℕ → Call) → Reading
+
+abbrev pub of_object : (Obj → Call) → Reading
+of_object call = TakesObject (λ x. Whole (call x))
+
+abbrev pub of_owner : (Owner → Call) → Reading
+of_owner call = TakesOwner (λ owner. Whole (call owner))
+
+abbrev pub owner_and_object : (Owner → Obj → Call) → Reading
+owner_and_object call = TakesOwner (λ owner. of_object (call owner))
+
+abbrev pub object_and_number : (Obj → ℕ → Call) → Reading
+object_and_number call = TakesObject (λ x. TakesNumber (λ n. Whole (call x n)))
+
+pub record Form : Type 0 where
+  pub verb : List ℕ
+  pub reading : Reading
+
+infixr 8 ◌reads◌
+abbrev pub ◌reads◌ : List ℕ → Reading → Form
+verb reads reading = record { verb = verb; reading = reading }
+
+abbrev pub forms : List Form
+forms =
+    (codes "new" reads TakesOwner (λ owner. TakesNumber (λ size. EndsInName (λ name. New owner size name))))
+    ∷ (codes "free" reads of_object Free)
+    ∷ (codes "freekids" reads of_object Freekids)
+    ∷ (codes "steal" reads owner_and_object Steal)
+    ∷ (codes "move" reads owner_and_object Move)
+    ∷ (codes "reparent" reads TakesOwner (λ from. owner_and_object (λ to x. Reparent from to x)))
+    ∷ (codes "reference" reads owner_and_object Reference)
+    ∷ (codes "unlink" reads owner_and_object Unlink)
+    ∷ (codes "hook" reads TakesObject (λ x. TakesRoutine (λ routine. Whole (Hook x routine))))
+    ∷ (codes "unhook" reads of_object Unhook)
+    ∷ (codes "rename" reads TakesObject (λ x. EndsInName (λ name. Rename x name)))
+    ∷ (codes "resize" reads object_and_number Resize)
+    ∷ (codes "limit" reads object_and_number Limit)
+    ∷ (codes "parent" reads of_object Parent)
+    ∷ (codes "total" reads of_owner Total)
+    ∷ (codes "count" reads of_owner Count)
+    ∷ (codes "sum" reads of_owner Sum)
+    ∷ (codes "report" reads of_owner Report)
+    ∷ []

@@ -36,7 +36,8 @@ use Rattle.tree_specs.specs.Pool.{Pool, row_of, is_below, owner_of, target_at, n
 use Rattle.tree_specs.specs.Heirs.{heir}
 use Rattle.tree_specs.specs.Items.{Item}
 use Rattle.tree_specs.specs.Items.Item.{Told, Asked}
-use Rattle.tree_specs.specs.Plans.{Plan, planned, changed_by}
+use Rattle.tree_specs.specs.Calls.{Check, refusals}
+use Rattle.tree_specs.specs.Plans.{Plan, plan, unless_refused, changed_by}
 use Rattle.tree_specs.specs.Plans.Plan.{Does, Frees, Unlinks, Empties}
 use Rattle.tree_specs.specs.Works.{Begun}
 use Rattle.tree_specs.specs.Story.{freed_reply, hook_moment, later, heard}
@@ -195,9 +196,13 @@ plan_step q (Frees x) p = Do.Call (frame.Free (Beginning x)) (frame.Call (Awaiti
 plan_step q (Unlinks o x) p = Do.Call (frame.Free (Unlinking o x)) (frame.Call (Awaiting q x)) p
 plan_step q (Empties x) p = Do.Call (frame.Free (Looping x Emptying)) (frame.Call (Awaiting q x)) p
 
+-- the first refusal that applies, otherwise the plan
+abbrev pub call_step : Check → Ask → Call → Pool → Step
+call_step check q c p = plan_step q (unless_refused check (plan p c)) p
+
 abbrev pub caller_step : CallFrame → Pool → Step
 caller_step (Asking q) p = Do.Wait (Asked q) (frame.Call (Asking q)) p
-caller_step (Doing q c) p = plan_step q (planned p c) p
+caller_step (Doing q c) p = call_step (refusals p c) q c p
 -- it waits for the work above it
 caller_step (Awaiting q x) p = Do.Done (Freed Ok) p
 caller_step (Warning q x r) p = Do.Emit (Told (event.Warned x)) (frame.Call (Telling q r)) p
