@@ -35,4 +35,3 @@ pub mod FineFrees
 pub mod StoryOrder
 pub mod TextLaws
 pub mod FreeCauses
-pub mod Same
