@@ -1,97 +1,62 @@
 -- Calls by their verbs, as a reader goes through their words.
-use Rattle.std.specs.Prelude.{ℕ, if◌then◌else◌, List, [], ◌∷◌, Option, Some, None, codes}
-use Rattle.std.specs.Str.{bytes_eq}
+use Rattle.std.specs.Prelude.{ℕ, ◌≡◌, List, [], ◌∷◌, Option, Some, None, codes}
 use Rattle.tree_specs.specs.declared.call.Call.{Call}
-use Rattle.tree_specs.specs.declared.call.Call.TheVariants as calls
-use Rattle.tree_specs.specs.Grammar.{◌>>=◌, number_of, object_of, owner_of, routine_of, name_of}
+use Rattle.tree_specs.specs.Spelling.{Reading, forms}
+use Rattle.tree_specs.specs.Spelling.Reading.{Whole, TakesOwner, TakesObject, TakesNumber, TakesRoutine, EndsInName}
+use Rattle.tree_specs.specs.Grammar.{◌>>=◌, number_of, object_of, owner_of, routine_of, name_of, form_in}
 use Rattle.text_forms.specs.declared.verb.Verb.{Verb}
 use Rattle.text_forms.specs.declared.verb.Verb.TheVariants.{New, Free, Freekids, Steal, Move, Reparent, Reference, Unlink, Hook, Unhook, Rename, Resize, Limit, Parent, Total, Count, Sum, Report}
-use Rattle.text_forms.specs.Cursor.{field, both, last_field}
+use Rattle.text_forms.specs.Cursor.{field, last_field}
 
--- the verb that a word is
-unfoldable pub verb_of : List ℕ → Option Verb
-verb_of word =
-    if bytes_eq word (codes "new") then Some New else
-    if bytes_eq word (codes "free") then Some Free else
-    if bytes_eq word (codes "freekids") then Some Freekids else
-    if bytes_eq word (codes "steal") then Some Steal else
-    if bytes_eq word (codes "move") then Some Move else
-    if bytes_eq word (codes "reparent") then Some Reparent else
-    if bytes_eq word (codes "reference") then Some Reference else
-    if bytes_eq word (codes "unlink") then Some Unlink else
-    if bytes_eq word (codes "hook") then Some Hook else
-    if bytes_eq word (codes "unhook") then Some Unhook else
-    if bytes_eq word (codes "rename") then Some Rename else
-    if bytes_eq word (codes "resize") then Some Resize else
-    if bytes_eq word (codes "limit") then Some Limit else
-    if bytes_eq word (codes "parent") then Some Parent else
-    if bytes_eq word (codes "total") then Some Total else
-    if bytes_eq word (codes "count") then Some Count else
-    if bytes_eq word (codes "sum") then Some Sum else
-    if bytes_eq word (codes "report") then Some Report else None
+abbrev pub word_of : Verb → List ℕ
+word_of New = codes "new"
+word_of Free = codes "free"
+word_of Freekids = codes "freekids"
+word_of Steal = codes "steal"
+word_of Move = codes "move"
+word_of Reparent = codes "reparent"
+word_of Reference = codes "reference"
+word_of Unlink = codes "unlink"
+word_of Hook = codes "hook"
+word_of Unhook = codes "unhook"
+word_of Rename = codes "rename"
+word_of Resize = codes "resize"
+word_of Limit = codes "limit"
+word_of Parent = codes "parent"
+word_of Total = codes "total"
+word_of Count = codes "count"
+word_of Sum = codes "sum"
+word_of Report = codes "report"
 
--- a call of this verb, read from the words after it, and the words that it leaves
+-- a word is this verb, or the verb of no form
+abbrev pub IsVerb : Option Verb → List ℕ → Type 0
+IsVerb None word = form_in forms word ≡ None
+IsVerb (Some verb) word = word ≡ word_of verb
+
+-- the call that the words begin with, by what it takes, and the words that it leaves
+abbrev pub taken : Reading → List (List ℕ) → Option (Call × List (List ℕ))
+taken (Whole call) words = Some (call, words)
+taken (TakesOwner next) words = do
+  owner ← field owner_of words
+  taken (next owner.0) owner.1
+taken (TakesObject next) words = do
+  object ← field object_of words
+  taken (next object.0) object.1
+taken (TakesNumber next) words = do
+  number ← field number_of words
+  taken (next number.0) number.1
+taken (TakesRoutine next) words = do
+  routine ← field routine_of words
+  taken (next routine.0) routine.1
+taken (EndsInName call) words = do
+  name ← last_field name_of words
+  Some (call name.0, name.1)
+
+-- the same of a call of this verb
 unfoldable pub fields_read : Verb → List (List ℕ) → Option (Call × List (List ℕ))
-fields_read New words = do
-  owner ← field owner_of words
-  size ← field number_of owner.1
-  name ← last_field name_of size.1
-  Some (calls.New owner.0 size.0 name.0, name.1)
-fields_read Free words = do
-  x ← field object_of words
-  Some (calls.Free x.0, x.1)
-fields_read Freekids words = do
-  x ← field object_of words
-  Some (calls.Freekids x.0, x.1)
-fields_read Steal words = do
-  pair ← both owner_of object_of words
-  Some (calls.Steal pair.0.0 pair.0.1, pair.1)
-fields_read Move words = do
-  pair ← both owner_of object_of words
-  Some (calls.Move pair.0.0 pair.0.1, pair.1)
-fields_read Reparent words = do
-  from ← field owner_of words
-  to ← field owner_of from.1
-  x ← field object_of to.1
-  Some (calls.Reparent from.0 to.0 x.0, x.1)
-fields_read Reference words = do
-  pair ← both owner_of object_of words
-  Some (calls.Reference pair.0.0 pair.0.1, pair.1)
-fields_read Unlink words = do
-  pair ← both owner_of object_of words
-  Some (calls.Unlink pair.0.0 pair.0.1, pair.1)
-fields_read Hook words = do
-  x ← field object_of words
-  routine ← field routine_of x.1
-  Some (calls.Hook x.0 routine.0, routine.1)
-fields_read Unhook words = do
-  x ← field object_of words
-  Some (calls.Unhook x.0, x.1)
-fields_read Rename words = do
-  x ← field object_of words
-  name ← last_field name_of x.1
-  Some (calls.Rename x.0 name.0, name.1)
-fields_read Resize words = do
-  pair ← both object_of number_of words
-  Some (calls.Resize pair.0.0 pair.0.1, pair.1)
-fields_read Limit words = do
-  pair ← both object_of number_of words
-  Some (calls.Limit pair.0.0 pair.0.1, pair.1)
-fields_read Parent words = do
-  x ← field object_of words
-  Some (calls.Parent x.0, x.1)
-fields_read Total words = do
-  owner ← field owner_of words
-  Some (calls.Total owner.0, owner.1)
-fields_read Count words = do
-  owner ← field owner_of words
-  Some (calls.Count owner.0, owner.1)
-fields_read Sum words = do
-  owner ← field owner_of words
-  Some (calls.Sum owner.0, owner.1)
-fields_read Report words = do
-  owner ← field owner_of words
-  Some (calls.Report owner.0, owner.1)
+fields_read verb words = do
+  reading ← form_in forms (word_of verb)
+  taken reading words
 
 -- what was read, where no word is left
 abbrev pub ended : {A : Type 0} → A × List (List ℕ) → Option A

@@ -1,7 +1,6 @@
 //! The verbs of calls.
 
-ghost use Rattle.std.specs.Prelude.{◌≡◌};
-ghost use Rattle.text_forms.specs.Verbs.{verb_of};
+ghost use Rattle.text_forms.specs.Verbs.{IsVerb};
 
 // What a call asks for: its first word.
 #[derive(Clone, Copy)]
@@ -28,9 +27,8 @@ pub(crate) enum Verb {
 
 impl Verb {
     // The verb that this word is.
-    #[tactic(auto, unfolding(crate::specs::Verbs::verb_of))]
     pub(crate) fn from_word(word: &[u8]) -> Option<Verb>
-        ensures { result ≡ verb_of word.now }
+        ensures { IsVerb result word.now }
     {
         match word {
             b"new" => Some(Verb::New),
