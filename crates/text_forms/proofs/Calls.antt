@@ -146,7 +146,7 @@ AllSpell [] = Unit {0}
 AllSpell (f ∷ fs) = Spells f.reading (λ fields. f.verb with fields) × AllSpell fs
 
 all_spell : AllSpell forms
-all_spell = search refl
+all_spell = search tt
 
 spelled_so : (reading : Reading) (so : List Field → Spelling) (fs : List Field) (c : Call) → Spells reading so → feed reading fs ≡ Some c → spelling c ≡ so fs
 unfolding feed
