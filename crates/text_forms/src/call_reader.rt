@@ -8,7 +8,7 @@ ghost use Rattle.text_forms.specs.Reads.{Reads};
 use crate::field::Fields;
 use crate::form::FormFault;
 use crate::split::split_word;
-use crate::verb::Verb;
+use crate::verb::{Verb, read_fields};
 use std::alloc::Global;
 use tree_specs::Call;
 
@@ -22,7 +22,7 @@ fn call_value(alloc: Global, text: &[u8]) -> Result<Call, FormFault>
         return Err(FormFault::NoForm);
     };
     let mut fields = Fields::make(rest);
-    let call = verb.read(alloc, &mut fields)?;
+    let call = read_fields(alloc, verb, &mut fields)?;
     fields.end()?;
     Ok(call)
 }

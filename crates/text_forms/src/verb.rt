@@ -58,48 +58,45 @@ impl Verb {
             _ => None,
         }
     }
+}
 
-    // The call of this verb whose fields come next.
-    #[tactic(auto, unfolding(crate::specs::Verbs::fields_read))]
-    pub(crate) fn read(self, alloc: Global, fields: &mut Fields) -> Result<Call, FormFault>
-        ensures { Takes result (fields_read self fields.old) fields.new }
-    {
-        match self {
-            Verb::New => Ok(Call::New {
-                owner: fields.owner()?,
-                size: fields.number()?,
-                name: fields.name(alloc)?,
-            }),
-            Verb::Free => fields.object().map(|x| Call::Free { x }),
-            Verb::Freekids => fields.object().map(|x| Call::Freekids { x }),
-            Verb::Steal => owner_and_object(fields).map(|(owner, x)| Call::Steal { owner, x }),
-            Verb::Move => owner_and_object(fields).map(|(owner, x)| Call::Move { owner, x }),
-            Verb::Reparent => Ok(Call::Reparent {
-                from: fields.owner()?,
-                to: fields.owner()?,
-                x: fields.object()?,
-            }),
-            Verb::Reference => owner_and_object(fields).map(|(owner, x)| Call::Reference {
-                owner,
-                x,
-            }),
-            Verb::Unlink => owner_and_object(fields).map(|(owner, x)| Call::Unlink { owner, x }),
-            Verb::Hook => Ok(Call::Hook {
-                x: fields.object()?,
-                routine: fields.routine()?,
-            }),
-            Verb::Unhook => fields.object().map(|x| Call::Unhook { x }),
-            Verb::Rename => Ok(Call::Rename {
-                x: fields.object()?,
-                name: fields.name(alloc)?,
-            }),
-            Verb::Resize => object_and_number(fields).map(|(x, size)| Call::Resize { x, size }),
-            Verb::Limit => object_and_number(fields).map(|(x, max)| Call::Limit { x, max }),
-            Verb::Parent => fields.object().map(|x| Call::Parent { x }),
-            Verb::Total => fields.owner().map(|owner| Call::Total { owner }),
-            Verb::Count => fields.owner().map(|owner| Call::Count { owner }),
-            Verb::Sum => fields.owner().map(|owner| Call::Sum { owner }),
-            Verb::Report => fields.owner().map(|owner| Call::Report { owner }),
-        }
+// The call of this verb whose fields come next.
+#[tactic(auto, unfolding(crate::specs::Verbs::fields_read))]
+pub(crate) fn read_fields(alloc: Global, verb: Verb, fields: &mut Fields) -> Result<Call, FormFault>
+    ensures { Takes result (fields_read verb fields.old) fields.new }
+{
+    match verb {
+        Verb::New => Ok(Call::New {
+            owner: fields.owner()?,
+            size: fields.number()?,
+            name: fields.name(alloc)?,
+        }),
+        Verb::Free => fields.object().map(|x| Call::Free { x }),
+        Verb::Freekids => fields.object().map(|x| Call::Freekids { x }),
+        Verb::Steal => owner_and_object(fields).map(|(owner, x)| Call::Steal { owner, x }),
+        Verb::Move => owner_and_object(fields).map(|(owner, x)| Call::Move { owner, x }),
+        Verb::Reparent => Ok(Call::Reparent {
+            from: fields.owner()?,
+            to: fields.owner()?,
+            x: fields.object()?,
+        }),
+        Verb::Reference => owner_and_object(fields).map(|(owner, x)| Call::Reference { owner, x }),
+        Verb::Unlink => owner_and_object(fields).map(|(owner, x)| Call::Unlink { owner, x }),
+        Verb::Hook => Ok(Call::Hook {
+            x: fields.object()?,
+            routine: fields.routine()?,
+        }),
+        Verb::Unhook => fields.object().map(|x| Call::Unhook { x }),
+        Verb::Rename => Ok(Call::Rename {
+            x: fields.object()?,
+            name: fields.name(alloc)?,
+        }),
+        Verb::Resize => object_and_number(fields).map(|(x, size)| Call::Resize { x, size }),
+        Verb::Limit => object_and_number(fields).map(|(x, max)| Call::Limit { x, max }),
+        Verb::Parent => fields.object().map(|x| Call::Parent { x }),
+        Verb::Total => fields.owner().map(|owner| Call::Total { owner }),
+        Verb::Count => fields.owner().map(|owner| Call::Count { owner }),
+        Verb::Sum => fields.owner().map(|owner| Call::Sum { owner }),
+        Verb::Report => fields.owner().map(|owner| Call::Report { owner }),
     }
 }

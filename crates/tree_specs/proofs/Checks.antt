@@ -1,5 +1,5 @@
 -- What it means that no refusal applies, and that an input fits.
-use Rattle.std.proofs.Common.{◌≡◌, ◌≢◌, ◌≤◌, ◌<◌, ℕ, suc, zero, arith, List, [], ◌∷◌, ◌++◌, length, Option, Some, None, Bool, true, false, refl, sym, ◌∙◌, ap, subst, ◌⊎◌, inl, inr}
+use Rattle.std.proofs.Common.{◌≡◌, ◌≢◌, ℕ, suc, zero, arith, List, [], ◌∷◌, ◌++◌, length, Option, Some, None, Bool, true, false, refl, sym, ◌∙◌, ap, subst, ◌⊎◌, inl, inr}
 use Rattle.std.specs.Prelude.{◌+◌, ◌^◌, is_some, not, nat_lt, nat_le}
 use Rattle.std.proofs.lemmas.Bool.{eqb-true}
 use Rattle.std.proofs.lemmas.Bool.Decides.{nat_tests}
@@ -20,13 +20,14 @@ use Rattle.tree_specs.specs.declared.question.Input.{Input}
 use Rattle.tree_specs.specs.declared.question.Input.TheVariants as input
 use Rattle.tree_specs.specs.declared.frame.Frame.{Frame}
 use Rattle.tree_specs.specs.Targets.{target_of, is_reference}
-use Rattle.tree_specs.specs.Pool.{Pool, row_of, is_object_row, is_owner, is_below, owner_of, newest_ref_of, is_dying, reaches, is_inside}
+use Rattle.tree_specs.specs.Pool.{Pool, row_of, is_object_row, is_owner, is_below, owner_of, newest_ref_of, reaches, is_inside}
 use Rattle.tree_specs.specs.Reports.{count_refs}
 use Rattle.tree_specs.specs.Given.{Given, given_to}
 use Rattle.tree_specs.specs.Given.Given.{Calls, Returns}
 use Rattle.tree_specs.specs.declared.test.Test.{Test}
-use Rattle.tree_specs.specs.Calls.{Check, refuse_if, refusal_of, refused, size_limit, row_limit, is_plain_row, object_row, object, owner, room, apart, interested, given_by, is_held, is_running_mark, is_running, fits, growing}
+use Rattle.tree_specs.specs.Calls.{Check, refuse_if, refusal_of, refused, size_limit, row_limit, object_row, object, owner, room, apart, interested, given_by, is_running_mark}
 use Rattle.tree_specs.specs.declared.test.Test.TheVariants.{IsSmall, IsObject, IsOwner, IsPlain, HasRoom, Fits, MayGrow, IsStaying, IsStill, IsApart, IsUnheld, IsUnreferenced, IsInterested, MayGive}
+use Rattle.tree_specs.specs.Passed.{Interest, AsOwner, AsHolder, Gives, Itself, ItsRef, Passed, AllPassed}
 use Rattle.tree_specs.specs.Sound.{IsLive, MayBePlaced}
 use Rattle.tree_specs.specs.Soundness.{is_sound_call, is_return}
 use Rattle.tree_specs.specs.Table.{doing, returning}
@@ -52,33 +53,7 @@ refers-none : (o : Option Obj) → is_some o ≡ false → o ≡ None
 refers-none None e = refl
 refers-none (Some t) e = cc
 
--- ---- what a test says that is passed
-
--- an interest is an owner's, or of one that has a reference
-pub data Interest (p : Pool) (o : Owner) (x : Obj) : Type 0 where
-  AsOwner : is_below (owner_of p.rows x) o ≡ true → Interest p o x
-  AsHolder : (r : Obj) → is_below (owner_of p.rows x) o ≡ false → newest_ref_of p.rows o x ≡ Some r → Interest p o x
-
--- what an owner gives to another one: the object itself, or its newest reference to it
-pub data Gives (p : Pool) (from to : Owner) (x : Obj) : Type 0 where
-  Itself : is_below (owner_of p.rows x) from ≡ true → is_inside p.rows to (Of x) ≡ false → Gives p from to x
-  ItsRef : (r : Obj) → is_below (owner_of p.rows x) from ≡ false → newest_ref_of p.rows from x ≡ Some r → Gives p from to x
-
-abbrev pub Passed : Pool → Test → Type 0
-Passed p (IsSmall size) = size < size_limit
-Passed p (IsObject x) = (r : Row) × (row_of p.rows x ≡ Some r) × (target_of r.kind ≡ None)
-Passed p (IsOwner o) = is_owner p.rows o ≡ true
-Passed p (IsPlain x) = is_plain_row (row_of p.rows x) ≡ true
-Passed p (HasRoom k) = (length p.rows + k ≤ row_limit) × (p.next + k < 2 ^ 64)
-Passed p (Fits o wanted) = fits p o wanted ≡ []
-Passed p (MayGrow x size) = growing p x size ≡ []
-Passed p (IsStaying x) = is_dying p.rows x ≡ false
-Passed p (IsStill x) = is_running p x ≡ false
-Passed p (IsApart x o) = is_inside p.rows o (Of x) ≡ false
-Passed p (IsUnheld x) = is_held p x ≡ false
-Passed p (IsUnreferenced x) = count_refs p.rows x ≡ 0
-Passed p (IsInterested o x) = Interest p o x
-Passed p (MayGive from to x) = Gives p from to x
+-- ---- a test that isn't refused is passed
 
 pub passes-object : (p : Pool) (x : Obj) → object p x ≡ [] → Passed p (IsObject x)
 passes-object p x e = each (row_of p.rows x) refl e
@@ -140,10 +115,6 @@ passes p (IsUnheld x) e = refuse_if-none _ _ e
 passes p (IsUnreferenced x) e = eqb-true (count_refs p.rows x) 0 (not-false _ (refuse_if-none _ _ e))
 passes p (IsInterested o x) e = passes-interested p o x e
 passes p (MayGive from to x) e = passes-given p from to x e
-
-abbrev pub AllPassed : Pool → List Test → Type 0
-AllPassed p [] = Unit {0}
-AllPassed p (t ∷ ts) = Passed p t × AllPassed p ts
 
 pub all-pass : (p : Pool) (ts : List Test) → refused p ts ≡ [] → AllPassed p ts
 all-pass p [] e = tt

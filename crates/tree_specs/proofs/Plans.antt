@@ -28,7 +28,8 @@ use Rattle.tree_specs.proofs.Numbered.{same-equal, is_below-some}
 use Rattle.tree_specs.proofs.Rows.{total-placed, row_of-placed-same}
 use Rattle.tree_specs.proofs.Rooted.{KeepsPlace}
 use Rattle.tree_specs.proofs.Referring.{newest-refers, newest-of-refers, refers-nothing, reference-outside, object-refers}
-use Rattle.tree_specs.proofs.Checks.{Passed, AllPassed, all-pass, Interest, AsOwner, AsHolder, Gives, Itself, ItsRef, may-place, quiet-row}
+use Rattle.tree_specs.specs.Passed.{Passed, AllPassed, Interest, AsOwner, AsHolder, Gives, Itself, ItsRef}
+use Rattle.tree_specs.proofs.Checks.{all-pass, may-place, quiet-row}
 use Rattle.tree_specs.proofs.Changes.{names-place, hooks-place, sizes-place, limits-place, goes_on, unmarked-sound, placed-sound, new-sound, owned-row}
 use Rattle.tree_specs.proofs.KeptFrees.{referred-live}
 use Rattle.tree_specs.proofs.FallingFrees.{total-kept, length-changed, length-placed}

@@ -14,6 +14,7 @@ pub mod Spelling
 pub mod Soundness
 pub mod Given
 pub mod Calls
+pub mod Passed
 pub mod Plans
 pub mod Works
 pub mod Story
