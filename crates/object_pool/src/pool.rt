@@ -43,7 +43,7 @@ impl ObjectPool {
     ghost use Rattle.tree_specs.specs.declared.frame.Purpose.TheVariants.{Emptying};
     ghost use Rattle.tree_specs.specs.Pool.{empty, row_of, is_row, is_owner, is_below, is_inside as is_inside_of, owner_of, target_at, newest_ref_of, add as added, place as placed, rename as renamed, set_hook as hooked, set_size as sized, set_limit as limited};
     ghost use Rattle.tree_specs.specs.Targets.{newest_ref};
-    ghost use Rattle.tree_specs.specs.Story.{refer as referred, reparented};
+    ghost use Rattle.tree_specs.specs.Plans.{refer as referred, reparented};
     ghost use Rattle.tree_specs.specs.Calls.{checked, row_limit, size_limit, is_plain_row, fits as fitting};
     ghost use Rattle.tree_specs.specs.Sums.{size_at, sum_inside};
     ghost use Rattle.tree_specs.specs.Reports.{report, count_refs};
