@@ -1,4 +1,5 @@
 pub mod Allowed
+pub mod Passing
 pub mod Onward
 pub mod FreeSteps
 pub mod CallSteps

@@ -1,11 +1,12 @@
 //! The steps of a caller: a call is done, or its reply is there.
-ghost use Rattle.std.specs.Prelude.{◌≡◌, ◌+◌, None, Ok, true};
-ghost use Rattle.tree_specs.specs.Calls.{checked, refusals};
-ghost use Rattle.tree_specs.specs.Pool.{place as placed};
+ghost use Rattle.std.specs.Prelude.{◌≡◌, None, true};
+ghost use Rattle.tree_specs.specs.Calls.{tests, refusals};
+ghost use Rattle.tree_specs.specs.Passed.{AllPassed};
+ghost use Rattle.tree_specs.specs.Plans.{plan, places as places_of, warns as worth_a_warning};
 ghost use Rattle.tree_specs.specs.declared.call.Call.TheVariants.{Free as FreeOf};
 ghost use Rattle.tree_specs.specs.declared.question.Ask.{Ask as AskData};
-ghost use Rattle.tree_specs.specs.Story.{freed_reply, warns as worth_a_warning};
-ghost use Rattle.tree_specs.specs.Table.{call_step, effect_step, placed_step};
+ghost use Rattle.tree_specs.specs.Story.{freed_reply};
+ghost use Rattle.tree_specs.specs.Table.{call_step, plan_step};
 ghost use Rattle.tree_links.specs.Links.{MayPlace};
 ghost use Rattle.object_pool.specs.Objects.{RefsMayGo};
 ghost use Rattle.host_core.specs.Moves.{move_of, reply_of, report_of, ReadyFor};
@@ -41,7 +42,7 @@ fn give(x: Obj, owner: Owner, reply: Brief, pool: &mut ObjectPool) -> Motion
     requires { MayPlace pool.old.pool.rows x owner }
     ensures goes { ReadyFor result pool.new.ready }
     ensures works { pool.new.works ≡ pool.old.works }
-    ensures moved { (q : AskData) → move_of q result pool.new.pool ≡ placed_step (worth_a_warning pool.old.pool owner x) q x (reply_of reply) (placed pool.old.pool owner x) }
+    ensures moved { (q : AskData) → move_of q result pool.new.pool ≡ plan_step q (places_of pool.old.pool owner x (reply_of reply)) pool.old.pool }
 {
     let warned = warns(owner, x, pool);
     pool.place(x, owner);
@@ -54,7 +55,7 @@ fn give(x: Obj, owner: Owner, reply: Brief, pool: &mut ObjectPool) -> Motion
 
 /// Frees an object to which there is no reference. The one reference to an object of the root's is dropped instead.
 fn free(x: Obj, pool: &ObjectPool) -> Motion
-    ensures { (q : AskData) → move_of q result pool.now.pool ≡ effect_step q (FreeOf x) pool.now.pool }
+    ensures { (q : AskData) → move_of q result pool.now.pool ≡ plan_step q (plan pool.now.pool (FreeOf x)) pool.now.pool }
 {
     match pool.newest(x) {
         Some(_) => Motion::Unlinks(Owner::Root, x),
@@ -63,15 +64,15 @@ fn free(x: Obj, pool: &ObjectPool) -> Motion
 }
 
 /// Does a call that isn't refused, and takes no memory for its reply.
-#[tactic(auto, using(crate::proofs::Allowed::numbered, crate::proofs::Allowed::few, crate::proofs::Allowed::small_size, crate::proofs::Allowed::owned, crate::proofs::Allowed::steal_goes, crate::proofs::Allowed::move_goes, crate::proofs::Allowed::hook_goes, crate::proofs::Allowed::unhook_goes, crate::proofs::Allowed::named, crate::proofs::Allowed::resized_plain, crate::proofs::Allowed::resized_small, crate::proofs::Allowed::limited, crate::proofs::Allowed::reparent_itself, crate::proofs::Allowed::reparent_there, crate::proofs::Allowed::reference_numbered, crate::proofs::Allowed::reference_few, crate::proofs::Allowed::reference_owned))]
+#[tactic(auto, using(crate::proofs::Allowed::may_go, crate::proofs::Allowed::may_go_itself))]
 fn effect(alloc: Global, call: Call, pool: &mut ObjectPool) -> Motion
     requires ready { pool.old.ready ≡ true }
-    requires allowed { checked (refusals pool.old.pool call) ≡ Ok tt }
+    requires allowed { AllPassed pool.old.pool (tests call) }
     requires no_report { report_of call ≡ None }
     requires reference { RefsMayGo pool.old.pool.rows }
     ensures goes { ReadyFor result pool.new.ready }
     ensures works { pool.new.works ≡ pool.old.works }
-    ensures moved { (q : AskData) → move_of q result pool.new.pool ≡ effect_step q call pool.old.pool }
+    ensures moved { (q : AskData) → move_of q result pool.new.pool ≡ plan_step q (plan pool.old.pool call) pool.old.pool }
 {
     match call {
         Call::New { owner, size, name } => {
@@ -123,7 +124,7 @@ fn effect(alloc: Global, call: Call, pool: &mut ObjectPool) -> Motion
 }
 
 /// Does a call: the first refusal that applies is the reply, otherwise the effect comes.
-#[tactic(auto, using(crate::proofs::Allowed::refused_step, crate::proofs::Allowed::allowed_step))]
+#[tactic(auto, using(crate::proofs::Allowed::refused_step, crate::proofs::Allowed::allowed_step, crate::proofs::Allowed::all_passed))]
 pub fn act(alloc: Global, call: Call, pool: &mut ObjectPool) -> Motion
     requires ready { pool.old.ready ≡ true }
     requires no_report { report_of call ≡ None }

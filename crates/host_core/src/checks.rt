@@ -1,12 +1,16 @@
 //! What a call is refused for. The checks stand in the order in which they are tried.
-ghost use Rattle.std.specs.Prelude.{◌≡◌, ◌+◌, ◌<◌, IsOk};
-ghost use Rattle.tree_specs.specs.Calls.{◌before◌, small, owner, object, plain, room, staying, still, apart, placing, hooking, held, interested, given_by, fits as fitting, unreferenced, growing, size_limit, refusals};
+ghost use Rattle.std.specs.Prelude.{◌≡◌, ◌+◌, ◌<◌, [], ◌∷◌, IsOk};
+ghost use Rattle.tree_specs.specs.Calls.{checked, small, owner, object, plain, room, staying, still, apart, held, interested, given_by, unreferenced, growing, size_limit, refusal_of, refused, refusals};
 ghost use Rattle.tree_specs.specs.Sums.{overhead};
-ghost use Rattle.tree_specs.specs.Calls.{checked};
+ghost use Rattle.tree_specs.specs.declared.call.Call.TheVariants.{Reparent as ReparentOf, Reference as ReferenceOf, Resize as ResizeOf};
 
 use object_pool::ObjectPool;
 use tree_report::OVERHEAD;
-use tree_specs::{Call, Kind, Mark, Obj, Owner, Refusal, Row};
+use tree_specs::Test::{
+    Fits, HasRoom, IsApart, IsInterested, IsObject, IsOwner, IsPlain, IsSmall, IsStaying, IsStill,
+    IsUnheld, IsUnreferenced, MayGive, MayGrow,
+};
+use tree_specs::{Call, Kind, Mark, Obj, Owner, Refusal, Row, Test};
 
 /// The size of an object is below this, in bytes.
 const SIZE_LIMIT: u64 = 268_435_456;
@@ -62,14 +66,14 @@ fn check_plain(x: Obj, pool: &ObjectPool) -> Result<(), Refusal>
     }
 }
 
-/// Whether there is room for a row and a number.
-fn check_room(pool: &ObjectPool) -> Result<(), Refusal>
-    ensures { result ≡ checked (room pool.now.pool 1) }
+/// Whether there is room for so many rows, and whether there are so many numbers.
+fn check_room(rows: u8, pool: &ObjectPool) -> Result<(), Refusal>
+    ensures { result ≡ checked (room pool.now.pool rows) }
 {
-    if pool.len() >= ROW_LIMIT {
+    if pool.len() > ROW_LIMIT - rows as usize {
         return Err(Refusal::Full(pool.len() as u64));
     }
-    if pool.next_number() == u64::MAX {
+    if pool.next_number() > u64::MAX - rows as u64 {
         return Err(Refusal::Spent);
     }
     Ok(())
@@ -98,17 +102,6 @@ fn check_apart(x: Obj, owner: Owner, pool: &ObjectPool) -> Result<(), Refusal>
         return Err(Refusal::Loop { object: x, owner });
     }
     Ok(())
-}
-
-/// An object is put below an owner.
-#[tactic(auto, using(crate::proofs::Allowed::refused_first, crate::proofs::Allowed::allowed_first))]
-fn check_placing(o: Owner, x: Obj, pool: &ObjectPool) -> Result<(), Refusal>
-    ensures { result ≡ checked (placing pool.now.pool o x) }
-{
-    check_object(x, pool)?;
-    check_owner(o, pool)?;
-    check_staying(x, pool)?;
-    check_apart(x, o, pool)
 }
 
 /// No reference is made to an object whose destructor or handler runs.
@@ -160,88 +153,6 @@ fn check_given(from: Owner, to: Owner, x: Obj, pool: &ObjectPool) -> Result<(), 
     check_interested(from, x, pool)
 }
 
-#[tactic(auto, using(crate::proofs::Allowed::refused_first, crate::proofs::Allowed::allowed_first))]
-fn check_taken(from: Owner, to: Owner, x: Obj, pool: &ObjectPool) -> Result<(), Refusal>
-    ensures { result ≡ checked (owner pool.now.pool to before staying pool.now.pool x before given_by pool.now.pool from to x) }
-{
-    check_owner(to, pool)?;
-    check_staying(x, pool)?;
-    check_given(from, to, x, pool)
-}
-
-#[tactic(auto, using(crate::proofs::Allowed::refused_first, crate::proofs::Allowed::allowed_first))]
-fn check_reparent(from: Owner, to: Owner, x: Obj, pool: &ObjectPool) -> Result<(), Refusal>
-    ensures { result ≡ checked (object pool.now.pool x before owner pool.now.pool from before owner pool.now.pool to before staying pool.now.pool x before given_by pool.now.pool from to x) }
-{
-    check_object(x, pool)?;
-    check_owner(from, pool)?;
-    check_taken(from, to, x, pool)
-}
-
-#[tactic(auto, using(crate::proofs::Allowed::refused_first, crate::proofs::Allowed::allowed_first))]
-fn check_free(x: Obj, pool: &ObjectPool) -> Result<(), Refusal>
-    ensures { result ≡ checked (object pool.now.pool x before held pool.now.pool x) }
-{
-    check_object(x, pool)?;
-    check_held(x, pool)
-}
-
-#[tactic(auto, using(crate::proofs::Allowed::refused_first, crate::proofs::Allowed::allowed_first))]
-fn check_unlink(o: Owner, x: Obj, pool: &ObjectPool) -> Result<(), Refusal>
-    ensures { result ≡ checked (object pool.now.pool x before owner pool.now.pool o before interested pool.now.pool o x) }
-{
-    check_object(x, pool)?;
-    check_owner(o, pool)?;
-    check_interested(o, x, pool)
-}
-
-/// Nothing goes on with an object, and there is room for a reference to it.
-#[tactic(auto, using(crate::proofs::Allowed::refused_first, crate::proofs::Allowed::allowed_first))]
-fn check_quiet(x: Obj, pool: &ObjectPool) -> Result<(), Refusal>
-    ensures { result ≡ checked (still pool.now.pool x before staying pool.now.pool x before room pool.now.pool 1) }
-{
-    check_still(x, pool)?;
-    check_staying(x, pool)?;
-    check_room(pool)
-}
-
-/// Only plain objects that nothing goes on with are referred to.
-#[tactic(auto, using(crate::proofs::Allowed::refused_first, crate::proofs::Allowed::allowed_first))]
-fn check_target(o: Owner, x: Obj, pool: &ObjectPool) -> Result<(), Refusal>
-    ensures { result ≡ checked (plain pool.now.pool x before owner pool.now.pool o before still pool.now.pool x before staying pool.now.pool x before room pool.now.pool 1) }
-{
-    check_plain(x, pool)?;
-    check_owner(o, pool)?;
-    check_quiet(x, pool)
-}
-
-#[tactic(auto, using(crate::proofs::Allowed::refused_first, crate::proofs::Allowed::allowed_first))]
-fn check_reference(o: Owner, x: Obj, pool: &ObjectPool) -> Result<(), Refusal>
-    ensures { result ≡ checked (object pool.now.pool x before plain pool.now.pool x before owner pool.now.pool o before still pool.now.pool x before staying pool.now.pool x before room pool.now.pool 1) }
-{
-    check_object(x, pool)?;
-    check_target(o, x, pool)
-}
-
-/// There is room for an object of this size.
-#[tactic(auto, using(crate::proofs::Allowed::refused_first, crate::proofs::Allowed::allowed_first))]
-fn check_added(o: Owner, size: u64, pool: &ObjectPool) -> Result<(), Refusal>
-    requires small { size < size_limit }
-    ensures { result ≡ checked (room pool.now.pool 1 before fitting pool.now.pool o (size + overhead)) }
-{
-    check_room(pool)?;
-    pool.fits(o, size + OVERHEAD)
-}
-
-#[tactic(auto, using(crate::proofs::Allowed::refused_first, crate::proofs::Allowed::allowed_first))]
-fn check_new(o: Owner, size: u64, pool: &ObjectPool) -> Result<(), Refusal>
-    ensures { result ≡ checked (small size before owner pool.now.pool o before room pool.now.pool 1 before fitting pool.now.pool o (size + overhead)) }
-{
-    check_size(size)?;
-    check_owner(o, pool)?;
-    check_added(o, size, pool)
-}
-
 /// An object to which there is a reference keeps its size.
 fn check_unreferenced(x: Obj, pool: &ObjectPool) -> Result<(), Refusal>
     ensures { result ≡ checked (unreferenced pool.now.pool x) }
@@ -263,69 +174,120 @@ fn check_growing(x: Obj, size: u64, pool: &ObjectPool) -> Result<(), Refusal>
     Ok(())
 }
 
-#[tactic(auto, using(crate::proofs::Allowed::refused_first, crate::proofs::Allowed::allowed_first))]
-fn check_larger(x: Obj, size: u64, pool: &ObjectPool) -> Result<(), Refusal>
-    ensures { result ≡ checked (staying pool.now.pool x before growing pool.now.pool x size) }
+/// What is refused where the test isn't passed.
+fn check_test(test: Test, pool: &ObjectPool) -> Result<(), Refusal>
+    ensures { result ≡ checked (refusal_of pool.now.pool test) }
 {
-    check_staying(x, pool)?;
-    check_growing(x, size, pool)
+    match test {
+        IsSmall(size) => check_size(size),
+        IsObject(x) => check_object(x, pool),
+        IsOwner(owner) => check_owner(owner, pool),
+        IsPlain(x) => check_plain(x, pool),
+        HasRoom(rows) => check_room(rows, pool),
+        Fits(owner, wanted) => pool.fits(owner, wanted),
+        MayGrow(x, size) => check_growing(x, size, pool),
+        IsStaying(x) => check_staying(x, pool),
+        IsStill(x) => check_still(x, pool),
+        IsApart(x, owner) => check_apart(x, owner, pool),
+        IsUnheld(x) => check_held(x, pool),
+        IsUnreferenced(x) => check_unreferenced(x, pool),
+        IsInterested(owner, x) => check_interested(owner, x, pool),
+        MayGive(from, to, x) => check_given(from, to, x, pool),
+    }
 }
 
-#[tactic(auto, using(crate::proofs::Allowed::refused_first, crate::proofs::Allowed::allowed_first))]
-fn check_sized(x: Obj, size: u64, pool: &ObjectPool) -> Result<(), Refusal>
-    ensures { result ≡ checked (plain pool.now.pool x before unreferenced pool.now.pool x before staying pool.now.pool x before growing pool.now.pool x size) }
+/// What is refused for the first test that isn't passed.
+fn check_all(tests: &[Test], pool: &ObjectPool) -> Result<(), Refusal>
+    ensures { result ≡ checked (refused pool.now.pool tests.now) }
 {
-    check_plain(x, pool)?;
-    check_unreferenced(x, pool)?;
-    check_larger(x, size, pool)
+    for test in tests {
+        check_test(*test, pool)?;
+    }
+    Ok(())
 }
 
+/// A new object. Its size is looked at first, so that what is wanted for it is a number.
 #[tactic(auto, using(crate::proofs::Allowed::refused_first, crate::proofs::Allowed::allowed_first))]
-fn check_resize(x: Obj, size: u64, pool: &ObjectPool) -> Result<(), Refusal>
-    ensures { result ≡ checked (small size before object pool.now.pool x before plain pool.now.pool x before unreferenced pool.now.pool x before staying pool.now.pool x before growing pool.now.pool x size) }
+fn check_new(owner: Owner, size: u64, pool: &ObjectPool) -> Result<(), Refusal>
+    ensures { result ≡ checked (refused pool.now.pool (Test.IsSmall size ∷ Test.IsOwner owner ∷ Test.HasRoom 1 ∷ Test.Fits owner (size + overhead) ∷ [])) }
 {
     check_size(size)?;
-    check_object(x, pool)?;
-    check_sized(x, size, pool)
+    let wanted = size + OVERHEAD;
+    check_all(&[IsOwner(owner), HasRoom(1), Fits(owner, wanted)], pool)
 }
 
-#[tactic(auto, using(crate::proofs::Allowed::refused_first, crate::proofs::Allowed::allowed_first))]
-fn check_hooking(x: Obj, pool: &ObjectPool) -> Result<(), Refusal>
-    ensures { result ≡ checked (hooking pool.now.pool x) }
+/// An object, or a reference to it, that goes from one owner to another.
+fn check_reparent(from: Owner, to: Owner, x: Obj, pool: &ObjectPool) -> Result<(), Refusal>
+    ensures { result ≡ checked (refusals pool.now.pool (ReparentOf from to x)) }
 {
-    check_object(x, pool)?;
-    check_plain(x, pool)?;
-    check_staying(x, pool)
+    let tests = [
+        IsObject(x),
+        IsOwner(from),
+        IsOwner(to),
+        IsStaying(x),
+        MayGive(from, to, x),
+    ];
+    check_all(&tests, pool)
 }
 
-#[tactic(auto, using(crate::proofs::Allowed::refused_first, crate::proofs::Allowed::allowed_first))]
-fn check_parent(x: Obj, pool: &ObjectPool) -> Result<(), Refusal>
-    ensures { result ≡ checked (object pool.now.pool x before staying pool.now.pool x) }
+/// A new reference to an object.
+fn check_reference(owner: Owner, x: Obj, pool: &ObjectPool) -> Result<(), Refusal>
+    ensures { result ≡ checked (refusals pool.now.pool (ReferenceOf owner x)) }
 {
-    check_object(x, pool)?;
-    check_staying(x, pool)
+    let tests = [
+        IsObject(x),
+        IsPlain(x),
+        IsOwner(owner),
+        IsStill(x),
+        IsStaying(x),
+        HasRoom(1),
+    ];
+    check_all(&tests, pool)
+}
+
+/// Another size of an object.
+fn check_resize(x: Obj, size: u64, pool: &ObjectPool) -> Result<(), Refusal>
+    ensures { result ≡ checked (refusals pool.now.pool (ResizeOf x size)) }
+{
+    let tests = [
+        IsSmall(size),
+        IsObject(x),
+        IsPlain(x),
+        IsUnreferenced(x),
+        IsStaying(x),
+        MayGrow(x, size),
+    ];
+    check_all(&tests, pool)
 }
 
 /// Whether a call is allowed, and else its first refusal.
 pub fn check(call: &Call, pool: &ObjectPool) -> Result<(), Refusal>
     ensures { result ≡ checked (refusals pool.now.pool call.now) }
 {
-    match call {
-        Call::New { owner, size, .. } => check_new(*owner, *size, pool),
-        Call::Free { x } => check_free(*x, pool),
-        Call::Freekids { x } | Call::Rename { x, .. } | Call::Limit { x, .. } => {
-            check_object(*x, pool)
+    match *call {
+        Call::New { owner, size, .. } => check_new(owner, size, pool),
+        Call::Free { x } => check_all(&[IsObject(x), IsUnheld(x)], pool),
+        Call::Steal { owner, x } | Call::Move { owner, x } => {
+            let tests = [IsObject(x), IsOwner(owner), IsStaying(x), IsApart(x, owner)];
+            check_all(&tests, pool)
         }
-        Call::Resize { x, size } => check_resize(*x, *size, pool),
-        Call::Steal { owner, x } | Call::Move { owner, x } => check_placing(*owner, *x, pool),
-        Call::Reparent { from, to, x } => check_reparent(*from, *to, *x, pool),
-        Call::Reference { owner, x } => check_reference(*owner, *x, pool),
-        Call::Unlink { owner, x } => check_unlink(*owner, *x, pool),
-        Call::Hook { x, .. } | Call::Unhook { x } => check_hooking(*x, pool),
-        Call::Parent { x } => check_parent(*x, pool),
+        Call::Reparent { from, to, x } => check_reparent(from, to, x, pool),
+        Call::Reference { owner, x } => check_reference(owner, x, pool),
+        Call::Unlink { owner, x } => {
+            let tests = [IsObject(x), IsOwner(owner), IsInterested(owner, x)];
+            check_all(&tests, pool)
+        }
+        Call::Hook { x, .. } | Call::Unhook { x } => {
+            check_all(&[IsObject(x), IsPlain(x), IsStaying(x)], pool)
+        }
+        Call::Resize { x, size } => check_resize(x, size, pool),
+        Call::Parent { x } => check_all(&[IsObject(x), IsStaying(x)], pool),
+        Call::Freekids { x } | Call::Rename { x, .. } | Call::Limit { x, .. } => {
+            check_object(x, pool)
+        }
         Call::Total { owner }
         | Call::Count { owner }
         | Call::Sum { owner }
-        | Call::Report { owner } => check_owner(*owner, pool),
+        | Call::Report { owner } => check_owner(owner, pool),
     }
 }
