@@ -1,5 +1,4 @@
 pub mod Allowed
-pub mod Passing
 pub mod Onward
 pub mod FreeSteps
 pub mod CallSteps

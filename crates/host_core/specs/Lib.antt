@@ -1,3 +1,4 @@
 pub mod Moves
 pub mod Hosts
 pub mod Promises
+pub mod Subjects

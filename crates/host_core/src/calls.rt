@@ -12,8 +12,8 @@ ghost use Rattle.object_pool.specs.Objects.{RefsMayGo};
 ghost use Rattle.host_core.specs.Moves.{move_of, reply_of, report_of, ReadyFor};
 
 use crate::brief::Brief;
-use crate::checks::check;
 use crate::motion::Motion;
+use crate::refusals::check;
 use object_pool::ObjectPool;
 use std::alloc::Global;
 use tree_specs::{Call, FreeReply, Obj, Owner, Refusal};

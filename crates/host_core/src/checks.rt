@@ -1,16 +1,15 @@
-//! What a call is refused for. The checks stand in the order in which they are tried.
-ghost use Rattle.std.specs.Prelude.{◌≡◌, ◌+◌, ◌<◌, [], ◌∷◌, IsOk};
-ghost use Rattle.tree_specs.specs.Calls.{checked, small, owner, object, plain, room, staying, still, apart, held, interested, given_by, unreferenced, growing, size_limit, refusal_of, refused, refusals};
-ghost use Rattle.tree_specs.specs.Sums.{overhead};
-ghost use Rattle.tree_specs.specs.declared.call.Call.TheVariants.{Reparent as ReparentOf, Reference as ReferenceOf, Resize as ResizeOf};
+//! What a call is refused for: each test, and tests one after another.
+ghost use Rattle.std.specs.Prelude.{◌≡◌, ◌<◌, [], ◌∷◌, IsOk};
+ghost use Rattle.std.specs.Option.{option_copied};
+ghost use Rattle.tree_specs.specs.Calls.{checked, small, owner, object_row, plain, room, staying, still, apart, held, interested, given_by, unreferenced, growing, size_limit, refusal_of, refused};
 
+use crate::subject::Subject;
 use object_pool::ObjectPool;
-use tree_report::OVERHEAD;
 use tree_specs::Test::{
     Fits, HasRoom, IsApart, IsInterested, IsObject, IsOwner, IsPlain, IsSmall, IsStaying, IsStill,
     IsUnheld, IsUnreferenced, MayGive, MayGrow,
 };
-use tree_specs::{Call, Kind, Mark, Obj, Owner, Refusal, Row, Test};
+use tree_specs::{Kind, Mark, Obj, Owner, Refusal, Row, Test};
 
 /// The size of an object is below this, in bytes.
 const SIZE_LIMIT: u64 = 268_435_456;
@@ -18,7 +17,8 @@ const SIZE_LIMIT: u64 = 268_435_456;
 /// At most so many objects are live.
 const ROW_LIMIT: usize = 1_048_576;
 
-fn check_size(size: u64) -> Result<(), Refusal>
+/// An object is below the greatest size.
+pub fn check_size(size: u64) -> Result<(), Refusal>
     ensures first { result ≡ checked (small size) }
     ensures small { IsOk result → size < size_limit }
 {
@@ -28,11 +28,12 @@ fn check_size(size: u64) -> Result<(), Refusal>
     Ok(())
 }
 
-/// An object; a reference is none that a call takes.
-fn check_object(x: Obj, pool: &ObjectPool) -> Result<(), Refusal>
-    ensures { result ≡ checked (object pool.now.pool x) }
+/// An object by its row; a reference is none that a call takes.
+#[inline]
+pub fn check_row(x: Obj, row: Option<&Row>) -> Result<(), Refusal>
+    ensures { result ≡ checked (object_row x (option_copied row.entry)) }
 {
-    let Some(row) = pool.row(x) else {
+    let Some(row) = row else {
         return Err(Refusal::NoSuch(x.0));
     };
     match row.kind {
@@ -42,20 +43,22 @@ fn check_object(x: Obj, pool: &ObjectPool) -> Result<(), Refusal>
 }
 
 /// An owner is the root or an object.
+#[inline]
 pub fn check_owner(o: Owner, pool: &ObjectPool) -> Result<(), Refusal>
     ensures { result ≡ checked (owner pool.now.pool o) }
 {
     match o {
         Owner::Root => Ok(()),
-        Owner::Of(x) => check_object(x, pool),
+        Owner::Of(x) => check_row(x, pool.row(x)),
     }
 }
 
 /// Only plain objects have destructors.
-fn check_plain(x: Obj, pool: &ObjectPool) -> Result<(), Refusal>
-    ensures { result ≡ checked (plain pool.now.pool x) }
+#[inline]
+fn check_plain(x: Obj, objects: &Subject) -> Result<(), Refusal>
+    ensures { result ≡ checked (plain objects.now x) }
 {
-    match pool.row(x) {
+    match objects.row(x) {
         Some(
             Row {
                 kind: Kind::Plain,
@@ -80,10 +83,11 @@ fn check_room(rows: u8, pool: &ObjectPool) -> Result<(), Refusal>
 }
 
 /// An object that is being freed stays where it is.
-fn check_staying(x: Obj, pool: &ObjectPool) -> Result<(), Refusal>
-    ensures { result ≡ checked (staying pool.now.pool x) }
+#[inline]
+fn check_staying(x: Obj, objects: &Subject) -> Result<(), Refusal>
+    ensures { result ≡ checked (staying objects.now x) }
 {
-    match pool.row(x) {
+    match objects.row(x) {
         Some(
             Row {
                 mark: Mark::Dying(_),
@@ -105,10 +109,11 @@ fn check_apart(x: Obj, owner: Owner, pool: &ObjectPool) -> Result<(), Refusal>
 }
 
 /// No reference is made to an object whose destructor or handler runs.
-fn check_still(x: Obj, pool: &ObjectPool) -> Result<(), Refusal>
-    ensures { result ≡ checked (still pool.now.pool x) }
+#[inline]
+fn check_still(x: Obj, objects: &Subject) -> Result<(), Refusal>
+    ensures { result ≡ checked (still objects.now x) }
 {
-    match pool.row(x) {
+    match objects.row(x) {
         Some(
             Row {
                 mark: Mark::Asked | Mark::Busy | Mark::Doomed,
@@ -164,130 +169,106 @@ fn check_unreferenced(x: Obj, pool: &ObjectPool) -> Result<(), Refusal>
 }
 
 /// Where an object grows, the growth fits.
-fn check_growing(x: Obj, size: u64, pool: &ObjectPool) -> Result<(), Refusal>
-    ensures { result ≡ checked (growing pool.now.pool x size) }
+fn check_growing(x: Obj, size: u64, objects: &Subject) -> Result<(), Refusal>
+    ensures { result ≡ checked (growing objects.now x size) }
 {
-    let before = pool.size(x);
+    let before = objects.row(x).map_or(0, |row| row.size);
     if before < size {
-        return pool.fits(Owner::Of(x), size - before);
+        return objects.pool().fits(Owner::Of(x), size - before);
     }
     Ok(())
 }
 
 /// What is refused where the test isn't passed.
-fn check_test(test: Test, pool: &ObjectPool) -> Result<(), Refusal>
-    ensures { result ≡ checked (refusal_of pool.now.pool test) }
+#[inline(always)]
+fn check_test(test: Test, objects: &Subject) -> Result<(), Refusal>
+    ensures { result ≡ checked (refusal_of objects.now test) }
 {
     match test {
         IsSmall(size) => check_size(size),
-        IsObject(x) => check_object(x, pool),
-        IsOwner(owner) => check_owner(owner, pool),
-        IsPlain(x) => check_plain(x, pool),
-        HasRoom(rows) => check_room(rows, pool),
-        Fits(owner, wanted) => pool.fits(owner, wanted),
-        MayGrow(x, size) => check_growing(x, size, pool),
-        IsStaying(x) => check_staying(x, pool),
-        IsStill(x) => check_still(x, pool),
-        IsApart(x, owner) => check_apart(x, owner, pool),
-        IsUnheld(x) => check_held(x, pool),
-        IsUnreferenced(x) => check_unreferenced(x, pool),
-        IsInterested(owner, x) => check_interested(owner, x, pool),
-        MayGive(from, to, x) => check_given(from, to, x, pool),
+        IsObject(x) => check_row(x, objects.row(x)),
+        IsOwner(owner) => check_owner(owner, objects.pool()),
+        IsPlain(x) => check_plain(x, objects),
+        HasRoom(rows) => check_room(rows, objects.pool()),
+        Fits(owner, wanted) => objects.pool().fits(owner, wanted),
+        MayGrow(x, size) => check_growing(x, size, objects),
+        IsStaying(x) => check_staying(x, objects),
+        IsStill(x) => check_still(x, objects),
+        IsApart(x, owner) => check_apart(x, owner, objects.pool()),
+        IsUnheld(x) => check_held(x, objects.pool()),
+        IsUnreferenced(x) => check_unreferenced(x, objects.pool()),
+        IsInterested(owner, x) => check_interested(owner, x, objects.pool()),
+        MayGive(from, to, x) => check_given(from, to, x, objects.pool()),
     }
 }
 
-/// What is refused for the first test that isn't passed.
-fn check_all(tests: &[Test], pool: &ObjectPool) -> Result<(), Refusal>
-    ensures { result ≡ checked (refused pool.now.pool tests.now) }
-{
-    for test in tests {
-        check_test(*test, pool)?;
-    }
-    Ok(())
-}
-
-/// A new object. Its size is looked at first, so that what is wanted for it is a number.
+/// What is refused for the first of two tests that isn't passed.
+#[inline(always)]
 #[tactic(auto, using(crate::proofs::Allowed::refused_first, crate::proofs::Allowed::allowed_first))]
-fn check_new(owner: Owner, size: u64, pool: &ObjectPool) -> Result<(), Refusal>
-    ensures { result ≡ checked (refused pool.now.pool (Test.IsSmall size ∷ Test.IsOwner owner ∷ Test.HasRoom 1 ∷ Test.Fits owner (size + overhead) ∷ [])) }
+pub fn check_two(first: Test, second: Test, objects: &Subject) -> Result<(), Refusal>
+    ensures { result ≡ checked (refused objects.now (first ∷ second ∷ [])) }
 {
-    check_size(size)?;
-    let wanted = size + OVERHEAD;
-    check_all(&[IsOwner(owner), HasRoom(1), Fits(owner, wanted)], pool)
+    check_test(first, objects)?;
+    check_test(second, objects)
 }
 
-/// An object, or a reference to it, that goes from one owner to another.
-fn check_reparent(from: Owner, to: Owner, x: Obj, pool: &ObjectPool) -> Result<(), Refusal>
-    ensures { result ≡ checked (refusals pool.now.pool (ReparentOf from to x)) }
+/// What is refused for the first of three tests that isn't passed.
+#[inline(always)]
+#[tactic(auto, using(crate::proofs::Allowed::refused_first, crate::proofs::Allowed::allowed_first))]
+pub fn check_three(first: Test, second: Test, third: Test, objects: &Subject) -> Result<(), Refusal>
+    ensures { result ≡ checked (refused objects.now (first ∷ second ∷ third ∷ [])) }
 {
-    let tests = [
-        IsObject(x),
-        IsOwner(from),
-        IsOwner(to),
-        IsStaying(x),
-        MayGive(from, to, x),
-    ];
-    check_all(&tests, pool)
+    check_test(first, objects)?;
+    check_two(second, third, objects)
 }
 
-/// A new reference to an object.
-fn check_reference(owner: Owner, x: Obj, pool: &ObjectPool) -> Result<(), Refusal>
-    ensures { result ≡ checked (refusals pool.now.pool (ReferenceOf owner x)) }
+/// What is refused for the first of four tests that isn't passed.
+#[inline(always)]
+#[tactic(auto, using(crate::proofs::Allowed::refused_first, crate::proofs::Allowed::allowed_first))]
+pub fn check_four(
+    first: Test,
+    second: Test,
+    third: Test,
+    fourth: Test,
+    objects: &Subject,
+) -> Result<(), Refusal>
+    ensures { result ≡ checked (refused objects.now (first ∷ second ∷ third ∷ fourth ∷ [])) }
 {
-    let tests = [
-        IsObject(x),
-        IsPlain(x),
-        IsOwner(owner),
-        IsStill(x),
-        IsStaying(x),
-        HasRoom(1),
-    ];
-    check_all(&tests, pool)
+    check_test(first, objects)?;
+    check_three(second, third, fourth, objects)
 }
 
-/// Another size of an object.
-fn check_resize(x: Obj, size: u64, pool: &ObjectPool) -> Result<(), Refusal>
-    ensures { result ≡ checked (refusals pool.now.pool (ResizeOf x size)) }
+/// What is refused for the first of five tests that isn't passed.
+#[inline(always)]
+#[tactic(auto, using(crate::proofs::Allowed::refused_first, crate::proofs::Allowed::allowed_first))]
+pub fn check_five(
+    first: Test,
+    second: Test,
+    third: Test,
+    fourth: Test,
+    fifth: Test,
+    objects: &Subject,
+) -> Result<(), Refusal>
+    ensures { result ≡ checked (refused objects.now (first ∷ second ∷ third ∷ fourth ∷ fifth ∷ [])) }
 {
-    let tests = [
-        IsSmall(size),
-        IsObject(x),
-        IsPlain(x),
-        IsUnreferenced(x),
-        IsStaying(x),
-        MayGrow(x, size),
-    ];
-    check_all(&tests, pool)
+    check_test(first, objects)?;
+    check_four(second, third, fourth, fifth, objects)
 }
 
-/// Whether a call is allowed, and else its first refusal.
-pub fn check(call: &Call, pool: &ObjectPool) -> Result<(), Refusal>
-    ensures { result ≡ checked (refusals pool.now.pool call.now) }
+/// What is refused for the first of six tests that isn't passed.
+#[inline(always)]
+#[tactic(auto, using(crate::proofs::Allowed::refused_first, crate::proofs::Allowed::allowed_first))]
+pub fn check_six(
+    first: Test,
+    second: Test,
+    third: Test,
+    fourth: Test,
+    fifth: Test,
+    sixth: Test,
+    objects: &Subject,
+) -> Result<(), Refusal>
+    ensures { result ≡ checked (refused objects.now (first ∷ second ∷ third ∷ fourth ∷ fifth ∷ sixth ∷ [])) }
 {
-    match *call {
-        Call::New { owner, size, .. } => check_new(owner, size, pool),
-        Call::Free { x } => check_all(&[IsObject(x), IsUnheld(x)], pool),
-        Call::Steal { owner, x } | Call::Move { owner, x } => {
-            let tests = [IsObject(x), IsOwner(owner), IsStaying(x), IsApart(x, owner)];
-            check_all(&tests, pool)
-        }
-        Call::Reparent { from, to, x } => check_reparent(from, to, x, pool),
-        Call::Reference { owner, x } => check_reference(owner, x, pool),
-        Call::Unlink { owner, x } => {
-            let tests = [IsObject(x), IsOwner(owner), IsInterested(owner, x)];
-            check_all(&tests, pool)
-        }
-        Call::Hook { x, .. } | Call::Unhook { x } => {
-            check_all(&[IsObject(x), IsPlain(x), IsStaying(x)], pool)
-        }
-        Call::Resize { x, size } => check_resize(x, size, pool),
-        Call::Parent { x } => check_all(&[IsObject(x), IsStaying(x)], pool),
-        Call::Freekids { x } | Call::Rename { x, .. } | Call::Limit { x, .. } => {
-            check_object(x, pool)
-        }
-        Call::Total { owner }
-        | Call::Count { owner }
-        | Call::Sum { owner }
-        | Call::Report { owner } => check_owner(owner, pool),
-    }
+    check_test(first, objects)?;
+    check_five(second, third, fourth, fifth, sixth, objects)
 }

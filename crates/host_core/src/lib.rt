@@ -10,7 +10,9 @@ mod fault;
 mod host;
 mod motion;
 mod parts;
+mod refusals;
 mod reports;
+mod subject;
 #[cfg(test)]
 mod tests;
 mod works;

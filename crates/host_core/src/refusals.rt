@@ -1,0 +1,127 @@
+//! The refusals of each call: its tests, in the order in which they are tried.
+ghost use Rattle.std.specs.Prelude.{◌≡◌, ◌+◌, [], ◌∷◌};
+ghost use Rattle.tree_specs.specs.declared.call.Call.TheVariants.{Reparent as ReparentOf, Reference as ReferenceOf, Resize as ResizeOf};
+ghost use Rattle.tree_specs.specs.Calls.{checked, refused, refusals};
+ghost use Rattle.tree_specs.specs.Sums.{overhead};
+
+use crate::checks::{
+    check_five, check_four, check_owner, check_row, check_six, check_size, check_three, check_two,
+};
+use crate::subject::Subject;
+use object_pool::ObjectPool;
+use tree_report::OVERHEAD;
+use tree_specs::Test::{
+    Fits, HasRoom, IsApart, IsInterested, IsObject, IsOwner, IsPlain, IsSmall, IsStaying, IsStill,
+    IsUnheld, IsUnreferenced, MayGive, MayGrow,
+};
+use tree_specs::{Call, Obj, Owner, Refusal, Test};
+
+/// A new object. Its size is looked at first, so that what is wanted for it is a number.
+#[tactic(auto, using(crate::proofs::Allowed::refused_first, crate::proofs::Allowed::allowed_first))]
+fn check_new(owner: Owner, size: u64, pool: &ObjectPool) -> Result<(), Refusal>
+    ensures { result ≡ checked (refused pool.now.pool (Test.IsSmall size ∷ Test.IsOwner owner ∷ Test.HasRoom 1 ∷ Test.Fits owner (size + overhead) ∷ [])) }
+{
+    check_size(size)?;
+    let wanted = size + OVERHEAD;
+    check_three(
+        IsOwner(owner),
+        HasRoom(1),
+        Fits(owner, wanted),
+        &Subject::none(pool),
+    )
+}
+
+/// An object is put below an owner.
+fn check_placing(owner: Owner, x: Obj, pool: &ObjectPool) -> Result<(), Refusal>
+    ensures { result ≡ checked (refused pool.now.pool (Test.IsObject x ∷ Test.IsOwner owner ∷ Test.IsStaying x ∷ Test.IsApart x owner ∷ [])) }
+{
+    check_four(
+        IsObject(x),
+        IsOwner(owner),
+        IsStaying(x),
+        IsApart(x, owner),
+        &Subject::object(x, pool),
+    )
+}
+
+/// An object, or a reference to it, that goes from one owner to another.
+fn check_reparent(from: Owner, to: Owner, x: Obj, pool: &ObjectPool) -> Result<(), Refusal>
+    ensures { result ≡ checked (refusals pool.now.pool (ReparentOf from to x)) }
+{
+    check_five(
+        IsObject(x),
+        IsOwner(from),
+        IsOwner(to),
+        IsStaying(x),
+        MayGive(from, to, x),
+        &Subject::object(x, pool),
+    )
+}
+
+/// A new reference to an object.
+fn check_reference(owner: Owner, x: Obj, pool: &ObjectPool) -> Result<(), Refusal>
+    ensures { result ≡ checked (refusals pool.now.pool (ReferenceOf owner x)) }
+{
+    check_six(
+        IsObject(x),
+        IsPlain(x),
+        IsOwner(owner),
+        IsStill(x),
+        IsStaying(x),
+        HasRoom(1),
+        &Subject::object(x, pool),
+    )
+}
+
+/// Another size of an object.
+fn check_resize(x: Obj, size: u64, pool: &ObjectPool) -> Result<(), Refusal>
+    ensures { result ≡ checked (refusals pool.now.pool (ResizeOf x size)) }
+{
+    check_six(
+        IsSmall(size),
+        IsObject(x),
+        IsPlain(x),
+        IsUnreferenced(x),
+        IsStaying(x),
+        MayGrow(x, size),
+        &Subject::object(x, pool),
+    )
+}
+
+/// Whether a call is allowed, and else its first refusal.
+pub fn check(call: &Call, pool: &ObjectPool) -> Result<(), Refusal>
+    ensures { result ≡ checked (refusals pool.now.pool call.now) }
+{
+    match *call {
+        Call::New { owner, size, .. } => check_new(owner, size, pool),
+        Call::Free { x } => check_two(IsObject(x), IsUnheld(x), &Subject::object(x, pool)),
+        Call::Steal { owner, x } | Call::Move { owner, x } => check_placing(owner, x, pool),
+        Call::Reparent { from, to, x } => check_reparent(from, to, x, pool),
+        Call::Reference { owner, x } => check_reference(owner, x, pool),
+        Call::Unlink { owner, x } => {
+            check_three(
+                IsObject(x),
+                IsOwner(owner),
+                IsInterested(owner, x),
+                &Subject::object(x, pool),
+            )
+        }
+        Call::Hook { x, .. } | Call::Unhook { x } => {
+            check_three(
+                IsObject(x),
+                IsPlain(x),
+                IsStaying(x),
+                &Subject::object(x, pool),
+            )
+        }
+        Call::Resize { x, size } => check_resize(x, size, pool),
+        Call::Parent { x } => check_two(IsObject(x), IsStaying(x), &Subject::object(x, pool)),
+        Call::Freekids { x } | Call::Rename { x, .. } | Call::Limit { x, .. } => {
+            check_row(x, pool.row(x))
+        }
+        Call::Total { owner }
+        | Call::Count { owner }
+        | Call::Sum { owner }
+        | Call::Report { owner } => check_owner(owner, pool),
+    }
+}
