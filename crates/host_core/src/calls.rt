@@ -5,6 +5,7 @@ ghost use Rattle.tree_specs.specs.Passed.{AllPassed};
 ghost use Rattle.tree_specs.specs.Plans.{plan, places as places_of, warns as worth_a_warning};
 ghost use Rattle.tree_specs.specs.declared.call.Call.TheVariants.{Free as FreeOf};
 ghost use Rattle.tree_specs.specs.declared.question.Ask.{Ask as AskData};
+ghost use Rattle.tree_specs.specs.declared.reply.Reply.TheVariants.{Ok as OkReply};
 ghost use Rattle.tree_specs.specs.Story.{freed_reply};
 ghost use Rattle.tree_specs.specs.Table.{call_step, plan_step};
 ghost use Rattle.tree_links.specs.Links.{MayPlace};
@@ -63,6 +64,13 @@ fn free(x: Obj, pool: &ObjectPool) -> Motion
     }
 }
 
+/// The reply to a change that is made.
+fn done(_change: ()) -> Brief
+    ensures { reply_of result ≡ OkReply }
+{
+    Brief::Ok
+}
+
 /// Does a call that isn't refused, and takes no memory for its reply.
 #[tactic(auto, using(crate::proofs::Allowed::may_go, crate::proofs::Allowed::may_go_itself))]
 fn effect(alloc: Global, call: Call, pool: &mut ObjectPool) -> Motion
@@ -74,53 +82,27 @@ fn effect(alloc: Global, call: Call, pool: &mut ObjectPool) -> Motion
     ensures works { pool.new.works ≡ pool.old.works }
     ensures moved { (q : AskData) → move_of q result pool.new.pool ≡ plan_step q (plan pool.old.pool call) pool.old.pool }
 {
-    match call {
-        Call::New { owner, size, name } => {
-            let serial = pool.add(name, size, owner);
-            Motion::Replies(Brief::Number(serial.0))
-        }
-        Call::Free { x } => free(x, pool),
-        Call::Freekids { x } => Motion::Empties(x),
-        Call::Steal { owner, x } => give(x, owner, Brief::Ok, pool),
-        Call::Move { owner, x } => give(x, owner, Brief::Number(x.0), pool),
-        Call::Reparent { from, to, x } => {
-            pool.reparent(from, to, x);
-            Motion::Replies(Brief::Ok)
-        }
-        Call::Reference { owner, x } => {
-            let serial = pool.refer(alloc, x, owner);
-            Motion::Replies(Brief::Number(serial.0))
-        }
-        Call::Unlink { owner, x } => Motion::Unlinks(owner, x),
-        Call::Hook { x, routine } => {
-            pool.hook(x, routine);
-            Motion::Replies(Brief::Ok)
-        }
-        Call::Unhook { x } => {
-            pool.hook(x, 0);
-            Motion::Replies(Brief::Ok)
-        }
-        Call::Rename { x, name } => {
-            pool.rename(x, name);
-            Motion::Replies(Brief::Ok)
-        }
-        Call::Resize { x, size } => {
-            pool.resize(x, size);
-            Motion::Replies(Brief::Ok)
-        }
-        Call::Limit { x, max } => {
-            pool.limit(x, max);
-            Motion::Replies(Brief::Ok)
-        }
-        Call::Parent { x } => {
-            let owner = pool.parent(x).unwrap_or(Owner::Root);
-            Motion::Replies(Brief::Number(owner.number()))
-        }
-        Call::Total { owner } => Motion::Replies(Brief::Number(pool.total(owner))),
-        Call::Count { owner } => Motion::Replies(Brief::Number(pool.count(owner))),
-        Call::Sum { owner } => Motion::Replies(Brief::Number(pool.sum(owner))),
+    let reply = match call {
+        Call::New { owner, size, name } => Brief::Number(pool.add(name, size, owner).0),
+        Call::Reference { owner, x } => Brief::Number(pool.refer(alloc, x, owner).0),
+        Call::Free { x } => return free(x, pool),
+        Call::Freekids { x } => return Motion::Empties(x),
+        Call::Unlink { owner, x } => return Motion::Unlinks(owner, x),
+        Call::Steal { owner, x } => return give(x, owner, Brief::Ok, pool),
+        Call::Move { owner, x } => return give(x, owner, Brief::Number(x.0), pool),
+        Call::Reparent { from, to, x } => done(pool.reparent(from, to, x)),
+        Call::Hook { x, routine } => done(pool.hook(x, routine)),
+        Call::Unhook { x } => done(pool.hook(x, 0)),
+        Call::Rename { x, name } => done(pool.rename(x, name)),
+        Call::Resize { x, size } => done(pool.resize(x, size)),
+        Call::Limit { x, max } => done(pool.limit(x, max)),
+        Call::Parent { x } => Brief::Number(pool.parent(x).unwrap_or(Owner::Root).number()),
+        Call::Total { owner } => Brief::Number(pool.total(owner)),
+        Call::Count { owner } => Brief::Number(pool.count(owner)),
+        Call::Sum { owner } => Brief::Number(pool.sum(owner)),
         Call::Report { .. } => unreachable!(),
-    }
+    };
+    Motion::Replies(reply)
 }
 
 /// Does a call: the first refusal that applies is the reply, otherwise the effect comes.
