@@ -5,7 +5,7 @@ use Rattle.tree_specs.specs.Spelling.{Reading, forms}
 use Rattle.tree_specs.specs.Spelling.Reading.{Whole, TakesOwner, TakesObject, TakesNumber, TakesRoutine, EndsInName}
 use Rattle.tree_specs.specs.Grammar.{◌>>=◌, number_of, object_of, owner_of, routine_of, name_of, form_in}
 use Rattle.text_forms.specs.declared.verb.Verb.{Verb}
-use Rattle.text_forms.specs.declared.verb.Verb.TheVariants.{New, Free, Freekids, Steal, Move, Reparent, Reference, Unlink, Hook, Unhook, Rename, Resize, Limit, Parent, Total, Count, Sum, Report}
+use Rattle.text_forms.specs.declared.verb.Verb.TheVariants.{New, Free, Freekids, Steal, Move, Reparent, Reference, Unlink, Hook, Unhook, Rename, Resize, Limit, Parent, Total, Count, Sum, Report, Immediate}
 use Rattle.text_forms.specs.Cursor.{field, last_field}
 
 abbrev pub word_of : Verb → List ℕ
@@ -27,6 +27,7 @@ word_of Total = codes "total"
 word_of Count = codes "count"
 word_of Sum = codes "sum"
 word_of Report = codes "report"
+word_of Immediate = codes "immediate"
 
 -- a word is this verb, or the verb of no form
 abbrev pub IsVerb : Option Verb → List ℕ → Type 0

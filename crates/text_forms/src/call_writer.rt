@@ -50,6 +50,7 @@ fn write_text(call: &Call, out: &mut Vec<u8>) -> Result<(), Memory>
         Call::Count { owner } => write_fields(b"count", &[owner.number()], out),
         Call::Sum { owner } => write_fields(b"sum", &[owner.number()], out),
         Call::Report { owner } => write_fields(b"report", &[owner.number()], out),
+        Call::Immediate { owner } => write_fields(b"immediate", &[owner.number()], out),
     }
 }
 

@@ -29,6 +29,7 @@ pub(crate) enum Verb {
     Count,
     Sum,
     Report,
+    Immediate,
 }
 
 impl Verb {
@@ -55,6 +56,7 @@ impl Verb {
             b"count" => Some(Verb::Count),
             b"sum" => Some(Verb::Sum),
             b"report" => Some(Verb::Report),
+            b"immediate" => Some(Verb::Immediate),
             _ => None,
         }
     }
@@ -98,5 +100,6 @@ pub(crate) fn read_fields(alloc: Global, verb: Verb, fields: &mut Fields) -> Res
         Verb::Count => fields.owner().map(|owner| Call::Count { owner }),
         Verb::Sum => fields.owner().map(|owner| Call::Sum { owner }),
         Verb::Report => fields.owner().map(|owner| Call::Report { owner }),
+        Verb::Immediate => fields.owner().map(|owner| Call::Immediate { owner }),
     }
 }

@@ -189,6 +189,7 @@ module _ (f : Frame) (fs : List Frame) (p : Pool) (s : Sound f fs p) where
   each (call.Count o) h = (tt, omega arith, tt)
   each (call.Sum o) h = (tt, omega arith, tt)
   each (call.Report o) h = (tt, omega arith, tt)
+  each (call.Immediate o) h = (record { there = h.0; target = λ t e. cc }, omega arith, tt)
 
   pub may : (c : Call) → refusals p c ≡ [] → May p (plan p c)
   may c none = each c (all-pass p (tests c) none)

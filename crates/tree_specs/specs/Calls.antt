@@ -9,7 +9,7 @@ use Rattle.tree_specs.specs.declared.row.Row.{Row}
 use Rattle.tree_specs.specs.declared.row.Mark.{Mark}
 use Rattle.tree_specs.specs.declared.row.Mark.TheVariants as mark
 use Rattle.tree_specs.specs.declared.call.Call.{Call}
-use Rattle.tree_specs.specs.declared.call.Call.TheVariants.{New, Free, Freekids, Steal, Move, Reparent, Reference as Refer, Unlink, Hook, Unhook, Rename, Resize, Limit, Parent, Total, Count, Sum, Report}
+use Rattle.tree_specs.specs.declared.call.Call.TheVariants.{New, Free, Freekids, Steal, Move, Reparent, Reference as Refer, Unlink, Hook, Unhook, Rename, Resize, Limit, Parent, Total, Count, Sum, Report, Immediate as NewImmediate}
 use Rattle.tree_specs.specs.declared.test.Test.{Test}
 use Rattle.tree_specs.specs.declared.test.Test.TheVariants.{IsSmall, IsObject, IsOwner, IsPlain, HasRoom, Fits, MayGrow, IsStaying, IsStill, IsApart, IsUnheld, IsUnreferenced, IsInterested, MayGive}
 use Rattle.tree_specs.specs.declared.reply.Refusal.{Refusal}
@@ -190,6 +190,7 @@ tests (Total o) = IsOwner o ∷ []
 tests (Count o) = IsOwner o ∷ []
 tests (Sum o) = IsOwner o ∷ []
 tests (Report o) = IsOwner o ∷ []
+tests (NewImmediate o) = IsOwner o ∷ HasRoom 1 ∷ Fits o overhead ∷ []
 
 -- the refusals of tests, one after another
 abbrev pub refused : Pool → List Test → Check

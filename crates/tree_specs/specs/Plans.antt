@@ -4,7 +4,7 @@ use Rattle.tree_specs.specs.declared.object.Obj.{Obj}
 use Rattle.tree_specs.specs.declared.object.Owner.{Owner}
 use Rattle.tree_specs.specs.declared.object.Owner.TheVariants.{Root}
 use Rattle.tree_specs.specs.declared.kind.Kind.{Kind}
-use Rattle.tree_specs.specs.declared.kind.Kind.TheVariants.{Plain, Reference}
+use Rattle.tree_specs.specs.declared.kind.Kind.TheVariants.{Plain, Reference, Immediate}
 use Rattle.tree_specs.specs.declared.row.Row.{Row}
 use Rattle.tree_specs.specs.declared.call.Call.{Call}
 use Rattle.tree_specs.specs.declared.call.Call.TheVariants as call
@@ -107,6 +107,7 @@ plan p (call.Total o) = replies (Number (size_inside p.rows o))
 plan p (call.Count o) = replies (Number (count_inside p.rows o))
 plan p (call.Sum o) = replies (Number (sum_inside p.rows o))
 plan p (call.Report o) = replies (Rows (report p.rows o))
+plan p (call.Immediate o) = adds p Immediate o 0 (codes "immediate")
 
 -- a call that is refused does nothing, and has the first refusal as its reply
 abbrev pub unless_refused : Check → Plan → Plan

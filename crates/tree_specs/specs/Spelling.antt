@@ -3,7 +3,7 @@ use Rattle.std.specs.Prelude.{ℕ, List, [], ◌∷◌, codes}
 use Rattle.tree_specs.specs.declared.object.Obj.{Obj}
 use Rattle.tree_specs.specs.declared.object.Owner.{Owner}
 use Rattle.tree_specs.specs.declared.call.Call.{Call}
-use Rattle.tree_specs.specs.declared.call.Call.TheVariants.{New, Free, Freekids, Steal, Move, Reparent, Reference, Unlink, Hook, Unhook, Rename, Resize, Limit, Parent, Total, Count, Sum, Report}
+use Rattle.tree_specs.specs.declared.call.Call.TheVariants.{New, Free, Freekids, Steal, Move, Reparent, Reference, Unlink, Hook, Unhook, Rename, Resize, Limit, Parent, Total, Count, Sum, Report, Immediate}
 
 pub data Field : Type 0 where
   AnOwner : Owner → Field
@@ -39,6 +39,7 @@ spelling (Total owner) = codes "total" with (AnOwner owner ∷ [])
 spelling (Count owner) = codes "count" with (AnOwner owner ∷ [])
 spelling (Sum owner) = codes "sum" with (AnOwner owner ∷ [])
 spelling (Report owner) = codes "report" with (AnOwner owner ∷ [])
+spelling (Immediate owner) = codes "immediate" with (AnOwner owner ∷ [])
 
 -- ---- reading
 
@@ -92,4 +93,5 @@ forms =
     ∷ (codes "count" reads of_owner Count)
     ∷ (codes "sum" reads of_owner Sum)
     ∷ (codes "report" reads of_owner Report)
+    ∷ (codes "immediate" reads of_owner Immediate)
     ∷ []

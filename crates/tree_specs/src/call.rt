@@ -45,4 +45,6 @@ pub enum Call {
     Sum { owner: Owner },
     /// `report P`: a row for the owner and for all that is below it, as `talloc_report` writes them.
     Report { owner: Owner },
+    /// `immediate P`: an immediate below an owner. The reply is its number.
+    Immediate { owner: Owner },
 }
