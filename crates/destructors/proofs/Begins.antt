@@ -8,21 +8,21 @@ use Rattle.tree_specs.specs.declared.row.Row.{Row}
 use Rattle.tree_specs.specs.declared.row.Mark.{Mark}
 use Rattle.tree_specs.specs.declared.row.Mark.TheVariants as mark
 use Rattle.tree_specs.specs.declared.row.Mark.TheVariants.{Asked, Busy, Doomed, Dying}
-use Rattle.tree_specs.specs.Inside.{total}
-use Rattle.tree_specs.specs.Pool.{Pool, row_of, target_at, is_dying_mark}
-use Rattle.tree_specs.specs.Targets.{target_of, newest_ref}
+use Rattle.tree_specs.specs.Tree.Inside.{total}
+use Rattle.tree_specs.specs.Tree.Pool.{Pool, row_of, target_at, is_dying_mark}
+use Rattle.tree_specs.specs.Tree.Targets.{target_of, newest_ref}
 use Rattle.tree_specs.specs.declared.object.Owner.{Owner}
-use Rattle.tree_specs.specs.Sound.{IsLive}
+use Rattle.tree_specs.specs.Invariants.Sound.{IsLive}
 use Rattle.std.specs.Prelude.{unwrap_or}
-use Rattle.tree_specs.specs.Table.{free_taken}
-use Rattle.tree_specs.proofs.Numbered.{by_test}
+use Rattle.tree_specs.specs.Machine.Table.{free_taken}
+use Rattle.tree_specs.proofs.Tree.Numbered.{by_test}
 use Rattle.tree_links.specs.Links.{Links, pool_of}
 use Rattle.destructors.specs.Moves.{IsLiveRow}
 use Rattle.destructors.specs.Room.{mark_places, row_places, work_places, wanted}
 use Rattle.destructors.specs.Engine.{IsAsked, HasRoom}
 use Rattle.destructors.specs.Frees.{OpenFrees, before, frees_of, speaking}
-use Rattle.tree_specs.specs.Sound.Footing.{OnCall}
-use Rattle.tree_specs.specs.Alone.{free_footing, free_claims, AwaitsRun}
+use Rattle.tree_specs.specs.Invariants.Sound.Footing.{OnCall}
+use Rattle.tree_specs.specs.Invariants.Alone.{free_footing, free_claims, AwaitsRun}
 use Rattle.destructors.specs.Works.{AtWork, IsAwaiting, MayBegin}
 
 -- what is begun stands on the call that it is for

@@ -8,13 +8,13 @@ use Rattle.tree_specs.specs.declared.frame.FreeFrame.{FreeFrame}
 use Rattle.tree_specs.specs.declared.frame.FreeFrame.TheVariants.{Hooked, Leaving}
 use Rattle.tree_specs.specs.declared.question.Ask.TheVariants.{Quiet, Routine}
 use Rattle.tree_specs.specs.declared.object.Obj.{Obj}
-use Rattle.tree_specs.specs.Pool.{Pool}
-use Rattle.tree_specs.specs.Story.{hook_moment}
-use Rattle.tree_specs.specs.Profiles.{Phase, free_profile, call_profile}
-use Rattle.tree_specs.specs.Sound.{Footing, footing, claims, MayWait, IsWaiting, AllWait, FreeRests}
-use Rattle.tree_specs.specs.Sound.Footing.{OnCall}
-use Rattle.tree_specs.specs.Whole.{Serves, Seated, sizes, Whole}
-use Rattle.tree_specs.specs.Alone.{free_footing, free_claim, free_claims, AllFreesWait, free_sizes, AwaitsRun, FreesWork, FreesWait}
+use Rattle.tree_specs.specs.Tree.Pool.{Pool}
+use Rattle.tree_specs.specs.Rules.Story.{hook_moment}
+use Rattle.tree_specs.specs.Machine.Profiles.{Phase, free_profile, call_profile}
+use Rattle.tree_specs.specs.Invariants.Sound.{Footing, footing, claims, MayWait, IsWaiting, AllWait, FreeRests}
+use Rattle.tree_specs.specs.Invariants.Sound.Footing.{OnCall}
+use Rattle.tree_specs.specs.Invariants.Whole.{Serves, Seated, sizes, Whole}
+use Rattle.tree_specs.specs.Invariants.Alone.{free_footing, free_claim, free_claims, AllFreesWait, free_sizes, AwaitsRun, FreesWork, FreesWait}
 use Rattle.destructors.specs.Callers.{standing, under, free_view, call_view}
 
 -- ---- from a host's works to the frees

@@ -2,7 +2,7 @@
 use Rattle.std.proofs.Common.{◌≡◌, ℕ, nat_eq, List, [], ◌∷◌, map, Option, Some, None, refl, sym, ◌∙◌, ap, subst}
 use Rattle.std.specs.Prelude.{unwrap_or}
 use Rattle.step_machine.specs.Machine.{Move as Do}
-use Rattle.tree_specs.specs.Profiles.{InLoop}
+use Rattle.tree_specs.specs.Machine.Profiles.{InLoop}
 use Rattle.tree_specs.specs.declared.frame.Frame.{Frame}
 use Rattle.tree_specs.specs.declared.frame.Frame.TheVariants as frame
 use Rattle.tree_specs.specs.declared.frame.FreeFrame.{FreeFrame}
@@ -19,14 +19,14 @@ use Rattle.tree_specs.specs.declared.object.Owner.TheVariants.{Root, Of}
 use Rattle.tree_specs.specs.declared.row.Row.{Row}
 use Rattle.tree_specs.specs.declared.row.Mark.{Mark}
 use Rattle.tree_specs.specs.declared.row.Mark.TheVariants as mark
-use Rattle.tree_specs.specs.Objects.{same}
-use Rattle.tree_specs.specs.Targets.{newest_ref}
-use Rattle.tree_specs.specs.Pool.{Pool, row_of, owner_in, is_below, owner_of, target_in, target_at, newest_ref_of, is_inside, first_kid, changed, marked_row, hooked_row}
-use Rattle.tree_specs.specs.Table.{FreeMove, free_step, begin_step}
-use Rattle.tree_specs.specs.Sound.{claims, IsLive, Shaped, ValidAt, Sound}
-use Rattle.tree_specs.proofs.Numbered.{by_test, is_below-some}
-use Rattle.tree_specs.proofs.Referring.{newest-refers, newest-of-refers}
-use Rattle.tree_specs.proofs.Changes.{dying-row, claim-here}
+use Rattle.tree_specs.specs.Words.Objects.{same}
+use Rattle.tree_specs.specs.Tree.Targets.{newest_ref}
+use Rattle.tree_specs.specs.Tree.Pool.{Pool, row_of, owner_in, is_below, owner_of, target_in, target_at, newest_ref_of, is_inside, first_kid, changed, marked_row, hooked_row}
+use Rattle.tree_specs.specs.Machine.Table.{FreeMove, free_step, begin_step}
+use Rattle.tree_specs.specs.Invariants.Sound.{claims, IsLive, Shaped, ValidAt, Sound}
+use Rattle.tree_specs.proofs.Tree.Numbered.{by_test, is_below-some}
+use Rattle.tree_specs.proofs.Tree.Referring.{newest-refers, newest-of-refers}
+use Rattle.tree_specs.proofs.Invariants.Changes.{dying-row, claim-here}
 use Rattle.destructors.specs.Frees.{OpenFrees, answered, moved, moves, Silently, Still, On, Steps}
 use Rattle.destructors.specs.Works.{AtWork, IsAtWork, GoesOn}
 use Rattle.destructors.specs.Changes.{bare, SameRows, ChangedBy}

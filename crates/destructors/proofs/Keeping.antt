@@ -1,7 +1,7 @@
 -- What the moves of the open frees keep.
 use Rattle.std.proofs.Common.{◌≡◌, ℕ, ◌+◌, ◌≤◌, ◌<◌, nat_eq, List, [], ◌∷◌, map, length, Option, Some, None, true, false, refl, sym, ◌∙◌, ap, subst, arith}
 use Rattle.step_machine.specs.Machine.{Move as Do}
-use Rattle.tree_specs.specs.Profiles.{InRun, InLoop}
+use Rattle.tree_specs.specs.Machine.Profiles.{InRun, InLoop}
 use Rattle.tree_specs.specs.declared.frame.Frame.{Frame}
 use Rattle.tree_specs.specs.declared.frame.Frame.TheVariants as frame
 use Rattle.tree_specs.specs.declared.frame.CallFrame.{CallFrame}
@@ -20,22 +20,22 @@ use Rattle.tree_specs.specs.declared.object.Owner.TheVariants.{Of}
 use Rattle.tree_specs.specs.declared.row.Row.{Row}
 use Rattle.tree_specs.specs.declared.row.Mark.{Mark}
 use Rattle.tree_specs.specs.declared.row.Mark.TheVariants.{Quiet, Asked, Busy, Doomed, Dying}
-use Rattle.tree_specs.specs.Pool.{Pool, row_of, is_below, owner_of, first_kid, target_at, newest_ref_of, is_inside, is_dying_mark, without, marked_row, hooked_row, left_row, set_mark}
-use Rattle.tree_specs.specs.Targets.{newest_ref}
-use Rattle.tree_specs.specs.Objects.{same}
-use Rattle.tree_specs.specs.Heirs.{heir}
-use Rattle.tree_specs.specs.Inside.{total}
-use Rattle.tree_specs.specs.Table.{FreeMove, free_step, begin_step, refs_step, unlink_step, release_step, child_step, loop_step, hand_on_step, caller_resume}
-use Rattle.tree_specs.specs.Measure.{below_cost, loop_kids, top_cost, cost}
-use Rattle.tree_specs.specs.Sound.{claims, IsLive, Sound}
-use Rattle.tree_specs.specs.Whole.{Seated, Whole}
-use Rattle.tree_specs.specs.Sound.{MayBePlaced}
-use Rattle.tree_specs.proofs.Numbered.{by_test}
-use Rattle.tree_specs.proofs.Rows.{total-without, total-placed, total-changed}
-use Rattle.tree_specs.proofs.Changes.{dying-row, running-row, claim-here, heir-placed}
-use Rattle.tree_specs.proofs.FallingFrees.{Room, total-kept}
-use Rattle.tree_specs.proofs.Falls.{lower}
-use Rattle.tree_specs.proofs.Rest.{whole-kept}
+use Rattle.tree_specs.specs.Tree.Pool.{Pool, row_of, is_below, owner_of, first_kid, target_at, newest_ref_of, is_inside, is_dying_mark, without, marked_row, hooked_row, left_row, set_mark}
+use Rattle.tree_specs.specs.Tree.Targets.{newest_ref}
+use Rattle.tree_specs.specs.Words.Objects.{same}
+use Rattle.tree_specs.specs.Tree.Heirs.{heir}
+use Rattle.tree_specs.specs.Tree.Inside.{total}
+use Rattle.tree_specs.specs.Machine.Table.{FreeMove, free_step, begin_step, refs_step, unlink_step, release_step, child_step, loop_step, hand_on_step, caller_resume}
+use Rattle.tree_specs.specs.Invariants.Measure.{below_cost, loop_kids, top_cost, cost}
+use Rattle.tree_specs.specs.Invariants.Sound.{claims, IsLive, Sound}
+use Rattle.tree_specs.specs.Invariants.Whole.{Seated, Whole}
+use Rattle.tree_specs.specs.Invariants.Sound.{MayBePlaced}
+use Rattle.tree_specs.proofs.Tree.Numbered.{by_test}
+use Rattle.tree_specs.proofs.Tree.Rows.{total-without, total-placed, total-changed}
+use Rattle.tree_specs.proofs.Invariants.Changes.{dying-row, running-row, claim-here, heir-placed}
+use Rattle.tree_specs.proofs.Turns.FallingFrees.{Room, total-kept}
+use Rattle.tree_specs.proofs.Turns.Falls.{lower}
+use Rattle.tree_specs.proofs.Rules.Rest.{whole-kept}
 use Rattle.tree_links.specs.Links.{MayPlace}
 use Rattle.destructors.specs.Frees.{OpenFrees, answered, moved, moves}
 use Rattle.destructors.specs.Works.{AtWork, IsAtWork, IsAwaiting, GoesOn}

@@ -14,9 +14,9 @@ use Rattle.tree_specs.specs.declared.free_step.FreeReply.{FreeReply}
 use Rattle.tree_specs.specs.declared.free_step.FreeStep.{FreeStep}
 use Rattle.tree_specs.specs.declared.free_step.FreeStep.TheVariants.{Ask, Done}
 use Rattle.tree_specs.specs.declared.object.Obj.{Obj}
-use Rattle.tree_specs.specs.Pool.{Pool}
-use Rattle.tree_specs.specs.Table.{FreeMove, table, free_step, lifted, caller_resume}
-use Rattle.tree_specs.specs.Story.{hook_moment}
+use Rattle.tree_specs.specs.Tree.Pool.{Pool}
+use Rattle.tree_specs.specs.Machine.Table.{FreeMove, table, free_step, lifted, caller_resume}
+use Rattle.tree_specs.specs.Rules.Story.{hook_moment}
 use Rattle.destructors.specs.Frees.{OpenFrees, answered, moved, moves}
 use Rattle.destructors.specs.Callers.{standing, under}
 use Rattle.destructors.proofs.FreeMoves.{IsNoHook, IsNews, AsksFor, IsMoveOf, is_move}

@@ -13,20 +13,20 @@ use Rattle.tree_specs.specs.declared.reply.Reply.TheVariants as reply
 use Rattle.tree_specs.specs.declared.kind.Kind.TheVariants.{Plain}
 use Rattle.tree_specs.specs.declared.object.Obj.{Obj}
 use Rattle.tree_specs.specs.declared.object.Owner.{Owner}
-use Rattle.tree_specs.specs.Items.Item.{Told}
-use Rattle.tree_specs.specs.Pool.{Pool, is_owner, add, set_hook}
-use Rattle.tree_specs.specs.Calls.{Check, refusals}
-use Rattle.tree_specs.specs.Plans.{plan, unless_refused}
-use Rattle.tree_specs.specs.Table.{step, plan_step}
-use Rattle.tree_specs.specs.Whole.{Whole}
-use Rattle.tree_specs.proofs.Changes.{stands, new-sound}
-use Rattle.tree_specs.proofs.Rest.{whole-kept, event-whole}
+use Rattle.tree_specs.specs.Rules.Items.Item.{Told}
+use Rattle.tree_specs.specs.Tree.Pool.{Pool, is_owner, add, set_hook}
+use Rattle.tree_specs.specs.Calls.Refusals.{Check, refusals}
+use Rattle.tree_specs.specs.Calls.Plans.{plan, unless_refused}
+use Rattle.tree_specs.specs.Machine.Table.{step, plan_step}
+use Rattle.tree_specs.specs.Invariants.Whole.{Whole}
+use Rattle.tree_specs.proofs.Invariants.Changes.{stands, new-sound}
+use Rattle.tree_specs.proofs.Rules.Rest.{whole-kept, event-whole}
 use Rattle.tree_links.specs.Links.{Links, pool_of}
 use Rattle.destructors.specs.Frees.{OpenFrees, before, frees_of, moves, next_of, speaking, Steps}
 use Rattle.destructors.specs.Works.{AtWork, IsAtWork}
 use Rattle.destructors.specs.Callers.{call_view}
 use Rattle.destructors.specs.Engine.{IsAsked, AreKept}
-use Rattle.tree_specs.specs.Alone.{FreesWait}
+use Rattle.tree_specs.specs.Invariants.Alone.{FreesWait}
 use Rattle.destructors.proofs.Callers.{call-alone}
 use Rattle.destructors.proofs.Settling.{still, asks-hooked}
 

@@ -7,11 +7,11 @@ use Rattle.tree_specs.specs.declared.object.Obj.{Obj}
 use Rattle.tree_specs.specs.declared.free_step.FreeReply.{FreeReply}
 use Rattle.tree_specs.specs.declared.free_step.FreeStep.{FreeStep}
 use Rattle.tree_specs.specs.declared.free_step.FreeStep.TheVariants.{Ask, Done}
-use Rattle.tree_specs.specs.Table.{FreeMove, free_step}
-use Rattle.tree_specs.specs.Pool.{Pool}
+use Rattle.tree_specs.specs.Machine.Table.{FreeMove, free_step}
+use Rattle.tree_specs.specs.Tree.Pool.{Pool}
 use Rattle.tree_links.specs.Links.{Links, pool_of}
 use Rattle.destructors.specs.Frees.{OpenFrees, before, frees_of, answered, moved, moves, speaks, speaking, Silently, Still, On}
-use Rattle.tree_specs.specs.Alone.{AwaitsRun}
+use Rattle.tree_specs.specs.Invariants.Alone.{AwaitsRun}
 use Rattle.destructors.specs.Works.{AtWork, IsAtWork, IsAwaiting, GoesOn}
 use Rattle.destructors.specs.Engine.{AreKept, HasRoom, MayMove, Ready}
 use Rattle.destructors.proofs.FreeMoves.{IsNews, AsksFor, IsMoveOf, is_move}

@@ -5,8 +5,8 @@ use Rattle.tree_specs.specs.declared.frame.Frame.TheVariants as frame
 use Rattle.tree_specs.specs.declared.frame.CallFrame.{CallFrame}
 use Rattle.tree_specs.specs.declared.frame.FreeFrame.{FreeFrame}
 use Rattle.tree_specs.specs.declared.frame.FreeFrame.TheVariants.{Hooked}
-use Rattle.tree_specs.specs.Pool.{Pool}
-use Rattle.tree_specs.specs.View.{View}
+use Rattle.tree_specs.specs.Tree.Pool.{Pool}
+use Rattle.tree_specs.specs.Machine.View.{View}
 
 -- the works below a free: its own, and those that wait for it, each caller below the free that it has begun and above the one whose
 -- destructor it is

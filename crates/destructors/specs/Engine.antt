@@ -4,7 +4,7 @@ use Rattle.tree_specs.specs.declared.frame.FreeFrame.{FreeFrame}
 use Rattle.tree_specs.specs.declared.frame.FreeFrame.TheVariants.{Unlinking, Releasing, Giving, Beginning, Hooked, Judged, Leaving, Looping, Trying, Tried, Ending}
 use Rattle.tree_links.specs.Links.{Links, pool_of}
 use Rattle.destructors.specs.Frees.{before, frees_of, moves, speaking}
-use Rattle.tree_specs.specs.Alone.{FreesWait}
+use Rattle.tree_specs.specs.Invariants.Alone.{FreesWait}
 use Rattle.references.specs.Pairs.{Pairs}
 use Rattle.references.specs.Rows.{AreRefsOf}
 use Rattle.destructors.specs.Works.{AtWork}

@@ -11,9 +11,9 @@ use Rattle.tree_specs.specs.declared.free_step.FreeStep.TheVariants.{Ask}
 use Rattle.tree_specs.specs.declared.row.Row.{Row}
 use Rattle.tree_specs.specs.declared.row.Mark.{Mark}
 use Rattle.tree_specs.specs.declared.row.Mark.TheVariants as mark
-use Rattle.tree_specs.specs.Pool.{Pool, is_row, is_below, row_of, owner_of, target_at, is_dying, set_mark}
-use Rattle.tree_specs.specs.Heirs.{heir}
-use Rattle.tree_specs.specs.Table.{FreeMove}
+use Rattle.tree_specs.specs.Tree.Pool.{Pool, is_row, is_below, row_of, owner_of, target_at, is_dying, set_mark}
+use Rattle.tree_specs.specs.Tree.Heirs.{heir}
+use Rattle.tree_specs.specs.Machine.Table.{FreeMove}
 use Rattle.tree_links.specs.Links.{MayPlace}
 use Rattle.destructors.specs.declared.motion.Motion.{Motion}
 use Rattle.destructors.specs.declared.motion.Motion.TheVariants.{Ends, Goes, Tells, Asks, Pushes}

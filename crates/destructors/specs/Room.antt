@@ -5,7 +5,7 @@ use Rattle.tree_specs.specs.declared.row.Mark.{Mark}
 use Rattle.tree_specs.specs.declared.row.Mark.TheVariants.{Quiet, Asked, Busy, Doomed, Dying}
 use Rattle.tree_specs.specs.declared.frame.FreeFrame.{FreeFrame}
 use Rattle.tree_specs.specs.declared.frame.FreeFrame.TheVariants.{Unlinking, Releasing, Giving, Beginning, Hooked, Judged, Leaving, Looping, Trying, Tried, Ending}
-use Rattle.tree_specs.specs.Inside.{total}
+use Rattle.tree_specs.specs.Tree.Inside.{total}
 
 -- a row whose freeing has still to come wants one place for its loop
 abbrev pub mark_places : Mark → ℕ

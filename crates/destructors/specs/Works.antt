@@ -4,11 +4,11 @@ use Rattle.tree_specs.specs.declared.object.Obj.{Obj}
 use Rattle.tree_specs.specs.declared.frame.FreeFrame.{FreeFrame}
 use Rattle.tree_specs.specs.declared.free_step.FreeStep.{FreeStep}
 use Rattle.tree_specs.specs.declared.free_step.FreeStep.TheVariants.{Ask, Done}
-use Rattle.tree_specs.specs.Pool.{Pool}
-use Rattle.tree_specs.specs.Profiles.{Phase, free_profile}
-use Rattle.tree_specs.specs.Sound.{FreeRests}
-use Rattle.tree_specs.specs.Sound.Footing.{OnCall}
-use Rattle.tree_specs.specs.Alone.{free_claim, FreesWork, FreesWait}
+use Rattle.tree_specs.specs.Tree.Pool.{Pool}
+use Rattle.tree_specs.specs.Machine.Profiles.{Phase, free_profile}
+use Rattle.tree_specs.specs.Invariants.Sound.{FreeRests}
+use Rattle.tree_specs.specs.Invariants.Sound.Footing.{OnCall}
+use Rattle.tree_specs.specs.Invariants.Alone.{free_claim, FreesWork, FreesWait}
 use Rattle.destructors.specs.Frees.{OpenFrees}
 
 -- The innermost free is at work, and the others wait.

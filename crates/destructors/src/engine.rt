@@ -1,6 +1,6 @@
 ghost use Rattle.std.specs.Prelude.{◌≡◌, ◌+◌, ◌≤◌, ◌<◌, length, unwrap_or};
-ghost use Rattle.tree_specs.specs.Pool.{Pool as PoolData};
-ghost use Rattle.tree_specs.specs.Table.{free_taken};
+ghost use Rattle.tree_specs.specs.Tree.Pool.{Pool as PoolData};
+ghost use Rattle.tree_specs.specs.Machine.Table.{free_taken};
 ghost use Rattle.tree_links.specs.Links.{pool_of};
 ghost use Rattle.destructors.specs.Frees.{before};
 
@@ -60,8 +60,8 @@ impl FreeEngine {
     ghost use Rattle.tree_specs.specs.declared.frame.Purpose.TheVariants.{Emptying};
     ghost use Rattle.destructors.specs.Frees.{frees_of, next_of, is_event, returned, speaking, Begins, Steps};
     ghost use Rattle.destructors.specs.Works.{IsAtWork, IsAwaiting, MayBegin, GoesOn};
-    ghost use Rattle.tree_specs.specs.Targets.{newest_ref};
-    ghost use Rattle.tree_specs.specs.Pool.{target_at};
+    ghost use Rattle.tree_specs.specs.Tree.Targets.{newest_ref};
+    ghost use Rattle.tree_specs.specs.Tree.Pool.{target_at};
     ghost use Rattle.references.specs.Rows.{AreRefsOf};
     ghost use Rattle.destructors.specs.Moves.{IsLiveRow};
     ghost use Rattle.destructors.specs.Changes.{SameRows, ChangedBy};

@@ -1,6 +1,6 @@
 //! Where a child goes that was not freed with its owner.
 ghost use Rattle.std.specs.Prelude.{◌≡◌};
-ghost use Rattle.tree_specs.specs.Heirs.{former_of, may_take as may_take_of, noted_taker as noted_taker_of, heir as heir_of};
+ghost use Rattle.tree_specs.specs.Tree.Heirs.{former_of, may_take as may_take_of, noted_taker as noted_taker_of, heir as heir_of};
 
 use tree_links::Tree;
 use tree_specs::{Mark, Obj, Owner};

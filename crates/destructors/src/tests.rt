@@ -1,7 +1,7 @@
 ghost use Rattle.std.specs.Prelude.{◌≡◌, ◌+◌, ◌≤◌, not, ◌&&◌, IfOk, OnOk, true, [], length};
-ghost use Rattle.tree_specs.specs.Calls.{is_plain_row};
-ghost use Rattle.tree_specs.specs.Pool.{is_row, is_dying, row_of, target_at};
-ghost use Rattle.tree_specs.specs.Targets.{newest_ref};
+ghost use Rattle.tree_specs.specs.Calls.Refusals.{is_plain_row};
+ghost use Rattle.tree_specs.specs.Tree.Pool.{is_row, is_dying, row_of, target_at};
+ghost use Rattle.tree_specs.specs.Tree.Targets.{newest_ref};
 ghost use Rattle.references.specs.Rows.{AreRefsOf};
 ghost use Rattle.destructors.specs.Frees.{frees_of, speaking};
 ghost use Rattle.destructors.specs.Works.{IsAtWork, IsAwaiting};

@@ -2,7 +2,7 @@
 ghost use Rattle.std.specs.Prelude.{◌≡◌, ◌≢◌, ◌↔◌, ◌≤◌, ◌⊎◌, ℕ, None, true, false, IfSome, map};
 ghost use Rattle.std.specs.String.{string_bytes};
 ghost use Rattle.tree_specs.specs.declared.schedule.Reason.{Reason};
-ghost use Rattle.tree_specs.specs.Schedule.{judge};
+ghost use Rattle.tree_specs.specs.Texts.Schedule.{judge};
 ghost use Rattle.outside.specs.Causes.{Rose};
 ghost use Rattle.schedule_replay.specs.Runs.{IsDone, IsBad, IsCutShort, IsFrontOf};
 ghost use Rattle.schedule_replay.specs.Stories.{WritesStory};

@@ -7,15 +7,15 @@ use Rattle.tree_specs.specs.declared.call.Call.{Call}
 use Rattle.tree_specs.specs.declared.reply.Refusal.{Refusal}
 use Rattle.tree_specs.specs.declared.reply.Reply.TheVariants as reply
 use Rattle.tree_specs.specs.declared.test.Test.TheVariants.{IsObject, IsOwner, IsStaying, IsApart, MayGive}
-use Rattle.tree_specs.specs.Pool.{Pool, is_below, owner_of}
-use Rattle.tree_specs.specs.Calls.{Check, checked, tests, refusals}
-use Rattle.tree_specs.specs.Passed.{Passed, AllPassed, Itself, ItsRef}
-use Rattle.tree_specs.specs.Plans.{plan}
-use Rattle.tree_specs.specs.Table.{call_step, plan_step, replied}
-use Rattle.tree_specs.proofs.Checks.{all-pass, may-place}
-use Rattle.tree_specs.proofs.Plans.{ref-placed}
+use Rattle.tree_specs.specs.Tree.Pool.{Pool, is_below, owner_of}
+use Rattle.tree_specs.specs.Calls.Refusals.{Check, checked, tests, refusals}
+use Rattle.tree_specs.specs.Calls.Passed.{Passed, AllPassed, Itself, ItsRef}
+use Rattle.tree_specs.specs.Calls.Plans.{plan}
+use Rattle.tree_specs.specs.Machine.Table.{call_step, plan_step, replied}
+use Rattle.tree_specs.proofs.Calls.Checks.{all-pass, may-place}
+use Rattle.tree_specs.proofs.Calls.Plans.{ref-placed}
 use Rattle.tree_specs.specs.declared.frame.Frame.{Frame}
-use Rattle.tree_specs.specs.Sound.{Sound}
+use Rattle.tree_specs.specs.Invariants.Sound.{Sound}
 use Rattle.tree_links.specs.Links.{MayPlace}
 use Rattle.destructors.proofs.Keeping.{placeable}
 use Rattle.object_pool.specs.Objects.{RefsMayGo}

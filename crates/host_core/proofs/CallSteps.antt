@@ -20,18 +20,18 @@ use Rattle.tree_specs.specs.declared.free_step.FreeReply.{FreeReply}
 use Rattle.tree_specs.specs.declared.free_step.FreeStep.{FreeStep}
 use Rattle.tree_specs.specs.declared.free_step.FreeStep.TheVariants.{Ask, Done}
 use Rattle.tree_specs.specs.declared.object.Obj.{Obj}
-use Rattle.tree_specs.specs.Pool.{Pool, row_of}
-use Rattle.tree_specs.specs.Items.{Item}
-use Rattle.tree_specs.specs.Calls.{refusals}
-use Rattle.tree_specs.specs.Story.{hook_moment}
-use Rattle.tree_specs.specs.Sound.{HasHook, claim}
-use Rattle.tree_specs.specs.Table.{call_step, event_of, caller_resume}
-use Rattle.tree_specs.specs.View.{View}
-use Rattle.tree_specs.specs.Profiles.{profile}
-use Rattle.tree_specs.specs.Whole.{Seated, Serves, innermost_size, Whole}
-use Rattle.tree_specs.proofs.Changes.{stands}
-use Rattle.tree_specs.proofs.Load.{reseat}
-use Rattle.tree_specs.proofs.Rest.{GoesOn, call-goes_on}
+use Rattle.tree_specs.specs.Tree.Pool.{Pool, row_of}
+use Rattle.tree_specs.specs.Rules.Items.{Item}
+use Rattle.tree_specs.specs.Calls.Refusals.{refusals}
+use Rattle.tree_specs.specs.Rules.Story.{hook_moment}
+use Rattle.tree_specs.specs.Invariants.Sound.{HasHook, claim}
+use Rattle.tree_specs.specs.Machine.Table.{call_step, event_of, caller_resume}
+use Rattle.tree_specs.specs.Machine.View.{View}
+use Rattle.tree_specs.specs.Machine.Profiles.{profile}
+use Rattle.tree_specs.specs.Invariants.Whole.{Seated, Serves, innermost_size, Whole}
+use Rattle.tree_specs.proofs.Invariants.Changes.{stands}
+use Rattle.tree_specs.proofs.Turns.Load.{reseat}
+use Rattle.tree_specs.proofs.Rules.Rest.{GoesOn, call-goes_on}
 use Rattle.destructors.specs.Frees.{OpenFrees, moves, is_event, returned, Silently}
 use Rattle.destructors.specs.Works.{AtWork, IsAtWork, IsAwaiting}
 use Rattle.destructors.proofs.Callers.{call-alone, work-alone}

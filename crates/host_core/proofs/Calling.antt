@@ -6,10 +6,10 @@ use Rattle.tree_specs.specs.declared.question.Ask.{Ask}
 use Rattle.tree_specs.specs.declared.frame.CallFrame.{CallFrame}
 use Rattle.tree_specs.specs.declared.frame.CallFrame.TheVariants.{Doing, Returning}
 use Rattle.tree_specs.specs.declared.frame.FreeFrame.{FreeFrame}
-use Rattle.tree_specs.specs.Pool.{Pool}
-use Rattle.tree_specs.specs.Calls.{refusals}
-use Rattle.tree_specs.specs.Table.{call_step}
-use Rattle.tree_specs.specs.Whole.{Whole}
+use Rattle.tree_specs.specs.Tree.Pool.{Pool}
+use Rattle.tree_specs.specs.Calls.Refusals.{refusals}
+use Rattle.tree_specs.specs.Machine.Table.{call_step}
+use Rattle.tree_specs.specs.Invariants.Whole.{Whole}
 use Rattle.destructors.specs.Frees.{returned, speaking}
 use Rattle.destructors.specs.Works.{IsAtWork, IsAwaiting}
 use Rattle.destructors.specs.Callers.{call_view}

@@ -14,11 +14,11 @@ use Rattle.tree_specs.specs.declared.frame.Answer.TheVariants.{Freed}
 use Rattle.tree_specs.specs.declared.free_step.FreeReply.{FreeReply}
 use Rattle.tree_specs.specs.declared.free_step.FreeStep.{FreeStep}
 use Rattle.tree_specs.specs.declared.free_step.FreeStep.TheVariants.{Ask}
-use Rattle.tree_specs.specs.Pool.{Pool}
-use Rattle.tree_specs.specs.Items.{Item}
-use Rattle.tree_specs.specs.Table.{FreeMove, table, step, free_step, lifted, event_of, announced}
-use Rattle.tree_specs.specs.View.{View}
-use Rattle.tree_specs.specs.Whole.{Whole}
+use Rattle.tree_specs.specs.Tree.Pool.{Pool}
+use Rattle.tree_specs.specs.Rules.Items.{Item}
+use Rattle.tree_specs.specs.Machine.Table.{FreeMove, table, step, free_step, lifted, event_of, announced}
+use Rattle.tree_specs.specs.Machine.View.{View}
+use Rattle.tree_specs.specs.Invariants.Whole.{Whole}
 use Rattle.destructors.specs.Frees.{OpenFrees, answered, moved as free_moved, moves, is_event, Silently, Still, On}
 use Rattle.destructors.specs.Callers.{standing, free_view}
 use Rattle.destructors.proofs.FreeMoves.{AsksFor, IsMoveOf, is_move}

@@ -16,14 +16,14 @@ use Rattle.tree_specs.specs.declared.free_step.FreeReply.{FreeReply}
 use Rattle.tree_specs.specs.declared.free_step.FreeStep.{FreeStep}
 use Rattle.tree_specs.specs.declared.free_step.FreeStep.TheVariants.{Ask as AskOf, Done}
 use Rattle.tree_specs.specs.declared.object.Obj.{Obj}
-use Rattle.tree_specs.specs.Pool.{Pool, row_of, target_at}
-use Rattle.tree_specs.specs.Story.{hook_moment}
-use Rattle.tree_specs.specs.Sound.{HasHook, Rests}
-use Rattle.tree_specs.specs.Targets.{newest_ref}
+use Rattle.tree_specs.specs.Tree.Pool.{Pool, row_of, target_at}
+use Rattle.tree_specs.specs.Rules.Story.{hook_moment}
+use Rattle.tree_specs.specs.Invariants.Sound.{HasHook, Rests}
+use Rattle.tree_specs.specs.Tree.Targets.{newest_ref}
 use Rattle.tree_specs.specs.declared.object.Owner.{Owner}
-use Rattle.tree_specs.specs.Table.{event_of, caller_resume}
-use Rattle.tree_specs.specs.Profiles.{profile}
-use Rattle.tree_specs.specs.Whole.{Seated, Serves, Whole}
+use Rattle.tree_specs.specs.Machine.Table.{event_of, caller_resume}
+use Rattle.tree_specs.specs.Machine.Profiles.{profile}
+use Rattle.tree_specs.specs.Invariants.Whole.{Seated, Serves, Whole}
 use Rattle.destructors.specs.Frees.{OpenFrees, moves, is_event, Begins, Steps}
 use Rattle.destructors.specs.Works.{IsAtWork, IsAwaiting, GoesOn}
 use Rattle.destructors.proofs.Callers.{on-caller}

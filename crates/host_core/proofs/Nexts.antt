@@ -9,10 +9,10 @@ use Rattle.tree_specs.specs.declared.frame.FreeFrame.{FreeFrame}
 use Rattle.tree_specs.specs.declared.free_step.FreeStep.{FreeStep}
 use Rattle.tree_specs.specs.declared.question.Ask.{Ask as Question}
 use Rattle.tree_specs.specs.declared.free_step.FreeStep.TheVariants.{Ask, Left, Done}
-use Rattle.tree_specs.specs.Pool.{Pool}
-use Rattle.tree_specs.specs.Table.{event_of}
-use Rattle.tree_specs.specs.View.{View, question_of}
-use Rattle.tree_specs.specs.Whole.{Whole}
+use Rattle.tree_specs.specs.Tree.Pool.{Pool}
+use Rattle.tree_specs.specs.Machine.Table.{event_of}
+use Rattle.tree_specs.specs.Machine.View.{View, question_of}
+use Rattle.tree_specs.specs.Invariants.Whole.{Whole}
 use Rattle.destructors.specs.Frees.{OpenFrees, is_event, Steps}
 use Rattle.destructors.specs.Works.{GoesOn as FreesGoOn}
 use Rattle.destructors.specs.Callers.{call_view}

@@ -21,17 +21,17 @@ use Rattle.tree_specs.specs.declared.frame.CallFrame.TheVariants.{Asking, Doing,
 use Rattle.tree_specs.specs.declared.frame.FreeFrame.{FreeFrame}
 use Rattle.tree_specs.specs.declared.free_step.FreeReply.{FreeReply}
 use Rattle.tree_specs.specs.declared.free_step.FreeStep.{FreeStep}
-use Rattle.tree_specs.specs.Pool.{Pool}
-use Rattle.tree_specs.specs.Items.{Item}
-use Rattle.tree_specs.specs.Items.Item.{Asked}
-use Rattle.tree_specs.specs.Calls.{refusals}
-use Rattle.tree_specs.specs.Schedule.{misfit}
-use Rattle.tree_specs.specs.Soundness.{is_sound}
-use Rattle.tree_specs.specs.Story.{later, heard}
-use Rattle.tree_specs.specs.Table.{call_step, replied, doing, returning, lifted, announced, event_of, free_step}
-use Rattle.tree_specs.specs.View.{View, rest_of, question_in, question_of}
-use Rattle.tree_specs.specs.Whole.{Whole}
-use Rattle.tree_specs.proofs.Rest.{question-whole, question-items}
+use Rattle.tree_specs.specs.Tree.Pool.{Pool}
+use Rattle.tree_specs.specs.Rules.Items.{Item}
+use Rattle.tree_specs.specs.Rules.Items.Item.{Asked}
+use Rattle.tree_specs.specs.Calls.Refusals.{refusals}
+use Rattle.tree_specs.specs.Texts.Schedule.{misfit}
+use Rattle.tree_specs.specs.Words.Ranges.{is_sound}
+use Rattle.tree_specs.specs.Rules.Story.{later, heard}
+use Rattle.tree_specs.specs.Machine.Table.{call_step, replied, doing, returning, lifted, announced, event_of, free_step}
+use Rattle.tree_specs.specs.Machine.View.{View, rest_of, question_in, question_of}
+use Rattle.tree_specs.specs.Invariants.Whole.{Whole}
+use Rattle.tree_specs.proofs.Rules.Rest.{question-whole, question-items}
 use Rattle.destructors.specs.Callers.{under, call_view}
 use Rattle.object_pool.specs.Objects.{Objects}
 use Rattle.host_core.specs.declared.active.Active.{Active}

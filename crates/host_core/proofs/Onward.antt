@@ -12,17 +12,17 @@ use Rattle.tree_specs.specs.declared.frame.Frame.{Frame}
 use Rattle.tree_specs.specs.declared.frame.Frame.TheVariants as frame
 use Rattle.tree_specs.specs.declared.frame.CallFrame.TheVariants.{Asking}
 use Rattle.tree_specs.specs.declared.frame.Answer.{Answer}
-use Rattle.tree_specs.specs.Pool.{Pool}
-use Rattle.tree_specs.specs.Items.{Item, IsQuestion}
-use Rattle.tree_specs.specs.Items.Item.{Told, Asked}
-use Rattle.tree_specs.specs.Table.{table, step}
-use Rattle.tree_specs.specs.Measure.{cost, pending}
-use Rattle.tree_specs.specs.View.{View, begin, rest_of}
-use Rattle.tree_specs.specs.Whole.{Whole}
-use Rattle.tree_specs.proofs.StoryLaws.{begin-whole}
-use Rattle.tree_specs.proofs.FallingFrees.{Room}
-use Rattle.tree_specs.proofs.Falls.{lower}
-use Rattle.tree_specs.proofs.Rest.{event-whole, event-items, open-items, begins-items, ends-asked, silent-whole, silent-law, no-end, view_of_state}
+use Rattle.tree_specs.specs.Tree.Pool.{Pool}
+use Rattle.tree_specs.specs.Rules.Items.{Item, IsQuestion}
+use Rattle.tree_specs.specs.Rules.Items.Item.{Told, Asked}
+use Rattle.tree_specs.specs.Machine.Table.{table, step}
+use Rattle.tree_specs.specs.Invariants.Measure.{cost, pending}
+use Rattle.tree_specs.specs.Machine.View.{View, begin, rest_of}
+use Rattle.tree_specs.specs.Invariants.Whole.{Whole}
+use Rattle.tree_specs.proofs.Rules.StoryLaws.{begin-whole}
+use Rattle.tree_specs.proofs.Turns.FallingFrees.{Room}
+use Rattle.tree_specs.proofs.Turns.Falls.{lower}
+use Rattle.tree_specs.proofs.Rules.Rest.{event-whole, event-items, open-items, begins-items, ends-asked, silent-whole, silent-law, no-end, view_of_state}
 use Rattle.host_core.specs.Promises.{Waits}
 use Rattle.host_core.specs.Hosts.{speaks, moved, next_of, speaking_view, Along, Onward}
 

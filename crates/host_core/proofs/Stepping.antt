@@ -10,10 +10,10 @@ use Rattle.tree_specs.specs.declared.free_step.FreeReply.{FreeReply}
 use Rattle.tree_specs.specs.declared.free_step.FreeStep.{FreeStep}
 use Rattle.tree_specs.specs.declared.free_step.FreeStep.TheVariants.{Ask, Done}
 use Rattle.tree_specs.specs.declared.object.Obj.{Obj}
-use Rattle.tree_specs.specs.Pool.{row_of}
-use Rattle.tree_specs.specs.Story.{hook_moment}
-use Rattle.tree_specs.specs.Sound.{HasHook}
-use Rattle.tree_specs.specs.Table.{event_of, caller_resume}
+use Rattle.tree_specs.specs.Tree.Pool.{row_of}
+use Rattle.tree_specs.specs.Rules.Story.{hook_moment}
+use Rattle.tree_specs.specs.Invariants.Sound.{HasHook}
+use Rattle.tree_specs.specs.Machine.Table.{event_of, caller_resume}
 use Rattle.destructors.specs.Frees.{Steps}
 use Rattle.destructors.specs.Works.{GoesOn}
 use Rattle.destructors.specs.Callers.{call_view}

@@ -15,10 +15,10 @@ use Rattle.tree_specs.specs.declared.frame.Answer.{Answer}
 use Rattle.tree_specs.specs.declared.frame.Answer.TheVariants.{Freed}
 use Rattle.tree_specs.specs.declared.free_step.FreeReply.{FreeReply}
 use Rattle.tree_specs.specs.declared.free_step.FreeReply.TheVariants.{Ok}
-use Rattle.tree_specs.specs.Pool.{Pool}
-use Rattle.tree_specs.specs.Items.{Item}
-use Rattle.tree_specs.specs.Items.Item.{Told, Asked}
-use Rattle.tree_specs.specs.Table.{step, resume, caller_resume, call_step, replied}
+use Rattle.tree_specs.specs.Tree.Pool.{Pool}
+use Rattle.tree_specs.specs.Rules.Items.{Item}
+use Rattle.tree_specs.specs.Rules.Items.Item.{Told, Asked}
+use Rattle.tree_specs.specs.Machine.Table.{step, resume, caller_resume, call_step, replied}
 use Rattle.tree_specs.specs.declared.question.Ask.{Ask}
 use Rattle.tree_specs.specs.declared.question.Act.TheVariants as act
 use Rattle.tree_specs.specs.declared.question.Input.{Input}
@@ -27,11 +27,11 @@ use Rattle.tree_specs.specs.declared.call.Call.{Call}
 use Rattle.tree_specs.specs.declared.call.Call.TheVariants as call
 use Rattle.tree_specs.specs.declared.object.Owner.{Owner}
 use Rattle.tree_specs.specs.declared.reply.Reply.{Reply}
-use Rattle.tree_specs.specs.Calls.{refusals}
-use Rattle.tree_specs.specs.Story.{later}
-use Rattle.tree_specs.specs.Measure.{pending, cost}
-use Rattle.tree_specs.specs.View.{View, rest_of}
-use Rattle.tree_specs.specs.Whole.{Whole}
+use Rattle.tree_specs.specs.Calls.Refusals.{refusals}
+use Rattle.tree_specs.specs.Rules.Story.{later}
+use Rattle.tree_specs.specs.Invariants.Measure.{pending, cost}
+use Rattle.tree_specs.specs.Machine.View.{View, rest_of}
+use Rattle.tree_specs.specs.Invariants.Whole.{Whole}
 use Rattle.destructors.specs.Frees.{speaking}
 use Rattle.destructors.specs.Works.{IsAtWork}
 use Rattle.destructors.specs.Callers.{free_view, call_view}

@@ -3,7 +3,7 @@ use Rattle.std.specs.Prelude.{◌≡◌, Option, Some, None}
 use Rattle.std.specs.Borrow.{Bor}
 use Rattle.tree_specs.specs.declared.object.Obj.{Obj}
 use Rattle.tree_specs.specs.declared.row.Row.{Row}
-use Rattle.tree_specs.specs.Pool.{Pool, row_of}
+use Rattle.tree_specs.specs.Tree.Pool.{Pool, row_of}
 
 -- this is its row
 abbrev pub IsKnown : Option (Obj × Bor Row) → Pool → Type 0

@@ -3,7 +3,7 @@ ghost use Rattle.std.specs.Prelude.{◌≡◌, Some, IsSome, is_none};
 ghost use Rattle.std.specs.Option.{option_copied};
 ghost use Rattle.tree_specs.specs.declared.question.Ask.{Ask as AskData};
 ghost use Rattle.tree_specs.specs.declared.frame.CallFrame.TheVariants.{Telling};
-ghost use Rattle.tree_specs.specs.Schedule.{misfit};
+ghost use Rattle.tree_specs.specs.Texts.Schedule.{misfit};
 ghost use Rattle.host_core.specs.Hosts.{remembers, asked_now, StandsAs};
 ghost use Rattle.host_core.specs.Moves.{telling, warning};
 

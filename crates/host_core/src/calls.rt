@@ -1,13 +1,13 @@
 //! The steps of a caller: a call is done, or its reply is there.
 ghost use Rattle.std.specs.Prelude.{◌≡◌, None, true};
-ghost use Rattle.tree_specs.specs.Calls.{tests, refusals};
-ghost use Rattle.tree_specs.specs.Passed.{AllPassed};
-ghost use Rattle.tree_specs.specs.Plans.{plan, places as places_of, warns as worth_a_warning};
+ghost use Rattle.tree_specs.specs.Calls.Refusals.{tests, refusals};
+ghost use Rattle.tree_specs.specs.Calls.Passed.{AllPassed};
+ghost use Rattle.tree_specs.specs.Calls.Plans.{plan, places as places_of, warns as worth_a_warning};
 ghost use Rattle.tree_specs.specs.declared.call.Call.TheVariants.{Free as FreeOf};
 ghost use Rattle.tree_specs.specs.declared.question.Ask.{Ask as AskData};
 ghost use Rattle.tree_specs.specs.declared.reply.Reply.TheVariants.{Ok as OkReply};
-ghost use Rattle.tree_specs.specs.Story.{freed_reply};
-ghost use Rattle.tree_specs.specs.Table.{call_step, plan_step};
+ghost use Rattle.tree_specs.specs.Rules.Story.{freed_reply};
+ghost use Rattle.tree_specs.specs.Machine.Table.{call_step, plan_step};
 ghost use Rattle.tree_links.specs.Links.{MayPlace};
 ghost use Rattle.object_pool.specs.Objects.{RefsMayGo};
 ghost use Rattle.host_core.specs.Moves.{move_of, reply_of, report_of, ReadyFor};

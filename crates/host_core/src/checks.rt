@@ -1,7 +1,7 @@
 //! What a call is refused for: each test, and tests one after another.
 ghost use Rattle.std.specs.Prelude.{◌≡◌, ◌<◌, [], ◌∷◌, IsOk};
 ghost use Rattle.std.specs.Option.{option_copied};
-ghost use Rattle.tree_specs.specs.Calls.{checked, small, owner, object_row, plain, room, staying, still, apart, held, interested, given_by, unreferenced, growing, size_limit, refusal_of, refused};
+ghost use Rattle.tree_specs.specs.Calls.Refusals.{checked, small, owner, object_row, plain, room, staying, still, apart, held, interested, given_by, unreferenced, growing, size_limit, refusal_of, refused};
 
 use crate::subject::Subject;
 use object_pool::ObjectPool;

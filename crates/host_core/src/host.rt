@@ -1,10 +1,10 @@
 ghost use Rattle.std.specs.Prelude.{◌≡◌, ◌≤◌, ◌<◌, ◌↔◌, true, Some, Err, IsTrue, IsSome, IfOk, OnOk, OnErr, length, vec_capacity};
 ghost use Rattle.std.specs.Option.{option_copied};
 ghost use Rattle.tree_specs.specs.declared.schedule.Reason.TheVariants as reasons;
-ghost use Rattle.tree_specs.specs.Schedule.{misfit};
-ghost use Rattle.tree_specs.specs.Soundness.{is_sound};
-ghost use Rattle.tree_specs.specs.Table.{event_of};
-ghost use Rattle.tree_specs.specs.View.{begin, question_of};
+ghost use Rattle.tree_specs.specs.Texts.Schedule.{misfit};
+ghost use Rattle.tree_specs.specs.Words.Ranges.{is_sound};
+ghost use Rattle.tree_specs.specs.Machine.Table.{event_of};
+ghost use Rattle.tree_specs.specs.Machine.View.{begin, question_of};
 
 use crate::active::Active;
 use crate::caller::{Caller, Stage, Waiting};
@@ -54,7 +54,7 @@ pub struct Host {
 }
 
 impl Model for Host {
-    ghost use Rattle.tree_specs.specs.View.{View};
+    ghost use Rattle.tree_specs.specs.Machine.View.{View};
 
     ghost Value = { View };
 
@@ -70,8 +70,8 @@ impl Host {
     ghost use Rattle.std.specs.Prelude.{◌&&◌};
     ghost use Rattle.tree_specs.specs.declared.object.Owner.TheVariants.{Of as At};
     ghost use Rattle.std.specs.Option.{option_map};
-    ghost use Rattle.tree_specs.specs.Pool.{row_of, is_row, is_inside as inside};
-    ghost use Rattle.tree_specs.specs.Sound.{Sound};
+    ghost use Rattle.tree_specs.specs.Tree.Pool.{row_of, is_row, is_inside as inside};
+    ghost use Rattle.tree_specs.specs.Invariants.Sound.{Sound};
     ghost use Rattle.host_core.specs.Promises.{Waits, NextLaw, TakesAnswer};
 
     /// A host with no objects, whose first one gets the number `first`. It waits for a call.

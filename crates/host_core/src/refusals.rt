@@ -1,8 +1,8 @@
 //! The refusals of each call: its tests, in the order in which they are tried.
 ghost use Rattle.std.specs.Prelude.{◌≡◌, ◌+◌, [], ◌∷◌};
 ghost use Rattle.tree_specs.specs.declared.call.Call.TheVariants.{Reparent as ReparentOf, Reference as ReferenceOf, Resize as ResizeOf};
-ghost use Rattle.tree_specs.specs.Calls.{checked, refused, refusals};
-ghost use Rattle.tree_specs.specs.Sums.{overhead};
+ghost use Rattle.tree_specs.specs.Calls.Refusals.{checked, refused, refusals};
+ghost use Rattle.tree_specs.specs.Tree.Sums.{overhead};
 
 use crate::checks::{
     check_five, check_four, check_owner, check_row, check_six, check_size, check_three, check_two,

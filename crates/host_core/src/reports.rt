@@ -2,8 +2,8 @@
 ghost use Rattle.std.specs.Prelude.{◌≡◌, IfOk};
 ghost use Rattle.tree_specs.specs.declared.question.Ask.{Ask as AskData};
 ghost use Rattle.tree_specs.specs.declared.call.Call.TheVariants.{Report as ReportOf};
-ghost use Rattle.tree_specs.specs.Calls.{refusals};
-ghost use Rattle.tree_specs.specs.Table.{call_step, replied};
+ghost use Rattle.tree_specs.specs.Calls.Refusals.{refusals};
+ghost use Rattle.tree_specs.specs.Machine.Table.{call_step, replied};
 ghost use Rattle.host_core.specs.Moves.{call_of, reported};
 ghost use Rattle.host_core.specs.Hosts.{IsCopy, IsReport};
 

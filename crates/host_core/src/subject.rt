@@ -11,7 +11,7 @@ pub struct Subject<'a> {
 }
 
 impl<'a> Model for Subject<'a> {
-    ghost use Rattle.tree_specs.specs.Pool.{Pool};
+    ghost use Rattle.tree_specs.specs.Tree.Pool.{Pool};
     ghost use Rattle.host_core.specs.Subjects.{IsKnown};
 
     ghost Value = { Pool };
@@ -24,7 +24,7 @@ impl<'a> Model for Subject<'a> {
 impl<'a> Subject<'a> {
     ghost use Rattle.std.specs.Prelude.{◌≡◌};
     ghost use Rattle.std.specs.Option.{option_copied};
-    ghost use Rattle.tree_specs.specs.Pool.{row_of};
+    ghost use Rattle.tree_specs.specs.Tree.Pool.{row_of};
 
     /// A call that is about no object that is there.
     #[inline]

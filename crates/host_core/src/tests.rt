@@ -1,6 +1,6 @@
 ghost use Rattle.std.specs.Prelude.{◌<◌, IsTrue};
-ghost use Rattle.tree_specs.specs.Names.{is_name};
-ghost use Rattle.tree_specs.specs.Soundness.{is_sound, is_sound_owner};
+ghost use Rattle.tree_specs.specs.Words.Names.{is_name};
+ghost use Rattle.tree_specs.specs.Words.Ranges.{is_sound, is_sound_owner};
 
 use super::*;
 use std::alloc::Global;

@@ -2,7 +2,7 @@
 ghost use Rattle.std.specs.Prelude.{◌≡◌, ◌<◌, [], ◌∷◌, ◌++◌, Some, IsSome, true, false, length, vec_capacity};
 ghost use Rattle.tree_specs.specs.declared.frame.CallFrame.TheVariants.{Doing};
 ghost use Rattle.tree_specs.specs.declared.question.Ask.{Ask as AskData};
-ghost use Rattle.tree_specs.specs.Whole.{Whole};
+ghost use Rattle.tree_specs.specs.Invariants.Whole.{Whole};
 ghost use Rattle.destructors.specs.Works.{IsAwaiting};
 ghost use Rattle.object_pool.specs.Objects.{frees_in};
 ghost use Rattle.host_core.specs.Moves.{ReadyFor};

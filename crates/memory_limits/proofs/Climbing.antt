@@ -6,12 +6,12 @@ use Rattle.tree_specs.specs.declared.object.Obj.{Obj}
 use Rattle.tree_specs.specs.declared.object.Owner.{Owner}
 use Rattle.tree_specs.specs.declared.object.Owner.TheVariants.{Root, Of}
 use Rattle.tree_specs.specs.declared.row.Row.{Row}
-use Rattle.tree_specs.specs.Objects.{same}
-use Rattle.tree_specs.specs.Forest.{ends, Rooted}
-use Rattle.tree_specs.specs.Pool.{owner_of, is_inside}
-use Rattle.tree_specs.proofs.Numbered.{by_test, same-true, same-equal, same-false}
-use Rattle.tree_specs.proofs.Ancestry.{reach-root, inside-owner, no_way_back}
-use Rattle.tree_specs.proofs.Attached.{inside-lone}
+use Rattle.tree_specs.specs.Words.Objects.{same}
+use Rattle.tree_specs.specs.Tree.Forest.{ends, Rooted}
+use Rattle.tree_specs.specs.Tree.Pool.{owner_of, is_inside}
+use Rattle.tree_specs.proofs.Tree.Numbered.{by_test, same-true, same-equal, same-false}
+use Rattle.tree_specs.proofs.Tree.Ancestry.{reach-root, inside-owner, no_way_back}
+use Rattle.tree_specs.proofs.Tree.Attached.{inside-lone}
 use Rattle.memory_limits.specs.declared.change.Change.{Change}
 use Rattle.memory_limits.specs.declared.limited.Limited.{Limited}
 use Rattle.memory_limits.specs.Limits.{counts, counts_at, found, nearest_in, nearest_limited}

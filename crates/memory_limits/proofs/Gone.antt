@@ -4,15 +4,15 @@ use Rattle.tree_specs.specs.declared.object.Obj.{Obj}
 use Rattle.tree_specs.specs.declared.object.Owner.{Owner}
 use Rattle.tree_specs.specs.declared.object.Owner.TheVariants.{Of}
 use Rattle.tree_specs.specs.declared.row.Row.{Row}
-use Rattle.tree_specs.specs.Objects.{same}
-use Rattle.tree_specs.specs.Pool.{row_of, is_row, owner_of, target_in, target_at, is_inside, changed, without, left_row}
-use Rattle.tree_specs.specs.Forest.{IsForest}
-use Rattle.tree_specs.specs.Inside.{total}
-use Rattle.tree_specs.specs.Sums.{charge, sum_inside}
-use Rattle.tree_specs.proofs.Numbered.{by_test, same_or_not, same-false, same-equal}
-use Rattle.tree_specs.proofs.Rows.{row_of-changed-same, row_of-without-same, total-without, Distinct-changed}
-use Rattle.tree_specs.proofs.Referring.{reference-outside}
-use Rattle.tree_specs.proofs.SumLaws.{owner-left, sum-below, sum-lone, sum-gone}
+use Rattle.tree_specs.specs.Words.Objects.{same}
+use Rattle.tree_specs.specs.Tree.Pool.{row_of, is_row, owner_of, target_in, target_at, is_inside, changed, without, left_row}
+use Rattle.tree_specs.specs.Tree.Forest.{IsForest}
+use Rattle.tree_specs.specs.Tree.Inside.{total}
+use Rattle.tree_specs.specs.Tree.Sums.{charge, sum_inside}
+use Rattle.tree_specs.proofs.Tree.Numbered.{by_test, same_or_not, same-false, same-equal}
+use Rattle.tree_specs.proofs.Tree.Rows.{row_of-changed-same, row_of-without-same, total-without, Distinct-changed}
+use Rattle.tree_specs.proofs.Tree.Referring.{reference-outside}
+use Rattle.tree_specs.proofs.Tree.SumLaws.{owner-left, sum-below, sum-lone, sum-gone}
 use Rattle.memory_limits.specs.declared.limited.Limited.{Limited}
 use Rattle.memory_limits.specs.Limits.{unlimited, AllSums, HasLeft}
 

@@ -4,17 +4,17 @@ use Rattle.tree_specs.specs.declared.object.Obj.{Obj}
 use Rattle.tree_specs.specs.declared.object.Owner.{Owner}
 use Rattle.tree_specs.specs.declared.object.Owner.TheVariants.{Root, Of}
 use Rattle.tree_specs.specs.declared.row.Row.{Row}
-use Rattle.tree_specs.specs.Pool.{row_of, is_row, owner_of, is_inside, changed, left_row, owned_row, sized_row}
-use Rattle.tree_specs.specs.Sums.{sum_inside, limit_at, size_at}
-use Rattle.tree_specs.specs.Forest.{Rooted}
-use Rattle.tree_specs.specs.Objects.{same}
-use Rattle.tree_specs.specs.Targets.{is_reference}
-use Rattle.tree_specs.specs.Calls.{is_plain, is_plain_row, checked, refuse_if, over, fits_in}
+use Rattle.tree_specs.specs.Tree.Pool.{row_of, is_row, owner_of, is_inside, changed, left_row, owned_row, sized_row}
+use Rattle.tree_specs.specs.Tree.Sums.{sum_inside, limit_at, size_at}
+use Rattle.tree_specs.specs.Tree.Forest.{Rooted}
+use Rattle.tree_specs.specs.Words.Objects.{same}
+use Rattle.tree_specs.specs.Tree.Targets.{is_reference}
+use Rattle.tree_specs.specs.Calls.Refusals.{is_plain, is_plain_row, checked, refuse_if, over, fits_in}
 use Rattle.tree_specs.specs.declared.reply.Refusal.TheVariants.{OverLimit}
 use Rattle.std.specs.List.{AllByRecursion}
-use Rattle.tree_specs.proofs.Numbered.{by_test, same-true, same-false, same-equal}
-use Rattle.tree_specs.proofs.Referring.{plain-refers}
-use Rattle.tree_specs.proofs.SumLaws.{sum-below, sum-lone, sum-before, sum-sized}
+use Rattle.tree_specs.proofs.Tree.Numbered.{by_test, same-true, same-false, same-equal}
+use Rattle.tree_specs.proofs.Tree.Referring.{plain-refers}
+use Rattle.tree_specs.proofs.Tree.SumLaws.{sum-below, sum-lone, sum-before, sum-sized}
 use Rattle.tree_links.specs.Links.{IsTree}
 use Rattle.tree_report.proofs.Weighing.{sum-small}
 use Rattle.memory_limits.specs.declared.change.Change.{Change}

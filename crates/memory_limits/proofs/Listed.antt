@@ -12,8 +12,8 @@ use Rattle.std.specs.FinMap.{nat_cmp-IsAntisymmetric, get-entries, get-insert, g
 use Rattle.std.specs.FinMap.Entries.{find, put, where_key, is_sorted, is_sorted-where_key, find-where_key, below_all, same_entries}
 use Rattle.pool_arena.proofs.Keeps.{ties, eqb-false}
 use Rattle.tree_specs.specs.declared.object.Obj.{Obj}
-use Rattle.tree_specs.specs.Objects.{same}
-use Rattle.tree_specs.proofs.Numbered.{by_test}
+use Rattle.tree_specs.specs.Words.Objects.{same}
+use Rattle.tree_specs.proofs.Tree.Numbered.{by_test}
 use Rattle.memory_limits.specs.declared.allowance.Allowance.{Allowance}
 use Rattle.memory_limits.specs.declared.change.Change.{Change}
 use Rattle.memory_limits.specs.declared.limited.Limited.{Limited}

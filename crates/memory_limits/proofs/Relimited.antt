@@ -2,13 +2,13 @@
 use Rattle.std.proofs.Common.{◌≡◌, ℕ, List, Option, Some, None, true, false, if◌then◌else◌, refl, sym, ◌∙◌, ap, subst, inl, inr}
 use Rattle.tree_specs.specs.declared.object.Obj.{Obj}
 use Rattle.tree_specs.specs.declared.row.Row.{Row}
-use Rattle.tree_specs.specs.Objects.{same}
-use Rattle.tree_specs.specs.Pool.{row_of, is_row, owner_in, owner_of, changed, limited_row}
-use Rattle.tree_specs.specs.Sums.{charge, limit_in, limit_at}
-use Rattle.tree_specs.proofs.Numbered.{same_or_not, same-equal, same-false}
-use Rattle.tree_specs.proofs.Rows.{row_of-changed-same, row_of-changed-other}
-use Rattle.tree_specs.proofs.Attached.{SameOwners, weight-same}
-use Rattle.tree_specs.proofs.SumLaws.{changed-weights}
+use Rattle.tree_specs.specs.Words.Objects.{same}
+use Rattle.tree_specs.specs.Tree.Pool.{row_of, is_row, owner_in, owner_of, changed, limited_row}
+use Rattle.tree_specs.specs.Tree.Sums.{charge, limit_in, limit_at}
+use Rattle.tree_specs.proofs.Tree.Numbered.{same_or_not, same-equal, same-false}
+use Rattle.tree_specs.proofs.Tree.Rows.{row_of-changed-same, row_of-changed-other}
+use Rattle.tree_specs.proofs.Tree.Attached.{SameOwners, weight-same}
+use Rattle.tree_specs.proofs.Tree.SumLaws.{changed-weights}
 use Rattle.memory_limits.specs.declared.limited.Limited.{Limited}
 use Rattle.memory_limits.specs.Limits.{limit_of, AllBound, AllSums, AreLimitsOf}
 use Rattle.memory_limits.proofs.Kept.{same-sums}

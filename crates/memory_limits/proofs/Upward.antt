@@ -5,8 +5,8 @@ use Rattle.tree_specs.specs.declared.object.Owner.{Owner}
 use Rattle.tree_specs.specs.declared.object.Owner.TheVariants.{Root, Of}
 use Rattle.tree_specs.specs.declared.row.Row.{Row}
 use Rattle.tree_specs.specs.declared.reply.Refusal.{Refusal}
-use Rattle.tree_specs.specs.Calls.{Check, checked, over, fits_in}
-use Rattle.tree_specs.specs.Pool.{owner_of}
+use Rattle.tree_specs.specs.Calls.Refusals.{Check, checked, over, fits_in}
+use Rattle.tree_specs.specs.Tree.Pool.{owner_of}
 
 pub above-all : (n : ℕ) (rs : List Row) (wanted : ℕ) (o : Owner) → ((x : Obj) → o ≡ Of x → ⊥) → checked (fits_in n rs wanted (Some o)) ≡ Ok tt
 above-all n rs wanted Root not = refl

@@ -7,9 +7,9 @@ use Rattle.tree_specs.specs.declared.object.Obj.{Obj}
 use Rattle.tree_specs.specs.declared.object.Owner.{Owner}
 use Rattle.tree_specs.specs.declared.object.Owner.TheVariants.{Root, Of}
 use Rattle.tree_specs.specs.declared.row.Row.{Row}
-use Rattle.tree_specs.specs.Objects.{same}
-use Rattle.tree_specs.specs.Pool.{is_inside, owner_of, target_at}
-use Rattle.tree_specs.specs.Sums.{sum_inside, limit_at}
+use Rattle.tree_specs.specs.Words.Objects.{same}
+use Rattle.tree_specs.specs.Tree.Pool.{is_inside, owner_of, target_at}
+use Rattle.tree_specs.specs.Tree.Sums.{sum_inside, limit_at}
 use Rattle.memory_limits.specs.declared.allowance.Allowance.{Allowance}
 use Rattle.memory_limits.specs.declared.change.Change.{Change}
 use Rattle.memory_limits.specs.declared.limited.Limited.{Limited}

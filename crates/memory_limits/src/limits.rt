@@ -32,14 +32,14 @@ impl Sums {
     ghost use Rattle.std.specs.Prelude.{◌≤◌, ◌<◌, ◌↔◌, IsTrue, List, [], OnOk, true, false, if◌then◌else◌};
     ghost use Rattle.std.specs.Option.{option_map};
     ghost use Rattle.tree_specs.specs.declared.object.Obj.{Obj as ObjData};
-    ghost use Rattle.tree_specs.specs.Objects.{same};
-    ghost use Rattle.tree_specs.specs.Calls.{checked, over, fits as fitting, is_plain_row};
-    ghost use Rattle.tree_specs.specs.Sums.{sum_inside, limit_at};
+    ghost use Rattle.tree_specs.specs.Words.Objects.{same};
+    ghost use Rattle.tree_specs.specs.Calls.Refusals.{checked, over, fits as fitting, is_plain_row};
+    ghost use Rattle.tree_specs.specs.Tree.Sums.{sum_inside, limit_at};
     ghost use Rattle.tree_links.specs.Links.{IsTree, pool_of};
-    ghost use Rattle.tree_specs.specs.Forest.{IsForest};
+    ghost use Rattle.tree_specs.specs.Tree.Forest.{IsForest};
     ghost use Rattle.tree_specs.specs.declared.row.Row.{Row as RowData};
     ghost use Rattle.tree_specs.specs.declared.object.Owner.TheVariants.{Of as At};
-    ghost use Rattle.tree_specs.specs.Pool.{row_of, is_row, is_inside, without, changed, left_row, owned_row, sized_row};
+    ghost use Rattle.tree_specs.specs.Tree.Pool.{row_of, is_row, is_inside, without, changed, left_row, owned_row, sized_row};
     ghost use Rattle.memory_limits.specs.Limits.{AllSums, AllBound, SameBounds, HasLeft, AreLimitsOf, limit_of, limited_at, found, nearest_limited, unlimited};
 
     /// No limits. It takes no memory.
@@ -217,7 +217,7 @@ impl Sums {
 
     /// Whether so many more bytes fit below an owner: neither it nor one above it has a limit that they would exceed.
     /// The refusal names the nearest one that has no room, with the sum of what is inside it and its limit.
-    #[tactic(auto, unfolding(tree_specs::specs::Calls::fits))]
+    #[tactic(auto, unfolding(tree_specs::specs::Calls::Refusals::fits))]
     pub fn fits(&self, tree: &Tree, owner: Owner, wanted: u64) -> Result<(), Refusal>
         requires { AreLimitsOf self.now.limited tree.now.rows }
         ensures { result ≡ checked (fitting (pool_of tree.now) owner wanted) }

@@ -1,6 +1,6 @@
 ghost use Rattle.std.specs.Prelude.{◌≡◌, ◌<◌, [], IfOk};
-ghost use Rattle.tree_specs.specs.Calls.{size_limit};
-ghost use Rattle.tree_specs.specs.Pool.{is_row};
+ghost use Rattle.tree_specs.specs.Calls.Refusals.{size_limit};
+ghost use Rattle.tree_specs.specs.Tree.Pool.{is_row};
 
 use crate::Sums;
 use std::alloc::Global;

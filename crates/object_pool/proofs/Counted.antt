@@ -4,12 +4,12 @@ use Rattle.std.specs.Option.{option_map}
 use Rattle.tree_specs.specs.declared.object.Obj.{Obj}
 use Rattle.tree_specs.specs.declared.object.Owner.{Owner}
 use Rattle.tree_specs.specs.declared.row.Row.{Row}
-use Rattle.tree_specs.specs.Objects.{same}
-use Rattle.tree_specs.specs.Pool.{row_of, is_row, owner_in}
-use Rattle.tree_specs.specs.Inside.{total}
-use Rattle.tree_specs.specs.Sums.{charge, sum_inside, limit_in, limit_at}
-use Rattle.tree_specs.proofs.Numbered.{by_test}
-use Rattle.tree_specs.proofs.Attached.{SameOwners, SameWeights, weight-same}
+use Rattle.tree_specs.specs.Words.Objects.{same}
+use Rattle.tree_specs.specs.Tree.Pool.{row_of, is_row, owner_in}
+use Rattle.tree_specs.specs.Tree.Inside.{total}
+use Rattle.tree_specs.specs.Tree.Sums.{charge, sum_inside, limit_in, limit_at}
+use Rattle.tree_specs.proofs.Tree.Numbered.{by_test}
+use Rattle.tree_specs.proofs.Tree.Attached.{SameOwners, SameWeights, weight-same}
 use Rattle.memory_limits.specs.declared.limited.Limited.{Limited}
 use Rattle.memory_limits.specs.Limits.{limit_of, bound_of, SameBounds, AllBound, AllSums, AreLimitsOf}
 use Rattle.memory_limits.proofs.Kept.{same-sums}

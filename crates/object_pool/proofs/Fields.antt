@@ -3,14 +3,14 @@ use Rattle.std.proofs.Common.{◌≡◌, ◌≢◌, ℕ, ◌<◌, List, [], ◌�
 use Rattle.tree_specs.specs.declared.object.Obj.{Obj}
 use Rattle.tree_specs.specs.declared.object.Owner.TheVariants.{Of}
 use Rattle.tree_specs.specs.declared.row.Row.{Row}
-use Rattle.tree_specs.specs.Objects.{same}
-use Rattle.tree_specs.specs.Calls.{is_plain_row}
-use Rattle.tree_specs.specs.Pool.{row_of, is_row, owner_in, owner_of, changed, without, left_row, sized_row, limited_row}
-use Rattle.tree_specs.specs.Forest.{Distinct}
-use Rattle.tree_specs.specs.Sums.{charge, sum_inside, limit_in, limit_at, size_at}
-use Rattle.tree_specs.proofs.Numbered.{by_test, same-equal, same-false, same-true}
-use Rattle.tree_specs.proofs.Attached.{weight-same}
-use Rattle.tree_specs.proofs.SumLaws.{changed-weights, sum-gone}
+use Rattle.tree_specs.specs.Words.Objects.{same}
+use Rattle.tree_specs.specs.Calls.Refusals.{is_plain_row}
+use Rattle.tree_specs.specs.Tree.Pool.{row_of, is_row, owner_in, owner_of, changed, without, left_row, sized_row, limited_row}
+use Rattle.tree_specs.specs.Tree.Forest.{Distinct}
+use Rattle.tree_specs.specs.Tree.Sums.{charge, sum_inside, limit_in, limit_at, size_at}
+use Rattle.tree_specs.proofs.Tree.Numbered.{by_test, same-equal, same-false, same-true}
+use Rattle.tree_specs.proofs.Tree.Attached.{weight-same}
+use Rattle.tree_specs.proofs.Tree.SumLaws.{changed-weights, sum-gone}
 use Rattle.memory_limits.specs.declared.limited.Limited.{Limited}
 use Rattle.memory_limits.specs.Limits.{limit_of, unlimited, AllBound, AllSums, AreLimitsOf}
 use Rattle.memory_limits.proofs.Kept.{same-sums}

@@ -5,12 +5,12 @@ use Rattle.tree_specs.specs.declared.frame.FreeFrame.TheVariants.{Unlinking, Hoo
 use Rattle.tree_specs.specs.declared.object.Obj.{Obj}
 use Rattle.tree_specs.specs.declared.object.Owner.{Owner}
 use Rattle.tree_specs.specs.declared.row.Row.{Row}
-use Rattle.tree_specs.specs.Inside.{total}
-use Rattle.tree_specs.specs.Pool.{Pool, row_of, is_row, changed, place}
-use Rattle.tree_specs.specs.Sums.{charge}
-use Rattle.tree_specs.proofs.FallingFrees.{length-changed, length-placed}
-use Rattle.tree_specs.proofs.Rows.{total-placed}
-use Rattle.tree_specs.proofs.SumLaws.{changed-weights}
+use Rattle.tree_specs.specs.Tree.Inside.{total}
+use Rattle.tree_specs.specs.Tree.Pool.{Pool, row_of, is_row, changed, place}
+use Rattle.tree_specs.specs.Tree.Sums.{charge}
+use Rattle.tree_specs.proofs.Turns.FallingFrees.{length-changed, length-placed}
+use Rattle.tree_specs.proofs.Tree.Rows.{total-placed}
+use Rattle.tree_specs.proofs.Tree.SumLaws.{changed-weights}
 use Rattle.tree_links.specs.Links.{Links, pool_of, works_of}
 use Rattle.references.specs.Pairs.{Pairs}
 use Rattle.references.specs.Rows.{AreRefsOf}

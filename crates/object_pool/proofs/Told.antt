@@ -6,15 +6,15 @@ use Rattle.tree_specs.specs.declared.object.Obj.{Obj}
 use Rattle.tree_specs.specs.declared.object.Owner.{Owner}
 use Rattle.tree_specs.specs.declared.object.Owner.TheVariants.{Of}
 use Rattle.tree_specs.specs.declared.row.Row.{Row}
-use Rattle.tree_specs.specs.Objects.{same, same_owner}
-use Rattle.tree_specs.specs.Pool.{row_of, is_row, owner_in, owner_of, target_at, reaches, is_inside, changed, without, left_row, owned_row}
-use Rattle.tree_specs.specs.Forest.{Rooted, Distinct}
-use Rattle.tree_specs.specs.Sums.{charge, limit_in, limit_at}
-use Rattle.tree_specs.proofs.Numbered.{by_test, same_or_not, same-false, same-equal}
-use Rattle.tree_specs.proofs.Rows.{row_of-changed-other, row_of-changed-same, row_of-placed-same, row_of-placed-other, row_of-without-same, row_of-without-other, total-placed}
-use Rattle.tree_specs.proofs.Ancestry.{reaches-inside}
-use Rattle.tree_specs.proofs.Attached.{SameOwners, SameWeights, inside-same, weight-same}
-use Rattle.tree_specs.proofs.SumLaws.{changed-weights, owner-left, owner-other, apart}
+use Rattle.tree_specs.specs.Words.Objects.{same, same_owner}
+use Rattle.tree_specs.specs.Tree.Pool.{row_of, is_row, owner_in, owner_of, target_at, reaches, is_inside, changed, without, left_row, owned_row}
+use Rattle.tree_specs.specs.Tree.Forest.{Rooted, Distinct}
+use Rattle.tree_specs.specs.Tree.Sums.{charge, limit_in, limit_at}
+use Rattle.tree_specs.proofs.Tree.Numbered.{by_test, same_or_not, same-false, same-equal}
+use Rattle.tree_specs.proofs.Tree.Rows.{row_of-changed-other, row_of-changed-same, row_of-placed-same, row_of-placed-other, row_of-without-same, row_of-without-other, total-placed}
+use Rattle.tree_specs.proofs.Tree.Ancestry.{reaches-inside}
+use Rattle.tree_specs.proofs.Tree.Attached.{SameOwners, SameWeights, inside-same, weight-same}
+use Rattle.tree_specs.proofs.Tree.SumLaws.{changed-weights, owner-left, owner-other, apart}
 use Rattle.memory_limits.specs.declared.limited.Limited.{Limited}
 use Rattle.memory_limits.specs.Limits.{limit_of, unlimited, AllBound, AllSums, AreLimitsOf}
 use Rattle.memory_limits.proofs.Kept.{same-sums, limit-unlimited, bound-unlimited}

@@ -4,8 +4,8 @@ use Rattle.tree_specs.specs.declared.free_step.FreeStep.{FreeStep}
 use Rattle.tree_specs.specs.declared.object.Obj.{Obj}
 use Rattle.tree_specs.specs.declared.object.Owner.{Owner}
 use Rattle.tree_specs.specs.declared.row.Row.{Row}
-use Rattle.tree_specs.specs.Forest.{IsForest}
-use Rattle.tree_specs.specs.Pool.{owner_of}
+use Rattle.tree_specs.specs.Tree.Forest.{IsForest}
+use Rattle.tree_specs.specs.Tree.Pool.{owner_of}
 use Rattle.tree_links.specs.Links.{MayPlace}
 use Rattle.memory_limits.specs.declared.limited.Limited.{Limited}
 use Rattle.memory_limits.specs.Limits.{AreLimitsOf}

@@ -4,7 +4,7 @@ use Rattle.tree_specs.specs.declared.frame.FreeFrame.{FreeFrame}
 use Rattle.tree_specs.specs.declared.object.Obj.{Obj}
 use Rattle.tree_specs.specs.declared.object.Owner.{Owner}
 use Rattle.tree_specs.specs.declared.row.Row.{Row}
-use Rattle.tree_specs.specs.Pool.{Pool, target_at, is_owner}
+use Rattle.tree_specs.specs.Tree.Pool.{Pool, target_at, is_owner}
 use Rattle.tree_links.specs.Links.{Links, pool_of, MayPlace}
 use Rattle.references.specs.Pairs.{Pairs}
 use Rattle.memory_limits.specs.Limits.{Limits}

@@ -5,11 +5,11 @@ use Rattle.std.proofs.lemmas.Bool.{eq-eqb, ltb-true, ltb-false, lt-ltb, le-ltb}
 use Rattle.tree_specs.specs.declared.object.Obj.{Obj}
 use Rattle.tree_specs.specs.declared.object.Owner.{Owner}
 use Rattle.tree_specs.specs.declared.row.Row.{Row}
-use Rattle.tree_specs.specs.Targets.{target_of as target_in_kind, is_target, newer}
-use Rattle.tree_specs.specs.Pool.{row_of, is_below, target_in, kids, first_kid, next_kid, newest_ref_of}
-use Rattle.tree_specs.specs.Forest.{Distinct}
-use Rattle.tree_specs.proofs.Numbered.{by_test, same-true, same-equal}
-use Rattle.tree_specs.proofs.Kids.{first_kid-kids, next_kid-kids}
+use Rattle.tree_specs.specs.Tree.Targets.{target_of as target_in_kind, is_target, newer}
+use Rattle.tree_specs.specs.Tree.Pool.{row_of, is_below, target_in, kids, first_kid, next_kid, newest_ref_of}
+use Rattle.tree_specs.specs.Tree.Forest.{Distinct}
+use Rattle.tree_specs.proofs.Tree.Numbered.{by_test, same-true, same-equal}
+use Rattle.tree_specs.proofs.Tree.Kids.{first_kid-kids, next_kid-kids}
 use Rattle.references.specs.declared.refs.Pair.{Pair}
 use Rattle.references.specs.Pairs.{target_of}
 use Rattle.references.specs.Rows.{AreRefsOf}

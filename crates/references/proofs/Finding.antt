@@ -4,8 +4,8 @@ use Rattle.std.specs.Prelude.{not}
 use Rattle.std.specs.List.{filter}
 use Rattle.std.proofs.lemmas.Bool.{eqb-true}
 use Rattle.tree_specs.specs.declared.object.Obj.{Obj}
-use Rattle.tree_specs.specs.Objects.{same}
-use Rattle.tree_specs.proofs.Numbered.{by_test}
+use Rattle.tree_specs.specs.Words.Objects.{same}
+use Rattle.tree_specs.proofs.Tree.Numbered.{by_test}
 use Rattle.references.specs.declared.refs.Pair.{Pair}
 use Rattle.references.specs.Pairs.{IsAbove, Descends, ArePairs, target_of, without}
 

@@ -4,7 +4,7 @@ use Rattle.std.specs.Prelude.{nat_lt}
 use Rattle.std.specs.Option.{option_map}
 use Rattle.std.proofs.lemmas.Bool.{eqb-true, eq-eqb, ltb-true}
 use Rattle.tree_specs.specs.declared.object.Obj.{Obj}
-use Rattle.tree_specs.proofs.Numbered.{same-true}
+use Rattle.tree_specs.proofs.Tree.Numbered.{same-true}
 use Rattle.linked_lanes.specs.Lane.{first, after, has, without as lane_without, Distinct}
 use Rattle.linked_lanes.proofs.Lanes.{by_test, not_both, eqb-false, false_by, without-absent}
 use Rattle.references.specs.declared.refs.Pair.{Pair}

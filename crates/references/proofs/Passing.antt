@@ -4,8 +4,8 @@ use Rattle.std.specs.Prelude.{slice_get, ◌&&◌, if◌then◌else◌}
 use Rattle.std.specs.List.{find}
 use Rattle.std.specs.Option.{option_map}
 use Rattle.tree_specs.specs.declared.object.Obj.{Obj}
-use Rattle.tree_specs.specs.Objects.{same}
-use Rattle.tree_specs.proofs.Numbered.{by_test}
+use Rattle.tree_specs.specs.Words.Objects.{same}
+use Rattle.tree_specs.proofs.Tree.Numbered.{by_test}
 use Rattle.references.specs.declared.refs.Pair.{Pair}
 use Rattle.references.specs.Pairs.{Descends, refs_to, first_to, next_to, count_to}
 use Rattle.references.specs.Linked.{first_passing}

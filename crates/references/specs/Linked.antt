@@ -7,8 +7,8 @@ use Rattle.std.specs.FinMap as map
 use Rattle.tree_specs.specs.declared.object.Obj.{Obj}
 use Rattle.tree_specs.specs.declared.object.Owner.{Owner}
 use Rattle.tree_specs.specs.declared.row.Row.{Row}
-use Rattle.tree_specs.specs.Targets.{is_target, newer}
-use Rattle.tree_specs.specs.Pool.{kids, newest_ref_of}
+use Rattle.tree_specs.specs.Tree.Targets.{is_target, newer}
+use Rattle.tree_specs.specs.Tree.Pool.{kids, newest_ref_of}
 use Rattle.linked_lanes.specs.declared.Sides.{Sides}
 use Rattle.linked_lanes.specs.Chain.{Chain}
 use Rattle.references.specs.declared.refs.Pair.{Pair}

@@ -1,6 +1,6 @@
 ghost use Rattle.std.specs.Prelude.{◌≡◌};
 ghost use Rattle.std.specs.Option.{option_map};
-ghost use Rattle.tree_specs.specs.Targets.{newer as newer_of};
+ghost use Rattle.tree_specs.specs.Tree.Targets.{newer as newer_of};
 ghost use Rattle.references.specs.Linked.{numbered, with_ref};
 
 use crate::head::{Head, count, join, leave, newest};
@@ -69,10 +69,10 @@ impl Refs {
     ghost use Rattle.std.specs.List.{find, position};
     ghost use Rattle.std.specs.Option.{option_copied};
     ghost use Rattle.tree_specs.specs.declared.object.Obj.{Obj as ObjData};
-    ghost use Rattle.tree_specs.specs.Reports.{count_refs};
-    ghost use Rattle.tree_specs.specs.Targets.{newest_ref};
-    ghost use Rattle.tree_specs.specs.Pool.{newest_ref_of};
-    ghost use Rattle.tree_specs.specs.Forest.{Distinct};
+    ghost use Rattle.tree_specs.specs.Tree.Reports.{count_refs};
+    ghost use Rattle.tree_specs.specs.Tree.Targets.{newest_ref};
+    ghost use Rattle.tree_specs.specs.Tree.Pool.{newest_ref_of};
+    ghost use Rattle.tree_specs.specs.Tree.Forest.{Distinct};
     ghost use Rattle.references.specs.Rows.{AreRefsOf, RefersTo};
     ghost use Rattle.references.specs.Pairs.{pair, ArePairs, IsAbove, count_to, first_to, first_below, next_to, target_of, without, most};
 

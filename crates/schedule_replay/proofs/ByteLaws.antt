@@ -5,9 +5,9 @@ use Rattle.std.proofs.lemmas.Bool.{eqb-true}
 use Rattle.std.proofs.lemmas.Bool.Decides.{nat_tests}
 use Rattle.tree_specs.specs.declared.schedule.Reason.{Reason}
 use Rattle.tree_specs.specs.declared.schedule.Reason.TheVariants.{Limit, Form}
-use Rattle.tree_specs.specs.Written.{WritesFront}
-use Rattle.tree_specs.specs.Schedule.{Line, lines, lines_of_parts, is_over_limit, line_limit, lines_limit}
-use Rattle.tree_specs.specs.View.{View}
+use Rattle.tree_specs.specs.Texts.Written.{WritesFront}
+use Rattle.tree_specs.specs.Texts.Schedule.{Line, lines, lines_of_parts, is_over_limit, line_limit, lines_limit}
+use Rattle.tree_specs.specs.Machine.View.{View}
 use Rattle.host_core.specs.Promises.{Waits}
 use Rattle.schedule_replay.specs.declared.refusal.LineError.{LineError}
 use Rattle.schedule_replay.specs.declared.refusal.LineError.TheVariants as errors

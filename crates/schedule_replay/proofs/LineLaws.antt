@@ -3,7 +3,7 @@ use Rattle.std.proofs.Common.{◌≡◌, ℕ, zero, suc, ◌+◌, ◌<◌, Bool,
 use Rattle.std.specs.List.{slice_split, onto_first}
 use Rattle.std.proofs.lemmas.List.{append-nil}
 use Rattle.std.proofs.lemmas.Bool.{eqb-true}
-use Rattle.tree_specs.specs.Schedule.{Line, lines, lines_of_parts}
+use Rattle.tree_specs.specs.Texts.Schedule.{Line, lines, lines_of_parts}
 use Rattle.memchr.specs.Find.{IsFirstByte, is_byte}
 use Rattle.schedule_replay.specs.Cuts.{EndsAt, EndsFirst}
 use Rattle.schedule_replay.specs.Replays.{has_no_lf, is_plain, ended_line}

@@ -8,12 +8,12 @@ use Rattle.tree_specs.specs.declared.question.Ask.{Ask}
 use Rattle.tree_specs.specs.declared.question.Input.{Input}
 use Rattle.tree_specs.specs.declared.schedule.Reason.{Reason}
 use Rattle.tree_specs.specs.declared.schedule.Reason.TheVariants.{Limit, Form}
-use Rattle.tree_specs.specs.Items.{Item}
-use Rattle.tree_specs.specs.Items.Item.{Told, Asked}
-use Rattle.tree_specs.specs.Grammar.{input_of}
-use Rattle.tree_specs.specs.Text.{answered_text, end_text, item_text, body_text, header}
-use Rattle.tree_specs.specs.Schedule.{Line, Judged, line_input, judged_one, judged_from, open_question, is_over_limit, is_header, header_reason, schedule_header, fitting, misfit, ok_unless, line_limit, lines_limit}
-use Rattle.tree_specs.specs.View.{View, rest_of}
+use Rattle.tree_specs.specs.Rules.Items.{Item}
+use Rattle.tree_specs.specs.Rules.Items.Item.{Told, Asked}
+use Rattle.tree_specs.specs.Texts.Grammar.{input_of}
+use Rattle.tree_specs.specs.Texts.Text.{answered_text, end_text, item_text, body_text, header}
+use Rattle.tree_specs.specs.Texts.Schedule.{Line, Judged, line_input, judged_one, judged_from, open_question, is_over_limit, is_header, header_reason, schedule_header, fitting, misfit, ok_unless, line_limit, lines_limit}
+use Rattle.tree_specs.specs.Machine.View.{View, rest_of}
 use Rattle.host_core.specs.Promises.{Waits, TakesAnswer}
 use Rattle.schedule_replay.specs.Replays.{with_front, replayed_lines, replayed_all, replayed_from, refused_at_once, ended_line, BeginsText}
 use Rattle.schedule_replay.specs.Tellings.{event_texts}

@@ -7,7 +7,7 @@ use Rattle.std.proofs.lemmas.List.{append-nil, take-append-drop}
 use Rattle.std.proofs.lemmas.Bool.{eqb-true}
 use Rattle.std.proofs.lemmas.Bool.Decides.{nat_tests}
 use Rattle.tree_specs.specs.declared.schedule.Reason.TheVariants.{Form}
-use Rattle.tree_specs.specs.Text.{end_text}
+use Rattle.tree_specs.specs.Texts.Text.{end_text}
 use Rattle.schedule_replay.specs.declared.refusal.LineError.{LineError}
 use Rattle.schedule_replay.specs.declared.refusal.LineError.TheVariants as line_errors
 use Rattle.outside.specs.declared.output.PutError.{PutError}

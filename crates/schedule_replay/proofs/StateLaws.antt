@@ -6,11 +6,11 @@ use Rattle.tree_specs.specs.declared.question.Ask.{Ask}
 use Rattle.tree_specs.specs.declared.question.Input.{Input}
 use Rattle.tree_specs.specs.declared.schedule.Reason.{Reason}
 use Rattle.tree_specs.specs.declared.schedule.Reason.TheVariants.{Form, NotAsked}
-use Rattle.tree_specs.specs.Items.{Item}
-use Rattle.tree_specs.specs.Items.Item.{Asked}
-use Rattle.tree_specs.specs.Grammar.{input_of}
-use Rattle.tree_specs.specs.Written.{IsFront}
-use Rattle.tree_specs.specs.Text.{answered_text, end_text, header}
+use Rattle.tree_specs.specs.Rules.Items.{Item}
+use Rattle.tree_specs.specs.Rules.Items.Item.{Asked}
+use Rattle.tree_specs.specs.Texts.Grammar.{input_of}
+use Rattle.tree_specs.specs.Texts.Written.{IsFront}
+use Rattle.tree_specs.specs.Texts.Text.{answered_text, end_text, header}
 use Rattle.std.specs.Str.{bytes_eq}
 use Rattle.std.specs.Prelude.{not, is_err}
 use Rattle.text_forms.specs.declared.form.FormFault.{FormFault}
@@ -18,9 +18,9 @@ use Rattle.text_forms.specs.declared.form.FormFault.TheVariants.{NoForm, Memory 
 use Rattle.text_forms.specs.Reads.{Reads}
 use Rattle.tree_specs.specs.declared.schedule.Mode.{Mode}
 use Rattle.tree_specs.specs.declared.schedule.Mode.TheVariants.{Pool}
-use Rattle.tree_specs.proofs.Numbered.{by_test}
-use Rattle.tree_specs.specs.Schedule.{Line, schedule_header, mode_of, line_input, is_header, misfit, line_limit, lines_limit}
-use Rattle.tree_specs.specs.View.{View, rest_of, question_of}
+use Rattle.tree_specs.proofs.Tree.Numbered.{by_test}
+use Rattle.tree_specs.specs.Texts.Schedule.{Line, schedule_header, mode_of, line_input, is_header, misfit, line_limit, lines_limit}
+use Rattle.tree_specs.specs.Machine.View.{View, rest_of, question_of}
 use Rattle.host_core.specs.Promises.{Waits, TakesAnswer}
 use Rattle.schedule_replay.specs.declared.refusal.LineError.{LineError}
 use Rattle.schedule_replay.specs.declared.refusal.LineError.TheVariants as errors

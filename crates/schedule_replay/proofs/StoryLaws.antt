@@ -5,9 +5,9 @@ use Rattle.tree_specs.specs.declared.question.Ask.{Ask}
 use Rattle.tree_specs.specs.declared.question.Input.{Input}
 use Rattle.tree_specs.specs.declared.schedule.Reason.{Reason}
 use Rattle.tree_specs.specs.declared.schedule.Reason.TheVariants.{Form}
-use Rattle.tree_specs.specs.Story.{story, items}
-use Rattle.tree_specs.specs.Schedule.{Line, lines, judged_lines, judge, inputs_of, transcript_of, open_question, is_header, has_header, header_reason}
-use Rattle.tree_specs.proofs.StoryOrder.{story-orderly, story-grounded}
+use Rattle.tree_specs.specs.Rules.Story.{story, items}
+use Rattle.tree_specs.specs.Texts.Schedule.{Line, lines, judged_lines, judge, inputs_of, transcript_of, open_question, is_header, has_header, header_reason}
+use Rattle.tree_specs.proofs.Promises.StoryOrder.{story-orderly, story-grounded}
 use Rattle.schedule_replay.specs.declared.ran.Ran.{Ran}
 use Rattle.schedule_replay.specs.declared.ran.Ran.TheVariants as rans
 use Rattle.schedule_replay.specs.Runs.{WritesText, IsDone, IsBad, Replays}

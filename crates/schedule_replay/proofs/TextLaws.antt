@@ -5,12 +5,12 @@ use Rattle.std.proofs.lemmas.List.{append-nil}
 use Rattle.tree_specs.specs.declared.event.Event.{Event}
 use Rattle.tree_specs.specs.declared.question.Ask.{Ask}
 use Rattle.tree_specs.specs.declared.question.Input.{Input}
-use Rattle.tree_specs.specs.Items.{Item}
-use Rattle.tree_specs.specs.Items.Item.{Told, Asked}
-use Rattle.tree_specs.specs.Written.{WritesFront, IsFront}
-use Rattle.tree_specs.specs.Text.{event_text, answered_text, item_text, end_text, body_text}
-use Rattle.tree_specs.specs.Schedule.{open_question}
-use Rattle.tree_specs.specs.View.{View, rest_of}
+use Rattle.tree_specs.specs.Rules.Items.{Item}
+use Rattle.tree_specs.specs.Rules.Items.Item.{Told, Asked}
+use Rattle.tree_specs.specs.Texts.Written.{WritesFront, IsFront}
+use Rattle.tree_specs.specs.Texts.Text.{event_text, answered_text, item_text, end_text, body_text}
+use Rattle.tree_specs.specs.Texts.Schedule.{open_question}
+use Rattle.tree_specs.specs.Machine.View.{View, rest_of}
 use Rattle.host_core.specs.Promises.{Waits}
 use Rattle.schedule_replay.specs.Replays.{BeginsText}
 use Rattle.schedule_replay.specs.Tellings.{event_texts, TellsAll, TellsFront}

@@ -5,13 +5,13 @@ use Rattle.step_machine.specs.Open.{LastIs}
 use Rattle.tree_specs.specs.declared.schedule.Reason.{Reason}
 use Rattle.tree_specs.specs.declared.question.Ask.{Ask}
 use Rattle.tree_specs.specs.declared.question.Input.{Input}
-use Rattle.tree_specs.specs.Items.{Item, IsQuestion}
-use Rattle.tree_specs.specs.Items.Item.{Told, Asked}
-use Rattle.tree_specs.specs.Story.{story, items}
-use Rattle.tree_specs.specs.Text.{transcript, header, item_text, body_text, end_text}
-use Rattle.tree_specs.specs.Schedule.{Line, lines, judged_lines, judged_from, judge, inputs_of, transcript_of, open_question, is_header, has_header, header_reason}
-use Rattle.tree_specs.specs.View.{begin, rest_of}
-use Rattle.tree_specs.proofs.StoryLaws.{story-items, story-asks}
+use Rattle.tree_specs.specs.Rules.Items.{Item, IsQuestion}
+use Rattle.tree_specs.specs.Rules.Items.Item.{Told, Asked}
+use Rattle.tree_specs.specs.Rules.Story.{story, items}
+use Rattle.tree_specs.specs.Texts.Text.{transcript, header, item_text, body_text, end_text}
+use Rattle.tree_specs.specs.Texts.Schedule.{Line, lines, judged_lines, judged_from, judge, inputs_of, transcript_of, open_question, is_header, has_header, header_reason}
+use Rattle.tree_specs.specs.Machine.View.{begin, rest_of}
+use Rattle.tree_specs.proofs.Rules.StoryLaws.{story-items, story-asks}
 use Rattle.schedule_replay.specs.Replays.{Replayed, with_front, replayed, replayed_all, replayed_lines, refused_at_once, BeginsText}
 use Rattle.schedule_replay.specs.Runs.{WritesText, IsDone, IsBad, IsFrontOf}
 

@@ -2,10 +2,10 @@
 use Rattle.std.specs.Prelude.{◌≡◌, ℕ, suc, ◌+◌, ◌-◌, ◌*◌, ◌^◌, ◌<◌, ◌≤◌, true, List, [], ◌++◌, length, Option, Some, None, Result, Ok, Err, if◌then◌else◌, ◌==◌, ◌∷◌}
 use Rattle.tree_specs.specs.declared.schedule.Reason.{Reason}
 use Rattle.tree_specs.specs.declared.question.Ask.{Ask}
-use Rattle.tree_specs.specs.Written.{WritesFront}
-use Rattle.tree_specs.specs.Text.{end_text}
-use Rattle.tree_specs.specs.Schedule.{Line, lines, line_limit, lines_limit}
-use Rattle.tree_specs.specs.View.{View, begin, question_of}
+use Rattle.tree_specs.specs.Texts.Written.{WritesFront}
+use Rattle.tree_specs.specs.Texts.Text.{end_text}
+use Rattle.tree_specs.specs.Texts.Schedule.{Line, lines, line_limit, lines_limit}
+use Rattle.tree_specs.specs.Machine.View.{View, begin, question_of}
 use Rattle.host_core.specs.Promises.{Waits}
 use Rattle.schedule_replay.specs.declared.refusal.LineError.{LineError}
 use Rattle.schedule_replay.specs.declared.refusal.LineError.TheVariants as errors

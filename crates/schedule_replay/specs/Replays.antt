@@ -4,9 +4,9 @@ use Rattle.std.specs.List.{list_all}
 use Rattle.std.specs.Option.{option_map}
 use Rattle.tree_specs.specs.declared.schedule.Reason.{Reason}
 use Rattle.tree_specs.specs.declared.schedule.Reason.TheVariants.{Form}
-use Rattle.tree_specs.specs.Text.{header, body_text}
-use Rattle.tree_specs.specs.Schedule.{Line, Judged, lines, judged_from, open_question, is_header, header_reason}
-use Rattle.tree_specs.specs.View.{View, begin, rest_of}
+use Rattle.tree_specs.specs.Texts.Text.{header, body_text}
+use Rattle.tree_specs.specs.Texts.Schedule.{Line, Judged, lines, judged_from, open_question, is_header, header_reason}
+use Rattle.tree_specs.specs.Machine.View.{View, begin, rest_of}
 
 -- the text that is written, and the first line that is refused, with the reason
 pub record Replayed : Type 0 where

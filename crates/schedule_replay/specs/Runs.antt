@@ -3,8 +3,8 @@ use Rattle.std.specs.Prelude.{◌≡◌, ℕ, true, List, [], ◌∷◌, ◌++�
 use Rattle.std.specs.Io.KnownBytes.{Appends, Consumes, IsAtEnd}
 use Rattle.tree_specs.specs.declared.question.Ask.{Ask}
 use Rattle.tree_specs.specs.declared.schedule.Reason.{Reason}
-use Rattle.tree_specs.specs.Text.{end_text}
-use Rattle.tree_specs.specs.Schedule.{judge, transcript_of}
+use Rattle.tree_specs.specs.Texts.Text.{end_text}
+use Rattle.tree_specs.specs.Texts.Schedule.{judge, transcript_of}
 use Rattle.schedule_replay.specs.declared.ran.Ran.{Ran}
 use Rattle.schedule_replay.specs.declared.ran.Ran.TheVariants as rans
 use Rattle.schedule_replay.specs.declared.ran.ReplayError.{ReplayError}

@@ -1,11 +1,11 @@
 -- The one story whose text a replay writes.
 use Rattle.std.specs.Prelude.{◌≡◌, ℕ, List, Option}
-use Rattle.tree_specs.specs.Works.{Scene}
-use Rattle.tree_specs.specs.Story.{story, items}
-use Rattle.tree_specs.specs.Text.{transcript}
-use Rattle.tree_specs.specs.Schedule.{inputs_of}
-use Rattle.tree_specs.specs.Orderly.{Orderly}
-use Rattle.tree_specs.specs.Grounded.{Grounded}
+use Rattle.tree_specs.specs.Rules.Sequence.{Scene}
+use Rattle.tree_specs.specs.Rules.Story.{story, items}
+use Rattle.tree_specs.specs.Texts.Text.{transcript}
+use Rattle.tree_specs.specs.Texts.Schedule.{inputs_of}
+use Rattle.tree_specs.specs.Promises.Orderly.{Orderly}
+use Rattle.tree_specs.specs.Promises.Grounded.{Grounded}
 use Rattle.schedule_replay.specs.Runs.{WritesText}
 
 -- What was written is the text of one story, that over the schedule's inputs, and this story is orderly and grounded.

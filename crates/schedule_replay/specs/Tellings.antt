@@ -4,9 +4,9 @@ use Rattle.std.specs.List.{flat_map}
 use Rattle.tree_specs.specs.declared.event.Event.{Event}
 use Rattle.tree_specs.specs.declared.memory.Memory.{Memory}
 use Rattle.tree_specs.specs.declared.question.Input.{Input}
-use Rattle.tree_specs.specs.Items.Item.{Told}
-use Rattle.tree_specs.specs.Text.{event_text, body_text}
-use Rattle.tree_specs.specs.View.{View, rest_of}
+use Rattle.tree_specs.specs.Rules.Items.Item.{Told}
+use Rattle.tree_specs.specs.Texts.Text.{event_text, body_text}
+use Rattle.tree_specs.specs.Machine.View.{View, rest_of}
 use Rattle.host_core.specs.Promises.{Waits}
 use Rattle.schedule_replay.specs.Replays.{BeginsText}
 

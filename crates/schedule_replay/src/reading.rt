@@ -1,11 +1,11 @@
 //! Reading a schedule, piece by piece.
 ghost use Rattle.std.specs.Prelude.{◌≡◌, ◌≢◌, ◌<◌, ◌≤◌, ◌+◌, ◌-◌, ◌*◌, [], ◌∷◌, ◌++◌, IfOk, OnOk, OnErr, IsTrue, ◌↔◌, Some, length};
-ghost use Rattle.tree_specs.specs.Schedule.{lines_limit};
-ghost use Rattle.tree_specs.specs.Written.{Writes};
-ghost use Rattle.tree_specs.specs.Text.{answered_text};
-ghost use Rattle.tree_specs.specs.View.{question_of};
-ghost use Rattle.tree_specs.specs.Soundness.{is_sound};
-ghost use Rattle.tree_specs.specs.Grammar.{input_of};
+ghost use Rattle.tree_specs.specs.Texts.Schedule.{lines_limit};
+ghost use Rattle.tree_specs.specs.Texts.Written.{Writes};
+ghost use Rattle.tree_specs.specs.Texts.Text.{answered_text};
+ghost use Rattle.tree_specs.specs.Machine.View.{question_of};
+ghost use Rattle.tree_specs.specs.Words.Ranges.{is_sound};
+ghost use Rattle.tree_specs.specs.Texts.Grammar.{input_of};
 ghost use Rattle.schedule_replay.specs.Questions.{answered_of};
 ghost use Rattle.schedule_replay.specs.Cuts.{EndsFirst};
 ghost use Rattle.host_core.specs.Promises.{Waits};

@@ -1,6 +1,6 @@
 //! Replaying what a source gives into what a sink takes.
 ghost use Rattle.std.specs.Prelude.{◌≡◌, ◌≢◌, ℕ, ◌≤◌, ◌+◌, ◌⊎◌, [], None, Err, IfSome, OnOk, length};
-ghost use Rattle.tree_specs.specs.Schedule.{judge};
+ghost use Rattle.tree_specs.specs.Texts.Schedule.{judge};
 ghost use Rattle.outside.specs.Causes.{Rose, Counts};
 ghost use Rattle.outside.specs.Outputs.{PutsAll};
 ghost use Rattle.schedule_replay.specs.Readings.{IsReady, room_left, fresh};

@@ -1,6 +1,6 @@
 //! Telling the events of a host.
-ghost use Rattle.tree_specs.specs.Text.{event_text};
-ghost use Rattle.tree_specs.specs.Written.{Writes};
+ghost use Rattle.tree_specs.specs.Texts.Text.{event_text};
+ghost use Rattle.tree_specs.specs.Texts.Written.{Writes};
 ghost use Rattle.schedule_replay.specs.Tellings.{Tells};
 
 use host_core::Host;

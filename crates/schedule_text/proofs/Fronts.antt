@@ -3,7 +3,7 @@ use Rattle.std.proofs.Common.{◌≡◌, ◌≢◌, ℕ, Bool, true, false, eqb,
 use Rattle.std.specs.Option.{option_map, MatchOption}
 use Rattle.std.proofs.lemmas.Bool.{eqb-true}
 use Rattle.std.proofs.lemmas.Bool.Decides.{Decides-eqb}
-use Rattle.tree_specs.specs.Grammar.{◌>>=◌, ◌or◌, strip}
+use Rattle.tree_specs.specs.Texts.Grammar.{◌>>=◌, ◌or◌, strip}
 
 strip-front : (front rest : List ℕ) → strip front (front ++ rest) ≡ Some rest
 strip-front [] rest = refl

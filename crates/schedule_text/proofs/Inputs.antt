@@ -7,9 +7,9 @@ use Rattle.std.proofs.lemmas.List.{append_cancel_right}
 use Rattle.tree_specs.specs.declared.question.Act.TheVariants as acts
 use Rattle.tree_specs.specs.declared.question.Input.{Input}
 use Rattle.tree_specs.specs.declared.question.Input.TheVariants as inputs
-use Rattle.tree_specs.specs.Grammar.{◌>>=◌, strip, call_of, number32_of, input_of}
-use Rattle.tree_specs.specs.Soundness.{is_return, is_sound_call, is_sound}
-use Rattle.tree_specs.specs.Text.{call_text, input_text, newline}
+use Rattle.tree_specs.specs.Texts.Grammar.{◌>>=◌, strip, call_of, number32_of, input_of}
+use Rattle.tree_specs.specs.Words.Ranges.{is_return, is_sound_call, is_sound}
+use Rattle.tree_specs.specs.Texts.Text.{call_text, input_text, newline}
 use Rattle.text_forms.specs.declared.form.FormFault.{FormFault}
 use Rattle.text_forms.specs.declared.form.FormFault.TheVariants.{NoForm, Memory}
 use Rattle.text_forms.specs.Reads.{Reads}

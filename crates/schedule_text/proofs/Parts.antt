@@ -4,7 +4,7 @@ use Rattle.hex.specs.Hex.{encode_lower}
 use Rattle.tree_specs.specs.declared.question.Ask.TheVariants as asks
 use Rattle.tree_specs.specs.declared.reply.Reply.TheVariants as replies
 use Rattle.tree_specs.specs.declared.report.ReportRow.{ReportRow}
-use Rattle.tree_specs.specs.Text.{ask_text, reply_text, numbers_text, rows_text, newline}
+use Rattle.tree_specs.specs.Texts.Text.{ask_text, reply_text, numbers_text, rows_text, newline}
 
 -- the line that tells how many rows there are
 abbrev pub rows_line : List ReportRow → List ℕ

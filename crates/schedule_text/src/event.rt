@@ -1,7 +1,7 @@
 ghost use Rattle.std.specs.Prelude.{◌++◌, ◌∷◌, [], codes};
 ghost use Rattle.tree_specs.specs.declared.event.Event.TheVariants as events;
-ghost use Rattle.tree_specs.specs.Text.{event_text};
-ghost use Rattle.tree_specs.specs.Written.{Writes};
+ghost use Rattle.tree_specs.specs.Texts.Text.{event_text};
+ghost use Rattle.tree_specs.specs.Texts.Written.{Writes};
 
 use crate::moment::what_word;
 use crate::reply::write_reply;
@@ -9,7 +9,7 @@ use text_forms::write_numbers;
 use tree_specs::{Event, Memory, Obj, What};
 
 // A routine begins to run.
-#[tactic(auto, unfolding(tree_specs::specs::Text::event_text))]
+#[tactic(auto, unfolding(tree_specs::specs::Texts::Text::event_text))]
 fn write_fired(what: What, object: Obj, routine: u32, out: &mut Vec<u8>) -> Result<(), Memory>
     ensures { Writes out.old.items out.new.items result (event_text (events.Fired what object routine)) }
 {
@@ -19,7 +19,7 @@ fn write_fired(what: What, object: Obj, routine: u32, out: &mut Vec<u8>) -> Resu
 
 /// Appends an event as its line, with its LF; a report is the lines of its rows and then that of the
 /// reply. Where memory is wanted, a front of it was appended.
-#[tactic(auto, unfolding(tree_specs::specs::Text::event_text))]
+#[tactic(auto, unfolding(tree_specs::specs::Texts::Text::event_text))]
 pub fn write_event(event: &Event, out: &mut Vec<u8>) -> Result<(), Memory>
     ensures { Writes out.old.items out.new.items result (event_text event.now) }
 {

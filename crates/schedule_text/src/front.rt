@@ -1,6 +1,6 @@
 ghost use Rattle.std.specs.Prelude.{◌≡◌};
 ghost use Rattle.std.specs.Option.{option_map};
-ghost use Rattle.tree_specs.specs.Grammar.{strip};
+ghost use Rattle.tree_specs.specs.Texts.Grammar.{strip};
 
 // What follows this front, by which a line tells its kind.
 pub(crate) fn after_front<'a>(line: &'a [u8], front: &[u8]) -> Option<&'a [u8]>

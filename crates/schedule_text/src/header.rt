@@ -1,5 +1,5 @@
 ghost use Rattle.std.specs.Prelude.{◌≢◌, Err};
-ghost use Rattle.tree_specs.specs.Schedule.{mode_of};
+ghost use Rattle.tree_specs.specs.Texts.Schedule.{mode_of};
 ghost use Rattle.text_forms.specs.Reads.{Reads};
 
 use text_forms::FormFault;
@@ -8,7 +8,7 @@ use tree_specs::Mode;
 /// What the first line of a schedule says of the lines that follow, the line without its LF. Only the
 /// pool's header is taken as yet, which is `tv schedule 1 pool`: NoForm exactly where the line is
 /// another one. It takes no memory, so the fault is never Memory.
-#[tactic(auto, unfolding(tree_specs::specs::Schedule::mode_of))]
+#[tactic(auto, unfolding(tree_specs::specs::Texts::Schedule::mode_of))]
 pub fn read_header(line: &[u8]) -> Result<Mode, FormFault>
     ensures value { Reads result (mode_of line.now) }
     ensures no_memory { result ≢ Err FormFault.Memory }

@@ -1,8 +1,8 @@
 ghost use Rattle.std.specs.Prelude.{◌≡◌, ◌≢◌, ◌++◌, IfOk, IsTrue, Err};
 ghost use Rattle.tree_specs.specs.declared.question.Input.{Input as InputData};
-ghost use Rattle.tree_specs.specs.Grammar.{input_of};
-ghost use Rattle.tree_specs.specs.Soundness.{is_sound};
-ghost use Rattle.tree_specs.specs.Text.{input_text, newline};
+ghost use Rattle.tree_specs.specs.Texts.Grammar.{input_of};
+ghost use Rattle.tree_specs.specs.Words.Ranges.{is_sound};
+ghost use Rattle.tree_specs.specs.Texts.Text.{input_text, newline};
 ghost use Rattle.text_forms.specs.Reads.{Reads};
 
 use crate::front::after_front;
@@ -11,7 +11,7 @@ use text_forms::{FormFault, read_call, read_u32};
 use tree_specs::{Act, Input};
 
 // The input that the line spells, as the grammar defines it: its front decides how the rest is read.
-#[tactic(auto, unfolding(tree_specs::specs::Grammar::input_of))]
+#[tactic(auto, unfolding(tree_specs::specs::Texts::Grammar::input_of))]
 fn input_value(alloc: Global, line: &[u8]) -> Result<Input, FormFault>
     ensures { Reads result (input_of line.now) }
 {

@@ -1,7 +1,7 @@
 ghost use Rattle.std.specs.Prelude.{◌++◌, IsTrue};
-ghost use Rattle.tree_specs.specs.Soundness.{is_sound, is_sound_call};
-ghost use Rattle.tree_specs.specs.Text.{call_text, input_text, newline};
-ghost use Rattle.tree_specs.specs.Written.{Writes};
+ghost use Rattle.tree_specs.specs.Words.Ranges.{is_sound, is_sound_call};
+ghost use Rattle.tree_specs.specs.Texts.Text.{call_text, input_text, newline};
+ghost use Rattle.tree_specs.specs.Texts.Written.{Writes};
 
 use text_forms::{write_call, write_numbers};
 use tree_specs::{Act, Call, Input, Memory};
@@ -18,7 +18,7 @@ fn write_call_line(front: &[u8], call: &Call, out: &mut Vec<u8>) -> Result<(), M
 }
 
 /// Appends the one line of an input, with its LF. Where memory is wanted, a front of it was appended.
-#[tactic(auto, unfolding(tree_specs::specs::Text::input_text))]
+#[tactic(auto, unfolding(tree_specs::specs::Texts::Text::input_text))]
 pub fn write_input(input: &Input, out: &mut Vec<u8>) -> Result<(), Memory>
     // Each number is in the range of its field.
     requires { IsTrue (is_sound input.now) }

@@ -1,5 +1,5 @@
 ghost use Rattle.hex.specs.Hex.{encode_lower};
-ghost use Rattle.tree_specs.specs.Written.{Writes};
+ghost use Rattle.tree_specs.specs.Texts.Written.{Writes};
 
 use tree_specs::{Memory, Octets};
 

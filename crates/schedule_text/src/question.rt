@@ -1,7 +1,7 @@
 ghost use Rattle.std.specs.Prelude.{◌++◌};
 ghost use Rattle.tree_specs.specs.declared.question.Ask.TheVariants as asks;
-ghost use Rattle.tree_specs.specs.Text.{ask_text, answered_text, end_text, newline};
-ghost use Rattle.tree_specs.specs.Written.{Writes};
+ghost use Rattle.tree_specs.specs.Texts.Text.{ask_text, answered_text, end_text, newline};
+ghost use Rattle.tree_specs.specs.Texts.Written.{Writes};
 
 use crate::moment::write_moment;
 use crate::octets::write_octets;
@@ -9,7 +9,7 @@ use text_forms::{write_numbers, write_pieces};
 use tree_specs::{Ask, Memory, Octets};
 
 // Appends the question of how many of these bytes a descriptor takes.
-#[tactic(auto, unfolding(tree_specs::specs::Text::ask_text))]
+#[tactic(auto, unfolding(tree_specs::specs::Texts::Text::ask_text))]
 fn write_ask_of_write(descriptor: u32, bytes: &Octets, out: &mut Vec<u8>) -> Result<(), Memory>
     ensures { Writes out.old.items out.new.items result (ask_text (asks.Write descriptor bytes.now)) }
 {
@@ -18,7 +18,7 @@ fn write_ask_of_write(descriptor: u32, bytes: &Octets, out: &mut Vec<u8>) -> Res
 }
 
 /// Appends the text of a question, with no LF. Where memory is wanted, a front of it was appended.
-#[tactic(auto, unfolding(tree_specs::specs::Text::ask_text))]
+#[tactic(auto, unfolding(tree_specs::specs::Texts::Text::ask_text))]
 pub fn write_ask(ask: &Ask, out: &mut Vec<u8>) -> Result<(), Memory>
     ensures { Writes out.old.items out.new.items result (ask_text ask.now) }
 {
@@ -52,7 +52,7 @@ fn write_line(front: &[u8], ask: &Ask, out: &mut Vec<u8>) -> Result<(), Memory>
 
 /// Appends the line of a question that was answered, with its LF; Quiet has none. Where memory is
 /// wanted, a front of it was appended.
-#[tactic(auto, unfolding(tree_specs::specs::Text::answered_text))]
+#[tactic(auto, unfolding(tree_specs::specs::Texts::Text::answered_text))]
 pub fn write_answered(ask: &Ask, out: &mut Vec<u8>) -> Result<(), Memory>
     ensures { Writes out.old.items out.new.items result (answered_text ask.now) }
 {
@@ -69,7 +69,7 @@ pub fn write_answered(ask: &Ask, out: &mut Vec<u8>) -> Result<(), Memory>
 
 /// Appends the line of the question that is open at the end, with its LF. Where memory is wanted, a
 /// front of it was appended.
-#[tactic(auto, unfolding(tree_specs::specs::Text::end_text))]
+#[tactic(auto, unfolding(tree_specs::specs::Texts::Text::end_text))]
 pub fn write_end(ask: &Ask, out: &mut Vec<u8>) -> Result<(), Memory>
     ensures { Writes out.old.items out.new.items result (end_text ask.now) }
 {

@@ -1,6 +1,6 @@
 ghost use Rattle.std.specs.Prelude.{◌++◌, codes};
-ghost use Rattle.tree_specs.specs.Text.{newline, numbers_text, refusal_numbers};
-ghost use Rattle.tree_specs.specs.Written.{Writes};
+ghost use Rattle.tree_specs.specs.Texts.Text.{newline, numbers_text, refusal_numbers};
+ghost use Rattle.tree_specs.specs.Texts.Written.{Writes};
 
 use text_forms::write_numbers;
 use tree_specs::{Memory, Refusal};
@@ -13,7 +13,7 @@ fn write_no(numbers: &[u64], out: &mut Vec<u8>) -> Result<(), Memory>
 }
 
 // Appends the line of a refusal: its number, and what it carries.
-#[tactic(auto, unfolding(tree_specs::specs::Text::refusal_numbers))]
+#[tactic(auto, unfolding(tree_specs::specs::Texts::Text::refusal_numbers))]
 pub(crate) fn write_refusal(why: Refusal, out: &mut Vec<u8>) -> Result<(), Memory>
     ensures { Writes out.old.items out.new.items result (codes "reply no" ++ numbers_text (refusal_numbers why) ++ newline) }
 {

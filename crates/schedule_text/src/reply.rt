@@ -1,6 +1,6 @@
 ghost use Rattle.tree_specs.specs.declared.reply.Reply.TheVariants as replies;
-ghost use Rattle.tree_specs.specs.Text.{reply_text};
-ghost use Rattle.tree_specs.specs.Written.{Writes};
+ghost use Rattle.tree_specs.specs.Texts.Text.{reply_text};
+ghost use Rattle.tree_specs.specs.Texts.Written.{Writes};
 
 use crate::octets::write_octets;
 use crate::refusal::write_refusal;
@@ -17,7 +17,7 @@ fn write_report(report: &ReportRows, out: &mut Vec<u8>) -> Result<(), Memory>
 }
 
 // Appends the line with the bytes that were read.
-#[tactic(auto, unfolding(tree_specs::specs::Text::reply_text))]
+#[tactic(auto, unfolding(tree_specs::specs::Texts::Text::reply_text))]
 fn write_got(bytes: &Octets, out: &mut Vec<u8>) -> Result<(), Memory>
     ensures { Writes out.old.items out.new.items result (reply_text (replies.Bytes bytes.now)) }
 {
@@ -28,7 +28,7 @@ fn write_got(bytes: &Octets, out: &mut Vec<u8>) -> Result<(), Memory>
 }
 
 // Appends a reply as its line, with its LF.
-#[tactic(auto, unfolding(tree_specs::specs::Text::reply_text))]
+#[tactic(auto, unfolding(tree_specs::specs::Texts::Text::reply_text))]
 pub(crate) fn write_reply(reply: &Reply, out: &mut Vec<u8>) -> Result<(), Memory>
     ensures { Writes out.old.items out.new.items result (reply_text reply.now) }
 {

@@ -8,16 +8,16 @@ use Rattle.tree_specs.specs.declared.call.Call.{Call}
 use Rattle.tree_specs.specs.declared.call.Call.TheVariants.{Free}
 use Rattle.tree_specs.specs.declared.object.Obj.{Obj}
 use Rattle.tree_specs.specs.declared.object.Owner.{Owner}
-use Rattle.tree_specs.specs.Grammar.{◌>>=◌, words, read, form_in, call_of_words, call_of}
-use Rattle.tree_specs.specs.Soundness.{is_sound_field, all_sound, is_sound_call}
-use Rattle.tree_specs.specs.Text.{call_text}
+use Rattle.tree_specs.specs.Texts.Grammar.{◌>>=◌, words, read, form_in, call_of_words, call_of}
+use Rattle.tree_specs.specs.Words.Ranges.{is_sound_field, all_sound, is_sound_call}
+use Rattle.tree_specs.specs.Texts.Text.{call_text}
 use Rattle.text_forms.specs.declared.form.FormFault.{FormFault}
 use Rattle.text_forms.specs.declared.form.FormFault.TheVariants.{NoForm, Memory}
 use Rattle.text_forms.specs.Reads.{Reads}
-use Rattle.tree_specs.specs.Spelling.{Field, Spelling, ◌with◌, spelling, Reading, Form, forms}
-use Rattle.tree_specs.specs.Spelling.Field.{AnOwner, AnObject, ANumber, ARoutine, AName}
-use Rattle.tree_specs.specs.Spelling.Reading.{Whole, TakesOwner, TakesObject, TakesNumber, TakesRoutine, EndsInName}
-use Rattle.tree_specs.specs.Text.{field_text}
+use Rattle.tree_specs.specs.Calls.Spelling.{Field, Spelling, ◌with◌, spelling, Reading, Form, forms}
+use Rattle.tree_specs.specs.Calls.Spelling.Field.{AnOwner, AnObject, ANumber, ARoutine, AName}
+use Rattle.tree_specs.specs.Calls.Spelling.Reading.{Whole, TakesOwner, TakesObject, TakesNumber, TakesRoutine, EndsInName}
+use Rattle.tree_specs.specs.Texts.Text.{field_text}
 use Rattle.text_forms.proofs.Fields.{has_read, number_field, routine_field, owner_field, object_field, name_field}
 use Rattle.text_forms.proofs.Bools.{and_true}
 use Rattle.text_forms.proofs.Words.{is_unspaced, joined, words-joined, joined-words}

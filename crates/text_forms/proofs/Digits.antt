@@ -10,7 +10,7 @@ use Rattle.std.proofs.lemmas.Str.Parse.{digits_value-take-le}
 use Rattle.std.proofs.lemmas.Bool.{le-ltb}
 use Rattle.text_forms.proofs.Bools.{and_true}
 use Rattle.text_forms.specs.Cursor.{digit_count, digits_at, leading_digits_of, number_at}
-use Rattle.tree_specs.specs.Grammar.{is_short, number_of}
+use Rattle.tree_specs.specs.Texts.Grammar.{is_short, number_of}
 
 digit_value_is : (c : ℕ) → is_ascii_digit c ≡ true → digit_value c ≡ c - 48
 digit_value_is c h = grind (arith, nat_tests)

@@ -10,10 +10,10 @@ use Rattle.std.proofs.lemmas.Bool.Decides.{nat_tests}
 use Rattle.tree_specs.specs.declared.object.Obj.{Obj}
 use Rattle.tree_specs.specs.declared.object.Owner.{Owner}
 use Rattle.tree_specs.specs.declared.object.Owner.TheVariants.{Root, Of}
-use Rattle.tree_specs.specs.Grammar.{◌>>=◌, number_of, number32_of, routine_of, owner_of, object_of, name_of}
-use Rattle.tree_specs.specs.Names.{is_name, is_graphic}
-use Rattle.tree_specs.specs.Objects.{owner_number, numbered_owner}
-use Rattle.tree_specs.specs.Soundness.{is_number, is_return, is_routine, is_sound_owner}
+use Rattle.tree_specs.specs.Texts.Grammar.{◌>>=◌, number_of, number32_of, routine_of, owner_of, object_of, name_of}
+use Rattle.tree_specs.specs.Words.Names.{is_name, is_graphic}
+use Rattle.tree_specs.specs.Words.Objects.{owner_number, numbered_owner}
+use Rattle.tree_specs.specs.Words.Ranges.{is_number, is_return, is_routine, is_sound_owner}
 use Rattle.text_forms.proofs.Numerals.{number_spelled, number_again, decimal_digits}
 use Rattle.text_forms.proofs.Bools.{and_true, taken_where, list_all-weaker}
 use Rattle.text_forms.proofs.Words.{is_unspaced}

@@ -3,7 +3,7 @@ use Rattle.std.proofs.Common.{◌≡◌, ℕ, List, ◌++◌, take, drop, flat_m
 use Rattle.std.proofs.lemmas.List.Concat.{flat_map-append}
 use Rattle.std.proofs.Math.ListN.{take-append-drop}
 use Rattle.tree_specs.specs.declared.memory.Memory.{Memory}
-use Rattle.tree_specs.specs.Written.{Writes}
+use Rattle.tree_specs.specs.Texts.Written.{Writes}
 
 -- the pieces before this index are a front of all
 pub pieces_before : {X : Type 0} (f : X → List ℕ) (pieces : List X) (i : ℕ) (old new : List ℕ) (r : Result (Unit {0}) Memory) → IsErr r → new ≡ old ++ flat_map f (take i pieces) → Writes old new r (flat_map f pieces)

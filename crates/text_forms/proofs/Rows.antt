@@ -1,7 +1,7 @@
 -- The line of a row of a report, in the parts that are written one after the other.
 use Rattle.std.proofs.Common.{◌≡◌, ℕ, List, [], ◌∷◌, ◌++◌, codes, append_assoc}
 use Rattle.tree_specs.specs.declared.report.ReportRow.{ReportRow}
-use Rattle.tree_specs.specs.Text.{numbers_text, row_kind_text, row_text, newline}
+use Rattle.tree_specs.specs.Texts.Text.{numbers_text, row_kind_text, row_text, newline}
 
 -- where the row stands in the tree
 abbrev pub place_text : ReportRow → List ℕ

@@ -1,9 +1,9 @@
 -- A verb is found by its word, and its fields are read one after the other: this is the call that the grammar gives.
 use Rattle.std.proofs.Common.{◌≡◌, ℕ, List, [], ◌∷◌, Option, Some, None, Err, refl, ap, ◌∙◌}
 use Rattle.tree_specs.specs.declared.call.Call.{Call}
-use Rattle.tree_specs.specs.Spelling.{Reading, forms}
-use Rattle.tree_specs.specs.Spelling.Reading.{Whole, TakesOwner, TakesObject, TakesNumber, TakesRoutine, EndsInName}
-use Rattle.tree_specs.specs.Grammar.{◌>>=◌, number_of, object_of, owner_of, routine_of, name_of, read, form_in, call_of_words, call_of, words}
+use Rattle.tree_specs.specs.Calls.Spelling.{Reading, forms}
+use Rattle.tree_specs.specs.Calls.Spelling.Reading.{Whole, TakesOwner, TakesObject, TakesNumber, TakesRoutine, EndsInName}
+use Rattle.tree_specs.specs.Texts.Grammar.{◌>>=◌, number_of, object_of, owner_of, routine_of, name_of, read, form_in, call_of_words, call_of, words}
 use Rattle.text_forms.specs.declared.verb.Verb.{Verb}
 use Rattle.text_forms.specs.declared.form.FormFault.{FormFault}
 use Rattle.text_forms.specs.declared.form.FormFault.TheVariants.{NoForm, Memory}

@@ -4,7 +4,7 @@ use Rattle.std.specs.List.{list_all, join_with_byte}
 use Rattle.std.proofs.lemmas.List.Splits.{join_with_byte-slice_split, length-slice_split}
 use Rattle.std.proofs.lemmas.List.{take-append-drop, take_rest, take_all}
 use Rattle.std.proofs.Math.Seq.{drop-cons}
-use Rattle.tree_specs.specs.Grammar.{words}
+use Rattle.tree_specs.specs.Texts.Grammar.{words}
 use Rattle.text_forms.proofs.Bools.{and_true, not_true}
 
 abbrev pub is_unspaced : List ℕ → Bool

@@ -4,7 +4,7 @@ use Rattle.std.proofs.lemmas.List.Concat.{flat_map-append}
 use Rattle.std.proofs.Math.ListN.{take-append-drop}
 use Rattle.std.proofs.Math.Seq.{drop-cons}
 use Rattle.tree_specs.specs.declared.memory.Memory.{Memory}
-use Rattle.tree_specs.specs.Written.{Writes, WritesFront}
+use Rattle.tree_specs.specs.Texts.Written.{Writes, WritesFront}
 
 -- a text, and then what follows it
 pub then_writes : (old mid new s t text : List ℕ) (r : Result (Unit {0}) Memory) → mid ≡ old ++ s → Writes mid new r t → text ≡ s ++ t → Writes old new r text

@@ -1,9 +1,9 @@
 -- Calls by their verbs, as a reader goes through their words.
 use Rattle.std.specs.Prelude.{ℕ, ◌≡◌, List, [], ◌∷◌, Option, Some, None, codes}
 use Rattle.tree_specs.specs.declared.call.Call.{Call}
-use Rattle.tree_specs.specs.Spelling.{Reading, forms}
-use Rattle.tree_specs.specs.Spelling.Reading.{Whole, TakesOwner, TakesObject, TakesNumber, TakesRoutine, EndsInName}
-use Rattle.tree_specs.specs.Grammar.{◌>>=◌, number_of, object_of, owner_of, routine_of, name_of, form_in}
+use Rattle.tree_specs.specs.Calls.Spelling.{Reading, forms}
+use Rattle.tree_specs.specs.Calls.Spelling.Reading.{Whole, TakesOwner, TakesObject, TakesNumber, TakesRoutine, EndsInName}
+use Rattle.tree_specs.specs.Texts.Grammar.{◌>>=◌, number_of, object_of, owner_of, routine_of, name_of, form_in}
 use Rattle.text_forms.specs.declared.verb.Verb.{Verb}
 use Rattle.text_forms.specs.declared.verb.Verb.TheVariants.{New, Free, Freekids, Steal, Move, Reparent, Reference, Unlink, Hook, Unhook, Rename, Resize, Limit, Parent, Total, Count, Sum, Report}
 use Rattle.text_forms.specs.Cursor.{field, last_field}

@@ -1,8 +1,8 @@
 ghost use Rattle.std.specs.Prelude.{◌≡◌, ◌≢◌, IfOk, IsTrue, Err};
 ghost use Rattle.tree_specs.specs.declared.call.Call.{Call};
-ghost use Rattle.tree_specs.specs.Grammar.{call_of};
-ghost use Rattle.tree_specs.specs.Soundness.{is_sound_call};
-ghost use Rattle.tree_specs.specs.Text.{call_text};
+ghost use Rattle.tree_specs.specs.Texts.Grammar.{call_of};
+ghost use Rattle.tree_specs.specs.Words.Ranges.{is_sound_call};
+ghost use Rattle.tree_specs.specs.Texts.Text.{call_text};
 ghost use Rattle.text_forms.specs.Reads.{Reads};
 
 use crate::field::Fields;

@@ -1,8 +1,8 @@
 ghost use Rattle.std.specs.Prelude.{◌≡◌, ◌++◌, IsTrue, Some, codes};
-ghost use Rattle.tree_specs.specs.Grammar.{call_of};
-ghost use Rattle.tree_specs.specs.Soundness.{is_sound_call};
-ghost use Rattle.tree_specs.specs.Text.{call_text, numbers_text};
-ghost use Rattle.tree_specs.specs.Written.{Writes};
+ghost use Rattle.tree_specs.specs.Texts.Grammar.{call_of};
+ghost use Rattle.tree_specs.specs.Words.Ranges.{is_sound_call};
+ghost use Rattle.tree_specs.specs.Texts.Text.{call_text, numbers_text};
+ghost use Rattle.tree_specs.specs.Texts.Written.{Writes};
 
 use crate::numbers::write_numbers;
 use crate::piece::write_pieces;
@@ -25,7 +25,7 @@ fn write_named(verb: &[u8], numbers: &[u64], name: &Name, out: &mut Vec<u8>) -> 
 }
 
 // The call's verb and its fields, as the text's definition has them.
-#[tactic(auto, unfolding(tree_specs::specs::Text::call_text))]
+#[tactic(auto, unfolding(tree_specs::specs::Texts::Text::call_text))]
 fn write_text(call: &Call, out: &mut Vec<u8>) -> Result<(), Memory>
     ensures { Writes out.old.items out.new.items result (call_text call.now) }
 {

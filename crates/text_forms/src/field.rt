@@ -2,7 +2,7 @@
 
 ghost use Rattle.std.specs.Prelude.{◌≡◌, List, ℕ};
 ghost use Rattle.std.specs.Option.{option_map};
-ghost use Rattle.tree_specs.specs.Grammar.{words, number_of, owner_of, object_of, routine_of, name_of};
+ghost use Rattle.tree_specs.specs.Texts.Grammar.{words, number_of, owner_of, object_of, routine_of, name_of};
 ghost use Rattle.text_forms.specs.Cursor.{words_left, field, both, last_field, Takes, Ends};
 
 use crate::form::FormFault;
@@ -56,7 +56,7 @@ impl<'a> Fields<'a> {
     }
 
     // An owner field: 0 is the root.
-    #[tactic(auto, unfolding(tree_specs::specs::Grammar::owner_of))]
+    #[tactic(auto, unfolding(tree_specs::specs::Texts::Grammar::owner_of))]
     pub(crate) fn owner(&mut self) -> Result<Owner, FormFault>
         ensures { Takes result (field owner_of self.old) self.new }
     {
@@ -69,7 +69,7 @@ impl<'a> Fields<'a> {
     }
 
     // An object field.
-    #[tactic(auto, unfolding(tree_specs::specs::Grammar::object_of))]
+    #[tactic(auto, unfolding(tree_specs::specs::Texts::Grammar::object_of))]
     pub(crate) fn object(&mut self) -> Result<Obj, FormFault>
         ensures { Takes result (field object_of self.old) self.new }
     {
@@ -78,7 +78,7 @@ impl<'a> Fields<'a> {
     }
 
     // A routine field: routines are numbered from 1 upwards.
-    #[tactic(auto, unfolding(tree_specs::specs::Grammar::routine_of, tree_specs::specs::Grammar::number32_of))]
+    #[tactic(auto, unfolding(tree_specs::specs::Texts::Grammar::routine_of, tree_specs::specs::Texts::Grammar::number32_of))]
     pub(crate) fn routine(&mut self) -> Result<u32, FormFault>
         ensures { Takes result (field routine_of self.old) self.new }
     {

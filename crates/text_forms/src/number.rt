@@ -2,8 +2,8 @@ ghost use Rattle.std.specs.Prelude.{◌≡◌, ◌≢◌, ℕ, ◌^◌, ◌<◌,
 ghost use Rattle.std.specs.Fmt.{decimal};
 ghost use Rattle.std.specs.Option.{option_map};
 ghost use Rattle.std.specs.Str.Parse.{digits_value};
-ghost use Rattle.tree_specs.specs.Grammar.{number_of, number32_of, is_short};
-ghost use Rattle.tree_specs.specs.Written.{Writes};
+ghost use Rattle.tree_specs.specs.Texts.Grammar.{number_of, number32_of, is_short};
+ghost use Rattle.tree_specs.specs.Texts.Written.{Writes};
 ghost use Rattle.text_forms.specs.Cursor.{leading_digits_of, number_at};
 
 use crate::piece::write_pieces;
@@ -36,7 +36,7 @@ fn has_short_form(text: &[u8]) -> bool
 }
 
 // The number that the digits at the front spell, and what follows them. None where they spell none.
-#[tactic(auto, unfolding(crate::specs::Cursor::number_at, tree_specs::specs::Grammar::number_of))]
+#[tactic(auto, unfolding(crate::specs::Cursor::number_at, tree_specs::specs::Texts::Grammar::number_of))]
 pub(crate) fn leading_number(text: &[u8]) -> Option<(u64, &[u8])>
     ensures { option_map (λ r. (r.0, r.1.now)) result ≡ number_at text.now }
 {
@@ -71,7 +71,7 @@ pub fn read_number(text: &[u8]) -> Option<u64>
 }
 
 // A number below 2^32, as the grammar defines it.
-#[tactic(auto, unfolding(tree_specs::specs::Grammar::number32_of))]
+#[tactic(auto, unfolding(tree_specs::specs::Texts::Grammar::number32_of))]
 fn number32_value(text: &[u8]) -> Option<u32>
     ensures { result ≡ number32_of text.now }
 {

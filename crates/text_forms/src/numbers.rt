@@ -1,7 +1,7 @@
 ghost use Rattle.std.specs.Prelude.{◌++◌, codes};
 ghost use Rattle.std.specs.Fmt.{decimal};
-ghost use Rattle.tree_specs.specs.Text.{numbers_text};
-ghost use Rattle.tree_specs.specs.Written.{Writes};
+ghost use Rattle.tree_specs.specs.Texts.Text.{numbers_text};
+ghost use Rattle.tree_specs.specs.Texts.Written.{Writes};
 
 use itoa::Buffer;
 use tree_specs::Memory;

@@ -1,5 +1,5 @@
 ghost use Rattle.std.specs.Prelude.{flat_map};
-ghost use Rattle.tree_specs.specs.Written.{Writes};
+ghost use Rattle.tree_specs.specs.Texts.Written.{Writes};
 
 use tree_specs::Memory;
 

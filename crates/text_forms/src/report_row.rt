@@ -1,13 +1,13 @@
 ghost use Rattle.std.specs.Prelude.{◌≡◌, ◌++◌, ◌∷◌, [], codes};
-ghost use Rattle.tree_specs.specs.Text.{newline, numbers_text, row_text, row_kind_text, rows_text};
-ghost use Rattle.tree_specs.specs.Written.{Writes};
+ghost use Rattle.tree_specs.specs.Texts.Text.{newline, numbers_text, row_text, row_kind_text, rows_text};
+ghost use Rattle.tree_specs.specs.Texts.Written.{Writes};
 
 use crate::numbers::write_numbers;
 use crate::piece::write_pieces;
 use tree_specs::{Memory, ReportRow, RowKind};
 
 // The word for what a row is about.
-#[tactic(auto, unfolding(tree_specs::specs::Text::row_kind_text))]
+#[tactic(auto, unfolding(tree_specs::specs::Texts::Text::row_kind_text))]
 fn kind_word(kind: RowKind) -> &'static [u8]
     ensures { result.now ≡ row_kind_text kind }
 {

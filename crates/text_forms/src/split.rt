@@ -1,5 +1,5 @@
 ghost use Rattle.std.specs.Prelude.{◌≡◌, ◌∷◌};
-ghost use Rattle.tree_specs.specs.Grammar.{words};
+ghost use Rattle.tree_specs.specs.Texts.Grammar.{words};
 ghost use Rattle.text_forms.specs.Cursor.{words_left};
 
 // The first word of a text, and what follows the space behind it, where there is one.

@@ -4,8 +4,8 @@ use Rattle.tree_specs.specs.declared.object.Obj.{Obj}
 use Rattle.tree_specs.specs.declared.object.Owner.{Owner}
 use Rattle.tree_specs.specs.declared.object.Owner.TheVariants.{Root, Of}
 use Rattle.tree_specs.specs.declared.row.Row.{Row}
-use Rattle.tree_specs.specs.Objects.{same, same_owner}
-use Rattle.tree_specs.specs.Pool.{owner_of, is_below, first_kid, next_owner, reaches, is_inside}
+use Rattle.tree_specs.specs.Words.Objects.{same, same_owner}
+use Rattle.tree_specs.specs.Tree.Pool.{owner_of, is_below, first_kid, next_owner, reaches, is_inside}
 use Rattle.linked_lanes.proofs.Lanes.{by_test, not_both}
 
 -- no row has this owner

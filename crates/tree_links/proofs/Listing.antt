@@ -6,10 +6,10 @@ use Rattle.std.specs.FinMap as map
 use Rattle.tree_specs.specs.declared.object.Obj.{Obj}
 use Rattle.tree_specs.specs.declared.object.Owner.{Owner}
 use Rattle.tree_specs.specs.declared.row.Row.{Row}
-use Rattle.tree_specs.specs.Objects.{same}
-use Rattle.tree_specs.specs.Pool.{row_of, is_below, behind, without as rows_without, changed, first_kid, owner_of, owner_in}
-use Rattle.tree_specs.specs.Forest.{Distinct as Once}
-use Rattle.tree_specs.proofs.Numbered.{is_below-some, same-true}
+use Rattle.tree_specs.specs.Words.Objects.{same}
+use Rattle.tree_specs.specs.Tree.Pool.{row_of, is_below, behind, without as rows_without, changed, first_kid, owner_of, owner_in}
+use Rattle.tree_specs.specs.Tree.Forest.{Distinct as Once}
+use Rattle.tree_specs.proofs.Tree.Numbered.{is_below-some, same-true}
 use Rattle.linked_lanes.specs.Lane.{first, has, after, without, Distinct}
 use Rattle.linked_lanes.specs.Chain.{sides_in}
 use Rattle.tree_links.specs.Nodes.{Nodes, Apart, Holds, lane, numbers, children, row_at, walk, rows_of, older_at, row_before, row_in, placed_in}

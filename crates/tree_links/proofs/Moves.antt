@@ -6,8 +6,8 @@ use Rattle.std.specs.FinMap as map
 use Rattle.tree_specs.specs.declared.object.Obj.{Obj}
 use Rattle.tree_specs.specs.declared.object.Owner.{Owner}
 use Rattle.tree_specs.specs.declared.object.Owner.TheVariants.{Root, Of}
-use Rattle.tree_specs.specs.Objects.{same_owner}
-use Rattle.tree_specs.proofs.Numbered.{same_owner-true}
+use Rattle.tree_specs.specs.Words.Objects.{same_owner}
+use Rattle.tree_specs.proofs.Tree.Numbered.{same_owner-true}
 use Rattle.linked_lanes.specs.Lane.{first, is_at, has, without, Distinct}
 use Rattle.linked_lanes.specs.Chain.{Chain, sides_in, head_left}
 use Rattle.tree_links.specs.Nodes.{Nodes, Linked, Apart, HasHead, head_of, row_at, placed_at, kin_at, row_in, placed_in, kin_in, first_in, placed_newer, placed_older, kin_newer, kin_older, with_first, Enters}

@@ -5,12 +5,12 @@ use Rattle.tree_specs.specs.declared.object.Obj.{Obj}
 use Rattle.tree_specs.specs.declared.object.Owner.{Owner}
 use Rattle.tree_specs.specs.declared.object.Owner.TheVariants.{Of}
 use Rattle.tree_specs.specs.declared.row.Row.{Row}
-use Rattle.tree_specs.specs.Objects.{same}
-use Rattle.tree_specs.specs.Calls.{row_limit, size_limit}
-use Rattle.tree_specs.specs.Pool.{Pool, row_of, is_owner, is_inside, first_kid, without, changed, new_row, left_row, place}
-use Rattle.tree_specs.proofs.Numbered.{by_test, same-true}
-use Rattle.tree_specs.proofs.Rows.{row_of-serial}
-use Rattle.tree_specs.proofs.Rooted.{KeepsPlace, forest-new, forest-placed, forest-changed, forest-left, forest-without}
+use Rattle.tree_specs.specs.Words.Objects.{same}
+use Rattle.tree_specs.specs.Calls.Refusals.{row_limit, size_limit}
+use Rattle.tree_specs.specs.Tree.Pool.{Pool, row_of, is_owner, is_inside, first_kid, without, changed, new_row, left_row, place}
+use Rattle.tree_specs.proofs.Tree.Numbered.{by_test, same-true}
+use Rattle.tree_specs.proofs.Tree.Rows.{row_of-serial}
+use Rattle.tree_specs.proofs.Tree.Rooted.{KeepsPlace, forest-new, forest-placed, forest-changed, forest-left, forest-without}
 use Rattle.tree_links.specs.Links.{AllFit, IsTree}
 
 -- ---- a new row

@@ -7,8 +7,8 @@ use Rattle.tree_specs.specs.declared.object.Obj.{Obj}
 use Rattle.tree_specs.specs.declared.object.Owner.{Owner}
 use Rattle.tree_specs.specs.declared.object.Owner.TheVariants.{Root, Of}
 use Rattle.tree_specs.specs.declared.row.Row.{Row}
-use Rattle.tree_specs.specs.Objects.{same_owner}
-use Rattle.tree_specs.specs.Pool.{row_of, is_below, owned_row}
+use Rattle.tree_specs.specs.Words.Objects.{same_owner}
+use Rattle.tree_specs.specs.Tree.Pool.{row_of, is_below, owned_row}
 use Rattle.tree_links.specs.Links.{IsTree}
 use Rattle.linked_lanes.specs.Lane.{has}
 use Rattle.linked_lanes.specs.Chain.{Chain}

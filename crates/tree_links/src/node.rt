@@ -2,11 +2,11 @@ ghost use Rattle.std.specs.Prelude.{◌≡◌, ◌≤◌, ℕ, Option, Some, Non
 ghost use Rattle.std.specs.Option.{option_map, option_and_then};
 ghost use Rattle.std.specs.FinMap as map;
 ghost use Rattle.pool_arena.specs.Arena.{get};
-ghost use Rattle.tree_specs.specs.Objects.{same_owner};
+ghost use Rattle.tree_specs.specs.Words.Objects.{same_owner};
 ghost use Rattle.tree_specs.specs.declared.object.Owner.{Owner as OwnerData};
 ghost use Rattle.tree_specs.specs.declared.row.Row.{Row as RowData};
-ghost use Rattle.tree_specs.specs.Pool.{row_of, left_row, named_row, marked_row, hooked_row, sized_row, limited_row};
-ghost use Rattle.tree_specs.specs.Forest.{Distinct as Once};
+ghost use Rattle.tree_specs.specs.Tree.Pool.{row_of, left_row, named_row, marked_row, hooked_row, sized_row, limited_row};
+ghost use Rattle.tree_specs.specs.Tree.Forest.{Distinct as Once};
 ghost use Rattle.linked_lanes.specs.Lane.{is_at, has, without, Distinct};
 ghost use Rattle.linked_lanes.specs.Chain.{head_left, sides_in};
 ghost use Rattle.tree_links.specs.Nodes.{placed_newer, placed_older, kin_newer, kin_older, entered, first_in, owned_in, with_first, with_row, row_at, head_of, HasHead, Nodes, Linked, Enters, Apart, kin_at, placed_at, children};

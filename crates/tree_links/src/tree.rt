@@ -55,10 +55,10 @@ impl Tree {
     ghost use Rattle.std.specs.Prelude.{slice_get, position, ◌≡◌, ℕ, ◌+◌, ◌-◌, ◌^◌, ◌<◌, ◌≤◌, ◌∷◌, [], ◌↔◌, drop, true, false, None, ◌&&◌, IsTrue, IsSome, OnOk, MatchOption, length};
     ghost use Rattle.std.specs.Option.{option_copied};
     ghost use Rattle.tree_specs.specs.declared.object.Owner.TheVariants.{Of as At};
-    ghost use Rattle.tree_specs.specs.Objects.{same};
-    ghost use Rattle.tree_specs.specs.Calls.{row_limit, size_limit};
-    ghost use Rattle.tree_specs.specs.Sums.{size_at};
-    ghost use Rattle.tree_specs.specs.Pool.{empty, is_row, is_owner, is_dying, row_of, is_below, first_kid as kid_first, next_kid as kid_next, add as added, take_number as number_taken, detach as detached, remove as removed, place as placed, rename as renamed, set_mark as marked, set_hook as hooked, set_size as resized, set_limit as limited, owner_of, next_owner as owner_after, is_inside as is_inside_of, is_dying_mark};
+    ghost use Rattle.tree_specs.specs.Words.Objects.{same};
+    ghost use Rattle.tree_specs.specs.Calls.Refusals.{row_limit, size_limit};
+    ghost use Rattle.tree_specs.specs.Tree.Sums.{size_at};
+    ghost use Rattle.tree_specs.specs.Tree.Pool.{empty, is_row, is_owner, is_dying, row_of, is_below, first_kid as kid_first, next_kid as kid_next, add as added, take_number as number_taken, detach as detached, remove as removed, place as placed, rename as renamed, set_mark as marked, set_hook as hooked, set_size as resized, set_limit as limited, owner_of, next_owner as owner_after, is_inside as is_inside_of, is_dying_mark};
     ghost use Rattle.tree_links.specs.Links.{IsTree, pool_of, works_of, number_after, may_go};
 
     /// A tree with no rows, whose next serial number is `first`, and no open free. It takes no memory.

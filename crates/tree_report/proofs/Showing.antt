@@ -6,10 +6,10 @@ use Rattle.tree_specs.specs.declared.object.Owner.{Owner}
 use Rattle.tree_specs.specs.declared.object.Owner.TheVariants.{Root, Of}
 use Rattle.tree_specs.specs.declared.report.ReportRow.{ReportRow}
 use Rattle.tree_specs.specs.declared.row.Row.{Row}
-use Rattle.tree_specs.specs.Pool.{row_of, owner_in, owner_of, is_object_row, is_owner, kids}
-use Rattle.tree_specs.specs.Reports.{with_below, report_each, report_below, report}
-use Rattle.tree_specs.specs.Forest.{Distinct, IsThere, AllOwned}
-use Rattle.tree_specs.proofs.Rooted.{is_there-owner}
+use Rattle.tree_specs.specs.Tree.Pool.{row_of, owner_in, owner_of, is_object_row, is_owner, kids}
+use Rattle.tree_specs.specs.Tree.Reports.{with_below, report_each, report_below, report}
+use Rattle.tree_specs.specs.Tree.Forest.{Distinct, IsThere, AllOwned}
+use Rattle.tree_specs.proofs.Tree.Rooted.{is_there-owner}
 use Rattle.tree_links.specs.Links.{IsTree}
 use Rattle.tree_report.specs.declared.walk.Place.{Place}
 use Rattle.tree_report.specs.Walk.{placed, walk_from}

@@ -5,11 +5,11 @@ use Rattle.tree_specs.specs.declared.object.Obj.{Obj}
 use Rattle.tree_specs.specs.declared.object.Owner.{Owner}
 use Rattle.tree_specs.specs.declared.object.Owner.TheVariants.{Of}
 use Rattle.tree_specs.specs.declared.row.Row.{Row}
-use Rattle.tree_specs.specs.Objects.{same}
-use Rattle.tree_specs.specs.Pool.{owner_of, next_owner, is_below, kids, first_kid, behind, kid_behind, next_kid}
-use Rattle.tree_specs.specs.Forest.{Distinct, ends, Rooted}
-use Rattle.tree_specs.proofs.Numbered.{by_test, same-true, same_owner-equal}
-use Rattle.tree_specs.proofs.Kids.{first_kid-kids, kids-split}
+use Rattle.tree_specs.specs.Words.Objects.{same}
+use Rattle.tree_specs.specs.Tree.Pool.{owner_of, next_owner, is_below, kids, first_kid, behind, kid_behind, next_kid}
+use Rattle.tree_specs.specs.Tree.Forest.{Distinct, ends, Rooted}
+use Rattle.tree_specs.proofs.Tree.Numbered.{by_test, same-true, same_owner-equal}
+use Rattle.tree_specs.proofs.Tree.Kids.{first_kid-kids, kids-split}
 use Rattle.tree_links.specs.Links.{IsTree}
 use Rattle.tree_report.specs.declared.walk.Place.{Place}
 use Rattle.tree_report.specs.Walk.{at_depth, placed, later_in, later, left, ahead, from_here, IsDeep}

@@ -15,14 +15,14 @@ use Rattle.tree_specs.specs.declared.object.Obj.{Obj}
 use Rattle.tree_specs.specs.declared.object.Owner.{Owner}
 use Rattle.tree_specs.specs.declared.object.Owner.TheVariants.{Root, Of}
 use Rattle.tree_specs.specs.declared.row.Row.{Row}
-use Rattle.tree_specs.specs.Calls.{size_limit}
-use Rattle.tree_specs.specs.Pool.{kids, is_inside}
-use Rattle.tree_specs.specs.Inside.{total, count_inside}
-use Rattle.tree_specs.specs.Sums.{overhead, charge, sum_inside}
-use Rattle.tree_specs.specs.Targets.{is_reference}
-use Rattle.tree_specs.specs.Walks.{walked, weight_at, own_row, total_of}
-use Rattle.tree_specs.proofs.Numbered.{by_test}
-use Rattle.tree_specs.proofs.Walk.{total-same, inside-walked}
+use Rattle.tree_specs.specs.Calls.Refusals.{size_limit}
+use Rattle.tree_specs.specs.Tree.Pool.{kids, is_inside}
+use Rattle.tree_specs.specs.Tree.Inside.{total, count_inside}
+use Rattle.tree_specs.specs.Tree.Sums.{overhead, charge, sum_inside}
+use Rattle.tree_specs.specs.Tree.Targets.{is_reference}
+use Rattle.tree_specs.specs.Tree.Walks.{walked, weight_at, own_row, total_of}
+use Rattle.tree_specs.proofs.Tree.Numbered.{by_test}
+use Rattle.tree_specs.proofs.Tree.Walk.{total-same, inside-walked}
 use Rattle.tree_links.specs.Links.{AllFit, IsTree}
 use Rattle.tree_links.proofs.Trees.{fit-row}
 use Rattle.tree_report.specs.declared.walk.Place.{Place}

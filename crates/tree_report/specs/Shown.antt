@@ -4,8 +4,8 @@ use Rattle.tree_specs.specs.declared.object.Owner.{Owner}
 use Rattle.tree_specs.specs.declared.object.Owner.TheVariants.{Root, Of}
 use Rattle.tree_specs.specs.declared.report.ReportRow.{ReportRow}
 use Rattle.tree_specs.specs.declared.row.Row.{Row}
-use Rattle.tree_specs.specs.Pool.{row_of}
-use Rattle.tree_specs.specs.Reports.{root_row, report_row}
+use Rattle.tree_specs.specs.Tree.Pool.{row_of}
+use Rattle.tree_specs.specs.Tree.Reports.{root_row, report_row}
 use Rattle.tree_report.specs.declared.walk.Place.{Place}
 
 -- the row of an object at this depth, where there is one

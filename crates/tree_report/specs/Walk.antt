@@ -4,8 +4,8 @@ use Rattle.tree_specs.specs.declared.object.Obj.{Obj}
 use Rattle.tree_specs.specs.declared.object.Owner.{Owner}
 use Rattle.tree_specs.specs.declared.object.Owner.TheVariants.{Root, Of}
 use Rattle.tree_specs.specs.declared.row.Row.{Row}
-use Rattle.tree_specs.specs.Pool.{kids, behind, owner_of, next_owner}
-use Rattle.tree_specs.specs.Forest.{ends}
+use Rattle.tree_specs.specs.Tree.Pool.{kids, behind, owner_of, next_owner}
+use Rattle.tree_specs.specs.Tree.Forest.{ends}
 use Rattle.tree_report.specs.declared.walk.Place.{Place}
 
 abbrev pub at_depth : ℕ → Obj → Place

@@ -1,8 +1,8 @@
 -- What each place of a walk adds to a sum.
 use Rattle.std.specs.Prelude.{ℕ, List, if◌then◌else◌, not}
 use Rattle.tree_specs.specs.declared.row.Row.{Row}
-use Rattle.tree_specs.specs.Targets.{is_reference}
-use Rattle.tree_specs.specs.Walks.{own}
+use Rattle.tree_specs.specs.Tree.Targets.{is_reference}
+use Rattle.tree_specs.specs.Tree.Walks.{own}
 use Rattle.tree_report.specs.declared.walk.Place.{Place}
 
 -- the weight of a row in a total of sizes

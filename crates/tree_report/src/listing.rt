@@ -1,8 +1,8 @@
 ghost use Rattle.std.specs.Prelude.{◌≡◌, ◌++◌, IfOk, OnOk, ℕ, List};
 ghost use Rattle.std.specs.Option.{option_to_list};
-ghost use Rattle.tree_specs.specs.Reports.{report, row_kind, target_number, root_row};
+ghost use Rattle.tree_specs.specs.Tree.Reports.{report, row_kind, target_number, root_row};
 ghost use Rattle.tree_specs.specs.declared.object.Owner.TheVariants.{Of as At};
-ghost use Rattle.tree_specs.specs.Targets.{target_of};
+ghost use Rattle.tree_specs.specs.Tree.Targets.{target_of};
 ghost use Rattle.references.specs.Rows.{AreRefsOf};
 ghost use Rattle.tree_report.specs.Shown.{shown_at};
 

@@ -1,10 +1,10 @@
 ghost use Rattle.std.specs.Prelude.{◌≡◌, ◌<◌, Some};
 ghost use Rattle.std.specs.Option.{option_copied};
-ghost use Rattle.tree_specs.specs.Inside.{size_inside, count_inside};
+ghost use Rattle.tree_specs.specs.Tree.Inside.{size_inside, count_inside};
 ghost use Rattle.tree_specs.specs.declared.row.Row.{Row as RowData};
-ghost use Rattle.tree_specs.specs.Walks.{own_row, own};
-ghost use Rattle.tree_specs.specs.Calls.{size_limit};
-ghost use Rattle.tree_specs.specs.Sums.{charge, sum_inside};
+ghost use Rattle.tree_specs.specs.Tree.Walks.{own_row, own};
+ghost use Rattle.tree_specs.specs.Calls.Refusals.{size_limit};
+ghost use Rattle.tree_specs.specs.Tree.Sums.{charge, sum_inside};
 ghost use Rattle.tree_report.specs.Weights.{sized, counted};
 
 use crate::walk::Walk;

@@ -1,6 +1,6 @@
 ghost use Rattle.std.specs.Prelude.{◌≡◌, ◌<◌, not, ◌&&◌};
-ghost use Rattle.tree_specs.specs.Calls.{size_limit};
-ghost use Rattle.tree_specs.specs.Pool.{is_row, is_dying};
+ghost use Rattle.tree_specs.specs.Calls.Refusals.{size_limit};
+ghost use Rattle.tree_specs.specs.Tree.Pool.{is_row, is_dying};
 
 use super::*;
 use outside::{Done, FineSink, MemSink, Sink};

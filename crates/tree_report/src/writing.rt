@@ -1,8 +1,8 @@
 //! The report as text.
 ghost use Rattle.std.specs.Prelude.{◌≡◌, IfOk, Ok};
 ghost use Rattle.references.specs.Rows.{AreRefsOf};
-ghost use Rattle.tree_specs.specs.Reports.{report as report_of};
-ghost use Rattle.tree_specs.specs.Text.{rows_text};
+ghost use Rattle.tree_specs.specs.Tree.Reports.{report as report_of};
+ghost use Rattle.tree_specs.specs.Texts.Text.{rows_text};
 ghost use Rattle.outside.specs.Causes.{Counts};
 ghost use Rattle.tree_report.specs.Written.{Puts};
 

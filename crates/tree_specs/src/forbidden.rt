@@ -1,9 +1,9 @@
 //! What the rules of orderly and grounded stories forbid: for each rule, stories that break it. So none of the rules
 //! is met by everything.
 
-ghost use Rattle.tree_specs.specs.Orderly.{Orderly};
-ghost use Rattle.tree_specs.specs.Grounded.{Grounded};
-ghost use Rattle.tree_specs.specs.BadStories as bad;
+ghost use Rattle.tree_specs.specs.Promises.Orderly.{Orderly};
+ghost use Rattle.tree_specs.specs.Promises.Grounded.{Grounded};
+ghost use Rattle.tree_specs.specs.Promises.BadStories as bad;
 
 /// A destructor accepts once, and is neither asked again nor refuses after that.
 pub fn a_destructor_accepts_once()

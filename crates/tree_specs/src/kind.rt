@@ -1,5 +1,5 @@
 ghost use Rattle.std.specs.Prelude.{◌≡◌};
-ghost use Rattle.tree_specs.specs.Targets.{target_of};
+ghost use Rattle.tree_specs.specs.Tree.Targets.{target_of};
 
 use crate::object::Obj;
 

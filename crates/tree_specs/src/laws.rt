@@ -1,5 +1,5 @@
 //! Laws of the definitions, each the clause of a function that does nothing.
-#![tactic(auto, unfolding(crate::specs::Grammar::number_of, crate::specs::Grammar::owner_of, crate::specs::Grammar::object_of, crate::specs::Grammar::name_of, crate::specs::Grammar::number32_of, crate::specs::Grammar::routine_of, crate::specs::Grammar::call_of_words, crate::specs::Grammar::call_of, crate::specs::Grammar::input_of, crate::specs::Text::refusal_numbers, crate::specs::Text::row_kind_text, crate::specs::Text::row_text, crate::specs::Text::reply_text, crate::specs::Text::event_text, crate::specs::Text::ask_text, crate::specs::Text::answered_text, crate::specs::Text::what_text, crate::specs::Text::item_text, crate::specs::Text::end_text, crate::specs::Text::body_text, crate::specs::Schedule::lines_of_parts, crate::specs::Schedule::lines, crate::specs::Schedule::line_input, crate::specs::Schedule::judged_from, crate::specs::Schedule::judged_lines, crate::specs::Schedule::open_question, crate::specs::Calls::fits))]
+#![tactic(auto, unfolding(crate::specs::Texts::Grammar::number_of, crate::specs::Texts::Grammar::owner_of, crate::specs::Texts::Grammar::object_of, crate::specs::Texts::Grammar::name_of, crate::specs::Texts::Grammar::number32_of, crate::specs::Texts::Grammar::routine_of, crate::specs::Texts::Grammar::call_of_words, crate::specs::Texts::Grammar::call_of, crate::specs::Texts::Grammar::input_of, crate::specs::Texts::Text::refusal_numbers, crate::specs::Texts::Text::row_kind_text, crate::specs::Texts::Text::row_text, crate::specs::Texts::Text::reply_text, crate::specs::Texts::Text::event_text, crate::specs::Texts::Text::ask_text, crate::specs::Texts::Text::answered_text, crate::specs::Texts::Text::what_text, crate::specs::Texts::Text::item_text, crate::specs::Texts::Text::end_text, crate::specs::Texts::Text::body_text, crate::specs::Texts::Schedule::lines_of_parts, crate::specs::Texts::Schedule::lines, crate::specs::Texts::Schedule::line_input, crate::specs::Texts::Schedule::judged_from, crate::specs::Texts::Schedule::judged_lines, crate::specs::Texts::Schedule::open_question, crate::specs::Calls::Refusals::fits))]
 
 ghost use Rattle.std.specs.Prelude.{◌≡◌, ◌≢◌, ◌≤◌, ℕ, codes, true, Some, None, List, [], ◌∷◌, ◌++◌, length, slice_get};
 ghost use Rattle.step_machine.specs.Machine.{run, EndsBy, items as told_by};
@@ -15,20 +15,20 @@ ghost use Rattle.tree_specs.specs.declared.free_step.FreeReply.{FreeReply as Fre
 ghost use Rattle.tree_specs.specs.declared.free_step.FreeReply.TheVariants.{Held, Running, Refused};
 ghost use Rattle.tree_specs.specs.declared.event.Event.TheVariants.{Refused as HasRefused};
 ghost use Rattle.tree_specs.specs.declared.schedule.Reason.TheVariants.{Form};
-ghost use Rattle.tree_specs.specs.Pool.{Pool, empty, kids, first_kid, next_kid};
-ghost use Rattle.tree_specs.specs.Forest.{Distinct};
-ghost use Rattle.tree_specs.specs.Items.{IsQuestion};
-ghost use Rattle.tree_specs.specs.Items.Item.{Told};
-ghost use Rattle.tree_specs.specs.Works.{Scene};
-ghost use Rattle.tree_specs.specs.Story.{story, items, asked, free, turns};
-ghost use Rattle.tree_specs.specs.Table.{table, notes};
-ghost use Rattle.tree_specs.specs.View.{begin, rest_of};
-ghost use Rattle.tree_specs.specs.Orderly.{Orderly};
-ghost use Rattle.tree_specs.specs.Calls.{is_running};
-ghost use Rattle.tree_specs.specs.Grounded.{Grounded, DropsOutside, IsItem};
-ghost use Rattle.tree_specs.specs.Acceptances.{AcceptsAfterReturns};
-ghost use Rattle.tree_specs.specs.Text.{transcript};
-ghost use Rattle.tree_specs.specs.Schedule.{inputs_of, judge};
+ghost use Rattle.tree_specs.specs.Tree.Pool.{Pool, empty, kids, first_kid, next_kid};
+ghost use Rattle.tree_specs.specs.Tree.Forest.{Distinct};
+ghost use Rattle.tree_specs.specs.Rules.Items.{IsQuestion};
+ghost use Rattle.tree_specs.specs.Rules.Items.Item.{Told};
+ghost use Rattle.tree_specs.specs.Rules.Sequence.{Scene};
+ghost use Rattle.tree_specs.specs.Rules.Story.{story, items, asked, free, turns};
+ghost use Rattle.tree_specs.specs.Machine.Table.{table, notes};
+ghost use Rattle.tree_specs.specs.Machine.View.{begin, rest_of};
+ghost use Rattle.tree_specs.specs.Promises.Orderly.{Orderly};
+ghost use Rattle.tree_specs.specs.Calls.Refusals.{is_running};
+ghost use Rattle.tree_specs.specs.Promises.Grounded.{Grounded, DropsOutside, IsItem};
+ghost use Rattle.tree_specs.specs.Promises.Acceptances.{AcceptsAfterReturns};
+ghost use Rattle.tree_specs.specs.Texts.Text.{transcript};
+ghost use Rattle.tree_specs.specs.Texts.Schedule.{inputs_of, judge};
 
 /// A worked example: a schedule of no lines but the header.
 pub fn nothing_is_called()

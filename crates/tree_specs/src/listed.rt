@@ -14,7 +14,7 @@ pub(crate) struct Listed<T: 'static> {
 
 impl<T> Model for Listed<T> {
     ghost use Rattle.std.specs.Prelude.{List};
-    ghost use Rattle.tree_specs.specs.Listed.{first_of};
+    ghost use Rattle.tree_specs.specs.Words.Listed.{first_of};
 
     ghost Value = { List T };
 

@@ -1,5 +1,5 @@
 ghost use Rattle.std.specs.Prelude.{◌≡◌, List, ℕ, IsTrue, IfSome, IsSome, ◌↔◌};
-ghost use Rattle.tree_specs.specs.Names.{is_name, is_graphic};
+ghost use Rattle.tree_specs.specs.Words.Names.{is_name, is_graphic};
 ghost use Rattle.std.specs.List.{list_all};
 
 use crate::bounds::NAME_LIMIT;

@@ -1,5 +1,5 @@
 ghost use Rattle.std.specs.Prelude.{◌≡◌};
-ghost use Rattle.tree_specs.specs.Objects.{owner_number};
+ghost use Rattle.tree_specs.specs.Words.Objects.{owner_number};
 
 /// An object of the tree, named by its serial number, from 1 upwards. No number is used twice.
 #[derive(Clone, Copy, Debug, PartialEq, Eq)]

@@ -1,5 +1,5 @@
 ghost use Rattle.std.specs.Prelude.{◌≡◌, List, ℕ, IsTrue, IfSome, IsSome, ◌↔◌};
-ghost use Rattle.tree_specs.specs.Octets.{is_octets};
+ghost use Rattle.tree_specs.specs.Words.Octets.{is_octets};
 
 use crate::bounds::OCTETS_LIMIT;
 use crate::listed::Listed;

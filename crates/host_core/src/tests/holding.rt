@@ -1,5 +1,5 @@
 ghost use Rattle.std.specs.Prelude.{IsTrue};
-ghost use Rattle.tree_specs.specs.Soundness.{is_sound};
+ghost use Rattle.tree_specs.specs.Words.Ranges.{is_sound};
 
 use super::{adds, freed, next_is, owner, takes, tells, told_number, waits};
 use crate::Host;

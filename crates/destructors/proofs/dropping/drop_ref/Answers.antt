@@ -1,6 +1,6 @@
 use Rattle.std.proofs.Common.{List, sym, ap, subst}
-use Rattle.tree_specs.specs.Pool.{Pool}
-use Rattle.tree_specs.proofs.Referring.{reference-childless}
+use Rattle.tree_specs.specs.Tree.Pool.{Pool}
+use Rattle.tree_specs.proofs.Tree.Referring.{reference-childless}
 use Rattle.references.specs.declared.refs.Pair.{Pair}
 use Rattle.references.specs.Pairs.{without}
 use Rattle.references.specs.Rows.{AreRefsOf}

@@ -1,5 +1,5 @@
 use Rattle.std.proofs.Common.{◌≡◌, None, true, sym, ap, subst}
-use Rattle.tree_specs.specs.Pool.{Pool, is_dying, target_at}
+use Rattle.tree_specs.specs.Tree.Pool.{Pool, is_dying, target_at}
 use Rattle.references.specs.Rows.{SameRefs}
 use Rattle.references.proofs.Rows.{same-without}
 use Rattle.destructors.proofs.moves.finish.Goals as goal

@@ -1,5 +1,5 @@
 use Rattle.std.proofs.Common.{rules, ◌≡◌, true, sym, ap, subst}
-use Rattle.tree_specs.specs.Pool.{Pool, is_below, owner_of}
+use Rattle.tree_specs.specs.Tree.Pool.{Pool, is_below, owner_of}
 use Rattle.tree_specs.specs.declared.object.Owner.TheVariants.{Of}
 use Rattle.tree_links.specs.Links.{pool_of}
 use Rattle.references.specs.Rows.{SameRefs}

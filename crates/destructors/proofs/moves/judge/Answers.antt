@@ -1,5 +1,5 @@
 use Rattle.std.proofs.Common.{refl, sym, ap, subst}
-use Rattle.tree_specs.specs.Pool.{Pool, marked_row, hooked_row}
+use Rattle.tree_specs.specs.Tree.Pool.{Pool, marked_row, hooked_row}
 use Rattle.tree_specs.specs.declared.row.Mark.TheVariants.{Quiet}
 use Rattle.references.specs.Rows.{SameRefs}
 use Rattle.references.proofs.Rows.{same-changed}

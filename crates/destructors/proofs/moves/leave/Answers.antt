@@ -1,5 +1,5 @@
 use Rattle.std.proofs.Common.{refl, sym, ap, subst}
-use Rattle.tree_specs.specs.Pool.{Pool, left_row}
+use Rattle.tree_specs.specs.Tree.Pool.{Pool, left_row}
 use Rattle.references.specs.Rows.{SameRefs}
 use Rattle.references.proofs.Rows.{same-changed}
 use Rattle.destructors.proofs.moves.leave.Goals as goal

@@ -1,6 +1,6 @@
 use Rattle.std.proofs.Common.{rules, ◌≡◌, [], true, ◌∙◌}
-use Rattle.tree_specs.specs.Pool.{is_owner}
-use Rattle.tree_specs.specs.Alone.{FreesWait}
+use Rattle.tree_specs.specs.Tree.Pool.{is_owner}
+use Rattle.tree_specs.specs.Invariants.Alone.{FreesWait}
 use Rattle.tree_links.specs.Links.{pool_of}
 use Rattle.references.proofs.Rows.{refs-added}
 use Rattle.destructors.proofs.Resting.{added-rests}

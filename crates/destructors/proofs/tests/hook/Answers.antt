@@ -1,7 +1,7 @@
 use Rattle.std.proofs.Common.{rules, ◌≡◌, [], refl, sym, ap, subst}
 use Rattle.tree_specs.specs.declared.call.Call.TheVariants as call
-use Rattle.tree_specs.specs.Calls.{refusals}
-use Rattle.tree_specs.specs.Pool.{Pool, hooked_row}
+use Rattle.tree_specs.specs.Calls.Refusals.{refusals}
+use Rattle.tree_specs.specs.Tree.Pool.{Pool, hooked_row}
 use Rattle.references.specs.Rows.{AreRefsOf}
 use Rattle.references.proofs.Rows.{refs-same, same-changed}
 use Rattle.tree_links.specs.Links.{pool_of}

@@ -1,7 +1,7 @@
 use Rattle.std.proofs.Common.{◌≡◌, ℕ, List, sym, ap, ◌∙◌, subst}
 use Rattle.tree_specs.specs.declared.frame.FreeFrame.{FreeFrame}
-use Rattle.tree_specs.specs.Table.{FreeMove}
-use Rattle.tree_specs.specs.Pool.{Pool}
+use Rattle.tree_specs.specs.Machine.Table.{FreeMove}
+use Rattle.tree_specs.specs.Tree.Pool.{Pool}
 use Rattle.tree_links.specs.Links.{pool_of}
 use Rattle.references.specs.Rows.{SameRefs}
 use Rattle.references.proofs.Rows.{refs-same}

@@ -2,7 +2,7 @@ use Rattle.std.proofs.Common.{◌∙◌, subst, ap}
 use Rattle.tree_specs.specs.declared.question.Input.{Input}
 use Rattle.tree_specs.specs.declared.question.Input.TheVariants as input
 use Rattle.tree_specs.specs.declared.frame.CallFrame.TheVariants.{Returning}
-use Rattle.tree_specs.specs.Whole.{Whole}
+use Rattle.tree_specs.specs.Invariants.Whole.{Whole}
 use Rattle.host_core.specs.Hosts.{begins_with, view_at, stack_of}
 use Rattle.host_core.proofs.Calling.{open_question, is-asked, returns, returned-ready}
 use Rattle.destructors.proofs.Callers.{call-alone}

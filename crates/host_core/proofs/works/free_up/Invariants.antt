@@ -1,6 +1,6 @@
 use Rattle.std.proofs.Common.{◌+◌, length}
-use Rattle.tree_specs.specs.Measure.{cost, pending}
-use Rattle.tree_specs.specs.View.{View}
+use Rattle.tree_specs.specs.Invariants.Measure.{cost, pending}
+use Rattle.tree_specs.specs.Machine.View.{View}
 use Rattle.host_core.specs.declared.active.Active.TheVariants as active
 use Rattle.host_core.specs.Hosts.{Along, view_in, IsReady}
 use Rattle.host_core.proofs.works.free_up.Given as goal

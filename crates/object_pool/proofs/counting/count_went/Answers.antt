@@ -1,5 +1,5 @@
 use Rattle.std.proofs.Common.{refl, sym, ◌∙◌, subst}
-use Rattle.tree_specs.specs.Pool.{changed, left_row}
+use Rattle.tree_specs.specs.Tree.Pool.{changed, left_row}
 use Rattle.memory_limits.specs.Limits.{Limits, AllSums, SameBounds}
 use Rattle.object_pool.proofs.Counted.{other-sums}
 use Rattle.object_pool.proofs.Told.{went-elsewhere, still-apart, had-owner, had-none}

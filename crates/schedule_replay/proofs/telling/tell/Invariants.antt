@@ -1,5 +1,5 @@
 use Rattle.std.proofs.Common.{[], length}
-use Rattle.tree_specs.specs.View.{rest_of}
+use Rattle.tree_specs.specs.Machine.View.{rest_of}
 use Rattle.schedule_replay.proofs.TextLaws.{ToldSoFar}
 use Rattle.schedule_replay.proofs.telling.tell.Given as goal
 

@@ -1,4 +1,4 @@
-use Rattle.tree_specs.specs.Text.{rows_text}
+use Rattle.tree_specs.specs.Texts.Text.{rows_text}
 use Rattle.text_forms.proofs.Writing.{then_writes, then_fails}
 use Rattle.schedule_text.proofs.Parts.{rows_line, report_text-parts}
 use Rattle.schedule_text.proofs.reply.write_report.Goals as goal

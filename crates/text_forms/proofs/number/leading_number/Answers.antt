@@ -1,5 +1,5 @@
 use Rattle.std.proofs.Common.{sym, ap, ◌∙◌}
-use Rattle.tree_specs.specs.Grammar.{is_short}
+use Rattle.tree_specs.specs.Texts.Grammar.{is_short}
 use Rattle.text_forms.proofs.Digits.{leading_is}
 use Rattle.text_forms.proofs.number.leading_number.Goals as goal
 

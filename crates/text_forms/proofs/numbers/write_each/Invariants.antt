@@ -1,5 +1,5 @@
 use Rattle.std.proofs.Common.{◌≡◌, ◌++◌, take}
-use Rattle.tree_specs.specs.Text.{numbers_text}
+use Rattle.tree_specs.specs.Texts.Text.{numbers_text}
 use Rattle.text_forms.proofs.numbers.write_each.Given as goal
 
 abbrev pub invariant-loop-n : goal.invariant-loop-n

@@ -1,5 +1,5 @@
 use Rattle.std.proofs.Common.{◌++◌, append_assoc, refl}
-use Rattle.tree_specs.specs.Text.{numbers_text}
+use Rattle.tree_specs.specs.Texts.Text.{numbers_text}
 use Rattle.text_forms.proofs.Writing.{then_writes, then_fails}
 use Rattle.text_forms.proofs.numbers.write_numbers.Goals as goal
 

@@ -1,5 +1,5 @@
 use Rattle.std.proofs.Common.{◌++◌, refl}
-use Rattle.tree_specs.specs.Text.{newline}
+use Rattle.tree_specs.specs.Texts.Text.{newline}
 use Rattle.text_forms.proofs.Rows.{place_text, sizes_text, row_text-parts}
 use Rattle.text_forms.proofs.Writing.{then_writes, then_fails}
 use Rattle.text_forms.proofs.report_row.write_report_row.Goals as goal

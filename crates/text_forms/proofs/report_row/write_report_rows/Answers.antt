@@ -1,4 +1,4 @@
-use Rattle.tree_specs.specs.Text.{row_text}
+use Rattle.tree_specs.specs.Texts.Text.{row_text}
 use Rattle.text_forms.proofs.Writing.{in_each}
 use Rattle.text_forms.proofs.report_row.write_report_rows.Goals as goal
 

@@ -1,6 +1,6 @@
 use Rattle.std.proofs.Common.{◌≡◌, true, Some, refl, sym, ap, ◌∙◌}
-use Rattle.tree_specs.specs.Pool.{owner_in, is_below}
-use Rattle.tree_specs.proofs.Numbered.{same_owner-equal}
+use Rattle.tree_specs.specs.Tree.Pool.{owner_in, is_below}
+use Rattle.tree_specs.proofs.Tree.Numbered.{same_owner-equal}
 use Rattle.linked_lanes.specs.Lane.{has}
 use Rattle.tree_links.specs.Nodes.{children}
 use Rattle.linked_lanes.proofs.Lanes.{without-absent}

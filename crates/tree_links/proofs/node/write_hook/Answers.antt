@@ -1,4 +1,4 @@
-use Rattle.tree_specs.specs.Pool.{hooked_row}
+use Rattle.tree_specs.specs.Tree.Pool.{hooked_row}
 use Rattle.tree_links.specs.Nodes.{with_row}
 use Rattle.tree_links.proofs.Steps.{mapped-at, len-old}
 use Rattle.tree_links.proofs.node.write_hook.Goals as goal

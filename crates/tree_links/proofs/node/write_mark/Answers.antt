@@ -1,4 +1,4 @@
-use Rattle.tree_specs.specs.Pool.{marked_row}
+use Rattle.tree_specs.specs.Tree.Pool.{marked_row}
 use Rattle.tree_links.specs.Nodes.{with_row}
 use Rattle.tree_links.proofs.Steps.{mapped-at, len-old}
 use Rattle.tree_links.proofs.node.write_mark.Goals as goal

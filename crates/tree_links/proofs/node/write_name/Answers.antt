@@ -1,4 +1,4 @@
-use Rattle.tree_specs.specs.Pool.{named_row}
+use Rattle.tree_specs.specs.Tree.Pool.{named_row}
 use Rattle.tree_links.specs.Nodes.{with_row}
 use Rattle.tree_links.proofs.Steps.{mapped-at, len-old}
 use Rattle.tree_links.proofs.node.write_name.Goals as goal

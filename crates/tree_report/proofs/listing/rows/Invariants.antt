@@ -1,5 +1,5 @@
 use Rattle.std.proofs.Common.{◌≡◌, ◌++◌}
-use Rattle.tree_specs.specs.Reports.{report}
+use Rattle.tree_specs.specs.Tree.Reports.{report}
 use Rattle.tree_report.specs.Shown.{shown}
 use Rattle.tree_report.proofs.listing.rows.Given as goal
 

@@ -1,6 +1,6 @@
 use Rattle.std.proofs.Common.{◌<◌, sym, ap, ◌∙◌, arith}
 use Rattle.std.specs.Option.{option_copied}
-use Rattle.tree_specs.specs.Calls.{size_limit}
+use Rattle.tree_specs.specs.Calls.Refusals.{size_limit}
 use Rattle.tree_report.proofs.sums.own_charge.Goals as goal
 
 pub overflow_add-result : goal.overflow_add-result

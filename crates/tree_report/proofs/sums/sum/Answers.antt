@@ -3,7 +3,7 @@ use borrow.Author.Tests.{tests}
 use Rattle.std.proofs.lemmas.Iterator.Consumers.{sum_by_from_yields_List, fits_by_from_yields_list}
 use Rattle.tree_report.specs.Walk.{walk_from}
 use Rattle.tree_report.specs.Weights.{weight_of}
-use Rattle.tree_specs.specs.Sums.{charge}
+use Rattle.tree_specs.specs.Tree.Sums.{charge}
 use Rattle.tree_report.proofs.Weighing.{weights, whole-weight, weight-fits, charge-small}
 use Rattle.tree_report.proofs.sums.sum.Goals as goal
 

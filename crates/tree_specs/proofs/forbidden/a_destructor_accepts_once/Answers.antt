@@ -1,6 +1,6 @@
 use Rattle.std.proofs.Common.{◌≡◌, true, false, [], ◌∷◌, refl}
 use Rattle.tree_specs.specs.declared.event.Event.TheVariants.{Accepted, Refused}
-use Rattle.tree_specs.specs.BadStories.{a, asks_a, told}
+use Rattle.tree_specs.specs.Promises.BadStories.{a, asks_a, told}
 use Rattle.tree_specs.proofs.forbidden.a_destructor_accepts_once.Goals as goal
 
 pub returns-clause-twice : goal.returns-clause-twice

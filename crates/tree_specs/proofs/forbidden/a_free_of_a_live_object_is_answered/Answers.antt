@@ -1,8 +1,8 @@
 use Rattle.std.proofs.Common.{◌≡◌, true, false, [], refl}
-use Rattle.tree_specs.specs.BadStories.{one_object, answered}
+use Rattle.tree_specs.specs.Promises.BadStories.{one_object, answered}
 use Rattle.tree_specs.specs.declared.reply.Reply.TheVariants.{No}
 use Rattle.tree_specs.specs.declared.reply.Refusal.TheVariants.{NoSuch, Running}
-use Rattle.tree_specs.specs.BadStories.{b}
+use Rattle.tree_specs.specs.Promises.BadStories.{b}
 use Rattle.tree_specs.proofs.forbidden.a_free_of_a_live_object_is_answered.Goals as goal
 
 pub returns-clause-missing : goal.returns-clause-missing

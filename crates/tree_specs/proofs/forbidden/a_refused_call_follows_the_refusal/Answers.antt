@@ -2,7 +2,7 @@ use Rattle.std.proofs.Common.{◌≡◌, [], ◌∷◌, refl}
 use Rattle.tree_specs.specs.declared.event.Event.TheVariants.{Replied, Refused, Freed}
 use Rattle.tree_specs.specs.declared.reply.Reply.TheVariants.{No}
 use Rattle.tree_specs.specs.declared.reply.Refusal.TheVariants.{Refused as RefusedBy}
-use Rattle.tree_specs.specs.BadStories.{a, b, told}
+use Rattle.tree_specs.specs.Promises.BadStories.{a, b, told}
 use Rattle.tree_specs.proofs.forbidden.a_refused_call_follows_the_refusal.Goals as goal
 
 pub returns-clause-unsaid : goal.returns-clause-unsaid

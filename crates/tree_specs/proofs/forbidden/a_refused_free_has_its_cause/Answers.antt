@@ -1,8 +1,8 @@
 use Rattle.std.proofs.Common.{◌≡◌, true, false, [], refl}
-use Rattle.tree_specs.specs.BadStories.{one_object, answered}
+use Rattle.tree_specs.specs.Promises.BadStories.{one_object, answered}
 use Rattle.tree_specs.specs.declared.reply.Reply.TheVariants.{No}
 use Rattle.tree_specs.specs.declared.reply.Refusal.TheVariants.{Running, Refused as RefusedBy}
-use Rattle.tree_specs.specs.BadStories.{a}
+use Rattle.tree_specs.specs.Promises.BadStories.{a}
 use Rattle.tree_specs.proofs.forbidden.a_refused_free_has_its_cause.Goals as goal
 
 pub returns-clause-running : goal.returns-clause-running

@@ -1,6 +1,6 @@
 use Rattle.std.proofs.Common.{◌≡◌, true, false, [], ◌∷◌, refl}
 use Rattle.tree_specs.specs.declared.event.Event.TheVariants.{Accepted, Freed}
-use Rattle.tree_specs.specs.BadStories.{a, told}
+use Rattle.tree_specs.specs.Promises.BadStories.{a, told}
 use Rattle.tree_specs.proofs.forbidden.an_object_is_freed_once.Goals as goal
 
 pub returns-clause-twice : goal.returns-clause-twice

@@ -2,7 +2,7 @@ use Rattle.std.proofs.Common.{◌≡◌, true, false, [], ◌∷◌, refl}
 use Rattle.tree_specs.specs.declared.event.Event.TheVariants.{Fired, Accepted, Refused, Moved, Warned, Freed, Unreferenced, State}
 use Rattle.tree_specs.specs.declared.object.Owner.TheVariants.{Root, Of}
 use Rattle.tree_specs.specs.declared.moment.What.TheVariants as what
-use Rattle.tree_specs.specs.BadStories.{a, b, r, asks_a, told}
+use Rattle.tree_specs.specs.Promises.BadStories.{a, b, r, asks_a, told}
 use Rattle.tree_specs.proofs.forbidden.nothing_starts_for_a_freed_object.Goals as goal
 
 pub returns-clause-fired : goal.returns-clause-fired

@@ -1,8 +1,8 @@
 use Rattle.std.proofs.Common.{◌≡◌, true, false, [], refl}
-use Rattle.tree_specs.specs.BadStories.{one_object, two_references, answered}
+use Rattle.tree_specs.specs.Promises.BadStories.{one_object, two_references, answered}
 use Rattle.tree_specs.specs.declared.reply.Reply.TheVariants.{Ok, No}
 use Rattle.tree_specs.specs.declared.reply.Refusal.TheVariants.{Held}
-use Rattle.tree_specs.specs.BadStories.{a}
+use Rattle.tree_specs.specs.Promises.BadStories.{a}
 use Rattle.tree_specs.proofs.forbidden.only_what_has_references_is_held.Goals as goal
 
 pub returns-clause-held : goal.returns-clause-held

@@ -1,10 +1,10 @@
 use Rattle.std.proofs.Common.{◌≡◌, true, false, [], ◌∷◌, refl}
 use Rattle.tree_specs.specs.declared.event.Event.TheVariants.{Fired, Accepted}
-use Rattle.tree_specs.specs.BadStories.{one_object, one_timer, seen}
+use Rattle.tree_specs.specs.Promises.BadStories.{one_object, one_timer, seen}
 use Rattle.tree_specs.specs.declared.row.Mark.TheVariants as mark
-use Rattle.tree_specs.specs.Pool.{empty, set_mark}
+use Rattle.tree_specs.specs.Tree.Pool.{empty, set_mark}
 use Rattle.tree_specs.specs.declared.moment.What.TheVariants as what
-use Rattle.tree_specs.specs.BadStories.{a, asks_a, told}
+use Rattle.tree_specs.specs.Promises.BadStories.{a, asks_a, told}
 use Rattle.tree_specs.proofs.forbidden.routines_start_for_live_objects.Goals as goal
 
 pub returns-clause-missing : goal.returns-clause-missing

@@ -2,7 +2,7 @@ use Rattle.std.proofs.Common.{◌≡◌, true, false, [], ◌∷◌, refl}
 use Rattle.tree_specs.specs.declared.event.Event.TheVariants.{State}
 use Rattle.std.proofs.Common.{arith}
 use Rattle.std.specs.Prelude.{◌≤◌}
-use Rattle.tree_specs.specs.BadStories.{a, told}
+use Rattle.tree_specs.specs.Promises.BadStories.{a, told}
 use Rattle.tree_specs.proofs.forbidden.the_states_of_a_request_go_up.Goals as goal
 
 pub returns-clause-low : goal.returns-clause-low

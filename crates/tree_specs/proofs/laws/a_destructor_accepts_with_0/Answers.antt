@@ -1,8 +1,8 @@
 use Rattle.std.proofs.Common.{length, None}
 use Rattle.tree_specs.specs.declared.question.Ask.TheVariants.{Quiet}
-use Rattle.tree_specs.specs.Pool.{empty}
-use Rattle.tree_specs.specs.Story.{turns}
-use Rattle.tree_specs.proofs.TextLaws.{all-lawful, accepts-items}
+use Rattle.tree_specs.specs.Tree.Pool.{empty}
+use Rattle.tree_specs.specs.Rules.Story.{turns}
+use Rattle.tree_specs.proofs.Rules.TextLaws.{all-lawful, accepts-items}
 use Rattle.tree_specs.proofs.laws.a_destructor_accepts_with_0.Goals as goal
 
 pub returns-clause-in_frees : goal.returns-clause-in_frees

@@ -1,5 +1,5 @@
 use Rattle.tree_specs.specs.declared.free_step.FreeReply.TheVariants.{Held, Running, Refused}
-use Rattle.tree_specs.proofs.FreeCauses.{free-cause}
+use Rattle.tree_specs.proofs.Rules.FreeCauses.{free-cause}
 use Rattle.tree_specs.proofs.laws.a_free_answers_with_its_cause.Goals as goal
 
 pub returns-clause-running : goal.returns-clause-running

@@ -1,5 +1,5 @@
 use Rattle.std.proofs.Common.{None}
-use Rattle.tree_specs.proofs.TextLaws.{all-lawful}
+use Rattle.tree_specs.proofs.Rules.TextLaws.{all-lawful}
 use Rattle.tree_specs.proofs.laws.a_free_waits_for_each_of_its_inputs.Goals as goal
 
 pub returns : goal.returns

@@ -1,4 +1,4 @@
-use Rattle.tree_specs.proofs.Kids.{first_kid-kids, next_kid-kids}
+use Rattle.tree_specs.proofs.Tree.Kids.{first_kid-kids, next_kid-kids}
 use Rattle.tree_specs.proofs.laws.children_follow_one_another.Goals as goal
 
 pub returns-clause-first : goal.returns-clause-first

@@ -1,4 +1,4 @@
-use Rattle.tree_specs.proofs.StoryLaws.{story-asks}
+use Rattle.tree_specs.proofs.Rules.StoryLaws.{story-asks}
 use Rattle.tree_specs.proofs.laws.every_story_ends_with_its_question.Goals as goal
 
 pub returns : goal.returns

@@ -1,4 +1,4 @@
-use Rattle.tree_specs.proofs.StoryOrder.{story-orderly}
+use Rattle.tree_specs.proofs.Promises.StoryOrder.{story-orderly}
 use Rattle.tree_specs.proofs.laws.every_story_is_orderly.Goals as goal
 
 pub returns : goal.returns

@@ -1,5 +1,5 @@
 use Rattle.std.proofs.Common.{sym}
-use Rattle.tree_specs.proofs.StoryLaws.{story-table, story-items}
+use Rattle.tree_specs.proofs.Rules.StoryLaws.{story-table, story-items}
 use Rattle.tree_specs.proofs.laws.the_table_tells_the_story.Goals as goal
 
 pub returns-clause-scenes : goal.returns-clause-scenes

@@ -1,5 +1,5 @@
 use Rattle.std.proofs.Common.{arith}
-use Rattle.tree_specs.proofs.StoryLaws.{story-enough, story-more, not-the-short}
+use Rattle.tree_specs.proofs.Rules.StoryLaws.{story-enough, story-more, not-the-short}
 use Rattle.tree_specs.proofs.laws.turns_are_enough.Goals as goal
 
 pub returns-clause-enough : goal.returns-clause-enough

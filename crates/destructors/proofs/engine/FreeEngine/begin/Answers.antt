@@ -1,5 +1,5 @@
 use Rattle.std.proofs.Common.{rules, ◌∷◌, inl, sym, subst}
-use Rattle.tree_specs.specs.Pool.{Pool}
+use Rattle.tree_specs.specs.Tree.Pool.{Pool}
 use Rattle.references.specs.Rows.{AreRefsOf}
 use Rattle.tree_links.specs.Links.{pool_of}
 use Rattle.destructors.specs.Frees.{before, frees_of}

@@ -1,5 +1,5 @@
 use Rattle.std.proofs.Common.{refl, sym, ◌∙◌, ap}
-use Rattle.tree_specs.specs.Schedule.{misfit}
+use Rattle.tree_specs.specs.Texts.Schedule.{misfit}
 use Rattle.host_core.specs.Hosts.{stack_of}
 use Rattle.host_core.proofs.Calling.{open_question, stays-at, speaks-at}
 use Rattle.host_core.proofs.Offering.{asks-now, offered, offered-report, unasked, question-view, takes-answer}

@@ -1,12 +1,12 @@
 use Rattle.std.proofs.Common.{rules, ◌≡◌, length, List, Some, Err, sym, ◌∙◌, ap, subst}
 use Rattle.std.specs.Option.{option_copied}
-use Rattle.tree_specs.specs.Pool.{owner_in}
-use Rattle.tree_specs.specs.Sums.{limit_in, limit_at}
+use Rattle.tree_specs.specs.Tree.Pool.{owner_in}
+use Rattle.tree_specs.specs.Tree.Sums.{limit_in, limit_at}
 use Rattle.memory_limits.specs.declared.limited.Limited.{Limited}
 use Rattle.memory_limits.specs.Limits.{limit_of}
 use Rattle.memory_limits.proofs.Kept.{unlimited-fits, over-unlimited}
 use Rattle.tree_specs.specs.declared.object.Owner.{Owner}
-use Rattle.tree_specs.specs.Calls.{checked, fits_in, fits}
+use Rattle.tree_specs.specs.Calls.Refusals.{checked, fits_in, fits}
 use Rattle.memory_limits.proofs.Upward.{above-all, far-enough, lacks, topmost}
 use Rattle.memory_limits.proofs.limits.Sums.fits.Goals as goal
 

@@ -1,5 +1,5 @@
 use Rattle.std.proofs.Common.{◌≡◌, length, Some}
-use Rattle.tree_specs.specs.Calls.{checked, fits_in}
+use Rattle.tree_specs.specs.Calls.Refusals.{checked, fits_in}
 use Rattle.memory_limits.proofs.limits.Sums.fits.Given as goal
 
 -- what is left to look at decides

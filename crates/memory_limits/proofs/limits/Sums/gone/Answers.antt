@@ -1,5 +1,5 @@
 use Rattle.std.proofs.Common.{List, sym, ◌∙◌, ap, subst}
-use Rattle.tree_specs.specs.Pool.{without}
+use Rattle.tree_specs.specs.Tree.Pool.{without}
 use Rattle.memory_limits.specs.declared.limited.Limited.{Limited}
 use Rattle.memory_limits.specs.Limits.{Limits, listed, AllSums, unlimited}
 use Rattle.memory_limits.proofs.Listed.{removed-listed}

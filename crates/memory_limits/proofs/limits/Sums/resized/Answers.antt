@@ -1,6 +1,6 @@
 use Rattle.std.proofs.Common.{◌≡◌, ℕ, List, map, sym, ◌∙◌, ap, subst}
 use Rattle.tree_specs.specs.declared.object.Owner.TheVariants.{Of}
-use Rattle.tree_specs.specs.Sums.{size_at}
+use Rattle.tree_specs.specs.Tree.Sums.{size_at}
 use Rattle.memory_limits.specs.declared.limited.Limited.{Limited}
 use Rattle.memory_limits.specs.Limits.{Limits, listed, AllSums, counts}
 use Rattle.memory_limits.proofs.Kept.{resizes, bounds-counted}

@@ -1,7 +1,7 @@
 use Rattle.std.proofs.Common.{sym, ◌∙◌, ap}
 use Rattle.std.specs.Option.{option_map}
 use Rattle.tree_specs.specs.declared.object.Owner.{Owner}
-use Rattle.tree_specs.specs.Sums.{sum_inside}
+use Rattle.tree_specs.specs.Tree.Sums.{sum_inside}
 use Rattle.memory_limits.specs.Limits.{limited_at}
 use Rattle.memory_limits.proofs.Kept.{sum-found}
 use Rattle.memory_limits.proofs.limits.Sums.sum.Goals as goal

@@ -1,5 +1,5 @@
 use Rattle.std.proofs.Common.{rules, ◌≡◌, List, true, sym, ap, subst}
-use Rattle.tree_specs.specs.Pool.{Pool, is_row}
+use Rattle.tree_specs.specs.Tree.Pool.{Pool, is_row}
 use Rattle.memory_limits.specs.declared.limited.Limited.{Limited}
 use Rattle.memory_limits.specs.Limits.{AllSums, AreLimitsOf}
 use Rattle.memory_limits.proofs.Relimited.{relimited-sums, relimited-are}

@@ -1,7 +1,7 @@
 use Rattle.std.proofs.Common.{◌≡◌, true, None, length, refl, sym, ap, subst, arith}
 use Rattle.tree_specs.specs.declared.object.Obj.{Obj}
 use Rattle.tree_specs.specs.declared.kind.Kind.TheVariants.{Plain}
-use Rattle.tree_specs.specs.Pool.{Pool, row_of}
+use Rattle.tree_specs.specs.Tree.Pool.{Pool, row_of}
 use Rattle.references.specs.Rows.{AreRefsOf}
 use Rattle.references.proofs.Rows.{refs-added}
 use Rattle.object_pool.specs.Objects.{Objects}

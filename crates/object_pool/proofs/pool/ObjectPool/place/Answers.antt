@@ -1,5 +1,5 @@
 use Rattle.std.proofs.Common.{◌≡◌, true, subst, sym}
-use Rattle.tree_specs.specs.Pool.{is_row}
+use Rattle.tree_specs.specs.Tree.Pool.{is_row}
 use Rattle.object_pool.specs.Objects.{Objects}
 use Rattle.object_pool.proofs.Keeping.{placed-agree}
 use Rattle.object_pool.proofs.pool.ObjectPool.place.Goals as goal

@@ -1,5 +1,5 @@
 use Rattle.std.proofs.Common.{length, ap, arith}
-use Rattle.tree_specs.specs.Pool.{Pool}
+use Rattle.tree_specs.specs.Tree.Pool.{Pool}
 use Rattle.object_pool.proofs.Keeping.{spent}
 use Rattle.object_pool.proofs.pool.ObjectPool.refer.Goals as goal
 

@@ -1,5 +1,5 @@
 use Rattle.std.proofs.Common.{refl, ap}
-use Rattle.tree_specs.specs.Pool.{Pool, named_row}
+use Rattle.tree_specs.specs.Tree.Pool.{Pool, named_row}
 use Rattle.object_pool.proofs.Keeping.{changed-agree}
 use Rattle.object_pool.proofs.pool.ObjectPool.rename.Goals as goal
 

@@ -1,8 +1,8 @@
 use Rattle.std.proofs.Common.{◌≡◌, ℕ, List, true, refl, sym, ◌∙◌, ap, subst, arith}
 use Rattle.tree_specs.specs.declared.row.Row.{Row}
-use Rattle.tree_specs.specs.Calls.{is_plain_row}
-use Rattle.tree_specs.specs.Pool.{Pool, row_of, changed, sized_row}
-use Rattle.tree_specs.specs.Sums.{limit_at, size_at}
+use Rattle.tree_specs.specs.Calls.Refusals.{is_plain_row}
+use Rattle.tree_specs.specs.Tree.Pool.{Pool, row_of, changed, sized_row}
+use Rattle.tree_specs.specs.Tree.Sums.{limit_at, size_at}
 use Rattle.references.specs.Rows.{AreRefsOf}
 use Rattle.references.proofs.Rows.{refs-same, same-changed}
 use Rattle.memory_limits.specs.Limits.{AllSums}

@@ -2,8 +2,8 @@ use Rattle.std.proofs.Common.{◌≡◌, List, Bool, sym, ap, ◌∙◌}
 use Rattle.tree_specs.specs.declared.object.Obj.{Obj}
 use Rattle.tree_specs.specs.declared.object.Owner.{Owner}
 use Rattle.tree_specs.specs.declared.row.Row.{Row}
-use Rattle.tree_specs.specs.Pool.{is_below, owner_of, newest_ref_of}
-use Rattle.tree_specs.specs.Forest.{Distinct}
+use Rattle.tree_specs.specs.Tree.Pool.{is_below, owner_of, newest_ref_of}
+use Rattle.tree_specs.specs.Tree.Forest.{Distinct}
 use Rattle.references.specs.declared.refs.Pair.{Pair}
 use Rattle.references.specs.Pairs.{Descends, count_to, first_to}
 use Rattle.references.specs.Rows.{AreRefsOf}

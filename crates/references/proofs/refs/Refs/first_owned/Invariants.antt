@@ -1,5 +1,5 @@
 use Rattle.std.proofs.Common.{◌≡◌}
-use Rattle.tree_specs.specs.Pool.{is_below, owner_of}
+use Rattle.tree_specs.specs.Tree.Pool.{is_below, owner_of}
 use Rattle.references.specs.Pairs.{count_to, first_to}
 use Rattle.references.specs.Linked.{first_passing, IsAtChild}
 use Rattle.references.proofs.refs.Refs.first_owned.Given as goal

@@ -1,8 +1,8 @@
 use Rattle.std.proofs.Common.{◌≡◌, ◌∙◌, length, arith, Err, Some, refl, ap, subst}
 use Rattle.std.proofs.lemmas.Result.{err_from_is_err_and}
 use Rattle.tree_specs.specs.declared.schedule.Reason.TheVariants.{NotAsked}
-use Rattle.tree_specs.specs.Schedule.{misfit}
-use Rattle.tree_specs.specs.View.{View, question_of}
+use Rattle.tree_specs.specs.Texts.Schedule.{misfit}
+use Rattle.tree_specs.specs.Machine.View.{View, question_of}
 use Rattle.host_core.specs.Promises.{TakesAnswer}
 use Rattle.schedule_replay.specs.Cuts.{at_line}
 use Rattle.schedule_replay.specs.Questions.{answered_of}

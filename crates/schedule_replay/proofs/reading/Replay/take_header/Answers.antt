@@ -1,6 +1,6 @@
 use Rattle.std.proofs.Common.{◌≡◌, ◌∙◌, refl, sym, ap, true, false}
 use Rattle.std.specs.Prelude.{not}
-use Rattle.tree_specs.specs.Schedule.{is_header}
+use Rattle.tree_specs.specs.Texts.Schedule.{is_header}
 use Rattle.schedule_replay.specs.Replays.{ended_line}
 use Rattle.schedule_replay.specs.Cuts.{at_line}
 use Rattle.schedule_replay.specs.States.{reading_of}

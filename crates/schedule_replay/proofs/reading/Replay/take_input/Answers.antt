@@ -1,5 +1,5 @@
 use Rattle.std.proofs.Common.{◌≡◌, None}
-use Rattle.tree_specs.specs.Grammar.{input_of}
+use Rattle.tree_specs.specs.Texts.Grammar.{input_of}
 use Rattle.schedule_replay.specs.Cuts.{at_line}
 use Rattle.schedule_replay.specs.States.{reading_of}
 use Rattle.schedule_replay.proofs.StateLaws.{refuses-form}

@@ -2,8 +2,8 @@ use Rattle.std.proofs.Common.{◌≡◌, ℕ, true, cond, nat_eq, List, Some, No
 use Rattle.std.specs.Option.{option_map, option_and_then}
 use Rattle.std.specs.FinMap as map
 use Rattle.tree_specs.specs.declared.row.Row.{Row}
-use Rattle.tree_specs.specs.Calls.{row_limit}
-use Rattle.tree_specs.specs.Pool.{row_of, is_owner, new_row, add, owner_in}
+use Rattle.tree_specs.specs.Calls.Refusals.{row_limit}
+use Rattle.tree_specs.specs.Tree.Pool.{row_of, is_owner, new_row, add, owner_in}
 use Rattle.tree_links.specs.Links.{IsTree, Links, pool_of}
 use Rattle.tree_links.specs.Nodes.{Holds, Enters, rows_of, row_in, placed_in, kin_in, first_in}
 use Rattle.tree_links.specs.declared.node.Node.{Node}

@@ -5,7 +5,7 @@ use Rattle.tree_specs.specs.declared.object.Owner.{Owner}
 use Rattle.linked_lanes.specs.declared.Sides.{Sides}
 use Rattle.tree_links.specs.declared.node.Node.{Node}
 use Rattle.tree_specs.specs.declared.row.Row.{Row}
-use Rattle.tree_specs.specs.Pool.{is_below, left_row, detach, changed}
+use Rattle.tree_specs.specs.Tree.Pool.{is_below, left_row, detach, changed}
 use Rattle.tree_links.specs.Links.{IsTree, Links, pool_of}
 use Rattle.tree_links.specs.Nodes.{Nodes, Holds, owned_in, numbers, children, rows_of}
 use Rattle.tree_links.proofs.Listing.{obj, lane-changed, lane-left, row-changed, held-rows}

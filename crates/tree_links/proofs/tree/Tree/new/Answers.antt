@@ -26,7 +26,7 @@ begun m e = record {
     head Root = refl
     head (Of x) = ap (λ y. option_and_then first_in (map.get y x.0)) e ∙ ap (option_and_then first_in) (get-empty nat_cmp x.0)
 
-ends : (o : Owner) → Rattle.tree_specs.specs.Forest.ends 1 [] (Some o) ≡ true
+ends : (o : Owner) → Rattle.tree_specs.specs.Tree.Forest.ends 1 [] (Some o) ≡ true
 ends Root = refl
 ends (Of x) = refl
 

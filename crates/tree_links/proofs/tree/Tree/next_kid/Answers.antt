@@ -2,13 +2,13 @@ use Rattle.std.proofs.Common.{◌≡◌, ℕ, List, Option, Some, None, true, re
 use Rattle.std.specs.Option.{option_map}
 use Rattle.tree_specs.specs.declared.object.Owner.{Owner}
 use Rattle.tree_specs.specs.declared.row.Row.{Row}
-use Rattle.tree_specs.specs.Pool.{next_kid, row_of, owner_in, is_below, kid_behind, behind}
-use Rattle.tree_specs.proofs.Numbered.{same_owner-equal}
+use Rattle.tree_specs.specs.Tree.Pool.{next_kid, row_of, owner_in, is_below, kid_behind, behind}
+use Rattle.tree_specs.proofs.Tree.Numbered.{same_owner-equal}
 use Rattle.tree_links.specs.Links.{Links}
 use Rattle.linked_lanes.specs.Lane.{has}
 use Rattle.linked_lanes.specs.Chain.{sides_in}
 use Rattle.tree_links.specs.Nodes.{Nodes, Holds, children, kin_in, row_in, next_in, next_where}
-use Rattle.tree_specs.specs.Forest.{Distinct as Once}
+use Rattle.tree_specs.specs.Tree.Forest.{Distinct as Once}
 use Rattle.std.specs.FinMap as map
 use Rattle.tree_links.specs.declared.node.Node.{Node}
 use Rattle.linked_lanes.specs.declared.Sides.{Sides}

@@ -3,7 +3,7 @@ use Rattle.std.specs.Option.{option_map, option_and_then}
 use Rattle.std.specs.FinMap as map
 use Rattle.tree_specs.specs.declared.row.Row.{Row}
 use Rattle.tree_specs.specs.declared.object.Owner.TheVariants.{Of}
-use Rattle.tree_specs.specs.Pool.{first_kid, remove, without as rows_without}
+use Rattle.tree_specs.specs.Tree.Pool.{first_kid, remove, without as rows_without}
 use Rattle.linked_lanes.specs.Lane.{first, without}
 use Rattle.tree_links.specs.Links.{IsTree, Links, pool_of}
 use Rattle.tree_links.specs.Nodes.{Holds, numbers, children, rows_of, row_in, first_in}

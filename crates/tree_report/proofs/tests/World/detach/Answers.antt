@@ -1,5 +1,5 @@
 use Rattle.std.proofs.Common.{refl, sym, ap, subst}
-use Rattle.tree_specs.specs.Pool.{Pool, left_row}
+use Rattle.tree_specs.specs.Tree.Pool.{Pool, left_row}
 use Rattle.references.specs.Rows.{AreRefsOf}
 use Rattle.references.proofs.Rows.{refs-same, same-changed}
 use Rattle.tree_report.proofs.tests.World.detach.Goals as goal

@@ -1,0 +1,4 @@
+-- Refusals and plans of calls.
+pub mod Checks
+pub mod Plans
+pub mod OwnRefusals

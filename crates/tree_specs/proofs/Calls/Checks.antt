@@ -1,0 +1,188 @@
+-- What it means that no refusal applies, and that an input fits.
+use Rattle.std.proofs.Common.{◌≡◌, ◌≢◌, ℕ, suc, zero, arith, List, [], ◌∷◌, ◌++◌, length, Option, Some, None, Bool, true, false, refl, sym, ◌∙◌, ap, subst, ◌⊎◌, inl, inr}
+use Rattle.std.specs.Prelude.{◌+◌, ◌^◌, is_some, not, nat_lt, nat_le}
+use Rattle.std.proofs.lemmas.Bool.{eqb-true}
+use Rattle.std.proofs.lemmas.Bool.Decides.{nat_tests}
+use Rattle.tree_specs.specs.declared.object.Obj.{Obj}
+use Rattle.tree_specs.specs.declared.object.Owner.{Owner}
+use Rattle.tree_specs.specs.declared.object.Owner.TheVariants.{Root, Of}
+use Rattle.tree_specs.specs.declared.row.Row.{Row}
+use Rattle.tree_specs.specs.declared.row.Mark.{Mark}
+use Rattle.tree_specs.specs.declared.row.Mark.TheVariants.{Quiet, Dying}
+use Rattle.tree_specs.specs.declared.call.Call.{Call}
+use Rattle.tree_specs.specs.declared.reply.Refusal.{Refusal}
+use Rattle.tree_specs.specs.declared.reply.Refusal.TheVariants.{WrongKind, NotParent, Loop, TooBig, Full, Spent}
+use Rattle.tree_specs.specs.Words.Objects.{same_owner}
+use Rattle.tree_specs.specs.declared.question.Ask.{Ask}
+use Rattle.tree_specs.specs.declared.question.Ask.TheVariants as ask
+use Rattle.tree_specs.specs.declared.question.Act.TheVariants as act
+use Rattle.tree_specs.specs.declared.question.Input.{Input}
+use Rattle.tree_specs.specs.declared.question.Input.TheVariants as input
+use Rattle.tree_specs.specs.declared.frame.Frame.{Frame}
+use Rattle.tree_specs.specs.Tree.Targets.{target_of, is_reference}
+use Rattle.tree_specs.specs.Tree.Pool.{Pool, row_of, is_object_row, is_owner, is_below, owner_of, newest_ref_of, reaches, is_inside}
+use Rattle.tree_specs.specs.Tree.Reports.{count_refs}
+use Rattle.tree_specs.specs.Calls.Given.{Given, given_to}
+use Rattle.tree_specs.specs.Calls.Given.Given.{Calls, Returns}
+use Rattle.tree_specs.specs.declared.test.Test.{Test}
+use Rattle.tree_specs.specs.Calls.Refusals.{Check, refuse_if, refusal_of, refused, size_limit, row_limit, object_row, object, owner, room, apart, interested, given_by, is_running_mark}
+use Rattle.tree_specs.specs.declared.test.Test.TheVariants.{IsSmall, IsObject, IsOwner, IsPlain, HasRoom, Fits, MayGrow, IsStaying, IsStill, IsApart, IsUnheld, IsUnreferenced, IsInterested, MayGive}
+use Rattle.tree_specs.specs.Calls.Passed.{Interest, AsOwner, AsHolder, Gives, Itself, ItsRef, Passed, AllPassed}
+use Rattle.tree_specs.specs.Invariants.Sound.{IsLive, MayBePlaced}
+use Rattle.tree_specs.specs.Words.Ranges.{is_sound_call, is_return}
+use Rattle.tree_specs.specs.Machine.Table.{doing, returning}
+use Rattle.tree_specs.specs.Rules.Story.{heard, led}
+use Rattle.tree_specs.specs.Invariants.Whole.{IsOfRoutine}
+use Rattle.tree_specs.proofs.Tree.Numbered.{by_test, same_owner-equal}
+
+-- where no check of two applies, neither does
+pub both-none : (first second : Check) → first ++ second ≡ [] → (first ≡ []) × (second ≡ [])
+both-none [] second e = (refl, e)
+both-none (why ∷ first) second e = cc
+
+pub refuse_if-none : (b : Bool) (why : Refusal) → refuse_if b why ≡ [] → b ≡ false
+refuse_if-none true why e = cc
+refuse_if-none false why e = refl
+
+pub not-false : (b : Bool) → not b ≡ false → b ≡ true
+not-false true e = refl
+not-false false e = cc
+
+-- no reference refers to nothing
+refers-none : (o : Option Obj) → is_some o ≡ false → o ≡ None
+refers-none None e = refl
+refers-none (Some t) e = cc
+
+-- ---- a test that isn't refused is passed
+
+pub passes-object : (p : Pool) (x : Obj) → object p x ≡ [] → Passed p (IsObject x)
+passes-object p x e = each (row_of p.rows x) refl e
+  where
+    each : (q : Option Row) → row_of p.rows x ≡ q → object_row x q ≡ [] → (r : Row) × (row_of p.rows x ≡ Some r) × (target_of r.kind ≡ None)
+    each None h t = cc
+    each (Some r) h t = (r, h, refers-none (target_of r.kind) (refuse_if-none (is_reference r.kind) (WrongKind x) t))
+
+-- an owner that isn't refused is there
+pub passes-owner : (p : Pool) (o : Owner) → owner p o ≡ [] → is_owner p.rows o ≡ true
+passes-owner p Root e = refl
+passes-owner p (Of x) e = each (row_of p.rows x) e
+  where
+    each : (q : Option Row) → object_row x q ≡ [] → is_object_row q ≡ true
+    each None h = cc
+    each (Some r) h = ap not (refuse_if-none (is_reference r.kind) (WrongKind x) h)
+
+-- where there is room for so many rows and numbers
+passes-room : (p : Pool) (k : ℕ) → room p k ≡ [] → Passed p (HasRoom k)
+passes-room p k e =
+    let full : Check = refuse_if (nat_lt row_limit (length p.rows + k)) (Full (length p.rows)) in
+    let spent : Check = refuse_if (nat_le (2 ^ 64) (p.next + k)) Spent in
+    let d : (full ≡ []) × (spent ≡ []) = both-none full spent e in
+    let many : nat_lt row_limit (length p.rows + k) ≡ false = refuse_if-none _ (Full (length p.rows)) d.0 in
+    let last : nat_le (2 ^ 64) (p.next + k) ≡ false = refuse_if-none _ Spent d.1 in
+    (grind (arith, nat_tests), grind (arith, nat_tests))
+
+-- an owner that isn't refused as one that has no reference has one
+held-ref : {A : Type 0} (p : Pool) (o : Owner) (x : Obj) → ((r : Obj) → is_below (owner_of p.rows x) o ≡ false → newest_ref_of p.rows o x ≡ Some r → A)
+    → is_below (owner_of p.rows x) o ≡ false → refuse_if (not (is_some (newest_ref_of p.rows o x))) (NotParent x o) ≡ [] → A
+held-ref {A = A} p o x has t e = each (newest_ref_of p.rows o x) refl (not-false _ (refuse_if-none _ _ e))
+  where
+    each : (n : Option Obj) → newest_ref_of p.rows o x ≡ n → is_some n ≡ true → A
+    each None n h = cc
+    each (Some r) n h = has r t n
+
+passes-interested : (p : Pool) (o : Owner) (x : Obj) → interested p o x ≡ [] → Interest p o x
+passes-interested p o x e = by_test (is_below (owner_of p.rows x) o)
+    (λ t. AsOwner t)
+    (λ t. let g : refuse_if (not (is_some (newest_ref_of p.rows o x))) (NotParent x o) ≡ [] = rw t at e in held-ref p o x (λ r u n. AsHolder r u n) t g)
+
+passes-given : (p : Pool) (from to : Owner) (x : Obj) → given_by p from to x ≡ [] → Gives p from to x
+passes-given p from to x e = by_test (is_below (owner_of p.rows x) from)
+    (λ t. let g : apart p x to ≡ [] = rw t at e in Itself t (refuse_if-none _ (Loop x to) g))
+    (λ t. let g : refuse_if (not (is_some (newest_ref_of p.rows from x))) (NotParent x from) ≡ [] = rw t at e in held-ref p from x (λ r u n. ItsRef r u n) t g)
+
+pub passes : (p : Pool) (t : Test) → refusal_of p t ≡ [] → Passed p t
+passes p (IsSmall size) e = let big : nat_le size_limit size ≡ false = refuse_if-none _ (TooBig size) e in grind (arith, nat_tests)
+passes p (IsObject x) e = passes-object p x e
+passes p (IsOwner o) e = passes-owner p o e
+passes p (IsPlain x) e = not-false _ (refuse_if-none _ _ e)
+passes p (HasRoom k) e = passes-room p k e
+passes p (Fits o wanted) e = e
+passes p (MayGrow x size) e = e
+passes p (IsStaying x) e = refuse_if-none _ _ e
+passes p (IsStill x) e = refuse_if-none _ _ e
+passes p (IsApart x o) e = refuse_if-none _ _ e
+passes p (IsUnheld x) e = refuse_if-none _ _ e
+passes p (IsUnreferenced x) e = eqb-true (count_refs p.rows x) 0 (not-false _ (refuse_if-none _ _ e))
+passes p (IsInterested o x) e = passes-interested p o x e
+passes p (MayGive from to x) e = passes-given p from to x e
+
+pub all-pass : (p : Pool) (ts : List Test) → refused p ts ≡ [] → AllPassed p ts
+all-pass p [] e = tt
+all-pass p (t ∷ []) e = (passes p t e, tt)
+all-pass p (t ∷ u ∷ ts) e = let d = both-none (refusal_of p t) (refused p (u ∷ ts)) e in (passes p t d.0, all-pass p (u ∷ ts) d.1)
+
+-- ---- what tests say together
+
+live-row : (p : Pool) (x : Obj) (r : Row) → row_of p.rows x ≡ Some r → Passed p (IsStaying x) → IsLive r.mark
+live-row p x r h dying = each r.mark refl
+  where
+    each : (m : Mark) → r.mark ≡ m → IsLive m
+    each (Dying former) m = let bad : true ≡ false = rw (h, m) at dying in cc
+    each _ m = tt
+
+apart-owner : (p : Pool) (x : Obj) (o : Owner) → is_inside p.rows o (Of x) ≡ false → o ≢ Of x
+apart-owner p x o f = λ same_as. (
+    let t : same_owner o (Of x) ≡ true = same_owner-equal o (Of x) same_as in
+    let t2 : reaches (length p.rows) p.rows (Some o) (Of x) ≡ true = first (length p.rows) t in
+    let bad : true ≡ false = sym t2 ∙ f in cc)
+  where
+    first : (n : ℕ) → same_owner o (Of x) ≡ true → reaches n p.rows (Some o) (Of x) ≡ true
+    first zero t = t
+    first (suc n) t = rw t refl
+
+pub may-place : (p : Pool) (o : Owner) (x : Obj) → Passed p (IsObject x) → Passed p (IsOwner o) → Passed p (IsStaying x) → Passed p (IsApart x o) → MayBePlaced p o x
+may-place p o x r own s a = record { row = r.0; is = r.1; live = live-row p x r.0 r.1 s; apart = apart-owner p x o a; there = own; outside = a }
+
+-- nothing goes on with an object that neither runs nor dies
+pub quiet-row : (p : Pool) (x : Obj) (r : Row) → row_of p.rows x ≡ Some r → Passed p (IsStill x) → Passed p (IsStaying x) → r.mark ≡ Quiet
+quiet-row p x r e still dying = calm r.mark (rw e at still) (live-row p x r e dying)
+  where
+    calm : (m : Mark) → is_running_mark m ≡ false → IsLive m → m ≡ Quiet
+    calm Quiet e l = refl
+    calm (Dying former) e l = absurd l
+    calm _ e l = cc
+
+-- ---- what an input that fits leads to
+
+-- a routine is over only where one was asked, and returns
+pub given-return : (q : Ask) (i : Input) (v : ℕ) → given_to q i ≡ Some (Returns v) → (i ≡ input.Act (act.Ret v)) × IsOfRoutine q
+given-return ask.Quiet (input.Call c) v e = cc
+given-return (ask.Routine m) (input.Act (act.Do c)) v e = cc
+given-return (ask.Routine m) (input.Act (act.Ret u)) v e = let e' : u ≡ v = cc in (ap (λ (z : ℕ). input.Act (act.Ret z)) e', tt)
+given-return q i v e = cc
+
+-- a call, or the end of a routine's run
+pub heard-by : {A : Type 0} (q : Ask) (does : Call → A) (returns : ℕ → A) (i : Input) (a : A) → heard q does returns i ≡ Some a
+    → ((c : Call) × (a ≡ does c)) ⊎ ((v : ℕ) × (i ≡ input.Act (act.Ret v)) × IsOfRoutine q × (a ≡ returns v))
+heard-by {A = A} q does returns i a e = each (given_to q i) refl e
+  where
+    each : (g : Option Given) → given_to q i ≡ g → led does returns g ≡ Some a → ((c : Call) × (a ≡ does c)) ⊎ ((v : ℕ) × (i ≡ input.Act (act.Ret v)) × IsOfRoutine q × (a ≡ returns v))
+    each None h e = cc
+    each (Some (Calls c)) h e = by_test (is_sound_call c)
+        (λ t. let e' : Some (does c) ≡ Some a = rw t at e in inl (c, cc))
+        (λ t. let e' : None ≡ Some a = rw t at e in cc)
+    each (Some (Returns v)) h e = by_test (is_return v)
+        (λ t. let e' : Some (returns v) ≡ Some a = rw t at e in let g = given-return q i v h in inr (v, g.0, g.1, cc))
+        (λ t. let e' : None ≡ Some a = rw t at e in cc)
+
+pub data Heard (q : Ask) : Frame → Type 0 where
+  -- a call
+  HeardCall : (c : Call) → Heard q (doing q c)
+  -- the end of a routine's run
+  HeardReturn : (v : ℕ) → IsOfRoutine q → Heard q (returning v)
+
+pub heard-leads : (q : Ask) (i : Input) (g : Frame) → heard q (doing q) returning i ≡ Some g → Heard q g
+heard-leads q i g e = elim (heard-by q (doing q) returning i g e) [
+  | inl h ↦ subst (Heard q) (sym h.1) (HeardCall h.0)
+  | inr h ↦ subst (Heard q) (sym h.3) (HeardReturn h.0 h.2)
+]

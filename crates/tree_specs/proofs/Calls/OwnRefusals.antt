@@ -1,0 +1,143 @@
+-- What a call is refused for before it does anything.
+use Rattle.tree_specs.proofs.Tree.Referring.{unreferred, plain-refers}
+use Rattle.tree_specs.specs.Tree.Forest.{Distinct}
+use Rattle.tree_specs.specs.Invariants.Sound.{IsReferable, Refers}
+use Rattle.std.proofs.Common.{◌≡◌, ℕ, List, [], ◌∷◌, ◌++◌, Option, Some, None, Bool, true, false, refl, sym, ◌∙◌, subst, ap}
+use Rattle.tree_specs.specs.Tree.Sums.{size_at}
+use Rattle.std.specs.Prelude.{zero, suc, ◌-◌, ◌+◌, ◌^◌, nat_lt, nat_le, length, not, is_some}
+use Rattle.tree_specs.specs.declared.object.Obj.{Obj}
+use Rattle.tree_specs.specs.declared.object.Owner.{Owner}
+use Rattle.tree_specs.specs.declared.object.Owner.TheVariants.{Root, Of}
+use Rattle.tree_specs.specs.declared.row.Row.{Row}
+use Rattle.tree_specs.specs.declared.call.Call.{Call}
+use Rattle.tree_specs.specs.declared.call.Call.TheVariants as call
+use Rattle.tree_specs.specs.declared.reply.Reply.TheVariants.{No}
+use Rattle.tree_specs.specs.declared.reply.Refusal.{Refusal}
+use Rattle.tree_specs.specs.declared.reply.Refusal.TheVariants as refusal
+use Rattle.tree_specs.specs.declared.event.Event.TheVariants.{Replied}
+use Rattle.tree_specs.specs.Tree.Pool.{Pool, row_of, is_below, owner_of}
+use Rattle.tree_specs.specs.Tree.Targets.{is_reference}
+use Rattle.tree_specs.specs.Rules.Items.{Item}
+use Rattle.tree_specs.specs.Rules.Items.Item.{Told}
+use Rattle.tree_specs.specs.declared.test.Test.{Test}
+use Rattle.tree_specs.specs.Calls.Refusals.{Check, row_limit, refuse_if, refusal_of, refused, refusals, over, fits_in, fits, growing, object_row, object, owner, room, given_by, held, is_held}
+use Rattle.tree_specs.specs.declared.test.Test.TheVariants.{IsSmall, IsObject, IsOwner, IsPlain, HasRoom, Fits, MayGrow, IsStaying, IsStill, IsApart, IsUnheld, IsUnreferenced, IsInterested, MayGive}
+use Rattle.tree_specs.specs.Rules.Sequence.{Scene}
+use Rattle.tree_specs.specs.Promises.Orderly.{RefusedJustNow}
+use Rattle.tree_specs.specs.Promises.Grounded.{AnsweredCall, HeldCall, CausedCall}
+use Rattle.tree_specs.proofs.Tree.Numbered.{by_test, same-equal}
+use Rattle.tree_specs.proofs.Tree.References.{not-held}
+
+-- only a destructor says so
+abbrev pub IsOwn : Refusal → Type 0
+IsOwn (refusal.Refused x v) = ⊥
+IsOwn why = Unit {0}
+
+abbrev pub AllOwn : Check → Type 0
+AllOwn [] = Unit {0}
+AllOwn (why ∷ later) = IsOwn why × AllOwn later
+
+own-both : (first second : Check) → AllOwn first → AllOwn second → AllOwn (first ++ second)
+own-both [] second h k = k
+own-both (why ∷ first) second h k = (h.0, own-both first second h.1 k)
+
+own-if : (b : Bool) (why : Refusal) → IsOwn why → AllOwn (refuse_if b why)
+own-if true why h = (h, tt)
+own-if false why h = tt
+
+own-object : (p : Pool) (x : Obj) → AllOwn (object p x)
+own-object p x = each (row_of p.rows x)
+  where
+    each : (o : Option Row) → AllOwn (object_row x o)
+    each None = (tt, tt)
+    each (Some r) = own-if _ _ tt
+
+own-owner : (p : Pool) (o : Owner) → AllOwn (owner p o)
+own-owner p Root = tt
+own-owner p (Of x) = own-object p x
+
+own-room : (p : Pool) (k : ℕ) → AllOwn (room p k)
+own-room p k =
+    own-both (refuse_if (nat_lt row_limit (length p.rows + k)) (refusal.Full (length p.rows))) (refuse_if (nat_le (2 ^ 64) (p.next + k)) refusal.Spent) (own-if _ _ tt) (own-if _ _ tt)
+
+own-fits : (n : ℕ) (rs : List Row) (wanted : ℕ) (o : Option Owner) → AllOwn (fits_in n rs wanted o)
+own-fits n rs wanted None = tt
+own-fits n rs wanted (Some Root) = tt
+own-fits zero rs wanted (Some (Of x)) = tt
+own-fits (suc n) rs wanted (Some (Of x)) = own-both (over rs wanted x) _ (own-if _ _ tt) (own-fits n rs wanted (owner_of rs x))
+
+own-below : (p : Pool) (o : Owner) (wanted : ℕ) → AllOwn (fits p o wanted)
+unfolding fits
+own-below p o wanted = own-fits (length p.rows) p.rows wanted (Some o)
+
+own-growing : (p : Pool) (x : Obj) (size : ℕ) → AllOwn (growing p x size)
+own-growing p x size = by_test (nat_lt (size_at p.rows x) size) (λ t. rw t (own-below p (Of x) (size - size_at p.rows x))) (λ t. rw t tt)
+
+own-given : (p : Pool) (from to : Owner) (x : Obj) → AllOwn (given_by p from to x)
+own-given p from to x = by_test (is_below (owner_of p.rows x) from) (λ t. rw t (own-if _ (refusal.Loop x to) tt)) (λ t. rw t (own-if _ (refusal.NotParent x from) tt))
+
+own-test : (p : Pool) (t : Test) → AllOwn (refusal_of p t)
+own-test p (IsSmall size) = own-if _ _ tt
+own-test p (IsObject x) = own-object p x
+own-test p (IsOwner o) = own-owner p o
+own-test p (IsPlain x) = own-if _ _ tt
+own-test p (HasRoom k) = own-room p k
+own-test p (Fits o wanted) = own-below p o wanted
+own-test p (MayGrow x size) = own-growing p x size
+own-test p (IsStaying x) = own-if _ _ tt
+own-test p (IsStill x) = own-if _ _ tt
+own-test p (IsApart x o) = own-if _ _ tt
+own-test p (IsUnheld x) = own-if _ _ tt
+own-test p (IsUnreferenced x) = own-if _ _ tt
+own-test p (IsInterested o x) = own-if _ _ tt
+own-test p (MayGive from to x) = own-given p from to x
+
+pub own-refused : (p : Pool) (ts : List Test) → AllOwn (refused p ts)
+own-refused p [] = tt
+own-refused p (t ∷ []) = own-test p t
+own-refused p (t ∷ u ∷ ts) = own-both (refusal_of p t) (refused p (u ∷ ts)) (own-test p t) (own-refused p (u ∷ ts))
+
+-- ---- what such a refusal needs: nothing
+
+pub own-just-now : (items : List Item) (why : Refusal) → IsOwn why → RefusedJustNow items (Told (Replied (No why)))
+own-just-now items (refusal.Refused x v) h = absurd h
+own-just-now items _ h = tt
+
+not-true : (b : Bool) → not b ≡ true → b ≡ false
+not-true true e = cc
+not-true false e = refl
+
+-- what a call to free says of a refusal
+abbrev Says : List Scene → Pool → Obj → Refusal → Type 0
+Says scenes p x why = AnsweredCall (call.Free x) p (No why) × HeldCall (call.Free x) p (No why) × CausedCall scenes (call.Free x) p (No why)
+
+-- a free is refused at once where there is no such object, where it is a reference, and where it is held
+own-free : (scenes : List Scene) (p : Pool) (x : Obj) (why : Refusal) (later : Check) → Distinct p.rows → Refers p.rows → refusals p (call.Free x) ≡ why ∷ later → Says scenes p x why
+own-free scenes p x why later d refers e = each (row_of p.rows x) refl e
+  where
+    -- what can't be referred to isn't held
+    free : (IsReferable (row_of p.rows x) → ⊥) → is_held p x ≡ true → ⊥
+    free h t = let bad : true ≡ false = sym t ∙ not-held p x (unreferred p.rows x d h refers) in cc
+
+    by-held : (b : Bool) → is_held p x ≡ b → refuse_if b (refusal.Held x) ≡ why ∷ later → Says scenes p x why
+    by-held false h e = cc
+    by-held true h e = let w : refusal.Held x ≡ why = cc in subst (Says scenes p x) w ((λ i. same-equal x x refl), ((λ q. h), (λ t. refl)), tt)
+
+    each : (o : Option Row) → row_of p.rows x ≡ o → object_row x o ++ held p x ≡ why ∷ later → Says scenes p x why
+    each None k e =
+        let w : refusal.NoSuch x.0 ≡ why = cc in
+        subst (Says scenes p x) w ((λ i. let bad : false ≡ true = rw k at i in cc), ((λ q. cc), (λ t. absurd (free (λ h. let h' : IsReferable None = rw k at h in h') t))), tt)
+    each (Some r) k e = by_test (is_reference r.kind)
+        (λ u. let e' : refusal.WrongKind x ∷ held p x ≡ why ∷ later = rw u at e in
+        let w : refusal.WrongKind x ≡ why = cc in
+        subst (Says scenes p x) w (
+          (λ i. let i' : not (is_reference r.kind) ≡ true = rw k at i in let bad : true ≡ false = sym u ∙ not-true (is_reference r.kind) i' in cc),
+          ((λ q. cc), (λ t. absurd (free (λ h. let h' : IsReferable (Some r) = rw k at h in let bad : false ≡ true = sym (ap is_some (plain-refers r.kind h'.0)) ∙ u in cc) t))),
+          tt,
+        ))
+        (λ u. let e' : held p x ≡ why ∷ later = rw u at e in by-held (is_held p x) refl e')
+
+pub own-call : (scenes : List Scene) (p : Pool) (c : Call) (why : Refusal) (later : Check) → Distinct p.rows → Refers p.rows → refusals p c ≡ why ∷ later
+    → AnsweredCall c p (No why) × HeldCall c p (No why) × CausedCall scenes c p (No why)
+own-call scenes p (call.Free x) why later d refers e = own-free scenes p x why later d refers e
+own-call scenes p _ why later d refers e = (tt, tt, tt)

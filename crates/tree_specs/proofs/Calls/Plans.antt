@@ -1,0 +1,210 @@
+-- What a plan asks for, what its change of the rows leaves so, and that a call which isn't refused may carry out its plan.
+use Rattle.std.proofs.Common.{ℕ, ◌≡◌, ◌≢◌, ◌≤◌, ◌+◌, ◌*◌, List, [], ◌∷◌, length, Option, Some, None, Bool, true, false, refl, sym, ◌∙◌, ap, subst, arith}
+use Rattle.std.specs.Prelude.{codes, if◌then◌else◌}
+use Rattle.tree_specs.specs.declared.object.Obj.{Obj}
+use Rattle.tree_specs.specs.declared.object.Owner.{Owner}
+use Rattle.tree_specs.specs.declared.object.Owner.TheVariants.{Root, Of}
+use Rattle.tree_specs.specs.declared.kind.Kind.{Kind}
+use Rattle.tree_specs.specs.declared.kind.Kind.TheVariants as kind
+use Rattle.tree_specs.specs.Words.Objects.{same}
+use Rattle.tree_specs.specs.declared.row.Row.{Row}
+use Rattle.tree_specs.specs.declared.call.Call.{Call}
+use Rattle.tree_specs.specs.declared.call.Call.TheVariants as call
+use Rattle.tree_specs.specs.declared.reply.Reply.{Reply}
+use Rattle.tree_specs.specs.declared.reply.Reply.TheVariants as reply
+use Rattle.tree_specs.specs.declared.frame.Frame.{Frame}
+use Rattle.tree_specs.specs.Tree.Pool.{Pool, row_of, is_row, is_owner, owner_of, target_at, is_inside, place, hooked_row, named_row, sized_row, limited_row}
+use Rattle.tree_specs.specs.Tree.Targets.{target_of, newest_ref}
+use Rattle.tree_specs.specs.Tree.Inside.{total}
+use Rattle.tree_specs.specs.Invariants.Measure.{weight, mark_weight}
+use Rattle.tree_specs.specs.Invariants.Whole.{burden, mark_burden}
+use Rattle.tree_specs.specs.Calls.Refusals.{Check, tests, refusals}
+use Rattle.tree_specs.specs.declared.test.Test.TheVariants.{IsObject}
+use Rattle.tree_specs.specs.Calls.Plans.{Change, Plan, changed_by, plan, planned, unless_refused, places, warns, frees, handed, gift}
+use Rattle.tree_specs.specs.Calls.Plans.Change.{Nothing, Edit, Add, Place, Then}
+use Rattle.tree_specs.specs.Calls.Plans.Plan.{Does, Frees, Unlinks, Empties}
+use Rattle.tree_specs.specs.Invariants.Sound.{IsLive, IsReferable, IsQuietRow, MayBePlaced, Rests, Sound, claim}
+use Rattle.tree_specs.proofs.Tree.Numbered.{same-equal, is_below-some}
+use Rattle.tree_specs.proofs.Tree.Rows.{total-placed, row_of-placed-same}
+use Rattle.tree_specs.proofs.Tree.Rooted.{KeepsPlace}
+use Rattle.tree_specs.proofs.Tree.Referring.{newest-refers, newest-of-refers, refers-nothing, reference-outside, object-refers}
+use Rattle.tree_specs.specs.Calls.Passed.{Passed, AllPassed, Interest, AsOwner, AsHolder, Gives, Itself, ItsRef}
+use Rattle.tree_specs.proofs.Calls.Checks.{all-pass, may-place, quiet-row}
+use Rattle.tree_specs.proofs.Invariants.Changes.{names-place, hooks-place, sizes-place, limits-place, goes_on, unmarked-sound, placed-sound, new-sound, owned-row}
+use Rattle.tree_specs.proofs.Invariants.KeptFrees.{referred-live}
+use Rattle.tree_specs.proofs.Turns.FallingFrees.{total-kept, length-changed, length-placed}
+use Rattle.tree_specs.proofs.Promises.Later.{Later, later-still, later-same, later-changed, later-placed, later-added}
+
+-- ---- what a change asks for
+
+-- an object of which something changes that is nobody else's
+pub record MayBeEdited (p : Pool) (x : Obj) (g : Row → Row) : Type 0 where
+  pub row : Row
+  pub is : row_of p.rows x ≡ Some row
+  pub object : target_of row.kind ≡ None
+  pub place : KeepsPlace g
+  pub mark : (r : Row) → (g r).mark ≡ r.mark
+
+pub record MayBeAdded (p : Pool) (kind : Kind) (o : Owner) : Type 0 where
+  pub there : is_owner p.rows o ≡ true
+  pub target : (t : Obj) → target_of kind ≡ Some t → IsReferable (row_of p.rows t)
+
+abbrev pub MayDo : Pool → Change → Type 0
+MayDo p Nothing = Unit {0}
+MayDo p (Edit x g) = MayBeEdited p x g
+MayDo p (Add kind o size name) = MayBeAdded p kind o
+MayDo p (Place o x) = MayBePlaced p o x
+MayDo p (Then first second) = MayDo p first × MayDo (changed_by first p) second
+
+-- how many rows it adds
+abbrev pub added : Change → ℕ
+added Nothing = 0
+added (Edit x g) = 0
+added (Add kind o size name) = 1
+added (Place o x) = 0
+added (Then first second) = added first + added second
+
+-- ---- what a change leaves so
+
+-- at most so many rows are there more, each of which pays twice; those that are there bear as much; what was past stays so
+pub record Follows (p q : Pool) (more : ℕ) : Type 0 where
+  pub weight : total weight q.rows ≤ total weight p.rows + 2 * more
+  pub number : length q.rows ≤ length p.rows + more
+  pub burden : total burden p.rows ≤ total burden q.rows
+  pub later : Later p q
+
+pub follows : (p : Pool) (c : Change) → MayDo p c → Follows p (changed_by c p) (added c)
+follows p Nothing may = record { weight = omega arith; number = omega arith; burden = omega arith; later = later-same p }
+follows p (Edit x g) may =
+    let w = total-kept weight g p.rows x may.row may.is (ap mark_weight (may.mark may.row)) in
+    let b = total-kept burden g p.rows x may.row may.is (ap mark_burden (may.mark may.row)) in
+    record {
+      weight = omega (arith, w);
+      number = omega (arith, length-changed g p.rows x);
+      burden = omega (arith, b);
+      later = later-changed g p x may.row may.place.serial may.is (λ d. rw (may.mark may.row) d);
+    }
+follows p (Add kind o size name) may = record { weight = omega arith; number = omega arith; burden = omega arith; later = later-added p kind o size name }
+follows p (Place o x) may =
+    let w = total-placed weight p o x may.row may.is refl in
+    let b = total-placed burden p o x may.row may.is refl in
+    record {
+      weight = omega (arith, w);
+      number = omega (arith, length-placed p o x may.row may.is);
+      burden = omega (arith, b);
+      later = later-placed p o x may.row may.is;
+    }
+follows p (Then first second) may =
+    let a = follows p first may.0 in
+    let b = follows (changed_by first p) second may.1 in
+    record { weight = omega (arith, a.weight, b.weight); number = omega (arith, a.number, b.number); burden = omega (arith, a.burden, b.burden); later = later-still a.later b.later }
+
+-- the rows stay sound under a work that claims as much
+pub change-sound : (f f' : Frame) (fs : List Frame) (p : Pool) (c : Change) → Sound f fs p → MayDo p c → ((y : Obj) → claim y f' ≡ claim y f) → ((q : Pool) → Rests f fs q) → Rests f' fs (changed_by c p) → Sound f' fs (changed_by c p)
+change-sound f f' fs p Nothing s may same calm h = goes_on f f' fs p same h s
+change-sound f f' fs p (Edit x g) s may same calm h = unmarked-sound g f f' fs p x may.row s may.place may.mark may.is may.object same h
+change-sound f f' fs p (Add kind o size name) s may same calm h = new-sound f f' kind o size name fs p s may.there may.target same h
+change-sound f f' fs p (Place o x) s may same calm h = placed-sound f f' o x fs p s may same h
+change-sound f f' fs p (Then first second) s may same calm h =
+    let t = change-sound f f fs p first s may.0 (λ y. refl) calm (calm (changed_by first p)) in
+    change-sound f f' fs (changed_by first p) second t may.1 same calm h
+
+-- ---- what a plan asks for
+
+-- the object of which it warns is there after the change
+abbrev pub IsThere : Option Obj → Pool → Type 0
+IsThere None p = Unit {0}
+IsThere (Some x) p = is_row p.rows x ≡ true
+
+abbrev pub May : Pool → Plan → Type 0
+May p (Does c warned r) = MayDo p c × (added c ≤ 2) × IsThere warned (changed_by c p)
+May p (Frees x) = (newest_ref p.rows x ≡ None) × (target_at p.rows x ≡ None)
+May p (Unlinks o x) = (r : Row) × (row_of p.rows x ≡ Some r) × IsLive r.mark × (target_of r.kind ≡ None)
+May p (Empties x) = Unit {0}
+
+-- the reference that goes in the place of its target
+pub ref-placed : (f : Frame) (fs : List Frame) (p : Pool) (o : Owner) (x r : Obj) → Sound f fs p → target_at p.rows r ≡ Some x → is_owner p.rows o ≡ true → MayBePlaced p o r
+ref-placed f fs p o x r s is there = by-row (row_of p.rows r) refl (s.refers.quiet r x is)
+  where
+    ne : o ≢ Of r
+    ne e = refers-nothing p.rows r x (object-refers (row_of p.rows r) (subst (λ (z : Owner). is_owner p.rows z ≡ true) e there)) is
+
+    by-row : (q : Option Row) → row_of p.rows r ≡ q → IsQuietRow q → MayBePlaced p o r
+    by-row None e quiet = absurd quiet
+    by-row (Some row) e quiet = record { row = row; is = e; live = rw quiet tt; apart = ne; there = there; outside = reference-outside p.rows r x o s.forest is ne }
+
+-- a call that isn't refused may carry out its plan
+module _ (f : Frame) (fs : List Frame) (p : Pool) (s : Sound f fs p) where
+  edited : (x : Obj) (g : Row → Row) → Passed p (IsObject x) → KeepsPlace g → ((r : Row) → (g r).mark ≡ r.mark) → MayBeEdited p x g
+  edited x g h place mark = record { row = h.0; is = h.1; object = h.2; place = place; mark = mark }
+
+  placed : (o : Owner) (x : Obj) (r : Reply) → MayBePlaced p o x → May p (places p o x r)
+  placed o x r may = (may, omega arith, there (warns p o x))
+    where
+      there : (b : Bool) → IsThere (if b then Some x else None) (place p o x)
+      there true = rw (row_of-placed-same p o x may.row may.is) refl
+      there false = tt
+
+  referred : (o : Owner) (x r : Obj) → Passed p (IsObject x) → target_at p.rows r ≡ Some x → May p (Unlinks o x)
+  referred o x r h is = (h.0, h.1, referred-live p x r h.0 s.refers is h.1, h.2)
+
+  freed : (x : Obj) → Passed p (IsObject x) → (n : Option Obj) → newest_ref p.rows x ≡ n → May p (frees n x)
+  freed x h None e = (e, rw h.1 h.2)
+  freed x h (Some r) e = let w = newest-refers p.rows x r s.forest.distinct e in referred Root x r h (rw w.1 w.2)
+
+  unlinked : (o : Owner) (x : Obj) → Passed p (IsObject x) → Interest p o x → May p (Unlinks o x)
+  unlinked o x h (AsOwner t) =
+      let w = owned-row p x o s.valid (is_below-some (owner_of p.rows x) o t) in
+      let same_row : Some w.0 ≡ Some h.0 = sym w.1 ∙ h.1 in
+      let same_row' : w.0 ≡ h.0 = cc in
+      (h.0, h.1, subst (λ (z : Row). IsLive z.mark) same_row' w.2, h.2)
+  unlinked o x h (AsHolder r t e) = let w = newest-of-refers p.rows o x r s.forest.distinct e in referred o x r h (rw w.1 w.2)
+
+  given : (from to : Owner) (x : Obj) → Gives p from to x → is_owner p.rows to ≡ true → (is_inside p.rows to (Of x) ≡ false → MayBePlaced p to x)
+      → May p (Does (handed to (gift p from x)) None reply.Ok)
+  given from to x (Itself t outside) there placed = rw t (placed outside, omega arith, tt)
+  given from to x (ItsRef r t n) there placed =
+      let w = newest-of-refers p.rows from x r s.forest.distinct n in
+      rw (t, n) (ref-placed f fs p to x r s (rw w.1 w.2) there, omega arith, tt)
+
+  each : (c : Call) → AllPassed p (tests c) → May p (plan p c)
+  each (call.New o size name) h = (record { there = h.1.0; target = λ t e. cc }, omega arith, tt)
+  each (call.Free x) h = freed x h.0 (newest_ref p.rows x) refl
+  each (call.Freekids x) h = tt
+  each (call.Steal o x) h = placed o x reply.Ok (may-place p o x h.0 h.1.0 h.1.1.0 h.1.1.1.0)
+  each (call.Move o x) h = placed o x (reply.Number x.0) (may-place p o x h.0 h.1.0 h.1.1.0 h.1.1.1.0)
+  each (call.Reparent from to x) h = given from to x h.1.1.1.1.0 h.1.1.0 (λ outside. may-place p to x h.0 h.1.1.0 h.1.1.1.0 outside)
+  each (call.Reference o x) h =
+      let quiet = quiet-row p x h.0.0 h.0.1 h.1.1.1.0 h.1.1.1.1.0 in
+      let plain : IsReferable (row_of p.rows x) = rw h.0.1 (rw h.0.1 at h.1.0, quiet) in
+      (record { there = h.1.1.0; target = λ t e. let e' : x ≡ t = cc in subst (λ (z : Obj). IsReferable (row_of p.rows z)) e' plain }, omega arith, tt)
+  each (call.Unlink o x) h = unlinked o x h.0 h.1.1.0
+  each (call.Hook x routine) h = (edited x (hooked_row routine) h.0 (hooks-place routine) (λ r. refl), omega arith, tt)
+  each (call.Unhook x) h = (edited x (hooked_row 0) h.0 (hooks-place 0) (λ r. refl), omega arith, tt)
+  each (call.Rename x name) h = (edited x (named_row name) h.0 (names-place name) (λ r. refl), omega arith, tt)
+  each (call.Resize x size) h = (edited x (sized_row size) h.1.0 (sizes-place size) (λ r. refl), omega arith, tt)
+  each (call.Limit x max) h = (edited x (limited_row max) h.0 (limits-place max) (λ r. refl), omega arith, tt)
+  each (call.Parent x) h = (tt, omega arith, tt)
+  each (call.Total o) h = (tt, omega arith, tt)
+  each (call.Count o) h = (tt, omega arith, tt)
+  each (call.Sum o) h = (tt, omega arith, tt)
+  each (call.Report o) h = (tt, omega arith, tt)
+
+  pub may : (c : Call) → refusals p c ≡ [] → May p (plan p c)
+  may c none = each c (all-pass p (tests c) none)
+
+  -- and one that is refused only replies
+  pub may-planned : (c : Call) → May p (planned p c)
+  may-planned c = by-check (refusals p c) refl
+    where
+      by-check : (check : Check) → refusals p c ≡ check → May p (unless_refused check (plan p c))
+      by-check [] none = may c none
+      by-check (why ∷ later) e = (tt, omega arith, tt)
+
+-- ---- a request to come: the row of the request, and below it that of its state
+
+pub request-may : (p : Pool) (o : Owner) (size : ℕ) (name : List ℕ) → is_owner p.rows o ≡ true → MayDo p (Then (Add kind.Request o 0 (codes "req")) (Add kind.Plain (Of (record { 0 = p.next })) size name))
+request-may p o size name there =
+    let n : Obj = record { 0 = p.next } in
+    let self : same n n ≡ true = same-equal n n refl in
+    (record { there = there; target = λ t e. cc }, record { there = rw self refl; target = λ t e. cc })

@@ -1,0 +1,363 @@
+-- What each step of a free keeps of what holds at every moment.
+use Rattle.std.proofs.Common.{◌≡◌, ◌≢◌, ℕ, suc, zero, List, [], ◌∷◌, Option, Some, None, true, false, nat_eq, refl, sym, ◌∙◌, ap, subst, inl, inr}
+use Rattle.std.specs.Prelude.{unwrap_or, ◌||◌}
+use Rattle.step_machine.specs.Machine.{Move}
+use Rattle.step_machine.specs.Machine.{Move as Do}
+use Rattle.step_machine.proofs.Ends.{Leads}
+use Rattle.tree_specs.specs.Machine.Profiles.{InRun, InLoop}
+use Rattle.tree_specs.specs.declared.object.Obj.{Obj}
+use Rattle.tree_specs.specs.declared.object.Owner.{Owner}
+use Rattle.tree_specs.specs.declared.object.Owner.TheVariants.{Root, Of}
+use Rattle.tree_specs.specs.declared.row.Row.{Row}
+use Rattle.tree_specs.specs.declared.row.Mark.{Mark}
+use Rattle.tree_specs.specs.declared.row.Mark.TheVariants.{Quiet, Asked, Busy, Doomed, Dying}
+use Rattle.tree_specs.specs.declared.question.Ask.{Ask}
+use Rattle.tree_specs.specs.declared.question.Ask.TheVariants.{Routine}
+use Rattle.tree_specs.specs.declared.frame.Frame.{Frame}
+use Rattle.tree_specs.specs.declared.frame.Frame.TheVariants as frame
+use Rattle.tree_specs.specs.declared.frame.CallFrame.TheVariants.{Asking, Doing, Awaiting, Returning}
+use Rattle.tree_specs.specs.declared.frame.FreeFrame.TheVariants.{Unlinking, Releasing, Giving, Beginning, Hooked, Judged, Leaving, Looping, Trying, Tried, Ending}
+use Rattle.tree_specs.specs.declared.frame.Purpose.{Purpose}
+use Rattle.tree_specs.specs.declared.frame.Purpose.TheVariants.{Removal, Emptying}
+use Rattle.tree_specs.specs.declared.frame.Answer.{Answer}
+use Rattle.tree_specs.specs.declared.frame.Answer.TheVariants.{Freed}
+use Rattle.tree_specs.specs.declared.free_step.FreeReply.{FreeReply}
+use Rattle.tree_specs.specs.declared.free_step.FreeReply.TheVariants.{Ok, Held, Running, Refused}
+use Rattle.tree_specs.specs.Words.Objects.{same}
+use Rattle.tree_specs.specs.Tree.Pool.{Pool, row_of, target_in, target_at, newest_ref_of, owner_in, owner_at, noted_owner, is_owner, is_below, owner_of, is_inside, first_kid, without, changed, remove, left_row, set_mark, marked_row, hooked_row}
+use Rattle.tree_specs.specs.Rules.Items.{Item}
+use Rattle.tree_specs.specs.Rules.Story.{hook_moment}
+use Rattle.tree_specs.specs.Machine.Table.{table, step, lifted, begin_quiet, begin_step, drop_step, refs_step, unlink_step, release_step, judge_step, last_step, child_step, loop_step, hand_on_step, reply_in, resume}
+use Rattle.tree_specs.specs.Tree.Heirs.{heir}
+use Rattle.tree_specs.specs.Invariants.Sound.{Owned, Shaped, ValidAt, phase_of, phases, claim, claims, AllWait, IsLive, IsReferable, NotedFor, Tries, StillThere, Refers, IsQuietRow, IsOver, MayAnswer, IsCalled, IsGivenUp, MayBePlaced, Sound, footing}
+use Rattle.tree_specs.proofs.Tree.Numbered.{by_test, same-equal, same-false}
+use Rattle.tree_specs.proofs.Tree.Rows.{row_of-changed-other, row_of-changed-same, row_of-without-other, row_of-without-same, first_kid-owner}
+use Rattle.tree_specs.proofs.Tree.Rooted.{forest-left, forest-without, is_there-owner}
+use Rattle.tree_specs.proofs.Tree.Referring.{newest-refers, newest-of-refers, none-refers, newest-changed, refers-at, refers-nothing, outside-without, owner-without}
+use Rattle.tree_specs.proofs.Tree.Ancestry.{inside-self, inside-owner, inside-not_back}
+use Rattle.tree_specs.specs.Tree.Forest.{IsForest}
+use Rattle.tree_specs.specs.Tree.Targets.{target_of, newest_ref}
+use Rattle.tree_specs.proofs.Invariants.Waiters.{Waiter, ForFree, ForRun, ForChild, waiter}
+use Rattle.tree_specs.proofs.Calls.Checks.{Heard, HeardCall, HeardReturn, heard-leads}
+use Rattle.tree_specs.proofs.Invariants.Changes.{run-refers, run-unreferred, dropped-sound, dying-row, running-row, claim-here, positive, not-zero, stands, goes_on, changed-sound, shape-of, live-owned, marks-place, hooks-place, unmarked-sound, valid-at, frees-at, placed-sound, heir-placed}
+
+-- what a step leads to is sound
+abbrev pub KeptBy : Move Frame Answer Pool Item → List Frame → ℕ → Type 0
+KeptBy m fs k = Leads table (λ g gs q j. Sound g gs q) m fs k
+
+pub asking : (q : Ask) (fs : List Frame) (p : Pool) (k : ℕ) → Sound (frame.Call (Asking q)) fs p → KeptBy (step (frame.Call (Asking q)) p) fs k
+asking q fs p zero s = tt
+asking q fs p (suc k) s = λ i g e. leads g (heard-leads q i g e)
+  where
+    leads : (g : Frame) → Heard q g → Sound g fs p
+    leads _ (HeardCall c) = goes_on (frame.Call (Asking q)) (frame.Call (Doing q c)) fs p (λ x. refl) tt s
+    leads _ (HeardReturn v of) = goes_on (frame.Call (Asking q)) (frame.Call (Returning v)) fs p (λ x. refl) tt s
+
+-- a work that ends leaves the work below it sound
+pub ended : (a : Answer) (f : Frame) (fs : List Frame) (p : Pool) (k : ℕ) → Sound f fs p → ((x : Obj) → claim x f ≡ [])
+    → ((x c : Obj) (noted : Option Owner) (purpose : Purpose) (gs : List Frame) → fs ≡ frame.Free (Trying x c noted purpose) ∷ gs → StillThere (reply_in a) x c noted p) → KeptBy (Do.Done a p) fs k
+ended a f [] p k s none there = tt
+ended a f (g ∷ gs) p k s none there = below g (waiter g gs s.waiting.0) s there
+  where
+    below : (g : Frame) → Waiter g → Sound f (g ∷ gs) p
+        → ((x c : Obj) (noted : Option Owner) (purpose : Purpose) (hs : List Frame) → g ∷ gs ≡ frame.Free (Trying x c noted purpose) ∷ hs → StillThere (reply_in a) x c noted p) → Sound (resume g a) gs p
+    below _ (ForFree q x) s there = stands f _ (frame.Call (Awaiting q x) ∷ gs) gs p (λ y. rw (none y) refl) s.waiting.1 tt s
+    below _ (ForRun x h) s there = stands f _ (frame.Free (Hooked x h) ∷ gs) gs p (λ y. rw (none y) refl) s.waiting.1 s.waiting.0 s
+    below _ (ForChild x c noted purpose) s there = stands f _ (frame.Free (Trying x c noted purpose) ∷ gs) gs p (λ y. rw (none y) refl) s.waiting.1 (there x c noted purpose gs refl, s.waiting.0) s
+
+-- a child that isn't said to run need not be where it was
+pub still-there : (a : FreeReply) (x c : Obj) (noted : Option Owner) (p : Pool) → IsOver a → StillThere a x c noted p
+still-there Running x c noted p h = absurd h
+still-there _ x c noted p h = tt
+
+-- ---- freeing
+
+pub leaving : (x : Obj) (h : ℕ) (fs : List Frame) (p : Pool) (k : ℕ) → Sound (frame.Free (Leaving x h)) fs p → KeptBy (step (frame.Free (Leaving x h)) p) fs k
+leaving x h fs p k s =
+    let self : same x x ≡ true = same-equal x x refl in
+    let r : Row = s.rests.0 in
+    let e : row_of p.rows x ≡ Some r = s.rests.1 in
+    let v : ValidAt p.next (Some r) x = rw e at (s.valid x) in
+    let none : claims x fs ≡ [] = s.rests.3 in
+    let unreferred : newest_ref p.rows x ≡ None = s.rests.5 in
+    let new : row_of (changed left_row p.rows x) x ≡ Some (left_row r) = row_of-changed-same left_row p.rows x r (λ q. refl) e in
+    let other : (y : Obj) → x ≢ y → row_of (changed left_row p.rows x) y ≡ row_of p.rows y = (λ y ne. row_of-changed-other left_row p.rows x y (λ q. refl) ne) in
+    record {
+      started = s.started;
+      valid = valid-at p.next p.rows (changed left_row p.rows x) x s.valid other (rw new (v.0, v.1, left r.owner (live-owned r.mark r.owner x s.rests.2 v.2)));
+      forest = forest-left p.rows x s.forest;
+      refers = refers-at p.rows (changed left_row p.rows x) x other
+          (λ t q. let q' : target_of r.kind ≡ Some t = rw new at q in let bad : None ≡ Some t = sym s.rests.4 ∙ q' in cc) (λ y q. absurd (none-refers p.rows x y unreferred q)) s.refers;
+      open_frees = frees-at (frame.Free (Leaving x h)) (frame.Free (Looping x (Removal h))) fs fs p.rows (changed left_row p.rows x) x s.open_frees other
+          (λ y ne. let u : same x y ≡ false = same-false x y ne in by_test (nat_eq h 0) (λ t. rw (t, u) refl) (λ t. rw (t, u) refl))
+          (rw (self, none, new) refl);
+      waiting = s.waiting;
+      rests = tt;
+    }
+  where
+    left : (o : Option Owner) → Owned o x → Shaped (Dying (unwrap_or o Root)) None x
+    left (Some o) h = h
+    left None h = absurd h
+
+-- the last child is gone, and the object is removed
+removed : (x : Obj) (h : ℕ) (fs : List Frame) (p : Pool) → first_kid p.rows (Of x) ≡ None → Sound (frame.Free (Looping x (Removal h))) fs p → Sound (frame.Free (Ending Ok)) fs (remove p x)
+removed x h fs p alone s =
+    let row = dying-row (row_of p.rows x) (claims x fs) (claim-here x InLoop (claims x fs) (row_of p.rows x) (s.open_frees x)) in
+    let none : claims x fs ≡ [] = row.4 in
+    let gone : row_of (without p.rows x) x ≡ None = row_of-without-same p.rows x s.forest.distinct in
+    record {
+      started = s.started;
+      valid = valid-at p.next p.rows (without p.rows x) x s.valid (λ y ne. row_of-without-other p.rows x y ne) (rw gone tt);
+      forest = forest-without p.rows x s.forest alone;
+      refers = refers-at p.rows (without p.rows x) x (λ y ne. row_of-without-other p.rows x y ne) (λ t q. let bad : None ≡ Some t = rw gone at q in cc)
+          (λ y q. absurd (let h : IsReferable (Some row.0) = rw row.1 at (s.refers.target y x q) in let bad : Dying row.2 ≡ Quiet = sym row.3 ∙ h.1 in cc)) s.refers;
+      open_frees = frees-at (frame.Free (Looping x (Removal h))) (frame.Free (Ending Ok)) fs fs p.rows (without p.rows x) x s.open_frees (λ y ne. row_of-without-other p.rows x y ne)
+          (λ y ne. let u : same x y ≡ false = same-false x y ne in rw u refl) (rw (none, gone) refl);
+      waiting = s.waiting;
+      rests = (tt, tt);
+    }
+
+pub looping : (x : Obj) (purpose : Purpose) (fs : List Frame) (p : Pool) (k : ℕ) → Sound (frame.Free (Looping x purpose)) fs p → KeptBy (step (frame.Free (Looping x purpose)) p) fs k
+looping x purpose fs p k s = each (first_kid p.rows (Of x)) refl
+  where
+    last : (purpose : Purpose) → first_kid p.rows (Of x) ≡ None → Sound (frame.Free (Looping x purpose)) fs p → KeptBy (lifted (last_step x purpose p)) fs k
+    last (Removal h) e s = removed x h fs p e s
+    last Emptying e s = ended (Freed Ok) (frame.Free (Looping x Emptying)) fs p k s (λ y. refl) (λ y c n b gs q. tt)
+
+    each : (o : Option Obj) → first_kid p.rows (Of x) ≡ o → KeptBy (lifted (loop_step x purpose (first_kid p.rows (Of x)) p)) fs k
+    each None e = rw e (last purpose e s)
+    each (Some c) e = rw e (child (target_at p.rows c) refl)
+      where
+        child : (o : Option Obj) → target_at p.rows c ≡ o → KeptBy (lifted (child_step x c purpose (target_at p.rows c) p)) fs k
+        child None t = rw t (stands (frame.Free (Looping x purpose)) (frame.Free (Beginning c)) fs (frame.Free (Trying x c (noted_owner p.rows c) purpose) ∷ fs) p (λ y. refl) (s.rests, s.waiting)
+            ((refl, first_kid-owner p.rows (Of x) c s.forest.distinct e, inl refl), t) s)
+        child (Some target) t = rw t (dropped-sound (frame.Free (Looping x purpose)) (frame.Free (Looping x purpose)) fs p c target s t (λ y. refl) s.rests)
+
+-- the freeing of a child is over
+pub tried : (x c : Obj) (noted : Option Owner) (purpose : Purpose) (a : FreeReply) (fs : List Frame) (p : Pool) (k : ℕ) → Sound (frame.Free (Tried x c noted purpose a)) fs p
+    → KeptBy (step (frame.Free (Tried x c noted purpose a)) p) fs k
+tried x c noted purpose a fs p k s = each a s
+  where
+    handed : (b : FreeReply) → Sound (frame.Free (Tried x c noted purpose b)) fs p → KeptBy (lifted (hand_on_step x c noted purpose p)) fs k
+    handed b s = by_test (is_below (owner_of p.rows c) (Of x))
+        (λ t. rw t (placed-sound (frame.Free (Tried x c noted purpose b)) (frame.Free (Looping x purpose)) (heir p.rows x c noted) c fs p s (heir-placed x c noted _ fs p s t) (λ y. refl) s.rests.1))
+        (λ t. rw t (goes_on (frame.Free (Tried x c noted purpose b)) (frame.Free (Looping x purpose)) fs p (λ y. refl) s.rests.1 s))
+
+    each : (b : FreeReply) → Sound (frame.Free (Tried x c noted purpose b)) fs p → KeptBy (step (frame.Free (Tried x c noted purpose b)) p) fs k
+    each Ok s = goes_on (frame.Free (Tried x c noted purpose Ok)) (frame.Free (Looping x purpose)) fs p (λ y. refl) s.rests.1 s
+    each Held s = handed Held s
+    each Running s = handed Running s
+    each (Refused v) s = handed (Refused v) s
+
+-- ---- the newest reference is dropped
+
+-- an object whose freeing begins is not the reference that goes
+pub apart : (p : Pool) (x r t : Obj) → target_at p.rows x ≡ None → target_at p.rows r ≡ Some t → r ≢ x
+apart p x r t object is e = refers-nothing p.rows x t object (ap (target_at p.rows) (sym e) ∙ is)
+
+-- the owner that was noted for a child is not x, where its newest reference was inside the child
+noted-other : (x c r : Obj) (noted : Option Owner) (p : Pool) → IsForest p.rows → owner_of p.rows c ≡ Some (Of x) → newest_ref p.rows c ≡ Some r → r ≢ c → is_inside p.rows (Of r) (Of c) ≡ true
+    → NotedFor x c noted p → noted ≢ Some (Of x)
+noted-other x c r noted p f owner newest ne inside h = elim h [
+  | inl is ↦ λ e.
+      let at : owner_of p.rows r ≡ Some (Of x) = ap (owner_at p.rows) (sym newest) ∙ sym is ∙ e in
+      let other : same r c ≡ false = same-false r c ne in
+      let above : is_inside p.rows (Of x) (Of c) ≡ true = (let q : is_inside p.rows (Of r) (Of c) ≡ (same r c || is_inside p.rows (Of x) (Of c)) = inside-owner p.rows r (Of x) (Of c) at in
+      let q' : is_inside p.rows (Of r) (Of c) ≡ is_inside p.rows (Of x) (Of c) = rw other at q in sym q' ∙ inside) in
+      let bad : true ≡ false = sym above ∙ inside-not_back p.rows c x f.rooted owner in cc
+  | inr other ↦ other
+]
+
+tries-dropped : (x r : Obj) (fs : List Frame) (p : Pool) → Sound (frame.Free (Beginning x)) fs p → newest_ref p.rows x ≡ Some r → r ≢ x → is_inside p.rows (Of r) (Of x) ≡ true → Tries x (footing fs) (remove p r)
+tries-dropped x r [] p s newest ne inside = tt
+tries-dropped x r (g ∷ gs) p s newest ne inside = below g (waiter g gs s.waiting.0) s.rests.0
+  where
+    below : (g : Frame) → Waiter g → Tries x (footing (g ∷ gs)) p → Tries x (footing (g ∷ gs)) (remove p r)
+    below _ (ForFree q y) t = let bad : None ≡ Some r = sym t ∙ newest in cc
+    below _ (ForRun y h) t = absurd t
+    below _ (ForChild y c noted purpose) t =
+        let same_row : row_of (without p.rows r) x ≡ row_of p.rows x = row_of-without-other p.rows r x ne in
+        let n : NotedFor y x noted p = subst (λ (z : Obj). NotedFor y z noted p) refl t.2 in
+        (t.0, ap owner_in same_row ∙ t.1, inr (noted-other y x r noted p s.forest t.1 newest ne inside n))
+
+may-hold : (x r : Obj) (fs : List Frame) (p : Pool) → Sound (frame.Free (Beginning x)) fs p → newest_ref p.rows x ≡ Some r → MayAnswer Held (footing fs)
+may-hold x r [] p s newest = tt
+may-hold x r (g ∷ gs) p s newest = below g (waiter g gs s.waiting.0) s.rests.0
+  where
+    below : (g : Frame) → Waiter g → Tries x (footing (g ∷ gs)) p → MayAnswer Held (footing (g ∷ gs))
+    below _ (ForFree q y) t = let bad : None ≡ Some r = sym t ∙ newest in cc
+    below _ (ForRun y h) t = tt
+    below _ (ForChild y c noted purpose) t = tt
+
+drops : (x r : Obj) (fs : List Frame) (p : Pool) (k : ℕ) → Sound (frame.Free (Beginning x)) fs p → newest_ref p.rows x ≡ Some r → KeptBy (lifted (drop_step x r p)) fs k
+drops x r fs p k s newest =
+    let w = newest-refers p.rows x r s.forest.distinct newest in
+    let is : target_at p.rows r ≡ Some x = rw w.1 w.2 in
+    let ne : r ≢ x = apart p x r x s.rests.1 is in
+    let stays : target_at (without p.rows r) x ≡ None = ap target_in (row_of-without-other p.rows r x ne) ∙ s.rests.1 in
+    by_test (is_inside p.rows (Of r) (Of x))
+    (λ t. rw t (dropped-sound (frame.Free (Beginning x)) (frame.Free (Beginning x)) fs p r x s is (λ y. refl) (tries-dropped x r fs p s newest ne t, stays)))
+    (λ t. rw t (dropped-sound (frame.Free (Beginning x)) (frame.Free (Ending Held)) fs p r x s is (λ y. refl) (tt, may-hold x r fs p s newest)))
+
+pub beginning : (x : Obj) (fs : List Frame) (p : Pool) (k : ℕ) → Sound (frame.Free (Beginning x)) fs p → KeptBy (step (frame.Free (Beginning x)) p) fs k
+beginning x fs p k s = newest (newest_ref p.rows x) refl
+  where
+    -- no reference of x's owner's was noted where there is none
+    no-noted : (y : Obj) (noted : Option Owner) → newest_ref p.rows x ≡ None → NotedFor y x noted p → noted ≢ Some (Of y)
+    no-noted y noted none h = elim h [
+      | inl is ↦ λ e. (let bad : None ≡ Some (Of y) = sym (ap (owner_at p.rows) none) ∙ sym is ∙ e in cc)
+      | inr other ↦ other
+    ]
+
+    still : newest_ref p.rows x ≡ None → (q : Pool) → owner_of q.rows x ≡ owner_of p.rows x → (fs : List Frame) → Tries x (footing fs) p
+        → (y c : Obj) (noted : Option Owner) (purpose : Purpose) (gs : List Frame) → fs ≡ frame.Free (Trying y c noted purpose) ∷ gs → StillThere Running y c noted q
+    still none q o fs t y c noted purpose gs e =
+        let t' : (c ≡ x) × (owner_of p.rows x ≡ Some (Of y)) × NotedFor y x noted p = subst (λ (l : List Frame). Tries x (footing l) p) e t in
+        (subst (λ (z : Obj). owner_of q.rows z ≡ Some (Of y)) (sym t'.0) (o ∙ t'.1), no-noted y noted none t'.2)
+
+    over : KeptBy (Do.Done (Freed Ok) p) fs k
+    over = ended (Freed Ok) (frame.Free (Beginning x)) fs p k s (λ y. refl) (λ y c n b gs q. tt)
+
+    runs : newest_ref p.rows x ≡ None → KeptBy (Do.Done (Freed Running) p) fs k
+    runs none = ended (Freed Running) (frame.Free (Beginning x)) fs p k s (λ y. refl) (still none p refl fs s.rests.0)
+
+    object : (r : Row) → row_of p.rows x ≡ Some r → target_of r.kind ≡ None
+    object r e = let t : target_in (Some r) ≡ None = rw e at s.rests.1 in t
+
+    -- the claims on an event stay when it is doomed
+    dooms : newest_ref p.rows x ≡ None → (r : Row) → row_of p.rows x ≡ Some r → r.mark ≡ Busy → KeptBy (Do.Done (Freed Running) (set_mark p x Doomed)) fs k
+    dooms none r e m =
+        let same_owner : owner_of (set_mark p x Doomed).rows x ≡ owner_of p.rows x = rw (e, row_of-changed-same (marked_row Doomed) p.rows x r (λ q. refl) e) refl in
+        let t : Sound (frame.Free (Ending Ok)) fs (set_mark p x Doomed) = changed-sound (marked_row Doomed) (frame.Free (Beginning x)) (frame.Free (Ending Ok)) fs fs p x r s (marks-place Doomed) e
+        (live-owned r.mark r.owner x (rw m tt) (shape-of p x r s.valid e)) (object r e) (inr none) (λ y ne. refl) (s.open_frees x ∙ ap phases e ∙ ap phase_of m) s.waiting (tt, tt) in
+        ended (Freed Running) (frame.Free (Ending Ok)) fs (set_mark p x Doomed) k t (λ y. refl) (still none (set_mark p x Doomed) same_owner fs s.rests.0)
+
+    quiet : newest_ref p.rows x ≡ None → (r : Row) → row_of p.rows x ≡ Some r → r.mark ≡ Quiet → KeptBy (lifted (begin_quiet x r.hook p)) fs k
+    quiet unreferred r e m =
+        let none : claims x fs ≡ [] = s.open_frees x ∙ ap phases e ∙ ap phase_of m in
+        let self : same x x ≡ true = same-equal x x refl in
+        by_test (nat_eq r.hook 0)
+        (λ t. rw t (goes_on (frame.Free (Beginning x)) (frame.Free (Leaving x 0)) fs p (λ y. refl) (r, e, rw m tt, none, object r e, unreferred) s))
+        (λ t. rw t (changed-sound (marked_row Asked) (frame.Free (Beginning x)) (frame.Free (Hooked x r.hook)) fs fs p x r s (marks-place Asked) e
+        (live-owned r.mark r.owner x (rw m tt) (shape-of p x r s.valid e)) (object r e) (inr unreferred)
+        (λ y ne. let u : same x y ≡ false = same-false x y ne in rw u refl) (rw (self, none) refl) s.waiting
+        (positive r.hook t, rw (row_of-changed-same (marked_row Asked) p.rows x r (λ q. refl) e) refl)))
+
+    marks : newest_ref p.rows x ≡ None → (r : Row) (m : Mark) → r.mark ≡ m → row_of p.rows x ≡ Some r → KeptBy (lifted (begin_step x (row_of p.rows x) p)) fs k
+    marks none r Quiet m e = rw (e, m) (quiet none r e m)
+    marks none r Asked m e = rw (e, m) (runs none)
+    marks none r Busy m e = rw (e, m) (dooms none r e m)
+    marks none r Doomed m e = rw (e, m) (runs none)
+    marks none r (Dying former) m e = rw (e, m) over
+
+    each : newest_ref p.rows x ≡ None → (o : Option Row) → row_of p.rows x ≡ o → KeptBy (lifted (begin_step x (row_of p.rows x) p)) fs k
+    each none None e = rw e over
+    each none (Some r) e = marks none r r.mark refl e
+
+    newest : (o : Option Obj) → newest_ref p.rows x ≡ o → KeptBy (lifted (refs_step x (newest_ref p.rows x) p)) fs k
+    newest None e = rw e (each e (row_of p.rows x) refl)
+    newest (Some r) e = rw e (drops x r fs p k s e)
+
+-- ---- an owner gives an object up
+
+-- what is referred to is live
+pub referred-live : (p : Pool) (x r : Obj) (row : Row) → Refers p.rows → target_at p.rows r ≡ Some x → row_of p.rows x ≡ Some row → IsLive row.mark
+referred-live p x r row refers is e = let h : IsReferable (Some row) = rw e at (refers.target r x is) in rw h.1 tt
+
+-- the same object is given up after a reference to it is gone
+given_up-dropped : (x r : Obj) (fs : List Frame) (p : Pool) → IsGivenUp x (footing fs) p → r ≢ x → IsGivenUp x (footing fs) (remove p r)
+given_up-dropped x r fs p h ne = (h.0, h.1, row_of-without-other p.rows r x ne ∙ h.2, h.3, h.4)
+
+pub given_up-object : (x : Obj) (fs : List Frame) (p : Pool) → IsGivenUp x (footing fs) p → target_at p.rows x ≡ None
+given_up-object x fs p h = rw h.2 h.4
+
+pub unlinking : (o : Owner) (x : Obj) (fs : List Frame) (p : Pool) (k : ℕ) → Sound (frame.Free (Unlinking o x)) fs p → KeptBy (step (frame.Free (Unlinking o x)) p) fs k
+unlinking o x fs p k s = each (newest_ref_of p.rows o x) refl
+  where
+    each : (n : Option Obj) → newest_ref_of p.rows o x ≡ n → KeptBy (lifted (unlink_step x (newest_ref_of p.rows o x) p)) fs k
+    each None e = rw e (goes_on (frame.Free (Unlinking o x)) (frame.Free (Releasing x)) fs p (λ y. refl) s.rests s)
+    each (Some r) e =
+        let w = newest-of-refers p.rows o x r s.forest.distinct e in
+        let is : target_at p.rows r ≡ Some x = rw w.1 w.2 in
+        rw e (dropped-sound (frame.Free (Unlinking o x)) (frame.Free (Ending Ok)) fs p r x s is (λ y. refl) (tt, tt))
+
+-- the owner of a reference from outside may take the object
+giver : (f : Frame) (fs : List Frame) (p : Pool) (x r : Obj) → Sound f fs p → IsGivenUp x (footing fs) p → target_at p.rows r ≡ Some x → is_inside p.rows (Of r) (Of x) ≡ false
+    → MayBePlaced (remove p r) (unwrap_or (owner_of p.rows r) Root) x
+giver f fs p x r s h is out = by-row (row_of p.rows r) refl (s.refers.quiet r x is) (s.valid r)
+  where
+    ne : r ≢ x
+    ne = apart p x r x (given_up-object x fs p h) is
+
+    by-owner : (w : Option Owner) → owner_of p.rows r ≡ w → Owned w r → MayBePlaced (remove p r) (unwrap_or w Root) x
+    by-owner None e o = absurd o
+    by-owner (Some w) e o =
+        let i : is_inside p.rows (Of r) (Of x) ≡ (same r x || is_inside p.rows w (Of x)) = inside-owner p.rows r w (Of x) e in
+        let other : same r x ≡ false = same-false r x ne in
+        let i' : is_inside p.rows (Of r) (Of x) ≡ is_inside p.rows w (Of x) = rw other at i in
+        let above : is_inside p.rows w (Of x) ≡ false = sym i' ∙ out in
+        let there : is_owner p.rows w ≡ true = rw e at (is_there-owner p.rows p.rows r s.forest.owned) in
+        record {
+          row = h.1;
+          is = row_of-without-other p.rows r x ne ∙ h.2;
+          live = h.3;
+          apart = λ q. (let u : is_inside p.rows (Of x) (Of x) ≡ false = subst (λ (z : Owner). is_inside p.rows z (Of x) ≡ false) q above in let bad : true ≡ false = sym (inside-self p.rows (Of x)) ∙ u in cc);
+          there = owner-without p.rows r x s.forest is w o there;
+          outside = outside-without p.rows r x s.forest is w (Of x) o above;
+        }
+
+    by-row : (q : Option Row) → row_of p.rows r ≡ q → IsQuietRow q → ValidAt p.next q r → MayBePlaced (remove p r) (unwrap_or (owner_of p.rows r) Root) x
+    by-row None e quiet v = absurd quiet
+    by-row (Some row) e quiet v =
+        let shaped : Shaped Quiet row.owner r = subst (λ (m : Mark). Shaped m row.owner r) quiet v.2 in
+        let at : owner_of p.rows r ≡ row.owner = ap owner_in e in
+        rw at (by-owner row.owner at shaped)
+
+pub releasing : (x : Obj) (fs : List Frame) (p : Pool) (k : ℕ) → Sound (frame.Free (Releasing x)) fs p → KeptBy (step (frame.Free (Releasing x)) p) fs k
+releasing x fs p k s = each (newest_ref p.rows x) refl
+  where
+    tries : newest_ref p.rows x ≡ None → (fs : List Frame) → AllWait fs → IsCalled (footing fs) → Tries x (footing fs) p
+    tries e [] w c = absurd c
+    tries e (g ∷ gs) w c = below g (waiter g gs w.0) c
+      where
+        below : (g : Frame) → Waiter g → IsCalled (footing (g ∷ gs)) → Tries x (footing (g ∷ gs)) p
+        below _ (ForFree q y) c = e
+        below _ (ForRun y h) c = absurd c
+        below _ (ForChild y d noted purpose) c = absurd c
+
+    each : (n : Option Obj) → newest_ref p.rows x ≡ n → KeptBy (lifted (release_step x (newest_ref p.rows x) p)) fs k
+    each None e = rw e (goes_on (frame.Free (Releasing x)) (frame.Free (Beginning x)) fs p (λ y. refl) (tries e fs s.waiting s.rests.0, given_up-object x fs p s.rests) s)
+    each (Some r) e =
+        let w = newest-refers p.rows x r s.forest.distinct e in
+        let is : target_at p.rows r ≡ Some x = rw w.1 w.2 in
+        let ne : r ≢ x = apart p x r x (given_up-object x fs p s.rests) is in
+        rw e (by_test (is_inside p.rows (Of r) (Of x))
+        (λ t. rw t (dropped-sound (frame.Free (Releasing x)) (frame.Free (Releasing x)) fs p r x s is (λ y. refl) (given_up-dropped x r fs p s.rests ne)))
+        (λ t. rw t (dropped-sound (frame.Free (Releasing x)) (frame.Free (Giving x (unwrap_or (owner_of p.rows r) Root))) fs p r x s is (λ y. refl)
+        (giver (frame.Free (Releasing x)) fs p x r s s.rests is t))))
+
+-- the destructor's run begins
+pub hooked : (x : Obj) (h : ℕ) (fs : List Frame) (p : Pool) (k : ℕ) → Sound (frame.Free (Hooked x h)) fs p → KeptBy (step (frame.Free (Hooked x h)) p) fs k
+hooked x h fs p k s = stands (frame.Free (Hooked x h)) (frame.Call (Asking (Routine (hook_moment x h)))) fs (frame.Free (Hooked x h) ∷ fs) p (λ y. refl) (s.rests.0, s.waiting) tt s
+
+pub judged : (x : Obj) (h v : ℕ) (fs : List Frame) (p : Pool) (k : ℕ) → Sound (frame.Free (Judged x h v)) fs p → KeptBy (step (frame.Free (Judged x h v)) p) fs k
+judged x h v fs p k s =
+    let phase = claim-here x InRun (claims x fs) (row_of p.rows x) (s.open_frees x) in
+    let row = running-row (row_of p.rows x) (claims x fs) phase in
+    by-row row.0 row.1 row.2 row.3 phase
+  where
+    self : same x x ≡ true
+    self = same-equal x x refl
+
+    hh : nat_eq h 0 ≡ false
+    hh = not-zero h s.rests
+
+    by-row : (r : Row) → row_of p.rows x ≡ Some r → IsLive r.mark → claims x fs ≡ [] → InRun ∷ claims x fs ≡ phases (row_of p.rows x) → KeptBy (lifted (judge_step x h v p)) fs k
+    by-row r e live none phase =
+        let object : target_of r.kind ≡ None = (let t : target_at p.rows x ≡ None = run-refers p.rows x (claims x fs) s.refers phase in let t' : target_in (Some r) ≡ None = rw e at t in t') in
+        let unreferred : newest_ref p.rows x ≡ None = run-unreferred p.rows x (claims x fs) s.forest.distinct s.refers phase in
+        by_test (nat_eq v 0)
+        (λ t. rw t (unmarked-sound (hooked_row 0) (frame.Free (Judged x h v)) (frame.Free (Leaving x h)) fs p x r s (hooks-place 0) (λ q. refl) e object (λ y. rw hh refl)
+        (hooked_row 0 r, row_of-changed-same (hooked_row 0) p.rows x r (λ q. refl) e, live, none, object, newest-changed (hooked_row 0) p.rows x x (λ q. refl) (λ q. refl) ∙ unreferred)))
+        (λ t. rw t (changed-sound (marked_row Quiet) (frame.Free (Judged x h v)) (frame.Free (Ending (Refused v))) fs fs p x r s (marks-place Quiet) e
+        (live-owned r.mark r.owner x live (shape-of p x r s.valid e)) object (inl (λ q. refl)) (λ y ne. let u : same x y ≡ false = same-false x y ne in rw u refl) none s.waiting (tt, tt)))

@@ -1,0 +1,10 @@
+-- Every story keeps what is promised.
+pub mod Later
+pub mod Past
+pub mod Causes
+pub mod Fine
+pub mod FineCallers
+pub mod FineDrops
+pub mod FineFrees
+pub mod Fitting
+pub mod StoryOrder

@@ -1,0 +1,136 @@
+-- What the works and the items told so far say of the items to come.
+use Rattle.std.proofs.Common.{◌≡◌, List, [], ◌∷◌, Option, Some, None, map, true, false}
+use Rattle.step_machine.specs.Noted.{Noted}
+use Rattle.step_machine.specs.Open.{LastIs}
+use Rattle.tree_specs.specs.declared.object.Obj.{Obj}
+use Rattle.tree_specs.specs.declared.moment.What.TheVariants.{Hook as ForHook}
+use Rattle.tree_specs.specs.declared.call.Call.{Call}
+use Rattle.tree_specs.specs.declared.call.Call.TheVariants as call
+use Rattle.tree_specs.specs.declared.question.Ask.{Ask}
+use Rattle.tree_specs.specs.declared.question.Ask.TheVariants as ask
+use Rattle.tree_specs.specs.declared.reply.Reply.{Reply}
+use Rattle.tree_specs.specs.declared.event.Event.TheVariants.{Replied, Refused}
+use Rattle.tree_specs.specs.declared.frame.Frame.{Frame}
+use Rattle.tree_specs.specs.declared.frame.Frame.TheVariants as frame
+use Rattle.tree_specs.specs.declared.frame.CallFrame.TheVariants.{Awaiting, Warning, Telling, Returning}
+use Rattle.tree_specs.specs.declared.frame.FreeFrame.TheVariants.{Unlinking, Releasing, Beginning, Hooked, Judged, Ending}
+use Rattle.tree_specs.specs.declared.free_step.FreeReply.{FreeReply}
+use Rattle.tree_specs.specs.declared.free_step.FreeReply.TheVariants as free_reply
+use Rattle.tree_specs.specs.Tree.Pool.{Pool, row_of, is_row}
+use Rattle.tree_specs.specs.Calls.Refusals.{is_held}
+use Rattle.tree_specs.specs.Rules.Items.{Item}
+use Rattle.tree_specs.specs.Rules.Items.Item.{Told}
+use Rattle.tree_specs.specs.Rules.Sequence.{Begun, Scene}
+use Rattle.tree_specs.specs.Machine.Profiles.{Role, Calls, Frees, Waits, Never, AFree, ARun, AChild, profile}
+use Rattle.tree_specs.specs.Promises.Orderly.{RefusedJustNow}
+use Rattle.tree_specs.specs.Promises.Grounded.{OfReply, AnsweredCall, HeldCall, CausedCall, IsItem, AsksHook}
+
+abbrev pub NotedWork : Type 0
+NotedWork = Noted Frame Begun
+
+abbrev pub item_of : Scene → Item
+item_of s = s.item
+
+-- the items of the scenes told so far
+abbrev pub told : List Scene → List Item
+told scenes = map item_of scenes
+
+-- ---- which work stands on which
+
+abbrev pub FreesObject : Obj → Role → Type 0
+FreesObject x (Frees (Some y)) = y ≡ x
+FreesObject x (Frees None) = Unit {0}
+FreesObject x _ = ⊥
+
+-- a free of x
+abbrev pub IsFreeOf : Obj → Frame → Type 0
+IsFreeOf x f = FreesObject x (profile f).role
+
+-- the question of x's destructor
+abbrev pub IsHookOf : Obj → Ask → Type 0
+IsHookOf x (ask.Routine m) = (m.what ≡ ForHook) × (m.object ≡ x)
+IsHookOf x _ = ⊥
+
+abbrev pub RunsHook : Obj → Role → Type 0
+RunsHook x (Calls (Some q)) = IsHookOf x q
+RunsHook x (Calls None) = Unit {0}
+RunsHook x _ = ⊥
+
+-- the run of x's destructor
+abbrev pub IsRunOf : Obj → Frame → Type 0
+IsRunOf x f = RunsHook x (profile f).role
+
+-- a call that frees x, or its children, or takes an interest in it away
+abbrev pub FreesBy : Obj → Call → Type 0
+FreesBy x (call.Free y) = y ≡ x
+FreesBy x (call.Freekids y) = y ≡ x
+FreesBy x (call.Unlink o y) = y ≡ x
+FreesBy x c = ⊥
+
+-- a call to free is done only where the object isn't held
+abbrev pub NotHeld : Call → Pool → Type 0
+NotHeld (call.Free x) start = is_held start x ≡ false
+NotHeld c start = Unit {0}
+
+-- a caller that waits for a free knows the call
+abbrev pub Knows : Obj → Option Begun → Type 0
+Knows x None = ⊥
+Knows x (Some b) = FreesBy x b.call × NotHeld b.call b.start
+
+abbrev pub StandsFor : Waits → Frame → Option Begun → Type 0
+StandsFor (AFree x) f b = IsFreeOf x f × Knows x b
+StandsFor (AChild c purpose) f b = IsFreeOf c f
+StandsFor (ARun x h) f b = IsRunOf x f
+StandsFor Never f b = Unit {0}
+
+-- what a work that waits says of the one that stands on it
+abbrev pub StandsOn : Frame → Frame → Option Begun → Type 0
+StandsOn f g b = StandsFor (profile g).waits f b
+
+abbrev pub Stacked : Frame → List NotedWork → Type 0
+Stacked f [] = Unit {0}
+Stacked f (w ∷ ws) = StandsOn f w.work w.note × Stacked w.work ws
+
+-- what is said of the work right below, where there is one
+abbrev pub OfNext : (Frame → Option Begun → Type 0) → List NotedWork → Type 0
+OfNext Q [] = Unit {0}
+OfNext Q (w ∷ ws) = Q w.work w.note
+
+-- ---- what the innermost work is about to tell has its cause
+
+-- the reply that is to be told
+abbrev pub IsCaused : List Scene → Option Begun → Reply → Type 0
+IsCaused scenes b r =
+    RefusedJustNow (told scenes) (Told (Replied r)) × OfReply AnsweredCall b (Told (Replied r)) × OfReply HeldCall b (Told (Replied r)) × OfReply (CausedCall scenes) b (Told (Replied r))
+
+-- the destructor for which it waits was just asked
+abbrev pub IsAskedFor : List Scene → Frame → Option Begun → Type 0
+IsAskedFor scenes (frame.Free (Hooked x h)) b = LastIs (AsksHook x) scenes
+IsAskedFor scenes f b = Unit {0}
+
+-- the call that waits is told of a refusal right after this was told
+abbrev pub IsRefusedFor : List Scene → FreeReply → Frame → Option Begun → Type 0
+IsRefusedFor scenes free_reply.Held (frame.Call (Awaiting q x)) b = ⊥
+IsRefusedFor scenes (free_reply.Refused v) (frame.Call (Awaiting q x)) b = LastIs (IsItem (Told (Refused x v))) scenes
+IsRefusedFor scenes a f b = Unit {0}
+
+-- the object has the row that it had when the call began
+abbrev pub IsAsAtStart : Pool → Obj → Option Begun → Type 0
+IsAsAtStart p x None = ⊥
+IsAsAtStart p x (Some b) = row_of b.start.rows x ≡ row_of p.rows x
+
+-- nothing has happened to the object since the call that waits began
+abbrev pub HasJustBegun : Pool → Frame → Option Begun → Type 0
+HasJustBegun p (frame.Call (Awaiting q x)) b = IsAsAtStart p x b
+HasJustBegun p f b = Unit {0}
+
+abbrev pub Cause : List Scene → Frame → Option Begun → List NotedWork → Pool → Type 0
+Cause scenes (frame.Call (Warning q x r)) b ws p = ((more : List Scene) → IsCaused more b r) × (is_row p.rows x ≡ true)
+Cause scenes (frame.Call (Telling q r)) b ws p = IsCaused scenes b r
+Cause scenes (frame.Call (Returning v)) b ws p = OfNext (IsAskedFor scenes) ws
+Cause scenes (frame.Free (Judged x h v)) b ws p = LastIs (AsksHook x) scenes
+Cause scenes (frame.Free (Ending a)) b ws p = OfNext (IsRefusedFor scenes a) ws
+Cause scenes (frame.Free (Unlinking o x)) b ws p = OfNext (HasJustBegun p) ws
+Cause scenes (frame.Free (Releasing x)) b ws p = OfNext (HasJustBegun p) ws
+Cause scenes (frame.Free (Beginning x)) b ws p = OfNext (HasJustBegun p) ws
+Cause scenes f b ws p = Unit {0}

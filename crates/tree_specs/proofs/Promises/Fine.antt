@@ -1,0 +1,179 @@
+-- An item is fine where it fits those before it and has its cause; what a work that ends answers keeps that so.
+use Rattle.tree_specs.specs.Calls.Refusals.{is_held, is_running}
+use Rattle.std.proofs.Common.{◌≡◌, List, [], ◌∷◌, ◌++◌, Option, Some, None, true, false, refl, sym, ◌∙◌, subst, map}
+use Rattle.std.proofs.lemmas.List.{map_push}
+use Rattle.step_machine.specs.Machine.{Move}
+use Rattle.step_machine.specs.Machine.{Move as Do}
+use Rattle.step_machine.specs.Noted.{noted_move, noted_work, with_note}
+use Rattle.step_machine.specs.Open.{LastIs}
+use Rattle.step_machine.proofs.History.{FitsOn}
+use Rattle.tree_specs.specs.declared.object.Obj.{Obj}
+use Rattle.tree_specs.specs.declared.call.Call.{Call}
+use Rattle.tree_specs.specs.declared.call.Call.TheVariants as call
+use Rattle.tree_specs.specs.declared.question.Ask.{Ask}
+use Rattle.tree_specs.specs.declared.question.Ask.TheVariants as ask
+use Rattle.tree_specs.specs.declared.reply.Reply.{Reply}
+use Rattle.tree_specs.specs.declared.event.Event.TheVariants.{Replied, Refused}
+use Rattle.tree_specs.specs.declared.frame.Frame.{Frame}
+use Rattle.tree_specs.specs.declared.frame.Frame.TheVariants as frame
+use Rattle.tree_specs.specs.declared.frame.CallFrame.TheVariants.{Awaiting, Telling}
+use Rattle.tree_specs.specs.declared.frame.FreeFrame.TheVariants.{Hooked, Trying}
+use Rattle.tree_specs.specs.declared.frame.Answer.{Answer}
+use Rattle.tree_specs.specs.declared.free_step.FreeReply.{FreeReply}
+use Rattle.tree_specs.specs.declared.free_step.FreeReply.TheVariants as free_reply
+use Rattle.tree_specs.specs.Words.Objects.{same}
+use Rattle.tree_specs.specs.Tree.Pool.{Pool}
+use Rattle.tree_specs.specs.Rules.Items.{Item}
+use Rattle.tree_specs.specs.Rules.Items.Item.{Told}
+use Rattle.tree_specs.specs.Rules.Sequence.{Begun, Scene}
+use Rattle.tree_specs.specs.Rules.Story.{freed_reply, later}
+use Rattle.tree_specs.specs.Machine.Table.{notes, resume, reply_in}
+use Rattle.tree_specs.specs.Machine.Profiles.{Waits, Never, AFree, ARun, AChild, profile}
+use Rattle.tree_specs.specs.Promises.Orderly.{Fits, RefusedJustNow}
+use Rattle.tree_specs.specs.Promises.Grounded.{IsGrounded, AnsweredCall, HeldCall, CausedCall, IsItem, AsksHook}
+use Rattle.tree_specs.specs.Invariants.Sound.{AllWait}
+use Rattle.tree_specs.proofs.Tree.Numbered.{same-equal}
+use Rattle.tree_specs.proofs.Rules.Means.{noted_table}
+use Rattle.tree_specs.proofs.Promises.Later.{later-same}
+use Rattle.tree_specs.proofs.Promises.Past.{IsLeaving, Accounts, Past, past-goes}
+use Rattle.tree_specs.proofs.Promises.Causes.{NotedWork, item_of, told, IsFreeOf, IsHookOf, IsRunOf, FreesBy, Knows, StandsFor, StandsOn, Stacked, OfNext, IsCaused, Cause, NotHeld}
+use Rattle.tree_specs.proofs.Invariants.Waiters.{Waiter, ForFree, ForRun, ForChild, waiter}
+
+abbrev pub work_of : NotedWork → Frame
+work_of w = w.work
+
+-- an item fits those before it, and is grounded
+abbrev pub IsFine : List Scene → Scene → Type 0
+IsFine scenes s = Fits (told scenes) s.item × IsGrounded scenes s
+
+-- what is known of the works and of the scenes so far
+pub record Known (scenes : List Scene) (w : NotedWork) (ws : List NotedWork) (p : Pool) : Type 0 where
+  pub past : Past (told scenes) w.work (map work_of ws) p
+  pub stacked : Stacked w.work ws
+  pub cause : Cause scenes w.work w.note ws p
+
+-- a step of a work with this note tells what is fine, and leaves as much known
+abbrev pub FineBy : List Scene → Frame → Option Begun → Pool → Move Frame Answer Pool Item → List NotedWork → Type 0
+FineBy scenes f b p m ws = FitsOn noted_table IsFine Known scenes (noted_move notes f b p m) ws
+
+-- one more scene
+pub told-more : (scenes : List Scene) (s : Scene) → told (scenes ++ s ∷ []) ≡ told scenes ++ s.item ∷ []
+told-more scenes s = map_push item_of scenes s
+
+-- ---- works on works
+
+-- another work in the place of one, for which it does as well
+pub restacked : (f f' : Frame) (ws : List NotedWork) → ((x : Obj) → IsFreeOf x f → IsFreeOf x f') → ((x : Obj) → IsRunOf x f → IsRunOf x f') → Stacked f ws → Stacked f' ws
+restacked f f' [] free run s = tt
+restacked f f' (w ∷ ws) free run s = (stands (profile w.work).waits s.0, s.1)
+  where
+    stands : (g : Waits) → StandsFor g f w.note → StandsFor g f' w.note
+    stands (AFree x) h = (free x h.0, h.1)
+    stands (AChild c purpose) h = free c h
+    stands (ARun x k) h = run x h
+    stands Never h = tt
+
+-- what holds of each work that may stand right below
+pub of-next : (Q : Frame → Option Begun → Type 0) (f : Frame) (ws : List NotedWork) → AllWait (map work_of ws) → Stacked f ws
+    → ((g : Frame) (b : Option Begun) → Waiter g → StandsOn f g b → Q g b) → OfNext Q ws
+of-next Q f [] wait s each = tt
+of-next Q f (w ∷ ws) wait s each = each w.work w.note (waiter w.work (map work_of ws) wait.0) s.0
+
+pub from-next : (P Q : Frame → Option Begun → Type 0) (f : Frame) (ws : List NotedWork) → AllWait (map work_of ws) → Stacked f ws → OfNext P ws
+    → ((g : Frame) (b : Option Begun) → Waiter g → StandsOn f g b → P g b → Q g b) → OfNext Q ws
+from-next P Q f [] wait s h each = tt
+from-next P Q f (w ∷ ws) wait s h each = each w.work w.note (waiter w.work (map work_of ws) wait.0) s.0 h
+
+-- a later question is of the same destructor
+pub later-hook : (x : Obj) (q : Ask) (r : Reply) → IsHookOf x q → IsHookOf x (later q r)
+later-hook x (ask.Routine m) r h = h
+later-hook x _ r h = h
+
+-- ---- replies
+
+pub last-told : (scenes : List Scene) (i : Item) → LastIs (IsItem i) scenes → LastIs (λ item. item ≡ i) (told scenes)
+last-told [] i h = h
+last-told (s ∷ []) i h = h
+last-told (s ∷ t ∷ scenes) i h = last-told (t ∷ scenes) i h
+
+-- why a free answers so to the call that waits for it
+abbrev pub ReplyCause : List Scene → Option Begun → Obj → FreeReply → Type 0
+ReplyCause scenes b x free_reply.Ok = Unit {0}
+ReplyCause scenes b x free_reply.Held = ⊥
+ReplyCause scenes None x free_reply.Running = Unit {0}
+ReplyCause scenes (Some b) x free_reply.Running = is_running b.start x ≡ true
+ReplyCause scenes b x (free_reply.Refused v) = LastIs (IsItem (Told (Refused x v))) scenes
+
+pub caused-reply : (scenes : List Scene) (x : Obj) (b : Option Begun) (a : FreeReply) → Knows x b → ReplyCause scenes b x a → IsCaused scenes b (freed_reply x a)
+caused-reply scenes x None a k h = absurd k
+caused-reply scenes x (Some b) a k h = let e = each b.call k.0 k.1 in (just-now a h, e.0, e.1, e.2)
+  where
+    just-now : (a : FreeReply) → ReplyCause scenes (Some b) x a → RefusedJustNow (told scenes) (Told (Replied (freed_reply x a)))
+    just-now free_reply.Ok h = tt
+    just-now free_reply.Held h = absurd h
+    just-now free_reply.Running h = tt
+    just-now (free_reply.Refused v) h = last-told scenes (Told (Refused x v)) h
+
+    self : same x x ≡ true
+    self = same-equal x x refl
+
+    for-free : is_held b.start x ≡ false → (a : FreeReply) → ReplyCause scenes (Some b) x a
+        → AnsweredCall (call.Free x) b.start (freed_reply x a) × HeldCall (call.Free x) b.start (freed_reply x a) × CausedCall scenes (call.Free x) b.start (freed_reply x a)
+    for-free held free_reply.Ok h = (λ e. refl, (λ e. cc, λ e. let bad : true ≡ false = sym e ∙ held in cc), tt)
+    for-free held free_reply.Held h = absurd h
+    for-free held free_reply.Running h = (λ e. self, (λ e. cc, λ e. let bad : true ≡ false = sym e ∙ held in cc), h)
+    for-free held (free_reply.Refused v) h = (λ e. self, (λ e. cc, λ e. let bad : true ≡ false = sym e ∙ held in cc), h)
+
+    each : (c : Call) → FreesBy x c → NotHeld c b.start → AnsweredCall c b.start (freed_reply x a) × HeldCall c b.start (freed_reply x a) × CausedCall scenes c b.start (freed_reply x a)
+    each (call.Free y) e n = subst (λ (z : Obj). AnsweredCall (call.Free z) b.start (freed_reply x a) × HeldCall (call.Free z) b.start (freed_reply x a) × CausedCall scenes (call.Free z) b.start (freed_reply x a)) (sym e)
+        (for-free (subst (λ (z : Obj). is_held b.start z ≡ false) e n) a h)
+    each (call.Freekids y) e n = (tt, tt, tt)
+    each (call.Unlink o y) e n = (tt, tt, tt)
+    each _ e n = absurd e
+
+-- ---- a work that ends
+
+-- what it answers to the work below it has its cause
+abbrev pub AnswersTo : List Scene → Answer → Frame → Option Begun → Type 0
+AnswersTo scenes a (frame.Call (Awaiting q x)) b = ReplyCause scenes b x (reply_in a)
+AnswersTo scenes a (frame.Free (Hooked x h)) b = LastIs (AsksHook x) scenes
+AnswersTo scenes a f b = Unit {0}
+
+pub resumed : (scenes : List Scene) (f : Frame) (b : Option Begun) (ws : List NotedWork) (p : Pool) (a : Answer) → Past (told scenes) f (map work_of ws) p
+    → ((x : Obj) → IsLeaving f x → ⊥) → Stacked f ws → AllWait (map work_of ws) → OfNext (AnswersTo scenes a) ws → FineBy scenes f b p (Do.Done a p) ws
+resumed scenes f b [] p a past stays stacked wait h = tt
+resumed scenes f b (w ∷ ws) p a past stays stacked wait h = below w.work (waiter w.work (map work_of ws) wait.0) past stacked.0 stacked.1 h
+  where
+    goes : (g g' : Frame) → Past (told scenes) f (g ∷ map work_of ws) p → Accounts (told scenes) g' → Past (told scenes) g' (map work_of ws) p
+    goes g g' past account = past-goes (told scenes) f g' (g ∷ map work_of ws) (map work_of ws) p p past (later-same p) (λ x l. absurd (stays x l)) account past.all_account.1
+
+    below : (g : Frame) → Waiter g → Past (told scenes) f (g ∷ map work_of ws) p → StandsOn f g w.note → Stacked g ws → AnswersTo scenes a g w.note → Known scenes (with_note w.note (resume g a)) ws p
+    below _ (ForFree q x) past on under h =
+        let r : Reply = freed_reply x (reply_in a) in
+        record {
+          past = goes _ (frame.Call (Telling (later q r) r)) past tt;
+          stacked = restacked (frame.Call (Awaiting q x)) (frame.Call (Telling (later q r) r)) ws (λ y k. k) (λ y k. later-hook y q r k) under;
+          cause = caused-reply scenes x w.note (reply_in a) on.1 h;
+        }
+    below _ (ForRun x k) past on under h = record {
+      past = goes _ _ past tt;
+      stacked = restacked (frame.Free (Hooked x k)) _ ws (λ y l. l) (λ y l. l) under;
+      cause = h;
+    }
+    below _ (ForChild x c noted purpose) past on under h = record {
+      past = goes _ _ past past.all_account.0;
+      stacked = restacked (frame.Free (Trying x c noted purpose)) _ ws (λ y k. k) (λ y k. k) under;
+      cause = tt;
+    }
+
+-- ---- one more scene
+
+pub known-told : (scenes : List Scene) (s : Scene) (w : NotedWork) (ws : List NotedWork) (p : Pool) → Past (told scenes ++ s.item ∷ []) w.work (map work_of ws) p
+    → Stacked w.work ws → Cause (scenes ++ s ∷ []) w.work w.note ws p → Known (scenes ++ s ∷ []) w ws p
+known-told scenes s w ws p past stacked cause =
+    record { past = subst (λ (l : List Item). Past l w.work (map work_of ws) p) (sym (told-more scenes s)) past; stacked = stacked; cause = cause }
+
+-- a waiting work with an input, with its note
+pub taken-noted : (n : Option Begun) (o : Option Frame) (g : NotedWork) → noted_work n o ≡ Some g → (f : Frame) × (o ≡ Some f) × (g ≡ with_note n f)
+taken-noted n None g e = cc
+taken-noted n (Some f) g e = let e' : with_note n f ≡ g = cc in (f, refl, sym e')

@@ -1,0 +1,215 @@
+-- The steps of callers: a question, a call, a reply, a return.
+use Rattle.tree_specs.specs.Machine.Profiles.{InRun}
+use Rattle.tree_specs.specs.declared.row.Row.{Row}
+use Rattle.std.specs.List.{list_any}
+use Rattle.tree_specs.specs.Tree.Targets.{newest_ref}
+use Rattle.std.proofs.Common.{◌≡◌, ℕ, List, [], ◌∷◌, ◌++◌, Option, Some, None, true, refl, sym, subst, map, false}
+use Rattle.step_machine.specs.Machine.{Move as Do}
+use Rattle.step_machine.specs.Noted.{noted_work, with_note, scene}
+use Rattle.tree_specs.specs.declared.object.Obj.{Obj}
+use Rattle.tree_specs.specs.declared.call.Call.{Call}
+use Rattle.tree_specs.specs.declared.call.Call.TheVariants as call
+use Rattle.tree_specs.specs.declared.question.Ask.{Ask}
+use Rattle.tree_specs.specs.declared.question.Ask.TheVariants as ask
+use Rattle.tree_specs.specs.declared.question.Input.{Input}
+use Rattle.tree_specs.specs.declared.reply.Reply.{Reply}
+use Rattle.tree_specs.specs.declared.event.Event.TheVariants.{Replied, Warned}
+use Rattle.tree_specs.specs.declared.frame.Frame.{Frame}
+use Rattle.tree_specs.specs.declared.frame.Frame.TheVariants as frame
+use Rattle.tree_specs.specs.declared.frame.CallFrame.TheVariants.{Asking, Doing, Awaiting, Warning, Telling, Returning}
+use Rattle.tree_specs.specs.declared.frame.FreeFrame.TheVariants.{Unlinking, Beginning, Looping}
+use Rattle.tree_specs.specs.declared.frame.Purpose.TheVariants.{Emptying}
+use Rattle.tree_specs.specs.declared.frame.Answer.TheVariants as answer
+use Rattle.tree_specs.specs.Tree.Pool.{Pool, row_of}
+use Rattle.tree_specs.specs.Rules.Items.{Item}
+use Rattle.tree_specs.specs.Rules.Items.Item.{Told, Asked}
+use Rattle.tree_specs.specs.Calls.Refusals.{Check, refusals, tests, is_held}
+use Rattle.tree_specs.specs.Rules.Sequence.{Begun, Scene}
+use Rattle.tree_specs.specs.Rules.Story.{later}
+use Rattle.tree_specs.specs.Machine.Table.{notes, step, taken, plan_step}
+use Rattle.tree_specs.specs.Promises.Orderly.{Fits, frees as tells_free}
+use Rattle.tree_specs.specs.Promises.Orderly.{asks_hook}
+use Rattle.tree_specs.specs.Promises.Grounded.{AsksHook}
+use Rattle.tree_specs.specs.Invariants.Sound.{AllWait, claim, claims, phases, Refers, Sound}
+use Rattle.tree_specs.specs.Invariants.Whole.{Whole, Seated}
+use Rattle.tree_specs.proofs.Tree.Numbered.{same-equal}
+use Rattle.tree_specs.proofs.Calls.Checks.{all-pass, Heard, HeardCall, HeardReturn, heard-leads}
+use Rattle.tree_specs.proofs.Calls.Plans.{May, follows, may-planned}
+use Rattle.tree_specs.specs.Tree.Forest.{Distinct}
+use Rattle.tree_specs.specs.Calls.Plans.{Plan, plan, planned, unless_refused, changed_by, frees}
+use Rattle.tree_specs.specs.Calls.Plans.Plan.{Does, Frees, Unlinks, Empties}
+use Rattle.tree_specs.proofs.Invariants.Changes.{running-row, claim-here}
+use Rattle.tree_specs.proofs.Promises.Later.{Later, later-same}
+use Rattle.tree_specs.proofs.Promises.Past.{Accounts, Past, past-goes, past-tells, unfreed, unaccepted}
+use Rattle.tree_specs.proofs.Promises.Causes.{NotedWork, told, IsFreeOf, IsHookOf, FreesBy, StandsOn, Stacked, IsCaused, IsAskedFor, Cause, NotHeld}
+use Rattle.tree_specs.proofs.Invariants.Waiters.{Waiter, ForFree, ForRun, ForChild, waiter}
+use Rattle.tree_specs.proofs.Calls.OwnRefusals.{AllOwn, own-refused, own-just-now, own-call}
+use Rattle.tree_specs.proofs.Promises.Fitting.{last-more, fits-replied, fits-quiet, fits-asked, fits-warned}
+use Rattle.tree_specs.proofs.Promises.Fine.{work_of, Known, FineBy, restacked, of-next, from-next, later-hook, AnswersTo, resumed, known-told, taken-noted}
+
+-- the question of a destructor is of its object
+asks-hook : (x : Obj) (q : Ask) → IsHookOf x q → asks_hook x (Asked q) ≡ true
+asks-hook x (ask.Routine m) h = rw (h.0, same-equal m.object x h.1) refl
+asks-hook x _ h = absurd h
+
+pub asking-fine : (scenes : List Scene) (q : Ask) (b : Option Begun) (ws : List NotedWork) (p : Pool) → Whole (record { innermost = frame.Call (Asking q); below = map work_of ws; pool = p })
+    → Known scenes (with_note b (frame.Call (Asking q))) ws p → FineBy scenes (frame.Call (Asking q)) b p (step (frame.Call (Asking q)) p) ws
+asking-fine scenes q b ws p whole known = (
+  (fits ws whole.seated whole.sound.waiting known.stacked whole.sound.open_frees, record { answered = tt; held = tt; caused = tt; started = tt }),
+  next,
+)
+  where
+    f : Frame
+    f = frame.Call (Asking q)
+
+    s : Scene
+    s = scene notes f b p (Asked q)
+
+    -- of a destructor only where a free waits for it
+    of-hook : (g : Frame) (gs : List Frame) (n : Option Begun) → Waiter g → StandsOn f g n → ((x : Obj) → claim x g ++ claims x gs ≡ phases (row_of p.rows x)) → Fits (told scenes) (Asked q)
+    of-hook _ gs n (ForRun x h) on claimed =
+        let row = running-row (row_of p.rows x) (claims x gs) (claim-here x InRun (claims x gs) (row_of p.rows x) (claimed x)) in
+        fits-asked (told scenes) x (unaccepted (told scenes) f (map work_of ws) p x row.0 known.past row.1 row.2 (λ l. l)) (unfreed (told scenes) f (map work_of ws) p x row.0 known.past row.1) q on
+    of-hook _ gs n (ForFree a x) on claimed = absurd on.0
+    of-hook _ gs n (ForChild x c noted purpose) on claimed = absurd on
+
+    fits : (us : List NotedWork) → Seated f (map work_of us) → AllWait (map work_of us) → Stacked f us → ((x : Obj) → claims x (map work_of us) ≡ phases (row_of p.rows x)) → Fits (told scenes) (Asked q)
+    fits [] seated wait on claimed = fits-quiet (told scenes) q seated
+    fits (u ∷ us) seated wait on claimed = of-hook u.work (map work_of us) u.note (waiter u.work (map work_of us) wait.0) on.0 claimed
+
+    past : Past (told scenes ++ Asked q ∷ []) f (map work_of ws) p
+    past = past-tells (told scenes) (Asked q) f (map work_of ws) p (λ x. refl) (λ x. refl) (λ x. refl) known.past
+
+    goes : (g : Frame) → Accounts (told scenes ++ Asked q ∷ []) g → Past (told scenes ++ Asked q ∷ []) g (map work_of ws) p
+    goes g a = past-goes (told scenes ++ Asked q ∷ []) f g (map work_of ws) (map work_of ws) p p past (later-same p) (λ x l. absurd l) a past.all_account
+
+    -- the routine that was just asked returns
+    asked : (g : Frame) (n : Option Begun) → Waiter g → StandsOn f g n → IsAskedFor (scenes ++ s ∷ []) g n
+    asked _ n (ForRun x h) on = last-more (AsksHook x) scenes s (asks-hook x q on)
+    asked _ n (ForFree a x) on = tt
+    asked _ n (ForChild x c noted purpose) on = tt
+
+    leads : (g : Frame) → Heard q g → Known (scenes ++ s ∷ []) (with_note b g) ws p
+    leads _ (HeardCall c) = known-told scenes s (with_note b (frame.Call (Doing q c))) ws p (goes _ tt) (restacked f (frame.Call (Doing q c)) ws (λ x h. h) (λ x h. h) known.stacked) tt
+    leads _ (HeardReturn v of) = known-told scenes s (with_note b (frame.Call (Returning v))) ws p (goes _ tt) (restacked f (frame.Call (Returning v)) ws (λ x h. h) (λ x h. tt) known.stacked)
+        (of-next (IsAskedFor (scenes ++ s ∷ [])) f ws whole.sound.waiting known.stacked asked)
+
+    next : (i : Input) (g : NotedWork) → noted_work b (taken f p i) ≡ Some g → Known (scenes ++ s ∷ []) g ws p
+    next i g e =
+        let t = taken-noted b (taken f p i) g e in
+        subst (λ (w : NotedWork). Known (scenes ++ s ∷ []) w ws p) (sym t.2) (leads t.0 (heard-leads q i t.0 t.1))
+
+-- ---- the other steps of callers
+
+pub telling-fine : (scenes : List Scene) (q : Ask) (r : Reply) (b : Option Begun) (ws : List NotedWork) (p : Pool)
+    → Known scenes (with_note b (frame.Call (Telling q r))) ws p → FineBy scenes (frame.Call (Telling q r)) b p (step (frame.Call (Telling q r)) p) ws
+telling-fine scenes q r b ws p known =
+    let f : Frame = frame.Call (Telling q r) in
+    let g : Frame = frame.Call (Asking q) in
+    let e : Item = Told (Replied r) in
+    let past = past-tells (told scenes) e f (map work_of ws) p (λ x. refl) (λ x. refl) (λ x. refl) known.past in (
+      (fits-replied (told scenes) r known.cause.0, record { answered = known.cause.1; held = known.cause.2; caused = known.cause.3; started = tt }),
+      known-told scenes (scene notes f b p e) (with_note None g) ws p
+          (past-goes (told scenes ++ e ∷ []) f g (map work_of ws) (map work_of ws) p p past (later-same p) (λ x l. absurd l) tt past.all_account)
+          (restacked f g ws (λ x h. h) (λ x h. h) known.stacked) tt,
+    )
+
+-- it is told that an object went to another owner, and then the reply
+pub warning-fine : (scenes : List Scene) (q : Ask) (x : Obj) (r : Reply) (b : Option Begun) (ws : List NotedWork) (p : Pool)
+    → Known scenes (with_note b (frame.Call (Warning q x r))) ws p → FineBy scenes (frame.Call (Warning q x r)) b p (step (frame.Call (Warning q x r)) p) ws
+warning-fine scenes q x r b ws p known =
+    let f : Frame = frame.Call (Warning q x r) in
+    let g : Frame = frame.Call (Telling q r) in
+    let e : Item = Told (Warned x) in
+    let past = past-tells (told scenes) e f (map work_of ws) p (λ x. refl) (λ x. refl) (λ x. refl) known.past in (
+      (fits-warned (told scenes) x (there (row_of p.rows x) refl), record { answered = tt; held = tt; caused = tt; started = tt }),
+      known-told scenes (scene notes f b p e) (with_note b g) ws p
+          (past-goes (told scenes ++ e ∷ []) f g (map work_of ws) (map work_of ws) p p past (later-same p) (λ y l. absurd l) tt past.all_account)
+          (restacked f g ws (λ y h. h) (λ y h. h) known.stacked) (known.cause.0 (scenes ++ scene notes f b p e ∷ [])),
+    )
+  where
+    there : (o : Option Row) → row_of p.rows x ≡ o → list_any (tells_free x) (told scenes) ≡ false
+    there None e = let bad : false ≡ true = rw e at known.cause.1 in cc
+    there (Some row) e = unfreed (told scenes) (frame.Call (Warning q x r)) (map work_of ws) p x row known.past e
+
+pub returning-fine : (scenes : List Scene) (v : ℕ) (b : Option Begun) (ws : List NotedWork) (p : Pool) → AllWait (map work_of ws)
+    → Known scenes (with_note b (frame.Call (Returning v))) ws p → FineBy scenes (frame.Call (Returning v)) b p (step (frame.Call (Returning v)) p) ws
+returning-fine scenes v b ws p wait known =
+    resumed scenes (frame.Call (Returning v)) b ws p (answer.Returned v) known.past (λ x l. l) known.stacked wait
+    (from-next (IsAskedFor scenes) (AnswersTo scenes (answer.Returned v)) (frame.Call (Returning v)) ws wait known.stacked known.cause answers)
+  where
+    answers : (g : Frame) (n : Option Begun) → Waiter g → StandsOn (frame.Call (Returning v)) g n → IsAskedFor scenes g n → AnswersTo scenes (answer.Returned v) g n
+    answers _ n (ForRun x h) on last = last
+    answers _ n (ForFree q x) on last = absurd on.0
+    answers _ n (ForChild x c noted purpose) on last = tt
+
+-- ---- calls
+
+-- why a plan replies so, or which call it is that frees
+abbrev CausedBy : Pool → Call → Plan → Type 0
+CausedBy p c (Does change warned r) = (scenes : List Scene) → IsCaused scenes (Some (record { call = c; start = p })) r
+CausedBy p c (Frees x) = FreesBy x c × NotHeld c p
+CausedBy p c (Unlinks o x) = FreesBy x c × NotHeld c p
+CausedBy p c (Empties x) = FreesBy x c × NotHeld c p
+
+-- what isn't said of a call is a reply that needs no cause
+caused : (p : Pool) (c : Call) → refusals p c ≡ [] → CausedBy p c (plan p c)
+caused p (call.Free x) none = each (newest_ref p.rows x) ((all-pass p (tests (call.Free x)) none).1.0)
+  where
+    each : (o : Option Obj) → is_held p x ≡ false → CausedBy p (call.Free x) (frees o x)
+    each None free = (refl, free)
+    each (Some r) free = (refl, free)
+caused p (call.Freekids x) none = (refl, tt)
+caused p (call.Unlink o x) none = (refl, tt)
+caused p c none = λ scenes. (tt, tt, tt, tt)
+
+caused-planned : (p : Pool) (c : Call) → Distinct p.rows → Refers p.rows → CausedBy p c (planned p c)
+caused-planned p c d refers = each (refusals p c) refl (own-refused p (tests c))
+  where
+    each : (check : Check) → refusals p c ≡ check → AllOwn check → CausedBy p c (unless_refused check (plan p c))
+    each [] none own = caused p c none
+    each (why ∷ rest) e own = λ scenes. (let h = own-call scenes p c why rest d refers e in (own-just-now (told scenes) why own.0, h.0, h.1, h.2))
+
+-- a call that needs no free has its reply told
+module _ (scenes : List Scene) (q : Ask) (c : Call) (b : Option Begun) (ws : List NotedWork) (p : Pool) (known : Known scenes (with_note b (frame.Call (Doing q c))) ws p) where
+  abbrev begun : Begun
+  begun = record { call = c; start = p }
+
+  told-next : (r : Reply) (p' : Pool) → Later p p' → IsCaused scenes (Some begun) r → FineBy scenes (frame.Call (Doing q c)) b p (Do.Go (frame.Call (Telling (later q r) r)) p') ws
+  told-next r p' after cause =
+      let f : Frame = frame.Call (Doing q c) in
+      let g : Frame = frame.Call (Telling (later q r) r) in
+      record {
+        past = past-goes (told scenes) f g (map work_of ws) (map work_of ws) p p' known.past after (λ x l. absurd l) tt known.past.all_account;
+        stacked = restacked f g ws (λ x h. h) (λ x h. later-hook x q r h) known.stacked;
+        cause = cause;
+      }
+
+  -- a call that frees waits for the free
+  frees-next : (x : Obj) (g : Frame) → IsFreeOf x g → FreesBy x c → NotHeld c p → Accounts (told scenes) g → Cause scenes g None (with_note (Some begun) (frame.Call (Awaiting q x)) ∷ ws) p
+      → FineBy scenes (frame.Call (Doing q c)) b p (Do.Call g (frame.Call (Awaiting q x)) p) ws
+  frees-next x g of by free account cause =
+      let f : Frame = frame.Call (Doing q c) in
+      record {
+        past = past-goes (told scenes) f g (map work_of ws) (frame.Call (Awaiting q x) ∷ map work_of ws) p p known.past (later-same p) (λ y l. absurd l) account (tt, known.past.all_account);
+        stacked = ((of, (by, free)), restacked f (frame.Call (Awaiting q x)) ws (λ y h. h) (λ y h. h) known.stacked);
+        cause = cause;
+      }
+
+  planned-next : (plan : Plan) → May p plan → CausedBy p c plan → FineBy scenes (frame.Call (Doing q c)) b p (plan_step q plan p) ws
+  planned-next (Does change None r) may cause = told-next r (changed_by change p) (follows p change may.0).later (cause scenes)
+  planned-next (Does change (Some x) r) may cause =
+      let f : Frame = frame.Call (Doing q c) in
+      let g : Frame = frame.Call (Warning (later q r) x r) in
+      record {
+        past = past-goes (told scenes) f g (map work_of ws) (map work_of ws) p (changed_by change p) known.past (follows p change may.0).later (λ y l. absurd l) tt known.past.all_account;
+        stacked = restacked f g ws (λ y h. h) (λ y h. later-hook y q r h) known.stacked;
+        cause = (cause, may.2);
+      }
+  planned-next (Frees x) may cause = frees-next x (frame.Free (Beginning x)) refl cause.0 cause.1 tt refl
+  planned-next (Unlinks o x) may cause = frees-next x (frame.Free (Unlinking o x)) refl cause.0 cause.1 tt refl
+  planned-next (Empties x) may cause = frees-next x (frame.Free (Looping x Emptying)) refl cause.0 cause.1 tt tt
+
+pub doing-fine : (scenes : List Scene) (q : Ask) (c : Call) (b : Option Begun) (ws : List NotedWork) (p : Pool) → Sound (frame.Call (Doing q c)) (map work_of ws) p
+    → Known scenes (with_note b (frame.Call (Doing q c))) ws p → FineBy scenes (frame.Call (Doing q c)) b p (step (frame.Call (Doing q c)) p) ws
+doing-fine scenes q c b ws p s known = planned-next scenes q c b ws p known (planned p c) (may-planned (frame.Call (Doing q c)) (map work_of ws) p s c) (caused-planned p c s.forest.distinct s.refers)

@@ -1,0 +1,237 @@
+-- What a free tells that begins, drops references or ends fits what was told before.
+use Rattle.std.specs.Prelude.{unwrap_or}
+use Rattle.tree_specs.proofs.Invariants.KeptFrees.{apart, given_up-object}
+use Rattle.tree_specs.proofs.Tree.Referring.{newest-refers, newest-of-refers}
+use Rattle.tree_specs.specs.Calls.Refusals.{is_running, is_running_row}
+use Rattle.tree_specs.specs.Tree.Targets.{newest_ref}
+use Rattle.std.proofs.Common.{◌≡◌, List, [], ◌∷◌, ◌++◌, Option, Some, None, true, false, nat_eq, refl, sym, ◌∙◌, ap, subst, map, ◌≢◌}
+use Rattle.std.specs.List.{list_any}
+use Rattle.step_machine.specs.Machine.{Move}
+use Rattle.step_machine.specs.Machine.{Move as Do}
+use Rattle.step_machine.specs.Noted.{with_note, scene}
+use Rattle.tree_specs.specs.declared.object.Obj.{Obj}
+use Rattle.tree_specs.specs.declared.object.Owner.{Owner}
+use Rattle.tree_specs.specs.declared.object.Owner.TheVariants.{Of, Root}
+use Rattle.tree_specs.specs.declared.row.Row.{Row}
+use Rattle.tree_specs.specs.declared.row.Mark.{Mark}
+use Rattle.tree_specs.specs.declared.row.Mark.TheVariants as mark
+use Rattle.tree_specs.specs.declared.event.Event.TheVariants.{Moved, Unreferenced}
+use Rattle.tree_specs.specs.declared.frame.Frame.{Frame}
+use Rattle.tree_specs.specs.declared.frame.Frame.TheVariants as frame
+use Rattle.tree_specs.specs.declared.frame.FreeFrame.{FreeFrame}
+use Rattle.tree_specs.specs.declared.frame.FreeFrame.TheVariants.{Unlinking, Releasing, Giving, Beginning, Hooked, Leaving, Ending}
+use Rattle.tree_specs.specs.declared.frame.Answer.{Answer}
+use Rattle.tree_specs.specs.declared.frame.Answer.TheVariants as answer
+use Rattle.tree_specs.specs.declared.free_step.FreeReply.{FreeReply}
+use Rattle.tree_specs.specs.declared.free_step.FreeReply.TheVariants as free_reply
+use Rattle.tree_specs.specs.Tree.Pool.{Pool, row_of, is_row, owner_of, remove, place, set_mark, target_at, newest_ref_of, is_inside, without}
+use Rattle.tree_specs.specs.Rules.Items.{Item}
+use Rattle.tree_specs.specs.Rules.Items.Item.{Told}
+use Rattle.tree_specs.specs.Rules.Sequence.{Begun, Scene}
+use Rattle.tree_specs.specs.Machine.Table.{notes, step, lifted, begin_quiet, begin_step, refs_step, unlink_step, release_step}
+use Rattle.tree_specs.specs.Promises.Orderly.{frees}
+use Rattle.tree_specs.specs.Invariants.Sound.{IsLive, IsOver, ValidAt, IsQuietRow, IsReferable, AllWait, Tries, footing}
+use Rattle.tree_specs.specs.Invariants.Whole.{Whole}
+use Rattle.tree_specs.proofs.Tree.Numbered.{by_test}
+use Rattle.tree_specs.proofs.Tree.Rows.{row_of-without-same, row_of-without-other}
+use Rattle.tree_specs.proofs.Promises.Later.{Later, later-same, later-placed, later-marked, later-removed}
+use Rattle.tree_specs.proofs.Promises.Past.{IsLeaving, past-goes, past-tells, unfreed, unaccepted, Accounts, past-drops, undropped}
+use Rattle.tree_specs.proofs.Promises.Causes.{NotedWork, told, StandsOn, Stacked, IsRefusedFor, IsAsAtStart, HasJustBegun, IsFreeOf, OfNext, Cause}
+use Rattle.tree_specs.proofs.Invariants.Waiters.{Waiter, ForFree, ForRun, ForChild, waiter}
+use Rattle.tree_specs.proofs.Promises.Fitting.{fits-moved, fits-dropped}
+use Rattle.tree_specs.proofs.Promises.Fine.{work_of, Known, FineBy, restacked, of-next, from-next, ReplyCause, AnswersTo, resumed, known-told}
+
+module _ (scenes : List Scene) (b : Option Begun) (ws : List NotedWork) (p : Pool) where
+  abbrev pub At : FreeFrame → Type 0
+  At f = Whole (record { innermost = frame.Free f; below = map work_of ws; pool = p }) → Known scenes (with_note b (frame.Free f)) ws p → FineBy scenes (frame.Free f) b p (step (frame.Free f) p) ws
+
+  -- a destructor waits for no free
+  pub over-fine : (f : FreeFrame) → Whole (record { innermost = frame.Free f; below = map work_of ws; pool = p }) → Known scenes (with_note b (frame.Free f)) ws p
+      → ((x : Obj) → IsLeaving (frame.Free f) x → ⊥) → FineBy scenes (frame.Free f) b p (Do.Done (answer.Freed free_reply.Ok) p) ws
+  over-fine f whole known stays =
+      resumed scenes (frame.Free f) b ws p (answer.Freed free_reply.Ok) known.past stays known.stacked whole.sound.waiting
+      (of-next (AnswersTo scenes (answer.Freed free_reply.Ok)) (frame.Free f) ws whole.sound.waiting known.stacked answers)
+    where
+      answers : (g : Frame) (n : Option Begun) → Waiter g → StandsOn (frame.Free f) g n → AnswersTo scenes (answer.Freed free_reply.Ok) g n
+      answers _ n (ForFree q x) on = tt
+      answers _ n (ForRun x h) on = absurd on
+      answers _ n (ForChild x c noted purpose) on = tt
+
+  pub ending-fine : (a : FreeReply) → At (Ending a)
+  ending-fine a whole known =
+      resumed scenes (frame.Free (Ending a)) b ws p (answer.Freed a) known.past (λ x l. l) known.stacked whole.sound.waiting
+      (from-next (IsRefusedFor scenes a) (AnswersTo scenes (answer.Freed a)) (frame.Free (Ending a)) ws whole.sound.waiting known.stacked known.cause (answers a whole.sound.rests.0))
+    where
+      answers : (a : FreeReply) → IsOver a → (g : Frame) (n : Option Begun) → Waiter g → StandsOn (frame.Free (Ending a)) g n → IsRefusedFor scenes a g n → AnswersTo scenes (answer.Freed a) g n
+      answers free_reply.Ok over _ n (ForFree q x) on last = tt
+      answers free_reply.Held over _ n (ForFree q x) on last = absurd last
+      answers free_reply.Running over _ n (ForFree q x) on last = absurd over
+      answers (free_reply.Refused v) over _ n (ForFree q x) on last = last
+      answers a over _ n (ForRun x h) on last = absurd on
+      answers a over _ n (ForChild x c noted purpose) on last = tt
+
+  -- it stays, since something of it runs
+  runs-fine : (x : Obj) (p' : Pool) → Later p p' → Whole (record { innermost = frame.Free (Beginning x); below = map work_of ws; pool = p }) → Known scenes (with_note b (frame.Free (Beginning x))) ws p
+      → is_running p x ≡ true → FineBy scenes (frame.Free (Beginning x)) b p (Do.Done (answer.Freed free_reply.Running) p') ws
+  runs-fine x p' after whole known running =
+      let f : Frame = frame.Free (Beginning x) in
+      resumed scenes f b ws p' (answer.Freed free_reply.Running) (past-goes (told scenes) f f (map work_of ws) (map work_of ws) p p' known.past after (λ y l. absurd l) tt known.past.all_account)
+      (λ y l. l) known.stacked whole.sound.waiting (from-next (HasJustBegun p) (AnswersTo scenes (answer.Freed free_reply.Running)) f ws whole.sound.waiting known.stacked known.cause answers)
+    where
+      start : (o : Option Begun) (y : Obj) → IsAsAtStart p y o → x ≡ y → ReplyCause scenes o y free_reply.Running
+      start None y h e = absurd h
+      start (Some begun) y h e = ap is_running_row h ∙ subst (λ (z : Obj). is_running p z ≡ true) e running
+
+      answers : (g : Frame) (n : Option Begun) → Waiter g → StandsOn (frame.Free (Beginning x)) g n → HasJustBegun p g n → AnswersTo scenes (answer.Freed free_reply.Running) g n
+      answers _ n (ForFree q y) on begun = start n y begun on.0
+      answers _ n (ForRun y h) on begun = absurd on
+      answers _ n (ForChild y c noted purpose) on begun = tt
+
+  -- a reference is dropped
+  pub dropped-fine : (f g : FreeFrame) (r t : Obj) → Whole (record { innermost = frame.Free f; below = map work_of ws; pool = p }) → Known scenes (with_note b (frame.Free f)) ws p → target_at p.rows r ≡ Some t
+      → ((x : Obj) → IsLeaving (frame.Free f) x → ⊥) → Accounts (told scenes ++ Told (Unreferenced r t) ∷ []) (frame.Free g) → ((x : Obj) → IsFreeOf x (frame.Free f) → IsFreeOf x (frame.Free g))
+      → Cause (scenes ++ scene notes (frame.Free f) b p (Told (Unreferenced r t)) ∷ []) (frame.Free g) None ws (remove p r)
+      → FineBy scenes (frame.Free f) b p (Do.Emit (Told (Unreferenced r t)) (frame.Free g) (remove p r)) ws
+  dropped-fine f g r t whole known is stays account free cause = by-row (row_of p.rows r) refl (whole.sound.refers.quiet r t is) (row_of p.rows t) refl (whole.sound.refers.target r t is)
+    where
+      e : Item
+      e = Told (Unreferenced r t)
+
+      gone : row_of (without p.rows r) r ≡ None
+      gone = row_of-without-same p.rows r whole.sound.forest.distinct
+
+      by-row : (q : Option Row) → row_of p.rows r ≡ q → IsQuietRow q → (u : Option Row) → row_of p.rows t ≡ u → IsReferable u
+          → FineBy scenes (frame.Free f) b p (Do.Emit (Told (Unreferenced r t)) (frame.Free g) (remove p r)) ws
+      by-row None q quiet u k there = absurd quiet
+      by-row (Some row) q quiet None k there = absurd there
+      by-row (Some row) q quiet (Some target) k there =
+          let v : ValidAt p.next (Some row) r = rw q at (whole.sound.valid r) in (
+            (
+              fits-dropped (told scenes) r t (undropped (told scenes) (frame.Free f) (map work_of ws) p r row known.past q) (unfreed (told scenes) (frame.Free f) (map work_of ws) p t target known.past k),
+              record { answered = tt; held = tt; caused = tt; started = tt },
+            ),
+            known-told scenes (scene notes (frame.Free f) b p (Told (Unreferenced r t))) (with_note None (frame.Free g)) ws (remove p r)
+                (past-drops (told scenes) r t (frame.Free f) (frame.Free g) (map work_of ws) p (remove p r) known.past (later-removed p r whole.sound.forest.distinct) v.1 gone stays account)
+                (restacked (frame.Free f) (frame.Free g) ws free (λ y h. h) known.stacked) cause,
+          )
+
+  -- nothing else has happened to an object after a reference to it was dropped
+  still-begun : (f : FreeFrame) (x r : Obj) → r ≢ x → ((y : Obj) → IsFreeOf y (frame.Free f) → x ≡ y) → AllWait (map work_of ws) → Stacked (frame.Free f) ws → OfNext (HasJustBegun p) ws → OfNext (HasJustBegun (remove p r)) ws
+  still-begun f x r ne of wait stacked begun = from-next (HasJustBegun p) (HasJustBegun (remove p r)) (frame.Free f) ws wait stacked begun each
+    where
+      kept : (y : Obj) → x ≡ y → (n : Option Begun) → IsAsAtStart p y n → IsAsAtStart (remove p r) y n
+      kept y e None h = absurd h
+      kept y e (Some m) h = h ∙ sym (row_of-without-other p.rows r y (λ q. ne (q ∙ sym e)))
+
+      each : (g : Frame) (n : Option Begun) → Waiter g → StandsOn (frame.Free f) g n → HasJustBegun p g n → HasJustBegun (remove p r) g n
+      each _ n (ForFree q y) on h = kept y (of y on.0) n h
+      each _ n (ForRun y k) on h = tt
+      each _ n (ForChild y c noted purpose) on h = tt
+
+  -- a call's own free is never held
+  no-held : (more : List Scene) (x r : Obj) (us : List NotedWork) → AllWait (map work_of us) → Tries x (footing (map work_of us)) p → newest_ref p.rows x ≡ Some r → OfNext (IsRefusedFor more free_reply.Held) us
+  no-held more x r [] wait tries e = tt
+  no-held more x r (u ∷ us) wait tries e = below u.work (waiter u.work (map work_of us) wait.0) tries
+    where
+      below : (g : Frame) → Waiter g → Tries x (footing (g ∷ map work_of us)) p → IsRefusedFor more free_reply.Held g u.note
+      below _ (ForFree q y) t = let bad : None ≡ Some r = sym t ∙ e in cc
+      below _ (ForRun y h) t = tt
+      below _ (ForChild y c noted purpose) t = tt
+
+  no-refusal : (f : Frame) (r x : Obj) → AllWait (map work_of ws) → Stacked f ws → OfNext (IsRefusedFor (scenes ++ scene notes f b p (Told (Unreferenced r x)) ∷ []) free_reply.Ok) ws
+  no-refusal f r x wait stacked = of-next (IsRefusedFor (scenes ++ scene notes f b p (Told (Unreferenced r x)) ∷ []) free_reply.Ok) f ws wait stacked (λ g n waits on. tt)
+
+  pub beginning-fine : (x : Obj) → At (Beginning x)
+  beginning-fine x whole known = newest (newest_ref p.rows x) refl
+    where
+      f : Frame
+      f = frame.Free (Beginning x)
+
+      Step : Move Frame Answer Pool Item → Type 0
+      Step m = FineBy scenes f b p m ws
+
+      quiet : (r : Row) → row_of p.rows x ≡ Some r → r.mark ≡ mark.Quiet → Step (lifted (begin_quiet x r.hook p))
+      quiet r e m =
+          let live : IsLive r.mark = rw m tt in
+          by_test (nat_eq r.hook 0)
+          (λ t. rw t (record {
+            past = past-goes (told scenes) f (frame.Free (Leaving x 0)) (map work_of ws) (map work_of ws) p p known.past (later-same p) (λ y l. absurd l)
+                (unaccepted (told scenes) f (map work_of ws) p x r known.past e live (λ l. l)) known.past.all_account;
+            stacked = restacked f (frame.Free (Leaving x 0)) ws (λ y h. h) (λ y h. h) known.stacked;
+            cause = tt;
+          }))
+          (λ t. rw t (record {
+            past = past-goes (told scenes) f (frame.Free (Hooked x r.hook)) (map work_of ws) (map work_of ws) p (set_mark p x mark.Asked) known.past (later-marked p x r mark.Asked e live) (λ y l. absurd l) tt known.past.all_account;
+            stacked = restacked f (frame.Free (Hooked x r.hook)) ws (λ y h. h) (λ y h. h) known.stacked;
+            cause = tt;
+          }))
+
+      marks : (r : Row) (m : Mark) → r.mark ≡ m → row_of p.rows x ≡ Some r → Step (lifted (begin_step x (row_of p.rows x) p))
+      marks r mark.Quiet m e = rw (e, m) (quiet r e m)
+      marks r mark.Asked m e = let run : is_running p x ≡ true = rw (e, m) refl in rw (e, m) (runs-fine x p (later-same p) whole known run)
+      marks r mark.Busy m e = let run : is_running p x ≡ true = rw (e, m) refl in rw (e, m) (runs-fine x (set_mark p x mark.Doomed) (later-marked p x r mark.Doomed e (rw m tt)) whole known run)
+      marks r mark.Doomed m e = let run : is_running p x ≡ true = rw (e, m) refl in rw (e, m) (runs-fine x p (later-same p) whole known run)
+      marks r (mark.Dying former) m e = rw (e, m) (over-fine (Beginning x) whole known (λ y l. l))
+
+      each : (o : Option Row) → row_of p.rows x ≡ o → Step (lifted (begin_step x (row_of p.rows x) p))
+      each None e = rw e (over-fine (Beginning x) whole known (λ y l. l))
+      each (Some r) e = marks r r.mark refl e
+
+      newest : (o : Option Obj) → newest_ref p.rows x ≡ o → Step (lifted (refs_step x (newest_ref p.rows x) p))
+      newest None e = rw e (each (row_of p.rows x) refl)
+      newest (Some r) e =
+          let w = newest-refers p.rows x r whole.sound.forest.distinct e in
+          let is : target_at p.rows r ≡ Some x = rw w.1 w.2 in
+          let ne : r ≢ x = apart p x r x whole.sound.rests.1 is in
+          rw e (by_test (is_inside p.rows (Of r) (Of x))
+          (λ t. rw t (dropped-fine (Beginning x) (Beginning x) r x whole known is (λ y l. l) tt (λ y h. h) (still-begun (Beginning x) x r ne (λ y h. h) whole.sound.waiting known.stacked known.cause)))
+          (λ t. rw t (dropped-fine (Beginning x) (Ending free_reply.Held) r x whole known is (λ y l. l) tt (λ y h. tt) (no-held (scenes ++ scene notes (frame.Free (Beginning x)) b p (Told (Unreferenced r x)) ∷ []) x r ws whole.sound.waiting whole.sound.rests.0 e))))
+
+  pub unlinking-fine : (o : Owner) (x : Obj) → At (Unlinking o x)
+  unlinking-fine o x whole known = each (newest_ref_of p.rows o x) refl
+    where
+      each : (n : Option Obj) → newest_ref_of p.rows o x ≡ n → FineBy scenes (frame.Free (Unlinking o x)) b p (lifted (unlink_step x (newest_ref_of p.rows o x) p)) ws
+      each None e = rw e (record {
+        past = past-goes (told scenes) (frame.Free (Unlinking o x)) (frame.Free (Releasing x)) (map work_of ws) (map work_of ws) p p known.past (later-same p) (λ y l. absurd l) tt known.past.all_account;
+        stacked = restacked (frame.Free (Unlinking o x)) (frame.Free (Releasing x)) ws (λ y h. h) (λ y h. h) known.stacked;
+        cause = known.cause;
+      })
+      each (Some r) e =
+          let w = newest-of-refers p.rows o x r whole.sound.forest.distinct e in
+          let is : target_at p.rows r ≡ Some x = rw w.1 w.2 in
+          rw e (dropped-fine (Unlinking o x) (Ending free_reply.Ok) r x whole known is (λ y l. l) tt (λ y h. tt) (no-refusal (frame.Free (Unlinking o x)) r x whole.sound.waiting known.stacked))
+
+  pub releasing-fine : (x : Obj) → At (Releasing x)
+  releasing-fine x whole known = each (newest_ref p.rows x) refl
+    where
+      each : (n : Option Obj) → newest_ref p.rows x ≡ n → FineBy scenes (frame.Free (Releasing x)) b p (lifted (release_step x (newest_ref p.rows x) p)) ws
+      each None e = rw e (record {
+        past = past-goes (told scenes) (frame.Free (Releasing x)) (frame.Free (Beginning x)) (map work_of ws) (map work_of ws) p p known.past (later-same p) (λ y l. absurd l) tt known.past.all_account;
+        stacked = restacked (frame.Free (Releasing x)) (frame.Free (Beginning x)) ws (λ y h. h) (λ y h. h) known.stacked;
+        cause = known.cause;
+      })
+      each (Some r) e =
+          let w = newest-refers p.rows x r whole.sound.forest.distinct e in
+          let is : target_at p.rows r ≡ Some x = rw w.1 w.2 in
+          let ne : r ≢ x = apart p x r x (given_up-object x (map work_of ws) p whole.sound.rests) is in
+          rw e (by_test (is_inside p.rows (Of r) (Of x))
+          (λ t. rw t (dropped-fine (Releasing x) (Releasing x) r x whole known is (λ y l. l) tt (λ y h. h) (still-begun (Releasing x) x r ne (λ y h. h) whole.sound.waiting known.stacked known.cause)))
+          (λ t. rw t (dropped-fine (Releasing x) (Giving x (unwrap_or (owner_of p.rows r) Root)) r x whole known is (λ y l. l) tt (λ y h. h) tt)))
+
+  pub giving-fine : (x : Obj) (o : Owner) → At (Giving x o)
+  giving-fine x o whole known =
+      let f : Frame = frame.Free (Giving x o) in
+      let g : Frame = frame.Free (Ending free_reply.Ok) in
+      let may = whole.sound.rests in
+      let child : is_row p.rows x ≡ true = rw may.is refl in
+      let past = past-tells (told scenes) (Told (Moved x o)) f (map work_of ws) p (λ y. refl) (λ y. refl) (λ y. refl) known.past in (
+        (fits-moved (told scenes) p.rows x o (λ y e. there y (row_of p.rows y) refl e) child may.there, record { answered = tt; held = tt; caused = tt; started = tt }),
+        known-told scenes (scene notes f b p (Told (Moved x o))) (with_note None g) ws (place p o x)
+            (past-goes (told scenes ++ Told (Moved x o) ∷ []) f g (map work_of ws) (map work_of ws) p (place p o x) past (later-placed p o x may.row may.is) (λ y l. absurd l) tt past.all_account)
+            (restacked f g ws (λ y h. tt) (λ y h. h) known.stacked)
+            (of-next (IsRefusedFor (scenes ++ scene notes f b p (Told (Moved x o)) ∷ []) free_reply.Ok) f ws whole.sound.waiting known.stacked (λ g n waits on. tt)),
+      )
+    where
+      there : (y : Obj) (q : Option Row) → row_of p.rows y ≡ q → is_row p.rows y ≡ true → list_any (frees y) (told scenes) ≡ false
+      there y None h e = let bad : false ≡ true = rw h at e in cc
+      there y (Some r) h e = unfreed (told scenes) (frame.Free (Giving x o)) (map work_of ws) p y r known.past h

@@ -1,0 +1,158 @@
+-- Each item of the machine fits what was told before it.
+use Rattle.std.proofs.Common.{Option, Some, None, is_some, ◌≡◌, ℕ, List, [], ◌∷◌, ◌++◌, Bool, true, false, refl, sym, ◌∙◌, subst, ◌⊎◌, inl, inr}
+use Rattle.std.specs.Prelude.{◌||◌, ◌&&◌}
+use Rattle.std.specs.List.{list_any}
+use Rattle.step_machine.specs.Open.{LastIs}
+use Rattle.tree_specs.specs.declared.object.Obj.{Obj}
+use Rattle.tree_specs.specs.declared.object.Owner.{Owner}
+use Rattle.tree_specs.specs.declared.object.Owner.TheVariants.{Of}
+use Rattle.tree_specs.specs.declared.row.Row.{Row}
+use Rattle.tree_specs.specs.declared.question.Ask.{Ask}
+use Rattle.tree_specs.specs.declared.question.Ask.TheVariants as ask
+use Rattle.tree_specs.specs.declared.reply.Reply.{Reply}
+use Rattle.tree_specs.specs.declared.event.Event.TheVariants.{Replied, Accepted, Refused, Moved, Freed, Warned, Unreferenced}
+use Rattle.tree_specs.specs.Words.Objects.{same, same_owner}
+use Rattle.tree_specs.specs.Tree.Pool.{row_of, is_row, is_object_row, is_owner}
+use Rattle.tree_specs.specs.Rules.Items.{Item}
+use Rattle.tree_specs.specs.Rules.Items.Item.{Told, Asked}
+use Rattle.tree_specs.specs.Promises.Orderly.{is_hook, accepts, frees, Fits, FreedOnce, RefusedJustNow, drops}
+use Rattle.tree_specs.specs.Invariants.Whole.{IsQuiet}
+use Rattle.tree_specs.proofs.Tree.Numbered.{same-true, same_owner-true}
+use Rattle.tree_specs.proofs.Promises.Causes.{IsHookOf}
+
+pub last-more : {T : Type 0} (Q : T → Type 0) (ts : List T) (t : T) → Q t → LastIs Q (ts ++ t ∷ [])
+last-more Q [] t h = h
+last-more Q (u ∷ []) t h = h
+last-more Q (u ∷ v ∷ ts) t h = last-more Q (v ∷ ts) t h
+
+-- a disjunction that holds
+either : (a b : Bool) → (a || b) ≡ true → (a ≡ true) ⊎ (b ≡ true)
+either true b e = inl refl
+either false b e = inr e
+
+-- an item that says nothing of a destructor, nor of an object that is to be there
+pub fits-replied : (items : List Item) (r : Reply) → RefusedJustNow items (Told (Replied r)) → Fits items (Told (Replied r))
+fits-replied items r h = record {
+  accepts_once = λ x e. cc;
+  freed_once = tt;
+  after_the_end = λ x e. cc;
+  dropped_once = tt;
+  refused_just_now = h;
+  states_go_up = tt;
+}
+
+pub fits-freed : (items : List Item) (x : Obj) (h : ℕ) → FreedOnce items (Told (Freed x h)) → Fits items (Told (Freed x h))
+fits-freed items x h once = record {
+  accepts_once = λ y e. cc;
+  freed_once = once;
+  after_the_end = λ y e. cc;
+  dropped_once = tt;
+  refused_just_now = tt;
+  states_go_up = tt;
+}
+
+-- an object that lives, and whose destructor hasn't accepted
+module _ (items : List Item) (x : Obj) (free : list_any (accepts x) items ≡ false) (there : list_any (frees x) items ≡ false) where
+  never : (q : Obj → Item → Bool) → list_any (q x) items ≡ false → (y : Obj) → x ≡ y → list_any (q y) items ≡ false
+  never q h y e = subst (λ (z : Obj). list_any (q z) items ≡ false) e h
+
+  pub fits-accepted : Fits items (Told (Accepted x))
+  fits-accepted = record {
+    accepts_once = λ y e. never accepts free y (of y e);
+    freed_once = tt;
+    after_the_end = λ y e. never frees there y (of y e);
+    dropped_once = tt;
+    refused_just_now = tt;
+    states_go_up = tt;
+  }
+    where
+      of : (y : Obj) → (same x y || false) ≡ true → x ≡ y
+      of y e = elim (either (same x y) false e) [
+        | inl t ↦ same-true x y t
+        | inr f ↦ cc
+      ]
+
+  pub fits-refused : (v : ℕ) → Fits items (Told (Refused x v))
+  fits-refused v = record {
+    accepts_once = λ y e. never accepts free y (same-true x y e);
+    freed_once = tt;
+    after_the_end = λ y e. never frees there y (same-true x y e);
+    dropped_once = tt;
+    refused_just_now = tt;
+    states_go_up = tt;
+  }
+
+  pub fits-asked : (q : Ask) → IsHookOf x q → Fits items (Asked q)
+  fits-asked (ask.Routine m) h = record {
+    accepts_once = λ y e. never accepts free y (of y e);
+    freed_once = tt;
+    after_the_end = λ y e. never frees there y (of y e);
+    dropped_once = tt;
+    refused_just_now = tt;
+    states_go_up = tt;
+  }
+    where
+      both : (a b : Bool) → (a && b) ≡ true → b ≡ true
+      both true b e = e
+      both false b e = cc
+
+      of : (y : Obj) → ((is_hook m.what && same m.object y) || false) ≡ true → x ≡ y
+      of y e = elim (either (is_hook m.what && same m.object y) false e) [
+        | inl t ↦ sym h.1 ∙ same-true m.object y (both (is_hook m.what) (same m.object y) t)
+        | inr f ↦ cc
+      ]
+  fits-asked ask.Quiet h = absurd h
+  fits-asked _ h = absurd h
+
+pub fits-quiet : (items : List Item) (q : Ask) → IsQuiet q → Fits items (Asked q)
+fits-quiet items ask.Quiet h = record {
+  accepts_once = λ y e. cc;
+  freed_once = tt;
+  after_the_end = λ y e. cc;
+  dropped_once = tt;
+  refused_just_now = tt;
+  states_go_up = tt;
+}
+fits-quiet items (ask.Routine m) h = absurd h
+fits-quiet items _ h = absurd h
+
+object-row : (o : Option Row) → is_object_row o ≡ true → is_some o ≡ true
+object-row None e = cc
+object-row (Some r) e = refl
+
+-- an object goes to another owner, and both are there
+pub fits-moved : (items : List Item) (rows : List Row) (c : Obj) (o : Owner) → ((y : Obj) → is_row rows y ≡ true → list_any (frees y) items ≡ false)
+    → is_row rows c ≡ true → is_owner rows o ≡ true → Fits items (Told (Moved c o))
+fits-moved items rows c o there child owner = record {
+  accepts_once = λ y e. cc;
+  freed_once = tt;
+  after_the_end = λ y e. elim (either (same c y) (same_owner o (Of y)) e) [
+    | inl t ↦ there y (subst (λ (z : Obj). is_row rows z ≡ true) (same-true c y t) child)
+    | inr t ↦ there y (object-row (row_of rows y) (subst (λ (z : Owner). is_owner rows z ≡ true) (same_owner-true o (Of y) t) owner))
+  ];
+  dropped_once = tt;
+  refused_just_now = tt;
+  states_go_up = tt;
+}
+
+-- a reference is dropped, and its target is there
+pub fits-dropped : (items : List Item) (r t : Obj) → list_any (drops r) items ≡ false → list_any (frees t) items ≡ false → Fits items (Told (Unreferenced r t))
+fits-dropped items r t once there = record {
+  accepts_once = λ y e. cc;
+  freed_once = tt;
+  after_the_end = λ y e. subst (λ (z : Obj). list_any (frees z) items ≡ false) (same-true t y e) there;
+  dropped_once = once;
+  refused_just_now = tt;
+  states_go_up = tt;
+}
+
+-- an object that is there was given to another owner
+pub fits-warned : (items : List Item) (x : Obj) → list_any (frees x) items ≡ false → Fits items (Told (Warned x))
+fits-warned items x there = record {
+  accepts_once = λ y e. cc;
+  freed_once = tt;
+  after_the_end = λ y e. subst (λ (z : Obj). list_any (frees z) items ≡ false) (same-true x y e) there;
+  dropped_once = tt;
+  refused_just_now = tt;
+  states_go_up = tt;
+}

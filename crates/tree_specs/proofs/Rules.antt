@@ -1,0 +1,6 @@
+-- The machine tells what the text of the rules tells, and what that text answers.
+pub mod Means
+pub mod Rest
+pub mod FreeCauses
+pub mod TextLaws
+pub mod StoryLaws

@@ -1,0 +1,272 @@
+-- The laws of the story still to come.
+use Rattle.std.proofs.Common.{◌≡◌, ℕ, suc, zero, ◌+◌, ◌*◌, ◌<◌, List, [], ◌∷◌, length, Option, Some, None, refl, sym, ◌∙◌, ap, subst, arith}
+use Rattle.step_machine.specs.Machine.{Move, Outcome, State, silent, tell, given, asks, leads, rest, walk, items as told_by}
+use Rattle.step_machine.specs.Machine.{Move as Do}
+use Rattle.step_machine.specs.Machine.Outcome.{Ended, Waits, Stray, Short}
+use Rattle.step_machine.specs.Open.{LastIs}
+use Rattle.step_machine.proofs.Ends.{NotShort, Leads, enough, rest-walk, rest-any, rest-step, rest-event, rest-question, rest-silent, rest-open, silent-leads}
+use Rattle.step_machine.proofs.Open.{Asks, Asks-items, Stays, walk-asks, items-tell}
+use Rattle.tree_specs.specs.declared.question.Input.{Input}
+use Rattle.tree_specs.specs.declared.frame.Frame.{Frame}
+use Rattle.tree_specs.specs.declared.frame.Frame.TheVariants as frame
+use Rattle.tree_specs.specs.declared.frame.CallFrame.TheVariants.{Asking, Doing, Awaiting, Warning, Telling, Returning}
+use Rattle.tree_specs.specs.declared.frame.FreeFrame.{FreeFrame}
+use Rattle.tree_specs.specs.declared.frame.Answer.{Answer}
+use Rattle.tree_specs.specs.declared.free_step.FreeReply.{FreeReply}
+use Rattle.tree_specs.specs.declared.free_step.FreeStep.{FreeStep}
+use Rattle.tree_specs.specs.declared.event.Event.{Event}
+use Rattle.tree_specs.specs.declared.call.Call.{Call}
+use Rattle.tree_specs.specs.declared.question.Ask.{Ask}
+use Rattle.tree_specs.specs.Tree.Pool.{Pool}
+use Rattle.tree_specs.specs.Rules.Items.{Item, IsQuestion}
+use Rattle.tree_specs.specs.Rules.Items.Item.{Asked}
+use Rattle.tree_specs.specs.Calls.Plans.{Plan, planned, plan, unless_refused}
+use Rattle.tree_specs.specs.Calls.Plans.Plan.{Does, Frees, Unlinks, Empties}
+use Rattle.tree_specs.specs.Rules.Story.{turns}
+use Rattle.tree_specs.specs.Calls.Refusals.{Check}
+use Rattle.tree_specs.specs.Machine.Table.{call_step, table, step, free_step, event_of, announced, plan_step, lifted, taken}
+use Rattle.tree_specs.specs.Invariants.Sound.{Sound, Rests}
+use Rattle.tree_specs.specs.Invariants.Measure.{cost}
+use Rattle.tree_specs.specs.Machine.View.{View, rest_of}
+use Rattle.tree_specs.specs.Invariants.Whole.{IsCaller, Seated, Whole}
+use Rattle.tree_specs.proofs.Invariants.Keeps.{sound-kept}
+use Rattle.tree_specs.proofs.Turns.Falls.{Well, falls}
+use Rattle.tree_specs.proofs.Turns.Load.{Placed, placed-kept}
+use Rattle.tree_specs.proofs.Turns.Bound.{cost-turns, pending-most}
+
+abbrev pub outcome : View → List Input → Outcome Answer Pool Input Item
+outcome v is = rest table (turns (length v.pool.rows) (length is)) v.innermost v.below v.pool is
+
+-- a bound on the rows that there can be, with k inputs left
+abbrev most : View → ℕ → ℕ
+most v k = length v.pool.rows + 2 * k + 2
+
+well : (v : View) (k : ℕ) → Whole v → Well (most v k) v.innermost v.below v.pool k
+well v k h = (h.sound, omega (arith, pending-most v.innermost))
+
+-- any number of turns above the measure gives the rest
+pub rest-enough : (R m : ℕ) (v : View) (is : List Input) → Whole v → Well R v.innermost v.below v.pool (length is) → cost R v.innermost v.below v.pool (length is) < m
+    → rest table m v.innermost v.below v.pool is ≡ outcome v is
+rest-enough R m v is h w less =
+    let n : ℕ = turns (length v.pool.rows) (length is) in
+    let c = cost-turns v (length is) h in
+    rest-any table (Well R) (cost R) (falls R) m (m + n) v.innermost v.below v.pool is w less (omega arith)
+    ∙ rest-any table (Well (most v (length is))) (cost (most v (length is))) (falls (most v (length is))) (m + n) n v.innermost v.below v.pool is (well v (length is) h) (omega (arith, c)) c
+
+-- as many steps as the stated turns are enough
+pub walk-whole : (v : View) (is : List Input) → Whole v → NotShort (walk table (turns (length v.pool.rows) (length is)) v.innermost v.below v.pool is)
+walk-whole v is h =
+    let R : ℕ = most v (length is) in
+    enough table (Well R) (cost R) (falls R) (turns (length v.pool.rows) (length is)) v.innermost v.below v.pool is (well v (length is) h) (cost-turns v (length is) h)
+
+pub not-short : (v : View) (is : List Input) → Whole v → NotShort (outcome v is)
+not-short v is h =
+    let R : ℕ = most v (length is) in
+    subst NotShort (rest-walk table (Well R) (cost R) (falls R) (turns (length v.pool.rows) (length is)) v.innermost v.below v.pool is (well v (length is) h) (cost-turns v (length is) h)) (walk-whole v is h)
+
+-- ---- what a step keeps
+
+Leads-whole : (m : Move Frame Answer Pool Item) (fs : List Frame) (k : ℕ)
+    → Leads table (λ g gs q j. Sound g gs q) m fs k → Placed m fs k → Leads table (λ g gs q j. Whole (record { innermost = g; below = gs; pool = q })) m fs k
+Leads-whole (Do.Done a p) [] k s l = tt
+Leads-whole (Do.Done a p) (g ∷ gs) k s l = record { sound = s; seated = l.0; light = l.1 }
+Leads-whole (Do.Go f p) fs k s l = record { sound = s; seated = l.0; light = l.1 }
+Leads-whole (Do.Emit e f p) fs k s l = record { sound = s; seated = l.0; light = l.1 }
+Leads-whole (Do.Wait q f p) fs zero s l = tt
+Leads-whole (Do.Wait q f p) fs (suc k) s l = λ i g e. record { sound = s i g e; seated = (l i g e).0; light = (l i g e).1 }
+Leads-whole (Do.Call g f p) fs k s l = record { sound = s; seated = l.0; light = l.1 }
+
+pub whole-kept : (v : View) (k : ℕ) → Whole v → Leads table (λ g gs q j. Whole (record { innermost = g; below = gs; pool = q })) (step v.innermost v.pool) v.below k
+whole-kept v k h =
+    Leads-whole (step v.innermost v.pool) v.below k (sound-kept v.innermost v.below v.pool k h.sound) (placed-kept v.innermost v.below v.pool k h.sound h.seated h.light)
+
+stays : (v : View) (k : ℕ) → Whole v
+    → Leads table (λ g gs q j. Well (most v k) g gs q j × (cost (most v k) g gs q j < cost (most v k) v.innermost v.below v.pool k)) (step v.innermost v.pool) v.below k
+stays v k h = (falls (most v k)).keeps v.innermost v.below v.pool k (well v k h)
+
+-- ---- an event, a question, and a step that tells nothing
+
+pub event-whole : (v : View) (e : Item) (f : Frame) (p : Pool) → Whole v → step v.innermost v.pool ≡ Do.Emit e f p → Whole (record { innermost = f; below = v.below; pool = p })
+event-whole v e f p h is-emit = rw is-emit at (whole-kept v 0 h)
+
+pub event-law : (v : View) (e : Item) (f : Frame) (p : Pool) (is : List Input) → Whole v → step v.innermost v.pool ≡ Do.Emit e f p
+    → outcome v is ≡ tell e (outcome (record { innermost = f; below = v.below; pool = p }) is)
+event-law v e f p is h is-emit =
+    let R : ℕ = most v (length is) in
+    let n : ℕ = turns (length v.pool.rows) (length is) in
+    let c = cost-turns v (length is) h in
+    let k : Well R f v.below p (length is) × (cost R f v.below p (length is) < cost R v.innermost v.below v.pool (length is)) = rw is-emit at (stays v (length is) h) in
+    rest-event table (Well R) (cost R) (falls R) n n v.innermost f v.below v.pool p e is (well v (length is) h) c is-emit (omega (arith, k.1, c))
+    ∙ ap (tell e) (rest-enough R n (record { innermost = f; below = v.below; pool = p }) is (event-whole v e f p h is-emit) k.0 (omega (arith, k.1, c)))
+
+pub question-whole : (v : View) (q : Item) (f g : Frame) (p : Pool) (i : Input) → Whole v → step v.innermost v.pool ≡ Do.Wait q f p → taken f p i ≡ Some g
+    → Whole (record { innermost = g; below = v.below; pool = p })
+question-whole v q f g p i h is-wait fits =
+    let k : (i : Input) (g : Frame) → taken f p i ≡ Some g → Whole (record { innermost = g; below = v.below; pool = p }) = rw is-wait at (whole-kept v 1 h) in
+    k i g fits
+
+pub question-law : (v : View) (q : Item) (f g : Frame) (p : Pool) (i : Input) (is : List Input) → Whole v → step v.innermost v.pool ≡ Do.Wait q f p → taken f p i ≡ Some g
+    → outcome v (i ∷ is) ≡ tell q (outcome (record { innermost = g; below = v.below; pool = p }) is)
+question-law v q f g p i is h is-wait fits =
+    let R : ℕ = most v (length (i ∷ is)) in
+    let n : ℕ = turns (length v.pool.rows) (length (i ∷ is)) in
+    let c = cost-turns v (length (i ∷ is)) h in
+    let k : (i : Input) (g : Frame) → taken f p i ≡ Some g → Well R g v.below p (length is) × (cost R g v.below p (length is) < cost R v.innermost v.below v.pool (length (i ∷ is))) =
+    rw is-wait at (stays v (length (i ∷ is)) h) in
+    let l : Well R g v.below p (length is) × (cost R g v.below p (length is) < cost R v.innermost v.below v.pool (length (i ∷ is))) = k i g fits in
+    rest-question table (Well R) (cost R) (falls R) n n v.innermost f g v.below v.pool p q i is (well v (length (i ∷ is)) h) c is-wait fits (omega (arith, l.1, c))
+    ∙ ap (tell q) (rest-enough R n (record { innermost = g; below = v.below; pool = p }) is (question-whole v q f g p i h is-wait fits) l.0 (omega (arith, l.1, c)))
+
+pub open-law : (v : View) (q : Item) (f : Frame) (p : Pool) → Whole v → step v.innermost v.pool ≡ Do.Wait q f p → outcome v [] ≡ Waits (q ∷ [])
+open-law v q f p h is-wait =
+    let R : ℕ = most v 0 in
+    rest-open table (Well R) (cost R) (falls R) (turns (length v.pool.rows) 0) v.innermost f v.below v.pool p q (well v 0 h) (cost-turns v 0 h) is-wait
+
+abbrev pub view_of_state : State Frame Pool → View
+view_of_state s = record { innermost = s.now; below = s.below; pool = s.pool }
+
+pub silent-whole : (v : View) (s : State Frame Pool) → Whole v → silent table (step v.innermost v.pool) v.below ≡ Some s → Whole (view_of_state s)
+silent-whole v s h e = silent-leads table (λ g gs q j. Whole (record { innermost = g; below = gs; pool = q })) (step v.innermost v.pool) v.below 0 s (whole-kept v 0 h) e
+
+pub silent-law : (v : View) (s : State Frame Pool) (is : List Input) → Whole v → silent table (step v.innermost v.pool) v.below ≡ Some s
+    → outcome v is ≡ outcome (view_of_state s) is
+silent-law v s is h e =
+    let R : ℕ = most v (length is) in
+    let n : ℕ = turns (length v.pool.rows) (length is) in
+    let c = cost-turns v (length is) h in
+    let k : Well R s.now s.below s.pool (length is) × (cost R s.now s.below s.pool (length is) < cost R v.innermost v.below v.pool (length is)) =
+    silent-leads table (λ g gs q j. Well (most v (length is)) g gs q j × (cost (most v (length is)) g gs q j < cost (most v (length is)) v.innermost v.below v.pool (length is))) (step v.innermost v.pool) v.below (length is) s (stays v (length is) h) e in
+    rest-silent table (Well R) (cost R) (falls R) n n v.innermost v.below v.pool s is (well v (length is) h) c e (omega (arith, k.1, c))
+    ∙ rest-enough R n (view_of_state s) is (silent-whole v s h e) k.0 (omega (arith, k.1, c))
+
+-- ---- the same of the items
+
+pub event-items : (v : View) (e : Item) (f : Frame) (p : Pool) (is : List Input) → Whole v → step v.innermost v.pool ≡ Do.Emit e f p
+    → rest_of v is ≡ e ∷ rest_of (record { innermost = f; below = v.below; pool = p }) is
+event-items v e f p is h is-emit =
+    ap told_by (event-law v e f p is h is-emit) ∙ items-tell e _ (not-short (record { innermost = f; below = v.below; pool = p }) is (event-whole v e f p h is-emit))
+
+pub question-items : (v : View) (q : Item) (f g : Frame) (p : Pool) (i : Input) (is : List Input) → Whole v → step v.innermost v.pool ≡ Do.Wait q f p → taken f p i ≡ Some g
+    → rest_of v (i ∷ is) ≡ q ∷ rest_of (record { innermost = g; below = v.below; pool = p }) is
+question-items v q f g p i is h is-wait fits =
+    ap told_by (question-law v q f g p i is h is-wait fits)
+    ∙ items-tell q _ (not-short (record { innermost = g; below = v.below; pool = p }) is (question-whole v q f g p i h is-wait fits))
+
+pub open-items : (v : View) (q : Item) (f : Frame) (p : Pool) → Whole v → step v.innermost v.pool ≡ Do.Wait q f p → rest_of v [] ≡ q ∷ []
+open-items v q f p h is-wait = ap told_by (open-law v q f p h is-wait)
+
+-- ---- the last item is a question
+
+-- ---- what kinds of steps there are
+
+-- the reply of a call is to be told
+abbrev pub IsTelling : Frame → Type 0
+IsTelling (frame.Call (Warning q x r)) = Unit {0}
+IsTelling (frame.Call (Telling q r)) = Unit {0}
+IsTelling _ = ⊥
+
+-- the step tells and asks nothing, and ends no work: it comes to a reply, or begins a work
+abbrev pub GoesOn : Move Frame Answer Pool Item → Type 0
+GoesOn (Do.Go f p) = IsTelling f
+GoesOn (Do.Call g f p) = Unit {0}
+GoesOn _ = ⊥
+
+pub plan-goes_on : (q : Ask) (plan : Plan) (p : Pool) → GoesOn (plan_step q plan p)
+plan-goes_on q (Does change None r) p = tt
+plan-goes_on q (Does change (Some x) r) p = tt
+plan-goes_on q (Frees x) p = tt
+plan-goes_on q (Unlinks o x) p = tt
+plan-goes_on q (Empties x) p = tt
+
+pub call-goes_on : (check : Check) (q : Ask) (c : Call) (p : Pool) → GoesOn (call_step check q c p)
+call-goes_on check q c p = plan-goes_on q (unless_refused check (plan p c)) p
+
+-- a free by itself asks the host for nothing but runs
+free-waits : (m : Move FreeFrame FreeReply Pool FreeStep) (p : Pool) (i : Item) (g : Frame) → lifted m ≡ Do.Wait i g p → ⊥
+free-waits (Do.Done a q) p i g e = cc
+free-waits (Do.Go f q) p i g e = cc
+free-waits (Do.Emit t f q) p i g e = announced-waits (event_of t) e
+  where
+    announced-waits : (o : Option Event) → announced o f q ≡ Do.Wait i g p → ⊥
+    announced-waits None e = cc
+    announced-waits (Some t) e = cc
+free-waits (Do.Wait t f q) p i g e = cc
+free-waits (Do.Call f h q) p i g e = cc
+
+-- the host's own work doesn't end
+pub no-end : (f : Frame) (p q : Pool) (a : Answer) → IsCaller f → Rests f [] p → step f p ≡ Do.Done a q → ⊥
+no-end (frame.Call (Awaiting ask x)) p q a h r e = r
+no-end (frame.Call (Returning v)) p q a h r e = h
+no-end (frame.Call (Doing ask c)) p q a h r e = subst GoesOn e (plan-goes_on ask (planned p c) p)
+no-end (frame.Call _) p q a h r e = cc
+no-end _ p q a h r e = h
+
+-- only a caller that is to be asked asks
+pub waits-asking : (f : Frame) (p q : Pool) (i : Item) (g : Frame) → step f p ≡ Do.Wait i g q → (ask : Ask) × (f ≡ frame.Call (Asking ask))
+waits-asking (frame.Call (Asking ask)) p q i g e = (ask, refl)
+waits-asking (frame.Call (Doing ask c)) p q i g e = absurd (subst GoesOn e (plan-goes_on ask (planned p c) p))
+waits-asking (frame.Free f) p q i g e = absurd (free-waits (free_step f p) q i g e)
+waits-asking _ p q i g e = cc
+
+-- what a step asks is a question
+only-asks : (f : Frame) (p q : Pool) (i : Item) (g : Frame) → step f p ≡ Do.Wait i g q → IsQuestion i
+only-asks f p q i g e =
+    let w = waits-asking f p q i g e in
+    let e' : Do.Wait (Asked w.0) (frame.Call (Asking w.0)) p ≡ Do.Wait i g q = ap (λ (z : Frame). step z p) (sym w.1) ∙ e in
+    let e'' : Asked w.0 ≡ i = cc in
+    subst IsQuestion e'' tt
+
+abbrev WholeAt : Frame → List Frame → Pool → Type 0
+WholeAt f fs p = Whole (record { innermost = f; below = fs; pool = p })
+
+asks-kept : (f : Frame) (fs : List Frame) (p : Pool) → WholeAt f fs p → Stays table WholeAt IsQuestion (step f p) fs
+asks-kept f fs p h = each (step f p) fs refl refl (whole-kept (record { innermost = f; below = fs; pool = p }) 1 h)
+  where
+    each : (m : Move Frame Answer Pool Item) (gs : List Frame) → step f p ≡ m → fs ≡ gs → Leads table (λ g gs q j. WholeAt g gs q) m gs 1 → Stays table WholeAt IsQuestion m gs
+    each (Do.Done a q) [] e d l =
+        let b : Seated f [] = subst (λ (z : List Frame). Seated f z) d h.seated in
+        let r : Rests f [] p = subst (λ (z : List Frame). Rests f z p) d h.sound.rests in
+        no-end f p q a b r e
+    each (Do.Done a q) (g ∷ gs) e d l = l
+    each (Do.Go g q) gs e d l = l
+    each (Do.Emit i g q) gs e d l = l
+    each (Do.Wait i g q) gs e d l = (only-asks f p q i g e, l)
+    each (Do.Call g g' q) gs e d l = l
+
+-- the story still to come ends with its question
+pub ends-asked : (v : View) (is : List Input) → Whole v → LastIs IsQuestion (rest_of v is)
+ends-asked v is h =
+    let R : ℕ = most v (length is) in
+    let n : ℕ = turns (length v.pool.rows) (length is) in
+    let w : Asks IsQuestion (walk table n v.innermost v.below v.pool is) = walk-asks table WholeAt IsQuestion asks-kept n v.innermost v.below v.pool is h in
+    Asks-items IsQuestion _ (not-short v is h)
+    (subst (λ (o : Outcome Answer Pool Input Item). Asks IsQuestion o) (rest-walk table (Well R) (cost R) (falls R) n v.innermost v.below v.pool is (well v (length is) h) (cost-turns v (length is) h)) w)
+
+-- ---- where a question is open the story still to come begins with it
+
+begins-tell : (q : Item) (o : Outcome Answer Pool Input Item) → NotShort (tell q o) → (more : List Item) × (told_by (tell q o) ≡ q ∷ more)
+begins-tell q (Ended a p ts is) n = (ts, refl)
+begins-tell q (Waits ts) n = (ts, refl)
+begins-tell q (Stray ts) n = (ts, refl)
+begins-tell q Short n = absurd n
+
+pub begins-items : (v : View) (q : Item) (f : Frame) (p : Pool) (is : List Input) → Whole v → step v.innermost v.pool ≡ Do.Wait q f p → (more : List Item) × (rest_of v is ≡ q ∷ more)
+begins-items v q f p is h is-wait = each is e (not-short v is h)
+  where
+    n : ℕ
+    n = turns (length v.pool.rows) (length is)
+
+    e : outcome v is ≡ asks table.taken (λ g p' left. walk table n g v.below p' left) q f p is
+    e = rest-step table (Well (most v (length is))) (cost (most v (length is))) (falls (most v (length is))) n v.innermost v.below v.pool is (well v (length is) h) (cost-turns v (length is) h)
+        ∙ ap (λ (m : Move Frame Answer Pool Item). leads table (walk table n) m v.below is) is-wait
+
+    fits : (i : Input) (js : List Input) (o : Option Frame) → NotShort (given (λ g p' left. walk table n g v.below p' left) q p js o)
+        → (more : List Item) × (told_by (given (λ g p' left. walk table n g v.below p' left) q p js o) ≡ q ∷ more)
+    fits i js None s = ([], refl)
+    fits i js (Some g) s = begins-tell q (walk table n g v.below p js) s
+
+    each : (js : List Input) → outcome v is ≡ asks table.taken (λ g p' left. walk table n g v.below p' left) q f p js → NotShort (outcome v is) → (more : List Item) × (rest_of v is ≡ q ∷ more)
+    each [] e s = ([], ap told_by e)
+    each (i ∷ js) e s =
+        let w = fits i js (table.taken f p i) (subst NotShort e s) in
+        (w.0, ap told_by e ∙ w.1)

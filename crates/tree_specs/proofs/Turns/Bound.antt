@@ -1,0 +1,98 @@
+-- The measure against the number of turns.
+use Rattle.std.proofs.Common.{ℕ, ◌+◌, ◌*◌, ◌≤◌, ◌<◌, List, [], ◌∷◌, length, arith}
+use Rattle.tree_specs.specs.declared.object.Owner.TheVariants.{Of}
+use Rattle.tree_specs.specs.declared.row.Row.{Row}
+use Rattle.tree_specs.specs.declared.row.Mark.{Mark}
+use Rattle.tree_specs.specs.declared.row.Mark.TheVariants.{Quiet}
+use Rattle.tree_specs.specs.declared.frame.Frame.{Frame}
+use Rattle.tree_specs.specs.declared.frame.Frame.TheVariants as frame
+use Rattle.tree_specs.specs.declared.frame.CallFrame.TheVariants.{Asking}
+use Rattle.tree_specs.specs.declared.frame.FreeFrame.TheVariants.{Tried}
+use Rattle.tree_specs.specs.declared.free_step.FreeReply.TheVariants.{Running}
+use Rattle.tree_specs.specs.declared.free_step.FreeReply.{FreeReply}
+use Rattle.tree_specs.specs.declared.frame.FreeFrame.{FreeFrame}
+use Rattle.tree_specs.specs.declared.frame.CallFrame.{CallFrame}
+use Rattle.std.proofs.Math.Nat.{mul-le-mul_left}
+use Rattle.tree_specs.specs.Machine.Profiles.{Looks, AtNone, AtKids, AtBelow, Cost, Profile, tried_cost, profile}
+use Rattle.tree_specs.specs.Rules.Story.{turns}
+use Rattle.tree_specs.specs.Machine.View.{View}
+use Rattle.tree_specs.specs.Invariants.Whole.{sizes, burden, Whole}
+use Rattle.tree_specs.specs.Tree.Inside.{total}
+use Rattle.tree_specs.specs.Invariants.Measure.{mark_weight, weight, below_cost, look_cost, top_cost, cost, pending}
+use Rattle.tree_specs.proofs.Tree.Rows.{count-length}
+use Rattle.tree_specs.proofs.Turns.FallingFrees.{kids-most}
+use Rattle.tree_specs.proofs.Turns.Load.{mark_burden-most}
+
+-- ---- the measure against the number of turns
+
+abbrev look_rounds : Looks → ℕ
+look_rounds AtNone = 0
+look_rounds _ = 4
+
+-- the numbers of a work are in bounds
+record Fits (f : Profile) : Type 0 where
+  waiting : f.waiting_cost ≤ 3 * f.size
+  rounds : f.cost.rounds + look_rounds f.cost.looks ≤ 16
+  steps : f.cost.steps ≤ 67
+  adds : f.adds ≤ 2
+
+tried-most : (a : FreeReply) → tried_cost a ≤ 8
+tried-most Running = omega arith
+tried-most _ = omega arith
+
+free-fits : (f : FreeFrame) → Fits (profile (frame.Free f))
+free-fits (Tried x c noted purpose a) = record { waiting = omega arith; rounds = omega arith; steps = omega (arith, tried-most a); adds = omega arith }
+free-fits _ = record { waiting = omega arith; rounds = omega arith; steps = omega arith; adds = omega arith }
+
+call-fits : (f : CallFrame) → Fits (profile (frame.Call f))
+call-fits (Asking q) = record { waiting = omega arith; rounds = omega arith; steps = omega arith; adds = omega arith }
+call-fits _ = record { waiting = omega arith; rounds = omega arith; steps = omega arith; adds = omega arith }
+
+fits : (f : Frame) → Fits (profile f)
+fits (frame.Free f) = free-fits f
+fits (frame.Call f) = call-fits f
+
+below-light : (fs : List Frame) → below_cost fs ≤ 3 * sizes fs
+below-light [] = omega arith
+below-light (f ∷ fs) = let ih = below-light fs in omega (arith, ih, (fits f).waiting)
+
+burden-most : (rs : List Row) → total burden rs ≤ 3 * length rs
+burden-most [] = omega arith
+burden-most (r ∷ rs) = let ih = burden-most rs in omega (arith, ih, mark_burden-most r.mark)
+
+weight-most : (rs : List Row) → total weight rs ≤ 2 * length rs
+weight-most [] = omega arith
+weight-most (r ∷ rs) = let ih = weight-most rs in omega (arith, ih, most r.mark)
+  where
+    most : (m : Mark) → mark_weight m ≤ 2
+    most Quiet = omega arith
+    most _ = omega arith
+
+look-most : (R : ℕ) (l : Looks) (fs : List Frame) (rows : List Row) → length rows ≤ R → look_cost l fs rows ≤ look_rounds l * R
+look-most R AtNone fs rows h = omega arith
+look-most R (AtKids x) fs rows h = let n = count-length rows (Of x) in omega arith
+look-most R AtBelow fs rows h = let m = kids-most R rows fs h in omega arith
+
+top-most : (R : ℕ) (f : Frame) (fs : List Frame) (rows : List Row) → length rows ≤ R → top_cost R f fs rows ≤ 16 * R + 67
+top-most R f fs rows h =
+    let c : Cost = (profile f).cost in
+    let l : look_cost c.looks fs rows ≤ look_rounds c.looks * R = look-most R c.looks fs rows h in
+    let m : R * (c.rounds + look_rounds c.looks) ≤ R * 16 = mul-le-mul_left R (fits f).rounds in
+    let t : c.steps ≤ 67 = (fits f).steps in
+    omega arith
+
+numbers : (r k w z d e : ℕ) → w ≤ 2 * r → z ≤ 3 * r + 2 → d ≤ 3 * z → e ≤ 16 * (r + 2 * k + 2) + 67
+    → (4 * (r + 2 * k + 2) + 16) * w + (16 * (r + 2 * k + 2) + 68) * k + d + e < 64 * (k + 1) * ((r + 2 * k + 2) * (r + 2 * k + 2))
+numbers r k w z d e hw hz hd he =
+    let a : (4 * (r + 2 * k + 2) + 16) * w ≤ (4 * (r + 2 * k + 2) + 16) * (2 * r) = mul-le-mul_left (4 * (r + 2 * k + 2) + 16) hw in
+    omega arith
+
+-- the measure is below the stated number of turns at every moment
+pub cost-turns : (v : View) (k : ℕ) → Whole v → cost (length v.pool.rows + 2 * k + 2) v.innermost v.below v.pool k < turns (length v.pool.rows) k
+cost-turns v k h =
+    numbers (length v.pool.rows) k (total weight v.pool.rows) (sizes v.below) (below_cost v.below) (top_cost (length v.pool.rows + 2 * k + 2) v.innermost v.below v.pool.rows)
+    (weight-most v.pool.rows) (let m = burden-most v.pool.rows in let l = h.light in omega arith)
+    (below-light v.below) (top-most (length v.pool.rows + 2 * k + 2) v.innermost v.below v.pool.rows (omega arith))
+
+pub pending-most : (f : Frame) → pending f ≤ 2
+pending-most f = (fits f).adds

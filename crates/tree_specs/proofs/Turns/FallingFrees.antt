@@ -1,0 +1,344 @@
+-- Each step of a free lowers the measure.
+use Rattle.std.specs.Prelude.{unwrap_or}
+use Rattle.tree_specs.specs.Machine.Profiles.{InRun, InLoop, tried_cost}
+use Rattle.tree_specs.specs.declared.frame.FreeFrame.{FreeFrame}
+use Rattle.tree_specs.proofs.Tree.Referring.{newest-refers, newest-of-refers}
+use Rattle.tree_specs.specs.Tree.Targets.{newest_ref}
+use Rattle.std.proofs.Common.{inl, inr, ◌⊎◌, ◌≡◌, ◌≢◌, ℕ, suc, zero, ◌+◌, ◌*◌, ◌≤◌, ◌<◌, List, [], ◌∷◌, length, Option, Some, None, true, false, nat_eq, if◌then◌else◌, refl, sym, ◌∙◌, ap, subst, arith}
+use Rattle.step_machine.specs.Machine.{Move}
+use Rattle.step_machine.specs.Machine.{Move as Do}
+use Rattle.step_machine.proofs.Ends.{Leads}
+use Rattle.tree_specs.specs.declared.object.Obj.{Obj}
+use Rattle.tree_specs.specs.declared.object.Owner.{Owner}
+use Rattle.tree_specs.specs.declared.object.Owner.TheVariants.{Of, Root}
+use Rattle.tree_specs.specs.declared.row.Row.{Row}
+use Rattle.tree_specs.specs.declared.row.Mark.{Mark}
+use Rattle.tree_specs.specs.declared.row.Mark.TheVariants.{Quiet, Asked, Busy, Doomed, Dying}
+use Rattle.tree_specs.specs.declared.question.Ask.{Ask}
+use Rattle.tree_specs.specs.declared.frame.Frame.{Frame}
+use Rattle.tree_specs.specs.declared.frame.Frame.TheVariants as frame
+use Rattle.tree_specs.specs.declared.frame.CallFrame.TheVariants.{Asking, Awaiting, Returning}
+use Rattle.tree_specs.specs.declared.frame.FreeFrame.TheVariants.{Unlinking, Releasing, Giving, Beginning, Judged, Leaving, Looping, Trying, Tried, Ending}
+use Rattle.tree_specs.specs.declared.frame.Purpose.{Purpose}
+use Rattle.tree_specs.specs.declared.frame.Purpose.TheVariants.{Removal, Emptying}
+use Rattle.tree_specs.specs.declared.frame.Answer.{Answer}
+use Rattle.tree_specs.specs.declared.frame.Answer.TheVariants.{Freed, Returned}
+use Rattle.tree_specs.specs.declared.free_step.FreeReply.{FreeReply}
+use Rattle.tree_specs.specs.declared.free_step.FreeReply.TheVariants.{Ok, Running, Refused, Held}
+use Rattle.tree_specs.specs.Words.Objects.{same, same_owner}
+use Rattle.tree_specs.specs.Tree.Pool.{Pool, row_of, is_below, owner_of, first_kid, without, changed, remove, left_row, place, set_mark, marked_row, hooked_row, target_at, newest_ref_of, is_inside}
+use Rattle.tree_specs.specs.Tree.Heirs.{heir}
+use Rattle.tree_specs.specs.Rules.Items.{Item}
+use Rattle.tree_specs.specs.Machine.Table.{table, step, resume, lifted, begin_quiet, begin_step, judge_step, last_step, loop_step, child_step, refs_step, unlink_step, release_step, hand_on_step}
+use Rattle.tree_specs.specs.Invariants.Sound.{claims, IsWaiting, AllWait, IsLive, Stands, Tries, IsOver, Sound, IsQuietRow, footing}
+use Rattle.tree_specs.proofs.Tree.Numbered.{by_test, same-equal, same_owner-false}
+use Rattle.tree_specs.proofs.Tree.Heirs.{heir-other}
+use Rattle.tree_specs.proofs.Calls.Checks.{Heard, HeardCall, HeardReturn, heard-leads}
+use Rattle.tree_specs.specs.Tree.Inside.{total}
+use Rattle.tree_specs.specs.Invariants.Measure.{count, mark_weight, weight, unit, waiting_cost, top_cost, cost, pending, loop_kids}
+use Rattle.tree_specs.proofs.Tree.Rows.{total-without, total-placed, total-changed, total-length, count-length}
+use Rattle.tree_specs.proofs.Invariants.Waiters.{Waiter, ForFree, ForRun, ForChild, waiter}
+use Rattle.tree_specs.proofs.Invariants.Changes.{dying-row, running-row, claim-here, owned-row, heir-placed}
+
+-- R bounds the rows that there can be
+abbrev pub Room : ℕ → Frame → Pool → ℕ → Type 0
+Room R f p k = length p.rows + 2 * k + pending f ≤ R
+
+abbrev pub Lowers : ℕ → ℕ → Move Frame Answer Pool Item → List Frame → ℕ → Type 0
+Lowers R b m fs k = Leads table (λ g gs q j. Room R g q j × (cost R g gs q j < b)) m fs k
+
+-- a work that ends pays for what the work below it begins
+done-lower : (R : ℕ) (a : Answer) (f : Frame) (fs : List Frame) (p : Pool) (k : ℕ) → AllWait fs → length p.rows + 2 * k ≤ R
+    → ((g : Frame) (gs : List Frame) → fs ≡ g ∷ gs → IsWaiting g gs → top_cost R (resume g a) gs p.rows < waiting_cost g + top_cost R f fs p.rows)
+    → Lowers R (cost R f fs p k) (Do.Done a p) fs k
+done-lower R a f [] p k w room pays = tt
+done-lower R a f (g ∷ gs) p k w room pays =
+    let l = pays g gs refl w.0 in
+    (calm g (waiter g gs w.0), omega (arith, l))
+  where
+    calm : (g : Frame) → Waiter g → Room R (resume g a) p k
+    calm _ (ForFree q x) = omega arith
+    calm _ (ForRun x h) = omega arith
+    calm _ (ForChild x c noted purpose) = omega arith
+
+-- what a work that is over pays for
+over-pays : (R : ℕ) (a : FreeReply) → IsOver a → (rows : List Row) → length rows ≤ R → (g : Frame) (gs : List Frame) → Waiter g → top_cost R (resume g (Freed a)) gs rows < waiting_cost g + (4 * R + 9)
+over-pays R a o rows n _ gs (ForFree q x) = omega arith
+over-pays R a o rows n _ gs (ForRun x h) = omega arith
+over-pays R Ok o rows n _ gs (ForChild x c noted purpose) = let m = count-length rows (Of x) in omega (arith, m, n)
+over-pays R Held o rows n _ gs (ForChild x c noted purpose) = let m = count-length rows (Of x) in omega (arith, m, n)
+over-pays R (Refused v) o rows n _ gs (ForChild x c noted purpose) = let m = count-length rows (Of x) in omega (arith, m, n)
+over-pays R Running o rows n _ gs (ForChild x c noted purpose) = absurd o
+
+pub ending-lower : (R : ℕ) (a : FreeReply) (fs : List Frame) (p : Pool) (k : ℕ) → Sound (frame.Free (Ending a)) fs p → Room R (frame.Free (Ending a)) p k
+    → Lowers R (cost R (frame.Free (Ending a)) fs p k) (step (frame.Free (Ending a)) p) fs k
+ending-lower R a fs p k s room = done-lower R (Freed a) (frame.Free (Ending a)) fs p k s.waiting (omega arith) (λ g gs e w. let l = over-pays R a s.rests.0 p.rows (omega arith) g gs (waiter g gs w) in omega (arith, l))
+
+-- a routine that has returned pays as one that is over
+pub returning-lower : (R v : ℕ) (fs : List Frame) (p : Pool) (k : ℕ) → Sound (frame.Call (Returning v)) fs p → Room R (frame.Call (Returning v)) p k
+    → Lowers R (cost R (frame.Call (Returning v)) fs p k) (step (frame.Call (Returning v)) p) fs k
+returning-lower R v fs p k s room = done-lower R (Returned v) (frame.Call (Returning v)) fs p k s.waiting (omega arith)
+    (λ g gs e w. let l = over-pays R Ok tt p.rows (omega arith) g gs (waiter g gs w) in omega (arith, l, as-over g gs (waiter g gs w)))
+  where
+    as-over : (g : Frame) (gs : List Frame) → Waiter g → top_cost R (resume g (Returned v)) gs p.rows ≡ top_cost R (resume g (Freed Ok)) gs p.rows
+    as-over _ gs (ForFree q x) = refl
+    as-over _ gs (ForRun x h) = refl
+    as-over _ gs (ForChild x c noted purpose) = refl
+
+pub asking-lower : (R : ℕ) (q : Ask) (fs : List Frame) (p : Pool) (k : ℕ) → Room R (frame.Call (Asking q)) p k
+    → Lowers R (cost R (frame.Call (Asking q)) fs p k) (step (frame.Call (Asking q)) p) fs k
+asking-lower R q fs p zero room = tt
+asking-lower R q fs p (suc k) room = λ i g e. leads g (heard-leads q i g e)
+  where
+    leads : (g : Frame) → Heard q g → Room R g p k × (cost R g fs p k < cost R (frame.Call (Asking q)) fs p (suc k))
+    leads _ (HeardCall c) = (omega arith, omega arith)
+    leads _ (HeardReturn v of) = (omega arith, omega arith)
+
+pub length-changed : (g : Row → Row) (rs : List Row) (x : Obj) → length (changed g rs x) ≡ length rs
+length-changed g [] x = refl
+length-changed g (s ∷ rs) x = let ih = length-changed g rs x in by_test (same s.serial x) (λ t. rw t refl) (λ t. rw t (ap suc ih))
+
+pub length-without : (rs : List Row) (x : Obj) (r : Row) → row_of rs x ≡ Some r → length rs ≡ suc (length (without rs x))
+length-without rs x r e = omega (arith, total-without (λ q. 1) rs x r e, total-length rs, total-length (without rs x))
+
+-- a row is changed to one as heavy
+pub total-kept : (w : Row → ℕ) (g : Row → Row) (rs : List Row) (x : Obj) (r : Row) → row_of rs x ≡ Some r → w (g r) ≡ w r → total w (changed g rs x) ≡ total w rs
+total-kept w g rs x r e same_weight = omega (arith, total-changed w g rs x r e, same_weight)
+
+live-weight : (m : Mark) → IsLive m → mark_weight m ≡ 2
+live-weight (Dying former) l = absurd l
+live-weight _ l = refl
+
+-- it leaves its owner
+pub leaving-lower : (R : ℕ) (x : Obj) (h : ℕ) (fs : List Frame) (p : Pool) (k : ℕ) → Sound (frame.Free (Leaving x h)) fs p → Room R (frame.Free (Leaving x h)) p k
+    → Lowers R (cost R (frame.Free (Leaving x h)) fs p k) (step (frame.Free (Leaving x h)) p) fs k
+leaving-lower R x h fs p k s room = by-row s.rests.0 s.rests.1 s.rests.2
+  where
+    by-row : (r : Row) → row_of p.rows x ≡ Some r → IsLive r.mark → Lowers R (cost R (frame.Free (Leaving x h)) fs p k) (step (frame.Free (Leaving x h)) p) fs k
+    by-row r e l =
+        let w : total weight p.rows ≡ total weight (changed left_row p.rows x) + 1 = omega (arith, total-changed weight left_row p.rows x r e, live-weight r.mark l) in
+        let n = length-changed left_row p.rows x in
+        let c = count-length (changed left_row p.rows x) (Of x) in
+        let u = ap (λ (z : ℕ). unit R * z) w in
+        (omega (arith, n), omega (arith, u, n, c))
+
+-- the children of the loop below are no more than there can be rows
+pub kids-most : (R : ℕ) (rows : List Row) (fs : List Frame) → length rows ≤ R → loop_kids rows fs ≤ 4 * R
+kids-most R rows [] h = omega arith
+kids-most R rows (frame.Free (Trying y c noted purpose) ∷ fs) h = let n = count-length rows (Of y) in omega arith
+kids-most R rows (g ∷ fs) h = omega arith
+
+-- a reference that is gone pays for what comes next
+dropped-lower : (R : ℕ) (f g : FreeFrame) (fs : List Frame) (p : Pool) (k : ℕ) (r t : Obj) → Sound (frame.Free f) fs p → target_at p.rows r ≡ Some t → Room R (frame.Free f) p k
+    → (length (without p.rows r) ≤ R → top_cost R (frame.Free g) fs (without p.rows r) ≤ 4 * R + 10)
+    → Room R (frame.Free g) (remove p r) k × (cost R (frame.Free g) fs (remove p r) k < cost R (frame.Free f) fs p k)
+dropped-lower R f g fs p k r t s is room most = by-row (row_of p.rows r) refl (s.refers.quiet r t is)
+  where
+    by-row : (q : Option Row) → row_of p.rows r ≡ q → IsQuietRow q → Room R (frame.Free g) (remove p r) k × (cost R (frame.Free g) fs (remove p r) k < cost R (frame.Free f) fs p k)
+    by-row None e quiet = absurd quiet
+    by-row (Some row) e quiet =
+        let w : total weight p.rows ≡ total weight (without p.rows r) + 2 = omega (arith, total-without weight p.rows r row e, ap mark_weight quiet) in
+        let u = ap (λ (z : ℕ). unit R * z) w in
+        let n = length-without p.rows r row e in
+        let m = most (omega (arith, n)) in
+        (omega (arith, n), omega (arith, u, m))
+
+pub looping-lower : (R : ℕ) (x : Obj) (purpose : Purpose) (fs : List Frame) (p : Pool) (k : ℕ) → Sound (frame.Free (Looping x purpose)) fs p → Room R (frame.Free (Looping x purpose)) p k
+    → Lowers R (cost R (frame.Free (Looping x purpose)) fs p k) (step (frame.Free (Looping x purpose)) p) fs k
+looping-lower R x purpose fs p k s most = each (first_kid p.rows (Of x)) refl
+  where
+    gone : (h : ℕ) (r : Row) → row_of p.rows x ≡ Some r → (former : Owner) → r.mark ≡ Dying former
+        → Room R (frame.Free (Ending Ok)) (remove p x) k × (cost R (frame.Free (Ending Ok)) fs (remove p x) k < cost R (frame.Free (Looping x (Removal h))) fs p k)
+    gone h r e former m =
+        let w : total weight p.rows ≡ total weight (without p.rows x) + 1 = omega (arith, total-without weight p.rows x r e, ap mark_weight m) in
+        let u = ap (λ (z : ℕ). unit R * z) w in
+        let n = length-without p.rows x r e in
+        (omega (arith, n), omega (arith, u))
+
+    -- a call is what waits for a loop that only empties
+    called : (g : Frame) (gs : List Frame) → Stands Emptying (footing (g ∷ gs)) → top_cost R (resume g (Freed Ok)) gs p.rows < waiting_cost g + (4 * count p.rows (Of x) + 7)
+    called (frame.Call (Awaiting q y)) gs c = omega arith
+    called _ gs c = absurd c
+
+    last : (purpose : Purpose) → Sound (frame.Free (Looping x purpose)) fs p → Lowers R (cost R (frame.Free (Looping x purpose)) fs p k) (lifted (last_step x purpose p)) fs k
+    last (Removal h) s =
+        let row = dying-row (row_of p.rows x) (claims x fs) (claim-here x InLoop (claims x fs) (row_of p.rows x) (s.open_frees x)) in
+        gone h row.0 row.1 row.2 row.3
+    last Emptying s = done-lower R (Freed Ok) (frame.Free (Looping x Emptying)) fs p k s.waiting (omega arith)
+        (λ g gs e w. let l = called g gs (subst (λ (l : List Frame). Stands Emptying (footing l)) e s.rests) in omega (arith, l))
+
+    child : (c : Obj) (o : Option Obj) → target_at p.rows c ≡ o → Lowers R (cost R (frame.Free (Looping x purpose)) fs p k) (lifted (child_step x c purpose (target_at p.rows c) p)) fs k
+    child c None e = rw e (omega arith, omega arith)
+    child c (Some t) e = rw e (dropped-lower R (Looping x purpose) (Looping x purpose) fs p k c t s e most (λ h. let n = count-length (without p.rows c) (Of x) in omega (arith, n)))
+
+    each : (o : Option Obj) → first_kid p.rows (Of x) ≡ o → Lowers R (cost R (frame.Free (Looping x purpose)) fs p k) (lifted (loop_step x purpose (first_kid p.rows (Of x)) p)) fs k
+    each (Some c) e = rw e (child c (target_at p.rows c) refl)
+    each None e = rw e (last purpose s)
+
+pub length-placed : (p : Pool) (o : Owner) (x : Obj) (r : Row) → row_of p.rows x ≡ Some r → length (place p o x).rows ≡ length p.rows
+length-placed p o x r e = omega (arith, total-placed (λ q. 1) p o x r e refl, total-length p.rows, total-length (place p o x).rows)
+
+-- a child that goes to its heir is one child fewer, where that is another object, and none more
+handed-count : (x c : Obj) (noted : Option Owner) (f : Frame) (fs : List Frame) (p : Pool) → Sound f fs p → is_below (owner_of p.rows c) (Of x) ≡ true → noted ≢ Some (Of x)
+    → count p.rows (Of x) ≡ count (place p (heir p.rows x c noted) c).rows (Of x) + 1
+handed-count x c noted f fs p s below not_noted =
+    let may = heir-placed x c noted f fs p s below in
+    let r : Row = may.row in
+    let was : is_below r.owner (Of x) ≡ true = rw may.is at below in
+    let w = total-without (λ q. if is_below q.owner (Of x) then 1 else 0) p.rows c r may.is in
+    let other : same_owner (heir p.rows x c noted) (Of x) ≡ false = same_owner-false _ _ (heir-other p.rows p.next x c noted (s.valid x) not_noted) in
+    rw (may.is, other) (let w' = rw was at w in omega (arith, w'))
+
+handed-most : (x c : Obj) (noted : Option Owner) (f : Frame) (fs : List Frame) (p : Pool) → Sound f fs p → is_below (owner_of p.rows c) (Of x) ≡ true
+    → count (place p (heir p.rows x c noted) c).rows (Of x) ≤ count p.rows (Of x)
+handed-most x c noted f fs p s below =
+    let may = heir-placed x c noted f fs p s below in
+    let r : Row = may.row in
+    let was : is_below r.owner (Of x) ≡ true = rw may.is at below in
+    let w = total-without (λ q. if is_below q.owner (Of x) then 1 else 0) p.rows c r may.is in
+    rw may.is (by_test (same_owner (heir p.rows x c noted) (Of x))
+    (λ t. rw t (let w' = rw was at w in omega (arith, w')))
+    (λ t. rw t (let w' = rw was at w in omega (arith, w'))))
+
+pub tried-lower : (R : ℕ) (x c : Obj) (noted : Option Owner) (purpose : Purpose) (a : FreeReply) (fs : List Frame) (p : Pool) (k : ℕ) → Sound (frame.Free (Tried x c noted purpose a)) fs p
+    → Room R (frame.Free (Tried x c noted purpose a)) p k → Lowers R (cost R (frame.Free (Tried x c noted purpose a)) fs p k) (step (frame.Free (Tried x c noted purpose a)) p) fs k
+tried-lower R x c noted purpose a fs p k s room = each a s
+  where
+    moved : (b : FreeReply) → Sound (frame.Free (Tried x c noted purpose b)) fs p → is_below (owner_of p.rows c) (Of x) ≡ true
+        → (4 * count (place p (heir p.rows x c noted) c).rows (Of x) + 7 < 4 * count p.rows (Of x) + tried_cost b)
+        → Room R (frame.Free (Looping x purpose)) (place p (heir p.rows x c noted) c) k × (cost R (frame.Free (Looping x purpose)) fs (place p (heir p.rows x c noted) c) k < cost R (frame.Free (Tried x c noted purpose b)) fs p k)
+    moved b s below cheaper =
+        let may = heir-placed x c noted _ fs p s below in
+        let n = length-placed p (heir p.rows x c noted) c may.row may.is in
+        let u = ap (λ (z : ℕ). unit R * z) (total-placed weight p (heir p.rows x c noted) c may.row may.is refl) in
+        (omega (arith, n), omega (arith, u, cheaper))
+
+    handed : (b : FreeReply) → tried_cost b ≡ 8 → Sound (frame.Free (Tried x c noted purpose b)) fs p → Lowers R (cost R (frame.Free (Tried x c noted purpose b)) fs p k) (lifted (hand_on_step x c noted purpose p)) fs k
+    handed b e s = by_test (is_below (owner_of p.rows c) (Of x))
+        (λ t. rw t (moved b s t (let m = handed-most x c noted _ fs p s t in omega (arith, m, e))))
+        (λ t. rw t (omega arith, omega (arith, e)))
+
+    each : (b : FreeReply) → Sound (frame.Free (Tried x c noted purpose b)) fs p → Lowers R (cost R (frame.Free (Tried x c noted purpose b)) fs p k) (step (frame.Free (Tried x c noted purpose b)) p) fs k
+    each Ok s = (omega arith, omega arith)
+    each Held s = handed Held refl s
+    each Running s = by_test (is_below (owner_of p.rows c) (Of x))
+        (λ t. rw t (moved Running s t (let m = handed-count x c noted _ fs p s t s.rests.0.1 in omega (arith, m))))
+        (λ t. let there : same_owner (Of x) (Of x) ≡ false = rw s.rests.0.0 at t in let self = same-equal x x refl in let bad : true ≡ false = sym self ∙ there in cc)
+    each (Refused v) s = handed (Refused v) refl s
+
+-- a freeing that ends at once is no loop's child, or is said to run
+at_once-lower : (R : ℕ) (a : FreeReply) (x : Obj) (fs : List Frame) (p p' : Pool) (k : ℕ) → (a ≡ Running) ⊎ ((o : Owner) → owner_of p.rows x ≢ Some o) → Tries x (footing fs) p → AllWait fs
+    → total weight p'.rows ≡ total weight p.rows → length p'.rows ≡ length p.rows → ((y : Obj) → count p'.rows (Of y) ≡ count p.rows (Of y)) → Room R (frame.Free (Beginning x)) p k
+    → Lowers R (cost R (frame.Free (Beginning x)) fs p k) (Do.Done (Freed a) p') fs k
+at_once-lower R a x [] p p' k h t w e n m room = tt
+at_once-lower R a x (g ∷ gs) p p' k h t w e n m room = below g (waiter g gs w.0) t
+  where
+    u : unit R * total weight p'.rows ≡ unit R * total weight p.rows
+    u = ap (λ (z : ℕ). unit R * z) e
+
+    runs : (y c : Obj) (noted : Option Owner) (purpose : Purpose) (a : FreeReply) → a ≡ Running
+        → Room R (frame.Free (Tried y c noted purpose a)) p' k × (cost R (frame.Free (Tried y c noted purpose a)) gs p' k < cost R (frame.Free (Beginning x)) (frame.Free (Trying y c noted purpose) ∷ gs) p k)
+    runs y c noted purpose Running is = (omega (arith, n), omega (arith, u, m y))
+    runs y c noted purpose _ is = cc
+
+    below : (g : Frame) → Waiter g → Tries x (footing (g ∷ gs)) p → Lowers R (cost R (frame.Free (Beginning x)) (g ∷ gs) p k) (Do.Done (Freed a) p') (g ∷ gs) k
+    below _ (ForFree q y) t = (omega (arith, n), omega (arith, u))
+    below _ (ForRun y f) t = absurd t
+    below _ (ForChild y c noted purpose) t = elim h [
+      | inl is ↦ runs y c noted purpose a is
+      | inr none ↦ absurd (none (Of y) t.1)
+    ]
+
+pub beginning-lower : (R : ℕ) (x : Obj) (fs : List Frame) (p : Pool) (k : ℕ) → Sound (frame.Free (Beginning x)) fs p → Room R (frame.Free (Beginning x)) p k
+    → Lowers R (cost R (frame.Free (Beginning x)) fs p k) (step (frame.Free (Beginning x)) p) fs k
+beginning-lower R x fs p k s room = newest (newest_ref p.rows x) refl
+  where
+    dead : (r : Row) (former : Owner) → r.mark ≡ Dying former → row_of p.rows x ≡ Some r → (o : Owner) → owner_of p.rows x ≢ Some o
+    dead r former m e o q =
+        let w = owned-row p x o s.valid q in
+        let d : Some w.0 ≡ Some r = sym w.1 ∙ e in
+        let d' : w.0 ≡ r = cc in
+        let l : IsLive r.mark = subst (λ (z : Row). IsLive z.mark) d' w.2 in
+        let bad : IsLive (Dying former) = rw m at l in bad
+
+    over : ((o : Owner) → owner_of p.rows x ≢ Some o) → Lowers R (cost R (frame.Free (Beginning x)) fs p k) (Do.Done (Freed Ok) p) fs k
+    over none = at_once-lower R Ok x fs p p k (inr none) s.rests.0 s.waiting refl refl (λ y. refl) room
+
+    runs : Lowers R (cost R (frame.Free (Beginning x)) fs p k) (Do.Done (Freed Running) p) fs k
+    runs = at_once-lower R Running x fs p p k (inl refl) s.rests.0 s.waiting refl refl (λ y. refl) room
+
+    dooms : (r : Row) → row_of p.rows x ≡ Some r → r.mark ≡ Busy → Lowers R (cost R (frame.Free (Beginning x)) fs p k) (Do.Done (Freed Running) (set_mark p x Doomed)) fs k
+    dooms r e m = at_once-lower R Running x fs p (set_mark p x Doomed) k (inl refl) s.rests.0 s.waiting
+        (total-kept weight (marked_row Doomed) p.rows x r e (sym (ap mark_weight m))) (length-changed (marked_row Doomed) p.rows x)
+        (λ y. total-kept (λ q. if is_below q.owner (Of y) then 1 else 0) (marked_row Doomed) p.rows x r e refl) room
+
+    quiet : (r : Row) → row_of p.rows x ≡ Some r → r.mark ≡ Quiet → Lowers R (cost R (frame.Free (Beginning x)) fs p k) (lifted (begin_quiet x r.hook p)) fs k
+    quiet r e m = by_test (nat_eq r.hook 0)
+        (λ t. rw t (omega arith, omega arith))
+        (λ t. let u = ap (λ (z : ℕ). unit R * z) (total-kept weight (marked_row Asked) p.rows x r e (sym (ap mark_weight m))) in
+        let n = length-changed (marked_row Asked) p.rows x in
+        rw t (omega (arith, n), omega (arith, u)))
+
+    marks : (r : Row) (m : Mark) → r.mark ≡ m → row_of p.rows x ≡ Some r → Lowers R (cost R (frame.Free (Beginning x)) fs p k) (lifted (begin_step x (row_of p.rows x) p)) fs k
+    marks r Quiet m e = rw (e, m) (quiet r e m)
+    marks r Asked m e = rw (e, m) runs
+    marks r Busy m e = rw (e, m) (dooms r e m)
+    marks r Doomed m e = rw (e, m) runs
+    marks r (Dying former) m e = rw (e, m) (over (dead r former m e))
+
+    each : (o : Option Row) → row_of p.rows x ≡ o → Lowers R (cost R (frame.Free (Beginning x)) fs p k) (lifted (begin_step x (row_of p.rows x) p)) fs k
+    each None e = rw e (over (λ o q. let bad : None ≡ Some o = rw e at q in cc))
+    each (Some r) e = marks r r.mark refl e
+
+    newest : (o : Option Obj) → newest_ref p.rows x ≡ o → Lowers R (cost R (frame.Free (Beginning x)) fs p k) (lifted (refs_step x (newest_ref p.rows x) p)) fs k
+    newest None e = rw e (each (row_of p.rows x) refl)
+    newest (Some r) e =
+        let w = newest-refers p.rows x r s.forest.distinct e in
+        let is : target_at p.rows r ≡ Some x = rw w.1 w.2 in
+        rw e (by_test (is_inside p.rows (Of r) (Of x))
+        (λ t. rw t (dropped-lower R (Beginning x) (Beginning x) fs p k r x s is room (λ h. let m = kids-most R (without p.rows r) fs h in omega (arith, m))))
+        (λ t. rw t (dropped-lower R (Beginning x) (Ending Held) fs p k r x s is room (λ h. omega arith))))
+
+-- an owner gives an object up
+pub unlinking-lower : (R : ℕ) (o : Owner) (x : Obj) (fs : List Frame) (p : Pool) (k : ℕ) → Sound (frame.Free (Unlinking o x)) fs p → Room R (frame.Free (Unlinking o x)) p k
+    → Lowers R (cost R (frame.Free (Unlinking o x)) fs p k) (step (frame.Free (Unlinking o x)) p) fs k
+unlinking-lower R o x fs p k s room = each (newest_ref_of p.rows o x) refl
+  where
+    each : (n : Option Obj) → newest_ref_of p.rows o x ≡ n → Lowers R (cost R (frame.Free (Unlinking o x)) fs p k) (lifted (unlink_step x (newest_ref_of p.rows o x) p)) fs k
+    each None e = rw e (omega arith, omega arith)
+    each (Some r) e =
+        let w = newest-of-refers p.rows o x r s.forest.distinct e in
+        rw e (dropped-lower R (Unlinking o x) (Ending Ok) fs p k r x s (rw w.1 w.2) room (λ h. omega arith))
+
+pub releasing-lower : (R : ℕ) (x : Obj) (fs : List Frame) (p : Pool) (k : ℕ) → Sound (frame.Free (Releasing x)) fs p → Room R (frame.Free (Releasing x)) p k
+    → Lowers R (cost R (frame.Free (Releasing x)) fs p k) (step (frame.Free (Releasing x)) p) fs k
+releasing-lower R x fs p k s room = each (newest_ref p.rows x) refl
+  where
+    each : (n : Option Obj) → newest_ref p.rows x ≡ n → Lowers R (cost R (frame.Free (Releasing x)) fs p k) (lifted (release_step x (newest_ref p.rows x) p)) fs k
+    each None e = rw e (omega arith, omega arith)
+    each (Some r) e =
+        let w = newest-refers p.rows x r s.forest.distinct e in
+        let is : target_at p.rows r ≡ Some x = rw w.1 w.2 in
+        rw e (by_test (is_inside p.rows (Of r) (Of x))
+        (λ t. rw t (dropped-lower R (Releasing x) (Releasing x) fs p k r x s is room (λ h. let m = kids-most R (without p.rows r) fs h in omega (arith, m))))
+        (λ t. rw t (dropped-lower R (Releasing x) (Giving x (unwrap_or (owner_of p.rows r) Root)) fs p k r x s is room (λ h. omega arith))))
+
+pub giving-lower : (R : ℕ) (x : Obj) (o : Owner) (fs : List Frame) (p : Pool) (k : ℕ) → Sound (frame.Free (Giving x o)) fs p → Room R (frame.Free (Giving x o)) p k
+    → Lowers R (cost R (frame.Free (Giving x o)) fs p k) (step (frame.Free (Giving x o)) p) fs k
+giving-lower R x o fs p k s room =
+    let n = length-placed p o x s.rests.row s.rests.is in
+    let u = ap (λ (z : ℕ). unit R * z) (total-placed weight p o x s.rests.row s.rests.is refl) in
+    (omega (arith, n), omega (arith, u))
+
+pub judged-lower : (R : ℕ) (x : Obj) (h v : ℕ) (fs : List Frame) (p : Pool) (k : ℕ) → Sound (frame.Free (Judged x h v)) fs p → Room R (frame.Free (Judged x h v)) p k
+    → Lowers R (cost R (frame.Free (Judged x h v)) fs p k) (step (frame.Free (Judged x h v)) p) fs k
+judged-lower R x h v fs p k s room =
+    let row = running-row (row_of p.rows x) (claims x fs) (claim-here x InRun (claims x fs) (row_of p.rows x) (s.open_frees x)) in
+    by-row row.0 row.1 row.2
+  where
+    by-row : (r : Row) → row_of p.rows x ≡ Some r → IsLive r.mark → Lowers R (cost R (frame.Free (Judged x h v)) fs p k) (lifted (judge_step x h v p)) fs k
+    by-row r e live = by_test (nat_eq v 0)
+        (λ t. let u = ap (λ (z : ℕ). unit R * z) (total-kept weight (hooked_row 0) p.rows x r e refl) in
+        let n = length-changed (hooked_row 0) p.rows x in rw t (omega (arith, n), omega (arith, u)))
+        (λ t. let u = ap (λ (z : ℕ). unit R * z) (total-kept weight (marked_row Quiet) p.rows x r e (sym (live-weight r.mark live))) in
+        let n = length-changed (marked_row Quiet) p.rows x in rw t (omega (arith, n), omega (arith, u)))

@@ -1,0 +1,73 @@
+-- Each step lowers the measure.
+use Rattle.std.proofs.Common.{◌≤◌, ◌+◌, ℕ, suc, zero, ◌<◌, List, [], ◌∷◌, Some, None, arith}
+use Rattle.std.proofs.Math.Nat.{mul-le-mul_left}
+use Rattle.step_machine.specs.Machine.{Move}
+use Rattle.step_machine.specs.Machine.{Move as Do}
+use Rattle.step_machine.proofs.Ends.{Leads, Falls}
+use Rattle.tree_specs.specs.declared.object.Owner.TheVariants.{Of}
+use Rattle.tree_specs.specs.declared.call.Call.{Call}
+use Rattle.tree_specs.specs.declared.question.Ask.{Ask}
+use Rattle.tree_specs.specs.declared.frame.Frame.{Frame}
+use Rattle.tree_specs.specs.declared.frame.Frame.TheVariants as frame
+use Rattle.tree_specs.specs.declared.frame.CallFrame.TheVariants.{Warning, Telling, Asking, Doing, Awaiting, Returning}
+use Rattle.tree_specs.specs.declared.frame.FreeFrame.TheVariants.{Hooked, Unlinking, Releasing, Giving, Beginning, Judged, Leaving, Looping, Trying, Tried, Ending}
+use Rattle.tree_specs.specs.declared.frame.Answer.{Answer}
+use Rattle.tree_specs.specs.Tree.Pool.{Pool}
+use Rattle.tree_specs.specs.Rules.Items.{Item}
+use Rattle.tree_specs.specs.Calls.Plans.{Plan, planned, changed_by}
+use Rattle.tree_specs.specs.Calls.Plans.Plan.{Does, Frees, Unlinks, Empties}
+use Rattle.tree_specs.specs.Machine.Table.{table, step, plan_step}
+use Rattle.tree_specs.specs.Invariants.Sound.{Sound}
+use Rattle.tree_specs.specs.Tree.Inside.{total}
+use Rattle.tree_specs.specs.Invariants.Measure.{weight, unit, cost}
+use Rattle.tree_specs.proofs.Tree.Rows.{count-length}
+use Rattle.tree_specs.proofs.Calls.Plans.{May, follows, may-planned}
+use Rattle.tree_specs.proofs.Invariants.Keeps.{sound-kept}
+use Rattle.tree_specs.proofs.Turns.FallingFrees.{Lowers, Room, asking-lower, beginning-lower, ending-lower, giving-lower, judged-lower, leaving-lower, looping-lower, releasing-lower, returning-lower, tried-lower, unlinking-lower}
+
+-- the first step of a plan that may be carried out
+planned-lower : (R : ℕ) (q : Ask) (c : Call) (fs : List Frame) (p : Pool) (k : ℕ) → Room R (frame.Call (Doing q c)) p k → (plan : Plan) → May p plan
+    → Lowers R (cost R (frame.Call (Doing q c)) fs p k) (plan_step q plan p) fs k
+planned-lower R q c fs p k room (Does change None r) may =
+    let f = follows p change may.0 in let few = may.1 in let w : total weight (changed_by change p).rows ≤ total weight p.rows + 4 = omega (arith, f.weight) in let u = mul-le-mul_left (unit R) w in (omega (arith, f.number), omega (arith, u))
+planned-lower R q c fs p k room (Does change (Some x) r) may =
+    let f = follows p change may.0 in let few = may.1 in let w : total weight (changed_by change p).rows ≤ total weight p.rows + 4 = omega (arith, f.weight) in let u = mul-le-mul_left (unit R) w in (omega (arith, f.number), omega (arith, u))
+planned-lower R q c fs p k room (Frees x) may = (omega arith, omega arith)
+planned-lower R q c fs p k room (Unlinks o x) may = (omega arith, omega arith)
+planned-lower R q c fs p k room (Empties x) may = let m = count-length p.rows (Of x) in (omega arith, omega arith)
+
+-- every step lowers the measure
+pub lower : (R : ℕ) (f : Frame) (fs : List Frame) (p : Pool) (k : ℕ) → Sound f fs p → Room R f p k → Lowers R (cost R f fs p k) (step f p) fs k
+lower R (frame.Call (Asking q)) fs p k s room = asking-lower R q fs p k room
+lower R (frame.Call (Doing q c)) fs p k s room = planned-lower R q c fs p k room (planned p c) (may-planned (frame.Call (Doing q c)) fs p s c)
+lower R (frame.Call (Returning v)) fs p k s room = returning-lower R v fs p k s room
+lower R (frame.Free (Unlinking o x)) fs p k s room = unlinking-lower R o x fs p k s room
+lower R (frame.Free (Releasing x)) fs p k s room = releasing-lower R x fs p k s room
+lower R (frame.Free (Giving x o)) fs p k s room = giving-lower R x o fs p k s room
+lower R (frame.Free (Beginning x)) fs p k s room = beginning-lower R x fs p k s room
+lower R (frame.Free (Judged x h v)) fs p k s room = judged-lower R x h v fs p k s room
+lower R (frame.Free (Leaving x h)) fs p k s room = leaving-lower R x h fs p k s room
+lower R (frame.Free (Looping x purpose)) fs p k s room = looping-lower R x purpose fs p k s room
+lower R (frame.Free (Tried x c noted purpose a)) fs p k s room = tried-lower R x c noted purpose a fs p k s room
+lower R (frame.Free (Ending answer)) fs p k s room = ending-lower R answer fs p k s room
+lower R (frame.Call (Warning q x r)) fs p k s room = (omega arith, omega arith)
+lower R (frame.Call (Telling q r)) fs p k s room = (omega arith, omega arith)
+lower R (frame.Free (Hooked x h)) fs p k s room = (omega arith, omega arith)
+lower R _ fs p k s room = absurd s.rests
+
+-- what the measure speaks of
+abbrev pub Well : ℕ → Frame → List Frame → Pool → ℕ → Type 0
+Well R f fs p k = Sound f fs p × Room R f p k
+
+Leads-both : (b R : ℕ) (m : Move Frame Answer Pool Item) (fs : List Frame) (k : ℕ)
+    → Leads table (λ g gs q j. Sound g gs q) m fs k → Lowers R b m fs k → Leads table (λ g gs q j. Well R g gs q j × (cost R g gs q j < b)) m fs k
+Leads-both b R (Do.Done a p) [] k s l = tt
+Leads-both b R (Do.Done a p) (g ∷ gs) k s l = ((s, l.0), l.1)
+Leads-both b R (Do.Go f p) fs k s l = ((s, l.0), l.1)
+Leads-both b R (Do.Emit e f p) fs k s l = ((s, l.0), l.1)
+Leads-both b R (Do.Wait q f p) fs zero s l = tt
+Leads-both b R (Do.Wait q f p) fs (suc k) s l = λ i g e. ((s i g e, (l i g e).0), (l i g e).1)
+Leads-both b R (Do.Call g f p) fs k s l = ((s, l.0), l.1)
+
+pub falls : (R : ℕ) → Falls table (Well R) (cost R)
+falls R = record { keeps = λ f fs p k h. Leads-both (cost R f fs p k) R (step f p) fs k (sound-kept f fs p k h.0) (lower R f fs p k h.0 h.1) }

@@ -1,0 +1,124 @@
+-- What each call does: a change of the rows with its reply, or a free that it waits for.
+use Rattle.std.specs.Prelude.{ℕ, codes, List, [], ◌∷◌, Bool, not, is_some, ◌&&◌, Option, Some, None, unwrap_or, if◌then◌else◌}
+use Rattle.tree_specs.specs.declared.object.Obj.{Obj}
+use Rattle.tree_specs.specs.declared.object.Owner.{Owner}
+use Rattle.tree_specs.specs.declared.object.Owner.TheVariants.{Root}
+use Rattle.tree_specs.specs.declared.kind.Kind.{Kind}
+use Rattle.tree_specs.specs.declared.kind.Kind.TheVariants.{Plain, Reference}
+use Rattle.tree_specs.specs.declared.row.Row.{Row}
+use Rattle.tree_specs.specs.declared.call.Call.{Call}
+use Rattle.tree_specs.specs.declared.call.Call.TheVariants as call
+use Rattle.tree_specs.specs.declared.reply.Reply.{Reply}
+use Rattle.tree_specs.specs.declared.reply.Reply.TheVariants.{Ok, Number, Rows, No}
+use Rattle.tree_specs.specs.Words.Objects.{owner_number}
+use Rattle.tree_specs.specs.Tree.Targets.{newest_ref}
+use Rattle.tree_specs.specs.Tree.Pool.{Pool, changed, is_below, owner_of, newest_ref_of, add, place, named_row, hooked_row, sized_row, limited_row}
+use Rattle.tree_specs.specs.Tree.Inside.{size_inside, count_inside}
+use Rattle.tree_specs.specs.Tree.Sums.{sum_inside}
+use Rattle.tree_specs.specs.Tree.Reports.{report}
+use Rattle.tree_specs.specs.Calls.Refusals.{Check, refusals}
+
+-- what is done to the rows
+pub data Change : Type 0 where
+  Nothing : Change
+  -- something of one row
+  Edit : Obj → (Row → Row) → Change
+  -- a new row below an owner, with its size and name
+  Add : Kind → Owner → ℕ → List ℕ → Change
+  -- an object goes below an owner
+  Place : Owner → Obj → Change
+  -- one change after another
+  Then : Change → Change → Change
+
+abbrev pub changed_by : Change → Pool → Pool
+changed_by Nothing p = p
+changed_by (Edit x g) p = record p { rows = changed g p.rows x }
+changed_by (Add kind o size name) p = add p kind o size name
+changed_by (Place o x) p = place p o x
+changed_by (Then first second) p = changed_by second (changed_by first p)
+
+pub data Plan : Type 0 where
+  -- a change, and the reply; before the reply it may be told that an object has references
+  Does : Change → Option Obj → Reply → Plan
+  Frees : Obj → Plan
+  -- an owner's interest in an object is taken away
+  Unlinks : Owner → Obj → Plan
+  -- the children of an object are freed
+  Empties : Obj → Plan
+
+abbrev pub replies : Reply → Plan
+replies r = Does Nothing None r
+
+abbrev pub edits : Obj → (Row → Row) → Plan
+edits x g = Does (Edit x g) None Ok
+
+-- the reply is the number of the new row
+abbrev pub adds : Pool → Kind → Owner → ℕ → List ℕ → Plan
+adds p kind o size name = Does (Add kind o size name) None (Number p.next)
+
+-- an object that has references is given to another owner
+abbrev pub warns : Pool → Owner → Obj → Bool
+warns p o x = is_some (newest_ref p.rows x) && not (is_below (owner_of p.rows x) o)
+
+abbrev pub places : Pool → Owner → Obj → Reply → Plan
+places p o x r = Does (Place o x) (if warns p o x then Some x else None) r
+
+-- what an owner gives away of an object: the object itself, or its newest reference to it
+abbrev pub gift : Pool → Owner → Obj → Option Obj
+gift p from x = if is_below (owner_of p.rows x) from then Some x else newest_ref_of p.rows from x
+
+abbrev pub handed : Owner → Option Obj → Change
+handed to None = Nothing
+handed to (Some r) = Place to r
+
+-- an object goes from its owner to another one, or the newest reference of an owner does
+abbrev pub reparented : Pool → Owner → Owner → Obj → Pool
+reparented p from to x = changed_by (handed to (gift p from x)) p
+
+-- the one reference to an object of the root's is dropped
+abbrev pub frees : Option Obj → Obj → Plan
+frees None x = Frees x
+frees (Some r) x = Unlinks Root x
+
+-- a new reference
+abbrev pub refer : Pool → Owner → Obj → Pool
+refer p o x = add p (Reference x) o 0 (codes "reference")
+
+-- an owner by its number
+abbrev pub owner_reply : Option Owner → Reply
+owner_reply o = Number (owner_number (unwrap_or o Root))
+
+abbrev pub plan : Pool → Call → Plan
+plan p (call.New o size name) = adds p Plain o size name
+plan p (call.Free x) = frees (newest_ref p.rows x) x
+plan p (call.Freekids x) = Empties x
+plan p (call.Steal o x) = places p o x Ok
+plan p (call.Move o x) = places p o x (Number x.0)
+plan p (call.Reparent from to x) = Does (handed to (gift p from x)) None Ok
+plan p (call.Reference o x) = adds p (Reference x) o 0 (codes "reference")
+plan p (call.Unlink o x) = Unlinks o x
+plan p (call.Hook x routine) = edits x (hooked_row routine)
+plan p (call.Unhook x) = edits x (hooked_row 0)
+plan p (call.Rename x name) = edits x (named_row name)
+plan p (call.Resize x size) = edits x (sized_row size)
+plan p (call.Limit x max) = edits x (limited_row max)
+plan p (call.Parent x) = replies (owner_reply (owner_of p.rows x))
+plan p (call.Total o) = replies (Number (size_inside p.rows o))
+plan p (call.Count o) = replies (Number (count_inside p.rows o))
+plan p (call.Sum o) = replies (Number (sum_inside p.rows o))
+plan p (call.Report o) = replies (Rows (report p.rows o))
+
+-- a call that is refused does nothing, and has the first refusal as its reply
+abbrev pub unless_refused : Check → Plan → Plan
+unless_refused [] plan = plan
+unless_refused (why ∷ later) plan = replies (No why)
+
+abbrev pub planned : Pool → Call → Plan
+planned p c = unless_refused (refusals p c) (plan p c)
+
+-- the object of which it warns
+abbrev pub warned_by : Plan → Option Obj
+warned_by (Does c warned r) = warned
+warned_by (Frees x) = None
+warned_by (Unlinks o x) = None
+warned_by (Empties x) = None

@@ -1,0 +1,202 @@
+-- The refusals of each call, in the order in which they are tried.
+use Rattle.std.specs.Prelude.{ℕ, zero, suc, ◌-◌, ◌+◌, ◌^◌, Bool, true, false, not, ◌&&◌, ◌||◌, is_some, nat_eq, nat_lt, nat_le, if◌then◌else◌, List, [], ◌∷◌, ◌++◌, length, Option, Some, None, Result, Ok, Err}
+use Rattle.tree_specs.specs.declared.bounds.TheConstants.{ROW_LIMIT, SIZE_LIMIT}
+use Rattle.tree_specs.specs.declared.object.Obj.{Obj}
+use Rattle.tree_specs.specs.declared.object.Owner.{Owner}
+use Rattle.tree_specs.specs.declared.object.Owner.TheVariants.{Root, Of}
+use Rattle.tree_specs.specs.declared.kind.Kind.{Kind}
+use Rattle.tree_specs.specs.declared.kind.Kind.TheVariants.{Plain, Reference, Timer, Immediate, Descriptor, Request, Queue, Entry}
+use Rattle.tree_specs.specs.declared.row.Row.{Row}
+use Rattle.tree_specs.specs.declared.row.Mark.{Mark}
+use Rattle.tree_specs.specs.declared.row.Mark.TheVariants as mark
+use Rattle.tree_specs.specs.declared.call.Call.{Call}
+use Rattle.tree_specs.specs.declared.call.Call.TheVariants.{New, Free, Freekids, Steal, Move, Reparent, Reference as Refer, Unlink, Hook, Unhook, Rename, Resize, Limit, Parent, Total, Count, Sum, Report}
+use Rattle.tree_specs.specs.declared.test.Test.{Test}
+use Rattle.tree_specs.specs.declared.test.Test.TheVariants.{IsSmall, IsObject, IsOwner, IsPlain, HasRoom, Fits, MayGrow, IsStaying, IsStill, IsApart, IsUnheld, IsUnreferenced, IsInterested, MayGive}
+use Rattle.tree_specs.specs.declared.reply.Refusal.{Refusal}
+use Rattle.tree_specs.specs.declared.reply.Refusal.TheVariants.{NoSuch, WrongKind, Running, Held, NotParent, Loop, Dying, OverLimit, Full, Spent, TooBig}
+use Rattle.tree_specs.specs.Tree.Pool.{Pool, row_of, is_below, owner_of, newest_ref_of, is_dying, is_inside}
+use Rattle.tree_specs.specs.Tree.Targets.{is_reference}
+use Rattle.tree_specs.specs.Tree.Reports.{count_refs}
+use Rattle.tree_specs.specs.Tree.Sums.{overhead, sum_inside, limit_at, size_at}
+
+-- the size of an object is below this, in bytes
+abbrev pub size_limit : ℕ
+size_limit = SIZE_LIMIT
+
+-- at most so many objects are live
+abbrev pub row_limit : ℕ
+row_limit = ROW_LIMIT
+
+-- the refusals that apply, the first one first
+abbrev pub Check : Type 0
+Check = List Refusal
+
+-- the first refusal that applies
+abbrev pub checked : Check → Result (Unit {0}) Refusal
+checked [] = Ok tt
+checked (why ∷ later) = Err why
+
+-- one check before the others
+infixr 10 ◌before◌
+abbrev pub ◌before◌ : Check → Check → Check
+first before second = first ++ second
+
+abbrev pub refuse_if : Bool → Refusal → Check
+refuse_if b why = if b then why ∷ [] else []
+
+abbrev pub small : ℕ → Check
+small size = refuse_if (nat_le size_limit size) (TooBig size)
+
+-- a reference is no object that a call takes
+abbrev pub object_row : Obj → Option Row → Check
+object_row x None = NoSuch x.0 ∷ []
+object_row x (Some r) = refuse_if (is_reference r.kind) (WrongKind x)
+
+abbrev pub object : Pool → Obj → Check
+object p x = object_row x (row_of p.rows x)
+
+abbrev pub is_plain : Kind → Bool
+is_plain Plain = true
+is_plain (Reference target) = false
+is_plain Timer = false
+is_plain Immediate = false
+is_plain Descriptor = false
+is_plain Request = false
+is_plain Queue = false
+is_plain Entry = false
+
+abbrev pub is_plain_row : Option Row → Bool
+is_plain_row None = false
+is_plain_row (Some r) = is_plain r.kind
+
+-- only plain objects have destructors
+abbrev pub plain : Pool → Obj → Check
+plain p x = refuse_if (not (is_plain_row (row_of p.rows x))) (WrongKind x)
+
+-- the root, or an object
+abbrev pub owner : Pool → Owner → Check
+owner p Root = []
+owner p (Of x) = object p x
+
+-- room for so many rows, and so many numbers
+abbrev pub room : Pool → ℕ → Check
+room p k =
+    refuse_if (nat_lt row_limit (length p.rows + k)) (Full (length p.rows))
+    before refuse_if (nat_le (2 ^ 64) (p.next + k)) Spent
+
+-- an object with a limit has no room for so many more bytes beside what is inside it
+abbrev pub over : List Row → ℕ → Obj → Check
+over rs wanted x = refuse_if (nat_lt 0 (limit_at rs x) && nat_lt (limit_at rs x) (sum_inside rs (Of x) + wanted)) (OverLimit x (sum_inside rs (Of x)) wanted (limit_at rs x))
+
+-- the same of an owner and those above it, the nearest first, in at most n steps
+abbrev pub fits_in : ℕ → List Row → ℕ → Option Owner → Check
+fits_in n rs wanted None = []
+fits_in n rs wanted (Some Root) = []
+fits_in zero rs wanted (Some (Of x)) = []
+fits_in (suc n) rs wanted (Some (Of x)) = over rs wanted x before fits_in n rs wanted (owner_of rs x)
+
+-- so many more bytes fit below an owner
+unfoldable pub fits : Pool → Owner → ℕ → Check
+fits p o wanted = fits_in (length p.rows) p.rows wanted (Some o)
+
+-- an object that is being freed stays where it is
+abbrev pub staying : Pool → Obj → Check
+staying p x = refuse_if (is_dying p.rows x) (Dying x)
+
+-- no object comes to be inside itself
+abbrev pub apart : Pool → Obj → Owner → Check
+apart p x o = refuse_if (is_inside p.rows o (Of x)) (Loop x o)
+
+-- an owner has an interest in an object where it owns it, or a reference to it
+abbrev pub is_interested : Pool → Owner → Obj → Bool
+is_interested p o x = is_below (owner_of p.rows x) o || is_some (newest_ref_of p.rows o x)
+
+abbrev pub interested : Pool → Owner → Obj → Check
+interested p o x = refuse_if (not (is_interested p o x)) (NotParent x o)
+
+-- its owner gives it away, or one that has a reference to it gives this away
+abbrev pub given_by : Pool → Owner → Owner → Obj → Check
+given_by p from to x = if is_below (owner_of p.rows x) from then apart p x to else interested p from x
+
+-- an object that has references is held, but for one that is the root's and has exactly one
+abbrev pub is_held : Pool → Obj → Bool
+is_held p x = not (nat_eq (count_refs p.rows x) 0) && not (is_below (owner_of p.rows x) Root && nat_eq (count_refs p.rows x) 1)
+
+abbrev pub held : Pool → Obj → Check
+held p x = refuse_if (is_held p x) (Held x)
+
+-- an object to which there is a reference keeps its size
+abbrev pub unreferenced : Pool → Obj → Check
+unreferenced p x = refuse_if (not (nat_eq (count_refs p.rows x) 0)) (Held x)
+
+-- where an object grows, the growth fits
+abbrev pub growing : Pool → Obj → ℕ → Check
+growing p x size = if nat_lt (size_at p.rows x) size then fits p (Of x) (size - size_at p.rows x) else []
+
+-- no reference is made to an object that runs
+abbrev pub is_running_mark : Mark → Bool
+is_running_mark mark.Quiet = false
+is_running_mark mark.Asked = true
+is_running_mark mark.Busy = true
+is_running_mark mark.Doomed = true
+is_running_mark (mark.Dying former) = false
+
+abbrev pub is_running_row : Option Row → Bool
+is_running_row None = false
+is_running_row (Some r) = is_running_mark r.mark
+
+-- its destructor or its handler runs
+abbrev pub is_running : Pool → Obj → Bool
+is_running p x = is_running_row (row_of p.rows x)
+
+abbrev pub still : Pool → Obj → Check
+still p x = refuse_if (is_running p x) (Running x)
+
+-- ---- the tests of each call
+
+-- what is refused where a test isn't passed
+abbrev pub refusal_of : Pool → Test → Check
+refusal_of p (IsSmall size) = small size
+refusal_of p (IsObject x) = object p x
+refusal_of p (IsOwner o) = owner p o
+refusal_of p (IsPlain x) = plain p x
+refusal_of p (HasRoom k) = room p k
+refusal_of p (Fits o wanted) = fits p o wanted
+refusal_of p (MayGrow x size) = growing p x size
+refusal_of p (IsStaying x) = staying p x
+refusal_of p (IsStill x) = still p x
+refusal_of p (IsApart x o) = apart p x o
+refusal_of p (IsUnheld x) = held p x
+refusal_of p (IsUnreferenced x) = unreferenced p x
+refusal_of p (IsInterested o x) = interested p o x
+refusal_of p (MayGive from to x) = given_by p from to x
+
+abbrev pub tests : Call → List Test
+tests (New o size name) = IsSmall size ∷ IsOwner o ∷ HasRoom 1 ∷ Fits o (size + overhead) ∷ []
+tests (Free x) = IsObject x ∷ IsUnheld x ∷ []
+tests (Freekids x) = IsObject x ∷ []
+tests (Steal o x) = IsObject x ∷ IsOwner o ∷ IsStaying x ∷ IsApart x o ∷ []
+tests (Move o x) = IsObject x ∷ IsOwner o ∷ IsStaying x ∷ IsApart x o ∷ []
+tests (Reparent from to x) = IsObject x ∷ IsOwner from ∷ IsOwner to ∷ IsStaying x ∷ MayGive from to x ∷ []
+tests (Refer o x) = IsObject x ∷ IsPlain x ∷ IsOwner o ∷ IsStill x ∷ IsStaying x ∷ HasRoom 1 ∷ []
+tests (Unlink o x) = IsObject x ∷ IsOwner o ∷ IsInterested o x ∷ []
+tests (Hook x routine) = IsObject x ∷ IsPlain x ∷ IsStaying x ∷ []
+tests (Unhook x) = IsObject x ∷ IsPlain x ∷ IsStaying x ∷ []
+tests (Rename x name) = IsObject x ∷ []
+tests (Resize x size) = IsSmall size ∷ IsObject x ∷ IsPlain x ∷ IsUnreferenced x ∷ IsStaying x ∷ MayGrow x size ∷ []
+tests (Limit x max) = IsObject x ∷ []
+tests (Parent x) = IsObject x ∷ IsStaying x ∷ []
+tests (Total o) = IsOwner o ∷ []
+tests (Count o) = IsOwner o ∷ []
+tests (Sum o) = IsOwner o ∷ []
+tests (Report o) = IsOwner o ∷ []
+
+-- the refusals of tests, one after another
+abbrev pub refused : Pool → List Test → Check
+refused p [] = []
+refused p (t ∷ []) = refusal_of p t
+refused p (t ∷ u ∷ ts) = refusal_of p t before refused p (u ∷ ts)
+
+abbrev pub refusals : Pool → Call → Check
+refusals p c = refused p (tests c)

@@ -1,0 +1,68 @@
+-- A measure that each step lowers, so that the stated number of turns is enough.
+use Rattle.std.specs.Prelude.{ℕ, ◌+◌, ◌*◌, List, [], ◌∷◌, Option, Some, None, if◌then◌else◌}
+use Rattle.tree_specs.specs.declared.object.Owner.{Owner}
+use Rattle.tree_specs.specs.declared.object.Owner.TheVariants.{Of}
+use Rattle.tree_specs.specs.declared.row.Row.{Row}
+use Rattle.tree_specs.specs.declared.row.Mark.{Mark}
+use Rattle.tree_specs.specs.declared.frame.Frame.{Frame}
+use Rattle.tree_specs.specs.declared.frame.Frame.TheVariants as frame
+use Rattle.tree_specs.specs.declared.frame.FreeFrame.TheVariants.{Trying}
+use Rattle.tree_specs.specs.Tree.Pool.{Pool, is_below}
+use Rattle.tree_specs.specs.Tree.Inside.{total}
+use Rattle.tree_specs.specs.Machine.Profiles.{former_in, Looks, AtNone, AtKids, AtBelow, profile}
+
+-- how many children
+abbrev pub count : List Row → Owner → ℕ
+count rs p = total (λ r. if is_below r.owner p then 1 else 0) rs
+
+-- A row pays once when it leaves its owner, and once when it is removed.
+abbrev pub weight_by : Option Owner → ℕ
+weight_by None = 2
+weight_by (Some former) = 1
+
+abbrev pub mark_weight : Mark → ℕ
+mark_weight m = weight_by (former_in m)
+
+abbrev pub weight : Row → ℕ
+weight r = mark_weight r.mark
+
+-- Below, R bounds the rows that there can be.
+
+-- what the payment of a row is worth
+abbrev pub unit : ℕ → ℕ
+unit R = 4 * R + 16
+
+-- what an input is worth: the rows that its call may add, and the call's own steps
+abbrev pub share : ℕ → ℕ
+share R = 16 * R + 68
+
+-- what a waiting work still costs
+abbrev pub waiting_cost : Frame → ℕ
+waiting_cost f = (profile f).waiting_cost
+
+abbrev pub below_cost : List Frame → ℕ
+below_cost [] = 0
+below_cost (f ∷ fs) = waiting_cost f + below_cost fs
+
+-- the children that the loop below still has
+abbrev pub loop_kids : List Row → List Frame → ℕ
+loop_kids rows [] = 0
+loop_kids rows (frame.Free (Trying x c noted purpose) ∷ fs) = 4 * count rows (Of x)
+loop_kids rows (_ ∷ fs) = 0
+
+abbrev pub look_cost : Looks → List Frame → List Row → ℕ
+look_cost AtNone fs rows = 0
+look_cost (AtKids x) fs rows = 4 * count rows (Of x)
+look_cost AtBelow fs rows = loop_kids rows fs
+
+-- what the innermost work costs until the next question
+abbrev pub top_cost : ℕ → Frame → List Frame → List Row → ℕ
+top_cost R f fs rows = (profile f).cost.rounds * R + (profile f).cost.steps + look_cost (profile f).cost.looks fs rows
+
+-- the measure, for k inputs left
+abbrev pub cost : ℕ → Frame → List Frame → Pool → ℕ → ℕ
+cost R f fs p k = unit R * total weight p.rows + share R * k + below_cost fs + top_cost R f fs p.rows
+
+-- the rows that a work may add, and those that it may add after the next input
+abbrev pub pending : Frame → ℕ
+pending f = (profile f).adds

@@ -1,0 +1,215 @@
+-- What holds at every moment: of the rows, and of what the open works claim of them.
+use Rattle.std.specs.Prelude.{◌≡◌, ◌≢◌, ◌⊎◌, ℕ, ◌<◌, List, [], ◌∷◌, ◌++◌, Option, Some, None, Bool, true, false}
+use Rattle.tree_specs.specs.declared.object.Obj.{Obj}
+use Rattle.tree_specs.specs.declared.object.Owner.{Owner}
+use Rattle.tree_specs.specs.declared.object.Owner.TheVariants.{Of}
+use Rattle.tree_specs.specs.declared.row.Row.{Row}
+use Rattle.tree_specs.specs.declared.row.Mark.{Mark}
+use Rattle.tree_specs.specs.declared.row.Mark.TheVariants.{Quiet}
+use Rattle.tree_specs.specs.declared.frame.Frame.{Frame}
+use Rattle.tree_specs.specs.declared.frame.Frame.TheVariants as frame
+use Rattle.tree_specs.specs.declared.frame.CallFrame.TheVariants.{Asking, Doing, Awaiting, Warning, Telling, Returning}
+use Rattle.tree_specs.specs.declared.frame.FreeFrame.{FreeFrame}
+use Rattle.tree_specs.specs.declared.frame.FreeFrame.TheVariants.{Unlinking, Releasing, Giving, Beginning, Hooked, Judged, Leaving, Looping, Trying, Tried, Ending}
+use Rattle.tree_specs.specs.declared.frame.Purpose.{Purpose}
+use Rattle.tree_specs.specs.declared.frame.Purpose.TheVariants.{Removal, Emptying}
+use Rattle.tree_specs.specs.declared.free_step.FreeReply.{FreeReply}
+use Rattle.tree_specs.specs.declared.free_step.FreeReply.TheVariants.{Ok, Held, Running, Refused}
+use Rattle.tree_specs.specs.Words.Objects.{same}
+use Rattle.tree_specs.specs.Tree.Targets.{target_of, newest_ref}
+use Rattle.tree_specs.specs.Tree.Pool.{Pool, row_of, owner_of, target_at, noted_owner, is_owner, is_inside}
+use Rattle.tree_specs.specs.Calls.Refusals.{is_plain}
+use Rattle.tree_specs.specs.Tree.Forest.{IsForest}
+use Rattle.tree_specs.specs.Machine.Profiles.{Phase, Claim, former_in, phase_in, Waits, Never, AFree, ARun, AChild, profile}
+
+-- an owner or a former owner is another object; a dying row has no owner, and every other one has
+abbrev pub Owned : Option Owner → Obj → Type 0
+Owned (Some o) x = o ≢ Of x
+Owned None x = ⊥
+
+abbrev pub ShapedBy : Option Owner → Option Owner → Obj → Type 0
+ShapedBy None owner x = Owned owner x
+ShapedBy (Some former) (Some o) x = ⊥
+ShapedBy (Some former) None x = former ≢ Of x
+
+abbrev pub Shaped : Mark → Option Owner → Obj → Type 0
+Shaped m owner x = ShapedBy (former_in m) owner x
+
+-- a row's number is from 1 upwards and below the next one
+abbrev pub ValidAt : ℕ → Option Row → Obj → Type 0
+ValidAt next None x = Unit {0}
+ValidAt next (Some r) x = (0 < x.0) × (x.0 < next) × Shaped r.mark r.owner x
+
+abbrev pub all_of : Option Phase → List Phase
+all_of None = []
+all_of (Some a) = a ∷ []
+
+abbrev pub phase_of : Mark → List Phase
+phase_of m = all_of (phase_in m)
+
+abbrev pub phases : Option Row → List Phase
+phases None = []
+phases (Some r) = phase_of r.mark
+
+abbrev pub claim_if : Bool → Phase → List Phase
+claim_if true a = a ∷ []
+claim_if false a = []
+
+abbrev pub claim_by : Obj → Option Claim → List Phase
+claim_by x None = []
+claim_by x (Some c) = claim_if (same c.object x) c.phase
+
+-- what an open work claims of x
+abbrev pub claim : Obj → Frame → List Phase
+claim x f = claim_by x (profile f).claims
+
+abbrev pub claims : Obj → List Frame → List Phase
+claims x [] = []
+claims x (f ∷ fs) = claim x f ++ claims x fs
+
+-- ---- what a work stands on
+
+pub data Footing : Type 0 where
+  -- the call that waits for it
+  OnCall : Footing
+  -- a free
+  OnFree : FreeFrame → Footing
+  -- a caller that waits for no free
+  OnOther : Footing
+  AtBottom : Footing
+
+abbrev pub footing : List Frame → Footing
+footing [] = AtBottom
+footing (frame.Free f ∷ fs) = OnFree f
+footing (frame.Call (Awaiting q x) ∷ fs) = OnCall
+footing (_ ∷ fs) = OnOther
+
+abbrev pub IsCalled : Footing → Type 0
+IsCalled OnCall = Unit {0}
+IsCalled _ = ⊥
+
+-- a loop that only empties an object is a call's own
+abbrev pub Stands : Purpose → Footing → Type 0
+Stands (Removal h) on = Unit {0}
+Stands Emptying on = IsCalled on
+
+abbrev pub MayWait : Waits → Footing → Type 0
+MayWait Never on = ⊥
+MayWait (AFree x) on = Unit {0}
+MayWait (ARun x h) on = 0 < h
+MayWait (AChild c purpose) on = Stands purpose on
+
+-- the works below the innermost wait for the one above them
+abbrev pub IsWaiting : Frame → List Frame → Type 0
+IsWaiting f fs = MayWait (profile f).waits (footing fs)
+
+abbrev pub AllWait : List Frame → Type 0
+AllWait [] = Unit {0}
+AllWait (f ∷ fs) = IsWaiting f fs × AllWait fs
+
+abbrev pub IsNoOwner : Option Owner → Type 0
+IsNoOwner None = Unit {0}
+IsNoOwner (Some o) = ⊥
+
+abbrev pub IsLive : Mark → Type 0
+IsLive m = IsNoOwner (former_in m)
+
+-- ---- references
+
+-- a plain object that nothing is going on with
+abbrev pub IsReferable : Option Row → Type 0
+IsReferable None = ⊥
+IsReferable (Some r) = (is_plain r.kind ≡ true) × (r.mark ≡ Quiet)
+
+abbrev pub IsQuietRow : Option Row → Type 0
+IsQuietRow None = ⊥
+IsQuietRow (Some r) = r.mark ≡ Quiet
+
+-- what a reference refers to is there, is plain, and neither runs nor dies; nothing goes on with a reference
+pub record Refers (rows : List Row) : Type 0 where
+  pub target : (r t : Obj) → target_at rows r ≡ Some t → IsReferable (row_of rows t)
+  pub quiet : (r t : Obj) → target_at rows r ≡ Some t → IsQuietRow (row_of rows r)
+
+-- the owner that was noted for a child of x is that of its newest reference; after that is dropped, it is not x
+abbrev pub NotedFor : Obj → Obj → Option Owner → Pool → Type 0
+NotedFor x c noted p = (noted ≡ noted_owner p.rows c) ⊎ (noted ≢ Some (Of x))
+
+-- an object whose freeing begins is the child that is tried, where the work below tries one; a call begins it only where
+-- there is no reference to it
+abbrev pub Tries : Obj → Footing → Pool → Type 0
+Tries c (OnFree (Trying x d noted purpose)) p = (d ≡ c) × (owner_of p.rows c ≡ Some (Of x)) × NotedFor x c noted p
+Tries c OnCall p = newest_ref p.rows c ≡ None
+Tries c AtBottom p = Unit {0}
+Tries c _ p = ⊥
+
+-- a child that runs is where it was, and no reference of its owner's was noted
+abbrev pub StillThere : FreeReply → Obj → Obj → Option Owner → Pool → Type 0
+StillThere Ok x c noted p = Unit {0}
+StillThere Held x c noted p = Unit {0}
+StillThere Running x c noted p = (owner_of p.rows c ≡ Some (Of x)) × (noted ≢ Some (Of x))
+StillThere (Refused v) x c noted p = Unit {0}
+
+-- a free that has begun doesn't answer that the object runs
+abbrev pub IsOver : FreeReply → Type 0
+IsOver Ok = Unit {0}
+IsOver Held = Unit {0}
+IsOver Running = ⊥
+IsOver (Refused v) = Unit {0}
+
+-- a call is not answered that the object is held: it looks at the references before
+abbrev pub MayAnswer : FreeReply → Footing → Type 0
+MayAnswer Held OnCall = ⊥
+MayAnswer answer on = Unit {0}
+
+-- the destructor that an object has
+abbrev pub HasHook : Option Row → ℕ → Type 0
+HasHook None h = ⊥
+HasHook (Some r) h = r.hook ≡ h
+
+-- what is known of an object that may be put below an owner
+pub record MayBePlaced (p : Pool) (o : Owner) (x : Obj) : Type 0 where
+  pub row : Row
+  pub is : row_of p.rows x ≡ Some row
+  pub live : IsLive row.mark
+  pub apart : o ≢ Of x
+  pub there : is_owner p.rows o ≡ true
+  pub outside : is_inside p.rows o (Of x) ≡ false
+
+-- a live object that a call takes an interest away from
+abbrev pub IsGivenUp : Obj → Footing → Pool → Type 0
+IsGivenUp x on p = IsCalled on × (r : Row) × (row_of p.rows x ≡ Some r) × IsLive r.mark × (target_of r.kind ≡ None)
+
+-- what the innermost free rests on, by what it stands on and what the works below it claim
+abbrev pub FreeRests : FreeFrame → Footing → (Obj → List Phase) → Pool → Type 0
+FreeRests (Unlinking o x) on claimed p = IsGivenUp x on p
+FreeRests (Releasing x) on claimed p = IsGivenUp x on p
+FreeRests (Giving x o) on claimed p = MayBePlaced p o x
+FreeRests (Beginning x) on claimed p = Tries x on p × (target_at p.rows x ≡ None)
+FreeRests (Hooked x h) on claimed p = (0 < h) × HasHook (row_of p.rows x) h
+FreeRests (Judged x h v) on claimed p = 0 < h
+FreeRests (Leaving x h) on claimed p = (r : Row) × (row_of p.rows x ≡ Some r) × IsLive r.mark × (claimed x ≡ []) × (target_of r.kind ≡ None) × (newest_ref p.rows x ≡ None)
+FreeRests (Looping x purpose) on claimed p = Stands purpose on
+FreeRests (Trying x c noted purpose) on claimed p = ⊥
+FreeRests (Tried x c noted purpose answer) on claimed p = StillThere answer x c noted p × Stands purpose on
+FreeRests (Ending answer) on claimed p = IsOver answer × MayAnswer answer on
+
+-- what the innermost work rests on
+abbrev pub Rests : Frame → List Frame → Pool → Type 0
+Rests (frame.Call (Asking q)) fs p = Unit {0}
+Rests (frame.Call (Doing q c)) fs p = Unit {0}
+Rests (frame.Call (Awaiting q x)) fs p = ⊥
+Rests (frame.Call (Warning q x r)) fs p = Unit {0}
+Rests (frame.Call (Telling q r)) fs p = Unit {0}
+Rests (frame.Call (Returning v)) fs p = Unit {0}
+Rests (frame.Free f) fs p = FreeRests f (footing fs) (λ x. claims x fs) p
+
+pub record Sound (f : Frame) (fs : List Frame) (p : Pool) : Type 0 where
+  pub started : 0 < p.next
+  pub valid : (x : Obj) → ValidAt p.next (row_of p.rows x) x
+  -- each number stands once, the owner of each row is the root or a row, and from owner to owner one comes to an end
+  pub forest : IsForest p.rows
+  pub refers : Refers p.rows
+  -- each object that runs or is dying is in exactly one open free, and no other object is
+  pub open_frees : (x : Obj) → claim x f ++ claims x fs ≡ phases (row_of p.rows x)
+  pub waiting : AllWait fs
+  pub rests : Rests f fs p

@@ -1,0 +1,180 @@
+-- Stories that break one rule each, of orderly lists of items and of grounded stories.
+use Rattle.std.specs.Prelude.{List, [], ◌∷◌, Some, None}
+use Rattle.tree_specs.specs.declared.object.Obj.{Obj}
+use Rattle.tree_specs.specs.declared.object.Owner.TheVariants.{Root, Of}
+use Rattle.tree_specs.specs.declared.kind.Kind.TheVariants as kind
+use Rattle.tree_specs.specs.declared.row.Mark.TheVariants as mark
+use Rattle.tree_specs.specs.declared.moment.What.TheVariants as what
+use Rattle.tree_specs.specs.declared.call.Call.TheVariants.{Free}
+use Rattle.tree_specs.specs.declared.question.Ask.TheVariants.{Routine}
+use Rattle.tree_specs.specs.declared.reply.Reply.{Reply}
+use Rattle.tree_specs.specs.declared.reply.Reply.TheVariants.{Ok, No}
+use Rattle.tree_specs.specs.declared.reply.Refusal.TheVariants.{NoSuch, Held, Running, Refused as RefusedBy}
+use Rattle.tree_specs.specs.declared.event.Event.{Event}
+use Rattle.tree_specs.specs.declared.event.Event.TheVariants.{Replied, Fired, Accepted, Refused, Moved, Warned, Freed, Unreferenced, State}
+use Rattle.tree_specs.specs.Tree.Pool.{Pool, empty, add, set_mark}
+use Rattle.tree_specs.specs.Rules.Items.{Item}
+use Rattle.tree_specs.specs.Rules.Items.Item.{Told, Asked}
+use Rattle.tree_specs.specs.Rules.Sequence.{Scene}
+use Rattle.tree_specs.specs.Rules.Story.{hook_moment}
+
+-- two objects, and a reference
+abbrev pub a : Obj
+a = record { 0 = 1 }
+
+abbrev pub b : Obj
+b = record { 0 = 2 }
+
+abbrev pub r : Obj
+r = record { 0 = 3 }
+
+-- the destructor of the first one is asked
+abbrev pub asks_a : Item
+asks_a = Asked (Routine (hook_moment a 16))
+
+abbrev pub told : Event → Item
+told e = Told e
+
+-- ---- a destructor accepts once
+
+abbrev pub accepted_twice : List Item
+accepted_twice = told (Accepted a) ∷ told (Accepted a) ∷ []
+
+abbrev pub asked_after_it_accepted : List Item
+asked_after_it_accepted = told (Accepted a) ∷ asks_a ∷ []
+
+abbrev pub refused_after_it_accepted : List Item
+refused_after_it_accepted = told (Accepted a) ∷ told (Refused a 1) ∷ []
+
+-- ---- an object is freed once, with the destructor that accepted
+
+abbrev pub freed_twice : List Item
+freed_twice = told (Freed a 0) ∷ told (Freed a 0) ∷ []
+
+abbrev pub freed_unaccepted : List Item
+freed_unaccepted = told (Freed a 16) ∷ []
+
+abbrev pub freed_without_its_destructor : List Item
+freed_without_its_destructor = told (Accepted a) ∷ told (Freed a 0) ∷ []
+
+-- ---- nothing starts for a freed object
+
+abbrev pub fired_after_the_end : List Item
+fired_after_the_end = told (Freed a 0) ∷ told (Fired what.Timer a 16) ∷ []
+
+abbrev pub asked_after_the_end : List Item
+asked_after_the_end = told (Freed a 0) ∷ asks_a ∷ []
+
+abbrev pub accepted_after_the_end : List Item
+accepted_after_the_end = told (Freed a 0) ∷ told (Accepted a) ∷ []
+
+abbrev pub refused_after_the_end : List Item
+refused_after_the_end = told (Freed a 0) ∷ told (Refused a 1) ∷ []
+
+abbrev pub moved_after_the_end : List Item
+moved_after_the_end = told (Freed a 0) ∷ told (Moved a Root) ∷ []
+
+abbrev pub moved_to_the_freed : List Item
+moved_to_the_freed = told (Freed a 0) ∷ told (Moved b (Of a)) ∷ []
+
+abbrev pub warned_after_the_end : List Item
+warned_after_the_end = told (Freed a 0) ∷ told (Warned a) ∷ []
+
+abbrev pub state_after_the_end : List Item
+state_after_the_end = told (Freed a 0) ∷ told (State a 2) ∷ []
+
+abbrev pub referred_to_after_the_end : List Item
+referred_to_after_the_end = told (Freed a 0) ∷ told (Unreferenced r a) ∷ []
+
+abbrev pub dropped_twice : List Item
+dropped_twice = told (Unreferenced r a) ∷ told (Unreferenced r a) ∷ []
+
+-- ---- a call is refused for a destructor's number right after this was told
+
+abbrev pub refused_unsaid : List Item
+refused_unsaid = told (Replied (No (RefusedBy a 1))) ∷ []
+
+abbrev pub refused_too_late : List Item
+refused_too_late = told (Refused a 1) ∷ told (Freed b 0) ∷ told (Replied (No (RefusedBy a 1))) ∷ []
+
+abbrev pub refused_with_another_number : List Item
+refused_with_another_number = told (Refused a 1) ∷ told (Replied (No (RefusedBy a 2))) ∷ []
+
+-- ---- the states of a request go up
+
+abbrev pub state_too_low : List Item
+state_too_low = told (State a 1) ∷ []
+
+abbrev pub state_too_high : List Item
+state_too_high = told (State a 7) ∷ []
+
+abbrev pub finished_twice : List Item
+finished_twice = told (State a 2) ∷ told (State a 3) ∷ []
+
+abbrev pub received_twice : List Item
+received_twice = told (State a 6) ∷ told (State a 6) ∷ []
+
+abbrev pub finished_after_it_was_received : List Item
+finished_after_it_was_received = told (State a 6) ∷ told (State a 2) ∷ []
+
+-- ---- stories over pools
+
+-- the first object, which nothing is going on with
+abbrev pub one_object : Pool
+one_object = add (empty 1) kind.Plain Root 0 (97 ∷ [])
+
+-- with two references to it
+abbrev pub two_references : Pool
+two_references = add (add one_object (kind.Reference a) Root 0 (97 ∷ [])) (kind.Reference a) Root 0 (97 ∷ [])
+
+-- a timer
+abbrev pub one_timer : Pool
+one_timer = add (empty 1) kind.Timer Root 0 (97 ∷ [])
+
+-- a free of it is answered so over this pool
+abbrev pub answered : Pool → Reply → Scene
+answered p reply = record { item = told (Replied reply); before = p; about = Some (record { call = Free a; start = p }) }
+
+abbrev pub seen : Pool → Item → Scene
+seen p item = record { item = item; before = p; about = None }
+
+-- ---- a free of a live object is answered
+
+abbrev pub called_missing : List Scene
+called_missing = answered one_object (No (NoSuch 1)) ∷ []
+
+abbrev pub called_by_another_number : List Scene
+called_by_another_number = answered one_object (No (Running b)) ∷ []
+
+-- ---- held exactly where there are references
+
+abbrev pub held_without_references : List Scene
+held_without_references = answered one_object (No (Held a)) ∷ []
+
+abbrev pub freed_though_held : List Scene
+freed_though_held = answered two_references Ok ∷ []
+
+-- ---- refused for a cause
+
+abbrev pub running_though_quiet : List Scene
+running_though_quiet = answered one_object (No (Running a)) ∷ []
+
+abbrev pub refused_unheard : List Scene
+refused_unheard = answered one_object (No (RefusedBy a 1)) ∷ []
+
+-- ---- routines start for live objects
+
+abbrev pub fired_for_no_object : List Scene
+fired_for_no_object = seen (empty 1) (told (Fired what.Timer a 16)) ∷ []
+
+abbrev pub fired_while_quiet : List Scene
+fired_while_quiet = seen one_timer (told (Fired what.Timer a 16)) ∷ []
+
+abbrev pub fired_as_another_kind : List Scene
+fired_as_another_kind = seen (set_mark one_timer a mark.Busy) (told (Fired what.Descriptor a 16)) ∷ []
+
+abbrev pub accepted_unasked : List Scene
+accepted_unasked = seen (set_mark one_object a mark.Asked) (told (Accepted a)) ∷ []
+
+abbrev pub accepted_while_quiet : List Scene
+accepted_while_quiet = seen one_object asks_a ∷ seen one_object (told (Accepted a)) ∷ []

@@ -1,0 +1,116 @@
+-- When a story is grounded: what it tells of an object agrees with the pool at that time, and has its cause.
+use Rattle.tree_specs.specs.Tree.Targets.{newest_ref}
+use Rattle.std.specs.Prelude.{◌≡◌, ◌↔◌, Bool, true, false, List, Option, Some, None}
+use Rattle.step_machine.specs.History.{EachFits}
+use Rattle.step_machine.specs.Open.{LastIs}
+use Rattle.tree_specs.specs.declared.object.Obj.{Obj}
+use Rattle.tree_specs.specs.declared.object.Owner.TheVariants.{Of}
+use Rattle.tree_specs.specs.declared.kind.Kind.{Kind}
+use Rattle.tree_specs.specs.declared.kind.Kind.TheVariants as kind
+use Rattle.tree_specs.specs.declared.row.Row.{Row}
+use Rattle.tree_specs.specs.declared.row.Mark.{Mark}
+use Rattle.tree_specs.specs.declared.row.Mark.TheVariants as mark
+use Rattle.tree_specs.specs.declared.moment.What.{What}
+use Rattle.tree_specs.specs.declared.moment.What.TheVariants as what
+use Rattle.tree_specs.specs.declared.call.Call.{Call}
+use Rattle.tree_specs.specs.declared.call.Call.TheVariants.{Free}
+use Rattle.tree_specs.specs.declared.reply.Reply.{Reply}
+use Rattle.tree_specs.specs.declared.reply.Reply.TheVariants.{Ok, No}
+use Rattle.tree_specs.specs.declared.reply.Refusal.{Refusal}
+use Rattle.tree_specs.specs.declared.reply.Refusal.TheVariants.{Held, Running, Refused as RefusedBy}
+use Rattle.tree_specs.specs.declared.event.Event.TheVariants.{Replied, Fired, Accepted, Refused, Unreferenced}
+use Rattle.tree_specs.specs.Words.Objects.{same}
+use Rattle.tree_specs.specs.Tree.Pool.{Pool, row_of, is_object, is_inside}
+use Rattle.tree_specs.specs.Calls.Refusals.{is_held, is_running}
+use Rattle.tree_specs.specs.Rules.Items.{Item}
+use Rattle.tree_specs.specs.Rules.Items.Item.{Told}
+use Rattle.tree_specs.specs.Promises.Orderly.{asks_hook}
+use Rattle.tree_specs.specs.Rules.Sequence.{Begun, Scene}
+
+-- ---- a live object is freed, or it is said why not
+
+abbrev pub is_refusal_of : Obj → Refusal → Bool
+is_refusal_of x (Held y) = same y x
+is_refusal_of x (Running y) = same y x
+is_refusal_of x (RefusedBy y v) = same y x
+is_refusal_of x why = false
+
+-- it was freed, or it is held, runs, or its destructor refused
+abbrev pub is_answer_of : Obj → Reply → Bool
+is_answer_of x Ok = true
+is_answer_of x (No why) = is_refusal_of x why
+is_answer_of x r = false
+
+abbrev pub AnsweredCall : Call → Pool → Reply → Type 0
+AnsweredCall (Free x) start r = is_object start.rows x ≡ true → is_answer_of x r ≡ true
+AnsweredCall c start r = Unit {0}
+
+-- ---- held
+
+abbrev pub HeldCall : Call → Pool → Reply → Type 0
+HeldCall (Free x) start r = (r ≡ No (Held x)) ↔ (is_held start x ≡ true)
+HeldCall c start r = Unit {0}
+
+-- ---- running, or refused
+
+abbrev pub IsItem : Item → Scene → Type 0
+IsItem item s = s.item ≡ item
+
+-- that it runs was so when the call began, and a destructor's number was told right before
+abbrev pub CausedRefusal : List Scene → Pool → Refusal → Type 0
+CausedRefusal before start (Running x) = is_running start x ≡ true
+CausedRefusal before start (RefusedBy x v) = LastIs (IsItem (Told (Refused x v))) before
+CausedRefusal before start why = Unit {0}
+
+abbrev pub CausedReply : List Scene → Pool → Reply → Type 0
+CausedReply before start (No why) = CausedRefusal before start why
+CausedReply before start r = Unit {0}
+
+abbrev pub CausedCall : List Scene → Call → Pool → Reply → Type 0
+CausedCall before (Free x) start r = CausedReply before start r
+CausedCall before c start r = Unit {0}
+
+-- the newest reference to the object was dropped, one from outside
+abbrev pub DropsOutside : Obj → Scene → Type 0
+DropsOutside x s = (r : Obj) × (s.item ≡ Told (Unreferenced r x)) × (newest_ref s.before.rows x ≡ Some r) × (is_inside s.before.rows (Of r) (Of x) ≡ false)
+
+-- ---- routines
+
+-- a handler runs for a busy event, and what a request sets off for a request
+abbrev pub may_fire : What → Kind → Mark → Bool
+may_fire what.Timer kind.Timer mark.Busy = true
+may_fire what.Immediate kind.Immediate mark.Busy = true
+may_fire what.Descriptor kind.Descriptor mark.Busy = true
+may_fire what.Callback kind.Request m = true
+may_fire what.Cleanup kind.Request m = true
+may_fire what.Cancel kind.Request m = true
+may_fire what.Trigger kind.Request m = true
+may_fire w k m = false
+
+abbrev pub may_fire_row : What → Option Row → Bool
+may_fire_row w None = false
+may_fire_row w (Some r) = may_fire w r.kind r.mark
+
+abbrev pub AsksHook : Obj → Scene → Type 0
+AsksHook x s = asks_hook x s.item ≡ true
+
+-- a routine starts for a live object; a destructor accepts right after it was asked, while its object runs
+abbrev pub Started : List Scene → Item → Pool → Type 0
+Started before (Told (Fired w x routine)) p = may_fire_row w (row_of p.rows x) ≡ true
+Started before (Told (Accepted x)) p = (is_running p x ≡ true) × LastIs (AsksHook x) before
+Started before item p = Unit {0}
+
+-- ---- a scene
+
+abbrev pub OfReply : (Call → Pool → Reply → Type 0) → Option Begun → Item → Type 0
+OfReply Q (Some b) (Told (Replied r)) = Q b.call b.start r
+OfReply Q about item = Unit {0}
+
+pub record IsGrounded (before : List Scene) (s : Scene) : Type 0 where
+  pub answered : OfReply AnsweredCall s.about s.item
+  pub held : OfReply HeldCall s.about s.item
+  pub caused : OfReply (CausedCall before) s.about s.item
+  pub started : Started before s.item s.before
+
+abbrev pub Grounded : List Scene → Type 0
+Grounded scenes = EachFits IsGrounded scenes

@@ -1,0 +1,4 @@
+-- The rules of freeing, destructors and calls as recursive text, and the story that they tell.
+pub mod Items
+pub mod Sequence
+pub mod Story

@@ -1,0 +1,5 @@
+-- Lines, schedules and transcripts as bytes.
+pub mod Text
+pub mod Grammar
+pub mod Schedule
+pub mod Written

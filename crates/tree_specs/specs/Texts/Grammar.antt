@@ -1,0 +1,134 @@
+-- The grammar of numbers, names, calls and schedule lines: the value that a text spells, or none.
+use Rattle.std.specs.Prelude.{ℕ, ◌^◌, Bool, true, false, ◌==◌, ◌&&◌, not, nat_lt, if◌then◌else◌, List, [], ◌∷◌, Option, Some, None, codes}
+use Rattle.std.specs.List.{slice_split}
+use Rattle.std.specs.Option.{option_map}
+use Rattle.std.specs.Str.{all_ascii_digits, bytes_eq}
+use Rattle.std.specs.Str.Parse.{digits_value}
+use Rattle.tree_specs.specs.declared.object.Obj.{Obj}
+use Rattle.tree_specs.specs.declared.object.Owner.{Owner}
+use Rattle.tree_specs.specs.declared.call.Call.{Call}
+use Rattle.tree_specs.specs.declared.question.Act.TheVariants as acts
+use Rattle.tree_specs.specs.declared.question.Input.{Input}
+use Rattle.tree_specs.specs.declared.question.Input.TheVariants as inputs
+use Rattle.tree_specs.specs.Words.Names.{is_name}
+use Rattle.tree_specs.specs.Calls.Spelling.{Reading, Form, forms}
+use Rattle.tree_specs.specs.Calls.Spelling.Reading.{Whole, TakesOwner, TakesObject, TakesNumber, TakesRoutine, EndsInName}
+use Rattle.tree_specs.specs.Words.Objects.{numbered_owner}
+
+infixl 10 ◌>>=◌
+abbrev pub ◌>>=◌ : {A B : Type 0} → Option A → (A → Option B) → Option B
+None >>= f = None
+(Some x) >>= f = f x
+
+-- there is a digit, and no zero before others
+abbrev pub is_short : List ℕ → Bool
+is_short [] = false
+is_short (d ∷ []) = true
+is_short (d ∷ e ∷ ds) = not (d == 48)
+
+-- decimal digits of a number below 2 ^ 64, with no leading zero
+abbrev pub is_decimal : List ℕ → Bool
+is_decimal ds = is_short ds && (all_ascii_digits ds && nat_lt (digits_value 10 ds) (2 ^ 64))
+
+unfoldable pub number_of : List ℕ → Option ℕ
+number_of ds = if is_decimal ds then Some (digits_value 10 ds) else None
+
+-- a number below a limit
+abbrev pub number_below : ℕ → List ℕ → Option ℕ
+number_below limit ds = do
+  n ← number_of ds
+  if nat_lt n limit then Some n else None
+
+-- a number below 2^32, as a routine returns it
+unfoldable pub number32_of : List ℕ → Option ℕ
+number32_of ds = number_below (2 ^ 32) ds
+
+-- the number of a routine, which isn't 0
+unfoldable pub routine_of : List ℕ → Option ℕ
+routine_of ds = do
+  n ← number32_of ds
+  if n == 0 then None else Some n
+
+unfoldable pub owner_of : List ℕ → Option Owner
+owner_of text = do
+  n ← number_of text
+  Some (numbered_owner n)
+
+unfoldable pub object_of : List ℕ → Option Obj
+object_of text = do
+  n ← number_of text
+  Some (record { 0 = n })
+
+unfoldable pub name_of : List ℕ → Option (List ℕ)
+name_of text = if is_name text then Some text else None
+
+-- the words between single spaces
+abbrev pub words : List ℕ → List (List ℕ)
+words text = slice_split (λ b. b == 32) text
+
+-- ---- calls
+
+-- each field is a word, and a name is the last one
+abbrev pub read : Reading → List (List ℕ) → Option Call
+read (Whole call) [] = Some call
+read (TakesOwner next) (word ∷ more) = do
+  owner ← owner_of word
+  read (next owner) more
+read (TakesObject next) (word ∷ more) = do
+  object ← object_of word
+  read (next object) more
+read (TakesNumber next) (word ∷ more) = do
+  number ← number_of word
+  read (next number) more
+read (TakesRoutine next) (word ∷ more) = do
+  routine ← routine_of word
+  read (next routine) more
+read (EndsInName call) (word ∷ []) = do
+  name ← name_of word
+  Some (call name)
+read _ words = None
+
+-- the first form with this verb
+abbrev pub form_in : List Form → List ℕ → Option Reading
+form_in [] verb = None
+form_in (f ∷ fs) verb = if bytes_eq verb f.verb then Some f.reading else form_in fs verb
+
+-- a verb and its fields
+unfoldable pub call_of_words : List (List ℕ) → Option Call
+call_of_words [] = None
+call_of_words (verb ∷ fields) = do
+  reading ← form_in forms verb
+  read reading fields
+
+unfoldable pub call_of : List ℕ → Option Call
+call_of text = call_of_words (words text)
+
+-- ---- schedule lines
+
+-- what follows this front
+abbrev pub strip : List ℕ → List ℕ → Option (List ℕ)
+strip [] text = Some text
+strip (p ∷ ps) [] = None
+strip (p ∷ ps) (x ∷ xs) = if x == p then strip ps xs else None
+
+abbrev pub call_input_of : List ℕ → Option Input
+call_input_of text = option_map inputs.Call (call_of text)
+
+abbrev pub act_input_of : List ℕ → Option Input
+act_input_of text = option_map (λ c. inputs.Act (acts.Do c)) (call_of text)
+
+abbrev pub return_input_of : List ℕ → Option Input
+return_input_of text = option_map (λ v. inputs.Act (acts.Ret v)) (number32_of text)
+
+infixl 9 ◌or◌
+-- the first that there is
+abbrev pub ◌or◌ : {A : Type 0} → Option A → Option A → Option A
+None or o = o
+(Some x) or o = Some x
+
+-- the input that a line spells, without its LF
+unfoldable pub input_of : List ℕ → Option Input
+input_of line =
+    (strip (codes "call ") line >>= call_input_of)
+    or (strip (codes "act ") line >>= act_input_of)
+    or (strip (codes "ret ") line >>= return_input_of)

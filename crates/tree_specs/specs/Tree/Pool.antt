@@ -1,0 +1,202 @@
+-- The pool: the rows of the objects, the most recently placed first, and the next serial number.
+use Rattle.std.specs.Prelude.{ℕ, suc, zero, ◌+◌, Bool, true, false, not, ◌||◌, ◌&&◌, List, [], ◌∷◌, length, Option, Some, None, is_some, unwrap_or, if◌then◌else◌}
+use Rattle.tree_specs.specs.declared.object.Obj.{Obj}
+use Rattle.tree_specs.specs.declared.object.Owner.{Owner}
+use Rattle.tree_specs.specs.declared.object.Owner.TheVariants.{Root, Of}
+use Rattle.tree_specs.specs.declared.row.Row.{Row}
+use Rattle.tree_specs.specs.declared.row.Mark.{Mark}
+use Rattle.tree_specs.specs.declared.row.Mark.TheVariants.{Quiet, Asked, Busy, Doomed, Dying}
+use Rattle.tree_specs.specs.declared.kind.Kind.{Kind}
+use Rattle.tree_specs.specs.Words.Objects.{same, same_owner}
+use Rattle.tree_specs.specs.Tree.Targets.{target_of, is_target, is_reference, newest, newest_ref}
+
+pub record Pool : Type 0 where
+  pub rows : List Row
+  pub next : ℕ
+
+abbrev pub empty : ℕ → Pool
+empty first = record { rows = []; next = first }
+
+-- ---- looking up
+
+-- the row of an object
+abbrev pub row_of : List Row → Obj → Option Row
+row_of [] x = None
+row_of (r ∷ rs) x = if same r.serial x then Some r else row_of rs x
+
+abbrev pub is_row : List Row → Obj → Bool
+is_row rs x = is_some (row_of rs x)
+
+-- a row that is no reference
+abbrev pub is_object_row : Option Row → Bool
+is_object_row None = false
+is_object_row (Some r) = not (is_reference r.kind)
+
+abbrev pub is_object : List Row → Obj → Bool
+is_object rs x = is_object_row (row_of rs x)
+
+-- the root, or an object; a reference owns nothing
+abbrev pub is_owner : List Row → Owner → Bool
+is_owner rs Root = true
+is_owner rs (Of x) = is_object rs x
+
+-- this is the owner; a dying row has none
+abbrev pub is_below : Option Owner → Owner → Bool
+is_below None p = false
+is_below (Some o) p = same_owner o p
+
+-- the children, newest placed first
+abbrev pub kids : List Row → Owner → List Obj
+kids [] p = []
+kids (r ∷ rs) p = if is_below r.owner p then r.serial ∷ kids rs p else kids rs p
+
+-- the first child
+abbrev pub first_kid : List Row → Owner → Option Obj
+first_kid [] p = None
+first_kid (r ∷ rs) p = if is_below r.owner p then Some r.serial else first_kid rs p
+
+abbrev pub owner_in : Option Row → Option Owner
+owner_in None = None
+owner_in (Some r) = r.owner
+
+abbrev pub owner_of : List Row → Obj → Option Owner
+owner_of rs x = owner_in (row_of rs x)
+
+abbrev pub target_in : Option Row → Option Obj
+target_in None = None
+target_in (Some r) = target_of r.kind
+
+-- what an object refers to, where it is a reference
+abbrev pub target_at : List Row → Obj → Option Obj
+target_at rs x = target_in (row_of rs x)
+
+-- the newest reference to an object that an owner has
+abbrev pub newest_ref_of : List Row → Owner → Obj → Option Obj
+newest_ref_of rs o x = newest (λ r. is_target (target_of r.kind) x && is_below r.owner o) rs
+
+abbrev pub owner_at : List Row → Option Obj → Option Owner
+owner_at rs None = None
+owner_at rs (Some r) = owner_of rs r
+
+-- the owner of the newest reference to an object
+abbrev pub noted_owner : List Row → Obj → Option Owner
+noted_owner rs x = owner_at rs (newest_ref rs x)
+
+-- the rows behind that of an object
+abbrev pub behind : List Row → Obj → List Row
+behind [] x = []
+behind (r ∷ rs) x = if same r.serial x then rs else behind rs x
+
+abbrev pub kid_behind : List Row → Obj → Option Owner → Option Obj
+kid_behind rs x None = None
+kid_behind rs x (Some p) = first_kid (behind rs x) p
+
+-- the next child of the same owner
+abbrev pub next_kid : List Row → Obj → Option Obj
+next_kid rs x = kid_behind rs x (owner_of rs x)
+
+-- the object is being freed
+abbrev pub is_dying_mark : Mark → Bool
+is_dying_mark Quiet = false
+is_dying_mark Asked = false
+is_dying_mark Busy = false
+is_dying_mark Doomed = false
+is_dying_mark (Dying former) = true
+
+abbrev pub is_dying_row : Option Row → Bool
+is_dying_row None = false
+is_dying_row (Some r) = is_dying_mark r.mark
+
+abbrev pub is_dying : List Row → Obj → Bool
+is_dying rs x = is_dying_row (row_of rs x)
+
+-- the owner of an owner; the root has none
+abbrev pub next_owner : List Row → Owner → Option Owner
+next_owner rs Root = None
+next_owner rs (Of x) = owner_of rs x
+
+-- from owner to owner, in at most n steps, one comes to y
+abbrev pub reaches : ℕ → List Row → Option Owner → Owner → Bool
+reaches n rs None y = false
+reaches zero rs (Some o) y = same_owner o y
+reaches (suc n) rs (Some o) y = same_owner o y || reaches n rs (next_owner rs o) y
+
+-- o is y, or inside it
+abbrev pub is_inside : List Row → Owner → Owner → Bool
+is_inside rs o y = reaches (length rs) rs (Some o) y
+
+-- ---- changing
+
+-- the row of an object is taken out
+abbrev pub without : List Row → Obj → List Row
+without [] x = []
+without (r ∷ rs) x = if same r.serial x then rs else r ∷ without rs x
+
+-- the row of an object is changed, and keeps its place
+abbrev pub changed : (Row → Row) → List Row → Obj → List Row
+changed f [] x = []
+changed f (r ∷ rs) x = if same r.serial x then f r ∷ rs else r ∷ changed f rs x
+
+abbrev pub new_row : Obj → Kind → Owner → ℕ → List ℕ → Row
+new_row x kind owner size name = record { serial = x; owner = Some owner; name = name; size = size; kind = kind; mark = Quiet; hook = 0; limit = 0 }
+
+-- a new object is placed at the front below its owner
+abbrev pub add : Pool → Kind → Owner → ℕ → List ℕ → Pool
+add p kind owner size name = record { rows = new_row (record { 0 = p.next }) kind owner size name ∷ p.rows; next = p.next + 1 }
+
+-- a number is taken, which no object gets
+abbrev pub take_number : Pool → Pool
+take_number p = record p { next = p.next + 1 }
+
+abbrev pub left_row : Row → Row
+left_row r = record r { owner = None; mark = Dying (unwrap_or r.owner Root) }
+
+-- an object leaves its owner
+abbrev pub detach : Pool → Obj → Pool
+detach p x = record p { rows = changed left_row p.rows x }
+
+abbrev pub remove : Pool → Obj → Pool
+remove p x = record p { rows = without p.rows x }
+
+-- a row is put below an owner, in front of all others
+abbrev pub in_front : Option Row → Owner → List Row → List Row
+in_front None o rs = rs
+in_front (Some r) o rs = record r { owner = Some o } ∷ rs
+
+-- a row below this owner
+abbrev pub owned_row : Owner → Row → Row
+owned_row o r = record r { owner = Some o }
+
+-- an object is put below an owner, as its newest child
+abbrev pub place : Pool → Owner → Obj → Pool
+place p o x = record p { rows = in_front (row_of p.rows x) o (without p.rows x) }
+
+abbrev pub named_row : List ℕ → Row → Row
+named_row name r = record r { name = name }
+
+abbrev pub rename : Pool → Obj → List ℕ → Pool
+rename p x name = record p { rows = changed (named_row name) p.rows x }
+
+abbrev pub marked_row : Mark → Row → Row
+marked_row mark r = record r { mark = mark }
+
+abbrev pub set_mark : Pool → Obj → Mark → Pool
+set_mark p x mark = record p { rows = changed (marked_row mark) p.rows x }
+
+abbrev pub hooked_row : ℕ → Row → Row
+hooked_row hook r = record r { hook = hook }
+
+abbrev pub set_hook : Pool → Obj → ℕ → Pool
+set_hook p x hook = record p { rows = changed (hooked_row hook) p.rows x }
+
+abbrev pub sized_row : ℕ → Row → Row
+sized_row size r = record r { size = size }
+
+abbrev pub set_size : Pool → Obj → ℕ → Pool
+set_size p x size = record p { rows = changed (sized_row size) p.rows x }
+
+abbrev pub limited_row : ℕ → Row → Row
+limited_row limit r = record r { limit = limit }
+
+abbrev pub set_limit : Pool → Obj → ℕ → Pool
+set_limit p x limit = record p { rows = changed (limited_row limit) p.rows x }
