@@ -16,7 +16,7 @@ use Rattle.tree_specs.proofs.Tree.Numbered.{by_test, same-true, same-false, same
 use Rattle.tree_specs.proofs.Tree.Referring.{plain-refers}
 use Rattle.tree_specs.proofs.Tree.SumLaws.{sum-below, sum-lone, sum-before, sum-sized}
 use Rattle.tree_links.specs.Links.{IsTree}
-use Rattle.tree_report.proofs.Weighing.{sum-small}
+use Rattle.tree_links.proofs.Weighing.{sum-small}
 use Rattle.memory_limits.specs.declared.change.Change.{Change}
 use Rattle.memory_limits.specs.declared.limited.Limited.{Limited}
 use Rattle.memory_limits.specs.Limits.{limit_of, unlimited, bound_of, SameBounds, AllBound, AllSums, AreLimitsOf, counts, found}

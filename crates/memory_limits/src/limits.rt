@@ -5,8 +5,7 @@ use crate::change::Change;
 use pool_arena::Arena;
 use std::alloc::Global;
 use std::marker::Model;
-use tree_links::Tree;
-use tree_report::sum;
+use tree_links::{Tree, sum};
 use tree_specs::{Memory, Obj, Owner, Refusal};
 
 /// The objects with a limit, and what is inside each of them (`talloc_set_memlimit`). Contracts see the list of them,

@@ -1,2 +1,4 @@
 pub mod Links
 pub mod Nodes
+pub mod Walk
+pub mod Weights

@@ -11,10 +11,10 @@ use Rattle.tree_specs.specs.Tree.Reports.{with_below, report_each, report_below,
 use Rattle.tree_specs.specs.Tree.Forest.{Distinct, IsThere, AllOwned}
 use Rattle.tree_specs.proofs.Tree.Rooted.{is_there-owner}
 use Rattle.tree_links.specs.Links.{IsTree}
-use Rattle.tree_report.specs.declared.walk.Place.{Place}
-use Rattle.tree_report.specs.Walk.{placed, walk_from}
+use Rattle.tree_links.specs.declared.walk.Place.{Place}
+use Rattle.tree_links.specs.Walk.{placed, walk_from}
 use Rattle.tree_report.specs.Shown.{shown_row, shown_at, shown}
-use Rattle.tree_report.proofs.Walking.{EachOwned, kids-owned}
+use Rattle.tree_links.proofs.Walking.{EachOwned, kids-owned}
 
 -- ---- the rows along a walk
 

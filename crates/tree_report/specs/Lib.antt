@@ -1,4 +1,2 @@
-pub mod Walk
-pub mod Weights
 pub mod Shown
 pub mod Written

@@ -6,7 +6,7 @@ use Rattle.tree_specs.specs.declared.report.ReportRow.{ReportRow}
 use Rattle.tree_specs.specs.declared.row.Row.{Row}
 use Rattle.tree_specs.specs.Tree.Pool.{row_of}
 use Rattle.tree_specs.specs.Tree.Reports.{root_row, report_row}
-use Rattle.tree_report.specs.declared.walk.Place.{Place}
+use Rattle.tree_links.specs.declared.walk.Place.{Place}
 
 -- the row of an object at this depth, where there is one
 abbrev pub shown_row : List Row → ℕ → Option Row → List ReportRow

@@ -2,12 +2,10 @@
 #![tactic(auto)]
 
 mod listing;
-mod sums;
 #[cfg(test)]
 mod tests;
-mod walk;
 mod writing;
 
 pub use listing::rows;
-pub use sums::{count, sum, total};
+pub use tree_links::{count, total};
 pub use writing::report;

@@ -6,7 +6,6 @@ ghost use Rattle.tree_specs.specs.Tree.Targets.{target_of};
 ghost use Rattle.references.specs.Rows.{AreRefsOf};
 ghost use Rattle.tree_report.specs.Shown.{shown_at};
 
-use crate::walk::Walk;
 use references::Refs;
 use std::alloc::Global;
 use tree_links::Tree;
@@ -121,7 +120,7 @@ pub fn rows(alloc: Global, tree: &Tree, refs: &Refs, from: Owner) -> Result<Repo
     ensures { IfOk result (λ rows. rows ≡ report tree.now.rows from) }
 {
     let mut rows = Vec::new(alloc);
-    for place in Walk::new(tree, from) {
+    for place in tree.walk(from) {
         let row = row_at(alloc, tree, refs, place.owner, place.depth)?;
         keep(&mut rows, row)?;
     }

@@ -6,3 +6,4 @@ pub mod Machine
 pub mod Invariants
 pub mod Promises
 pub mod Texts
+pub mod Examples

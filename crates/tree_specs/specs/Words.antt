@@ -3,4 +3,3 @@ pub mod Names
 pub mod Octets
 pub mod Objects
 pub mod Ranges
-pub mod Listed

@@ -1,10 +1,12 @@
 //! What everything means: the plain types of the object tree, and in `specs/` the definitions that
-//! every contract above cites. The laws of these definitions are the clauses of functions in `laws`.
+//! every contract above cites. The laws of these definitions are the clauses of functions in `laws`, and `examples` has
+//! schedules with their transcripts.
 #![tactic(auto)]
 
 mod bounds;
 mod call;
 mod event;
+pub mod examples;
 pub mod forbidden;
 mod frame;
 mod free_step;

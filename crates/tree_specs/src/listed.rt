@@ -1,54 +1,45 @@
 ghost use Rattle.std.specs.Prelude.{◌≡◌};
 ghost use Rattle.std.specs.Cmp.Lexicographic.{pointwise, lists_per, lists_equiv};
 
-use std::alloc::Global;
+use std::borrow::CowSlice;
 use std::marker::Model;
 
 /// Elements that were given in a vector, or that stand in the program. Contracts see the list of them.
 #[derive(Debug, Drop)]
 pub(crate) struct Listed<T: 'static> {
-    given: Vec<T>,
-    /// They count where none were given.
-    fixed: &'static [T],
+    elements: CowSlice<'static, T>,
 }
 
 impl<T> Model for Listed<T> {
     ghost use Rattle.std.specs.Prelude.{List};
-    ghost use Rattle.tree_specs.specs.Words.Listed.{first_of};
+    ghost use Rattle.std.specs.Cow.{cow_slice_items};
 
     ghost Value = { List T };
 
-    ghost view = { λ l. first_of l.given.items l.fixed.now };
+    ghost view = { λ l. cow_slice_items l.elements };
 }
 
 impl<T> Listed<T> {
-    pub(crate) fn make(items: Vec<T>) -> Listed<T>
+    pub(crate) fn given(items: Vec<T>) -> Listed<T>
         ensures { result ≡ items.items }
     {
         Listed {
-            given: items,
-            fixed: &[],
+            elements: CowSlice::Owned(items),
         }
     }
 
-    /// It takes no memory.
-    pub(crate) fn fixed(alloc: Global, items: &'static [T]) -> Listed<T>
+    pub(crate) fn fixed(items: &'static [T]) -> Listed<T>
         ensures { result ≡ items.now }
     {
         Listed {
-            given: Vec::new(alloc),
-            fixed: items,
+            elements: CowSlice::Borrowed(items),
         }
     }
 
     pub(crate) fn as_slice(&self) -> &[T]
         ensures { result.now ≡ self.now }
     {
-        if self.given.is_empty() {
-            self.fixed
-        } else {
-            &self.given
-        }
+        self.elements.as_slice()
     }
 }
 

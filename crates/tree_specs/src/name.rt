@@ -4,7 +4,6 @@ ghost use Rattle.std.specs.List.{list_all};
 
 use crate::bounds::NAME_LIMIT;
 use crate::listed::Listed;
-use std::alloc::Global;
 use std::marker::Model;
 
 fn is_graphic_byte(b: u8) -> bool
@@ -51,7 +50,7 @@ impl Name {
     {
         if is_name_text(&bytes) {
             Some(Name {
-                bytes: Listed::make(bytes),
+                bytes: Listed::given(bytes),
             })
         } else {
             None
@@ -59,12 +58,12 @@ impl Name {
     }
 
     /// A name that stands in the program. It takes no memory.
-    pub fn fixed(alloc: Global, bytes: &'static [u8]) -> Name
+    pub fn fixed(bytes: &'static [u8]) -> Name
         requires { IsTrue (is_name bytes.now) }
         ensures { result ≡ bytes.now }
     {
         Name {
-            bytes: Listed::fixed(alloc, bytes),
+            bytes: Listed::fixed(bytes),
         }
     }
 

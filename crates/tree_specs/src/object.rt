@@ -1,9 +1,17 @@
 ghost use Rattle.std.specs.Prelude.{◌≡◌};
 ghost use Rattle.tree_specs.specs.Words.Objects.{owner_number};
 
+use std::fmt::{Display, Error, Formatter, Write};
+
 /// An object of the tree, named by its serial number, from 1 upwards. No number is used twice.
 #[derive(Clone, Copy, Debug, PartialEq, Eq)]
 pub struct Obj(pub u64);
+
+impl Display for Obj {
+    fn fmt<W: Write>(&self, f: &mut Formatter<W>) -> Result<(), Error> {
+        write!(f, "object {}", self.0)
+    }
+}
 
 /// Who owns an object: the root, which is talloc's null context, or another object.
 #[derive(Clone, Copy, Debug, PartialEq, Eq)]
@@ -22,6 +30,15 @@ impl Owner {
         match self {
             Owner::Root => 0,
             Owner::Of(Obj(n)) => n,
+        }
+    }
+}
+
+impl Display for Owner {
+    fn fmt<W: Write>(&self, f: &mut Formatter<W>) -> Result<(), Error> {
+        match self {
+            Owner::Root => f.write_str("the root"),
+            Owner::Of(x) => x.fmt(f),
         }
     }
 }

@@ -35,7 +35,7 @@ impl Octets {
     {
         if is_octets_len(&bytes) {
             Some(Octets {
-                bytes: Listed::make(bytes),
+                bytes: Listed::given(bytes),
             })
         } else {
             None

@@ -60,7 +60,7 @@ impl ReportRows {
         ensures { result ≡ rows.items }
     {
         ReportRows {
-            rows: Listed::make(rows),
+            rows: Listed::given(rows),
         }
     }
 

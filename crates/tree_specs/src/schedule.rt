@@ -1,3 +1,5 @@
+use thiserror::Error;
+
 /// What runs the lines of a schedule, which its first line says.
 #[derive(Clone, Copy, Debug, PartialEq, Eq)]
 pub enum Mode {
@@ -6,12 +8,15 @@ pub enum Mode {
 }
 
 /// Why a line of a schedule was refused. They are tried in this order.
-#[derive(Clone, Copy, Debug, PartialEq, Eq)]
+#[derive(Clone, Copy, Debug, PartialEq, Eq, Error)]
 pub enum Reason {
     /// The line has more than 262,144 bytes without its LF, or stands after line 4,294,967,295.
+    #[error("the line is over a limit")]
     Limit,
     /// The line has no LF, or isn't in the grammar.
+    #[error("the line is not in the grammar")]
     Form,
     /// The open question takes no such input.
+    #[error("the open question takes no such input")]
     NotAsked,
 }

@@ -1,0 +1,31 @@
+-- Worked examples: schedules with their transcripts, line by line.
+use Rattle.std.specs.Prelude.{ℕ, List, [], ◌∷◌, ◌++◌, map, flat_map, Option, Some, codes}
+use Rattle.tree_specs.specs.Rules.Story.{story, items}
+use Rattle.tree_specs.specs.Texts.Text.{transcript}
+use Rattle.tree_specs.specs.Texts.Schedule.{inputs_of}
+use Prim.Native.String.{String}
+
+-- a line of a schedule, and the lines of the transcript up to the next question
+abbrev pub Exchange : Type 0
+Exchange = String × List String
+
+abbrev pub Example : Type 0
+Example = List Exchange
+
+abbrev pub text_of : List String → List ℕ
+text_of lines = flat_map (λ line. codes line ++ codes "\n") lines
+
+abbrev pub schedule_of : Example → List ℕ
+schedule_of example = text_of ("tv schedule 1 pool" ∷ map (λ exchange. exchange.0) example)
+
+-- each of them ends with no caller but the host's own
+abbrev pub transcript_of : Example → List ℕ
+transcript_of example = text_of ("tv transcript 1" ∷ flat_map (λ exchange. exchange.1) example ++ "end quiet" ∷ [])
+
+-- what the rules tell over its schedule, as text
+abbrev pub told : Example → Option (List ℕ)
+told example = transcript (items (story 1 (inputs_of (schedule_of example))))
+
+-- what it is to be told
+abbrev pub wanted : Example → Option (List ℕ)
+wanted example = Some (transcript_of example)
