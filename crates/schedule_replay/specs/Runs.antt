@@ -7,12 +7,12 @@ use Rattle.tree_specs.specs.Texts.Text.{end_text}
 use Rattle.tree_specs.specs.Texts.Schedule.{judge, transcript_of}
 use Rattle.schedule_replay.specs.declared.ran.Ran.{Ran}
 use Rattle.schedule_replay.specs.declared.ran.Ran.TheVariants as rans
-use Rattle.schedule_replay.specs.declared.ran.ReplayError.{ReplayError}
-use Rattle.schedule_replay.specs.declared.ran.ReplayError.TheVariants as errors
+use Rattle.schedule_replay.specs.declared.stop.Stop.{Stop}
+use Rattle.schedule_replay.specs.declared.stop.Stop.TheVariants as errors
 use Rattle.schedule_replay.specs.Replays.{has_no_lf}
 
 -- what an outcome is called outside
-abbrev pub ran_of : Result (Unit {0}) ReplayError → Ran
+abbrev pub ran_of : Result (Unit {0}) Stop → Ran
 ran_of (Ok done) = rans.Done
 ran_of (Err errors.Read) = rans.ReadFault
 ran_of (Err (errors.Refused line reason)) = rans.BadSchedule line reason
@@ -35,7 +35,7 @@ pub record IsBad (bytes : List ℕ) (line : ℕ) (reason : Reason) (held now : O
   pub refused : judge bytes ≡ Some (line, reason)
   pub text : WritesText (transcript_of bytes) held now
 
--- A front of the transcript is written.
+-- A prefix of the transcript is written.
 pub record IsFrontOf (bytes : List ℕ) (held now : Option (List ℕ)) : Type 0 where
   pub front : List ℕ
   pub rest : List ℕ
@@ -57,7 +57,7 @@ pub record IsCutShort (bytes : List ℕ) (left held now : Option (List ℕ)) : T
   pub put : Appends held now text
   pub cut : IsCutTranscript whole text
 
--- What is read and written, by how the replay ended. After a write fault and without memory a front of the transcript is written.
+-- What is read and written, by how the replay ended. After a write fault and without memory a prefix of the transcript is written.
 abbrev pub Replays : List ℕ → Option (List ℕ) → Option (List ℕ) → Option (List ℕ) → Ran → Type 0
 Replays bytes left held now rans.Done = IsDone bytes left held now
 Replays bytes left held now rans.ReadFault = IsCutShort bytes left held now

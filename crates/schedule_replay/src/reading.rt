@@ -10,7 +10,7 @@ ghost use Rattle.schedule_replay.specs.Questions.{answered_of};
 ghost use Rattle.schedule_replay.specs.Cuts.{EndsFirst};
 ghost use Rattle.host_core.specs.Promises.{Waits};
 
-use crate::refusal::LineError;
+use crate::stop::Stop;
 use crate::telling::tell;
 use host_core::{Host, OfferFault};
 use memchr::memchr;
@@ -41,9 +41,9 @@ fn line_end(bytes: &[u8]) -> Option<usize>
 #[derive(Drop)]
 pub struct Replay {
     host: Host,
-    /// Of the line that has begun, from 1.
+    /// Number of the current line, from 1.
     number: u64,
-    /// What has come of it.
+    /// Its bytes so far.
     line: Vec<u8>,
     /// What is to be written next.
     pub text: Vec<u8>,
@@ -52,13 +52,13 @@ pub struct Replay {
 impl Replay {
     ghost use Rattle.schedule_replay.specs.States.{reading_of};
     ghost use Rattle.schedule_replay.specs.Cuts.{at_line};
-    ghost use Rattle.schedule_replay.specs.Readings.{fresh, IsReady, room_left, refused_text, RefusesHere, TakesLine, Takes, Finishes};
+    ghost use Rattle.schedule_replay.specs.Readings.{fresh, IsBetweenBytes, room_left, refused_text, RefusesHere, TakesLine, Takes, Finishes};
     ghost use Rattle.schedule_replay.specs.Replays.{has_no_lf};
 
     /// A replay before its first byte.
     pub fn new(alloc: Global) -> Result<Replay, Memory>
         ensures fresh { IfOk result (λ replay. reading_of replay ≡ fresh) }
-        ensures ready { IfOk result (λ replay. IsReady (reading_of replay)) }
+        ensures ready { IfOk result (λ replay. IsBetweenBytes (reading_of replay)) }
     {
         Ok(Replay {
             host: Host::new(alloc, 1)?,
@@ -83,19 +83,19 @@ impl Replay {
     }
 
     /// Refuses the line that has begun.
-    fn refuse(&mut self, reason: Reason) -> Result<(), LineError>
+    fn refuse(&mut self, reason: Reason) -> Result<(), Stop>
         ensures refused { RefusesHere (reading_of self.old) (reading_of self.new) reason result }
         ensures number { self.new.number ≡ self.old.number }
         ensures line { self.new.line ≡ self.old.line }
     {
         let line = self.number;
         self.end_transcript()?;
-        Err(LineError::Refused { line, reason })
+        Err(Stop::Refused { line, reason })
     }
 
     /// Takes the first line, which is the header.
-    fn take_header(&mut self, line: &[u8]) -> Result<(), LineError>
-        requires ready { IsReady (at_line (reading_of self.old) line.now) }
+    fn take_header(&mut self, line: &[u8]) -> Result<(), Stop>
+        requires ready { IsBetweenBytes (at_line (reading_of self.old) line.now) }
         requires first { self.old.number ≡ 1 }
         ensures taken { TakesLine (at_line (reading_of self.old) line.now) (reading_of self.new) result }
         ensures number { self.new.number ≡ self.old.number }
@@ -108,7 +108,7 @@ impl Replay {
         Ok(())
     }
 
-    /// Writes the line of the open question as one that is answered, or nothing where memory is wanted.
+    /// Writes the line of the open question as one that is answered, or nothing when memory runs out.
     fn write_question(&mut self) -> Result<(), Memory>
         ensures text { OnOk result (self.new.text.items ≡ self.old.text.items ++ answered_of (question_of self.old.host)) }
         ensures kept { OnErr result (self.new.text.items ≡ self.old.text.items) }
@@ -125,8 +125,8 @@ impl Replay {
     }
 
     /// Gives an input, which the line spells, to the host, and writes what it tells.
-    fn answer(&mut self, line: &[u8], input: Input) -> Result<(), LineError>
-        requires ready { IsReady (at_line (reading_of self.old) line.now) }
+    fn answer(&mut self, line: &[u8], input: Input) -> Result<(), Stop>
+        requires ready { IsBetweenBytes (at_line (reading_of self.old) line.now) }
         requires numbered { self.old.number ≤ lines_limit }
         requires later { self.old.number ≢ 1 }
         requires spelled { input_of line.now ≡ Some input }
@@ -148,14 +148,14 @@ impl Replay {
             }
             Err(OfferFault::Memory) => {
                 self.text.truncate(began);
-                Err(LineError::Memory)
+                Err(Stop::Memory)
             }
         }
     }
 
     /// Takes a line after the first.
-    fn take_input(&mut self, line: &[u8]) -> Result<(), LineError>
-        requires ready { IsReady (at_line (reading_of self.old) line.now) }
+    fn take_input(&mut self, line: &[u8]) -> Result<(), Stop>
+        requires ready { IsBetweenBytes (at_line (reading_of self.old) line.now) }
         requires numbered { self.old.number ≤ lines_limit }
         requires later { self.old.number ≢ 1 }
         ensures taken { TakesLine (at_line (reading_of self.old) line.now) (reading_of self.new) result }
@@ -165,7 +165,7 @@ impl Replay {
         match read_line(*self.line.allocator(), line) {
             Ok(input) => self.answer(line, input),
             Err(FormFault::NoForm) => self.refuse(Reason::Form),
-            Err(FormFault::Memory) => Err(LineError::Memory),
+            Err(FormFault::Memory) => Err(Stop::Memory),
         }
     }
 
@@ -177,8 +177,8 @@ impl Replay {
     }
 
     /// Takes a line that is whole.
-    fn take_line(&mut self, line: &[u8]) -> Result<(), LineError>
-        requires ready { IsReady (at_line (reading_of self.old) line.now) }
+    fn take_line(&mut self, line: &[u8]) -> Result<(), Stop>
+        requires ready { IsBetweenBytes (at_line (reading_of self.old) line.now) }
         requires numbered { self.old.number ≤ lines_limit }
         ensures taken { TakesLine (at_line (reading_of self.old) line.now) (reading_of self.new) result }
         ensures number { self.new.number ≡ self.old.number }
@@ -192,11 +192,11 @@ impl Replay {
     }
 
     /// Takes bytes of the line that has begun.
-    fn lengthen(&mut self, run: &[u8]) -> Result<(), LineError>
-        requires ready { IsReady (reading_of self.old) }
+    fn lengthen(&mut self, run: &[u8]) -> Result<(), Stop>
+        requires ready { IsBetweenBytes (reading_of self.old) }
         requires plain { IsTrue (has_no_lf run.now) }
         ensures taken { Takes (reading_of self.old) run.now (reading_of self.new) result }
-        ensures ready { OnOk result (IsReady (reading_of self.new)) }
+        ensures ready { OnOk result (IsBetweenBytes (reading_of self.new)) }
         ensures progress { OnOk result (room_left (reading_of self.new) + length run.now ≤ room_left (reading_of self.old)) }
     {
         if run.is_empty() {
@@ -213,10 +213,10 @@ impl Replay {
     }
 
     /// Takes the LF of the line that has begun.
-    fn end_line(&mut self) -> Result<(), LineError>
-        requires { IsReady (reading_of self.old) }
+    fn end_line(&mut self) -> Result<(), Stop>
+        requires { IsBetweenBytes (reading_of self.old) }
         ensures taken { Takes (reading_of self.old) (10 ∷ []) (reading_of self.new) result }
-        ensures ready { OnOk result (IsReady (reading_of self.new)) }
+        ensures ready { OnOk result (IsBetweenBytes (reading_of self.new)) }
         ensures progress { OnOk result (room_left (reading_of self.new) + 1 ≤ room_left (reading_of self.old)) }
     {
         if self.is_late() {
@@ -232,12 +232,12 @@ impl Replay {
     }
 
     /// Takes a line that stands whole in the piece, where none has begun.
-    fn take_here(&mut self, line: &[u8]) -> Result<(), LineError>
-        requires ready { IsReady (reading_of self.old) }
+    fn take_here(&mut self, line: &[u8]) -> Result<(), Stop>
+        requires ready { IsBetweenBytes (reading_of self.old) }
         requires none { self.old.line.items ≡ [] }
         requires plain { IsTrue (has_no_lf line.now) }
         ensures taken { Takes (reading_of self.old) (line.now ++ 10 ∷ []) (reading_of self.new) result }
-        ensures ready { OnOk result (IsReady (reading_of self.new)) }
+        ensures ready { OnOk result (IsBetweenBytes (reading_of self.new)) }
         ensures progress { OnOk result (room_left (reading_of self.new) + length line.now + 1 ≤ room_left (reading_of self.old)) }
     {
         if self.is_late() {
@@ -252,11 +252,11 @@ impl Replay {
     }
 
     /// Takes the rest of a line, and its LF.
-    fn take_rest(&mut self, run: &[u8]) -> Result<(), LineError>
-        requires ready { IsReady (reading_of self.old) }
+    fn take_rest(&mut self, run: &[u8]) -> Result<(), Stop>
+        requires ready { IsBetweenBytes (reading_of self.old) }
         requires plain { IsTrue (has_no_lf run.now) }
         ensures taken { Takes (reading_of self.old) (run.now ++ 10 ∷ []) (reading_of self.new) result }
-        ensures ready { OnOk result (IsReady (reading_of self.new)) }
+        ensures ready { OnOk result (IsBetweenBytes (reading_of self.new)) }
         ensures progress { OnOk result (room_left (reading_of self.new) + length run.now + 1 ≤ room_left (reading_of self.old)) }
     {
         if self.line.is_empty() {
@@ -267,10 +267,10 @@ impl Replay {
     }
 
     /// Takes the next bytes. What is to be written of them stands at the end of `text`, at an error too.
-    pub fn feed(&mut self, piece: &[u8]) -> Result<(), LineError>
-        requires { IsReady (reading_of self.old) }
+    pub fn feed(&mut self, piece: &[u8]) -> Result<(), Stop>
+        requires { IsBetweenBytes (reading_of self.old) }
         ensures taken { Takes (reading_of self.old) piece.now (reading_of self.new) result }
-        ensures ready { OnOk result (IsReady (reading_of self.new)) }
+        ensures ready { OnOk result (IsBetweenBytes (reading_of self.new)) }
         ensures progress { OnOk result (room_left (reading_of self.new) + length piece.now ≤ room_left (reading_of self.old)) }
     {
         let mut rest = piece;
@@ -282,8 +282,8 @@ impl Replay {
     }
 
     /// Takes the end of the schedule.
-    pub fn finish(&mut self) -> Result<(), LineError>
-        requires { IsReady (reading_of self.old) }
+    pub fn finish(&mut self) -> Result<(), Stop>
+        requires { IsBetweenBytes (reading_of self.old) }
         ensures finished { Finishes (reading_of self.old) (reading_of self.new) result }
         ensures number { self.new.number ≡ self.old.number }
     {

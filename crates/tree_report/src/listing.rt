@@ -46,7 +46,7 @@ fn copied(alloc: Global, name: &Name) -> Result<Name, Memory>
     }
 }
 
-fn row_of_root(alloc: Global) -> ReportRow
+fn row_of_root() -> ReportRow
     ensures { result ≡ root_row }
 {
     ReportRow {
@@ -56,7 +56,7 @@ fn row_of_root(alloc: Global) -> ReportRow
         size: 0,
         refs: 0,
         target: 0,
-        name: Name::fixed(alloc, b"null_context"),
+        name: Name::fixed(b"null_context"),
     }
 }
 
@@ -96,7 +96,7 @@ fn row_at(
     ensures { IfOk result (λ r. option_to_list r ≡ shown_at tree.now.rows depth owner) }
 {
     match owner {
-        Owner::Root => Ok(Some(row_of_root(alloc))),
+        Owner::Root => Ok(Some(row_of_root())),
         Owner::Of(x) => row_of_object(alloc, tree, refs, x, depth),
     }
 }
@@ -112,7 +112,7 @@ fn keep(rows: &mut Vec<ReportRow>, row: Option<ReportRow>) -> Result<(), Memory>
 
 /// The report of an owner, as `talloc_report_full` shows it: a row for the owner, at depth 0, and one for each
 /// object below it, each owner before its children and these the newest placed first. Sizes are in bytes.
-/// There are no rows where the owner is neither the root nor an object. An error is want of memory. The
+/// There are no rows where the owner is neither the root nor an object. An error means out of memory. The
 /// references are those among the objects.
 #[tactic(auto, using(crate::proofs::Showing::walk_shown))]
 pub fn rows(alloc: Global, tree: &Tree, refs: &Refs, from: Owner) -> Result<ReportRows, Memory>

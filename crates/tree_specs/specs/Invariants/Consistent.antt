@@ -1,0 +1,90 @@
+-- What holds of a host at every moment.
+use Rattle.std.specs.Prelude.{ℕ, ◌+◌, ◌≤◌, List, [], ◌∷◌, Some, None}
+use Rattle.tree_specs.specs.declared.question.Ask.{Ask}
+use Rattle.tree_specs.specs.declared.question.Ask.TheVariants as asks
+use Rattle.tree_specs.specs.declared.row.Row.{Row}
+use Rattle.tree_specs.specs.declared.row.Mark.{Mark}
+use Rattle.tree_specs.specs.declared.row.Mark.TheVariants.{Asked, Dying}
+use Rattle.tree_specs.specs.declared.frame.Frame.{Frame}
+use Rattle.tree_specs.specs.Tree.Pool.{Pool}
+use Rattle.tree_specs.specs.Tree.Inside.{total}
+use Rattle.tree_specs.specs.Invariants.Sound.{Sound}
+use Rattle.tree_specs.specs.Machine.View.{View}
+use Rattle.tree_specs.specs.Machine.Profiles.{Role, Calls, Frees, Waits, ARun, profile}
+
+-- ---- which work may stand on which
+
+abbrev pub IsQuiet : Ask → Type 0
+IsQuiet asks.Quiet = Unit {0}
+IsQuiet _ = ⊥
+
+abbrev pub IsOfRoutine : Ask → Type 0
+IsOfRoutine (asks.Routine m) = Unit {0}
+IsOfRoutine _ = ⊥
+
+abbrev pub CallsFor : Role → Type 0
+CallsFor (Calls (Some q)) = IsQuiet q
+CallsFor _ = ⊥
+
+abbrev pub RunsFor : Role → Type 0
+RunsFor (Calls (Some q)) = IsOfRoutine q
+RunsFor (Calls None) = Unit {0}
+RunsFor _ = ⊥
+
+abbrev pub FreesFor : Role → Type 0
+FreesFor (Frees x) = Unit {0}
+FreesFor _ = ⊥
+
+-- the host's own caller, which never ends
+abbrev pub IsCaller : Frame → Type 0
+IsCaller f = CallsFor (profile f).role
+
+-- a routine that runs
+abbrev pub IsRun : Frame → Type 0
+IsRun f = RunsFor (profile f).role
+
+abbrev pub IsFree : Frame → Type 0
+IsFree f = FreesFor (profile f).role
+
+-- what stands on a work that waits
+abbrev pub Serves : Waits → Frame → Type 0
+Serves (ARun x h) f = IsRun f
+Serves _ f = IsFree f
+
+-- the host's own caller stands below all others, a run on the free that waits for its destructor, and a free on the call or
+-- the free that waits for it
+abbrev pub MayStandOn : Frame → List Frame → Type 0
+MayStandOn f [] = IsCaller f
+MayStandOn f (g ∷ gs) = Serves (profile g).waits f
+
+abbrev pub IsStacked : Frame → List Frame → Type 0
+IsStacked f [] = MayStandOn f []
+IsStacked f (g ∷ gs) = MayStandOn f (g ∷ gs) × IsStacked g gs
+
+-- The open works are no more than the rows that run or die pay for, so that the turns stay enough.
+
+abbrev pub size : Frame → ℕ
+size f = (profile f).size
+
+abbrev pub innermost_size : Frame → ℕ
+innermost_size f = (profile f).top_size
+
+abbrev pub sizes : List Frame → ℕ
+sizes [] = 0
+sizes (f ∷ fs) = size f + sizes fs
+
+abbrev pub mark_deposit : Mark → ℕ
+mark_deposit Asked = 3
+mark_deposit (Dying former) = 3
+mark_deposit _ = 0
+
+abbrev pub deposit : Row → ℕ
+deposit r = mark_deposit r.mark
+
+abbrev pub IsPaidFor : Frame → List Frame → Pool → Type 0
+IsPaidFor f fs p = innermost_size f + sizes fs ≤ total deposit p.rows + 2
+
+pub record IsConsistent (v : View) : Type 0 where
+  pub sound : Sound v.innermost v.below v.pool
+  pub seated : IsStacked v.innermost v.below
+  pub light : IsPaidFor v.innermost v.below v.pool
