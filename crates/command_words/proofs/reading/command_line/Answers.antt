@@ -1,0 +1,11 @@
+use Rattle.std.proofs.Common.{rules, ◌≡◌, ◌∙◌, ap, ap₂}
+use Rattle.std.proofs.lemmas.Result.{IfOk-weaker}
+use Rattle.clap.specs.Words.{App, with_subcommand}
+use Rattle.command_words.proofs.reading.command_line.Goals as goal
+
+pub returns : goal.returns
+returns c =
+    IfOk-weaker c.subcommand-2.result _ _ (λ m h. h.shape c.in_ok-load.ensures.local
+    ∙ ap₂ with_subcommand (c.in_ok-subcommand.ensures.shape c.command-replay.ensures.local
+    ∙ ap₂ with_subcommand c.in_ok-top.ensures.app (ap (λ (a : App). a.top) c.command-replay.ensures.app))
+    (ap (λ (a : App). a.top) c.in_ok-load.ensures.app)) c.subcommand-2.ensures

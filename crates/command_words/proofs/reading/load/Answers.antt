@@ -1,0 +1,15 @@
+use Rattle.std.proofs.Common.{rules, ◌≡◌, ◌∙◌, ap, ap₂}
+use Rattle.std.specs.Prelude.{pos, codes}
+use Rattle.std.proofs.lemmas.Result.{IfOk-weaker}
+use Rattle.clap.specs.Words.{with_rule}
+use Rattle.clap.specs.declared.builder.value_parser.ValueParser.TheVariants as parsers
+use Rattle.command_words.specs.CommandLine.{required_rule}
+use Rattle.command_words.proofs.reading.load.Goals as goal
+
+pub returns-clause-app : goal.returns-clause-app
+returns-clause-app c =
+    let range : c.range.result ≡ parsers.Signed (pos 0) (pos 1000000) = rw (c.value_parser-2.ensures, c.new.ensures.start, c.new.ensures.end) at c.range.ensures in
+    IfOk-weaker c.arg-2.result _ _ (λ m h. h.shape c.required-count.ensures.local
+    ∙ ap₂ with_rule (c.in_ok-arg.ensures.shape c.required-number.ensures.local
+    ∙ ap₂ with_rule c.command.ensures.app (c.required-number.ensures.rule ∙ ap (required_rule (codes "NUMBER")) c.value_parser.ensures))
+    (c.required-count.ensures.rule ∙ ap (required_rule (codes "COUNT")) range)) c.arg-2.ensures

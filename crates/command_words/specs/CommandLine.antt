@@ -1,0 +1,63 @@
+-- The command line, as clap sees it, and the command that words name.
+use Rattle.std.specs.Prelude.{ℕ, true, false, pos, Bool, List, [], ◌∷◌, ◌==◌, length, Option, Some, None, codes, if◌then◌else◌, option_and_then}
+use Rattle.std.specs.Str.{bytes_eq}
+use Rattle.std.specs.Str.Parse.{digits_value, without_leading_plus}
+use Rattle.clap.specs.Words.{App, Row, Rule, Text, fault_of, new_app, new_rule, one_of, subcommand_of, with_rule, with_subcommand}
+use Rattle.clap.specs.Simple.{on_top}
+use Rattle.clap.specs.ValueTests.{is_unsigned_in}
+use Rattle.clap.specs.declared.builder.value_parser.ValueParser.{ValueParser}
+use Rattle.clap.specs.declared.builder.value_parser.ValueParser.TheVariants as parsers
+use Rattle.command_words.specs.declared.command.Command.{Command}
+use Rattle.command_words.specs.declared.command.Command.TheVariants.{Replay, Load}
+use Rattle.command_words.specs.declared.command.TheConstants.{COUNT_LIMIT}
+
+-- ---- the command line
+
+-- an argument that has to be there
+abbrev pub required_rule : Text → ValueParser → Rule
+required_rule name parser = record (new_rule name) { required = true; parser = Some parser }
+
+-- a number from 0 to this one
+abbrev pub number_rule : Text → ℕ → Rule
+number_rule name most = required_rule name (parsers.Signed (pos 0) (pos most))
+
+abbrev pub replay_app : App
+replay_app = new_app (codes "replay")
+
+abbrev pub load_app : App
+load_app = with_rule (with_rule (new_app (codes "load")) (number_rule (codes "NUMBER") 4294967295)) (number_rule (codes "COUNT") 1000000)
+
+-- one of the commands is to be named
+abbrev pub top_app : App
+top_app = on_top (λ s. record s { no_binary_name = true; arg_required_else_help = true; subcommand_required = true }) (new_app (codes "tvhost"))
+
+abbrev pub command_line : App
+command_line = with_subcommand (with_subcommand top_app replay_app.top) load_app.top
+
+-- ---- the command that words name
+
+-- clap refuses the words for no other cause than want of memory
+abbrev pub is_taken : List Text → Bool
+is_taken words = length (fault_of command_line words) == 0
+
+abbrev pub number_if : Bool → Text → Option ℕ
+number_if is_number text = if is_number then Some (digits_value 10 (without_leading_plus text)) else None
+
+-- the value of an argument, where it is a number up to this one
+abbrev pub number_in : ℕ → Text → List Row → Option ℕ
+number_in most name rows = option_and_then (λ text. number_if (is_unsigned_in 0 most text) text) (one_of name rows)
+
+abbrev pub load_of : Option ℕ → Option ℕ → Option Command
+load_of (Some number) (Some count) = Some (Load number count)
+load_of _ count = None
+
+abbrev pub fields_in : List Row → Option Command
+fields_in rows = load_of (number_in 4294967295 (codes "NUMBER") rows) (number_in COUNT_LIMIT (codes "COUNT") rows)
+
+abbrev pub named_command : Option (Text × List Row) → Option Command
+named_command None = None
+named_command (Some p) = if bytes_eq p.0 (codes "replay") then Some Replay else fields_in p.1
+
+-- the command that the words name, which follow the program's name; none where they aren't taken
+abbrev pub command_of : List Text → Option Command
+command_of words = if is_taken words then named_command (subcommand_of command_line words) else None

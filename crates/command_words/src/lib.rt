@@ -1,0 +1,13 @@
+//! The words of the command line, which `clap` reads.
+#![tactic(auto)]
+
+mod command;
+mod examples;
+mod reading;
+
+pub use command::{COUNT_LIMIT, Command};
+pub use examples::{words_are_refused, words_name_commands};
+pub use reading::{WordsError, read_words};
+
+#[cfg(test)]
+mod tests;
