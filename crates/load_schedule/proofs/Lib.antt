@@ -1,0 +1,7 @@
+pub mod Unhooked
+pub mod Silent
+pub mod Taken
+pub mod TallyLaws
+pub mod CallLines
+pub mod SourceLaws
+pub mod LoadLaws

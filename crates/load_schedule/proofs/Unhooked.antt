@@ -1,0 +1,93 @@
+-- Pools in which no object has a destructor.
+use Rattle.std.proofs.Common.{◌≡◌, ℕ, Bool, true, false, List, [], ◌∷◌, Option, Some, None, refl, subst}
+use Rattle.tree_specs.specs.declared.object.Obj.{Obj}
+use Rattle.tree_specs.specs.declared.object.Owner.{Owner}
+use Rattle.tree_specs.specs.declared.row.Row.{Row}
+use Rattle.tree_specs.specs.declared.call.Call.{Call}
+use Rattle.tree_specs.specs.declared.call.Call.TheVariants as calls
+use Rattle.tree_specs.specs.Words.Objects.{same}
+use Rattle.tree_specs.specs.Tree.Targets.{newest_ref}
+use Rattle.tree_specs.specs.Tree.Pool.{Pool, row_of, changed, without, in_front, place, named_row, sized_row, limited_row, hooked_row}
+use Rattle.tree_specs.specs.Calls.Refusals.{Check, refusals}
+use Rattle.tree_specs.specs.Calls.Plans.{Plan, plan, planned, gift, handed, frees, changed_by, unless_refused}
+use Rattle.tree_specs.specs.Calls.Plans.Plan.{Does, Frees, Unlinks, Empties}
+use Rattle.tree_specs.proofs.Tree.Numbered.{by_test}
+
+-- no object has a destructor
+abbrev pub Unhooked : List Row → Type 0
+Unhooked [] = Unit {0}
+Unhooked (r ∷ rs) = (r.hook ≡ 0) × Unhooked rs
+
+pub unhooked-row : (rs : List Row) (x : Obj) (r : Row) → row_of rs x ≡ Some r → Unhooked rs → r.hook ≡ 0
+unhooked-row [] x r e h = cc
+unhooked-row (s ∷ rs) x r e h = by_test (same s.serial x)
+    (λ t.
+    let e' : Some s ≡ Some r = rw t at e in
+    let is : s ≡ r = cc in
+    subst (λ (q : Row). q.hook ≡ 0) is h.0)
+    (λ t. let e' : row_of rs x ≡ Some r = rw t at e in unhooked-row rs x r e' h.1)
+
+pub unhooked-changed : (f : Row → Row) (rs : List Row) (x : Obj) → ((r : Row) → r.hook ≡ 0 → (f r).hook ≡ 0) → Unhooked rs → Unhooked (changed f rs x)
+unhooked-changed f [] x keeps h = tt
+unhooked-changed f (r ∷ rs) x keeps h = by_test (same r.serial x)
+    (λ t. rw t (keeps r h.0, h.1))
+    (λ t. rw t (h.0, unhooked-changed f rs x keeps h.1))
+
+pub unhooked-without : (rs : List Row) (x : Obj) → Unhooked rs → Unhooked (without rs x)
+unhooked-without [] x h = tt
+unhooked-without (r ∷ rs) x h = by_test (same r.serial x) (λ t. rw t h.1) (λ t. rw t (h.0, unhooked-without rs x h.1))
+
+unhooked-front : (row : Option Row) (o : Owner) (rs : List Row) → ((r : Row) → row ≡ Some r → r.hook ≡ 0) → Unhooked rs → Unhooked (in_front row o rs)
+unhooked-front None o rs k h = h
+unhooked-front (Some r) o rs k h = (k r refl, h)
+
+pub unhooked-place : (p : Pool) (o : Owner) (x : Obj) → Unhooked p.rows → Unhooked (place p o x).rows
+unhooked-place p o x h = unhooked-front (row_of p.rows x) o (without p.rows x) (λ r e. unhooked-row p.rows x r e h) (unhooked-without p.rows x h)
+
+-- ---- calls
+
+-- the call gives no object a destructor
+abbrev pub sets_no_hook : Call → Bool
+sets_no_hook (calls.Hook x routine) = false
+sets_no_hook _ = true
+
+-- what is done to the rows gives none either
+abbrev pub IsCalm : Plan → Type 0
+IsCalm (Does c warned r) = (q : Pool) → Unhooked q.rows → Unhooked (changed_by c q).rows
+IsCalm (Frees x) = Unit {0}
+IsCalm (Unlinks o x) = Unit {0}
+IsCalm (Empties x) = Unit {0}
+
+calm-edit : (f : Row → Row) (x : Obj) → ((r : Row) → r.hook ≡ 0 → (f r).hook ≡ 0) → (q : Pool) → Unhooked q.rows → Unhooked (changed f q.rows x)
+calm-edit f x keeps q h = unhooked-changed f q.rows x keeps h
+
+calm-handed : (to : Owner) (g : Option Obj) (q : Pool) → Unhooked q.rows → Unhooked (changed_by (handed to g) q).rows
+calm-handed to None q h = h
+calm-handed to (Some r) q h = unhooked-place q to r h
+
+calm-frees : (r : Option Obj) (x : Obj) → IsCalm (frees r x)
+calm-frees None x = tt
+calm-frees (Some r) x = tt
+
+calm-plan : (p : Pool) (c : Call) → sets_no_hook c ≡ true → IsCalm (plan p c)
+calm-plan p (calls.New o size name) e = λ q h. (refl, h)
+calm-plan p (calls.Free x) e = calm-frees (newest_ref p.rows x) x
+calm-plan p (calls.Freekids x) e = tt
+calm-plan p (calls.Steal o x) e = λ q h. unhooked-place q o x h
+calm-plan p (calls.Move o x) e = λ q h. unhooked-place q o x h
+calm-plan p (calls.Reparent from to x) e = calm-handed to (gift p from x)
+calm-plan p (calls.Reference o x) e = λ q h. (refl, h)
+calm-plan p (calls.Unlink o x) e = tt
+calm-plan p (calls.Hook x routine) e = cc
+calm-plan p (calls.Unhook x) e = calm-edit (hooked_row 0) x (λ r k. refl)
+calm-plan p (calls.Rename x name) e = calm-edit (named_row name) x (λ r k. k)
+calm-plan p (calls.Resize x size) e = calm-edit (sized_row size) x (λ r k. k)
+calm-plan p (calls.Limit x max) e = calm-edit (limited_row max) x (λ r k. k)
+calm-plan p _ e = λ q h. h
+
+calm-unless : (checks : Check) (w : Plan) → IsCalm w → IsCalm (unless_refused checks w)
+calm-unless [] w h = h
+calm-unless (why ∷ later) w h = λ q k. k
+
+pub calm-planned : (p : Pool) (c : Call) → sets_no_hook c ≡ true → IsCalm (planned p c)
+calm-planned p c e = calm-unless (refusals p c) (plan p c) (calm-plan p c e)

@@ -1,0 +1,38 @@
+-- What a tally of lines stands for.
+use Rattle.std.specs.Prelude.{◌≡◌, ℕ, ◌+◌, true, if◌then◌else◌, List, [], ◌++◌, flat_map, fold, count_by, drop, codes}
+use Rattle.std.specs.List.{list_all}
+use Rattle.tree_specs.specs.Texts.Text.{newline}
+use Rattle.std.specs.Fmt.{decimal}
+use Rattle.tree_specs.specs.Texts.Load.{begins_with, named}
+use Rattle.schedule_replay.specs.Replays.{has_no_lf}
+
+-- the lines that have ended, and the present one
+abbrev pub text_of : List (List ℕ) → List ℕ → List ℕ
+text_of ended line = flat_map (λ l. l ++ newline) ended ++ line
+
+-- a count after one more line, which counts where it begins so
+abbrev pub one_more : List ℕ → List ℕ → ℕ → ℕ
+one_more front line count = if begins_with front line then count + 1 else count
+
+-- how many of the lines begin so
+abbrev pub count_like : List ℕ → List (List ℕ) → ℕ
+count_like front lines = count_by (λ line. begins_with front line) lines
+
+-- the last of the lines that begins so
+abbrev pub last_like : List ℕ → List (List ℕ) → List ℕ
+last_like front lines = fold (λ last line. if begins_with front line then line else last) [] lines
+
+-- the counts and the last reply are those of the lines that have ended
+pub record IsTally (ended : List (List ℕ)) (line : List ℕ) (refused freed dropped : ℕ) (last : List ℕ) : Type 0 where
+  pub refusals : refused ≡ count_like (codes "reply no ") ended
+  pub frees : freed ≡ count_like (codes "freed ") ended
+  pub drops : dropped ≡ count_like (codes "unreferenced ") ended
+  pub reply : last ≡ last_like (codes "reply ") ended
+  pub whole : list_all has_no_lf ended ≡ true
+  pub begun : has_no_lf line ≡ true
+
+-- the five lines of these counts and of the last reply
+abbrev pub five_of : ℕ → ℕ → ℕ → ℕ → List ℕ → List ℕ
+five_of count refused freed dropped last =
+    named (codes "calls ") (decimal count) ++ named (codes "refused ") (decimal refused) ++ named (codes "freed ") (decimal freed)
+    ++ named (codes "dropped ") (decimal dropped) ++ named (codes "live ") (drop 6 last)

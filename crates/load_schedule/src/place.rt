@@ -1,0 +1,81 @@
+//! The draws of a schedule, and the calls that they make.
+ghost use Rattle.std.specs.Prelude.{◌≡◌, ◌<◌, ◌≤◌, ◌+◌};
+ghost use Rattle.tree_specs.specs.declared.question.Input.TheVariants as inputs;
+ghost use Rattle.tree_specs.specs.Texts.Text.{input_text};
+ghost use Rattle.tree_specs.specs.Texts.Load.{next_state, drawn, first_place, call_drawn, after_call};
+
+use crate::line::{Line, free_line, new_line, pair_line};
+use std::marker::Model;
+
+/// Where a schedule stands between two calls. Contracts see the state of its draws, and how many lines with `new` there are.
+#[derive(Debug, Drop)]
+pub(crate) struct Place {
+    state: u32,
+    made: u32,
+}
+
+impl Model for Place {
+    ghost use Rattle.tree_specs.specs.Texts.Load.{Place as PlaceValue};
+
+    ghost Value = { PlaceValue };
+
+    ghost view = { λ p. record { state = p.state; made = p.made } };
+}
+
+/// The state after this one.
+fn state_after(state: u32) -> u32
+    ensures { result ≡ next_state state }
+{
+    ((u64::from(state) * 1_103_515_245 + 12_345) % 2_147_483_648) as u32
+}
+
+impl Place {
+    /// Before the first call of the schedule that is made from this number.
+    pub(crate) fn new(number: u32) -> Place
+        ensures { result ≡ first_place number }
+    {
+        Place {
+            state: number % 2_147_483_648,
+            made: 0,
+        }
+    }
+
+    /// The next draw, below 32,768.
+    fn draw(&mut self) -> u32
+        ensures value { result ≡ drawn (next_state self.old.state) }
+        ensures state { self.new.state ≡ next_state self.old.state }
+        ensures made { self.new.made ≡ self.old.made }
+        ensures small { result < 32768 }
+    {
+        self.state = state_after(self.state);
+        self.state / 65_536
+    }
+
+    /// The line of the next call.
+    pub(crate) fn next_line(&mut self) -> Line
+        requires { self.old.made < u32.MAX }
+        ensures line { result.bytes ≡ input_text (inputs.Call (call_drawn self.old)) }
+        ensures place { self.new ≡ after_call self.old }
+        ensures made { self.new.made ≤ self.old.made + 1 }
+    {
+        let among = self.made + 1;
+        let kind = self.draw() % 8;
+        let owner = self.draw() % among;
+        let third = self.draw();
+        let object = 1 + third % among;
+        if kind < 4 {
+            self.made += 1;
+            return new_line(owner, third % 1000);
+        }
+        if kind == 4 {
+            return pair_line("call steal ", owner, object);
+        }
+        if kind == 5 {
+            return free_line(object);
+        }
+        if kind == 6 {
+            return pair_line("call reference ", owner, object);
+        }
+        pair_line("call unlink ", owner, object)
+    }
+}
