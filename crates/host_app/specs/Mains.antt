@@ -1,15 +1,26 @@
 -- What the top call answers and says.
-use Rattle.std.specs.Prelude.{ℕ, Bool, false, List, [], ◌∷◌, length, take, Option, codes, ◌⊎◌}
-use Rattle.std.specs.Str.{bytes_eq}
+use Rattle.std.specs.Prelude.{ℕ, List, [], length, take, map, Option, Result, Ok, Err, String, ◌⊎◌}
+use Rattle.std.specs.String.{string_bytes}
 use Rattle.std.specs.Io.KnownBytes.{Appends}
 use Rattle.outside.specs.Causes.{Rose}
 use Rattle.outside.specs.Puts.{IsBeyond}
+use Rattle.outside.specs.declared.output.PutError.TheVariants as put_errors
+use Rattle.load_schedule.specs.Loads.{PutsFiveLines}
+use Rattle.command_words.specs.declared.command.Command.{Command}
+use Rattle.command_words.specs.CommandLine.{command_of}
+use Rattle.host_app.specs.declared.status.Status.{Status}
+use Rattle.host_app.specs.declared.status.Status.TheVariants as statuses
 
--- the words are the one word `replay`
-abbrev pub is_replay : List (List ℕ) → Bool
-is_replay [] = false
-is_replay (word ∷ []) = bytes_eq word (codes "replay")
-is_replay (word ∷ other ∷ words) = false
+-- the command that the words name; none where they aren't taken
+abbrev pub names : {Z : Type 0} → List (String Z) → Option Command
+names words = command_of (map (λ w. string_bytes w) words)
+
+-- How a load ends: with the five lines, or with a prefix of them after a fault or without memory, and in no other way.
+abbrev pub Loads : ℕ → ℕ → Option (List ℕ) → Option (List ℕ) → Status → Type 0
+Loads number count held now statuses.Done = PutsFiveLines number count held now (Ok tt)
+Loads number count held now statuses.WriteFault = PutsFiveLines number count held now (Err put_errors.Write)
+Loads number count held now statuses.NoMemory = PutsFiveLines number count held now (Err put_errors.Memory)
+Loads number count held now _ = ⊥
 
 -- a prefix of the text has been said, as a put failed or the room that the sink told was less than the text
 pub record SaysFront (held now : Option (List ℕ)) (room : Option ℕ) (faults faults_now : ℕ) (text : List ℕ) : Type 0 where

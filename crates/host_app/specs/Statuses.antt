@@ -1,10 +1,12 @@
 -- The statuses and what is said of them.
-use Rattle.std.specs.Prelude.{ℕ, List, [], ◌++◌, codes}
+use Rattle.std.specs.Prelude.{ℕ, List, [], ◌++◌, Result, Ok, Err, codes}
 use Rattle.std.specs.Fmt.{decimal}
 use Rattle.tree_specs.specs.declared.schedule.Reason.{Reason}
 use Rattle.tree_specs.specs.declared.schedule.Reason.TheVariants.{Limit, Form, NotAsked}
 use Rattle.schedule_replay.specs.declared.ran.Ran.{Ran}
 use Rattle.schedule_replay.specs.declared.ran.Ran.TheVariants as rans
+use Rattle.outside.specs.declared.output.PutError.{PutError}
+use Rattle.outside.specs.declared.output.PutError.TheVariants as put_errors
 use Rattle.host_app.specs.declared.status.Status.{Status}
 use Rattle.host_app.specs.declared.status.Status.TheVariants as statuses
 
@@ -14,6 +16,12 @@ status_of rans.ReadFault = statuses.ReadFault
 status_of (rans.BadSchedule line reason) = statuses.BadSchedule line reason
 status_of rans.WriteFault = statuses.WriteFault
 status_of rans.Memory = statuses.NoMemory
+
+-- how a load ended
+abbrev pub status_of_load : Result (Unit {0}) PutError → Status
+status_of_load (Ok done) = statuses.Done
+status_of_load (Err put_errors.Write) = statuses.WriteFault
+status_of_load (Err put_errors.Memory) = statuses.NoMemory
 
 -- the number that the program ends with
 abbrev pub status_number : Status → ℕ
@@ -33,11 +41,11 @@ reason_text NotAsked = codes ": not asked\n"
 abbrev pub line_text : ℕ → Reason → List ℕ
 line_text line reason = codes "line " ++ decimal line ++ reason_text reason
 
--- what is said of a status
+-- what is said of a status; where words aren't taken `clap` has said what to type
 abbrev pub status_text : Status → List ℕ
 status_text statuses.Done = []
 status_text statuses.ReadFault = codes "read fault\n"
-status_text statuses.Usage = codes "usage\n"
+status_text statuses.Usage = []
 status_text (statuses.BadSchedule line reason) = line_text line reason
 status_text statuses.WriteFault = codes "write fault\n"
 status_text statuses.NoMemory = codes "no memory\n"

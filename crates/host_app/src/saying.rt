@@ -38,9 +38,8 @@ pub fn say<E: Sink>(err: &mut E, status: Status) -> Result<(), PutError>
     ensures room { LeavesRoom (E.room err.old) (E.room err.new) result (length (status_text status)) }
 {
     match status {
-        Status::Done => Ok(()),
+        Status::Done | Status::Usage => Ok(()),
         Status::ReadFault => put_all(err, b"read fault\n"),
-        Status::Usage => put_all(err, b"usage\n"),
         Status::BadSchedule { line, reason } => say_line(err, line, reason),
         Status::WriteFault => put_all(err, b"write fault\n"),
         Status::NoMemory => put_all(err, b"no memory\n"),

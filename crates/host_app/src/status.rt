@@ -1,6 +1,7 @@
 ghost use Rattle.std.specs.Prelude.{◌≡◌};
-ghost use Rattle.host_app.specs.Statuses.{status_of, status_number};
+ghost use Rattle.host_app.specs.Statuses.{status_of, status_of_load, status_number};
 
+use outside::PutError;
 use schedule_replay::Ran;
 use tree_specs::Reason;
 
@@ -11,7 +12,7 @@ pub enum Status {
     Done,
     /// A read failed. Status 1.
     ReadFault,
-    /// The words are none that the program takes. Status 2.
+    /// The words are none that the program takes, or ask for help. Status 2.
     Usage,
     /// The line with this number, from 1, is the first that was refused. Status 3.
     BadSchedule { line: u64, reason: Reason },
@@ -47,6 +48,18 @@ impl From<Ran> for Status {
             Ran::BadSchedule { line, reason } => Status::BadSchedule { line, reason },
             Ran::WriteFault => Status::WriteFault,
             Ran::Memory => Status::NoMemory,
+        }
+    }
+}
+
+impl From<Result<(), PutError>> for Status {
+    ghost from_gives = { λ loaded status. status ≡ status_of_load loaded };
+
+    fn from(loaded: Result<(), PutError>) -> Status {
+        match loaded {
+            Ok(()) => Status::Done,
+            Err(PutError::Write) => Status::WriteFault,
+            Err(PutError::Memory) => Status::NoMemory,
         }
     }
 }

@@ -1,7 +1,8 @@
 ghost use Rattle.std.specs.Prelude.{◌≤◌};
 
 use super::*;
-use outside::{FineSink, MemSink, MemSource, StdSink, StdSource};
+use outside::{FineSink, FineSource, MemSink, MemSource, StdSink, StdSource};
+use std::process::Abort;
 use std::test::Fail;
 use tree_specs::Reason;
 
@@ -59,7 +60,7 @@ fn run_with(
 }
 
 // It ended so, and wrote and said these bytes.
-fn ends(rt: &HostRuntime, told: &Answer, status: Status, out: &[u8], err: &[u8]) {
+fn ends(rt: &impl Abort, told: &Answer, status: Status, out: &[u8], err: &[u8]) {
     assert_eq!(rt; told.status, status);
     assert_eq!(rt; told.out.as_slice(), out, "at {status:?}");
     assert_eq!(rt; told.err.as_slice(), err, "at {status:?}");
@@ -150,16 +151,48 @@ fn a_fault_leaves_what_whole_lines_tell(rt: HostRuntime) -> Result<(), Fail> {
     Ok(())
 }
 
-#[test]
-fn other_words_are_refused(rt: HostRuntime) -> Result<(), Fail> {
-    let words = word(&rt, "replays")?;
-    let mut input = MemSource::new(CHILDREN.to_vec(rt.alloc())?, 4096, Vec::new(rt.alloc()));
+// A run of these words: what it answered, wrote and said.
+fn run_words(rt: &HostRuntime, texts: &[&str]) -> Result<Answer, Fail> {
+    let mut words = Vec::new(rt.alloc());
+    for text in texts {
+        words.push(text.to_string(rt.alloc())?)?;
+    }
+    let mut input = FineSource::new(CHILDREN.to_vec(rt.alloc())?);
     let mut out = FineSink::new(rt.alloc(), 0)?;
     let mut err = FineSink::new(rt.alloc(), 0)?;
     let status = host_main(rt.alloc(), &words, &mut input, &mut out, &mut err);
-    assert_eq!(rt; status, Status::Usage);
-    assert_eq!(rt; out.held().len(), 0);
-    assert_eq!(rt; err.held(), b"usage\n".as_slice());
+    Ok(Answer {
+        status,
+        out: out.held().to_vec(rt.alloc())?,
+        err: err.held().to_vec(rt.alloc())?,
+    })
+}
+
+const UNKNOWN: &[u8] = b"error: unrecognized subcommand 'replays'
+
+  tip: a similar subcommand exists: 'replay'
+
+Usage: tvhost <COMMAND>
+
+For more information, try '--help'.
+";
+
+#[test]
+fn other_words_are_refused_with_what_to_type(rt: HostRuntime) -> Result<(), Fail> {
+    let told = run_words(&rt, &["replays"])?;
+    ends(&rt, &told, Status::Usage, b"", UNKNOWN);
+    let none = run_words(&rt, &[])?;
+    assert_eq!(rt; none.status, Status::Usage);
+    let short = run_words(&rt, &["load", "1"])?;
+    assert_eq!(rt; short.status, Status::Usage);
+    Ok(())
+}
+
+#[test]
+fn loads_a_schedule_made_from_a_number(rt: HostRuntime) -> Result<(), Fail> {
+    let told = run_words(&rt, &["load", "1", "4"])?;
+    let lines = b"calls 4\nrefused 2\nfreed 0\ndropped 0\nlive 2\n";
+    ends(&rt, &told, Status::Done, lines, b"");
     Ok(())
 }
 

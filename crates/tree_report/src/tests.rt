@@ -2,14 +2,14 @@ ghost use Rattle.std.specs.Prelude.{◌<◌};
 ghost use Rattle.tree_specs.specs.Calls.Refusals.{size_limit};
 
 use super::*;
-use outside::{Done, FineSink, MemSink, Sink};
+use outside::{Done, FineSink, Sink};
 use references::{Refs, refer};
 use std::alloc::Global;
 use std::marker::Model;
 use std::process::Abort;
 use std::test::Fail;
 use tree_links::{NewRow, Tree};
-use tree_specs::{Kind, Memory, Name, Obj, Owner, ReportRows};
+use tree_specs::{Kind, Memory, Name, Obj, Owner};
 
 // A tree, and the references among its rows.
 #[derive(Drop)]
@@ -72,10 +72,6 @@ impl World {
         Ok(refer(target, owner, &mut self.tree, &mut self.refs))
     }
 
-    fn rows(&self, alloc: Global, from: Owner) -> Result<ReportRows, Memory> {
-        rows(alloc, &self.tree, &self.refs, from)
-    }
-
     fn report<K: Sink>(&self, alloc: Global, from: Owner, out: &mut K) -> Result<Done, Memory> {
         report(alloc, &self.tree, &self.refs, from, out)
     }
@@ -106,40 +102,6 @@ fn expect_report(
     Ok(())
 }
 
-#[test]
-fn a_long_chain_is_walked_down(rt: HostRuntime) -> Result<(), Fail> {
-    let mut world = World::new(rt.alloc());
-    let mut owner = Owner::Root;
-    for _n in 0..300 {
-        owner = Owner::Of(world.add(&rt, rt.alloc(), "link", 2, owner)?);
-    }
-    assert_eq!(rt; total(&world.tree, Owner::Root), 600);
-    assert_eq!(rt; count(&world.tree, Owner::Root), 300);
-    assert_eq!(rt; total(&world.tree, Owner::Of(Obj(101))), 400);
-    let all = world.rows(rt.alloc(), Owner::Root)?;
-    assert_eq!(rt; all.as_slice().len(), 301);
-    let mut depth = 0;
-    for row in all.as_slice() {
-        assert_eq!(rt; (row.depth, row.id), (depth, u64::from(depth)));
-        depth = depth.wrapping_add(1);
-    }
-    Ok(())
-}
-
-const LINES: &[u8] = b"row 0 2 plain 200 0 0 left\nrow 1 3 plain 3000 0 0 leaf\n";
-
-// The sink takes ten bytes, and then fails.
-#[test]
-fn a_sink_that_fails_has_a_prefix_of_the_report(rt: HostRuntime) -> Result<(), Fail> {
-    let mut world = World::new(rt.alloc());
-    add_five(&rt, rt.alloc(), &mut world)?;
-    let mut out = MemSink::new(rt.alloc(), 10, 0, [2].to_vec(rt.alloc())?)?;
-    let done = world.report(rt.alloc(), Owner::Of(Obj(2)), &mut out)?;
-    assert_eq!(rt; done, Done::Failed);
-    assert_eq!(rt; out.held(), &LINES[..10]);
-    Ok(())
-}
-
 const REFERENCES: &[u8] =
     b"row 0 1 plain 10 1 0 top\nrow 1 7 reference 0 0 2 reference\nrow 1 4 plain 40000 0 0 right\nrow 1 2 plain 200 2 0 left\nrow 2 3 plain 3000 0 0 leaf\n";
 
@@ -147,11 +109,15 @@ const REFERENCES: &[u8] =
 #[test]
 fn references_are_shown_and_counted(rt: HostRuntime) -> Result<(), Fail> {
     let mut world = World::new(rt.alloc());
-    add_five(&rt, rt.alloc(), &mut world)?;
-    world.refer(&rt, Obj(2), Owner::Of(Obj(5)))?;
-    world.refer(&rt, Obj(2), Owner::Of(Obj(1)))?;
-    world.refer(&rt, Obj(1), Owner::Of(Obj(5)))?;
-    expect_report(&rt, rt.alloc(), &world, Owner::Of(Obj(1)), REFERENCES)?;
+    show_references(&rt, rt.alloc(), &mut world)
+}
+
+fn show_references(rt: &impl Abort, alloc: Global, world: &mut World) -> Result<(), Fail> {
+    add_five(rt, alloc, world)?;
+    world.refer(rt, Obj(2), Owner::Of(Obj(5)))?;
+    world.refer(rt, Obj(2), Owner::Of(Obj(1)))?;
+    world.refer(rt, Obj(1), Owner::Of(Obj(5)))?;
+    expect_report(rt, alloc, world, Owner::Of(Obj(1)), REFERENCES)?;
     assert_eq!(rt; total(&world.tree, Owner::Root), 543_210);
     assert_eq!(rt; count(&world.tree, Owner::Root), 5);
     Ok(())

@@ -1,4 +1,5 @@
-//! `tvhost replay` reads a schedule from standard input and writes its transcript to standard output.
+//! `tvhost replay` reads a schedule from standard input and writes its transcript to standard output, and
+//! `tvhost load NUMBER COUNT` writes five lines on a schedule that is made from a number.
 #![tactic(auto)]
 
 use host_app::{Status, host_main};
