@@ -13,7 +13,7 @@ use Rattle.tree_specs.specs.Rules.Story.{hook_moment}
 use Rattle.tree_specs.specs.Machine.Profiles.{Phase, free_profile, call_profile}
 use Rattle.tree_specs.specs.Invariants.Sound.{Footing, footing, claims, MayWait, IsWaiting, AllWait, FreeRests}
 use Rattle.tree_specs.specs.Invariants.Sound.Footing.{OnCall}
-use Rattle.tree_specs.specs.Invariants.Whole.{Serves, Seated, sizes, Whole}
+use Rattle.tree_specs.specs.Invariants.Consistent.{Serves, IsStacked, sizes, IsConsistent}
 use Rattle.tree_specs.specs.Invariants.Alone.{free_footing, free_claim, free_claims, AllFreesWait, free_sizes, AwaitsRun, FreesWork, FreesWait}
 use Rattle.destructors.specs.Callers.{standing, under, free_view, call_view}
 
@@ -35,14 +35,14 @@ waits-call (Awaiting q x) gs w = refl
 waits-call _ gs w = absurd w
 
 -- a free stands on its call, whatever caller that is
-standing-footing : (g : FreeFrame) (fs : List FreeFrame) (cs : List CallFrame) → Seated (frame.Free g) (standing fs cs) → AllWait (standing fs cs) → footing (standing fs cs) ≡ free_footing fs
+standing-footing : (g : FreeFrame) (fs : List FreeFrame) (cs : List CallFrame) → IsStacked (frame.Free g) (standing fs cs) → AllWait (standing fs cs) → footing (standing fs cs) ≡ free_footing fs
 standing-footing g [] [] s w = absurd s
 standing-footing g [] (c ∷ cs) s w = waits-call c (map (λ c. frame.Call c) cs) w.0
 standing-footing g (Hooked x h ∷ fs) [] s w = absurd s.0
 standing-footing g (Hooked x h ∷ fs) (c ∷ cs) s w = waits-call c (frame.Free (Hooked x h) ∷ standing fs cs) w.0
 standing-footing g (f ∷ fs) cs s w = refl
 
-standing-waits : (g : FreeFrame) (fs : List FreeFrame) (cs : List CallFrame) → Seated (frame.Free g) (standing fs cs) → AllWait (standing fs cs) → AllFreesWait fs
+standing-waits : (g : FreeFrame) (fs : List FreeFrame) (cs : List CallFrame) → IsStacked (frame.Free g) (standing fs cs) → AllWait (standing fs cs) → AllFreesWait fs
 standing-waits g [] cs s w = tt
 standing-waits g (Hooked x h ∷ fs) [] s w = absurd s.0
 standing-waits g (Hooked x h ∷ fs) (c ∷ cs) s w = (w.1.0, standing-waits (Hooked x h) fs cs s.1.1 w.1.1)
@@ -53,7 +53,7 @@ no-call : (c d : CallFrame) → Serves (call_profile d).waits (frame.Call c) →
 no-call c (Awaiting q x) s = s
 no-call c _ s = s
 
-standing-sizes : (g : FreeFrame) (fs : List FreeFrame) (cs : List CallFrame) → Seated (frame.Free g) (standing fs cs) → sizes (standing fs cs) ≡ free_sizes fs
+standing-sizes : (g : FreeFrame) (fs : List FreeFrame) (cs : List CallFrame) → IsStacked (frame.Free g) (standing fs cs) → sizes (standing fs cs) ≡ free_sizes fs
 standing-sizes g [] [] s = absurd s
 standing-sizes g [] (c ∷ []) s = refl
 standing-sizes g [] (c ∷ d ∷ cs) s = absurd (no-call c d s.1.0)
@@ -66,7 +66,7 @@ same-claims : (f : FreeFrame) (on : Footing) (a b : Obj → List Phase) (p : Poo
 same-claims (Leaving x h) on a b p e r = (r.0, r.1, r.2, sym (e x) ∙ r.3, r.4, r.5)
 same-claims _ on a b p e r = r
 
-pub work-alone : (f : FreeFrame) (fs : List FreeFrame) (cs : List CallFrame) (p : Pool) → Whole (free_view f fs cs p) → FreesWork f fs p
+pub work-alone : (f : FreeFrame) (fs : List FreeFrame) (cs : List CallFrame) (p : Pool) → IsConsistent (free_view f fs cs p) → FreesWork f fs p
 work-alone f fs cs p w =
     let n = standing-sizes f fs cs w.seated in
     let l = w.light in
@@ -84,7 +84,7 @@ work-alone f fs cs p w =
       light = omega (arith, n, l);
     }
 
-pub call-alone : (c : CallFrame) (fs : List FreeFrame) (cs : List CallFrame) (p : Pool) → Whole (call_view c fs cs p) → FreesWait fs p
+pub call-alone : (c : CallFrame) (fs : List FreeFrame) (cs : List CallFrame) (p : Pool) → IsConsistent (call_view c fs cs p) → FreesWait fs p
 call-alone c fs cs p w = record {
   sound = record {
     started = w.sound.started;
@@ -102,16 +102,16 @@ call-alone c fs cs p w = record {
     under-claims x [] = callers-claim x cs
     under-claims x (f ∷ fs) = ap (λ (l : List Phase). free_claim x f ++ l) (standing-claims x fs cs)
 
-    runs : (fs : List FreeFrame) → Seated (frame.Call c) (under fs cs) → AwaitsRun fs
+    runs : (fs : List FreeFrame) → IsStacked (frame.Call c) (under fs cs) → AwaitsRun fs
     runs [] s = tt
     runs (Hooked x h ∷ fs) s = tt
     runs (_ ∷ fs) s = absurd s.0
 
-    waits : (fs : List FreeFrame) → Seated (frame.Call c) (under fs cs) → AllWait (under fs cs) → AllFreesWait fs
+    waits : (fs : List FreeFrame) → IsStacked (frame.Call c) (under fs cs) → AllWait (under fs cs) → AllFreesWait fs
     waits [] s w = tt
     waits (f ∷ fs) s w = (subst (MayWait (free_profile f).waits) (standing-footing f fs cs s.1 w.1) w.0, standing-waits f fs cs s.1 w.1)
 
-    under-sizes : (fs : List FreeFrame) (cs : List CallFrame) → Seated (frame.Call c) (under fs cs) → 2 + sizes (under fs cs) ≡ free_sizes fs
+    under-sizes : (fs : List FreeFrame) (cs : List CallFrame) → IsStacked (frame.Call c) (under fs cs) → 2 + sizes (under fs cs) ≡ free_sizes fs
     under-sizes [] [] s = refl
     under-sizes [] (d ∷ cs) s = absurd (no-call c d s.0)
     under-sizes (Hooked x h ∷ fs) cs s = let n = standing-sizes (Hooked x h) fs cs s.1 in omega (arith, n)
@@ -129,7 +129,7 @@ some-footing [] = refl
 some-footing (Hooked x h ∷ fs) = refl
 some-footing (f ∷ fs) = refl
 
-some-seated : (g : FreeFrame) (fs : List FreeFrame) → Seated (frame.Free g) (standing fs (some_callers fs))
+some-seated : (g : FreeFrame) (fs : List FreeFrame) → IsStacked (frame.Free g) (standing fs (some_callers fs))
 some-seated g [] = (tt, tt)
 some-seated g (Hooked x h ∷ fs) = (tt, (tt, some-seated (Hooked x h) fs))
 some-seated g (f ∷ fs) = (tt, some-seated f fs)
@@ -139,7 +139,7 @@ some-wait [] w = (tt, tt)
 some-wait (Hooked x h ∷ fs) w = (tt, (w.0, some-wait fs w.1))
 some-wait (f ∷ fs) w = (subst (MayWait (free_profile f).waits) (sym (some-footing fs)) w.0, some-wait fs w.1)
 
-pub among : (f : FreeFrame) (fs : List FreeFrame) (p : Pool) → FreesWork f fs p → Whole (free_view f fs (some_callers fs) p)
+pub among : (f : FreeFrame) (fs : List FreeFrame) (p : Pool) → FreesWork f fs p → IsConsistent (free_view f fs (some_callers fs) p)
 among f fs p w =
     let n = standing-sizes f fs (some_callers fs) (some-seated f fs) in
     let l = w.light in

@@ -6,7 +6,7 @@ use Rattle.tree_specs.specs.Machine.Profiles.{InLoop}
 use Rattle.tree_specs.specs.declared.frame.Frame.{Frame}
 use Rattle.tree_specs.specs.declared.frame.Frame.TheVariants as frame
 use Rattle.tree_specs.specs.declared.frame.FreeFrame.{FreeFrame}
-use Rattle.tree_specs.specs.declared.frame.FreeFrame.TheVariants.{Unlinking, Releasing, Giving, Beginning, Hooked, Judged, Leaving, Looping, Trying, Tried, Ending}
+use Rattle.tree_specs.specs.declared.frame.FreeFrame.TheVariants.{Unlinking, Releasing, Giving, Beginning, Hooked, Judged, Leaving, Looping, FreeingChild, AfterChild, Ending}
 use Rattle.tree_specs.specs.declared.frame.Purpose.{Purpose}
 use Rattle.tree_specs.specs.declared.frame.Purpose.TheVariants.{Removal, Emptying}
 use Rattle.tree_specs.specs.declared.free_step.FreeReply.{FreeReply}
@@ -91,14 +91,14 @@ module _ (p : Pool) (fs : List Frame) where
       each mark.Busy = marked-same mark.Doomed p.rows x
       each _ = refl
 
-  hands : (x c : Obj) (noted : Option Owner) (purpose : Purpose) (a : FreeReply) → Sound (frame.Free (Tried x c noted purpose a)) fs p → MoveChanges (free_step (Tried x c noted purpose a) p) p.rows
+  hands : (x c : Obj) (noted : Option Owner) (purpose : Purpose) (a : FreeReply) → Sound (frame.Free (AfterChild x c noted purpose a)) fs p → MoveChanges (free_step (AfterChild x c noted purpose a) p) p.rows
   hands x c noted purpose replies.Ok s = refl
   hands x c noted purpose replies.Held s = by_test (is_below (owner_of p.rows c) (Of x))
-      (λ t. rw t (is_below-some (owner_of p.rows c) (Of x) t, rests (Tried x c noted purpose replies.Held) fs p s t, refl)) (λ t. rw t refl)
+      (λ t. rw t (is_below-some (owner_of p.rows c) (Of x) t, rests (AfterChild x c noted purpose replies.Held) fs p s t, refl)) (λ t. rw t refl)
   hands x c noted purpose replies.Running s = by_test (is_below (owner_of p.rows c) (Of x))
-      (λ t. rw t (is_below-some (owner_of p.rows c) (Of x) t, rests (Tried x c noted purpose replies.Running) fs p s t, refl)) (λ t. rw t refl)
+      (λ t. rw t (is_below-some (owner_of p.rows c) (Of x) t, rests (AfterChild x c noted purpose replies.Running) fs p s t, refl)) (λ t. rw t refl)
   hands x c noted purpose (replies.Refused v) s = by_test (is_below (owner_of p.rows c) (Of x))
-      (λ t. rw t (is_below-some (owner_of p.rows c) (Of x) t, rests (Tried x c noted purpose (replies.Refused v)) fs p s t, refl)) (λ t. rw t refl)
+      (λ t. rw t (is_below-some (owner_of p.rows c) (Of x) t, rests (AfterChild x c noted purpose (replies.Refused v)) fs p s t, refl)) (λ t. rw t refl)
 
   pub move-changes : (f : FreeFrame) → Sound (frame.Free f) fs p → MoveChanges (free_step f p) p.rows
   move-changes (Unlinking o x) s = each (newest_ref_of p.rows o x) refl
@@ -135,8 +135,8 @@ module _ (p : Pool) (fs : List Frame) where
       each : (q : Option Obj) → first_kid p.rows (Of x) ≡ q → MoveChanges (free_step (Looping x purpose) p) p.rows
       each None e = last purpose s e
       each (Some c) e = child c e (target_at p.rows c) refl
-  move-changes (Trying x c noted purpose) s = absurd s.rests
-  move-changes (Tried x c noted purpose a) s = hands x c noted purpose a s
+  move-changes (FreeingChild x c noted purpose) s = absurd s.rests
+  move-changes (AfterChild x c noted purpose a) s = hands x c noted purpose a s
   move-changes (Ending a) s = refl
 
 -- ---- a move of the open frees
@@ -154,8 +154,8 @@ quiet-rows (Do.Done a q) fs rs s c e = c' fs e
     c' (Judged x h v ∷ fs) e = subst (λ (z : OpenFrees). SameRows rs z.pool.rows) (ap (λ (z : Option FreeStep × OpenFrees). z.1) e) c
     c' (Leaving x h ∷ fs) e = subst (λ (z : OpenFrees). SameRows rs z.pool.rows) (ap (λ (z : Option FreeStep × OpenFrees). z.1) e) c
     c' (Looping x purpose ∷ fs) e = subst (λ (z : OpenFrees). SameRows rs z.pool.rows) (ap (λ (z : Option FreeStep × OpenFrees). z.1) e) c
-    c' (Trying x d noted purpose ∷ fs) e = subst (λ (z : OpenFrees). SameRows rs z.pool.rows) (ap (λ (z : Option FreeStep × OpenFrees). z.1) e) c
-    c' (Tried x d noted purpose b ∷ fs) e = subst (λ (z : OpenFrees). SameRows rs z.pool.rows) (ap (λ (z : Option FreeStep × OpenFrees). z.1) e) c
+    c' (FreeingChild x d noted purpose ∷ fs) e = subst (λ (z : OpenFrees). SameRows rs z.pool.rows) (ap (λ (z : Option FreeStep × OpenFrees). z.1) e) c
+    c' (AfterChild x d noted purpose b ∷ fs) e = subst (λ (z : OpenFrees). SameRows rs z.pool.rows) (ap (λ (z : Option FreeStep × OpenFrees). z.1) e) c
     c' (Ending b ∷ fs) e = subst (λ (z : OpenFrees). SameRows rs z.pool.rows) (ap (λ (z : Option FreeStep × OpenFrees). z.1) e) c
 quiet-rows (Do.Go f q) fs rs s c e = subst (λ (z : OpenFrees). SameRows rs z.pool.rows) (ap (λ (z : Option FreeStep × OpenFrees). z.1) e) c
 quiet-rows (Do.Emit t f q) fs rs s c e = let bad : Some t ≡ None = ap (λ (z : Option FreeStep × OpenFrees). z.0) e in cc
@@ -184,8 +184,8 @@ told-rows (Do.Done a q) fs rs t s c e = c' fs e
     c' (Judged x h v ∷ fs) e = none _ e
     c' (Leaving x h ∷ fs) e = none _ e
     c' (Looping x purpose ∷ fs) e = none _ e
-    c' (Trying x d noted purpose ∷ fs) e = none _ e
-    c' (Tried x d noted purpose b ∷ fs) e = none _ e
+    c' (FreeingChild x d noted purpose ∷ fs) e = none _ e
+    c' (AfterChild x d noted purpose b ∷ fs) e = none _ e
     c' (Ending b ∷ fs) e = none _ e
 told-rows (Do.Go f q) fs rs t s c e = let bad : None ≡ Some t = ap (λ (z : Option FreeStep × OpenFrees). z.0) e in cc
 told-rows (Do.Emit u f q) fs rs t s c e = told-by rs (Some u) _ t s (λ v w. let w' : u ≡ v = cc in subst (λ (z : FreeStep). ChangedBy z rs q.rows) w' c) e

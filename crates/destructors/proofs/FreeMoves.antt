@@ -2,7 +2,7 @@
 use Rattle.std.proofs.Common.{◌≡◌, ℕ, ◌<◌, nat_eq, Option, Some, None, refl, sym, subst, arith}
 use Rattle.step_machine.specs.Machine.{Move as Do}
 use Rattle.tree_specs.specs.declared.frame.FreeFrame.{FreeFrame}
-use Rattle.tree_specs.specs.declared.frame.FreeFrame.TheVariants.{Unlinking, Releasing, Giving, Beginning, Hooked, Judged, Leaving, Looping, Tried}
+use Rattle.tree_specs.specs.declared.frame.FreeFrame.TheVariants.{Unlinking, Releasing, Giving, Beginning, Hooked, Judged, Leaving, Looping, AfterChild}
 use Rattle.tree_specs.specs.declared.frame.Purpose.{Purpose}
 use Rattle.tree_specs.specs.declared.frame.Purpose.TheVariants.{Removal, Emptying}
 use Rattle.tree_specs.specs.declared.free_step.FreeReply.TheVariants.{Held, Running, Refused}
@@ -83,9 +83,9 @@ is_move (Looping x purpose) p = each purpose (first_kid p.rows (Of x))
         taken c (Some target) = tt
     each (Removal h) None = tt
     each Emptying None = tt
-is_move (Tried x c noted purpose Held) p = by_test (is_below (owner_of p.rows c) (Of x)) (λ t. rw t tt) (λ t. rw t tt)
-is_move (Tried x c noted purpose Running) p = by_test (is_below (owner_of p.rows c) (Of x)) (λ t. rw t tt) (λ t. rw t tt)
-is_move (Tried x c noted purpose (Refused v)) p = by_test (is_below (owner_of p.rows c) (Of x)) (λ t. rw t tt) (λ t. rw t tt)
+is_move (AfterChild x c noted purpose Held) p = by_test (is_below (owner_of p.rows c) (Of x)) (λ t. rw t tt) (λ t. rw t tt)
+is_move (AfterChild x c noted purpose Running) p = by_test (is_below (owner_of p.rows c) (Of x)) (λ t. rw t tt) (λ t. rw t tt)
+is_move (AfterChild x c noted purpose (Refused v)) p = by_test (is_below (owner_of p.rows c) (Of x)) (λ t. rw t tt) (λ t. rw t tt)
 is_move _ p = tt
 
 -- there is room for a work that is put below another

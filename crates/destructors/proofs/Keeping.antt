@@ -6,7 +6,7 @@ use Rattle.tree_specs.specs.declared.frame.Frame.{Frame}
 use Rattle.tree_specs.specs.declared.frame.Frame.TheVariants as frame
 use Rattle.tree_specs.specs.declared.frame.CallFrame.{CallFrame}
 use Rattle.tree_specs.specs.declared.frame.FreeFrame.{FreeFrame}
-use Rattle.tree_specs.specs.declared.frame.FreeFrame.TheVariants.{Unlinking, Releasing, Giving, Beginning, Hooked, Judged, Leaving, Looping, Tried}
+use Rattle.tree_specs.specs.declared.frame.FreeFrame.TheVariants.{Unlinking, Releasing, Giving, Beginning, Hooked, Judged, Leaving, Looping, AfterChild}
 use Rattle.tree_specs.specs.declared.frame.Purpose.{Purpose}
 use Rattle.tree_specs.specs.declared.frame.Purpose.TheVariants.{Removal, Emptying}
 use Rattle.tree_specs.specs.declared.frame.Answer.TheVariants.{Freed}
@@ -28,7 +28,7 @@ use Rattle.tree_specs.specs.Tree.Inside.{total}
 use Rattle.tree_specs.specs.Machine.Table.{FreeMove, free_step, begin_step, refs_step, unlink_step, release_step, child_step, loop_step, hand_on_step, caller_resume}
 use Rattle.tree_specs.specs.Invariants.Measure.{below_cost, loop_kids, top_cost, cost}
 use Rattle.tree_specs.specs.Invariants.Sound.{claims, IsLive, Sound}
-use Rattle.tree_specs.specs.Invariants.Whole.{Seated, Whole}
+use Rattle.tree_specs.specs.Invariants.Consistent.{IsStacked, IsConsistent}
 use Rattle.tree_specs.specs.Invariants.Sound.{MayBePlaced}
 use Rattle.tree_specs.proofs.Tree.Numbered.{by_test}
 use Rattle.tree_specs.proofs.Tree.Rows.{total-without, total-placed, total-changed}
@@ -76,7 +76,7 @@ rests (Looping x (Removal h)) fs p s =
     quiet-row r e d (Some t) q =
         let still : r.mark ≡ Quiet = rw e at (s.refers.quiet x t q) in
         let bad : false ≡ true = ap is_dying_mark (sym still) ∙ d in cc
-rests (Tried x c noted purpose a) fs p s = hands-on x c noted _ fs p s
+rests (AfterChild x c noted purpose a) fs p s = hands-on x c noted _ fs p s
 rests _ fs p s = tt
 
 pub work-rests : (f : FreeFrame) (fs : List FreeFrame) (p : Pool) → AtWork (f ∷ fs) p → MoveRests f p
@@ -86,7 +86,7 @@ work-rests f fs p w = rests f (standing fs (some_callers fs)) p (among f fs p w)
 
 -- the works of a host, whatever inputs are left
 abbrev IsHost : Frame → List Frame → Pool → ℕ → Type 0
-IsHost f fs p k = Whole (record { innermost = f; below = fs; pool = p })
+IsHost f fs p k = IsConsistent (record { innermost = f; below = fs; pool = p })
 
 -- a move leads from works of a host to works of a host, with the callers that the frees could have
 whole-lifted : (f : FreeFrame) (fs : List FreeFrame) (p : Pool) → AtWork (f ∷ fs) p → OnMove IsHost (some_callers fs) 0 (moves (f ∷ fs) p)
@@ -102,11 +102,11 @@ pub kept : (f : FreeFrame) (fs : List FreeFrame) (p : Pool) (t : OpenFrees) → 
 kept f fs p t w e = news t.works (some_callers fs) t.pool (subst (OnMove IsHost (some_callers fs) 0) e (whole-lifted f fs p w))
 
 -- some caller waits for the innermost free
-pub callers-wait : (f : FreeFrame) (fs : List FreeFrame) (cs : List CallFrame) → Seated (frame.Free f) (standing fs cs) → (c : CallFrame) × (ds : List CallFrame) × (cs ≡ c ∷ ds)
+pub callers-wait : (f : FreeFrame) (fs : List FreeFrame) (cs : List CallFrame) → IsStacked (frame.Free f) (standing fs cs) → (c : CallFrame) × (ds : List CallFrame) × (cs ≡ c ∷ ds)
 callers-wait f fs (c ∷ ds) s = (c, ds, refl)
 callers-wait f fs [] s = absurd (none f fs s)
   where
-    none : (f : FreeFrame) (fs : List FreeFrame) → Seated (frame.Free f) (standing fs []) → ⊥
+    none : (f : FreeFrame) (fs : List FreeFrame) → IsStacked (frame.Free f) (standing fs []) → ⊥
     none f [] s = s
     none f (Hooked x h ∷ fs) s = s.0
     none f (g ∷ fs) s = none g fs s.1
@@ -208,7 +208,7 @@ slim-begin x p = each (row_of p.rows x) refl
     each None e = rw e (omega arith)
     each (Some r) e = marks r r.mark refl e
 
-slim-handed : (x c : Obj) (noted : Option Owner) (purpose : Purpose) (a : FreeReply) (fs : List Frame) (p : Pool) → Sound (frame.Free (Tried x c noted purpose a)) fs p → Slim (1 + total row_places p.rows) (hand_on_step x c noted purpose p)
+slim-handed : (x c : Obj) (noted : Option Owner) (purpose : Purpose) (a : FreeReply) (fs : List Frame) (p : Pool) → Sound (frame.Free (AfterChild x c noted purpose a)) fs p → Slim (1 + total row_places p.rows) (hand_on_step x c noted purpose p)
 slim-handed x c noted purpose a fs p s = by_test (is_below (owner_of p.rows c) (Of x))
     (λ t. let may = heir-placed x c noted _ fs p s t in let w = total-placed row_places p (heir p.rows x c noted) c may.row may.is refl in rw t (omega (arith, w)))
     (λ t. rw t (omega arith))
@@ -258,9 +258,9 @@ slim (Looping x purpose) fs p s = each purpose s (first_kid p.rows (Of x))
         let w = total-without row_places p.rows x row.0 row.1 in
         omega (arith, w)
     each Emptying s None = omega arith
-slim (Tried x c noted purpose Held) fs p s = slim-handed x c noted purpose Held fs p s
-slim (Tried x c noted purpose Running) fs p s = slim-handed x c noted purpose Running fs p s
-slim (Tried x c noted purpose (IsRefused v)) fs p s = slim-handed x c noted purpose (IsRefused v) fs p s
+slim (AfterChild x c noted purpose Held) fs p s = slim-handed x c noted purpose Held fs p s
+slim (AfterChild x c noted purpose Running) fs p s = slim-handed x c noted purpose Running fs p s
+slim (AfterChild x c noted purpose (IsRefused v)) fs p s = slim-handed x c noted purpose (IsRefused v) fs p s
 slim _ fs p s = omega arith
 
 wants-answered : (a : FreeReply) (fs : List FreeFrame) (q : Pool) → wanted (answered a q fs).1.works (answered a q fs).1.pool.rows ≤ length fs + total row_places q.rows

@@ -2,7 +2,7 @@
 use Rattle.std.proofs.Common.{◌≡◌, nat_eq, Option, Some, None, refl, ap}
 use Rattle.step_machine.specs.Machine.{Move as Do}
 use Rattle.tree_specs.specs.declared.frame.FreeFrame.{FreeFrame}
-use Rattle.tree_specs.specs.declared.frame.FreeFrame.TheVariants.{Unlinking, Releasing, Beginning, Hooked, Judged, Looping, Trying, Tried, Ending}
+use Rattle.tree_specs.specs.declared.frame.FreeFrame.TheVariants.{Unlinking, Releasing, Beginning, Hooked, Judged, Looping, FreeingChild, AfterChild, Ending}
 use Rattle.tree_specs.specs.declared.frame.Purpose.{Purpose}
 use Rattle.tree_specs.specs.declared.frame.Purpose.TheVariants.{Removal, Emptying}
 use Rattle.tree_specs.specs.declared.free_step.FreeReply.{FreeReply}
@@ -69,15 +69,15 @@ does (Looping x purpose) p = each purpose (first_kid p.rows (Of x))
     each (Removal h) None = tt
     each Emptying None = refl
     each purpose (Some c) = child purpose c (target_at p.rows c)
-does (Tried x c noted purpose a) p = each a
+does (AfterChild x c noted purpose a) p = each a
   where
-    handed : (b : FreeReply) → DoesTo (Tried x c noted purpose b) p (hand_on_step x c noted purpose p)
+    handed : (b : FreeReply) → DoesTo (AfterChild x c noted purpose b) p (hand_on_step x c noted purpose p)
     handed b = by_test (is_below (owner_of p.rows c) (Of x)) (λ t. rw t tt) (λ t. rw t (refl, tt))
 
-    each : (b : FreeReply) → DoesTo (Tried x c noted purpose b) p (tried_step x c noted purpose b p)
+    each : (b : FreeReply) → DoesTo (AfterChild x c noted purpose b) p (tried_step x c noted purpose b p)
     each Ok = (refl, tt)
     each b = handed b
-does (Trying x c noted purpose) p = refl
+does (FreeingChild x c noted purpose) p = refl
 does (Ending a) p = refl
 does _ p = tt
 

@@ -18,7 +18,7 @@ use Rattle.tree_specs.specs.Tree.Pool.{Pool, is_owner, add, set_hook}
 use Rattle.tree_specs.specs.Calls.Refusals.{Check, refusals}
 use Rattle.tree_specs.specs.Calls.Plans.{plan, unless_refused}
 use Rattle.tree_specs.specs.Machine.Table.{step, plan_step}
-use Rattle.tree_specs.specs.Invariants.Whole.{Whole}
+use Rattle.tree_specs.specs.Invariants.Consistent.{IsConsistent}
 use Rattle.tree_specs.proofs.Invariants.Changes.{stands, new-sound}
 use Rattle.tree_specs.proofs.Rules.Rest.{whole-kept, event-whole}
 use Rattle.tree_links.specs.Links.{Links, pool_of}
@@ -31,7 +31,7 @@ use Rattle.destructors.proofs.Callers.{call-alone}
 use Rattle.destructors.proofs.Settling.{still, asks-hooked}
 
 -- objects with which nothing goes on, in a host that waits
-hosted : (p : Pool) → FreesWait [] p → Whole (call_view (Asking Quiet) [] [] p)
+hosted : (p : Pool) → FreesWait [] p → IsConsistent (call_view (Asking Quiet) [] [] p)
 hosted p w = record {
   sound = record { started = w.sound.started; valid = w.sound.valid; forest = w.sound.forest; refers = w.sound.refers; open_frees = w.sound.open_frees; waiting = tt; rests = tt };
   seated = tt;
@@ -49,14 +49,14 @@ added-rests o size name p there w = call-alone (Asking Quiet) [] [] (add p Plain
 -- an object is given the destructor 16
 pub hooked-rests : (x : Obj) (p : Pool) → refusals p (call.Hook x 16) ≡ [] → FreesWait [] p → FreesWait [] (set_hook p x 16)
 hooked-rests x p none w =
-    let doing : Whole (call_view (Doing Quiet (call.Hook x 16)) [] [] p) =
+    let doing : IsConsistent (call_view (Doing Quiet (call.Hook x 16)) [] [] p) =
     record {
       sound = stands (frame.Call (Asking Quiet)) (frame.Call (Doing Quiet (call.Hook x 16))) [] [] p (λ y. refl) tt tt (hosted p w).sound;
       seated = tt;
       light = w.light;
     } in
     let goes : step (frame.Call (Doing Quiet (call.Hook x 16))) p ≡ Do.Go (frame.Call (Telling Quiet reply.Ok)) (set_hook p x 16) = ap (λ (check : Check). plan_step Quiet (unless_refused check (plan p (call.Hook x 16))) p) none in
-    let telling : Whole (call_view (Telling Quiet reply.Ok) [] [] (set_hook p x 16)) = rw goes at (whole-kept (call_view (Doing Quiet (call.Hook x 16)) [] [] p) 0 doing) in
+    let telling : IsConsistent (call_view (Telling Quiet reply.Ok) [] [] (set_hook p x 16)) = rw goes at (whole-kept (call_view (Doing Quiet (call.Hook x 16)) [] [] p) 0 doing) in
     call-alone (Asking Quiet) [] [] (set_hook p x 16)
     (event-whole (call_view (Telling Quiet reply.Ok) [] [] (set_hook p x 16)) (Told (event.Replied reply.Ok)) (frame.Call (Asking Quiet)) (set_hook p x 16) telling refl)
 

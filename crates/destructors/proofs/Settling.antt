@@ -13,12 +13,12 @@ use Rattle.tree_links.specs.Links.{Links, pool_of}
 use Rattle.destructors.specs.Frees.{OpenFrees, before, frees_of, answered, moved, moves, speaks, speaking, Silently, Still, On}
 use Rattle.tree_specs.specs.Invariants.Alone.{AwaitsRun}
 use Rattle.destructors.specs.Works.{AtWork, IsAtWork, IsAwaiting, GoesOn}
-use Rattle.destructors.specs.Engine.{AreKept, HasRoom, MayMove, Ready}
+use Rattle.destructors.specs.Engine.{AreKept, HasRoom, MayMove, IsBetweenCalls}
 use Rattle.destructors.proofs.FreeMoves.{IsNews, AsksFor, IsMoveOf, is_move}
 use Rattle.destructors.proofs.Keeping.{kept, told-kept, falls, narrow, free_cost}
 
 -- a work whose next move tells nothing is at work
-pub ready-work : (f : FreeFrame) (o : Option FreeFrame) (tree : Links) → o ≡ Some f → Ready o tree → speaking (frees_of (Some f) tree) ≡ false → AtWork (f ∷ tree.frees) (pool_of tree)
+pub ready-work : (f : FreeFrame) (o : Option FreeFrame) (tree : Links) → o ≡ Some f → IsBetweenCalls o tree → speaking (frees_of (Some f) tree) ≡ false → AtWork (f ∷ tree.frees) (pool_of tree)
 ready-work f o tree e r quiet =
     let m : MayMove (Some f) tree = rw e at r.moves in
     elim m [
@@ -37,13 +37,13 @@ at-work None tree k w = k
 at-work (Some f) tree k w = inl w
 
 pub record Onward (f : FreeFrame) (before_it : Links) (o : Option FreeFrame) (tree : Links) : Type 0 where
-  pub ready : Ready o tree
+  pub ready : IsBetweenCalls o tree
   pub at_work : IsAtWork (frees_of o tree)
   pub silently : moves (f ∷ before_it.frees) (pool_of before_it) ≡ (None, frees_of o tree)
   pub rows : (R : ℕ) → length before_it.rows ≤ R → length tree.rows ≤ R
   pub falls : (R : ℕ) → length before_it.rows ≤ R → free_cost R (before o tree.frees) (pool_of tree) < free_cost R (f ∷ before_it.frees) (pool_of before_it)
 
-pub onward : (f : FreeFrame) (g : Option FreeFrame) (old : Links) (next : FreeFrame) (new : Links) → g ≡ Some f → Ready g old
+pub onward : (f : FreeFrame) (g : Option FreeFrame) (old : Links) (next : FreeFrame) (new : Links) → g ≡ Some f → IsBetweenCalls g old
     → moves (f ∷ old.frees) (pool_of old) ≡ (None, frees_of (Some next) new) → length old.frees + old.room ≤ length new.frees + new.room → Onward f old (Some next) new
 onward f g old next new e r m room =
     let quiet : speaking (frees_of (Some f) old) ≡ false = ap (λ (z : Option FreeStep × OpenFrees). speaks (f ∷ old.frees) z.0) m in
@@ -102,7 +102,7 @@ told-settled _ s t g moves_on keeps = keeps g
 
 -- a move of an engine that tells something
 pub record Tells (told : FreeStep) (o : Option FreeFrame) (tree : Links) : Type 0 where
-  pub ready : Ready o tree
+  pub ready : IsBetweenCalls o tree
   pub goes_on : GoesOn told (frees_of o tree)
 
 pub tells : (f : FreeFrame) (g : Option FreeFrame) (old : Links) (told : Option FreeStep) (t : FreeStep) (o : Option FreeFrame) (new : Links) → g ≡ Some f → IsAtWork (frees_of g old) → HasRoom g old → told ≡ Some t

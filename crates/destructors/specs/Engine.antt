@@ -1,7 +1,7 @@
 -- What an engine and the tree keep of the open frees.
 use Rattle.std.specs.Prelude.{◌≡◌, ◌+◌, ◌≤◌, true, [], ◌∷◌, length, Option, Some, None, ◌⊎◌}
 use Rattle.tree_specs.specs.declared.frame.FreeFrame.{FreeFrame}
-use Rattle.tree_specs.specs.declared.frame.FreeFrame.TheVariants.{Unlinking, Releasing, Giving, Beginning, Hooked, Judged, Leaving, Looping, Trying, Tried, Ending}
+use Rattle.tree_specs.specs.declared.frame.FreeFrame.TheVariants.{Unlinking, Releasing, Giving, Beginning, Hooked, Judged, Leaving, Looping, FreeingChild, AfterChild, Ending}
 use Rattle.tree_links.specs.Links.{Links, pool_of}
 use Rattle.destructors.specs.Frees.{before, frees_of, moves, speaking}
 use Rattle.tree_specs.specs.Invariants.Alone.{FreesWait}
@@ -21,8 +21,8 @@ IsAsked (Some (Beginning x)) = ⊥
 IsAsked (Some (Judged x h v)) = ⊥
 IsAsked (Some (Leaving x h)) = ⊥
 IsAsked (Some (Looping x purpose)) = ⊥
-IsAsked (Some (Trying x c noted purpose)) = ⊥
-IsAsked (Some (Tried x c noted purpose a)) = ⊥
+IsAsked (Some (FreeingChild x c noted purpose)) = ⊥
+IsAsked (Some (AfterChild x c noted purpose a)) = ⊥
 IsAsked (Some (Ending a)) = ⊥
 
 -- where the engine has no work, none waits in the tree
@@ -50,6 +50,6 @@ pub record IsAtRest (tree : Links) (pairs : Pairs) : Type 0 where
   pub waiting : FreesWait [] (pool_of tree)
   pub refs : AreRefsOf pairs.pairs tree.rows
 
-pub record Ready (innermost : Option FreeFrame) (tree : Links) : Type 0 where
+pub record IsBetweenCalls (innermost : Option FreeFrame) (tree : Links) : Type 0 where
   pub moves : MayMove innermost tree
   pub room : HasRoom innermost tree

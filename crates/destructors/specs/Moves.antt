@@ -5,7 +5,7 @@ use Rattle.tree_specs.specs.declared.object.Obj.{Obj}
 use Rattle.tree_specs.specs.declared.object.Owner.{Owner}
 use Rattle.tree_specs.specs.declared.object.Owner.TheVariants.{Of}
 use Rattle.tree_specs.specs.declared.frame.FreeFrame.{FreeFrame}
-use Rattle.tree_specs.specs.declared.frame.FreeFrame.TheVariants.{Unlinking, Releasing, Giving, Beginning, Hooked, Judged, Leaving, Looping, Trying, Tried, Ending}
+use Rattle.tree_specs.specs.declared.frame.FreeFrame.TheVariants.{Unlinking, Releasing, Giving, Beginning, Hooked, Judged, Leaving, Looping, FreeingChild, AfterChild, Ending}
 use Rattle.tree_specs.specs.declared.frame.Purpose.TheVariants.{Removal, Emptying}
 use Rattle.tree_specs.specs.declared.free_step.FreeStep.TheVariants.{Ask}
 use Rattle.tree_specs.specs.declared.row.Row.{Row}
@@ -76,6 +76,6 @@ MoveRests (Judged x h v) p = IsLiveRow p x
 MoveRests (Leaving x h) p = IsLiveRow p x
 MoveRests (Looping x (Removal h)) p = (is_dying p.rows x ≡ true) × (target_at p.rows x ≡ None)
 MoveRests (Looping x Emptying) p = Unit {0}
-MoveRests (Trying x c noted purpose) p = Unit {0}
-MoveRests (Tried x c noted purpose a) p = MayHandOn p x c noted
+MoveRests (FreeingChild x c noted purpose) p = Unit {0}
+MoveRests (AfterChild x c noted purpose a) p = MayHandOn p x c noted
 MoveRests (Ending a) p = Unit {0}

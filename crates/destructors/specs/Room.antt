@@ -4,7 +4,7 @@ use Rattle.tree_specs.specs.declared.row.Row.{Row}
 use Rattle.tree_specs.specs.declared.row.Mark.{Mark}
 use Rattle.tree_specs.specs.declared.row.Mark.TheVariants.{Quiet, Asked, Busy, Doomed, Dying}
 use Rattle.tree_specs.specs.declared.frame.FreeFrame.{FreeFrame}
-use Rattle.tree_specs.specs.declared.frame.FreeFrame.TheVariants.{Unlinking, Releasing, Giving, Beginning, Hooked, Judged, Leaving, Looping, Trying, Tried, Ending}
+use Rattle.tree_specs.specs.declared.frame.FreeFrame.TheVariants.{Unlinking, Releasing, Giving, Beginning, Hooked, Judged, Leaving, Looping, FreeingChild, AfterChild, Ending}
 use Rattle.tree_specs.specs.Tree.Inside.{total}
 
 -- a row whose freeing has still to come wants one place for its loop
@@ -28,8 +28,8 @@ work_places (Hooked x h) = 0
 work_places (Judged x h v) = 0
 work_places (Leaving x h) = 0
 work_places (Looping x purpose) = 1
-work_places (Trying x c noted purpose) = 0
-work_places (Tried x c noted purpose a) = 1
+work_places (FreeingChild x c noted purpose) = 0
+work_places (AfterChild x c noted purpose a) = 1
 work_places (Ending a) = 0
 
 -- the works that may still come to stand, with those that stand below the innermost

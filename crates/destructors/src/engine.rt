@@ -16,7 +16,7 @@ use tree_specs::{FreeFrame, FreeStep, Obj, Owner, Purpose};
 /// (`frees_of`).
 ///
 /// The engine takes no memory: `Tree::reserve` takes the room for its works. Between a step that asks and the
-/// answer, the caller may do with the tree what keeps that the open frees await him (`IsAwaiting`).
+/// answer, the caller may do with the tree what keeps that the open frees await it (`IsAwaiting`).
 #[derive(Debug, Drop)]
 pub struct FreeEngine {
     innermost: Option<FreeFrame>,
@@ -180,7 +180,7 @@ impl FreeEngine {
         match work {
             FreeFrame::Hooked { .. }
             | FreeFrame::Leaving { .. }
-            | FreeFrame::Trying { .. }
+            | FreeFrame::FreeingChild { .. }
             | FreeFrame::Ending { .. } => false,
             FreeFrame::Beginning { x } => refs.newest(tree, x).is_some(),
             FreeFrame::Looping {
@@ -193,7 +193,7 @@ impl FreeEngine {
 
     /// What comes next of the innermost free. It takes no memory.
     ///
-    /// At `Ask` the caller runs the object's destructor and answers with what it returned; he may begin further
+    /// At `Ask` the caller runs the object's destructor and answers with what it returned; it may begin further
     /// frees until then. At `Done` the innermost free is over, and the one around it, if there is one, still waits
     /// for its answer.
     pub fn step(&mut self, tree: &mut Tree, refs: &mut Refs) -> FreeStep

@@ -1,5 +1,5 @@
 //! Freeing, step after step: an object's destructor is asked, it leaves its owner, its children are freed, newest
-//! first, and it is removed (`talloc_free`). Whoever calls runs the destructors, and may do with the tree what he
+//! first, and it is removed (`talloc_free`). Whoever calls runs the destructors, and may do with the tree what it
 //! likes between a question and its answer.
 #![tactic(auto)]
 

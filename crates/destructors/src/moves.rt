@@ -129,7 +129,7 @@ fn take(x: Obj, child: Obj, purpose: Purpose, tree: &mut Tree, refs: &mut Refs) 
         let noted = noted_owner(child, tree, refs);
         return Motion::Pushes(
             FreeFrame::Beginning { x: child },
-            FreeFrame::Trying {
+            FreeFrame::FreeingChild {
                 x,
                 child,
                 noted,
@@ -215,14 +215,14 @@ pub fn move_once(work: FreeFrame, tree: &mut Tree, refs: &mut Refs) -> Motion
         FreeFrame::Judged { x, hook, value } => judge(x, hook, value, tree),
         FreeFrame::Leaving { x, hook } => leave(x, hook, tree),
         FreeFrame::Looping { x, purpose } => look(x, purpose, tree, refs),
-        FreeFrame::Trying { .. } => Motion::Ends(FreeReply::Ok),
-        FreeFrame::Tried {
+        FreeFrame::FreeingChild { .. } => Motion::Ends(FreeReply::Ok),
+        FreeFrame::AfterChild {
             x,
             purpose,
             answer: FreeReply::Ok,
             ..
         } => Motion::Goes(FreeFrame::Looping { x, purpose }),
-        FreeFrame::Tried {
+        FreeFrame::AfterChild {
             x,
             child,
             noted,
@@ -266,7 +266,7 @@ fn outlook_of_loop(x: Obj, purpose: Purpose, tree: &Tree, refs: &Refs) -> Outloo
             let noted = noted_owner(child, tree, refs);
             Outlook::Pushing(
                 FreeFrame::Beginning { x: child },
-                FreeFrame::Trying {
+                FreeFrame::FreeingChild {
                     x,
                     child,
                     noted,
@@ -334,20 +334,20 @@ pub fn outlook(work: FreeFrame, tree: &Tree, refs: &Refs) -> Outlook
         | FreeFrame::Judged { .. }
         | FreeFrame::Leaving { .. } => Outlook::Telling,
         FreeFrame::Looping { x, purpose } => outlook_of_loop(x, purpose, tree, refs),
-        FreeFrame::Tried {
+        FreeFrame::AfterChild {
             x,
             purpose,
             answer: FreeReply::Ok,
             ..
         } => Outlook::Going(FreeFrame::Looping { x, purpose }),
-        FreeFrame::Tried {
+        FreeFrame::AfterChild {
             x,
             child,
             noted,
             purpose,
             ..
         } => outlook_of_heir(x, child, noted, purpose, tree),
-        FreeFrame::Trying { .. } => Outlook::Ending(FreeReply::Ok),
+        FreeFrame::FreeingChild { .. } => Outlook::Ending(FreeReply::Ok),
         FreeFrame::Ending { answer } => Outlook::Ending(answer),
     }
 }

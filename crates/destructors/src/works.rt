@@ -8,7 +8,7 @@ ghost use Rattle.references.specs.Rows.{AreRefsOf, SameRefs};
 ghost use Rattle.destructors.specs.Moves.{MoveRests, MayEnter, entered, ended};
 ghost use Rattle.destructors.specs.Frees.{answered, frees_of, moves as moves_of, speaking, Silently};
 ghost use Rattle.destructors.specs.Works.{IsAtWork};
-ghost use Rattle.destructors.specs.Engine.{AreKept, HasRoom, MovesQuietly, Ready};
+ghost use Rattle.destructors.specs.Engine.{AreKept, HasRoom, MovesQuietly, IsBetweenCalls};
 
 use crate::motion::{Motion, Outlook};
 use crate::moves::{move_once, outlook};
@@ -46,12 +46,12 @@ fn resumed(work: FreeFrame, answer: FreeReply) -> FreeFrame
     ensures { result ≡ free_resume work answer }
 {
     match work {
-        FreeFrame::Trying {
+        FreeFrame::FreeingChild {
             x,
             child,
             noted,
             purpose,
-        } => FreeFrame::Tried {
+        } => FreeFrame::AfterChild {
             x,
             child,
             noted,
@@ -178,9 +178,9 @@ pub fn move_quietly(work: FreeFrame, tree: &mut Tree, refs: &Refs) -> Option<Fre
 
 /// The moves that tell nothing, up to the next one that does. It takes no memory.
 pub fn settle(innermost: Option<FreeFrame>, tree: &mut Tree, refs: &mut Refs) -> Option<FreeFrame>
-    requires ready { Ready innermost tree.old }
+    requires ready { IsBetweenCalls innermost tree.old }
     requires refs { AreRefsOf refs.old.pairs tree.old.rows }
-    ensures ready { Ready result tree.new }
+    ensures ready { IsBetweenCalls result tree.new }
     ensures moves_on { Silently (frees_of innermost tree.old) (frees_of result tree.new) }
     ensures at_work { IsAtWork (frees_of innermost tree.old) → IsAtWork (frees_of result tree.new) }
     ensures settles { speaking (frees_of result tree.new) ≡ true }

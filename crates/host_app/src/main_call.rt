@@ -27,7 +27,7 @@ fn is_replay(words: &[String]) -> bool
 /// Does what the words say, and says on `err` what the status means.
 ///
 /// The one word `replay` replays the schedule that `input` gives into its transcript, which goes to
-/// `out`. All other words are status 2. A fault of `err`, or want of memory there, changes no status.
+/// `out`. All other words are status 2. A fault of `err`, or running out of memory there, changes no status.
 pub fn host_main<S: Source, K: Sink, E: Sink>(
     alloc: Global,
     words: &[String],
@@ -51,7 +51,7 @@ pub fn host_main<S: Source, K: Sink, E: Sink>(
     ensures story { result ≡ Status.Done → IfSome (S.left input.old) (λ bytes. WritesStory bytes (K.held out.old) (K.held out.new)) }
     ensures story_before { (line : ℕ) (reason : Reason) → result ≡ Status.BadSchedule line reason → line ≢ 1 → IfSome (S.left input.old) (λ bytes. WritesStory bytes (K.held out.old) (K.held out.new)) }
 
-    // After a fault, and without memory, a front of the transcript has been written.
+    // After a fault, and without memory, a prefix of the transcript has been written.
     ensures read_fault { result ≡ Status.ReadFault → Rose (S.faults input.old) (S.faults input.new) }
     ensures read_cut { result ≡ Status.ReadFault → IfSome (S.left input.old) (λ bytes. IsCutShort bytes (S.left input.new) (K.held out.old) (K.held out.new)) }
     ensures write_fault { result ≡ Status.WriteFault → Rose (K.faults out.old) (K.faults out.new) }

@@ -6,7 +6,7 @@ use Rattle.tree_specs.specs.declared.question.Ask.{Ask}
 use Rattle.tree_specs.specs.declared.call.Call.{Call}
 use Rattle.tree_specs.specs.declared.reply.Refusal.{Refusal}
 use Rattle.tree_specs.specs.declared.reply.Reply.TheVariants as reply
-use Rattle.tree_specs.specs.declared.test.Test.TheVariants.{IsObject, IsOwner, IsStaying, IsApart, MayGive}
+use Rattle.tree_specs.specs.declared.test.Test.TheVariants.{IsObject, IsOwner, IsNotDying, IsNotInside, MayGive}
 use Rattle.tree_specs.specs.Tree.Pool.{Pool, is_below, owner_of}
 use Rattle.tree_specs.specs.Calls.Refusals.{Check, checked, tests, refusals}
 use Rattle.tree_specs.specs.Calls.Passed.{Passed, AllPassed, Itself, ItsRef}
@@ -47,10 +47,10 @@ all_passed p c e = all-pass p (tests c) (none-first (refusals p c) e)
 
 -- ---- what passed tests allow together
 
-pub may_go : (p : Pool) (o : Owner) (x : Obj) → Passed p (IsObject x) → Passed p (IsOwner o) → Passed p (IsStaying x) → Passed p (IsApart x o) → MayPlace p.rows x o
+pub may_go : (p : Pool) (o : Owner) (x : Obj) → Passed p (IsObject x) → Passed p (IsOwner o) → Passed p (IsNotDying x) → Passed p (IsNotInside x o) → MayPlace p.rows x o
 may_go p o x is there staying outside = placeable p o x (may-place p o x is there staying outside)
 
-pub may_go_itself : (p : Pool) (from to : Owner) (x : Obj) → Passed p (IsObject x) → Passed p (IsOwner to) → Passed p (IsStaying x) → Passed p (MayGive from to x) → is_below (owner_of p.rows x) from ≡ true → MayPlace p.rows x to
+pub may_go_itself : (p : Pool) (from to : Owner) (x : Obj) → Passed p (IsObject x) → Passed p (IsOwner to) → Passed p (IsNotDying x) → Passed p (MayGive from to x) → is_below (owner_of p.rows x) from ≡ true → MayPlace p.rows x to
 may_go_itself p from to x is there staying (Itself own outside) below = may_go p to x is there staying outside
 may_go_itself p from to x is there staying (ItsRef r other n) below = cc
 

@@ -28,7 +28,7 @@ use Rattle.tree_specs.specs.Invariants.Sound.{HasHook, claim}
 use Rattle.tree_specs.specs.Machine.Table.{call_step, event_of, caller_resume}
 use Rattle.tree_specs.specs.Machine.View.{View}
 use Rattle.tree_specs.specs.Machine.Profiles.{profile}
-use Rattle.tree_specs.specs.Invariants.Whole.{Seated, Serves, innermost_size, Whole}
+use Rattle.tree_specs.specs.Invariants.Consistent.{IsStacked, Serves, innermost_size, IsConsistent}
 use Rattle.tree_specs.proofs.Invariants.Changes.{stands}
 use Rattle.tree_specs.proofs.Turns.Load.{reseat}
 use Rattle.tree_specs.proofs.Rules.Rest.{GoesOn, call-goes_on}
@@ -44,31 +44,31 @@ use Rattle.host_core.specs.declared.motion.Motion.{Motion}
 use Rattle.host_core.specs.declared.motion.Motion.TheVariants.{Replies, Warns, Frees, Unlinks, Empties}
 use Rattle.host_core.specs.declared.active.Active.TheVariants as active
 use Rattle.host_core.specs.Moves.{move_of, telling, warning}
-use Rattle.host_core.specs.Hosts.{seen, motion_view, speaks, moved, next_of, speaking_view, Onward}
-use Rattle.host_core.proofs.Onward.{onward, onward-along, AfterEvent, after-event, event-along}
+use Rattle.host_core.specs.Hosts.{seen, view_after, speaks, moved, next_of, speaking_view, StepsSilently}
+use Rattle.host_core.proofs.StepsSilently.{onward, onward-along, AfterEvent, after-event, event-along}
 use Rattle.host_core.proofs.FreeSteps.{Comes, comes, events, tells, speaks-events, seen-free, silently-along}
 
 -- ---- a call
 
--- the work that a call puts before its caller stands on him
-pub stands-on : (c : CallFrame) (works : List FreeFrame) (cs : List CallFrame) (d : CallFrame) (ds : List CallFrame) → Seated (frame.Call c) (under works cs) → standing works (d ∷ ds) ≡ frame.Call d ∷ under works ds
+-- the work that a call puts before its caller stands on it
+pub stands-on : (c : CallFrame) (works : List FreeFrame) (cs : List CallFrame) (d : CallFrame) (ds : List CallFrame) → IsStacked (frame.Call c) (under works cs) → standing works (d ∷ ds) ≡ frame.Call d ∷ under works ds
 stands-on c [] cs d ds s = refl
 stands-on c (Hooked y h ∷ fs) cs d ds s = refl
 stands-on c (_ ∷ fs) cs d ds s = absurd s.0
 
 -- a call that is done goes on to what it has begun
-pub act-onward : (q : AskData) (c : Call) (works : List FreeFrame) (cs : List CallFrame) (p p' : Pool) (m : Motion) → Whole (call_view (Doing q c) works cs p) → move_of q m p' ≡ call_step (refusals p c) q c p
-    → Onward (call_view (Doing q c) works cs p) (motion_view q m works cs p')
+pub act-onward : (q : AskData) (c : Call) (works : List FreeFrame) (cs : List CallFrame) (p p' : Pool) (m : Motion) → IsConsistent (call_view (Doing q c) works cs p) → move_of q m p' ≡ call_step (refusals p c) q c p
+    → StepsSilently (call_view (Doing q c) works cs p) (view_after q m works cs p')
 act-onward q c works cs p p' m h e =
     let v : View = call_view (Doing q c) works cs p in
-    onward v (motion_view q m works cs p') h (quiet (call_step (refusals p c) q c p) (call-goes_on (refusals p c) q c p)) (ap (λ (z : Move Frame Answer Pool Item). (moved z (under works cs)).1) (sym e) ∙ each m)
+    onward v (view_after q m works cs p') h (quiet (call_step (refusals p c) q c p) (call-goes_on (refusals p c) q c p)) (ap (λ (z : Move Frame Answer Pool Item). (moved z (under works cs)).1) (sym e) ∙ each m)
   where
     quiet : (z : Move Frame Answer Pool Item) → GoesOn z → speaks z ≡ false
     quiet (Do.Go f s) g = refl
     quiet (Do.Call f k s) g = refl
     quiet _ g = absurd g
 
-    each : (m : Motion) → (moved (move_of q m p') (under works cs)).1 ≡ motion_view q m works cs p'
+    each : (m : Motion) → (moved (move_of q m p') (under works cs)).1 ≡ view_after q m works cs p'
     each (Replies b) = refl
     each (Warns x b) = refl
     each (Frees x) = ap (λ (l : List Frame). let z : View = record { innermost = frame.Free (Beginning x); below = l; pool = p' } in z) (sym (stands-on (Doing q c) works cs (Awaiting q x) cs h.seated))
@@ -77,7 +77,7 @@ act-onward q c works cs p p' m h e =
 
 -- what a call has begun, with its caller at work again
 pub awaited : (f : FreeFrame) (q : AskData) (x : Obj) (works : List FreeFrame) (cs : List CallFrame) (p : Pool) → ((y : Obj) → claim y (frame.Free f) ≡ []) → innermost_size (frame.Free f) ≡ 0
-    → Seated (frame.Call (Awaiting q x)) (under works cs) → Whole (record { innermost = frame.Free f; below = frame.Call (Awaiting q x) ∷ under works cs; pool = p }) → Whole (call_view (Asking q) works cs p)
+    → IsStacked (frame.Call (Awaiting q x)) (under works cs) → IsConsistent (record { innermost = frame.Free f; below = frame.Call (Awaiting q x) ∷ under works cs; pool = p }) → IsConsistent (call_view (Asking q) works cs p)
 awaited f q x works cs p none small seats h =
     let l = h.light in
     record {
@@ -87,17 +87,17 @@ awaited f q x works cs p none small seats h =
     }
 
 -- after a call the innermost free awaits its caller
-pub act-awaits : (q : AskData) (c : Call) (works : List FreeFrame) (cs : List CallFrame) (p p' : Pool) (m : Motion) → Whole (call_view (Doing q c) works cs p) → move_of q m p' ≡ call_step (refusals p c) q c p
+pub act-awaits : (q : AskData) (c : Call) (works : List FreeFrame) (cs : List CallFrame) (p p' : Pool) (m : Motion) → IsConsistent (call_view (Doing q c) works cs p) → move_of q m p' ≡ call_step (refusals p c) q c p
     → IsAwaiting (record { works = works; pool = p' })
 act-awaits q c works cs p p' m h e = each m (act-onward q c works cs p p' m h e).along.whole
   where
-    begun : (f : FreeFrame) (r : AskData) (x : Obj) → ((y : Obj) → claim y (frame.Free f) ≡ []) → innermost_size (frame.Free f) ≡ 0 → Whole (free_view f works (Awaiting r x ∷ cs) p') → IsAwaiting (record { works = works; pool = p' })
+    begun : (f : FreeFrame) (r : AskData) (x : Obj) → ((y : Obj) → claim y (frame.Free f) ≡ []) → innermost_size (frame.Free f) ≡ 0 → IsConsistent (free_view f works (Awaiting r x ∷ cs) p') → IsAwaiting (record { works = works; pool = p' })
     begun f r x none small w =
         let e : standing works (Awaiting r x ∷ cs) ≡ frame.Call (Awaiting r x) ∷ under works cs = stands-on (Doing q c) works cs (Awaiting r x) cs h.seated in
-        let w' : Whole (record { innermost = frame.Free f; below = frame.Call (Awaiting r x) ∷ under works cs; pool = p' }) = subst (λ (l : List Frame). Whole (record { innermost = frame.Free f; below = l; pool = p' })) e w in
+        let w' : IsConsistent (record { innermost = frame.Free f; below = frame.Call (Awaiting r x) ∷ under works cs; pool = p' }) = subst (λ (l : List Frame). IsConsistent (record { innermost = frame.Free f; below = l; pool = p' })) e w in
         call-alone (Asking r) works cs p' (awaited f r x works cs p' none small w'.seated.1 w')
 
-    each : (m : Motion) → Whole (motion_view q m works cs p') → IsAwaiting (record { works = works; pool = p' })
+    each : (m : Motion) → IsConsistent (view_after q m works cs p') → IsAwaiting (record { works = works; pool = p' })
     each (Replies b) w = call-alone (telling q b) works cs p' w
     each (Warns x b) w = call-alone (warning q x b) works cs p' w
     each (Frees x) w = begun (Beginning x) q x (λ y. refl) refl w
@@ -106,8 +106,8 @@ act-awaits q c works cs p p' m h e = each m (act-onward q c works cs p p' m h e)
 
 -- ---- a routine that has returned
 
-pub return-onward : (v : ℕ) (works : List FreeFrame) (cs : List CallFrame) (p : Pool) → Whole (call_view (Returning v) works cs p)
-    → Onward (call_view (Returning v) works cs p) (seen active.Freeing (returned v (record { works = works; pool = p })) cs p)
+pub return-onward : (v : ℕ) (works : List FreeFrame) (cs : List CallFrame) (p : Pool) → IsConsistent (call_view (Returning v) works cs p)
+    → StepsSilently (call_view (Returning v) works cs p) (seen active.Freeing (returned v (record { works = works; pool = p })) cs p)
 return-onward v [] [] p h = absurd h.seated
 return-onward v [] (c ∷ cs) p h = absurd (no-call c h.seated.0)
   where
@@ -141,17 +141,17 @@ seen-told v (Done a) works cs p n c = absurd n
 seen-told v _ works cs p n c = seen-free v works cs p c
 
 -- it goes on, or tells what the host doesn't
-pub news-onward : (f : FreeFrame) (fs : List FreeFrame) (cs : List CallFrame) (p : Pool) (t : FreeStep) (mid new : OpenFrees) → Whole (free_view f fs cs p) → moves (f ∷ fs) p ≡ (Some t, mid)
-    → event_of t ≡ None → IsNews t → Silently mid new → Onward (free_view f fs cs p) (seen active.Freeing new.works cs new.pool)
+pub news-onward : (f : FreeFrame) (fs : List FreeFrame) (cs : List CallFrame) (p : Pool) (t : FreeStep) (mid new : OpenFrees) → IsConsistent (free_view f fs cs p) → moves (f ∷ fs) p ≡ (Some t, mid)
+    → event_of t ≡ None → IsNews t → Silently mid new → StepsSilently (free_view f fs cs p) (seen active.Freeing new.works cs new.pool)
 news-onward f fs cs p t mid new h m quiet news on =
     let v : View = free_view f fs cs p in
     let c : OnTold (Comes v) cs 0 t mid.works mid.pool = subst (OnMove (Comes v) cs 0) m (comes f fs cs p) in
     let silent : speaking_view v ≡ false = speaks-events f fs cs p ∙ ap (λ (z : Option FreeStep × OpenFrees). is_event z.0) m ∙ ap is_some quiet in
-    let o : Onward v (seen active.Freeing mid.works cs mid.pool) = onward v (seen active.Freeing mid.works cs mid.pool) h silent (seen-told v t mid.works cs mid.pool news c) in
+    let o : StepsSilently v (seen active.Freeing mid.works cs mid.pool) = onward v (seen active.Freeing mid.works cs mid.pool) h silent (seen-told v t mid.works cs mid.pool news c) in
     onward-along _ _ _ o (silently-along mid new cs on o.along.whole)
 
 -- it tells an event
-pub news-event : (f : FreeFrame) (fs : List FreeFrame) (cs : List CallFrame) (p : Pool) (t : FreeStep) (e : Event) (mid new : OpenFrees) → Whole (free_view f fs cs p) → moves (f ∷ fs) p ≡ (Some t, mid)
+pub news-event : (f : FreeFrame) (fs : List FreeFrame) (cs : List CallFrame) (p : Pool) (t : FreeStep) (e : Event) (mid new : OpenFrees) → IsConsistent (free_view f fs cs p) → moves (f ∷ fs) p ≡ (Some t, mid)
     → event_of t ≡ Some e → IsNews t → Silently mid new → AfterEvent (free_view f fs cs p) (seen active.Freeing new.works cs new.pool) e
 news-event f fs cs p t e mid new h m loud news on =
     let v : View = free_view f fs cs p in
@@ -163,26 +163,26 @@ news-event f fs cs p t e mid new h m loud news on =
     event-along _ _ _ e a (silently-along mid new cs on a.whole)
 
 -- it asks for the run of a destructor
-pub ask-onward : (f : FreeFrame) (fs : List FreeFrame) (cs : List CallFrame) (p : Pool) (x : Obj) (mid new : OpenFrees) → Whole (free_view f fs cs p) → moves (f ∷ fs) p ≡ (Some (Ask x), mid) → Silently mid new
-    → (h : ℕ) × HasHook (row_of new.pool.rows x) h × Onward (free_view f fs cs p) (call_view (Asking (Routine (hook_moment x h))) new.works cs new.pool)
+pub ask-onward : (f : FreeFrame) (fs : List FreeFrame) (cs : List CallFrame) (p : Pool) (x : Obj) (mid new : OpenFrees) → IsConsistent (free_view f fs cs p) → moves (f ∷ fs) p ≡ (Some (Ask x), mid) → Silently mid new
+    → (h : ℕ) × HasHook (row_of new.pool.rows x) h × StepsSilently (free_view f fs cs p) (call_view (Asking (Routine (hook_moment x h))) new.works cs new.pool)
 ask-onward f fs cs p x mid new w m on =
     let a = asks-hooked f fs p x mid m in
     let h : ℕ = a.0 in
     let stays : mid ≡ record { works = f ∷ fs; pool = p } = a.2 in
     let same : record { works = f ∷ fs; pool = p } ≡ new = sym stays ∙ still mid new on (rw stays (rw a.1 refl)) in
-    let w' : Whole (free_view (Hooked x h) fs cs p) = rw a.1 at w in
-    let o : Onward (free_view (Hooked x h) fs cs p) (call_view (Asking (Routine (hook_moment x h))) (Hooked x h ∷ fs) cs p) = onward _ _ w' refl refl in
-    let o' : Onward (free_view f fs cs p) (call_view (Asking (Routine (hook_moment x h))) (Hooked x h ∷ fs) cs p) = subst (λ (z : FreeFrame). Onward (free_view z fs cs p) (call_view (Asking (Routine (hook_moment x h))) (Hooked x h ∷ fs) cs p)) (sym a.1) o in
+    let w' : IsConsistent (free_view (Hooked x h) fs cs p) = rw a.1 at w in
+    let o : StepsSilently (free_view (Hooked x h) fs cs p) (call_view (Asking (Routine (hook_moment x h))) (Hooked x h ∷ fs) cs p) = onward _ _ w' refl refl in
+    let o' : StepsSilently (free_view f fs cs p) (call_view (Asking (Routine (hook_moment x h))) (Hooked x h ∷ fs) cs p) = subst (λ (z : FreeFrame). StepsSilently (free_view z fs cs p) (call_view (Asking (Routine (hook_moment x h))) (Hooked x h ∷ fs) cs p)) (sym a.1) o in
     let same' : record { works = Hooked x h ∷ fs; pool = p } ≡ new = ap (λ (z : FreeFrame). let y : OpenFrees = record { works = z ∷ fs; pool = p } in y) (sym a.1) ∙ same in
-    let r = subst (λ (z : OpenFrees). HasHook (row_of z.pool.rows x) h × Onward (free_view f fs cs p) (call_view (Asking (Routine (hook_moment x h))) z.works cs z.pool)) same' (w'.sound.rests.1, o') in
+    let r = subst (λ (z : OpenFrees). HasHook (row_of z.pool.rows x) h × StepsSilently (free_view f fs cs p) (call_view (Asking (Routine (hook_moment x h))) z.works cs z.pool)) same' (w'.sound.rests.1, o') in
     (h, r.0, r.1)
 
 -- it is over, and its caller goes on
-pub done-onward : (f : FreeFrame) (fs : List FreeFrame) (c : CallFrame) (ds : List CallFrame) (p : Pool) (a : FreeReply) (mid new : OpenFrees) → Whole (free_view f fs (c ∷ ds) p) → moves (f ∷ fs) p ≡ (Some (Done a), mid)
-    → Silently mid new → Onward (free_view f fs (c ∷ ds) p) (call_view (caller_resume c (Freed a)) new.works ds new.pool)
+pub done-onward : (f : FreeFrame) (fs : List FreeFrame) (c : CallFrame) (ds : List CallFrame) (p : Pool) (a : FreeReply) (mid new : OpenFrees) → IsConsistent (free_view f fs (c ∷ ds) p) → moves (f ∷ fs) p ≡ (Some (Done a), mid)
+    → Silently mid new → StepsSilently (free_view f fs (c ∷ ds) p) (call_view (caller_resume c (Freed a)) new.works ds new.pool)
 done-onward f fs c ds p a mid new h m on =
     let v : View = free_view f fs (c ∷ ds) p in
     let l : OnCaller (Comes v) (c ∷ ds) 0 a (c ∷ ds) mid.works mid.pool = subst (OnMove (Comes v) (c ∷ ds) 0) m (comes f fs (c ∷ ds) p) in
     let silent : speaking_view v ≡ false = speaks-events f fs (c ∷ ds) p ∙ ap (λ (z : Option FreeStep × OpenFrees). is_event z.0) m in
     let same : mid ≡ new = still mid new on (awaiting-speaks mid (told-kept f fs p (Done a) mid (work-alone f fs (c ∷ ds) p h) m)) in
-    subst (λ (z : OpenFrees). Onward v (call_view (caller_resume c (Freed a)) z.works ds z.pool)) same (onward v (call_view (caller_resume c (Freed a)) mid.works ds mid.pool) h silent l)
+    subst (λ (z : OpenFrees). StepsSilently v (call_view (caller_resume c (Freed a)) z.works ds z.pool)) same (onward v (call_view (caller_resume c (Freed a)) mid.works ds mid.pool) h silent l)

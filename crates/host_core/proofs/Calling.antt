@@ -9,7 +9,7 @@ use Rattle.tree_specs.specs.declared.frame.FreeFrame.{FreeFrame}
 use Rattle.tree_specs.specs.Tree.Pool.{Pool}
 use Rattle.tree_specs.specs.Calls.Refusals.{refusals}
 use Rattle.tree_specs.specs.Machine.Table.{call_step}
-use Rattle.tree_specs.specs.Invariants.Whole.{Whole}
+use Rattle.tree_specs.specs.Invariants.Consistent.{IsConsistent}
 use Rattle.destructors.specs.Frees.{returned, speaking}
 use Rattle.destructors.specs.Works.{IsAtWork, IsAwaiting}
 use Rattle.destructors.specs.Callers.{call_view}
@@ -23,10 +23,10 @@ use Rattle.host_core.specs.declared.caller.Stage.{Stage}
 use Rattle.host_core.specs.declared.caller.Stage.TheVariants as stage
 use Rattle.host_core.specs.declared.caller.Waiting.{Waiting}
 use Rattle.host_core.specs.Moves.{move_of}
-use Rattle.host_core.specs.Hosts.{seen, view_of, motion_view, stack_of, asked_now, staged, frame_of, speaking_view, StandsAs, Ready, Along, Onward}
+use Rattle.host_core.specs.Hosts.{seen, view_of, view_after, stack_of, asked_now, staged, frame_of, speaking_view, StandsAs, BetweenSteps, TellsSameStory, StepsSilently}
 use Rattle.host_core.proofs.CallSteps.{act-onward, act-awaits, return-onward}
 use Rattle.host_core.proofs.Hosting.{asked}
-use Rattle.host_core.proofs.Onward.{stays}
+use Rattle.host_core.proofs.StepsSilently.{stays}
 
 -- the question that is open
 pub open_question : (now : Active) → IsSome (asked_now now) → (q : Ask) × (asked_now now ≡ Some q)
@@ -45,11 +45,11 @@ caller-speaks c works cs p = each c.stage
     each (stage.Warning x r) = refl
 
 -- a caller at work, with the parts that are with it
-pub stays-at : (now : Active) (f : CallFrame) (callers : List Waiting) (objects : Objects) → StandsAs now f → Whole (call_view f objects.works (stack_of callers) objects.pool)
-    → Along (call_view f objects.works (stack_of callers) objects.pool) (view_of now callers objects) × Ready now callers objects
+pub stays-at : (now : Active) (f : CallFrame) (callers : List Waiting) (objects : Objects) → StandsAs now f → IsConsistent (call_view f objects.works (stack_of callers) objects.pool)
+    → TellsSameStory (call_view f objects.works (stack_of callers) objects.pool) (view_of now callers objects) × BetweenSteps now callers objects
 stays-at (active.Caller c) f callers objects e h =
-    let w : Whole (view_of (active.Caller c) callers objects) = subst (λ (z : CallFrame). Whole (call_view z objects.works (stack_of callers) objects.pool)) (sym e) h in
-    (subst (λ (z : CallFrame). Along (call_view z objects.works (stack_of callers) objects.pool) (view_of (active.Caller c) callers objects)) e (stays _ w), record { whole = w; parts = tt })
+    let w : IsConsistent (view_of (active.Caller c) callers objects) = subst (λ (z : CallFrame). IsConsistent (call_view z objects.works (stack_of callers) objects.pool)) (sym e) h in
+    (subst (λ (z : CallFrame). TellsSameStory (call_view z objects.works (stack_of callers) objects.pool) (view_of (active.Caller c) callers objects)) e (stays _ w), record { whole = w; parts = tt })
 stays-at active.Freeing f callers objects e h = absurd e
 
 -- a caller at work tells something next, or asks
@@ -59,20 +59,20 @@ speaks-at active.Freeing f works cs p e = absurd e
 
 -- a call that was done
 module _ (q : Ask) (c : Call) (callers : List Waiting) (objects : Objects) (m : Motion) (objects' : Objects)
-    (h : Whole (call_view (Doing q c) objects.works (stack_of callers) objects.pool)) (e : move_of q m objects'.pool ≡ call_step (refusals objects.pool c) q c objects.pool) (same : objects'.works ≡ objects.works) where
-  pub acts : Onward (call_view (Doing q c) objects.works (stack_of callers) objects.pool) (motion_view q m objects'.works (stack_of callers) objects'.pool)
+    (h : IsConsistent (call_view (Doing q c) objects.works (stack_of callers) objects.pool)) (e : move_of q m objects'.pool ≡ call_step (refusals objects.pool c) q c objects.pool) (same : objects'.works ≡ objects.works) where
+  pub acts : StepsSilently (call_view (Doing q c) objects.works (stack_of callers) objects.pool) (view_after q m objects'.works (stack_of callers) objects'.pool)
   acts = rw same (act-onward q c objects.works (stack_of callers) objects.pool objects'.pool m h e)
 
   pub awaits : IsAwaiting (frees_in objects')
   awaits = rw same (act-awaits q c objects.works (stack_of callers) objects.pool objects'.pool m h e)
 
 -- a routine that has returned
-module _ (v : ℕ) (callers : List Waiting) (objects : Objects) (h : Whole (call_view (Returning v) objects.works (stack_of callers) objects.pool)) where
+module _ (v : ℕ) (callers : List Waiting) (objects : Objects) (h : IsConsistent (call_view (Returning v) objects.works (stack_of callers) objects.pool)) where
   pub is-asked : IsAsked (slice_get objects.works 0)
   is-asked = asked objects.works v (stack_of callers) objects.pool h
 
-  pub returns : (objects' : Objects) → objects' ≡ record objects { works = returned v (frees_in objects) } → Onward (call_view (Returning v) objects.works (stack_of callers) objects.pool) (view_of active.Freeing callers objects')
+  pub returns : (objects' : Objects) → objects' ≡ record objects { works = returned v (frees_in objects) } → StepsSilently (call_view (Returning v) objects.works (stack_of callers) objects.pool) (view_of active.Freeing callers objects')
   returns objects' e = rw e (return-onward v objects.works (stack_of callers) objects.pool h)
 
-  pub returned-ready : (objects' : Objects) → objects' ≡ record objects { works = returned v (frees_in objects) } → speaking (frees_in objects') ≡ true → IsAtWork (frees_in objects') → Ready active.Freeing callers objects'
+  pub returned-ready : (objects' : Objects) → objects' ≡ record objects { works = returned v (frees_in objects) } → speaking (frees_in objects') ≡ true → IsAtWork (frees_in objects') → BetweenSteps active.Freeing callers objects'
   returned-ready objects' e loud work = record { whole = (returns objects' e).along.whole; parts = record { at_work = work; settled = loud } }

@@ -18,14 +18,14 @@ use Rattle.tree_specs.specs.Tree.Pool.{Pool}
 use Rattle.tree_specs.specs.Rules.Items.{Item}
 use Rattle.tree_specs.specs.Machine.Table.{FreeMove, table, step, free_step, lifted, event_of, announced}
 use Rattle.tree_specs.specs.Machine.View.{View}
-use Rattle.tree_specs.specs.Invariants.Whole.{Whole}
+use Rattle.tree_specs.specs.Invariants.Consistent.{IsConsistent}
 use Rattle.destructors.specs.Frees.{OpenFrees, answered, moved as free_moved, moves, is_event, Silently, Still, On}
 use Rattle.destructors.specs.Callers.{standing, free_view}
 use Rattle.destructors.proofs.FreeMoves.{AsksFor, IsMoveOf, is_move}
 use Rattle.destructors.proofs.Lifting.{OnFree, OnMove, lift}
 use Rattle.host_core.specs.declared.active.Active.TheVariants as active
-use Rattle.host_core.specs.Hosts.{seen, speaks, moved, next_of, speaking_view, Along, Onward}
-use Rattle.host_core.proofs.Onward.{onward, stays, along-then}
+use Rattle.host_core.specs.Hosts.{seen, speaks, moved, next_of, speaking_view, TellsSameStory, StepsSilently}
+use Rattle.host_core.proofs.StepsSilently.{onward, stays, along-then}
 
 -- ---- where a step leads
 
@@ -115,22 +115,22 @@ pub seen-free : (v : View) (works : List FreeFrame) (cs : List CallFrame) (p : P
 seen-free v [] cs p c = absurd c
 seen-free v (g ∷ gs) cs p c = c
 
-pub free-onward : (f : FreeFrame) (fs : List FreeFrame) (cs : List CallFrame) (p : Pool) (t : OpenFrees) → Whole (free_view f fs cs p) → moves (f ∷ fs) p ≡ (None, t)
-    → Onward (free_view f fs cs p) (seen active.Freeing t.works cs t.pool)
+pub free-onward : (f : FreeFrame) (fs : List FreeFrame) (cs : List CallFrame) (p : Pool) (t : OpenFrees) → IsConsistent (free_view f fs cs p) → moves (f ∷ fs) p ≡ (None, t)
+    → StepsSilently (free_view f fs cs p) (seen active.Freeing t.works cs t.pool)
 free-onward f fs cs p t h m =
     let v : View = free_view f fs cs p in
     let c : OnMove (Comes v) cs 0 (None, t) = subst (OnMove (Comes v) cs 0) m (comes f fs cs p) in
     onward v (seen active.Freeing t.works cs t.pool) h (speaks-events f fs cs p ∙ ap (λ (z : Option FreeStep × OpenFrees). is_event z.0) m) (seen-free v t.works cs t.pool c)
 
 -- moves that tell nothing lead from one view to another
-pub silently-along : (s t : OpenFrees) (cs : List CallFrame) → Silently s t → Whole (seen active.Freeing s.works cs s.pool) → Along (seen active.Freeing s.works cs s.pool) (seen active.Freeing t.works cs t.pool)
+pub silently-along : (s t : OpenFrees) (cs : List CallFrame) → Silently s t → IsConsistent (seen active.Freeing s.works cs s.pool) → TellsSameStory (seen active.Freeing s.works cs s.pool) (seen active.Freeing t.works cs t.pool)
 silently-along s _ cs Still h = stays (seen active.Freeing s.works cs s.pool) h
 silently-along s t cs (On u _ earlier last) h =
-    let a : Along (seen active.Freeing s.works cs s.pool) (seen active.Freeing u.works cs u.pool) = silently-along s u cs earlier h in
+    let a : TellsSameStory (seen active.Freeing s.works cs s.pool) (seen active.Freeing u.works cs u.pool) = silently-along s u cs earlier h in
     along-then _ _ _ a (each u.works a.whole last)
   where
-    each : (works : List FreeFrame) → Whole (seen active.Freeing works cs u.pool) → moves works u.pool ≡ (None, t) → Along (seen active.Freeing works cs u.pool) (seen active.Freeing t.works cs t.pool)
+    each : (works : List FreeFrame) → IsConsistent (seen active.Freeing works cs u.pool) → moves works u.pool ≡ (None, t) → TellsSameStory (seen active.Freeing works cs u.pool) (seen active.Freeing t.works cs t.pool)
     each [] w m =
         let e : (let o : OpenFrees = record { works = []; pool = u.pool } in o) ≡ t = ap (λ (z : Option FreeStep × OpenFrees). z.1) m in
-        subst (λ (z : OpenFrees). Along (seen active.Freeing [] cs u.pool) (seen active.Freeing z.works cs z.pool)) e (stays (seen active.Freeing [] cs u.pool) w)
+        subst (λ (z : OpenFrees). TellsSameStory (seen active.Freeing [] cs u.pool) (seen active.Freeing z.works cs z.pool)) e (stays (seen active.Freeing [] cs u.pool) w)
     each (f ∷ fs) w m = (free-onward f fs cs u.pool t w m).along

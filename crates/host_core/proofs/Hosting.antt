@@ -23,7 +23,7 @@ use Rattle.tree_specs.specs.Tree.Targets.{newest_ref}
 use Rattle.tree_specs.specs.declared.object.Owner.{Owner}
 use Rattle.tree_specs.specs.Machine.Table.{event_of, caller_resume}
 use Rattle.tree_specs.specs.Machine.Profiles.{profile}
-use Rattle.tree_specs.specs.Invariants.Whole.{Seated, Serves, Whole}
+use Rattle.tree_specs.specs.Invariants.Consistent.{IsStacked, Serves, IsConsistent}
 use Rattle.destructors.specs.Frees.{OpenFrees, moves, is_event, Begins, Steps}
 use Rattle.destructors.specs.Works.{IsAtWork, IsAwaiting, GoesOn}
 use Rattle.destructors.proofs.Callers.{on-caller}
@@ -35,8 +35,8 @@ use Rattle.destructors.proofs.Keeping.{callers-wait, live-row}
 use Rattle.object_pool.specs.Objects.{Objects, frees_in}
 use Rattle.host_core.specs.declared.active.Active.TheVariants as active
 use Rattle.host_core.specs.declared.caller.Waiting.{Waiting}
-use Rattle.host_core.specs.Hosts.{seen, view_of, stack_of, awaiting, speaking_view, Ready, Along, Onward}
-use Rattle.host_core.proofs.Onward.{AfterEvent}
+use Rattle.host_core.specs.Hosts.{seen, view_of, stack_of, awaiting, speaking_view, BetweenSteps, TellsSameStory, StepsSilently}
+use Rattle.host_core.proofs.StepsSilently.{AfterEvent}
 use Rattle.host_core.proofs.FreeSteps.{speaks-events, silently-along}
 use Rattle.host_core.proofs.CallSteps.{news-onward, news-event, ask-onward, done-onward}
 
@@ -56,21 +56,21 @@ no-event : (o : Option Event) → is_some o ≡ false → o ≡ None
 no-event None e = refl
 no-event (Some e) q = cc
 
-pub step-news : (works : List FreeFrame) (cs : List CallFrame) (p : Pool) (t : FreeStep) (new : OpenFrees) → Whole (seen active.Freeing works cs p) → speaking_view (seen active.Freeing works cs p) ≡ false
-    → Steps (record { works = works; pool = p }) t new → IsNews t → Onward (seen active.Freeing works cs p) (seen active.Freeing new.works cs new.pool)
+pub step-news : (works : List FreeFrame) (cs : List CallFrame) (p : Pool) (t : FreeStep) (new : OpenFrees) → IsConsistent (seen active.Freeing works cs p) → speaking_view (seen active.Freeing works cs p) ≡ false
+    → Steps (record { works = works; pool = p }) t new → IsNews t → StepsSilently (seen active.Freeing works cs p) (seen active.Freeing new.works cs new.pool)
 step-news [] cs p t new h quiet s n = tells-nothing p t new s
 step-news (f ∷ fs) cs p t new h quiet s n =
     let m = told-by (f ∷ fs) p t new s in
     let silent : is_some (event_of t) ≡ false = ap is_event (sym s.tells) ∙ sym (speaks-events f fs cs p) ∙ quiet in
     news-onward f fs cs p t (moves (f ∷ fs) p).1 new h m (no-event (event_of t) silent) n s.moves_on
 
-pub step-event : (works : List FreeFrame) (cs : List CallFrame) (p : Pool) (t : FreeStep) (e : Event) (new : OpenFrees) → Whole (seen active.Freeing works cs p) → Steps (record { works = works; pool = p }) t new → event_of t ≡ Some e → IsNews t
+pub step-event : (works : List FreeFrame) (cs : List CallFrame) (p : Pool) (t : FreeStep) (e : Event) (new : OpenFrees) → IsConsistent (seen active.Freeing works cs p) → Steps (record { works = works; pool = p }) t new → event_of t ≡ Some e → IsNews t
     → AfterEvent (seen active.Freeing works cs p) (seen active.Freeing new.works cs new.pool) e
 step-event [] cs p t e new h s loud n = tells-nothing p t new s
 step-event (f ∷ fs) cs p t e new h s loud n = news-event f fs cs p t e (moves (f ∷ fs) p).1 new h (told-by (f ∷ fs) p t new s) loud n s.moves_on
 
-pub step-ask : (works : List FreeFrame) (cs : List CallFrame) (p : Pool) (x : Obj) (new : OpenFrees) → Whole (seen active.Freeing works cs p) → Steps (record { works = works; pool = p }) (AskOf x) new
-    → (h : ℕ) × HasHook (row_of new.pool.rows x) h × Onward (seen active.Freeing works cs p) (call_view (Asking (Routine (hook_moment x h))) new.works cs new.pool)
+pub step-ask : (works : List FreeFrame) (cs : List CallFrame) (p : Pool) (x : Obj) (new : OpenFrees) → IsConsistent (seen active.Freeing works cs p) → Steps (record { works = works; pool = p }) (AskOf x) new
+    → (h : ℕ) × HasHook (row_of new.pool.rows x) h × StepsSilently (seen active.Freeing works cs p) (call_view (Asking (Routine (hook_moment x h))) new.works cs new.pool)
 step-ask [] cs p x new h s = tells-nothing p (AskOf x) new s
 step-ask (f ∷ fs) cs p x new h s = ask-onward f fs cs p x (moves (f ∷ fs) p).1 new h (told-by (f ∷ fs) p (AskOf x) new s) s.moves_on
 
@@ -90,20 +90,20 @@ pub record Over (works : List FreeFrame) (cs : List CallFrame) (p : Pool) (a : F
   pub caller : CallFrame
   pub callers : List CallFrame
   pub waited : cs ≡ caller ∷ callers
-  pub onward : Onward (seen active.Freeing works cs p) (call_view (caller_resume caller (Freed a)) new.works callers new.pool)
+  pub onward : StepsSilently (seen active.Freeing works cs p) (call_view (caller_resume caller (Freed a)) new.works callers new.pool)
 
-pub step-done : (works : List FreeFrame) (cs : List CallFrame) (p : Pool) (a : FreeReply) (new : OpenFrees) → Whole (seen active.Freeing works cs p) → Steps (record { works = works; pool = p }) (Done a) new → Over works cs p a new
+pub step-done : (works : List FreeFrame) (cs : List CallFrame) (p : Pool) (a : FreeReply) (new : OpenFrees) → IsConsistent (seen active.Freeing works cs p) → Steps (record { works = works; pool = p }) (Done a) new → Over works cs p a new
 step-done [] cs p a new h s = tells-nothing p (Done a) new s
 step-done (f ∷ fs) cs p a new h s =
     let w = callers-wait f fs cs h.seated in
     let e : cs ≡ w.0 ∷ w.1 = w.2 in
-    let h' : Whole (free_view f fs (w.0 ∷ w.1) p) = subst (λ (z : List CallFrame). Whole (free_view f fs z p)) e h in
+    let h' : IsConsistent (free_view f fs (w.0 ∷ w.1) p) = subst (λ (z : List CallFrame). IsConsistent (free_view f fs z p)) e h in
     let o = done-onward f fs w.0 w.1 p a (moves (f ∷ fs) p).1 new h' (told-by (f ∷ fs) p (Done a) new s) s.moves_on in
     record {
       caller = w.0;
       callers = w.1;
       waited = e;
-      onward = subst (λ (z : List CallFrame). Onward (free_view f fs z p) (call_view (caller_resume w.0 (Freed a)) new.works w.1 new.pool)) (sym e) o;
+      onward = subst (λ (z : List CallFrame). StepsSilently (free_view f fs z p) (call_view (caller_resume w.0 (Freed a)) new.works w.1 new.pool)) (sym e) o;
     }
 
 -- news leaves the innermost free at work
@@ -121,14 +121,14 @@ other-news _ ask done = tt
 -- ---- a routine that has returned
 
 -- the innermost free waits for the routine that has returned
-pub asked : (works : List FreeFrame) (v : ℕ) (cs : List CallFrame) (p : Pool) → Whole (call_view (Returning v) works cs p) → IsAsked (slice_get works 0)
+pub asked : (works : List FreeFrame) (v : ℕ) (cs : List CallFrame) (p : Pool) → IsConsistent (call_view (Returning v) works cs p) → IsAsked (slice_get works 0)
 asked [] v cs p h = none cs h.seated
   where
     no-call : (d : CallFrame) → Serves (profile (frame.Call d)).waits (frame.Call (Returning v)) → ⊥
     no-call (Awaiting q y) s = s
     no-call _ s = s
 
-    none : (cs : List CallFrame) → Seated (frame.Call (Returning v)) (under [] cs) → ⊥
+    none : (cs : List CallFrame) → IsStacked (frame.Call (Returning v)) (under [] cs) → ⊥
     none [] s = s
     none (c ∷ cs) s = no-call c s.0
 asked (Hooked x g ∷ fs) v cs p h = tt
@@ -138,28 +138,28 @@ asked (_ ∷ fs) v cs p h = h.seated.0
 
 -- a free that a call has begun goes on above it
 module _ (f : FreeFrame) (q : Ask) (x : Obj) (objects objects' : Objects) (callers callers' : List Waiting)
-    (h : Whole (free_view f objects.works (Awaiting q x ∷ stack_of callers) objects.pool)) (b : Begins (f ∷ objects.works) objects.pool (frees_in objects')) (e : callers' ≡ callers ++ record { ask = q; x = x } ∷ []) where
-  pub begun-along : Along (free_view f objects.works (Awaiting q x ∷ stack_of callers) objects.pool) (view_of active.Freeing callers' objects')
+    (h : IsConsistent (free_view f objects.works (Awaiting q x ∷ stack_of callers) objects.pool)) (b : Begins (f ∷ objects.works) objects.pool (frees_in objects')) (e : callers' ≡ callers ++ record { ask = q; x = x } ∷ []) where
+  pub begun-along : TellsSameStory (free_view f objects.works (Awaiting q x ∷ stack_of callers) objects.pool) (view_of active.Freeing callers' objects')
   begun-along =
-      subst (λ (z : List CallFrame). Along (free_view f objects.works (Awaiting q x ∷ stack_of callers) objects.pool) (seen active.Freeing objects'.works z objects'.pool)) (sym (stacked callers callers' (record { ask = q; x = x }) e))
+      subst (λ (z : List CallFrame). TellsSameStory (free_view f objects.works (Awaiting q x ∷ stack_of callers) objects.pool) (seen active.Freeing objects'.works z objects'.pool)) (sym (stacked callers callers' (record { ask = q; x = x }) e))
       (silently-along (record { works = f ∷ objects.works; pool = objects.pool }) (frees_in objects') (Awaiting q x ∷ stack_of callers) b.moves_on h)
 
-  pub begun-ready : IsAtWork (frees_in objects') → Ready active.Freeing callers' objects'
+  pub begun-ready : IsAtWork (frees_in objects') → BetweenSteps active.Freeing callers' objects'
   begun-ready work = record { whole = begun-along.whole; parts = record { at_work = work; settled = b.settles } }
 
 -- ---- what a free that a call begins rests on
 
-begun-rests : (f : FreeFrame) (q : Ask) (x : Obj) (works : List FreeFrame) (cs : List CallFrame) (p : Pool) → IsAwaiting (record { works = works; pool = p }) → Whole (free_view f works (Awaiting q x ∷ cs) p)
+begun-rests : (f : FreeFrame) (q : Ask) (x : Obj) (works : List FreeFrame) (cs : List CallFrame) (p : Pool) → IsAwaiting (record { works = works; pool = p }) → IsConsistent (free_view f works (Awaiting q x ∷ cs) p)
     → Rests (frame.Free f) (frame.Call (Awaiting q x) ∷ under works cs) p
 begun-rests f q x works cs p a w = subst (λ (l : List Frame). Rests (frame.Free f) l p) (on-caller works (Awaiting q x) cs a.sound.rests) w.sound.rests
 
 -- there is no reference to an object that is freed
-pub freed-object : (q : Ask) (x : Obj) (works : List FreeFrame) (cs : List CallFrame) (p : Pool) → IsAwaiting (record { works = works; pool = p }) → Whole (free_view (Beginning x) works (Awaiting q x ∷ cs) p)
+pub freed-object : (q : Ask) (x : Obj) (works : List FreeFrame) (cs : List CallFrame) (p : Pool) → IsAwaiting (record { works = works; pool = p }) → IsConsistent (free_view (Beginning x) works (Awaiting q x ∷ cs) p)
     → (newest_ref p.rows x ≡ None) × (target_at p.rows x ≡ None)
 freed-object q x works cs p a w = begun-rests (Beginning x) q x works cs p a w
 
 -- one that an owner gives up is live
-pub unlinked-object : (q : Ask) (o : Owner) (x : Obj) (works : List FreeFrame) (cs : List CallFrame) (p : Pool) → IsAwaiting (record { works = works; pool = p }) → Whole (free_view (Unlinking o x) works (Awaiting q x ∷ cs) p)
+pub unlinked-object : (q : Ask) (o : Owner) (x : Obj) (works : List FreeFrame) (cs : List CallFrame) (p : Pool) → IsAwaiting (record { works = works; pool = p }) → IsConsistent (free_view (Unlinking o x) works (Awaiting q x ∷ cs) p)
     → IsLiveRow p x × (target_at p.rows x ≡ None)
 unlinked-object q o x works cs p a w =
     let r = begun-rests (Unlinking o x) q x works cs p a w in

@@ -1,5 +1,5 @@
 pub mod Allowed
-pub mod Onward
+pub mod StepsSilently
 pub mod FreeSteps
 pub mod CallSteps
 pub mod Hosting

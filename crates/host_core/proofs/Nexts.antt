@@ -12,7 +12,7 @@ use Rattle.tree_specs.specs.declared.free_step.FreeStep.TheVariants.{Ask, Left, 
 use Rattle.tree_specs.specs.Tree.Pool.{Pool}
 use Rattle.tree_specs.specs.Machine.Table.{event_of}
 use Rattle.tree_specs.specs.Machine.View.{View, question_of}
-use Rattle.tree_specs.specs.Invariants.Whole.{Whole}
+use Rattle.tree_specs.specs.Invariants.Consistent.{IsConsistent}
 use Rattle.destructors.specs.Frees.{OpenFrees, is_event, Steps}
 use Rattle.destructors.specs.Works.{GoesOn as FreesGoOn}
 use Rattle.destructors.specs.Callers.{call_view}
@@ -25,8 +25,8 @@ use Rattle.host_core.specs.declared.caller.Stage.{Stage}
 use Rattle.host_core.specs.declared.caller.Stage.TheVariants as stage
 use Rattle.host_core.specs.declared.caller.Waiting.{Waiting}
 use Rattle.host_core.specs.Promises.{NextLaw}
-use Rattle.host_core.specs.Hosts.{seen, staged, frame_of, stack_of, view_of, speaking_view, told_by, after_telling, Ready, Along}
-use Rattle.host_core.proofs.Onward.{AfterEvent, after-event, event-along, waits-asked}
+use Rattle.host_core.specs.Hosts.{seen, staged, frame_of, stack_of, view_of, speaking_view, told_by, after_telling, BetweenSteps, TellsSameStory}
+use Rattle.host_core.proofs.StepsSilently.{AfterEvent, after-event, event-along, waits-asked}
 use Rattle.host_core.proofs.FreeSteps.{speaks-events}
 use Rattle.host_core.proofs.Stepping.{event_told}
 use Rattle.host_core.proofs.Offering.{question-seen}
@@ -40,9 +40,9 @@ event-law v w e none a = (none, a.law)
 -- what comes next of a caller, and what it leaves
 pub record CallerNext (f f' : CallFrame) (callers : List Waiting) (objects : Objects) : Type 0 where
   pub law : NextLaw (told_by f) (call_view f objects.works (stack_of callers) objects.pool) (call_view f' objects.works (stack_of callers) objects.pool)
-  pub whole : Whole (call_view f' objects.works (stack_of callers) objects.pool)
+  pub whole : IsConsistent (call_view f' objects.works (stack_of callers) objects.pool)
 
-caller-next : (q : Question) (s : Stage) (callers : List Waiting) (objects : Objects) → Whole (call_view (staged q s) objects.works (stack_of callers) objects.pool) → CallerNext (staged q s) (after_telling (staged q s)) callers objects
+caller-next : (q : Question) (s : Stage) (callers : List Waiting) (objects : Objects) → IsConsistent (call_view (staged q s) objects.works (stack_of callers) objects.pool) → CallerNext (staged q s) (after_telling (staged q s)) callers objects
 caller-next q stage.Asking callers objects h = record { law = (waits-asked q _ objects.pool h, refl); whole = h }
 caller-next q (stage.Warning x r) callers objects h =
     let a = after-event (call_view (Warning q x r) objects.works (stack_of callers) objects.pool) (call_view (Telling q r) objects.works (stack_of callers) objects.pool) (Warned x) h refl in
@@ -66,10 +66,10 @@ told-news _ l = (_, refl, tt)
 
 -- what comes next of a free, and what it leaves
 pub record FreeNext (callers : List Waiting) (objects : Objects) (t : FreeStep) (objects' : Objects) : Type 0 where
-  pub ready : Ready active.Freeing callers objects'
-  pub law : (w : View) → Along (view_of active.Freeing callers objects') w → NextLaw (event_of t) (view_of active.Freeing callers objects) w
+  pub ready : BetweenSteps active.Freeing callers objects'
+  pub law : (w : View) → TellsSameStory (view_of active.Freeing callers objects') w → NextLaw (event_of t) (view_of active.Freeing callers objects) w
 
-pub free-next : (callers : List Waiting) (objects : Objects) (t : FreeStep) (objects' : Objects) → Ready active.Freeing callers objects → speaking_view (view_of active.Freeing callers objects) ≡ true
+pub free-next : (callers : List Waiting) (objects : Objects) (t : FreeStep) (objects' : Objects) → BetweenSteps active.Freeing callers objects → speaking_view (view_of active.Freeing callers objects) ≡ true
     → Steps (frees_in objects) t (frees_in objects') → FreesGoOn t (frees_in objects') → FreeNext callers objects t objects'
 free-next callers objects t objects' h s st g =
     let n = told-news t (loud objects.works (stack_of callers) objects.pool t (frees_in objects') s st) in
@@ -82,22 +82,22 @@ free-next callers objects t objects' h s st g =
 -- ---- by the parts of a host
 
 -- a caller was told, and stands where that leaves it
-module _ (now : Active) (c c' : Caller) (callers : List Waiting) (objects : Objects) (e : now ≡ active.Caller c) (goes : frame_of c' ≡ after_telling (frame_of c)) (r : Ready now callers objects) where
+module _ (now : Active) (c c' : Caller) (callers : List Waiting) (objects : Objects) (e : now ≡ active.Caller c) (goes : frame_of c' ≡ after_telling (frame_of c)) (r : BetweenSteps now callers objects) where
   next_of_caller : CallerNext (frame_of c) (frame_of c') callers objects
-  next_of_caller = subst (λ (z : CallFrame). CallerNext (frame_of c) z callers objects) (sym goes) (caller-next c.ask c.stage callers objects (subst (λ (z : Active). Whole (view_of z callers objects)) e r.whole))
+  next_of_caller = subst (λ (z : CallFrame). CallerNext (frame_of c) z callers objects) (sym goes) (caller-next c.ask c.stage callers objects (subst (λ (z : Active). IsConsistent (view_of z callers objects)) e r.whole))
 
   pub caller-law : (v : View) → view_of now callers objects ≡ v → NextLaw (told_by (frame_of c)) v (view_of (active.Caller c') callers objects)
   caller-law v is = subst (λ (z : View). NextLaw (told_by (frame_of c)) z (view_of (active.Caller c') callers objects)) (ap (λ (z : Active). view_of z callers objects) (sym e) ∙ is) next_of_caller.law
 
-  pub caller-ready : Ready (active.Caller c') callers objects
+  pub caller-ready : BetweenSteps (active.Caller c') callers objects
   caller-ready = record { whole = next_of_caller.whole; parts = tt }
 
-pub free-parts : (now : Active) (callers : List Waiting) (objects : Objects) (t : FreeStep) (objects' : Objects) → now ≡ active.Freeing → Ready now callers objects → speaking_view (view_of now callers objects) ≡ true
+pub free-parts : (now : Active) (callers : List Waiting) (objects : Objects) (t : FreeStep) (objects' : Objects) → now ≡ active.Freeing → BetweenSteps now callers objects → speaking_view (view_of now callers objects) ≡ true
     → Steps (frees_in objects) t (frees_in objects') → FreesGoOn t (frees_in objects') → FreeNext callers objects t objects'
 free-parts now callers objects t objects' e r s st g =
-    free-next callers objects t objects' (subst (λ (z : Active). Ready z callers objects) e r) (ap (λ (z : Active). speaking_view (view_of z callers objects)) (sym e) ∙ s) st g
+    free-next callers objects t objects' (subst (λ (z : Active). BetweenSteps z callers objects) e r) (ap (λ (z : Active). speaking_view (view_of z callers objects)) (sym e) ∙ s) st g
 
 pub free-law : (now : Active) (v : View) (callers : List Waiting) (objects : Objects) (t : FreeStep) (objects' : Objects) (w : View) → now ≡ active.Freeing → view_of now callers objects ≡ v → FreeNext callers objects t objects'
-    → Along (view_of active.Freeing callers objects') w → NextLaw (event_of t) v w
+    → TellsSameStory (view_of active.Freeing callers objects') w → NextLaw (event_of t) v w
 free-law now v callers objects t objects' w e is n a =
     subst (λ (z : View). NextLaw (event_of t) z w) (ap (λ (z : Active). view_of z callers objects) (sym e) ∙ is) (n.law w a)

@@ -30,7 +30,7 @@ use Rattle.tree_specs.specs.Words.Ranges.{is_sound}
 use Rattle.tree_specs.specs.Rules.Story.{later, heard}
 use Rattle.tree_specs.specs.Machine.Table.{call_step, replied, doing, returning, lifted, announced, event_of, free_step}
 use Rattle.tree_specs.specs.Machine.View.{View, rest_of, question_in, question_of}
-use Rattle.tree_specs.specs.Invariants.Whole.{Whole}
+use Rattle.tree_specs.specs.Invariants.Consistent.{IsConsistent}
 use Rattle.tree_specs.proofs.Rules.Rest.{question-whole, question-items}
 use Rattle.destructors.specs.Callers.{under, call_view}
 use Rattle.object_pool.specs.Objects.{Objects}
@@ -42,8 +42,8 @@ use Rattle.host_core.specs.declared.caller.Waiting.{Waiting}
 use Rattle.host_core.specs.declared.reports.Report.{Report}
 use Rattle.host_core.specs.Moves.{report_of, call_of, reported}
 use Rattle.host_core.specs.Promises.{Waits, TakesAnswer}
-use Rattle.host_core.specs.Hosts.{seen, staged, open_at, stack_of, view_of, speaking_view, StandsAs, Ready, Along, asked_now, remembers, begins_with, MayBegin, IsReplyOf, IsCopy, IsReport}
-use Rattle.host_core.proofs.Onward.{onward, waits-asked, always-more}
+use Rattle.host_core.specs.Hosts.{seen, staged, open_at, stack_of, view_of, speaking_view, StandsAs, BetweenSteps, TellsSameStory, asked_now, remembers, begins_with, MayBegin, IsReplyOf, IsCopy, IsReport}
+use Rattle.host_core.proofs.StepsSilently.{onward, waits-asked, always-more}
 
 -- ---- the open question
 
@@ -83,10 +83,10 @@ asks-view (active.Caller c) q works cs p e = ap (λ (z : CallFrame). call_view z
 asks-view active.Freeing q works cs p e = absurd e
 
 -- a host that asks waits
-waits-now : (now : Active) (q : Ask) (works : List FreeFrame) (cs : List CallFrame) (p : Pool) → asked_now now ≡ Some q → Whole (seen now works cs p) → Waits (seen now works cs p)
+waits-now : (now : Active) (q : Ask) (works : List FreeFrame) (cs : List CallFrame) (p : Pool) → asked_now now ≡ Some q → IsConsistent (seen now works cs p) → Waits (seen now works cs p)
 waits-now now q works cs p e h =
     let a = asks-view now q works cs p (asking now q e) in
-    subst Waits (sym a) (waits-asked q (under works cs) p (subst Whole a h))
+    subst Waits (sym a) (waits-asked q (under works cs) p (subst IsConsistent a h))
 
 -- an answer that doesn't fit isn't asked for
 pub unasked : (o : Option Ask) (i : Input) → is_none (misfit o i) ≡ false → misfit o i ≡ Some NotAsked
@@ -139,10 +139,10 @@ answered q i m s = cc
 
 -- what stands after it, and the story that goes on
 pub record Goes (q : Ask) (i : Input) (v : View) (f : CallFrame) (works : List FreeFrame) (cs : List CallFrame) (p : Pool) : Type 0 where
-  pub whole : Whole (call_view f works cs p)
+  pub whole : IsConsistent (call_view f works cs p)
   pub law : (is : List Input) → rest_of v (i ∷ is) ≡ Asked q ∷ rest_of (call_view f works cs p) is
 
-goes-heard : (q : Ask) (i : Input) (works : List FreeFrame) (cs : List CallFrame) (p : Pool) → misfit (Some q) i ≡ None → is_sound i ≡ true → Whole (call_view (Asking q) works cs p)
+goes-heard : (q : Ask) (i : Input) (works : List FreeFrame) (cs : List CallFrame) (p : Pool) → misfit (Some q) i ≡ None → is_sound i ≡ true → IsConsistent (call_view (Asking q) works cs p)
     → Goes q i (call_view (Asking q) works cs p) (begins_with q i) works cs p
 goes-heard q i works cs p m s h =
     let v : View = call_view (Asking q) works cs p in
@@ -178,10 +178,10 @@ may-begin (input.Act (act.Ret v)) waiting places ready none place e = tt
 pub record Offered (now : Active) (callers : List Waiting) (objects : Objects) (i : Input) (q : Ask) (f : CallFrame) : Type 0 where
   pub open_before : asked_now now ≡ Some q
   pub fits : misfit (asked_now now) i ≡ None
-  pub whole : Whole (call_view f objects.works (stack_of callers) objects.pool)
+  pub whole : IsConsistent (call_view f objects.works (stack_of callers) objects.pool)
   pub law : (is : List Input) → rest_of (view_of now callers objects) (i ∷ is) ≡ Asked q ∷ rest_of (call_view f objects.works (stack_of callers) objects.pool) is
 
-module _ (now : Active) (callers : List Waiting) (objects : Objects) (i : Input) (ready : Ready now callers objects) (fits : is_none (misfit (asked_now now) i) ≡ true) (s : is_sound i ≡ true) where
+module _ (now : Active) (callers : List Waiting) (objects : Objects) (i : Input) (ready : BetweenSteps now callers objects) (fits : is_none (misfit (asked_now now) i) ≡ true) (s : is_sound i ≡ true) where
   pub asks-now : IsSome (asked_now now)
   asks-now = let f = fitting (asked_now now) i fits in rw f.1 refl
 
@@ -192,7 +192,7 @@ module _ (now : Active) (callers : List Waiting) (objects : Objects) (i : Input)
       let same' : f.0 ≡ q = cc in
       let fit : misfit (Some q) i ≡ None = ap (λ (z : Ask). misfit (Some z) i) (sym same') ∙ f.2 in
       let a = asks-view now q objects.works (stack_of callers) objects.pool (asking now q e) in
-      let g = goes-heard q i objects.works (stack_of callers) objects.pool fit s (subst Whole a ready.whole) in
+      let g = goes-heard q i objects.works (stack_of callers) objects.pool fit s (subst IsConsistent a ready.whole) in
       record {
         open_before = e;
         fits = rw e fit;
@@ -207,7 +207,7 @@ module _ (now : Active) (callers : List Waiting) (objects : Objects) (i : Input)
       let fit : misfit (Some q) i ≡ None = ap (λ (z : Option Ask). misfit z i) (sym e) ∙ f.fits in
       let does = reports q i o wants in
       let g : Goes q i (view_of now callers objects) (Doing q (call.Report o)) objects.works (stack_of callers) objects.pool = record {
-        whole = subst (λ (z : CallFrame). Whole (call_view z objects.works (stack_of callers) objects.pool)) does f.whole;
+        whole = subst (λ (z : CallFrame). IsConsistent (call_view z objects.works (stack_of callers) objects.pool)) does f.whole;
         law = λ is. f.law is ∙ ap (λ (z : CallFrame). Asked q ∷ rest_of (call_view z objects.works (stack_of callers) objects.pool) is) does;
       } in
       let t = goes-replied q (call.Report o) r.reply i _ objects.works (stack_of callers) objects.pool (is.reply q) g in
@@ -219,14 +219,14 @@ pub question-view : (v : View) (now : Active) (callers : List Waiting) (objects 
 question-view v now callers objects e = ap question_of (sym e) ∙ question-seen now objects.works (stack_of callers) objects.pool
 
 -- an open question that is lent is waited at
-pub waits-some : {R : Type 0} (v : R → Ask) (lent : Option R) (now : Active) (callers : List Waiting) (objects : Objects) → Whole (view_of now callers objects) → option_map v lent ≡ asked_now now → is_some lent ≡ true
+pub waits-some : {R : Type 0} (v : R → Ask) (lent : Option R) (now : Active) (callers : List Waiting) (objects : Objects) → IsConsistent (view_of now callers objects) → option_map v lent ≡ asked_now now → is_some lent ≡ true
     → Waits (view_of now callers objects)
 waits-some v None now callers objects h e s = cc
 waits-some v (Some r) now callers objects h e s = waits-now now (v r) objects.works (stack_of callers) objects.pool (sym e) h
 
 -- the answer was taken, and the story goes on after the steps that tell nothing
 pub takes-answer : (v : View) (now : Active) (callers : List Waiting) (objects : Objects) (i : Input) (q : Ask) (f : CallFrame) (w : View) → view_of now callers objects ≡ v → Offered now callers objects i q f
-    → Along (call_view f objects.works (stack_of callers) objects.pool) w → TakesAnswer v i w
+    → TellsSameStory (call_view f objects.works (stack_of callers) objects.pool) w → TakesAnswer v i w
 takes-answer v now callers objects i q f w e o a = record {
   question = q;
   open_before = question-view v now callers objects e ∙ o.open_before;

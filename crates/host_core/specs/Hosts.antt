@@ -31,7 +31,7 @@ use Rattle.tree_specs.specs.Calls.Refusals.{refusals}
 use Rattle.tree_specs.specs.Rules.Story.{later}
 use Rattle.tree_specs.specs.Invariants.Measure.{pending, cost}
 use Rattle.tree_specs.specs.Machine.View.{View, rest_of}
-use Rattle.tree_specs.specs.Invariants.Whole.{Whole}
+use Rattle.tree_specs.specs.Invariants.Consistent.{IsConsistent}
 use Rattle.destructors.specs.Frees.{speaking}
 use Rattle.destructors.specs.Works.{IsAtWork}
 use Rattle.destructors.specs.Callers.{free_view, call_view}
@@ -78,12 +78,12 @@ seen active.Freeing [] callers p = record { innermost = frame.Free (Ending Ok); 
 seen active.Freeing (f ∷ fs) callers p = free_view f fs callers p
 
 -- the works of a host whose caller, which was asked this, has done a call: it goes on, or waits for what the call has begun
-abbrev pub motion_view : Ask → Motion → List FreeFrame → List CallFrame → Pool → View
-motion_view q (Replies b) works callers p = call_view (telling q b) works callers p
-motion_view q (Warns x b) works callers p = call_view (warning q x b) works callers p
-motion_view q (Frees x) works callers p = free_view (Beginning x) works (Awaiting q x ∷ callers) p
-motion_view q (Unlinks o x) works callers p = free_view (Unlinking o x) works (Awaiting q x ∷ callers) p
-motion_view q (Empties x) works callers p = free_view (Looping x Emptying) works (Awaiting q x ∷ callers) p
+abbrev pub view_after : Ask → Motion → List FreeFrame → List CallFrame → Pool → View
+view_after q (Replies b) works callers p = call_view (telling q b) works callers p
+view_after q (Warns x b) works callers p = call_view (warning q x b) works callers p
+view_after q (Frees x) works callers p = free_view (Beginning x) works (Awaiting q x ∷ callers) p
+view_after q (Unlinks o x) works callers p = free_view (Unlinking o x) works (Awaiting q x ∷ callers) p
+view_after q (Empties x) works callers p = free_view (Looping x Emptying) works (Awaiting q x ∷ callers) p
 
 abbrev pub view_of : Active → List Waiting → Objects → View
 view_of now callers objects = seen now objects.works (stack_of callers) objects.pool
@@ -104,17 +104,17 @@ abbrev pub PartsReady : Active → Objects → Type 0
 PartsReady (active.Caller c) objects = Unit {0}
 PartsReady active.Freeing objects = FreeReady objects
 
-pub record Ready (now : Active) (callers : List Waiting) (objects : Objects) : Type 0 where
-  pub whole : Whole (view_of now callers objects)
+pub record BetweenSteps (now : Active) (callers : List Waiting) (objects : Objects) : Type 0 where
+  pub whole : IsConsistent (view_of now callers objects)
   pub parts : PartsReady now objects
 
 -- ---- the same of the parts as one
 
-abbrev pub view_in : Active → Parts → View
-view_in now parts = view_of now parts.callers.items parts.objects
+abbrev pub host_view : Active → Parts → View
+host_view now parts = view_of now parts.callers.items parts.objects
 
-abbrev pub IsReady : Active → Parts → Type 0
-IsReady now parts = Ready now parts.callers.items parts.objects
+abbrev pub IsBetweenSteps : Active → Parts → Type 0
+IsBetweenSteps now parts = BetweenSteps now parts.callers.items parts.objects
 
 -- the works of a host whose caller is at this frame
 abbrev pub view_at : CallFrame → Parts → View
@@ -150,15 +150,15 @@ abbrev pub speaking_view : View → Bool
 speaking_view v = speaks (step v.innermost v.pool)
 
 -- From one moment of a host to a later one nothing was told or asked.
-pub record Along (v w : View) : Type 0 where
-  pub whole : Whole w
+pub record TellsSameStory (v w : View) : Type 0 where
+  pub whole : IsConsistent w
   pub rows : (R : ℕ) → length v.pool.rows + pending v.innermost ≤ R → length w.pool.rows + pending w.innermost ≤ R
   pub no_dearer : (R : ℕ) → length v.pool.rows + pending v.innermost ≤ R → cost R w.innermost w.below w.pool 0 ≤ cost R v.innermost v.below v.pool 0
   pub same : (is : List Input) → rest_of v is ≡ rest_of w is
 
 -- The same, by at least one step.
-pub record Onward (v w : View) : Type 0 where
-  pub along : Along v w
+pub record StepsSilently (v w : View) : Type 0 where
+  pub along : TellsSameStory v w
   pub cheaper : (R : ℕ) → length v.pool.rows + pending v.innermost ≤ R → cost R w.innermost w.below w.pool 0 < cost R v.innermost v.below v.pool 0
 
 -- the innermost caller goes on with what the free that it has waited for answers

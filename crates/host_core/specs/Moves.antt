@@ -24,20 +24,20 @@ use Rattle.tree_specs.specs.Rules.Items.{Item}
 use Rattle.tree_specs.specs.Rules.Story.{later}
 use Rattle.host_core.specs.declared.motion.Motion.{Motion}
 use Rattle.host_core.specs.declared.motion.Motion.TheVariants.{Replies, Warns, Frees, Unlinks, Empties}
-use Rattle.host_core.specs.declared.brief.Brief.{Brief}
-use Rattle.host_core.specs.declared.brief.Brief.TheVariants as brief
+use Rattle.host_core.specs.declared.short_reply.ShortReply.{ShortReply}
+use Rattle.host_core.specs.declared.short_reply.ShortReply.TheVariants as short_reply
 
-abbrev pub reply_of : Brief → Reply
-reply_of brief.Ok = reply.Ok
-reply_of (brief.Number n) = reply.Number n
-reply_of (brief.No why) = reply.No why
+abbrev pub reply_of : ShortReply → Reply
+reply_of short_reply.Ok = reply.Ok
+reply_of (short_reply.Number n) = reply.Number n
+reply_of (short_reply.No why) = reply.No why
 
 -- the reply is told next
-abbrev pub telling : Ask → Brief → CallFrame
+abbrev pub telling : Ask → ShortReply → CallFrame
 telling q b = Telling (later q (reply_of b)) (reply_of b)
 
 -- a warning is told next, and then the reply
-abbrev pub warning : Ask → Obj → Brief → CallFrame
+abbrev pub warning : Ask → Obj → ShortReply → CallFrame
 warning q x b = Warning (later q (reply_of b)) x (reply_of b)
 
 -- what a call does first, for a caller that was asked this

@@ -7,7 +7,7 @@ ghost use Rattle.tree_specs.specs.Texts.Schedule.{misfit};
 ghost use Rattle.host_core.specs.Hosts.{remembers, asked_now, StandsAs};
 ghost use Rattle.host_core.specs.Moves.{telling, warning};
 
-use crate::brief::Brief;
+use crate::short_reply::ShortReply;
 use crate::caller::{Caller, Stage};
 use crate::reports::Report;
 use tree_specs::{Ask, Input, Obj};
@@ -48,7 +48,7 @@ impl Active {
     }
 
     /// The reply to the call of the caller that was asked comes next.
-    pub fn reply(&mut self, reply: Brief)
+    pub fn reply(&mut self, reply: ShortReply)
         requires { IsSome (asked_now self.old) }
         ensures { (q : AskData) → asked_now self.old ≡ Some q → StandsAs self.new (telling q reply) }
     {
@@ -58,7 +58,7 @@ impl Active {
     }
 
     /// A warning comes next, and then the reply to the call of the caller that was asked.
-    pub fn warn(&mut self, x: Obj, reply: Brief)
+    pub fn warn(&mut self, x: Obj, reply: ShortReply)
         requires { IsSome (asked_now self.old) }
         ensures { (q : AskData) → asked_now self.old ≡ Some q → StandsAs self.new (warning q x reply) }
     {

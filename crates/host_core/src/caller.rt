@@ -10,7 +10,7 @@ ghost use Rattle.tree_specs.specs.Machine.Table.{caller_resume};
 ghost use Rattle.host_core.specs.Hosts.{frame_of, awaiting, after_telling, told_by, remembers};
 ghost use Rattle.host_core.specs.Moves.{reply_of, telling, warning};
 
-use crate::brief::Brief;
+use crate::short_reply::ShortReply;
 use crate::calls::freed;
 use object_pool::ObjectPool;
 use std::mem;
@@ -52,7 +52,7 @@ fn note(moment: &mut Moment, last: Reply)
 }
 
 /// A routine remembers the reply to its last call, and how many calls it has done.
-fn remember(ask: &mut Ask, last: Brief)
+fn remember(ask: &mut Ask, last: ShortReply)
     ensures { ask.new ≡ later ask.old (reply_of last) }
 {
     if let Ask::Routine(moment) = ask {
@@ -92,7 +92,7 @@ impl Caller {
     }
 
     /// The reply to its call comes next, and the caller remembers it.
-    pub fn reply(&mut self, reply: Brief)
+    pub fn reply(&mut self, reply: ShortReply)
         ensures { frame_of self.new ≡ telling self.old.ask reply }
     {
         remember(&mut self.ask, reply);
@@ -100,7 +100,7 @@ impl Caller {
     }
 
     /// A warning comes next, and then the reply, which the caller remembers.
-    pub fn warn(&mut self, x: Obj, reply: Brief)
+    pub fn warn(&mut self, x: Obj, reply: ShortReply)
         ensures { frame_of self.new ≡ warning self.old.ask x reply }
     {
         remember(&mut self.ask, reply);

@@ -12,7 +12,7 @@ ghost use Rattle.tree_links.specs.Links.{MayPlace};
 ghost use Rattle.object_pool.specs.Objects.{RefsMayGo};
 ghost use Rattle.host_core.specs.Moves.{move_of, reply_of, report_of, ReadyFor};
 
-use crate::brief::Brief;
+use crate::short_reply::ShortReply;
 use crate::motion::Motion;
 use crate::refusals::check;
 use object_pool::ObjectPool;
@@ -20,14 +20,14 @@ use std::alloc::Global;
 use tree_specs::{Call, FreeReply, Obj, Owner, Refusal};
 
 /// The reply to a call that has freed.
-pub fn freed(x: Obj, answer: FreeReply) -> Brief
+pub fn freed(x: Obj, answer: FreeReply) -> ShortReply
     ensures { reply_of result ≡ freed_reply x answer }
 {
     match answer {
-        FreeReply::Ok => Brief::Ok,
-        FreeReply::Held => Brief::No(Refusal::Held(x)),
-        FreeReply::Running => Brief::No(Refusal::Running(x)),
-        FreeReply::Refused(answer) => Brief::No(Refusal::Refused { object: x, answer }),
+        FreeReply::Ok => ShortReply::Ok,
+        FreeReply::Held => ShortReply::No(Refusal::Held(x)),
+        FreeReply::Running => ShortReply::No(Refusal::Running(x)),
+        FreeReply::Refused(answer) => ShortReply::No(Refusal::Refused { object: x, answer }),
     }
 }
 
@@ -39,7 +39,7 @@ fn warns(owner: Owner, x: Obj, pool: &ObjectPool) -> bool
 }
 
 /// Puts an object below an owner. What is worth a warning is told before the reply.
-fn give(x: Obj, owner: Owner, reply: Brief, pool: &mut ObjectPool) -> Motion
+fn give(x: Obj, owner: Owner, reply: ShortReply, pool: &mut ObjectPool) -> Motion
     requires { MayPlace pool.old.pool.rows x owner }
     ensures goes { ReadyFor result pool.new.ready }
     ensures works { pool.new.works ≡ pool.old.works }
@@ -65,10 +65,10 @@ fn free(x: Obj, pool: &ObjectPool) -> Motion
 }
 
 /// The reply to a change that is made.
-fn done(_change: ()) -> Brief
+fn done(_change: ()) -> ShortReply
     ensures { reply_of result ≡ OkReply }
 {
-    Brief::Ok
+    ShortReply::Ok
 }
 
 /// Does a call that isn't refused, and takes no memory for its reply.
@@ -83,23 +83,23 @@ fn effect(alloc: Global, call: Call, pool: &mut ObjectPool) -> Motion
     ensures moved { (q : AskData) → move_of q result pool.new.pool ≡ plan_step q (plan pool.old.pool call) pool.old.pool }
 {
     let reply = match call {
-        Call::New { owner, size, name } => Brief::Number(pool.add(name, size, owner).0),
-        Call::Reference { owner, x } => Brief::Number(pool.refer(alloc, x, owner).0),
+        Call::New { owner, size, name } => ShortReply::Number(pool.add(name, size, owner).0),
+        Call::Reference { owner, x } => ShortReply::Number(pool.refer(alloc, x, owner).0),
         Call::Free { x } => return free(x, pool),
         Call::Freekids { x } => return Motion::Empties(x),
         Call::Unlink { owner, x } => return Motion::Unlinks(owner, x),
-        Call::Steal { owner, x } => return give(x, owner, Brief::Ok, pool),
-        Call::Move { owner, x } => return give(x, owner, Brief::Number(x.0), pool),
+        Call::Steal { owner, x } => return give(x, owner, ShortReply::Ok, pool),
+        Call::Move { owner, x } => return give(x, owner, ShortReply::Number(x.0), pool),
         Call::Reparent { from, to, x } => done(pool.reparent(from, to, x)),
         Call::Hook { x, routine } => done(pool.hook(x, routine)),
         Call::Unhook { x } => done(pool.hook(x, 0)),
         Call::Rename { x, name } => done(pool.rename(x, name)),
         Call::Resize { x, size } => done(pool.resize(x, size)),
         Call::Limit { x, max } => done(pool.limit(x, max)),
-        Call::Parent { x } => Brief::Number(pool.parent(x).unwrap_or(Owner::Root).number()),
-        Call::Total { owner } => Brief::Number(pool.total(owner)),
-        Call::Count { owner } => Brief::Number(pool.count(owner)),
-        Call::Sum { owner } => Brief::Number(pool.sum(owner)),
+        Call::Parent { x } => ShortReply::Number(pool.parent(x).unwrap_or(Owner::Root).number()),
+        Call::Total { owner } => ShortReply::Number(pool.total(owner)),
+        Call::Count { owner } => ShortReply::Number(pool.count(owner)),
+        Call::Sum { owner } => ShortReply::Number(pool.sum(owner)),
         Call::Report { .. } => unreachable!(),
     };
     Motion::Replies(reply)
@@ -117,6 +117,6 @@ pub fn act(alloc: Global, call: Call, pool: &mut ObjectPool) -> Motion
 {
     match check(&call, pool) {
         Ok(()) => effect(alloc, call, pool),
-        Err(why) => Motion::Replies(Brief::No(why)),
+        Err(why) => Motion::Replies(ShortReply::No(why)),
     }
 }

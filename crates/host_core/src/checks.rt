@@ -6,7 +6,7 @@ ghost use Rattle.tree_specs.specs.Calls.Refusals.{checked, small, owner, object_
 use crate::subject::Subject;
 use object_pool::ObjectPool;
 use tree_specs::Test::{
-    Fits, HasRoom, IsApart, IsInterested, IsObject, IsOwner, IsPlain, IsSmall, IsStaying, IsStill,
+    Fits, HasRoom, IsNotInside, IsInterested, IsObject, IsOwner, IsPlain, IsSmall, IsNotDying, IsNotRunning,
     IsUnheld, IsUnreferenced, MayGive, MayGrow,
 };
 use tree_specs::{Kind, Mark, Obj, Owner, ROW_LIMIT, Refusal, Row, SIZE_LIMIT, Test};
@@ -78,7 +78,7 @@ fn check_room(rows: u8, pool: &ObjectPool) -> Result<(), Refusal>
 
 /// An object that is being freed stays where it is.
 #[inline]
-fn check_staying(x: Obj, objects: &Subject) -> Result<(), Refusal>
+fn check_not_dying(x: Obj, objects: &Subject) -> Result<(), Refusal>
     ensures { result ≡ checked (staying objects.now x) }
 {
     match objects.row(x) {
@@ -93,7 +93,7 @@ fn check_staying(x: Obj, objects: &Subject) -> Result<(), Refusal>
 }
 
 /// No object comes to be inside itself.
-fn check_apart(x: Obj, owner: Owner, pool: &ObjectPool) -> Result<(), Refusal>
+fn check_not_inside(x: Obj, owner: Owner, pool: &ObjectPool) -> Result<(), Refusal>
     ensures { result ≡ checked (apart pool.now.pool x owner) }
 {
     if pool.is_inside(owner, Owner::Of(x)) {
@@ -104,7 +104,7 @@ fn check_apart(x: Obj, owner: Owner, pool: &ObjectPool) -> Result<(), Refusal>
 
 /// No reference is made to an object whose destructor or handler runs.
 #[inline]
-fn check_still(x: Obj, objects: &Subject) -> Result<(), Refusal>
+fn check_not_running(x: Obj, objects: &Subject) -> Result<(), Refusal>
     ensures { result ≡ checked (still objects.now x) }
 {
     match objects.row(x) {
@@ -147,7 +147,7 @@ fn check_given(from: Owner, to: Owner, x: Obj, pool: &ObjectPool) -> Result<(), 
     ensures { result ≡ checked (given_by pool.now.pool from to x) }
 {
     if pool.owns(from, x) {
-        return check_apart(x, to, pool);
+        return check_not_inside(x, to, pool);
     }
     check_interested(from, x, pool)
 }
@@ -186,9 +186,9 @@ fn check_test(test: Test, objects: &Subject) -> Result<(), Refusal>
         HasRoom(rows) => check_room(rows, objects.pool()),
         Fits(owner, wanted) => objects.pool().fits(owner, wanted),
         MayGrow(x, size) => check_growing(x, size, objects),
-        IsStaying(x) => check_staying(x, objects),
-        IsStill(x) => check_still(x, objects),
-        IsApart(x, owner) => check_apart(x, owner, objects.pool()),
+        IsNotDying(x) => check_not_dying(x, objects),
+        IsNotRunning(x) => check_not_running(x, objects),
+        IsNotInside(x, owner) => check_not_inside(x, owner, objects.pool()),
         IsUnheld(x) => check_held(x, objects.pool()),
         IsUnreferenced(x) => check_unreferenced(x, objects.pool()),
         IsInterested(owner, x) => check_interested(owner, x, objects.pool()),

@@ -31,7 +31,7 @@ fn event(step: FreeStep) -> Option<Event>
     }
 }
 
-/// Takes the memory for all that comes up to the next question. After want of memory callers and objects are as they
+/// Takes the memory for all that comes up to the next question. If memory runs out, callers and objects are as they
 /// were.
 fn make_room(callers: &mut Vec<Waiting>, objects: &mut ObjectPool) -> Result<(), Memory>
     ensures callers { callers.new.items ≡ callers.old.items }
@@ -59,11 +59,11 @@ impl Model for Host {
     ghost Value = { View };
 
     ghost use Rattle.std.specs.Prelude.{◌≡◌, true};
-    ghost use Rattle.host_core.specs.Hosts.{view_in, IsReady, speaking_view};
+    ghost use Rattle.host_core.specs.Hosts.{host_view, IsBetweenSteps, speaking_view};
 
-    ghost view = { λ h. view_in h.active h.parts };
+    ghost view = { λ h. host_view h.active h.parts };
 
-    ghost invariant = { λ h. IsReady h.active h.parts × (speaking_view (view_in h.active h.parts) ≡ true) };
+    ghost invariant = { λ h. IsBetweenSteps h.active h.parts × (speaking_view (host_view h.active h.parts) ≡ true) };
 }
 
 impl Host {
@@ -75,7 +75,7 @@ impl Host {
     ghost use Rattle.host_core.specs.Promises.{Waits, NextLaw, TakesAnswer};
 
     /// A host with no objects, whose first one gets the number `first`. It waits for a call.
-    #[tactic(auto, using(crate::proofs::Onward::begin_waits))]
+    #[tactic(auto, using(crate::proofs::StepsSilently::begin_waits))]
     pub fn new(alloc: Global, first: u64) -> Result<Host, Memory>
         requires { 1 ≤ first }
         ensures begins { IfOk result (λ host. host ≡ begin first) }

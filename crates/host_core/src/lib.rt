@@ -2,7 +2,7 @@
 #![tactic(auto)]
 
 mod active;
-mod brief;
+mod short_reply;
 mod caller;
 mod calls;
 mod checks;

@@ -1,13 +1,13 @@
-use crate::brief::Brief;
+use crate::short_reply::ShortReply;
 use tree_specs::{Obj, Owner};
 
 /// What a call does first.
 #[derive(Clone, Copy, Debug)]
 pub enum Motion {
     /// It is done, and this is its reply.
-    Replies(Brief),
+    Replies(ShortReply),
     /// It is done. That the object has references and went to another owner is told before the reply.
-    Warns(Obj, Brief),
+    Warns(Obj, ShortReply),
     /// The object is freed, and the caller waits.
     Frees(Obj),
     /// The interest of an owner in the object is taken away, and the caller waits.

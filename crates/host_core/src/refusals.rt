@@ -10,7 +10,7 @@ use crate::checks::{
 use crate::subject::Subject;
 use object_pool::ObjectPool;
 use tree_specs::Test::{
-    Fits, HasRoom, IsApart, IsInterested, IsObject, IsOwner, IsPlain, IsSmall, IsStaying, IsStill,
+    Fits, HasRoom, IsNotInside, IsInterested, IsObject, IsOwner, IsPlain, IsSmall, IsNotDying, IsNotRunning,
     IsUnheld, IsUnreferenced, MayGive, MayGrow,
 };
 use tree_specs::{Call, OVERHEAD, Obj, Owner, Refusal, Test};
@@ -32,13 +32,13 @@ fn check_new(owner: Owner, size: u64, pool: &ObjectPool) -> Result<(), Refusal>
 
 /// An object is put below an owner.
 fn check_placing(owner: Owner, x: Obj, pool: &ObjectPool) -> Result<(), Refusal>
-    ensures { result ≡ checked (refused pool.now.pool (Test.IsObject x ∷ Test.IsOwner owner ∷ Test.IsStaying x ∷ Test.IsApart x owner ∷ [])) }
+    ensures { result ≡ checked (refused pool.now.pool (Test.IsObject x ∷ Test.IsOwner owner ∷ Test.IsNotDying x ∷ Test.IsNotInside x owner ∷ [])) }
 {
     check_four(
         IsObject(x),
         IsOwner(owner),
-        IsStaying(x),
-        IsApart(x, owner),
+        IsNotDying(x),
+        IsNotInside(x, owner),
         &Subject::object(x, pool),
     )
 }
@@ -51,7 +51,7 @@ fn check_reparent(from: Owner, to: Owner, x: Obj, pool: &ObjectPool) -> Result<(
         IsObject(x),
         IsOwner(from),
         IsOwner(to),
-        IsStaying(x),
+        IsNotDying(x),
         MayGive(from, to, x),
         &Subject::object(x, pool),
     )
@@ -65,8 +65,8 @@ fn check_reference(owner: Owner, x: Obj, pool: &ObjectPool) -> Result<(), Refusa
         IsObject(x),
         IsPlain(x),
         IsOwner(owner),
-        IsStill(x),
-        IsStaying(x),
+        IsNotRunning(x),
+        IsNotDying(x),
         HasRoom(1),
         &Subject::object(x, pool),
     )
@@ -81,7 +81,7 @@ fn check_resize(x: Obj, size: u64, pool: &ObjectPool) -> Result<(), Refusal>
         IsObject(x),
         IsPlain(x),
         IsUnreferenced(x),
-        IsStaying(x),
+        IsNotDying(x),
         MayGrow(x, size),
         &Subject::object(x, pool),
     )
@@ -109,12 +109,12 @@ pub fn check(call: &Call, pool: &ObjectPool) -> Result<(), Refusal>
             check_three(
                 IsObject(x),
                 IsPlain(x),
-                IsStaying(x),
+                IsNotDying(x),
                 &Subject::object(x, pool),
             )
         }
         Call::Resize { x, size } => check_resize(x, size, pool),
-        Call::Parent { x } => check_two(IsObject(x), IsStaying(x), &Subject::object(x, pool)),
+        Call::Parent { x } => check_two(IsObject(x), IsNotDying(x), &Subject::object(x, pool)),
         Call::Freekids { x } | Call::Rename { x, .. } | Call::Limit { x, .. } => {
             check_row(x, pool.row(x))
         }

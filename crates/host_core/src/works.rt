@@ -2,11 +2,11 @@
 ghost use Rattle.std.specs.Prelude.{◌≡◌, ◌<◌, [], ◌∷◌, ◌++◌, Some, IsSome, true, false, length, vec_capacity};
 ghost use Rattle.tree_specs.specs.declared.frame.CallFrame.TheVariants.{Doing};
 ghost use Rattle.tree_specs.specs.declared.question.Ask.{Ask as AskData};
-ghost use Rattle.tree_specs.specs.Invariants.Whole.{Whole};
+ghost use Rattle.tree_specs.specs.Invariants.Consistent.{IsConsistent};
 ghost use Rattle.destructors.specs.Works.{IsAwaiting};
 ghost use Rattle.object_pool.specs.Objects.{frees_in};
 ghost use Rattle.host_core.specs.Moves.{ReadyFor};
-ghost use Rattle.host_core.specs.Hosts.{stack_of, motion_view, view_in, view_at, speaking_view, asked_now, begins_with, MayDo, MayBegin, Along, Onward, IsReady, Finished};
+ghost use Rattle.host_core.specs.Hosts.{stack_of, view_after, host_view, view_at, speaking_view, asked_now, begins_with, MayDo, MayBegin, TellsSameStory, StepsSilently, IsBetweenSteps, Finished};
 
 use crate::active::Active;
 use crate::caller::{Caller, Waiting};
@@ -33,12 +33,12 @@ fn wait(now: &mut Active, callers: &mut Vec<Waiting>, x: Obj)
 /// The caller that was asked goes on with what its call does first.
 fn go_on(now: &mut Active, motion: Motion, parts: &mut Parts)
     requires asks { IsSome (asked_now now.old) }
-    requires whole { (q : AskData) → asked_now now.old ≡ Some q → Whole (motion_view q motion parts.old.objects.works (stack_of parts.old.callers.items) parts.old.objects.pool) }
+    requires whole { (q : AskData) → asked_now now.old ≡ Some q → IsConsistent (view_after q motion parts.old.objects.works (stack_of parts.old.callers.items) parts.old.objects.pool) }
     requires awaiting { IsAwaiting (frees_in parts.old.objects) }
     requires place { length parts.old.callers.items < vec_capacity parts.old.callers }
     requires room { ReadyFor motion parts.old.objects.ready }
-    ensures along { (q : AskData) → asked_now now.old ≡ Some q → Along (motion_view q motion parts.old.objects.works (stack_of parts.old.callers.items) parts.old.objects.pool) (view_in now.new parts.new) }
-    ensures ready { IsReady now.new parts.new }
+    ensures along { (q : AskData) → asked_now now.old ≡ Some q → TellsSameStory (view_after q motion parts.old.objects.works (stack_of parts.old.callers.items) parts.old.objects.pool) (host_view now.new parts.new) }
+    ensures ready { IsBetweenSteps now.new parts.new }
 {
     let Parts { callers, objects } = parts;
     match motion {
@@ -62,10 +62,10 @@ fn go_on(now: &mut Active, motion: Motion, parts: &mut Parts)
 /// Does a call for the caller that was asked.
 fn call_on(now: &mut Active, call: Call, parts: &mut Parts)
     requires asks { IsSome (asked_now now.old) }
-    requires whole { (q : AskData) → asked_now now.old ≡ Some q → Whole (view_at (Doing q call) parts.old) }
+    requires whole { (q : AskData) → asked_now now.old ≡ Some q → IsConsistent (view_at (Doing q call) parts.old) }
     requires may { MayDo call (length parts.old.callers.items) (vec_capacity parts.old.callers) parts.old.objects.ready }
-    ensures along { (q : AskData) → asked_now now.old ≡ Some q → Along (view_at (Doing q call) parts.old) (view_in now.new parts.new) }
-    ensures ready { IsReady now.new parts.new }
+    ensures along { (q : AskData) → asked_now now.old ≡ Some q → TellsSameStory (view_at (Doing q call) parts.old) (host_view now.new parts.new) }
+    ensures ready { IsBetweenSteps now.new parts.new }
 {
     let alloc = *parts.callers.allocator();
     let motion = act(alloc, call, &mut parts.objects);
@@ -75,10 +75,10 @@ fn call_on(now: &mut Active, call: Call, parts: &mut Parts)
 /// The caller that was asked goes on with the answer.
 pub fn answer_on(now: &mut Active, input: Input, parts: &mut Parts)
     requires asks { IsSome (asked_now now.old) }
-    requires whole { (q : AskData) → asked_now now.old ≡ Some q → Whole (view_at (begins_with q input) parts.old) }
+    requires whole { (q : AskData) → asked_now now.old ≡ Some q → IsConsistent (view_at (begins_with q input) parts.old) }
     requires may { MayBegin input (length parts.old.callers.items) (vec_capacity parts.old.callers) parts.old.objects.ready }
-    ensures along { (q : AskData) → asked_now now.old ≡ Some q → Along (view_at (begins_with q input) parts.old) (view_in now.new parts.new) }
-    ensures ready { IsReady now.new parts.new }
+    ensures along { (q : AskData) → asked_now now.old ≡ Some q → TellsSameStory (view_at (begins_with q input) parts.old) (host_view now.new parts.new) }
+    ensures ready { IsBetweenSteps now.new parts.new }
 {
     match input {
         Input::Call(call) => call_on(now, call, parts),
@@ -102,10 +102,10 @@ fn finish(answer: FreeReply, callers: &mut Vec<Waiting>) -> Active
 
 /// A step of the innermost free that tells no event.
 fn free_on(parts: &mut Parts) -> Active
-    requires ready { IsReady Active.Freeing parts.old }
-    requires quiet { speaking_view (view_in Active.Freeing parts.old) ≡ false }
-    ensures onward { Onward (view_in Active.Freeing parts.old) (view_in result parts.new) }
-    ensures ready { IsReady result parts.new }
+    requires ready { IsBetweenSteps Active.Freeing parts.old }
+    requires quiet { speaking_view (host_view Active.Freeing parts.old) ≡ false }
+    ensures onward { StepsSilently (host_view Active.Freeing parts.old) (host_view result parts.new) }
+    ensures ready { IsBetweenSteps result parts.new }
 {
     match parts.objects.step() {
         FreeStep::Ask(x) => Active::Caller(Caller::run(x, &parts.objects)),
@@ -116,10 +116,10 @@ fn free_on(parts: &mut Parts) -> Active
 
 /// The steps of the innermost free that tell nothing, up to its next event, or to a caller that goes on.
 fn free_up(parts: &mut Parts) -> Active
-    requires { IsReady Active.Freeing parts.old }
-    ensures along { Along (view_in Active.Freeing parts.old) (view_in result parts.new) }
-    ensures ready { IsReady result parts.new }
-    ensures settled { speaking_view (view_in result parts.new) ≡ true }
+    requires { IsBetweenSteps Active.Freeing parts.old }
+    ensures along { TellsSameStory (host_view Active.Freeing parts.old) (host_view result parts.new) }
+    ensures ready { IsBetweenSteps result parts.new }
+    ensures settled { speaking_view (host_view result parts.new) ≡ true }
 {
     while !parts.objects.announces() {
         if let Active::Caller(caller) = free_on(parts) {
@@ -131,10 +131,10 @@ fn free_up(parts: &mut Parts) -> Active
 
 /// The steps that tell nothing, up to the next event or question.
 pub fn settle(now: &mut Active, parts: &mut Parts)
-    requires { IsReady now.old parts.old }
-    ensures along { Along (view_in now.old parts.old) (view_in now.new parts.new) }
-    ensures ready { IsReady now.new parts.new }
-    ensures settled { speaking_view (view_in now.new parts.new) ≡ true }
+    requires { IsBetweenSteps now.old parts.old }
+    ensures along { TellsSameStory (host_view now.old parts.old) (host_view now.new parts.new) }
+    ensures ready { IsBetweenSteps now.new parts.new }
+    ensures settled { speaking_view (host_view now.new parts.new) ≡ true }
 {
     if matches!(now, Active::Freeing)
         && let Active::Caller(caller) = free_up(parts)

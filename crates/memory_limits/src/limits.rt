@@ -50,7 +50,7 @@ impl Sums {
         }
     }
 
-    /// Takes memory for so many more limits. After want of memory they are as they were.
+    /// Takes memory for so many more limits. If memory runs out, they are as they were.
     pub fn reserve(&mut self, more: usize) -> Result<(), Memory>
         ensures limits { self.new.limited ≡ self.old.limited }
         ensures spare { OnOk result (more ≤ self.new.spare) }

@@ -357,7 +357,7 @@ impl ObjectPool {
         self.sums.fits(&self.tree, owner, wanted)
     }
 
-    /// The report of an owner. An error is want of memory.
+    /// The report of an owner. An error means out of memory.
     pub fn report(&self, alloc: Global, owner: Owner) -> Result<ReportRows, Memory>
         ensures { IfOk result (λ rows. rows ≡ report self.now.pool.rows owner) }
     {

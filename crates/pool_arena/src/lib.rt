@@ -61,7 +61,7 @@ impl<T> Arena<T> {
         }
     }
 
-    /// Takes memory for so many more values. After want of memory the values are as they were.
+    /// Takes memory for so many more values. If memory runs out, the values are as they were.
     pub fn reserve(&mut self, n: usize) -> Result<(), AllocError>
         ensures pairs { self.new.pairs ≡ self.old.pairs }
         ensures spare { self.old.spare ≤ self.new.spare }

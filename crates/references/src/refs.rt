@@ -86,7 +86,7 @@ impl Refs {
         }
     }
 
-    /// Takes memory for so many more references. After want of memory they are as they were.
+    /// Takes memory for so many more references. If memory runs out, they are as they were.
     pub fn reserve(&mut self, more: usize) -> Result<(), Memory>
         ensures pairs { self.new.pairs ≡ self.old.pairs }
         ensures spare { OnOk result (more ≤ self.new.spare) }

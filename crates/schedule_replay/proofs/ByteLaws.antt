@@ -12,7 +12,7 @@ use Rattle.host_core.specs.Promises.{Waits}
 use Rattle.schedule_replay.specs.declared.refusal.LineError.{LineError}
 use Rattle.schedule_replay.specs.declared.refusal.LineError.TheVariants as errors
 use Rattle.schedule_replay.specs.Replays.{Replayed, with_front, replayed_from, ended_line, BeginsText, has_no_lf}
-use Rattle.schedule_replay.specs.Readings.{Reading, from_line, with_more, refused_text, RefusesHere, LineDone, TakesLine, Advances, Takes, EndsFront, Finishes, IsReady}
+use Rattle.schedule_replay.specs.Readings.{Reading, from_line, with_more, refused_text, RefusesHere, LineDone, TakesLine, Advances, Takes, EndsFront, Finishes, IsBetweenBytes}
 use Rattle.schedule_replay.specs.Cuts.{at_line}
 use Rattle.schedule_replay.proofs.TextLaws.{behind-behind, behind-nil, begins_behind}
 use Rattle.schedule_replay.proofs.LineLaws.{lines_ended, lines_from, lines_last, lines_some, plain_append}
@@ -29,7 +29,7 @@ front-front x y r = ap (λ (t : Option (List ℕ)). let z : Replayed = record { 
 
 -- ---- the end of a line
 
-pub ends-line : (s t : Reading) (next : Reading) → IsReady s → next.host ≡ t.host → next.number ≡ s.number + 1 → next.line ≡ [] → next.text ≡ t.text → LineDone s t → Advances s (10 ∷ []) next
+pub ends-line : (s t : Reading) (next : Reading) → IsBetweenBytes s → next.host ≡ t.host → next.number ≡ s.number + 1 → next.line ≡ [] → next.text ≡ t.text → LineDone s t → Advances s (10 ∷ []) next
 ends-line s t next ready host number line text done = record {
   whole = s.line ++ 10 ∷ [];
   cut = sym (append-nil (s.line ++ 10 ∷ [])) ∙ ap (λ (l : List ℕ). (s.line ++ 10 ∷ []) ++ l) (sym line);
@@ -43,7 +43,7 @@ ends-line s t next ready host number line text done = record {
   begun = λ e. absurd (omega (arith, ready.first));
 }
 
-pub breaks-line : (s t : Reading) (e : LineError) → IsReady s → TakesLine s t (Err e) → Takes s (10 ∷ []) t (Err e)
+pub breaks-line : (s t : Reading) (e : LineError) → IsBetweenBytes s → TakesLine s t (Err e) → Takes s (10 ∷ []) t (Err e)
 breaks-line s t (errors.Refused line reason) ready h = record {
   written = h.written;
   text = h.text;
@@ -56,7 +56,7 @@ breaks-line s t errors.Memory ready h = record {
 }
 
 -- a line that stands whole in the piece, where none has begun
-pub here-ready : (s : Reading) (line : List ℕ) → IsReady s → has_no_lf line ≡ true → length line ≤ line_limit → s.number ≤ lines_limit → IsReady (at_line s line)
+pub here-ready : (s : Reading) (line : List ℕ) → IsBetweenBytes s → has_no_lf line ≡ true → length line ≤ line_limit → s.number ≤ lines_limit → IsBetweenBytes (at_line s line)
 here-ready s line ready plain short low = record { plain = plain; short = short; first = ready.first; last = ready.last; numbered = λ some. low; waits = ready.waits }
 
 -- ---- a refusal within a line
@@ -85,14 +85,14 @@ long-refused s w line ls lt = by_test (eqb s.number 1) refl
         let ne : s.number ≢ 1 = grind (arith, nat_tests) in
         from-later s.host s.number (line ∷ ls) ne ∙ refuses s.host w s.number line ls Limit (limit-input s.number (Some w.question) line (over s.number)) ∙ rw (refused-later s w ne) refl
 
-pub long-run : (s : Reading) (run bytes : List ℕ) → IsReady s → has_no_lf run ≡ true → line_limit < length s.line + length run → with_more s (run ++ bytes) ≡ record { text = Some (refused_text s); refused = Some (s.number, Limit) }
+pub long-run : (s : Reading) (run bytes : List ℕ) → IsBetweenBytes s → has_no_lf run ≡ true → line_limit < length s.line + length run → with_more s (run ++ bytes) ≡ record { text = Some (refused_text s); refused = Some (s.number, Limit) }
 long-run s run bytes ready plain long =
     let n = length-append s.line run in
     let f = lines_from (s.line ++ run) bytes (omega (arith, n)) (plain_append s.line run ready.plain plain) in
     let same : lines (s.line ++ (run ++ bytes)) ≡ record { text = (s.line ++ run) ++ f.0; ended = f.1 } ∷ f.2 = ap lines (sym (append_assoc s.line run bytes)) ∙ f.3 in
     rw same (long-refused s ready.waits (record { text = (s.line ++ run) ++ f.0; ended = f.1 }) f.2 (omega (arith, length-append (s.line ++ run) f.0, n)))
 
-pub long-line : (s : Reading) (line bytes : List ℕ) → IsReady s → has_no_lf line ≡ true → line_limit < length line → with_more s ((line ++ 10 ∷ []) ++ bytes) ≡ record { text = Some (refused_text s); refused = Some (s.number, Limit) }
+pub long-line : (s : Reading) (line bytes : List ℕ) → IsBetweenBytes s → has_no_lf line ≡ true → line_limit < length line → with_more s ((line ++ 10 ∷ []) ++ bytes) ≡ record { text = Some (refused_text s); refused = Some (s.number, Limit) }
 long-line s line bytes ready plain long = ap (with_more s) (append_assoc line (10 ∷ []) bytes) ∙ long-run s line (10 ∷ bytes) ready plain (omega arith)
 
 -- a line past the limit of lines
@@ -116,14 +116,14 @@ in-time n b late e = each (ltb lines_limit n) refl
         let bad : false ≡ true = sym e ∙ late l in cc
     each false t = grind (arith, nat_tests)
 
-pub late-after : (s : Reading) (b : ℕ) (bytes : List ℕ) → IsReady s → lines_limit < s.number → with_more s (b ∷ bytes) ≡ record { text = Some (refused_text s); refused = Some (s.number, Limit) }
+pub late-after : (s : Reading) (b : ℕ) (bytes : List ℕ) → IsBetweenBytes s → lines_limit < s.number → with_more s (b ∷ bytes) ≡ record { text = Some (refused_text s); refused = Some (s.number, Limit) }
 late-after s b bytes ready late = each s.line (λ some. let n = ready.numbered some in absurd (omega arith))
   where
     each : (l : List ℕ) → (0 < length l → ⊥) → replayed_from s.host s.number (lines (l ++ b ∷ bytes)) ≡ record { text = Some (refused_text s); refused = Some (s.number, Limit) }
     each [] none = let f = lines_some b bytes in rw f.2 (late-refused s ready.waits f.0 f.1 late)
     each (x ∷ l) none = absurd (none (omega arith))
 
-pub late-run : (s : Reading) (run bytes : List ℕ) → IsReady s → 0 < length run → lines_limit < s.number → with_more s (run ++ bytes) ≡ record { text = Some (refused_text s); refused = Some (s.number, Limit) }
+pub late-run : (s : Reading) (run bytes : List ℕ) → IsBetweenBytes s → 0 < length run → lines_limit < s.number → with_more s (run ++ bytes) ≡ record { text = Some (refused_text s); refused = Some (s.number, Limit) }
 late-run s [] bytes ready some late = absurd (omega arith)
 late-run s (b ∷ run) bytes ready some late = late-after s b (run ++ bytes) ready late
 
@@ -225,7 +225,7 @@ finish-refused s t why (Err (errors.Refused line reason)) h e = record { written
 finish-refused s t why (Err errors.Memory) h e = record { written = h.front; text = h.written; begins = rw e (h.begins.rest, h.begins.whole) }
 
 -- a schedule that ends with no line, or within one
-ends-cut : (s : Reading) (l : List ℕ) → IsReady s → l ≡ s.line → 0 < length l → replayed_from s.host s.number (lines l) ≡ record { text = Some (refused_text s); refused = Some (s.number, Form) }
+ends-cut : (s : Reading) (l : List ℕ) → IsBetweenBytes s → l ≡ s.line → 0 < length l → replayed_from s.host s.number (lines l) ≡ record { text = Some (refused_text s); refused = Some (s.number, Form) }
 ends-cut s l ready same some =
     let plain : has_no_lf l ≡ true = ap has_no_lf same ∙ ready.plain in
     let short : length l ≤ line_limit = (let n = ap length same in let m = ready.short in omega arith) in
@@ -254,7 +254,7 @@ empty-first s none one =
     ap (λ (l : List ℕ). replayed_from s.host s.number (lines (l ++ []))) none ∙ ap (replayed_from s.host s.number) no-bytes
     ∙ from-first s.host s.number [] one ∙ no-lines s.host ∙ rw (refused-first s one, one) refl
 
-pub ends-refused : (s : Reading) → IsReady s → (s.number ≡ 1) ⊎ (s.line ≢ []) → with_more s [] ≡ record { text = Some (refused_text s); refused = Some (s.number, Form) }
+pub ends-refused : (s : Reading) → IsBetweenBytes s → (s.number ≡ 1) ⊎ (s.line ≢ []) → with_more s [] ≡ record { text = Some (refused_text s); refused = Some (s.number, Form) }
 ends-refused s ready h = each s.line refl
   where
     each : (l : List ℕ) → s.line ≡ l → with_more s [] ≡ record { text = Some (refused_text s); refused = Some (s.number, Form) }

@@ -16,7 +16,7 @@ use Rattle.schedule_replay.specs.declared.ran.ReplayError.{ReplayError}
 use Rattle.schedule_replay.specs.declared.ran.ReplayError.TheVariants as errors
 use Rattle.schedule_replay.specs.Replays.{Replayed, with_front, replayed, replayed_from, refused_at_once, BeginsText}
 use Rattle.outside.specs.Outputs.{PutsFront}
-use Rattle.schedule_replay.specs.Readings.{Reading, from_line, with_more, Advances, BreaksOff, Takes, EndsFront, Finishes, IsReady, fresh}
+use Rattle.schedule_replay.specs.Readings.{Reading, from_line, with_more, Advances, BreaksOff, Takes, EndsFront, Finishes, IsBetweenBytes, fresh}
 use Rattle.schedule_replay.specs.Passes.{replay_error_of_line, replay_error_of_put, with_text, TakesPiece, PassesPiece, TakesEnd, PassesEnd}
 use Rattle.schedule_replay.specs.Runs.{Replays, ran_of, IsFrontOf, IsCutShort, IsCutTranscript}
 use Rattle.schedule_replay.proofs.TextLaws.{behind, begins_behind, begins_front, begins_nil}
@@ -26,7 +26,7 @@ use Rattle.schedule_replay.proofs.WholeLaws.{judge_is, text_is, is_done, is_bad,
 
 -- ---- one piece: what was read of it, and what of that was written
 
--- a front of a text that begins another begins it too
+-- a prefix of a text that begins another begins it too
 begins_less : (n : ℕ) (x : List ℕ) (o : Option (List ℕ)) → BeginsText x o → BeginsText (take n x) o
 begins_less n x None h = tt
 begins_less n x (Some text) h = (drop n x ++ h.0, h.1 ∙ ap (λ (l : List ℕ). l ++ h.0) (sym (take-append-drop n x)) ∙ append_assoc (take n x) (drop n x) h.0)
@@ -34,7 +34,7 @@ begins_less n x (Some text) h = (drop n x ++ h.0, h.1 ∙ ap (λ (l : List ℕ).
 front_of_behind : (n : ℕ) (x : List ℕ) (o : Option (List ℕ)) → BeginsText (take n x) (behind x o)
 front_of_behind n x o = begins_front (take n x) x o (record { rest = drop n x; whole = sym (take-append-drop n x) })
 
--- what was read of a piece begins with any front of the text of it
+-- what was read of a piece begins with any prefix of the text of it
 piece-front : (s : Reading) (piece : List ℕ) (u : Reading) (n : ℕ) (r : Result (Unit {0}) LineError) → s.text ≡ [] → Takes s piece u r → BreaksOff s piece (with_text (take n u.text) u)
 piece-front s piece u n (Ok done) empty a = record {
   written = take n u.text;
@@ -194,7 +194,7 @@ so-far-end (Some bytes) (Some r1) (Some r2) h0 h1 h2 t r empty s at_end kept p =
 -- ---- where a read failed
 
 -- what was done of whole lines is their transcript without its last line
-cut-text : (t : Reading) (taken text : List ℕ) → IsReady t → (a : Advances fresh taken (with_text text t)) → IsCutTranscript a.whole text
+cut-text : (t : Reading) (taken text : List ℕ) → IsBetweenBytes t → (a : Advances fresh taken (with_text text t)) → IsCutTranscript a.whole text
 cut-text t taken text ready a = by_whole a.whole a.begun (sym (ap replayed (append-nil a.whole)) ∙ a.goes_on [] ∙ ap (λ (l : List ℕ). with_front l (from_line t [])) (sym a.text))
   where
     at_first : t.number ≡ 1 → from_line t [] ≡ refused_at_once Form
@@ -226,7 +226,7 @@ cut-text t taken text ready a = by_whole a.whole a.begun (sym (ap replayed (appe
     by_whole : (whole : List ℕ) → (t.number ≡ 1 → (fresh.number ≡ 1) × (whole ≡ [])) → replayed whole ≡ with_front text (from_line t []) → IsCutTranscript whole text
     by_whole whole begun e = by_number whole (eqb t.number 1) refl begun e
 
-pub so-far-cut : (l0 l1 l2 h0 h1 : Option (List ℕ)) (t : Reading) → IsReady t → SoFar l0 l1 h0 h1 t → Keeps l1 l2 → IfSome l0 (λ bytes. IsCutShort bytes l2 h0 h1)
+pub so-far-cut : (l0 l1 l2 h0 h1 : Option (List ℕ)) (t : Reading) → IsBetweenBytes t → SoFar l0 l1 h0 h1 t → Keeps l1 l2 → IfSome l0 (λ bytes. IsCutShort bytes l2 h0 h1)
 so-far-cut None l1 l2 h0 h1 t ready s kept = tt
 so-far-cut (Some bytes) l1 l2 h0 h1 t ready s kept = record {
   whole = s.done.whole;

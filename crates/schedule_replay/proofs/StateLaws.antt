@@ -27,7 +27,7 @@ use Rattle.schedule_replay.specs.declared.refusal.LineError.TheVariants as error
 use Rattle.schedule_replay.specs.Replays.{Replayed, with_front, replayed_from, ended_line, BeginsText}
 use Rattle.schedule_replay.specs.Questions.{answered_of}
 use Rattle.schedule_replay.specs.Tellings.{event_texts, TellsAll, TellsFront}
-use Rattle.schedule_replay.specs.Readings.{Reading, refused_text, RefusesHere, TakesLine, IsReady}
+use Rattle.schedule_replay.specs.Readings.{Reading, refused_text, RefusesHere, TakesLine, IsBetweenBytes}
 use Rattle.schedule_replay.proofs.TextLaws.{begins_nil}
 use Rattle.schedule_replay.proofs.ReplayLaws.{Answered, accepts, begins-accepted, refuses, input-fits, input-misfits, no-input, from-first, from-later, header-taken, header-refused, header-form}
 
@@ -63,16 +63,16 @@ refuses-by s t why r w ne e refused =
     from-later s.host s.number (ended_line s.line ∷ rest) ne ∙ refuses s.host w s.number (ended_line s.line) rest why e
     ∙ rw (refused-later s w ne) refl)
 
-pub refuses-form : (s t : Reading) (r : Result (Unit {0}) LineError) → IsReady s → s.number ≤ lines_limit → s.number ≢ 1 → input_of s.line ≡ None → RefusesHere s t Form r → TakesLine s t r
+pub refuses-form : (s t : Reading) (r : Result (Unit {0}) LineError) → IsBetweenBytes s → s.number ≤ lines_limit → s.number ≢ 1 → input_of s.line ≡ None → RefusesHere s t Form r → TakesLine s t r
 refuses-form s t r ready low ne e refused = refuses-by s t Form r ready.waits ne (no-input s.number _ s.line ready.short low e) refused
 
-pub refuses-misfit : (s t : Reading) (i : Input) (r : Result (Unit {0}) LineError) → IsReady s → s.number ≤ lines_limit → s.number ≢ 1 → input_of s.line ≡ Some i → misfit (question_of s.host) i ≡ Some NotAsked
+pub refuses-misfit : (s t : Reading) (i : Input) (r : Result (Unit {0}) LineError) → IsBetweenBytes s → s.number ≤ lines_limit → s.number ≢ 1 → input_of s.line ≡ Some i → misfit (question_of s.host) i ≡ Some NotAsked
     → RefusesHere s t NotAsked r → TakesLine s t r
 refuses-misfit s t i r ready low ne e m refused =
     let m' : misfit (Some ready.waits.question) i ≡ Some NotAsked = ap (λ (q : Option Ask). misfit q i) (sym ready.waits.open_now) ∙ m in
     refuses-by s t NotAsked r ready.waits ne (input-misfits s.number _ s.line i NotAsked ready.short low e m') refused
 
--- ---- want of memory before anything was written
+-- ---- out of memory before anything was written
 
 pub breaks-off : (s t : Reading) → t.text ≡ s.text → TakesLine s t (Err errors.Memory)
 breaks-off s t e = record { written = []; text = e ∙ sym (append-nil s.text); begins = λ rest. begins_nil _ }
@@ -108,7 +108,7 @@ header-is r line e other = by_test (bytes_eq line schedule_header) (λ t. rw t (
     there (Err NoForm) e = refl
     there (Err NoMemory) e = refl
 
-pub takes-header : (s t : Reading) → IsReady s → s.number ≡ 1 → is_header (ended_line s.line) ≡ true → t.host ≡ s.host → t.text ≡ s.text ++ header → TakesLine s t (Ok tt)
+pub takes-header : (s t : Reading) → IsBetweenBytes s → s.number ≡ 1 → is_header (ended_line s.line) ≡ true → t.host ≡ s.host → t.text ≡ s.text ++ header → TakesLine s t (Ok tt)
 takes-header s t ready first h same e = record {
   written = header;
   text = e;
@@ -131,7 +131,7 @@ answered-by v w x i before after ready taken told = record {
   after = told.waits;
 }
 
-fits-now : (s : Reading) (i : Input) (w : View) → IsReady s → s.number ≤ lines_limit → input_of s.line ≡ Some i → (ready : Waits s.host) → TakesAnswer s.host i w → line_input s.number (Some ready.question) (ended_line s.line) ≡ Ok i
+fits-now : (s : Reading) (i : Input) (w : View) → IsBetweenBytes s → s.number ≤ lines_limit → input_of s.line ≡ Some i → (ready : Waits s.host) → TakesAnswer s.host i w → line_input s.number (Some ready.question) (ended_line s.line) ≡ Ok i
 fits-now s i w r low e ready taken =
     input-fits s.number (Some ready.question) s.line i r.short low e (ap (λ (q : Option Ask). misfit q i) (sym ready.open_now) ∙ taken.fits)
 
@@ -139,7 +139,7 @@ answered-now : (v : View) (w : Waits v) → answered_of (question_of v) ≡ answ
 answered-now v w = ap answered_of w.open_now
 
 -- all of it was told
-pub takes-answer : (s t : Reading) (i : Input) (w : View) (asked text : List ℕ) → IsReady s → s.number ≤ lines_limit → s.number ≢ 1 → input_of s.line ≡ Some i
+pub takes-answer : (s t : Reading) (i : Input) (w : View) (asked text : List ℕ) → IsBetweenBytes s → s.number ≤ lines_limit → s.number ≢ 1 → input_of s.line ≡ Some i
     → asked ≡ answered_of (question_of s.host) → TakesAnswer s.host i w → text ≡ s.text ++ asked → TellsAll w text t.host t.text → TakesLine s t (Ok tt)
 unfolding answered-by
 takes-answer s t i w asked text ready low ne e a taken written told =
@@ -155,8 +155,8 @@ takes-answer s t i w asked text ready low ne e a taken written told =
       waits = told.waits;
     }
 
--- a front of it was told
-pub breaks-answer : (s t : Reading) (i : Input) (w : View) (asked text : List ℕ) → IsReady s → s.number ≤ lines_limit → s.number ≢ 1 → input_of s.line ≡ Some i
+-- a prefix of it was told
+pub breaks-answer : (s t : Reading) (i : Input) (w : View) (asked text : List ℕ) → IsBetweenBytes s → s.number ≤ lines_limit → s.number ≢ 1 → input_of s.line ≡ Some i
     → asked ≡ answered_of (question_of s.host) → TakesAnswer s.host i w → text ≡ s.text ++ asked → TellsFront w text t.text → TakesLine s t (Err errors.Memory)
 breaks-answer s t i w asked text ready low ne e a taken written told = record {
   written = answered_text ready.waits.question ++ told.written;

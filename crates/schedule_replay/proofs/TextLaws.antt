@@ -36,7 +36,7 @@ pub begins_behind : (x y : List ℕ) (o : Option (List ℕ)) → BeginsText y o 
 begins_behind x y None h = tt
 begins_behind x y (Some text) h = (h.0, rw h.1 (sym (append_assoc x y h.0)))
 
--- a front of a text begins what the text begins
+-- a prefix of a text begins what the text begins
 pub begins_front : (front text : List ℕ) (o : Option (List ℕ)) → IsFront front text → BeginsText front (behind text o)
 begins_front front text None f = tt
 begins_front front text (Some more) f = (f.rest ++ more, ap (λ (t : List ℕ). t ++ more) f.whole ∙ append_assoc front f.rest more)
@@ -130,7 +130,7 @@ no-text : (front : List ℕ) (e : Event) → BeginsText front (body_text (Told e
 unfolding body_text
 no-text front e = tt
 
--- a front of the next event begins what comes
+-- a prefix of the next event begins what comes
 begins-event : (front : List ℕ) (e : Event) (rest : List Item) → IsFront front (event_text e) → BeginsText front (body_text (Told e ∷ rest))
 begins-event front e [] f = no-text front e
 begins-event front e (j ∷ rest) f =

@@ -55,7 +55,7 @@ pub record LineRefused (s t : Reading) (line : ℕ) (reason : Reason) : Type 0 w
   pub text : t.text ≡ s.text ++ written
   pub ends : (rest : List Line) → replayed_from s.host s.number (ended_line s.line ∷ rest) ≡ record { text = Some written; refused = Some (line, reason) }
 
--- Memory was wanted in it.
+-- Memory ran out in it.
 pub record LineBroken (s t : Reading) : Type 0 where
   pub written : List ℕ
   pub text : t.text ≡ s.text ++ written
@@ -82,7 +82,7 @@ pub record Refuses (s : Reading) (piece : List ℕ) (t : Reading) (line : ℕ) (
   pub text : t.text ≡ s.text ++ written
   pub ends : (bytes : List ℕ) → with_more s (piece ++ bytes) ≡ record { text = Some written; refused = Some (line, reason) }
 
--- Memory is wanted, and a front of what is to be written is there.
+-- Memory ran out, and a prefix of what is to be written is there.
 pub record BreaksOff (s : Reading) (piece : List ℕ) (t : Reading) : Type 0 where
   pub written : List ℕ
   pub text : t.text ≡ s.text ++ written
@@ -99,7 +99,7 @@ pub record Ends (s t : Reading) (refused : Option (ℕ × Reason)) : Type 0 wher
   pub text : t.text ≡ s.text ++ written
   pub all : with_more s [] ≡ record { text = Some written; refused = refused }
 
--- a front of what is to be written is there
+-- a prefix of what is to be written is there
 pub record EndsFront (s t : Reading) : Type 0 where
   pub written : List ℕ
   pub text : t.text ≡ s.text ++ written
@@ -111,7 +111,7 @@ Finishes s t (Err (errors.Refused line reason)) = Ends s t (Some (line, reason))
 Finishes s t (Err errors.Memory) = EndsFront s t
 
 -- what holds between two bytes
-pub record IsReady (s : Reading) : Type 0 where
+pub record IsBetweenBytes (s : Reading) : Type 0 where
   pub plain : has_no_lf s.line ≡ true
   pub short : length s.line ≤ line_limit
   pub first : 1 ≤ s.number

@@ -35,7 +35,7 @@ pub record IsBad (bytes : List ℕ) (line : ℕ) (reason : Reason) (held now : O
   pub refused : judge bytes ≡ Some (line, reason)
   pub text : WritesText (transcript_of bytes) held now
 
--- A front of the transcript is written.
+-- A prefix of the transcript is written.
 pub record IsFrontOf (bytes : List ℕ) (held now : Option (List ℕ)) : Type 0 where
   pub front : List ℕ
   pub rest : List ℕ
@@ -57,7 +57,7 @@ pub record IsCutShort (bytes : List ℕ) (left held now : Option (List ℕ)) : T
   pub put : Appends held now text
   pub cut : IsCutTranscript whole text
 
--- What is read and written, by how the replay ended. After a write fault and without memory a front of the transcript is written.
+-- What is read and written, by how the replay ended. After a write fault and without memory a prefix of the transcript is written.
 abbrev pub Replays : List ℕ → Option (List ℕ) → Option (List ℕ) → Option (List ℕ) → Ran → Type 0
 Replays bytes left held now rans.Done = IsDone bytes left held now
 Replays bytes left held now rans.ReadFault = IsCutShort bytes left held now

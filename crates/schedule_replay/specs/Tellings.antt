@@ -20,7 +20,7 @@ pub record TellsAll (old : View) (before : List ℕ) (new : View) (after : List 
   pub goes_on : (is : List Input) → rest_of old is ≡ map Told events ++ rest_of new is
   pub waits : Waits new
 
--- A front of them was written.
+-- A prefix of them was written.
 pub record TellsFront (old : View) (before after : List ℕ) : Type 0 where
   pub written : List ℕ
   pub text : after ≡ before ++ written

@@ -41,9 +41,9 @@ fn line_end(bytes: &[u8]) -> Option<usize>
 #[derive(Drop)]
 pub struct Replay {
     host: Host,
-    /// Of the line that has begun, from 1.
+    /// Number of the current line, from 1.
     number: u64,
-    /// What has come of it.
+    /// Its bytes so far.
     line: Vec<u8>,
     /// What is to be written next.
     pub text: Vec<u8>,
@@ -52,13 +52,13 @@ pub struct Replay {
 impl Replay {
     ghost use Rattle.schedule_replay.specs.States.{reading_of};
     ghost use Rattle.schedule_replay.specs.Cuts.{at_line};
-    ghost use Rattle.schedule_replay.specs.Readings.{fresh, IsReady, room_left, refused_text, RefusesHere, TakesLine, Takes, Finishes};
+    ghost use Rattle.schedule_replay.specs.Readings.{fresh, IsBetweenBytes, room_left, refused_text, RefusesHere, TakesLine, Takes, Finishes};
     ghost use Rattle.schedule_replay.specs.Replays.{has_no_lf};
 
     /// A replay before its first byte.
     pub fn new(alloc: Global) -> Result<Replay, Memory>
         ensures fresh { IfOk result (λ replay. reading_of replay ≡ fresh) }
-        ensures ready { IfOk result (λ replay. IsReady (reading_of replay)) }
+        ensures ready { IfOk result (λ replay. IsBetweenBytes (reading_of replay)) }
     {
         Ok(Replay {
             host: Host::new(alloc, 1)?,
@@ -95,7 +95,7 @@ impl Replay {
 
     /// Takes the first line, which is the header.
     fn take_header(&mut self, line: &[u8]) -> Result<(), LineError>
-        requires ready { IsReady (at_line (reading_of self.old) line.now) }
+        requires ready { IsBetweenBytes (at_line (reading_of self.old) line.now) }
         requires first { self.old.number ≡ 1 }
         ensures taken { TakesLine (at_line (reading_of self.old) line.now) (reading_of self.new) result }
         ensures number { self.new.number ≡ self.old.number }
@@ -108,7 +108,7 @@ impl Replay {
         Ok(())
     }
 
-    /// Writes the line of the open question as one that is answered, or nothing where memory is wanted.
+    /// Writes the line of the open question as one that is answered, or nothing when memory runs out.
     fn write_question(&mut self) -> Result<(), Memory>
         ensures text { OnOk result (self.new.text.items ≡ self.old.text.items ++ answered_of (question_of self.old.host)) }
         ensures kept { OnErr result (self.new.text.items ≡ self.old.text.items) }
@@ -126,7 +126,7 @@ impl Replay {
 
     /// Gives an input, which the line spells, to the host, and writes what it tells.
     fn answer(&mut self, line: &[u8], input: Input) -> Result<(), LineError>
-        requires ready { IsReady (at_line (reading_of self.old) line.now) }
+        requires ready { IsBetweenBytes (at_line (reading_of self.old) line.now) }
         requires numbered { self.old.number ≤ lines_limit }
         requires later { self.old.number ≢ 1 }
         requires spelled { input_of line.now ≡ Some input }
@@ -155,7 +155,7 @@ impl Replay {
 
     /// Takes a line after the first.
     fn take_input(&mut self, line: &[u8]) -> Result<(), LineError>
-        requires ready { IsReady (at_line (reading_of self.old) line.now) }
+        requires ready { IsBetweenBytes (at_line (reading_of self.old) line.now) }
         requires numbered { self.old.number ≤ lines_limit }
         requires later { self.old.number ≢ 1 }
         ensures taken { TakesLine (at_line (reading_of self.old) line.now) (reading_of self.new) result }
@@ -178,7 +178,7 @@ impl Replay {
 
     /// Takes a line that is whole.
     fn take_line(&mut self, line: &[u8]) -> Result<(), LineError>
-        requires ready { IsReady (at_line (reading_of self.old) line.now) }
+        requires ready { IsBetweenBytes (at_line (reading_of self.old) line.now) }
         requires numbered { self.old.number ≤ lines_limit }
         ensures taken { TakesLine (at_line (reading_of self.old) line.now) (reading_of self.new) result }
         ensures number { self.new.number ≡ self.old.number }
@@ -193,10 +193,10 @@ impl Replay {
 
     /// Takes bytes of the line that has begun.
     fn lengthen(&mut self, run: &[u8]) -> Result<(), LineError>
-        requires ready { IsReady (reading_of self.old) }
+        requires ready { IsBetweenBytes (reading_of self.old) }
         requires plain { IsTrue (has_no_lf run.now) }
         ensures taken { Takes (reading_of self.old) run.now (reading_of self.new) result }
-        ensures ready { OnOk result (IsReady (reading_of self.new)) }
+        ensures ready { OnOk result (IsBetweenBytes (reading_of self.new)) }
         ensures progress { OnOk result (room_left (reading_of self.new) + length run.now ≤ room_left (reading_of self.old)) }
     {
         if run.is_empty() {
@@ -214,9 +214,9 @@ impl Replay {
 
     /// Takes the LF of the line that has begun.
     fn end_line(&mut self) -> Result<(), LineError>
-        requires { IsReady (reading_of self.old) }
+        requires { IsBetweenBytes (reading_of self.old) }
         ensures taken { Takes (reading_of self.old) (10 ∷ []) (reading_of self.new) result }
-        ensures ready { OnOk result (IsReady (reading_of self.new)) }
+        ensures ready { OnOk result (IsBetweenBytes (reading_of self.new)) }
         ensures progress { OnOk result (room_left (reading_of self.new) + 1 ≤ room_left (reading_of self.old)) }
     {
         if self.is_late() {
@@ -233,11 +233,11 @@ impl Replay {
 
     /// Takes a line that stands whole in the piece, where none has begun.
     fn take_here(&mut self, line: &[u8]) -> Result<(), LineError>
-        requires ready { IsReady (reading_of self.old) }
+        requires ready { IsBetweenBytes (reading_of self.old) }
         requires none { self.old.line.items ≡ [] }
         requires plain { IsTrue (has_no_lf line.now) }
         ensures taken { Takes (reading_of self.old) (line.now ++ 10 ∷ []) (reading_of self.new) result }
-        ensures ready { OnOk result (IsReady (reading_of self.new)) }
+        ensures ready { OnOk result (IsBetweenBytes (reading_of self.new)) }
         ensures progress { OnOk result (room_left (reading_of self.new) + length line.now + 1 ≤ room_left (reading_of self.old)) }
     {
         if self.is_late() {
@@ -253,10 +253,10 @@ impl Replay {
 
     /// Takes the rest of a line, and its LF.
     fn take_rest(&mut self, run: &[u8]) -> Result<(), LineError>
-        requires ready { IsReady (reading_of self.old) }
+        requires ready { IsBetweenBytes (reading_of self.old) }
         requires plain { IsTrue (has_no_lf run.now) }
         ensures taken { Takes (reading_of self.old) (run.now ++ 10 ∷ []) (reading_of self.new) result }
-        ensures ready { OnOk result (IsReady (reading_of self.new)) }
+        ensures ready { OnOk result (IsBetweenBytes (reading_of self.new)) }
         ensures progress { OnOk result (room_left (reading_of self.new) + length run.now + 1 ≤ room_left (reading_of self.old)) }
     {
         if self.line.is_empty() {
@@ -268,9 +268,9 @@ impl Replay {
 
     /// Takes the next bytes. What is to be written of them stands at the end of `text`, at an error too.
     pub fn feed(&mut self, piece: &[u8]) -> Result<(), LineError>
-        requires { IsReady (reading_of self.old) }
+        requires { IsBetweenBytes (reading_of self.old) }
         ensures taken { Takes (reading_of self.old) piece.now (reading_of self.new) result }
-        ensures ready { OnOk result (IsReady (reading_of self.new)) }
+        ensures ready { OnOk result (IsBetweenBytes (reading_of self.new)) }
         ensures progress { OnOk result (room_left (reading_of self.new) + length piece.now ≤ room_left (reading_of self.old)) }
     {
         let mut rest = piece;
@@ -283,7 +283,7 @@ impl Replay {
 
     /// Takes the end of the schedule.
     pub fn finish(&mut self) -> Result<(), LineError>
-        requires { IsReady (reading_of self.old) }
+        requires { IsBetweenBytes (reading_of self.old) }
         ensures finished { Finishes (reading_of self.old) (reading_of self.new) result }
         ensures number { self.new.number ≡ self.old.number }
     {

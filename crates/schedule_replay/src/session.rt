@@ -3,7 +3,7 @@ ghost use Rattle.std.specs.Prelude.{◌≡◌, ◌≢◌, ℕ, ◌≤◌, ◌+�
 ghost use Rattle.tree_specs.specs.Texts.Schedule.{judge};
 ghost use Rattle.outside.specs.Causes.{Rose, Counts};
 ghost use Rattle.outside.specs.Outputs.{PutsAll};
-ghost use Rattle.schedule_replay.specs.Readings.{IsReady, room_left, fresh};
+ghost use Rattle.schedule_replay.specs.Readings.{IsBetweenBytes, room_left, fresh};
 ghost use Rattle.schedule_replay.specs.States.{reading_of};
 ghost use Rattle.schedule_replay.specs.Passes.{PassesPiece, PassesEnd};
 ghost use Rattle.schedule_replay.specs.Runs.{Replays, ran_of};
@@ -15,7 +15,7 @@ use crate::reading::Replay;
 use outside::{Got, PutError, Sink, Source, put_all};
 use std::alloc::Global;
 
-/// Writes what is to be written next. At an error a front of it is written.
+/// Writes what is to be written next. At an error a prefix of it is written.
 fn put_text<K: Sink>(replay: &mut Replay, out: &mut K) -> Result<(), PutError>
     ensures bytes { PutsAll (K.held out.old) (K.held out.new) result replay.old.text.items }
     ensures cause { Counts (K.faults out.old) (K.faults out.new) (result ≡ Err PutError.Write) }
@@ -31,10 +31,10 @@ fn put_text<K: Sink>(replay: &mut Replay, out: &mut K) -> Result<(), PutError>
 
 /// Takes the next bytes, and writes what comes of them, before an error too.
 fn take_piece<K: Sink>(replay: &mut Replay, piece: &[u8], out: &mut K) -> Result<(), ReplayError>
-    requires ready { IsReady (reading_of replay.old) }
+    requires ready { IsBetweenBytes (reading_of replay.old) }
     requires empty { replay.old.text.items ≡ [] }
     ensures passed { PassesPiece (reading_of replay.old) piece.now (reading_of replay.new) (K.held out.old) (K.held out.new) result }
-    ensures ready { OnOk result (IsReady (reading_of replay.new)) }
+    ensures ready { OnOk result (IsBetweenBytes (reading_of replay.new)) }
     ensures empty { OnOk result (replay.new.text.items ≡ []) }
     ensures progress { OnOk result (room_left (reading_of replay.new) + length piece.now ≤ room_left (reading_of replay.old)) }
     ensures cause { Counts (K.faults out.old) (K.faults out.new) (result ≡ Err ReplayError.Write) }
@@ -47,7 +47,7 @@ fn take_piece<K: Sink>(replay: &mut Replay, piece: &[u8], out: &mut K) -> Result
 
 /// Takes the end of the schedule, and writes what comes of it, before an error too.
 fn take_end<K: Sink>(replay: &mut Replay, out: &mut K) -> Result<(), ReplayError>
-    requires ready { IsReady (reading_of replay.old) }
+    requires ready { IsBetweenBytes (reading_of replay.old) }
     requires empty { replay.old.text.items ≡ [] }
     ensures passed { PassesEnd (reading_of replay.old) (K.held out.old) (K.held out.new) result }
     ensures cause { Counts (K.faults out.old) (K.faults out.new) (result ≡ Err ReplayError.Write) }
@@ -65,7 +65,7 @@ fn pass<S: Source, K: Sink>(
     out: &mut K,
 ) -> Result<(), ReplayError>
     requires fresh { reading_of replay.old ≡ fresh }
-    requires ready { IsReady (reading_of replay.old) }
+    requires ready { IsBetweenBytes (reading_of replay.old) }
     ensures replays { IfSome (S.left input.old) (λ bytes. Replays bytes (S.left input.new) (K.held out.old) (K.held out.new) (ran_of result)) }
     ensures reads { Counts (S.faults input.old) (S.faults input.new) (result ≡ Err ReplayError.Read) }
     ensures writes { Counts (K.faults out.old) (K.faults out.new) (result ≡ Err ReplayError.Write) }
@@ -97,7 +97,7 @@ fn run<S: Source, K: Sink>(alloc: Global, input: &mut S, out: &mut K) -> Result<
 /// schedule tell.
 pub fn replay<S: Source, K: Sink>(alloc: Global, input: &mut S, out: &mut K) -> Ran
     // At the end all is read, no line is refused and the transcript is written; a refused line is the
-    // first one; at a fault, and without memory, a front of the transcript is written.
+    // first one; at a fault, and without memory, a prefix of the transcript is written.
     ensures replays { IfSome (S.left input.old) (λ bytes. Replays bytes (S.left input.new) (K.held out.old) (K.held out.new) result) }
 
     // What is written of a schedule whose first line is the header is the text of one story, the one over its inputs:

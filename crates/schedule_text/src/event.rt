@@ -18,7 +18,7 @@ fn write_fired(what: What, object: Obj, routine: u32, out: &mut Vec<u8>) -> Resu
 }
 
 /// Appends an event as its line, with its LF; a report is the lines of its rows and then that of the
-/// reply. Where memory is wanted, a front of it was appended.
+/// reply. When memory runs out, a prefix of it was appended.
 #[tactic(auto, unfolding(tree_specs::specs::Texts::Text::event_text))]
 pub fn write_event(event: &Event, out: &mut Vec<u8>) -> Result<(), Memory>
     ensures { Writes out.old.items out.new.items result (event_text event.now) }

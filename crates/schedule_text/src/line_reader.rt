@@ -29,7 +29,7 @@ fn input_value(alloc: Global, line: &[u8]) -> Result<Input, FormFault>
 }
 
 /// The input that a line of a schedule spells, the line without its LF. NoForm exactly where it
-/// spells no input, unless memory was wanted. The length of the line isn't judged here.
+/// spells no input, unless memory ran out. The length of the line isn't judged here.
 #[tactic(auto, using(crate::proofs::Inputs::read_is_sound, crate::proofs::Inputs::read_is_spelled, crate::proofs::Inputs::unread_is_none))]
 pub fn read_line(alloc: Global, line: &[u8]) -> Result<Input, FormFault>
     ensures value { Reads result (input_of line.now) }

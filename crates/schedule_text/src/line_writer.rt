@@ -17,7 +17,7 @@ fn write_call_line(front: &[u8], call: &Call, out: &mut Vec<u8>) -> Result<(), M
     Ok(())
 }
 
-/// Appends the one line of an input, with its LF. Where memory is wanted, a front of it was appended.
+/// Appends the one line of an input, with its LF. When memory runs out, a prefix of it was appended.
 #[tactic(auto, unfolding(tree_specs::specs::Texts::Text::input_text))]
 pub fn write_input(input: &Input, out: &mut Vec<u8>) -> Result<(), Memory>
     // Each number is in the range of its field.

@@ -17,7 +17,7 @@ fn write_ask_of_write(descriptor: u32, bytes: &Octets, out: &mut Vec<u8>) -> Res
     write_octets(bytes, out)
 }
 
-/// Appends the text of a question, with no LF. Where memory is wanted, a front of it was appended.
+/// Appends the text of a question, with no LF. When memory runs out, a prefix of it was appended.
 #[tactic(auto, unfolding(tree_specs::specs::Texts::Text::ask_text))]
 pub fn write_ask(ask: &Ask, out: &mut Vec<u8>) -> Result<(), Memory>
     ensures { Writes out.old.items out.new.items result (ask_text ask.now) }
@@ -51,7 +51,7 @@ fn write_line(front: &[u8], ask: &Ask, out: &mut Vec<u8>) -> Result<(), Memory>
 }
 
 /// Appends the line of a question that was answered, with its LF; Quiet has none. Where memory is
-/// wanted, a front of it was appended.
+/// wanted, a prefix of it was appended.
 #[tactic(auto, unfolding(tree_specs::specs::Texts::Text::answered_text))]
 pub fn write_answered(ask: &Ask, out: &mut Vec<u8>) -> Result<(), Memory>
     ensures { Writes out.old.items out.new.items result (answered_text ask.now) }
@@ -67,7 +67,7 @@ pub fn write_answered(ask: &Ask, out: &mut Vec<u8>) -> Result<(), Memory>
     }
 }
 
-/// Appends the line of the question that is open at the end, with its LF. Where memory is wanted, a
+/// Appends the line of the question that is open at the end, with its LF. When memory runs out, a
 /// front of it was appended.
 #[tactic(auto, unfolding(tree_specs::specs::Texts::Text::end_text))]
 pub fn write_end(ask: &Ask, out: &mut Vec<u8>) -> Result<(), Memory>

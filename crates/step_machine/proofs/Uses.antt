@@ -176,7 +176,7 @@ module _ {F A P I T : Type 0} (t : Table F A P I T) where
   uses-after n ih (Call g f p) is a p' ts left h = Used-followed (run t n g p) (λ b q mid. run t n (t.resume f b) q mid) is
       (λ b q us mid k. ih g p is b q us mid k) (λ b q us mid k c r vs l k'. ih (t.resume f b) q mid c r vs l k') a p' ts left h
 
-  -- a work that ended took a front of the inputs, and waits after each proper prefix of it
+  -- a work that ended took a prefix of the inputs, and waits after each proper prefix of it
   pub uses : (n : ℕ) (f : F) (p : P) (is : List I) (a : A) (p' : P) (ts : List T) (left : List I)
       → run t n f p is ≡ Ended a p' ts left → Used (run t n f p) a p' ts is left
   uses zero f p is a p' ts left e = cc

@@ -112,7 +112,7 @@ silent t (Emit e f p) fs = None
 silent t (Wait q f p) fs = None
 silent t (Call g f p) fs = Some (record { now = g; below = f ∷ fs; pool = p })
 
--- Over these inputs, and no fewer, a work ends so; after each proper prefix of them it waits, and has told a front of what it tells.
+-- Over these inputs, and no fewer, a work ends so; after each proper prefix of them it waits, and has told a prefix of what it tells.
 pub record EndsBy {A P I T : Type 0} (go : List I → Outcome A P I T) (a : A) (p : P) (ts : List T) (used : List I) : Type 0 where
   pub ends : (more : List I) → go (used ++ more) ≡ Ended a p ts more
   pub waits : (pre : List I) (i : I) (post : List I) → used ≡ pre ++ i ∷ post

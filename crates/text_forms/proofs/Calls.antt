@@ -16,7 +16,7 @@ use Rattle.text_forms.specs.declared.form.FormFault.TheVariants.{NoForm, Memory}
 use Rattle.text_forms.specs.Reads.{Reads}
 use Rattle.tree_specs.specs.Calls.Spelling.{Field, Spelling, ◌with◌, spelling, Reading, Form, forms}
 use Rattle.tree_specs.specs.Calls.Spelling.Field.{AnOwner, AnObject, ANumber, ARoutine, AName}
-use Rattle.tree_specs.specs.Calls.Spelling.Reading.{Whole, TakesOwner, TakesObject, TakesNumber, TakesRoutine, EndsInName}
+use Rattle.tree_specs.specs.Calls.Spelling.Reading.{IsConsistent, TakesOwner, TakesObject, TakesNumber, TakesRoutine, EndsInName}
 use Rattle.tree_specs.specs.Texts.Text.{field_text}
 use Rattle.text_forms.proofs.Fields.{has_read, number_field, routine_field, owner_field, object_field, name_field}
 use Rattle.text_forms.proofs.Bools.{and_true}
@@ -39,7 +39,7 @@ call_text-words c = joined-fields (spelling c).verb (spelling c).fields
 
 -- what a reading makes of fields that are there already
 feed : Reading → List Field → Option Call
-feed (Whole call) [] = Some call
+feed (IsConsistent call) [] = Some call
 feed (TakesOwner next) (AnOwner owner ∷ fs) = feed (next owner) fs
 feed (TakesObject next) (AnObject x ∷ fs) = feed (next x) fs
 feed (TakesNumber next) (ANumber n ∷ fs) = feed (next n) fs
@@ -71,7 +71,7 @@ fields_are_words (f ∷ fs) h = let parts = sound_parts f fs h in rw (field_is_w
 -- what is made of sound fields is read from their texts
 read_again : (reading : Reading) (fs : List Field) (c : Call) → all_sound fs ≡ true → feed reading fs ≡ Some c → read reading (map field_text fs) ≡ Some c
 unfolding feed
-read_again (Whole call) [] c h e = e
+read_again (IsConsistent call) [] c h e = e
 read_again (TakesOwner next) (AnOwner owner ∷ fs) c h e = let parts = sound_parts (AnOwner owner) fs h in rw (owner_field.again owner parts.0) (read_again (next owner) fs c parts.1 e)
 read_again (TakesObject next) (AnObject x ∷ fs) c h e = let parts = sound_parts (AnObject x) fs h in rw (object_field.again x parts.0) (read_again (next x) fs c parts.1 e)
 read_again (TakesNumber next) (ANumber n ∷ fs) c h e = let parts = sound_parts (ANumber n) fs h in rw (number_field.again n parts.0) (read_again (next n) fs c parts.1 e)
@@ -122,7 +122,7 @@ one_more f reading next word more c is sound feeds fit = record {
 
 is_fed : (reading : Reading) (ws : List (List ℕ)) (c : Call) → read reading ws ≡ Some c → IsFed reading ws c
 unfolding feed
-is_fed (Whole call) [] c e = record { fields = []; words_are = refl; sound = refl; made = e }
+is_fed (IsConsistent call) [] c e = record { fields = []; words_are = refl; sound = refl; made = e }
 is_fed (TakesOwner next) (word ∷ more) c e = let x = has_read owner_field word _ c e in one_more (AnOwner x.value) _ (next x.value) word more c x.text_is x.value_is_sound (λ fs. refl) (is_fed (next x.value) more c x.goes_on)
 is_fed (TakesObject next) (word ∷ more) c e = let x = has_read object_field word _ c e in one_more (AnObject x.value) _ (next x.value) word more c x.text_is x.value_is_sound (λ fs. refl) (is_fed (next x.value) more c x.goes_on)
 is_fed (TakesNumber next) (word ∷ more) c e = let x = has_read number_field word _ c e in one_more (ANumber x.value) _ (next x.value) word more c x.text_is x.value_is_sound (λ fs. refl) (is_fed (next x.value) more c x.goes_on)
@@ -134,7 +134,7 @@ is_fed _ ws c e = absurd cc
 
 -- whatever is read, the call is spelled so
 abbrev Spells : Reading → (List Field → Spelling) → Type 0
-Spells (Whole call) so = spelling call ≡ so []
+Spells (IsConsistent call) so = spelling call ≡ so []
 Spells (TakesOwner next) so = (owner : Owner) → Spells (next owner) (λ fs. so (AnOwner owner ∷ fs))
 Spells (TakesObject next) so = (x : Obj) → Spells (next x) (λ fs. so (AnObject x ∷ fs))
 Spells (TakesNumber next) so = (n : ℕ) → Spells (next n) (λ fs. so (ANumber n ∷ fs))
@@ -150,7 +150,7 @@ all_spell = search tt
 
 spelled_so : (reading : Reading) (so : List Field → Spelling) (fs : List Field) (c : Call) → Spells reading so → feed reading fs ≡ Some c → spelling c ≡ so fs
 unfolding feed
-spelled_so (Whole call) so [] c h e = let same : call ≡ c = cc in sym (ap spelling same) ∙ h
+spelled_so (IsConsistent call) so [] c h e = let same : call ≡ c = cc in sym (ap spelling same) ∙ h
 spelled_so (TakesOwner next) so (AnOwner owner ∷ fs) c h e = spelled_so (next owner) (λ fs. so (AnOwner owner ∷ fs)) fs c (h owner) e
 spelled_so (TakesObject next) so (AnObject x ∷ fs) c h e = spelled_so (next x) (λ fs. so (AnObject x ∷ fs)) fs c (h x) e
 spelled_so (TakesNumber next) so (ANumber n ∷ fs) c h e = spelled_so (next n) (λ fs. so (ANumber n ∷ fs)) fs c (h n) e

@@ -2,7 +2,7 @@
 use Rattle.std.proofs.Common.{◌≡◌, ℕ, List, [], ◌∷◌, Option, Some, None, Err, refl, ap, ◌∙◌}
 use Rattle.tree_specs.specs.declared.call.Call.{Call}
 use Rattle.tree_specs.specs.Calls.Spelling.{Reading, forms}
-use Rattle.tree_specs.specs.Calls.Spelling.Reading.{Whole, TakesOwner, TakesObject, TakesNumber, TakesRoutine, EndsInName}
+use Rattle.tree_specs.specs.Calls.Spelling.Reading.{IsConsistent, TakesOwner, TakesObject, TakesNumber, TakesRoutine, EndsInName}
 use Rattle.tree_specs.specs.Texts.Grammar.{◌>>=◌, number_of, object_of, owner_of, routine_of, name_of, read, form_in, call_of_words, call_of, words}
 use Rattle.text_forms.specs.declared.verb.Verb.{Verb}
 use Rattle.text_forms.specs.declared.form.FormFault.{FormFault}
@@ -23,8 +23,8 @@ last_read make None = refl
 last_read make (Some x) = refl
 
 read_is : (reading : Reading) (words : List (List ℕ)) → read reading words ≡ (taken reading words >>= ended)
-read_is (Whole call) [] = refl
-read_is (Whole call) (word ∷ more) = refl
+read_is (IsConsistent call) [] = refl
+read_is (IsConsistent call) (word ∷ more) = refl
 read_is (TakesOwner next) (word ∷ more) = then_read (λ x words. taken (next x) words) (λ x. read (next x) more) (owner_of word) more (λ x. read_is (next x) more)
 read_is (TakesObject next) (word ∷ more) = then_read (λ x words. taken (next x) words) (λ x. read (next x) more) (object_of word) more (λ x. read_is (next x) more)
 read_is (TakesNumber next) (word ∷ more) = then_read (λ x words. taken (next x) words) (λ x. read (next x) more) (number_of word) more (λ x. read_is (next x) more)

@@ -40,7 +40,7 @@ nothing_written old new text (Err e) same failed = record {
   begins = record { rest = text; whole = refl };
 }
 
--- each value's text in turn, up to this index, in whose text memory was wanted
+-- each value's text in turn, up to this index, in whose text memory ran out
 pub in_each : {X : Type 0} (f : X → List ℕ) (d : X) (old mid new : List ℕ) (xs : List X) (i : ℕ) (r : Result (Unit {0}) Memory) → i < length xs → mid ≡ old ++ flat_map f (take i xs) → WritesFront mid new (f (get_or xs i d)) → IsErr r → Writes old new r (flat_map f xs)
 in_each f d old mid new xs i r lt before front failed =
     then_writes old mid new (flat_map f (take i xs)) (flat_map f (drop i xs)) (flat_map f xs) r before

@@ -2,7 +2,7 @@
 use Rattle.std.specs.Prelude.{ℕ, ◌≡◌, List, [], ◌∷◌, Option, Some, None, codes}
 use Rattle.tree_specs.specs.declared.call.Call.{Call}
 use Rattle.tree_specs.specs.Calls.Spelling.{Reading, forms}
-use Rattle.tree_specs.specs.Calls.Spelling.Reading.{Whole, TakesOwner, TakesObject, TakesNumber, TakesRoutine, EndsInName}
+use Rattle.tree_specs.specs.Calls.Spelling.Reading.{IsConsistent, TakesOwner, TakesObject, TakesNumber, TakesRoutine, EndsInName}
 use Rattle.tree_specs.specs.Texts.Grammar.{◌>>=◌, number_of, object_of, owner_of, routine_of, name_of, form_in}
 use Rattle.text_forms.specs.declared.verb.Verb.{Verb}
 use Rattle.text_forms.specs.declared.verb.Verb.TheVariants.{New, Free, Freekids, Steal, Move, Reparent, Reference, Unlink, Hook, Unhook, Rename, Resize, Limit, Parent, Total, Count, Sum, Report}
@@ -35,7 +35,7 @@ IsVerb (Some verb) word = word ≡ word_of verb
 
 -- the call that the words begin with, by what it takes, and the words that it leaves
 abbrev pub taken : Reading → List (List ℕ) → Option (Call × List (List ℕ))
-taken (Whole call) words = Some (call, words)
+taken (IsConsistent call) words = Some (call, words)
 taken (TakesOwner next) words = do
   owner ← field owner_of words
   taken (next owner.0) owner.1

@@ -28,7 +28,7 @@ fn call_value(alloc: Global, text: &[u8]) -> Result<Call, FormFault>
 }
 
 /// The call that the text spells: a verb and its fields, with single spaces between them. NoForm
-/// exactly where it spells no call, unless memory was wanted.
+/// exactly where it spells no call, unless memory ran out.
 #[tactic(auto, using(crate::proofs::Calls::read_is_sound, crate::proofs::Calls::read_is_spelled, crate::proofs::Calls::unread_is_none))]
 pub fn read_call(alloc: Global, text: &[u8]) -> Result<Call, FormFault>
     ensures value { Reads result (call_of text.now) }

@@ -53,7 +53,7 @@ fn write_text(call: &Call, out: &mut Vec<u8>) -> Result<(), Memory>
     }
 }
 
-/// Appends the one spelling of a call. Where memory is wanted, a front of it was appended.
+/// Appends the one spelling of a call. When memory runs out, a prefix of it was appended.
 #[tactic(auto, using(crate::proofs::Calls::call_again))]
 pub fn write_call(call: &Call, out: &mut Vec<u8>) -> Result<(), Memory>
     // Each number is in the range of its field: an owner that isn't the root has one from 1 upwards.

@@ -9,7 +9,7 @@ use tree_specs::Memory;
 pub enum FormFault {
     /// The text spells no value.
     NoForm,
-    /// Memory was wanted. The text may spell a value or none.
+    /// Memory ran out. The text may spell a value or none.
     Memory,
 }
 

@@ -91,7 +91,7 @@ pub fn read_u32(text: &[u8]) -> Option<u32>
     number32_value(text)
 }
 
-/// Appends the one spelling of a number. Where memory is wanted, a front of it was appended.
+/// Appends the one spelling of a number. When memory runs out, a prefix of it was appended.
 pub fn write_number(n: u64, out: &mut Vec<u8>) -> Result<(), Memory>
     ensures { Writes out.old.items out.new.items result (decimal n) }
 {

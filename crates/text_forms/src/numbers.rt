@@ -25,7 +25,7 @@ fn write_each(numbers: &[u64], out: &mut Vec<u8>) -> Result<(), Memory>
 }
 
 /// Appends a front, then each number with a space before it, and then an end: most lines, refusals
-/// and questions are such texts. Where memory is wanted, a front of it was appended.
+/// and questions are such texts. When memory runs out, a prefix of it was appended.
 pub fn write_numbers(
     front: &[u8],
     numbers: &[u64],

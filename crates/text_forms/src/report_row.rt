@@ -60,7 +60,7 @@ fn write_report_row(row: &ReportRow, out: &mut Vec<u8>) -> Result<(), Memory>
     write_name(row, out)
 }
 
-/// Appends the lines of these rows of a report, each with its LF. Where memory is wanted, a front of them
+/// Appends the lines of these rows of a report, each with its LF. When memory runs out, a prefix of them
 /// was appended.
 pub fn write_report_rows(rows: &[ReportRow], out: &mut Vec<u8>) -> Result<(), Memory>
     ensures { Writes out.old.items out.new.items result (rows_text rows.now) }

@@ -13,6 +13,8 @@ use Rattle.tree_links.specs.Links.{IsTree}
 use Rattle.linked_lanes.specs.Lane.{has}
 use Rattle.linked_lanes.specs.Chain.{Chain}
 use Rattle.tree_links.specs.declared.node.Node.{Node}
+use Rattle.tree_links.specs.declared.node.Link.{Link}
+use Rattle.tree_links.specs.declared.node.Link.TheVariants.{PlacedNewer, PlacedOlder, KinNewer, KinOlder}
 use Rattle.linked_lanes.specs.declared.Sides.{Sides}
 
 abbrev pub Nodes : Type 0
@@ -82,6 +84,13 @@ kin_newer w v = record v { kin = record v.kin { newer = w } }
 
 abbrev pub kin_older : Option ℕ → Node → Node
 kin_older w v = record v { kin = record v.kin { older = w } }
+
+-- what it notes of a neighbour
+abbrev pub noted : Link → Node → Node
+noted (PlacedNewer w) = placed_newer w
+noted (PlacedOlder w) = placed_older w
+noted (KinNewer w) = kin_newer w
+noted (KinOlder w) = kin_older w
 
 abbrev pub with_first : Option ℕ → Node → Node
 with_first w v = record v { first = w }

@@ -5,11 +5,12 @@ ghost use Rattle.pool_arena.specs.Arena.{get};
 ghost use Rattle.tree_specs.specs.Words.Objects.{same_owner};
 ghost use Rattle.tree_specs.specs.declared.object.Owner.{Owner as OwnerData};
 ghost use Rattle.tree_specs.specs.declared.row.Row.{Row as RowData};
-ghost use Rattle.tree_specs.specs.Tree.Pool.{row_of, left_row, named_row, marked_row, hooked_row, sized_row, limited_row};
+ghost use Rattle.tree_specs.specs.Tree.Pool.{row_of, left_row};
 ghost use Rattle.tree_specs.specs.Tree.Forest.{Distinct as Once};
 ghost use Rattle.linked_lanes.specs.Lane.{is_at, has, without, Distinct};
 ghost use Rattle.linked_lanes.specs.Chain.{head_left, sides_in};
-ghost use Rattle.tree_links.specs.Nodes.{placed_newer, placed_older, kin_newer, kin_older, entered, first_in, owned_in, with_first, with_row, row_at, head_of, HasHead, Nodes, Linked, Enters, Apart, kin_at, placed_at, children};
+ghost use Rattle.tree_links.specs.Edits.{edited};
+ghost use Rattle.tree_links.specs.Nodes.{noted, entered, first_in, owned_in, with_first, with_row, row_at, head_of, HasHead, Nodes, Linked, Enters, Apart, kin_at, placed_at, children};
 
 use linked_lanes::Sides;
 use pool_arena::Arena;
@@ -24,51 +25,36 @@ pub(crate) struct Node {
     pub first: Option<u64>,
 }
 
-fn set_placed_newer(nodes: &mut Arena<Node>, at: Option<u64>, newer: Option<u64>)
-    ensures nodes { (q : ℕ) → get nodes.new q ≡ cond (is_at at q) (option_map (placed_newer newer) (get nodes.old q)) (get nodes.old q) }
-    ensures len { map.len nodes.new.pairs ≡ map.len nodes.old.pairs }
-    ensures spare { nodes.new.spare ≡ nodes.old.spare }
+/// What a node notes of a neighbour.
+#[derive(Clone, Copy, Debug)]
+enum Link {
+    PlacedNewer(Option<u64>),
+    PlacedOlder(Option<u64>),
+    KinNewer(Option<u64>),
+    KinOlder(Option<u64>),
+}
+
+fn note(node: &mut Node, link: Link)
+    ensures { node.new ≡ noted link node.old }
 {
-    if let Some(x) = at
-        && let Some(node) = nodes.get_mut(x)
-    {
-        node.placed.newer = newer;
+    match link {
+        Link::PlacedNewer(x) => node.placed.newer = x,
+        Link::PlacedOlder(x) => node.placed.older = x,
+        Link::KinNewer(x) => node.kin.newer = x,
+        Link::KinOlder(x) => node.kin.older = x,
     }
 }
 
-fn set_placed_older(nodes: &mut Arena<Node>, at: Option<u64>, older: Option<u64>)
-    ensures nodes { (q : ℕ) → get nodes.new q ≡ cond (is_at at q) (option_map (placed_older older) (get nodes.old q)) (get nodes.old q) }
+// The node at this place, if there is one, notes another neighbour.
+fn set_link(nodes: &mut Arena<Node>, at: Option<u64>, link: Link)
+    ensures nodes { (q : ℕ) → get nodes.new q ≡ cond (is_at at q) (option_map (noted link) (get nodes.old q)) (get nodes.old q) }
     ensures len { map.len nodes.new.pairs ≡ map.len nodes.old.pairs }
     ensures spare { nodes.new.spare ≡ nodes.old.spare }
 {
     if let Some(x) = at
         && let Some(node) = nodes.get_mut(x)
     {
-        node.placed.older = older;
-    }
-}
-
-fn set_kin_newer(nodes: &mut Arena<Node>, at: Option<u64>, newer: Option<u64>)
-    ensures nodes { (q : ℕ) → get nodes.new q ≡ cond (is_at at q) (option_map (kin_newer newer) (get nodes.old q)) (get nodes.old q) }
-    ensures len { map.len nodes.new.pairs ≡ map.len nodes.old.pairs }
-    ensures spare { nodes.new.spare ≡ nodes.old.spare }
-{
-    if let Some(x) = at
-        && let Some(node) = nodes.get_mut(x)
-    {
-        node.kin.newer = newer;
-    }
-}
-
-fn set_kin_older(nodes: &mut Arena<Node>, at: Option<u64>, older: Option<u64>)
-    ensures nodes { (q : ℕ) → get nodes.new q ≡ cond (is_at at q) (option_map (kin_older older) (get nodes.old q)) (get nodes.old q) }
-    ensures len { map.len nodes.new.pairs ≡ map.len nodes.old.pairs }
-    ensures spare { nodes.new.spare ≡ nodes.old.spare }
-{
-    if let Some(x) = at
-        && let Some(node) = nodes.get_mut(x)
-    {
-        node.kin.older = older;
+        note(node, link);
     }
 }
 
@@ -96,8 +82,8 @@ pub(crate) fn leave_placed(nodes: &mut Arena<Node>, front: &mut Option<u64>, sid
     ensures len { map.len nodes.new.pairs ≡ map.len nodes.old.pairs }
     ensures spare { nodes.new.spare ≡ nodes.old.spare }
 {
-    set_placed_older(nodes, sides.newer, sides.older);
-    set_placed_newer(nodes, sides.older, sides.newer);
+    set_link(nodes, sides.newer, Link::PlacedOlder(sides.older));
+    set_link(nodes, sides.older, Link::PlacedNewer(sides.newer));
     *front = sides.head_after(*front);
 }
 
@@ -162,8 +148,8 @@ pub(crate) fn leave_kin(nodes: &mut Arena<Node>, root: &mut Option<u64>, owner: 
     ensures len { map.len nodes.new.pairs ≡ map.len nodes.old.pairs }
     ensures spare { nodes.new.spare ≡ nodes.old.spare }
 {
-    set_kin_older(nodes, sides.newer, sides.older);
-    set_kin_newer(nodes, sides.older, sides.newer);
+    set_link(nodes, sides.newer, Link::KinOlder(sides.older));
+    set_link(nodes, sides.older, Link::KinNewer(sides.newer));
     mend_head(nodes, root, owner, sides);
 }
 
@@ -218,8 +204,8 @@ pub(crate) fn meet_newer(nodes: &mut Arena<Node>, front: Option<u64>, first: Opt
     ensures len { map.len nodes.new.pairs ≡ map.len nodes.old.pairs }
     ensures spare { nodes.new.spare ≡ nodes.old.spare }
 {
-    set_placed_newer(nodes, front, Some(x));
-    set_kin_newer(nodes, first, Some(x));
+    set_link(nodes, front, Link::PlacedNewer(Some(x)));
+    set_link(nodes, first, Link::KinNewer(Some(x)));
 }
 
 /// A row has left its owner. Gives that owner, and its neighbours among the owner's children, which still note it.
@@ -241,53 +227,36 @@ pub(crate) fn set_left(nodes: &mut Arena<Node>, x: u64) -> Option<(Option<Owner>
     }
 }
 
-pub(crate) fn write_name(nodes: &mut Arena<Node>, x: u64, name: Name)
-    ensures nodes { (q : ℕ) → get nodes.new q ≡ cond (nat_eq x q) (option_map (with_row (named_row name)) (get nodes.old q)) (get nodes.old q) }
-    ensures len { map.len nodes.new.pairs ≡ map.len nodes.old.pairs }
-    ensures spare { nodes.new.spare ≡ nodes.old.spare }
+/// What of a row is written anew where it stands.
+#[derive(Debug, Drop)]
+pub(crate) enum Edit {
+    Name(Name),
+    Mark(Mark),
+    Hook(u32),
+    Size(u64),
+    Limit(u64),
+}
+
+fn rewrite(row: &mut Row, edit: Edit)
+    ensures { row.new ≡ edited edit row.old }
 {
-    if let Some(node) = nodes.get_mut(x) {
-        node.row.name = name;
+    match edit {
+        Edit::Name(name) => row.name = name,
+        Edit::Mark(mark) => row.mark = mark,
+        Edit::Hook(hook) => row.hook = hook,
+        Edit::Size(size) => row.size = size,
+        Edit::Limit(limit) => row.limit = limit,
     }
 }
 
-pub(crate) fn write_mark(nodes: &mut Arena<Node>, x: u64, mark: Mark)
-    ensures nodes { (q : ℕ) → get nodes.new q ≡ cond (nat_eq x q) (option_map (with_row (marked_row mark)) (get nodes.old q)) (get nodes.old q) }
+/// Writes the row of an object anew, if there is one.
+pub(crate) fn write(nodes: &mut Arena<Node>, x: u64, what: Edit)
+    ensures nodes { (q : ℕ) → get nodes.new q ≡ cond (nat_eq x q) (option_map (with_row (edited what)) (get nodes.old q)) (get nodes.old q) }
     ensures len { map.len nodes.new.pairs ≡ map.len nodes.old.pairs }
     ensures spare { nodes.new.spare ≡ nodes.old.spare }
 {
     if let Some(node) = nodes.get_mut(x) {
-        node.row.mark = mark;
-    }
-}
-
-pub(crate) fn write_hook(nodes: &mut Arena<Node>, x: u64, hook: u32)
-    ensures nodes { (q : ℕ) → get nodes.new q ≡ cond (nat_eq x q) (option_map (with_row (hooked_row hook)) (get nodes.old q)) (get nodes.old q) }
-    ensures len { map.len nodes.new.pairs ≡ map.len nodes.old.pairs }
-    ensures spare { nodes.new.spare ≡ nodes.old.spare }
-{
-    if let Some(node) = nodes.get_mut(x) {
-        node.row.hook = hook;
-    }
-}
-
-pub(crate) fn write_size(nodes: &mut Arena<Node>, x: u64, size: u64)
-    ensures nodes { (q : ℕ) → get nodes.new q ≡ cond (nat_eq x q) (option_map (with_row (sized_row size)) (get nodes.old q)) (get nodes.old q) }
-    ensures len { map.len nodes.new.pairs ≡ map.len nodes.old.pairs }
-    ensures spare { nodes.new.spare ≡ nodes.old.spare }
-{
-    if let Some(node) = nodes.get_mut(x) {
-        node.row.size = size;
-    }
-}
-
-pub(crate) fn write_limit(nodes: &mut Arena<Node>, x: u64, limit: u64)
-    ensures nodes { (q : ℕ) → get nodes.new q ≡ cond (nat_eq x q) (option_map (with_row (limited_row limit)) (get nodes.old q)) (get nodes.old q) }
-    ensures len { map.len nodes.new.pairs ≡ map.len nodes.old.pairs }
-    ensures spare { nodes.new.spare ≡ nodes.old.spare }
-{
-    if let Some(node) = nodes.get_mut(x) {
-        node.row.limit = limit;
+        rewrite(&mut node.row, what);
     }
 }
 

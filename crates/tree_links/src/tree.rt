@@ -3,8 +3,8 @@ ghost use Rattle.tree_links.specs.Nodes.{next_in};
 
 use crate::new_row::NewRow;
 use crate::node::{
-    Node, enter, forget, head, leave_kin_of, leave_placed, meet_newer, set_head, set_left,
-    write_hook, write_limit, write_mark, write_name, write_size,
+    Edit, Node, enter, forget, head, leave_kin_of, leave_placed, meet_newer, set_head, set_left,
+    write,
 };
 use crate::owner::is_below;
 use crate::works::Works;
@@ -59,6 +59,7 @@ impl Tree {
     ghost use Rattle.tree_specs.specs.Calls.Refusals.{row_limit, size_limit};
     ghost use Rattle.tree_specs.specs.Tree.Sums.{size_at};
     ghost use Rattle.tree_specs.specs.Tree.Pool.{empty, is_row, is_owner, is_dying, row_of, is_below, first_kid as kid_first, next_kid as kid_next, add as added, take_number as number_taken, detach as detached, remove as removed, place as placed, rename as renamed, set_mark as marked, set_hook as hooked, set_size as resized, set_limit as limited, owner_of, next_owner as owner_after, is_inside as is_inside_of, is_dying_mark};
+    ghost use Rattle.tree_links.specs.Edits.{KeepsSmall, with_edit};
     ghost use Rattle.tree_links.specs.Links.{IsTree, pool_of, works_of, number_after, may_go};
 
     /// A tree with no rows, whose next serial number is `first`, and no open free. It takes no memory.
@@ -76,7 +77,7 @@ impl Tree {
     }
 
     /// Takes memory for so many more rows, and for the works of all frees that these and the present rows can
-    /// want until the next destructor runs: one for each of them, and two. After want of memory rows and works
+    /// want until the next destructor runs: one for each of them, and two. If memory runs out, rows and works
     /// are as they were.
     pub fn reserve(&mut self, rows: usize) -> Result<(), Memory>
         ensures rows { pool_of self.new ≡ pool_of self.old }
@@ -310,6 +311,15 @@ impl Tree {
         }
     }
 
+    fn edit(&mut self, x: Obj, edit: Edit)
+        requires small { KeepsSmall edit }
+        ensures rows { pool_of self.new ≡ with_edit (pool_of self.old) x edit }
+        ensures spare { self.old.spare ≤ self.new.spare }
+        ensures works { works_of self.new ≡ works_of self.old }
+    {
+        write(&mut self.nodes, x.0, edit);
+    }
+
     /// Gives an object another name. It takes no memory.
     pub fn set_name(&mut self, x: Obj, name: Name)
         requires { is_row self.old.rows x ≡ true }
@@ -317,7 +327,7 @@ impl Tree {
         ensures spare { self.old.spare ≤ self.new.spare }
         ensures works { works_of self.new ≡ works_of self.old }
     {
-        write_name(&mut self.nodes, x.0, name);
+        self.edit(x, Edit::Name(name));
     }
 
     /// Gives an object another mark. It takes no memory.
@@ -329,7 +339,7 @@ impl Tree {
         ensures spare { self.old.spare ≤ self.new.spare }
         ensures works { works_of self.new ≡ works_of self.old }
     {
-        write_mark(&mut self.nodes, x.0, mark);
+        self.edit(x, Edit::Mark(mark));
     }
 
     /// Gives an object another destructor, by its routine; 0 is none. It takes no memory.
@@ -339,7 +349,7 @@ impl Tree {
         ensures spare { self.old.spare ≤ self.new.spare }
         ensures works { works_of self.new ≡ works_of self.old }
     {
-        write_hook(&mut self.nodes, x.0, hook);
+        self.edit(x, Edit::Hook(hook));
     }
 
     /// Gives an object another size, in bytes. It takes no memory.
@@ -350,7 +360,7 @@ impl Tree {
         ensures spare { self.old.spare ≤ self.new.spare }
         ensures works { works_of self.new ≡ works_of self.old }
     {
-        write_size(&mut self.nodes, x.0, size);
+        self.edit(x, Edit::Size(size));
     }
 
     /// Gives an object another limit, in bytes; 0 is none. It takes no memory.
@@ -360,7 +370,7 @@ impl Tree {
         ensures spare { self.old.spare ≤ self.new.spare }
         ensures works { works_of self.new ≡ works_of self.old }
     {
-        write_limit(&mut self.nodes, x.0, limit);
+        self.edit(x, Edit::Limit(limit));
     }
 
     /// The object leaves its owner, and is dying of it from then on. It takes no memory.

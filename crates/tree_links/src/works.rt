@@ -33,7 +33,7 @@ impl Works {
         }
     }
 
-    /// Takes memory for so many more works. After want of memory they are as they were.
+    /// Takes memory for so many more works. If memory runs out, they are as they were.
     pub(crate) fn reserve(&mut self, places: usize) -> Result<(), Memory>
         ensures works { self.new.frees ≡ self.old.frees }
         ensures room { OnOk result (places ≤ self.new.room) }

@@ -112,7 +112,7 @@ fn keep(rows: &mut Vec<ReportRow>, row: Option<ReportRow>) -> Result<(), Memory>
 
 /// The report of an owner, as `talloc_report_full` shows it: a row for the owner, at depth 0, and one for each
 /// object below it, each owner before its children and these the newest placed first. Sizes are in bytes.
-/// There are no rows where the owner is neither the root nor an object. An error is want of memory. The
+/// There are no rows where the owner is neither the root nor an object. An error means out of memory. The
 /// references are those among the objects.
 #[tactic(auto, using(crate::proofs::Showing::walk_shown))]
 pub fn rows(alloc: Global, tree: &Tree, refs: &Refs, from: Owner) -> Result<ReportRows, Memory>

@@ -28,7 +28,7 @@ fn report_text(alloc: Global, tree: &Tree, refs: &Refs, from: Owner) -> Result<V
 /// Writes a line for an owner and for each object below it, each owner before its children, newest first, as
 /// `talloc_report_full` does. Where the owner is neither the root nor an object nothing is written.
 ///
-/// `Failed` comes only where the sink's count of faults rose in this call. Then, and after want of memory, a
+/// `Failed` comes only where the sink's count of faults rose in this call. Then, and when memory runs out, a
 /// front of the lines has been put.
 pub fn report<K: Sink>(
     alloc: Global,

@@ -1,5 +1,5 @@
 -- What holds at every moment, and the measure that each step lowers.
 pub mod Sound
-pub mod Whole
+pub mod Consistent
 pub mod Alone
 pub mod Measure

@@ -82,14 +82,14 @@ pub enum FreeFrame {
         purpose: Purpose,
     },
     /// `x` waits for the freeing of its child. `noted` is the owner of the newest reference that the child had before.
-    Trying {
+    FreeingChild {
         x: Obj,
         child: Obj,
         noted: Option<Owner>,
         purpose: Purpose,
     },
     /// The freeing of the child is over. One that wasn't freed is to go to its heir.
-    Tried {
+    AfterChild {
         x: Obj,
         child: Obj,
         noted: Option<Owner>,

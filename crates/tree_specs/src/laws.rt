@@ -51,7 +51,7 @@ pub fn the_table_tells_the_story()
     ensures items { (first : ℕ) (is : List InputData) → 1 ≤ first → rest_of (begin first) is ≡ items (story first is) }
 {}
 
-/// A free over any objects and inputs, and so within a call, for a child, and in an act: it takes a front of the inputs,
+/// A free over any objects and inputs, and so within a call, for a child, and in an act: it takes a prefix of the inputs,
 /// waits at the open question before each of them, and has ended with the last.
 pub fn a_free_waits_for_each_of_its_inputs()
     ensures { (n : ℕ) (x : ObjData) (p q : Pool) (is left : List InputData) (a : FreeReplyData) (told : List Scene) → free n x p is ≡ Ended a q told left →

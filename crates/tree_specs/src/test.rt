@@ -18,11 +18,11 @@ pub enum Test {
     /// The object gets this size: where it grows, the limits leave room for it.
     MayGrow(Obj, u64),
     /// The object isn't being freed.
-    IsStaying(Obj),
+    IsNotDying(Obj),
     /// Neither its destructor nor its handler runs.
-    IsStill(Obj),
+    IsNotRunning(Obj),
     /// The owner isn't inside the object.
-    IsApart(Obj, Owner),
+    IsNotInside(Obj, Owner),
     /// No reference keeps the object from being freed.
     IsUnheld(Obj),
     /// There is no reference to the object.

@@ -26,13 +26,13 @@ use Rattle.tree_specs.specs.Calls.Given.{Given, given_to}
 use Rattle.tree_specs.specs.Calls.Given.Given.{Calls, Returns}
 use Rattle.tree_specs.specs.declared.test.Test.{Test}
 use Rattle.tree_specs.specs.Calls.Refusals.{Check, refuse_if, refusal_of, refused, size_limit, row_limit, object_row, object, owner, room, apart, interested, given_by, is_running_mark}
-use Rattle.tree_specs.specs.declared.test.Test.TheVariants.{IsSmall, IsObject, IsOwner, IsPlain, HasRoom, Fits, MayGrow, IsStaying, IsStill, IsApart, IsUnheld, IsUnreferenced, IsInterested, MayGive}
+use Rattle.tree_specs.specs.declared.test.Test.TheVariants.{IsSmall, IsObject, IsOwner, IsPlain, HasRoom, Fits, MayGrow, IsNotDying, IsNotRunning, IsNotInside, IsUnheld, IsUnreferenced, IsInterested, MayGive}
 use Rattle.tree_specs.specs.Calls.Passed.{Interest, AsOwner, AsHolder, Gives, Itself, ItsRef, Passed, AllPassed}
 use Rattle.tree_specs.specs.Invariants.Sound.{IsLive, MayBePlaced}
 use Rattle.tree_specs.specs.Words.Ranges.{is_sound_call, is_return}
 use Rattle.tree_specs.specs.Machine.Table.{doing, returning}
 use Rattle.tree_specs.specs.Rules.Story.{heard, led}
-use Rattle.tree_specs.specs.Invariants.Whole.{IsOfRoutine}
+use Rattle.tree_specs.specs.Invariants.Consistent.{IsOfRoutine}
 use Rattle.tree_specs.proofs.Tree.Numbered.{by_test, same_owner-equal}
 
 -- where no check of two applies, neither does
@@ -108,9 +108,9 @@ passes p (IsPlain x) e = not-false _ (refuse_if-none _ _ e)
 passes p (HasRoom k) e = passes-room p k e
 passes p (Fits o wanted) e = e
 passes p (MayGrow x size) e = e
-passes p (IsStaying x) e = refuse_if-none _ _ e
-passes p (IsStill x) e = refuse_if-none _ _ e
-passes p (IsApart x o) e = refuse_if-none _ _ e
+passes p (IsNotDying x) e = refuse_if-none _ _ e
+passes p (IsNotRunning x) e = refuse_if-none _ _ e
+passes p (IsNotInside x o) e = refuse_if-none _ _ e
 passes p (IsUnheld x) e = refuse_if-none _ _ e
 passes p (IsUnreferenced x) e = eqb-true (count_refs p.rows x) 0 (not-false _ (refuse_if-none _ _ e))
 passes p (IsInterested o x) e = passes-interested p o x e
@@ -123,7 +123,7 @@ all-pass p (t ∷ u ∷ ts) e = let d = both-none (refusal_of p t) (refused p (u
 
 -- ---- what tests say together
 
-live-row : (p : Pool) (x : Obj) (r : Row) → row_of p.rows x ≡ Some r → Passed p (IsStaying x) → IsLive r.mark
+live-row : (p : Pool) (x : Obj) (r : Row) → row_of p.rows x ≡ Some r → Passed p (IsNotDying x) → IsLive r.mark
 live-row p x r h dying = each r.mark refl
   where
     each : (m : Mark) → r.mark ≡ m → IsLive m
@@ -140,11 +140,11 @@ apart-owner p x o f = λ same_as. (
     first zero t = t
     first (suc n) t = rw t refl
 
-pub may-place : (p : Pool) (o : Owner) (x : Obj) → Passed p (IsObject x) → Passed p (IsOwner o) → Passed p (IsStaying x) → Passed p (IsApart x o) → MayBePlaced p o x
+pub may-place : (p : Pool) (o : Owner) (x : Obj) → Passed p (IsObject x) → Passed p (IsOwner o) → Passed p (IsNotDying x) → Passed p (IsNotInside x o) → MayBePlaced p o x
 may-place p o x r own s a = record { row = r.0; is = r.1; live = live-row p x r.0 r.1 s; apart = apart-owner p x o a; there = own; outside = a }
 
 -- nothing goes on with an object that neither runs nor dies
-pub quiet-row : (p : Pool) (x : Obj) (r : Row) → row_of p.rows x ≡ Some r → Passed p (IsStill x) → Passed p (IsStaying x) → r.mark ≡ Quiet
+pub quiet-row : (p : Pool) (x : Obj) (r : Row) → row_of p.rows x ≡ Some r → Passed p (IsNotRunning x) → Passed p (IsNotDying x) → r.mark ≡ Quiet
 quiet-row p x r e still dying = calm r.mark (rw e at still) (live-row p x r e dying)
   where
     calm : (m : Mark) → is_running_mark m ≡ false → IsLive m → m ≡ Quiet

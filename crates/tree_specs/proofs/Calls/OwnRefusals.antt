@@ -21,7 +21,7 @@ use Rattle.tree_specs.specs.Rules.Items.{Item}
 use Rattle.tree_specs.specs.Rules.Items.Item.{Told}
 use Rattle.tree_specs.specs.declared.test.Test.{Test}
 use Rattle.tree_specs.specs.Calls.Refusals.{Check, row_limit, refuse_if, refusal_of, refused, refusals, over, fits_in, fits, growing, object_row, object, owner, room, given_by, held, is_held}
-use Rattle.tree_specs.specs.declared.test.Test.TheVariants.{IsSmall, IsObject, IsOwner, IsPlain, HasRoom, Fits, MayGrow, IsStaying, IsStill, IsApart, IsUnheld, IsUnreferenced, IsInterested, MayGive}
+use Rattle.tree_specs.specs.declared.test.Test.TheVariants.{IsSmall, IsObject, IsOwner, IsPlain, HasRoom, Fits, MayGrow, IsNotDying, IsNotRunning, IsNotInside, IsUnheld, IsUnreferenced, IsInterested, MayGive}
 use Rattle.tree_specs.specs.Rules.Sequence.{Scene}
 use Rattle.tree_specs.specs.Promises.Orderly.{RefusedJustNow}
 use Rattle.tree_specs.specs.Promises.Grounded.{AnsweredCall, HeldCall, CausedCall}
@@ -84,9 +84,9 @@ own-test p (IsPlain x) = own-if _ _ tt
 own-test p (HasRoom k) = own-room p k
 own-test p (Fits o wanted) = own-below p o wanted
 own-test p (MayGrow x size) = own-growing p x size
-own-test p (IsStaying x) = own-if _ _ tt
-own-test p (IsStill x) = own-if _ _ tt
-own-test p (IsApart x o) = own-if _ _ tt
+own-test p (IsNotDying x) = own-if _ _ tt
+own-test p (IsNotRunning x) = own-if _ _ tt
+own-test p (IsNotInside x o) = own-if _ _ tt
 own-test p (IsUnheld x) = own-if _ _ tt
 own-test p (IsUnreferenced x) = own-if _ _ tt
 own-test p (IsInterested o x) = own-if _ _ tt

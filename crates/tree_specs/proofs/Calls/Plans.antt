@@ -17,7 +17,7 @@ use Rattle.tree_specs.specs.Tree.Pool.{Pool, row_of, is_row, is_owner, owner_of,
 use Rattle.tree_specs.specs.Tree.Targets.{target_of, newest_ref}
 use Rattle.tree_specs.specs.Tree.Inside.{total}
 use Rattle.tree_specs.specs.Invariants.Measure.{weight, mark_weight}
-use Rattle.tree_specs.specs.Invariants.Whole.{burden, mark_burden}
+use Rattle.tree_specs.specs.Invariants.Consistent.{deposit, mark_deposit}
 use Rattle.tree_specs.specs.Calls.Refusals.{Check, tests, refusals}
 use Rattle.tree_specs.specs.declared.test.Test.TheVariants.{IsObject}
 use Rattle.tree_specs.specs.Calls.Plans.{Change, Plan, changed_by, plan, planned, unless_refused, places, warns, frees, handed, gift}
@@ -70,34 +70,34 @@ added (Then first second) = added first + added second
 pub record Follows (p q : Pool) (more : ℕ) : Type 0 where
   pub weight : total weight q.rows ≤ total weight p.rows + 2 * more
   pub number : length q.rows ≤ length p.rows + more
-  pub burden : total burden p.rows ≤ total burden q.rows
+  pub deposit : total deposit p.rows ≤ total deposit q.rows
   pub later : Later p q
 
 pub follows : (p : Pool) (c : Change) → MayDo p c → Follows p (changed_by c p) (added c)
-follows p Nothing may = record { weight = omega arith; number = omega arith; burden = omega arith; later = later-same p }
+follows p Nothing may = record { weight = omega arith; number = omega arith; deposit = omega arith; later = later-same p }
 follows p (Edit x g) may =
     let w = total-kept weight g p.rows x may.row may.is (ap mark_weight (may.mark may.row)) in
-    let b = total-kept burden g p.rows x may.row may.is (ap mark_burden (may.mark may.row)) in
+    let b = total-kept deposit g p.rows x may.row may.is (ap mark_deposit (may.mark may.row)) in
     record {
       weight = omega (arith, w);
       number = omega (arith, length-changed g p.rows x);
-      burden = omega (arith, b);
+      deposit = omega (arith, b);
       later = later-changed g p x may.row may.place.serial may.is (λ d. rw (may.mark may.row) d);
     }
-follows p (Add kind o size name) may = record { weight = omega arith; number = omega arith; burden = omega arith; later = later-added p kind o size name }
+follows p (Add kind o size name) may = record { weight = omega arith; number = omega arith; deposit = omega arith; later = later-added p kind o size name }
 follows p (Place o x) may =
     let w = total-placed weight p o x may.row may.is refl in
-    let b = total-placed burden p o x may.row may.is refl in
+    let b = total-placed deposit p o x may.row may.is refl in
     record {
       weight = omega (arith, w);
       number = omega (arith, length-placed p o x may.row may.is);
-      burden = omega (arith, b);
+      deposit = omega (arith, b);
       later = later-placed p o x may.row may.is;
     }
 follows p (Then first second) may =
     let a = follows p first may.0 in
     let b = follows (changed_by first p) second may.1 in
-    record { weight = omega (arith, a.weight, b.weight); number = omega (arith, a.number, b.number); burden = omega (arith, a.burden, b.burden); later = later-still a.later b.later }
+    record { weight = omega (arith, a.weight, b.weight); number = omega (arith, a.number, b.number); deposit = omega (arith, a.deposit, b.deposit); later = later-still a.later b.later }
 
 -- the rows stay sound under a work that claims as much
 pub change-sound : (f f' : Frame) (fs : List Frame) (p : Pool) (c : Change) → Sound f fs p → MayDo p c → ((y : Obj) → claim y f' ≡ claim y f) → ((q : Pool) → Rests f fs q) → Rests f' fs (changed_by c p) → Sound f' fs (changed_by c p)

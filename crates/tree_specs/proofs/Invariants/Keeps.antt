@@ -5,7 +5,7 @@ use Rattle.tree_specs.specs.declared.question.Ask.{Ask}
 use Rattle.tree_specs.specs.declared.frame.Frame.{Frame}
 use Rattle.tree_specs.specs.declared.frame.Frame.TheVariants as frame
 use Rattle.tree_specs.specs.declared.frame.CallFrame.TheVariants.{Asking, Doing, Awaiting, Warning, Telling, Returning}
-use Rattle.tree_specs.specs.declared.frame.FreeFrame.TheVariants.{Unlinking, Releasing, Giving, Beginning, Hooked, Judged, Leaving, Looping, Trying, Tried, Ending}
+use Rattle.tree_specs.specs.declared.frame.FreeFrame.TheVariants.{Unlinking, Releasing, Giving, Beginning, Hooked, Judged, Leaving, Looping, FreeingChild, AfterChild, Ending}
 use Rattle.tree_specs.specs.declared.frame.Answer.TheVariants.{Freed, Returned}
 use Rattle.tree_specs.specs.declared.free_step.FreeReply.TheVariants.{Ok}
 use Rattle.tree_specs.specs.Tree.Pool.{Pool}
@@ -41,7 +41,7 @@ sound-kept (frame.Free (Hooked x h)) fs p k s = hooked x h fs p k s
 sound-kept (frame.Free (Judged x h v)) fs p k s = judged x h v fs p k s
 sound-kept (frame.Free (Leaving x h)) fs p k s = leaving x h fs p k s
 sound-kept (frame.Free (Looping x purpose)) fs p k s = looping x purpose fs p k s
-sound-kept (frame.Free (Tried x c noted purpose a)) fs p k s = tried x c noted purpose a fs p k s
+sound-kept (frame.Free (AfterChild x c noted purpose a)) fs p k s = tried x c noted purpose a fs p k s
 sound-kept (frame.Free (Ending a)) fs p k s = ended (Freed a) (frame.Free (Ending a)) fs p k s (λ x. refl) (λ x c n b gs e. still-there a x c n p s.rests.0)
 -- a work that waits is not the innermost
 sound-kept _ fs p k s = absurd s.rests

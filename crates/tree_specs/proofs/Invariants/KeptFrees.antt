@@ -16,7 +16,7 @@ use Rattle.tree_specs.specs.declared.question.Ask.TheVariants.{Routine}
 use Rattle.tree_specs.specs.declared.frame.Frame.{Frame}
 use Rattle.tree_specs.specs.declared.frame.Frame.TheVariants as frame
 use Rattle.tree_specs.specs.declared.frame.CallFrame.TheVariants.{Asking, Doing, Awaiting, Returning}
-use Rattle.tree_specs.specs.declared.frame.FreeFrame.TheVariants.{Unlinking, Releasing, Giving, Beginning, Hooked, Judged, Leaving, Looping, Trying, Tried, Ending}
+use Rattle.tree_specs.specs.declared.frame.FreeFrame.TheVariants.{Unlinking, Releasing, Giving, Beginning, Hooked, Judged, Leaving, Looping, FreeingChild, AfterChild, Ending}
 use Rattle.tree_specs.specs.declared.frame.Purpose.{Purpose}
 use Rattle.tree_specs.specs.declared.frame.Purpose.TheVariants.{Removal, Emptying}
 use Rattle.tree_specs.specs.declared.frame.Answer.{Answer}
@@ -55,15 +55,15 @@ asking q fs p (suc k) s = λ i g e. leads g (heard-leads q i g e)
 
 -- a work that ends leaves the work below it sound
 pub ended : (a : Answer) (f : Frame) (fs : List Frame) (p : Pool) (k : ℕ) → Sound f fs p → ((x : Obj) → claim x f ≡ [])
-    → ((x c : Obj) (noted : Option Owner) (purpose : Purpose) (gs : List Frame) → fs ≡ frame.Free (Trying x c noted purpose) ∷ gs → StillThere (reply_in a) x c noted p) → KeptBy (Do.Done a p) fs k
+    → ((x c : Obj) (noted : Option Owner) (purpose : Purpose) (gs : List Frame) → fs ≡ frame.Free (FreeingChild x c noted purpose) ∷ gs → StillThere (reply_in a) x c noted p) → KeptBy (Do.Done a p) fs k
 ended a f [] p k s none there = tt
 ended a f (g ∷ gs) p k s none there = below g (waiter g gs s.waiting.0) s there
   where
     below : (g : Frame) → Waiter g → Sound f (g ∷ gs) p
-        → ((x c : Obj) (noted : Option Owner) (purpose : Purpose) (hs : List Frame) → g ∷ gs ≡ frame.Free (Trying x c noted purpose) ∷ hs → StillThere (reply_in a) x c noted p) → Sound (resume g a) gs p
+        → ((x c : Obj) (noted : Option Owner) (purpose : Purpose) (hs : List Frame) → g ∷ gs ≡ frame.Free (FreeingChild x c noted purpose) ∷ hs → StillThere (reply_in a) x c noted p) → Sound (resume g a) gs p
     below _ (ForFree q x) s there = stands f _ (frame.Call (Awaiting q x) ∷ gs) gs p (λ y. rw (none y) refl) s.waiting.1 tt s
     below _ (ForRun x h) s there = stands f _ (frame.Free (Hooked x h) ∷ gs) gs p (λ y. rw (none y) refl) s.waiting.1 s.waiting.0 s
-    below _ (ForChild x c noted purpose) s there = stands f _ (frame.Free (Trying x c noted purpose) ∷ gs) gs p (λ y. rw (none y) refl) s.waiting.1 (there x c noted purpose gs refl, s.waiting.0) s
+    below _ (ForChild x c noted purpose) s there = stands f _ (frame.Free (FreeingChild x c noted purpose) ∷ gs) gs p (λ y. rw (none y) refl) s.waiting.1 (there x c noted purpose gs refl, s.waiting.0) s
 
 -- a child that isn't said to run need not be where it was
 pub still-there : (a : FreeReply) (x c : Obj) (noted : Option Owner) (p : Pool) → IsOver a → StillThere a x c noted p
@@ -129,22 +129,22 @@ looping x purpose fs p k s = each (first_kid p.rows (Of x)) refl
     each (Some c) e = rw e (child (target_at p.rows c) refl)
       where
         child : (o : Option Obj) → target_at p.rows c ≡ o → KeptBy (lifted (child_step x c purpose (target_at p.rows c) p)) fs k
-        child None t = rw t (stands (frame.Free (Looping x purpose)) (frame.Free (Beginning c)) fs (frame.Free (Trying x c (noted_owner p.rows c) purpose) ∷ fs) p (λ y. refl) (s.rests, s.waiting)
+        child None t = rw t (stands (frame.Free (Looping x purpose)) (frame.Free (Beginning c)) fs (frame.Free (FreeingChild x c (noted_owner p.rows c) purpose) ∷ fs) p (λ y. refl) (s.rests, s.waiting)
             ((refl, first_kid-owner p.rows (Of x) c s.forest.distinct e, inl refl), t) s)
         child (Some target) t = rw t (dropped-sound (frame.Free (Looping x purpose)) (frame.Free (Looping x purpose)) fs p c target s t (λ y. refl) s.rests)
 
 -- the freeing of a child is over
-pub tried : (x c : Obj) (noted : Option Owner) (purpose : Purpose) (a : FreeReply) (fs : List Frame) (p : Pool) (k : ℕ) → Sound (frame.Free (Tried x c noted purpose a)) fs p
-    → KeptBy (step (frame.Free (Tried x c noted purpose a)) p) fs k
+pub tried : (x c : Obj) (noted : Option Owner) (purpose : Purpose) (a : FreeReply) (fs : List Frame) (p : Pool) (k : ℕ) → Sound (frame.Free (AfterChild x c noted purpose a)) fs p
+    → KeptBy (step (frame.Free (AfterChild x c noted purpose a)) p) fs k
 tried x c noted purpose a fs p k s = each a s
   where
-    handed : (b : FreeReply) → Sound (frame.Free (Tried x c noted purpose b)) fs p → KeptBy (lifted (hand_on_step x c noted purpose p)) fs k
+    handed : (b : FreeReply) → Sound (frame.Free (AfterChild x c noted purpose b)) fs p → KeptBy (lifted (hand_on_step x c noted purpose p)) fs k
     handed b s = by_test (is_below (owner_of p.rows c) (Of x))
-        (λ t. rw t (placed-sound (frame.Free (Tried x c noted purpose b)) (frame.Free (Looping x purpose)) (heir p.rows x c noted) c fs p s (heir-placed x c noted _ fs p s t) (λ y. refl) s.rests.1))
-        (λ t. rw t (goes_on (frame.Free (Tried x c noted purpose b)) (frame.Free (Looping x purpose)) fs p (λ y. refl) s.rests.1 s))
+        (λ t. rw t (placed-sound (frame.Free (AfterChild x c noted purpose b)) (frame.Free (Looping x purpose)) (heir p.rows x c noted) c fs p s (heir-placed x c noted _ fs p s t) (λ y. refl) s.rests.1))
+        (λ t. rw t (goes_on (frame.Free (AfterChild x c noted purpose b)) (frame.Free (Looping x purpose)) fs p (λ y. refl) s.rests.1 s))
 
-    each : (b : FreeReply) → Sound (frame.Free (Tried x c noted purpose b)) fs p → KeptBy (step (frame.Free (Tried x c noted purpose b)) p) fs k
-    each Ok s = goes_on (frame.Free (Tried x c noted purpose Ok)) (frame.Free (Looping x purpose)) fs p (λ y. refl) s.rests.1 s
+    each : (b : FreeReply) → Sound (frame.Free (AfterChild x c noted purpose b)) fs p → KeptBy (step (frame.Free (AfterChild x c noted purpose b)) p) fs k
+    each Ok s = goes_on (frame.Free (AfterChild x c noted purpose Ok)) (frame.Free (Looping x purpose)) fs p (λ y. refl) s.rests.1 s
     each Held s = handed Held s
     each Running s = handed Running s
     each (Refused v) s = handed (Refused v) s
@@ -210,7 +210,7 @@ beginning x fs p k s = newest (newest_ref p.rows x) refl
     ]
 
     still : newest_ref p.rows x ≡ None → (q : Pool) → owner_of q.rows x ≡ owner_of p.rows x → (fs : List Frame) → Tries x (footing fs) p
-        → (y c : Obj) (noted : Option Owner) (purpose : Purpose) (gs : List Frame) → fs ≡ frame.Free (Trying y c noted purpose) ∷ gs → StillThere Running y c noted q
+        → (y c : Obj) (noted : Option Owner) (purpose : Purpose) (gs : List Frame) → fs ≡ frame.Free (FreeingChild y c noted purpose) ∷ gs → StillThere Running y c noted q
     still none q o fs t y c noted purpose gs e =
         let t' : (c ≡ x) × (owner_of p.rows x ≡ Some (Of y)) × NotedFor y x noted p = subst (λ (l : List Frame). Tries x (footing l) p) e t in
         (subst (λ (z : Obj). owner_of q.rows z ≡ Some (Of y)) (sym t'.0) (o ∙ t'.1), no-noted y noted none t'.2)

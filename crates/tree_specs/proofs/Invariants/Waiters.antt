@@ -6,7 +6,7 @@ use Rattle.tree_specs.specs.declared.question.Ask.{Ask}
 use Rattle.tree_specs.specs.declared.frame.Frame.{Frame}
 use Rattle.tree_specs.specs.declared.frame.Frame.TheVariants as frame
 use Rattle.tree_specs.specs.declared.frame.CallFrame.TheVariants.{Awaiting}
-use Rattle.tree_specs.specs.declared.frame.FreeFrame.TheVariants.{Hooked, Trying}
+use Rattle.tree_specs.specs.declared.frame.FreeFrame.TheVariants.{Hooked, FreeingChild}
 use Rattle.tree_specs.specs.declared.frame.Purpose.{Purpose}
 use Rattle.tree_specs.specs.Invariants.Sound.{IsWaiting}
 
@@ -14,10 +14,10 @@ use Rattle.tree_specs.specs.Invariants.Sound.{IsWaiting}
 pub data Waiter : Frame → Type 0 where
   ForFree : (q : Ask) (x : Obj) → Waiter (frame.Call (Awaiting q x))
   ForRun : (x : Obj) (h : ℕ) → Waiter (frame.Free (Hooked x h))
-  ForChild : (x c : Obj) (noted : Option Owner) (purpose : Purpose) → Waiter (frame.Free (Trying x c noted purpose))
+  ForChild : (x c : Obj) (noted : Option Owner) (purpose : Purpose) → Waiter (frame.Free (FreeingChild x c noted purpose))
 
 pub waiter : (g : Frame) (gs : List Frame) → IsWaiting g gs → Waiter g
 waiter (frame.Call (Awaiting q x)) gs w = ForFree q x
 waiter (frame.Free (Hooked x h)) gs w = ForRun x h
-waiter (frame.Free (Trying x c noted purpose)) gs w = ForChild x c noted purpose
+waiter (frame.Free (FreeingChild x c noted purpose)) gs w = ForChild x c noted purpose
 waiter _ gs w = absurd w

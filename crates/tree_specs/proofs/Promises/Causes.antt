@@ -20,13 +20,13 @@ use Rattle.tree_specs.specs.Tree.Pool.{Pool, row_of, is_row}
 use Rattle.tree_specs.specs.Calls.Refusals.{is_held}
 use Rattle.tree_specs.specs.Rules.Items.{Item}
 use Rattle.tree_specs.specs.Rules.Items.Item.{Told}
-use Rattle.tree_specs.specs.Rules.Sequence.{Begun, Scene}
+use Rattle.tree_specs.specs.Rules.Sequence.{CallStart, Scene}
 use Rattle.tree_specs.specs.Machine.Profiles.{Role, Calls, Frees, Waits, Never, AFree, ARun, AChild, profile}
 use Rattle.tree_specs.specs.Promises.Orderly.{RefusedJustNow}
 use Rattle.tree_specs.specs.Promises.Grounded.{OfReply, AnsweredCall, HeldCall, CausedCall, IsItem, AsksHook}
 
 abbrev pub NotedWork : Type 0
-NotedWork = Noted Frame Begun
+NotedWork = Noted Frame CallStart
 
 abbrev pub item_of : Scene → Item
 item_of s = s.item
@@ -73,18 +73,18 @@ NotHeld (call.Free x) start = is_held start x ≡ false
 NotHeld c start = Unit {0}
 
 -- a caller that waits for a free knows the call
-abbrev pub Knows : Obj → Option Begun → Type 0
+abbrev pub Knows : Obj → Option CallStart → Type 0
 Knows x None = ⊥
 Knows x (Some b) = FreesBy x b.call × NotHeld b.call b.start
 
-abbrev pub StandsFor : Waits → Frame → Option Begun → Type 0
+abbrev pub StandsFor : Waits → Frame → Option CallStart → Type 0
 StandsFor (AFree x) f b = IsFreeOf x f × Knows x b
 StandsFor (AChild c purpose) f b = IsFreeOf c f
 StandsFor (ARun x h) f b = IsRunOf x f
 StandsFor Never f b = Unit {0}
 
 -- what a work that waits says of the one that stands on it
-abbrev pub StandsOn : Frame → Frame → Option Begun → Type 0
+abbrev pub StandsOn : Frame → Frame → Option CallStart → Type 0
 StandsOn f g b = StandsFor (profile g).waits f b
 
 abbrev pub Stacked : Frame → List NotedWork → Type 0
@@ -92,39 +92,39 @@ Stacked f [] = Unit {0}
 Stacked f (w ∷ ws) = StandsOn f w.work w.note × Stacked w.work ws
 
 -- what is said of the work right below, where there is one
-abbrev pub OfNext : (Frame → Option Begun → Type 0) → List NotedWork → Type 0
+abbrev pub OfNext : (Frame → Option CallStart → Type 0) → List NotedWork → Type 0
 OfNext Q [] = Unit {0}
 OfNext Q (w ∷ ws) = Q w.work w.note
 
 -- ---- what the innermost work is about to tell has its cause
 
 -- the reply that is to be told
-abbrev pub IsCaused : List Scene → Option Begun → Reply → Type 0
+abbrev pub IsCaused : List Scene → Option CallStart → Reply → Type 0
 IsCaused scenes b r =
     RefusedJustNow (told scenes) (Told (Replied r)) × OfReply AnsweredCall b (Told (Replied r)) × OfReply HeldCall b (Told (Replied r)) × OfReply (CausedCall scenes) b (Told (Replied r))
 
 -- the destructor for which it waits was just asked
-abbrev pub IsAskedFor : List Scene → Frame → Option Begun → Type 0
+abbrev pub IsAskedFor : List Scene → Frame → Option CallStart → Type 0
 IsAskedFor scenes (frame.Free (Hooked x h)) b = LastIs (AsksHook x) scenes
 IsAskedFor scenes f b = Unit {0}
 
 -- the call that waits is told of a refusal right after this was told
-abbrev pub IsRefusedFor : List Scene → FreeReply → Frame → Option Begun → Type 0
+abbrev pub IsRefusedFor : List Scene → FreeReply → Frame → Option CallStart → Type 0
 IsRefusedFor scenes free_reply.Held (frame.Call (Awaiting q x)) b = ⊥
 IsRefusedFor scenes (free_reply.Refused v) (frame.Call (Awaiting q x)) b = LastIs (IsItem (Told (Refused x v))) scenes
 IsRefusedFor scenes a f b = Unit {0}
 
 -- the object has the row that it had when the call began
-abbrev pub IsAsAtStart : Pool → Obj → Option Begun → Type 0
+abbrev pub IsAsAtStart : Pool → Obj → Option CallStart → Type 0
 IsAsAtStart p x None = ⊥
 IsAsAtStart p x (Some b) = row_of b.start.rows x ≡ row_of p.rows x
 
 -- nothing has happened to the object since the call that waits began
-abbrev pub HasJustBegun : Pool → Frame → Option Begun → Type 0
+abbrev pub HasJustBegun : Pool → Frame → Option CallStart → Type 0
 HasJustBegun p (frame.Call (Awaiting q x)) b = IsAsAtStart p x b
 HasJustBegun p f b = Unit {0}
 
-abbrev pub Cause : List Scene → Frame → Option Begun → List NotedWork → Pool → Type 0
+abbrev pub Cause : List Scene → Frame → Option CallStart → List NotedWork → Pool → Type 0
 Cause scenes (frame.Call (Warning q x r)) b ws p = ((more : List Scene) → IsCaused more b r) × (is_row p.rows x ≡ true)
 Cause scenes (frame.Call (Telling q r)) b ws p = IsCaused scenes b r
 Cause scenes (frame.Call (Returning v)) b ws p = OfNext (IsAskedFor scenes) ws

@@ -17,7 +17,7 @@ use Rattle.tree_specs.specs.declared.event.Event.TheVariants.{Replied, Refused}
 use Rattle.tree_specs.specs.declared.frame.Frame.{Frame}
 use Rattle.tree_specs.specs.declared.frame.Frame.TheVariants as frame
 use Rattle.tree_specs.specs.declared.frame.CallFrame.TheVariants.{Awaiting, Telling}
-use Rattle.tree_specs.specs.declared.frame.FreeFrame.TheVariants.{Hooked, Trying}
+use Rattle.tree_specs.specs.declared.frame.FreeFrame.TheVariants.{Hooked, FreeingChild}
 use Rattle.tree_specs.specs.declared.frame.Answer.{Answer}
 use Rattle.tree_specs.specs.declared.free_step.FreeReply.{FreeReply}
 use Rattle.tree_specs.specs.declared.free_step.FreeReply.TheVariants as free_reply
@@ -25,7 +25,7 @@ use Rattle.tree_specs.specs.Words.Objects.{same}
 use Rattle.tree_specs.specs.Tree.Pool.{Pool}
 use Rattle.tree_specs.specs.Rules.Items.{Item}
 use Rattle.tree_specs.specs.Rules.Items.Item.{Told}
-use Rattle.tree_specs.specs.Rules.Sequence.{Begun, Scene}
+use Rattle.tree_specs.specs.Rules.Sequence.{CallStart, Scene}
 use Rattle.tree_specs.specs.Rules.Story.{freed_reply, later}
 use Rattle.tree_specs.specs.Machine.Table.{notes, resume, reply_in}
 use Rattle.tree_specs.specs.Machine.Profiles.{Waits, Never, AFree, ARun, AChild, profile}
@@ -53,7 +53,7 @@ pub record Known (scenes : List Scene) (w : NotedWork) (ws : List NotedWork) (p 
   pub cause : Cause scenes w.work w.note ws p
 
 -- a step of a work with this note tells what is fine, and leaves as much known
-abbrev pub FineBy : List Scene → Frame → Option Begun → Pool → Move Frame Answer Pool Item → List NotedWork → Type 0
+abbrev pub FineBy : List Scene → Frame → Option CallStart → Pool → Move Frame Answer Pool Item → List NotedWork → Type 0
 FineBy scenes f b p m ws = FitsOn noted_table IsFine Known scenes (noted_move notes f b p m) ws
 
 -- one more scene
@@ -74,13 +74,13 @@ restacked f f' (w ∷ ws) free run s = (stands (profile w.work).waits s.0, s.1)
     stands Never h = tt
 
 -- what holds of each work that may stand right below
-pub of-next : (Q : Frame → Option Begun → Type 0) (f : Frame) (ws : List NotedWork) → AllWait (map work_of ws) → Stacked f ws
-    → ((g : Frame) (b : Option Begun) → Waiter g → StandsOn f g b → Q g b) → OfNext Q ws
+pub of-next : (Q : Frame → Option CallStart → Type 0) (f : Frame) (ws : List NotedWork) → AllWait (map work_of ws) → Stacked f ws
+    → ((g : Frame) (b : Option CallStart) → Waiter g → StandsOn f g b → Q g b) → OfNext Q ws
 of-next Q f [] wait s each = tt
 of-next Q f (w ∷ ws) wait s each = each w.work w.note (waiter w.work (map work_of ws) wait.0) s.0
 
-pub from-next : (P Q : Frame → Option Begun → Type 0) (f : Frame) (ws : List NotedWork) → AllWait (map work_of ws) → Stacked f ws → OfNext P ws
-    → ((g : Frame) (b : Option Begun) → Waiter g → StandsOn f g b → P g b → Q g b) → OfNext Q ws
+pub from-next : (P Q : Frame → Option CallStart → Type 0) (f : Frame) (ws : List NotedWork) → AllWait (map work_of ws) → Stacked f ws → OfNext P ws
+    → ((g : Frame) (b : Option CallStart) → Waiter g → StandsOn f g b → P g b → Q g b) → OfNext Q ws
 from-next P Q f [] wait s h each = tt
 from-next P Q f (w ∷ ws) wait s h each = each w.work w.note (waiter w.work (map work_of ws) wait.0) s.0 h
 
@@ -97,14 +97,14 @@ last-told (s ∷ []) i h = h
 last-told (s ∷ t ∷ scenes) i h = last-told (t ∷ scenes) i h
 
 -- why a free answers so to the call that waits for it
-abbrev pub ReplyCause : List Scene → Option Begun → Obj → FreeReply → Type 0
+abbrev pub ReplyCause : List Scene → Option CallStart → Obj → FreeReply → Type 0
 ReplyCause scenes b x free_reply.Ok = Unit {0}
 ReplyCause scenes b x free_reply.Held = ⊥
 ReplyCause scenes None x free_reply.Running = Unit {0}
 ReplyCause scenes (Some b) x free_reply.Running = is_running b.start x ≡ true
 ReplyCause scenes b x (free_reply.Refused v) = LastIs (IsItem (Told (Refused x v))) scenes
 
-pub caused-reply : (scenes : List Scene) (x : Obj) (b : Option Begun) (a : FreeReply) → Knows x b → ReplyCause scenes b x a → IsCaused scenes b (freed_reply x a)
+pub caused-reply : (scenes : List Scene) (x : Obj) (b : Option CallStart) (a : FreeReply) → Knows x b → ReplyCause scenes b x a → IsCaused scenes b (freed_reply x a)
 caused-reply scenes x None a k h = absurd k
 caused-reply scenes x (Some b) a k h = let e = each b.call k.0 k.1 in (just-now a h, e.0, e.1, e.2)
   where
@@ -134,12 +134,12 @@ caused-reply scenes x (Some b) a k h = let e = each b.call k.0 k.1 in (just-now 
 -- ---- a work that ends
 
 -- what it answers to the work below it has its cause
-abbrev pub AnswersTo : List Scene → Answer → Frame → Option Begun → Type 0
+abbrev pub AnswersTo : List Scene → Answer → Frame → Option CallStart → Type 0
 AnswersTo scenes a (frame.Call (Awaiting q x)) b = ReplyCause scenes b x (reply_in a)
 AnswersTo scenes a (frame.Free (Hooked x h)) b = LastIs (AsksHook x) scenes
 AnswersTo scenes a f b = Unit {0}
 
-pub resumed : (scenes : List Scene) (f : Frame) (b : Option Begun) (ws : List NotedWork) (p : Pool) (a : Answer) → Past (told scenes) f (map work_of ws) p
+pub resumed : (scenes : List Scene) (f : Frame) (b : Option CallStart) (ws : List NotedWork) (p : Pool) (a : Answer) → Past (told scenes) f (map work_of ws) p
     → ((x : Obj) → IsLeaving f x → ⊥) → Stacked f ws → AllWait (map work_of ws) → OfNext (AnswersTo scenes a) ws → FineBy scenes f b p (Do.Done a p) ws
 resumed scenes f b [] p a past stays stacked wait h = tt
 resumed scenes f b (w ∷ ws) p a past stays stacked wait h = below w.work (waiter w.work (map work_of ws) wait.0) past stacked.0 stacked.1 h
@@ -162,7 +162,7 @@ resumed scenes f b (w ∷ ws) p a past stays stacked wait h = below w.work (wait
     }
     below _ (ForChild x c noted purpose) past on under h = record {
       past = goes _ _ past past.all_account.0;
-      stacked = restacked (frame.Free (Trying x c noted purpose)) _ ws (λ y k. k) (λ y k. k) under;
+      stacked = restacked (frame.Free (FreeingChild x c noted purpose)) _ ws (λ y k. k) (λ y k. k) under;
       cause = tt;
     }
 
@@ -174,6 +174,6 @@ known-told scenes s w ws p past stacked cause =
     record { past = subst (λ (l : List Item). Past l w.work (map work_of ws) p) (sym (told-more scenes s)) past; stacked = stacked; cause = cause }
 
 -- a waiting work with an input, with its note
-pub taken-noted : (n : Option Begun) (o : Option Frame) (g : NotedWork) → noted_work n o ≡ Some g → (f : Frame) × (o ≡ Some f) × (g ≡ with_note n f)
+pub taken-noted : (n : Option CallStart) (o : Option Frame) (g : NotedWork) → noted_work n o ≡ Some g → (f : Frame) × (o ≡ Some f) × (g ≡ with_note n f)
 taken-noted n None g e = cc
 taken-noted n (Some f) g e = let e' : with_note n f ≡ g = cc in (f, refl, sym e')

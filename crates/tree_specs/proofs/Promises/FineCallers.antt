@@ -24,14 +24,14 @@ use Rattle.tree_specs.specs.Tree.Pool.{Pool, row_of}
 use Rattle.tree_specs.specs.Rules.Items.{Item}
 use Rattle.tree_specs.specs.Rules.Items.Item.{Told, Asked}
 use Rattle.tree_specs.specs.Calls.Refusals.{Check, refusals, tests, is_held}
-use Rattle.tree_specs.specs.Rules.Sequence.{Begun, Scene}
+use Rattle.tree_specs.specs.Rules.Sequence.{CallStart, Scene}
 use Rattle.tree_specs.specs.Rules.Story.{later}
 use Rattle.tree_specs.specs.Machine.Table.{notes, step, taken, plan_step}
 use Rattle.tree_specs.specs.Promises.Orderly.{Fits, frees as tells_free}
 use Rattle.tree_specs.specs.Promises.Orderly.{asks_hook}
 use Rattle.tree_specs.specs.Promises.Grounded.{AsksHook}
 use Rattle.tree_specs.specs.Invariants.Sound.{AllWait, claim, claims, phases, Refers, Sound}
-use Rattle.tree_specs.specs.Invariants.Whole.{Whole, Seated}
+use Rattle.tree_specs.specs.Invariants.Consistent.{IsConsistent, IsStacked}
 use Rattle.tree_specs.proofs.Tree.Numbered.{same-equal}
 use Rattle.tree_specs.proofs.Calls.Checks.{all-pass, Heard, HeardCall, HeardReturn, heard-leads}
 use Rattle.tree_specs.proofs.Calls.Plans.{May, follows, may-planned}
@@ -52,7 +52,7 @@ asks-hook : (x : Obj) (q : Ask) → IsHookOf x q → asks_hook x (Asked q) ≡ t
 asks-hook x (ask.Routine m) h = rw (h.0, same-equal m.object x h.1) refl
 asks-hook x _ h = absurd h
 
-pub asking-fine : (scenes : List Scene) (q : Ask) (b : Option Begun) (ws : List NotedWork) (p : Pool) → Whole (record { innermost = frame.Call (Asking q); below = map work_of ws; pool = p })
+pub asking-fine : (scenes : List Scene) (q : Ask) (b : Option CallStart) (ws : List NotedWork) (p : Pool) → IsConsistent (record { innermost = frame.Call (Asking q); below = map work_of ws; pool = p })
     → Known scenes (with_note b (frame.Call (Asking q))) ws p → FineBy scenes (frame.Call (Asking q)) b p (step (frame.Call (Asking q)) p) ws
 asking-fine scenes q b ws p whole known = (
   (fits ws whole.seated whole.sound.waiting known.stacked whole.sound.open_frees, record { answered = tt; held = tt; caused = tt; started = tt }),
@@ -66,14 +66,14 @@ asking-fine scenes q b ws p whole known = (
     s = scene notes f b p (Asked q)
 
     -- of a destructor only where a free waits for it
-    of-hook : (g : Frame) (gs : List Frame) (n : Option Begun) → Waiter g → StandsOn f g n → ((x : Obj) → claim x g ++ claims x gs ≡ phases (row_of p.rows x)) → Fits (told scenes) (Asked q)
+    of-hook : (g : Frame) (gs : List Frame) (n : Option CallStart) → Waiter g → StandsOn f g n → ((x : Obj) → claim x g ++ claims x gs ≡ phases (row_of p.rows x)) → Fits (told scenes) (Asked q)
     of-hook _ gs n (ForRun x h) on claimed =
         let row = running-row (row_of p.rows x) (claims x gs) (claim-here x InRun (claims x gs) (row_of p.rows x) (claimed x)) in
         fits-asked (told scenes) x (unaccepted (told scenes) f (map work_of ws) p x row.0 known.past row.1 row.2 (λ l. l)) (unfreed (told scenes) f (map work_of ws) p x row.0 known.past row.1) q on
     of-hook _ gs n (ForFree a x) on claimed = absurd on.0
     of-hook _ gs n (ForChild x c noted purpose) on claimed = absurd on
 
-    fits : (us : List NotedWork) → Seated f (map work_of us) → AllWait (map work_of us) → Stacked f us → ((x : Obj) → claims x (map work_of us) ≡ phases (row_of p.rows x)) → Fits (told scenes) (Asked q)
+    fits : (us : List NotedWork) → IsStacked f (map work_of us) → AllWait (map work_of us) → Stacked f us → ((x : Obj) → claims x (map work_of us) ≡ phases (row_of p.rows x)) → Fits (told scenes) (Asked q)
     fits [] seated wait on claimed = fits-quiet (told scenes) q seated
     fits (u ∷ us) seated wait on claimed = of-hook u.work (map work_of us) u.note (waiter u.work (map work_of us) wait.0) on.0 claimed
 
@@ -84,7 +84,7 @@ asking-fine scenes q b ws p whole known = (
     goes g a = past-goes (told scenes ++ Asked q ∷ []) f g (map work_of ws) (map work_of ws) p p past (later-same p) (λ x l. absurd l) a past.all_account
 
     -- the routine that was just asked returns
-    asked : (g : Frame) (n : Option Begun) → Waiter g → StandsOn f g n → IsAskedFor (scenes ++ s ∷ []) g n
+    asked : (g : Frame) (n : Option CallStart) → Waiter g → StandsOn f g n → IsAskedFor (scenes ++ s ∷ []) g n
     asked _ n (ForRun x h) on = last-more (AsksHook x) scenes s (asks-hook x q on)
     asked _ n (ForFree a x) on = tt
     asked _ n (ForChild x c noted purpose) on = tt
@@ -101,7 +101,7 @@ asking-fine scenes q b ws p whole known = (
 
 -- ---- the other steps of callers
 
-pub telling-fine : (scenes : List Scene) (q : Ask) (r : Reply) (b : Option Begun) (ws : List NotedWork) (p : Pool)
+pub telling-fine : (scenes : List Scene) (q : Ask) (r : Reply) (b : Option CallStart) (ws : List NotedWork) (p : Pool)
     → Known scenes (with_note b (frame.Call (Telling q r))) ws p → FineBy scenes (frame.Call (Telling q r)) b p (step (frame.Call (Telling q r)) p) ws
 telling-fine scenes q r b ws p known =
     let f : Frame = frame.Call (Telling q r) in
@@ -115,7 +115,7 @@ telling-fine scenes q r b ws p known =
     )
 
 -- it is told that an object went to another owner, and then the reply
-pub warning-fine : (scenes : List Scene) (q : Ask) (x : Obj) (r : Reply) (b : Option Begun) (ws : List NotedWork) (p : Pool)
+pub warning-fine : (scenes : List Scene) (q : Ask) (x : Obj) (r : Reply) (b : Option CallStart) (ws : List NotedWork) (p : Pool)
     → Known scenes (with_note b (frame.Call (Warning q x r))) ws p → FineBy scenes (frame.Call (Warning q x r)) b p (step (frame.Call (Warning q x r)) p) ws
 warning-fine scenes q x r b ws p known =
     let f : Frame = frame.Call (Warning q x r) in
@@ -132,13 +132,13 @@ warning-fine scenes q x r b ws p known =
     there None e = let bad : false ≡ true = rw e at known.cause.1 in cc
     there (Some row) e = unfreed (told scenes) (frame.Call (Warning q x r)) (map work_of ws) p x row known.past e
 
-pub returning-fine : (scenes : List Scene) (v : ℕ) (b : Option Begun) (ws : List NotedWork) (p : Pool) → AllWait (map work_of ws)
+pub returning-fine : (scenes : List Scene) (v : ℕ) (b : Option CallStart) (ws : List NotedWork) (p : Pool) → AllWait (map work_of ws)
     → Known scenes (with_note b (frame.Call (Returning v))) ws p → FineBy scenes (frame.Call (Returning v)) b p (step (frame.Call (Returning v)) p) ws
 returning-fine scenes v b ws p wait known =
     resumed scenes (frame.Call (Returning v)) b ws p (answer.Returned v) known.past (λ x l. l) known.stacked wait
     (from-next (IsAskedFor scenes) (AnswersTo scenes (answer.Returned v)) (frame.Call (Returning v)) ws wait known.stacked known.cause answers)
   where
-    answers : (g : Frame) (n : Option Begun) → Waiter g → StandsOn (frame.Call (Returning v)) g n → IsAskedFor scenes g n → AnswersTo scenes (answer.Returned v) g n
+    answers : (g : Frame) (n : Option CallStart) → Waiter g → StandsOn (frame.Call (Returning v)) g n → IsAskedFor scenes g n → AnswersTo scenes (answer.Returned v) g n
     answers _ n (ForRun x h) on last = last
     answers _ n (ForFree q x) on last = absurd on.0
     answers _ n (ForChild x c noted purpose) on last = tt
@@ -171,8 +171,8 @@ caused-planned p c d refers = each (refusals p c) refl (own-refused p (tests c))
     each (why ∷ rest) e own = λ scenes. (let h = own-call scenes p c why rest d refers e in (own-just-now (told scenes) why own.0, h.0, h.1, h.2))
 
 -- a call that needs no free has its reply told
-module _ (scenes : List Scene) (q : Ask) (c : Call) (b : Option Begun) (ws : List NotedWork) (p : Pool) (known : Known scenes (with_note b (frame.Call (Doing q c))) ws p) where
-  abbrev begun : Begun
+module _ (scenes : List Scene) (q : Ask) (c : Call) (b : Option CallStart) (ws : List NotedWork) (p : Pool) (known : Known scenes (with_note b (frame.Call (Doing q c))) ws p) where
+  abbrev begun : CallStart
   begun = record { call = c; start = p }
 
   told-next : (r : Reply) (p' : Pool) → Later p p' → IsCaused scenes (Some begun) r → FineBy scenes (frame.Call (Doing q c)) b p (Do.Go (frame.Call (Telling (later q r) r)) p') ws
@@ -210,6 +210,6 @@ module _ (scenes : List Scene) (q : Ask) (c : Call) (b : Option Begun) (ws : Lis
   planned-next (Unlinks o x) may cause = frees-next x (frame.Free (Unlinking o x)) refl cause.0 cause.1 tt refl
   planned-next (Empties x) may cause = frees-next x (frame.Free (Looping x Emptying)) refl cause.0 cause.1 tt tt
 
-pub doing-fine : (scenes : List Scene) (q : Ask) (c : Call) (b : Option Begun) (ws : List NotedWork) (p : Pool) → Sound (frame.Call (Doing q c)) (map work_of ws) p
+pub doing-fine : (scenes : List Scene) (q : Ask) (c : Call) (b : Option CallStart) (ws : List NotedWork) (p : Pool) → Sound (frame.Call (Doing q c)) (map work_of ws) p
     → Known scenes (with_note b (frame.Call (Doing q c))) ws p → FineBy scenes (frame.Call (Doing q c)) b p (step (frame.Call (Doing q c)) p) ws
 doing-fine scenes q c b ws p s known = planned-next scenes q c b ws p known (planned p c) (may-planned (frame.Call (Doing q c)) (map work_of ws) p s c) (caused-planned p c s.forest.distinct s.refers)

@@ -27,11 +27,11 @@ use Rattle.tree_specs.specs.declared.free_step.FreeReply.TheVariants as free_rep
 use Rattle.tree_specs.specs.Tree.Pool.{Pool, row_of, is_row, owner_of, remove, place, set_mark, target_at, newest_ref_of, is_inside, without}
 use Rattle.tree_specs.specs.Rules.Items.{Item}
 use Rattle.tree_specs.specs.Rules.Items.Item.{Told}
-use Rattle.tree_specs.specs.Rules.Sequence.{Begun, Scene}
+use Rattle.tree_specs.specs.Rules.Sequence.{CallStart, Scene}
 use Rattle.tree_specs.specs.Machine.Table.{notes, step, lifted, begin_quiet, begin_step, refs_step, unlink_step, release_step}
 use Rattle.tree_specs.specs.Promises.Orderly.{frees}
 use Rattle.tree_specs.specs.Invariants.Sound.{IsLive, IsOver, ValidAt, IsQuietRow, IsReferable, AllWait, Tries, footing}
-use Rattle.tree_specs.specs.Invariants.Whole.{Whole}
+use Rattle.tree_specs.specs.Invariants.Consistent.{IsConsistent}
 use Rattle.tree_specs.proofs.Tree.Numbered.{by_test}
 use Rattle.tree_specs.proofs.Tree.Rows.{row_of-without-same, row_of-without-other}
 use Rattle.tree_specs.proofs.Promises.Later.{Later, later-same, later-placed, later-marked, later-removed}
@@ -41,18 +41,18 @@ use Rattle.tree_specs.proofs.Invariants.Waiters.{Waiter, ForFree, ForRun, ForChi
 use Rattle.tree_specs.proofs.Promises.Fitting.{fits-moved, fits-dropped}
 use Rattle.tree_specs.proofs.Promises.Fine.{work_of, Known, FineBy, restacked, of-next, from-next, ReplyCause, AnswersTo, resumed, known-told}
 
-module _ (scenes : List Scene) (b : Option Begun) (ws : List NotedWork) (p : Pool) where
+module _ (scenes : List Scene) (b : Option CallStart) (ws : List NotedWork) (p : Pool) where
   abbrev pub At : FreeFrame → Type 0
-  At f = Whole (record { innermost = frame.Free f; below = map work_of ws; pool = p }) → Known scenes (with_note b (frame.Free f)) ws p → FineBy scenes (frame.Free f) b p (step (frame.Free f) p) ws
+  At f = IsConsistent (record { innermost = frame.Free f; below = map work_of ws; pool = p }) → Known scenes (with_note b (frame.Free f)) ws p → FineBy scenes (frame.Free f) b p (step (frame.Free f) p) ws
 
   -- a destructor waits for no free
-  pub over-fine : (f : FreeFrame) → Whole (record { innermost = frame.Free f; below = map work_of ws; pool = p }) → Known scenes (with_note b (frame.Free f)) ws p
+  pub over-fine : (f : FreeFrame) → IsConsistent (record { innermost = frame.Free f; below = map work_of ws; pool = p }) → Known scenes (with_note b (frame.Free f)) ws p
       → ((x : Obj) → IsLeaving (frame.Free f) x → ⊥) → FineBy scenes (frame.Free f) b p (Do.Done (answer.Freed free_reply.Ok) p) ws
   over-fine f whole known stays =
       resumed scenes (frame.Free f) b ws p (answer.Freed free_reply.Ok) known.past stays known.stacked whole.sound.waiting
       (of-next (AnswersTo scenes (answer.Freed free_reply.Ok)) (frame.Free f) ws whole.sound.waiting known.stacked answers)
     where
-      answers : (g : Frame) (n : Option Begun) → Waiter g → StandsOn (frame.Free f) g n → AnswersTo scenes (answer.Freed free_reply.Ok) g n
+      answers : (g : Frame) (n : Option CallStart) → Waiter g → StandsOn (frame.Free f) g n → AnswersTo scenes (answer.Freed free_reply.Ok) g n
       answers _ n (ForFree q x) on = tt
       answers _ n (ForRun x h) on = absurd on
       answers _ n (ForChild x c noted purpose) on = tt
@@ -62,7 +62,7 @@ module _ (scenes : List Scene) (b : Option Begun) (ws : List NotedWork) (p : Poo
       resumed scenes (frame.Free (Ending a)) b ws p (answer.Freed a) known.past (λ x l. l) known.stacked whole.sound.waiting
       (from-next (IsRefusedFor scenes a) (AnswersTo scenes (answer.Freed a)) (frame.Free (Ending a)) ws whole.sound.waiting known.stacked known.cause (answers a whole.sound.rests.0))
     where
-      answers : (a : FreeReply) → IsOver a → (g : Frame) (n : Option Begun) → Waiter g → StandsOn (frame.Free (Ending a)) g n → IsRefusedFor scenes a g n → AnswersTo scenes (answer.Freed a) g n
+      answers : (a : FreeReply) → IsOver a → (g : Frame) (n : Option CallStart) → Waiter g → StandsOn (frame.Free (Ending a)) g n → IsRefusedFor scenes a g n → AnswersTo scenes (answer.Freed a) g n
       answers free_reply.Ok over _ n (ForFree q x) on last = tt
       answers free_reply.Held over _ n (ForFree q x) on last = absurd last
       answers free_reply.Running over _ n (ForFree q x) on last = absurd over
@@ -71,24 +71,24 @@ module _ (scenes : List Scene) (b : Option Begun) (ws : List NotedWork) (p : Poo
       answers a over _ n (ForChild x c noted purpose) on last = tt
 
   -- it stays, since something of it runs
-  runs-fine : (x : Obj) (p' : Pool) → Later p p' → Whole (record { innermost = frame.Free (Beginning x); below = map work_of ws; pool = p }) → Known scenes (with_note b (frame.Free (Beginning x))) ws p
+  runs-fine : (x : Obj) (p' : Pool) → Later p p' → IsConsistent (record { innermost = frame.Free (Beginning x); below = map work_of ws; pool = p }) → Known scenes (with_note b (frame.Free (Beginning x))) ws p
       → is_running p x ≡ true → FineBy scenes (frame.Free (Beginning x)) b p (Do.Done (answer.Freed free_reply.Running) p') ws
   runs-fine x p' after whole known running =
       let f : Frame = frame.Free (Beginning x) in
       resumed scenes f b ws p' (answer.Freed free_reply.Running) (past-goes (told scenes) f f (map work_of ws) (map work_of ws) p p' known.past after (λ y l. absurd l) tt known.past.all_account)
       (λ y l. l) known.stacked whole.sound.waiting (from-next (HasJustBegun p) (AnswersTo scenes (answer.Freed free_reply.Running)) f ws whole.sound.waiting known.stacked known.cause answers)
     where
-      start : (o : Option Begun) (y : Obj) → IsAsAtStart p y o → x ≡ y → ReplyCause scenes o y free_reply.Running
+      start : (o : Option CallStart) (y : Obj) → IsAsAtStart p y o → x ≡ y → ReplyCause scenes o y free_reply.Running
       start None y h e = absurd h
       start (Some begun) y h e = ap is_running_row h ∙ subst (λ (z : Obj). is_running p z ≡ true) e running
 
-      answers : (g : Frame) (n : Option Begun) → Waiter g → StandsOn (frame.Free (Beginning x)) g n → HasJustBegun p g n → AnswersTo scenes (answer.Freed free_reply.Running) g n
+      answers : (g : Frame) (n : Option CallStart) → Waiter g → StandsOn (frame.Free (Beginning x)) g n → HasJustBegun p g n → AnswersTo scenes (answer.Freed free_reply.Running) g n
       answers _ n (ForFree q y) on begun = start n y begun on.0
       answers _ n (ForRun y h) on begun = absurd on
       answers _ n (ForChild y c noted purpose) on begun = tt
 
   -- a reference is dropped
-  pub dropped-fine : (f g : FreeFrame) (r t : Obj) → Whole (record { innermost = frame.Free f; below = map work_of ws; pool = p }) → Known scenes (with_note b (frame.Free f)) ws p → target_at p.rows r ≡ Some t
+  pub dropped-fine : (f g : FreeFrame) (r t : Obj) → IsConsistent (record { innermost = frame.Free f; below = map work_of ws; pool = p }) → Known scenes (with_note b (frame.Free f)) ws p → target_at p.rows r ≡ Some t
       → ((x : Obj) → IsLeaving (frame.Free f) x → ⊥) → Accounts (told scenes ++ Told (Unreferenced r t) ∷ []) (frame.Free g) → ((x : Obj) → IsFreeOf x (frame.Free f) → IsFreeOf x (frame.Free g))
       → Cause (scenes ++ scene notes (frame.Free f) b p (Told (Unreferenced r t)) ∷ []) (frame.Free g) None ws (remove p r)
       → FineBy scenes (frame.Free f) b p (Do.Emit (Told (Unreferenced r t)) (frame.Free g) (remove p r)) ws
@@ -119,11 +119,11 @@ module _ (scenes : List Scene) (b : Option Begun) (ws : List NotedWork) (p : Poo
   still-begun : (f : FreeFrame) (x r : Obj) → r ≢ x → ((y : Obj) → IsFreeOf y (frame.Free f) → x ≡ y) → AllWait (map work_of ws) → Stacked (frame.Free f) ws → OfNext (HasJustBegun p) ws → OfNext (HasJustBegun (remove p r)) ws
   still-begun f x r ne of wait stacked begun = from-next (HasJustBegun p) (HasJustBegun (remove p r)) (frame.Free f) ws wait stacked begun each
     where
-      kept : (y : Obj) → x ≡ y → (n : Option Begun) → IsAsAtStart p y n → IsAsAtStart (remove p r) y n
+      kept : (y : Obj) → x ≡ y → (n : Option CallStart) → IsAsAtStart p y n → IsAsAtStart (remove p r) y n
       kept y e None h = absurd h
       kept y e (Some m) h = h ∙ sym (row_of-without-other p.rows r y (λ q. ne (q ∙ sym e)))
 
-      each : (g : Frame) (n : Option Begun) → Waiter g → StandsOn (frame.Free f) g n → HasJustBegun p g n → HasJustBegun (remove p r) g n
+      each : (g : Frame) (n : Option CallStart) → Waiter g → StandsOn (frame.Free f) g n → HasJustBegun p g n → HasJustBegun (remove p r) g n
       each _ n (ForFree q y) on h = kept y (of y on.0) n h
       each _ n (ForRun y k) on h = tt
       each _ n (ForChild y c noted purpose) on h = tt

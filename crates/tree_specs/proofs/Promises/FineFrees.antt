@@ -16,7 +16,7 @@ use Rattle.tree_specs.specs.declared.event.Event.TheVariants.{Accepted, Refused,
 use Rattle.tree_specs.specs.declared.frame.Frame.{Frame}
 use Rattle.tree_specs.specs.declared.frame.Frame.TheVariants as frame
 use Rattle.tree_specs.specs.declared.frame.CallFrame.TheVariants.{Asking}
-use Rattle.tree_specs.specs.declared.frame.FreeFrame.TheVariants.{Beginning, Hooked, Judged, Leaving, Looping, Trying, Tried, Ending}
+use Rattle.tree_specs.specs.declared.frame.FreeFrame.TheVariants.{Beginning, Hooked, Judged, Leaving, Looping, FreeingChild, AfterChild, Ending}
 use Rattle.tree_specs.specs.declared.frame.Purpose.{Purpose}
 use Rattle.tree_specs.specs.declared.frame.Purpose.TheVariants.{Removal, Emptying}
 use Rattle.tree_specs.specs.declared.free_step.FreeReply.{FreeReply}
@@ -24,13 +24,13 @@ use Rattle.tree_specs.specs.declared.free_step.FreeReply.TheVariants as free_rep
 use Rattle.tree_specs.specs.Tree.Pool.{Pool, row_of, is_row, owner_of, is_below, first_kid, remove, detach, left_row, place, set_mark, set_hook, target_at, noted_owner}
 use Rattle.tree_specs.specs.Tree.Heirs.{heir}
 use Rattle.tree_specs.specs.Rules.Items.Item.{Told}
-use Rattle.tree_specs.specs.Rules.Sequence.{Begun, Scene}
+use Rattle.tree_specs.specs.Rules.Sequence.{CallStart, Scene}
 use Rattle.tree_specs.specs.Rules.Story.{hook_moment}
 use Rattle.tree_specs.specs.Machine.Table.{notes, lifted, judge_step, last_step, loop_step, hand_on_step, child_step}
 use Rattle.tree_specs.specs.Promises.Orderly.{frees, accepts}
 use Rattle.tree_specs.specs.Promises.Grounded.{IsItem}
 use Rattle.tree_specs.specs.Invariants.Sound.{IsLive, claims, ValidAt, phases}
-use Rattle.tree_specs.specs.Invariants.Whole.{Whole}
+use Rattle.tree_specs.specs.Invariants.Consistent.{IsConsistent}
 use Rattle.tree_specs.proofs.Tree.Numbered.{by_test}
 use Rattle.tree_specs.proofs.Tree.Rows.{row_of-changed-same, row_of-without-same}
 use Rattle.tree_specs.proofs.Invariants.Changes.{heir-placed, running-row, dying-row, claim-here}
@@ -42,7 +42,7 @@ use Rattle.tree_specs.proofs.Promises.Fitting.{last-more, fits-accepted, fits-re
 use Rattle.tree_specs.proofs.Promises.Fine.{work_of, Known, FineBy, restacked, of-next, known-told}
 use Rattle.tree_specs.proofs.Promises.FineDrops.{At, over-fine, dropped-fine}
 
-module _ (scenes : List Scene) (b : Option Begun) (ws : List NotedWork) (p : Pool) where
+module _ (scenes : List Scene) (b : Option CallStart) (ws : List NotedWork) (p : Pool) where
   pub hooked-fine : (x : Obj) (h : ℕ) → At scenes b ws p (Hooked x h)
   hooked-fine x h whole known = record {
     past = past-goes (told scenes) (frame.Free (Hooked x h)) (frame.Call (Asking (ask.Routine (hook_moment x h)))) (map work_of ws) (frame.Free (Hooked x h) ∷ map work_of ws) p p known.past (later-same p)
@@ -76,7 +76,7 @@ module _ (scenes : List Scene) (b : Option Begun) (ws : List NotedWork) (p : Poo
       marks _ m = rw m refl
 
   -- a destructor's refusal is told right before the call that waits is
-  refused-now : (s : Scene) (x : Obj) (h v w : ℕ) → s.item ≡ Told (Refused x v) → (g : Frame) (n : Option Begun) → Waiter g → StandsOn (frame.Free (Judged x h w)) g n
+  refused-now : (s : Scene) (x : Obj) (h v w : ℕ) → s.item ≡ Told (Refused x v) → (g : Frame) (n : Option CallStart) → Waiter g → StandsOn (frame.Free (Judged x h w)) g n
       → IsRefusedFor (scenes ++ s ∷ []) (free_reply.Refused v) g n
   refused-now s x h v w is _ n (ForFree q y) on = last-more (IsItem (Told (Refused y v))) scenes s (is ∙ ap (λ (z : Obj). Told (Refused z v)) on.0)
   refused-now s x h v w is _ n (ForRun y k) on = tt
@@ -115,7 +115,7 @@ module _ (scenes : List Scene) (b : Option Begun) (ws : List NotedWork) (p : Poo
           ))
 
   -- the last child is gone, and the object is removed
-  removed-fine : (x : Obj) (h : ℕ) → Whole (record { innermost = frame.Free (Looping x (Removal h)); below = map work_of ws; pool = p }) → Known scenes (with_note b (frame.Free (Looping x (Removal h)))) ws p
+  removed-fine : (x : Obj) (h : ℕ) → IsConsistent (record { innermost = frame.Free (Looping x (Removal h)); below = map work_of ws; pool = p }) → Known scenes (with_note b (frame.Free (Looping x (Removal h)))) ws p
       → FineBy scenes (frame.Free (Looping x (Removal h))) b p (lifted (last_step x (Removal h) p)) ws
   removed-fine x h whole known =
       let f : Frame = frame.Free (Looping x (Removal h)) in
@@ -133,7 +133,7 @@ module _ (scenes : List Scene) (b : Option Begun) (ws : List NotedWork) (p : Poo
   pub looping-fine : (x : Obj) (purpose : Purpose) → At scenes b ws p (Looping x purpose)
   looping-fine x purpose whole known = each (first_kid p.rows (Of x)) refl
     where
-      last : (purpose : Purpose) → Whole (record { innermost = frame.Free (Looping x purpose); below = map work_of ws; pool = p }) → Known scenes (with_note b (frame.Free (Looping x purpose))) ws p
+      last : (purpose : Purpose) → IsConsistent (record { innermost = frame.Free (Looping x purpose); below = map work_of ws; pool = p }) → Known scenes (with_note b (frame.Free (Looping x purpose))) ws p
           → FineBy scenes (frame.Free (Looping x purpose)) b p (lifted (last_step x purpose p)) ws
       last (Removal h) whole known = removed-fine x h whole known
       last Emptying whole known = over-fine scenes b ws p (Looping x Emptying) whole known (λ y l. l)
@@ -145,9 +145,9 @@ module _ (scenes : List Scene) (b : Option Begun) (ws : List NotedWork) (p : Poo
 
       child : (c : Obj) (o : Option Obj) → target_at p.rows c ≡ o → FineBy scenes (frame.Free (Looping x purpose)) b p (lifted (child_step x c purpose (target_at p.rows c) p)) ws
       child c None t = rw t (record {
-        past = past-goes (told scenes) (frame.Free (Looping x purpose)) (frame.Free (Beginning c)) (map work_of ws) (frame.Free (Trying x c (noted_owner p.rows c) purpose) ∷ map work_of ws) p p known.past (later-same p)
+        past = past-goes (told scenes) (frame.Free (Looping x purpose)) (frame.Free (Beginning c)) (map work_of ws) (frame.Free (FreeingChild x c (noted_owner p.rows c) purpose) ∷ map work_of ws) p p known.past (later-same p)
             (λ y l. absurd l) tt (known.past.accounts, known.past.all_account);
-        stacked = (refl, restacked (frame.Free (Looping x purpose)) (frame.Free (Trying x c (noted_owner p.rows c) purpose)) ws (λ y k. k) (λ y k. k) known.stacked);
+        stacked = (refl, restacked (frame.Free (Looping x purpose)) (frame.Free (FreeingChild x c (noted_owner p.rows c) purpose)) ws (λ y k. k) (λ y k. k) known.stacked);
         cause = tt;
       })
       child c (Some target) t = rw t (dropped-fine scenes b ws p (Looping x purpose) (Looping x purpose) c target whole known t (λ y l. l) (after c target purpose known.past.accounts) (λ y h. h) tt)
@@ -157,12 +157,12 @@ module _ (scenes : List Scene) (b : Option Begun) (ws : List NotedWork) (p : Poo
       each (Some c) e = rw e (child c (target_at p.rows c) refl)
 
   -- a child that wasn't freed is handed on
-  handed-fine : (x c : Obj) (noted : Option Owner) (purpose : Purpose) (a : FreeReply) → Whole (record { innermost = frame.Free (Tried x c noted purpose a); below = map work_of ws; pool = p })
-      → Known scenes (with_note b (frame.Free (Tried x c noted purpose a))) ws p → FineBy scenes (frame.Free (Tried x c noted purpose a)) b p (lifted (hand_on_step x c noted purpose p)) ws
+  handed-fine : (x c : Obj) (noted : Option Owner) (purpose : Purpose) (a : FreeReply) → IsConsistent (record { innermost = frame.Free (AfterChild x c noted purpose a); below = map work_of ws; pool = p })
+      → Known scenes (with_note b (frame.Free (AfterChild x c noted purpose a))) ws p → FineBy scenes (frame.Free (AfterChild x c noted purpose a)) b p (lifted (hand_on_step x c noted purpose p)) ws
   handed-fine x c noted purpose a whole known = by_test (is_below (owner_of p.rows c) (Of x)) (λ t. rw t (moves t)) (λ t. rw t stays)
     where
       f : Frame
-      f = frame.Free (Tried x c noted purpose a)
+      f = frame.Free (AfterChild x c noted purpose a)
 
       g : Frame
       g = frame.Free (Looping x purpose)
@@ -198,11 +198,11 @@ module _ (scenes : List Scene) (b : Option Begun) (ws : List NotedWork) (p : Poo
                 under tt,
           )
 
-  pub tried-fine : (x c : Obj) (noted : Option Owner) (purpose : Purpose) (a : FreeReply) → At scenes b ws p (Tried x c noted purpose a)
+  pub tried-fine : (x c : Obj) (noted : Option Owner) (purpose : Purpose) (a : FreeReply) → At scenes b ws p (AfterChild x c noted purpose a)
   tried-fine x c noted purpose free_reply.Ok whole known = record {
-    past = past-goes (told scenes) (frame.Free (Tried x c noted purpose free_reply.Ok)) (frame.Free (Looping x purpose)) (map work_of ws) (map work_of ws) p p known.past (later-same p) (λ y l. absurd l)
+    past = past-goes (told scenes) (frame.Free (AfterChild x c noted purpose free_reply.Ok)) (frame.Free (Looping x purpose)) (map work_of ws) (map work_of ws) p p known.past (later-same p) (λ y l. absurd l)
         known.past.accounts known.past.all_account;
-    stacked = restacked (frame.Free (Tried x c noted purpose free_reply.Ok)) (frame.Free (Looping x purpose)) ws (λ y k. k) (λ y k. k) known.stacked;
+    stacked = restacked (frame.Free (AfterChild x c noted purpose free_reply.Ok)) (frame.Free (Looping x purpose)) ws (λ y k. k) (λ y k. k) known.stacked;
     cause = tt;
   }
   tried-fine x c noted purpose free_reply.Held whole known = handed-fine x c noted purpose free_reply.Held whole known

@@ -16,7 +16,7 @@ use Rattle.tree_specs.specs.Tree.Pool.{row_of, is_row, is_object_row, is_owner}
 use Rattle.tree_specs.specs.Rules.Items.{Item}
 use Rattle.tree_specs.specs.Rules.Items.Item.{Told, Asked}
 use Rattle.tree_specs.specs.Promises.Orderly.{is_hook, accepts, frees, Fits, FreedOnce, RefusedJustNow, drops}
-use Rattle.tree_specs.specs.Invariants.Whole.{IsQuiet}
+use Rattle.tree_specs.specs.Invariants.Consistent.{IsQuiet}
 use Rattle.tree_specs.proofs.Tree.Numbered.{same-true, same_owner-true}
 use Rattle.tree_specs.proofs.Promises.Causes.{IsHookOf}
 

@@ -11,7 +11,7 @@ use Rattle.tree_specs.specs.declared.event.Event.TheVariants.{Accepted, Freed, U
 use Rattle.tree_specs.specs.declared.frame.Frame.{Frame}
 use Rattle.tree_specs.specs.declared.frame.Frame.TheVariants as frame
 use Rattle.tree_specs.specs.declared.frame.CallFrame.TheVariants.{Awaiting}
-use Rattle.tree_specs.specs.declared.frame.FreeFrame.TheVariants.{Hooked, Judged, Leaving, Looping, Trying}
+use Rattle.tree_specs.specs.declared.frame.FreeFrame.TheVariants.{Hooked, Judged, Leaving, Looping, FreeingChild}
 use Rattle.tree_specs.specs.declared.frame.Purpose.{Purpose}
 use Rattle.tree_specs.specs.declared.frame.Purpose.TheVariants.{Removal, Emptying}
 use Rattle.tree_specs.specs.Words.Objects.{same}
@@ -115,7 +115,7 @@ unclaimed x (f ∷ fs) w e r = elim r [
 
     -- what waits and removes an object is its loop
     claimed : (g : Frame) → IsWaiting g fs → Removes g x → claim x g ≡ [] → ⊥
-    claimed (frame.Free (Trying y c noted purpose)) w r e = looped y purpose e r
+    claimed (frame.Free (FreeingChild y c noted purpose)) w r e = looped y purpose e r
     claimed (frame.Call (Awaiting q y)) w r e = r
     claimed (frame.Free (Hooked y h)) w r e = r
     claimed _ w r e = absurd w

@@ -10,14 +10,14 @@ use Rattle.tree_specs.specs.declared.question.Input.{Input}
 use Rattle.tree_specs.specs.declared.frame.Frame.{Frame}
 use Rattle.tree_specs.specs.declared.frame.Frame.TheVariants as frame
 use Rattle.tree_specs.specs.declared.frame.CallFrame.TheVariants.{Asking, Doing, Awaiting, Warning, Telling, Returning}
-use Rattle.tree_specs.specs.declared.frame.FreeFrame.TheVariants.{Unlinking, Releasing, Giving, Beginning, Hooked, Judged, Leaving, Looping, Trying, Tried, Ending}
+use Rattle.tree_specs.specs.declared.frame.FreeFrame.TheVariants.{Unlinking, Releasing, Giving, Beginning, Hooked, Judged, Leaving, Looping, FreeingChild, AfterChild, Ending}
 use Rattle.tree_specs.specs.declared.frame.Answer.{Answer}
 use Rattle.tree_specs.specs.Tree.Pool.{Pool, empty}
 use Rattle.tree_specs.specs.Rules.Items.{Item}
-use Rattle.tree_specs.specs.Rules.Sequence.{Begun, Scene}
+use Rattle.tree_specs.specs.Rules.Sequence.{CallStart, Scene}
 use Rattle.tree_specs.specs.Rules.Story.{story, turns, items}
 use Rattle.tree_specs.specs.Machine.Table.{table, notes, step, taken}
-use Rattle.tree_specs.specs.Invariants.Whole.{Whole}
+use Rattle.tree_specs.specs.Invariants.Consistent.{IsConsistent}
 use Rattle.tree_specs.specs.Promises.Orderly.{Fits, Orderly}
 use Rattle.tree_specs.specs.Promises.Grounded.{IsGrounded, Grounded}
 use Rattle.tree_specs.proofs.Rules.Means.{noted_table}
@@ -30,13 +30,13 @@ use Rattle.tree_specs.proofs.Promises.FineDrops.{ending-fine, beginning-fine, un
 use Rattle.tree_specs.proofs.Rules.StoryLaws.{asking, begin-whole, story-walk}
 
 abbrev WholeAt : Frame → List Frame → Pool → Type 0
-WholeAt f fs p = Whole (record { innermost = f; below = fs; pool = p })
+WholeAt f fs p = IsConsistent (record { innermost = f; below = fs; pool = p })
 
 -- what holds between two steps
 abbrev Holds : List Scene → NotedWork → List NotedWork → Pool → Type 0
 Holds scenes w ws p = WholeAt w.work (map work_of ws) p × Known scenes w ws p
 
-fine : (scenes : List Scene) (f : Frame) (b : Option Begun) (ws : List NotedWork) (p : Pool) → WholeAt f (map work_of ws) p → Known scenes (with_note b f) ws p → FineBy scenes f b p (step f p) ws
+fine : (scenes : List Scene) (f : Frame) (b : Option CallStart) (ws : List NotedWork) (p : Pool) → WholeAt f (map work_of ws) p → Known scenes (with_note b f) ws p → FineBy scenes f b p (step f p) ws
 fine scenes (frame.Call (Asking q)) b ws p whole known = asking-fine scenes q b ws p whole known
 fine scenes (frame.Call (Doing q c)) b ws p whole known = doing-fine scenes q c b ws p whole.sound known
 fine scenes (frame.Call (Warning q x r)) b ws p whole known = warning-fine scenes q x r b ws p known
@@ -50,11 +50,11 @@ fine scenes (frame.Free (Hooked x h)) b ws p whole known = hooked-fine scenes b 
 fine scenes (frame.Free (Judged x h v)) b ws p whole known = judged-fine scenes b ws p x h v whole known
 fine scenes (frame.Free (Leaving x h)) b ws p whole known = leaving-fine scenes b ws p x h whole known
 fine scenes (frame.Free (Looping x purpose)) b ws p whole known = looping-fine scenes b ws p x purpose whole known
-fine scenes (frame.Free (Tried x c noted purpose a)) b ws p whole known = tried-fine scenes b ws p x c noted purpose a whole known
+fine scenes (frame.Free (AfterChild x c noted purpose a)) b ws p whole known = tried-fine scenes b ws p x c noted purpose a whole known
 fine scenes (frame.Free (Ending a)) b ws p whole known = ending-fine scenes b ws p a whole known
 fine scenes _ b ws p whole known = absurd whole.sound.rests
 
-both : (scenes : List Scene) (f : Frame) (b : Option Begun) (ws : List NotedWork) (p : Pool) (m : Move Frame Answer Pool Item) → Leads table (λ g gs q j. WholeAt g gs q) m (map work_of ws) 1
+both : (scenes : List Scene) (f : Frame) (b : Option CallStart) (ws : List NotedWork) (p : Pool) (m : Move Frame Answer Pool Item) → Leads table (λ g gs q j. WholeAt g gs q) m (map work_of ws) 1
     → FineBy scenes f b p m ws → FitsOn noted_table IsFine Holds scenes (noted_move notes f b p m) ws
 both scenes f b [] p (Do.Done a q) l k = tt
 both scenes f b (w ∷ ws) p (Do.Done a q) l k = (l, k)

@@ -17,7 +17,7 @@ use Rattle.tree_specs.specs.declared.question.Input.{Input}
 use Rattle.tree_specs.specs.declared.frame.Frame.{Frame}
 use Rattle.tree_specs.specs.declared.frame.Frame.TheVariants as frame
 use Rattle.tree_specs.specs.declared.frame.CallFrame.TheVariants.{Asking, Doing, Awaiting, Warning, Telling, Returning}
-use Rattle.tree_specs.specs.declared.frame.FreeFrame.TheVariants.{Unlinking, Releasing, Giving, Beginning, Hooked, Judged, Leaving, Looping, Trying, Tried, Ending}
+use Rattle.tree_specs.specs.declared.frame.FreeFrame.TheVariants.{Unlinking, Releasing, Giving, Beginning, Hooked, Judged, Leaving, Looping, FreeingChild, AfterChild, Ending}
 use Rattle.tree_specs.specs.declared.frame.Purpose.{Purpose}
 use Rattle.tree_specs.specs.declared.frame.Purpose.TheVariants.{Removal, Emptying}
 use Rattle.tree_specs.specs.declared.frame.Answer.{Answer}
@@ -32,7 +32,7 @@ use Rattle.tree_specs.specs.Calls.Given.{Given, given_to}
 use Rattle.tree_specs.specs.Calls.Given.Given.{Calls, Returns}
 use Rattle.tree_specs.specs.Calls.Plans.{Plan, planned}
 use Rattle.tree_specs.specs.Calls.Plans.Plan.{Does, Frees, Unlinks, Empties}
-use Rattle.tree_specs.specs.Rules.Sequence.{Work, Scene, Begun, ◌>>=◌, ◌>>◌, gives, change, tells}
+use Rattle.tree_specs.specs.Rules.Sequence.{Work, Scene, CallStart, ◌>>=◌, ◌>>◌, gives, change, tells}
 use Rattle.tree_specs.specs.Rules.Story.{free, hooked, judged, leave, children, tried, asked, acting, telling, returning, warning, unlink, release, given}
 use Rattle.tree_specs.specs.Machine.Table.{table, notes, step, lifted, judge_step, loop_step, tried_step, plan_step, refs_step, unlink_step, release_step}
 use Rattle.tree_specs.proofs.Tree.Numbered.{by_test}
@@ -40,7 +40,7 @@ use Rattle.tree_specs.proofs.Tree.Numbered.{by_test}
 ruleset laws = (followed-tell, followed-tells, followed-followed)
 
 -- the machine whose replies know what they are about
-abbrev pub noted_table : Table (Noted Frame Begun) Answer Pool Input Scene
+abbrev pub noted_table : Table (Noted Frame CallStart) Answer Pool Input Scene
 noted_table = noted notes table
 
 -- a free, and a routine's run, as works of the machine
@@ -66,7 +66,7 @@ looped x Emptying w = do
   gives (Freed Ok)
 
 -- what a work does, by the text
-abbrev pub mean : ℕ → Frame → Option Begun → Work Answer
+abbrev pub mean : ℕ → Frame → Option CallStart → Work Answer
 mean n (frame.Call (Asking q)) b = returned (asked n q)
 mean n (frame.Call (Doing q c)) b = returned (acting n q c)
 mean n (frame.Call (Awaiting q x)) b = gives (Freed Ok)
@@ -81,18 +81,18 @@ mean n (frame.Free (Hooked x h)) b = freed (hooked n x h)
 mean n (frame.Free (Judged x h v)) b = freed (judged n x h v)
 mean n (frame.Free (Leaving x h)) b = freed (leave n x h)
 mean n (frame.Free (Looping x purpose)) b = looped x purpose (children n x)
-mean n (frame.Free (Trying x c noted purpose)) b = gives (Freed Ok)
-mean n (frame.Free (Tried x c noted purpose a)) b = looped x purpose (tried n x c noted a)
+mean n (frame.Free (FreeingChild x c noted purpose)) b = gives (Freed Ok)
+mean n (frame.Free (AfterChild x c noted purpose a)) b = looped x purpose (tried n x c noted a)
 mean n (frame.Free (Ending a)) b = gives (Freed a)
 
-abbrev pub noted_mean : ℕ → Noted Frame Begun → Work Answer
+abbrev pub noted_mean : ℕ → Noted Frame CallStart → Work Answer
 noted_mean n w = mean n w.work w.note
 
 -- one step of the work, and then the text with one turn less
-abbrev Turn : ℕ → Frame → Option Begun → Move Frame Answer Pool Item → Pool → List Input → Outcome Answer Pool Input Scene
+abbrev Turn : ℕ → Frame → Option CallStart → Move Frame Answer Pool Item → Pool → List Input → Outcome Answer Pool Input Scene
 Turn n f b m p is = after noted_table (noted_mean n) (noted_move notes f b p m) is
 
-asking-turn : (n : ℕ) (q : Ask) (b : Option Begun) (p : Pool) (is : List Input)
+asking-turn : (n : ℕ) (q : Ask) (b : Option CallStart) (p : Pool) (is : List Input)
     → Below (Turn n (frame.Call (Asking q)) b (step (frame.Call (Asking q)) p) p is) (mean (suc n) (frame.Call (Asking q)) b p is)
 asking-turn n q b p [] = inr refl
 asking-turn n q b p (i ∷ is) = each (given_to q i) refl
@@ -102,7 +102,7 @@ asking-turn n q b p (i ∷ is) = each (given_to q i) refl
     each (Some (Calls c)) e = by_test (is_sound_call c) (λ t. rw (e, t) (inr (simp laws))) (λ t. rw (e, t) (inr refl))
     each (Some (Returns v)) e = by_test (is_return v) (λ t. rw (e, t) (inr (simp laws))) (λ t. rw (e, t) (inr refl))
 
-doing-turn : (n : ℕ) (q : Ask) (c : Call) (b : Option Begun) (p : Pool) (is : List Input)
+doing-turn : (n : ℕ) (q : Ask) (c : Call) (b : Option CallStart) (p : Pool) (is : List Input)
     → Below (Turn n (frame.Call (Doing q c)) b (plan_step q (planned p c) p) p is) (mean (suc n) (frame.Call (Doing q c)) b p is)
 doing-turn n q c b p is = each (planned p c) refl
   where
@@ -113,7 +113,7 @@ doing-turn n q c b p is = each (planned p c) refl
     each (Unlinks o x) e = rw e (inr (simp laws))
     each (Empties x) e = rw e (inr (simp laws))
 
-beginning-turn : (n : ℕ) (x : Obj) (b : Option Begun) (p : Pool) (is : List Input)
+beginning-turn : (n : ℕ) (x : Obj) (b : Option CallStart) (p : Pool) (is : List Input)
     → Below (Turn n (frame.Free (Beginning x)) b (lifted (refs_step x (newest_ref p.rows x) p)) p is) (freed (free (suc n) x) p is)
 beginning-turn n x b p is = newest (newest_ref p.rows x) refl
   where
@@ -131,7 +131,7 @@ beginning-turn n x b p is = newest (newest_ref p.rows x) refl
     newest None k = each k (row_of p.rows x) refl
     newest (Some r) k = by_test (is_inside p.rows (Of r) (Of x)) (λ t. rw (k, t) (inr (simp laws))) (λ t. rw (k, t) (inr (simp laws)))
 
-unlinking-turn : (n : ℕ) (o : Owner) (x : Obj) (b : Option Begun) (p : Pool) (is : List Input)
+unlinking-turn : (n : ℕ) (o : Owner) (x : Obj) (b : Option CallStart) (p : Pool) (is : List Input)
     → Below (Turn n (frame.Free (Unlinking o x)) b (lifted (unlink_step x (newest_ref_of p.rows o x) p)) p is) (freed (unlink (suc n) o x) p is)
 unlinking-turn n o x b p is = each (newest_ref_of p.rows o x) refl
   where
@@ -139,7 +139,7 @@ unlinking-turn n o x b p is = each (newest_ref_of p.rows o x) refl
     each None k = rw k (inr refl)
     each (Some r) k = rw k (inr (simp laws))
 
-releasing-turn : (n : ℕ) (x : Obj) (b : Option Begun) (p : Pool) (is : List Input)
+releasing-turn : (n : ℕ) (x : Obj) (b : Option CallStart) (p : Pool) (is : List Input)
     → Below (Turn n (frame.Free (Releasing x)) b (lifted (release_step x (newest_ref p.rows x) p)) p is) (freed (release (suc n) x) p is)
 releasing-turn n x b p is = each (newest_ref p.rows x) refl
   where
@@ -147,11 +147,11 @@ releasing-turn n x b p is = each (newest_ref p.rows x) refl
     each None k = rw k (inr refl)
     each (Some r) k = by_test (is_inside p.rows (Of r) (Of x)) (λ t. rw (k, t) (inr (simp laws))) (λ t. rw (k, t) (inr (simp laws)))
 
-judged-turn : (n : ℕ) (x : Obj) (h v : ℕ) (b : Option Begun) (p : Pool) (is : List Input)
+judged-turn : (n : ℕ) (x : Obj) (h v : ℕ) (b : Option CallStart) (p : Pool) (is : List Input)
     → Below (Turn n (frame.Free (Judged x h v)) b (lifted (judge_step x h v p)) p is) (freed (judged (suc n) x h v) p is)
 judged-turn n x h v b p is = by_test (nat_eq v 0) (λ t. rw t (inr (simp laws))) (λ t. rw t (inr (simp laws)))
 
-looping-turn : (n : ℕ) (x : Obj) (purpose : Purpose) (b : Option Begun) (p : Pool) (is : List Input)
+looping-turn : (n : ℕ) (x : Obj) (purpose : Purpose) (b : Option CallStart) (p : Pool) (is : List Input)
     → Below (Turn n (frame.Free (Looping x purpose)) b (lifted (loop_step x purpose (first_kid p.rows (Of x)) p)) p is) (looped x purpose (children (suc n) x) p is)
 looping-turn n x purpose b p is = each purpose (first_kid p.rows (Of x)) refl
   where
@@ -168,17 +168,17 @@ looping-turn n x purpose b p is = each purpose (first_kid p.rows (Of x)) refl
     each Emptying None e = rw e (inr refl)
     each purpose (Some c) e = child purpose c (target_at p.rows c) refl e
 
-tried-turn : (n : ℕ) (x c : Obj) (noted : Option Owner) (purpose : Purpose) (a : FreeReply) (b : Option Begun) (p : Pool) (is : List Input)
-    → Below (Turn n (frame.Free (Tried x c noted purpose a)) b (lifted (tried_step x c noted purpose a p)) p is) (looped x purpose (tried (suc n) x c noted a) p is)
+tried-turn : (n : ℕ) (x c : Obj) (noted : Option Owner) (purpose : Purpose) (a : FreeReply) (b : Option CallStart) (p : Pool) (is : List Input)
+    → Below (Turn n (frame.Free (AfterChild x c noted purpose a)) b (lifted (tried_step x c noted purpose a p)) p is) (looped x purpose (tried (suc n) x c noted a) p is)
 tried-turn n x c noted purpose a b p is = each purpose a
   where
-    each : (purpose : Purpose) (a : FreeReply) → Below (Turn n (frame.Free (Tried x c noted purpose a)) b (lifted (tried_step x c noted purpose a p)) p is) (looped x purpose (tried (suc n) x c noted a) p is)
+    each : (purpose : Purpose) (a : FreeReply) → Below (Turn n (frame.Free (AfterChild x c noted purpose a)) b (lifted (tried_step x c noted purpose a p)) p is) (looped x purpose (tried (suc n) x c noted a) p is)
     each (Removal h) Ok = inr refl
     each Emptying Ok = inr refl
     each _ _ = by_test (is_below (owner_of p.rows c) (Of x)) (λ t. rw t (inr (simp laws))) (λ t. rw t (inr refl))
 
 -- one turn of the machine is one turn of the text
-pub turn : (n : ℕ) (f : Frame) (b : Option Begun) (p : Pool) (is : List Input) → Below (Turn n f b (step f p) p is) (mean (suc n) f b p is)
+pub turn : (n : ℕ) (f : Frame) (b : Option CallStart) (p : Pool) (is : List Input) → Below (Turn n f b (step f p) p is) (mean (suc n) f b p is)
 turn n (frame.Call (Asking q)) b p is = asking-turn n q b p is
 turn n (frame.Call (Doing q c)) b p is = doing-turn n q c b p is
 turn n (frame.Call (Awaiting q x)) b p is = inr refl
@@ -188,13 +188,13 @@ turn n (frame.Free (Releasing x)) b p is = releasing-turn n x b p is
 turn n (frame.Free (Beginning x)) b p is = beginning-turn n x b p is
 turn n (frame.Free (Judged x h v)) b p is = judged-turn n x h v b p is
 turn n (frame.Free (Looping x purpose)) b p is = looping-turn n x purpose b p is
-turn n (frame.Free (Trying x c noted purpose)) b p is = inr refl
-turn n (frame.Free (Tried x c noted purpose a)) b p is = tried-turn n x c noted purpose a b p is
+turn n (frame.Free (FreeingChild x c noted purpose)) b p is = inr refl
+turn n (frame.Free (AfterChild x c noted purpose a)) b p is = tried-turn n x c noted purpose a b p is
 turn n (frame.Free (Ending a)) b p is = inr refl
 turn n _ b p is = inr (simp laws)
 
 -- the machine's run of a work is what the text says of it
-pub run-means : (n : ℕ) (w : Noted Frame Begun) (p : Pool) (is : List Input) → Below (run noted_table n w p is) (noted_mean n w p is)
+pub run-means : (n : ℕ) (w : Noted Frame CallStart) (p : Pool) (is : List Input) → Below (run noted_table n w p is) (noted_mean n w p is)
 run-means zero w p is = inl refl
 run-means (suc n) w p is =
     Below-trans _ _ _ (Below-after noted_table (run noted_table n) (noted_mean n) (run-means n) (noted_table.step w p) is) (turn n w.work w.note p is)

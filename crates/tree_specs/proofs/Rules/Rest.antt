@@ -28,7 +28,7 @@ use Rattle.tree_specs.specs.Machine.Table.{call_step, table, step, free_step, ev
 use Rattle.tree_specs.specs.Invariants.Sound.{Sound, Rests}
 use Rattle.tree_specs.specs.Invariants.Measure.{cost}
 use Rattle.tree_specs.specs.Machine.View.{View, rest_of}
-use Rattle.tree_specs.specs.Invariants.Whole.{IsCaller, Seated, Whole}
+use Rattle.tree_specs.specs.Invariants.Consistent.{IsCaller, IsStacked, IsConsistent}
 use Rattle.tree_specs.proofs.Invariants.Keeps.{sound-kept}
 use Rattle.tree_specs.proofs.Turns.Falls.{Well, falls}
 use Rattle.tree_specs.proofs.Turns.Load.{Placed, placed-kept}
@@ -41,11 +41,11 @@ outcome v is = rest table (turns (length v.pool.rows) (length is)) v.innermost v
 abbrev most : View → ℕ → ℕ
 most v k = length v.pool.rows + 2 * k + 2
 
-well : (v : View) (k : ℕ) → Whole v → Well (most v k) v.innermost v.below v.pool k
+well : (v : View) (k : ℕ) → IsConsistent v → Well (most v k) v.innermost v.below v.pool k
 well v k h = (h.sound, omega (arith, pending-most v.innermost))
 
 -- any number of turns above the measure gives the rest
-pub rest-enough : (R m : ℕ) (v : View) (is : List Input) → Whole v → Well R v.innermost v.below v.pool (length is) → cost R v.innermost v.below v.pool (length is) < m
+pub rest-enough : (R m : ℕ) (v : View) (is : List Input) → IsConsistent v → Well R v.innermost v.below v.pool (length is) → cost R v.innermost v.below v.pool (length is) < m
     → rest table m v.innermost v.below v.pool is ≡ outcome v is
 rest-enough R m v is h w less =
     let n : ℕ = turns (length v.pool.rows) (length is) in
@@ -54,12 +54,12 @@ rest-enough R m v is h w less =
     ∙ rest-any table (Well (most v (length is))) (cost (most v (length is))) (falls (most v (length is))) (m + n) n v.innermost v.below v.pool is (well v (length is) h) (omega (arith, c)) c
 
 -- as many steps as the stated turns are enough
-pub walk-whole : (v : View) (is : List Input) → Whole v → NotShort (walk table (turns (length v.pool.rows) (length is)) v.innermost v.below v.pool is)
+pub walk-whole : (v : View) (is : List Input) → IsConsistent v → NotShort (walk table (turns (length v.pool.rows) (length is)) v.innermost v.below v.pool is)
 walk-whole v is h =
     let R : ℕ = most v (length is) in
     enough table (Well R) (cost R) (falls R) (turns (length v.pool.rows) (length is)) v.innermost v.below v.pool is (well v (length is) h) (cost-turns v (length is) h)
 
-pub not-short : (v : View) (is : List Input) → Whole v → NotShort (outcome v is)
+pub not-short : (v : View) (is : List Input) → IsConsistent v → NotShort (outcome v is)
 not-short v is h =
     let R : ℕ = most v (length is) in
     subst NotShort (rest-walk table (Well R) (cost R) (falls R) (turns (length v.pool.rows) (length is)) v.innermost v.below v.pool is (well v (length is) h) (cost-turns v (length is) h)) (walk-whole v is h)
@@ -67,7 +67,7 @@ not-short v is h =
 -- ---- what a step keeps
 
 Leads-whole : (m : Move Frame Answer Pool Item) (fs : List Frame) (k : ℕ)
-    → Leads table (λ g gs q j. Sound g gs q) m fs k → Placed m fs k → Leads table (λ g gs q j. Whole (record { innermost = g; below = gs; pool = q })) m fs k
+    → Leads table (λ g gs q j. Sound g gs q) m fs k → Placed m fs k → Leads table (λ g gs q j. IsConsistent (record { innermost = g; below = gs; pool = q })) m fs k
 Leads-whole (Do.Done a p) [] k s l = tt
 Leads-whole (Do.Done a p) (g ∷ gs) k s l = record { sound = s; seated = l.0; light = l.1 }
 Leads-whole (Do.Go f p) fs k s l = record { sound = s; seated = l.0; light = l.1 }
@@ -76,20 +76,20 @@ Leads-whole (Do.Wait q f p) fs zero s l = tt
 Leads-whole (Do.Wait q f p) fs (suc k) s l = λ i g e. record { sound = s i g e; seated = (l i g e).0; light = (l i g e).1 }
 Leads-whole (Do.Call g f p) fs k s l = record { sound = s; seated = l.0; light = l.1 }
 
-pub whole-kept : (v : View) (k : ℕ) → Whole v → Leads table (λ g gs q j. Whole (record { innermost = g; below = gs; pool = q })) (step v.innermost v.pool) v.below k
+pub whole-kept : (v : View) (k : ℕ) → IsConsistent v → Leads table (λ g gs q j. IsConsistent (record { innermost = g; below = gs; pool = q })) (step v.innermost v.pool) v.below k
 whole-kept v k h =
     Leads-whole (step v.innermost v.pool) v.below k (sound-kept v.innermost v.below v.pool k h.sound) (placed-kept v.innermost v.below v.pool k h.sound h.seated h.light)
 
-stays : (v : View) (k : ℕ) → Whole v
+stays : (v : View) (k : ℕ) → IsConsistent v
     → Leads table (λ g gs q j. Well (most v k) g gs q j × (cost (most v k) g gs q j < cost (most v k) v.innermost v.below v.pool k)) (step v.innermost v.pool) v.below k
 stays v k h = (falls (most v k)).keeps v.innermost v.below v.pool k (well v k h)
 
 -- ---- an event, a question, and a step that tells nothing
 
-pub event-whole : (v : View) (e : Item) (f : Frame) (p : Pool) → Whole v → step v.innermost v.pool ≡ Do.Emit e f p → Whole (record { innermost = f; below = v.below; pool = p })
+pub event-whole : (v : View) (e : Item) (f : Frame) (p : Pool) → IsConsistent v → step v.innermost v.pool ≡ Do.Emit e f p → IsConsistent (record { innermost = f; below = v.below; pool = p })
 event-whole v e f p h is-emit = rw is-emit at (whole-kept v 0 h)
 
-pub event-law : (v : View) (e : Item) (f : Frame) (p : Pool) (is : List Input) → Whole v → step v.innermost v.pool ≡ Do.Emit e f p
+pub event-law : (v : View) (e : Item) (f : Frame) (p : Pool) (is : List Input) → IsConsistent v → step v.innermost v.pool ≡ Do.Emit e f p
     → outcome v is ≡ tell e (outcome (record { innermost = f; below = v.below; pool = p }) is)
 event-law v e f p is h is-emit =
     let R : ℕ = most v (length is) in
@@ -99,13 +99,13 @@ event-law v e f p is h is-emit =
     rest-event table (Well R) (cost R) (falls R) n n v.innermost f v.below v.pool p e is (well v (length is) h) c is-emit (omega (arith, k.1, c))
     ∙ ap (tell e) (rest-enough R n (record { innermost = f; below = v.below; pool = p }) is (event-whole v e f p h is-emit) k.0 (omega (arith, k.1, c)))
 
-pub question-whole : (v : View) (q : Item) (f g : Frame) (p : Pool) (i : Input) → Whole v → step v.innermost v.pool ≡ Do.Wait q f p → taken f p i ≡ Some g
-    → Whole (record { innermost = g; below = v.below; pool = p })
+pub question-whole : (v : View) (q : Item) (f g : Frame) (p : Pool) (i : Input) → IsConsistent v → step v.innermost v.pool ≡ Do.Wait q f p → taken f p i ≡ Some g
+    → IsConsistent (record { innermost = g; below = v.below; pool = p })
 question-whole v q f g p i h is-wait fits =
-    let k : (i : Input) (g : Frame) → taken f p i ≡ Some g → Whole (record { innermost = g; below = v.below; pool = p }) = rw is-wait at (whole-kept v 1 h) in
+    let k : (i : Input) (g : Frame) → taken f p i ≡ Some g → IsConsistent (record { innermost = g; below = v.below; pool = p }) = rw is-wait at (whole-kept v 1 h) in
     k i g fits
 
-pub question-law : (v : View) (q : Item) (f g : Frame) (p : Pool) (i : Input) (is : List Input) → Whole v → step v.innermost v.pool ≡ Do.Wait q f p → taken f p i ≡ Some g
+pub question-law : (v : View) (q : Item) (f g : Frame) (p : Pool) (i : Input) (is : List Input) → IsConsistent v → step v.innermost v.pool ≡ Do.Wait q f p → taken f p i ≡ Some g
     → outcome v (i ∷ is) ≡ tell q (outcome (record { innermost = g; below = v.below; pool = p }) is)
 question-law v q f g p i is h is-wait fits =
     let R : ℕ = most v (length (i ∷ is)) in
@@ -117,7 +117,7 @@ question-law v q f g p i is h is-wait fits =
     rest-question table (Well R) (cost R) (falls R) n n v.innermost f g v.below v.pool p q i is (well v (length (i ∷ is)) h) c is-wait fits (omega (arith, l.1, c))
     ∙ ap (tell q) (rest-enough R n (record { innermost = g; below = v.below; pool = p }) is (question-whole v q f g p i h is-wait fits) l.0 (omega (arith, l.1, c)))
 
-pub open-law : (v : View) (q : Item) (f : Frame) (p : Pool) → Whole v → step v.innermost v.pool ≡ Do.Wait q f p → outcome v [] ≡ Waits (q ∷ [])
+pub open-law : (v : View) (q : Item) (f : Frame) (p : Pool) → IsConsistent v → step v.innermost v.pool ≡ Do.Wait q f p → outcome v [] ≡ Waits (q ∷ [])
 open-law v q f p h is-wait =
     let R : ℕ = most v 0 in
     rest-open table (Well R) (cost R) (falls R) (turns (length v.pool.rows) 0) v.innermost f v.below v.pool p q (well v 0 h) (cost-turns v 0 h) is-wait
@@ -125,10 +125,10 @@ open-law v q f p h is-wait =
 abbrev pub view_of_state : State Frame Pool → View
 view_of_state s = record { innermost = s.now; below = s.below; pool = s.pool }
 
-pub silent-whole : (v : View) (s : State Frame Pool) → Whole v → silent table (step v.innermost v.pool) v.below ≡ Some s → Whole (view_of_state s)
-silent-whole v s h e = silent-leads table (λ g gs q j. Whole (record { innermost = g; below = gs; pool = q })) (step v.innermost v.pool) v.below 0 s (whole-kept v 0 h) e
+pub silent-whole : (v : View) (s : State Frame Pool) → IsConsistent v → silent table (step v.innermost v.pool) v.below ≡ Some s → IsConsistent (view_of_state s)
+silent-whole v s h e = silent-leads table (λ g gs q j. IsConsistent (record { innermost = g; below = gs; pool = q })) (step v.innermost v.pool) v.below 0 s (whole-kept v 0 h) e
 
-pub silent-law : (v : View) (s : State Frame Pool) (is : List Input) → Whole v → silent table (step v.innermost v.pool) v.below ≡ Some s
+pub silent-law : (v : View) (s : State Frame Pool) (is : List Input) → IsConsistent v → silent table (step v.innermost v.pool) v.below ≡ Some s
     → outcome v is ≡ outcome (view_of_state s) is
 silent-law v s is h e =
     let R : ℕ = most v (length is) in
@@ -141,18 +141,18 @@ silent-law v s is h e =
 
 -- ---- the same of the items
 
-pub event-items : (v : View) (e : Item) (f : Frame) (p : Pool) (is : List Input) → Whole v → step v.innermost v.pool ≡ Do.Emit e f p
+pub event-items : (v : View) (e : Item) (f : Frame) (p : Pool) (is : List Input) → IsConsistent v → step v.innermost v.pool ≡ Do.Emit e f p
     → rest_of v is ≡ e ∷ rest_of (record { innermost = f; below = v.below; pool = p }) is
 event-items v e f p is h is-emit =
     ap told_by (event-law v e f p is h is-emit) ∙ items-tell e _ (not-short (record { innermost = f; below = v.below; pool = p }) is (event-whole v e f p h is-emit))
 
-pub question-items : (v : View) (q : Item) (f g : Frame) (p : Pool) (i : Input) (is : List Input) → Whole v → step v.innermost v.pool ≡ Do.Wait q f p → taken f p i ≡ Some g
+pub question-items : (v : View) (q : Item) (f g : Frame) (p : Pool) (i : Input) (is : List Input) → IsConsistent v → step v.innermost v.pool ≡ Do.Wait q f p → taken f p i ≡ Some g
     → rest_of v (i ∷ is) ≡ q ∷ rest_of (record { innermost = g; below = v.below; pool = p }) is
 question-items v q f g p i is h is-wait fits =
     ap told_by (question-law v q f g p i is h is-wait fits)
     ∙ items-tell q _ (not-short (record { innermost = g; below = v.below; pool = p }) is (question-whole v q f g p i h is-wait fits))
 
-pub open-items : (v : View) (q : Item) (f : Frame) (p : Pool) → Whole v → step v.innermost v.pool ≡ Do.Wait q f p → rest_of v [] ≡ q ∷ []
+pub open-items : (v : View) (q : Item) (f : Frame) (p : Pool) → IsConsistent v → step v.innermost v.pool ≡ Do.Wait q f p → rest_of v [] ≡ q ∷ []
 open-items v q f p h is-wait = ap told_by (open-law v q f p h is-wait)
 
 -- ---- the last item is a question
@@ -217,14 +217,14 @@ only-asks f p q i g e =
     subst IsQuestion e'' tt
 
 abbrev WholeAt : Frame → List Frame → Pool → Type 0
-WholeAt f fs p = Whole (record { innermost = f; below = fs; pool = p })
+WholeAt f fs p = IsConsistent (record { innermost = f; below = fs; pool = p })
 
 asks-kept : (f : Frame) (fs : List Frame) (p : Pool) → WholeAt f fs p → Stays table WholeAt IsQuestion (step f p) fs
 asks-kept f fs p h = each (step f p) fs refl refl (whole-kept (record { innermost = f; below = fs; pool = p }) 1 h)
   where
     each : (m : Move Frame Answer Pool Item) (gs : List Frame) → step f p ≡ m → fs ≡ gs → Leads table (λ g gs q j. WholeAt g gs q) m gs 1 → Stays table WholeAt IsQuestion m gs
     each (Do.Done a q) [] e d l =
-        let b : Seated f [] = subst (λ (z : List Frame). Seated f z) d h.seated in
+        let b : IsStacked f [] = subst (λ (z : List Frame). IsStacked f z) d h.seated in
         let r : Rests f [] p = subst (λ (z : List Frame). Rests f z p) d h.sound.rests in
         no-end f p q a b r e
     each (Do.Done a q) (g ∷ gs) e d l = l
@@ -234,7 +234,7 @@ asks-kept f fs p h = each (step f p) fs refl refl (whole-kept (record { innermos
     each (Do.Call g g' q) gs e d l = l
 
 -- the story still to come ends with its question
-pub ends-asked : (v : View) (is : List Input) → Whole v → LastIs IsQuestion (rest_of v is)
+pub ends-asked : (v : View) (is : List Input) → IsConsistent v → LastIs IsQuestion (rest_of v is)
 ends-asked v is h =
     let R : ℕ = most v (length is) in
     let n : ℕ = turns (length v.pool.rows) (length is) in
@@ -250,7 +250,7 @@ begins-tell q (Waits ts) n = (ts, refl)
 begins-tell q (Stray ts) n = (ts, refl)
 begins-tell q Short n = absurd n
 
-pub begins-items : (v : View) (q : Item) (f : Frame) (p : Pool) (is : List Input) → Whole v → step v.innermost v.pool ≡ Do.Wait q f p → (more : List Item) × (rest_of v is ≡ q ∷ more)
+pub begins-items : (v : View) (q : Item) (f : Frame) (p : Pool) (is : List Input) → IsConsistent v → step v.innermost v.pool ≡ Do.Wait q f p → (more : List Item) × (rest_of v is ≡ q ∷ more)
 begins-items v q f p is h is-wait = each is e (not-short v is h)
   where
     n : ℕ

@@ -17,18 +17,18 @@ use Rattle.tree_specs.specs.declared.frame.Answer.{Answer}
 use Rattle.tree_specs.specs.declared.frame.Answer.TheVariants.{Returned}
 use Rattle.tree_specs.specs.Tree.Pool.{Pool, empty}
 use Rattle.tree_specs.specs.Rules.Items.{Item, IsQuestion}
-use Rattle.tree_specs.specs.Rules.Sequence.{Work, Scene, Begun, gives}
+use Rattle.tree_specs.specs.Rules.Sequence.{Work, Scene, CallStart, gives}
 use Rattle.tree_specs.specs.Rules.Story.{asked, turns, story, items}
 use Rattle.tree_specs.specs.Machine.Table.{table, notes}
 use Rattle.tree_specs.specs.Machine.View.{View, begin, rest_of}
-use Rattle.tree_specs.specs.Invariants.Whole.{Whole}
+use Rattle.tree_specs.specs.Invariants.Consistent.{IsConsistent}
 use Rattle.tree_specs.proofs.Tree.Rooted.{forest-none}
 use Rattle.tree_specs.proofs.Turns.Bound.{cost-turns}
 use Rattle.tree_specs.proofs.Rules.Means.{noted_table, returned, run-means}
 use Rattle.tree_specs.proofs.Rules.Rest.{outcome, rest-enough, walk-whole, not-short, ends-asked}
 
 -- a host at its beginning
-pub begin-whole : (first : ℕ) → 1 ≤ first → Whole (begin first)
+pub begin-whole : (first : ℕ) → 1 ≤ first → IsConsistent (begin first)
 begin-whole first h = record {
   sound = record { started = omega arith; valid = λ x. tt; forest = forest-none; refers = record { target = λ r t e. cc; quiet = λ r t e. cc }; open_frees = λ x. refl; waiting = tt; rests = tt };
   seated = tt;
@@ -88,7 +88,7 @@ answering-whole _ h = h
 
 -- ---- the text and the table
 
-abbrev pub asking : Noted Frame Begun
+abbrev pub asking : Noted Frame CallStart
 asking = with_note None (frame.Call (Asking Quiet))
 
 -- the rules' text, with turns enough, tells what the table's run tells

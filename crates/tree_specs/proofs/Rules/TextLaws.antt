@@ -25,7 +25,7 @@ use Rattle.tree_specs.specs.Tree.Pool.{Pool, row_of, is_below, owner_of, first_k
 use Rattle.tree_specs.specs.Tree.Heirs.{heir}
 use Rattle.tree_specs.specs.Rules.Items.{Item}
 use Rattle.tree_specs.specs.Rules.Items.Item.{Told, Asked}
-use Rattle.tree_specs.specs.Rules.Sequence.{Work, Scene, Begun, asks, fits_to}
+use Rattle.tree_specs.specs.Rules.Sequence.{Work, Scene, CallStart, asks, fits_to}
 use Rattle.tree_specs.specs.Calls.Plans.{Plan, planned, warned_by, changed_by}
 use Rattle.tree_specs.specs.Calls.Plans.Plan.{Does, Frees, Unlinks, Empties}
 use Rattle.tree_specs.specs.Rules.Story.{hook_moment, later, heard, effect, free, hooked, judged, leave, children, tried, asked, acting, telling, returning, items, warning, unlink, release, given}
@@ -78,7 +78,7 @@ after-followed last is P Q Short k h next = tt
 pub record Lawful {A : Type 0} (last : Last) (Q : A → Last → Type 0) (go : List Input → Outcome A Pool Input Scene) : Type 0 where
   -- each acceptance comes right after a return of 0
   pub accepts : (is : List Input) → After last is Q (go is)
-  -- it takes a front of the inputs, and waits before each of them
+  -- it takes a prefix of the inputs, and waits before each of them
   pub uses : (is : List Input) (a : A) (q : Pool) (ts : List Scene) (left : List Input) → go is ≡ Ended a q ts left → Used go a q ts is left
 
 -- nothing is asked of its answer
@@ -170,8 +170,8 @@ pub record AllLawful (n : ℕ) : Type 0 where
   pub tried : (x c : Obj) (noted : Option Owner) (a : FreeReply) (p : Pool) (last : Last) → Lawful last Any (tried n x c noted a p)
   pub asked : (q : Ask) (p : Pool) (last : Last) → Lawful last (Returned q) (asked n q p)
   pub acting : (q : Ask) (c : Call) (p : Pool) (last : Last) → Lawful last (Returned q) (acting n q c p)
-  pub warning : (q : Ask) (x : Obj) (r : Reply) (about : Option Begun) (p : Pool) (last : Last) → Lawful last (Returned q) (warning n about (later q r) x r p)
-  pub later : (q : Ask) (r : Reply) (about : Option Begun) (p : Pool) (last : Last) → Lawful last (Returned q) (telling n about (later q r) r p)
+  pub warning : (q : Ask) (x : Obj) (r : Reply) (about : Option CallStart) (p : Pool) (last : Last) → Lawful last (Returned q) (warning n about (later q r) x r p)
+  pub later : (q : Ask) (r : Reply) (about : Option CallStart) (p : Pool) (last : Last) → Lawful last (Returned q) (telling n about (later q r) r p)
   pub returning : (q : Ask) (v : ℕ) (p : Pool) (last : Last) → Returned q v last → Lawful last (Returned q) (returning n v p)
 
 weaker : (P Q : ℕ → Last → Type 0) (go : List Input → Outcome ℕ Pool Input Scene) → ((v : ℕ) (l : Last) → P v l → Q v l) → Lawful None P go → Lawful None Q go
@@ -314,11 +314,11 @@ acting-lawful n ih q c p last = each (warned_by (planned p c)) refl
         (followed-lawful last Any (Returned q) (effect (free n) (unlink n) (children n) (planned p c) p) (λ r p' left. warning n (Some (record { call = c; start = p })) (later q r) x r p' left)
         (plan-lawful n ih (planned p c) p last) (λ r p' l w. ih.warning q x r (Some (record { call = c; start = p })) p' l))
 
-warning-lawful : (n : ℕ) → AllLawful n → (q : Ask) (x : Obj) (r : Reply) (about : Option Begun) (p : Pool) (last : Last) → Lawful last (Returned q) (warning (suc n) about (later q r) x r p)
+warning-lawful : (n : ℕ) → AllLawful n → (q : Ask) (x : Obj) (r : Reply) (about : Option CallStart) (p : Pool) (last : Last) → Lawful last (Returned q) (warning (suc n) about (later q r) x r p)
 warning-lawful n ih q x r about p last =
     told-lawful last (Returned q) (scene_of (Told (Warned x)) p) (telling n about (later q r) r p) tt (λ is. (refl, refl)) (ih.later q r about p None)
 
-later-lawful : (n : ℕ) → AllLawful n → (q : Ask) (r : Reply) (about : Option Begun) (p : Pool) (last : Last) → Lawful last (Returned q) (telling (suc n) about (later q r) r p)
+later-lawful : (n : ℕ) → AllLawful n → (q : Ask) (r : Reply) (about : Option CallStart) (p : Pool) (last : Last) → Lawful last (Returned q) (telling (suc n) about (later q r) r p)
 later-lawful n ih q r about p last =
     told-lawful last (Returned q) (record { item = Told (Replied r); before = p; about = about }) (asked n (later q r) p) tt (λ is. (refl, refl))
     (weaker (Returned (later q r)) (Returned q) (asked n (later q r) p) (λ v l k s e. k s (returned-later q r v ∙ e)) (ih.asked (later q r) p None))

@@ -7,7 +7,7 @@ use Rattle.tree_specs.specs.declared.row.Mark.TheVariants.{Quiet}
 use Rattle.tree_specs.specs.declared.frame.Frame.{Frame}
 use Rattle.tree_specs.specs.declared.frame.Frame.TheVariants as frame
 use Rattle.tree_specs.specs.declared.frame.CallFrame.TheVariants.{Asking}
-use Rattle.tree_specs.specs.declared.frame.FreeFrame.TheVariants.{Tried}
+use Rattle.tree_specs.specs.declared.frame.FreeFrame.TheVariants.{AfterChild}
 use Rattle.tree_specs.specs.declared.free_step.FreeReply.TheVariants.{Running}
 use Rattle.tree_specs.specs.declared.free_step.FreeReply.{FreeReply}
 use Rattle.tree_specs.specs.declared.frame.FreeFrame.{FreeFrame}
@@ -16,12 +16,12 @@ use Rattle.std.proofs.Math.Nat.{mul-le-mul_left}
 use Rattle.tree_specs.specs.Machine.Profiles.{Looks, AtNone, AtKids, AtBelow, Cost, Profile, tried_cost, profile}
 use Rattle.tree_specs.specs.Rules.Story.{turns}
 use Rattle.tree_specs.specs.Machine.View.{View}
-use Rattle.tree_specs.specs.Invariants.Whole.{sizes, burden, Whole}
+use Rattle.tree_specs.specs.Invariants.Consistent.{sizes, deposit, IsConsistent}
 use Rattle.tree_specs.specs.Tree.Inside.{total}
 use Rattle.tree_specs.specs.Invariants.Measure.{mark_weight, weight, below_cost, look_cost, top_cost, cost, pending}
 use Rattle.tree_specs.proofs.Tree.Rows.{count-length}
 use Rattle.tree_specs.proofs.Turns.FallingFrees.{kids-most}
-use Rattle.tree_specs.proofs.Turns.Load.{mark_burden-most}
+use Rattle.tree_specs.proofs.Turns.Load.{mark_deposit-most}
 
 -- ---- the measure against the number of turns
 
@@ -41,7 +41,7 @@ tried-most Running = omega arith
 tried-most _ = omega arith
 
 free-fits : (f : FreeFrame) → Fits (profile (frame.Free f))
-free-fits (Tried x c noted purpose a) = record { waiting = omega arith; rounds = omega arith; steps = omega (arith, tried-most a); adds = omega arith }
+free-fits (AfterChild x c noted purpose a) = record { waiting = omega arith; rounds = omega arith; steps = omega (arith, tried-most a); adds = omega arith }
 free-fits _ = record { waiting = omega arith; rounds = omega arith; steps = omega arith; adds = omega arith }
 
 call-fits : (f : CallFrame) → Fits (profile (frame.Call f))
@@ -56,9 +56,9 @@ below-light : (fs : List Frame) → below_cost fs ≤ 3 * sizes fs
 below-light [] = omega arith
 below-light (f ∷ fs) = let ih = below-light fs in omega (arith, ih, (fits f).waiting)
 
-burden-most : (rs : List Row) → total burden rs ≤ 3 * length rs
-burden-most [] = omega arith
-burden-most (r ∷ rs) = let ih = burden-most rs in omega (arith, ih, mark_burden-most r.mark)
+deposit-most : (rs : List Row) → total deposit rs ≤ 3 * length rs
+deposit-most [] = omega arith
+deposit-most (r ∷ rs) = let ih = deposit-most rs in omega (arith, ih, mark_deposit-most r.mark)
 
 weight-most : (rs : List Row) → total weight rs ≤ 2 * length rs
 weight-most [] = omega arith
@@ -88,10 +88,10 @@ numbers r k w z d e hw hz hd he =
     omega arith
 
 -- the measure is below the stated number of turns at every moment
-pub cost-turns : (v : View) (k : ℕ) → Whole v → cost (length v.pool.rows + 2 * k + 2) v.innermost v.below v.pool k < turns (length v.pool.rows) k
+pub cost-turns : (v : View) (k : ℕ) → IsConsistent v → cost (length v.pool.rows + 2 * k + 2) v.innermost v.below v.pool k < turns (length v.pool.rows) k
 cost-turns v k h =
     numbers (length v.pool.rows) k (total weight v.pool.rows) (sizes v.below) (below_cost v.below) (top_cost (length v.pool.rows + 2 * k + 2) v.innermost v.below v.pool.rows)
-    (weight-most v.pool.rows) (let m = burden-most v.pool.rows in let l = h.light in omega arith)
+    (weight-most v.pool.rows) (let m = deposit-most v.pool.rows in let l = h.light in omega arith)
     (below-light v.below) (top-most (length v.pool.rows + 2 * k + 2) v.innermost v.below v.pool.rows (omega arith))
 
 pub pending-most : (f : Frame) → pending f ≤ 2

@@ -18,7 +18,7 @@ use Rattle.tree_specs.specs.declared.question.Ask.{Ask}
 use Rattle.tree_specs.specs.declared.frame.Frame.{Frame}
 use Rattle.tree_specs.specs.declared.frame.Frame.TheVariants as frame
 use Rattle.tree_specs.specs.declared.frame.CallFrame.TheVariants.{Asking, Awaiting, Returning}
-use Rattle.tree_specs.specs.declared.frame.FreeFrame.TheVariants.{Unlinking, Releasing, Giving, Beginning, Judged, Leaving, Looping, Trying, Tried, Ending}
+use Rattle.tree_specs.specs.declared.frame.FreeFrame.TheVariants.{Unlinking, Releasing, Giving, Beginning, Judged, Leaving, Looping, FreeingChild, AfterChild, Ending}
 use Rattle.tree_specs.specs.declared.frame.Purpose.{Purpose}
 use Rattle.tree_specs.specs.declared.frame.Purpose.TheVariants.{Removal, Emptying}
 use Rattle.tree_specs.specs.declared.frame.Answer.{Answer}
@@ -35,7 +35,7 @@ use Rattle.tree_specs.proofs.Tree.Numbered.{by_test, same-equal, same_owner-fals
 use Rattle.tree_specs.proofs.Tree.Heirs.{heir-other}
 use Rattle.tree_specs.proofs.Calls.Checks.{Heard, HeardCall, HeardReturn, heard-leads}
 use Rattle.tree_specs.specs.Tree.Inside.{total}
-use Rattle.tree_specs.specs.Invariants.Measure.{count, mark_weight, weight, unit, waiting_cost, top_cost, cost, pending, loop_kids}
+use Rattle.tree_specs.specs.Invariants.Measure.{count, mark_weight, weight, row_worth, waiting_cost, top_cost, cost, pending, loop_kids}
 use Rattle.tree_specs.proofs.Tree.Rows.{total-without, total-placed, total-changed, total-length, count-length}
 use Rattle.tree_specs.proofs.Invariants.Waiters.{Waiter, ForFree, ForRun, ForChild, waiter}
 use Rattle.tree_specs.proofs.Invariants.Changes.{dying-row, running-row, claim-here, owned-row, heir-placed}
@@ -119,13 +119,13 @@ leaving-lower R x h fs p k s room = by-row s.rests.0 s.rests.1 s.rests.2
         let w : total weight p.rows ≡ total weight (changed left_row p.rows x) + 1 = omega (arith, total-changed weight left_row p.rows x r e, live-weight r.mark l) in
         let n = length-changed left_row p.rows x in
         let c = count-length (changed left_row p.rows x) (Of x) in
-        let u = ap (λ (z : ℕ). unit R * z) w in
+        let u = ap (λ (z : ℕ). row_worth R * z) w in
         (omega (arith, n), omega (arith, u, n, c))
 
 -- the children of the loop below are no more than there can be rows
 pub kids-most : (R : ℕ) (rows : List Row) (fs : List Frame) → length rows ≤ R → loop_kids rows fs ≤ 4 * R
 kids-most R rows [] h = omega arith
-kids-most R rows (frame.Free (Trying y c noted purpose) ∷ fs) h = let n = count-length rows (Of y) in omega arith
+kids-most R rows (frame.Free (FreeingChild y c noted purpose) ∷ fs) h = let n = count-length rows (Of y) in omega arith
 kids-most R rows (g ∷ fs) h = omega arith
 
 -- a reference that is gone pays for what comes next
@@ -138,7 +138,7 @@ dropped-lower R f g fs p k r t s is room most = by-row (row_of p.rows r) refl (s
     by-row None e quiet = absurd quiet
     by-row (Some row) e quiet =
         let w : total weight p.rows ≡ total weight (without p.rows r) + 2 = omega (arith, total-without weight p.rows r row e, ap mark_weight quiet) in
-        let u = ap (λ (z : ℕ). unit R * z) w in
+        let u = ap (λ (z : ℕ). row_worth R * z) w in
         let n = length-without p.rows r row e in
         let m = most (omega (arith, n)) in
         (omega (arith, n), omega (arith, u, m))
@@ -151,7 +151,7 @@ looping-lower R x purpose fs p k s most = each (first_kid p.rows (Of x)) refl
         → Room R (frame.Free (Ending Ok)) (remove p x) k × (cost R (frame.Free (Ending Ok)) fs (remove p x) k < cost R (frame.Free (Looping x (Removal h))) fs p k)
     gone h r e former m =
         let w : total weight p.rows ≡ total weight (without p.rows x) + 1 = omega (arith, total-without weight p.rows x r e, ap mark_weight m) in
-        let u = ap (λ (z : ℕ). unit R * z) w in
+        let u = ap (λ (z : ℕ). row_worth R * z) w in
         let n = length-without p.rows x r e in
         (omega (arith, n), omega (arith, u))
 
@@ -200,25 +200,25 @@ handed-most x c noted f fs p s below =
     (λ t. rw t (let w' = rw was at w in omega (arith, w')))
     (λ t. rw t (let w' = rw was at w in omega (arith, w'))))
 
-pub tried-lower : (R : ℕ) (x c : Obj) (noted : Option Owner) (purpose : Purpose) (a : FreeReply) (fs : List Frame) (p : Pool) (k : ℕ) → Sound (frame.Free (Tried x c noted purpose a)) fs p
-    → Room R (frame.Free (Tried x c noted purpose a)) p k → Lowers R (cost R (frame.Free (Tried x c noted purpose a)) fs p k) (step (frame.Free (Tried x c noted purpose a)) p) fs k
+pub tried-lower : (R : ℕ) (x c : Obj) (noted : Option Owner) (purpose : Purpose) (a : FreeReply) (fs : List Frame) (p : Pool) (k : ℕ) → Sound (frame.Free (AfterChild x c noted purpose a)) fs p
+    → Room R (frame.Free (AfterChild x c noted purpose a)) p k → Lowers R (cost R (frame.Free (AfterChild x c noted purpose a)) fs p k) (step (frame.Free (AfterChild x c noted purpose a)) p) fs k
 tried-lower R x c noted purpose a fs p k s room = each a s
   where
-    moved : (b : FreeReply) → Sound (frame.Free (Tried x c noted purpose b)) fs p → is_below (owner_of p.rows c) (Of x) ≡ true
+    moved : (b : FreeReply) → Sound (frame.Free (AfterChild x c noted purpose b)) fs p → is_below (owner_of p.rows c) (Of x) ≡ true
         → (4 * count (place p (heir p.rows x c noted) c).rows (Of x) + 7 < 4 * count p.rows (Of x) + tried_cost b)
-        → Room R (frame.Free (Looping x purpose)) (place p (heir p.rows x c noted) c) k × (cost R (frame.Free (Looping x purpose)) fs (place p (heir p.rows x c noted) c) k < cost R (frame.Free (Tried x c noted purpose b)) fs p k)
+        → Room R (frame.Free (Looping x purpose)) (place p (heir p.rows x c noted) c) k × (cost R (frame.Free (Looping x purpose)) fs (place p (heir p.rows x c noted) c) k < cost R (frame.Free (AfterChild x c noted purpose b)) fs p k)
     moved b s below cheaper =
         let may = heir-placed x c noted _ fs p s below in
         let n = length-placed p (heir p.rows x c noted) c may.row may.is in
-        let u = ap (λ (z : ℕ). unit R * z) (total-placed weight p (heir p.rows x c noted) c may.row may.is refl) in
+        let u = ap (λ (z : ℕ). row_worth R * z) (total-placed weight p (heir p.rows x c noted) c may.row may.is refl) in
         (omega (arith, n), omega (arith, u, cheaper))
 
-    handed : (b : FreeReply) → tried_cost b ≡ 8 → Sound (frame.Free (Tried x c noted purpose b)) fs p → Lowers R (cost R (frame.Free (Tried x c noted purpose b)) fs p k) (lifted (hand_on_step x c noted purpose p)) fs k
+    handed : (b : FreeReply) → tried_cost b ≡ 8 → Sound (frame.Free (AfterChild x c noted purpose b)) fs p → Lowers R (cost R (frame.Free (AfterChild x c noted purpose b)) fs p k) (lifted (hand_on_step x c noted purpose p)) fs k
     handed b e s = by_test (is_below (owner_of p.rows c) (Of x))
         (λ t. rw t (moved b s t (let m = handed-most x c noted _ fs p s t in omega (arith, m, e))))
         (λ t. rw t (omega arith, omega (arith, e)))
 
-    each : (b : FreeReply) → Sound (frame.Free (Tried x c noted purpose b)) fs p → Lowers R (cost R (frame.Free (Tried x c noted purpose b)) fs p k) (step (frame.Free (Tried x c noted purpose b)) p) fs k
+    each : (b : FreeReply) → Sound (frame.Free (AfterChild x c noted purpose b)) fs p → Lowers R (cost R (frame.Free (AfterChild x c noted purpose b)) fs p k) (step (frame.Free (AfterChild x c noted purpose b)) p) fs k
     each Ok s = (omega arith, omega arith)
     each Held s = handed Held refl s
     each Running s = by_test (is_below (owner_of p.rows c) (Of x))
@@ -233,11 +233,11 @@ at_once-lower : (R : ℕ) (a : FreeReply) (x : Obj) (fs : List Frame) (p p' : Po
 at_once-lower R a x [] p p' k h t w e n m room = tt
 at_once-lower R a x (g ∷ gs) p p' k h t w e n m room = below g (waiter g gs w.0) t
   where
-    u : unit R * total weight p'.rows ≡ unit R * total weight p.rows
-    u = ap (λ (z : ℕ). unit R * z) e
+    u : row_worth R * total weight p'.rows ≡ row_worth R * total weight p.rows
+    u = ap (λ (z : ℕ). row_worth R * z) e
 
     runs : (y c : Obj) (noted : Option Owner) (purpose : Purpose) (a : FreeReply) → a ≡ Running
-        → Room R (frame.Free (Tried y c noted purpose a)) p' k × (cost R (frame.Free (Tried y c noted purpose a)) gs p' k < cost R (frame.Free (Beginning x)) (frame.Free (Trying y c noted purpose) ∷ gs) p k)
+        → Room R (frame.Free (AfterChild y c noted purpose a)) p' k × (cost R (frame.Free (AfterChild y c noted purpose a)) gs p' k < cost R (frame.Free (Beginning x)) (frame.Free (FreeingChild y c noted purpose) ∷ gs) p k)
     runs y c noted purpose Running is = (omega (arith, n), omega (arith, u, m y))
     runs y c noted purpose _ is = cc
 
@@ -275,7 +275,7 @@ beginning-lower R x fs p k s room = newest (newest_ref p.rows x) refl
     quiet : (r : Row) → row_of p.rows x ≡ Some r → r.mark ≡ Quiet → Lowers R (cost R (frame.Free (Beginning x)) fs p k) (lifted (begin_quiet x r.hook p)) fs k
     quiet r e m = by_test (nat_eq r.hook 0)
         (λ t. rw t (omega arith, omega arith))
-        (λ t. let u = ap (λ (z : ℕ). unit R * z) (total-kept weight (marked_row Asked) p.rows x r e (sym (ap mark_weight m))) in
+        (λ t. let u = ap (λ (z : ℕ). row_worth R * z) (total-kept weight (marked_row Asked) p.rows x r e (sym (ap mark_weight m))) in
         let n = length-changed (marked_row Asked) p.rows x in
         rw t (omega (arith, n), omega (arith, u)))
 
@@ -327,7 +327,7 @@ pub giving-lower : (R : ℕ) (x : Obj) (o : Owner) (fs : List Frame) (p : Pool) 
     → Lowers R (cost R (frame.Free (Giving x o)) fs p k) (step (frame.Free (Giving x o)) p) fs k
 giving-lower R x o fs p k s room =
     let n = length-placed p o x s.rests.row s.rests.is in
-    let u = ap (λ (z : ℕ). unit R * z) (total-placed weight p o x s.rests.row s.rests.is refl) in
+    let u = ap (λ (z : ℕ). row_worth R * z) (total-placed weight p o x s.rests.row s.rests.is refl) in
     (omega (arith, n), omega (arith, u))
 
 pub judged-lower : (R : ℕ) (x : Obj) (h v : ℕ) (fs : List Frame) (p : Pool) (k : ℕ) → Sound (frame.Free (Judged x h v)) fs p → Room R (frame.Free (Judged x h v)) p k
@@ -338,7 +338,7 @@ judged-lower R x h v fs p k s room =
   where
     by-row : (r : Row) → row_of p.rows x ≡ Some r → IsLive r.mark → Lowers R (cost R (frame.Free (Judged x h v)) fs p k) (lifted (judge_step x h v p)) fs k
     by-row r e live = by_test (nat_eq v 0)
-        (λ t. let u = ap (λ (z : ℕ). unit R * z) (total-kept weight (hooked_row 0) p.rows x r e refl) in
+        (λ t. let u = ap (λ (z : ℕ). row_worth R * z) (total-kept weight (hooked_row 0) p.rows x r e refl) in
         let n = length-changed (hooked_row 0) p.rows x in rw t (omega (arith, n), omega (arith, u)))
-        (λ t. let u = ap (λ (z : ℕ). unit R * z) (total-kept weight (marked_row Quiet) p.rows x r e (sym (live-weight r.mark live))) in
+        (λ t. let u = ap (λ (z : ℕ). row_worth R * z) (total-kept weight (marked_row Quiet) p.rows x r e (sym (live-weight r.mark live))) in
         let n = length-changed (marked_row Quiet) p.rows x in rw t (omega (arith, n), omega (arith, u)))

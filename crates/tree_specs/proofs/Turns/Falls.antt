@@ -10,7 +10,7 @@ use Rattle.tree_specs.specs.declared.question.Ask.{Ask}
 use Rattle.tree_specs.specs.declared.frame.Frame.{Frame}
 use Rattle.tree_specs.specs.declared.frame.Frame.TheVariants as frame
 use Rattle.tree_specs.specs.declared.frame.CallFrame.TheVariants.{Warning, Telling, Asking, Doing, Awaiting, Returning}
-use Rattle.tree_specs.specs.declared.frame.FreeFrame.TheVariants.{Hooked, Unlinking, Releasing, Giving, Beginning, Judged, Leaving, Looping, Trying, Tried, Ending}
+use Rattle.tree_specs.specs.declared.frame.FreeFrame.TheVariants.{Hooked, Unlinking, Releasing, Giving, Beginning, Judged, Leaving, Looping, FreeingChild, AfterChild, Ending}
 use Rattle.tree_specs.specs.declared.frame.Answer.{Answer}
 use Rattle.tree_specs.specs.Tree.Pool.{Pool}
 use Rattle.tree_specs.specs.Rules.Items.{Item}
@@ -19,7 +19,7 @@ use Rattle.tree_specs.specs.Calls.Plans.Plan.{Does, Frees, Unlinks, Empties}
 use Rattle.tree_specs.specs.Machine.Table.{table, step, plan_step}
 use Rattle.tree_specs.specs.Invariants.Sound.{Sound}
 use Rattle.tree_specs.specs.Tree.Inside.{total}
-use Rattle.tree_specs.specs.Invariants.Measure.{weight, unit, cost}
+use Rattle.tree_specs.specs.Invariants.Measure.{weight, row_worth, cost}
 use Rattle.tree_specs.proofs.Tree.Rows.{count-length}
 use Rattle.tree_specs.proofs.Calls.Plans.{May, follows, may-planned}
 use Rattle.tree_specs.proofs.Invariants.Keeps.{sound-kept}
@@ -29,9 +29,9 @@ use Rattle.tree_specs.proofs.Turns.FallingFrees.{Lowers, Room, asking-lower, beg
 planned-lower : (R : ℕ) (q : Ask) (c : Call) (fs : List Frame) (p : Pool) (k : ℕ) → Room R (frame.Call (Doing q c)) p k → (plan : Plan) → May p plan
     → Lowers R (cost R (frame.Call (Doing q c)) fs p k) (plan_step q plan p) fs k
 planned-lower R q c fs p k room (Does change None r) may =
-    let f = follows p change may.0 in let few = may.1 in let w : total weight (changed_by change p).rows ≤ total weight p.rows + 4 = omega (arith, f.weight) in let u = mul-le-mul_left (unit R) w in (omega (arith, f.number), omega (arith, u))
+    let f = follows p change may.0 in let few = may.1 in let w : total weight (changed_by change p).rows ≤ total weight p.rows + 4 = omega (arith, f.weight) in let u = mul-le-mul_left (row_worth R) w in (omega (arith, f.number), omega (arith, u))
 planned-lower R q c fs p k room (Does change (Some x) r) may =
-    let f = follows p change may.0 in let few = may.1 in let w : total weight (changed_by change p).rows ≤ total weight p.rows + 4 = omega (arith, f.weight) in let u = mul-le-mul_left (unit R) w in (omega (arith, f.number), omega (arith, u))
+    let f = follows p change may.0 in let few = may.1 in let w : total weight (changed_by change p).rows ≤ total weight p.rows + 4 = omega (arith, f.weight) in let u = mul-le-mul_left (row_worth R) w in (omega (arith, f.number), omega (arith, u))
 planned-lower R q c fs p k room (Frees x) may = (omega arith, omega arith)
 planned-lower R q c fs p k room (Unlinks o x) may = (omega arith, omega arith)
 planned-lower R q c fs p k room (Empties x) may = let m = count-length p.rows (Of x) in (omega arith, omega arith)
@@ -48,7 +48,7 @@ lower R (frame.Free (Beginning x)) fs p k s room = beginning-lower R x fs p k s 
 lower R (frame.Free (Judged x h v)) fs p k s room = judged-lower R x h v fs p k s room
 lower R (frame.Free (Leaving x h)) fs p k s room = leaving-lower R x h fs p k s room
 lower R (frame.Free (Looping x purpose)) fs p k s room = looping-lower R x purpose fs p k s room
-lower R (frame.Free (Tried x c noted purpose a)) fs p k s room = tried-lower R x c noted purpose a fs p k s room
+lower R (frame.Free (AfterChild x c noted purpose a)) fs p k s room = tried-lower R x c noted purpose a fs p k s room
 lower R (frame.Free (Ending answer)) fs p k s room = ending-lower R answer fs p k s room
 lower R (frame.Call (Warning q x r)) fs p k s room = (omega arith, omega arith)
 lower R (frame.Call (Telling q r)) fs p k s room = (omega arith, omega arith)

@@ -26,7 +26,7 @@ use Rattle.tree_specs.specs.declared.frame.Frame.{Frame}
 use Rattle.tree_specs.specs.declared.frame.Frame.TheVariants as frame
 use Rattle.tree_specs.specs.declared.frame.CallFrame.TheVariants.{Asking, Doing, Awaiting, Warning, Telling, Returning}
 use Rattle.tree_specs.specs.declared.frame.FreeFrame.{FreeFrame}
-use Rattle.tree_specs.specs.declared.frame.FreeFrame.TheVariants.{Unlinking, Releasing, Giving, Beginning, Hooked, Judged, Leaving, Looping, Trying, Tried, Ending}
+use Rattle.tree_specs.specs.declared.frame.FreeFrame.TheVariants.{Unlinking, Releasing, Giving, Beginning, Hooked, Judged, Leaving, Looping, FreeingChild, AfterChild, Ending}
 use Rattle.tree_specs.specs.declared.frame.Purpose.{Purpose}
 use Rattle.tree_specs.specs.declared.frame.Purpose.TheVariants.{Removal, Emptying}
 use Rattle.tree_specs.specs.declared.frame.Answer.{Answer}
@@ -42,7 +42,7 @@ use Rattle.tree_specs.proofs.Tree.Numbered.{by_test}
 use Rattle.tree_specs.specs.Machine.Profiles.{Waits, ARun, profile}
 use Rattle.tree_specs.proofs.Calls.Checks.{Heard, HeardCall, HeardReturn, heard-leads}
 use Rattle.tree_specs.specs.Rules.Story.{later}
-use Rattle.tree_specs.specs.Invariants.Whole.{IsQuiet, IsOfRoutine, IsCaller, IsRun, IsFree, Seat, Serves, Seated, size, innermost_size, sizes, mark_burden, burden, Light}
+use Rattle.tree_specs.specs.Invariants.Consistent.{IsQuiet, IsOfRoutine, IsCaller, IsRun, IsFree, MayStandOn, Serves, IsStacked, size, innermost_size, sizes, mark_deposit, deposit, IsPaidFor}
 use Rattle.tree_specs.specs.Tree.Inside.{total}
 use Rattle.tree_specs.proofs.Tree.Rows.{total-without, total-placed, total-changed}
 use Rattle.tree_specs.proofs.Invariants.Waiters.{Waiter, ForFree, ForRun, ForChild, waiter}
@@ -51,11 +51,11 @@ use Rattle.tree_specs.proofs.Turns.FallingFrees.{total-kept}
 
 -- what a move leads to stands where it may, and is light
 abbrev pub Placed : Move Frame Answer Pool Item → List Frame → ℕ → Type 0
-Placed m fs k = Leads table (λ g gs q j. Seated g gs × Light g gs q) m fs k
+Placed m fs k = Leads table (λ g gs q j. IsStacked g gs × IsPaidFor g gs q) m fs k
 
 -- ---- a work in the place of another
 
-pub reseat : (f g : Frame) (fs : List Frame) → (IsCaller f → IsCaller g) → (IsRun f → IsRun g) → (IsFree f → IsFree g) → Seated f fs → Seated g fs
+pub reseat : (f g : Frame) (fs : List Frame) → (IsCaller f → IsCaller g) → (IsRun f → IsRun g) → (IsFree f → IsFree g) → IsStacked f fs → IsStacked g fs
 reseat f g [] c r k s = c s
 reseat f g (h ∷ hs) c r k s = (serve (profile h).waits s.0, s.1)
   where
@@ -63,7 +63,7 @@ reseat f g (h ∷ hs) c r k s = (serve (profile h).waits s.0, s.1)
     serve (ARun x h) s = r s
     serve _ s = k s
 
-pub reseat-free : (f g : FreeFrame) (fs : List Frame) → Seated (frame.Free f) fs → Seated (frame.Free g) fs
+pub reseat-free : (f g : FreeFrame) (fs : List Frame) → IsStacked (frame.Free f) fs → IsStacked (frame.Free g) fs
 reseat-free f g fs s = reseat (frame.Free f) (frame.Free g) fs (λ c. c) (λ r. r) (λ k. tt) s
 
 quiet-later : (q : Ask) (r : Reply) → IsQuiet q → IsQuiet (later q r)
@@ -78,61 +78,61 @@ not-both : (q : Ask) → IsQuiet q → IsOfRoutine q → ⊥
 not-both asks.Quiet h k = k
 not-both _ h k = h
 
-reseat-told : (q : Ask) (c : Call) (r : Reply) (fs : List Frame) → Seated (frame.Call (Doing q c)) fs → Seated (frame.Call (Telling (later q r) r)) fs
+reseat-told : (q : Ask) (c : Call) (r : Reply) (fs : List Frame) → IsStacked (frame.Call (Doing q c)) fs → IsStacked (frame.Call (Telling (later q r) r)) fs
 reseat-told q c r fs s = reseat (frame.Call (Doing q c)) (frame.Call (Telling (later q r) r)) fs (quiet-later q r) (routine-later q r) (λ k. k) s
 
-resumed-seated : (g : Frame) (gs : List Frame) (a : Answer) → Waiter g → Seated g gs → Seated (resume g a) gs
+resumed-seated : (g : Frame) (gs : List Frame) (a : Answer) → Waiter g → IsStacked g gs → IsStacked (resume g a) gs
 resumed-seated _ gs a (ForFree q x) s = reseat (frame.Call (Awaiting q x)) (resume (frame.Call (Awaiting q x)) a) gs (quiet-later q _) (routine-later q _) (λ k. k) s
 resumed-seated _ gs a (ForRun x h) s = reseat-free (Hooked x h) _ gs s
-resumed-seated _ gs a (ForChild x c noted purpose) s = reseat-free (Trying x c noted purpose) _ gs s
+resumed-seated _ gs a (ForChild x c noted purpose) s = reseat-free (FreeingChild x c noted purpose) _ gs s
 
 run-size : (f : Frame) → IsRun f → innermost_size f ≡ 2
 run-size (frame.Call f) r = refl
 run-size _ r = absurd r
 
 -- a work that goes on is no larger than it and the work that has ended
-size-resume : (f g : Frame) (gs : List Frame) (a : Answer) → Waiter g → Seat f (g ∷ gs) → innermost_size (resume g a) ≤ size g + innermost_size f
+size-resume : (f g : Frame) (gs : List Frame) (a : Answer) → Waiter g → MayStandOn f (g ∷ gs) → innermost_size (resume g a) ≤ size g + innermost_size f
 size-resume f _ gs a (ForFree q x) s = omega arith
 size-resume f _ gs a (ForChild x c noted purpose) s = omega arith
 size-resume f _ gs a (ForRun x h) s = let n = run-size f s in omega (arith, n)
 
--- a work that ends, over rows whose burden is as great
-over : (a : Answer) (f : Frame) (fs : List Frame) (p : Pool) (k : ℕ) → AllWait fs → Seated f fs → Light f fs p → Placed (Do.Done a p) fs k
+-- a work that ends, over rows whose deposit is as great
+over : (a : Answer) (f : Frame) (fs : List Frame) (p : Pool) (k : ℕ) → AllWait fs → IsStacked f fs → IsPaidFor f fs p → Placed (Do.Done a p) fs k
 over a f [] p k w s l = tt
 over a f (g ∷ gs) p k w s l = let waits = waiter g gs w.0 in (resumed-seated g gs a waits s.1, omega (arith, l, size-resume f g gs a waits s.0))
 
-asking-placed : (q : Ask) (fs : List Frame) (p : Pool) (k : ℕ) → Seated (frame.Call (Asking q)) fs → Light (frame.Call (Asking q)) fs p → Placed (step (frame.Call (Asking q)) p) fs k
+asking-placed : (q : Ask) (fs : List Frame) (p : Pool) (k : ℕ) → IsStacked (frame.Call (Asking q)) fs → IsPaidFor (frame.Call (Asking q)) fs p → Placed (step (frame.Call (Asking q)) p) fs k
 asking-placed q fs p zero s l = tt
 asking-placed q fs p (suc k) s l = λ i g e. leads g (heard-leads q i g e)
   where
-    leads : (g : Frame) → Heard q g → Seated g fs × Light g fs p
+    leads : (g : Frame) → Heard q g → IsStacked g fs × IsPaidFor g fs p
     leads _ (HeardCall c) = (reseat (frame.Call (Asking q)) (frame.Call (Doing q c)) fs (λ z. z) (λ z. z) (λ z. z) s, l)
     leads _ (HeardReturn v of) = (reseat (frame.Call (Asking q)) (frame.Call (Returning v)) fs (λ z. not-both q z of) (λ z. tt) (λ z. z) s, l)
 
 -- the first step of a plan that may be carried out
-planned-placed : (q : Ask) (c : Call) (fs : List Frame) (p : Pool) (k : ℕ) → Seated (frame.Call (Doing q c)) fs → Light (frame.Call (Doing q c)) fs p → (plan : Plan) → May p plan → Placed (plan_step q plan p) fs k
+planned-placed : (q : Ask) (c : Call) (fs : List Frame) (p : Pool) (k : ℕ) → IsStacked (frame.Call (Doing q c)) fs → IsPaidFor (frame.Call (Doing q c)) fs p → (plan : Plan) → May p plan → Placed (plan_step q plan p) fs k
 planned-placed q c fs p k s l plan may = each plan may
   where
-    awaits : (x : Obj) → Seated (frame.Call (Awaiting q x)) fs
+    awaits : (x : Obj) → IsStacked (frame.Call (Awaiting q x)) fs
     awaits x = reseat (frame.Call (Doing q c)) (frame.Call (Awaiting q x)) fs (λ z. z) (λ z. z) (λ z. z) s
 
     each : (plan : Plan) → May p plan → Placed (plan_step q plan p) fs k
-    each (Does change None r) may = (reseat-told q c r fs s, omega (arith, l, (follows p change may.0).burden))
-    each (Does change (Some x) r) may = (reseat (frame.Call (Doing q c)) (frame.Call (Warning (later q r) x r)) fs (quiet-later q r) (routine-later q r) (λ z. z) s, omega (arith, l, (follows p change may.0).burden))
+    each (Does change None r) may = (reseat-told q c r fs s, omega (arith, l, (follows p change may.0).deposit))
+    each (Does change (Some x) r) may = (reseat (frame.Call (Doing q c)) (frame.Call (Warning (later q r) x r)) fs (quiet-later q r) (routine-later q r) (λ z. z) s, omega (arith, l, (follows p change may.0).deposit))
     each (Frees x) may = ((tt, awaits x), omega (arith, l))
     each (Unlinks o x) may = ((tt, awaits x), omega (arith, l))
     each (Empties x) may = ((tt, awaits x), omega (arith, l))
 
 -- a reference bears nothing
 dropped-placed : (f g : FreeFrame) (fs : List Frame) (p : Pool) (k : ℕ) (r t : Obj) (e : Item) → Refers p.rows → target_at p.rows r ≡ Some t → innermost_size (frame.Free g) ≤ innermost_size (frame.Free f)
-    → Seated (frame.Free f) fs → Light (frame.Free f) fs p → Placed (Do.Emit e (frame.Free g) (remove p r)) fs k
+    → IsStacked (frame.Free f) fs → IsPaidFor (frame.Free f) fs p → Placed (Do.Emit e (frame.Free g) (remove p r)) fs k
 dropped-placed f g fs p k r t e refers is less s l = by-row (row_of p.rows r) refl (refers.quiet r t is)
   where
     by-row : (q : Option Row) → row_of p.rows r ≡ q → IsQuietRow q → Placed (Do.Emit e (frame.Free g) (remove p r)) fs k
     by-row None q quiet = absurd quiet
-    by-row (Some row) q quiet = let w = total-without burden p.rows r row q in (reseat-free f g fs s, omega (arith, w, l, less, ap mark_burden quiet))
+    by-row (Some row) q quiet = let w = total-without deposit p.rows r row q in (reseat-free f g fs s, omega (arith, w, l, less, ap mark_deposit quiet))
 
-beginning-placed : (x : Obj) (fs : List Frame) (p : Pool) (k : ℕ) → Sound (frame.Free (Beginning x)) fs p → Seated (frame.Free (Beginning x)) fs → Light (frame.Free (Beginning x)) fs p
+beginning-placed : (x : Obj) (fs : List Frame) (p : Pool) (k : ℕ) → Sound (frame.Free (Beginning x)) fs p → IsStacked (frame.Free (Beginning x)) fs → IsPaidFor (frame.Free (Beginning x)) fs p
     → Placed (step (frame.Free (Beginning x)) p) fs k
 beginning-placed x fs p k sound s l = newest (newest_ref p.rows x) refl
   where
@@ -142,14 +142,14 @@ beginning-placed x fs p k sound s l = newest (newest_ref p.rows x) refl
     quiet : (r : Row) → row_of p.rows x ≡ Some r → r.mark ≡ Quiet → Placed (lifted (begin_quiet x r.hook p)) fs k
     quiet r e m = by_test (nat_eq r.hook 0)
         (λ t. rw t (reseat-free (Beginning x) (Leaving x 0) fs s, l))
-        (λ t. let u = total-changed burden (marked_row Asked) p.rows x r e in
-        rw t (reseat-free (Beginning x) (Hooked x r.hook) fs s, omega (arith, u, l, ap mark_burden m)))
+        (λ t. let u = total-changed deposit (marked_row Asked) p.rows x r e in
+        rw t (reseat-free (Beginning x) (Hooked x r.hook) fs s, omega (arith, u, l, ap mark_deposit m)))
 
     marks : (r : Row) (m : Mark) → r.mark ≡ m → row_of p.rows x ≡ Some r → Placed (lifted (begin_step x (row_of p.rows x) p)) fs k
     marks r Quiet m e = rw (e, m) (quiet r e m)
     marks r Asked m e = rw (e, m) (done Running)
     marks r Busy m e =
-        let u : total burden (changed (marked_row Doomed) p.rows x) ≡ total burden p.rows = total-kept burden (marked_row Doomed) p.rows x r e (sym (ap mark_burden m)) in
+        let u : total deposit (changed (marked_row Doomed) p.rows x) ≡ total deposit p.rows = total-kept deposit (marked_row Doomed) p.rows x r e (sym (ap mark_deposit m)) in
         rw (e, m) (over (Freed Running) (frame.Free (Beginning x)) fs (set_mark p x Doomed) k sound.waiting s (omega (arith, u, l)))
     marks r Doomed m e = rw (e, m) (done Running)
     marks r (Dying former) m e = rw (e, m) (done Ok)
@@ -167,7 +167,7 @@ beginning-placed x fs p k sound s l = newest (newest_ref p.rows x) refl
         (λ t. rw t (dropped-placed (Beginning x) (Beginning x) fs p k r x (Told (Unreferenced r x)) sound.refers is (omega arith) s l))
         (λ t. rw t (dropped-placed (Beginning x) (Ending Held) fs p k r x (Told (Unreferenced r x)) sound.refers is (omega arith) s l)))
 
-unlinking-placed : (o : Owner) (x : Obj) (fs : List Frame) (p : Pool) (k : ℕ) → Sound (frame.Free (Unlinking o x)) fs p → Seated (frame.Free (Unlinking o x)) fs → Light (frame.Free (Unlinking o x)) fs p
+unlinking-placed : (o : Owner) (x : Obj) (fs : List Frame) (p : Pool) (k : ℕ) → Sound (frame.Free (Unlinking o x)) fs p → IsStacked (frame.Free (Unlinking o x)) fs → IsPaidFor (frame.Free (Unlinking o x)) fs p
     → Placed (step (frame.Free (Unlinking o x)) p) fs k
 unlinking-placed o x fs p k sound s l = each (newest_ref_of p.rows o x) refl
   where
@@ -175,7 +175,7 @@ unlinking-placed o x fs p k sound s l = each (newest_ref_of p.rows o x) refl
     each None e = rw e (reseat-free (Unlinking o x) (Releasing x) fs s, l)
     each (Some r) e = let w = newest-of-refers p.rows o x r sound.forest.distinct e in rw e (dropped-placed (Unlinking o x) (Ending Ok) fs p k r x (Told (Unreferenced r x)) sound.refers (rw w.1 w.2) (omega arith) s l)
 
-releasing-placed : (x : Obj) (fs : List Frame) (p : Pool) (k : ℕ) → Sound (frame.Free (Releasing x)) fs p → Seated (frame.Free (Releasing x)) fs → Light (frame.Free (Releasing x)) fs p
+releasing-placed : (x : Obj) (fs : List Frame) (p : Pool) (k : ℕ) → Sound (frame.Free (Releasing x)) fs p → IsStacked (frame.Free (Releasing x)) fs → IsPaidFor (frame.Free (Releasing x)) fs p
     → Placed (step (frame.Free (Releasing x)) p) fs k
 releasing-placed x fs p k sound s l = each (newest_ref p.rows x) refl
   where
@@ -188,11 +188,11 @@ releasing-placed x fs p k sound s l = each (newest_ref p.rows x) refl
         (λ t. rw t (dropped-placed (Releasing x) (Releasing x) fs p k r x (Told (Unreferenced r x)) sound.refers is (omega arith) s l))
         (λ t. rw t (dropped-placed (Releasing x) (Giving x (unwrap_or (owner_of p.rows r) Root)) fs p k r x (Told (Unreferenced r x)) sound.refers is (omega arith) s l)))
 
-pub mark_burden-most : (m : Mark) → mark_burden m ≤ 3
-mark_burden-most Quiet = omega arith
-mark_burden-most _ = omega arith
+pub mark_deposit-most : (m : Mark) → mark_deposit m ≤ 3
+mark_deposit-most Quiet = omega arith
+mark_deposit-most _ = omega arith
 
-judged-placed : (x : Obj) (h v : ℕ) (fs : List Frame) (p : Pool) (k : ℕ) → Sound (frame.Free (Judged x h v)) fs p → Seated (frame.Free (Judged x h v)) fs → Light (frame.Free (Judged x h v)) fs p
+judged-placed : (x : Obj) (h v : ℕ) (fs : List Frame) (p : Pool) (k : ℕ) → Sound (frame.Free (Judged x h v)) fs p → IsStacked (frame.Free (Judged x h v)) fs → IsPaidFor (frame.Free (Judged x h v)) fs p
     → Placed (step (frame.Free (Judged x h v)) p) fs k
 judged-placed x h v fs p k s seats l =
     let row = running-row (row_of p.rows x) (claims x fs) (claim-here x InRun (claims x fs) (row_of p.rows x) (s.open_frees x)) in
@@ -200,65 +200,65 @@ judged-placed x h v fs p k s seats l =
   where
     by-row : (r : Row) → row_of p.rows x ≡ Some r → Placed (lifted (judge_step x h v p)) fs k
     by-row r e = by_test (nat_eq v 0)
-        (λ t. let u = total-kept burden (hooked_row 0) p.rows x r e refl in
+        (λ t. let u = total-kept deposit (hooked_row 0) p.rows x r e refl in
         rw t (reseat-free (Judged x h v) (Leaving x h) fs seats, by_test (nat_eq h 0) (λ y. rw y (omega (arith, u, l))) (λ y. rw y (omega (arith, u, l)))))
-        (λ t. let u = total-changed burden (marked_row Quiet) p.rows x r e in
-        rw t (reseat-free (Judged x h v) (Ending (Refused v)) fs seats, omega (arith, u, l, mark_burden-most r.mark)))
+        (λ t. let u = total-changed deposit (marked_row Quiet) p.rows x r e in
+        rw t (reseat-free (Judged x h v) (Ending (Refused v)) fs seats, omega (arith, u, l, mark_deposit-most r.mark)))
 
-leaving-placed : (x : Obj) (h : ℕ) (fs : List Frame) (p : Pool) (k : ℕ) → Sound (frame.Free (Leaving x h)) fs p → Seated (frame.Free (Leaving x h)) fs → Light (frame.Free (Leaving x h)) fs p
+leaving-placed : (x : Obj) (h : ℕ) (fs : List Frame) (p : Pool) (k : ℕ) → Sound (frame.Free (Leaving x h)) fs p → IsStacked (frame.Free (Leaving x h)) fs → IsPaidFor (frame.Free (Leaving x h)) fs p
     → Placed (step (frame.Free (Leaving x h)) p) fs k
 leaving-placed x h fs p k s seats l = (reseat-free (Leaving x h) (Looping x (Removal h)) fs seats, lighter s.rests.0 s.rests.1 s.rests.3)
   where
-    calm : (m : Mark) → [] ≡ phase_of m → mark_burden m ≡ 0
+    calm : (m : Mark) → [] ≡ phase_of m → mark_deposit m ≡ 0
     calm Quiet e = refl
     calm _ e = cc
 
-    lighter : (r : Row) → row_of p.rows x ≡ Some r → claims x fs ≡ [] → Light (frame.Free (Looping x (Removal h))) fs (record p { rows = changed left_row p.rows x })
-    lighter r e none = let w = total-changed burden left_row p.rows x r e in by_test (nat_eq h 0)
+    lighter : (r : Row) → row_of p.rows x ≡ Some r → claims x fs ≡ [] → IsPaidFor (frame.Free (Looping x (Removal h))) fs (record p { rows = changed left_row p.rows x })
+    lighter r e none = let w = total-changed deposit left_row p.rows x r e in by_test (nat_eq h 0)
         (λ t. let o : claims x fs ≡ phases (row_of p.rows x) = rw t at (s.open_frees x) in
-        let i : mark_burden r.mark ≡ 0 = calm r.mark (sym none ∙ o ∙ ap phases e) in
-        let l' : 0 + sizes fs ≤ total burden p.rows + 2 = rw t at l in omega (arith, w, i, l'))
-        (λ t. let l' : 3 + sizes fs ≤ total burden p.rows + 2 = rw t at l in omega (arith, w, mark_burden-most r.mark, l'))
+        let i : mark_deposit r.mark ≡ 0 = calm r.mark (sym none ∙ o ∙ ap phases e) in
+        let l' : 0 + sizes fs ≤ total deposit p.rows + 2 = rw t at l in omega (arith, w, i, l'))
+        (λ t. let l' : 3 + sizes fs ≤ total deposit p.rows + 2 = rw t at l in omega (arith, w, mark_deposit-most r.mark, l'))
 
-looping-placed : (x : Obj) (purpose : Purpose) (fs : List Frame) (p : Pool) (k : ℕ) → Sound (frame.Free (Looping x purpose)) fs p → Seated (frame.Free (Looping x purpose)) fs
-    → Light (frame.Free (Looping x purpose)) fs p → Placed (step (frame.Free (Looping x purpose)) p) fs k
+looping-placed : (x : Obj) (purpose : Purpose) (fs : List Frame) (p : Pool) (k : ℕ) → Sound (frame.Free (Looping x purpose)) fs p → IsStacked (frame.Free (Looping x purpose)) fs
+    → IsPaidFor (frame.Free (Looping x purpose)) fs p → Placed (step (frame.Free (Looping x purpose)) p) fs k
 looping-placed x purpose fs p k s seats l = each (first_kid p.rows (Of x))
   where
-    last : (purpose : Purpose) → Sound (frame.Free (Looping x purpose)) fs p → Seated (frame.Free (Looping x purpose)) fs → Light (frame.Free (Looping x purpose)) fs p
+    last : (purpose : Purpose) → Sound (frame.Free (Looping x purpose)) fs p → IsStacked (frame.Free (Looping x purpose)) fs → IsPaidFor (frame.Free (Looping x purpose)) fs p
         → Placed (lifted (last_step x purpose p)) fs k
     last (Removal h) s seats l =
         let row = dying-row (row_of p.rows x) (claims x fs) (claim-here x InLoop (claims x fs) (row_of p.rows x) (s.open_frees x)) in
-        let w = total-without burden p.rows x row.0 row.1 in
-        let i : burden row.0 ≡ 3 = ap mark_burden row.3 in
+        let w = total-without deposit p.rows x row.0 row.1 in
+        let i : deposit row.0 ≡ 3 = ap mark_deposit row.3 in
         (reseat-free (Looping x (Removal h)) (Ending Ok) fs seats, omega (arith, w, i, l))
     last Emptying s seats l = over (Freed Ok) (frame.Free (Looping x Emptying)) fs p k s.waiting seats l
 
     child : (c : Obj) (o : Option Obj) → target_at p.rows c ≡ o → Placed (lifted (child_step x c purpose o p)) fs k
-    child c None e = ((tt, reseat-free (Looping x purpose) (Trying x c (noted_owner p.rows c) purpose) fs seats), omega (arith, l))
+    child c None e = ((tt, reseat-free (Looping x purpose) (FreeingChild x c (noted_owner p.rows c) purpose) fs seats), omega (arith, l))
     child c (Some t) e = dropped-placed (Looping x purpose) (Looping x purpose) fs p k c t (Told (Unreferenced c t)) s.refers e (omega arith) seats l
 
     each : (o : Option Obj) → Placed (lifted (loop_step x purpose o p)) fs k
     each (Some c) = child c (target_at p.rows c) refl
     each None = last purpose s seats l
 
-tried-placed : (x c : Obj) (noted : Option Owner) (purpose : Purpose) (a : FreeReply) (fs : List Frame) (p : Pool) (k : ℕ) → Sound (frame.Free (Tried x c noted purpose a)) fs p → Seated (frame.Free (Tried x c noted purpose a)) fs
-    → Light (frame.Free (Tried x c noted purpose a)) fs p → Placed (step (frame.Free (Tried x c noted purpose a)) p) fs k
+tried-placed : (x c : Obj) (noted : Option Owner) (purpose : Purpose) (a : FreeReply) (fs : List Frame) (p : Pool) (k : ℕ) → Sound (frame.Free (AfterChild x c noted purpose a)) fs p → IsStacked (frame.Free (AfterChild x c noted purpose a)) fs
+    → IsPaidFor (frame.Free (AfterChild x c noted purpose a)) fs p → Placed (step (frame.Free (AfterChild x c noted purpose a)) p) fs k
 tried-placed x c noted purpose a fs p k s seats l = each a
   where
-    on : Seated (frame.Free (Looping x purpose)) fs
-    on = reseat-free (Tried x c noted purpose a) (Looping x purpose) fs seats
+    on : IsStacked (frame.Free (Looping x purpose)) fs
+    on = reseat-free (AfterChild x c noted purpose a) (Looping x purpose) fs seats
 
     handed : Placed (lifted (hand_on_step x c noted purpose p)) fs k
     handed = by_test (is_below (owner_of p.rows c) (Of x))
         (λ t. let may = heir-placed x c noted _ fs p s t in
-        let w = total-placed burden p (heir p.rows x c noted) c may.row may.is refl in rw t (on, omega (arith, w, l)))
+        let w = total-placed deposit p (heir p.rows x c noted) c may.row may.is refl in rw t (on, omega (arith, w, l)))
         (λ t. rw t (on, l))
 
-    each : (b : FreeReply) → Placed (step (frame.Free (Tried x c noted purpose b)) p) fs k
+    each : (b : FreeReply) → Placed (step (frame.Free (AfterChild x c noted purpose b)) p) fs k
     each Ok = (on, l)
     each _ = handed
 
-pub placed-kept : (f : Frame) (fs : List Frame) (p : Pool) (k : ℕ) → Sound f fs p → Seated f fs → Light f fs p → Placed (step f p) fs k
+pub placed-kept : (f : Frame) (fs : List Frame) (p : Pool) (k : ℕ) → Sound f fs p → IsStacked f fs → IsPaidFor f fs p → Placed (step f p) fs k
 placed-kept (frame.Call (Asking q)) fs p k s b l = asking-placed q fs p k b l
 placed-kept (frame.Call (Doing q c)) fs p k s b l = planned-placed q c fs p k b l (planned p c) (may-planned (frame.Call (Doing q c)) fs p s c)
 placed-kept (frame.Call (Warning q x r)) fs p k s b l = (reseat (frame.Call (Warning q x r)) (frame.Call (Telling q r)) fs (λ z. z) (λ z. z) (λ z. z) b, l)
@@ -266,12 +266,12 @@ placed-kept (frame.Call (Telling q r)) fs p k s b l = (reseat (frame.Call (Telli
 placed-kept (frame.Call (Returning v)) fs p k s b l = over (Returned v) (frame.Call (Returning v)) fs p k s.waiting b l
 placed-kept (frame.Free (Unlinking o x)) fs p k s b l = unlinking-placed o x fs p k s b l
 placed-kept (frame.Free (Releasing x)) fs p k s b l = releasing-placed x fs p k s b l
-placed-kept (frame.Free (Giving x o)) fs p k s b l = let w = total-placed burden p o x s.rests.row s.rests.is refl in (reseat-free (Giving x o) (Ending Ok) fs b, omega (arith, w, l))
+placed-kept (frame.Free (Giving x o)) fs p k s b l = let w = total-placed deposit p o x s.rests.row s.rests.is refl in (reseat-free (Giving x o) (Ending Ok) fs b, omega (arith, w, l))
 placed-kept (frame.Free (Beginning x)) fs p k s b l = beginning-placed x fs p k s b l
 placed-kept (frame.Free (Hooked x h)) fs p k s b l = ((tt, b), omega (arith, l))
 placed-kept (frame.Free (Judged x h v)) fs p k s b l = judged-placed x h v fs p k s b l
 placed-kept (frame.Free (Leaving x h)) fs p k s b l = leaving-placed x h fs p k s b l
 placed-kept (frame.Free (Looping x purpose)) fs p k s b l = looping-placed x purpose fs p k s b l
-placed-kept (frame.Free (Tried x c noted purpose a)) fs p k s b l = tried-placed x c noted purpose a fs p k s b l
+placed-kept (frame.Free (AfterChild x c noted purpose a)) fs p k s b l = tried-placed x c noted purpose a fs p k s b l
 placed-kept (frame.Free (Ending answer)) fs p k s b l = over (Freed answer) (frame.Free (Ending answer)) fs p k s.waiting b l
 placed-kept _ fs p k s b l = absurd s.rests

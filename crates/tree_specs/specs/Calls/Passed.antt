@@ -5,7 +5,7 @@ use Rattle.tree_specs.specs.declared.object.Owner.{Owner}
 use Rattle.tree_specs.specs.declared.object.Owner.TheVariants.{Of}
 use Rattle.tree_specs.specs.declared.row.Row.{Row}
 use Rattle.tree_specs.specs.declared.test.Test.{Test}
-use Rattle.tree_specs.specs.declared.test.Test.TheVariants.{IsSmall, IsObject, IsOwner, IsPlain, HasRoom, Fits, MayGrow, IsStaying, IsStill, IsApart, IsUnheld, IsUnreferenced, IsInterested, MayGive}
+use Rattle.tree_specs.specs.declared.test.Test.TheVariants.{IsSmall, IsObject, IsOwner, IsPlain, HasRoom, Fits, MayGrow, IsNotDying, IsNotRunning, IsNotInside, IsUnheld, IsUnreferenced, IsInterested, MayGive}
 use Rattle.tree_specs.specs.Tree.Targets.{target_of}
 use Rattle.tree_specs.specs.Tree.Pool.{Pool, row_of, is_owner, is_below, owner_of, newest_ref_of, is_dying, is_inside}
 use Rattle.tree_specs.specs.Tree.Reports.{count_refs}
@@ -29,9 +29,9 @@ Passed p (IsPlain x) = is_plain_row (row_of p.rows x) ≡ true
 Passed p (HasRoom k) = (length p.rows + k ≤ row_limit) × (p.next + k < 2 ^ 64)
 Passed p (Fits o wanted) = fits p o wanted ≡ []
 Passed p (MayGrow x size) = growing p x size ≡ []
-Passed p (IsStaying x) = is_dying p.rows x ≡ false
-Passed p (IsStill x) = is_running p x ≡ false
-Passed p (IsApart x o) = is_inside p.rows o (Of x) ≡ false
+Passed p (IsNotDying x) = is_dying p.rows x ≡ false
+Passed p (IsNotRunning x) = is_running p x ≡ false
+Passed p (IsNotInside x o) = is_inside p.rows o (Of x) ≡ false
 Passed p (IsUnheld x) = is_held p x ≡ false
 Passed p (IsUnreferenced x) = count_refs p.rows x ≡ 0
 Passed p (IsInterested o x) = Interest p o x

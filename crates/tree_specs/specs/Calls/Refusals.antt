@@ -12,7 +12,7 @@ use Rattle.tree_specs.specs.declared.row.Mark.TheVariants as mark
 use Rattle.tree_specs.specs.declared.call.Call.{Call}
 use Rattle.tree_specs.specs.declared.call.Call.TheVariants.{New, Free, Freekids, Steal, Move, Reparent, Reference as Refer, Unlink, Hook, Unhook, Rename, Resize, Limit, Parent, Total, Count, Sum, Report}
 use Rattle.tree_specs.specs.declared.test.Test.{Test}
-use Rattle.tree_specs.specs.declared.test.Test.TheVariants.{IsSmall, IsObject, IsOwner, IsPlain, HasRoom, Fits, MayGrow, IsStaying, IsStill, IsApart, IsUnheld, IsUnreferenced, IsInterested, MayGive}
+use Rattle.tree_specs.specs.declared.test.Test.TheVariants.{IsSmall, IsObject, IsOwner, IsPlain, HasRoom, Fits, MayGrow, IsNotDying, IsNotRunning, IsNotInside, IsUnheld, IsUnreferenced, IsInterested, MayGive}
 use Rattle.tree_specs.specs.declared.reply.Refusal.{Refusal}
 use Rattle.tree_specs.specs.declared.reply.Refusal.TheVariants.{NoSuch, WrongKind, Running, Held, NotParent, Loop, Dying, OverLimit, Full, Spent, TooBig}
 use Rattle.tree_specs.specs.Tree.Pool.{Pool, row_of, is_below, owner_of, newest_ref_of, is_dying, is_inside}
@@ -164,9 +164,9 @@ refusal_of p (IsPlain x) = plain p x
 refusal_of p (HasRoom k) = room p k
 refusal_of p (Fits o wanted) = fits p o wanted
 refusal_of p (MayGrow x size) = growing p x size
-refusal_of p (IsStaying x) = staying p x
-refusal_of p (IsStill x) = still p x
-refusal_of p (IsApart x o) = apart p x o
+refusal_of p (IsNotDying x) = staying p x
+refusal_of p (IsNotRunning x) = still p x
+refusal_of p (IsNotInside x o) = apart p x o
 refusal_of p (IsUnheld x) = held p x
 refusal_of p (IsUnreferenced x) = unreferenced p x
 refusal_of p (IsInterested o x) = interested p o x
@@ -176,17 +176,17 @@ abbrev pub tests : Call → List Test
 tests (New o size name) = IsSmall size ∷ IsOwner o ∷ HasRoom 1 ∷ Fits o (size + overhead) ∷ []
 tests (Free x) = IsObject x ∷ IsUnheld x ∷ []
 tests (Freekids x) = IsObject x ∷ []
-tests (Steal o x) = IsObject x ∷ IsOwner o ∷ IsStaying x ∷ IsApart x o ∷ []
-tests (Move o x) = IsObject x ∷ IsOwner o ∷ IsStaying x ∷ IsApart x o ∷ []
-tests (Reparent from to x) = IsObject x ∷ IsOwner from ∷ IsOwner to ∷ IsStaying x ∷ MayGive from to x ∷ []
-tests (Refer o x) = IsObject x ∷ IsPlain x ∷ IsOwner o ∷ IsStill x ∷ IsStaying x ∷ HasRoom 1 ∷ []
+tests (Steal o x) = IsObject x ∷ IsOwner o ∷ IsNotDying x ∷ IsNotInside x o ∷ []
+tests (Move o x) = IsObject x ∷ IsOwner o ∷ IsNotDying x ∷ IsNotInside x o ∷ []
+tests (Reparent from to x) = IsObject x ∷ IsOwner from ∷ IsOwner to ∷ IsNotDying x ∷ MayGive from to x ∷ []
+tests (Refer o x) = IsObject x ∷ IsPlain x ∷ IsOwner o ∷ IsNotRunning x ∷ IsNotDying x ∷ HasRoom 1 ∷ []
 tests (Unlink o x) = IsObject x ∷ IsOwner o ∷ IsInterested o x ∷ []
-tests (Hook x routine) = IsObject x ∷ IsPlain x ∷ IsStaying x ∷ []
-tests (Unhook x) = IsObject x ∷ IsPlain x ∷ IsStaying x ∷ []
+tests (Hook x routine) = IsObject x ∷ IsPlain x ∷ IsNotDying x ∷ []
+tests (Unhook x) = IsObject x ∷ IsPlain x ∷ IsNotDying x ∷ []
 tests (Rename x name) = IsObject x ∷ []
-tests (Resize x size) = IsSmall size ∷ IsObject x ∷ IsPlain x ∷ IsUnreferenced x ∷ IsStaying x ∷ MayGrow x size ∷ []
+tests (Resize x size) = IsSmall size ∷ IsObject x ∷ IsPlain x ∷ IsUnreferenced x ∷ IsNotDying x ∷ MayGrow x size ∷ []
 tests (Limit x max) = IsObject x ∷ []
-tests (Parent x) = IsObject x ∷ IsStaying x ∷ []
+tests (Parent x) = IsObject x ∷ IsNotDying x ∷ []
 tests (Total o) = IsOwner o ∷ []
 tests (Count o) = IsOwner o ∷ []
 tests (Sum o) = IsOwner o ∷ []

@@ -44,7 +44,7 @@ spelling (Report owner) = codes "report" with (AnOwner owner ∷ [])
 
 -- the fields that are still to come, and the call that they make
 pub data Reading : Type 0 where
-  Whole : Call → Reading
+  IsConsistent : Call → Reading
   TakesOwner : (Owner → Reading) → Reading
   TakesObject : (Obj → Reading) → Reading
   TakesNumber : (ℕ → Reading) → Reading
@@ -53,16 +53,16 @@ pub data Reading : Type 0 where
   EndsInName : (List ℕ → Call) → Reading
 
 abbrev pub of_object : (Obj → Call) → Reading
-of_object call = TakesObject (λ x. Whole (call x))
+of_object call = TakesObject (λ x. IsConsistent (call x))
 
 abbrev pub of_owner : (Owner → Call) → Reading
-of_owner call = TakesOwner (λ owner. Whole (call owner))
+of_owner call = TakesOwner (λ owner. IsConsistent (call owner))
 
 abbrev pub owner_and_object : (Owner → Obj → Call) → Reading
 owner_and_object call = TakesOwner (λ owner. of_object (call owner))
 
 abbrev pub object_and_number : (Obj → ℕ → Call) → Reading
-object_and_number call = TakesObject (λ x. TakesNumber (λ n. Whole (call x n)))
+object_and_number call = TakesObject (λ x. TakesNumber (λ n. IsConsistent (call x n)))
 
 pub record Form : Type 0 where
   pub verb : List ℕ
@@ -82,7 +82,7 @@ forms =
     ∷ (codes "reparent" reads TakesOwner (λ from. owner_and_object (λ to x. Reparent from to x)))
     ∷ (codes "reference" reads owner_and_object Reference)
     ∷ (codes "unlink" reads owner_and_object Unlink)
-    ∷ (codes "hook" reads TakesObject (λ x. TakesRoutine (λ routine. Whole (Hook x routine))))
+    ∷ (codes "hook" reads TakesObject (λ x. TakesRoutine (λ routine. IsConsistent (Hook x routine))))
     ∷ (codes "unhook" reads of_object Unhook)
     ∷ (codes "rename" reads TakesObject (λ x. EndsInName (λ name. Rename x name)))
     ∷ (codes "resize" reads object_and_number Resize)

@@ -10,7 +10,7 @@ use Rattle.tree_specs.specs.Tree.Inside.{total}
 use Rattle.tree_specs.specs.Machine.Profiles.{Phase, caller_size, free_profile}
 use Rattle.tree_specs.specs.Invariants.Sound.{Footing, ValidAt, Refers, claim_by, phases, MayWait, FreeRests}
 use Rattle.tree_specs.specs.Invariants.Sound.Footing.{OnCall, OnFree}
-use Rattle.tree_specs.specs.Invariants.Whole.{burden}
+use Rattle.tree_specs.specs.Invariants.Consistent.{deposit}
 
 -- what the innermost free stands on
 abbrev pub free_footing : List FreeFrame → Footing
@@ -56,9 +56,9 @@ pub record FreesHold (claimed : Obj → List Phase) (below : List FreeFrame) (gr
 -- The first of these frees is at work, and the others wait.
 pub record FreesWork (f : FreeFrame) (fs : List FreeFrame) (p : Pool) : Type 0 where
   pub sound : FreesHold (λ x. free_claim x f ++ free_claims x fs) fs (FreeRests f (free_footing fs) (λ x. free_claims x fs) p) p
-  pub light : (free_profile f).top_size + free_sizes fs ≤ total burden p.rows + 2
+  pub light : (free_profile f).top_size + free_sizes fs ≤ total deposit p.rows + 2
 
 -- All of them wait: a destructor runs, or no free is open.
 pub record FreesWait (fs : List FreeFrame) (p : Pool) : Type 0 where
   pub sound : FreesHold (λ x. free_claims x fs) fs (AwaitsRun fs) p
-  pub light : free_sizes fs ≤ total burden p.rows + 2
+  pub light : free_sizes fs ≤ total deposit p.rows + 2

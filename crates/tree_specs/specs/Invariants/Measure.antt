@@ -6,7 +6,7 @@ use Rattle.tree_specs.specs.declared.row.Row.{Row}
 use Rattle.tree_specs.specs.declared.row.Mark.{Mark}
 use Rattle.tree_specs.specs.declared.frame.Frame.{Frame}
 use Rattle.tree_specs.specs.declared.frame.Frame.TheVariants as frame
-use Rattle.tree_specs.specs.declared.frame.FreeFrame.TheVariants.{Trying}
+use Rattle.tree_specs.specs.declared.frame.FreeFrame.TheVariants.{FreeingChild}
 use Rattle.tree_specs.specs.Tree.Pool.{Pool, is_below}
 use Rattle.tree_specs.specs.Tree.Inside.{total}
 use Rattle.tree_specs.specs.Machine.Profiles.{former_in, Looks, AtNone, AtKids, AtBelow, profile}
@@ -29,12 +29,12 @@ weight r = mark_weight r.mark
 -- Below, R bounds the rows that there can be.
 
 -- what the payment of a row is worth
-abbrev pub unit : ℕ → ℕ
-unit R = 4 * R + 16
+abbrev pub row_worth : ℕ → ℕ
+row_worth R = 4 * R + 16
 
 -- what an input is worth: the rows that its call may add, and the call's own steps
-abbrev pub share : ℕ → ℕ
-share R = 16 * R + 68
+abbrev pub input_worth : ℕ → ℕ
+input_worth R = 16 * R + 68
 
 -- what a waiting work still costs
 abbrev pub waiting_cost : Frame → ℕ
@@ -47,7 +47,7 @@ below_cost (f ∷ fs) = waiting_cost f + below_cost fs
 -- the children that the loop below still has
 abbrev pub loop_kids : List Row → List Frame → ℕ
 loop_kids rows [] = 0
-loop_kids rows (frame.Free (Trying x c noted purpose) ∷ fs) = 4 * count rows (Of x)
+loop_kids rows (frame.Free (FreeingChild x c noted purpose) ∷ fs) = 4 * count rows (Of x)
 loop_kids rows (_ ∷ fs) = 0
 
 abbrev pub look_cost : Looks → List Frame → List Row → ℕ
@@ -61,7 +61,7 @@ top_cost R f fs rows = (profile f).cost.rounds * R + (profile f).cost.steps + lo
 
 -- the measure, for k inputs left
 abbrev pub cost : ℕ → Frame → List Frame → Pool → ℕ → ℕ
-cost R f fs p k = unit R * total weight p.rows + share R * k + below_cost fs + top_cost R f fs p.rows
+cost R f fs p k = row_worth R * total weight p.rows + input_worth R * k + below_cost fs + top_cost R f fs p.rows
 
 -- the rows that a work may add, and those that it may add after the next input
 abbrev pub pending : Frame → ℕ

@@ -10,7 +10,7 @@ use Rattle.tree_specs.specs.declared.frame.Frame.{Frame}
 use Rattle.tree_specs.specs.declared.frame.Frame.TheVariants as frame
 use Rattle.tree_specs.specs.declared.frame.CallFrame.TheVariants.{Asking, Doing, Awaiting, Warning, Telling, Returning}
 use Rattle.tree_specs.specs.declared.frame.FreeFrame.{FreeFrame}
-use Rattle.tree_specs.specs.declared.frame.FreeFrame.TheVariants.{Unlinking, Releasing, Giving, Beginning, Hooked, Judged, Leaving, Looping, Trying, Tried, Ending}
+use Rattle.tree_specs.specs.declared.frame.FreeFrame.TheVariants.{Unlinking, Releasing, Giving, Beginning, Hooked, Judged, Leaving, Looping, FreeingChild, AfterChild, Ending}
 use Rattle.tree_specs.specs.declared.frame.Purpose.{Purpose}
 use Rattle.tree_specs.specs.declared.frame.Purpose.TheVariants.{Removal, Emptying}
 use Rattle.tree_specs.specs.declared.free_step.FreeReply.{FreeReply}
@@ -137,7 +137,7 @@ NotedFor x c noted p = (noted ≡ noted_owner p.rows c) ⊎ (noted ≢ Some (Of 
 -- an object whose freeing begins is the child that is tried, where the work below tries one; a call begins it only where
 -- there is no reference to it
 abbrev pub Tries : Obj → Footing → Pool → Type 0
-Tries c (OnFree (Trying x d noted purpose)) p = (d ≡ c) × (owner_of p.rows c ≡ Some (Of x)) × NotedFor x c noted p
+Tries c (OnFree (FreeingChild x d noted purpose)) p = (d ≡ c) × (owner_of p.rows c ≡ Some (Of x)) × NotedFor x c noted p
 Tries c OnCall p = newest_ref p.rows c ≡ None
 Tries c AtBottom p = Unit {0}
 Tries c _ p = ⊥
@@ -189,8 +189,8 @@ FreeRests (Hooked x h) on claimed p = (0 < h) × HasHook (row_of p.rows x) h
 FreeRests (Judged x h v) on claimed p = 0 < h
 FreeRests (Leaving x h) on claimed p = (r : Row) × (row_of p.rows x ≡ Some r) × IsLive r.mark × (claimed x ≡ []) × (target_of r.kind ≡ None) × (newest_ref p.rows x ≡ None)
 FreeRests (Looping x purpose) on claimed p = Stands purpose on
-FreeRests (Trying x c noted purpose) on claimed p = ⊥
-FreeRests (Tried x c noted purpose answer) on claimed p = StillThere answer x c noted p × Stands purpose on
+FreeRests (FreeingChild x c noted purpose) on claimed p = ⊥
+FreeRests (AfterChild x c noted purpose answer) on claimed p = StillThere answer x c noted p × Stands purpose on
 FreeRests (Ending answer) on claimed p = IsOver answer × MayAnswer answer on
 
 -- what the innermost work rests on

@@ -11,7 +11,7 @@ use Rattle.tree_specs.specs.declared.frame.Frame.TheVariants as frame
 use Rattle.tree_specs.specs.declared.frame.CallFrame.{CallFrame}
 use Rattle.tree_specs.specs.declared.frame.CallFrame.TheVariants.{Asking, Doing, Awaiting, Warning, Telling, Returning}
 use Rattle.tree_specs.specs.declared.frame.FreeFrame.{FreeFrame}
-use Rattle.tree_specs.specs.declared.frame.FreeFrame.TheVariants.{Unlinking, Releasing, Giving, Beginning, Hooked, Judged, Leaving, Looping, Trying, Tried, Ending}
+use Rattle.tree_specs.specs.declared.frame.FreeFrame.TheVariants.{Unlinking, Releasing, Giving, Beginning, Hooked, Judged, Leaving, Looping, FreeingChild, AfterChild, Ending}
 use Rattle.tree_specs.specs.declared.frame.Purpose.{Purpose}
 use Rattle.tree_specs.specs.declared.frame.Purpose.TheVariants.{Removal, Emptying}
 use Rattle.tree_specs.specs.declared.free_step.FreeReply.{FreeReply}
@@ -160,8 +160,8 @@ free_profile (Leaving x h) = record (a_free x) {
   top_size = if nat_eq h 0 then 0 else 3;
 }
 free_profile (Looping x purpose) = record (a_loop x purpose) { cost = at_most 0 7 (AtKids x) }
-free_profile (Trying x c noted purpose) = record (a_loop x purpose) { waits = AChild c purpose }
-free_profile (Tried x c noted purpose answer) = record (a_loop x purpose) { cost = at_most 0 (tried_cost answer) (AtKids x) }
+free_profile (FreeingChild x c noted purpose) = record (a_loop x purpose) { waits = AChild c purpose }
+free_profile (AfterChild x c noted purpose answer) = record (a_loop x purpose) { cost = at_most 0 (tried_cost answer) (AtKids x) }
 free_profile (Ending answer) = record { object = None; waits = Never; claims = None; removes = None; size = 0; top_size = 0; waiting_cost = 0; cost = at_most 4 9 AtNone }
 
 abbrev pub of_free : FreeProfile → Profile

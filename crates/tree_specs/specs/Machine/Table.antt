@@ -21,7 +21,7 @@ use Rattle.tree_specs.specs.declared.frame.Frame.TheVariants as frame
 use Rattle.tree_specs.specs.declared.frame.CallFrame.{CallFrame}
 use Rattle.tree_specs.specs.declared.frame.CallFrame.TheVariants.{Asking, Doing, Awaiting, Warning, Telling, Returning}
 use Rattle.tree_specs.specs.declared.frame.FreeFrame.{FreeFrame}
-use Rattle.tree_specs.specs.declared.frame.FreeFrame.TheVariants.{Unlinking, Releasing, Giving, Beginning, Hooked, Judged, Leaving, Looping, Trying, Tried, Ending}
+use Rattle.tree_specs.specs.declared.frame.FreeFrame.TheVariants.{Unlinking, Releasing, Giving, Beginning, Hooked, Judged, Leaving, Looping, FreeingChild, AfterChild, Ending}
 use Rattle.tree_specs.specs.declared.frame.Purpose.{Purpose}
 use Rattle.tree_specs.specs.declared.frame.Purpose.TheVariants.{Removal, Emptying}
 use Rattle.tree_specs.specs.declared.frame.Answer.{Answer}
@@ -39,7 +39,7 @@ use Rattle.tree_specs.specs.Rules.Items.Item.{Told, Asked}
 use Rattle.tree_specs.specs.Calls.Refusals.{Check, refusals}
 use Rattle.tree_specs.specs.Calls.Plans.{Plan, plan, unless_refused, changed_by}
 use Rattle.tree_specs.specs.Calls.Plans.Plan.{Does, Frees, Unlinks, Empties}
-use Rattle.tree_specs.specs.Rules.Sequence.{Begun}
+use Rattle.tree_specs.specs.Rules.Sequence.{CallStart}
 use Rattle.tree_specs.specs.Rules.Story.{freed_reply, hook_moment, later, heard}
 
 -- ---- freeing
@@ -101,7 +101,7 @@ last_step x Emptying p = Do.Done Ok p
 
 -- a child that is a reference is dropped, and any other is freed
 abbrev pub child_step : Obj → Obj → Purpose → Option Obj → Pool → FreeMove
-child_step x c purpose None p = Do.Call (Beginning c) (Trying x c (noted_owner p.rows c) purpose) p
+child_step x c purpose None p = Do.Call (Beginning c) (FreeingChild x c (noted_owner p.rows c) purpose) p
 child_step x c purpose (Some target) p = Do.Emit (Dropped c target) (Looping x purpose) (remove p c)
 
 abbrev pub loop_step : Obj → Purpose → Option Obj → Pool → FreeMove
@@ -131,12 +131,12 @@ free_step (Judged x h v) p = judge_step x h v p
 free_step (Leaving x h) p = Do.Emit (Left x (unwrap_or (owner_of p.rows x) Root)) (Looping x (Removal h)) (detach p x)
 free_step (Looping x purpose) p = loop_step x purpose (first_kid p.rows (Of x)) p
 -- it waits for the work above it
-free_step (Trying x c noted purpose) p = Do.Done Ok p
-free_step (Tried x c noted purpose answer) p = tried_step x c noted purpose answer p
+free_step (FreeingChild x c noted purpose) p = Do.Done Ok p
+free_step (AfterChild x c noted purpose answer) p = tried_step x c noted purpose answer p
 free_step (Ending answer) p = Do.Done answer p
 
 abbrev pub free_resume : FreeFrame → FreeReply → FreeFrame
-free_resume (Trying x c noted purpose) answer = Tried x c noted purpose answer
+free_resume (FreeingChild x c noted purpose) answer = AfterChild x c noted purpose answer
 free_resume f answer = f
 
 -- a free that waits for a destructor, with the number that this returned
@@ -256,16 +256,16 @@ table = record { step = step; resume = resume; taken = taken }
 
 -- ---- what a reply is about: the call, and the pool at its start
 
-abbrev pub note_after : Frame → Pool → Option Begun → Option Begun
+abbrev pub note_after : Frame → Pool → Option CallStart → Option CallStart
 note_after (frame.Call (Doing q c)) p b = Some (record { call = c; start = p })
 note_after (frame.Call (Asking q)) p b = b
 note_after (frame.Call (Awaiting q x)) p b = b
 note_after (frame.Call (Warning q x r)) p b = b
 note_after f p b = None
 
-abbrev pub about : Frame → Option Begun → Option Begun
+abbrev pub about : Frame → Option CallStart → Option CallStart
 about (frame.Call (Telling q r)) b = b
 about f b = None
 
-abbrev pub notes : Notes Frame Pool Begun
+abbrev pub notes : Notes Frame Pool CallStart
 notes = record { after = note_after; about = about }

@@ -25,7 +25,7 @@ use Rattle.tree_specs.specs.Calls.Refusals.{is_held, is_running}
 use Rattle.tree_specs.specs.Rules.Items.{Item}
 use Rattle.tree_specs.specs.Rules.Items.Item.{Told}
 use Rattle.tree_specs.specs.Promises.Orderly.{asks_hook}
-use Rattle.tree_specs.specs.Rules.Sequence.{Begun, Scene}
+use Rattle.tree_specs.specs.Rules.Sequence.{CallStart, Scene}
 
 -- ---- a live object is freed, or it is said why not
 
@@ -102,7 +102,7 @@ Started before item p = Unit {0}
 
 -- ---- a scene
 
-abbrev pub OfReply : (Call → Pool → Reply → Type 0) → Option Begun → Item → Type 0
+abbrev pub OfReply : (Call → Pool → Reply → Type 0) → Option CallStart → Item → Type 0
 OfReply Q (Some b) (Told (Replied r)) = Q b.call b.start r
 OfReply Q about item = Unit {0}
 

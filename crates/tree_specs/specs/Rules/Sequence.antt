@@ -9,13 +9,13 @@ use Rattle.tree_specs.specs.Tree.Pool.{Pool}
 use Rattle.tree_specs.specs.Rules.Items.{Item}
 
 -- a call, and the pool at its start
-pub record Begun : Type 0 where
+pub record CallStart : Type 0 where
   pub call : Call
   pub start : Pool
 
 -- an item with the pool just before it, and at a reply the call that it is the reply to
 abbrev pub Scene : Type 0
-Scene = NotedScene Pool Begun Item
+Scene = NotedScene Pool CallStart Item
 
 infixl 1 ◌>>=◌
 infixl 1 ◌>>◌
@@ -39,7 +39,7 @@ pool p is = Ended p p [] is
 abbrev pub change : (Pool → Pool) → Work (Unit {0})
 change f p is = Ended tt (f p) [] is
 
-abbrev pub told_about : Option Begun → Item → Work (Unit {0})
+abbrev pub told_about : Option CallStart → Item → Work (Unit {0})
 told_about about item p is = Ended tt p (record { item = item; before = p; about = about } ∷ []) is
 
 -- an event

@@ -28,7 +28,7 @@ use Rattle.tree_specs.specs.Calls.Given.{Given, given_to}
 use Rattle.tree_specs.specs.Calls.Given.Given.{Calls, Returns}
 use Rattle.tree_specs.specs.Calls.Plans.{Plan, planned, warned_by, changed_by}
 use Rattle.tree_specs.specs.Calls.Plans.Plan.{Does, Frees, Unlinks, Empties}
-use Rattle.tree_specs.specs.Rules.Sequence.{Work, Scene, Begun, ◌>>=◌, ◌>>◌, gives, pool, change, tells, told_about, asks, short}
+use Rattle.tree_specs.specs.Rules.Sequence.{Work, Scene, CallStart, ◌>>=◌, ◌>>◌, gives, pool, change, tells, told_about, asks, short}
 
 -- the reply to a call that frees
 abbrev pub freed_reply : Obj → FreeReply → Reply
@@ -233,13 +233,13 @@ abbrev mutual
       | Some x ↦ warning n (Some (record { call = c; start = p })) (later q r) x r
     ]
 
-  pub warning : ℕ → Option Begun → Ask → Obj → Reply → Work ℕ
+  pub warning : ℕ → Option CallStart → Ask → Obj → Reply → Work ℕ
   warning zero about q x r = short
   warning (suc n) about q x r = do
     tells (Told (Warned x))
     telling n about q r
 
-  pub telling : ℕ → Option Begun → Ask → Reply → Work ℕ
+  pub telling : ℕ → Option CallStart → Ask → Reply → Work ℕ
   telling zero about q r = short
   telling (suc n) about q r = do
     told_about about (Told (Replied r))

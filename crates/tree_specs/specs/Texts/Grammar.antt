@@ -12,7 +12,7 @@ use Rattle.tree_specs.specs.declared.question.Input.{Input}
 use Rattle.tree_specs.specs.declared.question.Input.TheVariants as inputs
 use Rattle.tree_specs.specs.Words.Names.{is_name}
 use Rattle.tree_specs.specs.Calls.Spelling.{Reading, Form, forms}
-use Rattle.tree_specs.specs.Calls.Spelling.Reading.{Whole, TakesOwner, TakesObject, TakesNumber, TakesRoutine, EndsInName}
+use Rattle.tree_specs.specs.Calls.Spelling.Reading.{IsConsistent, TakesOwner, TakesObject, TakesNumber, TakesRoutine, EndsInName}
 use Rattle.tree_specs.specs.Words.Objects.{numbered_owner}
 
 infixl 10 ◌>>=◌
@@ -70,7 +70,7 @@ words text = slice_split (λ b. b == 32) text
 
 -- each field is a word, and a name is the last one
 abbrev pub read : Reading → List (List ℕ) → Option Call
-read (Whole call) [] = Some call
+read (IsConsistent call) [] = Some call
 read (TakesOwner next) (word ∷ more) = do
   owner ← owner_of word
   read (next owner) more

@@ -3,14 +3,14 @@ use Rattle.tree_links.specs.Links.{pool_of}
 use Rattle.references.specs.Rows.{AreRefsOf}
 use Rattle.destructors.specs.Frees.{before, frees_of, Silently}
 use Rattle.destructors.specs.Works.{IsAtWork}
-use Rattle.destructors.specs.Engine.{Ready}
+use Rattle.destructors.specs.Engine.{IsBetweenCalls}
 use Rattle.destructors.proofs.Keeping.{free_cost}
 use Rattle.destructors.proofs.works.settle.Given as goal
 
 -- the frees are ready, and have made moves that tell nothing
 abbrev pub invariant-loop-innermost : goal.invariant-loop-innermost
 invariant-loop-innermost l = record {
-  ready : Ready l.innermost l.tree;
+  ready : IsBetweenCalls l.innermost l.tree;
   moves_on : Silently (frees_of l.initial.innermost l.initial.tree) (frees_of l.innermost l.tree);
   at_work : IsAtWork (frees_of l.initial.innermost l.initial.tree) → IsAtWork (frees_of l.innermost l.tree);
   rows : length l.tree.rows ≤ length l.initial.tree.rows;

@@ -1,6 +1,6 @@
 use Rattle.host_core.proofs.Allowed.{refs-go}
 use Rattle.host_core.proofs.Calling.{open_question, acts, awaits}
-use Rattle.host_core.proofs.Onward.{along-then}
+use Rattle.host_core.proofs.StepsSilently.{along-then}
 use Rattle.host_core.proofs.works.call_on.Goals as goal
 
 pub act-motion-requires-clause-reference : goal.act-motion-requires-clause-reference

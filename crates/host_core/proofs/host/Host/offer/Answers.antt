@@ -3,7 +3,7 @@ use Rattle.tree_specs.specs.Texts.Schedule.{misfit}
 use Rattle.host_core.specs.Hosts.{stack_of}
 use Rattle.host_core.proofs.Calling.{open_question, stays-at, speaks-at}
 use Rattle.host_core.proofs.Offering.{asks-now, offered, offered-report, unasked, question-view, takes-answer}
-use Rattle.host_core.proofs.Onward.{along-then}
+use Rattle.host_core.proofs.StepsSilently.{along-then}
 use Rattle.host_core.proofs.host.Host.offer.Goals as goal
 
 pub returns-then-not-takes-clause-not_asked : goal.returns-then-not-takes-clause-not_asked

@@ -18,24 +18,24 @@ use Rattle.tree_specs.specs.Rules.Items.Item.{Told, Asked}
 use Rattle.tree_specs.specs.Machine.Table.{table, step}
 use Rattle.tree_specs.specs.Invariants.Measure.{cost, pending}
 use Rattle.tree_specs.specs.Machine.View.{View, begin, rest_of}
-use Rattle.tree_specs.specs.Invariants.Whole.{Whole}
+use Rattle.tree_specs.specs.Invariants.Consistent.{IsConsistent}
 use Rattle.tree_specs.proofs.Rules.StoryLaws.{begin-whole}
 use Rattle.tree_specs.proofs.Turns.FallingFrees.{Room}
 use Rattle.tree_specs.proofs.Turns.Falls.{lower}
 use Rattle.tree_specs.proofs.Rules.Rest.{event-whole, event-items, open-items, begins-items, ends-asked, silent-whole, silent-law, no-end, view_of_state}
 use Rattle.host_core.specs.Promises.{Waits}
-use Rattle.host_core.specs.Hosts.{speaks, moved, next_of, speaking_view, Along, Onward}
+use Rattle.host_core.specs.Hosts.{speaks, moved, next_of, speaking_view, TellsSameStory, StepsSilently}
 
 -- ---- a step that tells nothing
 
-silent-next : (v : View) → Whole v → speaking_view v ≡ false
+silent-next : (v : View) → IsConsistent v → speaking_view v ≡ false
     → (s : State Frame Pool) × (silent table (step v.innermost v.pool) v.below ≡ Some s) × (next_of v ≡ (None, view_of_state s))
 silent-next v h t = each (step v.innermost v.pool) v.below refl refl t
   where
     each : (m : Move Frame Answer Pool Item) (fs : List Frame) → step v.innermost v.pool ≡ m → v.below ≡ fs → speaks m ≡ false
         → (s : State Frame Pool) × (silent table m fs ≡ Some s) × (moved m fs ≡ (None, view_of_state s))
     each (Do.Done a q) [] e d t =
-        let w : Whole (record { innermost = v.innermost; below = []; pool = v.pool }) = subst (λ (z : List Frame). Whole (record { innermost = v.innermost; below = z; pool = v.pool })) d h in
+        let w : IsConsistent (record { innermost = v.innermost; below = []; pool = v.pool }) = subst (λ (z : List Frame). IsConsistent (record { innermost = v.innermost; below = z; pool = v.pool })) d h in
         absurd (no-end v.innermost v.pool q a w.seated w.sound.rests e)
     each (Do.Done a q) (g ∷ gs) e d t = (_, refl, refl)
     each (Do.Go g q) fs e d t = (_, refl, refl)
@@ -43,7 +43,7 @@ silent-next v h t = each (step v.innermost v.pool) v.below refl refl t
     each (Do.Wait i g q) fs e d t = cc
     each (Do.Call g k q) fs e d t = (_, refl, refl)
 
-silent-onward : (v : View) (s : State Frame Pool) → Whole v → silent table (step v.innermost v.pool) v.below ≡ Some s → Onward v (view_of_state s)
+silent-onward : (v : View) (s : State Frame Pool) → IsConsistent v → silent table (step v.innermost v.pool) v.below ≡ Some s → StepsSilently v (view_of_state s)
 silent-onward v s h e = record {
   along = record {
     whole = silent-whole v s h e;
@@ -57,17 +57,17 @@ silent-onward v s h e = record {
     lowered : (R : ℕ) → length v.pool.rows + pending v.innermost ≤ R → Room R s.now s.pool 0 × (cost R s.now s.below s.pool 0 < cost R v.innermost v.below v.pool 0)
     lowered R r = silent-leads table (λ g gs q j. Room R g q j × (cost R g gs q j < cost R v.innermost v.below v.pool 0)) (step v.innermost v.pool) v.below 0 s (lower R v.innermost v.below v.pool 0 h.sound (omega arith)) e
 
-pub onward : (v w : View) → Whole v → speaking_view v ≡ false → (next_of v).1 ≡ w → Onward v w
+pub onward : (v w : View) → IsConsistent v → speaking_view v ≡ false → (next_of v).1 ≡ w → StepsSilently v w
 onward v w h t e =
     let n = silent-next v h t in
-    subst (λ (z : View). Onward v z) (sym (ap (λ (z : Option Event × View). z.1) n.2) ∙ e) (silent-onward v n.0 h n.1)
+    subst (λ (z : View). StepsSilently v z) (sym (ap (λ (z : Option Event × View). z.1) n.2) ∙ e) (silent-onward v n.0 h n.1)
 
 -- ---- one after another
 
-pub stays : (v : View) → Whole v → Along v v
+pub stays : (v : View) → IsConsistent v → TellsSameStory v v
 stays v h = record { whole = h; rows = λ R r. r; no_dearer = λ R r. omega arith; same = λ is. refl }
 
-pub along-then : (u v w : View) → Along u v → Along v w → Along u w
+pub along-then : (u v w : View) → TellsSameStory u v → TellsSameStory v w → TellsSameStory u w
 along-then u v w a b = record {
   whole = b.whole;
   rows = λ R r. b.rows R (a.rows R r);
@@ -75,7 +75,7 @@ along-then u v w a b = record {
   same = λ is. a.same is ∙ b.same is;
 }
 
-pub onward-along : (u v w : View) → Onward u v → Along v w → Onward u w
+pub onward-along : (u v w : View) → StepsSilently u v → TellsSameStory v w → StepsSilently u w
 onward-along u v w o b = record {
   along = along-then u v w o.along b;
   cheaper = λ R r. (let c = o.cheaper R r in let d = b.no_dearer R (o.along.rows R r) in omega (arith, c, d));
@@ -85,13 +85,13 @@ onward-along u v w o b = record {
 
 -- what stands after it
 pub record AfterEvent (v w : View) (e : Event) : Type 0 where
-  pub whole : Whole w
+  pub whole : IsConsistent w
   pub law : (is : List Input) → rest_of v is ≡ Told e ∷ rest_of w is
 
-emitted : (v : View) (e : Event) (f : Frame) (p : Pool) → Whole v → step v.innermost v.pool ≡ Do.Emit (Told e) f p → AfterEvent v (record { innermost = f; below = v.below; pool = p }) e
+emitted : (v : View) (e : Event) (f : Frame) (p : Pool) → IsConsistent v → step v.innermost v.pool ≡ Do.Emit (Told e) f p → AfterEvent v (record { innermost = f; below = v.below; pool = p }) e
 emitted v e f p h t = record { whole = event-whole v (Told e) f p h t; law = λ is. event-items v (Told e) f p is h t }
 
-pub after-event : (v w : View) (e : Event) → Whole v → next_of v ≡ (Some e, w) → AfterEvent v w e
+pub after-event : (v w : View) (e : Event) → IsConsistent v → next_of v ≡ (Some e, w) → AfterEvent v w e
 after-event v w e h t = each (step v.innermost v.pool) v.below refl refl t
   where
     none : (x : View) → (let a : Option Event × View = (None, x) in a) ≡ (Some e, w) → ⊥
@@ -111,13 +111,13 @@ after-event v w e h t = each (step v.innermost v.pool) v.below refl refl t
         let y' : record { innermost = f; below = v.below; pool = q } ≡ w = ap (λ (l : List Frame). let r : View = record { innermost = f; below = l; pool = q } in r) d ∙ y in
         subst (λ (z : View). AfterEvent v z e) y' (emitted v e f q h (k ∙ ap (λ (z : Event). Do.Emit (Told z) f q) x'))
 
-pub event-along : (u v w : View) (e : Event) → AfterEvent u v e → Along v w → AfterEvent u w e
+pub event-along : (u v w : View) (e : Event) → AfterEvent u v e → TellsSameStory v w → AfterEvent u w e
 event-along u v w e a b = record { whole = b.whole; law = λ is. a.law is ∙ ap (λ (l : List Item). Told e ∷ l) (b.same is) }
 
 -- ---- a question
 
 -- a host that asks waits
-pub waits-asked : (q : Ask) (below : List Frame) (p : Pool) → Whole (record { innermost = frame.Call (Asking q); below = below; pool = p }) → Waits (record { innermost = frame.Call (Asking q); below = below; pool = p })
+pub waits-asked : (q : Ask) (below : List Frame) (p : Pool) → IsConsistent (record { innermost = frame.Call (Asking q); below = below; pool = p }) → Waits (record { innermost = frame.Call (Asking q); below = below; pool = p })
 waits-asked q below p h =
     let v : View = record { innermost = frame.Call (Asking q); below = below; pool = p } in
     record {
@@ -128,7 +128,7 @@ waits-asked q below p h =
     }
 
 -- there is always something to come
-pub always-more : (v : View) (is : List Input) → Whole v → (item : Item) × (items : List Item) × (rest_of v is ≡ item ∷ items)
+pub always-more : (v : View) (is : List Input) → IsConsistent v → (item : Item) × (items : List Item) × (rest_of v is ≡ item ∷ items)
 always-more v is h = each (rest_of v is) refl (ends-asked v is h)
   where
     each : (l : List Item) → rest_of v is ≡ l → LastIs IsQuestion l → (item : Item) × (items : List Item) × (rest_of v is ≡ item ∷ items)

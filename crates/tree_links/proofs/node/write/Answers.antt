@@ -1,10 +1,10 @@
-use Rattle.tree_specs.specs.Tree.Pool.{hooked_row}
+use Rattle.tree_links.specs.Edits.{edited}
 use Rattle.tree_links.specs.Nodes.{with_row}
 use Rattle.tree_links.proofs.Steps.{mapped-at, len-old}
-use Rattle.tree_links.proofs.node.write_hook.Goals as goal
+use Rattle.tree_links.proofs.node.write.Goals as goal
 
 pub returns-in-Some-clause-nodes : goal.returns-in-Some-clause-nodes
-returns-in-Some-clause-nodes c = λ q. mapped-at c.args.nodes.now c.args.x (with_row (hooked_row c.args.hook)) c.in-Some.node.now c.in-Some.ensures.value q
+returns-in-Some-clause-nodes c = λ q. rw c.rewrite.ensures (mapped-at c.args.nodes.now c.args.x (with_row (edited c.args.what)) c.in-Some.node.now c.in-Some.ensures.value q)
 
 pub returns-in-Some-clause-len : goal.returns-in-Some-clause-len
 returns-in-Some-clause-len c = len-old c.args.nodes.now.pairs c.args.x _ c.in-Some.node.now c.in-Some.ensures.value

@@ -5,20 +5,20 @@ use tree_specs::{Refusal, Reply};
 
 /// A reply that takes no memory, so that it can be told and remembered.
 #[derive(Clone, Copy, Debug)]
-pub enum Brief {
+pub enum ShortReply {
     Ok,
     Number(u64),
     No(Refusal),
 }
 
-impl Brief {
+impl ShortReply {
     pub fn reply(self) -> Reply
         ensures { result ≡ reply_of self }
     {
         match self {
-            Brief::Ok => Reply::Ok,
-            Brief::Number(n) => Reply::Number(n),
-            Brief::No(why) => Reply::No(why),
+            ShortReply::Ok => Reply::Ok,
+            ShortReply::Number(n) => Reply::Number(n),
+            ShortReply::No(why) => Reply::No(why),
         }
     }
 }

@@ -53,13 +53,13 @@ Serves _ f = IsFree f
 
 -- the host's own caller stands below all others, a run on the free that waits for its destructor, and a free on the call or
 -- the free that waits for it
-abbrev pub Seat : Frame → List Frame → Type 0
-Seat f [] = IsCaller f
-Seat f (g ∷ gs) = Serves (profile g).waits f
+abbrev pub MayStandOn : Frame → List Frame → Type 0
+MayStandOn f [] = IsCaller f
+MayStandOn f (g ∷ gs) = Serves (profile g).waits f
 
-abbrev pub Seated : Frame → List Frame → Type 0
-Seated f [] = Seat f []
-Seated f (g ∷ gs) = Seat f (g ∷ gs) × Seated g gs
+abbrev pub IsStacked : Frame → List Frame → Type 0
+IsStacked f [] = MayStandOn f []
+IsStacked f (g ∷ gs) = MayStandOn f (g ∷ gs) × IsStacked g gs
 
 -- The open works are no more than the rows that run or die pay for, so that the turns stay enough.
 
@@ -73,18 +73,18 @@ abbrev pub sizes : List Frame → ℕ
 sizes [] = 0
 sizes (f ∷ fs) = size f + sizes fs
 
-abbrev pub mark_burden : Mark → ℕ
-mark_burden Asked = 3
-mark_burden (Dying former) = 3
-mark_burden _ = 0
+abbrev pub mark_deposit : Mark → ℕ
+mark_deposit Asked = 3
+mark_deposit (Dying former) = 3
+mark_deposit _ = 0
 
-abbrev pub burden : Row → ℕ
-burden r = mark_burden r.mark
+abbrev pub deposit : Row → ℕ
+deposit r = mark_deposit r.mark
 
-abbrev pub Light : Frame → List Frame → Pool → Type 0
-Light f fs p = innermost_size f + sizes fs ≤ total burden p.rows + 2
+abbrev pub IsPaidFor : Frame → List Frame → Pool → Type 0
+IsPaidFor f fs p = innermost_size f + sizes fs ≤ total deposit p.rows + 2
 
-pub record Whole (v : View) : Type 0 where
+pub record IsConsistent (v : View) : Type 0 where
   pub sound : Sound v.innermost v.below v.pool
-  pub seated : Seated v.innermost v.below
-  pub light : Light v.innermost v.below v.pool
+  pub seated : IsStacked v.innermost v.below
+  pub light : IsPaidFor v.innermost v.below v.pool

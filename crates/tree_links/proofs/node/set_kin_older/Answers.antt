@@ -1,9 +1,0 @@
-use Rattle.tree_links.specs.Nodes.{kin_older}
-use Rattle.tree_links.proofs.Steps.{mapped-at, len-old}
-use Rattle.tree_links.proofs.node.set_kin_older.Goals as goal
-
-pub returns-in-Some-get_mut-clause-nodes : goal.returns-in-Some-get_mut-clause-nodes
-returns-in-Some-get_mut-clause-nodes c = λ q. rw c.in-Some.is (mapped-at c.args.nodes.now c.in-Some.x (kin_older c.args.older) c.in-Some-get_mut.node.now c.in-Some-get_mut.ensures.value q)
-
-pub returns-in-Some-get_mut-clause-len : goal.returns-in-Some-get_mut-clause-len
-returns-in-Some-get_mut-clause-len c = len-old c.args.nodes.now.pairs c.in-Some.x _ c.in-Some-get_mut.node.now c.in-Some-get_mut.ensures.value
