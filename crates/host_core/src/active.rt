@@ -7,9 +7,9 @@ ghost use Rattle.tree_specs.specs.Texts.Schedule.{misfit};
 ghost use Rattle.host_core.specs.Hosts.{remembers, asked_now, StandsAs};
 ghost use Rattle.host_core.specs.Moves.{telling, warning};
 
-use crate::short_reply::ShortReply;
 use crate::caller::{Caller, Stage};
 use crate::reports::Report;
+use crate::short_reply::ShortReply;
 use tree_specs::{Ask, Input, Obj};
 
 /// What is at work, above all that waits.

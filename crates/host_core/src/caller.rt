@@ -10,8 +10,8 @@ ghost use Rattle.tree_specs.specs.Machine.Table.{caller_resume};
 ghost use Rattle.host_core.specs.Hosts.{frame_of, awaiting, after_telling, told_by, remembers};
 ghost use Rattle.host_core.specs.Moves.{reply_of, telling, warning};
 
-use crate::short_reply::ShortReply;
 use crate::calls::freed;
+use crate::short_reply::ShortReply;
 use object_pool::ObjectPool;
 use std::mem;
 use tree_specs::{Ask, Event, FreeReply, Moment, Obj, Reply, What};

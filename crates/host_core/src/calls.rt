@@ -12,11 +12,10 @@ ghost use Rattle.tree_links.specs.Links.{MayPlace};
 ghost use Rattle.object_pool.specs.Objects.{RefsMayGo};
 ghost use Rattle.host_core.specs.Moves.{move_of, reply_of, report_of, ReadyFor};
 
-use crate::short_reply::ShortReply;
 use crate::motion::Motion;
 use crate::refusals::check;
+use crate::short_reply::ShortReply;
 use object_pool::ObjectPool;
-use std::alloc::Global;
 use tree_specs::{Call, FreeReply, Obj, Owner, Refusal};
 
 /// The reply to a call that has freed.
@@ -73,7 +72,7 @@ fn done(_change: ()) -> ShortReply
 
 /// Does a call that isn't refused, and takes no memory for its reply.
 #[tactic(auto, using(crate::proofs::Allowed::may_go, crate::proofs::Allowed::may_go_itself))]
-fn effect(alloc: Global, call: Call, pool: &mut ObjectPool) -> Motion
+fn effect(call: Call, pool: &mut ObjectPool) -> Motion
     requires ready { pool.old.ready ≡ true }
     requires allowed { AllPassed pool.old.pool (tests call) }
     requires no_report { report_of call ≡ None }
@@ -84,7 +83,7 @@ fn effect(alloc: Global, call: Call, pool: &mut ObjectPool) -> Motion
 {
     let reply = match call {
         Call::New { owner, size, name } => ShortReply::Number(pool.add(name, size, owner).0),
-        Call::Reference { owner, x } => ShortReply::Number(pool.refer(alloc, x, owner).0),
+        Call::Reference { owner, x } => ShortReply::Number(pool.refer(x, owner).0),
         Call::Free { x } => return free(x, pool),
         Call::Freekids { x } => return Motion::Empties(x),
         Call::Unlink { owner, x } => return Motion::Unlinks(owner, x),
@@ -107,7 +106,7 @@ fn effect(alloc: Global, call: Call, pool: &mut ObjectPool) -> Motion
 
 /// Does a call: the first refusal that applies is the reply, otherwise the effect comes.
 #[tactic(auto, using(crate::proofs::Allowed::refused_step, crate::proofs::Allowed::allowed_step, crate::proofs::Allowed::all_passed))]
-pub fn act(alloc: Global, call: Call, pool: &mut ObjectPool) -> Motion
+pub fn act(call: Call, pool: &mut ObjectPool) -> Motion
     requires ready { pool.old.ready ≡ true }
     requires no_report { report_of call ≡ None }
     requires reference { RefsMayGo pool.old.pool.rows }
@@ -116,7 +115,7 @@ pub fn act(alloc: Global, call: Call, pool: &mut ObjectPool) -> Motion
     ensures moved { (q : AskData) → move_of q result pool.new.pool ≡ call_step (refusals pool.old.pool call) q call pool.old.pool }
 {
     match check(&call, pool) {
-        Ok(()) => effect(alloc, call, pool),
+        Ok(()) => effect(call, pool),
         Err(why) => Motion::Replies(ShortReply::No(why)),
     }
 }

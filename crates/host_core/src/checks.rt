@@ -6,8 +6,8 @@ ghost use Rattle.tree_specs.specs.Calls.Refusals.{checked, small, owner, object_
 use crate::subject::Subject;
 use object_pool::ObjectPool;
 use tree_specs::Test::{
-    Fits, HasRoom, IsNotInside, IsInterested, IsObject, IsOwner, IsPlain, IsSmall, IsNotDying, IsNotRunning,
-    IsUnheld, IsUnreferenced, MayGive, MayGrow,
+    Fits, HasRoom, IsInterested, IsNotDying, IsNotInside, IsNotRunning, IsObject, IsOwner, IsPlain,
+    IsSmall, IsUnheld, IsUnreferenced, MayGive, MayGrow,
 };
 use tree_specs::{Kind, Mark, Obj, Owner, ROW_LIMIT, Refusal, Row, SIZE_LIMIT, Test};
 

@@ -1,14 +1,17 @@
 ghost use Rattle.std.specs.Prelude.{◌≡◌};
 ghost use Rattle.host_core.specs.declared.fault.OfferFault.TheVariants as faults;
 
+use thiserror::Error;
 use tree_specs::Memory;
 
 /// Why an answer was not taken. The host is as it was.
-#[derive(Clone, Copy, Debug, PartialEq, Eq)]
+#[derive(Clone, Copy, Debug, PartialEq, Eq, Error)]
 pub enum OfferFault {
     /// There is no memory for what comes up to the next question.
+    #[error("out of memory")]
     Memory,
     /// No question is open, or the open one takes no such answer.
+    #[error("no question is open that takes this answer")]
     NotAsked,
 }
 

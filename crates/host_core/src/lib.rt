@@ -2,7 +2,6 @@
 #![tactic(auto)]
 
 mod active;
-mod short_reply;
 mod caller;
 mod calls;
 mod checks;
@@ -12,6 +11,7 @@ mod motion;
 mod parts;
 mod refusals;
 mod reports;
+mod short_reply;
 mod subject;
 #[cfg(test)]
 mod tests;

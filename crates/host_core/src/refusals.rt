@@ -10,8 +10,8 @@ use crate::checks::{
 use crate::subject::Subject;
 use object_pool::ObjectPool;
 use tree_specs::Test::{
-    Fits, HasRoom, IsNotInside, IsInterested, IsObject, IsOwner, IsPlain, IsSmall, IsNotDying, IsNotRunning,
-    IsUnheld, IsUnreferenced, MayGive, MayGrow,
+    Fits, HasRoom, IsInterested, IsNotDying, IsNotInside, IsNotRunning, IsObject, IsOwner, IsPlain,
+    IsSmall, IsUnheld, IsUnreferenced, MayGive, MayGrow,
 };
 use tree_specs::{Call, OVERHEAD, Obj, Owner, Refusal, Test};
 

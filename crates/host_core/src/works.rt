@@ -67,8 +67,7 @@ fn call_on(now: &mut Active, call: Call, parts: &mut Parts)
     ensures along { (q : AskData) → asked_now now.old ≡ Some q → TellsSameStory (view_at (Doing q call) parts.old) (host_view now.new parts.new) }
     ensures ready { IsBetweenSteps now.new parts.new }
 {
-    let alloc = *parts.callers.allocator();
-    let motion = act(alloc, call, &mut parts.objects);
+    let motion = act(call, &mut parts.objects);
     go_on(now, motion, parts);
 }
 

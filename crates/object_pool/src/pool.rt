@@ -99,7 +99,7 @@ impl ObjectPool {
     }
 
     /// An owner gets a reference to an object, which is an object with a number of its own.
-    pub fn refer(&mut self, alloc: Global, target: Obj, owner: Owner) -> Obj
+    pub fn refer(&mut self, target: Obj, owner: Owner) -> Obj
         requires ready { self.old.ready ≡ true }
         requires few { length self.old.pool.rows < row_limit }
         requires numbered { self.old.pool.next < 2 ^ 64 - 1 }
@@ -108,7 +108,7 @@ impl ObjectPool {
         ensures referred { self.new ≡ record self.old { pool = referred self.old.pool owner target; ready = false } }
     {
         self.ready = false;
-        let serial = refer(alloc, target, owner, &mut self.tree, &mut self.refs);
+        let serial = refer(target, owner, &mut self.tree, &mut self.refs);
         count_added(serial, &self.tree, &mut self.sums);
         serial
     }

@@ -1,6 +1,7 @@
 ghost use Rattle.std.specs.Prelude.{◌≤◌, ◌<◌, length, IfOk};
 
 use super::*;
+use std::fmt::InlineText;
 use std::io;
 use std::io::{ErrorKind, Read, Write};
 use std::test::Fail;
@@ -147,4 +148,12 @@ fn a_writer_that_takes_nothing_fails(rt: HostRuntime) -> Result<(), Fail> {
     let mut sink = StdSink::new(full.as_mut_slice());
     assert_eq!(rt; sink.put(b"ab")?, Put::Failed);
     Ok(())
+}
+
+#[test]
+fn a_fault_has_its_message(rt: HostRuntime) {
+    let text: InlineText<64> = InlineText::of(PutError::Write);
+    assert_eq!(rt; text.as_str(), "a write failed");
+    let text: InlineText<64> = InlineText::of(PutError::Memory);
+    assert_eq!(rt; text.as_str(), "out of memory");
 }

@@ -9,8 +9,8 @@ use Rattle.tree_specs.specs.Texts.Written.{WritesFront}
 use Rattle.tree_specs.specs.Texts.Schedule.{Line, lines, lines_of_parts, is_over_limit, line_limit, lines_limit}
 use Rattle.tree_specs.specs.Machine.View.{View}
 use Rattle.host_core.specs.Promises.{Waits}
-use Rattle.schedule_replay.specs.declared.refusal.LineError.{LineError}
-use Rattle.schedule_replay.specs.declared.refusal.LineError.TheVariants as errors
+use Rattle.schedule_replay.specs.declared.stop.Stop.{Stop}
+use Rattle.schedule_replay.specs.declared.stop.Stop.TheVariants as errors
 use Rattle.schedule_replay.specs.Replays.{Replayed, with_front, replayed_from, ended_line, BeginsText, has_no_lf}
 use Rattle.schedule_replay.specs.Readings.{Reading, from_line, with_more, refused_text, RefusesHere, LineDone, TakesLine, Advances, Takes, EndsFront, Finishes, IsBetweenBytes}
 use Rattle.schedule_replay.specs.Cuts.{at_line}
@@ -43,7 +43,7 @@ ends-line s t next ready host number line text done = record {
   begun = λ e. absurd (omega (arith, ready.first));
 }
 
-pub breaks-line : (s t : Reading) (e : LineError) → IsBetweenBytes s → TakesLine s t (Err e) → Takes s (10 ∷ []) t (Err e)
+pub breaks-line : (s t : Reading) (e : Stop) → IsBetweenBytes s → TakesLine s t (Err e) → Takes s (10 ∷ []) t (Err e)
 breaks-line s t (errors.Refused line reason) ready h = record {
   written = h.written;
   text = h.text;
@@ -54,6 +54,7 @@ breaks-line s t errors.Memory ready h = record {
   text = h.text;
   begins = λ bytes. rw (lines_ended s.line bytes ready.plain) (h.begins (lines bytes));
 }
+breaks-line s t _ ready h = absurd h
 
 -- a line that stands whole in the piece, where none has begun
 pub here-ready : (s : Reading) (line : List ℕ) → IsBetweenBytes s → has_no_lf line ≡ true → length line ≤ line_limit → s.number ≤ lines_limit → IsBetweenBytes (at_line s line)
@@ -61,11 +62,11 @@ here-ready s line ready plain short low = record { plain = plain; short = short;
 
 -- ---- a refusal within a line
 
-pub refuses-piece : (s : Reading) (piece : List ℕ) (t : Reading) (why : Reason) (r : Result (Unit {0}) LineError) → RefusesHere s t why r
+pub refuses-piece : (s : Reading) (piece : List ℕ) (t : Reading) (why : Reason) (r : Result (Unit {0}) Stop) → RefusesHere s t why r
     → ((bytes : List ℕ) → with_more s (piece ++ bytes) ≡ record { text = Some (refused_text s); refused = Some (s.number, why) }) → Takes s piece t r
-refuses-piece s piece t why (Ok done) h e = absurd h
 refuses-piece s piece t why (Err (errors.Refused line reason)) h e = record { written = refused_text s; text = h.2; ends = λ bytes. rw (h.0, h.1) (e bytes) }
 refuses-piece s piece t why (Err errors.Memory) h e = record { written = h.front; text = h.written; begins = λ bytes. rw (e bytes) (h.begins.rest, h.begins.whole) }
+refuses-piece s piece t why _ h e = absurd h
 
 -- a line past the limit of bytes
 long-refused : (s : Reading) (w : Waits s.host) (line : Line) (ls : List Line) → line_limit < length line.text → replayed_from s.host s.number (line ∷ ls) ≡ record { text = Some (refused_text s); refused = Some (s.number, Limit) }
@@ -137,7 +138,7 @@ pub advances-none : (s : Reading) → Advances s [] s
 advances-none s = record { whole = []; cut = append-nil s.line; written = []; text = sym (append-nil s.text); goes_on = λ bytes. front-nil (from_line s bytes); begun = λ e. (e, refl) }
 
 -- bytes are the same whether they have come of the line or still come
-pub onto : (s : Reading) (line run p : List ℕ) (t : Reading) (r : Result (Unit {0}) LineError) → line ≡ s.line ++ run → Takes (at_line s line) p t r → Takes s (run ++ p) t r
+pub onto : (s : Reading) (line run p : List ℕ) (t : Reading) (r : Result (Unit {0}) Stop) → line ≡ s.line ++ run → Takes (at_line s line) p t r → Takes s (run ++ p) t r
 onto s line run p t (Ok done) e a = record {
   whole = a.whole;
   cut = sym (append_assoc s.line run p) ∙ ap (λ (l : List ℕ). l ++ p) (sym e) ∙ a.cut;
@@ -152,13 +153,14 @@ onto s line run p t (Err errors.Memory) e a = record {
   text = a.text;
   begins = λ bytes. subst (λ (l : List ℕ). BeginsText a.written (from_line s l).text) (sym (moved s line run p bytes e)) (a.begins bytes);
 }
+onto s line run p t (Err _) e a = absurd a
 
 -- what is replayed after a piece
 pub after-piece : (s : Reading) (p : List ℕ) (t : Reading) (a : Advances s p t) (bytes : List ℕ) → with_more s (p ++ bytes) ≡ with_front a.written (with_more t bytes)
 after-piece s p t a bytes =
     ap (from_line s) (sym (append_assoc s.line p bytes) ∙ ap (λ (l : List ℕ). l ++ bytes) a.cut ∙ append_assoc a.whole t.line bytes) ∙ a.goes_on (t.line ++ bytes)
 
-pub advances-then : (s : Reading) (p : List ℕ) (t : Reading) (q : List ℕ) (u : Reading) (r : Result (Unit {0}) LineError) → Advances s p t → Takes t q u r → Takes s (p ++ q) u r
+pub advances-then : (s : Reading) (p : List ℕ) (t : Reading) (q : List ℕ) (u : Reading) (r : Result (Unit {0}) Stop) → Advances s p t → Takes t q u r → Takes s (p ++ q) u r
 advances-then s p t q u (Ok done) a b = record {
   whole = a.whole ++ b.whole;
   cut = sym (append_assoc s.line p q) ∙ ap (λ (l : List ℕ). l ++ q) a.cut ∙ append_assoc a.whole t.line q ∙ ap (λ (l : List ℕ). a.whole ++ l) b.cut ∙ sym (append_assoc a.whole b.whole u.line);
@@ -180,15 +182,17 @@ advances-then s p t q u (Err errors.Memory) a b = record {
       subst (λ (z : Replayed). BeginsText (a.written ++ b.written) z.text) (sym (ap (with_more s) (append_assoc p q bytes) ∙ after-piece s p t a (q ++ bytes)))
       (begins_behind a.written b.written (with_more t (q ++ bytes)).text (b.begins bytes));
 }
+advances-then s p t q u (Err _) a b = absurd b
 
 -- after an error the rest of the piece changes nothing
-pub err-more : (s : Reading) (p q : List ℕ) (u : Reading) (e : LineError) → Takes s p u (Err e) → Takes s (p ++ q) u (Err e)
+pub err-more : (s : Reading) (p q : List ℕ) (u : Reading) (e : Stop) → Takes s p u (Err e) → Takes s (p ++ q) u (Err e)
 err-more s p q u (errors.Refused line reason) h = record { written = h.written; text = h.text; ends = λ bytes. ap (with_more s) (append_assoc p q bytes) ∙ h.ends (q ++ bytes) }
 err-more s p q u errors.Memory h = record {
   written = h.written;
   text = h.text;
   begins = λ bytes. subst (λ (z : Replayed). BeginsText h.written z.text) (sym (ap (with_more s) (append_assoc p q bytes))) (h.begins (q ++ bytes));
 }
+err-more s p q u _ h = absurd h
 
 -- what was taken of a piece, where this still comes
 pub record Fed (s : Reading) (piece : List ℕ) (t : Reading) (rest : List ℕ) : Type 0 where
@@ -199,7 +203,7 @@ pub record Fed (s : Reading) (piece : List ℕ) (t : Reading) (rest : List ℕ) 
 pub fed-none : (s : Reading) (piece : List ℕ) → Fed s piece s piece
 fed-none s piece = record { taken = []; whole = refl; advances = advances-none s }
 
-pub fed-last : (s : Reading) (piece : List ℕ) (t : Reading) (rest : List ℕ) (u : Reading) (r : Result (Unit {0}) LineError) → Fed s piece t rest → Takes t rest u r → Takes s piece u r
+pub fed-last : (s : Reading) (piece : List ℕ) (t : Reading) (rest : List ℕ) (u : Reading) (r : Result (Unit {0}) Stop) → Fed s piece t rest → Takes t rest u r → Takes s piece u r
 fed-last s piece t rest u r f h = subst (λ (p : List ℕ). Takes s p u r) (sym f.whole) (advances-then s f.taken t rest u r f.advances h)
 
 -- the next line of it
@@ -213,16 +217,16 @@ fed-line s piece t rest line after u f cut h = record {
   advances = advances-then s f.taken t (line ++ 10 ∷ []) u (Ok tt) f.advances h;
 }
 
-pub fed-error : (s : Reading) (piece : List ℕ) (t : Reading) (rest line after : List ℕ) (u : Reading) (e : LineError) → Fed s piece t rest → rest ≡ line ++ 10 ∷ after → Takes t (line ++ 10 ∷ []) u (Err e) → Takes s piece u (Err e)
+pub fed-error : (s : Reading) (piece : List ℕ) (t : Reading) (rest line after : List ℕ) (u : Reading) (e : Stop) → Fed s piece t rest → rest ≡ line ++ 10 ∷ after → Takes t (line ++ 10 ∷ []) u (Err e) → Takes s piece u (Err e)
 fed-error s piece t rest line after u e f cut h =
     fed-last s piece t rest u (Err e) f (subst (λ (p : List ℕ). Takes t p u (Err e)) (sym (cut ∙ line-cut line after)) (err-more t (line ++ 10 ∷ []) after u e h))
 
 -- ---- the end of the schedule
 
-pub finish-refused : (s t : Reading) (why : Reason) (r : Result (Unit {0}) LineError) → RefusesHere s t why r → with_more s [] ≡ record { text = Some (refused_text s); refused = Some (s.number, why) } → Finishes s t r
-finish-refused s t why (Ok done) h e = absurd h
+pub finish-refused : (s t : Reading) (why : Reason) (r : Result (Unit {0}) Stop) → RefusesHere s t why r → with_more s [] ≡ record { text = Some (refused_text s); refused = Some (s.number, why) } → Finishes s t r
 finish-refused s t why (Err (errors.Refused line reason)) h e = record { written = refused_text s; text = h.2; all = rw (h.0, h.1) e }
 finish-refused s t why (Err errors.Memory) h e = record { written = h.front; text = h.written; begins = rw e (h.begins.rest, h.begins.whole) }
+finish-refused s t why _ h e = absurd h
 
 -- a schedule that ends with no line, or within one
 ends-cut : (s : Reading) (l : List ℕ) → IsBetweenBytes s → l ≡ s.line → 0 < length l → replayed_from s.host s.number (lines l) ≡ record { text = Some (refused_text s); refused = Some (s.number, Form) }

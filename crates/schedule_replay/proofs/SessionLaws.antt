@@ -8,16 +8,14 @@ use Rattle.std.proofs.lemmas.Bool.{eqb-true}
 use Rattle.std.proofs.lemmas.Bool.Decides.{nat_tests}
 use Rattle.tree_specs.specs.declared.schedule.Reason.TheVariants.{Form}
 use Rattle.tree_specs.specs.Texts.Text.{end_text}
-use Rattle.schedule_replay.specs.declared.refusal.LineError.{LineError}
-use Rattle.schedule_replay.specs.declared.refusal.LineError.TheVariants as line_errors
+use Rattle.schedule_replay.specs.declared.stop.Stop.{Stop}
+use Rattle.schedule_replay.specs.declared.stop.Stop.TheVariants as errors
 use Rattle.outside.specs.declared.output.PutError.{PutError}
 use Rattle.outside.specs.declared.output.PutError.TheVariants as put_errors
-use Rattle.schedule_replay.specs.declared.ran.ReplayError.{ReplayError}
-use Rattle.schedule_replay.specs.declared.ran.ReplayError.TheVariants as errors
 use Rattle.schedule_replay.specs.Replays.{Replayed, with_front, replayed, replayed_from, refused_at_once, BeginsText}
 use Rattle.outside.specs.Outputs.{PutsFront}
 use Rattle.schedule_replay.specs.Readings.{Reading, from_line, with_more, Advances, BreaksOff, Takes, EndsFront, Finishes, IsBetweenBytes, fresh}
-use Rattle.schedule_replay.specs.Passes.{replay_error_of_line, replay_error_of_put, with_text, TakesPiece, PassesPiece, TakesEnd, PassesEnd}
+use Rattle.schedule_replay.specs.Passes.{stop_of_put, with_text, TakesPiece, PassesPiece, TakesEnd, PassesEnd}
 use Rattle.schedule_replay.specs.Runs.{Replays, ran_of, IsFrontOf, IsCutShort, IsCutTranscript}
 use Rattle.schedule_replay.proofs.TextLaws.{behind, begins_behind, begins_front, begins_nil}
 use Rattle.schedule_replay.proofs.ReplayLaws.{ends, from-first, from-later, no-lines}
@@ -35,7 +33,7 @@ front_of_behind : (n : ℕ) (x : List ℕ) (o : Option (List ℕ)) → BeginsTex
 front_of_behind n x o = begins_front (take n x) x o (record { rest = drop n x; whole = sym (take-append-drop n x) })
 
 -- what was read of a piece begins with any prefix of the text of it
-piece-front : (s : Reading) (piece : List ℕ) (u : Reading) (n : ℕ) (r : Result (Unit {0}) LineError) → s.text ≡ [] → Takes s piece u r → BreaksOff s piece (with_text (take n u.text) u)
+piece-front : (s : Reading) (piece : List ℕ) (u : Reading) (n : ℕ) (r : Result (Unit {0}) Stop) → s.text ≡ [] → Takes s piece u r → BreaksOff s piece (with_text (take n u.text) u)
 piece-front s piece u n (Ok done) empty a = record {
   written = take n u.text;
   text = ap (λ (l : List ℕ). l ++ take n u.text) (sym empty);
@@ -43,20 +41,21 @@ piece-front s piece u n (Ok done) empty a = record {
       let same : u.text ≡ a.written = a.text ∙ ap (λ (l : List ℕ). l ++ a.written) empty in
       rw (after-piece s piece u a bytes, same) (front_of_behind n a.written (with_more u bytes).text);
 }
-piece-front s piece u n (Err (line_errors.Refused line reason)) empty a = record {
+piece-front s piece u n (Err (errors.Refused line reason)) empty a = record {
   written = take n u.text;
   text = ap (λ (l : List ℕ). l ++ take n u.text) (sym empty);
   begins = λ bytes.
       let same : u.text ≡ a.written = a.text ∙ ap (λ (l : List ℕ). l ++ a.written) empty in
       rw (a.ends bytes, same) (drop n a.written, sym (take-append-drop n a.written));
 }
-piece-front s piece u n (Err line_errors.Memory) empty a = record {
+piece-front s piece u n (Err errors.Memory) empty a = record {
   written = take n u.text;
   text = ap (λ (l : List ℕ). l ++ take n u.text) (sym empty);
   begins = λ bytes.
       let same : u.text ≡ a.written = a.text ∙ ap (λ (l : List ℕ). l ++ a.written) empty in
       rw same (begins_less n a.written (with_more s (piece ++ bytes)).text (a.begins bytes));
 }
+piece-front s piece u n (Err _) empty a = absurd a
 
 -- the text aside, they are the same
 abbrev pub IsAlike : Reading → Reading → Type 0
@@ -66,32 +65,33 @@ IsAlike t u = (t.host ≡ u.host) × (t.number ≡ u.number) × (t.line ≡ u.li
 pub passes-put : (s t u : Reading) (piece : List ℕ) (held now : Option (List ℕ)) → s.text ≡ [] → IsAlike t u → Appends held now u.text → Advances s piece u → PassesPiece s piece t held now (Ok tt)
 passes-put s t u piece held now empty same put a = record { written = u.text; put = put; taken = rw (same.0, same.1, same.2) a }
 
-pub passes-error : (s t u : Reading) (piece : List ℕ) (held now : Option (List ℕ)) (e : LineError) → s.text ≡ [] → IsAlike t u → Appends held now u.text → Takes s piece u (Err e)
-    → PassesPiece s piece t held now (Err (replay_error_of_line e))
-passes-error s t u piece held now (line_errors.Refused line reason) empty same put a = record { written = u.text; put = put; taken = rw (same.0, same.1, same.2) a }
-passes-error s t u piece held now line_errors.Memory empty same put a = record { written = u.text; put = put; taken = rw (same.0, same.1, same.2) a }
+pub passes-error : (s t u : Reading) (piece : List ℕ) (held now : Option (List ℕ)) (e : Stop) → s.text ≡ [] → IsAlike t u → Appends held now u.text → Takes s piece u (Err e)
+    → PassesPiece s piece t held now (Err e)
+passes-error s t u piece held now (errors.Refused line reason) empty same put a = record { written = u.text; put = put; taken = rw (same.0, same.1, same.2) a }
+passes-error s t u piece held now _ empty same put a = record { written = u.text; put = put; taken = rw (same.0, same.1, same.2) a }
 
-pub passes-cut : (s t u : Reading) (piece : List ℕ) (held now : Option (List ℕ)) (r : Result (Unit {0}) LineError) (e : PutError) → s.text ≡ [] → IsAlike t u → PutsFront held now u.text → Takes s piece u r
-    → PassesPiece s piece t held now (Err (replay_error_of_put e))
+pub passes-cut : (s t u : Reading) (piece : List ℕ) (held now : Option (List ℕ)) (r : Result (Unit {0}) Stop) (e : PutError) → s.text ≡ [] → IsAlike t u → PutsFront held now u.text → Takes s piece u r
+    → PassesPiece s piece t held now (Err (stop_of_put e))
 passes-cut s t u piece held now r put_errors.Write empty same put a = record { written = take put.0 u.text; put = put.1; taken = rw (same.0, same.1, same.2) (piece-front s piece u put.0 r empty a) }
 passes-cut s t u piece held now r put_errors.Memory empty same put a = record { written = take put.0 u.text; put = put.1; taken = rw (same.0, same.1, same.2) (piece-front s piece u put.0 r empty a) }
 
 -- ---- the end: what was to be written, and what of that was written
 
-end-front : (s u : Reading) (n : ℕ) (r : Result (Unit {0}) LineError) → s.text ≡ [] → Finishes s u r → EndsFront s (with_text (take n u.text) s)
+end-front : (s u : Reading) (n : ℕ) (r : Result (Unit {0}) Stop) → s.text ≡ [] → Finishes s u r → EndsFront s (with_text (take n u.text) s)
 end-front s u n r empty f = record {
   written = take n u.text;
   text = ap (λ (l : List ℕ). l ++ take n u.text) (sym empty);
   begins = begins_less n u.text (with_more s []).text (by_result r f);
 }
   where
-    by_result : (r : Result (Unit {0}) LineError) → Finishes s u r → BeginsText u.text (with_more s []).text
+    by_result : (r : Result (Unit {0}) Stop) → Finishes s u r → BeginsText u.text (with_more s []).text
     by_result (Ok done) f = rw (f.all, f.text, empty) ([], sym (append-nil f.written))
-    by_result (Err (line_errors.Refused line reason)) f = rw (f.all, f.text, empty) ([], sym (append-nil f.written))
-    by_result (Err line_errors.Memory) f = rw (f.text, empty) f.begins
+    by_result (Err (errors.Refused line reason)) f = rw (f.all, f.text, empty) ([], sym (append-nil f.written))
+    by_result (Err errors.Memory) f = rw (f.text, empty) f.begins
+    by_result (Err _) f = absurd f
 
-pub ends-cut : (s u : Reading) (held now : Option (List ℕ)) (r : Result (Unit {0}) LineError) (e : PutError) → s.text ≡ [] → Finishes s u r → PutsFront held now u.text
-    → PassesEnd s held now (Err (replay_error_of_put e))
+pub ends-cut : (s u : Reading) (held now : Option (List ℕ)) (r : Result (Unit {0}) Stop) (e : PutError) → s.text ≡ [] → Finishes s u r → PutsFront held now u.text
+    → PassesEnd s held now (Err (stop_of_put e))
 ends-cut s u held now r put_errors.Write empty f put = record { written = take put.0 u.text; put = put.1; taken = end-front s u put.0 r empty f }
 ends-cut s u held now r put_errors.Memory empty f put = record { written = take put.0 u.text; put = put.1; taken = end-front s u put.0 r empty f }
 
@@ -109,7 +109,7 @@ pub so-far-none : (left held : Option (List ℕ)) (t : Reading) → t ≡ fresh 
 so-far-none left held t e = record { taken = []; read = Consumes-nil left; text = []; put = Appends-nil held; done = rw e (advances-none fresh) }
 
 -- a piece behind what was written before
-shift-piece : (t v : Reading) (w piece : List ℕ) (r : Result (Unit {0}) ReplayError) → t.text ≡ [] → TakesPiece t piece v r → TakesPiece (with_text w t) piece (with_text (w ++ v.text) v) r
+shift-piece : (t v : Reading) (w piece : List ℕ) (r : Result (Unit {0}) Stop) → t.text ≡ [] → TakesPiece t piece v r → TakesPiece (with_text w t) piece (with_text (w ++ v.text) v) r
 shift-piece t v w piece (Ok done) empty a =
     record { whole = a.whole; cut = a.cut; written = a.written; text = ap (λ (l : List ℕ). w ++ l) (a.text ∙ ap (λ (l : List ℕ). l ++ a.written) empty); goes_on = a.goes_on; begun = a.begun }
 shift-piece t v w piece (Err errors.Read) empty a = absurd a
@@ -120,15 +120,15 @@ shift-piece t v w piece (Err errors.Write) empty a =
 shift-piece t v w piece (Err errors.Memory) empty a =
     record { written = a.written; text = ap (λ (l : List ℕ). w ++ l) (a.text ∙ ap (λ (l : List ℕ). l ++ a.written) empty); begins = a.begins }
 
-then-piece : (s t v : Reading) (p q : List ℕ) (r : Result (Unit {0}) ReplayError) → Advances s p t → TakesPiece t q v r → TakesPiece s (p ++ q) v r
+then-piece : (s t v : Reading) (p q : List ℕ) (r : Result (Unit {0}) Stop) → Advances s p t → TakesPiece t q v r → TakesPiece s (p ++ q) v r
 then-piece s t v p q (Ok done) a b = advances-then s p t q v (Ok tt) a b
 then-piece s t v p q (Err errors.Read) a b = absurd b
-then-piece s t v p q (Err (errors.Refused line reason)) a b = advances-then s p t q v (Err (line_errors.Refused line reason)) a b
-then-piece s t v p q (Err errors.Write) a b = advances-then s p t q v (Err line_errors.Memory) a b
-then-piece s t v p q (Err errors.Memory) a b = advances-then s p t q v (Err line_errors.Memory) a b
+then-piece s t v p q (Err (errors.Refused line reason)) a b = advances-then s p t q v (Err (errors.Refused line reason)) a b
+then-piece s t v p q (Err errors.Write) a b = advances-then s p t q v (Err errors.Memory) a b
+then-piece s t v p q (Err errors.Memory) a b = advances-then s p t q v (Err errors.Memory) a b
 
 -- what a schedule's first bytes and this piece do
-from-fresh : (t u : Reading) (taken text piece x : List ℕ) (r : Result (Unit {0}) ReplayError) → t.text ≡ [] → Advances fresh taken (with_text text t) → TakesPiece t piece (with_text x u) r
+from-fresh : (t u : Reading) (taken text piece x : List ℕ) (r : Result (Unit {0}) Stop) → t.text ≡ [] → Advances fresh taken (with_text text t) → TakesPiece t piece (with_text x u) r
     → TakesPiece fresh (taken ++ piece) (with_text (text ++ x) u) r
 from-fresh t u taken text piece x r empty a b =
     then-piece fresh (with_text text t) (with_text (text ++ x) u) taken piece r a (shift-piece t (with_text x u) text piece r empty b)
@@ -143,13 +143,13 @@ so-far-more l0 l1 l2 h0 h1 h2 t u piece empty s c p = record {
 }
 
 -- at an error in a piece
-by-error : (l2 h0 h2 : Option (List ℕ)) (v : Reading) (all rest : List ℕ) (e : ReplayError) → TakesPiece fresh all v (Err e) → Appends h0 h2 v.text → Replays (all ++ rest) l2 h0 h2 (ran_of (Err e))
+by-error : (l2 h0 h2 : Option (List ℕ)) (v : Reading) (all rest : List ℕ) (e : Stop) → TakesPiece fresh all v (Err e) → Appends h0 h2 v.text → Replays (all ++ rest) l2 h0 h2 (ran_of (Err e))
 by-error l2 h0 h2 v all rest errors.Read a put = absurd a
 by-error l2 h0 h2 v all rest (errors.Refused line reason) a put = is_bad (all ++ rest) h0 h2 a.written line reason (a.ends rest) (rw (← a.text) put)
 by-error l2 h0 h2 v all rest errors.Write a put = is_front (all ++ rest) h0 h2 a.written (a.begins rest) (rw (← a.text) put)
 by-error l2 h0 h2 v all rest errors.Memory a put = is_front (all ++ rest) h0 h2 a.written (a.begins rest) (rw (← a.text) put)
 
-pub so-far-error : (l0 l1 l2 h0 h1 h2 : Option (List ℕ)) (t u : Reading) (piece : List ℕ) (e : ReplayError) → t.text ≡ [] → SoFar l0 l1 h0 h1 t → Consumes l1 l2 piece → PassesPiece t piece u h1 h2 (Err e)
+pub so-far-error : (l0 l1 l2 h0 h1 h2 : Option (List ℕ)) (t u : Reading) (piece : List ℕ) (e : Stop) → t.text ≡ [] → SoFar l0 l1 h0 h1 t → Consumes l1 l2 piece → PassesPiece t piece u h1 h2 (Err e)
     → IfSome l0 (λ bytes. Replays bytes l2 h0 h2 (ran_of (Err e)))
 so-far-error None l1 l2 h0 h1 h2 t u piece e empty s c p = tt
 so-far-error (Some bytes) l1 l2 h0 h1 h2 t u piece e empty s c p = by_rest l2 (Consumes-trans (Some bytes) l1 l2 s.taken piece s.read c)
@@ -161,14 +161,14 @@ so-far-error (Some bytes) l1 l2 h0 h1 h2 t u piece e empty s c p = by_rest l2 (C
         (from-fresh t u s.taken s.text piece p.written (Err e) empty s.done p.taken) (Appends-trans h0 h1 h2 s.text p.written s.put p.put))
 
 -- at the end of the schedule
-by-end : (l2 h0 h2 : Option (List ℕ)) (t : Reading) (taken text x : List ℕ) (r : Result (Unit {0}) ReplayError) → IsAtEnd l2 → t.text ≡ [] → Advances fresh taken (with_text text t) → TakesEnd t (with_text x t) r → Appends h0 h2 (text ++ x)
+by-end : (l2 h0 h2 : Option (List ℕ)) (t : Reading) (taken text x : List ℕ) (r : Result (Unit {0}) Stop) → IsAtEnd l2 → t.text ≡ [] → Advances fresh taken (with_text text t) → TakesEnd t (with_text x t) r → Appends h0 h2 (text ++ x)
     → Replays (taken ++ []) l2 h0 h2 (ran_of r)
 by-end l2 h0 h2 t taken text x r at_end empty a f put = by_result r f
   where
     whole : replayed (taken ++ []) ≡ with_front text (with_more t [])
     whole = after-piece fresh taken (with_text text t) a [] ∙ ap (λ (l : List ℕ). with_front l (with_more t [])) (sym a.text)
 
-    by_result : (r : Result (Unit {0}) ReplayError) → TakesEnd t (with_text x t) r → Replays (taken ++ []) l2 h0 h2 (ran_of r)
+    by_result : (r : Result (Unit {0}) Stop) → TakesEnd t (with_text x t) r → Replays (taken ++ []) l2 h0 h2 (ran_of r)
     by_result (Ok done) f =
         let same : x ≡ f.written = f.text ∙ ap (λ (l : List ℕ). l ++ f.written) empty in
         is_done (taken ++ []) l2 h0 h2 (text ++ x) at_end (whole ∙ rw (f.all, same) refl) put
@@ -183,7 +183,7 @@ by-end l2 h0 h2 t taken text x r at_end empty a f put = by_result r f
         let same : x ≡ f.written = f.text ∙ ap (λ (l : List ℕ). l ++ f.written) empty in
         is_front (taken ++ []) h0 h2 (text ++ x) (rw (whole, same) (begins_behind text f.written (with_more t []).text f.begins)) put
 
-pub so-far-end : (l0 l1 l2 h0 h1 h2 : Option (List ℕ)) (t : Reading) (r : Result (Unit {0}) ReplayError) → t.text ≡ [] → SoFar l0 l1 h0 h1 t → IsAtEnd l1 → Keeps l1 l2 → PassesEnd t h1 h2 r
+pub so-far-end : (l0 l1 l2 h0 h1 h2 : Option (List ℕ)) (t : Reading) (r : Result (Unit {0}) Stop) → t.text ≡ [] → SoFar l0 l1 h0 h1 t → IsAtEnd l1 → Keeps l1 l2 → PassesEnd t h1 h2 r
     → IfSome l0 (λ bytes. Replays bytes l2 h0 h2 (ran_of r))
 so-far-end None l1 l2 h0 h1 h2 t r empty s at_end kept p = tt
 so-far-end (Some bytes) None l2 h0 h1 h2 t r empty s at_end kept p = absurd s.read

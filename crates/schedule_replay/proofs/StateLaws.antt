@@ -22,8 +22,8 @@ use Rattle.tree_specs.proofs.Tree.Numbered.{by_test}
 use Rattle.tree_specs.specs.Texts.Schedule.{Line, schedule_header, mode_of, line_input, is_header, misfit, line_limit, lines_limit}
 use Rattle.tree_specs.specs.Machine.View.{View, rest_of, question_of}
 use Rattle.host_core.specs.Promises.{Waits, TakesAnswer}
-use Rattle.schedule_replay.specs.declared.refusal.LineError.{LineError}
-use Rattle.schedule_replay.specs.declared.refusal.LineError.TheVariants as errors
+use Rattle.schedule_replay.specs.declared.stop.Stop.{Stop}
+use Rattle.schedule_replay.specs.declared.stop.Stop.TheVariants as errors
 use Rattle.schedule_replay.specs.Replays.{Replayed, with_front, replayed_from, ended_line, BeginsText}
 use Rattle.schedule_replay.specs.Questions.{answered_of}
 use Rattle.schedule_replay.specs.Tellings.{event_texts, TellsAll, TellsFront}
@@ -36,11 +36,11 @@ use Rattle.schedule_replay.proofs.ReplayLaws.{Answered, accepts, begins-accepted
 begins-whole : (front text : List ℕ) → IsFront front text → BeginsText front (Some text)
 begins-whole front text f = (f.rest, f.whole)
 
-refuses-line : (s t : Reading) (why : Reason) (r : Result (Unit {0}) LineError) → RefusesHere s t why r
+refuses-line : (s t : Reading) (why : Reason) (r : Result (Unit {0}) Stop) → RefusesHere s t why r
     → ((rest : List Line) → replayed_from s.host s.number (ended_line s.line ∷ rest) ≡ record { text = Some (refused_text s); refused = Some (s.number, why) }) → TakesLine s t r
-refuses-line s t why (Ok done) h e = absurd h
 refuses-line s t why (Err (errors.Refused line reason)) h e = record { written = refused_text s; text = h.2; ends = λ rest. rw (h.0, h.1) (e rest) }
 refuses-line s t why (Err errors.Memory) h e = record { written = h.front; text = h.written; begins = λ rest. rw (e rest) (begins-whole h.front (refused_text s) h.begins) }
+refuses-line s t why _ h e = absurd h
 
 -- the text of a refusal at the first line, and at another
 pub refused-first : (s : Reading) → s.number ≡ 1 → refused_text s ≡ []
@@ -51,22 +51,22 @@ refused-later s w ne =
     let a : eqb s.number 1 ≡ false = grind (arith, nat_tests) in
     rw (a, w.open_now) refl
 
-pub refuses-header : (s t : Reading) (r : Result (Unit {0}) LineError) → s.number ≡ 1 → length s.line ≤ line_limit → is_header (ended_line s.line) ≡ false → RefusesHere s t Form r → TakesLine s t r
+pub refuses-header : (s t : Reading) (r : Result (Unit {0}) Stop) → s.number ≡ 1 → length s.line ≤ line_limit → is_header (ended_line s.line) ≡ false → RefusesHere s t Form r → TakesLine s t r
 refuses-header s t r first short h refused =
     refuses-line s t Form r refused (λ rest.
     from-first s.host s.number (ended_line s.line ∷ rest) first ∙ header-refused s.host (ended_line s.line) rest h
     ∙ rw (header-form (ended_line s.line) short, first) refl)
 
-refuses-by : (s t : Reading) (why : Reason) (r : Result (Unit {0}) LineError) (w : Waits s.host) → s.number ≢ 1 → line_input s.number (Some w.question) (ended_line s.line) ≡ Err why → RefusesHere s t why r → TakesLine s t r
+refuses-by : (s t : Reading) (why : Reason) (r : Result (Unit {0}) Stop) (w : Waits s.host) → s.number ≢ 1 → line_input s.number (Some w.question) (ended_line s.line) ≡ Err why → RefusesHere s t why r → TakesLine s t r
 refuses-by s t why r w ne e refused =
     refuses-line s t why r refused (λ rest.
     from-later s.host s.number (ended_line s.line ∷ rest) ne ∙ refuses s.host w s.number (ended_line s.line) rest why e
     ∙ rw (refused-later s w ne) refl)
 
-pub refuses-form : (s t : Reading) (r : Result (Unit {0}) LineError) → IsBetweenBytes s → s.number ≤ lines_limit → s.number ≢ 1 → input_of s.line ≡ None → RefusesHere s t Form r → TakesLine s t r
+pub refuses-form : (s t : Reading) (r : Result (Unit {0}) Stop) → IsBetweenBytes s → s.number ≤ lines_limit → s.number ≢ 1 → input_of s.line ≡ None → RefusesHere s t Form r → TakesLine s t r
 refuses-form s t r ready low ne e refused = refuses-by s t Form r ready.waits ne (no-input s.number _ s.line ready.short low e) refused
 
-pub refuses-misfit : (s t : Reading) (i : Input) (r : Result (Unit {0}) LineError) → IsBetweenBytes s → s.number ≤ lines_limit → s.number ≢ 1 → input_of s.line ≡ Some i → misfit (question_of s.host) i ≡ Some NotAsked
+pub refuses-misfit : (s t : Reading) (i : Input) (r : Result (Unit {0}) Stop) → IsBetweenBytes s → s.number ≤ lines_limit → s.number ≢ 1 → input_of s.line ≡ Some i → misfit (question_of s.host) i ≡ Some NotAsked
     → RefusesHere s t NotAsked r → TakesLine s t r
 refuses-misfit s t i r ready low ne e m refused =
     let m' : misfit (Some ready.waits.question) i ≡ Some NotAsked = ap (λ (q : Option Ask). misfit q i) (sym ready.waits.open_now) ∙ m in
@@ -86,10 +86,10 @@ pub taken-back : (old asked now : List ℕ) (n : ℕ) → n ≡ length old → n
 taken-back old asked now n e written = rw (e, written) (take-front old asked)
 
 -- where the host is as it was
-pub refused-same : (s u t : Reading) (why : Reason) (r : Result (Unit {0}) LineError) → u.host ≡ s.host → u.number ≡ s.number → u.text ≡ s.text → RefusesHere u t why r → RefusesHere s t why r
-refused-same s u t why (Ok done) host number text h = h
+pub refused-same : (s u t : Reading) (why : Reason) (r : Result (Unit {0}) Stop) → u.host ≡ s.host → u.number ≡ s.number → u.text ≡ s.text → RefusesHere u t why r → RefusesHere s t why r
 refused-same s u t why (Err (errors.Refused line reason)) host number text h = rw (sym host, sym number, sym text) h
 refused-same s u t why (Err errors.Memory) host number text h = rw (sym host, sym number, sym text) h
+refused-same s u t why _ host number text h = absurd h
 
 -- ---- the header
 

@@ -7,8 +7,8 @@ use Rattle.tree_specs.specs.Texts.Text.{end_text}
 use Rattle.tree_specs.specs.Texts.Schedule.{Line, lines, line_limit, lines_limit}
 use Rattle.tree_specs.specs.Machine.View.{View, begin, question_of}
 use Rattle.host_core.specs.Promises.{Waits}
-use Rattle.schedule_replay.specs.declared.refusal.LineError.{LineError}
-use Rattle.schedule_replay.specs.declared.refusal.LineError.TheVariants as errors
+use Rattle.schedule_replay.specs.declared.stop.Stop.{Stop}
+use Rattle.schedule_replay.specs.declared.stop.Stop.TheVariants as errors
 use Rattle.schedule_replay.specs.Replays.{Replayed, with_front, replayed_from, BeginsText, has_no_lf, ended_line}
 
 pub record Reading : Type 0 where
@@ -37,10 +37,10 @@ abbrev pub refused_text : Reading → List ℕ
 refused_text s = if s.number == 1 then [] else end_of (question_of s.host)
 
 -- the line that has begun is refused, after the end of the transcript
-abbrev pub RefusesHere : Reading → Reading → Reason → Result (Unit {0}) LineError → Type 0
-RefusesHere s t reason (Ok done) = ⊥
+abbrev pub RefusesHere : Reading → Reading → Reason → Result (Unit {0}) Stop → Type 0
 RefusesHere s t reason (Err (errors.Refused line why)) = (line ≡ s.number) × (why ≡ reason) × (t.text ≡ s.text ++ refused_text s)
 RefusesHere s t reason (Err errors.Memory) = WritesFront s.text t.text (refused_text s)
+RefusesHere s t reason _ = ⊥
 
 -- The line that has begun is whole, and was done.
 pub record LineDone (s t : Reading) : Type 0 where
@@ -61,10 +61,11 @@ pub record LineBroken (s t : Reading) : Type 0 where
   pub text : t.text ≡ s.text ++ written
   pub begins : (rest : List Line) → BeginsText written (replayed_from s.host s.number (ended_line s.line ∷ rest)).text
 
-abbrev pub TakesLine : Reading → Reading → Result (Unit {0}) LineError → Type 0
+abbrev pub TakesLine : Reading → Reading → Result (Unit {0}) Stop → Type 0
 TakesLine s t (Ok done) = LineDone s t
 TakesLine s t (Err (errors.Refused line reason)) = LineRefused s t line reason
 TakesLine s t (Err errors.Memory) = LineBroken s t
+TakesLine s t (Err _) = ⊥
 
 -- The piece holds some whole lines, which were done, and the rest has begun the next.
 pub record Advances (s : Reading) (piece : List ℕ) (t : Reading) : Type 0 where
@@ -88,10 +89,11 @@ pub record BreaksOff (s : Reading) (piece : List ℕ) (t : Reading) : Type 0 whe
   pub text : t.text ≡ s.text ++ written
   pub begins : (bytes : List ℕ) → BeginsText written (with_more s (piece ++ bytes)).text
 
-abbrev pub Takes : Reading → List ℕ → Reading → Result (Unit {0}) LineError → Type 0
+abbrev pub Takes : Reading → List ℕ → Reading → Result (Unit {0}) Stop → Type 0
 Takes s piece t (Ok done) = Advances s piece t
 Takes s piece t (Err (errors.Refused line reason)) = Refuses s piece t line reason
 Takes s piece t (Err errors.Memory) = BreaksOff s piece t
+Takes s piece t (Err _) = ⊥
 
 -- at the end of the schedule nothing more comes
 pub record Ends (s t : Reading) (refused : Option (ℕ × Reason)) : Type 0 where
@@ -105,10 +107,11 @@ pub record EndsFront (s t : Reading) : Type 0 where
   pub text : t.text ≡ s.text ++ written
   pub begins : BeginsText written (with_more s []).text
 
-abbrev pub Finishes : Reading → Reading → Result (Unit {0}) LineError → Type 0
+abbrev pub Finishes : Reading → Reading → Result (Unit {0}) Stop → Type 0
 Finishes s t (Ok done) = Ends s t None
 Finishes s t (Err (errors.Refused line reason)) = Ends s t (Some (line, reason))
 Finishes s t (Err errors.Memory) = EndsFront s t
+Finishes s t (Err _) = ⊥
 
 -- what holds between two bytes
 pub record IsBetweenBytes (s : Reading) : Type 0 where

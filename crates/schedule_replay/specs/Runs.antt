@@ -7,12 +7,12 @@ use Rattle.tree_specs.specs.Texts.Text.{end_text}
 use Rattle.tree_specs.specs.Texts.Schedule.{judge, transcript_of}
 use Rattle.schedule_replay.specs.declared.ran.Ran.{Ran}
 use Rattle.schedule_replay.specs.declared.ran.Ran.TheVariants as rans
-use Rattle.schedule_replay.specs.declared.ran.ReplayError.{ReplayError}
-use Rattle.schedule_replay.specs.declared.ran.ReplayError.TheVariants as errors
+use Rattle.schedule_replay.specs.declared.stop.Stop.{Stop}
+use Rattle.schedule_replay.specs.declared.stop.Stop.TheVariants as errors
 use Rattle.schedule_replay.specs.Replays.{has_no_lf}
 
 -- what an outcome is called outside
-abbrev pub ran_of : Result (Unit {0}) ReplayError → Ran
+abbrev pub ran_of : Result (Unit {0}) Stop → Ran
 ran_of (Ok done) = rans.Done
 ran_of (Err errors.Read) = rans.ReadFault
 ran_of (Err (errors.Refused line reason)) = rans.BadSchedule line reason

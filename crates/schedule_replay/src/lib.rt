@@ -3,8 +3,8 @@
 
 mod ran;
 mod reading;
-mod refusal;
 mod session;
+mod stop;
 mod telling;
 
 pub use ran::Ran;

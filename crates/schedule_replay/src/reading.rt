@@ -10,7 +10,7 @@ ghost use Rattle.schedule_replay.specs.Questions.{answered_of};
 ghost use Rattle.schedule_replay.specs.Cuts.{EndsFirst};
 ghost use Rattle.host_core.specs.Promises.{Waits};
 
-use crate::refusal::LineError;
+use crate::stop::Stop;
 use crate::telling::tell;
 use host_core::{Host, OfferFault};
 use memchr::memchr;
@@ -83,18 +83,18 @@ impl Replay {
     }
 
     /// Refuses the line that has begun.
-    fn refuse(&mut self, reason: Reason) -> Result<(), LineError>
+    fn refuse(&mut self, reason: Reason) -> Result<(), Stop>
         ensures refused { RefusesHere (reading_of self.old) (reading_of self.new) reason result }
         ensures number { self.new.number ≡ self.old.number }
         ensures line { self.new.line ≡ self.old.line }
     {
         let line = self.number;
         self.end_transcript()?;
-        Err(LineError::Refused { line, reason })
+        Err(Stop::Refused { line, reason })
     }
 
     /// Takes the first line, which is the header.
-    fn take_header(&mut self, line: &[u8]) -> Result<(), LineError>
+    fn take_header(&mut self, line: &[u8]) -> Result<(), Stop>
         requires ready { IsBetweenBytes (at_line (reading_of self.old) line.now) }
         requires first { self.old.number ≡ 1 }
         ensures taken { TakesLine (at_line (reading_of self.old) line.now) (reading_of self.new) result }
@@ -125,7 +125,7 @@ impl Replay {
     }
 
     /// Gives an input, which the line spells, to the host, and writes what it tells.
-    fn answer(&mut self, line: &[u8], input: Input) -> Result<(), LineError>
+    fn answer(&mut self, line: &[u8], input: Input) -> Result<(), Stop>
         requires ready { IsBetweenBytes (at_line (reading_of self.old) line.now) }
         requires numbered { self.old.number ≤ lines_limit }
         requires later { self.old.number ≢ 1 }
@@ -148,13 +148,13 @@ impl Replay {
             }
             Err(OfferFault::Memory) => {
                 self.text.truncate(began);
-                Err(LineError::Memory)
+                Err(Stop::Memory)
             }
         }
     }
 
     /// Takes a line after the first.
-    fn take_input(&mut self, line: &[u8]) -> Result<(), LineError>
+    fn take_input(&mut self, line: &[u8]) -> Result<(), Stop>
         requires ready { IsBetweenBytes (at_line (reading_of self.old) line.now) }
         requires numbered { self.old.number ≤ lines_limit }
         requires later { self.old.number ≢ 1 }
@@ -165,7 +165,7 @@ impl Replay {
         match read_line(*self.line.allocator(), line) {
             Ok(input) => self.answer(line, input),
             Err(FormFault::NoForm) => self.refuse(Reason::Form),
-            Err(FormFault::Memory) => Err(LineError::Memory),
+            Err(FormFault::Memory) => Err(Stop::Memory),
         }
     }
 
@@ -177,7 +177,7 @@ impl Replay {
     }
 
     /// Takes a line that is whole.
-    fn take_line(&mut self, line: &[u8]) -> Result<(), LineError>
+    fn take_line(&mut self, line: &[u8]) -> Result<(), Stop>
         requires ready { IsBetweenBytes (at_line (reading_of self.old) line.now) }
         requires numbered { self.old.number ≤ lines_limit }
         ensures taken { TakesLine (at_line (reading_of self.old) line.now) (reading_of self.new) result }
@@ -192,7 +192,7 @@ impl Replay {
     }
 
     /// Takes bytes of the line that has begun.
-    fn lengthen(&mut self, run: &[u8]) -> Result<(), LineError>
+    fn lengthen(&mut self, run: &[u8]) -> Result<(), Stop>
         requires ready { IsBetweenBytes (reading_of self.old) }
         requires plain { IsTrue (has_no_lf run.now) }
         ensures taken { Takes (reading_of self.old) run.now (reading_of self.new) result }
@@ -213,7 +213,7 @@ impl Replay {
     }
 
     /// Takes the LF of the line that has begun.
-    fn end_line(&mut self) -> Result<(), LineError>
+    fn end_line(&mut self) -> Result<(), Stop>
         requires { IsBetweenBytes (reading_of self.old) }
         ensures taken { Takes (reading_of self.old) (10 ∷ []) (reading_of self.new) result }
         ensures ready { OnOk result (IsBetweenBytes (reading_of self.new)) }
@@ -232,7 +232,7 @@ impl Replay {
     }
 
     /// Takes a line that stands whole in the piece, where none has begun.
-    fn take_here(&mut self, line: &[u8]) -> Result<(), LineError>
+    fn take_here(&mut self, line: &[u8]) -> Result<(), Stop>
         requires ready { IsBetweenBytes (reading_of self.old) }
         requires none { self.old.line.items ≡ [] }
         requires plain { IsTrue (has_no_lf line.now) }
@@ -252,7 +252,7 @@ impl Replay {
     }
 
     /// Takes the rest of a line, and its LF.
-    fn take_rest(&mut self, run: &[u8]) -> Result<(), LineError>
+    fn take_rest(&mut self, run: &[u8]) -> Result<(), Stop>
         requires ready { IsBetweenBytes (reading_of self.old) }
         requires plain { IsTrue (has_no_lf run.now) }
         ensures taken { Takes (reading_of self.old) (run.now ++ 10 ∷ []) (reading_of self.new) result }
@@ -267,7 +267,7 @@ impl Replay {
     }
 
     /// Takes the next bytes. What is to be written of them stands at the end of `text`, at an error too.
-    pub fn feed(&mut self, piece: &[u8]) -> Result<(), LineError>
+    pub fn feed(&mut self, piece: &[u8]) -> Result<(), Stop>
         requires { IsBetweenBytes (reading_of self.old) }
         ensures taken { Takes (reading_of self.old) piece.now (reading_of self.new) result }
         ensures ready { OnOk result (IsBetweenBytes (reading_of self.new)) }
@@ -282,7 +282,7 @@ impl Replay {
     }
 
     /// Takes the end of the schedule.
-    pub fn finish(&mut self) -> Result<(), LineError>
+    pub fn finish(&mut self) -> Result<(), Stop>
         requires { IsBetweenBytes (reading_of self.old) }
         ensures finished { Finishes (reading_of self.old) (reading_of self.new) result }
         ensures number { self.new.number ≡ self.old.number }

@@ -10,8 +10,9 @@ ghost use Rattle.schedule_replay.specs.Runs.{Replays, ran_of};
 ghost use Rattle.schedule_replay.specs.Stories.{WritesStory};
 ghost use Rattle.tree_specs.specs.declared.schedule.Reason.{Reason};
 
-use crate::ran::{Ran, ReplayError, ending};
+use crate::ran::{Ran, ending};
 use crate::reading::Replay;
+use crate::stop::Stop;
 use outside::{Got, PutError, Sink, Source, put_all};
 use std::alloc::Global;
 
@@ -30,14 +31,14 @@ fn put_text<K: Sink>(replay: &mut Replay, out: &mut K) -> Result<(), PutError>
 }
 
 /// Takes the next bytes, and writes what comes of them, before an error too.
-fn take_piece<K: Sink>(replay: &mut Replay, piece: &[u8], out: &mut K) -> Result<(), ReplayError>
+fn take_piece<K: Sink>(replay: &mut Replay, piece: &[u8], out: &mut K) -> Result<(), Stop>
     requires ready { IsBetweenBytes (reading_of replay.old) }
     requires empty { replay.old.text.items ≡ [] }
     ensures passed { PassesPiece (reading_of replay.old) piece.now (reading_of replay.new) (K.held out.old) (K.held out.new) result }
     ensures ready { OnOk result (IsBetweenBytes (reading_of replay.new)) }
     ensures empty { OnOk result (replay.new.text.items ≡ []) }
     ensures progress { OnOk result (room_left (reading_of replay.new) + length piece.now ≤ room_left (reading_of replay.old)) }
-    ensures cause { Counts (K.faults out.old) (K.faults out.new) (result ≡ Err ReplayError.Write) }
+    ensures cause { Counts (K.faults out.old) (K.faults out.new) (result ≡ Err Stop.Write) }
 {
     let taken = replay.feed(piece);
     put_text(replay, out)?;
@@ -46,11 +47,11 @@ fn take_piece<K: Sink>(replay: &mut Replay, piece: &[u8], out: &mut K) -> Result
 }
 
 /// Takes the end of the schedule, and writes what comes of it, before an error too.
-fn take_end<K: Sink>(replay: &mut Replay, out: &mut K) -> Result<(), ReplayError>
+fn take_end<K: Sink>(replay: &mut Replay, out: &mut K) -> Result<(), Stop>
     requires ready { IsBetweenBytes (reading_of replay.old) }
     requires empty { replay.old.text.items ≡ [] }
     ensures passed { PassesEnd (reading_of replay.old) (K.held out.old) (K.held out.new) result }
-    ensures cause { Counts (K.faults out.old) (K.faults out.new) (result ≡ Err ReplayError.Write) }
+    ensures cause { Counts (K.faults out.old) (K.faults out.new) (result ≡ Err Stop.Write) }
 {
     let taken = replay.finish();
     put_text(replay, out)?;
@@ -59,32 +60,28 @@ fn take_end<K: Sink>(replay: &mut Replay, out: &mut K) -> Result<(), ReplayError
 }
 
 /// Reads a schedule to its end into a replay that begins, and writes its transcript.
-fn pass<S: Source, K: Sink>(
-    replay: &mut Replay,
-    input: &mut S,
-    out: &mut K,
-) -> Result<(), ReplayError>
+fn pass<S: Source, K: Sink>(replay: &mut Replay, input: &mut S, out: &mut K) -> Result<(), Stop>
     requires fresh { reading_of replay.old ≡ fresh }
     requires ready { IsBetweenBytes (reading_of replay.old) }
     ensures replays { IfSome (S.left input.old) (λ bytes. Replays bytes (S.left input.new) (K.held out.old) (K.held out.new) (ran_of result)) }
-    ensures reads { Counts (S.faults input.old) (S.faults input.new) (result ≡ Err ReplayError.Read) }
-    ensures writes { Counts (K.faults out.old) (K.faults out.new) (result ≡ Err ReplayError.Write) }
+    ensures reads { Counts (S.faults input.old) (S.faults input.new) (result ≡ Err Stop.Read) }
+    ensures writes { Counts (K.faults out.old) (K.faults out.new) (result ≡ Err Stop.Write) }
 {
     let mut chunk = [0u8; 4096];
     'reads: loop {
         match input.read(&mut chunk) {
             Got::Some(n) => take_piece(replay, &chunk[..n as usize], out)?,
             Got::End => return take_end(replay, out),
-            Got::Failed => return Err(ReplayError::Read),
+            Got::Failed => return Err(Stop::Read),
         }
     }
 }
 
 /// Reads a schedule to its end, and writes its transcript.
-fn run<S: Source, K: Sink>(alloc: Global, input: &mut S, out: &mut K) -> Result<(), ReplayError>
+fn run<S: Source, K: Sink>(alloc: Global, input: &mut S, out: &mut K) -> Result<(), Stop>
     ensures replays { IfSome (S.left input.old) (λ bytes. Replays bytes (S.left input.new) (K.held out.old) (K.held out.new) (ran_of result)) }
-    ensures reads { Counts (S.faults input.old) (S.faults input.new) (result ≡ Err ReplayError.Read) }
-    ensures writes { Counts (K.faults out.old) (K.faults out.new) (result ≡ Err ReplayError.Write) }
+    ensures reads { Counts (S.faults input.old) (S.faults input.new) (result ≡ Err Stop.Read) }
+    ensures writes { Counts (K.faults out.old) (K.faults out.new) (result ≡ Err Stop.Write) }
 {
     let mut replay = Replay::new(alloc)?;
     pass(&mut replay, input, out)

@@ -1,5 +1,6 @@
 use super::*;
 use std::alloc::Global;
+use std::fmt::InlineText;
 use std::process::Abort;
 use std::test::Fail;
 use tree_specs::{Call, Name, Owner, ReportRow, RowKind};
@@ -278,4 +279,12 @@ fn writes_the_rows_of_a_report(rt: HostRuntime) -> Result<(), Fail> {
         b"row 0 0 root 0 0 0 null_context\nrow 2 4 reference 0 0 2 reference\nrow 4294967295 18446744073709551615 plain 268435455 4294967295 18446744073709551614 ~\n";
     assert_eq!(rt; out.as_slice(), want.as_slice());
     Ok(())
+}
+
+#[test]
+fn a_fault_has_its_message(rt: HostRuntime) {
+    let text: InlineText<64> = InlineText::of(FormFault::NoForm);
+    assert_eq!(rt; text.as_str(), "the text spells no such value");
+    let text: InlineText<64> = InlineText::of(FormFault::Memory);
+    assert_eq!(rt; text.as_str(), "out of memory");
 }

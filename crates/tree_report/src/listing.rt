@@ -46,7 +46,7 @@ fn copied(alloc: Global, name: &Name) -> Result<Name, Memory>
     }
 }
 
-fn row_of_root(alloc: Global) -> ReportRow
+fn row_of_root() -> ReportRow
     ensures { result ≡ root_row }
 {
     ReportRow {
@@ -56,7 +56,7 @@ fn row_of_root(alloc: Global) -> ReportRow
         size: 0,
         refs: 0,
         target: 0,
-        name: Name::fixed(alloc, b"null_context"),
+        name: Name::fixed(b"null_context"),
     }
 }
 
@@ -96,7 +96,7 @@ fn row_at(
     ensures { IfOk result (λ r. option_to_list r ≡ shown_at tree.now.rows depth owner) }
 {
     match owner {
-        Owner::Root => Ok(Some(row_of_root(alloc))),
+        Owner::Root => Ok(Some(row_of_root())),
         Owner::Of(x) => row_of_object(alloc, tree, refs, x, depth),
     }
 }

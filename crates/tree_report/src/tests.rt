@@ -64,19 +64,13 @@ impl World {
     }
 
     // Adds a reference.
-    fn refer(
-        &mut self,
-        rt: &impl Abort,
-        alloc: Global,
-        target: Obj,
-        owner: Owner,
-    ) -> Result<Obj, Fail> {
+    fn refer(&mut self, rt: &impl Abort, target: Obj, owner: Owner) -> Result<Obj, Fail> {
         self.tree.reserve(1)?;
         self.refs.reserve(1)?;
         assert!(rt; self.tree.len() < 1_048_576);
         assert!(rt; self.tree.next_number() < u64::MAX);
         assert!(rt; self.tree.is_owner(owner));
-        Ok(refer(alloc, target, owner, &mut self.tree, &mut self.refs))
+        Ok(refer(target, owner, &mut self.tree, &mut self.refs))
     }
 
     fn detach(&mut self, rt: &impl Abort, x: Obj) {
@@ -358,9 +352,9 @@ fn show_that_references_are_shown_and_counted(
     world: &mut World,
 ) -> Result<(), Fail> {
     add_five(rt, alloc, world)?;
-    world.refer(rt, alloc, Obj(2), Owner::Of(Obj(5)))?;
-    world.refer(rt, alloc, Obj(2), Owner::Of(Obj(1)))?;
-    world.refer(rt, alloc, Obj(1), Owner::Of(Obj(5)))?;
+    world.refer(rt, Obj(2), Owner::Of(Obj(5)))?;
+    world.refer(rt, Obj(2), Owner::Of(Obj(1)))?;
+    world.refer(rt, Obj(1), Owner::Of(Obj(5)))?;
     expect_report(rt, alloc, world, Owner::Of(Obj(1)), REFERENCES)?;
     assert_eq!(rt; total(&world.tree, Owner::Root), 543_210);
     assert_eq!(rt; count(&world.tree, Owner::Root), 5);

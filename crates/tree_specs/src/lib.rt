@@ -24,6 +24,8 @@ mod report;
 mod row;
 mod schedule;
 mod test;
+#[cfg(test)]
+mod tests;
 
 pub use bounds::{
     LINE_LIMIT, LINES_LIMIT, NAME_LIMIT, OCTETS_LIMIT, OVERHEAD, ROW_LIMIT, SIZE_LIMIT,

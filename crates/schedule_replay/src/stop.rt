@@ -1,0 +1,55 @@
+//! Why a replay ends before its schedule does.
+ghost use Rattle.std.specs.Prelude.{◌≡◌};
+ghost use Rattle.schedule_replay.specs.declared.stop.Stop.TheVariants as errors;
+ghost use Rattle.schedule_replay.specs.Passes.{stop_of_put};
+
+use outside::PutError;
+use std::alloc::{AllocError, AllocFailed};
+use tree_specs::{Memory, Reason};
+
+/// Why a replay ends before its schedule does.
+#[derive(Clone, Copy, Debug, PartialEq, Eq)]
+pub enum Stop {
+    /// A read failed.
+    Read,
+    /// The line with this number, from 1, was refused.
+    Refused { line: u64, reason: Reason },
+    /// A put failed.
+    Write,
+    Memory,
+}
+
+impl From<Memory> for Stop {
+    ghost from_gives = { λ _ e. e ≡ errors.Memory };
+
+    fn from(_e: Memory) -> Stop {
+        Stop::Memory
+    }
+}
+
+impl From<AllocError> for Stop {
+    ghost from_gives = { λ _ e. e ≡ errors.Memory };
+
+    fn from(_e: AllocError) -> Stop {
+        Stop::Memory
+    }
+}
+
+impl<T: Drop> From<AllocFailed<T>> for Stop {
+    ghost from_gives = { λ _ e. e ≡ errors.Memory };
+
+    fn from(_e: AllocFailed<T>) -> Stop {
+        Stop::Memory
+    }
+}
+
+impl From<PutError> for Stop {
+    ghost from_gives = { λ why e. e ≡ stop_of_put why };
+
+    fn from(why: PutError) -> Stop {
+        match why {
+            PutError::Write => Stop::Write,
+            PutError::Memory => Stop::Memory,
+        }
+    }
+}

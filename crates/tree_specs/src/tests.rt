@@ -1,0 +1,86 @@
+use super::*;
+use std::fmt::{Display, InlineText};
+use std::process::Abort;
+
+fn says<E: Display + Drop>(rt: &impl Abort, error: E, want: &str) {
+    let text: InlineText<128> = InlineText::of(error);
+    assert_eq!(rt; text.as_str(), want);
+}
+
+#[test]
+fn each_refusal_has_its_message(rt: HostRuntime) {
+    let object = Obj(3);
+    let cases = [
+        (
+            Refusal::NoSuch(9),
+            "there is no object, and no open descriptor, with the number 9",
+        ),
+        (
+            Refusal::WrongKind(object),
+            "the call takes no object of the kind of object 3",
+        ),
+        (
+            Refusal::Running(object),
+            "a destructor or handler of object 3 runs",
+        ),
+        (Refusal::Held(object), "there are references to object 3"),
+        (
+            Refusal::Refused { object, answer: 7 },
+            "the destructor of object 3 returned 7",
+        ),
+        (
+            Refusal::NotParent {
+                object,
+                owner: Owner::Root,
+            },
+            "the root owns neither object 3 nor a reference to it",
+        ),
+        (
+            Refusal::Loop {
+                object,
+                owner: Owner::Of(Obj(4)),
+            },
+            "object 4 is object 3, or inside it",
+        ),
+        (Refusal::Dying(object), "object 3 is being freed"),
+        (
+            Refusal::OverLimit {
+                row: object,
+                sum: 200,
+                wanted: 50,
+                limit: 240,
+            },
+            "50 bytes more are wanted inside object 3, which counts 200 of at most 240",
+        ),
+        (
+            Refusal::Full(1_048_576),
+            "1048576 objects are live, and no more are possible",
+        ),
+        (Refusal::Spent, "no serial number is left"),
+        (Refusal::InUse(5), "descriptor 5 has an event already"),
+        (
+            Refusal::BadState { object, state: 2 },
+            "the request object 3 is in state 2",
+        ),
+        (
+            Refusal::TooBig(268_435_456),
+            "268435456 bytes are too many for one object",
+        ),
+        (Refusal::Nested, "a turn within a routine"),
+    ];
+    for (refusal, want) in cases.iter() {
+        says(&rt, *refusal, want);
+    }
+}
+
+#[test]
+fn each_reason_has_its_message_and_so_has_memory(rt: HostRuntime) {
+    says(&rt, Reason::Limit, "the line is over a limit");
+    says(&rt, Reason::Form, "the line is not in the grammar");
+    says(
+        &rt,
+        Reason::NotAsked,
+        "the open question takes no such input",
+    );
+    says(&rt, Memory, "out of memory");
+}
