@@ -1,29 +1,19 @@
 -- What an engine and the tree keep of the open frees.
 use Rattle.std.specs.Prelude.{◌≡◌, ◌+◌, ◌≤◌, true, [], ◌∷◌, length, Option, Some, None, ◌⊎◌}
 use Rattle.tree_specs.specs.declared.frame.FreeFrame.{FreeFrame}
-use Rattle.tree_specs.specs.declared.frame.FreeFrame.TheVariants.{Unlinking, Releasing, Giving, Beginning, Hooked, Judged, Leaving, Looping, FreeingChild, AfterChild, Ending}
+use Rattle.tree_specs.specs.declared.frame.FreeFrame.TheVariants.{Hooked}
 use Rattle.tree_links.specs.Links.{Links, pool_of}
 use Rattle.destructors.specs.Frees.{before, frees_of, moves, speaking}
 use Rattle.tree_specs.specs.Invariants.Alone.{FreesWait}
 use Rattle.references.specs.Pairs.{Pairs}
 use Rattle.references.specs.Rows.{AreRefsOf}
-use Rattle.destructors.specs.Works.{AtWork}
+use Rattle.destructors.specs.Works.{AtWork, IsAtWork}
 use Rattle.destructors.specs.Room.{wanted}
 
 -- the innermost free waits for its destructor
 abbrev pub IsAsked : Option FreeFrame → Type 0
-IsAsked None = ⊥
 IsAsked (Some (Hooked x h)) = Unit {0}
-IsAsked (Some (Unlinking o x)) = ⊥
-IsAsked (Some (Releasing x)) = ⊥
-IsAsked (Some (Giving x o)) = ⊥
-IsAsked (Some (Beginning x)) = ⊥
-IsAsked (Some (Judged x h v)) = ⊥
-IsAsked (Some (Leaving x h)) = ⊥
-IsAsked (Some (Looping x purpose)) = ⊥
-IsAsked (Some (FreeingChild x c noted purpose)) = ⊥
-IsAsked (Some (AfterChild x c noted purpose a)) = ⊥
-IsAsked (Some (Ending a)) = ⊥
+IsAsked _ = ⊥
 
 -- where the engine has no work, none waits in the tree
 abbrev pub AreKept : Option FreeFrame → Links → Type 0
@@ -52,4 +42,12 @@ pub record IsAtRest (tree : Links) (pairs : Pairs) : Type 0 where
 
 pub record IsBetweenCalls (innermost : Option FreeFrame) (tree : Links) : Type 0 where
   pub moves : MayMove innermost tree
+  pub room : HasRoom innermost tree
+
+-- The innermost free is at work, and tells or asks something with its next step.
+pub record IsFreeing (innermost : Option FreeFrame) (tree : Links) (pairs : Pairs) : Type 0 where
+  pub refs : AreRefsOf pairs.pairs tree.rows
+  pub at_work : IsAtWork (frees_of innermost tree)
+  pub settled : speaking (frees_of innermost tree) ≡ true
+  pub kept : AreKept innermost tree
   pub room : HasRoom innermost tree

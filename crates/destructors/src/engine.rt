@@ -191,7 +191,7 @@ impl FreeEngine {
         }
     }
 
-    /// What comes next of the innermost free. It takes no memory.
+    /// What comes next of the innermost free.
     ///
     /// At `Ask` the caller runs the object's destructor and answers with what it returned; it may begin further
     /// frees until then. At `Done` the innermost free is over, and the one around it, if there is one, still waits

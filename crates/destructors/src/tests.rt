@@ -1,11 +1,10 @@
-ghost use Rattle.std.specs.Prelude.{◌≡◌, ◌+◌, ◌≤◌, not, ◌&&◌, IfOk, OnOk, true, [], length};
+ghost use Rattle.std.specs.Prelude.{◌≡◌, not, ◌&&◌, OnOk, true};
 ghost use Rattle.tree_specs.specs.Calls.Refusals.{is_plain_row};
-ghost use Rattle.tree_specs.specs.Tree.Pool.{is_row, is_dying, row_of, target_at};
-ghost use Rattle.tree_specs.specs.Tree.Targets.{newest_ref};
+ghost use Rattle.tree_specs.specs.Tree.Pool.{is_row, is_dying, row_of};
 ghost use Rattle.references.specs.Rows.{AreRefsOf};
-ghost use Rattle.destructors.specs.Frees.{frees_of, speaking};
-ghost use Rattle.destructors.specs.Works.{IsAtWork, IsAwaiting};
-ghost use Rattle.destructors.specs.Engine.{AreKept, HasRoom, IsAtRest};
+ghost use Rattle.destructors.specs.Frees.{frees_of};
+ghost use Rattle.destructors.specs.Works.{IsAwaiting};
+ghost use Rattle.destructors.specs.Engine.{AreKept, IsAtRest, IsFreeing};
 
 use crate::FreeEngine;
 use references::Refs;
@@ -15,7 +14,6 @@ use std::test::Fail;
 use tree_links::{NewRow, Tree};
 use tree_specs::{FreeReply, FreeStep, Kind, Mark, Name, Obj, Owner};
 
-mod heirs;
 mod steps;
 
 // Whether it is an object that has not left its owner.
@@ -38,149 +36,125 @@ fn is_plain(tree: &Tree, x: Obj) -> bool
     }
 }
 
-// Adds a plain object of the name a to a tree in which nothing is going on.
-fn add(
-    rt: &impl Abort,
-    tree: &mut Tree,
-    refs: &Refs,
-    alloc: Global,
-    owner: Owner,
-) -> Result<Obj, Fail>
-    requires { IsAtRest tree.old refs.now }
-    ensures { IsAtRest tree.new refs.now }
-{
-    tree.reserve(1)?;
-    let row = NewRow {
-        kind: Kind::Plain,
-        name: Name::make(b"a".to_vec(alloc)?).expect(rt, "a name"),
-        size: 0,
-    };
-    assert!(rt; tree.len() < 1_048_576);
-    assert!(rt; tree.next_number() < u64::MAX);
-    assert!(rt; tree.is_owner(owner));
-    Ok(tree.add(row, owner))
+// A tree with its references, and an engine that frees its objects.
+#[derive(Drop)]
+struct World {
+    tree: Tree,
+    refs: Refs,
+    engine: FreeEngine,
 }
 
-// Gives an object a destructor, in a tree in which nothing is going on.
-fn hook(rt: &impl Abort, tree: &mut Tree, refs: &Refs, x: Obj)
-    requires { IsAtRest tree.old refs.now }
-    ensures { IsAtRest tree.new refs.now }
-{
-    assert!(rt; is_live(tree, x));
-    assert!(rt; is_plain(tree, x));
-    tree.set_hook(x, 16);
-}
-
-// An engine that frees an object of a tree in which nothing is going on.
-fn begin(rt: &impl Abort, tree: &mut Tree, refs: &mut Refs, x: Obj) -> Result<FreeEngine, Fail>
-    requires { IsAtRest tree.old refs.old }
-    ensures refs { AreRefsOf refs.new.pairs tree.new.rows }
-    ensures at_work { IfOk result (λ engine. IsAtWork (frees_of engine tree.new)) }
-    ensures settled { IfOk result (λ engine. speaking (frees_of engine tree.new) ≡ true) }
-    ensures kept { IfOk result (λ engine. AreKept engine tree.new) }
-    ensures room { IfOk result (λ engine. HasRoom engine tree.new) }
-{
-    tree.reserve(0)?;
-    assert!(rt; refs.target(x).is_none());
-    assert!(rt; refs.newest(tree, x).is_none());
-    let mut engine = FreeEngine::new();
-    engine.begin_free(tree, refs, x);
-    Ok(engine)
-}
-
-// A step that is neither a question nor the end of a free.
-fn event(rt: &impl Abort, engine: &mut FreeEngine, tree: &mut Tree, refs: &mut Refs) -> FreeStep
-    requires refs { AreRefsOf refs.old.pairs tree.old.rows }
-    requires at_work { IsAtWork (frees_of engine.old tree.old) }
-    requires settled { speaking (frees_of engine.old tree.old) ≡ true }
-    requires kept { AreKept engine.old tree.old }
-    requires room { HasRoom engine.old tree.old }
-    ensures refs { AreRefsOf refs.new.pairs tree.new.rows }
-    ensures at_work { IsAtWork (frees_of engine.new tree.new) }
-    ensures settled { speaking (frees_of engine.new tree.new) ≡ true }
-    ensures kept { AreKept engine.new tree.new }
-    ensures room { HasRoom engine.new tree.new }
-{
-    let told = engine.step(tree, refs);
-    match told {
-        FreeStep::Ask(_) | FreeStep::Done(_) => panic!(rt; "no event"),
-        FreeStep::Dropped { .. } => told,
-        FreeStep::Refused { .. } => told,
-        FreeStep::Accepted(_) => told,
-        FreeStep::Left { .. } => told,
-        FreeStep::Moved { .. } => told,
-        FreeStep::Gone { .. } => told,
+impl World {
+    fn new(alloc: Global) -> World
+        ensures { IsAtRest result.tree result.refs }
+    {
+        World {
+            tree: Tree::new(alloc, 1),
+            refs: Refs::new(alloc),
+            engine: FreeEngine::new(),
+        }
     }
-}
 
-// A step that asks for the run of a destructor, which returns this number. It gives the object.
-fn ask(
-    rt: &impl Abort,
-    engine: &mut FreeEngine,
-    tree: &mut Tree,
-    refs: &mut Refs,
-    value: u32,
-) -> Obj
-    requires refs { AreRefsOf refs.old.pairs tree.old.rows }
-    requires at_work { IsAtWork (frees_of engine.old tree.old) }
-    requires settled { speaking (frees_of engine.old tree.old) ≡ true }
-    requires kept { AreKept engine.old tree.old }
-    requires room { HasRoom engine.old tree.old }
-    ensures refs { AreRefsOf refs.new.pairs tree.new.rows }
-    ensures at_work { IsAtWork (frees_of engine.new tree.new) }
-    ensures settled { speaking (frees_of engine.new tree.new) ≡ true }
-    ensures kept { AreKept engine.new tree.new }
-    ensures room { HasRoom engine.new tree.new }
-{
-    let FreeStep::Ask(x) = engine.step(tree, refs) else {
-        panic!(rt; "no question")
-    };
-    engine.answer(tree, value);
-    x
-}
+    // Adds a plain object of the name a, while nothing is going on.
+    fn add(&mut self, rt: &impl Abort, alloc: Global, owner: Owner) -> Result<Obj, Fail>
+        requires { IsAtRest self.old.tree self.old.refs }
+        ensures { IsAtRest self.new.tree self.new.refs }
+    {
+        self.tree.reserve(1)?;
+        let row = NewRow {
+            kind: Kind::Plain,
+            name: Name::make(b"a".to_vec(alloc)?).expect(rt, "a name"),
+            size: 0,
+        };
+        assert!(rt; self.tree.len() < 1_048_576);
+        assert!(rt; self.tree.next_number() < u64::MAX);
+        assert!(rt; self.tree.is_owner(owner));
+        Ok(self.tree.add(row, owner))
+    }
 
-// A step that ends a free. It gives what the free answers.
-fn done(rt: &impl Abort, engine: &mut FreeEngine, tree: &mut Tree, refs: &mut Refs) -> FreeReply
-    requires refs { AreRefsOf refs.old.pairs tree.old.rows }
-    requires at_work { IsAtWork (frees_of engine.old tree.old) }
-    requires settled { speaking (frees_of engine.old tree.old) ≡ true }
-    requires kept { AreKept engine.old tree.old }
-    requires room { HasRoom engine.old tree.old }
-    ensures refs { AreRefsOf refs.new.pairs tree.new.rows }
-    ensures awaiting { IsAwaiting (frees_of engine.new tree.new) }
-    ensures kept { AreKept engine.new tree.new }
-{
-    let FreeStep::Done(answer) = engine.step(tree, refs) else {
-        panic!(rt; "the free goes on")
-    };
-    answer
-}
+    // Gives an object a destructor, while nothing is going on.
+    fn hook(&mut self, rt: &impl Abort, x: Obj)
+        requires { IsAtRest self.old.tree self.old.refs }
+        ensures { IsAtRest self.new.tree self.new.refs }
+    {
+        assert!(rt; is_live(&self.tree, x));
+        assert!(rt; is_plain(&self.tree, x));
+        self.tree.set_hook(x, 16);
+    }
 
-// A step that asks for the run of a destructor, in which the freeing of this object begins.
-fn nest(
-    rt: &impl Abort,
-    engine: &mut FreeEngine,
-    tree: &mut Tree,
-    refs: &mut Refs,
-    x: Obj,
-) -> Result<(), Fail>
-    requires refs { AreRefsOf refs.old.pairs tree.old.rows }
-    requires at_work { IsAtWork (frees_of engine.old tree.old) }
-    requires settled { speaking (frees_of engine.old tree.old) ≡ true }
-    requires kept { AreKept engine.old tree.old }
-    requires room { HasRoom engine.old tree.old }
-    ensures refs { AreRefsOf refs.new.pairs tree.new.rows }
-    ensures at_work { OnOk result (IsAtWork (frees_of engine.new tree.new)) }
-    ensures settled { OnOk result (speaking (frees_of engine.new tree.new) ≡ true) }
-    ensures kept { OnOk result (AreKept engine.new tree.new) }
-    ensures room { OnOk result (HasRoom engine.new tree.new) }
-{
-    let FreeStep::Ask(_) = engine.step(tree, refs) else {
-        panic!(rt; "no question")
-    };
-    tree.reserve(0)?;
-    assert!(rt; refs.target(x).is_none());
-    assert!(rt; refs.newest(tree, x).is_none());
-    engine.begin_free(tree, refs, x);
-    Ok(())
+    // The freeing of an object begins, while nothing is going on.
+    fn free(&mut self, rt: &impl Abort, x: Obj) -> Result<(), Fail>
+        requires { IsAtRest self.old.tree self.old.refs }
+        ensures { OnOk result (IsFreeing self.new.engine self.new.tree self.new.refs) }
+    {
+        self.tree.reserve(0)?;
+        assert!(rt; self.refs.target(x).is_none());
+        assert!(rt; self.refs.newest(&self.tree, x).is_none());
+        self.engine = FreeEngine::new();
+        self.engine.begin_free(&mut self.tree, &mut self.refs, x);
+        Ok(())
+    }
+
+    fn announces(&self) -> bool
+        requires { IsFreeing self.now.engine self.now.tree self.now.refs }
+    {
+        self.engine.announces(&self.tree, &self.refs)
+    }
+
+    // A step that is neither a question nor the end of a free.
+    fn event(&mut self, rt: &impl Abort) -> FreeStep
+        requires { IsFreeing self.old.engine self.old.tree self.old.refs }
+        ensures { IsFreeing self.new.engine self.new.tree self.new.refs }
+    {
+        let told = self.engine.step(&mut self.tree, &mut self.refs);
+        match told {
+            FreeStep::Ask(_) | FreeStep::Done(_) => panic!(rt; "no event"),
+            FreeStep::Dropped { .. } => told,
+            FreeStep::Refused { .. } => told,
+            FreeStep::Accepted(_) => told,
+            FreeStep::Left { .. } => told,
+            FreeStep::Moved { .. } => told,
+            FreeStep::Gone { .. } => told,
+        }
+    }
+
+    // A step that asks for the run of a destructor, which returns this number. It gives the object.
+    fn ask(&mut self, rt: &impl Abort, value: u32) -> Obj
+        requires { IsFreeing self.old.engine self.old.tree self.old.refs }
+        ensures { IsFreeing self.new.engine self.new.tree self.new.refs }
+    {
+        let FreeStep::Ask(x) = self.engine.step(&mut self.tree, &mut self.refs) else {
+            panic!(rt; "no question")
+        };
+        self.engine.answer(&self.tree, value);
+        x
+    }
+
+    // A step that asks for the run of a destructor, in which the freeing of this object begins.
+    fn nest(&mut self, rt: &impl Abort, x: Obj) -> Result<(), Fail>
+        requires { IsFreeing self.old.engine self.old.tree self.old.refs }
+        ensures { OnOk result (IsFreeing self.new.engine self.new.tree self.new.refs) }
+    {
+        let FreeStep::Ask(_) = self.engine.step(&mut self.tree, &mut self.refs) else {
+            panic!(rt; "no question")
+        };
+        self.tree.reserve(0)?;
+        assert!(rt; self.refs.target(x).is_none());
+        assert!(rt; self.refs.newest(&self.tree, x).is_none());
+        self.engine.begin_free(&mut self.tree, &mut self.refs, x);
+        Ok(())
+    }
+
+    // A step that ends a free. It gives what the free answers.
+    fn done(&mut self, rt: &impl Abort) -> FreeReply
+        requires { IsFreeing self.old.engine self.old.tree self.old.refs }
+        ensures refs { AreRefsOf self.new.refs.pairs self.new.tree.rows }
+        ensures awaiting { IsAwaiting (frees_of self.new.engine self.new.tree) }
+        ensures kept { AreKept self.new.engine self.new.tree }
+    {
+        let FreeStep::Done(answer) = self.engine.step(&mut self.tree, &mut self.refs) else {
+            panic!(rt; "the free goes on")
+        };
+        answer
+    }
 }

@@ -81,7 +81,7 @@ fn end(answer: FreeReply, tree: &mut Tree) -> Progress
     }
 }
 
-/// One move. It takes no memory.
+/// One move.
 #[tactic(auto, using(crate::proofs::FreeMoves::push_room))]
 pub fn advance(work: FreeFrame, tree: &mut Tree, refs: &mut Refs) -> Progress
     requires rests { MoveRests work (pool_of tree.old) }
@@ -153,7 +153,7 @@ fn end_quietly(work: FreeFrame, answer: FreeReply, tree: &mut Tree) -> Option<Fr
 }
 
 /// The next move of a work where it tells nothing, with the work that is innermost after it. None where the move tells or
-/// asks something, or ends the free: then nothing is done. It takes no memory.
+/// asks something, or ends the free: then nothing is done.
 pub fn move_quietly(work: FreeFrame, tree: &mut Tree, refs: &Refs) -> Option<FreeFrame>
     requires room { HasRoom (Some work) tree.old }
     requires refs { AreRefsOf refs.now.pairs tree.old.rows }
@@ -176,7 +176,7 @@ pub fn move_quietly(work: FreeFrame, tree: &mut Tree, refs: &Refs) -> Option<Fre
     }
 }
 
-/// The moves that tell nothing, up to the next one that does. It takes no memory.
+/// The moves that tell nothing, up to the next one that does.
 pub fn settle(innermost: Option<FreeFrame>, tree: &mut Tree, refs: &mut Refs) -> Option<FreeFrame>
     requires ready { IsBetweenCalls innermost tree.old }
     requires refs { AreRefsOf refs.old.pairs tree.old.rows }

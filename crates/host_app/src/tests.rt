@@ -51,87 +51,67 @@ fn run_with(
     })
 }
 
-fn run(rt: &HostRuntime, bytes: &[u8]) -> Result<Answer, Fail> {
-    run_with(rt, bytes, 4096, &[], &[])
+// It ended so, and wrote and said these bytes.
+fn ends(rt: &HostRuntime, told: &Answer, status: Status, out: &[u8], err: &[u8]) {
+    assert_eq!(rt; told.status, status);
+    assert_eq!(rt; told.out.as_slice(), out, "at {status:?}");
+    assert_eq!(rt; told.err.as_slice(), err, "at {status:?}");
 }
 
-#[test]
-fn replays_no_calls(rt: HostRuntime) -> Result<(), Fail> {
-    let told = run(&rt, b"tv schedule 1 pool\n")?;
-    assert_eq!(rt; told.status, Status::Done);
-    assert_eq!(rt;
-        told.out.as_slice(),
-        b"tv transcript 1\nend quiet\n".as_slice()
-    );
-    assert_eq!(rt; told.err.len(), 0);
-    Ok(())
+fn refused(line: u64, reason: Reason) -> Status {
+    Status::BadSchedule { line, reason }
 }
 
+const NOTHING: &[u8] = b"tv transcript 1\nend quiet\n";
+
 #[test]
-fn frees_children_newest_first(rt: HostRuntime) -> Result<(), Fail> {
-    let told = run(&rt, CHILDREN)?;
-    assert_eq!(rt; told.status, Status::Done);
-    assert_eq!(rt; told.out.as_slice(), CHILDREN_FREED);
-    assert_eq!(rt; told.err.len(), 0);
+fn each_schedule_has_its_transcript_or_its_first_refused_line(rt: HostRuntime) -> Result<(), Fail> {
+    let form = Reason::Form;
+    let cases = [
+        (
+            b"tv schedule 1 pool\n".as_slice(),
+            Status::Done,
+            NOTHING,
+            b"".as_slice(),
+        ),
+        (CHILDREN, Status::Done, CHILDREN_FREED, b""),
+        (b"", refused(1, form), b"", b"line 1: form\n"),
+        (
+            b"tv schedule 1 pool\ncall new 0 0 a\ncall fre",
+            refused(3, form),
+            b"tv transcript 1\nreply 1\nend quiet\n",
+            b"line 3: form\n",
+        ),
+        (
+            b"tv schedule 1 pool\ncall free 01\ncall free 1\n",
+            refused(2, form),
+            NOTHING,
+            b"line 2: form\n",
+        ),
+        // no destructor runs that could return
+        (
+            b"tv schedule 1 pool\nret 0\n",
+            refused(2, Reason::NotAsked),
+            NOTHING,
+            b"line 2: not asked\n",
+        ),
+    ];
+    for (bytes, status, out, err) in cases {
+        ends(
+            &rt,
+            &run_with(&rt, bytes, 4096, &[], &[])?,
+            status,
+            out,
+            err,
+        );
+    }
     Ok(())
 }
 
 #[test]
 fn takes_bytes_one_by_one(rt: HostRuntime) -> Result<(), Fail> {
     let told = run_with(&rt, CHILDREN, 1, &[], &[])?;
-    assert_eq!(rt; told.status, Status::Done);
-    assert_eq!(rt; told.out.as_slice(), CHILDREN_FREED);
-    Ok(())
-}
-
-#[test]
-fn refuses_no_bytes(rt: HostRuntime) -> Result<(), Fail> {
-    let told = run(&rt, b"")?;
-    assert_eq!(rt;
-        told.status,
-        Status::BadSchedule {
-            line: 1,
-            reason: Reason::Form
-        }
-    );
-    assert_eq!(rt; told.out.len(), 0);
-    assert_eq!(rt; told.err.as_slice(), b"line 1: form\n".as_slice());
-    Ok(())
-}
-
-#[test]
-fn refuses_a_line_that_breaks_off(rt: HostRuntime) -> Result<(), Fail> {
-    let told = run(&rt, b"tv schedule 1 pool\ncall new 0 0 a\ncall fre")?;
-    assert_eq!(rt;
-        told.status,
-        Status::BadSchedule {
-            line: 3,
-            reason: Reason::Form
-        }
-    );
-    assert_eq!(rt;
-        told.out.as_slice(),
-        b"tv transcript 1\nreply 1\nend quiet\n".as_slice()
-    );
-    assert_eq!(rt; told.err.as_slice(), b"line 3: form\n".as_slice());
-    Ok(())
-}
-
-#[test]
-fn refuses_leading_zeros(rt: HostRuntime) -> Result<(), Fail> {
-    let told = run(&rt, b"tv schedule 1 pool\ncall free 01\ncall free 1\n")?;
-    assert_eq!(rt;
-        told.status,
-        Status::BadSchedule {
-            line: 2,
-            reason: Reason::Form
-        }
-    );
-    assert_eq!(rt;
-        told.out.as_slice(),
-        b"tv transcript 1\nend quiet\n".as_slice()
-    );
-    assert_eq!(rt; told.err.as_slice(), b"line 2: form\n".as_slice());
+    ends(&rt, &told, Status::Done, CHILDREN_FREED, b"");
     Ok(())
 }
 
@@ -139,49 +119,26 @@ fn refuses_leading_zeros(rt: HostRuntime) -> Result<(), Fail> {
 fn refuses_a_line_past_the_limit(rt: HostRuntime) -> Result<(), Fail> {
     let mut bytes = b"tv schedule 1 pool\n".as_slice().to_vec(rt.alloc())?;
     bytes.resize(19 + 262_145, b'x')?;
-    let told = run(&rt, &bytes)?;
-    assert_eq!(rt;
-        told.status,
-        Status::BadSchedule {
-            line: 2,
-            reason: Reason::Limit
-        }
+    let told = run_with(&rt, &bytes, 4096, &[], &[])?;
+    ends(
+        &rt,
+        &told,
+        refused(2, Reason::Limit),
+        NOTHING,
+        b"line 2: limit\n",
     );
-    assert_eq!(rt;
-        told.out.as_slice(),
-        b"tv transcript 1\nend quiet\n".as_slice()
-    );
-    assert_eq!(rt; told.err.as_slice(), b"line 2: limit\n".as_slice());
     Ok(())
 }
 
 #[test]
-fn a_source_that_fails_at_once_is_a_read_fault(rt: HostRuntime) -> Result<(), Fail> {
-    let told = run_with(&rt, CHILDREN, 4096, &[1], &[])?;
-    assert_eq!(rt; told.status, Status::ReadFault);
-    assert_eq!(rt; told.out.len(), 0);
-    assert_eq!(rt; told.err.as_slice(), b"read fault\n".as_slice());
-    Ok(())
-}
-
-#[test]
-fn a_later_read_fault_leaves_what_whole_lines_tell(rt: HostRuntime) -> Result<(), Fail> {
-    let told = run_with(&rt, CHILDREN, 20, &[3], &[])?;
-    assert_eq!(rt; told.status, Status::ReadFault);
-    assert_eq!(rt;
-        told.out.as_slice(),
-        b"tv transcript 1\nreply 1\n".as_slice()
-    );
-    assert_eq!(rt; told.err.as_slice(), b"read fault\n".as_slice());
-    Ok(())
-}
-
-#[test]
-fn a_sink_that_fails_at_once_is_a_write_fault(rt: HostRuntime) -> Result<(), Fail> {
-    let told = run_with(&rt, CHILDREN, 4096, &[], &[1])?;
-    assert_eq!(rt; told.status, Status::WriteFault);
-    assert_eq!(rt; told.out.len(), 0);
-    assert_eq!(rt; told.err.as_slice(), b"write fault\n".as_slice());
+fn a_fault_leaves_what_whole_lines_tell(rt: HostRuntime) -> Result<(), Fail> {
+    let at_once = run_with(&rt, CHILDREN, 4096, &[1], &[])?;
+    ends(&rt, &at_once, Status::ReadFault, b"", b"read fault\n");
+    let later = run_with(&rt, CHILDREN, 20, &[3], &[])?;
+    let whole = b"tv transcript 1\nreply 1\n";
+    ends(&rt, &later, Status::ReadFault, whole, b"read fault\n");
+    let unwritten = run_with(&rt, CHILDREN, 4096, &[], &[1])?;
+    ends(&rt, &unwritten, Status::WriteFault, b"", b"write fault\n");
     Ok(())
 }
 

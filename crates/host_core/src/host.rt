@@ -17,7 +17,7 @@ use std::alloc::Global;
 use std::marker::Model;
 use tree_specs::{Ask, Event, FreeStep, Input, Kind, Memory, Obj, Owner};
 
-/// What a step of a free is to the host. None where it isn't told.
+/// The event for a step of a free, if the host tells it.
 fn event(step: FreeStep) -> Option<Event>
     ensures { result ≡ event_of step }
 {

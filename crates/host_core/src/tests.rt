@@ -4,16 +4,12 @@ ghost use Rattle.tree_specs.specs.Words.Ranges.{is_sound, is_sound_owner};
 
 use super::*;
 use std::alloc::Global;
+use std::fmt::InlineText;
 use std::process::Abort;
 use std::test::Fail;
 use tree_specs::{Act, Ask, Call, Event, Input, Moment, Name, Obj, Owner, Reply, What};
 
-mod freeing;
-mod holding;
-mod hooks;
-mod questions;
-mod reports;
-mod sums;
+mod long_runs;
 
 fn name_of(rt: &impl Abort, alloc: Global, text: &str) -> Name
     ensures { IsTrue (is_name result) }
@@ -195,4 +191,10 @@ fn add_stolen_chain(rt: &impl Abort, alloc: Global, host: &mut Host) {
         tells(rt, host, call, &[Event::Replied(Reply::Ok)]);
     }
     assert!(rt; host.is_inside(Obj(2_000), Obj(1)), "the chain is whole");
+}
+
+#[test]
+fn a_fault_has_its_message(rt: HostRuntime) {
+    let text: InlineText<64> = InlineText::of(OfferFault::NotAsked);
+    assert_eq!(rt; text.as_str(), "no question is open that takes this answer");
 }

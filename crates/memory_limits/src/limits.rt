@@ -11,7 +11,7 @@ use tree_specs::{Memory, Obj, Owner, Refusal};
 /// The objects with a limit, and what is inside each of them (`talloc_set_memlimit`). Contracts see the list of them,
 /// in the order of their numbers, and spare. The sums are those of a tree as long as each placing, leaving, removal and
 /// change of size is told. An object is looked up in the same time however many have a limit, and where none has one
-/// nothing is done.
+/// nothing is done. Only `reserve` takes memory.
 #[derive(Debug, Drop)]
 pub struct Sums {
     limited: Arena<Allowance>,
@@ -41,7 +41,7 @@ impl Sums {
     ghost use Rattle.tree_specs.specs.Tree.Pool.{row_of, is_row, is_inside, without, changed, left_row, owned_row, sized_row};
     ghost use Rattle.memory_limits.specs.Limits.{AllSums, AllBound, SameBounds, HasLeft, AreLimitsOf, limit_of, limited_at, found, nearest_limited, unlimited};
 
-    /// No limits. It takes no memory.
+    /// No limits.
     pub fn new(alloc: Global) -> Sums
         ensures { result.limited ≡ [] }
     {
@@ -159,7 +159,7 @@ impl Sums {
         self.limited.take(x.0);
     }
 
-    /// An object gets a limit in bytes, where 0 is none. It takes no memory.
+    /// An object gets a limit in bytes, where 0 is none.
     pub fn set_limit(&mut self, tree: &Tree, x: Obj, max: u64)
         requires room { 0 < self.old.spare }
         requires sums { AllSums self.old.limited tree.now.rows }

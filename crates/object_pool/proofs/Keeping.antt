@@ -24,7 +24,9 @@ use Rattle.destructors.proofs.Begins.{any-room}
 use Rattle.object_pool.specs.Objects.{objects_of, HasCallRoom}
 use Rattle.object_pool.specs.Agreeing.{AgreeWith}
 use Rattle.object_pool.specs.declared.pool.ObjectPool.TheInside.{Inside}
+use Rattle.object_pool.proofs.Counted.{same-kept}
 use Rattle.object_pool.proofs.Fields.{changed-kept}
+use Rattle.destructors.specs.Changes.{SameRows}
 
 -- ---- what callers see
 
@@ -136,3 +138,8 @@ answer-room (Some (Hooked x g)) o' t v e i h =
     subst (λ (fs : List FreeFrame). wanted fs t.rows ≤ length t.frees + t.room) (sym w) h
 answer-room (Some (Unlinking p x)) o' t v e i h = absurd i
 answer-room (Some _) o' t v e i h = absurd i
+
+-- a free that has begun, with the engine, tree and references after it
+pub begun : (b : Inside) (o : Option FreeFrame) (t : Links) (r : Pairs) → AgreeWith b → AreRefsOf r.pairs t.rows → SameRows b.tree.rows t.rows → AreKept o t → HasRoom o t
+    → AgreeWith (record b { engine = o; tree = t; refs = r; ready = false })
+begun b o t r a refs same kept room = record { references = refs; limits = same-kept b.sums.limited b.tree.rows t.rows same a.limits; kept = kept; room = room; call = never }

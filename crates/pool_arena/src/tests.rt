@@ -30,23 +30,7 @@ fn a_value_that_was_taken_makes_room_for_the_next(rt: HostRuntime) -> Result<(),
 }
 
 #[test]
-fn a_key_that_was_taken_can_come_back(rt: HostRuntime) -> Result<(), Fail> {
-    let mut arena = Arena::new(rt.alloc());
-    arena.reserve(1)?;
-    put(&mut arena, 7, 70);
-    arena.take(7);
-    arena.reserve(1)?;
-    put(&mut arena, 7, 71);
-    if let Some(value) = arena.get_mut(7) {
-        *value = 72;
-    }
-    assert_eq!(rt; arena.take(7), Some(72));
-    assert_eq!(rt; arena.len(), 0);
-    Ok(())
-}
-
-#[test]
-fn want_of_memory_leaves_it_as_it_was(rt: HostRuntime) -> Result<(), Fail> {
+fn running_out_of_memory_leaves_it_as_it_was(rt: HostRuntime) -> Result<(), Fail> {
     let mut arena = Arena::new(rt.alloc());
     arena.reserve(1)?;
     put(&mut arena, 7, 70);

@@ -76,7 +76,7 @@ impl Refs {
     ghost use Rattle.references.specs.Rows.{AreRefsOf, RefersTo};
     ghost use Rattle.references.specs.Pairs.{pair, ArePairs, IsAbove, count_to, first_to, first_below, next_to, target_of, without, most};
 
-    /// No references. It takes no memory.
+    /// No references.
     pub fn new(alloc: Global) -> Refs
         ensures { result.pairs ≡ [] }
     {
@@ -97,7 +97,7 @@ impl Refs {
         Ok(())
     }
 
-    /// Adds a reference, whose number is above those of all others. It takes no memory.
+    /// Adds a reference, whose number is above those of all others.
     pub fn add_ref(&mut self, reference: Obj, target: Obj)
         requires room { 0 < self.old.spare }
         requires newest { IsAbove reference self.old.pairs }
@@ -117,7 +117,7 @@ impl Refs {
         );
     }
 
-    /// Drops a reference, and gives its target. None exactly where there is no such reference. It takes no memory.
+    /// Drops a reference, and gives its target. None exactly where there is no such reference.
     pub fn drop_ref(&mut self, reference: Obj) -> Option<Obj>
         ensures target { result ≡ target_of self.old.pairs reference }
         ensures pairs { self.new.pairs ≡ without self.old.pairs reference }

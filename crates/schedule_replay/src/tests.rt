@@ -36,18 +36,12 @@ fn run(rt: &HostRuntime, most: u32, fails: &[u64]) -> Result<Told, Fail>
 }
 
 #[test]
-fn replays_a_schedule(rt: HostRuntime) -> Result<(), Fail> {
-    let told = run(&rt, 4096, &[])?;
-    assert_eq!(rt; told.ran, Ran::Done);
-    assert_eq!(rt; told.text.as_slice(), TRANSCRIPT);
-    Ok(())
-}
-
-#[test]
-fn takes_a_byte_a_read(rt: HostRuntime) -> Result<(), Fail> {
-    let told = run(&rt, 1, &[])?;
-    assert_eq!(rt; told.ran, Ran::Done);
-    assert_eq!(rt; told.text.as_slice(), TRANSCRIPT);
+fn replays_a_schedule_in_pieces_of_any_length(rt: HostRuntime) -> Result<(), Fail> {
+    for most in [1, 40, 4096] {
+        let told = run(&rt, most, &[])?;
+        assert_eq!(rt; told.ran, Ran::Done, "{most} at a time");
+        assert_eq!(rt; told.text.as_slice(), TRANSCRIPT, "{most} at a time");
+    }
     Ok(())
 }
 

@@ -55,21 +55,28 @@ pub same_kin : (m m' : Nodes) (root : Option ℕ) (K : Owner → List ℕ) → (
     → ((p : Owner) → Chain (kin_at m) (head_of m root p) (K p)) → (p : Owner) → Chain (kin_at m') (head_of m' root p) (K p)
 same_kin m m' root K e f c p = same_chain (kin_at m) (kin_at m') (head_of m root p) (head_of m' root p) (K p) e (same_heads m m' root f p) (c p)
 
+-- what two changes of neighbours leave alone
+module _ (m m1 m2 : Nodes) (s : Sides) (f g : Node → Node)
+    (olders : (q : ℕ) → map.get m1 q ≡ cond (is_at s.newer q) (option_map f (map.get m q)) (map.get m q))
+    (newers : (q : ℕ) → map.get m2 q ≡ cond (is_at s.older q) (option_map g (map.get m1 q)) (map.get m1 q)) where
+  unmoved : {B : Type 0} (part : Node → B) → ((v : Node) → part (f v) ≡ part v) → ((v : Node) → part (g v) ≡ part v) → (q : ℕ) → option_map part (map.get m2 q) ≡ option_map part (map.get m q)
+  unmoved part a b q = ap (option_map part) (newers q) ∙ other part g b (is_at s.older q) (map.get m1 q) ∙ ap (option_map part) (olders q) ∙ other part f a (is_at s.newer q) (map.get m q)
+
+  unmoved-first : ((v : Node) → first_in (f v) ≡ first_in v) → ((v : Node) → first_in (g v) ≡ first_in v) → (q : ℕ) → option_and_then first_in (map.get m2 q) ≡ option_and_then first_in (map.get m q)
+  unmoved-first a b q = ap (option_and_then first_in) (newers q) ∙ same_first g b (is_at s.older q) (map.get m1 q) ∙ ap (option_and_then first_in) (olders q) ∙ same_first f a (is_at s.newer q) (map.get m q)
+
 module _ (m m1 m2 : Nodes) (s : Sides) where
   -- one leaves the lane of all rows
   module _ (olders : (q : ℕ) → map.get m1 q ≡ cond (is_at s.newer q) (option_map (placed_older s.older) (map.get m q)) (map.get m q))
       (newers : (q : ℕ) → map.get m2 q ≡ cond (is_at s.older q) (option_map (placed_newer s.newer) (map.get m1 q)) (map.get m1 q)) where
     pub left-placed-rows : (q : ℕ) → row_at m2 q ≡ row_at m q
-    left-placed-rows q = ap (option_map row_in) (newers q) ∙ other row_in (placed_newer s.newer) (λ v. refl) (is_at s.older q) (map.get m1 q)
-        ∙ ap (option_map row_in) (olders q) ∙ other row_in (placed_older s.older) (λ v. refl) (is_at s.newer q) (map.get m q)
+    left-placed-rows = unmoved m m1 m2 s (placed_older s.older) (placed_newer s.newer) olders newers row_in (λ v. refl) (λ v. refl)
 
     same_kins : (q : ℕ) → kin_at m2 q ≡ kin_at m q
-    same_kins q = ap (option_map kin_in) (newers q) ∙ other kin_in (placed_newer s.newer) (λ v. refl) (is_at s.older q) (map.get m1 q)
-        ∙ ap (option_map kin_in) (olders q) ∙ other kin_in (placed_older s.older) (λ v. refl) (is_at s.newer q) (map.get m q)
+    same_kins = unmoved m m1 m2 s (placed_older s.older) (placed_newer s.newer) olders newers kin_in (λ v. refl) (λ v. refl)
 
     same_firsts : (q : ℕ) → option_and_then first_in (map.get m2 q) ≡ option_and_then first_in (map.get m q)
-    same_firsts q = ap (option_and_then first_in) (newers q) ∙ same_first (placed_newer s.newer) (λ v. refl) (is_at s.older q) (map.get m1 q)
-        ∙ ap (option_and_then first_in) (olders q) ∙ same_first (placed_older s.older) (λ v. refl) (is_at s.newer q) (map.get m q)
+    same_firsts = unmoved-first m m1 m2 s (placed_older s.older) (placed_newer s.newer) olders newers (λ v. refl) (λ v. refl)
 
     pub left-placed : (front front' root : Option ℕ) (A : List ℕ) (K : Owner → List ℕ) (x : ℕ) → front' ≡ head_left front s → Distinct A → has A x ≡ true → s ≡ sides_in A x
         → Linked m front root A K → Linked m2 front' root (without A x) K
@@ -85,16 +92,13 @@ module _ (m m1 m2 : Nodes) (s : Sides) where
   module _ (m' : Nodes) (olders : (q : ℕ) → map.get m1 q ≡ cond (is_at s.newer q) (option_map (kin_older s.older) (map.get m q)) (map.get m q))
       (newers : (q : ℕ) → map.get m2 q ≡ cond (is_at s.older q) (option_map (kin_newer s.newer) (map.get m1 q)) (map.get m1 q)) where
     pub left-kin-rows : (q : ℕ) → row_at m2 q ≡ row_at m q
-    left-kin-rows q = ap (option_map row_in) (newers q) ∙ other row_in (kin_newer s.newer) (λ v. refl) (is_at s.older q) (map.get m1 q)
-        ∙ ap (option_map row_in) (olders q) ∙ other row_in (kin_older s.older) (λ v. refl) (is_at s.newer q) (map.get m q)
+    left-kin-rows = unmoved m m1 m2 s (kin_older s.older) (kin_newer s.newer) olders newers row_in (λ v. refl) (λ v. refl)
 
     same_placed : (q : ℕ) → placed_at m2 q ≡ placed_at m q
-    same_placed q = ap (option_map placed_in) (newers q) ∙ other placed_in (kin_newer s.newer) (λ v. refl) (is_at s.older q) (map.get m1 q)
-        ∙ ap (option_map placed_in) (olders q) ∙ other placed_in (kin_older s.older) (λ v. refl) (is_at s.newer q) (map.get m q)
+    same_placed = unmoved m m1 m2 s (kin_older s.older) (kin_newer s.newer) olders newers placed_in (λ v. refl) (λ v. refl)
 
     kept_firsts : (q : ℕ) → option_and_then first_in (map.get m2 q) ≡ option_and_then first_in (map.get m q)
-    kept_firsts q = ap (option_and_then first_in) (newers q) ∙ same_first (kin_newer s.newer) (λ v. refl) (is_at s.older q) (map.get m1 q)
-        ∙ ap (option_and_then first_in) (olders q) ∙ same_first (kin_older s.older) (λ v. refl) (is_at s.newer q) (map.get m q)
+    kept_firsts = unmoved-first m m1 m2 s (kin_older s.older) (kin_newer s.newer) olders newers (λ v. refl) (λ v. refl)
 
     -- an owner with a child has a place for its first one
     has_head : (root : Option ℕ) (o : Owner) (K : List ℕ) (x : ℕ) → has K x ≡ true → head_of m root o ≡ first K → HasHead m2 o

@@ -27,11 +27,9 @@ use Rattle.tree_links.specs.Links.{AllFit, IsTree}
 use Rattle.tree_links.proofs.Trees.{fit-row}
 use Rattle.tree_links.specs.declared.walk.Place.{Place}
 use Rattle.tree_links.specs.Walk.{at_depth, placed, ahead, walk_from}
-use Rattle.tree_links.specs.Weights.{sized, counted, weight_of}
-
--- the weight of all rows inside an owner
-abbrev pub inside_weight : (Row → ℕ) → List Row → Owner → ℕ
-inside_weight g rs from = total (λ r. if is_inside rs (Of r.serial) from then g r else 0) rs
+use Rattle.tree_links.specs.declared.sums.Weight.{Weight}
+use Rattle.tree_links.specs.declared.sums.Weight.TheVariants.{Size, Number, Charge}
+use Rattle.tree_links.specs.Weights.{sized, counted, weighed, weight_of, inside_weight}
 
 -- ---- weights along a walk
 
@@ -70,14 +68,19 @@ count-weight rs next from t = total-same _ _ rs t.forest.distinct (λ r e. by_te
 abbrev pub IsSmall : (Row → ℕ) → Type 0
 IsSmall g = (r : Row) → r.size < size_limit → g r ≤ size_limit + overhead
 
-pub sized-small : IsSmall sized
+sized-small : IsSmall sized
 sized-small r l = omega (arith, l)
 
-pub charge-small : IsSmall charge
+charge-small : IsSmall charge
 charge-small r l = by_test (is_reference r.kind) (λ t. rw t (omega arith)) (λ t. rw t (omega (arith, l)))
 
-pub counted-small : IsSmall counted
+counted-small : IsSmall counted
 counted-small r l = by_test (is_reference r.kind) (λ t. rw t (omega arith)) (λ t. rw t (omega arith))
+
+pub weighed-small : (w : Weight) → IsSmall (weighed w)
+weighed-small Size = sized-small
+weighed-small Number = counted-small
+weighed-small Charge = charge-small
 
 weights-bound : (g : Row → ℕ) (b : Row → Bool) (next : ℕ) (rs : List Row) → IsSmall g → AllFit next rs → total (λ r. if b r then g r else 0) rs ≤ length rs * (size_limit + overhead)
 weights-bound g b next [] small f = omega arith

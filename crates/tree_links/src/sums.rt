@@ -4,8 +4,9 @@ ghost use Rattle.tree_specs.specs.Tree.Inside.{size_inside, count_inside};
 ghost use Rattle.tree_specs.specs.declared.row.Row.{Row as RowData};
 ghost use Rattle.tree_specs.specs.Tree.Walks.{own_row, own};
 ghost use Rattle.tree_specs.specs.Calls.Refusals.{size_limit};
-ghost use Rattle.tree_specs.specs.Tree.Sums.{charge, sum_inside};
-ghost use Rattle.tree_links.specs.Weights.{sized, counted};
+ghost use Rattle.tree_specs.specs.Tree.Sums.{sum_inside};
+ghost use Rattle.tree_links.specs.Links.{IsTree};
+ghost use Rattle.tree_links.specs.Weights.{weighed, inside_weight};
 
 use crate::tree::Tree;
 use tree_specs::{Kind, OVERHEAD, Owner, Row};
@@ -21,37 +22,46 @@ fn row_of(tree: &Tree, owner: Owner) -> Option<&Row>
     }
 }
 
-/// The size of an object in bytes, and 0 elsewhere.
-fn own_size(tree: &Tree, owner: Owner) -> u64
-    ensures { result ≡ own sized tree.now.rows owner }
-{
-    row_of(tree, owner).map_or(0, |row| row.size)
+/// What of an object is summed.
+#[derive(Clone, Copy, Debug)]
+enum Weight {
+    /// Its size in bytes.
+    Size,
+    /// 1, but nothing for a reference.
+    Number,
+    /// What it counts against a limit, in bytes.
+    Charge,
 }
 
-/// 1 for an object that is no reference, and 0 elsewhere.
-fn own_count(tree: &Tree, owner: Owner) -> u64
-    ensures { result ≡ own counted tree.now.rows owner }
+fn weigh(row: &Row, what: Weight) -> u64
+    requires { row.now.size < size_limit }
+    ensures { result ≡ weighed what row.now }
 {
-    row_of(tree, owner).map_or(0, |row| match row.kind {
-        Kind::Reference { .. } => 0,
-        _ => 1,
-    })
+    match (what, row.kind) {
+        (Weight::Size, _) => row.size,
+        (Weight::Number | Weight::Charge, Kind::Reference { .. }) => 0,
+        (Weight::Number, _) => 1,
+        (Weight::Charge, _) => row.size + OVERHEAD,
+    }
 }
 
-/// What an object that is no reference counts against a limit, in bytes, and 0 elsewhere.
-fn own_charge(tree: &Tree, owner: Owner) -> u64
-    ensures { result ≡ own charge tree.now.rows owner }
+/// The weight of an owner by itself. It is 0 where it is no object.
+fn own_weight(tree: &Tree, owner: Owner, what: Weight) -> u64
+    ensures { result ≡ own (weighed what) tree.now.rows owner }
 {
     match row_of(tree, owner) {
-        None
-        | Some(
-            Row {
-                kind: Kind::Reference { .. },
-                ..
-            },
-        ) => 0,
-        Some(row) => row.size + OVERHEAD,
+        None => 0,
+        Some(row) => weigh(row, what),
     }
+}
+
+fn sum_inside_of(tree: &Tree, from: Owner, what: Weight) -> u64
+    ensures sum { result ≡ inside_weight (weighed what) tree.now.rows from }
+    ensures sound { IsTree tree.now.rows tree.now.next }
+{
+    tree.walk(from)
+        .map(|place| own_weight(tree, place.owner, what))
+        .sum()
 }
 
 /// The sum of the sizes, in bytes, of an object and of all that it owns, and of all that these own, or of all
@@ -60,9 +70,7 @@ fn own_charge(tree: &Tree, owner: Owner) -> u64
 pub fn total(tree: &Tree, from: Owner) -> u64
     ensures { result ≡ size_inside tree.now.rows from }
 {
-    tree.walk(from)
-        .map(|place| own_size(tree, place.owner))
-        .sum()
+    sum_inside_of(tree, from, Weight::Size)
 }
 
 /// How many objects there are: an object and all that it owns, and all that these own, or all that is below
@@ -71,9 +79,7 @@ pub fn total(tree: &Tree, from: Owner) -> u64
 pub fn count(tree: &Tree, from: Owner) -> u64
     ensures { result ≡ count_inside tree.now.rows from }
 {
-    tree.walk(from)
-        .map(|place| own_count(tree, place.owner))
-        .sum()
+    sum_inside_of(tree, from, Weight::Number)
 }
 
 /// What the objects inside an owner count against its limit (`talloc_set_memlimit`), in bytes: each its size and 96
@@ -81,7 +87,5 @@ pub fn count(tree: &Tree, from: Owner) -> u64
 pub fn sum(tree: &Tree, from: Owner) -> u64
     ensures { result ≡ sum_inside tree.now.rows from }
 {
-    tree.walk(from)
-        .map(|place| own_charge(tree, place.owner))
-        .sum()
+    sum_inside_of(tree, from, Weight::Charge)
 }

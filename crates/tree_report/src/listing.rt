@@ -1,6 +1,6 @@
 ghost use Rattle.std.specs.Prelude.{◌≡◌, ◌++◌, IfOk, OnOk, ℕ, List};
 ghost use Rattle.std.specs.Option.{option_to_list};
-ghost use Rattle.tree_specs.specs.Tree.Reports.{report, row_kind, target_number, root_row};
+ghost use Rattle.tree_specs.specs.Tree.Reports.{report, row_kind, target_number};
 ghost use Rattle.tree_specs.specs.declared.object.Owner.TheVariants.{Of as At};
 ghost use Rattle.tree_specs.specs.Tree.Targets.{target_of};
 ghost use Rattle.references.specs.Rows.{AreRefsOf};
@@ -46,20 +46,6 @@ fn copied(alloc: Global, name: &Name) -> Result<Name, Memory>
     }
 }
 
-fn row_of_root() -> ReportRow
-    ensures { result ≡ root_row }
-{
-    ReportRow {
-        depth: 0,
-        id: 0,
-        kind: RowKind::Root,
-        size: 0,
-        refs: 0,
-        target: 0,
-        name: Name::fixed(b"null_context"),
-    }
-}
-
 /// The row of an object at this depth. None where there is no such object.
 fn row_of_object(
     alloc: Global,
@@ -96,7 +82,7 @@ fn row_at(
     ensures { IfOk result (λ r. option_to_list r ≡ shown_at tree.now.rows depth owner) }
 {
     match owner {
-        Owner::Root => Ok(Some(row_of_root())),
+        Owner::Root => Ok(Some(ReportRow::root())),
         Owner::Of(x) => row_of_object(alloc, tree, refs, x, depth),
     }
 }

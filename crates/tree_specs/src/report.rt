@@ -1,4 +1,5 @@
 ghost use Rattle.std.specs.Prelude.{◌≡◌};
+ghost use Rattle.tree_specs.specs.Tree.Reports.{root_row};
 
 use crate::listed::Listed;
 use crate::name::Name;
@@ -35,6 +36,23 @@ pub struct ReportRow {
     /// The object that a reference refers to, and 0 elsewhere.
     pub target: u64,
     pub name: Name,
+}
+
+impl ReportRow {
+    /// The row of the root, talloc's null context, where a report is of it.
+    pub fn root() -> ReportRow
+        ensures { result ≡ root_row }
+    {
+        ReportRow {
+            depth: 0,
+            id: 0,
+            kind: RowKind::Root,
+            size: 0,
+            refs: 0,
+            target: 0,
+            name: Name::fixed(b"null_context"),
+        }
+    }
 }
 
 /// The rows of a report, each owner before its children. Contracts see the list of them.

@@ -32,18 +32,6 @@ fn writes_replies(rt: HostRuntime) -> Result<(), Fail> {
     )
 }
 
-fn root_row(alloc: Global) -> Result<ReportRow, Fail> {
-    Ok(ReportRow {
-        depth: 0,
-        id: 0,
-        kind: RowKind::Root,
-        size: 0,
-        refs: 0,
-        target: 0,
-        name: read_name(alloc, b"null_context")?,
-    })
-}
-
 fn reference_row(alloc: Global) -> Result<ReportRow, Fail> {
     Ok(ReportRow {
         depth: 2,
@@ -60,7 +48,7 @@ fn reference_row(alloc: Global) -> Result<ReportRow, Fail> {
 fn writes_reports(rt: HostRuntime) -> Result<(), Fail> {
     let none = ReportRows::make(Vec::new(rt.alloc()));
     let mut rows = Vec::new(rt.alloc());
-    rows.push(root_row(rt.alloc())?)?;
+    rows.push(ReportRow::root())?;
     rows.push(reference_row(rt.alloc())?)?;
     let two = ReportRows::make(rows);
     writes(
