@@ -11,6 +11,13 @@ const CHILDREN: &[u8] =
 const CHILDREN_FREED: &[u8] =
     b"tv transcript 1\nreply 1\nreply 2\nreply 3\nreply 4\nfreed 4 0\nfreed 3 0\nfreed 2 0\nfreed 1 0\nreply ok\nreply no 1 1\nend quiet\n";
 
+// A destructor has a report made, and does one more call before it returns.
+const REPORTING: &[u8] =
+    b"tv schedule 1 pool\ncall new 0 8 a\ncall hook 1 16\ncall free 1\nact report 0\nact total 0\nret 0\n";
+
+const REPORTED: &[u8] =
+    b"tv transcript 1\nreply 1\nreply ok\nask hook 1 16 0 0 0 0\nrow 0 0 root 0 0 0 null_context\nrow 1 1 plain 8 0 0 a\nreply rows 2\nask hook 1 16 0 0 0 1\nreply 8\nask hook 1 16 0 0 0 2\naccepted 1\nfreed 1 16\nreply ok\nend quiet\n";
+
 /// A run of the word `replay`: what it answered, wrote and said.
 #[derive(Drop)]
 struct Answer {
@@ -75,6 +82,7 @@ fn each_schedule_has_its_transcript_or_its_first_refused_line(rt: HostRuntime) -
             b"".as_slice(),
         ),
         (CHILDREN, Status::Done, CHILDREN_FREED, b""),
+        (REPORTING, Status::Done, REPORTED, b""),
         (b"", refused(1, form), b"", b"line 1: form\n"),
         (
             b"tv schedule 1 pool\ncall new 0 0 a\ncall fre",

@@ -5,7 +5,8 @@ ghost use Rattle.tree_specs.specs.Calls.Passed.{AllPassed};
 ghost use Rattle.tree_specs.specs.Calls.Plans.{plan, places as places_of, warns as worth_a_warning};
 ghost use Rattle.tree_specs.specs.declared.call.Call.TheVariants.{Free as FreeOf};
 ghost use Rattle.tree_specs.specs.declared.question.Ask.{Ask as AskData};
-ghost use Rattle.tree_specs.specs.declared.reply.Reply.TheVariants.{Ok as OkReply};
+ghost use Rattle.host_core.specs.declared.motion.Motion.TheVariants.{Replies};
+ghost use Rattle.host_core.specs.declared.short_reply.ShortReply.TheVariants.{Number as NumberReply};
 ghost use Rattle.tree_specs.specs.Rules.Story.{freed_reply};
 ghost use Rattle.tree_specs.specs.Machine.Table.{call_step, plan_step};
 ghost use Rattle.tree_links.specs.Links.{MayPlace};
@@ -63,11 +64,11 @@ fn free(x: Obj, pool: &ObjectPool) -> Motion
     }
 }
 
-/// The reply to a change that is made.
-fn done(_change: ()) -> ShortReply
-    ensures { reply_of result ≡ OkReply }
+/// The reply is a number.
+fn number(n: u64) -> Motion
+    ensures { result ≡ Replies (NumberReply n) }
 {
-    ShortReply::Ok
+    Motion::Replies(ShortReply::Number(n))
 }
 
 /// Does a call that isn't refused, and takes no memory for its reply.
@@ -81,27 +82,27 @@ fn effect(call: Call, pool: &mut ObjectPool) -> Motion
     ensures works { pool.new.works ≡ pool.old.works }
     ensures moved { (q : AskData) → move_of q result pool.new.pool ≡ plan_step q (plan pool.old.pool call) pool.old.pool }
 {
-    let reply = match call {
-        Call::New { owner, size, name } => ShortReply::Number(pool.add(name, size, owner).0),
-        Call::Reference { owner, x } => ShortReply::Number(pool.refer(x, owner).0),
+    match call {
+        Call::New { owner, size, name } => return number(pool.add(name, size, owner).0),
+        Call::Reference { owner, x } => return number(pool.refer(x, owner).0),
         Call::Free { x } => return free(x, pool),
         Call::Freekids { x } => return Motion::Empties(x),
         Call::Unlink { owner, x } => return Motion::Unlinks(owner, x),
         Call::Steal { owner, x } => return give(x, owner, ShortReply::Ok, pool),
         Call::Move { owner, x } => return give(x, owner, ShortReply::Number(x.0), pool),
-        Call::Reparent { from, to, x } => done(pool.reparent(from, to, x)),
-        Call::Hook { x, routine } => done(pool.hook(x, routine)),
-        Call::Unhook { x } => done(pool.hook(x, 0)),
-        Call::Rename { x, name } => done(pool.rename(x, name)),
-        Call::Resize { x, size } => done(pool.resize(x, size)),
-        Call::Limit { x, max } => done(pool.limit(x, max)),
-        Call::Parent { x } => ShortReply::Number(pool.parent(x).unwrap_or(Owner::Root).number()),
-        Call::Total { owner } => ShortReply::Number(pool.total(owner)),
-        Call::Count { owner } => ShortReply::Number(pool.count(owner)),
-        Call::Sum { owner } => ShortReply::Number(pool.sum(owner)),
+        Call::Parent { x } => return number(pool.parent(x).unwrap_or(Owner::Root).number()),
+        Call::Total { owner } => return number(pool.total(owner)),
+        Call::Count { owner } => return number(pool.count(owner)),
+        Call::Sum { owner } => return number(pool.sum(owner)),
         Call::Report { .. } => unreachable!(),
-    };
-    Motion::Replies(reply)
+        Call::Reparent { from, to, x } => pool.reparent(from, to, x),
+        Call::Hook { x, routine } => pool.hook(x, routine),
+        Call::Unhook { x } => pool.hook(x, 0),
+        Call::Rename { x, name } => pool.rename(x, name),
+        Call::Resize { x, size } => pool.resize(x, size),
+        Call::Limit { x, max } => pool.limit(x, max),
+    }
+    Motion::Replies(ShortReply::Ok)
 }
 
 /// Does a call: the first refusal that applies is the reply, otherwise the effect comes.

@@ -46,7 +46,7 @@ fn rows_of(event: &Option<Event>) -> usize {
 }
 
 #[test]
-fn a_long_chain_is_summed_and_reported(rt: HostRuntime) -> Result<(), Fail> {
+fn a_long_chain_that_was_stolen_is_summed_reported_and_freed(rt: HostRuntime) -> Result<(), Fail> {
     let mut host = Host::new(rt.alloc(), 1)?;
     walk_a_long_chain(&rt, rt.alloc(), &mut host);
     Ok(())
@@ -61,6 +61,7 @@ fn walk_a_long_chain(rt: &impl Abort, alloc: Global, host: &mut Host) {
     takes(rt, host, report(0));
     assert_eq!(rt; rows_of(&host.next()), 2_001);
     waits(rt, host, &Ask::Quiet);
+    frees_all(rt, host, 2_000);
 }
 
 fn reference(parent: u64, number: u64) -> Input
