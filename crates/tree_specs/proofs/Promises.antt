@@ -8,3 +8,5 @@ pub mod FineDrops
 pub mod FineFrees
 pub mod Fitting
 pub mod StoryOrder
+pub mod Leaving
+pub mod RunningCalls

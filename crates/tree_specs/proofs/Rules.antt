@@ -4,3 +4,4 @@ pub mod Rest
 pub mod FreeCauses
 pub mod TextLaws
 pub mod StoryLaws
+pub mod MidStories

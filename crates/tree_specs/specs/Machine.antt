@@ -2,3 +2,4 @@
 pub mod Table
 pub mod Profiles
 pub mod View
+pub mod Meaning

@@ -3,3 +3,5 @@ pub mod Orderly
 pub mod Grounded
 pub mod Acceptances
 pub mod BadStories
+pub mod Refused
+pub mod BadTexts

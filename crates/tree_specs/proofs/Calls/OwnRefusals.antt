@@ -15,12 +15,12 @@ use Rattle.tree_specs.specs.declared.reply.Reply.TheVariants.{No}
 use Rattle.tree_specs.specs.declared.reply.Refusal.{Refusal}
 use Rattle.tree_specs.specs.declared.reply.Refusal.TheVariants as refusal
 use Rattle.tree_specs.specs.declared.event.Event.TheVariants.{Replied}
-use Rattle.tree_specs.specs.Tree.Pool.{Pool, row_of, is_below, owner_of}
+use Rattle.tree_specs.specs.Tree.Pool.{Pool, row_of, is_below, owner_of, is_object, is_owner}
 use Rattle.tree_specs.specs.Tree.Targets.{is_reference}
 use Rattle.tree_specs.specs.Rules.Items.{Item}
 use Rattle.tree_specs.specs.Rules.Items.Item.{Told}
 use Rattle.tree_specs.specs.declared.test.Test.{Test}
-use Rattle.tree_specs.specs.Calls.Refusals.{Check, row_limit, refuse_if, refusal_of, refused, refusals, over, fits_in, fits, growing, object_row, object, owner, room, given_by, held, is_held}
+use Rattle.tree_specs.specs.Calls.Refusals.{Check, row_limit, refuse_if, refusal_of, refused, refusals, over, fits_in, fits, growing, object_row, object, owner, room, given_by, held, is_held, is_running}
 use Rattle.tree_specs.specs.declared.test.Test.TheVariants.{IsSmall, IsObject, IsOwner, IsPlain, HasRoom, Fits, MayGrow, IsNotDying, IsNotRunning, IsNotInside, IsUnheld, IsUnreferenced, IsInterested, MayGive}
 use Rattle.tree_specs.specs.Rules.Sequence.{Scene}
 use Rattle.tree_specs.specs.Promises.Orderly.{RefusedJustNow}
@@ -28,80 +28,81 @@ use Rattle.tree_specs.specs.Promises.Grounded.{AnsweredCall, HeldCall, CausedCal
 use Rattle.tree_specs.proofs.Tree.Numbered.{by_test, same-equal}
 use Rattle.tree_specs.proofs.Tree.References.{not-held}
 
--- only a destructor says so
-abbrev pub IsOwn : Refusal → Type 0
-IsOwn (refusal.Refused x v) = ⊥
-IsOwn why = Unit {0}
+-- a destructor's number is no refusal of a call's own, and what is said to run runs
+abbrev pub IsOwn : Pool → Refusal → Type 0
+IsOwn p (refusal.Refused x v) = ⊥
+IsOwn p (refusal.Running x) = is_running p x ≡ true
+IsOwn p why = Unit {0}
 
-abbrev pub AllOwn : Check → Type 0
-AllOwn [] = Unit {0}
-AllOwn (why ∷ later) = IsOwn why × AllOwn later
+abbrev pub AllOwn : Pool → Check → Type 0
+AllOwn p [] = Unit {0}
+AllOwn p (why ∷ later) = IsOwn p why × AllOwn p later
 
-own-both : (first second : Check) → AllOwn first → AllOwn second → AllOwn (first ++ second)
-own-both [] second h k = k
-own-both (why ∷ first) second h k = (h.0, own-both first second h.1 k)
+own-both : (p : Pool) (first second : Check) → AllOwn p first → AllOwn p second → AllOwn p (first ++ second)
+own-both p [] second h k = k
+own-both p (why ∷ first) second h k = (h.0, own-both p first second h.1 k)
 
-own-if : (b : Bool) (why : Refusal) → IsOwn why → AllOwn (refuse_if b why)
-own-if true why h = (h, tt)
-own-if false why h = tt
+own-if : (p : Pool) (b : Bool) (why : Refusal) → (b ≡ true → IsOwn p why) → AllOwn p (refuse_if b why)
+own-if p true why h = (h refl, tt)
+own-if p false why h = tt
 
-own-object : (p : Pool) (x : Obj) → AllOwn (object p x)
+own-object : (p : Pool) (x : Obj) → AllOwn p (object p x)
 own-object p x = each (row_of p.rows x)
   where
-    each : (o : Option Row) → AllOwn (object_row x o)
+    each : (o : Option Row) → AllOwn p (object_row x o)
     each None = (tt, tt)
-    each (Some r) = own-if _ _ tt
+    each (Some r) = own-if p _ _ (λ t. tt)
 
-own-owner : (p : Pool) (o : Owner) → AllOwn (owner p o)
+own-owner : (p : Pool) (o : Owner) → AllOwn p (owner p o)
 own-owner p Root = tt
 own-owner p (Of x) = own-object p x
 
-own-room : (p : Pool) (k : ℕ) → AllOwn (room p k)
+own-room : (p : Pool) (k : ℕ) → AllOwn p (room p k)
 own-room p k =
-    own-both (refuse_if (nat_lt row_limit (length p.rows + k)) (refusal.Full (length p.rows))) (refuse_if (nat_le (2 ^ 64) (p.next + k)) refusal.Spent) (own-if _ _ tt) (own-if _ _ tt)
+    own-both p (refuse_if (nat_lt row_limit (length p.rows + k)) (refusal.Full (length p.rows))) (refuse_if (nat_le (2 ^ 64) (p.next + k)) refusal.Spent) (own-if p _ _ (λ t. tt)) (own-if p _ _ (λ t. tt))
 
-own-fits : (n : ℕ) (rs : List Row) (wanted : ℕ) (o : Option Owner) → AllOwn (fits_in n rs wanted o)
-own-fits n rs wanted None = tt
-own-fits n rs wanted (Some Root) = tt
-own-fits zero rs wanted (Some (Of x)) = tt
-own-fits (suc n) rs wanted (Some (Of x)) = own-both (over rs wanted x) _ (own-if _ _ tt) (own-fits n rs wanted (owner_of rs x))
+own-fits : (p : Pool) (n : ℕ) (rs : List Row) (wanted : ℕ) (o : Option Owner) → AllOwn p (fits_in n rs wanted o)
+own-fits p n rs wanted None = tt
+own-fits p n rs wanted (Some Root) = tt
+own-fits p zero rs wanted (Some (Of x)) = tt
+own-fits p (suc n) rs wanted (Some (Of x)) = own-both p (over rs wanted x) _ (own-if p _ _ (λ t. tt)) (own-fits p n rs wanted (owner_of rs x))
 
-own-below : (p : Pool) (o : Owner) (wanted : ℕ) → AllOwn (fits p o wanted)
+own-below : (p : Pool) (o : Owner) (wanted : ℕ) → AllOwn p (fits p o wanted)
 unfolding fits
-own-below p o wanted = own-fits (length p.rows) p.rows wanted (Some o)
+own-below p o wanted = own-fits p (length p.rows) p.rows wanted (Some o)
 
-own-growing : (p : Pool) (x : Obj) (size : ℕ) → AllOwn (growing p x size)
+own-growing : (p : Pool) (x : Obj) (size : ℕ) → AllOwn p (growing p x size)
 own-growing p x size = by_test (nat_lt (size_at p.rows x) size) (λ t. rw t (own-below p (Of x) (size - size_at p.rows x))) (λ t. rw t tt)
 
-own-given : (p : Pool) (from to : Owner) (x : Obj) → AllOwn (given_by p from to x)
-own-given p from to x = by_test (is_below (owner_of p.rows x) from) (λ t. rw t (own-if _ (refusal.Loop x to) tt)) (λ t. rw t (own-if _ (refusal.NotParent x from) tt))
+own-given : (p : Pool) (from to : Owner) (x : Obj) → AllOwn p (given_by p from to x)
+own-given p from to x = by_test (is_below (owner_of p.rows x) from) (λ t. rw t (own-if p _ (refusal.Loop x to) (λ t. tt))) (λ t. rw t (own-if p _ (refusal.NotParent x from) (λ t. tt)))
 
-own-test : (p : Pool) (t : Test) → AllOwn (refusal_of p t)
-own-test p (IsSmall size) = own-if _ _ tt
+own-test : (p : Pool) (t : Test) → AllOwn p (refusal_of p t)
+own-test p (IsSmall size) = own-if p _ _ (λ t. tt)
 own-test p (IsObject x) = own-object p x
 own-test p (IsOwner o) = own-owner p o
-own-test p (IsPlain x) = own-if _ _ tt
+own-test p (IsPlain x) = own-if p _ _ (λ t. tt)
 own-test p (HasRoom k) = own-room p k
 own-test p (Fits o wanted) = own-below p o wanted
 own-test p (MayGrow x size) = own-growing p x size
-own-test p (IsNotDying x) = own-if _ _ tt
-own-test p (IsNotRunning x) = own-if _ _ tt
-own-test p (IsNotInside x o) = own-if _ _ tt
-own-test p (IsUnheld x) = own-if _ _ tt
-own-test p (IsUnreferenced x) = own-if _ _ tt
-own-test p (IsInterested o x) = own-if _ _ tt
+own-test p (IsNotDying x) = own-if p _ _ (λ t. tt)
+own-test p (IsNotRunning x) = own-if p _ _ (λ t. t)
+own-test p (IsNotInside x o) = own-if p _ _ (λ t. tt)
+own-test p (IsUnheld x) = own-if p _ _ (λ t. tt)
+own-test p (IsUnreferenced x) = own-if p _ _ (λ t. tt)
+own-test p (IsInterested o x) = own-if p _ _ (λ t. tt)
 own-test p (MayGive from to x) = own-given p from to x
 
-pub own-refused : (p : Pool) (ts : List Test) → AllOwn (refused p ts)
+pub own-refused : (p : Pool) (ts : List Test) → AllOwn p (refused p ts)
 own-refused p [] = tt
 own-refused p (t ∷ []) = own-test p t
-own-refused p (t ∷ u ∷ ts) = own-both (refusal_of p t) (refused p (u ∷ ts)) (own-test p t) (own-refused p (u ∷ ts))
+own-refused p (t ∷ u ∷ ts) = own-both p (refusal_of p t) (refused p (u ∷ ts)) (own-test p t) (own-refused p (u ∷ ts))
 
 -- ---- what such a refusal needs: nothing
 
-pub own-just-now : (items : List Item) (why : Refusal) → IsOwn why → RefusedJustNow items (Told (Replied (No why)))
-own-just-now items (refusal.Refused x v) h = absurd h
-own-just-now items _ h = tt
+pub own-just-now : (items : List Item) (p : Pool) (why : Refusal) → IsOwn p why → RefusedJustNow items (Told (Replied (No why)))
+own-just-now items p (refusal.Refused x v) h = absurd h
+own-just-now items p _ h = tt
 
 not-true : (b : Bool) → not b ≡ true → b ≡ false
 not-true true e = cc
@@ -137,7 +138,69 @@ own-free scenes p x why later d refers e = each (row_of p.rows x) refl e
         ))
         (λ u. let e' : held p x ≡ why ∷ later = rw u at e in by-held (is_held p x) refl e')
 
+-- a refusal that says nothing of a free
+abbrev IsAtOnce : Refusal → Type 0
+IsAtOnce (refusal.Held x) = ⊥
+IsAtOnce (refusal.Running x) = ⊥
+IsAtOnce (refusal.Refused x v) = ⊥
+IsAtOnce why = Unit {0}
+
+abbrev AllAtOnce : Check → Type 0
+AllAtOnce [] = Unit {0}
+AllAtOnce (why ∷ later) = IsAtOnce why × AllAtOnce later
+
+at_once-both : (first second : Check) → AllAtOnce first → AllAtOnce second → AllAtOnce (first ++ second)
+at_once-both [] second h k = k
+at_once-both (why ∷ first) second h k = (h.0, at_once-both first second h.1 k)
+
+at_once-if : (b : Bool) (why : Refusal) → IsAtOnce why → AllAtOnce (refuse_if b why)
+at_once-if true why h = (h, tt)
+at_once-if false why h = tt
+
+at_once-object : (p : Pool) (x : Obj) → AllAtOnce (object p x)
+at_once-object p x = each (row_of p.rows x)
+  where
+    each : (o : Option Row) → AllAtOnce (object_row x o)
+    each None = (tt, tt)
+    each (Some r) = at_once-if _ _ tt
+
+at_once-owner : (p : Pool) (o : Owner) → AllAtOnce (owner p o)
+at_once-owner p Root = tt
+at_once-owner p (Of x) = at_once-object p x
+
+at_once-unlink : (p : Pool) (o : Owner) (x : Obj) → AllAtOnce (refusals p (call.Unlink o x))
+at_once-unlink p o x = at_once-both (object p x) _ (at_once-object p x) (at_once-both (owner p o) _ (at_once-owner p o) (at_once-if _ _ tt))
+
+-- an object is no refusal, and neither is an owner
+object-none : (p : Pool) (x : Obj) → is_object p.rows x ≡ true → object p x ≡ []
+object-none p x h = each (row_of p.rows x) refl
+  where
+    each : (o : Option Row) → row_of p.rows x ≡ o → object_row x o ≡ []
+    each None e = let bad : false ≡ true = rw e at h in cc
+    each (Some r) e = let h' : not (is_reference r.kind) ≡ true = rw e at h in rw (not-true (is_reference r.kind) h') refl
+
+owner-none : (p : Pool) (o : Owner) → is_owner p.rows o ≡ true → owner p o ≡ []
+owner-none p Root h = refl
+owner-none p (Of x) h = object-none p x h
+
+-- an owner that has an interest in an object isn't refused at once, and otherwise neither held, running nor refused is said
+own-unlink : (scenes : List Scene) (p : Pool) (o : Owner) (x : Obj) (why : Refusal) (later : Check) → refusals p (call.Unlink o x) ≡ why ∷ later
+    → AnsweredCall (call.Unlink o x) p (No why) × HeldCall (call.Unlink o x) p (No why) × CausedCall scenes (call.Unlink o x) p (No why)
+own-unlink scenes p o x why later e = let h = said why (subst AllAtOnce e (at_once-unlink p o x)).0 in (answered, h.0, h.1)
+  where
+    answered : AnsweredCall (call.Unlink o x) p (No why)
+    answered m =
+        let none : refusals p (call.Unlink o x) ≡ [] = rw (object-none p x m.0, owner-none p o m.1, m.2) refl in
+        let bad : why ∷ later ≡ [] = sym e ∙ none in cc
+
+    said : (w : Refusal) → IsAtOnce w → HeldCall (call.Unlink o x) p (No w) × CausedCall scenes (call.Unlink o x) p (No w)
+    said (refusal.Held y) h = absurd h
+    said (refusal.Running y) h = absurd h
+    said (refusal.Refused y v) h = absurd h
+    said _ h = (λ q. cc, tt)
+
 pub own-call : (scenes : List Scene) (p : Pool) (c : Call) (why : Refusal) (later : Check) → Distinct p.rows → Refers p.rows → refusals p c ≡ why ∷ later
     → AnsweredCall c p (No why) × HeldCall c p (No why) × CausedCall scenes c p (No why)
 own-call scenes p (call.Free x) why later d refers e = own-free scenes p x why later d refers e
+own-call scenes p (call.Unlink o x) why later d refers e = own-unlink scenes p o x why later e
 own-call scenes p _ why later d refers e = (tt, tt, tt)

@@ -1,5 +1,5 @@
 -- The laws of the story still to come.
-use Rattle.std.proofs.Common.{◌≡◌, ℕ, suc, zero, ◌+◌, ◌*◌, ◌<◌, List, [], ◌∷◌, length, Option, Some, None, refl, sym, ◌∙◌, ap, subst, arith}
+use Rattle.std.proofs.Common.{◌≡◌, ℕ, suc, zero, ◌+◌, ◌*◌, ◌<◌, ◌≤◌, List, [], ◌∷◌, length, Option, Some, None, refl, sym, ◌∙◌, ap, subst, arith}
 use Rattle.step_machine.specs.Machine.{Move, Outcome, State, silent, tell, given, asks, leads, rest, walk, items as told_by}
 use Rattle.step_machine.specs.Machine.{Move as Do}
 use Rattle.step_machine.specs.Machine.Outcome.{Ended, Waits, Stray, Short}
@@ -38,10 +38,10 @@ abbrev pub outcome : View → List Input → Outcome Answer Pool Input Item
 outcome v is = rest table (turns (length v.pool.rows) (length is)) v.innermost v.below v.pool is
 
 -- a bound on the rows that there can be, with k inputs left
-abbrev most : View → ℕ → ℕ
+abbrev pub most : View → ℕ → ℕ
 most v k = length v.pool.rows + 2 * k + 2
 
-well : (v : View) (k : ℕ) → IsConsistent v → Well (most v k) v.innermost v.below v.pool k
+pub well : (v : View) (k : ℕ) → IsConsistent v → Well (most v k) v.innermost v.below v.pool k
 well v k h = (h.sound, omega (arith, pending-most v.innermost))
 
 -- any number of turns above the measure gives the rest
@@ -59,10 +59,21 @@ walk-whole v is h =
     let R : ℕ = most v (length is) in
     enough table (Well R) (cost R) (falls R) (turns (length v.pool.rows) (length is)) v.innermost v.below v.pool is (well v (length is) h) (cost-turns v (length is) h)
 
-pub not-short : (v : View) (is : List Input) → IsConsistent v → NotShort (outcome v is)
-not-short v is h =
+-- and so are more
+pub walk-long : (n : ℕ) (v : View) (is : List Input) → IsConsistent v → turns (length v.pool.rows) (length is) ≤ n → NotShort (walk table n v.innermost v.below v.pool is)
+walk-long n v is h big =
     let R : ℕ = most v (length is) in
-    subst NotShort (rest-walk table (Well R) (cost R) (falls R) (turns (length v.pool.rows) (length is)) v.innermost v.below v.pool is (well v (length is) h) (cost-turns v (length is) h)) (walk-whole v is h)
+    let c = cost-turns v (length is) h in
+    enough table (Well R) (cost R) (falls R) n v.innermost v.below v.pool is (well v (length is) h) (omega (arith, c))
+
+-- as many steps are as good as so many turns
+pub rest-is-walk : (v : View) (is : List Input) → IsConsistent v → walk table (turns (length v.pool.rows) (length is)) v.innermost v.below v.pool is ≡ outcome v is
+rest-is-walk v is h =
+    let R : ℕ = most v (length is) in
+    rest-walk table (Well R) (cost R) (falls R) (turns (length v.pool.rows) (length is)) v.innermost v.below v.pool is (well v (length is) h) (cost-turns v (length is) h)
+
+pub not-short : (v : View) (is : List Input) → IsConsistent v → NotShort (outcome v is)
+not-short v is h = subst NotShort (rest-is-walk v is h) (walk-whole v is h)
 
 -- ---- what a step keeps
 

@@ -24,7 +24,8 @@ use Rattle.tree_specs.specs.Machine.View.{View, begin, rest_of}
 use Rattle.tree_specs.specs.Invariants.Consistent.{IsConsistent}
 use Rattle.tree_specs.proofs.Tree.Rooted.{forest-none}
 use Rattle.tree_specs.proofs.Turns.Bound.{cost-turns}
-use Rattle.tree_specs.proofs.Rules.Means.{noted_table, returned, run-means}
+use Rattle.tree_specs.specs.Machine.Meaning.{noted_table, returned}
+use Rattle.tree_specs.proofs.Rules.Means.{run-means}
 use Rattle.tree_specs.proofs.Rules.Rest.{outcome, rest-enough, walk-whole, not-short, ends-asked}
 
 -- a host at its beginning
