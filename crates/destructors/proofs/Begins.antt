@@ -12,7 +12,7 @@ use Rattle.tree_specs.specs.Tree.Inside.{total}
 use Rattle.tree_specs.specs.Tree.Pool.{Pool, row_of, target_at, is_dying_mark}
 use Rattle.tree_specs.specs.Tree.Targets.{target_of, newest_ref}
 use Rattle.tree_specs.specs.declared.object.Owner.{Owner}
-use Rattle.tree_specs.specs.Invariants.Sound.{IsLive}
+use Rattle.tree_specs.specs.Invariants.Sound.{IsLive, phases}
 use Rattle.std.specs.Prelude.{unwrap_or}
 use Rattle.tree_specs.specs.Machine.Table.{free_taken}
 use Rattle.tree_specs.proofs.Tree.Numbered.{by_test}
@@ -22,8 +22,14 @@ use Rattle.destructors.specs.Room.{mark_places, row_places, work_places, wanted}
 use Rattle.destructors.specs.Engine.{IsAsked, HasRoom}
 use Rattle.destructors.specs.Frees.{OpenFrees, before, frees_of, speaking}
 use Rattle.tree_specs.specs.Invariants.Sound.Footing.{OnCall}
-use Rattle.tree_specs.specs.Invariants.Alone.{free_footing, free_claims, AwaitsRun}
+use Rattle.tree_specs.specs.Machine.Profiles.{Phase}
+use Rattle.tree_specs.specs.Invariants.Alone.{free_footing, free_claims, AllFreesWait, AwaitsRun, FreesHold}
 use Rattle.destructors.specs.Works.{AtWork, IsAwaiting, MayBegin}
+
+-- the rows are the same; the works, what they claim and what the innermost rests on are others
+holding : {claimed claimed' : Obj → List Phase} {below below' : List FreeFrame} {grounds grounds' : Type 0} {p : Pool} → FreesHold claimed below grounds p
+    → ((x : Obj) → claimed' x ≡ phases (row_of p.rows x)) → AllFreesWait below' → grounds' → FreesHold claimed' below' grounds' p
+holding h open_frees waiting rests = record { started = h.started; valid = h.valid; forest = h.forest; refers = h.refers; open_frees = open_frees; waiting = waiting; rests = rests }
 
 -- what is begun stands on the call that it is for
 on-call : (fs : List FreeFrame) → AwaitsRun fs → free_footing fs ≡ OnCall
@@ -36,15 +42,7 @@ begins f s may a =
     let l = a.light in
     let n = may.small in
     record {
-      sound = record {
-        started = a.sound.started;
-        valid = a.sound.valid;
-        forest = a.sound.forest;
-        refers = a.sound.refers;
-        open_frees = λ x. rw (may.claims_nothing x) (a.sound.open_frees x);
-        waiting = a.sound.waiting;
-        rests = rw (on-call s.works a.sound.rests) (may.rests (λ x. free_claims x s.works));
-      };
+      sound = holding a.sound (λ x. rw (may.claims_nothing x) (a.sound.open_frees x)) a.sound.waiting (rw (on-call s.works a.sound.rests) (may.rests (λ x. free_claims x s.works)));
       light = omega (arith, l, n);
     }
 
@@ -73,15 +71,7 @@ pub judges : (x : Obj) (h v : ℕ) (fs : List FreeFrame) (p : Pool) → IsAwaiti
 judges x h v fs p a =
     let l = a.light in
     record {
-      sound = record {
-        started = a.sound.started;
-        valid = a.sound.valid;
-        forest = a.sound.forest;
-        refers = a.sound.refers;
-        open_frees = a.sound.open_frees;
-        waiting = a.sound.waiting.1;
-        rests = a.sound.waiting.0;
-      };
+      sound = holding a.sound a.sound.open_frees a.sound.waiting.1 a.sound.waiting.0;
       light = omega (arith, l);
     }
 

@@ -8,13 +8,13 @@ use Rattle.tree_specs.specs.declared.frame.FreeFrame.{FreeFrame}
 use Rattle.tree_specs.specs.declared.frame.FreeFrame.TheVariants.{Hooked, Leaving}
 use Rattle.tree_specs.specs.declared.question.Ask.TheVariants.{Quiet, Routine}
 use Rattle.tree_specs.specs.declared.object.Obj.{Obj}
-use Rattle.tree_specs.specs.Tree.Pool.{Pool}
+use Rattle.tree_specs.specs.Tree.Pool.{Pool, row_of}
 use Rattle.tree_specs.specs.Rules.Story.{hook_moment}
 use Rattle.tree_specs.specs.Machine.Profiles.{Phase, free_profile, call_profile}
-use Rattle.tree_specs.specs.Invariants.Sound.{Footing, footing, claims, MayWait, IsWaiting, AllWait, FreeRests}
+use Rattle.tree_specs.specs.Invariants.Sound.{Sound, Footing, phases, footing, claims, MayWait, IsWaiting, AllWait, FreeRests}
 use Rattle.tree_specs.specs.Invariants.Sound.Footing.{OnCall}
 use Rattle.tree_specs.specs.Invariants.Consistent.{Serves, IsStacked, sizes, IsConsistent}
-use Rattle.tree_specs.specs.Invariants.Alone.{free_footing, free_claim, free_claims, AllFreesWait, free_sizes, AwaitsRun, FreesWork, FreesWait}
+use Rattle.tree_specs.specs.Invariants.Alone.{free_footing, free_claim, free_claims, AllFreesWait, free_sizes, AwaitsRun, FreesHold, FreesWork, FreesWait}
 use Rattle.destructors.specs.Callers.{standing, under, free_view, call_view}
 
 -- ---- from a host's works to the frees
@@ -66,35 +66,27 @@ same-claims : (f : FreeFrame) (on : Footing) (a b : Obj → List Phase) (p : Poo
 same-claims (Leaving x h) on a b p e r = (r.0, r.1, r.2, sym (e x) ∙ r.3, r.4, r.5)
 same-claims _ on a b p e r = r
 
+-- the rows hold as they do among callers
+without-callers : {f : Frame} {fs : List Frame} {claimed : Obj → List Phase} {below : List FreeFrame} {grounds : Type 0} {p : Pool} → Sound f fs p
+    → ((x : Obj) → claimed x ≡ phases (row_of p.rows x)) → AllFreesWait below → grounds → FreesHold claimed below grounds p
+without-callers w open_frees waiting rests = record { started = w.started; valid = w.valid; forest = w.forest; refers = w.refers; open_frees = open_frees; waiting = waiting; rests = rests }
+
 pub work-alone : (f : FreeFrame) (fs : List FreeFrame) (cs : List CallFrame) (p : Pool) → IsConsistent (free_view f fs cs p) → FreesWork f fs p
 work-alone f fs cs p w =
     let n = standing-sizes f fs cs w.seated in
     let l = w.light in
     record {
-      sound = record {
-        started = w.sound.started;
-        valid = w.sound.valid;
-        forest = w.sound.forest;
-        refers = w.sound.refers;
-        open_frees = λ x. ap (λ (l : List Phase). free_claim x f ++ l) (sym (standing-claims x fs cs)) ∙ w.sound.open_frees x;
-        waiting = standing-waits f fs cs w.seated w.sound.waiting;
-        rests = subst (λ (on : Footing). FreeRests f on (λ x. free_claims x fs) p) (standing-footing f fs cs w.seated w.sound.waiting)
-            (same-claims f (footing (standing fs cs)) (λ x. claims x (standing fs cs)) (λ x. free_claims x fs) p (λ x. standing-claims x fs cs) w.sound.rests);
-      };
+      sound = without-callers w.sound
+          (λ x. ap (λ (l : List Phase). free_claim x f ++ l) (sym (standing-claims x fs cs)) ∙ w.sound.open_frees x)
+          (standing-waits f fs cs w.seated w.sound.waiting)
+          (subst (λ (on : Footing). FreeRests f on (λ x. free_claims x fs) p) (standing-footing f fs cs w.seated w.sound.waiting)
+          (same-claims f (footing (standing fs cs)) (λ x. claims x (standing fs cs)) (λ x. free_claims x fs) p (λ x. standing-claims x fs cs) w.sound.rests));
       light = omega (arith, n, l);
     }
 
 pub call-alone : (c : CallFrame) (fs : List FreeFrame) (cs : List CallFrame) (p : Pool) → IsConsistent (call_view c fs cs p) → FreesWait fs p
 call-alone c fs cs p w = record {
-  sound = record {
-    started = w.sound.started;
-    valid = w.sound.valid;
-    forest = w.sound.forest;
-    refers = w.sound.refers;
-    open_frees = λ x. sym (under-claims x fs) ∙ w.sound.open_frees x;
-    waiting = waits fs w.seated w.sound.waiting;
-    rests = runs fs w.seated;
-  };
+  sound = without-callers w.sound (λ x. sym (under-claims x fs) ∙ w.sound.open_frees x) (waits fs w.seated w.sound.waiting) (runs fs w.seated);
   light = (let n = under-sizes fs cs w.seated in let l = w.light in omega (arith, n, l));
 }
   where

@@ -2,6 +2,8 @@
 use Rattle.std.specs.Prelude.{◌≡◌, ℕ, List, Option, Some, None, true}
 use Rattle.linked_lanes.specs.Lane.{first, has, after, before}
 use Rattle.linked_lanes.specs.declared.Sides.{Sides}
+use Rattle.linked_lanes.specs.declared.Link.{Link}
+use Rattle.linked_lanes.specs.declared.Link.TheVariants.{Newer, Older}
 
 -- the neighbours of one in a lane
 abbrev pub sides_in : List ℕ → ℕ → Sides
@@ -19,3 +21,8 @@ head_left_by (Some x) older head = head
 
 abbrev pub head_left : Option ℕ → Sides → Option ℕ
 head_left head s = head_left_by s.newer s.older head
+
+-- the neighbours once another one is noted
+abbrev pub noted : Link → Sides → Sides
+noted (Newer x) s = record s { newer = x }
+noted (Older x) s = record s { older = x }

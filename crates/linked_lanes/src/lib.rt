@@ -4,7 +4,7 @@
 #![tactic(auto)]
 
 ghost use Rattle.std.specs.Prelude.{◌≡◌};
-ghost use Rattle.linked_lanes.specs.Chain.{head_left};
+ghost use Rattle.linked_lanes.specs.Chain.{head_left, noted as noted_in};
 
 /// The neighbours of one in its lane.
 #[derive(Clone, Copy, Debug)]
@@ -15,12 +15,23 @@ pub struct Sides {
     pub older: Option<u64>,
 }
 
+/// What is noted of a neighbour.
+#[derive(Clone, Copy, Debug)]
+pub enum Link {
+    Newer(Option<u64>),
+    Older(Option<u64>),
+}
+
 impl Sides {
-    /// No neighbours: those of one that is in no lane yet, or alone in its lane.
-    pub const NONE: Sides = Sides {
-        newer: None,
-        older: None,
-    };
+    /// Another neighbour is noted.
+    pub fn note(&mut self, link: Link)
+        ensures { self.new ≡ noted_in link self.old }
+    {
+        match link {
+            Link::Newer(x) => self.newer = x,
+            Link::Older(x) => self.older = x,
+        }
+    }
 
     /// The head of a lane once one with these neighbours has left it, where `head` was its head before.
     pub fn head_after(self, head: Option<u64>) -> Option<u64>

@@ -72,30 +72,22 @@ head-is a b xs ys e = cc
 tail-is : (a b : Obj × ℕ) (xs ys : List (Obj × ℕ)) → a ∷ xs ≡ b ∷ ys → xs ≡ ys
 tail-is a b xs ys e = cc
 
-bounds-limits : (ls ls' : List Limited) → SameBounds ls ls' → (x : Obj) → limit_of ls' x ≡ limit_of ls x
-bounds-limits [] [] e x = refl
-bounds-limits [] (k ∷ ks) e x = cc
-bounds-limits (l ∷ ls) [] e x = cc
-bounds-limits (l ∷ ls) (k ∷ ks) e x =
+-- the same limits for the same objects
+bounds-same : (ls ls' : List Limited) → SameBounds ls ls' → ((x : Obj) → limit_of ls' x ≡ limit_of ls x) × (AllBound ls → AllBound ls')
+bounds-same [] [] e = (λ x. refl, λ b. tt)
+bounds-same [] (k ∷ ks) e = cc
+bounds-same (l ∷ ls) [] e = cc
+bounds-same (l ∷ ls) (k ∷ ks) e =
     let h : bound_of k ≡ bound_of l = head-is _ _ (map bound_of ks) (map bound_of ls) e in
     let o : k.object ≡ l.object = ap (λ (b : Obj × ℕ). b.0) h in
     let n : k.limit ≡ l.limit = ap (λ (b : Obj × ℕ). b.1) h in
-    let ih = bounds-limits ls ks (tail-is (bound_of k) (bound_of l) _ _ e) x in
-    rw (o, n, ih) refl
-
-bounds-bound : (ls ls' : List Limited) → SameBounds ls ls' → AllBound ls → AllBound ls'
-bounds-bound [] [] e b = tt
-bounds-bound [] (k ∷ ks) e b = cc
-bounds-bound (l ∷ ls) [] e b = tt
-bounds-bound (l ∷ ls) (k ∷ ks) e b =
-    let h : bound_of k ≡ bound_of l = head-is _ _ (map bound_of ks) (map bound_of ls) e in
-    let n : k.limit ≡ l.limit = ap (λ (c : Obj × ℕ). c.1) h in
-    (rw n b.0, bounds-bound ls ks (tail-is (bound_of k) (bound_of l) _ _ e) b.1)
+    let ih = bounds-same ls ks (tail-is (bound_of k) (bound_of l) _ _ e) in
+    (λ x. rw (o, n, ih.0 x) refl, λ b. (rw n b.0, ih.1 b.1))
 
 -- other sums, and the same limits
 pub other-sums : (ls ls' : List Limited) (rs rs' : List Row) → AreLimitsOf ls rs → SameBounds ls ls' → ((x : Obj) → limit_at rs' x ≡ limit_at rs x) → AllSums ls' rs' → AreLimitsOf ls' rs'
 other-sums ls ls' rs rs' a b h s = record {
-  limits = λ x. bounds-limits ls ls' b x ∙ a.limits x ∙ sym (h x);
-  bound = bounds-bound ls ls' b a.bound;
+  limits = λ x. (bounds-same ls ls' b).0 x ∙ a.limits x ∙ sym (h x);
+  bound = (bounds-same ls ls' b).1 a.bound;
   sums = s;
 }

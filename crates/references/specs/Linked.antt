@@ -12,6 +12,8 @@ use Rattle.tree_specs.specs.Tree.Pool.{kids, newest_ref_of}
 use Rattle.linked_lanes.specs.declared.Sides.{Sides}
 use Rattle.linked_lanes.specs.Chain.{Chain}
 use Rattle.references.specs.declared.refs.Pair.{Pair}
+use Rattle.linked_lanes.specs.declared.Link.{Link}
+use Rattle.linked_lanes.specs.Chain.{noted}
 use Rattle.references.specs.declared.node.Node.{Node}
 use Rattle.references.specs.declared.head.Head.{Head}
 use Rattle.references.specs.Pairs.{pair, target_of, next_to, most}
@@ -62,6 +64,10 @@ with_newer w v = record v { sides = record v.sides { newer = w } }
 
 abbrev pub with_older : Option ℕ → Node → Node
 with_older w v = record v { sides = record v.sides { older = w } }
+
+-- another neighbour is noted
+abbrev pub with_link : Link → Node → Node
+with_link link v = record v { sides = noted link v.sides }
 
 -- the references to an object once this one has joined them
 abbrev pub joined : ℕ → Option Head → Head

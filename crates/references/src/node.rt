@@ -2,9 +2,9 @@ ghost use Rattle.std.specs.Prelude.{◌≡◌, ℕ, cond};
 ghost use Rattle.std.specs.Option.{option_map};
 ghost use Rattle.pool_arena.specs.Arena.{get};
 ghost use Rattle.linked_lanes.specs.Lane.{is_at};
-ghost use Rattle.references.specs.Linked.{with_newer, with_older};
+ghost use Rattle.references.specs.Linked.{with_link};
 
-use linked_lanes::Sides;
+use linked_lanes::{Link, Sides};
 use pool_arena::Arena;
 
 /// A reference: the number of the object that it refers to, and its neighbours among the references to that object.
@@ -14,26 +14,14 @@ pub(crate) struct Node {
     pub sides: Sides,
 }
 
-/// A reference has another newer neighbour. Nothing changes where there is no such reference.
-pub(crate) fn set_newer(nodes: &mut Arena<Node>, at: Option<u64>, newer: Option<u64>)
-    ensures nodes { (q : ℕ) → get nodes.new q ≡ cond (is_at at q) (option_map (with_newer newer) (get nodes.old q)) (get nodes.old q) }
+/// A reference has another neighbour. Nothing changes where there is no such reference.
+pub(crate) fn set_link(nodes: &mut Arena<Node>, at: Option<u64>, link: Link)
+    ensures nodes { (q : ℕ) → get nodes.new q ≡ cond (is_at at q) (option_map (with_link link) (get nodes.old q)) (get nodes.old q) }
     ensures spare { nodes.new.spare ≡ nodes.old.spare }
 {
     if let Some(reference) = at
         && let Some(node) = nodes.get_mut(reference)
     {
-        node.sides.newer = newer;
-    }
-}
-
-/// A reference has another older neighbour. Nothing changes where there is no such reference.
-pub(crate) fn set_older(nodes: &mut Arena<Node>, at: Option<u64>, older: Option<u64>)
-    ensures nodes { (q : ℕ) → get nodes.new q ≡ cond (is_at at q) (option_map (with_older older) (get nodes.old q)) (get nodes.old q) }
-    ensures spare { nodes.new.spare ≡ nodes.old.spare }
-{
-    if let Some(reference) = at
-        && let Some(node) = nodes.get_mut(reference)
-    {
-        node.sides.older = older;
+        node.sides.note(link);
     }
 }

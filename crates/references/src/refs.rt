@@ -4,8 +4,8 @@ ghost use Rattle.tree_specs.specs.Tree.Targets.{newer as newer_of};
 ghost use Rattle.references.specs.Linked.{numbered, with_ref};
 
 use crate::head::{Head, count, join, leave, newest};
-use crate::node::{Node, set_newer, set_older};
-use linked_lanes::Sides;
+use crate::node::{Node, set_link};
+use linked_lanes::{Link, Sides};
 use pool_arena::Arena;
 use std::alloc::Global;
 use std::marker::Model;
@@ -106,7 +106,7 @@ impl Refs {
         ensures spare { self.old.spare ≤ self.new.spare + 1 }
     {
         let older = join(&mut self.heads, target.0, reference.0);
-        set_newer(&mut self.nodes, older, Some(reference.0));
+        set_link(&mut self.nodes, older, Link::Newer(Some(reference.0)));
         let sides = Sides { newer: None, older };
         self.nodes.add(
             reference.0,
@@ -125,8 +125,8 @@ impl Refs {
     {
         let Node { target, sides } = self.nodes.take(reference.0)?;
         leave(&mut self.heads, target, sides);
-        set_older(&mut self.nodes, sides.newer, sides.older);
-        set_newer(&mut self.nodes, sides.older, sides.newer);
+        set_link(&mut self.nodes, sides.newer, Link::Older(sides.older));
+        set_link(&mut self.nodes, sides.older, Link::Newer(sides.newer));
         Some(Obj(target))
     }
 

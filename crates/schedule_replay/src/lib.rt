@@ -10,5 +10,3 @@ mod telling;
 pub use ran::Ran;
 pub use session::replay;
 
-#[cfg(test)]
-mod tests;

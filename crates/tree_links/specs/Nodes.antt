@@ -11,10 +11,11 @@ use Rattle.tree_specs.specs.Words.Objects.{same_owner}
 use Rattle.tree_specs.specs.Tree.Pool.{row_of, is_below, owned_row}
 use Rattle.tree_links.specs.Links.{IsTree}
 use Rattle.linked_lanes.specs.Lane.{has}
-use Rattle.linked_lanes.specs.Chain.{Chain}
+use Rattle.linked_lanes.specs.Chain.{Chain, noted}
 use Rattle.tree_links.specs.declared.node.Node.{Node}
-use Rattle.tree_links.specs.declared.node.Link.{Link}
-use Rattle.tree_links.specs.declared.node.Link.TheVariants.{PlacedNewer, PlacedOlder, KinNewer, KinOlder}
+use Rattle.tree_links.specs.declared.node.Lane.{Lane}
+use Rattle.tree_links.specs.declared.node.Lane.TheVariants.{Placed, Kin}
+use Rattle.linked_lanes.specs.declared.Link.{Link}
 use Rattle.linked_lanes.specs.declared.Sides.{Sides}
 
 abbrev pub Nodes : Type 0
@@ -85,12 +86,10 @@ kin_newer w v = record v { kin = record v.kin { newer = w } }
 abbrev pub kin_older : Option ℕ → Node → Node
 kin_older w v = record v { kin = record v.kin { older = w } }
 
--- what it notes of a neighbour
-abbrev pub noted : Link → Node → Node
-noted (PlacedNewer w) = placed_newer w
-noted (PlacedOlder w) = placed_older w
-noted (KinNewer w) = kin_newer w
-noted (KinOlder w) = kin_older w
+-- another neighbour is noted in a lane
+abbrev pub with_link : Lane → Link → Node → Node
+with_link Placed link v = record v { placed = noted link v.placed }
+with_link Kin link v = record v { kin = noted link v.kin }
 
 abbrev pub with_first : Option ℕ → Node → Node
 with_first w v = record v { first = w }

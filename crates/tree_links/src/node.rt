@@ -10,9 +10,9 @@ ghost use Rattle.tree_specs.specs.Tree.Forest.{Distinct as Once};
 ghost use Rattle.linked_lanes.specs.Lane.{is_at, has, without, Distinct};
 ghost use Rattle.linked_lanes.specs.Chain.{head_left, sides_in};
 ghost use Rattle.tree_links.specs.Edits.{edited};
-ghost use Rattle.tree_links.specs.Nodes.{noted, entered, first_in, owned_in, with_first, with_row, row_at, head_of, HasHead, Nodes, Linked, Enters, Apart, kin_at, placed_at, children};
+ghost use Rattle.tree_links.specs.Nodes.{with_link, entered, first_in, owned_in, with_first, with_row, row_at, head_of, HasHead, Nodes, Linked, Enters, Apart, kin_at, placed_at, children};
 
-use linked_lanes::Sides;
+use linked_lanes::{Link, Sides};
 use pool_arena::Arena;
 use tree_specs::{Mark, Name, Owner, Row};
 
@@ -25,36 +25,34 @@ pub(crate) struct Node {
     pub first: Option<u64>,
 }
 
-/// What a node notes of a neighbour.
+/// The lanes that a row stands in.
 #[derive(Clone, Copy, Debug)]
-enum Link {
-    PlacedNewer(Option<u64>),
-    PlacedOlder(Option<u64>),
-    KinNewer(Option<u64>),
-    KinOlder(Option<u64>),
+enum Lane {
+    /// All rows, in the order of their placing.
+    Placed,
+    /// The children of its owner.
+    Kin,
 }
 
-fn note(node: &mut Node, link: Link)
-    ensures { node.new ≡ noted link node.old }
+fn note(node: &mut Node, lane: Lane, link: Link)
+    ensures { node.new ≡ with_link lane link node.old }
 {
-    match link {
-        Link::PlacedNewer(x) => node.placed.newer = x,
-        Link::PlacedOlder(x) => node.placed.older = x,
-        Link::KinNewer(x) => node.kin.newer = x,
-        Link::KinOlder(x) => node.kin.older = x,
+    match lane {
+        Lane::Placed => node.placed.note(link),
+        Lane::Kin => node.kin.note(link),
     }
 }
 
-// The node at this place, if there is one, notes another neighbour.
-fn set_link(nodes: &mut Arena<Node>, at: Option<u64>, link: Link)
-    ensures nodes { (q : ℕ) → get nodes.new q ≡ cond (is_at at q) (option_map (noted link) (get nodes.old q)) (get nodes.old q) }
+// The node at this place, if there is one, notes another neighbour in a lane.
+fn set_link(nodes: &mut Arena<Node>, at: Option<u64>, lane: Lane, link: Link)
+    ensures nodes { (q : ℕ) → get nodes.new q ≡ cond (is_at at q) (option_map (with_link lane link) (get nodes.old q)) (get nodes.old q) }
     ensures len { map.len nodes.new.pairs ≡ map.len nodes.old.pairs }
     ensures spare { nodes.new.spare ≡ nodes.old.spare }
 {
     if let Some(x) = at
         && let Some(node) = nodes.get_mut(x)
     {
-        note(node, link);
+        note(node, lane, link);
     }
 }
 
@@ -82,8 +80,8 @@ pub(crate) fn leave_placed(nodes: &mut Arena<Node>, front: &mut Option<u64>, sid
     ensures len { map.len nodes.new.pairs ≡ map.len nodes.old.pairs }
     ensures spare { nodes.new.spare ≡ nodes.old.spare }
 {
-    set_link(nodes, sides.newer, Link::PlacedOlder(sides.older));
-    set_link(nodes, sides.older, Link::PlacedNewer(sides.newer));
+    set_link(nodes, sides.newer, Lane::Placed, Link::Older(sides.older));
+    set_link(nodes, sides.older, Lane::Placed, Link::Newer(sides.newer));
     *front = sides.head_after(*front);
 }
 
@@ -148,8 +146,8 @@ pub(crate) fn leave_kin(nodes: &mut Arena<Node>, root: &mut Option<u64>, owner: 
     ensures len { map.len nodes.new.pairs ≡ map.len nodes.old.pairs }
     ensures spare { nodes.new.spare ≡ nodes.old.spare }
 {
-    set_link(nodes, sides.newer, Link::KinOlder(sides.older));
-    set_link(nodes, sides.older, Link::KinNewer(sides.newer));
+    set_link(nodes, sides.newer, Lane::Kin, Link::Older(sides.older));
+    set_link(nodes, sides.older, Lane::Kin, Link::Newer(sides.newer));
     mend_head(nodes, root, owner, sides);
 }
 
@@ -204,8 +202,8 @@ pub(crate) fn meet_newer(nodes: &mut Arena<Node>, front: Option<u64>, first: Opt
     ensures len { map.len nodes.new.pairs ≡ map.len nodes.old.pairs }
     ensures spare { nodes.new.spare ≡ nodes.old.spare }
 {
-    set_link(nodes, front, Link::PlacedNewer(Some(x)));
-    set_link(nodes, first, Link::KinNewer(Some(x)));
+    set_link(nodes, front, Lane::Placed, Link::Newer(Some(x)));
+    set_link(nodes, first, Lane::Kin, Link::Newer(Some(x)));
 }
 
 /// A row has left its owner. Gives that owner, and its neighbours among the owner's children, which still note it.

@@ -109,22 +109,14 @@ fn expect_report(
 #[test]
 fn a_long_chain_is_walked_down(rt: HostRuntime) -> Result<(), Fail> {
     let mut world = World::new(rt.alloc());
-    show_that_a_long_chain_is_walked_down(&rt, rt.alloc(), &mut world)
-}
-
-fn show_that_a_long_chain_is_walked_down(
-    rt: &impl Abort,
-    alloc: Global,
-    world: &mut World,
-) -> Result<(), Fail> {
     let mut owner = Owner::Root;
     for _n in 0..300 {
-        owner = Owner::Of(world.add(rt, alloc, "link", 2, owner)?);
+        owner = Owner::Of(world.add(&rt, rt.alloc(), "link", 2, owner)?);
     }
     assert_eq!(rt; total(&world.tree, Owner::Root), 600);
     assert_eq!(rt; count(&world.tree, Owner::Root), 300);
     assert_eq!(rt; total(&world.tree, Owner::Of(Obj(101))), 400);
-    let all = world.rows(alloc, Owner::Root)?;
+    let all = world.rows(rt.alloc(), Owner::Root)?;
     assert_eq!(rt; all.as_slice().len(), 301);
     let mut depth = 0;
     for row in all.as_slice() {
@@ -140,17 +132,9 @@ const LINES: &[u8] = b"row 0 2 plain 200 0 0 left\nrow 1 3 plain 3000 0 0 leaf\n
 #[test]
 fn a_sink_that_fails_has_a_prefix_of_the_report(rt: HostRuntime) -> Result<(), Fail> {
     let mut world = World::new(rt.alloc());
-    show_that_a_sink_that_fails_has_a_prefix_of_the_report(&rt, rt.alloc(), &mut world)
-}
-
-fn show_that_a_sink_that_fails_has_a_prefix_of_the_report(
-    rt: &impl Abort,
-    alloc: Global,
-    world: &mut World,
-) -> Result<(), Fail> {
-    add_five(rt, alloc, world)?;
-    let mut out = MemSink::new(alloc, 10, 0, [2].to_vec(alloc)?)?;
-    let done = world.report(alloc, Owner::Of(Obj(2)), &mut out)?;
+    add_five(&rt, rt.alloc(), &mut world)?;
+    let mut out = MemSink::new(rt.alloc(), 10, 0, [2].to_vec(rt.alloc())?)?;
+    let done = world.report(rt.alloc(), Owner::Of(Obj(2)), &mut out)?;
     assert_eq!(rt; done, Done::Failed);
     assert_eq!(rt; out.held(), &LINES[..10]);
     Ok(())
@@ -163,19 +147,11 @@ const REFERENCES: &[u8] =
 #[test]
 fn references_are_shown_and_counted(rt: HostRuntime) -> Result<(), Fail> {
     let mut world = World::new(rt.alloc());
-    show_that_references_are_shown_and_counted(&rt, rt.alloc(), &mut world)
-}
-
-fn show_that_references_are_shown_and_counted(
-    rt: &impl Abort,
-    alloc: Global,
-    world: &mut World,
-) -> Result<(), Fail> {
-    add_five(rt, alloc, world)?;
-    world.refer(rt, Obj(2), Owner::Of(Obj(5)))?;
-    world.refer(rt, Obj(2), Owner::Of(Obj(1)))?;
-    world.refer(rt, Obj(1), Owner::Of(Obj(5)))?;
-    expect_report(rt, alloc, world, Owner::Of(Obj(1)), REFERENCES)?;
+    add_five(&rt, rt.alloc(), &mut world)?;
+    world.refer(&rt, Obj(2), Owner::Of(Obj(5)))?;
+    world.refer(&rt, Obj(2), Owner::Of(Obj(1)))?;
+    world.refer(&rt, Obj(1), Owner::Of(Obj(5)))?;
+    expect_report(&rt, rt.alloc(), &world, Owner::Of(Obj(1)), REFERENCES)?;
     assert_eq!(rt; total(&world.tree, Owner::Root), 543_210);
     assert_eq!(rt; count(&world.tree, Owner::Root), 5);
     Ok(())

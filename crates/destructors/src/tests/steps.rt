@@ -25,53 +25,6 @@ fn moved(x: u64, from: Owner, owner: Owner) -> FreeStep {
     }
 }
 
-#[test]
-fn a_number_that_is_no_object_is_freed_at_once(rt: HostRuntime) -> Result<(), Fail> {
-    let mut world = World::new(rt.alloc());
-    show_that_a_number_that_is_no_object_is_freed_at_once(&rt, &mut world)
-}
-
-fn show_that_a_number_that_is_no_object_is_freed_at_once(
-    rt: &impl Abort,
-    world: &mut World,
-) -> Result<(), Fail>
-    requires { IsAtRest world.old.tree world.old.refs }
-{
-    world.free(rt, Obj(5))?;
-    assert!(rt; !world.announces());
-    assert_eq!(rt; world.done(rt), FreeReply::Ok);
-    assert!(rt; world.tree.is_empty());
-    Ok(())
-}
-
-// 1 owns 2.
-#[test]
-fn a_child_is_gone_before_its_owner(rt: HostRuntime) -> Result<(), Fail> {
-    let mut world = World::new(rt.alloc());
-    show_that_a_child_is_gone_before_its_owner(&rt, rt.alloc(), &mut world)
-}
-
-fn show_that_a_child_is_gone_before_its_owner(
-    rt: &impl Abort,
-    alloc: Global,
-    world: &mut World,
-) -> Result<(), Fail>
-    requires { IsAtRest world.old.tree world.old.refs }
-{
-    let top = world.add(rt, alloc, Owner::Root)?;
-    world.add(rt, alloc, Owner::Of(top))?;
-    world.free(rt, top)?;
-    assert!(rt; !world.announces());
-    assert_eq!(rt; world.event(rt), left(1, Owner::Root));
-    assert_eq!(rt; world.event(rt), left(2, Owner::Of(top)));
-    assert!(rt; world.announces());
-    assert_eq!(rt; world.event(rt), gone(2, 0));
-    assert_eq!(rt; world.event(rt), gone(1, 0));
-    assert_eq!(rt; world.done(rt), FreeReply::Ok);
-    assert!(rt; world.tree.is_empty());
-    Ok(())
-}
-
 // 1 owns 2, which has a destructor.
 #[test]
 fn a_destructor_accepts(rt: HostRuntime) -> Result<(), Fail> {
@@ -134,37 +87,6 @@ fn show_that_a_child_that_refuses_goes_to_its_heir(
     assert_eq!(rt; world.done(rt), FreeReply::Ok);
     assert_eq!(rt; world.tree.parent(bottom), Some(Owner::Of(top)));
     assert_eq!(rt; world.tree.len(), 2);
-    Ok(())
-}
-
-// A destructor at the top refuses, and the free answers so.
-#[test]
-fn a_free_answers_that_the_destructor_refused(rt: HostRuntime) -> Result<(), Fail> {
-    let mut world = World::new(rt.alloc());
-    show_that_a_free_answers_that_the_destructor_refused(&rt, rt.alloc(), &mut world)
-}
-
-fn show_that_a_free_answers_that_the_destructor_refused(
-    rt: &impl Abort,
-    alloc: Global,
-    world: &mut World,
-) -> Result<(), Fail>
-    requires { IsAtRest world.old.tree world.old.refs }
-{
-    let top = world.add(rt, alloc, Owner::Root)?;
-    world.hook(rt, top);
-    world.free(rt, top)?;
-    assert!(rt; !world.announces());
-    assert_eq!(rt; world.ask(rt, 7), top);
-    assert!(rt; world.announces());
-    let refused = FreeStep::Refused {
-        object: top,
-        answer: 7,
-    };
-    assert_eq!(rt; world.event(rt), refused);
-    let answer = world.done(rt);
-    assert_eq!(rt; answer, FreeReply::Refused(7));
-    assert_eq!(rt; world.tree.parent(top), Some(Owner::Root));
     Ok(())
 }
 

@@ -1,9 +1,9 @@
-use Rattle.tree_links.specs.Nodes.{noted}
+use Rattle.tree_links.specs.Nodes.{with_link}
 use Rattle.tree_links.proofs.Steps.{mapped-at, len-old}
 use Rattle.tree_links.proofs.node.set_link.Goals as goal
 
 pub returns-in-Some-get_mut-clause-nodes : goal.returns-in-Some-get_mut-clause-nodes
-returns-in-Some-get_mut-clause-nodes c = λ q. rw (c.in-Some.is, c.note.ensures) (mapped-at c.args.nodes.now c.in-Some.x (noted c.args.link) c.in-Some-get_mut.node.now c.in-Some-get_mut.ensures.value q)
+returns-in-Some-get_mut-clause-nodes c = λ q. rw (c.in-Some.is, c.note.ensures) (mapped-at c.args.nodes.now c.in-Some.x (with_link c.args.lane c.args.link) c.in-Some-get_mut.node.now c.in-Some-get_mut.ensures.value q)
 
 pub returns-in-Some-get_mut-clause-len : goal.returns-in-Some-get_mut-clause-len
 returns-in-Some-get_mut-clause-len c = len-old c.args.nodes.now.pairs c.in-Some.x _ c.in-Some-get_mut.node.now c.in-Some-get_mut.ensures.value

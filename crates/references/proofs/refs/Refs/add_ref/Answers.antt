@@ -17,7 +17,7 @@ join-older-requires-clause-few c = λ h e.
 pub add-requires-clause-vacant : goal.add-requires-clause-vacant
 add-requires-clause-vacant c =
     let above = subst (λ (p : Pairs). IsAbove c.args.reference p.pairs) (sym c.self.view_is) c.requires.newest in
-    c.set_newer.ensures.nodes c.args.reference.0
+    c.set_link.ensures.nodes c.args.reference.0
     ∙ ap (λ o. cond (is_at c.join-older.result c.args.reference.0) (option_map (with_newer (Some c.args.reference.0)) o) o) (none-above _ _ _ (linked-keeps _ _ c.self.invariant) c.args.reference.0 above)
     ∙ both (is_at c.join-older.result c.args.reference.0)
   where
@@ -29,7 +29,7 @@ added : (c : goal.After-add) → Keeps (map.get c.add.new.self.pairs) (map.get c
 added c =
     add-keeps _ _ _ _ _ (linked-keeps _ _ c.self.invariant) c.args.reference.0 c.args.target.0 c.join-older.result
     (subst (λ (p : Pairs). IsAbove c.args.reference p.pairs) (sym c.self.view_is) c.requires.newest) c.join-older.ensures.older
-    (λ q. ap (λ m. map.get m q) c.add.ensures.pairs ∙ get-with_entry _ _ (Some _) q ∙ ap (cond (nat_eq c.args.reference.0 q) _) (c.set_newer.ensures.nodes q))
+    (λ q. ap (λ m. map.get m q) c.add.ensures.pairs ∙ get-with_entry _ _ (Some _) q ∙ ap (cond (nat_eq c.args.reference.0 q) _) (c.set_link.ensures.nodes q))
     c.join-older.ensures.heads
 
 pub invariant_of-self : goal.invariant_of-self

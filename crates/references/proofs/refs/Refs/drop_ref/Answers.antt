@@ -29,10 +29,10 @@ returns-in_err-target-clause-pairs c =
 pub leave-requires : goal.leave-requires
 leave-requires c = some-there _ _ _ (linked-keeps _ _ c.self.invariant) c.in_ok-target.field-0.target
 
-dropped : (c : goal.After-set_newer) → Keeps (map.get c.set_newer.new.nodes.pairs) (map.get c.leave.new.heads.pairs) (without (pairs_in c.self.inside.nodes.pairs) c.args.reference)
+dropped : (c : goal.After-set_link-2) → Keeps (map.get c.set_link-2.new.nodes.pairs) (map.get c.leave.new.heads.pairs) (without (pairs_in c.self.inside.nodes.pairs) c.args.reference)
 dropped c =
-    drop-keeps _ _ _ _ _ (linked-keeps _ _ c.self.invariant) c.args.reference.0 c.in_ok-target.field-0 (sym c.in_ok-target.ensures.value) (get c.take.new.self) (get c.set_older.new.nodes)
-    (λ q. ap (λ m. map.get m q) c.take.ensures.pairs ∙ get-with_entry _ _ None q) c.set_older.ensures.nodes c.set_newer.ensures.nodes c.leave.ensures.heads
+    drop-keeps _ _ _ _ _ (linked-keeps _ _ c.self.invariant) c.args.reference.0 c.in_ok-target.field-0 (sym c.in_ok-target.ensures.value) (get c.take.new.self) (get c.set_link.new.nodes)
+    (λ q. ap (λ m. map.get m q) c.take.ensures.pairs ∙ get-with_entry _ _ None q) c.set_link.ensures.nodes c.set_link-2.ensures.nodes c.leave.ensures.heads
 
 pub invariant_of-self-2 : goal.invariant_of-self-2
 invariant_of-self-2 c = keeps-linked _ _ _ (dropped c) (without-pairs _ c.args.reference (are-pairs _ _ c.self.invariant)).few

@@ -1,6 +1,0 @@
-use Rattle.tree_links.proofs.Steps.{mapped-at}
-use Rattle.references.specs.Linked.{with_newer}
-use Rattle.references.proofs.node.set_newer.Goals as goal
-
-pub returns-in-Some-get_mut-clause-nodes : goal.returns-in-Some-get_mut-clause-nodes
-returns-in-Some-get_mut-clause-nodes c = λ q. rw c.in-Some.is (mapped-at c.args.nodes.now c.in-Some.reference (with_newer c.args.newer) c.in-Some-get_mut.node.now c.in-Some-get_mut.ensures.value q)
