@@ -68,7 +68,8 @@ passes-put s t u piece held now empty same put a = record { written = u.text; pu
 pub passes-error : (s t u : Reading) (piece : List ℕ) (held now : Option (List ℕ)) (e : Stop) → s.text ≡ [] → IsAlike t u → Appends held now u.text → Takes s piece u (Err e)
     → PassesPiece s piece t held now (Err e)
 passes-error s t u piece held now (errors.Refused line reason) empty same put a = record { written = u.text; put = put; taken = rw (same.0, same.1, same.2) a }
-passes-error s t u piece held now _ empty same put a = record { written = u.text; put = put; taken = rw (same.0, same.1, same.2) a }
+passes-error s t u piece held now errors.Memory empty same put a = record { written = u.text; put = put; taken = rw (same.0, same.1, same.2) a }
+passes-error s t u piece held now _ empty same put a = absurd a
 
 pub passes-cut : (s t u : Reading) (piece : List ℕ) (held now : Option (List ℕ)) (r : Result (Unit {0}) Stop) (e : PutError) → s.text ≡ [] → IsAlike t u → PutsFront held now u.text → Takes s piece u r
     → PassesPiece s piece t held now (Err (stop_of_put e))

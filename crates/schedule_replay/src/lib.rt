@@ -9,4 +9,3 @@ mod telling;
 
 pub use ran::Ran;
 pub use session::replay;
-

@@ -2,4 +2,5 @@
 pub mod Text
 pub mod Grammar
 pub mod Schedule
+pub mod Load
 pub mod Written
