@@ -4,7 +4,7 @@ use Rattle.tree_specs.specs.Invariants.Alone.{FreesWait}
 use Rattle.tree_links.specs.Links.{pool_of}
 use Rattle.references.proofs.Rows.{refs-added}
 use Rattle.destructors.proofs.Resting.{added-rests}
-use Rattle.destructors.proofs.tests.add.Goals as goal
+use Rattle.destructors.proofs.tests.World.add.Goals as goal
 
 pub returns : goal.returns
 returns g c = record {

@@ -6,14 +6,14 @@ use Rattle.references.specs.Rows.{AreRefsOf}
 use Rattle.references.proofs.Rows.{refs-same, same-changed}
 use Rattle.tree_links.specs.Links.{pool_of}
 use Rattle.destructors.proofs.Resting.{hooked-rests}
-use Rattle.destructors.proofs.tests.hook.Goals as goal
+use Rattle.destructors.proofs.tests.World.hook.Goals as goal
 
 pub returns : goal.returns
 returns g c = record {
   alone = search rules;
   waiting =
-      (let none : refusals (pool_of c.args.tree.now) (call.Hook c.args.x 16) ≡ [] = search rules in
-      rw c.set_hook.ensures.rows (hooked-rests c.args.x (pool_of c.args.tree.now) none c.requires.waiting));
-  refs = subst (AreRefsOf c.args.refs.now.pairs) (sym (ap (λ (p : Pool). p.rows) c.set_hook.ensures.rows))
-      (refs-same c.args.refs.now.pairs c.args.tree.now.rows _ (same-changed (hooked_row 16) c.args.tree.now.rows c.args.x (λ r. refl) (λ r. refl)) c.requires.refs);
+      (let none : refusals (pool_of c.args.self.now.tree) (call.Hook c.args.x 16) ≡ [] = search rules in
+      rw c.set_hook.ensures.rows (hooked-rests c.args.x (pool_of c.args.self.now.tree) none c.requires.waiting));
+  refs = subst (AreRefsOf c.args.self.now.refs.pairs) (sym (ap (λ (p : Pool). p.rows) c.set_hook.ensures.rows))
+      (refs-same c.args.self.now.refs.pairs c.args.self.now.tree.rows _ (same-changed (hooked_row 16) c.args.self.now.tree.rows c.args.x (λ r. refl) (λ r. refl)) c.requires.refs);
 }
