@@ -61,8 +61,7 @@ fn opens(rt: &impl Abort, alloc: Global, host: &mut Host, routine: u32)
 
 #[test]
 fn an_object_in_use_stays(rt: HostRuntime) -> Result<(), Fail> {
-    let mut host = Host::new(rt.alloc(), 1)?;
-    keep_in_use(&rt, rt.alloc(), &mut host);
+    keep_in_use(&rt, rt.alloc(), &mut Host::new(rt.alloc(), 1)?);
     Ok(())
 }
 
