@@ -4,7 +4,7 @@
 #![tactic(auto)]
 
 ghost use Rattle.std.specs.Prelude.{◌≡◌};
-ghost use Rattle.linked_lanes.specs.Chain.{head_left, noted as noted_in};
+ghost use Rattle.linked_lanes.specs.Chain.{head_left, last_left, noted as noted_in};
 
 /// The neighbours of one in its lane.
 #[derive(Clone, Copy, Debug)]
@@ -40,6 +40,15 @@ impl Sides {
         match self.newer {
             None => self.older,
             Some(_) => head,
+        }
+    }
+    /// The last of a lane once one with these neighbours has left it, where `last` was its last before.
+    pub fn last_after(self, last: Option<u64>) -> Option<u64>
+        ensures { result ≡ last_left last self }
+    {
+        match self.older {
+            None => self.newer,
+            Some(_) => last,
         }
     }
 }
