@@ -1,6 +1,7 @@
 -- The last of a lane, and the list that the neighbours tell.
 use Rattle.std.proofs.Common.{◌≡◌, ℕ, zero, suc, ◌≤◌, true, false, nat_eq, List, [], ◌∷◌, length, Option, Some, None, refl, sym, ap, ◌∙◌, arith}
 use Rattle.std.proofs.lemmas.Bool.{eqb-true}
+use Rattle.std.specs.Option.{option_or}
 use Rattle.linked_lanes.specs.Lane.{first, has, after, before_from, last, last_from, without, Distinct}
 use Rattle.linked_lanes.specs.Chain.{Chain, sides_in, older_of, walk, last_left, head_left_by}
 use Rattle.linked_lanes.specs.declared.Sides.{Sides}
@@ -22,6 +23,15 @@ last-without_from p (y ∷ ys) x d m = by_test (nat_eq y x)
 -- the last once one has left
 pub last-without : (xs : List ℕ) (x : ℕ) → Distinct xs → has xs x ≡ true → last (without xs x) ≡ last_left (last xs) (sides_in xs x)
 last-without xs x d m = last-without_from None xs x d m
+
+-- the last once one has joined at the front
+pub last-joined : (x : ℕ) (xs : List ℕ) → last (x ∷ xs) ≡ option_or (last xs) (Some x)
+last-joined x [] = refl
+last-joined x (y ∷ ys) = sym (some y ys)
+  where
+    some : (y : ℕ) (ys : List ℕ) → option_or (last_from (Some y) ys) (Some x) ≡ last_from (Some y) ys
+    some y [] = refl
+    some y (z ∷ zs) = some z zs
 
 -- the last is one of them
 pub has-last_from : (y : ℕ) (ys : List ℕ) (x : ℕ) → last_from (Some y) ys ≡ Some x → has (y ∷ ys) x ≡ true

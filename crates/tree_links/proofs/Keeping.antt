@@ -3,8 +3,6 @@ use Rattle.std.proofs.Common.{◌≡◌, ℕ, ◌-◌, true, false, cond, nat_eq
 use Rattle.std.proofs.lemmas.Bool.{eqb-true}
 use Rattle.std.specs.Option.{option_map, option_and_then}
 use Rattle.std.specs.FinMap as map
-use Rattle.std.specs.FinMap.{len-remove}
-use Rattle.std.proofs.lemmas.Cmp.{nat_cmp_total}
 use Rattle.pool_arena.proofs.Keeps.{get-with_entry}
 use Rattle.tree_specs.specs.declared.object.Obj.{Obj}
 use Rattle.tree_specs.specs.declared.object.Owner.{Owner}
@@ -123,9 +121,6 @@ unowned rows x p d e = children-has rows p x d ∙ ap (λ w. is_below w p) e
 
 pub left-length : (rows : List Row) (x : ℕ) (r : Row) → row_of rows (obj x) ≡ Some r → length (rows_without rows (obj x)) ≡ length rows - 1
 left-length rows x r e = let n = length-without rows (obj x) r e in omega (arith, n)
-
-pub len-gone : (m : Nodes) (x : ℕ) → IsSome (map.get m x) → map.len (map.remove m x) ≡ map.len m - 1
-len-gone m x h = len-remove nat_cmp_total m x ∙ ap (λ b. cond b (map.len m - 1) (map.len m)) h
 
 -- ---- the calls
 

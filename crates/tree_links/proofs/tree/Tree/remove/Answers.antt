@@ -10,7 +10,8 @@ use Rattle.tree_links.specs.Nodes.{Holds, numbers, children, rows_of, row_in, fi
 use Rattle.tree_links.specs.declared.node.Node.{Node}
 use Rattle.tree_links.proofs.Listing.{obj, lane-distinct, first-child, row-without, held-rows}
 use Rattle.tree_links.proofs.Trees.{without-tree}
-use Rattle.tree_links.proofs.Keeping.{its-row, is-numbered, its-placed, its-kin, is-node, out-numbers, out-children, out-linked, reset-linked, removed-steps, first-none, left-length, len-gone, is-linked, pool-rows}
+use Rattle.tree_links.proofs.Keeping.{its-row, is-numbered, its-placed, its-kin, is-node, out-numbers, out-children, out-linked, reset-linked, removed-steps, first-none, left-length, is-linked, pool-rows}
+use Rattle.pool_arena.proofs.Steps.{len-gone}
 use Rattle.tree_links.proofs.tree.Tree.remove.Goals as goal
 
 abbrev rows : goal.After-forget → List Row
