@@ -22,6 +22,10 @@ scheduled xs x = unscheduled xs x ++ x ∷ []
 abbrev pub is_armed : List Due → Obj → Bool
 is_armed ds x = is_some (find (λ d. same d.object x) ds)
 
+-- a time has this number
+abbrev pub is_numbered : List Due → ℕ → Bool
+is_numbered ds n = is_some (find (λ d. nat_eq d.number n) ds)
+
 abbrev pub disarmed : List Due → Obj → List Due
 disarmed ds x = filter (λ d. not (same d.object x)) ds
 
