@@ -1,2 +1,2 @@
 pub mod Timetable
-pub mod Heap
+pub mod Heaped

@@ -1,10 +1,10 @@
 //! A heap of times whose objects know their places in it. None comes before its parent: the parent of place k is place
 //! (k - 1) / 2.
-ghost use Rattle.std.specs.Prelude.{◌≡◌, ◌<◌, ◌≤◌, ◌+◌, ℕ, Some, None, IsSome, cond, nat_eq, vec_len, vec_capacity, slice_get, set};
+ghost use Rattle.std.specs.Prelude.{◌≡◌, ◌<◌, ◌≤◌, ◌+◌, ℕ, Some, None, IsSome, cond, nat_eq, length, vec_capacity, slice_get, set};
 ghost use Rattle.std.specs.Option.{option_map};
 ghost use Rattle.pool_arena.specs.Arena.{get};
 ghost use Rattle.tree_specs.specs.Events.Pending.{comes_before as is_before};
-ghost use Rattle.timers.specs.Heap.{IsEarlyChild, IsHeap, IsLateParent, Places, Reorders, Rises, Settles, Sinks, with_place};
+ghost use Rattle.timers.specs.Heaped.{IsEarlyChild, IsFirstOfTwo, IsHeap, IsLateParent, Places, Reorders, Rises, Settles, Sinks, with_place};
 
 use pool_arena::Arena;
 use tree_specs::Due;
@@ -28,7 +28,7 @@ fn note(places: &mut Arena<usize>, x: u64, at: usize)
 
 // A time goes to a place, in place of the one that was there.
 fn put(dues: &mut Vec<Due>, places: &mut Arena<usize>, at: usize, due: Due)
-    requires { at < vec_len dues.old }
+    requires { at < length dues.old.items }
     ensures dues { dues.new.items ≡ set dues.old.items at due }
     ensures capacity { vec_capacity dues.new ≡ vec_capacity dues.old }
     ensures places { (q : ℕ) → get places.new q ≡ cond (nat_eq due.object.0 q) (option_map (λ _. at) (get places.old q)) (get places.old q) }
@@ -40,7 +40,7 @@ fn put(dues: &mut Vec<Due>, places: &mut Arena<usize>, at: usize, due: Due)
 
 // The parent of a place, where the one that is to go there comes before it.
 fn late_parent(dues: &Vec<Due>, at: usize, due: Due) -> Option<usize>
-    requires { at < vec_len dues.now }
+    requires { at < length dues.now.items }
     ensures { IsLateParent (slice_get dues.now.items) at due result }
 {
     if at == 0 {
@@ -56,7 +56,7 @@ fn late_parent(dues: &Vec<Due>, at: usize, due: Due) -> Option<usize>
 
 /// A time goes to a place or to one above it, where only its parent may come after it.
 pub(crate) fn rise(dues: &mut Vec<Due>, places: &mut Arena<usize>, at: usize, due: Due)
-    requires at { at < vec_len dues.old }
+    requires at { at < length dues.old.items }
     requires held { IsSome (get places.old due.object.0) }
     requires heap { Rises (slice_get (set dues.old.items at due)) at }
     requires places { Places (slice_get (set dues.old.items at due)) (with_place (get places.old) due.object.0 at) }
@@ -76,21 +76,27 @@ pub(crate) fn rise(dues: &mut Vec<Due>, places: &mut Arena<usize>, at: usize, du
     }
 }
 
+// Of a place and the next one, the one whose time comes first.
+fn first_of_two(dues: &Vec<Due>, left: usize) -> usize
+    requires { left < length dues.now.items }
+    ensures { IsFirstOfTwo (slice_get dues.now.items) left result }
+{
+    let right = left + 1;
+    if right < dues.len() && comes_before(dues[right], dues[left]) {
+        return right;
+    }
+    left
+}
+
 // The child of a place that comes first, where it comes before the one that is to go there.
 fn early_child(dues: &Vec<Due>, at: usize, due: Due) -> Option<usize>
-    requires { at < vec_len dues.now }
+    requires { at < length dues.now.items }
     ensures { IsEarlyChild (slice_get dues.now.items) at due result }
 {
     if at >= dues.len() / 2 {
         return None;
     }
-    let left = 2 * at + 1;
-    let right = left + 1;
-    let child = if right < dues.len() && comes_before(dues[right], dues[left]) {
-        right
-    } else {
-        left
-    };
+    let child = first_of_two(dues, 2 * at + 1);
     if comes_before(dues[child], due) {
         Some(child)
     } else {
@@ -100,7 +106,7 @@ fn early_child(dues: &Vec<Due>, at: usize, due: Due) -> Option<usize>
 
 /// A time goes to a place or to one below it, where only children of that place may come before it.
 pub(crate) fn sink(dues: &mut Vec<Due>, places: &mut Arena<usize>, at: usize, due: Due)
-    requires at { at < vec_len dues.old }
+    requires at { at < length dues.old.items }
     requires held { IsSome (get places.old due.object.0) }
     requires heap { Sinks (slice_get (set dues.old.items at due)) at }
     requires places { Places (slice_get (set dues.old.items at due)) (with_place (get places.old) due.object.0 at) }
@@ -122,7 +128,7 @@ pub(crate) fn sink(dues: &mut Vec<Due>, places: &mut Arena<usize>, at: usize, du
 
 /// A time goes to a place, or to where it belongs above or below it.
 pub(crate) fn settle(dues: &mut Vec<Due>, places: &mut Arena<usize>, at: usize, due: Due)
-    requires at { at < vec_len dues.old }
+    requires at { at < length dues.old.items }
     requires held { IsSome (get places.old due.object.0) }
     requires heap { Settles (slice_get (set dues.old.items at due)) at }
     requires places { Places (slice_get (set dues.old.items at due)) (with_place (get places.old) due.object.0 at) }

@@ -21,10 +21,10 @@ impl Model for Times {
 
     ghost Value = { Timetable };
 
-    ghost use Rattle.std.specs.Prelude.{◌-◌, min, vec_len, vec_capacity};
-    ghost use Rattle.timers.specs.Heap.{sorted, IsKept};
+    ghost use Rattle.std.specs.Prelude.{◌-◌, min, length, vec_capacity};
+    ghost use Rattle.timers.specs.Heaped.{sorted, IsKept};
 
-    ghost view = { λ t. record { dues = sorted t.dues.items; spare = min (vec_capacity t.dues - vec_len t.dues) t.places.spare } };
+    ghost view = { λ t. record { dues = sorted t.dues.items; spare = min (vec_capacity t.dues - length t.dues.items) t.places.spare } };
 
     ghost invariant = { λ t. IsKept t.dues.items t.places.pairs };
 }

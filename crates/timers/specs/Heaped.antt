@@ -1,5 +1,5 @@
 -- The times as a heap keeps them, and the place of each object in it.
-use Rattle.std.specs.Prelude.{◌≡◌, ◌≢◌, ℕ, ◌+◌, ◌<◌, ◌≤◌, Bool, true, false, cond, nat_eq, List, [], ◌∷◌, length, slice_get, Option, Some, None}
+use Rattle.std.specs.Prelude.{◌≡◌, ◌≢◌, ℕ, ◌+◌, ◌<◌, ◌≤◌, Bool, true, false, cond, nat_eq, List, [], ◌∷◌, length, slice_get, Option, Some, None, IsSome}
 use Rattle.std.specs.List.{find}
 use Rattle.std.specs.Option.{option_map}
 use Rattle.std.specs.Ordering.{nat_cmp}
@@ -68,6 +68,12 @@ abbrev pub IsLateParent : (ℕ → Option Due) → ℕ → Due → Option ℕ �
 IsLateParent H at due None = (p : ℕ) → IsChild p at → is_early (Some due) (H p) ≡ false
 IsLateParent H at due (Some p) = IsChild p at × (is_early (Some due) (H p) ≡ true)
 
+-- this place or the next one, and neither of them comes before it
+pub record IsFirstOfTwo (H : ℕ → Option Due) (left c : ℕ) : Type 0 where
+  pub is : (left ≤ c) × (c ≤ left + 1)
+  pub there : IsSome (H c)
+  pub least : (k : ℕ) → left ≤ k → k ≤ left + 1 → is_early (H k) (H c) ≡ false
+
 -- the child of this place that comes first and before this time, where there is one
 abbrev pub IsEarlyChild : (ℕ → Option Due) → ℕ → Due → Option ℕ → Type 0
 IsEarlyChild H at due None = (k : ℕ) → IsChild at k → is_early (H k) (Some due) ≡ false
@@ -88,7 +94,7 @@ pub record Places (H : ℕ → Option Due) (P : ℕ → Option ℕ) : Type 0 whe
   pub back : (q i : ℕ) → P q ≡ Some i → option_map object_of (H i) ≡ Some q
 
 -- what holds of the fields
-pub record IsKept (ds : List Due) (places : map.FinMap nat_cmp ℕ) : Type 0 where
+pub record IsKept (ds : List Due) (m : map.FinMap nat_cmp ℕ) : Type 0 where
   pub heap : IsHeap (slice_get ds)
-  pub places : Places (slice_get ds) (map.get places)
+  pub places : Places (slice_get ds) (map.get m)
   pub told : Told (by_number ds) ds
