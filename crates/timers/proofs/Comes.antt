@@ -1,12 +1,12 @@
 -- What comes before what, and where a time is put in.
-use Rattle.std.proofs.Common.{◌≡◌, ℕ, suc, ◌+◌, ◌||◌, List, [], ◌∷◌, length, Option, Some, None, Bool, true, false, is_some, slice_get, drop, refl, sym, ◌∙◌, ap, arith}
+use Rattle.std.proofs.Common.{◌≡◌, ℕ, suc, ◌+◌, ◌||◌, List, [], ◌∷◌, length, Option, Some, None, Bool, true, false, is_some, slice_get, drop, subst, refl, sym, ◌∙◌, ap, arith}
 use Rattle.std.proofs.lemmas.Bool.Decides.{nat_tests}
 use Rattle.std.specs.List.{find}
 use Rattle.tree_specs.specs.declared.due.Due.{Due}
 use Rattle.tree_specs.specs.declared.object.Obj.{Obj}
 use Rattle.tree_specs.specs.Words.Objects.{same}
 use Rattle.tree_specs.specs.Events.Pending.{is_armed, disarmed, comes_before, put_in}
-use Rattle.tree_specs.proofs.Tree.Numbered.{by_test, same-equal, same-false}
+use Rattle.tree_specs.proofs.Tree.Numbered.{by_test, same-true, same-equal, same-false}
 use Rattle.timers.specs.Timetable.{NoneBefore, AreInOrder, AreOnce}
 
 -- ---- what comes before what
@@ -24,6 +24,9 @@ both-before d e f h k = grind (arith, nat_tests)
 -- neither comes before the other only where they have one number
 pub one-number : (d e : Due) → comes_before d e ≡ false → comes_before e d ≡ false → d.number ≡ e.number
 one-number d e h k = grind (arith, nat_tests)
+
+pub not-itself : (d : Due) → comes_before d d ≡ false
+not-itself d = grind (arith, nat_tests)
 
 -- ---- put in
 
@@ -82,11 +85,15 @@ put-both d e h xs = by_test (comes_before d e)
 
 -- ---- taken out
 
-nobody-gone : (es : List Due) (x : Obj) → is_armed es x ≡ false → disarmed es x ≡ es
+pub nobody-gone : (es : List Due) (x : Obj) → is_armed es x ≡ false → disarmed es x ≡ es
 nobody-gone [] x e = refl
 nobody-gone (d ∷ ds) x e = by_test (same d.object x)
     (λ t. let bad : true ≡ false = rw t at e in cc)
     (λ t. let e' : is_armed ds x ≡ false = rw t at e in rw t (ap (λ (l : List Due). d ∷ l) (nobody-gone ds x e')))
+
+pub armed-gone : (ds : List Due) (x : Obj) → is_armed (disarmed ds x) x ≡ false
+armed-gone [] x = refl
+armed-gone (d ∷ ds) x = by_test (same d.object x) (λ t. rw t (armed-gone ds x)) (λ t. rw t (rw t (armed-gone ds x)))
 
 gone-put : (d : Due) (x : Obj) (es : List Due) → same d.object x ≡ true → disarmed (put_in d es) x ≡ disarmed es x
 gone-put d x [] s = rw s refl
@@ -114,3 +121,14 @@ once-put d (e ∷ es) a n = by_test (same e.object d.object)
     (λ u. rw u (n, a))
     (λ u. let flip : same d.object e.object ≡ false = same-false d.object e.object (λ s. let w : same e.object d.object ≡ true = same-equal e.object d.object (sym s) in let bad : true ≡ false = sym w ∙ t in cc) in
     rw u (found-put (λ f. same f.object e.object) d es ∙ ap (λ b. b || is_armed es e.object) flip ∙ a.0, once-put d es a.1 n')))
+
+-- none of the others has the object of the one put in
+pub once-rest : (d : Due) (es : List Due) → AreOnce (put_in d es) → is_armed es d.object ≡ false
+once-rest d [] a = refl
+once-rest d (e ∷ es) a = by_test (comes_before d e)
+    (λ t. let b : AreOnce (d ∷ e ∷ es) = subst AreOnce (at-front d e es t) a in b.0)
+    (λ t. let b : AreOnce (e ∷ put_in d es) = subst AreOnce (behind d e es t) a in
+    by_test (same e.object d.object)
+    (λ u. let flip : same d.object e.object ≡ true = same-equal d.object e.object (sym (same-true e.object d.object u)) in
+    let bad : true ≡ false = sym (ap (λ w. w || is_some (find (λ f. same f.object e.object) es)) flip) ∙ sym (found-put (λ f. same f.object e.object) d es) ∙ b.0 in cc)
+    (λ u. rw u (once-rest d es b.1)))

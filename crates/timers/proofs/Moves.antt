@@ -33,7 +33,7 @@ early-none (Some d) None b h k = refl
 early-none (Some d) (Some f) b h k = none-both d b f h k
 
 -- through the one at a place
-through : (a b c : Option Due) (d : Due) → b ≡ Some d → is_early b a ≡ false → is_early c b ≡ false → is_early c a ≡ false
+pub through : (a b c : Option Due) (d : Due) → b ≡ Some d → is_early b a ≡ false → is_early c b ≡ false → is_early c a ≡ false
 through a b c d e h k = early-none a c d (ap (λ o. is_early o a) (sym e) ∙ h) (ap (is_early c) (sym e) ∙ k)
 
 one-parent : (p q k : ℕ) → IsChild p k → IsChild q k → q ≡ p

@@ -82,7 +82,7 @@ module _ (ds es : List Due) (P P' : ℕ → Option ℕ) (at p : ℕ) (d f : Due)
       let apart : at ≢ p = not-below at p (below at p early.0) in (
         went in_p apart,
         subst (λ l. Sinks (slice_get (set l p d)) p) (sym e) (sunk ds at p d f in_at in_p apart is r early.0 (ap (λ o. is_early o (Some d)) (sym is) ∙ early.1)
-        (λ q c. ap (λ o. is_early o (Some f)) (set-other ds at q d (not-above at q (below at q c))) ∙ ap (is_early (slice_get ds q)) (sym is) ∙ early.2 q c)),
+            (λ q c. ap (λ o. is_early o (Some f)) (set-other ds at q d (not-above at q (below at q c))) ∙ ap (is_early (slice_get ds q)) (sym is) ∙ early.2 q c)),
       )
     where
       there : (o : Option Due) → slice_get ds p ≡ o → is_early (slice_get ds p) (Some d) ≡ true → p < length ds

@@ -29,6 +29,12 @@ pub record Reorders (ds es : List Due) : Type 0 where
   pub order : (N : ℕ → Option Due) → Told N ds → sorted es ≡ sorted ds
   pub told : (N : ℕ → Option Due) → Told N ds → Told N es
 
+-- the time at this place is gone, and the others are there
+pub record Removes (ds es : List Due) (at : ℕ) : Type 0 where
+  pub count : length es + 1 ≡ length ds
+  pub order : (N : ℕ → Option Due) (d : Due) → Told N ds → slice_get ds at ≡ Some d → sorted ds ≡ put_in d (sorted es)
+  pub told : (N : ℕ → Option Due) → Told N ds → Told N es
+
 -- ---- the heap, as a function of places
 
 -- both are there, and the one comes before the other
@@ -92,6 +98,11 @@ with_place P x at q = cond (nat_eq x q) (Some at) (P q)
 pub record Places (H : ℕ → Option Due) (P : ℕ → Option ℕ) : Type 0 where
   pub there : (i : ℕ) (d : Due) → H i ≡ Some d → P d.object.0 ≡ Some i
   pub back : (q i : ℕ) → P q ≡ Some i → option_map object_of (H i) ≡ Some q
+
+-- each object's place, but for the time at this place, which is to go
+pub record PlacesBut (H : ℕ → Option Due) (P : ℕ → Option ℕ) (at : ℕ) : Type 0 where
+  pub there : (i : ℕ) (d : Due) → H i ≡ Some d → i ≢ at → P d.object.0 ≡ Some i
+  pub back : (q i : ℕ) → P q ≡ Some i → (i ≢ at) × (option_map object_of (H i) ≡ Some q)
 
 -- what holds of the fields
 pub record IsKept (ds : List Due) (m : map.FinMap nat_cmp ℕ) : Type 0 where

@@ -4,7 +4,7 @@ ghost use Rattle.std.specs.Prelude.{◌≡◌, ◌<◌, ◌≤◌, ◌+◌, ℕ,
 ghost use Rattle.std.specs.Option.{option_map};
 ghost use Rattle.pool_arena.specs.Arena.{get};
 ghost use Rattle.tree_specs.specs.Events.Pending.{comes_before as is_before};
-ghost use Rattle.timers.specs.Heaped.{IsEarlyChild, IsFirstOfTwo, IsHeap, IsLateParent, Places, Reorders, Rises, Settles, Sinks, with_place};
+ghost use Rattle.timers.specs.Heaped.{IsEarlyChild, IsFirstOfTwo, IsHeap, IsLateParent, Places, PlacesBut, Removes, Reorders, Rises, Settles, Sinks, with_place};
 
 use pool_arena::Arena;
 use tree_specs::Due;
@@ -104,8 +104,8 @@ fn early_child(dues: &Vec<Due>, at: usize, due: Due) -> Option<usize>
     }
 }
 
-/// A time goes to a place or to one below it, where only children of that place may come before it.
-pub(crate) fn sink(dues: &mut Vec<Due>, places: &mut Arena<usize>, at: usize, due: Due)
+// A time goes to a place or to one below it, where only children of that place may come before it.
+fn sink(dues: &mut Vec<Due>, places: &mut Arena<usize>, at: usize, due: Due)
     requires at { at < length dues.old.items }
     requires held { IsSome (get places.old due.object.0) }
     requires heap { Sinks (slice_get (set dues.old.items at due)) at }
@@ -126,8 +126,8 @@ pub(crate) fn sink(dues: &mut Vec<Due>, places: &mut Arena<usize>, at: usize, du
     }
 }
 
-/// A time goes to a place, or to where it belongs above or below it.
-pub(crate) fn settle(dues: &mut Vec<Due>, places: &mut Arena<usize>, at: usize, due: Due)
+// A time goes to a place, or to where it belongs above or below it.
+fn settle(dues: &mut Vec<Due>, places: &mut Arena<usize>, at: usize, due: Due)
     requires at { at < length dues.old.items }
     requires held { IsSome (get places.old due.object.0) }
     requires heap { Settles (slice_get (set dues.old.items at due)) at }
@@ -142,5 +142,24 @@ pub(crate) fn settle(dues: &mut Vec<Due>, places: &mut Arena<usize>, at: usize, 
         rise(dues, places, at, due);
     } else {
         sink(dues, places, at, due);
+    }
+}
+
+/// The time at a place goes, whose object isn't held any more, and the last one comes to where it belongs.
+pub(crate) fn take_out(dues: &mut Vec<Due>, places: &mut Arena<usize>, at: usize)
+    requires at { at < length dues.old.items }
+    requires heap { IsHeap (slice_get dues.old.items) }
+    requires places { PlacesBut (slice_get dues.old.items) (get places.old) at }
+    ensures heap { IsHeap (slice_get dues.new.items) }
+    ensures places { Places (slice_get dues.new.items) (get places.new) }
+    ensures dues { Removes dues.old.items dues.new.items at }
+    ensures capacity { vec_capacity dues.new ≡ vec_capacity dues.old }
+    ensures spare { places.new.spare ≡ places.old.spare }
+{
+    let Some(last) = dues.pop() else {
+        return;
+    };
+    if at < dues.len() {
+        settle(dues, places, at, last);
     }
 }

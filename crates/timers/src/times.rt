@@ -1,6 +1,6 @@
 ghost use Rattle.std.specs.Prelude.{◌≡◌};
 
-use crate::heap::{rise, settle};
+use crate::heap::{rise, take_out};
 use pool_arena::Arena;
 use std::alloc::Global;
 use std::marker::Model;
@@ -96,11 +96,7 @@ impl Times {
         let Some(at) = self.places.take(x.0) else {
             return false;
         };
-        if let Some(last) = self.dues.pop()
-            && at < self.dues.len()
-        {
-            settle(&mut self.dues, &mut self.places, at, last);
-        }
+        take_out(&mut self.dues, &mut self.places, at);
         true
     }
 
