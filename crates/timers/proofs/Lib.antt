@@ -6,3 +6,4 @@ pub mod Sifting
 pub mod Holding
 pub mod Entering
 pub mod Leaving
+pub mod ByObject

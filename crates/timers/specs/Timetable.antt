@@ -23,3 +23,8 @@ AreInOrder (d ∷ ds) = NoneBefore d ds × AreInOrder ds
 abbrev pub AreOnce : List Due → Type 0
 AreOnce [] = Unit {0}
 AreOnce (d ∷ ds) = (is_armed ds d.object ≡ false) × AreOnce ds
+
+-- the number of each is that of its object
+abbrev pub AreByObject : List Due → Type 0
+AreByObject [] = Unit {0}
+AreByObject (d ∷ ds) = (d.number ≡ d.object.0) × AreByObject ds

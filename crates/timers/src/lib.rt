@@ -2,6 +2,8 @@
 #![tactic(auto)]
 
 mod heap;
+#[cfg(test)]
+mod tests;
 mod times;
 
 pub use times::Times;
