@@ -1,13 +1,13 @@
 -- What joining those that wait and leaving them leave of the neighbours and the ends.
-use Rattle.std.proofs.Common.{◌≡◌, ℕ, ◌-◌, ◌≤◌, Bool, true, false, cond, nat_eq, ◌||◌, List, [], ◌∷◌, length, Option, Some, None, is_some, refl, sym, ap, subst, ◌∙◌, arith}
+use Rattle.std.proofs.Common.{◌≡◌, ℕ, Bool, true, false, cond, nat_eq, List, ◌∷◌, length, Option, Some, None, is_some, refl, sym, ap, subst, ◌∙◌, arith}
 use Rattle.std.proofs.lemmas.Bool.{eqb-true}
 use Rattle.std.specs.Option.{option_map, option_or}
 use Rattle.std.specs.Ordering.{nat_cmp}
 use Rattle.std.specs.FinMap as map
 use Rattle.linked_lanes.specs.declared.Sides.{Sides}
-use Rattle.linked_lanes.specs.Lane.{is_at, has, last, without, Distinct}
+use Rattle.linked_lanes.specs.Lane.{is_at, has, without}
 use Rattle.linked_lanes.specs.Chain.{Chain, sides_in, head_left, last_left}
-use Rattle.linked_lanes.proofs.Lanes.{by_test, not_both, false_by, eqb-self, has-without-other, has-without-same, Distinct-without}
+use Rattle.linked_lanes.proofs.Lanes.{by_test, eqb-self, has-without-other, has-without-same, Distinct-without}
 use Rattle.linked_lanes.proofs.Chains.{newer_as, older_as, kept_chain, stays, left-chain, added-chain}
 use Rattle.linked_lanes.proofs.Ends.{last-joined, last-without, chain-walk}
 use Rattle.immediates.specs.Linked.{Keeps, IsLinked, lane_in, objects_in, oldest_first}

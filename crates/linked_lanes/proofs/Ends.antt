@@ -5,7 +5,7 @@ use Rattle.std.specs.Option.{option_or}
 use Rattle.linked_lanes.specs.Lane.{first, has, after, before_from, last, last_from, without, Distinct}
 use Rattle.linked_lanes.specs.Chain.{Chain, sides_in, older_of, walk, last_left, head_left_by}
 use Rattle.linked_lanes.specs.declared.Sides.{Sides}
-use Rattle.linked_lanes.proofs.Lanes.{by_test, not_both, false_by, eqb-self, without-absent}
+use Rattle.linked_lanes.proofs.Lanes.{by_test, not_both, false_by, eqb-self}
 
 -- ---- the last
 

@@ -1,6 +1,6 @@
 //! Lanes: distinct numbers in an order, newest first, kept by the neighbours that are noted beside each of them.
-//! Whoever keeps a lane keeps the neighbours and the head; this crate says what they are, and proves what leaving
-//! the lane and joining it at its front do to them.
+//! Whoever keeps a lane keeps the neighbours and the head, and the last where it is wanted; this crate says what they
+//! are, and proves what leaving the lane and joining it at its front do to them.
 #![tactic(auto)]
 
 ghost use Rattle.std.specs.Prelude.{◌≡◌};

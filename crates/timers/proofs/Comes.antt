@@ -1,5 +1,5 @@
 -- What comes before what, and where a time is put in.
-use Rattle.std.proofs.Common.{◌≡◌, ℕ, suc, ◌+◌, ◌||◌, List, [], ◌∷◌, length, Option, Some, None, Bool, true, false, is_some, slice_get, drop, subst, refl, sym, ◌∙◌, ap, arith}
+use Rattle.std.proofs.Common.{◌≡◌, suc, ◌||◌, List, [], ◌∷◌, length, Some, Bool, true, false, is_some, slice_get, drop, subst, refl, sym, ◌∙◌, ap, arith}
 use Rattle.std.proofs.lemmas.Bool.Decides.{nat_tests}
 use Rattle.std.specs.List.{find}
 use Rattle.tree_specs.specs.declared.due.Due.{Due}

@@ -1,5 +1,5 @@
 -- What a new time leaves of the heap and the places.
-use Rattle.std.proofs.Common.{◌≡◌, ◌≢◌, ℕ, zero, suc, ◌+◌, ◌<◌, ◌≤◌, cond, nat_eq, List, [], ◌∷◌, ◌++◌, length, set, slice_get, Option, Some, None, Bool, true, false, refl, sym, ◌∙◌, ap, subst, arith}
+use Rattle.std.proofs.Common.{◌≡◌, ℕ, zero, suc, ◌<◌, cond, nat_eq, List, [], ◌∷◌, ◌++◌, length, set, slice_get, Option, Some, None, false, refl, sym, ◌∙◌, ap, arith}
 use Rattle.std.proofs.lemmas.Bool.{eqb-true, eq-eqb}
 use Rattle.std.proofs.lemmas.List.{length-append}
 use Rattle.std.proofs.lemmas.Option.{slice_get_past, slice_get_within}
@@ -8,8 +8,8 @@ use Rattle.std.specs.FinMap as map
 use Rattle.std.specs.Ordering.{nat_cmp}
 use Rattle.tree_specs.specs.declared.due.Due.{Due}
 use Rattle.tree_specs.proofs.Tree.Numbered.{by_test}
-use Rattle.timers.specs.Heaped.{Told, Reorders, object_of, is_early, IsChild, IsHeap, Rises, with_place, Places, IsKept}
-use Rattle.timers.proofs.Moves.{same_or, below}
+use Rattle.timers.specs.Heaped.{Told, object_of, is_early, IsHeap, Rises, with_place, Places, IsKept}
+use Rattle.timers.proofs.Moves.{below}
 use Rattle.timers.proofs.Sorted.{told-own}
 
 -- ---- one more at the end

@@ -3,17 +3,15 @@ use Rattle.std.proofs.Common.{◌≡◌, ◌≢◌, ℕ, zero, suc, ◌+◌, ◌
 use Rattle.std.proofs.lemmas.Bool.{eqb-true, eq-eqb}
 use Rattle.std.proofs.lemmas.Option.{slice_get_within, slice_get-get_or}
 use Rattle.std.specs.Option.{option_map}
-use Rattle.std.specs.FinMap as map
-use Rattle.std.specs.Ordering.{nat_cmp}
 use Rattle.tree_specs.specs.declared.due.Due.{Due}
 use Rattle.tree_specs.specs.declared.object.Obj.{Obj}
 use Rattle.tree_specs.specs.Words.Objects.{same}
 use Rattle.tree_specs.specs.Events.Pending.{is_armed, comes_before}
 use Rattle.tree_specs.proofs.Tree.Numbered.{by_test}
 use Rattle.timers.specs.Timetable.{NoneBefore, AreOnce}
-use Rattle.timers.specs.Heaped.{sorted, Told, object_of, is_early, IsChild, IsHeap, Places, IsKept}
+use Rattle.timers.specs.Heaped.{sorted, Told, object_of, is_early, IsChild, IsHeap, Places}
 use Rattle.timers.proofs.Comes.{not-itself, none-both}
-use Rattle.timers.proofs.Sorted.{told-own, first-sorted, length-sorted}
+use Rattle.timers.proofs.Sorted.{first-sorted, length-sorted}
 
 -- ---- objects
 

@@ -1,5 +1,5 @@
 -- What a time that goes leaves of the heap and the places.
-use Rattle.std.proofs.Common.{◌≡◌, ◌≢◌, ℕ, zero, suc, ◌+◌, ◌<◌, ◌≤◌, cond, nat_eq, List, [], ◌∷◌, ◌++◌, length, set, slice_get, get_or, Option, Some, None, IsSome, is_some, Bool, true, false, refl, sym, ◌∙◌, ap, subst, arith}
+use Rattle.std.proofs.Common.{◌≡◌, ◌≢◌, ℕ, ◌<◌, ◌≤◌, cond, nat_eq, List, [], ◌∷◌, ◌++◌, length, set, slice_get, get_or, Option, Some, None, IsSome, is_some, true, false, sym, ◌∙◌, ap, arith}
 use Rattle.std.proofs.lemmas.Bool.{eqb-true, eq-eqb}
 use Rattle.std.proofs.lemmas.List.{length-append, length-set}
 use Rattle.std.proofs.lemmas.Option.{slice_get_past, slice_get_within, slice_get-get_or}
@@ -7,9 +7,9 @@ use Rattle.std.specs.Option.{option_map}
 use Rattle.tree_specs.specs.declared.due.Due.{Due}
 use Rattle.tree_specs.specs.Events.Pending.{put_in}
 use Rattle.tree_specs.proofs.Tree.Numbered.{by_test}
-use Rattle.timers.specs.Heaped.{sorted, Told, Reorders, Removes, object_of, is_early, IsChild, IsHeap, Settles, with_place, Places, PlacesBut}
+use Rattle.timers.specs.Heaped.{sorted, Told, Reorders, Removes, object_of, is_early, IsHeap, Settles, with_place, Places, PlacesBut}
 use Rattle.timers.proofs.Moves.{same_or, below, not-above, through}
-use Rattle.timers.proofs.Sorted.{told-at, told-set, told-front, told-last, sorted-exchange, sorted-append}
+use Rattle.timers.proofs.Sorted.{told-set, told-front, told-last, sorted-exchange, sorted-append}
 use Rattle.timers.proofs.Places.{set-same, set-other}
 use Rattle.timers.proofs.Entering.{before-end, at-end, past-end, by_end}
 

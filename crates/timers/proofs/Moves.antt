@@ -1,9 +1,7 @@
 -- What one step up or down leaves of the heap.
-use Rattle.std.proofs.Common.{◌≡◌, ◌≢◌, ℕ, suc, zero, ◌+◌, ◌<◌, ◌≤◌, ◌/◌, nat_eq, List, [], ◌∷◌, length, slice_get, Option, Some, None, Bool, true, false, refl, sym, ◌∙◌, ap, arith}
+use Rattle.std.proofs.Common.{◌≡◌, ◌≢◌, ℕ, ◌<◌, nat_eq, Option, Some, None, true, false, refl, sym, ◌∙◌, ap, arith}
 use Rattle.std.proofs.lemmas.Bool.{eqb-true, eq-eqb}
-use Rattle.std.proofs.lemmas.Bool.Decides.{nat_tests}
 use Rattle.tree_specs.specs.declared.due.Due.{Due}
-use Rattle.tree_specs.specs.Events.Pending.{comes_before}
 use Rattle.tree_specs.proofs.Tree.Numbered.{by_test}
 use Rattle.timers.specs.Heaped.{is_early, IsChild, IsHeap, Rises, Sinks, Settles}
 use Rattle.timers.proofs.Comes.{not-back, none-both}

@@ -1,12 +1,12 @@
 -- One step up or down, as the writes of the heap make it.
-use Rattle.std.proofs.Common.{◌≡◌, ◌≢◌, ℕ, zero, suc, ◌+◌, ◌<◌, ◌≤◌, List, [], ◌∷◌, length, get_or, set, slice_get, Option, Some, None, IsSome, is_some, ◌*◌, true, false, refl, sym, ◌∙◌, ap, subst, arith}
+use Rattle.std.proofs.Common.{◌≡◌, ◌≢◌, ℕ, zero, suc, ◌+◌, ◌<◌, List, [], ◌∷◌, length, get_or, set, slice_get, Option, Some, None, IsSome, is_some, ◌*◌, true, false, refl, sym, ◌∙◌, ap, subst, arith}
 use Rattle.std.proofs.lemmas.List.{length-set}
 use Rattle.std.proofs.lemmas.Option.{slice_get_within, slice_get_read}
 use Rattle.tree_specs.specs.declared.due.Due.{Due}
 use Rattle.tree_specs.specs.Events.Pending.{comes_before}
 use Rattle.timers.specs.Heaped.{sorted, Told, is_early, IsChild, IsHeap, IsLateParent, IsEarlyChild, IsFirstOfTwo, Rises, Sinks, Settles, Places, Reorders, with_place}
 use Rattle.timers.proofs.Sorted.{reorders-swap}
-use Rattle.timers.proofs.Moves.{Swaps, same_or, early-some, early-none, not-above, not-below, below, rise-step, rise-end, sink-step, sink-end, settle-rises, settle-sinks}
+use Rattle.timers.proofs.Moves.{Swaps, early-some, early-none, not-above, not-below, below, rise-step, rise-end, sink-step, sink-end, settle-rises, settle-sinks}
 use Rattle.timers.proofs.Places.{set-same, set-other, noted, held-noted, places-step}
 
 set-twice : (ds : List Due) (i : ℕ) (d f : Due) → set (set ds i d) i f ≡ set ds i f

@@ -1,12 +1,11 @@
 -- The times in their order, wherever the heap has them.
-use Rattle.std.proofs.Common.{◌≡◌, ℕ, zero, suc, ◌<◌, ◌||◌, List, [], ◌∷◌, ◌++◌, length, set, slice_get, Option, Some, None, Bool, true, false, nat_eq, is_some, refl, sym, ◌∙◌, ap, arith}
+use Rattle.std.proofs.Common.{◌≡◌, ℕ, zero, suc, List, [], ◌∷◌, ◌++◌, length, set, slice_get, Option, Some, Bool, true, false, nat_eq, is_some, refl, sym, ◌∙◌, ap}
 use Rattle.std.proofs.lemmas.Bool.{eqb-true, eq-eqb}
 use Rattle.std.proofs.lemmas.List.{length-set}
 use Rattle.std.specs.List.{find}
 use Rattle.tree_specs.specs.declared.due.Due.{Due}
-use Rattle.tree_specs.specs.declared.object.Obj.{Obj}
 use Rattle.tree_specs.specs.Words.Objects.{same}
-use Rattle.tree_specs.specs.Events.Pending.{is_armed, is_numbered, comes_before, put_in}
+use Rattle.tree_specs.specs.Events.Pending.{is_numbered, comes_before, put_in}
 use Rattle.tree_specs.proofs.Tree.Numbered.{by_test}
 use Rattle.timers.specs.Timetable.{NoneBefore, AreInOrder, AreOnce}
 use Rattle.timers.specs.Heaped.{sorted, by_number, Told, Reorders}

@@ -100,12 +100,19 @@ impl Times {
         true
     }
 
-    /// The time that comes first. None exactly where there is none.
-    pub fn first(&self) -> Option<Due>
+    // The time that comes first. None exactly where there is none.
+    fn earliest(&self) -> Option<Due>
         ensures first { result ≡ slice_get self.now.dues 0 }
         ensures once { AreOnce self.now.dues }
     {
         Some(*self.dues.first()?)
+    }
+
+    /// The time that comes first. None exactly where there is none.
+    pub fn first(&self) -> Option<Due>
+        ensures { result ≡ slice_get self.now.dues 0 }
+    {
+        self.earliest()
     }
 
     /// Takes out the time that comes first. None exactly where there is none.
@@ -114,7 +121,7 @@ impl Times {
         ensures dues { self.new.dues ≡ drop 1 self.old.dues }
         ensures spare { self.old.spare ≤ self.new.spare }
     {
-        let first = self.first();
+        let first = self.earliest();
         if let Some(due) = first {
             self.disarm(due.object);
         }
@@ -125,6 +132,7 @@ impl Times {
     pub fn len(&self) -> usize
         ensures count { result ≡ length self.now.dues }
         ensures ordered { AreInOrder self.now.dues }
+        ensures once { AreOnce self.now.dues }
     {
         self.dues.len()
     }

@@ -1,8 +1,7 @@
-use Rattle.std.proofs.Common.{◌≡◌, ◌<◌, ◌++◌, ◌∷◌, [], List, length, slice_get, sym, ap, subst, ◌∙◌, arith}
+use Rattle.std.proofs.Common.{◌≡◌, ◌++◌, ◌∷◌, [], length, slice_get, sym, ap, subst, ◌∙◌, arith}
 use Rattle.std.proofs.lemmas.List.{length-append}
 use Rattle.std.specs.Option.{option_to_list}
 use Rattle.pool_arena.specs.Arena.{get}
-use Rattle.tree_specs.specs.declared.due.Due.{Due}
 use Rattle.timers.specs.Heaped.{IsHeap, PlacesBut, Removes}
 use Rattle.timers.proofs.Leaving.{leaves-settles, leaves-places, leaves-dues, ends-heap, ends-places, ends-dues}
 use Rattle.timers.proofs.heap.take_out.Goals as goal

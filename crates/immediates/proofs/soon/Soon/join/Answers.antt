@@ -1,13 +1,9 @@
-use Rattle.std.proofs.Common.{◌≡◌, ℕ, ◌+◌, List, is_some, Bool, true, false, None, Some, cond, nat_eq, ◌∷◌, ◌++◌, [], length, Option, refl, sym, ap, ◌∙◌, arith}
+use Rattle.std.proofs.Common.{◌≡◌, ℕ, ◌+◌, List, false, Some, cond, nat_eq, ◌∷◌, ◌++◌, [], length, refl, ap, ◌∙◌, arith}
 use Rattle.std.specs.FinMap as map
-use Rattle.std.specs.Option.{option_map}
 use Rattle.pool_arena.specs.Arena.{get}
 use Rattle.pool_arena.proofs.Keeps.{get-with_entry}
 use Rattle.pool_arena.proofs.Steps.{len-new}
-use Rattle.tree_specs.specs.Events.Pending.{is_scheduled}
-use Rattle.linked_lanes.specs.declared.Sides.{Sides}
-use Rattle.linked_lanes.specs.Lane.{is_at, has}
-use Rattle.linked_lanes.proofs.Chains.{newer_as}
+use Rattle.linked_lanes.specs.Lane.{has}
 use Rattle.immediates.specs.Waiting.{Waiting}
 use Rattle.immediates.specs.Linked.{Keeps, lane_in, numbered}
 use Rattle.immediates.proofs.Order.{absent-in}

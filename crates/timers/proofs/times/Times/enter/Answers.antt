@@ -6,7 +6,7 @@ use Rattle.tree_specs.specs.declared.due.Due.{Due}
 use Rattle.tree_specs.specs.Words.Objects.{same}
 use Rattle.tree_specs.specs.Events.Pending.{is_armed, is_numbered, put_in}
 use Rattle.timers.specs.Timetable.{Timetable}
-use Rattle.timers.specs.Heaped.{by_number, Rises, Places, with_place, Told, Reorders}
+use Rattle.timers.specs.Heaped.{Rises, Places, with_place, Told, Reorders}
 use Rattle.timers.proofs.Sorted.{found-sorted, told-more, told-append, sorted-append}
 use Rattle.timers.proofs.Holding.{none-placed}
 use Rattle.timers.proofs.Entering.{set-end, with-itself, entered-rises, entered-places, kept}

@@ -1,4 +1,4 @@
-use Rattle.std.proofs.Common.{◌≡◌, ℕ, [], IsTrue, length, ◌==◌, refl, sym, ap, ◌∙◌}
+use Rattle.std.proofs.Common.{ℕ, ◌==◌, sym, ap, ◌∙◌}
 use Rattle.timers.specs.Timetable.{Timetable}
 use Rattle.timers.specs.Heaped.{sorted}
 use Rattle.timers.proofs.Holding.{none-sorted}

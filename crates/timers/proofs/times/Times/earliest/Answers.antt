@@ -5,7 +5,7 @@ use Rattle.timers.specs.Timetable.{Timetable, AreOnce}
 use Rattle.timers.specs.Heaped.{by_number}
 use Rattle.timers.proofs.Sorted.{once-sorted}
 use Rattle.timers.proofs.Holding.{top-first, once-placed}
-use Rattle.timers.proofs.times.Times.first.Goals as goal
+use Rattle.timers.proofs.times.Times.earliest.Goals as goal
 
 pub returns-clause-first : goal.returns-clause-first
 returns-clause-first c =
