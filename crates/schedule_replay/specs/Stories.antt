@@ -8,10 +8,10 @@ use Rattle.tree_specs.specs.Orderly.{Orderly}
 use Rattle.tree_specs.specs.Grounded.{Grounded}
 use Rattle.schedule_replay.specs.Runs.{WritesText}
 
--- What was written is the text of one story, that over the schedule's inputs, and this story is orderly and grounded.
+-- What was written is the text of one story, that over the schedule's inputs, and this story is orderly, and grounded over them.
 pub record WritesStory (bytes : List ℕ) (held now : Option (List ℕ)) : Type 0 where
   pub scenes : List Scene
   pub inputs : scenes ≡ story 1 (inputs_of bytes)
   pub text : WritesText (transcript (items scenes)) held now
   pub orderly : Orderly (items scenes)
-  pub grounded : Grounded scenes
+  pub grounded : Grounded scenes (inputs_of bytes)

@@ -8,6 +8,7 @@ use Rattle.step_machine.specs.Noted.{noted_move, noted_work, with_note}
 use Rattle.step_machine.specs.Open.{LastIs}
 use Rattle.step_machine.proofs.History.{FitsOn}
 use Rattle.tree_specs.specs.declared.object.Obj.{Obj}
+use Rattle.tree_specs.specs.declared.object.Owner.{Owner}
 use Rattle.tree_specs.specs.declared.call.Call.{Call}
 use Rattle.tree_specs.specs.declared.call.Call.TheVariants as call
 use Rattle.tree_specs.specs.declared.question.Ask.{Ask}
@@ -124,11 +125,19 @@ caused-reply scenes x (Some b) a k h = let e = each b.call k.0 k.1 in (just-now 
     for-free held free_reply.Running h = (λ e. self, (λ e. cc, λ e. let bad : true ≡ false = sym e ∙ held in cc), h)
     for-free held (free_reply.Refused v) h = (λ e. self, (λ e. cc, λ e. let bad : true ≡ false = sym e ∙ held in cc), h)
 
+    for-unlink : (o : Owner) (a : FreeReply) → ReplyCause scenes (Some b) x a
+        → AnsweredCall (call.Unlink o x) b.start (freed_reply x a) × HeldCall (call.Unlink o x) b.start (freed_reply x a) × CausedCall scenes (call.Unlink o x) b.start (freed_reply x a)
+    for-unlink o free_reply.Ok h = (λ m. refl, λ e. cc, tt)
+    for-unlink o free_reply.Held h = absurd h
+    for-unlink o free_reply.Running h = (λ m. self, λ e. cc, h)
+    for-unlink o (free_reply.Refused v) h = (λ m. self, λ e. cc, h)
+
     each : (c : Call) → FreesBy x c → NotHeld c b.start → AnsweredCall c b.start (freed_reply x a) × HeldCall c b.start (freed_reply x a) × CausedCall scenes c b.start (freed_reply x a)
     each (call.Free y) e n = subst (λ (z : Obj). AnsweredCall (call.Free z) b.start (freed_reply x a) × HeldCall (call.Free z) b.start (freed_reply x a) × CausedCall scenes (call.Free z) b.start (freed_reply x a)) (sym e)
         (for-free (subst (λ (z : Obj). is_held b.start z ≡ false) e n) a h)
     each (call.Freekids y) e n = (tt, tt, tt)
-    each (call.Unlink o y) e n = (tt, tt, tt)
+    each (call.Unlink o y) e n = subst (λ (z : Obj). AnsweredCall (call.Unlink o z) b.start (freed_reply x a) × HeldCall (call.Unlink o z) b.start (freed_reply x a) × CausedCall scenes (call.Unlink o z) b.start (freed_reply x a)) (sym e)
+        (for-unlink o a h)
     each _ e n = absurd e
 
 -- ---- a work that ends

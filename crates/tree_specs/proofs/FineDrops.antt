@@ -161,7 +161,7 @@ module _ (scenes : List Scene) (b : Option Begun) (ws : List NotedWork) (p : Poo
             cause = tt;
           }))
           (λ t. rw t (record {
-            past = past-goes (told scenes) f (frame.Free (Hooked x r.hook)) (map work_of ws) (map work_of ws) p (set_mark p x mark.Asked) known.past (later-marked p x r mark.Asked e live) (λ y l. absurd l) tt known.past.all_account;
+            past = past-goes (told scenes) f (frame.Free (Hooked x r.hook)) (map work_of ws) (map work_of ws) p (set_mark p x mark.Asked) known.past (later-marked p x r mark.Asked e live (λ h. tt)) (λ y l. absurd l) tt known.past.all_account;
             stacked = restacked f (frame.Free (Hooked x r.hook)) ws (λ y h. h) (λ y h. h) known.stacked;
             cause = tt;
           }))
@@ -169,7 +169,7 @@ module _ (scenes : List Scene) (b : Option Begun) (ws : List NotedWork) (p : Poo
       marks : (r : Row) (m : Mark) → r.mark ≡ m → row_of p.rows x ≡ Some r → Step (lifted (begin_step x (row_of p.rows x) p))
       marks r mark.Quiet m e = rw (e, m) (quiet r e m)
       marks r mark.Asked m e = let run : is_running p x ≡ true = rw (e, m) refl in rw (e, m) (runs-fine x p (later-same p) whole known run)
-      marks r mark.Busy m e = let run : is_running p x ≡ true = rw (e, m) refl in rw (e, m) (runs-fine x (set_mark p x mark.Doomed) (later-marked p x r mark.Doomed e (rw m tt)) whole known run)
+      marks r mark.Busy m e = let run : is_running p x ≡ true = rw (e, m) refl in rw (e, m) (runs-fine x (set_mark p x mark.Doomed) (later-marked p x r mark.Doomed e (rw m tt) (λ h. let bad : ⊥ = rw m at h in bad)) whole known run)
       marks r mark.Doomed m e = let run : is_running p x ≡ true = rw (e, m) refl in rw (e, m) (runs-fine x p (later-same p) whole known run)
       marks r (mark.Dying former) m e = rw (e, m) (over-fine (Beginning x) whole known (λ y l. l))
 

@@ -1,6 +1,5 @@
 -- The steps of frees.
 use Rattle.tree_specs.specs.Profiles.{InRun, InLoop, Phase}
-use Rattle.tree_specs.specs.Calls.{is_running, is_running_row, is_running_mark}
 use Rattle.std.proofs.Common.{◌≡◌, ℕ, List, [], ◌∷◌, ◌++◌, Option, Some, None, true, false, nat_eq, refl, ◌∙◌, ap, subst, inl, map}
 use Rattle.std.specs.List.{list_any}
 use Rattle.step_machine.specs.Machine.{Move as Do}
@@ -28,13 +27,13 @@ use Rattle.tree_specs.specs.Works.{Begun, Scene}
 use Rattle.tree_specs.specs.Story.{hook_moment}
 use Rattle.tree_specs.specs.Table.{notes, lifted, judge_step, last_step, loop_step, hand_on_step, child_step}
 use Rattle.tree_specs.specs.Orderly.{frees, accepts}
-use Rattle.tree_specs.specs.Grounded.{IsItem}
+use Rattle.tree_specs.specs.Grounded.{IsItem, is_asked, is_asked_row, is_asked_mark}
 use Rattle.tree_specs.specs.Sound.{IsLive, claims, ValidAt, phases}
 use Rattle.tree_specs.specs.Whole.{Whole}
 use Rattle.tree_specs.proofs.Numbered.{by_test}
 use Rattle.tree_specs.proofs.Rows.{row_of-changed-same, row_of-without-same}
 use Rattle.tree_specs.proofs.Changes.{heir-placed, running-row, dying-row, claim-here}
-use Rattle.tree_specs.proofs.Later.{IsPast, later-same, later-placed, later-marked, later-hooked, later-left, later-removed}
+use Rattle.tree_specs.proofs.Later.{IsPast, RowRunsNoHandler, later-same, later-placed, later-marked, later-hooked, later-left, later-removed}
 use Rattle.tree_specs.proofs.Past.{past-goes, past-tells, past-accepts, past-frees, unfreed, unaccepted, Accounts, any-as-before}
 use Rattle.tree_specs.proofs.Causes.{NotedWork, told, StandsOn, Stacked, IsRefusedFor}
 use Rattle.tree_specs.proofs.Waiters.{Waiter, ForFree, ForRun, ForChild}
@@ -66,14 +65,15 @@ module _ (scenes : List Scene) (b : Option Begun) (ws : List NotedWork) (p : Poo
       }
 
   -- the row of an object whose destructor runs
-  running-mark : (o : Option Row) (l : List Phase) → InRun ∷ l ≡ phases o → is_running_row o ≡ true
-  running-mark None l e = cc
-  running-mark (Some r) l e = marks r.mark refl
+  asked-mark : (o : Option Row) (l : List Phase) → InRun ∷ l ≡ phases o → RowRunsNoHandler o → is_asked_row o ≡ true
+  asked-mark None l e idle = cc
+  asked-mark (Some r) l e idle = marks r.mark refl
     where
-      marks : (m : Mark) → r.mark ≡ m → is_running_mark r.mark ≡ true
+      marks : (m : Mark) → r.mark ≡ m → is_asked_mark r.mark ≡ true
       marks mark.Quiet m = let bad : InRun ∷ l ≡ [] = rw m at e in cc
+      marks mark.Asked m = rw m refl
       marks (mark.Dying former) m = let bad : InRun ∷ l ≡ InLoop ∷ [] = rw m at e in cc
-      marks _ m = rw m refl
+      marks _ m = let bad : ⊥ = rw m at idle in absurd bad
 
   -- a destructor's refusal is told right before the call that waits is
   refused-now : (s : Scene) (x : Obj) (h v w : ℕ) → s.item ≡ Told (Refused x v) → (g : Frame) (n : Option Begun) → Waiter g → StandsOn (frame.Free (Judged x h w)) g n
@@ -86,12 +86,12 @@ module _ (scenes : List Scene) (b : Option Begun) (ws : List NotedWork) (p : Poo
   judged-fine x h v whole known =
       let phase = claim-here x InRun (claims x (map work_of ws)) (row_of p.rows x) (whole.sound.open_frees x) in
       let row = running-row (row_of p.rows x) (claims x (map work_of ws)) phase in
-      by-row row.0 row.1 row.2 row.3 (running-mark (row_of p.rows x) (claims x (map work_of ws)) phase)
+      by-row row.0 row.1 row.2 row.3 (asked-mark (row_of p.rows x) (claims x (map work_of ws)) phase (known.past.idle x))
     where
       f : Frame
       f = frame.Free (Judged x h v)
 
-      by-row : (r : Row) → row_of p.rows x ≡ Some r → IsLive r.mark → claims x (map work_of ws) ≡ [] → is_running p x ≡ true → FineBy scenes f b p (lifted (judge_step x h v p)) ws
+      by-row : (r : Row) → row_of p.rows x ≡ Some r → IsLive r.mark → claims x (map work_of ws) ≡ [] → is_asked p x ≡ true → FineBy scenes f b p (lifted (judge_step x h v p)) ws
       by-row r e live none run =
           let free = unaccepted (told scenes) f (map work_of ws) p x r known.past e live (λ l. l) in
           let there = unfreed (told scenes) f (map work_of ws) p x r known.past e in
@@ -107,7 +107,7 @@ module _ (scenes : List Scene) (b : Option Begun) (ws : List NotedWork) (p : Poo
             (fits-refused (told scenes) x free there v, record { answered = tt; held = tt; caused = tt; started = tt }),
             known-told scenes (scene notes f b p (Told (Refused x v))) (with_note None (frame.Free (Ending (free_reply.Refused v)))) ws (set_mark p x mark.Quiet)
                 (past-goes (told scenes ++ Told (Refused x v) ∷ []) f (frame.Free (Ending (free_reply.Refused v))) (map work_of ws) (map work_of ws) p (set_mark p x mark.Quiet)
-                (past-tells (told scenes) (Told (Refused x v)) f (map work_of ws) p (λ y. refl) (λ y. refl) (λ y. refl) known.past) (later-marked p x r mark.Quiet e live) (λ y l. absurd l) tt
+                (past-tells (told scenes) (Told (Refused x v)) f (map work_of ws) p (λ y. refl) (λ y. refl) (λ y. refl) known.past) (later-marked p x r mark.Quiet e live (λ h. tt)) (λ y l. absurd l) tt
                 (past-tells (told scenes) (Told (Refused x v)) f (map work_of ws) p (λ y. refl) (λ y. refl) (λ y. refl) known.past).all_account)
                 (restacked f (frame.Free (Ending (free_reply.Refused v))) ws (λ y k. tt) (λ y k. k) known.stacked)
                 (of-next (IsRefusedFor (scenes ++ scene notes f b p (Told (Refused x v)) ∷ []) (free_reply.Refused v)) f ws whole.sound.waiting known.stacked

@@ -15,7 +15,7 @@ use Rattle.tree_specs.specs.declared.reply.Reply.TheVariants.{No}
 use Rattle.tree_specs.specs.declared.reply.Refusal.{Refusal}
 use Rattle.tree_specs.specs.declared.reply.Refusal.TheVariants as refusal
 use Rattle.tree_specs.specs.declared.event.Event.TheVariants.{Replied}
-use Rattle.tree_specs.specs.Pool.{Pool, row_of, is_below, owner_of}
+use Rattle.tree_specs.specs.Pool.{Pool, row_of, is_below, owner_of, is_object, is_owner}
 use Rattle.tree_specs.specs.Targets.{is_reference}
 use Rattle.tree_specs.specs.Items.{Item}
 use Rattle.tree_specs.specs.Items.Item.{Told}
@@ -137,7 +137,69 @@ own-free scenes p x why later d refers e = each (row_of p.rows x) refl e
         ))
         (λ u. let e' : held p x ≡ why ∷ later = rw u at e in by-held (is_held p x) refl e')
 
+-- a refusal that says nothing of a free
+abbrev IsAtOnce : Refusal → Type 0
+IsAtOnce (refusal.Held x) = ⊥
+IsAtOnce (refusal.Running x) = ⊥
+IsAtOnce (refusal.Refused x v) = ⊥
+IsAtOnce why = Unit {0}
+
+abbrev AllAtOnce : Check → Type 0
+AllAtOnce [] = Unit {0}
+AllAtOnce (why ∷ later) = IsAtOnce why × AllAtOnce later
+
+at_once-both : (first second : Check) → AllAtOnce first → AllAtOnce second → AllAtOnce (first ++ second)
+at_once-both [] second h k = k
+at_once-both (why ∷ first) second h k = (h.0, at_once-both first second h.1 k)
+
+at_once-if : (b : Bool) (why : Refusal) → IsAtOnce why → AllAtOnce (refuse_if b why)
+at_once-if true why h = (h, tt)
+at_once-if false why h = tt
+
+at_once-object : (p : Pool) (x : Obj) → AllAtOnce (object p x)
+at_once-object p x = each (row_of p.rows x)
+  where
+    each : (o : Option Row) → AllAtOnce (object_row x o)
+    each None = (tt, tt)
+    each (Some r) = at_once-if _ _ tt
+
+at_once-owner : (p : Pool) (o : Owner) → AllAtOnce (owner p o)
+at_once-owner p Root = tt
+at_once-owner p (Of x) = at_once-object p x
+
+at_once-unlink : (p : Pool) (o : Owner) (x : Obj) → AllAtOnce (refusals p (call.Unlink o x))
+at_once-unlink p o x = at_once-both (object p x) _ (at_once-object p x) (at_once-both (owner p o) _ (at_once-owner p o) (at_once-if _ _ tt))
+
+-- an object is no refusal, and neither is an owner
+object-none : (p : Pool) (x : Obj) → is_object p.rows x ≡ true → object p x ≡ []
+object-none p x h = each (row_of p.rows x) refl
+  where
+    each : (o : Option Row) → row_of p.rows x ≡ o → object_row x o ≡ []
+    each None e = let bad : false ≡ true = rw e at h in cc
+    each (Some r) e = let h' : not (is_reference r.kind) ≡ true = rw e at h in rw (not-true (is_reference r.kind) h') refl
+
+owner-none : (p : Pool) (o : Owner) → is_owner p.rows o ≡ true → owner p o ≡ []
+owner-none p Root h = refl
+owner-none p (Of x) h = object-none p x h
+
+-- an owner that has an interest in an object isn't refused at once, and otherwise neither held, running nor refused is said
+own-unlink : (scenes : List Scene) (p : Pool) (o : Owner) (x : Obj) (why : Refusal) (later : Check) → refusals p (call.Unlink o x) ≡ why ∷ later
+    → AnsweredCall (call.Unlink o x) p (No why) × HeldCall (call.Unlink o x) p (No why) × CausedCall scenes (call.Unlink o x) p (No why)
+own-unlink scenes p o x why later e = let h = said why (subst AllAtOnce e (at_once-unlink p o x)).0 in (answered, h.0, h.1)
+  where
+    answered : AnsweredCall (call.Unlink o x) p (No why)
+    answered m =
+        let none : refusals p (call.Unlink o x) ≡ [] = rw (object-none p x m.0, owner-none p o m.1, m.2) refl in
+        let bad : why ∷ later ≡ [] = sym e ∙ none in cc
+
+    said : (w : Refusal) → IsAtOnce w → HeldCall (call.Unlink o x) p (No w) × CausedCall scenes (call.Unlink o x) p (No w)
+    said (refusal.Held y) h = absurd h
+    said (refusal.Running y) h = absurd h
+    said (refusal.Refused y v) h = absurd h
+    said _ h = (λ q. cc, tt)
+
 pub own-call : (scenes : List Scene) (p : Pool) (c : Call) (why : Refusal) (later : Check) → Distinct p.rows → Refers p.rows → refusals p c ≡ why ∷ later
     → AnsweredCall c p (No why) × HeldCall c p (No why) × CausedCall scenes c p (No why)
 own-call scenes p (call.Free x) why later d refers e = own-free scenes p x why later d refers e
+own-call scenes p (call.Unlink o x) why later d refers e = own-unlink scenes p o x why later e
 own-call scenes p _ why later d refers e = (tt, tt, tt)

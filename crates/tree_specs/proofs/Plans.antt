@@ -82,7 +82,7 @@ follows p (Edit x g) may =
       weight = omega (arith, w);
       number = omega (arith, length-changed g p.rows x);
       burden = omega (arith, b);
-      later = later-changed g p x may.row may.place.serial may.is (λ d. rw (may.mark may.row) d);
+      later = later-changed g p x may.row may.place.serial may.is (λ d. rw (may.mark may.row) d) (λ i. rw (may.mark may.row) i);
     }
 follows p (Add kind o size name) may = record { weight = omega arith; number = omega arith; burden = omega arith; later = later-added p kind o size name }
 follows p (Place o x) may =

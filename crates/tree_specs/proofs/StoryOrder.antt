@@ -1,5 +1,5 @@
 -- Every story is orderly and grounded.
-use Rattle.std.proofs.Common.{ℕ, ◌≤◌, List, [], ◌∷◌, length, Option, sym, subst, map}
+use Rattle.std.proofs.Common.{ℕ, ◌≤◌, List, [], ◌∷◌, length, Option, None, sym, subst, map}
 use Rattle.step_machine.specs.History.{EachFits}
 use Rattle.step_machine.specs.Machine.{Move}
 use Rattle.step_machine.specs.Machine.{Move as Do}
@@ -7,6 +7,7 @@ use Rattle.step_machine.specs.Noted.{noted_move, with_note}
 use Rattle.step_machine.proofs.Ends.{Leads}
 use Rattle.step_machine.proofs.History.{FitsOn, each-fits, EachFits-map, EachFits-weaker}
 use Rattle.tree_specs.specs.declared.question.Input.{Input}
+use Rattle.tree_specs.specs.declared.question.Ask.TheVariants.{Quiet}
 use Rattle.tree_specs.specs.declared.frame.Frame.{Frame}
 use Rattle.tree_specs.specs.declared.frame.Frame.TheVariants as frame
 use Rattle.tree_specs.specs.declared.frame.CallFrame.TheVariants.{Asking, Doing, Awaiting, Warning, Telling, Returning}
@@ -21,6 +22,7 @@ use Rattle.tree_specs.specs.Whole.{Whole}
 use Rattle.tree_specs.specs.Orderly.{Fits, Orderly}
 use Rattle.tree_specs.specs.Grounded.{IsGrounded, Grounded}
 use Rattle.tree_specs.proofs.Means.{noted_table}
+use Rattle.tree_specs.proofs.TextLaws.{all-lawful, accepts-items}
 use Rattle.tree_specs.proofs.Rest.{whole-kept}
 use Rattle.tree_specs.proofs.Causes.{NotedWork, item_of, told}
 use Rattle.tree_specs.proofs.Fine.{work_of, IsFine, Known, FineBy, taken-noted}
@@ -74,7 +76,7 @@ kept scenes w ws p h = both scenes w.work w.note ws p (step w.work p) (whole-kep
 -- nothing is told as yet
 at-first : (first : ℕ) → Known [] asking [] (empty first)
 at-first first = record {
-  past = record { gone = λ x e. cc; dropped = λ x e. cc; spent = λ x e. cc; accounts = tt; all_account = tt };
+  past = record { gone = λ x e. cc; dropped = λ x e. cc; spent = λ x e. cc; idle = λ x. tt; accounts = tt; all_account = tt };
   stacked = tt;
   cause = tt;
 }
@@ -86,5 +88,8 @@ story-fine first is h = subst (EachFits IsFine) (story-walk first is h) (each-fi
 pub story-orderly : (first : ℕ) (is : List Input) → 1 ≤ first → Orderly (items (story first is))
 story-orderly first is h = EachFits-map item_of Fits (story first is) (EachFits-weaker IsFine (λ before s. Fits (told before) s.item) (λ before s f. f.0) (story first is) (story-fine first is h))
 
-pub story-grounded : (first : ℕ) (is : List Input) → 1 ≤ first → Grounded (story first is)
-story-grounded first is h = EachFits-weaker IsFine IsGrounded (λ before s f. f.1) (story first is) (story-fine first is h)
+pub story-grounded : (first : ℕ) (is : List Input) → 1 ≤ first → Grounded (story first is) is
+story-grounded first is h = record {
+  each = EachFits-weaker IsFine IsGrounded (λ before s f. f.1) (story first is) (story-fine first is h);
+  accepts = accepts-items ((all-lawful (turns 0 (length is))).asked Quiet (empty first) None) is;
+}

@@ -1,12 +1,15 @@
 -- Stories that break one rule each, of orderly lists of items and of grounded stories.
-use Rattle.std.specs.Prelude.{List, [], ◌∷◌, Some, None}
+use Rattle.std.specs.Prelude.{ℕ, List, [], ◌∷◌, Some, None}
 use Rattle.tree_specs.specs.declared.object.Obj.{Obj}
 use Rattle.tree_specs.specs.declared.object.Owner.TheVariants.{Root, Of}
 use Rattle.tree_specs.specs.declared.kind.Kind.TheVariants as kind
 use Rattle.tree_specs.specs.declared.row.Mark.TheVariants as mark
 use Rattle.tree_specs.specs.declared.moment.What.TheVariants as what
-use Rattle.tree_specs.specs.declared.call.Call.TheVariants.{Free}
+use Rattle.tree_specs.specs.declared.call.Call.TheVariants.{Free, Unlink, Unhook}
 use Rattle.tree_specs.specs.declared.question.Ask.TheVariants.{Routine}
+use Rattle.tree_specs.specs.declared.question.Act.TheVariants.{Do, Ret}
+use Rattle.tree_specs.specs.declared.question.Input.{Input}
+use Rattle.tree_specs.specs.declared.question.Input.TheVariants.{Act}
 use Rattle.tree_specs.specs.declared.reply.Reply.{Reply}
 use Rattle.tree_specs.specs.declared.reply.Reply.TheVariants.{Ok, No}
 use Rattle.tree_specs.specs.declared.reply.Refusal.TheVariants.{NoSuch, Held, Running, Refused as RefusedBy}
@@ -135,6 +138,10 @@ one_timer = add (empty 1) kind.Timer Root 0 (97 ∷ [])
 abbrev pub answered : Pool → Reply → Scene
 answered p reply = record { item = told (Replied reply); before = p; about = Some (record { call = Free a; start = p }) }
 
+-- the root's interest in it is taken away, and this is answered so over this pool
+abbrev pub unlinked : Pool → Reply → Scene
+unlinked p reply = record { item = told (Replied reply); before = p; about = Some (record { call = Unlink Root a; start = p }) }
+
 abbrev pub seen : Pool → Item → Scene
 seen p item = record { item = item; before = p; about = None }
 
@@ -146,6 +153,14 @@ called_missing = answered one_object (No (NoSuch 1)) ∷ []
 abbrev pub called_by_another_number : List Scene
 called_by_another_number = answered one_object (No (Running b)) ∷ []
 
+abbrev pub unlinked_missing : List Scene
+unlinked_missing = unlinked one_object (No (NoSuch 1)) ∷ []
+
+-- ---- a reply has its call
+
+abbrev pub replied_to_no_call : List Scene
+replied_to_no_call = seen one_object (told (Replied Ok)) ∷ []
+
 -- ---- held exactly where there are references
 
 abbrev pub held_without_references : List Scene
@@ -154,6 +169,9 @@ held_without_references = answered one_object (No (Held a)) ∷ []
 abbrev pub freed_though_held : List Scene
 freed_though_held = answered two_references Ok ∷ []
 
+abbrev pub unlinked_held : List Scene
+unlinked_held = unlinked two_references (No (Held a)) ∷ []
+
 -- ---- refused for a cause
 
 abbrev pub running_though_quiet : List Scene
@@ -161,6 +179,12 @@ running_though_quiet = answered one_object (No (Running a)) ∷ []
 
 abbrev pub refused_unheard : List Scene
 refused_unheard = answered one_object (No (RefusedBy a 1)) ∷ []
+
+abbrev pub unlinked_running_though_quiet : List Scene
+unlinked_running_though_quiet = unlinked one_object (No (Running a)) ∷ []
+
+abbrev pub unlinked_refused_unheard : List Scene
+unlinked_refused_unheard = unlinked one_object (No (RefusedBy a 1)) ∷ []
 
 -- ---- routines start for live objects
 
@@ -178,3 +202,19 @@ accepted_unasked = seen (set_mark one_object a mark.Asked) (told (Accepted a)) �
 
 abbrev pub accepted_while_quiet : List Scene
 accepted_while_quiet = seen one_object asks_a ∷ seen one_object (told (Accepted a)) ∷ []
+
+abbrev pub accepted_while_busy : List Scene
+accepted_while_busy = seen (set_mark one_object a mark.Busy) asks_a ∷ seen (set_mark one_object a mark.Busy) (told (Accepted a)) ∷ []
+
+-- ---- a destructor accepts right after it has returned 0
+
+-- what a destructor does next: it returns a number, or does a call
+abbrev pub returns : ℕ → Input
+returns v = Act (Ret v)
+
+abbrev pub calls : Input
+calls = Act (Do (Unhook a))
+
+-- over the inputs of a destructor that returns another number, or doesn't return at all
+abbrev pub asked_and_accepted : List Scene
+asked_and_accepted = seen (set_mark one_object a mark.Asked) asks_a ∷ seen (set_mark one_object a mark.Asked) (told (Accepted a)) ∷ []

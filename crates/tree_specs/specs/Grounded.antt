@@ -1,9 +1,10 @@
--- When a story is grounded: what it tells of an object agrees with the pool at that time, and has its cause.
+-- When a story over its inputs is grounded: what it tells of an object agrees with the pool at that time, and has its cause.
 use Rattle.tree_specs.specs.Targets.{newest_ref}
-use Rattle.std.specs.Prelude.{◌≡◌, ◌↔◌, Bool, true, false, List, Option, Some, None}
+use Rattle.std.specs.Prelude.{◌≡◌, ◌≢◌, ◌↔◌, Bool, true, false, List, Option, Some, None}
 use Rattle.step_machine.specs.History.{EachFits}
 use Rattle.step_machine.specs.Open.{LastIs}
 use Rattle.tree_specs.specs.declared.object.Obj.{Obj}
+use Rattle.tree_specs.specs.declared.object.Owner.{Owner}
 use Rattle.tree_specs.specs.declared.object.Owner.TheVariants.{Of}
 use Rattle.tree_specs.specs.declared.kind.Kind.{Kind}
 use Rattle.tree_specs.specs.declared.kind.Kind.TheVariants as kind
@@ -13,19 +14,22 @@ use Rattle.tree_specs.specs.declared.row.Mark.TheVariants as mark
 use Rattle.tree_specs.specs.declared.moment.What.{What}
 use Rattle.tree_specs.specs.declared.moment.What.TheVariants as what
 use Rattle.tree_specs.specs.declared.call.Call.{Call}
-use Rattle.tree_specs.specs.declared.call.Call.TheVariants.{Free}
+use Rattle.tree_specs.specs.declared.call.Call.TheVariants.{Free, Unlink}
 use Rattle.tree_specs.specs.declared.reply.Reply.{Reply}
 use Rattle.tree_specs.specs.declared.reply.Reply.TheVariants.{Ok, No}
 use Rattle.tree_specs.specs.declared.reply.Refusal.{Refusal}
 use Rattle.tree_specs.specs.declared.reply.Refusal.TheVariants.{Held, Running, Refused as RefusedBy}
+use Rattle.tree_specs.specs.declared.question.Input.{Input}
 use Rattle.tree_specs.specs.declared.event.Event.TheVariants.{Replied, Fired, Accepted, Refused, Unreferenced}
 use Rattle.tree_specs.specs.Objects.{same}
-use Rattle.tree_specs.specs.Pool.{Pool, row_of, is_object, is_inside}
-use Rattle.tree_specs.specs.Calls.{is_held, is_running}
+use Rattle.tree_specs.specs.Pool.{Pool, row_of, is_object, is_owner, is_inside}
+use Rattle.tree_specs.specs.Calls.{is_held, is_running, is_interested}
 use Rattle.tree_specs.specs.Items.{Item}
 use Rattle.tree_specs.specs.Items.Item.{Told}
 use Rattle.tree_specs.specs.Orderly.{asks_hook}
+use Rattle.tree_specs.specs.Acceptances.{AcceptsAfterReturns}
 use Rattle.tree_specs.specs.Works.{Begun, Scene}
+use Rattle.tree_specs.specs.Story.{items}
 
 -- ---- a live object is freed, or it is said why not
 
@@ -41,14 +45,21 @@ is_answer_of x Ok = true
 is_answer_of x (No why) = is_refusal_of x why
 is_answer_of x r = false
 
+-- an object from which an owner that has an interest in it may take this away
+abbrev pub MayUnlink : Pool → Owner → Obj → Type 0
+MayUnlink start o x = (is_object start.rows x ≡ true) × (is_owner start.rows o ≡ true) × (is_interested start o x ≡ true)
+
 abbrev pub AnsweredCall : Call → Pool → Reply → Type 0
 AnsweredCall (Free x) start r = is_object start.rows x ≡ true → is_answer_of x r ≡ true
+AnsweredCall (Unlink o x) start r = MayUnlink start o x → is_answer_of x r ≡ true
 AnsweredCall c start r = Unit {0}
 
 -- ---- held
 
+-- an object is held in a call to free it exactly where it has references that hold it, and in no unlinking
 abbrev pub HeldCall : Call → Pool → Reply → Type 0
 HeldCall (Free x) start r = (r ≡ No (Held x)) ↔ (is_held start x ≡ true)
+HeldCall (Unlink o x) start r = r ≢ No (Held x)
 HeldCall c start r = Unit {0}
 
 -- ---- running, or refused
@@ -68,6 +79,7 @@ CausedReply before start r = Unit {0}
 
 abbrev pub CausedCall : List Scene → Call → Pool → Reply → Type 0
 CausedCall before (Free x) start r = CausedReply before start r
+CausedCall before (Unlink o x) start r = CausedReply before start r
 CausedCall before c start r = Unit {0}
 
 -- the newest reference to the object was dropped, one from outside
@@ -94,16 +106,30 @@ may_fire_row w (Some r) = may_fire w r.kind r.mark
 abbrev pub AsksHook : Obj → Scene → Type 0
 AsksHook x s = asks_hook x s.item ≡ true
 
--- a routine starts for a live object; a destructor accepts right after it was asked, while its object runs
+abbrev pub is_asked_mark : Mark → Bool
+is_asked_mark mark.Asked = true
+is_asked_mark m = false
+
+abbrev pub is_asked_row : Option Row → Bool
+is_asked_row None = false
+is_asked_row (Some r) = is_asked_mark r.mark
+
+-- its destructor is asked
+abbrev pub is_asked : Pool → Obj → Bool
+is_asked p x = is_asked_row (row_of p.rows x)
+
+-- a routine starts for a live object; a destructor accepts right after a question to it, while its object is asked
 abbrev pub Started : List Scene → Item → Pool → Type 0
 Started before (Told (Fired w x routine)) p = may_fire_row w (row_of p.rows x) ≡ true
-Started before (Told (Accepted x)) p = (is_running p x ≡ true) × LastIs (AsksHook x) before
+Started before (Told (Accepted x)) p = (is_asked p x ≡ true) × LastIs (AsksHook x) before
 Started before item p = Unit {0}
 
 -- ---- a scene
 
+-- what is so of a reply to its call; a reply without its call has no cause
 abbrev pub OfReply : (Call → Pool → Reply → Type 0) → Option Begun → Item → Type 0
 OfReply Q (Some b) (Told (Replied r)) = Q b.call b.start r
+OfReply Q None (Told (Replied r)) = ⊥
 OfReply Q about item = Unit {0}
 
 pub record IsGrounded (before : List Scene) (s : Scene) : Type 0 where
@@ -112,5 +138,7 @@ pub record IsGrounded (before : List Scene) (s : Scene) : Type 0 where
   pub caused : OfReply (CausedCall before) s.about s.item
   pub started : Started before s.item s.before
 
-abbrev pub Grounded : List Scene → Type 0
-Grounded scenes = EachFits IsGrounded scenes
+-- each scene is grounded, and each acceptance comes right after the destructor of that object has returned 0
+pub record Grounded (scenes : List Scene) (is : List Input) : Type 0 where
+  pub each : EachFits IsGrounded scenes
+  pub accepts : AcceptsAfterReturns None (items scenes) is

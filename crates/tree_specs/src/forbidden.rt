@@ -1,6 +1,8 @@
 //! What the rules of orderly and grounded stories forbid: for each rule, stories that break it. So none of the rules
 //! is met by everything.
 
+ghost use Rattle.std.specs.Prelude.{List, [], ◌∷◌};
+ghost use Rattle.tree_specs.specs.declared.question.Input.{Input as InputData};
 ghost use Rattle.tree_specs.specs.Orderly.{Orderly};
 ghost use Rattle.tree_specs.specs.Grounded.{Grounded};
 ghost use Rattle.tree_specs.specs.BadStories as bad;
@@ -50,31 +52,51 @@ pub fn the_states_of_a_request_go_up()
     ensures down { Orderly bad.finished_after_it_was_received → ⊥ }
 {}
 
-/// To free a live object is answered by ok, or by a refusal that names it as held, running or refused.
+/// To free a live object is answered by ok, or by a refusal that names it as held, running or refused; so is it to take
+/// an owner's interest in it away.
 pub fn a_free_of_a_live_object_is_answered()
-    ensures missing { Grounded bad.called_missing → ⊥ }
-    ensures number { Grounded bad.called_by_another_number → ⊥ }
+    ensures missing { (is : List InputData) → Grounded bad.called_missing is → ⊥ }
+    ensures number { (is : List InputData) → Grounded bad.called_by_another_number is → ⊥ }
+    ensures unlinked { (is : List InputData) → Grounded bad.unlinked_missing is → ⊥ }
 {}
 
-/// An object is held exactly where it has references, but for an object of the root with one.
+/// A reply is to a call.
+pub fn a_reply_has_its_call()
+    ensures { (is : List InputData) → Grounded bad.replied_to_no_call is → ⊥ }
+{}
+
+/// An object is held exactly where it has references, but for an object of the root with one, and it isn't held from an
+/// owner that gives it up.
 pub fn only_what_has_references_is_held()
-    ensures held { Grounded bad.held_without_references → ⊥ }
-    ensures freed { Grounded bad.freed_though_held → ⊥ }
+    ensures held { (is : List InputData) → Grounded bad.held_without_references is → ⊥ }
+    ensures freed { (is : List InputData) → Grounded bad.freed_though_held is → ⊥ }
+    ensures unlinked { (is : List InputData) → Grounded bad.unlinked_held is → ⊥ }
 {}
 
-/// A free is refused as running only where the object ran when the call began, and for a destructor's number only
-/// right after this was told.
+/// A free, and an unlinking, is refused as running only where the object ran when the call began, and for a destructor's
+/// number only right after this was told.
 pub fn a_refused_free_has_its_cause()
-    ensures running { Grounded bad.running_though_quiet → ⊥ }
-    ensures refused { Grounded bad.refused_unheard → ⊥ }
+    ensures running { (is : List InputData) → Grounded bad.running_though_quiet is → ⊥ }
+    ensures refused { (is : List InputData) → Grounded bad.refused_unheard is → ⊥ }
+    ensures unlinked_running { (is : List InputData) → Grounded bad.unlinked_running_though_quiet is → ⊥ }
+    ensures unlinked_refused { (is : List InputData) → Grounded bad.unlinked_refused_unheard is → ⊥ }
 {}
 
-/// A handler starts for a live object of its kind, whose turn it is, and a destructor accepts right after it was
-/// asked, while its object runs.
+/// A handler starts for a live object of its kind, whose turn it is, and a destructor accepts right after a question to
+/// it, while its object is asked.
 pub fn routines_start_for_live_objects()
-    ensures missing { Grounded bad.fired_for_no_object → ⊥ }
-    ensures quiet { Grounded bad.fired_while_quiet → ⊥ }
-    ensures kind { Grounded bad.fired_as_another_kind → ⊥ }
-    ensures unasked { Grounded bad.accepted_unasked → ⊥ }
-    ensures stopped { Grounded bad.accepted_while_quiet → ⊥ }
+    ensures missing { (is : List InputData) → Grounded bad.fired_for_no_object is → ⊥ }
+    ensures quiet { (is : List InputData) → Grounded bad.fired_while_quiet is → ⊥ }
+    ensures kind { (is : List InputData) → Grounded bad.fired_as_another_kind is → ⊥ }
+    ensures unasked { (is : List InputData) → Grounded bad.accepted_unasked is → ⊥ }
+    ensures stopped { (is : List InputData) → Grounded bad.accepted_while_quiet is → ⊥ }
+    ensures busy { (is : List InputData) → Grounded bad.accepted_while_busy is → ⊥ }
+{}
+
+/// A destructor accepts right after it has returned 0: not with another number, not after a call, and not before it
+/// has returned.
+pub fn a_destructor_accepts_with_0()
+    ensures number { Grounded bad.asked_and_accepted (bad.returns 5 ∷ []) → ⊥ }
+    ensures call { Grounded bad.asked_and_accepted (bad.calls ∷ []) → ⊥ }
+    ensures open { Grounded bad.asked_and_accepted [] → ⊥ }
 {}

@@ -173,8 +173,9 @@ pub fn every_story_is_orderly()
     ensures { (first : ℕ) (is : List InputData) → 1 ≤ first → Orderly (items (story first is)) }
 {}
 
-/// Every story is grounded: to free a live object succeeds, or is refused while its destructor or handler runs, or
-/// right after its destructor refused, or while it is held.
+/// Every story is grounded: to free a live object, or to take an owner's interest in it away, succeeds, or is refused
+/// while its destructor or handler runs, or right after its destructor refused, or while it is held; and each acceptance
+/// comes right after the object's destructor has returned 0.
 pub fn every_story_is_grounded()
-    ensures { (first : ℕ) (is : List InputData) → 1 ≤ first → Grounded (story first is) }
+    ensures { (first : ℕ) (is : List InputData) → 1 ≤ first → Grounded (story first is) is }
 {}
