@@ -166,9 +166,9 @@ caused p c none = λ scenes. (tt, tt, tt, tt)
 caused-planned : (p : Pool) (c : Call) → Distinct p.rows → Refers p.rows → CausedBy p c (planned p c)
 caused-planned p c d refers = each (refusals p c) refl (own-refused p (tests c))
   where
-    each : (check : Check) → refusals p c ≡ check → AllOwn check → CausedBy p c (unless_refused check (plan p c))
+    each : (check : Check) → refusals p c ≡ check → AllOwn p check → CausedBy p c (unless_refused check (plan p c))
     each [] none own = caused p c none
-    each (why ∷ rest) e own = λ scenes. (let h = own-call scenes p c why rest d refers e in (own-just-now (told scenes) why own.0, h.0, h.1, h.2))
+    each (why ∷ rest) e own = λ scenes. (let h = own-call scenes p c why rest d refers e in (own-just-now (told scenes) p why own.0, h.0, h.1, h.2))
 
 -- a call that needs no free has its reply told
 module _ (scenes : List Scene) (q : Ask) (c : Call) (b : Option Begun) (ws : List NotedWork) (p : Pool) (known : Known scenes (with_note b (frame.Call (Doing q c))) ws p) where

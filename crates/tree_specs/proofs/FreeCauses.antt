@@ -1,7 +1,8 @@
 -- Why a free of the rules' text answers as it does, over every pool and every list of inputs.
-use Rattle.tree_specs.specs.declared.object.Owner.TheVariants.{Of}
+use Rattle.tree_specs.specs.declared.object.Owner.{Owner}
+use Rattle.tree_specs.specs.declared.object.Owner.TheVariants.{Root, Of}
 use Rattle.tree_specs.specs.Targets.{newest_ref}
-use Rattle.std.proofs.Common.{◌≡◌, ℕ, suc, zero, nat_eq, List, [], ◌∷◌, ◌++◌, Option, Some, None, true, refl, sym, ◌∙◌, subst}
+use Rattle.std.proofs.Common.{◌≡◌, ℕ, suc, zero, nat_eq, List, [], ◌∷◌, ◌++◌, Option, Some, None, true, false, refl, sym, ◌∙◌, subst, inl, inr, unwrap_or}
 use Rattle.step_machine.specs.Machine.{tell}
 use Rattle.step_machine.specs.Machine.Outcome.{Ended}
 use Rattle.step_machine.specs.Open.{LastIs}
@@ -10,41 +11,59 @@ use Rattle.tree_specs.specs.declared.object.Obj.{Obj}
 use Rattle.tree_specs.specs.declared.row.Row.{Row}
 use Rattle.tree_specs.specs.declared.row.Mark.{Mark}
 use Rattle.tree_specs.specs.declared.row.Mark.TheVariants as mark
-use Rattle.tree_specs.specs.declared.event.Event.TheVariants.{Accepted, Refused, Freed, Unreferenced}
+use Rattle.tree_specs.specs.declared.event.Event.TheVariants.{Accepted, Refused, Moved, Freed, Unreferenced}
 use Rattle.tree_specs.specs.declared.question.Ask.TheVariants as ask
 use Rattle.tree_specs.specs.declared.question.Input.{Input}
 use Rattle.tree_specs.specs.declared.free_step.FreeReply.{FreeReply}
 use Rattle.tree_specs.specs.declared.free_step.FreeReply.TheVariants as free_reply
-use Rattle.tree_specs.specs.Pool.{Pool, row_of, detach, remove, set_mark, set_hook, is_inside, marked_row}
+use Rattle.tree_specs.specs.Pool.{Pool, row_of, owner_of, newest_ref_of, place, detach, remove, without, set_mark, set_hook, is_inside, marked_row}
 use Rattle.tree_specs.specs.Items.Item.{Told}
 use Rattle.tree_specs.specs.Works.{Scene}
-use Rattle.tree_specs.specs.Story.{hook_moment, free, hooked, judged, leave, children, asked}
+use Rattle.tree_specs.specs.Story.{hook_moment, unlink, release, given, free, hooked, judged, leave, children, asked}
 use Rattle.tree_specs.specs.Grounded.{DropsOutside, IsItem}
 use Rattle.tree_specs.specs.Calls.{is_running}
-use Rattle.tree_specs.proofs.Rows.{row_of-changed-same}
-use Rattle.tree_specs.proofs.Numbered.{by_test}
+use Rattle.tree_specs.specs.Forest.{Distinct}
+use Rattle.tree_specs.proofs.Rows.{row_of-changed-same, row_of-without-same, row_of-without-other, Distinct-without}
+use Rattle.tree_specs.proofs.Numbered.{by_test, same_or_not}
 use Rattle.tree_specs.proofs.Fitting.{last-more}
 
 -- it runs, or a reference from outside was dropped last, or its refusal was told last
-abbrev pub FreeCause : Pool → Obj → List Scene → FreeReply → Type 0
-FreeCause q x told free_reply.Ok = Unit {0}
-FreeCause q x told free_reply.Held = LastIs (DropsOutside x) told
-FreeCause q x told free_reply.Running = is_running q x ≡ true
-FreeCause q x told (free_reply.Refused v) = LastIs (IsItem (Told (Refused x v))) told
+abbrev pub FreeCause : Type 0 → Obj → List Scene → FreeReply → Type 0
+FreeCause Runs x told free_reply.Ok = Unit {0}
+FreeCause Runs x told free_reply.Held = LastIs (DropsOutside x) told
+FreeCause Runs x told free_reply.Running = Runs
+FreeCause Runs x told (free_reply.Refused v) = LastIs (IsItem (Told (Refused x v))) told
+
+-- it runs at the end, as it did at the beginning
+abbrev pub RunsFrom : Pool → Obj → Pool → Type 0
+RunsFrom p x q = (is_running q x ≡ true) × (Distinct p.rows → is_running p x ≡ true)
 
 last-behind : (Q : Scene → Type 0) (s : Scene) (ts : List Scene) → LastIs Q ts → LastIs Q (s ∷ ts)
 last-behind Q s [] h = absurd h
 last-behind Q s (t ∷ ts) h = h
 
-behind-cause : (q : Pool) (x : Obj) (s : Scene) (ts : List Scene) (a : FreeReply) → FreeCause q x ts a → FreeCause q x (s ∷ ts) a
-behind-cause q x s ts free_reply.Ok h = h
-behind-cause q x s ts free_reply.Held h = last-behind (DropsOutside x) s ts h
-behind-cause q x s ts free_reply.Running h = h
-behind-cause q x s ts (free_reply.Refused v) h = last-behind (IsItem (Told (Refused x v))) s ts h
+behind-cause : (Runs Ran : Type 0) (x : Obj) (s : Scene) (ts : List Scene) (a : FreeReply) → (Ran → Runs) → FreeCause Ran x ts a → FreeCause Runs x (s ∷ ts) a
+behind-cause Runs Ran x s ts free_reply.Ok g h = h
+behind-cause Runs Ran x s ts free_reply.Held g h = last-behind (DropsOutside x) s ts h
+behind-cause Runs Ran x s ts free_reply.Running g h = g h
+behind-cause Runs Ran x s ts (free_reply.Refused v) g h = last-behind (IsItem (Told (Refused x v))) s ts h
 
-is-ok : (p : Pool) (x : Obj) (told : List Scene) (a : FreeReply) → a ≡ free_reply.Ok → FreeCause p x told a
-is-ok p x told free_reply.Ok e = tt
-is-ok p x told _ e = cc
+is-ok : (Runs : Type 0) (x : Obj) (told : List Scene) (a : FreeReply) → a ≡ free_reply.Ok → FreeCause Runs x told a
+is-ok Runs x told free_reply.Ok e = tt
+is-ok Runs x told _ e = cc
+
+-- what runs without a reference to it runs with it
+runs-before : (p : Pool) (x r : Obj) (q : Pool) → RunsFrom (remove p r) x q → RunsFrom p x q
+runs-before p x r q h = (
+  h.0,
+  λ d. elim (same_or_not r x) [
+    | inl s ↦
+        let gone : row_of (without p.rows x) x ≡ None = row_of-without-same p.rows x d in
+        let run : is_running (remove p x) x ≡ true = subst (λ (z : Obj). is_running (remove p z) x ≡ true) s (h.1 (Distinct-without p.rows r d)) in
+        let bad : false ≡ true = rw gone at run in cc
+    | inr ne ↦ rw (row_of-without-other p.rows r x ne) at (h.1 (Distinct-without p.rows r d))
+  ],
+)
 
 -- an object that leaves its owner is freed
 leave-ok : (n : ℕ) (x : Obj) (h : ℕ) (p : Pool) (is : List Input) (a : FreeReply) (q : Pool) (ts : List Scene) (left : List Input) → leave n x h p is ≡ Ended a q ts left → a ≡ free_reply.Ok
@@ -55,67 +74,112 @@ leave-ok (suc n) x h p is a q ts left e =
     cc
 
 judged-cause : (n : ℕ) (x : Obj) (h v : ℕ) (p : Pool) (is : List Input) (a : FreeReply) (q : Pool) (ts : List Scene) (left : List Input) → judged n x h v p is ≡ Ended a q ts left
-    → (p0 : Pool) (us : List Scene) → FreeCause p0 x (us ++ ts) a
-judged-cause zero x h v p is a q ts left e p0 us = cc
-judged-cause (suc n) x h v p is a q ts left e p0 us = by_test (nat_eq v 0)
+    → (Runs : Type 0) (us : List Scene) → FreeCause Runs x (us ++ ts) a
+judged-cause zero x h v p is a q ts left e Runs us = cc
+judged-cause (suc n) x h v p is a q ts left e Runs us = by_test (nat_eq v 0)
     (λ t.
     let e' : tell (record { item = Told (Accepted x); before = p; about = None }) (leave n x h (set_hook p x 0) is) ≡ Ended a q ts left = rw t at e in
     let w = ended-tell _ (leave n x h (set_hook p x 0) is) a q ts left e' in
-    is-ok p0 x (us ++ ts) a (leave-ok n x h (set_hook p x 0) is a q w.0 left w.1))
+    is-ok Runs x (us ++ ts) a (leave-ok n x h (set_hook p x 0) is a q w.0 left w.1))
     (λ t.
     let s : Scene = record { item = Told (Refused x v); before = p; about = None } in
     let e' : Ended (free_reply.Refused v) (set_mark p x mark.Quiet) (s ∷ []) is ≡ Ended a q ts left = rw t at e in
     let e1 : free_reply.Refused v ≡ a = cc in
     let e2 : s ∷ [] ≡ ts = cc in
-    subst (FreeCause p0 x (us ++ ts)) e1 (subst (λ (l : List Scene). LastIs (IsItem (Told (Refused x v))) (us ++ l)) e2 (last-more (IsItem (Told (Refused x v))) us s refl)))
+    subst (FreeCause Runs x (us ++ ts)) e1 (subst (λ (l : List Scene). LastIs (IsItem (Told (Refused x v))) (us ++ l)) e2 (last-more (IsItem (Told (Refused x v))) us s refl)))
 
 -- a free with one turn more, where it is so with one turn less
-free-cause-more : (n : ℕ) (x : Obj) → ((p : Pool) (is : List Input) (a : FreeReply) (q : Pool) (ts : List Scene) (left : List Input) → free n x p is ≡ Ended a q ts left → FreeCause q x ts a)
-    → (p : Pool) (is : List Input) (a : FreeReply) (q : Pool) (ts : List Scene) (left : List Input) → free (suc n) x p is ≡ Ended a q ts left → FreeCause q x ts a
+free-cause-more : (n : ℕ) (x : Obj) → ((p : Pool) (is : List Input) (a : FreeReply) (q : Pool) (ts : List Scene) (left : List Input) → free n x p is ≡ Ended a q ts left → FreeCause (RunsFrom p x q) x ts a)
+    → (p : Pool) (is : List Input) (a : FreeReply) (q : Pool) (ts : List Scene) (left : List Input) → free (suc n) x p is ≡ Ended a q ts left → FreeCause (RunsFrom p x q) x ts a
 free-cause-more n x ih p is a q ts left e = newest (newest_ref p.rows x) refl
   where
-    runs : (r : Pool) → is_running r x ≡ true → free (suc n) x p is ≡ Ended free_reply.Running r [] is → FreeCause q x ts a
-    runs r run law =
+    Cause : Type 0
+    Cause = FreeCause (RunsFrom p x q) x ts a
+
+    runs : (r : Pool) → is_running p x ≡ true → is_running r x ≡ true → free (suc n) x p is ≡ Ended free_reply.Running r [] is → Cause
+    runs r ran run law =
         let e' : Ended free_reply.Running r [] is ≡ Ended a q ts left = sym law ∙ e in
         let e1 : free_reply.Running ≡ a = cc in
         let e2 : r ≡ q = cc in
-        subst (FreeCause q x ts) e1 (subst (λ (z : Pool). is_running z x ≡ true) e2 run)
+        subst (FreeCause (RunsFrom p x q) x ts) e1 (subst (λ (z : Pool). is_running z x ≡ true) e2 run, λ d. ran)
 
-    over : free (suc n) x p is ≡ Ended free_reply.Ok p [] is → FreeCause q x ts a
-    over law = let e' : Ended free_reply.Ok p [] is ≡ Ended a q ts left = sym law ∙ e in let e1 : a ≡ free_reply.Ok = cc in is-ok q x ts a e1
+    over : free (suc n) x p is ≡ Ended free_reply.Ok p [] is → Cause
+    over law = let e' : Ended free_reply.Ok p [] is ≡ Ended a q ts left = sym law ∙ e in let e1 : a ≡ free_reply.Ok = cc in is-ok (RunsFrom p x q) x ts a e1
 
-    asks : (m : ℕ) (h : ℕ) (r : Pool) → hooked m x h r is ≡ Ended a q ts left → FreeCause q x ts a
+    asks : (m : ℕ) (h : ℕ) (r : Pool) → hooked m x h r is ≡ Ended a q ts left → Cause
     asks zero h r k = cc
     asks (suc m) h r k =
         let w = ended-followed (asked m (ask.Routine (hook_moment x h)) r is) (λ v r' mid. judged m x h v r' mid) a q ts left k in
-        subst (λ (l : List Scene). FreeCause q x l a) w.7 (judged-cause m x h w.0 w.1 w.4 a q w.3 left w.6 q w.2)
+        subst (λ (l : List Scene). FreeCause (RunsFrom p x q) x l a) w.7 (judged-cause m x h w.0 w.1 w.4 a q w.3 left w.6 (RunsFrom p x q) w.2)
 
-    marks : newest_ref p.rows x ≡ None → (r : Row) (m : Mark) → r.mark ≡ m → row_of p.rows x ≡ Some r → FreeCause q x ts a
+    marks : newest_ref p.rows x ≡ None → (r : Row) (m : Mark) → r.mark ≡ m → row_of p.rows x ≡ Some r → Cause
     marks z r mark.Quiet m k = by_test (nat_eq r.hook 0)
-        (λ t. is-ok q x ts a (leave-ok n x 0 p is a q ts left (rw (z, k, m, t) at e)))
+        (λ t. is-ok (RunsFrom p x q) x ts a (leave-ok n x 0 p is a q ts left (rw (z, k, m, t) at e)))
         (λ t. asks n r.hook (set_mark p x mark.Asked) (rw (z, k, m, t) at e))
-    marks z r mark.Asked m k = runs p (rw (k, m) refl) (rw (z, k, m) refl)
-    marks z r mark.Busy m k = runs (set_mark p x mark.Doomed) (rw (row_of-changed-same (marked_row mark.Doomed) p.rows x r (λ s. refl) k) refl) (rw (z, k, m) refl)
-    marks z r mark.Doomed m k = runs p (rw (k, m) refl) (rw (z, k, m) refl)
+    marks z r mark.Asked m k = runs p (rw (k, m) refl) (rw (k, m) refl) (rw (z, k, m) refl)
+    marks z r mark.Busy m k = runs (set_mark p x mark.Doomed) (rw (k, m) refl) (rw (row_of-changed-same (marked_row mark.Doomed) p.rows x r (λ s. refl) k) refl) (rw (z, k, m) refl)
+    marks z r mark.Doomed m k = runs p (rw (k, m) refl) (rw (k, m) refl) (rw (z, k, m) refl)
     marks z r (mark.Dying former) m k = over (rw (z, k, m) refl)
 
-    each : newest_ref p.rows x ≡ None → (o : Option Row) → row_of p.rows x ≡ o → FreeCause q x ts a
+    each : newest_ref p.rows x ≡ None → (o : Option Row) → row_of p.rows x ≡ o → Cause
     each z None k = over (rw (z, k) refl)
     each z (Some r) k = marks z r r.mark refl k
 
-    newest : (o : Option Obj) → newest_ref p.rows x ≡ o → FreeCause q x ts a
+    newest : (o : Option Obj) → newest_ref p.rows x ≡ o → Cause
     newest None z = each z (row_of p.rows x) refl
     newest (Some r) z =
         let s : Scene = record { item = Told (Unreferenced r x); before = p; about = None } in
         by_test (is_inside p.rows (Of r) (Of x))
         (λ t. let e' : tell s (free n x (remove p r) is) ≡ Ended a q ts left = rw (z, t) at e in
         let w = ended-tell s (free n x (remove p r) is) a q ts left e' in
-        subst (λ (l : List Scene). FreeCause q x l a) w.2 (behind-cause q x s w.0 a (ih (remove p r) is a q w.0 left w.1)))
+        subst (λ (l : List Scene). FreeCause (RunsFrom p x q) x l a) w.2 (behind-cause (RunsFrom p x q) (RunsFrom (remove p r) x q) x s w.0 a (runs-before p x r q) (ih (remove p r) is a q w.0 left w.1)))
         (λ t. let e' : Ended free_reply.Held (remove p r) (s ∷ []) is ≡ Ended a q ts left = rw (z, t) at e in
         let e1 : free_reply.Held ≡ a = cc in
         let e2 : s ∷ [] ≡ ts = cc in
-        subst (FreeCause q x ts) e1 (subst (λ (l : List Scene). LastIs (DropsOutside x) l) e2 (r, refl, z, t)))
+        subst (FreeCause (RunsFrom p x q) x ts) e1 (subst (λ (l : List Scene). LastIs (DropsOutside x) l) e2 (r, refl, z, t)))
 
-pub free-cause : (n : ℕ) (x : Obj) (p : Pool) (is : List Input) (a : FreeReply) (q : Pool) (ts : List Scene) (left : List Input) → free n x p is ≡ Ended a q ts left → FreeCause q x ts a
+pub free-cause : (n : ℕ) (x : Obj) (p : Pool) (is : List Input) (a : FreeReply) (q : Pool) (ts : List Scene) (left : List Input) → free n x p is ≡ Ended a q ts left → FreeCause (RunsFrom p x q) x ts a
 free-cause zero x p is a q ts left e = cc
 free-cause (suc n) x p is a q ts left e = free-cause-more n x (free-cause n x) p is a q ts left e
+
+-- ---- an owner's interest is taken away
+
+-- what is given to another owner isn't refused
+given-ok : (n : ℕ) (x : Obj) (o : Owner) (p : Pool) (is : List Input) (a : FreeReply) (q : Pool) (ts : List Scene) (left : List Input) → given n x o p is ≡ Ended a q ts left → a ≡ free_reply.Ok
+given-ok zero x o p is a q ts left e = cc
+given-ok (suc n) x o p is a q ts left e =
+    let e' : Ended free_reply.Ok (place p o x) (record { item = Told (Moved x o); before = p; about = None } ∷ []) is ≡ Ended a q ts left = e in
+    cc
+
+release-cause-more : (n : ℕ) (x : Obj) → ((p : Pool) (is : List Input) (a : FreeReply) (q : Pool) (ts : List Scene) (left : List Input) → release n x p is ≡ Ended a q ts left → FreeCause (RunsFrom p x q) x ts a)
+    → (p : Pool) (is : List Input) (a : FreeReply) (q : Pool) (ts : List Scene) (left : List Input) → release (suc n) x p is ≡ Ended a q ts left → FreeCause (RunsFrom p x q) x ts a
+release-cause-more n x ih p is a q ts left e = newest (newest_ref p.rows x) refl
+  where
+    newest : (o : Option Obj) → newest_ref p.rows x ≡ o → FreeCause (RunsFrom p x q) x ts a
+    newest None z = free-cause n x p is a q ts left (rw z at e)
+    newest (Some r) z =
+        let s : Scene = record { item = Told (Unreferenced r x); before = p; about = None } in
+        let o : Owner = unwrap_or (owner_of p.rows r) Root in
+        by_test (is_inside p.rows (Of r) (Of x))
+        (λ t. let e' : tell s (release n x (remove p r) is) ≡ Ended a q ts left = rw (z, t) at e in
+        let w = ended-tell s (release n x (remove p r) is) a q ts left e' in
+        subst (λ (l : List Scene). FreeCause (RunsFrom p x q) x l a) w.2
+        (behind-cause (RunsFrom p x q) (RunsFrom (remove p r) x q) x s w.0 a (runs-before p x r q) (ih (remove p r) is a q w.0 left w.1)))
+        (λ t. let e' : tell s (given n x o (remove p r) is) ≡ Ended a q ts left = rw (z, t) at e in
+        let w = ended-tell s (given n x o (remove p r) is) a q ts left e' in
+        is-ok (RunsFrom p x q) x ts a (given-ok n x o (remove p r) is a q w.0 left w.1))
+
+pub release-cause : (n : ℕ) (x : Obj) (p : Pool) (is : List Input) (a : FreeReply) (q : Pool) (ts : List Scene) (left : List Input) → release n x p is ≡ Ended a q ts left → FreeCause (RunsFrom p x q) x ts a
+release-cause zero x p is a q ts left e = cc
+release-cause (suc n) x p is a q ts left e = release-cause-more n x (release-cause n x) p is a q ts left e
+
+pub unlink-cause : (n : ℕ) (o : Owner) (x : Obj) (p : Pool) (is : List Input) (a : FreeReply) (q : Pool) (ts : List Scene) (left : List Input) → unlink n o x p is ≡ Ended a q ts left → FreeCause (RunsFrom p x q) x ts a
+unlink-cause zero o x p is a q ts left e = cc
+unlink-cause (suc n) o x p is a q ts left e = newest (newest_ref_of p.rows o x) refl
+  where
+    newest : (r : Option Obj) → newest_ref_of p.rows o x ≡ r → FreeCause (RunsFrom p x q) x ts a
+    newest None z = release-cause n x p is a q ts left (rw z at e)
+    newest (Some r) z =
+        let e' : Ended free_reply.Ok (remove p r) (record { item = Told (Unreferenced r x); before = p; about = None } ∷ []) is ≡ Ended a q ts left = rw z at e in
+        let e1 : a ≡ free_reply.Ok = cc in
+        is-ok (RunsFrom p x q) x ts a e1

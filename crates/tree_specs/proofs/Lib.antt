@@ -35,3 +35,4 @@ pub mod FineFrees
 pub mod StoryOrder
 pub mod TextLaws
 pub mod FreeCauses
+pub mod RunningCalls

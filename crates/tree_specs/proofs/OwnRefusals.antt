@@ -20,7 +20,7 @@ use Rattle.tree_specs.specs.Targets.{is_reference}
 use Rattle.tree_specs.specs.Items.{Item}
 use Rattle.tree_specs.specs.Items.Item.{Told}
 use Rattle.tree_specs.specs.declared.test.Test.{Test}
-use Rattle.tree_specs.specs.Calls.{Check, row_limit, refuse_if, refusal_of, refused, refusals, over, fits_in, fits, growing, object_row, object, owner, room, given_by, held, is_held}
+use Rattle.tree_specs.specs.Calls.{Check, row_limit, refuse_if, refusal_of, refused, refusals, over, fits_in, fits, growing, object_row, object, owner, room, given_by, held, is_held, is_running}
 use Rattle.tree_specs.specs.declared.test.Test.TheVariants.{IsSmall, IsObject, IsOwner, IsPlain, HasRoom, Fits, MayGrow, IsStaying, IsStill, IsApart, IsUnheld, IsUnreferenced, IsInterested, MayGive}
 use Rattle.tree_specs.specs.Works.{Scene}
 use Rattle.tree_specs.specs.Orderly.{RefusedJustNow}
@@ -28,80 +28,81 @@ use Rattle.tree_specs.specs.Grounded.{AnsweredCall, HeldCall, CausedCall}
 use Rattle.tree_specs.proofs.Numbered.{by_test, same-equal}
 use Rattle.tree_specs.proofs.References.{not-held}
 
--- only a destructor says so
-abbrev pub IsOwn : Refusal → Type 0
-IsOwn (refusal.Refused x v) = ⊥
-IsOwn why = Unit {0}
+-- a destructor's number is no refusal of a call's own, and what is said to run runs
+abbrev pub IsOwn : Pool → Refusal → Type 0
+IsOwn p (refusal.Refused x v) = ⊥
+IsOwn p (refusal.Running x) = is_running p x ≡ true
+IsOwn p why = Unit {0}
 
-abbrev pub AllOwn : Check → Type 0
-AllOwn [] = Unit {0}
-AllOwn (why ∷ later) = IsOwn why × AllOwn later
+abbrev pub AllOwn : Pool → Check → Type 0
+AllOwn p [] = Unit {0}
+AllOwn p (why ∷ later) = IsOwn p why × AllOwn p later
 
-own-both : (first second : Check) → AllOwn first → AllOwn second → AllOwn (first ++ second)
-own-both [] second h k = k
-own-both (why ∷ first) second h k = (h.0, own-both first second h.1 k)
+own-both : (p : Pool) (first second : Check) → AllOwn p first → AllOwn p second → AllOwn p (first ++ second)
+own-both p [] second h k = k
+own-both p (why ∷ first) second h k = (h.0, own-both p first second h.1 k)
 
-own-if : (b : Bool) (why : Refusal) → IsOwn why → AllOwn (refuse_if b why)
-own-if true why h = (h, tt)
-own-if false why h = tt
+own-if : (p : Pool) (b : Bool) (why : Refusal) → (b ≡ true → IsOwn p why) → AllOwn p (refuse_if b why)
+own-if p true why h = (h refl, tt)
+own-if p false why h = tt
 
-own-object : (p : Pool) (x : Obj) → AllOwn (object p x)
+own-object : (p : Pool) (x : Obj) → AllOwn p (object p x)
 own-object p x = each (row_of p.rows x)
   where
-    each : (o : Option Row) → AllOwn (object_row x o)
+    each : (o : Option Row) → AllOwn p (object_row x o)
     each None = (tt, tt)
-    each (Some r) = own-if _ _ tt
+    each (Some r) = own-if p _ _ (λ t. tt)
 
-own-owner : (p : Pool) (o : Owner) → AllOwn (owner p o)
+own-owner : (p : Pool) (o : Owner) → AllOwn p (owner p o)
 own-owner p Root = tt
 own-owner p (Of x) = own-object p x
 
-own-room : (p : Pool) (k : ℕ) → AllOwn (room p k)
+own-room : (p : Pool) (k : ℕ) → AllOwn p (room p k)
 own-room p k =
-    own-both (refuse_if (nat_lt row_limit (length p.rows + k)) (refusal.Full (length p.rows))) (refuse_if (nat_le (2 ^ 64) (p.next + k)) refusal.Spent) (own-if _ _ tt) (own-if _ _ tt)
+    own-both p (refuse_if (nat_lt row_limit (length p.rows + k)) (refusal.Full (length p.rows))) (refuse_if (nat_le (2 ^ 64) (p.next + k)) refusal.Spent) (own-if p _ _ (λ t. tt)) (own-if p _ _ (λ t. tt))
 
-own-fits : (n : ℕ) (rs : List Row) (wanted : ℕ) (o : Option Owner) → AllOwn (fits_in n rs wanted o)
-own-fits n rs wanted None = tt
-own-fits n rs wanted (Some Root) = tt
-own-fits zero rs wanted (Some (Of x)) = tt
-own-fits (suc n) rs wanted (Some (Of x)) = own-both (over rs wanted x) _ (own-if _ _ tt) (own-fits n rs wanted (owner_of rs x))
+own-fits : (p : Pool) (n : ℕ) (rs : List Row) (wanted : ℕ) (o : Option Owner) → AllOwn p (fits_in n rs wanted o)
+own-fits p n rs wanted None = tt
+own-fits p n rs wanted (Some Root) = tt
+own-fits p zero rs wanted (Some (Of x)) = tt
+own-fits p (suc n) rs wanted (Some (Of x)) = own-both p (over rs wanted x) _ (own-if p _ _ (λ t. tt)) (own-fits p n rs wanted (owner_of rs x))
 
-own-below : (p : Pool) (o : Owner) (wanted : ℕ) → AllOwn (fits p o wanted)
+own-below : (p : Pool) (o : Owner) (wanted : ℕ) → AllOwn p (fits p o wanted)
 unfolding fits
-own-below p o wanted = own-fits (length p.rows) p.rows wanted (Some o)
+own-below p o wanted = own-fits p (length p.rows) p.rows wanted (Some o)
 
-own-growing : (p : Pool) (x : Obj) (size : ℕ) → AllOwn (growing p x size)
+own-growing : (p : Pool) (x : Obj) (size : ℕ) → AllOwn p (growing p x size)
 own-growing p x size = by_test (nat_lt (size_at p.rows x) size) (λ t. rw t (own-below p (Of x) (size - size_at p.rows x))) (λ t. rw t tt)
 
-own-given : (p : Pool) (from to : Owner) (x : Obj) → AllOwn (given_by p from to x)
-own-given p from to x = by_test (is_below (owner_of p.rows x) from) (λ t. rw t (own-if _ (refusal.Loop x to) tt)) (λ t. rw t (own-if _ (refusal.NotParent x from) tt))
+own-given : (p : Pool) (from to : Owner) (x : Obj) → AllOwn p (given_by p from to x)
+own-given p from to x = by_test (is_below (owner_of p.rows x) from) (λ t. rw t (own-if p _ (refusal.Loop x to) (λ t. tt))) (λ t. rw t (own-if p _ (refusal.NotParent x from) (λ t. tt)))
 
-own-test : (p : Pool) (t : Test) → AllOwn (refusal_of p t)
-own-test p (IsSmall size) = own-if _ _ tt
+own-test : (p : Pool) (t : Test) → AllOwn p (refusal_of p t)
+own-test p (IsSmall size) = own-if p _ _ (λ t. tt)
 own-test p (IsObject x) = own-object p x
 own-test p (IsOwner o) = own-owner p o
-own-test p (IsPlain x) = own-if _ _ tt
+own-test p (IsPlain x) = own-if p _ _ (λ t. tt)
 own-test p (HasRoom k) = own-room p k
 own-test p (Fits o wanted) = own-below p o wanted
 own-test p (MayGrow x size) = own-growing p x size
-own-test p (IsStaying x) = own-if _ _ tt
-own-test p (IsStill x) = own-if _ _ tt
-own-test p (IsApart x o) = own-if _ _ tt
-own-test p (IsUnheld x) = own-if _ _ tt
-own-test p (IsUnreferenced x) = own-if _ _ tt
-own-test p (IsInterested o x) = own-if _ _ tt
+own-test p (IsStaying x) = own-if p _ _ (λ t. tt)
+own-test p (IsStill x) = own-if p _ _ (λ t. t)
+own-test p (IsApart x o) = own-if p _ _ (λ t. tt)
+own-test p (IsUnheld x) = own-if p _ _ (λ t. tt)
+own-test p (IsUnreferenced x) = own-if p _ _ (λ t. tt)
+own-test p (IsInterested o x) = own-if p _ _ (λ t. tt)
 own-test p (MayGive from to x) = own-given p from to x
 
-pub own-refused : (p : Pool) (ts : List Test) → AllOwn (refused p ts)
+pub own-refused : (p : Pool) (ts : List Test) → AllOwn p (refused p ts)
 own-refused p [] = tt
 own-refused p (t ∷ []) = own-test p t
-own-refused p (t ∷ u ∷ ts) = own-both (refusal_of p t) (refused p (u ∷ ts)) (own-test p t) (own-refused p (u ∷ ts))
+own-refused p (t ∷ u ∷ ts) = own-both p (refusal_of p t) (refused p (u ∷ ts)) (own-test p t) (own-refused p (u ∷ ts))
 
 -- ---- what such a refusal needs: nothing
 
-pub own-just-now : (items : List Item) (why : Refusal) → IsOwn why → RefusedJustNow items (Told (Replied (No why)))
-own-just-now items (refusal.Refused x v) h = absurd h
-own-just-now items _ h = tt
+pub own-just-now : (items : List Item) (p : Pool) (why : Refusal) → IsOwn p why → RefusedJustNow items (Told (Replied (No why)))
+own-just-now items p (refusal.Refused x v) h = absurd h
+own-just-now items p _ h = tt
 
 not-true : (b : Bool) → not b ≡ true → b ≡ false
 not-true true e = cc

@@ -17,6 +17,7 @@ mod name;
 mod object;
 mod octets;
 mod question;
+pub mod refusing;
 mod reply;
 mod report;
 mod row;

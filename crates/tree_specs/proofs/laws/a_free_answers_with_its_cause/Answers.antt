@@ -3,7 +3,7 @@ use Rattle.tree_specs.proofs.FreeCauses.{free-cause}
 use Rattle.tree_specs.proofs.laws.a_free_answers_with_its_cause.Goals as goal
 
 pub returns-clause-running : goal.returns-clause-running
-returns-clause-running c = λ n x p q is left told e. free-cause n x p is Running q told left e
+returns-clause-running c = λ n x p q is left told e. (free-cause n x p is Running q told left e).0
 
 pub returns-clause-refused : goal.returns-clause-refused
 returns-clause-refused c = λ n v x p q is left told e. free-cause n x p is (Refused v) q told left e
