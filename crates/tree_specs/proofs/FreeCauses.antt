@@ -66,7 +66,7 @@ runs-before p x r q h = (
 )
 
 -- an object that leaves its owner is freed
-leave-ok : (n : ℕ) (x : Obj) (h : ℕ) (p : Pool) (is : List Input) (a : FreeReply) (q : Pool) (ts : List Scene) (left : List Input) → leave n x h p is ≡ Ended a q ts left → a ≡ free_reply.Ok
+pub leave-ok : (n : ℕ) (x : Obj) (h : ℕ) (p : Pool) (is : List Input) (a : FreeReply) (q : Pool) (ts : List Scene) (left : List Input) → leave n x h p is ≡ Ended a q ts left → a ≡ free_reply.Ok
 leave-ok zero x h p is a q ts left e = cc
 leave-ok (suc n) x h p is a q ts left e =
     let w = ended-followed (children n x (detach p x) is) (λ b r mid. tell (record { item = Told (Freed x h); before = r; about = None }) (Ended free_reply.Ok (remove r x) [] mid)) a q ts left e in
@@ -145,7 +145,7 @@ free-cause (suc n) x p is a q ts left e = free-cause-more n x (free-cause n x) p
 -- ---- an owner's interest is taken away
 
 -- what is given to another owner isn't refused
-given-ok : (n : ℕ) (x : Obj) (o : Owner) (p : Pool) (is : List Input) (a : FreeReply) (q : Pool) (ts : List Scene) (left : List Input) → given n x o p is ≡ Ended a q ts left → a ≡ free_reply.Ok
+pub given-ok : (n : ℕ) (x : Obj) (o : Owner) (p : Pool) (is : List Input) (a : FreeReply) (q : Pool) (ts : List Scene) (left : List Input) → given n x o p is ≡ Ended a q ts left → a ≡ free_reply.Ok
 given-ok zero x o p is a q ts left e = cc
 given-ok (suc n) x o p is a q ts left e =
     let e' : Ended free_reply.Ok (place p o x) (record { item = Told (Moved x o); before = p; about = None } ∷ []) is ≡ Ended a q ts left = e in

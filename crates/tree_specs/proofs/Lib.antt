@@ -36,3 +36,4 @@ pub mod StoryOrder
 pub mod TextLaws
 pub mod FreeCauses
 pub mod RunningCalls
+pub mod Leaving

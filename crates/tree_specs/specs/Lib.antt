@@ -32,5 +32,7 @@ pub mod Alone
 pub mod Orderly
 pub mod Grounded
 pub mod Acceptances
+pub mod Refusals
 pub mod BadStories
+pub mod BadTexts
 pub mod Listed

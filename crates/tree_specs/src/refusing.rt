@@ -1,33 +1,48 @@
-//! Why calls and frees are refused, over every pool and all inputs: in stories, in acts, and for children.
-ghost use Rattle.std.specs.Prelude.{◌≡◌, ℕ, true, None, Some, List, suc};
+//! Why calls and frees are refused, and what a refusal leaves, over every pool and all inputs: in stories, in acts, and
+//! for children.
+#![tactic(auto)]
+
+ghost use Rattle.std.specs.Prelude.{◌≡◌, ℕ, None, Some, List, []};
+ghost use Rattle.std.specs.Prelude.{suc, ◌∷◌};
 ghost use Rattle.step_machine.specs.Machine.{followed};
 ghost use Rattle.step_machine.specs.Machine.Outcome.{Ended};
 ghost use Rattle.tree_specs.specs.declared.call.Call.{Call as CallData};
-ghost use Rattle.tree_specs.specs.declared.free_step.FreeReply.TheVariants.{Running};
 ghost use Rattle.tree_specs.specs.declared.object.Obj.{Obj as ObjData};
 ghost use Rattle.tree_specs.specs.declared.object.Owner.{Owner as OwnerData};
 ghost use Rattle.tree_specs.specs.declared.object.Owner.TheVariants.{Of};
 ghost use Rattle.tree_specs.specs.declared.question.Input.{Input as InputData};
-ghost use Rattle.tree_specs.specs.declared.reply.Refusal.TheVariants.{Running as IsRunning};
+ghost use Rattle.tree_specs.specs.declared.reply.Refusal.{Refusal as RefusalData};
 ghost use Rattle.tree_specs.specs.declared.reply.Reply.TheVariants.{No};
-ghost use Rattle.tree_specs.specs.Calls.{is_running};
-ghost use Rattle.tree_specs.specs.Forest.{Distinct};
-ghost use Rattle.tree_specs.specs.Plans.{planned};
+ghost use Rattle.tree_specs.specs.Calls.{Check, refusals};
 ghost use Rattle.tree_specs.specs.Pool.{Pool, first_kid, noted_owner, target_at};
-ghost use Rattle.tree_specs.specs.Story.{children, effect, free, tried, unlink};
-ghost use Rattle.tree_specs.specs.Works.{Scene};
+ghost use Rattle.tree_specs.specs.Refusals.{called, SayOnlyWhatRan, RefuseOnlyWhatRan, RefusedChangeNothing, LeftByFree};
+ghost use Rattle.tree_specs.specs.Story.{children, free, tried, unlink};
+ghost use Rattle.tree_specs.specs.BadTexts as bad;
 
 /// Whatever is answered as running ran when this was begun: a free, be it a call's, an act's or the try of a child; the
 /// taking away of an owner's interest; and each call and act.
 pub fn what_is_refused_as_running_ran_at_the_start()
-    ensures free { (n : ℕ) (x : ObjData) (p q : Pool) (is left : List InputData) (told : List Scene) → Distinct p.rows →
-        free n x p is ≡ Ended Running q told left → is_running p x ≡ true }
-    ensures unlink { (n : ℕ) (o : OwnerData) (x : ObjData) (p q : Pool) (is left : List InputData) (told : List Scene) → Distinct p.rows →
-        unlink n o x p is ≡ Ended Running q told left → is_running p x ≡ true }
-    ensures call { (n : ℕ) (c : CallData) (x : ObjData) (p q : Pool) (is left : List InputData) (told : List Scene) → Distinct p.rows →
-        effect (free n) (unlink n) (children n) (planned p c) p is ≡ Ended (No (IsRunning x)) q told left → is_running p x ≡ true }
+    ensures free { (n : ℕ) → SayOnlyWhatRan (free n) }
+    ensures unlink { (n : ℕ) (o : OwnerData) → SayOnlyWhatRan (unlink n o) }
+    ensures call { (n : ℕ) → RefuseOnlyWhatRan (called n) }
 
     // The try of a child is a free of it that begins with the objects as they are then.
     ensures child { (n : ℕ) (x c : ObjData) (p : Pool) (is : List InputData) → first_kid p.rows (Of x) ≡ Some c → target_at p.rows c ≡ None →
         children (suc n) x p is ≡ followed (free n c p is) (λ answer. tried n x c (noted_owner p.rows c) answer) }
+
+    // A text that marks a quiet object as asked and answers that it runs doesn't do.
+    ensures marked { SayOnlyWhatRan bad.marks_a_quiet_object → ⊥ }
+{}
+
+/// A refused call, and a refused act, leaves the pool as it was, tells nothing and asks nothing. Where it is refused by
+/// the free that it did, this may have dropped references to the object; an object whose handler runs is doomed; and
+/// what a destructor did before it refused stays done.
+pub fn a_refused_call_changes_nothing()
+    // A call that doesn't pass a test does nothing at all.
+    ensures at_once { (n : ℕ) (c : CallData) (p : Pool) (is : List InputData) (why : RefusalData) (later : Check) →
+        refusals p c ≡ why ∷ later → called n c p is ≡ Ended (No why) p [] is }
+    ensures call { (n : ℕ) → RefusedChangeNothing (called n) }
+
+    // A text whose steal moves the object though it is refused doesn't do.
+    ensures moved { RefusedChangeNothing bad.steals_though_refused → ⊥ }
 {}
