@@ -34,7 +34,7 @@ use Rattle.tree_specs.specs.Orderly.{Fits, RefusedJustNow}
 use Rattle.tree_specs.specs.Grounded.{IsGrounded, AnsweredCall, HeldCall, CausedCall, IsItem, AsksHook}
 use Rattle.tree_specs.specs.Sound.{AllWait}
 use Rattle.tree_specs.proofs.Numbered.{same-equal}
-use Rattle.tree_specs.proofs.Means.{noted_table}
+use Rattle.tree_specs.specs.Meaning.{noted_table}
 use Rattle.tree_specs.proofs.Later.{later-same}
 use Rattle.tree_specs.proofs.Past.{IsLeaving, Accounts, Past, past-goes}
 use Rattle.tree_specs.proofs.Causes.{NotedWork, item_of, told, IsFreeOf, IsHookOf, IsRunOf, FreesBy, Knows, StandsFor, StandsOn, Stacked, OfNext, IsCaused, Cause, NotHeld}

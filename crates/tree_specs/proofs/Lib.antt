@@ -21,6 +21,7 @@ pub mod Means
 pub mod Load
 pub mod Turns
 pub mod Rest
+pub mod MidStories
 pub mod StoryLaws
 pub mod Later
 pub mod Past

@@ -34,56 +34,11 @@ use Rattle.tree_specs.specs.Plans.{Plan, planned}
 use Rattle.tree_specs.specs.Plans.Plan.{Does, Frees, Unlinks, Empties}
 use Rattle.tree_specs.specs.Works.{Work, Scene, Begun, ◌>>=◌, ◌>>◌, gives, change, tells}
 use Rattle.tree_specs.specs.Story.{free, hooked, judged, leave, children, tried, asked, acting, telling, returning, warning, unlink, release, given}
+use Rattle.tree_specs.specs.Meaning.{noted_table, freed, returned, looped, mean}
 use Rattle.tree_specs.specs.Table.{table, notes, step, lifted, judge_step, loop_step, tried_step, plan_step, refs_step, unlink_step, release_step}
 use Rattle.tree_specs.proofs.Numbered.{by_test}
 
 ruleset laws = (followed-tell, followed-tells, followed-followed)
-
--- the machine whose replies know what they are about
-abbrev pub noted_table : Table (Noted Frame Begun) Answer Pool Input Scene
-noted_table = noted notes table
-
--- a free, and a routine's run, as works of the machine
-abbrev pub freed : Work FreeReply → Work Answer
-freed w = do
-  a ← w
-  gives (Freed a)
-
-abbrev pub returned : Work ℕ → Work Answer
-returned w = do
-  v ← w
-  gives (Returned v)
-
--- what follows the children of an object
-abbrev pub looped : Obj → Purpose → Work (Unit {0}) → Work Answer
-looped x (Removal h) w = do
-  w
-  tells (Told (IsFreed x h))
-  change (λ p. remove p x)
-  gives (Freed Ok)
-looped x Emptying w = do
-  w
-  gives (Freed Ok)
-
--- what a work does, by the text
-abbrev pub mean : ℕ → Frame → Option Begun → Work Answer
-mean n (frame.Call (Asking q)) b = returned (asked n q)
-mean n (frame.Call (Doing q c)) b = returned (acting n q c)
-mean n (frame.Call (Awaiting q x)) b = gives (Freed Ok)
-mean n (frame.Call (Warning q x r)) b = returned (warning n b q x r)
-mean n (frame.Call (Telling q r)) b = returned (telling n b q r)
-mean n (frame.Call (Returning v)) b = returned (returning n v)
-mean n (frame.Free (Unlinking o x)) b = freed (unlink n o x)
-mean n (frame.Free (Releasing x)) b = freed (release n x)
-mean n (frame.Free (Giving x o)) b = freed (given n x o)
-mean n (frame.Free (Beginning x)) b = freed (free n x)
-mean n (frame.Free (Hooked x h)) b = freed (hooked n x h)
-mean n (frame.Free (Judged x h v)) b = freed (judged n x h v)
-mean n (frame.Free (Leaving x h)) b = freed (leave n x h)
-mean n (frame.Free (Looping x purpose)) b = looped x purpose (children n x)
-mean n (frame.Free (Trying x c noted purpose)) b = gives (Freed Ok)
-mean n (frame.Free (Tried x c noted purpose a)) b = looped x purpose (tried n x c noted a)
-mean n (frame.Free (Ending a)) b = gives (Freed a)
 
 abbrev pub noted_mean : ℕ → Noted Frame Begun → Work Answer
 noted_mean n w = mean n w.work w.note

@@ -38,10 +38,10 @@ abbrev pub outcome : View → List Input → Outcome Answer Pool Input Item
 outcome v is = rest table (turns (length v.pool.rows) (length is)) v.innermost v.below v.pool is
 
 -- a bound on the rows that there can be, with k inputs left
-abbrev most : View → ℕ → ℕ
+abbrev pub most : View → ℕ → ℕ
 most v k = length v.pool.rows + 2 * k + 2
 
-well : (v : View) (k : ℕ) → Whole v → Well (most v k) v.innermost v.below v.pool k
+pub well : (v : View) (k : ℕ) → Whole v → Well (most v k) v.innermost v.below v.pool k
 well v k h = (h.sound, omega (arith, pending-most v.innermost))
 
 -- any number of turns above the measure gives the rest
@@ -59,10 +59,14 @@ walk-whole v is h =
     let R : ℕ = most v (length is) in
     enough table (Well R) (cost R) (falls R) (turns (length v.pool.rows) (length is)) v.innermost v.below v.pool is (well v (length is) h) (cost-turns v (length is) h)
 
-pub not-short : (v : View) (is : List Input) → Whole v → NotShort (outcome v is)
-not-short v is h =
+-- as many steps are as good as so many turns
+pub rest-is-walk : (v : View) (is : List Input) → Whole v → walk table (turns (length v.pool.rows) (length is)) v.innermost v.below v.pool is ≡ outcome v is
+rest-is-walk v is h =
     let R : ℕ = most v (length is) in
-    subst NotShort (rest-walk table (Well R) (cost R) (falls R) (turns (length v.pool.rows) (length is)) v.innermost v.below v.pool is (well v (length is) h) (cost-turns v (length is) h)) (walk-whole v is h)
+    rest-walk table (Well R) (cost R) (falls R) (turns (length v.pool.rows) (length is)) v.innermost v.below v.pool is (well v (length is) h) (cost-turns v (length is) h)
+
+pub not-short : (v : View) (is : List Input) → Whole v → NotShort (outcome v is)
+not-short v is h = subst NotShort (rest-is-walk v is h) (walk-whole v is h)
 
 -- ---- what a step keeps
 

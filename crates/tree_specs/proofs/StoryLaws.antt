@@ -24,7 +24,8 @@ use Rattle.tree_specs.specs.View.{View, begin, rest_of}
 use Rattle.tree_specs.specs.Whole.{Whole}
 use Rattle.tree_specs.proofs.Rooted.{forest-none}
 use Rattle.tree_specs.proofs.Turns.{cost-turns}
-use Rattle.tree_specs.proofs.Means.{noted_table, returned, run-means}
+use Rattle.tree_specs.specs.Meaning.{noted_table, returned}
+use Rattle.tree_specs.proofs.Means.{run-means}
 use Rattle.tree_specs.proofs.Rest.{outcome, rest-enough, walk-whole, not-short, ends-asked}
 
 -- a host at its beginning

@@ -21,7 +21,7 @@ use Rattle.tree_specs.specs.Table.{table, notes, step, taken}
 use Rattle.tree_specs.specs.Whole.{Whole}
 use Rattle.tree_specs.specs.Orderly.{Fits, Orderly}
 use Rattle.tree_specs.specs.Grounded.{IsGrounded, Grounded}
-use Rattle.tree_specs.proofs.Means.{noted_table}
+use Rattle.tree_specs.specs.Meaning.{noted_table}
 use Rattle.tree_specs.proofs.TextLaws.{all-lawful, accepts-items}
 use Rattle.tree_specs.proofs.Rest.{whole-kept}
 use Rattle.tree_specs.proofs.Causes.{NotedWork, item_of, told}

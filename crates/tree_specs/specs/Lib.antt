@@ -27,6 +27,7 @@ pub mod Profiles
 pub mod Sound
 pub mod Measure
 pub mod View
+pub mod Meaning
 pub mod Whole
 pub mod Alone
 pub mod Orderly

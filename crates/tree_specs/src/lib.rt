@@ -11,6 +11,7 @@ mod free_step;
 mod kind;
 pub mod laws;
 mod listed;
+pub mod machine;
 mod memory;
 mod moment;
 mod name;

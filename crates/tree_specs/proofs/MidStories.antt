@@ -1,0 +1,86 @@
+-- The story still to come of open works that hold together is that of the rules' text, and the stated turns are enough for it.
+use Rattle.std.proofs.Common.{◌≡◌, ◌≢◌, ℕ, ◌≤◌, List, [], ◌∷◌, length, map, None, refl, sym, ◌∙◌, ap, subst, inl, inr, arith}
+use Rattle.step_machine.specs.Machine.{Outcome, run, rest, walk, pass, map_items, items as told_by}
+use Rattle.step_machine.specs.Machine.Outcome.{Short}
+use Rattle.step_machine.specs.Noted.{Noted, with_note}
+use Rattle.step_machine.proofs.Ends.{NotShort, Below-equal}
+use Rattle.step_machine.proofs.Laws.{Below, Below-followed, walk-rest, pass-short}
+use Rattle.step_machine.proofs.NotedLaws.{noted-run, noted-walk, work_of}
+use Rattle.step_machine.proofs.Open.{items-map_items, NotShort-map_items}
+use Rattle.tree_specs.specs.declared.question.Input.{Input}
+use Rattle.tree_specs.specs.declared.frame.Frame.{Frame}
+use Rattle.tree_specs.specs.declared.frame.Answer.{Answer}
+use Rattle.tree_specs.specs.Pool.{Pool}
+use Rattle.tree_specs.specs.Items.{Item}
+use Rattle.tree_specs.specs.Works.{Scene, Begun}
+use Rattle.tree_specs.specs.Story.{turns, items}
+use Rattle.tree_specs.specs.Table.{table, notes, resume}
+use Rattle.tree_specs.specs.View.{View, rest_of}
+use Rattle.tree_specs.specs.Whole.{Whole}
+use Rattle.tree_specs.specs.Meaning.{noted_table, mean, continued, run_of, text_rest}
+use Rattle.tree_specs.proofs.Means.{run-means}
+use Rattle.tree_specs.proofs.Rest.{most, well, outcome, rest-enough, rest-is-walk, walk-whole, not-short}
+use Rattle.tree_specs.proofs.Turns.{cost-turns}
+
+-- works without a note
+abbrev unnoted : List Frame → List (Noted Frame Begun)
+unnoted fs = map (with_note None) fs
+
+abbrev item_of : Scene → Item
+item_of s = s.item
+
+unnoted-works : (fs : List Frame) → map (work_of notes table) (unnoted fs) ≡ fs
+unnoted-works [] = refl
+unnoted-works (f ∷ fs) = ap (λ (l : List Frame). f ∷ l) (unnoted-works fs)
+
+-- the machine's works that wait make of an end what the text makes of it
+pass-means : (n : ℕ) (fs : List Frame) (o u : Outcome Answer Pool Input Scene) → Below o u → Below (pass noted_table n (unnoted fs) o) (continued n fs u)
+pass-means n [] o u h = h
+pass-means n (f ∷ fs) o u h = Below-followed o u _ _ h (λ a p is. pass-means n fs _ _ (run-means n (with_note None (resume f a)) p is))
+
+-- with the stated turns a run of open works is what the text says of them
+pub text-rest : (v : View) (is : List Input) → Whole v → walk noted_table (turns (length v.pool.rows) (length is)) (with_note None v.innermost) (unnoted v.below) v.pool is ≡ text_rest v is
+text-rest v is h =
+    let n : ℕ = turns (length v.pool.rows) (length is) in
+    let w : Noted Frame Begun = with_note None v.innermost in
+    let ws : List (Noted Frame Begun) = unnoted v.below in
+    let plain = noted-walk notes table n w ws v.pool is ∙ ap (λ (fs : List Frame). walk table n v.innermost fs v.pool is) (unnoted-works v.below) in
+    let whole : NotShort (walk noted_table n w ws v.pool is) = NotShort-map_items item_of _ (subst NotShort (sym plain) (walk-whole v is h)) in
+    let same = Below-equal _ _ whole (walk-rest noted_table n w ws v.pool is) in
+    same ∙ Below-equal _ _ (subst NotShort same whole) (pass-means n v.below _ _ (run-means n w v.pool is))
+
+-- the stated turns are enough for the text
+pub text-enough : (v : View) (is : List Input) → Whole v → text_rest v is ≢ Short
+text-enough v is h e =
+    let n : ℕ = turns (length v.pool.rows) (length is) in
+    let w : Noted Frame Begun = with_note None v.innermost in
+    let ws : List (Noted Frame Begun) = unnoted v.below in
+    let plain = noted-walk notes table n w ws v.pool is ∙ ap (λ (fs : List Frame). walk table n v.innermost fs v.pool is) (unnoted-works v.below) in
+    let short : walk table n v.innermost v.below v.pool is ≡ Short = sym plain ∙ ap (map_items item_of) (text-rest v is h ∙ e) in
+    subst NotShort short (walk-whole v is h)
+
+pub rest-items : (v : View) (is : List Input) → Whole v → rest_of v is ≡ items (told_by (text_rest v is))
+rest-items v is h =
+    let n : ℕ = turns (length v.pool.rows) (length is) in
+    let w : Noted Frame Begun = with_note None v.innermost in
+    let ws : List (Noted Frame Begun) = unnoted v.below in
+    let plain = noted-walk notes table n w ws v.pool is ∙ ap (λ (fs : List Frame). walk table n v.innermost fs v.pool is) (unnoted-works v.below) in
+    ap told_by (sym (rest-is-walk v is h)) ∙ ap told_by (sym plain) ∙ items-map_items item_of (walk noted_table n w ws v.pool is) ∙ ap (λ (o : Outcome Answer Pool Input Scene). items (told_by o)) (text-rest v is h)
+
+-- more turns give the same
+pub rest-more_turns : (v : View) (n : ℕ) (is : List Input) → Whole v → turns (length v.pool.rows) (length is) ≤ n → rest table n v.innermost v.below v.pool is ≡ outcome v is
+rest-more_turns v n is h big =
+    let c = cost-turns v (length is) h in
+    rest-enough (most v (length is)) n v is h (well v (length is) h) (omega (arith, c))
+
+-- what isn't short is as the text has it
+pub not-short-equal : {A P I T : Type 0} (o u : Outcome A P I T) → o ≢ Short → Below o u → o ≡ u
+not-short-equal o u h b = elim b [ inl s ↦ absurd (h s) | inr e ↦ e ]
+
+-- the stated turns are enough for the innermost of open works by itself
+pub innermost-enough : (v : View) (is : List Input) → Whole v → run_of (turns (length v.pool.rows) (length is)) v.innermost v.pool is ≢ Short
+innermost-enough v is h e =
+    let n : ℕ = turns (length v.pool.rows) (length is) in
+    let alone : run table n v.innermost v.pool is ≡ Short = sym (noted-run notes table n (with_note None v.innermost) v.pool is) ∙ ap (map_items item_of) e in
+    let short : outcome v is ≡ Short = ap (λ (o : Outcome Answer Pool Input Item). pass table n v.below o) alone ∙ pass-short table n v.below in
+    subst NotShort short (not-short v is h)

@@ -1,0 +1,20 @@
+use Rattle.std.proofs.Common.{None}
+use Rattle.step_machine.specs.Noted.{with_note}
+use Rattle.tree_specs.specs.declared.frame.Frame.TheVariants.{Free}
+use Rattle.tree_specs.specs.declared.frame.FreeFrame.TheVariants.{Beginning, Unlinking, Looping}
+use Rattle.tree_specs.specs.declared.frame.Purpose.TheVariants.{Emptying}
+use Rattle.tree_specs.proofs.Means.{run-means}
+use Rattle.tree_specs.proofs.MidStories.{not-short-equal, innermost-enough}
+use Rattle.tree_specs.proofs.machine.the_machine_tells_the_text.Goals as goal
+
+pub returns-clause-free : goal.returns-clause-free
+returns-clause-free c = λ n x p is h. not-short-equal _ _ h (run-means n (with_note None (Free (Beginning x))) p is)
+
+pub returns-clause-unlink : goal.returns-clause-unlink
+returns-clause-unlink c = λ n o x p is h. not-short-equal _ _ h (run-means n (with_note None (Free (Unlinking o x))) p is)
+
+pub returns-clause-children : goal.returns-clause-children
+returns-clause-children c = λ n x p is h. not-short-equal _ _ h (run-means n (with_note None (Free (Looping x Emptying))) p is)
+
+pub returns-clause-enough : goal.returns-clause-enough
+returns-clause-enough c = λ v is h. innermost-enough v is h

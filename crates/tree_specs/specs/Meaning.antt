@@ -1,0 +1,91 @@
+-- What each open work is by the rules' text, so that a run of the machine can be compared with it.
+use Rattle.std.specs.Prelude.{ℕ, List, [], ◌∷◌, Option, Some, None, length}
+use Rattle.step_machine.specs.Machine.{Table, Outcome, followed, run}
+use Rattle.step_machine.specs.Noted.{Noted, noted, with_note}
+use Rattle.tree_specs.specs.declared.object.Obj.{Obj}
+use Rattle.tree_specs.specs.declared.event.Event.TheVariants.{Freed as IsFreed}
+use Rattle.tree_specs.specs.declared.question.Input.{Input}
+use Rattle.tree_specs.specs.declared.frame.Frame.{Frame}
+use Rattle.tree_specs.specs.declared.frame.Frame.TheVariants as frame
+use Rattle.tree_specs.specs.declared.frame.CallFrame.TheVariants.{Asking, Doing, Awaiting, Warning, Telling, Returning}
+use Rattle.tree_specs.specs.declared.frame.FreeFrame.{FreeFrame}
+use Rattle.tree_specs.specs.declared.frame.FreeFrame.TheVariants.{Unlinking, Releasing, Giving, Beginning, Hooked, Judged, Leaving, Looping, Trying, Tried, Ending}
+use Rattle.tree_specs.specs.declared.frame.Purpose.{Purpose}
+use Rattle.tree_specs.specs.declared.frame.Purpose.TheVariants.{Removal, Emptying}
+use Rattle.tree_specs.specs.declared.frame.Answer.{Answer}
+use Rattle.tree_specs.specs.declared.frame.Answer.TheVariants.{Freed, Returned}
+use Rattle.tree_specs.specs.declared.free_step.FreeReply.{FreeReply}
+use Rattle.tree_specs.specs.declared.free_step.FreeReply.TheVariants.{Ok}
+use Rattle.tree_specs.specs.Pool.{Pool, remove}
+use Rattle.tree_specs.specs.Items.Item.{Told}
+use Rattle.tree_specs.specs.Works.{Work, Scene, Begun, ◌>>=◌, ◌>>◌, gives, change, tells}
+use Rattle.tree_specs.specs.Story.{free, hooked, judged, leave, children, tried, asked, acting, telling, returning, warning, unlink, release, given, turns}
+use Rattle.tree_specs.specs.Table.{table, notes, resume}
+use Rattle.tree_specs.specs.View.{View}
+
+-- the machine whose replies know what they are about
+abbrev pub noted_table : Table (Noted Frame Begun) Answer Pool Input Scene
+noted_table = noted notes table
+
+-- a free, and a routine's run, as works of the machine
+abbrev pub freed : Work FreeReply → Work Answer
+freed w = do
+  a ← w
+  gives (Freed a)
+
+abbrev pub returned : Work ℕ → Work Answer
+returned w = do
+  v ← w
+  gives (Returned v)
+
+-- what follows the children of an object
+abbrev pub looped : Obj → Purpose → Work (Unit {0}) → Work Answer
+looped x (Removal h) w = do
+  w
+  tells (Told (IsFreed x h))
+  change (λ p. remove p x)
+  gives (Freed Ok)
+looped x Emptying w = do
+  w
+  gives (Freed Ok)
+
+-- what a work does, by the text
+abbrev pub mean : ℕ → Frame → Option Begun → Work Answer
+mean n (frame.Call (Asking q)) b = returned (asked n q)
+mean n (frame.Call (Doing q c)) b = returned (acting n q c)
+mean n (frame.Call (Awaiting q x)) b = gives (Freed Ok)
+mean n (frame.Call (Warning q x r)) b = returned (warning n b q x r)
+mean n (frame.Call (Telling q r)) b = returned (telling n b q r)
+mean n (frame.Call (Returning v)) b = returned (returning n v)
+mean n (frame.Free (Unlinking o x)) b = freed (unlink n o x)
+mean n (frame.Free (Releasing x)) b = freed (release n x)
+mean n (frame.Free (Giving x o)) b = freed (given n x o)
+mean n (frame.Free (Beginning x)) b = freed (free n x)
+mean n (frame.Free (Hooked x h)) b = freed (hooked n x h)
+mean n (frame.Free (Judged x h v)) b = freed (judged n x h v)
+mean n (frame.Free (Leaving x h)) b = freed (leave n x h)
+mean n (frame.Free (Looping x purpose)) b = looped x purpose (children n x)
+mean n (frame.Free (Trying x c noted purpose)) b = gives (Freed Ok)
+mean n (frame.Free (Tried x c noted purpose a)) b = looped x purpose (tried n x c noted a)
+mean n (frame.Free (Ending a)) b = gives (Freed a)
+
+-- ---- runs of the machine
+
+-- a work's run by the table, from its beginning
+abbrev pub run_of : ℕ → Frame → Work Answer
+run_of n f p is = run noted_table n (with_note None f) p is
+
+-- the children of an object are freed, and it stays
+abbrev pub emptied : Work (Unit {0}) → Work Answer
+emptied w = do
+  w
+  gives (Freed Ok)
+
+-- what works that wait make of the end of the one before them, by the text
+abbrev pub continued : ℕ → List Frame → Outcome Answer Pool Input Scene → Outcome Answer Pool Input Scene
+continued n [] o = o
+continued n (f ∷ fs) o = followed o (λ a p is. continued n fs (mean n (resume f a) None p is))
+
+-- the story still to come of these open works, by the text
+abbrev pub text_rest : View → List Input → Outcome Answer Pool Input Scene
+text_rest v is = let n : ℕ = turns (length v.pool.rows) (length is) in continued n v.below (mean n v.innermost None v.pool is)
