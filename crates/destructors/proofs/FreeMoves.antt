@@ -19,18 +19,13 @@ use Rattle.tree_specs.specs.Table.{FreeMove, free_step, begin_step, begin_by, re
 use Rattle.tree_specs.proofs.Numbered.{by_test}
 use Rattle.tree_links.specs.Links.{Links}
 use Rattle.destructors.specs.Room.{work_places}
+use Rattle.destructors.specs.Runs.{IsNews}
 use Rattle.destructors.specs.Engine.{HasRoom}
 
 -- a work that may wait for a free
 abbrev pub IsNoHook : FreeFrame → Type 0
 IsNoHook (Hooked x h) = ⊥
 IsNoHook _ = Unit {0}
-
--- what a free tells while it goes on
-abbrev pub IsNews : FreeStep → Type 0
-IsNews (step.Ask x) = ⊥
-IsNews (step.Done a) = ⊥
-IsNews _ = Unit {0}
 
 -- the work of an object's destructor asks for its run
 abbrev pub AsksFor : FreeStep → FreeFrame → Type 0

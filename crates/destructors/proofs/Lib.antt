@@ -6,4 +6,5 @@ pub mod Keeping
 pub mod Quiet
 pub mod Begins
 pub mod Settling
+pub mod TextRuns
 pub mod Counting

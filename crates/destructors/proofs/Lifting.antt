@@ -19,7 +19,8 @@ use Rattle.tree_specs.specs.Table.{FreeMove, table, free_step, lifted, caller_re
 use Rattle.tree_specs.specs.Story.{hook_moment}
 use Rattle.destructors.specs.Frees.{OpenFrees, answered, moved, moves}
 use Rattle.destructors.specs.Callers.{standing, under}
-use Rattle.destructors.proofs.FreeMoves.{IsNoHook, IsNews, AsksFor, IsMoveOf, is_move}
+use Rattle.destructors.specs.Runs.{IsNews}
+use Rattle.destructors.proofs.FreeMoves.{IsNoHook, AsksFor, IsMoveOf, is_move}
 
 -- a work that waits for a free stands right below it
 pub standing-free : (f : FreeFrame) (fs : List FreeFrame) (cs : List CallFrame) → IsNoHook f → standing (f ∷ fs) cs ≡ frame.Free f ∷ standing fs cs

@@ -14,7 +14,8 @@ use Rattle.destructors.specs.Frees.{OpenFrees, before, frees_of, answered, moved
 use Rattle.tree_specs.specs.Alone.{AwaitsRun}
 use Rattle.destructors.specs.Works.{AtWork, IsAtWork, IsAwaiting, GoesOn}
 use Rattle.destructors.specs.Engine.{AreKept, HasRoom, MayMove, Ready}
-use Rattle.destructors.proofs.FreeMoves.{IsNews, AsksFor, IsMoveOf, is_move}
+use Rattle.destructors.specs.Runs.{IsNews}
+use Rattle.destructors.proofs.FreeMoves.{AsksFor, IsMoveOf, is_move}
 use Rattle.destructors.proofs.Keeping.{kept, told-kept, falls, narrow, free_cost}
 
 -- a work whose next move tells nothing is at work

@@ -6,6 +6,7 @@
 mod dropping;
 mod engine;
 mod heir;
+pub mod laws;
 mod motion;
 mod moves;
 #[cfg(test)]
