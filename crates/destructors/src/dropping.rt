@@ -19,6 +19,7 @@ pub fn drop_ref(reference: Obj, target: Obj, tree: &mut Tree, refs: &mut Refs) -
     ensures told { result ≡ FreeStep.Dropped reference target }
     ensures rows { pool_of tree.new ≡ removed (pool_of tree.old) reference }
     ensures refs { AreRefsOf refs.new.pairs tree.new.rows }
+    ensures places { refs.old.spare ≤ refs.new.spare }
     ensures spare { tree.old.spare ≤ tree.new.spare }
     ensures works { works_of tree.new ≡ works_of tree.old }
 {
@@ -34,6 +35,7 @@ pub fn unlink(owner: Owner, x: Obj, tree: &mut Tree, refs: &mut Refs) -> Motion
     requires refs { AreRefsOf refs.old.pairs tree.old.rows }
     ensures moved { move_of result (pool_of tree.new) ≡ unlink_step x (newest_ref_of tree.old.rows owner x) (pool_of tree.old) }
     ensures refs { AreRefsOf refs.new.pairs tree.new.rows }
+    ensures places { refs.old.spare ≤ refs.new.spare }
     ensures spare { tree.old.spare ≤ tree.new.spare }
     ensures works { works_of tree.new ≡ works_of tree.old }
 {
@@ -51,6 +53,7 @@ pub fn release(x: Obj, tree: &mut Tree, refs: &mut Refs) -> Motion
     requires refs { AreRefsOf refs.old.pairs tree.old.rows }
     ensures moved { move_of result (pool_of tree.new) ≡ release_step x (newest_ref tree.old.rows x) (pool_of tree.old) }
     ensures refs { AreRefsOf refs.new.pairs tree.new.rows }
+    ensures places { refs.old.spare ≤ refs.new.spare }
     ensures spare { tree.old.spare ≤ tree.new.spare }
     ensures works { works_of tree.new ≡ works_of tree.old }
 {
@@ -74,6 +77,7 @@ pub fn hold(x: Obj, reference: Obj, tree: &mut Tree, refs: &mut Refs) -> Motion
     requires refs { AreRefsOf refs.old.pairs tree.old.rows }
     ensures moved { move_of result (pool_of tree.new) ≡ drop_step x reference (pool_of tree.old) }
     ensures refs { AreRefsOf refs.new.pairs tree.new.rows }
+    ensures places { refs.old.spare ≤ refs.new.spare }
     ensures spare { tree.old.spare ≤ tree.new.spare }
     ensures works { works_of tree.new ≡ works_of tree.old }
 {

@@ -87,6 +87,7 @@ impl FreeEngine {
         ensures room { HasRoom self.new tree.new }
         ensures spare { tree.old.spare ≤ tree.new.spare }
         ensures refs { AreRefsOf refs.new.pairs tree.new.rows }
+        ensures places { refs.old.spare ≤ refs.new.spare }
         ensures same { SameRows tree.old.rows tree.new.rows }
     {
         wait(self.innermost, tree);
@@ -108,6 +109,7 @@ impl FreeEngine {
         ensures room { HasRoom self.new tree.new }
         ensures spare { tree.old.spare ≤ tree.new.spare }
         ensures refs { AreRefsOf refs.new.pairs tree.new.rows }
+        ensures places { refs.old.spare ≤ refs.new.spare }
         ensures same { SameRows tree.old.rows tree.new.rows }
     {
         self.begin(tree, refs, FreeFrame::Beginning { x });
@@ -128,6 +130,7 @@ impl FreeEngine {
         ensures room { HasRoom self.new tree.new }
         ensures spare { tree.old.spare ≤ tree.new.spare }
         ensures refs { AreRefsOf refs.new.pairs tree.new.rows }
+        ensures places { refs.old.spare ≤ refs.new.spare }
         ensures same { SameRows tree.old.rows tree.new.rows }
     {
         self.begin(tree, refs, FreeFrame::Unlinking { owner, x });
@@ -145,6 +148,7 @@ impl FreeEngine {
         ensures room { HasRoom self.new tree.new }
         ensures spare { tree.old.spare ≤ tree.new.spare }
         ensures refs { AreRefsOf refs.new.pairs tree.new.rows }
+        ensures places { refs.old.spare ≤ refs.new.spare }
         ensures same { SameRows tree.old.rows tree.new.rows }
     {
         let purpose = Purpose::Emptying;
@@ -210,6 +214,7 @@ impl FreeEngine {
         ensures room { HasRoom self.new tree.new }
         ensures spare { tree.old.spare ≤ tree.new.spare }
         ensures refs { AreRefsOf refs.new.pairs tree.new.rows }
+        ensures places { refs.old.spare ≤ refs.new.spare }
     {
         let Some(work) = self.innermost else {
             unreachable!()

@@ -70,6 +70,7 @@ fn begin_free(x: Obj, tree: &mut Tree, refs: &mut Refs) -> Motion
     ensures spare { tree.old.spare ≤ tree.new.spare }
     ensures works { works_of tree.new ≡ works_of tree.old }
     ensures refs { AreRefsOf refs.new.pairs tree.new.rows }
+    ensures places { refs.old.spare ≤ refs.new.spare }
 {
     match refs.newest(tree, x) {
         Some(reference) => hold(x, reference, tree, refs),
@@ -124,6 +125,7 @@ fn take(x: Obj, child: Obj, purpose: Purpose, tree: &mut Tree, refs: &mut Refs) 
     ensures spare { tree.old.spare ≤ tree.new.spare }
     ensures works { works_of tree.new ≡ works_of tree.old }
     ensures refs { AreRefsOf refs.new.pairs tree.new.rows }
+    ensures places { refs.old.spare ≤ refs.new.spare }
 {
     let Some(target) = refs.target(child) else {
         let noted = noted_owner(child, tree, refs);
@@ -148,6 +150,7 @@ fn look(x: Obj, purpose: Purpose, tree: &mut Tree, refs: &mut Refs) -> Motion
     ensures spare { tree.old.spare ≤ tree.new.spare }
     ensures works { works_of tree.new ≡ works_of tree.old }
     ensures refs { AreRefsOf refs.new.pairs tree.new.rows }
+    ensures places { refs.old.spare ≤ refs.new.spare }
 {
     match tree.first_kid(Owner::Of(x)) {
         Some(child) => take(x, child, purpose, tree, refs),
@@ -205,6 +208,7 @@ pub fn move_once(work: FreeFrame, tree: &mut Tree, refs: &mut Refs) -> Motion
     ensures spare { tree.old.spare ≤ tree.new.spare }
     ensures works { works_of tree.new ≡ works_of tree.old }
     ensures refs { AreRefsOf refs.new.pairs tree.new.rows }
+    ensures places { refs.old.spare ≤ refs.new.spare }
 {
     match work {
         FreeFrame::Unlinking { owner, x } => unlink(owner, x, tree, refs),

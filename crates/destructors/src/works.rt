@@ -92,6 +92,7 @@ pub fn advance(work: FreeFrame, tree: &mut Tree, refs: &mut Refs) -> Progress
     ensures spare { tree.old.spare ≤ tree.new.spare }
     ensures room { length tree.old.frees + tree.old.room ≤ length tree.new.frees + tree.new.room }
     ensures refs { AreRefsOf refs.new.pairs tree.new.rows }
+    ensures places { refs.old.spare ≤ refs.new.spare }
 {
     match move_once(work, tree, refs) {
         Motion::Ends(answer) => end(answer, tree),
@@ -185,6 +186,7 @@ pub fn settle(innermost: Option<FreeFrame>, tree: &mut Tree, refs: &mut Refs) ->
     ensures at_work { IsAtWork (frees_of innermost tree.old) → IsAtWork (frees_of result tree.new) }
     ensures settles { speaking (frees_of result tree.new) ≡ true }
     ensures refs { AreRefsOf refs.new.pairs tree.new.rows }
+    ensures places { refs.old.spare ≤ refs.new.spare }
     ensures spare { tree.old.spare ≤ tree.new.spare }
 {
     let mut innermost = innermost;

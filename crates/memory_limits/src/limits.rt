@@ -1,4 +1,4 @@
-ghost use Rattle.std.specs.Prelude.{◌≡◌};
+ghost use Rattle.std.specs.Prelude.{◌+◌, ◌≡◌};
 
 use crate::allowance::Allowance;
 use crate::change::Change;
@@ -167,6 +167,7 @@ impl Sums {
         ensures limits { (y : ObjData) → limit_of self.new.limited y ≡ (if same x y then max else limit_of self.old.limited y) }
         ensures sums { AllSums self.new.limited tree.now.rows }
         ensures bound { AllBound self.old.limited → AllBound self.new.limited }
+        ensures spare { self.old.spare ≤ self.new.spare + 1 }
     {
         if max == 0 {
             self.gone(x);

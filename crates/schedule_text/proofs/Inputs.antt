@@ -37,6 +37,10 @@ input_again (inputs.Call c) h = rw (calls.call_again c h) refl
 input_again (inputs.Act (acts.Do c)) h = rw (calls.call_again c h) refl
 input_again (inputs.Act (acts.Ret value)) h = rw (number32_field.again value h) refl
 
+-- a line that has an input's text spells this input
+pub input_back : (i : Input) → is_sound i ≡ true → (line : List ℕ) → line ++ newline ≡ input_text i → input_of line ≡ Some i
+input_back i h line e = ap input_of (append_cancel_right line (line_of i) newline (e ∙ input_text-line i)) ∙ input_again i h
+
 -- ---- from a line to an input and back
 
 -- the input is sound, and this is its line

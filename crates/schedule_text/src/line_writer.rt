@@ -1,4 +1,5 @@
-ghost use Rattle.std.specs.Prelude.{◌++◌, IsTrue};
+ghost use Rattle.std.specs.Prelude.{◌≡◌, ◌++◌, ℕ, IsTrue, List, Some};
+ghost use Rattle.tree_specs.specs.Grammar.{input_of};
 ghost use Rattle.tree_specs.specs.Soundness.{is_sound, is_sound_call};
 ghost use Rattle.tree_specs.specs.Text.{call_text, input_text, newline};
 ghost use Rattle.tree_specs.specs.Written.{Writes};
@@ -17,16 +18,26 @@ fn write_call_line(front: &[u8], call: &Call, out: &mut Vec<u8>) -> Result<(), M
     Ok(())
 }
 
-/// Appends the one line of an input, with its LF. Where memory is wanted, a front of it was appended.
+// The one line of an input.
 #[tactic(auto, unfolding(tree_specs::specs::Text::input_text))]
-pub fn write_input(input: &Input, out: &mut Vec<u8>) -> Result<(), Memory>
-    // Each number is in the range of its field.
+fn write_line(input: &Input, out: &mut Vec<u8>) -> Result<(), Memory>
     requires { IsTrue (is_sound input.now) }
-    ensures written { Writes out.old.items out.new.items result (input_text input.now) }
+    ensures { Writes out.old.items out.new.items result (input_text input.now) }
 {
     match input {
         Input::Call(call) => write_call_line(b"call ", call, out),
         Input::Act(Act::Do(call)) => write_call_line(b"act ", call, out),
         Input::Act(Act::Ret(value)) => write_numbers(b"ret", &[u64::from(*value)], b"\n", out),
     }
+}
+
+/// Appends the one line of an input, with its LF. Where memory is wanted, a front of it was appended.
+pub fn write_input(input: &Input, out: &mut Vec<u8>) -> Result<(), Memory>
+    // Each number is in the range of its field.
+    requires { IsTrue (is_sound input.now) }
+    ensures written { Writes out.old.items out.new.items result (input_text input.now) }
+    // The line, without its LF, is read back as the same input.
+    ensures read_back { (line : List ℕ) → line ++ newline ≡ input_text input.now → input_of line ≡ Some input.now }
+{
+    write_line(input, out)
 }
