@@ -36,7 +36,7 @@ use Rattle.destructors.specs.Frees.{OpenFrees, moves, is_event, returned, Silent
 use Rattle.destructors.specs.Works.{AtWork, IsAtWork, IsAwaiting}
 use Rattle.destructors.proofs.Callers.{call-alone, work-alone}
 use Rattle.destructors.specs.Callers.{standing, under, free_view, call_view}
-use Rattle.destructors.proofs.FreeMoves.{IsNews}
+use Rattle.destructors.specs.Runs.{IsNews}
 use Rattle.destructors.proofs.Lifting.{OnTold, OnMove, OnCaller}
 use Rattle.destructors.proofs.Keeping.{told-kept}
 use Rattle.destructors.proofs.Settling.{awaiting-speaks, still, asks-hooked}

@@ -30,7 +30,7 @@ use Rattle.destructors.proofs.Callers.{on-caller}
 use Rattle.destructors.specs.Callers.{under, free_view, call_view}
 use Rattle.destructors.specs.Moves.{IsLiveRow}
 use Rattle.destructors.specs.Engine.{IsAsked}
-use Rattle.destructors.proofs.FreeMoves.{IsNews}
+use Rattle.destructors.specs.Runs.{IsNews}
 use Rattle.destructors.proofs.Keeping.{callers-wait, live-row}
 use Rattle.object_pool.specs.Objects.{Objects, frees_in}
 use Rattle.host_core.specs.declared.active.Active.TheVariants as active

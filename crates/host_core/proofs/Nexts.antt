@@ -16,7 +16,7 @@ use Rattle.tree_specs.specs.Whole.{Whole}
 use Rattle.destructors.specs.Frees.{OpenFrees, is_event, Steps}
 use Rattle.destructors.specs.Works.{GoesOn as FreesGoOn}
 use Rattle.destructors.specs.Callers.{call_view}
-use Rattle.destructors.proofs.FreeMoves.{IsNews}
+use Rattle.destructors.specs.Runs.{IsNews}
 use Rattle.object_pool.specs.Objects.{Objects, frees_in}
 use Rattle.host_core.specs.declared.active.Active.{Active}
 use Rattle.host_core.specs.declared.active.Active.TheVariants as active

@@ -17,7 +17,7 @@ use Rattle.tree_specs.specs.Table.{event_of, caller_resume}
 use Rattle.destructors.specs.Frees.{Steps}
 use Rattle.destructors.specs.Works.{GoesOn}
 use Rattle.destructors.specs.Callers.{call_view}
-use Rattle.destructors.proofs.FreeMoves.{IsNews}
+use Rattle.destructors.specs.Runs.{IsNews}
 use Rattle.object_pool.specs.Objects.{Objects, frees_in}
 use Rattle.host_core.specs.declared.active.Active.{Active}
 use Rattle.host_core.specs.declared.active.Active.TheVariants as active

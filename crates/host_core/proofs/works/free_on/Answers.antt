@@ -1,4 +1,4 @@
-use Rattle.destructors.proofs.FreeMoves.{IsNews}
+use Rattle.destructors.specs.Runs.{IsNews}
 use Rattle.host_core.proofs.Hosting.{other-news}
 use Rattle.host_core.proofs.Stepping.{asks, ends, goes_on}
 use Rattle.host_core.proofs.works.free_on.Goals as goal
