@@ -73,6 +73,12 @@ impl Host {
     ghost use Rattle.tree_specs.specs.Pool.{row_of, is_row, is_inside as inside};
     ghost use Rattle.tree_specs.specs.Sound.{Sound};
     ghost use Rattle.host_core.specs.Promises.{Waits, NextLaw, TakesAnswer};
+    ghost use Rattle.std.specs.Prelude.{List};
+    ghost use Rattle.step_machine.specs.Machine.{items as told_by};
+    ghost use Rattle.tree_specs.specs.declared.question.Input.{Input as InputData};
+    ghost use Rattle.tree_specs.specs.Meaning.{text_rest};
+    ghost use Rattle.tree_specs.specs.Story.{items};
+    ghost use Rattle.tree_specs.specs.View.{rest_of};
 
     /// A host with no objects, whose first one gets the number `first`. It waits for a call.
     #[tactic(auto, using(crate::proofs::Onward::begin_waits))]
@@ -122,6 +128,9 @@ impl Host {
         // the root or a live object, from owner to owner one comes to an end, what a reference refers to is a live
         // plain object, and each dying object is in exactly one open free.
         ensures sound { Sound self.now.innermost self.now.below self.now.pool }
+
+        // At every moment the story still to come is that of the rules' text.
+        ensures text { (is : List InputData) → rest_of self.now is ≡ items (told_by (text_rest self.now is)) }
     {
         self.parts.objects.len() as u64
     }

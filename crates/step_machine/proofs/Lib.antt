@@ -5,3 +5,5 @@ pub mod Lawful
 pub mod NotedLaws
 pub mod Open
 pub mod History
+pub mod Asked
+pub mod MoreTurns
