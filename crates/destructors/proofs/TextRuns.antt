@@ -1,11 +1,12 @@
 -- A free that is driven from its beginning to its end is the free of the rules' text.
-use Rattle.std.proofs.Common.{◌≡◌, ℕ, suc, zero, ◌+◌, List, [], ◌∷◌, ◌++◌, map, Option, Some, None, true, refl, sym, ◌∙◌, ap, subst, arith}
+use Rattle.std.proofs.Common.{◌≡◌, ◌≢◌, ℕ, suc, zero, ◌+◌, List, [], ◌∷◌, ◌++◌, map, Option, Some, None, true, refl, sym, ◌∙◌, ap, subst, arith}
 use Rattle.step_machine.specs.Machine.{Outcome, run, rest, pass, leads, tell, tells, followed, map_items}
 use Rattle.step_machine.specs.Machine.{Move as Do}
 use Rattle.step_machine.specs.Machine.Outcome.{Ended, Waits, Stray, Short}
 use Rattle.step_machine.specs.Noted.{Noted, with_note}
 use Rattle.step_machine.proofs.Ends.{NotShort, Below-equal, run-same}
 use Rattle.step_machine.proofs.Lawful.{append-none}
+use Rattle.step_machine.proofs.MoreTurns.{more-run}
 use Rattle.step_machine.proofs.Laws.{pass-after, rest-more}
 use Rattle.step_machine.proofs.NotedLaws.{noted-run}
 use Rattle.step_machine.proofs.Uses.{uses, tells-ended, ended-followed}
@@ -26,18 +27,25 @@ use Rattle.tree_specs.specs.declared.object.Obj.{Obj}
 use Rattle.tree_specs.specs.declared.object.Owner.{Owner}
 use Rattle.tree_specs.specs.declared.question.Ask.TheVariants.{Routine}
 use Rattle.tree_specs.specs.declared.question.Input.{Input}
-use Rattle.tree_specs.specs.Alone.{AwaitsRun}
+use Rattle.tree_specs.specs.Alone.{AwaitsRun, FreesWait}
 use Rattle.tree_specs.specs.Items.{Item}
 use Rattle.tree_specs.specs.Items.Item.{Told}
-use Rattle.tree_specs.specs.Pool.{Pool}
+use Rattle.tree_specs.specs.Pool.{Pool, target_at}
+use Rattle.tree_specs.specs.Targets.{newest_ref}
 use Rattle.tree_specs.specs.Story.{hook_moment, items, free, unlink, children}
 use Rattle.tree_specs.specs.Works.{Scene, Begun, gives}
 use Rattle.tree_specs.specs.Meaning.{noted_table, mean}
 use Rattle.tree_specs.specs.Table.{FreeMove, table, notes, step, resume, free_step, free_resume, freeing_resume, event_of, lifted}
 use Rattle.tree_specs.proofs.Means.{run-means}
+use Rattle.tree_specs.proofs.MidStories.{innermost-enough}
 use Rattle.destructors.specs.Frees.{OpenFrees, answered, moved, moves, next_of, speaks, speaking, Silently, Still, On, Steps, Begins}
-use Rattle.destructors.specs.Runs.{IsNews, listed, told_of, AwaitsHook, hook_run, told_back, Drives, Over, Tells, Runs, EndsAs}
+use Rattle.destructors.specs.Runs.{IsNews, listed, told_of, AwaitsHook, hook_run, told_back, Drives, Over, Tells, Runs, EndsAs, stated}
 use Rattle.destructors.proofs.FreeMoves.{IsNoHook, AsksFor, IsMoveOf, is_move}
+use Rattle.destructors.specs.Callers.{free_view}
+use Rattle.destructors.specs.Moves.{IsLiveRow}
+use Rattle.destructors.specs.Works.{MayBegin}
+use Rattle.destructors.proofs.Callers.{some_callers, among}
+use Rattle.destructors.proofs.Begins.{begins, may-free, may-unlink, may-empty}
 use Rattle.destructors.proofs.Settling.{still, asks-hooked}
 
 waits-speak : (works : List FreeFrame) (p : Pool) → AwaitsRun works → speaking (record { works = works; pool = p }) ≡ true
@@ -263,8 +271,8 @@ drives-ends below waits s _ _ a q (Runs _ t x h n v p us is ran more _ _ steps h
 -- what was begun ends so by the table
 begun-ends : (f : FreeFrame) (below : List FreeFrame) (p : Pool) (s : OpenFrees) (is : List Input) (told : List Item) (a : FreeReply) (q : Pool) → AwaitsRun below → Begins (f ∷ below) p s → Drives s is told a q
     → (n : ℕ) × (run table n (frame.Free f) p is ≡ Ended (Freed a) q told [])
-begun-ends f below p s is told a q waits begins drives =
-    silently-back below waits a q (record { works = f ∷ below; pool = p }) s is told begins.moves_on (drives-ends below waits s is told a q drives) f [] tt refl
+begun-ends f below p s is told a q waits started drives =
+    silently-back below waits a q (record { works = f ∷ below; pool = p }) s is told started.moves_on (drives-ends below waits s is told a q drives) f [] tt refl
 
 abbrev item_of : Scene → Item
 item_of s = s.item
@@ -282,14 +290,27 @@ scenes-of (Waits ts) a q told e = cc
 scenes-of (Stray ts) a q told e = cc
 scenes-of Short a q told e = cc
 
--- and by the text
-begun-means : (f : FreeFrame) (below : List FreeFrame) (p : Pool) (s : OpenFrees) (is : List Input) (told : List Item) (a : FreeReply) (q : Pool) → AwaitsRun below → Begins (f ∷ below) p s → Drives s is told a q
-    → (n : ℕ) × (scenes : List Scene) × (mean n (frame.Free f) None p is ≡ Ended (Freed a) q scenes []) × (items scenes ≡ told)
-begun-means f below p s is told a q waits begins drives =
-    let r = begun-ends f below p s is told a q waits begins drives in
+no-short : {A P I T U : Type 0} (f : T → U) (o : Outcome A P I T) → map_items f o ≡ Short → o ≡ Short
+no-short f (Ended a p ts is) e = cc
+no-short f (Waits ts) e = cc
+no-short f (Stray ts) e = cc
+no-short f Short e = refl
+
+-- and by the text, with the stated turns
+begun-means : (f : FreeFrame) (below : List FreeFrame) (p : Pool) (s : OpenFrees) (is : List Input) (told : List Item) (a : FreeReply) (q : Pool) → MayBegin f p → FreesWait below p → Begins (f ∷ below) p s → Drives s is told a q
+    → (scenes : List Scene) × (mean (stated p is) (frame.Free f) None p is ≡ Ended (Freed a) q scenes []) × (items scenes ≡ told)
+begun-means f below p s is told a q may waits started drives =
+    let n : ℕ = stated p is in
+    let r = begun-ends f below p s is told a q waits.sound.rests started drives in
     let w : Noted Frame Begun = with_note None (frame.Free f) in
-    let c = scenes-of (run noted_table r.0 w p is) (Freed a) q told (noted-run notes table r.0 w p is ∙ r.1) in
-    (r.0, c.0, sym (Below-equal _ _ (ended-whole _ (Freed a) q c.0 [] c.1) (run-means r.0 w p is)) ∙ c.1, c.2)
+    let whole : run noted_table n w p is ≢ Short = innermost-enough (free_view f below (some_callers below) p) is (among f below p (begins f (record { works = below; pool = p }) may waits)) in
+    let plain : run table n (frame.Free f) p is ≢ Short = λ short. whole (no-short item_of (run noted_table n w p is) (noted-run notes table n w p is ∙ short)) in
+    let ended : run table r.0 (frame.Free f) p is ≢ Short = λ short. let bad : Ended (Freed a) q told [] ≡ Short = sym r.1 ∙ short in cc in
+    let sum : n + r.0 ≡ r.0 + n = omega arith in
+    let same : run table n (frame.Free f) p is ≡ Ended (Freed a) q told [] =
+    sym (more-run table n r.0 (frame.Free f) p is plain) ∙ ap (λ (k : ℕ). run table k (frame.Free f) p is) sum ∙ more-run table r.0 n (frame.Free f) p is ended ∙ r.1 in
+    let c = scenes-of (run noted_table n w p is) (Freed a) q told (noted-run notes table n w p is ∙ same) in
+    (c.0, sym (Below-equal _ _ (ended-whole _ (Freed a) q c.0 [] c.1) (run-means n w p is)) ∙ c.1, c.2)
 
 freed-ends : (o : Outcome FreeReply Pool Input Scene) (a : FreeReply) (q : Pool) (ts : List Scene) → followed o (λ b. gives (Freed b)) ≡ Ended (Freed a) q ts [] → o ≡ Ended a q ts []
 freed-ends o a q ts e =
@@ -311,21 +332,21 @@ emptied-ends o a q ts e =
           ∙ ap (λ (z : List Scene). let y : Outcome (Unit {0}) Pool Input Scene = Ended tt q z w.4 in y) same ∙ ap (λ (z : List Input). let y : Outcome (Unit {0}) Pool Input Scene = Ended tt q ts z in y) e4,
     )
 
-pub free-as_text : (x : Obj) (below : List FreeFrame) (p q : Pool) (s : OpenFrees) (is : List Input) (told : List Item) (a : FreeReply) → AwaitsRun below → Begins (Beginning x ∷ below) p s → Drives s is told a q
-    → EndsAs (λ n. free n x p is) a q told
-free-as_text x below p q s is told a waits begins drives =
-    let m = begun-means (Beginning x) below p s is told a q waits begins drives in
-    (m.0, m.1, freed-ends (free m.0 x p is) a q m.1 m.2, m.3)
+pub free-as_text : (x : Obj) (below : List FreeFrame) (p q : Pool) (s : OpenFrees) (is : List Input) (told : List Item) (a : FreeReply) → FreesWait below p → target_at p.rows x ≡ None → newest_ref p.rows x ≡ None
+    → Begins (Beginning x ∷ below) p s → Drives s is told a q → EndsAs (free (stated p is) x p is) a q told
+free-as_text x below p q s is told a waits object unheld started drives =
+    let m = begun-means (Beginning x) below p s is told a q (may-free x p unheld object) waits started drives in
+    (m.0, freed-ends (free (stated p is) x p is) a q m.0 m.1, m.2)
 
-pub unlink-as_text : (o : Owner) (x : Obj) (below : List FreeFrame) (p q : Pool) (s : OpenFrees) (is : List Input) (told : List Item) (a : FreeReply) → AwaitsRun below → Begins (Unlinking o x ∷ below) p s → Drives s is told a q
-    → EndsAs (λ n. unlink n o x p is) a q told
-unlink-as_text o x below p q s is told a waits begins drives =
-    let m = begun-means (Unlinking o x) below p s is told a q waits begins drives in
-    (m.0, m.1, freed-ends (unlink m.0 o x p is) a q m.1 m.2, m.3)
+pub unlink-as_text : (o : Owner) (x : Obj) (below : List FreeFrame) (p q : Pool) (s : OpenFrees) (is : List Input) (told : List Item) (a : FreeReply) → FreesWait below p → IsLiveRow p x → target_at p.rows x ≡ None
+    → Begins (Unlinking o x ∷ below) p s → Drives s is told a q → EndsAs (unlink (stated p is) o x p is) a q told
+unlink-as_text o x below p q s is told a waits live object started drives =
+    let m = begun-means (Unlinking o x) below p s is told a q (may-unlink o x p live object) waits started drives in
+    (m.0, freed-ends (unlink (stated p is) o x p is) a q m.0 m.1, m.2)
 
-pub children-as_text : (x : Obj) (below : List FreeFrame) (p q : Pool) (s : OpenFrees) (is : List Input) (told : List Item) (a : FreeReply) → AwaitsRun below → Begins (Looping x Emptying ∷ below) p s → Drives s is told a q
-    → (a ≡ Ok) × EndsAs (λ n. children n x p is) tt q told
-children-as_text x below p q s is told a waits begins drives =
-    let m = begun-means (Looping x Emptying) below p s is told a q waits begins drives in
-    let e = emptied-ends (children m.0 x p is) a q m.1 m.2 in
-    (e.0, (m.0, m.1, e.1, m.3))
+pub children-as_text : (x : Obj) (below : List FreeFrame) (p q : Pool) (s : OpenFrees) (is : List Input) (told : List Item) (a : FreeReply) → FreesWait below p
+    → Begins (Looping x Emptying ∷ below) p s → Drives s is told a q → (a ≡ Ok) × EndsAs (children (stated p is) x p is) tt q told
+children-as_text x below p q s is told a waits started drives =
+    let m = begun-means (Looping x Emptying) below p s is told a q (may-empty x p) waits started drives in
+    let e = emptied-ends (children (stated p is) x p is) a q m.0 m.1 in
+    (e.0, (m.0, e.1, m.2))

@@ -1,5 +1,5 @@
 //! What the clauses of the engine's calls come to, each the clause of a function that does nothing.
-ghost use Rattle.std.specs.Prelude.{◌≡◌, ℕ, true, List, [], ◌∷◌};
+ghost use Rattle.std.specs.Prelude.{◌≡◌, ℕ, true, None, List, [], ◌∷◌};
 ghost use Rattle.step_machine.specs.Machine.Outcome.{Ended};
 ghost use Rattle.tree_specs.specs.declared.frame.Answer.TheVariants.{Returned};
 ghost use Rattle.tree_specs.specs.declared.frame.FreeFrame.{FreeFrame as FreeFrameData};
@@ -13,25 +13,29 @@ ghost use Rattle.tree_specs.specs.declared.question.Act.TheVariants.{Ret};
 ghost use Rattle.tree_specs.specs.declared.question.Ask.TheVariants.{Routine};
 ghost use Rattle.tree_specs.specs.declared.question.Input.{Input as InputData};
 ghost use Rattle.tree_specs.specs.declared.question.Input.TheVariants.{Act};
-ghost use Rattle.tree_specs.specs.Alone.{AwaitsRun};
+ghost use Rattle.tree_specs.specs.Alone.{FreesWait};
 ghost use Rattle.tree_specs.specs.Items.{Item};
 ghost use Rattle.tree_specs.specs.Items.Item.{Asked};
-ghost use Rattle.tree_specs.specs.Pool.{Pool};
+ghost use Rattle.tree_specs.specs.Pool.{Pool, target_at};
 ghost use Rattle.tree_specs.specs.Soundness.{is_return};
+ghost use Rattle.tree_specs.specs.Targets.{newest_ref};
 ghost use Rattle.tree_specs.specs.Story.{children, free, hook_moment, unlink};
 ghost use Rattle.destructors.specs.Frees.{Begins, OpenFrees};
-ghost use Rattle.destructors.specs.Runs.{Drives, EndsAs, hook_run};
+ghost use Rattle.destructors.specs.Runs.{Drives, EndsAs, hook_run, stated};
+ghost use Rattle.destructors.specs.Moves.{IsLiveRow};
 
 /// What is driven from its beginning to its `Done`, by `step` and `answer`, is what the rules' text says over the answers
 /// of the destructors that ran, whatever these did to the objects before they returned: its answer, the pool that it
 /// leaves, and all that was told and asked. Other frees may wait for a destructor meanwhile.
 pub fn what_is_driven_to_its_end_is_the_text()
     ensures free { (x : ObjData) (below : List FreeFrameData) (p q : Pool) (s : OpenFrees) (is : List InputData) (told : List Item) (a : FreeReplyData) →
-        AwaitsRun below → Begins (Beginning x ∷ below) p s → Drives s is told a q → EndsAs (λ n. free n x p is) a q told }
+        FreesWait below p → target_at p.rows x ≡ None → newest_ref p.rows x ≡ None → Begins (Beginning x ∷ below) p s → Drives s is told a q →
+        EndsAs (free (stated p is) x p is) a q told }
     ensures unlink { (o : OwnerData) (x : ObjData) (below : List FreeFrameData) (p q : Pool) (s : OpenFrees) (is : List InputData) (told : List Item) (a : FreeReplyData) →
-        AwaitsRun below → Begins (Unlinking o x ∷ below) p s → Drives s is told a q → EndsAs (λ n. unlink n o x p is) a q told }
+        FreesWait below p → IsLiveRow p x → target_at p.rows x ≡ None → Begins (Unlinking o x ∷ below) p s → Drives s is told a q →
+        EndsAs (unlink (stated p is) o x p is) a q told }
     ensures kids { (x : ObjData) (below : List FreeFrameData) (p q : Pool) (s : OpenFrees) (is : List InputData) (told : List Item) (a : FreeReplyData) →
-        AwaitsRun below → Begins (Looping x Emptying ∷ below) p s → Drives s is told a q → (a ≡ Ok) × EndsAs (λ n. children n x p is) tt q told }
+        FreesWait below p → Begins (Looping x Emptying ∷ below) p s → Drives s is told a q → (a ≡ Ok) × EndsAs (children (stated p is) x p is) tt q told }
 {}
 
 /// A destructor that returns at once leaves the objects as they are: it is asked, and returns what it was answered. So
