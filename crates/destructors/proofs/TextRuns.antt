@@ -34,12 +34,12 @@ use Rattle.tree_specs.specs.Pool.{Pool, target_at}
 use Rattle.tree_specs.specs.Targets.{newest_ref}
 use Rattle.tree_specs.specs.Story.{hook_moment, items, free, unlink, children}
 use Rattle.tree_specs.specs.Works.{Scene, Begun, gives}
-use Rattle.tree_specs.specs.Meaning.{noted_table, mean}
+use Rattle.tree_specs.specs.Meaning.{noted_table, mean, stated}
 use Rattle.tree_specs.specs.Table.{FreeMove, table, notes, step, resume, free_step, free_resume, freeing_resume, event_of, lifted}
 use Rattle.tree_specs.proofs.Means.{run-means}
 use Rattle.tree_specs.proofs.MidStories.{innermost-enough}
 use Rattle.destructors.specs.Frees.{OpenFrees, answered, moved, moves, next_of, speaks, speaking, Silently, Still, On, Steps, Begins}
-use Rattle.destructors.specs.Runs.{IsNews, listed, told_of, AwaitsHook, hook_run, told_back, Drives, Over, Tells, Runs, EndsAs, stated}
+use Rattle.destructors.specs.Runs.{IsNews, listed, told_of, AwaitsHook, hook_run, told_back, Drives, Over, Tells, Runs, EndsAs}
 use Rattle.destructors.proofs.FreeMoves.{IsNoHook, AsksFor, IsMoveOf, is_move}
 use Rattle.destructors.specs.Callers.{free_view}
 use Rattle.destructors.specs.Moves.{IsLiveRow}

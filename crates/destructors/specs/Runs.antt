@@ -1,5 +1,5 @@
 -- A free from a moment to its end, as whoever drives the engine sees it: what the steps tell, and how he answers.
-use Rattle.std.specs.Prelude.{◌≡◌, ℕ, List, [], ◌∷◌, ◌++◌, length, Option, Some, None}
+use Rattle.std.specs.Prelude.{◌≡◌, ℕ, List, [], ◌∷◌, ◌++◌, Option, Some, None}
 use Rattle.step_machine.specs.Machine.{Outcome, run}
 use Rattle.step_machine.specs.Machine.Outcome.{Ended}
 use Rattle.tree_specs.specs.declared.frame.Answer.{Answer}
@@ -19,7 +19,7 @@ use Rattle.tree_specs.specs.Pool.{Pool}
 use Rattle.tree_specs.specs.Items.{Item}
 use Rattle.tree_specs.specs.Items.Item.{Told}
 use Rattle.tree_specs.specs.Works.{Scene}
-use Rattle.tree_specs.specs.Story.{hook_moment, items, turns}
+use Rattle.tree_specs.specs.Story.{hook_moment, items}
 use Rattle.tree_specs.specs.Table.{table, event_of}
 use Rattle.destructors.specs.Frees.{OpenFrees, Steps, returned}
 
@@ -63,7 +63,3 @@ pub data Drives : OpenFrees → List Input → List Item → FreeReply → Pool 
 -- the rules' text answers this, leaves this pool and tells these items, and has taken all inputs
 abbrev pub EndsAs : {A : Type 0} → Outcome A Pool Input Scene → A → Pool → List Item → Type 0
 EndsAs text a q told = (scenes : List Scene) × (text ≡ Ended a q scenes []) × (items scenes ≡ told)
-
--- the turns that are stated for these objects and inputs
-abbrev pub stated : Pool → List Input → ℕ
-stated p is = turns (length p.rows) (length is)

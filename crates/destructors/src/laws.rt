@@ -15,13 +15,14 @@ ghost use Rattle.tree_specs.specs.declared.question.Input.{Input as InputData};
 ghost use Rattle.tree_specs.specs.declared.question.Input.TheVariants.{Act};
 ghost use Rattle.tree_specs.specs.Alone.{FreesWait};
 ghost use Rattle.tree_specs.specs.Items.{Item};
+ghost use Rattle.tree_specs.specs.Meaning.{stated};
 ghost use Rattle.tree_specs.specs.Items.Item.{Asked};
 ghost use Rattle.tree_specs.specs.Pool.{Pool, target_at};
 ghost use Rattle.tree_specs.specs.Soundness.{is_return};
 ghost use Rattle.tree_specs.specs.Targets.{newest_ref};
 ghost use Rattle.tree_specs.specs.Story.{children, free, hook_moment, unlink};
 ghost use Rattle.destructors.specs.Frees.{Begins, OpenFrees};
-ghost use Rattle.destructors.specs.Runs.{Drives, EndsAs, hook_run, stated};
+ghost use Rattle.destructors.specs.Runs.{Drives, EndsAs, hook_run};
 ghost use Rattle.destructors.specs.Moves.{IsLiveRow};
 
 /// What is driven from its beginning to its `Done`, by `step` and `answer`, is what the rules' text says over the answers

@@ -76,7 +76,7 @@ impl Host {
     ghost use Rattle.std.specs.Prelude.{List};
     ghost use Rattle.step_machine.specs.Machine.{items as told_by};
     ghost use Rattle.tree_specs.specs.declared.question.Input.{Input as InputData};
-    ghost use Rattle.tree_specs.specs.Meaning.{text_rest};
+    ghost use Rattle.tree_specs.specs.Meaning.{stated, text_rest};
     ghost use Rattle.tree_specs.specs.Story.{items};
     ghost use Rattle.tree_specs.specs.View.{rest_of};
 
@@ -130,7 +130,7 @@ impl Host {
         ensures sound { Sound self.now.innermost self.now.below self.now.pool }
 
         // At every moment the story still to come is that of the rules' text.
-        ensures text { (is : List InputData) → rest_of self.now is ≡ items (told_by (text_rest self.now is)) }
+        ensures text { (is : List InputData) → rest_of self.now is ≡ items (told_by (text_rest (stated self.now.pool is) self.now is)) }
     {
         self.parts.objects.len() as u64
     }

@@ -1,10 +1,11 @@
 -- The story still to come of open works that hold together is that of the rules' text, and the stated turns are enough for it.
-use Rattle.std.proofs.Common.{◌≡◌, ◌≢◌, ℕ, ◌≤◌, List, [], ◌∷◌, length, map, None, refl, sym, ◌∙◌, ap, subst, inl, inr, arith}
+use Rattle.std.proofs.Common.{◌≡◌, ◌≢◌, ℕ, ◌+◌, ◌-◌, ◌≤◌, List, [], ◌∷◌, length, map, None, refl, sym, ◌∙◌, ap, subst, inl, inr, arith}
 use Rattle.step_machine.specs.Machine.{Outcome, run, rest, walk, pass, map_items, items as told_by}
 use Rattle.step_machine.specs.Machine.Outcome.{Short}
 use Rattle.step_machine.specs.Noted.{Noted, with_note}
 use Rattle.step_machine.proofs.Ends.{NotShort, Below-equal}
 use Rattle.step_machine.proofs.Laws.{Below, Below-followed, walk-rest, pass-short}
+use Rattle.step_machine.proofs.MoreTurns.{more-run, more-walk}
 use Rattle.step_machine.proofs.NotedLaws.{noted-run, noted-walk, work_of}
 use Rattle.step_machine.proofs.Open.{items-map_items, NotShort-map_items}
 use Rattle.tree_specs.specs.declared.question.Input.{Input}
@@ -13,14 +14,18 @@ use Rattle.tree_specs.specs.declared.frame.Answer.{Answer}
 use Rattle.tree_specs.specs.Pool.{Pool}
 use Rattle.tree_specs.specs.Items.{Item}
 use Rattle.tree_specs.specs.Works.{Scene, Begun}
-use Rattle.tree_specs.specs.Story.{turns, items}
+use Rattle.tree_specs.specs.Story.{items}
 use Rattle.tree_specs.specs.Table.{table, notes, resume}
 use Rattle.tree_specs.specs.View.{View, rest_of}
 use Rattle.tree_specs.specs.Whole.{Whole}
-use Rattle.tree_specs.specs.Meaning.{noted_table, mean, continued, run_of, text_rest}
+use Rattle.tree_specs.specs.Meaning.{noted_table, mean, continued, run_of, text_rest, stated}
 use Rattle.tree_specs.proofs.Means.{run-means}
-use Rattle.tree_specs.proofs.Rest.{most, well, outcome, rest-enough, rest-is-walk, walk-whole, not-short}
+use Rattle.tree_specs.proofs.Rest.{most, well, outcome, rest-enough, rest-is-walk, walk-whole, walk-long, not-short}
 use Rattle.tree_specs.proofs.Turns.{cost-turns}
+
+not-the-short : {A P I T : Type 0} (o : Outcome A P I T) → NotShort o → o ≢ Short
+not-the-short Short h = absurd h
+not-the-short _ h = λ e. cc
 
 -- works without a note
 abbrev unnoted : List Frame → List (Noted Frame Begun)
@@ -38,37 +43,51 @@ pass-means : (n : ℕ) (fs : List Frame) (o u : Outcome Answer Pool Input Scene)
 pass-means n [] o u h = h
 pass-means n (f ∷ fs) o u h = Below-followed o u _ _ h (λ a p is. pass-means n fs _ _ (run-means n (with_note None (resume f a)) p is))
 
--- with the stated turns a run of open works is what the text says of them
-pub text-rest : (v : View) (is : List Input) → Whole v → walk noted_table (turns (length v.pool.rows) (length is)) (with_note None v.innermost) (unnoted v.below) v.pool is ≡ text_rest v is
-text-rest v is h =
-    let n : ℕ = turns (length v.pool.rows) (length is) in
+-- the machine's run of open works, a step at a time
+abbrev walked : ℕ → View → List Input → Outcome Answer Pool Input Scene
+walked n v is = walk noted_table n (with_note None v.innermost) (unnoted v.below) v.pool is
+
+plain-walk : (n : ℕ) (v : View) (is : List Input) → map_items item_of (walked n v is) ≡ walk table n v.innermost v.below v.pool is
+plain-walk n v is =
+    noted-walk notes table n (with_note None v.innermost) (unnoted v.below) v.pool is ∙ ap (λ (fs : List Frame). walk table n v.innermost fs v.pool is) (unnoted-works v.below)
+
+walked-whole : (n : ℕ) (v : View) (is : List Input) → Whole v → stated v.pool is ≤ n → NotShort (walked n v is)
+walked-whole n v is h big = NotShort-map_items item_of _ (subst NotShort (sym (plain-walk n v is)) (walk-long n v is h big))
+
+-- with turns enough a run of open works is what the text says of them
+text-rest : (n : ℕ) (v : View) (is : List Input) → Whole v → stated v.pool is ≤ n → walked n v is ≡ text_rest n v is
+text-rest n v is h big =
     let w : Noted Frame Begun = with_note None v.innermost in
-    let ws : List (Noted Frame Begun) = unnoted v.below in
-    let plain = noted-walk notes table n w ws v.pool is ∙ ap (λ (fs : List Frame). walk table n v.innermost fs v.pool is) (unnoted-works v.below) in
-    let whole : NotShort (walk noted_table n w ws v.pool is) = NotShort-map_items item_of _ (subst NotShort (sym plain) (walk-whole v is h)) in
-    let same = Below-equal _ _ whole (walk-rest noted_table n w ws v.pool is) in
+    let whole : NotShort (walked n v is) = walked-whole n v is h big in
+    let same = Below-equal _ _ whole (walk-rest noted_table n w (unnoted v.below) v.pool is) in
     same ∙ Below-equal _ _ (subst NotShort same whole) (pass-means n v.below _ _ (run-means n w v.pool is))
 
 -- the stated turns are enough for the text
-pub text-enough : (v : View) (is : List Input) → Whole v → text_rest v is ≢ Short
+pub text-enough : (v : View) (is : List Input) → Whole v → text_rest (stated v.pool is) v is ≢ Short
 text-enough v is h e =
-    let n : ℕ = turns (length v.pool.rows) (length is) in
-    let w : Noted Frame Begun = with_note None v.innermost in
-    let ws : List (Noted Frame Begun) = unnoted v.below in
-    let plain = noted-walk notes table n w ws v.pool is ∙ ap (λ (fs : List Frame). walk table n v.innermost fs v.pool is) (unnoted-works v.below) in
-    let short : walk table n v.innermost v.below v.pool is ≡ Short = sym plain ∙ ap (map_items item_of) (text-rest v is h ∙ e) in
+    let n : ℕ = stated v.pool is in
+    let short : walk table n v.innermost v.below v.pool is ≡ Short = sym (plain-walk n v is) ∙ ap (map_items item_of) (text-rest n v is h (omega arith) ∙ e) in
     subst NotShort short (walk-whole v is h)
 
-pub rest-items : (v : View) (is : List Input) → Whole v → rest_of v is ≡ items (told_by (text_rest v is))
-rest-items v is h =
-    let n : ℕ = turns (length v.pool.rows) (length is) in
-    let w : Noted Frame Begun = with_note None v.innermost in
-    let ws : List (Noted Frame Begun) = unnoted v.below in
-    let plain = noted-walk notes table n w ws v.pool is ∙ ap (λ (fs : List Frame). walk table n v.innermost fs v.pool is) (unnoted-works v.below) in
-    ap told_by (sym (rest-is-walk v is h)) ∙ ap told_by (sym plain) ∙ items-map_items item_of (walk noted_table n w ws v.pool is) ∙ ap (λ (o : Outcome Answer Pool Input Scene). items (told_by o)) (text-rest v is h)
+-- and more turns give the same
+pub text-more : (v : View) (n : ℕ) (is : List Input) → Whole v → stated v.pool is ≤ n → text_rest n v is ≡ text_rest (stated v.pool is) v is
+text-more v n is h big =
+    let m : ℕ = stated v.pool is in
+    let sum : m + (n - m) ≡ n = omega arith in
+    let enough : walked m v is ≢ Short = not-the-short _ (walked-whole m v is h (omega arith)) in
+    sym (text-rest n v is h big)
+    ∙ ap (λ (k : ℕ). walked k v is) (sym sum)
+    ∙ more-walk noted_table m (n - m) (with_note None v.innermost) (unnoted v.below) v.pool is enough
+    ∙ text-rest m v is h (omega arith)
 
--- more turns give the same
-pub rest-more_turns : (v : View) (n : ℕ) (is : List Input) → Whole v → turns (length v.pool.rows) (length is) ≤ n → rest table n v.innermost v.below v.pool is ≡ outcome v is
+pub rest-items : (v : View) (is : List Input) → Whole v → rest_of v is ≡ items (told_by (text_rest (stated v.pool is) v is))
+rest-items v is h =
+    let n : ℕ = stated v.pool is in
+    ap told_by (sym (rest-is-walk v is h)) ∙ ap told_by (sym (plain-walk n v is)) ∙ items-map_items item_of (walked n v is)
+    ∙ ap (λ (o : Outcome Answer Pool Input Scene). items (told_by o)) (text-rest n v is h (omega arith))
+
+-- so do more turns of the table
+pub rest-more_turns : (v : View) (n : ℕ) (is : List Input) → Whole v → stated v.pool is ≤ n → rest table n v.innermost v.below v.pool is ≡ outcome v is
 rest-more_turns v n is h big =
     let c = cost-turns v (length is) h in
     rest-enough (most v (length is)) n v is h (well v (length is) h) (omega (arith, c))
@@ -78,9 +97,16 @@ pub not-short-equal : {A P I T : Type 0} (o u : Outcome A P I T) → o ≢ Short
 not-short-equal o u h b = elim b [ inl s ↦ absurd (h s) | inr e ↦ e ]
 
 -- the stated turns are enough for the innermost of open works by itself
-pub innermost-enough : (v : View) (is : List Input) → Whole v → run_of (turns (length v.pool.rows) (length is)) v.innermost v.pool is ≢ Short
+pub innermost-enough : (v : View) (is : List Input) → Whole v → run_of (stated v.pool is) v.innermost v.pool is ≢ Short
 innermost-enough v is h e =
-    let n : ℕ = turns (length v.pool.rows) (length is) in
+    let n : ℕ = stated v.pool is in
     let alone : run table n v.innermost v.pool is ≡ Short = sym (noted-run notes table n (with_note None v.innermost) v.pool is) ∙ ap (map_items item_of) e in
     let short : outcome v is ≡ Short = ap (λ (o : Outcome Answer Pool Input Item). pass table n v.below o) alone ∙ pass-short table n v.below in
     subst NotShort short (not-short v is h)
+
+-- and more turns give the same
+pub innermost-more : (v : View) (n : ℕ) (is : List Input) → Whole v → stated v.pool is ≤ n → run_of n v.innermost v.pool is ≡ run_of (stated v.pool is) v.innermost v.pool is
+innermost-more v n is h big =
+    let m : ℕ = stated v.pool is in
+    let sum : m + (n - m) ≡ n = omega arith in
+    ap (λ (k : ℕ). run_of k v.innermost v.pool is) (sym sum) ∙ more-run noted_table m (n - m) (with_note None v.innermost) v.pool is (innermost-enough v is h)

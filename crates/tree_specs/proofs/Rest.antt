@@ -1,5 +1,5 @@
 -- The laws of the story still to come.
-use Rattle.std.proofs.Common.{◌≡◌, ℕ, suc, zero, ◌+◌, ◌*◌, ◌<◌, List, [], ◌∷◌, length, Option, Some, None, refl, sym, ◌∙◌, ap, subst, arith}
+use Rattle.std.proofs.Common.{◌≡◌, ℕ, suc, zero, ◌+◌, ◌*◌, ◌<◌, ◌≤◌, List, [], ◌∷◌, length, Option, Some, None, refl, sym, ◌∙◌, ap, subst, arith}
 use Rattle.step_machine.specs.Machine.{Move, Outcome, State, silent, tell, given, asks, leads, rest, walk, items as told_by}
 use Rattle.step_machine.specs.Machine.{Move as Do}
 use Rattle.step_machine.specs.Machine.Outcome.{Ended, Waits, Stray, Short}
@@ -58,6 +58,13 @@ pub walk-whole : (v : View) (is : List Input) → Whole v → NotShort (walk tab
 walk-whole v is h =
     let R : ℕ = most v (length is) in
     enough table (Well R) (cost R) (falls R) (turns (length v.pool.rows) (length is)) v.innermost v.below v.pool is (well v (length is) h) (cost-turns v (length is) h)
+
+-- and so are more
+pub walk-long : (n : ℕ) (v : View) (is : List Input) → Whole v → turns (length v.pool.rows) (length is) ≤ n → NotShort (walk table n v.innermost v.below v.pool is)
+walk-long n v is h big =
+    let R : ℕ = most v (length is) in
+    let c = cost-turns v (length is) h in
+    enough table (Well R) (cost R) (falls R) n v.innermost v.below v.pool is (well v (length is) h) (omega (arith, c))
 
 -- as many steps are as good as so many turns
 pub rest-is-walk : (v : View) (is : List Input) → Whole v → walk table (turns (length v.pool.rows) (length is)) v.innermost v.below v.pool is ≡ outcome v is

@@ -86,6 +86,10 @@ abbrev pub continued : ℕ → List Frame → Outcome Answer Pool Input Scene �
 continued n [] o = o
 continued n (f ∷ fs) o = followed o (λ a p is. continued n fs (mean n (resume f a) None p is))
 
--- the story still to come of these open works, by the text
-abbrev pub text_rest : View → List Input → Outcome Answer Pool Input Scene
-text_rest v is = let n : ℕ = turns (length v.pool.rows) (length is) in continued n v.below (mean n v.innermost None v.pool is)
+-- the story still to come of these open works, by the text, in so many turns
+abbrev pub text_rest : ℕ → View → List Input → Outcome Answer Pool Input Scene
+text_rest n v is = continued n v.below (mean n v.innermost None v.pool is)
+
+-- the turns that are stated for these objects and inputs
+abbrev pub stated : Pool → List Input → ℕ
+stated p is = turns (length p.rows) (length is)

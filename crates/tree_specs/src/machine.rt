@@ -1,7 +1,7 @@
 //! The machine tells the rules' text: from the beginning of each free, and from every moment on.
 #![tactic(auto)]
 
-ghost use Rattle.std.specs.Prelude.{◌≡◌, ◌≢◌, ◌≤◌, ℕ, List, length};
+ghost use Rattle.std.specs.Prelude.{◌≡◌, ◌≢◌, ◌≤◌, ℕ, List};
 ghost use Rattle.step_machine.specs.Machine.{items as told_by, rest};
 ghost use Rattle.step_machine.specs.Machine.Outcome.{Short};
 ghost use Rattle.tree_specs.specs.declared.frame.Frame.TheVariants.{Free};
@@ -10,9 +10,9 @@ ghost use Rattle.tree_specs.specs.declared.frame.Purpose.TheVariants.{Emptying};
 ghost use Rattle.tree_specs.specs.declared.object.Obj.{Obj as ObjData};
 ghost use Rattle.tree_specs.specs.declared.object.Owner.{Owner as OwnerData};
 ghost use Rattle.tree_specs.specs.declared.question.Input.{Input as InputData};
-ghost use Rattle.tree_specs.specs.Meaning.{emptied, freed, run_of, text_rest};
+ghost use Rattle.tree_specs.specs.Meaning.{emptied, freed, run_of, stated, text_rest};
 ghost use Rattle.tree_specs.specs.Pool.{Pool};
-ghost use Rattle.tree_specs.specs.Story.{children, free, items, turns, unlink};
+ghost use Rattle.tree_specs.specs.Story.{children, free, items, unlink};
 ghost use Rattle.tree_specs.specs.Table.{table};
 ghost use Rattle.tree_specs.specs.View.{View, rest_of};
 ghost use Rattle.tree_specs.specs.Whole.{Whole};
@@ -28,15 +28,17 @@ pub fn the_machine_tells_the_text()
     ensures children { (n : ℕ) (x : ObjData) (p : Pool) (is : List InputData) → run_of n (Free (Looping x Emptying)) p is ≢ Short →
         run_of n (Free (Looping x Emptying)) p is ≡ emptied (children n x) p is }
 
-    // The stated turns are enough for the innermost of open works that hold together.
-    ensures enough { (v : View) (is : List InputData) → Whole v → run_of (turns (length v.pool.rows) (length is)) v.innermost v.pool is ≢ Short }
+    // The stated turns are enough for the innermost of open works that hold together, and more give the same.
+    ensures enough { (v : View) (is : List InputData) → Whole v → run_of (stated v.pool is) v.innermost v.pool is ≢ Short }
+    ensures same { (v : View) (n : ℕ) (is : List InputData) → Whole v → stated v.pool is ≤ n → run_of n v.innermost v.pool is ≡ run_of (stated v.pool is) v.innermost v.pool is }
 {}
 
 /// At every moment of a host, for any pool and open works that hold together, the stated number of turns is enough, more
 /// turns give the same, and the story still to come is that of the text.
 pub fn turns_are_enough_at_every_moment()
-    ensures enough { (v : View) (is : List InputData) → Whole v → text_rest v is ≢ Short }
-    ensures same { (v : View) (n : ℕ) (is : List InputData) → Whole v → turns (length v.pool.rows) (length is) ≤ n →
-        rest table n v.innermost v.below v.pool is ≡ rest table (turns (length v.pool.rows) (length is)) v.innermost v.below v.pool is }
-    ensures text { (v : View) (is : List InputData) → Whole v → rest_of v is ≡ items (told_by (text_rest v is)) }
+    ensures enough { (v : View) (is : List InputData) → Whole v → text_rest (stated v.pool is) v is ≢ Short }
+    ensures same { (v : View) (n : ℕ) (is : List InputData) → Whole v → stated v.pool is ≤ n → text_rest n v is ≡ text_rest (stated v.pool is) v is }
+    ensures table { (v : View) (n : ℕ) (is : List InputData) → Whole v → stated v.pool is ≤ n →
+        rest table n v.innermost v.below v.pool is ≡ rest table (stated v.pool is) v.innermost v.below v.pool is }
+    ensures text { (v : View) (is : List InputData) → Whole v → rest_of v is ≡ items (told_by (text_rest (stated v.pool is) v is)) }
 {}

@@ -4,7 +4,7 @@ use Rattle.tree_specs.specs.declared.frame.Frame.TheVariants.{Free}
 use Rattle.tree_specs.specs.declared.frame.FreeFrame.TheVariants.{Beginning, Unlinking, Looping}
 use Rattle.tree_specs.specs.declared.frame.Purpose.TheVariants.{Emptying}
 use Rattle.tree_specs.proofs.Means.{run-means}
-use Rattle.tree_specs.proofs.MidStories.{not-short-equal, innermost-enough}
+use Rattle.tree_specs.proofs.MidStories.{not-short-equal, innermost-enough, innermost-more}
 use Rattle.tree_specs.proofs.machine.the_machine_tells_the_text.Goals as goal
 
 pub returns-clause-free : goal.returns-clause-free
@@ -18,3 +18,6 @@ returns-clause-children c = λ n x p is h. not-short-equal _ _ h (run-means n (w
 
 pub returns-clause-enough : goal.returns-clause-enough
 returns-clause-enough c = λ v is h. innermost-enough v is h
+
+pub returns-clause-same : goal.returns-clause-same
+returns-clause-same c = λ v n is h big. innermost-more v n is h big
