@@ -4,22 +4,24 @@
 ghost use Rattle.std.specs.Prelude.{◌≡◌, ◌≢◌, ◌≤◌, ℕ, List};
 ghost use Rattle.step_machine.specs.Machine.{items as told_by, rest};
 ghost use Rattle.step_machine.specs.Machine.Outcome.{Short};
-ghost use Rattle.tree_specs.specs.declared.frame.Frame.TheVariants.{Free};
+ghost use Rattle.tree_specs.specs.declared.frame.CallFrame.TheVariants.{Asking};
+ghost use Rattle.tree_specs.specs.declared.frame.Frame.TheVariants.{Call, Free};
 ghost use Rattle.tree_specs.specs.declared.frame.FreeFrame.TheVariants.{Beginning, Unlinking, Looping};
 ghost use Rattle.tree_specs.specs.declared.frame.Purpose.TheVariants.{Emptying};
 ghost use Rattle.tree_specs.specs.declared.object.Obj.{Obj as ObjData};
 ghost use Rattle.tree_specs.specs.declared.object.Owner.{Owner as OwnerData};
+ghost use Rattle.tree_specs.specs.declared.question.Ask.{Ask as AskData};
 ghost use Rattle.tree_specs.specs.declared.question.Input.{Input as InputData};
-ghost use Rattle.tree_specs.specs.Meaning.{emptied, freed, run_of, stated, text_rest};
+ghost use Rattle.tree_specs.specs.Meaning.{emptied, freed, returned, run_of, stated, text_rest};
 ghost use Rattle.tree_specs.specs.Pool.{Pool};
-ghost use Rattle.tree_specs.specs.Story.{children, free, items, unlink};
+ghost use Rattle.tree_specs.specs.Story.{asked, children, free, items, unlink};
 ghost use Rattle.tree_specs.specs.Table.{table};
 ghost use Rattle.tree_specs.specs.View.{View, rest_of};
 ghost use Rattle.tree_specs.specs.Whole.{Whole};
 
 /// From the beginning of a free the table of single steps tells, answers, leaves and takes what the text says of it,
-/// over every pool and all inputs, whenever the turns are enough; so it is where an owner's interest is taken away, and
-/// where the children of an object are freed.
+/// over every pool and all inputs, whenever the turns are enough; so it is where an owner's interest is taken away, where
+/// the children of an object are freed, and where a caller is asked, as a destructor that runs is.
 pub fn the_machine_tells_the_text()
     ensures free { (n : ℕ) (x : ObjData) (p : Pool) (is : List InputData) → run_of n (Free (Beginning x)) p is ≢ Short →
         run_of n (Free (Beginning x)) p is ≡ freed (free n x) p is }
@@ -27,6 +29,8 @@ pub fn the_machine_tells_the_text()
         run_of n (Free (Unlinking o x)) p is ≡ freed (unlink n o x) p is }
     ensures children { (n : ℕ) (x : ObjData) (p : Pool) (is : List InputData) → run_of n (Free (Looping x Emptying)) p is ≢ Short →
         run_of n (Free (Looping x Emptying)) p is ≡ emptied (children n x) p is }
+    ensures caller { (n : ℕ) (q : AskData) (p : Pool) (is : List InputData) → run_of n (Call (Asking q)) p is ≢ Short →
+        run_of n (Call (Asking q)) p is ≡ returned (asked n q) p is }
 
     // The stated turns are enough for the innermost of open works that hold together, and more give the same.
     ensures enough { (v : View) (is : List InputData) → Whole v → run_of (stated v.pool is) v.innermost v.pool is ≢ Short }

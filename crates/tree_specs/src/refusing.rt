@@ -2,8 +2,7 @@
 //! for children.
 #![tactic(auto)]
 
-ghost use Rattle.std.specs.Prelude.{◌≡◌, ℕ, None, Some, List, []};
-ghost use Rattle.std.specs.Prelude.{suc, ◌∷◌};
+ghost use Rattle.std.specs.Prelude.{◌≡◌, ℕ, suc, None, Some, List, [], ◌∷◌};
 ghost use Rattle.step_machine.specs.Machine.{followed};
 ghost use Rattle.step_machine.specs.Machine.Outcome.{Ended};
 ghost use Rattle.tree_specs.specs.declared.call.Call.{Call as CallData};
@@ -15,7 +14,7 @@ ghost use Rattle.tree_specs.specs.declared.reply.Refusal.{Refusal as RefusalData
 ghost use Rattle.tree_specs.specs.declared.reply.Reply.TheVariants.{No};
 ghost use Rattle.tree_specs.specs.Calls.{Check, refusals};
 ghost use Rattle.tree_specs.specs.Pool.{Pool, first_kid, noted_owner, target_at};
-ghost use Rattle.tree_specs.specs.Refusals.{called, SayOnlyWhatRan, RefuseOnlyWhatRan, RefusedChangeNothing, LeftByFree};
+ghost use Rattle.tree_specs.specs.Refusals.{called, SayOnlyWhatRan, RefuseOnlyWhatRan, RefusedChangeNothing};
 ghost use Rattle.tree_specs.specs.Story.{children, free, tried, unlink};
 ghost use Rattle.tree_specs.specs.BadTexts as bad;
 

@@ -1,6 +1,7 @@
 use Rattle.std.proofs.Common.{None}
 use Rattle.step_machine.specs.Noted.{with_note}
-use Rattle.tree_specs.specs.declared.frame.Frame.TheVariants.{Free}
+use Rattle.tree_specs.specs.declared.frame.CallFrame.TheVariants.{Asking}
+use Rattle.tree_specs.specs.declared.frame.Frame.TheVariants.{Call, Free}
 use Rattle.tree_specs.specs.declared.frame.FreeFrame.TheVariants.{Beginning, Unlinking, Looping}
 use Rattle.tree_specs.specs.declared.frame.Purpose.TheVariants.{Emptying}
 use Rattle.tree_specs.proofs.Means.{run-means}
@@ -21,3 +22,6 @@ returns-clause-enough c = λ v is h. innermost-enough v is h
 
 pub returns-clause-same : goal.returns-clause-same
 returns-clause-same c = λ v n is h big. innermost-more v n is h big
+
+pub returns-clause-caller : goal.returns-clause-caller
+returns-clause-caller c = λ n q p is h. not-short-equal _ _ h (run-means n (with_note None (Call (Asking q))) p is)
