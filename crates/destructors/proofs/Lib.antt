@@ -7,4 +7,5 @@ pub mod Quiet
 pub mod Begins
 pub mod Settling
 pub mod TextRuns
+pub mod Driving
 pub mod Counting

@@ -15,6 +15,7 @@ use std::test::Fail;
 use tree_links::{NewRow, Tree};
 use tree_specs::{FreeReply, FreeStep, Kind, Mark, Name, Obj, Owner};
 
+mod drives;
 mod heirs;
 mod steps;
 
