@@ -5,7 +5,7 @@ ghost use Rattle.std.specs.Fmt.{decimal};
 use arrayvec::ArrayString;
 use itoa::Buffer;
 
-/// A line of a schedule with its LF, or a front of one.
+/// A line of a schedule with its LF, or a prefix of one.
 pub(crate) type Line = ArrayString<64>;
 
 /// A line of these words, which end in a space, and two numbers.

@@ -16,7 +16,7 @@ use tree_specs::{Mark, Memory, Name, Obj, Owner, Row};
 
 /// The objects and who owns them, with the works of the frees that are open on them. Contracts see the list of
 /// rows, the most recently placed first, the next serial number, and spare: so many rows can be added without
-/// taking memory; and the list of works, the innermost first, with room for so many more.
+/// taking memory; and the list of works, the innermost first, with room for so many more. Only `reserve` takes memory.
 #[derive(Debug, Drop)]
 pub struct Tree {
     nodes: Arena<Node>,
@@ -58,11 +58,11 @@ impl Tree {
     ghost use Rattle.tree_specs.specs.Words.Objects.{same};
     ghost use Rattle.tree_specs.specs.Calls.Refusals.{row_limit, size_limit};
     ghost use Rattle.tree_specs.specs.Tree.Sums.{size_at};
-    ghost use Rattle.tree_specs.specs.Tree.Pool.{empty, is_row, is_owner, is_dying, row_of, is_below, first_kid as kid_first, next_kid as kid_next, add as added, take_number as number_taken, detach as detached, remove as removed, place as placed, rename as renamed, set_mark as marked, set_hook as hooked, set_size as resized, set_limit as limited, owner_of, next_owner as owner_after, is_inside as is_inside_of, is_dying_mark};
+    ghost use Rattle.tree_specs.specs.Tree.Pool.{empty, is_row, is_owner, is_dying, row_of, is_below, first_kid as kid_first, next_kid as kid_next, add as added, take_number as number_taken, detach as detached, remove as removed, place as placed, owner_of, next_owner as owner_after, is_inside as is_inside_of};
     ghost use Rattle.tree_links.specs.Edits.{KeepsSmall, with_edit};
     ghost use Rattle.tree_links.specs.Links.{IsTree, pool_of, works_of, number_after, may_go};
 
-    /// A tree with no rows, whose next serial number is `first`, and no open free. It takes no memory.
+    /// A tree with no rows, whose next serial number is `first`, and no open free.
     pub fn new(alloc: Global, first: u64) -> Self
         ensures rows { pool_of result ≡ empty first }
         ensures works { result.frees ≡ [] }
@@ -93,7 +93,7 @@ impl Tree {
         Ok(())
     }
 
-    /// Adds an object at the front below its owner, and gives its serial number. It takes no memory.
+    /// Adds an object at the front below its owner, and gives its serial number.
     pub fn add(&mut self, row: NewRow, owner: Owner) -> Obj
         requires room { 0 < self.old.spare }
         requires few { length self.old.rows < row_limit }
@@ -139,7 +139,7 @@ impl Tree {
     }
 
     /// Takes the next serial number for something that is no object. None exactly where it is the greatest
-    /// `u64`. It takes no memory.
+    /// `u64`.
     pub fn take_number(&mut self) -> Option<u64>
         ensures number { result ≡ number_after self.old.next }
         ensures taken { IsSome result → pool_of self.new ≡ number_taken (pool_of self.old) }
@@ -288,7 +288,7 @@ impl Tree {
         self.row(x).is_some() && self.is_inside(Owner::Of(x), owner)
     }
 
-    /// Puts an object below an owner, as its newest child. It takes no memory.
+    /// Puts an object below an owner, as its newest child.
     pub fn place(&mut self, x: Obj, owner: Owner)
         requires is { is_row self.old.rows x ≡ true }
         requires live { is_dying self.old.rows x ≡ false }
@@ -311,7 +311,8 @@ impl Tree {
         }
     }
 
-    fn edit(&mut self, x: Obj, edit: Edit)
+    /// Writes the row of an object anew where it stands.
+    pub(crate) fn edit(&mut self, x: Obj, edit: Edit)
         requires small { KeepsSmall edit }
         ensures rows { pool_of self.new ≡ with_edit (pool_of self.old) x edit }
         ensures spare { self.old.spare ≤ self.new.spare }
@@ -320,60 +321,7 @@ impl Tree {
         write(&mut self.nodes, x.0, edit);
     }
 
-    /// Gives an object another name. It takes no memory.
-    pub fn set_name(&mut self, x: Obj, name: Name)
-        requires { is_row self.old.rows x ≡ true }
-        ensures rows { pool_of self.new ≡ renamed (pool_of self.old) x name }
-        ensures spare { self.old.spare ≤ self.new.spare }
-        ensures works { works_of self.new ≡ works_of self.old }
-    {
-        self.edit(x, Edit::Name(name));
-    }
-
-    /// Gives an object another mark. It takes no memory.
-    pub fn set_mark(&mut self, x: Obj, mark: Mark)
-        requires is { is_row self.old.rows x ≡ true }
-        requires live { is_dying self.old.rows x ≡ false }
-        requires other { is_dying_mark mark ≡ false }
-        ensures rows { pool_of self.new ≡ marked (pool_of self.old) x mark }
-        ensures spare { self.old.spare ≤ self.new.spare }
-        ensures works { works_of self.new ≡ works_of self.old }
-    {
-        self.edit(x, Edit::Mark(mark));
-    }
-
-    /// Gives an object another destructor, by its routine; 0 is none. It takes no memory.
-    pub fn set_hook(&mut self, x: Obj, hook: u32)
-        requires { is_row self.old.rows x ≡ true }
-        ensures rows { pool_of self.new ≡ hooked (pool_of self.old) x hook }
-        ensures spare { self.old.spare ≤ self.new.spare }
-        ensures works { works_of self.new ≡ works_of self.old }
-    {
-        self.edit(x, Edit::Hook(hook));
-    }
-
-    /// Gives an object another size, in bytes. It takes no memory.
-    pub fn set_size(&mut self, x: Obj, size: u64)
-        requires is { is_row self.old.rows x ≡ true }
-        requires small { size < size_limit }
-        ensures rows { pool_of self.new ≡ resized (pool_of self.old) x size }
-        ensures spare { self.old.spare ≤ self.new.spare }
-        ensures works { works_of self.new ≡ works_of self.old }
-    {
-        self.edit(x, Edit::Size(size));
-    }
-
-    /// Gives an object another limit, in bytes; 0 is none. It takes no memory.
-    pub fn set_limit(&mut self, x: Obj, limit: u64)
-        requires { is_row self.old.rows x ≡ true }
-        ensures rows { pool_of self.new ≡ limited (pool_of self.old) x limit }
-        ensures spare { self.old.spare ≤ self.new.spare }
-        ensures works { works_of self.new ≡ works_of self.old }
-    {
-        self.edit(x, Edit::Limit(limit));
-    }
-
-    /// The object leaves its owner, and is dying of it from then on. It takes no memory.
+    /// The object leaves its owner, and is dying of it from then on.
     pub fn detach(&mut self, x: Obj)
         requires is { is_row self.old.rows x ≡ true }
         requires live { is_dying self.old.rows x ≡ false }
@@ -386,7 +334,7 @@ impl Tree {
         }
     }
 
-    /// The object is no more: it is dying and owns nothing, or is a reference. It takes no memory.
+    /// The object is no more: it is dying and owns nothing, or is a reference.
     pub fn remove(&mut self, x: Obj)
         requires free { may_go self.old.rows x ≡ true }
         requires alone { kid_first self.old.rows (At x) ≡ None }
