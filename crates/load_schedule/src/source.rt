@@ -10,22 +10,22 @@ use crate::place::Place;
 use outside::{Got, Source};
 use std::marker::Model;
 
-/// Makes the next line, of a call or the one that counts.
-fn next_line(place: &mut Place, left: &mut u32, is_over: &mut bool) -> Line
+/// Writes the next line, of a call or the one that counts.
+fn next_line(place: &mut Place, left: &mut u32, is_over: &mut bool, line: &mut Line)
     requires more { is_over.old ≡ false }
     requires room { place.old.made + left.old ≤ u32.MAX }
-    ensures bytes { text_to_come is_over.old left.old place.old ≡ result.bytes ++ text_to_come is_over.new left.new place.new }
-    ensures some { 0 < length result.bytes }
+    ensures bytes { text_to_come is_over.old left.old place.old ≡ line.new.bytes ++ text_to_come is_over.new left.new place.new }
+    ensures some { 0 < length line.new.bytes }
     ensures room { place.new.made + left.new ≤ u32.MAX }
 {
     if *left == 0 {
         *is_over = true;
-        let mut line = Line::new();
+        line.clear();
         line.push_str("call count 0\n");
-        return line;
+        return;
     }
     *left -= 1;
-    place.next_line()
+    place.next_line(line);
 }
 
 /// Copies bytes of the line from here on, as many as there is room for, and says how many.
@@ -96,7 +96,12 @@ impl LoadSource {
         if self.at < self.line.len() || self.is_over {
             return n;
         }
-        self.line = next_line(&mut self.place, &mut self.left, &mut self.is_over);
+        next_line(
+            &mut self.place,
+            &mut self.left,
+            &mut self.is_over,
+            &mut self.line,
+        );
         self.at = 0;
         n
     }
@@ -124,7 +129,7 @@ impl Source for LoadSource {
 
     ghost faults = { λ _. 0 };
 
-    /// Gives as many bytes as are left and as `buf` has room for, at most `u32::MAX`.
+    /// Fills `buf` with what is left of the present line and with those behind it, up to `u32::MAX` bytes.
     fn read(&mut self, buf: &mut [u8]) -> Got
         requires { 0 < length buf.old }
         ensures bytes { ReadsFrom (Some self.old) (Some self.new) result buf.new }
