@@ -6,7 +6,7 @@ use Rattle.tree_specs.specs.declared.row.Row.{Row}
 use Rattle.tree_specs.specs.declared.row.Mark.TheVariants.{Quiet}
 use Rattle.tree_specs.specs.declared.free_step.FreeStep.{FreeStep}
 use Rattle.tree_specs.specs.declared.free_step.FreeStep.TheVariants.{Ask, Dropped, Refused, Accepted, Left, Moved, Gone, Done}
-use Rattle.tree_specs.specs.Tree.Pool.{is_row, owner_of, target_at, changed, without, left_row, place}
+use Rattle.tree_specs.specs.Tree.Pool.{of_rows, is_row, owner_of, target_at, changed, without, left_row, place}
 use Rattle.tree_links.specs.Links.{MayPlace}
 
 -- a row but for what is going on with its object
@@ -18,7 +18,7 @@ abbrev pub SameRows : List Row → List Row → Type 0
 SameRows rs rs' = map bare rs' ≡ map bare rs
 
 abbrev pub placed_rows : List Row → Owner → Obj → List Row
-placed_rows rs o x = (place (record { rows = rs; next = 0 }) o x).rows
+placed_rows rs o x = (place (of_rows rs 0) o x).rows
 
 abbrev pub ChangedBy : FreeStep → List Row → List Row → Type 0
 ChangedBy (Ask x) rs rs' = SameRows rs rs'

@@ -1,5 +1,5 @@
 //! What the sums are told, after the objects have changed.
-ghost use Rattle.std.specs.Prelude.{◌≡◌};
+ghost use Rattle.std.specs.Prelude.{◌≡◌, ◌≤◌};
 ghost use Rattle.memory_limits.specs.Limits.{AreLimitsOf};
 ghost use Rattle.object_pool.specs.Counting.{WasAdded, WentFrom, WasCounted};
 
@@ -10,7 +10,8 @@ use tree_specs::{FreeStep, Obj, Owner};
 /// A new object is there.
 pub fn count_added(x: Obj, tree: &Tree, sums: &mut Sums)
     requires { WasAdded x sums.old.limited tree.now.rows }
-    ensures { AreLimitsOf sums.new.limited tree.now.rows }
+    ensures kept { AreLimitsOf sums.new.limited tree.now.rows }
+    ensures spare { sums.new.spare ≡ sums.old.spare }
 {
     // All that is wanted of `len` is its contract: each number stands once.
     let _rows = tree.len();
@@ -32,7 +33,8 @@ pub fn count_went(x: Obj, from: Option<Owner>, tree: &Tree, sums: &mut Sums)
 /// A step of a free was made.
 pub fn count_step(step: &FreeStep, tree: &Tree, sums: &mut Sums)
     requires { WasCounted step.now sums.old.limited tree.now.rows }
-    ensures { AreLimitsOf sums.new.limited tree.now.rows }
+    ensures kept { AreLimitsOf sums.new.limited tree.now.rows }
+    ensures spare { sums.old.spare ≤ sums.new.spare }
 {
     match step {
         FreeStep::Left { object, from } => sums.left(tree, *object, *from),

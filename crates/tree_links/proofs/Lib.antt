@@ -1,4 +1,3 @@
-pub mod Steps
 pub mod Moves
 pub mod Listing
 pub mod Trees

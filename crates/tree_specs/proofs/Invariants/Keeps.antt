@@ -5,7 +5,7 @@ use Rattle.tree_specs.specs.declared.question.Ask.{Ask}
 use Rattle.tree_specs.specs.declared.frame.Frame.{Frame}
 use Rattle.tree_specs.specs.declared.frame.Frame.TheVariants as frame
 use Rattle.tree_specs.specs.declared.frame.CallFrame.TheVariants.{Asking, Doing, Awaiting, Warning, Telling, Returning}
-use Rattle.tree_specs.specs.declared.frame.FreeFrame.TheVariants.{Unlinking, Releasing, Giving, Beginning, Hooked, Judged, Leaving, Looping, FreeingChild, AfterChild, Ending}
+use Rattle.tree_specs.specs.declared.frame.FreeFrame.TheVariants.{Unlinking, Releasing, Giving, Beginning, Hooked, Judged, Leaving, Looping, AfterChild, Ending}
 use Rattle.tree_specs.specs.declared.frame.Answer.TheVariants.{Freed, Returned}
 use Rattle.tree_specs.specs.declared.free_step.FreeReply.TheVariants.{Ok}
 use Rattle.tree_specs.specs.Tree.Pool.{Pool}

@@ -2,7 +2,7 @@
 use Rattle.tree_specs.specs.declared.object.Owner.{Owner}
 use Rattle.tree_specs.specs.Tree.Targets.{newest_ref}
 use Rattle.std.proofs.Common.{◌≡◌, ℕ, suc, zero, nat_eq, List, [], ◌∷◌, Option, Some, None, refl, inl, inr}
-use Rattle.step_machine.specs.Machine.{Move, Table, Outcome, after, run}
+use Rattle.step_machine.specs.Machine.{Move, Outcome, after, run}
 use Rattle.step_machine.specs.Noted.{Noted, noted, noted_move}
 use Rattle.step_machine.proofs.Laws.{Below, Below-trans, Below-after, followed-tell, followed-tells, followed-followed}
 use Rattle.tree_specs.specs.declared.object.Obj.{Obj}
@@ -11,31 +11,28 @@ use Rattle.tree_specs.specs.declared.row.Row.{Row}
 use Rattle.tree_specs.specs.declared.row.Mark.{Mark}
 use Rattle.tree_specs.specs.declared.row.Mark.TheVariants.{Quiet}
 use Rattle.tree_specs.specs.declared.call.Call.{Call}
-use Rattle.tree_specs.specs.declared.event.Event.TheVariants.{Freed as IsFreed}
 use Rattle.tree_specs.specs.declared.question.Ask.{Ask}
 use Rattle.tree_specs.specs.declared.question.Input.{Input}
 use Rattle.tree_specs.specs.declared.frame.Frame.{Frame}
 use Rattle.tree_specs.specs.declared.frame.Frame.TheVariants as frame
-use Rattle.tree_specs.specs.declared.frame.CallFrame.TheVariants.{Asking, Doing, Awaiting, Warning, Telling, Returning}
-use Rattle.tree_specs.specs.declared.frame.FreeFrame.TheVariants.{Unlinking, Releasing, Giving, Beginning, Hooked, Judged, Leaving, Looping, FreeingChild, AfterChild, Ending}
+use Rattle.tree_specs.specs.declared.frame.CallFrame.TheVariants.{Asking, Doing, Awaiting, Returning}
+use Rattle.tree_specs.specs.declared.frame.FreeFrame.TheVariants.{Unlinking, Releasing, Beginning, Judged, Looping, FreeingChild, AfterChild, Ending}
 use Rattle.tree_specs.specs.declared.frame.Purpose.{Purpose}
 use Rattle.tree_specs.specs.declared.frame.Purpose.TheVariants.{Removal, Emptying}
 use Rattle.tree_specs.specs.declared.frame.Answer.{Answer}
-use Rattle.tree_specs.specs.declared.frame.Answer.TheVariants.{Freed, Returned}
 use Rattle.tree_specs.specs.declared.free_step.FreeReply.{FreeReply}
 use Rattle.tree_specs.specs.declared.free_step.FreeReply.TheVariants.{Ok}
-use Rattle.tree_specs.specs.Tree.Pool.{Pool, row_of, is_below, owner_of, first_kid, remove, target_at, newest_ref_of, is_inside}
+use Rattle.tree_specs.specs.Tree.Pool.{Pool, row_of, is_below, owner_of, first_kid, target_at, newest_ref_of, is_inside}
 use Rattle.tree_specs.specs.Rules.Items.{Item}
-use Rattle.tree_specs.specs.Rules.Items.Item.{Told}
 use Rattle.tree_specs.specs.Words.Ranges.{is_sound_call, is_return}
 use Rattle.tree_specs.specs.Calls.Given.{Given, given_to}
 use Rattle.tree_specs.specs.Calls.Given.Given.{Calls, Returns}
 use Rattle.tree_specs.specs.Calls.Plans.{Plan, planned}
 use Rattle.tree_specs.specs.Calls.Plans.Plan.{Does, Frees, Unlinks, Empties}
-use Rattle.tree_specs.specs.Rules.Sequence.{Work, Scene, CallStart, ◌>>=◌, ◌>>◌, gives, change, tells}
-use Rattle.tree_specs.specs.Rules.Story.{free, hooked, judged, leave, children, tried, asked, acting, telling, returning, warning, unlink, release, given}
-use Rattle.tree_specs.specs.Machine.Meaning.{noted_table, freed, returned, looped, mean}
-use Rattle.tree_specs.specs.Machine.Table.{table, notes, step, lifted, judge_step, loop_step, tried_step, plan_step, refs_step, unlink_step, release_step}
+use Rattle.tree_specs.specs.Rules.Sequence.{Work, Scene, CallStart, change}
+use Rattle.tree_specs.specs.Rules.Story.{free, judged, children, tried, unlink, release}
+use Rattle.tree_specs.specs.Machine.Meaning.{noted_table, freed, looped, mean}
+use Rattle.tree_specs.specs.Machine.Table.{notes, step, lifted, judge_step, loop_step, tried_step, plan_step, refs_step, unlink_step, release_step}
 use Rattle.tree_specs.proofs.Tree.Numbered.{by_test}
 
 ruleset laws = (followed-tell, followed-tells, followed-followed)

@@ -12,8 +12,9 @@ use Rattle.tree_specs.specs.declared.question.Input.{Input}
 use Rattle.tree_specs.specs.declared.question.Input.TheVariants as inputs
 use Rattle.tree_specs.specs.Words.Names.{is_name}
 use Rattle.tree_specs.specs.Calls.Spelling.{Reading, Form, forms}
-use Rattle.tree_specs.specs.Calls.Spelling.Reading.{IsConsistent, TakesOwner, TakesObject, TakesNumber, TakesRoutine, EndsInName}
+use Rattle.tree_specs.specs.Calls.Spelling.Reading.{IsConsistent, TakesOwner, TakesObject, TakesNumber, TakesRoutine, TakesRoutineOrNone, TakesTime, EndsInName}
 use Rattle.tree_specs.specs.Words.Objects.{numbered_owner}
+use Rattle.tree_specs.specs.Words.Ranges.{is_time}
 
 infixl 10 ◌>>=◌
 abbrev pub ◌>>=◌ : {A B : Type 0} → Option A → (A → Option B) → Option B
@@ -49,6 +50,12 @@ routine_of ds = do
   n ← number32_of ds
   if n == 0 then None else Some n
 
+-- a time in microseconds
+unfoldable pub time_of : List ℕ → Option ℕ
+time_of ds = do
+  n ← number_of ds
+  if is_time n then Some n else None
+
 unfoldable pub owner_of : List ℕ → Option Owner
 owner_of text = do
   n ← number_of text
@@ -83,6 +90,12 @@ read (TakesNumber next) (word ∷ more) = do
 read (TakesRoutine next) (word ∷ more) = do
   routine ← routine_of word
   read (next routine) more
+read (TakesRoutineOrNone next) (word ∷ more) = do
+  routine ← number32_of word
+  read (next routine) more
+read (TakesTime next) (word ∷ more) = do
+  time ← time_of word
+  read (next time) more
 read (EndsInName call) (word ∷ []) = do
   name ← name_of word
   Some (call name)

@@ -1,5 +1,5 @@
 use Rattle.std.proofs.Common.{None, refl}
-use Rattle.tree_links.proofs.Steps.{gone-at}
+use Rattle.pool_arena.proofs.Steps.{gone-at}
 use Rattle.references.proofs.head.forget.Goals as goal
 
 pub returns-clause-heads : goal.returns-clause-heads

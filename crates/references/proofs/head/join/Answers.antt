@@ -1,6 +1,6 @@
 use Rattle.std.proofs.Common.{Some, sym, ap}
 use Rattle.pool_arena.specs.Arena.{get}
-use Rattle.tree_links.proofs.Steps.{put-at, put-to}
+use Rattle.pool_arena.proofs.Steps.{put-at, put-to}
 use Rattle.references.specs.Linked.{joined}
 use Rattle.references.proofs.head.join.Goals as goal
 

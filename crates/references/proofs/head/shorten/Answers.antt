@@ -1,6 +1,6 @@
 use Rattle.std.proofs.Common.{◌-◌, ◌∙◌, Some, ap, sym}
 use Rattle.std.specs.Option.{option_map}
-use Rattle.tree_links.proofs.Steps.{put-at}
+use Rattle.pool_arena.proofs.Steps.{put-at}
 use Rattle.references.specs.Linked.{shortened}
 use Rattle.references.proofs.head.shorten.Goals as goal
 

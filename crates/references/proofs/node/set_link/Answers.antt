@@ -1,4 +1,4 @@
-use Rattle.tree_links.proofs.Steps.{mapped-at}
+use Rattle.pool_arena.proofs.Steps.{mapped-at}
 use Rattle.references.specs.Linked.{with_link}
 use Rattle.references.proofs.node.set_link.Goals as goal
 

@@ -1,5 +1,5 @@
 use Rattle.tree_links.specs.Nodes.{entered}
-use Rattle.tree_links.proofs.Steps.{mapped-at, len-old}
+use Rattle.pool_arena.proofs.Steps.{mapped-at, len-old}
 use Rattle.tree_links.proofs.node.enter.Goals as goal
 
 pub returns-in-Some-clause-nodes : goal.returns-in-Some-clause-nodes

@@ -1,5 +1,5 @@
 use Rattle.tree_links.specs.Nodes.{with_link}
-use Rattle.tree_links.proofs.Steps.{mapped-at, len-old}
+use Rattle.pool_arena.proofs.Steps.{mapped-at, len-old}
 use Rattle.tree_links.proofs.node.set_link.Goals as goal
 
 pub returns-in-Some-get_mut-clause-nodes : goal.returns-in-Some-get_mut-clause-nodes

@@ -1,6 +1,6 @@
 use Rattle.tree_links.specs.Edits.{edited}
 use Rattle.tree_links.specs.Nodes.{with_row}
-use Rattle.tree_links.proofs.Steps.{mapped-at, len-old}
+use Rattle.pool_arena.proofs.Steps.{mapped-at, len-old}
 use Rattle.tree_links.proofs.node.write.Goals as goal
 
 pub returns-in-Some-clause-nodes : goal.returns-in-Some-clause-nodes

@@ -1,4 +1,4 @@
-use Rattle.std.proofs.Common.{◌≡◌, true, length, refl, sym, ◌∙◌, ap, subst, arith}
+use Rattle.std.proofs.Common.{◌≡◌, true, false, length, refl, sym, ◌∙◌, ap, subst, arith}
 use Rattle.tree_specs.specs.Tree.Pool.{Pool, is_row, limited_row}
 use Rattle.tree_specs.proofs.Turns.FallingFrees.{length-changed}
 use Rattle.references.specs.Rows.{AreRefsOf}
@@ -6,7 +6,7 @@ use Rattle.references.proofs.Rows.{refs-same, same-changed}
 use Rattle.memory_limits.specs.Limits.{AllSums, AreLimitsOf}
 use Rattle.object_pool.specs.Objects.{Objects}
 use Rattle.object_pool.proofs.Fields.{limited-sums, limited-kept}
-use Rattle.object_pool.proofs.Keeping.{spent}
+use Rattle.object_pool.proofs.Keeping.{spent, never}
 use Rattle.object_pool.proofs.pool.ObjectPool.limit.Goals as goal
 
 pub set_limit-requires-2-clause-sums : goal.set_limit-requires-2-clause-sums
@@ -16,9 +16,10 @@ set_limit-requires-2-clause-sums c =
 pub invariant_of-self : goal.invariant_of-self
 invariant_of-self c =
     let e = ap (λ (p : Pool). p.rows) c.set_limit.ensures.rows in
+    let n = ap (λ (p : Pool). p.next) c.set_limit.ensures.rows in
     let as_many = ap length e ∙ length-changed (limited_row c.args.max) c.self.inside.tree.rows c.args.x in
-    spent c.self.inside c.set_limit.new.self c.self.inside.refs c.set_limit-2.new.self
-    (subst (λ (o : Objects). o.ready ≡ true) (sym c.self.view_is) c.requires.ready) (omega (arith, as_many)) c.set_limit.ensures.works
+    spent c.self.inside c.set_limit.new.self c.self.inside.refs c.set_limit-2.new.self false never
+    (subst (λ (o : Objects). o.ready ≡ true) (sym c.self.view_is) c.requires.ready) (omega (arith, n)) (omega (arith, as_many)) c.set_limit.ensures.works
     (subst (AreRefsOf c.self.inside.refs.pairs) (sym e)
     (refs-same c.self.inside.refs.pairs c.self.inside.tree.rows _ (same-changed (limited_row c.args.max) c.self.inside.tree.rows c.args.x (λ r. refl) (λ r. refl)) c.self.invariant.references))
     (subst (AreLimitsOf c.set_limit-2.new.self.limited) (sym e)

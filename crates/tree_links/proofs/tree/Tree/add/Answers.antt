@@ -7,7 +7,7 @@ use Rattle.tree_specs.specs.Tree.Pool.{row_of, is_owner, new_row, add, owner_in}
 use Rattle.tree_links.specs.Links.{IsTree, Links, pool_of}
 use Rattle.tree_links.specs.Nodes.{Holds, Enters, rows_of, row_in, placed_in, kin_in, first_in}
 use Rattle.tree_links.specs.declared.node.Node.{Node}
-use Rattle.tree_links.proofs.Steps.{len-new}
+use Rattle.pool_arena.proofs.Steps.{len-new}
 use Rattle.tree_links.proofs.Listing.{obj, children-apart, numbers-has, held-rows}
 use Rattle.tree_links.proofs.Trees.{added-tree, fresh}
 use Rattle.tree_links.proofs.Keeping.{no-node, unowned, owner-node, reset-firsts, added-steps, is-linked, pool-rows}

@@ -1,7 +1,7 @@
 -- What one write of an arena leaves, key by key.
-use Rattle.std.proofs.Common.{◌≡◌, ℕ, cond, nat_eq, Option, Some, None, refl, sym, ap, ◌∙◌, is_some, ◌+◌}
+use Rattle.std.proofs.Common.{◌≡◌, ℕ, cond, nat_eq, Option, Some, None, IsSome, refl, sym, ap, ◌∙◌, is_some, ◌+◌, ◌-◌}
 use Rattle.std.specs.FinMap as map
-use Rattle.std.specs.FinMap.{len-insert}
+use Rattle.std.specs.FinMap.{len-insert, len-remove}
 use Rattle.std.specs.Ordering.{nat_cmp}
 use Rattle.std.proofs.lemmas.Cmp.{nat_cmp_total}
 use Rattle.std.specs.Option.{option_map}
@@ -31,3 +31,6 @@ len-new m k v e = len-insert nat_cmp_total m k v ∙ ap (λ o. cond (is_some o) 
 
 pub len-old : {X : Type 0} (m : map.FinMap nat_cmp X) (k : ℕ) (v u : X) → Some u ≡ map.get m k → map.len (map.insert m k v) ≡ map.len m
 len-old m k v u e = len-insert nat_cmp_total m k v ∙ ap (λ o. cond (is_some o) (map.len m) (map.len m + 1)) (sym e)
+
+pub len-gone : {X : Type 0} (m : map.FinMap nat_cmp X) (k : ℕ) → IsSome (map.get m k) → map.len (map.remove m k) ≡ map.len m - 1
+len-gone m k h = len-remove nat_cmp_total m k ∙ ap (λ b. cond b (map.len m - 1) (map.len m)) h
