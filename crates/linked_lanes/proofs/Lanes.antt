@@ -1,5 +1,5 @@
 -- What a push at the front and a removal leave of a lane's links.
-use Rattle.std.proofs.Common.{◌≡◌, ◌≢◌, ℕ, suc, Bool, true, false, cond, nat_eq, List, [], ◌∷◌, length, Option, Some, None, refl, sym, ap, ◌∙◌, arith}
+use Rattle.std.proofs.Common.{◌≡◌, ◌≢◌, ℕ, suc, Bool, true, false, cond, ◌||◌, nat_eq, List, [], ◌∷◌, length, Option, Some, None, refl, sym, ap, ◌∙◌, arith}
 use Rattle.std.proofs.lemmas.Bool.{eqb-true, eq-eqb}
 use Rattle.linked_lanes.specs.Lane.{first, is_at, has, after, before_from, before, without, Distinct}
 
@@ -137,6 +137,19 @@ has-without (y ∷ ys) x k h = by_test (nat_eq y k)
     (λ t. let h' : has ys k ≡ false = rw t at h in by_test (nat_eq y x)
     (λ u. rw u h')
     (λ u. rw (u, t) (has-without ys x k h')))
+
+-- another one stays where it was
+pub has-without-other : (xs : List ℕ) (x k : ℕ) → nat_eq x k ≡ false → has (without xs x) k ≡ has xs k
+has-without-other [] x k n = refl
+has-without-other (y ∷ ys) x k n = by_test (nat_eq y x)
+    (λ t. let u : nat_eq y k ≡ false = ap (λ (z : ℕ). nat_eq z k) (eqb-true y x t) ∙ n in rw (t, u) refl)
+    (λ t. rw t (ap (λ b. nat_eq y k || b) (has-without-other ys x k n)))
+
+pub has-without-same : (xs : List ℕ) (x : ℕ) → Distinct xs → has (without xs x) x ≡ false
+has-without-same [] x d = refl
+has-without-same (y ∷ ys) x d = by_test (nat_eq y x)
+    (λ t. rw t (ap (has ys) (sym (eqb-true y x t)) ∙ d.0))
+    (λ t. rw t (rw t (has-without-same ys x d.1)))
 
 pub Distinct-without : (xs : List ℕ) (x : ℕ) → Distinct xs → Distinct (without xs x)
 Distinct-without [] x d = tt

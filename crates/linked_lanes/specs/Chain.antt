@@ -1,5 +1,5 @@
 -- What the neighbours of each and the head say of a lane.
-use Rattle.std.specs.Prelude.{◌≡◌, ℕ, List, Option, Some, None, true}
+use Rattle.std.specs.Prelude.{◌≡◌, ℕ, zero, suc, List, [], ◌∷◌, Option, Some, None, true}
 use Rattle.linked_lanes.specs.Lane.{first, has, after, before}
 use Rattle.linked_lanes.specs.declared.Sides.{Sides}
 use Rattle.linked_lanes.specs.declared.Link.{Link}
@@ -21,6 +21,21 @@ head_left_by (Some x) older head = head
 
 abbrev pub head_left : Option ℕ → Sides → Option ℕ
 head_left head s = head_left_by s.newer s.older head
+
+-- the last of a lane once one with these neighbours has left it
+abbrev pub last_left : Option ℕ → Sides → Option ℕ
+last_left last s = head_left_by s.older s.newer last
+
+-- the one that stands next behind one with these neighbours
+abbrev pub older_of : Option Sides → Option ℕ
+older_of None = None
+older_of (Some s) = s.older
+
+-- so many of a lane at most, from this one on, by the neighbours
+abbrev pub walk : (ℕ → Option Sides) → ℕ → Option ℕ → List ℕ
+walk C zero at = []
+walk C (suc n) None = []
+walk C (suc n) (Some x) = x ∷ walk C n (older_of (C x))
 
 -- the neighbours once another one is noted
 abbrev pub noted : Link → Sides → Sides

@@ -5,6 +5,14 @@ abbrev pub first : List ℕ → Option ℕ
 first [] = None
 first (x ∷ xs) = Some x
 
+-- the last one, where p stands before them all
+abbrev pub last_from : Option ℕ → List ℕ → Option ℕ
+last_from p [] = p
+last_from p (x ∷ xs) = last_from (Some x) xs
+
+abbrev pub last : List ℕ → Option ℕ
+last xs = last_from None xs
+
 abbrev pub is_at : Option ℕ → ℕ → Bool
 is_at None k = false
 is_at (Some x) k = nat_eq x k

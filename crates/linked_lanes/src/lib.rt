@@ -1,10 +1,10 @@
 //! Lanes: distinct numbers in an order, newest first, kept by the neighbours that are noted beside each of them.
-//! Whoever keeps a lane keeps the neighbours and the head; this crate says what they are, and proves what leaving
-//! the lane and joining it at its front do to them.
+//! Whoever keeps a lane keeps the neighbours and the head, and the last where it is wanted; this crate says what they
+//! are, and proves what leaving the lane and joining it at its front do to them.
 #![tactic(auto)]
 
 ghost use Rattle.std.specs.Prelude.{◌≡◌};
-ghost use Rattle.linked_lanes.specs.Chain.{head_left, noted as noted_in};
+ghost use Rattle.linked_lanes.specs.Chain.{head_left, last_left, noted as noted_in};
 
 /// The neighbours of one in its lane.
 #[derive(Clone, Copy, Debug)]
@@ -40,6 +40,15 @@ impl Sides {
         match self.newer {
             None => self.older,
             Some(_) => head,
+        }
+    }
+    /// The last of a lane once one with these neighbours has left it, where `last` was its last before.
+    pub fn last_after(self, last: Option<u64>) -> Option<u64>
+        ensures { result ≡ last_left last self }
+    {
+        match self.older {
+            None => self.newer,
+            Some(_) => last,
         }
     }
 }

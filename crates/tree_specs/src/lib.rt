@@ -5,6 +5,7 @@
 
 mod bounds;
 mod call;
+mod due;
 mod event;
 pub mod examples;
 pub mod forbidden;
@@ -33,6 +34,7 @@ pub use bounds::{
     LINE_LIMIT, LINES_LIMIT, NAME_LIMIT, OCTETS_LIMIT, OVERHEAD, ROW_LIMIT, SIZE_LIMIT,
 };
 pub use call::Call;
+pub use due::Due;
 pub use event::Event;
 pub use frame::{Answer, CallFrame, Frame, FreeFrame, Purpose};
 pub use free_step::{FreeReply, FreeStep};

@@ -1,0 +1,165 @@
+//! A heap of times whose objects know their places in it. None comes before its parent: the parent of place k is place
+//! (k - 1) / 2.
+ghost use Rattle.std.specs.Prelude.{◌≡◌, ◌<◌, ◌≤◌, ◌+◌, ℕ, Some, None, IsSome, cond, nat_eq, length, vec_capacity, slice_get, set};
+ghost use Rattle.std.specs.Option.{option_map};
+ghost use Rattle.pool_arena.specs.Arena.{get};
+ghost use Rattle.tree_specs.specs.Events.Pending.{comes_before as is_before};
+ghost use Rattle.timers.specs.Heaped.{IsEarlyChild, IsFirstOfTwo, IsHeap, IsLateParent, Places, PlacesBut, Removes, Reorders, Rises, Settles, Sinks, with_place};
+
+use pool_arena::Arena;
+use tree_specs::Due;
+
+/// Whether a time comes before another one. At equal times the smaller number does.
+fn comes_before(due: Due, other: Due) -> bool
+    ensures { result ≡ is_before due other }
+{
+    due.time < other.time || (due.time == other.time && due.number < other.number)
+}
+
+// The object of this number is at another place. Nothing changes where it isn't held.
+fn note(places: &mut Arena<usize>, x: u64, at: usize)
+    ensures places { (q : ℕ) → get places.new q ≡ cond (nat_eq x q) (option_map (λ _. at) (get places.old q)) (get places.old q) }
+    ensures spare { places.new.spare ≡ places.old.spare }
+{
+    if let Some(place) = places.get_mut(x) {
+        *place = at;
+    }
+}
+
+// A time goes to a place, in place of the one that was there.
+fn put(dues: &mut Vec<Due>, places: &mut Arena<usize>, at: usize, due: Due)
+    requires { at < length dues.old.items }
+    ensures dues { dues.new.items ≡ set dues.old.items at due }
+    ensures capacity { vec_capacity dues.new ≡ vec_capacity dues.old }
+    ensures places { (q : ℕ) → get places.new q ≡ cond (nat_eq due.object.0 q) (option_map (λ _. at) (get places.old q)) (get places.old q) }
+    ensures spare { places.new.spare ≡ places.old.spare }
+{
+    dues[at] = due;
+    note(places, due.object.0, at);
+}
+
+// The parent of a place, where the one that is to go there comes before it.
+fn late_parent(dues: &Vec<Due>, at: usize, due: Due) -> Option<usize>
+    requires { at < length dues.now.items }
+    ensures { IsLateParent (slice_get dues.now.items) at due result }
+{
+    if at == 0 {
+        return None;
+    }
+    let parent = (at - 1) / 2;
+    if comes_before(due, dues[parent]) {
+        Some(parent)
+    } else {
+        None
+    }
+}
+
+/// A time goes to a place or to one above it, where only its parent may come after it.
+pub(crate) fn rise(dues: &mut Vec<Due>, places: &mut Arena<usize>, at: usize, due: Due)
+    requires at { at < length dues.old.items }
+    requires held { IsSome (get places.old due.object.0) }
+    requires heap { Rises (slice_get (set dues.old.items at due)) at }
+    requires places { Places (slice_get (set dues.old.items at due)) (with_place (get places.old) due.object.0 at) }
+    ensures heap { IsHeap (slice_get dues.new.items) }
+    ensures places { Places (slice_get dues.new.items) (get places.new) }
+    ensures dues { Reorders (set dues.old.items at due) dues.new.items }
+    ensures capacity { vec_capacity dues.new ≡ vec_capacity dues.old }
+    ensures spare { places.new.spare ≡ places.old.spare }
+{
+    match late_parent(dues, at, due) {
+        Some(parent) => {
+            let other = dues[parent];
+            put(dues, places, at, other);
+            rise(dues, places, parent, due);
+        }
+        None => put(dues, places, at, due),
+    }
+}
+
+// Of a place and the next one, the one whose time comes first.
+fn first_of_two(dues: &Vec<Due>, left: usize) -> usize
+    requires { left < length dues.now.items }
+    ensures { IsFirstOfTwo (slice_get dues.now.items) left result }
+{
+    let right = left + 1;
+    if right < dues.len() && comes_before(dues[right], dues[left]) {
+        return right;
+    }
+    left
+}
+
+// The child of a place that comes first, where it comes before the one that is to go there.
+fn early_child(dues: &Vec<Due>, at: usize, due: Due) -> Option<usize>
+    requires { at < length dues.now.items }
+    ensures { IsEarlyChild (slice_get dues.now.items) at due result }
+{
+    if at >= dues.len() / 2 {
+        return None;
+    }
+    let child = first_of_two(dues, 2 * at + 1);
+    if comes_before(dues[child], due) {
+        Some(child)
+    } else {
+        None
+    }
+}
+
+// A time goes to a place or to one below it, where only children of that place may come before it.
+fn sink(dues: &mut Vec<Due>, places: &mut Arena<usize>, at: usize, due: Due)
+    requires at { at < length dues.old.items }
+    requires held { IsSome (get places.old due.object.0) }
+    requires heap { Sinks (slice_get (set dues.old.items at due)) at }
+    requires places { Places (slice_get (set dues.old.items at due)) (with_place (get places.old) due.object.0 at) }
+    ensures heap { IsHeap (slice_get dues.new.items) }
+    ensures places { Places (slice_get dues.new.items) (get places.new) }
+    ensures dues { Reorders (set dues.old.items at due) dues.new.items }
+    ensures capacity { vec_capacity dues.new ≡ vec_capacity dues.old }
+    ensures spare { places.new.spare ≡ places.old.spare }
+{
+    match early_child(dues, at, due) {
+        Some(child) => {
+            let other = dues[child];
+            put(dues, places, at, other);
+            sink(dues, places, child, due);
+        }
+        None => put(dues, places, at, due),
+    }
+}
+
+// A time goes to a place, or to where it belongs above or below it.
+fn settle(dues: &mut Vec<Due>, places: &mut Arena<usize>, at: usize, due: Due)
+    requires at { at < length dues.old.items }
+    requires held { IsSome (get places.old due.object.0) }
+    requires heap { Settles (slice_get (set dues.old.items at due)) at }
+    requires places { Places (slice_get (set dues.old.items at due)) (with_place (get places.old) due.object.0 at) }
+    ensures heap { IsHeap (slice_get dues.new.items) }
+    ensures places { Places (slice_get dues.new.items) (get places.new) }
+    ensures dues { Reorders (set dues.old.items at due) dues.new.items }
+    ensures capacity { vec_capacity dues.new ≡ vec_capacity dues.old }
+    ensures spare { places.new.spare ≡ places.old.spare }
+{
+    if late_parent(dues, at, due).is_some() {
+        rise(dues, places, at, due);
+    } else {
+        sink(dues, places, at, due);
+    }
+}
+
+/// The time at a place goes, whose object isn't held any more, and the last one comes to where it belongs.
+pub(crate) fn take_out(dues: &mut Vec<Due>, places: &mut Arena<usize>, at: usize)
+    requires at { at < length dues.old.items }
+    requires heap { IsHeap (slice_get dues.old.items) }
+    requires places { PlacesBut (slice_get dues.old.items) (get places.old) at }
+    ensures heap { IsHeap (slice_get dues.new.items) }
+    ensures places { Places (slice_get dues.new.items) (get places.new) }
+    ensures dues { Removes dues.old.items dues.new.items at }
+    ensures capacity { vec_capacity dues.new ≡ vec_capacity dues.old }
+    ensures spare { places.new.spare ≡ places.old.spare }
+{
+    let Some(last) = dues.pop() else {
+        return;
+    };
+    if at < dues.len() {
+        settle(dues, places, at, last);
+    }
+}

@@ -1,0 +1,2 @@
+-- Events: objects whose turn comes.
+pub mod Pending
