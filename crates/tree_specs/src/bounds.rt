@@ -3,6 +3,9 @@
 /// The size of an object, in bytes, is below this: talloc's own bound for one allocation (`MAX_TALLOC_SIZE`).
 pub const SIZE_LIMIT: u64 = 268_435_456;
 
+/// The latest time of an event, in microseconds.
+pub const TIME_LIMIT: u64 = 4_611_686_018_427_387_904;
+
 /// At most so many objects are live at once.
 pub const ROW_LIMIT: usize = 1_048_576;
 

@@ -45,4 +45,22 @@ pub enum Call {
     Sum { owner: Owner },
     /// `report P`: a row for the owner and for all that is below it, as `talloc_report` writes them.
     Report { owner: Owner },
+    /// `immediate P`: an event below an owner that can be made to come as soon as it can, as `tevent_create_immediate`
+    /// makes it. The reply is its number.
+    Immediate { owner: Owner },
+    /// `schedule X R U`: the immediate comes as soon as it can, with the routine R and the user number U, as
+    /// `tevent_schedule_immediate` says; it waits behind all that wait already. With 0 for R it doesn't come any more.
+    Schedule { x: Obj, routine: u32, user: u64 },
+    /// `unschedule X`: the immediate doesn't come any more.
+    Unschedule { x: Obj },
+    /// `timer P TIME R U`: an event below an owner that comes at a time in microseconds, from 0 to 2^62, with the routine
+    /// R and the user number U, as `tevent_add_timer` makes it. The reply is its number.
+    Timer {
+        owner: Owner,
+        time: u64,
+        routine: u32,
+        user: u64,
+    },
+    /// `pending`: how many events wait: immediates that are scheduled, and timers.
+    Pending,
 }

@@ -32,6 +32,7 @@ mod tests;
 
 pub use bounds::{
     LINE_LIMIT, LINES_LIMIT, NAME_LIMIT, OCTETS_LIMIT, OVERHEAD, ROW_LIMIT, SIZE_LIMIT,
+    TIME_LIMIT,
 };
 pub use call::Call;
 pub use due::Due;

@@ -11,6 +11,8 @@ pub enum Test {
     IsOwner(Owner),
     /// The object is a plain one.
     IsPlain(Obj),
+    /// The object is an immediate.
+    IsImmediate(Obj),
     /// There is room for so many rows, and there are so many numbers.
     HasRoom(u8),
     /// The limits leave room for so many more bytes below the owner.
@@ -19,6 +21,8 @@ pub enum Test {
     MayGrow(Obj, u64),
     /// The object isn't being freed.
     IsNotDying(Obj),
+    /// The object isn't being freed, and won't be once its handler is over.
+    IsNotDoomed(Obj),
     /// Neither its destructor nor its handler runs.
     IsNotRunning(Obj),
     /// The owner isn't inside the object.

@@ -26,7 +26,7 @@ use Rattle.tree_specs.specs.Calls.Given.{Given, given_to}
 use Rattle.tree_specs.specs.Calls.Given.Given.{Calls, Returns}
 use Rattle.tree_specs.specs.declared.test.Test.{Test}
 use Rattle.tree_specs.specs.Calls.Refusals.{Check, refuse_if, refusal_of, refused, size_limit, row_limit, object_row, object, owner, room, apart, interested, given_by, is_running_mark}
-use Rattle.tree_specs.specs.declared.test.Test.TheVariants.{IsSmall, IsObject, IsOwner, IsPlain, HasRoom, Fits, MayGrow, IsNotDying, IsNotRunning, IsNotInside, IsUnheld, IsUnreferenced, IsInterested, MayGive}
+use Rattle.tree_specs.specs.declared.test.Test.TheVariants.{IsSmall, IsObject, IsOwner, IsPlain, IsImmediate, HasRoom, Fits, MayGrow, IsNotDying, IsNotDoomed, IsNotRunning, IsNotInside, IsUnheld, IsUnreferenced, IsInterested, MayGive}
 use Rattle.tree_specs.specs.Calls.Passed.{Interest, AsOwner, AsHolder, Gives, Itself, ItsRef, Passed, AllPassed}
 use Rattle.tree_specs.specs.Invariants.Sound.{IsLive, MayBePlaced}
 use Rattle.tree_specs.specs.Words.Ranges.{is_sound_call, is_return}
@@ -105,10 +105,12 @@ passes p (IsSmall size) e = let big : nat_le size_limit size ≡ false = refuse_
 passes p (IsObject x) e = passes-object p x e
 passes p (IsOwner o) e = passes-owner p o e
 passes p (IsPlain x) e = not-false _ (refuse_if-none _ _ e)
+passes p (IsImmediate x) e = not-false _ (refuse_if-none _ _ e)
 passes p (HasRoom k) e = passes-room p k e
 passes p (Fits o wanted) e = e
 passes p (MayGrow x size) e = e
 passes p (IsNotDying x) e = refuse_if-none _ _ e
+passes p (IsNotDoomed x) e = refuse_if-none _ _ e
 passes p (IsNotRunning x) e = refuse_if-none _ _ e
 passes p (IsNotInside x o) e = refuse_if-none _ _ e
 passes p (IsUnheld x) e = refuse_if-none _ _ e

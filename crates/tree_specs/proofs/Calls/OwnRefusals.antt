@@ -21,7 +21,7 @@ use Rattle.tree_specs.specs.Rules.Items.{Item}
 use Rattle.tree_specs.specs.Rules.Items.Item.{Told}
 use Rattle.tree_specs.specs.declared.test.Test.{Test}
 use Rattle.tree_specs.specs.Calls.Refusals.{Check, row_limit, refuse_if, refusal_of, refused, refusals, over, fits_in, fits, growing, object_row, object, owner, room, given_by, held, is_held, is_running}
-use Rattle.tree_specs.specs.declared.test.Test.TheVariants.{IsSmall, IsObject, IsOwner, IsPlain, HasRoom, Fits, MayGrow, IsNotDying, IsNotRunning, IsNotInside, IsUnheld, IsUnreferenced, IsInterested, MayGive}
+use Rattle.tree_specs.specs.declared.test.Test.TheVariants.{IsSmall, IsObject, IsOwner, IsPlain, IsImmediate, HasRoom, Fits, MayGrow, IsNotDying, IsNotDoomed, IsNotRunning, IsNotInside, IsUnheld, IsUnreferenced, IsInterested, MayGive}
 use Rattle.tree_specs.specs.Rules.Sequence.{Scene}
 use Rattle.tree_specs.specs.Promises.Orderly.{RefusedJustNow}
 use Rattle.tree_specs.specs.Promises.Grounded.{AnsweredCall, HeldCall, CausedCall}
@@ -82,10 +82,12 @@ own-test p (IsSmall size) = own-if p _ _ (λ t. tt)
 own-test p (IsObject x) = own-object p x
 own-test p (IsOwner o) = own-owner p o
 own-test p (IsPlain x) = own-if p _ _ (λ t. tt)
+own-test p (IsImmediate x) = own-if p _ _ (λ t. tt)
 own-test p (HasRoom k) = own-room p k
 own-test p (Fits o wanted) = own-below p o wanted
 own-test p (MayGrow x size) = own-growing p x size
 own-test p (IsNotDying x) = own-if p _ _ (λ t. tt)
+own-test p (IsNotDoomed x) = own-if p _ _ (λ t. tt)
 own-test p (IsNotRunning x) = own-if p _ _ (λ t. t)
 own-test p (IsNotInside x o) = own-if p _ _ (λ t. tt)
 own-test p (IsUnheld x) = own-if p _ _ (λ t. tt)

@@ -1,5 +1,5 @@
 -- What a plan asks for, what its change of the rows leaves so, and that a call which isn't refused may carry out its plan.
-use Rattle.std.proofs.Common.{ℕ, ◌≡◌, ◌≢◌, ◌≤◌, ◌+◌, ◌*◌, List, [], ◌∷◌, length, Option, Some, None, Bool, true, false, refl, sym, ◌∙◌, ap, subst, arith}
+use Rattle.std.proofs.Common.{ℕ, nat_eq, ◌≡◌, ◌≢◌, ◌≤◌, ◌+◌, ◌*◌, List, [], ◌∷◌, length, Option, Some, None, Bool, true, false, refl, sym, ◌∙◌, ap, subst, arith}
 use Rattle.std.specs.Prelude.{codes, if◌then◌else◌}
 use Rattle.tree_specs.specs.declared.object.Obj.{Obj}
 use Rattle.tree_specs.specs.declared.object.Owner.{Owner}
@@ -21,19 +21,19 @@ use Rattle.tree_specs.specs.Invariants.Consistent.{deposit, mark_deposit}
 use Rattle.tree_specs.specs.Calls.Refusals.{Check, tests, refusals}
 use Rattle.tree_specs.specs.declared.test.Test.TheVariants.{IsObject}
 use Rattle.tree_specs.specs.Calls.Plans.{Change, Plan, changed_by, plan, planned, unless_refused, places, warns, frees, handed, gift}
-use Rattle.tree_specs.specs.Calls.Plans.Change.{Nothing, Edit, Add, Place, Then}
+use Rattle.tree_specs.specs.Calls.Plans.Change.{Nothing, Edit, Add, Place, Schedule, Unschedule, Arm, Then}
 use Rattle.tree_specs.specs.Calls.Plans.Plan.{Does, Frees, Unlinks, Empties}
 use Rattle.tree_specs.specs.Invariants.Sound.{IsLive, IsReferable, IsQuietRow, MayBePlaced, Rests, Sound, claim}
-use Rattle.tree_specs.proofs.Tree.Numbered.{same-equal, is_below-some}
+use Rattle.tree_specs.proofs.Tree.Numbered.{by_test, same-equal, is_below-some}
 use Rattle.tree_specs.proofs.Tree.Rows.{total-placed, row_of-placed-same}
 use Rattle.tree_specs.proofs.Tree.Rooted.{KeepsPlace}
 use Rattle.tree_specs.proofs.Tree.Referring.{newest-refers, newest-of-refers, refers-nothing, reference-outside, object-refers}
 use Rattle.tree_specs.specs.Calls.Passed.{Passed, AllPassed, Interest, AsOwner, AsHolder, Gives, Itself, ItsRef}
 use Rattle.tree_specs.proofs.Calls.Checks.{all-pass, may-place, quiet-row}
-use Rattle.tree_specs.proofs.Invariants.Changes.{names-place, hooks-place, sizes-place, limits-place, goes_on, unmarked-sound, placed-sound, new-sound, owned-row}
+use Rattle.tree_specs.proofs.Invariants.Changes.{names-place, hooks-place, sizes-place, limits-place, goes_on, waiting-sound, unmarked-sound, placed-sound, new-sound, owned-row}
 use Rattle.tree_specs.proofs.Invariants.KeptFrees.{referred-live}
 use Rattle.tree_specs.proofs.Turns.FallingFrees.{total-kept, length-changed, length-placed}
-use Rattle.tree_specs.proofs.Promises.Later.{Later, later-still, later-same, later-changed, later-placed, later-added}
+use Rattle.tree_specs.proofs.Promises.Later.{Later, later-still, later-same, later-changed, later-placed, later-added, later-waiting}
 
 -- ---- what a change asks for
 
@@ -54,6 +54,9 @@ MayDo p Nothing = Unit {0}
 MayDo p (Edit x g) = MayBeEdited p x g
 MayDo p (Add kind o size name) = MayBeAdded p kind o
 MayDo p (Place o x) = MayBePlaced p o x
+MayDo p (Schedule x) = Unit {0}
+MayDo p (Unschedule x) = Unit {0}
+MayDo p (Arm x time number) = Unit {0}
 MayDo p (Then first second) = MayDo p first × MayDo (changed_by first p) second
 
 -- how many rows it adds
@@ -62,6 +65,9 @@ added Nothing = 0
 added (Edit x g) = 0
 added (Add kind o size name) = 1
 added (Place o x) = 0
+added (Schedule x) = 0
+added (Unschedule x) = 0
+added (Arm x time number) = 0
 added (Then first second) = added first + added second
 
 -- ---- what a change leaves so
@@ -72,6 +78,10 @@ pub record Follows (p q : Pool) (more : ℕ) : Type 0 where
   pub number : length q.rows ≤ length p.rows + more
   pub deposit : total deposit p.rows ≤ total deposit q.rows
   pub later : Later p q
+
+-- the same rows, of which others wait
+waits : (p q : Pool) → q.rows ≡ p.rows → q.next ≡ p.next → Follows p q 0
+waits p q rows next = record { weight = rw rows (omega arith); number = rw rows (omega arith); deposit = rw rows (omega arith); later = later-waiting p q rows next }
 
 pub follows : (p : Pool) (c : Change) → MayDo p c → Follows p (changed_by c p) (added c)
 follows p Nothing may = record { weight = omega arith; number = omega arith; deposit = omega arith; later = later-same p }
@@ -94,6 +104,9 @@ follows p (Place o x) may =
       deposit = omega (arith, b);
       later = later-placed p o x may.row may.is;
     }
+follows p (Schedule x) may = waits p (changed_by (Schedule x) p) refl refl
+follows p (Unschedule x) may = waits p (changed_by (Unschedule x) p) refl refl
+follows p (Arm x time number) may = waits p (changed_by (Arm x time number) p) refl refl
 follows p (Then first second) may =
     let a = follows p first may.0 in
     let b = follows (changed_by first p) second may.1 in
@@ -105,6 +118,9 @@ change-sound f f' fs p Nothing s may same calm h = goes_on f f' fs p same h s
 change-sound f f' fs p (Edit x g) s may same calm h = unmarked-sound g f f' fs p x may.row s may.place may.mark may.is may.object same h
 change-sound f f' fs p (Add kind o size name) s may same calm h = new-sound f f' kind o size name fs p s may.there may.target same h
 change-sound f f' fs p (Place o x) s may same calm h = placed-sound f f' o x fs p s may same h
+change-sound f f' fs p (Schedule x) s may same calm h = waiting-sound f f' fs p (changed_by (Schedule x) p) s refl refl same h
+change-sound f f' fs p (Unschedule x) s may same calm h = waiting-sound f f' fs p (changed_by (Unschedule x) p) s refl refl same h
+change-sound f f' fs p (Arm x time number) s may same calm h = waiting-sound f f' fs p (changed_by (Arm x time number) p) s refl refl same h
 change-sound f f' fs p (Then first second) s may same calm h =
     let t = change-sound f f fs p first s may.0 (λ y. refl) calm (calm (changed_by first p)) in
     change-sound f f' fs (changed_by first p) second t may.1 same calm h
@@ -189,6 +205,11 @@ module _ (f : Frame) (fs : List Frame) (p : Pool) (s : Sound f fs p) where
   each (call.Count o) h = (tt, omega arith, tt)
   each (call.Sum o) h = (tt, omega arith, tt)
   each (call.Report o) h = (tt, omega arith, tt)
+  each (call.Immediate o) h = (record { there = h.0; target = λ t e. cc }, omega arith, tt)
+  each (call.Schedule x routine user) h = by_test (nat_eq routine 0) (λ t. rw t (tt, omega arith, tt)) (λ t. rw t (tt, omega arith, tt))
+  each (call.Unschedule x) h = (tt, omega arith, tt)
+  each (call.Timer o time routine user) h = ((record { there = h.0; target = λ t e. cc }, tt), omega arith, tt)
+  each call.Pending h = (tt, omega arith, tt)
 
   pub may : (c : Call) → refusals p c ≡ [] → May p (plan p c)
   may c none = each c (all-pass p (tests c) none)

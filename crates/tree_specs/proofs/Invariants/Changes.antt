@@ -67,6 +67,18 @@ stands f f' fs fs' p e w h s = record { started = s.started; valid = s.valid; fo
 pub goes_on : (f f' : Frame) (fs : List Frame) (p : Pool) → ((x : Obj) → claim x f' ≡ claim x f) → Rests f' fs p → Sound f fs p → Sound f' fs p
 goes_on f f' fs p e h s = stands f f' fs fs p (λ x. ap (λ (l : List Phase). l ++ claims x fs) (e x)) s.waiting h s
 
+-- the same rows, of which others wait for their turn
+pub waiting-sound : (f f' : Frame) (fs : List Frame) (p q : Pool) → Sound f fs p → q.rows ≡ p.rows → q.next ≡ p.next → ((x : Obj) → claim x f' ≡ claim x f) → Rests f' fs q → Sound f' fs q
+waiting-sound f f' fs p q s rows next e h = record {
+  started = rw next s.started;
+  valid = rw (rows, next) s.valid;
+  forest = rw rows s.forest;
+  refers = rw rows s.refers;
+  open_frees = λ x. rw rows (ap (λ (l : List Phase). l ++ claims x fs) (e x) ∙ s.open_frees x);
+  waiting = s.waiting;
+  rests = h;
+}
+
 -- ---- a row that is changed in its place
 
 -- a fact on each object, where one row was changed

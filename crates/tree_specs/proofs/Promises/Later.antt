@@ -54,6 +54,18 @@ later-still {p = p} {q = q} {r = r} a b = let g = a.grows in let h = b.grows in 
 pub later-same : (p : Pool) → Later p p
 later-same p = record { grows = omega arith; none = λ x l e. e; past = λ x l e. e; idle = λ h. h }
 
+-- the same rows later on, of which others wait
+pub later-rows : {p q r : Pool} → Later p q → r.rows ≡ q.rows → r.next ≡ q.next → Later p r
+later-rows l rows next = record {
+  grows = rw next l.grows;
+  none = λ x h e. rw rows (l.none x h e);
+  past = λ x h e. rw rows (l.past x h e);
+  idle = λ h. rw rows (l.idle h);
+}
+
+pub later-waiting : (p q : Pool) → q.rows ≡ p.rows → q.next ≡ p.next → Later p q
+later-waiting p q rows next = later-rows (later-same p) rows next
+
 -- where the row of one object is another one
 later-at : (p q : Pool) (x : Obj) → p.next ≤ q.next → ((y : Obj) → x ≢ y → row_of q.rows y ≡ row_of p.rows y)
     → (x.0 < p.next → row_of p.rows x ≡ None → row_of q.rows x ≡ None) → (x.0 < p.next → IsPast (row_of p.rows x) → IsPast (row_of q.rows x))
@@ -98,7 +110,7 @@ pub later-hooked : (p : Pool) (x : Obj) (r : Row) (h : ℕ) → row_of p.rows x 
 later-hooked p x r h e = later-changed (hooked_row h) p x r (λ q. refl) e (λ d. d) (λ i. i)
 
 pub later-left : (p : Pool) (x : Obj) (r : Row) → row_of p.rows x ≡ Some r → Later p (detach p x)
-later-left p x r e = later-changed left_row p x r (λ q. refl) e (λ d. tt) (λ i. tt)
+later-left p x r e = later-rows (later-changed left_row p x r (λ q. refl) e (λ d. tt) (λ i. tt)) refl refl
 
 pub later-placed : (p : Pool) (o : Owner) (x : Obj) (r : Row) → row_of p.rows x ≡ Some r → Later p (place p o x)
 later-placed p o x r e =

@@ -5,11 +5,11 @@ use Rattle.tree_specs.specs.declared.object.Owner.{Owner}
 use Rattle.tree_specs.specs.declared.object.Owner.TheVariants.{Of}
 use Rattle.tree_specs.specs.declared.row.Row.{Row}
 use Rattle.tree_specs.specs.declared.test.Test.{Test}
-use Rattle.tree_specs.specs.declared.test.Test.TheVariants.{IsSmall, IsObject, IsOwner, IsPlain, HasRoom, Fits, MayGrow, IsNotDying, IsNotRunning, IsNotInside, IsUnheld, IsUnreferenced, IsInterested, MayGive}
+use Rattle.tree_specs.specs.declared.test.Test.TheVariants.{IsSmall, IsObject, IsOwner, IsPlain, IsImmediate, HasRoom, Fits, MayGrow, IsNotDying, IsNotDoomed, IsNotRunning, IsNotInside, IsUnheld, IsUnreferenced, IsInterested, MayGive}
 use Rattle.tree_specs.specs.Tree.Targets.{target_of}
 use Rattle.tree_specs.specs.Tree.Pool.{Pool, row_of, is_owner, is_below, owner_of, newest_ref_of, is_dying, is_inside}
 use Rattle.tree_specs.specs.Tree.Reports.{count_refs}
-use Rattle.tree_specs.specs.Calls.Refusals.{size_limit, row_limit, is_plain_row, is_held, is_running, fits, growing}
+use Rattle.tree_specs.specs.Calls.Refusals.{size_limit, row_limit, is_plain_row, is_immediate_row, is_held, is_doomed, is_running, fits, growing}
 
 -- an interest is an owner's, or of one that has a reference
 pub data Interest (p : Pool) (o : Owner) (x : Obj) : Type 0 where
@@ -26,10 +26,12 @@ Passed p (IsSmall size) = size < size_limit
 Passed p (IsObject x) = (r : Row) × (row_of p.rows x ≡ Some r) × (target_of r.kind ≡ None)
 Passed p (IsOwner o) = is_owner p.rows o ≡ true
 Passed p (IsPlain x) = is_plain_row (row_of p.rows x) ≡ true
+Passed p (IsImmediate x) = is_immediate_row (row_of p.rows x) ≡ true
 Passed p (HasRoom k) = (length p.rows + k ≤ row_limit) × (p.next + k < 2 ^ 64)
 Passed p (Fits o wanted) = fits p o wanted ≡ []
 Passed p (MayGrow x size) = growing p x size ≡ []
 Passed p (IsNotDying x) = is_dying p.rows x ≡ false
+Passed p (IsNotDoomed x) = is_doomed p x ≡ false
 Passed p (IsNotRunning x) = is_running p x ≡ false
 Passed p (IsNotInside x o) = is_inside p.rows o (Of x) ≡ false
 Passed p (IsUnheld x) = is_held p x ≡ false

@@ -5,14 +5,14 @@ use Rattle.tree_specs.specs.declared.object.Obj.{Obj}
 use Rattle.tree_specs.specs.declared.object.Owner.{Owner}
 use Rattle.tree_specs.specs.declared.object.Owner.TheVariants.{Root, Of}
 use Rattle.tree_specs.specs.declared.kind.Kind.{Kind}
-use Rattle.tree_specs.specs.declared.kind.Kind.TheVariants.{Plain, Reference, Timer, Immediate, Descriptor, Request, Queue, Entry}
+use Rattle.tree_specs.specs.declared.kind.Kind.TheVariants.{Plain, Reference, Timer as TimerKind, Immediate as ImmediateKind, Descriptor, Request, Queue, Entry}
 use Rattle.tree_specs.specs.declared.row.Row.{Row}
 use Rattle.tree_specs.specs.declared.row.Mark.{Mark}
 use Rattle.tree_specs.specs.declared.row.Mark.TheVariants as mark
 use Rattle.tree_specs.specs.declared.call.Call.{Call}
-use Rattle.tree_specs.specs.declared.call.Call.TheVariants.{New, Free, Freekids, Steal, Move, Reparent, Reference as Refer, Unlink, Hook, Unhook, Rename, Resize, Limit, Parent, Total, Count, Sum, Report}
+use Rattle.tree_specs.specs.declared.call.Call.TheVariants.{New, Free, Freekids, Steal, Move, Reparent, Reference as Refer, Unlink, Hook, Unhook, Rename, Resize, Limit, Parent, Total, Count, Sum, Report, Immediate, Schedule, Unschedule, Timer, Pending}
 use Rattle.tree_specs.specs.declared.test.Test.{Test}
-use Rattle.tree_specs.specs.declared.test.Test.TheVariants.{IsSmall, IsObject, IsOwner, IsPlain, HasRoom, Fits, MayGrow, IsNotDying, IsNotRunning, IsNotInside, IsUnheld, IsUnreferenced, IsInterested, MayGive}
+use Rattle.tree_specs.specs.declared.test.Test.TheVariants.{IsSmall, IsObject, IsOwner, IsPlain, IsImmediate, HasRoom, Fits, MayGrow, IsNotDying, IsNotDoomed, IsNotRunning, IsNotInside, IsUnheld, IsUnreferenced, IsInterested, MayGive}
 use Rattle.tree_specs.specs.declared.reply.Refusal.{Refusal}
 use Rattle.tree_specs.specs.declared.reply.Refusal.TheVariants.{NoSuch, WrongKind, Running, Held, NotParent, Loop, Dying, OverLimit, Full, Spent, TooBig}
 use Rattle.tree_specs.specs.Tree.Pool.{Pool, row_of, is_below, owner_of, newest_ref_of, is_dying, is_inside}
@@ -59,8 +59,8 @@ object p x = object_row x (row_of p.rows x)
 abbrev pub is_plain : Kind → Bool
 is_plain Plain = true
 is_plain (Reference target) = false
-is_plain Timer = false
-is_plain Immediate = false
+is_plain TimerKind = false
+is_plain ImmediateKind = false
 is_plain Descriptor = false
 is_plain Request = false
 is_plain Queue = false
@@ -73,6 +73,19 @@ is_plain_row (Some r) = is_plain r.kind
 -- only plain objects have destructors
 abbrev pub plain : Pool → Obj → Check
 plain p x = refuse_if (not (is_plain_row (row_of p.rows x))) (WrongKind x)
+
+-- an event that comes as soon as it can
+abbrev pub is_immediate : Kind → Bool
+is_immediate ImmediateKind = true
+is_immediate k = false
+
+abbrev pub is_immediate_row : Option Row → Bool
+is_immediate_row None = false
+is_immediate_row (Some r) = is_immediate r.kind
+
+-- only an immediate is scheduled
+abbrev pub immediate : Pool → Obj → Check
+immediate p x = refuse_if (not (is_immediate_row (row_of p.rows x))) (WrongKind x)
 
 -- the root, or an object
 abbrev pub owner : Pool → Owner → Check
@@ -103,6 +116,25 @@ fits p o wanted = fits_in (length p.rows) p.rows wanted (Some o)
 -- an object that is being freed stays where it is
 abbrev pub staying : Pool → Obj → Check
 staying p x = refuse_if (is_dying p.rows x) (Dying x)
+
+-- it is being freed, or is to be once its handler is over
+abbrev pub is_doomed_mark : Mark → Bool
+is_doomed_mark mark.Quiet = false
+is_doomed_mark mark.Asked = false
+is_doomed_mark mark.Busy = false
+is_doomed_mark mark.Doomed = true
+is_doomed_mark (mark.Dying former) = true
+
+abbrev pub is_doomed_row : Option Row → Bool
+is_doomed_row None = false
+is_doomed_row (Some r) = is_doomed_mark r.mark
+
+abbrev pub is_doomed : Pool → Obj → Bool
+is_doomed p x = is_doomed_row (row_of p.rows x)
+
+-- an event that is to be freed waits for nothing
+abbrev pub lasting : Pool → Obj → Check
+lasting p x = refuse_if (is_doomed p x) (Dying x)
 
 -- no object comes to be inside itself
 abbrev pub apart : Pool → Obj → Owner → Check
@@ -161,10 +193,12 @@ refusal_of p (IsSmall size) = small size
 refusal_of p (IsObject x) = object p x
 refusal_of p (IsOwner o) = owner p o
 refusal_of p (IsPlain x) = plain p x
+refusal_of p (IsImmediate x) = immediate p x
 refusal_of p (HasRoom k) = room p k
 refusal_of p (Fits o wanted) = fits p o wanted
 refusal_of p (MayGrow x size) = growing p x size
 refusal_of p (IsNotDying x) = staying p x
+refusal_of p (IsNotDoomed x) = lasting p x
 refusal_of p (IsNotRunning x) = still p x
 refusal_of p (IsNotInside x o) = apart p x o
 refusal_of p (IsUnheld x) = held p x
@@ -191,6 +225,11 @@ tests (Total o) = IsOwner o ∷ []
 tests (Count o) = IsOwner o ∷ []
 tests (Sum o) = IsOwner o ∷ []
 tests (Report o) = IsOwner o ∷ []
+tests (Immediate o) = IsOwner o ∷ HasRoom 1 ∷ Fits o overhead ∷ []
+tests (Schedule x routine user) = IsObject x ∷ IsImmediate x ∷ IsNotDoomed x ∷ []
+tests (Unschedule x) = IsObject x ∷ IsImmediate x ∷ IsNotDoomed x ∷ []
+tests (Timer o time routine user) = IsOwner o ∷ HasRoom 1 ∷ Fits o overhead ∷ []
+tests Pending = []
 
 -- the refusals of tests, one after another
 abbrev pub refused : Pool → List Test → Check

@@ -3,13 +3,17 @@ use Rattle.std.specs.Prelude.{ℕ, List, [], ◌∷◌, codes}
 use Rattle.tree_specs.specs.declared.object.Obj.{Obj}
 use Rattle.tree_specs.specs.declared.object.Owner.{Owner}
 use Rattle.tree_specs.specs.declared.call.Call.{Call}
-use Rattle.tree_specs.specs.declared.call.Call.TheVariants.{New, Free, Freekids, Steal, Move, Reparent, Reference, Unlink, Hook, Unhook, Rename, Resize, Limit, Parent, Total, Count, Sum, Report}
+use Rattle.tree_specs.specs.declared.call.Call.TheVariants.{New, Free, Freekids, Steal, Move, Reparent, Reference, Unlink, Hook, Unhook, Rename, Resize, Limit, Parent, Total, Count, Sum, Report, Immediate, Schedule, Unschedule, Timer, Pending}
 
 pub data Field : Type 0 where
   AnOwner : Owner → Field
   AnObject : Obj → Field
   ANumber : ℕ → Field
   ARoutine : ℕ → Field
+  -- 0 is none
+  ARoutineOrNone : ℕ → Field
+  -- in microseconds
+  ATime : ℕ → Field
   AName : List ℕ → Field
 
 pub record Spelling : Type 0 where
@@ -39,6 +43,11 @@ spelling (Total owner) = codes "total" with (AnOwner owner ∷ [])
 spelling (Count owner) = codes "count" with (AnOwner owner ∷ [])
 spelling (Sum owner) = codes "sum" with (AnOwner owner ∷ [])
 spelling (Report owner) = codes "report" with (AnOwner owner ∷ [])
+spelling (Immediate owner) = codes "immediate" with (AnOwner owner ∷ [])
+spelling (Schedule x routine user) = codes "schedule" with (AnObject x ∷ ARoutineOrNone routine ∷ ANumber user ∷ [])
+spelling (Unschedule x) = codes "unschedule" with (AnObject x ∷ [])
+spelling (Timer owner time routine user) = codes "timer" with (AnOwner owner ∷ ATime time ∷ ARoutine routine ∷ ANumber user ∷ [])
+spelling Pending = codes "pending" with []
 
 -- ---- reading
 
@@ -49,6 +58,8 @@ pub data Reading : Type 0 where
   TakesObject : (Obj → Reading) → Reading
   TakesNumber : (ℕ → Reading) → Reading
   TakesRoutine : (ℕ → Reading) → Reading
+  TakesRoutineOrNone : (ℕ → Reading) → Reading
+  TakesTime : (ℕ → Reading) → Reading
   -- a name comes last
   EndsInName : (List ℕ → Call) → Reading
 
@@ -92,4 +103,9 @@ forms =
     ∷ (codes "count" reads of_owner Count)
     ∷ (codes "sum" reads of_owner Sum)
     ∷ (codes "report" reads of_owner Report)
+    ∷ (codes "immediate" reads of_owner Immediate)
+    ∷ (codes "schedule" reads TakesObject (λ x. TakesRoutineOrNone (λ routine. TakesNumber (λ user. IsConsistent (Schedule x routine user)))))
+    ∷ (codes "unschedule" reads of_object Unschedule)
+    ∷ (codes "timer" reads TakesOwner (λ owner. TakesTime (λ time. TakesRoutine (λ routine. TakesNumber (λ user. IsConsistent (Timer owner time routine user))))))
+    ∷ (codes "pending" reads IsConsistent Pending)
     ∷ []

@@ -1,9 +1,10 @@
 -- The grammar of numbers, names, calls and schedule lines: the value that a text spells, or none.
-use Rattle.std.specs.Prelude.{ℕ, ◌^◌, Bool, true, false, ◌==◌, ◌&&◌, not, nat_lt, if◌then◌else◌, List, [], ◌∷◌, Option, Some, None, codes}
+use Rattle.std.specs.Prelude.{ℕ, ◌+◌, ◌^◌, Bool, true, false, ◌==◌, ◌&&◌, not, nat_lt, if◌then◌else◌, List, [], ◌∷◌, Option, Some, None, codes}
 use Rattle.std.specs.List.{slice_split}
 use Rattle.std.specs.Option.{option_map}
 use Rattle.std.specs.Str.{all_ascii_digits, bytes_eq}
 use Rattle.std.specs.Str.Parse.{digits_value}
+use Rattle.tree_specs.specs.declared.bounds.TheConstants.{TIME_LIMIT}
 use Rattle.tree_specs.specs.declared.object.Obj.{Obj}
 use Rattle.tree_specs.specs.declared.object.Owner.{Owner}
 use Rattle.tree_specs.specs.declared.call.Call.{Call}
@@ -12,7 +13,7 @@ use Rattle.tree_specs.specs.declared.question.Input.{Input}
 use Rattle.tree_specs.specs.declared.question.Input.TheVariants as inputs
 use Rattle.tree_specs.specs.Words.Names.{is_name}
 use Rattle.tree_specs.specs.Calls.Spelling.{Reading, Form, forms}
-use Rattle.tree_specs.specs.Calls.Spelling.Reading.{IsConsistent, TakesOwner, TakesObject, TakesNumber, TakesRoutine, EndsInName}
+use Rattle.tree_specs.specs.Calls.Spelling.Reading.{IsConsistent, TakesOwner, TakesObject, TakesNumber, TakesRoutine, TakesRoutineOrNone, TakesTime, EndsInName}
 use Rattle.tree_specs.specs.Words.Objects.{numbered_owner}
 
 infixl 10 ◌>>=◌
@@ -49,6 +50,10 @@ routine_of ds = do
   n ← number32_of ds
   if n == 0 then None else Some n
 
+-- a time in microseconds
+unfoldable pub time_of : List ℕ → Option ℕ
+time_of ds = number_below (TIME_LIMIT + 1) ds
+
 unfoldable pub owner_of : List ℕ → Option Owner
 owner_of text = do
   n ← number_of text
@@ -83,6 +88,12 @@ read (TakesNumber next) (word ∷ more) = do
 read (TakesRoutine next) (word ∷ more) = do
   routine ← routine_of word
   read (next routine) more
+read (TakesRoutineOrNone next) (word ∷ more) = do
+  routine ← number32_of word
+  read (next routine) more
+read (TakesTime next) (word ∷ more) = do
+  time ← time_of word
+  read (next time) more
 read (EndsInName call) (word ∷ []) = do
   name ← name_of word
   Some (call name)

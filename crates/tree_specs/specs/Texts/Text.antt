@@ -22,7 +22,7 @@ use Rattle.tree_specs.specs.declared.question.Input.{Input}
 use Rattle.tree_specs.specs.declared.question.Input.TheVariants as inputs
 use Rattle.tree_specs.specs.Words.Objects.{owner_number}
 use Rattle.tree_specs.specs.Calls.Spelling.{Field, spelling}
-use Rattle.tree_specs.specs.Calls.Spelling.Field.{AnOwner, AnObject, ANumber, ARoutine, AName}
+use Rattle.tree_specs.specs.Calls.Spelling.Field.{AnOwner, AnObject, ANumber, ARoutine, ARoutineOrNone, ATime, AName}
 use Rattle.tree_specs.specs.Rules.Items.{Item}
 use Rattle.tree_specs.specs.Rules.Items.Item.{Told, Asked}
 
@@ -34,6 +34,8 @@ field_text (AnOwner o) = decimal (owner_number o)
 field_text (AnObject x) = decimal x.0
 field_text (ANumber n) = decimal n
 field_text (ARoutine r) = decimal r
+field_text (ARoutineOrNone r) = decimal r
+field_text (ATime n) = decimal n
 field_text (AName name) = name
 
 -- the verb and the fields, with single spaces between them

@@ -1,5 +1,6 @@
--- The pool: the rows of the objects, the most recently placed first, and the next serial number.
+-- The pool: the rows of the objects, the most recently placed first, the next serial number, and what waits for its turn.
 use Rattle.std.specs.Prelude.{ℕ, suc, zero, ◌+◌, Bool, true, false, not, ◌||◌, ◌&&◌, List, [], ◌∷◌, length, Option, Some, None, is_some, unwrap_or, if◌then◌else◌}
+use Rattle.tree_specs.specs.declared.due.Due.{Due}
 use Rattle.tree_specs.specs.declared.object.Obj.{Obj}
 use Rattle.tree_specs.specs.declared.object.Owner.{Owner}
 use Rattle.tree_specs.specs.declared.object.Owner.TheVariants.{Root, Of}
@@ -8,14 +9,23 @@ use Rattle.tree_specs.specs.declared.row.Mark.{Mark}
 use Rattle.tree_specs.specs.declared.row.Mark.TheVariants.{Quiet, Asked, Busy, Doomed, Dying}
 use Rattle.tree_specs.specs.declared.kind.Kind.{Kind}
 use Rattle.tree_specs.specs.Words.Objects.{same, same_owner}
+use Rattle.tree_specs.specs.Events.Pending.{scheduled, unscheduled, armed, disarmed}
 use Rattle.tree_specs.specs.Tree.Targets.{target_of, is_target, is_reference, newest, newest_ref}
 
 pub record Pool : Type 0 where
   pub rows : List Row
   pub next : ℕ
+  -- objects that come soon, first in first out
+  pub soon : List Obj
+  -- objects whose time comes, the earliest first
+  pub times : List Due
+
+-- objects of which none waits for its turn
+abbrev pub of_rows : List Row → ℕ → Pool
+of_rows rows next = record { rows = rows; next = next; soon = []; times = [] }
 
 abbrev pub empty : ℕ → Pool
-empty first = record { rows = []; next = first }
+empty first = of_rows [] first
 
 -- ---- looking up
 
@@ -142,7 +152,7 @@ new_row x kind owner size name = record { serial = x; owner = Some owner; name =
 
 -- a new object is placed at the front below its owner
 abbrev pub add : Pool → Kind → Owner → ℕ → List ℕ → Pool
-add p kind owner size name = record { rows = new_row (record { 0 = p.next }) kind owner size name ∷ p.rows; next = p.next + 1 }
+add p kind owner size name = record p { rows = new_row (record { 0 = p.next }) kind owner size name ∷ p.rows; next = p.next + 1 }
 
 -- a number is taken, which no object gets
 abbrev pub take_number : Pool → Pool
@@ -151,9 +161,9 @@ take_number p = record p { next = p.next + 1 }
 abbrev pub left_row : Row → Row
 left_row r = record r { owner = None; mark = Dying (unwrap_or r.owner Root) }
 
--- an object leaves its owner
+-- an object leaves its owner, and waits for nothing any more
 abbrev pub detach : Pool → Obj → Pool
-detach p x = record p { rows = changed left_row p.rows x }
+detach p x = record p { rows = changed left_row p.rows x; soon = unscheduled p.soon x; times = disarmed p.times x }
 
 abbrev pub remove : Pool → Obj → Pool
 remove p x = record p { rows = without p.rows x }
@@ -200,3 +210,16 @@ limited_row limit r = record r { limit = limit }
 
 abbrev pub set_limit : Pool → Obj → ℕ → Pool
 set_limit p x limit = record p { rows = changed (limited_row limit) p.rows x }
+
+-- ---- waiting
+
+-- an object is to come soon
+abbrev pub schedule : Pool → Obj → Pool
+schedule p x = record p { soon = scheduled p.soon x }
+
+abbrev pub unschedule : Pool → Obj → Pool
+unschedule p x = record p { soon = unscheduled p.soon x }
+
+-- an object is to come at a time; at equal times the smaller number comes first
+abbrev pub arm : Pool → Obj → ℕ → ℕ → Pool
+arm p x time number = record p { times = armed p.times x time number }

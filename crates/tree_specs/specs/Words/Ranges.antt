@@ -1,5 +1,6 @@
 -- Inputs whose numbers have the ranges of their fields.
-use Rattle.std.specs.Prelude.{ℕ, ◌^◌, Bool, true, ◌&&◌, nat_lt, List, [], ◌∷◌}
+use Rattle.std.specs.Prelude.{ℕ, ◌^◌, Bool, true, ◌&&◌, nat_lt, nat_le, List, [], ◌∷◌}
+use Rattle.tree_specs.specs.declared.bounds.TheConstants.{TIME_LIMIT}
 use Rattle.tree_specs.specs.declared.object.Owner.{Owner}
 use Rattle.tree_specs.specs.declared.object.Owner.TheVariants.{Root, Of}
 use Rattle.tree_specs.specs.declared.call.Call.{Call}
@@ -9,7 +10,7 @@ use Rattle.tree_specs.specs.declared.question.Input.{Input}
 use Rattle.tree_specs.specs.declared.question.Input.TheVariants as inputs
 use Rattle.tree_specs.specs.Words.Names.{is_name}
 use Rattle.tree_specs.specs.Calls.Spelling.{Field, spelling}
-use Rattle.tree_specs.specs.Calls.Spelling.Field.{AnOwner, AnObject, ANumber, ARoutine, AName}
+use Rattle.tree_specs.specs.Calls.Spelling.Field.{AnOwner, AnObject, ANumber, ARoutine, ARoutineOrNone, ATime, AName}
 
 abbrev pub is_number : ℕ → Bool
 is_number n = nat_lt n (2 ^ 64)
@@ -22,6 +23,10 @@ is_return n = nat_lt n (2 ^ 32)
 abbrev pub is_routine : ℕ → Bool
 is_routine n = nat_lt 0 n && nat_lt n (2 ^ 32)
 
+-- a time in microseconds
+abbrev pub is_time : ℕ → Bool
+is_time n = nat_le n TIME_LIMIT
+
 -- an owner that isn't the root has a number from 1 upwards
 abbrev pub is_sound_owner : Owner → Bool
 is_sound_owner Root = true
@@ -32,6 +37,8 @@ is_sound_field (AnOwner o) = is_sound_owner o
 is_sound_field (AnObject x) = is_number x.0
 is_sound_field (ANumber n) = is_number n
 is_sound_field (ARoutine r) = is_routine r
+is_sound_field (ARoutineOrNone r) = is_return r
+is_sound_field (ATime n) = is_time n
 is_sound_field (AName name) = is_name name
 
 abbrev pub all_sound : List Field → Bool

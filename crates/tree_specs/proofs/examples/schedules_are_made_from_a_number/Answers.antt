@@ -2,7 +2,7 @@ use Rattle.std.proofs.Common.{refl}
 use Rattle.std.specs.Fmt.{digits}
 use Rattle.tree_specs.specs.Calls.Refusals.{fits}
 use Rattle.tree_specs.specs.Texts.Text.{call_text, input_text, refusal_numbers, row_kind_text, row_text, reply_text, event_text, ask_text, answered_text, what_text, item_text, end_text, body_text}
-use Rattle.tree_specs.specs.Texts.Grammar.{number_of, owner_of, object_of, name_of, number32_of, routine_of, call_of_words, call_of, input_of}
+use Rattle.tree_specs.specs.Texts.Grammar.{number_of, owner_of, object_of, name_of, number32_of, routine_of, time_of, call_of_words, call_of, input_of}
 use Rattle.tree_specs.specs.Texts.Schedule.{lines_of_parts, lines, line_input, judged_from, judged_lines, open_question}
 use Rattle.tree_specs.proofs.examples.schedules_are_made_from_a_number.Goals as goal
 
@@ -11,7 +11,7 @@ unfolding digits call_text input_text
 returns-clause-four_calls c = refl
 
 pub returns-clause-four_calls_lines : goal.returns-clause-four_calls_lines
-unfolding digits call_text input_text refusal_numbers row_kind_text row_text reply_text event_text ask_text answered_text what_text item_text end_text body_text number_of owner_of object_of name_of number32_of routine_of call_of_words call_of input_of lines_of_parts lines line_input judged_from judged_lines open_question fits
+unfolding digits call_text input_text refusal_numbers row_kind_text row_text reply_text event_text ask_text answered_text what_text item_text end_text body_text number_of owner_of object_of name_of number32_of routine_of time_of call_of_words call_of input_of lines_of_parts lines line_input judged_from judged_lines open_question fits
 returns-clause-four_calls_lines c = refl
 
 pub returns-clause-no_calls : goal.returns-clause-no_calls
@@ -19,5 +19,5 @@ unfolding digits call_text input_text
 returns-clause-no_calls c = refl
 
 pub returns-clause-no_calls_lines : goal.returns-clause-no_calls_lines
-unfolding digits call_text input_text refusal_numbers row_kind_text row_text reply_text event_text ask_text answered_text what_text item_text end_text body_text number_of owner_of object_of name_of number32_of routine_of call_of_words call_of input_of lines_of_parts lines line_input judged_from judged_lines open_question fits
+unfolding digits call_text input_text refusal_numbers row_kind_text row_text reply_text event_text ask_text answered_text what_text item_text end_text body_text number_of owner_of object_of name_of number32_of routine_of time_of call_of_words call_of input_of lines_of_parts lines line_input judged_from judged_lines open_question fits
 returns-clause-no_calls_lines c = refl
