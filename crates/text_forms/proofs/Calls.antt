@@ -15,10 +15,10 @@ use Rattle.text_forms.specs.declared.form.FormFault.{FormFault}
 use Rattle.text_forms.specs.declared.form.FormFault.TheVariants.{NoForm, Memory}
 use Rattle.text_forms.specs.Reads.{Reads}
 use Rattle.tree_specs.specs.Calls.Spelling.{Field, Spelling, ◌with◌, spelling, Reading, Form, forms}
-use Rattle.tree_specs.specs.Calls.Spelling.Field.{AnOwner, AnObject, ANumber, ARoutine, AName}
-use Rattle.tree_specs.specs.Calls.Spelling.Reading.{IsConsistent, TakesOwner, TakesObject, TakesNumber, TakesRoutine, EndsInName}
+use Rattle.tree_specs.specs.Calls.Spelling.Field.{AnOwner, AnObject, ANumber, ARoutine, ARoutineOrNone, ATime, AName}
+use Rattle.tree_specs.specs.Calls.Spelling.Reading.{IsConsistent, TakesOwner, TakesObject, TakesNumber, TakesRoutine, TakesRoutineOrNone, TakesTime, EndsInName}
 use Rattle.tree_specs.specs.Texts.Text.{field_text}
-use Rattle.text_forms.proofs.Fields.{has_read, number_field, routine_field, owner_field, object_field, name_field}
+use Rattle.text_forms.proofs.Fields.{has_read, number_field, number32_field, routine_field, time_field, owner_field, object_field, name_field}
 use Rattle.text_forms.proofs.Bools.{and_true}
 use Rattle.text_forms.proofs.Words.{is_unspaced, joined, words-joined, joined-words}
 
@@ -44,6 +44,8 @@ feed (TakesOwner next) (AnOwner owner ∷ fs) = feed (next owner) fs
 feed (TakesObject next) (AnObject x ∷ fs) = feed (next x) fs
 feed (TakesNumber next) (ANumber n ∷ fs) = feed (next n) fs
 feed (TakesRoutine next) (ARoutine routine ∷ fs) = feed (next routine) fs
+feed (TakesRoutineOrNone next) (ARoutineOrNone routine ∷ fs) = feed (next routine) fs
+feed (TakesTime next) (ATime time ∷ fs) = feed (next time) fs
 feed (EndsInName call) (AName name ∷ []) = Some (call name)
 feed _ fs = None
 
@@ -60,6 +62,8 @@ field_is_word (AnOwner owner) h = owner_field.is_word owner h
 field_is_word (AnObject x) h = object_field.is_word x h
 field_is_word (ANumber n) h = number_field.is_word n h
 field_is_word (ARoutine routine) h = routine_field.is_word routine h
+field_is_word (ARoutineOrNone routine) h = number32_field.is_word routine h
+field_is_word (ATime time) h = time_field.is_word time h
 field_is_word (AName name) h = name_field.is_word name h
 
 fields_are_words : (fs : List Field) → all_sound fs ≡ true → list_all is_unspaced (map field_text fs) ≡ true
@@ -76,6 +80,8 @@ read_again (TakesOwner next) (AnOwner owner ∷ fs) c h e = let parts = sound_pa
 read_again (TakesObject next) (AnObject x ∷ fs) c h e = let parts = sound_parts (AnObject x) fs h in rw (object_field.again x parts.0) (read_again (next x) fs c parts.1 e)
 read_again (TakesNumber next) (ANumber n ∷ fs) c h e = let parts = sound_parts (ANumber n) fs h in rw (number_field.again n parts.0) (read_again (next n) fs c parts.1 e)
 read_again (TakesRoutine next) (ARoutine routine ∷ fs) c h e = let parts = sound_parts (ARoutine routine) fs h in rw (routine_field.again routine parts.0) (read_again (next routine) fs c parts.1 e)
+read_again (TakesRoutineOrNone next) (ARoutineOrNone routine ∷ fs) c h e = let parts = sound_parts (ARoutineOrNone routine) fs h in rw (number32_field.again routine parts.0) (read_again (next routine) fs c parts.1 e)
+read_again (TakesTime next) (ATime time ∷ fs) c h e = let parts = sound_parts (ATime time) fs h in rw (time_field.again time parts.0) (read_again (next time) fs c parts.1 e)
 read_again (EndsInName call) (AName name ∷ []) c h e = rw (name_field.again name h) e
 read_again _ fs c h e = absurd cc
 
@@ -127,6 +133,8 @@ is_fed (TakesOwner next) (word ∷ more) c e = let x = has_read owner_field word
 is_fed (TakesObject next) (word ∷ more) c e = let x = has_read object_field word _ c e in one_more (AnObject x.value) _ (next x.value) word more c x.text_is x.value_is_sound (λ fs. refl) (is_fed (next x.value) more c x.goes_on)
 is_fed (TakesNumber next) (word ∷ more) c e = let x = has_read number_field word _ c e in one_more (ANumber x.value) _ (next x.value) word more c x.text_is x.value_is_sound (λ fs. refl) (is_fed (next x.value) more c x.goes_on)
 is_fed (TakesRoutine next) (word ∷ more) c e = let x = has_read routine_field word _ c e in one_more (ARoutine x.value) _ (next x.value) word more c x.text_is x.value_is_sound (λ fs. refl) (is_fed (next x.value) more c x.goes_on)
+is_fed (TakesRoutineOrNone next) (word ∷ more) c e = let x = has_read number32_field word _ c e in one_more (ARoutineOrNone x.value) _ (next x.value) word more c x.text_is x.value_is_sound (λ fs. refl) (is_fed (next x.value) more c x.goes_on)
+is_fed (TakesTime next) (word ∷ more) c e = let x = has_read time_field word _ c e in one_more (ATime x.value) _ (next x.value) word more c x.text_is x.value_is_sound (λ fs. refl) (is_fed (next x.value) more c x.goes_on)
 is_fed (EndsInName call) (word ∷ []) c e =
     let x = has_read name_field word _ c e in
     record { fields = AName x.value ∷ []; words_are = ap (λ (w : List ℕ). w ∷ []) x.text_is; sound = x.value_is_sound; made = x.goes_on }
@@ -139,6 +147,8 @@ Spells (TakesOwner next) so = (owner : Owner) → Spells (next owner) (λ fs. so
 Spells (TakesObject next) so = (x : Obj) → Spells (next x) (λ fs. so (AnObject x ∷ fs))
 Spells (TakesNumber next) so = (n : ℕ) → Spells (next n) (λ fs. so (ANumber n ∷ fs))
 Spells (TakesRoutine next) so = (routine : ℕ) → Spells (next routine) (λ fs. so (ARoutine routine ∷ fs))
+Spells (TakesRoutineOrNone next) so = (routine : ℕ) → Spells (next routine) (λ fs. so (ARoutineOrNone routine ∷ fs))
+Spells (TakesTime next) so = (time : ℕ) → Spells (next time) (λ fs. so (ATime time ∷ fs))
 Spells (EndsInName call) so = (name : List ℕ) → spelling (call name) ≡ so (AName name ∷ [])
 
 abbrev AllSpell : List Form → Type 0
@@ -155,6 +165,8 @@ spelled_so (TakesOwner next) so (AnOwner owner ∷ fs) c h e = spelled_so (next 
 spelled_so (TakesObject next) so (AnObject x ∷ fs) c h e = spelled_so (next x) (λ fs. so (AnObject x ∷ fs)) fs c (h x) e
 spelled_so (TakesNumber next) so (ANumber n ∷ fs) c h e = spelled_so (next n) (λ fs. so (ANumber n ∷ fs)) fs c (h n) e
 spelled_so (TakesRoutine next) so (ARoutine routine ∷ fs) c h e = spelled_so (next routine) (λ fs. so (ARoutine routine ∷ fs)) fs c (h routine) e
+spelled_so (TakesRoutineOrNone next) so (ARoutineOrNone routine ∷ fs) c h e = spelled_so (next routine) (λ fs. so (ARoutineOrNone routine ∷ fs)) fs c (h routine) e
+spelled_so (TakesTime next) so (ATime time ∷ fs) c h e = spelled_so (next time) (λ fs. so (ATime time ∷ fs)) fs c (h time) e
 spelled_so (EndsInName call) so (AName name ∷ []) c h e = let same : call name ≡ c = cc in sym (ap spelling same) ∙ h name
 spelled_so _ so fs c h e = absurd cc
 

@@ -10,10 +10,10 @@ use Rattle.std.proofs.lemmas.Bool.Decides.{nat_tests}
 use Rattle.tree_specs.specs.declared.object.Obj.{Obj}
 use Rattle.tree_specs.specs.declared.object.Owner.{Owner}
 use Rattle.tree_specs.specs.declared.object.Owner.TheVariants.{Root, Of}
-use Rattle.tree_specs.specs.Texts.Grammar.{◌>>=◌, number_of, number32_of, routine_of, owner_of, object_of, name_of}
+use Rattle.tree_specs.specs.Texts.Grammar.{◌>>=◌, number_of, number32_of, routine_of, time_of, owner_of, object_of, name_of}
 use Rattle.tree_specs.specs.Words.Names.{is_name, is_graphic}
 use Rattle.tree_specs.specs.Words.Objects.{owner_number, numbered_owner}
-use Rattle.tree_specs.specs.Words.Ranges.{is_number, is_return, is_routine, is_sound_owner}
+use Rattle.tree_specs.specs.Words.Ranges.{is_number, is_return, is_routine, is_time, is_sound_owner}
 use Rattle.text_forms.proofs.Numerals.{number_spelled, number_again, decimal_digits}
 use Rattle.text_forms.proofs.Bools.{and_true, taken_where, list_all-weaker}
 use Rattle.text_forms.proofs.Words.{is_unspaced}
@@ -80,17 +80,21 @@ by_field {A} {B} {read} {spell} {is_sound_part} field make part is_sound made ta
         let m = made r.value y r.value_is_sound r.goes_on in
         (r.text_is ∙ ap spell (sym m.0), m.1)
 
--- ---- what a routine returns, and routines
+-- ---- what a routine returns, times, and routines
 
-number32_made : (n y : ℕ) → is_number n ≡ true → cond (is_return n) (Some n) None ≡ Some y → (y ≡ n) × (is_return y ≡ true)
-number32_made n y h e = let taken = taken_where is_return n y e in (sym taken.0, taken.1)
-
-number32_taken : (n : ℕ) → is_return n ≡ true → (is_number n ≡ true) × (cond (is_return n) (Some n) None ≡ Some n)
-number32_taken n h = (grind (arith, nat_tests), rw h refl)
+-- a number within some range
+ranged_field : (is : ℕ → Bool) → ((n : ℕ) → is n ≡ true → is_number n ≡ true) → IsField (λ text. number_of text >>= λ n. cond (is n) (Some n) None) decimal is
+ranged_field is small = by_field number_field (λ n. cond (is n) (Some n) None) (λ n. n) is
+    (λ n y h e. let taken = taken_where is n y e in (sym taken.0, taken.1))
+    (λ n h. (small n h, rw h refl))
 
 pub number32_field : IsField number32_of decimal is_return
 unfolding number32_of
-number32_field = by_field number_field (λ n. cond (is_return n) (Some n) None) (λ n. n) is_return number32_made number32_taken
+number32_field = ranged_field is_return (λ n h. grind (arith, nat_tests))
+
+pub time_field : IsField time_of decimal is_time
+unfolding time_of
+time_field = ranged_field is_time (λ n h. grind (arith, nat_tests))
 
 not_zero : (n : ℕ) → eqb (suc n) 0 ≡ false
 not_zero n = grind (arith, nat_tests)

@@ -2,8 +2,8 @@
 use Rattle.std.proofs.Common.{◌≡◌, ℕ, List, [], ◌∷◌, Option, Some, None, Err, refl, ap, ◌∙◌}
 use Rattle.tree_specs.specs.declared.call.Call.{Call}
 use Rattle.tree_specs.specs.Calls.Spelling.{Reading, forms}
-use Rattle.tree_specs.specs.Calls.Spelling.Reading.{IsConsistent, TakesOwner, TakesObject, TakesNumber, TakesRoutine, EndsInName}
-use Rattle.tree_specs.specs.Texts.Grammar.{◌>>=◌, number_of, object_of, owner_of, routine_of, name_of, read, form_in, call_of_words, call_of, words}
+use Rattle.tree_specs.specs.Calls.Spelling.Reading.{IsConsistent, TakesOwner, TakesObject, TakesNumber, TakesRoutine, TakesRoutineOrNone, TakesTime, EndsInName}
+use Rattle.tree_specs.specs.Texts.Grammar.{◌>>=◌, number_of, number32_of, object_of, owner_of, routine_of, time_of, name_of, read, form_in, call_of_words, call_of, words}
 use Rattle.text_forms.specs.declared.verb.Verb.{Verb}
 use Rattle.text_forms.specs.declared.form.FormFault.{FormFault}
 use Rattle.text_forms.specs.declared.form.FormFault.TheVariants.{NoForm, Memory}
@@ -29,6 +29,8 @@ read_is (TakesOwner next) (word ∷ more) = then_read (λ x words. taken (next x
 read_is (TakesObject next) (word ∷ more) = then_read (λ x words. taken (next x) words) (λ x. read (next x) more) (object_of word) more (λ x. read_is (next x) more)
 read_is (TakesNumber next) (word ∷ more) = then_read (λ x words. taken (next x) words) (λ x. read (next x) more) (number_of word) more (λ x. read_is (next x) more)
 read_is (TakesRoutine next) (word ∷ more) = then_read (λ x words. taken (next x) words) (λ x. read (next x) more) (routine_of word) more (λ x. read_is (next x) more)
+read_is (TakesRoutineOrNone next) (word ∷ more) = then_read (λ x words. taken (next x) words) (λ x. read (next x) more) (number32_of word) more (λ x. read_is (next x) more)
+read_is (TakesTime next) (word ∷ more) = then_read (λ x words. taken (next x) words) (λ x. read (next x) more) (time_of word) more (λ x. read_is (next x) more)
 read_is (EndsInName call) (word ∷ []) = last_read call (name_of word)
 read_is _ words = refl
 

@@ -2,10 +2,10 @@
 use Rattle.std.specs.Prelude.{ℕ, ◌≡◌, List, [], ◌∷◌, Option, Some, None, codes}
 use Rattle.tree_specs.specs.declared.call.Call.{Call}
 use Rattle.tree_specs.specs.Calls.Spelling.{Reading, forms}
-use Rattle.tree_specs.specs.Calls.Spelling.Reading.{IsConsistent, TakesOwner, TakesObject, TakesNumber, TakesRoutine, EndsInName}
-use Rattle.tree_specs.specs.Texts.Grammar.{◌>>=◌, number_of, object_of, owner_of, routine_of, name_of, form_in}
+use Rattle.tree_specs.specs.Calls.Spelling.Reading.{IsConsistent, TakesOwner, TakesObject, TakesNumber, TakesRoutine, TakesRoutineOrNone, TakesTime, EndsInName}
+use Rattle.tree_specs.specs.Texts.Grammar.{◌>>=◌, number_of, object_of, owner_of, number32_of, routine_of, time_of, name_of, form_in}
 use Rattle.text_forms.specs.declared.verb.Verb.{Verb}
-use Rattle.text_forms.specs.declared.verb.Verb.TheVariants.{New, Free, Freekids, Steal, Move, Reparent, Reference, Unlink, Hook, Unhook, Rename, Resize, Limit, Parent, Total, Count, Sum, Report}
+use Rattle.text_forms.specs.declared.verb.Verb.TheVariants.{New, Free, Freekids, Steal, Move, Reparent, Reference, Unlink, Hook, Unhook, Rename, Resize, Limit, Parent, Total, Count, Sum, Report, Immediate, Schedule, Unschedule, Timer, Pending}
 use Rattle.text_forms.specs.Cursor.{field, last_field}
 
 abbrev pub word_of : Verb → List ℕ
@@ -27,6 +27,11 @@ word_of Total = codes "total"
 word_of Count = codes "count"
 word_of Sum = codes "sum"
 word_of Report = codes "report"
+word_of Immediate = codes "immediate"
+word_of Schedule = codes "schedule"
+word_of Unschedule = codes "unschedule"
+word_of Timer = codes "timer"
+word_of Pending = codes "pending"
 
 -- a word is this verb, or the verb of no form
 abbrev pub IsVerb : Option Verb → List ℕ → Type 0
@@ -48,6 +53,12 @@ taken (TakesNumber next) words = do
 taken (TakesRoutine next) words = do
   routine ← field routine_of words
   taken (next routine.0) routine.1
+taken (TakesRoutineOrNone next) words = do
+  routine ← field number32_of words
+  taken (next routine.0) routine.1
+taken (TakesTime next) words = do
+  time ← field time_of words
+  taken (next time.0) time.1
 taken (EndsInName call) words = do
   name ← last_field name_of words
   Some (call name.0, name.1)

@@ -50,6 +50,21 @@ fn write_text(call: &Call, out: &mut Vec<u8>) -> Result<(), Memory>
         Call::Count { owner } => write_fields(b"count", &[owner.number()], out),
         Call::Sum { owner } => write_fields(b"sum", &[owner.number()], out),
         Call::Report { owner } => write_fields(b"report", &[owner.number()], out),
+        Call::Immediate { owner } => write_fields(b"immediate", &[owner.number()], out),
+        Call::Schedule { x, routine, user } => {
+            write_fields(b"schedule", &[x.0, u64::from(*routine), *user], out)
+        }
+        Call::Unschedule { x } => write_fields(b"unschedule", &[x.0], out),
+        Call::Timer {
+            owner,
+            time,
+            routine,
+            user,
+        } => {
+            let numbers = [owner.number(), *time, u64::from(*routine), *user];
+            write_fields(b"timer", &numbers, out)
+        }
+        Call::Pending => write_fields(b"pending", &[], out),
     }
 }
 

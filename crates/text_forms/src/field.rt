@@ -2,7 +2,7 @@
 
 ghost use Rattle.std.specs.Prelude.{◌≡◌, List, ℕ};
 ghost use Rattle.std.specs.Option.{option_map};
-ghost use Rattle.tree_specs.specs.Texts.Grammar.{words, number_of, owner_of, object_of, routine_of, name_of};
+ghost use Rattle.tree_specs.specs.Texts.Grammar.{words, number_of, owner_of, object_of, number32_of, routine_of, time_of, name_of};
 ghost use Rattle.text_forms.specs.Cursor.{words_left, field, both, last_field, Takes, Ends};
 
 use crate::form::FormFault;
@@ -10,7 +10,7 @@ use crate::name::read_name;
 use crate::number::leading_number;
 use std::alloc::Global;
 use std::marker::Model;
-use tree_specs::{Name, Obj, Owner};
+use tree_specs::{Name, Obj, Owner, TIME_LIMIT};
 
 // The number that the text's first word spells, and what follows the space behind the word, where there is one.
 #[tactic(auto, using(crate::proofs::Cursor::number_field))]
@@ -77,6 +77,14 @@ impl<'a> Fields<'a> {
         Ok(Obj(n))
     }
 
+    // A field with a number below 2^32.
+    #[tactic(auto, unfolding(tree_specs::specs::Texts::Grammar::number32_of))]
+    pub(crate) fn number32(&mut self) -> Result<u32, FormFault>
+        ensures { Takes result (field number32_of self.old) self.new }
+    {
+        u32::try_from(self.number()?).map_err(|_| FormFault::NoForm)
+    }
+
     // A routine field: routines are numbered from 1 upwards.
     #[tactic(auto, unfolding(tree_specs::specs::Texts::Grammar::routine_of, tree_specs::specs::Texts::Grammar::number32_of))]
     pub(crate) fn routine(&mut self) -> Result<u32, FormFault>
@@ -85,6 +93,17 @@ impl<'a> Fields<'a> {
         match u32::try_from(self.number()?) {
             Ok(0) | Err(_) => Err(FormFault::NoForm),
             Ok(n) => Ok(n),
+        }
+    }
+
+    // A time field, in microseconds.
+    #[tactic(auto, unfolding(tree_specs::specs::Texts::Grammar::time_of))]
+    pub(crate) fn time(&mut self) -> Result<u64, FormFault>
+        ensures { Takes result (field time_of self.old) self.new }
+    {
+        match self.number()? {
+            n if n <= TIME_LIMIT => Ok(n),
+            _ => Err(FormFault::NoForm),
         }
     }
 

@@ -29,6 +29,11 @@ pub(crate) enum Verb {
     Count,
     Sum,
     Report,
+    Immediate,
+    Schedule,
+    Unschedule,
+    Timer,
+    Pending,
 }
 
 impl Verb {
@@ -55,6 +60,11 @@ impl Verb {
             b"count" => Some(Verb::Count),
             b"sum" => Some(Verb::Sum),
             b"report" => Some(Verb::Report),
+            b"immediate" => Some(Verb::Immediate),
+            b"schedule" => Some(Verb::Schedule),
+            b"unschedule" => Some(Verb::Unschedule),
+            b"timer" => Some(Verb::Timer),
+            b"pending" => Some(Verb::Pending),
             _ => None,
         }
     }
@@ -98,5 +108,19 @@ pub(crate) fn read_fields(alloc: Global, verb: Verb, fields: &mut Fields) -> Res
         Verb::Count => fields.owner().map(|owner| Call::Count { owner }),
         Verb::Sum => fields.owner().map(|owner| Call::Sum { owner }),
         Verb::Report => fields.owner().map(|owner| Call::Report { owner }),
+        Verb::Immediate => fields.owner().map(|owner| Call::Immediate { owner }),
+        Verb::Schedule => Ok(Call::Schedule {
+            x: fields.object()?,
+            routine: fields.number32()?,
+            user: fields.number()?,
+        }),
+        Verb::Unschedule => fields.object().map(|x| Call::Unschedule { x }),
+        Verb::Timer => Ok(Call::Timer {
+            owner: fields.owner()?,
+            time: fields.time()?,
+            routine: fields.routine()?,
+            user: fields.number()?,
+        }),
+        Verb::Pending => Ok(Call::Pending),
     }
 }

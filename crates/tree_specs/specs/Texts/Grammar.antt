@@ -1,10 +1,9 @@
 -- The grammar of numbers, names, calls and schedule lines: the value that a text spells, or none.
-use Rattle.std.specs.Prelude.{ℕ, ◌+◌, ◌^◌, Bool, true, false, ◌==◌, ◌&&◌, not, nat_lt, if◌then◌else◌, List, [], ◌∷◌, Option, Some, None, codes}
+use Rattle.std.specs.Prelude.{ℕ, ◌^◌, Bool, true, false, ◌==◌, ◌&&◌, not, nat_lt, if◌then◌else◌, List, [], ◌∷◌, Option, Some, None, codes}
 use Rattle.std.specs.List.{slice_split}
 use Rattle.std.specs.Option.{option_map}
 use Rattle.std.specs.Str.{all_ascii_digits, bytes_eq}
 use Rattle.std.specs.Str.Parse.{digits_value}
-use Rattle.tree_specs.specs.declared.bounds.TheConstants.{TIME_LIMIT}
 use Rattle.tree_specs.specs.declared.object.Obj.{Obj}
 use Rattle.tree_specs.specs.declared.object.Owner.{Owner}
 use Rattle.tree_specs.specs.declared.call.Call.{Call}
@@ -15,6 +14,7 @@ use Rattle.tree_specs.specs.Words.Names.{is_name}
 use Rattle.tree_specs.specs.Calls.Spelling.{Reading, Form, forms}
 use Rattle.tree_specs.specs.Calls.Spelling.Reading.{IsConsistent, TakesOwner, TakesObject, TakesNumber, TakesRoutine, TakesRoutineOrNone, TakesTime, EndsInName}
 use Rattle.tree_specs.specs.Words.Objects.{numbered_owner}
+use Rattle.tree_specs.specs.Words.Ranges.{is_time}
 
 infixl 10 ◌>>=◌
 abbrev pub ◌>>=◌ : {A B : Type 0} → Option A → (A → Option B) → Option B
@@ -52,7 +52,9 @@ routine_of ds = do
 
 -- a time in microseconds
 unfoldable pub time_of : List ℕ → Option ℕ
-time_of ds = number_below (TIME_LIMIT + 1) ds
+time_of ds = do
+  n ← number_of ds
+  if is_time n then Some n else None
 
 unfoldable pub owner_of : List ℕ → Option Owner
 owner_of text = do
