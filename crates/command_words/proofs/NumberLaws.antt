@@ -4,7 +4,7 @@ use Rattle.std.specs.Prelude.{option_and_then}
 use Rattle.std.specs.Str.Parse.{ParsesUnsigned, IsNumeral, digits_value, without_leading_plus}
 use Rattle.std.proofs.lemmas.Bool.Decides.{nat_tests}
 use Rattle.std.proofs.lemmas.Bool.{leb-true}
-use Rattle.clap.specs.Words.{ReadsOne, Row, Text, found_of, one_text, rows_of}
+use Rattle.clap.specs.Words.{ReadsOne, Text, one_text, rows_of}
 use Rattle.clap.specs.ValueTests.{is_unsigned_in}
 use Rattle.clap.specs.declared.builder.value_parser.ValueParser.TheVariants as parsers
 use Rattle.clap.specs.declared.parser.matches.Found.{Found}
@@ -22,13 +22,13 @@ abbrev digits_of : Text → List ℕ
 digits_of text = without_leading_plus text
 
 -- the text is a number up to this one
-is_within : (most : ℕ) (text : Text) → most < 2 ^ 32 → IsNumeral 10 (digits_of text) → digits_value 10 (digits_of text) ≤ most → is_unsigned_in 0 most text ≡ true
+pub is_within : (most : ℕ) (text : Text) → most < 2 ^ 32 → IsNumeral 10 (digits_of text) → digits_value 10 (digits_of text) ≤ most → is_unsigned_in 0 most text ≡ true
 is_within most text small numeral le = Accepts-accepts false (parsers.Unsigned 0 most) text (numeral, omega arith, omega arith, le)
 
 within : (most : ℕ) (text : Text) → is_unsigned_in 0 most text ≡ true → IsNumeral 10 (digits_of text) × (digits_value 10 (digits_of text) ≤ most)
 within most text e = let a = accepts-Accepts false (parsers.Unsigned 0 most) text e in (a.0, a.3)
 
-by_test : {G : Type 0} (b : Bool) → (b ≡ true → G) → (b ≡ false → G) → G
+pub by_test : {G : Type 0} (b : Bool) → (b ≡ true → G) → (b ≡ false → G) → G
 by_test true holds fails = holds refl
 by_test false holds fails = fails refl
 

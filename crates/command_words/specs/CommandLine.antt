@@ -1,5 +1,5 @@
 -- The command line, as clap sees it, and the command that words name.
-use Rattle.std.specs.Prelude.{ℕ, true, false, pos, Bool, List, [], ◌∷◌, ◌==◌, length, Option, Some, None, codes, if◌then◌else◌, option_and_then}
+use Rattle.std.specs.Prelude.{ℕ, true, pos, Bool, List, ◌==◌, length, Option, Some, None, codes, if◌then◌else◌, option_and_then}
 use Rattle.std.specs.Str.{bytes_eq}
 use Rattle.std.specs.Str.Parse.{digits_value, without_leading_plus}
 use Rattle.clap.specs.Words.{App, Row, Rule, Text, fault_of, new_app, new_rule, one_of, subcommand_of, with_rule, with_subcommand}

@@ -1,10 +1,7 @@
-use Rattle.std.proofs.Common.{rules, ◌≡◌, ◌≤◌, ◌<◌, ◌^◌, ◌∙◌, ℕ, Option, Some, None, true, false, leb, refl, sym, ap, arith}
-use Rattle.std.specs.Prelude.{option_and_then}
+use Rattle.std.proofs.Common.{◌≡◌, ◌∙◌, Some, None, true, false, leb, refl, sym, arith}
 use Rattle.std.specs.Str.Parse.{ParsesUnsigned, ExplainsUnsignedError, HasUnsignedDigitsIfOk}
 use Rattle.std.proofs.lemmas.Bool.Decides.{nat_tests}
 use Rattle.clap.specs.Words.{found_of, one_text}
-use Rattle.clap.specs.ValueTests.{is_unsigned_in}
-use Rattle.command_words.specs.CommandLine.{number_if}
 use Rattle.command_words.proofs.NumberLaws.{of_text, of_rows}
 use Rattle.command_words.proofs.reading.number_in.Goals as goal
 

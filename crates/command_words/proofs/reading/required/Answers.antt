@@ -1,4 +1,4 @@
-use Rattle.std.proofs.Common.{◌≡◌, ◌∙◌, ap}
+use Rattle.std.proofs.Common.{◌∙◌, ap}
 use Rattle.std.specs.Prelude.{Option, Some, true}
 use Rattle.clap.specs.Words.{Rule, rule_of}
 use Rattle.clap.specs.declared.builder.value_parser.ValueParser.{ValueParser}

@@ -1,0 +1,19 @@
+//! What holds whatever the words of the command line are.
+#![tactic(auto)]
+
+ghost use Rattle.std.specs.Prelude.{◌≡◌, ◌≢◌, ◌≤◌, ℕ, codes, true, Some, None, List, [], ◌∷◌};
+ghost use Rattle.std.specs.Fmt.{decimal};
+ghost use Rattle.command_words.specs.declared.command.Command.TheVariants.{Load};
+ghost use Rattle.command_words.specs.declared.command.TheConstants.{COUNT_LIMIT};
+ghost use Rattle.command_words.specs.CommandLine.{command_of, is_taken};
+
+/// The words of a load are taken: its name, and both numbers in decimal.
+pub fn each_load_is_taken()
+    ensures { (number count : ℕ) → number ≤ u32.MAX → count ≤ COUNT_LIMIT
+        → command_of (codes "load" ∷ decimal number ∷ decimal count ∷ []) ≡ Some (Load number count) }
+{}
+
+/// Whatever words are taken name a command.
+pub fn taken_words_name_a_command()
+    ensures { (words : List (List ℕ)) → is_taken words ≡ true → command_of words ≢ None }
+{}
