@@ -18,7 +18,7 @@ abbrev pub SameRows : List Row → List Row → Type 0
 SameRows rs rs' = map bare rs' ≡ map bare rs
 
 abbrev pub placed_rows : List Row → Owner → Obj → List Row
-placed_rows rs o x = (place (record { rows = rs; next = 0 }) o x).rows
+placed_rows rs o x = (place (of_rows rs 0) o x).rows
 
 abbrev pub ChangedBy : FreeStep → List Row → List Row → Type 0
 ChangedBy (Ask x) rs rs' = SameRows rs rs'

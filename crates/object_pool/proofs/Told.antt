@@ -55,12 +55,12 @@ left-elsewhere rs x r is = record {
 -- it came below another owner
 pub placed-elsewhere : (rs : List Row) (o : Owner) (x : Obj) (r : Row) → row_of rs x ≡ Some r → GoesElsewhere rs (placed_rows rs o x) x
 placed-elsewhere rs o x r is = record {
-  there = rw (row_of-placed-same (record { rows = rs; next = 0 }) o x r is) refl;
-  others = λ y ne. ap owner_in (row_of-placed-other (record { rows = rs; next = 0 }) o x y r is ne);
-  weights = λ k. total-placed (λ q. k q.serial (charge q)) (record { rows = rs; next = 0 }) o x r is refl;
+  there = rw (row_of-placed-same (of_rows rs 0) o x r is) refl;
+  others = λ y ne. ap owner_in (row_of-placed-other (of_rows rs 0) o x y r is ne);
+  weights = λ k. total-placed (λ q. k q.serial (charge q)) (of_rows rs 0) o x r is refl;
   limits = λ y. elim (same_or_not x y) [
-    | inl e ↦ subst (λ (v : Obj). limit_at (placed_rows rs o x) v ≡ limit_at rs v) e (ap limit_in (row_of-placed-same (record { rows = rs; next = 0 }) o x r is) ∙ sym (ap limit_in is))
-    | inr ne ↦ ap limit_in (row_of-placed-other (record { rows = rs; next = 0 }) o x y r is ne)
+    | inl e ↦ subst (λ (v : Obj). limit_at (placed_rows rs o x) v ≡ limit_at rs v) e (ap limit_in (row_of-placed-same (of_rows rs 0) o x r is) ∙ sym (ap limit_in is))
+    | inr ne ↦ ap limit_in (row_of-placed-other (of_rows rs 0) o x y r is ne)
   ];
 }
 

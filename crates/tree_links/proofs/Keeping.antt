@@ -35,8 +35,8 @@ is-linked m front root next rows t h =
     record { tree = subst (λ (l : List Row). IsTree l next) e t; holds = subst (λ (l : List Row). Holds m front root l) e h }
 
 pub pool-is : (m : Nodes) (front root : Option ℕ) (next : ℕ) (rows : List Row) → IsTree rows next → Holds m front root rows
-    → (let p : Pool = record { rows = rows_of m front; next = next } in p) ≡ record { rows = rows; next = next }
-pool-is m front root next rows t h = ap (λ (l : List Row). let p : Pool = record { rows = l; next = next } in p) (held-rows m front root rows t.forest.distinct h)
+    → of_rows (rows_of m front) next ≡ of_rows rows next
+pool-is m front root next rows t h = ap (λ (l : List Row). of_rows l next) (held-rows m front root rows t.forest.distinct h)
 
 -- the same lanes in other words
 pub relinked : (m : Nodes) (front root : Option ℕ) (A B : List ℕ) (K L : Owner → List ℕ) → A ≡ B → ((p : Owner) → K p ≡ L p) → Linked m front root A K → Linked m front root B L
@@ -129,8 +129,8 @@ len-gone m x h = len-remove nat_cmp_total m x ∙ ap (λ b. cond b (map.len m - 
 
 -- ---- the calls
 
-pub pool-rows : (rs qs : List Row) (next : ℕ) → rs ≡ qs → (let p : Pool = record { rows = rs; next = next } in p) ≡ record { rows = qs; next = next }
-pool-rows rs qs next e = ap (λ (l : List Row). let p : Pool = record { rows = l; next = next } in p) e
+pub pool-rows : (rs qs : List Row) (next : ℕ) → rs ≡ qs → of_rows rs next ≡ of_rows qs next
+pool-rows rs qs next e = ap (λ (l : List Row). of_rows l next) e
 
 module _ (m m' : Nodes) (x : ℕ) (f : Row → Row) (steps : (q : ℕ) → map.get m' q ≡ cond (nat_eq x q) (option_map (with_row f) (map.get m q)) (map.get m q))
     (size : map.len m' ≡ map.len m) (mends : Mends f) (front root : Option ℕ) (next : ℕ) (l : IsLinked m front root next) where

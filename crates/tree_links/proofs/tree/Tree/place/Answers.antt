@@ -69,7 +69,7 @@ held c =
 
 tree : (c : goal.After-self-1) → IsTree (owned_row c.args.owner c.in-Some.node.now.row ∷ rows_without (rows c) c.args.x) c.self.inside.next
 tree c =
-    placed-tree (record { rows = rows c; next = c.self.inside.next }) c.args.owner c.args.x c.in-Some.node.now.row c.self.invariant.tree (at c)
+    placed-tree (of_rows (rows c) c.self.inside.next) c.args.owner c.args.x c.in-Some.node.now.row c.self.invariant.tree (at c)
     (owner c)
     (subst (λ (t : Links). is_inside t.rows c.args.owner (Of c.args.x) ≡ false) (sym c.self.view_is) c.requires.apart)
 
