@@ -1,8 +1,8 @@
 //! The draws of a schedule, and the calls that they make.
-ghost use Rattle.std.specs.Prelude.{◌≡◌, ◌<◌, ◌≤◌, ◌+◌};
+ghost use Rattle.std.specs.Prelude.{◌≡◌, ◌<◌, ◌≤◌, ◌+◌, ◌%◌};
 ghost use Rattle.tree_specs.specs.declared.question.Input.TheVariants as inputs;
 ghost use Rattle.tree_specs.specs.Texts.Text.{input_text};
-ghost use Rattle.tree_specs.specs.Texts.Load.{next_state, drawn, first_place, call_drawn, after_call};
+ghost use Rattle.tree_specs.specs.Texts.Load.{next_state, drawn, kind, second_draw, third_draw, first_place, call_drawn, after_call};
 
 use crate::line::{Line, free_line, new_line, pair_line};
 use std::marker::Model;
@@ -12,6 +12,19 @@ use std::marker::Model;
 pub(crate) struct Place {
     state: u32,
     made: u32,
+}
+
+/// What the draws of a call say.
+#[derive(Clone, Copy, Debug)]
+struct Draws {
+    /// Which of eight kinds the call is.
+    kind: u32,
+    /// The root as 0, or a number that an object may have.
+    owner: u32,
+    /// A number that an object may have.
+    object: u32,
+    /// The bytes of an object that is made.
+    size: u32,
 }
 
 impl Model for Place {
@@ -51,6 +64,28 @@ impl Place {
         self.state / 65_536
     }
 
+    /// The draws of the next call.
+    fn draws(&mut self) -> Draws
+        requires { self.old.made < u32.MAX }
+        ensures kind { result.kind ≡ kind self.old }
+        ensures owner { result.owner ≡ second_draw self.old % (self.old.made + 1) }
+        ensures object { result.object ≡ 1 + third_draw self.old % (self.old.made + 1) }
+        ensures size { result.size ≡ third_draw self.old % 1000 }
+        ensures state { self.new.state ≡ (after_call self.old).state }
+        ensures made { self.new.made ≡ self.old.made }
+    {
+        let among = self.made + 1;
+        let kind = self.draw() % 8;
+        let owner = self.draw() % among;
+        let third = self.draw();
+        Draws {
+            kind,
+            owner,
+            object: 1 + third % among,
+            size: third % 1000,
+        }
+    }
+
     /// The line of the next call.
     pub(crate) fn next_line(&mut self) -> Line
         requires { self.old.made < u32.MAX }
@@ -58,24 +93,16 @@ impl Place {
         ensures place { self.new ≡ after_call self.old }
         ensures made { self.new.made ≤ self.old.made + 1 }
     {
-        let among = self.made + 1;
-        let kind = self.draw() % 8;
-        let owner = self.draw() % among;
-        let third = self.draw();
-        let object = 1 + third % among;
-        if kind < 4 {
-            self.made += 1;
-            return new_line(owner, third % 1000);
+        let drawn = self.draws();
+        match drawn.kind {
+            0..=3 => {
+                self.made += 1;
+                new_line(drawn.owner, drawn.size)
+            }
+            4 => pair_line("call steal ", drawn.owner, drawn.object),
+            5 => free_line(drawn.object),
+            6 => pair_line("call reference ", drawn.owner, drawn.object),
+            _ => pair_line("call unlink ", drawn.owner, drawn.object),
         }
-        if kind == 4 {
-            return pair_line("call steal ", owner, object);
-        }
-        if kind == 5 {
-            return free_line(object);
-        }
-        if kind == 6 {
-            return pair_line("call reference ", owner, object);
-        }
-        pair_line("call unlink ", owner, object)
     }
 }

@@ -26,11 +26,39 @@ struct Counts {
     dropped: u64,
 }
 
-/// The count after this line, which counts where it begins so; None past the greatest number.
-fn counted(count: u64, line: &[u8], front: &[u8]) -> Option<u64>
-    ensures { IfSome result (λ n. n ≡ one_more front.now line.now count) }
+/// Whether the line tells a reply.
+fn is_reply(line: &[u8]) -> bool
+    ensures { result ≡ begins_with (codes "reply ") line.now }
 {
-    if line.starts_with(front) {
+    matches!(line, [b'r', b'e', b'p', b'l', b'y', b' ', ..])
+}
+
+/// Whether the line tells a refusal.
+fn is_refusal(line: &[u8]) -> bool
+    ensures { result ≡ begins_with (codes "reply no ") line.now }
+{
+    matches!(line, [b'r', b'e', b'p', b'l', b'y', b' ', b'n', b'o', b' ', ..])
+}
+
+/// Whether the line tells that an object is gone.
+fn is_freed(line: &[u8]) -> bool
+    ensures { result ≡ begins_with (codes "freed ") line.now }
+{
+    matches!(line, [b'f', b'r', b'e', b'e', b'd', b' ', ..])
+}
+
+/// Whether the line tells that a reference was dropped.
+fn is_dropped(line: &[u8]) -> bool
+    ensures { result ≡ begins_with (codes "unreferenced ") line.now }
+{
+    matches!(line, [b'u', b'n', b'r', b'e', b'f', b'e', b'r', b'e', b'n', b'c', b'e', b'd', b' ', ..])
+}
+
+/// The count with one more where it counts; None past the greatest number.
+fn counted(count: u64, counts: bool) -> Option<u64>
+    ensures { IfSome result (λ n. n ≡ (if counts then count + 1 else count)) }
+{
+    if counts {
         count.checked_add(1)
     } else {
         Some(count)
@@ -45,9 +73,9 @@ impl Counts {
         ensures dropped { IfSome result (λ c. c.dropped ≡ one_more (codes "unreferenced ") line.now self.dropped) }
     {
         Some(Counts {
-            refused: counted(self.refused, line, b"reply no ")?,
-            freed: counted(self.freed, line, b"freed ")?,
-            dropped: counted(self.dropped, line, b"unreferenced ")?,
+            refused: counted(self.refused, is_refusal(line))?,
+            freed: counted(self.freed, is_freed(line))?,
+            dropped: counted(self.dropped, is_dropped(line))?,
         })
     }
 }
@@ -57,7 +85,7 @@ fn keep_reply(last: &mut Vec<u8>, line: &mut Vec<u8>)
     ensures last { last.new.items ≡ (if begins_with (codes "reply ") line.old.items then line.old.items else last.old.items) }
     ensures line { line.new.items ≡ [] }
 {
-    if !line.starts_with(b"reply ") {
+    if !is_reply(line) {
         line.clear();
         return;
     }
@@ -69,7 +97,7 @@ fn keep_reply(last: &mut Vec<u8>, line: &mut Vec<u8>)
 fn line_end(bytes: &[u8]) -> Option<usize>
     ensures { EndsFirst bytes.now result }
 {
-    memchr(b'\n', bytes)
+    bytes.iter().position(|&byte| byte == b'\n')
 }
 
 /// What a reply has after `reply `.
@@ -161,12 +189,17 @@ impl Tally {
         self.line.extend_from_slice(run)
     }
 
-    /// Takes the LF of the present line. It fails only where a count is past the greatest number.
-    fn end_line(&mut self) -> Result<(), Memory>
-        ensures taken { OnOk result (self.new ≡ self.old ++ 10 ∷ []) }
+    /// Takes the rest of the present line and its LF. It fails where there is no memory, or where a count is past the
+    /// greatest number.
+    fn take_line(&mut self, rest: &[u8]) -> Result<(), Memory>
+        requires { has_no_lf rest.now ≡ true }
+        ensures taken { OnOk result (self.new ≡ self.old ++ rest.now ++ 10 ∷ []) }
         ensures kept { OnErr result (self.new ≡ self.old) }
     {
+        let begun = self.line.len();
+        self.line.extend_from_slice(rest)?;
         let Some(counts) = self.counts.after(&self.line) else {
+            self.line.truncate(begun);
             return Err(Memory);
         };
         self.counts = counts;
@@ -182,7 +215,7 @@ impl Tally {
         if self.line.is_empty() {
             return five_lines(alloc, count, self.counts, &self.last);
         }
-        self.end_line()?;
+        self.take_line(&[])?;
         five_lines(alloc, count, self.counts, &self.last)
     }
 }
@@ -196,7 +229,7 @@ impl Sink for Tally {
 
     ghost tells = { λ t told. refl };
 
-    /// Takes bytes up to the next LF, or an LF. It tells no room, so that it may want memory for each line.
+    /// Takes bytes up to the next LF and with it. It tells no room, so that it may want memory for each line.
     fn put(&mut self, bytes: &[u8]) -> Result<Put, Memory>
         requires { 0 < length bytes.now }
         ensures bytes { PutsTo (Some self.old) (Some self.new) result bytes.now }
@@ -206,13 +239,9 @@ impl Sink for Tally {
     {
         let bytes = &bytes[..bytes.len().min(u32::MAX as usize)];
         match line_end(bytes) {
-            Some(0) => {
-                self.end_line()?;
-                Ok(Put::Took(1))
-            }
             Some(end) => {
-                self.lengthen(&bytes[..end])?;
-                Ok(Put::Took(end as u32))
+                self.take_line(&bytes[..end])?;
+                Ok(Put::Took(end as u32 + 1))
             }
             None => {
                 self.lengthen(bytes)?;
