@@ -6,7 +6,7 @@ use Rattle.tree_specs.specs.declared.row.Row.{Row}
 use Rattle.tree_specs.specs.declared.row.Mark.TheVariants.{Quiet}
 use Rattle.tree_specs.specs.declared.free_step.FreeStep.{FreeStep}
 use Rattle.tree_specs.specs.declared.free_step.FreeStep.TheVariants.{Ask, Dropped, Refused, Accepted, Left, Moved, Gone, Done}
-use Rattle.tree_specs.specs.Tree.Pool.{is_row, owner_of, target_at, changed, without, left_row, place}
+use Rattle.tree_specs.specs.Tree.Pool.{of_rows, is_row, owner_of, target_at, changed, without, left_row, place}
 use Rattle.tree_links.specs.Links.{MayPlace}
 
 -- a row but for what is going on with its object

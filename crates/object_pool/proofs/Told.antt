@@ -7,7 +7,7 @@ use Rattle.tree_specs.specs.declared.object.Owner.{Owner}
 use Rattle.tree_specs.specs.declared.object.Owner.TheVariants.{Of}
 use Rattle.tree_specs.specs.declared.row.Row.{Row}
 use Rattle.tree_specs.specs.Words.Objects.{same, same_owner}
-use Rattle.tree_specs.specs.Tree.Pool.{row_of, is_row, owner_in, owner_of, target_at, reaches, is_inside, changed, without, left_row, owned_row}
+use Rattle.tree_specs.specs.Tree.Pool.{of_rows, row_of, is_row, owner_in, owner_of, target_at, reaches, is_inside, changed, without, left_row, owned_row}
 use Rattle.tree_specs.specs.Tree.Forest.{Rooted, Distinct}
 use Rattle.tree_specs.specs.Tree.Sums.{charge, limit_in, limit_at}
 use Rattle.tree_specs.proofs.Tree.Numbered.{by_test, same_or_not, same-false, same-equal}

@@ -11,7 +11,7 @@ use Rattle.tree_specs.specs.declared.object.Owner.{Owner}
 use Rattle.tree_specs.specs.declared.object.Owner.TheVariants.{Root, Of}
 use Rattle.tree_specs.specs.declared.row.Row.{Row}
 use Rattle.tree_specs.specs.Words.Objects.{same, same_owner}
-use Rattle.tree_specs.specs.Tree.Pool.{Pool, is_object_row, row_of, is_below, is_owner, is_object, without as rows_without, changed, owner_of, owner_in, owned_row}
+use Rattle.tree_specs.specs.Tree.Pool.{of_rows, is_object_row, row_of, is_below, is_owner, is_object, without as rows_without, changed, owner_of, owner_in, owned_row}
 use Rattle.tree_specs.specs.Tree.Forest.{Distinct as Once}
 use Rattle.tree_specs.proofs.Tree.Numbered.{same_owner-equal}
 use Rattle.tree_specs.proofs.Tree.Rows.{row_of-serial, Distinct-without, row_of-without-same}

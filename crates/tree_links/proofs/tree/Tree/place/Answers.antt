@@ -4,7 +4,7 @@ use Rattle.std.specs.Option.{option_map, option_and_then}
 use Rattle.std.specs.FinMap as map
 use Rattle.tree_specs.specs.declared.row.Row.{Row}
 use Rattle.tree_specs.specs.declared.object.Owner.TheVariants.{Of}
-use Rattle.tree_specs.specs.Tree.Pool.{is_owner, is_inside, row_of, owned_row, place, without as rows_without, in_front}
+use Rattle.tree_specs.specs.Tree.Pool.{of_rows, is_owner, is_inside, row_of, owned_row, place, without as rows_without, in_front}
 use Rattle.tree_links.specs.Links.{IsTree, Links, pool_of}
 use Rattle.tree_links.specs.Nodes.{Holds, Linked, Enters, numbers, children, rows_of, row_at, row_in, placed_in, kin_in, first_in, entered}
 use Rattle.tree_links.specs.declared.node.Node.{Node}
