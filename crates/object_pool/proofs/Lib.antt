@@ -2,3 +2,5 @@ pub mod Counted
 pub mod Told
 pub mod Fields
 pub mod Keeping
+pub mod Beside
+pub mod Numbers

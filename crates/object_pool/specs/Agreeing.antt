@@ -5,11 +5,13 @@ use Rattle.memory_limits.specs.Limits.{AreLimitsOf}
 use Rattle.destructors.specs.Engine.{AreKept, HasRoom}
 use Rattle.object_pool.specs.declared.pool.ObjectPool.TheInside.{Inside}
 use Rattle.object_pool.specs.Objects.{HasCallRoom}
+use Rattle.object_pool.specs.Waiting.{AllNumbered}
 
--- references and limits are those of the rows, and there is room for what is open
+-- references and limits are those of the rows, there is room for what is open, and no time has a number that is still to be given
 pub record AgreeWith (b : Inside) : Type 0 where
   pub references : AreRefsOf b.refs.pairs b.tree.rows
   pub limits : AreLimitsOf b.sums.limited b.tree.rows
   pub kept : AreKept b.engine b.tree
   pub room : HasRoom b.engine b.tree
-  pub call : b.ready ≡ true → HasCallRoom b.tree b.refs b.sums
+  pub numbers : AllNumbered b.tree.next b.times.dues
+  pub call : b.ready ≡ true → HasCallRoom b.tree b.refs b.sums b.soon b.times

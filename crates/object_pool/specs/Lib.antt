@@ -1,3 +1,4 @@
 pub mod Counting
+pub mod Waiting
 pub mod Objects
 pub mod Agreeing

@@ -1,6 +1,7 @@
 -- Objects as their callers see them, and what is kept of them.
-use Rattle.std.specs.Prelude.{◌≡◌, true, false, ◌+◌, ◌<◌, ◌≤◌, Bool, List, length, Option, Some}
+use Rattle.std.specs.Prelude.{◌≡◌, true, false, ◌+◌, ◌^◌, ◌<◌, ◌≤◌, Bool, List, length, Option, Some}
 use Rattle.tree_specs.specs.declared.frame.FreeFrame.{FreeFrame}
+use Rattle.tree_specs.specs.declared.due.Due.{Due}
 use Rattle.tree_specs.specs.declared.object.Obj.{Obj}
 use Rattle.tree_specs.specs.declared.object.Owner.{Owner}
 use Rattle.tree_specs.specs.declared.row.Row.{Row}
@@ -9,6 +10,9 @@ use Rattle.tree_links.specs.Links.{Links, pool_of, MayPlace}
 use Rattle.references.specs.Pairs.{Pairs}
 use Rattle.memory_limits.specs.Limits.{Limits}
 use Rattle.destructors.specs.Frees.{OpenFrees, before}
+use Rattle.immediates.specs.Waiting.{Waiting}
+use Rattle.timers.specs.Timetable.{Timetable}
+use Rattle.object_pool.specs.Waiting.{beside}
 
 pub record Objects : Type 0 where
   pub pool : Pool
@@ -26,15 +30,18 @@ abbrev pub frees_in : Objects → OpenFrees
 frees_in o = record { works = o.works; pool = o.pool }
 
 -- by the parts
-abbrev pub objects_of : Option FreeFrame → Links → Bool → Objects
-objects_of engine tree ready = record { pool = pool_of tree; works = before engine tree.frees; ready = ready }
+abbrev pub objects_of : Option FreeFrame → Links → List Obj → List Due → Bool → Objects
+objects_of engine tree soon times ready = record { pool = beside soon times (pool_of tree); works = before engine tree.frees; ready = ready }
 
 -- the memory for a call, with all that comes of it up to the next question
-pub record HasCallRoom (tree : Links) (refs : Pairs) (sums : Limits) : Type 0 where
+pub record HasCallRoom (tree : Links) (refs : Pairs) (sums : Limits) (soon : Waiting) (times : Timetable) : Type 0 where
   pub row : 0 < tree.spare
   pub works : length tree.rows + 4 ≤ tree.room
   pub reference : 0 < refs.spare
   pub limit : 0 < sums.spare
+  pub immediate : 0 < soon.spare
+  pub timer : 0 < times.spare
+  pub waiting : length soon.objects + length times.dues < 2 ^ 64
 
 -- a reference may be put below any owner: it owns nothing, and nothing goes on with it
 abbrev pub RefsMayGo : List Row → Type 0

@@ -2,6 +2,7 @@
 #![tactic(auto)]
 
 mod counting;
+mod disarming;
 mod pool;
 
 pub use pool::ObjectPool;

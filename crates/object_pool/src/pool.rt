@@ -1,14 +1,20 @@
 use crate::counting::{count_added, count_step, count_went};
+use crate::disarming::disarm_left;
 use destructors::FreeEngine;
+use immediates::Soon;
 use memory_limits::Sums;
 use references::{Refs, refer};
 use std::alloc::Global;
 use std::marker::Model;
+use timers::Times;
 use tree_links::{NewRow, Tree};
 use tree_report::{count, rows, total};
 use tree_specs::{FreeStep, Kind, Memory, Name, Obj, Owner, Refusal, ReportRows, Row};
 
-/// The objects: who owns whom, what refers to what, what their limits are, and the frees that are open on them.
+mod waiting;
+
+/// The objects: who owns whom, what refers to what, what their limits are, which of them wait for their turn, and the
+/// frees that are open on them.
 /// Contracts see the pool, the works of the open frees, the innermost first, and whether the memory for one call is
 /// taken. No change takes memory: what may want some asks for that before.
 #[derive(Debug, Drop)]
@@ -17,6 +23,8 @@ pub struct ObjectPool {
     tree: Tree,
     refs: Refs,
     sums: Sums,
+    soon: Soon,
+    times: Times,
     /// The memory for one call is taken.
     ready: bool,
 }
@@ -29,7 +37,7 @@ impl Model for ObjectPool {
     ghost use Rattle.object_pool.specs.Objects.{objects_of};
     ghost use Rattle.object_pool.specs.Agreeing.{AgreeWith};
 
-    ghost view = { λ p. objects_of p.engine p.tree p.ready };
+    ghost view = { λ p. objects_of p.engine p.tree p.soon.objects p.times.dues p.ready };
 
     ghost invariant = { AgreeWith };
 }
@@ -38,11 +46,10 @@ impl ObjectPool {
     ghost use Rattle.std.specs.Prelude.{◌≡◌, ℕ, ◌^◌, ◌-◌, ◌<◌, ◌∷◌, [], true, false, None, ◌&&◌, IfOk, OnOk, OnErr, length, slice_get};
     ghost use Rattle.std.specs.Option.{option_copied};
     ghost use Rattle.tree_specs.specs.declared.object.Owner.TheVariants.{Of as At};
-    ghost use Rattle.tree_specs.specs.declared.kind.Kind.TheVariants as kinds;
     ghost use Rattle.tree_specs.specs.declared.frame.FreeFrame.TheVariants.{Unlinking, Beginning, Looping};
     ghost use Rattle.tree_specs.specs.declared.frame.Purpose.TheVariants.{Emptying};
     ghost use Rattle.tree_specs.specs.Tree.Pool.{empty, row_of, is_row, is_owner, is_below, is_inside as is_inside_of, owner_of, target_at, newest_ref_of, add as added, place as placed, rename as renamed, set_hook as hooked, set_size as sized, set_limit as limited};
-    ghost use Rattle.tree_specs.specs.Tree.Targets.{newest_ref};
+    ghost use Rattle.tree_specs.specs.Tree.Targets.{newest_ref, target_of};
     ghost use Rattle.tree_specs.specs.Calls.Plans.{refer as referred, reparented};
     ghost use Rattle.tree_specs.specs.Calls.Refusals.{checked, row_limit, size_limit, is_plain_row, fits as fitting};
     ghost use Rattle.tree_specs.specs.Tree.Sums.{size_at, sum_inside};
@@ -65,6 +72,8 @@ impl ObjectPool {
             tree: Tree::new(alloc, first),
             refs: Refs::new(alloc),
             sums: Sums::new(alloc),
+            soon: Soon::new(alloc),
+            times: Times::new(alloc),
             ready: false,
         }
     }
@@ -74,25 +83,29 @@ impl ObjectPool {
         ensures ok { OnOk result (self.new ≡ record self.old { ready = true }) }
         ensures err { OnErr result (self.new ≡ self.old) }
     {
+        // As many as can be counted may wait.
+        self.soon.len().checked_add(self.times.len()).ok_or(Memory)?;
         self.refs.reserve(1)?;
         self.sums.reserve(1)?;
+        self.soon.reserve(1)?;
+        self.times.reserve(1)?;
         self.tree.reserve(2)?;
         self.ready = true;
         Ok(())
     }
 
-    /// Adds a plain object as the newest child of an owner, and gives its number.
-    pub fn add(&mut self, name: Name, size: u64, owner: Owner) -> Obj
+    /// Adds an object of a kind other than a reference as the newest child of an owner, and gives its number.
+    pub fn add(&mut self, kind: Kind, name: Name, size: u64, owner: Owner) -> Obj
         requires ready { self.old.ready ≡ true }
+        requires object { target_of kind ≡ None }
         requires few { length self.old.pool.rows < row_limit }
         requires small { size < size_limit }
         requires numbered { self.old.pool.next < 2 ^ 64 - 1 }
         requires owner { is_owner self.old.pool.rows owner ≡ true }
         ensures serial { result ≡ record { 0 = self.old.pool.next } }
-        ensures added { self.new ≡ record self.old { pool = added self.old.pool kinds.Plain owner size name; ready = false } }
+        ensures added { self.new ≡ record self.old { pool = added self.old.pool kind owner size name; ready = false } }
     {
         self.ready = false;
-        let kind = Kind::Plain;
         let serial = self.tree.add(NewRow { kind, name, size }, owner);
         count_added(serial, &self.tree, &mut self.sums);
         serial
@@ -248,6 +261,7 @@ impl ObjectPool {
         self.ready = false;
         let step = self.engine.step(&mut self.tree, &mut self.refs);
         count_step(&step, &self.tree, &mut self.sums);
+        disarm_left(&step, &mut self.soon, &mut self.times);
         step
     }
 

@@ -1,6 +1,5 @@
-use Rattle.std.proofs.Common.{◌≡◌, true, None, length, refl, sym, ap, subst, arith}
+use Rattle.std.proofs.Common.{◌≡◌, true, None, length, sym, ap, subst, arith}
 use Rattle.tree_specs.specs.declared.object.Obj.{Obj}
-use Rattle.tree_specs.specs.declared.kind.Kind.TheVariants.{Plain}
 use Rattle.tree_specs.specs.Tree.Pool.{Pool, row_of}
 use Rattle.references.specs.Rows.{AreRefsOf}
 use Rattle.references.proofs.Rows.{refs-added}
@@ -12,8 +11,9 @@ pub invariant_of-self : goal.invariant_of-self
 invariant_of-self c =
     let e = ap (λ (p : Pool). p.rows) c.add-serial.ensures.rows in
     let more = ap length e in
+    let n = ap (λ (p : Pool). p.next) c.add-serial.ensures.rows in
     let fresh = subst (λ (x : Obj). row_of c.self.inside.tree.rows x ≡ None) c.add-serial.ensures.serial c.add-serial.ensures.fresh in
     spent c.self.inside c.add-serial.new.self c.self.inside.refs c.count_added.new.sums
-    (subst (λ (o : Objects). o.ready ≡ true) (sym c.self.view_is) c.requires.ready) (omega (arith, more)) c.add-serial.ensures.works
-    (subst (AreRefsOf c.self.inside.refs.pairs) (sym e) (refs-added c.self.inside.refs.pairs c.self.inside.tree.rows (record { 0 = c.self.inside.tree.next }) Plain c.args.owner c.args.size c.args.name fresh refl c.self.invariant.references))
+    (subst (λ (o : Objects). o.ready ≡ true) (sym c.self.view_is) c.requires.ready) (omega (arith, n)) (omega (arith, more)) c.add-serial.ensures.works
+    (subst (AreRefsOf c.self.inside.refs.pairs) (sym e) (refs-added c.self.inside.refs.pairs c.self.inside.tree.rows (record { 0 = c.self.inside.tree.next }) c.args.kind c.args.owner c.args.size c.args.name fresh c.requires.object c.self.invariant.references))
     c.count_added.ensures c.self.invariant

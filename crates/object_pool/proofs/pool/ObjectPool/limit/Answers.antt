@@ -16,9 +16,10 @@ set_limit-requires-2-clause-sums c =
 pub invariant_of-self : goal.invariant_of-self
 invariant_of-self c =
     let e = ap (λ (p : Pool). p.rows) c.set_limit.ensures.rows in
+    let n = ap (λ (p : Pool). p.next) c.set_limit.ensures.rows in
     let as_many = ap length e ∙ length-changed (limited_row c.args.max) c.self.inside.tree.rows c.args.x in
     spent c.self.inside c.set_limit.new.self c.self.inside.refs c.set_limit-2.new.self
-    (subst (λ (o : Objects). o.ready ≡ true) (sym c.self.view_is) c.requires.ready) (omega (arith, as_many)) c.set_limit.ensures.works
+    (subst (λ (o : Objects). o.ready ≡ true) (sym c.self.view_is) c.requires.ready) (omega (arith, n)) (omega (arith, as_many)) c.set_limit.ensures.works
     (subst (AreRefsOf c.self.inside.refs.pairs) (sym e)
     (refs-same c.self.inside.refs.pairs c.self.inside.tree.rows _ (same-changed (limited_row c.args.max) c.self.inside.tree.rows c.args.x (λ r. refl) (λ r. refl)) c.self.invariant.references))
     (subst (AreLimitsOf c.set_limit-2.new.self.limited) (sym e)

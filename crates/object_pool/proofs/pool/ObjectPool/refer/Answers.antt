@@ -5,6 +5,7 @@ use Rattle.object_pool.proofs.pool.ObjectPool.refer.Goals as goal
 
 pub invariant_of-self : goal.invariant_of-self
 invariant_of-self c =
+    let n = ap (λ (p : Pool). p.next) c.refer-serial.ensures.rows in
     let more = ap (λ (p : Pool). length p.rows) c.refer-serial.ensures.rows in
     spent c.self.inside c.refer-serial.new.tree c.refer-serial.new.refs c.count_added.new.sums
-    (rw (← c.self.view_is) at c.requires.ready) (omega (arith, more)) c.refer-serial.ensures.works c.refer-serial.ensures.refs c.count_added.ensures c.self.invariant
+    (rw (← c.self.view_is) at c.requires.ready) (omega (arith, n)) (omega (arith, more)) c.refer-serial.ensures.works c.refer-serial.ensures.refs c.count_added.ensures c.self.invariant

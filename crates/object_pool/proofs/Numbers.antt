@@ -1,0 +1,141 @@
+-- Numbers of times, and numbers that are still to be given.
+use Rattle.std.proofs.Common.{◌≡◌, ℕ, ◌<◌, ◌≤◌, nat_eq, false, List, [], ◌∷◌, Option, Some, None, refl, sym, ap, ◌∙◌, arith}
+use Rattle.std.proofs.lemmas.Bool.{ne_eqb}
+use Rattle.step_machine.specs.Machine.{Move as Do}
+use Rattle.tree_specs.specs.declared.due.Due.{Due}
+use Rattle.tree_specs.specs.declared.object.Obj.{Obj}
+use Rattle.tree_specs.specs.declared.object.Owner.{Owner}
+use Rattle.tree_specs.specs.declared.object.Owner.TheVariants.{Of}
+use Rattle.tree_specs.specs.declared.row.Row.{Row}
+use Rattle.tree_specs.specs.declared.row.Mark.{Mark}
+use Rattle.tree_specs.specs.declared.row.Mark.TheVariants as mark
+use Rattle.tree_specs.specs.declared.frame.FreeFrame.{FreeFrame}
+use Rattle.tree_specs.specs.declared.frame.FreeFrame.TheVariants.{Unlinking, Releasing, Giving, Beginning, Hooked, Judged, Leaving, Looping, FreeingChild, AfterChild, Ending}
+use Rattle.tree_specs.specs.declared.frame.Purpose.{Purpose}
+use Rattle.tree_specs.specs.declared.frame.Purpose.TheVariants.{Removal, Emptying}
+use Rattle.tree_specs.specs.declared.free_step.FreeReply.{FreeReply}
+use Rattle.tree_specs.specs.declared.free_step.FreeReply.TheVariants as free_reply
+use Rattle.tree_specs.specs.declared.free_step.FreeStep.{FreeStep}
+use Rattle.tree_specs.specs.declared.free_step.FreeStep.TheVariants.{Left}
+use Rattle.tree_specs.specs.Events.Pending.{disarmed, armed, put_in, comes_before, is_numbered}
+use Rattle.tree_specs.specs.Words.Objects.{same}
+use Rattle.tree_specs.specs.Tree.Targets.{newest_ref}
+use Rattle.tree_specs.specs.Tree.Pool.{Pool, row_of, is_below, owner_of, target_at, newest_ref_of, is_inside, first_kid}
+use Rattle.tree_specs.specs.Machine.Table.{FreeMove, free_step, begin_step, refs_step, unlink_step, release_step, loop_step, child_step, tried_step}
+use Rattle.tree_specs.proofs.Tree.Numbered.{by_test}
+use Rattle.destructors.specs.Frees.{OpenFrees, moved, moves, next_of, Silently, Still, On, Steps, Begins}
+use Rattle.object_pool.specs.Waiting.{AllNumbered, times_after}
+
+-- numbers that were given before one were given before a later one
+pub numbered-later : (n m : ℕ) (ds : List Due) → n ≤ m → AllNumbered n ds → AllNumbered m ds
+numbered-later n m [] le a = tt
+numbered-later n m (d ∷ ds) le a = ((let l = a.0 in omega (arith, l, le)), numbered-later n m ds le a.1)
+
+pub numbered-disarmed : (n : ℕ) (ds : List Due) (x : Obj) → AllNumbered n ds → AllNumbered n (disarmed ds x)
+numbered-disarmed n [] x a = tt
+numbered-disarmed n (d ∷ ds) x a = by_test (same d.object x)
+    (λ t. rw t (numbered-disarmed n ds x a.1))
+    (λ t. rw t (a.0, numbered-disarmed n ds x a.1))
+
+pub numbered-told : (n : ℕ) (ds : List Due) (told : FreeStep) → AllNumbered n ds → AllNumbered n (times_after (Some told) ds)
+numbered-told n ds (Left x from) a = numbered-disarmed n ds x a
+numbered-told n ds _ a = a
+
+numbered-put : (n : ℕ) (d : Due) (ds : List Due) → d.number < n → AllNumbered n ds → AllNumbered n (put_in d ds)
+numbered-put n d [] l a = (l, tt)
+numbered-put n d (e ∷ es) l a = by_test (comes_before d e)
+    (λ t. rw t (l, a))
+    (λ t. rw t (a.0, numbered-put n d es l a.1))
+
+pub numbered-armed : (n : ℕ) (ds : List Due) (x : Obj) (time number : ℕ) → number < n → AllNumbered n ds → AllNumbered n (armed ds x time number)
+numbered-armed n ds x time number l a = numbered-put n (record { time = time; number = number; object = x }) (disarmed ds x) l (numbered-disarmed n ds x a)
+
+-- a number that is still to be given is that of no time
+pub unnumbered : (n : ℕ) (ds : List Due) → AllNumbered n ds → is_numbered ds n ≡ false
+unnumbered n [] a = refl
+unnumbered n (d ∷ ds) a = let l = a.0 in let ne : nat_eq d.number n ≡ false = ne_eqb d.number n (λ e. omega (arith, l, e)) in rw ne (unnumbered n ds a.1)
+
+-- ---- moves of frees give no number
+
+-- the objects after a move
+abbrev pool_in : FreeMove → Pool
+pool_in (Do.Done a p) = p
+pool_in (Do.Go f p) = p
+pool_in (Do.Emit t f p) = p
+pool_in (Do.Wait t f p) = p
+pool_in (Do.Call g f p) = p
+
+begun-next : (x : Obj) (p : Pool) (o : Option Row) → (pool_in (begin_step x o p)).next ≡ p.next
+begun-next x p None = refl
+begun-next x p (Some r) = each r.mark refl
+  where
+    each : (m : Mark) → r.mark ≡ m → (pool_in (begin_step x (Some r) p)).next ≡ p.next
+    each mark.Quiet e = by_test (nat_eq r.hook 0) (λ t. rw (e, t) refl) (λ t. rw (e, t) refl)
+    each mark.Asked e = rw e refl
+    each mark.Busy e = rw e refl
+    each mark.Doomed e = rw e refl
+    each (mark.Dying former) e = rw e refl
+
+refs-next : (x : Obj) (p : Pool) (o : Option Obj) → (pool_in (refs_step x o p)).next ≡ p.next
+refs-next x p None = begun-next x p (row_of p.rows x)
+refs-next x p (Some r) = by_test (is_inside p.rows (Of r) (Of x)) (λ t. rw t refl) (λ t. rw t refl)
+
+unlink-next : (x : Obj) (p : Pool) (o : Option Obj) → (pool_in (unlink_step x o p)).next ≡ p.next
+unlink-next x p None = refl
+unlink-next x p (Some r) = refl
+
+release-next : (x : Obj) (p : Pool) (o : Option Obj) → (pool_in (release_step x o p)).next ≡ p.next
+release-next x p None = refl
+release-next x p (Some r) = by_test (is_inside p.rows (Of r) (Of x)) (λ t. rw t refl) (λ t. rw t refl)
+
+loop-next : (x : Obj) (purpose : Purpose) (p : Pool) (o : Option Obj) → (pool_in (loop_step x purpose o p)).next ≡ p.next
+loop-next x (Removal h) p None = refl
+loop-next x Emptying p None = refl
+loop-next x purpose p (Some c) = each (target_at p.rows c)
+  where
+    each : (o : Option Obj) → (pool_in (child_step x c purpose o p)).next ≡ p.next
+    each None = refl
+    each (Some target) = refl
+
+tried-next : (x c : Obj) (noted : Option Owner) (purpose : Purpose) (a : FreeReply) (p : Pool) → (pool_in (tried_step x c noted purpose a p)).next ≡ p.next
+tried-next x c noted purpose free_reply.Ok p = refl
+tried-next x c noted purpose _ p = by_test (is_below (owner_of p.rows c) (Of x)) (λ t. rw t refl) (λ t. rw t refl)
+
+move-next : (f : FreeFrame) (p : Pool) → (pool_in (free_step f p)).next ≡ p.next
+move-next (Unlinking o x) p = unlink-next x p (newest_ref_of p.rows o x)
+move-next (Releasing x) p = release-next x p (newest_ref p.rows x)
+move-next (Beginning x) p = refs-next x p (newest_ref p.rows x)
+move-next (Judged x h v) p = by_test (nat_eq v 0) (λ t. rw t refl) (λ t. rw t refl)
+move-next (Looping x purpose) p = loop-next x purpose p (first_kid p.rows (Of x))
+move-next (AfterChild x c noted purpose a) p = tried-next x c noted purpose a p
+move-next (Giving x o) p = refl
+move-next (Hooked x h) p = refl
+move-next (Leaving x h) p = refl
+move-next (FreeingChild x c noted purpose) p = refl
+move-next (Ending a) p = refl
+
+moved-next : (m : FreeMove) (fs : List FreeFrame) → (moved m fs).1.pool.next ≡ (pool_in m).next
+moved-next (Do.Done a p) [] = refl
+moved-next (Do.Done a p) (Hooked x h ∷ fs) = refl
+moved-next (Do.Done a p) (f ∷ fs) = refl
+moved-next (Do.Go f p) fs = refl
+moved-next (Do.Emit t f p) fs = refl
+moved-next (Do.Wait t f p) fs = refl
+moved-next (Do.Call g f p) fs = refl
+
+next-kept : (s : OpenFrees) → (next_of s).1.pool.next ≡ s.pool.next
+next-kept s = each s.works
+  where
+    each : (fs : List FreeFrame) → (moves fs s.pool).1.pool.next ≡ s.pool.next
+    each [] = refl
+    each (f ∷ fs) = moved-next (free_step f s.pool) fs ∙ move-next f s.pool
+
+silent-next : (s t : OpenFrees) → Silently s t → t.pool.next ≡ s.pool.next
+silent-next s _ Still = refl
+silent-next s _ (On t u before e) = sym (ap (λ (n : Option FreeStep × OpenFrees). n.1.pool.next) e) ∙ next-kept t ∙ silent-next s t before
+
+pub begins-next : (works : List FreeFrame) (p : Pool) (t : OpenFrees) → Begins works p t → t.pool.next ≡ p.next
+begins-next works p t b = silent-next _ t b.moves_on
+
+pub steps-next : (s t : OpenFrees) (told : FreeStep) → Steps s told t → t.pool.next ≡ s.pool.next
+steps-next s t told h = silent-next _ t h.moves_on ∙ next-kept s
