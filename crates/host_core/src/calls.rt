@@ -17,7 +17,7 @@ use crate::motion::Motion;
 use crate::refusals::check;
 use crate::short_reply::ShortReply;
 use object_pool::ObjectPool;
-use tree_specs::{Call, FreeReply, Obj, Owner, Refusal};
+use tree_specs::{Call, FreeReply, Kind, Name, Obj, Owner, Refusal};
 
 /// The reply to a call that has freed.
 pub fn freed(x: Obj, answer: FreeReply) -> ShortReply
@@ -83,7 +83,9 @@ fn effect(call: Call, pool: &mut ObjectPool) -> Motion
     ensures moved { (q : AskData) → move_of q result pool.new.pool ≡ plan_step q (plan pool.old.pool call) pool.old.pool }
 {
     match call {
-        Call::New { owner, size, name } => return number(pool.add(name, size, owner).0),
+        Call::New { owner, size, name } => {
+            return number(pool.add(Kind::Plain, name, size, owner).0);
+        }
         Call::Reference { owner, x } => return number(pool.refer(x, owner).0),
         Call::Free { x } => return free(x, pool),
         Call::Freekids { x } => return Motion::Empties(x),
@@ -95,6 +97,14 @@ fn effect(call: Call, pool: &mut ObjectPool) -> Motion
         Call::Count { owner } => return number(pool.count(owner)),
         Call::Sum { owner } => return number(pool.sum(owner)),
         Call::Report { .. } => unreachable!(),
+        Call::Immediate { owner } => {
+            let name = Name::fixed(b"immediate");
+            return number(pool.add(Kind::Immediate, name, 0, owner).0);
+        }
+        Call::Timer { owner, time, .. } => return number(pool.add_timer(owner, time).0),
+        Call::Pending => return number(pool.pending()),
+        Call::Schedule { x, routine: 0, .. } | Call::Unschedule { x } => pool.unschedule(x),
+        Call::Schedule { x, .. } => pool.schedule(x),
         Call::Reparent { from, to, x } => pool.reparent(from, to, x),
         Call::Hook { x, routine } => pool.hook(x, routine),
         Call::Unhook { x } => pool.hook(x, 0),

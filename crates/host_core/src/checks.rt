@@ -1,13 +1,13 @@
 //! What a call is refused for: each test, and tests one after another.
 ghost use Rattle.std.specs.Prelude.{◌≡◌, ◌<◌, [], ◌∷◌, IsOk};
 ghost use Rattle.std.specs.Option.{option_copied};
-ghost use Rattle.tree_specs.specs.Calls.Refusals.{checked, small, owner, object_row, plain, room, staying, still, apart, held, interested, given_by, unreferenced, growing, size_limit, refusal_of, refused};
+ghost use Rattle.tree_specs.specs.Calls.Refusals.{checked, small, owner, object_row, plain, immediate, room, staying, lasting, still, apart, held, interested, given_by, unreferenced, growing, size_limit, refusal_of, refused};
 
 use crate::subject::Subject;
 use object_pool::ObjectPool;
 use tree_specs::Test::{
-    Fits, HasRoom, IsInterested, IsNotDying, IsNotInside, IsNotRunning, IsObject, IsOwner, IsPlain,
-    IsSmall, IsUnheld, IsUnreferenced, MayGive, MayGrow,
+    Fits, HasRoom, IsImmediate, IsInterested, IsNotDoomed, IsNotDying, IsNotInside, IsNotRunning,
+    IsObject, IsOwner, IsPlain, IsSmall, IsUnheld, IsUnreferenced, MayGive, MayGrow,
 };
 use tree_specs::{Kind, Mark, Obj, Owner, ROW_LIMIT, Refusal, Row, SIZE_LIMIT, Test};
 
@@ -63,6 +63,22 @@ fn check_plain(x: Obj, objects: &Subject) -> Result<(), Refusal>
     }
 }
 
+/// Only an immediate is scheduled.
+#[inline]
+fn check_immediate(x: Obj, objects: &Subject) -> Result<(), Refusal>
+    ensures { result ≡ checked (immediate objects.now x) }
+{
+    match objects.row(x) {
+        Some(
+            Row {
+                kind: Kind::Immediate,
+                ..
+            },
+        ) => Ok(()),
+        _ => Err(Refusal::WrongKind(x)),
+    }
+}
+
 /// Whether there is room for so many rows, and whether there are so many numbers.
 fn check_room(rows: u8, pool: &ObjectPool) -> Result<(), Refusal>
     ensures { result ≡ checked (room pool.now.pool rows) }
@@ -85,6 +101,22 @@ fn check_not_dying(x: Obj, objects: &Subject) -> Result<(), Refusal>
         Some(
             Row {
                 mark: Mark::Dying(_),
+                ..
+            },
+        ) => Err(Refusal::Dying(x)),
+        _ => Ok(()),
+    }
+}
+
+/// An event that is being freed, or is to be once its handler is over, waits for nothing.
+#[inline]
+fn check_not_doomed(x: Obj, objects: &Subject) -> Result<(), Refusal>
+    ensures { result ≡ checked (lasting objects.now x) }
+{
+    match objects.row(x) {
+        Some(
+            Row {
+                mark: Mark::Doomed | Mark::Dying(_),
                 ..
             },
         ) => Err(Refusal::Dying(x)),
@@ -183,10 +215,12 @@ fn check_test(test: Test, objects: &Subject) -> Result<(), Refusal>
         IsObject(x) => check_row(x, objects.row(x)),
         IsOwner(owner) => check_owner(owner, objects.pool()),
         IsPlain(x) => check_plain(x, objects),
+        IsImmediate(x) => check_immediate(x, objects),
         HasRoom(rows) => check_room(rows, objects.pool()),
         Fits(owner, wanted) => objects.pool().fits(owner, wanted),
         MayGrow(x, size) => check_growing(x, size, objects),
         IsNotDying(x) => check_not_dying(x, objects),
+        IsNotDoomed(x) => check_not_doomed(x, objects),
         IsNotRunning(x) => check_not_running(x, objects),
         IsNotInside(x, owner) => check_not_inside(x, owner, objects.pool()),
         IsUnheld(x) => check_held(x, objects.pool()),

@@ -10,8 +10,8 @@ use crate::checks::{
 use crate::subject::Subject;
 use object_pool::ObjectPool;
 use tree_specs::Test::{
-    Fits, HasRoom, IsInterested, IsNotDying, IsNotInside, IsNotRunning, IsObject, IsOwner, IsPlain,
-    IsSmall, IsUnheld, IsUnreferenced, MayGive, MayGrow,
+    Fits, HasRoom, IsImmediate, IsInterested, IsNotDoomed, IsNotDying, IsNotInside, IsNotRunning,
+    IsObject, IsOwner, IsPlain, IsSmall, IsUnheld, IsUnreferenced, MayGive, MayGrow,
 };
 use tree_specs::{Call, OVERHEAD, Obj, Owner, Refusal, Test};
 
@@ -114,6 +114,23 @@ pub fn check(call: &Call, pool: &ObjectPool) -> Result<(), Refusal>
             )
         }
         Call::Resize { x, size } => check_resize(x, size, pool),
+        Call::Immediate { owner } | Call::Timer { owner, .. } => {
+            check_three(
+                IsOwner(owner),
+                HasRoom(1),
+                Fits(owner, OVERHEAD),
+                &Subject::none(pool),
+            )
+        }
+        Call::Schedule { x, .. } | Call::Unschedule { x } => {
+            check_three(
+                IsObject(x),
+                IsImmediate(x),
+                IsNotDoomed(x),
+                &Subject::object(x, pool),
+            )
+        }
+        Call::Pending => Ok(()),
         Call::Parent { x } => check_two(IsObject(x), IsNotDying(x), &Subject::object(x, pool)),
         Call::Freekids { x } | Call::Rename { x, .. } | Call::Limit { x, .. } => {
             check_row(x, pool.row(x))
