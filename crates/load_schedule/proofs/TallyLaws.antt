@@ -51,7 +51,15 @@ lines-whole (l ∷ ls) rest h =
     ∙ lines_ended l (text_of ls rest) parts.0
     ∙ ap (λ (k : List Line). ended_line l ∷ k) (lines-whole ls rest parts.1)
 
--- ---- a line ends
+-- ---- a line goes on, and ends
+
+-- more of the present line
+pub tally-longer : (ended : List (List ℕ)) (line rest last : List ℕ) (r f d : ℕ) → has_no_lf rest ≡ true → IsTally ended line r f d last → IsTally ended (line ++ rest) r f d last
+tally-longer ended line rest last r f d h t = record { refusals = t.refusals; frees = t.frees; drops = t.drops; reply = t.reply; whole = t.whole; begun = both line rest t.begun h }
+  where
+    both : (xs ys : List ℕ) → has_no_lf xs ≡ true → has_no_lf ys ≡ true → has_no_lf (xs ++ ys) ≡ true
+    both [] ys g k = k
+    both (x ∷ xs) ys g k = let parts = and_true (is_plain x) (has_no_lf xs) g in rw (parts.0, both xs ys parts.1 k) refl
 
 pub tally-more : (ended all : List (List ℕ)) (line now last kept : List ℕ) (r f d r' f' d' : ℕ) → IsTally ended line r f d last
     → r' ≡ one_more (codes "reply no ") line r → f' ≡ one_more (codes "freed ") line f → d' ≡ one_more (codes "unreferenced ") line d

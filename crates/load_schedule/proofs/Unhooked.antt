@@ -1,5 +1,5 @@
 -- Pools in which no object has a destructor.
-use Rattle.std.proofs.Common.{◌≡◌, ℕ, Bool, true, false, List, [], ◌∷◌, Option, Some, None, refl, subst}
+use Rattle.std.proofs.Common.{◌≡◌, ℕ, Bool, true, false, nat_eq, List, [], ◌∷◌, Option, Some, None, refl, subst}
 use Rattle.tree_specs.specs.declared.object.Obj.{Obj}
 use Rattle.tree_specs.specs.declared.object.Owner.{Owner}
 use Rattle.tree_specs.specs.declared.row.Row.{Row}
@@ -83,6 +83,9 @@ calm-plan p (calls.Unhook x) e = calm-edit (hooked_row 0) x (λ r k. refl)
 calm-plan p (calls.Rename x name) e = calm-edit (named_row name) x (λ r k. k)
 calm-plan p (calls.Resize x size) e = calm-edit (sized_row size) x (λ r k. k)
 calm-plan p (calls.Limit x max) e = calm-edit (limited_row max) x (λ r k. k)
+calm-plan p (calls.Immediate o) e = λ q h. (refl, h)
+calm-plan p (calls.Schedule x routine user) e = by_test (nat_eq routine 0) (λ t. rw t (λ q h. h)) (λ t. rw t (λ q h. h))
+calm-plan p (calls.Timer o time routine user) e = λ q h. (refl, h)
 calm-plan p _ e = λ q h. h
 
 calm-unless : (checks : Check) (w : Plan) → IsCalm w → IsCalm (unless_refused checks w)

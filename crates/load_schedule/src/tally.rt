@@ -97,7 +97,7 @@ fn keep_reply(last: &mut Vec<u8>, line: &mut Vec<u8>)
 fn line_end(bytes: &[u8]) -> Option<usize>
     ensures { EndsFirst bytes.now result }
 {
-    bytes.iter().position(|&byte| byte == b'\n')
+    memchr(b'\n', bytes)
 }
 
 /// What a reply has after `reply `.
