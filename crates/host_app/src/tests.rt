@@ -27,6 +27,16 @@ struct Answer {
     err: Vec<u8>,
 }
 
+impl Answer {
+    fn new(rt: &HostRuntime, status: Status, out: &[u8], err: &[u8]) -> Result<Answer, Fail> {
+        Ok(Answer {
+            status,
+            out: out.to_vec(rt.alloc())?,
+            err: err.to_vec(rt.alloc())?,
+        })
+    }
+}
+
 fn word(rt: &HostRuntime, text: &str) -> Result<Vec<String>, Fail> {
     let mut words = Vec::new(rt.alloc());
     words.push(text.to_string(rt.alloc())?)?;
@@ -52,11 +62,7 @@ fn run_with(
     let mut out = MemSink::new(rt.alloc(), most, 0, puts_fail.to_vec(rt.alloc())?)?;
     let mut err = FineSink::new(rt.alloc(), 0)?;
     let status = host_main(rt.alloc(), &words, &mut input, &mut out, &mut err);
-    Ok(Answer {
-        status,
-        out: out.held().to_vec(rt.alloc())?,
-        err: err.held().to_vec(rt.alloc())?,
-    })
+    Answer::new(rt, status, out.held(), err.held())
 }
 
 // It ended so, and wrote and said these bytes.
@@ -161,11 +167,7 @@ fn run_words(rt: &HostRuntime, texts: &[&str]) -> Result<Answer, Fail> {
     let mut out = FineSink::new(rt.alloc(), 0)?;
     let mut err = FineSink::new(rt.alloc(), 0)?;
     let status = host_main(rt.alloc(), &words, &mut input, &mut out, &mut err);
-    Ok(Answer {
-        status,
-        out: out.held().to_vec(rt.alloc())?,
-        err: err.held().to_vec(rt.alloc())?,
-    })
+    Answer::new(rt, status, out.held(), err.held())
 }
 
 const UNKNOWN: &[u8] = b"error: unrecognized subcommand 'replays'
