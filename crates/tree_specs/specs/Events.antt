@@ -1,2 +1,3 @@
 -- Events: objects whose turn comes.
+pub mod Handlers
 pub mod Pending

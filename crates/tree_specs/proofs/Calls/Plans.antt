@@ -21,7 +21,7 @@ use Rattle.tree_specs.specs.Invariants.Consistent.{deposit, mark_deposit}
 use Rattle.tree_specs.specs.Calls.Refusals.{Check, tests, refusals}
 use Rattle.tree_specs.specs.declared.test.Test.TheVariants.{IsObject}
 use Rattle.tree_specs.specs.Calls.Plans.{Change, Plan, changed_by, plan, planned, unless_refused, places, warns, frees, handed, gift}
-use Rattle.tree_specs.specs.Calls.Plans.Change.{Nothing, Edit, Add, Place, Schedule, Unschedule, Arm, Then}
+use Rattle.tree_specs.specs.Calls.Plans.Change.{Nothing, Edit, Add, Place, Handle, Schedule, Unschedule, Arm, Then}
 use Rattle.tree_specs.specs.Calls.Plans.Plan.{Does, Frees, Unlinks, Empties}
 use Rattle.tree_specs.specs.Invariants.Sound.{IsLive, IsReferable, IsQuietRow, MayBePlaced, Rests, Sound, claim}
 use Rattle.tree_specs.proofs.Tree.Numbered.{by_test, same-equal, is_below-some}
@@ -54,6 +54,7 @@ MayDo p Nothing = Unit {0}
 MayDo p (Edit x g) = MayBeEdited p x g
 MayDo p (Add kind o size name) = MayBeAdded p kind o
 MayDo p (Place o x) = MayBePlaced p o x
+MayDo p (Handle x handler) = Unit {0}
 MayDo p (Schedule x) = Unit {0}
 MayDo p (Unschedule x) = Unit {0}
 MayDo p (Arm x time number) = Unit {0}
@@ -65,6 +66,7 @@ added Nothing = 0
 added (Edit x g) = 0
 added (Add kind o size name) = 1
 added (Place o x) = 0
+added (Handle x handler) = 0
 added (Schedule x) = 0
 added (Unschedule x) = 0
 added (Arm x time number) = 0
@@ -104,6 +106,7 @@ follows p (Place o x) may =
       deposit = omega (arith, b);
       later = later-placed p o x may.row may.is;
     }
+follows p (Handle x handler) may = waits p (changed_by (Handle x handler) p) refl refl
 follows p (Schedule x) may = waits p (changed_by (Schedule x) p) refl refl
 follows p (Unschedule x) may = waits p (changed_by (Unschedule x) p) refl refl
 follows p (Arm x time number) may = waits p (changed_by (Arm x time number) p) refl refl
@@ -118,6 +121,7 @@ change-sound f f' fs p Nothing s may same calm h = goes_on f f' fs p same h s
 change-sound f f' fs p (Edit x g) s may same calm h = unmarked-sound g f f' fs p x may.row s may.place may.mark may.is may.object same h
 change-sound f f' fs p (Add kind o size name) s may same calm h = new-sound f f' kind o size name fs p s may.there may.target same h
 change-sound f f' fs p (Place o x) s may same calm h = placed-sound f f' o x fs p s may same h
+change-sound f f' fs p (Handle x handler) s may same calm h = waiting-sound f f' fs p (changed_by (Handle x handler) p) s refl refl same h
 change-sound f f' fs p (Schedule x) s may same calm h = waiting-sound f f' fs p (changed_by (Schedule x) p) s refl refl same h
 change-sound f f' fs p (Unschedule x) s may same calm h = waiting-sound f f' fs p (changed_by (Unschedule x) p) s refl refl same h
 change-sound f f' fs p (Arm x time number) s may same calm h = waiting-sound f f' fs p (changed_by (Arm x time number) p) s refl refl same h
@@ -206,9 +210,9 @@ module _ (f : Frame) (fs : List Frame) (p : Pool) (s : Sound f fs p) where
   each (call.Sum o) h = (tt, omega arith, tt)
   each (call.Report o) h = (tt, omega arith, tt)
   each (call.Immediate o) h = (record { there = h.0; target = λ t e. cc }, omega arith, tt)
-  each (call.Schedule x routine user) h = by_test (nat_eq routine 0) (λ t. rw t (tt, omega arith, tt)) (λ t. rw t (tt, omega arith, tt))
+  each (call.Schedule x routine user) h = by_test (nat_eq routine 0) (λ t. rw t (tt, omega arith, tt)) (λ t. rw t ((tt, tt), omega arith, tt))
   each (call.Unschedule x) h = (tt, omega arith, tt)
-  each (call.Timer o time routine user) h = ((record { there = h.0; target = λ t e. cc }, tt), omega arith, tt)
+  each (call.Timer o time routine user) h = ((record { there = h.0; target = λ t e. cc }, (tt, tt)), omega arith, tt)
   each call.Pending h = (tt, omega arith, tt)
 
   pub may : (c : Call) → refusals p c ≡ [] → May p (plan p c)
