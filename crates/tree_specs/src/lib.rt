@@ -30,6 +30,7 @@ mod schedule;
 mod test;
 #[cfg(test)]
 mod tests;
+mod wants;
 
 pub use bounds::{
     LINE_LIMIT, LINES_LIMIT, NAME_LIMIT, OCTETS_LIMIT, OVERHEAD, ROW_LIMIT, SIZE_LIMIT,
@@ -53,3 +54,4 @@ pub use report::{ReportRow, ReportRows, RowKind};
 pub use row::{Mark, Row};
 pub use schedule::{Mode, Reason};
 pub use test::Test;
+pub use wants::{Want, Wants};

@@ -161,6 +161,8 @@ pub given-return : (q : Ask) (i : Input) (v : ℕ) → given_to q i ≡ Some (Re
 given-return ask.Quiet (input.Call c) v e = cc
 given-return (ask.Routine m) (input.Act (act.Do c)) v e = cc
 given-return (ask.Routine m) (input.Act (act.Ret u)) v e = let e' : u ≡ v = cc in (ap (λ (z : ℕ). input.Act (act.Ret z)) e', tt)
+given-return ask.Clock (input.Clock now) v e = cc
+given-return (ask.Wait limit) (input.Ready wants) v e = cc
 given-return q i v e = cc
 
 -- a call, or the end of a routine's run
@@ -176,6 +178,7 @@ heard-by {A = A} q does returns i a e = each (given_to q i) refl e
     each (Some (Returns v)) h e = by_test (is_return v)
         (λ t. let e' : Some (returns v) ≡ Some a = rw t at e in let g = given-return q i v h in inr (v, g.0, g.1, cc))
         (λ t. let e' : None ≡ Some a = rw t at e in cc)
+    each (Some _) h e = cc
 
 pub data Heard (q : Ask) : Frame → Type 0 where
   -- a call

@@ -56,6 +56,7 @@ asking-turn n q b p (i ∷ is) = each (given_to q i) refl
     each None e = rw e (inr refl)
     each (Some (Calls c)) e = by_test (is_sound_call c) (λ t. rw (e, t) (inr (simp laws))) (λ t. rw (e, t) (inr refl))
     each (Some (Returns v)) e = by_test (is_return v) (λ t. rw (e, t) (inr (simp laws))) (λ t. rw (e, t) (inr refl))
+    each (Some _) e = rw e (inr refl)
 
 doing-turn : (n : ℕ) (q : Ask) (c : Call) (b : Option CallStart) (p : Pool) (is : List Input)
     → Below (Turn n (frame.Call (Doing q c)) b (plan_step q (planned p c) p) p is) (mean (suc n) (frame.Call (Doing q c)) b p is)

@@ -25,7 +25,7 @@ use Rattle.tree_specs.specs.Rules.Items.{Item}
 use Rattle.tree_specs.specs.Rules.Items.Item.{Told, Asked}
 use Rattle.tree_specs.specs.Words.Ranges.{is_sound_call, is_return}
 use Rattle.tree_specs.specs.Calls.Given.{Given, given_to}
-use Rattle.tree_specs.specs.Calls.Given.Given.{Calls, Returns}
+use Rattle.tree_specs.specs.Calls.Given.Given.{Calls, Returns, Tells, IsReady}
 use Rattle.tree_specs.specs.Calls.Plans.{Plan, planned, warned_by, changed_by}
 use Rattle.tree_specs.specs.Calls.Plans.Plan.{Does, Frees, Unlinks, Empties}
 use Rattle.tree_specs.specs.Rules.Sequence.{Work, Scene, CallStart, ◌>>=◌, ◌>>◌, gives, pool, change, tells, told_about, asks, short}
@@ -60,6 +60,8 @@ abbrev pub led : {A : Type 0} → (Call → A) → (ℕ → A) → Option Given 
 led does returns None = None
 led does returns (Some (Calls c)) = if is_sound_call c then Some (does c) else None
 led does returns (Some (Returns v)) = if is_return v then Some (returns v) else None
+led does returns (Some (Tells now)) = None
+led does returns (Some (IsReady wants)) = None
 
 abbrev pub heard : {A : Type 0} → Ask → (Call → A) → (ℕ → A) → Input → Option A
 heard q does returns i = led does returns (given_to q i)
