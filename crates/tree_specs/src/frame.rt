@@ -71,6 +71,10 @@ pub enum FreeFrame {
         hook: u32,
         value: u32,
     },
+    /// The handler of `x` runs, and `x` was marked to be freed after it.
+    Dooming {
+        x: Obj,
+    },
     /// `x` is to leave its owner. `hook` is the destructor that accepted this; 0 is none.
     Leaving {
         x: Obj,

@@ -5,7 +5,7 @@ use Rattle.tree_specs.specs.declared.question.Ask.{Ask}
 use Rattle.tree_specs.specs.declared.frame.Frame.{Frame}
 use Rattle.tree_specs.specs.declared.frame.Frame.TheVariants as frame
 use Rattle.tree_specs.specs.declared.frame.CallFrame.TheVariants.{Asking, Doing, Awaiting, Warning, Telling, Returning}
-use Rattle.tree_specs.specs.declared.frame.FreeFrame.TheVariants.{Unlinking, Releasing, Giving, Beginning, Hooked, Judged, Leaving, Looping, FreeingChild, AfterChild, Ending}
+use Rattle.tree_specs.specs.declared.frame.FreeFrame.TheVariants.{Unlinking, Releasing, Giving, Beginning, Hooked, Judged, Dooming, Leaving, Looping, FreeingChild, AfterChild, Ending}
 use Rattle.tree_specs.specs.declared.frame.Answer.TheVariants.{Freed, Returned}
 use Rattle.tree_specs.specs.declared.free_step.FreeReply.TheVariants.{Ok}
 use Rattle.tree_specs.specs.Tree.Pool.{Pool}
@@ -16,7 +16,7 @@ use Rattle.tree_specs.specs.Machine.Table.{step, plan_step}
 use Rattle.tree_specs.specs.Invariants.Sound.{Sound}
 use Rattle.tree_specs.proofs.Invariants.Changes.{stands, goes_on, placed-sound}
 use Rattle.tree_specs.proofs.Calls.Plans.{May, change-sound, may-planned}
-use Rattle.tree_specs.proofs.Invariants.KeptFrees.{KeptBy, asking, beginning, ended, hooked, judged, leaving, looping, releasing, still-there, tried, unlinking}
+use Rattle.tree_specs.proofs.Invariants.KeptFrees.{KeptBy, asking, beginning, dooming, ended, hooked, judged, leaving, looping, releasing, still-there, tried, unlinking}
 
 -- the first step of a plan that may be carried out
 planned-kept : (q : Ask) (c : Call) (fs : List Frame) (p : Pool) (k : ℕ) → Sound (frame.Call (Doing q c)) fs p → (plan : Plan) → May p plan → KeptBy (plan_step q plan p) fs k
@@ -39,6 +39,7 @@ sound-kept (frame.Free (Giving x o)) fs p k s = placed-sound (frame.Free (Giving
 sound-kept (frame.Free (Beginning x)) fs p k s = beginning x fs p k s
 sound-kept (frame.Free (Hooked x h)) fs p k s = hooked x h fs p k s
 sound-kept (frame.Free (Judged x h v)) fs p k s = judged x h v fs p k s
+sound-kept (frame.Free (Dooming x)) fs p k s = dooming x fs p k s
 sound-kept (frame.Free (Leaving x h)) fs p k s = leaving x h fs p k s
 sound-kept (frame.Free (Looping x purpose)) fs p k s = looping x purpose fs p k s
 sound-kept (frame.Free (AfterChild x c noted purpose a)) fs p k s = tried x c noted purpose a fs p k s

@@ -13,11 +13,11 @@ use Rattle.tree_specs.specs.declared.event.Event.TheVariants.{Replied, Refused}
 use Rattle.tree_specs.specs.declared.frame.Frame.{Frame}
 use Rattle.tree_specs.specs.declared.frame.Frame.TheVariants as frame
 use Rattle.tree_specs.specs.declared.frame.CallFrame.TheVariants.{Awaiting, Warning, Telling, Returning}
-use Rattle.tree_specs.specs.declared.frame.FreeFrame.TheVariants.{Unlinking, Releasing, Beginning, Hooked, Judged, Ending}
+use Rattle.tree_specs.specs.declared.frame.FreeFrame.TheVariants.{Unlinking, Releasing, Beginning, Hooked, Judged, Dooming, Ending}
 use Rattle.tree_specs.specs.declared.free_step.FreeReply.{FreeReply}
 use Rattle.tree_specs.specs.declared.free_step.FreeReply.TheVariants as free_reply
 use Rattle.tree_specs.specs.Tree.Pool.{Pool, row_of, is_row}
-use Rattle.tree_specs.specs.Calls.Refusals.{is_held}
+use Rattle.tree_specs.specs.Calls.Refusals.{is_held, is_running}
 use Rattle.tree_specs.specs.Rules.Items.{Item}
 use Rattle.tree_specs.specs.Rules.Items.Item.{Told}
 use Rattle.tree_specs.specs.Rules.Sequence.{CallStart, Scene}
@@ -124,6 +124,15 @@ abbrev pub HasJustBegun : Pool → Frame → Option CallStart → Type 0
 HasJustBegun p (frame.Call (Awaiting q x)) b = IsAsAtStart p x b
 HasJustBegun p f b = Unit {0}
 
+-- the object ran when the call that waits began
+abbrev pub RanAtStart : Obj → Option CallStart → Type 0
+RanAtStart x None = Unit {0}
+RanAtStart x (Some b) = is_running b.start x ≡ true
+
+abbrev pub HasRunFor : Obj → Frame → Option CallStart → Type 0
+HasRunFor x (frame.Call (Awaiting q y)) b = RanAtStart x b
+HasRunFor x f b = Unit {0}
+
 abbrev pub Cause : List Scene → Frame → Option CallStart → List NotedWork → Pool → Type 0
 Cause scenes (frame.Call (Warning q x r)) b ws p = ((more : List Scene) → IsCaused more b r) × (is_row p.rows x ≡ true)
 Cause scenes (frame.Call (Telling q r)) b ws p = IsCaused scenes b r
@@ -133,4 +142,5 @@ Cause scenes (frame.Free (Ending a)) b ws p = OfNext (IsRefusedFor scenes a) ws
 Cause scenes (frame.Free (Unlinking o x)) b ws p = OfNext (HasJustBegun p) ws
 Cause scenes (frame.Free (Releasing x)) b ws p = OfNext (HasJustBegun p) ws
 Cause scenes (frame.Free (Beginning x)) b ws p = OfNext (HasJustBegun p) ws
+Cause scenes (frame.Free (Dooming x)) b ws p = OfNext (HasRunFor x) ws
 Cause scenes f b ws p = Unit {0}

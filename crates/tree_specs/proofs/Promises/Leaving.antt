@@ -20,13 +20,13 @@ use Rattle.tree_specs.specs.declared.question.Input.{Input}
 use Rattle.tree_specs.specs.declared.free_step.FreeReply.{FreeReply}
 use Rattle.tree_specs.specs.declared.free_step.FreeReply.TheVariants as free_reply
 use Rattle.tree_specs.specs.Tree.Targets.{newest_ref}
-use Rattle.tree_specs.specs.Tree.Pool.{Pool, row_of, owner_of, newest_ref_of, remove, set_mark, set_hook, is_inside}
+use Rattle.tree_specs.specs.Tree.Pool.{Pool, row_of, owner_of, newest_ref_of, remove, set_mark, doom, set_hook, is_inside}
 use Rattle.tree_specs.specs.Calls.Refusals.{Check, refusals}
 use Rattle.tree_specs.specs.Calls.Plans.{Plan, plan, planned, frees, unless_refused, changed_by}
 use Rattle.tree_specs.specs.Calls.Plans.Plan.{Does, Frees, Unlinks, Empties}
 use Rattle.tree_specs.specs.Rules.Items.Item.{Told}
 use Rattle.tree_specs.specs.Rules.Sequence.{Scene}
-use Rattle.tree_specs.specs.Rules.Story.{hook_moment, effect, unlink, release, given, free, hooked, judged, leave, children, asked, freed_reply}
+use Rattle.tree_specs.specs.Rules.Story.{hook_moment, effect, unlink, release, given, free, hooked, judged, dooming, leave, children, asked, freed_reply}
 use Rattle.tree_specs.specs.Promises.Refused.{called, Untouched, OnlyDropped, AfterItsRun, told_refusal, doomed, LeftByFree, LeftByItsFree, LeftByRefused}
 use Rattle.tree_specs.proofs.Tree.Numbered.{by_test}
 use Rattle.tree_specs.proofs.Rules.FreeCauses.{leave-ok, given-ok}
@@ -104,14 +104,20 @@ free-leaves-more n x ih p is a q ts left e = newest (newest_ref p.rows x) refl
     Left : Type 0
     Left = Leaves x p is a q ts left
 
-    runs : (r : Pool) → r ≡ doomed x p → free (suc n) x p is ≡ Ended free_reply.Running r [] is → Left
-    runs r is_doomed law =
-        let e' : Ended free_reply.Running r [] is ≡ Ended a q ts left = sym law ∙ e in
+    ran : (r : Pool) → r ≡ doomed x p → Ended free_reply.Running r [] is ≡ Ended a q ts left → Left
+    ran r is_doomed e' =
         let e1 : free_reply.Running ≡ a = cc in
         let e2 : r ≡ q = cc in
         let e3 : [] ≡ ts = cc in
         let e4 : is ≡ left = cc in
         subst (λ (z : FreeReply). Leaves x p is z q ts left) e1 (p, subst (OnlyDropped x p p) e3 (none-dropped x p), sym e2 ∙ is_doomed, sym e4)
+
+    runs : (r : Pool) → r ≡ doomed x p → free (suc n) x p is ≡ Ended free_reply.Running r [] is → Left
+    runs r is_doomed law = ran r is_doomed (sym law ∙ e)
+
+    dooms : (m : ℕ) (r : Pool) → r ≡ doomed x p → dooming m x r is ≡ Ended a q ts left → Left
+    dooms zero r is_doomed k = cc
+    dooms (suc m) r is_doomed k = ran r is_doomed k
 
     over : free (suc n) x p is ≡ Ended free_reply.Ok p [] is → Left
     over law = let e' : Ended free_reply.Ok p [] is ≡ Ended a q ts left = sym law ∙ e in let e1 : a ≡ free_reply.Ok = cc in ok-leaves x p is a q ts left e1
@@ -127,7 +133,7 @@ free-leaves-more n x ih p is a q ts left e = newest (newest_ref p.rows x) refl
         (λ t. ok-leaves x p is a q ts left (leave-ok n x 0 p is a q ts left (rw (z, k, m, t) at e)))
         (λ t. asks n r.hook (rw (z, k, m, t) at e))
     marks z r mark.Asked m k = runs p (rw (k, m) refl) (rw (z, k, m) refl)
-    marks z r mark.Busy m k = runs (set_mark p x mark.Doomed) (rw (k, m) refl) (rw (z, k, m) refl)
+    marks z r mark.Busy m k = dooms n (doom p x) (rw (k, m) refl) (rw (z, k, m) at e)
     marks z r mark.Doomed m k = runs p (rw (k, m) refl) (rw (z, k, m) refl)
     marks z r (mark.Dying former) m k = over (rw (z, k, m) refl)
 

@@ -17,7 +17,7 @@ use Rattle.tree_specs.specs.declared.question.Input.{Input}
 use Rattle.tree_specs.specs.declared.frame.Frame.{Frame}
 use Rattle.tree_specs.specs.declared.frame.Frame.TheVariants as frame
 use Rattle.tree_specs.specs.declared.frame.CallFrame.TheVariants.{Asking, Doing, Awaiting, Warning, Telling, Returning}
-use Rattle.tree_specs.specs.declared.frame.FreeFrame.TheVariants.{Unlinking, Releasing, Giving, Beginning, Hooked, Judged, Leaving, Looping, FreeingChild, AfterChild, Ending}
+use Rattle.tree_specs.specs.declared.frame.FreeFrame.TheVariants.{Unlinking, Releasing, Giving, Beginning, Hooked, Judged, Dooming, Leaving, Looping, FreeingChild, AfterChild, Ending}
 use Rattle.tree_specs.specs.declared.frame.Purpose.{Purpose}
 use Rattle.tree_specs.specs.declared.frame.Purpose.TheVariants.{Removal, Emptying}
 use Rattle.tree_specs.specs.declared.frame.Answer.{Answer}
@@ -33,7 +33,7 @@ use Rattle.tree_specs.specs.Calls.Given.Given.{Calls, Returns}
 use Rattle.tree_specs.specs.Calls.Plans.{Plan, planned}
 use Rattle.tree_specs.specs.Calls.Plans.Plan.{Does, Frees, Unlinks, Empties}
 use Rattle.tree_specs.specs.Rules.Sequence.{Work, Scene, CallStart, ◌>>=◌, ◌>>◌, gives, change, tells}
-use Rattle.tree_specs.specs.Rules.Story.{free, hooked, judged, leave, children, tried, asked, acting, telling, returning, warning, unlink, release, given}
+use Rattle.tree_specs.specs.Rules.Story.{free, hooked, judged, dooming, leave, children, tried, asked, acting, telling, returning, warning, unlink, release, given}
 use Rattle.tree_specs.specs.Machine.Meaning.{noted_table, freed, returned, looped, mean}
 use Rattle.tree_specs.specs.Machine.Table.{table, notes, step, lifted, judge_step, loop_step, tried_step, plan_step, refs_step, unlink_step, release_step}
 use Rattle.tree_specs.proofs.Tree.Numbered.{by_test}
@@ -143,6 +143,7 @@ turn n (frame.Free (Unlinking o x)) b p is = unlinking-turn n o x b p is
 turn n (frame.Free (Releasing x)) b p is = releasing-turn n x b p is
 turn n (frame.Free (Beginning x)) b p is = beginning-turn n x b p is
 turn n (frame.Free (Judged x h v)) b p is = judged-turn n x h v b p is
+turn n (frame.Free (Dooming x)) b p is = inr refl
 turn n (frame.Free (Looping x purpose)) b p is = looping-turn n x purpose b p is
 turn n (frame.Free (FreeingChild x c noted purpose)) b p is = inr refl
 turn n (frame.Free (AfterChild x c noted purpose a)) b p is = tried-turn n x c noted purpose a b p is

@@ -21,14 +21,14 @@ use Rattle.tree_specs.specs.declared.question.Input.{Input}
 use Rattle.tree_specs.specs.declared.question.Input.TheVariants as input
 use Rattle.tree_specs.specs.declared.free_step.FreeReply.{FreeReply}
 use Rattle.tree_specs.specs.declared.free_step.FreeReply.TheVariants as free_reply
-use Rattle.tree_specs.specs.Tree.Pool.{Pool, row_of, is_below, owner_of, first_kid, detach, remove, place, set_mark, set_hook, target_at, newest_ref_of, noted_owner, is_inside}
+use Rattle.tree_specs.specs.Tree.Pool.{Pool, row_of, is_below, owner_of, first_kid, detach, remove, place, set_mark, doom, set_hook, target_at, newest_ref_of, noted_owner, is_inside}
 use Rattle.tree_specs.specs.Tree.Heirs.{heir}
 use Rattle.tree_specs.specs.Rules.Items.{Item}
 use Rattle.tree_specs.specs.Rules.Items.Item.{Told, Asked}
 use Rattle.tree_specs.specs.Rules.Sequence.{Work, Scene, CallStart, asks, fits_to}
 use Rattle.tree_specs.specs.Calls.Plans.{Plan, planned, warned_by, changed_by}
 use Rattle.tree_specs.specs.Calls.Plans.Plan.{Does, Frees, Unlinks, Empties}
-use Rattle.tree_specs.specs.Rules.Story.{hook_moment, later, heard, effect, free, hooked, judged, leave, children, tried, asked, acting, telling, returning, items, warning, unlink, release, given}
+use Rattle.tree_specs.specs.Rules.Story.{hook_moment, later, heard, effect, free, hooked, judged, dooming, leave, children, tried, asked, acting, telling, returning, items, warning, unlink, release, given}
 use Rattle.tree_specs.specs.Promises.Acceptances.{Return, returned_by, answered_by, inputs_after, AcceptsNow, AcceptsAfterReturns}
 use Rattle.tree_specs.proofs.Tree.Numbered.{by_test}
 use Rattle.tree_specs.proofs.Calls.Checks.{heard-by}
@@ -165,6 +165,7 @@ pub record AllLawful (n : ℕ) : Type 0 where
   pub free : (x : Obj) (p : Pool) (last : Last) → Lawful last Any (free n x p)
   pub hooked : (x : Obj) (h : ℕ) (p : Pool) (last : Last) → Lawful last Any (hooked n x h p)
   pub judged : (x : Obj) (h v : ℕ) (p : Pool) (last : Last) → last ≡ Some (record { object = x; value = v }) → Lawful last Any (judged n x h v p)
+  pub dooming : (x : Obj) (p : Pool) (last : Last) → Lawful last Any (dooming n x p)
   pub leave : (x : Obj) (h : ℕ) (p : Pool) (last : Last) → Lawful last Any (leave n x h p)
   pub children : (x : Obj) (p : Pool) (last : Last) → Lawful last Any (children n x p)
   pub tried : (x c : Obj) (noted : Option Owner) (a : FreeReply) (p : Pool) (last : Last) → Lawful last Any (tried n x c noted a p)
@@ -220,7 +221,7 @@ free-lawful n ih x p last = newest (newest_ref p.rows x) refl
         (λ t. same-lawful last Any (free (suc n) x p) (leave n x 0 p) (λ js. rw (k, e, m, t) refl) (ih.leave x 0 p last))
         (λ t. same-lawful last Any (free (suc n) x p) (hooked n x r.hook (set_mark p x mark.Asked)) (λ js. rw (k, e, m, t) refl) (ih.hooked x r.hook (set_mark p x mark.Asked) last))
     marks k r mark.Asked m e = gives free_reply.Running p (λ js. rw (k, e, m) refl)
-    marks k r mark.Busy m e = gives free_reply.Running (set_mark p x mark.Doomed) (λ js. rw (k, e, m) refl)
+    marks k r mark.Busy m e = same-lawful last Any (free (suc n) x p) (dooming n x (doom p x)) (λ js. rw (k, e, m) refl) (ih.dooming x (doom p x) last)
     marks k r mark.Doomed m e = gives free_reply.Running p (λ js. rw (k, e, m) refl)
     marks k r (mark.Dying former) m e = gives free_reply.Ok p (λ js. rw (k, e, m) refl)
 
@@ -335,6 +336,7 @@ all-lawful zero = record {
   free = λ x p last. short-lawful last Any;
   hooked = λ x h p last. short-lawful last Any;
   judged = λ x h v p last e. short-lawful last Any;
+  dooming = λ x p last. short-lawful last Any;
   leave = λ x h p last. short-lawful last Any;
   children = λ x p last. short-lawful last Any;
   tried = λ x c noted a p last. short-lawful last Any;
@@ -353,6 +355,7 @@ all-lawful (suc n) =
       free = free-lawful n ih;
       hooked = hooked-lawful n ih;
       judged = judged-lawful n ih;
+      dooming = λ x p last. ended-lawful last Any free_reply.Running p tt;
       leave = leave-lawful n ih;
       children = children-lawful n ih;
       tried = tried-lawful n ih;

@@ -18,7 +18,7 @@ use Rattle.tree_specs.specs.declared.question.Ask.{Ask}
 use Rattle.tree_specs.specs.declared.frame.Frame.{Frame}
 use Rattle.tree_specs.specs.declared.frame.Frame.TheVariants as frame
 use Rattle.tree_specs.specs.declared.frame.CallFrame.TheVariants.{Asking, Awaiting, Returning}
-use Rattle.tree_specs.specs.declared.frame.FreeFrame.TheVariants.{Unlinking, Releasing, Giving, Beginning, Judged, Leaving, Looping, FreeingChild, AfterChild, Ending}
+use Rattle.tree_specs.specs.declared.frame.FreeFrame.TheVariants.{Unlinking, Releasing, Giving, Beginning, Judged, Dooming, Leaving, Looping, FreeingChild, AfterChild, Ending}
 use Rattle.tree_specs.specs.declared.frame.Purpose.{Purpose}
 use Rattle.tree_specs.specs.declared.frame.Purpose.TheVariants.{Removal, Emptying}
 use Rattle.tree_specs.specs.declared.frame.Answer.{Answer}
@@ -26,7 +26,7 @@ use Rattle.tree_specs.specs.declared.frame.Answer.TheVariants.{Freed, Returned}
 use Rattle.tree_specs.specs.declared.free_step.FreeReply.{FreeReply}
 use Rattle.tree_specs.specs.declared.free_step.FreeReply.TheVariants.{Ok, Running, Refused, Held}
 use Rattle.tree_specs.specs.Words.Objects.{same, same_owner}
-use Rattle.tree_specs.specs.Tree.Pool.{Pool, row_of, is_below, owner_of, first_kid, without, changed, remove, left_row, place, set_mark, marked_row, hooked_row, target_at, newest_ref_of, is_inside}
+use Rattle.tree_specs.specs.Tree.Pool.{Pool, row_of, is_below, owner_of, first_kid, without, changed, remove, left_row, place, set_mark, doom, marked_row, hooked_row, target_at, newest_ref_of, is_inside}
 use Rattle.tree_specs.specs.Tree.Heirs.{heir}
 use Rattle.tree_specs.specs.Rules.Items.{Item}
 use Rattle.tree_specs.specs.Machine.Table.{table, step, resume, lifted, begin_quiet, begin_step, judge_step, last_step, loop_step, child_step, refs_step, unlink_step, release_step, hand_on_step}
@@ -227,27 +227,28 @@ tried-lower R x c noted purpose a fs p k s room = each a s
     each (Refused v) s = handed (Refused v) refl s
 
 -- a freeing that ends at once is no loop's child, or is said to run
-at_once-lower : (R : ℕ) (a : FreeReply) (x : Obj) (fs : List Frame) (p p' : Pool) (k : ℕ) → (a ≡ Running) ⊎ ((o : Owner) → owner_of p.rows x ≢ Some o) → Tries x (footing fs) p → AllWait fs
-    → total weight p'.rows ≡ total weight p.rows → length p'.rows ≡ length p.rows → ((y : Obj) → count p'.rows (Of y) ≡ count p.rows (Of y)) → Room R (frame.Free (Beginning x)) p k
-    → Lowers R (cost R (frame.Free (Beginning x)) fs p k) (Do.Done (Freed a) p') fs k
-at_once-lower R a x [] p p' k h t w e n m room = tt
-at_once-lower R a x (g ∷ gs) p p' k h t w e n m room = below g (waiter g gs w.0) t
+at_once-lower : (R : ℕ) (a : FreeReply) (x : Obj) (f : FreeFrame) (fs : List Frame) (p : Pool) (k : ℕ) → (a ≡ Running) ⊎ ((o : Owner) → owner_of p.rows x ≢ Some o) → Tries x (footing fs) p → AllWait fs
+    → loop_kids p.rows fs + 5 ≤ top_cost R (frame.Free f) fs p.rows → Room R (frame.Free f) p k → Lowers R (cost R (frame.Free f) fs p k) (Do.Done (Freed a) p) fs k
+at_once-lower R a x f [] p k h t w most room = tt
+at_once-lower R a x f (g ∷ gs) p k h t w most room = below g (waiter g gs w.0) t most
   where
-    u : row_worth R * total weight p'.rows ≡ row_worth R * total weight p.rows
-    u = ap (λ (z : ℕ). row_worth R * z) e
+    runs : (y c : Obj) (noted : Option Owner) (purpose : Purpose) (a : FreeReply) → a ≡ Running → 4 * count p.rows (Of y) + 5 ≤ top_cost R (frame.Free f) (frame.Free (FreeingChild y c noted purpose) ∷ gs) p.rows
+        → Room R (frame.Free (AfterChild y c noted purpose a)) p k × (cost R (frame.Free (AfterChild y c noted purpose a)) gs p k < cost R (frame.Free f) (frame.Free (FreeingChild y c noted purpose) ∷ gs) p k)
+    runs y c noted purpose Running is most = (omega arith, omega (arith, most))
+    runs y c noted purpose _ is most = cc
 
-    runs : (y c : Obj) (noted : Option Owner) (purpose : Purpose) (a : FreeReply) → a ≡ Running
-        → Room R (frame.Free (AfterChild y c noted purpose a)) p' k × (cost R (frame.Free (AfterChild y c noted purpose a)) gs p' k < cost R (frame.Free (Beginning x)) (frame.Free (FreeingChild y c noted purpose) ∷ gs) p k)
-    runs y c noted purpose Running is = (omega (arith, n), omega (arith, u, m y))
-    runs y c noted purpose _ is = cc
-
-    below : (g : Frame) → Waiter g → Tries x (footing (g ∷ gs)) p → Lowers R (cost R (frame.Free (Beginning x)) (g ∷ gs) p k) (Do.Done (Freed a) p') (g ∷ gs) k
-    below _ (ForFree q y) t = (omega (arith, n), omega (arith, u))
-    below _ (ForRun y f) t = absurd t
-    below _ (ForChild y c noted purpose) t = elim h [
-      | inl is ↦ runs y c noted purpose a is
+    below : (g : Frame) → Waiter g → Tries x (footing (g ∷ gs)) p → loop_kids p.rows (g ∷ gs) + 5 ≤ top_cost R (frame.Free f) (g ∷ gs) p.rows → Lowers R (cost R (frame.Free f) (g ∷ gs) p k) (Do.Done (Freed a) p) (g ∷ gs) k
+    below _ (ForFree q y) t most = (omega arith, omega (arith, most))
+    below _ (ForRun y h) t most = absurd t
+    below _ (ForChild y c noted purpose) t most = elim h [
+      | inl is ↦ runs y c noted purpose a is most
       | inr none ↦ absurd (none (Of y) t.1)
     ]
+
+-- an event that is to be freed after its handler is said to run
+pub dooming-lower : (R : ℕ) (x : Obj) (fs : List Frame) (p : Pool) (k : ℕ) → Sound (frame.Free (Dooming x)) fs p → Room R (frame.Free (Dooming x)) p k
+    → Lowers R (cost R (frame.Free (Dooming x)) fs p k) (step (frame.Free (Dooming x)) p) fs k
+dooming-lower R x fs p k s room = at_once-lower R Running x (Dooming x) fs p k (inl refl) s.rests.0 s.waiting (omega arith) room
 
 pub beginning-lower : (R : ℕ) (x : Obj) (fs : List Frame) (p : Pool) (k : ℕ) → Sound (frame.Free (Beginning x)) fs p → Room R (frame.Free (Beginning x)) p k
     → Lowers R (cost R (frame.Free (Beginning x)) fs p k) (step (frame.Free (Beginning x)) p) fs k
@@ -262,15 +263,20 @@ beginning-lower R x fs p k s room = newest (newest_ref p.rows x) refl
         let bad : IsLive (Dying former) = rw m at l in bad
 
     over : ((o : Owner) → owner_of p.rows x ≢ Some o) → Lowers R (cost R (frame.Free (Beginning x)) fs p k) (Do.Done (Freed Ok) p) fs k
-    over none = at_once-lower R Ok x fs p p k (inr none) s.rests.0 s.waiting refl refl (λ y. refl) room
+    over none = at_once-lower R Ok x (Beginning x) fs p k (inr none) s.rests.0 s.waiting (omega arith) room
 
     runs : Lowers R (cost R (frame.Free (Beginning x)) fs p k) (Do.Done (Freed Running) p) fs k
-    runs = at_once-lower R Running x fs p p k (inl refl) s.rests.0 s.waiting refl refl (λ y. refl) room
+    runs = at_once-lower R Running x (Beginning x) fs p k (inl refl) s.rests.0 s.waiting (omega arith) room
 
-    dooms : (r : Row) → row_of p.rows x ≡ Some r → r.mark ≡ Busy → Lowers R (cost R (frame.Free (Beginning x)) fs p k) (Do.Done (Freed Running) (set_mark p x Doomed)) fs k
-    dooms r e m = at_once-lower R Running x fs p (set_mark p x Doomed) k (inl refl) s.rests.0 s.waiting
-        (total-kept weight (marked_row Doomed) p.rows x r e (sym (ap mark_weight m))) (length-changed (marked_row Doomed) p.rows x)
-        (λ y. total-kept (λ q. if is_below q.owner (Of y) then 1 else 0) (marked_row Doomed) p.rows x r e refl) room
+    dooms : (r : Row) → row_of p.rows x ≡ Some r → r.mark ≡ Busy → Lowers R (cost R (frame.Free (Beginning x)) fs p k) (Do.Go (frame.Free (Dooming x)) (doom p x)) fs k
+    dooms r e m =
+        let u = ap (λ (z : ℕ). row_worth R * z) (total-kept weight (marked_row Doomed) p.rows x r e (sym (ap mark_weight m))) in
+        (omega (arith, length-changed (marked_row Doomed) p.rows x), omega (arith, u, kids fs))
+      where
+        kids : (fs : List Frame) → loop_kids (doom p x).rows fs ≡ loop_kids p.rows fs
+        kids [] = refl
+        kids (frame.Free (FreeingChild y c noted purpose) ∷ fs) = ap (λ (z : ℕ). 4 * z) (total-kept (λ q. if is_below q.owner (Of y) then 1 else 0) (marked_row Doomed) p.rows x r e refl)
+        kids (_ ∷ fs) = refl
 
     quiet : (r : Row) → row_of p.rows x ≡ Some r → r.mark ≡ Quiet → Lowers R (cost R (frame.Free (Beginning x)) fs p k) (lifted (begin_quiet x r.hook p)) fs k
     quiet r e m = by_test (nat_eq r.hook 0)

@@ -10,7 +10,7 @@ use Rattle.tree_specs.specs.declared.question.Ask.{Ask}
 use Rattle.tree_specs.specs.declared.frame.Frame.{Frame}
 use Rattle.tree_specs.specs.declared.frame.Frame.TheVariants as frame
 use Rattle.tree_specs.specs.declared.frame.CallFrame.TheVariants.{Warning, Telling, Asking, Doing, Awaiting, Returning}
-use Rattle.tree_specs.specs.declared.frame.FreeFrame.TheVariants.{Hooked, Unlinking, Releasing, Giving, Beginning, Judged, Leaving, Looping, FreeingChild, AfterChild, Ending}
+use Rattle.tree_specs.specs.declared.frame.FreeFrame.TheVariants.{Hooked, Unlinking, Releasing, Giving, Beginning, Judged, Dooming, Leaving, Looping, FreeingChild, AfterChild, Ending}
 use Rattle.tree_specs.specs.declared.frame.Answer.{Answer}
 use Rattle.tree_specs.specs.Tree.Pool.{Pool}
 use Rattle.tree_specs.specs.Rules.Items.{Item}
@@ -23,7 +23,7 @@ use Rattle.tree_specs.specs.Invariants.Measure.{weight, row_worth, cost}
 use Rattle.tree_specs.proofs.Tree.Rows.{count-length}
 use Rattle.tree_specs.proofs.Calls.Plans.{May, follows, may-planned}
 use Rattle.tree_specs.proofs.Invariants.Keeps.{sound-kept}
-use Rattle.tree_specs.proofs.Turns.FallingFrees.{Lowers, Room, asking-lower, beginning-lower, ending-lower, giving-lower, judged-lower, leaving-lower, looping-lower, releasing-lower, returning-lower, tried-lower, unlinking-lower}
+use Rattle.tree_specs.proofs.Turns.FallingFrees.{Lowers, Room, asking-lower, beginning-lower, dooming-lower, ending-lower, giving-lower, judged-lower, leaving-lower, looping-lower, releasing-lower, returning-lower, tried-lower, unlinking-lower}
 
 -- the first step of a plan that may be carried out
 planned-lower : (R : ℕ) (q : Ask) (c : Call) (fs : List Frame) (p : Pool) (k : ℕ) → Room R (frame.Call (Doing q c)) p k → (plan : Plan) → May p plan
@@ -46,6 +46,7 @@ lower R (frame.Free (Releasing x)) fs p k s room = releasing-lower R x fs p k s 
 lower R (frame.Free (Giving x o)) fs p k s room = giving-lower R x o fs p k s room
 lower R (frame.Free (Beginning x)) fs p k s room = beginning-lower R x fs p k s room
 lower R (frame.Free (Judged x h v)) fs p k s room = judged-lower R x h v fs p k s room
+lower R (frame.Free (Dooming x)) fs p k s room = dooming-lower R x fs p k s room
 lower R (frame.Free (Leaving x h)) fs p k s room = leaving-lower R x h fs p k s room
 lower R (frame.Free (Looping x purpose)) fs p k s room = looping-lower R x purpose fs p k s room
 lower R (frame.Free (AfterChild x c noted purpose a)) fs p k s room = tried-lower R x c noted purpose a fs p k s room

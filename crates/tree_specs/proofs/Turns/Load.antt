@@ -26,7 +26,7 @@ use Rattle.tree_specs.specs.declared.frame.Frame.{Frame}
 use Rattle.tree_specs.specs.declared.frame.Frame.TheVariants as frame
 use Rattle.tree_specs.specs.declared.frame.CallFrame.TheVariants.{Asking, Doing, Awaiting, Warning, Telling, Returning}
 use Rattle.tree_specs.specs.declared.frame.FreeFrame.{FreeFrame}
-use Rattle.tree_specs.specs.declared.frame.FreeFrame.TheVariants.{Unlinking, Releasing, Giving, Beginning, Hooked, Judged, Leaving, Looping, FreeingChild, AfterChild, Ending}
+use Rattle.tree_specs.specs.declared.frame.FreeFrame.TheVariants.{Unlinking, Releasing, Giving, Beginning, Hooked, Judged, Dooming, Leaving, Looping, FreeingChild, AfterChild, Ending}
 use Rattle.tree_specs.specs.declared.frame.Purpose.{Purpose}
 use Rattle.tree_specs.specs.declared.frame.Purpose.TheVariants.{Removal, Emptying}
 use Rattle.tree_specs.specs.declared.frame.Answer.{Answer}
@@ -150,7 +150,7 @@ beginning-placed x fs p k sound s l = newest (newest_ref p.rows x) refl
     marks r Asked m e = rw (e, m) (done Running)
     marks r Busy m e =
         let u : total deposit (changed (marked_row Doomed) p.rows x) ≡ total deposit p.rows = total-kept deposit (marked_row Doomed) p.rows x r e (sym (ap mark_deposit m)) in
-        rw (e, m) (over (Freed Running) (frame.Free (Beginning x)) fs (set_mark p x Doomed) k sound.waiting s (omega (arith, u, l)))
+        rw (e, m) (reseat-free (Beginning x) (Dooming x) fs s, omega (arith, u, l))
     marks r Doomed m e = rw (e, m) (done Running)
     marks r (Dying former) m e = rw (e, m) (done Ok)
 
@@ -270,6 +270,7 @@ placed-kept (frame.Free (Giving x o)) fs p k s b l = let w = total-placed deposi
 placed-kept (frame.Free (Beginning x)) fs p k s b l = beginning-placed x fs p k s b l
 placed-kept (frame.Free (Hooked x h)) fs p k s b l = ((tt, b), omega (arith, l))
 placed-kept (frame.Free (Judged x h v)) fs p k s b l = judged-placed x h v fs p k s b l
+placed-kept (frame.Free (Dooming x)) fs p k s b l = over (Freed Running) (frame.Free (Dooming x)) fs p k s.waiting b l
 placed-kept (frame.Free (Leaving x h)) fs p k s b l = leaving-placed x h fs p k s b l
 placed-kept (frame.Free (Looping x purpose)) fs p k s b l = looping-placed x purpose fs p k s b l
 placed-kept (frame.Free (AfterChild x c noted purpose a)) fs p k s b l = tried-placed x c noted purpose a fs p k s b l

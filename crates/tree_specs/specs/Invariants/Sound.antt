@@ -10,7 +10,7 @@ use Rattle.tree_specs.specs.declared.frame.Frame.{Frame}
 use Rattle.tree_specs.specs.declared.frame.Frame.TheVariants as frame
 use Rattle.tree_specs.specs.declared.frame.CallFrame.TheVariants.{Asking, Doing, Awaiting, Warning, Telling, Returning}
 use Rattle.tree_specs.specs.declared.frame.FreeFrame.{FreeFrame}
-use Rattle.tree_specs.specs.declared.frame.FreeFrame.TheVariants.{Unlinking, Releasing, Giving, Beginning, Hooked, Judged, Leaving, Looping, FreeingChild, AfterChild, Ending}
+use Rattle.tree_specs.specs.declared.frame.FreeFrame.TheVariants.{Unlinking, Releasing, Giving, Beginning, Hooked, Judged, Dooming, Leaving, Looping, FreeingChild, AfterChild, Ending}
 use Rattle.tree_specs.specs.declared.frame.Purpose.{Purpose}
 use Rattle.tree_specs.specs.declared.frame.Purpose.TheVariants.{Removal, Emptying}
 use Rattle.tree_specs.specs.declared.free_step.FreeReply.{FreeReply}
@@ -187,6 +187,7 @@ FreeRests (Giving x o) on claimed p = MayBePlaced p o x
 FreeRests (Beginning x) on claimed p = Tries x on p × (target_at p.rows x ≡ None)
 FreeRests (Hooked x h) on claimed p = (0 < h) × HasHook (row_of p.rows x) h
 FreeRests (Judged x h v) on claimed p = 0 < h
+FreeRests (Dooming x) on claimed p = Tries x on p × (newest_ref p.rows x ≡ None)
 FreeRests (Leaving x h) on claimed p = (r : Row) × (row_of p.rows x ≡ Some r) × IsLive r.mark × (claimed x ≡ []) × (target_of r.kind ≡ None) × (newest_ref p.rows x ≡ None)
 FreeRests (Looping x purpose) on claimed p = Stands purpose on
 FreeRests (FreeingChild x c noted purpose) on claimed p = ⊥

@@ -9,7 +9,7 @@ use Rattle.tree_specs.specs.declared.frame.Frame.{Frame}
 use Rattle.tree_specs.specs.declared.frame.Frame.TheVariants as frame
 use Rattle.tree_specs.specs.declared.frame.CallFrame.TheVariants.{Asking, Doing, Awaiting, Warning, Telling, Returning}
 use Rattle.tree_specs.specs.declared.frame.FreeFrame.{FreeFrame}
-use Rattle.tree_specs.specs.declared.frame.FreeFrame.TheVariants.{Unlinking, Releasing, Giving, Beginning, Hooked, Judged, Leaving, Looping, FreeingChild, AfterChild, Ending}
+use Rattle.tree_specs.specs.declared.frame.FreeFrame.TheVariants.{Unlinking, Releasing, Giving, Beginning, Hooked, Judged, Dooming, Leaving, Looping, FreeingChild, AfterChild, Ending}
 use Rattle.tree_specs.specs.declared.frame.Purpose.{Purpose}
 use Rattle.tree_specs.specs.declared.frame.Purpose.TheVariants.{Removal, Emptying}
 use Rattle.tree_specs.specs.declared.frame.Answer.{Answer}
@@ -19,7 +19,7 @@ use Rattle.tree_specs.specs.declared.free_step.FreeReply.TheVariants.{Ok}
 use Rattle.tree_specs.specs.Tree.Pool.{Pool, remove}
 use Rattle.tree_specs.specs.Rules.Items.Item.{Told}
 use Rattle.tree_specs.specs.Rules.Sequence.{Work, Scene, CallStart, ◌>>=◌, ◌>>◌, gives, change, tells}
-use Rattle.tree_specs.specs.Rules.Story.{free, hooked, judged, leave, children, tried, asked, acting, telling, returning, warning, unlink, release, given, turns}
+use Rattle.tree_specs.specs.Rules.Story.{free, hooked, judged, dooming, leave, children, tried, asked, acting, telling, returning, warning, unlink, release, given, turns}
 use Rattle.tree_specs.specs.Machine.Table.{table, notes, resume}
 use Rattle.tree_specs.specs.Machine.View.{View}
 
@@ -63,6 +63,7 @@ mean n (frame.Free (Giving x o)) b = freed (given n x o)
 mean n (frame.Free (Beginning x)) b = freed (free n x)
 mean n (frame.Free (Hooked x h)) b = freed (hooked n x h)
 mean n (frame.Free (Judged x h v)) b = freed (judged n x h v)
+mean n (frame.Free (Dooming x)) b = freed (dooming n x)
 mean n (frame.Free (Leaving x h)) b = freed (leave n x h)
 mean n (frame.Free (Looping x purpose)) b = looped x purpose (children n x)
 mean n (frame.Free (FreeingChild x c noted purpose)) b = gives (Freed Ok)

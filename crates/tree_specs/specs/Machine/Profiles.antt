@@ -11,7 +11,7 @@ use Rattle.tree_specs.specs.declared.frame.Frame.TheVariants as frame
 use Rattle.tree_specs.specs.declared.frame.CallFrame.{CallFrame}
 use Rattle.tree_specs.specs.declared.frame.CallFrame.TheVariants.{Asking, Doing, Awaiting, Warning, Telling, Returning}
 use Rattle.tree_specs.specs.declared.frame.FreeFrame.{FreeFrame}
-use Rattle.tree_specs.specs.declared.frame.FreeFrame.TheVariants.{Unlinking, Releasing, Giving, Beginning, Hooked, Judged, Leaving, Looping, FreeingChild, AfterChild, Ending}
+use Rattle.tree_specs.specs.declared.frame.FreeFrame.TheVariants.{Unlinking, Releasing, Giving, Beginning, Hooked, Judged, Dooming, Leaving, Looping, FreeingChild, AfterChild, Ending}
 use Rattle.tree_specs.specs.declared.frame.Purpose.{Purpose}
 use Rattle.tree_specs.specs.declared.frame.Purpose.TheVariants.{Removal, Emptying}
 use Rattle.tree_specs.specs.declared.free_step.FreeReply.{FreeReply}
@@ -145,13 +145,14 @@ abbrev pub a_loop : Obj → Purpose → FreeProfile
 a_loop x purpose = record (a_free x) { claims = loops x purpose; removes = loop_removes x purpose; size = loop_size purpose; top_size = loop_size purpose }
 
 abbrev pub free_profile : FreeFrame → FreeProfile
-free_profile (Unlinking o x) = record (a_free x) { cost = at_most 0 7 AtBelow }
-free_profile (Releasing x) = record (a_free x) { cost = at_most 0 6 AtBelow }
+free_profile (Unlinking o x) = record (a_free x) { cost = at_most 0 8 AtBelow }
+free_profile (Releasing x) = record (a_free x) { cost = at_most 0 7 AtBelow }
 free_profile (Giving x o) = record (a_free x) { cost = at_most 4 10 AtNone }
-free_profile (Beginning x) = record (a_free x) { cost = at_most 0 5 AtBelow }
+free_profile (Beginning x) = record (a_free x) { cost = at_most 0 6 AtBelow }
 -- an object that is to be asked pays for the run that comes
 free_profile (Hooked x h) = record (a_free x) { waits = ARun x h; claims = runs x; size = 1; top_size = 3; waiting_cost = 3; cost = at_most 0 4 AtNone }
 free_profile (Judged x h v) = record (a_free x) { claims = runs x; size = 3; top_size = 3; cost = at_most 4 10 AtNone }
+free_profile (Dooming x) = record (a_free x) { cost = at_most 0 5 AtBelow }
 -- it runs until it leaves its owner, where a destructor has accepted
 free_profile (Leaving x h) = record (a_free x) {
   claims = if nat_eq h 0 then None else runs x;

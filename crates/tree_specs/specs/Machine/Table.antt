@@ -21,7 +21,7 @@ use Rattle.tree_specs.specs.declared.frame.Frame.TheVariants as frame
 use Rattle.tree_specs.specs.declared.frame.CallFrame.{CallFrame}
 use Rattle.tree_specs.specs.declared.frame.CallFrame.TheVariants.{Asking, Doing, Awaiting, Warning, Telling, Returning}
 use Rattle.tree_specs.specs.declared.frame.FreeFrame.{FreeFrame}
-use Rattle.tree_specs.specs.declared.frame.FreeFrame.TheVariants.{Unlinking, Releasing, Giving, Beginning, Hooked, Judged, Leaving, Looping, FreeingChild, AfterChild, Ending}
+use Rattle.tree_specs.specs.declared.frame.FreeFrame.TheVariants.{Unlinking, Releasing, Giving, Beginning, Hooked, Judged, Dooming, Leaving, Looping, FreeingChild, AfterChild, Ending}
 use Rattle.tree_specs.specs.declared.frame.Purpose.{Purpose}
 use Rattle.tree_specs.specs.declared.frame.Purpose.TheVariants.{Removal, Emptying}
 use Rattle.tree_specs.specs.declared.frame.Answer.{Answer}
@@ -30,9 +30,9 @@ use Rattle.tree_specs.specs.declared.free_step.FreeReply.{FreeReply}
 use Rattle.tree_specs.specs.declared.free_step.FreeReply.TheVariants as free_reply
 use Rattle.tree_specs.specs.declared.free_step.FreeReply.TheVariants.{Ok, Held, Running}
 use Rattle.tree_specs.specs.declared.free_step.FreeStep.{FreeStep}
-use Rattle.tree_specs.specs.declared.free_step.FreeStep.TheVariants.{Ask as AskOf, Dropped, Refused, Accepted, Left, Moved, Gone, Done as Over}
+use Rattle.tree_specs.specs.declared.free_step.FreeStep.TheVariants.{Ask as AskOf, Dropped, Refused, Accepted, Doom, Left, Moved, Gone, Done as Over}
 use Rattle.tree_specs.specs.Tree.Targets.{newest_ref}
-use Rattle.tree_specs.specs.Tree.Pool.{Pool, row_of, is_below, owner_of, target_at, newest_ref_of, noted_owner, is_inside, first_kid, detach, remove, place, set_mark, set_hook}
+use Rattle.tree_specs.specs.Tree.Pool.{Pool, row_of, is_below, owner_of, target_at, newest_ref_of, noted_owner, is_inside, first_kid, detach, remove, place, set_mark, doom, set_hook}
 use Rattle.tree_specs.specs.Tree.Heirs.{heir}
 use Rattle.tree_specs.specs.Rules.Items.{Item}
 use Rattle.tree_specs.specs.Rules.Items.Item.{Told, Asked}
@@ -56,7 +56,7 @@ begin_quiet x h p = if nat_eq h 0 then Do.Go (Leaving x 0) p else Do.Go (Hooked 
 abbrev pub begin_by : Obj → ℕ → Mark → Pool → FreeMove
 begin_by x h mark.Quiet p = begin_quiet x h p
 begin_by x h mark.Asked p = Do.Done Running p
-begin_by x h mark.Busy p = Do.Done Running (set_mark p x mark.Doomed)
+begin_by x h mark.Busy p = Do.Emit (Doom x) (Dooming x) (doom p x)
 begin_by x h mark.Doomed p = Do.Done Running p
 begin_by x h (mark.Dying former) p = Do.Done Ok p
 
@@ -128,6 +128,7 @@ free_step (Giving x o) p = Do.Emit (Moved x (unwrap_or (owner_of p.rows x) Root)
 free_step (Beginning x) p = refs_step x (newest_ref p.rows x) p
 free_step (Hooked x h) p = Do.Wait (AskOf x) (Hooked x h) p
 free_step (Judged x h v) p = judge_step x h v p
+free_step (Dooming x) p = Do.Done Running p
 free_step (Leaving x h) p = Do.Emit (Left x (unwrap_or (owner_of p.rows x) Root)) (Looping x (Removal h)) (detach p x)
 free_step (Looping x purpose) p = loop_step x purpose (first_kid p.rows (Of x)) p
 -- it waits for the work above it
@@ -158,6 +159,7 @@ event_of (AskOf x) = None
 event_of (Dropped r target) = Some (event.Unreferenced r target)
 event_of (Refused x v) = Some (event.Refused x v)
 event_of (Accepted x) = Some (event.Accepted x)
+event_of (Doom x) = None
 event_of (Left x from) = None
 event_of (Moved x from owner) = Some (event.Moved x owner)
 event_of (Gone x h) = Some (event.Freed x h)

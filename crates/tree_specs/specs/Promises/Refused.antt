@@ -16,7 +16,7 @@ use Rattle.tree_specs.specs.declared.question.Ask.TheVariants.{Routine}
 use Rattle.tree_specs.specs.declared.question.Input.{Input}
 use Rattle.tree_specs.specs.declared.free_step.FreeReply.{FreeReply}
 use Rattle.tree_specs.specs.declared.free_step.FreeReply.TheVariants.{Ok, Held, Running, Refused}
-use Rattle.tree_specs.specs.Tree.Pool.{Pool, row_of, remove, set_mark}
+use Rattle.tree_specs.specs.Tree.Pool.{Pool, row_of, remove, set_mark, doom}
 use Rattle.tree_specs.specs.Tree.Forest.{Distinct}
 use Rattle.tree_specs.specs.Calls.Refusals.{is_running}
 use Rattle.tree_specs.specs.Calls.Plans.{planned}
@@ -69,9 +69,9 @@ pub record OnlyDropped (x : Obj) (p q : Pool) (told : List Scene) : Type 0 where
   pub drops : AllDropsOf x told
   pub pool : q ≡ without_dropped told p
 
--- an object whose handler runs is marked to be freed after it
+-- an object whose handler runs is to be freed after it, and waits for nothing any more
 abbrev pub doomed_by : Mark → Obj → Pool → Pool
-doomed_by mark.Busy x p = set_mark p x mark.Doomed
+doomed_by mark.Busy x p = doom p x
 doomed_by m x p = p
 
 abbrev pub doomed_at : Option Row → Obj → Pool → Pool

@@ -19,7 +19,7 @@ use Rattle.tree_specs.specs.declared.free_step.FreeReply.{FreeReply}
 use Rattle.tree_specs.specs.declared.free_step.FreeReply.TheVariants as free_reply
 use Rattle.tree_specs.specs.declared.free_step.FreeReply.TheVariants.{Ok, Held, Running}
 use Rattle.tree_specs.specs.Tree.Targets.{newest_ref}
-use Rattle.tree_specs.specs.Tree.Pool.{empty, row_of, is_below, owner_of, newest_ref_of, target_at, noted_owner, is_inside, first_kid, detach, remove, place, set_mark, set_hook}
+use Rattle.tree_specs.specs.Tree.Pool.{empty, row_of, is_below, owner_of, newest_ref_of, target_at, noted_owner, is_inside, first_kid, detach, remove, place, set_mark, doom, set_hook}
 use Rattle.tree_specs.specs.Tree.Heirs.{heir}
 use Rattle.tree_specs.specs.Rules.Items.{Item}
 use Rattle.tree_specs.specs.Rules.Items.Item.{Told, Asked}
@@ -158,13 +158,18 @@ abbrev mutual
                 hooked n x r.hook)
           | mark.Asked ↦ gives Running
           | mark.Busy ↦ (do
-            change (λ q. set_mark q x mark.Doomed)
-            gives Running)
+            change (λ q. doom q x)
+            dooming n x)
           | mark.Doomed ↦ gives Running
           | mark.Dying former ↦ gives Ok
         ]
       ]
     ]
+
+  -- its handler runs, and it is freed after it
+  pub dooming : ℕ → Obj → Work FreeReply
+  dooming zero x = short
+  dooming (suc n) x = gives Running
 
   -- its destructor runs
   pub hooked : ℕ → Obj → ℕ → Work FreeReply

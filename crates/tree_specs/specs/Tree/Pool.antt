@@ -197,6 +197,10 @@ marked_row mark r = record r { mark = mark }
 abbrev pub set_mark : Pool → Obj → Mark → Pool
 set_mark p x mark = record p { rows = changed (marked_row mark) p.rows x }
 
+-- an event whose handler runs is to be freed after it, and waits for nothing until then
+abbrev pub doom : Pool → Obj → Pool
+doom p x = record p { rows = changed (marked_row Doomed) p.rows x; soon = unscheduled p.soon x; times = disarmed p.times x }
+
 abbrev pub hooked_row : ℕ → Row → Row
 hooked_row hook r = record r { hook = hook }
 
