@@ -34,12 +34,12 @@ mod wants;
 
 pub use bounds::{
     LINE_LIMIT, LINES_LIMIT, NAME_LIMIT, OCTETS_LIMIT, OVERHEAD, ROW_LIMIT, SIZE_LIMIT,
-    TIME_LIMIT,
+    TIME_LIMIT, WAIT_LIMIT,
 };
 pub use call::Call;
 pub use due::Due;
 pub use event::Event;
-pub use frame::{Answer, CallFrame, Frame, FreeFrame, Purpose};
+pub use frame::{Answer, CallFrame, Frame, FreeFrame, Purpose, TurnFrame};
 pub use free_step::{FreeReply, FreeStep};
 pub use handler::Handler;
 pub use kind::Kind;

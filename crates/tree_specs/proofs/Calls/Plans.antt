@@ -22,7 +22,7 @@ use Rattle.tree_specs.specs.Calls.Refusals.{Check, tests, refusals}
 use Rattle.tree_specs.specs.declared.test.Test.TheVariants.{IsObject}
 use Rattle.tree_specs.specs.Calls.Plans.{Change, Plan, changed_by, plan, planned, unless_refused, places, warns, frees, handed, gift}
 use Rattle.tree_specs.specs.Calls.Plans.Change.{Nothing, Edit, Add, Place, Handle, Schedule, Unschedule, Arm, Then}
-use Rattle.tree_specs.specs.Calls.Plans.Plan.{Does, Frees, Unlinks, Empties}
+use Rattle.tree_specs.specs.Calls.Plans.Plan.{Does, Frees, Unlinks, Empties, AsksTime, Turns}
 use Rattle.tree_specs.specs.Invariants.Sound.{IsLive, IsReferable, IsQuietRow, MayBePlaced, Rests, Sound, claim}
 use Rattle.tree_specs.proofs.Tree.Numbered.{by_test, same-equal, is_below-some}
 use Rattle.tree_specs.proofs.Tree.Rows.{total-placed, row_of-placed-same}
@@ -141,6 +141,8 @@ May p (Does c warned r) = MayDo p c × (added c ≤ 2) × IsThere warned (change
 May p (Frees x) = (newest_ref p.rows x ≡ None) × (target_at p.rows x ≡ None)
 May p (Unlinks o x) = (r : Row) × (row_of p.rows x ≡ Some r) × IsLive r.mark × (target_of r.kind ≡ None)
 May p (Empties x) = Unit {0}
+May p AsksTime = Unit {0}
+May p Turns = Unit {0}
 
 -- the reference that goes in the place of its target
 pub ref-placed : (f : Frame) (fs : List Frame) (p : Pool) (o : Owner) (x r : Obj) → Sound f fs p → target_at p.rows r ≡ Some x → is_owner p.rows o ≡ true → MayBePlaced p o r
@@ -214,6 +216,8 @@ module _ (f : Frame) (fs : List Frame) (p : Pool) (s : Sound f fs p) where
   each (call.Unschedule x) h = (tt, omega arith, tt)
   each (call.Timer o time routine user) h = ((record { there = h.0; target = λ t e. cc }, (tt, tt)), omega arith, tt)
   each call.Pending h = (tt, omega arith, tt)
+  each call.Now h = tt
+  each call.Turn h = tt
 
   pub may : (c : Call) → refusals p c ≡ [] → May p (plan p c)
   may c none = each c (all-pass p (tests c) none)

@@ -15,7 +15,8 @@ use Rattle.tree_specs.specs.declared.question.Ask.{Ask}
 use Rattle.tree_specs.specs.declared.question.Ask.TheVariants.{Routine}
 use Rattle.tree_specs.specs.declared.frame.Frame.{Frame}
 use Rattle.tree_specs.specs.declared.frame.Frame.TheVariants as frame
-use Rattle.tree_specs.specs.declared.frame.CallFrame.TheVariants.{Asking, Doing, Awaiting, Returning}
+use Rattle.tree_specs.specs.declared.frame.CallFrame.TheVariants.{Asking, Doing, Awaiting, Turning, Returning}
+use Rattle.tree_specs.specs.declared.frame.TurnFrame.TheVariants.{Handling, Clearing}
 use Rattle.tree_specs.specs.declared.frame.FreeFrame.TheVariants.{Unlinking, Releasing, Giving, Beginning, Hooked, Judged, Dooming, Leaving, Looping, FreeingChild, AfterChild, Ending}
 use Rattle.tree_specs.specs.declared.frame.Purpose.{Purpose}
 use Rattle.tree_specs.specs.declared.frame.Purpose.TheVariants.{Removal, Emptying}
@@ -30,7 +31,7 @@ use Rattle.tree_specs.specs.Rules.Story.{hook_moment}
 use Rattle.tree_specs.specs.Machine.Table.{table, step, lifted, begin_quiet, begin_step, drop_step, refs_step, unlink_step, release_step, judge_step, last_step, child_step, loop_step, hand_on_step, reply_in, resume}
 use Rattle.tree_specs.specs.Tree.Heirs.{heir}
 use Rattle.tree_specs.specs.Invariants.Sound.{Owned, Shaped, ValidAt, phase_of, phases, claim, claims, AllWait, IsLive, IsReferable, NotedFor, Tries, StillThere, Refers, IsQuietRow, IsOver, MayAnswer, IsCalled, IsGivenUp, MayBePlaced, Sound, Footing, footing}
-use Rattle.tree_specs.specs.Invariants.Sound.Footing.{OnCall, OnFree, AtBottom}
+use Rattle.tree_specs.specs.Invariants.Sound.Footing.{OnCall, OnFree, OnTurn, AtBottom}
 use Rattle.tree_specs.proofs.Tree.Numbered.{by_test, same-equal, same-false}
 use Rattle.tree_specs.proofs.Tree.Rows.{row_of-changed-other, row_of-changed-same, row_of-without-other, row_of-without-same, first_kid-owner}
 use Rattle.tree_specs.proofs.Tree.Rooted.{forest-left, forest-without, is_there-owner}
@@ -38,7 +39,7 @@ use Rattle.tree_specs.proofs.Tree.Referring.{newest-refers, newest-of-refers, no
 use Rattle.tree_specs.proofs.Tree.Ancestry.{inside-self, inside-owner, inside-not_back}
 use Rattle.tree_specs.specs.Tree.Forest.{IsForest}
 use Rattle.tree_specs.specs.Tree.Targets.{target_of, newest_ref}
-use Rattle.tree_specs.proofs.Invariants.Waiters.{Waiter, ForFree, ForRun, ForChild, waiter}
+use Rattle.tree_specs.proofs.Invariants.Waiters.{Waiter, ForFree, ForRun, ForChild, ForTurn, ForHandler, ForClear, waiter}
 use Rattle.tree_specs.proofs.Calls.Checks.{Heard, HeardCall, HeardReturn, heard-leads}
 use Rattle.tree_specs.proofs.Invariants.Changes.{run-refers, run-unreferred, dropped-sound, dying-row, running-row, claim-here, positive, not-zero, stands, goes_on, waiting-sound, changed-sound, shape-of, live-owned, marks-place, hooks-place, unmarked-sound, valid-at, frees-at, placed-sound, heir-placed}
 
@@ -64,6 +65,9 @@ ended a f (g ∷ gs) p k s none there = below g (waiter g gs s.waiting.0) s ther
         → ((x c : Obj) (noted : Option Owner) (purpose : Purpose) (hs : List Frame) → g ∷ gs ≡ frame.Free (FreeingChild x c noted purpose) ∷ hs → StillThere (reply_in a) x c noted p) → Sound (resume g a) gs p
     below _ (ForFree q x) s there = stands f _ (frame.Call (Awaiting q x) ∷ gs) gs p (λ y. rw (none y) refl) s.waiting.1 tt s
     below _ (ForRun x h) s there = stands f _ (frame.Free (Hooked x h) ∷ gs) gs p (λ y. rw (none y) refl) s.waiting.1 s.waiting.0 s
+    below _ (ForTurn q) s there = stands f _ (frame.Call (Turning q) ∷ gs) gs p (λ y. rw (none y) refl) s.waiting.1 tt s
+    below _ (ForHandler what x handler now) s there = stands f _ (frame.Turn (Handling what x handler now) ∷ gs) gs p (λ y. rw (none y) refl) s.waiting.1 s.waiting.0 s
+    below _ (ForClear x) s there = stands f _ (frame.Turn (Clearing x) ∷ gs) gs p (λ y. rw (none y) refl) s.waiting.1 s.waiting.0 s
     below _ (ForChild x c noted purpose) s there = stands f _ (frame.Free (FreeingChild x c noted purpose) ∷ gs) gs p (λ y. rw (none y) refl) s.waiting.1 (there x c noted purpose gs refl, s.waiting.0) s
 
 -- a child that isn't said to run need not be where it was
@@ -175,11 +179,12 @@ tries-dropped x r (g ∷ gs) p s newest ne inside = below g (waiter g gs s.waiti
   where
     below : (g : Frame) → Waiter g → Tries x (footing (g ∷ gs)) p → Tries x (footing (g ∷ gs)) (remove p r)
     below _ (ForFree q y) t = let bad : None ≡ Some r = sym t ∙ newest in cc
-    below _ (ForRun y h) t = absurd t
+    below _ (ForClear y) t = let bad : None ≡ Some r = sym t ∙ newest in cc
     below _ (ForChild y c noted purpose) t =
         let same_row : row_of (without p.rows r) x ≡ row_of p.rows x = row_of-without-other p.rows r x ne in
         let n : NotedFor y x noted p = subst (λ (z : Obj). NotedFor y z noted p) refl t.2 in
         (t.0, ap owner_in same_row ∙ t.1, inr (noted-other y x r noted p s.forest t.1 newest ne inside n))
+    below _ _ t = absurd t
 
 may-hold : (x r : Obj) (fs : List Frame) (p : Pool) → Sound (frame.Free (Beginning x)) fs p → newest_ref p.rows x ≡ Some r → MayAnswer Held (footing fs)
 may-hold x r [] p s newest = tt
@@ -187,8 +192,7 @@ may-hold x r (g ∷ gs) p s newest = below g (waiter g gs s.waiting.0) s.rests.0
   where
     below : (g : Frame) → Waiter g → Tries x (footing (g ∷ gs)) p → MayAnswer Held (footing (g ∷ gs))
     below _ (ForFree q y) t = let bad : None ≡ Some r = sym t ∙ newest in cc
-    below _ (ForRun y h) t = tt
-    below _ (ForChild y c noted purpose) t = tt
+    below _ _ t = tt
 
 drops : (x r : Obj) (fs : List Frame) (p : Pool) (k : ℕ) → Sound (frame.Free (Beginning x)) fs p → newest_ref p.rows x ≡ Some r → KeptBy (lifted (drop_step x r p)) fs k
 drops x r fs p k s newest =
@@ -224,6 +228,7 @@ tries-same x (OnFree (FreeingChild y d noted purpose)) p q none none' o t = (
   ],
 )
 tries-same x OnCall p q none none' o t = none'
+tries-same x OnTurn p q none none' o t = none'
 tries-same x AtBottom p q none none' o t = tt
 tries-same x _ p q none none' o t = absurd t
 
@@ -343,8 +348,7 @@ releasing x fs p k s = each (newest_ref p.rows x) refl
       where
         below : (g : Frame) → Waiter g → IsCalled (footing (g ∷ gs)) → Tries x (footing (g ∷ gs)) p
         below _ (ForFree q y) c = e
-        below _ (ForRun y h) c = absurd c
-        below _ (ForChild y d noted purpose) c = absurd c
+        below _ _ c = absurd c
 
     each : (n : Option Obj) → newest_ref p.rows x ≡ n → KeptBy (lifted (release_step x (newest_ref p.rows x) p)) fs k
     each None e = rw e (goes_on (frame.Free (Releasing x)) (frame.Free (Beginning x)) fs p (λ y. refl) (tries e fs s.waiting s.rests.0, given_up-object x fs p s.rests) s)

@@ -18,6 +18,7 @@ use Rattle.tree_specs.specs.declared.question.Ask.{Ask}
 use Rattle.tree_specs.specs.declared.frame.Frame.{Frame}
 use Rattle.tree_specs.specs.declared.frame.Frame.TheVariants as frame
 use Rattle.tree_specs.specs.declared.frame.CallFrame.TheVariants.{Asking, Awaiting, Returning}
+use Rattle.tree_specs.specs.declared.frame.TurnFrame.TheVariants.{Clearing}
 use Rattle.tree_specs.specs.declared.frame.FreeFrame.TheVariants.{Unlinking, Releasing, Giving, Beginning, Judged, Dooming, Leaving, Looping, FreeingChild, AfterChild, Ending}
 use Rattle.tree_specs.specs.declared.frame.Purpose.{Purpose}
 use Rattle.tree_specs.specs.declared.frame.Purpose.TheVariants.{Removal, Emptying}
@@ -37,7 +38,7 @@ use Rattle.tree_specs.proofs.Calls.Checks.{Heard, HeardCall, HeardReturn, heard-
 use Rattle.tree_specs.specs.Tree.Inside.{total}
 use Rattle.tree_specs.specs.Invariants.Measure.{count, mark_weight, weight, row_worth, waiting_cost, top_cost, cost, pending, loop_kids}
 use Rattle.tree_specs.proofs.Tree.Rows.{total-without, total-placed, total-changed, total-length, count-length}
-use Rattle.tree_specs.proofs.Invariants.Waiters.{Waiter, ForFree, ForRun, ForChild, waiter}
+use Rattle.tree_specs.proofs.Invariants.Waiters.{Waiter, ForFree, ForRun, ForChild, ForTurn, ForHandler, ForClear, waiter}
 use Rattle.tree_specs.proofs.Invariants.Changes.{dying-row, running-row, claim-here, owned-row, heir-placed}
 
 -- R bounds the rows that there can be
@@ -48,7 +49,7 @@ abbrev pub Lowers : ℕ → ℕ → Move Frame Answer Pool Item → List Frame �
 Lowers R b m fs k = Leads table (λ g gs q j. Room R g q j × (cost R g gs q j < b)) m fs k
 
 -- a work that ends pays for what the work below it begins
-done-lower : (R : ℕ) (a : Answer) (f : Frame) (fs : List Frame) (p : Pool) (k : ℕ) → AllWait fs → length p.rows + 2 * k ≤ R
+pub done-lower : (R : ℕ) (a : Answer) (f : Frame) (fs : List Frame) (p : Pool) (k : ℕ) → AllWait fs → length p.rows + 2 * k ≤ R
     → ((g : Frame) (gs : List Frame) → fs ≡ g ∷ gs → IsWaiting g gs → top_cost R (resume g a) gs p.rows < waiting_cost g + top_cost R f fs p.rows)
     → Lowers R (cost R f fs p k) (Do.Done a p) fs k
 done-lower R a f [] p k w room pays = tt
@@ -58,13 +59,16 @@ done-lower R a f (g ∷ gs) p k w room pays =
   where
     calm : (g : Frame) → Waiter g → Room R (resume g a) p k
     calm _ (ForFree q x) = omega arith
-    calm _ (ForRun x h) = omega arith
     calm _ (ForChild x c noted purpose) = omega arith
+    calm _ _ = omega arith
 
 -- what a work that is over pays for
 over-pays : (R : ℕ) (a : FreeReply) → IsOver a → (rows : List Row) → length rows ≤ R → (g : Frame) (gs : List Frame) → Waiter g → top_cost R (resume g (Freed a)) gs rows < waiting_cost g + (4 * R + 9)
 over-pays R a o rows n _ gs (ForFree q x) = omega arith
 over-pays R a o rows n _ gs (ForRun x h) = omega arith
+over-pays R a o rows n _ gs (ForTurn q) = omega arith
+over-pays R a o rows n _ gs (ForHandler what x h now) = omega arith
+over-pays R a o rows n _ gs (ForClear x) = omega arith
 over-pays R Ok o rows n _ gs (ForChild x c noted purpose) = let m = count-length rows (Of x) in omega (arith, m, n)
 over-pays R Held o rows n _ gs (ForChild x c noted purpose) = let m = count-length rows (Of x) in omega (arith, m, n)
 over-pays R (Refused v) o rows n _ gs (ForChild x c noted purpose) = let m = count-length rows (Of x) in omega (arith, m, n)
@@ -82,8 +86,7 @@ returning-lower R v fs p k s room = done-lower R (Returned v) (frame.Call (Retur
   where
     as-over : (g : Frame) (gs : List Frame) → Waiter g → top_cost R (resume g (Returned v)) gs p.rows ≡ top_cost R (resume g (Freed Ok)) gs p.rows
     as-over _ gs (ForFree q x) = refl
-    as-over _ gs (ForRun x h) = refl
-    as-over _ gs (ForChild x c noted purpose) = refl
+    as-over _ gs _ = refl
 
 pub asking-lower : (R : ℕ) (q : Ask) (fs : List Frame) (p : Pool) (k : ℕ) → Room R (frame.Call (Asking q)) p k
     → Lowers R (cost R (frame.Call (Asking q)) fs p k) (step (frame.Call (Asking q)) p) fs k
@@ -105,7 +108,7 @@ length-without rs x r e = omega (arith, total-without (λ q. 1) rs x r e, total-
 pub total-kept : (w : Row → ℕ) (g : Row → Row) (rs : List Row) (x : Obj) (r : Row) → row_of rs x ≡ Some r → w (g r) ≡ w r → total w (changed g rs x) ≡ total w rs
 total-kept w g rs x r e same_weight = omega (arith, total-changed w g rs x r e, same_weight)
 
-live-weight : (m : Mark) → IsLive m → mark_weight m ≡ 2
+pub live-weight : (m : Mark) → IsLive m → mark_weight m ≡ 2
 live-weight (Dying former) l = absurd l
 live-weight _ l = refl
 
@@ -158,6 +161,7 @@ looping-lower R x purpose fs p k s most = each (first_kid p.rows (Of x)) refl
     -- a call is what waits for a loop that only empties
     called : (g : Frame) (gs : List Frame) → Stands Emptying (footing (g ∷ gs)) → top_cost R (resume g (Freed Ok)) gs p.rows < waiting_cost g + (4 * count p.rows (Of x) + 7)
     called (frame.Call (Awaiting q y)) gs c = omega arith
+    called (frame.Turn (Clearing y)) gs c = absurd c
     called _ gs c = absurd c
 
     last : (purpose : Purpose) → Sound (frame.Free (Looping x purpose)) fs p → Lowers R (cost R (frame.Free (Looping x purpose)) fs p k) (lifted (last_step x purpose p)) fs k
@@ -239,11 +243,12 @@ at_once-lower R a x f (g ∷ gs) p k h t w most room = below g (waiter g gs w.0)
 
     below : (g : Frame) → Waiter g → Tries x (footing (g ∷ gs)) p → loop_kids p.rows (g ∷ gs) + 5 ≤ top_cost R (frame.Free f) (g ∷ gs) p.rows → Lowers R (cost R (frame.Free f) (g ∷ gs) p k) (Do.Done (Freed a) p) (g ∷ gs) k
     below _ (ForFree q y) t most = (omega arith, omega (arith, most))
-    below _ (ForRun y h) t most = absurd t
+    below _ (ForClear y) t most = (omega arith, omega (arith, most))
     below _ (ForChild y c noted purpose) t most = elim h [
       | inl is ↦ runs y c noted purpose a is most
       | inr none ↦ absurd (none (Of y) t.1)
     ]
+    below _ _ t most = absurd t
 
 -- an event that is to be freed after its handler is said to run
 pub dooming-lower : (R : ℕ) (x : Obj) (fs : List Frame) (p : Pool) (k : ℕ) → Sound (frame.Free (Dooming x)) fs p → Room R (frame.Free (Dooming x)) p k

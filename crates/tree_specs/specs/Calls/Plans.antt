@@ -57,6 +57,10 @@ pub data Plan : Type 0 where
   Unlinks : Owner → Obj → Plan
   -- the children of an object are freed
   Empties : Obj → Plan
+  -- the clock is asked, and the time is the reply
+  AsksTime : Plan
+  -- a turn of the event loop
+  Turns : Plan
 
 abbrev pub replies : Reply → Plan
 replies r = Does Nothing None r
@@ -135,6 +139,8 @@ plan p (call.Schedule x routine user) = Does (comes_soon x routine user) None Ok
 plan p (call.Unschedule x) = Does (Unschedule x) None Ok
 plan p (call.Timer o time routine user) = Does (adds_timer p o time (record { routine = routine; user = user })) None (Number p.next)
 plan p call.Pending = replies (Number (length p.soon + length p.times))
+plan p call.Now = AsksTime
+plan p call.Turn = Turns
 
 -- a call that is refused does nothing, and has the first refusal as its reply
 abbrev pub unless_refused : Check → Plan → Plan
@@ -150,3 +156,5 @@ warned_by (Does c warned r) = warned
 warned_by (Frees x) = None
 warned_by (Unlinks o x) = None
 warned_by (Empties x) = None
+warned_by AsksTime = None
+warned_by Turns = None

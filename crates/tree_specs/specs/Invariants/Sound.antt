@@ -5,12 +5,14 @@ use Rattle.tree_specs.specs.declared.object.Owner.{Owner}
 use Rattle.tree_specs.specs.declared.object.Owner.TheVariants.{Of}
 use Rattle.tree_specs.specs.declared.row.Row.{Row}
 use Rattle.tree_specs.specs.declared.row.Mark.{Mark}
-use Rattle.tree_specs.specs.declared.row.Mark.TheVariants.{Quiet}
+use Rattle.tree_specs.specs.declared.row.Mark.TheVariants.{Quiet, Busy}
 use Rattle.tree_specs.specs.declared.frame.Frame.{Frame}
 use Rattle.tree_specs.specs.declared.frame.Frame.TheVariants as frame
-use Rattle.tree_specs.specs.declared.frame.CallFrame.TheVariants.{Asking, Doing, Awaiting, Warning, Telling, Returning}
+use Rattle.tree_specs.specs.declared.frame.CallFrame.TheVariants.{Asking, Doing, Awaiting, Turning, Warning, Telling, Returning}
 use Rattle.tree_specs.specs.declared.frame.FreeFrame.{FreeFrame}
 use Rattle.tree_specs.specs.declared.frame.FreeFrame.TheVariants.{Unlinking, Releasing, Giving, Beginning, Hooked, Judged, Dooming, Leaving, Looping, FreeingChild, AfterChild, Ending}
+use Rattle.tree_specs.specs.declared.frame.TurnFrame.{TurnFrame}
+use Rattle.tree_specs.specs.declared.frame.TurnFrame.TheVariants.{Taking, Timing, Timed, Polling, Starting, Firing, Handling, Handled, Clearing, Reading, Closing}
 use Rattle.tree_specs.specs.declared.frame.Purpose.{Purpose}
 use Rattle.tree_specs.specs.declared.frame.Purpose.TheVariants.{Removal, Emptying}
 use Rattle.tree_specs.specs.declared.free_step.FreeReply.{FreeReply}
@@ -20,7 +22,9 @@ use Rattle.tree_specs.specs.Tree.Targets.{target_of, newest_ref}
 use Rattle.tree_specs.specs.Tree.Pool.{Pool, row_of, owner_of, target_at, noted_owner, is_owner, is_inside}
 use Rattle.tree_specs.specs.Calls.Refusals.{is_plain}
 use Rattle.tree_specs.specs.Tree.Forest.{IsForest}
-use Rattle.tree_specs.specs.Machine.Profiles.{Phase, Claim, former_in, phase_in, Waits, Never, AFree, ARun, AChild, profile}
+use Rattle.tree_specs.specs.Machine.Profiles.{Phase, Claim, former_in, phase_in, Waits, Never, AFree, ARun, AChild, ATurn, AHandler, AClear, profile}
+use Rattle.tree_specs.specs.declared.kind.Kind.{Kind}
+use Rattle.tree_specs.specs.Events.Coming.{comes_as}
 
 -- an owner or a former owner is another object; a dying row has no owner, and every other one has
 abbrev pub Owned : Option Owner → Obj → Type 0
@@ -74,7 +78,11 @@ pub data Footing : Type 0 where
   OnCall : Footing
   -- a free
   OnFree : FreeFrame → Footing
-  -- a caller that waits for no free
+  -- the call that waits for a turn
+  OnTurning : Footing
+  -- a turn that waits for the freeing of an event
+  OnTurn : Footing
+  -- a work that waits for no free
   OnOther : Footing
   AtBottom : Footing
 
@@ -82,11 +90,17 @@ abbrev pub footing : List Frame → Footing
 footing [] = AtBottom
 footing (frame.Free f ∷ fs) = OnFree f
 footing (frame.Call (Awaiting q x) ∷ fs) = OnCall
+footing (frame.Call (Turning q) ∷ fs) = OnTurning
+footing (frame.Turn (Clearing x) ∷ fs) = OnTurn
 footing (_ ∷ fs) = OnOther
 
 abbrev pub IsCalled : Footing → Type 0
 IsCalled OnCall = Unit {0}
 IsCalled _ = ⊥
+
+abbrev pub IsTurned : Footing → Type 0
+IsTurned OnTurning = Unit {0}
+IsTurned _ = ⊥
 
 -- a loop that only empties an object is a call's own
 abbrev pub Stands : Purpose → Footing → Type 0
@@ -98,6 +112,9 @@ MayWait Never on = ⊥
 MayWait (AFree x) on = Unit {0}
 MayWait (ARun x h) on = 0 < h
 MayWait (AChild c purpose) on = Stands purpose on
+MayWait ATurn on = Unit {0}
+MayWait (AHandler x) on = IsTurned on
+MayWait (AClear x) on = IsTurned on
 
 -- the works below the innermost wait for the one above them
 abbrev pub IsWaiting : Frame → List Frame → Type 0
@@ -139,6 +156,7 @@ NotedFor x c noted p = (noted ≡ noted_owner p.rows c) ⊎ (noted ≢ Some (Of 
 abbrev pub Tries : Obj → Footing → Pool → Type 0
 Tries c (OnFree (FreeingChild x d noted purpose)) p = (d ≡ c) × (owner_of p.rows c ≡ Some (Of x)) × NotedFor x c noted p
 Tries c OnCall p = newest_ref p.rows c ≡ None
+Tries c OnTurn p = newest_ref p.rows c ≡ None
 Tries c AtBottom p = Unit {0}
 Tries c _ p = ⊥
 
@@ -194,15 +212,24 @@ FreeRests (FreeingChild x c noted purpose) on claimed p = ⊥
 FreeRests (AfterChild x c noted purpose answer) on claimed p = StillThere answer x c noted p × Stands purpose on
 FreeRests (Ending answer) on claimed p = IsOver answer × MayAnswer answer on
 
+-- a turn is a call's own, and a handler runs for an event of its kind, which is busy
+abbrev pub TurnRests : TurnFrame → Footing → Pool → Type 0
+TurnRests (Firing what x handler now) on p = IsTurned on × (r : Row) × (row_of p.rows x ≡ Some r) × (comes_as what r.kind ≡ true) × (r.mark ≡ Busy)
+TurnRests (Handling what x handler now) on p = IsTurned on × (k : Kind) × (comes_as what k ≡ true)
+TurnRests (Clearing x) on p = ⊥
+TurnRests f on p = IsTurned on
+
 -- what the innermost work rests on
 abbrev pub Rests : Frame → List Frame → Pool → Type 0
 Rests (frame.Call (Asking q)) fs p = Unit {0}
 Rests (frame.Call (Doing q c)) fs p = Unit {0}
 Rests (frame.Call (Awaiting q x)) fs p = ⊥
+Rests (frame.Call (Turning q)) fs p = ⊥
 Rests (frame.Call (Warning q x r)) fs p = Unit {0}
 Rests (frame.Call (Telling q r)) fs p = Unit {0}
 Rests (frame.Call (Returning v)) fs p = Unit {0}
 Rests (frame.Free f) fs p = FreeRests f (footing fs) (λ x. claims x fs) p
+Rests (frame.Turn f) fs p = TurnRests f (footing fs) p
 
 pub record Sound (f : Frame) (fs : List Frame) (p : Pool) : Type 0 where
   pub started : 0 < p.next

@@ -12,7 +12,7 @@ use Rattle.tree_specs.specs.declared.reply.Reply.TheVariants.{No}
 use Rattle.tree_specs.specs.declared.reply.Refusal.{Refusal}
 use Rattle.tree_specs.specs.declared.reply.Refusal.TheVariants.{Running as IsRunning}
 use Rattle.tree_specs.specs.declared.event.Event.TheVariants.{Refused as HasRefused, Unreferenced}
-use Rattle.tree_specs.specs.declared.question.Ask.TheVariants.{Routine}
+use Rattle.tree_specs.specs.declared.question.Ask.TheVariants.{Quiet, Routine}
 use Rattle.tree_specs.specs.declared.question.Input.{Input}
 use Rattle.tree_specs.specs.declared.free_step.FreeReply.{FreeReply}
 use Rattle.tree_specs.specs.declared.free_step.FreeReply.TheVariants.{Ok, Held, Running, Refused}
@@ -23,11 +23,11 @@ use Rattle.tree_specs.specs.Calls.Plans.{planned}
 use Rattle.tree_specs.specs.Rules.Items.{Item}
 use Rattle.tree_specs.specs.Rules.Items.Item.{Told}
 use Rattle.tree_specs.specs.Rules.Sequence.{Work, Scene}
-use Rattle.tree_specs.specs.Rules.Story.{effect, free, unlink, children, asked, hook_moment, freed_reply}
+use Rattle.tree_specs.specs.Rules.Story.{effect, free, unlink, children, asked, hook_moment, freed_reply, numbered, turned, taking, reading}
 
--- a call, be it the host's own or an act, with its reply
+-- a call, be it the host's own or an act, with its reply; a turn is the host's own
 abbrev pub called : ℕ → Call → Work Reply
-called n c p is = effect (free n) (unlink n) (children n) (planned p c) p is
+called n c p is = effect (free n) (unlink n) (children n) (numbered (reading n)) (turned Quiet (taking n)) (planned p c) p is
 
 -- ---- running
 

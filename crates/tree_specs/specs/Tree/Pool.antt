@@ -232,6 +232,9 @@ schedule p x = record p { soon = scheduled p.soon x }
 abbrev pub unschedule : Pool → Obj → Pool
 unschedule p x = record p { soon = unscheduled p.soon x }
 
+abbrev pub disarm : Pool → Obj → Pool
+disarm p x = record p { times = disarmed p.times x }
+
 -- an object is to come at a time; at equal times the smaller number comes first
 abbrev pub arm : Pool → Obj → ℕ → ℕ → Pool
 arm p x time number = record p { times = armed p.times x time number }
