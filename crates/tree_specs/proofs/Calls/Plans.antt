@@ -94,7 +94,7 @@ follows p (Edit x g) may =
       weight = omega (arith, w);
       number = omega (arith, length-changed g p.rows x);
       deposit = omega (arith, b);
-      later = later-changed g p x may.row may.place.serial may.is (λ d. rw (may.mark may.row) d) (λ i. rw (may.mark may.row) i);
+      later = later-changed g p x may.row may.place.serial may.is (λ d. rw (may.mark may.row) d);
     }
 follows p (Add kind o size name) may = record { weight = omega arith; number = omega arith; deposit = omega arith; later = later-added p kind o size name }
 follows p (Place o x) may =

@@ -55,7 +55,7 @@ module _ (scenes : List Scene) (b : Option CallStart) (ws : List NotedWork) (p :
       answers : (g : Frame) (n : Option CallStart) → Waiter g → StandsOn (frame.Free f) g n → AnswersTo scenes (answer.Freed free_reply.Ok) g n
       answers _ n (ForFree q x) on = tt
       answers _ n (ForRun x h) on = absurd on
-      answers _ n (ForChild x c noted purpose) on = tt
+      answers _ n _ on = tt
 
   pub ending-fine : (a : FreeReply) → At (Ending a)
   ending-fine a whole known =
@@ -68,7 +68,7 @@ module _ (scenes : List Scene) (b : Option CallStart) (ws : List NotedWork) (p :
       answers free_reply.Running over _ n (ForFree q x) on last = absurd over
       answers (free_reply.Refused v) over _ n (ForFree q x) on last = last
       answers a over _ n (ForRun x h) on last = absurd on
-      answers a over _ n (ForChild x c noted purpose) on last = tt
+      answers a over _ n _ on last = tt
 
   -- an object that runs did so when the call that waits began
   ran-then : (x : Obj) → is_running p x ≡ true → AllWait (map work_of ws) → Stacked (frame.Free (Beginning x)) ws → OfNext (HasJustBegun p) ws → OfNext (HasRunFor x) ws
@@ -80,8 +80,7 @@ module _ (scenes : List Scene) (b : Option CallStart) (ws : List NotedWork) (p :
 
       each : (g : Frame) (n : Option CallStart) → Waiter g → StandsOn (frame.Free (Beginning x)) g n → HasJustBegun p g n → HasRunFor x g n
       each _ n (ForFree q y) on begun = start n y begun on.0
-      each _ n (ForRun y h) on begun = tt
-      each _ n (ForChild y c noted purpose) on begun = tt
+      each _ n _ on begun = tt
 
   -- it stays, since something of it runs
   said-fine : (f : FreeFrame) (x : Obj) → ((y : Obj) → IsFreeOf y (frame.Free f) → x ≡ y) → ((y : Obj) → IsLeaving (frame.Free f) y → ⊥) → IsConsistent (record { innermost = frame.Free f; below = map work_of ws; pool = p })
@@ -97,7 +96,7 @@ module _ (scenes : List Scene) (b : Option CallStart) (ws : List NotedWork) (p :
       answers : (g : Frame) (n : Option CallStart) → Waiter g → StandsOn (frame.Free f) g n → HasRunFor x g n → AnswersTo scenes (answer.Freed free_reply.Running) g n
       answers _ n (ForFree q y) on h = start n y h (of y on.0)
       answers _ n (ForRun y h) on h' = absurd on
-      answers _ n (ForChild y c noted purpose) on h = tt
+      answers _ n _ on h = tt
 
   pub dooming-fine : (x : Obj) → At (Dooming x)
   dooming-fine x whole known = said-fine (Dooming x) x (λ y h. h) (λ y l. l) whole known known.cause
@@ -140,8 +139,7 @@ module _ (scenes : List Scene) (b : Option CallStart) (ws : List NotedWork) (p :
 
       each : (g : Frame) (n : Option CallStart) → Waiter g → StandsOn (frame.Free f) g n → HasJustBegun p g n → HasJustBegun (remove p r) g n
       each _ n (ForFree q y) on h = kept y (of y on.0) n h
-      each _ n (ForRun y k) on h = tt
-      each _ n (ForChild y c noted purpose) on h = tt
+      each _ n _ on h = tt
 
   -- a call's own free is never held
   no-held : (more : List Scene) (x r : Obj) (us : List NotedWork) → AllWait (map work_of us) → Tries x (footing (map work_of us)) p → newest_ref p.rows x ≡ Some r → OfNext (IsRefusedFor more free_reply.Held) us
@@ -150,8 +148,7 @@ module _ (scenes : List Scene) (b : Option CallStart) (ws : List NotedWork) (p :
     where
       below : (g : Frame) → Waiter g → Tries x (footing (g ∷ map work_of us)) p → IsRefusedFor more free_reply.Held g u.note
       below _ (ForFree q y) t = let bad : None ≡ Some r = sym t ∙ e in cc
-      below _ (ForRun y h) t = tt
-      below _ (ForChild y c noted purpose) t = tt
+      below _ _ t = tt
 
   no-refusal : (f : Frame) (r x : Obj) → AllWait (map work_of ws) → Stacked f ws → OfNext (IsRefusedFor (scenes ++ scene notes f b p (Told (Unreferenced r x)) ∷ []) free_reply.Ok) ws
   no-refusal f r x wait stacked = of-next (IsRefusedFor (scenes ++ scene notes f b p (Told (Unreferenced r x)) ∷ []) free_reply.Ok) f ws wait stacked (λ g n waits on. tt)
@@ -176,7 +173,7 @@ module _ (scenes : List Scene) (b : Option CallStart) (ws : List NotedWork) (p :
             cause = tt;
           }))
           (λ t. rw t (record {
-            past = past-goes (told scenes) f (frame.Free (Hooked x r.hook)) (map work_of ws) (map work_of ws) p (set_mark p x mark.Asked) known.past (later-marked p x r mark.Asked e live (λ h. tt)) (λ y l. absurd l) tt known.past.all_account;
+            past = past-goes (told scenes) f (frame.Free (Hooked x r.hook)) (map work_of ws) (map work_of ws) p (set_mark p x mark.Asked) known.past (later-marked p x r mark.Asked e live) (λ y l. absurd l) tt known.past.all_account;
             stacked = restacked f (frame.Free (Hooked x r.hook)) ws (λ y h. h) (λ y h. h) known.stacked;
             cause = tt;
           }))
@@ -184,7 +181,7 @@ module _ (scenes : List Scene) (b : Option CallStart) (ws : List NotedWork) (p :
       dooms : (r : Row) → row_of p.rows x ≡ Some r → r.mark ≡ mark.Busy → is_running p x ≡ true → Step (Do.Go (frame.Free (Dooming x)) (doom p x))
       dooms r e m run = record {
         past = past-goes (told scenes) f (frame.Free (Dooming x)) (map work_of ws) (map work_of ws) p (doom p x) known.past
-            (later-rows (later-marked p x r mark.Doomed e (rw m tt) (λ h. let bad : ⊥ = rw m at h in bad)) refl refl) (λ y l. absurd l) tt known.past.all_account;
+            (later-rows (later-marked p x r mark.Doomed e (rw m tt)) refl refl) (λ y l. absurd l) tt known.past.all_account;
         stacked = restacked f (frame.Free (Dooming x)) ws (λ y h. h) (λ y h. h) known.stacked;
         cause = ran-then x run whole.sound.waiting known.stacked known.cause;
       }

@@ -23,10 +23,11 @@ use Rattle.tree_specs.specs.Tree.Targets.{newest_ref}
 use Rattle.tree_specs.specs.Tree.Pool.{Pool, row_of, owner_of, newest_ref_of, remove, set_mark, doom, set_hook, is_inside}
 use Rattle.tree_specs.specs.Calls.Refusals.{Check, refusals}
 use Rattle.tree_specs.specs.Calls.Plans.{Plan, plan, planned, frees, unless_refused, changed_by}
-use Rattle.tree_specs.specs.Calls.Plans.Plan.{Does, Frees, Unlinks, Empties}
+use Rattle.tree_specs.specs.Calls.Plans.Plan.{Does, Frees, Unlinks, Empties, AsksTime, Turns}
 use Rattle.tree_specs.specs.Rules.Items.Item.{Told}
-use Rattle.tree_specs.specs.Rules.Sequence.{Scene}
-use Rattle.tree_specs.specs.Rules.Story.{hook_moment, effect, unlink, release, given, free, hooked, judged, dooming, leave, children, asked, freed_reply}
+use Rattle.tree_specs.specs.Rules.Sequence.{Work, Scene}
+use Rattle.tree_specs.specs.Rules.Story.{hook_moment, effect, unlink, release, given, free, hooked, judged, dooming, leave, children, asked, freed_reply, numbered, turned, taking, reading}
+use Rattle.tree_specs.specs.declared.question.Ask.TheVariants.{Quiet as AtRest}
 use Rattle.tree_specs.specs.Promises.Refused.{called, Untouched, OnlyDropped, AfterItsRun, told_refusal, doomed, LeftByFree, LeftByItsFree, LeftByRefused}
 use Rattle.tree_specs.proofs.Tree.Numbered.{by_test}
 use Rattle.tree_specs.proofs.Rules.FreeCauses.{leave-ok, given-ok}
@@ -225,7 +226,14 @@ itself x why p q is left told a r us vs mid e s l =
     let same : us ≡ told = sym (append-nil us) ∙ ap (λ (z : List Scene). us ++ z) e3 ∙ s in
     (a, e1, subst (λ (z : List Scene). Leaves x p is a q z left) same (subst (λ (z : List Input). Leaves x p is a q us z) e4 (subst (λ (z : Pool). Leaves x p is a z us mid) e2 l)))
 
-plan-leaves : (n : ℕ) (plan : Plan) (why : Refusal) (p q : Pool) (is left : List Input) (told : List Scene) → AnswersDone plan → effect (free n) (unlink n) (children n) plan p is ≡ Ended (reply.No why) q told left
+-- a number is no refusal
+never-refused : (w : Work ℕ) (why : Refusal) (p q : Pool) (is left : List Input) (told : List Scene) → numbered w p is ≡ Ended (reply.No why) q told left → ⊥
+never-refused w why p q is left told e =
+    let w = ended-followed (w p is) (λ v r mid. Ended (reply.Number v) r [] mid) (reply.No why) q told left e in
+    let e' : Ended (reply.Number w.0) w.1 [] w.4 ≡ Ended (reply.No why) q w.3 left = w.6 in
+    cc
+
+plan-leaves : (n : ℕ) (plan : Plan) (why : Refusal) (p q : Pool) (is left : List Input) (told : List Scene) → AnswersDone plan → effect (free n) (unlink n) (children n) (numbered (reading n)) (turned AtRest (taking n)) plan p is ≡ Ended (reply.No why) q told left
     → LeftByPlan plan why p q is left told
 unfolding AnswersDone
 plan-leaves n (Does change warned r) why p q is left told done e =
@@ -243,17 +251,20 @@ plan-leaves n (Empties x) why p q is left told done e =
     let e' : Ended reply.Ok w.1 [] w.4 ≡ Ended (reply.No why) q w.3 left = w.6 in
     cc
 
+plan-leaves n AsksTime why p q is left told done e = never-refused (reading n) why p q is left told e
+plan-leaves n Turns why p q is left told done e = never-refused (taking n) why p q is left told e
+
 refused-leaves : (c : Call) (why : Refusal) (p q : Pool) (is left : List Input) (told : List Scene) → Untouched p q is left told → LeftByRefused c why p q is left told
 refused-leaves (call.Free x) why p q is left told u = inl u
 refused-leaves (call.Unlink o x) why p q is left told u = inl u
 refused-leaves c why p q is left told u = u
 
-passed-leaves : (n : ℕ) (c : Call) (why : Refusal) (p q : Pool) (is left : List Input) (told : List Scene) → effect (free n) (unlink n) (children n) (plan p c) p is ≡ Ended (reply.No why) q told left
+passed-leaves : (n : ℕ) (c : Call) (why : Refusal) (p q : Pool) (is left : List Input) (told : List Scene) → effect (free n) (unlink n) (children n) (numbered (reading n)) (turned AtRest (taking n)) (plan p c) p is ≡ Ended (reply.No why) q told left
     → LeftByRefused c why p q is left told
 unfolding AnswersDone IsDone
 passed-leaves n (call.Free x) why p q is left told e = inr (each (newest_ref p.rows x) e)
   where
-    each : (o : Option Obj) → effect (free n) (unlink n) (children n) (frees o x) p is ≡ Ended (reply.No why) q told left → LeftByItsFree x why p q is left told
+    each : (o : Option Obj) → effect (free n) (unlink n) (children n) (numbered (reading n)) (turned AtRest (taking n)) (frees o x) p is ≡ Ended (reply.No why) q told left → LeftByItsFree x why p q is left told
     each None k = plan-leaves n (Frees x) why p q is left told tt k
     each (Some r) k = plan-leaves n (Unlinks Root x) why p q is left told tt k
 passed-leaves n (call.Unlink o x) why p q is left told e = inr (plan-leaves n (Unlinks o x) why p q is left told tt e)

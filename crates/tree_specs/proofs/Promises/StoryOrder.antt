@@ -29,6 +29,7 @@ use Rattle.tree_specs.proofs.Promises.Fine.{work_of, IsFine, Known, FineBy, take
 use Rattle.tree_specs.proofs.Promises.FineCallers.{asking-fine, telling-fine, returning-fine, doing-fine, warning-fine}
 use Rattle.tree_specs.proofs.Promises.FineFrees.{hooked-fine, leaving-fine, judged-fine, looping-fine, tried-fine}
 use Rattle.tree_specs.proofs.Promises.FineDrops.{ending-fine, beginning-fine, dooming-fine, unlinking-fine, releasing-fine, giving-fine}
+use Rattle.tree_specs.proofs.Promises.FineTurns.{turn-fine}
 use Rattle.tree_specs.proofs.Rules.StoryLaws.{asking, begin-whole, story-walk}
 
 abbrev WholeAt : Frame → List Frame → Pool → Type 0
@@ -55,6 +56,7 @@ fine scenes (frame.Free (Leaving x h)) b ws p whole known = leaving-fine scenes 
 fine scenes (frame.Free (Looping x purpose)) b ws p whole known = looping-fine scenes b ws p x purpose whole known
 fine scenes (frame.Free (AfterChild x c noted purpose a)) b ws p whole known = tried-fine scenes b ws p x c noted purpose a whole known
 fine scenes (frame.Free (Ending a)) b ws p whole known = ending-fine scenes b ws p a whole known
+fine scenes (frame.Turn f) b ws p whole known = turn-fine scenes b ws p f whole known
 fine scenes _ b ws p whole known = absurd whole.sound.rests
 
 both : (scenes : List Scene) (f : Frame) (b : Option CallStart) (ws : List NotedWork) (p : Pool) (m : Move Frame Answer Pool Item) → Leads table (λ g gs q j. WholeAt g gs q) m (map work_of ws) 1
@@ -77,7 +79,7 @@ kept scenes w ws p h = both scenes w.work w.note ws p (step w.work p) (whole-kep
 -- nothing is told as yet
 at-first : (first : ℕ) → Known [] asking [] (empty first)
 at-first first = record {
-  past = record { gone = λ x e. cc; dropped = λ x e. cc; spent = λ x e. cc; idle = λ x. tt; accounts = tt; all_account = tt };
+  past = record { gone = λ x e. cc; dropped = λ x e. cc; spent = λ x e. cc; accounts = tt; all_account = tt };
   stacked = tt;
   cause = tt;
 }

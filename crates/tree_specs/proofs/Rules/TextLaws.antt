@@ -13,7 +13,7 @@ use Rattle.tree_specs.specs.declared.row.Mark.{Mark}
 use Rattle.tree_specs.specs.declared.row.Mark.TheVariants as mark
 use Rattle.tree_specs.specs.declared.call.Call.{Call}
 use Rattle.tree_specs.specs.declared.reply.Reply.{Reply}
-use Rattle.tree_specs.specs.declared.event.Event.TheVariants.{Replied, Accepted, Refused, Moved, Freed, Warned, Unreferenced}
+use Rattle.tree_specs.specs.declared.event.Event.TheVariants.{Replied, Fired, Accepted, Refused, Moved, Freed, Warned, Unreferenced}
 use Rattle.tree_specs.specs.declared.question.Ask.{Ask}
 use Rattle.tree_specs.specs.declared.question.Ask.TheVariants as ask
 use Rattle.tree_specs.specs.declared.question.Act.TheVariants as act
@@ -21,17 +21,25 @@ use Rattle.tree_specs.specs.declared.question.Input.{Input}
 use Rattle.tree_specs.specs.declared.question.Input.TheVariants as input
 use Rattle.tree_specs.specs.declared.free_step.FreeReply.{FreeReply}
 use Rattle.tree_specs.specs.declared.free_step.FreeReply.TheVariants as free_reply
-use Rattle.tree_specs.specs.Tree.Pool.{Pool, row_of, is_below, owner_of, first_kid, detach, remove, place, set_mark, doom, set_hook, target_at, newest_ref_of, noted_owner, is_inside}
+use Rattle.tree_specs.specs.Tree.Pool.{Pool, row_of, is_below, owner_of, first_kid, detach, remove, place, set_mark, doom, set_hook, unschedule, disarm, target_at, newest_ref_of, noted_owner, is_inside}
 use Rattle.tree_specs.specs.Tree.Heirs.{heir}
 use Rattle.tree_specs.specs.Rules.Items.{Item}
 use Rattle.tree_specs.specs.Rules.Items.Item.{Told, Asked}
 use Rattle.tree_specs.specs.Rules.Sequence.{Work, Scene, CallStart, asks, fits_to}
 use Rattle.tree_specs.specs.Calls.Plans.{Plan, planned, warned_by, changed_by}
-use Rattle.tree_specs.specs.Calls.Plans.Plan.{Does, Frees, Unlinks, Empties}
-use Rattle.tree_specs.specs.Rules.Story.{hook_moment, later, heard, effect, free, hooked, judged, dooming, leave, children, tried, asked, acting, telling, returning, items, warning, unlink, release, given}
+use Rattle.tree_specs.specs.Calls.Plans.Plan.{Does, Frees, Unlinks, Empties, AsksTime, Turns}
+use Rattle.tree_specs.specs.Rules.Story.{hook_moment, later, heard, effect, free, hooked, judged, dooming, leave, children, tried, asked, acting, telling, returning, items, warning, unlink, release, given, numbered, turned, clocked, polled, taking, timing, timed, polling, starting, firing, handling, handled, reading, closing}
 use Rattle.tree_specs.specs.Promises.Acceptances.{Return, returned_by, answered_by, inputs_after, AcceptsNow, AcceptsAfterReturns}
 use Rattle.tree_specs.proofs.Tree.Numbered.{by_test}
-use Rattle.tree_specs.proofs.Calls.Checks.{heard-by}
+use Rattle.tree_specs.proofs.Calls.Checks.{heard-by, clocked-by, polled-by}
+use Rattle.tree_specs.specs.declared.due.Due.{Due}
+use Rattle.tree_specs.specs.declared.handler.Handler.{Handler}
+use Rattle.tree_specs.specs.declared.moment.What.{What}
+use Rattle.tree_specs.specs.declared.moment.What.TheVariants.{Immediate as ForImmediate, Timer as ForTimer}
+use Rattle.tree_specs.specs.declared.wants.Want.{Want}
+use Rattle.tree_specs.specs.Events.Pending.{first}
+use Rattle.tree_specs.specs.Events.Coming.{wait_limit, handler_for, handler_moment, goes_after, looks_again}
+use Rattle.std.specs.Prelude.{Bool, nat_le, ◌-◌, if◌then◌else◌}
 
 -- ---- what an acceptance follows, over the items of an outcome
 
@@ -174,6 +182,16 @@ pub record AllLawful (n : ℕ) : Type 0 where
   pub warning : (q : Ask) (x : Obj) (r : Reply) (about : Option CallStart) (p : Pool) (last : Last) → Lawful last (Returned q) (warning n about (later q r) x r p)
   pub later : (q : Ask) (r : Reply) (about : Option CallStart) (p : Pool) (last : Last) → Lawful last (Returned q) (telling n about (later q r) r p)
   pub returning : (q : Ask) (v : ℕ) (p : Pool) (last : Last) → Returned q v last → Lawful last (Returned q) (returning n v p)
+  pub taking : (p : Pool) (last : Last) → Lawful last Any (taking n p)
+  pub timing : (again : Bool) (p : Pool) (last : Last) → Lawful last Any (timing n again p)
+  pub timed : (again : Bool) (now : ℕ) (p : Pool) (last : Last) → Lawful last Any (timed n again now p)
+  pub polling : (limit : ℕ) (p : Pool) (last : Last) → Lawful last Any (polling n limit p)
+  pub starting : (what : What) (x : Obj) (now : ℕ) (p : Pool) (last : Last) → Lawful last Any (starting n what x now p)
+  pub firing : (what : What) (x : Obj) (h : Handler) (now : ℕ) (p : Pool) (last : Last) → Lawful last Any (firing n what x h now p)
+  pub handling : (what : What) (x : Obj) (h : Handler) (now : ℕ) (p : Pool) (last : Last) → Lawful last Any (handling n what x h now p)
+  pub handled : (what : What) (x : Obj) (p : Pool) (last : Last) → Lawful last Any (handled n what x p)
+  pub reading : (p : Pool) (last : Last) → Lawful last Any (reading n p)
+  pub closing : (v : ℕ) (p : Pool) (last : Last) → Lawful last Any (closing n v p)
 
 weaker : (P Q : ℕ → Last → Type 0) (go : List Input → Outcome ℕ Pool Input Scene) → ((v : ℕ) (l : Last) → P v l → Q v l) → Lawful None P go → Lawful None Q go
 weaker P Q go h w = record { accepts = λ is. each is (go is) (w.accepts is); uses = w.uses }
@@ -296,24 +314,33 @@ asked-lawful n ih q p last = asks-lawful last (Returned q) q (heard q (acting n 
           (ih.returning q h.0 p (returned_by q i) (λ r k. ap (returned_by q) h.1 ∙ k))
     ]
 
-plan-lawful : (n : ℕ) → AllLawful n → (plan : Plan) (p : Pool) (last : Last) → Lawful last Any (effect (free n) (unlink n) (children n) plan p)
-plan-lawful n ih (Does change warned r) p last = ended-lawful last Any r (changed_by change p) tt
-plan-lawful n ih (Frees x) p last = followed-lawful last Any Any (free n x p) _ (ih.free x p last) (λ a q l k. ended-lawful l Any _ q tt)
-plan-lawful n ih (Unlinks o x) p last = followed-lawful last Any Any (unlink n o x p) _ (ih.unlink o x p last) (λ a q l k. ended-lawful l Any _ q tt)
-plan-lawful n ih (Empties x) p last = followed-lawful last Any Any (children n x p) _ (ih.children x p last) (λ a q l k. ended-lawful l Any _ q tt)
+numbered-lawful : (w : Work ℕ) (p : Pool) (last : Last) → Lawful last Any (w p) → Lawful last Any (numbered w p)
+numbered-lawful w p last h = followed-lawful last Any Any (w p) _ h (λ v q l k. ended-lawful l Any _ q tt)
+
+turned-lawful : (q : Ask) (w : Work ℕ) (p : Pool) (last : Last) → Lawful last Any (w p) → Lawful last Any (turned q w p)
+turned-lawful ask.Quiet w p last h = numbered-lawful w p last h
+turned-lawful _ w p last h = ended-lawful last Any _ p tt
+
+plan-lawful : (n : ℕ) → AllLawful n → (q : Ask) (plan : Plan) (p : Pool) (last : Last) → Lawful last Any (effect (free n) (unlink n) (children n) (numbered (reading n)) (turned q (taking n)) plan p)
+plan-lawful n ih q (Does change warned r) p last = ended-lawful last Any r (changed_by change p) tt
+plan-lawful n ih q (Frees x) p last = followed-lawful last Any Any (free n x p) _ (ih.free x p last) (λ a q l k. ended-lawful l Any _ q tt)
+plan-lawful n ih q (Unlinks o x) p last = followed-lawful last Any Any (unlink n o x p) _ (ih.unlink o x p last) (λ a q l k. ended-lawful l Any _ q tt)
+plan-lawful n ih q (Empties x) p last = followed-lawful last Any Any (children n x p) _ (ih.children x p last) (λ a q l k. ended-lawful l Any _ q tt)
+plan-lawful n ih q AsksTime p last = numbered-lawful (reading n) p last (ih.reading p last)
+plan-lawful n ih q Turns p last = turned-lawful q (taking n) p last (ih.taking p last)
 
 acting-lawful : (n : ℕ) → AllLawful n → (q : Ask) (c : Call) (p : Pool) (last : Last) → Lawful last (Returned q) (acting (suc n) q c p)
 acting-lawful n ih q c p last = each (warned_by (planned p c)) refl
   where
     each : (o : Option Obj) → warned_by (planned p c) ≡ o → Lawful last (Returned q) (acting (suc n) q c p)
     each None k = same-lawful last (Returned q) (acting (suc n) q c p)
-        (λ js. followed (effect (free n) (unlink n) (children n) (planned p c) p js) (λ r p' left. telling n (Some (record { call = c; start = p })) (later q r) r p' left)) (λ js. rw k refl)
-        (followed-lawful last Any (Returned q) (effect (free n) (unlink n) (children n) (planned p c) p) (λ r p' left. telling n (Some (record { call = c; start = p })) (later q r) r p' left)
-        (plan-lawful n ih (planned p c) p last) (λ r p' l w. ih.later q r (Some (record { call = c; start = p })) p' l))
+        (λ js. followed (effect (free n) (unlink n) (children n) (numbered (reading n)) (turned q (taking n)) (planned p c) p js) (λ r p' left. telling n (Some (record { call = c; start = p })) (later q r) r p' left)) (λ js. rw k refl)
+        (followed-lawful last Any (Returned q) (effect (free n) (unlink n) (children n) (numbered (reading n)) (turned q (taking n)) (planned p c) p) (λ r p' left. telling n (Some (record { call = c; start = p })) (later q r) r p' left)
+        (plan-lawful n ih q (planned p c) p last) (λ r p' l w. ih.later q r (Some (record { call = c; start = p })) p' l))
     each (Some x) k = same-lawful last (Returned q) (acting (suc n) q c p)
-        (λ js. followed (effect (free n) (unlink n) (children n) (planned p c) p js) (λ r p' left. warning n (Some (record { call = c; start = p })) (later q r) x r p' left)) (λ js. rw k refl)
-        (followed-lawful last Any (Returned q) (effect (free n) (unlink n) (children n) (planned p c) p) (λ r p' left. warning n (Some (record { call = c; start = p })) (later q r) x r p' left)
-        (plan-lawful n ih (planned p c) p last) (λ r p' l w. ih.warning q x r (Some (record { call = c; start = p })) p' l))
+        (λ js. followed (effect (free n) (unlink n) (children n) (numbered (reading n)) (turned q (taking n)) (planned p c) p js) (λ r p' left. warning n (Some (record { call = c; start = p })) (later q r) x r p' left)) (λ js. rw k refl)
+        (followed-lawful last Any (Returned q) (effect (free n) (unlink n) (children n) (numbered (reading n)) (turned q (taking n)) (planned p c) p) (λ r p' left. warning n (Some (record { call = c; start = p })) (later q r) x r p' left)
+        (plan-lawful n ih q (planned p c) p last) (λ r p' l w. ih.warning q x r (Some (record { call = c; start = p })) p' l))
 
 warning-lawful : (n : ℕ) → AllLawful n → (q : Ask) (x : Obj) (r : Reply) (about : Option CallStart) (p : Pool) (last : Last) → Lawful last (Returned q) (warning (suc n) about (later q r) x r p)
 warning-lawful n ih q x r about p last =
@@ -326,6 +353,73 @@ later-lawful n ih q r about p last =
 
 returning-lawful : (n : ℕ) (q : Ask) (v : ℕ) (p : Pool) (last : Last) → Returned q v last → Lawful last (Returned q) (returning (suc n) v p)
 returning-lawful n q v p last h = ended-lawful last (Returned q) v p h
+
+-- ---- turns of the event loop
+
+clocked-lawful : (timed : ℕ → Work ℕ) (p : Pool) (last : Last) → ((now : ℕ) (l : Last) → Lawful l Any (timed now p)) → Lawful last Any (asks (Asked ask.Clock) (clocked timed) p)
+clocked-lawful timed p last h = asks-lawful last Any ask.Clock (clocked timed) p
+    (λ i w e. (let t = clocked-by timed i w e in subst (λ (u : Work ℕ). Lawful (returned_by ask.Clock i) Any (u p)) (sym t.1) (h t.0 (returned_by ask.Clock i))))
+
+taking-lawful : (n : ℕ) → AllLawful n → (p : Pool) (last : Last) → Lawful last Any (taking (suc n) p)
+taking-lawful n ih p last = each (first p.soon) refl
+  where
+    due : first p.soon ≡ None → (o : Option Due) → first p.times ≡ o → Lawful last Any (taking (suc n) p)
+    due e None k = same-lawful last Any (taking (suc n) p) (polling n wait_limit p) (λ js. rw (e, k) refl) (ih.polling wait_limit p last)
+    due e (Some d) k = by_test (nat_eq d.time 0)
+        (λ t. same-lawful last Any (taking (suc n) p) (starting n ForTimer d.object 0 (disarm p d.object)) (λ js. rw (e, k, t) refl) (ih.starting ForTimer d.object 0 (disarm p d.object) last))
+        (λ t. same-lawful last Any (taking (suc n) p) (timing n false p) (λ js. rw (e, k, t) refl) (ih.timing false p last))
+
+    each : (o : Option Obj) → first p.soon ≡ o → Lawful last Any (taking (suc n) p)
+    each None e = due e (first p.times) refl
+    each (Some x) e = same-lawful last Any (taking (suc n) p) (starting n ForImmediate x 0 (unschedule p x)) (λ js. rw e refl) (ih.starting ForImmediate x 0 (unschedule p x) last)
+
+timed-lawful : (n : ℕ) → AllLawful n → (again : Bool) (now : ℕ) (p : Pool) (last : Last) → Lawful last Any (timed (suc n) again now p)
+timed-lawful n ih again now p last = each again (first p.times) refl
+  where
+    each : (again : Bool) (o : Option Due) → first p.times ≡ o → Lawful last Any (timed (suc n) again now p)
+    each again None e = same-lawful last Any (timed (suc n) again now p) (closing n 0 p) (λ js. rw e refl) (ih.closing 0 p last)
+    each again (Some d) e = by_test (nat_le d.time now)
+        (λ t. same-lawful last Any (timed (suc n) again now p) (starting n ForTimer d.object now (disarm p d.object)) (λ js. rw (e, t) refl) (ih.starting ForTimer d.object now (disarm p d.object) last))
+        (λ t. early again d e t)
+      where
+        early : (again : Bool) (d : Due) → first p.times ≡ Some d → nat_le d.time now ≡ false → Lawful last Any (timed (suc n) again now p)
+        early true d e t = same-lawful last Any (timed (suc n) true now p) (closing n 0 p) (λ js. rw (e, t) refl) (ih.closing 0 p last)
+        early false d e t = same-lawful last Any (timed (suc n) false now p) (polling n (d.time - now) p) (λ js. rw (e, t) refl) (ih.polling (d.time - now) p last)
+
+polling-lawful : (n : ℕ) → AllLawful n → (limit : ℕ) (p : Pool) (last : Last) → Lawful last Any (polling (suc n) limit p)
+polling-lawful n ih limit p last = asks-lawful last Any (ask.Wait limit) _ p next
+  where
+    looked : List Want → Work ℕ
+    looked wants q is = (if looks_again q wants then timing n true else closing n 0) q is
+
+    next : (i : Input) (w : Work ℕ) → polled limit looked i ≡ Some w → Lawful (returned_by (ask.Wait limit) i) Any (w p)
+    next i w e =
+        let t = polled-by limit looked i w e in
+        let l : Last = returned_by (ask.Wait limit) i in
+        subst (λ (u : Work ℕ). Lawful l Any (u p)) (sym t.1) (by_test (looks_again p t.0)
+        (λ a. same-lawful l Any (looked t.0 p) (timing n true p) (λ js. rw a refl) (ih.timing true p l))
+        (λ a. same-lawful l Any (looked t.0 p) (closing n 0 p) (λ js. rw a refl) (ih.closing 0 p l)))
+
+starting-lawful : (n : ℕ) → AllLawful n → (what : What) (x : Obj) (now : ℕ) (p : Pool) (last : Last) → Lawful last Any (starting (suc n) what x now p)
+starting-lawful n ih what x now p last = each (handler_for p what x) refl
+  where
+    each : (o : Option Handler) → handler_for p what x ≡ o → Lawful last Any (starting (suc n) what x now p)
+    each None e = same-lawful last Any (starting (suc n) what x now p) (closing n 1 p) (λ js. rw e refl) (ih.closing 1 p last)
+    each (Some h) e = same-lawful last Any (starting (suc n) what x now p) (firing n what x h now (set_mark p x mark.Busy)) (λ js. rw e refl) (ih.firing what x h now (set_mark p x mark.Busy) last)
+
+firing-lawful : (n : ℕ) → AllLawful n → (what : What) (x : Obj) (h : Handler) (now : ℕ) (p : Pool) (last : Last) → Lawful last Any (firing (suc n) what x h now p)
+firing-lawful n ih what x h now p last = told-lawful last Any (scene_of (Told (Fired what x h.routine)) p) (handling n what x h now p) tt (λ is. (refl, refl)) (ih.handling what x h now p None)
+
+handling-lawful : (n : ℕ) → AllLawful n → (what : What) (x : Obj) (h : Handler) (now : ℕ) (p : Pool) (last : Last) → Lawful last Any (handling (suc n) what x h now p)
+handling-lawful n ih what x h now p last =
+    followed-lawful last (Returned (ask.Routine (handler_moment what x h now))) Any (asked n (ask.Routine (handler_moment what x h now)) p) _ (ih.asked (ask.Routine (handler_moment what x h now)) p last)
+    (λ v q l k. ih.handled what x q l)
+
+handled-lawful : (n : ℕ) → AllLawful n → (what : What) (x : Obj) (p : Pool) (last : Last) → Lawful last Any (handled (suc n) what x p)
+handled-lawful n ih what x p last = by_test (goes_after p what x)
+    (λ t. same-lawful last Any (handled (suc n) what x p) (λ js. followed (free n x (set_mark p x mark.Quiet) js) (λ a q left. closing n 1 q left)) (λ js. rw t refl)
+    (followed-lawful last Any Any (free n x (set_mark p x mark.Quiet)) (λ a q left. closing n 1 q left) (ih.free x (set_mark p x mark.Quiet) last) (λ a q l k. ih.closing 1 q l)))
+    (λ t. same-lawful last Any (handled (suc n) what x p) (closing n 1 (set_mark p x mark.Quiet)) (λ js. rw t refl) (ih.closing 1 (set_mark p x mark.Quiet) last))
 
 -- each turn rests on one turn less
 pub all-lawful : (n : ℕ) → AllLawful n
@@ -345,6 +439,16 @@ all-lawful zero = record {
   warning = λ q x r about p last. short-lawful last (Returned q);
   later = λ q r about p last. short-lawful last (Returned q);
   returning = λ q v p last h. short-lawful last (Returned q);
+  taking = λ p last. short-lawful last Any;
+  timing = λ again p last. short-lawful last Any;
+  timed = λ again now p last. short-lawful last Any;
+  polling = λ limit p last. short-lawful last Any;
+  starting = λ what x now p last. short-lawful last Any;
+  firing = λ what x h now p last. short-lawful last Any;
+  handling = λ what x h now p last. short-lawful last Any;
+  handled = λ what x p last. short-lawful last Any;
+  reading = λ p last. short-lawful last Any;
+  closing = λ v p last. short-lawful last Any;
 }
 all-lawful (suc n) =
     let ih : AllLawful n = all-lawful n in
@@ -364,6 +468,16 @@ all-lawful (suc n) =
       warning = warning-lawful n ih;
       later = later-lawful n ih;
       returning = returning-lawful n;
+      taking = taking-lawful n ih;
+      timing = λ again p last. clocked-lawful (timed n again) p last (λ now l. ih.timed again now p l);
+      timed = timed-lawful n ih;
+      polling = polling-lawful n ih;
+      starting = starting-lawful n ih;
+      firing = firing-lawful n ih;
+      handling = handling-lawful n ih;
+      handled = handled-lawful n ih;
+      reading = λ p last. clocked-lawful (closing n) p last (λ now l. ih.closing now p l);
+      closing = λ v p last. ended-lawful last Any v p tt;
     }
 
 -- the items of an outcome
