@@ -1,5 +1,5 @@
 -- What each step of a turn keeps of what holds at every moment.
-use Rattle.std.proofs.Common.{◌≡◌, ◌≢◌, ℕ, suc, zero, List, [], ◌∷◌, ◌++◌, Option, Some, None, true, false, refl, sym, ◌∙◌, ap, subst, inl, inr}
+use Rattle.std.proofs.Common.{◌≡◌, ℕ, suc, zero, List, [], ◌∷◌, ◌++◌, Option, Some, None, true, false, refl, sym, ◌∙◌, ap, subst, inl, inr}
 use Rattle.tree_specs.specs.declared.object.Obj.{Obj}
 use Rattle.tree_specs.specs.declared.row.Row.{Row}
 use Rattle.tree_specs.specs.declared.row.Mark.TheVariants.{Quiet, Busy}
@@ -17,7 +17,7 @@ use Rattle.tree_specs.specs.Words.Objects.{same}
 use Rattle.tree_specs.specs.Tree.Targets.{target_of, newest_ref}
 use Rattle.tree_specs.specs.Tree.Pool.{Pool, row_of, target_at, changed, set_mark, marked_row}
 use Rattle.tree_specs.specs.Events.Coming.{handler_for, handler_moment, goes_after}
-use Rattle.tree_specs.specs.Machine.Profiles.{Phase, InHandler, turn_profile}
+use Rattle.tree_specs.specs.Machine.Profiles.{InHandler, turn_profile}
 use Rattle.tree_specs.specs.Machine.Table.{Step, starting_step, turn_step}
 use Rattle.tree_specs.specs.Invariants.Sound.{phase_of, phases, claim, claim_by, claims, footing, AllWait, IsLive, IsReferable, IsTurned, Rests, Sound}
 use Rattle.tree_specs.proofs.Tree.Numbered.{by_test, same-equal, same-false}
@@ -25,7 +25,7 @@ use Rattle.tree_specs.proofs.Tree.Rows.{row_of-changed-same}
 use Rattle.tree_specs.proofs.Tree.Referring.{unreferred, newest-changed}
 use Rattle.tree_specs.proofs.Invariants.Changes.{run-refers, run-unreferred, handling-row, claim-here, stands, goes_on, waiting-sound, changed-sound, shape-of, live-owned, marks-place}
 use Rattle.tree_specs.proofs.Invariants.KeptFrees.{KeptBy, ended}
-use Rattle.tree_specs.proofs.Invariants.Turning.{Ready, handler-ready, IsPlain, plain-closing, Passes, Pass, look-passes, taken-plain}
+use Rattle.tree_specs.proofs.Invariants.Turning.{Ready, handler-ready, IsPlain, Passes, Pass, look-passes, taken-plain}
 
 -- a work that says nothing of an object, over the same rows, in the place of another one
 plain-sound : (f g : TurnFrame) (steps : ℕ) (fs : List Frame) (p q : Pool) → q.rows ≡ p.rows → q.next ≡ p.next → (turn_profile f).claims ≡ None → IsPlain g steps → IsTurned (footing fs) → Sound (frame.Turn f) fs p → Sound (frame.Turn g) fs q

@@ -37,7 +37,7 @@ use Rattle.tree_specs.proofs.Tree.Rows.{row_of-without-same, row_of-without-othe
 use Rattle.tree_specs.proofs.Promises.Later.{later-rows, later-same, later-placed, later-marked, later-removed}
 use Rattle.tree_specs.proofs.Promises.Past.{IsLeaving, past-goes, past-tells, unfreed, unaccepted, Accounts, past-drops, undropped}
 use Rattle.tree_specs.proofs.Promises.Causes.{NotedWork, told, StandsOn, Stacked, IsRefusedFor, IsAsAtStart, HasJustBegun, RanAtStart, HasRunFor, IsFreeOf, OfNext, Cause}
-use Rattle.tree_specs.proofs.Invariants.Waiters.{Waiter, ForFree, ForRun, ForChild, waiter}
+use Rattle.tree_specs.proofs.Invariants.Waiters.{Waiter, ForFree, ForRun, waiter}
 use Rattle.tree_specs.proofs.Promises.Fitting.{fits-moved, fits-dropped}
 use Rattle.tree_specs.proofs.Promises.Fine.{work_of, Known, FineBy, restacked, of-next, from-next, ReplyCause, AnswersTo, resumed, known-told}
 

@@ -1,5 +1,5 @@
 -- The steps of frees.
-use Rattle.tree_specs.specs.Machine.Profiles.{InRun, InLoop, Phase}
+use Rattle.tree_specs.specs.Machine.Profiles.{InRun, InLoop}
 use Rattle.std.proofs.Common.{◌≡◌, ℕ, List, [], ◌∷◌, ◌++◌, Option, Some, None, true, false, nat_eq, refl, ◌∙◌, ap, subst, inl, map}
 use Rattle.std.specs.List.{list_any}
 use Rattle.step_machine.specs.Machine.{Move as Do}
@@ -8,7 +8,6 @@ use Rattle.tree_specs.specs.declared.object.Obj.{Obj}
 use Rattle.tree_specs.specs.declared.object.Owner.{Owner}
 use Rattle.tree_specs.specs.declared.object.Owner.TheVariants.{Of}
 use Rattle.tree_specs.specs.declared.row.Row.{Row}
-use Rattle.tree_specs.specs.declared.row.Mark.{Mark}
 use Rattle.tree_specs.specs.declared.row.Mark.TheVariants as mark
 use Rattle.tree_specs.specs.declared.question.Ask.TheVariants as ask
 use Rattle.tree_specs.specs.declared.event.Event.TheVariants.{Accepted, Refused, Moved, Freed, Unreferenced}
@@ -27,8 +26,8 @@ use Rattle.tree_specs.specs.Rules.Sequence.{CallStart, Scene}
 use Rattle.tree_specs.specs.Rules.Story.{hook_moment}
 use Rattle.tree_specs.specs.Machine.Table.{notes, lifted, judge_step, last_step, loop_step, hand_on_step, child_step}
 use Rattle.tree_specs.specs.Promises.Orderly.{frees, accepts}
-use Rattle.tree_specs.specs.Promises.Grounded.{IsItem, is_asked, is_asked_row, is_asked_mark}
-use Rattle.tree_specs.specs.Invariants.Sound.{IsLive, claims, ValidAt, phases}
+use Rattle.tree_specs.specs.Promises.Grounded.{IsItem, is_asked}
+use Rattle.tree_specs.specs.Invariants.Sound.{IsLive, claims, ValidAt}
 use Rattle.tree_specs.specs.Invariants.Consistent.{IsConsistent}
 use Rattle.tree_specs.proofs.Tree.Numbered.{by_test}
 use Rattle.tree_specs.proofs.Tree.Rows.{row_of-changed-same, row_of-without-same}
@@ -36,7 +35,7 @@ use Rattle.tree_specs.proofs.Invariants.Changes.{heir-placed, running-row, dying
 use Rattle.tree_specs.proofs.Promises.Later.{IsPast, later-same, later-placed, later-marked, later-hooked, later-left, later-removed}
 use Rattle.tree_specs.proofs.Promises.Past.{past-goes, past-tells, past-accepts, past-frees, unfreed, unaccepted, Accounts, any-as-before}
 use Rattle.tree_specs.proofs.Promises.Causes.{NotedWork, told, StandsOn, Stacked, IsRefusedFor}
-use Rattle.tree_specs.proofs.Invariants.Waiters.{Waiter, ForFree, ForRun, ForChild}
+use Rattle.tree_specs.proofs.Invariants.Waiters.{Waiter, ForFree}
 use Rattle.tree_specs.proofs.Promises.Fitting.{last-more, fits-accepted, fits-refused, fits-freed, fits-moved}
 use Rattle.tree_specs.proofs.Promises.Fine.{work_of, Known, FineBy, restacked, of-next, known-told}
 use Rattle.tree_specs.proofs.Promises.FineDrops.{At, over-fine, dropped-fine}

@@ -1,6 +1,5 @@
 -- The steps of a turn tell what is fine.
 use Rattle.std.proofs.Common.{◌≡◌, ℕ, List, [], ◌∷◌, ◌++◌, Option, Some, None, true, false, refl, sym, ◌∙◌, ap, subst, map}
-use Rattle.std.specs.List.{list_any}
 use Rattle.step_machine.specs.Machine.{Move as Do}
 use Rattle.step_machine.specs.Noted.{scene, with_note, noted_work}
 use Rattle.tree_specs.specs.declared.object.Obj.{Obj}
@@ -28,7 +27,7 @@ use Rattle.tree_specs.specs.Rules.Items.{Item}
 use Rattle.tree_specs.specs.Rules.Items.Item.{Told, Asked}
 use Rattle.tree_specs.specs.Rules.Sequence.{CallStart, Scene}
 use Rattle.tree_specs.specs.Machine.Table.{Step, notes, taken, starting_step, turn_step, turn_taken}
-use Rattle.tree_specs.specs.Promises.Orderly.{is_hook, asks_hook, frees}
+use Rattle.tree_specs.specs.Promises.Orderly.{is_hook, asks_hook}
 use Rattle.tree_specs.specs.Promises.Grounded.{may_fire, may_fire_row}
 use Rattle.tree_specs.specs.Machine.Profiles.{InHandler}
 use Rattle.tree_specs.specs.Invariants.Sound.{claims}

@@ -14,7 +14,7 @@ use Rattle.tree_specs.specs.declared.call.Call.TheVariants as call
 use Rattle.tree_specs.specs.declared.reply.Reply.{Reply}
 use Rattle.tree_specs.specs.declared.reply.Reply.TheVariants as reply
 use Rattle.tree_specs.specs.declared.reply.Refusal.{Refusal}
-use Rattle.tree_specs.specs.declared.event.Event.TheVariants.{Accepted, Moved, Unreferenced}
+use Rattle.tree_specs.specs.declared.event.Event.TheVariants.{Accepted, Unreferenced}
 use Rattle.tree_specs.specs.declared.question.Ask.TheVariants as ask
 use Rattle.tree_specs.specs.declared.question.Input.{Input}
 use Rattle.tree_specs.specs.declared.free_step.FreeReply.{FreeReply}
@@ -22,13 +22,13 @@ use Rattle.tree_specs.specs.declared.free_step.FreeReply.TheVariants as free_rep
 use Rattle.tree_specs.specs.Tree.Targets.{newest_ref}
 use Rattle.tree_specs.specs.Tree.Pool.{Pool, row_of, owner_of, newest_ref_of, remove, set_mark, doom, set_hook, is_inside}
 use Rattle.tree_specs.specs.Calls.Refusals.{Check, refusals}
-use Rattle.tree_specs.specs.Calls.Plans.{Plan, plan, planned, frees, unless_refused, changed_by}
+use Rattle.tree_specs.specs.Calls.Plans.{Plan, plan, frees, changed_by}
 use Rattle.tree_specs.specs.Calls.Plans.Plan.{Does, Frees, Unlinks, Empties, AsksTime, Turns}
 use Rattle.tree_specs.specs.Rules.Items.Item.{Told}
 use Rattle.tree_specs.specs.Rules.Sequence.{Work, Scene}
 use Rattle.tree_specs.specs.Rules.Story.{hook_moment, effect, unlink, release, given, free, hooked, judged, dooming, leave, children, asked, freed_reply, numbered, turned, taking, reading}
 use Rattle.tree_specs.specs.declared.question.Ask.TheVariants.{Quiet as AtRest}
-use Rattle.tree_specs.specs.Promises.Refused.{called, Untouched, OnlyDropped, AfterItsRun, told_refusal, doomed, LeftByFree, LeftByItsFree, LeftByRefused}
+use Rattle.tree_specs.specs.Promises.Refused.{called, Untouched, OnlyDropped, told_refusal, doomed, LeftByFree, LeftByItsFree, LeftByRefused}
 use Rattle.tree_specs.proofs.Tree.Numbered.{by_test}
 use Rattle.tree_specs.proofs.Rules.FreeCauses.{leave-ok, given-ok}
 

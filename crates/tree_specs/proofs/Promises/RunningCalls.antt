@@ -1,5 +1,5 @@
 -- A call is refused as running only where the object ran when the call began.
-use Rattle.std.proofs.Common.{◌≡◌, ℕ, List, [], ◌∷◌, Option, Some, None, true, refl, sym, ◌∙◌, subst}
+use Rattle.std.proofs.Common.{◌≡◌, ℕ, List, [], ◌∷◌, Option, Some, None, true, subst}
 use Rattle.step_machine.specs.Machine.Outcome.{Ended}
 use Rattle.step_machine.proofs.Uses.{ended-followed}
 use Rattle.tree_specs.specs.declared.object.Obj.{Obj}

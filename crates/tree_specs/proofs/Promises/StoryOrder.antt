@@ -10,8 +10,8 @@ use Rattle.tree_specs.specs.declared.question.Input.{Input}
 use Rattle.tree_specs.specs.declared.question.Ask.TheVariants.{Quiet}
 use Rattle.tree_specs.specs.declared.frame.Frame.{Frame}
 use Rattle.tree_specs.specs.declared.frame.Frame.TheVariants as frame
-use Rattle.tree_specs.specs.declared.frame.CallFrame.TheVariants.{Asking, Doing, Awaiting, Warning, Telling, Returning}
-use Rattle.tree_specs.specs.declared.frame.FreeFrame.TheVariants.{Unlinking, Releasing, Giving, Beginning, Hooked, Judged, Dooming, Leaving, Looping, FreeingChild, AfterChild, Ending}
+use Rattle.tree_specs.specs.declared.frame.CallFrame.TheVariants.{Asking, Doing, Warning, Telling, Returning}
+use Rattle.tree_specs.specs.declared.frame.FreeFrame.TheVariants.{Unlinking, Releasing, Giving, Beginning, Hooked, Judged, Dooming, Leaving, Looping, AfterChild, Ending}
 use Rattle.tree_specs.specs.declared.frame.Answer.{Answer}
 use Rattle.tree_specs.specs.Tree.Pool.{Pool, empty}
 use Rattle.tree_specs.specs.Rules.Items.{Item}

@@ -18,7 +18,7 @@ use Rattle.tree_specs.specs.Rules.Story.{items}
 use Rattle.tree_specs.specs.Machine.Table.{table, notes, resume}
 use Rattle.tree_specs.specs.Machine.View.{View, rest_of}
 use Rattle.tree_specs.specs.Invariants.Consistent.{IsConsistent}
-use Rattle.tree_specs.specs.Machine.Meaning.{noted_table, mean, continued, run_of, text_rest, stated}
+use Rattle.tree_specs.specs.Machine.Meaning.{noted_table, continued, run_of, text_rest, stated}
 use Rattle.tree_specs.proofs.Rules.Means.{run-means}
 use Rattle.tree_specs.proofs.Rules.Rest.{most, well, outcome, rest-enough, rest-is-walk, walk-whole, walk-long, not-short}
 use Rattle.tree_specs.proofs.Turns.Bound.{cost-turns}

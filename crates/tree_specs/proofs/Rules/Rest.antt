@@ -11,7 +11,7 @@ use Rattle.tree_specs.specs.declared.frame.Frame.{Frame}
 use Rattle.tree_specs.specs.declared.frame.Frame.TheVariants as frame
 use Rattle.tree_specs.specs.declared.frame.CallFrame.TheVariants.{Asking, Doing, Awaiting, Turning, Warning, Telling, Returning}
 use Rattle.tree_specs.specs.declared.frame.TurnFrame.{TurnFrame}
-use Rattle.tree_specs.specs.declared.frame.TurnFrame.TheVariants.{Taking, Timing, Timed, Polling, Starting, Firing, Handling, Handled, Clearing, Reading, Closing}
+use Rattle.tree_specs.specs.declared.frame.TurnFrame.TheVariants.{Taking, Timing, Timed, Polling, Starting, Handled, Reading}
 use Rattle.tree_specs.specs.declared.handler.Handler.{Handler}
 use Rattle.tree_specs.specs.declared.question.Ask.TheVariants.{Quiet, Clock, Wait}
 use Rattle.tree_specs.specs.Events.Coming.{handler_for, goes_after}

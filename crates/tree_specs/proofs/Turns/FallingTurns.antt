@@ -1,5 +1,5 @@
 -- Each step of a turn lowers the measure.
-use Rattle.std.proofs.Common.{◌≡◌, ℕ, suc, zero, ◌+◌, ◌*◌, ◌≤◌, ◌<◌, List, [], ◌∷◌, length, Option, Some, None, true, false, refl, sym, ap, subst, arith}
+use Rattle.std.proofs.Common.{◌≡◌, ℕ, suc, zero, ◌+◌, ◌*◌, ◌<◌, List, ◌∷◌, Option, Some, None, refl, sym, ap, subst, arith}
 use Rattle.tree_specs.specs.declared.object.Obj.{Obj}
 use Rattle.tree_specs.specs.declared.row.Mark.TheVariants.{Quiet, Busy}
 use Rattle.tree_specs.specs.declared.handler.Handler.{Handler}
@@ -10,8 +10,7 @@ use Rattle.tree_specs.specs.declared.frame.CallFrame.TheVariants.{Turning}
 use Rattle.tree_specs.specs.declared.frame.TurnFrame.{TurnFrame}
 use Rattle.tree_specs.specs.declared.frame.TurnFrame.TheVariants.{Taking, Timing, Timed, Polling, Starting, Firing, Handling, Handled, Clearing, Reading, Closing}
 use Rattle.tree_specs.specs.declared.frame.Answer.TheVariants.{Turned}
-use Rattle.tree_specs.specs.Tree.Pool.{Pool, row_of, changed, marked_row}
-use Rattle.tree_specs.specs.Tree.Inside.{total}
+use Rattle.tree_specs.specs.Tree.Pool.{Pool, row_of, marked_row}
 use Rattle.tree_specs.specs.Events.Coming.{handler_for, goes_after}
 use Rattle.tree_specs.specs.Machine.Profiles.{InHandler, turn_profile}
 use Rattle.tree_specs.specs.Machine.Table.{Step, resume, starting_step, turn_step}

@@ -10,8 +10,8 @@ use Rattle.tree_specs.specs.declared.question.Ask.{Ask}
 use Rattle.tree_specs.specs.declared.question.Ask.TheVariants.{Quiet}
 use Rattle.tree_specs.specs.declared.frame.Frame.{Frame}
 use Rattle.tree_specs.specs.declared.frame.Frame.TheVariants as frame
-use Rattle.tree_specs.specs.declared.frame.CallFrame.TheVariants.{Warning, Telling, Asking, Doing, Awaiting, Returning}
-use Rattle.tree_specs.specs.declared.frame.FreeFrame.TheVariants.{Hooked, Unlinking, Releasing, Giving, Beginning, Judged, Dooming, Leaving, Looping, FreeingChild, AfterChild, Ending}
+use Rattle.tree_specs.specs.declared.frame.CallFrame.TheVariants.{Warning, Telling, Asking, Doing, Returning}
+use Rattle.tree_specs.specs.declared.frame.FreeFrame.TheVariants.{Hooked, Unlinking, Releasing, Giving, Beginning, Judged, Dooming, Leaving, Looping, AfterChild, Ending}
 use Rattle.tree_specs.specs.declared.frame.Answer.{Answer}
 use Rattle.tree_specs.specs.Tree.Pool.{Pool}
 use Rattle.tree_specs.specs.Rules.Items.{Item}

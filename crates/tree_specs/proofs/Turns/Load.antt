@@ -41,7 +41,7 @@ use Rattle.tree_specs.specs.declared.frame.Answer.{Answer}
 use Rattle.tree_specs.specs.declared.frame.Answer.TheVariants.{Freed, Returned, Turned}
 use Rattle.tree_specs.specs.declared.free_step.FreeReply.{FreeReply}
 use Rattle.tree_specs.specs.declared.free_step.FreeReply.TheVariants.{Ok, Running, Refused, Held}
-use Rattle.tree_specs.specs.Tree.Pool.{Pool, row_of, is_below, owner_of, first_kid, changed, left_row, set_mark, marked_row, hooked_row, target_at, noted_owner, newest_ref_of, is_inside, remove}
+use Rattle.tree_specs.specs.Tree.Pool.{Pool, row_of, is_below, owner_of, first_kid, changed, left_row, marked_row, hooked_row, target_at, noted_owner, newest_ref_of, is_inside, remove}
 use Rattle.tree_specs.specs.Tree.Heirs.{heir}
 use Rattle.tree_specs.specs.Rules.Items.{Item}
 use Rattle.tree_specs.specs.Machine.Table.{Step, table, step, turning_step, turn_step, starting_step, lifted, begin_quiet, begin_step, judge_step, last_step, loop_step, hand_on_step, plan_step, resume, child_step, refs_step, unlink_step, release_step}

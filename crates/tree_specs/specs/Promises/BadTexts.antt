@@ -9,7 +9,7 @@ use Rattle.tree_specs.specs.declared.reply.Refusal.TheVariants.{Loop}
 use Rattle.tree_specs.specs.declared.free_step.FreeReply.{FreeReply}
 use Rattle.tree_specs.specs.declared.free_step.FreeReply.TheVariants.{Running}
 use Rattle.tree_specs.specs.Tree.Pool.{place, set_mark}
-use Rattle.tree_specs.specs.Rules.Sequence.{Work, ◌>>=◌, ◌>>◌, gives, change}
+use Rattle.tree_specs.specs.Rules.Sequence.{Work, ◌>>◌, gives, change}
 
 -- a free that marks a quiet object as asked and answers that it runs
 abbrev pub marks_a_quiet_object : Obj → Work FreeReply
