@@ -1,6 +1,6 @@
 -- What a plan asks for, what its change of the rows leaves so, and that a call which isn't refused may carry out its plan.
 use Rattle.std.proofs.Common.{ℕ, nat_eq, ◌≡◌, ◌≢◌, ◌≤◌, ◌+◌, ◌*◌, List, [], ◌∷◌, length, Option, Some, None, Bool, true, false, refl, sym, ◌∙◌, ap, subst, arith}
-use Rattle.std.specs.Prelude.{codes, if◌then◌else◌}
+use Rattle.std.specs.Prelude.{is_some, codes, if◌then◌else◌}
 use Rattle.tree_specs.specs.declared.object.Obj.{Obj}
 use Rattle.tree_specs.specs.declared.object.Owner.{Owner}
 use Rattle.tree_specs.specs.declared.object.Owner.TheVariants.{Root, Of}
@@ -18,8 +18,12 @@ use Rattle.tree_specs.specs.Tree.Targets.{target_of, newest_ref}
 use Rattle.tree_specs.specs.Tree.Inside.{total}
 use Rattle.tree_specs.specs.Invariants.Measure.{weight, mark_weight}
 use Rattle.tree_specs.specs.Invariants.Consistent.{deposit, mark_deposit}
-use Rattle.tree_specs.specs.Calls.Refusals.{Check, tests, refusals}
-use Rattle.tree_specs.specs.declared.test.Test.TheVariants.{IsObject}
+use Rattle.tree_specs.specs.Calls.Refusals.{Check, tests, refusals, is_immediate, is_doomed_mark}
+use Rattle.tree_specs.specs.declared.moment.What.TheVariants as what
+use Rattle.tree_specs.specs.Events.Coming.{comes_as}
+use Rattle.tree_specs.specs.Invariants.Awaiting.{MayCome}
+use Rattle.std.proofs.lemmas.Bool.{eq-eqb}
+use Rattle.tree_specs.specs.declared.test.Test.TheVariants.{IsObject, IsImmediate, IsNotDoomed}
 use Rattle.tree_specs.specs.Calls.Plans.{Change, Plan, changed_by, plan, planned, unless_refused, places, warns, frees, handed, gift}
 use Rattle.tree_specs.specs.Calls.Plans.Change.{Nothing, Edit, Add, Place, Handle, Schedule, Unschedule, Arm, Then}
 use Rattle.tree_specs.specs.Calls.Plans.Plan.{Does, Frees, Unlinks, Empties, AsksTime, Turns}
@@ -54,10 +58,10 @@ MayDo p Nothing = Unit {0}
 MayDo p (Edit x g) = MayBeEdited p x g
 MayDo p (Add kind o size name) = MayBeAdded p kind o
 MayDo p (Place o x) = MayBePlaced p o x
-MayDo p (Handle x handler) = Unit {0}
-MayDo p (Schedule x) = Unit {0}
+MayDo p (Handle x handler) = is_row p.rows x ≡ true
+MayDo p (Schedule x) = MayCome what.Immediate (row_of p.rows x) × (is_some (p.handlers x.0) ≡ true)
 MayDo p (Unschedule x) = Unit {0}
-MayDo p (Arm x time number) = Unit {0}
+MayDo p (Arm x time number) = MayCome what.Timer (row_of p.rows x) × (is_some (p.handlers x.0) ≡ true)
 MayDo p (Then first second) = MayDo p first × MayDo (changed_by first p) second
 
 -- how many rows it adds
@@ -189,6 +193,17 @@ module _ (f : Frame) (fs : List Frame) (p : Pool) (s : Sound f fs p) where
       let w = newest-of-refers p.rows from x r s.forest.distinct n in
       rw (t, n) (ref-placed f fs p to x r s (rw w.1 w.2) there, omega arith, tt)
 
+  -- an immediate that isn't doomed
+  scheduled : (x : Obj) → AllPassed p (IsObject x ∷ IsImmediate x ∷ IsNotDoomed x ∷ []) → MayCome what.Immediate (row_of p.rows x)
+  scheduled x h =
+      let k : is_immediate h.0.0.kind ≡ true = rw h.0.1 at h.1.0 in
+      let m : is_doomed_mark h.0.0.mark ≡ false = rw h.0.1 at h.1.1.0 in
+      rw h.0.1 (comes h.0.0.kind k, m)
+    where
+      comes : (k : Kind) → is_immediate k ≡ true → comes_as what.Immediate k ≡ true
+      comes kind.Immediate e = refl
+      comes _ e = cc
+
   each : (c : Call) → AllPassed p (tests c) → May p (plan p c)
   each (call.New o size name) h = (record { there = h.1.0; target = λ t e. cc }, omega arith, tt)
   each (call.Free x) h = freed x h.0 (newest_ref p.rows x) refl
@@ -212,9 +227,14 @@ module _ (f : Frame) (fs : List Frame) (p : Pool) (s : Sound f fs p) where
   each (call.Sum o) h = (tt, omega arith, tt)
   each (call.Report o) h = (tt, omega arith, tt)
   each (call.Immediate o) h = (record { there = h.0; target = λ t e. cc }, omega arith, tt)
-  each (call.Schedule x routine user) h = by_test (nat_eq routine 0) (λ t. rw t (tt, omega arith, tt)) (λ t. rw t ((tt, tt), omega arith, tt))
+  each (call.Schedule x routine user) h = by_test (nat_eq routine 0)
+      (λ t. rw t (tt, omega arith, tt))
+      (λ t. rw t ((rw h.0.1 refl, (scheduled x h, rw (eq-eqb x.0 x.0 refl) refl)), omega arith, tt))
   each (call.Unschedule x) h = (tt, omega arith, tt)
-  each (call.Timer o time routine user) h = ((record { there = h.0; target = λ t e. cc }, (tt, tt)), omega arith, tt)
+  each (call.Timer o time routine user) h =
+      let n : Obj = record { 0 = p.next } in
+      let self : same n n ≡ true = same-equal n n refl in
+      ((record { there = h.0; target = λ t e. cc }, (rw self refl, (rw self (refl, refl), rw self refl))), omega arith, tt)
   each call.Pending h = (tt, omega arith, tt)
   each call.Now h = tt
   each call.Turn h = tt

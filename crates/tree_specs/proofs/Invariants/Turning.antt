@@ -48,7 +48,7 @@ quiet-mark Quiet e = refl
 quiet-mark _ e = cc
 
 -- an event is neither plain nor a reference
-comes-event : (w : What) (k : Kind) → comes_as w k ≡ true → (target_of k ≡ None) × (is_plain k ≡ false)
+pub comes-event : (w : What) (k : Kind) → comes_as w k ≡ true → (target_of k ≡ None) × (is_plain k ≡ false)
 comes-event ForImmediate kind.Immediate e = (refl, refl)
 comes-event ForTimer kind.Timer e = (refl, refl)
 comes-event _ _ e = cc

@@ -1,0 +1,4 @@
+-- Events, and what waits for its turn.
+pub mod PendingLaws
+pub mod Awaiting
+pub mod AwaitingSteps
