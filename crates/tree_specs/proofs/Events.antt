@@ -2,3 +2,4 @@
 pub mod PendingLaws
 pub mod Awaiting
 pub mod AwaitingSteps
+pub mod AwaitingStories

@@ -1,5 +1,5 @@
 -- What waits for its turn at every moment: live events of their kinds, each with a handler.
-use Rattle.std.specs.Prelude.{◌≡◌, Bool, true, false, is_some, Option, Some, None}
+use Rattle.std.specs.Prelude.{◌≡◌, Bool, true, false, is_some, List, Option, Some, None}
 use Rattle.step_machine.specs.Machine.{Move}
 use Rattle.step_machine.specs.Machine.Move.{Done, Go, Emit, Wait, Call}
 use Rattle.tree_specs.specs.declared.object.Obj.{Obj}
@@ -10,6 +10,7 @@ use Rattle.tree_specs.specs.Tree.Pool.{Pool, row_of}
 use Rattle.tree_specs.specs.Events.Pending.{is_scheduled, is_armed}
 use Rattle.tree_specs.specs.Events.Coming.{comes_as}
 use Rattle.tree_specs.specs.Calls.Refusals.{is_doomed_mark}
+use Rattle.tree_specs.specs.Rules.Sequence.{Scene}
 
 -- an object is to come as this
 abbrev pub waits : What → Pool → Obj → Bool
@@ -26,6 +27,10 @@ pub record Awaits (p : Pool) : Type 0 where
   pub events : (what : What) (x : Obj) → waits what p x ≡ true → MayCome what (row_of p.rows x) × (is_some (p.handlers x.0) ≡ true)
   -- only objects have handlers
   pub handlers : (x : Obj) → row_of p.rows x ≡ None → p.handlers x.0 ≡ None
+
+-- so it is just before an item
+abbrev pub AwaitsBefore : List Scene → Scene → Type 0
+AwaitsBefore before s = Awaits s.before
 
 -- the pool after a step
 abbrev pub pool_after : {F A T : Type 0} → Move F A Pool T → Pool
