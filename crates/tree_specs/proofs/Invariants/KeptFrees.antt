@@ -31,7 +31,7 @@ use Rattle.tree_specs.specs.Rules.Story.{hook_moment}
 use Rattle.tree_specs.specs.Machine.Table.{table, step, lifted, begin_quiet, begin_step, drop_step, refs_step, unlink_step, release_step, judge_step, last_step, child_step, loop_step, hand_on_step, reply_in, resume}
 use Rattle.tree_specs.specs.Tree.Heirs.{heir}
 use Rattle.tree_specs.specs.Invariants.Sound.{Owned, Shaped, ValidAt, phase_of, phases, claim, claims, AllWait, IsLive, IsReferable, NotedFor, Tries, StillThere, Refers, IsQuietRow, IsOver, MayAnswer, IsCalled, IsGivenUp, MayBePlaced, Sound, Footing, footing}
-use Rattle.tree_specs.specs.Invariants.Sound.Footing.{OnCall, OnFree, OnTurn, AtBottom}
+use Rattle.tree_specs.specs.Invariants.Sound.Footing.{OnCall, OnFree, AtBottom}
 use Rattle.tree_specs.proofs.Tree.Numbered.{by_test, same-equal, same-false}
 use Rattle.tree_specs.proofs.Tree.Rows.{row_of-changed-other, row_of-changed-same, row_of-without-other, row_of-without-same, first_kid-owner}
 use Rattle.tree_specs.proofs.Tree.Rooted.{forest-left, forest-without, is_there-owner}
@@ -192,6 +192,7 @@ may-hold x r (g ∷ gs) p s newest = below g (waiter g gs s.waiting.0) s.rests.0
   where
     below : (g : Frame) → Waiter g → Tries x (footing (g ∷ gs)) p → MayAnswer Held (footing (g ∷ gs))
     below _ (ForFree q y) t = let bad : None ≡ Some r = sym t ∙ newest in cc
+    below _ (ForClear y) t = let bad : None ≡ Some r = sym t ∙ newest in cc
     below _ _ t = tt
 
 drops : (x r : Obj) (fs : List Frame) (p : Pool) (k : ℕ) → Sound (frame.Free (Beginning x)) fs p → newest_ref p.rows x ≡ Some r → KeptBy (lifted (drop_step x r p)) fs k
@@ -228,7 +229,6 @@ tries-same x (OnFree (FreeingChild y d noted purpose)) p q none none' o t = (
   ],
 )
 tries-same x OnCall p q none none' o t = none'
-tries-same x OnTurn p q none none' o t = none'
 tries-same x AtBottom p q none none' o t = tt
 tries-same x _ p q none none' o t = absurd t
 
@@ -348,6 +348,7 @@ releasing x fs p k s = each (newest_ref p.rows x) refl
       where
         below : (g : Frame) → Waiter g → IsCalled (footing (g ∷ gs)) → Tries x (footing (g ∷ gs)) p
         below _ (ForFree q y) c = e
+        below _ (ForClear y) c = e
         below _ _ c = absurd c
 
     each : (n : Option Obj) → newest_ref p.rows x ≡ n → KeptBy (lifted (release_step x (newest_ref p.rows x) p)) fs k

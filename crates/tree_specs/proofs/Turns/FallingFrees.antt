@@ -158,10 +158,10 @@ looping-lower R x purpose fs p k s most = each (first_kid p.rows (Of x)) refl
         let n = length-without p.rows x r e in
         (omega (arith, n), omega (arith, u))
 
-    -- a call is what waits for a loop that only empties
+    -- a call or a turn is what waits for a loop that only empties
     called : (g : Frame) (gs : List Frame) → Stands Emptying (footing (g ∷ gs)) → top_cost R (resume g (Freed Ok)) gs p.rows < waiting_cost g + (4 * count p.rows (Of x) + 7)
     called (frame.Call (Awaiting q y)) gs c = omega arith
-    called (frame.Turn (Clearing y)) gs c = absurd c
+    called (frame.Turn (Clearing y)) gs c = omega arith
     called _ gs c = absurd c
 
     last : (purpose : Purpose) → Sound (frame.Free (Looping x purpose)) fs p → Lowers R (cost R (frame.Free (Looping x purpose)) fs p k) (lifted (last_step x purpose p)) fs k

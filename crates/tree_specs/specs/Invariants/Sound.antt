@@ -74,14 +74,12 @@ claims x (f ∷ fs) = claim x f ++ claims x fs
 -- ---- what a work stands on
 
 pub data Footing : Type 0 where
-  -- the call that waits for it
+  -- the call, or the turn, that waits for it
   OnCall : Footing
   -- a free
   OnFree : FreeFrame → Footing
   -- the call that waits for a turn
   OnTurning : Footing
-  -- a turn that waits for the freeing of an event
-  OnTurn : Footing
   -- a work that waits for no free
   OnOther : Footing
   AtBottom : Footing
@@ -91,7 +89,7 @@ footing [] = AtBottom
 footing (frame.Free f ∷ fs) = OnFree f
 footing (frame.Call (Awaiting q x) ∷ fs) = OnCall
 footing (frame.Call (Turning q) ∷ fs) = OnTurning
-footing (frame.Turn (Clearing x) ∷ fs) = OnTurn
+footing (frame.Turn (Clearing x) ∷ fs) = OnCall
 footing (_ ∷ fs) = OnOther
 
 abbrev pub IsCalled : Footing → Type 0
@@ -156,7 +154,6 @@ NotedFor x c noted p = (noted ≡ noted_owner p.rows c) ⊎ (noted ≢ Some (Of 
 abbrev pub Tries : Obj → Footing → Pool → Type 0
 Tries c (OnFree (FreeingChild x d noted purpose)) p = (d ≡ c) × (owner_of p.rows c ≡ Some (Of x)) × NotedFor x c noted p
 Tries c OnCall p = newest_ref p.rows c ≡ None
-Tries c OnTurn p = newest_ref p.rows c ≡ None
 Tries c AtBottom p = Unit {0}
 Tries c _ p = ⊥
 
@@ -237,7 +234,8 @@ pub record Sound (f : Frame) (fs : List Frame) (p : Pool) : Type 0 where
   -- each number stands once, the owner of each row is the root or a row, and from owner to owner one comes to an end
   pub forest : IsForest p.rows
   pub refers : Refers p.rows
-  -- each object that runs or is dying is in exactly one open free, and no other object is
+  -- each object whose destructor runs, or that is dying, is in exactly one open free, and each whose handler runs in exactly
+  -- one open turn; no other object is
   pub open_frees : (x : Obj) → claim x f ++ claims x fs ≡ phases (row_of p.rows x)
   pub waiting : AllWait fs
   pub rests : Rests f fs p
