@@ -5,54 +5,110 @@ use crate::object::{Obj, Owner};
 #[derive(Debug, Drop)]
 pub enum Call {
     /// `new P SIZE NAME`: a plain object below an owner, its size in bytes. The reply is its number.
-    New { owner: Owner, size: u64, name: Name },
+    New {
+        owner: Owner,
+        size: u64,
+        name: Name,
+    },
     /// `free X`: gives up the object with all that is below it, as `talloc_free` does.
-    Free { x: Obj },
+    Free {
+        x: Obj,
+    },
     /// `freekids X`: gives up all that is below the object, as `talloc_free_children` does.
-    Freekids { x: Obj },
+    Freekids {
+        x: Obj,
+    },
     /// `steal P X`: puts the object below another owner, as `talloc_steal` does.
-    Steal { owner: Owner, x: Obj },
+    Steal {
+        owner: Owner,
+        x: Obj,
+    },
     /// `move P X`: the same, where the reply is the object, as `talloc_move` gives it.
-    Move { owner: Owner, x: Obj },
+    Move {
+        owner: Owner,
+        x: Obj,
+    },
     /// `reparent OLD NEW X`: the same, where `from` must be its owner, as `talloc_reparent` does; or `from` owns
     /// references to it, and the newest of these goes to `to`.
-    Reparent { from: Owner, to: Owner, x: Obj },
+    Reparent {
+        from: Owner,
+        to: Owner,
+        x: Obj,
+    },
     /// `reference P X`: a reference to a plain object below an owner, as `talloc_reference` makes it. The reply is its
     /// number.
-    Reference { owner: Owner, x: Obj },
+    Reference {
+        owner: Owner,
+        x: Obj,
+    },
     /// `unlink P X`: takes the owner's interest in the object away, as `talloc_unlink` does: its newest reference, or
     /// its owning it.
-    Unlink { owner: Owner, x: Obj },
+    Unlink {
+        owner: Owner,
+        x: Obj,
+    },
     /// `hook X R`: gives the object a destructor, the routine from 1 upwards, as `talloc_set_destructor` does.
-    Hook { x: Obj, routine: u32 },
+    Hook {
+        x: Obj,
+        routine: u32,
+    },
     /// `unhook X`: takes its destructor away.
-    Unhook { x: Obj },
+    Unhook {
+        x: Obj,
+    },
     /// `rename X NAME`: gives the object another name, as `talloc_set_name` does.
-    Rename { x: Obj, name: Name },
+    Rename {
+        x: Obj,
+        name: Name,
+    },
     /// `resize X SIZE`: gives the object another size in bytes, as `talloc_realloc_size` does.
-    Resize { x: Obj, size: u64 },
+    Resize {
+        x: Obj,
+        size: u64,
+    },
     /// `limit X MAX`: what is inside the object may count so many bytes together, as `talloc_set_memlimit` says; 0 is
     /// no limit.
-    Limit { x: Obj, max: u64 },
+    Limit {
+        x: Obj,
+        max: u64,
+    },
     /// `parent X`: the number of its owner, as `talloc_parent` tells.
-    Parent { x: Obj },
+    Parent {
+        x: Obj,
+    },
     /// `total P`: the sizes of all objects inside the owner, in bytes, as `talloc_total_size` tells.
-    Total { owner: Owner },
+    Total {
+        owner: Owner,
+    },
     /// `count P`: how many objects are inside the owner, as `talloc_total_blocks` tells; the root isn't one.
-    Count { owner: Owner },
+    Count {
+        owner: Owner,
+    },
     /// `sum P`: what the objects inside the owner count, in bytes: the size of each and 96 more, and nothing for a
     /// reference.
-    Sum { owner: Owner },
+    Sum {
+        owner: Owner,
+    },
     /// `report P`: a row for the owner and for all that is below it, as `talloc_report` writes them.
-    Report { owner: Owner },
+    Report {
+        owner: Owner,
+    },
     /// `immediate P`: an event below an owner that can be made to come as soon as it can, as `tevent_create_immediate`
     /// makes it. The reply is its number.
-    Immediate { owner: Owner },
+    Immediate {
+        owner: Owner,
+    },
     /// `schedule X R U`: the immediate comes as soon as it can, with the routine R and the user number U, as
     /// `tevent_schedule_immediate` says; it waits behind all that wait already. With 0 for R it doesn't come any more.
-    Schedule { x: Obj, routine: u32, user: u64 },
+    Schedule {
+        x: Obj,
+        routine: u32,
+        user: u64,
+    },
     /// `unschedule X`: the immediate doesn't come any more.
-    Unschedule { x: Obj },
+    Unschedule {
+        x: Obj,
+    },
     /// `timer P TIME R U`: an event below an owner that comes at a time in microseconds, from 0 to 2^62, with the routine
     /// R and the user number U, as `tevent_add_timer` makes it. The reply is its number.
     Timer {

@@ -1,5 +1,5 @@
 -- What each change of the pool leaves of what waits.
-use Rattle.std.proofs.Common.{◌≡◌, ◌≢◌, ℕ, ◌<◌, List, [], ◌∷◌, Option, Some, None, true, false, nat_eq, refl, sym, ◌∙◌, ap, subst, ◌⊎◌, inl, inr, arith}
+use Rattle.std.proofs.Common.{◌≡◌, ◌≢◌, ℕ, List, [], ◌∷◌, Option, Some, None, true, false, refl, sym, ◌∙◌, ap, subst, inl, inr}
 use Rattle.std.specs.Prelude.{is_some}
 use Rattle.tree_specs.specs.declared.object.Obj.{Obj}
 use Rattle.tree_specs.specs.declared.object.Owner.{Owner}
@@ -11,11 +11,10 @@ use Rattle.tree_specs.specs.declared.moment.What.{What}
 use Rattle.tree_specs.specs.declared.moment.What.TheVariants.{Immediate, Timer}
 use Rattle.tree_specs.specs.Words.Objects.{same}
 use Rattle.tree_specs.specs.Tree.Targets.{target_of}
-use Rattle.tree_specs.specs.Tree.Pool.{Pool, row_of, is_row, target_at, changed, without, add, remove, place, detach, left_row, doom, set_mark, marked_row, set_handler, schedule, unschedule, arm, disarm}
-use Rattle.tree_specs.specs.Tree.Forest.{Distinct}
+use Rattle.tree_specs.specs.Tree.Pool.{Pool, row_of, is_row, target_at, changed, without, add, remove, place, set_mark, marked_row, set_handler, schedule, unschedule, arm, disarm}
 use Rattle.tree_specs.specs.Events.Coming.{comes_as}
 use Rattle.tree_specs.specs.Calls.Refusals.{is_doomed_mark}
-use Rattle.tree_specs.specs.Invariants.Sound.{ValidAt, MayBePlaced}
+use Rattle.tree_specs.specs.Invariants.Sound.{MayBePlaced}
 use Rattle.tree_specs.specs.Invariants.Awaiting.{waits, MayCome, Awaits}
 use Rattle.tree_specs.proofs.Tree.Numbered.{by_test, same-true, same-equal, same-false, same_or_not}
 use Rattle.tree_specs.proofs.Tree.Rows.{row_of-changed-other, row_of-without-other, row_of-placed-other, row_of-placed-same}

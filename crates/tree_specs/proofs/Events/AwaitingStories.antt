@@ -3,7 +3,7 @@ use Rattle.std.proofs.Common.{◌≡◌, true, refl, ℕ, ◌≤◌, List, [], �
 use Rattle.step_machine.specs.History.{EachFits}
 use Rattle.step_machine.specs.Machine.{Move}
 use Rattle.step_machine.specs.Machine.{Move as Do}
-use Rattle.step_machine.specs.Noted.{noted_move, with_note}
+use Rattle.step_machine.specs.Noted.{noted_move}
 use Rattle.step_machine.proofs.Ends.{Leads}
 use Rattle.step_machine.proofs.History.{FitsOn, each-fits}
 use Rattle.tree_specs.specs.declared.question.Input.{Input}

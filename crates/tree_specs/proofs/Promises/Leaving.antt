@@ -250,7 +250,6 @@ plan-leaves n (Empties x) why p q is left told done e =
     let w = ended-followed (children n x p is) (λ u r mid. Ended reply.Ok r [] mid) (reply.No why) q told left e in
     let e' : Ended reply.Ok w.1 [] w.4 ≡ Ended (reply.No why) q w.3 left = w.6 in
     cc
-
 plan-leaves n AsksTime why p q is left told done e = never-refused (reading n) why p q is left told e
 plan-leaves n Turns why p q is left told done e = never-refused (taking n) why p q is left told e
 

@@ -165,7 +165,7 @@ past-accepts items x h v fs p q past later l pos wait none =
         | inl same_one ↦ (subst (λ (z : Obj). z.0 < q.next) same_one l, inr same_one)
         | inr other ↦ before y (sym (any-as-before (accepts y) items e (same-false x y other)) ∙ t)
       ];
-          accounts = any-now (accepts x) items e self ∙ sym (ap not (not-zero h pos));
+      accounts = any-now (accepts x) items e self ∙ sym (ap not (not-zero h pos));
       all_account = all-more items e fs (λ y r. same-false x y (λ same_one. unclaimed x fs wait none (subst (AnyRemoves fs) (sym same_one) r))) past.all_account;
     }
   where
@@ -196,7 +196,7 @@ past-frees items x h f' fs p q past later l none a =
           | inr now ↦ absurd now
         ],
       );
-          accounts = a;
+      accounts = a;
       all_account = all-more items e fs (λ y r. refl) past.all_account;
     }
 
@@ -218,7 +218,7 @@ past-drops items r t f f' fs p q past later l none stays a =
           | inr now ↦ absurd (stays y now)
         ],
       );
-          accounts = a;
+      accounts = a;
       all_account = all-more items e fs (λ y u. refl) past.all_account;
     }
 

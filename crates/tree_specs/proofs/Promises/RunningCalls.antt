@@ -77,7 +77,6 @@ plan-runs n (Empties y) x p q is left told d own e =
     let w = ended-followed (children n y p is) (λ u r mid. Ended reply.Ok r [] mid) (reply.No (refusal.Running x)) q told left e in
     let e' : Ended reply.Ok w.1 [] w.4 ≡ Ended (reply.No (refusal.Running x)) q w.3 left = w.6 in
     cc
-
 plan-runs n AsksTime x p q is left told d own e = absurd (never-running (reading n) x p q is left told e)
 plan-runs n Turns x p q is left told d own e = absurd (never-running (taking n) x p q is left told e)
 
