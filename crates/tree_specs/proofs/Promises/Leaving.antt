@@ -227,7 +227,7 @@ itself x why p q is left told a r us vs mid e s l =
     (a, e1, subst (λ (z : List Scene). Leaves x p is a q z left) same (subst (λ (z : List Input). Leaves x p is a q us z) e4 (subst (λ (z : Pool). Leaves x p is a z us mid) e2 l)))
 
 -- a number is no refusal
-never-refused : (w : Work ℕ) (why : Refusal) (p q : Pool) (is left : List Input) (told : List Scene) → numbered w p is ≡ Ended (reply.No why) q told left → ⊥
+pub never-refused : (w : Work ℕ) (why : Refusal) (p q : Pool) (is left : List Input) (told : List Scene) → numbered w p is ≡ Ended (reply.No why) q told left → ⊥
 never-refused w why p q is left told e =
     let w = ended-followed (w p is) (λ v r mid. Ended (reply.Number v) r [] mid) (reply.No why) q told left e in
     let e' : Ended (reply.Number w.0) w.1 [] w.4 ≡ Ended (reply.No why) q w.3 left = w.6 in

@@ -17,10 +17,11 @@ use Rattle.tree_specs.specs.Tree.Forest.{Distinct}
 use Rattle.tree_specs.specs.Calls.Refusals.{Check, refusals, tests, is_running}
 use Rattle.tree_specs.specs.Calls.Plans.{Plan, plan, planned, frees, unless_refused, changed_by}
 use Rattle.tree_specs.specs.Calls.Plans.Plan.{Does, Frees, Unlinks, Empties, AsksTime, Turns}
-use Rattle.tree_specs.specs.Rules.Sequence.{Work, Scene}
+use Rattle.tree_specs.specs.Rules.Sequence.{Scene}
 use Rattle.tree_specs.specs.Rules.Story.{effect, free, unlink, children, freed_reply, numbered, turned, taking, reading}
 use Rattle.tree_specs.specs.declared.question.Ask.TheVariants.{Quiet as AtRest}
 use Rattle.tree_specs.proofs.Calls.OwnRefusals.{IsOwn, AllOwn, own-refused}
+use Rattle.tree_specs.proofs.Promises.Leaving.{never-refused}
 use Rattle.tree_specs.proofs.Rules.FreeCauses.{FreeCause, RunsFrom, free-cause, unlink-cause}
 
 -- a call's own refusal says the truth
@@ -52,13 +53,6 @@ by-free : (p q : Pool) (x y : Obj) (told : List Scene) (a : FreeReply) → Disti
 by-free p q x y told free_reply.Running d h e = let same : y ≡ x = cc in subst (λ (z : Obj). is_running p z ≡ true) same (h.1 d)
 by-free p q x y told _ d h e = cc
 
--- a number is no refusal
-never-running : (w : Work ℕ) (x : Obj) (p q : Pool) (is left : List Input) (told : List Scene) → numbered w p is ≡ Ended (reply.No (refusal.Running x)) q told left → ⊥
-never-running w x p q is left told e =
-    let w = ended-followed (w p is) (λ v r mid. Ended (reply.Number v) r [] mid) (reply.No (refusal.Running x)) q told left e in
-    let e' : Ended (reply.Number w.0) w.1 [] w.4 ≡ Ended (reply.No (refusal.Running x)) q w.3 left = w.6 in
-    cc
-
 plan-runs : (n : ℕ) (plan : Plan) (x : Obj) (p q : Pool) (is left : List Input) (told : List Scene) → Distinct p.rows → OwnPlan p plan
     → effect (free n) (unlink n) (children n) (numbered (reading n)) (turned AtRest (taking n)) plan p is ≡ Ended (reply.No (refusal.Running x)) q told left → is_running p x ≡ true
 plan-runs n (Does change warned r) x p q is left told d own e =
@@ -77,8 +71,8 @@ plan-runs n (Empties y) x p q is left told d own e =
     let w = ended-followed (children n y p is) (λ u r mid. Ended reply.Ok r [] mid) (reply.No (refusal.Running x)) q told left e in
     let e' : Ended reply.Ok w.1 [] w.4 ≡ Ended (reply.No (refusal.Running x)) q w.3 left = w.6 in
     cc
-plan-runs n AsksTime x p q is left told d own e = absurd (never-running (reading n) x p q is left told e)
-plan-runs n Turns x p q is left told d own e = absurd (never-running (taking n) x p q is left told e)
+plan-runs n AsksTime x p q is left told d own e = absurd (never-refused (reading n) (refusal.Running x) p q is left told e)
+plan-runs n Turns x p q is left told d own e = absurd (never-refused (taking n) (refusal.Running x) p q is left told e)
 
 pub call-runs : (n : ℕ) (c : Call) (x : Obj) (p q : Pool) (is left : List Input) (told : List Scene) → Distinct p.rows
     → effect (free n) (unlink n) (children n) (numbered (reading n)) (turned AtRest (taking n)) (planned p c) p is ≡ Ended (reply.No (refusal.Running x)) q told left → is_running p x ≡ true

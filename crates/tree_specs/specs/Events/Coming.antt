@@ -20,7 +20,7 @@ use Rattle.tree_specs.specs.Calls.Refusals.{is_doomed}
 abbrev pub wait_limit : ℕ
 wait_limit = WAIT_LIMIT
 
--- the event of which a handler runs for this
+-- an immediate and a timer come each as its own kind
 abbrev pub comes_as : What → Kind → Bool
 comes_as Immediate kind.Immediate = true
 comes_as Timer kind.Timer = true
@@ -35,7 +35,7 @@ abbrev pub may_start : What → Option Row → Bool
 may_start what None = false
 may_start what (Some r) = comes_as what r.kind && is_quiet_mark r.mark
 
--- the handler that is to run; none where it is no such event
+-- the handler that is to run; none where it is no such event, or has none
 abbrev pub handler_for : Pool → What → Obj → Option Handler
 handler_for p what x = if may_start what (row_of p.rows x) then p.handlers x.0 else None
 
@@ -52,7 +52,7 @@ is_once what = false
 abbrev pub goes_after : Pool → What → Obj → Bool
 goes_after p what x = is_once what || is_doomed p x
 
--- no descriptor was ready in time, and an event has a time
+-- after a wait the first time is looked at again where nothing was ready and an event has a time
 abbrev pub looks_again : Pool → List Want → Bool
 looks_again p [] = is_some (first p.times)
 looks_again p (w ∷ ws) = false

@@ -242,7 +242,7 @@ abbrev pub taking_step : Option Obj → Pool → Step
 taking_step None p = due_step (first p.times) p
 taking_step (Some x) p = Do.Go (frame.Turn (Starting ForImmediate x 0)) (unschedule p x)
 
--- before readiness was asked, this is asked where the first time hasn't come
+-- where the first time hasn't come it is asked once what is ready, until then at the longest
 abbrev pub early_step : Bool → Due → ℕ → Pool → Step
 early_step true d now p = Do.Go (frame.Turn (Closing 0)) p
 early_step false d now p = Do.Go (frame.Turn (Polling (d.time - now))) p
