@@ -1,4 +1,5 @@
 -- Events, and what waits for its turn.
+pub mod HandlerLaws
 pub mod PendingLaws
 pub mod Awaiting
 pub mod AwaitingSteps
