@@ -105,7 +105,8 @@ looping x purpose fs p s a = each (first_kid p.rows (Of x))
     each None = last purpose s
     each (Some c) = child c (target_at p.rows c) refl
 
-tried : (x c : Obj) (noted : Option Owner) (purpose : Purpose) (b : FreeReply) (fs : List Frame) (p : Pool) → Sound (frame.Free (AfterChild x c noted purpose b)) fs p → Awaits p → Awaits (pool_after (tried_step x c noted purpose b p))
+tried : (x c : Obj) (noted : Option Owner) (purpose : Purpose) (b : FreeReply) (fs : List Frame) (p : Pool) → Sound (frame.Free (AfterChild x c noted purpose b)) fs p → Awaits p
+    → Awaits (pool_after (tried_step x c noted purpose b p))
 tried x c noted purpose b fs p s a = each b
   where
     handed : Awaits (pool_after (hand_on_step x c noted purpose p))

@@ -28,7 +28,8 @@ use Rattle.tree_specs.proofs.Invariants.KeptFrees.{KeptBy, ended}
 use Rattle.tree_specs.proofs.Invariants.Turning.{Ready, handler-ready, IsPlain, Passes, Pass, look-passes, taken-plain}
 
 -- a work that says nothing of an object, over the same rows, in the place of another one
-plain-sound : (f g : TurnFrame) (steps : ℕ) (fs : List Frame) (p q : Pool) → q.rows ≡ p.rows → q.next ≡ p.next → (turn_profile f).claims ≡ None → IsPlain g steps → IsTurned (footing fs) → Sound (frame.Turn f) fs p → Sound (frame.Turn g) fs q
+plain-sound : (f g : TurnFrame) (steps : ℕ) (fs : List Frame) (p q : Pool) → q.rows ≡ p.rows → q.next ≡ p.next → (turn_profile f).claims ≡ None → IsPlain g steps → IsTurned (footing fs)
+    → Sound (frame.Turn f) fs p → Sound (frame.Turn g) fs q
 plain-sound f g steps fs p q rows next none plain turned s =
     waiting-sound (frame.Turn f) (frame.Turn g) fs p q s rows next (λ x. ap (claim_by x) plain.claims ∙ sym (ap (claim_by x) none)) (plain.rests (footing fs) q turned)
 
@@ -36,7 +37,8 @@ passes-kept : (f : TurnFrame) (fs : List Frame) (p : Pool) (k : ℕ) (m : Step) 
 passes-kept f fs p k _ none turned s (Pass g q rows next plain) = plain-sound f g 4 fs p q rows next none plain turned s
 
 -- an event with which nothing goes on becomes busy
-starts : (w : What) (x : Obj) (now : ℕ) (h : Handler) (fs : List Frame) (p : Pool) → Sound (frame.Turn (Starting w x now)) fs p → Ready p.rows w x → Sound (frame.Turn (Firing w x h now)) fs (set_mark p x Busy)
+starts : (w : What) (x : Obj) (now : ℕ) (h : Handler) (fs : List Frame) (p : Pool) → Sound (frame.Turn (Starting w x now)) fs p → Ready p.rows w x
+    → Sound (frame.Turn (Firing w x h now)) fs (set_mark p x Busy)
 starts w x now h fs p s ready =
     let r : Row = ready.row in
     let self : same x x ≡ true = same-equal x x refl in
@@ -54,7 +56,8 @@ module _ (w : What) (x : Obj) (fs : List Frame) (p : Pool) (s : Sound (frame.Tur
   abbrev phase : InHandler ∷ claims x fs ≡ phases (row_of p.rows x)
   phase = claim-here x InHandler (claims x fs) (row_of p.rows x) (s.open_frees x)
 
-  quiet : (r : Row) → row_of p.rows x ≡ Some r → IsLive r.mark → claims x fs ≡ [] → (g : Frame) (gs : List Frame) → ((y : Obj) → claim y g ++ claims y gs ≡ claims y fs) → AllWait gs → Rests g gs (set_mark p x Quiet)
+  quiet : (r : Row) → row_of p.rows x ≡ Some r → IsLive r.mark → claims x fs ≡ [] → (g : Frame) (gs : List Frame) → ((y : Obj) → claim y g ++ claims y gs ≡ claims y fs) → AllWait gs
+      → Rests g gs (set_mark p x Quiet)
       → Sound g gs (set_mark p x Quiet)
   quiet r e live none g gs same_claims wait rests =
       let object : target_at p.rows x ≡ None = run-refers p.rows x (claims x fs) s.refers phase in
@@ -84,7 +87,8 @@ starting-kept w x now fs p k s = each (handler_for p w x) refl
     each (Some h) e = rw e (starts w x now h fs p s (handler-ready p w x h e))
 
 -- a work that asks, with its answer
-asked-kept : (f : TurnFrame) (fs : List Frame) (p : Pool) → (turn_profile f).claims ≡ None → IsTurned (footing fs) → Sound (frame.Turn f) fs p → (t : TurnFrame) → IsPlain t 5 → Sound (frame.Turn t) fs p
+asked-kept : (f : TurnFrame) (fs : List Frame) (p : Pool) → (turn_profile f).claims ≡ None → IsTurned (footing fs) → Sound (frame.Turn f) fs p → (t : TurnFrame) → IsPlain t 5
+    → Sound (frame.Turn t) fs p
 asked-kept f fs p none turned s t plain = plain-sound f t 5 fs p p refl refl none plain turned s
 
 pub turn-kept : (f : TurnFrame) (fs : List Frame) (p : Pool) (k : ℕ) → Sound (frame.Turn f) fs p → KeptBy (turn_step f p) fs k

@@ -69,7 +69,8 @@ asking-fine scenes q b ws p whole known = (
     s = scene notes f b p (Asked q)
 
     -- of a destructor only where a free waits for it
-    of-hook : (g : Frame) (gs : List Frame) (n : Option CallStart) → Waiter g → StandsOn f g n → Serves (profile g).waits f → ((x : Obj) → claim x g ++ claims x gs ≡ phases (row_of p.rows x)) → Fits (told scenes) (Asked q)
+    of-hook : (g : Frame) (gs : List Frame) (n : Option CallStart) → Waiter g → StandsOn f g n → Serves (profile g).waits f
+        → ((x : Obj) → claim x g ++ claims x gs ≡ phases (row_of p.rows x)) → Fits (told scenes) (Asked q)
     of-hook _ gs n (ForRun x h) on seat claimed =
         let row = running-row (row_of p.rows x) (claims x gs) (claim-here x InRun (claims x gs) (row_of p.rows x) (claimed x)) in
         fits-asked (told scenes) x (unaccepted (told scenes) f (map work_of ws) p x row.0 known.past row.1 row.2 (λ l. l)) (unfreed (told scenes) f (map work_of ws) p x row.0 known.past row.1) q on

@@ -83,7 +83,8 @@ module _ (scenes : List Scene) (b : Option CallStart) (ws : List NotedWork) (p :
       each _ n _ on begun = tt
 
   -- it stays, since something of it runs
-  said-fine : (f : FreeFrame) (x : Obj) → ((y : Obj) → IsFreeOf y (frame.Free f) → x ≡ y) → ((y : Obj) → IsLeaving (frame.Free f) y → ⊥) → IsConsistent (record { innermost = frame.Free f; below = map work_of ws; pool = p })
+  said-fine : (f : FreeFrame) (x : Obj) → ((y : Obj) → IsFreeOf y (frame.Free f) → x ≡ y) → ((y : Obj) → IsLeaving (frame.Free f) y → ⊥)
+      → IsConsistent (record { innermost = frame.Free f; below = map work_of ws; pool = p })
       → Known scenes (with_note b (frame.Free f)) ws p → OfNext (HasRunFor x) ws → FineBy scenes (frame.Free f) b p (Do.Done (answer.Freed free_reply.Running) p) ws
   said-fine f x of stays whole known ran =
       resumed scenes (frame.Free f) b ws p (answer.Freed free_reply.Running) known.past stays known.stacked whole.sound.waiting

@@ -79,7 +79,8 @@ module _ (scenes : List Scene) (b : Option CallStart) (ws : List NotedWork) (p :
   passes f _ (Pass g q rows next plain) known = goes f g q (later-waiting p q rows next) known
 
   -- it asks no destructor, and goes on as a turn
-  asks : (f : TurnFrame) (q : Ask) → ((y : Obj) → asks_hook y (Asked q) ≡ false) → ((i : Input) (g : Frame) → turn_taken f p i ≡ Some g → (t : TurnFrame) × (g ≡ frame.Turn t)) → Known scenes (with_note b (frame.Turn f)) ws p
+  asks : (f : TurnFrame) (q : Ask) → ((y : Obj) → asks_hook y (Asked q) ≡ false) → ((i : Input) (g : Frame) → turn_taken f p i ≡ Some g → (t : TurnFrame) × (g ≡ frame.Turn t))
+      → Known scenes (with_note b (frame.Turn f)) ws p
       → FineBy scenes (frame.Turn f) b p (Do.Wait (Asked q) (frame.Turn f) p) ws
   asks f q none leads known = ((fits-question (told scenes) q none, record { answered = tt; held = tt; caused = tt; started = tt }), next)
     where

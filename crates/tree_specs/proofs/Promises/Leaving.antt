@@ -233,7 +233,8 @@ never-refused w why p q is left told e =
     let e' : Ended (reply.Number w.0) w.1 [] w.4 ≡ Ended (reply.No why) q w.3 left = w.6 in
     cc
 
-plan-leaves : (n : ℕ) (plan : Plan) (why : Refusal) (p q : Pool) (is left : List Input) (told : List Scene) → AnswersDone plan → effect (free n) (unlink n) (children n) (numbered (reading n)) (turned AtRest (taking n)) plan p is ≡ Ended (reply.No why) q told left
+plan-leaves : (n : ℕ) (plan : Plan) (why : Refusal) (p q : Pool) (is left : List Input) (told : List Scene) → AnswersDone plan
+    → effect (free n) (unlink n) (children n) (numbered (reading n)) (turned AtRest (taking n)) plan p is ≡ Ended (reply.No why) q told left
     → LeftByPlan plan why p q is left told
 unfolding AnswersDone
 plan-leaves n (Does change warned r) why p q is left told done e =
@@ -258,12 +259,14 @@ refused-leaves (call.Free x) why p q is left told u = inl u
 refused-leaves (call.Unlink o x) why p q is left told u = inl u
 refused-leaves c why p q is left told u = u
 
-passed-leaves : (n : ℕ) (c : Call) (why : Refusal) (p q : Pool) (is left : List Input) (told : List Scene) → effect (free n) (unlink n) (children n) (numbered (reading n)) (turned AtRest (taking n)) (plan p c) p is ≡ Ended (reply.No why) q told left
+passed-leaves : (n : ℕ) (c : Call) (why : Refusal) (p q : Pool) (is left : List Input) (told : List Scene)
+    → effect (free n) (unlink n) (children n) (numbered (reading n)) (turned AtRest (taking n)) (plan p c) p is ≡ Ended (reply.No why) q told left
     → LeftByRefused c why p q is left told
 unfolding AnswersDone IsDone
 passed-leaves n (call.Free x) why p q is left told e = inr (each (newest_ref p.rows x) e)
   where
-    each : (o : Option Obj) → effect (free n) (unlink n) (children n) (numbered (reading n)) (turned AtRest (taking n)) (frees o x) p is ≡ Ended (reply.No why) q told left → LeftByItsFree x why p q is left told
+    each : (o : Option Obj) → effect (free n) (unlink n) (children n) (numbered (reading n)) (turned AtRest (taking n)) (frees o x) p is ≡ Ended (reply.No why) q told left
+        → LeftByItsFree x why p q is left told
     each None k = plan-leaves n (Frees x) why p q is left told tt k
     each (Some r) k = plan-leaves n (Unlinks Root x) why p q is left told tt k
 passed-leaves n (call.Unlink o x) why p q is left told e = inr (plan-leaves n (Unlinks o x) why p q is left told tt e)

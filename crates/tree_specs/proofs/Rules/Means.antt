@@ -159,7 +159,8 @@ taking-turn n b p is = each (first p.soon) refl
     each None e = due e (first p.times) refl
     each (Some x) e = rw e (inr refl)
 
-timed-turn : (n : ℕ) (again : Bool) (now : ℕ) (b : Option CallStart) (p : Pool) (is : List Input) → Below (Turn n (frame.Turn (Timed again now)) b (turn_step (Timed again now) p) p is) (closed (timed (suc n) again now) p is)
+timed-turn : (n : ℕ) (again : Bool) (now : ℕ) (b : Option CallStart) (p : Pool) (is : List Input)
+    → Below (Turn n (frame.Turn (Timed again now)) b (turn_step (Timed again now) p) p is) (closed (timed (suc n) again now) p is)
 timed-turn n again now b p is = each again (first p.times) refl
   where
     each : (again : Bool) (o : Option Due) → first p.times ≡ o → Below (Turn n (frame.Turn (Timed again now)) b (turn_step (Timed again now) p) p is) (closed (timed (suc n) again now) p is)
@@ -167,7 +168,8 @@ timed-turn n again now b p is = each again (first p.times) refl
     each true (Some d) e = by_test (nat_le d.time now) (λ t. rw (e, t) (inr refl)) (λ t. rw (e, t) (inr refl))
     each false (Some d) e = by_test (nat_le d.time now) (λ t. rw (e, t) (inr refl)) (λ t. rw (e, t) (inr refl))
 
-timing-turn : (n : ℕ) (again : Bool) (b : Option CallStart) (p : Pool) (is : List Input) → Below (Turn n (frame.Turn (Timing again)) b (turn_step (Timing again) p) p is) (closed (timing (suc n) again) p is)
+timing-turn : (n : ℕ) (again : Bool) (b : Option CallStart) (p : Pool) (is : List Input)
+    → Below (Turn n (frame.Turn (Timing again)) b (turn_step (Timing again) p) p is) (closed (timing (suc n) again) p is)
 timing-turn n again b p [] = inr refl
 timing-turn n again b p (i ∷ is) = each (given_to Clock i) refl
   where
@@ -183,7 +185,8 @@ reading-turn n b p (i ∷ is) = each (given_to Clock i) refl
     each (Some (Tells now)) e = by_test (is_time now) (λ t. rw (e, t) (inr (simp laws))) (λ t. rw (e, t) (inr refl))
     each _ e = rw e (inr refl)
 
-polling-turn : (n limit : ℕ) (b : Option CallStart) (p : Pool) (is : List Input) → Below (Turn n (frame.Turn (Polling limit)) b (turn_step (Polling limit) p) p is) (closed (polling (suc n) limit) p is)
+polling-turn : (n limit : ℕ) (b : Option CallStart) (p : Pool) (is : List Input)
+    → Below (Turn n (frame.Turn (Polling limit)) b (turn_step (Polling limit) p) p is) (closed (polling (suc n) limit) p is)
 polling-turn n limit b p [] = inr refl
 polling-turn n limit b p (i ∷ is) = each (given_to (Wait limit) i) refl
   where
@@ -201,7 +204,8 @@ starting-turn n what x now b p is = each (handler_for p what x) refl
     each None e = rw e (inr refl)
     each (Some handler) e = rw e (inr refl)
 
-handled-turn : (n : ℕ) (what : What) (x : Obj) (b : Option CallStart) (p : Pool) (is : List Input) → Below (Turn n (frame.Turn (Handled what x)) b (turn_step (Handled what x) p) p is) (closed (handled (suc n) what x) p is)
+handled-turn : (n : ℕ) (what : What) (x : Obj) (b : Option CallStart) (p : Pool) (is : List Input)
+    → Below (Turn n (frame.Turn (Handled what x)) b (turn_step (Handled what x) p) p is) (closed (handled (suc n) what x) p is)
 handled-turn n what x b p is = by_test (goes_after p what x) (λ t. rw t (inr (simp laws))) (λ t. rw t (inr refl))
 
 loop-turn : (n : ℕ) (f : TurnFrame) (b : Option CallStart) (p : Pool) (is : List Input) → Below (Turn n (frame.Turn f) b (turn_step f p) p is) (mean (suc n) (frame.Turn f) b p is)

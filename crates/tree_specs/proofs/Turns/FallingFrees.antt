@@ -231,17 +231,20 @@ tried-lower R x c noted purpose a fs p k s room = each a s
     each (Refused v) s = handed (Refused v) refl s
 
 -- a freeing that ends at once is no loop's child, or is said to run
-at_once-lower : (R : ℕ) (a : FreeReply) (x : Obj) (f : FreeFrame) (fs : List Frame) (p : Pool) (k : ℕ) → (a ≡ Running) ⊎ ((o : Owner) → owner_of p.rows x ≢ Some o) → Tries x (footing fs) p → AllWait fs
+at_once-lower : (R : ℕ) (a : FreeReply) (x : Obj) (f : FreeFrame) (fs : List Frame) (p : Pool) (k : ℕ) → (a ≡ Running) ⊎ ((o : Owner) → owner_of p.rows x ≢ Some o) → Tries x (footing fs) p
+    → AllWait fs
     → loop_kids p.rows fs + 5 ≤ top_cost R (frame.Free f) fs p.rows → Room R (frame.Free f) p k → Lowers R (cost R (frame.Free f) fs p k) (Do.Done (Freed a) p) fs k
 at_once-lower R a x f [] p k h t w most room = tt
 at_once-lower R a x f (g ∷ gs) p k h t w most room = below g (waiter g gs w.0) t most
   where
-    runs : (y c : Obj) (noted : Option Owner) (purpose : Purpose) (a : FreeReply) → a ≡ Running → 4 * count p.rows (Of y) + 5 ≤ top_cost R (frame.Free f) (frame.Free (FreeingChild y c noted purpose) ∷ gs) p.rows
+    runs : (y c : Obj) (noted : Option Owner) (purpose : Purpose) (a : FreeReply) → a ≡ Running
+        → 4 * count p.rows (Of y) + 5 ≤ top_cost R (frame.Free f) (frame.Free (FreeingChild y c noted purpose) ∷ gs) p.rows
         → Room R (frame.Free (AfterChild y c noted purpose a)) p k × (cost R (frame.Free (AfterChild y c noted purpose a)) gs p k < cost R (frame.Free f) (frame.Free (FreeingChild y c noted purpose) ∷ gs) p k)
     runs y c noted purpose Running is most = (omega arith, omega (arith, most))
     runs y c noted purpose _ is most = cc
 
-    below : (g : Frame) → Waiter g → Tries x (footing (g ∷ gs)) p → loop_kids p.rows (g ∷ gs) + 5 ≤ top_cost R (frame.Free f) (g ∷ gs) p.rows → Lowers R (cost R (frame.Free f) (g ∷ gs) p k) (Do.Done (Freed a) p) (g ∷ gs) k
+    below : (g : Frame) → Waiter g → Tries x (footing (g ∷ gs)) p → loop_kids p.rows (g ∷ gs) + 5 ≤ top_cost R (frame.Free f) (g ∷ gs) p.rows
+        → Lowers R (cost R (frame.Free f) (g ∷ gs) p k) (Do.Done (Freed a) p) (g ∷ gs) k
     below _ (ForFree q y) t most = (omega arith, omega (arith, most))
     below _ (ForClear y) t most = (omega arith, omega (arith, most))
     below _ (ForChild y c noted purpose) t most = elim h [

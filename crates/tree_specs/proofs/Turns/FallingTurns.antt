@@ -21,7 +21,8 @@ use Rattle.tree_specs.proofs.Invariants.Changes.{handling-row, claim-here}
 use Rattle.tree_specs.proofs.Invariants.Turning.{handler-ready, IsPlain, Passes, Pass, look-passes, taken-plain}
 use Rattle.tree_specs.proofs.Turns.FallingFrees.{Lowers, Room, done-lower, total-kept, length-changed, live-weight}
 
-passes-lower : (R : ℕ) (f : TurnFrame) (fs : List Frame) (p : Pool) (k : ℕ) (m : Step) → (turn_profile f).steps ≡ 5 → Passes p m → Room R (frame.Turn f) p k → Lowers R (cost R (frame.Turn f) fs p k) m fs k
+passes-lower : (R : ℕ) (f : TurnFrame) (fs : List Frame) (p : Pool) (k : ℕ) (m : Step) → (turn_profile f).steps ≡ 5 → Passes p m → Room R (frame.Turn f) p k
+    → Lowers R (cost R (frame.Turn f) fs p k) m fs k
 passes-lower R f fs p k _ five (Pass g q rows next plain) room =
     let cheap = plain.cheap in
     rw rows (omega arith, omega (arith, cheap, five))
@@ -33,7 +34,8 @@ asked-lower R f fs p k g t e plain room =
     let cheap = plain.cheap in
     subst (λ (z : Frame). Room R z p k × (cost R z fs p k < cost R (frame.Turn f) fs p (suc k))) (sym e) (omega arith, omega (arith, cheap))
 
-starting-lower : (R : ℕ) (w : What) (x : Obj) (now : ℕ) (fs : List Frame) (p : Pool) (k : ℕ) → Room R (frame.Turn (Starting w x now)) p k → Lowers R (cost R (frame.Turn (Starting w x now)) fs p k) (turn_step (Starting w x now) p) fs k
+starting-lower : (R : ℕ) (w : What) (x : Obj) (now : ℕ) (fs : List Frame) (p : Pool) (k : ℕ) → Room R (frame.Turn (Starting w x now)) p k
+    → Lowers R (cost R (frame.Turn (Starting w x now)) fs p k) (turn_step (Starting w x now) p) fs k
 starting-lower R w x now fs p k room = each (handler_for p w x) refl
   where
     each : (o : Option Handler) → handler_for p w x ≡ o → Lowers R (cost R (frame.Turn (Starting w x now)) fs p k) (starting_step w x now (handler_for p w x) p) fs k
@@ -52,7 +54,8 @@ handled-lower R w x fs p k s room =
     let n = length-changed (marked_row Quiet) p.rows x in
     by_test (goes_after p w x) (λ t. rw t (omega (arith, n), omega (arith, u))) (λ t. rw t (omega (arith, n), omega (arith, u)))
 
-closing-lower : (R v : ℕ) (fs : List Frame) (p : Pool) (k : ℕ) → Sound (frame.Turn (Closing v)) fs p → Room R (frame.Turn (Closing v)) p k → Lowers R (cost R (frame.Turn (Closing v)) fs p k) (turn_step (Closing v) p) fs k
+closing-lower : (R v : ℕ) (fs : List Frame) (p : Pool) (k : ℕ) → Sound (frame.Turn (Closing v)) fs p → Room R (frame.Turn (Closing v)) p k
+    → Lowers R (cost R (frame.Turn (Closing v)) fs p k) (turn_step (Closing v) p) fs k
 closing-lower R v fs p k s room =
     done-lower R (Turned v) (frame.Turn (Closing v)) fs p k s.waiting (omega arith) (λ g gs e w. (let l = pays g gs (subst (λ (l : List Frame). IsTurned (footing l)) e s.rests) in omega (arith, l)))
   where

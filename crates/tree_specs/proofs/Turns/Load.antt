@@ -289,10 +289,12 @@ passes-placed : (f : TurnFrame) (fs : List Frame) (p : Pool) (k : ℕ) (m : Step
 passes-placed f fs p k _ (Pass g q rows next plain) b l = let z = plain.size in (reseat-turn f g fs b, rw rows (omega (arith, l, z)))
 
 -- what an answer leads to is as light
-asked-placed : (f : TurnFrame) (fs : List Frame) (p : Pool) (g : Frame) (t : TurnFrame) → g ≡ frame.Turn t → IsPlain t 5 → IsStacked (frame.Turn f) fs → IsPaidFor (frame.Turn f) fs p → IsStacked g fs × IsPaidFor g fs p
+asked-placed : (f : TurnFrame) (fs : List Frame) (p : Pool) (g : Frame) (t : TurnFrame) → g ≡ frame.Turn t → IsPlain t 5 → IsStacked (frame.Turn f) fs → IsPaidFor (frame.Turn f) fs p
+    → IsStacked g fs × IsPaidFor g fs p
 asked-placed f fs p g t e plain b l = let z = plain.size in subst (λ (w : Frame). IsStacked w fs × IsPaidFor w fs p) (sym e) (reseat-turn f t fs b, omega (arith, l, z))
 
-starting-placed : (w : What) (x : Obj) (now : ℕ) (fs : List Frame) (p : Pool) (k : ℕ) → IsStacked (frame.Turn (Starting w x now)) fs → IsPaidFor (frame.Turn (Starting w x now)) fs p → Placed (turn_step (Starting w x now) p) fs k
+starting-placed : (w : What) (x : Obj) (now : ℕ) (fs : List Frame) (p : Pool) (k : ℕ) → IsStacked (frame.Turn (Starting w x now)) fs → IsPaidFor (frame.Turn (Starting w x now)) fs p
+    → Placed (turn_step (Starting w x now) p) fs k
 starting-placed w x now fs p k b l = each (handler_for p w x) refl
   where
     each : (o : Option Handler) → handler_for p w x ≡ o → Placed (starting_step w x now (handler_for p w x) p) fs k
@@ -302,7 +304,8 @@ starting-placed w x now fs p k b l = each (handler_for p w x) refl
         let u = total-changed deposit (marked_row Busy) p.rows x ready.row ready.is in
         rw e (reseat-turn (Starting w x now) (Firing w x h now) fs b, omega (arith, u, l, ap mark_deposit ready.quiet))
 
-handled-placed : (w : What) (x : Obj) (fs : List Frame) (p : Pool) (k : ℕ) → Sound (frame.Turn (Handled w x)) fs p → IsStacked (frame.Turn (Handled w x)) fs → IsPaidFor (frame.Turn (Handled w x)) fs p → Placed (turn_step (Handled w x) p) fs k
+handled-placed : (w : What) (x : Obj) (fs : List Frame) (p : Pool) (k : ℕ) → Sound (frame.Turn (Handled w x)) fs p → IsStacked (frame.Turn (Handled w x)) fs
+    → IsPaidFor (frame.Turn (Handled w x)) fs p → Placed (turn_step (Handled w x) p) fs k
 handled-placed w x fs p k s b l =
     let row = handling-row (row_of p.rows x) (claims x fs) (claim-here x InHandler (claims x fs) (row_of p.rows x) (s.open_frees x)) in
     let u = total-changed deposit (marked_row Quiet) p.rows x row.0 row.1 in
