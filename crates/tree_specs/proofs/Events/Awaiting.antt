@@ -93,13 +93,18 @@ placed-awaits p o x may a = rows-awaits p (place p o x).rows a comes none
 
     comes : (w : What) (y : Obj) → MayCome w (row_of p.rows y) → MayCome w (row_of (place p o x).rows y)
     comes w y h = elim (same_or_not x y) [
-      | inl e ↦ subst (λ (z : Obj). MayCome w (row_of (place p o x).rows z)) e (let h' : MayCome w (row_of p.rows x) = subst (λ (z : Obj). MayCome w (row_of p.rows z)) (sym e) h in let h'' : MayCome w (Some may.row) = rw may.is at h' in rw here h'')
+      | inl e ↦
+          let h' : MayCome w (row_of p.rows x) = subst (λ (z : Obj). MayCome w (row_of p.rows z)) (sym e) h in
+          let h'' : MayCome w (Some may.row) = rw may.is at h' in
+          subst (λ (z : Obj). MayCome w (row_of (place p o x).rows z)) e (rw here h'')
       | inr ne ↦ rw (row_of-placed-other p o x y may.row may.is ne) h
     ]
 
     none : (y : Obj) → row_of (place p o x).rows y ≡ None → row_of p.rows y ≡ None
     none y h = elim (same_or_not x y) [
-      | inl e ↦ (let h' : row_of (place p o x).rows x ≡ None = subst (λ (z : Obj). row_of (place p o x).rows z ≡ None) (sym e) h in let bad : Some (record may.row { owner = Some o }) ≡ None = sym here ∙ h' in cc)
+      | inl e ↦
+          let h' : row_of (place p o x).rows x ≡ None = subst (λ (z : Obj). row_of (place p o x).rows z ≡ None) (sym e) h in
+          let bad : Some (record may.row { owner = Some o }) ≡ None = sym here ∙ h' in cc
       | inr ne ↦ sym (row_of-placed-other p o x y may.row may.is ne) ∙ h
     ]
 

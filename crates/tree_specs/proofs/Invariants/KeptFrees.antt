@@ -253,7 +253,8 @@ beginning x fs p k s = newest (newest_ref p.rows x) refl
     dooms none r e m =
         let same_owner : owner_of (doom p x).rows x ≡ owner_of p.rows x = rw (e, row_of-changed-same (marked_row Doomed) p.rows x r (λ q. refl) e) refl in
         let unreferred : newest_ref (doom p x).rows x ≡ None = newest-changed (marked_row Doomed) p.rows x x (λ q. refl) (λ q. refl) ∙ none in
-        let rests : (q : Pool) → q.rows ≡ (doom p x).rows → Tries x (footing fs) q × (newest_ref q.rows x ≡ None) = (λ q is. (tries-same x (footing fs) p q none (rw is unreferred) (rw is same_owner) s.rests.0, rw is unreferred)) in
+        let rests : (q : Pool) → q.rows ≡ (doom p x).rows → Tries x (footing fs) q × (newest_ref q.rows x ≡ None) =
+        (λ q is. (tries-same x (footing fs) p q none (rw is unreferred) (rw is same_owner) s.rests.0, rw is unreferred)) in
         let t : Sound (frame.Free (Dooming x)) fs (set_mark p x Doomed) = changed-sound (marked_row Doomed) (frame.Free (Beginning x)) (frame.Free (Dooming x)) fs fs p x r s (marks-place Doomed) e
         (live-owned r.mark r.owner x (rw m tt) (shape-of p x r s.valid e)) (object r e) (inr none) (λ y ne. refl) (s.open_frees x ∙ ap phases e ∙ ap phase_of m) s.waiting (rests (set_mark p x Doomed) refl) in
         waiting-sound (frame.Free (Dooming x)) (frame.Free (Dooming x)) fs (set_mark p x Doomed) (doom p x) t refl refl (λ y. refl) (rests (doom p x) refl)

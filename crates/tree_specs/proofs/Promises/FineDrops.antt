@@ -179,6 +179,9 @@ module _ (scenes : List Scene) (b : Option CallStart) (ws : List NotedWork) (p :
             cause = tt;
           }))
 
+      runs : is_running p x ≡ true → Step (Do.Done (answer.Freed free_reply.Running) p)
+      runs run = said-fine (Beginning x) x (λ y h. h) (λ y l. l) whole known (ran-then x run whole.sound.waiting known.stacked known.cause)
+
       dooms : (r : Row) → row_of p.rows x ≡ Some r → r.mark ≡ mark.Busy → is_running p x ≡ true → Step (Do.Go (frame.Free (Dooming x)) (doom p x))
       dooms r e m run = record {
         past = past-goes (told scenes) f (frame.Free (Dooming x)) (map work_of ws) (map work_of ws) p (doom p x) known.past
@@ -189,9 +192,9 @@ module _ (scenes : List Scene) (b : Option CallStart) (ws : List NotedWork) (p :
 
       marks : (r : Row) (m : Mark) → r.mark ≡ m → row_of p.rows x ≡ Some r → Step (lifted (begin_step x (row_of p.rows x) p))
       marks r mark.Quiet m e = rw (e, m) (quiet r e m)
-      marks r mark.Asked m e = let run : is_running p x ≡ true = rw (e, m) refl in rw (e, m) (said-fine (Beginning x) x (λ y h. h) (λ y l. l) whole known (ran-then x run whole.sound.waiting known.stacked known.cause))
+      marks r mark.Asked m e = let run : is_running p x ≡ true = rw (e, m) refl in rw (e, m) (runs run)
       marks r mark.Busy m e = let run : is_running p x ≡ true = rw (e, m) refl in rw (e, m) (dooms r e m run)
-      marks r mark.Doomed m e = let run : is_running p x ≡ true = rw (e, m) refl in rw (e, m) (said-fine (Beginning x) x (λ y h. h) (λ y l. l) whole known (ran-then x run whole.sound.waiting known.stacked known.cause))
+      marks r mark.Doomed m e = let run : is_running p x ≡ true = rw (e, m) refl in rw (e, m) (runs run)
       marks r (mark.Dying former) m e = rw (e, m) (over-fine (Beginning x) whole known (λ y l. l))
 
       each : (o : Option Row) → row_of p.rows x ≡ o → Step (lifted (begin_step x (row_of p.rows x) p))

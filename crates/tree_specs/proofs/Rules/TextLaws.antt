@@ -170,14 +170,17 @@ plan-lawful n ih q Turns p last = turned-lawful q (taking n) p last (ih.taking p
 acting-lawful : (n : ℕ) → AllLawful n → (q : Ask) (c : Call) (p : Pool) (last : Last) → Lawful last (Returned q) (acting (suc n) q c p)
 acting-lawful n ih q c p last = each (warned_by (planned p c)) refl
   where
+    done : Work Reply
+    done = effect (free n) (unlink n) (children n) (numbered (reading n)) (turned q (taking n)) (planned p c)
+
     each : (o : Option Obj) → warned_by (planned p c) ≡ o → Lawful last (Returned q) (acting (suc n) q c p)
     each None k = same-lawful last (Returned q) (acting (suc n) q c p)
-        (λ js. followed (effect (free n) (unlink n) (children n) (numbered (reading n)) (turned q (taking n)) (planned p c) p js) (λ r p' left. telling n (Some (record { call = c; start = p })) (later q r) r p' left)) (λ js. rw k refl)
-        (followed-lawful last Any (Returned q) (effect (free n) (unlink n) (children n) (numbered (reading n)) (turned q (taking n)) (planned p c) p) (λ r p' left. telling n (Some (record { call = c; start = p })) (later q r) r p' left)
+        (λ js. followed (done p js) (λ r p' left. telling n (Some (record { call = c; start = p })) (later q r) r p' left)) (λ js. rw k refl)
+        (followed-lawful last Any (Returned q) (done p) (λ r p' left. telling n (Some (record { call = c; start = p })) (later q r) r p' left)
         (plan-lawful n ih q (planned p c) p last) (λ r p' l w. ih.later q r (Some (record { call = c; start = p })) p' l))
     each (Some x) k = same-lawful last (Returned q) (acting (suc n) q c p)
-        (λ js. followed (effect (free n) (unlink n) (children n) (numbered (reading n)) (turned q (taking n)) (planned p c) p js) (λ r p' left. warning n (Some (record { call = c; start = p })) (later q r) x r p' left)) (λ js. rw k refl)
-        (followed-lawful last Any (Returned q) (effect (free n) (unlink n) (children n) (numbered (reading n)) (turned q (taking n)) (planned p c) p) (λ r p' left. warning n (Some (record { call = c; start = p })) (later q r) x r p' left)
+        (λ js. followed (done p js) (λ r p' left. warning n (Some (record { call = c; start = p })) (later q r) x r p' left)) (λ js. rw k refl)
+        (followed-lawful last Any (Returned q) (done p) (λ r p' left. warning n (Some (record { call = c; start = p })) (later q r) x r p' left)
         (plan-lawful n ih q (planned p c) p last) (λ r p' l w. ih.warning q x r (Some (record { call = c; start = p })) p' l))
 
 warning-lawful : (n : ℕ) → AllLawful n → (q : Ask) (x : Obj) (r : Reply) (about : Option CallStart) (p : Pool) (last : Last) → Lawful last (Returned q) (warning (suc n) about (later q r) x r p)
