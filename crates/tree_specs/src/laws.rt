@@ -91,7 +91,7 @@ pub fn every_story_is_grounded()
 {}
 
 /// What waits for its turn is at every moment a live event with a handler: an immediate where it comes soon, a timer where
-/// it has a time. What is being freed, or will be once its handler is over, waits no more, and only objects have handlers.
+/// it has a time. What is being freed, or will be once its handler is over, waits no more, and only events have handlers.
 pub fn what_waits_is_a_live_event()
     ensures in_stories { (first : ℕ) (is : List InputData) → 1 ≤ first → EachFits AwaitsBefore (story first is) }
     ensures after_each_step { (v : View) → IsConsistent v → Awaits v.pool → Awaits (pool_after (step v.innermost v.pool)) }

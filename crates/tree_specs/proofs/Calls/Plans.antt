@@ -21,7 +21,7 @@ use Rattle.tree_specs.specs.Invariants.Consistent.{deposit, mark_deposit}
 use Rattle.tree_specs.specs.Calls.Refusals.{Check, tests, refusals, is_immediate, is_doomed_mark}
 use Rattle.tree_specs.specs.declared.moment.What.TheVariants as what
 use Rattle.tree_specs.specs.Events.Coming.{comes_as}
-use Rattle.tree_specs.specs.Invariants.Awaiting.{MayCome}
+use Rattle.tree_specs.specs.Invariants.Awaiting.{MayCome, is_event_row}
 use Rattle.std.proofs.lemmas.Bool.{eq-eqb}
 use Rattle.tree_specs.specs.declared.test.Test.TheVariants.{IsObject, IsImmediate, IsNotDoomed}
 use Rattle.tree_specs.specs.Calls.Plans.{Change, Plan, changed_by, plan, planned, unless_refused, places, warns, frees, handed, gift}
@@ -58,7 +58,7 @@ MayDo p Nothing = Unit {0}
 MayDo p (Edit x g) = MayBeEdited p x g
 MayDo p (Add kind o size name) = MayBeAdded p kind o
 MayDo p (Place o x) = MayBePlaced p o x
-MayDo p (Handle x handler) = is_row p.rows x ≡ true
+MayDo p (Handle x handler) = is_event_row (row_of p.rows x) ≡ true
 MayDo p (Schedule x) = MayCome what.Immediate (row_of p.rows x) × (is_some (p.handlers x.0) ≡ true)
 MayDo p (Unschedule x) = Unit {0}
 MayDo p (Arm x time number) = MayCome what.Timer (row_of p.rows x) × (is_some (p.handlers x.0) ≡ true)
@@ -204,6 +204,10 @@ module _ (f : Frame) (fs : List Frame) (p : Pool) (s : Sound f fs p) where
       comes kind.Immediate e = refl
       comes _ e = cc
 
+  event : (x : Obj) (o : Option Row) → MayCome what.Immediate o → is_event_row o ≡ true
+  event x None h = absurd h
+  event x (Some r) h = rw h.0 refl
+
   each : (c : Call) → AllPassed p (tests c) → May p (plan p c)
   each (call.New o size name) h = (record { there = h.1.0; target = λ t e. cc }, omega arith, tt)
   each (call.Free x) h = freed x h.0 (newest_ref p.rows x) refl
@@ -229,7 +233,7 @@ module _ (f : Frame) (fs : List Frame) (p : Pool) (s : Sound f fs p) where
   each (call.Immediate o) h = (record { there = h.0; target = λ t e. cc }, omega arith, tt)
   each (call.Schedule x routine user) h = by_test (nat_eq routine 0)
       (λ t. rw t (tt, omega arith, tt))
-      (λ t. rw t ((rw h.0.1 refl, (scheduled x h, rw (eq-eqb x.0 x.0 refl) refl)), omega arith, tt))
+      (λ t. rw t ((event x (row_of p.rows x) (scheduled x h), (scheduled x h, rw (eq-eqb x.0 x.0 refl) refl)), omega arith, tt))
   each (call.Unschedule x) h = (tt, omega arith, tt)
   each (call.Timer o time routine user) h =
       let n : Obj = record { 0 = p.next } in

@@ -11,11 +11,11 @@ use Rattle.tree_specs.specs.declared.moment.What.{What}
 use Rattle.tree_specs.specs.declared.moment.What.TheVariants.{Immediate, Timer}
 use Rattle.tree_specs.specs.Words.Objects.{same}
 use Rattle.tree_specs.specs.Tree.Targets.{target_of}
-use Rattle.tree_specs.specs.Tree.Pool.{Pool, row_of, is_row, target_at, changed, without, add, remove, place, set_mark, marked_row, set_handler, schedule, unschedule, arm, disarm}
+use Rattle.tree_specs.specs.Tree.Pool.{Pool, row_of, target_at, changed, without, add, remove, place, set_mark, marked_row, set_handler, schedule, unschedule, arm, disarm}
 use Rattle.tree_specs.specs.Events.Coming.{comes_as}
 use Rattle.tree_specs.specs.Calls.Refusals.{is_doomed_mark}
 use Rattle.tree_specs.specs.Invariants.Sound.{MayBePlaced}
-use Rattle.tree_specs.specs.Invariants.Awaiting.{waits, MayCome, Awaits}
+use Rattle.tree_specs.specs.Invariants.Awaiting.{waits, MayCome, is_event_row, Awaits}
 use Rattle.tree_specs.proofs.Tree.Numbered.{by_test, same-true, same-equal, same-false, same_or_not}
 use Rattle.tree_specs.proofs.Tree.Rows.{row_of-changed-other, row_of-without-other, row_of-placed-other, row_of-placed-same}
 use Rattle.tree_specs.proofs.Invariants.Turning.{comes-event}
@@ -39,15 +39,12 @@ changed-comes g (s ∷ rs) x y w k h = by_test (same s.serial x)
     (λ u. let h' : MayCome w (Some s) = rw u at h in rw (t, u) h')
     (λ u. let h' : MayCome w (row_of rs y) = rw u at h in rw (t, u) (changed-comes g rs x y w k h')))
 
-pub changed-none : (g : Row → Row) (rs : List Row) (x y : Obj) → ((r : Row) → (g r).serial ≡ r.serial) → row_of (changed g rs x) y ≡ None → row_of rs y ≡ None
-changed-none g [] x y k h = h
-changed-none g (s ∷ rs) x y k h = by_test (same s.serial x)
-    (λ t. by_test (same s.serial y)
-    (λ u. let e = rw (t, k s, u) at h in cc)
-    (λ u. rw u (rw (t, k s, u) at h)))
-    (λ t. by_test (same s.serial y)
-    (λ u. let bad : Some s ≡ None = rw (t, u) at h in cc)
-    (λ u. rw u (changed-none g rs x y k (rw (t, u) at h))))
+-- it is an event exactly where it was one
+changed-event : (g : Row → Row) (rs : List Row) (x y : Obj) → ((r : Row) → (g r).serial ≡ r.serial) → ((r : Row) → (g r).kind ≡ r.kind) → is_event_row (row_of (changed g rs x) y) ≡ is_event_row (row_of rs y)
+changed-event g [] x y k l = refl
+changed-event g (s ∷ rs) x y k l = by_test (same s.serial x)
+    (λ t. by_test (same s.serial y) (λ u. rw (t, k s, u, l s) refl) (λ u. rw (t, k s, u) refl))
+    (λ t. by_test (same s.serial y) (λ u. rw (t, u) refl) (λ u. let ih = changed-event g rs x y k l in rw (t, u) ih))
 
 -- a reference doesn't come
 pub reference-stays : (p : Pool) (r t : Obj) → target_at p.rows r ≡ Some t → (w : What) → MayCome w (row_of p.rows r) → ⊥
@@ -67,11 +64,11 @@ same-awaits p q a fewer rows handlers = record {
   handlers = λ x e. rw handlers (a.handlers x (rw rows at e));
 }
 
-rows-awaits : (p : Pool) (rows : List Row) → Awaits p → ((w : What) (x : Obj) → MayCome w (row_of p.rows x) → MayCome w (row_of rows x)) → ((x : Obj) → row_of rows x ≡ None → row_of p.rows x ≡ None)
+rows-awaits : (p : Pool) (rows : List Row) → Awaits p → ((w : What) (x : Obj) → MayCome w (row_of p.rows x) → MayCome w (row_of rows x)) → ((x : Obj) → is_event_row (row_of rows x) ≡ is_event_row (row_of p.rows x))
     → Awaits (record p { rows = rows })
-rows-awaits p rows a comes none = record {
+rows-awaits p rows a comes event = record {
   events = λ w x h. (let e = a.events w x (same-waits w x h) in (comes w x e.0, e.1));
-  handlers = λ x e. a.handlers x (none x e);
+  handlers = λ x e. a.handlers x (sym (event x) ∙ e);
 }
   where
     same-waits : (w : What) (x : Obj) → waits w (record p { rows = rows }) x ≡ true → waits w p x ≡ true
@@ -80,13 +77,13 @@ rows-awaits p rows a comes none = record {
     same-waits _ x h = cc
 
 pub changed-awaits : (g : Row → Row) (p : Pool) (x : Obj) → Stays g → Awaits p → Awaits (record p { rows = changed g p.rows x })
-changed-awaits g p x k a = rows-awaits p (changed g p.rows x) a (λ w y h. changed-comes g p.rows x y w k h) (λ y e. changed-none g p.rows x y k.serial e)
+changed-awaits g p x k a = rows-awaits p (changed g p.rows x) a (λ w y h. changed-comes g p.rows x y w k h) (λ y. changed-event g p.rows x y k.serial k.kind)
 
 pub marked-awaits : (m : Mark) (p : Pool) (x : Obj) → is_doomed_mark m ≡ false → Awaits p → Awaits (set_mark p x m)
 marked-awaits m p x live a = changed-awaits (marked_row m) p x (record { serial = λ r. refl; kind = λ r. refl; mark = λ r h. live }) a
 
 pub placed-awaits : (p : Pool) (o : Owner) (x : Obj) → MayBePlaced p o x → Awaits p → Awaits (place p o x)
-placed-awaits p o x may a = rows-awaits p (place p o x).rows a comes none
+placed-awaits p o x may a = rows-awaits p (place p o x).rows a comes event
   where
     here : row_of (place p o x).rows x ≡ Some (record may.row { owner = Some o })
     here = row_of-placed-same p o x may.row may.is
@@ -100,21 +97,19 @@ placed-awaits p o x may a = rows-awaits p (place p o x).rows a comes none
       | inr ne ↦ rw (row_of-placed-other p o x y may.row may.is ne) h
     ]
 
-    none : (y : Obj) → row_of (place p o x).rows y ≡ None → row_of p.rows y ≡ None
-    none y h = elim (same_or_not x y) [
-      | inl e ↦
-          let h' : row_of (place p o x).rows x ≡ None = subst (λ (z : Obj). row_of (place p o x).rows z ≡ None) (sym e) h in
-          let bad : Some (record may.row { owner = Some o }) ≡ None = sym here ∙ h' in cc
-      | inr ne ↦ sym (row_of-placed-other p o x y may.row may.is ne) ∙ h
+    event : (y : Obj) → is_event_row (row_of (place p o x).rows y) ≡ is_event_row (row_of p.rows y)
+    event y = elim (same_or_not x y) [
+      | inl e ↦ subst (λ (z : Obj). is_event_row (row_of (place p o x).rows z) ≡ is_event_row (row_of p.rows z)) e (ap is_event_row here ∙ sym (ap is_event_row may.is))
+      | inr ne ↦ ap is_event_row (row_of-placed-other p o x y may.row may.is ne)
     ]
 
 -- ---- an object waits no more, and won't come
 
 -- one that leaves, or is doomed
-pub gone-awaits : (g : Row → Row) (p : Pool) (x : Obj) → ((r : Row) → (g r).serial ≡ r.serial) → Awaits p → Awaits (record (disarm (unschedule p x) x) { rows = changed g p.rows x })
-gone-awaits g p x serial a = record {
+pub gone-awaits : (g : Row → Row) (p : Pool) (x : Obj) → ((r : Row) → (g r).serial ≡ r.serial) → ((r : Row) → (g r).kind ≡ r.kind) → Awaits p → Awaits (record (disarm (unschedule p x) x) { rows = changed g p.rows x })
+gone-awaits g p x serial kind a = record {
   events = λ w y h. (let o = other w y h in rw (row_of-changed-other g p.rows x y serial o.1) (a.events w y o.0));
-  handlers = λ y e. a.handlers y (changed-none g p.rows x y serial e);
+  handlers = λ y e. a.handlers y (sym (changed-event g p.rows x y serial kind) ∙ e);
 }
   where
     other : (w : What) (y : Obj) → waits w (record (disarm (unschedule p x) x) { rows = changed g p.rows x }) y ≡ true → (waits w p y ≡ true) × (x ≢ y)
@@ -138,10 +133,10 @@ removed-awaits p x stays a = record { events = events; handlers = handlers }
         let apart : same y x ≡ false = same-false y x (λ q. ne (sym q)) in
         rw (row_of-without-other p.rows x y ne, apart) e
 
-    handlers : (y : Obj) → row_of (without p.rows x) y ≡ None → (remove p x).handlers y.0 ≡ None
+    handlers : (y : Obj) → is_event_row (row_of (without p.rows x) y) ≡ false → (remove p x).handlers y.0 ≡ None
     handlers y e = by_test (same y x)
         (λ t. rw t refl)
-        (λ t. rw t (a.handlers y (sym (row_of-without-other p.rows x y (λ q. let u : same y x ≡ true = same-equal y x (sym q) in let bad : true ≡ false = sym u ∙ t in cc)) ∙ e)))
+        (λ t. rw t (a.handlers y (sym (ap is_event_row (row_of-without-other p.rows x y (λ q. let u : same y x ≡ true = same-equal y x (sym q) in let bad : true ≡ false = sym u ∙ t in cc))) ∙ e)))
 
 -- ---- a new object
 
@@ -162,14 +157,14 @@ added-awaits p kind o size name fresh a = record { events = events; handlers = h
         let ne : same n y ≡ false = same-false n y (λ q. let bad : MayCome w None = rw fresh at (subst (λ (z : Obj). MayCome w (row_of p.rows z)) (sym q) e.0) in bad) in
         rw ne e
 
-    handlers : (y : Obj) → row_of (add p kind o size name).rows y ≡ None → p.handlers y.0 ≡ None
+    handlers : (y : Obj) → is_event_row (row_of (add p kind o size name).rows y) ≡ false → p.handlers y.0 ≡ None
     handlers y e = by_test (same n y)
-        (λ t. let e' = rw t at e in cc)
+        (λ t. a.handlers y (let q : n ≡ y = same-true n y t in subst (λ (z : Obj). is_event_row (row_of p.rows z) ≡ false) q (ap is_event_row fresh)))
         (λ t. a.handlers y (rw t at e))
 
 -- ---- an object is to come
 
-pub handled-awaits : (p : Pool) (x : Obj) (h : Handler) → is_row p.rows x ≡ true → Awaits p → Awaits (set_handler p x h)
+pub handled-awaits : (p : Pool) (x : Obj) (h : Handler) → is_event_row (row_of p.rows x) ≡ true → Awaits p → Awaits (set_handler p x h)
 handled-awaits p x h there a = record { events = events; handlers = handlers }
   where
     still : (w : What) (y : Obj) → waits w (set_handler p x h) y ≡ true → waits w p y ≡ true
@@ -182,9 +177,9 @@ handled-awaits p x h there a = record { events = events; handlers = handlers }
         let e = a.events w y (still w y k) in
         by_test (same y x) (λ t. rw t (e.0, refl)) (λ t. rw t e)
 
-    handlers : (y : Obj) → row_of p.rows y ≡ None → (set_handler p x h).handlers y.0 ≡ None
+    handlers : (y : Obj) → is_event_row (row_of p.rows y) ≡ false → (set_handler p x h).handlers y.0 ≡ None
     handlers y e = by_test (same y x)
-        (λ t. let e' : row_of p.rows x ≡ None = subst (λ (z : Obj). row_of p.rows z ≡ None) (same-true y x t) e in let bad : false ≡ true = rw e' at there in cc)
+        (λ t. let e' : is_event_row (row_of p.rows x) ≡ false = subst (λ (z : Obj). is_event_row (row_of p.rows z) ≡ false) (same-true y x t) e in let bad : true ≡ false = sym there ∙ e' in cc)
         (λ t. rw t (a.handlers y e))
 
 pub scheduled-awaits : (p : Pool) (x : Obj) → MayCome Immediate (row_of p.rows x) → is_some (p.handlers x.0) ≡ true → Awaits p → Awaits (schedule p x)

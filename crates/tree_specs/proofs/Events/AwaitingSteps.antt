@@ -59,7 +59,7 @@ beginning x fs p s a = each (newest_ref p.rows x) refl
   where
     marks : (r : Row) (m : Mark) → r.mark ≡ m → Awaits (pool_after (begin_step x (Some r) p))
     marks r Quiet m = rw m (by_test (nat_eq r.hook 0) (λ t. rw t a) (λ t. rw t (marked-awaits Asked p x refl a)))
-    marks r Busy m = rw m (gone-awaits (marked_row Doomed) p x (λ q. refl) a)
+    marks r Busy m = rw m (gone-awaits (marked_row Doomed) p x (λ q. refl) (λ q. refl) a)
     marks r Asked m = rw m a
     marks r _ m = rw m a
 
@@ -122,7 +122,7 @@ free-awaits (Releasing x) fs p s a = releasing x fs p s a
 free-awaits (Giving x o) fs p s a = placed-awaits p o x s.rests a
 free-awaits (Beginning x) fs p s a = beginning x fs p s a
 free-awaits (Judged x h v) fs p s a = judged x h v p a
-free-awaits (Leaving x h) fs p s a = gone-awaits left_row p x (λ r. refl) a
+free-awaits (Leaving x h) fs p s a = gone-awaits left_row p x (λ r. refl) (λ r. refl) a
 free-awaits (Looping x purpose) fs p s a = looping x purpose fs p s a
 free-awaits (AfterChild x c noted purpose b) fs p s a = tried x c noted purpose b fs p s a
 free-awaits _ fs p s a = a

@@ -1,5 +1,5 @@
 -- What waits for its turn at every moment: live events of their kinds, each with a handler.
-use Rattle.std.specs.Prelude.{◌≡◌, Bool, true, false, is_some, List, Option, Some, None}
+use Rattle.std.specs.Prelude.{◌≡◌, Bool, true, false, ◌||◌, is_some, List, Option, Some, None}
 use Rattle.step_machine.specs.Machine.{Move}
 use Rattle.step_machine.specs.Machine.Move.{Done, Go, Emit, Wait, Call}
 use Rattle.tree_specs.specs.declared.object.Obj.{Obj}
@@ -23,10 +23,14 @@ abbrev pub MayCome : What → Option Row → Type 0
 MayCome what None = ⊥
 MayCome what (Some r) = (comes_as what r.kind ≡ true) × (is_doomed_mark r.mark ≡ false)
 
+abbrev pub is_event_row : Option Row → Bool
+is_event_row None = false
+is_event_row (Some r) = comes_as Immediate r.kind || comes_as Timer r.kind
+
 pub record Awaits (p : Pool) : Type 0 where
   pub events : (what : What) (x : Obj) → waits what p x ≡ true → MayCome what (row_of p.rows x) × (is_some (p.handlers x.0) ≡ true)
-  -- only objects have handlers
-  pub handlers : (x : Obj) → row_of p.rows x ≡ None → p.handlers x.0 ≡ None
+  -- only events have handlers
+  pub handlers : (x : Obj) → is_event_row (row_of p.rows x) ≡ false → p.handlers x.0 ≡ None
 
 -- so it is just before an item
 abbrev pub AwaitsBefore : List Scene → Scene → Type 0
