@@ -42,6 +42,28 @@ fn reads_times(rt: HostRuntime) {
 }
 
 #[test]
+fn splits_at_the_first_such_byte(rt: HostRuntime) {
+    let cases = [
+        (
+            b"3:1:2".as_slice(),
+            b"3".as_slice(),
+            Some(b"1:2".as_slice()),
+        ),
+        (b":1".as_slice(), b"".as_slice(), Some(b"1".as_slice())),
+        (b"3:".as_slice(), b"3".as_slice(), Some(b"".as_slice())),
+        (b"3 1".as_slice(), b"3 1".as_slice(), None),
+        (b"".as_slice(), b"".as_slice(), None),
+    ];
+    for (text, first, rest) in cases {
+        assert_eq!(rt; split_part(text, b':'), (first, rest), "at {text:?}");
+    }
+    assert_eq!(rt;
+        split_word(b"3 1"),
+        (b"3".as_slice(), Some(b"1".as_slice()))
+    );
+}
+
+#[test]
 fn writes_after_what_is_there(rt: HostRuntime) -> Result<(), Fail> {
     let mut out = Vec::new(rt.alloc());
     write_pieces(
