@@ -1,6 +1,6 @@
 -- Open frees by themselves, and among the works of a host: what holds of the one holds of the other, whatever callers and turns
 -- wait.
-use Rattle.std.proofs.Common.{◌≡◌, ◌+◌, List, [], ◌∷◌, ◌++◌, map, refl, sym, ◌∙◌, ap, subst, arith}
+use Rattle.std.proofs.Common.{◌≡◌, ◌+◌, List, [], ◌∷◌, ◌++◌, refl, sym, ◌∙◌, ap, subst, arith}
 use Rattle.tree_specs.specs.declared.frame.Frame.{Frame}
 use Rattle.tree_specs.specs.declared.frame.Frame.TheVariants as frame
 use Rattle.tree_specs.specs.declared.frame.CallFrame.{CallFrame}
@@ -15,17 +15,16 @@ use Rattle.tree_specs.specs.declared.object.Obj.{Obj}
 use Rattle.tree_specs.specs.declared.row.Row.{Row}
 use Rattle.tree_specs.specs.declared.row.Mark.{Mark}
 use Rattle.tree_specs.specs.declared.row.Mark.TheVariants.{Quiet, Asked, Busy, Doomed, Dying}
-use Rattle.tree_specs.specs.Tree.Inside.{total}
 use Rattle.tree_specs.specs.Tree.Pool.{Pool, row_of}
 use Rattle.tree_specs.specs.Rules.Story.{hook_moment}
-use Rattle.tree_specs.specs.Machine.Profiles.{Phase, InRun, free_profile, profile}
+use Rattle.tree_specs.specs.Machine.Profiles.{Phase, free_profile, profile}
 use Rattle.tree_specs.specs.Invariants.Sound.{Sound, Footing, phases, footing, claims, MayWait, IsWaiting, AllWait, FreeRests}
 use Rattle.tree_specs.specs.Invariants.Sound.Footing.{OnCall}
-use Rattle.tree_specs.specs.Invariants.Consistent.{Serves, IsCaller, IsRun, IsFree, IsStacked, sizes, deposit, IsConsistent}
-use Rattle.tree_specs.specs.Invariants.Alone.{free_footing, free_claim, free_claims, free_phases, AllFreesWait, free_sizes, AwaitsRun, FreesHold, FreesWork, FreesWait}
+use Rattle.tree_specs.specs.Invariants.Consistent.{Serves, IsCaller, IsRun, IsFree, IsStacked, sizes, IsConsistent}
+use Rattle.tree_specs.specs.Invariants.Alone.{free_footing, free_claim, free_claims, free_phases, AllFreesWait, free_sizes, AwaitsRun, FreesHold, FreesWait}
 use Rattle.destructors.specs.Callers.{OpenTurn, turned, calling, standing, under, free_view, call_view}
-use Rattle.destructors.specs.Works.{LeavesIdle, AtWork, turn_phases}
-use Rattle.destructors.proofs.Paying.{free_deposit, both-deposits, frees-light, work-light}
+use Rattle.destructors.specs.Works.{LeavesIdle, AtWork}
+use Rattle.destructors.proofs.Paying.{both-deposits, frees-light, work-light}
 use Rattle.destructors.proofs.Parts.{joined, free_part, standing-part, work-part, under-part, turn-part, phases-part, both-phases, no-turn, asked_on, with_turn, some_turns, turns-claim, turns-weigh}
 
 -- ---- from a host's works to the frees

@@ -1,6 +1,5 @@
 -- What the frees of a host claim, apart from what its turns claim.
-use Rattle.std.proofs.Common.{◌≡◌, ℕ, ◌+◌, List, [], ◌∷◌, ◌++◌, Bool, Option, Some, None, true, false, nat_eq, refl, sym, ◌∙◌, ap, arith}
-use Rattle.tree_specs.specs.declared.frame.Frame.{Frame}
+use Rattle.std.proofs.Common.{◌≡◌, ◌+◌, List, [], ◌∷◌, ◌++◌, Bool, Option, Some, None, true, false, nat_eq, refl, sym, ◌∙◌, ap, arith}
 use Rattle.tree_specs.specs.declared.frame.Frame.TheVariants as frame
 use Rattle.tree_specs.specs.declared.frame.CallFrame.{CallFrame}
 use Rattle.tree_specs.specs.declared.frame.FreeFrame.{FreeFrame}
@@ -25,7 +24,7 @@ use Rattle.tree_specs.specs.Machine.Profiles.{Phase, InRun, InHandler, InLoop}
 use Rattle.tree_specs.specs.Invariants.Sound.{phases, claim, claims, claim_if}
 use Rattle.tree_specs.specs.Invariants.Consistent.{sizes}
 use Rattle.tree_specs.specs.Invariants.Alone.{free_claim, free_claims, free_phases}
-use Rattle.tree_specs.proofs.Tree.Numbered.{by_test, same-equal}
+use Rattle.tree_specs.proofs.Tree.Numbered.{by_test}
 use Rattle.tree_specs.proofs.Tree.Rows.{row_of-serial}
 use Rattle.destructors.specs.Callers.{OpenTurn, turned, calling, standing, under}
 use Rattle.destructors.specs.Works.{turn_phases}

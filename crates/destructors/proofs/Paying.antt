@@ -1,5 +1,5 @@
 -- What the open frees weigh, the rows pay for: each work that weighs something claims an object of its own.
-use Rattle.std.proofs.Common.{◌≡◌, ◌≢◌, ℕ, ◌+◌, ◌*◌, ◌≤◌, List, [], ◌∷◌, ◌++◌, length, Bool, Option, Some, None, true, false, nat_eq, refl, sym, ◌∙◌, ap, arith}
+use Rattle.std.proofs.Common.{◌≡◌, ℕ, ◌+◌, ◌*◌, ◌≤◌, List, [], ◌∷◌, ◌++◌, length, Option, Some, None, true, nat_eq, refl, sym, ◌∙◌, ap, arith}
 use Rattle.tree_specs.specs.declared.frame.FreeFrame.{FreeFrame}
 use Rattle.tree_specs.specs.declared.frame.FreeFrame.TheVariants.{Hooked, Judged, Leaving, Looping, FreeingChild, AfterChild}
 use Rattle.tree_specs.specs.declared.frame.Purpose.{Purpose}
@@ -11,7 +11,7 @@ use Rattle.tree_specs.specs.declared.row.Mark.TheVariants.{Quiet, Asked, Busy, D
 use Rattle.tree_specs.specs.Words.Objects.{same}
 use Rattle.tree_specs.specs.Tree.Forest.{Distinct}
 use Rattle.tree_specs.specs.Tree.Inside.{total}
-use Rattle.tree_specs.specs.Tree.Pool.{Pool, row_of}
+use Rattle.tree_specs.specs.Tree.Pool.{row_of}
 use Rattle.tree_specs.specs.Machine.Profiles.{Phase, InRun, InLoop, free_profile}
 use Rattle.tree_specs.specs.Invariants.Sound.{claim_if}
 use Rattle.tree_specs.specs.Invariants.Alone.{free_claim, free_claims, free_phases, free_sizes}

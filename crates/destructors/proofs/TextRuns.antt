@@ -38,7 +38,7 @@ use Rattle.tree_specs.specs.Machine.Meaning.{noted_table, mean, stated}
 use Rattle.tree_specs.specs.Machine.Table.{FreeMove, table, notes, step, resume, free_step, free_resume, freeing_resume, event_of, lifted}
 use Rattle.tree_specs.proofs.Rules.Means.{run-means}
 use Rattle.tree_specs.proofs.Rules.MidStories.{innermost-enough}
-use Rattle.destructors.specs.Frees.{OpenFrees, answered, moved, moves, next_of, speaks, speaking, Silently, Still, On, Steps, Begins}
+use Rattle.destructors.specs.Frees.{OpenFrees, answered, moved, moves, next_of, speaking, Silently, Still, On, Steps, Begins}
 use Rattle.destructors.specs.Runs.{IsNews, listed, told_of, AwaitsHook, hook_run, told_back, Drives, Over, Tells, Runs, EndsAs}
 use Rattle.destructors.proofs.FreeMoves.{IsNoHook, AsksFor, IsMoveOf, is_move}
 use Rattle.destructors.specs.Callers.{OpenTurn, free_view}

@@ -1,5 +1,5 @@
 -- What the code calls a move, and what a move rests on.
-use Rattle.std.specs.Prelude.{◌≡◌, Option, Some, None, true, false}
+use Rattle.std.specs.Prelude.{◌≡◌, Option, None, true, false}
 use Rattle.step_machine.specs.Machine.{Move as Do}
 use Rattle.tree_specs.specs.declared.object.Obj.{Obj}
 use Rattle.tree_specs.specs.declared.object.Owner.{Owner}
