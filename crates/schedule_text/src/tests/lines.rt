@@ -111,12 +111,11 @@ fn reads_the_time(rt: HostRuntime) -> Result<(), Fail> {
 
 #[test]
 fn reads_what_is_ready(rt: HostRuntime) -> Result<(), Fail> {
-    let three = Want { fd: 3, flags: 1 };
-    let five = Want { fd: 5, flags: 3 };
+    let two = [Want { fd: 3, flags: 1 }, Want { fd: 5, flags: 3 }];
     let cases = [
-        (b"ready".as_slice(), [].as_slice()),
-        (b"ready 3:1".as_slice(), [three].as_slice()),
-        (b"ready 3:1 5:3".as_slice(), [three, five].as_slice()),
+        (b"ready".as_slice(), &two[..0]),
+        (b"ready 3:1".as_slice(), &two[..1]),
+        (b"ready 3:1 5:3".as_slice(), &two[..]),
     ];
     for (line, want) in cases {
         match read_line(rt.alloc(), line)? {
