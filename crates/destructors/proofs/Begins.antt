@@ -45,8 +45,7 @@ begins-idle _ p may = tt
 pub begins : (f : FreeFrame) (s : OpenFrees) → MayBegin f s.pool → IsAwaiting s → AtWork (f ∷ s.works) s.pool
 begins f s may a =
     let l = a.light in
-    let n = may.small in
-    (
+    let n = may.small in (
       record {
         sound = holding a.sound (λ x. rw (may.claims_nothing x) (a.sound.open_frees x)) a.sound.waiting (rw (on-call s.works a.sound.rests) (may.rests (λ x. free_claims x s.works)));
         light = omega (arith, l, n);

@@ -79,8 +79,7 @@ pub work-alone : (f : FreeFrame) (fs : List FreeFrame) (cs : List CallFrame) (ts
 work-alone f fs cs ts p w =
     let claimed = λ (x : Obj). sym (work-part x f fs cs ts) ∙ ap free_part (w.sound.open_frees x) ∙ phases-part (row_of p.rows x) in
     let l = work-light p.rows f fs w.sound.forest.distinct claimed in
-    let b = both-deposits p.rows in
-    (
+    let b = both-deposits p.rows in (
       record {
         sound = without-callers w.sound claimed
             (standing-waits f fs cs ts w.seated w.sound.waiting)

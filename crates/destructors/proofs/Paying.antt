@@ -81,9 +81,9 @@ hit : (rs : List Row) (y : Obj) (a : Phase) (r : Row) → row_of rs y ≡ Some r
 hit [] y a r e = cc
 hit (s ∷ rs) y a r e = by_test (same s.serial y)
     (λ t.
-      let is : s.serial ≡ y = row_of-serial (s ∷ rs) y s (rw t refl) in
-      let here : same y s.serial ≡ true = same-equal y s.serial (sym is) in
-      rw here (omega arith))
+    let is : s.serial ≡ y = row_of-serial (s ∷ rs) y s (rw t refl) in
+    let here : same y s.serial ≡ true = same-equal y s.serial (sym is) in
+    rw here (omega arith))
     (λ t. let e' : row_of rs y ≡ Some r = rw t at e in let ih = hit rs y a r e' in omega (arith, ih))
 
 pays-claim : (rs : List Row) (y : Obj) (a : Phase) → Backed rs (λ x. claim_if (same y x) a) → 3 ≤ 3 * hits rs (λ x. claim_if (same y x) a)
@@ -136,9 +136,9 @@ counted (r ∷ rs) g d h =
     later : (x : Obj) (q : Row) → row_of rs x ≡ Some q → row_of (r ∷ rs) x ≡ Some q
     later x q e = by_test (same r.serial x)
         (λ t.
-          let is : r.serial ≡ x = row_of-serial (r ∷ rs) x r (rw t refl) in
-          let none : row_of rs x ≡ None = ap (λ (z : Obj). row_of rs z) (sym is) ∙ d.0 in
-          let bad : None ≡ Some q = sym none ∙ e in cc)
+        let is : r.serial ≡ x = row_of-serial (r ∷ rs) x r (rw t refl) in
+        let none : row_of rs x ≡ None = ap (λ (z : Obj). row_of rs z) (sym is) ∙ d.0 in
+        let bad : None ≡ Some q = sym none ∙ e in cc)
         (λ t. rw t e)
 
 -- open frees weigh what their rows pay
