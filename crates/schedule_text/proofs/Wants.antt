@@ -1,5 +1,5 @@
 -- Descriptors that are ready: their spelling, both ways.
-use Rattle.std.proofs.Common.{◌≡◌, ℕ, ◌^◌, ◌<◌, Bool, true, false, eqb, ltb, cond, not, ◌&&◌, List, [], ◌∷◌, ◌++◌, map, Option, Some, None, refl, sym, ap, ◌∙◌, arith, append-nil, append_assoc}
+use Rattle.std.proofs.Common.{◌≡◌, ℕ, ◌^◌, ◌<◌, Bool, true, false, eqb, ltb, leb, cond, not, ◌&&◌, List, [], ◌∷◌, ◌++◌, map, Option, Some, None, refl, sym, ap, ◌∙◌, arith, append-nil, append_assoc}
 use Rattle.std.specs.Char.{is_ascii_digit}
 use Rattle.std.specs.Fmt.{decimal}
 use Rattle.std.specs.List.{list_all}
@@ -13,7 +13,7 @@ use Rattle.tree_specs.specs.declared.wants.Want.{Want}
 use Rattle.tree_specs.specs.Texts.Grammar.{◌>>=◌, words, number32_of, want_of, want_of_parts, wants_of, ready_of_words, ready_input_of}
 use Rattle.tree_specs.specs.Texts.Text.{want_text, wants_text}
 use Rattle.tree_specs.specs.Words.Ranges.{is_return}
-use Rattle.tree_specs.specs.Words.Wants.{is_wants, has_flags}
+use Rattle.tree_specs.specs.Words.Wants.{is_wants, is_want, has_flags, rises}
 use Rattle.text_forms.specs.Cursor.{parts}
 use Rattle.text_forms.proofs.Bools.{and_true, taken_where}
 use Rattle.text_forms.proofs.Fields.{HasRead, has_read, number32_field}
@@ -173,8 +173,23 @@ words-wants ws h = ap words (joined-wants [] ws) ∙ words-joined [] (map want_w
 
 -- ---- what can be ready
 
+want_is_small : (w : Want) → is_want w ≡ true → has_small_numbers w ≡ true
+want_is_small w h =
+    let both = and_true (ltb w.fd (2 ^ 32)) (has_flags w) h in
+    let flags = and_true (leb 1 w.flags) (leb w.flags 3) both.1 in
+    rw (both.0, flags_are_small w.flags flags.1) refl
+  where
+    flags_are_small : (n : ℕ) → leb n 3 ≡ true → is_return n ≡ true
+    flags_are_small n h = grind (arith, nat_tests)
+
+each_is_small : (ws : List Want) → list_all is_want ws ≡ true → all_small ws ≡ true
+each_is_small [] h = refl
+each_is_small (w ∷ ws) h =
+    let both = and_true (is_want w) (list_all is_want ws) h in
+    rw (want_is_small w both.0, each_is_small ws both.1) refl
+
 pub are_small : (ws : List Want) → is_wants ws ≡ true → all_small ws ≡ true
-are_small ws h = ?
+are_small ws h = each_is_small ws (and_true (list_all is_want ws) (rises ws) h).0
 
 pub list_again : (ws : List Want) → all_small ws ≡ true → is_wants ws ≡ true → spaced_list_of (words (wants_text ws)) ≡ Some ws
 list_again ws small h = rw (words-wants ws small, wants_again ws small, h) refl

@@ -1,7 +1,7 @@
 ghost use Rattle.std.specs.Prelude.{◌≡◌, List, IsTrue, IfSome, IsSome, ◌↔◌};
 ghost use Rattle.std.specs.List.{list_all};
 ghost use Rattle.tree_specs.specs.declared.wants.Want.{Want as WantData};
-ghost use Rattle.tree_specs.specs.Words.Wants.{is_wants, has_flags, rises, comes_before};
+ghost use Rattle.tree_specs.specs.Words.Wants.{is_wants, is_want, has_flags, rises, comes_before};
 
 use crate::listed::Listed;
 use std::marker::Model;
@@ -26,10 +26,16 @@ fn comes_before(first: Want, second: Want) -> bool
     first.fd < second.fd
 }
 
-fn all_have_flags(list: &[Want]) -> bool
-    ensures { result ≡ list_all has_flags list.now }
+fn is_want(want: Want) -> bool
+    ensures { result ≡ is_want want }
 {
-    list.iter().all(|want| has_flags(*want))
+    has_flags(want)
+}
+
+fn are_all_wants(list: &[Want]) -> bool
+    ensures { result ≡ list_all is_want list.now }
+{
+    list.iter().all(|want| is_want(*want))
 }
 
 fn rises(list: &[Want]) -> bool
@@ -41,8 +47,8 @@ fn rises(list: &[Want]) -> bool
 fn is_wants(list: &[Want]) -> bool
     ensures { result ≡ is_wants list.now }
 {
-    let flags = all_have_flags(list);
-    flags && rises(list)
+    let each = are_all_wants(list);
+    each && rises(list)
 }
 
 /// Which descriptors are ready: each once, the least first. Contracts see the list of them.
