@@ -183,6 +183,7 @@ impl FreeEngine {
         };
         match work {
             FreeFrame::Hooked { .. }
+            | FreeFrame::Dooming { .. }
             | FreeFrame::Leaving { .. }
             | FreeFrame::FreeingChild { .. }
             | FreeFrame::Ending { .. } => false,

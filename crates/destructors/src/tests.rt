@@ -112,6 +112,7 @@ impl World {
             FreeStep::Dropped { .. } => told,
             FreeStep::Refused { .. } => told,
             FreeStep::Accepted(_) => told,
+            FreeStep::Doom(_) => told,
             FreeStep::Left { .. } => told,
             FreeStep::Moved { .. } => told,
             FreeStep::Gone { .. } => told,

@@ -4,6 +4,7 @@ ghost use Rattle.tree_specs.specs.Words.Ranges.{is_sound, is_sound_call};
 ghost use Rattle.tree_specs.specs.Texts.Text.{call_text, input_text, newline};
 ghost use Rattle.tree_specs.specs.Texts.Written.{Writes};
 
+use crate::ready::write_ready;
 use text_forms::{write_call, write_numbers};
 use tree_specs::{Act, Call, Input, Memory};
 
@@ -28,6 +29,8 @@ fn write_line(input: &Input, out: &mut Vec<u8>) -> Result<(), Memory>
         Input::Call(call) => write_call_line(b"call ", call, out),
         Input::Act(Act::Do(call)) => write_call_line(b"act ", call, out),
         Input::Act(Act::Ret(value)) => write_numbers(b"ret", &[u64::from(*value)], b"\n", out),
+        Input::Clock(now) => write_numbers(b"clock", &[*now], b"\n", out),
+        Input::Ready(wants) => write_ready(wants, out),
     }
 }
 

@@ -1,5 +1,5 @@
 -- Each kind of field: its spelling, both ways.
-use Rattle.std.proofs.Common.{◌≡◌, ◌≢◌, ℕ, zero, suc, ◌^◌, ◌<◌, Bool, true, false, eqb, ltb, leb, not, ◌&&◌, List, [], ◌∷◌, length, Option, Some, None, refl, sym, ap, ◌∙◌, cond, arith}
+use Rattle.std.proofs.Common.{◌≡◌, ◌≢◌, ℕ, zero, suc, ◌^◌, ◌<◌, ◌≤◌, Bool, true, false, eqb, ltb, leb, not, ◌&&◌, List, [], ◌∷◌, length, Option, Some, None, refl, sym, ap, ◌∙◌, cond, arith}
 use Rattle.std.specs.Prelude.{IfSome, IfNone}
 use Rattle.std.specs.Char.{is_ascii_digit}
 use Rattle.std.specs.Fmt.{decimal}
@@ -7,6 +7,7 @@ use Rattle.std.specs.List.{list_all}
 use Rattle.std.specs.Str.{all_ascii_digits}
 use Rattle.std.proofs.lemmas.Bool.{ltb-true}
 use Rattle.std.proofs.lemmas.Bool.Decides.{nat_tests}
+use Rattle.tree_specs.specs.declared.bounds.TheConstants.{TIME_LIMIT}
 use Rattle.tree_specs.specs.declared.object.Obj.{Obj}
 use Rattle.tree_specs.specs.declared.object.Owner.{Owner}
 use Rattle.tree_specs.specs.declared.object.Owner.TheVariants.{Root, Of}
@@ -152,25 +153,31 @@ spelled_some : {read : List ℕ → Option ℕ} {is_sound : ℕ → Bool} (field
 spelled_some field None ds e = tt
 spelled_some field (Some n) ds e = (field.spelled ds n (sym e)).0
 
--- what is none is the spelling of no number below the limit
-spelled_none : {read : List ℕ → Option ℕ} (limit : ℕ) (field : IsField read decimal (λ n. ltb n limit)) (o : Option ℕ) (ds : List ℕ) → o ≡ read ds → IfNone o ((n : ℕ) → n < limit → ds ≢ decimal n)
-spelled_none {read} limit field None ds e = λ n lt same. none_some n (e ∙ ap read same ∙ field.again n (grind (arith, nat_tests)))
+-- what is none is the spelling of no number in the range
+spelled_none : {read : List ℕ → Option ℕ} (InRange : ℕ → Type 0) (is_sound : ℕ → Bool) → ((n : ℕ) → InRange n → is_sound n ≡ true) → (field : IsField read decimal is_sound) (o : Option ℕ) (ds : List ℕ) → o ≡ read ds → IfNone o ((n : ℕ) → InRange n → ds ≢ decimal n)
+spelled_none {read} InRange is_sound sound field None ds e = λ n within same. none_some n (e ∙ ap read same ∙ field.again n (sound n within))
   where
     none_some : (n : ℕ) → None ≡ Some n → ⊥
     none_some n e = absurd cc
-spelled_none {read} limit field (Some n) ds e = tt
+spelled_none {read} InRange is_sound sound field (Some n) ds e = tt
 
 pub number_spelled_some : (o : Option ℕ) (ds : List ℕ) → o ≡ number_of ds → IfSome o (λ n. ds ≡ decimal n)
 number_spelled_some o ds e = spelled_some number_field o ds e
 
 pub number_spelled_none : (o : Option ℕ) (ds : List ℕ) → o ≡ number_of ds → IfNone o ((n : ℕ) → n < 2 ^ 64 → ds ≢ decimal n)
-number_spelled_none o ds e = spelled_none (2 ^ 64) number_field o ds e
+number_spelled_none o ds e = spelled_none (λ n. n < 2 ^ 64) is_number is_number_from number_field o ds e
 
 pub number32_spelled_some : (o : Option ℕ) (ds : List ℕ) → o ≡ number32_of ds → IfSome o (λ n. ds ≡ decimal n)
 number32_spelled_some o ds e = spelled_some number32_field o ds e
 
 pub number32_spelled_none : (o : Option ℕ) (ds : List ℕ) → o ≡ number32_of ds → IfNone o ((n : ℕ) → n < 2 ^ 32 → ds ≢ decimal n)
-number32_spelled_none o ds e = spelled_none (2 ^ 32) number32_field o ds e
+number32_spelled_none o ds e = spelled_none (λ n. n < 2 ^ 32) is_return (λ n lt. grind (arith, nat_tests)) number32_field o ds e
+
+pub time_spelled_some : (o : Option ℕ) (ds : List ℕ) → o ≡ time_of ds → IfSome o (λ n. ds ≡ decimal n)
+time_spelled_some o ds e = spelled_some time_field o ds e
+
+pub time_spelled_none : (o : Option ℕ) (ds : List ℕ) → o ≡ time_of ds → IfNone o ((n : ℕ) → n ≤ TIME_LIMIT → ds ≢ decimal n)
+time_spelled_none o ds e = spelled_none (λ n. n ≤ TIME_LIMIT) is_time (λ n le. grind (arith, nat_tests)) time_field o ds e
 
 -- ---- names
 

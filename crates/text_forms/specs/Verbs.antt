@@ -5,7 +5,7 @@ use Rattle.tree_specs.specs.Calls.Spelling.{Reading, forms}
 use Rattle.tree_specs.specs.Calls.Spelling.Reading.{IsConsistent, TakesOwner, TakesObject, TakesNumber, TakesRoutine, TakesRoutineOrNone, TakesTime, EndsInName}
 use Rattle.tree_specs.specs.Texts.Grammar.{◌>>=◌, number_of, object_of, owner_of, number32_of, routine_of, time_of, name_of, form_in}
 use Rattle.text_forms.specs.declared.verb.Verb.{Verb}
-use Rattle.text_forms.specs.declared.verb.Verb.TheVariants.{New, Free, Freekids, Steal, Move, Reparent, Reference, Unlink, Hook, Unhook, Rename, Resize, Limit, Parent, Total, Count, Sum, Report, Immediate, Schedule, Unschedule, Timer, Pending}
+use Rattle.text_forms.specs.declared.verb.Verb.TheVariants.{New, Free, Freekids, Steal, Move, Reparent, Reference, Unlink, Hook, Unhook, Rename, Resize, Limit, Parent, Total, Count, Sum, Report, Immediate, Schedule, Unschedule, Timer, Pending, Now, Turn}
 use Rattle.text_forms.specs.Cursor.{field, last_field}
 
 abbrev pub word_of : Verb → List ℕ
@@ -32,6 +32,8 @@ word_of Schedule = codes "schedule"
 word_of Unschedule = codes "unschedule"
 word_of Timer = codes "timer"
 word_of Pending = codes "pending"
+word_of Now = codes "now"
+word_of Turn = codes "turn"
 
 -- a word is this verb, or the verb of no form
 abbrev pub IsVerb : Option Verb → List ℕ → Type 0

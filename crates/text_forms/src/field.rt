@@ -117,7 +117,6 @@ impl<'a> Fields<'a> {
     }
 
     // There are no more fields.
-    #[tactic(auto, using(crate::proofs::Words::has_words))]
     pub(crate) fn end(&self) -> Result<(), FormFault>
         ensures { Ends result self.now }
     {

@@ -1,14 +1,15 @@
-ghost use Rattle.std.specs.Prelude.{◌≡◌, ◌≢◌, ℕ, ◌^◌, ◌<◌, ◌&&◌, nat_lt, IfSome, IfNone, Some, None};
+ghost use Rattle.std.specs.Prelude.{◌≡◌, ◌≢◌, ℕ, ◌^◌, ◌<◌, ◌≤◌, ◌&&◌, nat_lt, IfSome, IfNone, Some, None};
 ghost use Rattle.std.specs.Fmt.{decimal};
 ghost use Rattle.std.specs.Option.{option_map};
 ghost use Rattle.std.specs.Str.Parse.{digits_value};
-ghost use Rattle.tree_specs.specs.Texts.Grammar.{number_of, number32_of, is_short};
+ghost use Rattle.tree_specs.specs.Texts.Grammar.{number_of, number32_of, time_of, is_short};
 ghost use Rattle.tree_specs.specs.Texts.Written.{Writes};
+ghost use Rattle.tree_specs.specs.declared.bounds.TheConstants.{TIME_LIMIT};
 ghost use Rattle.text_forms.specs.Cursor.{leading_digits_of, number_at};
 
 use crate::piece::write_pieces;
 use itoa::Buffer;
-use tree_specs::Memory;
+use tree_specs::{Memory, TIME_LIMIT};
 
 // The value of the digits at the front, where it is below 2 ^ 64, and how many they are.
 fn leading_digits(text: &[u8]) -> Option<(u64, usize)>
@@ -89,6 +90,29 @@ pub fn read_u32(text: &[u8]) -> Option<u32>
     ensures none { IfNone result ((n : ℕ) → n < 2 ^ 32 → text.now ≢ decimal n) }
 {
     number32_value(text)
+}
+
+// A time, as the grammar defines it.
+#[tactic(auto, unfolding(tree_specs::specs::Texts::Grammar::time_of))]
+fn time_value(text: &[u8]) -> Option<u64>
+    ensures { result ≡ time_of text.now }
+{
+    match read_number(text)? {
+        n if n <= TIME_LIMIT => Some(n),
+        _ => None,
+    }
+}
+
+/// The time in microseconds that the text spells, from 0 to TIME_LIMIT. It is in decimal digits with no leading zero.
+/// None exactly where the text spells no such time.
+#[tactic(auto, using(crate::proofs::Fields::time_spelled_some, crate::proofs::Fields::time_spelled_none))]
+pub fn read_time(text: &[u8]) -> Option<u64>
+    ensures value { result ≡ time_of text.now }
+    // A time has one spelling, and what is none is the spelling of no time.
+    ensures spelled { IfSome result (λ n. text.now ≡ decimal n) }
+    ensures none { IfNone result ((n : ℕ) → n ≤ TIME_LIMIT → text.now ≢ decimal n) }
+{
+    time_value(text)
 }
 
 /// Appends the one spelling of a number. When memory runs out, a prefix of it was appended.

@@ -1,7 +1,7 @@
 use crate::{read_header, read_line, write_end, write_input};
 use std::test::Fail;
 use text_forms::{FormFault, read_name};
-use tree_specs::{Act, Ask, Call, Input, Mode, Obj, Owner};
+use tree_specs::{Act, Ask, Call, Input, Mode, Obj, Owner, Want};
 
 #[test]
 fn reads_a_call_of_new(rt: HostRuntime) -> Result<(), Fail> {
@@ -11,8 +11,7 @@ fn reads_a_call_of_new(rt: HostRuntime) -> Result<(), Fail> {
             assert_eq!(rt; size, 10);
             assert_eq!(rt; name.as_slice(), b"a-b".as_slice());
         }
-        Input::Call(_other) => assert!(rt; false, "another call"),
-        Input::Act(_act) => assert!(rt; false, "an act"),
+        _ => assert!(rt; false, "another input"),
     }
     Ok(())
 }
@@ -38,6 +37,13 @@ fn writes_what_was_read(rt: HostRuntime) -> Result<(), Fail> {
         b"act report 0".as_slice(),
         b"ret 0".as_slice(),
         b"ret 4294967295".as_slice(),
+        b"call now".as_slice(),
+        b"act turn".as_slice(),
+        b"clock 0".as_slice(),
+        b"clock 4611686018427387904".as_slice(),
+        b"ready".as_slice(),
+        b"ready 3:1 5:3".as_slice(),
+        b"ready 0:2 4294967295:1".as_slice(),
     ];
     for line in lines {
         let mut out = Vec::new(rt.alloc());
@@ -57,8 +63,7 @@ fn reads_acts(rt: HostRuntime) -> Result<(), Fail> {
             assert_eq!(rt; size, 10);
             assert_eq!(rt; name.as_slice(), b"a-b".as_slice());
         }
-        Input::Act(_other) => assert!(rt; false, "another act"),
-        Input::Call(_call) => assert!(rt; false, "a call"),
+        _ => assert!(rt; false, "another input"),
     }
     match read_line(rt.alloc(), b"act hook 1 16")? {
         Input::Act(Act::Do(Call::Hook { x, routine })) => {
@@ -80,6 +85,41 @@ fn reads_returns(rt: HostRuntime) -> Result<(), Fail> {
     for (line, want) in cases {
         match read_line(rt.alloc(), line)? {
             Input::Act(Act::Ret(value)) => assert_eq!(rt; value, want, "at {line:?}"),
+            _ => assert!(rt; false, "another input"),
+        }
+    }
+    Ok(())
+}
+
+#[test]
+fn reads_the_time(rt: HostRuntime) -> Result<(), Fail> {
+    let cases = [
+        (b"clock 0".as_slice(), 0),
+        (
+            b"clock 4611686018427387904".as_slice(),
+            4_611_686_018_427_387_904,
+        ),
+    ];
+    for (line, want) in cases {
+        match read_line(rt.alloc(), line)? {
+            Input::Clock(now) => assert_eq!(rt; now, want, "at {line:?}"),
+            _ => assert!(rt; false, "another input"),
+        }
+    }
+    Ok(())
+}
+
+#[test]
+fn reads_what_is_ready(rt: HostRuntime) -> Result<(), Fail> {
+    let two = [Want { fd: 3, flags: 1 }, Want { fd: 5, flags: 3 }];
+    let cases = [
+        (b"ready".as_slice(), &two[..0]),
+        (b"ready 3:1".as_slice(), &two[..1]),
+        (b"ready 3:1 5:3".as_slice(), &two[..]),
+    ];
+    for (line, want) in cases {
+        match read_line(rt.alloc(), line)? {
+            Input::Ready(wants) => assert_eq!(rt; wants.as_slice(), want, "at {line:?}"),
             _ => assert!(rt; false, "another input"),
         }
     }
@@ -117,6 +157,26 @@ fn reads_no_line(rt: HostRuntime) {
         b"ret 4294967296".as_slice(),
         b"ret 0 0".as_slice(),
         b"ret free 9".as_slice(),
+        b"call now 0".as_slice(),
+        b"clock".as_slice(),
+        b"clock ".as_slice(),
+        b"clock 01".as_slice(),
+        b"clock 0 0".as_slice(),
+        b"clock 4611686018427387905".as_slice(),
+        b"ready ".as_slice(),
+        b"ready 5:1 3:1".as_slice(),
+        b"ready 3:1 3:2".as_slice(),
+        b"ready 3:0".as_slice(),
+        b"ready 3:4".as_slice(),
+        b"ready 3".as_slice(),
+        b"ready 3:".as_slice(),
+        b"ready :1".as_slice(),
+        b"ready 3:1:1".as_slice(),
+        b"ready  3:1".as_slice(),
+        b"ready 3:1 ".as_slice(),
+        b"ready 03:1".as_slice(),
+        b"ready3:1".as_slice(),
+        b"ready 4294967296:1".as_slice(),
     ];
     for line in lines {
         let input = read_line(rt.alloc(), line);

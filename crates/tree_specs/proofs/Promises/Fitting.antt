@@ -10,15 +10,16 @@ use Rattle.tree_specs.specs.declared.row.Row.{Row}
 use Rattle.tree_specs.specs.declared.question.Ask.{Ask}
 use Rattle.tree_specs.specs.declared.question.Ask.TheVariants as ask
 use Rattle.tree_specs.specs.declared.reply.Reply.{Reply}
-use Rattle.tree_specs.specs.declared.event.Event.TheVariants.{Replied, Accepted, Refused, Moved, Freed, Warned, Unreferenced}
+use Rattle.tree_specs.specs.declared.event.Event.TheVariants.{Replied, Fired, Accepted, Refused, Moved, Freed, Warned, Unreferenced}
+use Rattle.tree_specs.specs.declared.moment.What.{What}
 use Rattle.tree_specs.specs.Words.Objects.{same, same_owner}
 use Rattle.tree_specs.specs.Tree.Pool.{row_of, is_row, is_object_row, is_owner}
 use Rattle.tree_specs.specs.Rules.Items.{Item}
 use Rattle.tree_specs.specs.Rules.Items.Item.{Told, Asked}
-use Rattle.tree_specs.specs.Promises.Orderly.{is_hook, accepts, frees, Fits, FreedOnce, RefusedJustNow, drops}
+use Rattle.tree_specs.specs.Promises.Orderly.{is_hook, asks_hook, accepts, frees, Fits, FreedOnce, RefusedJustNow, drops}
 use Rattle.tree_specs.specs.Invariants.Consistent.{IsQuiet}
 use Rattle.tree_specs.proofs.Tree.Numbered.{same-true, same_owner-true}
-use Rattle.tree_specs.proofs.Promises.Causes.{IsHookOf}
+use Rattle.tree_specs.proofs.Promises.Causes.{IsAskedAs, IsHook, IsNoHook}
 
 pub last-more : {T : Type 0} (Q : T → Type 0) (ts : List T) (t : T) → Q t → LastIs Q (ts ++ t ∷ [])
 last-more Q [] t h = h
@@ -82,7 +83,7 @@ module _ (items : List Item) (x : Obj) (free : list_any (accepts x) items ≡ fa
     states_go_up = tt;
   }
 
-  pub fits-asked : (q : Ask) → IsHookOf x q → Fits items (Asked q)
+  pub fits-asked : (q : Ask) → IsAskedAs (IsHook x) q → Fits items (Asked q)
   fits-asked (ask.Routine m) h = record {
     accepts_once = λ y e. never accepts free y (of y e);
     freed_once = tt;
@@ -104,17 +105,37 @@ module _ (items : List Item) (x : Obj) (free : list_any (accepts x) items ≡ fa
   fits-asked ask.Quiet h = absurd h
   fits-asked _ h = absurd h
 
-pub fits-quiet : (items : List Item) (q : Ask) → IsQuiet q → Fits items (Asked q)
-fits-quiet items ask.Quiet h = record {
-  accepts_once = λ y e. cc;
+-- a question to no destructor
+pub fits-question : (items : List Item) (q : Ask) → ((y : Obj) → asks_hook y (Asked q) ≡ false) → Fits items (Asked q)
+fits-question items q none = record {
+  accepts_once = λ y e. (let bad : false ≡ true = rw (none y) at e in cc);
   freed_once = tt;
-  after_the_end = λ y e. cc;
+  after_the_end = λ y e. (let bad : false ≡ true = rw (none y) at e in cc);
   dropped_once = tt;
   refused_just_now = tt;
   states_go_up = tt;
 }
+
+pub fits-quiet : (items : List Item) (q : Ask) → IsQuiet q → Fits items (Asked q)
+fits-quiet items ask.Quiet h = fits-question items ask.Quiet (λ y. refl)
 fits-quiet items (ask.Routine m) h = absurd h
 fits-quiet items _ h = absurd h
+
+pub fits-handler : (items : List Item) (q : Ask) → IsAskedAs IsNoHook q → Fits items (Asked q)
+fits-handler items (ask.Routine m) h = fits-question items (ask.Routine m) (λ y. rw h refl)
+fits-handler items ask.Quiet h = absurd h
+fits-handler items _ h = absurd h
+
+-- a handler begins to run for an object that is there
+pub fits-fired : (items : List Item) (w : What) (x : Obj) (routine : ℕ) → list_any (frees x) items ≡ false → Fits items (Told (Fired w x routine))
+fits-fired items w x routine there = record {
+  accepts_once = λ y e. cc;
+  freed_once = tt;
+  after_the_end = λ y e. subst (λ (z : Obj). list_any (frees z) items ≡ false) (same-true x y e) there;
+  dropped_once = tt;
+  refused_just_now = tt;
+  states_go_up = tt;
+}
 
 object-row : (o : Option Row) → is_object_row o ≡ true → is_some o ≡ true
 object-row None e = cc

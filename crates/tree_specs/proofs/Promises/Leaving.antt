@@ -20,13 +20,14 @@ use Rattle.tree_specs.specs.declared.question.Input.{Input}
 use Rattle.tree_specs.specs.declared.free_step.FreeReply.{FreeReply}
 use Rattle.tree_specs.specs.declared.free_step.FreeReply.TheVariants as free_reply
 use Rattle.tree_specs.specs.Tree.Targets.{newest_ref}
-use Rattle.tree_specs.specs.Tree.Pool.{Pool, row_of, owner_of, newest_ref_of, remove, set_mark, set_hook, is_inside}
+use Rattle.tree_specs.specs.Tree.Pool.{Pool, row_of, owner_of, newest_ref_of, remove, set_mark, doom, set_hook, is_inside}
 use Rattle.tree_specs.specs.Calls.Refusals.{Check, refusals}
 use Rattle.tree_specs.specs.Calls.Plans.{Plan, plan, frees, changed_by}
-use Rattle.tree_specs.specs.Calls.Plans.Plan.{Does, Frees, Unlinks, Empties}
+use Rattle.tree_specs.specs.Calls.Plans.Plan.{Does, Frees, Unlinks, Empties, AsksTime, Turns}
 use Rattle.tree_specs.specs.Rules.Items.Item.{Told}
-use Rattle.tree_specs.specs.Rules.Sequence.{Scene}
-use Rattle.tree_specs.specs.Rules.Story.{hook_moment, effect, unlink, release, given, free, hooked, judged, leave, children, asked, freed_reply}
+use Rattle.tree_specs.specs.Rules.Sequence.{Work, Scene}
+use Rattle.tree_specs.specs.Rules.Story.{hook_moment, effect, unlink, release, given, free, hooked, judged, dooming, leave, children, asked, freed_reply, numbered, turned, taking, reading}
+use Rattle.tree_specs.specs.declared.question.Ask.TheVariants.{Quiet as AtRest}
 use Rattle.tree_specs.specs.Promises.Refused.{called, Untouched, OnlyDropped, told_refusal, doomed, LeftByFree, LeftByItsFree, LeftByRefused}
 use Rattle.tree_specs.proofs.Tree.Numbered.{by_test}
 use Rattle.tree_specs.proofs.Rules.FreeCauses.{leave-ok, given-ok}
@@ -104,14 +105,20 @@ free-leaves-more n x ih p is a q ts left e = newest (newest_ref p.rows x) refl
     Left : Type 0
     Left = Leaves x p is a q ts left
 
-    runs : (r : Pool) → r ≡ doomed x p → free (suc n) x p is ≡ Ended free_reply.Running r [] is → Left
-    runs r is_doomed law =
-        let e' : Ended free_reply.Running r [] is ≡ Ended a q ts left = sym law ∙ e in
+    ran : (r : Pool) → r ≡ doomed x p → Ended free_reply.Running r [] is ≡ Ended a q ts left → Left
+    ran r is_doomed e' =
         let e1 : free_reply.Running ≡ a = cc in
         let e2 : r ≡ q = cc in
         let e3 : [] ≡ ts = cc in
         let e4 : is ≡ left = cc in
         subst (λ (z : FreeReply). Leaves x p is z q ts left) e1 (p, subst (OnlyDropped x p p) e3 (none-dropped x p), sym e2 ∙ is_doomed, sym e4)
+
+    runs : (r : Pool) → r ≡ doomed x p → free (suc n) x p is ≡ Ended free_reply.Running r [] is → Left
+    runs r is_doomed law = ran r is_doomed (sym law ∙ e)
+
+    dooms : (m : ℕ) (r : Pool) → r ≡ doomed x p → dooming m x r is ≡ Ended a q ts left → Left
+    dooms zero r is_doomed k = cc
+    dooms (suc m) r is_doomed k = ran r is_doomed k
 
     over : free (suc n) x p is ≡ Ended free_reply.Ok p [] is → Left
     over law = let e' : Ended free_reply.Ok p [] is ≡ Ended a q ts left = sym law ∙ e in let e1 : a ≡ free_reply.Ok = cc in ok-leaves x p is a q ts left e1
@@ -127,7 +134,7 @@ free-leaves-more n x ih p is a q ts left e = newest (newest_ref p.rows x) refl
         (λ t. ok-leaves x p is a q ts left (leave-ok n x 0 p is a q ts left (rw (z, k, m, t) at e)))
         (λ t. asks n r.hook (rw (z, k, m, t) at e))
     marks z r mark.Asked m k = runs p (rw (k, m) refl) (rw (z, k, m) refl)
-    marks z r mark.Busy m k = runs (set_mark p x mark.Doomed) (rw (k, m) refl) (rw (z, k, m) refl)
+    marks z r mark.Busy m k = dooms n (doom p x) (rw (k, m) refl) (rw (z, k, m) at e)
     marks z r mark.Doomed m k = runs p (rw (k, m) refl) (rw (z, k, m) refl)
     marks z r (mark.Dying former) m k = over (rw (z, k, m) refl)
 
@@ -219,7 +226,15 @@ itself x why p q is left told a r us vs mid e s l =
     let same : us ≡ told = sym (append-nil us) ∙ ap (λ (z : List Scene). us ++ z) e3 ∙ s in
     (a, e1, subst (λ (z : List Scene). Leaves x p is a q z left) same (subst (λ (z : List Input). Leaves x p is a q us z) e4 (subst (λ (z : Pool). Leaves x p is a z us mid) e2 l)))
 
-plan-leaves : (n : ℕ) (plan : Plan) (why : Refusal) (p q : Pool) (is left : List Input) (told : List Scene) → AnswersDone plan → effect (free n) (unlink n) (children n) plan p is ≡ Ended (reply.No why) q told left
+-- a number is no refusal
+pub never-refused : (w : Work ℕ) (why : Refusal) (p q : Pool) (is left : List Input) (told : List Scene) → numbered w p is ≡ Ended (reply.No why) q told left → ⊥
+never-refused w why p q is left told e =
+    let w = ended-followed (w p is) (λ v r mid. Ended (reply.Number v) r [] mid) (reply.No why) q told left e in
+    let e' : Ended (reply.Number w.0) w.1 [] w.4 ≡ Ended (reply.No why) q w.3 left = w.6 in
+    cc
+
+plan-leaves : (n : ℕ) (plan : Plan) (why : Refusal) (p q : Pool) (is left : List Input) (told : List Scene) → AnswersDone plan
+    → effect (free n) (unlink n) (children n) (numbered (reading n)) (turned AtRest (taking n)) plan p is ≡ Ended (reply.No why) q told left
     → LeftByPlan plan why p q is left told
 unfolding AnswersDone
 plan-leaves n (Does change warned r) why p q is left told done e =
@@ -236,18 +251,22 @@ plan-leaves n (Empties x) why p q is left told done e =
     let w = ended-followed (children n x p is) (λ u r mid. Ended reply.Ok r [] mid) (reply.No why) q told left e in
     let e' : Ended reply.Ok w.1 [] w.4 ≡ Ended (reply.No why) q w.3 left = w.6 in
     cc
+plan-leaves n AsksTime why p q is left told done e = never-refused (reading n) why p q is left told e
+plan-leaves n Turns why p q is left told done e = never-refused (taking n) why p q is left told e
 
 refused-leaves : (c : Call) (why : Refusal) (p q : Pool) (is left : List Input) (told : List Scene) → Untouched p q is left told → LeftByRefused c why p q is left told
 refused-leaves (call.Free x) why p q is left told u = inl u
 refused-leaves (call.Unlink o x) why p q is left told u = inl u
 refused-leaves c why p q is left told u = u
 
-passed-leaves : (n : ℕ) (c : Call) (why : Refusal) (p q : Pool) (is left : List Input) (told : List Scene) → effect (free n) (unlink n) (children n) (plan p c) p is ≡ Ended (reply.No why) q told left
+passed-leaves : (n : ℕ) (c : Call) (why : Refusal) (p q : Pool) (is left : List Input) (told : List Scene)
+    → effect (free n) (unlink n) (children n) (numbered (reading n)) (turned AtRest (taking n)) (plan p c) p is ≡ Ended (reply.No why) q told left
     → LeftByRefused c why p q is left told
 unfolding AnswersDone IsDone
 passed-leaves n (call.Free x) why p q is left told e = inr (each (newest_ref p.rows x) e)
   where
-    each : (o : Option Obj) → effect (free n) (unlink n) (children n) (frees o x) p is ≡ Ended (reply.No why) q told left → LeftByItsFree x why p q is left told
+    each : (o : Option Obj) → effect (free n) (unlink n) (children n) (numbered (reading n)) (turned AtRest (taking n)) (frees o x) p is ≡ Ended (reply.No why) q told left
+        → LeftByItsFree x why p q is left told
     each None k = plan-leaves n (Frees x) why p q is left told tt k
     each (Some r) k = plan-leaves n (Unlinks Root x) why p q is left told tt k
 passed-leaves n (call.Unlink o x) why p q is left told e = inr (plan-leaves n (Unlinks o x) why p q is left told tt e)

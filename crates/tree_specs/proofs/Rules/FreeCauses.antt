@@ -16,10 +16,10 @@ use Rattle.tree_specs.specs.declared.question.Ask.TheVariants as ask
 use Rattle.tree_specs.specs.declared.question.Input.{Input}
 use Rattle.tree_specs.specs.declared.free_step.FreeReply.{FreeReply}
 use Rattle.tree_specs.specs.declared.free_step.FreeReply.TheVariants as free_reply
-use Rattle.tree_specs.specs.Tree.Pool.{Pool, row_of, owner_of, newest_ref_of, place, detach, remove, without, set_mark, set_hook, is_inside, marked_row}
+use Rattle.tree_specs.specs.Tree.Pool.{Pool, row_of, owner_of, newest_ref_of, place, detach, remove, without, set_mark, doom, set_hook, is_inside, marked_row}
 use Rattle.tree_specs.specs.Rules.Items.Item.{Told}
 use Rattle.tree_specs.specs.Rules.Sequence.{Scene}
-use Rattle.tree_specs.specs.Rules.Story.{hook_moment, unlink, release, given, free, hooked, judged, leave, children, asked}
+use Rattle.tree_specs.specs.Rules.Story.{hook_moment, unlink, release, given, free, hooked, judged, dooming, leave, children, asked}
 use Rattle.tree_specs.specs.Promises.Grounded.{DropsOutside, IsItem}
 use Rattle.tree_specs.specs.Calls.Refusals.{is_running}
 use Rattle.tree_specs.specs.Tree.Forest.{Distinct}
@@ -103,6 +103,13 @@ free-cause-more n x ih p is a q ts left e = newest (newest_ref p.rows x) refl
         let e2 : r ≡ q = cc in
         subst (FreeCause (RunsFrom p x q) x ts) e1 (subst (λ (z : Pool). is_running z x ≡ true) e2 run, λ d. ran)
 
+    dooms : (m : ℕ) (r : Pool) → is_running p x ≡ true → is_running r x ≡ true → dooming m x r is ≡ Ended a q ts left → Cause
+    dooms zero r ran run k = cc
+    dooms (suc m) r ran run k =
+        let e1 : free_reply.Running ≡ a = cc in
+        let e2 : r ≡ q = cc in
+        subst (FreeCause (RunsFrom p x q) x ts) e1 (subst (λ (z : Pool). is_running z x ≡ true) e2 run, λ d. ran)
+
     over : free (suc n) x p is ≡ Ended free_reply.Ok p [] is → Cause
     over law = let e' : Ended free_reply.Ok p [] is ≡ Ended a q ts left = sym law ∙ e in let e1 : a ≡ free_reply.Ok = cc in is-ok (RunsFrom p x q) x ts a e1
 
@@ -117,7 +124,7 @@ free-cause-more n x ih p is a q ts left e = newest (newest_ref p.rows x) refl
         (λ t. is-ok (RunsFrom p x q) x ts a (leave-ok n x 0 p is a q ts left (rw (z, k, m, t) at e)))
         (λ t. asks n r.hook (set_mark p x mark.Asked) (rw (z, k, m, t) at e))
     marks z r mark.Asked m k = runs p (rw (k, m) refl) (rw (k, m) refl) (rw (z, k, m) refl)
-    marks z r mark.Busy m k = runs (set_mark p x mark.Doomed) (rw (k, m) refl) (rw (row_of-changed-same (marked_row mark.Doomed) p.rows x r (λ s. refl) k) refl) (rw (z, k, m) refl)
+    marks z r mark.Busy m k = dooms n (doom p x) (rw (k, m) refl) (rw (row_of-changed-same (marked_row mark.Doomed) p.rows x r (λ s. refl) k) refl) (rw (z, k, m) at e)
     marks z r mark.Doomed m k = runs p (rw (k, m) refl) (rw (k, m) refl) (rw (z, k, m) refl)
     marks z r (mark.Dying former) m k = over (rw (z, k, m) refl)
 

@@ -18,7 +18,8 @@ use Rattle.tree_specs.specs.declared.question.Ask.{Ask}
 use Rattle.tree_specs.specs.declared.frame.Frame.{Frame}
 use Rattle.tree_specs.specs.declared.frame.Frame.TheVariants as frame
 use Rattle.tree_specs.specs.declared.frame.CallFrame.TheVariants.{Asking, Awaiting, Returning}
-use Rattle.tree_specs.specs.declared.frame.FreeFrame.TheVariants.{Unlinking, Releasing, Giving, Beginning, Judged, Leaving, Looping, FreeingChild, AfterChild, Ending}
+use Rattle.tree_specs.specs.declared.frame.TurnFrame.TheVariants.{Clearing}
+use Rattle.tree_specs.specs.declared.frame.FreeFrame.TheVariants.{Unlinking, Releasing, Giving, Beginning, Judged, Dooming, Leaving, Looping, FreeingChild, AfterChild, Ending}
 use Rattle.tree_specs.specs.declared.frame.Purpose.{Purpose}
 use Rattle.tree_specs.specs.declared.frame.Purpose.TheVariants.{Removal, Emptying}
 use Rattle.tree_specs.specs.declared.frame.Answer.{Answer}
@@ -26,7 +27,7 @@ use Rattle.tree_specs.specs.declared.frame.Answer.TheVariants.{Freed, Returned}
 use Rattle.tree_specs.specs.declared.free_step.FreeReply.{FreeReply}
 use Rattle.tree_specs.specs.declared.free_step.FreeReply.TheVariants.{Ok, Running, Refused, Held}
 use Rattle.tree_specs.specs.Words.Objects.{same, same_owner}
-use Rattle.tree_specs.specs.Tree.Pool.{Pool, row_of, is_below, owner_of, first_kid, without, changed, remove, left_row, place, set_mark, marked_row, hooked_row, target_at, newest_ref_of, is_inside}
+use Rattle.tree_specs.specs.Tree.Pool.{Pool, row_of, is_below, owner_of, first_kid, without, changed, remove, left_row, place, doom, marked_row, hooked_row, target_at, newest_ref_of, is_inside}
 use Rattle.tree_specs.specs.Tree.Heirs.{heir}
 use Rattle.tree_specs.specs.Rules.Items.{Item}
 use Rattle.tree_specs.specs.Machine.Table.{table, step, resume, lifted, begin_quiet, begin_step, judge_step, last_step, loop_step, child_step, refs_step, unlink_step, release_step, hand_on_step}
@@ -37,7 +38,7 @@ use Rattle.tree_specs.proofs.Calls.Checks.{Heard, HeardCall, HeardReturn, heard-
 use Rattle.tree_specs.specs.Tree.Inside.{total}
 use Rattle.tree_specs.specs.Invariants.Measure.{count, mark_weight, weight, row_worth, waiting_cost, top_cost, cost, pending, loop_kids}
 use Rattle.tree_specs.proofs.Tree.Rows.{total-without, total-placed, total-changed, total-length, count-length}
-use Rattle.tree_specs.proofs.Invariants.Waiters.{Waiter, ForFree, ForRun, ForChild, waiter}
+use Rattle.tree_specs.proofs.Invariants.Waiters.{Waiter, ForFree, ForRun, ForChild, ForTurn, ForHandler, ForClear, waiter}
 use Rattle.tree_specs.proofs.Invariants.Changes.{dying-row, running-row, claim-here, owned-row, heir-placed}
 
 -- R bounds the rows that there can be
@@ -48,7 +49,7 @@ abbrev pub Lowers : ℕ → ℕ → Move Frame Answer Pool Item → List Frame �
 Lowers R b m fs k = Leads table (λ g gs q j. Room R g q j × (cost R g gs q j < b)) m fs k
 
 -- a work that ends pays for what the work below it begins
-done-lower : (R : ℕ) (a : Answer) (f : Frame) (fs : List Frame) (p : Pool) (k : ℕ) → AllWait fs → length p.rows + 2 * k ≤ R
+pub done-lower : (R : ℕ) (a : Answer) (f : Frame) (fs : List Frame) (p : Pool) (k : ℕ) → AllWait fs → length p.rows + 2 * k ≤ R
     → ((g : Frame) (gs : List Frame) → fs ≡ g ∷ gs → IsWaiting g gs → top_cost R (resume g a) gs p.rows < waiting_cost g + top_cost R f fs p.rows)
     → Lowers R (cost R f fs p k) (Do.Done a p) fs k
 done-lower R a f [] p k w room pays = tt
@@ -58,13 +59,16 @@ done-lower R a f (g ∷ gs) p k w room pays =
   where
     calm : (g : Frame) → Waiter g → Room R (resume g a) p k
     calm _ (ForFree q x) = omega arith
-    calm _ (ForRun x h) = omega arith
     calm _ (ForChild x c noted purpose) = omega arith
+    calm _ _ = omega arith
 
 -- what a work that is over pays for
 over-pays : (R : ℕ) (a : FreeReply) → IsOver a → (rows : List Row) → length rows ≤ R → (g : Frame) (gs : List Frame) → Waiter g → top_cost R (resume g (Freed a)) gs rows < waiting_cost g + (4 * R + 9)
 over-pays R a o rows n _ gs (ForFree q x) = omega arith
 over-pays R a o rows n _ gs (ForRun x h) = omega arith
+over-pays R a o rows n _ gs (ForTurn q) = omega arith
+over-pays R a o rows n _ gs (ForHandler what x h now) = omega arith
+over-pays R a o rows n _ gs (ForClear x) = omega arith
 over-pays R Ok o rows n _ gs (ForChild x c noted purpose) = let m = count-length rows (Of x) in omega (arith, m, n)
 over-pays R Held o rows n _ gs (ForChild x c noted purpose) = let m = count-length rows (Of x) in omega (arith, m, n)
 over-pays R (Refused v) o rows n _ gs (ForChild x c noted purpose) = let m = count-length rows (Of x) in omega (arith, m, n)
@@ -82,8 +86,7 @@ returning-lower R v fs p k s room = done-lower R (Returned v) (frame.Call (Retur
   where
     as-over : (g : Frame) (gs : List Frame) → Waiter g → top_cost R (resume g (Returned v)) gs p.rows ≡ top_cost R (resume g (Freed Ok)) gs p.rows
     as-over _ gs (ForFree q x) = refl
-    as-over _ gs (ForRun x h) = refl
-    as-over _ gs (ForChild x c noted purpose) = refl
+    as-over _ gs _ = refl
 
 pub asking-lower : (R : ℕ) (q : Ask) (fs : List Frame) (p : Pool) (k : ℕ) → Room R (frame.Call (Asking q)) p k
     → Lowers R (cost R (frame.Call (Asking q)) fs p k) (step (frame.Call (Asking q)) p) fs k
@@ -105,7 +108,7 @@ length-without rs x r e = omega (arith, total-without (λ q. 1) rs x r e, total-
 pub total-kept : (w : Row → ℕ) (g : Row → Row) (rs : List Row) (x : Obj) (r : Row) → row_of rs x ≡ Some r → w (g r) ≡ w r → total w (changed g rs x) ≡ total w rs
 total-kept w g rs x r e same_weight = omega (arith, total-changed w g rs x r e, same_weight)
 
-live-weight : (m : Mark) → IsLive m → mark_weight m ≡ 2
+pub live-weight : (m : Mark) → IsLive m → mark_weight m ≡ 2
 live-weight (Dying former) l = absurd l
 live-weight _ l = refl
 
@@ -155,9 +158,10 @@ looping-lower R x purpose fs p k s most = each (first_kid p.rows (Of x)) refl
         let n = length-without p.rows x r e in
         (omega (arith, n), omega (arith, u))
 
-    -- a call is what waits for a loop that only empties
+    -- a call or a turn is what waits for a loop that only empties
     called : (g : Frame) (gs : List Frame) → Stands Emptying (footing (g ∷ gs)) → top_cost R (resume g (Freed Ok)) gs p.rows < waiting_cost g + (4 * count p.rows (Of x) + 7)
     called (frame.Call (Awaiting q y)) gs c = omega arith
+    called (frame.Turn (Clearing y)) gs c = omega arith
     called _ gs c = absurd c
 
     last : (purpose : Purpose) → Sound (frame.Free (Looping x purpose)) fs p → Lowers R (cost R (frame.Free (Looping x purpose)) fs p k) (lifted (last_step x purpose p)) fs k
@@ -227,27 +231,32 @@ tried-lower R x c noted purpose a fs p k s room = each a s
     each (Refused v) s = handed (Refused v) refl s
 
 -- a freeing that ends at once is no loop's child, or is said to run
-at_once-lower : (R : ℕ) (a : FreeReply) (x : Obj) (fs : List Frame) (p p' : Pool) (k : ℕ) → (a ≡ Running) ⊎ ((o : Owner) → owner_of p.rows x ≢ Some o) → Tries x (footing fs) p → AllWait fs
-    → total weight p'.rows ≡ total weight p.rows → length p'.rows ≡ length p.rows → ((y : Obj) → count p'.rows (Of y) ≡ count p.rows (Of y)) → Room R (frame.Free (Beginning x)) p k
-    → Lowers R (cost R (frame.Free (Beginning x)) fs p k) (Do.Done (Freed a) p') fs k
-at_once-lower R a x [] p p' k h t w e n m room = tt
-at_once-lower R a x (g ∷ gs) p p' k h t w e n m room = below g (waiter g gs w.0) t
+at_once-lower : (R : ℕ) (a : FreeReply) (x : Obj) (f : FreeFrame) (fs : List Frame) (p : Pool) (k : ℕ) → (a ≡ Running) ⊎ ((o : Owner) → owner_of p.rows x ≢ Some o) → Tries x (footing fs) p
+    → AllWait fs
+    → loop_kids p.rows fs + 5 ≤ top_cost R (frame.Free f) fs p.rows → Room R (frame.Free f) p k → Lowers R (cost R (frame.Free f) fs p k) (Do.Done (Freed a) p) fs k
+at_once-lower R a x f [] p k h t w most room = tt
+at_once-lower R a x f (g ∷ gs) p k h t w most room = below g (waiter g gs w.0) t most
   where
-    u : row_worth R * total weight p'.rows ≡ row_worth R * total weight p.rows
-    u = ap (λ (z : ℕ). row_worth R * z) e
-
     runs : (y c : Obj) (noted : Option Owner) (purpose : Purpose) (a : FreeReply) → a ≡ Running
-        → Room R (frame.Free (AfterChild y c noted purpose a)) p' k × (cost R (frame.Free (AfterChild y c noted purpose a)) gs p' k < cost R (frame.Free (Beginning x)) (frame.Free (FreeingChild y c noted purpose) ∷ gs) p k)
-    runs y c noted purpose Running is = (omega (arith, n), omega (arith, u, m y))
-    runs y c noted purpose _ is = cc
+        → 4 * count p.rows (Of y) + 5 ≤ top_cost R (frame.Free f) (frame.Free (FreeingChild y c noted purpose) ∷ gs) p.rows
+        → Room R (frame.Free (AfterChild y c noted purpose a)) p k × (cost R (frame.Free (AfterChild y c noted purpose a)) gs p k < cost R (frame.Free f) (frame.Free (FreeingChild y c noted purpose) ∷ gs) p k)
+    runs y c noted purpose Running is most = (omega arith, omega (arith, most))
+    runs y c noted purpose _ is most = cc
 
-    below : (g : Frame) → Waiter g → Tries x (footing (g ∷ gs)) p → Lowers R (cost R (frame.Free (Beginning x)) (g ∷ gs) p k) (Do.Done (Freed a) p') (g ∷ gs) k
-    below _ (ForFree q y) t = (omega (arith, n), omega (arith, u))
-    below _ (ForRun y f) t = absurd t
-    below _ (ForChild y c noted purpose) t = elim h [
-      | inl is ↦ runs y c noted purpose a is
+    below : (g : Frame) → Waiter g → Tries x (footing (g ∷ gs)) p → loop_kids p.rows (g ∷ gs) + 5 ≤ top_cost R (frame.Free f) (g ∷ gs) p.rows
+        → Lowers R (cost R (frame.Free f) (g ∷ gs) p k) (Do.Done (Freed a) p) (g ∷ gs) k
+    below _ (ForFree q y) t most = (omega arith, omega (arith, most))
+    below _ (ForClear y) t most = (omega arith, omega (arith, most))
+    below _ (ForChild y c noted purpose) t most = elim h [
+      | inl is ↦ runs y c noted purpose a is most
       | inr none ↦ absurd (none (Of y) t.1)
     ]
+    below _ _ t most = absurd t
+
+-- an event that is to be freed after its handler is said to run
+pub dooming-lower : (R : ℕ) (x : Obj) (fs : List Frame) (p : Pool) (k : ℕ) → Sound (frame.Free (Dooming x)) fs p → Room R (frame.Free (Dooming x)) p k
+    → Lowers R (cost R (frame.Free (Dooming x)) fs p k) (step (frame.Free (Dooming x)) p) fs k
+dooming-lower R x fs p k s room = at_once-lower R Running x (Dooming x) fs p k (inl refl) s.rests.0 s.waiting (omega arith) room
 
 pub beginning-lower : (R : ℕ) (x : Obj) (fs : List Frame) (p : Pool) (k : ℕ) → Sound (frame.Free (Beginning x)) fs p → Room R (frame.Free (Beginning x)) p k
     → Lowers R (cost R (frame.Free (Beginning x)) fs p k) (step (frame.Free (Beginning x)) p) fs k
@@ -262,15 +271,20 @@ beginning-lower R x fs p k s room = newest (newest_ref p.rows x) refl
         let bad : IsLive (Dying former) = rw m at l in bad
 
     over : ((o : Owner) → owner_of p.rows x ≢ Some o) → Lowers R (cost R (frame.Free (Beginning x)) fs p k) (Do.Done (Freed Ok) p) fs k
-    over none = at_once-lower R Ok x fs p p k (inr none) s.rests.0 s.waiting refl refl (λ y. refl) room
+    over none = at_once-lower R Ok x (Beginning x) fs p k (inr none) s.rests.0 s.waiting (omega arith) room
 
     runs : Lowers R (cost R (frame.Free (Beginning x)) fs p k) (Do.Done (Freed Running) p) fs k
-    runs = at_once-lower R Running x fs p p k (inl refl) s.rests.0 s.waiting refl refl (λ y. refl) room
+    runs = at_once-lower R Running x (Beginning x) fs p k (inl refl) s.rests.0 s.waiting (omega arith) room
 
-    dooms : (r : Row) → row_of p.rows x ≡ Some r → r.mark ≡ Busy → Lowers R (cost R (frame.Free (Beginning x)) fs p k) (Do.Done (Freed Running) (set_mark p x Doomed)) fs k
-    dooms r e m = at_once-lower R Running x fs p (set_mark p x Doomed) k (inl refl) s.rests.0 s.waiting
-        (total-kept weight (marked_row Doomed) p.rows x r e (sym (ap mark_weight m))) (length-changed (marked_row Doomed) p.rows x)
-        (λ y. total-kept (λ q. if is_below q.owner (Of y) then 1 else 0) (marked_row Doomed) p.rows x r e refl) room
+    dooms : (r : Row) → row_of p.rows x ≡ Some r → r.mark ≡ Busy → Lowers R (cost R (frame.Free (Beginning x)) fs p k) (Do.Go (frame.Free (Dooming x)) (doom p x)) fs k
+    dooms r e m =
+        let u = ap (λ (z : ℕ). row_worth R * z) (total-kept weight (marked_row Doomed) p.rows x r e (sym (ap mark_weight m))) in
+        (omega (arith, length-changed (marked_row Doomed) p.rows x), omega (arith, u, kids fs))
+      where
+        kids : (fs : List Frame) → loop_kids (doom p x).rows fs ≡ loop_kids p.rows fs
+        kids [] = refl
+        kids (frame.Free (FreeingChild y c noted purpose) ∷ fs) = ap (λ (z : ℕ). 4 * z) (total-kept (λ q. if is_below q.owner (Of y) then 1 else 0) (marked_row Doomed) p.rows x r e refl)
+        kids (_ ∷ fs) = refl
 
     quiet : (r : Row) → row_of p.rows x ≡ Some r → r.mark ≡ Quiet → Lowers R (cost R (frame.Free (Beginning x)) fs p k) (lifted (begin_quiet x r.hook p)) fs k
     quiet r e m = by_test (nat_eq r.hook 0)

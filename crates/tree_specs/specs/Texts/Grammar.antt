@@ -10,11 +10,13 @@ use Rattle.tree_specs.specs.declared.call.Call.{Call}
 use Rattle.tree_specs.specs.declared.question.Act.TheVariants as acts
 use Rattle.tree_specs.specs.declared.question.Input.{Input}
 use Rattle.tree_specs.specs.declared.question.Input.TheVariants as inputs
+use Rattle.tree_specs.specs.declared.wants.Want.{Want}
 use Rattle.tree_specs.specs.Words.Names.{is_name}
 use Rattle.tree_specs.specs.Calls.Spelling.{Reading, Form, forms}
 use Rattle.tree_specs.specs.Calls.Spelling.Reading.{IsConsistent, TakesOwner, TakesObject, TakesNumber, TakesRoutine, TakesRoutineOrNone, TakesTime, EndsInName}
 use Rattle.tree_specs.specs.Words.Objects.{numbered_owner}
 use Rattle.tree_specs.specs.Words.Ranges.{is_time}
+use Rattle.tree_specs.specs.Words.Wants.{is_wants}
 
 infixl 10 ◌>>=◌
 abbrev pub ◌>>=◌ : {A B : Type 0} → Option A → (A → Option B) → Option B
@@ -133,6 +135,37 @@ act_input_of text = option_map (λ c. inputs.Act (acts.Do c)) (call_of text)
 abbrev pub return_input_of : List ℕ → Option Input
 return_input_of text = option_map (λ v. inputs.Act (acts.Ret v)) (number32_of text)
 
+abbrev pub clock_input_of : List ℕ → Option Input
+clock_input_of text = option_map inputs.Clock (time_of text)
+
+-- a descriptor and its flags
+abbrev pub want_of_parts : List (List ℕ) → Option Want
+want_of_parts (fd ∷ flags ∷ []) = do
+  f ← number32_of fd
+  n ← number32_of flags
+  Some (record { fd = f; flags = n })
+want_of_parts parts = None
+
+abbrev pub want_of : List ℕ → Option Want
+want_of word = want_of_parts (slice_split (λ b. b == 58) word)
+
+abbrev pub wants_of : List (List ℕ) → Option (List Want)
+wants_of [] = Some []
+wants_of (word ∷ more) = do
+  want ← want_of word
+  wants ← wants_of more
+  Some (want ∷ wants)
+
+-- a space comes before each descriptor
+abbrev pub ready_of_words : List (List ℕ) → Option Input
+ready_of_words ([] ∷ more) = do
+  wants ← wants_of more
+  if is_wants wants then Some (inputs.Ready wants) else None
+ready_of_words words = None
+
+abbrev pub ready_input_of : List ℕ → Option Input
+ready_input_of text = ready_of_words (words text)
+
 infixl 9 ◌or◌
 -- the first that there is
 abbrev pub ◌or◌ : {A : Type 0} → Option A → Option A → Option A
@@ -145,3 +178,5 @@ input_of line =
     (strip (codes "call ") line >>= call_input_of)
     or (strip (codes "act ") line >>= act_input_of)
     or (strip (codes "ret ") line >>= return_input_of)
+    or (strip (codes "clock ") line >>= clock_input_of)
+    or (strip (codes "ready") line >>= ready_input_of)

@@ -1,6 +1,7 @@
 -- The pool: the rows of the objects, the most recently placed first, the next serial number, and what waits for its turn.
 use Rattle.std.specs.Prelude.{ℕ, suc, zero, ◌+◌, Bool, true, false, not, ◌||◌, ◌&&◌, List, [], ◌∷◌, length, Option, Some, None, is_some, unwrap_or, if◌then◌else◌}
 use Rattle.tree_specs.specs.declared.due.Due.{Due}
+use Rattle.tree_specs.specs.declared.handler.Handler.{Handler}
 use Rattle.tree_specs.specs.declared.object.Obj.{Obj}
 use Rattle.tree_specs.specs.declared.object.Owner.{Owner}
 use Rattle.tree_specs.specs.declared.object.Owner.TheVariants.{Root, Of}
@@ -10,6 +11,7 @@ use Rattle.tree_specs.specs.declared.row.Mark.TheVariants.{Quiet, Dying}
 use Rattle.tree_specs.specs.declared.kind.Kind.{Kind}
 use Rattle.tree_specs.specs.Words.Objects.{same, same_owner}
 use Rattle.tree_specs.specs.Events.Pending.{scheduled, unscheduled, armed, disarmed}
+use Rattle.tree_specs.specs.Events.Handlers.{Handlers, no_handlers, with_handler, without_handler}
 use Rattle.tree_specs.specs.Tree.Targets.{target_of, is_target, is_reference, newest, newest_ref}
 
 pub record Pool : Type 0 where
@@ -19,10 +21,12 @@ pub record Pool : Type 0 where
   pub soon : List Obj
   -- objects whose time comes, the earliest first
   pub times : List Due
+  -- what runs when an event comes
+  pub handlers : Handlers
 
 -- objects of which none waits for its turn
 abbrev pub of_rows : List Row → ℕ → Pool
-of_rows rows next = record { rows = rows; next = next; soon = []; times = [] }
+of_rows rows next = record { rows = rows; next = next; soon = []; times = []; handlers = no_handlers }
 
 abbrev pub empty : ℕ → Pool
 empty first = of_rows [] first
@@ -163,7 +167,7 @@ abbrev pub detach : Pool → Obj → Pool
 detach p x = record p { rows = changed left_row p.rows x; soon = unscheduled p.soon x; times = disarmed p.times x }
 
 abbrev pub remove : Pool → Obj → Pool
-remove p x = record p { rows = without p.rows x }
+remove p x = record p { rows = without p.rows x; handlers = without_handler p.handlers x }
 
 -- a row is put below an owner, in front of all others
 abbrev pub in_front : Option Row → Owner → List Row → List Row
@@ -190,6 +194,10 @@ marked_row mark r = record r { mark = mark }
 abbrev pub set_mark : Pool → Obj → Mark → Pool
 set_mark p x mark = record p { rows = changed (marked_row mark) p.rows x }
 
+-- an event whose handler runs is to be freed after it, and waits for nothing until then
+abbrev pub doom : Pool → Obj → Pool
+doom p x = record p { rows = changed (marked_row Doomed) p.rows x; soon = unscheduled p.soon x; times = disarmed p.times x }
+
 abbrev pub hooked_row : ℕ → Row → Row
 hooked_row hook r = record r { hook = hook }
 
@@ -210,12 +218,19 @@ set_limit p x limit = record p { rows = changed (limited_row limit) p.rows x }
 
 -- ---- waiting
 
+-- an event gets a handler
+abbrev pub set_handler : Pool → Obj → Handler → Pool
+set_handler p x handler = record p { handlers = with_handler p.handlers x handler }
+
 -- an object is to come soon
 abbrev pub schedule : Pool → Obj → Pool
 schedule p x = record p { soon = scheduled p.soon x }
 
 abbrev pub unschedule : Pool → Obj → Pool
 unschedule p x = record p { soon = unscheduled p.soon x }
+
+abbrev pub disarm : Pool → Obj → Pool
+disarm p x = record p { times = disarmed p.times x }
 
 -- an object is to come at a time; at equal times the smaller number comes first
 abbrev pub arm : Pool → Obj → ℕ → ℕ → Pool

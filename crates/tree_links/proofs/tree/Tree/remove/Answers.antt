@@ -5,6 +5,7 @@ use Rattle.tree_specs.specs.declared.row.Row.{Row}
 use Rattle.tree_specs.specs.declared.object.Owner.TheVariants.{Of}
 use Rattle.tree_specs.specs.Tree.Pool.{first_kid, remove, without as rows_without}
 use Rattle.linked_lanes.specs.Lane.{first, without}
+use Rattle.tree_specs.proofs.Events.HandlerLaws.{removed-rows}
 use Rattle.tree_links.specs.Links.{IsTree, Links, pool_of}
 use Rattle.tree_links.specs.Nodes.{Holds, numbers, children, rows_of, row_in, first_in}
 use Rattle.tree_links.specs.declared.node.Node.{Node}
@@ -52,4 +53,4 @@ pub invariant_of-self : goal.invariant_of-self
 invariant_of-self c = is-linked _ _ _ _ _ (tree c) (held c)
 
 pub returns-in-Some-clause-rows : goal.returns-in-Some-clause-rows
-returns-in-Some-clause-rows c = pool-rows _ _ _ (held-rows _ _ _ _ (tree c).forest.distinct (held c)) ∙ ap (λ (t : Links). remove (pool_of t) c.args.x) c.self.view_is
+returns-in-Some-clause-rows c = pool-rows _ _ _ (held-rows _ _ _ _ (tree c).forest.distinct (held c)) ∙ sym (removed-rows (rows c) c.self.inside.next c.args.x) ∙ ap (λ (t : Links). remove (pool_of t) c.args.x) c.self.view_is
