@@ -21,8 +21,8 @@ use Rattle.tree_specs.specs.Invariants.Consistent.{deposit, mark_deposit}
 use Rattle.tree_specs.specs.Calls.Refusals.{Check, tests, refusals, is_immediate, is_doomed_mark}
 use Rattle.tree_specs.specs.declared.moment.What.TheVariants as what
 use Rattle.tree_specs.specs.Events.Coming.{comes_as}
+use Rattle.tree_specs.specs.Events.Handlers.{handler_of}
 use Rattle.tree_specs.specs.Invariants.Awaiting.{MayCome, is_event_row}
-use Rattle.std.proofs.lemmas.Bool.{eq-eqb}
 use Rattle.tree_specs.specs.declared.test.Test.TheVariants.{IsObject, IsImmediate, IsNotDoomed}
 use Rattle.tree_specs.specs.Calls.Plans.{Change, Plan, changed_by, plan, planned, unless_refused, places, warns, frees, handed, gift}
 use Rattle.tree_specs.specs.Calls.Plans.Change.{Nothing, Edit, Add, Place, Handle, Schedule, Unschedule, Arm, Then}
@@ -33,6 +33,7 @@ use Rattle.tree_specs.proofs.Tree.Rows.{total-placed, row_of-placed-same}
 use Rattle.tree_specs.proofs.Tree.Rooted.{KeepsPlace}
 use Rattle.tree_specs.proofs.Tree.Referring.{newest-refers, newest-of-refers, refers-nothing, reference-outside, object-refers}
 use Rattle.tree_specs.specs.Calls.Passed.{Passed, AllPassed, Interest, AsOwner, AsHolder, Gives, Itself, ItsRef}
+use Rattle.tree_specs.proofs.Events.HandlerLaws.{with-own}
 use Rattle.tree_specs.proofs.Calls.Checks.{all-pass, may-place, quiet-row}
 use Rattle.tree_specs.proofs.Invariants.Changes.{names-place, hooks-place, sizes-place, limits-place, goes_on, waiting-sound, unmarked-sound, placed-sound, new-sound, owned-row}
 use Rattle.tree_specs.proofs.Invariants.KeptFrees.{referred-live}
@@ -59,9 +60,9 @@ MayDo p (Edit x g) = MayBeEdited p x g
 MayDo p (Add kind o size name) = MayBeAdded p kind o
 MayDo p (Place o x) = MayBePlaced p o x
 MayDo p (Handle x handler) = is_event_row (row_of p.rows x) ≡ true
-MayDo p (Schedule x) = MayCome what.Immediate (row_of p.rows x) × (is_some (p.handlers x.0) ≡ true)
+MayDo p (Schedule x) = MayCome what.Immediate (row_of p.rows x) × (is_some (handler_of p.handlers x) ≡ true)
 MayDo p (Unschedule x) = Unit {0}
-MayDo p (Arm x time number) = MayCome what.Timer (row_of p.rows x) × (is_some (p.handlers x.0) ≡ true)
+MayDo p (Arm x time number) = MayCome what.Timer (row_of p.rows x) × (is_some (handler_of p.handlers x) ≡ true)
 MayDo p (Then first second) = MayDo p first × MayDo (changed_by first p) second
 
 -- how many rows it adds
@@ -233,12 +234,12 @@ module _ (f : Frame) (fs : List Frame) (p : Pool) (s : Sound f fs p) where
   each (call.Immediate o) h = (record { there = h.0; target = λ t e. cc }, omega arith, tt)
   each (call.Schedule x routine user) h = by_test (nat_eq routine 0)
       (λ t. rw t (tt, omega arith, tt))
-      (λ t. rw t ((event x (row_of p.rows x) (scheduled x h), (scheduled x h, rw (eq-eqb x.0 x.0 refl) refl)), omega arith, tt))
+      (λ t. rw t ((event x (row_of p.rows x) (scheduled x h), (scheduled x h, with-own p.handlers x (record { routine = routine; user = user }))), omega arith, tt))
   each (call.Unschedule x) h = (tt, omega arith, tt)
   each (call.Timer o time routine user) h =
       let n : Obj = record { 0 = p.next } in
       let self : same n n ≡ true = same-equal n n refl in
-      ((record { there = h.0; target = λ t e. cc }, (rw self refl, (rw self (refl, refl), rw self refl))), omega arith, tt)
+      ((record { there = h.0; target = λ t e. cc }, (rw self refl, (rw self (refl, refl), with-own p.handlers n (record { routine = routine; user = user })))), omega arith, tt)
   each call.Pending h = (tt, omega arith, tt)
   each call.Now h = tt
   each call.Turn h = tt

@@ -19,6 +19,8 @@ use Rattle.tree_specs.specs.Invariants.Awaiting.{waits, MayCome, is_event_row, A
 use Rattle.tree_specs.proofs.Tree.Numbered.{by_test, same-true, same-equal, same-false, same_or_not}
 use Rattle.tree_specs.proofs.Tree.Rows.{row_of-changed-other, row_of-without-other, row_of-placed-other, row_of-placed-same}
 use Rattle.tree_specs.proofs.Invariants.Turning.{comes-event}
+use Rattle.tree_specs.specs.Events.Handlers.{handler_of}
+use Rattle.tree_specs.proofs.Events.HandlerLaws.{with-same, with-other, without-same, without-other}
 use Rattle.tree_specs.proofs.Events.PendingLaws.{unscheduled-other, scheduled-either, disarmed-other, armed-either}
 
 -- ---- rows that come
@@ -126,17 +128,17 @@ removed-awaits p x stays a = record { events = events; handlers = handlers }
     still Timer y h = h
     still _ y h = cc
 
-    events : (w : What) (y : Obj) → waits w (remove p x) y ≡ true → MayCome w (row_of (without p.rows x) y) × (is_some ((remove p x).handlers y.0) ≡ true)
+    events : (w : What) (y : Obj) → waits w (remove p x) y ≡ true → MayCome w (row_of (without p.rows x) y) × (is_some (handler_of (remove p x).handlers y) ≡ true)
     events w y h =
         let e = a.events w y (still w y h) in
         let ne : x ≢ y = (λ q. stays w (subst (λ (z : Obj). MayCome w (row_of p.rows z)) (sym q) e.0)) in
         let apart : same y x ≡ false = same-false y x (λ q. ne (sym q)) in
-        rw (row_of-without-other p.rows x y ne, apart) e
+        (rw (row_of-without-other p.rows x y ne) e.0, ap is_some (without-other p.handlers x y apart) ∙ e.1)
 
-    handlers : (y : Obj) → is_event_row (row_of (without p.rows x) y) ≡ false → (remove p x).handlers y.0 ≡ None
+    handlers : (y : Obj) → is_event_row (row_of (without p.rows x) y) ≡ false → handler_of (remove p x).handlers y ≡ None
     handlers y e = by_test (same y x)
-        (λ t. rw t refl)
-        (λ t. rw t (a.handlers y (sym (ap is_event_row (row_of-without-other p.rows x y (λ q. let u : same y x ≡ true = same-equal y x (sym q) in let bad : true ≡ false = sym u ∙ t in cc))) ∙ e)))
+        (λ t. without-same p.handlers x y t)
+        (λ t. without-other p.handlers x y t ∙ a.handlers y (sym (ap is_event_row (row_of-without-other p.rows x y (λ q. let u : same y x ≡ true = same-equal y x (sym q) in let bad : true ≡ false = sym u ∙ t in cc))) ∙ e))
 
 -- ---- a new object
 
@@ -151,13 +153,13 @@ added-awaits p kind o size name fresh a = record { events = events; handlers = h
     still Timer y h = h
     still _ y h = cc
 
-    events : (w : What) (y : Obj) → waits w (add p kind o size name) y ≡ true → MayCome w (row_of (add p kind o size name).rows y) × (is_some (p.handlers y.0) ≡ true)
+    events : (w : What) (y : Obj) → waits w (add p kind o size name) y ≡ true → MayCome w (row_of (add p kind o size name).rows y) × (is_some (handler_of p.handlers y) ≡ true)
     events w y h =
         let e = a.events w y (still w y h) in
         let ne : same n y ≡ false = same-false n y (λ q. let bad : MayCome w None = rw fresh at (subst (λ (z : Obj). MayCome w (row_of p.rows z)) (sym q) e.0) in bad) in
         rw ne e
 
-    handlers : (y : Obj) → is_event_row (row_of (add p kind o size name).rows y) ≡ false → p.handlers y.0 ≡ None
+    handlers : (y : Obj) → is_event_row (row_of (add p kind o size name).rows y) ≡ false → handler_of p.handlers y ≡ None
     handlers y e = by_test (same n y)
         (λ t. a.handlers y (let q : n ≡ y = same-true n y t in subst (λ (z : Obj). is_event_row (row_of p.rows z) ≡ false) q (ap is_event_row fresh)))
         (λ t. a.handlers y (rw t at e))
@@ -172,34 +174,34 @@ handled-awaits p x h there a = record { events = events; handlers = handlers }
     still Timer y k = k
     still _ y k = cc
 
-    events : (w : What) (y : Obj) → waits w (set_handler p x h) y ≡ true → MayCome w (row_of p.rows y) × (is_some ((set_handler p x h).handlers y.0) ≡ true)
+    events : (w : What) (y : Obj) → waits w (set_handler p x h) y ≡ true → MayCome w (row_of p.rows y) × (is_some (handler_of (set_handler p x h).handlers y) ≡ true)
     events w y k =
         let e = a.events w y (still w y k) in
-        by_test (same y x) (λ t. rw t (e.0, refl)) (λ t. rw t e)
+        by_test (same y x) (λ t. (e.0, ap is_some (with-same p.handlers x y h t))) (λ t. (e.0, ap is_some (with-other p.handlers x y h t) ∙ e.1))
 
-    handlers : (y : Obj) → is_event_row (row_of p.rows y) ≡ false → (set_handler p x h).handlers y.0 ≡ None
+    handlers : (y : Obj) → is_event_row (row_of p.rows y) ≡ false → handler_of (set_handler p x h).handlers y ≡ None
     handlers y e = by_test (same y x)
         (λ t. let e' : is_event_row (row_of p.rows x) ≡ false = subst (λ (z : Obj). is_event_row (row_of p.rows z) ≡ false) (same-true y x t) e in let bad : true ≡ false = sym there ∙ e' in cc)
-        (λ t. rw t (a.handlers y e))
+        (λ t. with-other p.handlers x y h t ∙ a.handlers y e)
 
-pub scheduled-awaits : (p : Pool) (x : Obj) → MayCome Immediate (row_of p.rows x) → is_some (p.handlers x.0) ≡ true → Awaits p → Awaits (schedule p x)
+pub scheduled-awaits : (p : Pool) (x : Obj) → MayCome Immediate (row_of p.rows x) → is_some (handler_of p.handlers x) ≡ true → Awaits p → Awaits (schedule p x)
 scheduled-awaits p x comes ready a = record { events = events; handlers = a.handlers }
   where
-    events : (w : What) (y : Obj) → waits w (schedule p x) y ≡ true → MayCome w (row_of p.rows y) × (is_some (p.handlers y.0) ≡ true)
+    events : (w : What) (y : Obj) → waits w (schedule p x) y ≡ true → MayCome w (row_of p.rows y) × (is_some (handler_of p.handlers y) ≡ true)
     events Immediate y h = elim (scheduled-either p.soon x y h) [
       | inl l ↦ a.events Immediate y l
-      | inr e ↦ subst (λ (z : Obj). MayCome Immediate (row_of p.rows z) × (is_some (p.handlers z.0) ≡ true)) e (comes, ready)
+      | inr e ↦ subst (λ (z : Obj). MayCome Immediate (row_of p.rows z) × (is_some (handler_of p.handlers z) ≡ true)) e (comes, ready)
     ]
     events Timer y h = a.events Timer y h
     events _ y h = cc
 
-pub armed-awaits : (p : Pool) (x : Obj) (time number : ℕ) → MayCome Timer (row_of p.rows x) → is_some (p.handlers x.0) ≡ true → Awaits p → Awaits (arm p x time number)
+pub armed-awaits : (p : Pool) (x : Obj) (time number : ℕ) → MayCome Timer (row_of p.rows x) → is_some (handler_of p.handlers x) ≡ true → Awaits p → Awaits (arm p x time number)
 armed-awaits p x time number comes ready a = record { events = events; handlers = a.handlers }
   where
-    events : (w : What) (y : Obj) → waits w (arm p x time number) y ≡ true → MayCome w (row_of p.rows y) × (is_some (p.handlers y.0) ≡ true)
+    events : (w : What) (y : Obj) → waits w (arm p x time number) y ≡ true → MayCome w (row_of p.rows y) × (is_some (handler_of p.handlers y) ≡ true)
     events Timer y h = elim (armed-either p.times x time number y h) [
       | inl l ↦ a.events Timer y l
-      | inr e ↦ subst (λ (z : Obj). MayCome Timer (row_of p.rows z) × (is_some (p.handlers z.0) ≡ true)) e (comes, ready)
+      | inr e ↦ subst (λ (z : Obj). MayCome Timer (row_of p.rows z) × (is_some (handler_of p.handlers z) ≡ true)) e (comes, ready)
     ]
     events Immediate y h = a.events Immediate y h
     events _ y h = cc

@@ -13,6 +13,7 @@ use Rattle.tree_specs.specs.declared.moment.What.{What}
 use Rattle.tree_specs.specs.declared.moment.What.TheVariants.{Timer, Immediate}
 use Rattle.tree_specs.specs.declared.wants.Want.{Want}
 use Rattle.tree_specs.specs.Tree.Pool.{Pool, row_of}
+use Rattle.tree_specs.specs.Events.Handlers.{handler_of}
 use Rattle.tree_specs.specs.Events.Pending.{first}
 use Rattle.tree_specs.specs.Calls.Refusals.{is_doomed}
 
@@ -37,7 +38,7 @@ may_start what (Some r) = comes_as what r.kind && is_quiet_mark r.mark
 
 -- the handler that is to run; none where it is no such event, or has none
 abbrev pub handler_for : Pool → What → Obj → Option Handler
-handler_for p what x = if may_start what (row_of p.rows x) then p.handlers x.0 else None
+handler_for p what x = if may_start what (row_of p.rows x) then handler_of p.handlers x else None
 
 -- the first moment in the run of a handler
 abbrev pub handler_moment : What → Obj → Handler → ℕ → Moment

@@ -7,6 +7,7 @@ use Rattle.tree_specs.specs.declared.row.Row.{Row}
 use Rattle.tree_specs.specs.declared.moment.What.{What}
 use Rattle.tree_specs.specs.declared.moment.What.TheVariants.{Timer, Immediate}
 use Rattle.tree_specs.specs.Tree.Pool.{Pool, row_of}
+use Rattle.tree_specs.specs.Events.Handlers.{handler_of}
 use Rattle.tree_specs.specs.Events.Pending.{is_scheduled, is_armed}
 use Rattle.tree_specs.specs.Events.Coming.{comes_as}
 use Rattle.tree_specs.specs.Calls.Refusals.{is_doomed_mark}
@@ -28,9 +29,9 @@ is_event_row None = false
 is_event_row (Some r) = comes_as Immediate r.kind || comes_as Timer r.kind
 
 pub record Awaits (p : Pool) : Type 0 where
-  pub events : (what : What) (x : Obj) → waits what p x ≡ true → MayCome what (row_of p.rows x) × (is_some (p.handlers x.0) ≡ true)
+  pub events : (what : What) (x : Obj) → waits what p x ≡ true → MayCome what (row_of p.rows x) × (is_some (handler_of p.handlers x) ≡ true)
   -- only events have handlers
-  pub handlers : (x : Obj) → is_event_row (row_of p.rows x) ≡ false → p.handlers x.0 ≡ None
+  pub handlers : (x : Obj) → is_event_row (row_of p.rows x) ≡ false → handler_of p.handlers x ≡ None
 
 -- so it is just before an item
 abbrev pub AwaitsBefore : List Scene → Scene → Type 0
