@@ -30,7 +30,7 @@ impl Model for Times {
 }
 
 impl Times {
-    ghost use Rattle.std.specs.Prelude.{◌+◌, ◌<◌, ◌≤◌, ◌↔◌, [], IsTrue, OnOk, length, slice_get, drop, false};
+    ghost use Rattle.std.specs.Prelude.{◌+◌, ◌<◌, ◌≤◌, ◌↔◌, [], IsTrue, IfSome, OnOk, length, slice_get, drop, false};
     ghost use Rattle.std.specs.Option.{option_copied};
     ghost use Rattle.tree_specs.specs.Events.Pending.{armed, disarmed, is_armed, is_numbered, put_in};
     ghost use Rattle.timers.specs.Timetable.{AreInOrder, AreOnce};
@@ -119,6 +119,7 @@ impl Times {
     pub fn pop(&mut self) -> Option<Due>
         ensures first { result ≡ slice_get self.old.dues 0 }
         ensures dues { self.new.dues ≡ drop 1 self.old.dues }
+        ensures removed { IfSome result (λ due. self.new.dues ≡ disarmed self.old.dues due.object) }
         ensures spare { self.old.spare ≤ self.new.spare }
     {
         let first = self.earliest();
