@@ -1,5 +1,5 @@
 -- What holds of a host at every moment.
-use Rattle.std.specs.Prelude.{ℕ, ◌+◌, ◌≤◌, List, [], ◌∷◌, Option, Some, None}
+use Rattle.std.specs.Prelude.{ℕ, ◌+◌, ◌≤◌, List, [], ◌∷◌, Some, None, is_some, if◌then◌else◌}
 use Rattle.tree_specs.specs.declared.question.Ask.{Ask}
 use Rattle.tree_specs.specs.declared.question.Ask.TheVariants as asks
 use Rattle.tree_specs.specs.declared.row.Row.{Row}
@@ -9,7 +9,7 @@ use Rattle.tree_specs.specs.Tree.Pool.{Pool}
 use Rattle.tree_specs.specs.Tree.Inside.{total}
 use Rattle.tree_specs.specs.Invariants.Sound.{Sound}
 use Rattle.tree_specs.specs.Machine.View.{View}
-use Rattle.tree_specs.specs.Machine.Profiles.{Phase, phase_in, Role, Calls, Frees, Turns, Waits, ARun, ATurn, AHandler, profile}
+use Rattle.tree_specs.specs.Machine.Profiles.{phase_in, Role, Calls, Frees, Turns, Waits, ARun, ATurn, AHandler, profile}
 
 -- ---- which work may stand on which
 
@@ -81,12 +81,8 @@ abbrev pub sizes : List Frame → ℕ
 sizes [] = 0
 sizes (f ∷ fs) = size f + sizes fs
 
-abbrev pub phase_deposit : Option Phase → ℕ
-phase_deposit None = 0
-phase_deposit (Some a) = 3
-
 abbrev pub mark_deposit : Mark → ℕ
-mark_deposit m = phase_deposit (phase_in m)
+mark_deposit m = if is_some (phase_in m) then 3 else 0
 
 abbrev pub deposit : Row → ℕ
 deposit r = mark_deposit r.mark

@@ -22,7 +22,7 @@ use Rattle.tree_specs.specs.declared.free_step.FreeReply.{FreeReply}
 use Rattle.tree_specs.specs.declared.free_step.FreeReply.TheVariants as free_reply
 use Rattle.tree_specs.specs.declared.free_step.FreeReply.TheVariants.{Ok, Held, Running}
 use Rattle.tree_specs.specs.Tree.Targets.{newest_ref}
-use Rattle.tree_specs.specs.Tree.Pool.{empty, row_of, is_below, owner_of, newest_ref_of, target_at, noted_owner, is_inside, first_kid, detach, remove, place, set_mark, doom, set_hook, unschedule, disarm}
+use Rattle.tree_specs.specs.Tree.Pool.{Pool, empty, row_of, is_below, owner_of, newest_ref_of, target_at, noted_owner, is_inside, first_kid, detach, remove, place, set_mark, doom, set_hook, unschedule, disarm}
 use Rattle.tree_specs.specs.Events.Pending.{first}
 use Rattle.tree_specs.specs.Events.Coming.{wait_limit, handler_for, handler_moment, goes_after, looks_again}
 use Rattle.tree_specs.specs.Tree.Heirs.{heir}
@@ -139,6 +139,14 @@ drops r target = do
   tells (Told (Unreferenced r target))
   change (λ q. remove q r)
 
+-- The newest reference to an object is dropped: after one from inside the object this begins again, and after one from
+-- outside it goes on as `outside` says. Where there is none, it is `unreferred`.
+abbrev pub from_newest : Option Obj → Pool → Obj → Work FreeReply → (Obj → Work FreeReply) → Work FreeReply → Work FreeReply
+from_newest None p x again outside unreferred = unreferred
+from_newest (Some r) p x again outside unreferred = do
+  drops r x
+  if is_inside p.rows (Of r) (Of x) then again else outside r
+
 abbrev mutual
   -- An owner's interest in an object is taken away: its newest reference to it is dropped, or it gives the object up.
   pub unlink : ℕ → Owner → Obj → Work FreeReply
@@ -158,12 +166,7 @@ abbrev mutual
   release zero x = short
   release (suc n) x = do
     p ← pool
-    elim (newest_ref p.rows x) [
-      | Some r ↦ (do
-        drops r x
-        if is_inside p.rows (Of r) (Of x) then release n x else given n x (unwrap_or (owner_of p.rows r) Root))
-      | None ↦ free n x
-    ]
+    from_newest (newest_ref p.rows x) p x (release n x) (λ r. given n x (unwrap_or (owner_of p.rows r) Root)) (free n x)
 
   pub given : ℕ → Obj → Owner → Work FreeReply
   given zero x o = short
@@ -179,27 +182,22 @@ abbrev mutual
   free zero x = short
   free (suc n) x = do
     p ← pool
-    elim (newest_ref p.rows x) [
-      | Some r ↦ (do
-        drops r x
-        if is_inside p.rows (Of r) (Of x) then free n x else gives Held)
-      | None ↦ elim (row_of p.rows x) [
-        | None ↦ gives Ok
-        | Some r ↦ elim r.mark [
-          | mark.Quiet ↦ if nat_eq r.hook 0
-              then leave n x 0
-              else (do
-                change (λ q. set_mark q x mark.Asked)
-                hooked n x r.hook)
-          | mark.Asked ↦ gives Running
-          | mark.Busy ↦ (do
-            change (λ q. doom q x)
-            dooming n x)
-          | mark.Doomed ↦ gives Running
-          | mark.Dying former ↦ gives Ok
-        ]
+    from_newest (newest_ref p.rows x) p x (free n x) (λ r. gives Held) (elim (row_of p.rows x) [
+      | None ↦ gives Ok
+      | Some r ↦ elim r.mark [
+        | mark.Quiet ↦ if nat_eq r.hook 0
+            then leave n x 0
+            else (do
+              change (λ q. set_mark q x mark.Asked)
+              hooked n x r.hook)
+        | mark.Asked ↦ gives Running
+        | mark.Busy ↦ (do
+          change (λ q. doom q x)
+          dooming n x)
+        | mark.Doomed ↦ gives Running
+        | mark.Dying former ↦ gives Ok
       ]
-    ]
+    ])
 
   -- its handler runs, and it is freed after it
   pub dooming : ℕ → Obj → Work FreeReply

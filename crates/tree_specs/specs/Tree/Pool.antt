@@ -41,10 +41,14 @@ row_of (r ∷ rs) x = if same r.serial x then Some r else row_of rs x
 abbrev pub is_row : List Row → Obj → Bool
 is_row rs x = is_some (row_of rs x)
 
+-- a row was found, and passes
+abbrev pub passes : (Row → Bool) → Option Row → Bool
+passes q None = false
+passes q (Some r) = q r
+
 -- a row that is no reference
 abbrev pub is_object_row : Option Row → Bool
-is_object_row None = false
-is_object_row (Some r) = not (is_reference r.kind)
+is_object_row o = passes (λ r. not (is_reference r.kind)) o
 
 abbrev pub is_object : List Row → Obj → Bool
 is_object rs x = is_object_row (row_of rs x)
@@ -115,8 +119,7 @@ is_dying_mark (Dying former) = true
 is_dying_mark m = false
 
 abbrev pub is_dying_row : Option Row → Bool
-is_dying_row None = false
-is_dying_row (Some r) = is_dying_mark r.mark
+is_dying_row o = passes (λ r. is_dying_mark r.mark) o
 
 abbrev pub is_dying : List Row → Obj → Bool
 is_dying rs x = is_dying_row (row_of rs x)
@@ -182,39 +185,44 @@ owned_row o r = record r { owner = Some o }
 abbrev pub place : Pool → Owner → Obj → Pool
 place p o x = record p { rows = in_front (row_of p.rows x) o (without p.rows x) }
 
+-- an object's row is changed, and nothing else
+abbrev pub edited : Pool → Obj → (Row → Row) → Pool
+edited p x change = record p { rows = changed change p.rows x }
+
 abbrev pub named_row : List ℕ → Row → Row
 named_row name r = record r { name = name }
 
 abbrev pub rename : Pool → Obj → List ℕ → Pool
-rename p x name = record p { rows = changed (named_row name) p.rows x }
+rename p x name = edited p x (named_row name)
 
 abbrev pub marked_row : Mark → Row → Row
 marked_row mark r = record r { mark = mark }
 
 abbrev pub set_mark : Pool → Obj → Mark → Pool
-set_mark p x mark = record p { rows = changed (marked_row mark) p.rows x }
+set_mark p x mark = edited p x (marked_row mark)
 
 -- an event whose handler runs is to be freed after it, and waits for nothing until then
 abbrev pub doom : Pool → Obj → Pool
 doom p x = record p { rows = changed (marked_row Doomed) p.rows x; soon = unscheduled p.soon x; times = disarmed p.times x }
 
+-- a row with another destructor, size or limit
 abbrev pub hooked_row : ℕ → Row → Row
 hooked_row hook r = record r { hook = hook }
-
-abbrev pub set_hook : Pool → Obj → ℕ → Pool
-set_hook p x hook = record p { rows = changed (hooked_row hook) p.rows x }
 
 abbrev pub sized_row : ℕ → Row → Row
 sized_row size r = record r { size = size }
 
-abbrev pub set_size : Pool → Obj → ℕ → Pool
-set_size p x size = record p { rows = changed (sized_row size) p.rows x }
-
 abbrev pub limited_row : ℕ → Row → Row
 limited_row limit r = record r { limit = limit }
 
+abbrev pub set_hook : Pool → Obj → ℕ → Pool
+set_hook p x hook = edited p x (hooked_row hook)
+
+abbrev pub set_size : Pool → Obj → ℕ → Pool
+set_size p x size = edited p x (sized_row size)
+
 abbrev pub set_limit : Pool → Obj → ℕ → Pool
-set_limit p x limit = record p { rows = changed (limited_row limit) p.rows x }
+set_limit p x limit = edited p x (limited_row limit)
 
 -- ---- waiting
 
