@@ -55,7 +55,7 @@ fn judged(work: FreeFrame, value: u32) -> FreeFrame
 }
 
 impl FreeEngine {
-    ghost use Rattle.std.specs.Prelude.{◌∷◌, true, None};
+    ghost use Rattle.std.specs.Prelude.{◌∷◌, true, None, is_some};
     ghost use Rattle.tree_specs.specs.declared.frame.FreeFrame.TheVariants.{Unlinking, Beginning, Looping};
     ghost use Rattle.tree_specs.specs.declared.frame.Purpose.TheVariants.{Emptying};
     ghost use Rattle.destructors.specs.Frees.{frees_of, next_of, is_event, returned, speaking, Begins, Steps};
@@ -72,6 +72,13 @@ impl FreeEngine {
         ensures { result ≡ None }
     {
         FreeEngine { innermost: None }
+    }
+
+    /// Whether a free is open.
+    pub fn is_open(&self) -> bool
+        ensures { result ≡ is_some self.now }
+    {
+        self.innermost.is_some()
     }
 
     /// Puts the first work of a free before those of the open ones.

@@ -13,6 +13,8 @@ mod refusals;
 mod reports;
 mod short_reply;
 mod subject;
+mod turn;
+mod turns;
 #[cfg(test)]
 mod tests;
 mod works;

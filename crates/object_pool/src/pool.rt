@@ -43,7 +43,7 @@ impl Model for ObjectPool {
 }
 
 impl ObjectPool {
-    ghost use Rattle.std.specs.Prelude.{◌≡◌, ℕ, ◌^◌, ◌-◌, ◌<◌, ◌∷◌, [], true, false, None, ◌&&◌, IfOk, OnOk, OnErr, length, slice_get};
+    ghost use Rattle.std.specs.Prelude.{◌≡◌, ℕ, ◌^◌, ◌-◌, ◌<◌, ◌∷◌, [], true, false, None, ◌&&◌, IfOk, OnOk, OnErr, is_some, length, slice_get};
     ghost use Rattle.std.specs.Option.{option_copied};
     ghost use Rattle.tree_specs.specs.declared.object.Owner.TheVariants.{Of as At};
     ghost use Rattle.tree_specs.specs.declared.frame.FreeFrame.TheVariants.{Unlinking, Beginning, Looping};
@@ -240,6 +240,13 @@ impl ObjectPool {
         ensures at_work { IsAtWork (frees_in self.new) }
     {
         self.engine.answer(&self.tree, value);
+    }
+
+    /// Whether a free is open.
+    pub fn is_freeing(&self) -> bool
+        ensures { result ≡ is_some (slice_get self.now.works 0) }
+    {
+        self.engine.is_open()
     }
 
     /// Whether the next step of the innermost free tells an event.
