@@ -192,6 +192,11 @@ pub record StepsSilently (v w : View) : Type 0 where
   pub along : TellsSameStory v w
   pub cheaper : (R : ℕ) → length v.pool.rows + pending v.innermost ≤ R → cost R w.innermost w.below w.pool 0 < cost R v.innermost v.below v.pool 0
 
+-- a caller is at work, or else a free
+abbrev pub at_work : Option Caller → Active
+at_work None = active.Freeing
+at_work (Some c) = active.Caller c
+
 -- a turn is over with this reply
 abbrev pub turn_over : Ask → ℕ → CallFrame
 turn_over q v = telling q (short_reply.Number v)
@@ -216,6 +221,16 @@ after_telling (Telling q r) = Asking q
 after_telling f = f
 
 -- ---- a turn
+
+-- a turn is at work
+abbrev pub IsTurning : Active → Type 0
+IsTurning (active.Turning t) = Unit {0}
+IsTurning _ = ⊥
+
+-- a turn waits for the run of a handler
+abbrev pub IsHandling : Option TurnFrame → Type 0
+IsHandling (Some (Handling what x handler time)) = Unit {0}
+IsHandling _ = ⊥
 
 -- who is at work where this is still to do of a turn that was called for by who was asked this
 abbrev pub StandsWith : TurnFrame → Ask → Active → Type 0
@@ -281,12 +296,11 @@ MayBegin i waiting places ready = ready ≡ true
 abbrev pub IsReplyOf : Owner → Reply → Pool → Type 0
 IsReplyOf o r p = (q : Ask) → call_step (refusals p (call.Report o)) q (call.Report o) p ≡ replied q r p
 
--- a routine remembers the reply, and the host's own caller doesn't
+-- a routine remembers the reply, and nobody else does
 abbrev pub IsCopy : Input → Option Reply → Owner → Pool → Type 0
-IsCopy (input.Call c) copy o p = copy ≡ None
 IsCopy (input.Act a) None o p = ⊥
 IsCopy (input.Act a) (Some r) o p = IsReplyOf o r p
-IsCopy i copy o p = ⊥
+IsCopy i copy o p = copy ≡ None
 
 -- the report that an input wants, which is about this owner
 pub record IsReport (i : Input) (r : Report) (o : Owner) (p : Pool) : Type 0 where

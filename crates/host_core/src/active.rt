@@ -1,5 +1,5 @@
 //! What is at work in a host, above all that waits.
-ghost use Rattle.std.specs.Prelude.{◌≡◌, Some, IsSome, is_none};
+ghost use Rattle.std.specs.Prelude.{◌≡◌, ◌↔◌, Some, IsSome, IsTrue, is_none};
 ghost use Rattle.std.specs.Option.{option_copied};
 ghost use Rattle.tree_specs.specs.declared.question.Ask.{Ask as AskData};
 ghost use Rattle.tree_specs.specs.declared.frame.CallFrame.TheVariants.{Telling};
@@ -52,6 +52,20 @@ impl Active {
             | (Some(Ask::Wait(_)), Input::Ready(_)) => true,
             _ => false,
         }
+    }
+
+    /// Something else is at work from now on.
+    pub fn go_to(&mut self, next: Active)
+        ensures { self.new ≡ next }
+    {
+        *self = next;
+    }
+
+    /// Whether a free is at work.
+    pub fn is_freeing(&self) -> bool
+        ensures { IsTrue result ↔ (self.now ≡ Active.Freeing) }
+    {
+        matches!(self, Active::Freeing)
     }
 
     /// Whether the host's own caller is at work.

@@ -1,7 +1,11 @@
 //! The steps of a turn of the event loop: one thing comes, its handler runs, and it is quiet again or goes.
-ghost use Rattle.std.specs.Prelude.{◌≡◌, Some, None, [], IsSome, is_none, true};
+ghost use Rattle.std.specs.Prelude.{◌≡◌, ℕ, Some, None, [], IsSome, is_none, true};
 ghost use Rattle.tree_specs.specs.declared.frame.CallFrame.TheVariants.{Returning};
-ghost use Rattle.tree_specs.specs.declared.frame.TurnFrame.TheVariants.{Reading};
+ghost use Rattle.tree_specs.specs.declared.frame.TurnFrame.TheVariants.{Handling, Reading};
+ghost use Rattle.tree_specs.specs.declared.handler.Handler.{Handler as HandlerData};
+ghost use Rattle.tree_specs.specs.declared.moment.What.{What as WhatData};
+ghost use Rattle.tree_specs.specs.declared.object.Obj.{Obj as ObjData};
+ghost use Rattle.host_core.specs.declared.turn.Turn.{Turn as TurnData};
 ghost use Rattle.tree_specs.specs.declared.question.Ask.{Ask as AskData};
 ghost use Rattle.tree_specs.specs.declared.question.Ask.TheVariants.{Quiet as AtRest};
 ghost use Rattle.tree_specs.specs.declared.question.Input.TheVariants as inputs;
@@ -12,7 +16,7 @@ ghost use Rattle.tree_specs.specs.Texts.Schedule.{misfit};
 ghost use Rattle.destructors.specs.Works.{IsAwaiting};
 ghost use Rattle.object_pool.specs.Objects.{frees_in};
 ghost use Rattle.host_core.specs.Turns.{turns_of, turn_asks, frame_started, frame_arrived, pool_arrived, frame_timed, pool_timed, TurnStops, TurnLooks, IsFor};
-ghost use Rattle.host_core.specs.Hosts.{turn_at, view_at, given_view, turn_begun, host_view, caller_asked, asked_now, is_quiet, stack_of, PartsReady, TellsSameStory, IsBetweenSteps, StandsWith, Fires};
+ghost use Rattle.host_core.specs.Hosts.{turn_at, view_at, given_view, turn_begun, host_view, caller_asked, asked_now, is_quiet, stack_of, IsTurning, IsHandling, PartsReady, TellsSameStory, IsBetweenSteps, StandsWith, Fires};
 
 use crate::active::Active;
 use crate::caller::Caller;
@@ -21,7 +25,7 @@ use crate::short_reply::ShortReply;
 use crate::turn::{Turn, frame_picked};
 use object_pool::ObjectPool;
 use std::mem;
-use tree_specs::{Ask, Event, Refusal, TurnFrame, Wants};
+use tree_specs::{Ask, Event, Obj, Refusal, TurnFrame, Wants, What};
 
 /// What comes is busy from now on, and its handler is to be told of; where it has none the turn is over.
 fn arrive(frame: TurnFrame, objects: &mut ObjectPool) -> TurnFrame
@@ -52,6 +56,28 @@ fn stand(frame: TurnFrame, caller: Ask) -> Active
     }
 }
 
+/// The turn that is at work, and the caller whose call it is; what is at work is to be put in its place.
+fn take_turn(now: &mut Active) -> (TurnFrame, Ask)
+    requires { IsTurning now.old }
+    ensures { (t : TurnData) → now.old ≡ Active.Turning t → result ≡ (t.frame, t.caller) }
+{
+    match mem::replace(now, Active::Freeing) {
+        Active::Turning(turn) => (turn.frame, turn.caller),
+        _ => unreachable!(),
+    }
+}
+
+/// The event whose handler a turn waits for, as what it has come.
+fn handling(turn: Option<TurnFrame>) -> (What, Obj)
+    requires { IsHandling turn }
+    ensures { (what : WhatData) (x : ObjData) (handler : HandlerData) (time : ℕ) → turn ≡ Some (Handling what x handler time) → result ≡ (what, x) }
+{
+    match turn {
+        Some(TurnFrame::Handling { what, x, .. }) => (what, x),
+        _ => unreachable!(),
+    }
+}
+
 /// The caller that was asked waits for the time.
 pub fn ask_time(now: &mut Active)
     requires { IsSome (caller_asked now.old) }
@@ -59,7 +85,7 @@ pub fn ask_time(now: &mut Active)
 {
     match mem::replace(now, Active::Freeing) {
         Active::Caller(Caller { ask, .. }) => {
-            *now = Active::Turning(Turn::new(TurnFrame::Reading, ask));
+            now.go_to(Active::Turning(Turn::new(TurnFrame::Reading, ask)));
         }
         _ => unreachable!(),
     }
@@ -75,7 +101,7 @@ pub fn begin_turn(now: &mut Active, parts: &mut Parts)
     if now.is_quiet() {
         let pick = parts.objects.begin_turn();
         let frame = arrive(frame_picked(pick, false), &mut parts.objects);
-        *now = stand(frame, Ask::Quiet);
+        now.go_to(stand(frame, Ask::Quiet));
     } else {
         now.reply(ShortReply::No(Refusal::Nested));
     }
@@ -101,14 +127,10 @@ pub fn time_on(now: &mut Active, time: u64, parts: &mut Parts)
     ensures along { TellsSameStory (given_view now.old (inputs.Clock time) parts.old) (host_view now.new parts.new) }
     ensures ready { IsBetweenSteps now.new parts.new }
 {
-    match mem::replace(now, Active::Freeing) {
-        Active::Turning(turn) => {
-            let frame = timed(turn.frame, time, &mut parts.objects);
-            let frame = arrive(frame, &mut parts.objects);
-            *now = stand(frame, turn.caller);
-        }
-        _ => unreachable!(),
-    }
+    let (frame, caller) = take_turn(now);
+    let frame = timed(frame, time, &mut parts.objects);
+    let frame = arrive(frame, &mut parts.objects);
+    now.go_to(stand(frame, caller));
 }
 
 /// It was asked which descriptors are ready, and these are.
@@ -119,13 +141,9 @@ pub fn ready_on(now: &mut Active, list: &Wants, parts: &mut Parts)
     ensures along { TellsSameStory (given_view now.old (inputs.Ready list.now) parts.old) (host_view now.new parts.new) }
     ensures ready { IsBetweenSteps now.new parts.new }
 {
-    match mem::replace(now, Active::Freeing) {
-        Active::Turning(turn) => {
-            let pick = parts.objects.ready(list);
-            *now = stand(frame_picked(pick, true), turn.caller);
-        }
-        _ => unreachable!(),
-    }
+    let (_, caller) = take_turn(now);
+    let pick = parts.objects.ready(list);
+    now.go_to(stand(frame_picked(pick, true), caller));
 }
 
 /// A handler has returned: its event is quiet again, and the turn is over, or waits until the event is freed.
@@ -136,9 +154,7 @@ fn handled(parts: &mut Parts) -> Active
     ensures along { (v : ℕ) → IsConsistent (view_at (Returning v) parts.old) → TellsSameStory (view_at (Returning v) parts.old) (host_view result parts.new) }
     ensures ready { IsBetweenSteps result parts.new }
 {
-    let Some(TurnFrame::Handling { what, x, .. }) = parts.turn else {
-        unreachable!()
-    };
+    let (what, x) = handling(parts.turn);
     if !parts.objects.finish(what, x) {
         parts.turn = None;
         return Active::Caller(Caller::after_turn(Ask::Quiet, 1));
@@ -158,9 +174,9 @@ pub fn return_on(now: &mut Active, value: u32, parts: &mut Parts)
 {
     if parts.objects.is_freeing() {
         parts.objects.answer(value);
-        *now = Active::Freeing;
+        now.go_to(Active::Freeing);
     } else {
-        *now = handled(parts);
+        now.go_to(handled(parts));
     }
 }
 
@@ -186,7 +202,7 @@ pub fn fire(now: &mut Active, turn: &mut Option<TurnFrame>) -> Option<Event>
         handler,
         now: time,
     });
-    *now = Active::Caller(Caller::handle(what, x, handler, time));
+    now.go_to(Active::Caller(Caller::handle(what, x, handler, time)));
     Some(Event::Fired {
         what,
         object: x,

@@ -8,7 +8,7 @@ ghost use Rattle.destructors.specs.Works.{IsAwaiting};
 ghost use Rattle.object_pool.specs.Objects.{frees_in};
 ghost use Rattle.host_core.specs.Moves.{ReadyFor};
 ghost use Rattle.host_core.specs.Turns.{turns_of};
-ghost use Rattle.host_core.specs.Hosts.{stack_of, view_after, host_view, view_at, given_view, speaking_view, caller_asked, asked_now, MayDo, MayBegin, PartsReady, TellsSameStory, StepsSilently, IsBetweenSteps, Finished};
+ghost use Rattle.host_core.specs.Hosts.{stack_of, view_after, host_view, view_at, given_view, speaking_view, caller_asked, asked_now, MayDo, MayBegin, PartsReady, TellsSameStory, StepsSilently, IsBetweenSteps, Finished, at_work};
 
 use crate::active::Active;
 use crate::caller::{Caller, Waiting};
@@ -94,45 +94,45 @@ pub fn answer_on(now: &mut Active, input: Input, parts: &mut Parts)
 
 /// The innermost free is over. The caller that has waited for it goes on; where there is none, the turn that has waited is
 /// over.
-fn finish(answer: FreeReply, callers: &mut Vec<Waiting>, turn: &mut Option<TurnFrame>) -> Active
-    ensures { Finished answer callers.old.items turn.old result callers.new.items turn.new }
+fn finish(answer: FreeReply, callers: &mut Vec<Waiting>, turn: &mut Option<TurnFrame>) -> Caller
+    ensures { Finished answer callers.old.items turn.old (Active.Caller result) callers.new.items turn.new }
 {
     match callers.pop() {
-        Some(waiting) => Active::Caller(waiting.resumed(answer)),
+        Some(waiting) => waiting.resumed(answer),
         None => {
             *turn = None;
-            Active::Caller(Caller::after_turn(Ask::Quiet, 1))
+            Caller::after_turn(Ask::Quiet, 1)
         }
     }
 }
 
-/// A step of the innermost free that tells no event.
-fn free_on(parts: &mut Parts) -> Active
+/// A step of the innermost free that tells no event: the caller that goes on, or none where the free does.
+fn free_on(parts: &mut Parts) -> Option<Caller>
     requires ready { IsBetweenSteps Active.Freeing parts.old }
     requires quiet { speaking_view (host_view Active.Freeing parts.old) ≡ false }
-    ensures onward { StepsSilently (host_view Active.Freeing parts.old) (host_view result parts.new) }
-    ensures ready { IsBetweenSteps result parts.new }
+    ensures onward { StepsSilently (host_view Active.Freeing parts.old) (host_view (at_work result) parts.new) }
+    ensures ready { IsBetweenSteps (at_work result) parts.new }
 {
     match parts.objects.step() {
-        FreeStep::Ask(x) => Active::Caller(Caller::run(x, &parts.objects)),
-        FreeStep::Done(answer) => finish(answer, &mut parts.callers, &mut parts.turn),
-        _ => Active::Freeing,
+        FreeStep::Ask(x) => Some(Caller::run(x, &parts.objects)),
+        FreeStep::Done(answer) => Some(finish(answer, &mut parts.callers, &mut parts.turn)),
+        _ => None,
     }
 }
 
 /// The steps of the innermost free that tell nothing, up to its next event, or to a caller that goes on.
-fn free_up(parts: &mut Parts) -> Active
+fn free_up(parts: &mut Parts) -> Option<Caller>
     requires { IsBetweenSteps Active.Freeing parts.old }
-    ensures along { TellsSameStory (host_view Active.Freeing parts.old) (host_view result parts.new) }
-    ensures ready { IsBetweenSteps result parts.new }
-    ensures settled { speaking_view (host_view result parts.new) ≡ true }
+    ensures along { TellsSameStory (host_view Active.Freeing parts.old) (host_view (at_work result) parts.new) }
+    ensures ready { IsBetweenSteps (at_work result) parts.new }
+    ensures settled { speaking_view (host_view (at_work result) parts.new) ≡ true }
 {
     while !parts.objects.announces() {
-        if let Active::Caller(caller) = free_on(parts) {
-            return Active::Caller(caller);
+        if let Some(caller) = free_on(parts) {
+            return Some(caller);
         }
     }
-    Active::Freeing
+    None
 }
 
 /// The steps that tell nothing, up to the next event or question.
@@ -142,9 +142,9 @@ pub fn settle(now: &mut Active, parts: &mut Parts)
     ensures ready { IsBetweenSteps now.new parts.new }
     ensures settled { speaking_view (host_view now.new parts.new) ≡ true }
 {
-    if matches!(now, Active::Freeing)
-        && let Active::Caller(caller) = free_up(parts)
+    if now.is_freeing()
+        && let Some(caller) = free_up(parts)
     {
-        *now = Active::Caller(caller);
+        now.go_to(Active::Caller(caller));
     }
 }
