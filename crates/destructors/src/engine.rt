@@ -53,7 +53,7 @@ fn judged(work: FreeFrame, value: u32) -> FreeFrame
 }
 
 impl FreeEngine {
-    ghost use Rattle.std.specs.Prelude.{◌∷◌, true, None};
+    ghost use Rattle.std.specs.Prelude.{true, None};
     ghost use Rattle.tree_specs.specs.declared.frame.FreeFrame.TheVariants.{Unlinking, Beginning, Looping};
     ghost use Rattle.tree_specs.specs.declared.frame.Purpose.TheVariants.{Emptying};
     ghost use Rattle.destructors.specs.Frees.{frees_of, next_of, is_event, returned, speaking, Steps};

@@ -7,7 +7,7 @@ use Rattle.tree_specs.specs.Tree.Pool.{first_kid, is_below, remove, without as r
 use Rattle.linked_lanes.specs.Lane.{first, without}
 use Rattle.tree_specs.proofs.Events.HandlerLaws.{removed-rows}
 use Rattle.tree_links.specs.Links.{IsTree, Links, pool_of}
-use Rattle.tree_links.specs.Nodes.{Holds, numbers, children, rows_of, row_in, first_in}
+use Rattle.tree_links.specs.Nodes.{Holds, children, rows_of, row_in, first_in}
 use Rattle.tree_links.specs.declared.node.Node.{Node}
 use Rattle.tree_links.proofs.Listing.{obj, lane-without, first-child, row-without, held-rows}
 use Rattle.tree_links.proofs.Trees.{without-tree}
