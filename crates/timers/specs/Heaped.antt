@@ -116,6 +116,12 @@ pub record Places (H : ℕ → Option Due) (P : ℕ → Option ℕ) : Type 0 whe
   pub there : (i : ℕ) (d : Due) → H i ≡ Some d → P d.object.0 ≡ Some i
   pub back : (q i : ℕ) → P q ≡ Some i → option_map object_of (H i) ≡ Some q
 
+-- the times have come to where they belong, each object's place is noted, and they are the same as before
+pub record IsSettled (before after : List Due) (P : ℕ → Option ℕ) : Type 0 where
+  pub heap : IsHeap (slice_get after)
+  pub places : Places (slice_get after) P
+  pub dues : Reorders before after
+
 -- each object's place, but for the time at this place, which is to go
 pub record PlacesBut (H : ℕ → Option Due) (P : ℕ → Option ℕ) (at : ℕ) : Type 0 where
   pub there : (i : ℕ) (d : Due) → H i ≡ Some d → i ≢ at → P d.object.0 ≡ Some i

@@ -4,7 +4,7 @@ ghost use Rattle.std.specs.Prelude.{◌≡◌, ◌<◌, ◌≤◌, ◌+◌, ℕ,
 ghost use Rattle.std.specs.Option.{option_map};
 ghost use Rattle.pool_arena.specs.Arena.{get};
 ghost use Rattle.tree_specs.specs.Events.Pending.{comes_before as is_before};
-ghost use Rattle.timers.specs.Heaped.{IsEarlyChild, IsFirstOfTwo, IsHeap, IsLateParent, IsNext, Places, PlacesBut, Removes, Reorders, Settles, Sifts, with_place};
+ghost use Rattle.timers.specs.Heaped.{IsEarlyChild, IsFirstOfTwo, IsHeap, IsLateParent, IsNext, IsSettled, Places, PlacesBut, Removes, Settles, Sifts, with_place};
 
 use pool_arena::Arena;
 use tree_specs::Due;
@@ -106,9 +106,7 @@ pub(crate) fn sift(dues: &mut Vec<Due>, places: &mut Arena<usize>, way: Way, at:
     requires held { IsSome (get places.old due.object.0) }
     requires heap { Sifts way (slice_get (set dues.old.items at due)) at }
     requires places { Places (slice_get (set dues.old.items at due)) (with_place (get places.old) due.object.0 at) }
-    ensures heap { IsHeap (slice_get dues.new.items) }
-    ensures places { Places (slice_get dues.new.items) (get places.new) }
-    ensures dues { Reorders (set dues.old.items at due) dues.new.items }
+    ensures settled { IsSettled (set dues.old.items at due) dues.new.items (get places.new) }
     ensures capacity { vec_capacity dues.new ≡ vec_capacity dues.old }
     ensures spare { places.new.spare ≡ places.old.spare }
 {
@@ -140,9 +138,7 @@ fn settle(dues: &mut Vec<Due>, places: &mut Arena<usize>, at: usize, due: Due)
     requires held { IsSome (get places.old due.object.0) }
     requires heap { Settles (slice_get (set dues.old.items at due)) at }
     requires places { Places (slice_get (set dues.old.items at due)) (with_place (get places.old) due.object.0 at) }
-    ensures heap { IsHeap (slice_get dues.new.items) }
-    ensures places { Places (slice_get dues.new.items) (get places.new) }
-    ensures dues { Reorders (set dues.old.items at due) dues.new.items }
+    ensures settled { IsSettled (set dues.old.items at due) dues.new.items (get places.new) }
     ensures capacity { vec_capacity dues.new ≡ vec_capacity dues.old }
     ensures spare { places.new.spare ≡ places.old.spare }
 {

@@ -1,4 +1,4 @@
-use Rattle.std.proofs.Common.{subst, sym, arith, slice_get}
+use Rattle.std.proofs.Common.{rules, refl, subst, sym, arith, slice_get}
 use Rattle.pool_arena.specs.Arena.{get}
 use Rattle.timers.specs.Heaped.{IsNext, IsHeap}
 use Rattle.timers.proofs.Sorted.{reorders-both}
@@ -14,14 +14,19 @@ sift-requires t c =
     let measure = c.decreases in
     (omega (arith, nearer, measure), (g.0.within, (g.0.held, (g.1, g.0.places))))
 
-pub returns-in-Some-clause-dues : goal.returns-in-Some-clause-dues
-returns-in-Some-clause-dues t c =
+pub returns-in-Some-clause-settled : goal.returns-in-Some-clause-settled
+returns-in-Some-clause-settled t c =
     let next = subst (IsNext c.args.way (slice_get c.args.dues.now.items) c.args.at c.args.due) c.in-Some.is c.next_place.ensures in
     let g = sift-goes c.args.dues.now.items c.put.new.dues.items (get c.args.places.now) (get c.put.new.places) c.args.at c.in-Some.next c.args.due c.index-other.result.now
     c.requires.at c.requires.held c.requires.places c.index-other.ensures c.put.ensures.dues c.put.ensures.places c.args.way c.requires.heap next in
-    reorders-both _ _ _ g.0.dues c.sift.ensures.dues
+    let below = c.sift.ensures.settled in
+    record { heap = below.heap; places = below.places; dues = reorders-both _ _ _ g.0.dues below.dues }
 
-pub returns-in-None-clause-heap : goal.returns-in-None-clause-heap
-returns-in-None-clause-heap t c =
+pub returns-in-None-clause-settled : goal.returns-in-None-clause-settled
+returns-in-None-clause-settled t c =
     let none = subst (IsNext c.args.way (slice_get c.args.dues.now.items) c.args.at c.args.due) c.in-None.is c.next_place.ensures in
-    subst (λ l. IsHeap (slice_get l)) (sym c.put-in-None.ensures.dues) (sift-stays c.args.dues.now.items c.args.at c.args.due c.requires.at c.args.way c.requires.heap none)
+    record {
+      heap = subst (λ l. IsHeap (slice_get l)) (sym c.put-in-None.ensures.dues) (sift-stays c.args.dues.now.items c.args.at c.args.due c.requires.at c.args.way c.requires.heap none);
+      places = search rules;
+      dues = rw c.put-in-None.ensures.dues (record { count = refl; order = λ N t. refl; told = λ N t. t });
+    }

@@ -60,7 +60,7 @@ pub returns-then-at-len-clause-dues : goal.returns-then-at-len-clause-dues
 returns-then-at-len-clause-dues c =
     let b = c.if-at-len.true in
     let n = c.len.ensures in
-    moves-dues _ _ _ _ _ (get c.args.places.now) c.pop.ensures.items c.in-Some.is c.requires.heap c.requires.places (omega (arith, b, n)) _ c.settle.ensures.dues
+    moves-dues _ _ _ _ _ (get c.args.places.now) c.pop.ensures.items c.in-Some.is c.requires.heap c.requires.places (omega (arith, b, n)) _ c.settle.ensures.settled.dues
 
 pub returns-else-at-len-clause-heap : goal.returns-else-at-len-clause-heap
 returns-else-at-len-clause-heap c =

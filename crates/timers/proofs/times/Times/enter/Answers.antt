@@ -43,7 +43,7 @@ module _ (c : goal.After-sift) where
   items = (λ i. set (c.push_reserved.ensures.items i) ((c.len-at.ensures ∙ c.self.inside.dues.ok.0) i) c.args.due) ∙ set-end c.self.inside.dues.items c.args.due
 
   reordered : Reorders (c.self.inside.dues.items ++ c.args.due ∷ []) c.sift.new.dues.items
-  reordered = subst (λ l. Reorders l c.sift.new.dues.items) items c.sift.ensures.dues
+  reordered = subst (λ l. Reorders l c.sift.new.dues.items) items c.sift.ensures.settled.dues
 
   teller : (N : ℕ → Option Due) × Told N c.self.inside.dues.items × (N c.args.due.number ≡ Some c.args.due)
   teller =
@@ -54,7 +54,7 @@ module _ (c : goal.After-sift) where
   told = told-append teller.0 c.self.inside.dues.items c.args.due teller.1 teller.2
 
 pub invariant_of-self : goal.invariant_of-self
-invariant_of-self c = kept (teller c).0 _ _ c.sift.ensures.heap c.sift.ensures.places ((reordered c).told (teller c).0 (told c))
+invariant_of-self c = kept (teller c).0 _ _ c.sift.ensures.settled.heap c.sift.ensures.settled.places ((reordered c).told (teller c).0 (told c))
 
 pub returns-clause-dues : goal.returns-clause-dues
 returns-clause-dues c =
