@@ -55,8 +55,7 @@ impl Soon {
         ensures spare { OnOk result (more ≤ self.new.spare) }
         ensures kept { self.old.spare ≤ self.new.spare }
     {
-        self.sides.reserve(more)?;
-        Ok(())
+        Ok(self.sides.reserve(more)?)
     }
 
     // One that doesn't wait comes after all others.

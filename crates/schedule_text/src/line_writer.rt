@@ -5,7 +5,7 @@ ghost use Rattle.tree_specs.specs.Texts.Text.{call_text, input_text, newline};
 ghost use Rattle.tree_specs.specs.Texts.Written.{Writes};
 
 use crate::ready::write_ready;
-use text_forms::{write_call, write_numbers};
+use text_forms::{write_call, write_numbers, write_pieces};
 use tree_specs::{Act, Call, Input, Memory};
 
 // The line of a call after this front.
@@ -15,8 +15,7 @@ fn write_call_line(front: &[u8], call: &Call, out: &mut Vec<u8>) -> Result<(), M
 {
     out.extend_from_slice(front)?;
     write_call(call, out)?;
-    out.push(b'\n')?;
-    Ok(())
+    write_pieces(&[b"\n".as_slice()], out)
 }
 
 // The one line of an input.

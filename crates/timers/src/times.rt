@@ -1,6 +1,6 @@
 ghost use Rattle.std.specs.Prelude.{◌≡◌};
 
-use crate::heap::{rise, take_out};
+use crate::heap::{Way, sift, take_out};
 use pool_arena::Arena;
 use std::alloc::Global;
 use std::marker::Model;
@@ -67,7 +67,7 @@ impl Times {
         let at = self.dues.len();
         self.places.add(due.object.0, at);
         self.dues.push_reserved(due);
-        rise(&mut self.dues, &mut self.places, at, due);
+        sift(&mut self.dues, &mut self.places, Way::Up, at, due);
     }
 
     /// The time of an object is to come, in microseconds; it takes the place of a time that it had. At equal times the

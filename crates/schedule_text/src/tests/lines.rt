@@ -1,16 +1,25 @@
 use crate::{read_header, read_line, write_end, write_input};
+use std::process::Abort;
 use std::test::Fail;
 use text_forms::{FormFault, read_name};
 use tree_specs::{Act, Ask, Call, Input, Mode, Obj, Owner, Want};
 
-#[test]
-fn reads_a_call_of_new(rt: HostRuntime) -> Result<(), Fail> {
-    match read_line(rt.alloc(), b"call new 7 10 a-b")? {
-        Input::Call(Call::New { owner, size, name }) => {
-            assert_eq!(rt; owner, Owner::Of(Obj(7)));
-            assert_eq!(rt; size, 10);
+// The call that makes an object of 10 bytes and the name a-b below 7.
+fn expect_new(rt: &impl Abort, call: &Call) {
+    match call {
+        Call::New { owner, size, name } => {
+            assert_eq!(rt; *owner, Owner::Of(Obj(7)));
+            assert_eq!(rt; *size, 10);
             assert_eq!(rt; name.as_slice(), b"a-b".as_slice());
         }
+        _ => assert!(rt; false, "another call"),
+    }
+}
+
+#[test]
+fn reads_a_call_of_new(rt: HostRuntime) -> Result<(), Fail> {
+    match &read_line(rt.alloc(), b"call new 7 10 a-b")? {
+        Input::Call(call) => expect_new(&rt, call),
         _ => assert!(rt; false, "another input"),
     }
     Ok(())
@@ -56,44 +65,41 @@ fn writes_what_was_read(rt: HostRuntime) -> Result<(), Fail> {
 }
 
 #[test]
-fn reads_acts(rt: HostRuntime) -> Result<(), Fail> {
-    match read_line(rt.alloc(), b"act new 7 10 a-b")? {
-        Input::Act(Act::Do(Call::New { owner, size, name })) => {
-            assert_eq!(rt; owner, Owner::Of(Obj(7)));
-            assert_eq!(rt; size, 10);
-            assert_eq!(rt; name.as_slice(), b"a-b".as_slice());
-        }
-        _ => assert!(rt; false, "another input"),
-    }
-    match read_line(rt.alloc(), b"act hook 1 16")? {
-        Input::Act(Act::Do(Call::Hook { x, routine })) => {
-            assert_eq!(rt; x, Obj(1));
-            assert_eq!(rt; routine, 16);
-        }
+fn reads_an_act_of_new(rt: HostRuntime) -> Result<(), Fail> {
+    match &read_line(rt.alloc(), b"act new 7 10 a-b")? {
+        Input::Act(Act::Do(call)) => expect_new(&rt, call),
         _ => assert!(rt; false, "another input"),
     }
     Ok(())
 }
 
 #[test]
-fn reads_returns(rt: HostRuntime) -> Result<(), Fail> {
+fn reads_an_act_of_hook(rt: HostRuntime) -> Result<(), Fail> {
+    match &read_line(rt.alloc(), b"act hook 1 16")? {
+        Input::Act(Act::Do(Call::Hook { x, routine })) => {
+            assert_eq!(rt; *x, Obj(1));
+            assert_eq!(rt; *routine, 16);
+        }
+        _ => assert!(rt; false, "another input"),
+    }
+    Ok(())
+}
+
+// The number that a routine returns, or that the clock answers.
+fn number_in(input: &Input) -> Option<u64> {
+    match input {
+        Input::Act(Act::Ret(value)) => Some(u64::from(*value)),
+        Input::Clock(now) => Some(*now),
+        _ => None,
+    }
+}
+
+#[test]
+fn reads_returns_and_times(rt: HostRuntime) -> Result<(), Fail> {
     let cases = [
         (b"ret 0".as_slice(), 0),
         (b"ret 1".as_slice(), 1),
         (b"ret 4294967295".as_slice(), 4_294_967_295),
-    ];
-    for (line, want) in cases {
-        match read_line(rt.alloc(), line)? {
-            Input::Act(Act::Ret(value)) => assert_eq!(rt; value, want, "at {line:?}"),
-            _ => assert!(rt; false, "another input"),
-        }
-    }
-    Ok(())
-}
-
-#[test]
-fn reads_the_time(rt: HostRuntime) -> Result<(), Fail> {
-    let cases = [
         (b"clock 0".as_slice(), 0),
         (
             b"clock 4611686018427387904".as_slice(),
@@ -101,10 +107,8 @@ fn reads_the_time(rt: HostRuntime) -> Result<(), Fail> {
         ),
     ];
     for (line, want) in cases {
-        match read_line(rt.alloc(), line)? {
-            Input::Clock(now) => assert_eq!(rt; now, want, "at {line:?}"),
-            _ => assert!(rt; false, "another input"),
-        }
+        let input = read_line(rt.alloc(), line)?;
+        assert_eq!(rt; number_in(&input), Some(want), "at {line:?}");
     }
     Ok(())
 }

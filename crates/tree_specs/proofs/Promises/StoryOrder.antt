@@ -94,5 +94,5 @@ story-orderly first is h = EachFits-map item_of Fits (story first is) (EachFits-
 pub story-grounded : (first : ℕ) (is : List Input) → 1 ≤ first → Grounded (story first is) is
 story-grounded first is h = record {
   each = EachFits-weaker IsFine IsGrounded (λ before s f. f.1) (story first is) (story-fine first is h);
-  accepts = accepts-items ((all-lawful (turns 0 (length is))).asked Quiet (empty first) None) is;
+  accepts = accepts-items ((all-lawful (turns 0 (length is))).calls.asked Quiet (empty first) None) is;
 }

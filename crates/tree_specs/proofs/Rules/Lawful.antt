@@ -147,8 +147,8 @@ returned-later _ r v = refl
 abbrev pub scene_of : Item → Pool → Scene
 scene_of item p = record { item = item; before = p; about = None }
 
--- all works of the text, with so many turns
-pub record AllLawful (n : ℕ) : Type 0 where
+-- the works of a free, with so many turns
+pub record FreesLawful (n : ℕ) : Type 0 where
   pub unlink : (o : Owner) (x : Obj) (p : Pool) (last : Last) → Lawful last Any (unlink n o x p)
   pub release : (x : Obj) (p : Pool) (last : Last) → Lawful last Any (release n x p)
   pub given : (x : Obj) (o : Owner) (p : Pool) (last : Last) → Lawful last Any (given n x o p)
@@ -159,11 +159,17 @@ pub record AllLawful (n : ℕ) : Type 0 where
   pub leave : (x : Obj) (h : ℕ) (p : Pool) (last : Last) → Lawful last Any (leave n x h p)
   pub children : (x : Obj) (p : Pool) (last : Last) → Lawful last Any (children n x p)
   pub tried : (x c : Obj) (noted : Option Owner) (a : FreeReply) (p : Pool) (last : Last) → Lawful last Any (tried n x c noted a p)
+
+-- those of a caller
+pub record CallsLawful (n : ℕ) : Type 0 where
   pub asked : (q : Ask) (p : Pool) (last : Last) → Lawful last (Returned q) (asked n q p)
   pub acting : (q : Ask) (c : Call) (p : Pool) (last : Last) → Lawful last (Returned q) (acting n q c p)
   pub warning : (q : Ask) (x : Obj) (r : Reply) (about : Option CallStart) (p : Pool) (last : Last) → Lawful last (Returned q) (warning n about (later q r) x r p)
   pub later : (q : Ask) (r : Reply) (about : Option CallStart) (p : Pool) (last : Last) → Lawful last (Returned q) (telling n about (later q r) r p)
   pub returning : (q : Ask) (v : ℕ) (p : Pool) (last : Last) → Returned q v last → Lawful last (Returned q) (returning n v p)
+
+-- those of a turn of the event loop
+pub record TurnsLawful (n : ℕ) : Type 0 where
   pub taking : (p : Pool) (last : Last) → Lawful last Any (taking n p)
   pub timing : (again : Bool) (p : Pool) (last : Last) → Lawful last Any (timing n again p)
   pub timed : (again : Bool) (now : ℕ) (p : Pool) (last : Last) → Lawful last Any (timed n again now p)
@@ -174,3 +180,9 @@ pub record AllLawful (n : ℕ) : Type 0 where
   pub handled : (what : What) (x : Obj) (p : Pool) (last : Last) → Lawful last Any (handled n what x p)
   pub reading : (p : Pool) (last : Last) → Lawful last Any (reading n p)
   pub closing : (v : ℕ) (p : Pool) (last : Last) → Lawful last Any (closing n v p)
+
+-- all works of the text
+pub record AllLawful (n : ℕ) : Type 0 where
+  pub frees : FreesLawful n
+  pub calls : CallsLawful n
+  pub turns : TurnsLawful n

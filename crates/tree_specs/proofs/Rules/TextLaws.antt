@@ -48,7 +48,7 @@ unlink-lawful : (n : ℕ) → AllLawful n → (o : Owner) (x : Obj) (p : Pool) (
 unlink-lawful n ih o x p last = each (newest_ref_of p.rows o x) refl
   where
     each : (r : Option Obj) → newest_ref_of p.rows o x ≡ r → Lawful last Any (unlink (suc n) o x p)
-    each None k = same-lawful last Any (unlink (suc n) o x p) (release n x p) (λ js. rw k refl) (ih.release x p last)
+    each None k = same-lawful last Any (unlink (suc n) o x p) (release n x p) (λ js. rw k refl) (ih.frees.release x p last)
     each (Some r) k = same-lawful last Any (unlink (suc n) o x p) (λ js. tell (scene_of (Told (Unreferenced r x)) p) (Ended free_reply.Ok (remove p r) [] js)) (λ js. rw k refl)
         (dropped-lawful last Any r x p (λ js. Ended free_reply.Ok (remove p r) [] js) (ended-lawful None Any free_reply.Ok (remove p r) tt))
 
@@ -56,12 +56,12 @@ release-lawful : (n : ℕ) → AllLawful n → (x : Obj) (p : Pool) (last : Last
 release-lawful n ih x p last = each (newest_ref p.rows x) refl
   where
     each : (r : Option Obj) → newest_ref p.rows x ≡ r → Lawful last Any (release (suc n) x p)
-    each None k = same-lawful last Any (release (suc n) x p) (free n x p) (λ js. rw k refl) (ih.free x p last)
+    each None k = same-lawful last Any (release (suc n) x p) (free n x p) (λ js. rw k refl) (ih.frees.free x p last)
     each (Some r) k = by_test (is_inside p.rows (Of r) (Of x))
         (λ t. same-lawful last Any (release (suc n) x p) (λ js. tell (scene_of (Told (Unreferenced r x)) p) (release n x (remove p r) js)) (λ js. rw (k, t) refl)
-        (dropped-lawful last Any r x p (release n x (remove p r)) (ih.release x (remove p r) None)))
+        (dropped-lawful last Any r x p (release n x (remove p r)) (ih.frees.release x (remove p r) None)))
         (λ t. same-lawful last Any (release (suc n) x p) (λ js. tell (scene_of (Told (Unreferenced r x)) p) (given n x (unwrap_or (owner_of p.rows r) Root) (remove p r) js)) (λ js. rw (k, t) refl)
-        (dropped-lawful last Any r x p (given n x (unwrap_or (owner_of p.rows r) Root) (remove p r)) (ih.given x (unwrap_or (owner_of p.rows r) Root) (remove p r) None)))
+        (dropped-lawful last Any r x p (given n x (unwrap_or (owner_of p.rows r) Root) (remove p r)) (ih.frees.given x (unwrap_or (owner_of p.rows r) Root) (remove p r) None)))
 
 given-lawful : (n : ℕ) (x : Obj) (o : Owner) (p : Pool) (last : Last) → Lawful last Any (given (suc n) x o p)
 given-lawful n x o p last = told-lawful last Any (scene_of (Told (Moved x o)) p) (λ js. Ended free_reply.Ok (place p o x) [] js) tt (λ is. (refl, refl)) (ended-lawful None Any free_reply.Ok (place p o x) tt)
@@ -74,10 +74,10 @@ free-lawful n ih x p last = newest (newest_ref p.rows x) refl
 
     marks : newest_ref p.rows x ≡ None → (r : Row) (m : Mark) → r.mark ≡ m → row_of p.rows x ≡ Some r → Lawful last Any (free (suc n) x p)
     marks k r mark.Quiet m e = by_test (nat_eq r.hook 0)
-        (λ t. same-lawful last Any (free (suc n) x p) (leave n x 0 p) (λ js. rw (k, e, m, t) refl) (ih.leave x 0 p last))
-        (λ t. same-lawful last Any (free (suc n) x p) (hooked n x r.hook (set_mark p x mark.Asked)) (λ js. rw (k, e, m, t) refl) (ih.hooked x r.hook (set_mark p x mark.Asked) last))
+        (λ t. same-lawful last Any (free (suc n) x p) (leave n x 0 p) (λ js. rw (k, e, m, t) refl) (ih.frees.leave x 0 p last))
+        (λ t. same-lawful last Any (free (suc n) x p) (hooked n x r.hook (set_mark p x mark.Asked)) (λ js. rw (k, e, m, t) refl) (ih.frees.hooked x r.hook (set_mark p x mark.Asked) last))
     marks k r mark.Asked m e = gives free_reply.Running p (λ js. rw (k, e, m) refl)
-    marks k r mark.Busy m e = same-lawful last Any (free (suc n) x p) (dooming n x (doom p x)) (λ js. rw (k, e, m) refl) (ih.dooming x (doom p x) last)
+    marks k r mark.Busy m e = same-lawful last Any (free (suc n) x p) (dooming n x (doom p x)) (λ js. rw (k, e, m) refl) (ih.frees.dooming x (doom p x) last)
     marks k r mark.Doomed m e = gives free_reply.Running p (λ js. rw (k, e, m) refl)
     marks k r (mark.Dying former) m e = gives free_reply.Ok p (λ js. rw (k, e, m) refl)
 
@@ -89,27 +89,27 @@ free-lawful n ih x p last = newest (newest_ref p.rows x) refl
     newest None k = each k (row_of p.rows x) refl
     newest (Some r) k = by_test (is_inside p.rows (Of r) (Of x))
         (λ t. same-lawful last Any (free (suc n) x p) (λ js. tell (scene_of (Told (Unreferenced r x)) p) (free n x (remove p r) js)) (λ js. rw (k, t) refl)
-        (dropped-lawful last Any r x p (free n x (remove p r)) (ih.free x (remove p r) None)))
+        (dropped-lawful last Any r x p (free n x (remove p r)) (ih.frees.free x (remove p r) None)))
         (λ t. same-lawful last Any (free (suc n) x p) (λ js. tell (scene_of (Told (Unreferenced r x)) p) (Ended free_reply.Held (remove p r) [] js)) (λ js. rw (k, t) refl)
         (dropped-lawful last Any r x p (λ js. Ended free_reply.Held (remove p r) [] js) (ended-lawful None Any free_reply.Held (remove p r) tt)))
 
 hooked-lawful : (n : ℕ) → AllLawful n → (x : Obj) (h : ℕ) (p : Pool) (last : Last) → Lawful last Any (hooked (suc n) x h p)
 hooked-lawful n ih x h p last =
-    followed-lawful last (Returned (ask.Routine (hook_moment x h))) Any (asked n (ask.Routine (hook_moment x h)) p) (λ v q js. judged n x h v q js) (ih.asked (ask.Routine (hook_moment x h)) p last)
-    (λ v q l k. ih.judged x h v q l (k (record { object = x; value = v }) refl))
+    followed-lawful last (Returned (ask.Routine (hook_moment x h))) Any (asked n (ask.Routine (hook_moment x h)) p) (λ v q js. judged n x h v q js) (ih.calls.asked (ask.Routine (hook_moment x h)) p last)
+    (λ v q l k. ih.frees.judged x h v q l (k (record { object = x; value = v }) refl))
 
 judged-lawful : (n : ℕ) → AllLawful n → (x : Obj) (h v : ℕ) (p : Pool) (last : Last) → last ≡ Some (record { object = x; value = v }) → Lawful last Any (judged (suc n) x h v p)
 judged-lawful n ih x h v p last e = by_test (nat_eq v 0)
     (λ t. same-lawful last Any (judged (suc n) x h v p) (λ js. tell (scene_of (Told (Accepted x)) p) (leave n x h (set_hook p x 0) js)) (λ js. rw t refl)
     (told-lawful last Any (scene_of (Told (Accepted x)) p) (leave n x h (set_hook p x 0)) (e ∙ ap (λ (u : ℕ). Some (record { object = x; value = u })) (eqb-true v 0 t)) (λ is. (refl, refl))
-    (ih.leave x h (set_hook p x 0) None)))
+    (ih.frees.leave x h (set_hook p x 0) None)))
     (λ t. same-lawful last Any (judged (suc n) x h v p) (λ js. tell (scene_of (Told (Refused x v)) p) (Ended (free_reply.Refused v) (set_mark p x mark.Quiet) [] js)) (λ js. rw t refl)
     (told-lawful last Any (scene_of (Told (Refused x v)) p) (λ js. Ended (free_reply.Refused v) (set_mark p x mark.Quiet) [] js) tt (λ is. (refl, refl))
     (ended-lawful None Any (free_reply.Refused v) (set_mark p x mark.Quiet) tt)))
 
 leave-lawful : (n : ℕ) → AllLawful n → (x : Obj) (h : ℕ) (p : Pool) (last : Last) → Lawful last Any (leave (suc n) x h p)
 leave-lawful n ih x h p last =
-    followed-lawful last Any Any (children n x (detach p x)) _ (ih.children x (detach p x) last)
+    followed-lawful last Any Any (children n x (detach p x)) _ (ih.frees.children x (detach p x) last)
     (λ a q l k. told-lawful l Any (scene_of (Told (Freed x h)) q) (λ js. Ended free_reply.Ok (remove q x) [] js) tt (λ is. (refl, refl)) (ended-lawful None Any free_reply.Ok (remove q x) tt))
 
 children-lawful : (n : ℕ) → AllLawful n → (x : Obj) (p : Pool) (last : Last) → Lawful last Any (children (suc n) x p)
@@ -117,9 +117,9 @@ children-lawful n ih x p last = each (first_kid p.rows (Of x)) refl
   where
     child : (c : Obj) → first_kid p.rows (Of x) ≡ Some c → (t : Option Obj) → target_at p.rows c ≡ t → Lawful last Any (children (suc n) x p)
     child c e (Some t) k = same-lawful last Any (children (suc n) x p) (λ js. tell (scene_of (Told (Unreferenced c t)) p) (children n x (remove p c) js)) (λ js. rw (e, k) refl)
-        (dropped-lawful last Any c t p (children n x (remove p c)) (ih.children x (remove p c) None))
+        (dropped-lawful last Any c t p (children n x (remove p c)) (ih.frees.children x (remove p c) None))
     child c e None k = same-lawful last Any (children (suc n) x p) (λ js. followed (free n c p js) (λ a q left. tried n x c (noted_owner p.rows c) a q left)) (λ js. rw (e, k) refl)
-        (followed-lawful last Any Any (free n c p) (λ a q left. tried n x c (noted_owner p.rows c) a q left) (ih.free c p last) (λ a q l w. ih.tried x c (noted_owner p.rows c) a q l))
+        (followed-lawful last Any Any (free n c p) (λ a q left. tried n x c (noted_owner p.rows c) a q left) (ih.frees.free c p last) (λ a q l w. ih.frees.tried x c (noted_owner p.rows c) a q l))
 
     each : (o : Option Obj) → first_kid p.rows (Of x) ≡ o → Lawful last Any (children (suc n) x p)
     each None e = same-lawful last Any (children (suc n) x p) (λ js. Ended tt p [] js) (λ js. rw e refl) (ended-lawful last Any tt p tt)
@@ -133,11 +133,11 @@ tried-lawful n ih x c noted a p last = each a
         → ((js : List Input) → is_below (owner_of p.rows c) (Of x) ≡ false → tried (suc n) x c noted b p js ≡ children n x p js) → Lawful last Any (tried (suc n) x c noted b p)
     handed b moves stays = by_test (is_below (owner_of p.rows c) (Of x))
         (λ t. same-lawful last Any (tried (suc n) x c noted b p) (λ js. tell (scene_of (Told (Moved c (heir p.rows x c noted))) p) (children n x (place p (heir p.rows x c noted) c) js)) (λ js. moves js t)
-        (told-lawful last Any (scene_of (Told (Moved c (heir p.rows x c noted))) p) (children n x (place p (heir p.rows x c noted) c)) tt (λ is. (refl, refl)) (ih.children x (place p (heir p.rows x c noted) c) None)))
-        (λ t. same-lawful last Any (tried (suc n) x c noted b p) (children n x p) (λ js. stays js t) (ih.children x p last))
+        (told-lawful last Any (scene_of (Told (Moved c (heir p.rows x c noted))) p) (children n x (place p (heir p.rows x c noted) c)) tt (λ is. (refl, refl)) (ih.frees.children x (place p (heir p.rows x c noted) c) None)))
+        (λ t. same-lawful last Any (tried (suc n) x c noted b p) (children n x p) (λ js. stays js t) (ih.frees.children x p last))
 
     each : (b : FreeReply) → Lawful last Any (tried (suc n) x c noted b p)
-    each free_reply.Ok = ih.children x p last
+    each free_reply.Ok = ih.frees.children x p last
     each free_reply.Held = handed free_reply.Held (λ js t. rw t refl) (λ js t. rw t refl)
     each free_reply.Running = handed free_reply.Running (λ js t. rw t refl) (λ js t. rw t refl)
     each (free_reply.Refused v) = handed (free_reply.Refused v) (λ js t. rw t refl) (λ js t. rw t refl)
@@ -147,9 +147,9 @@ asked-lawful n ih q p last = asks-lawful last (Returned q) q (heard q (acting n 
   where
     next : (i : Input) (w : Work ℕ) → heard q (acting n q) (returning n) i ≡ Some w → Lawful (returned_by q i) (Returned q) (w p)
     next i w e = elim (heard-by q (acting n q) (returning n) i w e) [
-      | inl h ↦ subst (λ (u : Work ℕ). Lawful (returned_by q i) (Returned q) (u p)) (sym h.1) (ih.acting q h.0 p (returned_by q i))
+      | inl h ↦ subst (λ (u : Work ℕ). Lawful (returned_by q i) (Returned q) (u p)) (sym h.1) (ih.calls.acting q h.0 p (returned_by q i))
       | inr h ↦ subst (λ (u : Work ℕ). Lawful (returned_by q i) (Returned q) (u p)) (sym h.3)
-          (ih.returning q h.0 p (returned_by q i) (λ r k. ap (returned_by q) h.1 ∙ k))
+          (ih.calls.returning q h.0 p (returned_by q i) (λ r k. ap (returned_by q) h.1 ∙ k))
     ]
 
 numbered-lawful : (w : Work ℕ) (p : Pool) (last : Last) → Lawful last Any (w p) → Lawful last Any (numbered w p)
@@ -161,11 +161,11 @@ turned-lawful _ w p last h = ended-lawful last Any _ p tt
 
 plan-lawful : (n : ℕ) → AllLawful n → (q : Ask) (plan : Plan) (p : Pool) (last : Last) → Lawful last Any (effect (free n) (unlink n) (children n) (numbered (reading n)) (turned q (taking n)) plan p)
 plan-lawful n ih q (Does change warned r) p last = ended-lawful last Any r (changed_by change p) tt
-plan-lawful n ih q (Frees x) p last = followed-lawful last Any Any (free n x p) _ (ih.free x p last) (λ a q l k. ended-lawful l Any _ q tt)
-plan-lawful n ih q (Unlinks o x) p last = followed-lawful last Any Any (unlink n o x p) _ (ih.unlink o x p last) (λ a q l k. ended-lawful l Any _ q tt)
-plan-lawful n ih q (Empties x) p last = followed-lawful last Any Any (children n x p) _ (ih.children x p last) (λ a q l k. ended-lawful l Any _ q tt)
-plan-lawful n ih q AsksTime p last = numbered-lawful (reading n) p last (ih.reading p last)
-plan-lawful n ih q Turns p last = turned-lawful q (taking n) p last (ih.taking p last)
+plan-lawful n ih q (Frees x) p last = followed-lawful last Any Any (free n x p) _ (ih.frees.free x p last) (λ a q l k. ended-lawful l Any _ q tt)
+plan-lawful n ih q (Unlinks o x) p last = followed-lawful last Any Any (unlink n o x p) _ (ih.frees.unlink o x p last) (λ a q l k. ended-lawful l Any _ q tt)
+plan-lawful n ih q (Empties x) p last = followed-lawful last Any Any (children n x p) _ (ih.frees.children x p last) (λ a q l k. ended-lawful l Any _ q tt)
+plan-lawful n ih q AsksTime p last = numbered-lawful (reading n) p last (ih.turns.reading p last)
+plan-lawful n ih q Turns p last = turned-lawful q (taking n) p last (ih.turns.taking p last)
 
 acting-lawful : (n : ℕ) → AllLawful n → (q : Ask) (c : Call) (p : Pool) (last : Last) → Lawful last (Returned q) (acting (suc n) q c p)
 acting-lawful n ih q c p last = each (warned_by (planned p c)) refl
@@ -177,20 +177,20 @@ acting-lawful n ih q c p last = each (warned_by (planned p c)) refl
     each None k = same-lawful last (Returned q) (acting (suc n) q c p)
         (λ js. followed (done p js) (λ r p' left. telling n (Some (record { call = c; start = p })) (later q r) r p' left)) (λ js. rw k refl)
         (followed-lawful last Any (Returned q) (done p) (λ r p' left. telling n (Some (record { call = c; start = p })) (later q r) r p' left)
-        (plan-lawful n ih q (planned p c) p last) (λ r p' l w. ih.later q r (Some (record { call = c; start = p })) p' l))
+        (plan-lawful n ih q (planned p c) p last) (λ r p' l w. ih.calls.later q r (Some (record { call = c; start = p })) p' l))
     each (Some x) k = same-lawful last (Returned q) (acting (suc n) q c p)
         (λ js. followed (done p js) (λ r p' left. warning n (Some (record { call = c; start = p })) (later q r) x r p' left)) (λ js. rw k refl)
         (followed-lawful last Any (Returned q) (done p) (λ r p' left. warning n (Some (record { call = c; start = p })) (later q r) x r p' left)
-        (plan-lawful n ih q (planned p c) p last) (λ r p' l w. ih.warning q x r (Some (record { call = c; start = p })) p' l))
+        (plan-lawful n ih q (planned p c) p last) (λ r p' l w. ih.calls.warning q x r (Some (record { call = c; start = p })) p' l))
 
 warning-lawful : (n : ℕ) → AllLawful n → (q : Ask) (x : Obj) (r : Reply) (about : Option CallStart) (p : Pool) (last : Last) → Lawful last (Returned q) (warning (suc n) about (later q r) x r p)
 warning-lawful n ih q x r about p last =
-    told-lawful last (Returned q) (scene_of (Told (Warned x)) p) (telling n about (later q r) r p) tt (λ is. (refl, refl)) (ih.later q r about p None)
+    told-lawful last (Returned q) (scene_of (Told (Warned x)) p) (telling n about (later q r) r p) tt (λ is. (refl, refl)) (ih.calls.later q r about p None)
 
 later-lawful : (n : ℕ) → AllLawful n → (q : Ask) (r : Reply) (about : Option CallStart) (p : Pool) (last : Last) → Lawful last (Returned q) (telling (suc n) about (later q r) r p)
 later-lawful n ih q r about p last =
     told-lawful last (Returned q) (record { item = Told (Replied r); before = p; about = about }) (asked n (later q r) p) tt (λ is. (refl, refl))
-    (weaker (Returned (later q r)) (Returned q) (asked n (later q r) p) (λ v l k s e. k s (returned-later q r v ∙ e)) (ih.asked (later q r) p None))
+    (weaker (Returned (later q r)) (Returned q) (asked n (later q r) p) (λ v l k s e. k s (returned-later q r v ∙ e)) (ih.calls.asked (later q r) p None))
 
 returning-lawful : (n : ℕ) (q : Ask) (v : ℕ) (p : Pool) (last : Last) → Returned q v last → Lawful last (Returned q) (returning (suc n) v p)
 returning-lawful n q v p last h = ended-lawful last (Returned q) v p h
@@ -198,60 +198,72 @@ returning-lawful n q v p last h = ended-lawful last (Returned q) v p h
 -- each turn rests on one turn less
 pub all-lawful : (n : ℕ) → AllLawful n
 all-lawful zero = record {
-  unlink = λ o x p last. short-lawful last Any;
-  release = λ x p last. short-lawful last Any;
-  given = λ x o p last. short-lawful last Any;
-  free = λ x p last. short-lawful last Any;
-  hooked = λ x h p last. short-lawful last Any;
-  judged = λ x h v p last e. short-lawful last Any;
-  dooming = λ x p last. short-lawful last Any;
-  leave = λ x h p last. short-lawful last Any;
-  children = λ x p last. short-lawful last Any;
-  tried = λ x c noted a p last. short-lawful last Any;
-  asked = λ q p last. short-lawful last (Returned q);
-  acting = λ q c p last. short-lawful last (Returned q);
-  warning = λ q x r about p last. short-lawful last (Returned q);
-  later = λ q r about p last. short-lawful last (Returned q);
-  returning = λ q v p last h. short-lawful last (Returned q);
-  taking = λ p last. short-lawful last Any;
-  timing = λ again p last. short-lawful last Any;
-  timed = λ again now p last. short-lawful last Any;
-  polling = λ limit p last. short-lawful last Any;
-  starting = λ what x now p last. short-lawful last Any;
-  firing = λ what x h now p last. short-lawful last Any;
-  handling = λ what x h now p last. short-lawful last Any;
-  handled = λ what x p last. short-lawful last Any;
-  reading = λ p last. short-lawful last Any;
-  closing = λ v p last. short-lawful last Any;
+  frees = record {
+    unlink = λ o x p last. short-lawful last Any;
+    release = λ x p last. short-lawful last Any;
+    given = λ x o p last. short-lawful last Any;
+    free = λ x p last. short-lawful last Any;
+    hooked = λ x h p last. short-lawful last Any;
+    judged = λ x h v p last e. short-lawful last Any;
+    dooming = λ x p last. short-lawful last Any;
+    leave = λ x h p last. short-lawful last Any;
+    children = λ x p last. short-lawful last Any;
+    tried = λ x c noted a p last. short-lawful last Any;
+  };
+  calls = record {
+    asked = λ q p last. short-lawful last (Returned q);
+    acting = λ q c p last. short-lawful last (Returned q);
+    warning = λ q x r about p last. short-lawful last (Returned q);
+    later = λ q r about p last. short-lawful last (Returned q);
+    returning = λ q v p last h. short-lawful last (Returned q);
+  };
+  turns = record {
+    taking = λ p last. short-lawful last Any;
+    timing = λ again p last. short-lawful last Any;
+    timed = λ again now p last. short-lawful last Any;
+    polling = λ limit p last. short-lawful last Any;
+    starting = λ what x now p last. short-lawful last Any;
+    firing = λ what x h now p last. short-lawful last Any;
+    handling = λ what x h now p last. short-lawful last Any;
+    handled = λ what x p last. short-lawful last Any;
+    reading = λ p last. short-lawful last Any;
+    closing = λ v p last. short-lawful last Any;
+  };
 }
 all-lawful (suc n) =
     let ih : AllLawful n = all-lawful n in
     record {
-      unlink = unlink-lawful n ih;
-      release = release-lawful n ih;
-      given = given-lawful n;
-      free = free-lawful n ih;
-      hooked = hooked-lawful n ih;
-      judged = judged-lawful n ih;
-      dooming = λ x p last. ended-lawful last Any free_reply.Running p tt;
-      leave = leave-lawful n ih;
-      children = children-lawful n ih;
-      tried = tried-lawful n ih;
-      asked = asked-lawful n ih;
-      acting = acting-lawful n ih;
-      warning = warning-lawful n ih;
-      later = later-lawful n ih;
-      returning = returning-lawful n;
-      taking = taking-lawful n ih;
-      timing = λ again p last. clocked-lawful (timed n again) p last (λ now l. ih.timed again now p l);
-      timed = timed-lawful n ih;
-      polling = polling-lawful n ih;
-      starting = starting-lawful n ih;
-      firing = firing-lawful n ih;
-      handling = handling-lawful n ih;
-      handled = handled-lawful n ih;
-      reading = λ p last. clocked-lawful (closing n) p last (λ now l. ih.closing now p l);
-      closing = λ v p last. ended-lawful last Any v p tt;
+      frees = record {
+        unlink = unlink-lawful n ih;
+        release = release-lawful n ih;
+        given = given-lawful n;
+        free = free-lawful n ih;
+        hooked = hooked-lawful n ih;
+        judged = judged-lawful n ih;
+        dooming = λ x p last. ended-lawful last Any free_reply.Running p tt;
+        leave = leave-lawful n ih;
+        children = children-lawful n ih;
+        tried = tried-lawful n ih;
+      };
+      calls = record {
+        asked = asked-lawful n ih;
+        acting = acting-lawful n ih;
+        warning = warning-lawful n ih;
+        later = later-lawful n ih;
+        returning = returning-lawful n;
+      };
+      turns = record {
+        taking = taking-lawful n ih;
+        timing = λ again p last. clocked-lawful (timed n again) p last (λ now l. ih.turns.timed again now p l);
+        timed = timed-lawful n ih;
+        polling = polling-lawful n ih;
+        starting = starting-lawful n ih;
+        firing = firing-lawful n ih;
+        handling = handling-lawful n ih;
+        handled = handled-lawful n ih;
+        reading = λ p last. clocked-lawful (closing n) p last (λ now l. ih.turns.closing now p l);
+        closing = λ v p last. ended-lawful last Any v p tt;
+      };
     }
 
 -- the items of an outcome

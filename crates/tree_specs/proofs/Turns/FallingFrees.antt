@@ -19,7 +19,7 @@ use Rattle.tree_specs.specs.declared.frame.Frame.{Frame}
 use Rattle.tree_specs.specs.declared.frame.Frame.TheVariants as frame
 use Rattle.tree_specs.specs.declared.frame.CallFrame.TheVariants.{Asking, Awaiting, Returning}
 use Rattle.tree_specs.specs.declared.frame.TurnFrame.TheVariants.{Clearing}
-use Rattle.tree_specs.specs.declared.frame.FreeFrame.TheVariants.{Unlinking, Releasing, Giving, Beginning, Judged, Dooming, Leaving, Looping, FreeingChild, AfterChild, Ending}
+use Rattle.tree_specs.specs.declared.frame.FreeFrame.TheVariants.{Unlinking, Releasing, Giving, Beginning, Hooked, Judged, Dooming, Leaving, Looping, FreeingChild, AfterChild, Ending}
 use Rattle.tree_specs.specs.declared.frame.Purpose.{Purpose}
 use Rattle.tree_specs.specs.declared.frame.Purpose.TheVariants.{Removal, Emptying}
 use Rattle.tree_specs.specs.declared.frame.Answer.{Answer}
@@ -74,7 +74,7 @@ over-pays R Held o rows n _ gs (ForChild x c noted purpose) = let m = count-leng
 over-pays R (Refused v) o rows n _ gs (ForChild x c noted purpose) = let m = count-length rows (Of x) in omega (arith, m, n)
 over-pays R Running o rows n _ gs (ForChild x c noted purpose) = absurd o
 
-pub ending-lower : (R : ℕ) (a : FreeReply) (fs : List Frame) (p : Pool) (k : ℕ) → Sound (frame.Free (Ending a)) fs p → Room R (frame.Free (Ending a)) p k
+ending-lower : (R : ℕ) (a : FreeReply) (fs : List Frame) (p : Pool) (k : ℕ) → Sound (frame.Free (Ending a)) fs p → Room R (frame.Free (Ending a)) p k
     → Lowers R (cost R (frame.Free (Ending a)) fs p k) (step (frame.Free (Ending a)) p) fs k
 ending-lower R a fs p k s room = done-lower R (Freed a) (frame.Free (Ending a)) fs p k s.waiting (omega arith) (λ g gs e w. let l = over-pays R a s.rests.0 p.rows (omega arith) g gs (waiter g gs w) in omega (arith, l))
 
@@ -113,7 +113,7 @@ live-weight (Dying former) l = absurd l
 live-weight _ l = refl
 
 -- it leaves its owner
-pub leaving-lower : (R : ℕ) (x : Obj) (h : ℕ) (fs : List Frame) (p : Pool) (k : ℕ) → Sound (frame.Free (Leaving x h)) fs p → Room R (frame.Free (Leaving x h)) p k
+leaving-lower : (R : ℕ) (x : Obj) (h : ℕ) (fs : List Frame) (p : Pool) (k : ℕ) → Sound (frame.Free (Leaving x h)) fs p → Room R (frame.Free (Leaving x h)) p k
     → Lowers R (cost R (frame.Free (Leaving x h)) fs p k) (step (frame.Free (Leaving x h)) p) fs k
 leaving-lower R x h fs p k s room = by-row s.rests.0 s.rests.1 s.rests.2
   where
@@ -146,7 +146,7 @@ dropped-lower R f g fs p k r t s is room most = by-row (row_of p.rows r) refl (s
         let m = most (omega (arith, n)) in
         (omega (arith, n), omega (arith, u, m))
 
-pub looping-lower : (R : ℕ) (x : Obj) (purpose : Purpose) (fs : List Frame) (p : Pool) (k : ℕ) → Sound (frame.Free (Looping x purpose)) fs p → Room R (frame.Free (Looping x purpose)) p k
+looping-lower : (R : ℕ) (x : Obj) (purpose : Purpose) (fs : List Frame) (p : Pool) (k : ℕ) → Sound (frame.Free (Looping x purpose)) fs p → Room R (frame.Free (Looping x purpose)) p k
     → Lowers R (cost R (frame.Free (Looping x purpose)) fs p k) (step (frame.Free (Looping x purpose)) p) fs k
 looping-lower R x purpose fs p k s most = each (first_kid p.rows (Of x)) refl
   where
@@ -204,7 +204,7 @@ handed-most x c noted f fs p s below =
     (λ t. rw t (let w' = rw was at w in omega (arith, w')))
     (λ t. rw t (let w' = rw was at w in omega (arith, w'))))
 
-pub tried-lower : (R : ℕ) (x c : Obj) (noted : Option Owner) (purpose : Purpose) (a : FreeReply) (fs : List Frame) (p : Pool) (k : ℕ) → Sound (frame.Free (AfterChild x c noted purpose a)) fs p
+tried-lower : (R : ℕ) (x c : Obj) (noted : Option Owner) (purpose : Purpose) (a : FreeReply) (fs : List Frame) (p : Pool) (k : ℕ) → Sound (frame.Free (AfterChild x c noted purpose a)) fs p
     → Room R (frame.Free (AfterChild x c noted purpose a)) p k → Lowers R (cost R (frame.Free (AfterChild x c noted purpose a)) fs p k) (step (frame.Free (AfterChild x c noted purpose a)) p) fs k
 tried-lower R x c noted purpose a fs p k s room = each a s
   where
@@ -254,11 +254,11 @@ at_once-lower R a x f (g ∷ gs) p k h t w most room = below g (waiter g gs w.0)
     below _ _ t most = absurd t
 
 -- an event that is to be freed after its handler is said to run
-pub dooming-lower : (R : ℕ) (x : Obj) (fs : List Frame) (p : Pool) (k : ℕ) → Sound (frame.Free (Dooming x)) fs p → Room R (frame.Free (Dooming x)) p k
+dooming-lower : (R : ℕ) (x : Obj) (fs : List Frame) (p : Pool) (k : ℕ) → Sound (frame.Free (Dooming x)) fs p → Room R (frame.Free (Dooming x)) p k
     → Lowers R (cost R (frame.Free (Dooming x)) fs p k) (step (frame.Free (Dooming x)) p) fs k
 dooming-lower R x fs p k s room = at_once-lower R Running x (Dooming x) fs p k (inl refl) s.rests.0 s.waiting (omega arith) room
 
-pub beginning-lower : (R : ℕ) (x : Obj) (fs : List Frame) (p : Pool) (k : ℕ) → Sound (frame.Free (Beginning x)) fs p → Room R (frame.Free (Beginning x)) p k
+beginning-lower : (R : ℕ) (x : Obj) (fs : List Frame) (p : Pool) (k : ℕ) → Sound (frame.Free (Beginning x)) fs p → Room R (frame.Free (Beginning x)) p k
     → Lowers R (cost R (frame.Free (Beginning x)) fs p k) (step (frame.Free (Beginning x)) p) fs k
 beginning-lower R x fs p k s room = newest (newest_ref p.rows x) refl
   where
@@ -314,7 +314,7 @@ beginning-lower R x fs p k s room = newest (newest_ref p.rows x) refl
         (λ t. rw t (dropped-lower R (Beginning x) (Ending Held) fs p k r x s is room (λ h. omega arith))))
 
 -- an owner gives an object up
-pub unlinking-lower : (R : ℕ) (o : Owner) (x : Obj) (fs : List Frame) (p : Pool) (k : ℕ) → Sound (frame.Free (Unlinking o x)) fs p → Room R (frame.Free (Unlinking o x)) p k
+unlinking-lower : (R : ℕ) (o : Owner) (x : Obj) (fs : List Frame) (p : Pool) (k : ℕ) → Sound (frame.Free (Unlinking o x)) fs p → Room R (frame.Free (Unlinking o x)) p k
     → Lowers R (cost R (frame.Free (Unlinking o x)) fs p k) (step (frame.Free (Unlinking o x)) p) fs k
 unlinking-lower R o x fs p k s room = each (newest_ref_of p.rows o x) refl
   where
@@ -324,7 +324,7 @@ unlinking-lower R o x fs p k s room = each (newest_ref_of p.rows o x) refl
         let w = newest-of-refers p.rows o x r s.forest.distinct e in
         rw e (dropped-lower R (Unlinking o x) (Ending Ok) fs p k r x s (rw w.1 w.2) room (λ h. omega arith))
 
-pub releasing-lower : (R : ℕ) (x : Obj) (fs : List Frame) (p : Pool) (k : ℕ) → Sound (frame.Free (Releasing x)) fs p → Room R (frame.Free (Releasing x)) p k
+releasing-lower : (R : ℕ) (x : Obj) (fs : List Frame) (p : Pool) (k : ℕ) → Sound (frame.Free (Releasing x)) fs p → Room R (frame.Free (Releasing x)) p k
     → Lowers R (cost R (frame.Free (Releasing x)) fs p k) (step (frame.Free (Releasing x)) p) fs k
 releasing-lower R x fs p k s room = each (newest_ref p.rows x) refl
   where
@@ -337,14 +337,14 @@ releasing-lower R x fs p k s room = each (newest_ref p.rows x) refl
         (λ t. rw t (dropped-lower R (Releasing x) (Releasing x) fs p k r x s is room (λ h. let m = kids-most R (without p.rows r) fs h in omega (arith, m))))
         (λ t. rw t (dropped-lower R (Releasing x) (Giving x (unwrap_or (owner_of p.rows r) Root)) fs p k r x s is room (λ h. omega arith))))
 
-pub giving-lower : (R : ℕ) (x : Obj) (o : Owner) (fs : List Frame) (p : Pool) (k : ℕ) → Sound (frame.Free (Giving x o)) fs p → Room R (frame.Free (Giving x o)) p k
+giving-lower : (R : ℕ) (x : Obj) (o : Owner) (fs : List Frame) (p : Pool) (k : ℕ) → Sound (frame.Free (Giving x o)) fs p → Room R (frame.Free (Giving x o)) p k
     → Lowers R (cost R (frame.Free (Giving x o)) fs p k) (step (frame.Free (Giving x o)) p) fs k
 giving-lower R x o fs p k s room =
     let n = length-placed p o x s.rests.row s.rests.is in
     let u = ap (λ (z : ℕ). row_worth R * z) (total-placed weight p o x s.rests.row s.rests.is refl) in
     (omega (arith, n), omega (arith, u))
 
-pub judged-lower : (R : ℕ) (x : Obj) (h v : ℕ) (fs : List Frame) (p : Pool) (k : ℕ) → Sound (frame.Free (Judged x h v)) fs p → Room R (frame.Free (Judged x h v)) p k
+judged-lower : (R : ℕ) (x : Obj) (h v : ℕ) (fs : List Frame) (p : Pool) (k : ℕ) → Sound (frame.Free (Judged x h v)) fs p → Room R (frame.Free (Judged x h v)) p k
     → Lowers R (cost R (frame.Free (Judged x h v)) fs p k) (step (frame.Free (Judged x h v)) p) fs k
 judged-lower R x h v fs p k s room =
     let row = running-row (row_of p.rows x) (claims x fs) (claim-here x InRun (claims x fs) (row_of p.rows x) (s.open_frees x)) in
@@ -356,3 +356,17 @@ judged-lower R x h v fs p k s room =
         let n = length-changed (hooked_row 0) p.rows x in rw t (omega (arith, n), omega (arith, u)))
         (λ t. let u = ap (λ (z : ℕ). row_worth R * z) (total-kept weight (marked_row Quiet) p.rows x r e (sym (live-weight r.mark live))) in
         let n = length-changed (marked_row Quiet) p.rows x in rw t (omega (arith, n), omega (arith, u)))
+
+pub free-lower : (R : ℕ) (f : FreeFrame) (fs : List Frame) (p : Pool) (k : ℕ) → Sound (frame.Free f) fs p → Room R (frame.Free f) p k → Lowers R (cost R (frame.Free f) fs p k) (step (frame.Free f) p) fs k
+free-lower R (Unlinking o x) fs p k s room = unlinking-lower R o x fs p k s room
+free-lower R (Releasing x) fs p k s room = releasing-lower R x fs p k s room
+free-lower R (Giving x o) fs p k s room = giving-lower R x o fs p k s room
+free-lower R (Beginning x) fs p k s room = beginning-lower R x fs p k s room
+free-lower R (Judged x h v) fs p k s room = judged-lower R x h v fs p k s room
+free-lower R (Dooming x) fs p k s room = dooming-lower R x fs p k s room
+free-lower R (Leaving x h) fs p k s room = leaving-lower R x h fs p k s room
+free-lower R (Looping x purpose) fs p k s room = looping-lower R x purpose fs p k s room
+free-lower R (AfterChild x c noted purpose a) fs p k s room = tried-lower R x c noted purpose a fs p k s room
+free-lower R (Ending answer) fs p k s room = ending-lower R answer fs p k s room
+free-lower R (Hooked x h) fs p k s room = (omega arith, omega arith)
+free-lower R _ fs p k s room = absurd s.rests

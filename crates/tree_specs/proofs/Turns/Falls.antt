@@ -11,7 +11,6 @@ use Rattle.tree_specs.specs.declared.question.Ask.TheVariants.{Quiet}
 use Rattle.tree_specs.specs.declared.frame.Frame.{Frame}
 use Rattle.tree_specs.specs.declared.frame.Frame.TheVariants as frame
 use Rattle.tree_specs.specs.declared.frame.CallFrame.TheVariants.{Warning, Telling, Asking, Doing, Returning}
-use Rattle.tree_specs.specs.declared.frame.FreeFrame.TheVariants.{Hooked, Unlinking, Releasing, Giving, Beginning, Judged, Dooming, Leaving, Looping, AfterChild, Ending}
 use Rattle.tree_specs.specs.declared.frame.Answer.{Answer}
 use Rattle.tree_specs.specs.Tree.Pool.{Pool}
 use Rattle.tree_specs.specs.Rules.Items.{Item}
@@ -24,7 +23,7 @@ use Rattle.tree_specs.specs.Invariants.Measure.{weight, row_worth, cost}
 use Rattle.tree_specs.proofs.Tree.Rows.{count-length}
 use Rattle.tree_specs.proofs.Calls.Plans.{May, follows, may-planned}
 use Rattle.tree_specs.proofs.Invariants.Keeps.{sound-kept}
-use Rattle.tree_specs.proofs.Turns.FallingFrees.{Lowers, Room, asking-lower, beginning-lower, dooming-lower, ending-lower, giving-lower, judged-lower, leaving-lower, looping-lower, releasing-lower, returning-lower, tried-lower, unlinking-lower}
+use Rattle.tree_specs.proofs.Turns.FallingFrees.{Lowers, Room, asking-lower, returning-lower, free-lower}
 use Rattle.tree_specs.proofs.Turns.FallingTurns.{turn-lower}
 
 turning-lower : (R : ℕ) (q : Ask) (c : Call) (fs : List Frame) (p : Pool) (k : ℕ) → Room R (frame.Call (Doing q c)) p k → Lowers R (cost R (frame.Call (Doing q c)) fs p k) (turning_step q p) fs k
@@ -49,19 +48,9 @@ pub lower : (R : ℕ) (f : Frame) (fs : List Frame) (p : Pool) (k : ℕ) → Sou
 lower R (frame.Call (Asking q)) fs p k s room = asking-lower R q fs p k room
 lower R (frame.Call (Doing q c)) fs p k s room = planned-lower R q c fs p k room (planned p c) (may-planned (frame.Call (Doing q c)) fs p s c)
 lower R (frame.Call (Returning v)) fs p k s room = returning-lower R v fs p k s room
-lower R (frame.Free (Unlinking o x)) fs p k s room = unlinking-lower R o x fs p k s room
-lower R (frame.Free (Releasing x)) fs p k s room = releasing-lower R x fs p k s room
-lower R (frame.Free (Giving x o)) fs p k s room = giving-lower R x o fs p k s room
-lower R (frame.Free (Beginning x)) fs p k s room = beginning-lower R x fs p k s room
-lower R (frame.Free (Judged x h v)) fs p k s room = judged-lower R x h v fs p k s room
-lower R (frame.Free (Dooming x)) fs p k s room = dooming-lower R x fs p k s room
-lower R (frame.Free (Leaving x h)) fs p k s room = leaving-lower R x h fs p k s room
-lower R (frame.Free (Looping x purpose)) fs p k s room = looping-lower R x purpose fs p k s room
-lower R (frame.Free (AfterChild x c noted purpose a)) fs p k s room = tried-lower R x c noted purpose a fs p k s room
-lower R (frame.Free (Ending answer)) fs p k s room = ending-lower R answer fs p k s room
+lower R (frame.Free f) fs p k s room = free-lower R f fs p k s room
 lower R (frame.Call (Warning q x r)) fs p k s room = (omega arith, omega arith)
 lower R (frame.Call (Telling q r)) fs p k s room = (omega arith, omega arith)
-lower R (frame.Free (Hooked x h)) fs p k s room = (omega arith, omega arith)
 lower R (frame.Turn f) fs p k s room = turn-lower R f fs p k s room
 lower R _ fs p k s room = absurd s.rests
 
