@@ -6,7 +6,7 @@ use Rattle.std.specs.Fmt.{decimal}
 use Rattle.tree_specs.specs.Texts.Load.{begins_with, named}
 use Rattle.schedule_replay.specs.Replays.{has_no_lf}
 use Rattle.load_schedule.specs.declared.told.Kind.{Kind}
-use Rattle.load_schedule.specs.declared.told.Kind.TheVariants.{Refusal, Reply, Freed, Dropped, Other}
+use Rattle.load_schedule.specs.declared.told.Kind.TheVariants.{Refusal, Reply, Freed, Dropped}
 
 -- ---- one line
 

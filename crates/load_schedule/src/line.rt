@@ -5,14 +5,14 @@ ghost use Rattle.std.specs.Fmt.{decimal};
 use itoa::write_digits;
 use std::marker::Model;
 
-/// The longest line has two numbers of ten digits, and 17 bytes beside them.
-const LONGEST: usize = 40;
+/// Bytes enough for the longest line, which has two numbers of ten digits and 17 bytes beside them.
+const ROOM: usize = 40;
 
 /// A line with its LF, or what is left of one. It is made from its end, as the digits of a number are. Contracts see its
 /// bytes.
 #[derive(Debug, Drop)]
 pub(crate) struct Line {
-    bytes: [u8; LONGEST],
+    bytes: [u8; ROOM],
     /// Where it begins; it ends with the bytes.
     start: usize,
 }
@@ -33,8 +33,8 @@ impl Line {
         ensures { result ≡ [] }
     {
         Line {
-            bytes: [0; LONGEST],
-            start: LONGEST,
+            bytes: [0; ROOM],
+            start: ROOM,
         }
     }
 
@@ -42,17 +42,18 @@ impl Line {
     pub(crate) fn len(&self) -> usize
         ensures { result ≡ length self.now }
     {
-        LONGEST - self.start
+        ROOM - self.start
     }
 
     /// Takes what there is away.
     fn clear(&mut self)
         ensures { self.new ≡ [] }
     {
-        self.start = LONGEST;
+        self.start = ROOM;
     }
 
     /// Sets a word before what there is.
+    // Always inlined, as are its callers that take words, so that it copies a constant number of bytes.
     #[inline(always)]
     fn prepend(&mut self, word: &[u8])
         requires { length word.now + length self.old ≤ 40 }

@@ -1,4 +1,4 @@
-use Rattle.std.proofs.Common.{rules, ◌≡◌, ◌<◌, length, arith, sym, subst, ℕ, List, codes}
+use Rattle.std.proofs.Common.{rules, ◌<◌, length, arith, sym, subst, ℕ, List}
 use Rattle.std.proofs.lemmas.Bool.Decides.{nat_tests}
 use Rattle.tree_specs.specs.Texts.Load.{call_drawn}
 use Rattle.load_schedule.proofs.SourceLaws.{last-text, next-text, line-some}

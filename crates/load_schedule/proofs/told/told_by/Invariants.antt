@@ -1,4 +1,4 @@
-use Rattle.std.proofs.Common.{◌≡◌, ◌≤◌, ◌+◌, ◌-◌, length, take, drop}
+use Rattle.std.proofs.Common.{◌≤◌, ◌+◌, ◌-◌, length, take, drop}
 use Rattle.load_schedule.specs.Tallies.{Sums}
 use Rattle.load_schedule.proofs.told.told_by.Given as goal
 

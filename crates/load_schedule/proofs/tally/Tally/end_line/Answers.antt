@@ -1,4 +1,4 @@
-use Rattle.std.proofs.Common.{rules, ◌≡◌, ◌∙◌, ap, sym, ℕ, ◌+◌, Bool, true, cond, List, ◌∷◌, ◌++◌, [], refl}
+use Rattle.std.proofs.Common.{rules, ◌≡◌, ◌∙◌, ap, ℕ, ◌+◌, List, ◌∷◌, ◌++◌, []}
 use Rattle.schedule_replay.specs.Replays.{has_no_lf}
 use Rattle.schedule_replay.proofs.LineLaws.{plain_append}
 use Rattle.load_schedule.specs.Tallies.{noted, later_reply}

@@ -1,4 +1,4 @@
-use Rattle.std.proofs.Common.{rules, ◌≡◌, ◌+◌, ◌-◌, take, arith}
+use Rattle.std.proofs.Common.{◌≡◌, ◌+◌, ◌-◌, take, arith}
 use Rattle.load_schedule.specs.Tallies.{noted}
 use Rattle.load_schedule.proofs.TallyLaws.{sums-both}
 use Rattle.load_schedule.proofs.tally.Tally.take_lines.Goals as goal

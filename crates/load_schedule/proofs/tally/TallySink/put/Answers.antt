@@ -1,4 +1,4 @@
-use Rattle.std.proofs.Common.{rules, ◌≡◌, ◌≤◌, length, arith}
+use Rattle.std.proofs.Common.{rules, ◌≡◌, arith}
 use Rattle.std.proofs.lemmas.Bool.Decides.{nat_tests}
 use Rattle.load_schedule.proofs.TallyLaws.{put-line}
 use Rattle.load_schedule.proofs.tally.TallySink.put.Goals as goal
