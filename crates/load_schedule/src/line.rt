@@ -1,5 +1,5 @@
 //! A line of a schedule, as it is made and given.
-ghost use Rattle.std.specs.Prelude.{◌≡◌, ◌↔◌, ◌<◌, ◌≤◌, ◌+◌, ◌++◌, [], length, take, codes, IsTrue};
+ghost use Rattle.std.specs.Prelude.{◌≡◌, ◌<◌, ◌≤◌, ◌+◌, ◌++◌, [], length, take, codes};
 ghost use Rattle.std.specs.Fmt.{decimal};
 
 use itoa::write_digits;

@@ -167,14 +167,8 @@ impl Tally {
         self.line.extend_from_slice(rest)?;
         let kind = kind_of(&self.line);
         let reply = reply_of(kind, &self.line);
-        if add(
-            &mut self.counts,
-            &mut self.last,
-            Counts::NONE.with(kind),
-            reply,
-        )
-        .is_err()
-        {
+        let later = Counts::NONE.with(kind);
+        if add(&mut self.counts, &mut self.last, later, reply).is_err() {
             self.line.truncate(begun);
             return Err(Memory);
         }
