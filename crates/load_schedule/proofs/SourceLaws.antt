@@ -1,21 +1,13 @@
 -- What a schedule that is made while it is read still gives.
-use Rattle.std.proofs.Common.{◌≡◌, ◌≤◌, ◌<◌, ℕ, zero, suc, ◌+◌, ◌-◌, Bool, true, false, List, [], ◌∷◌, ◌++◌, length, take, drop, refl, sym, ap, ◌∙◌, codes, arith}
+use Rattle.std.proofs.Common.{◌≡◌, ◌≤◌, ◌<◌, ℕ, zero, suc, ◌+◌, ◌-◌, Bool, false, List, [], ◌++◌, length, take, refl, sym, ap, ◌∙◌, codes, arith}
 use Rattle.std.specs.Fmt.{digits}
 use Rattle.std.proofs.Math.Seq.{take-append-add}
-use Rattle.std.proofs.lemmas.List.{append-nil, append_assoc, take-append-le, take-take, take-append-drop, drop-drop, length-take-le}
+use Rattle.std.proofs.lemmas.List.{take-append-le, length-take-le}
 use Rattle.tree_specs.specs.declared.call.Call.{Call}
 use Rattle.tree_specs.specs.declared.question.Input.TheVariants as inputs
 use Rattle.tree_specs.specs.Texts.Text.{call_text, input_text}
-use Rattle.tree_specs.specs.Texts.Load.{Place, call_drawn, after_call, calls_from, calls_text}
+use Rattle.tree_specs.specs.Texts.Load.{Place, call_drawn, after_call}
 use Rattle.load_schedule.specs.Sources.{text_to_come}
-
--- bytes of a line that were copied, and those behind them
-pub copied-front : (line copied buf : List ℕ) (at n : ℕ) → copied ≡ take n (drop at line) → n ≤ length (drop at line) → drop at line ≡ take n (copied ++ drop n buf) ++ drop (at + n) line
-copied-front line copied buf at n e le =
-    let rest : List ℕ = drop at line in
-    let many : n ≤ length copied = omega (arith, ap length e, length-take-le n rest le) in
-    let front : take n (copied ++ drop n buf) ≡ take n rest = take-append-le n copied (drop n buf) many ∙ ap (take n) e ∙ take-take n n rest (omega arith) in
-    sym (ap (λ (t : List ℕ). t ++ drop (at + n) line) front ∙ ap (λ (t : List ℕ). take n rest ++ t) (sym (drop-drop n at line)) ∙ take-append-drop n rest)
 
 pub last-text : (b : Bool) (left : ℕ) (p : Place) (bytes : List ℕ) → b ≡ false → left ≡ 0 → bytes ≡ codes "call count 0\n" → text_to_come b left p ≡ bytes ++ []
 unfolding input_text call_text digits

@@ -7,6 +7,7 @@ mod loading;
 mod place;
 mod source;
 mod tally;
+mod told;
 
 pub use loading::load;
 pub use source::LoadSource;

@@ -1,47 +1,135 @@
-//! The lines of the calls that are drawn.
-ghost use Rattle.std.specs.Prelude.{◌≡◌, ◌≤◌, ◌++◌, length, codes};
+//! A line of a schedule, as it is made and given.
+ghost use Rattle.std.specs.Prelude.{◌≡◌, ◌<◌, ◌≤◌, ◌+◌, ◌++◌, [], length, take, codes};
 ghost use Rattle.std.specs.Fmt.{decimal};
 
-use arrayvec::ArrayString;
-use itoa::Buffer;
+use itoa::write_digits;
+use std::marker::Model;
 
-/// A line of a schedule with its LF, or a prefix of one. The longest has two numbers of ten digits.
-pub(crate) type Line = ArrayString<40>;
+/// Bytes enough for the longest line, which has two numbers of ten digits and 17 bytes beside them.
+const ROOM: usize = 40;
 
-/// Writes a line of these words, which end in a space, and two numbers.
-pub(crate) fn write_pair(line: &mut Line, words: &str, first: u32, second: u32)
-    requires { length words.now ≤ 16 }
-    ensures { line.new.bytes ≡ words.now ++ decimal first ++ codes " " ++ decimal second ++ codes "\n" }
-{
-    let mut digits = Buffer::new();
-    line.clear();
-    line.push_str(words);
-    line.push_str(digits.format(first));
-    line.push_str(" ");
-    line.push_str(digits.format(second));
-    line.push_str("\n");
+/// A line with its LF, or what is left of one. It is made from its end, as the digits of a number are. Contracts see its
+/// bytes.
+#[derive(Debug, Drop)]
+pub(crate) struct Line {
+    bytes: [u8; ROOM],
+    /// Where it begins; it ends with the bytes.
+    start: usize,
 }
 
-/// Writes the line that makes an object with this owner and this size, which is below 1,000.
-pub(crate) fn write_new(line: &mut Line, owner: u32, size: u32)
-    ensures { line.new.bytes ≡ codes "call new " ++ decimal owner ++ codes " " ++ decimal size ++ codes " n\n" }
-{
-    let mut digits = Buffer::new();
-    line.clear();
-    line.push_str("call new ");
-    line.push_str(digits.format(owner));
-    line.push_str(" ");
-    line.push_str(digits.format(size));
-    line.push_str(" n\n");
+impl Model for Line {
+    ghost use Rattle.std.specs.Prelude.{ℕ, List, drop, ◌≤◌};
+
+    ghost Value = { List ℕ };
+
+    ghost view = { λ l. drop l.start l.bytes };
+
+    ghost invariant = { λ l. l.start ≤ 40 };
 }
 
-/// Writes the line that frees this object.
-pub(crate) fn write_free(line: &mut Line, object: u32)
-    ensures { line.new.bytes ≡ codes "call free " ++ decimal object ++ codes "\n" }
-{
-    let mut digits = Buffer::new();
-    line.clear();
-    line.push_str("call free ");
-    line.push_str(digits.format(object));
-    line.push_str("\n");
+impl Line {
+    /// No line.
+    pub(crate) fn new() -> Line
+        ensures { result ≡ [] }
+    {
+        Line {
+            bytes: [0; ROOM],
+            start: ROOM,
+        }
+    }
+
+    /// How many bytes are left of it.
+    pub(crate) fn len(&self) -> usize
+        ensures { result ≡ length self.now }
+    {
+        ROOM - self.start
+    }
+
+    /// Takes what there is away.
+    fn clear(&mut self)
+        ensures { self.new ≡ [] }
+    {
+        self.start = ROOM;
+    }
+
+    /// Sets a word before what there is.
+    // Always inlined, as are its callers that take words, so that it copies a constant number of bytes.
+    #[inline(always)]
+    fn prepend(&mut self, word: &[u8])
+        requires { length word.now + length self.old ≤ 40 }
+        ensures { self.new ≡ word.now ++ self.old }
+    {
+        let start = self.start - word.len();
+        self.bytes[start..self.start].copy_from_slice(word);
+        self.start = start;
+    }
+
+    /// Sets a number before what there is.
+    #[inline(always)]
+    fn prepend_number(&mut self, number: u32)
+        requires { 10 + length self.old ≤ 40 }
+        ensures digits { self.new ≡ decimal number ++ self.old }
+        ensures short { length self.new ≤ 10 + length self.old }
+    {
+        self.start = write_digits(u64::from(number), &mut self.bytes, self.start);
+    }
+
+    /// Makes a line of these words.
+    #[inline(always)]
+    pub(crate) fn write(&mut self, words: &[u8])
+        requires { length words.now ≤ 40 }
+        ensures { self.new ≡ words.now }
+    {
+        self.clear();
+        self.prepend(words);
+    }
+
+    /// Makes a line of these words, which end in a space, and two numbers.
+    #[inline(always)]
+    pub(crate) fn write_pair(&mut self, words: &[u8], first: u32, second: u32)
+        requires { length words.now ≤ 16 }
+        ensures { self.new ≡ words.now ++ decimal first ++ codes " " ++ decimal second ++ codes "\n" }
+    {
+        self.clear();
+        self.prepend(b"\n");
+        self.prepend_number(second);
+        self.prepend(b" ");
+        self.prepend_number(first);
+        self.prepend(words);
+    }
+
+    /// Makes the line that makes an object with this owner and this size.
+    pub(crate) fn write_new(&mut self, owner: u32, size: u32)
+        ensures { self.new ≡ codes "call new " ++ decimal owner ++ codes " " ++ decimal size ++ codes " n\n" }
+    {
+        self.clear();
+        self.prepend(b" n\n");
+        self.prepend_number(size);
+        self.prepend(b" ");
+        self.prepend_number(owner);
+        self.prepend(b"call new ");
+    }
+
+    /// Makes the line that frees this object.
+    pub(crate) fn write_free(&mut self, object: u32)
+        ensures { self.new ≡ codes "call free " ++ decimal object ++ codes "\n" }
+    {
+        self.clear();
+        self.prepend(b"\n");
+        self.prepend_number(object);
+        self.prepend(b"call free ");
+    }
+
+    /// Gives bytes from its front, as many as there is room for, and says how many.
+    pub(crate) fn give(&mut self, buf: &mut [u8]) -> usize
+        ensures bytes { self.old ≡ take result buf.new ++ self.new }
+        ensures within { result ≤ length buf.old }
+        ensures some { 0 < length self.old → 0 < length buf.old → 0 < result }
+    {
+        let rest = &self.bytes[self.start..];
+        let n = rest.len().min(buf.len());
+        buf[..n].copy_from_slice(&rest[..n]);
+        self.start += n;
+        n
+    }
 }

@@ -4,7 +4,7 @@ ghost use Rattle.tree_specs.specs.declared.question.Input.TheVariants as inputs;
 ghost use Rattle.tree_specs.specs.Texts.Text.{input_text};
 ghost use Rattle.tree_specs.specs.Texts.Load.{next_state, drawn, kind, second_draw, third_draw, first_place, call_drawn, after_call};
 
-use crate::line::{Line, write_free, write_new, write_pair};
+use crate::line::Line;
 use std::marker::Model;
 
 /// Where a schedule stands between two calls. Contracts see the state of its draws, and how many lines with `new` there are.
@@ -89,7 +89,7 @@ impl Place {
     /// Writes the line of the next call.
     pub(crate) fn next_line(&mut self, line: &mut Line)
         requires { self.old.made < u32.MAX }
-        ensures line { line.new.bytes ≡ input_text (inputs.Call (call_drawn self.old)) }
+        ensures line { line.new ≡ input_text (inputs.Call (call_drawn self.old)) }
         ensures place { self.new ≡ after_call self.old }
         ensures made { self.new.made ≤ self.old.made + 1 }
     {
@@ -97,12 +97,12 @@ impl Place {
         match drawn.kind {
             0..=3 => {
                 self.made += 1;
-                write_new(line, drawn.owner, drawn.size);
+                line.write_new(drawn.owner, drawn.size);
             }
-            4 => write_pair(line, "call steal ", drawn.owner, drawn.object),
-            5 => write_free(line, drawn.object),
-            6 => write_pair(line, "call reference ", drawn.owner, drawn.object),
-            _ => write_pair(line, "call unlink ", drawn.owner, drawn.object),
+            4 => line.write_pair(b"call steal ", drawn.owner, drawn.object),
+            5 => line.write_free(drawn.object),
+            6 => line.write_pair(b"call reference ", drawn.owner, drawn.object),
+            _ => line.write_pair(b"call unlink ", drawn.owner, drawn.object),
         }
     }
 }

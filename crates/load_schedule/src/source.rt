@@ -14,34 +14,17 @@ use std::marker::Model;
 fn next_line(place: &mut Place, left: &mut u32, is_over: &mut bool, line: &mut Line)
     requires more { is_over.old ≡ false }
     requires room { place.old.made + left.old ≤ u32.MAX }
-    ensures bytes { text_to_come is_over.old left.old place.old ≡ line.new.bytes ++ text_to_come is_over.new left.new place.new }
-    ensures some { 0 < length line.new.bytes }
+    ensures bytes { text_to_come is_over.old left.old place.old ≡ line.new ++ text_to_come is_over.new left.new place.new }
+    ensures some { 0 < length line.new }
     ensures room { place.new.made + left.new ≤ u32.MAX }
 {
     if *left == 0 {
         *is_over = true;
-        line.clear();
-        line.push_str("call count 0\n");
+        line.write(b"call count 0\n");
         return;
     }
     *left -= 1;
     place.next_line(line);
-}
-
-/// Copies bytes of the line from here on, as many as there is room for, and says how many.
-fn copy_line(line: &Line, at: &mut usize, buf: &mut [u8]) -> usize
-    requires { at.old ≤ length line.now.bytes }
-    ensures bytes { drop at.old line.now.bytes ≡ take result buf.new ++ drop at.new line.now.bytes }
-    ensures moved { at.new ≡ at.old + result }
-    ensures stays { at.new ≤ length line.now.bytes }
-    ensures within { result ≤ length buf.old }
-    ensures some { at.old < length line.now.bytes → 0 < length buf.old → 0 < result }
-{
-    let rest = &line.as_str().as_bytes()[*at..];
-    let n = rest.len().min(buf.len());
-    buf[..n].copy_from_slice(&rest[..n]);
-    *at += n;
-    n
 }
 
 /// The schedule of so many calls that is made from a number. Each line is made when it is to be given, so none is held
@@ -53,10 +36,8 @@ pub struct LoadSource {
     left: u32,
     /// Whether the last line has been made.
     is_over: bool,
-    /// The line that is given.
+    /// What is left of the line that is given.
     line: Line,
-    /// How many of its bytes were given.
-    at: usize,
 }
 
 impl Model for LoadSource {
@@ -65,9 +46,9 @@ impl Model for LoadSource {
 
     ghost Value = { List ℕ };
 
-    ghost view = { λ s. drop s.at s.line.bytes ++ text_to_come s.is_over s.left s.place };
+    ghost view = { λ s. s.line ++ text_to_come s.is_over s.left s.place };
 
-    ghost invariant = { λ s. (s.at ≤ length s.line.bytes) × (s.place.made + s.left < 2 ^ 32) × (s.is_over ≡ false → s.at < length s.line.bytes) };
+    ghost invariant = { λ s. (s.place.made + s.left < 2 ^ 32) × (s.is_over ≡ false → 0 < length s.line) };
 }
 
 impl LoadSource {
@@ -76,13 +57,12 @@ impl LoadSource {
         ensures { result ≡ load_schedule number count }
     {
         let mut line = Line::new();
-        line.push_str("tv schedule 1 pool\n");
+        line.write(b"tv schedule 1 pool\n");
         LoadSource {
             place: Place::new(number),
             left: count,
             is_over: false,
             line,
-            at: 0,
         }
     }
 
@@ -92,8 +72,8 @@ impl LoadSource {
         ensures within { result ≤ length buf.old }
         ensures end { 0 < length buf.old → result ≡ 0 → self.new ≡ [] }
     {
-        let n = copy_line(&self.line, &mut self.at, buf);
-        if self.at < self.line.len() || self.is_over {
+        let n = self.line.give(buf);
+        if self.line.len() > 0 || self.is_over {
             return n;
         }
         next_line(
@@ -102,7 +82,6 @@ impl LoadSource {
             &mut self.is_over,
             &mut self.line,
         );
-        self.at = 0;
         n
     }
 

@@ -1,124 +1,57 @@
 //! A sink that counts lines.
-ghost use Rattle.std.specs.Prelude.{◌≡◌, ◌≢◌, ◌<◌, ◌+◌, ◌++◌, [], ◌∷◌, length, drop, Some, true, IfOk, IfSome, OnOk, if◌then◌else◌, OnErr, codes};
+ghost use Rattle.std.specs.Prelude.{◌≡◌, ◌≢◌, ◌<◌, ◌≤◌, ◌+◌, ◌++◌, [], ◌∷◌, length, take, drop, Some, true, IfOk, OnOk, OnErr};
 ghost use Rattle.std.proofs.Common.{refl};
-ghost use Rattle.std.specs.Fmt.{decimal};
 ghost use Rattle.outside.specs.Causes.{HasCause};
 ghost use Rattle.outside.specs.Puts.{PutsTo, KeepsRoom, has_failed};
-ghost use Rattle.tree_specs.specs.Texts.Load.{begins_with, five_lines, named};
-ghost use Rattle.schedule_replay.specs.Cuts.{EndsFirst};
+ghost use Rattle.tree_specs.specs.Texts.Load.{five_lines, named};
 ghost use Rattle.schedule_replay.specs.Replays.{has_no_lf};
-ghost use Rattle.load_schedule.specs.Tallies.{five_of, one_more};
+ghost use Rattle.load_schedule.specs.Tallies.{five_of, later_reply, noted};
 
+use crate::told::{Counts, kind_of, line_end, reply_of, told_by};
 use http_server::Log;
 use itoa::Buffer;
-use memchr::memchr;
 use outside::{Put, Sink};
 use std::alloc::{AllocError, Global};
 use std::marker::Model;
-use std::mem;
 use tree_specs::Memory;
 
-/// How many lines of each kind there were.
-#[derive(Clone, Copy, Debug)]
-struct Counts {
-    refused: u64,
-    freed: u64,
-    dropped: u64,
+/// Keeps these bytes in place of those that were held.
+fn replace(held: &mut Vec<u8>, bytes: &[u8]) -> Result<(), AllocError>
+    ensures replaced { OnOk result (held.new.items ≡ bytes.now) }
+    ensures kept { OnErr result (held.new.items ≡ held.old.items) }
+{
+    let copy = bytes.to_vec(*held.allocator())?;
+    *held = copy;
+    Ok(())
 }
 
-/// Whether the line tells a reply.
-fn is_reply(line: &[u8]) -> bool
-    ensures { result ≡ begins_with (codes "reply ") line.now }
+/// Adds what later lines tell to the counts and the last reply. It fails where there is no memory, or where a count is
+/// past the greatest number, and then nothing is added.
+fn add(counts: &mut Counts, last: &mut Vec<u8>, later: Counts, reply: &[u8]) -> Result<(), Memory>
+    ensures refused { OnOk result (counts.new.refused ≡ counts.old.refused + later.refused) }
+    ensures freed { OnOk result (counts.new.freed ≡ counts.old.freed + later.freed) }
+    ensures dropped { OnOk result (counts.new.dropped ≡ counts.old.dropped + later.dropped) }
+    ensures last { OnOk result (last.new.items ≡ later_reply last.old.items reply.now) }
+    ensures counts_kept { OnErr result (counts.new ≡ counts.old) }
+    ensures last_kept { OnErr result (last.new.items ≡ last.old.items) }
 {
-    matches!(line, [b'r', b'e', b'p', b'l', b'y', b' ', ..])
-}
-
-/// Whether the line tells a refusal.
-fn is_refusal(line: &[u8]) -> bool
-    ensures { result ≡ begins_with (codes "reply no ") line.now }
-{
-    matches!(
-        line,
-        [b'r', b'e', b'p', b'l', b'y', b' ', b'n', b'o', b' ', ..]
-    )
-}
-
-/// Whether the line tells that an object is gone.
-fn is_freed(line: &[u8]) -> bool
-    ensures { result ≡ begins_with (codes "freed ") line.now }
-{
-    matches!(line, [b'f', b'r', b'e', b'e', b'd', b' ', ..])
-}
-
-/// Whether the line tells that a reference was dropped.
-fn is_dropped(line: &[u8]) -> bool
-    ensures { result ≡ begins_with (codes "unreferenced ") line.now }
-{
-    matches!(
-        line,
-        [
-            b'u',
-            b'n',
-            b'r',
-            b'e',
-            b'f',
-            b'e',
-            b'r',
-            b'e',
-            b'n',
-            b'c',
-            b'e',
-            b'd',
-            b' ',
-            ..
-        ]
-    )
-}
-
-/// The count with one more where it counts; None past the greatest number.
-fn counted(count: u64, counts: bool) -> Option<u64>
-    ensures { IfSome result (λ n. n ≡ (if counts then count + 1 else count)) }
-{
-    if counts {
-        count.checked_add(1)
-    } else {
-        Some(count)
+    let Some(sum) = counts.plus(later) else {
+        return Err(Memory);
+    };
+    if !reply.is_empty() {
+        replace(last, reply)?;
     }
+    *counts = sum;
+    Ok(())
 }
 
-impl Counts {
-    /// The counts after this line.
-    fn after(self, line: &[u8]) -> Option<Counts>
-        ensures refused { IfSome result (λ c. c.refused ≡ one_more (codes "reply no ") line.now self.refused) }
-        ensures freed { IfSome result (λ c. c.freed ≡ one_more (codes "freed ") line.now self.freed) }
-        ensures dropped { IfSome result (λ c. c.dropped ≡ one_more (codes "unreferenced ") line.now self.dropped) }
-    {
-        Some(Counts {
-            refused: counted(self.refused, is_refusal(line))?,
-            freed: counted(self.freed, is_freed(line))?,
-            dropped: counted(self.dropped, is_dropped(line))?,
-        })
-    }
-}
-
-/// Keeps a line that is a reply as the last one, and begins the next line.
-fn keep_reply(last: &mut Vec<u8>, line: &mut Vec<u8>)
-    ensures last { last.new.items ≡ (if begins_with (codes "reply ") line.old.items then line.old.items else last.old.items) }
-    ensures line { line.new.items ≡ [] }
+/// Adds these bytes to a history. Nothing is done for it at run time.
+fn add_all(history: &mut Log<u8, ()>, bytes: &[u8])
+    ensures { noted history.new.items ≡ noted history.old.items ++ bytes.now }
 {
-    if !is_reply(line) {
-        line.clear();
-        return;
+    for byte in bytes {
+        *history = history.and(byte, &());
     }
-    mem::swap(last, line);
-    line.clear();
-}
-
-/// Where the first line of these bytes ends; None where none does.
-fn line_end(bytes: &[u8]) -> Option<usize>
-    ensures { EndsFirst bytes.now result }
-{
-    memchr(b'\n', bytes)
 }
 
 /// What a reply has after `reply `.
@@ -169,19 +102,20 @@ pub struct Tally {
     last: Vec<u8>,
     /// The present line so far.
     line: Vec<u8>,
-    /// The lines that have ended. It takes no memory.
-    ended: Log<Vec<u8>, ()>,
+    /// The bytes of the lines that have ended. It takes no memory.
+    ended: Log<u8, ()>,
 }
 
 impl Model for Tally {
-    ghost use Rattle.std.specs.Prelude.{ℕ, List, map};
-    ghost use Rattle.load_schedule.specs.Tallies.{text_of, IsTally};
+    ghost use Rattle.std.specs.Prelude.{ℕ, List, ◌++◌, ◌≡◌, true};
+    ghost use Rattle.schedule_replay.specs.Replays.{has_no_lf};
+    ghost use Rattle.load_schedule.specs.Tallies.{noted, Sums};
 
     ghost Value = { List ℕ };
 
-    ghost view = { λ t. text_of (map (λ e. e.0.items) t.ended.items) t.line.items };
+    ghost view = { λ t. noted t.ended.items ++ t.line.items };
 
-    ghost invariant = { λ t. IsTally (map (λ e. e.0.items) t.ended.items) t.line.items t.counts.refused t.counts.freed t.counts.dropped t.last.items };
+    ghost invariant = { λ t. Sums (noted t.ended.items) t.counts.refused t.counts.freed t.counts.dropped t.last.items × (has_no_lf t.line.items ≡ true) };
 }
 
 impl Tally {
@@ -190,11 +124,7 @@ impl Tally {
         ensures { result ≡ [] }
     {
         Tally {
-            counts: Counts {
-                refused: 0,
-                freed: 0,
-                dropped: 0,
-            },
+            counts: Counts::NONE,
             last: Vec::new(alloc),
             line: Vec::new(alloc),
             ended: Log::new(),
@@ -210,22 +140,41 @@ impl Tally {
         self.line.extend_from_slice(run)
     }
 
-    /// Takes the rest of the present line and its LF. It fails where there is no memory, or where a count is past the
-    /// greatest number.
-    fn take_line(&mut self, rest: &[u8]) -> Result<(), Memory>
+    /// Takes the lines at the front of these bytes that end there, and says how many bytes they are: none where a line
+    /// has begun.
+    fn take_lines(&mut self, bytes: &[u8]) -> Result<usize, Memory>
+        ensures within { IfOk result (λ n. n ≤ length bytes.now) }
+        ensures taken { IfOk result (λ n. self.new ≡ self.old ++ take n bytes.now) }
+        ensures kept { OnErr result (self.new ≡ self.old) }
+    {
+        if !self.line.is_empty() {
+            return Ok(0);
+        }
+        let told = told_by(bytes);
+        let reply = &bytes[told.reply_at..told.reply_at + told.reply_len];
+        add(&mut self.counts, &mut self.last, told.counts, reply)?;
+        add_all(&mut self.ended, &bytes[..told.len]);
+        Ok(told.len)
+    }
+
+    /// Takes the rest of the present line and its LF.
+    fn end_line(&mut self, rest: &[u8]) -> Result<(), Memory>
         requires { has_no_lf rest.now ≡ true }
         ensures taken { OnOk result (self.new ≡ self.old ++ rest.now ++ 10 ∷ []) }
         ensures kept { OnErr result (self.new ≡ self.old) }
     {
         let begun = self.line.len();
         self.line.extend_from_slice(rest)?;
-        let Some(counts) = self.counts.after(&self.line) else {
+        let kind = kind_of(&self.line);
+        let reply = reply_of(kind, &self.line);
+        let later = Counts::NONE.with(kind);
+        if add(&mut self.counts, &mut self.last, later, reply).is_err() {
             self.line.truncate(begun);
             return Err(Memory);
-        };
-        self.counts = counts;
-        self.ended = self.ended.and(&self.line, &());
-        keep_reply(&mut self.last, &mut self.line);
+        }
+        add_all(&mut self.ended, &self.line);
+        add_all(&mut self.ended, b"\n");
+        self.line.clear();
         Ok(())
     }
 
@@ -236,7 +185,7 @@ impl Tally {
         if self.line.is_empty() {
             return five_lines(alloc, count, self.counts, &self.last);
         }
-        self.take_line(&[])?;
+        self.end_line(&[])?;
         five_lines(alloc, count, self.counts, &self.last)
     }
 }
@@ -250,7 +199,8 @@ impl Sink for Tally {
 
     ghost tells = { λ t told. refl };
 
-    /// Takes bytes up to the next LF and with it. It tells no room, so that it may want memory for each line.
+    /// Takes all lines that end in these bytes; where a line has begun before or none ends, up to the next LF and with
+    /// it. It tells no room, so that it may want memory for a reply and for a line that has begun.
     fn put(&mut self, bytes: &[u8]) -> Result<Put, Memory>
         requires { 0 < length bytes.now }
         ensures bytes { PutsTo (Some self.old) (Some self.new) result bytes.now }
@@ -259,9 +209,13 @@ impl Sink for Tally {
         ensures never_fails { result ≢ Ok Put.Failed }
     {
         let bytes = &bytes[..bytes.len().min(u32::MAX as usize)];
+        let n = self.take_lines(bytes)?;
+        if n > 0 {
+            return Ok(Put::Took(n as u32));
+        }
         match line_end(bytes) {
             Some(end) => {
-                self.take_line(&bytes[..end])?;
+                self.end_line(&bytes[..end])?;
                 Ok(Put::Took(end as u32 + 1))
             }
             None => {

@@ -1,7 +1,7 @@
 ghost use Rattle.std.specs.Prelude.{◌≤◌};
 
 use super::*;
-use outside::{FineSink, Got, MemSink, PutError, Source};
+use outside::{FineSink, Got, MemSink, Put, PutError, Sink, Source};
 use std::test::Fail;
 
 // What a load writes into memory.
@@ -60,6 +60,25 @@ fn a_schedule_is_given_in_pieces_of_any_length(rt: HostRuntime) -> Result<(), Fa
     assert_eq!(rt;
         given.as_slice(),
         b"tv schedule 1 pool\ncall reference 0 1\ncall new 0 627 n\ncall new 1 212 n\ncall reference 1 3\ncall count 0\n".as_slice()
+    );
+    Ok(())
+}
+
+#[test]
+fn a_put_takes_all_lines_that_end_in_it(rt: HostRuntime) -> Result<(), Fail> {
+    let mut tally = Tally::new(rt.alloc());
+    let whole = tally.put(b"reply 1\nreply no 2\nfreed 1 0\nrep");
+    assert_eq!(rt; whole, Ok(Put::Took(29)));
+    let begun = tally.put(b"rep");
+    assert_eq!(rt; begun, Ok(Put::Took(3)));
+    let ended = tally.put(b"ly 30\nunreferenced 2 1\n");
+    assert_eq!(rt; ended, Ok(Put::Took(6)));
+    let last = tally.put(b"unreferenced 2 1\nreply");
+    assert_eq!(rt; last, Ok(Put::Took(17)));
+    let text = tally.five_lines(rt.alloc(), 3)?;
+    assert_eq!(rt;
+        text.as_slice(),
+        b"calls 3\nrefused 1\nfreed 1\ndropped 1\nlive 30\n".as_slice()
     );
     Ok(())
 }

@@ -1,5 +1,5 @@
 use borrow.Rule.Slice.PartMut.{same_len_mid}
-use Rattle.std.proofs.Common.{rules, ◌≡◌, ◌∙◌, ◌≤◌, ◌+◌, ◌-◌, ◌++◌, ap, sym, arith, ℕ, List, length, take, drop}
+use Rattle.std.proofs.Common.{rules, ◌∙◌, ◌≤◌, ◌-◌, ◌++◌, ap, sym, arith, ℕ, List, length, take, drop}
 use Rattle.std.proofs.lemmas.List.{append_assoc, length-take}
 use Rattle.load_schedule.proofs.SourceLaws.{piece-front}
 use Rattle.load_schedule.proofs.source.LoadSource.fill.Goals as goal
