@@ -1,9 +1,10 @@
 -- What an answer to the open question leads to.
-use Rattle.std.proofs.Common.{◌≡◌, ℕ, ◌<◌, Bool, List, [], ◌∷◌, Option, Some, None, true, false, refl, sym, ◌∙◌, ap, subst}
+use Rattle.std.proofs.Common.{Result, Err, IsErrAnd, ◌≡◌, ℕ, ◌<◌, Bool, List, [], ◌∷◌, Option, Some, None, true, false, refl, sym, ◌∙◌, ap, subst}
 use Rattle.std.specs.Prelude.{is_none, is_some, IsSome}
 use Rattle.std.specs.Option.{option_map}
 use Rattle.step_machine.specs.Machine.{Move}
 use Rattle.step_machine.specs.Machine.{Move as Do}
+use Rattle.std.proofs.lemmas.Result.{err_from_is_err_and}
 use Rattle.tree_specs.specs.declared.call.Call.{Call}
 use Rattle.tree_specs.specs.declared.call.Call.TheVariants as call
 use Rattle.tree_specs.specs.declared.event.Event.{Event}
@@ -47,6 +48,8 @@ use Rattle.host_core.specs.declared.caller.Caller.{Caller}
 use Rattle.host_core.specs.declared.caller.Stage.{Stage}
 use Rattle.host_core.specs.declared.caller.Stage.TheVariants as stage
 use Rattle.host_core.specs.declared.caller.Waiting.{Waiting}
+use Rattle.host_core.specs.declared.fault.OfferFault.{OfferFault}
+use Rattle.host_core.specs.declared.fault.OfferFault.TheVariants as fault
 use Rattle.host_core.specs.declared.reports.Report.{Report}
 use Rattle.host_core.specs.Moves.{report_of, call_of, reported}
 use Rattle.host_core.specs.Promises.{Waits, TakesAnswer}
@@ -128,6 +131,19 @@ unasked (Some (ask.Routine m)) (input.Act a) e = cc
 unasked (Some ask.Clock) (input.Clock now) e = cc
 unasked (Some (ask.Wait limit)) (input.Ready wants) e = cc
 unasked _ _ e = refl
+
+-- a fault of memory isn't that nothing asks
+pub out-of-memory : {A B : Type 0} (r : Result B OfferFault) → IsErrAnd r (λ y. y ≡ fault.Memory) → r ≡ Err fault.NotAsked → A
+out-of-memory r fails e =
+    let why = err_from_is_err_and r fails in
+    cc (why.1, why.2, e)
+
+-- an answer that fits what is asked isn't refused as not asked
+pub fitting-asked : {A : Type 0} (o asked : Option Ask) (i : Input) → o ≡ asked → is_none (misfit asked i) ≡ true → misfit o i ≡ Some NotAsked → A
+fitting-asked o asked i is fits e = never (sym fits ∙ ap is_none (sym (ap (λ z. misfit z i) is) ∙ e))
+  where
+    never : {A : Type 0} → true ≡ false → A
+    never e = cc
 
 -- an answer that fits comes to a question
 pub fitting : (o : Option Ask) (i : Input) → is_none (misfit o i) ≡ true → (q : Ask) × (o ≡ Some q) × (misfit (Some q) i ≡ None)

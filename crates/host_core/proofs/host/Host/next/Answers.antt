@@ -26,3 +26,15 @@ returns-in-Freeing c =
     let p = c.self.inside.parts in
     let n = free-parts c.self.inside.active p.callers.items p.turn p.objects c.step-step.result c.step-step.new.self c.in-Freeing.is c.self.invariant.0 c.self.invariant.1 c.step-step.ensures.steps c.step-step.ensures.goes_on in
     rw c.event.ensures (free-law c.self.inside.active c.args.self.now p.callers.items p.turn p.objects c.step-step.result c.step-step.new.self _ c.in-Freeing.is c.self.view_is n (rw c.in-Freeing.is at c.settle.ensures.along))
+
+pub invariant_of-self-in-Turning : goal.invariant_of-self-in-Turning
+invariant_of-self-in-Turning c =
+    let p = c.self.inside.parts in (
+      turn-ready c.self.inside.active c.fire.new.now c.in-Turning.field-0 p.callers.items p.turn c.fire.new.turn p.objects c.fire.result c.in-Turning.is c.self.invariant.0 c.fire.ensures,
+      turn-speaks c.self.inside.active c.fire.new.now c.in-Turning.field-0 p.callers.items p.turn c.fire.new.turn p.objects c.fire.result c.in-Turning.is c.self.invariant.0 c.fire.ensures,
+    )
+
+pub returns-in-Turning : goal.returns-in-Turning
+returns-in-Turning c =
+    let p = c.self.inside.parts in
+    turn-law c.self.inside.active c.fire.new.now c.in-Turning.field-0 p.callers.items p.turn c.fire.new.turn p.objects c.fire.result c.in-Turning.is c.self.invariant.0 c.fire.ensures c.args.self.now c.self.view_is

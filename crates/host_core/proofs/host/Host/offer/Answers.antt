@@ -3,7 +3,7 @@ use Rattle.tree_specs.specs.Texts.Schedule.{misfit}
 use Rattle.host_core.specs.Turns.{turns_of}
 use Rattle.host_core.specs.Hosts.{stack_of}
 use Rattle.host_core.proofs.Calling.{stays-at, speaks-at}
-use Rattle.host_core.proofs.Offering.{report-caller, offered, offered-report, unasked, question-view, takes-answer}
+use Rattle.host_core.proofs.Offering.{report-caller, offered, offered-report, unasked, out-of-memory, fitting-asked, question-view, takes-answer}
 use Rattle.host_core.proofs.StepsSilently.{along-then}
 use Rattle.host_core.proofs.host.Host.offer.Goals as goal
 
@@ -54,3 +54,10 @@ returns-clause-ok c =
     let o = offered c.self.inside.active p.callers.items p.turn p.objects c.args.input c.self.invariant.0 fits c.requires in
     takes-answer c.args.self.now c.self.inside.active p.callers.items p.turn p.objects c.args.input o.0 _ _ c.self.invariant.0.parts c.self.view_is o.1
     (along-then _ _ _ (rw (c.make_room.ensures.callers, c.in_ok-make_room.ensures.ok) at c.answer_on.ensures.along) c.settle.ensures.along)
+
+pub returns-in_err-make_room-clause-not_asked : goal.returns-in_err-make_room-clause-not_asked
+returns-in_err-make_room-clause-not_asked c = (
+  λ e. out-of-memory c.from_residual-in_err-make_room.result c.from_residual-in_err-make_room.ensures.1 e,
+  λ e. (let p = c.self.inside.parts in
+      fitting-asked _ _ c.args.input (question-view c.args.self.now c.self.inside.active p.callers.items p.turn p.objects c.self.invariant.0.parts c.self.view_is) (sym c.takes.ensures ∙ c.if-not-takes.false) e),
+)
