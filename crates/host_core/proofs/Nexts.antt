@@ -121,8 +121,8 @@ turn-fires what x handler time question q callers turn objects told now turn' h 
     let w = subst IsConsistent there after.whole in
     let stands = stays-at now runs callers turn' objects s w in
     let law = event-law _ (view_of now callers turn' objects) (Fired what x handler.routine) (question-seen (active.Turning (record { frame = f; question = question; caller = q })) (stack_of callers) (turns_of turn) objects h.parts ∙ h.parts.question)
-        (event-along _ _ _ (Fired what x handler.routine) (subst (λ (v : View). AfterEvent v (call_view runs objects.works (stack_of callers) (turns_of turn') objects.pool) (Fired what x handler.routine)) (sym same)
-        (subst (λ (v : View). AfterEvent (turn_view f Quiet [] [] [] objects.pool) v (Fired what x handler.routine)) there after)) stands.0) in
+    (event-along _ _ _ (Fired what x handler.routine) (subst (λ (v : View). AfterEvent v (call_view runs objects.works (stack_of callers) (turns_of turn') objects.pool) (Fired what x handler.routine)) (sym same)
+    (subst (λ (v : View). AfterEvent (turn_view f Quiet [] [] [] objects.pool) v (Fired what x handler.routine)) there after)) stands.0) in
     rw e (record { law = law; ready = stands.1; speaks = speaks-at now runs objects.works (stack_of callers) (turns_of turn') objects.pool s })
 
 pub turn-next : (t : Turn) (callers : List Waiting) (turn : Option TurnFrame) (objects : Objects) (told : Option Event) (now : Active) (turn' : Option TurnFrame) → BetweenSteps (active.Turning t) callers turn objects → FiresBy t.frame turn told (active.Turning t) now turn'

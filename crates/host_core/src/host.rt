@@ -174,7 +174,9 @@ impl Host {
             return Err(OfferFault::NotAsked);
         }
         let Parts {
-            callers, objects, ..
+            callers,
+            objects,
+            ..
         } = &mut self.parts;
         if let Some(owner) = report_owner(&input) {
             let report = made_report(*callers.allocator(), &input, owner, objects)?;

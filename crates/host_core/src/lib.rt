@@ -13,10 +13,10 @@ mod refusals;
 mod reports;
 mod short_reply;
 mod subject;
-mod turn;
-mod turns;
 #[cfg(test)]
 mod tests;
+mod turn;
+mod turns;
 mod works;
 
 pub use fault::OfferFault;
