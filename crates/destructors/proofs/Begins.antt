@@ -1,7 +1,7 @@
 -- A free that begins, or is answered, is at work.
 use Rattle.std.proofs.Common.{◌≡◌, ℕ, ◌+◌, ◌≤◌, List, [], ◌∷◌, length, Option, Some, None, true, false, nat_eq, refl, ◌∙◌, ap, arith}
 use Rattle.tree_specs.specs.declared.frame.FreeFrame.{FreeFrame}
-use Rattle.tree_specs.specs.declared.frame.FreeFrame.TheVariants.{Unlinking, Beginning, Hooked, Judged, Looping}
+use Rattle.tree_specs.specs.declared.frame.FreeFrame.TheVariants.{Unlinking, Beginning, Hooked, Judged, Leaving, Looping}
 use Rattle.tree_specs.specs.declared.frame.Purpose.TheVariants.{Emptying}
 use Rattle.tree_specs.specs.declared.object.Obj.{Obj}
 use Rattle.tree_specs.specs.declared.row.Row.{Row}
@@ -12,7 +12,7 @@ use Rattle.tree_specs.specs.Tree.Inside.{total}
 use Rattle.tree_specs.specs.Tree.Pool.{Pool, row_of, target_at, is_dying_mark}
 use Rattle.tree_specs.specs.Tree.Targets.{target_of, newest_ref}
 use Rattle.tree_specs.specs.declared.object.Owner.{Owner}
-use Rattle.tree_specs.specs.Invariants.Sound.{IsLive, phases}
+use Rattle.tree_specs.specs.Invariants.Sound.{IsLive}
 use Rattle.std.specs.Prelude.{unwrap_or}
 use Rattle.tree_specs.specs.Machine.Table.{free_taken}
 use Rattle.tree_specs.proofs.Tree.Numbered.{by_test}
@@ -22,13 +22,13 @@ use Rattle.destructors.specs.Room.{mark_places, row_places, work_places, wanted}
 use Rattle.destructors.specs.Engine.{IsAsked, HasRoom}
 use Rattle.destructors.specs.Frees.{OpenFrees, before, frees_of, speaking}
 use Rattle.tree_specs.specs.Invariants.Sound.Footing.{OnCall}
-use Rattle.tree_specs.specs.Machine.Profiles.{Phase}
-use Rattle.tree_specs.specs.Invariants.Alone.{free_footing, free_claims, AllFreesWait, AwaitsRun, FreesHold}
-use Rattle.destructors.specs.Works.{AtWork, IsAwaiting, MayBegin}
+use Rattle.tree_specs.specs.Machine.Profiles.{Phase, InLoop}
+use Rattle.tree_specs.specs.Invariants.Alone.{free_footing, free_claims, free_phases, AllFreesWait, AwaitsRun, FreesHold}
+use Rattle.destructors.specs.Works.{LeavesIdle, AtWork, IsAwaiting, MayBegin}
 
 -- the rows are the same; the works, what they claim and what the innermost rests on are others
 holding : {claimed claimed' : Obj → List Phase} {below below' : List FreeFrame} {grounds grounds' : Type 0} {p : Pool} → FreesHold claimed below grounds p
-    → ((x : Obj) → claimed' x ≡ phases (row_of p.rows x)) → AllFreesWait below' → grounds' → FreesHold claimed' below' grounds' p
+    → ((x : Obj) → claimed' x ≡ free_phases (row_of p.rows x)) → AllFreesWait below' → grounds' → FreesHold claimed' below' grounds' p
 holding h open_frees waiting rests = record { started = h.started; valid = h.valid; forest = h.forest; refers = h.refers; open_frees = open_frees; waiting = waiting; rests = rests }
 
 -- what is begun stands on the call that it is for
@@ -37,14 +37,21 @@ on-call [] w = refl
 on-call (Hooked x h ∷ fs) w = refl
 on-call (_ ∷ fs) w = absurd w
 
+-- no object leaves its owner with a work that begins
+begins-idle : (f : FreeFrame) (p : Pool) → MayBegin f p → LeavesIdle f p
+begins-idle (Leaving x h) p may = let bad : InLoop ∷ [] ≡ [] = (may.rests (λ y. InLoop ∷ [])).3 in cc
+begins-idle _ p may = tt
+
 pub begins : (f : FreeFrame) (s : OpenFrees) → MayBegin f s.pool → IsAwaiting s → AtWork (f ∷ s.works) s.pool
 begins f s may a =
     let l = a.light in
-    let n = may.small in
-    record {
-      sound = holding a.sound (λ x. rw (may.claims_nothing x) (a.sound.open_frees x)) a.sound.waiting (rw (on-call s.works a.sound.rests) (may.rests (λ x. free_claims x s.works)));
-      light = omega (arith, l, n);
-    }
+    let n = may.small in (
+      record {
+        sound = holding a.sound (λ x. rw (may.claims_nothing x) (a.sound.open_frees x)) a.sound.waiting (rw (on-call s.works a.sound.rests) (may.rests (λ x. free_claims x s.works)));
+        light = omega (arith, l, n);
+      },
+      begins-idle f s.pool may,
+    )
 
 pub may-free : (x : Obj) (p : Pool) → newest_ref p.rows x ≡ None → target_at p.rows x ≡ None → MayBegin (Beginning x) p
 may-free x p unheld object = record { claims_nothing = λ y. refl; rests = λ claimed. (unheld, object); small = refl }
@@ -70,10 +77,7 @@ may-empty x p = record { claims_nothing = λ y. refl; rests = λ claimed. tt; sm
 pub judges : (x : Obj) (h v : ℕ) (fs : List FreeFrame) (p : Pool) → IsAwaiting (record { works = Hooked x h ∷ fs; pool = p }) → AtWork (Judged x h v ∷ fs) p
 judges x h v fs p a =
     let l = a.light in
-    record {
-      sound = holding a.sound a.sound.open_frees a.sound.waiting.1 a.sound.waiting.0;
-      light = omega (arith, l);
-    }
+    (record { sound = holding a.sound a.sound.open_frees a.sound.waiting.1 a.sound.waiting.0; light = omega (arith, l) }, tt)
 
 -- ---- by the parts of an engine
 

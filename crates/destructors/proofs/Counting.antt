@@ -6,7 +6,7 @@ use Rattle.tree_specs.specs.Machine.Profiles.{InLoop}
 use Rattle.tree_specs.specs.declared.frame.Frame.{Frame}
 use Rattle.tree_specs.specs.declared.frame.Frame.TheVariants as frame
 use Rattle.tree_specs.specs.declared.frame.FreeFrame.{FreeFrame}
-use Rattle.tree_specs.specs.declared.frame.FreeFrame.TheVariants.{Unlinking, Releasing, Giving, Beginning, Hooked, Judged, Leaving, Looping, FreeingChild, AfterChild, Ending}
+use Rattle.tree_specs.specs.declared.frame.FreeFrame.TheVariants.{Unlinking, Releasing, Giving, Beginning, Hooked, Judged, Dooming, Leaving, Looping, FreeingChild, AfterChild, Ending}
 use Rattle.tree_specs.specs.declared.frame.Purpose.{Purpose}
 use Rattle.tree_specs.specs.declared.frame.Purpose.TheVariants.{Removal, Emptying}
 use Rattle.tree_specs.specs.declared.free_step.FreeReply.{FreeReply}
@@ -119,6 +119,7 @@ module _ (p : Pool) (fs : List Frame) where
       each (Some r) e = by_test (is_inside p.rows (Of r) (Of x)) (λ t. rw (e, t) (refers (frame.Free (Beginning x)) x r s e, refl)) (λ t. rw (e, t) (refers (frame.Free (Beginning x)) x r s e, refl))
   move-changes (Hooked x h) s = refl
   move-changes (Judged x h v) s = by_test (nat_eq v 0) (λ t. rw t (hooked-same 0 p.rows x)) (λ t. rw t (marked-same mark.Quiet p.rows x))
+  move-changes (Dooming x) s = refl
   move-changes (Leaving x h) s = (live-owner p.next (row_of p.rows x) x s.rests.0 s.rests.1 (s.valid x) s.rests.2, refl)
   move-changes (Looping x purpose) s = each (first_kid p.rows (Of x)) refl
     where
@@ -152,6 +153,7 @@ quiet-rows (Do.Done a q) fs rs s c e = c' fs e
     c' (Giving x o ∷ fs) e = subst (λ (z : OpenFrees). SameRows rs z.pool.rows) (ap (λ (z : Option FreeStep × OpenFrees). z.1) e) c
     c' (Beginning x ∷ fs) e = subst (λ (z : OpenFrees). SameRows rs z.pool.rows) (ap (λ (z : Option FreeStep × OpenFrees). z.1) e) c
     c' (Judged x h v ∷ fs) e = subst (λ (z : OpenFrees). SameRows rs z.pool.rows) (ap (λ (z : Option FreeStep × OpenFrees). z.1) e) c
+    c' (Dooming x ∷ fs) e = subst (λ (z : OpenFrees). SameRows rs z.pool.rows) (ap (λ (z : Option FreeStep × OpenFrees). z.1) e) c
     c' (Leaving x h ∷ fs) e = subst (λ (z : OpenFrees). SameRows rs z.pool.rows) (ap (λ (z : Option FreeStep × OpenFrees). z.1) e) c
     c' (Looping x purpose ∷ fs) e = subst (λ (z : OpenFrees). SameRows rs z.pool.rows) (ap (λ (z : Option FreeStep × OpenFrees). z.1) e) c
     c' (FreeingChild x d noted purpose ∷ fs) e = subst (λ (z : OpenFrees). SameRows rs z.pool.rows) (ap (λ (z : Option FreeStep × OpenFrees). z.1) e) c
@@ -182,6 +184,7 @@ told-rows (Do.Done a q) fs rs t s c e = c' fs e
     c' (Giving x o ∷ fs) e = none _ e
     c' (Beginning x ∷ fs) e = none _ e
     c' (Judged x h v ∷ fs) e = none _ e
+    c' (Dooming x ∷ fs) e = none _ e
     c' (Leaving x h ∷ fs) e = none _ e
     c' (Looping x purpose ∷ fs) e = none _ e
     c' (FreeingChild x d noted purpose ∷ fs) e = none _ e

@@ -6,7 +6,7 @@ use Rattle.tree_specs.specs.declared.frame.Frame.{Frame}
 use Rattle.tree_specs.specs.declared.frame.Frame.TheVariants as frame
 use Rattle.tree_specs.specs.declared.frame.CallFrame.{CallFrame}
 use Rattle.tree_specs.specs.declared.frame.FreeFrame.{FreeFrame}
-use Rattle.tree_specs.specs.declared.frame.FreeFrame.TheVariants.{Unlinking, Releasing, Giving, Beginning, Hooked, Judged, Leaving, Looping, AfterChild}
+use Rattle.tree_specs.specs.declared.frame.FreeFrame.TheVariants.{Unlinking, Releasing, Giving, Beginning, Hooked, Judged, Dooming, Leaving, Looping, AfterChild}
 use Rattle.tree_specs.specs.declared.frame.Purpose.{Purpose}
 use Rattle.tree_specs.specs.declared.frame.Purpose.TheVariants.{Removal, Emptying}
 use Rattle.tree_specs.specs.declared.frame.Answer.TheVariants.{Freed}
@@ -28,7 +28,7 @@ use Rattle.tree_specs.specs.Tree.Inside.{total}
 use Rattle.tree_specs.specs.Machine.Table.{FreeMove, free_step, begin_step, refs_step, unlink_step, release_step, child_step, loop_step, hand_on_step, caller_resume}
 use Rattle.tree_specs.specs.Invariants.Measure.{below_cost, loop_kids, top_cost, cost}
 use Rattle.tree_specs.specs.Invariants.Sound.{claims, IsLive, Sound}
-use Rattle.tree_specs.specs.Invariants.Consistent.{IsStacked, IsConsistent}
+use Rattle.tree_specs.specs.Invariants.Consistent.{IsConsistent}
 use Rattle.tree_specs.specs.Invariants.Sound.{MayBePlaced}
 use Rattle.tree_specs.proofs.Tree.Numbered.{by_test}
 use Rattle.tree_specs.proofs.Tree.Rows.{total-without, total-placed, total-changed}
@@ -39,10 +39,11 @@ use Rattle.tree_specs.proofs.Rules.Rest.{whole-kept}
 use Rattle.tree_links.specs.Links.{MayPlace}
 use Rattle.destructors.specs.Frees.{OpenFrees, answered, moved, moves}
 use Rattle.destructors.specs.Works.{AtWork, IsAtWork, IsAwaiting, GoesOn}
-use Rattle.destructors.specs.Callers.{standing, free_view}
+use Rattle.destructors.specs.Callers.{OpenTurn, calling, standing, free_view}
 use Rattle.destructors.specs.Moves.{IsLiveRow, MayHandOn, MoveRests}
 use Rattle.destructors.specs.Room.{mark_places, row_places, work_places, wanted}
-use Rattle.destructors.proofs.Callers.{some_callers, among, work-alone, call-alone}
+use Rattle.destructors.proofs.Callers.{some_callers, some-caller, some_standing, among, work-alone, call-alone}
+use Rattle.destructors.proofs.Parts.{some_turns}
 use Rattle.destructors.proofs.Lifting.{OnFree, OnTold, OnMove, OnCaller, lift}
 
 -- ---- what a move rests on
@@ -80,7 +81,7 @@ rests (AfterChild x c noted purpose a) fs p s = hands-on x c noted _ fs p s
 rests _ fs p s = tt
 
 pub work-rests : (f : FreeFrame) (fs : List FreeFrame) (p : Pool) → AtWork (f ∷ fs) p → MoveRests f p
-work-rests f fs p w = rests f (standing fs (some_callers fs)) p (among f fs p w).sound
+work-rests f fs p w = rests f (some_standing fs (some_turns p.rows)) p (among f fs p w).sound
 
 -- ---- what a move leads to
 
@@ -89,45 +90,45 @@ abbrev IsHost : Frame → List Frame → Pool → ℕ → Type 0
 IsHost f fs p k = IsConsistent (record { innermost = f; below = fs; pool = p })
 
 -- a move leads from works of a host to works of a host, with the callers that the frees could have
-whole-lifted : (f : FreeFrame) (fs : List FreeFrame) (p : Pool) → AtWork (f ∷ fs) p → OnMove IsHost (some_callers fs) 0 (moves (f ∷ fs) p)
-whole-lifted f fs p w = lift IsHost (some_callers fs) 0 f fs p (whole-kept (free_view f fs (some_callers fs) p) 0 (among f fs p w))
+whole-lifted : (f : FreeFrame) (fs : List FreeFrame) (p : Pool) → AtWork (f ∷ fs) p → OnMove IsHost (some_callers fs (some_turns p.rows)) (some_turns p.rows) 0 (moves (f ∷ fs) p)
+whole-lifted f fs p w =
+    let ts = some_turns p.rows in
+    lift IsHost (some_callers fs ts) ts 0 f fs p (whole-kept (free_view f fs (some_callers fs ts) ts p) 0 (among f fs p w))
 
 -- a free that is at work in a host is at work
-news : (works : List FreeFrame) (cs : List CallFrame) (p : Pool) → OnFree IsHost cs 0 works p → AtWork works p
-news [] cs p l = l
-news (g ∷ gs) cs p l = work-alone g gs cs p l
+news : (works : List FreeFrame) (cs : List CallFrame) (ts : List OpenTurn) (p : Pool) → OnFree IsHost cs ts 0 works p → AtWork works p
+news [] cs ts p l = l
+news (g ∷ gs) cs ts p l = work-alone g gs cs ts p l
 
 -- a move that tells nothing leaves a free at work
 pub kept : (f : FreeFrame) (fs : List FreeFrame) (p : Pool) (t : OpenFrees) → AtWork (f ∷ fs) p → moves (f ∷ fs) p ≡ (None, t) → IsAtWork t
-kept f fs p t w e = news t.works (some_callers fs) t.pool (subst (OnMove IsHost (some_callers fs) 0) e (whole-lifted f fs p w))
-
--- some caller waits for the innermost free
-pub callers-wait : (f : FreeFrame) (fs : List FreeFrame) (cs : List CallFrame) → IsStacked (frame.Free f) (standing fs cs) → (c : CallFrame) × (ds : List CallFrame) × (cs ≡ c ∷ ds)
-callers-wait f fs (c ∷ ds) s = (c, ds, refl)
-callers-wait f fs [] s = absurd (none f fs s)
-  where
-    none : (f : FreeFrame) (fs : List FreeFrame) → IsStacked (frame.Free f) (standing fs []) → ⊥
-    none f [] s = s
-    none f (Hooked x h ∷ fs) s = s.0
-    none f (g ∷ fs) s = none g fs s.1
+kept f fs p t w e =
+    let ts = some_turns p.rows in
+    news t.works (some_callers fs ts) ts t.pool (subst (OnMove IsHost (some_callers fs ts) ts 0) e (whole-lifted f fs p w))
 
 -- what is told says how the frees go on
 pub told-kept : (f : FreeFrame) (fs : List FreeFrame) (p : Pool) (told : FreeStep) (t : OpenFrees) → AtWork (f ∷ fs) p → moves (f ∷ fs) p ≡ (Some told, t) → GoesOn told t
-told-kept f fs p told t w e = each told (subst (OnMove IsHost (some_callers fs) 0) e (whole-lifted f fs p w))
+told-kept f fs p told t w e = each told (subst (OnMove IsHost cs ts 0) e (whole-lifted f fs p w))
   where
-    over : (a : FreeReply) (c : CallFrame) (ds : List CallFrame) → OnCaller IsHost (some_callers fs) 0 a (c ∷ ds) t.works t.pool → IsAwaiting t
-    over a c ds l = call-alone (caller_resume c (Freed a)) t.works ds t.pool l
+    ts : List OpenTurn
+    ts = some_turns p.rows
 
-    asked : (works : List FreeFrame) (x : Obj) → OnTold IsHost (some_callers fs) 0 (Ask x) works t.pool → IsAwaiting (record { works = works; pool = t.pool })
-    asked (Hooked y h ∷ gs) x l = call-alone _ (Hooked y h ∷ gs) (some_callers fs) t.pool l
+    cs : List CallFrame
+    cs = some_callers fs ts
+
+    over : (a : FreeReply) (c : CallFrame) (ds : List CallFrame) → OnCaller IsHost cs ts 0 a (c ∷ ds) t.works t.pool → IsAwaiting t
+    over a c ds l = call-alone (caller_resume c (Freed a)) t.works ds ts t.pool l
+
+    asked : (works : List FreeFrame) (x : Obj) → OnTold IsHost cs ts 0 (Ask x) works t.pool → IsAwaiting (record { works = works; pool = t.pool })
+    asked (Hooked y h ∷ gs) x l = call-alone _ (Hooked y h ∷ gs) cs ts t.pool l
     asked _ x l = absurd l
 
-    each : (told : FreeStep) → OnTold IsHost (some_callers fs) 0 told t.works t.pool → GoesOn told t
+    each : (told : FreeStep) → OnTold IsHost cs ts 0 told t.works t.pool → GoesOn told t
     each (Ask x) l = asked t.works x l
     each (Done a) l =
-        let c = callers-wait f fs (some_callers fs) (among f fs p w).seated in
-        over a c.0 c.1 (subst (λ (z : List CallFrame). OnCaller IsHost (some_callers fs) 0 a z t.works t.pool) c.2 l)
-    each _ l = news t.works (some_callers fs) t.pool l
+        let c = some-caller fs ts in
+        over a c.0 c.1 (subst (λ (z : List CallFrame). OnCaller IsHost cs ts 0 a z t.works t.pool) c.2 l)
+    each _ l = news t.works cs ts t.pool l
 
 -- ---- the measure
 
@@ -136,43 +137,51 @@ abbrev pub free_cost : ℕ → List FreeFrame → Pool → ℕ
 free_cost R [] p = 0
 free_cost R (f ∷ fs) p = cost R (frame.Free f) (map (λ g. frame.Free g) fs) p 0
 
-standing-cost : (fs : List FreeFrame) (cs : List CallFrame) → below_cost (standing fs cs) ≡ below_cost (map (λ g. frame.Free g) fs) + below_cost (map (λ c. frame.Call c) cs)
-standing-cost [] cs = omega arith
-standing-cost (Hooked x h ∷ fs) [] = let ih = standing-cost fs [] in omega (arith, ih)
-standing-cost (Hooked x h ∷ fs) (c ∷ cs) = let ih = standing-cost fs cs in omega (arith, ih)
-standing-cost (f ∷ fs) cs = let ih = standing-cost fs cs in omega (arith, ih)
+standing-cost : (fs : List FreeFrame) (cs : List CallFrame) (ts : List OpenTurn) → below_cost (standing fs cs ts) ≡ below_cost (map (λ g. frame.Free g) fs) + below_cost (calling cs ts)
+standing-cost [] cs ts = omega arith
+standing-cost (Hooked x h ∷ fs) [] ts = let ih = standing-cost fs [] ts in omega (arith, ih)
+standing-cost (Hooked x h ∷ fs) (c ∷ cs) ts = let ih = standing-cost fs cs ts in omega (arith, ih)
+standing-cost (f ∷ fs) cs ts = let ih = standing-cost fs cs ts in omega (arith, ih)
 
-standing-kids : (rows : List Row) (fs : List FreeFrame) (cs : List CallFrame) → loop_kids rows (standing fs cs) ≡ loop_kids rows (map (λ g. frame.Free g) fs)
-standing-kids rows [] [] = refl
-standing-kids rows [] (c ∷ cs) = refl
-standing-kids rows (Hooked x h ∷ fs) [] = refl
-standing-kids rows (Hooked x h ∷ fs) (c ∷ cs) = refl
-standing-kids rows (f ∷ fs) cs = refl
+standing-kids : (rows : List Row) (fs : List FreeFrame) (cs : List CallFrame) (ts : List OpenTurn) → loop_kids rows (standing fs cs ts) ≡ loop_kids rows (map (λ g. frame.Free g) fs)
+standing-kids rows [] [] [] = refl
+standing-kids rows [] [] (t ∷ ts) = refl
+standing-kids rows [] (c ∷ cs) ts = refl
+standing-kids rows (Hooked x h ∷ fs) [] ts = refl
+standing-kids rows (Hooked x h ∷ fs) (c ∷ cs) ts = refl
+standing-kids rows (f ∷ fs) cs ts = refl
 
-standing-top : (R : ℕ) (f : FreeFrame) (fs : List FreeFrame) (cs : List CallFrame) (rows : List Row) → top_cost R (frame.Free f) (standing fs cs) rows ≡ top_cost R (frame.Free f) (map (λ g. frame.Free g) fs) rows
-standing-top R (Unlinking o x) fs cs rows = let k = standing-kids rows fs cs in omega (arith, k)
-standing-top R (Releasing x) fs cs rows = let k = standing-kids rows fs cs in omega (arith, k)
-standing-top R (Giving x o) fs cs rows = let k = standing-kids rows fs cs in omega (arith, k)
-standing-top R (Beginning x) fs cs rows = let k = standing-kids rows fs cs in omega (arith, k)
-standing-top R _ fs cs rows = refl
+standing-top : (R : ℕ) (f : FreeFrame) (fs : List FreeFrame) (cs : List CallFrame) (ts : List OpenTurn) (rows : List Row) → top_cost R (frame.Free f) (standing fs cs ts) rows ≡ top_cost R (frame.Free f) (map (λ g. frame.Free g) fs) rows
+standing-top R (Unlinking o x) fs cs ts rows = let k = standing-kids rows fs cs ts in omega (arith, k)
+standing-top R (Releasing x) fs cs ts rows = let k = standing-kids rows fs cs ts in omega (arith, k)
+standing-top R (Giving x o) fs cs ts rows = let k = standing-kids rows fs cs ts in omega (arith, k)
+standing-top R (Beginning x) fs cs ts rows = let k = standing-kids rows fs cs ts in omega (arith, k)
+standing-top R (Dooming x) fs cs ts rows = let k = standing-kids rows fs cs ts in omega (arith, k)
+standing-top R _ fs cs ts rows = refl
 
 -- a move that tells nothing lowers the measure
 pub falls : (R : ℕ) (f : FreeFrame) (fs : List FreeFrame) (p : Pool) (t : OpenFrees) → AtWork (f ∷ fs) p → length p.rows ≤ R → moves (f ∷ fs) p ≡ (None, t)
     → (length t.pool.rows ≤ R) × (free_cost R t.works t.pool < free_cost R (f ∷ fs) p)
 falls R f fs p t w n e =
-    let l : OnMove Lower (some_callers fs) 0 (None, t) = subst (OnMove Lower (some_callers fs) 0) e (lift Lower (some_callers fs) 0 f fs p (lower R (frame.Free f) (standing fs (some_callers fs)) p 0 (among f fs p w).sound (omega (arith, n)))) in
+    let l : OnMove Lower cs ts 0 (None, t) = subst (OnMove Lower cs ts 0) e (lift Lower cs ts 0 f fs p (lower R (frame.Free f) (standing fs cs ts) p 0 (among f fs p w).sound (omega (arith, n)))) in
     each t.works l
   where
-    Lower : Frame → List Frame → Pool → ℕ → Type 0
-    Lower g gs q j = Room R g q j × (cost R g gs q j < cost R (frame.Free f) (standing fs (some_callers fs)) p 0)
+    ts : List OpenTurn
+    ts = some_turns p.rows
 
-    each : (works : List FreeFrame) → OnFree Lower (some_callers fs) 0 works t.pool → (length t.pool.rows ≤ R) × (free_cost R works t.pool < free_cost R (f ∷ fs) p)
+    cs : List CallFrame
+    cs = some_callers fs ts
+
+    Lower : Frame → List Frame → Pool → ℕ → Type 0
+    Lower g gs q j = Room R g q j × (cost R g gs q j < cost R (frame.Free f) (standing fs cs ts) p 0)
+
+    each : (works : List FreeFrame) → OnFree Lower cs ts 0 works t.pool → (length t.pool.rows ≤ R) × (free_cost R works t.pool < free_cost R (f ∷ fs) p)
     each [] l = absurd l
     each (g ∷ gs) l =
-        let a = standing-cost fs (some_callers fs) in
-        let b = standing-cost gs (some_callers fs) in
-        let c = standing-top R f fs (some_callers fs) p.rows in
-        let d = standing-top R g gs (some_callers fs) t.pool.rows in
+        let a = standing-cost fs cs ts in
+        let b = standing-cost gs cs ts in
+        let c = standing-top R f fs cs ts p.rows in
+        let d = standing-top R g gs cs ts t.pool.rows in
         let r = l.0 in
         let s = l.1 in
         (omega (arith, r), omega (arith, a, b, c, d, s))
@@ -272,7 +281,7 @@ wants-answered a (_ ∷ fs) q = omega arith
 pub narrow : (f : FreeFrame) (fs : List FreeFrame) (p : Pool) (o : Option FreeStep) (t : OpenFrees) → AtWork (f ∷ fs) p → moves (f ∷ fs) p ≡ (o, t)
     → wanted t.works t.pool.rows ≤ wanted (f ∷ fs) p.rows
 narrow f fs p o t w e =
-    let n = each (free_step f p) (slim f (standing fs (some_callers fs)) p (among f fs p w).sound) in
+    let n = each (free_step f p) (slim f (some_standing fs (some_turns p.rows)) p (among f fs p w).sound) in
     subst (λ (z : Option FreeStep × OpenFrees). wanted z.1.works z.1.pool.rows ≤ wanted (f ∷ fs) p.rows) e n
   where
     each : (m : FreeMove) → Slim (work_places f + total row_places p.rows) m → wanted (moved m fs).1.works (moved m fs).1.pool.rows ≤ wanted (f ∷ fs) p.rows

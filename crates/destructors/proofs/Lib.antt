@@ -1,5 +1,7 @@
 pub mod FreeMoves
 pub mod Lifting
+pub mod Paying
+pub mod Parts
 pub mod Callers
 pub mod Resting
 pub mod Keeping

@@ -2,7 +2,7 @@
 use Rattle.std.proofs.Common.{◌≡◌, nat_eq, Option, Some, None, refl, ap}
 use Rattle.step_machine.specs.Machine.{Move as Do}
 use Rattle.tree_specs.specs.declared.frame.FreeFrame.{FreeFrame}
-use Rattle.tree_specs.specs.declared.frame.FreeFrame.TheVariants.{Unlinking, Releasing, Beginning, Hooked, Judged, Looping, FreeingChild, AfterChild, Ending}
+use Rattle.tree_specs.specs.declared.frame.FreeFrame.TheVariants.{Unlinking, Releasing, Beginning, Hooked, Judged, Dooming, Looping, FreeingChild, AfterChild, Ending}
 use Rattle.tree_specs.specs.declared.frame.Purpose.{Purpose}
 use Rattle.tree_specs.specs.declared.frame.Purpose.TheVariants.{Removal, Emptying}
 use Rattle.tree_specs.specs.declared.free_step.FreeReply.{FreeReply}
@@ -19,11 +19,11 @@ use Rattle.tree_specs.proofs.Tree.Numbered.{by_test}
 use Rattle.destructors.specs.declared.motion.Outlook.TheVariants.{Ending as Over, Going, Pushing}
 use Rattle.references.specs.Rows.{SameRefs}
 use Rattle.references.proofs.Rows.{same-changed}
-use Rattle.destructors.specs.Moves.{outlook_of, entered, doomed_by, doomed, ended, MayEnter}
+use Rattle.destructors.specs.Moves.{outlook_of, entered, MayEnter}
 
 -- what a move that tells nothing does to the objects
 DoesTo : FreeFrame → Pool → FreeMove → Type 0
-DoesTo f p (Do.Done a q) = q ≡ ended f p
+DoesTo f p (Do.Done a q) = q ≡ p
 DoesTo f p (Do.Go g q) = (q ≡ entered g p) × MayEnter g p
 DoesTo f p (Do.Call g h q) = q ≡ p
 DoesTo f p _ = Unit {0}
@@ -46,13 +46,13 @@ does (Beginning x) p = each (newest_ref p.rows x)
     marks r Quiet e m = by_test (nat_eq r.hook 0)
         (λ t. rw t (refl, tt))
         (λ t. rw t (refl, (rw e refl, rw (e, m) refl)))
-    marks r Asked e m = rw (e, m) refl
-    marks r Busy e m = rw (e, m) refl
-    marks r Doomed e m = rw (e, m) refl
-    marks r (Dying former) e m = rw (e, m) refl
+    marks r Asked e m = refl
+    marks r Busy e m = tt
+    marks r Doomed e m = refl
+    marks r (Dying former) e m = refl
 
     rows : (o : Option Row) → row_of p.rows x ≡ o → DoesTo (Beginning x) p (begin_step x o p)
-    rows None e = rw e refl
+    rows None e = refl
     rows (Some r) e = marks r r.mark e refl
 
     each : (r : Option Obj) → DoesTo (Beginning x) p (refs_step x r p)
@@ -77,6 +77,7 @@ does (AfterChild x c noted purpose a) p = each a
     each : (b : FreeReply) → DoesTo (AfterChild x c noted purpose b) p (tried_step x c noted purpose b p)
     each Ok = (refl, tt)
     each b = handed b
+does (Dooming x) p = refl
 does (FreeingChild x c noted purpose) p = refl
 does (Ending a) p = refl
 does _ p = tt
@@ -85,18 +86,6 @@ does _ p = tt
 pub entered-refs : (g : FreeFrame) (p : Pool) → SameRefs p.rows (entered g p).rows
 entered-refs (Hooked x h) p = same-changed (marked_row Asked) p.rows x (λ r. refl) (λ r. refl)
 entered-refs _ p = λ r. refl
-
-pub ended-refs : (f : FreeFrame) (p : Pool) → SameRefs p.rows (ended f p).rows
-ended-refs (Beginning x) p = rows (row_of p.rows x)
-  where
-    marks : (m : Mark) → SameRefs p.rows (doomed_by x m p).rows
-    marks Busy = same-changed (marked_row Doomed) p.rows x (λ r. refl) (λ r. refl)
-    marks _ = λ r. refl
-
-    rows : (o : Option Row) → SameRefs p.rows (doomed x o p).rows
-    rows None = λ r. refl
-    rows (Some r) = marks r.mark
-ended-refs _ p = λ r. refl
 
 module _ (f : FreeFrame) (p : Pool) where
   pub goes : (g : FreeFrame) → Going g ≡ outlook_of (free_step f p) → (free_step f p ≡ Do.Go g (entered g p)) × MayEnter g p
@@ -109,11 +98,11 @@ module _ (f : FreeFrame) (p : Pool) where
           rw same (ap (λ (z : Pool). let m : FreeMove = Do.Go h z in m) d.0, d.1)
       each _ d e = cc
 
-  pub ends : (a : FreeReply) → Over a ≡ outlook_of (free_step f p) → free_step f p ≡ Do.Done a (ended f p)
+  pub ends : (a : FreeReply) → Over a ≡ outlook_of (free_step f p) → free_step f p ≡ Do.Done a p
   unfolding DoesTo
   ends a e = each (free_step f p) (does f p) e
     where
-      each : (m : FreeMove) → DoesTo f p m → Over a ≡ outlook_of m → m ≡ Do.Done a (ended f p)
+      each : (m : FreeMove) → DoesTo f p m → Over a ≡ outlook_of m → m ≡ Do.Done a p
       each (Do.Done b q) d e = cc
       each _ d e = cc
 

@@ -38,13 +38,14 @@ use Rattle.tree_specs.specs.Machine.Meaning.{noted_table, mean, stated}
 use Rattle.tree_specs.specs.Machine.Table.{FreeMove, table, notes, step, resume, free_step, free_resume, freeing_resume, event_of, lifted}
 use Rattle.tree_specs.proofs.Rules.Means.{run-means}
 use Rattle.tree_specs.proofs.Rules.MidStories.{innermost-enough}
-use Rattle.destructors.specs.Frees.{OpenFrees, answered, moved, moves, next_of, speaks, speaking, Silently, Still, On, Steps, Begins}
+use Rattle.destructors.specs.Frees.{OpenFrees, answered, moved, moves, next_of, speaking, Silently, Still, On, Steps, Begins}
 use Rattle.destructors.specs.Runs.{IsNews, listed, told_of, AwaitsHook, hook_run, told_back, Drives, Over, Tells, Runs, EndsAs}
 use Rattle.destructors.proofs.FreeMoves.{IsNoHook, AsksFor, IsMoveOf, is_move}
-use Rattle.destructors.specs.Callers.{free_view}
+use Rattle.destructors.specs.Callers.{OpenTurn, free_view}
 use Rattle.destructors.specs.Moves.{IsLiveRow}
 use Rattle.destructors.specs.Works.{MayBegin}
 use Rattle.destructors.proofs.Callers.{some_callers, among}
+use Rattle.destructors.proofs.Parts.{some_turns}
 use Rattle.destructors.proofs.Begins.{begins, may-free, may-unlink, may-empty}
 use Rattle.destructors.proofs.Settling.{still, asks-hooked}
 
@@ -301,9 +302,10 @@ begun-means : (f : FreeFrame) (below : List FreeFrame) (p : Pool) (s : OpenFrees
     → (scenes : List Scene) × (mean (stated p is) (frame.Free f) None p is ≡ Ended (Freed a) q scenes []) × (items scenes ≡ told)
 begun-means f below p s is told a q may waits started drives =
     let n : ℕ = stated p is in
+    let ts : List OpenTurn = some_turns p.rows in
     let r = begun-ends f below p s is told a q waits.sound.rests started drives in
     let w : Noted Frame CallStart = with_note None (frame.Free f) in
-    let whole : run noted_table n w p is ≢ Short = innermost-enough (free_view f below (some_callers below) p) is (among f below p (begins f (record { works = below; pool = p }) may waits)) in
+    let whole : run noted_table n w p is ≢ Short = innermost-enough (free_view f below (some_callers below ts) ts p) is (among f below p (begins f (record { works = below; pool = p }) may waits)) in
     let plain : run table n (frame.Free f) p is ≢ Short = λ short. whole (no-short item_of (run noted_table n w p is) (noted-run notes table n w p is ∙ short)) in
     let ended : run table r.0 (frame.Free f) p is ≢ Short = λ short. let bad : Ended (Freed a) q told [] ≡ Short = sym r.1 ∙ short in cc in
     let sum : n + r.0 ≡ r.0 + n = omega arith in

@@ -5,7 +5,7 @@ use Rattle.tree_specs.specs.declared.object.Owner.{Owner}
 use Rattle.tree_specs.specs.declared.row.Row.{Row}
 use Rattle.tree_specs.specs.declared.row.Mark.TheVariants.{Quiet}
 use Rattle.tree_specs.specs.declared.free_step.FreeStep.{FreeStep}
-use Rattle.tree_specs.specs.declared.free_step.FreeStep.TheVariants.{Ask, Dropped, Refused, Accepted, Left, Moved, Gone, Done}
+use Rattle.tree_specs.specs.declared.free_step.FreeStep.TheVariants.{Ask, Dropped, Refused, Accepted, Doom, Left, Moved, Gone, Done}
 use Rattle.tree_specs.specs.Tree.Pool.{of_rows, is_row, owner_of, target_at, changed, without, left_row, place}
 use Rattle.tree_links.specs.Links.{MayPlace}
 
@@ -25,6 +25,7 @@ ChangedBy (Ask x) rs rs' = SameRows rs rs'
 ChangedBy (Dropped r target) rs rs' = (target_at rs r ≡ Some target) × SameRows (without rs r) rs'
 ChangedBy (Refused x v) rs rs' = SameRows rs rs'
 ChangedBy (Accepted x) rs rs' = SameRows rs rs'
+ChangedBy (Doom x) rs rs' = SameRows rs rs'
 ChangedBy (Left x from) rs rs' = (owner_of rs x ≡ Some from) × SameRows (changed left_row rs x) rs'
 ChangedBy (Moved x from o) rs rs' = (owner_of rs x ≡ Some from) × MayPlace rs x o × SameRows (placed_rows rs o x) rs'
 ChangedBy (Gone x h) rs rs' = (owner_of rs x ≡ None) × (is_row rs x ≡ true) × SameRows (without rs x) rs'

@@ -3,7 +3,8 @@ use Rattle.std.specs.Prelude.{◌≡◌, ◌+◌, ◌≤◌, true, [], ◌∷◌
 use Rattle.tree_specs.specs.declared.frame.FreeFrame.{FreeFrame}
 use Rattle.tree_specs.specs.declared.frame.FreeFrame.TheVariants.{Hooked}
 use Rattle.tree_links.specs.Links.{Links, pool_of}
-use Rattle.destructors.specs.Frees.{before, frees_of, moves, speaking}
+use Rattle.destructors.specs.Frees.{before, frees_of, moves, speaking, Begins}
+use Rattle.destructors.specs.Changes.{SameRows}
 use Rattle.tree_specs.specs.Invariants.Alone.{FreesWait}
 use Rattle.references.specs.Pairs.{Pairs}
 use Rattle.references.specs.Rows.{AreRefsOf}
@@ -51,3 +52,15 @@ pub record IsFreeing (innermost : Option FreeFrame) (tree : Links) (pairs : Pair
   pub settled : speaking (frees_of innermost tree) ≡ true
   pub kept : AreKept innermost tree
   pub room : HasRoom innermost tree
+
+-- a free has begun with this work, before those that were open, and has come to what it tells or asks first
+pub record HasBegun (work : FreeFrame) (innermost : Option FreeFrame) (tree : Links) (pairs : Pairs) (innermost' : Option FreeFrame) (tree' : Links) (pairs' : Pairs) : Type 0 where
+  pub begins : Begins (work ∷ before innermost tree.frees) (pool_of tree) (frees_of innermost' tree')
+  pub at_work : IsAtWork (frees_of innermost' tree')
+  pub kept : AreKept innermost' tree'
+  pub room : HasRoom innermost' tree'
+  pub spare : tree.spare ≤ tree'.spare
+  pub refs : AreRefsOf pairs'.pairs tree'.rows
+  pub places : pairs.spare ≤ pairs'.spare
+  -- the rows are the same in all but marks and destructors
+  pub same : SameRows tree.rows tree'.rows

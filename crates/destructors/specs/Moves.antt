@@ -1,17 +1,15 @@
 -- What the code calls a move, and what a move rests on.
-use Rattle.std.specs.Prelude.{◌≡◌, Option, Some, None, true, false}
+use Rattle.std.specs.Prelude.{◌≡◌, Option, None, true, false}
 use Rattle.step_machine.specs.Machine.{Move as Do}
 use Rattle.tree_specs.specs.declared.object.Obj.{Obj}
 use Rattle.tree_specs.specs.declared.object.Owner.{Owner}
 use Rattle.tree_specs.specs.declared.object.Owner.TheVariants.{Of}
 use Rattle.tree_specs.specs.declared.frame.FreeFrame.{FreeFrame}
-use Rattle.tree_specs.specs.declared.frame.FreeFrame.TheVariants.{Unlinking, Releasing, Giving, Beginning, Hooked, Judged, Leaving, Looping, FreeingChild, AfterChild, Ending}
+use Rattle.tree_specs.specs.declared.frame.FreeFrame.TheVariants.{Unlinking, Releasing, Giving, Beginning, Hooked, Judged, Dooming, Leaving, Looping, FreeingChild, AfterChild, Ending}
 use Rattle.tree_specs.specs.declared.frame.Purpose.TheVariants.{Removal, Emptying}
 use Rattle.tree_specs.specs.declared.free_step.FreeStep.TheVariants.{Ask}
-use Rattle.tree_specs.specs.declared.row.Row.{Row}
-use Rattle.tree_specs.specs.declared.row.Mark.{Mark}
 use Rattle.tree_specs.specs.declared.row.Mark.TheVariants as mark
-use Rattle.tree_specs.specs.Tree.Pool.{Pool, is_row, is_below, row_of, owner_of, target_at, is_dying, set_mark}
+use Rattle.tree_specs.specs.Tree.Pool.{Pool, is_row, is_below, owner_of, target_at, is_dying, set_mark}
 use Rattle.tree_specs.specs.Tree.Heirs.{heir}
 use Rattle.tree_specs.specs.Machine.Table.{FreeMove}
 use Rattle.tree_links.specs.Links.{MayPlace}
@@ -39,7 +37,7 @@ outlook_of (Do.Call g f p) = Pushing g f
 abbrev pub IsLiveRow : Pool → Obj → Type 0
 IsLiveRow p x = (is_row p.rows x ≡ true) × (is_dying p.rows x ≡ false)
 
--- what a move that tells nothing does to the objects: one that is to be asked is marked so,
+-- what a move that tells nothing does to the objects: one that is to be asked is marked so
 abbrev pub entered : FreeFrame → Pool → Pool
 entered (Hooked x h) p = set_mark p x mark.Asked
 entered f p = p
@@ -47,19 +45,6 @@ entered f p = p
 abbrev pub MayEnter : FreeFrame → Pool → Type 0
 MayEnter (Hooked x h) p = IsLiveRow p x
 MayEnter f p = Unit {0}
-
--- and one that is to be freed while its handler runs is doomed
-abbrev pub doomed_by : Obj → Mark → Pool → Pool
-doomed_by x mark.Busy p = set_mark p x mark.Doomed
-doomed_by x m p = p
-
-abbrev pub doomed : Obj → Option Row → Pool → Pool
-doomed x None p = p
-doomed x (Some r) p = doomed_by x r.mark p
-
-abbrev pub ended : FreeFrame → Pool → Pool
-ended (Beginning x) p = doomed x (row_of p.rows x) p
-ended f p = p
 
 -- a child that is to be handed on may be put below its heir
 abbrev pub MayHandOn : Pool → Obj → Obj → Option Owner → Type 0
@@ -73,6 +58,7 @@ MoveRests (Giving x o) p = MayPlace p.rows x o
 MoveRests (Beginning x) p = Unit {0}
 MoveRests (Hooked x h) p = Unit {0}
 MoveRests (Judged x h v) p = IsLiveRow p x
+MoveRests (Dooming x) p = Unit {0}
 MoveRests (Leaving x h) p = IsLiveRow p x
 MoveRests (Looping x (Removal h)) p = (is_dying p.rows x ≡ true) × (target_at p.rows x ≡ None)
 MoveRests (Looping x Emptying) p = Unit {0}

@@ -4,7 +4,7 @@ use Rattle.tree_specs.specs.declared.row.Row.{Row}
 use Rattle.tree_specs.specs.declared.row.Mark.{Mark}
 use Rattle.tree_specs.specs.declared.row.Mark.TheVariants.{Quiet, Asked, Busy, Doomed, Dying}
 use Rattle.tree_specs.specs.declared.frame.FreeFrame.{FreeFrame}
-use Rattle.tree_specs.specs.declared.frame.FreeFrame.TheVariants.{Unlinking, Releasing, Giving, Beginning, Hooked, Judged, Leaving, Looping, FreeingChild, AfterChild, Ending}
+use Rattle.tree_specs.specs.declared.frame.FreeFrame.TheVariants.{Unlinking, Releasing, Giving, Beginning, Hooked, Judged, Dooming, Leaving, Looping, FreeingChild, AfterChild, Ending}
 use Rattle.tree_specs.specs.Tree.Inside.{total}
 
 -- a row whose freeing has still to come wants one place for its loop
@@ -26,6 +26,7 @@ work_places (Giving x o) = 0
 work_places (Beginning x) = 0
 work_places (Hooked x h) = 0
 work_places (Judged x h v) = 0
+work_places (Dooming x) = 0
 work_places (Leaving x h) = 0
 work_places (Looping x purpose) = 1
 work_places (FreeingChild x c noted purpose) = 0

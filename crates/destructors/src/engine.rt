@@ -1,4 +1,5 @@
-ghost use Rattle.std.specs.Prelude.{◌≡◌, ◌+◌, ◌≤◌, ◌<◌, length, unwrap_or};
+ghost use Rattle.std.specs.Prelude.{◌≡◌, ◌+◌, ◌≤◌, ◌<◌, Option, length, unwrap_or};
+ghost use Rattle.tree_specs.specs.declared.frame.FreeFrame.{FreeFrame as FreeFrameData};
 ghost use Rattle.tree_specs.specs.Tree.Pool.{Pool as PoolData};
 ghost use Rattle.tree_specs.specs.Machine.Table.{free_taken};
 ghost use Rattle.tree_links.specs.Links.{pool_of};
@@ -23,9 +24,6 @@ pub struct FreeEngine {
 }
 
 impl Model for FreeEngine {
-    ghost use Rattle.std.specs.Prelude.{Option};
-    ghost use Rattle.tree_specs.specs.declared.frame.FreeFrame.{FreeFrame as FreeFrameData};
-
     ghost Value = { Option FreeFrameData };
 
     ghost view = { λ engine. engine.innermost };
@@ -55,23 +53,30 @@ fn judged(work: FreeFrame, value: u32) -> FreeFrame
 }
 
 impl FreeEngine {
-    ghost use Rattle.std.specs.Prelude.{◌∷◌, true, None};
+    ghost use Rattle.std.specs.Prelude.{true, None, is_some};
     ghost use Rattle.tree_specs.specs.declared.frame.FreeFrame.TheVariants.{Unlinking, Beginning, Looping};
     ghost use Rattle.tree_specs.specs.declared.frame.Purpose.TheVariants.{Emptying};
-    ghost use Rattle.destructors.specs.Frees.{frees_of, next_of, is_event, returned, speaking, Begins, Steps};
+    ghost use Rattle.destructors.specs.Frees.{frees_of, next_of, is_event, returned, speaking, Steps};
     ghost use Rattle.destructors.specs.Works.{IsAtWork, IsAwaiting, MayBegin, GoesOn};
     ghost use Rattle.tree_specs.specs.Tree.Targets.{newest_ref};
     ghost use Rattle.tree_specs.specs.Tree.Pool.{target_at};
     ghost use Rattle.references.specs.Rows.{AreRefsOf};
     ghost use Rattle.destructors.specs.Moves.{IsLiveRow};
-    ghost use Rattle.destructors.specs.Changes.{SameRows, ChangedBy};
-    ghost use Rattle.destructors.specs.Engine.{IsAsked, AreKept, HasRoom};
+    ghost use Rattle.destructors.specs.Changes.{ChangedBy};
+    ghost use Rattle.destructors.specs.Engine.{IsAsked, AreKept, HasBegun, HasRoom};
 
     /// An engine with no open free.
     pub fn new() -> FreeEngine
         ensures { result ≡ None }
     {
         FreeEngine { innermost: None }
+    }
+
+    /// Whether a free is open.
+    pub fn is_open(&self) -> bool
+        ensures { result ≡ is_some self.now }
+    {
+        self.innermost.is_some()
     }
 
     /// Puts the first work of a free before those of the open ones.
@@ -81,14 +86,7 @@ impl FreeEngine {
         requires first { MayBegin work (pool_of tree.old) }
         requires room { length tree.old.rows + 2 ≤ tree.old.room }
         requires refs { AreRefsOf refs.old.pairs tree.old.rows }
-        ensures begins { Begins (work ∷ before self.old tree.old.frees) (pool_of tree.old) (frees_of self.new tree.new) }
-        ensures at_work { IsAtWork (frees_of self.new tree.new) }
-        ensures kept { AreKept self.new tree.new }
-        ensures room { HasRoom self.new tree.new }
-        ensures spare { tree.old.spare ≤ tree.new.spare }
-        ensures refs { AreRefsOf refs.new.pairs tree.new.rows }
-        ensures places { refs.old.spare ≤ refs.new.spare }
-        ensures same { SameRows tree.old.rows tree.new.rows }
+        ensures { HasBegun work self.old tree.old refs.old self.new tree.new refs.new }
     {
         wait(self.innermost, tree);
         self.innermost = settle(Some(work), tree, refs);
@@ -103,14 +101,7 @@ impl FreeEngine {
         requires unheld { newest_ref tree.old.rows x ≡ None }
         requires room { length tree.old.rows + 2 ≤ tree.old.room }
         requires refs { AreRefsOf refs.old.pairs tree.old.rows }
-        ensures begins { Begins (Beginning x ∷ before self.old tree.old.frees) (pool_of tree.old) (frees_of self.new tree.new) }
-        ensures at_work { IsAtWork (frees_of self.new tree.new) }
-        ensures kept { AreKept self.new tree.new }
-        ensures room { HasRoom self.new tree.new }
-        ensures spare { tree.old.spare ≤ tree.new.spare }
-        ensures refs { AreRefsOf refs.new.pairs tree.new.rows }
-        ensures places { refs.old.spare ≤ refs.new.spare }
-        ensures same { SameRows tree.old.rows tree.new.rows }
+        ensures { HasBegun (Beginning x) self.old tree.old refs.old self.new tree.new refs.new }
     {
         self.begin(tree, refs, FreeFrame::Beginning { x });
     }
@@ -124,14 +115,7 @@ impl FreeEngine {
         requires object { target_at tree.old.rows x ≡ None }
         requires room { length tree.old.rows + 2 ≤ tree.old.room }
         requires refs { AreRefsOf refs.old.pairs tree.old.rows }
-        ensures begins { Begins (Unlinking owner x ∷ before self.old tree.old.frees) (pool_of tree.old) (frees_of self.new tree.new) }
-        ensures at_work { IsAtWork (frees_of self.new tree.new) }
-        ensures kept { AreKept self.new tree.new }
-        ensures room { HasRoom self.new tree.new }
-        ensures spare { tree.old.spare ≤ tree.new.spare }
-        ensures refs { AreRefsOf refs.new.pairs tree.new.rows }
-        ensures places { refs.old.spare ≤ refs.new.spare }
-        ensures same { SameRows tree.old.rows tree.new.rows }
+        ensures { HasBegun (Unlinking owner x) self.old tree.old refs.old self.new tree.new refs.new }
     {
         self.begin(tree, refs, FreeFrame::Unlinking { owner, x });
     }
@@ -142,14 +126,7 @@ impl FreeEngine {
         requires kept { AreKept self.old tree.old }
         requires room { length tree.old.rows + 2 ≤ tree.old.room }
         requires refs { AreRefsOf refs.old.pairs tree.old.rows }
-        ensures begins { Begins (Looping x Emptying ∷ before self.old tree.old.frees) (pool_of tree.old) (frees_of self.new tree.new) }
-        ensures at_work { IsAtWork (frees_of self.new tree.new) }
-        ensures kept { AreKept self.new tree.new }
-        ensures room { HasRoom self.new tree.new }
-        ensures spare { tree.old.spare ≤ tree.new.spare }
-        ensures refs { AreRefsOf refs.new.pairs tree.new.rows }
-        ensures places { refs.old.spare ≤ refs.new.spare }
-        ensures same { SameRows tree.old.rows tree.new.rows }
+        ensures { HasBegun (Looping x Emptying) self.old tree.old refs.old self.new tree.new refs.new }
     {
         let purpose = Purpose::Emptying;
         self.begin(tree, refs, FreeFrame::Looping { x, purpose });
@@ -183,6 +160,7 @@ impl FreeEngine {
         };
         match work {
             FreeFrame::Hooked { .. }
+            | FreeFrame::Dooming { .. }
             | FreeFrame::Leaving { .. }
             | FreeFrame::FreeingChild { .. }
             | FreeFrame::Ending { .. } => false,

@@ -36,7 +36,7 @@ fn begin(x: Obj, tree: &mut Tree) -> Motion
         Mark::Asked | Mark::Doomed => Motion::Ends(FreeReply::Running),
         Mark::Busy => {
             tree.set_mark(x, Mark::Doomed);
-            Motion::Ends(FreeReply::Running)
+            Motion::Tells(FreeStep::Doom(x), FreeFrame::Dooming { x })
         }
         Mark::Dying(_) => Motion::Ends(FreeReply::Ok),
     }
@@ -217,6 +217,7 @@ pub fn move_once(work: FreeFrame, tree: &mut Tree, refs: &mut Refs) -> Motion
         FreeFrame::Beginning { x } => begin_free(x, tree, refs),
         FreeFrame::Hooked { x, .. } => Motion::Asks(x, work),
         FreeFrame::Judged { x, hook, value } => judge(x, hook, value, tree),
+        FreeFrame::Dooming { .. } => Motion::Ends(FreeReply::Running),
         FreeFrame::Leaving { x, hook } => leave(x, hook, tree),
         FreeFrame::Looping { x, purpose } => look(x, purpose, tree, refs),
         FreeFrame::FreeingChild { .. } => Motion::Ends(FreeReply::Ok),
@@ -252,7 +253,8 @@ fn outlook_of_begin(x: Obj, tree: &Tree, refs: &Refs) -> Outlook
     match row.mark {
         Mark::Quiet if hook == 0 => Outlook::Going(FreeFrame::Leaving { x, hook }),
         Mark::Quiet => Outlook::Going(FreeFrame::Hooked { x, hook }),
-        Mark::Asked | Mark::Busy | Mark::Doomed => Outlook::Ending(FreeReply::Running),
+        Mark::Asked | Mark::Doomed => Outlook::Ending(FreeReply::Running),
+        Mark::Busy => Outlook::Telling,
         Mark::Dying(_) => Outlook::Ending(FreeReply::Ok),
     }
 }
@@ -351,6 +353,7 @@ pub fn outlook(work: FreeFrame, tree: &Tree, refs: &Refs) -> Outlook
             purpose,
             ..
         } => outlook_of_heir(x, child, noted, purpose, tree),
+        FreeFrame::Dooming { .. } => Outlook::Ending(FreeReply::Running),
         FreeFrame::FreeingChild { .. } => Outlook::Ending(FreeReply::Ok),
         FreeFrame::Ending { answer } => Outlook::Ending(answer),
     }

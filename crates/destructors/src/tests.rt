@@ -1,6 +1,6 @@
 ghost use Rattle.std.specs.Prelude.{◌≡◌, not, ◌&&◌, OnOk, true};
 ghost use Rattle.tree_specs.specs.Calls.Refusals.{is_plain_row};
-ghost use Rattle.tree_specs.specs.Tree.Pool.{is_row, is_dying, row_of};
+ghost use Rattle.tree_specs.specs.Tree.Pool.{is_dying, row_of};
 ghost use Rattle.references.specs.Rows.{AreRefsOf};
 ghost use Rattle.destructors.specs.Frees.{frees_of};
 ghost use Rattle.destructors.specs.Works.{IsAwaiting};
@@ -16,22 +16,12 @@ use tree_specs::{FreeReply, FreeStep, Kind, Mark, Name, Obj, Owner};
 
 mod steps;
 
-// Whether it is an object that has not left its owner.
-fn is_live(tree: &Tree, x: Obj) -> bool
-    ensures { result ≡ (is_row tree.now.rows x && not (is_dying tree.now.rows x)) }
+// Whether it is a plain object that has not left its owner.
+fn may_have_hook(tree: &Tree, x: Obj) -> bool
+    ensures { result ≡ (is_plain_row (row_of tree.now.rows x) && not (is_dying tree.now.rows x)) }
 {
     match tree.row(x) {
-        Some(row) => !matches!(row.mark, Mark::Dying(_)),
-        None => false,
-    }
-}
-
-// Whether it is a plain object.
-fn is_plain(tree: &Tree, x: Obj) -> bool
-    ensures { result ≡ is_plain_row (row_of tree.now.rows x) }
-{
-    match tree.row(x) {
-        Some(row) => matches!(row.kind, Kind::Plain),
+        Some(row) => matches!(row.kind, Kind::Plain) && !matches!(row.mark, Mark::Dying(_)),
         None => false,
     }
 }
@@ -77,8 +67,7 @@ impl World {
         requires { IsAtRest self.old.tree self.old.refs }
         ensures { IsAtRest self.new.tree self.new.refs }
     {
-        assert!(rt; is_live(&self.tree, x));
-        assert!(rt; is_plain(&self.tree, x));
+        assert!(rt; may_have_hook(&self.tree, x));
         self.tree.set_hook(x, 16);
     }
 
@@ -112,6 +101,7 @@ impl World {
             FreeStep::Dropped { .. } => told,
             FreeStep::Refused { .. } => told,
             FreeStep::Accepted(_) => told,
+            FreeStep::Doom(_) => told,
             FreeStep::Left { .. } => told,
             FreeStep::Moved { .. } => told,
             FreeStep::Gone { .. } => told,

@@ -5,7 +5,7 @@ ghost use Rattle.step_machine.specs.Machine.{Move as Do};
 ghost use Rattle.tree_specs.specs.Machine.Table.{free_resume, free_step};
 ghost use Rattle.tree_links.specs.Links.{pool_of, works_of};
 ghost use Rattle.references.specs.Rows.{AreRefsOf, SameRefs};
-ghost use Rattle.destructors.specs.Moves.{MoveRests, MayEnter, entered, ended};
+ghost use Rattle.destructors.specs.Moves.{MoveRests, MayEnter, entered};
 ghost use Rattle.destructors.specs.Frees.{answered, frees_of, moves as moves_of, speaking, Silently};
 ghost use Rattle.destructors.specs.Works.{IsAtWork};
 ghost use Rattle.destructors.specs.Engine.{AreKept, HasRoom, MovesQuietly, IsBetweenCalls};
@@ -118,28 +118,11 @@ fn enter(next: FreeFrame, tree: &mut Tree)
     }
 }
 
-/// An object that is to be freed while its handler runs is doomed.
-fn doom(work: FreeFrame, tree: &mut Tree)
-    ensures rows { pool_of tree.new ≡ ended work (pool_of tree.old) }
-    ensures works { works_of tree.new ≡ works_of tree.old }
-    ensures spare { tree.old.spare ≤ tree.new.spare }
-{
-    let FreeFrame::Beginning { x } = work else {
-        return;
-    };
-    let Some(row) = tree.row(x) else {
-        return;
-    };
-    if matches!(row.mark, Mark::Busy) {
-        tree.set_mark(x, Mark::Doomed);
-    }
-}
-
 /// A work ends, and the free that waits for it goes on. None where none waits but for the run of a destructor: then the
 /// free is over, which is told, and nothing is done.
-fn end_quietly(work: FreeFrame, answer: FreeReply, tree: &mut Tree) -> Option<FreeFrame>
-    requires { free_step work (pool_of tree.old) ≡ Do.Done answer (ended work (pool_of tree.old)) }
-    ensures moved { MovesQuietly work tree.old result tree.new }
+fn end_quietly(_work: FreeFrame, answer: FreeReply, tree: &mut Tree) -> Option<FreeFrame>
+    requires { free_step _work (pool_of tree.old) ≡ Do.Done answer (pool_of tree.old) }
+    ensures moved { MovesQuietly _work tree.old result tree.new }
     ensures spare { tree.old.spare ≤ tree.new.spare }
     ensures room { length tree.old.frees + tree.old.room ≤ length tree.new.frees + tree.new.room }
     ensures same_refs { SameRefs tree.old.rows tree.new.rows }
@@ -148,7 +131,6 @@ fn end_quietly(work: FreeFrame, answer: FreeReply, tree: &mut Tree) -> Option<Fr
     if matches!(waiting, FreeFrame::Hooked { .. }) {
         return None;
     }
-    doom(work, tree);
     tree.pop_free();
     Some(resumed(waiting, answer))
 }

@@ -20,7 +20,7 @@ use Rattle.tree_specs.specs.Machine.Table.{FreeMove, table, step, free_step, lif
 use Rattle.tree_specs.specs.Machine.View.{View}
 use Rattle.tree_specs.specs.Invariants.Consistent.{IsConsistent}
 use Rattle.destructors.specs.Frees.{OpenFrees, answered, moved as free_moved, moves, is_event, Silently, Still, On}
-use Rattle.destructors.specs.Callers.{standing, free_view}
+use Rattle.destructors.specs.Callers.{OpenTurn, standing, free_view}
 use Rattle.destructors.proofs.FreeMoves.{AsksFor, IsMoveOf, is_move}
 use Rattle.destructors.proofs.Lifting.{OnFree, OnMove, lift}
 use Rattle.host_core.specs.declared.active.Active.TheVariants as active
@@ -45,8 +45,8 @@ leads-comes v = each (step v.innermost v.pool) v.below refl refl
     each (Do.Call g f p) fs e d = rw (e, d) refl
 
 -- the move of the open frees leads where the step of the host leads
-pub comes : (f : FreeFrame) (fs : List FreeFrame) (cs : List CallFrame) (p : Pool) → OnMove (Comes (free_view f fs cs p)) cs 0 (moves (f ∷ fs) p)
-comes f fs cs p = lift (Comes (free_view f fs cs p)) cs 0 f fs p (leads-comes (free_view f fs cs p))
+pub comes : (f : FreeFrame) (fs : List FreeFrame) (cs : List CallFrame) (ts : List OpenTurn) (p : Pool) → OnMove (Comes (free_view f fs cs ts p)) cs ts 0 (moves (f ∷ fs) p)
+comes f fs cs ts p = lift (Comes (free_view f fs cs ts p)) cs ts 0 f fs p (leads-comes (free_view f fs cs ts p))
 
 -- ---- what a step tells
 
@@ -82,12 +82,12 @@ told-events f p (Do.Wait t g q) fs below of = asked t f of.2
 told-events f p (Do.Call g h q) fs below of = refl
 
 -- the host tells what the move of the open frees tells
-pub tells : (f : FreeFrame) (fs : List FreeFrame) (cs : List CallFrame) (p : Pool) → (next_of (free_view f fs cs p)).0 ≡ events (moves (f ∷ fs) p).0
-tells f fs cs p = told-events f p (free_step f p) fs (standing fs cs) (is_move f p)
+pub tells : (f : FreeFrame) (fs : List FreeFrame) (cs : List CallFrame) (ts : List OpenTurn) (p : Pool) → (next_of (free_view f fs cs ts p)).0 ≡ events (moves (f ∷ fs) p).0
+tells f fs cs ts p = told-events f p (free_step f p) fs (standing fs cs ts) (is_move f p)
 
 -- the step of a free speaks where it tells an event
-pub speaks-events : (f : FreeFrame) (fs : List FreeFrame) (cs : List CallFrame) (p : Pool) → speaking_view (free_view f fs cs p) ≡ is_event (moves (f ∷ fs) p).0
-speaks-events f fs cs p = each (free_step f p) (is_move f p)
+pub speaks-events : (f : FreeFrame) (fs : List FreeFrame) (cs : List CallFrame) (ts : List OpenTurn) (p : Pool) → speaking_view (free_view f fs cs ts p) ≡ is_event (moves (f ∷ fs) p).0
+speaks-events f fs cs ts p = each (free_step f p) (is_move f p)
   where
     over : (a : FreeReply) (q : Pool) (fs : List FreeFrame) → false ≡ is_event (answered a q fs).0
     over a q [] = refl
@@ -111,26 +111,26 @@ speaks-events f fs cs p = each (free_step f p) (is_move f p)
 
 -- ---- moves that tell nothing
 
-pub seen-free : (v : View) (works : List FreeFrame) (cs : List CallFrame) (p : Pool) → OnFree (Comes v) cs 0 works p → (next_of v).1 ≡ seen active.Freeing works cs p
-seen-free v [] cs p c = absurd c
-seen-free v (g ∷ gs) cs p c = c
+pub seen-free : (v : View) (works : List FreeFrame) (cs : List CallFrame) (ts : List OpenTurn) (p : Pool) → OnFree (Comes v) cs ts 0 works p → (next_of v).1 ≡ seen active.Freeing works cs ts p
+seen-free v [] cs ts p c = absurd c
+seen-free v (g ∷ gs) cs ts p c = c
 
-pub free-onward : (f : FreeFrame) (fs : List FreeFrame) (cs : List CallFrame) (p : Pool) (t : OpenFrees) → IsConsistent (free_view f fs cs p) → moves (f ∷ fs) p ≡ (None, t)
-    → StepsSilently (free_view f fs cs p) (seen active.Freeing t.works cs t.pool)
-free-onward f fs cs p t h m =
-    let v : View = free_view f fs cs p in
-    let c : OnMove (Comes v) cs 0 (None, t) = subst (OnMove (Comes v) cs 0) m (comes f fs cs p) in
-    onward v (seen active.Freeing t.works cs t.pool) h (speaks-events f fs cs p ∙ ap (λ (z : Option FreeStep × OpenFrees). is_event z.0) m) (seen-free v t.works cs t.pool c)
+pub free-onward : (f : FreeFrame) (fs : List FreeFrame) (cs : List CallFrame) (ts : List OpenTurn) (p : Pool) (t : OpenFrees) → IsConsistent (free_view f fs cs ts p) → moves (f ∷ fs) p ≡ (None, t)
+    → StepsSilently (free_view f fs cs ts p) (seen active.Freeing t.works cs ts t.pool)
+free-onward f fs cs ts p t h m =
+    let v : View = free_view f fs cs ts p in
+    let c : OnMove (Comes v) cs ts 0 (None, t) = subst (OnMove (Comes v) cs ts 0) m (comes f fs cs ts p) in
+    onward v (seen active.Freeing t.works cs ts t.pool) h (speaks-events f fs cs ts p ∙ ap (λ (z : Option FreeStep × OpenFrees). is_event z.0) m) (seen-free v t.works cs ts t.pool c)
 
 -- moves that tell nothing lead from one view to another
-pub silently-along : (s t : OpenFrees) (cs : List CallFrame) → Silently s t → IsConsistent (seen active.Freeing s.works cs s.pool) → TellsSameStory (seen active.Freeing s.works cs s.pool) (seen active.Freeing t.works cs t.pool)
-silently-along s _ cs Still h = stays (seen active.Freeing s.works cs s.pool) h
-silently-along s t cs (On u _ earlier last) h =
-    let a : TellsSameStory (seen active.Freeing s.works cs s.pool) (seen active.Freeing u.works cs u.pool) = silently-along s u cs earlier h in
+pub silently-along : (s t : OpenFrees) (cs : List CallFrame) (ts : List OpenTurn) → Silently s t → IsConsistent (seen active.Freeing s.works cs ts s.pool) → TellsSameStory (seen active.Freeing s.works cs ts s.pool) (seen active.Freeing t.works cs ts t.pool)
+silently-along s _ cs ts Still h = stays (seen active.Freeing s.works cs ts s.pool) h
+silently-along s t cs ts (On u _ earlier last) h =
+    let a : TellsSameStory (seen active.Freeing s.works cs ts s.pool) (seen active.Freeing u.works cs ts u.pool) = silently-along s u cs ts earlier h in
     along-then _ _ _ a (each u.works a.whole last)
   where
-    each : (works : List FreeFrame) → IsConsistent (seen active.Freeing works cs u.pool) → moves works u.pool ≡ (None, t) → TellsSameStory (seen active.Freeing works cs u.pool) (seen active.Freeing t.works cs t.pool)
+    each : (works : List FreeFrame) → IsConsistent (seen active.Freeing works cs ts u.pool) → moves works u.pool ≡ (None, t) → TellsSameStory (seen active.Freeing works cs ts u.pool) (seen active.Freeing t.works cs ts t.pool)
     each [] w m =
         let e : (let o : OpenFrees = record { works = []; pool = u.pool } in o) ≡ t = ap (λ (z : Option FreeStep × OpenFrees). z.1) m in
-        subst (λ (z : OpenFrees). TellsSameStory (seen active.Freeing [] cs u.pool) (seen active.Freeing z.works cs z.pool)) e (stays (seen active.Freeing [] cs u.pool) w)
-    each (f ∷ fs) w m = (free-onward f fs cs u.pool t w m).along
+        subst (λ (z : OpenFrees). TellsSameStory (seen active.Freeing [] cs ts u.pool) (seen active.Freeing z.works cs ts z.pool)) e (stays (seen active.Freeing [] cs ts u.pool) w)
+    each (f ∷ fs) w m = (free-onward f fs cs ts u.pool t w m).along

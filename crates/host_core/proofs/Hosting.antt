@@ -1,16 +1,18 @@
 -- What the steps of a host leave ready.
-use Rattle.std.proofs.Common.{◌≡◌, ℕ, List, [], ◌∷◌, ◌++◌, Option, Some, None, false, refl, sym, ◌∙◌, ap, subst}
+use Rattle.std.proofs.Common.{◌≡◌, ◌⊎◌, inl, inr, ℕ, List, [], ◌∷◌, ◌++◌, Option, Some, None, true, false, refl, sym, ◌∙◌, ap, subst}
 use Rattle.std.specs.Prelude.{map, is_some, slice_get}
 use Rattle.std.proofs.lemmas.List.{reverse-append}
 use Rattle.tree_specs.specs.declared.event.Event.{Event}
 use Rattle.tree_specs.specs.declared.question.Ask.{Ask}
-use Rattle.tree_specs.specs.declared.question.Ask.TheVariants.{Routine}
+use Rattle.tree_specs.specs.declared.question.Ask.TheVariants.{Quiet, Routine}
 use Rattle.tree_specs.specs.declared.frame.Frame.{Frame}
 use Rattle.tree_specs.specs.declared.frame.Frame.TheVariants as frame
 use Rattle.tree_specs.specs.declared.frame.CallFrame.{CallFrame}
 use Rattle.tree_specs.specs.declared.frame.CallFrame.TheVariants.{Asking, Awaiting, Returning}
 use Rattle.tree_specs.specs.declared.frame.FreeFrame.{FreeFrame}
 use Rattle.tree_specs.specs.declared.frame.FreeFrame.TheVariants.{Unlinking, Beginning, Hooked}
+use Rattle.tree_specs.specs.declared.frame.TurnFrame.{TurnFrame}
+use Rattle.tree_specs.specs.declared.frame.TurnFrame.TheVariants.{Closing}
 use Rattle.tree_specs.specs.declared.frame.Answer.TheVariants.{Freed}
 use Rattle.tree_specs.specs.declared.free_step.FreeReply.{FreeReply}
 use Rattle.tree_specs.specs.declared.free_step.FreeStep.{FreeStep}
@@ -27,18 +29,19 @@ use Rattle.tree_specs.specs.Invariants.Consistent.{IsStacked, Serves, IsConsiste
 use Rattle.destructors.specs.Frees.{OpenFrees, moves, is_event, Begins, Steps}
 use Rattle.destructors.specs.Works.{IsAtWork, IsAwaiting, GoesOn}
 use Rattle.destructors.proofs.Callers.{on-caller}
-use Rattle.destructors.specs.Callers.{under, free_view, call_view}
+use Rattle.destructors.specs.Callers.{OpenTurn, standing, under, free_view, call_view}
 use Rattle.destructors.specs.Moves.{IsLiveRow}
 use Rattle.destructors.specs.Engine.{IsAsked}
 use Rattle.destructors.specs.Runs.{IsNews}
-use Rattle.destructors.proofs.Keeping.{callers-wait, live-row}
+use Rattle.destructors.proofs.Keeping.{live-row}
 use Rattle.object_pool.specs.Objects.{Objects, frees_in}
 use Rattle.host_core.specs.declared.active.Active.TheVariants as active
 use Rattle.host_core.specs.declared.caller.Waiting.{Waiting}
+use Rattle.host_core.specs.Turns.{turns_of, turn_view}
 use Rattle.host_core.specs.Hosts.{seen, view_of, stack_of, awaiting, speaking_view, BetweenSteps, TellsSameStory, StepsSilently}
 use Rattle.host_core.proofs.StepsSilently.{AfterEvent}
 use Rattle.host_core.proofs.FreeSteps.{speaks-events, silently-along}
-use Rattle.host_core.proofs.CallSteps.{news-onward, news-event, ask-onward, done-onward}
+use Rattle.host_core.proofs.CallSteps.{news-onward, news-event, ask-onward, done-onward, over-onward}
 
 -- ---- a step of the innermost free
 
@@ -56,23 +59,23 @@ no-event : (o : Option Event) → is_some o ≡ false → o ≡ None
 no-event None e = refl
 no-event (Some e) q = cc
 
-pub step-news : (works : List FreeFrame) (cs : List CallFrame) (p : Pool) (t : FreeStep) (new : OpenFrees) → IsConsistent (seen active.Freeing works cs p) → speaking_view (seen active.Freeing works cs p) ≡ false
-    → Steps (record { works = works; pool = p }) t new → IsNews t → StepsSilently (seen active.Freeing works cs p) (seen active.Freeing new.works cs new.pool)
-step-news [] cs p t new h quiet s n = tells-nothing p t new s
-step-news (f ∷ fs) cs p t new h quiet s n =
+pub step-news : (works : List FreeFrame) (cs : List CallFrame) (ts : List OpenTurn) (p : Pool) (t : FreeStep) (new : OpenFrees) → IsConsistent (seen active.Freeing works cs ts p) → speaking_view (seen active.Freeing works cs ts p) ≡ false
+    → Steps (record { works = works; pool = p }) t new → IsNews t → StepsSilently (seen active.Freeing works cs ts p) (seen active.Freeing new.works cs ts new.pool)
+step-news [] cs ts p t new h quiet s n = tells-nothing p t new s
+step-news (f ∷ fs) cs ts p t new h quiet s n =
     let m = told-by (f ∷ fs) p t new s in
-    let silent : is_some (event_of t) ≡ false = ap is_event (sym s.tells) ∙ sym (speaks-events f fs cs p) ∙ quiet in
-    news-onward f fs cs p t (moves (f ∷ fs) p).1 new h m (no-event (event_of t) silent) n s.moves_on
+    let silent : is_some (event_of t) ≡ false = ap is_event (sym s.tells) ∙ sym (speaks-events f fs cs ts p) ∙ quiet in
+    news-onward f fs cs ts p t (moves (f ∷ fs) p).1 new h m (no-event (event_of t) silent) n s.moves_on
 
-pub step-event : (works : List FreeFrame) (cs : List CallFrame) (p : Pool) (t : FreeStep) (e : Event) (new : OpenFrees) → IsConsistent (seen active.Freeing works cs p) → Steps (record { works = works; pool = p }) t new → event_of t ≡ Some e → IsNews t
-    → AfterEvent (seen active.Freeing works cs p) (seen active.Freeing new.works cs new.pool) e
-step-event [] cs p t e new h s loud n = tells-nothing p t new s
-step-event (f ∷ fs) cs p t e new h s loud n = news-event f fs cs p t e (moves (f ∷ fs) p).1 new h (told-by (f ∷ fs) p t new s) loud n s.moves_on
+pub step-event : (works : List FreeFrame) (cs : List CallFrame) (ts : List OpenTurn) (p : Pool) (t : FreeStep) (e : Event) (new : OpenFrees) → IsConsistent (seen active.Freeing works cs ts p) → Steps (record { works = works; pool = p }) t new → event_of t ≡ Some e → IsNews t
+    → AfterEvent (seen active.Freeing works cs ts p) (seen active.Freeing new.works cs ts new.pool) e
+step-event [] cs ts p t e new h s loud n = tells-nothing p t new s
+step-event (f ∷ fs) cs ts p t e new h s loud n = news-event f fs cs ts p t e (moves (f ∷ fs) p).1 new h (told-by (f ∷ fs) p t new s) loud n s.moves_on
 
-pub step-ask : (works : List FreeFrame) (cs : List CallFrame) (p : Pool) (x : Obj) (new : OpenFrees) → IsConsistent (seen active.Freeing works cs p) → Steps (record { works = works; pool = p }) (AskOf x) new
-    → (h : ℕ) × HasHook (row_of new.pool.rows x) h × StepsSilently (seen active.Freeing works cs p) (call_view (Asking (Routine (hook_moment x h))) new.works cs new.pool)
-step-ask [] cs p x new h s = tells-nothing p (AskOf x) new s
-step-ask (f ∷ fs) cs p x new h s = ask-onward f fs cs p x (moves (f ∷ fs) p).1 new h (told-by (f ∷ fs) p (AskOf x) new s) s.moves_on
+pub step-ask : (works : List FreeFrame) (cs : List CallFrame) (ts : List OpenTurn) (p : Pool) (x : Obj) (new : OpenFrees) → IsConsistent (seen active.Freeing works cs ts p) → Steps (record { works = works; pool = p }) (AskOf x) new
+    → (h : ℕ) × HasHook (row_of new.pool.rows x) h × StepsSilently (seen active.Freeing works cs ts p) (call_view (Asking (Routine (hook_moment x h))) new.works cs ts new.pool)
+step-ask [] cs ts p x new h s = tells-nothing p (AskOf x) new s
+step-ask (f ∷ fs) cs ts p x new h s = ask-onward f fs cs ts p x (moves (f ∷ fs) p).1 new h (told-by (f ∷ fs) p (AskOf x) new s) s.moves_on
 
 -- ---- callers that wait, as frames
 
@@ -86,25 +89,34 @@ pub stacked : (old new : List Waiting) (w : Waiting) → new ≡ old ++ w ∷ []
 stacked old new w e = ap stack_of e ∙ ap (map awaiting) (reverse-append old (w ∷ []))
 
 -- a free that is over, and the caller that has waited for it
-pub record Over (works : List FreeFrame) (cs : List CallFrame) (p : Pool) (a : FreeReply) (new : OpenFrees) : Type 0 where
+pub record Over (works : List FreeFrame) (cs : List CallFrame) (ts : List OpenTurn) (p : Pool) (a : FreeReply) (new : OpenFrees) : Type 0 where
   pub caller : CallFrame
   pub callers : List CallFrame
   pub waited : cs ≡ caller ∷ callers
-  pub onward : StepsSilently (seen active.Freeing works cs p) (call_view (caller_resume caller (Freed a)) new.works callers new.pool)
+  pub onward : StepsSilently (seen active.Freeing works cs ts p) (call_view (caller_resume caller (Freed a)) new.works callers ts new.pool)
 
-pub step-done : (works : List FreeFrame) (cs : List CallFrame) (p : Pool) (a : FreeReply) (new : OpenFrees) → IsConsistent (seen active.Freeing works cs p) → Steps (record { works = works; pool = p }) (Done a) new → Over works cs p a new
-step-done [] cs p a new h s = tells-nothing p (Done a) new s
-step-done (f ∷ fs) cs p a new h s =
-    let w = callers-wait f fs cs h.seated in
-    let e : cs ≡ w.0 ∷ w.1 = w.2 in
-    let h' : IsConsistent (free_view f fs (w.0 ∷ w.1) p) = subst (λ (z : List CallFrame). IsConsistent (free_view f fs z p)) e h in
-    let o = done-onward f fs w.0 w.1 p a (moves (f ∷ fs) p).1 new h' (told-by (f ∷ fs) p (Done a) new s) s.moves_on in
-    record {
-      caller = w.0;
-      callers = w.1;
-      waited = e;
-      onward = subst (λ (z : List CallFrame). StepsSilently (free_view f fs z p) (call_view (caller_resume w.0 (Freed a)) new.works w.1 new.pool)) (sym e) o;
-    }
+-- or the turn that has waited for it, which is over
+pub record TurnOver (works : List FreeFrame) (cs : List CallFrame) (turn : Option TurnFrame) (p : Pool) (new : OpenFrees) : Type 0 where
+  pub alone : cs ≡ []
+  pub frees : new.works ≡ []
+  pub onward : StepsSilently (seen active.Freeing works cs (turns_of turn) p) (turn_view (Closing 1) Quiet new.works [] [] new.pool)
+
+-- a free stands on a call, or on a turn
+no-bottom : (f : FreeFrame) (fs : List FreeFrame) → IsStacked (frame.Free f) (standing fs [] []) → ⊥
+no-bottom f [] s = s
+no-bottom f (Hooked x h ∷ fs) s = s.0
+no-bottom f (g ∷ fs) s = no-bottom g fs s.1
+
+pub step-done : (works : List FreeFrame) (cs : List CallFrame) (turn : Option TurnFrame) (p : Pool) (a : FreeReply) (new : OpenFrees) → IsConsistent (seen active.Freeing works cs (turns_of turn) p) → Steps (record { works = works; pool = p }) (Done a) new
+    → Over works cs (turns_of turn) p a new ⊎ TurnOver works cs turn p new
+step-done [] cs turn p a new h s = tells-nothing p (Done a) new s
+step-done (f ∷ fs) (c ∷ ds) turn p a new h s =
+    inl (record { caller = c; callers = ds; waited = refl; onward = done-onward f fs c ds (turns_of turn) p a (moves (f ∷ fs) p).1 new h (told-by (f ∷ fs) p (Done a) new s) s.moves_on })
+step-done (f ∷ fs) [] None p a new h s = absurd (no-bottom f fs h.seated)
+step-done (f ∷ fs) [] (Some g) p a new h s =
+    let t : OpenTurn = record { turn = g; ask = Quiet } in
+    let o = over-onward f fs t [] p a (moves (f ∷ fs) p).1 new h (told-by (f ∷ fs) p (Done a) new s) s.moves_on in
+    inr (record { alone = refl; frees = o.0; onward = rw o.0 o.1 })
 
 -- news leaves the innermost free at work
 pub news-work : (t : FreeStep) (s : OpenFrees) → IsNews t → GoesOn t s → IsAtWork s
@@ -121,46 +133,38 @@ other-news _ ask done = tt
 -- ---- a routine that has returned
 
 -- the innermost free waits for the routine that has returned
-pub asked : (works : List FreeFrame) (v : ℕ) (cs : List CallFrame) (p : Pool) → IsConsistent (call_view (Returning v) works cs p) → IsAsked (slice_get works 0)
-asked [] v cs p h = none cs h.seated
-  where
-    no-call : (d : CallFrame) → Serves (profile (frame.Call d)).waits (frame.Call (Returning v)) → ⊥
-    no-call (Awaiting q y) s = s
-    no-call _ s = s
-
-    none : (cs : List CallFrame) → IsStacked (frame.Call (Returning v)) (under [] cs) → ⊥
-    none [] s = s
-    none (c ∷ cs) s = no-call c s.0
-asked (Hooked x g ∷ fs) v cs p h = tt
-asked (_ ∷ fs) v cs p h = h.seated.0
+pub asked : (works : List FreeFrame) (v : ℕ) (cs : List CallFrame) (ts : List OpenTurn) (p : Pool) → is_some (slice_get works 0) ≡ true → IsConsistent (call_view (Returning v) works cs ts p) → IsAsked (slice_get works 0)
+asked [] v cs ts p opened h = cc
+asked (Hooked x g ∷ fs) v cs ts p opened h = tt
+asked (_ ∷ fs) v cs ts p opened h = absurd h.seated.0
 
 -- ---- a free that has begun
 
 -- a free that a call has begun goes on above it
-module _ (f : FreeFrame) (q : Ask) (x : Obj) (objects objects' : Objects) (callers callers' : List Waiting)
-    (h : IsConsistent (free_view f objects.works (Awaiting q x ∷ stack_of callers) objects.pool)) (b : Begins (f ∷ objects.works) objects.pool (frees_in objects')) (e : callers' ≡ callers ++ record { ask = q; x = x } ∷ []) where
-  pub begun-along : TellsSameStory (free_view f objects.works (Awaiting q x ∷ stack_of callers) objects.pool) (view_of active.Freeing callers' objects')
+module _ (f : FreeFrame) (q : Ask) (x : Obj) (turn : Option TurnFrame) (objects objects' : Objects) (callers callers' : List Waiting)
+    (h : IsConsistent (free_view f objects.works (Awaiting q x ∷ stack_of callers) (turns_of turn) objects.pool)) (b : Begins (f ∷ objects.works) objects.pool (frees_in objects')) (e : callers' ≡ callers ++ record { ask = q; x = x } ∷ []) where
+  pub begun-along : TellsSameStory (free_view f objects.works (Awaiting q x ∷ stack_of callers) (turns_of turn) objects.pool) (view_of active.Freeing callers' turn objects')
   begun-along =
-      subst (λ (z : List CallFrame). TellsSameStory (free_view f objects.works (Awaiting q x ∷ stack_of callers) objects.pool) (seen active.Freeing objects'.works z objects'.pool)) (sym (stacked callers callers' (record { ask = q; x = x }) e))
-      (silently-along (record { works = f ∷ objects.works; pool = objects.pool }) (frees_in objects') (Awaiting q x ∷ stack_of callers) b.moves_on h)
+      subst (λ (z : List CallFrame). TellsSameStory (free_view f objects.works (Awaiting q x ∷ stack_of callers) (turns_of turn) objects.pool) (seen active.Freeing objects'.works z (turns_of turn) objects'.pool)) (sym (stacked callers callers' (record { ask = q; x = x }) e))
+      (silently-along (record { works = f ∷ objects.works; pool = objects.pool }) (frees_in objects') (Awaiting q x ∷ stack_of callers) (turns_of turn) b.moves_on h)
 
-  pub begun-ready : IsAtWork (frees_in objects') → BetweenSteps active.Freeing callers' objects'
+  pub begun-ready : IsAtWork (frees_in objects') → BetweenSteps active.Freeing callers' turn objects'
   begun-ready work = record { whole = begun-along.whole; parts = record { at_work = work; settled = b.settles } }
 
 -- ---- what a free that a call begins rests on
 
-begun-rests : (f : FreeFrame) (q : Ask) (x : Obj) (works : List FreeFrame) (cs : List CallFrame) (p : Pool) → IsAwaiting (record { works = works; pool = p }) → IsConsistent (free_view f works (Awaiting q x ∷ cs) p)
-    → Rests (frame.Free f) (frame.Call (Awaiting q x) ∷ under works cs) p
-begun-rests f q x works cs p a w = subst (λ (l : List Frame). Rests (frame.Free f) l p) (on-caller works (Awaiting q x) cs a.sound.rests) w.sound.rests
+begun-rests : (f : FreeFrame) (q : Ask) (x : Obj) (works : List FreeFrame) (cs : List CallFrame) (ts : List OpenTurn) (p : Pool) → IsAwaiting (record { works = works; pool = p }) → IsConsistent (free_view f works (Awaiting q x ∷ cs) ts p)
+    → Rests (frame.Free f) (frame.Call (Awaiting q x) ∷ under works cs ts) p
+begun-rests f q x works cs ts p a w = subst (λ (l : List Frame). Rests (frame.Free f) l p) (on-caller works (Awaiting q x) cs ts a.sound.rests) w.sound.rests
 
 -- there is no reference to an object that is freed
-pub freed-object : (q : Ask) (x : Obj) (works : List FreeFrame) (cs : List CallFrame) (p : Pool) → IsAwaiting (record { works = works; pool = p }) → IsConsistent (free_view (Beginning x) works (Awaiting q x ∷ cs) p)
+pub freed-object : (q : Ask) (x : Obj) (works : List FreeFrame) (cs : List CallFrame) (ts : List OpenTurn) (p : Pool) → IsAwaiting (record { works = works; pool = p }) → IsConsistent (free_view (Beginning x) works (Awaiting q x ∷ cs) ts p)
     → (newest_ref p.rows x ≡ None) × (target_at p.rows x ≡ None)
-freed-object q x works cs p a w = begun-rests (Beginning x) q x works cs p a w
+freed-object q x works cs ts p a w = begun-rests (Beginning x) q x works cs ts p a w
 
 -- one that an owner gives up is live
-pub unlinked-object : (q : Ask) (o : Owner) (x : Obj) (works : List FreeFrame) (cs : List CallFrame) (p : Pool) → IsAwaiting (record { works = works; pool = p }) → IsConsistent (free_view (Unlinking o x) works (Awaiting q x ∷ cs) p)
+pub unlinked-object : (q : Ask) (o : Owner) (x : Obj) (works : List FreeFrame) (cs : List CallFrame) (ts : List OpenTurn) (p : Pool) → IsAwaiting (record { works = works; pool = p }) → IsConsistent (free_view (Unlinking o x) works (Awaiting q x ∷ cs) ts p)
     → IsLiveRow p x × (target_at p.rows x ≡ None)
-unlinked-object q o x works cs p a w =
-    let r = begun-rests (Unlinking o x) q x works cs p a w in
+unlinked-object q o x works cs ts p a w =
+    let r = begun-rests (Unlinking o x) q x works cs ts p a w in
     (live-row p x r.1 r.2 r.3, rw r.2 r.4)

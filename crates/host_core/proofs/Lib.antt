@@ -2,8 +2,10 @@ pub mod Allowed
 pub mod StepsSilently
 pub mod FreeSteps
 pub mod CallSteps
+pub mod TurnSteps
 pub mod Hosting
 pub mod Calling
+pub mod Turning
 pub mod Stepping
 pub mod Offering
 pub mod Nexts

@@ -1,21 +1,29 @@
 -- What comes next of a host that has settled.
-use Rattle.std.proofs.Common.{◌≡◌, List, [], ◌∷◌, Some, None, true, refl, sym, ◌∙◌, ap, subst}
+use Rattle.std.proofs.Common.{◌≡◌, ℕ, Option, List, [], ◌∷◌, Some, None, true, refl, sym, ◌∙◌, ap, subst}
 use Rattle.std.specs.Prelude.{is_some}
 use Rattle.tree_specs.specs.declared.event.Event.{Event}
-use Rattle.tree_specs.specs.declared.event.Event.TheVariants.{Warned, Replied}
+use Rattle.tree_specs.specs.declared.event.Event.TheVariants.{Warned, Replied, Fired}
 use Rattle.tree_specs.specs.declared.frame.CallFrame.{CallFrame}
-use Rattle.tree_specs.specs.declared.frame.CallFrame.TheVariants.{Asking, Warning, Telling}
+use Rattle.tree_specs.specs.declared.frame.CallFrame.TheVariants.{Asking, Turning, Warning, Telling}
+use Rattle.tree_specs.specs.declared.frame.Frame.TheVariants as frame
+use Rattle.tree_specs.specs.declared.frame.TurnFrame.{TurnFrame}
+use Rattle.tree_specs.specs.declared.frame.TurnFrame.TheVariants.{Timing, Polling, Firing, Handling, Reading}
+use Rattle.tree_specs.specs.declared.handler.Handler.{Handler}
+use Rattle.tree_specs.specs.declared.moment.What.{What}
+use Rattle.tree_specs.specs.declared.object.Obj.{Obj}
+use Rattle.tree_specs.specs.Events.Coming.{handler_moment}
 use Rattle.tree_specs.specs.declared.frame.FreeFrame.{FreeFrame}
 use Rattle.tree_specs.specs.declared.free_step.FreeStep.{FreeStep}
 use Rattle.tree_specs.specs.declared.question.Ask.{Ask as Question}
-use Rattle.tree_specs.specs.declared.free_step.FreeStep.TheVariants.{Ask, Left, Done}
+use Rattle.tree_specs.specs.declared.question.Ask.TheVariants.{Quiet, Routine, Clock, Wait}
+use Rattle.tree_specs.specs.declared.free_step.FreeStep.TheVariants.{Ask, Doom, Left, Done}
 use Rattle.tree_specs.specs.Tree.Pool.{Pool}
 use Rattle.tree_specs.specs.Machine.Table.{event_of}
 use Rattle.tree_specs.specs.Machine.View.{View, question_of}
-use Rattle.tree_specs.specs.Invariants.Consistent.{IsConsistent}
+use Rattle.tree_specs.specs.Invariants.Consistent.{IsStacked, IsConsistent}
 use Rattle.destructors.specs.Frees.{OpenFrees, is_event, Steps}
 use Rattle.destructors.specs.Works.{GoesOn as FreesGoOn}
-use Rattle.destructors.specs.Callers.{call_view}
+use Rattle.destructors.specs.Callers.{OpenTurn, under, call_view}
 use Rattle.destructors.specs.Runs.{IsNews}
 use Rattle.object_pool.specs.Objects.{Objects, frees_in}
 use Rattle.host_core.specs.declared.active.Active.{Active}
@@ -24,12 +32,16 @@ use Rattle.host_core.specs.declared.caller.Caller.{Caller}
 use Rattle.host_core.specs.declared.caller.Stage.{Stage}
 use Rattle.host_core.specs.declared.caller.Stage.TheVariants as stage
 use Rattle.host_core.specs.declared.caller.Waiting.{Waiting}
+use Rattle.host_core.specs.declared.turn.Turn.{Turn}
 use Rattle.host_core.specs.Promises.{NextLaw}
-use Rattle.host_core.specs.Hosts.{seen, staged, frame_of, stack_of, view_of, speaking_view, told_by, after_telling, BetweenSteps, TellsSameStory}
+use Rattle.host_core.specs.Turns.{turns_of, turn_view, turn_asks}
+use Rattle.host_core.specs.Hosts.{seen, staged, frame_of, stack_of, view_of, speaking_view, told_by, after_telling, StandsAs, FiresBy, Fires, BetweenSteps, TellsSameStory}
 use Rattle.host_core.proofs.StepsSilently.{AfterEvent, after-event, event-along, waits-asked}
 use Rattle.host_core.proofs.FreeSteps.{speaks-events}
 use Rattle.host_core.proofs.Stepping.{event_told}
-use Rattle.host_core.proofs.Offering.{question-seen}
+use Rattle.host_core.proofs.TurnSteps.{quiet-alone, fired}
+use Rattle.host_core.proofs.Calling.{stays-at, speaks-at}
+use Rattle.host_core.proofs.Offering.{question-seen, turn-waits}
 
 -- an event is the next item of the story
 pub event-law : (v w : View) (e : Event) → question_of v ≡ None → AfterEvent v w e → NextLaw (Some e) v w
@@ -38,66 +50,126 @@ event-law v w e none a = (none, a.law)
 -- ---- a caller
 
 -- what comes next of a caller, and what it leaves
-pub record CallerNext (f f' : CallFrame) (callers : List Waiting) (objects : Objects) : Type 0 where
-  pub law : NextLaw (told_by f) (call_view f objects.works (stack_of callers) objects.pool) (call_view f' objects.works (stack_of callers) objects.pool)
-  pub whole : IsConsistent (call_view f' objects.works (stack_of callers) objects.pool)
+pub record CallerNext (f f' : CallFrame) (callers : List Waiting) (turn : Option TurnFrame) (objects : Objects) : Type 0 where
+  pub law : NextLaw (told_by f) (call_view f objects.works (stack_of callers) (turns_of turn) objects.pool) (call_view f' objects.works (stack_of callers) (turns_of turn) objects.pool)
+  pub whole : IsConsistent (call_view f' objects.works (stack_of callers) (turns_of turn) objects.pool)
 
-caller-next : (q : Question) (s : Stage) (callers : List Waiting) (objects : Objects) → IsConsistent (call_view (staged q s) objects.works (stack_of callers) objects.pool) → CallerNext (staged q s) (after_telling (staged q s)) callers objects
-caller-next q stage.Asking callers objects h = record { law = (waits-asked q _ objects.pool h, refl); whole = h }
-caller-next q (stage.Warning x r) callers objects h =
-    let a = after-event (call_view (Warning q x r) objects.works (stack_of callers) objects.pool) (call_view (Telling q r) objects.works (stack_of callers) objects.pool) (Warned x) h refl in
+caller-next : (q : Question) (s : Stage) (callers : List Waiting) (turn : Option TurnFrame) (objects : Objects) → IsConsistent (call_view (staged q s) objects.works (stack_of callers) (turns_of turn) objects.pool) → CallerNext (staged q s) (after_telling (staged q s)) callers turn objects
+caller-next q stage.Asking callers turn objects h = record { law = (waits-asked q _ objects.pool h, refl); whole = h }
+caller-next q (stage.Warning x r) callers turn objects h =
+    let a = after-event (call_view (Warning q x r) objects.works (stack_of callers) (turns_of turn) objects.pool) (call_view (Telling q r) objects.works (stack_of callers) (turns_of turn) objects.pool) (Warned x) h refl in
     record { law = event-law _ _ (Warned x) refl a; whole = a.whole }
-caller-next q (stage.Telling r) callers objects h =
-    let a = after-event (call_view (Telling q r) objects.works (stack_of callers) objects.pool) (call_view (Asking q) objects.works (stack_of callers) objects.pool) (Replied r) h refl in
+caller-next q (stage.Telling r) callers turn objects h =
+    let a = after-event (call_view (Telling q r) objects.works (stack_of callers) (turns_of turn) objects.pool) (call_view (Asking q) objects.works (stack_of callers) (turns_of turn) objects.pool) (Replied r) h refl in
     record { law = event-law _ _ (Replied r) refl a; whole = a.whole }
 
 -- ---- a free
 
-loud : (works : List FreeFrame) (cs : List CallFrame) (p : Pool) (t : FreeStep) (new : OpenFrees) → speaking_view (seen active.Freeing works cs p) ≡ true → Steps (record { works = works; pool = p }) t new → is_some (event_of t) ≡ true
-loud [] cs p t new s st = cc
-loud (f ∷ fs) cs p t new s st = ap is_event (sym st.tells) ∙ sym (speaks-events f fs cs p) ∙ s
+loud : (works : List FreeFrame) (cs : List CallFrame) (ts : List OpenTurn) (p : Pool) (t : FreeStep) (new : OpenFrees) → speaking_view (seen active.Freeing works cs ts p) ≡ true → Steps (record { works = works; pool = p }) t new → is_some (event_of t) ≡ true
+loud [] cs ts p t new s st = cc
+loud (f ∷ fs) cs ts p t new s st = ap is_event (sym st.tells) ∙ sym (speaks-events f fs cs ts p) ∙ s
 
 -- what is told is news
 told-news : (t : FreeStep) → is_some (event_of t) ≡ true → (e : Event) × (event_of t ≡ Some e) × IsNews t
 told-news (Ask x) l = cc
 told-news (Left x from) l = cc
 told-news (Done a) l = cc
+told-news (Doom x) l = cc
 told-news _ l = (_, refl, tt)
 
 -- what comes next of a free, and what it leaves
-pub record FreeNext (callers : List Waiting) (objects : Objects) (t : FreeStep) (objects' : Objects) : Type 0 where
-  pub ready : BetweenSteps active.Freeing callers objects'
-  pub law : (w : View) → TellsSameStory (view_of active.Freeing callers objects') w → NextLaw (event_of t) (view_of active.Freeing callers objects) w
+pub record FreeNext (callers : List Waiting) (turn : Option TurnFrame) (objects : Objects) (t : FreeStep) (objects' : Objects) : Type 0 where
+  pub ready : BetweenSteps active.Freeing callers turn objects'
+  pub law : (w : View) → TellsSameStory (view_of active.Freeing callers turn objects') w → NextLaw (event_of t) (view_of active.Freeing callers turn objects) w
 
-pub free-next : (callers : List Waiting) (objects : Objects) (t : FreeStep) (objects' : Objects) → BetweenSteps active.Freeing callers objects → speaking_view (view_of active.Freeing callers objects) ≡ true
-    → Steps (frees_in objects) t (frees_in objects') → FreesGoOn t (frees_in objects') → FreeNext callers objects t objects'
-free-next callers objects t objects' h s st g =
-    let n = told-news t (loud objects.works (stack_of callers) objects.pool t (frees_in objects') s st) in
-    let e = event_told callers objects objects' t h st n.0 n.1 n.2 g in
+pub free-next : (callers : List Waiting) (turn : Option TurnFrame) (objects : Objects) (t : FreeStep) (objects' : Objects) → BetweenSteps active.Freeing callers turn objects → speaking_view (view_of active.Freeing callers turn objects) ≡ true
+    → Steps (frees_in objects) t (frees_in objects') → FreesGoOn t (frees_in objects') → FreeNext callers turn objects t objects'
+free-next callers turn objects t objects' h s st g =
+    let n = told-news t (loud objects.works (stack_of callers) (turns_of turn) objects.pool t (frees_in objects') s st) in
+    let e = event_told callers turn objects objects' t h st n.0 n.1 n.2 g in
     record {
       ready = e.1;
-      law = λ w a. rw n.1 (event-law (view_of active.Freeing callers objects) w n.0 (question-seen active.Freeing objects.works (stack_of callers) objects.pool) (event-along _ _ _ n.0 e.0 a));
+      law = λ w a. rw n.1 (event-law (view_of active.Freeing callers turn objects) w n.0 (question-seen active.Freeing (stack_of callers) (turns_of turn) objects h.parts) (event-along _ _ _ n.0 e.0 a));
     }
+
+-- ---- a turn
+
+-- what comes next of a turn, and what it leaves
+pub record TurnNext (t : Turn) (callers : List Waiting) (turn : Option TurnFrame) (objects : Objects) (told : Option Event) (now : Active) (turn' : Option TurnFrame) : Type 0 where
+  pub law : NextLaw told (view_of (active.Turning t) callers turn objects) (view_of now callers turn' objects)
+  pub ready : BetweenSteps now callers turn' objects
+  pub speaks : speaking_view (view_of now callers turn' objects) ≡ true
+
+-- one that asks
+turn-asks : (t : Turn) (callers : List Waiting) (turn : Option TurnFrame) (objects : Objects) (told : Option Event) (now : Active) (turn' : Option TurnFrame) (q : Question) → BetweenSteps (active.Turning t) callers turn objects → turn_asks t.frame ≡ Some q
+    → speaking_view (view_of (active.Turning t) callers turn objects) ≡ true → told ≡ None → now ≡ active.Turning t → turn' ≡ turn → TurnNext t callers turn objects told now turn'
+turn-asks t callers turn objects told now turn' q h asks speaks e e' e'' =
+    rw (e, e', e'') (record { law = (turn-waits t.frame t.caller q objects.works (stack_of callers) (turns_of turn) objects.pool asks h.whole, refl); ready = h; speaks = speaks })
+
+-- one whose handler starts
+turn-fires : (what : What) (x : Obj) (handler : Handler) (time : ℕ) (question : Option Question) (q : Question) (callers : List Waiting) (turn : Option TurnFrame) (objects : Objects) (told : Option Event) (now : Active) (turn' : Option TurnFrame)
+    → (let t : Turn = record { frame = Firing what x handler time; question = question; caller = q } in BetweenSteps (active.Turning t) callers turn objects) → told ≡ Some (Fired what x handler.routine)
+    → StandsAs now (Asking (Routine (handler_moment what x handler time))) → turn' ≡ Some (Handling what x handler time) → (let t : Turn = record { frame = Firing what x handler time; question = question; caller = q } in TurnNext t callers turn objects told now turn')
+turn-fires what x handler time question q callers turn objects told now turn' h e s e' =
+    let f = Firing what x handler time in
+    let runs : CallFrame = Asking (Routine (handler_moment what x handler time)) in
+    let quiet : q ≡ Quiet = h.parts.caller in
+    let a = quiet-alone objects.works (stack_of callers) (turns_of turn) (subst (λ (z : Question). IsStacked (frame.Call (Turning z)) (under objects.works (stack_of callers) (turns_of turn))) quiet h.whole.seated.1) in
+    let same : turn_view f q objects.works (stack_of callers) (turns_of turn) objects.pool ≡ turn_view f Quiet [] [] [] objects.pool = rw (quiet, a.frees, a.callers, a.turns) refl in
+    let after = fired what x handler time objects.pool (subst IsConsistent same h.whole) in
+    let there : call_view runs [] [] (turns_of (Some (Handling what x handler time))) objects.pool ≡ call_view runs objects.works (stack_of callers) (turns_of turn') objects.pool = rw (a.frees, a.callers, e') refl in
+    let w = subst IsConsistent there after.whole in
+    let stands = stays-at now runs callers turn' objects s w in
+    let law = event-law _ (view_of now callers turn' objects) (Fired what x handler.routine) (question-seen (active.Turning (record { frame = f; question = question; caller = q })) (stack_of callers) (turns_of turn) objects h.parts ∙ h.parts.question)
+    (event-along _ _ _ (Fired what x handler.routine) (subst (λ (v : View). AfterEvent v (call_view runs objects.works (stack_of callers) (turns_of turn') objects.pool) (Fired what x handler.routine)) (sym same)
+    (subst (λ (v : View). AfterEvent (turn_view f Quiet [] [] [] objects.pool) v (Fired what x handler.routine)) there after)) stands.0) in
+    rw e (record { law = law; ready = stands.1; speaks = speaks-at now runs objects.works (stack_of callers) (turns_of turn') objects.pool s })
+
+pub turn-next : (t : Turn) (callers : List Waiting) (turn : Option TurnFrame) (objects : Objects) (told : Option Event) (now : Active) (turn' : Option TurnFrame) → BetweenSteps (active.Turning t) callers turn objects → FiresBy t.frame turn told (active.Turning t) now turn'
+    → TurnNext t callers turn objects told now turn'
+turn-next t callers turn objects told now turn' h k = each t.frame t.question t.caller h k
+  where
+    each : (f : TurnFrame) (question : Option Question) (q : Question) → (let t : Turn = record { frame = f; question = question; caller = q } in BetweenSteps (active.Turning t) callers turn objects)
+        → (let t : Turn = record { frame = f; question = question; caller = q } in FiresBy f turn told (active.Turning t) now turn') → (let t : Turn = record { frame = f; question = question; caller = q } in TurnNext t callers turn objects told now turn')
+    each (Firing what x handler time) question q h k = turn-fires what x handler time question q callers turn objects told now turn' h k.0 k.1 k.2
+    each (Timing again) question q h k = turn-asks _ callers turn objects told now turn' Clock h refl refl k.0 k.1 k.2
+    each (Polling limit) question q h k = turn-asks _ callers turn objects told now turn' (Wait limit) h refl refl k.0 k.1 k.2
+    each Reading question q h k = turn-asks _ callers turn objects told now turn' Clock h refl refl k.0 k.1 k.2
+    each _ question q h k = absurd h.parts.speaks
 
 -- ---- by the parts of a host
 
 -- a caller was told, and stands where that leaves it
-module _ (now : Active) (c c' : Caller) (callers : List Waiting) (objects : Objects) (e : now ≡ active.Caller c) (goes : frame_of c' ≡ after_telling (frame_of c)) (r : BetweenSteps now callers objects) where
-  next_of_caller : CallerNext (frame_of c) (frame_of c') callers objects
-  next_of_caller = subst (λ (z : CallFrame). CallerNext (frame_of c) z callers objects) (sym goes) (caller-next c.ask c.stage callers objects (subst (λ (z : Active). IsConsistent (view_of z callers objects)) e r.whole))
+module _ (now : Active) (c c' : Caller) (callers : List Waiting) (turn : Option TurnFrame) (objects : Objects) (e : now ≡ active.Caller c) (goes : frame_of c' ≡ after_telling (frame_of c)) (r : BetweenSteps now callers turn objects) where
+  next_of_caller : CallerNext (frame_of c) (frame_of c') callers turn objects
+  next_of_caller = subst (λ (z : CallFrame). CallerNext (frame_of c) z callers turn objects) (sym goes) (caller-next c.ask c.stage callers turn objects (subst (λ (z : Active). IsConsistent (view_of z callers turn objects)) e r.whole))
 
-  pub caller-law : (v : View) → view_of now callers objects ≡ v → NextLaw (told_by (frame_of c)) v (view_of (active.Caller c') callers objects)
-  caller-law v is = subst (λ (z : View). NextLaw (told_by (frame_of c)) z (view_of (active.Caller c') callers objects)) (ap (λ (z : Active). view_of z callers objects) (sym e) ∙ is) next_of_caller.law
+  pub caller-law : (v : View) → view_of now callers turn objects ≡ v → NextLaw (told_by (frame_of c)) v (view_of (active.Caller c') callers turn objects)
+  caller-law v is = subst (λ (z : View). NextLaw (told_by (frame_of c)) z (view_of (active.Caller c') callers turn objects)) (ap (λ (z : Active). view_of z callers turn objects) (sym e) ∙ is) next_of_caller.law
 
-  pub caller-ready : BetweenSteps (active.Caller c') callers objects
+  pub caller-ready : BetweenSteps (active.Caller c') callers turn objects
   caller-ready = record { whole = next_of_caller.whole; parts = tt }
 
-pub free-parts : (now : Active) (callers : List Waiting) (objects : Objects) (t : FreeStep) (objects' : Objects) → now ≡ active.Freeing → BetweenSteps now callers objects → speaking_view (view_of now callers objects) ≡ true
-    → Steps (frees_in objects) t (frees_in objects') → FreesGoOn t (frees_in objects') → FreeNext callers objects t objects'
-free-parts now callers objects t objects' e r s st g =
-    free-next callers objects t objects' (subst (λ (z : Active). BetweenSteps z callers objects) e r) (ap (λ (z : Active). speaking_view (view_of z callers objects)) (sym e) ∙ s) st g
+pub free-parts : (now : Active) (callers : List Waiting) (turn : Option TurnFrame) (objects : Objects) (t : FreeStep) (objects' : Objects) → now ≡ active.Freeing → BetweenSteps now callers turn objects → speaking_view (view_of now callers turn objects) ≡ true
+    → Steps (frees_in objects) t (frees_in objects') → FreesGoOn t (frees_in objects') → FreeNext callers turn objects t objects'
+free-parts now callers turn objects t objects' e r s st g =
+    free-next callers turn objects t objects' (subst (λ (z : Active). BetweenSteps z callers turn objects) e r) (ap (λ (z : Active). speaking_view (view_of z callers turn objects)) (sym e) ∙ s) st g
 
-pub free-law : (now : Active) (v : View) (callers : List Waiting) (objects : Objects) (t : FreeStep) (objects' : Objects) (w : View) → now ≡ active.Freeing → view_of now callers objects ≡ v → FreeNext callers objects t objects'
-    → TellsSameStory (view_of active.Freeing callers objects') w → NextLaw (event_of t) v w
-free-law now v callers objects t objects' w e is n a =
-    subst (λ (z : View). NextLaw (event_of t) z w) (ap (λ (z : Active). view_of z callers objects) (sym e) ∙ is) (n.law w a)
+pub free-law : (now : Active) (v : View) (callers : List Waiting) (turn : Option TurnFrame) (objects : Objects) (t : FreeStep) (objects' : Objects) (w : View) → now ≡ active.Freeing → view_of now callers turn objects ≡ v → FreeNext callers turn objects t objects'
+    → TellsSameStory (view_of active.Freeing callers turn objects') w → NextLaw (event_of t) v w
+free-law now v callers turn objects t objects' w e is n a =
+    subst (λ (z : View). NextLaw (event_of t) z w) (ap (λ (z : Active). view_of z callers turn objects) (sym e) ∙ is) (n.law w a)
+
+-- a turn, as what is at work
+module _ (now now' : Active) (t : Turn) (callers : List Waiting) (turn turn' : Option TurnFrame) (objects : Objects) (told : Option Event) (e : now ≡ active.Turning t) (r : BetweenSteps now callers turn objects) (k : Fires now turn told now' turn') where
+  next_of_turn : TurnNext t callers turn objects told now' turn'
+  next_of_turn = turn-next t callers turn objects told now' turn' (subst (λ (z : Active). BetweenSteps z callers turn objects) e r) (subst (λ (z : Active). Fires z turn told now' turn') e k)
+
+  pub turn-law : (v : View) → view_of now callers turn objects ≡ v → NextLaw told v (view_of now' callers turn' objects)
+  turn-law v is = subst (λ (z : View). NextLaw told z (view_of now' callers turn' objects)) (ap (λ (z : Active). view_of z callers turn objects) (sym e) ∙ is) next_of_turn.law
+
+  pub turn-ready : BetweenSteps now' callers turn' objects
+  turn-ready = next_of_turn.ready
+
+  pub turn-speaks : speaking_view (view_of now' callers turn' objects) ≡ true
+  turn-speaks = next_of_turn.speaks

@@ -17,7 +17,7 @@ use Rattle.tree_specs.specs.Rules.Items.{Item, IsQuestion}
 use Rattle.tree_specs.specs.Rules.Items.Item.{Told, Asked}
 use Rattle.tree_specs.specs.Machine.Table.{table, step}
 use Rattle.tree_specs.specs.Invariants.Measure.{cost, pending}
-use Rattle.tree_specs.specs.Machine.View.{View, begin, rest_of}
+use Rattle.tree_specs.specs.Machine.View.{View, begin, rest_of, question_in}
 use Rattle.tree_specs.specs.Invariants.Consistent.{IsConsistent}
 use Rattle.tree_specs.proofs.Rules.StoryLaws.{begin-whole}
 use Rattle.tree_specs.proofs.Turns.FallingFrees.{Room}
@@ -116,16 +116,17 @@ event-along u v w e a b = record { whole = b.whole; law = λ is. a.law is ∙ ap
 
 -- ---- a question
 
--- a host that asks waits
+-- a host that asks waits, and nothing goes on until it is answered
+pub waits-at : (v : View) (q : Ask) → IsConsistent v → step v.innermost v.pool ≡ Do.Wait (Asked q) v.innermost v.pool → Waits v
+waits-at v q h e = record {
+  question = q;
+  open_now = ap question_in e;
+  last = open-items v (Asked q) v.innermost v.pool h e;
+  begins = λ is. begins-items v (Asked q) v.innermost v.pool is h e;
+}
+
 pub waits-asked : (q : Ask) (below : List Frame) (p : Pool) → IsConsistent (record { innermost = frame.Call (Asking q); below = below; pool = p }) → Waits (record { innermost = frame.Call (Asking q); below = below; pool = p })
-waits-asked q below p h =
-    let v : View = record { innermost = frame.Call (Asking q); below = below; pool = p } in
-    record {
-      question = q;
-      open_now = refl;
-      last = open-items v (Asked q) (frame.Call (Asking q)) p h refl;
-      begins = λ is. begins-items v (Asked q) (frame.Call (Asking q)) p is h refl;
-    }
+waits-asked q below p h = waits-at (record { innermost = frame.Call (Asking q); below = below; pool = p }) q h refl
 
 -- there is always something to come
 pub always-more : (v : View) (is : List Input) → IsConsistent v → (item : Item) × (items : List Item) × (rest_of v is ≡ item ∷ items)

@@ -1,4 +1,5 @@
 pub mod Moves
+pub mod Turns
 pub mod Hosts
 pub mod Promises
 pub mod Subjects

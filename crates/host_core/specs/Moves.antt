@@ -11,7 +11,9 @@ use Rattle.tree_specs.specs.declared.question.Input.TheVariants as input
 use Rattle.tree_specs.specs.declared.frame.Frame.{Frame}
 use Rattle.tree_specs.specs.declared.frame.Frame.TheVariants as frame
 use Rattle.tree_specs.specs.declared.frame.CallFrame.{CallFrame}
-use Rattle.tree_specs.specs.declared.frame.CallFrame.TheVariants.{Awaiting, Telling, Warning}
+use Rattle.tree_specs.specs.declared.frame.CallFrame.TheVariants.{Awaiting, Turning, Telling, Warning}
+use Rattle.tree_specs.specs.declared.frame.TurnFrame.TheVariants.{Reading}
+use Rattle.tree_specs.specs.Machine.Table.{turning_step}
 use Rattle.tree_specs.specs.declared.frame.FreeFrame.TheVariants.{Unlinking, Beginning, Looping}
 use Rattle.tree_specs.specs.declared.frame.Purpose.TheVariants.{Emptying}
 use Rattle.tree_specs.specs.declared.frame.Answer.{Answer}
@@ -23,7 +25,7 @@ use Rattle.tree_specs.specs.Tree.Pool.{Pool}
 use Rattle.tree_specs.specs.Rules.Items.{Item}
 use Rattle.tree_specs.specs.Rules.Story.{later}
 use Rattle.host_core.specs.declared.motion.Motion.{Motion}
-use Rattle.host_core.specs.declared.motion.Motion.TheVariants.{Replies, Warns, Frees, Unlinks, Empties}
+use Rattle.host_core.specs.declared.motion.Motion.TheVariants.{Replies, Warns, Frees, Unlinks, Empties, AsksTime, Turns}
 use Rattle.host_core.specs.declared.short_reply.ShortReply.{ShortReply}
 use Rattle.host_core.specs.declared.short_reply.ShortReply.TheVariants as short_reply
 
@@ -47,11 +49,15 @@ move_of q (Warns x b) p = Do.Go (frame.Call (warning q x b)) p
 move_of q (Frees x) p = Do.Call (frame.Free (Beginning x)) (frame.Call (Awaiting q x)) p
 move_of q (Unlinks o x) p = Do.Call (frame.Free (Unlinking o x)) (frame.Call (Awaiting q x)) p
 move_of q (Empties x) p = Do.Call (frame.Free (Looping x Emptying)) (frame.Call (Awaiting q x)) p
+move_of q AsksTime p = Do.Call (frame.Turn Reading) (frame.Call (Turning q)) p
+move_of q Turns p = turning_step q p
 
 -- what a call begins has the memory that the call was given
 abbrev pub ReadyFor : Motion → Bool → Type 0
 ReadyFor (Replies b) ready = Unit {0}
 ReadyFor (Warns x b) ready = Unit {0}
+ReadyFor AsksTime ready = Unit {0}
+ReadyFor Turns ready = Unit {0}
 ReadyFor m ready = ready ≡ true
 
 -- the owner that a report is about; it is the one call whose reply takes memory
@@ -63,7 +69,7 @@ report_of c = None
 abbrev pub call_of : Input → Option Call
 call_of (input.Call c) = Some c
 call_of (input.Act (act.Do c)) = Some c
-call_of (input.Act (act.Ret v)) = None
+call_of i = None
 
 abbrev pub reported : Option Call → Option Owner
 reported None = None

@@ -17,7 +17,7 @@ use crate::motion::Motion;
 use crate::refusals::check;
 use crate::short_reply::ShortReply;
 use object_pool::ObjectPool;
-use tree_specs::{Call, FreeReply, Kind, Name, Obj, Owner, Refusal};
+use tree_specs::{Call, FreeReply, Handler, Kind, Name, Obj, Owner, Refusal};
 
 /// The reply to a call that has freed.
 pub fn freed(x: Obj, answer: FreeReply) -> ShortReply
@@ -101,10 +101,17 @@ fn effect(call: Call, pool: &mut ObjectPool) -> Motion
             let name = Name::fixed(b"immediate");
             return number(pool.add(Kind::Immediate, name, 0, owner).0);
         }
-        Call::Timer { owner, time, .. } => return number(pool.add_timer(owner, time).0),
+        Call::Timer {
+            owner,
+            time,
+            routine,
+            user,
+        } => return number(pool.add_timer(owner, time, Handler { routine, user }).0),
+        Call::Now => return Motion::AsksTime,
+        Call::Turn => return Motion::Turns,
         Call::Pending => return number(pool.pending()),
         Call::Schedule { x, routine: 0, .. } | Call::Unschedule { x } => pool.unschedule(x),
-        Call::Schedule { x, .. } => pool.schedule(x),
+        Call::Schedule { x, routine, user } => pool.schedule(x, Handler { routine, user }),
         Call::Reparent { from, to, x } => pool.reparent(from, to, x),
         Call::Hook { x, routine } => pool.hook(x, routine),
         Call::Unhook { x } => pool.hook(x, 0),

@@ -11,6 +11,7 @@ use crate::caller::{Caller, Stage, Waiting};
 use crate::fault::OfferFault;
 use crate::parts::Parts;
 use crate::reports::{made_report, report_owner};
+use crate::turns::fire;
 use crate::works::{answer_on, settle};
 use object_pool::ObjectPool;
 use std::alloc::Global;
@@ -27,7 +28,7 @@ fn event(step: FreeStep) -> Option<Event>
         FreeStep::Accepted(object) => Some(Event::Accepted(object)),
         FreeStep::Moved { object, owner, .. } => Some(Event::Moved { object, owner }),
         FreeStep::Gone { object, hook } => Some(Event::Freed { object, hook }),
-        FreeStep::Ask(_) | FreeStep::Left { .. } | FreeStep::Done(_) => None,
+        FreeStep::Ask(_) | FreeStep::Doom(_) | FreeStep::Left { .. } | FreeStep::Done(_) => None,
     }
 }
 
@@ -94,6 +95,7 @@ impl Host {
             }),
             parts: Parts {
                 callers: Vec::new(alloc),
+                turn: None,
                 objects: ObjectPool::new(alloc, first),
             },
         })
@@ -155,6 +157,7 @@ impl Host {
                 settle(&mut self.active, &mut self.parts);
                 event(step)
             }
+            Active::Turning(_) => fire(&mut self.active, &mut self.parts.turn),
         }
     }
 
@@ -170,7 +173,11 @@ impl Host {
         if !self.active.takes(&input) {
             return Err(OfferFault::NotAsked);
         }
-        let Parts { callers, objects } = &mut self.parts;
+        let Parts {
+            callers,
+            objects,
+            ..
+        } = &mut self.parts;
         if let Some(owner) = report_owner(&input) {
             let report = made_report(*callers.allocator(), &input, owner, objects)?;
             self.active.report(report);

@@ -15,6 +15,8 @@ mod short_reply;
 mod subject;
 #[cfg(test)]
 mod tests;
+mod turn;
+mod turns;
 mod works;
 
 pub use fault::OfferFault;

@@ -14,4 +14,8 @@ pub enum Motion {
     Unlinks(Owner, Obj),
     /// Its children are freed, and the caller waits.
     Empties(Obj),
+    /// The clock is asked, and the caller waits for the time.
+    AsksTime,
+    /// A turn of the event loop begins, and the caller waits; a routine is refused one.
+    Turns,
 }

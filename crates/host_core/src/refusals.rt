@@ -130,7 +130,7 @@ pub fn check(call: &Call, pool: &ObjectPool) -> Result<(), Refusal>
                 &Subject::object(x, pool),
             )
         }
-        Call::Pending => Ok(()),
+        Call::Pending | Call::Now | Call::Turn => Ok(()),
         Call::Parent { x } => check_two(IsObject(x), IsNotDying(x), &Subject::object(x, pool)),
         Call::Freekids { x } | Call::Rename { x, .. } | Call::Limit { x, .. } => {
             check_row(x, pool.row(x))

@@ -52,8 +52,8 @@ fn report_copy(
     ensures { IfOk result (λ copy. IsCopy input.now copy owner pool.now.pool) }
 {
     match input {
-        Input::Call(_) => Ok(None),
         Input::Act(_) => Ok(Some(report_reply(alloc, owner, pool)?)),
+        _ => Ok(None),
     }
 }
 

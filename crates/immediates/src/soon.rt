@@ -33,7 +33,7 @@ impl Model for Soon {
 }
 
 impl Soon {
-    ghost use Rattle.std.specs.Prelude.{◌+◌, ◌<◌, ◌≤◌, ◌↔◌, [], ◌∷◌, ◌++◌, IsTrue, OnOk, length, slice_get, drop, false};
+    ghost use Rattle.std.specs.Prelude.{◌+◌, ◌<◌, ◌≤◌, ◌↔◌, [], ◌∷◌, ◌++◌, IsTrue, IfSome, OnOk, length, slice_get, drop, false};
     ghost use Rattle.tree_specs.specs.Events.Pending.{is_scheduled as waits, scheduled, unscheduled};
     ghost use Rattle.immediates.specs.Linked.{numbered};
     ghost use Rattle.immediates.specs.Waiting.{AreOnce};
@@ -55,8 +55,7 @@ impl Soon {
         ensures spare { OnOk result (more ≤ self.new.spare) }
         ensures kept { self.old.spare ≤ self.new.spare }
     {
-        self.sides.reserve(more)?;
-        Ok(())
+        Ok(self.sides.reserve(more)?)
     }
 
     // One that doesn't wait comes after all others.
@@ -114,6 +113,7 @@ impl Soon {
     pub fn pop(&mut self) -> Option<Obj>
         ensures first { result ≡ slice_get self.old.objects 0 }
         ensures objects { self.new.objects ≡ drop 1 self.old.objects }
+        ensures removed { IfSome result (λ x. self.new.objects ≡ unscheduled self.old.objects x) }
         ensures spare { self.old.spare ≤ self.new.spare }
     {
         let first = self.first();

@@ -1,4 +1,4 @@
--- Where no object has a destructor nothing is asked but the next call.
+-- Where no object has a destructor, and no call asks for the time or is a turn, nothing is asked but the next call.
 use Rattle.std.proofs.Common.{◌≡◌, ℕ, suc, zero, nat_eq, Bool, true, List, [], ◌∷◌, length, Option, Some, None, refl, sym, subst, map, ap, ◌∙◌, arith}
 use Rattle.step_machine.specs.Machine.{Outcome, tell, tells, followed, items as told_by}
 use Rattle.step_machine.specs.Machine.Outcome.{Ended, Waits, Stray, Short}
@@ -20,19 +20,19 @@ use Rattle.tree_specs.specs.declared.reply.Reply.TheVariants as reply
 use Rattle.tree_specs.specs.declared.free_step.FreeReply.{FreeReply}
 use Rattle.tree_specs.specs.declared.free_step.FreeReply.TheVariants as free_reply
 use Rattle.tree_specs.specs.Tree.Targets.{newest_ref}
-use Rattle.tree_specs.specs.Tree.Pool.{Pool, empty, row_of, is_below, owner_of, newest_ref_of, target_at, noted_owner, is_inside, first_kid, detach, remove, place, left_row, marked_row}
+use Rattle.tree_specs.specs.Tree.Pool.{Pool, empty, row_of, is_below, owner_of, newest_ref_of, target_at, noted_owner, is_inside, first_kid, detach, remove, doom, place, left_row, marked_row}
 use Rattle.tree_specs.specs.Tree.Heirs.{heir}
 use Rattle.tree_specs.specs.Words.Ranges.{is_sound_call}
 use Rattle.tree_specs.specs.Rules.Items.{Item}
 use Rattle.tree_specs.specs.Rules.Items.Item.{Told, Asked}
 use Rattle.tree_specs.specs.Rules.Sequence.{Work, Scene, CallStart, gives}
-use Rattle.tree_specs.specs.Rules.Story.{unlink, release, given, free, leave, children, tried, hand_on, hand_on_after, effect, asked, acting, warning, telling, turns, story, items, freed_reply}
+use Rattle.tree_specs.specs.Rules.Story.{unlink, release, given, free, dooming, leave, children, tried, hand_on, hand_on_after, effect, numbered, turned, asked, acting, reading, taking, warning, telling, turns, story, items, freed_reply}
 use Rattle.tree_specs.specs.Calls.Plans.{Plan, planned, warned_by, changed_by}
-use Rattle.tree_specs.specs.Calls.Plans.Plan.{Does, Frees, Unlinks, Empties}
+use Rattle.tree_specs.specs.Calls.Plans.Plan.{Does, Frees, Unlinks, Empties, AsksTime, Turns}
 use Rattle.tree_specs.specs.Texts.Schedule.{open_question}
 use Rattle.tree_specs.proofs.Tree.Numbered.{by_test}
 use Rattle.tree_specs.proofs.Rules.StoryLaws.{story-enough}
-use Rattle.load_schedule.proofs.Unhooked.{Unhooked, IsCalm, sets_no_hook, unhooked-row, unhooked-changed, unhooked-without, unhooked-place, calm-planned}
+use Rattle.load_schedule.proofs.Unhooked.{Unhooked, IsCalm, is_calm, unhooked-row, unhooked-changed, unhooked-without, unhooked-place, calm-planned}
 
 -- nothing was asked, and no object has a destructor then
 abbrev Stays : {A : Type 0} → List Input → Outcome A Pool Input Scene → Type 0
@@ -63,6 +63,7 @@ followed-stays is Short k s more = tt
 -- with so many turns
 record SilentAt (n : ℕ) : Type 0 where
   frees : (x : Obj) → IsSilent (free n x)
+  dooms : (x : Obj) → IsSilent (dooming n x)
   leaves : (x : Obj) → IsSilent (leave n x 0)
   empties : (x : Obj) → IsSilent (children n x)
   tries : (x c : Obj) (noted : Option Owner) (answer : FreeReply) → IsSilent (tried n x c noted answer)
@@ -76,7 +77,7 @@ frees-more n ih x p is h = newest (newest_ref p.rows x) refl
     marks : newest_ref p.rows x ≡ None → (r : Row) (m : Mark) → r.mark ≡ m → row_of p.rows x ≡ Some r → Stays is (free (suc n) x p is)
     marks z r mark.Quiet m k = let e : r.hook ≡ 0 = unhooked-row p.rows x r k h in rw (z, k, m, e) (ih.leaves x p is h)
     marks z r mark.Asked m k = rw (z, k, m) (h, refl)
-    marks z r mark.Busy m k = rw (z, k, m) (unhooked-changed (marked_row mark.Doomed) p.rows x (λ s e. e) h, refl)
+    marks z r mark.Busy m k = rw (z, k, m) (ih.dooms x (doom p x) is (unhooked-changed (marked_row mark.Doomed) p.rows x (λ s e. e) h))
     marks z r mark.Doomed m k = rw (z, k, m) (h, refl)
     marks z r (mark.Dying former) m k = rw (z, k, m) (h, refl)
 
@@ -140,6 +141,7 @@ hands-more n ih x o p is h = (unhooked-place p o x h, refl)
 silent : (n : ℕ) → SilentAt n
 silent zero = record {
   frees = λ x p is h. tt;
+  dooms = λ x p is h. tt;
   leaves = λ x p is h. tt;
   empties = λ x p is h. tt;
   tries = λ x c noted answer p is h. tt;
@@ -149,6 +151,7 @@ silent zero = record {
 }
 silent (suc n) = record {
   frees = frees-more n (silent n);
+  dooms = λ x p is h. (h, refl);
   leaves = leaves-more n (silent n);
   empties = empties-more n (silent n);
   tries = tries-more n (silent n);
@@ -157,18 +160,20 @@ silent (suc n) = record {
   hands = hands-more n (silent n);
 }
 
-effect-silent : (n : ℕ) (w : Plan) → IsCalm w → IsSilent (effect (free n) (unlink n) (children n) w)
-effect-silent n (Does c warned r) calm p is h = (calm p h, refl)
-effect-silent n (Frees x) calm p is h = followed-stays is (free n x p is) (λ answer. gives (freed_reply x answer)) ((silent n).frees x p is h) (λ answer q left k. (k, refl))
-effect-silent n (Unlinks o x) calm p is h = followed-stays is (unlink n o x p is) (λ answer. gives (freed_reply x answer)) ((silent n).unlinks o x p is h) (λ answer q left k. (k, refl))
-effect-silent n (Empties x) calm p is h = followed-stays is (children n x p is) (λ a. gives reply.Ok) ((silent n).empties x p is h) (λ a q left k. (k, refl))
+effect-silent : (n : ℕ) (w : Plan) (time turn : Work Reply) → IsCalm w → IsSilent (effect (free n) (unlink n) (children n) time turn w)
+effect-silent n (Does c warned r) time turn calm p is h = (calm p h, refl)
+effect-silent n (Frees x) time turn calm p is h = followed-stays is (free n x p is) (λ answer. gives (freed_reply x answer)) ((silent n).frees x p is h) (λ answer q left k. (k, refl))
+effect-silent n (Unlinks o x) time turn calm p is h = followed-stays is (unlink n o x p is) (λ answer. gives (freed_reply x answer)) ((silent n).unlinks o x p is h) (λ answer q left k. (k, refl))
+effect-silent n (Empties x) time turn calm p is h = followed-stays is (children n x p is) (λ a. gives reply.Ok) ((silent n).empties x p is h) (λ a q left k. (k, refl))
+effect-silent n AsksTime time turn calm p is h = absurd calm
+effect-silent n Turns time turn calm p is h = absurd calm
 
 -- ---- call after call
 
--- calls alone, which have their ranges and give no object a destructor
+-- calls alone, which have their ranges, give no object a destructor, and ask for nothing
 abbrev pub AreCalls : List Input → Type 0
 AreCalls [] = Unit {0}
-AreCalls (inputs.Call c ∷ is) = (is_sound_call c ≡ true) × (sets_no_hook c ≡ true) × AreCalls is
+AreCalls (inputs.Call c ∷ is) = (is_sound_call c ≡ true) × (is_calm c ≡ true) × AreCalls is
 AreCalls (_ ∷ is) = ⊥
 
 -- the next call is waited for
@@ -201,7 +206,7 @@ followed-awaits is Short k s more = tt
 
 record AwaitsAt (n : ℕ) : Type 0 where
   asks : (p : Pool) (is : List Input) → Unhooked p.rows → AreCalls is → AwaitsCall (asked n Quiet p is)
-  acts : (c : Call) → sets_no_hook c ≡ true → (p : Pool) (is : List Input) → Unhooked p.rows → AreCalls is → AwaitsCall (acting n Quiet c p is)
+  acts : (c : Call) → is_calm c ≡ true → (p : Pool) (is : List Input) → Unhooked p.rows → AreCalls is → AwaitsCall (acting n Quiet c p is)
   tells : (about : Option CallStart) (r : Reply) (p : Pool) (is : List Input) → Unhooked p.rows → AreCalls is → AwaitsCall (telling n about Quiet r p is)
   warns : (about : Option CallStart) (x : Obj) (r : Reply) (p : Pool) (is : List Input) → Unhooked p.rows → AreCalls is → AwaitsCall (warning n about Quiet x r p is)
 
@@ -211,14 +216,20 @@ asks-more n ih p [] h a = refl
 asks-more n ih p (inputs.Call c ∷ is) h a = rw a.0 (tell-awaits _ (acting n Quiet c p is) (ih.acts c a.1 p is h a.2))
 asks-more n ih p (_ ∷ is) h a = absurd a
 
-acts-more : (n : ℕ) → AwaitsAt n → (c : Call) → sets_no_hook c ≡ true → (p : Pool) (is : List Input) → Unhooked p.rows → AreCalls is → AwaitsCall (acting (suc n) Quiet c p is)
+acts-more : (n : ℕ) → AwaitsAt n → (c : Call) → is_calm c ≡ true → (p : Pool) (is : List Input) → Unhooked p.rows → AreCalls is → AwaitsCall (acting (suc n) Quiet c p is)
 acts-more n ih c e p is h a = each (planned p c) refl (warned_by (planned p c)) refl
   where
+    time : Work Reply
+    time = numbered (reading n)
+
+    turn : Work Reply
+    turn = turned Quiet (taking n)
+
     each : (w : Plan) → planned p c ≡ w → (warned : Option Obj) → warned_by (planned p c) ≡ warned → AwaitsCall (acting (suc n) Quiet c p is)
-    each w s None k = rw k (followed-awaits is (effect (free n) (unlink n) (children n) (planned p c) p is) (λ r. telling n (Some (record { call = c; start = p })) Quiet r)
-        (effect-silent n (planned p c) (calm-planned p c e) p is h) (λ r q u. ih.tells _ r q is u a))
-    each w s (Some x) k = rw k (followed-awaits is (effect (free n) (unlink n) (children n) (planned p c) p is) (λ r. warning n (Some (record { call = c; start = p })) Quiet x r)
-        (effect-silent n (planned p c) (calm-planned p c e) p is h) (λ r q u. ih.warns _ x r q is u a))
+    each w s None k = rw k (followed-awaits is (effect (free n) (unlink n) (children n) time turn (planned p c) p is) (λ r. telling n (Some (record { call = c; start = p })) Quiet r)
+        (effect-silent n (planned p c) time turn (calm-planned p c e) p is h) (λ r q u. ih.tells _ r q is u a))
+    each w s (Some x) k = rw k (followed-awaits is (effect (free n) (unlink n) (children n) time turn (planned p c) p is) (λ r. warning n (Some (record { call = c; start = p })) Quiet x r)
+        (effect-silent n (planned p c) time turn (calm-planned p c e) p is h) (λ r q u. ih.warns _ x r q is u a))
 
 awaits : (n : ℕ) → AwaitsAt n
 awaits zero = record {
@@ -234,7 +245,7 @@ awaits (suc n) = record {
   warns = λ about x r p is h a. tell-awaits _ (telling n about Quiet r p is) ((awaits n).tells about r p is h a);
 }
 
--- the story of calls that give no object a destructor waits for the next call
+-- the story of calls that give no object a destructor and ask for nothing waits for the next call
 pub story-awaits : (is : List Input) → AreCalls is → open_question (items (story 1 is)) ≡ Some Quiet
 story-awaits is a = each (asked (turns 0 (length is)) Quiet (empty 1) is) ((awaits (turns 0 (length is))).asks (empty 1) is tt a) (story-enough 1 (turns 0 (length is)) is (omega arith) (omega arith))
   where

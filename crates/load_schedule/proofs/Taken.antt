@@ -31,7 +31,7 @@ use Rattle.text_forms.proofs.Calls as calls
 use Rattle.schedule_replay.specs.Replays.{has_no_lf, is_plain, ended_line}
 use Rattle.schedule_replay.proofs.LineLaws.{lines_ended, plain_append}
 use Rattle.schedule_replay.proofs.ReplayLaws.{input-fits}
-use Rattle.load_schedule.proofs.Unhooked.{sets_no_hook}
+use Rattle.load_schedule.proofs.Unhooked.{is_calm}
 use Rattle.load_schedule.proofs.Silent.{AreCalls, story-awaits}
 
 -- ---- small numbers
@@ -190,14 +190,14 @@ call-sound (Unlink o x) d = rw (owner-sound o d.0, small x.0 d.1) refl
 call-sound (Count o) d = owner-sound o d
 call-sound _ d = absurd d
 
-call-unhooks : (c : Call) → IsDrawn c → sets_no_hook c ≡ true
-call-unhooks (New o size name) d = refl
-call-unhooks (Free x) d = refl
-call-unhooks (Steal o x) d = refl
-call-unhooks (Reference o x) d = refl
-call-unhooks (Unlink o x) d = refl
-call-unhooks (Count o) d = refl
-call-unhooks _ d = absurd d
+call-calm : (c : Call) → IsDrawn c → is_calm c ≡ true
+call-calm (New o size name) d = refl
+call-calm (Free x) d = refl
+call-calm (Steal o x) d = refl
+call-calm (Reference o x) d = refl
+call-calm (Unlink o x) d = refl
+call-calm (Count o) d = refl
+call-calm _ d = absurd d
 
 line-again : (c : Call) → IsDrawn c → input_of (line_of c) ≡ Some (inputs.Call c)
 unfolding input_of
@@ -223,7 +223,7 @@ inputs_of_calls cs = map inputs.Call cs
 
 are-calls : (cs : List Call) → AllDrawn cs → AreCalls (inputs_of_calls cs)
 are-calls [] d = tt
-are-calls (c ∷ cs) d = (call-sound c d.0, call-unhooks c d.0, are-calls cs d.1)
+are-calls (c ∷ cs) d = (call-sound c d.0, call-calm c d.0, are-calls cs d.1)
 
 first-calls : (pre post : List Input) → AreCalls (pre ++ post) → AreCalls pre
 first-calls [] post a = tt

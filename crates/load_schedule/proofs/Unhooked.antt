@@ -10,7 +10,7 @@ use Rattle.tree_specs.specs.Tree.Targets.{newest_ref}
 use Rattle.tree_specs.specs.Tree.Pool.{Pool, row_of, changed, without, in_front, place, named_row, sized_row, limited_row, hooked_row}
 use Rattle.tree_specs.specs.Calls.Refusals.{Check, refusals}
 use Rattle.tree_specs.specs.Calls.Plans.{Plan, plan, planned, gift, handed, frees, changed_by, unless_refused}
-use Rattle.tree_specs.specs.Calls.Plans.Plan.{Does, Frees, Unlinks, Empties}
+use Rattle.tree_specs.specs.Calls.Plans.Plan.{Does, Frees, Unlinks, Empties, AsksTime, Turns}
 use Rattle.tree_specs.proofs.Tree.Numbered.{by_test}
 
 -- no object has a destructor
@@ -46,17 +46,21 @@ unhooked-place p o x h = unhooked-front (row_of p.rows x) o (without p.rows x) (
 
 -- ---- calls
 
--- the call gives no object a destructor
-abbrev pub sets_no_hook : Call → Bool
-sets_no_hook (calls.Hook x routine) = false
-sets_no_hook _ = true
+-- the call gives no object a destructor, and neither asks for the time nor is a turn
+abbrev pub is_calm : Call → Bool
+is_calm (calls.Hook x routine) = false
+is_calm calls.Now = false
+is_calm calls.Turn = false
+is_calm _ = true
 
--- what is done to the rows gives none either
+-- what is done to the rows gives none either, and nothing is asked
 abbrev pub IsCalm : Plan → Type 0
 IsCalm (Does c warned r) = (q : Pool) → Unhooked q.rows → Unhooked (changed_by c q).rows
 IsCalm (Frees x) = Unit {0}
 IsCalm (Unlinks o x) = Unit {0}
 IsCalm (Empties x) = Unit {0}
+IsCalm AsksTime = ⊥
+IsCalm Turns = ⊥
 
 calm-edit : (f : Row → Row) (x : Obj) → ((r : Row) → r.hook ≡ 0 → (f r).hook ≡ 0) → (q : Pool) → Unhooked q.rows → Unhooked (changed f q.rows x)
 calm-edit f x keeps q h = unhooked-changed f q.rows x keeps h
@@ -69,7 +73,7 @@ calm-frees : (r : Option Obj) (x : Obj) → IsCalm (frees r x)
 calm-frees None x = tt
 calm-frees (Some r) x = tt
 
-calm-plan : (p : Pool) (c : Call) → sets_no_hook c ≡ true → IsCalm (plan p c)
+calm-plan : (p : Pool) (c : Call) → is_calm c ≡ true → IsCalm (plan p c)
 calm-plan p (calls.New o size name) e = λ q h. (refl, h)
 calm-plan p (calls.Free x) e = calm-frees (newest_ref p.rows x) x
 calm-plan p (calls.Freekids x) e = tt
@@ -86,11 +90,13 @@ calm-plan p (calls.Limit x max) e = calm-edit (limited_row max) x (λ r k. k)
 calm-plan p (calls.Immediate o) e = λ q h. (refl, h)
 calm-plan p (calls.Schedule x routine user) e = by_test (nat_eq routine 0) (λ t. rw t (λ q h. h)) (λ t. rw t (λ q h. h))
 calm-plan p (calls.Timer o time routine user) e = λ q h. (refl, h)
+calm-plan p calls.Now e = cc
+calm-plan p calls.Turn e = cc
 calm-plan p _ e = λ q h. h
 
 calm-unless : (checks : Check) (w : Plan) → IsCalm w → IsCalm (unless_refused checks w)
 calm-unless [] w h = h
 calm-unless (why ∷ later) w h = λ q k. k
 
-pub calm-planned : (p : Pool) (c : Call) → sets_no_hook c ≡ true → IsCalm (planned p c)
+pub calm-planned : (p : Pool) (c : Call) → is_calm c ≡ true → IsCalm (planned p c)
 calm-planned p c e = calm-unless (refusals p c) (plan p c) (calm-plan p c e)

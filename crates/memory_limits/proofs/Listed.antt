@@ -10,6 +10,7 @@ use Rattle.std.proofs.lemmas.Bool.{eqb-true, eq-eqb}
 use Rattle.std.specs.FinMap as map
 use Rattle.std.specs.FinMap.{nat_cmp-IsAntisymmetric, get-entries, get-insert, get-remove, entries_sorted, entries-insert, len-entries, len-empty}
 use Rattle.std.specs.FinMap.Entries.{find, put, where_key, is_sorted, is_sorted-where_key, find-where_key, below_all, same_entries}
+use Rattle.pool_arena.proofs.Entries.{others, entries-removed}
 use Rattle.pool_arena.proofs.Keeps.{ties, eqb-false}
 use Rattle.tree_specs.specs.declared.object.Obj.{Obj}
 use Rattle.tree_specs.specs.Words.Objects.{same}
@@ -98,10 +99,7 @@ uncounted-listed change x m none = not-found change x (listed m) (ap is_some (fo
 
 -- ---- an object has no limit any more
 
-abbrev others : Obj → ℕ → Bool
-others x q = not (eq_by_cmp nat_cmp x.0 q)
-
-left-entries : (x : Obj) (es : Entries) → listing (where_key nat_cmp (others x) es) ≡ unlimited (listing es) x
+left-entries : (x : Obj) (es : Entries) → listing (where_key nat_cmp (others x.0) es) ≡ unlimited (listing es) x
 left-entries x [] = refl
 left-entries x (e ∷ es) =
     let tie = ties x.0 e.0 in
@@ -110,20 +108,7 @@ left-entries x (e ∷ es) =
     (λ t. rw (tie, t) (ap (λ (ls : List Limited). limited_at e.0 e.1 ∷ ls) (left-entries x es)))
 
 pub removed-listed : (m : map.FinMap nat_cmp Allowance) (x : Obj) → listed (map.remove m x.0) ≡ unlimited (listed m) x
-removed-listed m x = ap listing entries ∙ left-entries x (map.entries m)
-  where
-    answers : (q : ℕ) → find nat_cmp q (map.entries (map.remove m x.0)) ≡ find nat_cmp q (where_key nat_cmp (others x) (map.entries m))
-    answers q =
-        let left = sym (get-entries (map.remove m x.0) q) ∙ get-remove nat_cmp_total m x.0 q in
-        let kept = find-where_key nat_cmp (others x) q (λ y e. ap (others x) (sym (nat_cmp-IsAntisymmetric q y e))) (map.entries m) in
-        let way = (eq_by_cmp_equiv nat_cmp_total).symm x.0 q in
-        let found_there = get-entries m q in
-        by_test (eq_by_cmp nat_cmp q x.0)
-        (λ t. rw t at left ∙ sym (rw (way, t) at kept))
-        (λ t. rw t at left ∙ found_there ∙ sym (rw (way, t) at kept))
-
-    entries : map.entries (map.remove m x.0) ≡ where_key nat_cmp (others x) (map.entries m)
-    entries = same_entries nat_cmp nat_cmp_total nat_cmp-IsAntisymmetric (map.entries (map.remove m x.0)) (where_key nat_cmp (others x) (map.entries m)) (entries_sorted (map.remove m x.0)) (is_sorted-where_key nat_cmp (others x) (map.entries m) (entries_sorted m)) answers
+removed-listed m x = ap listing (entries-removed m x.0) ∙ left-entries x (map.entries m)
 
 -- ---- an object gets a limit
 

@@ -56,8 +56,7 @@ impl Sums {
         ensures spare { OnOk result (more ≤ self.new.spare) }
         ensures kept { self.old.spare ≤ self.new.spare }
     {
-        self.limited.reserve(more)?;
-        Ok(())
+        Ok(self.limited.reserve(more)?)
     }
 
     fn is_empty(&self) -> bool

@@ -1,7 +1,6 @@
 -- Open frees go on alike whatever waits for its turn beside the rows; an object that leaves its owner waits no more.
 use Rattle.std.proofs.Common.{◌≡◌, ℕ, List, [], ◌∷◌, Option, Some, None, nat_eq, refl, ap, ◌∙◌}
 use Rattle.step_machine.specs.Machine.{Move as Do}
-use Rattle.tree_specs.specs.declared.due.Due.{Due}
 use Rattle.tree_specs.specs.declared.object.Obj.{Obj}
 use Rattle.tree_specs.specs.declared.object.Owner.{Owner}
 use Rattle.tree_specs.specs.declared.object.Owner.TheVariants.{Of}
@@ -9,7 +8,7 @@ use Rattle.tree_specs.specs.declared.row.Row.{Row}
 use Rattle.tree_specs.specs.declared.row.Mark.{Mark}
 use Rattle.tree_specs.specs.declared.row.Mark.TheVariants as mark
 use Rattle.tree_specs.specs.declared.frame.FreeFrame.{FreeFrame}
-use Rattle.tree_specs.specs.declared.frame.FreeFrame.TheVariants.{Unlinking, Releasing, Giving, Beginning, Hooked, Judged, Leaving, Looping, FreeingChild, AfterChild, Ending}
+use Rattle.tree_specs.specs.declared.frame.FreeFrame.TheVariants.{Unlinking, Releasing, Giving, Beginning, Hooked, Judged, Dooming, Leaving, Looping, FreeingChild, AfterChild, Ending}
 use Rattle.tree_specs.specs.declared.frame.Purpose.{Purpose}
 use Rattle.tree_specs.specs.declared.frame.Purpose.TheVariants.{Removal, Emptying}
 use Rattle.tree_specs.specs.declared.free_step.FreeReply.{FreeReply}
@@ -25,8 +24,8 @@ use Rattle.tree_specs.specs.Invariants.Sound.Footing.{OnFree, OnCall, AtBottom}
 use Rattle.tree_specs.specs.Invariants.Alone.{FreesHold, FreesWait}
 use Rattle.tree_specs.proofs.Tree.Numbered.{by_test}
 use Rattle.destructors.specs.Frees.{OpenFrees, answered, moved, moves, next_of, Silently, Still, On, speaking, speaks, Steps, Begins}
-use Rattle.destructors.specs.Works.{AtWork, GoesOn}
-use Rattle.object_pool.specs.Waiting.{beside, frees_beside, soon_after, times_after}
+use Rattle.destructors.specs.Works.{LeavesIdle, AtWork, GoesOn}
+use Rattle.object_pool.specs.Upcoming.{Upcoming, beside, frees_beside, after}
 
 -- ---- a move
 
@@ -45,65 +44,66 @@ with_pool g (Do.Emit t f p) = Do.Emit t f (g p)
 with_pool g (Do.Wait t f p) = Do.Wait t f (g p)
 with_pool g (Do.Call h f p) = Do.Call h f (g p)
 
--- a move over other objects that wait
-abbrev beside_move : List Obj → List Due → FreeMove → FreeMove
-beside_move ss ds m = with_pool (beside (soon_after (told_in m) ss) (times_after (told_in m) ds)) m
+-- a move with other events to come
+abbrev beside_move : Upcoming → FreeMove → FreeMove
+beside_move u m = with_pool (beside (after (told_in m) u)) m
 
-module _ (ss : List Obj) (ds : List Due) where
-  begin-beside : (x : Obj) (p : Pool) (o : Option Row) → begin_step x o (beside ss ds p) ≡ beside_move ss ds (begin_step x o p)
+module _ (events : Upcoming) where
+  begin-beside : (x : Obj) (p : Pool) (o : Option Row) → begin_step x o (beside events p) ≡ beside_move events (begin_step x o p)
   begin-beside x p None = refl
   begin-beside x p (Some r) = each r.mark refl
     where
-      each : (m : Mark) → r.mark ≡ m → begin_step x (Some r) (beside ss ds p) ≡ beside_move ss ds (begin_step x (Some r) p)
+      each : (m : Mark) → r.mark ≡ m → begin_step x (Some r) (beside events p) ≡ beside_move events (begin_step x (Some r) p)
       each mark.Quiet e = by_test (nat_eq r.hook 0) (λ t. rw (e, t) refl) (λ t. rw (e, t) refl)
       each mark.Asked e = rw e refl
       each mark.Busy e = rw e refl
       each mark.Doomed e = rw e refl
       each (mark.Dying former) e = rw e refl
 
-  drop-beside : (x r : Obj) (p : Pool) → drop_step x r (beside ss ds p) ≡ beside_move ss ds (drop_step x r p)
+  drop-beside : (x r : Obj) (p : Pool) → drop_step x r (beside events p) ≡ beside_move events (drop_step x r p)
   drop-beside x r p = by_test (is_inside p.rows (Of r) (Of x)) (λ t. rw t refl) (λ t. rw t refl)
 
-  refs-beside : (x : Obj) (p : Pool) (o : Option Obj) → refs_step x o (beside ss ds p) ≡ beside_move ss ds (refs_step x o p)
+  refs-beside : (x : Obj) (p : Pool) (o : Option Obj) → refs_step x o (beside events p) ≡ beside_move events (refs_step x o p)
   refs-beside x p None = begin-beside x p (row_of p.rows x)
   refs-beside x p (Some r) = drop-beside x r p
 
-  unlink-beside : (x : Obj) (p : Pool) (o : Option Obj) → unlink_step x o (beside ss ds p) ≡ beside_move ss ds (unlink_step x o p)
+  unlink-beside : (x : Obj) (p : Pool) (o : Option Obj) → unlink_step x o (beside events p) ≡ beside_move events (unlink_step x o p)
   unlink-beside x p None = refl
   unlink-beside x p (Some r) = refl
 
-  release-beside : (x : Obj) (p : Pool) (o : Option Obj) → release_step x o (beside ss ds p) ≡ beside_move ss ds (release_step x o p)
+  release-beside : (x : Obj) (p : Pool) (o : Option Obj) → release_step x o (beside events p) ≡ beside_move events (release_step x o p)
   release-beside x p None = refl
   release-beside x p (Some r) = by_test (is_inside p.rows (Of r) (Of x)) (λ t. rw t refl) (λ t. rw t refl)
 
-  judge-beside : (x : Obj) (h v : ℕ) (p : Pool) → judge_step x h v (beside ss ds p) ≡ beside_move ss ds (judge_step x h v p)
+  judge-beside : (x : Obj) (h v : ℕ) (p : Pool) → judge_step x h v (beside events p) ≡ beside_move events (judge_step x h v p)
   judge-beside x h v p = by_test (nat_eq v 0) (λ t. rw t refl) (λ t. rw t refl)
 
-  child-beside : (x c : Obj) (purpose : Purpose) (p : Pool) (o : Option Obj) → child_step x c purpose o (beside ss ds p) ≡ beside_move ss ds (child_step x c purpose o p)
+  child-beside : (x c : Obj) (purpose : Purpose) (p : Pool) (o : Option Obj) → child_step x c purpose o (beside events p) ≡ beside_move events (child_step x c purpose o p)
   child-beside x c purpose p None = refl
   child-beside x c purpose p (Some target) = refl
 
-  loop-beside : (x : Obj) (purpose : Purpose) (p : Pool) (o : Option Obj) → loop_step x purpose o (beside ss ds p) ≡ beside_move ss ds (loop_step x purpose o p)
+  loop-beside : (x : Obj) (purpose : Purpose) (p : Pool) (o : Option Obj) → loop_step x purpose o (beside events p) ≡ beside_move events (loop_step x purpose o p)
   loop-beside x (Removal h) p None = refl
   loop-beside x Emptying p None = refl
   loop-beside x purpose p (Some c) = child-beside x c purpose p (target_at p.rows c)
 
-  hand_on-beside : (x c : Obj) (noted : Option Owner) (purpose : Purpose) (p : Pool) → hand_on_step x c noted purpose (beside ss ds p) ≡ beside_move ss ds (hand_on_step x c noted purpose p)
+  hand_on-beside : (x c : Obj) (noted : Option Owner) (purpose : Purpose) (p : Pool) → hand_on_step x c noted purpose (beside events p) ≡ beside_move events (hand_on_step x c noted purpose p)
   hand_on-beside x c noted purpose p = by_test (is_below (owner_of p.rows c) (Of x)) (λ t. rw t refl) (λ t. rw t refl)
 
-  tried-beside : (x c : Obj) (noted : Option Owner) (purpose : Purpose) (a : FreeReply) (p : Pool) → tried_step x c noted purpose a (beside ss ds p) ≡ beside_move ss ds (tried_step x c noted purpose a p)
+  tried-beside : (x c : Obj) (noted : Option Owner) (purpose : Purpose) (a : FreeReply) (p : Pool) → tried_step x c noted purpose a (beside events p) ≡ beside_move events (tried_step x c noted purpose a p)
   tried-beside x c noted purpose free_reply.Ok p = refl
   tried-beside x c noted purpose free_reply.Held p = hand_on-beside x c noted purpose p
   tried-beside x c noted purpose free_reply.Running p = hand_on-beside x c noted purpose p
   tried-beside x c noted purpose (free_reply.Refused v) p = hand_on-beside x c noted purpose p
 
-  move-beside : (f : FreeFrame) (p : Pool) → free_step f (beside ss ds p) ≡ beside_move ss ds (free_step f p)
+  move-beside : (f : FreeFrame) (p : Pool) → free_step f (beside events p) ≡ beside_move events (free_step f p)
   move-beside (Unlinking o x) p = unlink-beside x p (newest_ref_of p.rows o x)
   move-beside (Releasing x) p = release-beside x p (newest_ref p.rows x)
   move-beside (Giving x o) p = refl
   move-beside (Beginning x) p = refs-beside x p (newest_ref p.rows x)
   move-beside (Hooked x h) p = refl
   move-beside (Judged x h v) p = judge-beside x h v p
+  move-beside (Dooming x) p = refl
   move-beside (Leaving x h) p = refl
   move-beside (Looping x purpose) p = loop-beside x purpose p (first_kid p.rows (Of x))
   move-beside (FreeingChild x c noted purpose) p = refl
@@ -114,55 +114,55 @@ module _ (ss : List Obj) (ds : List Due) where
 
   -- what comes of a move
   abbrev Beside : Option FreeStep × OpenFrees → Option FreeStep × OpenFrees
-  Beside n = (n.0, frees_beside (soon_after n.0 ss) (times_after n.0 ds) n.1)
+  Beside n = (n.0, frees_beside (after n.0 events) n.1)
 
-  answered-beside : (a : FreeReply) (p : Pool) (fs : List FreeFrame) → answered a (beside ss ds p) fs ≡ Beside (answered a p fs)
+  answered-beside : (a : FreeReply) (p : Pool) (fs : List FreeFrame) → answered a (beside events p) fs ≡ Beside (answered a p fs)
   answered-beside a p [] = refl
   answered-beside a p (Hooked x h ∷ fs) = refl
   answered-beside a p (f ∷ fs) = refl
 
-  moved-beside : (m : FreeMove) (fs : List FreeFrame) → moved (beside_move ss ds m) fs ≡ Beside (moved m fs)
+  moved-beside : (m : FreeMove) (fs : List FreeFrame) → moved (beside_move events m) fs ≡ Beside (moved m fs)
   moved-beside (Do.Done a p) fs = answered-beside a p fs
   moved-beside (Do.Go f p) fs = refl
   moved-beside (Do.Emit t f p) fs = refl
   moved-beside (Do.Wait t f p) fs = refl
   moved-beside (Do.Call g f p) fs = refl
 
-  pub next-beside : (s : OpenFrees) → next_of (frees_beside ss ds s) ≡ Beside (next_of s)
+  pub next-beside : (s : OpenFrees) → next_of (frees_beside events s) ≡ Beside (next_of s)
   next-beside s = each s.works
     where
-      each : (fs : List FreeFrame) → moves fs (beside ss ds s.pool) ≡ Beside (moves fs s.pool)
+      each : (fs : List FreeFrame) → moves fs (beside events s.pool) ≡ Beside (moves fs s.pool)
       each [] = refl
       each (f ∷ fs) = ap (λ (m : FreeMove). moved m fs) (move-beside f s.pool) ∙ moved-beside (free_step f s.pool) fs
 
-  pub speaking-beside : (s : OpenFrees) → speaking (frees_beside ss ds s) ≡ speaking s
+  pub speaking-beside : (s : OpenFrees) → speaking (frees_beside events s) ≡ speaking s
   speaking-beside s = ap (λ (n : Option FreeStep × OpenFrees). speaks s.works n.0) (next-beside s)
 
-  pub silent-beside : (s t : OpenFrees) → Silently s t → Silently (frees_beside ss ds s) (frees_beside ss ds t)
+  pub silent-beside : (s t : OpenFrees) → Silently s t → Silently (frees_beside events s) (frees_beside events t)
   silent-beside s _ Still = Still
-  silent-beside s _ (On t u before e) = On (frees_beside ss ds t) (frees_beside ss ds u) (silent-beside s t before) (next-beside t ∙ ap Beside e)
+  silent-beside s _ (On t u before e) = On (frees_beside events t) (frees_beside events u) (silent-beside s t before) (next-beside t ∙ ap Beside e)
 
-  pub begins-beside : (works : List FreeFrame) (p : Pool) (t : OpenFrees) → Begins works p t → Begins works (beside ss ds p) (frees_beside ss ds t)
+  pub begins-beside : (works : List FreeFrame) (p : Pool) (t : OpenFrees) → Begins works p t → Begins works (beside events p) (frees_beside events t)
   begins-beside works p t b = record { moves_on = silent-beside _ t b.moves_on; settles = speaking-beside t ∙ b.settles }
 
--- a step, and what it leaves waiting
-pub steps-beside : (ss : List Obj) (ds : List Due) (s t : OpenFrees) (told : FreeStep) → Steps s told t → Steps (frees_beside ss ds s) told (frees_beside (soon_after (Some told) ss) (times_after (Some told) ds) t)
-steps-beside ss ds s t told h =
-    let n = next-beside ss ds s in
+-- a step, and what it leaves to come
+pub steps-beside : (u : Upcoming) (s t : OpenFrees) (told : FreeStep) → Steps s told t → Steps (frees_beside u s) told (frees_beside (after (Some told) u) t)
+steps-beside u s t told h =
+    let n = next-beside u s in
     record {
       tells = ap (λ (k : Option FreeStep × OpenFrees). k.0) n ∙ h.tells;
-      moves_on = rw (n, h.tells) (silent-beside (soon_after (Some told) ss) (times_after (Some told) ds) (next_of s).1 t h.moves_on);
-      settles = speaking-beside (soon_after (Some told) ss) (times_after (Some told) ds) t ∙ h.settles;
+      moves_on = rw (n, h.tells) (silent-beside (after (Some told) u) (next_of s).1 t h.moves_on);
+      settles = speaking-beside (after (Some told) u) t ∙ h.settles;
     }
 
--- ---- what holds of open frees holds whatever waits
+-- ---- what holds of open frees holds whatever is to come
 
-module _ (rows : List Row) (next : ℕ) (ss ss' : List Obj) (ds ds' : List Due) where
+module _ (p : Pool) (u v : Upcoming) where
   abbrev here : Pool
-  here = record { rows = rows; next = next; soon = ss; times = ds }
+  here = beside u p
 
   abbrev there : Pool
-  there = record { rows = rows; next = next; soon = ss'; times = ds' }
+  there = beside v p
 
   rests-same : (f : FreeFrame) (on : Footing) (claimed : Obj → List Phase) → FreeRests f on claimed here → FreeRests f on claimed there
   rests-same (Unlinking o x) on claimed h = h
@@ -175,6 +175,11 @@ module _ (rows : List Row) (next : ℕ) (ss ss' : List Obj) (ds ds' : List Due) 
   rests-same (Beginning x) _ claimed h = absurd h.0
   rests-same (Hooked x g) on claimed h = h
   rests-same (Judged x g v) on claimed h = h
+  rests-same (Dooming x) (OnFree (FreeingChild y d noted purpose)) claimed h = h
+  rests-same (Dooming x) (OnFree _) claimed h = absurd h.0
+  rests-same (Dooming x) OnCall claimed h = h
+  rests-same (Dooming x) AtBottom claimed h = h
+  rests-same (Dooming x) _ claimed h = absurd h.0
   rests-same (Leaving x g) on claimed h = h
   rests-same (Looping x purpose) on claimed h = h
   rests-same (FreeingChild x c noted purpose) on claimed h = h
@@ -187,7 +192,11 @@ module _ (rows : List Row) (next : ℕ) (ss ss' : List Obj) (ds ds' : List Due) 
 
   pub works-same : (fs : List FreeFrame) → AtWork fs here → AtWork fs there
   works-same [] h = h
-  works-same (f ∷ fs) h = record { sound = holds-same _ fs _ _ (rests-same f _ _) h.sound; light = h.light }
+  works-same (f ∷ fs) h = (record { sound = holds-same _ fs _ _ (rests-same f _ _) h.0.sound; light = h.0.light }, idle f h.1)
+    where
+      idle : (g : FreeFrame) → LeavesIdle g here → LeavesIdle g there
+      idle (Leaving x e) i = i
+      idle _ i = tt
 
   pub awaits-same : (fs : List FreeFrame) → FreesWait fs here → FreesWait fs there
   awaits-same fs h = record { sound = holds-same _ fs _ _ (λ g. g) h.sound; light = h.light }

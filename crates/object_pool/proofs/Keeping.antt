@@ -6,9 +6,10 @@ use Rattle.tree_specs.specs.declared.object.Obj.{Obj}
 use Rattle.tree_specs.specs.declared.object.Owner.{Owner}
 use Rattle.tree_specs.specs.declared.row.Row.{Row}
 use Rattle.tree_specs.specs.Tree.Inside.{total}
-use Rattle.tree_specs.specs.Tree.Pool.{Pool, row_of, is_row, changed, place}
+use Rattle.tree_specs.specs.declared.row.Mark.{Mark}
+use Rattle.tree_specs.specs.Tree.Pool.{Pool, row_of, is_row, changed, marked_row, place, set_mark}
 use Rattle.tree_specs.specs.Tree.Sums.{charge}
-use Rattle.tree_specs.proofs.Turns.FallingFrees.{length-changed, length-placed}
+use Rattle.tree_specs.proofs.Turns.FallingFrees.{total-kept, length-changed, length-placed}
 use Rattle.tree_specs.proofs.Tree.Rows.{total-placed}
 use Rattle.tree_specs.proofs.Tree.SumLaws.{changed-weights}
 use Rattle.tree_links.specs.Links.{Links, pool_of, works_of}
@@ -19,20 +20,20 @@ use Rattle.references.proofs.SameRefs.{put-elsewhere}
 use Rattle.memory_limits.specs.Limits.{Limits, AreLimitsOf}
 use Rattle.destructors.specs.Frees.{OpenFrees, Steps, before, frees_of, returned}
 use Rattle.tree_specs.specs.declared.free_step.FreeStep.{FreeStep}
-use Rattle.tree_specs.specs.declared.free_step.FreeStep.TheVariants.{Left}
+use Rattle.tree_specs.specs.declared.free_step.FreeStep.TheVariants.{Doom, Left}
 use Rattle.tree_specs.specs.declared.due.Due.{Due}
 use Rattle.tree_specs.proofs.Tree.Numbered.{by_test}
 use Rattle.destructors.specs.Engine.{IsAsked, AreKept, HasRoom}
-use Rattle.destructors.specs.Room.{row_places, wanted}
+use Rattle.destructors.specs.Room.{mark_places, row_places, wanted}
 use Rattle.destructors.proofs.Begins.{any-room}
 use Rattle.object_pool.specs.Objects.{HasPlaces}
 use Rattle.tree_specs.specs.Events.Pending.{unscheduled, disarmed}
 use Rattle.tree_specs.specs.Words.Objects.{same}
 use Rattle.object_pool.specs.Agreeing.{AgreeWith}
-use Rattle.object_pool.specs.Waiting.{AllNumbered, soon_after, times_after}
-use Rattle.object_pool.proofs.Numbers.{numbered-later, numbered-told, steps-next}
-use Rattle.immediates.specs.Waiting.{Waiting}
-use Rattle.timers.specs.Timetable.{Timetable}
+use Rattle.loop_core.specs.declared.pick.Pick.{Pick}
+use Rattle.loop_core.specs.declared.pick.Pick.TheVariants.{Soon, Time}
+use Rattle.object_pool.specs.Upcoming.{Upcoming, Agenda, KeepsPlaces, AllNumbered, after, picked, pending, without_event}
+use Rattle.object_pool.proofs.Numbers.{numbered-later, numbered-told, numbered-picked, steps-next}
 use Rattle.object_pool.specs.declared.pool.ObjectPool.TheInside.{Inside}
 use Rattle.object_pool.proofs.Counted.{same-kept}
 use Rattle.object_pool.proofs.Fields.{changed-kept}
@@ -44,17 +45,22 @@ fewer : (xs : List Obj) (x : Obj) → length (unscheduled xs x) ≤ length xs
 fewer [] x = omega arith
 fewer (y ∷ ys) x = let n = fewer ys x in by_test (same y x) (λ t. rw t (omega (arith, n))) (λ t. rw t (omega (arith, n)))
 
-soon-fewer : (told : FreeStep) (xs : List Obj) → length (soon_after (Some told) xs) ≤ length xs
-soon-fewer (Left x from) xs = fewer xs x
-soon-fewer _ xs = omega arith
-
 disarmed-fewer : (ds : List Due) (x : Obj) → length (disarmed ds x) ≤ length ds
 disarmed-fewer [] x = omega arith
 disarmed-fewer (d ∷ ds) x = let n = disarmed-fewer ds x in by_test (same d.object x) (λ t. rw t (omega (arith, n))) (λ t. rw t (omega (arith, n)))
 
-times-fewer : (told : FreeStep) (ds : List Due) → length (times_after (Some told) ds) ≤ length ds
-times-fewer (Left x from) ds = disarmed-fewer ds x
-times-fewer _ ds = omega arith
+without-fewer : (x : Obj) (u : Upcoming) → pending (without_event x u) ≤ pending u
+without-fewer x u = let m = fewer u.soon x in let n = disarmed-fewer u.times x in omega (arith, m, n)
+
+told-fewer : (told : FreeStep) (u : Upcoming) → pending (after (Some told) u) ≤ pending u
+told-fewer (Left x from) u = without-fewer x u
+told-fewer (Doom x) u = without-fewer x u
+told-fewer _ u = omega arith
+
+picked-fewer : (pick : Pick) (u : Upcoming) → pending (picked pick u) ≤ pending u
+picked-fewer (Soon x) u = let m = fewer u.soon x in omega (arith, m)
+picked-fewer (Time x now) u = let n = disarmed-fewer u.times x in omega (arith, n)
+picked-fewer _ u = omega arith
 
 -- ---- rows that want no more room
 
@@ -74,23 +80,25 @@ kept-same None t t' e k = e ∙ k
 kept-same (Some f) t t' e k = tt
 
 -- places that are there stay, where others change
-pub still-places : (ps ps' : Pairs) (ls ls' : Limits) (ss : Waiting) (ts : Timetable) → ps.spare ≤ ps'.spare → ls.spare ≤ ls'.spare → HasPlaces ps ls ss ts → HasPlaces ps' ls' ss ts
-still-places ps ps' ls ls' ss ts p l h = record {
+pub still-places : (ps ps' : Pairs) (ls ls' : Limits) (a : Agenda) → ps.spare ≤ ps'.spare → ls.spare ≤ ls'.spare → HasPlaces ps ls a → HasPlaces ps' ls' a
+still-places ps ps' ls ls' a p l h = record {
   reference = (let r = h.reference in omega (arith, r, p));
   limit = (let m = h.limit in omega (arith, m, l));
-  immediate = h.immediate;
-  timer = h.timer;
+  event = h.event;
   waiting = h.waiting;
 }
 
 -- those that wait may become fewer
-fewer-wait : (ps : Pairs) (ls : Limits) (ss ss' : Waiting) (ts ts' : Timetable) → ss.spare ≤ ss'.spare → ts.spare ≤ ts'.spare → length ss'.objects ≤ length ss.objects → length ts'.dues ≤ length ts.dues → HasPlaces ps ls ss ts → HasPlaces ps ls ss' ts'
-fewer-wait ps ls ss ss' ts ts' s t m n h = record {
+fewer-wait : (ps : Pairs) (ls : Limits) (a a' : Agenda) → KeepsPlaces a a' → pending a'.upcoming ≤ pending a.upcoming → HasPlaces ps ls a → HasPlaces ps ls a'
+fewer-wait ps ls a a' k n h = record {
   reference = h.reference;
   limit = h.limit;
-  immediate = (let i = h.immediate in omega (arith, i, s));
-  timer = (let i = h.timer in omega (arith, i, t));
-  waiting = (let w = h.waiting in omega (arith, w, m, n));
+  event = record {
+    soon = (let i = h.event.soon in let s = k.soon in omega (arith, i, s));
+    time = (let i = h.event.time in let s = k.times in omega (arith, i, s));
+    handler = (let i = h.event.handler in let s = k.handlers in omega (arith, i, s));
+  };
+  waiting = (let w = h.waiting in omega (arith, w, n));
 }
 
 pub stays : (b : Inside) (t' : Links) (ls' : Limits) → Stays b.tree t' → AreRefsOf b.refs.pairs t'.rows → AreLimitsOf ls'.limited t'.rows → b.sums.spare ≤ ls'.spare → AgreeWith b → AgreeWith (record b { tree = t'; sums = ls' })
@@ -101,11 +109,11 @@ stays b t' ls' s refs limits spare a =
       references = refs;
       limits = limits;
       kept = kept-same b.engine b.tree t' frees a.kept;
-      numbers = numbered-later b.tree.next t'.next b.times.dues s.next a.numbers;
+      numbers = numbered-later b.tree.next t'.next b.events.upcoming.times s.next a.numbers;
       room = rw (frees, room, wanted-same (before b.engine b.tree.frees) b.tree.rows t'.rows s.places) a.room;
       call = λ e. let c = a.call e in record { row = (let r = c.row in omega (arith, r, s.spare)); works = rw (s.rows, room) c.works };
       placed = a.placed;
-      places = λ e. still-places b.refs b.refs b.sums ls' b.soon b.times (omega arith) spare (a.places e);
+      places = λ e. still-places b.refs b.refs b.sums ls' b.events (omega arith) spare (a.places e);
     }
 
 -- ---- a row is changed
@@ -159,7 +167,7 @@ pub never : {A : Type 0} → false ≡ true → A
 never e = cc
 
 -- what the memory for a call was taken for
-pub spent : (b : Inside) (t' : Links) (ps' : Pairs) (ls' : Limits) (pl : Bool) → (pl ≡ true → HasPlaces ps' ls' b.soon b.times) → b.ready ≡ true → b.tree.next ≤ t'.next → length t'.rows ≤ length b.tree.rows + 1 → works_of t' ≡ works_of b.tree → AreRefsOf ps'.pairs t'.rows → AreLimitsOf ls'.limited t'.rows
+pub spent : (b : Inside) (t' : Links) (ps' : Pairs) (ls' : Limits) (pl : Bool) → (pl ≡ true → HasPlaces ps' ls' b.events) → b.ready ≡ true → b.tree.next ≤ t'.next → length t'.rows ≤ length b.tree.rows + 1 → works_of t' ≡ works_of b.tree → AreRefsOf ps'.pairs t'.rows → AreLimitsOf ls'.limited t'.rows
     → AgreeWith b → AgreeWith (record b { tree = t'; refs = ps'; sums = ls'; places = pl; ready = false })
 spent b t' ps' ls' pl places ready next rows works refs limits a =
     let frees : t'.frees ≡ b.tree.frees = ap (λ (z : List FreeFrame × ℕ). z.0) works in
@@ -170,7 +178,7 @@ spent b t' ps' ls' pl places ready next rows works refs limits a =
       limits = limits;
       kept = kept-same b.engine b.tree t' frees a.kept;
       room = any-room b.engine t' (omega (arith, c, room, rows));
-      numbers = numbered-later b.tree.next t'.next b.times.dues next a.numbers;
+      numbers = numbered-later b.tree.next t'.next b.events.upcoming.times next a.numbers;
       call = never;
       placed = never;
       places = places;
@@ -194,52 +202,71 @@ begun b o t r a refs same next spare kept room = record {
   limits = same-kept b.sums.limited b.tree.rows t.rows same a.limits;
   kept = kept;
   room = room;
-  numbers = numbered-later b.tree.next t.next b.times.dues (omega (arith, next)) a.numbers;
+  numbers = numbered-later b.tree.next t.next b.events.upcoming.times (omega (arith, next)) a.numbers;
   call = never;
   placed = never;
-  places = λ e. still-places b.refs r b.sums b.sums b.soon b.times spare (omega arith) (a.places e);
+  places = λ e. still-places b.refs r b.sums b.sums b.events spare (omega arith) (a.places e);
 }
 
 -- what a step of a free leaves of the books beside the rows
-pub record Books (b : Inside) (told : FreeStep) (r : Pairs) (ls : Limits) (ss : Waiting) (ts : Timetable) : Type 0 where
+pub record Books (b : Inside) (told : FreeStep) (r : Pairs) (ls : Limits) (e : Agenda) : Type 0 where
   pub refs : b.refs.spare ≤ r.spare
   pub sums : b.sums.spare ≤ ls.spare
-  pub soon : ss.objects ≡ soon_after (Some told) b.soon.objects
-  pub soon_spare : b.soon.spare ≤ ss.spare
-  pub times : ts.dues ≡ times_after (Some told) b.times.dues
-  pub times_spare : b.times.spare ≤ ts.spare
+  pub upcoming : e.upcoming ≡ after (Some told) b.events.upcoming
+  pub places : KeepsPlaces b.events e
 
 -- a step of a free, with the engine, the tree and all books after it
-pub stepped : (b : Inside) (o : Option FreeFrame) (t : Links) (r : Pairs) (ls : Limits) (ss : Waiting) (ts : Timetable) (told : FreeStep) → Steps (frees_of b.engine b.tree) told (frees_of o t) → Books b told r ls ss ts
-    → AreRefsOf r.pairs t.rows → AreLimitsOf ls.limited t.rows → AreKept o t → HasRoom o t → AgreeWith b → AgreeWith (record b { engine = o; tree = t; refs = r; sums = ls; soon = ss; times = ts; ready = false })
-stepped b o t r ls ss ts told steps k refs limits kept room a = record {
+pub stepped : (b : Inside) (o : Option FreeFrame) (t : Links) (r : Pairs) (ls : Limits) (e : Agenda) (told : FreeStep) → Steps (frees_of b.engine b.tree) told (frees_of o t) → Books b told r ls e
+    → AreRefsOf r.pairs t.rows → AreLimitsOf ls.limited t.rows → AreKept o t → HasRoom o t → AgreeWith b → AgreeWith (record b { engine = o; tree = t; refs = r; sums = ls; events = e; ready = false })
+stepped b o t r ls e told steps k refs limits kept room a = record {
   references = refs;
   limits = limits;
   kept = kept;
   room = room;
-  numbers = subst (AllNumbered t.next) (sym k.times) (numbered-told t.next b.times.dues told (numbered-later b.tree.next t.next b.times.dues (let n = steps-next _ _ _ steps in omega (arith, n)) a.numbers));
+  numbers = rw k.upcoming (numbered-told t.next b.events.upcoming told (numbered-later b.tree.next t.next b.events.upcoming.times (let n = steps-next _ _ _ steps in omega (arith, n)) a.numbers));
   call = never;
   placed = never;
-  places = λ e. fewer-wait r ls b.soon ss b.times ts k.soon_spare k.times_spare
-      (rw k.soon (soon-fewer told b.soon.objects)) (rw k.times (times-fewer told b.times.dues))
-      (still-places b.refs r b.sums ls b.soon b.times k.refs k.sums (a.places e));
+  places = λ there. fewer-wait r ls b.events e k.places (rw k.upcoming (told-fewer told b.events.upcoming)) (still-places b.refs r b.sums ls b.events k.refs k.sums (a.places there));
 }
 
--- ---- other objects wait
+-- ---- other events are to come
 
--- what waits has changed, and the memory for one more is used up
-pub waits : (b : Inside) (s' : Waiting) (t' : Timetable) → AllNumbered b.tree.next t'.dues → AgreeWith b → AgreeWith (record b { soon = s'; times = t'; places = false; ready = false })
-waits b s' t' numbers a = record { references = a.references; limits = a.limits; kept = a.kept; room = a.room; numbers = numbers; call = never; placed = never; places = never }
+-- what is to come has changed, and the memory for one more is used up
+pub waits : (b : Inside) (e : Agenda) → AllNumbered b.tree.next e.upcoming.times → AgreeWith b → AgreeWith (record b { events = e; places = false; ready = false })
+waits b e numbers a = record { references = a.references; limits = a.limits; kept = a.kept; room = a.room; numbers = numbers; call = never; placed = never; places = never }
 
--- one fewer waits
-pub unscheduled-agree : (b : Inside) (s' : Waiting) (x : Obj) → s'.objects ≡ unscheduled b.soon.objects x → b.soon.spare ≤ s'.spare → AgreeWith b → AgreeWith (record b { soon = s' })
-unscheduled-agree b s' x is spare a = record {
+-- fewer wait
+still-agree : (b : Inside) (e : Agenda) → KeepsPlaces b.events e → pending e.upcoming ≤ pending b.events.upcoming → AllNumbered b.tree.next e.upcoming.times → AgreeWith b → AgreeWith (record b { events = e })
+still-agree b e k n numbers a = record {
   references = a.references;
   limits = a.limits;
   kept = a.kept;
   room = a.room;
-  numbers = a.numbers;
+  numbers = numbers;
   call = a.call;
   placed = a.placed;
-  places = λ e. fewer-wait b.refs b.sums b.soon s' b.times b.times spare (omega arith) (rw is (fewer b.soon.objects x)) (omega arith) (a.places e);
+  places = λ there. fewer-wait b.refs b.sums b.events e k n (a.places there);
 }
+
+pub unscheduled-agree : (b : Inside) (e : Agenda) (x : Obj) → e.upcoming ≡ record b.events.upcoming { soon = unscheduled b.events.upcoming.soon x } → KeepsPlaces b.events e → AgreeWith b → AgreeWith (record b { events = e })
+unscheduled-agree b e x is k a = still-agree b e k (rw is (picked-fewer (Soon x) b.events.upcoming)) (rw is a.numbers) a
+
+pub picked-agree : (b : Inside) (e : Agenda) (pick : Pick) → e.upcoming ≡ picked pick b.events.upcoming → KeepsPlaces b.events e → AgreeWith b → AgreeWith (record b { events = e })
+picked-agree b e pick is k a = still-agree b e k (rw is (picked-fewer pick b.events.upcoming)) (rw is (numbered-picked b.tree.next b.events.upcoming pick a.numbers)) a
+
+-- ---- an object that doesn't die gets another mark
+
+pub marked-agree : (m : Mark) (b : Inside) (t' : Links) (x : Obj) → pool_of t' ≡ set_mark (pool_of b.tree) x m → works_of t' ≡ works_of b.tree → b.tree.spare ≤ t'.spare → (r : Row) → row_of b.tree.rows x ≡ Some r → mark_places m ≡ mark_places r.mark
+    → AgreeWith b → AgreeWith (record b { tree = t' })
+marked-agree m b t' x is works spare r at same_places a =
+    let rows : t'.rows ≡ changed (marked_row m) b.tree.rows x = ap (λ (p : Pool). p.rows) is in
+    let next : t'.next ≡ b.tree.next = ap (λ (p : Pool). p.next) is in
+    stays b t' b.sums (record {
+      works = works;
+      spare = spare;
+      rows = ap length rows ∙ length-changed (marked_row m) b.tree.rows x;
+      next = omega (arith, next);
+      places = ap (total row_places) rows ∙ total-kept row_places (marked_row m) b.tree.rows x r at same_places;
+    })
+    (subst (AreRefsOf b.refs.pairs) (sym rows) (refs-same b.refs.pairs b.tree.rows (changed (marked_row m) b.tree.rows x) (same-changed (marked_row m) b.tree.rows x (λ q. refl) (λ q. refl)) a.references))
+    (subst (AreLimitsOf b.sums.limited) (sym rows) (changed-kept (marked_row m) b.sums.limited b.tree.rows x (λ q. refl) (λ q. refl) (λ q. refl) (λ q. refl) a.limits)) (omega arith) a

@@ -1,3 +1,5 @@
+pub mod Marks
+pub mod HandlerMaps
 pub mod Counted
 pub mod Told
 pub mod Fields

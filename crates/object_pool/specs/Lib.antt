@@ -1,4 +1,4 @@
 pub mod Counting
-pub mod Waiting
+pub mod Upcoming
 pub mod Objects
 pub mod Agreeing

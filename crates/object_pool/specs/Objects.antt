@@ -1,7 +1,6 @@
 -- Objects as their callers see them, and what is kept of them.
 use Rattle.std.specs.Prelude.{◌≡◌, true, false, ◌+◌, ◌^◌, ◌<◌, ◌≤◌, Bool, List, length, Option, Some}
 use Rattle.tree_specs.specs.declared.frame.FreeFrame.{FreeFrame}
-use Rattle.tree_specs.specs.declared.due.Due.{Due}
 use Rattle.tree_specs.specs.declared.object.Obj.{Obj}
 use Rattle.tree_specs.specs.declared.object.Owner.{Owner}
 use Rattle.tree_specs.specs.declared.row.Row.{Row}
@@ -10,9 +9,7 @@ use Rattle.tree_links.specs.Links.{Links, pool_of, MayPlace}
 use Rattle.references.specs.Pairs.{Pairs}
 use Rattle.memory_limits.specs.Limits.{Limits}
 use Rattle.destructors.specs.Frees.{OpenFrees, before}
-use Rattle.immediates.specs.Waiting.{Waiting}
-use Rattle.timers.specs.Timetable.{Timetable}
-use Rattle.object_pool.specs.Waiting.{beside}
+use Rattle.object_pool.specs.Upcoming.{Upcoming, Agenda, HasPlace, beside, pending}
 
 pub record Objects : Type 0 where
   pub pool : Pool
@@ -30,8 +27,8 @@ abbrev pub frees_in : Objects → OpenFrees
 frees_in o = record { works = o.works; pool = o.pool }
 
 -- by the parts
-abbrev pub objects_of : Option FreeFrame → Links → List Obj → List Due → Bool → Objects
-objects_of engine tree soon times ready = record { pool = beside soon times (pool_of tree); works = before engine tree.frees; ready = ready }
+abbrev pub objects_of : Option FreeFrame → Links → Upcoming → Bool → Objects
+objects_of engine tree upcoming ready = record { pool = beside upcoming (pool_of tree); works = before engine tree.frees; ready = ready }
 
 -- the memory for the rows and works of a call, with all that comes of it up to the next question
 pub record HasCallRoom (tree : Links) : Type 0 where
@@ -39,12 +36,11 @@ pub record HasCallRoom (tree : Links) : Type 0 where
   pub works : length tree.rows + 4 ≤ tree.room
 
 -- the memory for one more reference, one more limit, and one more object that waits; and those that wait can be counted
-pub record HasPlaces (refs : Pairs) (sums : Limits) (soon : Waiting) (times : Timetable) : Type 0 where
+pub record HasPlaces (refs : Pairs) (sums : Limits) (agenda : Agenda) : Type 0 where
   pub reference : 0 < refs.spare
   pub limit : 0 < sums.spare
-  pub immediate : 0 < soon.spare
-  pub timer : 0 < times.spare
-  pub waiting : length soon.objects + length times.dues < 2 ^ 64
+  pub event : HasPlace agenda
+  pub waiting : pending agenda.upcoming < 2 ^ 64
 
 -- a reference may be put below any owner: it owns nothing, and nothing goes on with it
 abbrev pub RefsMayGo : List Row → Type 0

@@ -2,7 +2,7 @@
 #![tactic(auto)]
 
 mod counting;
-mod disarming;
+mod events;
 mod pool;
 
 pub use pool::ObjectPool;

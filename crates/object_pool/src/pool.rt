@@ -1,20 +1,19 @@
 use crate::counting::{count_added, count_step, count_went};
-use crate::disarming::disarm_left;
+use crate::events::Events;
 use destructors::FreeEngine;
-use immediates::Soon;
 use memory_limits::Sums;
 use references::{Refs, refer};
 use std::alloc::Global;
 use std::marker::Model;
-use timers::Times;
 use tree_links::{NewRow, Tree};
 use tree_report::{count, rows, total};
 use tree_specs::{FreeStep, Kind, Memory, Name, Obj, Owner, Refusal, ReportRows, Row};
 
+mod turning;
 mod waiting;
 
-/// The objects: who owns whom, what refers to what, what their limits are, which of them wait for their turn, and the
-/// frees that are open on them.
+/// The objects: who owns whom, what refers to what, what their limits are, which of them are to come and what runs then,
+/// and the frees that are open on them.
 /// Contracts see the pool, the works of the open frees, the innermost first, and whether the memory for one call is
 /// taken. No change takes memory: what may want some asks for that before.
 #[derive(Debug, Drop)]
@@ -23,9 +22,8 @@ pub struct ObjectPool {
     tree: Tree,
     refs: Refs,
     sums: Sums,
-    soon: Soon,
-    times: Times,
-    /// The memory for one more reference, one more limit and one more object that waits is taken.
+    events: Events,
+    /// The memory for one more reference, one more limit and one more event that is to come is taken.
     places: bool,
     /// The memory for one call is taken.
     ready: bool,
@@ -39,13 +37,13 @@ impl Model for ObjectPool {
     ghost use Rattle.object_pool.specs.Objects.{objects_of};
     ghost use Rattle.object_pool.specs.Agreeing.{AgreeWith};
 
-    ghost view = { λ p. objects_of p.engine p.tree p.soon.objects p.times.dues p.ready };
+    ghost view = { λ p. objects_of p.engine p.tree p.events.upcoming p.ready };
 
     ghost invariant = { AgreeWith };
 }
 
 impl ObjectPool {
-    ghost use Rattle.std.specs.Prelude.{◌≡◌, ℕ, ◌^◌, ◌-◌, ◌<◌, ◌∷◌, [], true, false, None, ◌&&◌, IfOk, OnOk, OnErr, length, slice_get};
+    ghost use Rattle.std.specs.Prelude.{◌≡◌, ℕ, ◌^◌, ◌-◌, ◌<◌, ◌∷◌, [], true, false, None, ◌&&◌, IfOk, OnOk, OnErr, is_some, length, slice_get};
     ghost use Rattle.std.specs.Option.{option_copied};
     ghost use Rattle.tree_specs.specs.declared.object.Owner.TheVariants.{Of as At};
     ghost use Rattle.tree_specs.specs.declared.frame.FreeFrame.TheVariants.{Unlinking, Beginning, Looping};
@@ -74,8 +72,7 @@ impl ObjectPool {
             tree: Tree::new(alloc, first),
             refs: Refs::new(alloc),
             sums: Sums::new(alloc),
-            soon: Soon::new(alloc),
-            times: Times::new(alloc),
+            events: Events::new(alloc),
             places: false,
             ready: false,
         }
@@ -87,12 +84,9 @@ impl ObjectPool {
         ensures err { OnErr result (self.new ≡ self.old) }
     {
         if !self.places {
-            // As many as can be counted may wait.
-            self.soon.len().checked_add(self.times.len()).ok_or(Memory)?;
             self.refs.reserve(1)?;
             self.sums.reserve(1)?;
-            self.soon.reserve(1)?;
-            self.times.reserve(1)?;
+            self.events.reserve()?;
             self.places = true;
         }
         self.tree.reserve(2)?;
@@ -248,6 +242,13 @@ impl ObjectPool {
         self.engine.answer(&self.tree, value);
     }
 
+    /// Whether a free is open.
+    pub fn is_freeing(&self) -> bool
+        ensures { result ≡ is_some (slice_get self.now.works 0) }
+    {
+        self.engine.is_open()
+    }
+
     /// Whether the next step of the innermost free tells an event.
     pub fn announces(&self) -> bool
         requires { speaking (frees_in self.now) ≡ true }
@@ -269,7 +270,7 @@ impl ObjectPool {
         self.ready = false;
         let step = self.engine.step(&mut self.tree, &mut self.refs);
         count_step(&step, &self.tree, &mut self.sums);
-        disarm_left(&step, &mut self.soon, &mut self.times);
+        self.events.follow(&step);
         step
     }
 

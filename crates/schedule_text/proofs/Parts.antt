@@ -1,10 +1,12 @@
 -- Texts of several parts that are written one after the other.
-use Rattle.std.proofs.Common.{◌≡◌, ℕ, List, [], ◌∷◌, ◌++◌, length, codes, sym, ap, ◌∙◌, append_assoc}
+use Rattle.std.proofs.Common.{◌≡◌, ℕ, List, [], ◌∷◌, ◌++◌, length, codes, sym, ap, ◌∙◌, append_assoc, append-nil}
+use Rattle.std.specs.Fmt.{decimal}
 use Rattle.hex.specs.Hex.{encode_lower}
 use Rattle.tree_specs.specs.declared.question.Ask.TheVariants as asks
 use Rattle.tree_specs.specs.declared.reply.Reply.TheVariants as replies
 use Rattle.tree_specs.specs.declared.report.ReportRow.{ReportRow}
-use Rattle.tree_specs.specs.Texts.Text.{ask_text, reply_text, numbers_text, rows_text, newline}
+use Rattle.tree_specs.specs.declared.wants.Want.{Want}
+use Rattle.tree_specs.specs.Texts.Text.{ask_text, reply_text, numbers_text, rows_text, want_text, newline}
 
 -- the line that tells how many rows there are
 abbrev pub rows_line : List ReportRow → List ℕ
@@ -24,3 +26,13 @@ write_front descriptor = codes "write" ++ numbers_text (descriptor ∷ []) ++ co
 pub write_text-parts : (descriptor written : ℕ) (bytes : List ℕ) → written ≡ descriptor → ask_text (asks.Write descriptor bytes) ≡ write_front written ++ encode_lower bytes
 unfolding ask_text
 write_text-parts descriptor written bytes e = ap (λ n. write_front n ++ encode_lower bytes) (sym e)
+
+-- a descriptor up to its flags
+abbrev pub want_front : ℕ → List ℕ
+want_front fd = numbers_text (fd ∷ []) ++ codes ":"
+
+pub want_text-parts : (w : Want) (fd flags : ℕ) → fd ≡ w.fd → flags ≡ w.flags → want_text w ≡ want_front fd ++ decimal flags
+want_text-parts w fd flags fd_is flags_is =
+    ap (λ (l : List ℕ). (32 ∷ (l ++ codes ":")) ++ decimal w.flags) (sym (append-nil (decimal w.fd)))
+    ∙ ap (λ n. want_front n ++ decimal w.flags) (sym fd_is)
+    ∙ ap (λ n. want_front fd ++ decimal n) (sym flags_is)

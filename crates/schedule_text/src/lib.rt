@@ -10,6 +10,7 @@ mod line_writer;
 mod moment;
 mod octets;
 mod question;
+mod ready;
 mod refusal;
 mod reply;
 #[cfg(test)]

@@ -6,8 +6,9 @@ ghost use Rattle.tree_specs.specs.Texts.Text.{input_text, newline};
 ghost use Rattle.text_forms.specs.Reads.{Reads};
 
 use crate::front::after_front;
+use crate::ready::read_ready;
 use std::alloc::Global;
-use text_forms::{FormFault, read_call, read_u32};
+use text_forms::{FormFault, read_call, read_time, read_u32};
 use tree_specs::{Act, Input};
 
 // The input that the line spells, as the grammar defines it: its front decides how the rest is read.
@@ -23,6 +24,10 @@ fn input_value(alloc: Global, line: &[u8]) -> Result<Input, FormFault>
         read_u32(text)
             .map(|value| Input::Act(Act::Ret(value)))
             .ok_or(FormFault::NoForm)
+    } else if let Some(text) = after_front(line, b"clock ") {
+        read_time(text).map(Input::Clock).ok_or(FormFault::NoForm)
+    } else if let Some(text) = after_front(line, b"ready") {
+        read_ready(alloc, text)
     } else {
         Err(FormFault::NoForm)
     }

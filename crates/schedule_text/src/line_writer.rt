@@ -4,7 +4,8 @@ ghost use Rattle.tree_specs.specs.Words.Ranges.{is_sound, is_sound_call};
 ghost use Rattle.tree_specs.specs.Texts.Text.{call_text, input_text, newline};
 ghost use Rattle.tree_specs.specs.Texts.Written.{Writes};
 
-use text_forms::{write_call, write_numbers};
+use crate::ready::write_ready;
+use text_forms::{write_call, write_numbers, write_pieces};
 use tree_specs::{Act, Call, Input, Memory};
 
 // The line of a call after this front.
@@ -14,8 +15,7 @@ fn write_call_line(front: &[u8], call: &Call, out: &mut Vec<u8>) -> Result<(), M
 {
     out.extend_from_slice(front)?;
     write_call(call, out)?;
-    out.push(b'\n')?;
-    Ok(())
+    write_pieces(&[b"\n".as_slice()], out)
 }
 
 // The one line of an input.
@@ -28,6 +28,8 @@ fn write_line(input: &Input, out: &mut Vec<u8>) -> Result<(), Memory>
         Input::Call(call) => write_call_line(b"call ", call, out),
         Input::Act(Act::Do(call)) => write_call_line(b"act ", call, out),
         Input::Act(Act::Ret(value)) => write_numbers(b"ret", &[u64::from(*value)], b"\n", out),
+        Input::Clock(now) => write_numbers(b"clock", &[*now], b"\n", out),
+        Input::Ready(wants) => write_ready(wants, out),
     }
 }
 

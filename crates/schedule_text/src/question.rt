@@ -46,8 +46,7 @@ fn write_line(front: &[u8], ask: &Ask, out: &mut Vec<u8>) -> Result<(), Memory>
 {
     out.extend_from_slice(front)?;
     write_ask(ask, out)?;
-    out.push(b'\n')?;
-    Ok(())
+    write_pieces(&[b"\n".as_slice()], out)
 }
 
 /// Appends the line of a question that was answered, with its LF; Quiet has none. Where memory is

@@ -8,7 +8,7 @@ use Rattle.tree_specs.specs.declared.call.Call.{Call}
 use Rattle.tree_specs.specs.declared.call.Call.TheVariants.{Free}
 use Rattle.tree_specs.specs.declared.object.Obj.{Obj}
 use Rattle.tree_specs.specs.declared.object.Owner.{Owner}
-use Rattle.tree_specs.specs.Texts.Grammar.{◌>>=◌, words, read, form_in, call_of_words, call_of}
+use Rattle.tree_specs.specs.Texts.Grammar.{◌>>=◌, ◌leaving◌, words, taken, ended, read, form_in, call_of_words, call_of}
 use Rattle.tree_specs.specs.Words.Ranges.{is_sound_field, all_sound, is_sound_call}
 use Rattle.tree_specs.specs.Texts.Text.{call_text}
 use Rattle.text_forms.specs.declared.form.FormFault.{FormFault}
@@ -18,7 +18,7 @@ use Rattle.tree_specs.specs.Calls.Spelling.{Field, Spelling, ◌with◌, spellin
 use Rattle.tree_specs.specs.Calls.Spelling.Field.{AnOwner, AnObject, ANumber, ARoutine, ARoutineOrNone, ATime, AName}
 use Rattle.tree_specs.specs.Calls.Spelling.Reading.{IsConsistent, TakesOwner, TakesObject, TakesNumber, TakesRoutine, TakesRoutineOrNone, TakesTime, EndsInName}
 use Rattle.tree_specs.specs.Texts.Text.{field_text}
-use Rattle.text_forms.proofs.Fields.{has_read, number_field, number32_field, routine_field, time_field, owner_field, object_field, name_field}
+use Rattle.text_forms.proofs.Fields.{IsField, HasRead, has_read, number_field, number32_field, routine_field, time_field, owner_field, object_field, name_field}
 use Rattle.text_forms.proofs.Bools.{and_true}
 use Rattle.text_forms.proofs.Words.{is_unspaced, joined, words-joined, joined-words}
 
@@ -73,17 +73,17 @@ fields_are_words (f ∷ fs) h = let parts = sound_parts f fs h in rw (field_is_w
 -- ---- from a call to its words and back
 
 -- what is made of sound fields is read from their texts
-read_again : (reading : Reading) (fs : List Field) (c : Call) → all_sound fs ≡ true → feed reading fs ≡ Some c → read reading (map field_text fs) ≡ Some c
+taken_again : (reading : Reading) (fs : List Field) (c : Call) → all_sound fs ≡ true → feed reading fs ≡ Some c → taken reading (map field_text fs) ≡ Some (c, [])
 unfolding feed
-read_again (IsConsistent call) [] c h e = e
-read_again (TakesOwner next) (AnOwner owner ∷ fs) c h e = let parts = sound_parts (AnOwner owner) fs h in rw (owner_field.again owner parts.0) (read_again (next owner) fs c parts.1 e)
-read_again (TakesObject next) (AnObject x ∷ fs) c h e = let parts = sound_parts (AnObject x) fs h in rw (object_field.again x parts.0) (read_again (next x) fs c parts.1 e)
-read_again (TakesNumber next) (ANumber n ∷ fs) c h e = let parts = sound_parts (ANumber n) fs h in rw (number_field.again n parts.0) (read_again (next n) fs c parts.1 e)
-read_again (TakesRoutine next) (ARoutine routine ∷ fs) c h e = let parts = sound_parts (ARoutine routine) fs h in rw (routine_field.again routine parts.0) (read_again (next routine) fs c parts.1 e)
-read_again (TakesRoutineOrNone next) (ARoutineOrNone routine ∷ fs) c h e = let parts = sound_parts (ARoutineOrNone routine) fs h in rw (number32_field.again routine parts.0) (read_again (next routine) fs c parts.1 e)
-read_again (TakesTime next) (ATime time ∷ fs) c h e = let parts = sound_parts (ATime time) fs h in rw (time_field.again time parts.0) (read_again (next time) fs c parts.1 e)
-read_again (EndsInName call) (AName name ∷ []) c h e = rw (name_field.again name h) e
-read_again _ fs c h e = absurd cc
+taken_again (IsConsistent call) [] c h e = let same : call ≡ c = cc in rw same refl
+taken_again (TakesOwner next) (AnOwner owner ∷ fs) c h e = let parts = sound_parts (AnOwner owner) fs h in rw (owner_field.again owner parts.0) (taken_again (next owner) fs c parts.1 e)
+taken_again (TakesObject next) (AnObject x ∷ fs) c h e = let parts = sound_parts (AnObject x) fs h in rw (object_field.again x parts.0) (taken_again (next x) fs c parts.1 e)
+taken_again (TakesNumber next) (ANumber n ∷ fs) c h e = let parts = sound_parts (ANumber n) fs h in rw (number_field.again n parts.0) (taken_again (next n) fs c parts.1 e)
+taken_again (TakesRoutine next) (ARoutine routine ∷ fs) c h e = let parts = sound_parts (ARoutine routine) fs h in rw (routine_field.again routine parts.0) (taken_again (next routine) fs c parts.1 e)
+taken_again (TakesRoutineOrNone next) (ARoutineOrNone routine ∷ fs) c h e = let parts = sound_parts (ARoutineOrNone routine) fs h in rw (number32_field.again routine parts.0) (taken_again (next routine) fs c parts.1 e)
+taken_again (TakesTime next) (ATime time ∷ fs) c h e = let parts = sound_parts (ATime time) fs h in rw (time_field.again time parts.0) (taken_again (next time) fs c parts.1 e)
+taken_again (EndsInName call) (AName name ∷ []) c h e = let same : call name ≡ c = cc in rw (name_field.again name h, same) refl
+taken_again _ fs c h e = absurd cc
 
 -- each call is what the form with its verb makes of its fields
 fed : (c : Call) → (form_in forms (spelling c).verb >>= λ reading. feed reading (spelling c).fields) ≡ Some c
@@ -101,7 +101,7 @@ words_again c h = each (form_in forms (spelling c).verb) (fed c)
   where
     each : (form : Option Reading) → (form >>= λ reading. feed reading (spelling c).fields) ≡ Some c → (form >>= λ reading. read reading (map field_text (spelling c).fields)) ≡ Some c
     each None e = absurd cc
-    each (Some reading) e = read_again reading (spelling c).fields c h e
+    each (Some reading) e = rw (taken_again reading (spelling c).fields c h e) refl
 
 pub call_again : (c : Call) → is_sound_call c ≡ true → call_of (call_text c) ≡ Some c
 unfolding call_of
@@ -126,18 +126,36 @@ one_more f reading next word more c is sound feeds fit = record {
   made = feeds fit.fields ∙ fit.made;
 }
 
-is_fed : (reading : Reading) (ws : List (List ℕ)) (c : Call) → read reading ws ≡ Some c → IsFed reading ws c
+-- a field was read, and this was made of its value and of the words after it
+has_field : {A B : Type 0} {reader : List ℕ → Option A} {spell : A → List ℕ} {is_sound : A → Bool} (field : IsField reader spell is_sound) (word : List ℕ) (more : List (List ℕ)) (after : A → List (List ℕ) → Option B) (result : B)
+    → (((reader word) leaving more) >>= λ x. after x.0 x.1) ≡ Some result → HasRead spell is_sound word (λ x. after x more) result
+has_field {A} {B} {reader} field word more after result e = has_read field word (λ x. after x more) result (sym (then_after (reader word)) ∙ e)
+  where
+    then_after : (value : Option A) → ((value leaving more) >>= λ x. after x.0 x.1) ≡ (value >>= λ x. after x more)
+    then_after None = refl
+    then_after (Some x) = refl
+
+same_pair : {x y : Call × List (List ℕ)} → Some x ≡ Some y → x ≡ y
+same_pair e = cc
+
+-- the words that are all taken
+all_taken : (o : Option (Call × List (List ℕ))) (c : Call) → (o >>= ended) ≡ Some c → o ≡ Some (c, [])
+all_taken None c e = absurd cc
+all_taken (Some (x, [])) c e = let same : x ≡ c = cc in ap (λ (z : Call). Some (z, [])) same
+all_taken (Some (x, word ∷ more)) c e = absurd cc
+
+is_fed : (reading : Reading) (ws : List (List ℕ)) (c : Call) → taken reading ws ≡ Some (c, []) → IsFed reading ws c
 unfolding feed
-is_fed (IsConsistent call) [] c e = record { fields = []; words_are = refl; sound = refl; made = e }
-is_fed (TakesOwner next) (word ∷ more) c e = let x = has_read owner_field word _ c e in one_more (AnOwner x.value) _ (next x.value) word more c x.text_is x.value_is_sound (λ fs. refl) (is_fed (next x.value) more c x.goes_on)
-is_fed (TakesObject next) (word ∷ more) c e = let x = has_read object_field word _ c e in one_more (AnObject x.value) _ (next x.value) word more c x.text_is x.value_is_sound (λ fs. refl) (is_fed (next x.value) more c x.goes_on)
-is_fed (TakesNumber next) (word ∷ more) c e = let x = has_read number_field word _ c e in one_more (ANumber x.value) _ (next x.value) word more c x.text_is x.value_is_sound (λ fs. refl) (is_fed (next x.value) more c x.goes_on)
-is_fed (TakesRoutine next) (word ∷ more) c e = let x = has_read routine_field word _ c e in one_more (ARoutine x.value) _ (next x.value) word more c x.text_is x.value_is_sound (λ fs. refl) (is_fed (next x.value) more c x.goes_on)
-is_fed (TakesRoutineOrNone next) (word ∷ more) c e = let x = has_read number32_field word _ c e in one_more (ARoutineOrNone x.value) _ (next x.value) word more c x.text_is x.value_is_sound (λ fs. refl) (is_fed (next x.value) more c x.goes_on)
-is_fed (TakesTime next) (word ∷ more) c e = let x = has_read time_field word _ c e in one_more (ATime x.value) _ (next x.value) word more c x.text_is x.value_is_sound (λ fs. refl) (is_fed (next x.value) more c x.goes_on)
+is_fed (IsConsistent call) ws c e = let same = same_pair e in record { fields = []; words_are = ap (λ (z : Call × List (List ℕ)). z.1) same; sound = refl; made = ap (λ (z : Call × List (List ℕ)). Some z.0) same }
+is_fed (TakesOwner next) (word ∷ more) c e = let x = has_field owner_field word more _ (c, []) e in one_more (AnOwner x.value) _ (next x.value) word more c x.text_is x.value_is_sound (λ fs. refl) (is_fed (next x.value) more c x.goes_on)
+is_fed (TakesObject next) (word ∷ more) c e = let x = has_field object_field word more _ (c, []) e in one_more (AnObject x.value) _ (next x.value) word more c x.text_is x.value_is_sound (λ fs. refl) (is_fed (next x.value) more c x.goes_on)
+is_fed (TakesNumber next) (word ∷ more) c e = let x = has_field number_field word more _ (c, []) e in one_more (ANumber x.value) _ (next x.value) word more c x.text_is x.value_is_sound (λ fs. refl) (is_fed (next x.value) more c x.goes_on)
+is_fed (TakesRoutine next) (word ∷ more) c e = let x = has_field routine_field word more _ (c, []) e in one_more (ARoutine x.value) _ (next x.value) word more c x.text_is x.value_is_sound (λ fs. refl) (is_fed (next x.value) more c x.goes_on)
+is_fed (TakesRoutineOrNone next) (word ∷ more) c e = let x = has_field number32_field word more _ (c, []) e in one_more (ARoutineOrNone x.value) _ (next x.value) word more c x.text_is x.value_is_sound (λ fs. refl) (is_fed (next x.value) more c x.goes_on)
+is_fed (TakesTime next) (word ∷ more) c e = let x = has_field time_field word more _ (c, []) e in one_more (ATime x.value) _ (next x.value) word more c x.text_is x.value_is_sound (λ fs. refl) (is_fed (next x.value) more c x.goes_on)
 is_fed (EndsInName call) (word ∷ []) c e =
-    let x = has_read name_field word _ c e in
-    record { fields = AName x.value ∷ []; words_are = ap (λ (w : List ℕ). w ∷ []) x.text_is; sound = x.value_is_sound; made = x.goes_on }
+    let x = has_field name_field word [] _ (c, []) e in
+    record { fields = AName x.value ∷ []; words_are = ap (λ (w : List ℕ). w ∷ []) x.text_is; sound = x.value_is_sound; made = ap (λ (z : Call × List (List ℕ)). Some z.0) (same_pair x.goes_on) }
 is_fed _ ws c e = absurd cc
 
 -- whatever is read, the call is spelled so
@@ -186,7 +204,7 @@ form_spelled (f ∷ fs) all verb ws c e = by_test (bytes_eq verb f.verb) refl e 
         → ((form_in fs verb >>= λ reading. read reading ws) ≡ Some c → IsSpelling (verb ∷ ws) c) → IsSpelling (verb ∷ ws) c
     by_test false h e others = others e
     by_test true h e others =
-        let fit = is_fed f.reading ws c e in
+        let fit = is_fed f.reading ws c (all_taken (taken f.reading ws) c e) in
         let so : spelling c ≡ (f.verb with fit.fields) = spelled_so f.reading (λ fields. f.verb with fields) fit.fields c all.0 fit.made in
         spelled_as verb f.verb fit.fields ws c ((bytes_eq-Decides verb f.verb).0 h) fit.words_are fit.sound so
 

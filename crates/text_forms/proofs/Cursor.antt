@@ -3,10 +3,10 @@ use Rattle.std.proofs.Common.{◌≡◌, ℕ, Bool, true, false, eqb, cond, ◌&
 use Rattle.std.specs.Char.{is_ascii_digit}
 use Rattle.std.specs.List.{onto_first}
 use Rattle.std.specs.Str.{all_ascii_digits}
-use Rattle.tree_specs.specs.Texts.Grammar.{◌>>=◌, is_short, number_of, name_of, words}
+use Rattle.tree_specs.specs.Texts.Grammar.{◌>>=◌, is_short, number_of, name_of, words, ◌leaving◌, field, last_field}
 use Rattle.text_forms.specs.declared.form.FormFault.{FormFault}
 use Rattle.text_forms.specs.declared.form.FormFault.TheVariants.{NoForm, Memory}
-use Rattle.text_forms.specs.Cursor.{◌leaving◌, digit_count, digits_at, number_at, field, last_field, Takes}
+use Rattle.text_forms.specs.Cursor.{digit_count, digits_at, number_at, Takes}
 use Rattle.text_forms.specs.Reads.{Reads}
 use Rattle.std.proofs.lemmas.Bool.{eqb-true}
 use Rattle.std.proofs.lemmas.List.{append-nil, take_rest}

@@ -1,12 +1,12 @@
 -- Each kind of field: its spelling, both ways.
-use Rattle.std.proofs.Common.{◌≡◌, ◌≢◌, ℕ, zero, suc, ◌^◌, ◌<◌, Bool, true, false, eqb, ltb, leb, not, ◌&&◌, List, [], ◌∷◌, length, Option, Some, None, refl, sym, ap, ◌∙◌, cond, arith}
-use Rattle.std.specs.Prelude.{IfSome, IfNone}
+use Rattle.std.proofs.Common.{◌≡◌, ℕ, zero, suc, ◌^◌, ◌<◌, ◌≤◌, Bool, true, false, eqb, ltb, leb, not, ◌&&◌, List, [], ◌∷◌, length, Option, Some, None, refl, sym, ap, ◌∙◌, cond, arith}
 use Rattle.std.specs.Char.{is_ascii_digit}
 use Rattle.std.specs.Fmt.{decimal}
 use Rattle.std.specs.List.{list_all}
 use Rattle.std.specs.Str.{all_ascii_digits}
 use Rattle.std.proofs.lemmas.Bool.{ltb-true}
 use Rattle.std.proofs.lemmas.Bool.Decides.{nat_tests}
+use Rattle.tree_specs.specs.declared.bounds.TheConstants.{TIME_LIMIT}
 use Rattle.tree_specs.specs.declared.object.Obj.{Obj}
 use Rattle.tree_specs.specs.declared.object.Owner.{Owner}
 use Rattle.tree_specs.specs.declared.object.Owner.TheVariants.{Root, Of}
@@ -14,6 +14,7 @@ use Rattle.tree_specs.specs.Texts.Grammar.{◌>>=◌, number_of, number32_of, ro
 use Rattle.tree_specs.specs.Words.Names.{is_name, is_graphic}
 use Rattle.tree_specs.specs.Words.Objects.{owner_number, numbered_owner}
 use Rattle.tree_specs.specs.Words.Ranges.{is_number, is_return, is_routine, is_time, is_sound_owner}
+use Rattle.text_forms.specs.Reads.{ReadsNumber}
 use Rattle.text_forms.proofs.Numerals.{number_spelled, number_again, decimal_digits}
 use Rattle.text_forms.proofs.Bools.{and_true, taken_where, list_all-weaker}
 use Rattle.text_forms.proofs.Words.{is_unspaced}
@@ -147,30 +148,26 @@ object_field = by_number (λ n. record { 0 = n }) (λ (x : Obj). x.0) (λ x. is_
 
 -- ---- what reading a number answers
 
--- what is read is the spelling of its value
-spelled_some : {read : List ℕ → Option ℕ} {is_sound : ℕ → Bool} (field : IsField read decimal is_sound) (o : Option ℕ) (ds : List ℕ) → o ≡ read ds → IfSome o (λ n. ds ≡ decimal n)
-spelled_some field None ds e = tt
-spelled_some field (Some n) ds e = (field.spelled ds n (sym e)).0
-
--- what is none is the spelling of no number below the limit
-spelled_none : {read : List ℕ → Option ℕ} (limit : ℕ) (field : IsField read decimal (λ n. ltb n limit)) (o : Option ℕ) (ds : List ℕ) → o ≡ read ds → IfNone o ((n : ℕ) → n < limit → ds ≢ decimal n)
-spelled_none {read} limit field None ds e = λ n lt same. none_some n (e ∙ ap read same ∙ field.again n (grind (arith, nat_tests)))
+-- what is read is the spelling of its value, and what is none is the spelling of no number in the range
+number_is_read : {reader : List ℕ → Option ℕ} {is_sound : ℕ → Bool} (InRange : ℕ → Type 0) → ((n : ℕ) → InRange n → is_sound n ≡ true) → (field : IsField reader decimal is_sound) (o : Option ℕ) (ds : List ℕ) → o ≡ reader ds → ReadsNumber o reader InRange ds
+number_is_read InRange sound field (Some n) ds e = record { value = e; spelled = (field.spelled ds n (sym e)).0; none = tt }
+number_is_read {reader} InRange sound field None ds e = record {
+  value = e;
+  spelled = tt;
+  none = λ n within same. none_some n (e ∙ ap reader same ∙ field.again n (sound n within));
+}
   where
     none_some : (n : ℕ) → None ≡ Some n → ⊥
     none_some n e = absurd cc
-spelled_none {read} limit field (Some n) ds e = tt
 
-pub number_spelled_some : (o : Option ℕ) (ds : List ℕ) → o ≡ number_of ds → IfSome o (λ n. ds ≡ decimal n)
-number_spelled_some o ds e = spelled_some number_field o ds e
+pub number_read : (o : Option ℕ) (ds : List ℕ) → o ≡ number_of ds → ReadsNumber o number_of (λ n. n < 2 ^ 64) ds
+number_read o ds e = number_is_read (λ n. n < 2 ^ 64) is_number_from number_field o ds e
 
-pub number_spelled_none : (o : Option ℕ) (ds : List ℕ) → o ≡ number_of ds → IfNone o ((n : ℕ) → n < 2 ^ 64 → ds ≢ decimal n)
-number_spelled_none o ds e = spelled_none (2 ^ 64) number_field o ds e
+pub number32_read : (o : Option ℕ) (ds : List ℕ) → o ≡ number32_of ds → ReadsNumber o number32_of (λ n. n < 2 ^ 32) ds
+number32_read o ds e = number_is_read (λ n. n < 2 ^ 32) (λ n lt. grind (arith, nat_tests)) number32_field o ds e
 
-pub number32_spelled_some : (o : Option ℕ) (ds : List ℕ) → o ≡ number32_of ds → IfSome o (λ n. ds ≡ decimal n)
-number32_spelled_some o ds e = spelled_some number32_field o ds e
-
-pub number32_spelled_none : (o : Option ℕ) (ds : List ℕ) → o ≡ number32_of ds → IfNone o ((n : ℕ) → n < 2 ^ 32 → ds ≢ decimal n)
-number32_spelled_none o ds e = spelled_none (2 ^ 32) number32_field o ds e
+pub time_read : (o : Option ℕ) (ds : List ℕ) → o ≡ time_of ds → ReadsNumber o time_of (λ n. n ≤ TIME_LIMIT) ds
+time_read o ds e = number_is_read (λ n. n ≤ TIME_LIMIT) (λ n le. grind (arith, nat_tests)) time_field o ds e
 
 -- ---- names
 

@@ -2,41 +2,17 @@
 use Rattle.std.proofs.Common.{◌≡◌, ℕ, List, [], ◌∷◌, Option, Some, None, Err, refl, ap, ◌∙◌}
 use Rattle.tree_specs.specs.declared.call.Call.{Call}
 use Rattle.tree_specs.specs.Calls.Spelling.{Reading, forms}
-use Rattle.tree_specs.specs.Calls.Spelling.Reading.{IsConsistent, TakesOwner, TakesObject, TakesNumber, TakesRoutine, TakesRoutineOrNone, TakesTime, EndsInName}
-use Rattle.tree_specs.specs.Texts.Grammar.{◌>>=◌, number_of, number32_of, object_of, owner_of, routine_of, time_of, name_of, read, form_in, call_of_words, call_of, words}
+use Rattle.tree_specs.specs.Texts.Grammar.{◌>>=◌, taken, ended, read, form_in, call_of_words, call_of, words}
 use Rattle.text_forms.specs.declared.verb.Verb.{Verb}
 use Rattle.text_forms.specs.declared.form.FormFault.{FormFault}
 use Rattle.text_forms.specs.declared.form.FormFault.TheVariants.{NoForm, Memory}
 use Rattle.text_forms.specs.Reads.{Reads}
-use Rattle.text_forms.specs.Cursor.{Takes, Ends, ◌leaving◌}
-use Rattle.text_forms.specs.Verbs.{word_of, taken, fields_read, ended}
-
--- ---- the fields of a call, one after the other, and then the end
-
--- a field was read, and what is read is that of the fields after it
-then_read : {A B : Type 0} (after : A → List (List ℕ) → Option (B × List (List ℕ))) (given : A → Option B) (read : Option A) (words : List (List ℕ)) → ((x : A) → given x ≡ (after x words >>= ended)) → (read >>= given) ≡ (((read leaving words) >>= λ x. after x.0 x.1) >>= ended)
-then_read after given None words h = refl
-then_read after given (Some x) words h = h x
-
-last_read : {A : Type 0} (make : A → Call) (given : Option A) → (given >>= λ x. Some (make x)) ≡ (((given leaving []) >>= λ x. Some (make x.0, x.1)) >>= ended)
-last_read make None = refl
-last_read make (Some x) = refl
-
-read_is : (reading : Reading) (words : List (List ℕ)) → read reading words ≡ (taken reading words >>= ended)
-read_is (IsConsistent call) [] = refl
-read_is (IsConsistent call) (word ∷ more) = refl
-read_is (TakesOwner next) (word ∷ more) = then_read (λ x words. taken (next x) words) (λ x. read (next x) more) (owner_of word) more (λ x. read_is (next x) more)
-read_is (TakesObject next) (word ∷ more) = then_read (λ x words. taken (next x) words) (λ x. read (next x) more) (object_of word) more (λ x. read_is (next x) more)
-read_is (TakesNumber next) (word ∷ more) = then_read (λ x words. taken (next x) words) (λ x. read (next x) more) (number_of word) more (λ x. read_is (next x) more)
-read_is (TakesRoutine next) (word ∷ more) = then_read (λ x words. taken (next x) words) (λ x. read (next x) more) (routine_of word) more (λ x. read_is (next x) more)
-read_is (TakesRoutineOrNone next) (word ∷ more) = then_read (λ x words. taken (next x) words) (λ x. read (next x) more) (number32_of word) more (λ x. read_is (next x) more)
-read_is (TakesTime next) (word ∷ more) = then_read (λ x words. taken (next x) words) (λ x. read (next x) more) (time_of word) more (λ x. read_is (next x) more)
-read_is (EndsInName call) (word ∷ []) = last_read call (name_of word)
-read_is _ words = refl
+use Rattle.text_forms.specs.Cursor.{Takes, Ends}
+use Rattle.text_forms.specs.Verbs.{word_of, fields_read}
 
 form_read : (form : Option Reading) (words : List (List ℕ)) → (form >>= λ reading. read reading words) ≡ ((form >>= λ reading. taken reading words) >>= ended)
 form_read None words = refl
-form_read (Some reading) words = read_is reading words
+form_read (Some reading) words = refl
 
 -- ---- the verb and the fields
 

@@ -1,10 +1,10 @@
 -- Reading a text from left to right.
-use Rattle.std.specs.Prelude.{ℕ, ◌≡◌, ◌≢◌, ◌^◌, nat_lt, if◌then◌else◌, List, [], ◌∷◌, take, drop, Option, Some, None, Result, Ok, Err}
+use Rattle.std.specs.Prelude.{ℕ, ◌≡◌, ◌≢◌, ◌==◌, ◌^◌, nat_lt, if◌then◌else◌, List, [], take, drop, Option, Some, None, Result, Ok, Err}
 use Rattle.std.specs.Char.{is_ascii_digit}
-use Rattle.std.specs.List.{prefix_len}
+use Rattle.std.specs.List.{prefix_len, slice_split}
 use Rattle.std.specs.Str.Parse.{digits_value}
 use Rattle.std.specs.Borrow.{Bor}
-use Rattle.tree_specs.specs.Texts.Grammar.{◌>>=◌, number_of, words}
+use Rattle.tree_specs.specs.Texts.Grammar.{◌>>=◌, number_of, field}
 use Rattle.text_forms.specs.declared.form.FormFault.{FormFault}
 use Rattle.text_forms.specs.declared.form.FormFault.TheVariants.{NoForm, Memory}
 
@@ -25,22 +25,17 @@ number_at text = do
   n ← number_of (digits_at text)
   Some (n, drop (digit_count text) text)
 
--- the words of what is left of a line, where it has not ended
+-- the parts between single bytes of this value
+abbrev pub parts : ℕ → List ℕ → List (List ℕ)
+parts byte text = slice_split (λ b. b == byte) text
+
+-- the parts of what is left of a text, where it has not ended
+abbrev pub parts_left : ℕ → Option (Bor (List ℕ)) → List (List ℕ)
+parts_left byte None = []
+parts_left byte (Some text) = parts byte text.now
+
 abbrev pub words_left : Option (Bor (List ℕ)) → List (List ℕ)
-words_left None = []
-words_left (Some text) = words text.now
-
-infix 11 ◌leaving◌
--- a value that was read, where there is one, and the words that it left
-abbrev pub ◌leaving◌ : {A : Type 0} → Option A → List (List ℕ) → Option (A × List (List ℕ))
-read leaving words = do
-  x ← read
-  Some (x, words)
-
--- the first word, read as a field, and the words after it
-abbrev pub field : {A : Type 0} → (List ℕ → Option A) → List (List ℕ) → Option (A × List (List ℕ))
-field read [] = None
-field read (word ∷ more) = read word leaving more
+words_left rest = parts_left 32 rest
 
 -- two fields, one after the other
 abbrev pub both : {A B : Type 0} → (List ℕ → Option A) → (List ℕ → Option B) → List (List ℕ) → Option ((A × B) × List (List ℕ))
@@ -48,11 +43,6 @@ both read next words = do
   x ← field read words
   y ← field next x.1
   Some ((x.0, y.0), y.1)
-
--- the first word, read as a field, where no word comes after it
-abbrev pub last_field : {A : Type 0} → (List ℕ → Option A) → List (List ℕ) → Option (A × List (List ℕ))
-last_field read (word ∷ []) = field read (word ∷ [])
-last_field read _ = None
 
 -- what a reader gave, and what it left: it reads NoForm exactly where the definition gives none
 abbrev pub Takes : {A : Type 0} → Result A FormFault → Option (A × List (List ℕ)) → List (List ℕ) → Type 0

@@ -65,6 +65,8 @@ fn write_text(call: &Call, out: &mut Vec<u8>) -> Result<(), Memory>
             write_fields(b"timer", &numbers, out)
         }
         Call::Pending => write_fields(b"pending", &[], out),
+        Call::Now => write_fields(b"now", &[], out),
+        Call::Turn => write_fields(b"turn", &[], out),
     }
 }
 

@@ -2,8 +2,8 @@
 
 ghost use Rattle.std.specs.Prelude.{◌≡◌, List, ℕ};
 ghost use Rattle.std.specs.Option.{option_map};
-ghost use Rattle.tree_specs.specs.Texts.Grammar.{words, number_of, owner_of, object_of, number32_of, routine_of, time_of, name_of};
-ghost use Rattle.text_forms.specs.Cursor.{words_left, field, both, last_field, Takes, Ends};
+ghost use Rattle.tree_specs.specs.Texts.Grammar.{words, number_of, owner_of, object_of, number32_of, routine_of, time_of, name_of, field, last_field};
+ghost use Rattle.text_forms.specs.Cursor.{words_left, both, Takes, Ends};
 
 use crate::form::FormFault;
 use crate::name::read_name;
@@ -117,7 +117,6 @@ impl<'a> Fields<'a> {
     }
 
     // There are no more fields.
-    #[tactic(auto, using(crate::proofs::Words::has_words))]
     pub(crate) fn end(&self) -> Result<(), FormFault>
         ensures { Ends result self.now }
     {

@@ -1,14 +1,15 @@
-ghost use Rattle.std.specs.Prelude.{◌≡◌, ◌≢◌, ℕ, ◌^◌, ◌<◌, ◌&&◌, nat_lt, IfSome, IfNone, Some, None};
+ghost use Rattle.std.specs.Prelude.{◌≡◌, ◌^◌, ◌<◌, ◌≤◌, Some, None};
 ghost use Rattle.std.specs.Fmt.{decimal};
 ghost use Rattle.std.specs.Option.{option_map};
-ghost use Rattle.std.specs.Str.Parse.{digits_value};
-ghost use Rattle.tree_specs.specs.Texts.Grammar.{number_of, number32_of, is_short};
+ghost use Rattle.tree_specs.specs.Texts.Grammar.{number_of, number32_of, time_of, is_short};
 ghost use Rattle.tree_specs.specs.Texts.Written.{Writes};
+ghost use Rattle.tree_specs.specs.declared.bounds.TheConstants.{TIME_LIMIT};
 ghost use Rattle.text_forms.specs.Cursor.{leading_digits_of, number_at};
+ghost use Rattle.text_forms.specs.Reads.{ReadsNumber};
 
 use crate::piece::write_pieces;
 use itoa::Buffer;
-use tree_specs::Memory;
+use tree_specs::{Memory, TIME_LIMIT};
 
 // The value of the digits at the front, where it is below 2 ^ 64, and how many they are.
 fn leading_digits(text: &[u8]) -> Option<(u64, usize)>
@@ -58,37 +59,48 @@ fn number_value(text: &[u8]) -> Option<u64>
     if rest.is_empty() { Some(n) } else { None }
 }
 
-/// The number below 2 ^ 64 that the text spells: decimal digits with no leading zero. None exactly
-/// where it spells no such number.
-#[tactic(auto, using(crate::proofs::Fields::number_spelled_some, crate::proofs::Fields::number_spelled_none))]
-pub fn read_number(text: &[u8]) -> Option<u64>
-    ensures value { result ≡ number_of text.now }
-    // A number has one spelling, and what is none is the spelling of no number.
-    ensures spelled { IfSome result (λ n. text.now ≡ decimal n) }
-    ensures none { IfNone result ((n : ℕ) → n < 2 ^ 64 → text.now ≢ decimal n) }
-{
-    number_value(text)
-}
-
 // A number below 2^32, as the grammar defines it.
 #[tactic(auto, unfolding(tree_specs::specs::Texts::Grammar::number32_of))]
 fn number32_value(text: &[u8]) -> Option<u32>
     ensures { result ≡ number32_of text.now }
 {
-    let n = read_number(text)?;
+    let n = number_value(text)?;
     u32::try_from(n).ok()
+}
+
+// A time, as the grammar defines it.
+#[tactic(auto, unfolding(tree_specs::specs::Texts::Grammar::time_of))]
+fn time_value(text: &[u8]) -> Option<u64>
+    ensures { result ≡ time_of text.now }
+{
+    match number_value(text)? {
+        n if n <= TIME_LIMIT => Some(n),
+        _ => None,
+    }
+}
+
+/// The number below 2 ^ 64 that the text spells: decimal digits with no leading zero. None exactly
+/// where it spells no such number.
+pub fn read_number(text: &[u8]) -> Option<u64>
+    ensures { ReadsNumber result number_of (λ n. n < 2 ^ 64) text.now }
+{
+    number_value(text)
 }
 
 /// The number that the text spells, from 0 to 4,294,967,295: a routine, or what one returns. It is in decimal digits
 /// with no leading zero. None exactly where the text spells no such number.
-#[tactic(auto, using(crate::proofs::Fields::number32_spelled_some, crate::proofs::Fields::number32_spelled_none))]
 pub fn read_u32(text: &[u8]) -> Option<u32>
-    ensures value { result ≡ number32_of text.now }
-    // Such a number has one spelling, and what is none is the spelling of no such number.
-    ensures spelled { IfSome result (λ n. text.now ≡ decimal n) }
-    ensures none { IfNone result ((n : ℕ) → n < 2 ^ 32 → text.now ≢ decimal n) }
+    ensures { ReadsNumber result number32_of (λ n. n < 2 ^ 32) text.now }
 {
     number32_value(text)
+}
+
+/// The time in microseconds that the text spells, from 0 to TIME_LIMIT. It is in decimal digits with no leading zero.
+/// None exactly where the text spells no such time.
+pub fn read_time(text: &[u8]) -> Option<u64>
+    ensures { ReadsNumber result time_of (λ n. n ≤ TIME_LIMIT) text.now }
+{
+    time_value(text)
 }
 
 /// Appends the one spelling of a number. When memory runs out, a prefix of it was appended.

@@ -33,6 +33,37 @@ fn reads_what_a_routine_returns(rt: HostRuntime) {
 }
 
 #[test]
+fn reads_times(rt: HostRuntime) {
+    let limit = b"4611686018427387904";
+    assert_eq!(rt; read_time(b"0"), Some(0));
+    assert_eq!(rt; read_time(limit), Some(4_611_686_018_427_387_904));
+    assert_eq!(rt; read_time(b"4611686018427387905"), None);
+    assert_eq!(rt; read_time(b"01"), None);
+}
+
+#[test]
+fn splits_at_the_first_such_byte(rt: HostRuntime) {
+    let cases = [
+        (
+            b"3:1:2".as_slice(),
+            b"3".as_slice(),
+            Some(b"1:2".as_slice()),
+        ),
+        (b":1".as_slice(), b"".as_slice(), Some(b"1".as_slice())),
+        (b"3:".as_slice(), b"3".as_slice(), Some(b"".as_slice())),
+        (b"3 1".as_slice(), b"3 1".as_slice(), None),
+        (b"".as_slice(), b"".as_slice(), None),
+    ];
+    for (text, first, rest) in cases {
+        assert_eq!(rt; split_part(text, b':'), (first, rest), "at {text:?}");
+    }
+    assert_eq!(rt;
+        split_word(b"3 1"),
+        (b"3".as_slice(), Some(b"1".as_slice()))
+    );
+}
+
+#[test]
 fn writes_after_what_is_there(rt: HostRuntime) -> Result<(), Fail> {
     let mut out = Vec::new(rt.alloc());
     write_pieces(
@@ -104,6 +135,9 @@ fn writes_what_was_read(rt: HostRuntime) -> Result<(), Fail> {
         b"count 7".as_slice(),
         b"report 0".as_slice(),
         b"report 7".as_slice(),
+        b"pending".as_slice(),
+        b"now".as_slice(),
+        b"turn".as_slice(),
     ] {
         let mut out = Vec::new(rt.alloc());
         let call = read_call(rt.alloc(), text)?;

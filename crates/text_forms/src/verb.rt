@@ -34,6 +34,8 @@ pub(crate) enum Verb {
     Unschedule,
     Timer,
     Pending,
+    Now,
+    Turn,
 }
 
 impl Verb {
@@ -65,6 +67,8 @@ impl Verb {
             b"unschedule" => Some(Verb::Unschedule),
             b"timer" => Some(Verb::Timer),
             b"pending" => Some(Verb::Pending),
+            b"now" => Some(Verb::Now),
+            b"turn" => Some(Verb::Turn),
             _ => None,
         }
     }
@@ -122,5 +126,7 @@ pub(crate) fn read_fields(alloc: Global, verb: Verb, fields: &mut Fields) -> Res
             user: fields.number()?,
         }),
         Verb::Pending => Ok(Call::Pending),
+        Verb::Now => Ok(Call::Now),
+        Verb::Turn => Ok(Call::Turn),
     }
 }

@@ -81,10 +81,16 @@ module _ (H H' : ℕ → Option Due) (at p : ℕ) (s : Swaps H H' at p) (r : Ris
   pub rise-step : Rises H' p
   rise-step = record { others = rise-others; around = rise-around }
 
+-- no child of the one at this place comes before it, nor it before its parent
+pub settled : (H : ℕ → Option Due) (at : ℕ) → Settles H at → ((p : ℕ) → IsChild p at → is_early (H at) (H p) ≡ false) → ((k : ℕ) → IsChild at k → is_early (H k) (H at) ≡ false) → IsHeap H
+settled H at r above under p k c = same_or k at
+    (λ e. ap (λ y. is_early (H y) (H p)) e ∙ above p (let c0 = c.0 in omega (arith, c0, e), let c1 = c.1 in omega (arith, c1, e)))
+    (λ n. same_or p at
+    (λ e. ap (λ y. is_early (H k) (H y)) e ∙ under k (let c0 = c.0 in omega (arith, c0, e), let c1 = c.1 in omega (arith, c1, e)))
+    (λ m. r.others p k c n m))
+
 pub rise-end : (H : ℕ → Option Due) (at : ℕ) → Rises H at → ((p : ℕ) → IsChild p at → is_early (H at) (H p) ≡ false) → IsHeap H
-rise-end H at r h p k c = same_or k at
-    (λ e. ap (λ y. is_early (H y) (H p)) e ∙ h p (let c0 = c.0 in omega (arith, c0, e), let c1 = c.1 in omega (arith, c1, e)))
-    (λ m. r.others p k c m)
+rise-end H at r h = settled H at (record { others = λ p k c n m. r.others p k c n; around = r.around }) h (λ k c. r.others at k c (not-above at k (below at k c)))
 
 module _ (H H' : ℕ → Option Due) (at c : ℕ) (s : Swaps H H' at c) (r : Sinks H at) (down : IsChild at c) (early : is_early (H c) (H at) ≡ true)
     (least : (k : ℕ) → IsChild at k → is_early (H k) (H c) ≡ false) where
@@ -112,9 +118,7 @@ module _ (H H' : ℕ → Option Due) (at c : ℕ) (s : Swaps H H' at c) (r : Sin
   sink-step = record { others = sink-others; around = sink-around }
 
 pub sink-end : (H : ℕ → Option Due) (at : ℕ) → Sinks H at → ((k : ℕ) → IsChild at k → is_early (H k) (H at) ≡ false) → IsHeap H
-sink-end H at r h p k c = same_or p at
-    (λ e. ap (λ y. is_early (H k) (H y)) e ∙ h k (let c0 = c.0 in omega (arith, c0, e), let c1 = c.1 in omega (arith, c1, e)))
-    (λ m. r.others p k c m)
+sink-end H at r h = settled H at (record { others = λ p k c n m. r.others p k c m; around = r.around }) (λ p c. r.others p at c (not-below p at (below p at c))) h
 
 pub settle-rises : (H : ℕ → Option Due) (at p : ℕ) → Settles H at → IsChild p at → is_early (H at) (H p) ≡ true → Rises H at
 settle-rises H at p r up early = record {

@@ -1,10 +1,12 @@
 -- One step up or down, as the writes of the heap make it.
-use Rattle.std.proofs.Common.{◌≡◌, ◌≢◌, ℕ, zero, suc, ◌+◌, ◌<◌, List, [], ◌∷◌, length, get_or, set, slice_get, Option, Some, None, IsSome, is_some, ◌*◌, true, false, refl, sym, ◌∙◌, ap, subst, arith}
+use Rattle.std.proofs.Common.{◌≡◌, ◌≢◌, ℕ, zero, suc, ◌+◌, ◌<◌, List, [], ◌∷◌, length, get_or, set, slice_get, Option, Some, None, IsSome, is_some, ◌*◌, ◌^◌, true, false, refl, sym, ◌∙◌, ap, subst, arith}
 use Rattle.std.proofs.lemmas.List.{length-set}
 use Rattle.std.proofs.lemmas.Option.{slice_get_within, slice_get_read}
 use Rattle.tree_specs.specs.declared.due.Due.{Due}
 use Rattle.tree_specs.specs.Events.Pending.{comes_before}
-use Rattle.timers.specs.Heaped.{sorted, Told, is_early, IsChild, IsHeap, IsLateParent, IsEarlyChild, IsFirstOfTwo, Rises, Sinks, Settles, Places, Reorders, with_place}
+use Rattle.timers.specs.Heaped.{sorted, Told, is_early, IsChild, IsHeap, IsLateParent, IsEarlyChild, IsFirstOfTwo, Rises, Sinks, Settles, Sifts, IsNext, places_left, Places, Reorders, with_place}
+use Rattle.timers.specs.declared.heap.Way.{Way}
+use Rattle.timers.specs.declared.heap.Way.TheVariants.{Up, Down}
 use Rattle.timers.proofs.Sorted.{reorders-swap}
 use Rattle.timers.proofs.Moves.{Swaps, early-some, early-none, not-above, not-below, below, rise-step, rise-end, sink-step, sink-end, settle-rises, settle-sinks}
 use Rattle.timers.proofs.Places.{set-same, set-other, noted, held-noted, places-step}
@@ -65,7 +67,7 @@ module _ (ds es : List Due) (P P' : ℕ → Option ℕ) (at p : ℕ) (d f : Due)
         dues = subst (λ l. Reorders (set ds at d) (set l p d)) (sym e) (stepped ds at p d f in_at in_p apart is);
       }
 
-  pub rise-goes : Rises (slice_get (set ds at d)) at → IsLateParent (slice_get ds) at d (Some p) → Gone ds es P' at p d × Rises (slice_get (set es p d)) p
+  rise-goes : Rises (slice_get (set ds at d)) at → IsLateParent (slice_get ds) at d (Some p) → Gone ds es P' at p d × Rises (slice_get (set es p d)) p
   rise-goes r late =
       let some = early-some (Some d) (slice_get ds p) late.1 in
       let in_p = slice_get_within ds p some.0 some.1 in
@@ -75,7 +77,7 @@ module _ (ds es : List Due) (P P' : ℕ → Option ℕ) (at p : ℕ) (d f : Due)
         subst (λ l. Rises (slice_get (set l p d)) p) (sym e) (risen ds at p d f in_at in_p apart is r late.0 (ap (is_early (Some d)) (sym is) ∙ late.1)),
       )
 
-  pub sink-goes : Sinks (slice_get (set ds at d)) at → IsEarlyChild (slice_get ds) at d (Some p) → Gone ds es P' at p d × Sinks (slice_get (set es p d)) p
+  sink-goes : Sinks (slice_get (set ds at d)) at → IsEarlyChild (slice_get ds) at d (Some p) → Gone ds es P' at p d × Sinks (slice_get (set es p d)) p
   sink-goes r early =
       let in_p : p < length ds = there (slice_get ds p) refl early.1 in
       let is : slice_get ds p ≡ Some f = slice_get_read ds (length ds) p f refl in_p read in
@@ -89,6 +91,15 @@ module _ (ds es : List Due) (P P' : ℕ → Option ℕ) (at p : ℕ) (d f : Due)
       there None u h = let bad : false ≡ true = ap (λ w. is_early w (Some d)) (sym u) ∙ h in cc
       there (Some g) u h = slice_get_within ds p g u
 
+  pub sift-goes : (way : Way) → Sifts way (slice_get (set ds at d)) at → IsNext way (slice_get ds) at d (Some p) → Gone ds es P' at p d × Sifts way (slice_get (set es p d)) p
+  sift-goes Up r next = rise-goes r next
+  sift-goes Down r next = sink-goes r next
+
+-- there are fewer places left from the next one on
+pub sift-nearer : (way : Way) (H : ℕ → Option Due) (at p : ℕ) (d : Due) → at < 2 ^ 64 → IsNext way H at d (Some p) → places_left way p < places_left way at
+sift-nearer Up H at p d fits next = below p at next.0
+sift-nearer Down H at p d fits next = let deeper = below at p next.0 in omega (arith, deeper, fits)
+
 -- d stays where it is
 module _ (ds : List Due) (at : ℕ) (d : Due) (in_at : at < length ds) where
   here_is : slice_get (set ds at d) at ≡ Some d
@@ -97,11 +108,15 @@ module _ (ds : List Due) (at : ℕ) (d : Due) (in_at : at < length ds) where
   late-there : IsLateParent (slice_get ds) at d None → (p : ℕ) → IsChild p at → is_early (slice_get (set ds at d) at) (slice_get (set ds at d) p) ≡ false
   late-there none p c = (λ i. is_early (here_is i) (set-other ds at p d (not-below p at (below p at c)) i)) ∙ none p c
 
-  pub rise-stays : Rises (slice_get (set ds at d)) at → IsLateParent (slice_get ds) at d None → IsHeap (slice_get (set ds at d))
+  rise-stays : Rises (slice_get (set ds at d)) at → IsLateParent (slice_get ds) at d None → IsHeap (slice_get (set ds at d))
   rise-stays r none = rise-end _ at r (late-there none)
 
-  pub sink-stays : Sinks (slice_get (set ds at d)) at → IsEarlyChild (slice_get ds) at d None → IsHeap (slice_get (set ds at d))
+  sink-stays : Sinks (slice_get (set ds at d)) at → IsEarlyChild (slice_get ds) at d None → IsHeap (slice_get (set ds at d))
   sink-stays r none = sink-end _ at r (λ k c. (λ i. is_early (set-other ds at k d (not-above at k (below at k c)) i) (here_is i)) ∙ none k c)
+
+  pub sift-stays : (way : Way) → Sifts way (slice_get (set ds at d)) at → IsNext way (slice_get ds) at d None → IsHeap (slice_get (set ds at d))
+  sift-stays Up r none = rise-stays r none
+  sift-stays Down r none = sink-stays r none
 
   pub settles-up : (p : ℕ) → Settles (slice_get (set ds at d)) at → IsLateParent (slice_get ds) at d (Some p) → Rises (slice_get (set ds at d)) at
   settles-up p r late = settle-rises _ at p r late.0 ((λ i. is_early (here_is i) (set-other ds at p d (not-below p at (below p at late.0)) i)) ∙ late.1)

@@ -1,11 +1,13 @@
 -- The times as a heap keeps them, and the place of each object in it.
-use Rattle.std.specs.Prelude.{◌≡◌, ◌≢◌, ℕ, ◌+◌, ◌<◌, ◌≤◌, Bool, true, false, cond, nat_eq, List, [], ◌∷◌, length, slice_get, Option, Some, None, IsSome}
+use Rattle.std.specs.Prelude.{◌≡◌, ◌≢◌, ℕ, ◌+◌, ◌-◌, ◌^◌, ◌<◌, ◌≤◌, Bool, true, false, cond, nat_eq, List, [], ◌∷◌, length, slice_get, Option, Some, None, IsSome}
 use Rattle.std.specs.List.{find}
 use Rattle.std.specs.Option.{option_map}
 use Rattle.std.specs.Ordering.{nat_cmp}
 use Rattle.std.specs.FinMap as map
 use Rattle.tree_specs.specs.declared.due.Due.{Due}
 use Rattle.tree_specs.specs.Events.Pending.{comes_before, put_in}
+use Rattle.timers.specs.declared.heap.Way.{Way}
+use Rattle.timers.specs.declared.heap.Way.TheVariants.{Up, Down}
 
 -- ---- the order
 
@@ -85,6 +87,21 @@ abbrev pub IsEarlyChild : (ℕ → Option Due) → ℕ → Due → Option ℕ �
 IsEarlyChild H at due None = (k : ℕ) → IsChild at k → is_early (H k) (Some due) ≡ false
 IsEarlyChild H at due (Some c) = IsChild at c × (is_early (H c) (Some due) ≡ true) × ((k : ℕ) → IsChild at k → is_early (H k) (H c) ≡ false)
 
+-- a heap, but that the one at this place may have to go this way
+abbrev pub Sifts : Way → (ℕ → Option Due) → ℕ → Type 0
+Sifts Up H at = Rises H at
+Sifts Down H at = Sinks H at
+
+-- the next place on the way, where it is to go on
+abbrev pub IsNext : Way → (ℕ → Option Due) → ℕ → Due → Option ℕ → Type 0
+IsNext Up H at due next = IsLateParent H at due next
+IsNext Down H at due next = IsEarlyChild H at due next
+
+-- how many places there still are on the way, at most
+abbrev pub places_left : Way → ℕ → ℕ
+places_left Up at = at
+places_left Down at = 2 ^ 64 - at
+
 -- ---- the places
 
 abbrev pub object_of : Due → ℕ
@@ -98,6 +115,12 @@ with_place P x at q = cond (nat_eq x q) (Some at) (P q)
 pub record Places (H : ℕ → Option Due) (P : ℕ → Option ℕ) : Type 0 where
   pub there : (i : ℕ) (d : Due) → H i ≡ Some d → P d.object.0 ≡ Some i
   pub back : (q i : ℕ) → P q ≡ Some i → option_map object_of (H i) ≡ Some q
+
+-- the times have come to where they belong, each object's place is noted, and they are the same as before
+pub record IsSettled (before after : List Due) (P : ℕ → Option ℕ) : Type 0 where
+  pub heap : IsHeap (slice_get after)
+  pub places : Places (slice_get after) P
+  pub dues : Reorders before after
 
 -- each object's place, but for the time at this place, which is to go
 pub record PlacesBut (H : ℕ → Option Due) (P : ℕ → Option ℕ) (at : ℕ) : Type 0 where

@@ -4,10 +4,17 @@ ghost use Rattle.std.specs.Prelude.{◌≡◌, ◌<◌, ◌≤◌, ◌+◌, ℕ,
 ghost use Rattle.std.specs.Option.{option_map};
 ghost use Rattle.pool_arena.specs.Arena.{get};
 ghost use Rattle.tree_specs.specs.Events.Pending.{comes_before as is_before};
-ghost use Rattle.timers.specs.Heaped.{IsEarlyChild, IsFirstOfTwo, IsHeap, IsLateParent, Places, PlacesBut, Removes, Reorders, Rises, Settles, Sinks, with_place};
+ghost use Rattle.timers.specs.Heaped.{IsEarlyChild, IsFirstOfTwo, IsHeap, IsLateParent, IsNext, IsSettled, Places, PlacesBut, Removes, Settles, Sifts, with_place};
 
 use pool_arena::Arena;
 use tree_specs::Due;
+
+/// The way that a time goes in the heap: to its parent's place and on, or to a child's.
+#[derive(Clone, Copy, Debug)]
+pub(crate) enum Way {
+    Up,
+    Down,
+}
 
 /// Whether a time comes before another one. At equal times the smaller number does.
 fn comes_before(due: Due, other: Due) -> bool
@@ -54,28 +61,6 @@ fn late_parent(dues: &Vec<Due>, at: usize, due: Due) -> Option<usize>
     }
 }
 
-/// A time goes to a place or to one above it, where only its parent may come after it.
-pub(crate) fn rise(dues: &mut Vec<Due>, places: &mut Arena<usize>, at: usize, due: Due)
-    requires at { at < length dues.old.items }
-    requires held { IsSome (get places.old due.object.0) }
-    requires heap { Rises (slice_get (set dues.old.items at due)) at }
-    requires places { Places (slice_get (set dues.old.items at due)) (with_place (get places.old) due.object.0 at) }
-    ensures heap { IsHeap (slice_get dues.new.items) }
-    ensures places { Places (slice_get dues.new.items) (get places.new) }
-    ensures dues { Reorders (set dues.old.items at due) dues.new.items }
-    ensures capacity { vec_capacity dues.new ≡ vec_capacity dues.old }
-    ensures spare { places.new.spare ≡ places.old.spare }
-{
-    match late_parent(dues, at, due) {
-        Some(parent) => {
-            let other = dues[parent];
-            put(dues, places, at, other);
-            rise(dues, places, parent, due);
-        }
-        None => put(dues, places, at, due),
-    }
-}
-
 // Of a place and the next one, the one whose time comes first.
 fn first_of_two(dues: &Vec<Due>, left: usize) -> usize
     requires { left < length dues.now.items }
@@ -104,25 +89,46 @@ fn early_child(dues: &Vec<Due>, at: usize, due: Due) -> Option<usize>
     }
 }
 
-// A time goes to a place or to one below it, where only children of that place may come before it.
-fn sink(dues: &mut Vec<Due>, places: &mut Arena<usize>, at: usize, due: Due)
+// The next place on the way, where the time there and the one that is to go to this place are out of order.
+fn next_place(dues: &Vec<Due>, way: Way, at: usize, due: Due) -> Option<usize>
+    requires { at < length dues.now.items }
+    ensures { IsNext way (slice_get dues.now.items) at due result }
+{
+    match way {
+        Way::Up => late_parent(dues, at, due),
+        Way::Down => early_child(dues, at, due),
+    }
+}
+
+/// A time goes to a place or to one further on the way, where nothing is out of order but this time with those there.
+pub(crate) fn sift(dues: &mut Vec<Due>, places: &mut Arena<usize>, way: Way, at: usize, due: Due)
     requires at { at < length dues.old.items }
     requires held { IsSome (get places.old due.object.0) }
-    requires heap { Sinks (slice_get (set dues.old.items at due)) at }
+    requires heap { Sifts way (slice_get (set dues.old.items at due)) at }
     requires places { Places (slice_get (set dues.old.items at due)) (with_place (get places.old) due.object.0 at) }
-    ensures heap { IsHeap (slice_get dues.new.items) }
-    ensures places { Places (slice_get dues.new.items) (get places.new) }
-    ensures dues { Reorders (set dues.old.items at due) dues.new.items }
+    ensures settled { IsSettled (set dues.old.items at due) dues.new.items (get places.new) }
     ensures capacity { vec_capacity dues.new ≡ vec_capacity dues.old }
     ensures spare { places.new.spare ≡ places.old.spare }
 {
-    match early_child(dues, at, due) {
-        Some(child) => {
-            let other = dues[child];
+    match next_place(dues, way, at, due) {
+        Some(next) => {
+            let other = dues[next];
             put(dues, places, at, other);
-            sink(dues, places, child, due);
+            sift(dues, places, way, next, due);
         }
         None => put(dues, places, at, due),
+    }
+}
+
+// The way that a time has to go from a place where it may be out of order with its parent and with its children.
+fn way_from(dues: &Vec<Due>, at: usize, due: Due) -> Way
+    requires { at < length dues.now.items }
+    ensures { Settles (slice_get (set dues.now.items at due)) at → Sifts result (slice_get (set dues.now.items at due)) at }
+{
+    if late_parent(dues, at, due).is_some() {
+        Way::Up
+    } else {
+        Way::Down
     }
 }
 
@@ -132,17 +138,12 @@ fn settle(dues: &mut Vec<Due>, places: &mut Arena<usize>, at: usize, due: Due)
     requires held { IsSome (get places.old due.object.0) }
     requires heap { Settles (slice_get (set dues.old.items at due)) at }
     requires places { Places (slice_get (set dues.old.items at due)) (with_place (get places.old) due.object.0 at) }
-    ensures heap { IsHeap (slice_get dues.new.items) }
-    ensures places { Places (slice_get dues.new.items) (get places.new) }
-    ensures dues { Reorders (set dues.old.items at due) dues.new.items }
+    ensures settled { IsSettled (set dues.old.items at due) dues.new.items (get places.new) }
     ensures capacity { vec_capacity dues.new ≡ vec_capacity dues.old }
     ensures spare { places.new.spare ≡ places.old.spare }
 {
-    if late_parent(dues, at, due).is_some() {
-        rise(dues, places, at, due);
-    } else {
-        sink(dues, places, at, due);
-    }
+    let way = way_from(dues, at, due);
+    sift(dues, places, way, at, due);
 }
 
 /// The time at a place goes, whose object isn't held any more, and the last one comes to where it belongs.

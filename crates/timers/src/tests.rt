@@ -1,12 +1,23 @@
-ghost use Rattle.std.specs.Prelude.{◌+◌, ◌<◌, ◌≤◌};
+ghost use Rattle.std.specs.Prelude.{◌≡◌, ◌+◌, ◌<◌, ◌≤◌, [], IfOk};
 ghost use Rattle.timers.specs.Timetable.{AreByObject};
 
 use crate::Times;
+use std::alloc::Global;
 use std::test::Fail;
 use tree_specs::{Due, Obj};
 
 // The state of the draws is below this.
 const STATE_LIMIT: u64 = 2_147_483_648;
+
+// No times, with room for so many.
+fn with_room(alloc: Global, room: usize) -> Result<Times, Fail>
+    ensures dues { IfOk result (λ times. times.dues ≡ []) }
+    ensures room { IfOk result (λ times. room ≤ times.spare) }
+{
+    let mut times = Times::new(alloc);
+    times.reserve(room)?;
+    Ok(times)
+}
 
 // The time of an object is to come, with the object's number, in room that is there.
 fn arm_by_object(times: &mut Times, x: u64, time: u64)
@@ -32,9 +43,8 @@ fn next(times: &mut Times) -> u64
 
 #[test]
 fn the_earliest_comes_first(rt: HostRuntime) -> Result<(), Fail> {
-    let mut times = Times::new(rt.alloc());
+    let mut times = with_room(rt.alloc(), 6)?;
     assert!(rt; times.is_empty());
-    times.reserve(6)?;
     arm_by_object(&mut times, 5, 30);
     arm_by_object(&mut times, 9, 10);
     arm_by_object(&mut times, 2, 30);
@@ -50,8 +60,7 @@ fn the_earliest_comes_first(rt: HostRuntime) -> Result<(), Fail> {
 
 #[test]
 fn an_object_has_the_time_that_it_got_last(rt: HostRuntime) -> Result<(), Fail> {
-    let mut times = Times::new(rt.alloc());
-    times.reserve(5)?;
+    let mut times = with_room(rt.alloc(), 5)?;
     arm_by_object(&mut times, 1, 10);
     arm_by_object(&mut times, 2, 20);
     arm_by_object(&mut times, 3, 30);
@@ -74,8 +83,7 @@ fn an_object_has_the_time_that_it_got_last(rt: HostRuntime) -> Result<(), Fail> 
 
 #[test]
 fn running_out_of_memory_leaves_them_as_they_were(rt: HostRuntime) -> Result<(), Fail> {
-    let mut times = Times::new(rt.alloc());
-    times.reserve(1)?;
+    let mut times = with_room(rt.alloc(), 1)?;
     arm_by_object(&mut times, 1, 10);
     assert!(rt; times.reserve(usize::MAX).is_err());
     assert_eq!(rt; next(&mut times), 1);
@@ -101,8 +109,7 @@ fn arm_at_draws(times: &mut Times, count: u64, state: u64) -> u64
 
 #[test]
 fn many_that_are_armed_twice_come_in_their_order(rt: HostRuntime) -> Result<(), Fail> {
-    let mut times = Times::new(rt.alloc());
-    times.reserve(1_000_000)?;
+    let mut times = with_room(rt.alloc(), 1_000_000)?;
     let state = arm_at_draws(&mut times, 500_000, 1);
     arm_at_draws(&mut times, 500_000, state);
     assert_eq!(rt; times.len(), 500_000);

@@ -1,6 +1,6 @@
 ghost use Rattle.std.specs.Prelude.{◌≡◌};
 
-use crate::heap::{rise, take_out};
+use crate::heap::{Way, sift, take_out};
 use pool_arena::Arena;
 use std::alloc::Global;
 use std::marker::Model;
@@ -30,7 +30,7 @@ impl Model for Times {
 }
 
 impl Times {
-    ghost use Rattle.std.specs.Prelude.{◌+◌, ◌<◌, ◌≤◌, ◌↔◌, [], IsTrue, OnOk, length, slice_get, drop, false};
+    ghost use Rattle.std.specs.Prelude.{◌+◌, ◌<◌, ◌≤◌, ◌↔◌, [], IsTrue, IfSome, OnOk, length, slice_get, drop, false};
     ghost use Rattle.std.specs.Option.{option_copied};
     ghost use Rattle.tree_specs.specs.Events.Pending.{armed, disarmed, is_armed, is_numbered, put_in};
     ghost use Rattle.timers.specs.Timetable.{AreInOrder, AreOnce};
@@ -67,7 +67,7 @@ impl Times {
         let at = self.dues.len();
         self.places.add(due.object.0, at);
         self.dues.push_reserved(due);
-        rise(&mut self.dues, &mut self.places, at, due);
+        sift(&mut self.dues, &mut self.places, Way::Up, at, due);
     }
 
     /// The time of an object is to come, in microseconds; it takes the place of a time that it had. At equal times the
@@ -119,6 +119,7 @@ impl Times {
     pub fn pop(&mut self) -> Option<Due>
         ensures first { result ≡ slice_get self.old.dues 0 }
         ensures dues { self.new.dues ≡ drop 1 self.old.dues }
+        ensures removed { IfSome result (λ due. self.new.dues ≡ disarmed self.old.dues due.object) }
         ensures spare { self.old.spare ≤ self.new.spare }
     {
         let first = self.earliest();

@@ -148,6 +148,10 @@ module _ (m m' : Nodes) (x : ℕ) (f : Row → Row) (steps : (q : ℕ) → map.g
 
 -- ---- one and its places
 
+pub there-is : {A : Type 0} (o : Option A) → is_some o ≡ true → (v : A) × (Some v ≡ o)
+there-is None h = cc
+there-is (Some v) h = (v, refl)
+
 module _ (m : Nodes) (front root : Option ℕ) (rows : List Row) (d : Once rows) (h : Holds m front root rows) (x : ℕ) (v : Node) (e : Some v ≡ map.get m x) where
   pub its-row : row_of rows (obj x) ≡ Some v.row
   its-row = sym (h.row x) ∙ ap (option_map row_in) (sym e)

@@ -72,12 +72,6 @@ module _ (m m1 m2 : Nodes) (s : Sides) where
     pub left-placed-rows : (q : ℕ) → row_at m2 q ≡ row_at m q
     left-placed-rows = unmoved m m1 m2 s (placed_older s.older) (placed_newer s.newer) olders newers row_in (λ v. refl) (λ v. refl)
 
-    same_kins : (q : ℕ) → kin_at m2 q ≡ kin_at m q
-    same_kins = unmoved m m1 m2 s (placed_older s.older) (placed_newer s.newer) olders newers kin_in (λ v. refl) (λ v. refl)
-
-    same_firsts : (q : ℕ) → option_and_then first_in (map.get m2 q) ≡ option_and_then first_in (map.get m q)
-    same_firsts = unmoved-first m m1 m2 s (placed_older s.older) (placed_newer s.newer) olders newers (λ v. refl) (λ v. refl)
-
     pub left-placed : (front front' root : Option ℕ) (A : List ℕ) (K : Owner → List ℕ) (x : ℕ) → front' ≡ head_left front s → Distinct A → has A x ≡ true → s ≡ sides_in A x
         → Linked m front root A K → Linked m2 front' root (without A x) K
     left-placed front front' root A K x f d h e l = record {
@@ -85,7 +79,8 @@ module _ (m m1 m2 : Nodes) (s : Sides) where
           (λ q. ap (option_map placed_in) (olders q) ∙ part placed_in (placed_older s.older) (older_as s.older) (λ v. refl) (is_at s.newer q) (map.get m q))
           (λ q. ap (option_map placed_in) (newers q) ∙ part placed_in (placed_newer s.newer) (newer_as s.newer) (λ v. refl) (is_at s.older q) (map.get m1 q))
           front front' A x d h e f l.placed;
-      kin = same_kin m m2 root K same_kins same_firsts l.kin;
+      kin = same_kin m m2 root K (unmoved m m1 m2 s (placed_older s.older) (placed_newer s.newer) olders newers kin_in (λ v. refl) (λ v. refl))
+          (unmoved-first m m1 m2 s (placed_older s.older) (placed_newer s.newer) olders newers (λ v. refl) (λ v. refl)) l.kin;
     }
 
   -- one leaves the lane of an owner's children

@@ -1,16 +1,16 @@
-ghost use Rattle.std.specs.Prelude.{◌≡◌, ◌≤◌, ℕ, Option, Some, None, cond, true, false, nat_eq, List, ◌∷◌, IsSome};
+ghost use Rattle.std.specs.Prelude.{◌≡◌, ◌≤◌, ℕ, Option, Some, None, cond, true, false, nat_eq, List, ◌∷◌, is_some};
 ghost use Rattle.std.specs.Option.{option_map, option_and_then};
 ghost use Rattle.std.specs.FinMap as map;
 ghost use Rattle.pool_arena.specs.Arena.{get};
 ghost use Rattle.tree_specs.specs.Words.Objects.{same_owner};
 ghost use Rattle.tree_specs.specs.declared.object.Owner.{Owner as OwnerData};
 ghost use Rattle.tree_specs.specs.declared.row.Row.{Row as RowData};
-ghost use Rattle.tree_specs.specs.Tree.Pool.{row_of, left_row};
+ghost use Rattle.tree_specs.specs.Tree.Pool.{row_of, left_row, without as rows_without};
 ghost use Rattle.tree_specs.specs.Tree.Forest.{Distinct as Once};
 ghost use Rattle.linked_lanes.specs.Lane.{is_at, has, without, Distinct};
 ghost use Rattle.linked_lanes.specs.Chain.{head_left, sides_in};
 ghost use Rattle.tree_links.specs.Edits.{edited};
-ghost use Rattle.tree_links.specs.Nodes.{with_link, entered, first_in, owned_in, with_first, with_row, row_at, head_of, HasHead, Nodes, Linked, Enters, Apart, kin_at, placed_at, children};
+ghost use Rattle.tree_links.specs.Nodes.{with_link, entered, first_in, owned_in, with_first, with_row, row_at, head_of, HasHead, Nodes, Linked, Enters, Apart, Holds, kin_at, placed_at, children, numbers};
 
 use linked_lanes::{Link, Sides};
 use pool_arena::Arena;
@@ -63,14 +63,10 @@ fn set_first(nodes: &mut Arena<Node>, x: u64, first: Option<u64>) -> Option<u64>
     ensures len { map.len nodes.new.pairs ≡ map.len nodes.old.pairs }
     ensures spare { nodes.new.spare ≡ nodes.old.spare }
 {
-    match nodes.get_mut(x) {
-        None => None,
-        Some(node) => {
-            let former = node.first;
-            node.first = first;
-            former
-        }
-    }
+    let node = nodes.get_mut(x)?;
+    let former = node.first;
+    node.first = first;
+    former
 }
 
 /// One with these neighbours leaves the lane of all rows.
@@ -167,6 +163,31 @@ pub(crate) fn leave_kin_of(
         None => (),
         Some(owner) => leave_kin(nodes, root, owner, sides),
     }
+}
+
+/// A row leaves the lane of all rows and that of its owner's children, and still notes its neighbours there. Answers
+/// whether there is such a row.
+pub(crate) fn leave_lanes(
+    nodes: &mut Arena<Node>,
+    front: &mut Option<u64>,
+    root: &mut Option<u64>,
+    x: u64,
+) -> bool
+    ensures there { result ≡ is_some (get nodes.old x) }
+    ensures rows { (q : ℕ) → row_at nodes.new.pairs q ≡ row_at nodes.old.pairs q }
+    ensures linked { (rs : List RowData) → Once rs → Holds nodes.old.pairs front.old root.old rs → result ≡ true → Linked nodes.new.pairs front.new root.new (numbers (rows_without rs (record { 0 = x }))) (children (rows_without rs (record { 0 = x }))) }
+    ensures len { map.len nodes.new.pairs ≡ map.len nodes.old.pairs }
+    ensures spare { nodes.new.spare ≡ nodes.old.spare }
+{
+    let Some(node) = nodes.get(x) else {
+        return false;
+    };
+    let placed = node.placed;
+    let kin = node.kin;
+    let owner = node.row.owner;
+    leave_placed(nodes, front, placed);
+    leave_kin_of(nodes, root, owner, kin);
+    true
 }
 
 /// A row comes below another owner, in front of these heads of the lane of all rows and of that of the owner's

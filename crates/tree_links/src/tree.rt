@@ -3,7 +3,7 @@ ghost use Rattle.tree_links.specs.Nodes.{next_in};
 
 use crate::new_row::NewRow;
 use crate::node::{
-    Edit, Node, enter, forget, head, leave_kin_of, leave_placed, meet_newer, set_head, set_left,
+    Edit, Node, enter, forget, head, leave_kin_of, leave_lanes, meet_newer, set_head, set_left,
     write,
 };
 use crate::owner::is_below;
@@ -298,12 +298,7 @@ impl Tree {
         ensures spare { self.old.spare ≤ self.new.spare }
         ensures works { works_of self.new ≡ works_of self.old }
     {
-        if let Some(node) = self.nodes.get(x.0) {
-            let placed = node.placed;
-            let kin = node.kin;
-            let former = node.row.owner;
-            leave_placed(&mut self.nodes, &mut self.front, placed);
-            leave_kin_of(&mut self.nodes, &mut self.root, former, kin);
+        if leave_lanes(&mut self.nodes, &mut self.front, &mut self.root, x.0) {
             let first = set_head(&mut self.nodes, &mut self.root, owner, Some(x.0));
             enter(&mut self.nodes, x.0, owner, self.front, first);
             meet_newer(&mut self.nodes, self.front, first, x.0);
@@ -342,12 +337,7 @@ impl Tree {
         ensures spare { self.old.spare ≤ self.new.spare }
         ensures works { works_of self.new ≡ works_of self.old }
     {
-        if let Some(node) = self.nodes.get(x.0) {
-            let placed = node.placed;
-            let kin = node.kin;
-            let former = node.row.owner;
-            leave_placed(&mut self.nodes, &mut self.front, placed);
-            leave_kin_of(&mut self.nodes, &mut self.root, former, kin);
+        if leave_lanes(&mut self.nodes, &mut self.front, &mut self.root, x.0) {
             forget(&mut self.nodes, x.0);
         }
     }

@@ -1,7 +1,6 @@
 ghost use Rattle.std.specs.Prelude.{◌≡◌, ◌++◌, IfOk, OnOk, ℕ, List};
 ghost use Rattle.std.specs.Option.{option_to_list};
-ghost use Rattle.tree_specs.specs.Tree.Reports.{report, row_kind, target_number};
-ghost use Rattle.tree_specs.specs.declared.object.Owner.TheVariants.{Of as At};
+ghost use Rattle.tree_specs.specs.Tree.Reports.{report, report_row, row_kind, target_number};
 ghost use Rattle.tree_specs.specs.Tree.Targets.{target_of};
 ghost use Rattle.references.specs.Rows.{AreRefsOf};
 ghost use Rattle.tree_report.specs.Shown.{shown_at};
@@ -9,7 +8,7 @@ ghost use Rattle.tree_report.specs.Shown.{shown_at};
 use references::Refs;
 use std::alloc::Global;
 use tree_links::Tree;
-use tree_specs::{Kind, Memory, Name, Obj, Owner, ReportRow, ReportRows, RowKind};
+use tree_specs::{Kind, Memory, Name, Owner, ReportRow, ReportRows, Row, RowKind};
 
 fn kind_in_report(kind: Kind) -> RowKind
     ensures { result ≡ row_kind kind }
@@ -46,21 +45,18 @@ fn copied(alloc: Global, name: &Name) -> Result<Name, Memory>
     }
 }
 
-/// The row of an object at this depth. None where there is no such object.
-fn row_of_object(
+/// How the row of an object is reported at this depth.
+fn reported(
     alloc: Global,
     tree: &Tree,
     refs: &Refs,
-    x: Obj,
+    row: &Row,
     depth: u32,
-) -> Result<Option<ReportRow>, Memory>
+) -> Result<ReportRow, Memory>
     requires { AreRefsOf refs.now.pairs tree.now.rows }
-    ensures { IfOk result (λ r. option_to_list r ≡ shown_at tree.now.rows depth (At x)) }
+    ensures { IfOk result (λ r. r ≡ report_row tree.now.rows depth row.now) }
 {
-    let Some(row) = tree.row(x) else {
-        return Ok(None);
-    };
-    Ok(Some(ReportRow {
+    Ok(ReportRow {
         depth,
         id: row.serial.0,
         kind: kind_in_report(row.kind),
@@ -68,9 +64,10 @@ fn row_of_object(
         refs: refs.count(tree, row.serial),
         target: target(row.kind),
         name: copied(alloc, &row.name)?,
-    }))
+    })
 }
 
+/// The row of an owner at this depth. None where it is neither the root nor an object.
 fn row_at(
     alloc: Global,
     tree: &Tree,
@@ -83,7 +80,10 @@ fn row_at(
 {
     match owner {
         Owner::Root => Ok(Some(ReportRow::root())),
-        Owner::Of(x) => row_of_object(alloc, tree, refs, x, depth),
+        Owner::Of(x) => match tree.row(x) {
+            Some(row) => Ok(Some(reported(alloc, tree, refs, row, depth)?)),
+            None => Ok(None),
+        },
     }
 }
 

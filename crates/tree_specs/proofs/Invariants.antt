@@ -1,5 +1,7 @@
 -- What each step keeps.
 pub mod Changes
+pub mod Turning
+pub mod KeptTurns
 pub mod Waiters
 pub mod Keeps
 pub mod KeptFrees

@@ -1,4 +1,6 @@
+pub mod Words
 pub mod Tree
+pub mod Events
 pub mod Calls
 pub mod Invariants
 pub mod Turns

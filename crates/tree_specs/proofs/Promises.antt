@@ -6,6 +6,7 @@ pub mod Fine
 pub mod FineCallers
 pub mod FineDrops
 pub mod FineFrees
+pub mod FineTurns
 pub mod Fitting
 pub mod StoryOrder
 pub mod Leaving

@@ -2,6 +2,8 @@
 pub mod Means
 pub mod Rest
 pub mod FreeCauses
+pub mod Lawful
+pub mod TurnLaws
 pub mod TextLaws
 pub mod StoryLaws
 pub mod MidStories

@@ -1,5 +1,6 @@
 -- The stated number of turns is enough.
 pub mod Falls
 pub mod FallingFrees
+pub mod FallingTurns
 pub mod Load
 pub mod Bound

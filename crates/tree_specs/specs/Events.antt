@@ -1,2 +1,4 @@
 -- Events: objects whose turn comes.
+pub mod Coming
+pub mod Handlers
 pub mod Pending

@@ -1,3 +1,4 @@
 -- Worked examples, as tables that a person can review.
 pub mod Exchanges
+pub mod Events
 pub mod Tables

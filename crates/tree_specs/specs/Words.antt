@@ -3,3 +3,4 @@ pub mod Names
 pub mod Octets
 pub mod Objects
 pub mod Ranges
+pub mod Wants

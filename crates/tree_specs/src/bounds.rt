@@ -6,6 +6,9 @@ pub const SIZE_LIMIT: u64 = 268_435_456;
 /// The latest time of an event, in microseconds.
 pub const TIME_LIMIT: u64 = 4_611_686_018_427_387_904;
 
+/// How long is waited for descriptors where no event has a time, in microseconds.
+pub const WAIT_LIMIT: u64 = 30_000_000;
+
 /// At most so many objects are live at once.
 pub const ROW_LIMIT: usize = 1_048_576;
 

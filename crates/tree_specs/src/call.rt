@@ -119,4 +119,9 @@ pub enum Call {
     },
     /// `pending`: how many events wait: immediates that are scheduled, and timers.
     Pending,
+    /// `now`: the time in microseconds, as `tevent_timeval_current` tells. The host asks the clock.
+    Now,
+    /// `turn`: one turn of the event loop, as `tevent_loop_once` takes it: the first event that has come runs. The reply is
+    /// 1, or 0 where none has come.
+    Turn,
 }

@@ -1,5 +1,7 @@
 use crate::call::Call;
 use crate::free_step::FreeReply;
+use crate::handler::Handler;
+use crate::moment::What;
 use crate::object::{Obj, Owner};
 use crate::question::Ask;
 use crate::reply::Reply;
@@ -9,6 +11,7 @@ use crate::reply::Reply;
 pub enum Frame {
     Call(CallFrame),
     Free(FreeFrame),
+    Turn(TurnFrame),
 }
 
 /// What is still to do for a caller, who does one call after another. A caller is known by the question that
@@ -21,6 +24,8 @@ pub enum CallFrame {
     Doing { ask: Ask, call: Call },
     /// The call waits for the freeing of `x`, or of its children.
     Awaiting { ask: Ask, x: Obj },
+    /// The call waits for a turn of the event loop, or for the time.
+    Turning { ask: Ask },
     /// The reply is to be told, and the next question comes after it.
     Telling { ask: Ask, reply: Reply },
     /// It is to be told that an object that has references was given to another owner, then the reply, and the next
@@ -71,6 +76,10 @@ pub enum FreeFrame {
         hook: u32,
         value: u32,
     },
+    /// The handler of `x` runs, and `x` was marked to be freed after it.
+    Dooming {
+        x: Obj,
+    },
     /// `x` is to leave its owner. `hook` is the destructor that accepted this; 0 is none.
     Leaving {
         x: Obj,
@@ -102,6 +111,61 @@ pub enum FreeFrame {
     },
 }
 
+/// What is still to do of one turn of the event loop.
+#[derive(Clone, Copy, Debug, PartialEq, Eq)]
+pub enum TurnFrame {
+    /// What comes first is to be looked for.
+    Taking,
+    /// The clock is to be asked, to know whether the first time has come. `again` where readiness was asked before.
+    Timing {
+        again: bool,
+    },
+    /// The clock has told this time.
+    Timed {
+        again: bool,
+        now: u64,
+    },
+    /// It is to be asked which descriptors are ready, within so many microseconds.
+    Polling {
+        limit: u64,
+    },
+    /// `x` has come, and waits no more. Its handler is to run.
+    Starting {
+        what: What,
+        x: Obj,
+        now: u64,
+    },
+    /// It is to be told that the handler of `x` runs.
+    Firing {
+        what: What,
+        x: Obj,
+        handler: Handler,
+        now: u64,
+    },
+    /// The handler of `x` is to be asked. Then it waits until this has returned.
+    Handling {
+        what: What,
+        x: Obj,
+        handler: Handler,
+        now: u64,
+    },
+    /// The handler of `x` has returned.
+    Handled {
+        what: What,
+        x: Obj,
+    },
+    /// It waits for the freeing of `x`: a timer, or what was to be freed while its handler ran.
+    Clearing {
+        x: Obj,
+    },
+    /// Of the call `now`: the clock is to be asked, and the time that it tells is the reply.
+    Reading,
+    /// It is over, and this is the reply.
+    Closing {
+        value: u64,
+    },
+}
+
 /// What a work that is over answers to the work below it.
 #[derive(Clone, Copy, Debug, PartialEq, Eq)]
 pub enum Answer {
@@ -109,4 +173,6 @@ pub enum Answer {
     Freed(FreeReply),
     /// A routine has returned this number.
     Returned(u32),
+    /// A turn, or the asking of the clock, is over with this reply.
+    Turned(u64),
 }

@@ -30,6 +30,8 @@ pub enum FreeStep {
     },
     /// The object's destructor returned 0.
     Accepted(Obj),
+    /// The object's handler runs: it is to be freed after this, and comes no more until then.
+    Doom(Obj),
     /// The object has left this owner, and its children go next.
     Left {
         object: Obj,

@@ -5,6 +5,7 @@ ghost use Rattle.std.specs.Prelude.{◌≡◌, ◌≢◌, ◌≤◌, ℕ, true, 
 ghost use Rattle.step_machine.specs.Machine.{run, EndsBy, items as told_by};
 ghost use Rattle.step_machine.specs.Machine.Outcome.{Ended, Short};
 ghost use Rattle.step_machine.specs.Noted.{noted, with_note};
+ghost use Rattle.step_machine.specs.History.{EachFits};
 ghost use Rattle.step_machine.specs.Open.{LastIs};
 ghost use Rattle.tree_specs.specs.declared.question.Input.{Input as InputData};
 ghost use Rattle.tree_specs.specs.declared.question.Ask.TheVariants.{Quiet};
@@ -20,8 +21,10 @@ ghost use Rattle.tree_specs.specs.Rules.Items.{IsQuestion};
 ghost use Rattle.tree_specs.specs.Rules.Items.Item.{Told};
 ghost use Rattle.tree_specs.specs.Rules.Sequence.{Scene};
 ghost use Rattle.tree_specs.specs.Rules.Story.{story, items, asked, free, turns};
-ghost use Rattle.tree_specs.specs.Machine.Table.{table, notes};
-ghost use Rattle.tree_specs.specs.Machine.View.{begin, rest_of};
+ghost use Rattle.tree_specs.specs.Machine.Table.{table, notes, step};
+ghost use Rattle.tree_specs.specs.Invariants.Awaiting.{Awaits, AwaitsBefore, pool_after};
+ghost use Rattle.tree_specs.specs.Invariants.Consistent.{IsConsistent};
+ghost use Rattle.tree_specs.specs.Machine.View.{View, begin, rest_of};
 ghost use Rattle.tree_specs.specs.Promises.Orderly.{Orderly};
 ghost use Rattle.tree_specs.specs.Calls.Refusals.{is_running};
 ghost use Rattle.tree_specs.specs.Promises.Grounded.{Grounded, DropsOutside, IsItem};
@@ -85,4 +88,11 @@ pub fn every_story_is_orderly()
 /// comes right after the object's destructor has returned 0.
 pub fn every_story_is_grounded()
     ensures { (first : ℕ) (is : List InputData) → 1 ≤ first → Grounded (story first is) is }
+{}
+
+/// What waits for its turn is at every moment a live event with a handler: an immediate where it comes soon, a timer where
+/// it has a time. What is being freed, or will be once its handler is over, waits no more, and only events have handlers.
+pub fn what_waits_is_a_live_event()
+    ensures in_stories { (first : ℕ) (is : List InputData) → 1 ≤ first → EachFits AwaitsBefore (story first is) }
+    ensures after_each_step { (v : View) → IsConsistent v → Awaits v.pool → Awaits (pool_after (step v.innermost v.pool)) }
 {}

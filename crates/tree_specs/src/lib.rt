@@ -11,6 +11,7 @@ pub mod examples;
 pub mod forbidden;
 mod frame;
 mod free_step;
+mod handler;
 mod kind;
 pub mod laws;
 mod listed;
@@ -29,15 +30,18 @@ mod schedule;
 mod test;
 #[cfg(test)]
 mod tests;
+mod wants;
 
 pub use bounds::{
     LINE_LIMIT, LINES_LIMIT, NAME_LIMIT, OCTETS_LIMIT, OVERHEAD, ROW_LIMIT, SIZE_LIMIT, TIME_LIMIT,
+    WAIT_LIMIT,
 };
 pub use call::Call;
 pub use due::Due;
 pub use event::Event;
-pub use frame::{Answer, CallFrame, Frame, FreeFrame, Purpose};
+pub use frame::{Answer, CallFrame, Frame, FreeFrame, Purpose, TurnFrame};
 pub use free_step::{FreeReply, FreeStep};
+pub use handler::Handler;
 pub use kind::Kind;
 pub use memory::Memory;
 pub use moment::{Moment, What};
@@ -50,3 +54,4 @@ pub use report::{ReportRow, ReportRows, RowKind};
 pub use row::{Mark, Row};
 pub use schedule::{Mode, Reason};
 pub use test::Test;
+pub use wants::{Want, Wants};

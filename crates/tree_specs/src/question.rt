@@ -1,6 +1,7 @@
 use crate::call::Call;
 use crate::moment::Moment;
 use crate::octets::Octets;
+use crate::wants::Wants;
 
 /// What the host waits for.
 #[derive(Debug, PartialEq, Eq, Drop)]
@@ -38,4 +39,8 @@ pub enum Input {
     Call(Call),
     /// What a routine does, where one runs.
     Act(Act),
+    /// The time in microseconds, from 0 to 2^62. It may be earlier than one that was told before.
+    Clock(u64),
+    /// Which descriptors are ready. There are none where the time of the wait is over.
+    Ready(Wants),
 }

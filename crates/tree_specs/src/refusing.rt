@@ -9,13 +9,17 @@ ghost use Rattle.tree_specs.specs.declared.call.Call.{Call as CallData};
 ghost use Rattle.tree_specs.specs.declared.object.Obj.{Obj as ObjData};
 ghost use Rattle.tree_specs.specs.declared.object.Owner.{Owner as OwnerData};
 ghost use Rattle.tree_specs.specs.declared.object.Owner.TheVariants.{Of};
+ghost use Rattle.tree_specs.specs.declared.moment.Moment.{Moment as MomentData};
+ghost use Rattle.tree_specs.specs.declared.question.Ask.TheVariants.{Routine};
 ghost use Rattle.tree_specs.specs.declared.question.Input.{Input as InputData};
 ghost use Rattle.tree_specs.specs.declared.reply.Refusal.{Refusal as RefusalData};
+ghost use Rattle.tree_specs.specs.declared.reply.Refusal.TheVariants.{Nested};
 ghost use Rattle.tree_specs.specs.declared.reply.Reply.TheVariants.{No};
 ghost use Rattle.tree_specs.specs.Calls.Refusals.{Check, refusals};
 ghost use Rattle.tree_specs.specs.Tree.Pool.{Pool, first_kid, noted_owner, target_at};
 ghost use Rattle.tree_specs.specs.Promises.Refused.{called, SayOnlyWhatRan, RefuseOnlyWhatRan, RefusedChangeNothing};
-ghost use Rattle.tree_specs.specs.Rules.Story.{children, free, tried, unlink};
+ghost use Rattle.tree_specs.specs.Rules.Sequence.{Work};
+ghost use Rattle.tree_specs.specs.Rules.Story.{children, free, tried, turned, unlink};
 ghost use Rattle.tree_specs.specs.Promises.BadTexts as bad;
 
 /// Whatever is answered as running ran when this was begun: a free, be it a call's, an act's or the try of a child; the
@@ -44,4 +48,9 @@ pub fn a_refused_call_changes_nothing()
 
     // A text whose steal moves the object though it is refused doesn't do.
     ensures moved { RefusedChangeNothing bad.steals_though_refused → ⊥ }
+{}
+
+/// A turn within a routine is refused, whatever this routine runs for, and does nothing.
+pub fn a_nested_turn_is_refused()
+    ensures { (m : MomentData) (turn : Work ℕ) (p : Pool) (is : List InputData) → turned (Routine m) turn p is ≡ Ended (No Nested) p [] is }
 {}

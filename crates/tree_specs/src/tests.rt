@@ -1,6 +1,8 @@
 use super::*;
+use std::alloc::Global;
 use std::fmt::{Display, InlineText};
 use std::process::Abort;
+use std::test::Fail;
 
 fn says<E: Display + Drop>(rt: &impl Abort, error: E, want: &str) {
     let text: InlineText<128> = InlineText::of(error);
@@ -83,4 +85,23 @@ fn each_reason_has_its_message_and_so_has_memory(rt: HostRuntime) {
         "the open question takes no such input",
     );
     says(&rt, Memory, "out of memory");
+}
+
+fn makes(rt: &impl Abort, alloc: Global, list: &[Want], want: bool) -> Result<(), Fail> {
+    let made = Wants::make(Vec::from_slice(alloc, list)?).is_some();
+    assert_eq!(rt; made, want);
+    Ok(())
+}
+
+#[test]
+fn descriptors_rise_and_are_ready_for_something(rt: HostRuntime) -> Result<(), Fail> {
+    let alloc = rt.alloc();
+    let three = Want { fd: 3, flags: 1 };
+    let five = Want { fd: 5, flags: 3 };
+    makes(&rt, alloc, &[], true)?;
+    makes(&rt, alloc, &[three, five], true)?;
+    makes(&rt, alloc, &[five, three], false)?;
+    makes(&rt, alloc, &[three, three], false)?;
+    makes(&rt, alloc, &[Want { fd: 3, flags: 0 }], false)?;
+    makes(&rt, alloc, &[Want { fd: 3, flags: 4 }], false)
 }

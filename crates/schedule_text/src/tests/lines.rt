@@ -1,18 +1,26 @@
 use crate::{read_header, read_line, write_end, write_input};
+use std::process::Abort;
 use std::test::Fail;
 use text_forms::{FormFault, read_name};
-use tree_specs::{Act, Ask, Call, Input, Mode, Obj, Owner};
+use tree_specs::{Act, Ask, Call, Input, Mode, Obj, Owner, Want};
+
+// The call that makes an object of 10 bytes and the name a-b below 7.
+fn expect_new(rt: &impl Abort, call: &Call) {
+    match call {
+        Call::New { owner, size, name } => {
+            assert_eq!(rt; *owner, Owner::Of(Obj(7)));
+            assert_eq!(rt; *size, 10);
+            assert_eq!(rt; name.as_slice(), b"a-b".as_slice());
+        }
+        _ => assert!(rt; false, "another call"),
+    }
+}
 
 #[test]
 fn reads_a_call_of_new(rt: HostRuntime) -> Result<(), Fail> {
-    match read_line(rt.alloc(), b"call new 7 10 a-b")? {
-        Input::Call(Call::New { owner, size, name }) => {
-            assert_eq!(rt; owner, Owner::Of(Obj(7)));
-            assert_eq!(rt; size, 10);
-            assert_eq!(rt; name.as_slice(), b"a-b".as_slice());
-        }
-        Input::Call(_other) => assert!(rt; false, "another call"),
-        Input::Act(_act) => assert!(rt; false, "an act"),
+    match &read_line(rt.alloc(), b"call new 7 10 a-b")? {
+        Input::Call(call) => expect_new(&rt, call),
+        _ => assert!(rt; false, "another input"),
     }
     Ok(())
 }
@@ -38,6 +46,13 @@ fn writes_what_was_read(rt: HostRuntime) -> Result<(), Fail> {
         b"act report 0".as_slice(),
         b"ret 0".as_slice(),
         b"ret 4294967295".as_slice(),
+        b"call now".as_slice(),
+        b"act turn".as_slice(),
+        b"clock 0".as_slice(),
+        b"clock 4611686018427387904".as_slice(),
+        b"ready".as_slice(),
+        b"ready 3:1 5:3".as_slice(),
+        b"ready 0:2 4294967295:1".as_slice(),
     ];
     for line in lines {
         let mut out = Vec::new(rt.alloc());
@@ -50,36 +65,65 @@ fn writes_what_was_read(rt: HostRuntime) -> Result<(), Fail> {
 }
 
 #[test]
-fn reads_acts(rt: HostRuntime) -> Result<(), Fail> {
-    match read_line(rt.alloc(), b"act new 7 10 a-b")? {
-        Input::Act(Act::Do(Call::New { owner, size, name })) => {
-            assert_eq!(rt; owner, Owner::Of(Obj(7)));
-            assert_eq!(rt; size, 10);
-            assert_eq!(rt; name.as_slice(), b"a-b".as_slice());
-        }
-        Input::Act(_other) => assert!(rt; false, "another act"),
-        Input::Call(_call) => assert!(rt; false, "a call"),
-    }
-    match read_line(rt.alloc(), b"act hook 1 16")? {
-        Input::Act(Act::Do(Call::Hook { x, routine })) => {
-            assert_eq!(rt; x, Obj(1));
-            assert_eq!(rt; routine, 16);
-        }
+fn reads_an_act_of_new(rt: HostRuntime) -> Result<(), Fail> {
+    match &read_line(rt.alloc(), b"act new 7 10 a-b")? {
+        Input::Act(Act::Do(call)) => expect_new(&rt, call),
         _ => assert!(rt; false, "another input"),
     }
     Ok(())
 }
 
 #[test]
-fn reads_returns(rt: HostRuntime) -> Result<(), Fail> {
+fn reads_an_act_of_hook(rt: HostRuntime) -> Result<(), Fail> {
+    match &read_line(rt.alloc(), b"act hook 1 16")? {
+        Input::Act(Act::Do(Call::Hook { x, routine })) => {
+            assert_eq!(rt; *x, Obj(1));
+            assert_eq!(rt; *routine, 16);
+        }
+        _ => assert!(rt; false, "another input"),
+    }
+    Ok(())
+}
+
+// The number that a routine returns, or that the clock answers.
+fn number_in(input: &Input) -> Option<u64> {
+    match input {
+        Input::Act(Act::Ret(value)) => Some(u64::from(*value)),
+        Input::Clock(now) => Some(*now),
+        _ => None,
+    }
+}
+
+#[test]
+fn reads_returns_and_times(rt: HostRuntime) -> Result<(), Fail> {
     let cases = [
         (b"ret 0".as_slice(), 0),
         (b"ret 1".as_slice(), 1),
         (b"ret 4294967295".as_slice(), 4_294_967_295),
+        (b"clock 0".as_slice(), 0),
+        (
+            b"clock 4611686018427387904".as_slice(),
+            4_611_686_018_427_387_904,
+        ),
+    ];
+    for (line, want) in cases {
+        let input = read_line(rt.alloc(), line)?;
+        assert_eq!(rt; number_in(&input), Some(want), "at {line:?}");
+    }
+    Ok(())
+}
+
+#[test]
+fn reads_what_is_ready(rt: HostRuntime) -> Result<(), Fail> {
+    let two = [Want { fd: 3, flags: 1 }, Want { fd: 5, flags: 3 }];
+    let cases = [
+        (b"ready".as_slice(), &two[..0]),
+        (b"ready 3:1".as_slice(), &two[..1]),
+        (b"ready 3:1 5:3".as_slice(), &two[..]),
     ];
     for (line, want) in cases {
         match read_line(rt.alloc(), line)? {
-            Input::Act(Act::Ret(value)) => assert_eq!(rt; value, want, "at {line:?}"),
+            Input::Ready(wants) => assert_eq!(rt; wants.as_slice(), want, "at {line:?}"),
             _ => assert!(rt; false, "another input"),
         }
     }
@@ -117,6 +161,26 @@ fn reads_no_line(rt: HostRuntime) {
         b"ret 4294967296".as_slice(),
         b"ret 0 0".as_slice(),
         b"ret free 9".as_slice(),
+        b"call now 0".as_slice(),
+        b"clock".as_slice(),
+        b"clock ".as_slice(),
+        b"clock 01".as_slice(),
+        b"clock 0 0".as_slice(),
+        b"clock 4611686018427387905".as_slice(),
+        b"ready ".as_slice(),
+        b"ready 5:1 3:1".as_slice(),
+        b"ready 3:1 3:2".as_slice(),
+        b"ready 3:0".as_slice(),
+        b"ready 3:4".as_slice(),
+        b"ready 3".as_slice(),
+        b"ready 3:".as_slice(),
+        b"ready :1".as_slice(),
+        b"ready 3:1:1".as_slice(),
+        b"ready  3:1".as_slice(),
+        b"ready 3:1 ".as_slice(),
+        b"ready 03:1".as_slice(),
+        b"ready3:1".as_slice(),
+        b"ready 4294967296:1".as_slice(),
     ];
     for line in lines {
         let input = read_line(rt.alloc(), line);

@@ -23,15 +23,17 @@ use Rattle.tree_specs.specs.Tree.Targets.{target_of, is_reference}
 use Rattle.tree_specs.specs.Tree.Pool.{Pool, row_of, is_object_row, is_owner, is_below, owner_of, newest_ref_of, reaches, is_inside}
 use Rattle.tree_specs.specs.Tree.Reports.{count_refs}
 use Rattle.tree_specs.specs.Calls.Given.{Given, given_to}
-use Rattle.tree_specs.specs.Calls.Given.Given.{Calls, Returns}
+use Rattle.tree_specs.specs.Calls.Given.Given.{Calls, Returns, Tells, IsReady}
 use Rattle.tree_specs.specs.declared.test.Test.{Test}
 use Rattle.tree_specs.specs.Calls.Refusals.{Check, refuse_if, refusal_of, refused, size_limit, row_limit, object_row, object, owner, room, apart, interested, given_by, is_running_mark}
 use Rattle.tree_specs.specs.declared.test.Test.TheVariants.{IsSmall, IsObject, IsOwner, IsPlain, IsImmediate, HasRoom, Fits, MayGrow, IsNotDying, IsNotDoomed, IsNotRunning, IsNotInside, IsUnheld, IsUnreferenced, IsInterested, MayGive}
 use Rattle.tree_specs.specs.Calls.Passed.{Interest, AsOwner, AsHolder, Gives, Itself, ItsRef, Passed, AllPassed}
 use Rattle.tree_specs.specs.Invariants.Sound.{IsLive, MayBePlaced}
-use Rattle.tree_specs.specs.Words.Ranges.{is_sound_call, is_return}
+use Rattle.tree_specs.specs.Words.Ranges.{is_sound_call, is_return, is_time}
+use Rattle.tree_specs.specs.Words.Wants.{is_wants}
+use Rattle.tree_specs.specs.declared.wants.Want.{Want}
 use Rattle.tree_specs.specs.Machine.Table.{doing, returning}
-use Rattle.tree_specs.specs.Rules.Story.{heard, led}
+use Rattle.tree_specs.specs.Rules.Story.{heard, led, clocked, told_time, polled, told_ready}
 use Rattle.tree_specs.specs.Invariants.Consistent.{IsOfRoutine}
 use Rattle.tree_specs.proofs.Tree.Numbered.{by_test, same_owner-equal}
 
@@ -161,6 +163,8 @@ pub given-return : (q : Ask) (i : Input) (v : ℕ) → given_to q i ≡ Some (Re
 given-return ask.Quiet (input.Call c) v e = cc
 given-return (ask.Routine m) (input.Act (act.Do c)) v e = cc
 given-return (ask.Routine m) (input.Act (act.Ret u)) v e = let e' : u ≡ v = cc in (ap (λ (z : ℕ). input.Act (act.Ret z)) e', tt)
+given-return ask.Clock (input.Clock now) v e = cc
+given-return (ask.Wait limit) (input.Ready wants) v e = cc
 given-return q i v e = cc
 
 -- a call, or the end of a routine's run
@@ -176,6 +180,27 @@ heard-by {A = A} q does returns i a e = each (given_to q i) refl e
     each (Some (Returns v)) h e = by_test (is_return v)
         (λ t. let e' : Some (returns v) ≡ Some a = rw t at e in let g = given-return q i v h in inr (v, g.0, g.1, cc))
         (λ t. let e' : None ≡ Some a = rw t at e in cc)
+    each (Some _) h e = cc
+
+-- a time
+pub clocked-by : {A : Type 0} (timed : ℕ → A) (i : Input) (a : A) → clocked timed i ≡ Some a → (now : ℕ) × (a ≡ timed now)
+clocked-by {A = A} timed i a e = each (given_to ask.Clock i) e
+  where
+    each : (g : Option Given) → told_time timed g ≡ Some a → (now : ℕ) × (a ≡ timed now)
+    each (Some (Tells now)) e = by_test (is_time now)
+        (λ t. let e' : Some (timed now) ≡ Some a = rw t at e in (now, cc))
+        (λ t. let e' : None ≡ Some a = rw t at e in cc)
+    each _ e = cc
+
+-- descriptors that are ready
+pub polled-by : {A : Type 0} (limit : ℕ) (looked : List Want → A) (i : Input) (a : A) → polled limit looked i ≡ Some a → (wants : List Want) × (a ≡ looked wants)
+polled-by {A = A} limit looked i a e = each (given_to (ask.Wait limit) i) e
+  where
+    each : (g : Option Given) → told_ready looked g ≡ Some a → (wants : List Want) × (a ≡ looked wants)
+    each (Some (IsReady wants)) e = by_test (is_wants wants)
+        (λ t. let e' : Some (looked wants) ≡ Some a = rw t at e in (wants, cc))
+        (λ t. let e' : None ≡ Some a = rw t at e in cc)
+    each _ e = cc
 
 pub data Heard (q : Ask) : Frame → Type 0 where
   -- a call

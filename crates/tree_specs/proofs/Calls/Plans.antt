@@ -1,6 +1,6 @@
 -- What a plan asks for, what its change of the rows leaves so, and that a call which isn't refused may carry out its plan.
 use Rattle.std.proofs.Common.{ℕ, nat_eq, ◌≡◌, ◌≢◌, ◌≤◌, ◌+◌, ◌*◌, List, [], ◌∷◌, length, Option, Some, None, Bool, true, false, refl, sym, ◌∙◌, ap, subst, arith}
-use Rattle.std.specs.Prelude.{codes, if◌then◌else◌}
+use Rattle.std.specs.Prelude.{is_some, codes, if◌then◌else◌}
 use Rattle.tree_specs.specs.declared.object.Obj.{Obj}
 use Rattle.tree_specs.specs.declared.object.Owner.{Owner}
 use Rattle.tree_specs.specs.declared.object.Owner.TheVariants.{Root, Of}
@@ -18,17 +18,22 @@ use Rattle.tree_specs.specs.Tree.Targets.{target_of, newest_ref}
 use Rattle.tree_specs.specs.Tree.Inside.{total}
 use Rattle.tree_specs.specs.Invariants.Measure.{weight, mark_weight}
 use Rattle.tree_specs.specs.Invariants.Consistent.{deposit, mark_deposit}
-use Rattle.tree_specs.specs.Calls.Refusals.{Check, tests, refusals}
-use Rattle.tree_specs.specs.declared.test.Test.TheVariants.{IsObject}
+use Rattle.tree_specs.specs.Calls.Refusals.{Check, tests, refusals, is_immediate, is_doomed_mark}
+use Rattle.tree_specs.specs.declared.moment.What.TheVariants as what
+use Rattle.tree_specs.specs.Events.Coming.{comes_as}
+use Rattle.tree_specs.specs.Events.Handlers.{handler_of}
+use Rattle.tree_specs.specs.Invariants.Awaiting.{MayCome, is_event_row}
+use Rattle.tree_specs.specs.declared.test.Test.TheVariants.{IsObject, IsImmediate, IsNotDoomed}
 use Rattle.tree_specs.specs.Calls.Plans.{Change, Plan, changed_by, plan, planned, unless_refused, places, warns, frees, handed, gift}
-use Rattle.tree_specs.specs.Calls.Plans.Change.{Nothing, Edit, Add, Place, Schedule, Unschedule, Arm, Then}
-use Rattle.tree_specs.specs.Calls.Plans.Plan.{Does, Frees, Unlinks, Empties}
+use Rattle.tree_specs.specs.Calls.Plans.Change.{Nothing, Edit, Add, Place, Handle, Schedule, Unschedule, Arm, Then}
+use Rattle.tree_specs.specs.Calls.Plans.Plan.{Does, Frees, Unlinks, Empties, AsksTime, Turns}
 use Rattle.tree_specs.specs.Invariants.Sound.{IsLive, IsReferable, IsQuietRow, MayBePlaced, Rests, Sound, claim}
 use Rattle.tree_specs.proofs.Tree.Numbered.{by_test, same-equal, is_below-some}
 use Rattle.tree_specs.proofs.Tree.Rows.{total-placed, row_of-placed-same}
 use Rattle.tree_specs.proofs.Tree.Rooted.{KeepsPlace}
 use Rattle.tree_specs.proofs.Tree.Referring.{newest-refers, newest-of-refers, refers-nothing, reference-outside, object-refers}
 use Rattle.tree_specs.specs.Calls.Passed.{Passed, AllPassed, Interest, AsOwner, AsHolder, Gives, Itself, ItsRef}
+use Rattle.tree_specs.proofs.Events.HandlerLaws.{with-own}
 use Rattle.tree_specs.proofs.Calls.Checks.{all-pass, may-place, quiet-row}
 use Rattle.tree_specs.proofs.Invariants.Changes.{names-place, hooks-place, sizes-place, limits-place, goes_on, waiting-sound, unmarked-sound, placed-sound, new-sound, owned-row}
 use Rattle.tree_specs.proofs.Invariants.KeptFrees.{referred-live}
@@ -54,9 +59,10 @@ MayDo p Nothing = Unit {0}
 MayDo p (Edit x g) = MayBeEdited p x g
 MayDo p (Add kind o size name) = MayBeAdded p kind o
 MayDo p (Place o x) = MayBePlaced p o x
-MayDo p (Schedule x) = Unit {0}
+MayDo p (Handle x handler) = is_event_row (row_of p.rows x) ≡ true
+MayDo p (Schedule x) = MayCome what.Immediate (row_of p.rows x) × (is_some (handler_of p.handlers x) ≡ true)
 MayDo p (Unschedule x) = Unit {0}
-MayDo p (Arm x time number) = Unit {0}
+MayDo p (Arm x time number) = MayCome what.Timer (row_of p.rows x) × (is_some (handler_of p.handlers x) ≡ true)
 MayDo p (Then first second) = MayDo p first × MayDo (changed_by first p) second
 
 -- how many rows it adds
@@ -65,6 +71,7 @@ added Nothing = 0
 added (Edit x g) = 0
 added (Add kind o size name) = 1
 added (Place o x) = 0
+added (Handle x handler) = 0
 added (Schedule x) = 0
 added (Unschedule x) = 0
 added (Arm x time number) = 0
@@ -92,7 +99,7 @@ follows p (Edit x g) may =
       weight = omega (arith, w);
       number = omega (arith, length-changed g p.rows x);
       deposit = omega (arith, b);
-      later = later-changed g p x may.row may.place.serial may.is (λ d. rw (may.mark may.row) d) (λ i. rw (may.mark may.row) i);
+      later = later-changed g p x may.row may.place.serial may.is (λ d. rw (may.mark may.row) d);
     }
 follows p (Add kind o size name) may = record { weight = omega arith; number = omega arith; deposit = omega arith; later = later-added p kind o size name }
 follows p (Place o x) may =
@@ -104,6 +111,7 @@ follows p (Place o x) may =
       deposit = omega (arith, b);
       later = later-placed p o x may.row may.is;
     }
+follows p (Handle x handler) may = waits p (changed_by (Handle x handler) p) refl refl
 follows p (Schedule x) may = waits p (changed_by (Schedule x) p) refl refl
 follows p (Unschedule x) may = waits p (changed_by (Unschedule x) p) refl refl
 follows p (Arm x time number) may = waits p (changed_by (Arm x time number) p) refl refl
@@ -118,6 +126,7 @@ change-sound f f' fs p Nothing s may same calm h = goes_on f f' fs p same h s
 change-sound f f' fs p (Edit x g) s may same calm h = unmarked-sound g f f' fs p x may.row s may.place may.mark may.is may.object same h
 change-sound f f' fs p (Add kind o size name) s may same calm h = new-sound f f' kind o size name fs p s may.there may.target same h
 change-sound f f' fs p (Place o x) s may same calm h = placed-sound f f' o x fs p s may same h
+change-sound f f' fs p (Handle x handler) s may same calm h = waiting-sound f f' fs p (changed_by (Handle x handler) p) s refl refl same h
 change-sound f f' fs p (Schedule x) s may same calm h = waiting-sound f f' fs p (changed_by (Schedule x) p) s refl refl same h
 change-sound f f' fs p (Unschedule x) s may same calm h = waiting-sound f f' fs p (changed_by (Unschedule x) p) s refl refl same h
 change-sound f f' fs p (Arm x time number) s may same calm h = waiting-sound f f' fs p (changed_by (Arm x time number) p) s refl refl same h
@@ -137,6 +146,8 @@ May p (Does c warned r) = MayDo p c × (added c ≤ 2) × IsThere warned (change
 May p (Frees x) = (newest_ref p.rows x ≡ None) × (target_at p.rows x ≡ None)
 May p (Unlinks o x) = (r : Row) × (row_of p.rows x ≡ Some r) × IsLive r.mark × (target_of r.kind ≡ None)
 May p (Empties x) = Unit {0}
+May p AsksTime = Unit {0}
+May p Turns = Unit {0}
 
 -- the reference that goes in the place of its target
 pub ref-placed : (f : Frame) (fs : List Frame) (p : Pool) (o : Owner) (x r : Obj) → Sound f fs p → target_at p.rows r ≡ Some x → is_owner p.rows o ≡ true → MayBePlaced p o r
@@ -183,6 +194,21 @@ module _ (f : Frame) (fs : List Frame) (p : Pool) (s : Sound f fs p) where
       let w = newest-of-refers p.rows from x r s.forest.distinct n in
       rw (t, n) (ref-placed f fs p to x r s (rw w.1 w.2) there, omega arith, tt)
 
+  -- an immediate that isn't doomed
+  scheduled : (x : Obj) → AllPassed p (IsObject x ∷ IsImmediate x ∷ IsNotDoomed x ∷ []) → MayCome what.Immediate (row_of p.rows x)
+  scheduled x h =
+      let k : is_immediate h.0.0.kind ≡ true = rw h.0.1 at h.1.0 in
+      let m : is_doomed_mark h.0.0.mark ≡ false = rw h.0.1 at h.1.1.0 in
+      rw h.0.1 (comes h.0.0.kind k, m)
+    where
+      comes : (k : Kind) → is_immediate k ≡ true → comes_as what.Immediate k ≡ true
+      comes kind.Immediate e = refl
+      comes _ e = cc
+
+  event : (x : Obj) (o : Option Row) → MayCome what.Immediate o → is_event_row o ≡ true
+  event x None h = absurd h
+  event x (Some r) h = rw h.0 refl
+
   each : (c : Call) → AllPassed p (tests c) → May p (plan p c)
   each (call.New o size name) h = (record { there = h.1.0; target = λ t e. cc }, omega arith, tt)
   each (call.Free x) h = freed x h.0 (newest_ref p.rows x) refl
@@ -206,10 +232,17 @@ module _ (f : Frame) (fs : List Frame) (p : Pool) (s : Sound f fs p) where
   each (call.Sum o) h = (tt, omega arith, tt)
   each (call.Report o) h = (tt, omega arith, tt)
   each (call.Immediate o) h = (record { there = h.0; target = λ t e. cc }, omega arith, tt)
-  each (call.Schedule x routine user) h = by_test (nat_eq routine 0) (λ t. rw t (tt, omega arith, tt)) (λ t. rw t (tt, omega arith, tt))
+  each (call.Schedule x routine user) h = by_test (nat_eq routine 0)
+      (λ t. rw t (tt, omega arith, tt))
+      (λ t. rw t ((event x (row_of p.rows x) (scheduled x h), (scheduled x h, with-own p.handlers x (record { routine = routine; user = user }))), omega arith, tt))
   each (call.Unschedule x) h = (tt, omega arith, tt)
-  each (call.Timer o time routine user) h = ((record { there = h.0; target = λ t e. cc }, tt), omega arith, tt)
+  each (call.Timer o time routine user) h =
+      let n : Obj = record { 0 = p.next } in
+      let self : same n n ≡ true = same-equal n n refl in
+      ((record { there = h.0; target = λ t e. cc }, (rw self refl, (rw self (refl, refl), with-own p.handlers n (record { routine = routine; user = user })))), omega arith, tt)
   each call.Pending h = (tt, omega arith, tt)
+  each call.Now h = tt
+  each call.Turn h = tt
 
   pub may : (c : Call) → refusals p c ≡ [] → May p (plan p c)
   may c none = each c (all-pass p (tests c) none)

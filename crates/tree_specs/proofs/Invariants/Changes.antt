@@ -1,13 +1,13 @@
 -- What a change of the rows, or of the works, keeps sound.
 use Rattle.std.proofs.Common.{◌≡◌, ◌≢◌, ℕ, suc, zero, ◌+◌, ◌<◌, List, [], ◌∷◌, ◌++◌, Option, Some, None, true, false, nat_eq, refl, sym, ◌∙◌, ap, subst, ◌⊎◌, inl, inr, arith}
 use Rattle.std.proofs.lemmas.Bool.{eqb-true}
-use Rattle.tree_specs.specs.Machine.Profiles.{Phase, InRun, InLoop}
+use Rattle.tree_specs.specs.Machine.Profiles.{Phase, InRun, InHandler, InLoop}
 use Rattle.tree_specs.specs.declared.object.Obj.{Obj}
 use Rattle.tree_specs.specs.declared.object.Owner.{Owner}
 use Rattle.tree_specs.specs.declared.object.Owner.TheVariants.{Root, Of}
 use Rattle.tree_specs.specs.declared.row.Row.{Row}
 use Rattle.tree_specs.specs.declared.row.Mark.{Mark}
-use Rattle.tree_specs.specs.declared.row.Mark.TheVariants.{Quiet, Dying}
+use Rattle.tree_specs.specs.declared.row.Mark.TheVariants.{Quiet, Asked, Dying}
 use Rattle.tree_specs.specs.declared.frame.Frame.{Frame}
 use Rattle.tree_specs.specs.declared.kind.Kind.{Kind}
 use Rattle.tree_specs.specs.Words.Objects.{same}
@@ -34,17 +34,30 @@ dying-row (Some r) l e = marks r.mark refl e
     marks : (m : Mark) → r.mark ≡ m → InLoop ∷ l ≡ phase_of r.mark → (s : Row) × (Some r ≡ Some s) × (former : Owner) × (s.mark ≡ Dying former) × (l ≡ [])
     marks Quiet m e = let e' : InLoop ∷ l ≡ [] = rw m at e in cc
     marks (Dying former) m e = let e' : InLoop ∷ l ≡ InLoop ∷ [] = rw m at e in (r, refl, former, m, cc)
-    marks _ m e = let e' : InLoop ∷ l ≡ InRun ∷ [] = rw m at e in cc
+    marks Asked m e = let e' : InLoop ∷ l ≡ InRun ∷ [] = rw m at e in cc
+    marks _ m e = let e' : InLoop ∷ l ≡ InHandler ∷ [] = rw m at e in cc
 
--- a row of which a free says that it runs is live, and claimed once
-pub running-row : (o : Option Row) (l : List Phase) → InRun ∷ l ≡ phases o → (r : Row) × (o ≡ Some r) × IsLive r.mark × (l ≡ [])
+-- a row of which a free says that its destructor runs is live and asked, and claimed once
+pub running-row : (o : Option Row) (l : List Phase) → InRun ∷ l ≡ phases o → (r : Row) × (o ≡ Some r) × IsLive r.mark × (l ≡ []) × (r.mark ≡ Asked)
 running-row None l e = cc
 running-row (Some r) l e = marks r.mark refl e
   where
-    marks : (m : Mark) → r.mark ≡ m → InRun ∷ l ≡ phase_of r.mark → (s : Row) × (Some r ≡ Some s) × IsLive s.mark × (l ≡ [])
+    marks : (m : Mark) → r.mark ≡ m → InRun ∷ l ≡ phase_of r.mark → (s : Row) × (Some r ≡ Some s) × IsLive s.mark × (l ≡ []) × (s.mark ≡ Asked)
     marks Quiet m e = let e' : InRun ∷ l ≡ [] = rw m at e in cc
     marks (Dying former) m e = let e' : InRun ∷ l ≡ InLoop ∷ [] = rw m at e in cc
-    marks _ m e = let e' : InRun ∷ l ≡ InRun ∷ [] = rw m at e in (r, refl, rw m tt, cc)
+    marks Asked m e = let e' : InRun ∷ l ≡ InRun ∷ [] = rw m at e in (r, refl, rw m tt, cc, m)
+    marks _ m e = let e' : InRun ∷ l ≡ InHandler ∷ [] = rw m at e in cc
+
+-- and one of which a turn says that its handler runs is live, and claimed once
+pub handling-row : (o : Option Row) (l : List Phase) → InHandler ∷ l ≡ phases o → (r : Row) × (o ≡ Some r) × IsLive r.mark × (l ≡ [])
+handling-row None l e = cc
+handling-row (Some r) l e = marks r.mark refl e
+  where
+    marks : (m : Mark) → r.mark ≡ m → InHandler ∷ l ≡ phase_of r.mark → (s : Row) × (Some r ≡ Some s) × IsLive s.mark × (l ≡ [])
+    marks Quiet m e = let e' : InHandler ∷ l ≡ [] = rw m at e in cc
+    marks Asked m e = let e' : InHandler ∷ l ≡ InRun ∷ [] = rw m at e in cc
+    marks (Dying former) m e = let e' : InHandler ∷ l ≡ InLoop ∷ [] = rw m at e in cc
+    marks _ m e = let e' : InHandler ∷ l ≡ InHandler ∷ [] = rw m at e in (r, refl, rw m tt, cc)
 
 -- what a claim on x says
 pub claim-here : (x : Obj) (a : Phase) (l : List Phase) (o : Option Row) → claim_if (same x x) a ++ l ≡ phases o → a ∷ l ≡ phases o
@@ -264,20 +277,20 @@ quiet-phases : (o : Option Row) → IsQuietRow o → phases o ≡ []
 quiet-phases None q = refl
 quiet-phases (Some r) q = ap phase_of q
 
--- a row of which a free says that it runs is no reference, and no reference is to it
-pub run-refers : (rs : List Row) (x : Obj) (l : List Phase) → Refers rs → InRun ∷ l ≡ phases (row_of rs x) → target_at rs x ≡ None
-run-refers rs x l refers e = each (target_at rs x) refl
+-- a row of which a work says that something goes on is no reference, and no reference is to it
+pub run-refers : {a : Phase} (rs : List Row) (x : Obj) (l : List Phase) → Refers rs → a ∷ l ≡ phases (row_of rs x) → target_at rs x ≡ None
+run-refers {a = a} rs x l refers e = each (target_at rs x) refl
   where
     each : (o : Option Obj) → target_at rs x ≡ o → target_at rs x ≡ None
     each None t = t
-    each (Some y) t = let bad : InRun ∷ l ≡ [] = e ∙ quiet-phases (row_of rs x) (refers.quiet x y t) in cc
+    each (Some y) t = let bad : a ∷ l ≡ [] = e ∙ quiet-phases (row_of rs x) (refers.quiet x y t) in cc
 
-pub run-unreferred : (rs : List Row) (x : Obj) (l : List Phase) → Distinct rs → Refers rs → InRun ∷ l ≡ phases (row_of rs x) → newest_ref rs x ≡ None
-run-unreferred rs x l d refers e = unreferred rs x d (not-so (row_of rs x) e) refers
+pub run-unreferred : {a : Phase} (rs : List Row) (x : Obj) (l : List Phase) → Distinct rs → Refers rs → a ∷ l ≡ phases (row_of rs x) → newest_ref rs x ≡ None
+run-unreferred {a = a} rs x l d refers e = unreferred rs x d (not-so (row_of rs x) e) refers
   where
-    not-so : (o : Option Row) → InRun ∷ l ≡ phases o → IsReferable o → ⊥
+    not-so : (o : Option Row) → a ∷ l ≡ phases o → IsReferable o → ⊥
     not-so None e h = h
-    not-so (Some r) e h = let bad : InRun ∷ l ≡ [] = e ∙ ap phase_of h.1 in cc
+    not-so (Some r) e h = let bad : a ∷ l ≡ [] = e ∙ ap phase_of h.1 in cc
 
 -- a reference is dropped
 pub dropped-sound : (f f' : Frame) (fs : List Frame) (p : Pool) (r t : Obj) → Sound f fs p → target_at p.rows r ≡ Some t → ((y : Obj) → claim y f' ≡ claim y f) → Rests f' fs (remove p r) → Sound f' fs (remove p r)

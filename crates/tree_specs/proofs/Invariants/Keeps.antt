@@ -2,21 +2,29 @@
 use Rattle.std.proofs.Common.{ℕ, List, ◌∷◌, Some, None, refl}
 use Rattle.tree_specs.specs.declared.call.Call.{Call}
 use Rattle.tree_specs.specs.declared.question.Ask.{Ask}
+use Rattle.tree_specs.specs.declared.question.Ask.TheVariants.{Quiet}
+use Rattle.tree_specs.specs.declared.reply.Reply.TheVariants as reply
+use Rattle.tree_specs.specs.declared.reply.Refusal.TheVariants as refusal
 use Rattle.tree_specs.specs.declared.frame.Frame.{Frame}
 use Rattle.tree_specs.specs.declared.frame.Frame.TheVariants as frame
-use Rattle.tree_specs.specs.declared.frame.CallFrame.TheVariants.{Asking, Doing, Awaiting, Warning, Telling, Returning}
-use Rattle.tree_specs.specs.declared.frame.FreeFrame.TheVariants.{Unlinking, Releasing, Giving, Beginning, Hooked, Judged, Leaving, Looping, AfterChild, Ending}
+use Rattle.tree_specs.specs.declared.frame.CallFrame.TheVariants.{Asking, Doing, Awaiting, Turning, Warning, Telling, Returning}
+use Rattle.tree_specs.specs.declared.frame.FreeFrame.TheVariants.{Unlinking, Releasing, Giving, Beginning, Hooked, Judged, Dooming, Leaving, Looping, AfterChild, Ending}
 use Rattle.tree_specs.specs.declared.frame.Answer.TheVariants.{Freed, Returned}
 use Rattle.tree_specs.specs.declared.free_step.FreeReply.TheVariants.{Ok}
 use Rattle.tree_specs.specs.Tree.Pool.{Pool}
 use Rattle.tree_specs.specs.Calls.Plans.{Plan, planned}
-use Rattle.tree_specs.specs.Calls.Plans.Plan.{Does, Frees, Unlinks, Empties}
+use Rattle.tree_specs.specs.Calls.Plans.Plan.{Does, Frees, Unlinks, Empties, AsksTime, Turns}
 use Rattle.tree_specs.specs.Rules.Story.{later}
-use Rattle.tree_specs.specs.Machine.Table.{step, plan_step}
+use Rattle.tree_specs.specs.Machine.Table.{step, plan_step, turning_step}
 use Rattle.tree_specs.specs.Invariants.Sound.{Sound}
 use Rattle.tree_specs.proofs.Invariants.Changes.{stands, goes_on, placed-sound}
 use Rattle.tree_specs.proofs.Calls.Plans.{May, change-sound, may-planned}
-use Rattle.tree_specs.proofs.Invariants.KeptFrees.{KeptBy, asking, beginning, ended, hooked, judged, leaving, looping, releasing, still-there, tried, unlinking}
+use Rattle.tree_specs.proofs.Invariants.KeptFrees.{KeptBy, asking, beginning, dooming, ended, hooked, judged, leaving, looping, releasing, still-there, tried, unlinking}
+use Rattle.tree_specs.proofs.Invariants.KeptTurns.{turn-kept}
+
+turning-kept : (q : Ask) (c : Call) (fs : List Frame) (p : Pool) (k : ℕ) → Sound (frame.Call (Doing q c)) fs p → KeptBy (turning_step q p) fs k
+turning-kept Quiet c fs p k s = stands _ _ fs (frame.Call (Turning Quiet) ∷ fs) p (λ y. refl) (tt, s.waiting) tt s
+turning-kept q c fs p k s = goes_on (frame.Call (Doing q c)) (frame.Call (Telling (later q (reply.No refusal.Nested)) (reply.No refusal.Nested))) fs p (λ y. refl) tt s
 
 -- the first step of a plan that may be carried out
 planned-kept : (q : Ask) (c : Call) (fs : List Frame) (p : Pool) (k : ℕ) → Sound (frame.Call (Doing q c)) fs p → (plan : Plan) → May p plan → KeptBy (plan_step q plan p) fs k
@@ -25,6 +33,8 @@ planned-kept q c fs p k s (Does change (Some x) r) may = change-sound (frame.Cal
 planned-kept q c fs p k s (Frees x) may = stands _ _ fs (frame.Call (Awaiting q x) ∷ fs) p (λ y. refl) (tt, s.waiting) may s
 planned-kept q c fs p k s (Unlinks o x) may = stands _ _ fs (frame.Call (Awaiting q x) ∷ fs) p (λ y. refl) (tt, s.waiting) (tt, may.0, may.1, may.2, may.3) s
 planned-kept q c fs p k s (Empties x) may = stands _ _ fs (frame.Call (Awaiting q x) ∷ fs) p (λ y. refl) (tt, s.waiting) tt s
+planned-kept q c fs p k s AsksTime may = stands _ _ fs (frame.Call (Turning q) ∷ fs) p (λ y. refl) (tt, s.waiting) tt s
+planned-kept q c fs p k s Turns may = turning-kept q c fs p k s
 
 -- every step keeps what is sound
 pub sound-kept : (f : Frame) (fs : List Frame) (p : Pool) (k : ℕ) → Sound f fs p → KeptBy (step f p) fs k
@@ -39,9 +49,11 @@ sound-kept (frame.Free (Giving x o)) fs p k s = placed-sound (frame.Free (Giving
 sound-kept (frame.Free (Beginning x)) fs p k s = beginning x fs p k s
 sound-kept (frame.Free (Hooked x h)) fs p k s = hooked x h fs p k s
 sound-kept (frame.Free (Judged x h v)) fs p k s = judged x h v fs p k s
+sound-kept (frame.Free (Dooming x)) fs p k s = dooming x fs p k s
 sound-kept (frame.Free (Leaving x h)) fs p k s = leaving x h fs p k s
 sound-kept (frame.Free (Looping x purpose)) fs p k s = looping x purpose fs p k s
 sound-kept (frame.Free (AfterChild x c noted purpose a)) fs p k s = tried x c noted purpose a fs p k s
 sound-kept (frame.Free (Ending a)) fs p k s = ended (Freed a) (frame.Free (Ending a)) fs p k s (λ x. refl) (λ x c n b gs e. still-there a x c n p s.rests.0)
+sound-kept (frame.Turn f) fs p k s = turn-kept f fs p k s
 -- a work that waits is not the innermost
 sound-kept _ fs p k s = absurd s.rests

@@ -15,8 +15,9 @@ use Rattle.tree_specs.specs.declared.question.Ask.{Ask}
 use Rattle.tree_specs.specs.declared.question.Ask.TheVariants.{Routine}
 use Rattle.tree_specs.specs.declared.frame.Frame.{Frame}
 use Rattle.tree_specs.specs.declared.frame.Frame.TheVariants as frame
-use Rattle.tree_specs.specs.declared.frame.CallFrame.TheVariants.{Asking, Doing, Awaiting, Returning}
-use Rattle.tree_specs.specs.declared.frame.FreeFrame.TheVariants.{Unlinking, Releasing, Giving, Beginning, Hooked, Judged, Leaving, Looping, FreeingChild, AfterChild, Ending}
+use Rattle.tree_specs.specs.declared.frame.CallFrame.TheVariants.{Asking, Doing, Awaiting, Turning, Returning}
+use Rattle.tree_specs.specs.declared.frame.TurnFrame.TheVariants.{Handling, Clearing}
+use Rattle.tree_specs.specs.declared.frame.FreeFrame.TheVariants.{Unlinking, Releasing, Giving, Beginning, Hooked, Judged, Dooming, Leaving, Looping, FreeingChild, AfterChild, Ending}
 use Rattle.tree_specs.specs.declared.frame.Purpose.{Purpose}
 use Rattle.tree_specs.specs.declared.frame.Purpose.TheVariants.{Removal, Emptying}
 use Rattle.tree_specs.specs.declared.frame.Answer.{Answer}
@@ -24,12 +25,13 @@ use Rattle.tree_specs.specs.declared.frame.Answer.TheVariants.{Freed}
 use Rattle.tree_specs.specs.declared.free_step.FreeReply.{FreeReply}
 use Rattle.tree_specs.specs.declared.free_step.FreeReply.TheVariants.{Ok, Held, Running, Refused}
 use Rattle.tree_specs.specs.Words.Objects.{same}
-use Rattle.tree_specs.specs.Tree.Pool.{Pool, row_of, target_in, target_at, newest_ref_of, owner_in, owner_at, noted_owner, is_owner, is_below, owner_of, is_inside, first_kid, without, changed, remove, left_row, set_mark, marked_row, hooked_row}
+use Rattle.tree_specs.specs.Tree.Pool.{Pool, row_of, target_in, target_at, newest_ref_of, owner_in, owner_at, noted_owner, is_owner, is_below, owner_of, is_inside, first_kid, without, changed, remove, left_row, set_mark, doom, marked_row, hooked_row}
 use Rattle.tree_specs.specs.Rules.Items.{Item}
 use Rattle.tree_specs.specs.Rules.Story.{hook_moment}
 use Rattle.tree_specs.specs.Machine.Table.{table, step, lifted, begin_quiet, begin_step, drop_step, refs_step, unlink_step, release_step, judge_step, last_step, child_step, loop_step, hand_on_step, reply_in, resume}
 use Rattle.tree_specs.specs.Tree.Heirs.{heir}
-use Rattle.tree_specs.specs.Invariants.Sound.{Owned, Shaped, ValidAt, phase_of, phases, claim, claims, AllWait, IsLive, IsReferable, NotedFor, Tries, StillThere, Refers, IsQuietRow, IsOver, MayAnswer, IsCalled, IsGivenUp, MayBePlaced, Sound, footing}
+use Rattle.tree_specs.specs.Invariants.Sound.{Owned, Shaped, ValidAt, phase_of, phases, claim, claims, AllWait, IsLive, IsReferable, NotedFor, Tries, StillThere, Refers, IsQuietRow, IsOver, MayAnswer, IsCalled, IsGivenUp, MayBePlaced, Sound, Footing, footing}
+use Rattle.tree_specs.specs.Invariants.Sound.Footing.{OnCall, OnFree, AtBottom}
 use Rattle.tree_specs.proofs.Tree.Numbered.{by_test, same-equal, same-false}
 use Rattle.tree_specs.proofs.Tree.Rows.{row_of-changed-other, row_of-changed-same, row_of-without-other, row_of-without-same, first_kid-owner}
 use Rattle.tree_specs.proofs.Tree.Rooted.{forest-left, forest-without, is_there-owner}
@@ -37,9 +39,9 @@ use Rattle.tree_specs.proofs.Tree.Referring.{newest-refers, newest-of-refers, no
 use Rattle.tree_specs.proofs.Tree.Ancestry.{inside-self, inside-owner, inside-not_back}
 use Rattle.tree_specs.specs.Tree.Forest.{IsForest}
 use Rattle.tree_specs.specs.Tree.Targets.{target_of, newest_ref}
-use Rattle.tree_specs.proofs.Invariants.Waiters.{Waiter, ForFree, ForRun, ForChild, waiter}
+use Rattle.tree_specs.proofs.Invariants.Waiters.{Waiter, ForFree, ForRun, ForChild, ForTurn, ForHandler, ForClear, waiter}
 use Rattle.tree_specs.proofs.Calls.Checks.{Heard, HeardCall, HeardReturn, heard-leads}
-use Rattle.tree_specs.proofs.Invariants.Changes.{run-refers, run-unreferred, dropped-sound, dying-row, running-row, claim-here, positive, not-zero, stands, goes_on, changed-sound, shape-of, live-owned, marks-place, hooks-place, unmarked-sound, valid-at, frees-at, placed-sound, heir-placed}
+use Rattle.tree_specs.proofs.Invariants.Changes.{run-refers, run-unreferred, dropped-sound, dying-row, running-row, claim-here, positive, not-zero, stands, goes_on, waiting-sound, changed-sound, shape-of, live-owned, marks-place, hooks-place, unmarked-sound, valid-at, frees-at, placed-sound, heir-placed}
 
 -- what a step leads to is sound
 abbrev pub KeptBy : Move Frame Answer Pool Item → List Frame → ℕ → Type 0
@@ -63,6 +65,9 @@ ended a f (g ∷ gs) p k s none there = below g (waiter g gs s.waiting.0) s ther
         → ((x c : Obj) (noted : Option Owner) (purpose : Purpose) (hs : List Frame) → g ∷ gs ≡ frame.Free (FreeingChild x c noted purpose) ∷ hs → StillThere (reply_in a) x c noted p) → Sound (resume g a) gs p
     below _ (ForFree q x) s there = stands f _ (frame.Call (Awaiting q x) ∷ gs) gs p (λ y. rw (none y) refl) s.waiting.1 tt s
     below _ (ForRun x h) s there = stands f _ (frame.Free (Hooked x h) ∷ gs) gs p (λ y. rw (none y) refl) s.waiting.1 s.waiting.0 s
+    below _ (ForTurn q) s there = stands f _ (frame.Call (Turning q) ∷ gs) gs p (λ y. rw (none y) refl) s.waiting.1 tt s
+    below _ (ForHandler what x handler now) s there = stands f _ (frame.Turn (Handling what x handler now) ∷ gs) gs p (λ y. rw (none y) refl) s.waiting.1 s.waiting.0 s
+    below _ (ForClear x) s there = stands f _ (frame.Turn (Clearing x) ∷ gs) gs p (λ y. rw (none y) refl) s.waiting.1 s.waiting.0 s
     below _ (ForChild x c noted purpose) s there = stands f _ (frame.Free (FreeingChild x c noted purpose) ∷ gs) gs p (λ y. rw (none y) refl) s.waiting.1 (there x c noted purpose gs refl, s.waiting.0) s
 
 -- a child that isn't said to run need not be where it was
@@ -174,11 +179,12 @@ tries-dropped x r (g ∷ gs) p s newest ne inside = below g (waiter g gs s.waiti
   where
     below : (g : Frame) → Waiter g → Tries x (footing (g ∷ gs)) p → Tries x (footing (g ∷ gs)) (remove p r)
     below _ (ForFree q y) t = let bad : None ≡ Some r = sym t ∙ newest in cc
-    below _ (ForRun y h) t = absurd t
+    below _ (ForClear y) t = let bad : None ≡ Some r = sym t ∙ newest in cc
     below _ (ForChild y c noted purpose) t =
         let same_row : row_of (without p.rows r) x ≡ row_of p.rows x = row_of-without-other p.rows r x ne in
         let n : NotedFor y x noted p = subst (λ (z : Obj). NotedFor y z noted p) refl t.2 in
         (t.0, ap owner_in same_row ∙ t.1, inr (noted-other y x r noted p s.forest t.1 newest ne inside n))
+    below _ _ t = absurd t
 
 may-hold : (x r : Obj) (fs : List Frame) (p : Pool) → Sound (frame.Free (Beginning x)) fs p → newest_ref p.rows x ≡ Some r → MayAnswer Held (footing fs)
 may-hold x r [] p s newest = tt
@@ -186,8 +192,8 @@ may-hold x r (g ∷ gs) p s newest = below g (waiter g gs s.waiting.0) s.rests.0
   where
     below : (g : Frame) → Waiter g → Tries x (footing (g ∷ gs)) p → MayAnswer Held (footing (g ∷ gs))
     below _ (ForFree q y) t = let bad : None ≡ Some r = sym t ∙ newest in cc
-    below _ (ForRun y h) t = tt
-    below _ (ForChild y c noted purpose) t = tt
+    below _ (ForClear y) t = let bad : None ≡ Some r = sym t ∙ newest in cc
+    below _ _ t = tt
 
 drops : (x r : Obj) (fs : List Frame) (p : Pool) (k : ℕ) → Sound (frame.Free (Beginning x)) fs p → newest_ref p.rows x ≡ Some r → KeptBy (lifted (drop_step x r p)) fs k
 drops x r fs p k s newest =
@@ -199,38 +205,59 @@ drops x r fs p k s newest =
     (λ t. rw t (dropped-sound (frame.Free (Beginning x)) (frame.Free (Beginning x)) fs p r x s is (λ y. refl) (tries-dropped x r fs p s newest ne t, stays)))
     (λ t. rw t (dropped-sound (frame.Free (Beginning x)) (frame.Free (Ending Held)) fs p r x s is (λ y. refl) (tt, may-hold x r fs p s newest)))
 
-pub beginning : (x : Obj) (fs : List Frame) (p : Pool) (k : ℕ) → Sound (frame.Free (Beginning x)) fs p → KeptBy (step (frame.Free (Beginning x)) p) fs k
-beginning x fs p k s = newest (newest_ref p.rows x) refl
+-- a child that is tried and is not referred to is where it was, and no reference of its owner's was noted
+still : (x : Obj) (p : Pool) (fs : List Frame) → newest_ref p.rows x ≡ None → Tries x (footing fs) p
+    → (y c : Obj) (noted : Option Owner) (purpose : Purpose) (gs : List Frame) → fs ≡ frame.Free (FreeingChild y c noted purpose) ∷ gs → StillThere Running y c noted p
+still x p fs none t y c noted purpose gs e =
+    let t' : (c ≡ x) × (owner_of p.rows x ≡ Some (Of y)) × NotedFor y x noted p = subst (λ (l : List Frame). Tries x (footing l) p) e t in
+    (subst (λ (z : Obj). owner_of p.rows z ≡ Some (Of y)) (sym t'.0) t'.1, no-noted t'.2)
   where
-    -- no reference of x's owner's was noted where there is none
-    no-noted : (y : Obj) (noted : Option Owner) → newest_ref p.rows x ≡ None → NotedFor y x noted p → noted ≢ Some (Of y)
-    no-noted y noted none h = elim h [
+    no-noted : NotedFor y x noted p → noted ≢ Some (Of y)
+    no-noted h = elim h [
       | inl is ↦ λ e. (let bad : None ≡ Some (Of y) = sym (ap (owner_at p.rows) none) ∙ sym is ∙ e in cc)
       | inr other ↦ other
     ]
 
-    still : newest_ref p.rows x ≡ None → (q : Pool) → owner_of q.rows x ≡ owner_of p.rows x → (fs : List Frame) → Tries x (footing fs) p
-        → (y c : Obj) (noted : Option Owner) (purpose : Purpose) (gs : List Frame) → fs ≡ frame.Free (FreeingChild y c noted purpose) ∷ gs → StillThere Running y c noted q
-    still none q o fs t y c noted purpose gs e =
-        let t' : (c ≡ x) × (owner_of p.rows x ≡ Some (Of y)) × NotedFor y x noted p = subst (λ (l : List Frame). Tries x (footing l) p) e t in
-        (subst (λ (z : Obj). owner_of q.rows z ≡ Some (Of y)) (sym t'.0) (o ∙ t'.1), no-noted y noted none t'.2)
+-- it is tried as before where it has the same owner
+tries-same : (x : Obj) (on : Footing) (p q : Pool) → newest_ref p.rows x ≡ None → newest_ref q.rows x ≡ None → owner_of q.rows x ≡ owner_of p.rows x → Tries x on p → Tries x on q
+tries-same x (OnFree (FreeingChild y d noted purpose)) p q none none' o t = (
+  t.0,
+  o ∙ t.1,
+  elim t.2 [
+    | inl is ↦ inl (is ∙ ap (owner_at p.rows) none ∙ sym (ap (owner_at q.rows) none'))
+    | inr other ↦ inr other
+  ],
+)
+tries-same x OnCall p q none none' o t = none'
+tries-same x AtBottom p q none none' o t = tt
+tries-same x _ p q none none' o t = absurd t
 
+-- an event that is to be freed after its handler is said to run
+pub dooming : (x : Obj) (fs : List Frame) (p : Pool) (k : ℕ) → Sound (frame.Free (Dooming x)) fs p → KeptBy (step (frame.Free (Dooming x)) p) fs k
+dooming x fs p k s = ended (Freed Running) (frame.Free (Dooming x)) fs p k s (λ y. refl) (still x p fs s.rests.1 s.rests.0)
+
+pub beginning : (x : Obj) (fs : List Frame) (p : Pool) (k : ℕ) → Sound (frame.Free (Beginning x)) fs p → KeptBy (step (frame.Free (Beginning x)) p) fs k
+beginning x fs p k s = newest (newest_ref p.rows x) refl
+  where
     over : KeptBy (Do.Done (Freed Ok) p) fs k
     over = ended (Freed Ok) (frame.Free (Beginning x)) fs p k s (λ y. refl) (λ y c n b gs q. tt)
 
     runs : newest_ref p.rows x ≡ None → KeptBy (Do.Done (Freed Running) p) fs k
-    runs none = ended (Freed Running) (frame.Free (Beginning x)) fs p k s (λ y. refl) (still none p refl fs s.rests.0)
+    runs none = ended (Freed Running) (frame.Free (Beginning x)) fs p k s (λ y. refl) (still x p fs none s.rests.0)
 
     object : (r : Row) → row_of p.rows x ≡ Some r → target_of r.kind ≡ None
     object r e = let t : target_in (Some r) ≡ None = rw e at s.rests.1 in t
 
     -- the claims on an event stay when it is doomed
-    dooms : newest_ref p.rows x ≡ None → (r : Row) → row_of p.rows x ≡ Some r → r.mark ≡ Busy → KeptBy (Do.Done (Freed Running) (set_mark p x Doomed)) fs k
+    dooms : newest_ref p.rows x ≡ None → (r : Row) → row_of p.rows x ≡ Some r → r.mark ≡ Busy → KeptBy (Do.Go (frame.Free (Dooming x)) (doom p x)) fs k
     dooms none r e m =
-        let same_owner : owner_of (set_mark p x Doomed).rows x ≡ owner_of p.rows x = rw (e, row_of-changed-same (marked_row Doomed) p.rows x r (λ q. refl) e) refl in
-        let t : Sound (frame.Free (Ending Ok)) fs (set_mark p x Doomed) = changed-sound (marked_row Doomed) (frame.Free (Beginning x)) (frame.Free (Ending Ok)) fs fs p x r s (marks-place Doomed) e
-        (live-owned r.mark r.owner x (rw m tt) (shape-of p x r s.valid e)) (object r e) (inr none) (λ y ne. refl) (s.open_frees x ∙ ap phases e ∙ ap phase_of m) s.waiting (tt, tt) in
-        ended (Freed Running) (frame.Free (Ending Ok)) fs (set_mark p x Doomed) k t (λ y. refl) (still none (set_mark p x Doomed) same_owner fs s.rests.0)
+        let same_owner : owner_of (doom p x).rows x ≡ owner_of p.rows x = rw (e, row_of-changed-same (marked_row Doomed) p.rows x r (λ q. refl) e) refl in
+        let unreferred : newest_ref (doom p x).rows x ≡ None = newest-changed (marked_row Doomed) p.rows x x (λ q. refl) (λ q. refl) ∙ none in
+        let rests : (q : Pool) → q.rows ≡ (doom p x).rows → Tries x (footing fs) q × (newest_ref q.rows x ≡ None) =
+        (λ q is. (tries-same x (footing fs) p q none (rw is unreferred) (rw is same_owner) s.rests.0, rw is unreferred)) in
+        let t : Sound (frame.Free (Dooming x)) fs (set_mark p x Doomed) = changed-sound (marked_row Doomed) (frame.Free (Beginning x)) (frame.Free (Dooming x)) fs fs p x r s (marks-place Doomed) e
+        (live-owned r.mark r.owner x (rw m tt) (shape-of p x r s.valid e)) (object r e) (inr none) (λ y ne. refl) (s.open_frees x ∙ ap phases e ∙ ap phase_of m) s.waiting (rests (set_mark p x Doomed) refl) in
+        waiting-sound (frame.Free (Dooming x)) (frame.Free (Dooming x)) fs (set_mark p x Doomed) (doom p x) t refl refl (λ y. refl) (rests (doom p x) refl)
 
     quiet : newest_ref p.rows x ≡ None → (r : Row) → row_of p.rows x ≡ Some r → r.mark ≡ Quiet → KeptBy (lifted (begin_quiet x r.hook p)) fs k
     quiet unreferred r e m =
@@ -322,8 +349,8 @@ releasing x fs p k s = each (newest_ref p.rows x) refl
       where
         below : (g : Frame) → Waiter g → IsCalled (footing (g ∷ gs)) → Tries x (footing (g ∷ gs)) p
         below _ (ForFree q y) c = e
-        below _ (ForRun y h) c = absurd c
-        below _ (ForChild y d noted purpose) c = absurd c
+        below _ (ForClear y) c = e
+        below _ _ c = absurd c
 
     each : (n : Option Obj) → newest_ref p.rows x ≡ n → KeptBy (lifted (release_step x (newest_ref p.rows x) p)) fs k
     each None e = rw e (goes_on (frame.Free (Releasing x)) (frame.Free (Beginning x)) fs p (λ y. refl) (tries e fs s.waiting s.rests.0, given_up-object x fs p s.rests) s)

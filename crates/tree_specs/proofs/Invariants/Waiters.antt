@@ -5,7 +5,10 @@ use Rattle.tree_specs.specs.declared.object.Owner.{Owner}
 use Rattle.tree_specs.specs.declared.question.Ask.{Ask}
 use Rattle.tree_specs.specs.declared.frame.Frame.{Frame}
 use Rattle.tree_specs.specs.declared.frame.Frame.TheVariants as frame
-use Rattle.tree_specs.specs.declared.frame.CallFrame.TheVariants.{Awaiting}
+use Rattle.tree_specs.specs.declared.frame.CallFrame.TheVariants.{Awaiting, Turning}
+use Rattle.tree_specs.specs.declared.frame.TurnFrame.TheVariants.{Handling, Clearing}
+use Rattle.tree_specs.specs.declared.handler.Handler.{Handler}
+use Rattle.tree_specs.specs.declared.moment.What.{What}
 use Rattle.tree_specs.specs.declared.frame.FreeFrame.TheVariants.{Hooked, FreeingChild}
 use Rattle.tree_specs.specs.declared.frame.Purpose.{Purpose}
 use Rattle.tree_specs.specs.Invariants.Sound.{IsWaiting}
@@ -15,9 +18,15 @@ pub data Waiter : Frame → Type 0 where
   ForFree : (q : Ask) (x : Obj) → Waiter (frame.Call (Awaiting q x))
   ForRun : (x : Obj) (h : ℕ) → Waiter (frame.Free (Hooked x h))
   ForChild : (x c : Obj) (noted : Option Owner) (purpose : Purpose) → Waiter (frame.Free (FreeingChild x c noted purpose))
+  ForTurn : (q : Ask) → Waiter (frame.Call (Turning q))
+  ForHandler : (what : What) (x : Obj) (handler : Handler) (now : ℕ) → Waiter (frame.Turn (Handling what x handler now))
+  ForClear : (x : Obj) → Waiter (frame.Turn (Clearing x))
 
 pub waiter : (g : Frame) (gs : List Frame) → IsWaiting g gs → Waiter g
 waiter (frame.Call (Awaiting q x)) gs w = ForFree q x
 waiter (frame.Free (Hooked x h)) gs w = ForRun x h
 waiter (frame.Free (FreeingChild x c noted purpose)) gs w = ForChild x c noted purpose
+waiter (frame.Call (Turning q)) gs w = ForTurn q
+waiter (frame.Turn (Handling what x handler now)) gs w = ForHandler what x handler now
+waiter (frame.Turn (Clearing x)) gs w = ForClear x
 waiter _ gs w = absurd w

@@ -3,6 +3,7 @@ use Rattle.std.proofs.Common.{◌≡◌, List, [], ◌∷◌, Option, Some, None
 use Rattle.step_machine.specs.Noted.{Noted}
 use Rattle.step_machine.specs.Open.{LastIs}
 use Rattle.tree_specs.specs.declared.object.Obj.{Obj}
+use Rattle.tree_specs.specs.declared.moment.What.{What}
 use Rattle.tree_specs.specs.declared.moment.What.TheVariants.{Hook as ForHook}
 use Rattle.tree_specs.specs.declared.call.Call.{Call}
 use Rattle.tree_specs.specs.declared.call.Call.TheVariants as call
@@ -13,16 +14,16 @@ use Rattle.tree_specs.specs.declared.event.Event.TheVariants.{Replied, Refused}
 use Rattle.tree_specs.specs.declared.frame.Frame.{Frame}
 use Rattle.tree_specs.specs.declared.frame.Frame.TheVariants as frame
 use Rattle.tree_specs.specs.declared.frame.CallFrame.TheVariants.{Awaiting, Warning, Telling, Returning}
-use Rattle.tree_specs.specs.declared.frame.FreeFrame.TheVariants.{Unlinking, Releasing, Beginning, Hooked, Judged, Ending}
+use Rattle.tree_specs.specs.declared.frame.FreeFrame.TheVariants.{Unlinking, Releasing, Beginning, Hooked, Judged, Dooming, Ending}
 use Rattle.tree_specs.specs.declared.free_step.FreeReply.{FreeReply}
 use Rattle.tree_specs.specs.declared.free_step.FreeReply.TheVariants as free_reply
 use Rattle.tree_specs.specs.Tree.Pool.{Pool, row_of, is_row}
-use Rattle.tree_specs.specs.Calls.Refusals.{is_held}
+use Rattle.tree_specs.specs.Calls.Refusals.{is_held, is_running}
 use Rattle.tree_specs.specs.Rules.Items.{Item}
 use Rattle.tree_specs.specs.Rules.Items.Item.{Told}
 use Rattle.tree_specs.specs.Rules.Sequence.{CallStart, Scene}
-use Rattle.tree_specs.specs.Machine.Profiles.{Role, Calls, Frees, Waits, Never, AFree, ARun, AChild, profile}
-use Rattle.tree_specs.specs.Promises.Orderly.{RefusedJustNow}
+use Rattle.tree_specs.specs.Machine.Profiles.{Role, Calls, Frees, Waits, Never, AFree, ARun, AChild, ATurn, AHandler, AClear, profile}
+use Rattle.tree_specs.specs.Promises.Orderly.{RefusedJustNow, is_hook}
 use Rattle.tree_specs.specs.Promises.Grounded.{OfReply, AnsweredCall, HeldCall, CausedCall, IsItem, AsksHook}
 
 abbrev pub NotedWork : Type 0
@@ -46,19 +47,27 @@ FreesObject x _ = ⊥
 abbrev pub IsFreeOf : Obj → Frame → Type 0
 IsFreeOf x f = FreesObject x (profile f).role
 
--- the question of x's destructor
-abbrev pub IsHookOf : Obj → Ask → Type 0
-IsHookOf x (ask.Routine m) = (m.what ≡ ForHook) × (m.object ≡ x)
-IsHookOf x _ = ⊥
+-- the question of a routine that runs for this, for this object
+abbrev pub IsAskedAs : (What → Obj → Type 0) → Ask → Type 0
+IsAskedAs P (ask.Routine m) = P m.what m.object
+IsAskedAs P _ = ⊥
 
-abbrev pub RunsHook : Obj → Role → Type 0
-RunsHook x (Calls (Some q)) = IsHookOf x q
-RunsHook x (Calls None) = Unit {0}
-RunsHook x _ = ⊥
+abbrev pub RunsAs : (What → Obj → Type 0) → Role → Type 0
+RunsAs P (Calls (Some q)) = IsAskedAs P q
+RunsAs P (Calls None) = Unit {0}
+RunsAs P _ = ⊥
 
--- the run of x's destructor
-abbrev pub IsRunOf : Obj → Frame → Type 0
-IsRunOf x f = RunsHook x (profile f).role
+-- a run of a routine
+abbrev pub IsRunAs : (What → Obj → Type 0) → Frame → Type 0
+IsRunAs P f = RunsAs P (profile f).role
+
+-- it is x's destructor
+abbrev pub IsHook : Obj → What → Obj → Type 0
+IsHook x what y = (what ≡ ForHook) × (y ≡ x)
+
+-- it is no destructor
+abbrev pub IsNoHook : What → Obj → Type 0
+IsNoHook what y = is_hook what ≡ false
 
 -- a call that frees x, or its children, or takes an interest in it away
 abbrev pub FreesBy : Obj → Call → Type 0
@@ -72,6 +81,17 @@ abbrev pub NotHeld : Call → Pool → Type 0
 NotHeld (call.Free x) start = is_held start x ≡ false
 NotHeld c start = Unit {0}
 
+-- a call whose reply is a number, or that it is nested
+abbrev pub IsNumbered : Call → Type 0
+IsNumbered call.Now = Unit {0}
+IsNumbered call.Turn = Unit {0}
+IsNumbered c = ⊥
+
+-- a caller that waits for a turn knows the call
+abbrev pub KnowsTurn : Option CallStart → Type 0
+KnowsTurn None = ⊥
+KnowsTurn (Some b) = IsNumbered b.call
+
 -- a caller that waits for a free knows the call
 abbrev pub Knows : Obj → Option CallStart → Type 0
 Knows x None = ⊥
@@ -80,7 +100,10 @@ Knows x (Some b) = FreesBy x b.call × NotHeld b.call b.start
 abbrev pub StandsFor : Waits → Frame → Option CallStart → Type 0
 StandsFor (AFree x) f b = IsFreeOf x f × Knows x b
 StandsFor (AChild c purpose) f b = IsFreeOf c f
-StandsFor (ARun x h) f b = IsRunOf x f
+StandsFor (ARun x h) f b = IsRunAs (IsHook x) f
+StandsFor (AHandler x) f b = IsRunAs IsNoHook f
+StandsFor ATurn f b = KnowsTurn b
+StandsFor (AClear x) f b = Unit {0}
 StandsFor Never f b = Unit {0}
 
 -- what a work that waits says of the one that stands on it
@@ -124,6 +147,15 @@ abbrev pub HasJustBegun : Pool → Frame → Option CallStart → Type 0
 HasJustBegun p (frame.Call (Awaiting q x)) b = IsAsAtStart p x b
 HasJustBegun p f b = Unit {0}
 
+-- the object ran when the call that waits began
+abbrev pub RanAtStart : Obj → Option CallStart → Type 0
+RanAtStart x None = Unit {0}
+RanAtStart x (Some b) = is_running b.start x ≡ true
+
+abbrev pub HasRunFor : Obj → Frame → Option CallStart → Type 0
+HasRunFor x (frame.Call (Awaiting q y)) b = RanAtStart x b
+HasRunFor x f b = Unit {0}
+
 abbrev pub Cause : List Scene → Frame → Option CallStart → List NotedWork → Pool → Type 0
 Cause scenes (frame.Call (Warning q x r)) b ws p = ((more : List Scene) → IsCaused more b r) × (is_row p.rows x ≡ true)
 Cause scenes (frame.Call (Telling q r)) b ws p = IsCaused scenes b r
@@ -133,4 +165,5 @@ Cause scenes (frame.Free (Ending a)) b ws p = OfNext (IsRefusedFor scenes a) ws
 Cause scenes (frame.Free (Unlinking o x)) b ws p = OfNext (HasJustBegun p) ws
 Cause scenes (frame.Free (Releasing x)) b ws p = OfNext (HasJustBegun p) ws
 Cause scenes (frame.Free (Beginning x)) b ws p = OfNext (HasJustBegun p) ws
+Cause scenes (frame.Free (Dooming x)) b ws p = OfNext (HasRunFor x) ws
 Cause scenes f b ws p = Unit {0}

@@ -17,7 +17,10 @@ use Rattle.tree_specs.specs.declared.reply.Reply.{Reply}
 use Rattle.tree_specs.specs.declared.event.Event.TheVariants.{Replied, Refused}
 use Rattle.tree_specs.specs.declared.frame.Frame.{Frame}
 use Rattle.tree_specs.specs.declared.frame.Frame.TheVariants as frame
-use Rattle.tree_specs.specs.declared.frame.CallFrame.TheVariants.{Awaiting, Telling}
+use Rattle.tree_specs.specs.declared.frame.CallFrame.TheVariants.{Awaiting, Turning, Telling}
+use Rattle.tree_specs.specs.declared.frame.TurnFrame.TheVariants.{Handling, Clearing}
+use Rattle.tree_specs.specs.declared.reply.Reply.TheVariants as reply
+use Rattle.tree_specs.specs.declared.moment.What.{What}
 use Rattle.tree_specs.specs.declared.frame.FreeFrame.TheVariants.{Hooked, FreeingChild}
 use Rattle.tree_specs.specs.declared.frame.Answer.{Answer}
 use Rattle.tree_specs.specs.declared.free_step.FreeReply.{FreeReply}
@@ -28,8 +31,8 @@ use Rattle.tree_specs.specs.Rules.Items.{Item}
 use Rattle.tree_specs.specs.Rules.Items.Item.{Told}
 use Rattle.tree_specs.specs.Rules.Sequence.{CallStart, Scene}
 use Rattle.tree_specs.specs.Rules.Story.{freed_reply, later}
-use Rattle.tree_specs.specs.Machine.Table.{notes, resume, reply_in}
-use Rattle.tree_specs.specs.Machine.Profiles.{Waits, Never, AFree, ARun, AChild, profile}
+use Rattle.tree_specs.specs.Machine.Table.{notes, resume, reply_in, number_in}
+use Rattle.tree_specs.specs.Machine.Profiles.{Waits, Never, AFree, ARun, AChild, ATurn, AHandler, AClear, profile}
 use Rattle.tree_specs.specs.Promises.Orderly.{Fits, RefusedJustNow}
 use Rattle.tree_specs.specs.Promises.Grounded.{IsGrounded, AnsweredCall, HeldCall, CausedCall, IsItem, AsksHook}
 use Rattle.tree_specs.specs.Invariants.Sound.{AllWait}
@@ -37,8 +40,8 @@ use Rattle.tree_specs.proofs.Tree.Numbered.{same-equal}
 use Rattle.tree_specs.specs.Machine.Meaning.{noted_table}
 use Rattle.tree_specs.proofs.Promises.Later.{later-same}
 use Rattle.tree_specs.proofs.Promises.Past.{IsLeaving, Accounts, Past, past-goes}
-use Rattle.tree_specs.proofs.Promises.Causes.{NotedWork, item_of, told, IsFreeOf, IsHookOf, IsRunOf, FreesBy, Knows, StandsFor, StandsOn, Stacked, OfNext, IsCaused, Cause, NotHeld}
-use Rattle.tree_specs.proofs.Invariants.Waiters.{Waiter, ForFree, ForRun, ForChild, waiter}
+use Rattle.tree_specs.proofs.Promises.Causes.{NotedWork, item_of, told, IsFreeOf, IsAskedAs, IsHook, IsNoHook, IsRunAs, FreesBy, IsNumbered, Knows, KnowsTurn, StandsFor, StandsOn, Stacked, OfNext, IsCaused, Cause, NotHeld}
+use Rattle.tree_specs.proofs.Invariants.Waiters.{Waiter, ForFree, ForRun, ForChild, ForTurn, ForHandler, ForClear, waiter}
 
 abbrev pub work_of : NotedWork → Frame
 work_of w = w.work
@@ -64,14 +67,17 @@ told-more scenes s = map_push item_of scenes s
 -- ---- works on works
 
 -- another work in the place of one, for which it does as well
-pub restacked : (f f' : Frame) (ws : List NotedWork) → ((x : Obj) → IsFreeOf x f → IsFreeOf x f') → ((x : Obj) → IsRunOf x f → IsRunOf x f') → Stacked f ws → Stacked f' ws
+pub restacked : (f f' : Frame) (ws : List NotedWork) → ((x : Obj) → IsFreeOf x f → IsFreeOf x f') → ((P : What → Obj → Type 0) → IsRunAs P f → IsRunAs P f') → Stacked f ws → Stacked f' ws
 restacked f f' [] free run s = tt
 restacked f f' (w ∷ ws) free run s = (stands (profile w.work).waits s.0, s.1)
   where
     stands : (g : Waits) → StandsFor g f w.note → StandsFor g f' w.note
     stands (AFree x) h = (free x h.0, h.1)
     stands (AChild c purpose) h = free c h
-    stands (ARun x k) h = run x h
+    stands (ARun x k) h = run (IsHook x) h
+    stands (AHandler x) h = run IsNoHook h
+    stands ATurn h = h
+    stands (AClear x) h = h
     stands Never h = tt
 
 -- what holds of each work that may stand right below
@@ -85,10 +91,10 @@ pub from-next : (P Q : Frame → Option CallStart → Type 0) (f : Frame) (ws : 
 from-next P Q f [] wait s h each = tt
 from-next P Q f (w ∷ ws) wait s h each = each w.work w.note (waiter w.work (map work_of ws) wait.0) s.0 h
 
--- a later question is of the same destructor
-pub later-hook : (x : Obj) (q : Ask) (r : Reply) → IsHookOf x q → IsHookOf x (later q r)
-later-hook x (ask.Routine m) r h = h
-later-hook x _ r h = h
+-- a later question is of the same routine
+pub later-hook : (P : What → Obj → Type 0) (q : Ask) (r : Reply) → IsAskedAs P q → IsAskedAs P (later q r)
+later-hook P (ask.Routine m) r h = h
+later-hook P _ r h = h
 
 -- ---- replies
 
@@ -140,6 +146,16 @@ caused-reply scenes x (Some b) a k h = let e = each b.call k.0 k.1 in (just-now 
         (for-unlink o a h)
     each _ e n = absurd e
 
+-- the reply to a call that asks the time or takes a turn
+pub caused-number : (scenes : List Scene) (b : Option CallStart) (r : Reply) → KnowsTurn b → RefusedJustNow (told scenes) (Told (Replied r)) → IsCaused scenes b r
+caused-number scenes None r k now = absurd k
+caused-number scenes (Some b) r k now = let e = each b.call k in (now, e.0, e.1, e.2)
+  where
+    each : (c : Call) → IsNumbered c → AnsweredCall c b.start r × HeldCall c b.start r × CausedCall scenes c b.start r
+    each call.Now h = (tt, tt, tt)
+    each call.Turn h = (tt, tt, tt)
+    each _ h = absurd h
+
 -- ---- a work that ends
 
 -- what it answers to the work below it has its cause
@@ -168,6 +184,23 @@ resumed scenes f b (w ∷ ws) p a past stays stacked wait h = below w.work (wait
       past = goes _ _ past tt;
       stacked = restacked (frame.Free (Hooked x k)) _ ws (λ y l. l) (λ y l. l) under;
       cause = h;
+    }
+    below _ (ForTurn q) past on under h =
+        let r : Reply = reply.Number (number_in a) in
+        record {
+          past = goes _ (frame.Call (Telling (later q r) r)) past tt;
+          stacked = restacked (frame.Call (Turning q)) (frame.Call (Telling (later q r) r)) ws (λ y k. k) (λ y k. later-hook y q r k) under;
+          cause = caused-number scenes w.note r on tt;
+        }
+    below _ (ForHandler w x k now) past on under h = record {
+      past = goes _ _ past tt;
+      stacked = restacked (frame.Turn (Handling w x k now)) _ ws (λ y l. l) (λ y l. l) under;
+      cause = tt;
+    }
+    below _ (ForClear x) past on under h = record {
+      past = goes _ _ past tt;
+      stacked = restacked (frame.Turn (Clearing x)) _ ws (λ y l. l) (λ y l. l) under;
+      cause = tt;
     }
     below _ (ForChild x c noted purpose) past on under h = record {
       past = goes _ _ past past.all_account.0;

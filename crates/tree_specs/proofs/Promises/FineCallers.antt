@@ -1,5 +1,8 @@
 -- The steps of callers: a question, a call, a reply, a return.
-use Rattle.tree_specs.specs.Machine.Profiles.{InRun}
+use Rattle.tree_specs.specs.Machine.Profiles.{InRun, profile}
+use Rattle.tree_specs.specs.declared.reply.Reply.TheVariants as reply
+use Rattle.tree_specs.specs.declared.reply.Refusal.TheVariants as refusal
+use Rattle.tree_specs.specs.declared.frame.TurnFrame.TheVariants.{Taking, Reading}
 use Rattle.tree_specs.specs.declared.row.Row.{Row}
 use Rattle.std.specs.List.{list_any}
 use Rattle.tree_specs.specs.Tree.Targets.{newest_ref}
@@ -16,7 +19,7 @@ use Rattle.tree_specs.specs.declared.reply.Reply.{Reply}
 use Rattle.tree_specs.specs.declared.event.Event.TheVariants.{Replied, Warned}
 use Rattle.tree_specs.specs.declared.frame.Frame.{Frame}
 use Rattle.tree_specs.specs.declared.frame.Frame.TheVariants as frame
-use Rattle.tree_specs.specs.declared.frame.CallFrame.TheVariants.{Asking, Doing, Awaiting, Warning, Telling, Returning}
+use Rattle.tree_specs.specs.declared.frame.CallFrame.TheVariants.{Asking, Doing, Awaiting, Turning, Warning, Telling, Returning}
 use Rattle.tree_specs.specs.declared.frame.FreeFrame.TheVariants.{Unlinking, Beginning, Looping}
 use Rattle.tree_specs.specs.declared.frame.Purpose.TheVariants.{Emptying}
 use Rattle.tree_specs.specs.declared.frame.Answer.TheVariants as answer
@@ -26,29 +29,29 @@ use Rattle.tree_specs.specs.Rules.Items.Item.{Told, Asked}
 use Rattle.tree_specs.specs.Calls.Refusals.{Check, refusals, tests, is_held}
 use Rattle.tree_specs.specs.Rules.Sequence.{CallStart, Scene}
 use Rattle.tree_specs.specs.Rules.Story.{later}
-use Rattle.tree_specs.specs.Machine.Table.{notes, step, taken, plan_step}
+use Rattle.tree_specs.specs.Machine.Table.{notes, step, taken, plan_step, turning_step}
 use Rattle.tree_specs.specs.Promises.Orderly.{Fits, frees as tells_free}
 use Rattle.tree_specs.specs.Promises.Orderly.{asks_hook}
 use Rattle.tree_specs.specs.Promises.Grounded.{AsksHook}
 use Rattle.tree_specs.specs.Invariants.Sound.{AllWait, claim, claims, phases, Refers, Sound}
-use Rattle.tree_specs.specs.Invariants.Consistent.{IsConsistent, IsStacked}
+use Rattle.tree_specs.specs.Invariants.Consistent.{IsConsistent, IsStacked, Serves}
 use Rattle.tree_specs.proofs.Tree.Numbered.{same-equal}
 use Rattle.tree_specs.proofs.Calls.Checks.{all-pass, Heard, HeardCall, HeardReturn, heard-leads}
 use Rattle.tree_specs.proofs.Calls.Plans.{May, follows, may-planned}
 use Rattle.tree_specs.specs.Tree.Forest.{Distinct}
 use Rattle.tree_specs.specs.Calls.Plans.{Plan, plan, planned, unless_refused, changed_by, frees}
-use Rattle.tree_specs.specs.Calls.Plans.Plan.{Does, Frees, Unlinks, Empties}
+use Rattle.tree_specs.specs.Calls.Plans.Plan.{Does, Frees, Unlinks, Empties, AsksTime, Turns}
 use Rattle.tree_specs.proofs.Invariants.Changes.{running-row, claim-here}
 use Rattle.tree_specs.proofs.Promises.Later.{Later, later-same}
 use Rattle.tree_specs.proofs.Promises.Past.{Accounts, Past, past-goes, past-tells, unfreed, unaccepted}
-use Rattle.tree_specs.proofs.Promises.Causes.{NotedWork, told, IsFreeOf, IsHookOf, FreesBy, StandsOn, Stacked, IsCaused, IsAskedFor, Cause, NotHeld}
-use Rattle.tree_specs.proofs.Invariants.Waiters.{Waiter, ForFree, ForRun, ForChild, waiter}
+use Rattle.tree_specs.proofs.Promises.Causes.{NotedWork, told, IsFreeOf, IsAskedAs, IsHook, IsNumbered, FreesBy, StandsOn, Stacked, IsCaused, IsAskedFor, Cause, NotHeld}
+use Rattle.tree_specs.proofs.Invariants.Waiters.{Waiter, ForFree, ForRun, ForChild, ForTurn, ForHandler, ForClear, waiter}
 use Rattle.tree_specs.proofs.Calls.OwnRefusals.{AllOwn, own-refused, own-just-now, own-call}
-use Rattle.tree_specs.proofs.Promises.Fitting.{last-more, fits-replied, fits-quiet, fits-asked, fits-warned}
-use Rattle.tree_specs.proofs.Promises.Fine.{work_of, Known, FineBy, restacked, of-next, from-next, later-hook, AnswersTo, resumed, known-told, taken-noted}
+use Rattle.tree_specs.proofs.Promises.Fitting.{last-more, fits-replied, fits-quiet, fits-asked, fits-handler, fits-warned}
+use Rattle.tree_specs.proofs.Promises.Fine.{work_of, Known, FineBy, restacked, of-next, from-next, later-hook, AnswersTo, resumed, caused-number, known-told, taken-noted}
 
 -- the question of a destructor is of its object
-asks-hook : (x : Obj) (q : Ask) → IsHookOf x q → asks_hook x (Asked q) ≡ true
+asks-hook : (x : Obj) (q : Ask) → IsAskedAs (IsHook x) q → asks_hook x (Asked q) ≡ true
 asks-hook x (ask.Routine m) h = rw (h.0, same-equal m.object x h.1) refl
 asks-hook x _ h = absurd h
 
@@ -66,16 +69,20 @@ asking-fine scenes q b ws p whole known = (
     s = scene notes f b p (Asked q)
 
     -- of a destructor only where a free waits for it
-    of-hook : (g : Frame) (gs : List Frame) (n : Option CallStart) → Waiter g → StandsOn f g n → ((x : Obj) → claim x g ++ claims x gs ≡ phases (row_of p.rows x)) → Fits (told scenes) (Asked q)
-    of-hook _ gs n (ForRun x h) on claimed =
+    of-hook : (g : Frame) (gs : List Frame) (n : Option CallStart) → Waiter g → StandsOn f g n → Serves (profile g).waits f
+        → ((x : Obj) → claim x g ++ claims x gs ≡ phases (row_of p.rows x)) → Fits (told scenes) (Asked q)
+    of-hook _ gs n (ForRun x h) on seat claimed =
         let row = running-row (row_of p.rows x) (claims x gs) (claim-here x InRun (claims x gs) (row_of p.rows x) (claimed x)) in
         fits-asked (told scenes) x (unaccepted (told scenes) f (map work_of ws) p x row.0 known.past row.1 row.2 (λ l. l)) (unfreed (told scenes) f (map work_of ws) p x row.0 known.past row.1) q on
-    of-hook _ gs n (ForFree a x) on claimed = absurd on.0
-    of-hook _ gs n (ForChild x c noted purpose) on claimed = absurd on
+    of-hook _ gs n (ForFree a x) on seat claimed = absurd on.0
+    of-hook _ gs n (ForHandler w x h now) on seat claimed = fits-handler (told scenes) q on
+    of-hook _ gs n (ForChild x c noted purpose) on seat claimed = absurd on
+    of-hook _ gs n (ForTurn a) on seat claimed = absurd seat
+    of-hook _ gs n (ForClear x) on seat claimed = absurd seat
 
     fits : (us : List NotedWork) → IsStacked f (map work_of us) → AllWait (map work_of us) → Stacked f us → ((x : Obj) → claims x (map work_of us) ≡ phases (row_of p.rows x)) → Fits (told scenes) (Asked q)
     fits [] seated wait on claimed = fits-quiet (told scenes) q seated
-    fits (u ∷ us) seated wait on claimed = of-hook u.work (map work_of us) u.note (waiter u.work (map work_of us) wait.0) on.0 claimed
+    fits (u ∷ us) seated wait on claimed = of-hook u.work (map work_of us) u.note (waiter u.work (map work_of us) wait.0) on.0 seated.0 claimed
 
     past : Past (told scenes ++ Asked q ∷ []) f (map work_of ws) p
     past = past-tells (told scenes) (Asked q) f (map work_of ws) p (λ x. refl) (λ x. refl) (λ x. refl) known.past
@@ -86,8 +93,7 @@ asking-fine scenes q b ws p whole known = (
     -- the routine that was just asked returns
     asked : (g : Frame) (n : Option CallStart) → Waiter g → StandsOn f g n → IsAskedFor (scenes ++ s ∷ []) g n
     asked _ n (ForRun x h) on = last-more (AsksHook x) scenes s (asks-hook x q on)
-    asked _ n (ForFree a x) on = tt
-    asked _ n (ForChild x c noted purpose) on = tt
+    asked _ n _ on = tt
 
     leads : (g : Frame) → Heard q g → Known (scenes ++ s ∷ []) (with_note b g) ws p
     leads _ (HeardCall c) = known-told scenes s (with_note b (frame.Call (Doing q c))) ws p (goes _ tt) (restacked f (frame.Call (Doing q c)) ws (λ x h. h) (λ x h. h) known.stacked) tt
@@ -141,7 +147,7 @@ returning-fine scenes v b ws p wait known =
     answers : (g : Frame) (n : Option CallStart) → Waiter g → StandsOn (frame.Call (Returning v)) g n → IsAskedFor scenes g n → AnswersTo scenes (answer.Returned v) g n
     answers _ n (ForRun x h) on last = last
     answers _ n (ForFree q x) on last = absurd on.0
-    answers _ n (ForChild x c noted purpose) on last = tt
+    answers _ n _ on last = tt
 
 -- ---- calls
 
@@ -151,6 +157,8 @@ CausedBy p c (Does change warned r) = (scenes : List Scene) → IsCaused scenes 
 CausedBy p c (Frees x) = FreesBy x c × NotHeld c p
 CausedBy p c (Unlinks o x) = FreesBy x c × NotHeld c p
 CausedBy p c (Empties x) = FreesBy x c × NotHeld c p
+CausedBy p c AsksTime = IsNumbered c
+CausedBy p c Turns = IsNumbered c
 
 -- what isn't said of a call is a reply that needs no cause
 caused : (p : Pool) (c : Call) → refusals p c ≡ [] → CausedBy p c (plan p c)
@@ -161,6 +169,8 @@ caused p (call.Free x) none = each (newest_ref p.rows x) ((all-pass p (tests (ca
     each (Some r) free = (refl, free)
 caused p (call.Freekids x) none = (refl, tt)
 caused p (call.Unlink o x) none = (refl, tt)
+caused p call.Now none = tt
+caused p call.Turn none = tt
 caused p c none = λ scenes. (tt, tt, tt, tt)
 
 caused-planned : (p : Pool) (c : Call) → Distinct p.rows → Refers p.rows → CausedBy p c (planned p c)
@@ -169,6 +179,27 @@ caused-planned p c d refers = each (refusals p c) refl (own-refused p (tests c))
     each : (check : Check) → refusals p c ≡ check → AllOwn p check → CausedBy p c (unless_refused check (plan p c))
     each [] none own = caused p c none
     each (why ∷ rest) e own = λ scenes. (let h = own-call scenes p c why rest d refers e in (own-just-now (told scenes) p why own.0, h.0, h.1, h.2))
+
+-- a turn that is nested has its reply told, and any other is waited for
+turning-fine : (scenes : List Scene) (q : Ask) (c : Call) (b : Option CallStart) (ws : List NotedWork) (p : Pool) → Known scenes (with_note b (frame.Call (Doing q c))) ws p → IsNumbered c
+    → FineBy scenes (frame.Call (Doing q c)) b p (turning_step q p) ws
+turning-fine scenes ask.Quiet c b ws p known numbered =
+    let f : Frame = frame.Call (Doing ask.Quiet c) in
+    let g : Frame = frame.Call (Turning ask.Quiet) in
+    record {
+      past = past-goes (told scenes) f (frame.Turn Taking) (map work_of ws) (g ∷ map work_of ws) p p known.past (later-same p) (λ y l. absurd l) tt (tt, known.past.all_account);
+      stacked = (numbered, restacked f g ws (λ y h. h) (λ y h. h) known.stacked);
+      cause = tt;
+    }
+turning-fine scenes q c b ws p known numbered =
+    let f : Frame = frame.Call (Doing q c) in
+    let r : Reply = reply.No refusal.Nested in
+    let g : Frame = frame.Call (Telling (later q r) r) in
+    record {
+      past = past-goes (told scenes) f g (map work_of ws) (map work_of ws) p p known.past (later-same p) (λ y l. absurd l) tt known.past.all_account;
+      stacked = restacked f g ws (λ y h. h) (λ y h. later-hook y q r h) known.stacked;
+      cause = caused-number scenes (Some (record { call = c; start = p })) r numbered tt;
+    }
 
 -- a call that needs no free has its reply told
 module _ (scenes : List Scene) (q : Ask) (c : Call) (b : Option CallStart) (ws : List NotedWork) (p : Pool) (known : Known scenes (with_note b (frame.Call (Doing q c))) ws p) where
@@ -209,6 +240,15 @@ module _ (scenes : List Scene) (q : Ask) (c : Call) (b : Option CallStart) (ws :
   planned-next (Frees x) may cause = frees-next x (frame.Free (Beginning x)) refl cause.0 cause.1 tt refl
   planned-next (Unlinks o x) may cause = frees-next x (frame.Free (Unlinking o x)) refl cause.0 cause.1 tt refl
   planned-next (Empties x) may cause = frees-next x (frame.Free (Looping x Emptying)) refl cause.0 cause.1 tt tt
+  planned-next AsksTime may cause =
+      let f : Frame = frame.Call (Doing q c) in
+      let g : Frame = frame.Call (Turning q) in
+      record {
+        past = past-goes (told scenes) f (frame.Turn Reading) (map work_of ws) (g ∷ map work_of ws) p p known.past (later-same p) (λ y l. absurd l) tt (tt, known.past.all_account);
+        stacked = (cause, restacked f g ws (λ y h. h) (λ y h. h) known.stacked);
+        cause = tt;
+      }
+  planned-next Turns may cause = turning-fine scenes q c b ws p known cause
 
 pub doing-fine : (scenes : List Scene) (q : Ask) (c : Call) (b : Option CallStart) (ws : List NotedWork) (p : Pool) → Sound (frame.Call (Doing q c)) (map work_of ws) p
     → Known scenes (with_note b (frame.Call (Doing q c))) ws p → FineBy scenes (frame.Call (Doing q c)) b p (step (frame.Call (Doing q c)) p) ws

@@ -19,12 +19,12 @@ use Rattle.tree_specs.specs.declared.event.Event.TheVariants.{Moved, Unreference
 use Rattle.tree_specs.specs.declared.frame.Frame.{Frame}
 use Rattle.tree_specs.specs.declared.frame.Frame.TheVariants as frame
 use Rattle.tree_specs.specs.declared.frame.FreeFrame.{FreeFrame}
-use Rattle.tree_specs.specs.declared.frame.FreeFrame.TheVariants.{Unlinking, Releasing, Giving, Beginning, Hooked, Leaving, Ending}
+use Rattle.tree_specs.specs.declared.frame.FreeFrame.TheVariants.{Unlinking, Releasing, Giving, Beginning, Hooked, Dooming, Leaving, Ending}
 use Rattle.tree_specs.specs.declared.frame.Answer.{Answer}
 use Rattle.tree_specs.specs.declared.frame.Answer.TheVariants as answer
 use Rattle.tree_specs.specs.declared.free_step.FreeReply.{FreeReply}
 use Rattle.tree_specs.specs.declared.free_step.FreeReply.TheVariants as free_reply
-use Rattle.tree_specs.specs.Tree.Pool.{Pool, row_of, is_row, owner_of, remove, place, set_mark, target_at, newest_ref_of, is_inside, without}
+use Rattle.tree_specs.specs.Tree.Pool.{Pool, row_of, is_row, owner_of, remove, place, set_mark, doom, target_at, newest_ref_of, is_inside, without}
 use Rattle.tree_specs.specs.Rules.Items.{Item}
 use Rattle.tree_specs.specs.Rules.Items.Item.{Told}
 use Rattle.tree_specs.specs.Rules.Sequence.{CallStart, Scene}
@@ -34,10 +34,10 @@ use Rattle.tree_specs.specs.Invariants.Sound.{IsLive, IsOver, ValidAt, IsQuietRo
 use Rattle.tree_specs.specs.Invariants.Consistent.{IsConsistent}
 use Rattle.tree_specs.proofs.Tree.Numbered.{by_test}
 use Rattle.tree_specs.proofs.Tree.Rows.{row_of-without-same, row_of-without-other}
-use Rattle.tree_specs.proofs.Promises.Later.{Later, later-same, later-placed, later-marked, later-removed}
+use Rattle.tree_specs.proofs.Promises.Later.{later-rows, later-same, later-placed, later-marked, later-removed}
 use Rattle.tree_specs.proofs.Promises.Past.{IsLeaving, past-goes, past-tells, unfreed, unaccepted, Accounts, past-drops, undropped}
-use Rattle.tree_specs.proofs.Promises.Causes.{NotedWork, told, StandsOn, Stacked, IsRefusedFor, IsAsAtStart, HasJustBegun, IsFreeOf, OfNext, Cause}
-use Rattle.tree_specs.proofs.Invariants.Waiters.{Waiter, ForFree, ForRun, ForChild, waiter}
+use Rattle.tree_specs.proofs.Promises.Causes.{NotedWork, told, StandsOn, Stacked, IsRefusedFor, IsAsAtStart, HasJustBegun, RanAtStart, HasRunFor, IsFreeOf, OfNext, Cause}
+use Rattle.tree_specs.proofs.Invariants.Waiters.{Waiter, ForFree, ForRun, waiter}
 use Rattle.tree_specs.proofs.Promises.Fitting.{fits-moved, fits-dropped}
 use Rattle.tree_specs.proofs.Promises.Fine.{work_of, Known, FineBy, restacked, of-next, from-next, ReplyCause, AnswersTo, resumed, known-told}
 
@@ -55,7 +55,7 @@ module _ (scenes : List Scene) (b : Option CallStart) (ws : List NotedWork) (p :
       answers : (g : Frame) (n : Option CallStart) → Waiter g → StandsOn (frame.Free f) g n → AnswersTo scenes (answer.Freed free_reply.Ok) g n
       answers _ n (ForFree q x) on = tt
       answers _ n (ForRun x h) on = absurd on
-      answers _ n (ForChild x c noted purpose) on = tt
+      answers _ n _ on = tt
 
   pub ending-fine : (a : FreeReply) → At (Ending a)
   ending-fine a whole known =
@@ -68,24 +68,39 @@ module _ (scenes : List Scene) (b : Option CallStart) (ws : List NotedWork) (p :
       answers free_reply.Running over _ n (ForFree q x) on last = absurd over
       answers (free_reply.Refused v) over _ n (ForFree q x) on last = last
       answers a over _ n (ForRun x h) on last = absurd on
-      answers a over _ n (ForChild x c noted purpose) on last = tt
+      answers a over _ n _ on last = tt
+
+  -- an object that runs did so when the call that waits began
+  ran-then : (x : Obj) → is_running p x ≡ true → AllWait (map work_of ws) → Stacked (frame.Free (Beginning x)) ws → OfNext (HasJustBegun p) ws → OfNext (HasRunFor x) ws
+  ran-then x running wait stacked begun = from-next (HasJustBegun p) (HasRunFor x) (frame.Free (Beginning x)) ws wait stacked begun each
+    where
+      start : (o : Option CallStart) (y : Obj) → IsAsAtStart p y o → x ≡ y → RanAtStart x o
+      start None y h e = tt
+      start (Some begun) y h e = subst (λ (z : Obj). is_running begun.start z ≡ true) (sym e) (ap is_running_row h ∙ subst (λ (z : Obj). is_running p z ≡ true) e running)
+
+      each : (g : Frame) (n : Option CallStart) → Waiter g → StandsOn (frame.Free (Beginning x)) g n → HasJustBegun p g n → HasRunFor x g n
+      each _ n (ForFree q y) on begun = start n y begun on.0
+      each _ n _ on begun = tt
 
   -- it stays, since something of it runs
-  runs-fine : (x : Obj) (p' : Pool) → Later p p' → IsConsistent (record { innermost = frame.Free (Beginning x); below = map work_of ws; pool = p }) → Known scenes (with_note b (frame.Free (Beginning x))) ws p
-      → is_running p x ≡ true → FineBy scenes (frame.Free (Beginning x)) b p (Do.Done (answer.Freed free_reply.Running) p') ws
-  runs-fine x p' after whole known running =
-      let f : Frame = frame.Free (Beginning x) in
-      resumed scenes f b ws p' (answer.Freed free_reply.Running) (past-goes (told scenes) f f (map work_of ws) (map work_of ws) p p' known.past after (λ y l. absurd l) tt known.past.all_account)
-      (λ y l. l) known.stacked whole.sound.waiting (from-next (HasJustBegun p) (AnswersTo scenes (answer.Freed free_reply.Running)) f ws whole.sound.waiting known.stacked known.cause answers)
+  said-fine : (f : FreeFrame) (x : Obj) → ((y : Obj) → IsFreeOf y (frame.Free f) → x ≡ y) → ((y : Obj) → IsLeaving (frame.Free f) y → ⊥)
+      → IsConsistent (record { innermost = frame.Free f; below = map work_of ws; pool = p })
+      → Known scenes (with_note b (frame.Free f)) ws p → OfNext (HasRunFor x) ws → FineBy scenes (frame.Free f) b p (Do.Done (answer.Freed free_reply.Running) p) ws
+  said-fine f x of stays whole known ran =
+      resumed scenes (frame.Free f) b ws p (answer.Freed free_reply.Running) known.past stays known.stacked whole.sound.waiting
+      (from-next (HasRunFor x) (AnswersTo scenes (answer.Freed free_reply.Running)) (frame.Free f) ws whole.sound.waiting known.stacked ran answers)
     where
-      start : (o : Option CallStart) (y : Obj) → IsAsAtStart p y o → x ≡ y → ReplyCause scenes o y free_reply.Running
-      start None y h e = absurd h
-      start (Some begun) y h e = ap is_running_row h ∙ subst (λ (z : Obj). is_running p z ≡ true) e running
+      start : (o : Option CallStart) (y : Obj) → RanAtStart x o → x ≡ y → ReplyCause scenes o y free_reply.Running
+      start None y h e = tt
+      start (Some begun) y h e = subst (λ (z : Obj). is_running begun.start z ≡ true) e h
 
-      answers : (g : Frame) (n : Option CallStart) → Waiter g → StandsOn (frame.Free (Beginning x)) g n → HasJustBegun p g n → AnswersTo scenes (answer.Freed free_reply.Running) g n
-      answers _ n (ForFree q y) on begun = start n y begun on.0
-      answers _ n (ForRun y h) on begun = absurd on
-      answers _ n (ForChild y c noted purpose) on begun = tt
+      answers : (g : Frame) (n : Option CallStart) → Waiter g → StandsOn (frame.Free f) g n → HasRunFor x g n → AnswersTo scenes (answer.Freed free_reply.Running) g n
+      answers _ n (ForFree q y) on h = start n y h (of y on.0)
+      answers _ n (ForRun y h) on h' = absurd on
+      answers _ n _ on h = tt
+
+  pub dooming-fine : (x : Obj) → At (Dooming x)
+  dooming-fine x whole known = said-fine (Dooming x) x (λ y h. h) (λ y l. l) whole known known.cause
 
   -- a reference is dropped
   pub dropped-fine : (f g : FreeFrame) (r t : Obj) → IsConsistent (record { innermost = frame.Free f; below = map work_of ws; pool = p }) → Known scenes (with_note b (frame.Free f)) ws p → target_at p.rows r ≡ Some t
@@ -125,8 +140,7 @@ module _ (scenes : List Scene) (b : Option CallStart) (ws : List NotedWork) (p :
 
       each : (g : Frame) (n : Option CallStart) → Waiter g → StandsOn (frame.Free f) g n → HasJustBegun p g n → HasJustBegun (remove p r) g n
       each _ n (ForFree q y) on h = kept y (of y on.0) n h
-      each _ n (ForRun y k) on h = tt
-      each _ n (ForChild y c noted purpose) on h = tt
+      each _ n _ on h = tt
 
   -- a call's own free is never held
   no-held : (more : List Scene) (x r : Obj) (us : List NotedWork) → AllWait (map work_of us) → Tries x (footing (map work_of us)) p → newest_ref p.rows x ≡ Some r → OfNext (IsRefusedFor more free_reply.Held) us
@@ -135,8 +149,7 @@ module _ (scenes : List Scene) (b : Option CallStart) (ws : List NotedWork) (p :
     where
       below : (g : Frame) → Waiter g → Tries x (footing (g ∷ map work_of us)) p → IsRefusedFor more free_reply.Held g u.note
       below _ (ForFree q y) t = let bad : None ≡ Some r = sym t ∙ e in cc
-      below _ (ForRun y h) t = tt
-      below _ (ForChild y c noted purpose) t = tt
+      below _ _ t = tt
 
   no-refusal : (f : Frame) (r x : Obj) → AllWait (map work_of ws) → Stacked f ws → OfNext (IsRefusedFor (scenes ++ scene notes f b p (Told (Unreferenced r x)) ∷ []) free_reply.Ok) ws
   no-refusal f r x wait stacked = of-next (IsRefusedFor (scenes ++ scene notes f b p (Told (Unreferenced r x)) ∷ []) free_reply.Ok) f ws wait stacked (λ g n waits on. tt)
@@ -161,16 +174,27 @@ module _ (scenes : List Scene) (b : Option CallStart) (ws : List NotedWork) (p :
             cause = tt;
           }))
           (λ t. rw t (record {
-            past = past-goes (told scenes) f (frame.Free (Hooked x r.hook)) (map work_of ws) (map work_of ws) p (set_mark p x mark.Asked) known.past (later-marked p x r mark.Asked e live (λ h. tt)) (λ y l. absurd l) tt known.past.all_account;
+            past = past-goes (told scenes) f (frame.Free (Hooked x r.hook)) (map work_of ws) (map work_of ws) p (set_mark p x mark.Asked) known.past (later-marked p x r mark.Asked e live) (λ y l. absurd l) tt known.past.all_account;
             stacked = restacked f (frame.Free (Hooked x r.hook)) ws (λ y h. h) (λ y h. h) known.stacked;
             cause = tt;
           }))
 
+      runs : is_running p x ≡ true → Step (Do.Done (answer.Freed free_reply.Running) p)
+      runs run = said-fine (Beginning x) x (λ y h. h) (λ y l. l) whole known (ran-then x run whole.sound.waiting known.stacked known.cause)
+
+      dooms : (r : Row) → row_of p.rows x ≡ Some r → r.mark ≡ mark.Busy → is_running p x ≡ true → Step (Do.Go (frame.Free (Dooming x)) (doom p x))
+      dooms r e m run = record {
+        past = past-goes (told scenes) f (frame.Free (Dooming x)) (map work_of ws) (map work_of ws) p (doom p x) known.past
+            (later-rows (later-marked p x r mark.Doomed e (rw m tt)) refl refl) (λ y l. absurd l) tt known.past.all_account;
+        stacked = restacked f (frame.Free (Dooming x)) ws (λ y h. h) (λ y h. h) known.stacked;
+        cause = ran-then x run whole.sound.waiting known.stacked known.cause;
+      }
+
       marks : (r : Row) (m : Mark) → r.mark ≡ m → row_of p.rows x ≡ Some r → Step (lifted (begin_step x (row_of p.rows x) p))
       marks r mark.Quiet m e = rw (e, m) (quiet r e m)
-      marks r mark.Asked m e = let run : is_running p x ≡ true = rw (e, m) refl in rw (e, m) (runs-fine x p (later-same p) whole known run)
-      marks r mark.Busy m e = let run : is_running p x ≡ true = rw (e, m) refl in rw (e, m) (runs-fine x (set_mark p x mark.Doomed) (later-marked p x r mark.Doomed e (rw m tt) (λ h. let bad : ⊥ = rw m at h in bad)) whole known run)
-      marks r mark.Doomed m e = let run : is_running p x ≡ true = rw (e, m) refl in rw (e, m) (runs-fine x p (later-same p) whole known run)
+      marks r mark.Asked m e = let run : is_running p x ≡ true = rw (e, m) refl in rw (e, m) (runs run)
+      marks r mark.Busy m e = let run : is_running p x ≡ true = rw (e, m) refl in rw (e, m) (dooms r e m run)
+      marks r mark.Doomed m e = let run : is_running p x ≡ true = rw (e, m) refl in rw (e, m) (runs run)
       marks r (mark.Dying former) m e = rw (e, m) (over-fine (Beginning x) whole known (λ y l. l))
 
       each : (o : Option Row) → row_of p.rows x ≡ o → Step (lifted (begin_step x (row_of p.rows x) p))

@@ -1,5 +1,5 @@
 -- The steps of frees.
-use Rattle.tree_specs.specs.Machine.Profiles.{InRun, InLoop, Phase}
+use Rattle.tree_specs.specs.Machine.Profiles.{InRun, InLoop}
 use Rattle.std.proofs.Common.{◌≡◌, ℕ, List, [], ◌∷◌, ◌++◌, Option, Some, None, true, false, nat_eq, refl, ◌∙◌, ap, subst, inl, map}
 use Rattle.std.specs.List.{list_any}
 use Rattle.step_machine.specs.Machine.{Move as Do}
@@ -8,7 +8,6 @@ use Rattle.tree_specs.specs.declared.object.Obj.{Obj}
 use Rattle.tree_specs.specs.declared.object.Owner.{Owner}
 use Rattle.tree_specs.specs.declared.object.Owner.TheVariants.{Of}
 use Rattle.tree_specs.specs.declared.row.Row.{Row}
-use Rattle.tree_specs.specs.declared.row.Mark.{Mark}
 use Rattle.tree_specs.specs.declared.row.Mark.TheVariants as mark
 use Rattle.tree_specs.specs.declared.question.Ask.TheVariants as ask
 use Rattle.tree_specs.specs.declared.event.Event.TheVariants.{Accepted, Refused, Moved, Freed, Unreferenced}
@@ -27,16 +26,16 @@ use Rattle.tree_specs.specs.Rules.Sequence.{CallStart, Scene}
 use Rattle.tree_specs.specs.Rules.Story.{hook_moment}
 use Rattle.tree_specs.specs.Machine.Table.{notes, lifted, judge_step, last_step, loop_step, hand_on_step, child_step}
 use Rattle.tree_specs.specs.Promises.Orderly.{frees, accepts}
-use Rattle.tree_specs.specs.Promises.Grounded.{IsItem, is_asked, is_asked_row, is_asked_mark}
-use Rattle.tree_specs.specs.Invariants.Sound.{IsLive, claims, ValidAt, phases}
+use Rattle.tree_specs.specs.Promises.Grounded.{IsItem, is_asked}
+use Rattle.tree_specs.specs.Invariants.Sound.{IsLive, claims, ValidAt}
 use Rattle.tree_specs.specs.Invariants.Consistent.{IsConsistent}
 use Rattle.tree_specs.proofs.Tree.Numbered.{by_test}
 use Rattle.tree_specs.proofs.Tree.Rows.{row_of-changed-same, row_of-without-same}
 use Rattle.tree_specs.proofs.Invariants.Changes.{heir-placed, running-row, dying-row, claim-here}
-use Rattle.tree_specs.proofs.Promises.Later.{IsPast, RowRunsNoHandler, later-same, later-placed, later-marked, later-hooked, later-left, later-removed}
+use Rattle.tree_specs.proofs.Promises.Later.{IsPast, later-same, later-placed, later-marked, later-hooked, later-left, later-removed}
 use Rattle.tree_specs.proofs.Promises.Past.{past-goes, past-tells, past-accepts, past-frees, unfreed, unaccepted, Accounts, any-as-before}
 use Rattle.tree_specs.proofs.Promises.Causes.{NotedWork, told, StandsOn, Stacked, IsRefusedFor}
-use Rattle.tree_specs.proofs.Invariants.Waiters.{Waiter, ForFree, ForRun, ForChild}
+use Rattle.tree_specs.proofs.Invariants.Waiters.{Waiter, ForFree}
 use Rattle.tree_specs.proofs.Promises.Fitting.{last-more, fits-accepted, fits-refused, fits-freed, fits-moved}
 use Rattle.tree_specs.proofs.Promises.Fine.{work_of, Known, FineBy, restacked, of-next, known-told}
 use Rattle.tree_specs.proofs.Promises.FineDrops.{At, over-fine, dropped-fine}
@@ -64,29 +63,17 @@ module _ (scenes : List Scene) (b : Option CallStart) (ws : List NotedWork) (p :
         cause = tt;
       }
 
-  -- the row of an object whose destructor runs
-  asked-mark : (o : Option Row) (l : List Phase) → InRun ∷ l ≡ phases o → RowRunsNoHandler o → is_asked_row o ≡ true
-  asked-mark None l e idle = cc
-  asked-mark (Some r) l e idle = marks r.mark refl
-    where
-      marks : (m : Mark) → r.mark ≡ m → is_asked_mark r.mark ≡ true
-      marks mark.Quiet m = let bad : InRun ∷ l ≡ [] = rw m at e in cc
-      marks mark.Asked m = rw m refl
-      marks (mark.Dying former) m = let bad : InRun ∷ l ≡ InLoop ∷ [] = rw m at e in cc
-      marks _ m = let bad : ⊥ = rw m at idle in absurd bad
-
   -- a destructor's refusal is told right before the call that waits is
   refused-now : (s : Scene) (x : Obj) (h v w : ℕ) → s.item ≡ Told (Refused x v) → (g : Frame) (n : Option CallStart) → Waiter g → StandsOn (frame.Free (Judged x h w)) g n
       → IsRefusedFor (scenes ++ s ∷ []) (free_reply.Refused v) g n
   refused-now s x h v w is _ n (ForFree q y) on = last-more (IsItem (Told (Refused y v))) scenes s (is ∙ ap (λ (z : Obj). Told (Refused z v)) on.0)
-  refused-now s x h v w is _ n (ForRun y k) on = tt
-  refused-now s x h v w is _ n (ForChild y c noted purpose) on = tt
+  refused-now s x h v w is _ n _ on = tt
 
   pub judged-fine : (x : Obj) (h v : ℕ) → At scenes b ws p (Judged x h v)
   judged-fine x h v whole known =
       let phase = claim-here x InRun (claims x (map work_of ws)) (row_of p.rows x) (whole.sound.open_frees x) in
       let row = running-row (row_of p.rows x) (claims x (map work_of ws)) phase in
-      by-row row.0 row.1 row.2 row.3 (asked-mark (row_of p.rows x) (claims x (map work_of ws)) phase (known.past.idle x))
+      by-row row.0 row.1 row.2 row.3 (rw (row.1, row.4) refl)
     where
       f : Frame
       f = frame.Free (Judged x h v)
@@ -107,7 +94,7 @@ module _ (scenes : List Scene) (b : Option CallStart) (ws : List NotedWork) (p :
             (fits-refused (told scenes) x free there v, record { answered = tt; held = tt; caused = tt; started = tt }),
             known-told scenes (scene notes f b p (Told (Refused x v))) (with_note None (frame.Free (Ending (free_reply.Refused v)))) ws (set_mark p x mark.Quiet)
                 (past-goes (told scenes ++ Told (Refused x v) ∷ []) f (frame.Free (Ending (free_reply.Refused v))) (map work_of ws) (map work_of ws) p (set_mark p x mark.Quiet)
-                (past-tells (told scenes) (Told (Refused x v)) f (map work_of ws) p (λ y. refl) (λ y. refl) (λ y. refl) known.past) (later-marked p x r mark.Quiet e live (λ h. tt)) (λ y l. absurd l) tt
+                (past-tells (told scenes) (Told (Refused x v)) f (map work_of ws) p (λ y. refl) (λ y. refl) (λ y. refl) known.past) (later-marked p x r mark.Quiet e live) (λ y l. absurd l) tt
                 (past-tells (told scenes) (Told (Refused x v)) f (map work_of ws) p (λ y. refl) (λ y. refl) (λ y. refl) known.past).all_account)
                 (restacked f (frame.Free (Ending (free_reply.Refused v))) ws (λ y k. tt) (λ y k. k) known.stacked)
                 (of-next (IsRefusedFor (scenes ++ scene notes f b p (Told (Refused x v)) ∷ []) (free_reply.Refused v)) f ws whole.sound.waiting known.stacked

@@ -1,35 +1,35 @@
 -- What a refused call leaves.
-use Rattle.std.proofs.Common.{◌≡◌, ℕ, suc, zero, nat_eq, List, [], ◌∷◌, ◌++◌, Option, Some, None, refl, sym, ◌∙◌, ap, subst, inl, inr, unwrap_or, append-nil}
+use Rattle.std.proofs.Common.{◌≡◌, ℕ, suc, zero, nat_eq, List, [], ◌∷◌, ◌++◌, Option, Some, None, refl, sym, ◌∙◌, ap, subst, inl, inr, append-nil}
 use Rattle.step_machine.specs.Machine.{tell}
 use Rattle.step_machine.specs.Machine.Outcome.{Ended}
 use Rattle.step_machine.proofs.Uses.{ended-tell, ended-followed}
 use Rattle.tree_specs.specs.declared.object.Obj.{Obj}
 use Rattle.tree_specs.specs.declared.object.Owner.{Owner}
-use Rattle.tree_specs.specs.declared.object.Owner.TheVariants.{Root, Of}
-use Rattle.tree_specs.specs.declared.row.Row.{Row}
-use Rattle.tree_specs.specs.declared.row.Mark.{Mark}
+use Rattle.tree_specs.specs.declared.object.Owner.TheVariants.{Root}
 use Rattle.tree_specs.specs.declared.row.Mark.TheVariants as mark
 use Rattle.tree_specs.specs.declared.call.Call.{Call}
 use Rattle.tree_specs.specs.declared.call.Call.TheVariants as call
 use Rattle.tree_specs.specs.declared.reply.Reply.{Reply}
 use Rattle.tree_specs.specs.declared.reply.Reply.TheVariants as reply
 use Rattle.tree_specs.specs.declared.reply.Refusal.{Refusal}
-use Rattle.tree_specs.specs.declared.event.Event.TheVariants.{Accepted, Unreferenced}
+use Rattle.tree_specs.specs.declared.event.Event.TheVariants.{Accepted}
 use Rattle.tree_specs.specs.declared.question.Ask.TheVariants as ask
 use Rattle.tree_specs.specs.declared.question.Input.{Input}
 use Rattle.tree_specs.specs.declared.free_step.FreeReply.{FreeReply}
 use Rattle.tree_specs.specs.declared.free_step.FreeReply.TheVariants as free_reply
 use Rattle.tree_specs.specs.Tree.Targets.{newest_ref}
-use Rattle.tree_specs.specs.Tree.Pool.{Pool, row_of, owner_of, newest_ref_of, remove, set_mark, set_hook, is_inside}
+use Rattle.tree_specs.specs.Tree.Pool.{Pool, remove, set_mark, set_hook}
 use Rattle.tree_specs.specs.Calls.Refusals.{Check, refusals}
 use Rattle.tree_specs.specs.Calls.Plans.{Plan, plan, frees, changed_by}
-use Rattle.tree_specs.specs.Calls.Plans.Plan.{Does, Frees, Unlinks, Empties}
+use Rattle.tree_specs.specs.Calls.Plans.Plan.{Does, Frees, Unlinks, Empties, AsksTime, Turns}
 use Rattle.tree_specs.specs.Rules.Items.Item.{Told}
-use Rattle.tree_specs.specs.Rules.Sequence.{Scene}
-use Rattle.tree_specs.specs.Rules.Story.{hook_moment, effect, unlink, release, given, free, hooked, judged, leave, children, asked, freed_reply}
-use Rattle.tree_specs.specs.Promises.Refused.{called, Untouched, OnlyDropped, told_refusal, doomed, LeftByFree, LeftByItsFree, LeftByRefused}
+use Rattle.tree_specs.specs.Rules.Sequence.{Work, Scene}
+use Rattle.tree_specs.specs.Rules.Story.{hook_moment, effect, unlink, free, judged, leave, children, asked, freed_reply, numbered, turned, taking, reading}
+use Rattle.tree_specs.specs.declared.question.Ask.TheVariants.{Quiet as AtRest}
+use Rattle.tree_specs.specs.Promises.Refused.{called, Untouched, OnlyDropped, told_refusal, LeftByFree, LeftByItsFree, LeftByRefused}
 use Rattle.tree_specs.proofs.Tree.Numbered.{by_test}
-use Rattle.tree_specs.proofs.Rules.FreeCauses.{leave-ok, given-ok}
+use Rattle.tree_specs.proofs.Rules.FreeCauses.{leave-ok, unlinked, dropped_scene, FreeGoes, free-goes}
+use Rattle.tree_specs.proofs.Rules.FreeCauses.FreeGoes.{IsOver, ByLeaving, ByAsking, AsRunning, Again, AsHeld}
 
 -- what a free leaves, with the inputs that it took
 abbrev Leaves : Obj → Pool → List Input → FreeReply → Pool → List Scene → List Input → Type 0
@@ -39,16 +39,16 @@ none-dropped : (x : Obj) (p : Pool) → OnlyDropped x p p []
 none-dropped x p = record { drops = tt; pool = refl }
 
 -- one more reference was dropped before
-drop-more : (x r : Obj) (p q : Pool) (ts : List Scene) → OnlyDropped x (remove p r) q ts → OnlyDropped x p q (record { item = Told (Unreferenced r x); before = p; about = None } ∷ ts)
+drop-more : (x r : Obj) (p q : Pool) (ts : List Scene) → OnlyDropped x (remove p r) q ts → OnlyDropped x p q (dropped_scene p x r ∷ ts)
 drop-more x r p q ts h = record { drops = (refl, h.drops); pool = h.pool }
 
 left-more : (x r : Obj) (p q : Pool) (is left : List Input) (ts : List Scene) (a : FreeReply) → Leaves x (remove p r) is a q ts left
-    → Leaves x p is a q (record { item = Told (Unreferenced r x); before = p; about = None } ∷ ts) left
+    → Leaves x p is a q (dropped_scene p x r ∷ ts) left
 left-more x r p q is left ts free_reply.Ok h = tt
 left-more x r p q is left ts free_reply.Held h = (drop-more x r p q ts h.0, h.1)
 left-more x r p q is left ts free_reply.Running h = (h.0, drop-more x r p h.0 ts h.1, h.2, h.3)
 left-more x r p q is left ts (free_reply.Refused v) h =
-    let s : Scene = record { item = Told (Unreferenced r x); before = p; about = None } in
+    let s : Scene = dropped_scene p x r in
     record {
       dropped = s ∷ h.dropped;
       ran = h.ran;
@@ -98,94 +98,33 @@ judged-leaves m (suc n) x h v p r q is mid left us ts a run e = by_test (nat_eq 
     subst (λ (z : FreeReply). Leaves x p is z q (us ++ ts) left) e1 l)
 
 free-leaves-more : (n : ℕ) (x : Obj) → ((p : Pool) (is : List Input) (a : FreeReply) (q : Pool) (ts : List Scene) (left : List Input) → free n x p is ≡ Ended a q ts left → Leaves x p is a q ts left)
-    → (p : Pool) (is : List Input) (a : FreeReply) (q : Pool) (ts : List Scene) (left : List Input) → free (suc n) x p is ≡ Ended a q ts left → Leaves x p is a q ts left
-free-leaves-more n x ih p is a q ts left e = newest (newest_ref p.rows x) refl
-  where
-    Left : Type 0
-    Left = Leaves x p is a q ts left
-
-    runs : (r : Pool) → r ≡ doomed x p → free (suc n) x p is ≡ Ended free_reply.Running r [] is → Left
-    runs r is_doomed law =
-        let e' : Ended free_reply.Running r [] is ≡ Ended a q ts left = sym law ∙ e in
-        let e1 : free_reply.Running ≡ a = cc in
-        let e2 : r ≡ q = cc in
-        let e3 : [] ≡ ts = cc in
-        let e4 : is ≡ left = cc in
-        subst (λ (z : FreeReply). Leaves x p is z q ts left) e1 (p, subst (OnlyDropped x p p) e3 (none-dropped x p), sym e2 ∙ is_doomed, sym e4)
-
-    over : free (suc n) x p is ≡ Ended free_reply.Ok p [] is → Left
-    over law = let e' : Ended free_reply.Ok p [] is ≡ Ended a q ts left = sym law ∙ e in let e1 : a ≡ free_reply.Ok = cc in ok-leaves x p is a q ts left e1
-
-    asks : (m : ℕ) (h : ℕ) → hooked m x h (set_mark p x mark.Asked) is ≡ Ended a q ts left → Left
-    asks zero h k = cc
-    asks (suc m) h k =
-        let w = ended-followed (asked m (ask.Routine (hook_moment x h)) (set_mark p x mark.Asked) is) (λ v r' mid. judged m x h v r' mid) a q ts left k in
-        subst (λ (l : List Scene). Leaves x p is a q l left) w.7 (judged-leaves m m x h w.0 p w.1 q is w.4 left w.2 w.3 a w.5 w.6)
-
-    marks : newest_ref p.rows x ≡ None → (r : Row) (m : Mark) → r.mark ≡ m → row_of p.rows x ≡ Some r → Left
-    marks z r mark.Quiet m k = by_test (nat_eq r.hook 0)
-        (λ t. ok-leaves x p is a q ts left (leave-ok n x 0 p is a q ts left (rw (z, k, m, t) at e)))
-        (λ t. asks n r.hook (rw (z, k, m, t) at e))
-    marks z r mark.Asked m k = runs p (rw (k, m) refl) (rw (z, k, m) refl)
-    marks z r mark.Busy m k = runs (set_mark p x mark.Doomed) (rw (k, m) refl) (rw (z, k, m) refl)
-    marks z r mark.Doomed m k = runs p (rw (k, m) refl) (rw (z, k, m) refl)
-    marks z r (mark.Dying former) m k = over (rw (z, k, m) refl)
-
-    each : newest_ref p.rows x ≡ None → (o : Option Row) → row_of p.rows x ≡ o → Left
-    each z None k = over (rw (z, k) refl)
-    each z (Some r) k = marks z r r.mark refl k
-
-    newest : (o : Option Obj) → newest_ref p.rows x ≡ o → Left
-    newest None z = each z (row_of p.rows x) refl
-    newest (Some r) z =
-        let s : Scene = record { item = Told (Unreferenced r x); before = p; about = None } in
-        by_test (is_inside p.rows (Of r) (Of x))
-        (λ t. let e' : tell s (free n x (remove p r) is) ≡ Ended a q ts left = rw (z, t) at e in
-        let w = ended-tell s (free n x (remove p r) is) a q ts left e' in
-        subst (λ (l : List Scene). Leaves x p is a q l left) w.2 (left-more x r p q is left w.0 a (ih (remove p r) is a q w.0 left w.1)))
-        (λ t. let e' : Ended free_reply.Held (remove p r) (s ∷ []) is ≡ Ended a q ts left = rw (z, t) at e in
-        let e1 : free_reply.Held ≡ a = cc in
-        let e2 : remove p r ≡ q = cc in
-        let e3 : s ∷ [] ≡ ts = cc in
-        let e4 : is ≡ left = cc in
-        let one : OnlyDropped x p q (s ∷ []) = record { drops = (refl, tt); pool = sym e2 } in
-        subst (λ (z : FreeReply). Leaves x p is z q ts left) e1 (subst (OnlyDropped x p q) e3 one, sym e4))
+    → (p : Pool) (is : List Input) (a : FreeReply) (q : Pool) (ts : List Scene) (left : List Input) → FreeGoes n x p is a q ts left → Leaves x p is a q ts left
+free-leaves-more n x ih p is a q ts left (IsOver k) = let ok : a ≡ free_reply.Ok = cc in ok-leaves x p is a q ts left ok
+free-leaves-more n x ih p is a q ts left (ByLeaving k) = ok-leaves x p is a q ts left (leave-ok n x 0 p is a q ts left k)
+free-leaves-more n x ih p is a q ts left (ByAsking m h v r us vs mid run judge told) =
+    subst (λ (l : List Scene). Leaves x p is a q l left) told (judged-leaves m m x h v p r q is mid left us vs a run judge)
+free-leaves-more n x ih p is a q ts left (AsRunning r ran run is_doomed k) =
+    let e1 : free_reply.Running ≡ a = cc in
+    let e2 : r ≡ q = cc in
+    let e3 : [] ≡ ts = cc in
+    let e4 : is ≡ left = cc in
+    subst (λ (z : FreeReply). Leaves x p is z q ts left) e1 (p, subst (OnlyDropped x p p) e3 (none-dropped x p), sym e2 ∙ is_doomed, sym e4)
+free-leaves-more n x ih p is a q ts left (Again r us k told) =
+    subst (λ (l : List Scene). Leaves x p is a q l left) told (left-more x r p q is left us a (ih (remove p r) is a q us left k))
+free-leaves-more n x ih p is a q ts left (AsHeld r z t k) =
+    let e1 : free_reply.Held ≡ a = cc in
+    let e2 : remove p r ≡ q = cc in
+    let e3 : dropped_scene p x r ∷ [] ≡ ts = cc in
+    let e4 : is ≡ left = cc in
+    let one : OnlyDropped x p q (dropped_scene p x r ∷ []) = record { drops = (refl, tt); pool = sym e2 } in
+    subst (λ (z : FreeReply). Leaves x p is z q ts left) e1 (subst (OnlyDropped x p q) e3 one, sym e4)
 
 pub free-leaves : (n : ℕ) (x : Obj) (p : Pool) (is : List Input) (a : FreeReply) (q : Pool) (ts : List Scene) (left : List Input) → free n x p is ≡ Ended a q ts left → LeftByFree x a p q is left ts
 free-leaves zero x p is a q ts left e = cc
-free-leaves (suc n) x p is a q ts left e = free-leaves-more n x (free-leaves n x) p is a q ts left e
-
-release-leaves-more : (n : ℕ) (x : Obj) → ((p : Pool) (is : List Input) (a : FreeReply) (q : Pool) (ts : List Scene) (left : List Input) → release n x p is ≡ Ended a q ts left → Leaves x p is a q ts left)
-    → (p : Pool) (is : List Input) (a : FreeReply) (q : Pool) (ts : List Scene) (left : List Input) → release (suc n) x p is ≡ Ended a q ts left → Leaves x p is a q ts left
-release-leaves-more n x ih p is a q ts left e = newest (newest_ref p.rows x) refl
-  where
-    newest : (o : Option Obj) → newest_ref p.rows x ≡ o → Leaves x p is a q ts left
-    newest None z = free-leaves n x p is a q ts left (rw z at e)
-    newest (Some r) z =
-        let s : Scene = record { item = Told (Unreferenced r x); before = p; about = None } in
-        let o : Owner = unwrap_or (owner_of p.rows r) Root in
-        by_test (is_inside p.rows (Of r) (Of x))
-        (λ t. let e' : tell s (release n x (remove p r) is) ≡ Ended a q ts left = rw (z, t) at e in
-        let w = ended-tell s (release n x (remove p r) is) a q ts left e' in
-        subst (λ (l : List Scene). Leaves x p is a q l left) w.2 (left-more x r p q is left w.0 a (ih (remove p r) is a q w.0 left w.1)))
-        (λ t. let e' : tell s (given n x o (remove p r) is) ≡ Ended a q ts left = rw (z, t) at e in
-        let w = ended-tell s (given n x o (remove p r) is) a q ts left e' in
-        ok-leaves x p is a q ts left (given-ok n x o (remove p r) is a q w.0 left w.1))
-
-release-leaves : (n : ℕ) (x : Obj) (p : Pool) (is : List Input) (a : FreeReply) (q : Pool) (ts : List Scene) (left : List Input) → release n x p is ≡ Ended a q ts left → Leaves x p is a q ts left
-release-leaves zero x p is a q ts left e = cc
-release-leaves (suc n) x p is a q ts left e = release-leaves-more n x (release-leaves n x) p is a q ts left e
+free-leaves (suc n) x p is a q ts left e = free-leaves-more n x (free-leaves n x) p is a q ts left (free-goes n x p is a q ts left e)
 
 pub unlink-leaves : (n : ℕ) (o : Owner) (x : Obj) (p : Pool) (is : List Input) (a : FreeReply) (q : Pool) (ts : List Scene) (left : List Input) → unlink n o x p is ≡ Ended a q ts left → LeftByFree x a p q is left ts
-unlink-leaves zero o x p is a q ts left e = cc
-unlink-leaves (suc n) o x p is a q ts left e = newest (newest_ref_of p.rows o x) refl
-  where
-    newest : (r : Option Obj) → newest_ref_of p.rows o x ≡ r → Leaves x p is a q ts left
-    newest None z = release-leaves n x p is a q ts left (rw z at e)
-    newest (Some r) z =
-        let e' : Ended free_reply.Ok (remove p r) (record { item = Told (Unreferenced r x); before = p; about = None } ∷ []) is ≡ Ended a q ts left = rw z at e in
-        let e1 : a ≡ free_reply.Ok = cc in
-        ok-leaves x p is a q ts left e1
+unlink-leaves n o x p is a q ts left e = unlinked x (Leaves x) (ok-leaves x) (λ p r is a q us left h. left-more x r p q is left us a h) (λ n. free-leaves n x) n o p is a q ts left e
 
 -- ---- calls
 
@@ -219,7 +158,15 @@ itself x why p q is left told a r us vs mid e s l =
     let same : us ≡ told = sym (append-nil us) ∙ ap (λ (z : List Scene). us ++ z) e3 ∙ s in
     (a, e1, subst (λ (z : List Scene). Leaves x p is a q z left) same (subst (λ (z : List Input). Leaves x p is a q us z) e4 (subst (λ (z : Pool). Leaves x p is a z us mid) e2 l)))
 
-plan-leaves : (n : ℕ) (plan : Plan) (why : Refusal) (p q : Pool) (is left : List Input) (told : List Scene) → AnswersDone plan → effect (free n) (unlink n) (children n) plan p is ≡ Ended (reply.No why) q told left
+-- a number is no refusal
+pub never-refused : (w : Work ℕ) (why : Refusal) (p q : Pool) (is left : List Input) (told : List Scene) → numbered w p is ≡ Ended (reply.No why) q told left → ⊥
+never-refused w why p q is left told e =
+    let w = ended-followed (w p is) (λ v r mid. Ended (reply.Number v) r [] mid) (reply.No why) q told left e in
+    let e' : Ended (reply.Number w.0) w.1 [] w.4 ≡ Ended (reply.No why) q w.3 left = w.6 in
+    cc
+
+plan-leaves : (n : ℕ) (plan : Plan) (why : Refusal) (p q : Pool) (is left : List Input) (told : List Scene) → AnswersDone plan
+    → effect (free n) (unlink n) (children n) (numbered (reading n)) (turned AtRest (taking n)) plan p is ≡ Ended (reply.No why) q told left
     → LeftByPlan plan why p q is left told
 unfolding AnswersDone
 plan-leaves n (Does change warned r) why p q is left told done e =
@@ -236,18 +183,22 @@ plan-leaves n (Empties x) why p q is left told done e =
     let w = ended-followed (children n x p is) (λ u r mid. Ended reply.Ok r [] mid) (reply.No why) q told left e in
     let e' : Ended reply.Ok w.1 [] w.4 ≡ Ended (reply.No why) q w.3 left = w.6 in
     cc
+plan-leaves n AsksTime why p q is left told done e = never-refused (reading n) why p q is left told e
+plan-leaves n Turns why p q is left told done e = never-refused (taking n) why p q is left told e
 
 refused-leaves : (c : Call) (why : Refusal) (p q : Pool) (is left : List Input) (told : List Scene) → Untouched p q is left told → LeftByRefused c why p q is left told
 refused-leaves (call.Free x) why p q is left told u = inl u
 refused-leaves (call.Unlink o x) why p q is left told u = inl u
 refused-leaves c why p q is left told u = u
 
-passed-leaves : (n : ℕ) (c : Call) (why : Refusal) (p q : Pool) (is left : List Input) (told : List Scene) → effect (free n) (unlink n) (children n) (plan p c) p is ≡ Ended (reply.No why) q told left
+passed-leaves : (n : ℕ) (c : Call) (why : Refusal) (p q : Pool) (is left : List Input) (told : List Scene)
+    → effect (free n) (unlink n) (children n) (numbered (reading n)) (turned AtRest (taking n)) (plan p c) p is ≡ Ended (reply.No why) q told left
     → LeftByRefused c why p q is left told
 unfolding AnswersDone IsDone
 passed-leaves n (call.Free x) why p q is left told e = inr (each (newest_ref p.rows x) e)
   where
-    each : (o : Option Obj) → effect (free n) (unlink n) (children n) (frees o x) p is ≡ Ended (reply.No why) q told left → LeftByItsFree x why p q is left told
+    each : (o : Option Obj) → effect (free n) (unlink n) (children n) (numbered (reading n)) (turned AtRest (taking n)) (frees o x) p is ≡ Ended (reply.No why) q told left
+        → LeftByItsFree x why p q is left told
     each None k = plan-leaves n (Frees x) why p q is left told tt k
     each (Some r) k = plan-leaves n (Unlinks Root x) why p q is left told tt k
 passed-leaves n (call.Unlink o x) why p q is left told e = inr (plan-leaves n (Unlinks o x) why p q is left told tt e)

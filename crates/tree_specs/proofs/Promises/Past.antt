@@ -10,7 +10,7 @@ use Rattle.tree_specs.specs.declared.row.Row.{Row}
 use Rattle.tree_specs.specs.declared.event.Event.TheVariants.{Accepted, Freed, Unreferenced}
 use Rattle.tree_specs.specs.declared.frame.Frame.{Frame}
 use Rattle.tree_specs.specs.declared.frame.Frame.TheVariants as frame
-use Rattle.tree_specs.specs.declared.frame.CallFrame.TheVariants.{Awaiting}
+use Rattle.tree_specs.specs.declared.frame.CallFrame.TheVariants.{Awaiting, Turning}
 use Rattle.tree_specs.specs.declared.frame.FreeFrame.TheVariants.{Hooked, Judged, Leaving, Looping, FreeingChild}
 use Rattle.tree_specs.specs.declared.frame.Purpose.{Purpose}
 use Rattle.tree_specs.specs.declared.frame.Purpose.TheVariants.{Removal, Emptying}
@@ -21,7 +21,7 @@ use Rattle.tree_specs.specs.Rules.Items.Item.{Told}
 use Rattle.tree_specs.specs.Promises.Orderly.{accepts, frees, drops}
 use Rattle.tree_specs.specs.Invariants.Sound.{IsLive, claim_by, claim, claims, IsWaiting, AllWait}
 use Rattle.tree_specs.proofs.Tree.Numbered.{by_test, same-equal, same-false, same_or_not}
-use Rattle.tree_specs.proofs.Promises.Later.{IsDying, IsPast, NoHandlerRuns, Later, live-not-dying}
+use Rattle.tree_specs.proofs.Promises.Later.{IsDying, IsPast, Later, live-not-dying}
 use Rattle.tree_specs.proofs.Invariants.Changes.{not-zero}
 
 -- it leaves its owner with the next step
@@ -51,7 +51,6 @@ pub record Past (items : List Item) (f : Frame) (fs : List Frame) (p : Pool) : T
   pub dropped : (r : Obj) → list_any (drops r) items ≡ true → (r.0 < p.next) × (row_of p.rows r ≡ None)
   -- what has accepted is no more, is dying, or leaves its owner now
   pub spent : (x : Obj) → list_any (accepts x) items ≡ true → (x.0 < p.next) × (IsPast (row_of p.rows x) ⊎ IsLeaving f x)
-  pub idle : NoHandlerRuns p
   pub accounts : Accounts items f
   pub all_account : AllAccount items fs
 
@@ -118,6 +117,8 @@ unclaimed x (f ∷ fs) w e r = elim r [
     claimed : (g : Frame) → IsWaiting g fs → Removes g x → claim x g ≡ [] → ⊥
     claimed (frame.Free (FreeingChild y c noted purpose)) w r e = looped y purpose e r
     claimed (frame.Call (Awaiting q y)) w r e = r
+    claimed (frame.Call (Turning q)) w r e = r
+    claimed (frame.Turn f) w r e = r
     claimed (frame.Free (Hooked y h)) w r e = r
     claimed _ w r e = absurd w
 
@@ -136,7 +137,6 @@ past-goes items f f' fs fs' p q past later leaves a all = record {
       | inr now ↦ leaves x now
     ],
   );
-  idle = later.idle past.idle;
   accounts = a;
   all_account = all;
 }
@@ -148,7 +148,6 @@ past-tells items e f fs p a g d past = record {
   gone = λ x t. past.gone x (sym (any-as-before (frees x) items e (g x)) ∙ t);
   dropped = λ x t. past.dropped x (sym (any-as-before (drops x) items e (d x)) ∙ t);
   spent = λ x t. past.spent x (sym (any-as-before (accepts x) items e (a x)) ∙ t);
-  idle = past.idle;
   accounts = accounts-more items e f (λ y r. a y) past.accounts;
   all_account = all-more items e fs (λ y r. a y) past.all_account;
 }
@@ -166,7 +165,6 @@ past-accepts items x h v fs p q past later l pos wait none =
         | inl same_one ↦ (subst (λ (z : Obj). z.0 < q.next) same_one l, inr same_one)
         | inr other ↦ before y (sym (any-as-before (accepts y) items e (same-false x y other)) ∙ t)
       ];
-      idle = later.idle past.idle;
       accounts = any-now (accepts x) items e self ∙ sym (ap not (not-zero h pos));
       all_account = all-more items e fs (λ y r. same-false x y (λ same_one. unclaimed x fs wait none (subst (AnyRemoves fs) (sym same_one) r))) past.all_account;
     }
@@ -198,7 +196,6 @@ past-frees items x h f' fs p q past later l none a =
           | inr now ↦ absurd now
         ],
       );
-      idle = later.idle past.idle;
       accounts = a;
       all_account = all-more items e fs (λ y r. refl) past.all_account;
     }
@@ -221,7 +218,6 @@ past-drops items r t f f' fs p q past later l none stays a =
           | inr now ↦ absurd (stays y now)
         ],
       );
-      idle = later.idle past.idle;
       accounts = a;
       all_account = all-more items e fs (λ y u. refl) past.all_account;
     }

@@ -11,7 +11,7 @@ use Rattle.tree_specs.specs.declared.question.Ask.TheVariants.{Quiet}
 use Rattle.tree_specs.specs.declared.frame.Frame.{Frame}
 use Rattle.tree_specs.specs.declared.frame.Frame.TheVariants as frame
 use Rattle.tree_specs.specs.declared.frame.CallFrame.TheVariants.{Asking, Doing, Warning, Telling, Returning}
-use Rattle.tree_specs.specs.declared.frame.FreeFrame.TheVariants.{Unlinking, Releasing, Giving, Beginning, Hooked, Judged, Leaving, Looping, AfterChild, Ending}
+use Rattle.tree_specs.specs.declared.frame.FreeFrame.TheVariants.{Unlinking, Releasing, Giving, Beginning, Hooked, Judged, Dooming, Leaving, Looping, AfterChild, Ending}
 use Rattle.tree_specs.specs.declared.frame.Answer.{Answer}
 use Rattle.tree_specs.specs.Tree.Pool.{Pool, empty}
 use Rattle.tree_specs.specs.Rules.Items.{Item}
@@ -28,7 +28,8 @@ use Rattle.tree_specs.proofs.Promises.Causes.{NotedWork, item_of, told}
 use Rattle.tree_specs.proofs.Promises.Fine.{work_of, IsFine, Known, FineBy, taken-noted}
 use Rattle.tree_specs.proofs.Promises.FineCallers.{asking-fine, telling-fine, returning-fine, doing-fine, warning-fine}
 use Rattle.tree_specs.proofs.Promises.FineFrees.{hooked-fine, leaving-fine, judged-fine, looping-fine, tried-fine}
-use Rattle.tree_specs.proofs.Promises.FineDrops.{ending-fine, beginning-fine, unlinking-fine, releasing-fine, giving-fine}
+use Rattle.tree_specs.proofs.Promises.FineDrops.{ending-fine, beginning-fine, dooming-fine, unlinking-fine, releasing-fine, giving-fine}
+use Rattle.tree_specs.proofs.Promises.FineTurns.{turn-fine}
 use Rattle.tree_specs.proofs.Rules.StoryLaws.{asking, begin-whole, story-walk}
 
 abbrev WholeAt : Frame → List Frame → Pool → Type 0
@@ -50,10 +51,12 @@ fine scenes (frame.Free (Giving x o)) b ws p whole known = giving-fine scenes b 
 fine scenes (frame.Free (Beginning x)) b ws p whole known = beginning-fine scenes b ws p x whole known
 fine scenes (frame.Free (Hooked x h)) b ws p whole known = hooked-fine scenes b ws p x h whole known
 fine scenes (frame.Free (Judged x h v)) b ws p whole known = judged-fine scenes b ws p x h v whole known
+fine scenes (frame.Free (Dooming x)) b ws p whole known = dooming-fine scenes b ws p x whole known
 fine scenes (frame.Free (Leaving x h)) b ws p whole known = leaving-fine scenes b ws p x h whole known
 fine scenes (frame.Free (Looping x purpose)) b ws p whole known = looping-fine scenes b ws p x purpose whole known
 fine scenes (frame.Free (AfterChild x c noted purpose a)) b ws p whole known = tried-fine scenes b ws p x c noted purpose a whole known
 fine scenes (frame.Free (Ending a)) b ws p whole known = ending-fine scenes b ws p a whole known
+fine scenes (frame.Turn f) b ws p whole known = turn-fine scenes b ws p f whole known
 fine scenes _ b ws p whole known = absurd whole.sound.rests
 
 both : (scenes : List Scene) (f : Frame) (b : Option CallStart) (ws : List NotedWork) (p : Pool) (m : Move Frame Answer Pool Item) → Leads table (λ g gs q j. WholeAt g gs q) m (map work_of ws) 1
@@ -76,7 +79,7 @@ kept scenes w ws p h = both scenes w.work w.note ws p (step w.work p) (whole-kep
 -- nothing is told as yet
 at-first : (first : ℕ) → Known [] asking [] (empty first)
 at-first first = record {
-  past = record { gone = λ x e. cc; dropped = λ x e. cc; spent = λ x e. cc; idle = λ x. tt; accounts = tt; all_account = tt };
+  past = record { gone = λ x e. cc; dropped = λ x e. cc; spent = λ x e. cc; accounts = tt; all_account = tt };
   stacked = tt;
   cause = tt;
 }
@@ -91,5 +94,5 @@ story-orderly first is h = EachFits-map item_of Fits (story first is) (EachFits-
 pub story-grounded : (first : ℕ) (is : List Input) → 1 ≤ first → Grounded (story first is) is
 story-grounded first is h = record {
   each = EachFits-weaker IsFine IsGrounded (λ before s f. f.1) (story first is) (story-fine first is h);
-  accepts = accepts-items ((all-lawful (turns 0 (length is))).asked Quiet (empty first) None) is;
+  accepts = accepts-items ((all-lawful (turns 0 (length is))).calls.asked Quiet (empty first) None) is;
 }

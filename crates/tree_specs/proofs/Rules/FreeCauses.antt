@@ -2,7 +2,7 @@
 use Rattle.tree_specs.specs.declared.object.Owner.{Owner}
 use Rattle.tree_specs.specs.declared.object.Owner.TheVariants.{Root, Of}
 use Rattle.tree_specs.specs.Tree.Targets.{newest_ref}
-use Rattle.std.proofs.Common.{◌≡◌, ℕ, suc, zero, nat_eq, List, [], ◌∷◌, ◌++◌, Option, Some, None, true, false, refl, sym, ◌∙◌, subst, inl, inr, unwrap_or}
+use Rattle.std.proofs.Common.{◌≡◌, ℕ, suc, zero, nat_eq, List, [], ◌∷◌, ◌++◌, Option, Some, None, true, false, refl, subst, inl, inr, unwrap_or}
 use Rattle.step_machine.specs.Machine.{tell}
 use Rattle.step_machine.specs.Machine.Outcome.{Ended}
 use Rattle.step_machine.specs.Open.{LastIs}
@@ -16,11 +16,12 @@ use Rattle.tree_specs.specs.declared.question.Ask.TheVariants as ask
 use Rattle.tree_specs.specs.declared.question.Input.{Input}
 use Rattle.tree_specs.specs.declared.free_step.FreeReply.{FreeReply}
 use Rattle.tree_specs.specs.declared.free_step.FreeReply.TheVariants as free_reply
-use Rattle.tree_specs.specs.Tree.Pool.{Pool, row_of, owner_of, newest_ref_of, place, detach, remove, without, set_mark, set_hook, is_inside, marked_row}
+use Rattle.tree_specs.specs.Tree.Pool.{Pool, row_of, owner_of, newest_ref_of, place, detach, remove, without, set_mark, doom, set_hook, is_inside, marked_row}
 use Rattle.tree_specs.specs.Rules.Items.Item.{Told}
 use Rattle.tree_specs.specs.Rules.Sequence.{Scene}
-use Rattle.tree_specs.specs.Rules.Story.{hook_moment, unlink, release, given, free, hooked, judged, leave, children, asked}
+use Rattle.tree_specs.specs.Rules.Story.{hook_moment, unlink, release, given, free, hooked, judged, dooming, leave, children, asked}
 use Rattle.tree_specs.specs.Promises.Grounded.{DropsOutside, IsItem}
+use Rattle.tree_specs.specs.Promises.Refused.{doomed}
 use Rattle.tree_specs.specs.Calls.Refusals.{is_running}
 use Rattle.tree_specs.specs.Tree.Forest.{Distinct}
 use Rattle.tree_specs.proofs.Tree.Rows.{row_of-changed-same, row_of-without-same, row_of-without-other, Distinct-without}
@@ -88,59 +89,85 @@ judged-cause (suc n) x h v p is a q ts left e Runs us = by_test (nat_eq v 0)
     let e2 : s ∷ [] ≡ ts = cc in
     subst (FreeCause Runs x (us ++ ts)) e1 (subst (λ (l : List Scene). LastIs (IsItem (Told (Refused x v))) (us ++ l)) e2 (last-more (IsItem (Told (Refused x v))) us s refl)))
 
--- a free with one turn more, where it is so with one turn less
-free-cause-more : (n : ℕ) (x : Obj) → ((p : Pool) (is : List Input) (a : FreeReply) (q : Pool) (ts : List Scene) (left : List Input) → free n x p is ≡ Ended a q ts left → FreeCause (RunsFrom p x q) x ts a)
-    → (p : Pool) (is : List Input) (a : FreeReply) (q : Pool) (ts : List Scene) (left : List Input) → free (suc n) x p is ≡ Ended a q ts left → FreeCause (RunsFrom p x q) x ts a
-free-cause-more n x ih p is a q ts left e = newest (newest_ref p.rows x) refl
+-- ---- the ways that a free goes
+
+-- the newest reference is dropped
+abbrev pub dropped_scene : Pool → Obj → Obj → Scene
+dropped_scene p x r = record { item = Told (Unreferenced r x); before = p; about = None }
+
+-- how a free goes on with one turn more
+pub data FreeGoes (n : ℕ) (x : Obj) (p : Pool) (is : List Input) (a : FreeReply) (q : Pool) (ts : List Scene) (left : List Input) : Type 0 where
+  -- there is nothing to free
+  IsOver : Ended free_reply.Ok p [] is ≡ Ended a q ts left → FreeGoes n x p is a q ts left
+  ByLeaving : leave n x 0 p is ≡ Ended a q ts left → FreeGoes n x p is a q ts left
+  -- its destructor runs, and has returned
+  ByAsking : (m h v : ℕ) (r : Pool) (us vs : List Scene) (mid : List Input) → asked m (ask.Routine (hook_moment x h)) (set_mark p x mark.Asked) is ≡ Ended v r us mid → judged m x h v r mid ≡ Ended a q vs left → us ++ vs ≡ ts → FreeGoes n x p is a q ts left
+  -- it runs already, or its handler runs and it is doomed by this
+  AsRunning : (r : Pool) → is_running p x ≡ true → is_running r x ≡ true → r ≡ doomed x p → Ended free_reply.Running r [] is ≡ Ended a q ts left → FreeGoes n x p is a q ts left
+  -- a reference from inside was dropped, and it begins again
+  Again : (r : Obj) (us : List Scene) → free n x (remove p r) is ≡ Ended a q us left → dropped_scene p x r ∷ us ≡ ts → FreeGoes n x p is a q ts left
+  AsHeld : (r : Obj) → newest_ref p.rows x ≡ Some r → is_inside p.rows (Of r) (Of x) ≡ false → Ended free_reply.Held (remove p r) (dropped_scene p x r ∷ []) is ≡ Ended a q ts left → FreeGoes n x p is a q ts left
+
+pub free-goes : (n : ℕ) (x : Obj) (p : Pool) (is : List Input) (a : FreeReply) (q : Pool) (ts : List Scene) (left : List Input) → free (suc n) x p is ≡ Ended a q ts left → FreeGoes n x p is a q ts left
+free-goes n x p is a q ts left e = newest (newest_ref p.rows x) refl
   where
-    Cause : Type 0
-    Cause = FreeCause (RunsFrom p x q) x ts a
+    Goes : Type 0
+    Goes = FreeGoes n x p is a q ts left
 
-    runs : (r : Pool) → is_running p x ≡ true → is_running r x ≡ true → free (suc n) x p is ≡ Ended free_reply.Running r [] is → Cause
-    runs r ran run law =
-        let e' : Ended free_reply.Running r [] is ≡ Ended a q ts left = sym law ∙ e in
-        let e1 : free_reply.Running ≡ a = cc in
-        let e2 : r ≡ q = cc in
-        subst (FreeCause (RunsFrom p x q) x ts) e1 (subst (λ (z : Pool). is_running z x ≡ true) e2 run, λ d. ran)
+    asks : (m h : ℕ) → hooked m x h (set_mark p x mark.Asked) is ≡ Ended a q ts left → Goes
+    asks zero h k = cc
+    asks (suc m) h k =
+        let w = ended-followed (asked m (ask.Routine (hook_moment x h)) (set_mark p x mark.Asked) is) (λ v r mid. judged m x h v r mid) a q ts left k in
+        ByAsking m h w.0 w.1 w.2 w.3 w.4 w.5 w.6 w.7
 
-    over : free (suc n) x p is ≡ Ended free_reply.Ok p [] is → Cause
-    over law = let e' : Ended free_reply.Ok p [] is ≡ Ended a q ts left = sym law ∙ e in let e1 : a ≡ free_reply.Ok = cc in is-ok (RunsFrom p x q) x ts a e1
+    dooms : (m : ℕ) (r : Pool) → is_running p x ≡ true → is_running r x ≡ true → r ≡ doomed x p → dooming m x r is ≡ Ended a q ts left → Goes
+    dooms zero r ran run is_doomed k = cc
+    dooms (suc m) r ran run is_doomed k = AsRunning r ran run is_doomed k
 
-    asks : (m : ℕ) (h : ℕ) (r : Pool) → hooked m x h r is ≡ Ended a q ts left → Cause
-    asks zero h r k = cc
-    asks (suc m) h r k =
-        let w = ended-followed (asked m (ask.Routine (hook_moment x h)) r is) (λ v r' mid. judged m x h v r' mid) a q ts left k in
-        subst (λ (l : List Scene). FreeCause (RunsFrom p x q) x l a) w.7 (judged-cause m x h w.0 w.1 w.4 a q w.3 left w.6 (RunsFrom p x q) w.2)
-
-    marks : newest_ref p.rows x ≡ None → (r : Row) (m : Mark) → r.mark ≡ m → row_of p.rows x ≡ Some r → Cause
+    marks : newest_ref p.rows x ≡ None → (r : Row) (m : Mark) → r.mark ≡ m → row_of p.rows x ≡ Some r → Goes
     marks z r mark.Quiet m k = by_test (nat_eq r.hook 0)
-        (λ t. is-ok (RunsFrom p x q) x ts a (leave-ok n x 0 p is a q ts left (rw (z, k, m, t) at e)))
-        (λ t. asks n r.hook (set_mark p x mark.Asked) (rw (z, k, m, t) at e))
-    marks z r mark.Asked m k = runs p (rw (k, m) refl) (rw (k, m) refl) (rw (z, k, m) refl)
-    marks z r mark.Busy m k = runs (set_mark p x mark.Doomed) (rw (k, m) refl) (rw (row_of-changed-same (marked_row mark.Doomed) p.rows x r (λ s. refl) k) refl) (rw (z, k, m) refl)
-    marks z r mark.Doomed m k = runs p (rw (k, m) refl) (rw (k, m) refl) (rw (z, k, m) refl)
-    marks z r (mark.Dying former) m k = over (rw (z, k, m) refl)
+        (λ t. ByLeaving (rw (z, k, m, t) at e))
+        (λ t. asks n r.hook (rw (z, k, m, t) at e))
+    marks z r mark.Asked m k = AsRunning p (rw (k, m) refl) (rw (k, m) refl) (rw (k, m) refl) (rw (z, k, m) at e)
+    marks z r mark.Busy m k = dooms n (doom p x) (rw (k, m) refl) (rw (row_of-changed-same (marked_row mark.Doomed) p.rows x r (λ s. refl) k) refl) (rw (k, m) refl) (rw (z, k, m) at e)
+    marks z r mark.Doomed m k = AsRunning p (rw (k, m) refl) (rw (k, m) refl) (rw (k, m) refl) (rw (z, k, m) at e)
+    marks z r (mark.Dying former) m k = IsOver (rw (z, k, m) at e)
 
-    each : newest_ref p.rows x ≡ None → (o : Option Row) → row_of p.rows x ≡ o → Cause
-    each z None k = over (rw (z, k) refl)
+    each : newest_ref p.rows x ≡ None → (o : Option Row) → row_of p.rows x ≡ o → Goes
+    each z None k = IsOver (rw (z, k) at e)
     each z (Some r) k = marks z r r.mark refl k
 
-    newest : (o : Option Obj) → newest_ref p.rows x ≡ o → Cause
+    newest : (o : Option Obj) → newest_ref p.rows x ≡ o → Goes
     newest None z = each z (row_of p.rows x) refl
-    newest (Some r) z =
-        let s : Scene = record { item = Told (Unreferenced r x); before = p; about = None } in
-        by_test (is_inside p.rows (Of r) (Of x))
-        (λ t. let e' : tell s (free n x (remove p r) is) ≡ Ended a q ts left = rw (z, t) at e in
-        let w = ended-tell s (free n x (remove p r) is) a q ts left e' in
-        subst (λ (l : List Scene). FreeCause (RunsFrom p x q) x l a) w.2 (behind-cause (RunsFrom p x q) (RunsFrom (remove p r) x q) x s w.0 a (runs-before p x r q) (ih (remove p r) is a q w.0 left w.1)))
-        (λ t. let e' : Ended free_reply.Held (remove p r) (s ∷ []) is ≡ Ended a q ts left = rw (z, t) at e in
-        let e1 : free_reply.Held ≡ a = cc in
-        let e2 : s ∷ [] ≡ ts = cc in
-        subst (FreeCause (RunsFrom p x q) x ts) e1 (subst (λ (l : List Scene). LastIs (DropsOutside x) l) e2 (r, refl, z, t)))
+    newest (Some r) z = by_test (is_inside p.rows (Of r) (Of x))
+        (λ t. let e' : tell (dropped_scene p x r) (free n x (remove p r) is) ≡ Ended a q ts left = rw (z, t) at e in
+        let w = ended-tell (dropped_scene p x r) (free n x (remove p r) is) a q ts left e' in
+        Again r w.0 w.1 w.2)
+        (λ t. AsHeld r z t (rw (z, t) at e))
+
+-- ---- causes
+
+-- a free with one turn more, where it is so with one turn less
+free-cause-more : (n : ℕ) (x : Obj) → ((p : Pool) (is : List Input) (a : FreeReply) (q : Pool) (ts : List Scene) (left : List Input) → free n x p is ≡ Ended a q ts left → FreeCause (RunsFrom p x q) x ts a)
+    → (p : Pool) (is : List Input) (a : FreeReply) (q : Pool) (ts : List Scene) (left : List Input) → FreeGoes n x p is a q ts left → FreeCause (RunsFrom p x q) x ts a
+free-cause-more n x ih p is a q ts left (IsOver k) = let ok : a ≡ free_reply.Ok = cc in is-ok (RunsFrom p x q) x ts a ok
+free-cause-more n x ih p is a q ts left (ByLeaving k) = is-ok (RunsFrom p x q) x ts a (leave-ok n x 0 p is a q ts left k)
+free-cause-more n x ih p is a q ts left (ByAsking m h v r us vs mid run judge told) =
+    subst (λ (l : List Scene). FreeCause (RunsFrom p x q) x l a) told (judged-cause m x h v r mid a q vs left judge (RunsFrom p x q) us)
+free-cause-more n x ih p is a q ts left (AsRunning r ran run is_doomed k) =
+    let e1 : free_reply.Running ≡ a = cc in
+    let e2 : r ≡ q = cc in
+    subst (FreeCause (RunsFrom p x q) x ts) e1 (subst (λ (z : Pool). is_running z x ≡ true) e2 run, λ d. ran)
+free-cause-more n x ih p is a q ts left (Again r us k told) =
+    subst (λ (l : List Scene). FreeCause (RunsFrom p x q) x l a) told (behind-cause (RunsFrom p x q) (RunsFrom (remove p r) x q) x (dropped_scene p x r) us a (runs-before p x r q) (ih (remove p r) is a q us left k))
+free-cause-more n x ih p is a q ts left (AsHeld r z t k) =
+    let e1 : free_reply.Held ≡ a = cc in
+    let e2 : dropped_scene p x r ∷ [] ≡ ts = cc in
+    subst (FreeCause (RunsFrom p x q) x ts) e1 (subst (λ (l : List Scene). LastIs (DropsOutside x) l) e2 (r, refl, z, t))
 
 pub free-cause : (n : ℕ) (x : Obj) (p : Pool) (is : List Input) (a : FreeReply) (q : Pool) (ts : List Scene) (left : List Input) → free n x p is ≡ Ended a q ts left → FreeCause (RunsFrom p x q) x ts a
 free-cause zero x p is a q ts left e = cc
-free-cause (suc n) x p is a q ts left e = free-cause-more n x (free-cause n x) p is a q ts left e
+free-cause (suc n) x p is a q ts left e = free-cause-more n x (free-cause n x) p is a q ts left (free-goes n x p is a q ts left e)
 
 -- ---- an owner's interest is taken away
 
@@ -151,35 +178,47 @@ given-ok (suc n) x o p is a q ts left e =
     let e' : Ended free_reply.Ok (place p o x) (record { item = Told (Moved x o); before = p; about = None } ∷ []) is ≡ Ended a q ts left = e in
     cc
 
-release-cause-more : (n : ℕ) (x : Obj) → ((p : Pool) (is : List Input) (a : FreeReply) (q : Pool) (ts : List Scene) (left : List Input) → release n x p is ≡ Ended a q ts left → FreeCause (RunsFrom p x q) x ts a)
-    → (p : Pool) (is : List Input) (a : FreeReply) (q : Pool) (ts : List Scene) (left : List Input) → release (suc n) x p is ≡ Ended a q ts left → FreeCause (RunsFrom p x q) x ts a
-release-cause-more n x ih p is a q ts left e = newest (newest_ref p.rows x) refl
-  where
-    newest : (o : Option Obj) → newest_ref p.rows x ≡ o → FreeCause (RunsFrom p x q) x ts a
-    newest None z = free-cause n x p is a q ts left (rw z at e)
-    newest (Some r) z =
-        let s : Scene = record { item = Told (Unreferenced r x); before = p; about = None } in
-        let o : Owner = unwrap_or (owner_of p.rows r) Root in
-        by_test (is_inside p.rows (Of r) (Of x))
-        (λ t. let e' : tell s (release n x (remove p r) is) ≡ Ended a q ts left = rw (z, t) at e in
-        let w = ended-tell s (release n x (remove p r) is) a q ts left e' in
-        subst (λ (l : List Scene). FreeCause (RunsFrom p x q) x l a) w.2
-        (behind-cause (RunsFrom p x q) (RunsFrom (remove p r) x q) x s w.0 a (runs-before p x r q) (ih (remove p r) is a q w.0 left w.1)))
-        (λ t. let e' : tell s (given n x o (remove p r) is) ≡ Ended a q ts left = rw (z, t) at e in
-        let w = ended-tell s (given n x o (remove p r) is) a q ts left e' in
-        is-ok (RunsFrom p x q) x ts a (given-ok n x o (remove p r) is a q w.0 left w.1))
+-- what is so of a free of an object is so of what takes an owner's interest in it away, where it is so of what was freed
+-- or given, and stays so of what has dropped one reference more
+module _ (x : Obj) (Q : Pool → List Input → FreeReply → Pool → List Scene → List Input → Type 0)
+    (ok : (p : Pool) (is : List Input) (a : FreeReply) (q : Pool) (ts : List Scene) (left : List Input) → a ≡ free_reply.Ok → Q p is a q ts left)
+    (again : (p : Pool) (r : Obj) (is : List Input) (a : FreeReply) (q : Pool) (us : List Scene) (left : List Input) → Q (remove p r) is a q us left → Q p is a q (dropped_scene p x r ∷ us) left)
+    (freed : (n : ℕ) (p : Pool) (is : List Input) (a : FreeReply) (q : Pool) (ts : List Scene) (left : List Input) → free n x p is ≡ Ended a q ts left → Q p is a q ts left) where
+  released-more : (n : ℕ) → ((p : Pool) (is : List Input) (a : FreeReply) (q : Pool) (ts : List Scene) (left : List Input) → release n x p is ≡ Ended a q ts left → Q p is a q ts left)
+      → (p : Pool) (is : List Input) (a : FreeReply) (q : Pool) (ts : List Scene) (left : List Input) → release (suc n) x p is ≡ Ended a q ts left → Q p is a q ts left
+  released-more n ih p is a q ts left e = newest (newest_ref p.rows x) refl
+    where
+      newest : (o : Option Obj) → newest_ref p.rows x ≡ o → Q p is a q ts left
+      newest None z = freed n p is a q ts left (rw z at e)
+      newest (Some r) z =
+          let s : Scene = dropped_scene p x r in
+          let o : Owner = unwrap_or (owner_of p.rows r) Root in
+          by_test (is_inside p.rows (Of r) (Of x))
+          (λ t. let e' : tell s (release n x (remove p r) is) ≡ Ended a q ts left = rw (z, t) at e in
+          let w = ended-tell s (release n x (remove p r) is) a q ts left e' in
+          subst (λ (l : List Scene). Q p is a q l left) w.2 (again p r is a q w.0 left (ih (remove p r) is a q w.0 left w.1)))
+          (λ t. let e' : tell s (given n x o (remove p r) is) ≡ Ended a q ts left = rw (z, t) at e in
+          let w = ended-tell s (given n x o (remove p r) is) a q ts left e' in
+          ok p is a q ts left (given-ok n x o (remove p r) is a q w.0 left w.1))
 
-pub release-cause : (n : ℕ) (x : Obj) (p : Pool) (is : List Input) (a : FreeReply) (q : Pool) (ts : List Scene) (left : List Input) → release n x p is ≡ Ended a q ts left → FreeCause (RunsFrom p x q) x ts a
-release-cause zero x p is a q ts left e = cc
-release-cause (suc n) x p is a q ts left e = release-cause-more n x (release-cause n x) p is a q ts left e
+  pub released : (n : ℕ) (p : Pool) (is : List Input) (a : FreeReply) (q : Pool) (ts : List Scene) (left : List Input) → release n x p is ≡ Ended a q ts left → Q p is a q ts left
+  released zero p is a q ts left e = cc
+  released (suc n) p is a q ts left e = released-more n (released n) p is a q ts left e
+
+  pub unlinked : (n : ℕ) (o : Owner) (p : Pool) (is : List Input) (a : FreeReply) (q : Pool) (ts : List Scene) (left : List Input) → unlink n o x p is ≡ Ended a q ts left → Q p is a q ts left
+  unlinked zero o p is a q ts left e = cc
+  unlinked (suc n) o p is a q ts left e = newest (newest_ref_of p.rows o x) refl
+    where
+      newest : (r : Option Obj) → newest_ref_of p.rows o x ≡ r → Q p is a q ts left
+      newest None z = released n p is a q ts left (rw z at e)
+      newest (Some r) z =
+          let e' : Ended free_reply.Ok (remove p r) (dropped_scene p x r ∷ []) is ≡ Ended a q ts left = rw z at e in
+          let done : a ≡ free_reply.Ok = cc in
+          ok p is a q ts left done
 
 pub unlink-cause : (n : ℕ) (o : Owner) (x : Obj) (p : Pool) (is : List Input) (a : FreeReply) (q : Pool) (ts : List Scene) (left : List Input) → unlink n o x p is ≡ Ended a q ts left → FreeCause (RunsFrom p x q) x ts a
-unlink-cause zero o x p is a q ts left e = cc
-unlink-cause (suc n) o x p is a q ts left e = newest (newest_ref_of p.rows o x) refl
-  where
-    newest : (r : Option Obj) → newest_ref_of p.rows o x ≡ r → FreeCause (RunsFrom p x q) x ts a
-    newest None z = release-cause n x p is a q ts left (rw z at e)
-    newest (Some r) z =
-        let e' : Ended free_reply.Ok (remove p r) (record { item = Told (Unreferenced r x); before = p; about = None } ∷ []) is ≡ Ended a q ts left = rw z at e in
-        let e1 : a ≡ free_reply.Ok = cc in
-        is-ok (RunsFrom p x q) x ts a e1
+unlink-cause n o x p is a q ts left e = unlinked x (λ p is a q ts left. FreeCause (RunsFrom p x q) x ts a)
+    (λ p is a q ts left ok. is-ok (RunsFrom p x q) x ts a ok)
+    (λ p r is a q us left h. behind-cause (RunsFrom p x q) (RunsFrom (remove p r) x q) x (dropped_scene p x r) us a (runs-before p x r q) h)
+    (λ n. free-cause n x)
+    n o p is a q ts left e

@@ -1,7 +1,7 @@
 -- The machine does what the rules' text says.
 use Rattle.tree_specs.specs.declared.object.Owner.{Owner}
 use Rattle.tree_specs.specs.Tree.Targets.{newest_ref}
-use Rattle.std.proofs.Common.{◌≡◌, ℕ, suc, zero, nat_eq, List, [], ◌∷◌, Option, Some, None, refl, inl, inr}
+use Rattle.std.proofs.Common.{◌≡◌, ℕ, suc, zero, nat_eq, List, [], ◌∷◌, Option, Some, None, Bool, true, false, nat_le, refl, inl, inr}
 use Rattle.step_machine.specs.Machine.{Move, Outcome, after, run}
 use Rattle.step_machine.specs.Noted.{Noted, noted, noted_move}
 use Rattle.step_machine.proofs.Laws.{Below, Below-trans, Below-after, followed-tell, followed-tells, followed-followed}
@@ -9,14 +9,17 @@ use Rattle.tree_specs.specs.declared.object.Obj.{Obj}
 use Rattle.tree_specs.specs.declared.object.Owner.TheVariants.{Of}
 use Rattle.tree_specs.specs.declared.row.Row.{Row}
 use Rattle.tree_specs.specs.declared.row.Mark.{Mark}
-use Rattle.tree_specs.specs.declared.row.Mark.TheVariants.{Quiet}
+use Rattle.tree_specs.specs.declared.row.Mark.TheVariants as mark
 use Rattle.tree_specs.specs.declared.call.Call.{Call}
 use Rattle.tree_specs.specs.declared.question.Ask.{Ask}
+use Rattle.tree_specs.specs.declared.question.Ask.TheVariants.{Quiet, Clock, Wait}
 use Rattle.tree_specs.specs.declared.question.Input.{Input}
 use Rattle.tree_specs.specs.declared.frame.Frame.{Frame}
 use Rattle.tree_specs.specs.declared.frame.Frame.TheVariants as frame
-use Rattle.tree_specs.specs.declared.frame.CallFrame.TheVariants.{Asking, Doing, Awaiting, Returning}
-use Rattle.tree_specs.specs.declared.frame.FreeFrame.TheVariants.{Unlinking, Releasing, Beginning, Judged, Looping, FreeingChild, AfterChild, Ending}
+use Rattle.tree_specs.specs.declared.frame.CallFrame.TheVariants.{Asking, Doing, Awaiting, Turning, Returning}
+use Rattle.tree_specs.specs.declared.frame.TurnFrame.{TurnFrame}
+use Rattle.tree_specs.specs.declared.frame.TurnFrame.TheVariants.{Taking, Timing, Timed, Polling, Starting, Handled, Clearing, Reading, Closing}
+use Rattle.tree_specs.specs.declared.frame.FreeFrame.TheVariants.{Unlinking, Releasing, Beginning, Judged, Dooming, Looping, FreeingChild, AfterChild, Ending}
 use Rattle.tree_specs.specs.declared.frame.Purpose.{Purpose}
 use Rattle.tree_specs.specs.declared.frame.Purpose.TheVariants.{Removal, Emptying}
 use Rattle.tree_specs.specs.declared.frame.Answer.{Answer}
@@ -24,15 +27,21 @@ use Rattle.tree_specs.specs.declared.free_step.FreeReply.{FreeReply}
 use Rattle.tree_specs.specs.declared.free_step.FreeReply.TheVariants.{Ok}
 use Rattle.tree_specs.specs.Tree.Pool.{Pool, row_of, is_below, owner_of, first_kid, target_at, newest_ref_of, is_inside}
 use Rattle.tree_specs.specs.Rules.Items.{Item}
-use Rattle.tree_specs.specs.Words.Ranges.{is_sound_call, is_return}
+use Rattle.tree_specs.specs.Words.Ranges.{is_sound_call, is_return, is_time}
+use Rattle.tree_specs.specs.Words.Wants.{is_wants}
+use Rattle.tree_specs.specs.Events.Pending.{first}
+use Rattle.tree_specs.specs.Events.Coming.{handler_for, goes_after, looks_again}
+use Rattle.tree_specs.specs.declared.due.Due.{Due}
+use Rattle.tree_specs.specs.declared.handler.Handler.{Handler}
+use Rattle.tree_specs.specs.declared.moment.What.{What}
 use Rattle.tree_specs.specs.Calls.Given.{Given, given_to}
-use Rattle.tree_specs.specs.Calls.Given.Given.{Calls, Returns}
+use Rattle.tree_specs.specs.Calls.Given.Given.{Calls, Returns, Tells, IsReady}
 use Rattle.tree_specs.specs.Calls.Plans.{Plan, planned}
-use Rattle.tree_specs.specs.Calls.Plans.Plan.{Does, Frees, Unlinks, Empties}
+use Rattle.tree_specs.specs.Calls.Plans.Plan.{Does, Frees, Unlinks, Empties, AsksTime, Turns}
 use Rattle.tree_specs.specs.Rules.Sequence.{Work, Scene, CallStart, change}
-use Rattle.tree_specs.specs.Rules.Story.{free, judged, children, tried, unlink, release}
-use Rattle.tree_specs.specs.Machine.Meaning.{noted_table, freed, looped, mean}
-use Rattle.tree_specs.specs.Machine.Table.{notes, step, lifted, judge_step, loop_step, tried_step, plan_step, refs_step, unlink_step, release_step}
+use Rattle.tree_specs.specs.Rules.Story.{free, judged, children, tried, unlink, release, taking, timing, timed, polling, starting, handled, reading}
+use Rattle.tree_specs.specs.Machine.Meaning.{noted_table, freed, closed, looped, mean}
+use Rattle.tree_specs.specs.Machine.Table.{notes, step, turn_step, lifted, judge_step, loop_step, tried_step, plan_step, refs_step, unlink_step, release_step}
 use Rattle.tree_specs.proofs.Tree.Numbered.{by_test}
 
 ruleset laws = (followed-tell, followed-tells, followed-followed)
@@ -53,6 +62,12 @@ asking-turn n q b p (i ∷ is) = each (given_to q i) refl
     each None e = rw e (inr refl)
     each (Some (Calls c)) e = by_test (is_sound_call c) (λ t. rw (e, t) (inr (simp laws))) (λ t. rw (e, t) (inr refl))
     each (Some (Returns v)) e = by_test (is_return v) (λ t. rw (e, t) (inr (simp laws))) (λ t. rw (e, t) (inr refl))
+    each (Some _) e = rw e (inr refl)
+
+turning-turn : (n : ℕ) (q : Ask) (c : Call) (b : Option CallStart) (p : Pool) (is : List Input) → planned p c ≡ Turns
+    → Below (Turn n (frame.Call (Doing q c)) b (plan_step q (planned p c) p) p is) (mean (suc n) (frame.Call (Doing q c)) b p is)
+turning-turn n Quiet c b p is e = rw e (inr (simp laws))
+turning-turn n _ c b p is e = rw e (inr refl)
 
 doing-turn : (n : ℕ) (q : Ask) (c : Call) (b : Option CallStart) (p : Pool) (is : List Input)
     → Below (Turn n (frame.Call (Doing q c)) b (plan_step q (planned p c) p) p is) (mean (suc n) (frame.Call (Doing q c)) b p is)
@@ -64,6 +79,8 @@ doing-turn n q c b p is = each (planned p c) refl
     each (Frees x) e = rw e (inr (simp laws))
     each (Unlinks o x) e = rw e (inr (simp laws))
     each (Empties x) e = rw e (inr (simp laws))
+    each AsksTime e = rw e (inr (simp laws))
+    each Turns e = turning-turn n q c b p is e
 
 beginning-turn : (n : ℕ) (x : Obj) (b : Option CallStart) (p : Pool) (is : List Input)
     → Below (Turn n (frame.Free (Beginning x)) b (lifted (refs_step x (newest_ref p.rows x) p)) p is) (freed (free (suc n) x) p is)
@@ -71,7 +88,7 @@ beginning-turn n x b p is = newest (newest_ref p.rows x) refl
   where
     marks : newest_ref p.rows x ≡ None → (r : Row) (m : Mark) → r.mark ≡ m → row_of p.rows x ≡ Some r
         → Below (Turn n (frame.Free (Beginning x)) b (lifted (refs_step x (newest_ref p.rows x) p)) p is) (freed (free (suc n) x) p is)
-    marks k r Quiet m e = by_test (nat_eq r.hook 0) (λ t. rw (k, e, m, t) (inr refl)) (λ t. rw (k, e, m, t) (inr refl))
+    marks k r mark.Quiet m e = by_test (nat_eq r.hook 0) (λ t. rw (k, e, m, t) (inr refl)) (λ t. rw (k, e, m, t) (inr refl))
     marks k r _ m e = rw (k, e, m) (inr refl)
 
     each : newest_ref p.rows x ≡ None → (o : Option Row) → row_of p.rows x ≡ o
@@ -129,16 +146,93 @@ tried-turn n x c noted purpose a b p is = each purpose a
     each Emptying Ok = inr refl
     each _ _ = by_test (is_below (owner_of p.rows c) (Of x)) (λ t. rw t (inr (simp laws))) (λ t. rw t (inr refl))
 
+-- ---- turns of the event loop
+
+taking-turn : (n : ℕ) (b : Option CallStart) (p : Pool) (is : List Input) → Below (Turn n (frame.Turn Taking) b (turn_step Taking p) p is) (closed (taking (suc n)) p is)
+taking-turn n b p is = each (first p.soon) refl
+  where
+    due : first p.soon ≡ None → (o : Option Due) → first p.times ≡ o → Below (Turn n (frame.Turn Taking) b (turn_step Taking p) p is) (closed (taking (suc n)) p is)
+    due e None k = rw (e, k) (inr refl)
+    due e (Some d) k = by_test (nat_eq d.time 0) (λ t. rw (e, k, t) (inr refl)) (λ t. rw (e, k, t) (inr refl))
+
+    each : (o : Option Obj) → first p.soon ≡ o → Below (Turn n (frame.Turn Taking) b (turn_step Taking p) p is) (closed (taking (suc n)) p is)
+    each None e = due e (first p.times) refl
+    each (Some x) e = rw e (inr refl)
+
+timed-turn : (n : ℕ) (again : Bool) (now : ℕ) (b : Option CallStart) (p : Pool) (is : List Input)
+    → Below (Turn n (frame.Turn (Timed again now)) b (turn_step (Timed again now) p) p is) (closed (timed (suc n) again now) p is)
+timed-turn n again now b p is = each again (first p.times) refl
+  where
+    each : (again : Bool) (o : Option Due) → first p.times ≡ o → Below (Turn n (frame.Turn (Timed again now)) b (turn_step (Timed again now) p) p is) (closed (timed (suc n) again now) p is)
+    each again None e = rw e (inr refl)
+    each true (Some d) e = by_test (nat_le d.time now) (λ t. rw (e, t) (inr refl)) (λ t. rw (e, t) (inr refl))
+    each false (Some d) e = by_test (nat_le d.time now) (λ t. rw (e, t) (inr refl)) (λ t. rw (e, t) (inr refl))
+
+timing-turn : (n : ℕ) (again : Bool) (b : Option CallStart) (p : Pool) (is : List Input)
+    → Below (Turn n (frame.Turn (Timing again)) b (turn_step (Timing again) p) p is) (closed (timing (suc n) again) p is)
+timing-turn n again b p [] = inr refl
+timing-turn n again b p (i ∷ is) = each (given_to Clock i) refl
+  where
+    each : (g : Option Given) → given_to Clock i ≡ g → Below (Turn n (frame.Turn (Timing again)) b (turn_step (Timing again) p) p (i ∷ is)) (closed (timing (suc n) again) p (i ∷ is))
+    each (Some (Tells now)) e = by_test (is_time now) (λ t. rw (e, t) (inr (simp laws))) (λ t. rw (e, t) (inr refl))
+    each _ e = rw e (inr refl)
+
+reading-turn : (n : ℕ) (b : Option CallStart) (p : Pool) (is : List Input) → Below (Turn n (frame.Turn Reading) b (turn_step Reading p) p is) (closed (reading (suc n)) p is)
+reading-turn n b p [] = inr refl
+reading-turn n b p (i ∷ is) = each (given_to Clock i) refl
+  where
+    each : (g : Option Given) → given_to Clock i ≡ g → Below (Turn n (frame.Turn Reading) b (turn_step Reading p) p (i ∷ is)) (closed (reading (suc n)) p (i ∷ is))
+    each (Some (Tells now)) e = by_test (is_time now) (λ t. rw (e, t) (inr (simp laws))) (λ t. rw (e, t) (inr refl))
+    each _ e = rw e (inr refl)
+
+polling-turn : (n limit : ℕ) (b : Option CallStart) (p : Pool) (is : List Input)
+    → Below (Turn n (frame.Turn (Polling limit)) b (turn_step (Polling limit) p) p is) (closed (polling (suc n) limit) p is)
+polling-turn n limit b p [] = inr refl
+polling-turn n limit b p (i ∷ is) = each (given_to (Wait limit) i) refl
+  where
+    each : (g : Option Given) → given_to (Wait limit) i ≡ g → Below (Turn n (frame.Turn (Polling limit)) b (turn_step (Polling limit) p) p (i ∷ is)) (closed (polling (suc n) limit) p (i ∷ is))
+    each (Some (IsReady wants)) e = by_test (is_wants wants)
+        (λ t. by_test (looks_again p wants) (λ l. rw (e, t, l) (inr (simp laws))) (λ l. rw (e, t, l) (inr (simp laws))))
+        (λ t. rw (e, t) (inr refl))
+    each _ e = rw e (inr refl)
+
+starting-turn : (n : ℕ) (what : What) (x : Obj) (now : ℕ) (b : Option CallStart) (p : Pool) (is : List Input)
+    → Below (Turn n (frame.Turn (Starting what x now)) b (turn_step (Starting what x now) p) p is) (closed (starting (suc n) what x now) p is)
+starting-turn n what x now b p is = each (handler_for p what x) refl
+  where
+    each : (o : Option Handler) → handler_for p what x ≡ o → Below (Turn n (frame.Turn (Starting what x now)) b (turn_step (Starting what x now) p) p is) (closed (starting (suc n) what x now) p is)
+    each None e = rw e (inr refl)
+    each (Some handler) e = rw e (inr refl)
+
+handled-turn : (n : ℕ) (what : What) (x : Obj) (b : Option CallStart) (p : Pool) (is : List Input)
+    → Below (Turn n (frame.Turn (Handled what x)) b (turn_step (Handled what x) p) p is) (closed (handled (suc n) what x) p is)
+handled-turn n what x b p is = by_test (goes_after p what x) (λ t. rw t (inr (simp laws))) (λ t. rw t (inr refl))
+
+loop-turn : (n : ℕ) (f : TurnFrame) (b : Option CallStart) (p : Pool) (is : List Input) → Below (Turn n (frame.Turn f) b (turn_step f p) p is) (mean (suc n) (frame.Turn f) b p is)
+loop-turn n Taking b p is = taking-turn n b p is
+loop-turn n (Timing again) b p is = timing-turn n again b p is
+loop-turn n (Timed again now) b p is = timed-turn n again now b p is
+loop-turn n (Polling limit) b p is = polling-turn n limit b p is
+loop-turn n (Starting what x now) b p is = starting-turn n what x now b p is
+loop-turn n (Handled what x) b p is = handled-turn n what x b p is
+loop-turn n (Clearing x) b p is = inr refl
+loop-turn n Reading b p is = reading-turn n b p is
+loop-turn n (Closing v) b p is = inr refl
+loop-turn n _ b p is = inr (simp laws)
+
 -- one turn of the machine is one turn of the text
 pub turn : (n : ℕ) (f : Frame) (b : Option CallStart) (p : Pool) (is : List Input) → Below (Turn n f b (step f p) p is) (mean (suc n) f b p is)
 turn n (frame.Call (Asking q)) b p is = asking-turn n q b p is
 turn n (frame.Call (Doing q c)) b p is = doing-turn n q c b p is
 turn n (frame.Call (Awaiting q x)) b p is = inr refl
+turn n (frame.Call (Turning q)) b p is = inr refl
 turn n (frame.Call (Returning v)) b p is = inr refl
+turn n (frame.Turn f) b p is = loop-turn n f b p is
 turn n (frame.Free (Unlinking o x)) b p is = unlinking-turn n o x b p is
 turn n (frame.Free (Releasing x)) b p is = releasing-turn n x b p is
 turn n (frame.Free (Beginning x)) b p is = beginning-turn n x b p is
 turn n (frame.Free (Judged x h v)) b p is = judged-turn n x h v b p is
+turn n (frame.Free (Dooming x)) b p is = inr refl
 turn n (frame.Free (Looping x purpose)) b p is = looping-turn n x purpose b p is
 turn n (frame.Free (FreeingChild x c noted purpose)) b p is = inr refl
 turn n (frame.Free (AfterChild x c noted purpose a)) b p is = tried-turn n x c noted purpose a b p is

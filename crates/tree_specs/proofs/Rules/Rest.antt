@@ -1,5 +1,5 @@
 -- The laws of the story still to come.
-use Rattle.std.proofs.Common.{◌≡◌, ℕ, suc, zero, ◌+◌, ◌*◌, ◌<◌, ◌≤◌, List, [], ◌∷◌, length, Option, Some, None, refl, sym, ◌∙◌, ap, subst, arith}
+use Rattle.std.proofs.Common.{◌≡◌, ℕ, suc, zero, ◌+◌, ◌*◌, ◌<◌, ◌≤◌, List, [], ◌∷◌, length, Bool, true, false, Option, Some, None, refl, sym, ◌∙◌, ap, subst, arith}
 use Rattle.step_machine.specs.Machine.{Move, Outcome, State, silent, tell, given, asks, leads, rest, walk, items as told_by}
 use Rattle.step_machine.specs.Machine.{Move as Do}
 use Rattle.step_machine.specs.Machine.Outcome.{Ended, Waits, Stray, Short}
@@ -9,7 +9,13 @@ use Rattle.step_machine.proofs.Open.{Asks, Asks-items, Stays, walk-asks, items-t
 use Rattle.tree_specs.specs.declared.question.Input.{Input}
 use Rattle.tree_specs.specs.declared.frame.Frame.{Frame}
 use Rattle.tree_specs.specs.declared.frame.Frame.TheVariants as frame
-use Rattle.tree_specs.specs.declared.frame.CallFrame.TheVariants.{Asking, Doing, Awaiting, Warning, Telling, Returning}
+use Rattle.tree_specs.specs.declared.frame.CallFrame.TheVariants.{Asking, Doing, Awaiting, Turning, Warning, Telling, Returning}
+use Rattle.tree_specs.specs.declared.frame.TurnFrame.{TurnFrame}
+use Rattle.tree_specs.specs.declared.frame.TurnFrame.TheVariants.{Taking, Timing, Timed, Polling, Starting, Handled, Reading}
+use Rattle.tree_specs.specs.declared.handler.Handler.{Handler}
+use Rattle.tree_specs.specs.declared.question.Ask.TheVariants.{Quiet, Clock, Wait}
+use Rattle.tree_specs.specs.Events.Coming.{handler_for, goes_after}
+use Rattle.tree_specs.proofs.Invariants.Turning.{Passes, Pass, look-passes}
 use Rattle.tree_specs.specs.declared.frame.FreeFrame.{FreeFrame}
 use Rattle.tree_specs.specs.declared.frame.Answer.{Answer}
 use Rattle.tree_specs.specs.declared.free_step.FreeReply.{FreeReply}
@@ -21,10 +27,10 @@ use Rattle.tree_specs.specs.Tree.Pool.{Pool}
 use Rattle.tree_specs.specs.Rules.Items.{Item, IsQuestion}
 use Rattle.tree_specs.specs.Rules.Items.Item.{Asked}
 use Rattle.tree_specs.specs.Calls.Plans.{Plan, planned, plan, unless_refused}
-use Rattle.tree_specs.specs.Calls.Plans.Plan.{Does, Frees, Unlinks, Empties}
+use Rattle.tree_specs.specs.Calls.Plans.Plan.{Does, Frees, Unlinks, Empties, AsksTime, Turns}
 use Rattle.tree_specs.specs.Rules.Story.{turns}
 use Rattle.tree_specs.specs.Calls.Refusals.{Check}
-use Rattle.tree_specs.specs.Machine.Table.{call_step, table, step, free_step, event_of, announced, plan_step, lifted, taken}
+use Rattle.tree_specs.specs.Machine.Table.{Step, call_step, turning_step, starting_step, handled_step, turn_step, table, step, free_step, event_of, announced, plan_step, lifted, taken}
 use Rattle.tree_specs.specs.Invariants.Sound.{Sound, Rests}
 use Rattle.tree_specs.specs.Invariants.Measure.{cost}
 use Rattle.tree_specs.specs.Machine.View.{View, rest_of}
@@ -182,12 +188,18 @@ GoesOn (Do.Go f p) = IsTelling f
 GoesOn (Do.Call g f p) = Unit {0}
 GoesOn _ = ⊥
 
+turning-goes_on : (q : Ask) (p : Pool) → GoesOn (turning_step q p)
+turning-goes_on Quiet p = tt
+turning-goes_on _ p = tt
+
 pub plan-goes_on : (q : Ask) (plan : Plan) (p : Pool) → GoesOn (plan_step q plan p)
 plan-goes_on q (Does change None r) p = tt
 plan-goes_on q (Does change (Some x) r) p = tt
 plan-goes_on q (Frees x) p = tt
 plan-goes_on q (Unlinks o x) p = tt
 plan-goes_on q (Empties x) p = tt
+plan-goes_on q AsksTime p = tt
+plan-goes_on q Turns p = turning-goes_on q p
 
 pub call-goes_on : (check : Check) (q : Ask) (c : Call) (p : Pool) → GoesOn (call_step check q c p)
 call-goes_on check q c p = plan-goes_on q (unless_refused check (plan p c)) p
@@ -207,14 +219,41 @@ free-waits (Do.Call f h q) p i g e = cc
 -- the host's own work doesn't end
 pub no-end : (f : Frame) (p q : Pool) (a : Answer) → IsCaller f → Rests f [] p → step f p ≡ Do.Done a q → ⊥
 no-end (frame.Call (Awaiting ask x)) p q a h r e = r
+no-end (frame.Call (Turning ask)) p q a h r e = r
 no-end (frame.Call (Returning v)) p q a h r e = h
 no-end (frame.Call (Doing ask c)) p q a h r e = subst GoesOn e (plan-goes_on ask (planned p c) p)
 no-end (frame.Call _) p q a h r e = cc
 no-end _ p q a h r e = h
 
--- only a caller that is to be asked asks
-pub waits-asking : (f : Frame) (p q : Pool) (i : Item) (g : Frame) → step f p ≡ Do.Wait i g q → (ask : Ask) × (f ≡ frame.Call (Asking ask))
-waits-asking (frame.Call (Asking ask)) p q i g e = (ask, refl)
+-- a turn asks for the time, and for what is ready
+turn-asks : (f : TurnFrame) (p q : Pool) (i : Item) (g : Frame) → turn_step f p ≡ Do.Wait i g q → (ask : Ask) × (i ≡ Asked ask)
+turn-asks (Timing again) p q i g e = (Clock, cc)
+turn-asks (Polling limit) p q i g e = (Wait limit, cc)
+turn-asks Reading p q i g e = (Clock, cc)
+turn-asks Taking p q i g e = absurd (passes (turn_step Taking p) (look-passes Taking p tt) e)
+  where
+    passes : (m : Step) → Passes p m → m ≡ Do.Wait i g q → ⊥
+    passes _ (Pass t r rows next plain) e = cc
+turn-asks (Timed again now) p q i g e = absurd (passes (turn_step (Timed again now) p) (look-passes (Timed again now) p tt) e)
+  where
+    passes : (m : Step) → Passes p m → m ≡ Do.Wait i g q → ⊥
+    passes _ (Pass t r rows next plain) e = cc
+turn-asks (Starting what x now) p q i g e = absurd (each (handler_for p what x) e)
+  where
+    each : (o : Option Handler) → starting_step what x now o p ≡ Do.Wait i g q → ⊥
+    each None e = cc
+    each (Some h) e = cc
+turn-asks (Handled what x) p q i g e = absurd (each (goes_after p what x) e)
+  where
+    each : (b : Bool) → handled_step x b p ≡ Do.Wait i g q → ⊥
+    each true e = cc
+    each false e = cc
+turn-asks _ p q i g e = cc
+
+-- callers and turns ask
+pub waits-asking : (f : Frame) (p q : Pool) (i : Item) (g : Frame) → step f p ≡ Do.Wait i g q → (ask : Ask) × (i ≡ Asked ask)
+waits-asking (frame.Call (Asking ask)) p q i g e = (ask, cc)
+waits-asking (frame.Turn f) p q i g e = turn-asks f p q i g e
 waits-asking (frame.Call (Doing ask c)) p q i g e = absurd (subst GoesOn e (plan-goes_on ask (planned p c) p))
 waits-asking (frame.Free f) p q i g e = absurd (free-waits (free_step f p) q i g e)
 waits-asking _ p q i g e = cc
@@ -223,9 +262,7 @@ waits-asking _ p q i g e = cc
 only-asks : (f : Frame) (p q : Pool) (i : Item) (g : Frame) → step f p ≡ Do.Wait i g q → IsQuestion i
 only-asks f p q i g e =
     let w = waits-asking f p q i g e in
-    let e' : Do.Wait (Asked w.0) (frame.Call (Asking w.0)) p ≡ Do.Wait i g q = ap (λ (z : Frame). step z p) (sym w.1) ∙ e in
-    let e'' : Asked w.0 ≡ i = cc in
-    subst IsQuestion e'' tt
+    subst IsQuestion (sym w.1) tt
 
 abbrev WholeAt : Frame → List Frame → Pool → Type 0
 WholeAt f fs p = IsConsistent (record { innermost = f; below = fs; pool = p })

@@ -7,6 +7,8 @@ use Rattle.tree_specs.specs.declared.row.Mark.TheVariants.{Quiet}
 use Rattle.tree_specs.specs.declared.frame.Frame.{Frame}
 use Rattle.tree_specs.specs.declared.frame.Frame.TheVariants as frame
 use Rattle.tree_specs.specs.declared.frame.CallFrame.TheVariants.{Asking}
+use Rattle.tree_specs.specs.declared.frame.TurnFrame.{TurnFrame}
+use Rattle.tree_specs.specs.declared.frame.TurnFrame.TheVariants.{Taking}
 use Rattle.tree_specs.specs.declared.frame.FreeFrame.TheVariants.{AfterChild}
 use Rattle.tree_specs.specs.declared.free_step.FreeReply.TheVariants.{Running}
 use Rattle.tree_specs.specs.declared.free_step.FreeReply.{FreeReply}
@@ -48,9 +50,14 @@ call-fits : (f : CallFrame) → Fits (profile (frame.Call f))
 call-fits (Asking q) = record { waiting = omega arith; rounds = omega arith; steps = omega arith; adds = omega arith }
 call-fits _ = record { waiting = omega arith; rounds = omega arith; steps = omega arith; adds = omega arith }
 
+turn-fits : (f : TurnFrame) → Fits (profile (frame.Turn f))
+turn-fits Taking = record { waiting = omega arith; rounds = omega arith; steps = omega arith; adds = omega arith }
+turn-fits _ = record { waiting = omega arith; rounds = omega arith; steps = omega arith; adds = omega arith }
+
 fits : (f : Frame) → Fits (profile f)
 fits (frame.Free f) = free-fits f
 fits (frame.Call f) = call-fits f
+fits (frame.Turn f) = turn-fits f
 
 below-light : (fs : List Frame) → below_cost fs ≤ 3 * sizes fs
 below-light [] = omega arith

@@ -18,7 +18,8 @@ use Rattle.tree_specs.specs.declared.question.Ask.{Ask}
 use Rattle.tree_specs.specs.declared.frame.Frame.{Frame}
 use Rattle.tree_specs.specs.declared.frame.Frame.TheVariants as frame
 use Rattle.tree_specs.specs.declared.frame.CallFrame.TheVariants.{Asking, Awaiting, Returning}
-use Rattle.tree_specs.specs.declared.frame.FreeFrame.TheVariants.{Unlinking, Releasing, Giving, Beginning, Judged, Leaving, Looping, FreeingChild, AfterChild, Ending}
+use Rattle.tree_specs.specs.declared.frame.TurnFrame.TheVariants.{Clearing}
+use Rattle.tree_specs.specs.declared.frame.FreeFrame.TheVariants.{Unlinking, Releasing, Giving, Beginning, Hooked, Judged, Dooming, Leaving, Looping, FreeingChild, AfterChild, Ending}
 use Rattle.tree_specs.specs.declared.frame.Purpose.{Purpose}
 use Rattle.tree_specs.specs.declared.frame.Purpose.TheVariants.{Removal, Emptying}
 use Rattle.tree_specs.specs.declared.frame.Answer.{Answer}
@@ -26,7 +27,7 @@ use Rattle.tree_specs.specs.declared.frame.Answer.TheVariants.{Freed, Returned}
 use Rattle.tree_specs.specs.declared.free_step.FreeReply.{FreeReply}
 use Rattle.tree_specs.specs.declared.free_step.FreeReply.TheVariants.{Ok, Running, Refused, Held}
 use Rattle.tree_specs.specs.Words.Objects.{same, same_owner}
-use Rattle.tree_specs.specs.Tree.Pool.{Pool, row_of, is_below, owner_of, first_kid, without, changed, remove, left_row, place, set_mark, marked_row, hooked_row, target_at, newest_ref_of, is_inside}
+use Rattle.tree_specs.specs.Tree.Pool.{Pool, row_of, is_below, owner_of, first_kid, without, changed, remove, left_row, place, doom, marked_row, hooked_row, target_at, newest_ref_of, is_inside}
 use Rattle.tree_specs.specs.Tree.Heirs.{heir}
 use Rattle.tree_specs.specs.Rules.Items.{Item}
 use Rattle.tree_specs.specs.Machine.Table.{table, step, resume, lifted, begin_quiet, begin_step, judge_step, last_step, loop_step, child_step, refs_step, unlink_step, release_step, hand_on_step}
@@ -37,7 +38,7 @@ use Rattle.tree_specs.proofs.Calls.Checks.{Heard, HeardCall, HeardReturn, heard-
 use Rattle.tree_specs.specs.Tree.Inside.{total}
 use Rattle.tree_specs.specs.Invariants.Measure.{count, mark_weight, weight, row_worth, waiting_cost, top_cost, cost, pending, loop_kids}
 use Rattle.tree_specs.proofs.Tree.Rows.{total-without, total-placed, total-changed, total-length, count-length}
-use Rattle.tree_specs.proofs.Invariants.Waiters.{Waiter, ForFree, ForRun, ForChild, waiter}
+use Rattle.tree_specs.proofs.Invariants.Waiters.{Waiter, ForFree, ForRun, ForChild, ForTurn, ForHandler, ForClear, waiter}
 use Rattle.tree_specs.proofs.Invariants.Changes.{dying-row, running-row, claim-here, owned-row, heir-placed}
 
 -- R bounds the rows that there can be
@@ -48,7 +49,7 @@ abbrev pub Lowers : ℕ → ℕ → Move Frame Answer Pool Item → List Frame �
 Lowers R b m fs k = Leads table (λ g gs q j. Room R g q j × (cost R g gs q j < b)) m fs k
 
 -- a work that ends pays for what the work below it begins
-done-lower : (R : ℕ) (a : Answer) (f : Frame) (fs : List Frame) (p : Pool) (k : ℕ) → AllWait fs → length p.rows + 2 * k ≤ R
+pub done-lower : (R : ℕ) (a : Answer) (f : Frame) (fs : List Frame) (p : Pool) (k : ℕ) → AllWait fs → length p.rows + 2 * k ≤ R
     → ((g : Frame) (gs : List Frame) → fs ≡ g ∷ gs → IsWaiting g gs → top_cost R (resume g a) gs p.rows < waiting_cost g + top_cost R f fs p.rows)
     → Lowers R (cost R f fs p k) (Do.Done a p) fs k
 done-lower R a f [] p k w room pays = tt
@@ -58,19 +59,22 @@ done-lower R a f (g ∷ gs) p k w room pays =
   where
     calm : (g : Frame) → Waiter g → Room R (resume g a) p k
     calm _ (ForFree q x) = omega arith
-    calm _ (ForRun x h) = omega arith
     calm _ (ForChild x c noted purpose) = omega arith
+    calm _ _ = omega arith
 
 -- what a work that is over pays for
 over-pays : (R : ℕ) (a : FreeReply) → IsOver a → (rows : List Row) → length rows ≤ R → (g : Frame) (gs : List Frame) → Waiter g → top_cost R (resume g (Freed a)) gs rows < waiting_cost g + (4 * R + 9)
 over-pays R a o rows n _ gs (ForFree q x) = omega arith
 over-pays R a o rows n _ gs (ForRun x h) = omega arith
+over-pays R a o rows n _ gs (ForTurn q) = omega arith
+over-pays R a o rows n _ gs (ForHandler what x h now) = omega arith
+over-pays R a o rows n _ gs (ForClear x) = omega arith
 over-pays R Ok o rows n _ gs (ForChild x c noted purpose) = let m = count-length rows (Of x) in omega (arith, m, n)
 over-pays R Held o rows n _ gs (ForChild x c noted purpose) = let m = count-length rows (Of x) in omega (arith, m, n)
 over-pays R (Refused v) o rows n _ gs (ForChild x c noted purpose) = let m = count-length rows (Of x) in omega (arith, m, n)
 over-pays R Running o rows n _ gs (ForChild x c noted purpose) = absurd o
 
-pub ending-lower : (R : ℕ) (a : FreeReply) (fs : List Frame) (p : Pool) (k : ℕ) → Sound (frame.Free (Ending a)) fs p → Room R (frame.Free (Ending a)) p k
+ending-lower : (R : ℕ) (a : FreeReply) (fs : List Frame) (p : Pool) (k : ℕ) → Sound (frame.Free (Ending a)) fs p → Room R (frame.Free (Ending a)) p k
     → Lowers R (cost R (frame.Free (Ending a)) fs p k) (step (frame.Free (Ending a)) p) fs k
 ending-lower R a fs p k s room = done-lower R (Freed a) (frame.Free (Ending a)) fs p k s.waiting (omega arith) (λ g gs e w. let l = over-pays R a s.rests.0 p.rows (omega arith) g gs (waiter g gs w) in omega (arith, l))
 
@@ -82,8 +86,7 @@ returning-lower R v fs p k s room = done-lower R (Returned v) (frame.Call (Retur
   where
     as-over : (g : Frame) (gs : List Frame) → Waiter g → top_cost R (resume g (Returned v)) gs p.rows ≡ top_cost R (resume g (Freed Ok)) gs p.rows
     as-over _ gs (ForFree q x) = refl
-    as-over _ gs (ForRun x h) = refl
-    as-over _ gs (ForChild x c noted purpose) = refl
+    as-over _ gs _ = refl
 
 pub asking-lower : (R : ℕ) (q : Ask) (fs : List Frame) (p : Pool) (k : ℕ) → Room R (frame.Call (Asking q)) p k
     → Lowers R (cost R (frame.Call (Asking q)) fs p k) (step (frame.Call (Asking q)) p) fs k
@@ -105,12 +108,12 @@ length-without rs x r e = omega (arith, total-without (λ q. 1) rs x r e, total-
 pub total-kept : (w : Row → ℕ) (g : Row → Row) (rs : List Row) (x : Obj) (r : Row) → row_of rs x ≡ Some r → w (g r) ≡ w r → total w (changed g rs x) ≡ total w rs
 total-kept w g rs x r e same_weight = omega (arith, total-changed w g rs x r e, same_weight)
 
-live-weight : (m : Mark) → IsLive m → mark_weight m ≡ 2
+pub live-weight : (m : Mark) → IsLive m → mark_weight m ≡ 2
 live-weight (Dying former) l = absurd l
 live-weight _ l = refl
 
 -- it leaves its owner
-pub leaving-lower : (R : ℕ) (x : Obj) (h : ℕ) (fs : List Frame) (p : Pool) (k : ℕ) → Sound (frame.Free (Leaving x h)) fs p → Room R (frame.Free (Leaving x h)) p k
+leaving-lower : (R : ℕ) (x : Obj) (h : ℕ) (fs : List Frame) (p : Pool) (k : ℕ) → Sound (frame.Free (Leaving x h)) fs p → Room R (frame.Free (Leaving x h)) p k
     → Lowers R (cost R (frame.Free (Leaving x h)) fs p k) (step (frame.Free (Leaving x h)) p) fs k
 leaving-lower R x h fs p k s room = by-row s.rests.0 s.rests.1 s.rests.2
   where
@@ -143,7 +146,7 @@ dropped-lower R f g fs p k r t s is room most = by-row (row_of p.rows r) refl (s
         let m = most (omega (arith, n)) in
         (omega (arith, n), omega (arith, u, m))
 
-pub looping-lower : (R : ℕ) (x : Obj) (purpose : Purpose) (fs : List Frame) (p : Pool) (k : ℕ) → Sound (frame.Free (Looping x purpose)) fs p → Room R (frame.Free (Looping x purpose)) p k
+looping-lower : (R : ℕ) (x : Obj) (purpose : Purpose) (fs : List Frame) (p : Pool) (k : ℕ) → Sound (frame.Free (Looping x purpose)) fs p → Room R (frame.Free (Looping x purpose)) p k
     → Lowers R (cost R (frame.Free (Looping x purpose)) fs p k) (step (frame.Free (Looping x purpose)) p) fs k
 looping-lower R x purpose fs p k s most = each (first_kid p.rows (Of x)) refl
   where
@@ -155,9 +158,10 @@ looping-lower R x purpose fs p k s most = each (first_kid p.rows (Of x)) refl
         let n = length-without p.rows x r e in
         (omega (arith, n), omega (arith, u))
 
-    -- a call is what waits for a loop that only empties
+    -- a call or a turn is what waits for a loop that only empties
     called : (g : Frame) (gs : List Frame) → Stands Emptying (footing (g ∷ gs)) → top_cost R (resume g (Freed Ok)) gs p.rows < waiting_cost g + (4 * count p.rows (Of x) + 7)
     called (frame.Call (Awaiting q y)) gs c = omega arith
+    called (frame.Turn (Clearing y)) gs c = omega arith
     called _ gs c = absurd c
 
     last : (purpose : Purpose) → Sound (frame.Free (Looping x purpose)) fs p → Lowers R (cost R (frame.Free (Looping x purpose)) fs p k) (lifted (last_step x purpose p)) fs k
@@ -200,7 +204,7 @@ handed-most x c noted f fs p s below =
     (λ t. rw t (let w' = rw was at w in omega (arith, w')))
     (λ t. rw t (let w' = rw was at w in omega (arith, w'))))
 
-pub tried-lower : (R : ℕ) (x c : Obj) (noted : Option Owner) (purpose : Purpose) (a : FreeReply) (fs : List Frame) (p : Pool) (k : ℕ) → Sound (frame.Free (AfterChild x c noted purpose a)) fs p
+tried-lower : (R : ℕ) (x c : Obj) (noted : Option Owner) (purpose : Purpose) (a : FreeReply) (fs : List Frame) (p : Pool) (k : ℕ) → Sound (frame.Free (AfterChild x c noted purpose a)) fs p
     → Room R (frame.Free (AfterChild x c noted purpose a)) p k → Lowers R (cost R (frame.Free (AfterChild x c noted purpose a)) fs p k) (step (frame.Free (AfterChild x c noted purpose a)) p) fs k
 tried-lower R x c noted purpose a fs p k s room = each a s
   where
@@ -227,29 +231,34 @@ tried-lower R x c noted purpose a fs p k s room = each a s
     each (Refused v) s = handed (Refused v) refl s
 
 -- a freeing that ends at once is no loop's child, or is said to run
-at_once-lower : (R : ℕ) (a : FreeReply) (x : Obj) (fs : List Frame) (p p' : Pool) (k : ℕ) → (a ≡ Running) ⊎ ((o : Owner) → owner_of p.rows x ≢ Some o) → Tries x (footing fs) p → AllWait fs
-    → total weight p'.rows ≡ total weight p.rows → length p'.rows ≡ length p.rows → ((y : Obj) → count p'.rows (Of y) ≡ count p.rows (Of y)) → Room R (frame.Free (Beginning x)) p k
-    → Lowers R (cost R (frame.Free (Beginning x)) fs p k) (Do.Done (Freed a) p') fs k
-at_once-lower R a x [] p p' k h t w e n m room = tt
-at_once-lower R a x (g ∷ gs) p p' k h t w e n m room = below g (waiter g gs w.0) t
+at_once-lower : (R : ℕ) (a : FreeReply) (x : Obj) (f : FreeFrame) (fs : List Frame) (p : Pool) (k : ℕ) → (a ≡ Running) ⊎ ((o : Owner) → owner_of p.rows x ≢ Some o) → Tries x (footing fs) p
+    → AllWait fs
+    → loop_kids p.rows fs + 5 ≤ top_cost R (frame.Free f) fs p.rows → Room R (frame.Free f) p k → Lowers R (cost R (frame.Free f) fs p k) (Do.Done (Freed a) p) fs k
+at_once-lower R a x f [] p k h t w most room = tt
+at_once-lower R a x f (g ∷ gs) p k h t w most room = below g (waiter g gs w.0) t most
   where
-    u : row_worth R * total weight p'.rows ≡ row_worth R * total weight p.rows
-    u = ap (λ (z : ℕ). row_worth R * z) e
-
     runs : (y c : Obj) (noted : Option Owner) (purpose : Purpose) (a : FreeReply) → a ≡ Running
-        → Room R (frame.Free (AfterChild y c noted purpose a)) p' k × (cost R (frame.Free (AfterChild y c noted purpose a)) gs p' k < cost R (frame.Free (Beginning x)) (frame.Free (FreeingChild y c noted purpose) ∷ gs) p k)
-    runs y c noted purpose Running is = (omega (arith, n), omega (arith, u, m y))
-    runs y c noted purpose _ is = cc
+        → 4 * count p.rows (Of y) + 5 ≤ top_cost R (frame.Free f) (frame.Free (FreeingChild y c noted purpose) ∷ gs) p.rows
+        → Room R (frame.Free (AfterChild y c noted purpose a)) p k × (cost R (frame.Free (AfterChild y c noted purpose a)) gs p k < cost R (frame.Free f) (frame.Free (FreeingChild y c noted purpose) ∷ gs) p k)
+    runs y c noted purpose Running is most = (omega arith, omega (arith, most))
+    runs y c noted purpose _ is most = cc
 
-    below : (g : Frame) → Waiter g → Tries x (footing (g ∷ gs)) p → Lowers R (cost R (frame.Free (Beginning x)) (g ∷ gs) p k) (Do.Done (Freed a) p') (g ∷ gs) k
-    below _ (ForFree q y) t = (omega (arith, n), omega (arith, u))
-    below _ (ForRun y f) t = absurd t
-    below _ (ForChild y c noted purpose) t = elim h [
-      | inl is ↦ runs y c noted purpose a is
+    below : (g : Frame) → Waiter g → Tries x (footing (g ∷ gs)) p → loop_kids p.rows (g ∷ gs) + 5 ≤ top_cost R (frame.Free f) (g ∷ gs) p.rows
+        → Lowers R (cost R (frame.Free f) (g ∷ gs) p k) (Do.Done (Freed a) p) (g ∷ gs) k
+    below _ (ForFree q y) t most = (omega arith, omega (arith, most))
+    below _ (ForClear y) t most = (omega arith, omega (arith, most))
+    below _ (ForChild y c noted purpose) t most = elim h [
+      | inl is ↦ runs y c noted purpose a is most
       | inr none ↦ absurd (none (Of y) t.1)
     ]
+    below _ _ t most = absurd t
 
-pub beginning-lower : (R : ℕ) (x : Obj) (fs : List Frame) (p : Pool) (k : ℕ) → Sound (frame.Free (Beginning x)) fs p → Room R (frame.Free (Beginning x)) p k
+-- an event that is to be freed after its handler is said to run
+dooming-lower : (R : ℕ) (x : Obj) (fs : List Frame) (p : Pool) (k : ℕ) → Sound (frame.Free (Dooming x)) fs p → Room R (frame.Free (Dooming x)) p k
+    → Lowers R (cost R (frame.Free (Dooming x)) fs p k) (step (frame.Free (Dooming x)) p) fs k
+dooming-lower R x fs p k s room = at_once-lower R Running x (Dooming x) fs p k (inl refl) s.rests.0 s.waiting (omega arith) room
+
+beginning-lower : (R : ℕ) (x : Obj) (fs : List Frame) (p : Pool) (k : ℕ) → Sound (frame.Free (Beginning x)) fs p → Room R (frame.Free (Beginning x)) p k
     → Lowers R (cost R (frame.Free (Beginning x)) fs p k) (step (frame.Free (Beginning x)) p) fs k
 beginning-lower R x fs p k s room = newest (newest_ref p.rows x) refl
   where
@@ -262,15 +271,20 @@ beginning-lower R x fs p k s room = newest (newest_ref p.rows x) refl
         let bad : IsLive (Dying former) = rw m at l in bad
 
     over : ((o : Owner) → owner_of p.rows x ≢ Some o) → Lowers R (cost R (frame.Free (Beginning x)) fs p k) (Do.Done (Freed Ok) p) fs k
-    over none = at_once-lower R Ok x fs p p k (inr none) s.rests.0 s.waiting refl refl (λ y. refl) room
+    over none = at_once-lower R Ok x (Beginning x) fs p k (inr none) s.rests.0 s.waiting (omega arith) room
 
     runs : Lowers R (cost R (frame.Free (Beginning x)) fs p k) (Do.Done (Freed Running) p) fs k
-    runs = at_once-lower R Running x fs p p k (inl refl) s.rests.0 s.waiting refl refl (λ y. refl) room
+    runs = at_once-lower R Running x (Beginning x) fs p k (inl refl) s.rests.0 s.waiting (omega arith) room
 
-    dooms : (r : Row) → row_of p.rows x ≡ Some r → r.mark ≡ Busy → Lowers R (cost R (frame.Free (Beginning x)) fs p k) (Do.Done (Freed Running) (set_mark p x Doomed)) fs k
-    dooms r e m = at_once-lower R Running x fs p (set_mark p x Doomed) k (inl refl) s.rests.0 s.waiting
-        (total-kept weight (marked_row Doomed) p.rows x r e (sym (ap mark_weight m))) (length-changed (marked_row Doomed) p.rows x)
-        (λ y. total-kept (λ q. if is_below q.owner (Of y) then 1 else 0) (marked_row Doomed) p.rows x r e refl) room
+    dooms : (r : Row) → row_of p.rows x ≡ Some r → r.mark ≡ Busy → Lowers R (cost R (frame.Free (Beginning x)) fs p k) (Do.Go (frame.Free (Dooming x)) (doom p x)) fs k
+    dooms r e m =
+        let u = ap (λ (z : ℕ). row_worth R * z) (total-kept weight (marked_row Doomed) p.rows x r e (sym (ap mark_weight m))) in
+        (omega (arith, length-changed (marked_row Doomed) p.rows x), omega (arith, u, kids fs))
+      where
+        kids : (fs : List Frame) → loop_kids (doom p x).rows fs ≡ loop_kids p.rows fs
+        kids [] = refl
+        kids (frame.Free (FreeingChild y c noted purpose) ∷ fs) = ap (λ (z : ℕ). 4 * z) (total-kept (λ q. if is_below q.owner (Of y) then 1 else 0) (marked_row Doomed) p.rows x r e refl)
+        kids (_ ∷ fs) = refl
 
     quiet : (r : Row) → row_of p.rows x ≡ Some r → r.mark ≡ Quiet → Lowers R (cost R (frame.Free (Beginning x)) fs p k) (lifted (begin_quiet x r.hook p)) fs k
     quiet r e m = by_test (nat_eq r.hook 0)
@@ -300,7 +314,7 @@ beginning-lower R x fs p k s room = newest (newest_ref p.rows x) refl
         (λ t. rw t (dropped-lower R (Beginning x) (Ending Held) fs p k r x s is room (λ h. omega arith))))
 
 -- an owner gives an object up
-pub unlinking-lower : (R : ℕ) (o : Owner) (x : Obj) (fs : List Frame) (p : Pool) (k : ℕ) → Sound (frame.Free (Unlinking o x)) fs p → Room R (frame.Free (Unlinking o x)) p k
+unlinking-lower : (R : ℕ) (o : Owner) (x : Obj) (fs : List Frame) (p : Pool) (k : ℕ) → Sound (frame.Free (Unlinking o x)) fs p → Room R (frame.Free (Unlinking o x)) p k
     → Lowers R (cost R (frame.Free (Unlinking o x)) fs p k) (step (frame.Free (Unlinking o x)) p) fs k
 unlinking-lower R o x fs p k s room = each (newest_ref_of p.rows o x) refl
   where
@@ -310,7 +324,7 @@ unlinking-lower R o x fs p k s room = each (newest_ref_of p.rows o x) refl
         let w = newest-of-refers p.rows o x r s.forest.distinct e in
         rw e (dropped-lower R (Unlinking o x) (Ending Ok) fs p k r x s (rw w.1 w.2) room (λ h. omega arith))
 
-pub releasing-lower : (R : ℕ) (x : Obj) (fs : List Frame) (p : Pool) (k : ℕ) → Sound (frame.Free (Releasing x)) fs p → Room R (frame.Free (Releasing x)) p k
+releasing-lower : (R : ℕ) (x : Obj) (fs : List Frame) (p : Pool) (k : ℕ) → Sound (frame.Free (Releasing x)) fs p → Room R (frame.Free (Releasing x)) p k
     → Lowers R (cost R (frame.Free (Releasing x)) fs p k) (step (frame.Free (Releasing x)) p) fs k
 releasing-lower R x fs p k s room = each (newest_ref p.rows x) refl
   where
@@ -323,14 +337,14 @@ releasing-lower R x fs p k s room = each (newest_ref p.rows x) refl
         (λ t. rw t (dropped-lower R (Releasing x) (Releasing x) fs p k r x s is room (λ h. let m = kids-most R (without p.rows r) fs h in omega (arith, m))))
         (λ t. rw t (dropped-lower R (Releasing x) (Giving x (unwrap_or (owner_of p.rows r) Root)) fs p k r x s is room (λ h. omega arith))))
 
-pub giving-lower : (R : ℕ) (x : Obj) (o : Owner) (fs : List Frame) (p : Pool) (k : ℕ) → Sound (frame.Free (Giving x o)) fs p → Room R (frame.Free (Giving x o)) p k
+giving-lower : (R : ℕ) (x : Obj) (o : Owner) (fs : List Frame) (p : Pool) (k : ℕ) → Sound (frame.Free (Giving x o)) fs p → Room R (frame.Free (Giving x o)) p k
     → Lowers R (cost R (frame.Free (Giving x o)) fs p k) (step (frame.Free (Giving x o)) p) fs k
 giving-lower R x o fs p k s room =
     let n = length-placed p o x s.rests.row s.rests.is in
     let u = ap (λ (z : ℕ). row_worth R * z) (total-placed weight p o x s.rests.row s.rests.is refl) in
     (omega (arith, n), omega (arith, u))
 
-pub judged-lower : (R : ℕ) (x : Obj) (h v : ℕ) (fs : List Frame) (p : Pool) (k : ℕ) → Sound (frame.Free (Judged x h v)) fs p → Room R (frame.Free (Judged x h v)) p k
+judged-lower : (R : ℕ) (x : Obj) (h v : ℕ) (fs : List Frame) (p : Pool) (k : ℕ) → Sound (frame.Free (Judged x h v)) fs p → Room R (frame.Free (Judged x h v)) p k
     → Lowers R (cost R (frame.Free (Judged x h v)) fs p k) (step (frame.Free (Judged x h v)) p) fs k
 judged-lower R x h v fs p k s room =
     let row = running-row (row_of p.rows x) (claims x fs) (claim-here x InRun (claims x fs) (row_of p.rows x) (s.open_frees x)) in
@@ -342,3 +356,17 @@ judged-lower R x h v fs p k s room =
         let n = length-changed (hooked_row 0) p.rows x in rw t (omega (arith, n), omega (arith, u)))
         (λ t. let u = ap (λ (z : ℕ). row_worth R * z) (total-kept weight (marked_row Quiet) p.rows x r e (sym (live-weight r.mark live))) in
         let n = length-changed (marked_row Quiet) p.rows x in rw t (omega (arith, n), omega (arith, u)))
+
+pub free-lower : (R : ℕ) (f : FreeFrame) (fs : List Frame) (p : Pool) (k : ℕ) → Sound (frame.Free f) fs p → Room R (frame.Free f) p k → Lowers R (cost R (frame.Free f) fs p k) (step (frame.Free f) p) fs k
+free-lower R (Unlinking o x) fs p k s room = unlinking-lower R o x fs p k s room
+free-lower R (Releasing x) fs p k s room = releasing-lower R x fs p k s room
+free-lower R (Giving x o) fs p k s room = giving-lower R x o fs p k s room
+free-lower R (Beginning x) fs p k s room = beginning-lower R x fs p k s room
+free-lower R (Judged x h v) fs p k s room = judged-lower R x h v fs p k s room
+free-lower R (Dooming x) fs p k s room = dooming-lower R x fs p k s room
+free-lower R (Leaving x h) fs p k s room = leaving-lower R x h fs p k s room
+free-lower R (Looping x purpose) fs p k s room = looping-lower R x purpose fs p k s room
+free-lower R (AfterChild x c noted purpose a) fs p k s room = tried-lower R x c noted purpose a fs p k s room
+free-lower R (Ending answer) fs p k s room = ending-lower R answer fs p k s room
+free-lower R (Hooked x h) fs p k s room = (omega arith, omega arith)
+free-lower R _ fs p k s room = absurd s.rests

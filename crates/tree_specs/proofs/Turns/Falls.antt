@@ -7,23 +7,28 @@ use Rattle.step_machine.proofs.Ends.{Leads, Falls}
 use Rattle.tree_specs.specs.declared.object.Owner.TheVariants.{Of}
 use Rattle.tree_specs.specs.declared.call.Call.{Call}
 use Rattle.tree_specs.specs.declared.question.Ask.{Ask}
+use Rattle.tree_specs.specs.declared.question.Ask.TheVariants.{Quiet}
 use Rattle.tree_specs.specs.declared.frame.Frame.{Frame}
 use Rattle.tree_specs.specs.declared.frame.Frame.TheVariants as frame
 use Rattle.tree_specs.specs.declared.frame.CallFrame.TheVariants.{Warning, Telling, Asking, Doing, Returning}
-use Rattle.tree_specs.specs.declared.frame.FreeFrame.TheVariants.{Hooked, Unlinking, Releasing, Giving, Beginning, Judged, Leaving, Looping, AfterChild, Ending}
 use Rattle.tree_specs.specs.declared.frame.Answer.{Answer}
 use Rattle.tree_specs.specs.Tree.Pool.{Pool}
 use Rattle.tree_specs.specs.Rules.Items.{Item}
 use Rattle.tree_specs.specs.Calls.Plans.{Plan, planned, changed_by}
-use Rattle.tree_specs.specs.Calls.Plans.Plan.{Does, Frees, Unlinks, Empties}
-use Rattle.tree_specs.specs.Machine.Table.{table, step, plan_step}
+use Rattle.tree_specs.specs.Calls.Plans.Plan.{Does, Frees, Unlinks, Empties, AsksTime, Turns}
+use Rattle.tree_specs.specs.Machine.Table.{table, step, plan_step, turning_step}
 use Rattle.tree_specs.specs.Invariants.Sound.{Sound}
 use Rattle.tree_specs.specs.Tree.Inside.{total}
 use Rattle.tree_specs.specs.Invariants.Measure.{weight, row_worth, cost}
 use Rattle.tree_specs.proofs.Tree.Rows.{count-length}
 use Rattle.tree_specs.proofs.Calls.Plans.{May, follows, may-planned}
 use Rattle.tree_specs.proofs.Invariants.Keeps.{sound-kept}
-use Rattle.tree_specs.proofs.Turns.FallingFrees.{Lowers, Room, asking-lower, beginning-lower, ending-lower, giving-lower, judged-lower, leaving-lower, looping-lower, releasing-lower, returning-lower, tried-lower, unlinking-lower}
+use Rattle.tree_specs.proofs.Turns.FallingFrees.{Lowers, Room, asking-lower, returning-lower, free-lower}
+use Rattle.tree_specs.proofs.Turns.FallingTurns.{turn-lower}
+
+turning-lower : (R : ℕ) (q : Ask) (c : Call) (fs : List Frame) (p : Pool) (k : ℕ) → Room R (frame.Call (Doing q c)) p k → Lowers R (cost R (frame.Call (Doing q c)) fs p k) (turning_step q p) fs k
+turning-lower R Quiet c fs p k room = (omega arith, omega arith)
+turning-lower R q c fs p k room = (omega arith, omega arith)
 
 -- the first step of a plan that may be carried out
 planned-lower : (R : ℕ) (q : Ask) (c : Call) (fs : List Frame) (p : Pool) (k : ℕ) → Room R (frame.Call (Doing q c)) p k → (plan : Plan) → May p plan
@@ -35,24 +40,18 @@ planned-lower R q c fs p k room (Does change (Some x) r) may =
 planned-lower R q c fs p k room (Frees x) may = (omega arith, omega arith)
 planned-lower R q c fs p k room (Unlinks o x) may = (omega arith, omega arith)
 planned-lower R q c fs p k room (Empties x) may = let m = count-length p.rows (Of x) in (omega arith, omega arith)
+planned-lower R q c fs p k room AsksTime may = (omega arith, omega arith)
+planned-lower R q c fs p k room Turns may = turning-lower R q c fs p k room
 
 -- every step lowers the measure
 pub lower : (R : ℕ) (f : Frame) (fs : List Frame) (p : Pool) (k : ℕ) → Sound f fs p → Room R f p k → Lowers R (cost R f fs p k) (step f p) fs k
 lower R (frame.Call (Asking q)) fs p k s room = asking-lower R q fs p k room
 lower R (frame.Call (Doing q c)) fs p k s room = planned-lower R q c fs p k room (planned p c) (may-planned (frame.Call (Doing q c)) fs p s c)
 lower R (frame.Call (Returning v)) fs p k s room = returning-lower R v fs p k s room
-lower R (frame.Free (Unlinking o x)) fs p k s room = unlinking-lower R o x fs p k s room
-lower R (frame.Free (Releasing x)) fs p k s room = releasing-lower R x fs p k s room
-lower R (frame.Free (Giving x o)) fs p k s room = giving-lower R x o fs p k s room
-lower R (frame.Free (Beginning x)) fs p k s room = beginning-lower R x fs p k s room
-lower R (frame.Free (Judged x h v)) fs p k s room = judged-lower R x h v fs p k s room
-lower R (frame.Free (Leaving x h)) fs p k s room = leaving-lower R x h fs p k s room
-lower R (frame.Free (Looping x purpose)) fs p k s room = looping-lower R x purpose fs p k s room
-lower R (frame.Free (AfterChild x c noted purpose a)) fs p k s room = tried-lower R x c noted purpose a fs p k s room
-lower R (frame.Free (Ending answer)) fs p k s room = ending-lower R answer fs p k s room
+lower R (frame.Free f) fs p k s room = free-lower R f fs p k s room
 lower R (frame.Call (Warning q x r)) fs p k s room = (omega arith, omega arith)
 lower R (frame.Call (Telling q r)) fs p k s room = (omega arith, omega arith)
-lower R (frame.Free (Hooked x h)) fs p k s room = (omega arith, omega arith)
+lower R (frame.Turn f) fs p k s room = turn-lower R f fs p k s room
 lower R _ fs p k s room = absurd s.rests
 
 -- what the measure speaks of

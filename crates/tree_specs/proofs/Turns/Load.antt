@@ -1,14 +1,14 @@
 -- The stated number of turns is above the measure at every moment, and each work stands where it may.
-use Rattle.tree_specs.specs.Machine.Profiles.{InRun, InLoop}
+use Rattle.tree_specs.specs.Machine.Profiles.{InRun, InHandler, InLoop}
 use Rattle.tree_specs.specs.declared.event.Event.TheVariants.{Unreferenced}
 use Rattle.tree_specs.specs.Rules.Items.Item.{Told}
 use Rattle.std.specs.Prelude.{unwrap_or}
 use Rattle.tree_specs.proofs.Tree.Referring.{newest-refers, newest-of-refers}
 use Rattle.tree_specs.proofs.Calls.Plans.{May, follows, may-planned}
 use Rattle.tree_specs.specs.Calls.Plans.{Plan, planned}
-use Rattle.tree_specs.specs.Calls.Plans.Plan.{Does, Frees, Unlinks, Empties}
+use Rattle.tree_specs.specs.Calls.Plans.Plan.{Does, Frees, Unlinks, Empties, AsksTime, Turns}
 use Rattle.tree_specs.specs.Tree.Targets.{newest_ref}
-use Rattle.std.proofs.Common.{◌≡◌, ℕ, suc, zero, ◌+◌, ◌≤◌, List, [], ◌∷◌, Option, Some, None, nat_eq, refl, sym, ◌∙◌, ap, arith}
+use Rattle.std.proofs.Common.{◌≡◌, ℕ, suc, zero, ◌+◌, ◌≤◌, List, [], ◌∷◌, Option, Some, None, nat_eq, refl, sym, ◌∙◌, ap, subst, arith}
 use Rattle.step_machine.specs.Machine.{Move}
 use Rattle.step_machine.specs.Machine.{Move as Do}
 use Rattle.step_machine.proofs.Ends.{Leads}
@@ -24,29 +24,37 @@ use Rattle.tree_specs.specs.declared.question.Ask.TheVariants as asks
 use Rattle.tree_specs.specs.declared.reply.Reply.{Reply}
 use Rattle.tree_specs.specs.declared.frame.Frame.{Frame}
 use Rattle.tree_specs.specs.declared.frame.Frame.TheVariants as frame
-use Rattle.tree_specs.specs.declared.frame.CallFrame.TheVariants.{Asking, Doing, Awaiting, Warning, Telling, Returning}
+use Rattle.tree_specs.specs.declared.frame.CallFrame.TheVariants.{Asking, Doing, Awaiting, Turning, Warning, Telling, Returning}
+use Rattle.tree_specs.specs.declared.frame.TurnFrame.{TurnFrame}
+use Rattle.tree_specs.specs.declared.frame.TurnFrame.TheVariants.{Taking, Timing, Timed, Polling, Starting, Firing, Handling, Handled, Clearing, Reading, Closing}
+use Rattle.tree_specs.specs.declared.handler.Handler.{Handler}
+use Rattle.tree_specs.specs.declared.moment.What.{What}
+use Rattle.tree_specs.specs.declared.reply.Reply.TheVariants as reply
+use Rattle.tree_specs.specs.declared.reply.Refusal.TheVariants as refusal
+use Rattle.tree_specs.specs.Events.Coming.{handler_for, goes_after}
+use Rattle.tree_specs.proofs.Invariants.Turning.{handler-ready, IsPlain, Passes, Pass, look-passes, taken-plain}
 use Rattle.tree_specs.specs.declared.frame.FreeFrame.{FreeFrame}
-use Rattle.tree_specs.specs.declared.frame.FreeFrame.TheVariants.{Unlinking, Releasing, Giving, Beginning, Hooked, Judged, Leaving, Looping, FreeingChild, AfterChild, Ending}
+use Rattle.tree_specs.specs.declared.frame.FreeFrame.TheVariants.{Unlinking, Releasing, Giving, Beginning, Hooked, Judged, Dooming, Leaving, Looping, FreeingChild, AfterChild, Ending}
 use Rattle.tree_specs.specs.declared.frame.Purpose.{Purpose}
 use Rattle.tree_specs.specs.declared.frame.Purpose.TheVariants.{Removal, Emptying}
 use Rattle.tree_specs.specs.declared.frame.Answer.{Answer}
-use Rattle.tree_specs.specs.declared.frame.Answer.TheVariants.{Freed, Returned}
+use Rattle.tree_specs.specs.declared.frame.Answer.TheVariants.{Freed, Returned, Turned}
 use Rattle.tree_specs.specs.declared.free_step.FreeReply.{FreeReply}
 use Rattle.tree_specs.specs.declared.free_step.FreeReply.TheVariants.{Ok, Running, Refused, Held}
-use Rattle.tree_specs.specs.Tree.Pool.{Pool, row_of, is_below, owner_of, first_kid, changed, left_row, set_mark, marked_row, hooked_row, target_at, noted_owner, newest_ref_of, is_inside, remove}
+use Rattle.tree_specs.specs.Tree.Pool.{Pool, row_of, is_below, owner_of, first_kid, changed, left_row, marked_row, hooked_row, target_at, noted_owner, newest_ref_of, is_inside, remove}
 use Rattle.tree_specs.specs.Tree.Heirs.{heir}
 use Rattle.tree_specs.specs.Rules.Items.{Item}
-use Rattle.tree_specs.specs.Machine.Table.{table, step, lifted, begin_quiet, begin_step, judge_step, last_step, loop_step, hand_on_step, plan_step, resume, child_step, refs_step, unlink_step, release_step}
+use Rattle.tree_specs.specs.Machine.Table.{Step, table, step, turning_step, turn_step, starting_step, lifted, begin_quiet, begin_step, judge_step, last_step, loop_step, hand_on_step, plan_step, resume, child_step, refs_step, unlink_step, release_step}
 use Rattle.tree_specs.specs.Invariants.Sound.{phase_of, phases, claims, AllWait, Sound, Refers, IsQuietRow}
 use Rattle.tree_specs.proofs.Tree.Numbered.{by_test}
-use Rattle.tree_specs.specs.Machine.Profiles.{Waits, ARun, profile}
+use Rattle.tree_specs.specs.Machine.Profiles.{Waits, ARun, ATurn, AHandler, profile}
 use Rattle.tree_specs.proofs.Calls.Checks.{Heard, HeardCall, HeardReturn, heard-leads}
 use Rattle.tree_specs.specs.Rules.Story.{later}
-use Rattle.tree_specs.specs.Invariants.Consistent.{IsQuiet, IsOfRoutine, IsCaller, IsRun, IsFree, MayStandOn, Serves, IsStacked, size, innermost_size, sizes, mark_deposit, deposit, IsPaidFor}
+use Rattle.tree_specs.specs.Invariants.Consistent.{IsQuiet, IsOfRoutine, IsCaller, IsRun, IsFree, IsTurn, MayStandOn, Serves, IsStacked, size, innermost_size, sizes, mark_deposit, deposit, IsPaidFor}
 use Rattle.tree_specs.specs.Tree.Inside.{total}
 use Rattle.tree_specs.proofs.Tree.Rows.{total-without, total-placed, total-changed}
-use Rattle.tree_specs.proofs.Invariants.Waiters.{Waiter, ForFree, ForRun, ForChild, waiter}
-use Rattle.tree_specs.proofs.Invariants.Changes.{dying-row, running-row, claim-here, heir-placed}
+use Rattle.tree_specs.proofs.Invariants.Waiters.{Waiter, ForFree, ForRun, ForChild, ForTurn, ForHandler, ForClear, waiter}
+use Rattle.tree_specs.proofs.Invariants.Changes.{dying-row, running-row, handling-row, claim-here, heir-placed}
 use Rattle.tree_specs.proofs.Turns.FallingFrees.{total-kept}
 
 -- what a move leads to stands where it may, and is light
@@ -55,16 +63,21 @@ Placed m fs k = Leads table (λ g gs q j. IsStacked g gs × IsPaidFor g gs q) m 
 
 -- ---- a work in the place of another
 
-pub reseat : (f g : Frame) (fs : List Frame) → (IsCaller f → IsCaller g) → (IsRun f → IsRun g) → (IsFree f → IsFree g) → IsStacked f fs → IsStacked g fs
-reseat f g [] c r k s = c s
-reseat f g (h ∷ hs) c r k s = (serve (profile h).waits s.0, s.1)
+pub reseat : (f g : Frame) (fs : List Frame) → (IsCaller f → IsCaller g) → (IsRun f → IsRun g) → (IsFree f → IsFree g) → (IsTurn f → IsTurn g) → IsStacked f fs → IsStacked g fs
+reseat f g [] c r k t s = c s
+reseat f g (h ∷ hs) c r k t s = (serve (profile h).waits s.0, s.1)
   where
     serve : (w : Waits) → Serves w f → Serves w g
     serve (ARun x h) s = r s
+    serve (AHandler x) s = r s
+    serve ATurn s = t s
     serve _ s = k s
 
 pub reseat-free : (f g : FreeFrame) (fs : List Frame) → IsStacked (frame.Free f) fs → IsStacked (frame.Free g) fs
-reseat-free f g fs s = reseat (frame.Free f) (frame.Free g) fs (λ c. c) (λ r. r) (λ k. tt) s
+reseat-free f g fs s = reseat (frame.Free f) (frame.Free g) fs (λ c. c) (λ r. r) (λ k. tt) (λ t. t) s
+
+reseat-turn : (f g : TurnFrame) (fs : List Frame) → IsStacked (frame.Turn f) fs → IsStacked (frame.Turn g) fs
+reseat-turn f g fs s = reseat (frame.Turn f) (frame.Turn g) fs (λ c. c) (λ r. r) (λ k. k) (λ t. t) s
 
 quiet-later : (q : Ask) (r : Reply) → IsQuiet q → IsQuiet (later q r)
 quiet-later asks.Quiet r h = tt
@@ -79,10 +92,13 @@ not-both asks.Quiet h k = k
 not-both _ h k = h
 
 reseat-told : (q : Ask) (c : Call) (r : Reply) (fs : List Frame) → IsStacked (frame.Call (Doing q c)) fs → IsStacked (frame.Call (Telling (later q r) r)) fs
-reseat-told q c r fs s = reseat (frame.Call (Doing q c)) (frame.Call (Telling (later q r) r)) fs (quiet-later q r) (routine-later q r) (λ k. k) s
+reseat-told q c r fs s = reseat (frame.Call (Doing q c)) (frame.Call (Telling (later q r) r)) fs (quiet-later q r) (routine-later q r) (λ z. z) (λ z. z) s
 
 resumed-seated : (g : Frame) (gs : List Frame) (a : Answer) → Waiter g → IsStacked g gs → IsStacked (resume g a) gs
-resumed-seated _ gs a (ForFree q x) s = reseat (frame.Call (Awaiting q x)) (resume (frame.Call (Awaiting q x)) a) gs (quiet-later q _) (routine-later q _) (λ k. k) s
+resumed-seated _ gs a (ForFree q x) s = reseat (frame.Call (Awaiting q x)) (resume (frame.Call (Awaiting q x)) a) gs (quiet-later q _) (routine-later q _) (λ z. z) (λ z. z) s
+resumed-seated _ gs a (ForTurn q) s = reseat (frame.Call (Turning q)) (resume (frame.Call (Turning q)) a) gs (quiet-later q _) (routine-later q _) (λ z. z) (λ z. z) s
+resumed-seated _ gs a (ForHandler w x h now) s = reseat-turn (Handling w x h now) _ gs s
+resumed-seated _ gs a (ForClear x) s = reseat-turn (Clearing x) _ gs s
 resumed-seated _ gs a (ForRun x h) s = reseat-free (Hooked x h) _ gs s
 resumed-seated _ gs a (ForChild x c noted purpose) s = reseat-free (FreeingChild x c noted purpose) _ gs s
 
@@ -95,6 +111,9 @@ size-resume : (f g : Frame) (gs : List Frame) (a : Answer) → Waiter g → MayS
 size-resume f _ gs a (ForFree q x) s = omega arith
 size-resume f _ gs a (ForChild x c noted purpose) s = omega arith
 size-resume f _ gs a (ForRun x h) s = let n = run-size f s in omega (arith, n)
+size-resume f _ gs a (ForTurn q) s = omega arith
+size-resume f _ gs a (ForHandler w x h now) s = let n = run-size f s in omega (arith, n)
+size-resume f _ gs a (ForClear x) s = omega arith
 
 -- a work that ends, over rows whose deposit is as great
 over : (a : Answer) (f : Frame) (fs : List Frame) (p : Pool) (k : ℕ) → AllWait fs → IsStacked f fs → IsPaidFor f fs p → Placed (Do.Done a p) fs k
@@ -106,22 +125,28 @@ asking-placed q fs p zero s l = tt
 asking-placed q fs p (suc k) s l = λ i g e. leads g (heard-leads q i g e)
   where
     leads : (g : Frame) → Heard q g → IsStacked g fs × IsPaidFor g fs p
-    leads _ (HeardCall c) = (reseat (frame.Call (Asking q)) (frame.Call (Doing q c)) fs (λ z. z) (λ z. z) (λ z. z) s, l)
-    leads _ (HeardReturn v of) = (reseat (frame.Call (Asking q)) (frame.Call (Returning v)) fs (λ z. not-both q z of) (λ z. tt) (λ z. z) s, l)
+    leads _ (HeardCall c) = (reseat (frame.Call (Asking q)) (frame.Call (Doing q c)) fs (λ z. z) (λ z. z) (λ z. z) (λ z. z) s, l)
+    leads _ (HeardReturn v of) = (reseat (frame.Call (Asking q)) (frame.Call (Returning v)) fs (λ z. not-both q z of) (λ z. tt) (λ z. z) (λ z. z) s, l)
+
+turning-placed : (q : Ask) (c : Call) (fs : List Frame) (p : Pool) (k : ℕ) → IsStacked (frame.Call (Doing q c)) fs → IsPaidFor (frame.Call (Doing q c)) fs p → Placed (turning_step q p) fs k
+turning-placed asks.Quiet c fs p k s l = ((tt, reseat (frame.Call (Doing asks.Quiet c)) (frame.Call (Turning asks.Quiet)) fs (λ z. z) (λ z. z) (λ z. z) (λ z. z) s), omega (arith, l))
+turning-placed q c fs p k s l = (reseat-told q c (reply.No refusal.Nested) fs s, l)
 
 -- the first step of a plan that may be carried out
 planned-placed : (q : Ask) (c : Call) (fs : List Frame) (p : Pool) (k : ℕ) → IsStacked (frame.Call (Doing q c)) fs → IsPaidFor (frame.Call (Doing q c)) fs p → (plan : Plan) → May p plan → Placed (plan_step q plan p) fs k
 planned-placed q c fs p k s l plan may = each plan may
   where
     awaits : (x : Obj) → IsStacked (frame.Call (Awaiting q x)) fs
-    awaits x = reseat (frame.Call (Doing q c)) (frame.Call (Awaiting q x)) fs (λ z. z) (λ z. z) (λ z. z) s
+    awaits x = reseat (frame.Call (Doing q c)) (frame.Call (Awaiting q x)) fs (λ z. z) (λ z. z) (λ z. z) (λ z. z) s
 
     each : (plan : Plan) → May p plan → Placed (plan_step q plan p) fs k
     each (Does change None r) may = (reseat-told q c r fs s, omega (arith, l, (follows p change may.0).deposit))
-    each (Does change (Some x) r) may = (reseat (frame.Call (Doing q c)) (frame.Call (Warning (later q r) x r)) fs (quiet-later q r) (routine-later q r) (λ z. z) s, omega (arith, l, (follows p change may.0).deposit))
+    each (Does change (Some x) r) may = (reseat (frame.Call (Doing q c)) (frame.Call (Warning (later q r) x r)) fs (quiet-later q r) (routine-later q r) (λ z. z) (λ z. z) s, omega (arith, l, (follows p change may.0).deposit))
     each (Frees x) may = ((tt, awaits x), omega (arith, l))
     each (Unlinks o x) may = ((tt, awaits x), omega (arith, l))
     each (Empties x) may = ((tt, awaits x), omega (arith, l))
+    each AsksTime may = ((tt, reseat (frame.Call (Doing q c)) (frame.Call (Turning q)) fs (λ z. z) (λ z. z) (λ z. z) (λ z. z) s), omega (arith, l))
+    each Turns may = turning-placed q c fs p k s l
 
 -- a reference bears nothing
 dropped-placed : (f g : FreeFrame) (fs : List Frame) (p : Pool) (k : ℕ) (r t : Obj) (e : Item) → Refers p.rows → target_at p.rows r ≡ Some t → innermost_size (frame.Free g) ≤ innermost_size (frame.Free f)
@@ -150,7 +175,7 @@ beginning-placed x fs p k sound s l = newest (newest_ref p.rows x) refl
     marks r Asked m e = rw (e, m) (done Running)
     marks r Busy m e =
         let u : total deposit (changed (marked_row Doomed) p.rows x) ≡ total deposit p.rows = total-kept deposit (marked_row Doomed) p.rows x r e (sym (ap mark_deposit m)) in
-        rw (e, m) (over (Freed Running) (frame.Free (Beginning x)) fs (set_mark p x Doomed) k sound.waiting s (omega (arith, u, l)))
+        rw (e, m) (reseat-free (Beginning x) (Dooming x) fs s, omega (arith, u, l))
     marks r Doomed m e = rw (e, m) (done Running)
     marks r (Dying former) m e = rw (e, m) (done Ok)
 
@@ -258,11 +283,58 @@ tried-placed x c noted purpose a fs p k s seats l = each a
     each Ok = (on, l)
     each _ = handed
 
+-- ---- turns
+
+passes-placed : (f : TurnFrame) (fs : List Frame) (p : Pool) (k : ℕ) (m : Step) → Passes p m → IsStacked (frame.Turn f) fs → IsPaidFor (frame.Turn f) fs p → Placed m fs k
+passes-placed f fs p k _ (Pass g q rows next plain) b l = let z = plain.size in (reseat-turn f g fs b, rw rows (omega (arith, l, z)))
+
+-- what an answer leads to is as light
+asked-placed : (f : TurnFrame) (fs : List Frame) (p : Pool) (g : Frame) (t : TurnFrame) → g ≡ frame.Turn t → IsPlain t 5 → IsStacked (frame.Turn f) fs → IsPaidFor (frame.Turn f) fs p
+    → IsStacked g fs × IsPaidFor g fs p
+asked-placed f fs p g t e plain b l = let z = plain.size in subst (λ (w : Frame). IsStacked w fs × IsPaidFor w fs p) (sym e) (reseat-turn f t fs b, omega (arith, l, z))
+
+starting-placed : (w : What) (x : Obj) (now : ℕ) (fs : List Frame) (p : Pool) (k : ℕ) → IsStacked (frame.Turn (Starting w x now)) fs → IsPaidFor (frame.Turn (Starting w x now)) fs p
+    → Placed (turn_step (Starting w x now) p) fs k
+starting-placed w x now fs p k b l = each (handler_for p w x) refl
+  where
+    each : (o : Option Handler) → handler_for p w x ≡ o → Placed (starting_step w x now (handler_for p w x) p) fs k
+    each None e = rw e (reseat-turn (Starting w x now) (Closing 1) fs b, l)
+    each (Some h) e =
+        let ready = handler-ready p w x h e in
+        let u = total-changed deposit (marked_row Busy) p.rows x ready.row ready.is in
+        rw e (reseat-turn (Starting w x now) (Firing w x h now) fs b, omega (arith, u, l, ap mark_deposit ready.quiet))
+
+handled-placed : (w : What) (x : Obj) (fs : List Frame) (p : Pool) (k : ℕ) → Sound (frame.Turn (Handled w x)) fs p → IsStacked (frame.Turn (Handled w x)) fs
+    → IsPaidFor (frame.Turn (Handled w x)) fs p → Placed (turn_step (Handled w x) p) fs k
+handled-placed w x fs p k s b l =
+    let row = handling-row (row_of p.rows x) (claims x fs) (claim-here x InHandler (claims x fs) (row_of p.rows x) (s.open_frees x)) in
+    let u = total-changed deposit (marked_row Quiet) p.rows x row.0 row.1 in
+    let most = mark_deposit-most row.0.mark in
+    by_test (goes_after p w x)
+    (λ t. rw t ((tt, reseat-turn (Handled w x) (Clearing x) fs b), omega (arith, u, l, most)))
+    (λ t. rw t (reseat-turn (Handled w x) (Closing 1) fs b, omega (arith, u, l, most)))
+
+turn-placed : (f : TurnFrame) (fs : List Frame) (p : Pool) (k : ℕ) → Sound (frame.Turn f) fs p → IsStacked (frame.Turn f) fs → IsPaidFor (frame.Turn f) fs p → Placed (turn_step f p) fs k
+turn-placed Taking fs p k s b l = passes-placed Taking fs p k _ (look-passes Taking p tt) b l
+turn-placed (Timed again now) fs p k s b l = passes-placed (Timed again now) fs p k _ (look-passes (Timed again now) p tt) b l
+turn-placed (Timing again) fs p zero s b l = tt
+turn-placed (Timing again) fs p (suc k) s b l = λ i g e. (let t = taken-plain (Timing again) p i g e in asked-placed (Timing again) fs p g t.0 t.1 t.2 b l)
+turn-placed (Polling limit) fs p zero s b l = tt
+turn-placed (Polling limit) fs p (suc k) s b l = λ i g e. (let t = taken-plain (Polling limit) p i g e in asked-placed (Polling limit) fs p g t.0 t.1 t.2 b l)
+turn-placed Reading fs p zero s b l = tt
+turn-placed Reading fs p (suc k) s b l = λ i g e. (let t = taken-plain Reading p i g e in asked-placed Reading fs p g t.0 t.1 t.2 b l)
+turn-placed (Starting w x now) fs p k s b l = starting-placed w x now fs p k b l
+turn-placed (Firing w x h now) fs p k s b l = (reseat-turn (Firing w x h now) (Handling w x h now) fs b, l)
+turn-placed (Handling w x h now) fs p k s b l = ((tt, b), omega (arith, l))
+turn-placed (Handled w x) fs p k s b l = handled-placed w x fs p k s b l
+turn-placed (Clearing x) fs p k s b l = absurd s.rests
+turn-placed (Closing v) fs p k s b l = over (Turned v) (frame.Turn (Closing v)) fs p k s.waiting b l
+
 pub placed-kept : (f : Frame) (fs : List Frame) (p : Pool) (k : ℕ) → Sound f fs p → IsStacked f fs → IsPaidFor f fs p → Placed (step f p) fs k
 placed-kept (frame.Call (Asking q)) fs p k s b l = asking-placed q fs p k b l
 placed-kept (frame.Call (Doing q c)) fs p k s b l = planned-placed q c fs p k b l (planned p c) (may-planned (frame.Call (Doing q c)) fs p s c)
-placed-kept (frame.Call (Warning q x r)) fs p k s b l = (reseat (frame.Call (Warning q x r)) (frame.Call (Telling q r)) fs (λ z. z) (λ z. z) (λ z. z) b, l)
-placed-kept (frame.Call (Telling q r)) fs p k s b l = (reseat (frame.Call (Telling q r)) (frame.Call (Asking q)) fs (λ z. z) (λ z. z) (λ z. z) b, l)
+placed-kept (frame.Call (Warning q x r)) fs p k s b l = (reseat (frame.Call (Warning q x r)) (frame.Call (Telling q r)) fs (λ z. z) (λ z. z) (λ z. z) (λ z. z) b, l)
+placed-kept (frame.Call (Telling q r)) fs p k s b l = (reseat (frame.Call (Telling q r)) (frame.Call (Asking q)) fs (λ z. z) (λ z. z) (λ z. z) (λ z. z) b, l)
 placed-kept (frame.Call (Returning v)) fs p k s b l = over (Returned v) (frame.Call (Returning v)) fs p k s.waiting b l
 placed-kept (frame.Free (Unlinking o x)) fs p k s b l = unlinking-placed o x fs p k s b l
 placed-kept (frame.Free (Releasing x)) fs p k s b l = releasing-placed x fs p k s b l
@@ -270,8 +342,10 @@ placed-kept (frame.Free (Giving x o)) fs p k s b l = let w = total-placed deposi
 placed-kept (frame.Free (Beginning x)) fs p k s b l = beginning-placed x fs p k s b l
 placed-kept (frame.Free (Hooked x h)) fs p k s b l = ((tt, b), omega (arith, l))
 placed-kept (frame.Free (Judged x h v)) fs p k s b l = judged-placed x h v fs p k s b l
+placed-kept (frame.Free (Dooming x)) fs p k s b l = over (Freed Running) (frame.Free (Dooming x)) fs p k s.waiting b l
 placed-kept (frame.Free (Leaving x h)) fs p k s b l = leaving-placed x h fs p k s b l
 placed-kept (frame.Free (Looping x purpose)) fs p k s b l = looping-placed x purpose fs p k s b l
 placed-kept (frame.Free (AfterChild x c noted purpose a)) fs p k s b l = tried-placed x c noted purpose a fs p k s b l
 placed-kept (frame.Free (Ending answer)) fs p k s b l = over (Freed answer) (frame.Free (Ending answer)) fs p k s.waiting b l
+placed-kept (frame.Turn f) fs p k s b l = turn-placed f fs p k s b l
 placed-kept _ fs p k s b l = absurd s.rests

@@ -6,13 +6,14 @@ use Rattle.tree_specs.specs.declared.object.Owner.TheVariants.{Root}
 use Rattle.tree_specs.specs.declared.kind.Kind.{Kind}
 use Rattle.tree_specs.specs.declared.kind.Kind.TheVariants.{Plain, Reference, Timer, Immediate}
 use Rattle.tree_specs.specs.declared.row.Row.{Row}
+use Rattle.tree_specs.specs.declared.handler.Handler.{Handler}
 use Rattle.tree_specs.specs.declared.call.Call.{Call}
 use Rattle.tree_specs.specs.declared.call.Call.TheVariants as call
 use Rattle.tree_specs.specs.declared.reply.Reply.{Reply}
 use Rattle.tree_specs.specs.declared.reply.Reply.TheVariants.{Ok, Number, Rows, No}
 use Rattle.tree_specs.specs.Words.Objects.{owner_number}
 use Rattle.tree_specs.specs.Tree.Targets.{newest_ref}
-use Rattle.tree_specs.specs.Tree.Pool.{Pool, changed, is_below, owner_of, newest_ref_of, add, place, named_row, hooked_row, sized_row, limited_row, schedule, unschedule, arm}
+use Rattle.tree_specs.specs.Tree.Pool.{Pool, changed, is_below, owner_of, newest_ref_of, add, place, named_row, hooked_row, sized_row, limited_row, set_handler, schedule, unschedule, arm}
 use Rattle.tree_specs.specs.Tree.Inside.{size_inside, count_inside}
 use Rattle.tree_specs.specs.Tree.Sums.{sum_inside}
 use Rattle.tree_specs.specs.Tree.Reports.{report}
@@ -27,6 +28,8 @@ pub data Change : Type 0 where
   Add : Kind → Owner → ℕ → List ℕ → Change
   -- an object goes below an owner
   Place : Owner → Obj → Change
+  -- an event gets a handler
+  Handle : Obj → Handler → Change
   -- an object is to come soon, or doesn't come any more
   Schedule : Obj → Change
   Unschedule : Obj → Change
@@ -40,6 +43,7 @@ changed_by Nothing p = p
 changed_by (Edit x g) p = record p { rows = changed g p.rows x }
 changed_by (Add kind o size name) p = add p kind o size name
 changed_by (Place o x) p = place p o x
+changed_by (Handle x handler) p = set_handler p x handler
 changed_by (Schedule x) p = schedule p x
 changed_by (Unschedule x) p = unschedule p x
 changed_by (Arm x time number) p = arm p x time number
@@ -53,6 +57,10 @@ pub data Plan : Type 0 where
   Unlinks : Owner → Obj → Plan
   -- the children of an object are freed
   Empties : Obj → Plan
+  -- the clock is asked, and the time is the reply
+  AsksTime : Plan
+  -- a turn of the event loop
+  Turns : Plan
 
 abbrev pub replies : Reply → Plan
 replies r = Does Nothing None r
@@ -93,12 +101,15 @@ abbrev pub refer : Pool → Owner → Obj → Pool
 refer p o x = add p (Reference x) o 0 (codes "reference")
 
 -- with a routine an object comes soon, and with none it doesn't come
-abbrev pub comes_soon : Obj → ℕ → Change
-comes_soon x routine = if nat_eq routine 0 then Unschedule x else Schedule x
+abbrev pub comes_soon : Obj → ℕ → ℕ → Change
+comes_soon x routine user = if nat_eq routine 0 then Unschedule x else Then (Handle x (record { routine = routine; user = user })) (Schedule x)
 
--- a new timer is armed under its own number
-abbrev pub adds_timer : Pool → Owner → ℕ → Change
-adds_timer p o time = Then (Add Timer o 0 (codes "timer")) (Arm (record { 0 = p.next }) time p.next)
+-- an event gets a handler, and is to come at a time under its own number
+abbrev pub comes_at : Obj → ℕ → Handler → Change
+comes_at x time handler = Then (Handle x handler) (Arm x time x.0)
+
+abbrev pub adds_timer : Pool → Owner → ℕ → Handler → Change
+adds_timer p o time handler = Then (Add Timer o 0 (codes "timer")) (comes_at (record { 0 = p.next }) time handler)
 
 -- an owner by its number
 abbrev pub owner_reply : Option Owner → Reply
@@ -124,10 +135,12 @@ plan p (call.Count o) = replies (Number (count_inside p.rows o))
 plan p (call.Sum o) = replies (Number (sum_inside p.rows o))
 plan p (call.Report o) = replies (Rows (report p.rows o))
 plan p (call.Immediate o) = adds p Immediate o 0 (codes "immediate")
-plan p (call.Schedule x routine user) = Does (comes_soon x routine) None Ok
+plan p (call.Schedule x routine user) = Does (comes_soon x routine user) None Ok
 plan p (call.Unschedule x) = Does (Unschedule x) None Ok
-plan p (call.Timer o time routine user) = Does (adds_timer p o time) None (Number p.next)
+plan p (call.Timer o time routine user) = Does (adds_timer p o time (record { routine = routine; user = user })) None (Number p.next)
 plan p call.Pending = replies (Number (length p.soon + length p.times))
+plan p call.Now = AsksTime
+plan p call.Turn = Turns
 
 -- a call that is refused does nothing, and has the first refusal as its reply
 abbrev pub unless_refused : Check → Plan → Plan
@@ -143,3 +156,5 @@ warned_by (Does c warned r) = warned
 warned_by (Frees x) = None
 warned_by (Unlinks o x) = None
 warned_by (Empties x) = None
+warned_by AsksTime = None
+warned_by Turns = None

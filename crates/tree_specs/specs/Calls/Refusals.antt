@@ -5,17 +5,17 @@ use Rattle.tree_specs.specs.declared.object.Obj.{Obj}
 use Rattle.tree_specs.specs.declared.object.Owner.{Owner}
 use Rattle.tree_specs.specs.declared.object.Owner.TheVariants.{Root, Of}
 use Rattle.tree_specs.specs.declared.kind.Kind.{Kind}
-use Rattle.tree_specs.specs.declared.kind.Kind.TheVariants.{Plain, Reference, Timer as TimerKind, Immediate as ImmediateKind, Descriptor, Request, Queue, Entry}
+use Rattle.tree_specs.specs.declared.kind.Kind.TheVariants.{Plain, Immediate as ImmediateKind}
 use Rattle.tree_specs.specs.declared.row.Row.{Row}
 use Rattle.tree_specs.specs.declared.row.Mark.{Mark}
 use Rattle.tree_specs.specs.declared.row.Mark.TheVariants as mark
 use Rattle.tree_specs.specs.declared.call.Call.{Call}
-use Rattle.tree_specs.specs.declared.call.Call.TheVariants.{New, Free, Freekids, Steal, Move, Reparent, Reference as Refer, Unlink, Hook, Unhook, Rename, Resize, Limit, Parent, Total, Count, Sum, Report, Immediate, Schedule, Unschedule, Timer, Pending}
+use Rattle.tree_specs.specs.declared.call.Call.TheVariants.{New, Free, Freekids, Steal, Move, Reparent, Reference as Refer, Unlink, Hook, Unhook, Rename, Resize, Limit, Parent, Total, Count, Sum, Report, Immediate, Schedule, Unschedule, Timer, Pending, Now, Turn}
 use Rattle.tree_specs.specs.declared.test.Test.{Test}
 use Rattle.tree_specs.specs.declared.test.Test.TheVariants.{IsSmall, IsObject, IsOwner, IsPlain, IsImmediate, HasRoom, Fits, MayGrow, IsNotDying, IsNotDoomed, IsNotRunning, IsNotInside, IsUnheld, IsUnreferenced, IsInterested, MayGive}
 use Rattle.tree_specs.specs.declared.reply.Refusal.{Refusal}
 use Rattle.tree_specs.specs.declared.reply.Refusal.TheVariants.{NoSuch, WrongKind, Running, Held, NotParent, Loop, Dying, OverLimit, Full, Spent, TooBig}
-use Rattle.tree_specs.specs.Tree.Pool.{Pool, row_of, is_below, owner_of, newest_ref_of, is_dying, is_inside}
+use Rattle.tree_specs.specs.Tree.Pool.{Pool, row_of, passes, is_below, owner_of, newest_ref_of, is_dying_mark, is_dying, is_inside}
 use Rattle.tree_specs.specs.Tree.Targets.{is_reference}
 use Rattle.tree_specs.specs.Tree.Reports.{count_refs}
 use Rattle.tree_specs.specs.Tree.Sums.{overhead, sum_inside, limit_at, size_at}
@@ -58,34 +58,30 @@ object p x = object_row x (row_of p.rows x)
 
 abbrev pub is_plain : Kind → Bool
 is_plain Plain = true
-is_plain (Reference target) = false
-is_plain TimerKind = false
-is_plain ImmediateKind = false
-is_plain Descriptor = false
-is_plain Request = false
-is_plain Queue = false
-is_plain Entry = false
-
-abbrev pub is_plain_row : Option Row → Bool
-is_plain_row None = false
-is_plain_row (Some r) = is_plain r.kind
-
--- only plain objects have destructors
-abbrev pub plain : Pool → Obj → Check
-plain p x = refuse_if (not (is_plain_row (row_of p.rows x))) (WrongKind x)
+is_plain k = false
 
 -- an event that comes as soon as it can
 abbrev pub is_immediate : Kind → Bool
 is_immediate ImmediateKind = true
 is_immediate k = false
 
+abbrev pub is_plain_row : Option Row → Bool
+is_plain_row o = passes (λ r. is_plain r.kind) o
+
 abbrev pub is_immediate_row : Option Row → Bool
-is_immediate_row None = false
-is_immediate_row (Some r) = is_immediate r.kind
+is_immediate_row o = passes (λ r. is_immediate r.kind) o
+
+-- an object's row is of the right kind
+abbrev pub of_kind : (Option Row → Bool) → Pool → Obj → Check
+of_kind is_right p x = refuse_if (not (is_right (row_of p.rows x))) (WrongKind x)
+
+-- only plain objects have destructors
+abbrev pub plain : Pool → Obj → Check
+plain p x = of_kind is_plain_row p x
 
 -- only an immediate is scheduled
 abbrev pub immediate : Pool → Obj → Check
-immediate p x = refuse_if (not (is_immediate_row (row_of p.rows x))) (WrongKind x)
+immediate p x = of_kind is_immediate_row p x
 
 -- the root, or an object
 abbrev pub owner : Pool → Owner → Check
@@ -120,15 +116,10 @@ staying p x = refuse_if (is_dying p.rows x) (Dying x)
 -- it is being freed, or is to be once its handler is over
 abbrev pub is_doomed_mark : Mark → Bool
 is_doomed_mark mark.Doomed = true
-is_doomed_mark (mark.Dying former) = true
-is_doomed_mark m = false
-
-abbrev pub is_doomed_row : Option Row → Bool
-is_doomed_row None = false
-is_doomed_row (Some r) = is_doomed_mark r.mark
+is_doomed_mark m = is_dying_mark m
 
 abbrev pub is_doomed : Pool → Obj → Bool
-is_doomed p x = is_doomed_row (row_of p.rows x)
+is_doomed p x = passes (λ r. is_doomed_mark r.mark) (row_of p.rows x)
 
 -- an event that is to be freed waits for nothing
 abbrev pub lasting : Pool → Obj → Check
@@ -171,8 +162,7 @@ is_running_mark (mark.Dying former) = false
 is_running_mark m = true
 
 abbrev pub is_running_row : Option Row → Bool
-is_running_row None = false
-is_running_row (Some r) = is_running_mark r.mark
+is_running_row o = passes (λ r. is_running_mark r.mark) o
 
 -- its destructor or its handler runs
 abbrev pub is_running : Pool → Obj → Bool
@@ -226,6 +216,8 @@ tests (Schedule x routine user) = IsObject x ∷ IsImmediate x ∷ IsNotDoomed x
 tests (Unschedule x) = IsObject x ∷ IsImmediate x ∷ IsNotDoomed x ∷ []
 tests (Timer o time routine user) = IsOwner o ∷ HasRoom 1 ∷ Fits o overhead ∷ []
 tests Pending = []
+tests Now = []
+tests Turn = []
 
 -- the refusals of tests, one after another
 abbrev pub refused : Pool → List Test → Check

@@ -3,7 +3,7 @@ use Rattle.std.specs.Prelude.{ℕ, List, [], ◌∷◌, codes}
 use Rattle.tree_specs.specs.declared.object.Obj.{Obj}
 use Rattle.tree_specs.specs.declared.object.Owner.{Owner}
 use Rattle.tree_specs.specs.declared.call.Call.{Call}
-use Rattle.tree_specs.specs.declared.call.Call.TheVariants.{New, Free, Freekids, Steal, Move, Reparent, Reference, Unlink, Hook, Unhook, Rename, Resize, Limit, Parent, Total, Count, Sum, Report, Immediate, Schedule, Unschedule, Timer, Pending}
+use Rattle.tree_specs.specs.declared.call.Call.TheVariants.{New, Free, Freekids, Steal, Move, Reparent, Reference, Unlink, Hook, Unhook, Rename, Resize, Limit, Parent, Total, Count, Sum, Report, Immediate, Schedule, Unschedule, Timer, Pending, Now, Turn}
 
 pub data Field : Type 0 where
   AnOwner : Owner → Field
@@ -48,6 +48,8 @@ spelling (Schedule x routine user) = codes "schedule" with (AnObject x ∷ ARout
 spelling (Unschedule x) = codes "unschedule" with (AnObject x ∷ [])
 spelling (Timer owner time routine user) = codes "timer" with (AnOwner owner ∷ ATime time ∷ ARoutine routine ∷ ANumber user ∷ [])
 spelling Pending = codes "pending" with []
+spelling Now = codes "now" with []
+spelling Turn = codes "turn" with []
 
 -- ---- reading
 
@@ -108,4 +110,6 @@ forms =
     ∷ (codes "unschedule" reads of_object Unschedule)
     ∷ (codes "timer" reads TakesOwner (λ owner. TakesTime (λ time. TakesRoutine (λ routine. TakesNumber (λ user. IsConsistent (Timer owner time routine user))))))
     ∷ (codes "pending" reads IsConsistent Pending)
+    ∷ (codes "now" reads IsConsistent Now)
+    ∷ (codes "turn" reads IsConsistent Turn)
     ∷ []

@@ -1,6 +1,7 @@
 -- Worked examples, each a table of the lines of a schedule and of what they give, up to the next question.
 use Rattle.std.specs.Prelude.{List, [], ◌∷◌, ◌++◌}
 use Rattle.tree_specs.specs.Examples.Exchanges.{Example}
+use Rattle.tree_specs.specs.Examples.Events.{events}
 
 -- ---- objects and owners
 
@@ -326,79 +327,6 @@ resized =
 abbrev pub limits : List Example
 limits =
     bounded ∷ resized ∷ []
-
--- ---- events
-
--- a request's timer and its immediate wait for their turn
-abbrev pub waiting : Example
-waiting =
-    ("call new 0 0 request", "reply 1" ∷ []) ∷
-    ("call timer 1 30000000 16 0", "reply 2" ∷ []) ∷
-    ("call immediate 1", "reply 3" ∷ []) ∷
-    ("call pending", "reply 1" ∷ []) ∷
-    ("call schedule 3 17 5", "reply ok" ∷ []) ∷
-    ("call schedule 3 17 6", "reply ok" ∷ []) ∷
-    ("call pending", "reply 2" ∷ []) ∷
-    ("call unschedule 3", "reply ok" ∷ []) ∷
-    ("call unschedule 3", "reply ok" ∷ []) ∷
-    ("call pending", "reply 1" ∷ []) ∷
-    ("call schedule 3 17 0", "reply ok" ∷ []) ∷
-    ("call schedule 3 0 0", "reply ok" ∷ []) ∷
-    ("call pending", "reply 1" ∷ []) ∷
-    ("call schedule 2 17 0", "reply no 2 2" ∷ []) ∷
-    ("call unschedule 4", "reply no 1 4" ∷ []) ∷ (
-      "call report 1",
-      "row 0 1 plain 0 0 0 request" ∷
-          "row 1 3 immediate 0 0 0 immediate" ∷
-          "row 1 2 timer 0 0 0 timer" ∷
-          "reply rows 3" ∷ [],
-    ) ∷
-    []
-
--- what is freed waits no more, and what goes to another owner still does
-abbrev pub disarmed : Example
-disarmed =
-    ("call new 0 0 request", "reply 1" ∷ []) ∷
-    ("call timer 1 7 16 0", "reply 2" ∷ []) ∷
-    ("call timer 1 4611686018427387904 16 0", "reply 3" ∷ []) ∷
-    ("call immediate 2", "reply 4" ∷ []) ∷
-    ("call schedule 4 17 0", "reply ok" ∷ []) ∷
-    ("call pending", "reply 3" ∷ []) ∷
-    ("call steal 0 3", "reply ok" ∷ []) ∷
-    ("call free 1", "freed 4 0" ∷ "freed 2 0" ∷ "freed 1 0" ∷ "reply ok" ∷ []) ∷
-    ("call pending", "reply 1" ∷ []) ∷
-    ("call free 3", "freed 3 0" ∷ "reply ok" ∷ []) ∷
-    ("call pending", "reply 0" ∷ []) ∷
-    []
-
--- an event counts against a limit as an object of no size does
-abbrev pub counted : Example
-counted =
-    ("call new 0 0 request", "reply 1" ∷ []) ∷
-    ("call limit 1 200", "reply ok" ∷ []) ∷
-    ("call timer 1 0 16 0", "reply 2" ∷ []) ∷
-    ("call immediate 1", "reply no 9 1 192 96 200" ∷ []) ∷
-    ("call timer 5 0 16 0", "reply no 1 5" ∷ []) ∷
-    ("call pending", "reply 1" ∷ []) ∷
-    []
-
--- a dying event isn't scheduled
-abbrev pub late : Example
-late =
-    ("call immediate 0", "reply 1" ∷ []) ∷
-    ("call new 1 0 child", "reply 2" ∷ []) ∷
-    ("call hook 2 16", "reply ok" ∷ []) ∷
-    ("call schedule 1 17 0", "reply ok" ∷ []) ∷
-    ("call free 1", "ask hook 2 16 0 0 0 0" ∷ []) ∷
-    ("act pending", "reply 0" ∷ "ask hook 2 16 0 0 0 1" ∷ []) ∷
-    ("act schedule 1 17 0", "reply no 8 1" ∷ "ask hook 2 16 0 0 0 2" ∷ []) ∷
-    ("act unschedule 1", "reply no 8 1" ∷ "ask hook 2 16 0 0 0 3" ∷ []) ∷
-    ("ret 0", "accepted 2" ∷ "freed 2 16" ∷ "freed 1 0" ∷ "reply ok" ∷ []) ∷
-    []
-
-abbrev pub events : List Example
-events =
-    waiting ∷ disarmed ∷ counted ∷ late ∷ []
 
 abbrev pub examples : List Example
 examples = trees ++ destructors ++ references ++ limits ++ events

@@ -1,14 +1,15 @@
--- What holds of the open frees by themselves, whoever waits for them: a free that begins stands on the call that it is for, be it
--- the first one or begun by a destructor that runs.
-use Rattle.std.specs.Prelude.{◌≡◌, ℕ, ◌+◌, ◌≤◌, ◌<◌, List, [], ◌∷◌, ◌++◌}
+-- What holds of the open frees by themselves, whoever waits for them: a free that begins stands on the call or the turn that it is
+-- for, be it the first one or begun by a routine that runs.
+use Rattle.std.specs.Prelude.{◌≡◌, ℕ, ◌+◌, ◌≤◌, ◌<◌, List, [], ◌∷◌, ◌++◌, Option, Some, None}
 use Rattle.tree_specs.specs.declared.object.Obj.{Obj}
+use Rattle.tree_specs.specs.declared.row.Row.{Row}
 use Rattle.tree_specs.specs.declared.frame.FreeFrame.{FreeFrame}
 use Rattle.tree_specs.specs.declared.frame.FreeFrame.TheVariants.{Hooked}
 use Rattle.tree_specs.specs.Tree.Pool.{Pool, row_of}
 use Rattle.tree_specs.specs.Tree.Forest.{IsForest}
 use Rattle.tree_specs.specs.Tree.Inside.{total}
-use Rattle.tree_specs.specs.Machine.Profiles.{Phase, caller_size, free_profile}
-use Rattle.tree_specs.specs.Invariants.Sound.{Footing, ValidAt, Refers, claim_by, phases, MayWait, FreeRests}
+use Rattle.tree_specs.specs.Machine.Profiles.{Phase, InHandler, phase_in, caller_size, free_profile}
+use Rattle.tree_specs.specs.Invariants.Sound.{Footing, ValidAt, Refers, claim_by, all_of, MayWait, FreeRests}
 use Rattle.tree_specs.specs.Invariants.Sound.Footing.{OnCall, OnFree}
 use Rattle.tree_specs.specs.Invariants.Consistent.{deposit}
 
@@ -21,6 +22,15 @@ free_footing (f ∷ fs) = OnFree f
 -- what a free claims of x
 abbrev pub free_claim : Obj → FreeFrame → List Phase
 free_claim x f = claim_by x (free_profile f).claims
+
+-- of a handler's run no free says anything
+abbrev pub by_free : Option Phase → List Phase
+by_free (Some InHandler) = []
+by_free phase = all_of phase
+
+abbrev pub free_phases : Option Row → List Phase
+free_phases None = []
+free_phases (Some r) = by_free (phase_in r.mark)
 
 abbrev pub free_claims : Obj → List FreeFrame → List Phase
 free_claims x [] = []
@@ -49,7 +59,7 @@ pub record FreesHold (claimed : Obj → List Phase) (below : List FreeFrame) (gr
   pub valid : (x : Obj) → ValidAt p.next (row_of p.rows x) x
   pub forest : IsForest p.rows
   pub refers : Refers p.rows
-  pub open_frees : (x : Obj) → claimed x ≡ phases (row_of p.rows x)
+  pub open_frees : (x : Obj) → claimed x ≡ free_phases (row_of p.rows x)
   pub waiting : AllFreesWait below
   pub rests : grounds
 

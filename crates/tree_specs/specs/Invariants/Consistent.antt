@@ -1,16 +1,15 @@
 -- What holds of a host at every moment.
-use Rattle.std.specs.Prelude.{ℕ, ◌+◌, ◌≤◌, List, [], ◌∷◌, Some, None}
+use Rattle.std.specs.Prelude.{ℕ, ◌+◌, ◌≤◌, List, [], ◌∷◌, Some, None, is_some, if◌then◌else◌}
 use Rattle.tree_specs.specs.declared.question.Ask.{Ask}
 use Rattle.tree_specs.specs.declared.question.Ask.TheVariants as asks
 use Rattle.tree_specs.specs.declared.row.Row.{Row}
 use Rattle.tree_specs.specs.declared.row.Mark.{Mark}
-use Rattle.tree_specs.specs.declared.row.Mark.TheVariants.{Asked, Dying}
 use Rattle.tree_specs.specs.declared.frame.Frame.{Frame}
 use Rattle.tree_specs.specs.Tree.Pool.{Pool}
 use Rattle.tree_specs.specs.Tree.Inside.{total}
 use Rattle.tree_specs.specs.Invariants.Sound.{Sound}
 use Rattle.tree_specs.specs.Machine.View.{View}
-use Rattle.tree_specs.specs.Machine.Profiles.{Role, Calls, Frees, Waits, ARun, profile}
+use Rattle.tree_specs.specs.Machine.Profiles.{phase_in, Role, Calls, Frees, Turns, Waits, ARun, ATurn, AHandler, profile}
 
 -- ---- which work may stand on which
 
@@ -21,6 +20,10 @@ IsQuiet _ = ⊥
 abbrev pub IsOfRoutine : Ask → Type 0
 IsOfRoutine (asks.Routine m) = Unit {0}
 IsOfRoutine _ = ⊥
+
+abbrev pub TurnsFor : Role → Type 0
+TurnsFor Turns = Unit {0}
+TurnsFor _ = ⊥
 
 abbrev pub CallsFor : Role → Type 0
 CallsFor (Calls (Some q)) = IsQuiet q
@@ -46,13 +49,18 @@ IsRun f = RunsFor (profile f).role
 abbrev pub IsFree : Frame → Type 0
 IsFree f = FreesFor (profile f).role
 
+abbrev pub IsTurn : Frame → Type 0
+IsTurn f = TurnsFor (profile f).role
+
 -- what stands on a work that waits
 abbrev pub Serves : Waits → Frame → Type 0
 Serves (ARun x h) f = IsRun f
+Serves (AHandler x) f = IsRun f
+Serves ATurn f = IsTurn f
 Serves _ f = IsFree f
 
--- the host's own caller stands below all others, a run on the free that waits for its destructor, and a free on the call or
--- the free that waits for it
+-- the host's own caller stands below all others, a run on the free or the turn that waits for it, a turn on its call, and a
+-- free on the call, the free or the turn that waits for it
 abbrev pub MayStandOn : Frame → List Frame → Type 0
 MayStandOn f [] = IsCaller f
 MayStandOn f (g ∷ gs) = Serves (profile g).waits f
@@ -74,9 +82,7 @@ sizes [] = 0
 sizes (f ∷ fs) = size f + sizes fs
 
 abbrev pub mark_deposit : Mark → ℕ
-mark_deposit Asked = 3
-mark_deposit (Dying former) = 3
-mark_deposit _ = 0
+mark_deposit m = if is_some (phase_in m) then 3 else 0
 
 abbrev pub deposit : Row → ℕ
 deposit r = mark_deposit r.mark

@@ -1,5 +1,5 @@
 -- A measure that each step lowers, so that the stated number of turns is enough.
-use Rattle.std.specs.Prelude.{ℕ, ◌+◌, ◌*◌, List, [], ◌∷◌, Option, Some, None, if◌then◌else◌}
+use Rattle.std.specs.Prelude.{ℕ, ◌+◌, ◌*◌, List, [], ◌∷◌, is_some, if◌then◌else◌}
 use Rattle.tree_specs.specs.declared.object.Owner.{Owner}
 use Rattle.tree_specs.specs.declared.object.Owner.TheVariants.{Of}
 use Rattle.tree_specs.specs.declared.row.Row.{Row}
@@ -16,12 +16,8 @@ abbrev pub count : List Row → Owner → ℕ
 count rs p = total (λ r. if is_below r.owner p then 1 else 0) rs
 
 -- A row pays once when it leaves its owner, and once when it is removed.
-abbrev pub weight_by : Option Owner → ℕ
-weight_by None = 2
-weight_by (Some former) = 1
-
 abbrev pub mark_weight : Mark → ℕ
-mark_weight m = weight_by (former_in m)
+mark_weight m = if is_some (former_in m) then 1 else 2
 
 abbrev pub weight : Row → ℕ
 weight r = mark_weight r.mark

@@ -5,12 +5,14 @@ use Rattle.tree_specs.specs.declared.object.Owner.{Owner}
 use Rattle.tree_specs.specs.declared.object.Owner.TheVariants.{Of}
 use Rattle.tree_specs.specs.declared.row.Row.{Row}
 use Rattle.tree_specs.specs.declared.row.Mark.{Mark}
-use Rattle.tree_specs.specs.declared.row.Mark.TheVariants.{Quiet}
+use Rattle.tree_specs.specs.declared.row.Mark.TheVariants.{Quiet, Busy}
 use Rattle.tree_specs.specs.declared.frame.Frame.{Frame}
 use Rattle.tree_specs.specs.declared.frame.Frame.TheVariants as frame
-use Rattle.tree_specs.specs.declared.frame.CallFrame.TheVariants.{Asking, Doing, Awaiting, Warning, Telling, Returning}
+use Rattle.tree_specs.specs.declared.frame.CallFrame.TheVariants.{Asking, Doing, Awaiting, Turning, Warning, Telling, Returning}
 use Rattle.tree_specs.specs.declared.frame.FreeFrame.{FreeFrame}
-use Rattle.tree_specs.specs.declared.frame.FreeFrame.TheVariants.{Unlinking, Releasing, Giving, Beginning, Hooked, Judged, Leaving, Looping, FreeingChild, AfterChild, Ending}
+use Rattle.tree_specs.specs.declared.frame.FreeFrame.TheVariants.{Unlinking, Releasing, Giving, Beginning, Hooked, Judged, Dooming, Leaving, Looping, FreeingChild, AfterChild, Ending}
+use Rattle.tree_specs.specs.declared.frame.TurnFrame.{TurnFrame}
+use Rattle.tree_specs.specs.declared.frame.TurnFrame.TheVariants.{Firing, Handling, Clearing}
 use Rattle.tree_specs.specs.declared.frame.Purpose.{Purpose}
 use Rattle.tree_specs.specs.declared.frame.Purpose.TheVariants.{Removal, Emptying}
 use Rattle.tree_specs.specs.declared.free_step.FreeReply.{FreeReply}
@@ -20,7 +22,9 @@ use Rattle.tree_specs.specs.Tree.Targets.{target_of, newest_ref}
 use Rattle.tree_specs.specs.Tree.Pool.{Pool, row_of, owner_of, target_at, noted_owner, is_owner, is_inside}
 use Rattle.tree_specs.specs.Calls.Refusals.{is_plain}
 use Rattle.tree_specs.specs.Tree.Forest.{IsForest}
-use Rattle.tree_specs.specs.Machine.Profiles.{Phase, Claim, former_in, phase_in, Waits, Never, AFree, ARun, AChild, profile}
+use Rattle.tree_specs.specs.Machine.Profiles.{Phase, Claim, former_in, phase_in, Waits, Never, AFree, ARun, AChild, ATurn, AHandler, AClear, profile}
+use Rattle.tree_specs.specs.declared.kind.Kind.{Kind}
+use Rattle.tree_specs.specs.Events.Coming.{comes_as}
 
 -- an owner or a former owner is another object; a dying row has no owner, and every other one has
 abbrev pub Owned : Option Owner → Obj → Type 0
@@ -70,11 +74,13 @@ claims x (f ∷ fs) = claim x f ++ claims x fs
 -- ---- what a work stands on
 
 pub data Footing : Type 0 where
-  -- the call that waits for it
+  -- the call, or the turn, that waits for it
   OnCall : Footing
   -- a free
   OnFree : FreeFrame → Footing
-  -- a caller that waits for no free
+  -- the call that waits for a turn
+  OnTurning : Footing
+  -- a work that waits for no free
   OnOther : Footing
   AtBottom : Footing
 
@@ -82,11 +88,17 @@ abbrev pub footing : List Frame → Footing
 footing [] = AtBottom
 footing (frame.Free f ∷ fs) = OnFree f
 footing (frame.Call (Awaiting q x) ∷ fs) = OnCall
+footing (frame.Call (Turning q) ∷ fs) = OnTurning
+footing (frame.Turn (Clearing x) ∷ fs) = OnCall
 footing (_ ∷ fs) = OnOther
 
 abbrev pub IsCalled : Footing → Type 0
 IsCalled OnCall = Unit {0}
 IsCalled _ = ⊥
+
+abbrev pub IsTurned : Footing → Type 0
+IsTurned OnTurning = Unit {0}
+IsTurned _ = ⊥
 
 -- a loop that only empties an object is a call's own
 abbrev pub Stands : Purpose → Footing → Type 0
@@ -98,6 +110,9 @@ MayWait Never on = ⊥
 MayWait (AFree x) on = Unit {0}
 MayWait (ARun x h) on = 0 < h
 MayWait (AChild c purpose) on = Stands purpose on
+MayWait ATurn on = Unit {0}
+MayWait (AHandler x) on = IsTurned on
+MayWait (AClear x) on = IsTurned on
 
 -- the works below the innermost wait for the one above them
 abbrev pub IsWaiting : Frame → List Frame → Type 0
@@ -187,21 +202,31 @@ FreeRests (Giving x o) on claimed p = MayBePlaced p o x
 FreeRests (Beginning x) on claimed p = Tries x on p × (target_at p.rows x ≡ None)
 FreeRests (Hooked x h) on claimed p = (0 < h) × HasHook (row_of p.rows x) h
 FreeRests (Judged x h v) on claimed p = 0 < h
+FreeRests (Dooming x) on claimed p = Tries x on p × (newest_ref p.rows x ≡ None)
 FreeRests (Leaving x h) on claimed p = (r : Row) × (row_of p.rows x ≡ Some r) × IsLive r.mark × (claimed x ≡ []) × (target_of r.kind ≡ None) × (newest_ref p.rows x ≡ None)
 FreeRests (Looping x purpose) on claimed p = Stands purpose on
 FreeRests (FreeingChild x c noted purpose) on claimed p = ⊥
 FreeRests (AfterChild x c noted purpose answer) on claimed p = StillThere answer x c noted p × Stands purpose on
 FreeRests (Ending answer) on claimed p = IsOver answer × MayAnswer answer on
 
+-- a turn is a call's own, and a handler runs for an event of its kind, which is busy
+abbrev pub TurnRests : TurnFrame → Footing → Pool → Type 0
+TurnRests (Firing what x handler now) on p = IsTurned on × (r : Row) × (row_of p.rows x ≡ Some r) × (comes_as what r.kind ≡ true) × (r.mark ≡ Busy)
+TurnRests (Handling what x handler now) on p = IsTurned on × (k : Kind) × (comes_as what k ≡ true)
+TurnRests (Clearing x) on p = ⊥
+TurnRests f on p = IsTurned on
+
 -- what the innermost work rests on
 abbrev pub Rests : Frame → List Frame → Pool → Type 0
 Rests (frame.Call (Asking q)) fs p = Unit {0}
 Rests (frame.Call (Doing q c)) fs p = Unit {0}
 Rests (frame.Call (Awaiting q x)) fs p = ⊥
+Rests (frame.Call (Turning q)) fs p = ⊥
 Rests (frame.Call (Warning q x r)) fs p = Unit {0}
 Rests (frame.Call (Telling q r)) fs p = Unit {0}
 Rests (frame.Call (Returning v)) fs p = Unit {0}
 Rests (frame.Free f) fs p = FreeRests f (footing fs) (λ x. claims x fs) p
+Rests (frame.Turn f) fs p = TurnRests f (footing fs) p
 
 pub record Sound (f : Frame) (fs : List Frame) (p : Pool) : Type 0 where
   pub started : 0 < p.next
@@ -209,7 +234,8 @@ pub record Sound (f : Frame) (fs : List Frame) (p : Pool) : Type 0 where
   -- each number stands once, the owner of each row is the root or a row, and from owner to owner one comes to an end
   pub forest : IsForest p.rows
   pub refers : Refers p.rows
-  -- each object that runs or is dying is in exactly one open free, and no other object is
+  -- each object whose destructor runs, or that is dying, is in exactly one open free, and each whose handler runs in exactly
+  -- one open turn; no other object is
   pub open_frees : (x : Obj) → claim x f ++ claims x fs ≡ phases (row_of p.rows x)
   pub waiting : AllWait fs
   pub rests : Rests f fs p

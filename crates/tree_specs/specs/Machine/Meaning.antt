@@ -7,18 +7,19 @@ use Rattle.tree_specs.specs.declared.event.Event.TheVariants.{Freed as IsFreed}
 use Rattle.tree_specs.specs.declared.question.Input.{Input}
 use Rattle.tree_specs.specs.declared.frame.Frame.{Frame}
 use Rattle.tree_specs.specs.declared.frame.Frame.TheVariants as frame
-use Rattle.tree_specs.specs.declared.frame.CallFrame.TheVariants.{Asking, Doing, Awaiting, Warning, Telling, Returning}
-use Rattle.tree_specs.specs.declared.frame.FreeFrame.TheVariants.{Unlinking, Releasing, Giving, Beginning, Hooked, Judged, Leaving, Looping, FreeingChild, AfterChild, Ending}
+use Rattle.tree_specs.specs.declared.frame.CallFrame.TheVariants.{Asking, Doing, Awaiting, Turning, Warning, Telling, Returning}
+use Rattle.tree_specs.specs.declared.frame.FreeFrame.TheVariants.{Unlinking, Releasing, Giving, Beginning, Hooked, Judged, Dooming, Leaving, Looping, FreeingChild, AfterChild, Ending}
+use Rattle.tree_specs.specs.declared.frame.TurnFrame.TheVariants.{Taking, Timing, Timed, Polling, Starting, Firing, Handling, Handled, Clearing, Reading, Closing}
 use Rattle.tree_specs.specs.declared.frame.Purpose.{Purpose}
 use Rattle.tree_specs.specs.declared.frame.Purpose.TheVariants.{Removal, Emptying}
 use Rattle.tree_specs.specs.declared.frame.Answer.{Answer}
-use Rattle.tree_specs.specs.declared.frame.Answer.TheVariants.{Freed, Returned}
+use Rattle.tree_specs.specs.declared.frame.Answer.TheVariants.{Freed, Returned, Turned}
 use Rattle.tree_specs.specs.declared.free_step.FreeReply.{FreeReply}
 use Rattle.tree_specs.specs.declared.free_step.FreeReply.TheVariants.{Ok}
 use Rattle.tree_specs.specs.Tree.Pool.{Pool, remove}
 use Rattle.tree_specs.specs.Rules.Items.Item.{Told}
 use Rattle.tree_specs.specs.Rules.Sequence.{Work, Scene, CallStart, ◌>>=◌, ◌>>◌, gives, change, tells}
-use Rattle.tree_specs.specs.Rules.Story.{free, hooked, judged, leave, children, tried, asked, acting, telling, returning, warning, unlink, release, given, turns}
+use Rattle.tree_specs.specs.Rules.Story.{free, hooked, judged, dooming, leave, children, tried, asked, acting, telling, returning, warning, unlink, release, given, turns, taking, timing, timed, polling, starting, firing, handling, handled, reading, closing}
 use Rattle.tree_specs.specs.Machine.Table.{table, notes, resume}
 use Rattle.tree_specs.specs.Machine.View.{View}
 
@@ -26,7 +27,7 @@ use Rattle.tree_specs.specs.Machine.View.{View}
 abbrev pub noted_table : Table (Noted Frame CallStart) Answer Pool Input Scene
 noted_table = noted notes table
 
--- a free, and a routine's run, as works of the machine
+-- a free, a routine's run, and a turn, as works of the machine
 abbrev pub freed : Work FreeReply → Work Answer
 freed w = do
   a ← w
@@ -36,6 +37,11 @@ abbrev pub returned : Work ℕ → Work Answer
 returned w = do
   v ← w
   gives (Returned v)
+
+abbrev pub closed : Work ℕ → Work Answer
+closed w = do
+  v ← w
+  gives (Turned v)
 
 -- what follows the children of an object
 abbrev pub looped : Obj → Purpose → Work (Unit {0}) → Work Answer
@@ -53,6 +59,7 @@ abbrev pub mean : ℕ → Frame → Option CallStart → Work Answer
 mean n (frame.Call (Asking q)) b = returned (asked n q)
 mean n (frame.Call (Doing q c)) b = returned (acting n q c)
 mean n (frame.Call (Awaiting q x)) b = gives (Freed Ok)
+mean n (frame.Call (Turning q)) b = gives (Freed Ok)
 mean n (frame.Call (Warning q x r)) b = returned (warning n b q x r)
 mean n (frame.Call (Telling q r)) b = returned (telling n b q r)
 mean n (frame.Call (Returning v)) b = returned (returning n v)
@@ -62,11 +69,23 @@ mean n (frame.Free (Giving x o)) b = freed (given n x o)
 mean n (frame.Free (Beginning x)) b = freed (free n x)
 mean n (frame.Free (Hooked x h)) b = freed (hooked n x h)
 mean n (frame.Free (Judged x h v)) b = freed (judged n x h v)
+mean n (frame.Free (Dooming x)) b = freed (dooming n x)
 mean n (frame.Free (Leaving x h)) b = freed (leave n x h)
 mean n (frame.Free (Looping x purpose)) b = looped x purpose (children n x)
 mean n (frame.Free (FreeingChild x c noted purpose)) b = gives (Freed Ok)
 mean n (frame.Free (AfterChild x c noted purpose a)) b = looped x purpose (tried n x c noted a)
 mean n (frame.Free (Ending a)) b = gives (Freed a)
+mean n (frame.Turn Taking) b = closed (taking n)
+mean n (frame.Turn (Timing again)) b = closed (timing n again)
+mean n (frame.Turn (Timed again now)) b = closed (timed n again now)
+mean n (frame.Turn (Polling limit)) b = closed (polling n limit)
+mean n (frame.Turn (Starting what x now)) b = closed (starting n what x now)
+mean n (frame.Turn (Firing what x handler now)) b = closed (firing n what x handler now)
+mean n (frame.Turn (Handling what x handler now)) b = closed (handling n what x handler now)
+mean n (frame.Turn (Handled what x)) b = closed (handled n what x)
+mean n (frame.Turn (Clearing x)) b = gives (Freed Ok)
+mean n (frame.Turn Reading) b = closed (reading n)
+mean n (frame.Turn (Closing v)) b = closed (closing n v)
 
 -- ---- runs of the machine
 

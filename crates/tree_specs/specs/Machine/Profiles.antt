@@ -4,14 +4,16 @@ use Rattle.std.specs.Prelude.{ℕ, nat_eq, Option, Some, None, if◌then◌else�
 use Rattle.tree_specs.specs.declared.object.Obj.{Obj}
 use Rattle.tree_specs.specs.declared.object.Owner.{Owner}
 use Rattle.tree_specs.specs.declared.row.Mark.{Mark}
-use Rattle.tree_specs.specs.declared.row.Mark.TheVariants.{Quiet, Dying}
+use Rattle.tree_specs.specs.declared.row.Mark.TheVariants.{Quiet, Asked, Dying}
 use Rattle.tree_specs.specs.declared.question.Ask.{Ask}
 use Rattle.tree_specs.specs.declared.frame.Frame.{Frame}
 use Rattle.tree_specs.specs.declared.frame.Frame.TheVariants as frame
 use Rattle.tree_specs.specs.declared.frame.CallFrame.{CallFrame}
-use Rattle.tree_specs.specs.declared.frame.CallFrame.TheVariants.{Asking, Doing, Awaiting, Warning, Telling, Returning}
+use Rattle.tree_specs.specs.declared.frame.CallFrame.TheVariants.{Asking, Doing, Awaiting, Turning, Warning, Telling, Returning}
 use Rattle.tree_specs.specs.declared.frame.FreeFrame.{FreeFrame}
-use Rattle.tree_specs.specs.declared.frame.FreeFrame.TheVariants.{Unlinking, Releasing, Giving, Beginning, Hooked, Judged, Leaving, Looping, FreeingChild, AfterChild, Ending}
+use Rattle.tree_specs.specs.declared.frame.FreeFrame.TheVariants.{Unlinking, Releasing, Giving, Beginning, Hooked, Judged, Dooming, Leaving, Looping, FreeingChild, AfterChild, Ending}
+use Rattle.tree_specs.specs.declared.frame.TurnFrame.{TurnFrame}
+use Rattle.tree_specs.specs.declared.frame.TurnFrame.TheVariants.{Taking, Timing, Timed, Polling, Starting, Firing, Handling, Handled, Clearing, Reading, Closing}
 use Rattle.tree_specs.specs.declared.frame.Purpose.{Purpose}
 use Rattle.tree_specs.specs.declared.frame.Purpose.TheVariants.{Removal, Emptying}
 use Rattle.tree_specs.specs.declared.free_step.FreeReply.{FreeReply}
@@ -19,8 +21,10 @@ use Rattle.tree_specs.specs.declared.free_step.FreeReply.TheVariants.{Running}
 
 -- what is going on with an object
 pub data Phase : Type 0 where
-  -- its destructor or its handler runs
+  -- its destructor runs
   InRun : Phase
+  -- its handler runs
+  InHandler : Phase
   -- its children are being freed
   InLoop : Phase
 
@@ -34,7 +38,8 @@ former_in _ = None
 abbrev pub phase_in : Mark → Option Phase
 phase_in Quiet = None
 phase_in (Dying former) = Some InLoop
-phase_in _ = Some InRun
+phase_in Asked = Some InRun
+phase_in _ = Some InHandler
 
 -- ---- what a work says of itself
 
@@ -44,6 +49,8 @@ pub data Role : Type 0 where
   Calls : Option Ask → Role
   -- a free of this object; none where it is over
   Frees : Option Obj → Role
+  -- a turn, or the asking of the clock
+  Turns : Role
 
 -- what it waits for below another work
 pub data Waits : Type 0 where
@@ -55,6 +62,12 @@ pub data Waits : Type 0 where
   ARun : Obj → ℕ → Waits
   -- for the freeing of this child
   AChild : Obj → Purpose → Waits
+  -- a call, for a turn or for the time
+  ATurn : Waits
+  -- a turn, for the run of this event's handler
+  AHandler : Obj → Waits
+  -- a turn, for the freeing of this event
+  AClear : Obj → Waits
 
 -- that something is going on with an object
 pub record Claim : Type 0 where
@@ -145,13 +158,14 @@ abbrev pub a_loop : Obj → Purpose → FreeProfile
 a_loop x purpose = record (a_free x) { claims = loops x purpose; removes = loop_removes x purpose; size = loop_size purpose; top_size = loop_size purpose }
 
 abbrev pub free_profile : FreeFrame → FreeProfile
-free_profile (Unlinking o x) = record (a_free x) { cost = at_most 0 7 AtBelow }
-free_profile (Releasing x) = record (a_free x) { cost = at_most 0 6 AtBelow }
+free_profile (Unlinking o x) = record (a_free x) { cost = at_most 0 8 AtBelow }
+free_profile (Releasing x) = record (a_free x) { cost = at_most 0 7 AtBelow }
 free_profile (Giving x o) = record (a_free x) { cost = at_most 4 10 AtNone }
-free_profile (Beginning x) = record (a_free x) { cost = at_most 0 5 AtBelow }
+free_profile (Beginning x) = record (a_free x) { cost = at_most 0 6 AtBelow }
 -- an object that is to be asked pays for the run that comes
 free_profile (Hooked x h) = record (a_free x) { waits = ARun x h; claims = runs x; size = 1; top_size = 3; waiting_cost = 3; cost = at_most 0 4 AtNone }
 free_profile (Judged x h v) = record (a_free x) { claims = runs x; size = 3; top_size = 3; cost = at_most 4 10 AtNone }
+free_profile (Dooming x) = record (a_free x) { cost = at_most 0 5 AtBelow }
 -- it runs until it leaves its owner, where a destructor has accepted
 free_profile (Leaving x h) = record (a_free x) {
   claims = if nat_eq h 0 then None else runs x;
@@ -183,6 +197,7 @@ abbrev pub call_profile : CallFrame → CallProfile
 call_profile (Asking q) = a_caller q
 call_profile (Doing q c) = record (a_caller q) { cost = at_most 16 67 AtNone; adds = 2 }
 call_profile (Awaiting q x) = record (a_caller q) { waits = AFree x; waiting_cost = 1 }
+call_profile (Turning q) = record (a_caller q) { waits = ATurn }
 call_profile (Warning q x r) = record (a_caller q) { cost = at_most 0 2 AtNone }
 call_profile (Telling q r) = record (a_caller q) { cost = at_most 0 1 AtNone }
 call_profile (Returning v) = record { ask = None; waits = Never; waiting_cost = 0; cost = at_most 4 9 AtNone; adds = 0 }
@@ -194,8 +209,42 @@ caller_size = 2
 abbrev pub of_call : CallProfile → Profile
 of_call f = record { role = Calls f.ask; waits = f.waits; claims = None; removes = None; size = caller_size; top_size = caller_size; waiting_cost = f.waiting_cost; cost = f.cost; adds = f.adds }
 
+-- ---- turns
+
+-- a turn: what is the same of all stands in `of_turn`
+pub record TurnProfile : Type 0 where
+  pub waits : Waits
+  pub claims : Option Claim
+  pub size : ℕ
+  pub top_size : ℕ
+  pub steps : ℕ
+
+abbrev pub a_turn : ℕ → TurnProfile
+a_turn steps = record { waits = Never; claims = None; size = 0; top_size = 0; steps = steps }
+
+abbrev pub handles : Obj → Option Claim
+handles x = Some (record { object = x; phase = InHandler })
+
+abbrev pub turn_profile : TurnFrame → TurnProfile
+turn_profile Taking = a_turn 5
+turn_profile (Timing again) = a_turn 1
+turn_profile (Timed again now) = a_turn 5
+turn_profile (Polling limit) = a_turn 1
+turn_profile (Starting what x now) = a_turn 4
+turn_profile (Firing what x handler now) = record (a_turn 3) { claims = handles x; size = 3; top_size = 3 }
+-- an event that is busy pays for the run of its handler
+turn_profile (Handling what x handler now) = record (a_turn 2) { waits = AHandler x; claims = handles x; size = 1; top_size = 3 }
+turn_profile (Handled what x) = record (a_turn 8) { claims = handles x; size = 3; top_size = 3 }
+turn_profile (Clearing x) = record (a_turn 0) { waits = AClear x }
+turn_profile Reading = a_turn 1
+turn_profile (Closing v) = a_turn 2
+
+abbrev pub of_turn : TurnProfile → Profile
+of_turn f = record { role = Turns; waits = f.waits; claims = f.claims; removes = None; size = f.size; top_size = f.top_size; waiting_cost = 0; cost = at_most 0 f.steps AtNone; adds = 0 }
+
 -- ---- all
 
 abbrev pub profile : Frame → Profile
 profile (frame.Call f) = of_call (call_profile f)
 profile (frame.Free f) = of_free (free_profile f)
+profile (frame.Turn f) = of_turn (turn_profile f)

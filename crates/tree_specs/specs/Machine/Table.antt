@@ -1,5 +1,5 @@
 -- The same rules as tables of single steps, one row for each kind of open work.
-use Rattle.std.specs.Prelude.{ℕ, nat_eq, Option, Some, None, unwrap_or, if◌then◌else◌}
+use Rattle.std.specs.Prelude.{ℕ, ◌-◌, Bool, true, false, nat_eq, nat_le, List, Option, Some, None, unwrap_or, if◌then◌else◌}
 use Rattle.step_machine.specs.Machine.{Move, Table}
 use Rattle.step_machine.specs.Machine.{Move as Do}
 use Rattle.step_machine.specs.Noted.{Notes}
@@ -11,36 +11,47 @@ use Rattle.tree_specs.specs.declared.row.Mark.{Mark}
 use Rattle.tree_specs.specs.declared.row.Mark.TheVariants as mark
 use Rattle.tree_specs.specs.declared.call.Call.{Call}
 use Rattle.tree_specs.specs.declared.reply.Reply.{Reply}
+use Rattle.tree_specs.specs.declared.reply.Reply.TheVariants as reply
+use Rattle.tree_specs.specs.declared.reply.Refusal.TheVariants as refusal
+use Rattle.tree_specs.specs.declared.due.Due.{Due}
+use Rattle.tree_specs.specs.declared.handler.Handler.{Handler}
+use Rattle.tree_specs.specs.declared.wants.Want.{Want}
+use Rattle.tree_specs.specs.declared.moment.What.{What}
+use Rattle.tree_specs.specs.declared.moment.What.TheVariants.{Immediate as ForImmediate, Timer as ForTimer}
 use Rattle.tree_specs.specs.declared.event.Event.{Event}
 use Rattle.tree_specs.specs.declared.event.Event.TheVariants as event
 use Rattle.tree_specs.specs.declared.question.Ask.{Ask}
-use Rattle.tree_specs.specs.declared.question.Ask.TheVariants.{Routine}
+use Rattle.tree_specs.specs.declared.question.Ask.TheVariants.{Quiet, Routine, Clock, Wait}
 use Rattle.tree_specs.specs.declared.question.Input.{Input}
 use Rattle.tree_specs.specs.declared.frame.Frame.{Frame}
 use Rattle.tree_specs.specs.declared.frame.Frame.TheVariants as frame
 use Rattle.tree_specs.specs.declared.frame.CallFrame.{CallFrame}
-use Rattle.tree_specs.specs.declared.frame.CallFrame.TheVariants.{Asking, Doing, Awaiting, Warning, Telling, Returning}
+use Rattle.tree_specs.specs.declared.frame.CallFrame.TheVariants.{Asking, Doing, Awaiting, Turning, Warning, Telling, Returning}
 use Rattle.tree_specs.specs.declared.frame.FreeFrame.{FreeFrame}
-use Rattle.tree_specs.specs.declared.frame.FreeFrame.TheVariants.{Unlinking, Releasing, Giving, Beginning, Hooked, Judged, Leaving, Looping, FreeingChild, AfterChild, Ending}
+use Rattle.tree_specs.specs.declared.frame.FreeFrame.TheVariants.{Unlinking, Releasing, Giving, Beginning, Hooked, Judged, Dooming, Leaving, Looping, FreeingChild, AfterChild, Ending}
+use Rattle.tree_specs.specs.declared.frame.TurnFrame.{TurnFrame}
+use Rattle.tree_specs.specs.declared.frame.TurnFrame.TheVariants.{Taking, Timing, Timed, Polling, Starting, Firing, Handling, Handled, Clearing, Reading, Closing}
 use Rattle.tree_specs.specs.declared.frame.Purpose.{Purpose}
 use Rattle.tree_specs.specs.declared.frame.Purpose.TheVariants.{Removal, Emptying}
 use Rattle.tree_specs.specs.declared.frame.Answer.{Answer}
-use Rattle.tree_specs.specs.declared.frame.Answer.TheVariants.{Freed, Returned}
+use Rattle.tree_specs.specs.declared.frame.Answer.TheVariants.{Freed, Returned, Turned}
 use Rattle.tree_specs.specs.declared.free_step.FreeReply.{FreeReply}
 use Rattle.tree_specs.specs.declared.free_step.FreeReply.TheVariants as free_reply
 use Rattle.tree_specs.specs.declared.free_step.FreeReply.TheVariants.{Ok, Held, Running}
 use Rattle.tree_specs.specs.declared.free_step.FreeStep.{FreeStep}
-use Rattle.tree_specs.specs.declared.free_step.FreeStep.TheVariants.{Ask as AskOf, Dropped, Refused, Accepted, Left, Moved, Gone, Done as Over}
+use Rattle.tree_specs.specs.declared.free_step.FreeStep.TheVariants.{Ask as AskOf, Dropped, Refused, Accepted, Doom, Left, Moved, Gone, Done as Over}
 use Rattle.tree_specs.specs.Tree.Targets.{newest_ref}
-use Rattle.tree_specs.specs.Tree.Pool.{Pool, row_of, is_below, owner_of, target_at, newest_ref_of, noted_owner, is_inside, first_kid, detach, remove, place, set_mark, set_hook}
+use Rattle.tree_specs.specs.Tree.Pool.{Pool, row_of, is_below, owner_of, target_at, newest_ref_of, noted_owner, is_inside, first_kid, detach, remove, place, set_mark, doom, set_hook, unschedule, disarm}
+use Rattle.tree_specs.specs.Events.Pending.{first}
+use Rattle.tree_specs.specs.Events.Coming.{wait_limit, handler_for, handler_moment, goes_after, looks_again}
 use Rattle.tree_specs.specs.Tree.Heirs.{heir}
 use Rattle.tree_specs.specs.Rules.Items.{Item}
 use Rattle.tree_specs.specs.Rules.Items.Item.{Told, Asked}
 use Rattle.tree_specs.specs.Calls.Refusals.{Check, refusals}
 use Rattle.tree_specs.specs.Calls.Plans.{Plan, plan, unless_refused, changed_by}
-use Rattle.tree_specs.specs.Calls.Plans.Plan.{Does, Frees, Unlinks, Empties}
+use Rattle.tree_specs.specs.Calls.Plans.Plan.{Does, Frees, Unlinks, Empties, AsksTime, Turns}
 use Rattle.tree_specs.specs.Rules.Sequence.{CallStart}
-use Rattle.tree_specs.specs.Rules.Story.{freed_reply, hook_moment, later, heard}
+use Rattle.tree_specs.specs.Rules.Story.{freed_reply, hook_moment, later, heard, clocked, polled}
 
 -- ---- freeing
 
@@ -56,7 +67,7 @@ begin_quiet x h p = if nat_eq h 0 then Do.Go (Leaving x 0) p else Do.Go (Hooked 
 abbrev pub begin_by : Obj → ℕ → Mark → Pool → FreeMove
 begin_by x h mark.Quiet p = begin_quiet x h p
 begin_by x h mark.Asked p = Do.Done Running p
-begin_by x h mark.Busy p = Do.Done Running (set_mark p x mark.Doomed)
+begin_by x h mark.Busy p = Do.Emit (Doom x) (Dooming x) (doom p x)
 begin_by x h mark.Doomed p = Do.Done Running p
 begin_by x h (mark.Dying former) p = Do.Done Ok p
 
@@ -128,6 +139,7 @@ free_step (Giving x o) p = Do.Emit (Moved x (unwrap_or (owner_of p.rows x) Root)
 free_step (Beginning x) p = refs_step x (newest_ref p.rows x) p
 free_step (Hooked x h) p = Do.Wait (AskOf x) (Hooked x h) p
 free_step (Judged x h v) p = judge_step x h v p
+free_step (Dooming x) p = Do.Done Running p
 free_step (Leaving x h) p = Do.Emit (Left x (unwrap_or (owner_of p.rows x) Root)) (Looping x (Removal h)) (detach p x)
 free_step (Looping x purpose) p = loop_step x purpose (first_kid p.rows (Of x)) p
 -- it waits for the work above it
@@ -158,6 +170,7 @@ event_of (AskOf x) = None
 event_of (Dropped r target) = Some (event.Unreferenced r target)
 event_of (Refused x v) = Some (event.Refused x v)
 event_of (Accepted x) = Some (event.Accepted x)
+event_of (Doom x) = None
 event_of (Left x from) = None
 event_of (Moved x from owner) = Some (event.Moved x owner)
 event_of (Gone x h) = Some (event.Freed x h)
@@ -189,12 +202,19 @@ abbrev pub warned_step : Option Obj → Ask → Reply → Pool → Step
 warned_step None q r p = replied q r p
 warned_step (Some x) q r p = Do.Go (frame.Call (Warning (later q r) x r)) p
 
+-- a turn is for the host's own caller alone
+abbrev pub turning_step : Ask → Pool → Step
+turning_step Quiet p = Do.Call (frame.Turn Taking) (frame.Call (Turning Quiet)) p
+turning_step q p = replied q (reply.No refusal.Nested) p
+
 -- the first step of a plan
 abbrev pub plan_step : Ask → Plan → Pool → Step
 plan_step q (Does c warned r) p = warned_step warned q r (changed_by c p)
 plan_step q (Frees x) p = Do.Call (frame.Free (Beginning x)) (frame.Call (Awaiting q x)) p
 plan_step q (Unlinks o x) p = Do.Call (frame.Free (Unlinking o x)) (frame.Call (Awaiting q x)) p
 plan_step q (Empties x) p = Do.Call (frame.Free (Looping x Emptying)) (frame.Call (Awaiting q x)) p
+plan_step q AsksTime p = Do.Call (frame.Turn Reading) (frame.Call (Turning q)) p
+plan_step q Turns p = turning_step q p
 
 -- the first refusal that applies, otherwise the plan
 abbrev pub call_step : Check → Ask → Call → Pool → Step
@@ -205,26 +225,79 @@ caller_step (Asking q) p = Do.Wait (Asked q) (frame.Call (Asking q)) p
 caller_step (Doing q c) p = call_step (refusals p c) q c p
 -- it waits for the work above it
 caller_step (Awaiting q x) p = Do.Done (Freed Ok) p
+caller_step (Turning q) p = Do.Done (Freed Ok) p
 caller_step (Warning q x r) p = Do.Emit (Told (event.Warned x)) (frame.Call (Telling q r)) p
 caller_step (Telling q r) p = Do.Emit (Told (event.Replied r)) (frame.Call (Asking q)) p
 caller_step (Returning v) p = Do.Done (Returned v) p
 
+-- ---- the turn
+
+-- the first time, where it is 0, has come; for any other the clock is asked
+abbrev pub due_step : Option Due → Pool → Step
+due_step None p = Do.Go (frame.Turn (Polling wait_limit)) p
+due_step (Some d) p = if nat_eq d.time 0 then Do.Go (frame.Turn (Starting ForTimer d.object 0)) (disarm p d.object) else Do.Go (frame.Turn (Timing false)) p
+
+-- those that come soon are first
+abbrev pub taking_step : Option Obj → Pool → Step
+taking_step None p = due_step (first p.times) p
+taking_step (Some x) p = Do.Go (frame.Turn (Starting ForImmediate x 0)) (unschedule p x)
+
+-- where the first time hasn't come it is asked once what is ready, until then at the longest
+abbrev pub early_step : Bool → Due → ℕ → Pool → Step
+early_step true d now p = Do.Go (frame.Turn (Closing 0)) p
+early_step false d now p = Do.Go (frame.Turn (Polling (d.time - now))) p
+
+abbrev pub timed_step : Bool → ℕ → Option Due → Pool → Step
+timed_step again now None p = Do.Go (frame.Turn (Closing 0)) p
+timed_step again now (Some d) p = if nat_le d.time now then Do.Go (frame.Turn (Starting ForTimer d.object now)) (disarm p d.object) else early_step again d now p
+
+-- an event that has no handler does nothing
+abbrev pub starting_step : What → Obj → ℕ → Option Handler → Pool → Step
+starting_step what x now None p = Do.Go (frame.Turn (Closing 1)) p
+starting_step what x now (Some handler) p = Do.Go (frame.Turn (Firing what x handler now)) (set_mark p x mark.Busy)
+
+-- after its handler has run an event is quiet again, or is freed
+abbrev pub handled_step : Obj → Bool → Pool → Step
+handled_step x true p = Do.Call (frame.Free (Beginning x)) (frame.Turn (Clearing x)) (set_mark p x mark.Quiet)
+handled_step x false p = Do.Go (frame.Turn (Closing 1)) (set_mark p x mark.Quiet)
+
+abbrev pub turn_step : TurnFrame → Pool → Step
+turn_step Taking p = taking_step (first p.soon) p
+turn_step (Timing again) p = Do.Wait (Asked Clock) (frame.Turn (Timing again)) p
+turn_step (Timed again now) p = timed_step again now (first p.times) p
+turn_step (Polling limit) p = Do.Wait (Asked (Wait limit)) (frame.Turn (Polling limit)) p
+turn_step (Starting what x now) p = starting_step what x now (handler_for p what x) p
+turn_step (Firing what x handler now) p = Do.Emit (Told (event.Fired what x handler.routine)) (frame.Turn (Handling what x handler now)) p
+turn_step (Handling what x handler now) p = Do.Call (frame.Call (Asking (Routine (handler_moment what x handler now)))) (frame.Turn (Handling what x handler now)) p
+turn_step (Handled what x) p = handled_step x (goes_after p what x) p
+-- it waits for the work above it
+turn_step (Clearing x) p = Do.Done (Freed Ok) p
+turn_step Reading p = Do.Wait (Asked Clock) (frame.Turn Reading) p
+turn_step (Closing v) p = Do.Done (Turned v) p
+
 abbrev pub step : Frame → Pool → Step
 step (frame.Call f) p = caller_step f p
 step (frame.Free f) p = lifted (free_step f p)
+step (frame.Turn f) p = turn_step f p
 
 -- what a work answers, where a free is waited for
 abbrev pub reply_in : Answer → FreeReply
 reply_in (Freed a) = a
-reply_in (Returned v) = Ok
+reply_in answer = Ok
 
 -- what a work answers, where a routine is waited for
 abbrev pub value_in : Answer → ℕ
-value_in (Freed a) = 0
 value_in (Returned v) = v
+value_in answer = 0
+
+-- what a work answers, where a turn is waited for
+abbrev pub number_in : Answer → ℕ
+number_in (Turned v) = v
+number_in answer = 0
 
 abbrev pub caller_resume : CallFrame → Answer → CallFrame
 caller_resume (Awaiting q x) a = Telling (later q (freed_reply x (reply_in a))) (freed_reply x (reply_in a))
+caller_resume (Turning q) a = Telling (later q (reply.Number (number_in a))) (reply.Number (number_in a))
 caller_resume f a = f
 
 -- a free that has waited goes on with what it waited for
@@ -232,9 +305,15 @@ abbrev pub freeing_resume : FreeFrame → Answer → FreeFrame
 freeing_resume (Hooked x h) a = Judged x h (value_in a)
 freeing_resume f a = free_resume f (reply_in a)
 
+abbrev pub turn_resume : TurnFrame → TurnFrame
+turn_resume (Handling what x handler now) = Handled what x
+turn_resume (Clearing x) = Closing 1
+turn_resume f = f
+
 abbrev pub resume : Frame → Answer → Frame
 resume (frame.Call f) a = frame.Call (caller_resume f a)
 resume (frame.Free f) a = frame.Free (freeing_resume f a)
+resume (frame.Turn f) a = frame.Turn (turn_resume f)
 
 abbrev pub doing : Ask → Call → Frame
 doing q c = frame.Call (Doing q c)
@@ -246,9 +325,26 @@ abbrev pub caller_taken : CallFrame → Input → Option Frame
 caller_taken (Asking q) i = heard q (doing q) returning i
 caller_taken f i = None
 
+abbrev pub timed_turn : Bool → ℕ → Frame
+timed_turn again now = frame.Turn (Timed again now)
+
+abbrev pub closed_turn : ℕ → Frame
+closed_turn v = frame.Turn (Closing v)
+
+-- after a wait in which nothing was ready the clock is asked again, where an event has a time
+abbrev pub looked_turn : Pool → List Want → Frame
+looked_turn p wants = if looks_again p wants then frame.Turn (Timing true) else closed_turn 0
+
+abbrev pub turn_taken : TurnFrame → Pool → Input → Option Frame
+turn_taken (Timing again) p i = clocked (timed_turn again) i
+turn_taken (Polling limit) p i = polled limit (looked_turn p) i
+turn_taken Reading p i = clocked closed_turn i
+turn_taken f p i = None
+
 -- the pool is what tells open descriptors from others
 abbrev pub taken : Frame → Pool → Input → Option Frame
 taken (frame.Call f) p i = caller_taken f i
+taken (frame.Turn f) p i = turn_taken f p i
 taken _ p i = None
 
 abbrev pub table : Table Frame Answer Pool Input Item
@@ -260,6 +356,7 @@ abbrev pub note_after : Frame → Pool → Option CallStart → Option CallStart
 note_after (frame.Call (Doing q c)) p b = Some (record { call = c; start = p })
 note_after (frame.Call (Asking q)) p b = b
 note_after (frame.Call (Awaiting q x)) p b = b
+note_after (frame.Call (Turning q)) p b = b
 note_after (frame.Call (Warning q x r)) p b = b
 note_after f p b = None
 

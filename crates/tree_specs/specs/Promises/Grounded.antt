@@ -22,7 +22,7 @@ use Rattle.tree_specs.specs.declared.reply.Refusal.TheVariants.{Held, Running, R
 use Rattle.tree_specs.specs.declared.question.Input.{Input}
 use Rattle.tree_specs.specs.declared.event.Event.TheVariants.{Replied, Fired, Accepted, Refused, Unreferenced}
 use Rattle.tree_specs.specs.Words.Objects.{same}
-use Rattle.tree_specs.specs.Tree.Pool.{Pool, row_of, is_object, is_owner, is_inside}
+use Rattle.tree_specs.specs.Tree.Pool.{Pool, row_of, passes, is_object, is_owner, is_inside}
 use Rattle.tree_specs.specs.Calls.Refusals.{is_held, is_running, is_interested}
 use Rattle.tree_specs.specs.Rules.Items.{Item}
 use Rattle.tree_specs.specs.Rules.Items.Item.{Told}
@@ -100,8 +100,7 @@ may_fire what.Trigger kind.Request m = true
 may_fire w k m = false
 
 abbrev pub may_fire_row : What → Option Row → Bool
-may_fire_row w None = false
-may_fire_row w (Some r) = may_fire w r.kind r.mark
+may_fire_row w o = passes (λ r. may_fire w r.kind r.mark) o
 
 abbrev pub AsksHook : Obj → Scene → Type 0
 AsksHook x s = asks_hook x s.item ≡ true
@@ -110,13 +109,9 @@ abbrev pub is_asked_mark : Mark → Bool
 is_asked_mark mark.Asked = true
 is_asked_mark m = false
 
-abbrev pub is_asked_row : Option Row → Bool
-is_asked_row None = false
-is_asked_row (Some r) = is_asked_mark r.mark
-
 -- its destructor is asked
 abbrev pub is_asked : Pool → Obj → Bool
-is_asked p x = is_asked_row (row_of p.rows x)
+is_asked p x = passes (λ r. is_asked_mark r.mark) (row_of p.rows x)
 
 -- a routine starts for a live object; a destructor accepts right after a question to it, while its object is asked
 abbrev pub Started : List Scene → Item → Pool → Type 0

@@ -12,22 +12,22 @@ use Rattle.tree_specs.specs.declared.reply.Reply.TheVariants.{No}
 use Rattle.tree_specs.specs.declared.reply.Refusal.{Refusal}
 use Rattle.tree_specs.specs.declared.reply.Refusal.TheVariants.{Running as IsRunning}
 use Rattle.tree_specs.specs.declared.event.Event.TheVariants.{Refused as HasRefused, Unreferenced}
-use Rattle.tree_specs.specs.declared.question.Ask.TheVariants.{Routine}
+use Rattle.tree_specs.specs.declared.question.Ask.TheVariants.{Quiet, Routine}
 use Rattle.tree_specs.specs.declared.question.Input.{Input}
 use Rattle.tree_specs.specs.declared.free_step.FreeReply.{FreeReply}
 use Rattle.tree_specs.specs.declared.free_step.FreeReply.TheVariants.{Ok, Held, Running, Refused}
-use Rattle.tree_specs.specs.Tree.Pool.{Pool, row_of, remove, set_mark}
+use Rattle.tree_specs.specs.Tree.Pool.{Pool, row_of, remove, set_mark, doom}
 use Rattle.tree_specs.specs.Tree.Forest.{Distinct}
 use Rattle.tree_specs.specs.Calls.Refusals.{is_running}
 use Rattle.tree_specs.specs.Calls.Plans.{planned}
 use Rattle.tree_specs.specs.Rules.Items.{Item}
 use Rattle.tree_specs.specs.Rules.Items.Item.{Told}
 use Rattle.tree_specs.specs.Rules.Sequence.{Work, Scene}
-use Rattle.tree_specs.specs.Rules.Story.{effect, free, unlink, children, asked, hook_moment, freed_reply}
+use Rattle.tree_specs.specs.Rules.Story.{effect, free, unlink, children, asked, hook_moment, freed_reply, numbered, turned, taking, reading}
 
--- a call, be it the host's own or an act, with its reply
+-- a call, be it the host's own or an act, with its reply; a turn is the host's own
 abbrev pub called : ℕ → Call → Work Reply
-called n c p is = effect (free n) (unlink n) (children n) (planned p c) p is
+called n c p is = effect (free n) (unlink n) (children n) (numbered (reading n)) (turned Quiet (taking n)) (planned p c) p is
 
 -- ---- running
 
@@ -69,9 +69,9 @@ pub record OnlyDropped (x : Obj) (p q : Pool) (told : List Scene) : Type 0 where
   pub drops : AllDropsOf x told
   pub pool : q ≡ without_dropped told p
 
--- an object whose handler runs is marked to be freed after it
+-- an object whose handler runs is to be freed after it, and waits for nothing any more
 abbrev pub doomed_by : Mark → Obj → Pool → Pool
-doomed_by mark.Busy x p = set_mark p x mark.Doomed
+doomed_by mark.Busy x p = doom p x
 doomed_by m x p = p
 
 abbrev pub doomed_at : Option Row → Obj → Pool → Pool

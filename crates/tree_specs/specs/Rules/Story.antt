@@ -1,5 +1,5 @@
 -- The rules of freeing, of destructors and of calls, and the story that they tell. Each turn hands on one less.
-use Rattle.std.specs.Prelude.{ℕ, suc, zero, ◌+◌, ◌-◌, ◌*◌, ◌^◌, nat_eq, nat_lt, List, length, map, Option, Some, None, unwrap_or, if◌then◌else◌}
+use Rattle.std.specs.Prelude.{ℕ, suc, zero, ◌+◌, ◌-◌, ◌*◌, ◌^◌, nat_eq, nat_lt, nat_le, Bool, true, false, List, length, map, Option, Some, None, unwrap_or, if◌then◌else◌}
 use Rattle.step_machine.specs.Machine.{items as told_by}
 use Rattle.tree_specs.specs.declared.object.Obj.{Obj}
 use Rattle.tree_specs.specs.declared.object.Owner.TheVariants.{Root, Of}
@@ -9,9 +9,12 @@ use Rattle.tree_specs.specs.declared.call.Call.{Call}
 use Rattle.tree_specs.specs.declared.reply.Refusal.TheVariants as refusal
 use Rattle.tree_specs.specs.declared.reply.Reply.{Reply}
 use Rattle.tree_specs.specs.declared.reply.Reply.TheVariants as reply
-use Rattle.tree_specs.specs.declared.event.Event.TheVariants.{Replied, Accepted, Refused, Moved, Warned, Freed, Unreferenced}
+use Rattle.tree_specs.specs.declared.event.Event.TheVariants.{Replied, Fired, Accepted, Refused, Moved, Warned, Freed, Unreferenced}
 use Rattle.tree_specs.specs.declared.moment.Moment.{Moment}
-use Rattle.tree_specs.specs.declared.moment.What.TheVariants.{Hook as ForHook}
+use Rattle.tree_specs.specs.declared.moment.What.{What}
+use Rattle.tree_specs.specs.declared.moment.What.TheVariants.{Hook as ForHook, Immediate as ForImmediate, Timer as ForTimer}
+use Rattle.tree_specs.specs.declared.handler.Handler.{Handler}
+use Rattle.tree_specs.specs.declared.wants.Want.{Want}
 use Rattle.tree_specs.specs.declared.question.Ask.{Ask}
 use Rattle.tree_specs.specs.declared.question.Ask.TheVariants as ask
 use Rattle.tree_specs.specs.declared.question.Input.{Input}
@@ -19,15 +22,18 @@ use Rattle.tree_specs.specs.declared.free_step.FreeReply.{FreeReply}
 use Rattle.tree_specs.specs.declared.free_step.FreeReply.TheVariants as free_reply
 use Rattle.tree_specs.specs.declared.free_step.FreeReply.TheVariants.{Ok, Held, Running}
 use Rattle.tree_specs.specs.Tree.Targets.{newest_ref}
-use Rattle.tree_specs.specs.Tree.Pool.{empty, row_of, is_below, owner_of, newest_ref_of, target_at, noted_owner, is_inside, first_kid, detach, remove, place, set_mark, set_hook}
+use Rattle.tree_specs.specs.Tree.Pool.{Pool, empty, row_of, is_below, owner_of, newest_ref_of, target_at, noted_owner, is_inside, first_kid, detach, remove, place, set_mark, doom, set_hook, unschedule, disarm}
+use Rattle.tree_specs.specs.Events.Pending.{first}
+use Rattle.tree_specs.specs.Events.Coming.{wait_limit, handler_for, handler_moment, goes_after, looks_again}
 use Rattle.tree_specs.specs.Tree.Heirs.{heir}
 use Rattle.tree_specs.specs.Rules.Items.{Item}
 use Rattle.tree_specs.specs.Rules.Items.Item.{Told, Asked}
-use Rattle.tree_specs.specs.Words.Ranges.{is_sound_call, is_return}
+use Rattle.tree_specs.specs.Words.Ranges.{is_sound_call, is_return, is_time}
+use Rattle.tree_specs.specs.Words.Wants.{is_wants}
 use Rattle.tree_specs.specs.Calls.Given.{Given, given_to}
-use Rattle.tree_specs.specs.Calls.Given.Given.{Calls, Returns}
+use Rattle.tree_specs.specs.Calls.Given.Given.{Calls, Returns, Tells, IsReady}
 use Rattle.tree_specs.specs.Calls.Plans.{Plan, planned, warned_by, changed_by}
-use Rattle.tree_specs.specs.Calls.Plans.Plan.{Does, Frees, Unlinks, Empties}
+use Rattle.tree_specs.specs.Calls.Plans.Plan.{Does, Frees, Unlinks, Empties, AsksTime, Turns}
 use Rattle.tree_specs.specs.Rules.Sequence.{Work, Scene, CallStart, ◌>>=◌, ◌>>◌, gives, pool, change, tells, told_about, asks, short}
 
 -- the reply to a call that frees
@@ -60,25 +66,56 @@ abbrev pub led : {A : Type 0} → (Call → A) → (ℕ → A) → Option Given 
 led does returns None = None
 led does returns (Some (Calls c)) = if is_sound_call c then Some (does c) else None
 led does returns (Some (Returns v)) = if is_return v then Some (returns v) else None
+led does returns (Some (Tells now)) = None
+led does returns (Some (IsReady wants)) = None
 
 abbrev pub heard : {A : Type 0} → Ask → (Call → A) → (ℕ → A) → Input → Option A
 heard q does returns i = led does returns (given_to q i)
 
--- A plan carried out, with the reply to it. `free` frees an object, `unlink` takes an owner's interest in it away, and
--- `children` frees those of an object.
-abbrev pub effect : (Obj → Work FreeReply) → (Owner → Obj → Work FreeReply) → (Obj → Work (Unit {0})) → Plan → Work Reply
-effect free unlink children (Does c warned r) = do
+-- the time, where the clock was asked
+abbrev pub told_time : {A : Type 0} → (ℕ → A) → Option Given → Option A
+told_time timed (Some (Tells now)) = if is_time now then Some (timed now) else None
+told_time timed given = None
+
+abbrev pub clocked : {A : Type 0} → (ℕ → A) → Input → Option A
+clocked timed i = told_time timed (given_to ask.Clock i)
+
+-- the descriptors that are ready, where this was asked
+abbrev pub told_ready : {A : Type 0} → (List Want → A) → Option Given → Option A
+told_ready looked (Some (IsReady wants)) = if is_wants wants then Some (looked wants) else None
+told_ready looked given = None
+
+abbrev pub polled : {A : Type 0} → ℕ → (List Want → A) → Input → Option A
+polled limit looked i = told_ready looked (given_to (ask.Wait limit) i)
+
+-- its number is the reply
+abbrev pub numbered : Work ℕ → Work Reply
+numbered work = do
+  n ← work
+  gives (reply.Number n)
+
+-- a turn is for the host's own caller alone, since a routine that runs may be in one
+abbrev pub turned : Ask → Work ℕ → Work Reply
+turned ask.Quiet turn = numbered turn
+turned q turn = gives (reply.No refusal.Nested)
+
+-- A plan carried out, with the reply to it. `free` frees an object, `unlink` takes an owner's interest in it away,
+-- `children` frees those of an object, `time` asks the clock, and `turn` is a turn of the event loop.
+abbrev pub effect : (Obj → Work FreeReply) → (Owner → Obj → Work FreeReply) → (Obj → Work (Unit {0})) → Work Reply → Work Reply → Plan → Work Reply
+effect free unlink children time turn (Does c warned r) = do
   change (λ p. changed_by c p)
   gives r
-effect free unlink children (Frees x) = do
+effect free unlink children time turn (Frees x) = do
   answer ← free x
   gives (freed_reply x answer)
-effect free unlink children (Unlinks o x) = do
+effect free unlink children time turn (Unlinks o x) = do
   answer ← unlink o x
   gives (freed_reply x answer)
-effect free unlink children (Empties x) = do
+effect free unlink children time turn (Empties x) = do
   children x
   gives reply.Ok
+effect free unlink children time turn AsksTime = time
+effect free unlink children time turn Turns = turn
 
 -- a child of x that wasn't freed goes to its heir, where x still is its owner
 abbrev pub hand_on : Obj → Obj → Option Owner → Work (Unit {0})
@@ -102,6 +139,14 @@ drops r target = do
   tells (Told (Unreferenced r target))
   change (λ q. remove q r)
 
+-- The newest reference to an object is dropped: after one from inside the object this begins again, and after one from
+-- outside it goes on as `outside` says. Where there is none, it is `unreferred`.
+abbrev pub from_newest : Option Obj → Pool → Obj → Work FreeReply → (Obj → Work FreeReply) → Work FreeReply → Work FreeReply
+from_newest None p x again outside unreferred = unreferred
+from_newest (Some r) p x again outside unreferred = do
+  drops r x
+  if is_inside p.rows (Of r) (Of x) then again else outside r
+
 abbrev mutual
   -- An owner's interest in an object is taken away: its newest reference to it is dropped, or it gives the object up.
   pub unlink : ℕ → Owner → Obj → Work FreeReply
@@ -121,12 +166,7 @@ abbrev mutual
   release zero x = short
   release (suc n) x = do
     p ← pool
-    elim (newest_ref p.rows x) [
-      | Some r ↦ (do
-        drops r x
-        if is_inside p.rows (Of r) (Of x) then release n x else given n x (unwrap_or (owner_of p.rows r) Root))
-      | None ↦ free n x
-    ]
+    from_newest (newest_ref p.rows x) p x (release n x) (λ r. given n x (unwrap_or (owner_of p.rows r) Root)) (free n x)
 
   pub given : ℕ → Obj → Owner → Work FreeReply
   given zero x o = short
@@ -142,27 +182,27 @@ abbrev mutual
   free zero x = short
   free (suc n) x = do
     p ← pool
-    elim (newest_ref p.rows x) [
-      | Some r ↦ (do
-        drops r x
-        if is_inside p.rows (Of r) (Of x) then free n x else gives Held)
-      | None ↦ elim (row_of p.rows x) [
-        | None ↦ gives Ok
-        | Some r ↦ elim r.mark [
-          | mark.Quiet ↦ if nat_eq r.hook 0
-              then leave n x 0
-              else (do
-                change (λ q. set_mark q x mark.Asked)
-                hooked n x r.hook)
-          | mark.Asked ↦ gives Running
-          | mark.Busy ↦ (do
-            change (λ q. set_mark q x mark.Doomed)
-            gives Running)
-          | mark.Doomed ↦ gives Running
-          | mark.Dying former ↦ gives Ok
-        ]
+    from_newest (newest_ref p.rows x) p x (free n x) (λ r. gives Held) (elim (row_of p.rows x) [
+      | None ↦ gives Ok
+      | Some r ↦ elim r.mark [
+        | mark.Quiet ↦ if nat_eq r.hook 0
+            then leave n x 0
+            else (do
+              change (λ q. set_mark q x mark.Asked)
+              hooked n x r.hook)
+        | mark.Asked ↦ gives Running
+        | mark.Busy ↦ (do
+          change (λ q. doom q x)
+          dooming n x)
+        | mark.Doomed ↦ gives Running
+        | mark.Dying former ↦ gives Ok
       ]
-    ]
+    ])
+
+  -- its handler runs, and it is freed after it
+  pub dooming : ℕ → Obj → Work FreeReply
+  dooming zero x = short
+  dooming (suc n) x = gives Running
 
   -- its destructor runs
   pub hooked : ℕ → Obj → ℕ → Work FreeReply
@@ -227,7 +267,7 @@ abbrev mutual
   acting zero q c = short
   acting (suc n) q c = do
     p ← pool
-    r ← effect (free n) (unlink n) (children n) (planned p c)
+    r ← effect (free n) (unlink n) (children n) (numbered (reading n)) (turned q (taking n)) (planned p c)
     elim (warned_by (planned p c)) [
       | None ↦ telling n (Some (record { call = c; start = p })) (later q r) r
       | Some x ↦ warning n (Some (record { call = c; start = p })) (later q r) x r
@@ -248,6 +288,96 @@ abbrev mutual
   pub returning : ℕ → ℕ → Work ℕ
   returning zero v = short
   returning (suc n) v = gives v
+
+  -- A turn: one event comes. It is the first of those that come soon, or else the one with the first time, where this has
+  -- come. Where none has, it is asked which descriptors are ready, until then at the longest.
+  pub taking : ℕ → Work ℕ
+  taking zero = short
+  taking (suc n) = do
+    p ← pool
+    elim (first p.soon) [
+      | Some x ↦ (do
+        change (λ q. unschedule q x)
+        starting n ForImmediate x 0)
+      | None ↦ elim (first p.times) [
+        | None ↦ polling n wait_limit
+        | Some d ↦ if nat_eq d.time 0
+            then (do
+              change (λ q. disarm q d.object)
+              starting n ForTimer d.object 0)
+            else timing n false
+      ]
+    ]
+
+  -- the clock tells whether the first time has come
+  pub timing : ℕ → Bool → Work ℕ
+  timing zero again = short
+  timing (suc n) again = asks (Asked ask.Clock) (clocked (timed n again))
+
+  pub timed : ℕ → Bool → ℕ → Work ℕ
+  timed zero again now = short
+  timed (suc n) again now = do
+    p ← pool
+    elim (first p.times) [
+      | None ↦ closing n 0
+      | Some d ↦ if nat_le d.time now
+          then (do
+            change (λ q. disarm q d.object)
+            starting n ForTimer d.object now)
+          else if again then closing n 0 else polling n (d.time - now)
+    ]
+
+  -- after a wait in which nothing was ready the clock is asked again, where an event has a time
+  pub polling : ℕ → ℕ → Work ℕ
+  polling zero limit = short
+  polling (suc n) limit = asks (Asked (ask.Wait limit)) (polled limit (λ wants. do
+    p ← pool
+    if looks_again p wants then timing n true else closing n 0))
+
+  -- an event with a handler is busy, and its handler runs
+  pub starting : ℕ → What → Obj → ℕ → Work ℕ
+  starting zero what x now = short
+  starting (suc n) what x now = do
+    p ← pool
+    elim (handler_for p what x) [
+      | None ↦ closing n 1
+      | Some handler ↦ (do
+        change (λ q. set_mark q x mark.Busy)
+        firing n what x handler now)
+    ]
+
+  pub firing : ℕ → What → Obj → Handler → ℕ → Work ℕ
+  firing zero what x handler now = short
+  firing (suc n) what x handler now = do
+    tells (Told (Fired what x handler.routine))
+    handling n what x handler now
+
+  pub handling : ℕ → What → Obj → Handler → ℕ → Work ℕ
+  handling zero what x handler now = short
+  handling (suc n) what x handler now = do
+    v ← asked n (ask.Routine (handler_moment what x handler now))
+    handled n what x
+
+  -- nothing goes on with it any more; a timer is freed, and so is what was to be freed meanwhile
+  pub handled : ℕ → What → Obj → Work ℕ
+  handled zero what x = short
+  handled (suc n) what x = do
+    p ← pool
+    change (λ q. set_mark q x mark.Quiet)
+    if goes_after p what x
+        then (do
+          answer ← free n x
+          closing n 1)
+        else closing n 1
+
+  -- the time
+  pub reading : ℕ → Work ℕ
+  reading zero = short
+  reading (suc n) = asks (Asked ask.Clock) (clocked (closing n))
+
+  pub closing : ℕ → ℕ → Work ℕ
+  closing zero v = short
+  closing (suc n) v = gives v
 
 -- turns enough for r rows and a inputs
 abbrev pub turns : ℕ → ℕ → ℕ

@@ -10,11 +10,13 @@ use Rattle.tree_specs.specs.declared.call.Call.{Call}
 use Rattle.tree_specs.specs.declared.question.Act.TheVariants as acts
 use Rattle.tree_specs.specs.declared.question.Input.{Input}
 use Rattle.tree_specs.specs.declared.question.Input.TheVariants as inputs
+use Rattle.tree_specs.specs.declared.wants.Want.{Want}
 use Rattle.tree_specs.specs.Words.Names.{is_name}
 use Rattle.tree_specs.specs.Calls.Spelling.{Reading, Form, forms}
 use Rattle.tree_specs.specs.Calls.Spelling.Reading.{IsConsistent, TakesOwner, TakesObject, TakesNumber, TakesRoutine, TakesRoutineOrNone, TakesTime, EndsInName}
 use Rattle.tree_specs.specs.Words.Objects.{numbered_owner}
 use Rattle.tree_specs.specs.Words.Ranges.{is_time}
+use Rattle.tree_specs.specs.Words.Wants.{is_wants}
 
 infixl 10 ◌>>=◌
 abbrev pub ◌>>=◌ : {A B : Type 0} → Option A → (A → Option B) → Option B
@@ -75,31 +77,52 @@ words text = slice_split (λ b. b == 32) text
 
 -- ---- calls
 
--- each field is a word, and a name is the last one
+infix 11 ◌leaving◌
+-- a value that was read, where there is one, and the words that it left
+abbrev pub ◌leaving◌ : {A : Type 0} → Option A → List (List ℕ) → Option (A × List (List ℕ))
+value leaving words = do
+  x ← value
+  Some (x, words)
+
+-- the first word, read as a field, and the words after it
+abbrev pub field : {A : Type 0} → (List ℕ → Option A) → List (List ℕ) → Option (A × List (List ℕ))
+field reader [] = None
+field reader (word ∷ more) = reader word leaving more
+
+-- the first word, read as a field, where no word comes after it
+abbrev pub last_field : {A : Type 0} → (List ℕ → Option A) → List (List ℕ) → Option (A × List (List ℕ))
+last_field reader (word ∷ []) = field reader (word ∷ [])
+last_field reader _ = None
+
+-- the first word, read as a field, and what is read then, which depends on the field's value
+abbrev pub with_field : {A B : Type 0} → (List ℕ → Option A) → List (List ℕ) → (A → List (List ℕ) → Option B) → Option B
+with_field reader words next = do
+  first ← field reader words
+  next first.0 first.1
+
+-- the call that the words begin with, by what it takes, and the words that it leaves; a name is the last word
+abbrev pub taken : Reading → List (List ℕ) → Option (Call × List (List ℕ))
+taken (IsConsistent call) words = Some (call, words)
+taken (TakesOwner next) words = with_field owner_of words (λ owner more. taken (next owner) more)
+taken (TakesObject next) words = with_field object_of words (λ x more. taken (next x) more)
+taken (TakesNumber next) words = with_field number_of words (λ n more. taken (next n) more)
+taken (TakesRoutine next) words = with_field routine_of words (λ routine more. taken (next routine) more)
+taken (TakesRoutineOrNone next) words = with_field number32_of words (λ routine more. taken (next routine) more)
+taken (TakesTime next) words = with_field time_of words (λ time more. taken (next time) more)
+taken (EndsInName call) words = do
+  name ← last_field name_of words
+  Some (call name.0, name.1)
+
+-- what was read, where no word is left
+abbrev pub ended : {A : Type 0} → A × List (List ℕ) → Option A
+ended (x, []) = Some x
+ended (x, word ∷ more) = None
+
+-- the call that all the words spell
 abbrev pub read : Reading → List (List ℕ) → Option Call
-read (IsConsistent call) [] = Some call
-read (TakesOwner next) (word ∷ more) = do
-  owner ← owner_of word
-  read (next owner) more
-read (TakesObject next) (word ∷ more) = do
-  object ← object_of word
-  read (next object) more
-read (TakesNumber next) (word ∷ more) = do
-  number ← number_of word
-  read (next number) more
-read (TakesRoutine next) (word ∷ more) = do
-  routine ← routine_of word
-  read (next routine) more
-read (TakesRoutineOrNone next) (word ∷ more) = do
-  routine ← number32_of word
-  read (next routine) more
-read (TakesTime next) (word ∷ more) = do
-  time ← time_of word
-  read (next time) more
-read (EndsInName call) (word ∷ []) = do
-  name ← name_of word
-  Some (call name)
-read _ words = None
+read reading words = do
+  call ← taken reading words
+  ended call
 
 -- the first form with this verb
 abbrev pub form_in : List Form → List ℕ → Option Reading
@@ -133,6 +156,37 @@ act_input_of text = option_map (λ c. inputs.Act (acts.Do c)) (call_of text)
 abbrev pub return_input_of : List ℕ → Option Input
 return_input_of text = option_map (λ v. inputs.Act (acts.Ret v)) (number32_of text)
 
+abbrev pub clock_input_of : List ℕ → Option Input
+clock_input_of text = option_map inputs.Clock (time_of text)
+
+-- a descriptor and its flags
+abbrev pub want_of_parts : List (List ℕ) → Option Want
+want_of_parts (fd ∷ flags ∷ []) = do
+  f ← number32_of fd
+  n ← number32_of flags
+  Some (record { fd = f; flags = n })
+want_of_parts parts = None
+
+abbrev pub want_of : List ℕ → Option Want
+want_of word = want_of_parts (slice_split (λ b. b == 58) word)
+
+abbrev pub wants_of : List (List ℕ) → Option (List Want)
+wants_of [] = Some []
+wants_of (word ∷ more) = do
+  want ← want_of word
+  wants ← wants_of more
+  Some (want ∷ wants)
+
+-- a space comes before each descriptor
+abbrev pub ready_of_words : List (List ℕ) → Option Input
+ready_of_words ([] ∷ more) = do
+  wants ← wants_of more
+  if is_wants wants then Some (inputs.Ready wants) else None
+ready_of_words words = None
+
+abbrev pub ready_input_of : List ℕ → Option Input
+ready_input_of text = ready_of_words (words text)
+
 infixl 9 ◌or◌
 -- the first that there is
 abbrev pub ◌or◌ : {A : Type 0} → Option A → Option A → Option A
@@ -145,3 +199,5 @@ input_of line =
     (strip (codes "call ") line >>= call_input_of)
     or (strip (codes "act ") line >>= act_input_of)
     or (strip (codes "ret ") line >>= return_input_of)
+    or (strip (codes "clock ") line >>= clock_input_of)
+    or (strip (codes "ready") line >>= ready_input_of)

@@ -20,6 +20,7 @@ use Rattle.tree_specs.specs.declared.question.Ask.TheVariants as asks
 use Rattle.tree_specs.specs.declared.question.Act.TheVariants as acts
 use Rattle.tree_specs.specs.declared.question.Input.{Input}
 use Rattle.tree_specs.specs.declared.question.Input.TheVariants as inputs
+use Rattle.tree_specs.specs.declared.wants.Want.{Want}
 use Rattle.tree_specs.specs.Words.Objects.{owner_number}
 use Rattle.tree_specs.specs.Calls.Spelling.{Field, spelling}
 use Rattle.tree_specs.specs.Calls.Spelling.Field.{AnOwner, AnObject, ANumber, ARoutine, ARoutineOrNone, ATime, AName}
@@ -42,11 +43,20 @@ field_text (AName name) = name
 unfoldable pub call_text : Call → List ℕ
 call_text c = (spelling c).verb ++ flat_map (λ f. codes " " ++ field_text f) (spelling c).fields
 
+-- a descriptor and its flags, with a space before them
+abbrev pub want_text : Want → List ℕ
+want_text w = codes " " ++ decimal w.fd ++ codes ":" ++ decimal w.flags
+
+abbrev pub wants_text : List Want → List ℕ
+wants_text ws = flat_map (λ w. want_text w) ws
+
 -- an input as its line
 unfoldable pub input_text : Input → List ℕ
 input_text (inputs.Call c) = codes "call " ++ call_text c ++ newline
 input_text (inputs.Act (acts.Do c)) = codes "act " ++ call_text c ++ newline
 input_text (inputs.Act (acts.Ret value)) = codes "ret " ++ decimal value ++ newline
+input_text (inputs.Clock now) = codes "clock " ++ decimal now ++ newline
+input_text (inputs.Ready wants) = codes "ready" ++ wants_text wants ++ newline
 
 -- ---- events
 

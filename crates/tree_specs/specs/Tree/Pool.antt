@@ -1,15 +1,17 @@
 -- The pool: the rows of the objects, the most recently placed first, the next serial number, and what waits for its turn.
 use Rattle.std.specs.Prelude.{ℕ, suc, zero, ◌+◌, Bool, true, false, not, ◌||◌, ◌&&◌, List, [], ◌∷◌, length, Option, Some, None, is_some, unwrap_or, if◌then◌else◌}
 use Rattle.tree_specs.specs.declared.due.Due.{Due}
+use Rattle.tree_specs.specs.declared.handler.Handler.{Handler}
 use Rattle.tree_specs.specs.declared.object.Obj.{Obj}
 use Rattle.tree_specs.specs.declared.object.Owner.{Owner}
 use Rattle.tree_specs.specs.declared.object.Owner.TheVariants.{Root, Of}
 use Rattle.tree_specs.specs.declared.row.Row.{Row}
 use Rattle.tree_specs.specs.declared.row.Mark.{Mark}
-use Rattle.tree_specs.specs.declared.row.Mark.TheVariants.{Quiet, Dying}
+use Rattle.tree_specs.specs.declared.row.Mark.TheVariants.{Quiet, Doomed, Dying}
 use Rattle.tree_specs.specs.declared.kind.Kind.{Kind}
 use Rattle.tree_specs.specs.Words.Objects.{same, same_owner}
 use Rattle.tree_specs.specs.Events.Pending.{scheduled, unscheduled, armed, disarmed}
+use Rattle.tree_specs.specs.Events.Handlers.{Handlers, no_handlers, with_handler, without_handler}
 use Rattle.tree_specs.specs.Tree.Targets.{target_of, is_target, is_reference, newest, newest_ref}
 
 pub record Pool : Type 0 where
@@ -19,10 +21,12 @@ pub record Pool : Type 0 where
   pub soon : List Obj
   -- objects whose time comes, the earliest first
   pub times : List Due
+  -- what runs when an event comes
+  pub handlers : Handlers
 
 -- objects of which none waits for its turn
 abbrev pub of_rows : List Row → ℕ → Pool
-of_rows rows next = record { rows = rows; next = next; soon = []; times = [] }
+of_rows rows next = record { rows = rows; next = next; soon = []; times = []; handlers = no_handlers }
 
 abbrev pub empty : ℕ → Pool
 empty first = of_rows [] first
@@ -37,10 +41,14 @@ row_of (r ∷ rs) x = if same r.serial x then Some r else row_of rs x
 abbrev pub is_row : List Row → Obj → Bool
 is_row rs x = is_some (row_of rs x)
 
+-- a row was found, and passes
+abbrev pub passes : (Row → Bool) → Option Row → Bool
+passes q None = false
+passes q (Some r) = q r
+
 -- a row that is no reference
 abbrev pub is_object_row : Option Row → Bool
-is_object_row None = false
-is_object_row (Some r) = not (is_reference r.kind)
+is_object_row o = passes (λ r. not (is_reference r.kind)) o
 
 abbrev pub is_object : List Row → Obj → Bool
 is_object rs x = is_object_row (row_of rs x)
@@ -111,8 +119,7 @@ is_dying_mark (Dying former) = true
 is_dying_mark m = false
 
 abbrev pub is_dying_row : Option Row → Bool
-is_dying_row None = false
-is_dying_row (Some r) = is_dying_mark r.mark
+is_dying_row o = passes (λ r. is_dying_mark r.mark) o
 
 abbrev pub is_dying : List Row → Obj → Bool
 is_dying rs x = is_dying_row (row_of rs x)
@@ -163,7 +170,7 @@ abbrev pub detach : Pool → Obj → Pool
 detach p x = record p { rows = changed left_row p.rows x; soon = unscheduled p.soon x; times = disarmed p.times x }
 
 abbrev pub remove : Pool → Obj → Pool
-remove p x = record p { rows = without p.rows x }
+remove p x = record p { rows = without p.rows x; handlers = without_handler p.handlers x }
 
 -- a row is put below an owner, in front of all others
 abbrev pub in_front : Option Row → Owner → List Row → List Row
@@ -178,37 +185,50 @@ owned_row o r = record r { owner = Some o }
 abbrev pub place : Pool → Owner → Obj → Pool
 place p o x = record p { rows = in_front (row_of p.rows x) o (without p.rows x) }
 
+-- an object's row is changed, and nothing else
+abbrev pub edited : Pool → Obj → (Row → Row) → Pool
+edited p x change = record p { rows = changed change p.rows x }
+
 abbrev pub named_row : List ℕ → Row → Row
 named_row name r = record r { name = name }
 
 abbrev pub rename : Pool → Obj → List ℕ → Pool
-rename p x name = record p { rows = changed (named_row name) p.rows x }
+rename p x name = edited p x (named_row name)
 
 abbrev pub marked_row : Mark → Row → Row
 marked_row mark r = record r { mark = mark }
 
 abbrev pub set_mark : Pool → Obj → Mark → Pool
-set_mark p x mark = record p { rows = changed (marked_row mark) p.rows x }
+set_mark p x mark = edited p x (marked_row mark)
 
+-- an event whose handler runs is to be freed after it, and waits for nothing until then
+abbrev pub doom : Pool → Obj → Pool
+doom p x = record p { rows = changed (marked_row Doomed) p.rows x; soon = unscheduled p.soon x; times = disarmed p.times x }
+
+-- a row with another destructor, size or limit
 abbrev pub hooked_row : ℕ → Row → Row
 hooked_row hook r = record r { hook = hook }
-
-abbrev pub set_hook : Pool → Obj → ℕ → Pool
-set_hook p x hook = record p { rows = changed (hooked_row hook) p.rows x }
 
 abbrev pub sized_row : ℕ → Row → Row
 sized_row size r = record r { size = size }
 
-abbrev pub set_size : Pool → Obj → ℕ → Pool
-set_size p x size = record p { rows = changed (sized_row size) p.rows x }
-
 abbrev pub limited_row : ℕ → Row → Row
 limited_row limit r = record r { limit = limit }
 
+abbrev pub set_hook : Pool → Obj → ℕ → Pool
+set_hook p x hook = edited p x (hooked_row hook)
+
+abbrev pub set_size : Pool → Obj → ℕ → Pool
+set_size p x size = edited p x (sized_row size)
+
 abbrev pub set_limit : Pool → Obj → ℕ → Pool
-set_limit p x limit = record p { rows = changed (limited_row limit) p.rows x }
+set_limit p x limit = edited p x (limited_row limit)
 
 -- ---- waiting
+
+-- an event gets a handler
+abbrev pub set_handler : Pool → Obj → Handler → Pool
+set_handler p x handler = record p { handlers = with_handler p.handlers x handler }
 
 -- an object is to come soon
 abbrev pub schedule : Pool → Obj → Pool
@@ -216,6 +236,9 @@ schedule p x = record p { soon = scheduled p.soon x }
 
 abbrev pub unschedule : Pool → Obj → Pool
 unschedule p x = record p { soon = unscheduled p.soon x }
+
+abbrev pub disarm : Pool → Obj → Pool
+disarm p x = record p { times = disarmed p.times x }
 
 -- an object is to come at a time; at equal times the smaller number comes first
 abbrev pub arm : Pool → Obj → ℕ → ℕ → Pool

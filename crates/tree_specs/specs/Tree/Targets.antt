@@ -2,20 +2,14 @@
 use Rattle.std.specs.Prelude.{Bool, false, nat_lt, List, [], ◌∷◌, Option, Some, None, is_some, if◌then◌else◌}
 use Rattle.tree_specs.specs.declared.object.Obj.{Obj}
 use Rattle.tree_specs.specs.declared.kind.Kind.{Kind}
-use Rattle.tree_specs.specs.declared.kind.Kind.TheVariants.{Plain, Reference, Timer, Immediate, Descriptor, Request, Queue, Entry}
+use Rattle.tree_specs.specs.declared.kind.Kind.TheVariants.{Reference}
 use Rattle.tree_specs.specs.declared.row.Row.{Row}
 use Rattle.tree_specs.specs.Words.Objects.{same}
 
 -- what a reference refers to
 abbrev pub target_of : Kind → Option Obj
-target_of Plain = None
 target_of (Reference target) = Some target
-target_of Timer = None
-target_of Immediate = None
-target_of Descriptor = None
-target_of Request = None
-target_of Queue = None
-target_of Entry = None
+target_of kind = None
 
 abbrev pub is_reference : Kind → Bool
 is_reference kind = is_some (target_of kind)

@@ -9,6 +9,7 @@ use Rattle.tree_specs.specs.declared.question.Act.TheVariants as acts
 use Rattle.tree_specs.specs.declared.question.Input.{Input}
 use Rattle.tree_specs.specs.declared.question.Input.TheVariants as inputs
 use Rattle.tree_specs.specs.Words.Names.{is_name}
+use Rattle.tree_specs.specs.Words.Wants.{is_wants}
 use Rattle.tree_specs.specs.Calls.Spelling.{Field, spelling}
 use Rattle.tree_specs.specs.Calls.Spelling.Field.{AnOwner, AnObject, ANumber, ARoutine, ARoutineOrNone, ATime, AName}
 
@@ -56,3 +57,5 @@ is_sound_act (acts.Ret value) = is_return value
 abbrev pub is_sound : Input → Bool
 is_sound (inputs.Call call) = is_sound_call call
 is_sound (inputs.Act act) = is_sound_act act
+is_sound (inputs.Clock now) = is_time now
+is_sound (inputs.Ready wants) = is_wants wants

@@ -6,18 +6,6 @@ use Rattle.tree_specs.specs.Texts.Grammar.{number_of, owner_of, object_of, name_
 use Rattle.tree_specs.specs.Texts.Schedule.{lines_of_parts, lines, line_input, judged_from, judged_lines, open_question}
 use Rattle.tree_specs.proofs.examples.schedules_are_made_from_a_number.Goals as goal
 
-pub returns-clause-four_calls : goal.returns-clause-four_calls
-unfolding digits call_text input_text
-returns-clause-four_calls c = refl
-
-pub returns-clause-four_calls_lines : goal.returns-clause-four_calls_lines
+pub returns : goal.returns
 unfolding digits call_text input_text refusal_numbers row_kind_text row_text reply_text event_text ask_text answered_text what_text item_text end_text body_text number_of owner_of object_of name_of number32_of routine_of time_of call_of_words call_of input_of lines_of_parts lines line_input judged_from judged_lines open_question fits
-returns-clause-four_calls_lines c = refl
-
-pub returns-clause-no_calls : goal.returns-clause-no_calls
-unfolding digits call_text input_text
-returns-clause-no_calls c = refl
-
-pub returns-clause-no_calls_lines : goal.returns-clause-no_calls_lines
-unfolding digits call_text input_text refusal_numbers row_kind_text row_text reply_text event_text ask_text answered_text what_text item_text end_text body_text number_of owner_of object_of name_of number32_of routine_of time_of call_of_words call_of input_of lines_of_parts lines line_input judged_from judged_lines open_question fits
-returns-clause-no_calls_lines c = refl
+returns c = record { draws = refl; four_calls = refl; four_calls_lines = refl; no_calls = refl; no_calls_lines = refl }

@@ -1,9 +1,10 @@
 use Rattle.std.proofs.Common.{None}
 use Rattle.step_machine.specs.Noted.{with_note}
 use Rattle.tree_specs.specs.declared.frame.CallFrame.TheVariants.{Asking}
-use Rattle.tree_specs.specs.declared.frame.Frame.TheVariants.{Call, Free}
+use Rattle.tree_specs.specs.declared.frame.Frame.TheVariants.{Call, Free, Turn}
 use Rattle.tree_specs.specs.declared.frame.FreeFrame.TheVariants.{Beginning, Unlinking, Looping}
 use Rattle.tree_specs.specs.declared.frame.Purpose.TheVariants.{Emptying}
+use Rattle.tree_specs.specs.declared.frame.TurnFrame.TheVariants.{Taking, Reading}
 use Rattle.tree_specs.proofs.Rules.Means.{run-means}
 use Rattle.tree_specs.proofs.Rules.MidStories.{not-short-equal, innermost-enough, innermost-more}
 use Rattle.tree_specs.proofs.machine.the_machine_tells_the_text.Goals as goal
@@ -16,6 +17,12 @@ returns-clause-unlink c = λ n o x p is h. not-short-equal _ _ h (run-means n (w
 
 pub returns-clause-children : goal.returns-clause-children
 returns-clause-children c = λ n x p is h. not-short-equal _ _ h (run-means n (with_note None (Free (Looping x Emptying))) p is)
+
+pub returns-clause-turn : goal.returns-clause-turn
+returns-clause-turn c = λ n p is h. not-short-equal _ _ h (run-means n (with_note None (Turn Taking)) p is)
+
+pub returns-clause-time : goal.returns-clause-time
+returns-clause-time c = λ n p is h. not-short-equal _ _ h (run-means n (with_note None (Turn Reading)) p is)
 
 pub returns-clause-enough : goal.returns-clause-enough
 returns-clause-enough c = λ v is h. innermost-enough v is h

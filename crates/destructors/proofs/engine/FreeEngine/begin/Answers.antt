@@ -2,7 +2,7 @@ use Rattle.std.proofs.Common.{rules, ◌∷◌, inl, sym, subst}
 use Rattle.tree_specs.specs.Tree.Pool.{Pool}
 use Rattle.references.specs.Rows.{AreRefsOf}
 use Rattle.tree_links.specs.Links.{pool_of}
-use Rattle.destructors.specs.Frees.{before, frees_of}
+use Rattle.destructors.specs.Frees.{before, frees_of, Begins}
 use Rattle.destructors.proofs.Begins.{begins, begun, begun-room}
 use Rattle.destructors.proofs.Counting.{silent-rows}
 use Rattle.destructors.proofs.engine.FreeEngine.begin.Goals as goal
@@ -16,14 +16,19 @@ settle-self-inside-requires c = record {
   refs = subst (λ (p : Pool). AreRefsOf c.args.refs.now.pairs p.rows) (sym c.wait.ensures.rows) c.requires.refs;
 }
 
-pub returns-clause-at_work : goal.returns-clause-at_work
-returns-clause-at_work c =
-    c.settle-self-inside.ensures.at_work (begun c.args.work c.args.self.now c.self.inside.innermost c.args.tree.now c.wait.new.tree c.self.view_is c.requires.first c.requires.awaiting c.wait.ensures.rows c.wait.ensures.works)
-
-pub returns-clause-begins : goal.returns-clause-begins
-returns-clause-begins c = search rules
-
-pub returns-clause-same : goal.returns-clause-same
-returns-clause-same c =
-    (silent-rows (record { works = c.args.work ∷ before c.args.self.now c.args.tree.now.frees; pool = pool_of c.args.tree.now }) _
-    (begins c.args.work (frees_of c.args.self.now c.args.tree.now) c.requires.first c.requires.awaiting) (returns-clause-begins c).moves_on).1
+pub returns : goal.returns
+returns c =
+    let begun_so : Begins (c.args.work ∷ before c.args.self.now c.args.tree.now.frees) (pool_of c.args.tree.now) (frees_of c.settle-self-inside.result c.settle-self-inside.new.tree) = search rules in
+    record {
+      begins = begun_so;
+      at_work =
+          c.settle-self-inside.ensures.at_work (begun c.args.work c.args.self.now c.self.inside.innermost c.args.tree.now c.wait.new.tree c.self.view_is c.requires.first c.requires.awaiting c.wait.ensures.rows c.wait.ensures.works);
+      kept = search rules;
+      room = search rules;
+      spare = search rules;
+      refs = search rules;
+      places = search rules;
+      same =
+          (silent-rows (record { works = c.args.work ∷ before c.args.self.now c.args.tree.now.frees; pool = pool_of c.args.tree.now }) _
+          (begins c.args.work (frees_of c.args.self.now c.args.tree.now) c.requires.first c.requires.awaiting) begun_so.moves_on).1;
+    }

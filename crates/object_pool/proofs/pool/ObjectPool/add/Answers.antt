@@ -15,7 +15,7 @@ invariant_of-self c =
     let fresh = subst (λ (x : Obj). row_of c.self.inside.tree.rows x ≡ None) c.add-serial.ensures.serial c.add-serial.ensures.fresh in
     let kept = c.count_added.ensures.spare in
     spent c.self.inside c.add-serial.new.self c.self.inside.refs c.count_added.new.sums c.self.inside.places
-    (λ e. still-places c.self.inside.refs c.self.inside.refs c.self.inside.sums c.count_added.new.sums c.self.inside.soon c.self.inside.times (omega arith) (omega (arith, kept)) (c.self.invariant.places e))
+    (λ e. still-places c.self.inside.refs c.self.inside.refs c.self.inside.sums c.count_added.new.sums c.self.inside.events (omega arith) (omega (arith, kept)) (c.self.invariant.places e))
     (subst (λ (o : Objects). o.ready ≡ true) (sym c.self.view_is) c.requires.ready) (omega (arith, n)) (omega (arith, more)) c.add-serial.ensures.works
     (subst (AreRefsOf c.self.inside.refs.pairs) (sym e) (refs-added c.self.inside.refs.pairs c.self.inside.tree.rows (record { 0 = c.self.inside.tree.next }) c.args.kind c.args.owner c.args.size c.args.name fresh c.requires.object c.self.invariant.references))
     c.count_added.ensures.kept c.self.invariant

@@ -7,9 +7,9 @@ use Rattle.object_pool.proofs.pool.ObjectPool.announces.Goals as goal
 
 pub announces-requires-clause-settled : goal.announces-requires-clause-settled
 announces-requires-clause-settled c =
-    sym (speaking-beside c.self.inside.soon.objects c.self.inside.times.dues (frees_of c.self.inside.engine c.self.inside.tree)) ∙ ap (λ (o : Objects). speaking (frees_in o)) c.self.view_is ∙ c.requires
+    sym (speaking-beside c.self.inside.events.upcoming (frees_of c.self.inside.engine c.self.inside.tree)) ∙ ap (λ (o : Objects). speaking (frees_in o)) c.self.view_is ∙ c.requires
 
 pub returns : goal.returns
 returns c =
-    c.announces.ensures ∙ sym (ap (λ (n : Option FreeStep × OpenFrees). is_event n.0) (next-beside c.self.inside.soon.objects c.self.inside.times.dues (frees_of c.self.inside.engine c.self.inside.tree)))
+    c.announces.ensures ∙ sym (ap (λ (n : Option FreeStep × OpenFrees). is_event n.0) (next-beside c.self.inside.events.upcoming (frees_of c.self.inside.engine c.self.inside.tree)))
     ∙ ap (λ (o : Objects). is_event (next_of (frees_in o)).0) c.self.view_is

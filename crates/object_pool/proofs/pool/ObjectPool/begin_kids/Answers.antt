@@ -3,7 +3,7 @@ use Rattle.tree_specs.specs.declared.frame.FreeFrame.TheVariants.{Looping}
 use Rattle.tree_specs.specs.declared.frame.Purpose.TheVariants.{Emptying}
 use Rattle.destructors.specs.Frees.{Begins, frees_of}
 use Rattle.object_pool.specs.Objects.{Objects}
-use Rattle.object_pool.specs.Waiting.{frees_beside}
+use Rattle.object_pool.specs.Upcoming.{frees_beside}
 use Rattle.object_pool.proofs.Beside.{begins-beside}
 use Rattle.object_pool.proofs.Keeping.{begun}
 use Rattle.object_pool.proofs.Numbers.{begins-next}
@@ -14,5 +14,5 @@ invariant_of-self c = let e = c.begin_kids.ensures in begun c.self.inside _ _ _ 
 
 pub returns-clause-begins : goal.returns-clause-begins
 returns-clause-begins c =
-    subst (λ (o : Objects). Begins (Looping c.args.x Emptying ∷ o.works) o.pool (frees_beside c.self.inside.soon.objects c.self.inside.times.dues (frees_of c.begin_kids.new.self c.begin_kids.new.tree))) c.self.view_is
-    (begins-beside c.self.inside.soon.objects c.self.inside.times.dues _ _ _ c.begin_kids.ensures.begins)
+    subst (λ (o : Objects). Begins (Looping c.args.x Emptying ∷ o.works) o.pool (frees_beside c.self.inside.events.upcoming (frees_of c.begin_kids.new.self c.begin_kids.new.tree))) c.self.view_is
+    (begins-beside c.self.inside.events.upcoming _ _ _ c.begin_kids.ensures.begins)

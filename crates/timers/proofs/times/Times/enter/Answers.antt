@@ -17,18 +17,18 @@ add-requires-clause-vacant c =
     none-placed c.self.inside.dues.items (get c.self.inside.places) c.self.invariant.places c.args.due.object
     (sym (found-sorted (λ d. same d.object c.args.due.object) c.self.inside.dues.items) ∙ ap (λ (t : Timetable). is_armed t.dues c.args.due.object) c.self.view_is ∙ c.requires.absent)
 
-pub rise-requires-clause-held : goal.rise-requires-clause-held
-rise-requires-clause-held c = ap is_some (ap (λ m. map.get m c.args.due.object.0) c.add.ensures.pairs ∙ get-with_entry _ _ (Some _) c.args.due.object.0 ∙ with-itself (get c.self.inside.places) c.args.due.object.0 c.len-at.result)
+pub sift-requires-clause-held : goal.sift-requires-clause-held
+sift-requires-clause-held c = ap is_some (ap (λ m. map.get m c.args.due.object.0) c.add.ensures.pairs ∙ get-with_entry _ _ (Some _) c.args.due.object.0 ∙ with-itself (get c.self.inside.places) c.args.due.object.0 c.len-at.result)
 
-pub rise-requires-clause-heap : goal.rise-requires-clause-heap
-rise-requires-clause-heap c =
+pub sift-requires-clause-heap : goal.sift-requires-clause-heap
+sift-requires-clause-heap c =
     let at : c.len-at.result ≡ length c.self.inside.dues.items = c.len-at.ensures ∙ c.self.inside.dues.ok.0 in
     let items : set c.push_reserved.new.self.items c.len-at.result c.args.due ≡ c.self.inside.dues.items ++ c.args.due ∷ [] = (λ i. set (c.push_reserved.ensures.items i) (at i) c.args.due) ∙ set-end c.self.inside.dues.items c.args.due in
     subst (λ n. Rises (slice_get (set c.push_reserved.new.self.items c.len-at.result c.args.due)) n) (sym at)
     (subst (λ l. Rises (slice_get l) (length c.self.inside.dues.items)) (sym items) (entered-rises c.self.inside.dues.items c.args.due c.self.invariant.heap))
 
-pub rise-requires-clause-places : goal.rise-requires-clause-places
-rise-requires-clause-places c =
+pub sift-requires-clause-places : goal.sift-requires-clause-places
+sift-requires-clause-places c =
     let at : c.len-at.result ≡ length c.self.inside.dues.items = c.len-at.ensures ∙ c.self.inside.dues.ok.0 in
     let items : set c.push_reserved.new.self.items c.len-at.result c.args.due ≡ c.self.inside.dues.items ++ c.args.due ∷ [] = (λ i. set (c.push_reserved.ensures.items i) (at i) c.args.due) ∙ set-end c.self.inside.dues.items c.args.due in
     subst (λ n. Places (slice_get (set c.push_reserved.new.self.items c.len-at.result c.args.due)) (with_place (get c.add.new.self) c.args.due.object.0 n)) (sym at)
@@ -38,12 +38,12 @@ rise-requires-clause-places c =
     (sym (found-sorted (λ d. same d.object c.args.due.object) c.self.inside.dues.items) ∙ ap (λ (t : Timetable). is_armed t.dues c.args.due.object) c.self.view_is ∙ c.requires.absent))
     (λ q. ap (λ m. map.get m q) c.add.ensures.pairs ∙ get-with_entry _ _ (Some _) q ∙ ap (λ n. with_place (get c.self.inside.places) c.args.due.object.0 n q) at)))
 
-module _ (c : goal.After-rise) where
+module _ (c : goal.After-sift) where
   items : set c.push_reserved.new.self.items c.len-at.result c.args.due ≡ c.self.inside.dues.items ++ c.args.due ∷ []
   items = (λ i. set (c.push_reserved.ensures.items i) ((c.len-at.ensures ∙ c.self.inside.dues.ok.0) i) c.args.due) ∙ set-end c.self.inside.dues.items c.args.due
 
-  reordered : Reorders (c.self.inside.dues.items ++ c.args.due ∷ []) c.rise.new.dues.items
-  reordered = subst (λ l. Reorders l c.rise.new.dues.items) items c.rise.ensures.dues
+  reordered : Reorders (c.self.inside.dues.items ++ c.args.due ∷ []) c.sift.new.dues.items
+  reordered = subst (λ l. Reorders l c.sift.new.dues.items) items c.sift.ensures.settled.dues
 
   teller : (N : ℕ → Option Due) × Told N c.self.inside.dues.items × (N c.args.due.number ≡ Some c.args.due)
   teller =
@@ -54,7 +54,7 @@ module _ (c : goal.After-rise) where
   told = told-append teller.0 c.self.inside.dues.items c.args.due teller.1 teller.2
 
 pub invariant_of-self : goal.invariant_of-self
-invariant_of-self c = kept (teller c).0 _ _ c.rise.ensures.heap c.rise.ensures.places ((reordered c).told (teller c).0 (told c))
+invariant_of-self c = kept (teller c).0 _ _ c.sift.ensures.settled.heap c.sift.ensures.settled.places ((reordered c).told (teller c).0 (told c))
 
 pub returns-clause-dues : goal.returns-clause-dues
 returns-clause-dues c =

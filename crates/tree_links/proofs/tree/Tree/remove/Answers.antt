@@ -3,14 +3,15 @@ use Rattle.std.specs.Option.{option_map, option_and_then}
 use Rattle.std.specs.FinMap as map
 use Rattle.tree_specs.specs.declared.row.Row.{Row}
 use Rattle.tree_specs.specs.declared.object.Owner.TheVariants.{Of}
-use Rattle.tree_specs.specs.Tree.Pool.{first_kid, remove, without as rows_without}
+use Rattle.tree_specs.specs.Tree.Pool.{first_kid, is_below, remove, without as rows_without}
 use Rattle.linked_lanes.specs.Lane.{first, without}
+use Rattle.tree_specs.proofs.Events.HandlerLaws.{removed-rows}
 use Rattle.tree_links.specs.Links.{IsTree, Links, pool_of}
-use Rattle.tree_links.specs.Nodes.{Holds, numbers, children, rows_of, row_in, first_in}
+use Rattle.tree_links.specs.Nodes.{Holds, children, rows_of, row_in, first_in}
 use Rattle.tree_links.specs.declared.node.Node.{Node}
-use Rattle.tree_links.proofs.Listing.{obj, lane-distinct, first-child, row-without, held-rows}
+use Rattle.tree_links.proofs.Listing.{obj, lane-without, first-child, row-without, held-rows}
 use Rattle.tree_links.proofs.Trees.{without-tree}
-use Rattle.tree_links.proofs.Keeping.{its-row, is-numbered, its-placed, its-kin, is-node, out-numbers, out-children, out-linked, reset-linked, removed-steps, first-none, left-length, len-gone, is-linked, pool-rows}
+use Rattle.tree_links.proofs.Keeping.{there-is, its-row, is-node, out-numbers, out-children, reset-linked, removed-steps, first-none, left-length, len-gone, is-linked, pool-rows}
 use Rattle.tree_links.proofs.tree.Tree.remove.Goals as goal
 
 abbrev rows : goal.After-forget → List Row
@@ -19,26 +20,24 @@ rows c = rows_of c.self.inside.nodes.pairs c.self.inside.front
 alone : (c : goal.After-forget) → first_kid (rows c) (Of c.args.x) ≡ None
 alone c = subst (λ (t : Links). first_kid t.rows (Of c.args.x) ≡ None) (sym c.self.view_is) c.requires.alone
 
-held : (c : goal.After-forget) → Holds c.forget.new.nodes.pairs c.leave_placed.new.front c.leave_kin_of.new.root (rows_without (rows c) c.args.x)
+held : (c : goal.After-forget) → Holds c.forget.new.nodes.pairs c.leave_lanes.new.front c.leave_lanes.new.root (rows_without (rows c) c.args.x)
 held c =
     let d = c.self.invariant.tree.forest.distinct in
     let h = c.self.invariant.holds in
     let x = c.args.x.0 in
-    let v = c.in-Some.node.now in
-    let e = c.in-Some.ensures in
-    let at = its-row _ _ _ (rows c) d h x v e in
-    let l1 = c.leave_placed.ensures.linked c.self.inside.root (numbers (rows c)) (children (rows c)) x (lane-distinct (λ r. true) (rows c) d) (is-numbered _ _ _ (rows c) d h x v e) (its-placed _ _ _ (rows c) d h x v e) h.linked in
-    let l2 = c.leave_kin_of.ensures.linked c.leave_placed.new.front _ (rows c) x v.row d at refl (its-kin _ _ _ (rows c) d h x v e) l1 in
+    let node = there-is (map.get c.self.inside.nodes.pairs x) (sym c.leave_lanes.ensures.there ∙ c.if-leave_lanes.true) in
+    let at = its-row _ _ _ (rows c) d h x node.0 node.1 in
+    let linked = c.leave_lanes.ensures.linked (rows c) d h c.if-leave_lanes.true in
     let bare : children (rows c) (Of c.args.x) ≡ [] = first-none _ (sym (first-child (rows c) (Of c.args.x)) ∙ alone c) in
-    let none : option_and_then first_in (map.get c.leave_kin_of.new.nodes.pairs x) ≡ None = (l2.kin (Of c.args.x)).at_head ∙ ap (λ l. first (without l x)) bare in
-    let steps = λ (q : ℕ). ap (λ m. map.get m q) c.forget.ensures.pairs ∙ removed-steps c.leave_kin_of.new.nodes.pairs x q in
-    let here : IsSome (map.get c.leave_kin_of.new.nodes.pairs x) = is-node _ x v.row (c.leave_kin_of.ensures.rows x ∙ c.leave_placed.ensures.rows x ∙ h.row x ∙ at) in
+    let none : option_and_then first_in (map.get c.leave_lanes.new.nodes.pairs x) ≡ None = (linked.kin (Of c.args.x)).at_head ∙ ap first (lane-without (λ r. is_below r.owner (Of c.args.x)) (rows c) c.args.x d) ∙ ap (λ l. first (without l x)) bare in
+    let steps = λ (q : ℕ). ap (λ m. map.get m q) c.forget.ensures.pairs ∙ removed-steps c.leave_lanes.new.nodes.pairs x q in
+    let here : IsSome (map.get c.leave_lanes.new.nodes.pairs x) = is-node _ x node.0.row (c.leave_lanes.ensures.rows x ∙ h.row x ∙ at) in
     record {
-      row = λ q. ap (option_map row_in) (steps q) ∙ pulled (nat_eq x q) _ ∙ ap (cond (nat_eq x q) None) (c.leave_kin_of.ensures.rows q ∙ c.leave_placed.ensures.rows q ∙ h.row q)
+      row = λ q. ap (option_map row_in) (steps q) ∙ pulled (nat_eq x q) _ ∙ ap (cond (nat_eq x q) None) (c.leave_lanes.ensures.rows q ∙ h.row q)
           ∙ sym (row-without (rows c) c.args.x (obj q) d);
-      linked = reset-linked _ _ x None steps (sym none) _ _ _ _ (out-numbers (rows c) d x) (out-children (rows c) d x) (out-linked (rows c) d x _ _ _ l2);
-      count = ap (λ m. map.len m) c.forget.ensures.pairs ∙ len-gone c.leave_kin_of.new.nodes.pairs x here
-          ∙ ap (λ (n : ℕ). n - 1) (c.leave_kin_of.ensures.len ∙ c.leave_placed.ensures.len ∙ h.count) ∙ sym (left-length (rows c) x v.row at);
+      linked = reset-linked _ _ x None steps (sym none) _ _ _ _ (out-numbers (rows c) d x) (out-children (rows c) d x) linked;
+      count = ap (λ m. map.len m) c.forget.ensures.pairs ∙ len-gone c.leave_lanes.new.nodes.pairs x here
+          ∙ ap (λ (n : ℕ). n - 1) (c.leave_lanes.ensures.len ∙ h.count) ∙ sym (left-length (rows c) x node.0.row at);
     }
   where
     pulled : (b : Bool) (o : Option Node) → option_map row_in (cond b None o) ≡ cond b None (option_map row_in o)
@@ -51,5 +50,5 @@ tree c = without-tree (rows c) c.self.inside.next c.args.x c.self.invariant.tree
 pub invariant_of-self : goal.invariant_of-self
 invariant_of-self c = is-linked _ _ _ _ _ (tree c) (held c)
 
-pub returns-in-Some-clause-rows : goal.returns-in-Some-clause-rows
-returns-in-Some-clause-rows c = pool-rows _ _ _ (held-rows _ _ _ _ (tree c).forest.distinct (held c)) ∙ ap (λ (t : Links). remove (pool_of t) c.args.x) c.self.view_is
+pub returns-then-leave_lanes-clause-rows : goal.returns-then-leave_lanes-clause-rows
+returns-then-leave_lanes-clause-rows c = pool-rows _ _ _ (held-rows _ _ _ _ (tree c).forest.distinct (held c)) ∙ sym (removed-rows (rows c) c.self.inside.next c.args.x) ∙ ap (λ (t : Links). remove (pool_of t) c.args.x) c.self.view_is

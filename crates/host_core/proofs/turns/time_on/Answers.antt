@@ -1,0 +1,42 @@
+use Rattle.std.proofs.Common.{◌≡◌, ap, sym, subst, ◌∙◌}
+use Rattle.std.specs.Prelude.{is_none}
+use Rattle.tree_specs.specs.Texts.Schedule.{misfit}
+use Rattle.tree_specs.specs.declared.question.Ask.{Ask}
+use Rattle.tree_specs.specs.declared.question.Input.TheVariants as input
+use Rattle.tree_specs.specs.declared.frame.TurnFrame.{TurnFrame}
+use Rattle.tree_specs.specs.Invariants.Consistent.{IsConsistent}
+use Rattle.object_pool.specs.Objects.{Objects}
+use Rattle.host_core.specs.declared.active.Active.{Active}
+use Rattle.host_core.specs.Turns.{turns_of, frame_timed, pool_timed}
+use Rattle.host_core.specs.Hosts.{asked_now, given_view, stack_of, PartsReady, StandsWith}
+use Rattle.host_core.proofs.Turning.{Settles, look-turning, turning-is, told-time}
+use Rattle.host_core.proofs.turns.time_on.Goals as goal
+
+pub take_turn-frame-requires : goal.take_turn-frame-requires
+take_turn-frame-requires c =
+    let p = c.args.parts.now in
+    look-turning c.args.now.now (input.Clock c.args.time) p.objects.works (stack_of p.callers.items) (turns_of p.turn) p.objects.pool tt c.requires.fits c.requires.whole
+
+settled : (c : goal.After-go_to) → Settles (given_view c.args.now.now (input.Clock c.args.time) c.args.parts.now) c.go_to.new.self c.args.parts.now.callers.items c.args.parts.now.turn c.arrive-frame.new.objects
+settled c =
+    let p = c.args.parts.now in
+    let i = input.Clock c.args.time in
+    let t = turning-is c.args.now.now (look-turning c.args.now.now i p.objects.works (stack_of p.callers.items) (turns_of p.turn) p.objects.pool tt c.requires.fits c.requires.whole) in
+    let had = c.take_turn-frame.ensures t.0 t.1 in
+    let frame = ap (λ (z : TurnFrame × Ask). z.0) had in
+    let caller = ap (λ (z : TurnFrame × Ask). z.1) had in
+    subst (λ (z : Active). Settles (given_view z i p) c.go_to.new.self p.callers.items p.turn c.arrive-frame.new.objects) (sym t.1)
+    (told-time t.0 c.args.time p.callers.items p.turn p.objects c.timed-frame.new.objects c.arrive-frame.new.objects c.timed-frame.result c.arrive-frame.result c.go_to.new.self
+    (subst (λ (z : Active). PartsReady z p.objects) t.1 c.requires.ready)
+    (ap (λ (z : Active). is_none (misfit (asked_now z) i)) (sym t.1) ∙ c.requires.fits)
+    (subst (λ (z : Active). IsConsistent (given_view z i p)) t.1 c.requires.whole)
+    (c.timed-frame.ensures.frame ∙ ap (λ (z : TurnFrame). frame_timed z c.args.time p.objects.pool) frame)
+    (c.timed-frame.ensures.pool ∙ ap (λ (z : TurnFrame). let o : Objects = record p.objects { pool = pool_timed z c.args.time p.objects.pool } in o) frame)
+    c.arrive-frame.ensures.frame c.arrive-frame.ensures.pool
+    (subst (λ (z : Active). StandsWith c.arrive-frame.result t.0.caller z) (sym c.go_to.ensures) (subst (λ (z : Ask). StandsWith c.arrive-frame.result z c.stand.result) caller c.stand.ensures)))
+
+pub returns-clause-along : goal.returns-clause-along
+returns-clause-along c = (settled c).along
+
+pub returns-clause-ready : goal.returns-clause-ready
+returns-clause-ready c = (settled c).ready

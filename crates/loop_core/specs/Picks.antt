@@ -1,0 +1,42 @@
+-- What an event loop does next: what comes soon goes first, then a time that has come, and then it waits.
+use Rattle.std.specs.Prelude.{ℕ, ◌-◌, Bool, true, false, nat_eq, nat_le, List, [], ◌∷◌, if◌then◌else◌}
+use Rattle.tree_specs.specs.declared.due.Due.{Due}
+use Rattle.tree_specs.specs.declared.object.Obj.{Obj}
+use Rattle.tree_specs.specs.declared.wants.Want.{Want}
+use Rattle.tree_specs.specs.Events.Pending.{unscheduled, disarmed}
+use Rattle.tree_specs.specs.Events.Coming.{wait_limit}
+use Rattle.loop_core.specs.declared.pick.Pick.{Pick}
+use Rattle.loop_core.specs.declared.pick.Pick.TheVariants.{Soon, Time, AskClock, AskWait, Nothing}
+
+-- with nothing that comes soon: the first time, where it is 0, has come, and for any other one the clock is asked
+abbrev pub time_pick : List Due → Pick
+time_pick [] = AskWait wait_limit
+time_pick (d ∷ ds) = if nat_eq d.time 0 then Time d.object 0 else AskClock
+
+abbrev pub begin_pick : List Obj → List Due → Pick
+begin_pick [] dues = time_pick dues
+begin_pick (x ∷ xs) dues = Soon x
+
+-- the first time hasn't come yet: it is waited for it, but once only
+abbrev pub early_pick : Bool → ℕ → Pick
+early_pick true left = Nothing
+early_pick false left = AskWait left
+
+-- the clock has told this time, before the wait or after it
+abbrev pub clock_pick : Bool → ℕ → List Due → Pick
+clock_pick waited now [] = Nothing
+clock_pick waited now (d ∷ ds) = if nat_le d.time now then Time d.object now else early_pick waited (d.time - now)
+
+-- after a wait in which no descriptor was ready a time may have come
+abbrev pub ready_pick : List Want → List Due → Pick
+ready_pick [] (d ∷ ds) = AskClock
+ready_pick ready dues = Nothing
+
+-- what was picked comes no more
+abbrev pub soon_after : Pick → List Obj → List Obj
+soon_after (Soon x) soon = unscheduled soon x
+soon_after pick soon = soon
+
+abbrev pub times_after : Pick → List Due → List Due
+times_after (Time x now) dues = disarmed dues x
+times_after pick dues = dues

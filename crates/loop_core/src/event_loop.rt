@@ -1,0 +1,85 @@
+use crate::pick::Pick;
+use immediates::Soon;
+use std::alloc::Global;
+use timers::Times;
+use tree_specs::{WAIT_LIMIT, Wants};
+
+/// What an event loop has to do. It picks what comes next in a turn (`tevent_loop_once`), and runs nothing. A turn begins
+/// with `begin`; each answer that a pick asks for is handed in, until something comes or nothing does. No pick takes
+/// memory.
+#[derive(Debug, Drop)]
+pub struct Loop {
+    /// What comes soon, the first in first.
+    pub soon: Soon,
+    /// What comes at a time, the earliest first.
+    pub times: Times,
+}
+
+impl Loop {
+    ghost use Rattle.std.specs.Prelude.{◌≡◌, ◌≤◌, []};
+    ghost use Rattle.loop_core.specs.Picks.{begin_pick, clock_pick, ready_pick, soon_after, times_after};
+
+    /// A loop that has nothing to do. It takes no memory.
+    pub fn new(alloc: Global) -> Loop
+        ensures soon { result.soon.objects ≡ [] }
+        ensures times { result.times.dues ≡ [] }
+    {
+        Loop {
+            soon: Soon::new(alloc),
+            times: Times::new(alloc),
+        }
+    }
+
+    /// A turn begins. What comes soon is picked first; where there is nothing, a first time of 0 has come, for any other
+    /// one the clock is asked, and with no time it is waited for descriptors.
+    pub fn begin(&mut self) -> Pick
+        ensures pick { result ≡ begin_pick self.old.soon.objects self.old.times.dues }
+        ensures soon { self.new.soon.objects ≡ soon_after result self.old.soon.objects }
+        ensures times { self.new.times.dues ≡ times_after result self.old.times.dues }
+        ensures soon_spare { self.old.soon.spare ≤ self.new.soon.spare }
+        ensures times_spare { self.old.times.spare ≤ self.new.times.spare }
+    {
+        if let Some(x) = self.soon.pop() {
+            return Pick::Soon(x);
+        }
+        let Some(due) = self.times.first() else {
+            return Pick::AskWait(WAIT_LIMIT);
+        };
+        if due.time != 0 {
+            return Pick::AskClock;
+        }
+        self.times.disarm(due.object);
+        Pick::Time(due.object, 0)
+    }
+
+    /// The clock has told the time, in microseconds, after a pick that asked for it. A first time that has come is picked.
+    /// For one that hasn't it is waited, where this turn has not `waited` before.
+    pub fn clock(&mut self, now: u64, waited: bool) -> Pick
+        ensures pick { result ≡ clock_pick waited now self.old.times.dues }
+        ensures soon { self.new.soon ≡ self.old.soon }
+        ensures times { self.new.times.dues ≡ times_after result self.old.times.dues }
+        ensures times_spare { self.old.times.spare ≤ self.new.times.spare }
+    {
+        let Some(due) = self.times.first() else {
+            return Pick::Nothing;
+        };
+        if due.time <= now {
+            self.times.disarm(due.object);
+            return Pick::Time(due.object, now);
+        }
+        if waited {
+            return Pick::Nothing;
+        }
+        Pick::AskWait(due.time - now)
+    }
+
+    /// These descriptors are ready, after a pick that asked for them. Where none is, the first time may have come.
+    pub fn ready(&self, list: &Wants) -> Pick
+        ensures { result ≡ ready_pick list.now self.now.times.dues }
+    {
+        if !list.as_slice().is_empty() || self.times.is_empty() {
+            return Pick::Nothing;
+        }
+        Pick::AskClock
+    }
+}

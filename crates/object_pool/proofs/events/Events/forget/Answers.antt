@@ -1,0 +1,6 @@
+use Rattle.std.proofs.Common.{refl}
+use Rattle.object_pool.proofs.HandlerMaps.{removed_listed}
+use Rattle.object_pool.proofs.events.Events.forget.Goals as goal
+
+pub returns-clause-upcoming : goal.returns-clause-upcoming
+returns-clause-upcoming c = rw (← c.self.view_is, c.take.ensures.pairs, removed_listed c.self.inside.handlers.pairs c.args.x.0) refl

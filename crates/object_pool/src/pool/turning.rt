@@ -1,0 +1,100 @@
+//! Turns of the event loop: what comes next, and what a handler leaves.
+ghost use Rattle.std.specs.Prelude.{◌≡◌, true, false};
+ghost use Rattle.tree_specs.specs.declared.row.Mark.TheVariants.{Quiet};
+ghost use Rattle.tree_specs.specs.Tree.Pool.{is_row, is_dying, set_mark as marked};
+ghost use Rattle.tree_specs.specs.Events.Coming.{comes_as, is_once, handler_for, goes_after};
+ghost use Rattle.tree_specs.specs.Calls.Refusals.{is_doomed_mark};
+ghost use Rattle.loop_core.specs.Picks.{begin_pick, clock_pick, ready_pick};
+ghost use Rattle.object_pool.specs.Upcoming.{pool_picked, started};
+
+use crate::pool::ObjectPool;
+use loop_core::Pick;
+use tree_specs::{Handler, Kind, Mark, Obj, Wants, What};
+
+/// Whether an object of this kind comes as such an event.
+fn comes_as(what: What, kind: Kind) -> bool
+    ensures { result ≡ comes_as what kind }
+{
+    matches!(
+        (what, kind),
+        (What::Immediate, Kind::Immediate) | (What::Timer, Kind::Timer)
+    )
+}
+
+/// Whether such an event comes once.
+fn is_once(what: What) -> bool
+    ensures { result ≡ is_once what }
+{
+    matches!(what, What::Timer)
+}
+
+/// Whether an object is being freed, or is to be once its handler is over.
+fn is_doomed(mark: Mark) -> bool
+    ensures { result ≡ is_doomed_mark mark }
+{
+    matches!(mark, Mark::Doomed | Mark::Dying(_))
+}
+
+impl ObjectPool {
+    /// A turn begins: what was picked waits no more.
+    pub fn begin_turn(&mut self) -> Pick
+        ensures pick { result ≡ begin_pick self.old.pool.soon self.old.pool.times }
+        ensures pool { self.new ≡ record self.old { pool = pool_picked result self.old.pool } }
+    {
+        self.events.begin()
+    }
+
+    /// The clock has told the time, in microseconds, in a turn that has `waited` for descriptors before, or hasn't. What was
+    /// picked waits no more.
+    pub fn clock(&mut self, now: u64, waited: bool) -> Pick
+        ensures pick { result ≡ clock_pick waited now self.old.pool.times }
+        ensures pool { self.new ≡ record self.old { pool = pool_picked result self.old.pool } }
+    {
+        self.events.clock(now, waited)
+    }
+
+    /// These descriptors are ready.
+    pub fn ready(&self, list: &Wants) -> Pick
+        ensures { result ≡ ready_pick list.now self.now.pool.times }
+    {
+        self.events.ready(list)
+    }
+
+    /// The handler that is to run where this object comes as such an event. None exactly where it is no such event with
+    /// which nothing goes on, or has no handler.
+    fn handler_for(&self, what: What, x: Obj) -> Option<Handler>
+        ensures { result ≡ handler_for self.now.pool what x }
+    {
+        let row = self.tree.row(x)?;
+        if !(comes_as(what, row.kind) && row.mark == Mark::Quiet) {
+            return None;
+        }
+        self.events.handler(x)
+    }
+
+    /// An object comes as such an event. It is busy from now on, and this is the handler that is to run. None exactly where
+    /// it is no such event with which nothing goes on, or has no handler; then nothing changes.
+    pub fn start(&mut self, what: What, x: Obj) -> Option<Handler>
+        ensures handler { result ≡ handler_for self.old.pool what x }
+        ensures pool { self.new ≡ record self.old { pool = started result x self.old.pool } }
+    {
+        let handler = self.handler_for(what, x);
+        if handler.is_some() {
+            self.tree.set_mark(x, Mark::Busy);
+        }
+        handler
+    }
+
+    /// The handler of an event has returned. The event is quiet again; answers whether it is to be freed now, as a timer is,
+    /// and each event that was to be freed while its handler ran.
+    pub fn finish(&mut self, what: What, x: Obj) -> bool
+        requires is { is_row self.old.pool.rows x ≡ true }
+        requires live { is_dying self.old.pool.rows x ≡ false }
+        ensures goes { result ≡ goes_after self.old.pool what x }
+        ensures quiet { self.new ≡ record self.old { pool = marked self.old.pool x Quiet } }
+    {
+        let doomed = self.tree.row(x).is_some_and(|row| is_doomed(row.mark));
+        self.tree.set_mark(x, Mark::Quiet);
+        is_once(what) || doomed
+    }
+}

@@ -1,0 +1,6 @@
+-- Events, and what waits for its turn.
+pub mod HandlerLaws
+pub mod PendingLaws
+pub mod Awaiting
+pub mod AwaitingSteps
+pub mod AwaitingStories

@@ -1,0 +1,223 @@
+-- What each change of the pool leaves of what waits.
+use Rattle.std.proofs.Common.{◌≡◌, ◌≢◌, ℕ, List, [], ◌∷◌, Option, Some, None, true, false, refl, sym, ◌∙◌, ap, subst, inl, inr}
+use Rattle.std.specs.Prelude.{is_some}
+use Rattle.tree_specs.specs.declared.object.Obj.{Obj}
+use Rattle.tree_specs.specs.declared.object.Owner.{Owner}
+use Rattle.tree_specs.specs.declared.row.Row.{Row}
+use Rattle.tree_specs.specs.declared.row.Mark.{Mark}
+use Rattle.tree_specs.specs.declared.kind.Kind.{Kind}
+use Rattle.tree_specs.specs.declared.handler.Handler.{Handler}
+use Rattle.tree_specs.specs.declared.moment.What.{What}
+use Rattle.tree_specs.specs.declared.moment.What.TheVariants.{Immediate, Timer}
+use Rattle.tree_specs.specs.Words.Objects.{same}
+use Rattle.tree_specs.specs.Tree.Targets.{target_of}
+use Rattle.tree_specs.specs.Tree.Pool.{Pool, row_of, target_at, changed, without, add, remove, place, set_mark, marked_row, set_handler, schedule, unschedule, arm, disarm}
+use Rattle.tree_specs.specs.Events.Coming.{comes_as}
+use Rattle.tree_specs.specs.Calls.Refusals.{is_doomed_mark}
+use Rattle.tree_specs.specs.Invariants.Sound.{MayBePlaced}
+use Rattle.tree_specs.specs.Invariants.Awaiting.{waits, MayCome, is_event_row, Awaits}
+use Rattle.tree_specs.proofs.Tree.Numbered.{by_test, same-true, same-equal, same-false, same_or_not}
+use Rattle.tree_specs.proofs.Tree.Rows.{row_of-changed-other, row_of-without-other, row_of-placed-other, row_of-placed-same}
+use Rattle.tree_specs.proofs.Invariants.Turning.{comes-event}
+use Rattle.tree_specs.specs.Events.Handlers.{handler_of}
+use Rattle.tree_specs.proofs.Events.HandlerLaws.{with-same, with-other, without-same, without-other}
+use Rattle.tree_specs.proofs.Events.PendingLaws.{unscheduled-other, scheduled-either, disarmed-other, armed-either}
+
+-- ---- rows that come
+
+-- a row that is changed and isn't doomed by it
+pub record Stays (g : Row → Row) : Type 0 where
+  pub serial : (r : Row) → (g r).serial ≡ r.serial
+  pub kind : (r : Row) → (g r).kind ≡ r.kind
+  pub mark : (r : Row) → is_doomed_mark r.mark ≡ false → is_doomed_mark (g r).mark ≡ false
+
+changed-comes : (g : Row → Row) (rs : List Row) (x y : Obj) (w : What) → Stays g → MayCome w (row_of rs y) → MayCome w (row_of (changed g rs x) y)
+changed-comes g [] x y w k h = h
+changed-comes g (s ∷ rs) x y w k h = by_test (same s.serial x)
+    (λ t. by_test (same s.serial y)
+    (λ u. let h' : MayCome w (Some s) = rw u at h in rw (t, k.serial s, u) (ap (comes_as w) (k.kind s) ∙ h'.0, k.mark s h'.1))
+    (λ u. let h' : MayCome w (row_of rs y) = rw u at h in rw (t, k.serial s, u) h'))
+    (λ t. by_test (same s.serial y)
+    (λ u. let h' : MayCome w (Some s) = rw u at h in rw (t, u) h')
+    (λ u. let h' : MayCome w (row_of rs y) = rw u at h in rw (t, u) (changed-comes g rs x y w k h')))
+
+-- it is an event exactly where it was one
+changed-event : (g : Row → Row) (rs : List Row) (x y : Obj) → ((r : Row) → (g r).serial ≡ r.serial) → ((r : Row) → (g r).kind ≡ r.kind) → is_event_row (row_of (changed g rs x) y) ≡ is_event_row (row_of rs y)
+changed-event g [] x y k l = refl
+changed-event g (s ∷ rs) x y k l = by_test (same s.serial x)
+    (λ t. by_test (same s.serial y) (λ u. rw (t, k s, u, l s) refl) (λ u. rw (t, k s, u) refl))
+    (λ t. by_test (same s.serial y) (λ u. rw (t, u) refl) (λ u. let ih = changed-event g rs x y k l in rw (t, u) ih))
+
+-- a reference doesn't come
+pub reference-stays : (p : Pool) (r t : Obj) → target_at p.rows r ≡ Some t → (w : What) → MayCome w (row_of p.rows r) → ⊥
+reference-stays p r t is w h = each (row_of p.rows r) refl h
+  where
+    each : (o : Option Row) → row_of p.rows r ≡ o → MayCome w o → ⊥
+    each None e h = h
+    each (Some row) e h =
+        let at : target_of row.kind ≡ Some t = rw e at is in
+        let bad : Some t ≡ None = sym at ∙ (comes-event w row.kind h.0).0 in cc
+
+-- ---- the same objects wait
+
+pub same-awaits : (p q : Pool) → Awaits p → ((w : What) (x : Obj) → waits w q x ≡ true → waits w p x ≡ true) → q.rows ≡ p.rows → q.handlers ≡ p.handlers → Awaits q
+same-awaits p q a fewer rows handlers = record {
+  events = λ w x h. rw (rows, handlers) (a.events w x (fewer w x h));
+  handlers = λ x e. rw handlers (a.handlers x (rw rows at e));
+}
+
+rows-awaits : (p : Pool) (rows : List Row) → Awaits p → ((w : What) (x : Obj) → MayCome w (row_of p.rows x) → MayCome w (row_of rows x)) → ((x : Obj) → is_event_row (row_of rows x) ≡ is_event_row (row_of p.rows x))
+    → Awaits (record p { rows = rows })
+rows-awaits p rows a comes event = record {
+  events = λ w x h. (let e = a.events w x (same-waits w x h) in (comes w x e.0, e.1));
+  handlers = λ x e. a.handlers x (sym (event x) ∙ e);
+}
+  where
+    same-waits : (w : What) (x : Obj) → waits w (record p { rows = rows }) x ≡ true → waits w p x ≡ true
+    same-waits Immediate x h = h
+    same-waits Timer x h = h
+    same-waits _ x h = cc
+
+pub changed-awaits : (g : Row → Row) (p : Pool) (x : Obj) → Stays g → Awaits p → Awaits (record p { rows = changed g p.rows x })
+changed-awaits g p x k a = rows-awaits p (changed g p.rows x) a (λ w y h. changed-comes g p.rows x y w k h) (λ y. changed-event g p.rows x y k.serial k.kind)
+
+pub marked-awaits : (m : Mark) (p : Pool) (x : Obj) → is_doomed_mark m ≡ false → Awaits p → Awaits (set_mark p x m)
+marked-awaits m p x live a = changed-awaits (marked_row m) p x (record { serial = λ r. refl; kind = λ r. refl; mark = λ r h. live }) a
+
+pub placed-awaits : (p : Pool) (o : Owner) (x : Obj) → MayBePlaced p o x → Awaits p → Awaits (place p o x)
+placed-awaits p o x may a = rows-awaits p (place p o x).rows a comes event
+  where
+    here : row_of (place p o x).rows x ≡ Some (record may.row { owner = Some o })
+    here = row_of-placed-same p o x may.row may.is
+
+    comes : (w : What) (y : Obj) → MayCome w (row_of p.rows y) → MayCome w (row_of (place p o x).rows y)
+    comes w y h = elim (same_or_not x y) [
+      | inl e ↦
+          let h' : MayCome w (row_of p.rows x) = subst (λ (z : Obj). MayCome w (row_of p.rows z)) (sym e) h in
+          let h'' : MayCome w (Some may.row) = rw may.is at h' in
+          subst (λ (z : Obj). MayCome w (row_of (place p o x).rows z)) e (rw here h'')
+      | inr ne ↦ rw (row_of-placed-other p o x y may.row may.is ne) h
+    ]
+
+    event : (y : Obj) → is_event_row (row_of (place p o x).rows y) ≡ is_event_row (row_of p.rows y)
+    event y = elim (same_or_not x y) [
+      | inl e ↦ subst (λ (z : Obj). is_event_row (row_of (place p o x).rows z) ≡ is_event_row (row_of p.rows z)) e (ap is_event_row here ∙ sym (ap is_event_row may.is))
+      | inr ne ↦ ap is_event_row (row_of-placed-other p o x y may.row may.is ne)
+    ]
+
+-- ---- an object waits no more, and won't come
+
+-- one that leaves, or is doomed
+pub gone-awaits : (g : Row → Row) (p : Pool) (x : Obj) → ((r : Row) → (g r).serial ≡ r.serial) → ((r : Row) → (g r).kind ≡ r.kind) → Awaits p → Awaits (record (disarm (unschedule p x) x) { rows = changed g p.rows x })
+gone-awaits g p x serial kind a = record {
+  events = λ w y h. (let o = other w y h in rw (row_of-changed-other g p.rows x y serial o.1) (a.events w y o.0));
+  handlers = λ y e. a.handlers y (sym (changed-event g p.rows x y serial kind) ∙ e);
+}
+  where
+    other : (w : What) (y : Obj) → waits w (record (disarm (unschedule p x) x) { rows = changed g p.rows x }) y ≡ true → (waits w p y ≡ true) × (x ≢ y)
+    other Immediate y h = unscheduled-other p.soon x y h
+    other Timer y h = disarmed-other p.times x y h
+    other _ y h = cc
+
+-- one that doesn't wait
+pub removed-awaits : (p : Pool) (x : Obj) → ((w : What) → MayCome w (row_of p.rows x) → ⊥) → Awaits p → Awaits (remove p x)
+removed-awaits p x stays a = record { events = events; handlers = handlers }
+  where
+    still : (w : What) (y : Obj) → waits w (remove p x) y ≡ true → waits w p y ≡ true
+    still Immediate y h = h
+    still Timer y h = h
+    still _ y h = cc
+
+    events : (w : What) (y : Obj) → waits w (remove p x) y ≡ true → MayCome w (row_of (without p.rows x) y) × (is_some (handler_of (remove p x).handlers y) ≡ true)
+    events w y h =
+        let e = a.events w y (still w y h) in
+        let ne : x ≢ y = (λ q. stays w (subst (λ (z : Obj). MayCome w (row_of p.rows z)) (sym q) e.0)) in
+        let apart : same y x ≡ false = same-false y x (λ q. ne (sym q)) in
+        (rw (row_of-without-other p.rows x y ne) e.0, ap is_some (without-other p.handlers x y apart) ∙ e.1)
+
+    handlers : (y : Obj) → is_event_row (row_of (without p.rows x) y) ≡ false → handler_of (remove p x).handlers y ≡ None
+    handlers y e = by_test (same y x)
+        (λ t. without-same p.handlers x y t)
+        (λ t. without-other p.handlers x y t ∙ a.handlers y (sym (ap is_event_row (row_of-without-other p.rows x y (λ q. let u : same y x ≡ true = same-equal y x (sym q) in let bad : true ≡ false = sym u ∙ t in cc))) ∙ e))
+
+-- ---- a new object
+
+pub added-awaits : (p : Pool) (kind : Kind) (o : Owner) (size : ℕ) (name : List ℕ) → row_of p.rows (record { 0 = p.next }) ≡ None → Awaits p → Awaits (add p kind o size name)
+added-awaits p kind o size name fresh a = record { events = events; handlers = handlers }
+  where
+    n : Obj
+    n = record { 0 = p.next }
+
+    still : (w : What) (y : Obj) → waits w (add p kind o size name) y ≡ true → waits w p y ≡ true
+    still Immediate y h = h
+    still Timer y h = h
+    still _ y h = cc
+
+    events : (w : What) (y : Obj) → waits w (add p kind o size name) y ≡ true → MayCome w (row_of (add p kind o size name).rows y) × (is_some (handler_of p.handlers y) ≡ true)
+    events w y h =
+        let e = a.events w y (still w y h) in
+        let ne : same n y ≡ false = same-false n y (λ q. let bad : MayCome w None = rw fresh at (subst (λ (z : Obj). MayCome w (row_of p.rows z)) (sym q) e.0) in bad) in
+        rw ne e
+
+    handlers : (y : Obj) → is_event_row (row_of (add p kind o size name).rows y) ≡ false → handler_of p.handlers y ≡ None
+    handlers y e = by_test (same n y)
+        (λ t. a.handlers y (let q : n ≡ y = same-true n y t in subst (λ (z : Obj). is_event_row (row_of p.rows z) ≡ false) q (ap is_event_row fresh)))
+        (λ t. a.handlers y (rw t at e))
+
+-- ---- an object is to come
+
+pub handled-awaits : (p : Pool) (x : Obj) (h : Handler) → is_event_row (row_of p.rows x) ≡ true → Awaits p → Awaits (set_handler p x h)
+handled-awaits p x h there a = record { events = events; handlers = handlers }
+  where
+    still : (w : What) (y : Obj) → waits w (set_handler p x h) y ≡ true → waits w p y ≡ true
+    still Immediate y k = k
+    still Timer y k = k
+    still _ y k = cc
+
+    events : (w : What) (y : Obj) → waits w (set_handler p x h) y ≡ true → MayCome w (row_of p.rows y) × (is_some (handler_of (set_handler p x h).handlers y) ≡ true)
+    events w y k =
+        let e = a.events w y (still w y k) in
+        by_test (same y x) (λ t. (e.0, ap is_some (with-same p.handlers x y h t))) (λ t. (e.0, ap is_some (with-other p.handlers x y h t) ∙ e.1))
+
+    handlers : (y : Obj) → is_event_row (row_of p.rows y) ≡ false → handler_of (set_handler p x h).handlers y ≡ None
+    handlers y e = by_test (same y x)
+        (λ t. let e' : is_event_row (row_of p.rows x) ≡ false = subst (λ (z : Obj). is_event_row (row_of p.rows z) ≡ false) (same-true y x t) e in let bad : true ≡ false = sym there ∙ e' in cc)
+        (λ t. with-other p.handlers x y h t ∙ a.handlers y e)
+
+pub scheduled-awaits : (p : Pool) (x : Obj) → MayCome Immediate (row_of p.rows x) → is_some (handler_of p.handlers x) ≡ true → Awaits p → Awaits (schedule p x)
+scheduled-awaits p x comes ready a = record { events = events; handlers = a.handlers }
+  where
+    events : (w : What) (y : Obj) → waits w (schedule p x) y ≡ true → MayCome w (row_of p.rows y) × (is_some (handler_of p.handlers y) ≡ true)
+    events Immediate y h = elim (scheduled-either p.soon x y h) [
+      | inl l ↦ a.events Immediate y l
+      | inr e ↦ subst (λ (z : Obj). MayCome Immediate (row_of p.rows z) × (is_some (handler_of p.handlers z) ≡ true)) e (comes, ready)
+    ]
+    events Timer y h = a.events Timer y h
+    events _ y h = cc
+
+pub armed-awaits : (p : Pool) (x : Obj) (time number : ℕ) → MayCome Timer (row_of p.rows x) → is_some (handler_of p.handlers x) ≡ true → Awaits p → Awaits (arm p x time number)
+armed-awaits p x time number comes ready a = record { events = events; handlers = a.handlers }
+  where
+    events : (w : What) (y : Obj) → waits w (arm p x time number) y ≡ true → MayCome w (row_of p.rows y) × (is_some (handler_of p.handlers y) ≡ true)
+    events Timer y h = elim (armed-either p.times x time number y h) [
+      | inl l ↦ a.events Timer y l
+      | inr e ↦ subst (λ (z : Obj). MayCome Timer (row_of p.rows z) × (is_some (handler_of p.handlers z) ≡ true)) e (comes, ready)
+    ]
+    events Immediate y h = a.events Immediate y h
+    events _ y h = cc
+
+pub unscheduled-awaits : (p : Pool) (x : Obj) → Awaits p → Awaits (unschedule p x)
+unscheduled-awaits p x a = same-awaits p (unschedule p x) a fewer refl refl
+  where
+    fewer : (w : What) (y : Obj) → waits w (unschedule p x) y ≡ true → waits w p y ≡ true
+    fewer Immediate y h = (unscheduled-other p.soon x y h).0
+    fewer Timer y h = h
+    fewer _ y h = cc
+
+pub disarmed-awaits : (p : Pool) (x : Obj) → Awaits p → Awaits (disarm p x)
+disarmed-awaits p x a = same-awaits p (disarm p x) a fewer refl refl
+  where
+    fewer : (w : What) (y : Obj) → waits w (disarm p x) y ≡ true → waits w p y ≡ true
+    fewer Timer y h = (disarmed-other p.times x y h).0
+    fewer Immediate y h = h
+    fewer _ y h = cc

@@ -1,0 +1,219 @@
+-- Each step leaves what waits as it must be.
+use Rattle.std.proofs.Common.{◌≡◌, ℕ, List, Option, Some, None, Bool, true, false, nat_eq, nat_le, ◌<◌, arith, refl}
+use Rattle.step_machine.specs.Machine.{Move as Do}
+use Rattle.tree_specs.specs.declared.object.Obj.{Obj}
+use Rattle.tree_specs.specs.declared.object.Owner.{Owner}
+use Rattle.tree_specs.specs.declared.object.Owner.TheVariants.{Of}
+use Rattle.tree_specs.specs.declared.row.Row.{Row}
+use Rattle.tree_specs.specs.declared.row.Mark.{Mark}
+use Rattle.tree_specs.specs.declared.row.Mark.TheVariants.{Quiet, Asked, Busy, Doomed}
+use Rattle.tree_specs.specs.declared.event.Event.{Event}
+use Rattle.tree_specs.specs.declared.due.Due.{Due}
+use Rattle.tree_specs.specs.declared.handler.Handler.{Handler}
+use Rattle.tree_specs.specs.declared.question.Ask.{Ask}
+use Rattle.tree_specs.specs.declared.question.Ask.TheVariants as ask
+use Rattle.tree_specs.specs.declared.frame.Frame.{Frame}
+use Rattle.tree_specs.specs.declared.frame.Frame.TheVariants as frame
+use Rattle.tree_specs.specs.declared.frame.CallFrame.TheVariants.{Asking, Doing}
+use Rattle.tree_specs.specs.declared.frame.FreeFrame.{FreeFrame}
+use Rattle.tree_specs.specs.declared.frame.FreeFrame.TheVariants.{Unlinking, Releasing, Giving, Beginning, Judged, Leaving, Looping, AfterChild}
+use Rattle.tree_specs.specs.declared.frame.TurnFrame.{TurnFrame}
+use Rattle.tree_specs.specs.declared.frame.TurnFrame.TheVariants.{Taking, Timed, Starting, Handled}
+use Rattle.tree_specs.specs.declared.frame.Purpose.{Purpose}
+use Rattle.tree_specs.specs.declared.frame.Purpose.TheVariants.{Removal, Emptying}
+use Rattle.tree_specs.specs.declared.free_step.FreeReply.{FreeReply}
+use Rattle.tree_specs.specs.declared.free_step.FreeReply.TheVariants.{Ok}
+use Rattle.tree_specs.specs.Tree.Pool.{Pool, row_of, remove, target_at, newest_ref_of, is_below, owner_of, is_inside, first_kid, left_row, marked_row, hooked_row}
+use Rattle.tree_specs.specs.Tree.Targets.{newest_ref}
+use Rattle.tree_specs.specs.Tree.Heirs.{heir}
+use Rattle.tree_specs.specs.Tree.Forest.{Distinct}
+use Rattle.tree_specs.specs.declared.call.Call.{Call}
+use Rattle.tree_specs.specs.Calls.Plans.{Change, Plan, planned, changed_by}
+use Rattle.tree_specs.specs.Calls.Plans.Change.{Nothing, Edit, Add, Place, Handle, Schedule, Unschedule, Arm, Then}
+use Rattle.tree_specs.specs.Calls.Plans.Plan.{Does, Turns}
+use Rattle.tree_specs.specs.Events.Pending.{first}
+use Rattle.tree_specs.specs.Events.Coming.{handler_for, goes_after}
+use Rattle.tree_specs.specs.Machine.Profiles.{InLoop}
+use Rattle.tree_specs.specs.Machine.Table.{FreeMove, event_of, announced, lifted, begin_step, refs_step, unlink_step, release_step, judge_step, last_step, child_step, loop_step, hand_on_step, tried_step, free_step, plan_step, turning_step, due_step, taking_step, timed_step, early_step, starting_step, handled_step, turn_step, step}
+use Rattle.tree_specs.specs.Invariants.Sound.{ValidAt, claims, Rests, Sound}
+use Rattle.tree_specs.specs.Invariants.Awaiting.{MayCome, Awaits, pool_after}
+use Rattle.tree_specs.proofs.Tree.Numbered.{by_test}
+use Rattle.tree_specs.proofs.Tree.Referring.{newest-refers, newest-of-refers}
+use Rattle.tree_specs.proofs.Invariants.Changes.{dying-row, claim-here, heir-placed}
+use Rattle.tree_specs.proofs.Calls.Plans.{MayDo, May, may-planned, change-sound}
+use Rattle.tree_specs.proofs.Events.Awaiting.{changed-awaits, marked-awaits, placed-awaits, gone-awaits, removed-awaits, added-awaits, handled-awaits, scheduled-awaits, armed-awaits, unscheduled-awaits, disarmed-awaits, reference-stays}
+
+-- ---- frees
+
+-- an object that is removed is dying
+removed : (x : Obj) (h : ℕ) (fs : List Frame) (p : Pool) → Sound (frame.Free (Looping x (Removal h))) fs p → Awaits p → Awaits (remove p x)
+removed x h fs p s a =
+    let row = dying-row (row_of p.rows x) (claims x fs) (claim-here x InLoop (claims x fs) (row_of p.rows x) (s.open_frees x)) in
+    removed-awaits p x (λ w c. (let c' : MayCome w (Some row.0) = rw row.1 at c in let bad : true ≡ false = rw row.3 at c'.1 in cc)) a
+
+newest : (p : Pool) (x r : Obj) → Distinct p.rows → newest_ref p.rows x ≡ Some r → Awaits p → Awaits (remove p r)
+newest p x r d e a = let w = newest-refers p.rows x r d e in removed-awaits p r (reference-stays p r x (rw w.1 w.2)) a
+
+beginning : (x : Obj) (fs : List Frame) (p : Pool) → Sound (frame.Free (Beginning x)) fs p → Awaits p → Awaits (pool_after (refs_step x (newest_ref p.rows x) p))
+beginning x fs p s a = each (newest_ref p.rows x) refl
+  where
+    marks : (r : Row) (m : Mark) → r.mark ≡ m → Awaits (pool_after (begin_step x (Some r) p))
+    marks r Quiet m = rw m (by_test (nat_eq r.hook 0) (λ t. rw t a) (λ t. rw t (marked-awaits Asked p x refl a)))
+    marks r Busy m = rw m (gone-awaits (marked_row Doomed) p x (λ q. refl) (λ q. refl) a)
+    marks r Asked m = rw m a
+    marks r _ m = rw m a
+
+    row : (o : Option Row) → Awaits (pool_after (begin_step x o p))
+    row None = a
+    row (Some r) = marks r r.mark refl
+
+    each : (n : Option Obj) → newest_ref p.rows x ≡ n → Awaits (pool_after (refs_step x n p))
+    each None e = row (row_of p.rows x)
+    each (Some r) e = by_test (is_inside p.rows (Of r) (Of x)) (λ t. rw t (newest p x r s.forest.distinct e a)) (λ t. rw t (newest p x r s.forest.distinct e a))
+
+releasing : (x : Obj) (fs : List Frame) (p : Pool) → Sound (frame.Free (Releasing x)) fs p → Awaits p → Awaits (pool_after (release_step x (newest_ref p.rows x) p))
+releasing x fs p s a = each (newest_ref p.rows x) refl
+  where
+    each : (n : Option Obj) → newest_ref p.rows x ≡ n → Awaits (pool_after (release_step x n p))
+    each None e = a
+    each (Some r) e = by_test (is_inside p.rows (Of r) (Of x)) (λ t. rw t (newest p x r s.forest.distinct e a)) (λ t. rw t (newest p x r s.forest.distinct e a))
+
+unlinking : (o : Owner) (x : Obj) (fs : List Frame) (p : Pool) → Sound (frame.Free (Unlinking o x)) fs p → Awaits p → Awaits (pool_after (unlink_step x (newest_ref_of p.rows o x) p))
+unlinking o x fs p s a = each (newest_ref_of p.rows o x) refl
+  where
+    each : (n : Option Obj) → newest_ref_of p.rows o x ≡ n → Awaits (pool_after (unlink_step x n p))
+    each None e = a
+    each (Some r) e = let w = newest-of-refers p.rows o x r s.forest.distinct e in removed-awaits p r (reference-stays p r x (rw w.1 w.2)) a
+
+judged : (x : Obj) (h v : ℕ) (p : Pool) → Awaits p → Awaits (pool_after (judge_step x h v p))
+judged x h v p a = by_test (nat_eq v 0)
+    (λ t. rw t (changed-awaits (hooked_row 0) p x (record { serial = λ r. refl; kind = λ r. refl; mark = λ r l. l }) a))
+    (λ t. rw t (marked-awaits Quiet p x refl a))
+
+looping : (x : Obj) (purpose : Purpose) (fs : List Frame) (p : Pool) → Sound (frame.Free (Looping x purpose)) fs p → Awaits p → Awaits (pool_after (loop_step x purpose (first_kid p.rows (Of x)) p))
+looping x purpose fs p s a = each (first_kid p.rows (Of x))
+  where
+    last : (purpose : Purpose) → Sound (frame.Free (Looping x purpose)) fs p → Awaits (pool_after (last_step x purpose p))
+    last (Removal h) s = removed x h fs p s a
+    last Emptying s = a
+
+    child : (c : Obj) (o : Option Obj) → target_at p.rows c ≡ o → Awaits (pool_after (child_step x c purpose o p))
+    child c None e = a
+    child c (Some t) e = removed-awaits p c (reference-stays p c t e) a
+
+    each : (o : Option Obj) → Awaits (pool_after (loop_step x purpose o p))
+    each None = last purpose s
+    each (Some c) = child c (target_at p.rows c) refl
+
+tried : (x c : Obj) (noted : Option Owner) (purpose : Purpose) (b : FreeReply) (fs : List Frame) (p : Pool) → Sound (frame.Free (AfterChild x c noted purpose b)) fs p → Awaits p
+    → Awaits (pool_after (tried_step x c noted purpose b p))
+tried x c noted purpose b fs p s a = each b
+  where
+    handed : Awaits (pool_after (hand_on_step x c noted purpose p))
+    handed = by_test (is_below (owner_of p.rows c) (Of x)) (λ t. rw t (placed-awaits p (heir p.rows x c noted) c (heir-placed x c noted _ fs p s t) a)) (λ t. rw t a)
+
+    each : (b : FreeReply) → Awaits (pool_after (tried_step x c noted purpose b p))
+    each Ok = a
+    each _ = handed
+
+pub free-awaits : (f : FreeFrame) (fs : List Frame) (p : Pool) → Sound (frame.Free f) fs p → Awaits p → Awaits (pool_after (free_step f p))
+free-awaits (Unlinking o x) fs p s a = unlinking o x fs p s a
+free-awaits (Releasing x) fs p s a = releasing x fs p s a
+free-awaits (Giving x o) fs p s a = placed-awaits p o x s.rests a
+free-awaits (Beginning x) fs p s a = beginning x fs p s a
+free-awaits (Judged x h v) fs p s a = judged x h v p a
+free-awaits (Leaving x h) fs p s a = gone-awaits left_row p x (λ r. refl) (λ r. refl) a
+free-awaits (Looping x purpose) fs p s a = looping x purpose fs p s a
+free-awaits (AfterChild x c noted purpose b) fs p s a = tried x c noted purpose b fs p s a
+free-awaits _ fs p s a = a
+
+-- among the host's works it leaves the same
+lifted-awaits : (m : FreeMove) → Awaits (pool_after m) → Awaits (pool_after (lifted m))
+lifted-awaits (Do.Done b p) a = a
+lifted-awaits (Do.Go f p) a = a
+lifted-awaits (Do.Emit e f p) a = each (event_of e)
+  where
+    each : (o : Option Event) → Awaits (pool_after (announced o f p))
+    each None = a
+    each (Some e) = a
+lifted-awaits (Do.Wait q f p) a = a
+lifted-awaits (Do.Call g f p) a = a
+
+-- ---- calls
+
+-- a new number is nobody's
+fresh : (next : ℕ) (o : Option Row) → ValidAt next o (record { 0 = next }) → o ≡ None
+fresh next None v = refl
+fresh next (Some r) v = let l : next < next = v.1 in absurd (omega arith)
+
+change-awaits : (f : Frame) (fs : List Frame) (p : Pool) (c : Change) → Sound f fs p → ((q : Pool) → Rests f fs q) → MayDo p c → Awaits p → Awaits (changed_by c p)
+change-awaits f fs p Nothing s calm may a = a
+change-awaits f fs p (Edit x g) s calm may a = changed-awaits g p x (record { serial = may.place.serial; kind = may.place.kind; mark = λ r l. rw (may.mark r) l }) a
+change-awaits f fs p (Add kind o size name) s calm may a = added-awaits p kind o size name (fresh p.next _ (s.valid (record { 0 = p.next }))) a
+change-awaits f fs p (Place o x) s calm may a = placed-awaits p o x may a
+change-awaits f fs p (Handle x handler) s calm may a = handled-awaits p x handler may a
+change-awaits f fs p (Schedule x) s calm may a = scheduled-awaits p x may.0 may.1 a
+change-awaits f fs p (Unschedule x) s calm may a = unscheduled-awaits p x a
+change-awaits f fs p (Arm x time number) s calm may a = armed-awaits p x time number may.0 may.1 a
+change-awaits f fs p (Then c d) s calm may a =
+    let t = change-sound f f fs p c s may.0 (λ y. refl) calm (calm (changed_by c p)) in
+    change-awaits f fs (changed_by c p) d t calm may.1 (change-awaits f fs p c s calm may.0 a)
+
+turning-awaits : (q : Ask) (p : Pool) → Awaits p → Awaits (pool_after (turning_step q p))
+turning-awaits ask.Quiet p a = a
+turning-awaits _ p a = a
+
+planned-awaits : (q : Ask) (c : Call) (fs : List Frame) (p : Pool) → Sound (frame.Call (Doing q c)) fs p → (plan : Plan) → May p plan → Awaits p → Awaits (pool_after (plan_step q plan p))
+planned-awaits q c fs p s (Does change None r) may a = change-awaits (frame.Call (Doing q c)) fs p change s (λ q'. tt) may.0 a
+planned-awaits q c fs p s (Does change (Some x) r) may a = change-awaits (frame.Call (Doing q c)) fs p change s (λ q'. tt) may.0 a
+planned-awaits q c fs p s Turns may a = turning-awaits q p a
+planned-awaits q c fs p s _ may a = a
+
+-- ---- turns
+
+taking : (p : Pool) → Awaits p → Awaits (pool_after (turn_step Taking p))
+taking p a = each (first p.soon)
+  where
+    due : (o : Option Due) → Awaits (pool_after (due_step o p))
+    due None = a
+    due (Some d) = by_test (nat_eq d.time 0) (λ t. rw t (disarmed-awaits p d.object a)) (λ t. rw t a)
+
+    each : (o : Option Obj) → Awaits (pool_after (taking_step o p))
+    each None = due (first p.times)
+    each (Some x) = unscheduled-awaits p x a
+
+timed : (again : Bool) (now : ℕ) (p : Pool) → Awaits p → Awaits (pool_after (turn_step (Timed again now) p))
+timed again now p a = each (first p.times)
+  where
+    early : (again : Bool) (d : Due) → Awaits (pool_after (early_step again d now p))
+    early true d = a
+    early false d = a
+
+    each : (o : Option Due) → Awaits (pool_after (timed_step again now o p))
+    each None = a
+    each (Some d) = by_test (nat_le d.time now) (λ t. rw t (disarmed-awaits p d.object a)) (λ t. rw t (early again d))
+
+turn-awaits : (f : TurnFrame) (p : Pool) → Awaits p → Awaits (pool_after (turn_step f p))
+turn-awaits Taking p a = taking p a
+turn-awaits (Timed again now) p a = timed again now p a
+turn-awaits (Starting w x now) p a = each (handler_for p w x)
+  where
+    each : (o : Option Handler) → Awaits (pool_after (starting_step w x now o p))
+    each None = a
+    each (Some h) = marked-awaits Busy p x refl a
+turn-awaits (Handled w x) p a = each (goes_after p w x)
+  where
+    each : (b : Bool) → Awaits (pool_after (handled_step x b p))
+    each true = marked-awaits Quiet p x refl a
+    each false = marked-awaits Quiet p x refl a
+turn-awaits _ p a = a
+
+-- ---- all
+
+-- every step leaves what waits as it must be
+pub step-awaits : (f : Frame) (fs : List Frame) (p : Pool) → Sound f fs p → Awaits p → Awaits (pool_after (step f p))
+step-awaits (frame.Call (Doing q c)) fs p s a = planned-awaits q c fs p s (planned p c) (may-planned (frame.Call (Doing q c)) fs p s c) a
+step-awaits (frame.Call (Asking q)) fs p s a = a
+step-awaits (frame.Call _) fs p s a = a
+step-awaits (frame.Free f) fs p s a = lifted-awaits (free_step f p) (free-awaits f fs p s a)
+step-awaits (frame.Turn f) fs p s a = turn-awaits f p a

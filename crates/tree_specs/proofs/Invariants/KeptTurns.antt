@@ -1,0 +1,109 @@
+-- What each step of a turn keeps of what holds at every moment.
+use Rattle.std.proofs.Common.{◌≡◌, ℕ, suc, zero, List, [], ◌∷◌, ◌++◌, Option, Some, None, true, false, refl, sym, ◌∙◌, ap, subst, inl, inr}
+use Rattle.tree_specs.specs.declared.object.Obj.{Obj}
+use Rattle.tree_specs.specs.declared.row.Row.{Row}
+use Rattle.tree_specs.specs.declared.row.Mark.TheVariants.{Quiet, Busy}
+use Rattle.tree_specs.specs.declared.handler.Handler.{Handler}
+use Rattle.tree_specs.specs.declared.moment.What.{What}
+use Rattle.tree_specs.specs.declared.question.Ask.TheVariants.{Routine}
+use Rattle.tree_specs.specs.declared.frame.Frame.{Frame}
+use Rattle.tree_specs.specs.declared.frame.Frame.TheVariants as frame
+use Rattle.tree_specs.specs.declared.frame.CallFrame.TheVariants.{Asking}
+use Rattle.tree_specs.specs.declared.frame.FreeFrame.TheVariants.{Beginning}
+use Rattle.tree_specs.specs.declared.frame.TurnFrame.{TurnFrame}
+use Rattle.tree_specs.specs.declared.frame.TurnFrame.TheVariants.{Taking, Timing, Timed, Polling, Starting, Firing, Handling, Handled, Clearing, Reading, Closing}
+use Rattle.tree_specs.specs.declared.frame.Answer.TheVariants.{Turned}
+use Rattle.tree_specs.specs.Words.Objects.{same}
+use Rattle.tree_specs.specs.Tree.Targets.{target_of, newest_ref}
+use Rattle.tree_specs.specs.Tree.Pool.{Pool, row_of, target_at, changed, set_mark, marked_row}
+use Rattle.tree_specs.specs.Events.Coming.{handler_for, handler_moment, goes_after}
+use Rattle.tree_specs.specs.Machine.Profiles.{InHandler, turn_profile}
+use Rattle.tree_specs.specs.Machine.Table.{Step, starting_step, turn_step}
+use Rattle.tree_specs.specs.Invariants.Sound.{phase_of, phases, claim, claim_by, claims, footing, AllWait, IsLive, IsReferable, IsTurned, Rests, Sound}
+use Rattle.tree_specs.proofs.Tree.Numbered.{by_test, same-equal, same-false}
+use Rattle.tree_specs.proofs.Tree.Rows.{row_of-changed-same}
+use Rattle.tree_specs.proofs.Tree.Referring.{unreferred, newest-changed}
+use Rattle.tree_specs.proofs.Invariants.Changes.{run-refers, run-unreferred, handling-row, claim-here, stands, goes_on, waiting-sound, changed-sound, shape-of, live-owned, marks-place}
+use Rattle.tree_specs.proofs.Invariants.KeptFrees.{KeptBy, ended}
+use Rattle.tree_specs.proofs.Invariants.Turning.{Ready, handler-ready, IsPlain, Passes, Pass, look-passes, taken-plain}
+
+-- a work that says nothing of an object, over the same rows, in the place of another one
+plain-sound : (f g : TurnFrame) (steps : ℕ) (fs : List Frame) (p q : Pool) → q.rows ≡ p.rows → q.next ≡ p.next → (turn_profile f).claims ≡ None → IsPlain g steps → IsTurned (footing fs)
+    → Sound (frame.Turn f) fs p → Sound (frame.Turn g) fs q
+plain-sound f g steps fs p q rows next none plain turned s =
+    waiting-sound (frame.Turn f) (frame.Turn g) fs p q s rows next (λ x. ap (claim_by x) plain.claims ∙ sym (ap (claim_by x) none)) (plain.rests (footing fs) q turned)
+
+passes-kept : (f : TurnFrame) (fs : List Frame) (p : Pool) (k : ℕ) (m : Step) → (turn_profile f).claims ≡ None → IsTurned (footing fs) → Sound (frame.Turn f) fs p → Passes p m → KeptBy m fs k
+passes-kept f fs p k _ none turned s (Pass g q rows next plain) = plain-sound f g 4 fs p q rows next none plain turned s
+
+-- an event with which nothing goes on becomes busy
+starts : (w : What) (x : Obj) (now : ℕ) (h : Handler) (fs : List Frame) (p : Pool) → Sound (frame.Turn (Starting w x now)) fs p → Ready p.rows w x
+    → Sound (frame.Turn (Firing w x h now)) fs (set_mark p x Busy)
+starts w x now h fs p s ready =
+    let r : Row = ready.row in
+    let self : same x x ≡ true = same-equal x x refl in
+    let none : claims x fs ≡ [] = s.open_frees x ∙ ap phases ready.is ∙ ap phase_of ready.quiet in
+    changed-sound (marked_row Busy) (frame.Turn (Starting w x now)) (frame.Turn (Firing w x h now)) fs fs p x r s (marks-place Busy) ready.is
+    (live-owned r.mark r.owner x (rw ready.quiet tt) (shape-of p x r s.valid ready.is)) ready.object
+    (inr (unreferred p.rows x s.forest.distinct (λ q. let q' : IsReferable (Some r) = rw ready.is at q in let bad : true ≡ false = sym q'.0 ∙ ready.event in cc) s.refers))
+    (λ y ne. let u : same x y ≡ false = same-false x y ne in rw u refl) (rw (self, none) refl) s.waiting
+    (s.rests, marked_row Busy r, row_of-changed-same (marked_row Busy) p.rows x r (λ q. refl) ready.is, ready.comes, refl)
+
+-- ---- a handler has returned
+
+-- nothing goes on with its event any more
+module _ (w : What) (x : Obj) (fs : List Frame) (p : Pool) (s : Sound (frame.Turn (Handled w x)) fs p) where
+  abbrev phase : InHandler ∷ claims x fs ≡ phases (row_of p.rows x)
+  phase = claim-here x InHandler (claims x fs) (row_of p.rows x) (s.open_frees x)
+
+  quiet : (r : Row) → row_of p.rows x ≡ Some r → IsLive r.mark → claims x fs ≡ [] → (g : Frame) (gs : List Frame) → ((y : Obj) → claim y g ++ claims y gs ≡ claims y fs) → AllWait gs
+      → Rests g gs (set_mark p x Quiet)
+      → Sound g gs (set_mark p x Quiet)
+  quiet r e live none g gs same_claims wait rests =
+      let object : target_at p.rows x ≡ None = run-refers p.rows x (claims x fs) s.refers phase in
+      let object' : target_of r.kind ≡ None = rw e at object in
+      changed-sound (marked_row Quiet) (frame.Turn (Handled w x)) g fs gs p x r s (marks-place Quiet) e (live-owned r.mark r.owner x live (shape-of p x r s.valid e)) object' (inl (λ q. refl))
+      (λ y ne. let u : same x y ≡ false = same-false x y ne in rw u (same_claims y)) (same_claims x ∙ none) wait rests
+
+  handled-kept : (k : ℕ) → KeptBy (turn_step (Handled w x) p) fs k
+  handled-kept k =
+      let row = handling-row (row_of p.rows x) (claims x fs) phase in
+      let object : target_at p.rows x ≡ None = run-refers p.rows x (claims x fs) s.refers phase in
+      let object' : target_of row.0.kind ≡ None = rw row.1 at object in
+      let unreferred : newest_ref p.rows x ≡ None = run-unreferred p.rows x (claims x fs) s.forest.distinct s.refers phase in
+      let new : row_of (changed (marked_row Quiet) p.rows x) x ≡ Some (marked_row Quiet row.0) = row_of-changed-same (marked_row Quiet) p.rows x row.0 (λ q. refl) row.1 in
+      by_test (goes_after p w x)
+      (λ t. rw t (quiet row.0 row.1 row.2 row.3 (frame.Free (Beginning x)) (frame.Turn (Clearing x) ∷ fs) (λ y. refl) (s.rests, s.waiting)
+      (newest-changed (marked_row Quiet) p.rows x x (λ q. refl) (λ q. refl) ∙ unreferred, rw new object')))
+      (λ t. rw t (quiet row.0 row.1 row.2 row.3 (frame.Turn (Closing 1)) fs (λ y. refl) s.waiting s.rests))
+
+-- ---- all
+
+starting-kept : (w : What) (x : Obj) (now : ℕ) (fs : List Frame) (p : Pool) (k : ℕ) → Sound (frame.Turn (Starting w x now)) fs p → KeptBy (turn_step (Starting w x now) p) fs k
+starting-kept w x now fs p k s = each (handler_for p w x) refl
+  where
+    each : (o : Option Handler) → handler_for p w x ≡ o → KeptBy (starting_step w x now (handler_for p w x) p) fs k
+    each None e = rw e (goes_on (frame.Turn (Starting w x now)) (frame.Turn (Closing 1)) fs p (λ y. refl) s.rests s)
+    each (Some h) e = rw e (starts w x now h fs p s (handler-ready p w x h e))
+
+-- a work that asks, with its answer
+asked-kept : (f : TurnFrame) (fs : List Frame) (p : Pool) → (turn_profile f).claims ≡ None → IsTurned (footing fs) → Sound (frame.Turn f) fs p → (t : TurnFrame) → IsPlain t 5
+    → Sound (frame.Turn t) fs p
+asked-kept f fs p none turned s t plain = plain-sound f t 5 fs p p refl refl none plain turned s
+
+pub turn-kept : (f : TurnFrame) (fs : List Frame) (p : Pool) (k : ℕ) → Sound (frame.Turn f) fs p → KeptBy (turn_step f p) fs k
+turn-kept Taking fs p k s = passes-kept Taking fs p k _ refl s.rests s (look-passes Taking p tt)
+turn-kept (Timed again now) fs p k s = passes-kept (Timed again now) fs p k _ refl s.rests s (look-passes (Timed again now) p tt)
+turn-kept (Timing again) fs p zero s = tt
+turn-kept (Timing again) fs p (suc k) s = λ i g e. (let t = taken-plain (Timing again) p i g e in subst (λ (z : Frame). Sound z fs p) (sym t.1) (asked-kept (Timing again) fs p refl s.rests s t.0 t.2))
+turn-kept (Polling limit) fs p zero s = tt
+turn-kept (Polling limit) fs p (suc k) s = λ i g e. (let t = taken-plain (Polling limit) p i g e in subst (λ (z : Frame). Sound z fs p) (sym t.1) (asked-kept (Polling limit) fs p refl s.rests s t.0 t.2))
+turn-kept Reading fs p zero s = tt
+turn-kept Reading fs p (suc k) s = λ i g e. (let t = taken-plain Reading p i g e in subst (λ (z : Frame). Sound z fs p) (sym t.1) (asked-kept Reading fs p refl s.rests s t.0 t.2))
+turn-kept (Starting w x now) fs p k s = starting-kept w x now fs p k s
+turn-kept (Firing w x h now) fs p k s = goes_on (frame.Turn (Firing w x h now)) (frame.Turn (Handling w x h now)) fs p (λ y. refl) (s.rests.0, s.rests.1.kind, s.rests.3) s
+turn-kept (Handling w x h now) fs p k s =
+    stands (frame.Turn (Handling w x h now)) (frame.Call (Asking (Routine (handler_moment w x h now)))) fs (frame.Turn (Handling w x h now) ∷ fs) p (λ y. refl) (s.rests.0, s.waiting) tt s
+turn-kept (Handled w x) fs p k s = handled-kept w x fs p s k
+turn-kept (Clearing x) fs p k s = absurd s.rests
+turn-kept (Closing v) fs p k s = ended (Turned v) (frame.Turn (Closing v)) fs p k s (λ x. refl) (λ x c n b gs e. tt)

@@ -1,0 +1,139 @@
+-- How a turn goes on: what is to start, and the works that it goes on as.
+use Rattle.std.proofs.Common.{◌≡◌, ℕ, ◌≤◌, List, Option, Some, None, true, false, nat_eq, nat_le, Bool, refl, ◌∙◌, arith}
+use Rattle.std.specs.Prelude.{◌&&◌, ◌-◌}
+use Rattle.step_machine.specs.Machine.{Move as Do}
+use Rattle.tree_specs.specs.declared.object.Obj.{Obj}
+use Rattle.tree_specs.specs.declared.due.Due.{Due}
+use Rattle.tree_specs.specs.declared.row.Row.{Row}
+use Rattle.tree_specs.specs.declared.row.Mark.{Mark}
+use Rattle.tree_specs.specs.declared.row.Mark.TheVariants.{Quiet}
+use Rattle.tree_specs.specs.declared.kind.Kind.{Kind}
+use Rattle.tree_specs.specs.declared.kind.Kind.TheVariants as kind
+use Rattle.tree_specs.specs.declared.handler.Handler.{Handler}
+use Rattle.tree_specs.specs.declared.moment.What.{What}
+use Rattle.tree_specs.specs.declared.moment.What.TheVariants.{Immediate as ForImmediate, Timer as ForTimer}
+use Rattle.tree_specs.specs.declared.question.Input.{Input}
+use Rattle.tree_specs.specs.declared.frame.Frame.{Frame}
+use Rattle.tree_specs.specs.declared.frame.Frame.TheVariants as frame
+use Rattle.tree_specs.specs.declared.frame.TurnFrame.{TurnFrame}
+use Rattle.tree_specs.specs.declared.frame.TurnFrame.TheVariants.{Taking, Timing, Timed, Polling, Starting, Reading, Closing}
+use Rattle.tree_specs.specs.Tree.Targets.{target_of}
+use Rattle.tree_specs.specs.Tree.Pool.{Pool, row_of, unschedule, disarm}
+use Rattle.tree_specs.specs.Events.Pending.{first}
+use Rattle.tree_specs.specs.Events.Coming.{wait_limit, comes_as, is_quiet_mark, may_start, handler_for, looks_again}
+use Rattle.tree_specs.specs.Calls.Refusals.{is_plain}
+use Rattle.tree_specs.specs.Machine.Table.{Step, due_step, taking_step, early_step, timed_step, timed_turn, closed_turn, looked_turn, turn_step, turn_taken}
+use Rattle.tree_specs.specs.Machine.Profiles.{turn_profile}
+use Rattle.tree_specs.specs.Invariants.Sound.{Footing, IsTurned, TurnRests}
+use Rattle.tree_specs.proofs.Tree.Numbered.{by_test}
+use Rattle.tree_specs.proofs.Calls.Checks.{clocked-by, polled-by}
+
+-- ---- what is to start
+
+-- an event with which nothing goes on, and which comes as this
+pub record Ready (rows : List Row) (what : What) (x : Obj) : Type 0 where
+  pub row : Row
+  pub is : row_of rows x ≡ Some row
+  pub object : target_of row.kind ≡ None
+  pub event : is_plain row.kind ≡ false
+  pub comes : comes_as what row.kind ≡ true
+  pub quiet : row.mark ≡ Quiet
+
+both : (a b : Bool) → (a && b) ≡ true → (a ≡ true) × (b ≡ true)
+both true b e = (refl, e)
+both false b e = cc
+
+quiet-mark : (m : Mark) → is_quiet_mark m ≡ true → m ≡ Quiet
+quiet-mark Quiet e = refl
+quiet-mark _ e = cc
+
+-- an event is neither plain nor a reference
+pub comes-event : (w : What) (k : Kind) → comes_as w k ≡ true → (target_of k ≡ None) × (is_plain k ≡ false)
+comes-event ForImmediate kind.Immediate e = (refl, refl)
+comes-event ForTimer kind.Timer e = (refl, refl)
+comes-event _ _ e = cc
+
+pub handler-ready : (p : Pool) (w : What) (x : Obj) (h : Handler) → handler_for p w x ≡ Some h → Ready p.rows w x
+handler-ready p w x h e = by_test (may_start w (row_of p.rows x)) (λ t. by-row (row_of p.rows x) refl t) (λ t. let bad : None ≡ Some h = rw t at e in cc)
+  where
+    by-row : (o : Option Row) → row_of p.rows x ≡ o → may_start w o ≡ true → Ready p.rows w x
+    by-row None k t = cc
+    by-row (Some r) k t =
+        let b = both (comes_as w r.kind) (is_quiet_mark r.mark) t in
+        let c = comes-event w r.kind b.0 in
+        record { row = r; is = k; object = c.0; event = c.1; comes = b.0; quiet = quiet-mark r.mark b.1 }
+
+-- ---- works of a turn that say nothing of an object
+
+pub record IsPlain (f : TurnFrame) (steps : ℕ) : Type 0 where
+  pub claims : (turn_profile f).claims ≡ None
+  pub size : (turn_profile f).top_size ≡ 0
+  pub cheap : (turn_profile f).steps ≤ steps
+  pub rests : (on : Footing) (p : Pool) → IsTurned on → TurnRests f on p
+
+pub plain-timed : (again : Bool) (now : ℕ) → IsPlain (Timed again now) 5
+plain-timed again now = record { claims = refl; size = refl; cheap = omega arith; rests = λ on p h. h }
+
+pub plain-timing : (again : Bool) → IsPlain (Timing again) 4
+plain-timing again = record { claims = refl; size = refl; cheap = omega arith; rests = λ on p h. h }
+
+pub plain-polling : (limit : ℕ) → IsPlain (Polling limit) 4
+plain-polling limit = record { claims = refl; size = refl; cheap = omega arith; rests = λ on p h. h }
+
+pub plain-starting : (w : What) (x : Obj) (now : ℕ) → IsPlain (Starting w x now) 4
+plain-starting w x now = record { claims = refl; size = refl; cheap = omega arith; rests = λ on p h. h }
+
+pub plain-closing : (v : ℕ) → IsPlain (Closing v) 4
+plain-closing v = record { claims = refl; size = refl; cheap = omega arith; rests = λ on p h. h }
+
+plain-more : (f : TurnFrame) → IsPlain f 4 → IsPlain f 5
+plain-more f h = record { claims = h.claims; size = h.size; cheap = (let l = h.cheap in omega (arith, l)); rests = h.rests }
+
+-- ---- looking for what comes
+
+-- it goes on over the same rows, and says nothing of an object
+pub data Passes (p : Pool) : Step → Type 0 where
+  Pass : (g : TurnFrame) (q : Pool) → q.rows ≡ p.rows → q.next ≡ p.next → IsPlain g 4 → Passes p (Do.Go (frame.Turn g) q)
+
+-- the two works that look
+abbrev pub IsLook : TurnFrame → Type 0
+IsLook Taking = Unit {0}
+IsLook (Timed again now) = Unit {0}
+IsLook f = ⊥
+
+pub look-passes : (f : TurnFrame) (p : Pool) → IsLook f → Passes p (turn_step f p)
+look-passes Taking p i = each (first p.soon)
+  where
+    due : (o : Option Due) → Passes p (due_step o p)
+    due None = Pass (Polling wait_limit) p refl refl (plain-polling wait_limit)
+    due (Some d) = by_test (nat_eq d.time 0)
+        (λ t. rw t (Pass (Starting ForTimer d.object 0) (disarm p d.object) refl refl (plain-starting ForTimer d.object 0)))
+        (λ t. rw t (Pass (Timing false) p refl refl (plain-timing false)))
+
+    each : (o : Option Obj) → Passes p (taking_step o p)
+    each None = due (first p.times)
+    each (Some x) = Pass (Starting ForImmediate x 0) (unschedule p x) refl refl (plain-starting ForImmediate x 0)
+look-passes (Timed again now) p i = each (first p.times)
+  where
+    early : (again : Bool) (d : Due) → Passes p (early_step again d now p)
+    early true d = Pass (Closing 0) p refl refl (plain-closing 0)
+    early false d = Pass (Polling (d.time - now)) p refl refl (plain-polling (d.time - now))
+
+    each : (o : Option Due) → Passes p (timed_step again now o p)
+    each None = Pass (Closing 0) p refl refl (plain-closing 0)
+    each (Some d) = by_test (nat_le d.time now)
+        (λ t. rw t (Pass (Starting ForTimer d.object now) (disarm p d.object) refl refl (plain-starting ForTimer d.object now)))
+        (λ t. rw t (early again d))
+look-passes _ p i = absurd i
+
+-- ---- what an answer leads to
+
+pub taken-plain : (f : TurnFrame) (p : Pool) (i : Input) (g : Frame) → turn_taken f p i ≡ Some g → (t : TurnFrame) × (g ≡ frame.Turn t) × IsPlain t 5
+taken-plain (Timing again) p i g e = let t = clocked-by (timed_turn again) i g e in (Timed again t.0, t.1, plain-timed again t.0)
+taken-plain Reading p i g e = let t = clocked-by closed_turn i g e in (Closing t.0, t.1, plain-more (Closing t.0) (plain-closing t.0))
+taken-plain (Polling limit) p i g e =
+    let t = polled-by limit (looked_turn p) i g e in
+    by_test (looks_again p t.0)
+    (λ l. (Timing true, t.1 ∙ rw l refl, plain-more (Timing true) (plain-timing true)))
+    (λ l. (Closing 0, t.1 ∙ rw l refl, plain-more (Closing 0) (plain-closing 0)))
+taken-plain _ p i g e = cc

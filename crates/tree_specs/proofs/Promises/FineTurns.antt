@@ -1,0 +1,160 @@
+-- The steps of a turn tell what is fine.
+use Rattle.std.proofs.Common.{◌≡◌, ℕ, List, [], ◌∷◌, ◌++◌, Option, Some, None, true, false, refl, sym, ◌∙◌, ap, subst, map}
+use Rattle.step_machine.specs.Machine.{Move as Do}
+use Rattle.step_machine.specs.Noted.{scene, with_note, noted_work}
+use Rattle.tree_specs.specs.declared.object.Obj.{Obj}
+use Rattle.tree_specs.specs.declared.row.Row.{Row}
+use Rattle.tree_specs.specs.declared.row.Mark.TheVariants.{Quiet, Busy}
+use Rattle.tree_specs.specs.declared.kind.Kind.{Kind}
+use Rattle.tree_specs.specs.declared.kind.Kind.TheVariants as kind
+use Rattle.tree_specs.specs.declared.handler.Handler.{Handler}
+use Rattle.tree_specs.specs.declared.moment.What.{What}
+use Rattle.tree_specs.specs.declared.moment.What.TheVariants.{Immediate as ForImmediate, Timer as ForTimer}
+use Rattle.tree_specs.specs.declared.event.Event.TheVariants.{Fired}
+use Rattle.tree_specs.specs.declared.question.Ask.{Ask}
+use Rattle.tree_specs.specs.declared.question.Ask.TheVariants as ask
+use Rattle.tree_specs.specs.declared.question.Input.{Input}
+use Rattle.tree_specs.specs.declared.frame.Frame.{Frame}
+use Rattle.tree_specs.specs.declared.frame.Frame.TheVariants as frame
+use Rattle.tree_specs.specs.declared.frame.CallFrame.TheVariants.{Asking}
+use Rattle.tree_specs.specs.declared.frame.FreeFrame.TheVariants.{Beginning}
+use Rattle.tree_specs.specs.declared.frame.TurnFrame.{TurnFrame}
+use Rattle.tree_specs.specs.declared.frame.TurnFrame.TheVariants.{Taking, Timing, Timed, Polling, Starting, Firing, Handling, Handled, Clearing, Reading, Closing}
+use Rattle.tree_specs.specs.declared.frame.Answer.TheVariants as answer
+use Rattle.tree_specs.specs.Tree.Pool.{Pool, row_of, set_mark}
+use Rattle.tree_specs.specs.Events.Coming.{comes_as, handler_for, handler_moment, goes_after}
+use Rattle.tree_specs.specs.Rules.Items.{Item}
+use Rattle.tree_specs.specs.Rules.Items.Item.{Told, Asked}
+use Rattle.tree_specs.specs.Rules.Sequence.{CallStart, Scene}
+use Rattle.tree_specs.specs.Machine.Table.{Step, notes, taken, starting_step, turn_step, turn_taken}
+use Rattle.tree_specs.specs.Promises.Orderly.{is_hook, asks_hook}
+use Rattle.tree_specs.specs.Promises.Grounded.{may_fire, may_fire_row}
+use Rattle.tree_specs.specs.Machine.Profiles.{InHandler}
+use Rattle.tree_specs.specs.Invariants.Sound.{claims}
+use Rattle.tree_specs.specs.Invariants.Consistent.{IsConsistent}
+use Rattle.tree_specs.proofs.Tree.Numbered.{by_test}
+use Rattle.tree_specs.proofs.Invariants.Changes.{handling-row, claim-here}
+use Rattle.tree_specs.proofs.Invariants.Turning.{handler-ready, Passes, Pass, look-passes, taken-plain}
+use Rattle.tree_specs.proofs.Invariants.Waiters.{Waiter, ForRun}
+use Rattle.tree_specs.proofs.Promises.Later.{Later, later-same, later-waiting, later-marked}
+use Rattle.tree_specs.proofs.Promises.Past.{Past, Accounts, past-goes, past-tells, unfreed}
+use Rattle.tree_specs.proofs.Promises.Causes.{NotedWork, told, StandsOn, Cause}
+use Rattle.tree_specs.proofs.Promises.Fitting.{fits-fired, fits-question}
+use Rattle.tree_specs.proofs.Promises.Fine.{work_of, Known, FineBy, restacked, of-next, AnswersTo, resumed, known-told, taken-noted}
+
+-- an event's handler is no destructor
+comes-no-hook : (w : What) (k : Kind) → comes_as w k ≡ true → is_hook w ≡ false
+comes-no-hook ForImmediate kind.Immediate e = refl
+comes-no-hook ForTimer kind.Timer e = refl
+comes-no-hook _ _ e = cc
+
+-- it may run for a busy event
+comes-fires : (w : What) (k : Kind) → comes_as w k ≡ true → may_fire w k Busy ≡ true
+comes-fires ForImmediate kind.Immediate e = refl
+comes-fires ForTimer kind.Timer e = refl
+comes-fires _ _ e = cc
+
+module _ (scenes : List Scene) (b : Option CallStart) (ws : List NotedWork) (p : Pool) where
+  abbrev AtTurn : TurnFrame → Type 0
+  AtTurn f = IsConsistent (record { innermost = frame.Turn f; below = map work_of ws; pool = p }) → Known scenes (with_note b (frame.Turn f)) ws p → FineBy scenes (frame.Turn f) b p (turn_step f p) ws
+
+  -- it goes on over a later pool, and tells nothing
+  goes : (f g : TurnFrame) (q : Pool) → Later p q → Known scenes (with_note b (frame.Turn f)) ws p → FineBy scenes (frame.Turn f) b p (Do.Go (frame.Turn g) q) ws
+  goes f g q later known = record {
+    past = past-goes (told scenes) (frame.Turn f) (frame.Turn g) (map work_of ws) (map work_of ws) p q known.past later (λ y l. absurd l) tt known.past.all_account;
+    stacked = restacked (frame.Turn f) (frame.Turn g) ws (λ w h. h) (λ w h. h) known.stacked;
+    cause = tt;
+  }
+
+  -- it begins another work, and waits for it
+  begins : (f g : TurnFrame) (h : Frame) (q : Pool) → Later p q → Accounts (told scenes) h → StandsOn h (frame.Turn g) None → Cause scenes h None (with_note None (frame.Turn g) ∷ ws) q
+      → Known scenes (with_note b (frame.Turn f)) ws p → FineBy scenes (frame.Turn f) b p (Do.Call h (frame.Turn g) q) ws
+  begins f g h q later account on cause known = record {
+    past = past-goes (told scenes) (frame.Turn f) h (map work_of ws) (frame.Turn g ∷ map work_of ws) p q known.past later (λ y l. absurd l) account (tt, known.past.all_account);
+    stacked = (on, restacked (frame.Turn f) (frame.Turn g) ws (λ w k. k) (λ w k. k) known.stacked);
+    cause = cause;
+  }
+
+  passes : (f : TurnFrame) (m : Step) → Passes p m → Known scenes (with_note b (frame.Turn f)) ws p → FineBy scenes (frame.Turn f) b p m ws
+  passes f _ (Pass g q rows next plain) known = goes f g q (later-waiting p q rows next) known
+
+  -- it asks no destructor, and goes on as a turn
+  asks : (f : TurnFrame) (q : Ask) → ((y : Obj) → asks_hook y (Asked q) ≡ false) → ((i : Input) (g : Frame) → turn_taken f p i ≡ Some g → (t : TurnFrame) × (g ≡ frame.Turn t))
+      → Known scenes (with_note b (frame.Turn f)) ws p
+      → FineBy scenes (frame.Turn f) b p (Do.Wait (Asked q) (frame.Turn f) p) ws
+  asks f q none leads known = ((fits-question (told scenes) q none, record { answered = tt; held = tt; caused = tt; started = tt }), next)
+    where
+      s : Scene
+      s = scene notes (frame.Turn f) b p (Asked q)
+
+      past : Past (told scenes ++ Asked q ∷ []) (frame.Turn f) (map work_of ws) p
+      past = past-tells (told scenes) (Asked q) (frame.Turn f) (map work_of ws) p (λ x. refl) (λ x. refl) (λ x. refl) known.past
+
+      after : (t : TurnFrame) → Known (scenes ++ s ∷ []) (with_note None (frame.Turn t)) ws p
+      after t = known-told scenes s (with_note None (frame.Turn t)) ws p
+          (past-goes (told scenes ++ Asked q ∷ []) (frame.Turn f) (frame.Turn t) (map work_of ws) (map work_of ws) p p past (later-same p) (λ x l. absurd l) tt past.all_account)
+          (restacked (frame.Turn f) (frame.Turn t) ws (λ w h. h) (λ w h. h) known.stacked) tt
+
+      next : (i : Input) (g : NotedWork) → noted_work None (taken (frame.Turn f) p i) ≡ Some g → Known (scenes ++ s ∷ []) g ws p
+      next i g e =
+          let t = taken-noted None (taken (frame.Turn f) p i) g e in
+          let l = leads i t.0 t.1 in
+          subst (λ (w : NotedWork). Known (scenes ++ s ∷ []) w ws p) (sym (t.2 ∙ ap (with_note None) l.1)) (after l.0)
+
+  plain : (f : TurnFrame) (i : Input) (g : Frame) → turn_taken f p i ≡ Some g → (t : TurnFrame) × (g ≡ frame.Turn t)
+  plain f i g e = let t = taken-plain f p i g e in (t.0, t.1)
+
+  starting-fine : (w : What) (x : Obj) (now : ℕ) → AtTurn (Starting w x now)
+  starting-fine w x now whole known = each (handler_for p w x) refl
+    where
+      each : (o : Option Handler) → handler_for p w x ≡ o → FineBy scenes (frame.Turn (Starting w x now)) b p (starting_step w x now (handler_for p w x) p) ws
+      each None e = rw e (goes (Starting w x now) (Closing 1) p (later-same p) known)
+      each (Some h) e =
+          let ready = handler-ready p w x h e in
+          rw e (goes (Starting w x now) (Firing w x h now) (set_mark p x Busy) (later-marked p x ready.row Busy ready.is (rw ready.quiet tt)) known)
+
+  firing-fine : (w : What) (x : Obj) (h : Handler) (now : ℕ) → AtTurn (Firing w x h now)
+  firing-fine w x h now whole known =
+      let f : Frame = frame.Turn (Firing w x h now) in
+      let g : Frame = frame.Turn (Handling w x h now) in
+      let e : Item = Told (Fired w x h.routine) in
+      let rests = whole.sound.rests in
+      let r : Row = rests.1 in
+      let fires : may_fire_row w (row_of p.rows x) ≡ true = rw (rests.2, rests.4) (comes-fires w r.kind rests.3) in
+      let past = past-tells (told scenes) e f (map work_of ws) p (λ y. refl) (λ y. refl) (λ y. refl) known.past in (
+        (fits-fired (told scenes) w x h.routine (unfreed (told scenes) f (map work_of ws) p x r known.past rests.2), record { answered = tt; held = tt; caused = tt; started = fires }),
+        known-told scenes (scene notes f b p e) (with_note None g) ws p
+            (past-goes (told scenes ++ e ∷ []) f g (map work_of ws) (map work_of ws) p p past (later-same p) (λ y l. absurd l) tt past.all_account)
+            (restacked f g ws (λ w h. h) (λ w h. h) known.stacked) tt,
+      )
+
+  handled-fine : (w : What) (x : Obj) → AtTurn (Handled w x)
+  handled-fine w x whole known =
+      let row = handling-row (row_of p.rows x) (claims x (map work_of ws)) (claim-here x InHandler (claims x (map work_of ws)) (row_of p.rows x) (whole.sound.open_frees x)) in
+      let later = later-marked p x row.0 Quiet row.1 row.2 in
+      by_test (goes_after p w x)
+      (λ t. rw t (begins (Handled w x) (Clearing x) (frame.Free (Beginning x)) (set_mark p x Quiet) later tt tt tt known))
+      (λ t. rw t (goes (Handled w x) (Closing 1) (set_mark p x Quiet) later known))
+
+  closing-fine : (v : ℕ) → AtTurn (Closing v)
+  closing-fine v whole known =
+      resumed scenes (frame.Turn (Closing v)) b ws p (answer.Turned v) known.past (λ y l. l) known.stacked whole.sound.waiting
+      (of-next (AnswersTo scenes (answer.Turned v)) (frame.Turn (Closing v)) ws whole.sound.waiting known.stacked answers)
+    where
+      answers : (g : Frame) (n : Option CallStart) → Waiter g → StandsOn (frame.Turn (Closing v)) g n → AnswersTo scenes (answer.Turned v) g n
+      answers _ n (ForRun x h) on = absurd on
+      answers _ n _ on = tt
+
+  pub turn-fine : (f : TurnFrame) → AtTurn f
+  turn-fine Taking whole known = passes Taking _ (look-passes Taking p tt) known
+  turn-fine (Timed again now) whole known = passes (Timed again now) _ (look-passes (Timed again now) p tt) known
+  turn-fine (Timing again) whole known = asks (Timing again) ask.Clock (λ y. refl) (plain (Timing again)) known
+  turn-fine (Polling limit) whole known = asks (Polling limit) (ask.Wait limit) (λ y. refl) (plain (Polling limit)) known
+  turn-fine Reading whole known = asks Reading ask.Clock (λ y. refl) (plain Reading) known
+  turn-fine (Starting w x now) whole known = starting-fine w x now whole known
+  turn-fine (Firing w x h now) whole known = firing-fine w x h now whole known
+  turn-fine (Handling w x h now) whole known =
+      begins (Handling w x h now) (Handling w x h now) (frame.Call (Asking (ask.Routine (handler_moment w x h now)))) p (later-same p) tt (comes-no-hook w whole.sound.rests.1 whole.sound.rests.2) tt known
+  turn-fine (Handled w x) whole known = handled-fine w x whole known
+  turn-fine (Clearing x) whole known = absurd whole.sound.rests
+  turn-fine (Closing v) whole known = closing-fine v whole known

@@ -1,0 +1,82 @@
+-- Each step of a turn lowers the measure.
+use Rattle.std.proofs.Common.{◌≡◌, ℕ, suc, zero, ◌+◌, ◌*◌, ◌<◌, List, ◌∷◌, Option, Some, None, refl, sym, ap, subst, arith}
+use Rattle.tree_specs.specs.declared.object.Obj.{Obj}
+use Rattle.tree_specs.specs.declared.row.Mark.TheVariants.{Quiet, Busy}
+use Rattle.tree_specs.specs.declared.handler.Handler.{Handler}
+use Rattle.tree_specs.specs.declared.moment.What.{What}
+use Rattle.tree_specs.specs.declared.frame.Frame.{Frame}
+use Rattle.tree_specs.specs.declared.frame.Frame.TheVariants as frame
+use Rattle.tree_specs.specs.declared.frame.CallFrame.TheVariants.{Turning}
+use Rattle.tree_specs.specs.declared.frame.TurnFrame.{TurnFrame}
+use Rattle.tree_specs.specs.declared.frame.TurnFrame.TheVariants.{Taking, Timing, Timed, Polling, Starting, Firing, Handling, Handled, Clearing, Reading, Closing}
+use Rattle.tree_specs.specs.declared.frame.Answer.TheVariants.{Turned}
+use Rattle.tree_specs.specs.Tree.Pool.{Pool, row_of, marked_row}
+use Rattle.tree_specs.specs.Events.Coming.{handler_for, goes_after}
+use Rattle.tree_specs.specs.Machine.Profiles.{InHandler, turn_profile}
+use Rattle.tree_specs.specs.Machine.Table.{Step, resume, starting_step, turn_step}
+use Rattle.tree_specs.specs.Invariants.Sound.{claims, footing, IsTurned, Sound}
+use Rattle.tree_specs.specs.Invariants.Measure.{mark_weight, weight, row_worth, waiting_cost, top_cost, cost}
+use Rattle.tree_specs.proofs.Tree.Numbered.{by_test}
+use Rattle.tree_specs.proofs.Invariants.Changes.{handling-row, claim-here}
+use Rattle.tree_specs.proofs.Invariants.Turning.{handler-ready, IsPlain, Passes, Pass, look-passes, taken-plain}
+use Rattle.tree_specs.proofs.Turns.FallingFrees.{Lowers, Room, done-lower, total-kept, length-changed, live-weight}
+
+passes-lower : (R : ℕ) (f : TurnFrame) (fs : List Frame) (p : Pool) (k : ℕ) (m : Step) → (turn_profile f).steps ≡ 5 → Passes p m → Room R (frame.Turn f) p k
+    → Lowers R (cost R (frame.Turn f) fs p k) m fs k
+passes-lower R f fs p k _ five (Pass g q rows next plain) room =
+    let cheap = plain.cheap in
+    rw rows (omega arith, omega (arith, cheap, five))
+
+-- what an answer leads to costs less than the answer pays
+asked-lower : (R : ℕ) (f : TurnFrame) (fs : List Frame) (p : Pool) (k : ℕ) (g : Frame) (t : TurnFrame) → g ≡ frame.Turn t → IsPlain t 5 → Room R (frame.Turn f) p (suc k)
+    → Room R g p k × (cost R g fs p k < cost R (frame.Turn f) fs p (suc k))
+asked-lower R f fs p k g t e plain room =
+    let cheap = plain.cheap in
+    subst (λ (z : Frame). Room R z p k × (cost R z fs p k < cost R (frame.Turn f) fs p (suc k))) (sym e) (omega arith, omega (arith, cheap))
+
+starting-lower : (R : ℕ) (w : What) (x : Obj) (now : ℕ) (fs : List Frame) (p : Pool) (k : ℕ) → Room R (frame.Turn (Starting w x now)) p k
+    → Lowers R (cost R (frame.Turn (Starting w x now)) fs p k) (turn_step (Starting w x now) p) fs k
+starting-lower R w x now fs p k room = each (handler_for p w x) refl
+  where
+    each : (o : Option Handler) → handler_for p w x ≡ o → Lowers R (cost R (frame.Turn (Starting w x now)) fs p k) (starting_step w x now (handler_for p w x) p) fs k
+    each None e = rw e (omega arith, omega arith)
+    each (Some h) e =
+        let ready = handler-ready p w x h e in
+        let u = ap (λ (z : ℕ). row_worth R * z) (total-kept weight (marked_row Busy) p.rows x ready.row ready.is (sym (ap mark_weight ready.quiet))) in
+        let n = length-changed (marked_row Busy) p.rows x in
+        rw e (omega (arith, n), omega (arith, u))
+
+handled-lower : (R : ℕ) (w : What) (x : Obj) (fs : List Frame) (p : Pool) (k : ℕ) → Sound (frame.Turn (Handled w x)) fs p → Room R (frame.Turn (Handled w x)) p k
+    → Lowers R (cost R (frame.Turn (Handled w x)) fs p k) (turn_step (Handled w x) p) fs k
+handled-lower R w x fs p k s room =
+    let row = handling-row (row_of p.rows x) (claims x fs) (claim-here x InHandler (claims x fs) (row_of p.rows x) (s.open_frees x)) in
+    let u = ap (λ (z : ℕ). row_worth R * z) (total-kept weight (marked_row Quiet) p.rows x row.0 row.1 (sym (live-weight row.0.mark row.2))) in
+    let n = length-changed (marked_row Quiet) p.rows x in
+    by_test (goes_after p w x) (λ t. rw t (omega (arith, n), omega (arith, u))) (λ t. rw t (omega (arith, n), omega (arith, u)))
+
+closing-lower : (R v : ℕ) (fs : List Frame) (p : Pool) (k : ℕ) → Sound (frame.Turn (Closing v)) fs p → Room R (frame.Turn (Closing v)) p k
+    → Lowers R (cost R (frame.Turn (Closing v)) fs p k) (turn_step (Closing v) p) fs k
+closing-lower R v fs p k s room =
+    done-lower R (Turned v) (frame.Turn (Closing v)) fs p k s.waiting (omega arith) (λ g gs e w. (let l = pays g gs (subst (λ (l : List Frame). IsTurned (footing l)) e s.rests) in omega (arith, l)))
+  where
+    -- a call is what waits for it
+    pays : (g : Frame) (gs : List Frame) → IsTurned (footing (g ∷ gs)) → top_cost R (resume g (Turned v)) gs p.rows < waiting_cost g + 2
+    pays (frame.Call (Turning q)) gs t = omega arith
+    pays (frame.Turn (Clearing x)) gs t = absurd t
+    pays _ gs t = absurd t
+
+pub turn-lower : (R : ℕ) (f : TurnFrame) (fs : List Frame) (p : Pool) (k : ℕ) → Sound (frame.Turn f) fs p → Room R (frame.Turn f) p k → Lowers R (cost R (frame.Turn f) fs p k) (turn_step f p) fs k
+turn-lower R Taking fs p k s room = passes-lower R Taking fs p k _ refl (look-passes Taking p tt) room
+turn-lower R (Timed again now) fs p k s room = passes-lower R (Timed again now) fs p k _ refl (look-passes (Timed again now) p tt) room
+turn-lower R (Timing again) fs p zero s room = tt
+turn-lower R (Timing again) fs p (suc k) s room = λ i g e. (let t = taken-plain (Timing again) p i g e in asked-lower R (Timing again) fs p k g t.0 t.1 t.2 room)
+turn-lower R (Polling limit) fs p zero s room = tt
+turn-lower R (Polling limit) fs p (suc k) s room = λ i g e. (let t = taken-plain (Polling limit) p i g e in asked-lower R (Polling limit) fs p k g t.0 t.1 t.2 room)
+turn-lower R Reading fs p zero s room = tt
+turn-lower R Reading fs p (suc k) s room = λ i g e. (let t = taken-plain Reading p i g e in asked-lower R Reading fs p k g t.0 t.1 t.2 room)
+turn-lower R (Starting w x now) fs p k s room = starting-lower R w x now fs p k room
+turn-lower R (Firing w x h now) fs p k s room = (omega arith, omega arith)
+turn-lower R (Handling w x h now) fs p k s room = (omega arith, omega arith)
+turn-lower R (Handled w x) fs p k s room = handled-lower R w x fs p k s room
+turn-lower R (Clearing x) fs p k s room = absurd s.rests
+turn-lower R (Closing v) fs p k s room = closing-lower R v fs p k s room

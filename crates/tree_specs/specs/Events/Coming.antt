@@ -1,0 +1,59 @@
+-- Which event comes next, and what follows the run of its handler.
+use Rattle.std.specs.Prelude.{ℕ, Bool, true, false, ◌&&◌, ◌||◌, List, [], ◌∷◌, is_some, Option, Some, None, if◌then◌else◌}
+use Rattle.tree_specs.specs.declared.bounds.TheConstants.{WAIT_LIMIT}
+use Rattle.tree_specs.specs.declared.object.Obj.{Obj}
+use Rattle.tree_specs.specs.declared.kind.Kind.{Kind}
+use Rattle.tree_specs.specs.declared.kind.Kind.TheVariants as kind
+use Rattle.tree_specs.specs.declared.row.Row.{Row}
+use Rattle.tree_specs.specs.declared.row.Mark.{Mark}
+use Rattle.tree_specs.specs.declared.row.Mark.TheVariants as mark
+use Rattle.tree_specs.specs.declared.handler.Handler.{Handler}
+use Rattle.tree_specs.specs.declared.moment.Moment.{Moment}
+use Rattle.tree_specs.specs.declared.moment.What.{What}
+use Rattle.tree_specs.specs.declared.moment.What.TheVariants.{Timer, Immediate}
+use Rattle.tree_specs.specs.declared.wants.Want.{Want}
+use Rattle.tree_specs.specs.Tree.Pool.{Pool, row_of}
+use Rattle.tree_specs.specs.Events.Handlers.{handler_of}
+use Rattle.tree_specs.specs.Events.Pending.{first}
+use Rattle.tree_specs.specs.Calls.Refusals.{is_doomed}
+
+-- how long is waited for descriptors where no event has a time
+abbrev pub wait_limit : ℕ
+wait_limit = WAIT_LIMIT
+
+-- an immediate and a timer come each as its own kind
+abbrev pub comes_as : What → Kind → Bool
+comes_as Immediate kind.Immediate = true
+comes_as Timer kind.Timer = true
+comes_as what k = false
+
+abbrev pub is_quiet_mark : Mark → Bool
+is_quiet_mark mark.Quiet = true
+is_quiet_mark m = false
+
+-- an event of the kind, with which nothing goes on
+abbrev pub may_start : What → Option Row → Bool
+may_start what None = false
+may_start what (Some r) = comes_as what r.kind && is_quiet_mark r.mark
+
+-- the handler that is to run; none where it is no such event, or has none
+abbrev pub handler_for : Pool → What → Obj → Option Handler
+handler_for p what x = if may_start what (row_of p.rows x) then handler_of p.handlers x else None
+
+-- the first moment in the run of a handler
+abbrev pub handler_moment : What → Obj → Handler → ℕ → Moment
+handler_moment what x handler now = record { what = what; object = x; routine = handler.routine; user = handler.user; now = now; flags = 0; step = 0; last = None }
+
+-- a timer comes once
+abbrev pub is_once : What → Bool
+is_once Timer = true
+is_once what = false
+
+-- after its handler has run a timer is freed, and so is what was to be freed meanwhile
+abbrev pub goes_after : Pool → What → Obj → Bool
+goes_after p what x = is_once what || is_doomed p x
+
+-- after a wait the first time is looked at again where nothing was ready and an event has a time
+abbrev pub looks_again : Pool → List Want → Bool
+looks_again p [] = is_some (first p.times)
+looks_again p (w ∷ ws) = false
