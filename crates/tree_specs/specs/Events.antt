@@ -2,3 +2,4 @@
 pub mod Coming
 pub mod Handlers
 pub mod Pending
+pub mod Rotation

@@ -31,6 +31,7 @@ mod test;
 #[cfg(test)]
 mod tests;
 mod wants;
+mod watch;
 
 pub use bounds::{
     LINE_LIMIT, LINES_LIMIT, NAME_LIMIT, OCTETS_LIMIT, OVERHEAD, ROW_LIMIT, SIZE_LIMIT, TIME_LIMIT,
@@ -55,3 +56,4 @@ pub use row::{Mark, Row};
 pub use schedule::{Mode, Reason};
 pub use test::Test;
 pub use wants::{Want, Wants};
+pub use watch::Watch;
