@@ -15,8 +15,9 @@ use Rattle.tree_specs.specs.declared.free_step.FreeStep.{FreeStep}
 use Rattle.tree_specs.specs.declared.free_step.FreeStep.TheVariants.{Ask, Done}
 use Rattle.tree_specs.specs.declared.object.Obj.{Obj}
 use Rattle.tree_specs.specs.Tree.Pool.{Pool}
-use Rattle.tree_specs.specs.Machine.Table.{FreeMove, table, free_step, lifted, caller_resume, turn_resume}
-use Rattle.tree_specs.specs.Rules.Story.{hook_moment}
+use Rattle.tree_specs.specs.Machine.FreeTable.{FreeMove, free_step}
+use Rattle.tree_specs.specs.Machine.Table.{table, lifted, caller_resume, turn_resume}
+use Rattle.tree_specs.specs.Rules.Answers.{hook_moment}
 use Rattle.destructors.specs.Frees.{OpenFrees, answered, moved, moves}
 use Rattle.destructors.specs.Callers.{OpenTurn, turned, calling, standing, under}
 use Rattle.destructors.specs.Runs.{IsNews}

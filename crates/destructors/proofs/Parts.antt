@@ -19,7 +19,7 @@ use Rattle.tree_specs.specs.Words.Objects.{same}
 use Rattle.tree_specs.specs.Tree.Forest.{Distinct}
 use Rattle.tree_specs.specs.Tree.Inside.{total}
 use Rattle.tree_specs.specs.Tree.Pool.{row_of}
-use Rattle.tree_specs.specs.Rules.Story.{hook_moment}
+use Rattle.tree_specs.specs.Rules.Answers.{hook_moment}
 use Rattle.tree_specs.specs.Machine.Profiles.{Phase, InRun, InHandler, InLoop}
 use Rattle.tree_specs.specs.Invariants.Sound.{phases, claim, claims, claim_if}
 use Rattle.tree_specs.specs.Invariants.Consistent.{sizes}

@@ -32,10 +32,12 @@ use Rattle.tree_specs.specs.Rules.Items.{Item}
 use Rattle.tree_specs.specs.Rules.Items.Item.{Told}
 use Rattle.tree_specs.specs.Tree.Pool.{Pool, target_at}
 use Rattle.tree_specs.specs.Tree.Targets.{newest_ref}
-use Rattle.tree_specs.specs.Rules.Story.{hook_moment, items, free, unlink, children}
+use Rattle.tree_specs.specs.Rules.Answers.{hook_moment}
+use Rattle.tree_specs.specs.Rules.Story.{items, free, unlink, children}
 use Rattle.tree_specs.specs.Rules.Sequence.{Scene, CallStart, gives}
 use Rattle.tree_specs.specs.Machine.Meaning.{noted_table, mean, stated}
-use Rattle.tree_specs.specs.Machine.Table.{FreeMove, table, notes, step, resume, free_step, free_resume, freeing_resume, event_of, lifted}
+use Rattle.tree_specs.specs.Machine.FreeTable.{FreeMove, free_step, free_resume}
+use Rattle.tree_specs.specs.Machine.Table.{table, notes, step, resume, freeing_resume, event_of, lifted}
 use Rattle.tree_specs.proofs.Rules.Means.{run-means}
 use Rattle.tree_specs.proofs.Rules.MidStories.{innermost-enough}
 use Rattle.destructors.specs.Frees.{OpenFrees, answered, moved, moves, next_of, speaking, Silently, Still, On, Steps, Begins}

@@ -8,7 +8,8 @@ use Rattle.tree_specs.specs.declared.free_step.FreeReply.{FreeReply}
 use Rattle.tree_specs.specs.declared.free_step.FreeStep.{FreeStep}
 use Rattle.tree_specs.specs.declared.free_step.FreeStep.TheVariants.{Done}
 use Rattle.tree_specs.specs.Tree.Pool.{Pool}
-use Rattle.tree_specs.specs.Machine.Table.{FreeMove, free_step, free_resume, free_taken, event_of}
+use Rattle.tree_specs.specs.Machine.FreeTable.{FreeMove, free_step, free_resume, free_taken}
+use Rattle.tree_specs.specs.Machine.Table.{event_of}
 use Rattle.tree_links.specs.Links.{Links, pool_of}
 
 pub record OpenFrees : Type 0 where

@@ -19,7 +19,8 @@ use Rattle.tree_specs.specs.Tree.Pool.{Pool}
 use Rattle.tree_specs.specs.Rules.Items.{Item}
 use Rattle.tree_specs.specs.Rules.Items.Item.{Told}
 use Rattle.tree_specs.specs.Rules.Sequence.{Scene}
-use Rattle.tree_specs.specs.Rules.Story.{hook_moment, items}
+use Rattle.tree_specs.specs.Rules.Answers.{hook_moment}
+use Rattle.tree_specs.specs.Rules.Story.{items}
 use Rattle.tree_specs.specs.Machine.Table.{table, event_of}
 use Rattle.destructors.specs.Frees.{OpenFrees, Steps, returned}
 

@@ -1,7 +1,7 @@
 ghost use Rattle.std.specs.Prelude.{◌≡◌, ◌+◌, ◌≤◌, ◌<◌, Option, length, unwrap_or};
 ghost use Rattle.tree_specs.specs.declared.frame.FreeFrame.{FreeFrame as FreeFrameData};
 ghost use Rattle.tree_specs.specs.Tree.Pool.{Pool as PoolData};
-ghost use Rattle.tree_specs.specs.Machine.Table.{free_taken};
+ghost use Rattle.tree_specs.specs.Machine.FreeTable.{free_taken};
 ghost use Rattle.tree_links.specs.Links.{pool_of};
 ghost use Rattle.destructors.specs.Frees.{before};
 

@@ -26,9 +26,10 @@ use Rattle.tree_specs.specs.declared.object.Obj.{Obj}
 use Rattle.tree_specs.specs.Tree.Pool.{Pool, row_of}
 use Rattle.tree_specs.specs.Rules.Items.{Item}
 use Rattle.tree_specs.specs.Calls.Refusals.{refusals}
-use Rattle.tree_specs.specs.Rules.Story.{hook_moment}
+use Rattle.tree_specs.specs.Rules.Answers.{hook_moment}
 use Rattle.tree_specs.specs.Invariants.Sound.{HasHook, IsWaiting, claim}
-use Rattle.tree_specs.specs.Machine.Table.{FreeMove, call_step, free_step, turning_step, event_of, caller_resume, turn_resume}
+use Rattle.tree_specs.specs.Machine.FreeTable.{FreeMove, free_step}
+use Rattle.tree_specs.specs.Machine.Table.{call_step, turning_step, event_of, caller_resume, turn_resume}
 use Rattle.tree_specs.specs.Machine.View.{View}
 use Rattle.tree_specs.specs.Machine.Profiles.{profile}
 use Rattle.tree_specs.specs.Invariants.Consistent.{IsStacked, Serves, innermost_size, IsConsistent}

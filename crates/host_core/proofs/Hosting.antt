@@ -19,7 +19,7 @@ use Rattle.tree_specs.specs.declared.free_step.FreeStep.{FreeStep}
 use Rattle.tree_specs.specs.declared.free_step.FreeStep.TheVariants.{Ask as AskOf, Done}
 use Rattle.tree_specs.specs.declared.object.Obj.{Obj}
 use Rattle.tree_specs.specs.Tree.Pool.{Pool, row_of, target_at}
-use Rattle.tree_specs.specs.Rules.Story.{hook_moment}
+use Rattle.tree_specs.specs.Rules.Answers.{hook_moment}
 use Rattle.tree_specs.specs.Invariants.Sound.{HasHook, Rests}
 use Rattle.tree_specs.specs.Tree.Targets.{newest_ref}
 use Rattle.tree_specs.specs.declared.object.Owner.{Owner}

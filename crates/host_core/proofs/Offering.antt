@@ -32,10 +32,11 @@ use Rattle.tree_specs.specs.Rules.Items.Item.{Asked}
 use Rattle.tree_specs.specs.Calls.Refusals.{refusals}
 use Rattle.tree_specs.specs.Texts.Schedule.{misfit}
 use Rattle.tree_specs.specs.Words.Ranges.{is_sound}
-use Rattle.tree_specs.specs.Rules.Story.{later, heard}
+use Rattle.tree_specs.specs.Rules.Answers.{later, heard}
 use Rattle.tree_specs.specs.Events.Coming.{looks_again}
 use Rattle.tree_specs.specs.Machine.Profiles.{Waits as WaitsFor, ARun, AHandler, profile}
-use Rattle.tree_specs.specs.Machine.Table.{step, call_step, replied, doing, returning, lifted, announced, event_of, free_step, turn_taken}
+use Rattle.tree_specs.specs.Machine.FreeTable.{free_step}
+use Rattle.tree_specs.specs.Machine.Table.{step, call_step, replied, doing, returning, lifted, announced, event_of, turn_taken}
 use Rattle.tree_specs.specs.Machine.View.{View, rest_of, question_in, question_of}
 use Rattle.tree_specs.specs.Invariants.Consistent.{IsStacked, IsQuiet, IsOfRoutine, Serves, IsConsistent}
 use Rattle.tree_specs.proofs.Tree.Numbered.{by_test}

@@ -34,7 +34,7 @@ use Rattle.tree_specs.specs.declared.call.Call.TheVariants as call
 use Rattle.tree_specs.specs.declared.object.Owner.{Owner}
 use Rattle.tree_specs.specs.declared.reply.Reply.{Reply}
 use Rattle.tree_specs.specs.Calls.Refusals.{refusals}
-use Rattle.tree_specs.specs.Rules.Story.{later}
+use Rattle.tree_specs.specs.Rules.Answers.{later}
 use Rattle.tree_specs.specs.Invariants.Measure.{pending, cost}
 use Rattle.tree_specs.specs.Machine.View.{View, rest_of}
 use Rattle.tree_specs.specs.Invariants.Consistent.{IsConsistent}

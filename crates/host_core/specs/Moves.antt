@@ -23,7 +23,7 @@ use Rattle.tree_specs.specs.declared.object.Obj.{Obj}
 use Rattle.tree_specs.specs.declared.object.Owner.{Owner}
 use Rattle.tree_specs.specs.Tree.Pool.{Pool}
 use Rattle.tree_specs.specs.Rules.Items.{Item}
-use Rattle.tree_specs.specs.Rules.Story.{later}
+use Rattle.tree_specs.specs.Rules.Answers.{later}
 use Rattle.host_core.specs.declared.motion.Motion.{Motion}
 use Rattle.host_core.specs.declared.motion.Motion.TheVariants.{Replies, Warns, Frees, Unlinks, Empties, AsksTime, Turns}
 use Rattle.host_core.specs.declared.short_reply.ShortReply.{ShortReply}

@@ -5,7 +5,7 @@ ghost use Rattle.tree_specs.specs.declared.frame.Answer.TheVariants.{Freed};
 ghost use Rattle.tree_specs.specs.declared.question.Ask.TheVariants.{Routine};
 ghost use Rattle.tree_specs.specs.Tree.Pool.{row_of};
 ghost use Rattle.tree_specs.specs.Invariants.Sound.{HasHook};
-ghost use Rattle.tree_specs.specs.Rules.Story.{later, hook_moment};
+ghost use Rattle.tree_specs.specs.Rules.Answers.{later, hook_moment};
 ghost use Rattle.tree_specs.specs.Machine.Table.{caller_resume};
 ghost use Rattle.host_core.specs.Hosts.{frame_of, awaiting, after_telling, told_by, remembers};
 ghost use Rattle.host_core.specs.Moves.{reply_of, telling, warning};

@@ -26,7 +26,8 @@ use Rattle.tree_specs.specs.Words.Ranges.{is_sound_call}
 use Rattle.tree_specs.specs.Rules.Items.{Item}
 use Rattle.tree_specs.specs.Rules.Items.Item.{Told, Asked}
 use Rattle.tree_specs.specs.Rules.Sequence.{Work, Scene, CallStart, gives}
-use Rattle.tree_specs.specs.Rules.Story.{unlink, release, given, free, dooming, leave, children, tried, hand_on, hand_on_after, effect, numbered, turned, asked, acting, reading, taking, warning, telling, turns, story, items, freed_reply}
+use Rattle.tree_specs.specs.Rules.Answers.{freed_reply}
+use Rattle.tree_specs.specs.Rules.Story.{unlink, release, given, free, dooming, leave, children, tried, hand_on, hand_on_after, effect, numbered, turned, asked, acting, reading, taking, warning, telling, turns, story, items}
 use Rattle.tree_specs.specs.Calls.Plans.{Plan, planned, warned_by, changed_by}
 use Rattle.tree_specs.specs.Calls.Plans.Plan.{Does, Frees, Unlinks, Empties, AsksTime, Turns}
 use Rattle.tree_specs.specs.Texts.Schedule.{open_question}

@@ -33,7 +33,7 @@ use Rattle.tree_specs.specs.Words.Ranges.{is_sound_call, is_return, is_time}
 use Rattle.tree_specs.specs.Words.Wants.{is_wants}
 use Rattle.tree_specs.specs.declared.wants.Want.{Want}
 use Rattle.tree_specs.specs.Machine.Table.{doing, returning}
-use Rattle.tree_specs.specs.Rules.Story.{heard, led, clocked, told_time, polled, told_ready}
+use Rattle.tree_specs.specs.Rules.Answers.{heard, led, clocked, told_time, polled, told_ready}
 use Rattle.tree_specs.specs.Invariants.Consistent.{IsOfRoutine}
 use Rattle.tree_specs.proofs.Tree.Numbered.{by_test, same_owner-equal}
 

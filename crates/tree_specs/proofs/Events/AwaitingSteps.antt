@@ -34,7 +34,8 @@ use Rattle.tree_specs.specs.Calls.Plans.Plan.{Does, Turns}
 use Rattle.tree_specs.specs.Events.Pending.{first}
 use Rattle.tree_specs.specs.Events.Coming.{handler_for, goes_after}
 use Rattle.tree_specs.specs.Machine.Profiles.{InLoop}
-use Rattle.tree_specs.specs.Machine.Table.{FreeMove, event_of, announced, lifted, begin_step, refs_step, unlink_step, release_step, judge_step, last_step, child_step, loop_step, hand_on_step, tried_step, free_step, plan_step, turning_step, due_step, taking_step, timed_step, early_step, starting_step, handled_step, turn_step, step}
+use Rattle.tree_specs.specs.Machine.FreeTable.{FreeMove, begin_step, refs_step, unlink_step, release_step, judge_step, last_step, child_step, loop_step, hand_on_step, tried_step, free_step}
+use Rattle.tree_specs.specs.Machine.Table.{event_of, announced, lifted, plan_step, turning_step, due_step, taking_step, timed_step, early_step, starting_step, handled_step, turn_step, step}
 use Rattle.tree_specs.specs.Invariants.Sound.{ValidAt, claims, Rests, Sound}
 use Rattle.tree_specs.specs.Invariants.Awaiting.{MayCome, Awaits, pool_after}
 use Rattle.tree_specs.proofs.Tree.Numbered.{by_test}

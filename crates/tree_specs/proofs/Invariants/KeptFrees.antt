@@ -27,8 +27,9 @@ use Rattle.tree_specs.specs.declared.free_step.FreeReply.TheVariants.{Ok, Held, 
 use Rattle.tree_specs.specs.Words.Objects.{same}
 use Rattle.tree_specs.specs.Tree.Pool.{Pool, row_of, target_in, target_at, newest_ref_of, owner_in, owner_at, noted_owner, is_owner, is_below, owner_of, is_inside, first_kid, without, changed, remove, left_row, set_mark, doom, marked_row, hooked_row}
 use Rattle.tree_specs.specs.Rules.Items.{Item}
-use Rattle.tree_specs.specs.Rules.Story.{hook_moment}
-use Rattle.tree_specs.specs.Machine.Table.{table, step, lifted, begin_quiet, begin_step, drop_step, refs_step, unlink_step, release_step, judge_step, last_step, child_step, loop_step, hand_on_step, reply_in, resume}
+use Rattle.tree_specs.specs.Rules.Answers.{hook_moment}
+use Rattle.tree_specs.specs.Machine.FreeTable.{begin_quiet, begin_step, drop_step, refs_step, unlink_step, release_step, judge_step, last_step, child_step, loop_step, hand_on_step}
+use Rattle.tree_specs.specs.Machine.Table.{table, step, lifted, reply_in, resume}
 use Rattle.tree_specs.specs.Tree.Heirs.{heir}
 use Rattle.tree_specs.specs.Invariants.Sound.{Owned, Shaped, ValidAt, phase_of, phases, claim, claims, AllWait, IsLive, IsReferable, NotedFor, Tries, StillThere, Refers, IsQuietRow, IsOver, MayAnswer, IsCalled, IsGivenUp, MayBePlaced, Sound, Footing, footing}
 use Rattle.tree_specs.specs.Invariants.Sound.Footing.{OnCall, OnFree, AtBottom}

@@ -30,7 +30,7 @@ use Rattle.tree_specs.specs.Tree.Pool.{Pool}
 use Rattle.tree_specs.specs.Rules.Items.{Item}
 use Rattle.tree_specs.specs.Rules.Items.Item.{Told}
 use Rattle.tree_specs.specs.Rules.Sequence.{CallStart, Scene}
-use Rattle.tree_specs.specs.Rules.Story.{freed_reply, later}
+use Rattle.tree_specs.specs.Rules.Answers.{freed_reply, later}
 use Rattle.tree_specs.specs.Machine.Table.{notes, resume, reply_in, number_in}
 use Rattle.tree_specs.specs.Machine.Profiles.{Waits, Never, AFree, ARun, AChild, ATurn, AHandler, AClear, profile}
 use Rattle.tree_specs.specs.Promises.Orderly.{Fits, RefusedJustNow}

@@ -28,7 +28,7 @@ use Rattle.tree_specs.specs.Rules.Items.{Item}
 use Rattle.tree_specs.specs.Rules.Items.Item.{Told, Asked}
 use Rattle.tree_specs.specs.Calls.Refusals.{Check, refusals, tests, is_held}
 use Rattle.tree_specs.specs.Rules.Sequence.{CallStart, Scene}
-use Rattle.tree_specs.specs.Rules.Story.{later}
+use Rattle.tree_specs.specs.Rules.Answers.{later}
 use Rattle.tree_specs.specs.Machine.Table.{notes, step, taken, plan_step, turning_step}
 use Rattle.tree_specs.specs.Promises.Orderly.{Fits, frees as tells_free}
 use Rattle.tree_specs.specs.Promises.Orderly.{asks_hook}

@@ -28,7 +28,8 @@ use Rattle.tree_specs.specs.Tree.Pool.{Pool, row_of, is_row, owner_of, remove, p
 use Rattle.tree_specs.specs.Rules.Items.{Item}
 use Rattle.tree_specs.specs.Rules.Items.Item.{Told}
 use Rattle.tree_specs.specs.Rules.Sequence.{CallStart, Scene}
-use Rattle.tree_specs.specs.Machine.Table.{notes, step, lifted, begin_quiet, begin_step, refs_step, unlink_step, release_step}
+use Rattle.tree_specs.specs.Machine.FreeTable.{begin_quiet, begin_step, refs_step, unlink_step, release_step}
+use Rattle.tree_specs.specs.Machine.Table.{notes, step, lifted}
 use Rattle.tree_specs.specs.Promises.Orderly.{frees}
 use Rattle.tree_specs.specs.Invariants.Sound.{IsLive, IsOver, ValidAt, IsQuietRow, IsReferable, AllWait, Tries, footing}
 use Rattle.tree_specs.specs.Invariants.Consistent.{IsConsistent}

@@ -23,8 +23,9 @@ use Rattle.tree_specs.specs.Tree.Pool.{Pool, row_of, is_row, owner_of, is_below,
 use Rattle.tree_specs.specs.Tree.Heirs.{heir}
 use Rattle.tree_specs.specs.Rules.Items.Item.{Told}
 use Rattle.tree_specs.specs.Rules.Sequence.{CallStart, Scene}
-use Rattle.tree_specs.specs.Rules.Story.{hook_moment}
-use Rattle.tree_specs.specs.Machine.Table.{notes, lifted, judge_step, last_step, loop_step, hand_on_step, child_step}
+use Rattle.tree_specs.specs.Rules.Answers.{hook_moment}
+use Rattle.tree_specs.specs.Machine.FreeTable.{judge_step, last_step, loop_step, hand_on_step, child_step}
+use Rattle.tree_specs.specs.Machine.Table.{notes, lifted}
 use Rattle.tree_specs.specs.Promises.Orderly.{frees, accepts}
 use Rattle.tree_specs.specs.Promises.Grounded.{IsItem, is_asked}
 use Rattle.tree_specs.specs.Invariants.Sound.{IsLive, claims, ValidAt}

@@ -24,7 +24,8 @@ use Rattle.tree_specs.specs.Calls.Plans.{Plan, plan, frees, changed_by}
 use Rattle.tree_specs.specs.Calls.Plans.Plan.{Does, Frees, Unlinks, Empties, AsksTime, Turns}
 use Rattle.tree_specs.specs.Rules.Items.Item.{Told}
 use Rattle.tree_specs.specs.Rules.Sequence.{Work, Scene}
-use Rattle.tree_specs.specs.Rules.Story.{hook_moment, effect, unlink, free, judged, leave, children, asked, freed_reply, numbered, turned, taking, reading}
+use Rattle.tree_specs.specs.Rules.Answers.{hook_moment, freed_reply}
+use Rattle.tree_specs.specs.Rules.Story.{effect, unlink, free, judged, leave, children, asked, numbered, turned, taking, reading}
 use Rattle.tree_specs.specs.declared.question.Ask.TheVariants.{Quiet as AtRest}
 use Rattle.tree_specs.specs.Promises.Refused.{called, Untouched, OnlyDropped, told_refusal, LeftByFree, LeftByItsFree, LeftByRefused}
 use Rattle.tree_specs.proofs.Tree.Numbered.{by_test}

@@ -18,7 +18,8 @@ use Rattle.tree_specs.specs.Calls.Refusals.{Check, refusals, tests, is_running}
 use Rattle.tree_specs.specs.Calls.Plans.{Plan, plan, planned, frees, unless_refused, changed_by}
 use Rattle.tree_specs.specs.Calls.Plans.Plan.{Does, Frees, Unlinks, Empties, AsksTime, Turns}
 use Rattle.tree_specs.specs.Rules.Sequence.{Scene}
-use Rattle.tree_specs.specs.Rules.Story.{effect, free, unlink, children, freed_reply, numbered, turned, taking, reading}
+use Rattle.tree_specs.specs.Rules.Answers.{freed_reply}
+use Rattle.tree_specs.specs.Rules.Story.{effect, free, unlink, children, numbered, turned, taking, reading}
 use Rattle.tree_specs.specs.declared.question.Ask.TheVariants.{Quiet as AtRest}
 use Rattle.tree_specs.proofs.Calls.OwnRefusals.{IsOwn, AllOwn, own-refused}
 use Rattle.tree_specs.proofs.Promises.Leaving.{never-refused}

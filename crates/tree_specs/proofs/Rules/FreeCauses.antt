@@ -19,7 +19,8 @@ use Rattle.tree_specs.specs.declared.free_step.FreeReply.TheVariants as free_rep
 use Rattle.tree_specs.specs.Tree.Pool.{Pool, row_of, owner_of, newest_ref_of, place, detach, remove, without, set_mark, doom, set_hook, is_inside, marked_row}
 use Rattle.tree_specs.specs.Rules.Items.Item.{Told}
 use Rattle.tree_specs.specs.Rules.Sequence.{Scene}
-use Rattle.tree_specs.specs.Rules.Story.{hook_moment, unlink, release, given, free, hooked, judged, dooming, leave, children, asked}
+use Rattle.tree_specs.specs.Rules.Answers.{hook_moment}
+use Rattle.tree_specs.specs.Rules.Story.{unlink, release, given, free, hooked, judged, dooming, leave, children, asked}
 use Rattle.tree_specs.specs.Promises.Grounded.{DropsOutside, IsItem}
 use Rattle.tree_specs.specs.Promises.Refused.{doomed}
 use Rattle.tree_specs.specs.Calls.Refusals.{is_running}

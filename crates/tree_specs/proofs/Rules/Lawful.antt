@@ -17,7 +17,8 @@ use Rattle.tree_specs.specs.Tree.Pool.{Pool}
 use Rattle.tree_specs.specs.Rules.Items.{Item}
 use Rattle.tree_specs.specs.Rules.Items.Item.{Asked}
 use Rattle.tree_specs.specs.Rules.Sequence.{Work, Scene, CallStart, asks, fits_to}
-use Rattle.tree_specs.specs.Rules.Story.{later, free, hooked, judged, dooming, leave, children, tried, asked, acting, telling, returning, items, warning, unlink, release, given, taking, timing, timed, polling, starting, firing, handling, handled, reading, closing}
+use Rattle.tree_specs.specs.Rules.Answers.{later}
+use Rattle.tree_specs.specs.Rules.Story.{free, hooked, judged, dooming, leave, children, tried, asked, acting, telling, returning, items, warning, unlink, release, given, taking, timing, timed, polling, starting, firing, handling, handled, reading, closing}
 use Rattle.tree_specs.specs.Promises.Acceptances.{Return, returned_by, answered_by, inputs_after, AcceptsNow, AcceptsAfterReturns}
 use Rattle.tree_specs.specs.declared.handler.Handler.{Handler}
 use Rattle.tree_specs.specs.declared.moment.What.{What}

@@ -41,7 +41,8 @@ use Rattle.tree_specs.specs.Calls.Plans.Plan.{Does, Frees, Unlinks, Empties, Ask
 use Rattle.tree_specs.specs.Rules.Sequence.{Work, Scene, CallStart, change}
 use Rattle.tree_specs.specs.Rules.Story.{free, judged, children, tried, unlink, release, taking, timing, timed, polling, starting, handled, reading}
 use Rattle.tree_specs.specs.Machine.Meaning.{noted_table, freed, closed, looped, mean}
-use Rattle.tree_specs.specs.Machine.Table.{notes, step, turn_step, lifted, judge_step, loop_step, tried_step, plan_step, refs_step, unlink_step, release_step}
+use Rattle.tree_specs.specs.Machine.FreeTable.{judge_step, loop_step, tried_step, refs_step, unlink_step, release_step}
+use Rattle.tree_specs.specs.Machine.Table.{notes, step, turn_step, lifted, plan_step}
 use Rattle.tree_specs.proofs.Tree.Numbered.{by_test}
 
 ruleset laws = (followed-tell, followed-tells, followed-followed)

@@ -9,7 +9,8 @@ use Rattle.tree_specs.specs.declared.question.Input.{Input}
 use Rattle.tree_specs.specs.Tree.Pool.{Pool, set_mark, unschedule, disarm}
 use Rattle.tree_specs.specs.Rules.Items.Item.{Told, Asked}
 use Rattle.tree_specs.specs.Rules.Sequence.{Work, asks}
-use Rattle.tree_specs.specs.Rules.Story.{free, asked, clocked, polled, taking, timing, timed, polling, starting, firing, handling, handled, closing}
+use Rattle.tree_specs.specs.Rules.Answers.{clocked, polled}
+use Rattle.tree_specs.specs.Rules.Story.{free, asked, taking, timing, timed, polling, starting, firing, handling, handled, closing}
 use Rattle.tree_specs.specs.Promises.Acceptances.{returned_by}
 use Rattle.tree_specs.proofs.Tree.Numbered.{by_test}
 use Rattle.tree_specs.proofs.Calls.Checks.{clocked-by, polled-by}

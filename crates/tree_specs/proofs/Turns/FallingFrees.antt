@@ -30,7 +30,8 @@ use Rattle.tree_specs.specs.Words.Objects.{same, same_owner}
 use Rattle.tree_specs.specs.Tree.Pool.{Pool, row_of, is_below, owner_of, first_kid, without, changed, remove, left_row, place, doom, marked_row, hooked_row, target_at, newest_ref_of, is_inside}
 use Rattle.tree_specs.specs.Tree.Heirs.{heir}
 use Rattle.tree_specs.specs.Rules.Items.{Item}
-use Rattle.tree_specs.specs.Machine.Table.{table, step, resume, lifted, begin_quiet, begin_step, judge_step, last_step, loop_step, child_step, refs_step, unlink_step, release_step, hand_on_step}
+use Rattle.tree_specs.specs.Machine.FreeTable.{begin_quiet, begin_step, judge_step, last_step, loop_step, child_step, refs_step, unlink_step, release_step, hand_on_step}
+use Rattle.tree_specs.specs.Machine.Table.{table, step, resume, lifted}
 use Rattle.tree_specs.specs.Invariants.Sound.{claims, IsWaiting, AllWait, IsLive, Stands, Tries, IsOver, Sound, IsQuietRow, footing}
 use Rattle.tree_specs.proofs.Tree.Numbered.{by_test, same-equal, same_owner-false}
 use Rattle.tree_specs.proofs.Tree.Heirs.{heir-other}

@@ -44,12 +44,13 @@ use Rattle.tree_specs.specs.declared.free_step.FreeReply.TheVariants.{Ok, Runnin
 use Rattle.tree_specs.specs.Tree.Pool.{Pool, row_of, is_below, owner_of, first_kid, changed, left_row, marked_row, hooked_row, target_at, noted_owner, newest_ref_of, is_inside, remove}
 use Rattle.tree_specs.specs.Tree.Heirs.{heir}
 use Rattle.tree_specs.specs.Rules.Items.{Item}
-use Rattle.tree_specs.specs.Machine.Table.{Step, table, step, turning_step, turn_step, starting_step, lifted, begin_quiet, begin_step, judge_step, last_step, loop_step, hand_on_step, plan_step, resume, child_step, refs_step, unlink_step, release_step}
+use Rattle.tree_specs.specs.Machine.FreeTable.{begin_quiet, begin_step, judge_step, last_step, loop_step, hand_on_step, child_step, refs_step, unlink_step, release_step}
+use Rattle.tree_specs.specs.Machine.Table.{Step, table, step, turning_step, turn_step, starting_step, lifted, plan_step, resume}
 use Rattle.tree_specs.specs.Invariants.Sound.{phase_of, phases, claims, AllWait, Sound, Refers, IsQuietRow}
 use Rattle.tree_specs.proofs.Tree.Numbered.{by_test}
 use Rattle.tree_specs.specs.Machine.Profiles.{Waits, ARun, ATurn, AHandler, profile}
 use Rattle.tree_specs.proofs.Calls.Checks.{Heard, HeardCall, HeardReturn, heard-leads}
-use Rattle.tree_specs.specs.Rules.Story.{later}
+use Rattle.tree_specs.specs.Rules.Answers.{later}
 use Rattle.tree_specs.specs.Invariants.Consistent.{IsQuiet, IsOfRoutine, IsCaller, IsRun, IsFree, IsTurn, MayStandOn, Serves, IsStacked, size, innermost_size, sizes, mark_deposit, deposit, IsPaidFor}
 use Rattle.tree_specs.specs.Tree.Inside.{total}
 use Rattle.tree_specs.proofs.Tree.Rows.{total-without, total-placed, total-changed}
