@@ -54,7 +54,7 @@ impl ObjectPool {
     /// How many events wait for their turn. With the memory for a call it is made sure that they can be counted.
     pub fn pending(&self) -> u64
         requires { self.now.ready ≡ true }
-        ensures { result ≡ length self.now.pool.soon + length self.now.pool.times }
+        ensures { result ≡ length self.now.pool.soon + length self.now.pool.times + length self.now.pool.ring }
     {
         self.events.pending()
     }
