@@ -5,13 +5,14 @@ ghost use Rattle.tree_specs.specs.declared.question.Ask.{Ask as AskData};
 ghost use Rattle.tree_specs.specs.declared.frame.CallFrame.TheVariants.{Telling};
 ghost use Rattle.tree_specs.specs.Texts.Schedule.{misfit};
 ghost use Rattle.host_core.specs.Hosts.{remembers, caller_asked, asked_now, is_quiet, StandsAs};
-ghost use Rattle.host_core.specs.Moves.{telling, warning};
+ghost use Rattle.host_core.specs.Moves.{telling, announcing};
 
 use crate::caller::{Caller, Stage};
+use crate::reach::{Reach, takes};
 use crate::reports::Report;
 use crate::short_reply::ShortReply;
 use crate::turn::Turn;
-use tree_specs::{Ask, Input, Obj};
+use tree_specs::{Ask, Input, Notice};
 
 /// What is at work, above all that waits.
 #[derive(Debug, Drop)]
@@ -20,8 +21,10 @@ pub enum Active {
     Caller(Caller),
     /// The innermost free.
     Freeing,
-    /// A turn of the event loop, or the asking of the clock.
+    /// A turn of the event loop.
     Turning(Turn),
+    /// A question to the outside.
+    Reaching(Reach),
 }
 
 impl Active {
@@ -37,6 +40,7 @@ impl Active {
                 },
             ) => Some(ask),
             Active::Turning(turn) => turn.question.as_ref(),
+            Active::Reaching(reach) => Some(&reach.question),
             _ => None,
         }
     }
@@ -45,12 +49,9 @@ impl Active {
     pub fn takes(&self, input: &Input) -> bool
         ensures { result ≡ is_none (misfit (asked_now self.now) input.now) }
     {
-        match (self.question(), input) {
-            (Some(Ask::Quiet), Input::Call(_))
-            | (Some(Ask::Routine(_)), Input::Act(_))
-            | (Some(Ask::Clock), Input::Clock(_))
-            | (Some(Ask::Wait(_)), Input::Ready(_)) => true,
-            _ => false,
+        match self.question() {
+            Some(ask) => takes(ask, input),
+            None => false,
         }
     }
 
@@ -91,13 +92,13 @@ impl Active {
         }
     }
 
-    /// A warning comes next, and then the reply to the call of the caller that was asked.
-    pub fn warn(&mut self, x: Obj, reply: ShortReply)
+    /// A notice comes next, and then the reply to the call of the caller that was asked.
+    pub fn announce(&mut self, notice: Notice, reply: ShortReply)
         requires { IsSome (caller_asked self.old) }
-        ensures { (q : AskData) → caller_asked self.old ≡ Some q → StandsAs self.new (warning q x reply) }
+        ensures { (q : AskData) → caller_asked self.old ≡ Some q → StandsAs self.new (announcing q notice reply) }
     {
         if let Active::Caller(caller) = self {
-            caller.warn(x, reply);
+            caller.announce(notice, reply);
         }
     }
 

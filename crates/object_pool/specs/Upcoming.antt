@@ -141,3 +141,8 @@ started (Some handler) what x p = begun what x p
 abbrev pub AllNumbered : ℕ → List Due → Type 0
 AllNumbered next [] = Unit {0}
 AllNumbered next (d ∷ ds) = (d.number < next) × AllNumbered next ds
+
+-- so were those of the events that watch
+abbrev pub AllWatchersNumbered : ℕ → List Watch → Type 0
+AllWatchersNumbered next [] = Unit {0}
+AllWatchersNumbered next (w ∷ ws) = (w.object.0 < next) × AllWatchersNumbered next ws

@@ -147,18 +147,16 @@ impl Events {
         self.order.ring.flags(x)
     }
 
-    /// An event on a descriptor waits for these flags from now on.
+    /// An event on a descriptor waits for these flags from now on. Nothing changes where it watches nothing.
     pub fn set_flags(&mut self, x: Obj, flags: u32)
-        requires { is_watching self.old.upcoming.ring x ≡ true }
         ensures upcoming { self.new.upcoming ≡ with_watch (flagged flags) x self.old.upcoming }
         ensures kept { KeepsPlaces self.old self.new }
     {
         self.order.ring.set_flags(x, flags);
     }
 
-    /// The descriptor of an event is closed with it.
+    /// The descriptor of an event is closed with it. Nothing changes where it watches nothing.
     pub fn set_closing(&mut self, x: Obj)
-        requires { is_watching self.old.upcoming.ring x ≡ true }
         ensures upcoming { self.new.upcoming ≡ with_watch closing x self.old.upcoming }
         ensures kept { KeepsPlaces self.old self.new }
     {

@@ -1,7 +1,7 @@
 //! Events on descriptors, and the descriptors that are open.
 ghost use Rattle.std.specs.Prelude.{◌≡◌, ◌-◌, ◌^◌, ◌<◌, true, false, [], OnOk, OnErr, length};
 ghost use Rattle.tree_specs.specs.Tree.Pool.{is_owner, rewatch, open_descriptor, close_descriptor};
-ghost use Rattle.tree_specs.specs.Events.Rotation.{is_watching, is_watched, flags_of, flagged, closing, wanted_of};
+ghost use Rattle.tree_specs.specs.Events.Rotation.{is_watched, flags_of, flagged, closing, wanted_of};
 ghost use Rattle.tree_specs.specs.Calls.Refusals.{is_open, row_limit};
 ghost use Rattle.tree_specs.specs.Calls.Plans.{adds_descriptor, changed_by};
 
@@ -43,17 +43,15 @@ impl ObjectPool {
         self.events.flags(x)
     }
 
-    /// An event on a descriptor waits for these flags from now on.
+    /// An event on a descriptor waits for these flags from now on. Nothing changes where it watches nothing.
     pub fn set_flags(&mut self, x: Obj, flags: u32)
-        requires { is_watching self.old.pool.ring x ≡ true }
         ensures { self.new ≡ record self.old { pool = rewatch self.old.pool x (flagged flags) } }
     {
         self.events.set_flags(x, flags);
     }
 
-    /// The descriptor of an event is closed with it.
+    /// The descriptor of an event is closed with it. Nothing changes where it watches nothing.
     pub fn set_closing(&mut self, x: Obj)
-        requires { is_watching self.old.pool.ring x ≡ true }
         ensures { self.new ≡ record self.old { pool = rewatch self.old.pool x closing } }
     {
         self.events.set_closing(x);
