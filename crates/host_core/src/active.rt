@@ -4,14 +4,16 @@ ghost use Rattle.std.specs.Option.{option_copied};
 ghost use Rattle.tree_specs.specs.declared.question.Ask.{Ask as AskData};
 ghost use Rattle.tree_specs.specs.declared.frame.CallFrame.TheVariants.{Telling};
 ghost use Rattle.tree_specs.specs.Texts.Schedule.{misfit};
-ghost use Rattle.host_core.specs.Hosts.{remembers, caller_asked, asked_now, is_quiet, StandsAs};
+ghost use Rattle.host_core.specs.Hosts.{remembers, caller_asked, asked_now, is_quiet, is_turn, IsReaching, StandsAs};
+ghost use Rattle.host_core.specs.declared.reach.Reach.{Reach as ReachData};
 ghost use Rattle.host_core.specs.Moves.{telling, announcing};
 
 use crate::caller::{Caller, Stage};
 use crate::reach::{Reach, takes};
-use crate::reports::Report;
+use crate::owned_reply::OwnedReply;
 use crate::short_reply::ShortReply;
 use crate::turn::Turn;
+use std::mem;
 use tree_specs::{Ask, Input, Notice};
 
 /// What is at work, above all that waits.
@@ -69,6 +71,28 @@ impl Active {
         matches!(self, Active::Freeing)
     }
 
+    /// Whether a turn is at work.
+    pub fn is_turning(&self) -> bool
+        ensures { result ≡ is_turn self.now }
+    {
+        matches!(self, Active::Turning(_))
+    }
+
+    /// The outside has answered with a reply that owns memory, which comes next to the caller that asked.
+    pub fn hear(&mut self, reply: OwnedReply)
+        requires { IsReaching self.old }
+        ensures { (r : ReachData) → self.old ≡ Active.Reaching r → StandsAs self.new (Telling (remembers r.caller reply.copy) reply.reply) }
+    {
+        if let Active::Reaching(Reach { caller, .. }) = mem::replace(self, Active::Freeing) {
+            let mut caller = Caller {
+                ask: caller,
+                stage: Stage::Asking,
+            };
+            caller.reply_whole(reply.reply, reply.copy);
+            self.go_to(Active::Caller(caller));
+        }
+    }
+
     /// Whether the host's own caller is at work.
     pub fn is_quiet(&self) -> bool
         ensures { (q : AskData) → caller_asked self.now ≡ Some q → result ≡ is_quiet q }
@@ -103,7 +127,7 @@ impl Active {
     }
 
     /// A report comes next to the caller that was asked.
-    pub fn report(&mut self, report: Report)
+    pub fn report(&mut self, report: OwnedReply)
         requires { IsSome (caller_asked self.old) }
         ensures { (q : AskData) → caller_asked self.old ≡ Some q → StandsAs self.new (Telling (remembers q report.copy) report.reply) }
     {

@@ -1,18 +1,21 @@
 //! Questions to the outside: a call asks the clock or a descriptor, and the answer is its reply.
-ghost use Rattle.std.specs.Prelude.{◌≡◌, Some, IsSome, is_none, is_some, true};
-ghost use Rattle.tree_specs.specs.declared.frame.CallFrame.TheVariants.{Telling};
+ghost use Rattle.std.specs.Prelude.{◌≡◌, Some, IfOk, IsSome, is_none, is_some, true};
 ghost use Rattle.tree_specs.specs.declared.question.Ask.{Ask as AskData};
 ghost use Rattle.tree_specs.specs.Calls.Given.{given_to};
 ghost use Rattle.tree_specs.specs.Invariants.Consistent.{IsConsistent};
 ghost use Rattle.tree_specs.specs.Texts.Schedule.{misfit};
-ghost use Rattle.host_core.specs.Hosts.{asked_now, caller_asked, given_view, host_view, TellsSameStory, IsBetweenSteps};
+ghost use Rattle.tree_specs.specs.declared.reply.Reply.TheVariants.{Bytes as BytesReply};
+ghost use Rattle.host_core.specs.Hosts.{asked_now, caller_asked, given_view, host_view, IsReaching, TellsSameStory, IsBetweenSteps};
+ghost use Rattle.host_core.specs.Reaches.{remembered, IsShortAnswer, HeardShort};
 
 use crate::active::Active;
-use crate::caller::{Caller, Stage};
+use crate::caller::Caller;
+use crate::owned_reply::OwnedReply;
 use crate::parts::Parts;
 use crate::short_reply::ShortReply;
+use std::alloc::Global;
 use std::mem;
-use tree_specs::{Ask, Input, OCTETS_LIMIT, Octets};
+use tree_specs::{Ask, Input, Memory, Octets, Reply};
 
 /// A question to the outside that is open.
 #[derive(Debug, Drop)]
@@ -59,4 +62,66 @@ pub fn ask_outside(now: &mut Active, question: Ask)
         }
         _ => unreachable!(),
     }
+}
+
+/// The outside has answered, with what takes no memory: it is the reply to the call that asked. A descriptor that was accepted
+/// is open from then on.
+fn heard(input: Input, parts: &mut Parts) -> ShortReply
+    requires short { IsShortAnswer input }
+    requires room { parts.old.objects.ready ≡ true }
+    ensures { HeardShort input parts.old result parts.new }
+{
+    match input {
+        Input::Clock(time) => ShortReply::Number(time),
+        Input::Took(fd) => {
+            parts.objects.open(fd);
+            ShortReply::Number(u64::from(fd))
+        }
+        Input::Wrote(n) => ShortReply::Number(u64::from(n)),
+        Input::Again => ShortReply::Again,
+        Input::Fault => ShortReply::Fault,
+        Input::End => ShortReply::End,
+        _ => unreachable!(),
+    }
+}
+
+/// The outside was asked, and has answered with what takes no memory.
+pub fn hear_on(now: &mut Active, input: Input, parts: &mut Parts)
+    requires fits { is_none (misfit (asked_now now.old) input) ≡ true }
+    requires short { IsShortAnswer input }
+    requires room { parts.old.objects.ready ≡ true }
+    requires reaching { IsReaching now.old }
+    requires whole { IsConsistent (given_view now.old input parts.old) }
+    ensures along { TellsSameStory (given_view now.old input parts.old) (host_view now.new parts.new) }
+    ensures ready { IsBetweenSteps now.new parts.new }
+{
+    let reply = heard(input, parts);
+    match mem::replace(now, Active::Freeing) {
+        Active::Reaching(Reach { caller, .. }) => {
+            now.go_to(Active::Caller(Caller::after(caller, reply)));
+        }
+        _ => unreachable!(),
+    }
+}
+
+/// A copy of bytes that were read, where a routine is to remember them.
+fn copy_of(alloc: Global, caller: &Ask, bytes: &Octets) -> Result<Option<Reply>, Memory>
+    ensures { IfOk result (λ copy. copy ≡ remembered caller.now (BytesReply bytes.now)) }
+{
+    let Ask::Routine(_) = caller else {
+        return Ok(None);
+    };
+    let copy = Vec::from_slice(alloc, bytes.as_slice())?;
+    Ok(Octets::make(copy).map(Reply::Bytes))
+}
+
+/// These bytes were read: the reply to the call that asked for them.
+pub fn made_bytes(alloc: Global, reach: &Reach, bytes: Octets) -> Result<OwnedReply, Memory>
+    ensures { IfOk result (λ r. r ≡ record { reply = BytesReply bytes; copy = remembered reach.now.caller (BytesReply bytes) }) }
+{
+    let copy = copy_of(alloc, &reach.caller, &bytes)?;
+    Ok(OwnedReply {
+        reply: Reply::Bytes(bytes),
+        copy,
+    })
 }

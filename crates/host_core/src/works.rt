@@ -15,7 +15,9 @@ use crate::caller::{Caller, Waiting};
 use crate::calls::act;
 use crate::motion::Motion;
 use crate::parts::Parts;
-use crate::turns::{ask_time, begin_turn, ready_on, return_on, time_on};
+use crate::reach::{ask_outside, hear_on};
+use crate::short_reply::ShortReply;
+use crate::turns::{begin_turn, ready_on, return_on, time_on};
 use std::mem;
 use tree_specs::{Act, Ask, Call, FreeReply, FreeStep, Input, Obj, TurnFrame};
 
@@ -44,7 +46,7 @@ fn go_on(now: &mut Active, motion: Motion, parts: &mut Parts)
 {
     match motion {
         Motion::Replies(reply) => now.reply(reply),
-        Motion::Warns(x, reply) => now.warn(x, reply),
+        Motion::Announces(notice, reply) => now.announce(notice, reply),
         Motion::Frees(x) => {
             wait(now, &mut parts.callers, x);
             parts.objects.begin_free(x);
@@ -57,7 +59,7 @@ fn go_on(now: &mut Active, motion: Motion, parts: &mut Parts)
             wait(now, &mut parts.callers, x);
             parts.objects.begin_kids(x);
         }
-        Motion::AsksTime => ask_time(now),
+        Motion::Asks(question) => ask_outside(now, question),
         Motion::Turns => begin_turn(now, parts),
     }
 }
@@ -87,8 +89,9 @@ pub fn answer_on(now: &mut Active, input: Input, parts: &mut Parts)
         Input::Call(call) => call_on(now, call, parts),
         Input::Act(Act::Do(call)) => call_on(now, call, parts),
         Input::Act(Act::Ret(value)) => return_on(now, value, parts),
-        Input::Clock(time) => time_on(now, time, parts),
+        Input::Clock(time) if now.is_turning() => time_on(now, time, parts),
         Input::Ready(list) => ready_on(now, &list, parts),
+        answer => hear_on(now, answer, parts),
     }
 }
 
@@ -101,7 +104,7 @@ fn finish(answer: FreeReply, callers: &mut Vec<Waiting>, turn: &mut Option<TurnF
         Some(waiting) => waiting.resumed(answer),
         None => {
             *turn = None;
-            Caller::after_turn(Ask::Quiet, 1)
+            Caller::after(Ask::Quiet, ShortReply::Number(1))
         }
     }
 }
@@ -113,7 +116,7 @@ fn free_on(parts: &mut Parts) -> Option<Caller>
     ensures onward { StepsSilently (host_view Active.Freeing parts.old) (host_view (at_work result) parts.new) }
     ensures ready { IsBetweenSteps (at_work result) parts.new }
 {
-    match parts.objects.step() {
+    match parts.objects.step().step {
         FreeStep::Ask(x) => Some(Caller::run(x, &parts.objects)),
         FreeStep::Done(answer) => Some(finish(answer, &mut parts.callers, &mut parts.turn)),
         _ => None,
