@@ -146,6 +146,10 @@ impl Replay {
                 self.text.truncate(began);
                 self.refuse(Reason::NotAsked)
             }
+            Err(OfferFault::Taken(_)) => {
+                self.text.truncate(began);
+                self.refuse(Reason::Token)
+            }
             Err(OfferFault::Memory) => {
                 self.text.truncate(began);
                 Err(Stop::Memory)
