@@ -20,11 +20,11 @@ with_front front r = record { text = option_map (λ text. front ++ text) r.text;
 abbrev pub of_judged : View → Judged → Replayed
 of_judged v j = record { text = body_text (rest_of v j.inputs); refused = j.refused }
 
--- the lines from number n on, where the host is this
--- what comes of further inputs where the host is this
+-- what comes of further inputs, where the host is this
 abbrev pub course_of : View → Course
 course_of v = record { open_after = λ is. open_question (rest_of v is); strays = λ is. strays_of v is }
 
+-- the lines from number n on, where the host is this
 unfoldable pub replayed_lines : View → ℕ → List Line → Replayed
 replayed_lines v n ls = of_judged v (judged_from (course_of v) n ls)
 
