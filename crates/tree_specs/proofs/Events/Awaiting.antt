@@ -26,7 +26,7 @@ use Rattle.tree_specs.proofs.Invariants.Turning.{comes-event}
 use Rattle.tree_specs.specs.Events.Handlers.{handler_of}
 use Rattle.tree_specs.proofs.Events.HandlerLaws.{with-same, with-other, without-same, without-other}
 use Rattle.tree_specs.proofs.Events.PendingLaws.{unscheduled-other, scheduled-either, disarmed-other, armed-either}
-use Rattle.tree_specs.proofs.Events.RotationLaws.{Same, unwatched-watched, unwatched-other, unwatched-distinct, unwatched-freed, closes-found, watched-watching, watched-watched, watched-distinct, rewatched-watching, rewatched-watched, rewatched-distinct, turned-watching, turned-watched, turned-distinct}
+use Rattle.tree_specs.proofs.Events.RotationLaws.{unwatched-watched, unwatched-other, unwatched-distinct, unwatched-freed, closes-found, watched-watching, watched-watched, watched-distinct, rewatched-watching, rewatched-watched, rewatched-distinct, turned-watching, turned-watched, turned-distinct}
 use Rattle.tree_specs.proofs.Events.DescriptorLaws.{opened-still, closed-other}
 
 -- ---- rows that come
@@ -278,13 +278,13 @@ watching-awaits p x fd flags comes ready new free still_open a =
     (watched-distinct p.ring x fd flags a.distinct new free)
     (λ g h. elim (watched-watched p.ring x fd flags g h) [
       | inl l ↦ a.watched g l
-      | inr e ↦ subst (λ (n : ℕ). is_open p n ≡ true) e open
+      | inr e ↦ subst (λ (n : ℕ). is_open p n ≡ true) e still_open
     ]) a
 
-pub rewatched-awaits : (p : Pool) (x : Obj) (change : Watch → Watch) → Same change → Awaits p → Awaits (rewatch p x change)
-rewatched-awaits p x change k a =
-    ring-awaits p (rewatch p x change).ring (λ y h. a.events Descriptor y (sym (rewatched-watching change p.ring x y k) ∙ h)) (rewatched-distinct change p.ring x k a.distinct)
-    (λ fd h. a.watched fd (sym (rewatched-watched change p.ring x fd k) ∙ h)) a
+pub rewatched-awaits : (p : Pool) (x : Obj) (change : Watch → Watch) → ((w : Watch) → (change w).object ≡ w.object) → ((w : Watch) → (change w).fd ≡ w.fd) → Awaits p → Awaits (rewatch p x change)
+rewatched-awaits p x change same_object same_fd a =
+    ring-awaits p (rewatch p x change).ring (λ y h. a.events Descriptor y (sym (rewatched-watching change p.ring x y same_object) ∙ h)) (rewatched-distinct change p.ring x same_object same_fd a.distinct)
+    (λ fd h. a.watched fd (sym (rewatched-watched change p.ring x fd same_fd) ∙ h)) a
 
 pub turned-awaits : (p : Pool) (x : Obj) → Awaits p → Awaits (turn_back p x)
 turned-awaits p x a =

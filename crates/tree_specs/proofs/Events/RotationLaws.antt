@@ -76,17 +76,12 @@ watched-watched ws x fd flags g h = elim (found-pushed (of_descriptor g) ws _ (s
   | inr e ↦ inr (eqb-true fd g e)
 ]
 
--- a change of how an event watches, which names the same event and descriptor
-pub record Same (change : Watch → Watch) : Type 0 where
-  pub object : (w : Watch) → (change w).object ≡ w.object
-  pub fd : (w : Watch) → (change w).fd ≡ w.fd
+pub rewatched-watching : (change : Watch → Watch) (ws : List Watch) (x y : Obj) → ((w : Watch) → (change w).object ≡ w.object) → is_watching (rewatched change ws x) y ≡ is_watching ws y
+rewatched-watching change ws x y k = found-rewatched (of_object y) change ws x (λ w. ap (λ (z : Obj). same z y) (k w))
 
-pub rewatched-watching : (change : Watch → Watch) (ws : List Watch) (x y : Obj) → Same change → is_watching (rewatched change ws x) y ≡ is_watching ws y
-rewatched-watching change ws x y k = found-rewatched (of_object y) change ws x (λ w. ap (λ (z : Obj). same z y) (k.object w))
-
-pub rewatched-watched : (change : Watch → Watch) (ws : List Watch) (x : Obj) (fd : ℕ) → Same change → is_watched (rewatched change ws x) fd ≡ is_watched ws fd
+pub rewatched-watched : (change : Watch → Watch) (ws : List Watch) (x : Obj) (fd : ℕ) → ((w : Watch) → (change w).fd ≡ w.fd) → is_watched (rewatched change ws x) fd ≡ is_watched ws fd
 rewatched-watched change ws x fd k =
-    watched-found (rewatched change ws x) fd ∙ found-rewatched (of_descriptor fd) change ws x (λ w. ap (λ (n : ℕ). nat_eq n fd) (k.fd w)) ∙ sym (watched-found ws fd)
+    watched-found (rewatched change ws x) fd ∙ found-rewatched (of_descriptor fd) change ws x (λ w. ap (λ (n : ℕ). nat_eq n fd) (k w)) ∙ sym (watched-found ws fd)
 
 -- ---- how an event watches
 
@@ -165,14 +160,14 @@ pushed-distinct (v ∷ ws) w d a b =
 pub watched-distinct : (ws : List Watch) (x : Obj) (fd flags : ℕ) → AreDistinct ws → is_watching ws x ≡ false → is_watched ws fd ≡ false → AreDistinct (watched ws x fd flags)
 watched-distinct ws x fd flags d a b = pushed-distinct ws (record { object = x; fd = fd; flags = flags; closes = false }) d a b
 
-pub rewatched-distinct : (change : Watch → Watch) (ws : List Watch) (x : Obj) → Same change → AreDistinct ws → AreDistinct (rewatched change ws x)
-rewatched-distinct change [] x k d = tt
-rewatched-distinct change (w ∷ ws) x k d =
+pub rewatched-distinct : (change : Watch → Watch) (ws : List Watch) (x : Obj) → ((w : Watch) → (change w).object ≡ w.object) → ((w : Watch) → (change w).fd ≡ w.fd) → AreDistinct ws → AreDistinct (rewatched change ws x)
+rewatched-distinct change [] x same_object same_fd d = tt
+rewatched-distinct change (w ∷ ws) x same_object same_fd d =
     let here : (is_watching (rewatched change ws x) w.object ≡ false) × (is_watched (rewatched change ws x) w.fd ≡ false) =
-    (rewatched-watching change ws x w.object k ∙ d.0, rewatched-watched change ws x w.fd k ∙ d.1) in
-    let ih = rewatched-distinct change ws x k d.2 in
+    (rewatched-watching change ws x w.object same_object ∙ d.0, rewatched-watched change ws x w.fd same_fd ∙ d.1) in
+    let ih = rewatched-distinct change ws x same_object same_fd d.2 in
     by_test (same w.object x)
-    (λ t. rw (t, k.object w, k.fd w) (here.0, here.1, ih))
+    (λ t. rw (t, same_object w, same_fd w) (here.0, here.1, ih))
     (λ t. rw t (here.0, here.1, ih))
 
 -- nobody watches the descriptor of an event that is taken out

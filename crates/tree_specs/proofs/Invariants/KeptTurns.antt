@@ -29,7 +29,8 @@ use Rattle.tree_specs.proofs.Tree.Rows.{row_of-changed-same}
 use Rattle.tree_specs.proofs.Tree.Referring.{unreferred, newest-changed}
 use Rattle.tree_specs.proofs.Invariants.Changes.{run-refers, run-unreferred, handling-row, claim-here, stands, goes_on, waiting-sound, changed-sound, shape-of, live-owned, marks-place}
 use Rattle.tree_specs.proofs.Invariants.KeptFrees.{KeptBy, ended}
-use Rattle.tree_specs.proofs.Invariants.Turning.{Ready, handler-ready, rotated-rows, IsPlain, Passes, Pass, look-passes, taken-plain, reached-plain}
+use Rattle.tree_specs.proofs.Invariants.Turning.{Ready, handler-ready, rotated-rows, IsPlain, Passes, Pass, look-passes, taken-plain}
+use Rattle.tree_specs.proofs.Calls.Checks.{Reached, ReachedOpening, ReachedHearing, reached-leads}
 
 -- a work that says nothing of an object, over the same rows, in the place of another one
 plain-sound : (f g : TurnFrame) (steps : ℕ) (fs : List Frame) (p q : Pool) → q.rows ≡ p.rows → q.next ≡ p.next → (turn_profile f).claims ≡ None → IsPlain g steps → IsTurned (footing fs)
@@ -122,7 +123,11 @@ turn-kept (Closing v) fs p k s = ended (Turned v) (frame.Turn (Closing v)) fs p 
 
 pub outside-kept : (f : OutsideFrame) (fs : List Frame) (p : Pool) (k : ℕ) → Sound (frame.Outside f) fs p → KeptBy (outside_step f p) fs k
 outside-kept (Reaching q) fs p zero s = tt
-outside-kept (Reaching q) fs p (suc k) s = λ i g e. (let t = reached-plain q p i g e in subst (λ (z : Frame). Sound z fs p) (sym t.1) (goes_on (frame.Outside (Reaching q)) (frame.Outside t.0) fs p (λ y. refl) s.rests s))
+outside-kept (Reaching q) fs p (suc k) s = λ i g e. leads g (reached-leads p q i g e)
+  where
+    leads : (g : Frame) → Reached p g → Sound g fs p
+    leads _ (ReachedOpening fd number closed) = goes_on (frame.Outside (Reaching q)) (frame.Outside (Opening fd)) fs p (λ y. refl) s.rests s
+    leads _ (ReachedHearing r) = goes_on (frame.Outside (Reaching q)) (frame.Outside (Hearing r)) fs p (λ y. refl) s.rests s
 outside-kept (Opening fd) fs p k s =
     let f : Frame = frame.Outside (Opening fd) in
     ended (Heard (Number fd)) f fs (open_descriptor p fd) k (waiting-sound f f fs p (open_descriptor p fd) s refl refl (λ y. refl) s.rests) (λ x. refl) (λ x c n b gs e. tt)

@@ -1,6 +1,6 @@
 -- How a turn goes on: what is to start, and the works that it goes on as.
 use Rattle.std.proofs.Common.{◌≡◌, ℕ, ◌≤◌, List, Option, Some, None, true, false, nat_eq, nat_le, Bool, refl, ◌∙◌, arith}
-use Rattle.std.specs.Prelude.{◌&&◌, ◌-◌, not}
+use Rattle.std.specs.Prelude.{◌&&◌, ◌-◌}
 use Rattle.step_machine.specs.Machine.{Move as Do}
 use Rattle.tree_specs.specs.declared.object.Obj.{Obj}
 use Rattle.tree_specs.specs.declared.due.Due.{Due}
@@ -13,26 +13,18 @@ use Rattle.tree_specs.specs.declared.handler.Handler.{Handler}
 use Rattle.tree_specs.specs.declared.moment.What.{What}
 use Rattle.tree_specs.specs.declared.moment.What.TheVariants.{Immediate as ForImmediate, Timer as ForTimer, Descriptor as ForDescriptor}
 use Rattle.tree_specs.specs.declared.occasion.Occasion.{Occasion}
-use Rattle.tree_specs.specs.declared.question.Ask.{Ask}
 use Rattle.tree_specs.specs.declared.question.Input.{Input}
-use Rattle.tree_specs.specs.declared.reply.Reply.TheVariants.{Number}
 use Rattle.tree_specs.specs.declared.frame.Frame.{Frame}
 use Rattle.tree_specs.specs.declared.frame.Frame.TheVariants as frame
 use Rattle.tree_specs.specs.declared.frame.TurnFrame.{TurnFrame}
 use Rattle.tree_specs.specs.declared.frame.TurnFrame.TheVariants.{Taking, Timing, Timed, Polling, Starting, Closing}
-use Rattle.tree_specs.specs.declared.frame.OutsideFrame.{OutsideFrame}
-use Rattle.tree_specs.specs.declared.frame.OutsideFrame.TheVariants.{Reaching, Opening, Hearing}
 use Rattle.tree_specs.specs.Tree.Targets.{target_of}
 use Rattle.tree_specs.specs.Tree.Pool.{Pool, row_of, unschedule, disarm}
 use Rattle.tree_specs.specs.Events.Pending.{first}
 use Rattle.tree_specs.specs.Events.Rotation.{Ready as ReadyOne, first_ready}
 use Rattle.tree_specs.specs.Events.Coming.{wait_limit, comes_as, is_quiet_mark, may_start, handler_for, looks_again, at_time, with_flags, plainly, rotated}
-use Rattle.tree_specs.specs.Words.Ranges.{is_routine, is_time}
-use Rattle.tree_specs.specs.Calls.Given.{Given, given_to}
-use Rattle.tree_specs.specs.Calls.Given.Given.{Tells, Opens, Answers}
-use Rattle.tree_specs.specs.Calls.Refusals.{is_plain, is_open}
-use Rattle.tree_specs.specs.Rules.Answers.{told_outside}
-use Rattle.tree_specs.specs.Machine.Table.{Step, due_step, taking_step, early_step, timed_step, timed_turn, ready_turn, looked_turn, turn_step, turn_taken, opening_one, hearing_one, outside_taken}
+use Rattle.tree_specs.specs.Calls.Refusals.{is_plain}
+use Rattle.tree_specs.specs.Machine.Table.{Step, due_step, taking_step, early_step, timed_step, timed_turn, ready_turn, looked_turn, turn_step, turn_taken}
 use Rattle.tree_specs.specs.Machine.Profiles.{turn_profile}
 use Rattle.tree_specs.specs.Invariants.Sound.{Footing, IsTurned, TurnRests}
 use Rattle.tree_specs.proofs.Tree.Numbered.{by_test}
@@ -160,17 +152,3 @@ taken-plain (Polling limit) p i g e =
     (λ l. (Timing true, t.1 ∙ rw l refl, plain-more (Timing true) (plain-timing true)))
     (λ l. (r.0, t.1 ∙ rw l r.1, r.2))
 taken-plain _ p i g e = cc
-
--- a question to the outside goes on with what it has heard
-pub reached-plain : (q : Ask) (p : Pool) (i : Input) (g : Frame) → outside_taken (Reaching q) p i ≡ Some g → (f : OutsideFrame) × (g ≡ frame.Outside f)
-reached-plain q p i g e = each (given_to q i) e
-  where
-    each : (o : Option Given) → told_outside p opening_one hearing_one o ≡ Some g → (f : OutsideFrame) × (g ≡ frame.Outside f)
-    each (Some (Tells now)) e = by_test (is_time now)
-        (λ t. let e' : Some (hearing_one (Number now)) ≡ Some g = rw t at e in (Hearing (Number now), cc))
-        (λ t. let e' : None ≡ Some g = rw t at e in cc)
-    each (Some (Opens fd)) e = by_test (is_routine fd && not (is_open p fd))
-        (λ t. let e' : Some (opening_one fd) ≡ Some g = rw t at e in (Opening fd, cc))
-        (λ t. let e' : None ≡ Some g = rw t at e in cc)
-    each (Some (Answers r)) e = (Hearing r, cc)
-    each _ e = cc
