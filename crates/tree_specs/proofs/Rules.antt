@@ -1,6 +1,7 @@
 -- The machine tells what the text of the rules tells, and what that text answers.
 pub mod Means
 pub mod Rest
+pub mod LettingGo
 pub mod FreeCauses
 pub mod Lawful
 pub mod TurnLaws
