@@ -6,5 +6,6 @@ pub mod FreeCauses
 pub mod Lawful
 pub mod TurnLaws
 pub mod TextLaws
+pub mod IdleTurns
 pub mod StoryLaws
 pub mod MidStories
