@@ -39,7 +39,7 @@ use Rattle.tree_specs.specs.Calls.Plans.Change.{Nothing, Edit, Add, Place, Handl
 use Rattle.tree_specs.specs.Calls.Plans.Plan.{Does, Turns}
 use Rattle.tree_specs.specs.Events.Pending.{first}
 use Rattle.tree_specs.specs.Events.Rotation.{is_watching}
-use Rattle.tree_specs.specs.Events.Coming.{handler_for, rotated, begun, goes_after}
+use Rattle.tree_specs.specs.Events.Coming.{handler_for, rotated, goes_after}
 use Rattle.tree_specs.specs.Machine.Profiles.{InLoop}
 use Rattle.tree_specs.specs.Machine.FreeTable.{FreeMove, begin_step, refs_step, unlink_step, release_step, judge_step, last_step, child_step, loop_step, hand_on_step, tried_step, free_step}
 use Rattle.tree_specs.specs.Machine.Table.{event_of, announced, lifted, notice_step, plan_step, turning_step, due_step, taking_step, timed_step, early_step, starting_step, handled_step, turn_step, outside_step, step}

@@ -1,5 +1,5 @@
 -- Which descriptors are open after one is opened or closed.
-use Rattle.std.proofs.Common.{◌≡◌, ℕ, nat_eq, Bool, true, false, cond, not, Option, Some, None, is_some, refl, sym, ap, ◌∙◌}
+use Rattle.std.proofs.Common.{◌≡◌, ℕ, nat_eq, true, false, cond, not, Some, None, is_some, refl, sym, ap, ◌∙◌}
 use Rattle.std.specs.Ordering.{nat_cmp, eq_by_cmp, is_eq}
 use Rattle.std.specs.Cmp.{nat_cmp_total, unsigned_tied, alike_right, eq_by_cmp_equiv}
 use Rattle.std.specs.FinMap.Entries.{find, find-put, find-where_key}

@@ -2,7 +2,6 @@
 -- descriptor.
 use Rattle.std.proofs.Common.{◌≡◌, ◌≢◌, ℕ, nat_eq, Bool, true, false, List, [], ◌∷◌, ◌++◌, Option, Some, None, is_some, refl, sym, ◌∙◌, ap, subst, ◌⊎◌, inl, inr}
 use Rattle.std.proofs.lemmas.Bool.{eqb-true, eq-eqb}
-use Rattle.std.specs.Prelude.{if◌then◌else◌}
 use Rattle.std.specs.List.{find}
 use Rattle.std.specs.Option.{option_map}
 use Rattle.tree_specs.specs.declared.object.Obj.{Obj}
@@ -10,7 +9,7 @@ use Rattle.tree_specs.specs.declared.watch.Watch.{Watch}
 use Rattle.tree_specs.specs.Words.Objects.{same}
 use Rattle.tree_specs.specs.Events.Rotation.{watch_of, is_watching, is_watched, closed_by, closes_with, watched, unwatched, rewatched, behind_all, turned_back}
 use Rattle.tree_specs.specs.Invariants.Awaiting.{AreDistinct}
-use Rattle.tree_specs.proofs.Tree.Numbered.{by_test, same-true, same-equal}
+use Rattle.tree_specs.proofs.Tree.Numbered.{by_test, same-true}
 
 -- ---- one that passes a test
 

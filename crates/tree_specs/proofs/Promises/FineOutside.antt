@@ -1,5 +1,5 @@
 -- The steps of a question to the outside tell what is fine.
-use Rattle.std.proofs.Common.{◌≡◌, ℕ, List, [], ◌∷◌, ◌++◌, Option, Some, None, false, refl, sym, subst, map}
+use Rattle.std.proofs.Common.{◌≡◌, List, [], ◌∷◌, ◌++◌, Option, Some, None, false, refl, sym, subst, map}
 use Rattle.step_machine.specs.Machine.{Move as Do}
 use Rattle.step_machine.specs.Noted.{scene, with_note, noted_work}
 use Rattle.tree_specs.specs.declared.object.Obj.{Obj}
@@ -18,7 +18,7 @@ use Rattle.tree_specs.specs.Tree.Pool.{Pool, open_descriptor}
 use Rattle.tree_specs.specs.Rules.Items.{Item}
 use Rattle.tree_specs.specs.Rules.Items.Item.{Told, Asked}
 use Rattle.tree_specs.specs.Rules.Sequence.{CallStart, Scene}
-use Rattle.tree_specs.specs.Machine.Table.{notes, taken, outside_step, outside_taken, opening_one, hearing_one}
+use Rattle.tree_specs.specs.Machine.Table.{notes, taken, outside_step, opening_one, hearing_one}
 use Rattle.tree_specs.specs.Promises.Orderly.{RefusedJustNow, asks_hook}
 use Rattle.tree_specs.specs.Invariants.Consistent.{IsConsistent}
 use Rattle.tree_specs.proofs.Calls.Checks.{Reaches, IsOpened, IsTold, IsAnswered, reached-by}
