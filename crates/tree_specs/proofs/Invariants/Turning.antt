@@ -28,7 +28,7 @@ use Rattle.tree_specs.specs.Machine.Table.{Step, due_step, taking_step, early_st
 use Rattle.tree_specs.specs.Machine.Profiles.{turn_profile}
 use Rattle.tree_specs.specs.Invariants.Sound.{Footing, IsTurned, TurnRests}
 use Rattle.tree_specs.proofs.Tree.Numbered.{by_test}
-use Rattle.tree_specs.proofs.Calls.Checks.{clocked-by, polled-by}
+use Rattle.tree_specs.proofs.Calls.Checks.{both-true, clocked-by, polled-by}
 
 -- ---- what is to start
 
@@ -40,10 +40,6 @@ pub record Ready (rows : List Row) (what : What) (x : Obj) : Type 0 where
   pub event : is_plain row.kind ≡ false
   pub comes : comes_as what row.kind ≡ true
   pub quiet : row.mark ≡ Quiet
-
-both : (a b : Bool) → (a && b) ≡ true → (a ≡ true) × (b ≡ true)
-both true b e = (refl, e)
-both false b e = cc
 
 quiet-mark : (m : Mark) → is_quiet_mark m ≡ true → m ≡ Quiet
 quiet-mark Quiet e = refl
@@ -62,7 +58,7 @@ handler-ready p w x h e = by_test (may_start w (row_of p.rows x)) (λ t. by-row 
     by-row : (o : Option Row) → row_of p.rows x ≡ o → may_start w o ≡ true → Ready p.rows w x
     by-row None k t = cc
     by-row (Some r) k t =
-        let b = both (comes_as w r.kind) (is_quiet_mark r.mark) t in
+        let b = both-true (comes_as w r.kind) (is_quiet_mark r.mark) t in
         let c = comes-event w r.kind b.0 in
         record { row = r; is = k; object = c.0; event = c.1; comes = b.0; quiet = quiet-mark r.mark b.1 }
 

@@ -1,8 +1,5 @@
-use Rattle.std.proofs.Common.{◌≡◌, ℕ, suc, zero, ◌<◌, ◌≤◌, List, [], ◌∷◌, Option, Some, None, true, false, cond, is_some, refl, sym, ◌∙◌, ap, subst, arith, eq-eqb}
-use Rattle.std.specs.Prelude.{◌&&◌, not, nat_eq}
-use Rattle.std.specs.Ordering.{nat_cmp}
-use Rattle.std.specs.Cmp.{nat_cmp_total, unsigned_tied}
-use Rattle.std.specs.FinMap.Entries.{find, find-put}
+use Rattle.std.proofs.Common.{◌≡◌, ℕ, suc, zero, ◌<◌, ◌≤◌, List, [], ◌∷◌, Option, Some, None, true, false, refl, arith}
+use Rattle.std.specs.Prelude.{◌&&◌, not}
 use Rattle.std.proofs.lemmas.Bool.Decides.{nat_tests}
 use Rattle.step_machine.specs.Machine.{Outcome, tell}
 use Rattle.step_machine.specs.Machine.Outcome.{Ended, Stray}
@@ -13,7 +10,6 @@ use Rattle.tree_specs.specs.declared.question.Input.TheVariants.{Clock, Took, Ag
 use Rattle.tree_specs.specs.declared.reply.Reply.{Reply}
 use Rattle.tree_specs.specs.declared.reply.Reply.TheVariants.{Number, Again as IsAgain, Fault as IsFault}
 use Rattle.tree_specs.specs.Tree.Pool.{Pool, open_descriptor}
-use Rattle.tree_specs.specs.Events.Descriptors.{Descriptors, is_open_in, opened}
 use Rattle.tree_specs.specs.Words.Ranges.{is_routine, is_time}
 use Rattle.tree_specs.specs.Calls.Refusals.{is_open}
 use Rattle.tree_specs.specs.Rules.Items.Item.{Asked}
@@ -21,12 +17,9 @@ use Rattle.tree_specs.specs.Rules.Sequence.{Scene}
 use Rattle.tree_specs.specs.Rules.Story.{reaching, opening, hearing}
 use Rattle.tree_specs.proofs.Tree.Numbered.{by_test}
 use Rattle.tree_specs.proofs.Calls.Checks.{both-true, not-true}
+use Rattle.tree_specs.proofs.Events.DescriptorLaws.{opened-same}
 use Rattle.tree_specs.proofs.Rules.Lawful.{scene_of}
 use Rattle.tree_specs.proofs.laws.an_answer_is_in_its_range.Goals as goal
-
--- what is opened is open
-opened-same : (ds : Descriptors) (fd : ℕ) → is_open_in (opened ds fd) fd ≡ true
-opened-same ds fd = ap is_some (find-put nat_cmp nat_cmp_total fd fd tt ds ∙ ap (λ b. cond b (Some tt) (find nat_cmp fd ds)) (unsigned_tied fd fd ∙ eq-eqb fd fd refl))
 
 -- a reply that is heard is the answer
 heard-ends : (n : ℕ) (s : Scene) (given r : Reply) (p q : Pool) (is left : List Input) (told : List Scene) → tell s (hearing n given p is) ≡ Ended r q told left → r ≡ given
