@@ -22,15 +22,28 @@ pub enum Frame {
 #[derive(Debug, Drop)]
 pub enum CallFrame {
     /// The question is to be asked.
-    Asking { ask: Ask },
+    Asking {
+        ask: Ask,
+    },
     /// The question was answered with this call, which is to be done.
-    Doing { ask: Ask, call: Call },
+    Doing {
+        ask: Ask,
+        call: Call,
+    },
     /// The call waits for the freeing of `x`, or of its children.
-    Awaiting { ask: Ask, x: Obj },
+    Awaiting {
+        ask: Ask,
+        x: Obj,
+    },
     /// The call waits for a turn of the event loop, or for what the outside answers.
-    Turning { ask: Ask },
+    Turning {
+        ask: Ask,
+    },
     /// The reply is to be told, and the next question comes after it.
-    Telling { ask: Ask, reply: Reply },
+    Telling {
+        ask: Ask,
+        reply: Reply,
+    },
     /// The notice is to be told, then the reply, and the next question comes after it.
     Announcing {
         ask: Ask,
@@ -38,7 +51,9 @@ pub enum CallFrame {
         reply: Reply,
     },
     /// The routine has returned this number.
-    Returning { value: u32 },
+    Returning {
+        value: u32,
+    },
 }
 
 /// What the children of an object are freed for.

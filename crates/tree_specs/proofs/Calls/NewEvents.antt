@@ -8,7 +8,7 @@ use Rattle.tree_specs.specs.Tree.Targets.{newest_ref}
 use Rattle.tree_specs.specs.Tree.Pool.{Pool}
 use Rattle.tree_specs.specs.Events.Rotation.{is_watching}
 use Rattle.tree_specs.specs.Calls.Refusals.{Check, refusals}
-use Rattle.tree_specs.specs.Calls.Plans.{Change, Plan, changed_by, plan, planned, unless_refused, frees, handed, gift, comes_soon}
+use Rattle.tree_specs.specs.Calls.Plans.{Change, Plan, changed_by, plan, planned, unless_refused, frees, handed, gift}
 use Rattle.tree_specs.specs.Calls.Plans.Change.{Watches, Then}
 use Rattle.tree_specs.specs.Calls.Plans.Plan.{Does}
 use Rattle.tree_specs.proofs.Tree.Numbered.{by_test}

@@ -13,7 +13,7 @@ use Rattle.tree_specs.specs.declared.call.Call.TheVariants as call
 use Rattle.tree_specs.specs.declared.reply.Reply.{Reply}
 use Rattle.tree_specs.specs.declared.reply.Reply.TheVariants as reply
 use Rattle.tree_specs.specs.declared.notice.Notice.{Notice}
-use Rattle.tree_specs.specs.declared.notice.Notice.TheVariants.{Warned, Closed}
+use Rattle.tree_specs.specs.declared.notice.Notice.TheVariants.{Warned}
 use Rattle.tree_specs.specs.declared.question.Ask.{Ask}
 use Rattle.tree_specs.specs.declared.question.Ask.TheVariants as ask
 use Rattle.tree_specs.specs.declared.watch.Watch.{Watch}
@@ -23,14 +23,13 @@ use Rattle.tree_specs.specs.Tree.Targets.{target_of, newest_ref}
 use Rattle.tree_specs.specs.Tree.Inside.{total}
 use Rattle.tree_specs.specs.Invariants.Measure.{weight, mark_weight}
 use Rattle.tree_specs.specs.Invariants.Consistent.{deposit, mark_deposit}
-use Rattle.tree_specs.specs.Calls.Refusals.{Check, tests, refusals, is_immediate, is_descriptor, is_doomed_mark, is_open}
+use Rattle.tree_specs.specs.Calls.Refusals.{Check, tests, refusals, is_immediate, is_doomed_mark, is_open}
 use Rattle.tree_specs.specs.declared.moment.What.TheVariants as what
 use Rattle.tree_specs.specs.Events.Coming.{comes_as}
 use Rattle.tree_specs.specs.Events.Handlers.{handler_of}
 use Rattle.tree_specs.specs.Events.Rotation.{is_watched}
 use Rattle.tree_specs.specs.Invariants.Awaiting.{MayCome, is_event_row}
-use Rattle.tree_specs.specs.declared.test.Test.{Test}
-use Rattle.tree_specs.specs.declared.test.Test.TheVariants.{IsObject, IsImmediate, IsDescriptor, IsNotDoomed}
+use Rattle.tree_specs.specs.declared.test.Test.TheVariants.{IsObject, IsImmediate, IsNotDoomed}
 use Rattle.tree_specs.specs.Calls.Plans.{Change, Plan, changed_by, plan, planned, unless_refused, places, warns, frees, handed, gift}
 use Rattle.tree_specs.specs.Calls.Plans.Change.{Nothing, Edit, Add, Place, Handle, Schedule, Arm, Watches, Rewatch, Close, Then}
 use Rattle.tree_specs.specs.Calls.Plans.Plan.{Does, Frees, Unlinks, Empties, Asks, Turns}
@@ -258,8 +257,7 @@ module _ (f : Frame) (fs : List Frame) (p : Pool) (s : Sound f fs p) where
       ((record { there = h.0; target = λ t e. cc }, (rw self refl, (rw self (refl, refl), with-own p.handlers n (record { routine = routine; user = user })))), omega arith, tt)
   each (call.Fd o fd flags routine user) h =
       let n : Obj = record { 0 = p.next } in
-      let self : same n n ≡ true = same-equal n n refl in
-      (
+      let self : same n n ≡ true = same-equal n n refl in (
         (
           record { there = h.0; target = λ t e. cc },
           (rw self refl, record { comes = rw self (refl, refl); ready = with-own p.handlers n (record { routine = routine; user = user }); free = h.1.1.0; open_one = h.1.0 }),

@@ -1,6 +1,6 @@
 -- How a turn goes on: what is to start, and the works that it goes on as.
 use Rattle.std.proofs.Common.{◌≡◌, ℕ, ◌≤◌, List, Option, Some, None, true, false, nat_eq, nat_le, Bool, refl, ◌∙◌, arith}
-use Rattle.std.specs.Prelude.{◌&&◌, ◌-◌}
+use Rattle.std.specs.Prelude.{◌-◌}
 use Rattle.step_machine.specs.Machine.{Move as Do}
 use Rattle.tree_specs.specs.declared.object.Obj.{Obj}
 use Rattle.tree_specs.specs.declared.due.Due.{Due}

@@ -136,8 +136,8 @@ announcing-fine scenes q notice r b ws p known = each notice known
         let g : Frame = frame.Call (Telling q r) in
         let past = past-tells (told scenes) e f (map work_of ws) p accepts_none frees_none drops_none known.past in
         known-told scenes (scene notes f b p e) (with_note b g) ws p
-            (past-goes (told scenes ++ e ∷ []) f g (map work_of ws) (map work_of ws) p p past (later-same p) (λ y l. absurd l) tt past.all_account)
-            (restacked f g ws (λ y h. h) (λ y h. h) known.stacked) (known.cause.0 (scenes ++ scene notes f b p e ∷ []))
+        (past-goes (told scenes ++ e ∷ []) f g (map work_of ws) (map work_of ws) p p past (later-same p) (λ y l. absurd l) tt past.all_account)
+        (restacked f g ws (λ y h. h) (λ y h. h) known.stacked) (known.cause.0 (scenes ++ scene notes f b p e ∷ []))
 
     each : (notice : Notice) → Known scenes (with_note b (frame.Call (Announcing q notice r))) ws p → FineBy scenes (frame.Call (Announcing q notice r)) b p (step (frame.Call (Announcing q notice r)) p) ws
     each (notices.Warned x) known = (

@@ -1,7 +1,7 @@
 -- A turn replies 0 exactly where nothing came.
-use Rattle.std.proofs.Common.{◌≡◌, ℕ, suc, zero, ◌<◌, ◌≤◌, ◌-◌, List, [], ◌∷◌, ◌++◌, Option, Some, None, Bool, true, false, nat_eq, nat_le, if◌then◌else◌, is_some, refl, sym, ap, subst, arith}
+use Rattle.std.proofs.Common.{◌≡◌, ℕ, suc, zero, ◌≤◌, ◌-◌, List, [], ◌∷◌, ◌++◌, Option, Some, None, Bool, true, false, nat_eq, nat_le, if◌then◌else◌, is_some, refl, sym, ap, subst, arith}
 use Rattle.std.proofs.lemmas.Bool.Decides.{nat_tests}
-use Rattle.step_machine.specs.Machine.{Outcome, tell, followed}
+use Rattle.step_machine.specs.Machine.{tell, followed}
 use Rattle.step_machine.specs.Machine.Outcome.{Ended, Stray}
 use Rattle.step_machine.proofs.Uses.{ended-tell, ended-followed}
 use Rattle.tree_specs.specs.declared.object.Obj.{Obj}
@@ -213,8 +213,7 @@ replies n p _ left (Unwatched d now w ready soon due early nobody) =
 replies n p _ left (Early d now later soon due early before) =
     let t = early-tests d now early in
     let u = early-tests d later before in
-    let twice : looks_again p [] ≡ true = rw due refl in
-    (
+    let twice : looks_again p [] ≡ true = rw due refl in (
       p,
       scene_of (Asked ask.Clock) p ∷ scene_of (Asked (ask.Wait (d.time - now))) p ∷ scene_of (Asked ask.Clock) p ∷ [],
       rw (soon, due, t.0, t.1, due, t.2, twice, u.1, due, u.2) refl,

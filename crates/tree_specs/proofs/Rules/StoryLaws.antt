@@ -1,6 +1,6 @@
 -- The story by the rules' text, by the table, and by a host.
-use Rattle.std.proofs.Common.{◌≡◌, ◌≢◌, ℕ, ◌+◌, ◌-◌, ◌*◌, ◌≤◌, List, [], ◌∷◌, length, None, refl, sym, ◌∙◌, ap, subst, arith}
-use Rattle.step_machine.specs.Machine.{Outcome, run, walk, tell, tells, followed, is_stray, map_items, items as told_by}
+use Rattle.std.proofs.Common.{◌≡◌, ◌≢◌, ℕ, ◌+◌, ◌-◌, ◌*◌, ◌≤◌, List, [], length, None, refl, sym, ◌∙◌, ap, subst, arith}
+use Rattle.step_machine.specs.Machine.{Outcome, run, walk, followed, is_stray, map_items, items as told_by}
 use Rattle.step_machine.specs.Machine.Outcome.{Ended, Waits, Stray, Short}
 use Rattle.step_machine.specs.Noted.{Noted, with_note}
 use Rattle.step_machine.specs.Open.{LastIs}

@@ -29,7 +29,7 @@ use Rattle.tree_specs.specs.Rules.Sequence.{Work, Scene, CallStart}
 use Rattle.tree_specs.specs.Calls.Plans.{Plan, planned, notice_of, changed_by}
 use Rattle.tree_specs.specs.Calls.Plans.Plan.{Does, Frees, Unlinks, Empties, Asks, Turns}
 use Rattle.tree_specs.specs.Rules.Answers.{hook_moment, later, heard, reached}
-use Rattle.tree_specs.specs.Rules.Story.{effect, free, hooked, judged, dooming, leave, children, tried, asked, acting, telling, returning, items, announcing, unlink, release, given, numbered, turned, taking, timed, reaching, opening, hearing, closing, lets_go, notice_event}
+use Rattle.tree_specs.specs.Rules.Story.{effect, free, hooked, judged, dooming, leave, children, tried, asked, acting, telling, returning, items, announcing, unlink, release, given, numbered, turned, taking, timed, reaching, opening, hearing, lets_go, notice_event}
 use Rattle.tree_specs.specs.Promises.Acceptances.{returned_by, AcceptsAfterReturns}
 use Rattle.tree_specs.proofs.Tree.Numbered.{by_test}
 use Rattle.tree_specs.proofs.Calls.Checks.{heard-by, Reaches, IsOpened, IsTold, IsAnswered, reached-by}

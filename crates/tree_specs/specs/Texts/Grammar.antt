@@ -16,7 +16,7 @@ use Rattle.tree_specs.specs.declared.wants.Want.{Want}
 use Rattle.tree_specs.specs.Words.Names.{is_name}
 use Rattle.tree_specs.specs.Words.Octets.{is_octets}
 use Rattle.tree_specs.specs.Calls.Spelling.{Numeral, Reading, Form, forms}
-use Rattle.tree_specs.specs.Calls.Spelling.Numeral.{Number, Number32, Positive32, Time, Length}
+use Rattle.tree_specs.specs.Calls.Spelling.Numeral.{Number32, Positive32, Time, Length}
 use Rattle.tree_specs.specs.Calls.Spelling.Reading.{IsConsistent, TakesOwner, TakesObject, TakesNumeral, EndsInName, EndsInBytes}
 use Rattle.tree_specs.specs.Words.Objects.{numbered_owner}
 use Rattle.tree_specs.specs.Words.Ranges.{is_in}

@@ -1,7 +1,7 @@
-use Rattle.std.proofs.Common.{◌≡◌, ℕ, suc, zero, ◌<◌, ◌≤◌, List, [], ◌∷◌, Option, Some, None, true, false, refl, arith}
+use Rattle.std.proofs.Common.{◌≡◌, ℕ, suc, zero, ◌<◌, ◌≤◌, List, [], ◌∷◌, true, false, arith}
 use Rattle.std.specs.Prelude.{◌&&◌, not}
 use Rattle.std.proofs.lemmas.Bool.Decides.{nat_tests}
-use Rattle.step_machine.specs.Machine.{Outcome, tell}
+use Rattle.step_machine.specs.Machine.{tell}
 use Rattle.step_machine.specs.Machine.Outcome.{Ended, Stray}
 use Rattle.tree_specs.specs.declared.bounds.TheConstants.{TIME_LIMIT}
 use Rattle.tree_specs.specs.declared.question.Ask.TheVariants.{Clock as AsksClock, Accept}
