@@ -22,7 +22,7 @@ use Rattle.host_core.specs.declared.active.Active.{Active}
 use Rattle.host_core.specs.declared.active.Active.TheVariants as active
 use Rattle.host_core.specs.declared.caller.Stage.{Stage}
 use Rattle.host_core.specs.declared.caller.Stage.TheVariants as stage
-use Rattle.host_core.specs.Reaches.{IsOutside, NoBytes, IsShortAnswer}
+use Rattle.host_core.specs.Reaches.{IsOutside, is_bytes, IsShortAnswer}
 use Rattle.host_core.specs.Turns.{turn_asks}
 use Rattle.host_core.specs.Hosts.{open_at, begins_with, asked_now, caller_asked, view_given, is_reaching, IsTurning, PartsReady, MayBegin}
 use Rattle.host_core.proofs.Calling.{IsForCaller, caller-kind}
@@ -48,10 +48,6 @@ pub no-look : (i : Input) → ((now : ℕ) → i ≡ input.Clock now → ⊥) �
 no-look (input.Clock now) clocks readies k = clocks now refl
 no-look (input.Ready wants) clocks readies k = readies wants refl
 no-look _ clocks readies k = k
-
-pub no-bytes : (i : Input) → ((bytes : List ℕ) → i ≡ input.Got bytes → ⊥) → NoBytes i
-no-bytes (input.Got bytes) none = none bytes refl
-no-bytes _ none = tt
 
 -- no answer is both
 not-both : (i : Input) → IsActing i → IsLook i → ⊥
@@ -93,11 +89,11 @@ outside-acts-not _ (input.Act a) o e k = cc
 outside-acts-not _ _ o e k = k
 
 -- the outside answers with bytes, or with what takes no memory
-pub short-answer : (q : Ask) (i : Input) → IsOutside q → is_none (misfit (Some q) i) ≡ true → NoBytes i → IsShortAnswer i
+pub short-answer : (q : Ask) (i : Input) → IsOutside q → is_none (misfit (Some q) i) ≡ true → is_bytes i ≡ false → IsShortAnswer i
 short-answer ask.Quiet (input.Call c) o m n = o
 short-answer (ask.Routine moment) (input.Act a) o m n = o
 short-answer (ask.Wait limit) (input.Ready wants) o m n = o
-short-answer q (input.Got bytes) o m n = n
+short-answer q (input.Got bytes) o m n = cc
 short-answer _ (input.Call c) o m n = cc
 short-answer _ (input.Act a) o m n = cc
 short-answer _ (input.Ready wants) o m n = cc
@@ -125,6 +121,10 @@ module _ (now : Active) (i : Input) (cs : List CallFrame) (ts : List OpenTurn) (
       each _ fits n r h = cc
 
 -- bytes are an answer of the outside
+pub is-got : (i : Input) → is_bytes i ≡ true → (bytes : List ℕ) × (i ≡ input.Got bytes)
+is-got (input.Got bytes) e = (bytes, refl)
+is-got _ e = cc
+
 pub bytes-reaching : (now : Active) (bytes : List ℕ) (cs : List CallFrame) (ts : List OpenTurn) (objects : Objects) → is_none (misfit (asked_now now) (input.Got bytes)) ≡ true → PartsReady now objects → IsConsistent (view_given now (input.Got bytes) objects.works cs ts objects.pool)
     → is_reaching now ≡ true
 bytes-reaching (active.Reaching r) bytes cs ts objects fits p h = refl

@@ -1,5 +1,5 @@
 -- A question to the outside that is open in a host, and what its answer leaves.
-use Rattle.std.specs.Prelude.{◌≡◌, List, ◌∷◌, Option, Some, None}
+use Rattle.std.specs.Prelude.{◌≡◌, Bool, true, false, List, ◌∷◌, Option, Some, None}
 use Rattle.tree_specs.specs.declared.call.Call.{Call}
 use Rattle.tree_specs.specs.declared.frame.Frame.TheVariants as frame
 use Rattle.tree_specs.specs.declared.frame.CallFrame.{CallFrame}
@@ -52,9 +52,9 @@ remembered (Routine m) r = Some r
 remembered q r = None
 
 -- bytes are the one answer of the outside that owns memory
-abbrev pub NoBytes : Input → Type 0
-NoBytes (input.Got bytes) = ⊥
-NoBytes i = Unit {0}
+abbrev pub is_bytes : Input → Bool
+is_bytes (input.Got bytes) = true
+is_bytes i = false
 
 -- an answer of the outside that takes no memory
 abbrev pub IsShortAnswer : Input → Type 0

@@ -9,7 +9,7 @@ use crate::active::Active;
 use crate::caller::{Caller, Stage, Waiting};
 use crate::fault::OfferFault;
 use crate::parts::Parts;
-use crate::reach::read_on;
+use crate::reach::{is_bytes, read_on};
 use crate::reports::{made_report, report_owner};
 use crate::turns::fire;
 use crate::works::{answer_on, settle};
@@ -207,13 +207,10 @@ impl Host {
             self.active.report(report);
             return Ok(());
         }
-        let input = match input {
-            Input::Got(bytes) => {
-                read_on(&mut self.active, *callers.allocator(), bytes)?;
-                return Ok(());
-            }
-            input => input,
-        };
+        if is_bytes(&input) {
+            read_on(&mut self.active, *callers.allocator(), input)?;
+            return Ok(());
+        }
         make_room(callers, objects)?;
         answer_on(&mut self.active, input, &mut self.parts);
         settle(&mut self.active, &mut self.parts);

@@ -1,6 +1,7 @@
 //! Questions to the outside: a call asks the clock or a descriptor, and the answer is its reply.
-ghost use Rattle.std.specs.Prelude.{◌≡◌, Some, IfOk, OnOk, OnErr, IsSome, is_none, is_some, true};
+ghost use Rattle.std.specs.Prelude.{◌≡◌, Some, IfOk, OnOk, OnErr, IsSome, ℕ, List, is_none, is_some, true, false};
 ghost use Rattle.tree_specs.specs.declared.question.Ask.{Ask as AskData};
+ghost use Rattle.tree_specs.specs.declared.question.Input.TheVariants as inputs;
 ghost use Rattle.tree_specs.specs.Calls.Given.{given_to, bytes_read, bytes_written};
 ghost use Rattle.tree_specs.specs.Invariants.Consistent.{IsConsistent};
 ghost use Rattle.tree_specs.specs.Texts.Schedule.{misfit};
@@ -8,7 +9,7 @@ ghost use Rattle.tree_specs.specs.declared.reply.Reply.TheVariants.{Bytes as Byt
 ghost use Rattle.host_core.specs.Hosts.{asked_now, caller_asked, given_view, host_view, is_reaching, remembers, StandsAs, PartsReady, TellsSameStory, IsBetweenSteps};
 ghost use Rattle.tree_specs.specs.declared.frame.CallFrame.TheVariants.{Telling};
 ghost use Rattle.host_core.specs.declared.reach.Reach.{Reach as ReachData};
-ghost use Rattle.host_core.specs.Reaches.{remembered, NoBytes, IsShortAnswer, HeardShort};
+ghost use Rattle.host_core.specs.Reaches.{remembered, is_bytes, IsShortAnswer, HeardShort};
 
 use crate::active::Active;
 use crate::caller::Caller;
@@ -100,7 +101,7 @@ fn heard(input: Input, parts: &mut Parts) -> ShortReply
 pub fn hear_on(now: &mut Active, input: Input, parts: &mut Parts)
     requires fits { is_none (misfit (asked_now now.old) input) ≡ true }
     requires ready { PartsReady now.old parts.old.objects }
-    requires no_bytes { NoBytes input }
+    requires no_bytes { is_bytes input ≡ false }
     requires room { parts.old.objects.ready ≡ true }
     requires reaching { is_reaching now.old ≡ true }
     requires whole { IsConsistent (given_view now.old input parts.old) }
@@ -138,16 +139,35 @@ fn made_bytes(alloc: Global, reach: &Reach, bytes: Octets) -> Result<OwnedReply,
     })
 }
 
+/// Whether these are bytes that were read: the one answer of the outside that owns memory.
+pub fn is_bytes(input: &Input) -> bool
+    ensures { result ≡ is_bytes input.now }
+{
+    matches!(input, Input::Got(_))
+}
+
+/// The bytes that were read.
+fn bytes_in(input: Input) -> Octets
+    requires { is_bytes input ≡ true }
+    ensures { input ≡ inputs.Got result }
+{
+    match input {
+        Input::Got(bytes) => bytes,
+        _ => unreachable!(),
+    }
+}
+
 /// It was asked for bytes, and these were read.
-pub fn read_on(now: &mut Active, alloc: Global, bytes: Octets) -> Result<(), Memory>
-    requires { is_reaching now.old ≡ true }
-    ensures ok { OnOk result ((r : ReachData) → now.old ≡ Active.Reaching r → StandsAs now.new (Telling (remembers r.caller (remembered r.caller (BytesReply bytes))) (BytesReply bytes))) }
+pub fn read_on(now: &mut Active, alloc: Global, input: Input) -> Result<(), Memory>
+    requires reaching { is_reaching now.old ≡ true }
+    requires bytes { is_bytes input ≡ true }
+    ensures ok { OnOk result ((r : ReachData) (bytes : List ℕ) → now.old ≡ Active.Reaching r → input ≡ inputs.Got bytes → StandsAs now.new (Telling (remembers r.caller (remembered r.caller (BytesReply bytes))) (BytesReply bytes))) }
     ensures err { OnErr result (now.new ≡ now.old) }
 {
     let Active::Reaching(reach) = now else {
         unreachable!();
     };
-    let heard = made_bytes(alloc, reach, bytes)?;
+    let heard = made_bytes(alloc, reach, bytes_in(input))?;
     now.hear(heard);
     Ok(())
 }

@@ -8,7 +8,7 @@ ghost use Rattle.tree_specs.specs.Texts.Schedule.{misfit};
 ghost use Rattle.destructors.specs.Works.{IsAwaiting};
 ghost use Rattle.object_pool.specs.Objects.{frees_in};
 ghost use Rattle.host_core.specs.Moves.{ReadyFor};
-ghost use Rattle.host_core.specs.Reaches.{NoBytes};
+ghost use Rattle.host_core.specs.Reaches.{is_bytes};
 ghost use Rattle.host_core.specs.Turns.{turns_of};
 ghost use Rattle.host_core.specs.Hosts.{stack_of, view_after, host_view, view_at, given_view, speaking_view, caller_asked, asked_now, MayDo, MayBegin, PartsReady, TellsSameStory, StepsSilently, IsBetweenSteps, Finished, at_work};
 
@@ -96,7 +96,7 @@ fn act_on(now: &mut Active, act: Act, parts: &mut Parts)
 pub fn answer_on(now: &mut Active, input: Input, parts: &mut Parts)
     requires fits { is_none (misfit (asked_now now.old) input) ≡ true }
     requires ready { PartsReady now.old parts.old.objects }
-    requires no_bytes { NoBytes input }
+    requires no_bytes { is_bytes input ≡ false }
     requires whole { IsConsistent (given_view now.old input parts.old) }
     requires may { MayBegin input (length parts.old.callers.items) (vec_capacity parts.old.callers) parts.old.objects.ready }
     ensures along { TellsSameStory (given_view now.old input parts.old) (host_view now.new parts.new) }
