@@ -7,5 +7,8 @@ pub mod Hosting
 pub mod Calling
 pub mod Turning
 pub mod Stepping
+pub mod Answering
+pub mod Reaching
 pub mod Offering
+pub mod Straying
 pub mod Nexts

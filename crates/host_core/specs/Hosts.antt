@@ -58,7 +58,7 @@ use Rattle.host_core.specs.declared.motion.Motion.TheVariants.{Replies, Announce
 use Rattle.host_core.specs.declared.turn.Turn.{Turn}
 use Rattle.host_core.specs.Moves.{report_of, telling, announcing}
 use Rattle.host_core.specs.Turns.{turns_of, turn_view, turn_asks, TurnSpeaks, turn_given}
-use Rattle.host_core.specs.Reaches.{outside_view, outside_given}
+use Rattle.host_core.specs.Reaches.{IsOutside, outside_view, outside_given}
 
 -- ---- the callers of a host, as frames
 
@@ -135,7 +135,7 @@ abbrev pub PartsReady : Active → Objects → Type 0
 PartsReady (active.Caller c) objects = Unit {0}
 PartsReady active.Freeing objects = FreeReady objects
 PartsReady (active.Turning t) objects = TurnReady t
-PartsReady (active.Reaching r) objects = Unit {0}
+PartsReady (active.Reaching r) objects = IsOutside r.question
 
 pub record BetweenSteps (now : Active) (callers : List Waiting) (turn : Option TurnFrame) (objects : Objects) : Type 0 where
   pub whole : IsConsistent (view_of now callers turn objects)
@@ -234,14 +234,10 @@ abbrev pub IsTurning : Active → Type 0
 IsTurning (active.Turning t) = Unit {0}
 IsTurning _ = ⊥
 
-abbrev pub is_turn : Active → Bool
-is_turn (active.Turning t) = true
-is_turn now = false
-
 -- a question to the outside is open
-abbrev pub IsReaching : Active → Type 0
-IsReaching (active.Reaching r) = Unit {0}
-IsReaching _ = ⊥
+abbrev pub is_reaching : Active → Bool
+is_reaching (active.Reaching r) = true
+is_reaching now = false
 
 -- a turn waits for the run of a handler
 abbrev pub IsHandling : Option TurnFrame → Type 0

@@ -24,6 +24,7 @@ use Rattle.tree_specs.specs.declared.object.Owner.{Owner}
 use Rattle.tree_specs.specs.Tree.Pool.{Pool}
 use Rattle.tree_specs.specs.Rules.Items.{Item}
 use Rattle.tree_specs.specs.Rules.Answers.{later}
+use Rattle.host_core.specs.Reaches.{IsOutside}
 use Rattle.host_core.specs.declared.motion.Motion.{Motion}
 use Rattle.host_core.specs.declared.motion.Motion.TheVariants.{Replies, Announces, Frees, Unlinks, Empties, Asks, Turns}
 use Rattle.host_core.specs.declared.short_reply.ShortReply.{ShortReply}
@@ -55,11 +56,11 @@ move_of q (Empties x) p = Do.Call (frame.Free (Looping x Emptying)) (frame.Call 
 move_of q (Asks outside) p = Do.Call (frame.Outside (Reaching outside)) (frame.Call (Turning q)) p
 move_of q Turns p = turning_step q p
 
--- what a call begins has the memory that the call was given
+-- what a call begins has the memory that the call was given, and what it asks is asked of the outside
 abbrev pub ReadyFor : Motion → Bool → Type 0
 ReadyFor (Replies b) ready = Unit {0}
 ReadyFor (Announces notice b) ready = Unit {0}
-ReadyFor (Asks outside) ready = Unit {0}
+ReadyFor (Asks outside) ready = IsOutside outside
 ReadyFor Turns ready = Unit {0}
 ReadyFor m ready = ready ≡ true
 

@@ -1,5 +1,5 @@
 -- A question to the outside that is open in a host, and what its answer leaves.
-use Rattle.std.specs.Prelude.{◌≡◌, List, ◌∷◌, Option, Some, None}
+use Rattle.std.specs.Prelude.{◌≡◌, Bool, true, false, List, ◌∷◌, Option, Some, None}
 use Rattle.tree_specs.specs.declared.call.Call.{Call}
 use Rattle.tree_specs.specs.declared.frame.Frame.TheVariants as frame
 use Rattle.tree_specs.specs.declared.frame.CallFrame.{CallFrame}
@@ -8,6 +8,7 @@ use Rattle.tree_specs.specs.declared.frame.FreeFrame.{FreeFrame}
 use Rattle.tree_specs.specs.declared.frame.OutsideFrame.{OutsideFrame}
 use Rattle.tree_specs.specs.declared.frame.OutsideFrame.TheVariants.{Reaching, Opening, Hearing}
 use Rattle.tree_specs.specs.declared.question.Ask.{Ask}
+use Rattle.tree_specs.specs.declared.question.Ask.TheVariants as ask
 use Rattle.tree_specs.specs.declared.question.Ask.TheVariants.{Routine}
 use Rattle.tree_specs.specs.declared.question.Input.{Input}
 use Rattle.tree_specs.specs.declared.question.Input.TheVariants as input
@@ -37,10 +38,23 @@ outside_given_by q given = Reaching q
 abbrev pub outside_given : Ask → Input → OutsideFrame
 outside_given q i = outside_given_by q (given_to q i)
 
+-- it is asked of the outside
+abbrev pub IsOutside : Ask → Type 0
+IsOutside ask.Clock = Unit {0}
+IsOutside (ask.Accept fd) = Unit {0}
+IsOutside (ask.Read fd most) = Unit {0}
+IsOutside (ask.Write fd bytes) = Unit {0}
+IsOutside q = ⊥
+
 -- a routine remembers a reply that owns memory, and nobody else does
 abbrev pub remembered : Ask → Reply → Option Reply
 remembered (Routine m) r = Some r
 remembered q r = None
+
+-- bytes are the one answer of the outside that owns memory
+abbrev pub is_bytes : Input → Bool
+is_bytes (input.Got bytes) = true
+is_bytes i = false
 
 -- an answer of the outside that takes no memory
 abbrev pub IsShortAnswer : Input → Type 0

@@ -1,10 +1,10 @@
 //! What is at work in a host, above all that waits.
-ghost use Rattle.std.specs.Prelude.{◌≡◌, ◌↔◌, Some, IsSome, IsTrue, is_none};
+ghost use Rattle.std.specs.Prelude.{◌≡◌, ◌↔◌, Some, IsSome, IsTrue, is_none, true};
 ghost use Rattle.std.specs.Option.{option_copied};
 ghost use Rattle.tree_specs.specs.declared.question.Ask.{Ask as AskData};
 ghost use Rattle.tree_specs.specs.declared.frame.CallFrame.TheVariants.{Telling};
 ghost use Rattle.tree_specs.specs.Texts.Schedule.{misfit};
-ghost use Rattle.host_core.specs.Hosts.{remembers, caller_asked, asked_now, is_quiet, is_turn, IsReaching, StandsAs};
+ghost use Rattle.host_core.specs.Hosts.{remembers, caller_asked, asked_now, is_quiet, is_reaching, StandsAs};
 ghost use Rattle.host_core.specs.declared.reach.Reach.{Reach as ReachData};
 ghost use Rattle.host_core.specs.Moves.{telling, announcing};
 
@@ -71,16 +71,16 @@ impl Active {
         matches!(self, Active::Freeing)
     }
 
-    /// Whether a turn is at work.
-    pub fn is_turning(&self) -> bool
-        ensures { result ≡ is_turn self.now }
+    /// Whether a question to the outside is open.
+    pub fn is_reaching(&self) -> bool
+        ensures { result ≡ is_reaching self.now }
     {
-        matches!(self, Active::Turning(_))
+        matches!(self, Active::Reaching(_))
     }
 
     /// The outside has answered with a reply that owns memory, which comes next to the caller that asked.
     pub fn hear(&mut self, reply: OwnedReply)
-        requires { IsReaching self.old }
+        requires { is_reaching self.old ≡ true }
         ensures { (r : ReachData) → self.old ≡ Active.Reaching r → StandsAs self.new (Telling (remembers r.caller reply.copy) reply.reply) }
     {
         if let Active::Reaching(Reach { caller, .. }) = mem::replace(self, Active::Freeing) {

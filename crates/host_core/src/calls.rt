@@ -56,7 +56,8 @@ fn give(x: Obj, owner: Owner, reply: ShortReply, pool: &mut ObjectPool) -> Motio
 
 /// Frees an object to which there is no reference. The one reference to an object of the root's is dropped instead.
 fn free(x: Obj, pool: &ObjectPool) -> Motion
-    ensures { (q : AskData) → move_of q result pool.now.pool ≡ plan_step q (plan pool.now.pool (FreeOf x)) pool.now.pool }
+    ensures goes { ReadyFor result true }
+    ensures moved { (q : AskData) → move_of q result pool.now.pool ≡ plan_step q (plan pool.now.pool (FreeOf x)) pool.now.pool }
 {
     match pool.newest(x) {
         Some(_) => Motion::Unlinks(Owner::Root, x),

@@ -9,7 +9,7 @@ use crate::active::Active;
 use crate::caller::{Caller, Stage, Waiting};
 use crate::fault::OfferFault;
 use crate::parts::Parts;
-use crate::reach::made_bytes;
+use crate::reach::{is_bytes, read_on};
 use crate::reports::{made_report, report_owner};
 use crate::turns::fire;
 use crate::works::{answer_on, settle};
@@ -207,14 +207,10 @@ impl Host {
             self.active.report(report);
             return Ok(());
         }
-        let input = match (input, &self.active) {
-            (Input::Got(bytes), Active::Reaching(reach)) => {
-                let heard = made_bytes(*callers.allocator(), reach, bytes)?;
-                self.active.hear(heard);
-                return Ok(());
-            }
-            (input, _) => input,
-        };
+        if is_bytes(&input) {
+            read_on(&mut self.active, *callers.allocator(), input)?;
+            return Ok(());
+        }
         make_room(callers, objects)?;
         answer_on(&mut self.active, input, &mut self.parts);
         settle(&mut self.active, &mut self.parts);

@@ -1,12 +1,15 @@
 //! Questions to the outside: a call asks the clock or a descriptor, and the answer is its reply.
-ghost use Rattle.std.specs.Prelude.{◌≡◌, Some, IfOk, IsSome, is_none, is_some, true};
+ghost use Rattle.std.specs.Prelude.{◌≡◌, Some, IfOk, OnOk, OnErr, IsSome, ℕ, List, is_none, is_some, true, false};
 ghost use Rattle.tree_specs.specs.declared.question.Ask.{Ask as AskData};
-ghost use Rattle.tree_specs.specs.Calls.Given.{given_to};
+ghost use Rattle.tree_specs.specs.declared.question.Input.TheVariants as inputs;
+ghost use Rattle.tree_specs.specs.Calls.Given.{given_to, bytes_read, bytes_written};
 ghost use Rattle.tree_specs.specs.Invariants.Consistent.{IsConsistent};
 ghost use Rattle.tree_specs.specs.Texts.Schedule.{misfit};
 ghost use Rattle.tree_specs.specs.declared.reply.Reply.TheVariants.{Bytes as BytesReply};
-ghost use Rattle.host_core.specs.Hosts.{asked_now, caller_asked, given_view, host_view, IsReaching, TellsSameStory, IsBetweenSteps};
-ghost use Rattle.host_core.specs.Reaches.{remembered, IsShortAnswer, HeardShort};
+ghost use Rattle.host_core.specs.Hosts.{asked_now, caller_asked, given_view, host_view, is_reaching, remembers, StandsAs, PartsReady, TellsSameStory, IsBetweenSteps};
+ghost use Rattle.tree_specs.specs.declared.frame.CallFrame.TheVariants.{Telling};
+ghost use Rattle.host_core.specs.declared.reach.Reach.{Reach as ReachData};
+ghost use Rattle.host_core.specs.Reaches.{remembered, is_bytes, IsShortAnswer, HeardShort};
 
 use crate::active::Active;
 use crate::caller::Caller;
@@ -26,8 +29,17 @@ pub struct Reach {
 }
 
 /// Whether so many bytes are no more than were asked for.
-fn is_within(bytes: &Octets, most: u32) -> bool {
+fn is_within(bytes: &Octets, most: u32) -> bool
+    ensures { result ≡ is_some (bytes_read most bytes.now) }
+{
     bytes.as_slice().len() <= most as usize
+}
+
+/// Whether some of the bytes were written, or all of them.
+fn is_part(bytes: &Octets, n: u32) -> bool
+    ensures { result ≡ is_some (bytes_written bytes.now n) }
+{
+    1 <= n && n as usize <= bytes.as_slice().len()
 }
 
 /// Whether an input is an answer to a question.
@@ -43,7 +55,7 @@ pub fn takes(ask: &Ask, input: &Input) -> bool
         | (Ask::Read(..), Input::End | Input::Again | Input::Fault)
         | (Ask::Write(..), Input::Again | Input::Fault) => true,
         (Ask::Read(_, most), Input::Got(bytes)) => is_within(bytes, *most),
-        (Ask::Write(_, bytes), Input::Wrote(n)) => 1 <= *n && *n as usize <= bytes.as_slice().len(),
+        (Ask::Write(_, bytes), Input::Wrote(n)) => is_part(bytes, *n),
         _ => false,
     }
 }
@@ -88,9 +100,10 @@ fn heard(input: Input, parts: &mut Parts) -> ShortReply
 /// The outside was asked, and has answered with what takes no memory.
 pub fn hear_on(now: &mut Active, input: Input, parts: &mut Parts)
     requires fits { is_none (misfit (asked_now now.old) input) ≡ true }
-    requires short { IsShortAnswer input }
+    requires ready { PartsReady now.old parts.old.objects }
+    requires no_bytes { is_bytes input ≡ false }
     requires room { parts.old.objects.ready ≡ true }
-    requires reaching { IsReaching now.old }
+    requires reaching { is_reaching now.old ≡ true }
     requires whole { IsConsistent (given_view now.old input parts.old) }
     ensures along { TellsSameStory (given_view now.old input parts.old) (host_view now.new parts.new) }
     ensures ready { IsBetweenSteps now.new parts.new }
@@ -116,7 +129,7 @@ fn copy_of(alloc: Global, caller: &Ask, bytes: &Octets) -> Result<Option<Reply>,
 }
 
 /// These bytes were read: the reply to the call that asked for them.
-pub fn made_bytes(alloc: Global, reach: &Reach, bytes: Octets) -> Result<OwnedReply, Memory>
+fn made_bytes(alloc: Global, reach: &Reach, bytes: Octets) -> Result<OwnedReply, Memory>
     ensures { IfOk result (λ r. r ≡ record { reply = BytesReply bytes; copy = remembered reach.now.caller (BytesReply bytes) }) }
 {
     let copy = copy_of(alloc, &reach.caller, &bytes)?;
@@ -124,4 +137,37 @@ pub fn made_bytes(alloc: Global, reach: &Reach, bytes: Octets) -> Result<OwnedRe
         reply: Reply::Bytes(bytes),
         copy,
     })
+}
+
+/// Whether these are bytes that were read: the one answer of the outside that owns memory.
+pub fn is_bytes(input: &Input) -> bool
+    ensures { result ≡ is_bytes input.now }
+{
+    matches!(input, Input::Got(_))
+}
+
+/// The bytes that were read.
+fn bytes_in(input: Input) -> Octets
+    requires { is_bytes input ≡ true }
+    ensures { input ≡ inputs.Got result }
+{
+    match input {
+        Input::Got(bytes) => bytes,
+        _ => unreachable!(),
+    }
+}
+
+/// It was asked for bytes, and these were read.
+pub fn read_on(now: &mut Active, alloc: Global, input: Input) -> Result<(), Memory>
+    requires reaching { is_reaching now.old ≡ true }
+    requires bytes { is_bytes input ≡ true }
+    ensures ok { OnOk result ((r : ReachData) (bytes : List ℕ) → now.old ≡ Active.Reaching r → input ≡ inputs.Got bytes → StandsAs now.new (Telling (remembers r.caller (remembered r.caller (BytesReply bytes))) (BytesReply bytes))) }
+    ensures err { OnErr result (now.new ≡ now.old) }
+{
+    let Active::Reaching(reach) = now else {
+        unreachable!();
+    };
+    let heard = made_bytes(alloc, reach, bytes_in(input))?;
+    now.hear(heard);
+    Ok(())
 }

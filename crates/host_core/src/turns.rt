@@ -16,7 +16,7 @@ ghost use Rattle.tree_specs.specs.Invariants.Consistent.{IsConsistent};
 ghost use Rattle.tree_specs.specs.Texts.Schedule.{misfit};
 ghost use Rattle.destructors.specs.Works.{IsAwaiting};
 ghost use Rattle.object_pool.specs.Objects.{frees_in};
-ghost use Rattle.host_core.specs.Turns.{turns_of, turn_asks, frame_started, frame_arrived, pool_arrived, frame_timed, pool_timed, TurnStops, TurnLooks, IsFor};
+ghost use Rattle.host_core.specs.Turns.{turns_of, turn_asks, frame_started, frame_arrived, pool_arrived, frame_timed, pool_timed, TurnStops, TurnLooks};
 ghost use Rattle.host_core.specs.Hosts.{turn_at, view_at, given_view, turn_begun, host_view, caller_asked, asked_now, is_quiet, stack_of, IsTurning, IsHandling, PartsReady, TellsSameStory, IsBetweenSteps, StandsWith, Fires};
 
 use crate::active::Active;
@@ -108,8 +108,9 @@ fn timed(frame: TurnFrame, time: u64, objects: &mut ObjectPool) -> TurnFrame
     }
 }
 
-/// The clock was asked, and has told the time, in microseconds.
+/// A turn has asked the clock, which has told the time, in microseconds.
 pub fn time_on(now: &mut Active, time: u64, parts: &mut Parts)
+    requires turning { IsTurning now.old }
     requires fits { is_none (misfit (asked_now now.old) (inputs.Clock time)) ≡ true }
     requires ready { PartsReady now.old parts.old.objects }
     requires whole { IsConsistent (given_view now.old (inputs.Clock time) parts.old) }
@@ -122,8 +123,9 @@ pub fn time_on(now: &mut Active, time: u64, parts: &mut Parts)
     now.go_to(stand(frame, caller));
 }
 
-/// It was asked which descriptors are ready, and these are.
+/// A turn has asked which descriptors are ready, and these are.
 pub fn ready_on(now: &mut Active, list: &Wants, parts: &mut Parts)
+    requires turning { IsTurning now.old }
     requires fits { is_none (misfit (asked_now now.old) (inputs.Ready list.now)) ≡ true }
     requires ready { PartsReady now.old parts.old.objects }
     requires whole { IsConsistent (given_view now.old (inputs.Ready list.now) parts.old) }

@@ -2,11 +2,13 @@
 ghost use Rattle.std.specs.Prelude.{◌≡◌, ◌<◌, [], ◌∷◌, ◌++◌, Some, None, IsSome, is_none, true, false, length, vec_capacity};
 ghost use Rattle.tree_specs.specs.declared.frame.CallFrame.TheVariants.{Doing};
 ghost use Rattle.tree_specs.specs.declared.question.Ask.{Ask as AskData};
+ghost use Rattle.tree_specs.specs.declared.question.Input.TheVariants as inputs;
 ghost use Rattle.tree_specs.specs.Invariants.Consistent.{IsConsistent};
 ghost use Rattle.tree_specs.specs.Texts.Schedule.{misfit};
 ghost use Rattle.destructors.specs.Works.{IsAwaiting};
 ghost use Rattle.object_pool.specs.Objects.{frees_in};
 ghost use Rattle.host_core.specs.Moves.{ReadyFor};
+ghost use Rattle.host_core.specs.Reaches.{is_bytes};
 ghost use Rattle.host_core.specs.Turns.{turns_of};
 ghost use Rattle.host_core.specs.Hosts.{stack_of, view_after, host_view, view_at, given_view, speaking_view, caller_asked, asked_now, MayDo, MayBegin, PartsReady, TellsSameStory, StepsSilently, IsBetweenSteps, Finished, at_work};
 
@@ -76,22 +78,39 @@ fn call_on(now: &mut Active, call: Call, parts: &mut Parts)
     go_on(now, motion, parts);
 }
 
+/// The routine that was asked does a call, or returns.
+fn act_on(now: &mut Active, act: Act, parts: &mut Parts)
+    requires asks { IsSome (caller_asked now.old) }
+    requires whole { IsConsistent (given_view now.old (inputs.Act act) parts.old) }
+    requires may { MayBegin (inputs.Act act) (length parts.old.callers.items) (vec_capacity parts.old.callers) parts.old.objects.ready }
+    ensures along { TellsSameStory (given_view now.old (inputs.Act act) parts.old) (host_view now.new parts.new) }
+    ensures ready { IsBetweenSteps now.new parts.new }
+{
+    match act {
+        Act::Do(call) => call_on(now, call, parts),
+        Act::Ret(value) => return_on(now, value, parts),
+    }
+}
+
 /// Who was asked goes on with the answer.
 pub fn answer_on(now: &mut Active, input: Input, parts: &mut Parts)
     requires fits { is_none (misfit (asked_now now.old) input) ≡ true }
     requires ready { PartsReady now.old parts.old.objects }
+    requires no_bytes { is_bytes input ≡ false }
     requires whole { IsConsistent (given_view now.old input parts.old) }
     requires may { MayBegin input (length parts.old.callers.items) (vec_capacity parts.old.callers) parts.old.objects.ready }
     ensures along { TellsSameStory (given_view now.old input parts.old) (host_view now.new parts.new) }
     ensures ready { IsBetweenSteps now.new parts.new }
 {
+    if now.is_reaching() {
+        return hear_on(now, input, parts);
+    }
     match input {
         Input::Call(call) => call_on(now, call, parts),
-        Input::Act(Act::Do(call)) => call_on(now, call, parts),
-        Input::Act(Act::Ret(value)) => return_on(now, value, parts),
-        Input::Clock(time) if now.is_turning() => time_on(now, time, parts),
+        Input::Act(act) => act_on(now, act, parts),
+        Input::Clock(time) => time_on(now, time, parts),
         Input::Ready(list) => ready_on(now, &list, parts),
-        answer => hear_on(now, answer, parts),
+        _ => unreachable!(),
     }
 }
 
