@@ -5,6 +5,7 @@ use std::test::Fail;
 use tree_specs::{Event, Octets, Reply};
 
 mod events;
+mod heard;
 mod lines;
 mod questions;
 mod refusals;
