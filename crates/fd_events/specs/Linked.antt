@@ -74,7 +74,7 @@ pub record IsLinked (l : Lane) (holders : map.FinMap nat_cmp ℕ) : Type 0 where
   pub lane : IsLane l (numbers_in l)
   pub held : (q : ℕ) → is_there l q ≡ has (numbers_in l) q
   pub count : map.len l.nodes.pairs ≡ length (numbers_in l)
-  pub holders : AreHolders (map.get holders) (watches_in l)
+  pub noted : AreHolders (map.get holders) (watches_in l)
 
 -- ---- a walk over the rotation
 

@@ -1,7 +1,8 @@
 -- The rotation as its callers see it.
-use Rattle.std.specs.Prelude.{◌≡◌, ℕ, false, List, [], ◌∷◌}
+use Rattle.std.specs.Prelude.{◌≡◌, ℕ, false, nat_eq, is_some, List, [], ◌∷◌}
+use Rattle.std.specs.List.{find}
 use Rattle.tree_specs.specs.declared.watch.Watch.{Watch}
-use Rattle.tree_specs.specs.Events.Rotation.{Ready, is_watching, is_watched}
+use Rattle.tree_specs.specs.Events.Rotation.{Ready}
 use Rattle.fd_events.specs.declared.ready.ReadyEvent.{ReadyEvent}
 
 pub record Rotation : Type 0 where
@@ -10,15 +11,18 @@ pub record Rotation : Type 0 where
   -- so many can be added without taking memory
   pub spare : ℕ
 
+-- no two have the same of this
+abbrev pub AreOnceBy : (Watch → ℕ) → List Watch → Type 0
+AreOnceBy key [] = Unit {0}
+AreOnceBy key (w ∷ ws) = (is_some (find (λ v. nat_eq (key v) (key w)) ws) ≡ false) × AreOnceBy key ws
+
 -- each event watches once
 abbrev pub AreEventsOnce : List Watch → Type 0
-AreEventsOnce [] = Unit {0}
-AreEventsOnce (w ∷ ws) = (is_watching ws w.object ≡ false) × AreEventsOnce ws
+AreEventsOnce ws = AreOnceBy (λ w. w.object.0) ws
 
 -- each descriptor is watched once
 abbrev pub AreDescriptorsOnce : List Watch → Type 0
-AreDescriptorsOnce [] = Unit {0}
-AreDescriptorsOnce (w ∷ ws) = (is_watched ws w.fd ≡ false) × AreDescriptorsOnce ws
+AreDescriptorsOnce ws = AreOnceBy (λ w. w.fd) ws
 
 -- the event that comes, as a program has it
 abbrev pub ready_event : Ready → ReadyEvent

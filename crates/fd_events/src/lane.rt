@@ -20,6 +20,13 @@ pub(crate) struct Lane {
 }
 
 impl Lane {
+    /// What is noted under a number. None exactly where nothing is.
+    pub(crate) fn node(&self, x: u64) -> Option<Node>
+        ensures { result ≡ map.get self.now.nodes.pairs x }
+    {
+        self.nodes.get(x).copied()
+    }
+
     /// One with these neighbours leaves its place, and keeps what is noted under its number.
     pub(crate) fn leave(&mut self, sides: Sides)
         ensures lane { (xs : List ℕ) (x : ℕ) → IsLane self.old xs → has xs x ≡ true → sides ≡ sides_in xs x → IsLane self.new (without xs x) }

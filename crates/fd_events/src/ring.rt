@@ -131,8 +131,9 @@ impl Ring {
         ensures watches { self.new.watches ≡ unwatched self.old.watches x }
         ensures spare { self.old.spare ≤ self.new.spare }
     {
-        let node = self.lane.nodes.take(x.0)?;
+        let node = self.lane.node(x.0)?;
         self.lane.leave(node.sides);
+        let _node = self.lane.nodes.take(x.0);
         let _holder = self.holders.take(u64::from(node.fd));
         Some(node.watch(x))
     }
@@ -163,30 +164,23 @@ impl Ring {
     pub fn flags(&self, x: Obj) -> Option<u32>
         ensures { result ≡ flags_of self.now.watches x }
     {
-        match self.watch(x) {
-            None => None,
-            Some(watch) => Some(watch.flags),
-        }
+        let watch = self.watch(x)?;
+        Some(watch.flags)
     }
 
     /// How an event watches. None exactly where it watches nothing.
     pub fn watch(&self, x: Obj) -> Option<Watch>
         ensures { result ≡ watch_of self.now.watches x }
     {
-        match self.lane.nodes.get(x.0) {
-            None => None,
-            Some(node) => Some(node.watch(x)),
-        }
+        let node = self.lane.node(x.0)?;
+        Some(node.watch(x))
     }
 
     /// The event that watches a descriptor. None exactly where none does.
     pub fn holder(&self, fd: u32) -> Option<Obj>
         ensures { result ≡ holder_of self.now.watches fd }
     {
-        match self.holders.get(u64::from(fd)) {
-            None => None,
-            Some(x) => Some(Obj(*x)),
-        }
+        obj(self.holders.get(u64::from(fd)).copied())
     }
 
     /// An event that has come is looked at after all others. Nothing changes where it watches nothing. It takes no
@@ -195,7 +189,7 @@ impl Ring {
         ensures watches { self.new.watches ≡ turned_back self.old.watches x }
         ensures spare { self.old.spare ≤ self.new.spare }
     {
-        if let Some(node) = self.lane.nodes.get(x.0).copied() {
+        if let Some(node) = self.lane.node(x.0) {
             self.lane.leave(node.sides);
             self.lane.join(x.0);
         }
@@ -212,13 +206,11 @@ impl Ring {
     fn place(&self, x: Obj) -> Option<Place>
         ensures { IsPlace self.now.watches x result }
     {
-        match self.lane.nodes.get(x.0) {
-            None => None,
-            Some(node) => Some(Place {
-                watch: node.watch(x),
-                next: obj(node.sides.newer),
-            }),
-        }
+        let node = self.lane.node(x.0)?;
+        Some(Place {
+            watch: node.watch(x),
+            next: obj(node.sides.newer),
+        })
     }
 
     /// How the event watches that is looked at first. None exactly where there is none.
