@@ -14,7 +14,7 @@ use Rattle.linked_lanes.proofs.Lanes.{by_test, not_both, false_by, eqb-self, eqb
 use Rattle.fd_events.specs.Rotation.{AreOnceBy, AreEventsOnce, AreDescriptorsOnce}
 use Rattle.fd_events.specs.Linked.{numbered, listed_one, AreHolders}
 
-is_some-map : {X Y : Type 0} (f : X → Y) (o : Option X) → is_some (option_map f o) ≡ is_some o
+pub is_some-map : {X Y : Type 0} (f : X → Y) (o : Option X) → is_some (option_map f o) ≡ is_some o
 is_some-map f None = refl
 is_some-map f (Some v) = refl
 
@@ -89,7 +89,7 @@ watch-fd (v ∷ vs) x w d e = by_test (same v.object x)
     (λ u. not_both (ap is_some ih) (ap (λ n. is_some (by_fd vs n)) (sym (eqb-true v.fd w.fd u)) ∙ d.0))
     (λ u. rw u ih))
 
-unwatched-none : (ws : List Watch) (x : Obj) → is_watching ws x ≡ false → unwatched ws x ≡ ws
+pub unwatched-none : (ws : List Watch) (x : Obj) → is_watching ws x ≡ false → unwatched ws x ≡ ws
 unwatched-none [] x e = refl
 unwatched-none (v ∷ vs) x e = by_test (same v.object x)
     (λ t. let bad : true ≡ false = rw t at e in cc)

@@ -101,17 +101,17 @@ module _ (l : Lane) (F : ℕ → Option ℕ) (xs : List ℕ) (ws : List Watch) (
         (joined : IsLane (record l { nodes = n1 }) xs → has xs x ≡ false → is_there (record l { nodes = n1 }) x ≡ true → IsLane l2 (x ∷ xs))
         (same : (q : ℕ) → watch_at l2.nodes.pairs q ≡ watch_at n1.pairs q) (len : map.len l2.nodes.pairs ≡ map.len n1.pairs)
         (noted : (q : ℕ) → F' q ≡ cond (nat_eq v.fd q) (Some x) (F q)) where
-      now : (q : ℕ) → watch_at l2.nodes.pairs q ≡ cond (nat_eq x q) (Some (watching x v)) (watch_at l.nodes.pairs q)
-      now q = same q ∙ watch-put l.nodes.pairs n1.pairs x (Some v) added q
+      now-added : (q : ℕ) → watch_at l2.nodes.pairs q ≡ cond (nat_eq x q) (Some (watching x v)) (watch_at l.nodes.pairs q)
+      now-added q = same q ∙ watch-put l.nodes.pairs n1.pairs x (Some v) added q
 
       pub keeps-added : Keeps l2 F' (x ∷ xs) (ws ++ watching x v ∷ [])
       keeps-added = record {
         lane = joined
             (same-lane l (record l { nodes = n1 }) xs refl refl (λ q m. sides-put l.nodes.pairs n1.pairs x (Some v) added q (others xs x q (absent new) m)) k.lane)
             (absent new) (ap is_some (watch-put l.nodes.pairs n1.pairs x (Some v) added x) ∙ rw (eqb-self x) refl);
-        held = λ q. ap is_some (now q) ∙ by_test (nat_eq x q) (λ t. rw t refl) (λ t. rw t (k.held q));
+        held = λ q. ap is_some (now-added q) ∙ by_test (nat_eq x q) (λ t. rw t refl) (λ t. rw t (k.held q));
         count = let c = k.count in omega (arith, len, more, c);
-        list = listed-added (watch_at l.nodes.pairs) (watch_at l2.nodes.pairs) xs x (watching x v) (absent new) now ∙ ap (λ us. us ++ watching x v ∷ []) k.list;
+        list = listed-added (watch_at l.nodes.pairs) (watch_at l2.nodes.pairs) xs x (watching x v) (absent new) now-added ∙ ap (λ us. us ++ watching x v ∷ []) k.list;
         holders = holders-added F F' ws k.holders (watching x v) (is-free ws v.fd free) noted;
       }
 
@@ -125,17 +125,17 @@ module _ (l : Lane) (F : ℕ → Option ℕ) (xs : List ℕ) (ws : List Watch) (
       module _ (n2 : Held Node) (F' : ℕ → Option ℕ)
           (taken : (q : ℕ) → map.get n2.pairs q ≡ cond (nat_eq x q) None (map.get l1.nodes.pairs q)) (fewer : map.len n2.pairs ≡ map.len l1.nodes.pairs - 1)
           (noted : (q : ℕ) → F' q ≡ cond (nat_eq v.fd q) None (F q)) where
-        now : (q : ℕ) → watch_at n2.pairs q ≡ cond (nat_eq x q) None (watch_at l.nodes.pairs q)
-        now q = watch-put l1.nodes.pairs n2.pairs x None taken q ∙ ap (cond (nat_eq x q) None) (same q)
+        now-gone : (q : ℕ) → watch_at n2.pairs q ≡ cond (nat_eq x q) None (watch_at l.nodes.pairs q)
+        now-gone q = watch-put l1.nodes.pairs n2.pairs x None taken q ∙ ap (cond (nat_eq x q) None) (same q)
 
         pub keeps-gone : Keeps (record l1 { nodes = n2 }) F' (without xs x) (unwatched ws (numbered x))
         keeps-gone = record {
           lane = same-lane l1 (record l1 { nodes = n2 }) (without xs x) refl refl (λ q m. sides-put l1.nodes.pairs n2.pairs x None taken q (others (without xs x) x q gone m)) left;
-          held = λ q. ap is_some (now q) ∙ by_test (nat_eq x q)
+          held = λ q. ap is_some (now-gone q) ∙ by_test (nat_eq x q)
               (λ t. rw t (sym (ap (has (without xs x)) (sym (eqb-true x q t)) ∙ gone)))
               (λ t. rw t (k.held q ∙ sym (has-without-other xs x q t)));
           count = let c = k.count in let l = length-without xs x (member v found) in omega (arith, len, fewer, c, l);
-          list = listed-same (watch_at l.nodes.pairs) (watch_at n2.pairs) (without xs x) (λ q m. now q ∙ (let t = others (without xs x) x q gone m in rw t refl))
+          list = listed-same (watch_at l.nodes.pairs) (watch_at n2.pairs) (without xs x) (λ q m. now-gone q ∙ (let t = others (without xs x) x q gone m in rw t refl))
               ∙ sym (listed-without (watch_at l.nodes.pairs) (tells l.nodes.pairs) xs x k.lane.distinct) ∙ ap (λ us. unwatched us (numbered x)) k.list;
           holders = holders-gone F F' ws k.holders (numbered x) (watching x v) once-kept (watch-there v found) noted;
         }
@@ -166,15 +166,15 @@ module _ (l : Lane) (F : ℕ → Option ℕ) (xs : List ℕ) (ws : List Watch) (
     module _ (n1 : Held Node) (g : Node → Node) (f : Watch → Watch) (sides : (v : Node) → (g v).sides ≡ v.sides) (watches : (q : ℕ) (v : Node) → watching q (g v) ≡ f (watching q v))
         (fds : (w : Watch) → (f w).fd ≡ w.fd) (objects : (w : Watch) → (f w).object ≡ w.object)
         (changed : (q : ℕ) → map.get n1.pairs q ≡ cond (nat_eq x q) (option_map g (map.get l.nodes.pairs q)) (map.get l.nodes.pairs q)) (len : map.len n1.pairs ≡ map.len l.nodes.pairs) where
-      now : (q : ℕ) → watch_at n1.pairs q ≡ cond (nat_eq x q) (option_map f (watch_at l.nodes.pairs q)) (watch_at l.nodes.pairs q)
-      now q = ap (option_map (watching q)) (changed q) ∙ read-changed (watching q) g f (watches q) (nat_eq x q) (map.get l.nodes.pairs q)
+      now-changed : (q : ℕ) → watch_at n1.pairs q ≡ cond (nat_eq x q) (option_map f (watch_at l.nodes.pairs q)) (watch_at l.nodes.pairs q)
+      now-changed q = ap (option_map (watching q)) (changed q) ∙ read-changed (watching q) g f (watches q) (nat_eq x q) (map.get l.nodes.pairs q)
 
       pub keeps-changed : Keeps (record l { nodes = n1 }) F xs (rewatched f ws (numbered x))
       keeps-changed = record {
         lane = same-lane l (record l { nodes = n1 }) xs refl refl (λ q m. ap (option_map sides_of) (changed q) ∙ read-same sides_of g sides (nat_eq x q) (map.get l.nodes.pairs q)) k.lane;
-        held = λ q. ap is_some (now q) ∙ still (nat_eq x q) (watch_at l.nodes.pairs q) ∙ k.held q;
+        held = λ q. ap is_some (now-changed q) ∙ still (nat_eq x q) (watch_at l.nodes.pairs q) ∙ k.held q;
         count = len ∙ k.count;
-        list = listed-changed (watch_at l.nodes.pairs) (tells l.nodes.pairs) f (watch_at n1.pairs) x xs now ∙ ap (λ us. rewatched f us (numbered x)) k.list;
+        list = listed-changed (watch_at l.nodes.pairs) (tells l.nodes.pairs) f (watch_at n1.pairs) x xs now-changed ∙ ap (λ us. rewatched f us (numbered x)) k.list;
         holders = holders-changed F F ws k.holders f (numbered x) fds objects (λ q. refl);
       }
         where

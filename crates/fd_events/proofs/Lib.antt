@@ -3,3 +3,4 @@ pub mod Holding
 pub mod Listing
 pub mod Keeping
 pub mod Walking
+pub mod Searching

@@ -1,5 +1,5 @@
 -- The rotation, as the nodes and the two ends tell it by the numbers of the events.
-use Rattle.std.specs.Prelude.{◌≡◌, ℕ, Bool, List, [], ◌∷◌, ◌++◌, length, Option, Some, None, is_some, if◌then◌else◌}
+use Rattle.std.specs.Prelude.{◌≡◌, ℕ, Bool, true, List, [], ◌∷◌, ◌++◌, length, Option, Some, None, is_some, if◌then◌else◌}
 use Rattle.std.specs.Option.{option_map}
 use Rattle.std.specs.Ordering.{nat_cmp}
 use Rattle.std.specs.FinMap as map
@@ -36,6 +36,14 @@ watch_at m q = option_map (watching q) (map.get m q)
 -- something is noted under this number
 abbrev pub is_there : Lane → ℕ → Bool
 is_there l q = is_some (watch_at l.nodes.pairs q)
+
+-- ---- single changes of a node
+
+abbrev pub with_flags : ℕ → Node → Node
+with_flags flags v = record v { flags = flags }
+
+abbrev pub with_closing : Node → Node
+with_closing v = record v { closes = true }
 
 -- ---- the list
 

@@ -4,7 +4,7 @@ ghost use Rattle.std.specs.FinMap as map;
 ghost use Rattle.linked_lanes.specs.Lane.{is_at};
 ghost use Rattle.linked_lanes.specs.Chain.{noted};
 ghost use Rattle.linked_lanes.specs.declared.Sides.{Sides as SidesData};
-ghost use Rattle.fd_events.specs.Linked.{sides_at, watch_at, watching};
+ghost use Rattle.fd_events.specs.Linked.{sides_at, watch_at, watching, with_flags, with_closing};
 
 use linked_lanes::{Link, Sides};
 use pool_arena::Arena;
@@ -56,5 +56,27 @@ pub(crate) fn set_sides(nodes: &mut Arena<Node>, x: u64, sides: Sides)
 {
     if let Some(node) = nodes.get_mut(x) {
         node.sides = sides;
+    }
+}
+
+/// An event is watched for something else. Nothing changes where it doesn't watch.
+pub(crate) fn set_flags(nodes: &mut Arena<Node>, x: u64, flags: u32)
+    ensures nodes { (q : ℕ) → map.get nodes.new.pairs q ≡ cond (nat_eq x q) (option_map (with_flags flags) (map.get nodes.old.pairs q)) (map.get nodes.old.pairs q) }
+    ensures len { map.len nodes.new.pairs ≡ map.len nodes.old.pairs }
+    ensures spare { nodes.new.spare ≡ nodes.old.spare }
+{
+    if let Some(node) = nodes.get_mut(x) {
+        node.flags = flags;
+    }
+}
+
+/// The descriptor of an event is closed with it. Nothing changes where it doesn't watch.
+pub(crate) fn set_closing(nodes: &mut Arena<Node>, x: u64)
+    ensures nodes { (q : ℕ) → map.get nodes.new.pairs q ≡ cond (nat_eq x q) (option_map with_closing (map.get nodes.old.pairs q)) (map.get nodes.old.pairs q) }
+    ensures len { map.len nodes.new.pairs ≡ map.len nodes.old.pairs }
+    ensures spare { nodes.new.spare ≡ nodes.old.spare }
+{
+    if let Some(node) = nodes.get_mut(x) {
+        node.closes = true;
     }
 }

@@ -1,7 +1,7 @@
 ghost use Rattle.std.specs.Prelude.{◌≡◌};
 
 use crate::lane::Lane;
-use crate::node::Node;
+use crate::node::{Node, set_closing, set_flags};
 use crate::ready::{ReadyEvent, ready_for};
 use linked_lanes::Sides;
 use pool_arena::Arena;
@@ -144,9 +144,7 @@ impl Ring {
         ensures watches { self.new.watches ≡ rewatched (flagged flags) self.old.watches x }
         ensures spare { self.old.spare ≤ self.new.spare }
     {
-        if let Some(node) = self.lane.nodes.get_mut(x.0) {
-            node.flags = flags;
-        }
+        set_flags(&mut self.lane.nodes, x.0, flags);
     }
 
     /// The descriptor of an event is closed when the event goes (`tevent_fd_set_auto_close`).
@@ -155,9 +153,7 @@ impl Ring {
         ensures watches { self.new.watches ≡ rewatched closing self.old.watches x }
         ensures spare { self.old.spare ≤ self.new.spare }
     {
-        if let Some(node) = self.lane.nodes.get_mut(x.0) {
-            node.closes = true;
-        }
+        set_closing(&mut self.lane.nodes, x.0);
     }
 
     /// What an event is watched for (`tevent_fd_get_flags`). None exactly where it watches nothing.
@@ -233,7 +229,10 @@ impl Ring {
             let Place { watch, next } = self.place(x)?;
             let flags = watch.flags & ready_for(ready, watch.fd);
             if flags != 0 {
-                return Some(ReadyEvent { object: x, flags });
+                return Some(ReadyEvent {
+                    object: watch.object,
+                    flags,
+                });
             }
             at = next;
         }
