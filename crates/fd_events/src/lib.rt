@@ -5,6 +5,8 @@ mod lane;
 mod node;
 mod ready;
 mod ring;
+#[cfg(test)]
+mod tests;
 
 pub use ready::ReadyEvent;
 pub use ring::Ring;
