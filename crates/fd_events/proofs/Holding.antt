@@ -1,5 +1,5 @@
 -- Each event and each descriptor once, and the event of each descriptor, whatever is taken out, added or changed.
-use Rattle.std.proofs.Common.{◌≡◌, ℕ, Bool, true, false, cond, nat_eq, if◌then◌else◌, List, [], ◌∷◌, ◌++◌, map, Option, Some, None, is_some, refl, sym, ap, subst, ◌∙◌}
+use Rattle.std.proofs.Common.{◌≡◌, ℕ, Bool, true, false, cond, nat_eq, if◌then◌else◌, List, [], ◌∷◌, ◌++◌, map, Option, Some, None, is_some, refl, sym, ap, ◌∙◌}
 use Rattle.std.specs.Prelude.{not}
 use Rattle.std.specs.List.{find, filter}
 use Rattle.std.specs.Option.{option_map, option_or}
@@ -8,11 +8,11 @@ use Rattle.std.proofs.lemmas.List.Folds.{find-append}
 use Rattle.tree_specs.specs.declared.object.Obj.{Obj}
 use Rattle.tree_specs.specs.declared.watch.Watch.{Watch}
 use Rattle.tree_specs.specs.Words.Objects.{same}
-use Rattle.tree_specs.specs.Events.Rotation.{watch_of, is_watching, holder_of, is_watched, unwatched, rewatched}
+use Rattle.tree_specs.specs.Events.Rotation.{watch_of, is_watching, is_watched, unwatched, rewatched}
 use Rattle.tree_specs.proofs.Tree.Numbered.{same-true}
 use Rattle.linked_lanes.proofs.Lanes.{by_test, not_both, false_by, eqb-self, eqb-sym}
 use Rattle.fd_events.specs.Rotation.{AreOnceBy, AreEventsOnce, AreDescriptorsOnce}
-use Rattle.fd_events.specs.Linked.{numbered, listed_one, AreHolders}
+use Rattle.fd_events.specs.Linked.{numbered, AreHolders}
 
 pub is_some-map : {X Y : Type 0} (f : X → Y) (o : Option X) → is_some (option_map f o) ≡ is_some o
 is_some-map f None = refl
@@ -114,9 +114,6 @@ gone-fd (v ∷ vs) x w a d e g = by_test (same v.object x)
 -- ---- the event of each descriptor
 
 -- a descriptor is free
-abbrev free : List Watch → ℕ → Type 0
-free ws fd = is_some (by_fd ws fd) ≡ false
-
 pub is-free : (ws : List Watch) (fd : ℕ) → is_watched ws fd ≡ false → is_some (by_fd ws fd) ≡ false
 is-free ws fd e = sym (is_some-map object_of (by_fd ws fd)) ∙ e
 

@@ -7,7 +7,6 @@ use Rattle.std.specs.FinMap as map
 use Rattle.pool_arena.specs.Arena.{Held}
 use Rattle.tree_specs.specs.declared.watch.Watch.{Watch}
 use Rattle.tree_specs.specs.Events.Rotation.{watch_of, is_watching, is_watched, unwatched, rewatched, turned_back, behind_all}
-use Rattle.linked_lanes.specs.declared.Sides.{Sides}
 use Rattle.linked_lanes.specs.Lane.{has, without}
 use Rattle.linked_lanes.specs.Chain.{Chain, sides_in}
 use Rattle.linked_lanes.proofs.Lanes.{by_test, eqb-self, has-without-other, has-without-same, length-without}
@@ -19,7 +18,7 @@ use Rattle.fd_events.specs.Rotation.{AreEventsOnce}
 use Rattle.fd_events.specs.Linked.{numbered, sides_of, sides_at, watch_at, watching, is_there, listed_one, listed, numbers_in, watches_in, IsLane, AreHolders, IsLinked}
 use Rattle.fd_events.proofs.Nodes.{tells, sides-put, watch-put, read-changed, read-same}
 use Rattle.fd_events.proofs.Holding.{holders-added, holders-gone, holders-changed, holders-turned, is-free}
-use Rattle.fd_events.proofs.Listing.{others, behind, listed-same, listed-added, listed-watch, listed-without, listed-changed, listed-once, listed-length}
+use Rattle.fd_events.proofs.Listing.{others, listed-same, listed-added, listed-watch, listed-without, listed-changed, listed-once, listed-length}
 
 -- the fields keep this lane and this list
 pub record Keeps (l : Lane) (F : ℕ → Option ℕ) (xs : List ℕ) (ws : List Watch) : Type 0 where

@@ -1,5 +1,5 @@
 -- The walk over the rotation, from the oldest on.
-use Rattle.std.proofs.Common.{◌≡◌, ℕ, suc, ◌≤◌, ◌<◌, true, false, nat_eq, List, [], ◌∷◌, ◌++◌, length, Option, Some, None, is_some, slice_get, refl, sym, ap, ◌∙◌, arith, append_assoc}
+use Rattle.std.proofs.Common.{◌≡◌, ℕ, ◌≤◌, true, false, nat_eq, List, [], ◌∷◌, ◌++◌, length, Option, Some, None, is_some, slice_get, refl, sym, ap, ◌∙◌, arith, append_assoc}
 use Rattle.std.specs.Option.{option_map}
 use Rattle.std.proofs.lemmas.Bool.{eqb-true}
 use Rattle.std.proofs.lemmas.List.{append-nil}
@@ -94,6 +94,3 @@ first-there (w ∷ ws) x e = by_test (same w.object x)
     (λ t. rw t refl)
     (λ t. let e' : from_on ws (Some x) ≡ w ∷ ws = rw t at e in
     let l = ap length e' in let s = from-shorter ws x in absurd (omega (arith, l, s)))
-
-pub none-first : (ws : List Watch) (o : Option Obj) → o ≡ None → from_on ws o ≡ ws → slice_get ws 0 ≡ None
-none-first ws o n e = let is : ws ≡ [] = sym e ∙ ap (from_on ws) n in ap (λ us. slice_get us 0) is

@@ -1,4 +1,7 @@
-ghost use Rattle.std.specs.Prelude.{◌≡◌};
+ghost use Rattle.std.specs.Prelude.{◌≡◌, ◌++◌, ◌∷◌, [], OnOk};
+ghost use Rattle.std.specs.Option.{option_map};
+ghost use Rattle.tree_specs.specs.Events.Rotation.{wanted_of};
+ghost use Rattle.fd_events.specs.Linked.{numbered};
 
 use crate::lane::Lane;
 use crate::node::{Node, set_closing, set_flags};
@@ -61,11 +64,6 @@ fn push_want(out: &mut Vec<Want>, watch: Watch) -> Result<(), Memory>
     Ok(())
 }
 
-ghost use Rattle.std.specs.Prelude.{◌++◌, ◌∷◌, [], OnOk};
-ghost use Rattle.std.specs.Option.{option_map};
-ghost use Rattle.tree_specs.specs.Events.Rotation.{wanted_of};
-ghost use Rattle.fd_events.specs.Linked.{numbered};
-
 impl Ring {
     ghost use Rattle.std.specs.Prelude.{◌+◌, ◌<◌, ◌≤◌, ◌↔◌, IsTrue, OnErr, length, slice_get, true, false};
     ghost use Rattle.tree_specs.specs.Events.Rotation.{watch_of, is_watching, flags_of, holder_of, is_watched, watched, unwatched, rewatched, flagged, closing, turned_back, first_ready};
@@ -125,7 +123,7 @@ impl Ring {
         self.lane.join(x.0);
     }
 
-    /// An event watches no longer, and it is given how it watched. None exactly where it watched nothing.
+    /// An event watches no longer. Gives how it watched, and None exactly where it watched nothing.
     pub fn remove(&mut self, x: Obj) -> Option<Watch>
         ensures watch { result ≡ watch_of self.old.watches x }
         ensures watches { self.new.watches ≡ unwatched self.old.watches x }

@@ -1,4 +1,4 @@
-use Rattle.std.proofs.Common.{◌≢◌, ◌<◌, ◌≤◌, false, length, get_or, ltb, sym, ap, arith, rules}
+use Rattle.std.proofs.Common.{◌≢◌, ◌≤◌, false, get_or, ltb, ap, arith, rules}
 use Rattle.std.proofs.lemmas.Bool.{ltb-true, ltb-false}
 use Rattle.std.proofs.lemmas.List.Sorted.{IsPartitionPoint-from_clause, IsPartitionedBy-ltb}
 use Rattle.std.specs.List.Sorted.{IsPartitionPoint}

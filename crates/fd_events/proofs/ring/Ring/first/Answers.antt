@@ -1,5 +1,5 @@
-use Rattle.std.proofs.Common.{Some, sym, ap, subst, ◌∙◌}
-use Rattle.fd_events.proofs.Walking.{first-there, none-first}
+use Rattle.std.proofs.Common.{◌∙◌}
+use Rattle.fd_events.proofs.Walking.{first-there}
 use Rattle.fd_events.proofs.ring.Ring.first.Goals as goal
 
 pub returns : goal.returns

@@ -1,8 +1,7 @@
-use Rattle.std.proofs.Common.{◌≡◌, Some, None, ◌∷◌, [], refl, sym, ap, subst, ◌∙◌}
+use Rattle.std.proofs.Common.{◌≡◌, Some, ◌∷◌, [], refl, sym, ap, subst, ◌∙◌}
 use Rattle.std.specs.Option.{option_map}
 use Rattle.linked_lanes.specs.Lane.{before}
 use Rattle.linked_lanes.specs.declared.Sides.{Sides}
-use Rattle.tree_specs.specs.declared.watch.Watch.{Watch}
 use Rattle.fd_events.specs.Rotation.{Rotation}
 use Rattle.fd_events.specs.Linked.{numbered, watching, watch_at, from_on, IsPlace, numbers_in, watches_in}
 use Rattle.fd_events.proofs.Nodes.{tells}
