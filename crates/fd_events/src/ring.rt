@@ -65,7 +65,7 @@ fn push_want(out: &mut Vec<Want>, watch: Watch) -> Result<(), Memory>
 }
 
 impl Ring {
-    ghost use Rattle.std.specs.Prelude.{◌+◌, ◌<◌, ◌≤◌, ◌↔◌, IsTrue, OnErr, length, slice_get, true, false};
+    ghost use Rattle.std.specs.Prelude.{◌+◌, ◌<◌, ◌≤◌, ◌↔◌, IsTrue, OnErr, length, slice_get, false};
     ghost use Rattle.tree_specs.specs.Events.Rotation.{watch_of, is_watching, flags_of, holder_of, is_watched, watched, unwatched, rewatched, flagged, closing, turned_back, first_ready};
     ghost use Rattle.fd_events.specs.Rotation.{AreEventsOnce, AreDescriptorsOnce, ready_event};
     ghost use Rattle.fd_events.specs.Linked.{from_on, IsPlace};

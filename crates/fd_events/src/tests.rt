@@ -31,9 +31,7 @@ fn set_flags(ring: &mut Ring, x: u64, flags: u32) -> bool
     ensures { ring.old.spare ≤ ring.new.spare }
 {
     let watching = ring.flags(Obj(x)).is_some();
-    if watching {
-        ring.set_flags(Obj(x), flags);
-    }
+    ring.set_flags(Obj(x), flags);
     watching
 }
 
@@ -42,9 +40,7 @@ fn set_closing(ring: &mut Ring, x: u64) -> bool
     ensures { ring.old.spare ≤ ring.new.spare }
 {
     let watching = ring.flags(Obj(x)).is_some();
-    if watching {
-        ring.set_closing(Obj(x));
-    }
+    ring.set_closing(Obj(x));
     watching
 }
 

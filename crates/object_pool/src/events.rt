@@ -1,5 +1,5 @@
 //! What is to come, and what runs then.
-ghost use Rattle.std.specs.Prelude.{◌≡◌, ◌+◌, ◌≤◌, ◌<◌, true, false, IfSome};
+ghost use Rattle.std.specs.Prelude.{◌≡◌, ◌+◌, ◌<◌, false, IfSome};
 ghost use Rattle.std.specs.FinMap as map;
 
 use loop_core::{Loop, Pick};
@@ -49,7 +49,7 @@ fn count(soon: usize, times: usize, ring: usize) -> Option<usize>
 
 #[tactic(auto, using(crate::proofs::NumberMaps::none_listed, crate::proofs::NumberMaps::put_listed, crate::proofs::NumberMaps::removed_listed, crate::proofs::NumberMaps::found_listed))]
 impl Events {
-    ghost use Rattle.std.specs.Prelude.{◌^◌, IfOk, OnOk, OnErr, [], length};
+    ghost use Rattle.std.specs.Prelude.{◌^◌, IfOk, OnOk, OnErr, []};
     ghost use Rattle.tree_specs.specs.Events.Pending.{disarmed, is_numbered};
     ghost use Rattle.tree_specs.specs.Events.Handlers.{handler_of};
     ghost use Rattle.tree_specs.specs.Events.Rotation.{is_watching, is_watched, flags_of, flagged, closing, turned_back, closes_with, wanted_of};

@@ -27,7 +27,7 @@ pub struct ObjectPool {
     refs: Refs,
     sums: Sums,
     events: Events,
-    /// The memory for one more reference, one more limit and one more event that is to come is taken.
+    /// The memory for one more reference, one more limit, one more event that is to come and one more descriptor is taken.
     places: bool,
     /// The memory for one call is taken.
     ready: bool,
@@ -47,26 +47,19 @@ impl Model for ObjectPool {
 }
 
 impl ObjectPool {
-    ghost use Rattle.std.specs.Prelude.{◌≡◌, ℕ, ◌^◌, ◌-◌, ◌<◌, ◌∷◌, [], true, false, None, ◌&&◌, IfOk, OnOk, OnErr, is_some, length, slice_get};
+    ghost use Rattle.std.specs.Prelude.{◌≡◌, ◌^◌, ◌-◌, ◌<◌, [], true, false, None, ◌&&◌, IfOk, OnOk, OnErr, length};
     ghost use Rattle.std.specs.Option.{option_copied};
     ghost use Rattle.tree_specs.specs.declared.object.Owner.TheVariants.{Of as At};
-    ghost use Rattle.tree_specs.specs.declared.frame.FreeFrame.TheVariants.{Unlinking, Beginning, Looping};
-    ghost use Rattle.tree_specs.specs.declared.frame.Purpose.TheVariants.{Emptying};
-    ghost use Rattle.tree_specs.specs.Tree.Pool.{empty, row_of, is_row, is_owner, is_below, is_inside as is_inside_of, owner_of, target_at, newest_ref_of, add as added, place as placed, rename as renamed, set_hook as hooked, set_size as sized, set_limit as limited};
+    ghost use Rattle.tree_specs.specs.Tree.Pool.{empty, row_of, is_row, is_owner, is_below, is_inside as is_inside_of, owner_of, newest_ref_of, add as added, place as placed, rename as renamed, set_hook as hooked, set_size as sized, set_limit as limited};
     ghost use Rattle.tree_specs.specs.Tree.Targets.{newest_ref, target_of};
     ghost use Rattle.tree_specs.specs.Calls.Plans.{refer as referred, reparented};
     ghost use Rattle.tree_specs.specs.Calls.Refusals.{checked, row_limit, size_limit, is_plain_row, fits as fitting};
     ghost use Rattle.tree_specs.specs.Tree.Sums.{size_at, sum_inside};
     ghost use Rattle.tree_specs.specs.Tree.Reports.{report, count_refs};
     ghost use Rattle.tree_specs.specs.Tree.Inside.{size_inside, count_inside};
-    ghost use Rattle.tree_links.specs.Links.{IsTree, MayPlace};
+    ghost use Rattle.tree_links.specs.Links.{MayPlace};
     ghost use Rattle.references.specs.Rows.{RefersTo};
-    ghost use Rattle.destructors.specs.Frees.{next_of, is_event, returned, speaking, Begins, Steps};
-    ghost use Rattle.destructors.specs.Works.{IsAtWork, IsAwaiting, GoesOn};
-    ghost use Rattle.destructors.specs.Moves.{IsLiveRow};
-    ghost use Rattle.destructors.specs.Engine.{IsAsked};
-    ghost use Rattle.tree_specs.specs.Machine.Table.{event_of};
-    ghost use Rattle.object_pool.specs.Objects.{frees_in, LeavesRest, RefsMayGo};
+    ghost use Rattle.object_pool.specs.Objects.{RefsMayGo};
 
     /// No objects, of which the first gets the number `first`; the listener's descriptor 0 is open alone.
     pub fn new(alloc: Global, first: u64) -> Result<ObjectPool, Memory>

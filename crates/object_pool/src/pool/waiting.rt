@@ -1,5 +1,5 @@
 //! Events that wait for their turn.
-ghost use Rattle.std.specs.Prelude.{◌≡◌, ◌+◌, ◌-◌, ◌^◌, ◌<◌, true, false, codes, length};
+ghost use Rattle.std.specs.Prelude.{◌≡◌, ◌+◌, ◌-◌, ◌^◌, ◌<◌, true, false, length};
 ghost use Rattle.tree_specs.specs.declared.kind.Kind.TheVariants.{Timer};
 ghost use Rattle.tree_specs.specs.Tree.Pool.{is_owner, set_handler as handled, schedule as scheduled, unschedule as unscheduled};
 ghost use Rattle.tree_specs.specs.Calls.Refusals.{row_limit};
