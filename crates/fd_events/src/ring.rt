@@ -138,18 +138,18 @@ impl Ring {
         Some(node.watch(x))
     }
 
-    /// An event is watched for something else (`tevent_fd_set_flags`), and keeps its place.
+    /// An event is watched for something else (`tevent_fd_set_flags`), and keeps its place. Nothing changes where it watches
+    /// nothing.
     pub fn set_flags(&mut self, x: Obj, flags: u32)
-        requires { is_watching self.old.watches x ≡ true }
         ensures watches { self.new.watches ≡ rewatched (flagged flags) self.old.watches x }
         ensures spare { self.old.spare ≤ self.new.spare }
     {
         set_flags(&mut self.lane.nodes, x.0, flags);
     }
 
-    /// The descriptor of an event is closed when the event goes (`tevent_fd_set_auto_close`).
+    /// The descriptor of an event is closed when the event goes (`tevent_fd_set_auto_close`). Nothing changes where it
+    /// watches nothing.
     pub fn set_closing(&mut self, x: Obj)
-        requires { is_watching self.old.watches x ≡ true }
         ensures watches { self.new.watches ≡ rewatched closing self.old.watches x }
         ensures spare { self.old.spare ≤ self.new.spare }
     {

@@ -29,14 +29,14 @@ impl Model for Events {
     ghost view = { λ e. record { upcoming = record { soon = e.order.soon.objects; times = e.order.times.dues; ring = e.order.ring.watches; descriptors = entries e.descriptors.pairs; handlers = entries e.handlers.pairs }; soon_spare = e.order.soon.spare; times_spare = e.order.times.spare; ring_spare = e.order.ring.spare; descriptors_spare = e.descriptors.spare; handlers_spare = e.handlers.spare } };
 }
 
-/// An event gets a handler, in place of the one that it had.
-fn set_handler(handlers: &mut Arena<Handler>, x: Obj, handler: Handler)
-    requires { 0 < handlers.old.spare }
-    ensures { handlers.new.pairs ≡ map.insert handlers.old.pairs x.0 handler }
+/// This is kept under a number, in place of what was kept there.
+fn put<T: Copy>(kept: &mut Arena<T>, number: u64, value: T)
+    requires { 0 < kept.old.spare }
+    ensures { kept.new.pairs ≡ map.insert kept.old.pairs number value }
 {
-    match handlers.get_mut(x.0) {
-        Some(present) => *present = handler,
-        None => handlers.add(x.0, handler),
+    match kept.get_mut(number) {
+        Some(present) => *present = value,
+        None => kept.add(number, value),
     }
 }
 
@@ -47,18 +47,7 @@ fn count(soon: usize, times: usize, ring: usize) -> Option<usize>
     soon.checked_add(times)?.checked_add(ring)
 }
 
-/// A descriptor is open from now on, where it wasn't.
-fn open(descriptors: &mut Arena<()>, fd: u32)
-    requires { 0 < descriptors.old.spare }
-    ensures { descriptors.new.pairs ≡ map.insert descriptors.old.pairs fd tt }
-{
-    let fd = u64::from(fd);
-    if descriptors.get(fd).is_none() {
-        descriptors.add(fd, ());
-    }
-}
-
-#[tactic(auto, using(crate::proofs::HandlerMaps::none_listed, crate::proofs::HandlerMaps::put_listed, crate::proofs::HandlerMaps::removed_listed, crate::proofs::HandlerMaps::found_listed))]
+#[tactic(auto, using(crate::proofs::NumberMaps::none_listed, crate::proofs::NumberMaps::put_listed, crate::proofs::NumberMaps::removed_listed, crate::proofs::NumberMaps::found_listed))]
 impl Events {
     ghost use Rattle.std.specs.Prelude.{◌^◌, IfOk, OnOk, OnErr, [], length};
     ghost use Rattle.tree_specs.specs.Events.Pending.{disarmed, is_numbered};
@@ -76,7 +65,7 @@ impl Events {
     {
         let mut descriptors = Arena::new(alloc);
         descriptors.reserve(1)?;
-        open(&mut descriptors, 0);
+        put(&mut descriptors, 0, ());
         Ok(Events {
             order: Loop::new(alloc),
             handlers: Arena::new(alloc),
@@ -107,7 +96,7 @@ impl Events {
         requires { HasPlace self.old }
         ensures { self.new.upcoming ≡ soon_with x handler self.old.upcoming }
     {
-        set_handler(&mut self.handlers, x, handler);
+        put(&mut self.handlers, x.0, handler);
         self.order.soon.push(x);
     }
 
@@ -125,7 +114,7 @@ impl Events {
         requires number { is_numbered (disarmed self.old.upcoming.times x) x.0 ≡ false }
         ensures { self.new.upcoming ≡ timed_with x time handler self.old.upcoming }
     {
-        set_handler(&mut self.handlers, x, handler);
+        put(&mut self.handlers, x.0, handler);
         self.order.times.arm(x, time, x.0);
     }
 
@@ -136,7 +125,7 @@ impl Events {
         requires descriptor { is_watched self.old.upcoming.ring fd ≡ false }
         ensures { self.new.upcoming ≡ watching_with x fd flags handler self.old.upcoming }
     {
-        set_handler(&mut self.handlers, x, handler);
+        put(&mut self.handlers, x.0, handler);
         self.order.ring.add(x, fd, flags);
     }
 
@@ -199,7 +188,7 @@ impl Events {
         requires { HasPlace self.old }
         ensures { self.new.upcoming ≡ with_open fd self.old.upcoming }
     {
-        open(&mut self.descriptors, fd);
+        put(&mut self.descriptors, u64::from(fd), ());
     }
 
     /// A descriptor is open no more.

@@ -72,12 +72,13 @@ impl ObjectPool {
     pub fn new(alloc: Global, first: u64) -> Result<ObjectPool, Memory>
         ensures { IfOk result (λ objects. objects ≡ record { pool = empty first; works = []; ready = false }) }
     {
+        let events = Events::new(alloc)?;
         Ok(ObjectPool {
             engine: FreeEngine::new(),
             tree: Tree::new(alloc, first),
             refs: Refs::new(alloc),
             sums: Sums::new(alloc),
-            events: Events::new(alloc)?,
+            events,
             places: false,
             ready: false,
         })

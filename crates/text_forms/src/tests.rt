@@ -3,6 +3,8 @@ use std::fmt::InlineText;
 use std::test::Fail;
 use tree_specs::{Call, Name, Owner, ReportRow, RowKind};
 
+mod descriptors;
+
 #[test]
 fn reads_numbers(rt: HostRuntime) {
     let cases = [
@@ -39,6 +41,20 @@ fn reads_times(rt: HostRuntime) {
     assert_eq!(rt; read_time(limit), Some(4_611_686_018_427_387_904));
     assert_eq!(rt; read_time(b"4611686018427387905"), None);
     assert_eq!(rt; read_time(b"01"), None);
+}
+
+#[test]
+fn reads_numbers_from_1(rt: HostRuntime) {
+    assert_eq!(rt; read_positive(b"0"), None);
+    assert_eq!(rt; read_positive(b"1"), Some(1));
+    assert_eq!(rt; read_positive(b"4294967295"), Some(4_294_967_295));
+    assert_eq!(rt; read_positive(b"4294967296"), None);
+    assert_eq!(rt; read_positive(b"01"), None);
+    assert_eq!(rt; read_length(b"0"), None);
+    assert_eq!(rt; read_length(b"1"), Some(1));
+    assert_eq!(rt; read_length(b"65536"), Some(65_536));
+    assert_eq!(rt; read_length(b"65537"), None);
+    assert_eq!(rt; read_length(b"065"), None);
 }
 
 #[test]

@@ -25,6 +25,7 @@ pub struct Progress {
 }
 
 /// The event that is told of a step of a free which has closed this descriptor, or none.
+#[tactic(auto, using(crate::proofs::Announcing::closed_told))]
 fn event(step: FreeStep, closed: Option<u32>) -> Option<Event>
     ensures { (ring : List WatchData) → closed ≡ closed_of ring step → result ≡ event_of ring step }
 {

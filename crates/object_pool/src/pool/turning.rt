@@ -2,7 +2,7 @@
 ghost use Rattle.std.specs.Prelude.{◌≡◌, true, false};
 ghost use Rattle.tree_specs.specs.declared.row.Mark.TheVariants.{Quiet};
 ghost use Rattle.tree_specs.specs.Tree.Pool.{is_row, is_dying, set_mark as marked};
-ghost use Rattle.tree_specs.specs.Events.Coming.{begun, comes_as, is_once, handler_for, goes_after};
+ghost use Rattle.tree_specs.specs.Events.Coming.{rotated, begun, comes_as, is_once, handler_for, goes_after};
 ghost use Rattle.tree_specs.specs.Calls.Refusals.{is_doomed_mark};
 ghost use Rattle.loop_core.specs.Picks.{begin_pick, clock_pick, ready_pick};
 ghost use Rattle.object_pool.specs.Upcoming.{pool_picked, started};
@@ -74,15 +74,22 @@ impl ObjectPool {
         self.events.handler(x)
     }
 
+    /// An event comes: one on a descriptor is looked at after all others the next time.
+    fn rotate(&mut self, what: What, x: Obj)
+        ensures { self.new ≡ record self.old { pool = rotated what x self.old.pool } }
+    {
+        if let What::Descriptor = what {
+            self.events.turn_back(x);
+        }
+    }
+
     /// A handler starts: its event is busy from now on, and one on a descriptor is looked at after all others the next time.
     fn begin(&mut self, what: What, x: Obj)
         requires is { is_row self.old.pool.rows x ≡ true }
         requires live { is_dying self.old.pool.rows x ≡ false }
         ensures { self.new ≡ record self.old { pool = begun what x self.old.pool } }
     {
-        if let What::Descriptor = what {
-            self.events.turn_back(x);
-        }
+        self.rotate(what, x);
         self.tree.set_mark(x, Mark::Busy);
     }
 
