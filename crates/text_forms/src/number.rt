@@ -68,8 +68,8 @@ pub fn read_number(text: &[u8]) -> Option<u64>
     number_value(text)
 }
 
-/// The number that the text spells, from 0 to 4,294,967,295: what a routine returns, or a descriptor. It
-/// is in decimal digits with no leading zero. None exactly where the text spells no such number.
+/// The number that the text spells, from 0 to 4,294,967,295: a descriptor, or what a routine returns. It is
+/// in decimal digits with no leading zero. None exactly where the text spells no such number.
 #[tactic(auto, using(crate::proofs::Fields::numeral_is_read), unfolding(tree_specs::specs::Texts::Grammar::numeral_of))]
 pub fn read_u32(text: &[u8]) -> Option<u32>
     ensures { ReadsNumeral result Number32 text.now }
@@ -77,7 +77,8 @@ pub fn read_u32(text: &[u8]) -> Option<u32>
     as_u32(number_value(text)?)
 }
 
-/// The same, from 1 to 4,294,967,295: a descriptor that was accepted.
+/// The number that the text spells, from 1 to 4,294,967,295: a descriptor that was accepted, say. It is in
+/// decimal digits with no leading zero. None exactly where the text spells no such number.
 #[tactic(auto, using(crate::proofs::Fields::numeral_is_read), unfolding(tree_specs::specs::Texts::Grammar::numeral_of))]
 pub fn read_positive(text: &[u8]) -> Option<u32>
     ensures { ReadsNumeral result Positive32 text.now }
@@ -85,7 +86,8 @@ pub fn read_positive(text: &[u8]) -> Option<u32>
     as_positive(number_value(text)?)
 }
 
-/// The same, from 0 to TIME_LIMIT: a time in microseconds.
+/// The time in microseconds that the text spells, from 0 to TIME_LIMIT. It is in decimal digits with no
+/// leading zero. None exactly where the text spells no such time.
 #[tactic(auto, using(crate::proofs::Fields::numeral_is_read), unfolding(tree_specs::specs::Texts::Grammar::numeral_of))]
 pub fn read_time(text: &[u8]) -> Option<u64>
     ensures { ReadsNumeral result Time text.now }
@@ -93,7 +95,8 @@ pub fn read_time(text: &[u8]) -> Option<u64>
     as_time(number_value(text)?)
 }
 
-/// The same, from 1 to OCTETS_LIMIT: how many bytes one read or write passes on.
+/// The number of bytes of one read or write that the text spells, from 1 to OCTETS_LIMIT. It is in decimal
+/// digits with no leading zero. None exactly where the text spells no such number.
 #[tactic(auto, using(crate::proofs::Fields::numeral_is_read), unfolding(tree_specs::specs::Texts::Grammar::numeral_of))]
 pub fn read_length(text: &[u8]) -> Option<u32>
     ensures { ReadsNumeral result Length text.now }
