@@ -10,5 +10,6 @@ pub mod Stepping
 pub mod Answering
 pub mod Reaching
 pub mod Offering
+pub mod Reading
 pub mod Straying
 pub mod Nexts

@@ -1,5 +1,5 @@
 -- The answer to a question of the outside: what is still to do of it, and the reply that it is.
-use Rattle.std.proofs.Common.{◌≡◌, ℕ, Bool, true, false, List, [], ◌∷◌, Option, Some, None, refl, sym, ap, subst}
+use Rattle.std.proofs.Common.{◌≡◌, ℕ, Bool, true, false, List, [], ◌∷◌, Option, Some, None, refl, sym, ◌∙◌, ap, subst}
 use Rattle.std.specs.Prelude.{◌&&◌, not, nat_le, length, is_none, if◌then◌else◌}
 use Rattle.tree_specs.specs.declared.question.Ask.{Ask}
 use Rattle.tree_specs.specs.declared.question.Ask.TheVariants as ask
@@ -32,7 +32,6 @@ use Rattle.host_core.specs.declared.active.Active.{Active}
 use Rattle.host_core.specs.declared.active.Active.TheVariants as active
 use Rattle.host_core.specs.declared.caller.Caller.{Caller}
 use Rattle.host_core.specs.declared.caller.Waiting.{Waiting}
-use Rattle.host_core.specs.declared.owned_reply.OwnedReply.{OwnedReply}
 use Rattle.host_core.specs.declared.parts.Parts.{Parts}
 use Rattle.host_core.specs.declared.reach.Reach.{Reach}
 use Rattle.host_core.specs.declared.short_reply.ShortReply.{ShortReply}
@@ -157,9 +156,8 @@ told-outside r i b old new c fits short h heard e =
     (along-then _ _ _ on' s.0, s.1)
 
 -- and so it is told bytes
-pub told-bytes : (r : Reach) (bytes : List ℕ) (made : OwnedReply) (objects : Objects) (cs : List CallFrame) (ts : List OpenTurn) → is_none (misfit (Some r.question) (input.Got bytes)) ≡ true → made ≡ record { reply = reply.Bytes bytes; copy = remembered r.caller (reply.Bytes bytes) }
-    → IsConsistent (outside_view (outside_given r.question (input.Got bytes)) r.caller objects.works cs ts objects.pool)
-    → TellsSameStory (outside_view (outside_given r.question (input.Got bytes)) r.caller objects.works cs ts objects.pool) (call_view (Telling (remembers r.caller made.copy) made.reply) objects.works cs ts objects.pool)
-told-bytes r bytes made objects cs ts fits e h =
+pub told-bytes : (r : Reach) (bytes : List ℕ) (objects : Objects) (cs : List CallFrame) (ts : List OpenTurn) → is_none (misfit (Some r.question) (input.Got bytes)) ≡ true → IsConsistent (outside_view (outside_given r.question (input.Got bytes)) r.caller objects.works cs ts objects.pool)
+    → TellsSameStory (outside_view (outside_given r.question (input.Got bytes)) r.caller objects.works cs ts objects.pool) (call_view (Telling (remembers r.caller (remembered r.caller (reply.Bytes bytes))) (reply.Bytes bytes)) objects.works cs ts objects.pool)
+told-bytes r bytes objects cs ts fits h =
     let on = (bytes-onward r.caller objects.works cs ts r.question bytes objects.pool (no-reason (misfit (Some r.question) (input.Got bytes)) fits) h).along in
-    rw e (rw (kept r.caller (reply.Bytes bytes)) on)
+    rw (kept r.caller (reply.Bytes bytes)) on

@@ -8,6 +8,7 @@ use Rattle.tree_specs.specs.declared.question.Input.TheVariants as input
 use Rattle.tree_specs.specs.declared.frame.Frame.TheVariants as frame
 use Rattle.tree_specs.specs.declared.frame.Frame.{Frame}
 use Rattle.tree_specs.specs.declared.frame.CallFrame.TheVariants.{Asking}
+use Rattle.tree_specs.specs.declared.frame.FreeFrame.{FreeFrame}
 use Rattle.tree_specs.specs.declared.frame.TurnFrame.{TurnFrame}
 use Rattle.tree_specs.specs.declared.frame.TurnFrame.TheVariants.{Timing, Polling}
 use Rattle.tree_specs.specs.declared.frame.OutsideFrame.TheVariants.{Reaching}
@@ -29,7 +30,7 @@ use Rattle.host_core.specs.declared.reach.Reach.{Reach}
 use Rattle.host_core.specs.Promises.{taken_in, taken_by}
 use Rattle.host_core.specs.Reaches.{IsOutside, outside_view}
 use Rattle.host_core.specs.Turns.{turns_of, turn_asks}
-use Rattle.host_core.specs.Hosts.{view_of, staged, open_at, stack_of, asked_now, BetweenSteps}
+use Rattle.host_core.specs.Hosts.{seen, view_of, staged, open_at, stack_of, asked_now, BetweenSteps}
 use Rattle.host_core.proofs.Calling.{caller-kind}
 use Rattle.host_core.proofs.StepsSilently.{untaken-strays}
 
@@ -50,6 +51,31 @@ taken-asked None p i fd fits e = cc
 taken-asked (Some q) p (input.Took new) fd fits e = cc
 taken-asked _ p _ fd fits e = cc
 
+-- what wasn't asked for isn't taken
+pub not-taken : {A : Type 0} (o asked : Option Ask) (p : Pool) (i : Input) (fd : ℕ) → o ≡ asked → is_none (misfit asked i) ≡ false → taken_by o p i ≡ Some fd → A
+not-taken o asked p i fd same fits e = never (sym (taken-fits o p i fd e) ∙ ap (λ (z : Option Ask). is_none (misfit z i)) same ∙ fits)
+  where
+    never : {A : Type 0} → true ≡ false → A
+    never e = cc
+
+-- a host is seen over its pool
+view-pool : (now : Active) (callers : List Waiting) (turn : Option TurnFrame) (objects : Objects) → (view_of now callers turn objects).pool ≡ objects.pool
+view-pool (active.Caller c) callers turn objects = refl
+view-pool active.Freeing callers turn objects = each objects.works
+  where
+    each : (works : List FreeFrame) → (seen active.Freeing works (stack_of callers) (turns_of turn) objects.pool).pool ≡ objects.pool
+    each [] = refl
+    each (f ∷ fs) = refl
+view-pool (active.Turning t) callers turn objects = refl
+view-pool (active.Reaching r) callers turn objects = refl
+
+pub taken-there : (v : View) (now : Active) (callers : List Waiting) (turn : Option TurnFrame) (objects : Objects) (i : Input) (o : Option ℕ) → view_of now callers turn objects ≡ v → o ≡ taken_in v.pool i → taken_in objects.pool i ≡ o
+taken-there v now callers turn objects i o is e = ap (λ (z : Pool). taken_in z i) (sym (view-pool now callers turn objects) ∙ ap (λ (z : View). z.pool) is) ∙ sym e
+
+pub no-some : {A : Type 0} (o : Option A) → ((x : A) → o ≡ Some x → ⊥) → o ≡ None
+no-some None none = refl
+no-some (Some x) none = absurd (none x refl)
+
 -- ---- it doesn't fit
 
 -- no descriptor that is open is taken
@@ -60,6 +86,7 @@ opens-not false true new fd g e = refl
 
 -- a turn asks for no descriptor
 turn-takes-not : (f : TurnFrame) (new : ℕ) → is_none (misfit (turn_asks f) (input.Took new)) ≡ true → ⊥
+turn-takes-not (Timing again) new fits = cc
 turn-takes-not _ new fits = cc
 
 reach-strays : (r : Reach) (callers : List Waiting) (turn : Option TurnFrame) (objects : Objects) (new fd : ℕ) → IsConsistent (view_of (active.Reaching r) callers turn objects) → is_none (misfit (Some r.question) (input.Took new)) ≡ true

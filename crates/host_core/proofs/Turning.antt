@@ -52,7 +52,7 @@ use Rattle.tree_specs.specs.declared.reply.Refusal.TheVariants as refusal
 use Rattle.host_core.specs.Moves.{telling}
 use Rattle.host_core.specs.Turns.{turns_of, turn_view, turn_asks, turn_given, frame_picked, frame_ready, frame_looked, frame_arrived, pool_arrived, frame_timed, pool_timed, TurnSpeaks, TurnStops, TurnLooks}
 use Rattle.host_core.specs.Reaches.{IsOutside}
-use Rattle.host_core.specs.Hosts.{seen, view_of, view_given, open_at, begins_with, stack_of, is_quiet, turn_begun, asked_now, turn_over, is_turn, IsTurning, StandsAs, StandsWith, IsHandling, PartsReady, TurnReady, BetweenSteps, TellsSameStory, StepsSilently, speaking_view}
+use Rattle.host_core.specs.Hosts.{seen, view_of, view_given, open_at, begins_with, stack_of, is_quiet, turn_begun, asked_now, turn_over, IsTurning, StandsAs, StandsWith, IsHandling, PartsReady, TurnReady, BetweenSteps, TellsSameStory, StepsSilently, speaking_view}
 use Rattle.host_core.proofs.StepsSilently.{stays, along-then, onward-along}
 use Rattle.host_core.proofs.FreeSteps.{silently-along}
 use Rattle.host_core.proofs.TurnSteps.{taking-onward, timed-onward, arrive-along, arrived-stops, closing-onward, handler-waits, handled-onward, rests-onward, clears-onward}

@@ -20,6 +20,7 @@ use crate::parts::Parts;
 use crate::reach::{ask_outside, hear_on};
 use crate::short_reply::ShortReply;
 use crate::turns::{begin_turn, ready_on, return_on, time_on};
+use object_pool::Progress;
 use std::mem;
 use tree_specs::{Act, Ask, Call, FreeReply, FreeStep, Input, Obj, TurnFrame};
 
@@ -135,7 +136,8 @@ fn free_on(parts: &mut Parts) -> Option<Caller>
     ensures onward { StepsSilently (host_view Active.Freeing parts.old) (host_view (at_work result) parts.new) }
     ensures ready { IsBetweenSteps (at_work result) parts.new }
 {
-    match parts.objects.step().step {
+    let Progress { step, .. } = parts.objects.step();
+    match step {
         FreeStep::Ask(x) => Some(Caller::run(x, &parts.objects)),
         FreeStep::Done(answer) => Some(finish(answer, &mut parts.callers, &mut parts.turn)),
         _ => None,

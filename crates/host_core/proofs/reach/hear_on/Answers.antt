@@ -12,3 +12,6 @@ pub heard-reply-requires-clause-short : goal.heard-reply-requires-clause-short
 heard-reply-requires-clause-short c =
     let r = reaching-is c.args.now.now c.requires.reaching in
     short-answer r.0.question c.args.input (subst (λ (z : Active). PartsReady z c.args.parts.now.objects) r.1 c.requires.ready) (ap (λ (z : Active). is_none (misfit (asked_now z) c.args.input)) (sym r.1) ∙ c.requires.fits) c.requires.no_bytes
+
+pub returns-clause-along : goal.returns-clause-along
+returns-clause-along c = ?
