@@ -14,7 +14,7 @@ use Rattle.tree_specs.specs.Tree.Targets.{target_of, newest_ref}
 use Rattle.tree_specs.specs.declared.object.Owner.{Owner}
 use Rattle.tree_specs.specs.Invariants.Sound.{IsLive}
 use Rattle.std.specs.Prelude.{unwrap_or}
-use Rattle.tree_specs.specs.Machine.Table.{free_taken}
+use Rattle.tree_specs.specs.Machine.FreeTable.{free_taken}
 use Rattle.tree_specs.proofs.Tree.Numbered.{by_test}
 use Rattle.tree_links.specs.Links.{Links, pool_of}
 use Rattle.destructors.specs.Moves.{IsLiveRow}

@@ -16,7 +16,7 @@ use Rattle.tree_specs.specs.declared.row.Row.{Row}
 use Rattle.tree_specs.specs.declared.row.Mark.{Mark}
 use Rattle.tree_specs.specs.declared.row.Mark.TheVariants.{Quiet, Asked, Busy, Doomed, Dying}
 use Rattle.tree_specs.specs.Tree.Pool.{Pool, row_of}
-use Rattle.tree_specs.specs.Rules.Story.{hook_moment}
+use Rattle.tree_specs.specs.Rules.Answers.{hook_moment}
 use Rattle.tree_specs.specs.Machine.Profiles.{Phase, free_profile, profile}
 use Rattle.tree_specs.specs.Invariants.Sound.{Sound, Footing, phases, footing, claims, MayWait, IsWaiting, AllWait, FreeRests}
 use Rattle.tree_specs.specs.Invariants.Sound.Footing.{OnCall}

@@ -22,7 +22,7 @@ use Rattle.tree_specs.specs.declared.row.Mark.TheVariants as mark
 use Rattle.tree_specs.specs.Words.Objects.{same}
 use Rattle.tree_specs.specs.Tree.Targets.{newest_ref}
 use Rattle.tree_specs.specs.Tree.Pool.{Pool, row_of, owner_in, is_below, owner_of, target_in, target_at, newest_ref_of, is_inside, first_kid, changed, marked_row, hooked_row}
-use Rattle.tree_specs.specs.Machine.Table.{FreeMove, free_step, begin_step}
+use Rattle.tree_specs.specs.Machine.FreeTable.{FreeMove, free_step, begin_step}
 use Rattle.tree_specs.specs.Invariants.Sound.{claims, IsLive, Shaped, ValidAt, Sound}
 use Rattle.tree_specs.proofs.Tree.Numbered.{by_test, is_below-some}
 use Rattle.tree_specs.proofs.Tree.Referring.{newest-refers, newest-of-refers}

@@ -15,7 +15,7 @@ use Rattle.tree_specs.specs.declared.row.Mark.{Mark}
 use Rattle.tree_specs.specs.declared.row.Mark.TheVariants.{Quiet}
 use Rattle.tree_specs.specs.Tree.Pool.{Pool, row_of, is_below, owner_of, first_kid, target_at, newest_ref_of, is_inside}
 use Rattle.tree_specs.specs.Tree.Targets.{newest_ref}
-use Rattle.tree_specs.specs.Machine.Table.{FreeMove, free_step, begin_step, begin_by, refs_step, unlink_step, release_step, child_step, loop_step}
+use Rattle.tree_specs.specs.Machine.FreeTable.{FreeMove, free_step, begin_step, begin_by, refs_step, unlink_step, release_step, child_step, loop_step}
 use Rattle.tree_specs.proofs.Tree.Numbered.{by_test}
 use Rattle.tree_links.specs.Links.{Links}
 use Rattle.destructors.specs.Room.{work_places}

@@ -25,7 +25,8 @@ use Rattle.tree_specs.specs.Tree.Targets.{newest_ref}
 use Rattle.tree_specs.specs.Words.Objects.{same}
 use Rattle.tree_specs.specs.Tree.Heirs.{heir}
 use Rattle.tree_specs.specs.Tree.Inside.{total}
-use Rattle.tree_specs.specs.Machine.Table.{FreeMove, free_step, begin_step, refs_step, unlink_step, release_step, child_step, loop_step, hand_on_step, caller_resume}
+use Rattle.tree_specs.specs.Machine.FreeTable.{FreeMove, free_step, begin_step, refs_step, unlink_step, release_step, child_step, loop_step, hand_on_step}
+use Rattle.tree_specs.specs.Machine.Table.{caller_resume}
 use Rattle.tree_specs.specs.Invariants.Measure.{below_cost, loop_kids, top_cost, cost}
 use Rattle.tree_specs.specs.Invariants.Sound.{claims, IsLive, Sound}
 use Rattle.tree_specs.specs.Invariants.Consistent.{IsConsistent}

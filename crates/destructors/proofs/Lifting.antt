@@ -14,9 +14,12 @@ use Rattle.tree_specs.specs.declared.free_step.FreeReply.{FreeReply}
 use Rattle.tree_specs.specs.declared.free_step.FreeStep.{FreeStep}
 use Rattle.tree_specs.specs.declared.free_step.FreeStep.TheVariants.{Ask, Done}
 use Rattle.tree_specs.specs.declared.object.Obj.{Obj}
+use Rattle.tree_specs.specs.declared.event.Event.{Event}
+use Rattle.tree_specs.specs.declared.watch.Watch.{Watch}
 use Rattle.tree_specs.specs.Tree.Pool.{Pool}
-use Rattle.tree_specs.specs.Machine.Table.{FreeMove, table, free_step, lifted, caller_resume, turn_resume}
-use Rattle.tree_specs.specs.Rules.Story.{hook_moment}
+use Rattle.tree_specs.specs.Machine.FreeTable.{FreeMove, free_step}
+use Rattle.tree_specs.specs.Machine.Table.{table, event_of, announced, lifted, caller_resume, turn_resume}
+use Rattle.tree_specs.specs.Rules.Answers.{hook_moment}
 use Rattle.destructors.specs.Frees.{OpenFrees, answered, moved, moves}
 use Rattle.destructors.specs.Callers.{OpenTurn, turned, calling, standing, under}
 use Rattle.destructors.specs.Runs.{IsNews}
@@ -77,22 +80,27 @@ module _ (Q : Frame → List Frame → Pool → ℕ → Type 0) (cs : List CallF
       each (c ∷ ds) l = l
   lift-answered a (f ∷ fs) p l = l
 
-  lift-told : (t : FreeStep) (f : FreeFrame) (fs : List FreeFrame) (p : Pool) → IsNews t → Leads table Q (lifted (Do.Emit t f p)) (standing fs cs ts) k → OnTold t (f ∷ fs) p
-  lift-told (Ask x) f fs p n l = absurd n
-  lift-told (Done a) f fs p n l = absurd n
-  lift-told _ f fs p n l = l
+  -- whether an event is told or not
+  lift-announced : (e : Option Event) (f : FreeFrame) (fs : List FreeFrame) (p : Pool) → Leads table Q (announced e f p) (standing fs cs ts) k → OnFree (f ∷ fs) p
+  lift-announced None f fs p l = l
+  lift-announced (Some e) f fs p l = l
 
-  lift-asked : (t : FreeStep) (f : FreeFrame) (fs : List FreeFrame) (p : Pool) → AsksFor t f → Leads table Q (lifted (Do.Wait t f p)) (standing fs cs ts) k → OnTold t (f ∷ fs) p
-  lift-asked (Ask x) (Hooked y g) fs p a l = l
-  lift-asked t f fs p a l = absurd a
+  lift-told : (ring : List Watch) (t : FreeStep) (f : FreeFrame) (fs : List FreeFrame) (p : Pool) → IsNews t → Leads table Q (lifted ring (Do.Emit t f p)) (standing fs cs ts) k → OnTold t (f ∷ fs) p
+  lift-told ring (Ask x) f fs p n l = absurd n
+  lift-told ring (Done a) f fs p n l = absurd n
+  lift-told ring t f fs p n l = lift-announced (event_of ring t) f fs p l
 
-  lift-move : (f : FreeFrame) (fs : List FreeFrame) (p : Pool) (m : FreeMove) → IsMoveOf f p m → Leads table Q (lifted m) (standing fs cs ts) k → OnMove (moved m fs)
+  lift-asked : (ring : List Watch) (t : FreeStep) (f : FreeFrame) (fs : List FreeFrame) (p : Pool) → AsksFor t f → Leads table Q (lifted ring (Do.Wait t f p)) (standing fs cs ts) k → OnTold t (f ∷ fs) p
+  lift-asked ring (Ask x) (Hooked y g) fs p a l = l
+  lift-asked ring t f fs p a l = absurd a
+
+  lift-move : (f : FreeFrame) (fs : List FreeFrame) (p : Pool) (m : FreeMove) → IsMoveOf f p m → Leads table Q (lifted p.ring m) (standing fs cs ts) k → OnMove (moved m fs)
   lift-move f fs p (Do.Done a q) of l = lift-answered a fs q l
   lift-move f fs p (Do.Go g q) of l = l
-  lift-move f fs p (Do.Emit t g q) of l = lift-told t g fs q of l
-  lift-move f fs p (Do.Wait t g q) of l = lift-asked t g fs q (subst (AsksFor t) (sym of.0) of.2) l
+  lift-move f fs p (Do.Emit t g q) of l = lift-told p.ring t g fs q of l
+  lift-move f fs p (Do.Wait t g q) of l = lift-asked p.ring t g fs q (subst (AsksFor t) (sym of.0) of.2) l
   lift-move f fs p (Do.Call g h q) of l = subst (λ (z : List Frame). Q (frame.Free g) z q k) (sym (standing-free h fs cs ts of.1)) l
 
   -- what the step of a host's works leads to, the move of the open frees leads to
-  pub lift : (f : FreeFrame) (fs : List FreeFrame) (p : Pool) → Leads table Q (lifted (free_step f p)) (standing fs cs ts) k → OnMove (moves (f ∷ fs) p)
+  pub lift : (f : FreeFrame) (fs : List FreeFrame) (p : Pool) → Leads table Q (lifted p.ring (free_step f p)) (standing fs cs ts) k → OnMove (moves (f ∷ fs) p)
   lift f fs p l = lift-move f fs p (free_step f p) (is_move f p) l

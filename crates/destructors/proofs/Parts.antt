@@ -19,7 +19,8 @@ use Rattle.tree_specs.specs.Words.Objects.{same}
 use Rattle.tree_specs.specs.Tree.Forest.{Distinct}
 use Rattle.tree_specs.specs.Tree.Inside.{total}
 use Rattle.tree_specs.specs.Tree.Pool.{row_of}
-use Rattle.tree_specs.specs.Rules.Story.{hook_moment}
+use Rattle.tree_specs.specs.Events.Coming.{plainly}
+use Rattle.tree_specs.specs.Rules.Answers.{hook_moment}
 use Rattle.tree_specs.specs.Machine.Profiles.{Phase, InRun, InHandler, InLoop}
 use Rattle.tree_specs.specs.Invariants.Sound.{phases, claim, claims, claim_if}
 use Rattle.tree_specs.specs.Invariants.Consistent.{sizes}
@@ -139,7 +140,7 @@ asked_on x [] = HostCaller
 asked_on x (t ∷ ts) = Routine (hook_moment x 0)
 
 abbrev pub handling : Obj → TurnFrame
-handling x = Handling Immediate x (record { routine = 0; user = 0 }) 0
+handling x = Handling Immediate x (record { routine = 0; user = 0 }) plainly
 
 abbrev pub with_turn : Mark → Obj → List OpenTurn → List OpenTurn
 with_turn Quiet x ts = ts

@@ -14,7 +14,7 @@ use Rattle.tree_specs.specs.declared.row.Mark.{Mark}
 use Rattle.tree_specs.specs.declared.row.Mark.TheVariants.{Quiet, Asked, Busy, Doomed, Dying}
 use Rattle.tree_specs.specs.Tree.Pool.{Pool, marked_row, row_of, is_below, owner_of, first_kid, target_at, newest_ref_of, is_inside}
 use Rattle.tree_specs.specs.Tree.Targets.{newest_ref}
-use Rattle.tree_specs.specs.Machine.Table.{FreeMove, free_step, begin_by, begin_step, refs_step, unlink_step, release_step, child_step, loop_step, hand_on_step, tried_step}
+use Rattle.tree_specs.specs.Machine.FreeTable.{FreeMove, free_step, begin_by, begin_step, refs_step, unlink_step, release_step, child_step, loop_step, hand_on_step, tried_step}
 use Rattle.tree_specs.proofs.Tree.Numbered.{by_test}
 use Rattle.destructors.specs.declared.motion.Outlook.TheVariants.{Ending as Over, Going, Pushing}
 use Rattle.references.specs.Rows.{SameRefs}

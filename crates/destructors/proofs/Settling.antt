@@ -7,7 +7,7 @@ use Rattle.tree_specs.specs.declared.object.Obj.{Obj}
 use Rattle.tree_specs.specs.declared.free_step.FreeReply.{FreeReply}
 use Rattle.tree_specs.specs.declared.free_step.FreeStep.{FreeStep}
 use Rattle.tree_specs.specs.declared.free_step.FreeStep.TheVariants.{Ask, Done}
-use Rattle.tree_specs.specs.Machine.Table.{FreeMove, free_step}
+use Rattle.tree_specs.specs.Machine.FreeTable.{FreeMove, free_step}
 use Rattle.tree_specs.specs.Tree.Pool.{Pool}
 use Rattle.tree_links.specs.Links.{Links, pool_of}
 use Rattle.destructors.specs.Frees.{OpenFrees, before, frees_of, answered, moved, moves, speaks, speaking, Silently, Still, On}

@@ -32,10 +32,12 @@ use Rattle.tree_specs.specs.Rules.Items.{Item}
 use Rattle.tree_specs.specs.Rules.Items.Item.{Told}
 use Rattle.tree_specs.specs.Tree.Pool.{Pool, target_at}
 use Rattle.tree_specs.specs.Tree.Targets.{newest_ref}
-use Rattle.tree_specs.specs.Rules.Story.{hook_moment, items, free, unlink, children}
+use Rattle.tree_specs.specs.Rules.Answers.{hook_moment}
+use Rattle.tree_specs.specs.Rules.Story.{items, free, unlink, children}
 use Rattle.tree_specs.specs.Rules.Sequence.{Scene, CallStart, gives}
 use Rattle.tree_specs.specs.Machine.Meaning.{noted_table, mean, stated}
-use Rattle.tree_specs.specs.Machine.Table.{FreeMove, table, notes, step, resume, free_step, free_resume, freeing_resume, event_of, lifted}
+use Rattle.tree_specs.specs.Machine.FreeTable.{FreeMove, free_step, free_resume}
+use Rattle.tree_specs.specs.Machine.Table.{table, notes, step, resume, freeing_resume, event_of, lifted}
 use Rattle.tree_specs.proofs.Rules.Means.{run-means}
 use Rattle.tree_specs.proofs.Rules.MidStories.{innermost-enough}
 use Rattle.destructors.specs.Frees.{OpenFrees, answered, moved, moves, next_of, speaking, Silently, Still, On, Steps, Begins}
@@ -163,7 +165,7 @@ module _ (below : List FreeFrame) (waits : AwaitsRun below) (a : FreeReply) (q :
 
   -- ---- a step that tells something
 
-  news-back : (s t : OpenFrees) (news : FreeStep) (is : List Input) (told : List Item) → IsNews news → next_of s ≡ (Some news, t) → Ends below t is told a q → Ends below s is (told_of news ++ told) a q
+  news-back : (s t : OpenFrees) (news : FreeStep) (is : List Input) (told : List Item) → IsNews news → next_of s ≡ (Some news, t) → Ends below t is told a q → Ends below s is (told_of s.pool.ring news ++ told) a q
   news-back s t news is told new e h f fs n w = each (free_step f s.pool) refl (is_move f s.pool) (subst (λ (l : List FreeFrame). moves l s.pool ≡ (Some news, t)) w e)
     where
       no-end : (b : FreeReply) → news ≡ Done b → ⊥
@@ -173,21 +175,21 @@ module _ (below : List FreeFrame) (waits : AwaitsRun below) (a : FreeReply) (q :
       no-ask g (Ask x) of d = let bad : IsNews (Ask x) = subst IsNews (sym d) new in bad
       no-ask g _ of d = of
 
-      -- an object's leaving is no event
-      emitted : (m : ℕ) (o : Option Event) (u : FreeStep) (g : FreeFrame) (p : Pool) → event_of u ≡ o → rest table m (frame.Free g) (free_frames fs) p is ≡ Ended (Freed a) q told []
-          → leads table (rest table m) (lifted (Do.Emit u g p)) (free_frames fs) is ≡ Ended (Freed a) q (listed (event_of u) ++ told) []
+      -- where a step closes no descriptor, an object's leaving is no event
+      emitted : (m : ℕ) (o : Option Event) (u : FreeStep) (g : FreeFrame) (p : Pool) → event_of s.pool.ring u ≡ o → rest table m (frame.Free g) (free_frames fs) p is ≡ Ended (Freed a) q told []
+          → leads table (rest table m) (lifted s.pool.ring (Do.Emit u g p)) (free_frames fs) is ≡ Ended (Freed a) q (listed (event_of s.pool.ring u) ++ told) []
       emitted m None u g p k l = rw k l
       emitted m (Some ev) u g p k l = rw k (ap (tell (Told ev)) l)
 
-      each : (m : FreeMove) → free_step f s.pool ≡ m → IsMoveOf f s.pool m → moved m (fs ++ below) ≡ (Some news, t) → EndsBy f fs s.pool is (told_of news ++ told) a q
+      each : (m : FreeMove) → free_step f s.pool ≡ m → IsMoveOf f s.pool m → moved m (fs ++ below) ≡ (Some news, t) → EndsBy f fs s.pool is (told_of s.pool.ring news ++ told) a q
       each (Do.Done b p) k of d = absurd (no-end b (told-over b p fs n t news d).1)
       each (Do.Go g p) k of d = let bad : None ≡ Some news = first-of _ _ _ _ d in cc
       each (Do.Emit u g p) k of d =
           let same : Some u ≡ Some news = first-of _ _ _ _ d in
           let same' : u ≡ news = cc in
           let l = subst (λ (z : OpenFrees). Ends below z is told a q) (sym (second-of _ _ _ _ d)) h g fs n refl in
-          let l' = emitted l.0 (event_of u) u g p refl l.1 in
-          turned l.0 f fs s.pool is a q (told_of news ++ told) (rw k (l' ∙ ap (λ (z : FreeStep). let y : Outcome Answer Pool Input Item = Ended (Freed a) q (told_of z ++ told) [] in y) same'))
+          let l' = emitted l.0 (event_of s.pool.ring u) u g p refl l.1 in
+          turned l.0 f fs s.pool is a q (told_of s.pool.ring news ++ told) (rw k (l' ∙ ap (λ (z : FreeStep). let y : Outcome Answer Pool Input Item = Ended (Freed a) q (told_of s.pool.ring z ++ told) [] in y) same'))
       each (Do.Wait u g p) k of d =
           let same : Some u ≡ Some news = first-of _ _ _ _ d in
           let same' : u ≡ news = cc in

@@ -1,14 +1,20 @@
 -- The open frees, one move after another. The works of all frees stand in one list, the innermost first; each begin stands on the free
 -- whose destructor runs.
-use Rattle.std.specs.Prelude.{◌≡◌, ℕ, Bool, true, false, List, [], ◌∷◌, Option, Some, None, is_some, unwrap_or}
+use Rattle.std.specs.Prelude.{◌≡◌, ℕ, Bool, true, false, ◌&&◌, List, [], ◌∷◌, Option, Some, None, is_some, is_none, unwrap_or}
 use Rattle.step_machine.specs.Machine.{Move as Do}
 use Rattle.tree_specs.specs.declared.frame.FreeFrame.{FreeFrame}
 use Rattle.tree_specs.specs.declared.frame.FreeFrame.TheVariants.{Hooked}
 use Rattle.tree_specs.specs.declared.free_step.FreeReply.{FreeReply}
 use Rattle.tree_specs.specs.declared.free_step.FreeStep.{FreeStep}
-use Rattle.tree_specs.specs.declared.free_step.FreeStep.TheVariants.{Done}
-use Rattle.tree_specs.specs.Tree.Pool.{Pool}
-use Rattle.tree_specs.specs.Machine.Table.{FreeMove, free_step, free_resume, free_taken, event_of}
+use Rattle.tree_specs.specs.declared.free_step.FreeStep.TheVariants.{Doom, Left, Done}
+use Rattle.tree_specs.specs.declared.object.Obj.{Obj}
+use Rattle.tree_specs.specs.declared.watch.Watch.{Watch}
+use Rattle.tree_specs.specs.declared.row.Mark.{Mark}
+use Rattle.tree_specs.specs.declared.row.Mark.TheVariants as mark
+use Rattle.tree_specs.specs.Tree.Targets.{newest_ref}
+use Rattle.tree_specs.specs.Tree.Pool.{Pool, row_of, passes}
+use Rattle.tree_specs.specs.Machine.FreeTable.{FreeMove, free_step, free_resume, free_taken}
+use Rattle.tree_specs.specs.Machine.Table.{event_of}
 use Rattle.tree_links.specs.Links.{Links, pool_of}
 
 pub record OpenFrees : Type 0 where
@@ -45,10 +51,24 @@ moves (f ∷ fs) p = moved (free_step f p) fs
 abbrev pub next_of : OpenFrees → Option FreeStep × OpenFrees
 next_of s = moves s.works s.pool
 
--- what is told is an event of the tree
-abbrev pub is_event : Option FreeStep → Bool
-is_event None = false
-is_event (Some t) = is_some (event_of t)
+-- what is told is an event of the host, by what is watched
+abbrev pub is_event : List Watch → Option FreeStep → Bool
+is_event ring None = false
+is_event ring (Some t) = is_some (event_of ring t)
+
+-- an object to which there is no reference is busy, so that its freeing begins by dooming it
+abbrev pub is_busy_mark : Mark → Bool
+is_busy_mark mark.Busy = true
+is_busy_mark m = false
+
+abbrev pub dooms : Pool → Obj → Bool
+dooms p x = is_none (newest_ref p.rows x) && passes (λ r. is_busy_mark r.mark) (row_of p.rows x)
+
+-- the object that a step lets go of: it leaves its owner, or is to go once its handler is over
+abbrev pub let_go_by : Option FreeStep → Option Obj
+let_go_by (Some (Left x from)) = Some x
+let_go_by (Some (Doom x)) = Some x
+let_go_by told = None
 
 -- the destructor that the innermost free waits for has returned a number
 abbrev pub returned : ℕ → OpenFrees → List FreeFrame

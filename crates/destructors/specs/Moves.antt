@@ -11,7 +11,7 @@ use Rattle.tree_specs.specs.declared.free_step.FreeStep.TheVariants.{Ask}
 use Rattle.tree_specs.specs.declared.row.Mark.TheVariants as mark
 use Rattle.tree_specs.specs.Tree.Pool.{Pool, is_row, is_below, owner_of, target_at, is_dying, set_mark}
 use Rattle.tree_specs.specs.Tree.Heirs.{heir}
-use Rattle.tree_specs.specs.Machine.Table.{FreeMove}
+use Rattle.tree_specs.specs.Machine.FreeTable.{FreeMove}
 use Rattle.tree_links.specs.Links.{MayPlace}
 use Rattle.destructors.specs.declared.motion.Motion.{Motion}
 use Rattle.destructors.specs.declared.motion.Motion.TheVariants.{Ends, Goes, Tells, Asks, Pushes}

@@ -13,13 +13,15 @@ use Rattle.tree_specs.specs.declared.free_step.FreeStep.{FreeStep}
 use Rattle.tree_specs.specs.declared.free_step.FreeStep.TheVariants.{Ask, Done}
 use Rattle.tree_specs.specs.declared.event.Event.{Event}
 use Rattle.tree_specs.specs.declared.object.Obj.{Obj}
+use Rattle.tree_specs.specs.declared.watch.Watch.{Watch}
 use Rattle.tree_specs.specs.declared.question.Ask.TheVariants.{Routine}
 use Rattle.tree_specs.specs.declared.question.Input.{Input}
 use Rattle.tree_specs.specs.Tree.Pool.{Pool}
 use Rattle.tree_specs.specs.Rules.Items.{Item}
 use Rattle.tree_specs.specs.Rules.Items.Item.{Told}
 use Rattle.tree_specs.specs.Rules.Sequence.{Scene}
-use Rattle.tree_specs.specs.Rules.Story.{hook_moment, items}
+use Rattle.tree_specs.specs.Rules.Answers.{hook_moment}
+use Rattle.tree_specs.specs.Rules.Story.{items}
 use Rattle.tree_specs.specs.Machine.Table.{table, event_of}
 use Rattle.destructors.specs.Frees.{OpenFrees, Steps, returned}
 
@@ -33,9 +35,9 @@ abbrev pub listed : Option Event → List Item
 listed None = []
 listed (Some e) = Told e ∷ []
 
--- what a host tells of a step
-abbrev pub told_of : FreeStep → List Item
-told_of told = listed (event_of told)
+-- what a host tells of a step, by what was watched before it
+abbrev pub told_of : List Watch → FreeStep → List Item
+told_of ring told = listed (event_of ring told)
 
 -- the innermost free waits for this destructor of an object
 abbrev pub AwaitsHook : List FreeFrame → Obj → ℕ → Type 0
@@ -55,7 +57,7 @@ told_back v works p = record { works = returned v (record { works = works; pool 
 pub data Drives : OpenFrees → List Input → List Item → FreeReply → Pool → Type 0 where
   Over : (s t : OpenFrees) (a : FreeReply) → Steps s (Done a) t → Drives s [] [] a t.pool
   Tells : (s t : OpenFrees) (told : FreeStep) (is : List Input) (more : List Item) (a : FreeReply) (q : Pool)
-      → IsNews told → Steps s told t → Drives t is more a q → Drives s is (told_of told ++ more) a q
+      → IsNews told → Steps s told t → Drives t is more a q → Drives s is (told_of s.pool.ring told ++ more) a q
   Runs : (s t : OpenFrees) (x : Obj) (h n v : ℕ) (p : Pool) (us is : List Input) (ran more : List Item) (a : FreeReply) (q : Pool)
       → Steps s (Ask x) t → AwaitsHook t.works x h → hook_run n x h t.pool us ≡ Ended (Returned v) p ran []
       → Drives (told_back v t.works p) is more a q → Drives s (us ++ is) (ran ++ more) a q

@@ -2,7 +2,7 @@
 ghost use Rattle.std.specs.Prelude.{◌≡◌, ◌≤◌, Some};
 ghost use Rattle.tree_specs.specs.Tree.Targets.{newest_ref};
 ghost use Rattle.tree_specs.specs.Tree.Pool.{newest_ref_of, remove as removed, noted_owner as noted_owner_of};
-ghost use Rattle.tree_specs.specs.Machine.Table.{drop_step, unlink_step, release_step};
+ghost use Rattle.tree_specs.specs.Machine.FreeTable.{drop_step, unlink_step, release_step};
 ghost use Rattle.tree_links.specs.Links.{pool_of, works_of};
 ghost use Rattle.references.specs.Rows.{AreRefsOf, RefersTo};
 ghost use Rattle.destructors.specs.Moves.{move_of};

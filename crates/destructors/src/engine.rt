@@ -1,15 +1,16 @@
 ghost use Rattle.std.specs.Prelude.{◌≡◌, ◌+◌, ◌≤◌, ◌<◌, Option, length, unwrap_or};
 ghost use Rattle.tree_specs.specs.declared.frame.FreeFrame.{FreeFrame as FreeFrameData};
 ghost use Rattle.tree_specs.specs.Tree.Pool.{Pool as PoolData};
-ghost use Rattle.tree_specs.specs.Machine.Table.{free_taken};
+ghost use Rattle.tree_specs.specs.Machine.FreeTable.{free_taken};
 ghost use Rattle.tree_links.specs.Links.{pool_of};
-ghost use Rattle.destructors.specs.Frees.{before};
+ghost use Rattle.destructors.specs.Frees.{before, dooms};
+ghost use Rattle.references.specs.Rows.{AreRefsOf};
 
 use crate::works::{advance, settle};
 use references::Refs;
 use std::marker::Model;
 use tree_links::Tree;
-use tree_specs::{FreeFrame, FreeStep, Obj, Owner, Purpose};
+use tree_specs::{FreeFrame, FreeStep, Mark, Obj, Owner, Purpose};
 
 /// Frees in progress on a tree and the references in it, as `talloc_free` and `talloc_unlink` go, with the runs of
 /// destructors left to the caller. Begins nest: while a destructor runs, further frees may begin and end. Contracts see
@@ -52,11 +53,19 @@ fn judged(work: FreeFrame, value: u32) -> FreeFrame
     }
 }
 
+/// Whether an object whose freeing begins is to go after its handler, which runs.
+fn is_doomed_now(x: Obj, tree: &Tree, refs: &Refs) -> bool
+    requires { AreRefsOf refs.now.pairs tree.now.rows }
+    ensures { result ≡ dooms (pool_of tree.now) x }
+{
+    refs.newest(tree, x).is_none() && tree.row(x).is_some_and(|row| row.mark == Mark::Busy)
+}
+
 impl FreeEngine {
-    ghost use Rattle.std.specs.Prelude.{true, None, is_some};
+    ghost use Rattle.std.specs.Prelude.{true, None, is_some, []};
     ghost use Rattle.tree_specs.specs.declared.frame.FreeFrame.TheVariants.{Unlinking, Beginning, Looping};
     ghost use Rattle.tree_specs.specs.declared.frame.Purpose.TheVariants.{Emptying};
-    ghost use Rattle.destructors.specs.Frees.{frees_of, next_of, is_event, returned, speaking, Steps};
+    ghost use Rattle.destructors.specs.Frees.{frees_of, next_of, is_event, let_go_by, returned, speaking, Steps};
     ghost use Rattle.destructors.specs.Works.{IsAtWork, IsAwaiting, MayBegin, GoesOn};
     ghost use Rattle.tree_specs.specs.Tree.Targets.{newest_ref};
     ghost use Rattle.tree_specs.specs.Tree.Pool.{target_at};
@@ -147,13 +156,29 @@ impl FreeEngine {
         }
     }
 
-    /// Whether the next step tells an event: a reference is dropped, or an object refuses, accepts, is moved or is gone.
+    /// The object that the next step lets go of: it leaves its owner, or its handler runs and it is to go after it. None
+    /// exactly where the step does neither.
+    pub fn lets_go(&self, tree: &Tree, refs: &Refs) -> Option<Obj>
+        requires refs { AreRefsOf refs.now.pairs tree.now.rows }
+        requires kept { AreKept self.now tree.now }
+        requires settled { speaking (frees_of self.now tree.now) ≡ true }
+        ensures { result ≡ let_go_by (next_of (frees_of self.now tree.now)).0 }
+    {
+        match self.innermost {
+            Some(FreeFrame::Leaving { x, .. }) => Some(x),
+            Some(FreeFrame::Beginning { x }) if is_doomed_now(x, tree, refs) => Some(x),
+            _ => None,
+        }
+    }
+
+    /// Whether the next step tells an event of its own: a reference is dropped, or an object refuses, accepts, is moved or is
+    /// gone. A step that lets go of an object may tell one besides, which isn't looked at here (`lets_go`).
     /// Since it is known that the innermost work tells or asks something, or is over, most works say so themselves.
     pub fn announces(&self, tree: &Tree, refs: &Refs) -> bool
         requires refs { AreRefsOf refs.now.pairs tree.now.rows }
         requires kept { AreKept self.now tree.now }
         requires settled { speaking (frees_of self.now tree.now) ≡ true }
-        ensures { result ≡ is_event (next_of (frees_of self.now tree.now)).0 }
+        ensures { result ≡ is_event [] (next_of (frees_of self.now tree.now)).0 }
     {
         let Some(work) = self.innermost else {
             return false;

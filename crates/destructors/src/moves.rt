@@ -4,7 +4,7 @@ ghost use Rattle.tree_specs.specs.Tree.Pool.{row_of, first_kid, owner_of, target
 ghost use Rattle.tree_specs.specs.Tree.Targets.{newest_ref};
 ghost use Rattle.tree_specs.specs.declared.object.Owner.TheVariants.{Of as below};
 ghost use Rattle.tree_specs.specs.declared.frame.FreeFrame.TheVariants.{Looping as Loops};
-ghost use Rattle.tree_specs.specs.Machine.Table.{free_step, begin_step, begin_quiet, refs_step, unlink_step, release_step, judge_step, last_step, child_step, loop_step, hand_on_step};
+ghost use Rattle.tree_specs.specs.Machine.FreeTable.{free_step, begin_step, begin_quiet, refs_step, unlink_step, release_step, judge_step, last_step, child_step, loop_step, hand_on_step};
 ghost use Rattle.tree_links.specs.Links.{pool_of, works_of, MayPlace};
 ghost use Rattle.references.specs.Rows.{AreRefsOf, SameRefs};
 ghost use Rattle.destructors.specs.Moves.{move_of, outlook_of, IsLiveRow, MayHandOn, MoveRests};

@@ -90,6 +90,12 @@ impl World {
         self.engine.announces(&self.tree, &self.refs)
     }
 
+    fn lets_go(&self) -> Option<Obj>
+        requires { IsFreeing self.now.engine self.now.tree self.now.refs }
+    {
+        self.engine.lets_go(&self.tree, &self.refs)
+    }
+
     // A step that is neither a question nor the end of a free.
     fn event(&mut self, rt: &impl Abort) -> FreeStep
         requires { IsFreeing self.old.engine self.old.tree self.old.refs }

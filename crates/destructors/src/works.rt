@@ -2,7 +2,7 @@
 //! the tree.
 ghost use Rattle.std.specs.Prelude.{◌≡◌, ◌+◌, ◌≤◌, ◌∷◌, true, length, Some, None};
 ghost use Rattle.step_machine.specs.Machine.{Move as Do};
-ghost use Rattle.tree_specs.specs.Machine.Table.{free_resume, free_step};
+ghost use Rattle.tree_specs.specs.Machine.FreeTable.{free_resume, free_step};
 ghost use Rattle.tree_links.specs.Links.{pool_of, works_of};
 ghost use Rattle.references.specs.Rows.{AreRefsOf, SameRefs};
 ghost use Rattle.destructors.specs.Moves.{MoveRests, MayEnter, entered};

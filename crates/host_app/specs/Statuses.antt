@@ -2,7 +2,7 @@
 use Rattle.std.specs.Prelude.{ℕ, List, [], ◌++◌, Result, Ok, Err, codes}
 use Rattle.std.specs.Fmt.{decimal}
 use Rattle.tree_specs.specs.declared.schedule.Reason.{Reason}
-use Rattle.tree_specs.specs.declared.schedule.Reason.TheVariants.{Limit, Form, NotAsked}
+use Rattle.tree_specs.specs.declared.schedule.Reason.TheVariants.{Limit, Form, NotAsked, Token}
 use Rattle.schedule_replay.specs.declared.ran.Ran.{Ran}
 use Rattle.schedule_replay.specs.declared.ran.Ran.TheVariants as rans
 use Rattle.outside.specs.declared.output.PutError.{PutError}
@@ -37,6 +37,7 @@ abbrev pub reason_text : Reason → List ℕ
 reason_text Limit = codes ": limit\n"
 reason_text Form = codes ": form\n"
 reason_text NotAsked = codes ": not asked\n"
+reason_text Token = codes ": token\n"
 
 abbrev pub line_text : ℕ → Reason → List ℕ
 line_text line reason = codes "line " ++ decimal line ++ reason_text reason

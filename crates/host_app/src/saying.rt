@@ -16,6 +16,7 @@ fn reason_bytes(reason: Reason) -> &'static [u8]
         Reason::Limit => b": limit\n",
         Reason::Form => b": form\n",
         Reason::NotAsked => b": not asked\n",
+        Reason::Token => b": token\n",
     }
 }
 

@@ -13,7 +13,9 @@ use Rattle.tree_specs.specs.declared.frame.Frame.TheVariants as frame
 use Rattle.tree_specs.specs.declared.frame.CallFrame.{CallFrame}
 use Rattle.tree_specs.specs.declared.frame.CallFrame.TheVariants.{Asking, Doing, Awaiting, Turning, Returning}
 use Rattle.tree_specs.specs.declared.frame.TurnFrame.{TurnFrame}
-use Rattle.tree_specs.specs.declared.frame.TurnFrame.TheVariants.{Taking, Handling, Clearing, Reading, Closing}
+use Rattle.tree_specs.specs.declared.frame.TurnFrame.TheVariants.{Taking, Handling, Clearing, Closing}
+use Rattle.tree_specs.specs.declared.frame.OutsideFrame.{OutsideFrame}
+use Rattle.tree_specs.specs.declared.frame.OutsideFrame.TheVariants.{Reaching}
 use Rattle.tree_specs.specs.declared.frame.FreeFrame.{FreeFrame}
 use Rattle.tree_specs.specs.declared.frame.FreeFrame.TheVariants.{Unlinking, Beginning, Hooked, Looping}
 use Rattle.tree_specs.specs.declared.frame.Purpose.TheVariants.{Emptying}
@@ -26,9 +28,10 @@ use Rattle.tree_specs.specs.declared.object.Obj.{Obj}
 use Rattle.tree_specs.specs.Tree.Pool.{Pool, row_of}
 use Rattle.tree_specs.specs.Rules.Items.{Item}
 use Rattle.tree_specs.specs.Calls.Refusals.{refusals}
-use Rattle.tree_specs.specs.Rules.Story.{hook_moment}
+use Rattle.tree_specs.specs.Rules.Answers.{hook_moment}
 use Rattle.tree_specs.specs.Invariants.Sound.{HasHook, IsWaiting, claim}
-use Rattle.tree_specs.specs.Machine.Table.{FreeMove, call_step, free_step, turning_step, event_of, caller_resume, turn_resume}
+use Rattle.tree_specs.specs.Machine.FreeTable.{FreeMove, free_step}
+use Rattle.tree_specs.specs.Machine.Table.{call_step, turning_step, event_of, caller_resume, turn_resume}
 use Rattle.tree_specs.specs.Machine.View.{View}
 use Rattle.tree_specs.specs.Machine.Profiles.{profile}
 use Rattle.tree_specs.specs.Invariants.Consistent.{IsStacked, Serves, innermost_size, IsConsistent}
@@ -45,10 +48,11 @@ use Rattle.destructors.proofs.Lifting.{OnTold, OnMove, OnCaller}
 use Rattle.destructors.proofs.Keeping.{told-kept}
 use Rattle.destructors.proofs.Settling.{awaiting-speaks, still, asks-hooked}
 use Rattle.host_core.specs.declared.motion.Motion.{Motion}
-use Rattle.host_core.specs.declared.motion.Motion.TheVariants.{Replies, Warns, Frees, Unlinks, Empties, AsksTime, Turns}
+use Rattle.host_core.specs.declared.motion.Motion.TheVariants.{Replies, Announces, Frees, Unlinks, Empties, Asks, Turns}
 use Rattle.host_core.specs.declared.short_reply.ShortReply.TheVariants as short_reply
 use Rattle.host_core.specs.declared.active.Active.TheVariants as active
-use Rattle.host_core.specs.Moves.{move_of, telling, warning}
+use Rattle.host_core.specs.Moves.{move_of, telling, announcing}
+use Rattle.host_core.specs.Reaches.{outside_view}
 use Rattle.host_core.specs.Hosts.{seen, turn_begun, view_after, speaks, moved, next_of, speaking_view, StepsSilently}
 use Rattle.host_core.proofs.StepsSilently.{onward, onward-along, AfterEvent, after-event, event-along}
 use Rattle.host_core.proofs.FreeSteps.{Comes, comes, events, tells, speaks-events, seen-free, silently-along}
@@ -75,11 +79,11 @@ act-onward q c works cs ts p p' m h e =
 
     each : (m : Motion) → (moved (move_of q m p') (under works cs ts)).1 ≡ view_after q m works cs ts p'
     each (Replies b) = refl
-    each (Warns x b) = refl
+    each (Announces notice b) = refl
     each (Frees x) = ap (λ (l : List Frame). let z : View = record { innermost = frame.Free (Beginning x); below = l; pool = p' } in z) (sym (stands-on (Doing q c) works cs ts (Awaiting q x) cs h.seated))
     each (Unlinks o x) = ap (λ (l : List Frame). let z : View = record { innermost = frame.Free (Unlinking o x); below = l; pool = p' } in z) (sym (stands-on (Doing q c) works cs ts (Awaiting q x) cs h.seated))
     each (Empties x) = ap (λ (l : List Frame). let z : View = record { innermost = frame.Free (Looping x Emptying); below = l; pool = p' } in z) (sym (stands-on (Doing q c) works cs ts (Awaiting q x) cs h.seated))
-    each AsksTime = refl
+    each (Asks outside) = refl
     each Turns = turns q
       where
         turns : (r : AskData) → (moved (turning_step r p') (under works cs ts)).1 ≡ turn_begun r works cs ts p'
@@ -97,6 +101,16 @@ awaited f q x works cs ts p none small seats h =
       light = omega (arith, l, small);
     }
 
+-- the same where the outside is asked
+reached-back : (f : OutsideFrame) (q : AskData) (works : List FreeFrame) (cs : List CallFrame) (ts : List OpenTurn) (p : Pool) → IsConsistent (outside_view f q works cs ts p) → IsConsistent (call_view (Asking q) works cs ts p)
+reached-back f q works cs ts p h =
+    let l = h.light in
+    record {
+      sound = stands (frame.Outside f) (frame.Call (Asking q)) (frame.Call (Turning q) ∷ under works cs ts) (under works cs ts) p (λ y. refl) h.sound.waiting.1 tt h.sound;
+      seated = reseat (frame.Call (Turning q)) (frame.Call (Asking q)) (under works cs ts) (λ z. z) (λ z. z) (λ z. z) (λ z. z) h.seated.1;
+      light = omega (arith, l);
+    }
+
 -- after a call the innermost free awaits its caller
 pub act-awaits : (q : AskData) (c : Call) (works : List FreeFrame) (cs : List CallFrame) (ts : List OpenTurn) (p p' : Pool) (m : Motion) → IsConsistent (call_view (Doing q c) works cs ts p) → move_of q m p' ≡ call_step (refusals p c) q c p
     → IsAwaiting (record { works = works; pool = p' })
@@ -110,11 +124,11 @@ act-awaits q c works cs ts p p' m h e = each m (act-onward q c works cs ts p p' 
 
     each : (m : Motion) → IsConsistent (view_after q m works cs ts p') → IsAwaiting (record { works = works; pool = p' })
     each (Replies b) w = call-alone (telling q b) works cs ts p' w
-    each (Warns x b) w = call-alone (warning q x b) works cs ts p' w
+    each (Announces notice b) w = call-alone (announcing q notice b) works cs ts p' w
     each (Frees x) w = begun (Beginning x) q x (λ y. refl) refl w
     each (Unlinks o x) w = begun (Unlinking o x) q x (λ y. refl) refl w
     each (Empties x) w = begun (Looping x Emptying) q x (λ y. refl) refl w
-    each AsksTime w = turn-alone Reading q works cs ts p' w
+    each (Asks outside) w = call-alone (Asking q) works cs ts p' (reached-back (Reaching outside) q works cs ts p' w)
     each Turns w = turns q w
       where
         turns : (r : AskData) → IsConsistent (turn_begun r works cs ts p') → IsAwaiting (record { works = works; pool = p' })
@@ -141,10 +155,10 @@ first s w = each s.works w
     each (f ∷ fs) w = (f, fs, refl)
 
 -- a free that is at work speaks where its next move tells an event
-pub free-speaks : (s : OpenFrees) (cs : List CallFrame) (ts : List OpenTurn) → IsAtWork s → speaking_view (seen active.Freeing s.works cs ts s.pool) ≡ is_event (moves s.works s.pool).0
+pub free-speaks : (s : OpenFrees) (cs : List CallFrame) (ts : List OpenTurn) → IsAtWork s → speaking_view (seen active.Freeing s.works cs ts s.pool) ≡ is_event s.pool.ring (moves s.works s.pool).0
 free-speaks s cs ts w = each s.works w
   where
-    each : (works : List FreeFrame) → AtWork works s.pool → speaking_view (seen active.Freeing works cs ts s.pool) ≡ is_event (moves works s.pool).0
+    each : (works : List FreeFrame) → AtWork works s.pool → speaking_view (seen active.Freeing works cs ts s.pool) ≡ is_event s.pool.ring (moves works s.pool).0
     each [] w = absurd w
     each (f ∷ fs) w = speaks-events f fs cs ts s.pool
 
@@ -155,21 +169,21 @@ seen-told v _ works cs ts p n c = seen-free v works cs ts p c
 
 -- it goes on, or tells what the host doesn't
 pub news-onward : (f : FreeFrame) (fs : List FreeFrame) (cs : List CallFrame) (ts : List OpenTurn) (p : Pool) (t : FreeStep) (mid new : OpenFrees) → IsConsistent (free_view f fs cs ts p) → moves (f ∷ fs) p ≡ (Some t, mid)
-    → event_of t ≡ None → IsNews t → Silently mid new → StepsSilently (free_view f fs cs ts p) (seen active.Freeing new.works cs ts new.pool)
+    → event_of p.ring t ≡ None → IsNews t → Silently mid new → StepsSilently (free_view f fs cs ts p) (seen active.Freeing new.works cs ts new.pool)
 news-onward f fs cs ts p t mid new h m quiet news on =
     let v : View = free_view f fs cs ts p in
     let c : OnTold (Comes v) cs ts 0 t mid.works mid.pool = subst (OnMove (Comes v) cs ts 0) m (comes f fs cs ts p) in
-    let silent : speaking_view v ≡ false = speaks-events f fs cs ts p ∙ ap (λ (z : Option FreeStep × OpenFrees). is_event z.0) m ∙ ap is_some quiet in
+    let silent : speaking_view v ≡ false = speaks-events f fs cs ts p ∙ ap (λ (z : Option FreeStep × OpenFrees). is_event p.ring z.0) m ∙ ap is_some quiet in
     let o : StepsSilently v (seen active.Freeing mid.works cs ts mid.pool) = onward v (seen active.Freeing mid.works cs ts mid.pool) h silent (seen-told v t mid.works cs ts mid.pool news c) in
     onward-along _ _ _ o (silently-along mid new cs ts on o.along.whole)
 
 -- it tells an event
 pub news-event : (f : FreeFrame) (fs : List FreeFrame) (cs : List CallFrame) (ts : List OpenTurn) (p : Pool) (t : FreeStep) (e : Event) (mid new : OpenFrees) → IsConsistent (free_view f fs cs ts p) → moves (f ∷ fs) p ≡ (Some t, mid)
-    → event_of t ≡ Some e → IsNews t → Silently mid new → AfterEvent (free_view f fs cs ts p) (seen active.Freeing new.works cs ts new.pool) e
+    → event_of p.ring t ≡ Some e → IsNews t → Silently mid new → AfterEvent (free_view f fs cs ts p) (seen active.Freeing new.works cs ts new.pool) e
 news-event f fs cs ts p t e mid new h m loud news on =
     let v : View = free_view f fs cs ts p in
     let c : OnTold (Comes v) cs ts 0 t mid.works mid.pool = subst (OnMove (Comes v) cs ts 0) m (comes f fs cs ts p) in
-    let told : (next_of v).0 ≡ Some e = tells f fs cs ts p ∙ ap (λ (z : Option FreeStep × OpenFrees). events z.0) m ∙ loud in
+    let told : (next_of v).0 ≡ Some e = tells f fs cs ts p ∙ ap (λ (z : Option FreeStep × OpenFrees). events p.ring z.0) m ∙ loud in
     let leads : (next_of v).1 ≡ seen active.Freeing mid.works cs ts mid.pool = seen-told v t mid.works cs ts mid.pool news c in
     let a = after-event v (seen active.Freeing mid.works cs ts mid.pool) e h
     (ap (λ (o : Option Event). let y : Option Event × View = (o, (next_of v).1) in y) told ∙ ap (λ (w : View). let y : Option Event × View = (Some e, w) in y) leads) in
@@ -196,7 +210,7 @@ pub done-onward : (f : FreeFrame) (fs : List FreeFrame) (c : CallFrame) (ds : Li
 done-onward f fs c ds ts p a mid new h m on =
     let v : View = free_view f fs (c ∷ ds) ts p in
     let l : OnCaller (Comes v) (c ∷ ds) ts 0 a (c ∷ ds) mid.works mid.pool = subst (OnMove (Comes v) (c ∷ ds) ts 0) m (comes f fs (c ∷ ds) ts p) in
-    let silent : speaking_view v ≡ false = speaks-events f fs (c ∷ ds) ts p ∙ ap (λ (z : Option FreeStep × OpenFrees). is_event z.0) m in
+    let silent : speaking_view v ≡ false = speaks-events f fs (c ∷ ds) ts p ∙ ap (λ (z : Option FreeStep × OpenFrees). is_event p.ring z.0) m in
     let same : mid ≡ new = still mid new on (awaiting-speaks mid (told-kept f fs p (Done a) mid (work-alone f fs (c ∷ ds) ts p h) m)) in
     subst (λ (z : OpenFrees). StepsSilently v (call_view (caller_resume c (Freed a)) z.works ds ts z.pool)) same (onward v (call_view (caller_resume c (Freed a)) mid.works ds ts mid.pool) h silent l)
 
@@ -236,7 +250,7 @@ over-works f fs p a mid bare m = each (free_step f p) (is_move f p) m
 
 -- a turn that waits for a free waits for the freeing of its event
 waits-to-close : (g : TurnFrame) (gs : List Frame) (f : FreeFrame) → Serves (profile (frame.Turn g)).waits (frame.Free f) → IsWaiting (frame.Turn g) gs → turn_resume g ≡ Closing 1
-waits-to-close (Handling what x handler now) gs f s w = absurd s
+waits-to-close (Handling what x handler occasion) gs f s w = absurd s
 waits-to-close (Clearing x) gs f s w = refl
 waits-to-close _ gs f s w = absurd w
 
@@ -250,7 +264,7 @@ over-onward f [] t us p a mid new h m on =
     let l : OnCaller (Comes v) [] (t ∷ us) 0 a [] mid.works mid.pool = subst (OnMove (Comes v) [] (t ∷ us) 0) m (comes f [] [] (t ∷ us) p) in
     let l' : (next_of v).1 ≡ after (turn_resume t.turn) mid.pool = rw none at l in
     let closes : turn_resume t.turn ≡ Closing 1 = waits-to-close t.turn (frame.Call (Turning t.ask) ∷ turned us) f h.seated.0 h.sound.waiting.0 in
-    let silent : speaking_view v ≡ false = speaks-events f [] [] (t ∷ us) p ∙ ap (λ (z : Option FreeStep × OpenFrees). is_event z.0) m in
+    let silent : speaking_view v ≡ false = speaks-events f [] [] (t ∷ us) p ∙ ap (λ (z : Option FreeStep × OpenFrees). is_event p.ring z.0) m in
     let same : mid ≡ new = still mid new on (awaiting-speaks mid (told-kept f [] p (Done a) mid (work-alone f [] [] (t ∷ us) p h) m)) in (
       ap (λ (z : OpenFrees). z.works) (sym same) ∙ none,
       subst (λ (z : OpenFrees). StepsSilently v (after (Closing 1) z.pool)) same (onward v (after (Closing 1) mid.pool) h silent (l' ∙ ap (λ (g : TurnFrame). after g mid.pool) closes)),

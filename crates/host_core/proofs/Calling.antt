@@ -50,8 +50,7 @@ given-caller (active.Caller c) q i works cs ts p e = each c.stage e
     each : (s : Stage) → open_at s c.ask ≡ Some q → call_view (begins_with c.ask i) works cs ts p ≡ call_view (begins_with q i) works cs ts p
     each stage.Asking e = let e' : c.ask ≡ q = cc in ap (λ (z : Ask). call_view (begins_with z i) works cs ts p) e'
     each _ e = cc
-given-caller active.Freeing q i works cs ts p e = cc
-given-caller (active.Turning t) q i works cs ts p e = cc
+given-caller _ q i works cs ts p e = cc
 
 -- a caller is asked this
 abbrev pub IsForCaller : Ask → Type 0
@@ -86,7 +85,7 @@ caller-speaks c works cs ts p = each c.stage
     each : (s : Stage) → speaking_view (call_view (staged c.ask s) works cs ts p) ≡ true
     each stage.Asking = refl
     each (stage.Telling r) = refl
-    each (stage.Warning x r) = refl
+    each (stage.Announcing notice r) = refl
 
 -- a caller at work, with the parts that are with it
 pub stays-at : (now : Active) (f : CallFrame) (callers : List Waiting) (turn : Option TurnFrame) (objects : Objects) → StandsAs now f → IsConsistent (call_view f objects.works (stack_of callers) (turns_of turn) objects.pool)
@@ -94,14 +93,12 @@ pub stays-at : (now : Active) (f : CallFrame) (callers : List Waiting) (turn : O
 stays-at (active.Caller c) f callers turn objects e h =
     let w : IsConsistent (view_of (active.Caller c) callers turn objects) = subst (λ (z : CallFrame). IsConsistent (call_view z objects.works (stack_of callers) (turns_of turn) objects.pool)) (sym e) h in
     (subst (λ (z : CallFrame). TellsSameStory (call_view z objects.works (stack_of callers) (turns_of turn) objects.pool) (view_of (active.Caller c) callers turn objects)) e (stays _ w), record { whole = w; parts = tt })
-stays-at active.Freeing f callers turn objects e h = absurd e
-stays-at (active.Turning t) f callers turn objects e h = absurd e
+stays-at _ f callers turn objects e h = absurd e
 
 -- a caller at work tells something next, or asks
 pub speaks-at : (now : Active) (f : CallFrame) (works : List FreeFrame) (cs : List CallFrame) (ts : List OpenTurn) (p : Pool) → StandsAs now f → speaking_view (seen now works cs ts p) ≡ true
 speaks-at (active.Caller c) f works cs ts p e = caller-speaks c works cs ts p
-speaks-at active.Freeing f works cs ts p e = absurd e
-speaks-at (active.Turning t) f works cs ts p e = absurd e
+speaks-at _ f works cs ts p e = absurd e
 
 -- a call that was done
 module _ (q : Ask) (c : Call) (callers : List Waiting) (turn : Option TurnFrame) (objects : Objects) (m : Motion) (objects' : Objects)

@@ -14,9 +14,11 @@ use Rattle.tree_specs.specs.declared.frame.Answer.TheVariants.{Freed}
 use Rattle.tree_specs.specs.declared.free_step.FreeReply.{FreeReply}
 use Rattle.tree_specs.specs.declared.free_step.FreeStep.{FreeStep}
 use Rattle.tree_specs.specs.declared.free_step.FreeStep.TheVariants.{Ask}
+use Rattle.tree_specs.specs.declared.watch.Watch.{Watch}
 use Rattle.tree_specs.specs.Tree.Pool.{Pool}
 use Rattle.tree_specs.specs.Rules.Items.{Item}
-use Rattle.tree_specs.specs.Machine.Table.{FreeMove, table, step, free_step, lifted, event_of, announced}
+use Rattle.tree_specs.specs.Machine.FreeTable.{FreeMove, free_step}
+use Rattle.tree_specs.specs.Machine.Table.{table, step, lifted, event_of, announced}
 use Rattle.tree_specs.specs.Machine.View.{View}
 use Rattle.tree_specs.specs.Invariants.Consistent.{IsConsistent}
 use Rattle.destructors.specs.Frees.{OpenFrees, answered, moved as free_moved, moves, is_event, Silently, Still, On}
@@ -50,14 +52,15 @@ comes f fs cs ts p = lift (Comes (free_view f fs cs ts p)) cs ts 0 f fs p (leads
 
 -- ---- what a step tells
 
-abbrev pub events : Option FreeStep → Option Event
-events None = None
-events (Some t) = event_of t
+-- by what is watched
+abbrev pub events : List Watch → Option FreeStep → Option Event
+events ring None = None
+events ring (Some t) = event_of ring t
 
-answered-events : (a : FreeReply) (p : Pool) (fs : List FreeFrame) (below : List Frame) → (moved (Do.Done (Freed a) p) below).0 ≡ events (answered a p fs).0
-answered-events a p fs below = silent below ∙ none fs
+answered-events : (ring : List Watch) (a : FreeReply) (p : Pool) (fs : List FreeFrame) (below : List Frame) → (moved (Do.Done (Freed a) p) below).0 ≡ events ring (answered a p fs).0
+answered-events ring a p fs below = silent below ∙ none fs
   where
-    none : (fs : List FreeFrame) → None ≡ events (answered a p fs).0
+    none : (fs : List FreeFrame) → None ≡ events ring (answered a p fs).0
     none [] = refl
     none (Hooked x h ∷ fs) = refl
     none (_ ∷ fs) = refl
@@ -66,30 +69,30 @@ answered-events a p fs below = silent below ∙ none fs
     silent [] = refl
     silent (g ∷ gs) = refl
 
-told-events : (f : FreeFrame) (p : Pool) (m : FreeMove) (fs : List FreeFrame) (below : List Frame) → IsMoveOf f p m → (moved (lifted m) below).0 ≡ events (free_moved m fs).0
-told-events f p (Do.Done a q) fs below of = answered-events a q fs below
+told-events : (f : FreeFrame) (p : Pool) (m : FreeMove) (fs : List FreeFrame) (below : List Frame) → IsMoveOf f p m → (moved (lifted p.ring m) below).0 ≡ events p.ring (free_moved m fs).0
+told-events f p (Do.Done a q) fs below of = answered-events p.ring a q fs below
 told-events f p (Do.Go g q) fs below of = refl
-told-events f p (Do.Emit t g q) fs below of = each (event_of t)
+told-events f p (Do.Emit t g q) fs below of = each (event_of p.ring t)
   where
     each : (o : Option Event) → (moved (announced o g q) below).0 ≡ o
     each None = refl
     each (Some e) = refl
 told-events f p (Do.Wait t g q) fs below of = asked t f of.2
   where
-    asked : (t : FreeStep) (f : FreeFrame) → AsksFor t f → None ≡ event_of t
+    asked : (t : FreeStep) (f : FreeFrame) → AsksFor t f → None ≡ event_of p.ring t
     asked (Ask x) (Hooked y h) a = refl
     asked t f a = absurd a
 told-events f p (Do.Call g h q) fs below of = refl
 
 -- the host tells what the move of the open frees tells
-pub tells : (f : FreeFrame) (fs : List FreeFrame) (cs : List CallFrame) (ts : List OpenTurn) (p : Pool) → (next_of (free_view f fs cs ts p)).0 ≡ events (moves (f ∷ fs) p).0
+pub tells : (f : FreeFrame) (fs : List FreeFrame) (cs : List CallFrame) (ts : List OpenTurn) (p : Pool) → (next_of (free_view f fs cs ts p)).0 ≡ events p.ring (moves (f ∷ fs) p).0
 tells f fs cs ts p = told-events f p (free_step f p) fs (standing fs cs ts) (is_move f p)
 
 -- the step of a free speaks where it tells an event
-pub speaks-events : (f : FreeFrame) (fs : List FreeFrame) (cs : List CallFrame) (ts : List OpenTurn) (p : Pool) → speaking_view (free_view f fs cs ts p) ≡ is_event (moves (f ∷ fs) p).0
+pub speaks-events : (f : FreeFrame) (fs : List FreeFrame) (cs : List CallFrame) (ts : List OpenTurn) (p : Pool) → speaking_view (free_view f fs cs ts p) ≡ is_event p.ring (moves (f ∷ fs) p).0
 speaks-events f fs cs ts p = each (free_step f p) (is_move f p)
   where
-    over : (a : FreeReply) (q : Pool) (fs : List FreeFrame) → false ≡ is_event (answered a q fs).0
+    over : (a : FreeReply) (q : Pool) (fs : List FreeFrame) → false ≡ is_event p.ring (answered a q fs).0
     over a q [] = refl
     over a q (Hooked x h ∷ fs) = refl
     over a q (_ ∷ fs) = refl
@@ -98,13 +101,13 @@ speaks-events f fs cs ts p = each (free_step f p) (is_move f p)
     news None g q = refl
     news (Some e) g q = refl
 
-    each : (m : FreeMove) → IsMoveOf f p m → speaks (lifted m) ≡ is_event (free_moved m fs).0
+    each : (m : FreeMove) → IsMoveOf f p m → speaks (lifted p.ring m) ≡ is_event p.ring (free_moved m fs).0
     each (Do.Done a q) of = over a q fs
     each (Do.Go g q) of = refl
-    each (Do.Emit t g q) of = news (event_of t) g q
+    each (Do.Emit t g q) of = news (event_of p.ring t) g q
     each (Do.Wait t g q) of = asked t f of.2
       where
-        asked : (t : FreeStep) (f : FreeFrame) → AsksFor t f → false ≡ is_some (event_of t)
+        asked : (t : FreeStep) (f : FreeFrame) → AsksFor t f → false ≡ is_some (event_of p.ring t)
         asked (Ask x) (Hooked y h) a = refl
         asked t f a = absurd a
     each (Do.Call g h q) of = refl
@@ -120,7 +123,7 @@ pub free-onward : (f : FreeFrame) (fs : List FreeFrame) (cs : List CallFrame) (t
 free-onward f fs cs ts p t h m =
     let v : View = free_view f fs cs ts p in
     let c : OnMove (Comes v) cs ts 0 (None, t) = subst (OnMove (Comes v) cs ts 0) m (comes f fs cs ts p) in
-    onward v (seen active.Freeing t.works cs ts t.pool) h (speaks-events f fs cs ts p ∙ ap (λ (z : Option FreeStep × OpenFrees). is_event z.0) m) (seen-free v t.works cs ts t.pool c)
+    onward v (seen active.Freeing t.works cs ts t.pool) h (speaks-events f fs cs ts p ∙ ap (λ (z : Option FreeStep × OpenFrees). is_event p.ring z.0) m) (seen-free v t.works cs ts t.pool c)
 
 -- moves that tell nothing lead from one view to another
 pub silently-along : (s t : OpenFrees) (cs : List CallFrame) (ts : List OpenTurn) → Silently s t → IsConsistent (seen active.Freeing s.works cs ts s.pool) → TellsSameStory (seen active.Freeing s.works cs ts s.pool) (seen active.Freeing t.works cs ts t.pool)

@@ -19,7 +19,7 @@ use Rattle.tree_specs.specs.declared.free_step.FreeStep.{FreeStep}
 use Rattle.tree_specs.specs.declared.free_step.FreeStep.TheVariants.{Ask as AskOf, Done}
 use Rattle.tree_specs.specs.declared.object.Obj.{Obj}
 use Rattle.tree_specs.specs.Tree.Pool.{Pool, row_of, target_at}
-use Rattle.tree_specs.specs.Rules.Story.{hook_moment}
+use Rattle.tree_specs.specs.Rules.Answers.{hook_moment}
 use Rattle.tree_specs.specs.Invariants.Sound.{HasHook, Rests}
 use Rattle.tree_specs.specs.Tree.Targets.{newest_ref}
 use Rattle.tree_specs.specs.declared.object.Owner.{Owner}
@@ -64,10 +64,10 @@ pub step-news : (works : List FreeFrame) (cs : List CallFrame) (ts : List OpenTu
 step-news [] cs ts p t new h quiet s n = tells-nothing p t new s
 step-news (f ∷ fs) cs ts p t new h quiet s n =
     let m = told-by (f ∷ fs) p t new s in
-    let silent : is_some (event_of t) ≡ false = ap is_event (sym s.tells) ∙ sym (speaks-events f fs cs ts p) ∙ quiet in
-    news-onward f fs cs ts p t (moves (f ∷ fs) p).1 new h m (no-event (event_of t) silent) n s.moves_on
+    let silent : is_some (event_of p.ring t) ≡ false = ap (is_event p.ring) (sym s.tells) ∙ sym (speaks-events f fs cs ts p) ∙ quiet in
+    news-onward f fs cs ts p t (moves (f ∷ fs) p).1 new h m (no-event (event_of p.ring t) silent) n s.moves_on
 
-pub step-event : (works : List FreeFrame) (cs : List CallFrame) (ts : List OpenTurn) (p : Pool) (t : FreeStep) (e : Event) (new : OpenFrees) → IsConsistent (seen active.Freeing works cs ts p) → Steps (record { works = works; pool = p }) t new → event_of t ≡ Some e → IsNews t
+pub step-event : (works : List FreeFrame) (cs : List CallFrame) (ts : List OpenTurn) (p : Pool) (t : FreeStep) (e : Event) (new : OpenFrees) → IsConsistent (seen active.Freeing works cs ts p) → Steps (record { works = works; pool = p }) t new → event_of p.ring t ≡ Some e → IsNews t
     → AfterEvent (seen active.Freeing works cs ts p) (seen active.Freeing new.works cs ts new.pool) e
 step-event [] cs ts p t e new h s loud n = tells-nothing p t new s
 step-event (f ∷ fs) cs ts p t e new h s loud n = news-event f fs cs ts p t e (moves (f ∷ fs) p).1 new h (told-by (f ∷ fs) p t new s) loud n s.moves_on

@@ -7,5 +7,9 @@ pub mod Hosting
 pub mod Calling
 pub mod Turning
 pub mod Stepping
+pub mod Answering
+pub mod Reaching
 pub mod Offering
+pub mod Reading
+pub mod Straying
 pub mod Nexts

@@ -14,7 +14,7 @@ use Rattle.tree_specs.specs.declared.free_step.FreeStep.{FreeStep}
 use Rattle.tree_specs.specs.declared.free_step.FreeStep.TheVariants.{Ask, Done}
 use Rattle.tree_specs.specs.declared.object.Obj.{Obj}
 use Rattle.tree_specs.specs.Tree.Pool.{row_of}
-use Rattle.tree_specs.specs.Rules.Story.{hook_moment}
+use Rattle.tree_specs.specs.Rules.Answers.{hook_moment}
 use Rattle.tree_specs.specs.Invariants.Sound.{HasHook}
 use Rattle.tree_specs.specs.Machine.Table.{event_of, caller_resume}
 use Rattle.destructors.specs.Frees.{Steps}
@@ -97,7 +97,7 @@ module _ (callers : List Waiting) (turn : Option TurnFrame) (objects : Objects) 
       record { onward = on; ready = record { whole = on.along.whole; parts = record { at_work = news-work t (frees_in objects') news g; settled = s.settles } } }
 
   -- an event was told, and the free goes on
-  pub event_told : (e : Event) → event_of t ≡ Some e → IsNews t → GoesOn t (frees_in objects')
+  pub event_told : (e : Event) → event_of objects.pool.ring t ≡ Some e → IsNews t → GoesOn t (frees_in objects')
       → AfterEvent (view_of active.Freeing callers turn objects) (view_of active.Freeing callers turn objects') e × BetweenSteps active.Freeing callers turn objects'
   event_told e loud news g =
       let a = step-event objects.works (stack_of callers) (turns_of turn) objects.pool t e (frees_in objects') had.whole s loud news in

@@ -1,9 +1,10 @@
 -- One step of a host after another, and what stands after it.
-use Rattle.std.proofs.Common.{◌≡◌, ℕ, ◌+◌, ◌≤◌, ◌<◌, List, [], ◌∷◌, length, Option, Some, None, false, refl, sym, ◌∙◌, ap, subst, arith}
-use Rattle.step_machine.specs.Machine.{Move, State, silent, items as told_by}
+use Rattle.std.proofs.Common.{◌≡◌, ℕ, ◌+◌, ◌≤◌, ◌<◌, List, [], ◌∷◌, length, Option, Some, None, true, false, refl, sym, ◌∙◌, ap, subst, arith}
+use Rattle.step_machine.specs.Machine.{Move, Outcome, State, silent, tell, given, leads, walk, is_stray, items as told_by}
 use Rattle.step_machine.specs.Machine.{Move as Do}
+use Rattle.step_machine.specs.Machine.Outcome.{Ended, Waits as Waiting, Stray, Short}
 use Rattle.step_machine.specs.Open.{LastIs}
-use Rattle.step_machine.proofs.Ends.{silent-leads}
+use Rattle.step_machine.proofs.Ends.{rest-step, silent-leads}
 use Rattle.tree_specs.specs.declared.event.Event.{Event}
 use Rattle.tree_specs.specs.declared.question.Ask.{Ask}
 use Rattle.tree_specs.specs.declared.question.Ask.TheVariants.{Quiet}
@@ -15,14 +16,16 @@ use Rattle.tree_specs.specs.declared.frame.Answer.{Answer}
 use Rattle.tree_specs.specs.Tree.Pool.{Pool}
 use Rattle.tree_specs.specs.Rules.Items.{Item, IsQuestion}
 use Rattle.tree_specs.specs.Rules.Items.Item.{Told, Asked}
-use Rattle.tree_specs.specs.Machine.Table.{table, step}
+use Rattle.tree_specs.specs.Rules.Story.{turns}
+use Rattle.tree_specs.specs.Machine.Table.{table, step, taken}
 use Rattle.tree_specs.specs.Invariants.Measure.{cost, pending}
-use Rattle.tree_specs.specs.Machine.View.{View, begin, rest_of, question_in}
+use Rattle.tree_specs.specs.Machine.View.{View, begin, outcome_of, rest_of, strays_of, question_in}
 use Rattle.tree_specs.specs.Invariants.Consistent.{IsConsistent}
 use Rattle.tree_specs.proofs.Rules.StoryLaws.{begin-whole}
 use Rattle.tree_specs.proofs.Turns.FallingFrees.{Room}
-use Rattle.tree_specs.proofs.Turns.Falls.{lower}
-use Rattle.tree_specs.proofs.Rules.Rest.{event-whole, event-items, open-items, begins-items, ends-asked, silent-whole, silent-law, no-end, view_of_state}
+use Rattle.tree_specs.proofs.Turns.Bound.{cost-turns}
+use Rattle.tree_specs.proofs.Turns.Falls.{Well, lower, falls}
+use Rattle.tree_specs.proofs.Rules.Rest.{most, well, event-whole, event-law, event-items, question-law, open-law, open-items, begins-items, ends-asked, silent-whole, silent-law, no-end, view_of_state}
 use Rattle.host_core.specs.Promises.{Waits}
 use Rattle.host_core.specs.Hosts.{speaks, moved, next_of, speaking_view, TellsSameStory, StepsSilently}
 
@@ -50,6 +53,7 @@ silent-onward v s h e = record {
     rows = λ R r. (let l = (lowered R r).0 in omega arith);
     no_dearer = λ R r. (let l = (lowered R r).1 in omega arith);
     same = λ is. ap told_by (silent-law v s is h e);
+    strays = λ is. ap is_stray (silent-law v s is h e);
   };
   cheaper = λ R r. (lowered R r).1;
 }
@@ -65,7 +69,7 @@ onward v w h t e =
 -- ---- one after another
 
 pub stays : (v : View) → IsConsistent v → TellsSameStory v v
-stays v h = record { whole = h; rows = λ R r. r; no_dearer = λ R r. omega arith; same = λ is. refl }
+stays v h = record { whole = h; rows = λ R r. r; no_dearer = λ R r. omega arith; same = λ is. refl; strays = λ is. refl }
 
 pub along-then : (u v w : View) → TellsSameStory u v → TellsSameStory v w → TellsSameStory u w
 along-then u v w a b = record {
@@ -73,6 +77,7 @@ along-then u v w a b = record {
   rows = λ R r. b.rows R (a.rows R r);
   no_dearer = λ R r. (let c = a.no_dearer R r in let d = b.no_dearer R (a.rows R r) in omega (arith, c, d));
   same = λ is. a.same is ∙ b.same is;
+  strays = λ is. a.strays is ∙ b.strays is;
 }
 
 pub onward-along : (u v w : View) → StepsSilently u v → TellsSameStory v w → StepsSilently u w
@@ -81,15 +86,42 @@ onward-along u v w o b = record {
   cheaper = λ R r. (let c = o.cheaper R r in let d = b.no_dearer R (o.along.rows R r) in omega (arith, c, d));
 }
 
+-- ---- whether the last input fits
+
+stray-tell : (i : Item) (o : Outcome Answer Pool Input Item) → is_stray (tell i o) ≡ is_stray o
+stray-tell i (Ended a p ts is) = refl
+stray-tell i (Waiting ts) = refl
+stray-tell i (Stray ts) = refl
+stray-tell i Short = refl
+
+event-strays : (v : View) (e : Item) (f : Frame) (p : Pool) (is : List Input) → IsConsistent v → step v.innermost v.pool ≡ Do.Emit e f p → strays_of v is ≡ strays_of (record { innermost = f; below = v.below; pool = p }) is
+event-strays v e f p is h is-emit = ap is_stray (event-law v e f p is h is-emit) ∙ stray-tell e _
+
+pub question-strays : (v : View) (q : Item) (f g : Frame) (p : Pool) (i : Input) (is : List Input) → IsConsistent v → step v.innermost v.pool ≡ Do.Wait q f p → taken f p i ≡ Some g
+    → strays_of v (i ∷ is) ≡ strays_of (record { innermost = g; below = v.below; pool = p }) is
+question-strays v q f g p i is h is-wait fits = ap is_stray (question-law v q f g p i is h is-wait fits) ∙ stray-tell q _
+
+-- an answer that a question doesn't take is the one that doesn't fit
+pub untaken-strays : (v : View) (q : Item) (f : Frame) (p : Pool) (i : Input) → IsConsistent v → step v.innermost v.pool ≡ Do.Wait q f p → taken f p i ≡ None → strays_of v (i ∷ []) ≡ true
+untaken-strays v q f p i h is-wait none =
+    let n : ℕ = turns (length v.pool.rows) (length (i ∷ [])) in
+    let R : ℕ = most v (length (i ∷ [])) in
+    let go = λ (g : Frame) (p' : Pool) (left : List Input). walk table n g v.below p' left in
+    ap is_stray
+    (rest-step table (Well R) (cost R) (falls R) n v.innermost v.below v.pool (i ∷ []) (well v (length (i ∷ [])) h) (cost-turns v (length (i ∷ [])) h)
+    ∙ ap (λ (m : Move Frame Answer Pool Item). leads table (walk table n) m v.below (i ∷ [])) is-wait
+    ∙ ap (given go q p []) none)
+
 -- ---- an event
 
 -- what stands after it
 pub record AfterEvent (v w : View) (e : Event) : Type 0 where
   pub whole : IsConsistent w
   pub law : (is : List Input) → rest_of v is ≡ Told e ∷ rest_of w is
+  pub strays : (is : List Input) → strays_of v is ≡ strays_of w is
 
 emitted : (v : View) (e : Event) (f : Frame) (p : Pool) → IsConsistent v → step v.innermost v.pool ≡ Do.Emit (Told e) f p → AfterEvent v (record { innermost = f; below = v.below; pool = p }) e
-emitted v e f p h t = record { whole = event-whole v (Told e) f p h t; law = λ is. event-items v (Told e) f p is h t }
+emitted v e f p h t = record { whole = event-whole v (Told e) f p h t; law = λ is. event-items v (Told e) f p is h t; strays = λ is. event-strays v (Told e) f p is h t }
 
 pub after-event : (v w : View) (e : Event) → IsConsistent v → next_of v ≡ (Some e, w) → AfterEvent v w e
 after-event v w e h t = each (step v.innermost v.pool) v.below refl refl t
@@ -112,7 +144,7 @@ after-event v w e h t = each (step v.innermost v.pool) v.below refl refl t
         subst (λ (z : View). AfterEvent v z e) y' (emitted v e f q h (k ∙ ap (λ (z : Event). Do.Emit (Told z) f q) x'))
 
 pub event-along : (u v w : View) (e : Event) → AfterEvent u v e → TellsSameStory v w → AfterEvent u w e
-event-along u v w e a b = record { whole = b.whole; law = λ is. a.law is ∙ ap (λ (l : List Item). Told e ∷ l) (b.same is) }
+event-along u v w e a b = record { whole = b.whole; law = λ is. a.law is ∙ ap (λ (l : List Item). Told e ∷ l) (b.same is); strays = λ is. a.strays is ∙ b.strays is }
 
 -- ---- a question
 
@@ -123,6 +155,7 @@ waits-at v q h e = record {
   open_now = ap question_in e;
   last = open-items v (Asked q) v.innermost v.pool h e;
   begins = λ is. begins-items v (Asked q) v.innermost v.pool is h e;
+  fits = ap is_stray (open-law v (Asked q) v.innermost v.pool h e);
 }
 
 pub waits-asked : (q : Ask) (below : List Frame) (p : Pool) → IsConsistent (record { innermost = frame.Call (Asking q); below = below; pool = p }) → Waits (record { innermost = frame.Call (Asking q); below = below; pool = p })

@@ -1,4 +1,4 @@
--- The steps of a turn, and of the asking of the clock, among the works of a host.
+-- The steps of a turn among the works of a host.
 use Rattle.std.proofs.Common.{◌≡◌, ℕ, ◌-◌, Bool, true, false, nat_eq, nat_le, List, [], ◌∷◌, Option, Some, None, refl, sym, ◌∙◌, ap, subst}
 use Rattle.step_machine.specs.Machine.{Move as Do}
 use Rattle.tree_specs.specs.declared.due.Due.{Due}
@@ -15,11 +15,12 @@ use Rattle.tree_specs.specs.declared.frame.CallFrame.TheVariants.{Asking, Awaiti
 use Rattle.tree_specs.specs.declared.frame.FreeFrame.{FreeFrame}
 use Rattle.tree_specs.specs.declared.frame.FreeFrame.TheVariants.{Beginning, Hooked}
 use Rattle.tree_specs.specs.declared.frame.TurnFrame.{TurnFrame}
-use Rattle.tree_specs.specs.declared.frame.TurnFrame.TheVariants.{Taking, Timing, Timed, Polling, Starting, Firing, Handling, Handled, Clearing, Reading, Closing}
+use Rattle.tree_specs.specs.declared.frame.TurnFrame.TheVariants.{Taking, Timing, Timed, Polling, Starting, Firing, Handling, Handled, Clearing, Closing}
 use Rattle.tree_specs.specs.Tree.Pool.{Pool, set_mark}
-use Rattle.tree_specs.specs.declared.row.Mark.TheVariants.{Quiet as AtRest, Busy}
+use Rattle.tree_specs.specs.declared.occasion.Occasion.{Occasion}
+use Rattle.tree_specs.specs.declared.row.Mark.TheVariants.{Quiet as AtRest}
 use Rattle.tree_specs.specs.Events.Pending.{first}
-use Rattle.tree_specs.specs.Events.Coming.{handler_for, handler_moment, goes_after}
+use Rattle.tree_specs.specs.Events.Coming.{handler_for, handler_moment, begun, goes_after}
 use Rattle.tree_specs.specs.Machine.Table.{turn_step, taking_step, due_step, timed_step, early_step}
 use Rattle.tree_specs.specs.Machine.View.{View}
 use Rattle.tree_specs.specs.Machine.Profiles.{profile}
@@ -73,11 +74,11 @@ module _ (q : Ask) (works : List FreeFrame) (cs : List CallFrame) (ts : List Ope
 
   -- what comes is busy, and its handler is told of
   pub arrive-along : (f : TurnFrame) (p : Pool) → IsConsistent (turn_view f q works cs ts p) → TellsSameStory (turn_view f q works cs ts p) (turn_view (frame_arrived f p) q works cs ts (pool_arrived f p))
-  arrive-along (Starting what x now) p h = each (handler_for p what x) refl
+  arrive-along (Starting what x occasion) p h = each (handler_for p what x) refl
     where
-      each : (o : Option Handler) → handler_for p what x ≡ o → TellsSameStory (turn_view (Starting what x now) q works cs ts p) (turn_view (frame_arrived (Starting what x now) p) q works cs ts (pool_arrived (Starting what x now) p))
-      each None e = rw e (goes-onward (Starting what x now) (Closing 1) q works cs ts p p (rw e refl) h).along
-      each (Some handler) e = rw e (goes-onward (Starting what x now) (Firing what x handler now) q works cs ts p (set_mark p x Busy) (rw e refl) h).along
+      each : (o : Option Handler) → handler_for p what x ≡ o → TellsSameStory (turn_view (Starting what x occasion) q works cs ts p) (turn_view (frame_arrived (Starting what x occasion) p) q works cs ts (pool_arrived (Starting what x occasion) p))
+      each None e = rw e (goes-onward (Starting what x occasion) (Closing 1) q works cs ts p p (rw e refl) h).along
+      each (Some handler) e = rw e (goes-onward (Starting what x occasion) (Firing what x handler occasion) q works cs ts p (begun what x p) (rw e refl) h).along
   arrive-along f p h = stays (turn_view f q works cs ts p) h
 
   -- a turn that is over is replied to
@@ -86,16 +87,15 @@ module _ (q : Ask) (works : List FreeFrame) (cs : List CallFrame) (ts : List Ope
 
 -- after it was looked at what comes, it is told of or the turn is over
 pub arrived-stops : (f : TurnFrame) (p : Pool) → TurnLooks f → TurnStops (frame_arrived f p)
-arrived-stops (Starting what x now) p l = each (handler_for p what x)
+arrived-stops (Starting what x occasion) p l = each (handler_for p what x)
   where
-    each : (o : Option Handler) → TurnStops (frame_started what x now o)
+    each : (o : Option Handler) → TurnStops (frame_started what x occasion o)
     each None = tt
     each (Some handler) = tt
 arrived-stops (Timing again) p l = l
 arrived-stops (Polling limit) p l = l
-arrived-stops Reading p l = l
 arrived-stops (Closing v) p l = l
-arrived-stops (Firing what x handler now) p l = l
+arrived-stops (Firing what x handler occasion) p l = l
 arrived-stops _ p l = absurd l
 
 -- ---- a turn stands on its call alone
@@ -111,7 +111,7 @@ quiet-alone [] [] [] s = record { frees = refl; callers = refl; turns = refl }
 quiet-alone [] [] (t ∷ ts) s = absurd (none t.turn s.0)
   where
     none : (g : TurnFrame) → Serves (profile (frame.Turn g)).waits (frame.Call (Turning Quiet)) → ⊥
-    none (Handling what x handler now) s = s
+    none (Handling what x handler occasion) s = s
     none _ s = s
 quiet-alone [] (c ∷ cs) ts s = absurd (none c s.0)
   where
@@ -127,20 +127,20 @@ quiet-alone (f ∷ fs) cs ts s = absurd (none f s.0)
 -- ---- a handler
 
 -- it is told that it starts, and it runs
-pub fired : (what : What) (x : Obj) (handler : Handler) (now : ℕ) (p : Pool) → IsConsistent (turn_view (Firing what x handler now) Quiet [] [] [] p)
-    → AfterEvent (turn_view (Firing what x handler now) Quiet [] [] [] p) (call_view (Asking (Routine (handler_moment what x handler now))) [] [] (turns_of (Some (Handling what x handler now))) p) (Fired what x handler.routine)
-fired what x handler now p h =
-    let a = after-event (turn_view (Firing what x handler now) Quiet [] [] [] p) (turn_view (Handling what x handler now) Quiet [] [] [] p) (Fired what x handler.routine) h refl in
-    event-along _ _ _ _ a (onward (turn_view (Handling what x handler now) Quiet [] [] [] p) _ a.whole refl refl).along
+pub fired : (what : What) (x : Obj) (handler : Handler) (occasion : Occasion) (p : Pool) → IsConsistent (turn_view (Firing what x handler occasion) Quiet [] [] [] p)
+    → AfterEvent (turn_view (Firing what x handler occasion) Quiet [] [] [] p) (call_view (Asking (Routine (handler_moment what x handler occasion))) [] [] (turns_of (Some (Handling what x handler occasion))) p) (Fired what x handler.routine)
+fired what x handler occasion p h =
+    let a = after-event (turn_view (Firing what x handler occasion) Quiet [] [] [] p) (turn_view (Handling what x handler occasion) Quiet [] [] [] p) (Fired what x handler.routine) h refl in
+    event-along _ _ _ _ a (onward (turn_view (Handling what x handler occasion) Quiet [] [] [] p) _ a.whole refl refl).along
 
 -- the turn that waits for a routine to return, where no free is open
 pub record Handles (cs : List CallFrame) (turn : Option TurnFrame) : Type 0 where
   pub what : What
   pub object : Obj
   pub handler : Handler
-  pub now : ℕ
+  pub occasion : Occasion
   pub callers : cs ≡ []
-  pub turn_is : turn ≡ Some (Handling what object handler now)
+  pub turn_is : turn ≡ Some (Handling what object handler occasion)
 
 pub handler-waits : (v : ℕ) (cs : List CallFrame) (turn : Option TurnFrame) (p : Pool) → IsConsistent (call_view (Returning v) [] cs (turns_of turn) p) → Handles cs turn
 handler-waits v (c ∷ cs) turn p h = absurd (none c h.seated.0)
@@ -152,13 +152,13 @@ handler-waits v [] None p h = absurd h.seated
 handler-waits v [] (Some g) p h = each g h.seated.0
   where
     each : (g : TurnFrame) → Serves (profile (frame.Turn g)).waits (frame.Call (Returning v)) → Handles [] (Some g)
-    each (Handling what x handler now) s = record { what = what; object = x; handler = handler; now = now; callers = refl; turn_is = refl }
+    each (Handling what x handler occasion) s = record { what = what; object = x; handler = handler; occasion = occasion; callers = refl; turn_is = refl }
     each _ s = absurd s
 
 -- a handler has returned
-pub handled-onward : (v : ℕ) (what : What) (x : Obj) (handler : Handler) (now : ℕ) (p : Pool) → IsConsistent (call_view (Returning v) [] [] (turns_of (Some (Handling what x handler now))) p)
-    → StepsSilently (call_view (Returning v) [] [] (turns_of (Some (Handling what x handler now))) p) (turn_view (Handled what x) Quiet [] [] [] p)
-handled-onward v what x handler now p h = onward _ _ h refl refl
+pub handled-onward : (v : ℕ) (what : What) (x : Obj) (handler : Handler) (occasion : Occasion) (p : Pool) → IsConsistent (call_view (Returning v) [] [] (turns_of (Some (Handling what x handler occasion))) p)
+    → StepsSilently (call_view (Returning v) [] [] (turns_of (Some (Handling what x handler occasion))) p) (turn_view (Handled what x) Quiet [] [] [] p)
+handled-onward v what x handler occasion p h = onward _ _ h refl refl
 
 -- its event is quiet, and the turn is over
 pub rests-onward : (what : What) (x : Obj) (p : Pool) → goes_after p what x ≡ false → IsConsistent (turn_view (Handled what x) Quiet [] [] [] p)

@@ -4,8 +4,8 @@ use Rattle.std.specs.Prelude.{is_none}
 use Rattle.tree_specs.specs.declared.due.Due.{Due}
 use Rattle.tree_specs.specs.declared.handler.Handler.{Handler}
 use Rattle.tree_specs.specs.declared.moment.What.{What}
-use Rattle.tree_specs.specs.declared.moment.What.TheVariants.{Immediate as ForImmediate, Timer as ForTimer}
 use Rattle.tree_specs.specs.declared.object.Obj.{Obj}
+use Rattle.tree_specs.specs.declared.occasion.Occasion.{Occasion}
 use Rattle.tree_specs.specs.declared.row.Row.{Row}
 use Rattle.tree_specs.specs.declared.row.Mark.{Mark}
 use Rattle.tree_specs.specs.declared.row.Mark.TheVariants.{Quiet as AtRest, Dying}
@@ -20,9 +20,10 @@ use Rattle.tree_specs.specs.declared.frame.CallFrame.TheVariants.{Turning, Retur
 use Rattle.tree_specs.specs.declared.frame.FreeFrame.{FreeFrame}
 use Rattle.tree_specs.specs.declared.frame.FreeFrame.TheVariants.{Beginning}
 use Rattle.tree_specs.specs.declared.frame.TurnFrame.{TurnFrame}
-use Rattle.tree_specs.specs.declared.frame.TurnFrame.TheVariants.{Taking, Timing, Polling, Starting, Firing, Handling, Handled, Clearing, Reading, Closing}
+use Rattle.tree_specs.specs.declared.frame.TurnFrame.TheVariants.{Taking, Timing, Polling, Starting, Firing, Handling, Handled, Clearing, Closing}
 use Rattle.tree_specs.specs.Tree.Pool.{Pool, row_of, is_row, is_dying, is_dying_mark, target_at, set_mark}
 use Rattle.tree_specs.specs.Tree.Targets.{newest_ref}
+use Rattle.tree_specs.specs.Events.Rotation.{Ready, first_ready}
 use Rattle.tree_specs.specs.Events.Coming.{handler_for, goes_after, looks_again}
 use Rattle.tree_specs.specs.Texts.Schedule.{misfit}
 use Rattle.tree_specs.specs.Machine.View.{View}
@@ -33,7 +34,7 @@ use Rattle.tree_specs.specs.Invariants.Alone.{FreesWait}
 use Rattle.tree_specs.proofs.Invariants.Changes.{handling-row, claim-here}
 use Rattle.loop_core.specs.declared.pick.Pick.{Pick}
 use Rattle.loop_core.specs.declared.pick.Pick.TheVariants as pick
-use Rattle.loop_core.specs.Picks.{begin_pick, clock_pick, ready_pick}
+use Rattle.loop_core.specs.Picks.{begin_pick, clock_pick, watch_pick, ready_pick}
 use Rattle.destructors.specs.Frees.{OpenFrees, Begins}
 use Rattle.destructors.specs.Works.{IsAtWork, IsAwaiting}
 use Rattle.destructors.specs.Callers.{OpenTurn, under, call_view, free_view}
@@ -49,8 +50,9 @@ use Rattle.host_core.specs.declared.turn.Turn.{Turn}
 use Rattle.host_core.specs.declared.short_reply.ShortReply.TheVariants as short_reply
 use Rattle.tree_specs.specs.declared.reply.Refusal.TheVariants as refusal
 use Rattle.host_core.specs.Moves.{telling}
-use Rattle.host_core.specs.Turns.{turns_of, turn_view, turn_asks, turn_given, frame_picked, frame_looked, frame_started, frame_arrived, pool_arrived, frame_timed, pool_timed, TurnSpeaks, TurnStops, TurnLooks, IsFor}
-use Rattle.host_core.specs.Hosts.{seen, view_of, view_given, open_at, begins_with, stack_of, is_quiet, turn_begun, asked_now, turn_over, IsTurning, StandsAs, StandsWith, IsHandling, TurnReady, BetweenSteps, TellsSameStory, StepsSilently, speaking_view}
+use Rattle.host_core.specs.Turns.{turns_of, turn_view, turn_asks, turn_given, frame_picked, frame_ready, frame_looked, frame_arrived, pool_arrived, frame_timed, pool_timed, TurnSpeaks, TurnStops, TurnLooks}
+use Rattle.host_core.specs.Reaches.{IsOutside}
+use Rattle.host_core.specs.Hosts.{seen, view_of, view_given, open_at, begins_with, stack_of, is_quiet, turn_begun, asked_now, turn_over, IsTurning, StandsAs, StandsWith, IsHandling, PartsReady, TurnReady, BetweenSteps, TellsSameStory, StepsSilently, speaking_view}
 use Rattle.host_core.proofs.StepsSilently.{stays, along-then, onward-along}
 use Rattle.host_core.proofs.FreeSteps.{silently-along}
 use Rattle.host_core.proofs.TurnSteps.{taking-onward, timed-onward, arrive-along, arrived-stops, closing-onward, handler-waits, handled-onward, rests-onward, clears-onward}
@@ -68,57 +70,45 @@ turning callers turn objects f q = turn_view f q objects.works (stack_of callers
 
 -- ---- who is at work where this is still to do of a turn
 
-turn-stands : (callers : List Waiting) (turn : Option TurnFrame) (objects : Objects) (f : TurnFrame) (q : Ask) (now : Active) → now ≡ active.Turning (record { frame = f; question = turn_asks f; caller = q }) → TurnSpeaks f → IsFor f q
+turn-stands : (callers : List Waiting) (turn : Option TurnFrame) (objects : Objects) (f : TurnFrame) (q : Ask) (now : Active) → now ≡ active.Turning (record { frame = f; question = turn_asks f; caller = q }) → TurnSpeaks f → q ≡ Quiet
     → IsConsistent (turning callers turn objects f q) → Settles (turning callers turn objects f q) now callers turn objects
-turn-stands callers turn objects f q now e speaks for h =
+turn-stands callers turn objects f q now e speaks quiet h =
     subst (λ (z : Active). Settles (turning callers turn objects f q) z callers turn objects) (sym e)
-    (record { along = stays _ h; ready = record { whole = h; parts = record { speaks = speaks; caller = for; question = refl } } })
+    (record { along = stays _ h; ready = record { whole = h; parts = record { speaks = speaks; caller = quiet; question = refl } } })
 
-pub stand-at : (callers : List Waiting) (turn : Option TurnFrame) (objects : Objects) (f : TurnFrame) (q : Ask) (now : Active) → StandsWith f q now → TurnStops f → (TurnSpeaks f → IsFor f q) → IsConsistent (turning callers turn objects f q)
+pub stand-at : (callers : List Waiting) (turn : Option TurnFrame) (objects : Objects) (f : TurnFrame) (q : Ask) (now : Active) → StandsWith f q now → TurnStops f → q ≡ Quiet → IsConsistent (turning callers turn objects f q)
     → Settles (turning callers turn objects f q) now callers turn objects
-stand-at callers turn objects (Closing v) q now s stops for h =
+stand-at callers turn objects (Closing v) q now s stops quiet h =
     let o = closing-onward q objects.works (stack_of callers) (turns_of turn) v objects.pool h in
     let a = stays-at now (turn_over q v) callers turn objects s o.along.whole in
     record { along = along-then _ _ _ o.along a.0; ready = a.1 }
-stand-at callers turn objects (Timing again) q now s stops for h = turn-stands callers turn objects (Timing again) q now s tt (for tt) h
-stand-at callers turn objects (Polling limit) q now s stops for h = turn-stands callers turn objects (Polling limit) q now s tt (for tt) h
-stand-at callers turn objects Reading q now s stops for h = turn-stands callers turn objects Reading q now s tt (for tt) h
-stand-at callers turn objects (Firing what x handler time) q now s stops for h = turn-stands callers turn objects (Firing what x handler time) q now s tt (for tt) h
-stand-at callers turn objects _ q now s stops for h = absurd stops
+stand-at callers turn objects (Timing again) q now s stops quiet h = turn-stands callers turn objects (Timing again) q now s tt quiet h
+stand-at callers turn objects (Polling limit) q now s stops quiet h = turn-stands callers turn objects (Polling limit) q now s tt quiet h
+stand-at callers turn objects (Firing what x handler occasion) q now s stops quiet h = turn-stands callers turn objects (Firing what x handler occasion) q now s tt quiet h
+stand-at callers turn objects _ q now s stops quiet h = absurd stops
 
 settles-then : (u v : View) (now : Active) (callers : List Waiting) (turn : Option TurnFrame) (objects : Objects) → TellsSameStory u v → Settles v now callers turn objects → Settles u now callers turn objects
 settles-then u v now callers turn objects a s = record { along = along-then _ _ _ a s.along; ready = s.ready }
 
 -- what comes arrives first
-pub arrives-at : (callers : List Waiting) (turn : Option TurnFrame) (objects objects' : Objects) (v : View) (f g : TurnFrame) (q : Ask) (now : Active) → TellsSameStory v (turning callers turn objects f q) → TurnLooks f → (TurnSpeaks g → IsFor g q)
+pub arrives-at : (callers : List Waiting) (turn : Option TurnFrame) (objects objects' : Objects) (v : View) (f g : TurnFrame) (q : Ask) (now : Active) → TellsSameStory v (turning callers turn objects f q) → TurnLooks f → q ≡ Quiet
     → g ≡ frame_arrived f objects.pool → objects' ≡ record objects { pool = pool_arrived f objects.pool } → StandsWith g q now → Settles v now callers turn objects'
-arrives-at callers turn objects objects' v f g q now a looks for e e' s =
+arrives-at callers turn objects objects' v f g q now a looks quiet e e' s =
     let here : Objects = record objects { pool = pool_arrived f objects.pool } in
     let arrives = arrive-along q objects.works (stack_of callers) (turns_of turn) f objects.pool a.whole in
     let stops : TurnStops g = subst TurnStops (sym e) (arrived-stops f objects.pool looks) in
     let b : TellsSameStory v (turning callers turn here g q) = subst (λ (z : TurnFrame). TellsSameStory v (turning callers turn here z q)) (sym e) (along-then _ _ _ a arrives) in
-    subst (λ (z : Objects). Settles v now callers turn z) (sym e') (settles-then _ _ now callers turn here b (stand-at callers turn here g q now s stops for b.whole))
+    subst (λ (z : Objects). Settles v now callers turn z) (sym e') (settles-then _ _ now callers turn here b (stand-at callers turn here g q now s stops quiet b.whole))
 
 -- ---- what is picked
 
 picked-looks : (waited : Bool) (k : Pick) → TurnLooks (frame_picked waited k)
 picked-looks waited (pick.Soon x) = tt
 picked-looks waited (pick.Time x now) = tt
+picked-looks waited (pick.Descriptor x flags) = tt
 picked-looks waited pick.AskClock = tt
 picked-looks waited (pick.AskWait limit) = tt
 picked-looks waited pick.Nothing = tt
-
--- a turn is the host's own caller's
-started-for : (what : What) (x : Obj) (now : ℕ) (o : Option Handler) (q : Ask) → q ≡ Quiet → IsFor (frame_started what x now o) q
-started-for what x now None q e = e
-started-for what x now (Some handler) q e = e
-
-picked-for : (waited : Bool) (k : Pick) (p : Pool) (q : Ask) → q ≡ Quiet → IsFor (frame_arrived (frame_picked waited k) p) q
-picked-for waited (pick.Soon x) p q e = started-for ForImmediate x 0 (handler_for p ForImmediate x) q e
-picked-for waited (pick.Time x now) p q e = started-for ForTimer x now (handler_for p ForTimer x) q e
-picked-for waited pick.AskClock p q e = e
-picked-for waited (pick.AskWait limit) p q e = e
-picked-for waited pick.Nothing p q e = e
 
 -- a turn begins
 pub begins-turn : (callers : List Waiting) (turn : Option TurnFrame) (objects picked objects' : Objects) (k : Pick) (g : TurnFrame) (now : Active) → IsConsistent (turning callers turn objects Taking Quiet) → k ≡ begin_pick objects.pool.soon objects.pool.times
@@ -127,7 +117,7 @@ pub begins-turn : (callers : List Waiting) (turn : Option TurnFrame) (objects pi
 begins-turn callers turn objects picked objects' k g now h e at arrived arrives s =
     let taken = taking-onward Quiet objects.works (stack_of callers) (turns_of turn) objects.pool h in
     let a : TellsSameStory (turning callers turn objects Taking Quiet) (turning callers turn picked (frame_picked false k) Quiet) = rw (at, e) taken.along in
-    arrives-at callers turn picked objects' _ (frame_picked false k) g Quiet now a (picked-looks false k) (λ speaks. subst (λ (z : TurnFrame). IsFor z Quiet) (sym arrived) (picked-for false k picked.pool Quiet refl)) arrived arrives s
+    arrives-at callers turn picked objects' _ (frame_picked false k) g Quiet now a (picked-looks false k) refl arrived arrives s
 
 -- who is asked for calls at rest may have a turn
 pub quiet-is : (q : Ask) → is_quiet q ≡ true → q ≡ Quiet
@@ -139,62 +129,26 @@ pub nested-is : (q : Ask) (works : List FreeFrame) (cs : List CallFrame) (ts : L
 nested-is Quiet works cs ts p e = cc
 nested-is _ works cs ts p e = refl
 
--- ---- the time
+-- ---- a turn was at work
 
--- a call asks for it
-pub time-asked : (callers : List Waiting) (turn : Option TurnFrame) (objects : Objects) (q : Ask) (now : Active) → now ≡ active.Turning (record { frame = Reading; question = turn_asks Reading; caller = q }) → IsConsistent (turning callers turn objects Reading q)
-    → Settles (turning callers turn objects Reading q) now callers turn objects
-time-asked callers turn objects q now e h = turn-stands callers turn objects Reading q now e tt tt h
-
--- the time, or what is ready
-abbrev pub IsLook : Input → Type 0
-IsLook (input.Clock now) = Unit {0}
-IsLook (input.Ready wants) = Unit {0}
-IsLook _ = ⊥
-
--- it was a turn that asked for it
-pub look-turning : (now : Active) (i : Input) (works : List FreeFrame) (cs : List CallFrame) (ts : List OpenTurn) (p : Pool) → IsLook i → is_none (misfit (asked_now now) i) ≡ true → IsConsistent (view_given now i works cs ts p) → IsTurning now
-look-turning (active.Turning t) i works cs ts p l fits h = tt
-look-turning active.Freeing i works cs ts p l fits h = cc
-look-turning (active.Caller c) i works cs ts p l fits h = absurd (no (open_at c.stage c.ask) (asked c.stage) i l fits h)
-  where
-    asked : (s : Stage) (q : Ask) → open_at s c.ask ≡ Some q → q ≡ c.ask
-    asked stage.Asking q e = cc
-    asked _ q e = cc
-
-    no : (o : Option Ask) → ((q : Ask) → o ≡ Some q → q ≡ c.ask) → (i : Input) → IsLook i → is_none (misfit o i) ≡ true → IsConsistent (call_view (begins_with c.ask i) works cs ts p) → ⊥
-    no None a i l fits h = cc
-    no (Some q) a i l fits h = kinds c.ask i l (ap (λ (z : Ask). is_none (misfit (Some z) i)) (sym (a q refl)) ∙ fits) h.seated
-      where
-        kinds : (r : Ask) (i : Input) → IsLook i → is_none (misfit (Some r) i) ≡ true → IsStacked (frame.Call (begins_with r i)) (under works cs ts) → ⊥
-        kinds Clock (input.Clock time) l fits s = caller-kind Clock works cs ts s
-        kinds (Wait limit) (input.Ready wants) l fits s = caller-kind (Wait limit) works cs ts s
-        kinds r (input.Call d) l fits s = l
-        kinds r (input.Act d) l fits s = l
-        kinds _ _ l fits s = cc
-
--- what is at work
 pub turning-is : (now : Active) → IsTurning now → (t : Turn) × (now ≡ active.Turning t)
 turning-is (active.Turning t) k = (t, refl)
-turning-is (active.Caller c) k = absurd k
-turning-is active.Freeing k = absurd k
+turning-is _ k = absurd k
 
--- where the clock has told the time, a turn looks by it at what comes, and a call has its reply
+-- ---- the time
+
+-- where the clock has told the time, a turn looks by it at what comes
 pub record Timed (f : TurnFrame) (time : ℕ) (q : Ask) (works : List FreeFrame) (cs : List CallFrame) (ts : List OpenTurn) (p : Pool) : Type 0 where
   pub along : TellsSameStory (turn_view (turn_given f (input.Clock time) p) q works cs ts p) (turn_view (frame_timed f time p) q works cs ts (pool_timed f time p))
   pub looks : TurnLooks (frame_timed f time p)
-  pub for : (r : Pool) → TurnSpeaks (frame_arrived (frame_timed f time p) r) → IsFor (frame_arrived (frame_timed f time p) r) q
 
-timed-along : (f : TurnFrame) (time : ℕ) (q : Ask) (works : List FreeFrame) (cs : List CallFrame) (ts : List OpenTurn) (p : Pool) → is_none (misfit (turn_asks f) (input.Clock time)) ≡ true → IsFor f q
+timed-along : (f : TurnFrame) (time : ℕ) (q : Ask) (works : List FreeFrame) (cs : List CallFrame) (ts : List OpenTurn) (p : Pool) → is_none (misfit (turn_asks f) (input.Clock time)) ≡ true
     → IsConsistent (turn_view (turn_given f (input.Clock time) p) q works cs ts p) → Timed f time q works cs ts p
-timed-along (Timing again) time q works cs ts p fits for h = record {
+timed-along (Timing again) time q works cs ts p fits h = record {
   along = (timed-onward q works cs ts again time p h).along;
   looks = picked-looks again (clock_pick again time p.times);
-  for = λ r speaks. picked-for again (clock_pick again time p.times) r q for;
 }
-timed-along Reading time q works cs ts p fits for h = record { along = stays _ h; looks = tt; for = λ r speaks. absurd speaks }
-timed-along (Polling limit) time q works cs ts p fits for h = cc
-timed-along _ time q works cs ts p fits for h = cc
+timed-along _ time q works cs ts p fits h = cc
 
 pub told-time : (t : Turn) (time : ℕ) (callers : List Waiting) (turn : Option TurnFrame) (objects told objects' : Objects) (f g : TurnFrame) (now : Active) → TurnReady t → is_none (misfit t.question (input.Clock time)) ≡ true
     → IsConsistent (turning callers turn objects (turn_given t.frame (input.Clock time) objects.pool) t.caller) → f ≡ frame_timed t.frame time objects.pool → told ≡ record objects { pool = pool_timed t.frame time objects.pool }
@@ -202,51 +156,50 @@ pub told-time : (t : Turn) (time : ℕ) (callers : List Waiting) (turn : Option 
     → Settles (turning callers turn objects (turn_given t.frame (input.Clock time) objects.pool) t.caller) now callers turn objects'
 told-time t time callers turn objects told objects' f g now r fits h e at arrived arrives s =
     let fits' : is_none (misfit (turn_asks t.frame) (input.Clock time)) ≡ true = ap (λ (z : Option Ask). is_none (misfit z (input.Clock time))) (sym r.question) ∙ fits in
-    let w = timed-along t.frame time t.caller objects.works (stack_of callers) (turns_of turn) objects.pool fits' r.caller h in
+    let w = timed-along t.frame time t.caller objects.works (stack_of callers) (turns_of turn) objects.pool fits' h in
     let from : View = turning callers turn objects (turn_given t.frame (input.Clock time) objects.pool) t.caller in
     let a : TellsSameStory from (turning callers turn told f t.caller) = rw (at, e) w.along in
     let looks : TurnLooks f = subst TurnLooks (sym e) w.looks in
-    let whole : g ≡ frame_arrived (frame_timed t.frame time objects.pool) told.pool = arrived ∙ ap (λ (z : TurnFrame). frame_arrived z told.pool) e in
-    arrives-at callers turn told objects' from f g t.caller now a looks (λ speaks. subst (λ (z : TurnFrame). IsFor z t.caller) (sym whole) (w.for told.pool (subst TurnSpeaks whole speaks))) arrived arrives s
+    arrives-at callers turn told objects' from f g t.caller now a looks r.caller arrived arrives s
 
 -- ---- what is ready
 
-looked-picked : (ready : List Want) (p : Pool) → frame_picked true (ready_pick ready p.times) ≡ frame_looked (looks_again p ready)
-looked-picked ready p = each ready p.times refl
+looked-picked : (wants : List Want) (p : Pool) → frame_picked true (ready_pick wants p.times p.ring) ≡ frame_looked (looks_again p wants) (first_ready p.ring wants)
+looked-picked wants p = each wants p.times refl
   where
-    each : (ws : List Want) (ds : List Due) → p.times ≡ ds → frame_picked true (ready_pick ws p.times) ≡ frame_looked (looks_again p ws)
-    each [] [] e = rw e refl
+    watched : (o : Option Ready) → frame_picked true (watch_pick o) ≡ frame_ready o
+    watched None = refl
+    watched (Some r) = refl
+
+    each : (ws : List Want) (ds : List Due) → p.times ≡ ds → frame_picked true (ready_pick ws p.times p.ring) ≡ frame_looked (looks_again p ws) (first_ready p.ring ws)
+    each [] [] e = rw e (watched (first_ready p.ring []))
     each [] (d ∷ ds) e = rw e refl
-    each (w ∷ ws) ds e = refl
+    each (w ∷ ws) ds e = watched (first_ready p.ring (w ∷ ws))
 
-looked-stops : (b : Bool) → TurnStops (frame_looked b)
-looked-stops true = tt
-looked-stops false = tt
-
-looked-for : (b : Bool) (q : Ask) → q ≡ Quiet → IsFor (frame_looked b) q
-looked-for true q e = e
-looked-for false q e = e
+looked-looks : (again : Bool) (o : Option Ready) → TurnLooks (frame_looked again o)
+looked-looks true o = tt
+looked-looks false None = tt
+looked-looks false (Some r) = tt
 
 -- only a turn waits for descriptors
-polling : (f : TurnFrame) (ready : List Want) → is_none (misfit (turn_asks f) (input.Ready ready)) ≡ true → (limit : ℕ) × (f ≡ Polling limit)
-polling (Polling limit) ready fits = (limit, refl)
-polling (Timing again) ready fits = cc
-polling Reading ready fits = cc
-polling _ ready fits = cc
+polling : (f : TurnFrame) (wants : List Want) → is_none (misfit (turn_asks f) (input.Ready wants)) ≡ true → (limit : ℕ) × (f ≡ Polling limit)
+polling (Polling limit) wants fits = (limit, refl)
+polling _ wants fits = cc
 
-pub told-ready : (t : Turn) (ready : List Want) (callers : List Waiting) (turn : Option TurnFrame) (objects : Objects) (k : Pick) (now : Active) → TurnReady t → is_none (misfit t.question (input.Ready ready)) ≡ true
-    → IsConsistent (turning callers turn objects (turn_given t.frame (input.Ready ready) objects.pool) t.caller) → k ≡ ready_pick ready objects.pool.times → StandsWith (frame_picked true k) t.caller now
-    → Settles (turning callers turn objects (turn_given t.frame (input.Ready ready) objects.pool) t.caller) now callers turn objects
-told-ready t ready callers turn objects k now r fits h e s =
-    let fits' : is_none (misfit (turn_asks t.frame) (input.Ready ready)) ≡ true = ap (λ (z : Option Ask). is_none (misfit z (input.Ready ready))) (sym r.question) ∙ fits in
-    let p = polling t.frame ready fits' in
-    let again : Bool = looks_again objects.pool ready in
-    let is : turn_given t.frame (input.Ready ready) objects.pool ≡ frame_looked again = ap (λ (z : TurnFrame). turn_given z (input.Ready ready) objects.pool) p.1 in
-    let quiet : t.caller ≡ Quiet = subst (λ (z : TurnFrame). IsFor z t.caller) p.1 r.caller in
-    let s' : StandsWith (frame_looked again) t.caller now = subst (λ (z : TurnFrame). StandsWith z t.caller now) (ap (frame_picked true) e ∙ looked-picked ready objects.pool) s in
-    let h' : IsConsistent (turning callers turn objects (frame_looked again) t.caller) = subst (λ (z : TurnFrame). IsConsistent (turning callers turn objects z t.caller)) is h in
-    subst (λ (z : TurnFrame). Settles (turning callers turn objects z t.caller) now callers turn objects) (sym is)
-    (stand-at callers turn objects (frame_looked again) t.caller now s' (looked-stops again) (λ speaks. looked-for again t.caller quiet) h')
+pub told-ready : (t : Turn) (wants : List Want) (callers : List Waiting) (turn : Option TurnFrame) (objects objects' : Objects) (k : Pick) (f g : TurnFrame) (now : Active) → TurnReady t → is_none (misfit t.question (input.Ready wants)) ≡ true
+    → IsConsistent (turning callers turn objects (turn_given t.frame (input.Ready wants) objects.pool) t.caller) → k ≡ ready_pick wants objects.pool.times objects.pool.ring → f ≡ frame_picked true k
+    → g ≡ frame_arrived f objects.pool → objects' ≡ record objects { pool = pool_arrived f objects.pool } → StandsWith g t.caller now
+    → Settles (turning callers turn objects (turn_given t.frame (input.Ready wants) objects.pool) t.caller) now callers turn objects'
+told-ready t wants callers turn objects objects' k f g now r fits h e picked arrived arrives s =
+    let fits' : is_none (misfit (turn_asks t.frame) (input.Ready wants)) ≡ true = ap (λ (z : Option Ask). is_none (misfit z (input.Ready wants))) (sym r.question) ∙ fits in
+    let p = polling t.frame wants fits' in
+    let again : Bool = looks_again objects.pool wants in
+    let ready : Option Ready = first_ready objects.pool.ring wants in
+    let from : View = turning callers turn objects (turn_given t.frame (input.Ready wants) objects.pool) t.caller in
+    let looks : f ≡ frame_looked again ready = picked ∙ ap (frame_picked true) e ∙ looked-picked wants objects.pool in
+    let is : turn_given t.frame (input.Ready wants) objects.pool ≡ f = ap (λ (z : TurnFrame). turn_given z (input.Ready wants) objects.pool) p.1 ∙ sym looks in
+    let a : TellsSameStory from (turning callers turn objects f t.caller) = subst (λ (z : TurnFrame). TellsSameStory from (turning callers turn objects z t.caller)) is (stays _ h) in
+    arrives-at callers turn objects objects' from f g t.caller now a (subst TurnLooks (sym looks) (looked-looks again ready)) r.caller arrived arrives s
 
 -- ---- a handler that has returned
 
@@ -263,18 +216,18 @@ not-dying _ l = refl
 
 -- the turn that waits is that of a handler
 pub waits-handling : (v : ℕ) (callers : List Waiting) (turn : Option TurnFrame) (objects : Objects) → objects.works ≡ [] → IsConsistent (call_view (Returning v) objects.works (stack_of callers) (turns_of turn) objects.pool)
-    → (what : What) × (x : Obj) × (handler : Handler) × (time : ℕ) × (turn ≡ Some (Handling what x handler time))
+    → (what : What) × (x : Obj) × (handler : Handler) × (occasion : Occasion) × (turn ≡ Some (Handling what x handler occasion))
 waits-handling v callers turn objects none h =
     let w = handler-waits v (stack_of callers) turn objects.pool (rw none at h) in
-    (w.what, w.object, w.handler, w.now, w.turn_is)
+    (w.what, w.object, w.handler, w.occasion, w.turn_is)
 
-pub handler-over : (v : ℕ) (callers : List Waiting) (turn : Option TurnFrame) (objects : Objects) (what : What) (x : Obj) (handler : Handler) (time : ℕ) → objects.works ≡ [] → turn ≡ Some (Handling what x handler time)
+pub handler-over : (v : ℕ) (callers : List Waiting) (turn : Option TurnFrame) (objects : Objects) (what : What) (x : Obj) (handler : Handler) (occasion : Occasion) → objects.works ≡ [] → turn ≡ Some (Handling what x handler occasion)
     → IsConsistent (call_view (Returning v) objects.works (stack_of callers) (turns_of turn) objects.pool) → HandlerOver v callers turn objects what x
-handler-over v callers turn objects what x handler time none e h =
+handler-over v callers turn objects what x handler occasion none e h =
     let w = handler-waits v (stack_of callers) turn objects.pool (rw none at h) in
     let p : Pool = objects.pool in
-    let same : call_view (Returning v) objects.works (stack_of callers) (turns_of turn) p ≡ call_view (Returning v) [] [] (turns_of (Some (Handling what x handler time))) p = rw (none, w.callers, e) refl in
-    let o = handled-onward v what x handler time p (subst IsConsistent same h) in
+    let same : call_view (Returning v) objects.works (stack_of callers) (turns_of turn) p ≡ call_view (Returning v) [] [] (turns_of (Some (Handling what x handler occasion))) p = rw (none, w.callers, e) refl in
+    let o = handled-onward v what x handler occasion p (subst IsConsistent same h) in
     let s = o.along.whole.sound in
     let row = handling-row (row_of p.rows x) (claims x (frame.Call (Turning Quiet) ∷ [])) (claim-here x InHandler (claims x (frame.Call (Turning Quiet) ∷ [])) (row_of p.rows x) (s.open_frees x)) in
     record {
@@ -288,7 +241,7 @@ pub is-handling : (v : ℕ) (callers : List Waiting) (turn : Option TurnFrame) (
 is-handling v callers turn objects none h = let w = waits-handling v callers turn objects none h in rw w.4 tt
 
 -- by the event that the turn names
-pub named-over : (v : ℕ) (callers : List Waiting) (turn : Option TurnFrame) (objects : Objects) (event : What × Obj) → objects.works ≡ [] → ((what : What) (x : Obj) (handler : Handler) (time : ℕ) → turn ≡ Some (Handling what x handler time) → event ≡ (what, x))
+pub named-over : (v : ℕ) (callers : List Waiting) (turn : Option TurnFrame) (objects : Objects) (event : What × Obj) → objects.works ≡ [] → ((what : What) (x : Obj) (handler : Handler) (occasion : Occasion) → turn ≡ Some (Handling what x handler occasion) → event ≡ (what, x))
     → IsConsistent (call_view (Returning v) objects.works (stack_of callers) (turns_of turn) objects.pool) → HandlerOver v callers turn objects event.0 event.1
 named-over v callers turn objects event none names h =
     let w = waits-handling v callers turn objects none h in
@@ -351,8 +304,7 @@ clears-along v callers turn objects quiet objects' x w b work =
 turn-speaks : (f : TurnFrame) (q : Ask) (works : List FreeFrame) (cs : List CallFrame) (ts : List OpenTurn) (p : Pool) → TurnSpeaks f → speaking_view (turn_view f q works cs ts p) ≡ true
 turn-speaks (Timing again) q works cs ts p s = refl
 turn-speaks (Polling limit) q works cs ts p s = refl
-turn-speaks Reading q works cs ts p s = refl
-turn-speaks (Firing what x handler now) q works cs ts p s = refl
+turn-speaks (Firing what x handler occasion) q works cs ts p s = refl
 turn-speaks _ q works cs ts p s = absurd s
 
 -- and so does a caller
@@ -360,3 +312,4 @@ pub others-speak : (now : Active) (callers : List Waiting) (turn : Option TurnFr
 others-speak (active.Caller c) callers turn objects other b = caller-speaks c objects.works (stack_of callers) (turns_of turn) objects.pool
 others-speak active.Freeing callers turn objects other b = absurd (other refl)
 others-speak (active.Turning t) callers turn objects other b = turn-speaks t.frame t.caller objects.works (stack_of callers) (turns_of turn) objects.pool b.parts.speaks
+others-speak (active.Reaching r) callers turn objects other b = refl

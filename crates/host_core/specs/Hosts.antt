@@ -3,15 +3,16 @@ use Rattle.std.specs.Prelude.{◌≡◌, ℕ, ◌+◌, ◌≤◌, ◌<◌, Bool,
 use Rattle.step_machine.specs.Machine.{Move}
 use Rattle.step_machine.specs.Machine.{Move as Do}
 use Rattle.tree_specs.specs.declared.event.Event.{Event}
-use Rattle.tree_specs.specs.declared.event.Event.TheVariants.{Warned, Replied, Fired}
+use Rattle.tree_specs.specs.declared.event.Event.TheVariants.{Replied, Fired}
 use Rattle.tree_specs.specs.declared.frame.Frame.{Frame}
 use Rattle.tree_specs.specs.declared.frame.Frame.TheVariants as frame
 use Rattle.tree_specs.specs.declared.frame.CallFrame.{CallFrame}
-use Rattle.tree_specs.specs.declared.frame.CallFrame.TheVariants.{Asking, Doing, Awaiting, Warning, Telling, Returning}
+use Rattle.tree_specs.specs.declared.frame.CallFrame.TheVariants.{Asking, Doing, Awaiting, Announcing, Telling, Returning}
 use Rattle.tree_specs.specs.declared.frame.FreeFrame.{FreeFrame}
 use Rattle.tree_specs.specs.declared.frame.FreeFrame.TheVariants.{Unlinking, Beginning, Looping, Ending}
 use Rattle.tree_specs.specs.declared.frame.TurnFrame.{TurnFrame}
-use Rattle.tree_specs.specs.declared.frame.TurnFrame.TheVariants.{Taking, Firing, Handling, Reading, Closing}
+use Rattle.tree_specs.specs.declared.frame.TurnFrame.TheVariants.{Taking, Firing, Handling, Closing}
+use Rattle.tree_specs.specs.declared.frame.OutsideFrame.TheVariants.{Reaching}
 use Rattle.tree_specs.specs.declared.frame.Purpose.TheVariants.{Emptying}
 use Rattle.tree_specs.specs.declared.frame.Answer.{Answer}
 use Rattle.tree_specs.specs.declared.frame.Answer.TheVariants.{Freed}
@@ -34,9 +35,10 @@ use Rattle.tree_specs.specs.declared.call.Call.TheVariants as call
 use Rattle.tree_specs.specs.declared.object.Owner.{Owner}
 use Rattle.tree_specs.specs.declared.reply.Reply.{Reply}
 use Rattle.tree_specs.specs.Calls.Refusals.{refusals}
-use Rattle.tree_specs.specs.Rules.Story.{later}
+use Rattle.tree_specs.specs.Rules.Answers.{later}
 use Rattle.tree_specs.specs.Invariants.Measure.{pending, cost}
-use Rattle.tree_specs.specs.Machine.View.{View, rest_of}
+use Rattle.tree_specs.specs.Rules.Story.{notice_event}
+use Rattle.tree_specs.specs.Machine.View.{View, rest_of, strays_of}
 use Rattle.tree_specs.specs.Invariants.Consistent.{IsConsistent}
 use Rattle.destructors.specs.Frees.{speaking}
 use Rattle.destructors.specs.Works.{IsAtWork}
@@ -50,11 +52,13 @@ use Rattle.host_core.specs.declared.caller.Stage.TheVariants as stage
 use Rattle.host_core.specs.declared.caller.Waiting.{Waiting}
 use Rattle.host_core.specs.declared.active.Active.TheVariants as active
 use Rattle.host_core.specs.declared.motion.Motion.{Motion}
-use Rattle.host_core.specs.declared.reports.Report.{Report}
-use Rattle.host_core.specs.declared.motion.Motion.TheVariants.{Replies, Warns, Frees, Unlinks, Empties, AsksTime, Turns}
+use Rattle.host_core.specs.declared.owned_reply.OwnedReply.{OwnedReply}
+use Rattle.host_core.specs.declared.reach.Reach.{Reach}
+use Rattle.host_core.specs.declared.motion.Motion.TheVariants.{Replies, Announces, Frees, Unlinks, Empties, Asks, Turns}
 use Rattle.host_core.specs.declared.turn.Turn.{Turn}
-use Rattle.host_core.specs.Moves.{report_of, telling, warning}
-use Rattle.host_core.specs.Turns.{turns_of, turn_view, turn_asks, TurnSpeaks, IsFor, turn_given}
+use Rattle.host_core.specs.Moves.{report_of, telling, announcing}
+use Rattle.host_core.specs.Turns.{turns_of, turn_view, turn_asks, TurnSpeaks, turn_given}
+use Rattle.host_core.specs.Reaches.{IsOutside, outside_view, outside_given}
 
 -- ---- the callers of a host, as frames
 
@@ -62,7 +66,7 @@ use Rattle.host_core.specs.Turns.{turns_of, turn_view, turn_asks, TurnSpeaks, Is
 abbrev pub staged : Ask → Stage → CallFrame
 staged q stage.Asking = Asking q
 staged q (stage.Telling r) = Telling q r
-staged q (stage.Warning x r) = Warning q x r
+staged q (stage.Announcing notice r) = Announcing q notice r
 
 abbrev pub frame_of : Caller → CallFrame
 frame_of c = staged c.ask c.stage
@@ -85,6 +89,7 @@ seen (active.Caller c) works callers turns p = call_view (frame_of c) works call
 seen active.Freeing [] callers turns p = record { innermost = frame.Free (Ending Ok); below = calling callers turns; pool = p }
 seen active.Freeing (f ∷ fs) callers turns p = free_view f fs callers turns p
 seen (active.Turning t) works callers turns p = turn_view t.frame t.caller works callers turns p
+seen (active.Reaching r) works callers turns p = outside_view (Reaching r.question) r.caller works callers turns p
 
 abbrev pub is_quiet : Ask → Bool
 is_quiet Quiet = true
@@ -98,11 +103,11 @@ turn_begun q works callers turns p = call_view (telling q (short_reply.No refusa
 -- the works of a host whose caller, which was asked this, has done a call: it goes on, or waits for what the call has begun
 abbrev pub view_after : Ask → Motion → List FreeFrame → List CallFrame → List OpenTurn → Pool → View
 view_after q (Replies b) works callers turns p = call_view (telling q b) works callers turns p
-view_after q (Warns x b) works callers turns p = call_view (warning q x b) works callers turns p
+view_after q (Announces notice b) works callers turns p = call_view (announcing q notice b) works callers turns p
 view_after q (Frees x) works callers turns p = free_view (Beginning x) works (Awaiting q x ∷ callers) turns p
 view_after q (Unlinks o x) works callers turns p = free_view (Unlinking o x) works (Awaiting q x ∷ callers) turns p
 view_after q (Empties x) works callers turns p = free_view (Looping x Emptying) works (Awaiting q x ∷ callers) turns p
-view_after q AsksTime works callers turns p = turn_view Reading q works callers turns p
+view_after q (Asks outside) works callers turns p = outside_view (Reaching outside) q works callers turns p
 view_after q Turns works callers turns p = turn_begun q works callers turns p
 
 abbrev pub view_of : Active → List Waiting → Option TurnFrame → Objects → View
@@ -119,10 +124,10 @@ pub record FreeReady (objects : Objects) : Type 0 where
   pub at_work : IsAtWork (frees_in objects)
   pub settled : speaking (frees_in objects) ≡ true
 
--- a turn tells or asks something next, is that caller's to ask for, and has its question at hand
+-- a turn tells or asks something next, is a call of the host's own caller, and has its question at hand
 pub record TurnReady (t : Turn) : Type 0 where
   pub speaks : TurnSpeaks t.frame
-  pub caller : IsFor t.frame t.caller
+  pub caller : t.caller ≡ Quiet
   pub question : t.question ≡ turn_asks t.frame
 
 -- what the parts keep besides what holds of a host at every moment
@@ -130,6 +135,7 @@ abbrev pub PartsReady : Active → Objects → Type 0
 PartsReady (active.Caller c) objects = Unit {0}
 PartsReady active.Freeing objects = FreeReady objects
 PartsReady (active.Turning t) objects = TurnReady t
+PartsReady (active.Reaching r) objects = IsOutside r.question
 
 pub record BetweenSteps (now : Active) (callers : List Waiting) (turn : Option TurnFrame) (objects : Objects) : Type 0 where
   pub whole : IsConsistent (view_of now callers turn objects)
@@ -180,12 +186,13 @@ next_of v = moved (step v.innermost v.pool) v.below
 abbrev pub speaking_view : View → Bool
 speaking_view v = speaks (step v.innermost v.pool)
 
--- From one moment of a host to a later one nothing was told or asked.
+-- From one moment of a host to a later one nothing was told or asked, and the same answers fit.
 pub record TellsSameStory (v w : View) : Type 0 where
   pub whole : IsConsistent w
   pub rows : (R : ℕ) → length v.pool.rows + pending v.innermost ≤ R → length w.pool.rows + pending w.innermost ≤ R
   pub no_dearer : (R : ℕ) → length v.pool.rows + pending v.innermost ≤ R → cost R w.innermost w.below w.pool 0 ≤ cost R v.innermost v.below v.pool 0
   pub same : (is : List Input) → rest_of v is ≡ rest_of w is
+  pub strays : (is : List Input) → strays_of v is ≡ strays_of w is
 
 -- The same, by at least one step.
 pub record StepsSilently (v w : View) : Type 0 where
@@ -210,13 +217,13 @@ pub record Finished (a : FreeReply) (old : List Waiting) (turn : Option TurnFram
 
 -- what a caller tells
 abbrev pub told_by : CallFrame → Option Event
-told_by (Warning q x r) = Some (Warned x)
+told_by (Announcing q notice r) = Some (notice_event notice)
 told_by (Telling q r) = Some (Replied r)
 told_by f = None
 
 -- and how it goes on
 abbrev pub after_telling : CallFrame → CallFrame
-after_telling (Warning q x r) = Telling q r
+after_telling (Announcing q notice r) = Telling q r
 after_telling (Telling q r) = Asking q
 after_telling f = f
 
@@ -227,9 +234,14 @@ abbrev pub IsTurning : Active → Type 0
 IsTurning (active.Turning t) = Unit {0}
 IsTurning _ = ⊥
 
+-- a question to the outside is open
+abbrev pub is_reaching : Active → Bool
+is_reaching (active.Reaching r) = true
+is_reaching now = false
+
 -- a turn waits for the run of a handler
 abbrev pub IsHandling : Option TurnFrame → Type 0
-IsHandling (Some (Handling what x handler time)) = Unit {0}
+IsHandling (Some (Handling what x handler occasion)) = Unit {0}
 IsHandling _ = ⊥
 
 -- who is at work where this is still to do of a turn that was called for by who was asked this
@@ -239,8 +251,8 @@ StandsWith f q now = now ≡ active.Turning (record { frame = f; question = turn
 
 -- a turn has told that a handler starts, which runs from then on; or it tells nothing, and nothing has changed
 abbrev pub FiresBy : TurnFrame → Option TurnFrame → Option Event → Active → Active → Option TurnFrame → Type 0
-FiresBy (Firing what x handler time) turn told old now turn' =
-    (told ≡ Some (Fired what x handler.routine)) × StandsAs now (Asking (Routine (handler_moment what x handler time))) × (turn' ≡ Some (Handling what x handler time))
+FiresBy (Firing what x handler occasion) turn told old now turn' =
+    (told ≡ Some (Fired what x handler.routine)) × StandsAs now (Asking (Routine (handler_moment what x handler occasion))) × (turn' ≡ Some (Handling what x handler occasion))
 FiresBy f turn told old now turn' = (told ≡ None) × (now ≡ old) × (turn' ≡ turn)
 
 abbrev pub Fires : Active → Option TurnFrame → Option Event → Active → Option TurnFrame → Type 0
@@ -264,6 +276,7 @@ abbrev pub asked_now : Active → Option Ask
 asked_now (active.Caller c) = open_at c.stage c.ask
 asked_now active.Freeing = None
 asked_now (active.Turning t) = t.question
+asked_now (active.Reaching r) = Some r.question
 
 -- the question with what a routine is to remember
 abbrev pub remembers : Ask → Option Reply → Ask
@@ -282,6 +295,7 @@ abbrev pub view_given : Active → Input → List FreeFrame → List CallFrame �
 view_given (active.Caller c) i works callers turns p = call_view (begins_with c.ask i) works callers turns p
 view_given active.Freeing i works callers turns p = seen active.Freeing works callers turns p
 view_given (active.Turning t) i works callers turns p = turn_view (turn_given t.frame i p) t.caller works callers turns p
+view_given (active.Reaching r) i works callers turns p = outside_view (outside_given r.question i) r.caller works callers turns p
 
 abbrev pub given_view : Active → Input → Parts → View
 given_view now i parts = view_given now i parts.objects.works (stack_of parts.callers.items) (turns_of parts.turn) parts.objects.pool
@@ -303,6 +317,6 @@ IsCopy (input.Act a) (Some r) o p = IsReplyOf o r p
 IsCopy i copy o p = copy ≡ None
 
 -- the report that an input wants, which is about this owner
-pub record IsReport (i : Input) (r : Report) (o : Owner) (p : Pool) : Type 0 where
+pub record IsReport (i : Input) (r : OwnedReply) (o : Owner) (p : Pool) : Type 0 where
   pub reply : IsReplyOf o r.reply p
   pub copy : IsCopy i r.copy o p

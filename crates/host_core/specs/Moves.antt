@@ -11,52 +11,56 @@ use Rattle.tree_specs.specs.declared.question.Input.TheVariants as input
 use Rattle.tree_specs.specs.declared.frame.Frame.{Frame}
 use Rattle.tree_specs.specs.declared.frame.Frame.TheVariants as frame
 use Rattle.tree_specs.specs.declared.frame.CallFrame.{CallFrame}
-use Rattle.tree_specs.specs.declared.frame.CallFrame.TheVariants.{Awaiting, Turning, Telling, Warning}
-use Rattle.tree_specs.specs.declared.frame.TurnFrame.TheVariants.{Reading}
+use Rattle.tree_specs.specs.declared.frame.CallFrame.TheVariants.{Awaiting, Turning, Telling, Announcing}
+use Rattle.tree_specs.specs.declared.frame.OutsideFrame.TheVariants.{Reaching}
+use Rattle.tree_specs.specs.declared.notice.Notice.{Notice}
 use Rattle.tree_specs.specs.Machine.Table.{turning_step}
 use Rattle.tree_specs.specs.declared.frame.FreeFrame.TheVariants.{Unlinking, Beginning, Looping}
 use Rattle.tree_specs.specs.declared.frame.Purpose.TheVariants.{Emptying}
 use Rattle.tree_specs.specs.declared.frame.Answer.{Answer}
 use Rattle.tree_specs.specs.declared.call.Call.{Call}
 use Rattle.tree_specs.specs.declared.call.Call.TheVariants as call
-use Rattle.tree_specs.specs.declared.object.Obj.{Obj}
 use Rattle.tree_specs.specs.declared.object.Owner.{Owner}
 use Rattle.tree_specs.specs.Tree.Pool.{Pool}
 use Rattle.tree_specs.specs.Rules.Items.{Item}
-use Rattle.tree_specs.specs.Rules.Story.{later}
+use Rattle.tree_specs.specs.Rules.Answers.{later}
+use Rattle.host_core.specs.Reaches.{IsOutside}
 use Rattle.host_core.specs.declared.motion.Motion.{Motion}
-use Rattle.host_core.specs.declared.motion.Motion.TheVariants.{Replies, Warns, Frees, Unlinks, Empties, AsksTime, Turns}
+use Rattle.host_core.specs.declared.motion.Motion.TheVariants.{Replies, Announces, Frees, Unlinks, Empties, Asks, Turns}
 use Rattle.host_core.specs.declared.short_reply.ShortReply.{ShortReply}
 use Rattle.host_core.specs.declared.short_reply.ShortReply.TheVariants as short_reply
 
 abbrev pub reply_of : ShortReply → Reply
 reply_of short_reply.Ok = reply.Ok
 reply_of (short_reply.Number n) = reply.Number n
+reply_of short_reply.Again = reply.Again
+reply_of short_reply.Fault = reply.Fault
+reply_of short_reply.End = reply.End
 reply_of (short_reply.No why) = reply.No why
 
 -- the reply is told next
 abbrev pub telling : Ask → ShortReply → CallFrame
 telling q b = Telling (later q (reply_of b)) (reply_of b)
 
--- a warning is told next, and then the reply
-abbrev pub warning : Ask → Obj → ShortReply → CallFrame
-warning q x b = Warning (later q (reply_of b)) x (reply_of b)
+-- a notice is told next, and then the reply
+abbrev pub announcing : Ask → Notice → ShortReply → CallFrame
+announcing q notice b = Announcing (later q (reply_of b)) notice (reply_of b)
 
 -- what a call does first, for a caller that was asked this
 abbrev pub move_of : Ask → Motion → Pool → Move Frame Answer Pool Item
 move_of q (Replies b) p = Do.Go (frame.Call (telling q b)) p
-move_of q (Warns x b) p = Do.Go (frame.Call (warning q x b)) p
+move_of q (Announces notice b) p = Do.Go (frame.Call (announcing q notice b)) p
 move_of q (Frees x) p = Do.Call (frame.Free (Beginning x)) (frame.Call (Awaiting q x)) p
 move_of q (Unlinks o x) p = Do.Call (frame.Free (Unlinking o x)) (frame.Call (Awaiting q x)) p
 move_of q (Empties x) p = Do.Call (frame.Free (Looping x Emptying)) (frame.Call (Awaiting q x)) p
-move_of q AsksTime p = Do.Call (frame.Turn Reading) (frame.Call (Turning q)) p
+move_of q (Asks outside) p = Do.Call (frame.Outside (Reaching outside)) (frame.Call (Turning q)) p
 move_of q Turns p = turning_step q p
 
--- what a call begins has the memory that the call was given
+-- what a call begins has the memory that the call was given, and what it asks is asked of the outside
 abbrev pub ReadyFor : Motion → Bool → Type 0
 ReadyFor (Replies b) ready = Unit {0}
-ReadyFor (Warns x b) ready = Unit {0}
-ReadyFor AsksTime ready = Unit {0}
+ReadyFor (Announces notice b) ready = Unit {0}
+ReadyFor (Asks outside) ready = IsOutside outside
 ReadyFor Turns ready = Unit {0}
 ReadyFor m ready = ready ≡ true
 

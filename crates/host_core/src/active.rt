@@ -1,17 +1,20 @@
 //! What is at work in a host, above all that waits.
-ghost use Rattle.std.specs.Prelude.{◌≡◌, ◌↔◌, Some, IsSome, IsTrue, is_none};
+ghost use Rattle.std.specs.Prelude.{◌≡◌, ◌↔◌, Some, IsSome, IsTrue, is_none, true};
 ghost use Rattle.std.specs.Option.{option_copied};
 ghost use Rattle.tree_specs.specs.declared.question.Ask.{Ask as AskData};
 ghost use Rattle.tree_specs.specs.declared.frame.CallFrame.TheVariants.{Telling};
 ghost use Rattle.tree_specs.specs.Texts.Schedule.{misfit};
-ghost use Rattle.host_core.specs.Hosts.{remembers, caller_asked, asked_now, is_quiet, StandsAs};
-ghost use Rattle.host_core.specs.Moves.{telling, warning};
+ghost use Rattle.host_core.specs.Hosts.{remembers, caller_asked, asked_now, is_quiet, is_reaching, StandsAs};
+ghost use Rattle.host_core.specs.declared.reach.Reach.{Reach as ReachData};
+ghost use Rattle.host_core.specs.Moves.{telling, announcing};
 
 use crate::caller::{Caller, Stage};
-use crate::reports::Report;
+use crate::owned_reply::OwnedReply;
+use crate::reach::{Reach, takes};
 use crate::short_reply::ShortReply;
 use crate::turn::Turn;
-use tree_specs::{Ask, Input, Obj};
+use std::mem;
+use tree_specs::{Ask, Input, Notice};
 
 /// What is at work, above all that waits.
 #[derive(Debug, Drop)]
@@ -20,8 +23,10 @@ pub enum Active {
     Caller(Caller),
     /// The innermost free.
     Freeing,
-    /// A turn of the event loop, or the asking of the clock.
+    /// A turn of the event loop.
     Turning(Turn),
+    /// A question to the outside.
+    Reaching(Reach),
 }
 
 impl Active {
@@ -37,6 +42,7 @@ impl Active {
                 },
             ) => Some(ask),
             Active::Turning(turn) => turn.question.as_ref(),
+            Active::Reaching(reach) => Some(&reach.question),
             _ => None,
         }
     }
@@ -45,12 +51,9 @@ impl Active {
     pub fn takes(&self, input: &Input) -> bool
         ensures { result ≡ is_none (misfit (asked_now self.now) input.now) }
     {
-        match (self.question(), input) {
-            (Some(Ask::Quiet), Input::Call(_))
-            | (Some(Ask::Routine(_)), Input::Act(_))
-            | (Some(Ask::Clock), Input::Clock(_))
-            | (Some(Ask::Wait(_)), Input::Ready(_)) => true,
-            _ => false,
+        match self.question() {
+            Some(ask) => takes(ask, input),
+            None => false,
         }
     }
 
@@ -66,6 +69,28 @@ impl Active {
         ensures { IsTrue result ↔ (self.now ≡ Active.Freeing) }
     {
         matches!(self, Active::Freeing)
+    }
+
+    /// Whether a question to the outside is open.
+    pub fn is_reaching(&self) -> bool
+        ensures { result ≡ is_reaching self.now }
+    {
+        matches!(self, Active::Reaching(_))
+    }
+
+    /// The outside has answered with a reply that owns memory, which comes next to the caller that asked.
+    pub fn hear(&mut self, reply: OwnedReply)
+        requires { is_reaching self.old ≡ true }
+        ensures { (r : ReachData) → self.old ≡ Active.Reaching r → StandsAs self.new (Telling (remembers r.caller reply.copy) reply.reply) }
+    {
+        if let Active::Reaching(Reach { caller, .. }) = mem::replace(self, Active::Freeing) {
+            let mut caller = Caller {
+                ask: caller,
+                stage: Stage::Asking,
+            };
+            caller.reply_whole(reply.reply, reply.copy);
+            self.go_to(Active::Caller(caller));
+        }
     }
 
     /// Whether the host's own caller is at work.
@@ -91,18 +116,18 @@ impl Active {
         }
     }
 
-    /// A warning comes next, and then the reply to the call of the caller that was asked.
-    pub fn warn(&mut self, x: Obj, reply: ShortReply)
+    /// A notice comes next, and then the reply to the call of the caller that was asked.
+    pub fn announce(&mut self, notice: Notice, reply: ShortReply)
         requires { IsSome (caller_asked self.old) }
-        ensures { (q : AskData) → caller_asked self.old ≡ Some q → StandsAs self.new (warning q x reply) }
+        ensures { (q : AskData) → caller_asked self.old ≡ Some q → StandsAs self.new (announcing q notice reply) }
     {
         if let Active::Caller(caller) = self {
-            caller.warn(x, reply);
+            caller.announce(notice, reply);
         }
     }
 
     /// A report comes next to the caller that was asked.
-    pub fn report(&mut self, report: Report)
+    pub fn report(&mut self, report: OwnedReply)
         requires { IsSome (caller_asked self.old) }
         ensures { (q : AskData) → caller_asked self.old ≡ Some q → StandsAs self.new (Telling (remembers q report.copy) report.reply) }
     {

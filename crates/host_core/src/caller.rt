@@ -5,16 +5,17 @@ ghost use Rattle.tree_specs.specs.declared.frame.Answer.TheVariants.{Freed};
 ghost use Rattle.tree_specs.specs.declared.question.Ask.TheVariants.{Routine};
 ghost use Rattle.tree_specs.specs.Tree.Pool.{row_of};
 ghost use Rattle.tree_specs.specs.Invariants.Sound.{HasHook};
-ghost use Rattle.tree_specs.specs.Rules.Story.{later, hook_moment};
+ghost use Rattle.tree_specs.specs.Rules.Answers.{later, hook_moment};
 ghost use Rattle.tree_specs.specs.Machine.Table.{caller_resume};
 ghost use Rattle.host_core.specs.Hosts.{frame_of, awaiting, after_telling, told_by, remembers};
-ghost use Rattle.host_core.specs.Moves.{reply_of, telling, warning};
+ghost use Rattle.host_core.specs.Moves.{reply_of, telling, announcing};
+ghost use Rattle.tree_specs.specs.Rules.Story.{notice_event};
 
 use crate::calls::freed;
 use crate::short_reply::ShortReply;
 use object_pool::ObjectPool;
 use std::mem;
-use tree_specs::{Ask, Event, FreeReply, Moment, Obj, Reply, What};
+use tree_specs::{Ask, Event, FreeReply, Moment, Notice, Obj, Reply, What};
 
 /// One that is asked for calls, and is told the reply to each. It is known by its question.
 #[derive(Debug, Drop)]
@@ -30,8 +31,8 @@ pub enum Stage {
     Asking,
     /// The reply to its call, and then the question.
     Telling(Reply),
-    /// The warning that this object has references and went to another owner, and then the reply.
-    Warning(Obj, Reply),
+    /// The notice, and then the reply.
+    Announcing(Notice, Reply),
 }
 
 /// A caller whose call waits for the freeing of an object, or of its children.
@@ -39,6 +40,16 @@ pub enum Stage {
 pub struct Waiting {
     pub ask: Ask,
     pub x: Obj,
+}
+
+/// The event by which a notice is told.
+fn event_of(notice: Notice) -> Event
+    ensures { result ≡ notice_event notice }
+{
+    match notice {
+        Notice::Warned(x) => Event::Warned(x),
+        Notice::Closed(fd) => Event::Closed(fd),
+    }
 }
 
 /// The moment after one more call, to which this was the reply.
@@ -99,12 +110,24 @@ impl Caller {
         self.stage = Stage::Telling(reply.reply());
     }
 
-    /// A warning comes next, and then the reply, which the caller remembers.
-    pub fn warn(&mut self, x: Obj, reply: ShortReply)
-        ensures { frame_of self.new ≡ warning self.old.ask x reply }
+    /// A notice comes next, and then the reply, which the caller remembers.
+    pub fn announce(&mut self, notice: Notice, reply: ShortReply)
+        ensures { frame_of self.new ≡ announcing self.old.ask notice reply }
     {
         remember(&mut self.ask, reply);
-        self.stage = Stage::Warning(x, reply.reply());
+        self.stage = Stage::Announcing(notice, reply.reply());
+    }
+
+    /// A caller whose turn is over, or whom the outside has answered, with this reply.
+    pub fn after(ask: Ask, reply: ShortReply) -> Caller
+        ensures { frame_of result ≡ telling ask reply }
+    {
+        let mut caller = Caller {
+            ask,
+            stage: Stage::Asking,
+        };
+        caller.reply(reply);
+        caller
     }
 
     /// A reply that owns memory comes next. A routine remembers the copy.
@@ -123,9 +146,9 @@ impl Caller {
         match mem::replace(&mut self.stage, Stage::Asking) {
             Stage::Asking => None,
             Stage::Telling(reply) => Some(Event::Replied(reply)),
-            Stage::Warning(x, reply) => {
+            Stage::Announcing(notice, reply) => {
                 self.stage = Stage::Telling(reply);
-                Some(Event::Warned(x))
+                Some(event_of(notice))
             }
         }
     }
@@ -136,11 +159,6 @@ impl Waiting {
     pub fn resumed(self, answer: FreeReply) -> Caller
         ensures { frame_of result ≡ caller_resume (awaiting self) (Freed answer) }
     {
-        let mut caller = Caller {
-            ask: self.ask,
-            stage: Stage::Asking,
-        };
-        caller.reply(freed(self.x, answer));
-        caller
+        Caller::after(self.ask, freed(self.x, answer))
     }
 }

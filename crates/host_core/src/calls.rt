@@ -3,11 +3,11 @@ ghost use Rattle.std.specs.Prelude.{◌≡◌, None, true};
 ghost use Rattle.tree_specs.specs.Calls.Refusals.{tests, refusals};
 ghost use Rattle.tree_specs.specs.Calls.Passed.{AllPassed};
 ghost use Rattle.tree_specs.specs.Calls.Plans.{plan, places as places_of, warns as worth_a_warning};
-ghost use Rattle.tree_specs.specs.declared.call.Call.TheVariants.{Free as FreeOf};
+ghost use Rattle.tree_specs.specs.declared.call.Call.TheVariants.{Free as FreeOf, Close as CloseOf};
 ghost use Rattle.tree_specs.specs.declared.question.Ask.{Ask as AskData};
 ghost use Rattle.host_core.specs.declared.motion.Motion.TheVariants.{Replies};
 ghost use Rattle.host_core.specs.declared.short_reply.ShortReply.TheVariants.{Number as NumberReply};
-ghost use Rattle.tree_specs.specs.Rules.Story.{freed_reply};
+ghost use Rattle.tree_specs.specs.Rules.Answers.{freed_reply};
 ghost use Rattle.tree_specs.specs.Machine.Table.{call_step, plan_step};
 ghost use Rattle.tree_links.specs.Links.{MayPlace};
 ghost use Rattle.object_pool.specs.Objects.{RefsMayGo};
@@ -17,7 +17,7 @@ use crate::motion::Motion;
 use crate::refusals::check;
 use crate::short_reply::ShortReply;
 use object_pool::ObjectPool;
-use tree_specs::{Call, FreeReply, Handler, Kind, Name, Obj, Owner, Refusal};
+use tree_specs::{Ask, Call, FreeReply, Handler, Kind, Name, Notice, Obj, Owner, Refusal};
 
 /// The reply to a call that has freed.
 pub fn freed(x: Obj, answer: FreeReply) -> ShortReply
@@ -48,7 +48,7 @@ fn give(x: Obj, owner: Owner, reply: ShortReply, pool: &mut ObjectPool) -> Motio
     let warned = warns(owner, x, pool);
     pool.place(x, owner);
     if warned {
-        Motion::Warns(x, reply)
+        Motion::Announces(Notice::Warned(x), reply)
     } else {
         Motion::Replies(reply)
     }
@@ -56,12 +56,23 @@ fn give(x: Obj, owner: Owner, reply: ShortReply, pool: &mut ObjectPool) -> Motio
 
 /// Frees an object to which there is no reference. The one reference to an object of the root's is dropped instead.
 fn free(x: Obj, pool: &ObjectPool) -> Motion
-    ensures { (q : AskData) → move_of q result pool.now.pool ≡ plan_step q (plan pool.now.pool (FreeOf x)) pool.now.pool }
+    ensures goes { ReadyFor result true }
+    ensures moved { (q : AskData) → move_of q result pool.now.pool ≡ plan_step q (plan pool.now.pool (FreeOf x)) pool.now.pool }
 {
     match pool.newest(x) {
         Some(_) => Motion::Unlinks(Owner::Root, x),
         None => Motion::Frees(x),
     }
+}
+
+/// Closes a descriptor, which is told before the reply.
+fn close(fd: u32, pool: &mut ObjectPool) -> Motion
+    ensures goes { ReadyFor result pool.new.ready }
+    ensures works { pool.new.works ≡ pool.old.works }
+    ensures moved { (q : AskData) → move_of q result pool.new.pool ≡ plan_step q (plan pool.old.pool (CloseOf fd)) pool.old.pool }
+{
+    pool.close(fd);
+    Motion::Announces(Notice::Closed(fd), ShortReply::Ok)
 }
 
 /// The reply is a number.
@@ -107,11 +118,28 @@ fn effect(call: Call, pool: &mut ObjectPool) -> Motion
             routine,
             user,
         } => return number(pool.add_timer(owner, time, Handler { routine, user }).0),
-        Call::Now => return Motion::AsksTime,
+        Call::Fd {
+            owner,
+            fd,
+            flags,
+            routine,
+            user,
+        } => {
+            let handler = Handler { routine, user };
+            return number(pool.add_descriptor(owner, fd, flags, handler).0);
+        }
+        Call::Getflags { x } => return number(u64::from(pool.flags(x).unwrap_or(0))),
+        Call::Close { fd } => return close(fd, pool),
+        Call::Accept { fd } => return Motion::Asks(Ask::Accept(fd)),
+        Call::Read { fd, len } => return Motion::Asks(Ask::Read(fd, len)),
+        Call::Write { fd, bytes } => return Motion::Asks(Ask::Write(fd, bytes)),
+        Call::Now => return Motion::Asks(Ask::Clock),
         Call::Turn => return Motion::Turns,
         Call::Pending => return number(pool.pending()),
         Call::Schedule { x, routine: 0, .. } | Call::Unschedule { x } => pool.unschedule(x),
         Call::Schedule { x, routine, user } => pool.schedule(x, Handler { routine, user }),
+        Call::Flags { x, flags } => pool.set_flags(x, flags),
+        Call::Autoclose { x } => pool.set_closing(x),
         Call::Reparent { from, to, x } => pool.reparent(from, to, x),
         Call::Hook { x, routine } => pool.hook(x, routine),
         Call::Unhook { x } => pool.hook(x, 0),

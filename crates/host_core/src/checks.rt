@@ -1,13 +1,14 @@
 //! What a call is refused for: each test, and tests one after another.
 ghost use Rattle.std.specs.Prelude.{◌≡◌, ◌<◌, [], ◌∷◌, IsOk};
 ghost use Rattle.std.specs.Option.{option_copied};
-ghost use Rattle.tree_specs.specs.Calls.Refusals.{checked, small, owner, object_row, plain, immediate, room, staying, lasting, still, apart, held, interested, given_by, unreferenced, growing, size_limit, refusal_of, refused};
+ghost use Rattle.tree_specs.specs.Calls.Refusals.{checked, small, owner, object_row, plain, immediate, descriptor, open_one, unused, room, staying, lasting, still, apart, held, interested, given_by, unreferenced, growing, size_limit, refusal_of, refused};
 
 use crate::subject::Subject;
 use object_pool::ObjectPool;
 use tree_specs::Test::{
-    Fits, HasRoom, IsImmediate, IsInterested, IsNotDoomed, IsNotDying, IsNotInside, IsNotRunning,
-    IsObject, IsOwner, IsPlain, IsSmall, IsUnheld, IsUnreferenced, MayGive, MayGrow,
+    Fits, HasRoom, IsDescriptor, IsImmediate, IsInterested, IsNotDoomed, IsNotDying, IsNotInside,
+    IsNotRunning, IsObject, IsOpen, IsOwner, IsPlain, IsSmall, IsUnheld, IsUnreferenced,
+    IsUnwatched, MayGive, MayGrow,
 };
 use tree_specs::{Kind, Mark, Obj, Owner, ROW_LIMIT, Refusal, Row, SIZE_LIMIT, Test};
 
@@ -77,6 +78,42 @@ fn check_immediate(x: Obj, objects: &Subject) -> Result<(), Refusal>
         ) => Ok(()),
         _ => Err(Refusal::WrongKind(x)),
     }
+}
+
+/// Only an event on a descriptor has flags.
+#[inline]
+fn check_descriptor(x: Obj, objects: &Subject) -> Result<(), Refusal>
+    ensures { result ≡ checked (descriptor objects.now x) }
+{
+    match objects.row(x) {
+        Some(
+            Row {
+                kind: Kind::Descriptor,
+                ..
+            },
+        ) => Ok(()),
+        _ => Err(Refusal::WrongKind(x)),
+    }
+}
+
+/// Nothing is asked of a descriptor that isn't open.
+pub fn check_open(fd: u32, pool: &ObjectPool) -> Result<(), Refusal>
+    ensures { result ≡ checked (open_one pool.now.pool fd) }
+{
+    if pool.is_open(fd) {
+        return Ok(());
+    }
+    Err(Refusal::NoSuch(u64::from(fd)))
+}
+
+/// There is one event on a descriptor at most, and none when it is closed.
+fn check_unwatched(fd: u32, pool: &ObjectPool) -> Result<(), Refusal>
+    ensures { result ≡ checked (unused pool.now.pool fd) }
+{
+    if pool.is_watched(fd) {
+        return Err(Refusal::InUse(fd));
+    }
+    Ok(())
 }
 
 /// Whether there is room for so many rows, and whether there are so many numbers.
@@ -216,6 +253,9 @@ fn check_test(test: Test, objects: &Subject) -> Result<(), Refusal>
         IsOwner(owner) => check_owner(owner, objects.pool()),
         IsPlain(x) => check_plain(x, objects),
         IsImmediate(x) => check_immediate(x, objects),
+        IsDescriptor(x) => check_descriptor(x, objects),
+        IsOpen(fd) => check_open(fd, objects.pool()),
+        IsUnwatched(fd) => check_unwatched(fd, objects.pool()),
         HasRoom(rows) => check_room(rows, objects.pool()),
         Fits(owner, wanted) => objects.pool().fits(owner, wanted),
         MayGrow(x, size) => check_growing(x, size, objects),

@@ -13,6 +13,9 @@ pub enum OfferFault {
     /// No question is open, or the open one takes no such answer.
     #[error("no question is open that takes this answer")]
     NotAsked,
+    /// This descriptor, which was accepted, is open already.
+    #[error("descriptor {0} is open already")]
+    Taken(u32),
 }
 
 impl From<Memory> for OfferFault {

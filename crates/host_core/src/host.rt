@@ -3,34 +3,20 @@ ghost use Rattle.std.specs.Option.{option_copied};
 ghost use Rattle.tree_specs.specs.declared.schedule.Reason.TheVariants as reasons;
 ghost use Rattle.tree_specs.specs.Texts.Schedule.{misfit};
 ghost use Rattle.tree_specs.specs.Words.Ranges.{is_sound};
-ghost use Rattle.tree_specs.specs.Machine.Table.{event_of};
 ghost use Rattle.tree_specs.specs.Machine.View.{begin, question_of};
 
 use crate::active::Active;
 use crate::caller::{Caller, Stage, Waiting};
 use crate::fault::OfferFault;
 use crate::parts::Parts;
+use crate::reach::{is_bytes, read_on};
 use crate::reports::{made_report, report_owner};
 use crate::turns::fire;
 use crate::works::{answer_on, settle};
-use object_pool::ObjectPool;
+use object_pool::{ObjectPool, Progress};
 use std::alloc::Global;
 use std::marker::Model;
-use tree_specs::{Ask, Event, FreeStep, Input, Kind, Memory, Obj, Owner};
-
-/// The event for a step of a free, if the host tells it.
-fn event(step: FreeStep) -> Option<Event>
-    ensures { result ≡ event_of step }
-{
-    match step {
-        FreeStep::Dropped { reference, target } => Some(Event::Unreferenced { reference, target }),
-        FreeStep::Refused { object, answer } => Some(Event::Refused { object, answer }),
-        FreeStep::Accepted(object) => Some(Event::Accepted(object)),
-        FreeStep::Moved { object, owner, .. } => Some(Event::Moved { object, owner }),
-        FreeStep::Gone { object, hook } => Some(Event::Freed { object, hook }),
-        FreeStep::Ask(_) | FreeStep::Doom(_) | FreeStep::Left { .. } | FreeStep::Done(_) => None,
-    }
-}
+use tree_specs::{Ask, Event, Input, Kind, Memory, Obj, Owner, Want};
 
 /// Takes the memory for all that comes up to the next question. If memory runs out, callers and objects are as they
 /// were.
@@ -73,7 +59,11 @@ impl Host {
     ghost use Rattle.std.specs.Option.{option_map};
     ghost use Rattle.tree_specs.specs.Tree.Pool.{row_of, is_row, is_inside as inside};
     ghost use Rattle.tree_specs.specs.Invariants.Sound.{Sound};
-    ghost use Rattle.host_core.specs.Promises.{Waits, NextLaw, TakesAnswer};
+    ghost use Rattle.std.specs.Prelude.{ℕ, [], ◌∷◌};
+    ghost use Rattle.tree_specs.specs.Calls.Refusals.{is_open};
+    ghost use Rattle.tree_specs.specs.Events.Rotation.{wanted_of};
+    ghost use Rattle.tree_specs.specs.Machine.View.{strays_of};
+    ghost use Rattle.host_core.specs.Promises.{Waits, NextLaw, TakesAnswer, taken_in, taken_by};
     ghost use Rattle.std.specs.Prelude.{List};
     ghost use Rattle.step_machine.specs.Machine.{items as told_by};
     ghost use Rattle.tree_specs.specs.declared.question.Input.{Input as InputData};
@@ -96,7 +86,7 @@ impl Host {
             parts: Parts {
                 callers: Vec::new(alloc),
                 turn: None,
-                objects: ObjectPool::new(alloc, first),
+                objects: ObjectPool::new(alloc, first)?,
             },
         })
     }
@@ -120,6 +110,22 @@ impl Host {
         ensures { result ≡ (is_row self.now.pool.rows p && (is_row self.now.pool.rows x && inside self.now.pool.rows (At x) (At p))) }
     {
         self.is_live(p) && self.parts.objects.inside(x, Owner::Of(p))
+    }
+
+    /// Whether a descriptor is open.
+    pub fn is_open(&self, fd: u32) -> bool
+        ensures { result ≡ is_open self.now.pool fd }
+    {
+        self.parts.objects.is_open(fd)
+    }
+
+    /// The descriptors that are watched for something, and what for, in the order in which a turn looks at them, in place of
+    /// what was there. If memory runs out, nothing is given.
+    pub fn wants(&self, out: &mut Vec<Want>) -> Result<(), Memory>
+        ensures wants { OnOk result (out.new.items ≡ wanted_of self.now.pool.ring) }
+        ensures nothing { OnErr result (out.new.items ≡ []) }
+    {
+        self.parts.objects.wants(out)
     }
 
     /// How many objects are live.
@@ -153,25 +159,42 @@ impl Host {
         match &mut self.active {
             Active::Caller(caller) => caller.tell(),
             Active::Freeing => {
-                let step = self.parts.objects.step();
+                let Progress { event, .. } = self.parts.objects.step();
                 settle(&mut self.active, &mut self.parts);
-                event(step)
+                event
             }
             Active::Turning(_) => fire(&mut self.active, &mut self.parts.turn),
+            Active::Reaching(_) => None,
+        }
+    }
+
+    /// The descriptor that was accepted, where it is open already.
+    fn taken(&self, input: &Input) -> Option<u32>
+        ensures { result ≡ taken_in self.now.pool input.now }
+    {
+        match input {
+            Input::Took(fd) if self.is_open(*fd) => Some(*fd),
+            _ => None,
         }
     }
 
     /// Gives the answer to the open question. All memory up to the next question is taken first, and after a
     /// fault the host is as it was; the answer is dropped then. NotAsked comes exactly where no question is
-    /// open or the open one takes no such answer.
+    /// open or the open one takes no such answer, and Taken exactly where the descriptor that was accepted is open already.
     pub fn offer(&mut self, input: Input) -> Result<(), OfferFault>
         requires { IsTrue (is_sound input) }
         ensures ok { OnOk result (TakesAnswer self.old input self.new) }
         ensures err { OnErr result (self.new ≡ self.old) }
         ensures not_asked { (result ≡ Err OfferFault.NotAsked) ↔ (misfit (question_of self.old) input ≡ Some reasons.NotAsked) }
+        ensures taken { (fd : ℕ) → (result ≡ Err (OfferFault.Taken fd)) ↔ (taken_by (question_of self.old) self.old.pool input ≡ Some fd) }
+        // An answer of a descriptor that is open is the one that doesn't fit, though it was asked for.
+        ensures strays { (fd : ℕ) → result ≡ Err (OfferFault.Taken fd) → strays_of self.old (input ∷ []) ≡ true }
     {
         if !self.active.takes(&input) {
             return Err(OfferFault::NotAsked);
+        }
+        if let Some(fd) = self.taken(&input) {
+            return Err(OfferFault::Taken(fd));
         }
         let Parts {
             callers,
@@ -181,6 +204,10 @@ impl Host {
         if let Some(owner) = report_owner(&input) {
             let report = made_report(*callers.allocator(), &input, owner, objects)?;
             self.active.report(report);
+            return Ok(());
+        }
+        if is_bytes(&input) {
+            read_on(&mut self.active, *callers.allocator(), input)?;
             return Ok(());
         }
         make_room(callers, objects)?;

@@ -5,13 +5,15 @@ ghost use Rattle.tree_specs.specs.Calls.Refusals.{checked, refused, refusals};
 ghost use Rattle.tree_specs.specs.Tree.Sums.{overhead};
 
 use crate::checks::{
-    check_five, check_four, check_owner, check_row, check_six, check_size, check_three, check_two,
+    check_five, check_four, check_open, check_owner, check_row, check_six, check_size, check_three,
+    check_two,
 };
 use crate::subject::Subject;
 use object_pool::ObjectPool;
 use tree_specs::Test::{
-    Fits, HasRoom, IsImmediate, IsInterested, IsNotDoomed, IsNotDying, IsNotInside, IsNotRunning,
-    IsObject, IsOwner, IsPlain, IsSmall, IsUnheld, IsUnreferenced, MayGive, MayGrow,
+    Fits, HasRoom, IsDescriptor, IsImmediate, IsInterested, IsNotDoomed, IsNotDying, IsNotInside,
+    IsNotRunning, IsObject, IsOpen, IsOwner, IsPlain, IsSmall, IsUnheld, IsUnreferenced,
+    IsUnwatched, MayGive, MayGrow,
 };
 use tree_specs::{Call, OVERHEAD, Obj, Owner, Refusal, Test};
 
@@ -130,6 +132,26 @@ pub fn check(call: &Call, pool: &ObjectPool) -> Result<(), Refusal>
                 &Subject::object(x, pool),
             )
         }
+        Call::Fd { owner, fd, .. } => check_five(
+            IsOwner(owner),
+            IsOpen(fd),
+            IsUnwatched(fd),
+            HasRoom(1),
+            Fits(owner, OVERHEAD),
+            &Subject::none(pool),
+        ),
+        Call::Flags { x, .. } | Call::Getflags { x } | Call::Autoclose { x } => {
+            check_three(
+                IsObject(x),
+                IsDescriptor(x),
+                IsNotDoomed(x),
+                &Subject::object(x, pool),
+            )
+        }
+        Call::Close { fd } => check_two(IsOpen(fd), IsUnwatched(fd), &Subject::none(pool)),
+        Call::Accept { fd } | Call::Read { fd, .. } | Call::Write { fd, .. } => check_open(
+            fd, pool,
+        ),
         Call::Pending | Call::Now | Call::Turn => Ok(()),
         Call::Parent { x } => check_two(IsObject(x), IsNotDying(x), &Subject::object(x, pool)),
         Call::Freekids { x } | Call::Rename { x, .. } | Call::Limit { x, .. } => {

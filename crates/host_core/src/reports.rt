@@ -8,16 +8,10 @@ ghost use Rattle.host_core.specs.Moves.{call_of, reported};
 ghost use Rattle.host_core.specs.Hosts.{IsCopy, IsReport};
 
 use crate::checks::check_owner;
+use crate::owned_reply::OwnedReply;
 use object_pool::ObjectPool;
 use std::alloc::Global;
 use tree_specs::{Act, Call, Input, Memory, Owner, Reply};
-
-/// The reply to a report, with a copy where a routine is to remember it.
-#[derive(Debug, Drop)]
-pub struct Report {
-    pub reply: Reply,
-    pub copy: Option<Reply>,
-}
 
 /// The owner that a report is about. None for every other input.
 pub fn report_owner(input: &Input) -> Option<Owner>
@@ -63,10 +57,10 @@ pub fn made_report(
     input: &Input,
     owner: Owner,
     pool: &ObjectPool,
-) -> Result<Report, Memory>
+) -> Result<OwnedReply, Memory>
     ensures { IfOk result (λ r. IsReport input.now r owner pool.now.pool) }
 {
     let reply = report_reply(alloc, owner, pool)?;
     let copy = report_copy(alloc, input, owner, pool)?;
-    Ok(Report { reply, copy })
+    Ok(OwnedReply { reply, copy })
 }

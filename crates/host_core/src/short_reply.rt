@@ -8,6 +8,9 @@ use tree_specs::{Refusal, Reply};
 pub enum ShortReply {
     Ok,
     Number(u64),
+    Again,
+    Fault,
+    End,
     No(Refusal),
 }
 
@@ -18,6 +21,9 @@ impl ShortReply {
         match self {
             ShortReply::Ok => Reply::Ok,
             ShortReply::Number(n) => Reply::Number(n),
+            ShortReply::Again => Reply::Again,
+            ShortReply::Fault => Reply::Fault,
+            ShortReply::End => Reply::End,
             ShortReply::No(why) => Reply::No(why),
         }
     }

@@ -9,6 +9,7 @@ use std::process::Abort;
 use std::test::Fail;
 use tree_specs::{Act, Ask, Call, Event, Input, Moment, Name, Obj, Owner, Reply, What};
 
+mod descriptors;
 mod long_runs;
 
 fn name_of(rt: &impl Abort, alloc: Global, text: &str) -> Name

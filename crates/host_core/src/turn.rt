@@ -3,15 +3,15 @@ ghost use Rattle.std.specs.Prelude.{◌≡◌};
 ghost use Rattle.tree_specs.specs.declared.question.Ask.TheVariants.{Routine};
 ghost use Rattle.tree_specs.specs.declared.frame.CallFrame.TheVariants.{Asking};
 ghost use Rattle.tree_specs.specs.Events.Coming.{handler_moment};
-ghost use Rattle.host_core.specs.Hosts.{frame_of, turn_over};
+ghost use Rattle.host_core.specs.Hosts.{frame_of};
+ghost use Rattle.tree_specs.specs.declared.frame.TurnFrame.TheVariants.{Starting};
 ghost use Rattle.host_core.specs.Turns.{turn_asks, frame_picked};
 
 use crate::caller::{Caller, Stage};
-use crate::short_reply::ShortReply;
 use loop_core::Pick;
-use tree_specs::{Ask, Handler, Moment, Obj, TurnFrame, What};
+use tree_specs::{Ask, Handler, Moment, Obj, Occasion, TurnFrame, What};
 
-/// A turn of the event loop that is at work, or the asking of the clock for a call.
+/// A turn of the event loop that is at work.
 #[derive(Debug, Drop)]
 pub struct Turn {
     /// What is still to do.
@@ -27,14 +27,14 @@ fn question_of(frame: TurnFrame) -> Option<Ask>
     ensures { result ≡ turn_asks frame }
 {
     match frame {
-        TurnFrame::Timing { .. } | TurnFrame::Reading => Some(Ask::Clock),
+        TurnFrame::Timing { .. } => Some(Ask::Clock),
         TurnFrame::Polling { limit } => Some(Ask::Wait(limit)),
         _ => None,
     }
 }
 
 impl Turn {
-    /// The turn, or the asking of the clock, of which this is still to do.
+    /// The turn of which this is still to do.
     pub fn new(frame: TurnFrame, caller: Ask) -> Turn
         ensures { result ≡ record { frame = frame; question = turn_asks frame; caller = caller } }
     {
@@ -46,21 +46,22 @@ impl Turn {
     }
 }
 
+/// This comes, at this time or for these flags, where it has any.
+fn starting(what: What, x: Obj, now: u64, flags: u32) -> TurnFrame
+    ensures { result ≡ Starting what x (record { now = now; flags = flags }) }
+{
+    let occasion = Occasion { now, flags };
+    TurnFrame::Starting { what, x, occasion }
+}
+
 /// What is still to do of a turn after this was picked, where readiness was asked before, or wasn't.
 pub fn frame_picked(pick: Pick, waited: bool) -> TurnFrame
     ensures { result ≡ frame_picked waited pick }
 {
     match pick {
-        Pick::Soon(x) => TurnFrame::Starting {
-            what: What::Immediate,
-            x,
-            now: 0,
-        },
-        Pick::Time(x, now) => TurnFrame::Starting {
-            what: What::Timer,
-            x,
-            now,
-        },
+        Pick::Soon(x) => starting(What::Immediate, x, 0, 0),
+        Pick::Time(x, now) => starting(What::Timer, x, now, 0),
+        Pick::Descriptor(x, flags) => starting(What::Descriptor, x, 0, flags),
         Pick::AskClock => TurnFrame::Timing { again: waited },
         Pick::AskWait(limit) => TurnFrame::Polling { limit },
         Pick::Nothing => TurnFrame::Closing { value: 0 },
@@ -68,30 +69,17 @@ pub fn frame_picked(pick: Pick, waited: bool) -> TurnFrame
 }
 
 impl Caller {
-    /// A caller whose turn is over, or that has asked for the time, with this number as its reply.
-    pub fn after_turn(ask: Ask, value: u64) -> Caller
-        ensures { frame_of result ≡ turn_over ask value }
-    {
-        let mut caller = Caller {
-            ask,
-            stage: Stage::Asking,
-        };
-        caller.reply(ShortReply::Number(value));
-        caller
-    }
-
-    /// The run of an event's handler, at its first moment. `now` is the time that the event has come at, in microseconds,
-    /// and 0 where it has none.
-    pub fn handle(what: What, x: Obj, handler: Handler, now: u64) -> Caller
-        ensures { frame_of result ≡ Asking (Routine (handler_moment what x handler now)) }
+    /// The run of an event's handler, at its first moment.
+    pub fn handle(what: What, x: Obj, handler: Handler, occasion: Occasion) -> Caller
+        ensures { frame_of result ≡ Asking (Routine (handler_moment what x handler occasion)) }
     {
         let moment = Moment {
             what,
             object: x,
             routine: handler.routine,
             user: handler.user,
-            now,
-            flags: 0,
+            now: occasion.now,
+            flags: occasion.flags,
             step: 0,
             last: None,
         };

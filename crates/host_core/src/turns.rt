@@ -1,7 +1,8 @@
 //! The steps of a turn of the event loop: one thing comes, its handler runs, and it is quiet again or goes.
 ghost use Rattle.std.specs.Prelude.{◌≡◌, ℕ, Some, None, [], IsSome, is_none, true};
 ghost use Rattle.tree_specs.specs.declared.frame.CallFrame.TheVariants.{Returning};
-ghost use Rattle.tree_specs.specs.declared.frame.TurnFrame.TheVariants.{Handling, Reading};
+ghost use Rattle.tree_specs.specs.declared.frame.TurnFrame.TheVariants.{Handling};
+ghost use Rattle.tree_specs.specs.declared.occasion.Occasion.{Occasion as OccasionData};
 ghost use Rattle.tree_specs.specs.declared.handler.Handler.{Handler as HandlerData};
 ghost use Rattle.tree_specs.specs.declared.moment.What.{What as WhatData};
 ghost use Rattle.tree_specs.specs.declared.object.Obj.{Obj as ObjData};
@@ -15,7 +16,7 @@ ghost use Rattle.tree_specs.specs.Invariants.Consistent.{IsConsistent};
 ghost use Rattle.tree_specs.specs.Texts.Schedule.{misfit};
 ghost use Rattle.destructors.specs.Works.{IsAwaiting};
 ghost use Rattle.object_pool.specs.Objects.{frees_in};
-ghost use Rattle.host_core.specs.Turns.{turns_of, turn_asks, frame_started, frame_arrived, pool_arrived, frame_timed, pool_timed, TurnStops, TurnLooks, IsFor};
+ghost use Rattle.host_core.specs.Turns.{turns_of, turn_asks, frame_started, frame_arrived, pool_arrived, frame_timed, pool_timed, TurnStops, TurnLooks};
 ghost use Rattle.host_core.specs.Hosts.{turn_at, view_at, given_view, turn_begun, host_view, caller_asked, asked_now, is_quiet, stack_of, IsTurning, IsHandling, PartsReady, TellsSameStory, IsBetweenSteps, StandsWith, Fires};
 
 use crate::active::Active;
@@ -32,7 +33,7 @@ fn arrive(frame: TurnFrame, objects: &mut ObjectPool) -> TurnFrame
     ensures frame { result ≡ frame_arrived frame objects.old.pool }
     ensures pool { objects.new ≡ record objects.old { pool = pool_arrived frame objects.old.pool } }
 {
-    let TurnFrame::Starting { what, x, now } = frame else {
+    let TurnFrame::Starting { what, x, occasion } = frame else {
         return frame;
     };
     match objects.start(what, x) {
@@ -40,7 +41,7 @@ fn arrive(frame: TurnFrame, objects: &mut ObjectPool) -> TurnFrame
             what,
             x,
             handler,
-            now,
+            occasion,
         },
         None => TurnFrame::Closing { value: 1 },
     }
@@ -51,7 +52,9 @@ fn stand(frame: TurnFrame, caller: Ask) -> Active
     ensures { StandsWith frame caller result }
 {
     match frame {
-        TurnFrame::Closing { value } => Active::Caller(Caller::after_turn(caller, value)),
+        TurnFrame::Closing { value } => {
+            Active::Caller(Caller::after(caller, ShortReply::Number(value)))
+        }
         _ => Active::Turning(Turn::new(frame, caller)),
     }
 }
@@ -70,23 +73,10 @@ fn take_turn(now: &mut Active) -> (TurnFrame, Ask)
 /// The event whose handler a turn waits for, as what it has come.
 fn handling(turn: Option<TurnFrame>) -> (What, Obj)
     requires { IsHandling turn }
-    ensures { (what : WhatData) (x : ObjData) (handler : HandlerData) (time : ℕ) → turn ≡ Some (Handling what x handler time) → result ≡ (what, x) }
+    ensures { (what : WhatData) (x : ObjData) (handler : HandlerData) (occasion : OccasionData) → turn ≡ Some (Handling what x handler occasion) → result ≡ (what, x) }
 {
     match turn {
         Some(TurnFrame::Handling { what, x, .. }) => (what, x),
-        _ => unreachable!(),
-    }
-}
-
-/// The caller that was asked waits for the time.
-pub fn ask_time(now: &mut Active)
-    requires { IsSome (caller_asked now.old) }
-    ensures { (q : AskData) → caller_asked now.old ≡ Some q → now.new ≡ Active.Turning (record { frame = Reading; question = turn_asks Reading; caller = q }) }
-{
-    match mem::replace(now, Active::Freeing) {
-        Active::Caller(Caller { ask, .. }) => {
-            now.go_to(Active::Turning(Turn::new(TurnFrame::Reading, ask)));
-        }
         _ => unreachable!(),
     }
 }
@@ -107,8 +97,7 @@ pub fn begin_turn(now: &mut Active, parts: &mut Parts)
     }
 }
 
-/// What is still to do once the clock has told the time, in microseconds: what comes by it is picked, or it is the reply to
-/// a call.
+/// What is still to do once the clock has told the time, in microseconds: what comes by it is picked.
 fn timed(frame: TurnFrame, time: u64, objects: &mut ObjectPool) -> TurnFrame
     ensures frame { result ≡ frame_timed frame time objects.old.pool }
     ensures pool { objects.new ≡ record objects.old { pool = pool_timed frame time objects.old.pool } }
@@ -119,8 +108,9 @@ fn timed(frame: TurnFrame, time: u64, objects: &mut ObjectPool) -> TurnFrame
     }
 }
 
-/// The clock was asked, and has told the time, in microseconds.
+/// A turn has asked the clock, which has told the time, in microseconds.
 pub fn time_on(now: &mut Active, time: u64, parts: &mut Parts)
+    requires turning { IsTurning now.old }
     requires fits { is_none (misfit (asked_now now.old) (inputs.Clock time)) ≡ true }
     requires ready { PartsReady now.old parts.old.objects }
     requires whole { IsConsistent (given_view now.old (inputs.Clock time) parts.old) }
@@ -133,8 +123,9 @@ pub fn time_on(now: &mut Active, time: u64, parts: &mut Parts)
     now.go_to(stand(frame, caller));
 }
 
-/// It was asked which descriptors are ready, and these are.
+/// A turn has asked which descriptors are ready, and these are.
 pub fn ready_on(now: &mut Active, list: &Wants, parts: &mut Parts)
+    requires turning { IsTurning now.old }
     requires fits { is_none (misfit (asked_now now.old) (inputs.Ready list.now)) ≡ true }
     requires ready { PartsReady now.old parts.old.objects }
     requires whole { IsConsistent (given_view now.old (inputs.Ready list.now) parts.old) }
@@ -142,8 +133,9 @@ pub fn ready_on(now: &mut Active, list: &Wants, parts: &mut Parts)
     ensures ready { IsBetweenSteps now.new parts.new }
 {
     let (_, caller) = take_turn(now);
-    let pick = parts.objects.ready(list);
-    now.go_to(stand(frame_picked(pick, true), caller));
+    let frame = frame_picked(parts.objects.ready(list), true);
+    let frame = arrive(frame, &mut parts.objects);
+    now.go_to(stand(frame, caller));
 }
 
 /// A handler has returned: its event is quiet again, and the turn is over, or waits until the event is freed.
@@ -157,7 +149,7 @@ fn handled(parts: &mut Parts) -> Active
     let (what, x) = handling(parts.turn);
     if !parts.objects.finish(what, x) {
         parts.turn = None;
-        return Active::Caller(Caller::after_turn(Ask::Quiet, 1));
+        return Active::Caller(Caller::after(Ask::Quiet, ShortReply::Number(1)));
     }
     parts.turn = Some(TurnFrame::Clearing { x });
     parts.objects.begin_free(x);
@@ -191,7 +183,7 @@ pub fn fire(now: &mut Active, turn: &mut Option<TurnFrame>) -> Option<Event>
         what,
         x,
         handler,
-        now: time,
+        occasion,
     } = present.frame
     else {
         return None;
@@ -200,9 +192,9 @@ pub fn fire(now: &mut Active, turn: &mut Option<TurnFrame>) -> Option<Event>
         what,
         x,
         handler,
-        now: time,
+        occasion,
     });
-    now.go_to(Active::Caller(Caller::handle(what, x, handler, time)));
+    now.go_to(Active::Caller(Caller::handle(what, x, handler, occasion)));
     Some(Event::Fired {
         what,
         object: x,

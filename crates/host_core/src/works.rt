@@ -2,11 +2,13 @@
 ghost use Rattle.std.specs.Prelude.{◌≡◌, ◌<◌, [], ◌∷◌, ◌++◌, Some, None, IsSome, is_none, true, false, length, vec_capacity};
 ghost use Rattle.tree_specs.specs.declared.frame.CallFrame.TheVariants.{Doing};
 ghost use Rattle.tree_specs.specs.declared.question.Ask.{Ask as AskData};
+ghost use Rattle.tree_specs.specs.declared.question.Input.TheVariants as inputs;
 ghost use Rattle.tree_specs.specs.Invariants.Consistent.{IsConsistent};
 ghost use Rattle.tree_specs.specs.Texts.Schedule.{misfit};
 ghost use Rattle.destructors.specs.Works.{IsAwaiting};
 ghost use Rattle.object_pool.specs.Objects.{frees_in};
 ghost use Rattle.host_core.specs.Moves.{ReadyFor};
+ghost use Rattle.host_core.specs.Reaches.{is_bytes};
 ghost use Rattle.host_core.specs.Turns.{turns_of};
 ghost use Rattle.host_core.specs.Hosts.{stack_of, view_after, host_view, view_at, given_view, speaking_view, caller_asked, asked_now, MayDo, MayBegin, PartsReady, TellsSameStory, StepsSilently, IsBetweenSteps, Finished, at_work};
 
@@ -15,7 +17,10 @@ use crate::caller::{Caller, Waiting};
 use crate::calls::act;
 use crate::motion::Motion;
 use crate::parts::Parts;
-use crate::turns::{ask_time, begin_turn, ready_on, return_on, time_on};
+use crate::reach::{ask_outside, hear_on};
+use crate::short_reply::ShortReply;
+use crate::turns::{begin_turn, ready_on, return_on, time_on};
+use object_pool::Progress;
 use std::mem;
 use tree_specs::{Act, Ask, Call, FreeReply, FreeStep, Input, Obj, TurnFrame};
 
@@ -44,7 +49,7 @@ fn go_on(now: &mut Active, motion: Motion, parts: &mut Parts)
 {
     match motion {
         Motion::Replies(reply) => now.reply(reply),
-        Motion::Warns(x, reply) => now.warn(x, reply),
+        Motion::Announces(notice, reply) => now.announce(notice, reply),
         Motion::Frees(x) => {
             wait(now, &mut parts.callers, x);
             parts.objects.begin_free(x);
@@ -57,7 +62,7 @@ fn go_on(now: &mut Active, motion: Motion, parts: &mut Parts)
             wait(now, &mut parts.callers, x);
             parts.objects.begin_kids(x);
         }
-        Motion::AsksTime => ask_time(now),
+        Motion::Asks(question) => ask_outside(now, question),
         Motion::Turns => begin_turn(now, parts),
     }
 }
@@ -74,21 +79,39 @@ fn call_on(now: &mut Active, call: Call, parts: &mut Parts)
     go_on(now, motion, parts);
 }
 
+/// The routine that was asked does a call, or returns.
+fn act_on(now: &mut Active, act: Act, parts: &mut Parts)
+    requires asks { IsSome (caller_asked now.old) }
+    requires whole { IsConsistent (given_view now.old (inputs.Act act) parts.old) }
+    requires may { MayBegin (inputs.Act act) (length parts.old.callers.items) (vec_capacity parts.old.callers) parts.old.objects.ready }
+    ensures along { TellsSameStory (given_view now.old (inputs.Act act) parts.old) (host_view now.new parts.new) }
+    ensures ready { IsBetweenSteps now.new parts.new }
+{
+    match act {
+        Act::Do(call) => call_on(now, call, parts),
+        Act::Ret(value) => return_on(now, value, parts),
+    }
+}
+
 /// Who was asked goes on with the answer.
 pub fn answer_on(now: &mut Active, input: Input, parts: &mut Parts)
     requires fits { is_none (misfit (asked_now now.old) input) ≡ true }
     requires ready { PartsReady now.old parts.old.objects }
+    requires no_bytes { is_bytes input ≡ false }
     requires whole { IsConsistent (given_view now.old input parts.old) }
     requires may { MayBegin input (length parts.old.callers.items) (vec_capacity parts.old.callers) parts.old.objects.ready }
     ensures along { TellsSameStory (given_view now.old input parts.old) (host_view now.new parts.new) }
     ensures ready { IsBetweenSteps now.new parts.new }
 {
+    if now.is_reaching() {
+        return hear_on(now, input, parts);
+    }
     match input {
         Input::Call(call) => call_on(now, call, parts),
-        Input::Act(Act::Do(call)) => call_on(now, call, parts),
-        Input::Act(Act::Ret(value)) => return_on(now, value, parts),
+        Input::Act(act) => act_on(now, act, parts),
         Input::Clock(time) => time_on(now, time, parts),
         Input::Ready(list) => ready_on(now, &list, parts),
+        _ => unreachable!(),
     }
 }
 
@@ -101,7 +124,7 @@ fn finish(answer: FreeReply, callers: &mut Vec<Waiting>, turn: &mut Option<TurnF
         Some(waiting) => waiting.resumed(answer),
         None => {
             *turn = None;
-            Caller::after_turn(Ask::Quiet, 1)
+            Caller::after(Ask::Quiet, ShortReply::Number(1))
         }
     }
 }
@@ -113,7 +136,8 @@ fn free_on(parts: &mut Parts) -> Option<Caller>
     ensures onward { StepsSilently (host_view Active.Freeing parts.old) (host_view (at_work result) parts.new) }
     ensures ready { IsBetweenSteps (at_work result) parts.new }
 {
-    match parts.objects.step() {
+    let Progress { step, .. } = parts.objects.step();
+    match step {
         FreeStep::Ask(x) => Some(Caller::run(x, &parts.objects)),
         FreeStep::Done(answer) => Some(finish(answer, &mut parts.callers, &mut parts.turn)),
         _ => None,

@@ -1,12 +1,14 @@
 -- What an event loop does next: what comes soon goes first, then a time that has come, and then it waits.
-use Rattle.std.specs.Prelude.{ℕ, ◌-◌, Bool, true, false, nat_eq, nat_le, List, [], ◌∷◌, if◌then◌else◌}
+use Rattle.std.specs.Prelude.{ℕ, ◌-◌, Bool, true, false, nat_eq, nat_le, List, [], ◌∷◌, Option, Some, None, if◌then◌else◌}
 use Rattle.tree_specs.specs.declared.due.Due.{Due}
 use Rattle.tree_specs.specs.declared.object.Obj.{Obj}
 use Rattle.tree_specs.specs.declared.wants.Want.{Want}
+use Rattle.tree_specs.specs.declared.watch.Watch.{Watch}
+use Rattle.tree_specs.specs.Events.Rotation.{Ready, first_ready}
 use Rattle.tree_specs.specs.Events.Pending.{unscheduled, disarmed}
 use Rattle.tree_specs.specs.Events.Coming.{wait_limit}
 use Rattle.loop_core.specs.declared.pick.Pick.{Pick}
-use Rattle.loop_core.specs.declared.pick.Pick.TheVariants.{Soon, Time, AskClock, AskWait, Nothing}
+use Rattle.loop_core.specs.declared.pick.Pick.TheVariants.{Soon, Time, Descriptor, AskClock, AskWait, Nothing}
 
 -- with nothing that comes soon: the first time, where it is 0, has come, and for any other one the clock is asked
 abbrev pub time_pick : List Due → Pick
@@ -27,10 +29,15 @@ abbrev pub clock_pick : Bool → ℕ → List Due → Pick
 clock_pick waited now [] = Nothing
 clock_pick waited now (d ∷ ds) = if nat_le d.time now then Time d.object now else early_pick waited (d.time - now)
 
+-- the first event that waits for what its descriptor is ready for
+abbrev pub watch_pick : Option Ready → Pick
+watch_pick None = Nothing
+watch_pick (Some r) = Descriptor r.object r.flags
+
 -- after a wait in which no descriptor was ready a time may have come
-abbrev pub ready_pick : List Want → List Due → Pick
-ready_pick [] (d ∷ ds) = AskClock
-ready_pick ready dues = Nothing
+abbrev pub ready_pick : List Want → List Due → List Watch → Pick
+ready_pick [] (d ∷ ds) ring = AskClock
+ready_pick ready dues ring = watch_pick (first_ready ring ready)
 
 -- what was picked comes no more
 abbrev pub soon_after : Pick → List Obj → List Obj

@@ -1,4 +1,5 @@
 use crate::pick::Pick;
+use fd_events::{ReadyEvent, Ring};
 use immediates::Soon;
 use std::alloc::Global;
 use timers::Times;
@@ -13,6 +14,8 @@ pub struct Loop {
     pub soon: Soon,
     /// What comes at a time, the earliest first.
     pub times: Times,
+    /// Events on descriptors, in the order in which they are looked at.
+    pub ring: Ring,
 }
 
 impl Loop {
@@ -23,10 +26,12 @@ impl Loop {
     pub fn new(alloc: Global) -> Loop
         ensures soon { result.soon.objects ≡ [] }
         ensures times { result.times.dues ≡ [] }
+        ensures ring { result.ring.watches ≡ [] }
     {
         Loop {
             soon: Soon::new(alloc),
             times: Times::new(alloc),
+            ring: Ring::new(alloc),
         }
     }
 
@@ -36,6 +41,7 @@ impl Loop {
         ensures pick { result ≡ begin_pick self.old.soon.objects self.old.times.dues }
         ensures soon { self.new.soon.objects ≡ soon_after result self.old.soon.objects }
         ensures times { self.new.times.dues ≡ times_after result self.old.times.dues }
+        ensures ring { self.new.ring ≡ self.old.ring }
         ensures soon_spare { self.old.soon.spare ≤ self.new.soon.spare }
         ensures times_spare { self.old.times.spare ≤ self.new.times.spare }
     {
@@ -58,6 +64,7 @@ impl Loop {
         ensures pick { result ≡ clock_pick waited now self.old.times.dues }
         ensures soon { self.new.soon ≡ self.old.soon }
         ensures times { self.new.times.dues ≡ times_after result self.old.times.dues }
+        ensures ring { self.new.ring ≡ self.old.ring }
         ensures times_spare { self.old.times.spare ≤ self.new.times.spare }
     {
         let Some(due) = self.times.first() else {
@@ -73,13 +80,18 @@ impl Loop {
         Pick::AskWait(due.time - now)
     }
 
-    /// These descriptors are ready, after a pick that asked for them. Where none is, the first time may have come.
+    /// These descriptors are ready, after a pick that asked for them. Where none is, the first time may have come. Otherwise
+    /// the first event is picked that waits for what its descriptor is ready for. It stays where it is: who runs its handler
+    /// puts it at the end.
     pub fn ready(&self, list: &Wants) -> Pick
-        ensures { result ≡ ready_pick list.now self.now.times.dues }
+        ensures { result ≡ ready_pick list.now self.now.times.dues self.now.ring.watches }
     {
-        if !list.as_slice().is_empty() || self.times.is_empty() {
-            return Pick::Nothing;
+        if list.as_slice().is_empty() && !self.times.is_empty() {
+            return Pick::AskClock;
         }
-        Pick::AskClock
+        match self.ring.first_ready(list) {
+            Some(ReadyEvent { object, flags }) => Pick::Descriptor(object, flags),
+            None => Pick::Nothing,
+        }
     }
 }

@@ -7,6 +7,8 @@ pub enum Pick {
     Soon(Obj),
     /// This object comes, whose time has come; and the time that it is, in microseconds.
     Time(Obj, u64),
+    /// This event on a descriptor comes; and what it waits for and the descriptor is ready for.
+    Descriptor(Obj, u32),
     /// The clock is to be asked.
     AskClock,
     /// It is to be asked which descriptors are ready, within so many microseconds.

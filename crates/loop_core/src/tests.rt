@@ -1,6 +1,7 @@
 use crate::{Loop, Pick};
+use std::alloc::Global;
 use std::test::Fail;
-use tree_specs::{Obj, Wants};
+use tree_specs::{Obj, Want, Wants};
 
 // An object that comes soon, and one with a time.
 fn two(rt: &HostRuntime, time: u64) -> Result<Loop, Fail> {
@@ -32,5 +33,33 @@ fn a_time_is_waited_for_once(rt: HostRuntime) -> Result<(), Fail> {
     assert_eq!(rt; events.clock(99, true), Pick::Nothing);
     assert_eq!(rt; events.clock(100, true), Pick::Time(Obj(2), 100));
     assert_eq!(rt; events.clock(100, true), Pick::Nothing);
+    Ok(())
+}
+
+// The event 3 watches the descriptor 7 for reading, and then 4 watches 5 for both; something has a time.
+fn watching(alloc: Global) -> Result<Loop, Fail> {
+    let mut events = Loop::new(alloc);
+    events.times.reserve(1)?;
+    events.ring.reserve(2)?;
+    events.times.arm(Obj(2), 100, 2);
+    events.ring.add(Obj(3), 7, 1);
+    events.ring.add(Obj(4), 5, 3);
+    Ok(events)
+}
+
+// What is picked where the descriptor 7 is ready for this.
+fn picked(alloc: Global, events: &Loop, flags: u32) -> Result<Option<Pick>, Fail> {
+    let list = Wants::make(vec![in alloc; Want { fd: 7, flags }]?);
+    Ok(list.map(|list| events.ready(&list)))
+}
+
+#[test]
+fn what_is_ready_comes(rt: HostRuntime) -> Result<(), Fail> {
+    let events = watching(rt.alloc())?;
+    assert_eq!(rt;
+        picked(rt.alloc(), &events, 3)?,
+        Some(Pick::Descriptor(Obj(3), 1))
+    );
+    assert_eq!(rt; picked(rt.alloc(), &events, 2)?, Some(Pick::Nothing));
     Ok(())
 }

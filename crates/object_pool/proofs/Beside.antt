@@ -17,7 +17,7 @@ use Rattle.tree_specs.specs.declared.free_step.FreeStep.{FreeStep}
 use Rattle.tree_specs.specs.declared.free_step.FreeStep.TheVariants.{Ask, Done}
 use Rattle.tree_specs.specs.Tree.Targets.{newest_ref}
 use Rattle.tree_specs.specs.Tree.Pool.{Pool, row_of, is_below, owner_of, target_at, newest_ref_of, is_inside, first_kid}
-use Rattle.tree_specs.specs.Machine.Table.{FreeMove, free_step, begin_step, refs_step, drop_step, unlink_step, release_step, judge_step, loop_step, child_step, hand_on_step, tried_step}
+use Rattle.tree_specs.specs.Machine.FreeTable.{FreeMove, free_step, begin_step, refs_step, drop_step, unlink_step, release_step, judge_step, loop_step, child_step, hand_on_step, tried_step}
 use Rattle.tree_specs.specs.Machine.Profiles.{Phase}
 use Rattle.tree_specs.specs.Invariants.Sound.{Footing, FreeRests}
 use Rattle.tree_specs.specs.Invariants.Sound.Footing.{OnFree, OnCall, AtBottom}

@@ -22,18 +22,21 @@ use Rattle.destructors.specs.Frees.{OpenFrees, Steps, before, frees_of, returned
 use Rattle.tree_specs.specs.declared.free_step.FreeStep.{FreeStep}
 use Rattle.tree_specs.specs.declared.free_step.FreeStep.TheVariants.{Doom, Left}
 use Rattle.tree_specs.specs.declared.due.Due.{Due}
+use Rattle.tree_specs.specs.declared.watch.Watch.{Watch}
 use Rattle.tree_specs.proofs.Tree.Numbered.{by_test}
 use Rattle.destructors.specs.Engine.{IsAsked, AreKept, HasRoom}
 use Rattle.destructors.specs.Room.{mark_places, row_places, wanted}
 use Rattle.destructors.proofs.Begins.{any-room}
 use Rattle.object_pool.specs.Objects.{HasPlaces}
 use Rattle.tree_specs.specs.Events.Pending.{unscheduled, disarmed}
+use Rattle.tree_specs.specs.Events.Rotation.{rewatched, turned_back}
 use Rattle.tree_specs.specs.Words.Objects.{same}
 use Rattle.object_pool.specs.Agreeing.{AgreeWith}
 use Rattle.loop_core.specs.declared.pick.Pick.{Pick}
 use Rattle.loop_core.specs.declared.pick.Pick.TheVariants.{Soon, Time}
-use Rattle.object_pool.specs.Upcoming.{Upcoming, Agenda, KeepsPlaces, AllNumbered, after, picked, pending, without_event}
+use Rattle.object_pool.specs.Upcoming.{Upcoming, Agenda, KeepsPlaces, AllNumbered, AllWatchersNumbered, after, picked, pending, with_watch, with_closed, without_event}
 use Rattle.object_pool.proofs.Numbers.{numbered-later, numbered-told, numbered-picked, steps-next}
+use Rattle.object_pool.proofs.Watchers.{watchers-later, watchers-told, watchers-picked, watchers-changed, watchers-turned, unwatched-fewer, rewatched-many, turned-fewer}
 use Rattle.object_pool.specs.declared.pool.ObjectPool.TheInside.{Inside}
 use Rattle.object_pool.proofs.Counted.{same-kept}
 use Rattle.object_pool.proofs.Fields.{changed-kept}
@@ -50,7 +53,7 @@ disarmed-fewer [] x = omega arith
 disarmed-fewer (d ∷ ds) x = let n = disarmed-fewer ds x in by_test (same d.object x) (λ t. rw t (omega (arith, n))) (λ t. rw t (omega (arith, n)))
 
 without-fewer : (x : Obj) (u : Upcoming) → pending (without_event x u) ≤ pending u
-without-fewer x u = let m = fewer u.soon x in let n = disarmed-fewer u.times x in omega (arith, m, n)
+without-fewer x u = let m = fewer u.soon x in let n = disarmed-fewer u.times x in let k = unwatched-fewer u.ring x in omega (arith, m, n, k)
 
 told-fewer : (told : FreeStep) (u : Upcoming) → pending (after (Some told) u) ≤ pending u
 told-fewer (Left x from) u = without-fewer x u
@@ -96,6 +99,8 @@ fewer-wait ps ls a a' k n h = record {
   event = record {
     soon = (let i = h.event.soon in let s = k.soon in omega (arith, i, s));
     time = (let i = h.event.time in let s = k.times in omega (arith, i, s));
+    watch = (let i = h.event.watch in let s = k.ring in omega (arith, i, s));
+    descriptor = (let i = h.event.descriptor in let s = k.descriptors in omega (arith, i, s));
     handler = (let i = h.event.handler in let s = k.handlers in omega (arith, i, s));
   };
   waiting = (let w = h.waiting in omega (arith, w, n));
@@ -110,6 +115,7 @@ stays b t' ls' s refs limits spare a =
       limits = limits;
       kept = kept-same b.engine b.tree t' frees a.kept;
       numbers = numbered-later b.tree.next t'.next b.events.upcoming.times s.next a.numbers;
+      watchers = watchers-later b.tree.next t'.next b.events.upcoming.ring s.next a.watchers;
       room = rw (frees, room, wanted-same (before b.engine b.tree.frees) b.tree.rows t'.rows s.places) a.room;
       call = λ e. let c = a.call e in record { row = (let r = c.row in omega (arith, r, s.spare)); works = rw (s.rows, room) c.works };
       placed = a.placed;
@@ -179,6 +185,7 @@ spent b t' ps' ls' pl places ready next rows works refs limits a =
       kept = kept-same b.engine b.tree t' frees a.kept;
       room = any-room b.engine t' (omega (arith, c, room, rows));
       numbers = numbered-later b.tree.next t'.next b.events.upcoming.times next a.numbers;
+      watchers = watchers-later b.tree.next t'.next b.events.upcoming.ring next a.watchers;
       call = never;
       placed = never;
       places = places;
@@ -203,6 +210,7 @@ begun b o t r a refs same next spare kept room = record {
   kept = kept;
   room = room;
   numbers = numbered-later b.tree.next t.next b.events.upcoming.times (omega (arith, next)) a.numbers;
+  watchers = watchers-later b.tree.next t.next b.events.upcoming.ring (omega (arith, next)) a.watchers;
   call = never;
   placed = never;
   places = λ e. still-places b.refs r b.sums b.sums b.events spare (omega arith) (a.places e);
@@ -224,6 +232,7 @@ stepped b o t r ls e told steps k refs limits kept room a = record {
   kept = kept;
   room = room;
   numbers = rw k.upcoming (numbered-told t.next b.events.upcoming told (numbered-later b.tree.next t.next b.events.upcoming.times (let n = steps-next _ _ _ steps in omega (arith, n)) a.numbers));
+  watchers = rw k.upcoming (watchers-told t.next b.events.upcoming told (watchers-later b.tree.next t.next b.events.upcoming.ring (let n = steps-next _ _ _ steps in omega (arith, n)) a.watchers));
   call = never;
   placed = never;
   places = λ there. fewer-wait r ls b.events e k.places (rw k.upcoming (told-fewer told b.events.upcoming)) (still-places b.refs r b.sums ls b.events k.refs k.sums (a.places there));
@@ -232,27 +241,53 @@ stepped b o t r ls e told steps k refs limits kept room a = record {
 -- ---- other events are to come
 
 -- what is to come has changed, and the memory for one more is used up
-pub waits : (b : Inside) (e : Agenda) → AllNumbered b.tree.next e.upcoming.times → AgreeWith b → AgreeWith (record b { events = e; places = false; ready = false })
-waits b e numbers a = record { references = a.references; limits = a.limits; kept = a.kept; room = a.room; numbers = numbers; call = never; placed = never; places = never }
+pub waits : (b : Inside) (e : Agenda) → AllNumbered b.tree.next e.upcoming.times → AllWatchersNumbered b.tree.next e.upcoming.ring → AgreeWith b → AgreeWith (record b { events = e; places = false; ready = false })
+waits b e numbers watchers a = record { references = a.references; limits = a.limits; kept = a.kept; room = a.room; numbers = numbers; watchers = watchers; call = never; placed = never; places = never }
 
--- fewer wait
-still-agree : (b : Inside) (e : Agenda) → KeepsPlaces b.events e → pending e.upcoming ≤ pending b.events.upcoming → AllNumbered b.tree.next e.upcoming.times → AgreeWith b → AgreeWith (record b { events = e })
-still-agree b e k n numbers a = record {
+-- no more wait
+pub still-agree : (b : Inside) (e : Agenda) → KeepsPlaces b.events e → pending e.upcoming ≤ pending b.events.upcoming → AllNumbered b.tree.next e.upcoming.times → AllWatchersNumbered b.tree.next e.upcoming.ring → AgreeWith b
+    → AgreeWith (record b { events = e })
+still-agree b e k n numbers watchers a = record {
   references = a.references;
   limits = a.limits;
   kept = a.kept;
   room = a.room;
   numbers = numbers;
+  watchers = watchers;
   call = a.call;
   placed = a.placed;
   places = λ there. fewer-wait b.refs b.sums b.events e k n (a.places there);
 }
 
 pub unscheduled-agree : (b : Inside) (e : Agenda) (x : Obj) → e.upcoming ≡ record b.events.upcoming { soon = unscheduled b.events.upcoming.soon x } → KeepsPlaces b.events e → AgreeWith b → AgreeWith (record b { events = e })
-unscheduled-agree b e x is k a = still-agree b e k (rw is (picked-fewer (Soon x) b.events.upcoming)) (rw is a.numbers) a
+unscheduled-agree b e x is k a = still-agree b e k (rw is (picked-fewer (Soon x) b.events.upcoming)) (rw is a.numbers) (rw is a.watchers) a
 
 pub picked-agree : (b : Inside) (e : Agenda) (pick : Pick) → e.upcoming ≡ picked pick b.events.upcoming → KeepsPlaces b.events e → AgreeWith b → AgreeWith (record b { events = e })
-picked-agree b e pick is k a = still-agree b e k (rw is (picked-fewer pick b.events.upcoming)) (rw is (numbered-picked b.tree.next b.events.upcoming pick a.numbers)) a
+picked-agree b e pick is k a =
+    still-agree b e k (rw is (picked-fewer pick b.events.upcoming)) (rw is (numbered-picked b.tree.next b.events.upcoming pick a.numbers)) (rw is (watchers-picked b.tree.next b.events.upcoming pick a.watchers)) a
+
+-- ---- the events on descriptors
+
+-- the rotation is another one, of no more events, whose numbers were given
+pub ring-agree : (b : Inside) (e : Agenda) (ring : List Watch) → e.upcoming ≡ record b.events.upcoming { ring = ring } → length ring ≤ length b.events.upcoming.ring → AllWatchersNumbered b.tree.next ring → KeepsPlaces b.events e
+    → AgreeWith b → AgreeWith (record b { events = e })
+ring-agree b e ring is n watchers k a = still-agree b e k (rw is (omega (arith, n))) (rw is a.numbers) (rw is watchers) a
+
+-- how an event watches is changed
+pub rewatched-agree : (b : Inside) (e : Agenda) (change : Watch → Watch) (x : Obj) → e.upcoming ≡ with_watch change x b.events.upcoming → ((w : Watch) → (change w).object ≡ w.object) → KeepsPlaces b.events e
+    → AgreeWith b → AgreeWith (record b { events = e })
+rewatched-agree b e change x is same_object k a =
+    let ring = b.events.upcoming.ring in
+    let n = rewatched-many change ring x in
+    ring-agree b e (rewatched change ring x) is (omega (arith, n)) (watchers-changed b.tree.next change ring x same_object a.watchers) k a
+
+pub turned-agree : (b : Inside) (e : Agenda) (x : Obj) → e.upcoming ≡ record b.events.upcoming { ring = turned_back b.events.upcoming.ring x } → KeepsPlaces b.events e → AgreeWith b → AgreeWith (record b { events = e })
+turned-agree b e x is k a =
+    let ring = b.events.upcoming.ring in
+    ring-agree b e (turned_back ring x) is (turned-fewer ring x) (watchers-turned b.tree.next ring x a.watchers) k a
+
+pub closed-agree : (b : Inside) (e : Agenda) (fd : ℕ) → e.upcoming ≡ with_closed fd b.events.upcoming → KeepsPlaces b.events e → AgreeWith b → AgreeWith (record b { events = e })
+closed-agree b e fd is k a = still-agree b e k (rw is (omega arith)) (rw is a.numbers) (rw is a.watchers) a
 
 -- ---- an object that doesn't die gets another mark
 

@@ -1,8 +1,10 @@
 pub mod Marks
-pub mod HandlerMaps
+pub mod NumberMaps
 pub mod Counted
 pub mod Told
 pub mod Fields
 pub mod Keeping
 pub mod Beside
 pub mod Numbers
+pub mod Watchers
+pub mod Announcing

@@ -3,12 +3,13 @@ use Rattle.std.proofs.Common.{◌≡◌, Bool, true, false, List, Option, Some, 
 use Rattle.std.specs.Prelude.{is_some}
 use Rattle.tree_specs.specs.declared.handler.Handler.{Handler}
 use Rattle.tree_specs.specs.declared.moment.What.{What}
+use Rattle.tree_specs.specs.declared.moment.What.TheVariants.{Descriptor}
 use Rattle.tree_specs.specs.declared.object.Obj.{Obj}
 use Rattle.tree_specs.specs.declared.row.Row.{Row}
 use Rattle.tree_specs.specs.declared.row.Mark.{Mark}
 use Rattle.tree_specs.specs.declared.row.Mark.TheVariants.{Dying}
 use Rattle.tree_specs.specs.Tree.Pool.{Pool, row_of, is_row, is_dying, is_dying_mark}
-use Rattle.tree_specs.specs.Events.Coming.{handler_for}
+use Rattle.tree_specs.specs.Events.Coming.{rotated, handler_for}
 use Rattle.tree_specs.proofs.Invariants.Turning.{Ready, handler-ready}
 use Rattle.destructors.specs.Room.{mark_places}
 
@@ -28,3 +29,8 @@ live-row rows x is live = each (row_of rows x) refl
     each : (o : Option Row) → row_of rows x ≡ o → (r : Row) × (row_of rows x ≡ Some r) × (mark_places r.mark ≡ 1)
     each None e = let bad : false ≡ true = rw e at is in cc
     each (Some r) e = (r, e, live-places r.mark (rw e at live))
+
+-- an event that is looked at later leaves the rows
+pub rotated-rows : (what : What) (x : Obj) (p : Pool) → (rotated what x p).rows ≡ p.rows
+rotated-rows Descriptor x p = refl
+rotated-rows _ x p = refl

@@ -21,7 +21,7 @@ use Rattle.tree_specs.specs.Events.Pending.{disarmed, armed, put_in, comes_befor
 use Rattle.tree_specs.specs.Words.Objects.{same}
 use Rattle.tree_specs.specs.Tree.Targets.{newest_ref}
 use Rattle.tree_specs.specs.Tree.Pool.{Pool, row_of, is_below, owner_of, target_at, newest_ref_of, is_inside, first_kid}
-use Rattle.tree_specs.specs.Machine.Table.{FreeMove, free_step, begin_step, refs_step, unlink_step, release_step, loop_step, child_step, tried_step}
+use Rattle.tree_specs.specs.Machine.FreeTable.{FreeMove, free_step, begin_step, refs_step, unlink_step, release_step, loop_step, child_step, tried_step}
 use Rattle.tree_specs.proofs.Tree.Numbered.{by_test}
 use Rattle.destructors.specs.Frees.{OpenFrees, moved, moves, next_of, Silently, Still, On, Steps, Begins}
 use Rattle.loop_core.specs.declared.pick.Pick.{Pick}

@@ -35,7 +35,8 @@ pub record HasCallRoom (tree : Links) : Type 0 where
   pub row : 0 < tree.spare
   pub works : length tree.rows + 4 ≤ tree.room
 
--- the memory for one more reference, one more limit, and one more object that waits; and those that wait can be counted
+-- the memory for one more reference, one more limit, one more object that waits, and one more descriptor; and those that wait
+-- can be counted
 pub record HasPlaces (refs : Pairs) (sums : Limits) (agenda : Agenda) : Type 0 where
   pub reference : 0 < refs.spare
   pub limit : 0 < sums.spare

@@ -2,13 +2,17 @@
 use Rattle.std.specs.Prelude.{◌≡◌, ℕ, ◌+◌, ◌^◌, ◌≤◌, ◌<◌, true, ◌&&◌, List, [], ◌∷◌, length, Option, Some, None, if◌then◌else◌}
 use Rattle.tree_specs.specs.declared.due.Due.{Due}
 use Rattle.tree_specs.specs.declared.handler.Handler.{Handler}
+use Rattle.tree_specs.specs.declared.moment.What.{What}
+use Rattle.tree_specs.specs.declared.watch.Watch.{Watch}
 use Rattle.tree_specs.specs.declared.object.Obj.{Obj}
-use Rattle.tree_specs.specs.declared.row.Mark.TheVariants.{Busy}
 use Rattle.tree_specs.specs.declared.free_step.FreeStep.{FreeStep}
 use Rattle.tree_specs.specs.declared.free_step.FreeStep.TheVariants.{Dropped, Doom, Left, Gone}
 use Rattle.tree_specs.specs.Events.Pending.{scheduled, unscheduled, armed, disarmed}
+use Rattle.tree_specs.specs.Events.Rotation.{watched, unwatched, rewatched, turned_back, closes_with}
+use Rattle.tree_specs.specs.Events.Descriptors.{Descriptors, listener_alone, opened, closed, shut}
 use Rattle.tree_specs.specs.Events.Handlers.{Handlers, no_handlers, with_handler, without_handler}
-use Rattle.tree_specs.specs.Tree.Pool.{Pool, set_mark, unschedule, disarm}
+use Rattle.tree_specs.specs.Events.Coming.{begun}
+use Rattle.tree_specs.specs.Tree.Pool.{Pool, unschedule, disarm}
 use Rattle.loop_core.specs.declared.pick.Pick.{Pick}
 use Rattle.loop_core.specs.declared.pick.Pick.TheVariants.{Soon, Time}
 use Rattle.destructors.specs.Frees.{OpenFrees}
@@ -18,22 +22,26 @@ pub record Upcoming : Type 0 where
   pub soon : List Obj
   -- objects whose time comes, the earliest first
   pub times : List Due
+  -- events on descriptors, in the order in which they are looked at
+  pub ring : List Watch
+  -- the descriptors that are open
+  pub descriptors : Descriptors
   -- what runs when an event comes
   pub handlers : Handlers
 
 abbrev pub nothing_comes : Upcoming
-nothing_comes = record { soon = []; times = []; handlers = no_handlers }
+nothing_comes = record { soon = []; times = []; ring = []; descriptors = listener_alone; handlers = no_handlers }
 
 -- the same objects, with this to come
 abbrev pub beside : Upcoming → Pool → Pool
-beside u p = record p { soon = u.soon; times = u.times; handlers = u.handlers }
+beside u p = record p { soon = u.soon; times = u.times; ring = u.ring; descriptors = u.descriptors; handlers = u.handlers }
 
 abbrev pub frees_beside : Upcoming → OpenFrees → OpenFrees
 frees_beside u s = record s { pool = beside u s.pool }
 
 -- how many wait for their turn
 abbrev pub pending : Upcoming → ℕ
-pending u = length u.soon + length u.times
+pending u = length u.soon + length u.times + length u.ring
 
 -- ---- what is to come, and how many more may come without taking memory
 
@@ -41,25 +49,36 @@ pub record Agenda : Type 0 where
   pub upcoming : Upcoming
   pub soon_spare : ℕ
   pub times_spare : ℕ
+  pub ring_spare : ℕ
+  pub descriptors_spare : ℕ
   pub handlers_spare : ℕ
 
 -- one more may come
 pub record HasPlace (a : Agenda) : Type 0 where
   pub soon : 0 < a.soon_spare
   pub time : 0 < a.times_spare
+  pub watch : 0 < a.ring_spare
+  pub descriptor : 0 < a.descriptors_spare
   pub handler : 0 < a.handlers_spare
 
 -- no fewer more may come
 pub record KeepsPlaces (old new : Agenda) : Type 0 where
   pub soon : old.soon_spare ≤ new.soon_spare
   pub times : old.times_spare ≤ new.times_spare
+  pub ring : old.ring_spare ≤ new.ring_spare
+  pub descriptors : old.descriptors_spare ≤ new.descriptors_spare
   pub handlers : old.handlers_spare ≤ new.handlers_spare
 
 -- ---- what is told, and what it leaves
 
--- an object waits no more
+-- an object waits no more; a descriptor that is to be closed with it is closed
 abbrev pub without_event : Obj → Upcoming → Upcoming
-without_event x u = record u { soon = unscheduled u.soon x; times = disarmed u.times x }
+without_event x u = record u {
+  soon = unscheduled u.soon x;
+  times = disarmed u.times x;
+  ring = unwatched u.ring x;
+  descriptors = shut u.descriptors (closes_with u.ring x);
+}
 
 -- an object has no handler
 abbrev pub unhandled : Obj → Upcoming → Upcoming
@@ -73,12 +92,32 @@ after (Some (Gone x h)) u = unhandled x u
 after (Some (Dropped r target)) u = unhandled r u
 after told u = u
 
+-- the descriptor that a step closes, by what was watched before it
+abbrev pub closed_of : List Watch → FreeStep → Option ℕ
+closed_of ring (Left x from) = closes_with ring x
+closed_of ring (Doom x) = closes_with ring x
+closed_of ring step = None
+
 -- with this handler an object comes soon, or at a time under its own number
 abbrev pub soon_with : Obj → Handler → Upcoming → Upcoming
 soon_with x handler u = record u { soon = scheduled u.soon x; handlers = with_handler u.handlers x handler }
 
 abbrev pub timed_with : Obj → ℕ → Handler → Upcoming → Upcoming
 timed_with x time handler u = record u { times = armed u.times x time x.0; handlers = with_handler u.handlers x handler }
+
+-- with this handler an object watches a descriptor, for these flags
+abbrev pub watching_with : Obj → ℕ → ℕ → Handler → Upcoming → Upcoming
+watching_with x fd flags handler u = record u { ring = watched u.ring x fd flags; handlers = with_handler u.handlers x handler }
+
+-- how an object watches is changed
+abbrev pub with_watch : (Watch → Watch) → Obj → Upcoming → Upcoming
+with_watch change x u = record u { ring = rewatched change u.ring x }
+
+abbrev pub with_open : ℕ → Upcoming → Upcoming
+with_open fd u = record u { descriptors = opened u.descriptors fd }
+
+abbrev pub with_closed : ℕ → Upcoming → Upcoming
+with_closed fd u = record u { descriptors = closed u.descriptors fd }
 
 -- what was picked in a turn waits no more
 abbrev pub picked : Pick → Upcoming → Upcoming
@@ -91,10 +130,10 @@ pool_picked (Soon x) p = unschedule p x
 pool_picked (Time x now) p = disarm p x
 pool_picked pick p = p
 
--- an object whose handler starts is busy
-abbrev pub started : Option Handler → Obj → Pool → Pool
-started None x p = p
-started (Some handler) x p = set_mark p x Busy
+-- an object whose handler starts is busy, and one that watches a descriptor is looked at after all others the next time
+abbrev pub started : Option Handler → What → Obj → Pool → Pool
+started None what x p = p
+started (Some handler) what x p = begun what x p
 
 -- ---- numbers
 
@@ -102,3 +141,8 @@ started (Some handler) x p = set_mark p x Busy
 abbrev pub AllNumbered : ℕ → List Due → Type 0
 AllNumbered next [] = Unit {0}
 AllNumbered next (d ∷ ds) = (d.number < next) × AllNumbered next ds
+
+-- so were those of the events that watch
+abbrev pub AllWatchersNumbered : ℕ → List Watch → Type 0
+AllWatchersNumbered next [] = Unit {0}
+AllWatchersNumbered next (w ∷ ws) = (w.object.0 < next) × AllWatchersNumbered next ws

@@ -1,20 +1,23 @@
 //! What is to come, and what runs then.
-ghost use Rattle.std.specs.Prelude.{◌≡◌, ◌+◌, ◌≤◌, ◌<◌, true, false};
+ghost use Rattle.std.specs.Prelude.{◌≡◌, ◌+◌, ◌<◌, false, IfSome};
 ghost use Rattle.std.specs.FinMap as map;
 
 use loop_core::{Loop, Pick};
 use pool_arena::Arena;
 use std::alloc::Global;
 use std::marker::Model;
-use tree_specs::{FreeStep, Handler, Memory, Obj, Wants};
+use tree_specs::{FreeStep, Handler, Memory, Obj, Want, Wants};
 
-/// The events of a host: which of them are to come, and the handler of each. Contracts see the lists of those to come, the
-/// handlers by the numbers of their events, and how many more may come without taking memory.
+/// The events of a host: which of them are to come, and the handler of each; and the descriptors that are open. Contracts
+/// see the lists of those to come, the handlers by the numbers of their events, the numbers of the descriptors, and how many
+/// more there may be without taking memory.
 #[derive(Debug, Drop)]
 pub struct Events {
     order: Loop,
     /// The handler of each event that was given one, under the number of the event.
     handlers: Arena<Handler>,
+    /// The descriptors that are open, each under its number.
+    descriptors: Arena<()>,
 }
 
 impl Model for Events {
@@ -23,52 +26,68 @@ impl Model for Events {
 
     ghost Value = { Agenda };
 
-    ghost view = { λ e. record { upcoming = record { soon = e.order.soon.objects; times = e.order.times.dues; handlers = entries e.handlers.pairs }; soon_spare = e.order.soon.spare; times_spare = e.order.times.spare; handlers_spare = e.handlers.spare } };
+    ghost view = { λ e. record { upcoming = record { soon = e.order.soon.objects; times = e.order.times.dues; ring = e.order.ring.watches; descriptors = entries e.descriptors.pairs; handlers = entries e.handlers.pairs }; soon_spare = e.order.soon.spare; times_spare = e.order.times.spare; ring_spare = e.order.ring.spare; descriptors_spare = e.descriptors.spare; handlers_spare = e.handlers.spare } };
 }
 
-/// An event gets a handler, in place of the one that it had.
-fn set_handler(handlers: &mut Arena<Handler>, x: Obj, handler: Handler)
-    requires { 0 < handlers.old.spare }
-    ensures { handlers.new.pairs ≡ map.insert handlers.old.pairs x.0 handler }
+/// This is kept under a number, in place of what was kept there.
+fn put<T: Copy>(kept: &mut Arena<T>, number: u64, value: T)
+    requires { 0 < kept.old.spare }
+    ensures { kept.new.pairs ≡ map.insert kept.old.pairs number value }
 {
-    match handlers.get_mut(x.0) {
-        Some(present) => *present = handler,
-        None => handlers.add(x.0, handler),
+    match kept.get_mut(number) {
+        Some(present) => *present = value,
+        None => kept.add(number, value),
     }
 }
 
-#[tactic(auto, using(crate::proofs::HandlerMaps::none_listed, crate::proofs::HandlerMaps::put_listed, crate::proofs::HandlerMaps::removed_listed, crate::proofs::HandlerMaps::found_listed))]
+/// How many these are together, where as many can be counted.
+fn count(soon: usize, times: usize, ring: usize) -> Option<usize>
+    ensures { IfSome result (λ n. n ≡ soon + times + ring) }
+{
+    soon.checked_add(times)?.checked_add(ring)
+}
+
+#[tactic(auto, using(crate::proofs::NumberMaps::none_listed, crate::proofs::NumberMaps::put_listed, crate::proofs::NumberMaps::removed_listed, crate::proofs::NumberMaps::found_listed))]
 impl Events {
-    ghost use Rattle.std.specs.Prelude.{◌^◌, OnOk, length};
+    ghost use Rattle.std.specs.Prelude.{◌^◌, IfOk, OnOk, OnErr, []};
     ghost use Rattle.tree_specs.specs.Events.Pending.{disarmed, is_numbered};
     ghost use Rattle.tree_specs.specs.Events.Handlers.{handler_of};
+    ghost use Rattle.tree_specs.specs.Events.Rotation.{is_watching, is_watched, flags_of, flagged, closing, turned_back, closes_with, wanted_of};
+    ghost use Rattle.tree_specs.specs.Events.Descriptors.{is_open_in};
     ghost use Rattle.loop_core.specs.Picks.{begin_pick, clock_pick, ready_pick};
-    ghost use Rattle.object_pool.specs.Upcoming.{nothing_comes, pending, HasPlace, KeepsPlaces, after, picked, soon_with, timed_with, without_event, unhandled};
+    ghost use Rattle.object_pool.specs.Upcoming.{nothing_comes, pending, HasPlace, KeepsPlaces, after, closed_of, picked, soon_with, timed_with, watching_with, with_watch, with_open, with_closed, without_event, unhandled};
     ghost use Rattle.std.specs.Prelude.{Some};
     ghost use Rattle.tree_specs.specs.Events.Pending.{unscheduled};
 
-    /// Nothing is to come. It takes no memory.
-    pub fn new(alloc: Global) -> Events
-        ensures { result.upcoming ≡ nothing_comes }
+    /// Nothing is to come, and the listener is open alone.
+    pub fn new(alloc: Global) -> Result<Events, Memory>
+        ensures { IfOk result (λ events. events.upcoming ≡ nothing_comes) }
     {
-        Events {
+        let mut descriptors = Arena::new(alloc);
+        descriptors.reserve(1)?;
+        put(&mut descriptors, 0, ());
+        Ok(Events {
             order: Loop::new(alloc),
             handlers: Arena::new(alloc),
-        }
+            descriptors,
+        })
     }
 
-    /// Takes the memory for one more that is to come, where as many can be counted. If memory runs out, all is as it was.
+    /// Takes the memory for one more that is to come and one more descriptor, where as many can be counted. If memory runs
+    /// out, all is as it was.
     pub fn reserve(&mut self) -> Result<(), Memory>
         ensures upcoming { self.new.upcoming ≡ self.old.upcoming }
         ensures kept { KeepsPlaces self.old self.new }
         ensures place { OnOk result (HasPlace self.new) }
         ensures counted { OnOk result (pending self.new.upcoming < 2 ^ 64) }
     {
-        let Loop { soon, times } = &mut self.order;
-        soon.len().checked_add(times.len()).ok_or(Memory)?;
+        let Loop { soon, times, ring } = &mut self.order;
+        count(soon.len(), times.len(), ring.len()).ok_or(Memory)?;
         soon.reserve(1)?;
         times.reserve(1)?;
+        ring.reserve(1)?;
         self.handlers.reserve(1)?;
+        self.descriptors.reserve(1)?;
         Ok(())
     }
 
@@ -77,7 +96,7 @@ impl Events {
         requires { HasPlace self.old }
         ensures { self.new.upcoming ≡ soon_with x handler self.old.upcoming }
     {
-        set_handler(&mut self.handlers, x, handler);
+        put(&mut self.handlers, x.0, handler);
         self.order.soon.push(x);
     }
 
@@ -95,17 +114,113 @@ impl Events {
         requires number { is_numbered (disarmed self.old.upcoming.times x) x.0 ≡ false }
         ensures { self.new.upcoming ≡ timed_with x time handler self.old.upcoming }
     {
-        set_handler(&mut self.handlers, x, handler);
+        put(&mut self.handlers, x.0, handler);
         self.order.times.arm(x, time, x.0);
     }
 
-    /// An object waits no more.
-    fn disarm(&mut self, x: Obj)
+    /// An event watches a descriptor, for these flags, and this handler is to run when it is ready for one of them.
+    pub fn watch(&mut self, x: Obj, fd: u32, flags: u32, handler: Handler)
+        requires place { HasPlace self.old }
+        requires event { is_watching self.old.upcoming.ring x ≡ false }
+        requires descriptor { is_watched self.old.upcoming.ring fd ≡ false }
+        ensures { self.new.upcoming ≡ watching_with x fd flags handler self.old.upcoming }
+    {
+        put(&mut self.handlers, x.0, handler);
+        self.order.ring.add(x, fd, flags);
+    }
+
+    /// What an event on a descriptor waits for. None exactly where it watches nothing.
+    pub fn flags(&self, x: Obj) -> Option<u32>
+        ensures { result ≡ flags_of self.now.upcoming.ring x }
+    {
+        self.order.ring.flags(x)
+    }
+
+    /// An event on a descriptor waits for these flags from now on. Nothing changes where it watches nothing.
+    pub fn set_flags(&mut self, x: Obj, flags: u32)
+        ensures upcoming { self.new.upcoming ≡ with_watch (flagged flags) x self.old.upcoming }
+        ensures kept { KeepsPlaces self.old self.new }
+    {
+        self.order.ring.set_flags(x, flags);
+    }
+
+    /// The descriptor of an event is closed with it. Nothing changes where it watches nothing.
+    pub fn set_closing(&mut self, x: Obj)
+        ensures upcoming { self.new.upcoming ≡ with_watch closing x self.old.upcoming }
+        ensures kept { KeepsPlaces self.old self.new }
+    {
+        self.order.ring.set_closing(x);
+    }
+
+    /// An event on a descriptor that has come is looked at after all others.
+    pub fn turn_back(&mut self, x: Obj)
+        ensures upcoming { self.new.upcoming ≡ record self.old.upcoming { ring = turned_back self.old.upcoming.ring x } }
+        ensures kept { KeepsPlaces self.old self.new }
+    {
+        self.order.ring.turn_back(x);
+    }
+
+    /// Whether an event watches a descriptor.
+    pub fn is_watched(&self, fd: u32) -> bool
+        ensures { result ≡ is_watched self.now.upcoming.ring fd }
+    {
+        self.order.ring.holder(fd).is_some()
+    }
+
+    /// The descriptors that are watched for something, and what for, in the order in which they are looked at, in place of
+    /// what was there. After want of memory nothing is given.
+    pub fn wants(&self, out: &mut Vec<Want>) -> Result<(), Memory>
+        ensures wants { OnOk result (out.new.items ≡ wanted_of self.now.upcoming.ring) }
+        ensures nothing { OnErr result (out.new.items ≡ []) }
+    {
+        self.order.ring.wants(out)
+    }
+
+    /// Whether a descriptor is open.
+    pub fn is_open(&self, fd: u32) -> bool
+        ensures { result ≡ is_open_in self.now.upcoming.descriptors fd }
+    {
+        self.descriptors.get(u64::from(fd)).is_some()
+    }
+
+    /// A descriptor is open from now on.
+    pub fn open(&mut self, fd: u32)
+        requires { HasPlace self.old }
+        ensures { self.new.upcoming ≡ with_open fd self.old.upcoming }
+    {
+        put(&mut self.descriptors, u64::from(fd), ());
+    }
+
+    /// A descriptor is open no more.
+    pub fn close(&mut self, fd: u32)
+        ensures upcoming { self.new.upcoming ≡ with_closed fd self.old.upcoming }
+        ensures kept { KeepsPlaces self.old self.new }
+    {
+        self.descriptors.take(u64::from(fd));
+    }
+
+    /// The descriptor that is closed when an event goes. None where there is none.
+    pub fn closes_with(&self, x: Obj) -> Option<u32>
+        ensures { result ≡ closes_with self.now.upcoming.ring x }
+    {
+        let watch = self.order.ring.watch(x)?;
+        if watch.closes { Some(watch.fd) } else { None }
+    }
+
+    /// An object waits no more. Gives the descriptor that was closed with it, where one was.
+    fn disarm(&mut self, x: Obj) -> Option<u32>
+        ensures closed { result ≡ closes_with self.old.upcoming.ring x }
         ensures upcoming { self.new.upcoming ≡ without_event x self.old.upcoming }
         ensures kept { KeepsPlaces self.old self.new }
     {
+        let closed = self.closes_with(x);
         self.order.soon.remove(x);
         self.order.times.disarm(x);
+        self.order.ring.remove(x);
+        if let Some(fd) = closed {
+            self.close(fd);
+        }
+        closed
     }
 
     /// An object has no handler.
@@ -117,18 +232,19 @@ impl Events {
     }
 
     /// A step of a free was made: an object that has left its owner, or is to go once its handler is over, waits no more,
-    /// and what is no more has no handler.
-    pub fn follow(&mut self, step: &FreeStep)
-        ensures upcoming { self.new.upcoming ≡ after (Some step.now) self.old.upcoming }
+    /// and what is no more has no handler. Gives the descriptor that was closed, where one was.
+    pub fn follow(&mut self, step: FreeStep) -> Option<u32>
+        ensures closed { result ≡ closed_of self.old.upcoming.ring step }
+        ensures upcoming { self.new.upcoming ≡ after (Some step) self.old.upcoming }
         ensures kept { KeepsPlaces self.old self.new }
     {
         match step {
-            FreeStep::Left { object, .. } => self.disarm(*object),
-            FreeStep::Doom(object) => self.disarm(*object),
-            FreeStep::Gone { object, .. } => self.forget(*object),
-            FreeStep::Dropped { reference, .. } => self.forget(*reference),
+            FreeStep::Left { object, .. } | FreeStep::Doom(object) => return self.disarm(object),
+            FreeStep::Gone { object, .. } => self.forget(object),
+            FreeStep::Dropped { reference, .. } => self.forget(reference),
             _ => {}
         }
+        None
     }
 
     /// The handler of an event. None exactly where it has none.
@@ -143,7 +259,7 @@ impl Events {
         requires { pending self.now.upcoming < 2 ^ 64 }
         ensures { result ≡ pending self.now.upcoming }
     {
-        (self.order.soon.len() + self.order.times.len()) as u64
+        (self.order.soon.len() + self.order.times.len() + self.order.ring.len()) as u64
     }
 
     /// A turn begins: what was picked waits no more.
@@ -166,7 +282,7 @@ impl Events {
 
     /// These descriptors are ready.
     pub fn ready(&self, list: &Wants) -> Pick
-        ensures { result ≡ ready_pick list.now self.now.upcoming.times }
+        ensures { result ≡ ready_pick list.now self.now.upcoming.times self.now.upcoming.ring }
     {
         self.order.ready(list)
     }

@@ -5,4 +5,4 @@ mod counting;
 mod events;
 mod pool;
 
-pub use pool::ObjectPool;
+pub use pool::{ObjectPool, Progress};

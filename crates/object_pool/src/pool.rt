@@ -1,4 +1,4 @@
-use crate::counting::{count_added, count_step, count_went};
+use crate::counting::{count_added, count_went};
 use crate::events::Events;
 use destructors::FreeEngine;
 use memory_limits::Sums;
@@ -7,10 +7,14 @@ use std::alloc::Global;
 use std::marker::Model;
 use tree_links::{NewRow, Tree};
 use tree_report::{count, rows, total};
-use tree_specs::{FreeStep, Kind, Memory, Name, Obj, Owner, Refusal, ReportRows, Row};
+use tree_specs::{Kind, Memory, Name, Obj, Owner, Refusal, ReportRows, Row};
 
+mod freeing;
 mod turning;
 mod waiting;
+mod watching;
+
+pub use freeing::Progress;
 
 /// The objects: who owns whom, what refers to what, what their limits are, which of them are to come and what runs then,
 /// and the frees that are open on them.
@@ -23,7 +27,7 @@ pub struct ObjectPool {
     refs: Refs,
     sums: Sums,
     events: Events,
-    /// The memory for one more reference, one more limit and one more event that is to come is taken.
+    /// The memory for one more reference, one more limit, one more event that is to come and one more descriptor is taken.
     places: bool,
     /// The memory for one call is taken.
     ready: bool,
@@ -43,39 +47,34 @@ impl Model for ObjectPool {
 }
 
 impl ObjectPool {
-    ghost use Rattle.std.specs.Prelude.{◌≡◌, ℕ, ◌^◌, ◌-◌, ◌<◌, ◌∷◌, [], true, false, None, ◌&&◌, IfOk, OnOk, OnErr, is_some, length, slice_get};
+    ghost use Rattle.std.specs.Prelude.{◌≡◌, ◌^◌, ◌-◌, ◌<◌, [], true, false, None, ◌&&◌, IfOk, OnOk, OnErr, length};
     ghost use Rattle.std.specs.Option.{option_copied};
     ghost use Rattle.tree_specs.specs.declared.object.Owner.TheVariants.{Of as At};
-    ghost use Rattle.tree_specs.specs.declared.frame.FreeFrame.TheVariants.{Unlinking, Beginning, Looping};
-    ghost use Rattle.tree_specs.specs.declared.frame.Purpose.TheVariants.{Emptying};
-    ghost use Rattle.tree_specs.specs.Tree.Pool.{empty, row_of, is_row, is_owner, is_below, is_inside as is_inside_of, owner_of, target_at, newest_ref_of, add as added, place as placed, rename as renamed, set_hook as hooked, set_size as sized, set_limit as limited};
+    ghost use Rattle.tree_specs.specs.Tree.Pool.{empty, row_of, is_row, is_owner, is_below, is_inside as is_inside_of, owner_of, newest_ref_of, add as added, place as placed, rename as renamed, set_hook as hooked, set_size as sized, set_limit as limited};
     ghost use Rattle.tree_specs.specs.Tree.Targets.{newest_ref, target_of};
     ghost use Rattle.tree_specs.specs.Calls.Plans.{refer as referred, reparented};
     ghost use Rattle.tree_specs.specs.Calls.Refusals.{checked, row_limit, size_limit, is_plain_row, fits as fitting};
     ghost use Rattle.tree_specs.specs.Tree.Sums.{size_at, sum_inside};
     ghost use Rattle.tree_specs.specs.Tree.Reports.{report, count_refs};
     ghost use Rattle.tree_specs.specs.Tree.Inside.{size_inside, count_inside};
-    ghost use Rattle.tree_links.specs.Links.{IsTree, MayPlace};
+    ghost use Rattle.tree_links.specs.Links.{MayPlace};
     ghost use Rattle.references.specs.Rows.{RefersTo};
-    ghost use Rattle.destructors.specs.Frees.{next_of, is_event, returned, speaking, Begins, Steps};
-    ghost use Rattle.destructors.specs.Works.{IsAtWork, IsAwaiting, GoesOn};
-    ghost use Rattle.destructors.specs.Moves.{IsLiveRow};
-    ghost use Rattle.destructors.specs.Engine.{IsAsked};
-    ghost use Rattle.object_pool.specs.Objects.{frees_in, LeavesRest, RefsMayGo};
+    ghost use Rattle.object_pool.specs.Objects.{RefsMayGo};
 
-    /// No objects, of which the first gets the number `first`. It takes no memory.
-    pub fn new(alloc: Global, first: u64) -> Self
-        ensures { result ≡ record { pool = empty first; works = []; ready = false } }
+    /// No objects, of which the first gets the number `first`; the listener's descriptor 0 is open alone.
+    pub fn new(alloc: Global, first: u64) -> Result<ObjectPool, Memory>
+        ensures { IfOk result (λ objects. objects ≡ record { pool = empty first; works = []; ready = false }) }
     {
-        ObjectPool {
+        let events = Events::new(alloc)?;
+        Ok(ObjectPool {
             engine: FreeEngine::new(),
             tree: Tree::new(alloc, first),
             refs: Refs::new(alloc),
             sums: Sums::new(alloc),
-            events: Events::new(alloc),
+            events,
             places: false,
             ready: false,
-        }
+        })
     }
 
     /// Takes the memory for one call, with all that comes of it up to the next question.
@@ -188,90 +187,6 @@ impl ObjectPool {
         self.places = false;
         self.tree.set_limit(x, max);
         self.sums.set_limit(&self.tree, x, max);
-    }
-
-    /// Begins the freeing of an object to which there is no reference.
-    pub fn begin_free(&mut self, x: Obj)
-        requires ready { self.old.ready ≡ true }
-        requires awaiting { IsAwaiting (frees_in self.old) }
-        requires object { target_at self.old.pool.rows x ≡ None }
-        requires unheld { newest_ref self.old.pool.rows x ≡ None }
-        ensures begins { Begins (Beginning x ∷ self.old.works) self.old.pool (frees_in self.new) }
-        ensures at_work { IsAtWork (frees_in self.new) }
-        ensures rest { LeavesRest self.old self.new }
-    {
-        self.ready = false;
-        self.engine.begin_free(&mut self.tree, &mut self.refs, x);
-    }
-
-    /// Begins to take the interest of an owner in an object away.
-    pub fn begin_unlink(&mut self, owner: Owner, x: Obj)
-        requires ready { self.old.ready ≡ true }
-        requires awaiting { IsAwaiting (frees_in self.old) }
-        requires live { IsLiveRow self.old.pool x }
-        requires object { target_at self.old.pool.rows x ≡ None }
-        ensures begins { Begins (Unlinking owner x ∷ self.old.works) self.old.pool (frees_in self.new) }
-        ensures at_work { IsAtWork (frees_in self.new) }
-        ensures rest { LeavesRest self.old self.new }
-    {
-        self.ready = false;
-        self.engine
-            .begin_unlink(&mut self.tree, &mut self.refs, owner, x);
-    }
-
-    /// Begins the freeing of an object's children. The object itself stays.
-    pub fn begin_kids(&mut self, x: Obj)
-        requires ready { self.old.ready ≡ true }
-        requires awaiting { IsAwaiting (frees_in self.old) }
-        ensures begins { Begins (Looping x Emptying ∷ self.old.works) self.old.pool (frees_in self.new) }
-        ensures at_work { IsAtWork (frees_in self.new) }
-        ensures rest { LeavesRest self.old self.new }
-    {
-        self.ready = false;
-        self.engine.begin_kids(&mut self.tree, &mut self.refs, x);
-    }
-
-    /// The destructor that the innermost free waits for has returned a number.
-    pub fn answer(&mut self, value: u32)
-        requires asked { IsAsked (slice_get self.old.works 0) }
-        requires awaiting { IsAwaiting (frees_in self.old) }
-        ensures returned { self.new ≡ record self.old { works = returned value (frees_in self.old) } }
-        ensures settles { speaking (frees_in self.new) ≡ true }
-        ensures at_work { IsAtWork (frees_in self.new) }
-    {
-        self.engine.answer(&self.tree, value);
-    }
-
-    /// Whether a free is open.
-    pub fn is_freeing(&self) -> bool
-        ensures { result ≡ is_some (slice_get self.now.works 0) }
-    {
-        self.engine.is_open()
-    }
-
-    /// Whether the next step of the innermost free tells an event.
-    pub fn announces(&self) -> bool
-        requires { speaking (frees_in self.now) ≡ true }
-        ensures { result ≡ is_event (next_of (frees_in self.now)).0 }
-    {
-        self.engine.announces(&self.tree, &self.refs)
-    }
-
-    /// What comes next of the innermost free.
-    pub fn step(&mut self) -> FreeStep
-        requires at_work { IsAtWork (frees_in self.old) }
-        requires settled { speaking (frees_in self.old) ≡ true }
-        ensures steps { Steps (frees_in self.old) result (frees_in self.new) }
-        ensures goes_on { GoesOn result (frees_in self.new) }
-        ensures rest { LeavesRest self.old self.new }
-    {
-        // All that is wanted of `len` is its contract: the objects are a forest.
-        let _rows = self.tree.len();
-        self.ready = false;
-        let step = self.engine.step(&mut self.tree, &mut self.refs);
-        count_step(&step, &self.tree, &mut self.sums);
-        self.events.follow(&step);
-        step
     }
 
     /// How many objects there are.

@@ -5,8 +5,8 @@ use Rattle.std.specs.Option.{option_map}
 use Rattle.tree_specs.specs.declared.schedule.Reason.{Reason}
 use Rattle.tree_specs.specs.declared.schedule.Reason.TheVariants.{Form}
 use Rattle.tree_specs.specs.Texts.Text.{header, body_text}
-use Rattle.tree_specs.specs.Texts.Schedule.{Line, Judged, lines, judged_from, open_question, is_header, header_reason}
-use Rattle.tree_specs.specs.Machine.View.{View, begin, rest_of}
+use Rattle.tree_specs.specs.Texts.Schedule.{Line, Judged, Course, lines, judged_from, open_question, is_header, header_reason}
+use Rattle.tree_specs.specs.Machine.View.{View, begin, rest_of, strays_of}
 
 -- the text that is written, and the first line that is refused, with the reason
 pub record Replayed : Type 0 where
@@ -20,9 +20,13 @@ with_front front r = record { text = option_map (λ text. front ++ text) r.text;
 abbrev pub of_judged : View → Judged → Replayed
 of_judged v j = record { text = body_text (rest_of v j.inputs); refused = j.refused }
 
+-- what comes of further inputs, where the host is this
+abbrev pub course_of : View → Course
+course_of v = record { open_after = λ is. open_question (rest_of v is); strays = λ is. strays_of v is }
+
 -- the lines from number n on, where the host is this
 unfoldable pub replayed_lines : View → ℕ → List Line → Replayed
-replayed_lines v n ls = of_judged v (judged_from (λ is. open_question (rest_of v is)) n ls)
+replayed_lines v n ls = of_judged v (judged_from (course_of v) n ls)
 
 abbrev pub refused_at_once : Reason → Replayed
 refused_at_once why = record { text = Some []; refused = Some (1, why) }

@@ -137,19 +137,18 @@ impl Replay {
     {
         let began = self.text.len();
         self.write_question()?;
-        match self.host.offer(input) {
+        let fault = match self.host.offer(input) {
             Ok(()) => {
                 tell(&mut self.host, &mut self.text)?;
-                Ok(())
+                return Ok(());
             }
-            Err(OfferFault::NotAsked) => {
-                self.text.truncate(began);
-                self.refuse(Reason::NotAsked)
-            }
-            Err(OfferFault::Memory) => {
-                self.text.truncate(began);
-                Err(Stop::Memory)
-            }
+            Err(fault) => fault,
+        };
+        self.text.truncate(began);
+        match fault {
+            OfferFault::NotAsked => self.refuse(Reason::NotAsked),
+            OfferFault::Taken(_) => self.refuse(Reason::Token),
+            OfferFault::Memory => Err(Stop::Memory),
         }
     }
 

@@ -39,7 +39,8 @@ has_front {A} front read line result e = by_cases (strip front line) refl e
     by_cases None was f = absurd cc
     by_cases (Some rest) was f = record { rest = rest; line_is = strip_some front line rest was; reads = f }
 
+infixl 5 ◌either◌
 -- what one of two readers gives
-pub from_either : {A : Type 0} {P : Type 0} (a b : Option A) (x : A) → (a ≡ Some x → P) → (b ≡ Some x → P) → (a or b) ≡ Some x → P
-from_either None b x first second e = second e
-from_either (Some y) b x first second e = first e
+pub ◌either◌ : {A : Type 0} {P : Type 0} {a b : Option A} {x : A} → (a ≡ Some x → P) → (b ≡ Some x → P) → (a or b) ≡ Some x → P
+◌either◌ {a = None} first second e = second e
+◌either◌ {a = Some y} first second e = first e

@@ -1,5 +1,5 @@
 -- Descriptors that are ready: their spelling, both ways.
-use Rattle.std.proofs.Common.{◌≡◌, ℕ, ◌^◌, ◌<◌, Bool, true, false, eqb, ltb, leb, cond, not, ◌&&◌, List, [], ◌∷◌, ◌++◌, map, Option, Some, None, refl, sym, ap, ◌∙◌, arith, append-nil, append_assoc}
+use Rattle.std.proofs.Common.{◌≡◌, ℕ, ◌^◌, Bool, true, false, eqb, ltb, leb, cond, not, ◌&&◌, List, [], ◌∷◌, ◌++◌, map, Option, Some, None, refl, sym, ap, ◌∙◌, arith, append-nil, append_assoc}
 use Rattle.std.specs.Char.{is_ascii_digit}
 use Rattle.std.specs.Fmt.{decimal}
 use Rattle.std.specs.List.{list_all}
@@ -7,16 +7,16 @@ use Rattle.std.specs.Option.{option_map}
 use Rattle.std.specs.Str.{all_ascii_digits}
 use Rattle.std.proofs.lemmas.Bool.{ltb-true}
 use Rattle.std.proofs.lemmas.Bool.Decides.{nat_tests}
-use Rattle.tree_specs.specs.declared.question.Input.{Input}
 use Rattle.tree_specs.specs.declared.question.Input.TheVariants as inputs
 use Rattle.tree_specs.specs.declared.wants.Want.{Want}
-use Rattle.tree_specs.specs.Texts.Grammar.{◌>>=◌, words, number32_of, want_of, want_of_parts, wants_of, ready_of_words, ready_input_of}
+use Rattle.tree_specs.specs.Calls.Spelling.Numeral.{Number32}
+use Rattle.tree_specs.specs.Texts.Grammar.{◌>>=◌, words, numeral_of, want_of, want_of_parts, wants_of, ready_of_words, ready_input_of}
 use Rattle.tree_specs.specs.Texts.Text.{want_text, wants_text}
 use Rattle.tree_specs.specs.Words.Ranges.{is_return}
 use Rattle.tree_specs.specs.Words.Wants.{is_wants, is_want, has_flags, rises}
 use Rattle.text_forms.specs.Cursor.{parts}
 use Rattle.text_forms.proofs.Bools.{and_true, taken_where}
-use Rattle.text_forms.proofs.Fields.{HasRead, has_read, number32_field}
+use Rattle.text_forms.proofs.Fields.{has_read, numeral_field}
 use Rattle.text_forms.proofs.Numerals.{decimal_digits}
 use Rattle.text_forms.proofs.Words.{lacks, joined_by, parts_one, parts_more, joined-parts, is_unspaced, joined, words-joined, joined-words}
 use Rattle.schedule_text.specs.Wants.{ready_list_of, spaced_list_of}
@@ -49,18 +49,18 @@ no_second : (fd : Option ℕ) → None ≡ both_read fd None
 no_second None = refl
 no_second (Some f) = refl
 
-two_parts : (fd flags : List ℕ) → want_of_parts (fd ∷ parts 58 flags) ≡ both_read (number32_of fd) (number32_of flags)
-two_parts fd flags = by_flags (number32_of flags) refl
+two_parts : (fd flags : List ℕ) → want_of_parts (fd ∷ parts 58 flags) ≡ both_read (numeral_of Number32 fd) (numeral_of Number32 flags)
+two_parts fd flags = by_flags (numeral_of Number32 flags) refl
   where
-    unread : (ps : List (List ℕ)) → joined_by 58 ps ≡ flags → number32_of flags ≡ None → want_of_parts (fd ∷ ps) ≡ both_read (number32_of fd) None
-    unread [] same e = no_second (number32_of fd)
+    unread : (ps : List (List ℕ)) → joined_by 58 ps ≡ flags → numeral_of Number32 flags ≡ None → want_of_parts (fd ∷ ps) ≡ both_read (numeral_of Number32 fd) None
+    unread [] same e = no_second (numeral_of Number32 fd)
     unread (p ∷ []) same e = rw (same, e) refl
-    unread (p ∷ q ∷ ps) same e = no_second (number32_of fd)
+    unread (p ∷ q ∷ ps) same e = no_second (numeral_of Number32 fd)
 
-    by_flags : (o : Option ℕ) → number32_of flags ≡ o → want_of_parts (fd ∷ parts 58 flags) ≡ both_read (number32_of fd) (number32_of flags)
+    by_flags : (o : Option ℕ) → numeral_of Number32 flags ≡ o → want_of_parts (fd ∷ parts 58 flags) ≡ both_read (numeral_of Number32 fd) (numeral_of Number32 flags)
     by_flags None e = rw e (unread (parts 58 flags) (joined-parts 58 flags) e)
     by_flags (Some n) e =
-        let spelled = number32_field.spelled flags n e in
+        let spelled = (numeral_field Number32).spelled flags n e in
         rw (parts_one 58 flags (ap (lacks 58) spelled.0 ∙ number_lacks_colon n spelled.1)) refl
 
 -- a word with no colon is no descriptor
@@ -68,20 +68,20 @@ pub no_flags : (word fd : List ℕ) → parts 58 word ≡ fd ∷ [] → want_of 
 no_flags word fd e = rw e refl
 
 -- the first colon stands between the descriptor and its flags
-pub want_read : (word fd flags : List ℕ) → parts 58 word ≡ fd ∷ parts 58 flags → want_of word ≡ both_read (number32_of fd) (number32_of flags)
+pub want_read : (word fd flags : List ℕ) → parts 58 word ≡ fd ∷ parts 58 flags → want_of word ≡ both_read (numeral_of Number32 fd) (numeral_of Number32 flags)
 want_read word fd flags e = ap want_of_parts e ∙ two_parts fd flags
 
-pub flags_unread : (word fd flags : List ℕ) → parts 58 word ≡ fd ∷ parts 58 flags → number32_of flags ≡ None → want_of word ≡ None
-flags_unread word fd flags e none = want_read word fd flags e ∙ rw none (sym (no_second (number32_of fd)))
+pub flags_unread : (word fd flags : List ℕ) → parts 58 word ≡ fd ∷ parts 58 flags → numeral_of Number32 flags ≡ None → want_of word ≡ None
+flags_unread word fd flags e none = want_read word fd flags e ∙ rw none (sym (no_second (numeral_of Number32 fd)))
 
-pub both_numbers_read : (word fd flags : List ℕ) (f n : ℕ) → parts 58 word ≡ fd ∷ parts 58 flags → number32_of fd ≡ Some f → number32_of flags ≡ Some n → want_of word ≡ Some (record { fd = f; flags = n })
+pub both_numbers_read : (word fd flags : List ℕ) (f n : ℕ) → parts 58 word ≡ fd ∷ parts 58 flags → numeral_of Number32 fd ≡ Some f → numeral_of Number32 flags ≡ Some n → want_of word ≡ Some (record { fd = f; flags = n })
 both_numbers_read word fd flags f n e fd_is flags_is = want_read word fd flags e ∙ rw (fd_is, flags_is) refl
 
 want_again : (w : Want) → has_small_numbers w ≡ true → want_of (want_word w) ≡ Some w
 want_again w h =
     let both = and_true (is_return w.fd) (is_return w.flags) h in
     want_read (want_word w) (decimal w.fd) (decimal w.flags) (parts_more 58 (decimal w.fd) (decimal w.flags) (number_lacks_colon w.fd both.0))
-    ∙ rw (number32_field.again w.fd both.0, number32_field.again w.flags both.1) refl
+    ∙ rw ((numeral_field Number32).again w.fd both.0, (numeral_field Number32).again w.flags both.1) refl
 
 -- the text is the spelling of this descriptor, whose numbers are small
 record IsWant (word : List ℕ) (w : Want) : Type 0 where
@@ -101,8 +101,8 @@ want_spelled word w e = by_parts (parts 58 word) (joined-parts 58 word) e
   where
     by_parts : (ps : List (List ℕ)) → joined_by 58 ps ≡ word → want_of_parts ps ≡ Some w → IsWant word w
     by_parts (fd ∷ flags ∷ []) same e =
-        let f = has_read number32_field fd (λ f. number32_of flags >>= λ n. Some (record { fd = f; flags = n })) w e in
-        let n = has_read number32_field flags (λ n. Some (record { fd = f.value; flags = n })) w f.goes_on in
+        let f = has_read (numeral_field Number32) fd (λ f. numeral_of Number32 flags >>= λ n. Some (record { fd = f; flags = n })) w e in
+        let n = has_read (numeral_field Number32) flags (λ n. Some (record { fd = f.value; flags = n })) w f.goes_on in
         from_parts word fd flags f.value n.value w same f.text_is n.text_is f.value_is_sound n.value_is_sound n.goes_on
     by_parts _ same e = absurd cc
 
@@ -153,7 +153,7 @@ lacks-append byte (x ∷ xs) ys h more =
 want_is_word : (w : Want) → has_small_numbers w ≡ true → is_unspaced (want_word w) ≡ true
 want_is_word w h =
     let both = and_true (is_return w.fd) (is_return w.flags) h in
-    lacks-append 32 (decimal w.fd) (58 ∷ decimal w.flags) (number32_field.is_word w.fd both.0) (number32_field.is_word w.flags both.1)
+    lacks-append 32 (decimal w.fd) (58 ∷ decimal w.flags) ((numeral_field Number32).is_word w.fd both.0) ((numeral_field Number32).is_word w.flags both.1)
 
 wants_are_words : (ws : List Want) → all_small ws ≡ true → list_all is_unspaced (map want_word ws) ≡ true
 wants_are_words [] h = refl

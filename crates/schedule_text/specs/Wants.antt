@@ -1,7 +1,7 @@
 -- The list of the line that tells which descriptors are ready, as a reader goes through its words.
 use Rattle.std.specs.Prelude.{ℕ, List, [], ◌∷◌, Option, Some, None, if◌then◌else◌}
 use Rattle.tree_specs.specs.declared.wants.Want.{Want}
-use Rattle.tree_specs.specs.Texts.Grammar.{◌>>=◌, words, wants_of}
+use Rattle.tree_specs.specs.Texts.Grammar.{◌>>=◌, wants_of}
 use Rattle.tree_specs.specs.Words.Wants.{is_wants}
 
 -- the descriptors that these words spell, where they can be ready

@@ -8,7 +8,6 @@ mod header;
 mod line_reader;
 mod line_writer;
 mod moment;
-mod octets;
 mod question;
 mod ready;
 mod refusal;

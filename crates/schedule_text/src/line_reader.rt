@@ -1,15 +1,52 @@
 ghost use Rattle.std.specs.Prelude.{◌≡◌, ◌≢◌, ◌++◌, IfOk, IsTrue, Err};
 ghost use Rattle.tree_specs.specs.declared.question.Input.{Input as InputData};
-ghost use Rattle.tree_specs.specs.Texts.Grammar.{input_of};
+ghost use Rattle.tree_specs.specs.Texts.Grammar.{alone, input_of};
 ghost use Rattle.tree_specs.specs.Words.Ranges.{is_sound};
 ghost use Rattle.tree_specs.specs.Texts.Text.{input_text, newline};
 ghost use Rattle.text_forms.specs.Reads.{Reads};
+ghost use Rattle.schedule_text.specs.Heard.{heard_input_of, input_has_bytes};
 
 use crate::front::after_front;
 use crate::ready::read_ready;
 use std::alloc::Global;
-use text_forms::{FormFault, read_call, read_time, read_u32};
+use text_forms::{
+    FormFault, read_call, read_length, read_octets, read_positive, read_time, read_u32,
+};
 use tree_specs::{Act, Input};
+
+// An input that is told by a word alone, which nothing follows.
+fn alone_value(text: &[u8], input: Input) -> Result<Input, FormFault>
+    ensures { Reads result (alone input text.now) }
+{
+    if text.is_empty() {
+        Ok(input)
+    } else {
+        Err(FormFault::NoForm)
+    }
+}
+
+// What a descriptor answered, as the line tells it.
+fn heard_value(alloc: Global, line: &[u8]) -> Result<Input, FormFault>
+    ensures { Reads result (heard_input_of line.now) }
+{
+    if let Some(text) = after_front(line, b"took ") {
+        read_positive(text)
+            .map(Input::Took)
+            .ok_or(FormFault::NoForm)
+    } else if let Some(text) = after_front(line, b"again") {
+        alone_value(text, Input::Again)
+    } else if let Some(text) = after_front(line, b"fault") {
+        alone_value(text, Input::Fault)
+    } else if let Some(text) = after_front(line, b"got ") {
+        read_octets(alloc, text).map(Input::Got)
+    } else if let Some(text) = after_front(line, b"end") {
+        alone_value(text, Input::End)
+    } else if let Some(text) = after_front(line, b"wrote ") {
+        read_length(text).map(Input::Wrote).ok_or(FormFault::NoForm)
+    } else {
+        Err(FormFault::NoForm)
+    }
+}
 
 // The input that the line spells, as the grammar defines it: its front decides how the rest is read.
 #[tactic(auto, unfolding(tree_specs::specs::Texts::Grammar::input_of))]
@@ -29,7 +66,7 @@ fn input_value(alloc: Global, line: &[u8]) -> Result<Input, FormFault>
     } else if let Some(text) = after_front(line, b"ready") {
         read_ready(alloc, text)
     } else {
-        Err(FormFault::NoForm)
+        heard_value(alloc, line)
     }
 }
 
@@ -41,7 +78,7 @@ pub fn read_line(alloc: Global, line: &[u8]) -> Result<Input, FormFault>
     ensures sound { IfOk result (λ i. IsTrue (is_sound i)) }
     // An input has one line, and what is none is the line of no input.
     ensures spelled { IfOk result (λ i. line.now ++ newline ≡ input_text i) }
-    ensures none { result ≡ Err FormFault.NoForm → (i : InputData) → IsTrue (is_sound i) → line.now ++ newline ≢ input_text i }
+    ensures none { result ≡ Err FormFault.NoForm → (i : InputData) → IsTrue (is_sound i) → IsTrue (input_has_bytes i) → line.now ++ newline ≢ input_text i }
 {
     input_value(alloc, line)
 }

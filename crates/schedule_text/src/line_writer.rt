@@ -3,9 +3,10 @@ ghost use Rattle.tree_specs.specs.Texts.Grammar.{input_of};
 ghost use Rattle.tree_specs.specs.Words.Ranges.{is_sound, is_sound_call};
 ghost use Rattle.tree_specs.specs.Texts.Text.{call_text, input_text, newline};
 ghost use Rattle.tree_specs.specs.Texts.Written.{Writes};
+ghost use Rattle.schedule_text.specs.Heard.{input_has_bytes};
 
 use crate::ready::write_ready;
-use text_forms::{write_call, write_numbers, write_pieces};
+use text_forms::{call_bytes, lend_bytes, write_call, write_numbers, write_octets, write_pieces};
 use tree_specs::{Act, Call, Input, Memory};
 
 // The line of a call after this front.
@@ -30,6 +31,23 @@ fn write_line(input: &Input, out: &mut Vec<u8>) -> Result<(), Memory>
         Input::Act(Act::Ret(value)) => write_numbers(b"ret", &[u64::from(*value)], b"\n", out),
         Input::Clock(now) => write_numbers(b"clock", &[*now], b"\n", out),
         Input::Ready(wants) => write_ready(wants, out),
+        Input::Took(descriptor) => write_numbers(b"took", &[u64::from(*descriptor)], b"\n", out),
+        Input::Again => write_pieces(&[b"again\n".as_slice()], out),
+        Input::Fault => write_pieces(&[b"fault\n".as_slice()], out),
+        Input::Got(bytes) => write_octets(b"got", &[], bytes, b"\n", out),
+        Input::End => write_pieces(&[b"end\n".as_slice()], out),
+        Input::Wrote(n) => write_numbers(b"wrote", &[u64::from(*n)], b"\n", out),
+    }
+}
+
+// The bytes that an input carries, where it does, and that they are bytes.
+fn input_bytes(input: &Input) -> Option<&[u8]>
+    ensures { IsTrue (input_has_bytes input.now) }
+{
+    match input {
+        Input::Call(call) | Input::Act(Act::Do(call)) => call_bytes(call),
+        Input::Got(bytes) => Some(lend_bytes(bytes)),
+        _ => None,
     }
 }
 
@@ -41,5 +59,6 @@ pub fn write_input(input: &Input, out: &mut Vec<u8>) -> Result<(), Memory>
     // The line, without its LF, is read back as the same input.
     ensures read_back { (line : List ℕ) → line ++ newline ≡ input_text input.now → input_of line ≡ Some input.now }
 {
+    input_bytes(input);
     write_line(input, out)
 }

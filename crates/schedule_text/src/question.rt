@@ -1,21 +1,10 @@
 ghost use Rattle.std.specs.Prelude.{◌++◌};
-ghost use Rattle.tree_specs.specs.declared.question.Ask.TheVariants as asks;
 ghost use Rattle.tree_specs.specs.Texts.Text.{ask_text, answered_text, end_text, newline};
 ghost use Rattle.tree_specs.specs.Texts.Written.{Writes};
 
 use crate::moment::write_moment;
-use crate::octets::write_octets;
-use text_forms::{write_numbers, write_pieces};
-use tree_specs::{Ask, Memory, Octets};
-
-// Appends the question of how many of these bytes a descriptor takes.
-#[tactic(auto, unfolding(tree_specs::specs::Texts::Text::ask_text))]
-fn write_ask_of_write(descriptor: u32, bytes: &Octets, out: &mut Vec<u8>) -> Result<(), Memory>
-    ensures { Writes out.old.items out.new.items result (ask_text (asks.Write descriptor bytes.now)) }
-{
-    write_numbers(b"write", &[u64::from(descriptor)], b" ", out)?;
-    write_octets(bytes, out)
-}
+use text_forms::{write_numbers, write_octets, write_pieces};
+use tree_specs::{Ask, Memory};
 
 /// Appends the text of a question, with no LF. When memory runs out, a prefix of it was appended.
 #[tactic(auto, unfolding(tree_specs::specs::Texts::Text::ask_text))]
@@ -36,7 +25,9 @@ pub fn write_ask(ask: &Ask, out: &mut Vec<u8>) -> Result<(), Memory>
                 out,
             )
         }
-        Ask::Write(descriptor, bytes) => write_ask_of_write(*descriptor, bytes, out),
+        Ask::Write(descriptor, bytes) => {
+            write_octets(b"write", &[u64::from(*descriptor)], bytes, b"", out)
+        }
     }
 }
 

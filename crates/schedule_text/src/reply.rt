@@ -2,10 +2,9 @@ ghost use Rattle.tree_specs.specs.declared.reply.Reply.TheVariants as replies;
 ghost use Rattle.tree_specs.specs.Texts.Text.{reply_text};
 ghost use Rattle.tree_specs.specs.Texts.Written.{Writes};
 
-use crate::octets::write_octets;
 use crate::refusal::write_refusal;
-use text_forms::{write_numbers, write_pieces, write_report_rows};
-use tree_specs::{Memory, Octets, Reply, ReportRows};
+use text_forms::{write_numbers, write_octets, write_pieces, write_report_rows};
+use tree_specs::{Memory, Reply, ReportRows};
 
 // Appends the lines of a report, and then the line that tells how many they are.
 fn write_report(report: &ReportRows, out: &mut Vec<u8>) -> Result<(), Memory>
@@ -14,17 +13,6 @@ fn write_report(report: &ReportRows, out: &mut Vec<u8>) -> Result<(), Memory>
     let rows = report.as_slice();
     write_report_rows(rows, out)?;
     write_numbers(b"reply rows", &[rows.len() as u64], b"\n", out)
-}
-
-// Appends the line with the bytes that were read.
-#[tactic(auto, unfolding(tree_specs::specs::Texts::Text::reply_text))]
-fn write_got(bytes: &Octets, out: &mut Vec<u8>) -> Result<(), Memory>
-    ensures { Writes out.old.items out.new.items result (reply_text (replies.Bytes bytes.now)) }
-{
-    out.extend_from_slice(b"reply got ")?;
-    write_octets(bytes, out)?;
-    out.push(b'\n')?;
-    Ok(())
 }
 
 // Appends a reply as its line, with its LF.
@@ -37,7 +25,7 @@ pub(crate) fn write_reply(reply: &Reply, out: &mut Vec<u8>) -> Result<(), Memory
         Reply::Number(n) => write_numbers(b"reply", &[*n], b"\n", out),
         Reply::Pair(a, b) => write_numbers(b"reply", &[*a, *b], b"\n", out),
         Reply::Rows(rows) => write_report(rows, out),
-        Reply::Bytes(bytes) => write_got(bytes, out),
+        Reply::Bytes(bytes) => write_octets(b"reply got", &[], bytes, b"\n", out),
         Reply::Again => write_pieces(&[b"reply again\n".as_slice()], out),
         Reply::Fault => write_pieces(&[b"reply fault\n".as_slice()], out),
         Reply::End => write_pieces(&[b"reply end\n".as_slice()], out),

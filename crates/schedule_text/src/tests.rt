@@ -1,10 +1,12 @@
-use crate::write_event;
+use crate::{read_line, write_event};
 use std::alloc::Global;
 use std::process::Abort;
 use std::test::Fail;
+use text_forms::FormFault;
 use tree_specs::{Event, Octets, Reply};
 
 mod events;
+mod heard;
 mod lines;
 mod questions;
 mod refusals;
@@ -18,6 +20,14 @@ fn writes(rt: &impl Abort, alloc: Global, cases: &[(Event, &[u8])]) -> Result<()
         assert_eq!(rt; out.as_slice(), *want, "at {event:?}");
     }
     Ok(())
+}
+
+// No line is an input.
+fn reads_none(rt: &impl Abort, alloc: Global, lines: &[&[u8]]) {
+    for line in lines {
+        let input = read_line(alloc, line);
+        assert!(rt; matches!(input, Err(FormFault::NoForm)), "at {line:?}");
+    }
 }
 
 fn replied(reply: Reply) -> Event {

@@ -1,6 +1,6 @@
 -- A machine whose last work never ends always comes to a question.
 use Rattle.std.proofs.Common.{◌≡◌, ℕ, suc, zero, List, [], ◌∷◌, Option, Some, None, refl, map}
-use Rattle.step_machine.specs.Machine.{Move, Table, Outcome, tell, given, leads, walk, items, map_items}
+use Rattle.step_machine.specs.Machine.{Move, Table, Outcome, tell, given, leads, walk, items, is_stray, map_items}
 use Rattle.step_machine.specs.Machine.Move.{Done, Go, Emit, Wait, Call}
 use Rattle.step_machine.specs.Machine.Outcome.{Ended, Waits, Stray, Short}
 use Rattle.step_machine.specs.Open.{LastIs}
@@ -47,6 +47,10 @@ NotShort-map_items f (Ended a p ts is) n = tt
 NotShort-map_items f (Waits ts) n = tt
 NotShort-map_items f (Stray ts) n = tt
 NotShort-map_items f Short n = n
+
+pub stray-map_items : {A P I T U : Type 0} (f : T → U) (o : Outcome A P I T) → is_stray (map_items f o) ≡ is_stray o
+stray-map_items f (Stray ts) = refl
+stray-map_items f _ = refl
 
 module _ {F A P I T : Type 0} (t : Table F A P I T) (N : F → List F → P → Type 0) (Q : T → Type 0) where
   -- the fact N holds of what a move leads to, which isn't the end, and what is asked is a question

@@ -1,5 +1,5 @@
 -- A machine of small steps whose open works stand on one another. Three tables without recursion say all of it.
-use Rattle.std.specs.Prelude.{◌≡◌, ℕ, suc, zero, List, [], ◌∷◌, ◌++◌, Option, Some, None, map}
+use Rattle.std.specs.Prelude.{◌≡◌, ℕ, suc, zero, Bool, true, false, List, [], ◌∷◌, ◌++◌, Option, Some, None, map}
 
 -- What one step of the innermost work does.
 pub data Move (F A P T : Type 0) : Type 0 where
@@ -124,6 +124,11 @@ items (Ended a p ts is) = ts
 items (Waits ts) = ts
 items (Stray ts) = ts
 items Short = []
+
+-- an input doesn't fit the question at the end
+abbrev pub is_stray : {A P I T : Type 0} → Outcome A P I T → Bool
+is_stray (Stray ts) = true
+is_stray o = false
 
 -- each item by a function of it
 abbrev pub map_items : {A P I T U : Type 0} → (T → U) → Outcome A P I T → Outcome A P I U

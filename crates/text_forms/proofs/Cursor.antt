@@ -3,7 +3,7 @@ use Rattle.std.proofs.Common.{◌≡◌, ℕ, Bool, true, false, eqb, cond, ◌&
 use Rattle.std.specs.Char.{is_ascii_digit}
 use Rattle.std.specs.List.{onto_first}
 use Rattle.std.specs.Str.{all_ascii_digits}
-use Rattle.tree_specs.specs.Texts.Grammar.{◌>>=◌, is_short, number_of, name_of, words, ◌leaving◌, field, last_field}
+use Rattle.tree_specs.specs.Texts.Grammar.{◌>>=◌, is_short, number_of, name_of, octets_of, words, ◌leaving◌, field, last_field}
 use Rattle.text_forms.specs.declared.form.FormFault.{FormFault}
 use Rattle.text_forms.specs.declared.form.FormFault.TheVariants.{NoForm, Memory}
 use Rattle.text_forms.specs.Cursor.{digit_count, digits_at, number_at, Takes}
@@ -12,7 +12,8 @@ use Rattle.std.proofs.lemmas.Bool.{eqb-true}
 use Rattle.std.proofs.lemmas.List.{append-nil, take_rest}
 use Rattle.text_forms.proofs.Bools.{and_true, not_true}
 use Rattle.text_forms.proofs.Digits.{are_digits, ends_otherwise, digits-and-rest, StartsOtherwise}
-use Rattle.text_forms.proofs.Fields.{digit_is_unspaced, digits_are_unspaced, name_field, name_spelled}
+use Rattle.text_forms.proofs.Fields.{IsField, digit_is_unspaced, digits_are_unspaced, name_field}
+use Rattle.text_forms.proofs.Hexadecimal.{octets_field}
 use Rattle.text_forms.proofs.Words.{is_unspaced, words_one, words_more, joined-words, joined}
 
 and_false : (a : Bool) → (a && false) ≡ false
@@ -111,23 +112,29 @@ pub number_is : (text : List ℕ) → number_of text ≡ (number_at text >>= alo
 unfolding number_at
 number_is text = sym (ap number_of (digits-and-rest text)) ∙ number_after (digits_at text) (drop (digit_count text) text) (ends_otherwise text)
 
--- the last field is a name where all that is left is one
-name_is : (text : List ℕ) → last_field name_of (words text) ≡ (name_of text leaving [])
-name_is text = by_cases (name_of text) refl
+-- the last field is read where all that is left is its spelling
+last_is : {A : Type 0} {read : List ℕ → Option A} {spell : A → List ℕ} {is_sound : A → Bool} (field : IsField read spell is_sound) (text : List ℕ) → last_field read (words text) ≡ (read text leaving [])
+last_is {A} {read} {spell} {is_sound} field text = by_cases (read text) refl
   where
-    one_word : (ws : List (List ℕ)) → joined ws ≡ text → name_of text ≡ None → last_field name_of ws ≡ None
+    one_word : (ws : List (List ℕ)) → joined ws ≡ text → read text ≡ None → last_field read ws ≡ None
     one_word [] same e = refl
     one_word (word ∷ []) same e = rw (same, e) refl
     one_word (word ∷ next ∷ more) same e = refl
 
-    by_cases : (o : Option (List ℕ)) → name_of text ≡ o → last_field name_of (words text) ≡ (name_of text leaving [])
+    by_cases : (o : Option A) → read text ≡ o → last_field read (words text) ≡ (read text leaving [])
     by_cases None e = one_word (words text) (joined-words text) e ∙ rw e refl
-    by_cases (Some name) e =
-        let spelled = name_spelled text name e in
-        let unspaced : is_unspaced text ≡ true = ap is_unspaced spelled.0 ∙ name_field.is_word name spelled.1 in
+    by_cases (Some x) e =
+        let spelled = field.spelled text x e in
+        let unspaced : is_unspaced text ≡ true = ap is_unspaced spelled.0 ∙ field.is_word x spelled.1 in
         rw (words_one text unspaced) refl
 
+last_taken : {A : Type 0} {read : List ℕ → Option A} {spell : A → List ℕ} {is_sound : A → Bool} (field : IsField read spell is_sound) (r : Result A FormFault) (text : List ℕ) → Reads r (read text) → Takes r (last_field read (words text)) []
+last_taken field (Ok x) text h = last_is field text ∙ rw h refl
+last_taken field (Err NoForm) text h = last_is field text ∙ rw h refl
+last_taken field (Err Memory) text h = tt
+
 pub name_taken : (r : Result (List ℕ) FormFault) (text : List ℕ) → Reads r (name_of text) → Takes r (last_field name_of (words text)) []
-name_taken (Ok name) text h = name_is text ∙ rw h refl
-name_taken (Err NoForm) text h = name_is text ∙ rw h refl
-name_taken (Err Memory) text h = tt
+name_taken r text h = last_taken name_field r text h
+
+pub octets_taken : (r : Result (List ℕ) FormFault) (text : List ℕ) → Reads r (octets_of text) → Takes r (last_field octets_of (words text)) []
+octets_taken r text h = last_taken octets_field r text h

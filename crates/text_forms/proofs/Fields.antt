@@ -1,20 +1,21 @@
 -- Each kind of field: its spelling, both ways.
-use Rattle.std.proofs.Common.{◌≡◌, ℕ, zero, suc, ◌^◌, ◌<◌, ◌≤◌, Bool, true, false, eqb, ltb, leb, not, ◌&&◌, List, [], ◌∷◌, length, Option, Some, None, refl, sym, ap, ◌∙◌, cond, arith}
+use Rattle.std.proofs.Common.{◌≡◌, ℕ, zero, suc, ◌^◌, ◌<◌, Bool, true, eqb, ltb, leb, not, ◌&&◌, List, [], ◌∷◌, length, Option, Some, None, refl, sym, ap, ◌∙◌, arith}
 use Rattle.std.specs.Char.{is_ascii_digit}
 use Rattle.std.specs.Fmt.{decimal}
 use Rattle.std.specs.List.{list_all}
 use Rattle.std.specs.Str.{all_ascii_digits}
 use Rattle.std.proofs.lemmas.Bool.{ltb-true}
 use Rattle.std.proofs.lemmas.Bool.Decides.{nat_tests}
-use Rattle.tree_specs.specs.declared.bounds.TheConstants.{TIME_LIMIT}
 use Rattle.tree_specs.specs.declared.object.Obj.{Obj}
 use Rattle.tree_specs.specs.declared.object.Owner.{Owner}
 use Rattle.tree_specs.specs.declared.object.Owner.TheVariants.{Root, Of}
-use Rattle.tree_specs.specs.Texts.Grammar.{◌>>=◌, number_of, number32_of, routine_of, time_of, owner_of, object_of, name_of}
+use Rattle.tree_specs.specs.Calls.Spelling.{Numeral}
+use Rattle.tree_specs.specs.Calls.Spelling.Numeral.{Number}
+use Rattle.tree_specs.specs.Texts.Grammar.{◌>>=◌, number_of, numeral_of, owner_of, object_of, name_of}
 use Rattle.tree_specs.specs.Words.Names.{is_name, is_graphic}
 use Rattle.tree_specs.specs.Words.Objects.{owner_number, numbered_owner}
-use Rattle.tree_specs.specs.Words.Ranges.{is_number, is_return, is_routine, is_time, is_sound_owner}
-use Rattle.text_forms.specs.Reads.{ReadsNumber}
+use Rattle.tree_specs.specs.Words.Ranges.{is_number, is_in, is_sound_owner}
+use Rattle.text_forms.specs.Reads.{in_range, ReadsNumeral}
 use Rattle.text_forms.proofs.Numerals.{number_spelled, number_again, decimal_digits}
 use Rattle.text_forms.proofs.Bools.{and_true, taken_where, list_all-weaker}
 use Rattle.text_forms.proofs.Words.{is_unspaced}
@@ -81,36 +82,17 @@ by_field {A} {B} {read} {spell} {is_sound_part} field make part is_sound made ta
         let m = made r.value y r.value_is_sound r.goes_on in
         (r.text_is ∙ ap spell (sym m.0), m.1)
 
--- ---- what a routine returns, times, and routines
+-- ---- numbers in a range
 
--- a number within some range
-ranged_field : (is : ℕ → Bool) → ((n : ℕ) → is n ≡ true → is_number n ≡ true) → IsField (λ text. number_of text >>= λ n. cond (is n) (Some n) None) decimal is
-ranged_field is small = by_field number_field (λ n. cond (is n) (Some n) None) (λ n. n) is
-    (λ n y h e. let taken = taken_where is n y e in (sym taken.0, taken.1))
-    (λ n h. (small n h, rw h refl))
+is_number_in : (kind : Numeral) (n : ℕ) → is_in kind n ≡ true → is_number n ≡ true
+is_number_in Number n h = h
+is_number_in _ n h = grind (arith, nat_tests)
 
-pub number32_field : IsField number32_of decimal is_return
-unfolding number32_of
-number32_field = ranged_field is_return (λ n h. grind (arith, nat_tests))
-
-pub time_field : IsField time_of decimal is_time
-unfolding time_of
-time_field = ranged_field is_time (λ n h. grind (arith, nat_tests))
-
-not_zero : (n : ℕ) → eqb (suc n) 0 ≡ false
-not_zero n = grind (arith, nat_tests)
-
-routine_made : (n y : ℕ) → is_return n ≡ true → cond (eqb n 0) None (Some n) ≡ Some y → (y ≡ n) × (is_routine y ≡ true)
-routine_made zero y h e = absurd cc
-routine_made (suc n) y h e = let same : suc n ≡ y = cc (not_zero n) in (sym same, sym (ap is_routine same) ∙ rw (above_zero n, h) refl)
-
-routine_taken : (n : ℕ) → is_routine n ≡ true → (is_return n ≡ true) × (cond (eqb n 0) None (Some n) ≡ Some n)
-routine_taken zero h = absurd cc
-routine_taken (suc n) h = ((and_true (ltb 0 (suc n)) (is_return (suc n)) h).1, rw (not_zero n) refl)
-
-pub routine_field : IsField routine_of decimal is_routine
-unfolding routine_of
-routine_field = by_field number32_field (λ n. cond (eqb n 0) None (Some n)) (λ n. n) is_routine routine_made routine_taken
+pub numeral_field : (kind : Numeral) → IsField (numeral_of kind) decimal (is_in kind)
+unfolding numeral_of
+numeral_field kind = by_field number_field (in_range kind) (λ n. n) (is_in kind)
+    (λ n y h e. let taken = taken_where (is_in kind) n y e in (sym taken.0, taken.1))
+    (λ n h. (is_number_in kind n h, rw h refl))
 
 -- ---- owners and objects
 
@@ -149,25 +131,29 @@ object_field = by_number (λ n. record { 0 = n }) (λ (x : Obj). x.0) (λ x. is_
 -- ---- what reading a number answers
 
 -- what is read is the spelling of its value, and what is none is the spelling of no number in the range
-number_is_read : {reader : List ℕ → Option ℕ} {is_sound : ℕ → Bool} (InRange : ℕ → Type 0) → ((n : ℕ) → InRange n → is_sound n ≡ true) → (field : IsField reader decimal is_sound) (o : Option ℕ) (ds : List ℕ) → o ≡ reader ds → ReadsNumber o reader InRange ds
-number_is_read InRange sound field (Some n) ds e = record { value = e; spelled = (field.spelled ds n (sym e)).0; none = tt }
-number_is_read {reader} InRange sound field None ds e = record {
+pub numeral_is_read : (kind : Numeral) (found : Option ℕ) (text : List ℕ) → found ≡ numeral_of kind text → ReadsNumeral found kind text
+numeral_is_read kind (Some n) text e = record { value = e; spelled = ((numeral_field kind).spelled text n (sym e)).0; none = tt }
+numeral_is_read kind None text e = record {
   value = e;
   spelled = tt;
-  none = λ n within same. none_some n (e ∙ ap reader same ∙ field.again n (sound n within));
+  none = λ n within same. none_some n (e ∙ ap (numeral_of kind) same ∙ (numeral_field kind).again n within);
 }
   where
     none_some : (n : ℕ) → None ≡ Some n → ⊥
     none_some n e = absurd cc
 
-pub number_read : (o : Option ℕ) (ds : List ℕ) → o ≡ number_of ds → ReadsNumber o number_of (λ n. n < 2 ^ 64) ds
-number_read o ds e = number_is_read (λ n. n < 2 ^ 64) is_number_from number_field o ds e
+pub numeral_read : (kind : Numeral) (text : List ℕ) (n : ℕ) (found : Option ℕ) → number_of text ≡ Some n → found ≡ in_range kind n → ReadsNumeral found kind text
+unfolding numeral_of
+numeral_read kind text n found read is = numeral_is_read kind found text (rw read is)
 
-pub number32_read : (o : Option ℕ) (ds : List ℕ) → o ≡ number32_of ds → ReadsNumber o number32_of (λ n. n < 2 ^ 32) ds
-number32_read o ds e = number_is_read (λ n. n < 2 ^ 32) (λ n lt. grind (arith, nat_tests)) number32_field o ds e
+-- any number is in the range of numbers
+number_in : (o : Option ℕ) → ((n : ℕ) → o ≡ Some n → is_number n ≡ true) → (o >>= in_range Number) ≡ o
+number_in None small = refl
+number_in (Some n) small = rw (small n refl) refl
 
-pub time_read : (o : Option ℕ) (ds : List ℕ) → o ≡ time_of ds → ReadsNumber o time_of (λ n. n ≤ TIME_LIMIT) ds
-time_read o ds e = number_is_read (λ n. n ≤ TIME_LIMIT) (λ n le. grind (arith, nat_tests)) time_field o ds e
+pub number_read : (found : Option ℕ) (text : List ℕ) → found ≡ number_of text → ReadsNumeral found Number text
+unfolding numeral_of
+number_read found text e = numeral_is_read Number found text (e ∙ sym (number_in (number_of text) (λ n read. (number_field.spelled text n read).1)))
 
 -- ---- names
 

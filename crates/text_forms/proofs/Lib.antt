@@ -3,6 +3,7 @@ pub mod Digits
 pub mod Numerals
 pub mod Words
 pub mod Fields
+pub mod Hexadecimal
 pub mod Calls
 pub mod Cursor
 pub mod Verbs

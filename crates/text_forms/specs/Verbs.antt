@@ -3,35 +3,58 @@ use Rattle.std.specs.Prelude.{ℕ, ◌≡◌, List, Option, Some, None, codes}
 use Rattle.tree_specs.specs.declared.call.Call.{Call}
 use Rattle.tree_specs.specs.Calls.Spelling.{forms}
 use Rattle.tree_specs.specs.Texts.Grammar.{◌>>=◌, form_in, taken}
+use Rattle.text_forms.specs.declared.verb.TreeVerb.{TreeVerb}
+use Rattle.text_forms.specs.declared.verb.TreeVerb.TheVariants.{New, Free, Freekids, Steal, Move, Reparent, Reference, Unlink, Hook, Unhook, Rename, Resize, Limit, Parent, Total, Count, Sum, Report}
+use Rattle.text_forms.specs.declared.verb.EventVerb.{EventVerb}
+use Rattle.text_forms.specs.declared.verb.EventVerb.TheVariants.{Immediate, Schedule, Unschedule, Timer, Fd, Flags, Getflags, Autoclose, Pending, Now, Turn}
+use Rattle.text_forms.specs.declared.verb.DescriptorVerb.{DescriptorVerb}
+use Rattle.text_forms.specs.declared.verb.DescriptorVerb.TheVariants.{Close, Accept, Read, Write}
 use Rattle.text_forms.specs.declared.verb.Verb.{Verb}
-use Rattle.text_forms.specs.declared.verb.Verb.TheVariants.{New, Free, Freekids, Steal, Move, Reparent, Reference, Unlink, Hook, Unhook, Rename, Resize, Limit, Parent, Total, Count, Sum, Report, Immediate, Schedule, Unschedule, Timer, Pending, Now, Turn}
+use Rattle.text_forms.specs.declared.verb.Verb.TheVariants.{Tree, Event, Descriptor}
+
+abbrev pub tree_word : TreeVerb → List ℕ
+tree_word New = codes "new"
+tree_word Free = codes "free"
+tree_word Freekids = codes "freekids"
+tree_word Steal = codes "steal"
+tree_word Move = codes "move"
+tree_word Reparent = codes "reparent"
+tree_word Reference = codes "reference"
+tree_word Unlink = codes "unlink"
+tree_word Hook = codes "hook"
+tree_word Unhook = codes "unhook"
+tree_word Rename = codes "rename"
+tree_word Resize = codes "resize"
+tree_word Limit = codes "limit"
+tree_word Parent = codes "parent"
+tree_word Total = codes "total"
+tree_word Count = codes "count"
+tree_word Sum = codes "sum"
+tree_word Report = codes "report"
+
+abbrev pub event_word : EventVerb → List ℕ
+event_word Immediate = codes "immediate"
+event_word Schedule = codes "schedule"
+event_word Unschedule = codes "unschedule"
+event_word Timer = codes "timer"
+event_word Fd = codes "fd"
+event_word Flags = codes "flags"
+event_word Getflags = codes "getflags"
+event_word Autoclose = codes "autoclose"
+event_word Pending = codes "pending"
+event_word Now = codes "now"
+event_word Turn = codes "turn"
+
+abbrev pub descriptor_word : DescriptorVerb → List ℕ
+descriptor_word Close = codes "close"
+descriptor_word Accept = codes "accept"
+descriptor_word Read = codes "read"
+descriptor_word Write = codes "write"
 
 abbrev pub word_of : Verb → List ℕ
-word_of New = codes "new"
-word_of Free = codes "free"
-word_of Freekids = codes "freekids"
-word_of Steal = codes "steal"
-word_of Move = codes "move"
-word_of Reparent = codes "reparent"
-word_of Reference = codes "reference"
-word_of Unlink = codes "unlink"
-word_of Hook = codes "hook"
-word_of Unhook = codes "unhook"
-word_of Rename = codes "rename"
-word_of Resize = codes "resize"
-word_of Limit = codes "limit"
-word_of Parent = codes "parent"
-word_of Total = codes "total"
-word_of Count = codes "count"
-word_of Sum = codes "sum"
-word_of Report = codes "report"
-word_of Immediate = codes "immediate"
-word_of Schedule = codes "schedule"
-word_of Unschedule = codes "unschedule"
-word_of Timer = codes "timer"
-word_of Pending = codes "pending"
-word_of Now = codes "now"
-word_of Turn = codes "turn"
+word_of (Tree verb) = tree_word verb
+word_of (Event verb) = event_word verb
+word_of (Descriptor verb) = descriptor_word verb
 
 -- a word is this verb, or the verb of no form
 abbrev pub IsVerb : Option Verb → List ℕ → Type 0

@@ -3,12 +3,13 @@ ghost use Rattle.tree_specs.specs.declared.call.Call.{Call};
 ghost use Rattle.tree_specs.specs.Texts.Grammar.{call_of};
 ghost use Rattle.tree_specs.specs.Words.Ranges.{is_sound_call};
 ghost use Rattle.tree_specs.specs.Texts.Text.{call_text};
+ghost use Rattle.text_forms.specs.Bytes.{has_bytes};
 ghost use Rattle.text_forms.specs.Reads.{Reads};
 
 use crate::field::Fields;
 use crate::form::FormFault;
 use crate::split::split_word;
-use crate::verb::{Verb, read_fields};
+use crate::verb::{read_fields, read_verb};
 use std::alloc::Global;
 use tree_specs::Call;
 
@@ -18,9 +19,7 @@ fn call_value(alloc: Global, text: &[u8]) -> Result<Call, FormFault>
     ensures { Reads result (call_of text.now) }
 {
     let (word, rest) = split_word(text);
-    let Some(verb) = Verb::from_word(word) else {
-        return Err(FormFault::NoForm);
-    };
+    let verb = read_verb(word).ok_or(FormFault::NoForm)?;
     let mut fields = Fields::make(rest);
     let call = read_fields(alloc, verb, &mut fields)?;
     fields.end()?;
@@ -35,7 +34,7 @@ pub fn read_call(alloc: Global, text: &[u8]) -> Result<Call, FormFault>
     ensures sound { IfOk result (λ c. IsTrue (is_sound_call c)) }
     // A call has one spelling, and what is none is the spelling of no call.
     ensures spelled { IfOk result (λ c. text.now ≡ call_text c) }
-    ensures none { result ≡ Err FormFault.NoForm → (c : Call) → IsTrue (is_sound_call c) → text.now ≢ call_text c }
+    ensures none { result ≡ Err FormFault.NoForm → (c : Call) → IsTrue (is_sound_call c) → IsTrue (has_bytes c) → text.now ≢ call_text c }
 {
     call_value(alloc, text)
 }

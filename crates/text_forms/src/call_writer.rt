@@ -3,8 +3,10 @@ ghost use Rattle.tree_specs.specs.Texts.Grammar.{call_of};
 ghost use Rattle.tree_specs.specs.Words.Ranges.{is_sound_call};
 ghost use Rattle.tree_specs.specs.Texts.Text.{call_text, numbers_text};
 ghost use Rattle.tree_specs.specs.Texts.Written.{Writes};
+ghost use Rattle.text_forms.specs.Bytes.{has_bytes};
 
 use crate::numbers::write_numbers;
+use crate::octets::{lend_bytes, write_octets};
 use crate::piece::write_pieces;
 use tree_specs::{Call, Memory, Name};
 
@@ -64,9 +66,42 @@ fn write_text(call: &Call, out: &mut Vec<u8>) -> Result<(), Memory>
             let numbers = [owner.number(), *time, u64::from(*routine), *user];
             write_fields(b"timer", &numbers, out)
         }
+        Call::Fd {
+            owner,
+            fd,
+            flags,
+            routine,
+            user,
+        } => {
+            let numbers = [
+                owner.number(),
+                u64::from(*fd),
+                u64::from(*flags),
+                u64::from(*routine),
+                *user,
+            ];
+            write_fields(b"fd", &numbers, out)
+        }
+        Call::Flags { x, flags } => write_fields(b"flags", &[x.0, u64::from(*flags)], out),
+        Call::Getflags { x } => write_fields(b"getflags", &[x.0], out),
+        Call::Autoclose { x } => write_fields(b"autoclose", &[x.0], out),
+        Call::Close { fd } => write_fields(b"close", &[u64::from(*fd)], out),
+        Call::Accept { fd } => write_fields(b"accept", &[u64::from(*fd)], out),
+        Call::Read { fd, len } => write_fields(b"read", &[u64::from(*fd), u64::from(*len)], out),
+        Call::Write { fd, bytes } => { write_octets(b"write", &[u64::from(*fd)], bytes, b"", out) }
         Call::Pending => write_fields(b"pending", &[], out),
         Call::Now => write_fields(b"now", &[], out),
         Call::Turn => write_fields(b"turn", &[], out),
+    }
+}
+
+/// The bytes that a call carries, where it does, and that they are bytes.
+pub fn call_bytes(call: &Call) -> Option<&[u8]>
+    ensures { IsTrue (has_bytes call.now) }
+{
+    match call {
+        Call::Write { bytes, .. } => Some(lend_bytes(bytes)),
+        _ => None,
     }
 }
 
@@ -78,5 +113,6 @@ pub fn write_call(call: &Call, out: &mut Vec<u8>) -> Result<(), Memory>
     ensures written { Writes out.old.items out.new.items result (call_text call.now) }
     ensures read_back { call_of (call_text call.now) ≡ Some call.now }
 {
+    call_bytes(call);
     write_text(call, out)
 }

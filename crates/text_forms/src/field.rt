@@ -2,15 +2,18 @@
 
 ghost use Rattle.std.specs.Prelude.{◌≡◌, List, ℕ};
 ghost use Rattle.std.specs.Option.{option_map};
-ghost use Rattle.tree_specs.specs.Texts.Grammar.{words, number_of, owner_of, object_of, number32_of, routine_of, time_of, name_of, field, last_field};
+ghost use Rattle.tree_specs.specs.Calls.Spelling.Numeral.{Number, Number32, Positive32, Time, FdFlags, Length};
+ghost use Rattle.tree_specs.specs.Texts.Grammar.{words, number_of, numeral_of, owner_of, object_of, name_of, octets_of, field, last_field};
 ghost use Rattle.text_forms.specs.Cursor.{words_left, both, Takes, Ends};
 
 use crate::form::FormFault;
 use crate::name::read_name;
 use crate::number::leading_number;
+use crate::octets::read_octets;
+use crate::range::{as_flags, as_length, as_positive, as_time, as_u32};
 use std::alloc::Global;
 use std::marker::Model;
-use tree_specs::{Name, Obj, Owner, TIME_LIMIT};
+use tree_specs::{Name, Obj, Octets, Owner};
 
 // The number that the text's first word spells, and what follows the space behind the word, where there is one.
 #[tactic(auto, using(crate::proofs::Cursor::number_field))]
@@ -45,8 +48,8 @@ impl<'a> Fields<'a> {
         Fields { rest }
     }
 
-    // A number field.
-    pub(crate) fn number(&mut self) -> Result<u64, FormFault>
+    // A field that is a number.
+    fn digits(&mut self) -> Result<u64, FormFault>
         ensures { Takes result (field number_of self.old) self.new }
     {
         let text = self.rest.ok_or(FormFault::NoForm)?;
@@ -60,7 +63,7 @@ impl<'a> Fields<'a> {
     pub(crate) fn owner(&mut self) -> Result<Owner, FormFault>
         ensures { Takes result (field owner_of self.old) self.new }
     {
-        let n = self.number()?;
+        let n = self.digits()?;
         if n == 0 {
             Ok(Owner::Root)
         } else {
@@ -73,38 +76,56 @@ impl<'a> Fields<'a> {
     pub(crate) fn object(&mut self) -> Result<Obj, FormFault>
         ensures { Takes result (field object_of self.old) self.new }
     {
-        let n = self.number()?;
+        let n = self.digits()?;
         Ok(Obj(n))
     }
 
-    // A field with a number below 2^32.
-    #[tactic(auto, unfolding(tree_specs::specs::Texts::Grammar::number32_of))]
-    pub(crate) fn number32(&mut self) -> Result<u32, FormFault>
-        ensures { Takes result (field number32_of self.old) self.new }
+    // A number field.
+    #[tactic(auto, unfolding(tree_specs::specs::Texts::Grammar::numeral_of))]
+    pub(crate) fn number(&mut self) -> Result<u64, FormFault>
+        ensures { Takes result (field (numeral_of Number) self.old) self.new }
     {
-        u32::try_from(self.number()?).map_err(|_| FormFault::NoForm)
+        self.digits()
+    }
+
+    // A field with a number below 2^32.
+    #[tactic(auto, unfolding(tree_specs::specs::Texts::Grammar::numeral_of))]
+    pub(crate) fn number32(&mut self) -> Result<u32, FormFault>
+        ensures { Takes result (field (numeral_of Number32) self.old) self.new }
+    {
+        as_u32(self.digits()?).ok_or(FormFault::NoForm)
     }
 
     // A routine field: routines are numbered from 1 upwards.
-    #[tactic(auto, unfolding(tree_specs::specs::Texts::Grammar::routine_of, tree_specs::specs::Texts::Grammar::number32_of))]
+    #[tactic(auto, unfolding(tree_specs::specs::Texts::Grammar::numeral_of))]
     pub(crate) fn routine(&mut self) -> Result<u32, FormFault>
-        ensures { Takes result (field routine_of self.old) self.new }
+        ensures { Takes result (field (numeral_of Positive32) self.old) self.new }
     {
-        match u32::try_from(self.number()?) {
-            Ok(0) | Err(_) => Err(FormFault::NoForm),
-            Ok(n) => Ok(n),
-        }
+        as_positive(self.digits()?).ok_or(FormFault::NoForm)
     }
 
     // A time field, in microseconds.
-    #[tactic(auto, unfolding(tree_specs::specs::Texts::Grammar::time_of))]
+    #[tactic(auto, unfolding(tree_specs::specs::Texts::Grammar::numeral_of))]
     pub(crate) fn time(&mut self) -> Result<u64, FormFault>
-        ensures { Takes result (field time_of self.old) self.new }
+        ensures { Takes result (field (numeral_of Time) self.old) self.new }
     {
-        match self.number()? {
-            n if n <= TIME_LIMIT => Ok(n),
-            _ => Err(FormFault::NoForm),
-        }
+        as_time(self.digits()?).ok_or(FormFault::NoForm)
+    }
+
+    // A field of flags.
+    #[tactic(auto, unfolding(tree_specs::specs::Texts::Grammar::numeral_of))]
+    pub(crate) fn flags(&mut self) -> Result<u32, FormFault>
+        ensures { Takes result (field (numeral_of FdFlags) self.old) self.new }
+    {
+        as_flags(self.digits()?).ok_or(FormFault::NoForm)
+    }
+
+    // A field with a number of bytes.
+    #[tactic(auto, unfolding(tree_specs::specs::Texts::Grammar::numeral_of))]
+    pub(crate) fn length(&mut self) -> Result<u32, FormFault>
+        ensures { Takes result (field (numeral_of Length) self.old) self.new }
+    {
+        as_length(self.digits()?).ok_or(FormFault::NoForm)
     }
 
     // A name field, which no other follows: a name has no space, so it is all that is left of the text.
@@ -114,6 +135,15 @@ impl<'a> Fields<'a> {
     {
         let text = self.rest.take().ok_or(FormFault::NoForm)?;
         read_name(alloc, text)
+    }
+
+    // A field of bytes, which no other follows: their spelling has no space.
+    #[tactic(auto, using(crate::proofs::Cursor::octets_taken))]
+    pub(crate) fn bytes(&mut self, alloc: Global) -> Result<Octets, FormFault>
+        ensures { Takes result (last_field octets_of self.old) self.new }
+    {
+        let text = self.rest.take().ok_or(FormFault::NoForm)?;
+        read_octets(alloc, text)
     }
 
     // There are no more fields.
@@ -136,7 +166,7 @@ pub(crate) fn owner_and_object(fields: &mut Fields) -> Result<(Owner, Obj), Form
 
 // An object field, and then a number field.
 pub(crate) fn object_and_number(fields: &mut Fields) -> Result<(Obj, u64), FormFault>
-    ensures { Takes result (both object_of number_of fields.old) fields.new }
+    ensures { Takes result (both object_of (numeral_of Number) fields.old) fields.new }
 {
     Ok((fields.object()?, fields.number()?))
 }

@@ -1,4 +1,4 @@
-//! Numbers, names, calls and rows of reports as text. Each value has one spelling: what is written is read back as
+//! Numbers, names, bytes, calls and rows of reports as text. Each value has one spelling: what is written is read back as
 //! the same value, and no other text is read as it.
 #![tactic(auto)]
 
@@ -9,7 +9,9 @@ mod form;
 mod name;
 mod number;
 mod numbers;
+mod octets;
 mod piece;
+mod range;
 mod report_row;
 mod split;
 #[cfg(test)]
@@ -17,11 +19,12 @@ mod tests;
 mod verb;
 
 pub use call_reader::read_call;
-pub use call_writer::write_call;
+pub use call_writer::{call_bytes, write_call};
 pub use form::FormFault;
 pub use name::read_name;
-pub use number::{read_number, read_time, read_u32, write_number};
+pub use number::{read_length, read_number, read_positive, read_time, read_u32, write_number};
 pub use numbers::write_numbers;
+pub use octets::{lend_bytes, read_octets, write_octets};
 pub use piece::write_pieces;
 pub use report_row::write_report_rows;
 pub use split::{split_part, split_word};

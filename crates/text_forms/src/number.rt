@@ -1,15 +1,16 @@
-ghost use Rattle.std.specs.Prelude.{◌≡◌, ◌^◌, ◌<◌, ◌≤◌, Some, None};
+ghost use Rattle.std.specs.Prelude.{◌≡◌};
 ghost use Rattle.std.specs.Fmt.{decimal};
 ghost use Rattle.std.specs.Option.{option_map};
-ghost use Rattle.tree_specs.specs.Texts.Grammar.{number_of, number32_of, time_of, is_short};
+ghost use Rattle.tree_specs.specs.Calls.Spelling.Numeral.{Number, Number32, Positive32, Time, Length};
+ghost use Rattle.tree_specs.specs.Texts.Grammar.{number_of, is_short};
 ghost use Rattle.tree_specs.specs.Texts.Written.{Writes};
-ghost use Rattle.tree_specs.specs.declared.bounds.TheConstants.{TIME_LIMIT};
 ghost use Rattle.text_forms.specs.Cursor.{leading_digits_of, number_at};
-ghost use Rattle.text_forms.specs.Reads.{ReadsNumber};
+ghost use Rattle.text_forms.specs.Reads.{ReadsNumeral};
 
 use crate::piece::write_pieces;
+use crate::range::{as_length, as_positive, as_time, as_u32};
 use itoa::Buffer;
-use tree_specs::{Memory, TIME_LIMIT};
+use tree_specs::Memory;
 
 // The value of the digits at the front, where it is below 2 ^ 64, and how many they are.
 fn leading_digits(text: &[u8]) -> Option<(u64, usize)>
@@ -59,48 +60,48 @@ fn number_value(text: &[u8]) -> Option<u64>
     if rest.is_empty() { Some(n) } else { None }
 }
 
-// A number below 2^32, as the grammar defines it.
-#[tactic(auto, unfolding(tree_specs::specs::Texts::Grammar::number32_of))]
-fn number32_value(text: &[u8]) -> Option<u32>
-    ensures { result ≡ number32_of text.now }
-{
-    let n = number_value(text)?;
-    u32::try_from(n).ok()
-}
-
-// A time, as the grammar defines it.
-#[tactic(auto, unfolding(tree_specs::specs::Texts::Grammar::time_of))]
-fn time_value(text: &[u8]) -> Option<u64>
-    ensures { result ≡ time_of text.now }
-{
-    match number_value(text)? {
-        n if n <= TIME_LIMIT => Some(n),
-        _ => None,
-    }
-}
-
 /// The number below 2 ^ 64 that the text spells: decimal digits with no leading zero. None exactly
 /// where it spells no such number.
 pub fn read_number(text: &[u8]) -> Option<u64>
-    ensures { ReadsNumber result number_of (λ n. n < 2 ^ 64) text.now }
+    ensures { ReadsNumeral result Number text.now }
 {
     number_value(text)
 }
 
-/// The number that the text spells, from 0 to 4,294,967,295: a routine, or what one returns. It is in decimal digits
-/// with no leading zero. None exactly where the text spells no such number.
+/// The number that the text spells, from 0 to 4,294,967,295: a descriptor, or what a routine returns. It is
+/// in decimal digits with no leading zero. None exactly where the text spells no such number.
+#[tactic(auto, using(crate::proofs::Fields::numeral_is_read), unfolding(tree_specs::specs::Texts::Grammar::numeral_of))]
 pub fn read_u32(text: &[u8]) -> Option<u32>
-    ensures { ReadsNumber result number32_of (λ n. n < 2 ^ 32) text.now }
+    ensures { ReadsNumeral result Number32 text.now }
 {
-    number32_value(text)
+    as_u32(number_value(text)?)
 }
 
-/// The time in microseconds that the text spells, from 0 to TIME_LIMIT. It is in decimal digits with no leading zero.
-/// None exactly where the text spells no such time.
-pub fn read_time(text: &[u8]) -> Option<u64>
-    ensures { ReadsNumber result time_of (λ n. n ≤ TIME_LIMIT) text.now }
+/// The number that the text spells, from 1 to 4,294,967,295: a descriptor that was accepted, say. It is in
+/// decimal digits with no leading zero. None exactly where the text spells no such number.
+#[tactic(auto, using(crate::proofs::Fields::numeral_is_read), unfolding(tree_specs::specs::Texts::Grammar::numeral_of))]
+pub fn read_positive(text: &[u8]) -> Option<u32>
+    ensures { ReadsNumeral result Positive32 text.now }
 {
-    time_value(text)
+    as_positive(number_value(text)?)
+}
+
+/// The time in microseconds that the text spells, from 0 to TIME_LIMIT. It is in decimal digits with no
+/// leading zero. None exactly where the text spells no such time.
+#[tactic(auto, using(crate::proofs::Fields::numeral_is_read), unfolding(tree_specs::specs::Texts::Grammar::numeral_of))]
+pub fn read_time(text: &[u8]) -> Option<u64>
+    ensures { ReadsNumeral result Time text.now }
+{
+    as_time(number_value(text)?)
+}
+
+/// The number of bytes of one read or write that the text spells, from 1 to OCTETS_LIMIT. It is in decimal
+/// digits with no leading zero. None exactly where the text spells no such number.
+#[tactic(auto, using(crate::proofs::Fields::numeral_is_read), unfolding(tree_specs::specs::Texts::Grammar::numeral_of))]
+pub fn read_length(text: &[u8]) -> Option<u32>
+    ensures { ReadsNumeral result Length text.now }
+{
+    as_length(number_value(text)?)
 }
 
 /// Appends the one spelling of a number. When memory runs out, a prefix of it was appended.

@@ -1,7 +1,30 @@
 use super::*;
+use std::alloc::Global;
 use std::fmt::InlineText;
+use std::process::Abort;
 use std::test::Fail;
 use tree_specs::{Call, Name, Owner, ReportRow, RowKind};
+
+mod descriptors;
+
+// What is read of each text is written as this text.
+fn writes_again(rt: &impl Abort, alloc: Global, texts: &[&[u8]]) -> Result<(), Fail> {
+    for text in texts {
+        let mut out = Vec::new(alloc);
+        let call = read_call(alloc, text)?;
+        write_call(&call, &mut out)?;
+        assert_eq!(rt; out.as_slice(), *text);
+    }
+    Ok(())
+}
+
+// No text is a call.
+fn reads_none(rt: &impl Abort, alloc: Global, texts: &[&[u8]]) {
+    for text in texts {
+        let call = read_call(alloc, text);
+        assert!(rt; matches!(call, Err(FormFault::NoForm)), "at {text:?}");
+    }
+}
 
 #[test]
 fn reads_numbers(rt: HostRuntime) {
@@ -39,6 +62,20 @@ fn reads_times(rt: HostRuntime) {
     assert_eq!(rt; read_time(limit), Some(4_611_686_018_427_387_904));
     assert_eq!(rt; read_time(b"4611686018427387905"), None);
     assert_eq!(rt; read_time(b"01"), None);
+}
+
+#[test]
+fn reads_numbers_from_1(rt: HostRuntime) {
+    assert_eq!(rt; read_positive(b"0"), None);
+    assert_eq!(rt; read_positive(b"1"), Some(1));
+    assert_eq!(rt; read_positive(b"4294967295"), Some(4_294_967_295));
+    assert_eq!(rt; read_positive(b"4294967296"), None);
+    assert_eq!(rt; read_positive(b"01"), None);
+    assert_eq!(rt; read_length(b"0"), None);
+    assert_eq!(rt; read_length(b"1"), Some(1));
+    assert_eq!(rt; read_length(b"65536"), Some(65_536));
+    assert_eq!(rt; read_length(b"65537"), None);
+    assert_eq!(rt; read_length(b"065"), None);
 }
 
 #[test]
@@ -112,7 +149,7 @@ fn writes_the_root_as_zero(rt: HostRuntime) -> Result<(), Fail> {
 
 #[test]
 fn writes_what_was_read(rt: HostRuntime) -> Result<(), Fail> {
-    for text in [
+    let texts = [
         b"new 7 10 a-b".as_slice(),
         b"free 9".as_slice(),
         b"freekids 9".as_slice(),
@@ -138,13 +175,8 @@ fn writes_what_was_read(rt: HostRuntime) -> Result<(), Fail> {
         b"pending".as_slice(),
         b"now".as_slice(),
         b"turn".as_slice(),
-    ] {
-        let mut out = Vec::new(rt.alloc());
-        let call = read_call(rt.alloc(), text)?;
-        write_call(&call, &mut out)?;
-        assert_eq!(rt; out.as_slice(), text);
-    }
-    Ok(())
+    ];
+    writes_again(&rt, rt.alloc(), &texts)
 }
 
 #[test]
@@ -187,10 +219,7 @@ fn reads_no_call(rt: HostRuntime) {
         b"hook 1 16 2".as_slice(),
         b"unhook 1 16".as_slice(),
     ];
-    for text in texts {
-        let call = read_call(rt.alloc(), text);
-        assert!(rt; matches!(call, Err(FormFault::NoForm)), "at {text:?}");
-    }
+    reads_none(&rt, rt.alloc(), &texts);
 }
 
 #[test]

@@ -1,5 +1,6 @@
 //! The verbs of calls: each by its word, and with its fields.
 
+ghost use Rattle.text_forms.specs.declared.verb.Verb.TheVariants as verbs;
 ghost use Rattle.text_forms.specs.Cursor.{Takes};
 ghost use Rattle.text_forms.specs.Verbs.{IsVerb, fields_read};
 
@@ -8,9 +9,9 @@ use crate::form::FormFault;
 use std::alloc::Global;
 use tree_specs::Call;
 
-// What a call asks for: its first word.
+// What a call on the tree asks for.
 #[derive(Clone, Copy)]
-pub(crate) enum Verb {
+pub(crate) enum TreeVerb {
     New,
     Free,
     Freekids,
@@ -29,104 +30,196 @@ pub(crate) enum Verb {
     Count,
     Sum,
     Report,
+}
+
+// What a call on events asks for.
+#[derive(Clone, Copy)]
+pub(crate) enum EventVerb {
     Immediate,
     Schedule,
     Unschedule,
     Timer,
+    Fd,
+    Flags,
+    Getflags,
+    Autoclose,
     Pending,
     Now,
     Turn,
 }
 
-impl Verb {
-    // The verb that this word is.
-    pub(crate) fn from_word(word: &[u8]) -> Option<Verb>
-        ensures { IsVerb result word.now }
-    {
-        match word {
-            b"new" => Some(Verb::New),
-            b"free" => Some(Verb::Free),
-            b"freekids" => Some(Verb::Freekids),
-            b"steal" => Some(Verb::Steal),
-            b"move" => Some(Verb::Move),
-            b"reparent" => Some(Verb::Reparent),
-            b"reference" => Some(Verb::Reference),
-            b"unlink" => Some(Verb::Unlink),
-            b"hook" => Some(Verb::Hook),
-            b"unhook" => Some(Verb::Unhook),
-            b"rename" => Some(Verb::Rename),
-            b"resize" => Some(Verb::Resize),
-            b"limit" => Some(Verb::Limit),
-            b"parent" => Some(Verb::Parent),
-            b"total" => Some(Verb::Total),
-            b"count" => Some(Verb::Count),
-            b"sum" => Some(Verb::Sum),
-            b"report" => Some(Verb::Report),
-            b"immediate" => Some(Verb::Immediate),
-            b"schedule" => Some(Verb::Schedule),
-            b"unschedule" => Some(Verb::Unschedule),
-            b"timer" => Some(Verb::Timer),
-            b"pending" => Some(Verb::Pending),
-            b"now" => Some(Verb::Now),
-            b"turn" => Some(Verb::Turn),
-            _ => None,
-        }
-    }
+// What a call on a descriptor asks for.
+#[derive(Clone, Copy)]
+pub(crate) enum DescriptorVerb {
+    Close,
+    Accept,
+    Read,
+    Write,
 }
 
-// The call of this verb whose fields come next.
+// What a call asks for: its first word.
+#[derive(Clone, Copy)]
+pub(crate) enum Verb {
+    Tree(TreeVerb),
+    Event(EventVerb),
+    Descriptor(DescriptorVerb),
+}
+
+// The verb that this word is.
+pub(crate) fn read_verb(word: &[u8]) -> Option<Verb>
+    ensures { IsVerb result word.now }
+{
+    let verb = match word {
+        b"new" => Verb::Tree(TreeVerb::New),
+        b"free" => Verb::Tree(TreeVerb::Free),
+        b"freekids" => Verb::Tree(TreeVerb::Freekids),
+        b"steal" => Verb::Tree(TreeVerb::Steal),
+        b"move" => Verb::Tree(TreeVerb::Move),
+        b"reparent" => Verb::Tree(TreeVerb::Reparent),
+        b"reference" => Verb::Tree(TreeVerb::Reference),
+        b"unlink" => Verb::Tree(TreeVerb::Unlink),
+        b"hook" => Verb::Tree(TreeVerb::Hook),
+        b"unhook" => Verb::Tree(TreeVerb::Unhook),
+        b"rename" => Verb::Tree(TreeVerb::Rename),
+        b"resize" => Verb::Tree(TreeVerb::Resize),
+        b"limit" => Verb::Tree(TreeVerb::Limit),
+        b"parent" => Verb::Tree(TreeVerb::Parent),
+        b"total" => Verb::Tree(TreeVerb::Total),
+        b"count" => Verb::Tree(TreeVerb::Count),
+        b"sum" => Verb::Tree(TreeVerb::Sum),
+        b"report" => Verb::Tree(TreeVerb::Report),
+        b"immediate" => Verb::Event(EventVerb::Immediate),
+        b"schedule" => Verb::Event(EventVerb::Schedule),
+        b"unschedule" => Verb::Event(EventVerb::Unschedule),
+        b"timer" => Verb::Event(EventVerb::Timer),
+        b"fd" => Verb::Event(EventVerb::Fd),
+        b"flags" => Verb::Event(EventVerb::Flags),
+        b"getflags" => Verb::Event(EventVerb::Getflags),
+        b"autoclose" => Verb::Event(EventVerb::Autoclose),
+        b"close" => Verb::Descriptor(DescriptorVerb::Close),
+        b"accept" => Verb::Descriptor(DescriptorVerb::Accept),
+        b"read" => Verb::Descriptor(DescriptorVerb::Read),
+        b"write" => Verb::Descriptor(DescriptorVerb::Write),
+        b"pending" => Verb::Event(EventVerb::Pending),
+        b"now" => Verb::Event(EventVerb::Now),
+        b"turn" => Verb::Event(EventVerb::Turn),
+        _ => return None,
+    };
+    Some(verb)
+}
+
+// The call on the tree of this verb, whose fields come next.
 #[tactic(auto, unfolding(crate::specs::Verbs::fields_read))]
-pub(crate) fn read_fields(alloc: Global, verb: Verb, fields: &mut Fields) -> Result<Call, FormFault>
-    ensures { Takes result (fields_read verb fields.old) fields.new }
+fn read_tree_fields(alloc: Global, verb: TreeVerb, fields: &mut Fields) -> Result<Call, FormFault>
+    ensures { Takes result (fields_read (verbs.Tree verb) fields.old) fields.new }
 {
     match verb {
-        Verb::New => Ok(Call::New {
+        TreeVerb::New => Ok(Call::New {
             owner: fields.owner()?,
             size: fields.number()?,
             name: fields.name(alloc)?,
         }),
-        Verb::Free => fields.object().map(|x| Call::Free { x }),
-        Verb::Freekids => fields.object().map(|x| Call::Freekids { x }),
-        Verb::Steal => owner_and_object(fields).map(|(owner, x)| Call::Steal { owner, x }),
-        Verb::Move => owner_and_object(fields).map(|(owner, x)| Call::Move { owner, x }),
-        Verb::Reparent => Ok(Call::Reparent {
+        TreeVerb::Free => fields.object().map(|x| Call::Free { x }),
+        TreeVerb::Freekids => fields.object().map(|x| Call::Freekids { x }),
+        TreeVerb::Steal => owner_and_object(fields).map(|(owner, x)| Call::Steal { owner, x }),
+        TreeVerb::Move => owner_and_object(fields).map(|(owner, x)| Call::Move { owner, x }),
+        TreeVerb::Reparent => Ok(Call::Reparent {
             from: fields.owner()?,
             to: fields.owner()?,
             x: fields.object()?,
         }),
-        Verb::Reference => owner_and_object(fields).map(|(owner, x)| Call::Reference { owner, x }),
-        Verb::Unlink => owner_and_object(fields).map(|(owner, x)| Call::Unlink { owner, x }),
-        Verb::Hook => Ok(Call::Hook {
+        TreeVerb::Reference => owner_and_object(fields).map(|(owner, x)| Call::Reference {
+            owner,
+            x,
+        }),
+        TreeVerb::Unlink => owner_and_object(fields).map(|(owner, x)| Call::Unlink { owner, x }),
+        TreeVerb::Hook => Ok(Call::Hook {
             x: fields.object()?,
             routine: fields.routine()?,
         }),
-        Verb::Unhook => fields.object().map(|x| Call::Unhook { x }),
-        Verb::Rename => Ok(Call::Rename {
+        TreeVerb::Unhook => fields.object().map(|x| Call::Unhook { x }),
+        TreeVerb::Rename => Ok(Call::Rename {
             x: fields.object()?,
             name: fields.name(alloc)?,
         }),
-        Verb::Resize => object_and_number(fields).map(|(x, size)| Call::Resize { x, size }),
-        Verb::Limit => object_and_number(fields).map(|(x, max)| Call::Limit { x, max }),
-        Verb::Parent => fields.object().map(|x| Call::Parent { x }),
-        Verb::Total => fields.owner().map(|owner| Call::Total { owner }),
-        Verb::Count => fields.owner().map(|owner| Call::Count { owner }),
-        Verb::Sum => fields.owner().map(|owner| Call::Sum { owner }),
-        Verb::Report => fields.owner().map(|owner| Call::Report { owner }),
-        Verb::Immediate => fields.owner().map(|owner| Call::Immediate { owner }),
-        Verb::Schedule => Ok(Call::Schedule {
+        TreeVerb::Resize => object_and_number(fields).map(|(x, size)| Call::Resize { x, size }),
+        TreeVerb::Limit => object_and_number(fields).map(|(x, max)| Call::Limit { x, max }),
+        TreeVerb::Parent => fields.object().map(|x| Call::Parent { x }),
+        TreeVerb::Total => fields.owner().map(|owner| Call::Total { owner }),
+        TreeVerb::Count => fields.owner().map(|owner| Call::Count { owner }),
+        TreeVerb::Sum => fields.owner().map(|owner| Call::Sum { owner }),
+        TreeVerb::Report => fields.owner().map(|owner| Call::Report { owner }),
+    }
+}
+
+// The call on events of this verb, whose fields come next.
+#[tactic(auto, unfolding(crate::specs::Verbs::fields_read))]
+fn read_event_fields(verb: EventVerb, fields: &mut Fields) -> Result<Call, FormFault>
+    ensures { Takes result (fields_read (verbs.Event verb) fields.old) fields.new }
+{
+    match verb {
+        EventVerb::Immediate => fields.owner().map(|owner| Call::Immediate { owner }),
+        EventVerb::Schedule => Ok(Call::Schedule {
             x: fields.object()?,
             routine: fields.number32()?,
             user: fields.number()?,
         }),
-        Verb::Unschedule => fields.object().map(|x| Call::Unschedule { x }),
-        Verb::Timer => Ok(Call::Timer {
+        EventVerb::Unschedule => fields.object().map(|x| Call::Unschedule { x }),
+        EventVerb::Timer => Ok(Call::Timer {
             owner: fields.owner()?,
             time: fields.time()?,
             routine: fields.routine()?,
             user: fields.number()?,
         }),
-        Verb::Pending => Ok(Call::Pending),
-        Verb::Now => Ok(Call::Now),
-        Verb::Turn => Ok(Call::Turn),
+        EventVerb::Fd => Ok(Call::Fd {
+            owner: fields.owner()?,
+            fd: fields.number32()?,
+            flags: fields.flags()?,
+            routine: fields.routine()?,
+            user: fields.number()?,
+        }),
+        EventVerb::Flags => Ok(Call::Flags {
+            x: fields.object()?,
+            flags: fields.flags()?,
+        }),
+        EventVerb::Getflags => fields.object().map(|x| Call::Getflags { x }),
+        EventVerb::Autoclose => fields.object().map(|x| Call::Autoclose { x }),
+        EventVerb::Pending => Ok(Call::Pending),
+        EventVerb::Now => Ok(Call::Now),
+        EventVerb::Turn => Ok(Call::Turn),
+    }
+}
+
+// The call on a descriptor of this verb, whose fields come next.
+#[tactic(auto, unfolding(crate::specs::Verbs::fields_read))]
+fn read_descriptor_fields(
+    alloc: Global,
+    verb: DescriptorVerb,
+    fields: &mut Fields,
+) -> Result<Call, FormFault>
+    ensures { Takes result (fields_read (verbs.Descriptor verb) fields.old) fields.new }
+{
+    match verb {
+        DescriptorVerb::Close => fields.number32().map(|fd| Call::Close { fd }),
+        DescriptorVerb::Accept => fields.number32().map(|fd| Call::Accept { fd }),
+        DescriptorVerb::Read => Ok(Call::Read {
+            fd: fields.number32()?,
+            len: fields.length()?,
+        }),
+        DescriptorVerb::Write => Ok(Call::Write {
+            fd: fields.number32()?,
+            bytes: fields.bytes(alloc)?,
+        }),
+    }
+}
+
+// The call of this verb, whose fields come next.
+pub(crate) fn read_fields(alloc: Global, verb: Verb, fields: &mut Fields) -> Result<Call, FormFault>
+    ensures { Takes result (fields_read verb fields.old) fields.new }
+{
+    match verb {
+        Verb::Tree(verb) => read_tree_fields(alloc, verb, fields),
+        Verb::Event(verb) => read_event_fields(verb, fields),
+        Verb::Descriptor(verb) => read_descriptor_fields(alloc, verb, fields),
     }
 }

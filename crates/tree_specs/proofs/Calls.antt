@@ -1,4 +1,5 @@
 -- Refusals and plans of calls.
 pub mod Checks
 pub mod Plans
+pub mod NewEvents
 pub mod OwnRefusals

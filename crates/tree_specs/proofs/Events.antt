@@ -1,6 +1,8 @@
 -- Events, and what waits for its turn.
 pub mod HandlerLaws
 pub mod PendingLaws
+pub mod RotationLaws
+pub mod DescriptorLaws
 pub mod Awaiting
 pub mod AwaitingSteps
 pub mod AwaitingStories

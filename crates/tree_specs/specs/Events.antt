@@ -1,4 +1,6 @@
 -- Events: objects whose turn comes.
 pub mod Coming
+pub mod Descriptors
 pub mod Handlers
 pub mod Pending
+pub mod Rotation

@@ -2,4 +2,5 @@
 pub mod Table
 pub mod Profiles
 pub mod View
+pub mod FreeTable
 pub mod Meaning

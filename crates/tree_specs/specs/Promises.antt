@@ -5,3 +5,4 @@ pub mod Acceptances
 pub mod BadStories
 pub mod Refused
 pub mod BadTexts
+pub mod Idle

@@ -1,4 +1,5 @@
 -- The rules of freeing, destructors and calls as recursive text, and the story that they tell.
+pub mod Answers
 pub mod Items
 pub mod Sequence
 pub mod Story

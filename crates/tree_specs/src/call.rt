@@ -1,5 +1,6 @@
 use crate::name::Name;
 use crate::object::{Obj, Owner};
+use crate::octets::Octets;
 
 /// A call on the tree. Each has one text, its verb and its fields with single spaces between them.
 #[derive(Debug, Drop)]
@@ -117,7 +118,50 @@ pub enum Call {
         routine: u32,
         user: u64,
     },
-    /// `pending`: how many events wait: immediates that are scheduled, and timers.
+    /// `fd P FD F R U`: an event below an owner that comes when the descriptor FD is ready for what the flags F say, with the
+    /// routine R and the user number U, as `tevent_add_fd` makes it: 1 is for reading, 2 for writing, 3 for both, and 0 for
+    /// neither. The reply is its number.
+    Fd {
+        owner: Owner,
+        fd: u32,
+        flags: u32,
+        routine: u32,
+        user: u64,
+    },
+    /// `flags X F`: the descriptor's event X waits for these flags from now on, as `tevent_fd_set_flags` says.
+    Flags {
+        x: Obj,
+        flags: u32,
+    },
+    /// `getflags X`: what it waits for, as `tevent_fd_get_flags` tells.
+    Getflags {
+        x: Obj,
+    },
+    /// `autoclose X`: its descriptor is closed when the event goes, as `tevent_fd_set_auto_close` says.
+    Autoclose {
+        x: Obj,
+    },
+    /// `close FD`: closes a descriptor on which there is no event.
+    Close {
+        fd: u32,
+    },
+    /// `accept FD`: asks who connects to the listener of a descriptor. The reply is the descriptor that was accepted, or
+    /// `again` or `fault`.
+    Accept {
+        fd: u32,
+    },
+    /// `read FD LEN`: asks for bytes from a descriptor, from 1 to 65,536 at most. The reply is the bytes, or `end`, `again` or
+    /// `fault`.
+    Read {
+        fd: u32,
+        len: u32,
+    },
+    /// `write FD HEX`: asks a descriptor to take bytes. The reply is how many it took, or `again` or `fault`.
+    Write {
+        fd: u32,
+        bytes: Octets,
+    },
+    /// `pending`: how many events wait: immediates that are scheduled, timers, and events on descriptors.
     Pending,
     /// `now`: the time in microseconds, as `tevent_timeval_current` tells. The host asks the clock.
     Now,

@@ -2,7 +2,9 @@ use crate::call::Call;
 use crate::free_step::FreeReply;
 use crate::handler::Handler;
 use crate::moment::What;
+use crate::notice::Notice;
 use crate::object::{Obj, Owner};
+use crate::occasion::Occasion;
 use crate::question::Ask;
 use crate::reply::Reply;
 
@@ -12,6 +14,7 @@ pub enum Frame {
     Call(CallFrame),
     Free(FreeFrame),
     Turn(TurnFrame),
+    Outside(OutsideFrame),
 }
 
 /// What is still to do for a caller, who does one call after another. A caller is known by the question that
@@ -19,20 +22,38 @@ pub enum Frame {
 #[derive(Debug, Drop)]
 pub enum CallFrame {
     /// The question is to be asked.
-    Asking { ask: Ask },
+    Asking {
+        ask: Ask,
+    },
     /// The question was answered with this call, which is to be done.
-    Doing { ask: Ask, call: Call },
+    Doing {
+        ask: Ask,
+        call: Call,
+    },
     /// The call waits for the freeing of `x`, or of its children.
-    Awaiting { ask: Ask, x: Obj },
-    /// The call waits for a turn of the event loop, or for the time.
-    Turning { ask: Ask },
+    Awaiting {
+        ask: Ask,
+        x: Obj,
+    },
+    /// The call waits for a turn of the event loop, or for what the outside answers.
+    Turning {
+        ask: Ask,
+    },
     /// The reply is to be told, and the next question comes after it.
-    Telling { ask: Ask, reply: Reply },
-    /// It is to be told that an object that has references was given to another owner, then the reply, and the next
-    /// question comes after it.
-    Warning { ask: Ask, x: Obj, reply: Reply },
+    Telling {
+        ask: Ask,
+        reply: Reply,
+    },
+    /// The notice is to be told, then the reply, and the next question comes after it.
+    Announcing {
+        ask: Ask,
+        notice: Notice,
+        reply: Reply,
+    },
     /// The routine has returned this number.
-    Returning { value: u32 },
+    Returning {
+        value: u32,
+    },
 }
 
 /// What the children of an object are freed for.
@@ -133,21 +154,21 @@ pub enum TurnFrame {
     Starting {
         what: What,
         x: Obj,
-        now: u64,
+        occasion: Occasion,
     },
     /// It is to be told that the handler of `x` runs.
     Firing {
         what: What,
         x: Obj,
         handler: Handler,
-        now: u64,
+        occasion: Occasion,
     },
     /// The handler of `x` is to be asked. Then it waits until this has returned.
     Handling {
         what: What,
         x: Obj,
         handler: Handler,
-        now: u64,
+        occasion: Occasion,
     },
     /// The handler of `x` has returned.
     Handled {
@@ -158,21 +179,32 @@ pub enum TurnFrame {
     Clearing {
         x: Obj,
     },
-    /// Of the call `now`: the clock is to be asked, and the time that it tells is the reply.
-    Reading,
     /// It is over, and this is the reply.
     Closing {
         value: u64,
     },
 }
 
+/// What is still to do of one question to the outside, which a call asks: the answer is its reply.
+#[derive(Debug, Drop)]
+pub enum OutsideFrame {
+    /// The question is to be asked.
+    Reaching { ask: Ask },
+    /// This descriptor was accepted, and is to be open from now on.
+    Opening { fd: u32 },
+    /// It is over with this reply.
+    Hearing { reply: Reply },
+}
+
 /// What a work that is over answers to the work below it.
-#[derive(Clone, Copy, Debug, PartialEq, Eq)]
+#[derive(Debug, PartialEq, Eq, Drop)]
 pub enum Answer {
     /// A free is over.
     Freed(FreeReply),
     /// A routine has returned this number.
     Returned(u32),
-    /// A turn, or the asking of the clock, is over with this reply.
+    /// A turn is over with this reply.
     Turned(u64),
+    /// The outside has answered, and this is the reply.
+    Heard(Reply),
 }

@@ -1,14 +1,17 @@
 //! Laws of the definitions, each the clause of a function that does nothing.
 #![tactic(auto)]
 
-ghost use Rattle.std.specs.Prelude.{◌≡◌, ◌≢◌, ◌≤◌, ℕ, true, None, List, ◌∷◌, ◌++◌, length, slice_get};
-ghost use Rattle.step_machine.specs.Machine.{run, EndsBy, items as told_by};
+ghost use Rattle.std.specs.Prelude.{◌≡◌, ◌≢◌, ◌≤◌, ◌<◌, ℕ, true, false, None, List, ◌∷◌, ◌++◌, length, slice_get};
+ghost use Rattle.step_machine.specs.Machine.{run, EndsBy, is_stray, items as told_by};
 ghost use Rattle.step_machine.specs.Machine.Outcome.{Ended, Short};
 ghost use Rattle.step_machine.specs.Noted.{noted, with_note};
 ghost use Rattle.step_machine.specs.History.{EachFits};
 ghost use Rattle.step_machine.specs.Open.{LastIs};
 ghost use Rattle.tree_specs.specs.declared.question.Input.{Input as InputData};
-ghost use Rattle.tree_specs.specs.declared.question.Ask.TheVariants.{Quiet};
+ghost use Rattle.tree_specs.specs.declared.question.Ask.TheVariants.{Quiet, Clock, Accept};
+ghost use Rattle.tree_specs.specs.declared.reply.Reply.{Reply as ReplyData};
+ghost use Rattle.tree_specs.specs.declared.reply.Reply.TheVariants.{Number};
+ghost use Rattle.tree_specs.specs.declared.bounds.TheConstants.{TIME_LIMIT};
 ghost use Rattle.tree_specs.specs.declared.object.Obj.{Obj as ObjData};
 ghost use Rattle.tree_specs.specs.declared.object.Owner.{Owner as OwnerData};
 ghost use Rattle.tree_specs.specs.declared.row.Row.{Row as RowData};
@@ -20,13 +23,14 @@ ghost use Rattle.tree_specs.specs.Tree.Forest.{Distinct};
 ghost use Rattle.tree_specs.specs.Rules.Items.{IsQuestion};
 ghost use Rattle.tree_specs.specs.Rules.Items.Item.{Told};
 ghost use Rattle.tree_specs.specs.Rules.Sequence.{Scene};
-ghost use Rattle.tree_specs.specs.Rules.Story.{story, items, asked, free, turns};
+ghost use Rattle.tree_specs.specs.Rules.Story.{outcome, story, items, asked, free, taking, reaching, turns};
 ghost use Rattle.tree_specs.specs.Machine.Table.{table, notes, step};
 ghost use Rattle.tree_specs.specs.Invariants.Awaiting.{Awaits, AwaitsBefore, pool_after};
 ghost use Rattle.tree_specs.specs.Invariants.Consistent.{IsConsistent};
-ghost use Rattle.tree_specs.specs.Machine.View.{View, begin, rest_of};
+ghost use Rattle.tree_specs.specs.Machine.View.{View, begin, rest_of, strays_of};
 ghost use Rattle.tree_specs.specs.Promises.Orderly.{Orderly};
-ghost use Rattle.tree_specs.specs.Calls.Refusals.{is_running};
+ghost use Rattle.tree_specs.specs.Calls.Refusals.{is_open, is_running};
+ghost use Rattle.tree_specs.specs.Promises.Idle.{NothingCame};
 ghost use Rattle.tree_specs.specs.Promises.Grounded.{Grounded, DropsOutside, IsItem};
 ghost use Rattle.tree_specs.specs.Promises.Acceptances.{AcceptsAfterReturns};
 
@@ -52,6 +56,9 @@ pub fn every_story_ends_with_its_question()
 pub fn the_table_tells_the_story()
     ensures scenes { (first : ℕ) (is : List InputData) → 1 ≤ first → told_by (run (noted notes table) (turns 0 (length is)) (with_note None (begin first).innermost) (empty first) is) ≡ story first is }
     ensures items { (first : ℕ) (is : List InputData) → 1 ≤ first → rest_of (begin first) is ≡ items (story first is) }
+
+    // And they stray at the same inputs.
+    ensures strays { (first : ℕ) (is : List InputData) → 1 ≤ first → strays_of (begin first) is ≡ is_stray (outcome first is) }
 {}
 
 /// A free over any objects and inputs, and so within a call, for a child, and in an act: it takes a prefix of the inputs,
@@ -91,8 +98,23 @@ pub fn every_story_is_grounded()
 {}
 
 /// What waits for its turn is at every moment a live event with a handler: an immediate where it comes soon, a timer where
-/// it has a time. What is being freed, or will be once its handler is over, waits no more, and only events have handlers.
+/// it has a time, a descriptor's event where it watches. What is being freed, or will be once its handler is over, waits no
+/// more, and only events have handlers. Each descriptor that is watched is open, and one event watches it.
 pub fn what_waits_is_a_live_event()
     ensures in_stories { (first : ℕ) (is : List InputData) → 1 ≤ first → EachFits AwaitsBefore (story first is) }
     ensures after_each_step { (v : View) → IsConsistent v → Awaits v.pool → Awaits (pool_after (step v.innermost v.pool)) }
+{}
+
+/// A turn replies 0 exactly where nothing came: nothing was to come soon, no time had come at the last look, and no event
+/// waited for what its descriptor was ready for.
+pub fn a_turn_replies_0_where_nothing_came()
+    ensures cause { (n : ℕ) (p q : Pool) (is left : List InputData) (told : List Scene) → taking n p is ≡ Ended 0 q told left → (used : List InputData) × (used ++ left ≡ is) × NothingCame p used }
+    ensures idle { (p : Pool) (used left : List InputData) (n : ℕ) → NothingCame p used → 8 ≤ n → (q : Pool) × (told : List Scene) × (taking n p (used ++ left) ≡ Ended 0 q told left) }
+{}
+
+/// What a clock tells is from 0 to 2^62 microseconds, and an accepted descriptor wasn't open: no other answer is taken.
+pub fn an_answer_is_in_its_range()
+    ensures time { (n : ℕ) (p q : Pool) (is left : List InputData) (r : ReplyData) (told : List Scene) → reaching n Clock p is ≡ Ended r q told left → (now : ℕ) × (r ≡ Number now) × (now ≤ TIME_LIMIT) }
+    ensures accepted { (n fd new : ℕ) (p q : Pool) (is left : List InputData) (told : List Scene) → reaching n (Accept fd) p is ≡ Ended (Number new) q told left →
+        (0 < new) × (is_open p new ≡ false) × (is_open q new ≡ true) }
 {}

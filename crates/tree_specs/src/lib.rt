@@ -19,7 +19,9 @@ pub mod machine;
 mod memory;
 mod moment;
 mod name;
+mod notice;
 mod object;
+mod occasion;
 mod octets;
 mod question;
 pub mod refusing;
@@ -31,6 +33,7 @@ mod test;
 #[cfg(test)]
 mod tests;
 mod wants;
+mod watch;
 
 pub use bounds::{
     LINE_LIMIT, LINES_LIMIT, NAME_LIMIT, OCTETS_LIMIT, OVERHEAD, ROW_LIMIT, SIZE_LIMIT, TIME_LIMIT,
@@ -39,14 +42,16 @@ pub use bounds::{
 pub use call::Call;
 pub use due::Due;
 pub use event::Event;
-pub use frame::{Answer, CallFrame, Frame, FreeFrame, Purpose, TurnFrame};
+pub use frame::{Answer, CallFrame, Frame, FreeFrame, OutsideFrame, Purpose, TurnFrame};
 pub use free_step::{FreeReply, FreeStep};
 pub use handler::Handler;
 pub use kind::Kind;
 pub use memory::Memory;
 pub use moment::{Moment, What};
 pub use name::{Name, is_name_text};
+pub use notice::Notice;
 pub use object::{Obj, Owner};
+pub use occasion::Occasion;
 pub use octets::Octets;
 pub use question::{Act, Ask, Input};
 pub use reply::{Refusal, Reply};
@@ -55,3 +60,4 @@ pub use row::{Mark, Row};
 pub use schedule::{Mode, Reason};
 pub use test::Test;
 pub use wants::{Want, Wants};
+pub use watch::Watch;

@@ -43,4 +43,16 @@ pub enum Input {
     Clock(u64),
     /// Which descriptors are ready. There are none where the time of the wait is over.
     Ready(Wants),
+    /// This descriptor was accepted, from 1 upwards.
+    Took(u32),
+    /// The descriptor isn't ready for what was asked of it.
+    Again,
+    /// The descriptor has failed.
+    Fault,
+    /// These bytes were read.
+    Got(Octets),
+    /// No more bytes come.
+    End,
+    /// So many bytes were written, from 1 upwards.
+    Wrote(u32),
 }

@@ -19,4 +19,7 @@ pub enum Reason {
     /// The open question takes no such input.
     #[error("the open question takes no such input")]
     NotAsked,
+    /// The descriptor that was accepted is open already.
+    #[error("the descriptor is open already")]
+    Token,
 }

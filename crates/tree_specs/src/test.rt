@@ -13,6 +13,12 @@ pub enum Test {
     IsPlain(Obj),
     /// The object is an immediate.
     IsImmediate(Obj),
+    /// The object is an event on a descriptor.
+    IsDescriptor(Obj),
+    /// The descriptor is open.
+    IsOpen(u32),
+    /// No event watches the descriptor.
+    IsUnwatched(u32),
     /// There is room for so many rows, and there are so many numbers.
     HasRoom(u8),
     /// The limits leave room for so many more bytes below the owner.

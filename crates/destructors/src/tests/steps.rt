@@ -43,7 +43,9 @@ fn show_that_a_destructor_accepts(
     let child = world.add(rt, alloc, Owner::Of(top))?;
     world.hook(rt, child);
     world.free(rt, top)?;
+    assert_eq!(rt; world.lets_go(), Some(top));
     assert_eq!(rt; world.event(rt), left(1, Owner::Root));
+    assert_eq!(rt; world.lets_go(), None);
     assert_eq!(rt; world.ask(rt, 0), child);
     let accepted = FreeStep::Accepted(child);
     assert_eq!(rt; world.event(rt), accepted);

@@ -2,7 +2,7 @@
 ghost use Rattle.std.specs.Prelude.{◌≡◌, true, false};
 ghost use Rattle.tree_specs.specs.declared.row.Mark.TheVariants.{Quiet};
 ghost use Rattle.tree_specs.specs.Tree.Pool.{is_row, is_dying, set_mark as marked};
-ghost use Rattle.tree_specs.specs.Events.Coming.{comes_as, is_once, handler_for, goes_after};
+ghost use Rattle.tree_specs.specs.Events.Coming.{rotated, begun, comes_as, is_once, handler_for, goes_after};
 ghost use Rattle.tree_specs.specs.Calls.Refusals.{is_doomed_mark};
 ghost use Rattle.loop_core.specs.Picks.{begin_pick, clock_pick, ready_pick};
 ghost use Rattle.object_pool.specs.Upcoming.{pool_picked, started};
@@ -17,7 +17,9 @@ fn comes_as(what: What, kind: Kind) -> bool
 {
     matches!(
         (what, kind),
-        (What::Immediate, Kind::Immediate) | (What::Timer, Kind::Timer)
+        (What::Immediate, Kind::Immediate)
+            | (What::Timer, Kind::Timer)
+            | (What::Descriptor, Kind::Descriptor)
     )
 }
 
@@ -55,7 +57,7 @@ impl ObjectPool {
 
     /// These descriptors are ready.
     pub fn ready(&self, list: &Wants) -> Pick
-        ensures { result ≡ ready_pick list.now self.now.pool.times }
+        ensures { result ≡ ready_pick list.now self.now.pool.times self.now.pool.ring }
     {
         self.events.ready(list)
     }
@@ -72,15 +74,34 @@ impl ObjectPool {
         self.events.handler(x)
     }
 
+    /// An event comes: one on a descriptor is looked at after all others the next time.
+    fn rotate(&mut self, what: What, x: Obj)
+        ensures { self.new ≡ record self.old { pool = rotated what x self.old.pool } }
+    {
+        if let What::Descriptor = what {
+            self.events.turn_back(x);
+        }
+    }
+
+    /// A handler starts: its event is busy from now on, and one on a descriptor is looked at after all others the next time.
+    fn begin(&mut self, what: What, x: Obj)
+        requires is { is_row self.old.pool.rows x ≡ true }
+        requires live { is_dying self.old.pool.rows x ≡ false }
+        ensures { self.new ≡ record self.old { pool = begun what x self.old.pool } }
+    {
+        self.rotate(what, x);
+        self.tree.set_mark(x, Mark::Busy);
+    }
+
     /// An object comes as such an event. It is busy from now on, and this is the handler that is to run. None exactly where
     /// it is no such event with which nothing goes on, or has no handler; then nothing changes.
     pub fn start(&mut self, what: What, x: Obj) -> Option<Handler>
         ensures handler { result ≡ handler_for self.old.pool what x }
-        ensures pool { self.new ≡ record self.old { pool = started result x self.old.pool } }
+        ensures pool { self.new ≡ record self.old { pool = started result what x self.old.pool } }
     {
         let handler = self.handler_for(what, x);
         if handler.is_some() {
-            self.tree.set_mark(x, Mark::Busy);
+            self.begin(what, x);
         }
         handler
     }

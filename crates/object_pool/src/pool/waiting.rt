@@ -1,5 +1,5 @@
 //! Events that wait for their turn.
-ghost use Rattle.std.specs.Prelude.{◌≡◌, ◌+◌, ◌-◌, ◌^◌, ◌<◌, true, false, codes, length};
+ghost use Rattle.std.specs.Prelude.{◌≡◌, ◌+◌, ◌-◌, ◌^◌, ◌<◌, true, false, length};
 ghost use Rattle.tree_specs.specs.declared.kind.Kind.TheVariants.{Timer};
 ghost use Rattle.tree_specs.specs.Tree.Pool.{is_owner, set_handler as handled, schedule as scheduled, unschedule as unscheduled};
 ghost use Rattle.tree_specs.specs.Calls.Refusals.{row_limit};
@@ -54,7 +54,7 @@ impl ObjectPool {
     /// How many events wait for their turn. With the memory for a call it is made sure that they can be counted.
     pub fn pending(&self) -> u64
         requires { self.now.ready ≡ true }
-        ensures { result ≡ length self.now.pool.soon + length self.now.pool.times }
+        ensures { result ≡ length self.now.pool.soon + length self.now.pool.times + length self.now.pool.ring }
     {
         self.events.pending()
     }

@@ -1,3 +1,4 @@
+use super::reads_none;
 use crate::{read_header, read_line, write_end, write_input};
 use std::process::Abort;
 use std::test::Fail;
@@ -182,10 +183,7 @@ fn reads_no_line(rt: HostRuntime) {
         b"ready3:1".as_slice(),
         b"ready 4294967296:1".as_slice(),
     ];
-    for line in lines {
-        let input = read_line(rt.alloc(), line);
-        assert!(rt; matches!(input, Err(FormFault::NoForm)), "at {line:?}");
-    }
+    reads_none(&rt, rt.alloc(), &lines);
 }
 
 #[test]

@@ -1,6 +1,6 @@
 -- What it means that no refusal applies, and that an input fits.
 use Rattle.std.proofs.Common.{◌≡◌, ◌≢◌, ℕ, suc, zero, arith, List, [], ◌∷◌, ◌++◌, length, Option, Some, None, Bool, true, false, refl, sym, ◌∙◌, ap, subst, ◌⊎◌, inl, inr}
-use Rattle.std.specs.Prelude.{◌+◌, ◌^◌, is_some, not, nat_lt, nat_le}
+use Rattle.std.specs.Prelude.{◌+◌, ◌^◌, ◌&&◌, is_some, not, nat_lt, nat_le}
 use Rattle.std.proofs.lemmas.Bool.{eqb-true}
 use Rattle.std.proofs.lemmas.Bool.Decides.{nat_tests}
 use Rattle.tree_specs.specs.declared.object.Obj.{Obj}
@@ -10,6 +10,8 @@ use Rattle.tree_specs.specs.declared.row.Row.{Row}
 use Rattle.tree_specs.specs.declared.row.Mark.{Mark}
 use Rattle.tree_specs.specs.declared.row.Mark.TheVariants.{Quiet, Dying}
 use Rattle.tree_specs.specs.declared.call.Call.{Call}
+use Rattle.tree_specs.specs.declared.reply.Reply.{Reply}
+use Rattle.tree_specs.specs.declared.reply.Reply.TheVariants.{Number, Bytes}
 use Rattle.tree_specs.specs.declared.reply.Refusal.{Refusal}
 use Rattle.tree_specs.specs.declared.reply.Refusal.TheVariants.{WrongKind, NotParent, Loop, TooBig, Full, Spent}
 use Rattle.tree_specs.specs.Words.Objects.{same_owner}
@@ -23,17 +25,18 @@ use Rattle.tree_specs.specs.Tree.Targets.{target_of, is_reference}
 use Rattle.tree_specs.specs.Tree.Pool.{Pool, row_of, is_object_row, is_owner, is_below, owner_of, newest_ref_of, reaches, is_inside}
 use Rattle.tree_specs.specs.Tree.Reports.{count_refs}
 use Rattle.tree_specs.specs.Calls.Given.{Given, given_to}
-use Rattle.tree_specs.specs.Calls.Given.Given.{Calls, Returns, Tells, IsReady}
+use Rattle.tree_specs.specs.Calls.Given.Given.{Calls, Returns, Tells, IsReady, Opens, Answers}
 use Rattle.tree_specs.specs.declared.test.Test.{Test}
-use Rattle.tree_specs.specs.Calls.Refusals.{Check, refuse_if, refusal_of, refused, size_limit, row_limit, object_row, object, owner, room, apart, interested, given_by, is_running_mark}
-use Rattle.tree_specs.specs.declared.test.Test.TheVariants.{IsSmall, IsObject, IsOwner, IsPlain, IsImmediate, HasRoom, Fits, MayGrow, IsNotDying, IsNotDoomed, IsNotRunning, IsNotInside, IsUnheld, IsUnreferenced, IsInterested, MayGive}
+use Rattle.tree_specs.specs.Calls.Refusals.{Check, refuse_if, refusal_of, refused, size_limit, row_limit, object_row, object, owner, room, apart, interested, given_by, is_running_mark, is_open}
+use Rattle.tree_specs.specs.declared.test.Test.TheVariants.{IsSmall, IsObject, IsOwner, IsPlain, IsImmediate, IsDescriptor, IsOpen, IsUnwatched, HasRoom, Fits, MayGrow, IsNotDying, IsNotDoomed, IsNotRunning, IsNotInside, IsUnheld, IsUnreferenced, IsInterested, MayGive}
 use Rattle.tree_specs.specs.Calls.Passed.{Interest, AsOwner, AsHolder, Gives, Itself, ItsRef, Passed, AllPassed}
 use Rattle.tree_specs.specs.Invariants.Sound.{IsLive, MayBePlaced}
-use Rattle.tree_specs.specs.Words.Ranges.{is_sound_call, is_return, is_time}
+use Rattle.tree_specs.specs.Words.Ranges.{is_sound_call, is_return, is_routine, is_time}
+use Rattle.tree_specs.specs.Words.Octets.{is_octets}
 use Rattle.tree_specs.specs.Words.Wants.{is_wants}
 use Rattle.tree_specs.specs.declared.wants.Want.{Want}
-use Rattle.tree_specs.specs.Machine.Table.{doing, returning}
-use Rattle.tree_specs.specs.Rules.Story.{heard, led, clocked, told_time, polled, told_ready}
+use Rattle.tree_specs.specs.Machine.Table.{doing, returning, opening_one, hearing_one}
+use Rattle.tree_specs.specs.Rules.Answers.{heard, led, clocked, told_time, polled, told_ready, reached, told_outside}
 use Rattle.tree_specs.specs.Invariants.Consistent.{IsOfRoutine}
 use Rattle.tree_specs.proofs.Tree.Numbered.{by_test, same_owner-equal}
 
@@ -49,6 +52,14 @@ refuse_if-none false why e = refl
 pub not-false : (b : Bool) → not b ≡ false → b ≡ true
 not-false true e = refl
 not-false false e = cc
+
+pub not-true : (b : Bool) → not b ≡ true → b ≡ false
+not-true true e = cc
+not-true false e = refl
+
+pub both-true : (a b : Bool) → (a && b) ≡ true → (a ≡ true) × (b ≡ true)
+both-true true b e = (refl, e)
+both-true false b e = cc
 
 -- no reference refers to nothing
 refers-none : (o : Option Obj) → is_some o ≡ false → o ≡ None
@@ -108,6 +119,9 @@ passes p (IsObject x) e = passes-object p x e
 passes p (IsOwner o) e = passes-owner p o e
 passes p (IsPlain x) e = not-false _ (refuse_if-none _ _ e)
 passes p (IsImmediate x) e = not-false _ (refuse_if-none _ _ e)
+passes p (IsDescriptor x) e = not-false _ (refuse_if-none _ _ e)
+passes p (IsOpen fd) e = not-false _ (refuse_if-none _ _ e)
+passes p (IsUnwatched fd) e = refuse_if-none _ _ e
 passes p (HasRoom k) e = passes-room p k e
 passes p (Fits o wanted) e = e
 passes p (MayGrow x size) e = e
@@ -165,6 +179,9 @@ given-return (ask.Routine m) (input.Act (act.Do c)) v e = cc
 given-return (ask.Routine m) (input.Act (act.Ret u)) v e = let e' : u ≡ v = cc in (ap (λ (z : ℕ). input.Act (act.Ret z)) e', tt)
 given-return ask.Clock (input.Clock now) v e = cc
 given-return (ask.Wait limit) (input.Ready wants) v e = cc
+given-return (ask.Accept fd) (input.Took new) v e = cc
+given-return (ask.Read fd most) (input.Got bytes) v e = absurd (by_test (is_octets bytes && nat_le (length bytes) most) (λ t. let bad : Some (Answers (Bytes bytes)) ≡ Some (Returns v) = rw t at e in cc) (λ t. let bad : None ≡ Some (Returns v) = rw t at e in cc))
+given-return (ask.Write fd bytes) (input.Wrote n) v e = absurd (by_test (nat_le 1 n && nat_le n (length bytes)) (λ t. let bad : Some (Answers (Number n)) ≡ Some (Returns v) = rw t at e in cc) (λ t. let bad : None ≡ Some (Returns v) = rw t at e in cc))
 given-return q i v e = cc
 
 -- a call, or the end of a routine's run
@@ -201,6 +218,39 @@ polled-by {A = A} limit looked i a e = each (given_to (ask.Wait limit) i) e
         (λ t. let e' : Some (looked wants) ≡ Some a = rw t at e in (wants, cc))
         (λ t. let e' : None ≡ Some a = rw t at e in cc)
     each _ e = cc
+
+-- what the outside has answered: a descriptor that wasn't open, the time, or the reply itself
+pub data Reaches {A : Type 0} (p : Pool) (q : Ask) (opens : ℕ → A) (hears : Reply → A) (i : Input) (a : A) : Type 0 where
+  IsOpened : (fd : ℕ) → given_to q i ≡ Some (Opens fd) → is_routine fd ≡ true → is_open p fd ≡ false → a ≡ opens fd → Reaches p q opens hears i a
+  IsTold : (now : ℕ) → given_to q i ≡ Some (Tells now) → is_time now ≡ true → a ≡ hears (Number now) → Reaches p q opens hears i a
+  IsAnswered : (r : Reply) → given_to q i ≡ Some (Answers r) → a ≡ hears r → Reaches p q opens hears i a
+
+pub reached-by : {A : Type 0} (p : Pool) (q : Ask) (opens : ℕ → A) (hears : Reply → A) (i : Input) (a : A) → reached p q opens hears i ≡ Some a → Reaches p q opens hears i a
+reached-by {A = A} p q opens hears i a e = each (given_to q i) refl e
+  where
+    each : (g : Option Given) → given_to q i ≡ g → told_outside p opens hears g ≡ Some a → Reaches p q opens hears i a
+    each (Some (Tells now)) h e = by_test (is_time now)
+        (λ t. let e' : Some (hears (Number now)) ≡ Some a = rw t at e in IsTold now h t cc)
+        (λ t. let e' : None ≡ Some a = rw t at e in cc)
+    each (Some (Opens fd)) h e = by_test (is_routine fd && not (is_open p fd))
+        (λ t. let e' : Some (opens fd) ≡ Some a = rw t at e in let b = both-true _ _ t in IsOpened fd h b.0 (not-true _ b.1) cc)
+        (λ t. let e' : None ≡ Some a = rw t at e in cc)
+    each (Some (Answers r)) h e = IsAnswered r h cc
+    each _ h e = cc
+
+pub data Reached (p : Pool) : Frame → Type 0 where
+  -- a descriptor is to be open
+  ReachedOpening : (fd : ℕ) → is_routine fd ≡ true → is_open p fd ≡ false → Reached p (opening_one fd)
+  -- the reply is there
+  ReachedHearing : (r : Reply) → Reached p (hearing_one r)
+
+pub reached-leads : (p : Pool) (q : Ask) (i : Input) (g : Frame) → reached p q opening_one hearing_one i ≡ Some g → Reached p g
+reached-leads p q i g e = each (reached-by p q opening_one hearing_one i g e)
+  where
+    each : Reaches p q opening_one hearing_one i g → Reached p g
+    each (IsOpened fd given number closed is) = subst (Reached p) (sym is) (ReachedOpening fd number closed)
+    each (IsTold now given time is) = subst (Reached p) (sym is) (ReachedHearing (Number now))
+    each (IsAnswered r given is) = subst (Reached p) (sym is) (ReachedHearing r)
 
 pub data Heard (q : Ask) : Frame → Type 0 where
   -- a call

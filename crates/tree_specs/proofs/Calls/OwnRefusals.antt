@@ -21,12 +21,13 @@ use Rattle.tree_specs.specs.Rules.Items.{Item}
 use Rattle.tree_specs.specs.Rules.Items.Item.{Told}
 use Rattle.tree_specs.specs.declared.test.Test.{Test}
 use Rattle.tree_specs.specs.Calls.Refusals.{Check, row_limit, refuse_if, refusal_of, refused, refusals, over, fits_in, fits, growing, object_row, object, owner, room, given_by, held, is_held, is_running}
-use Rattle.tree_specs.specs.declared.test.Test.TheVariants.{IsSmall, IsObject, IsOwner, IsPlain, IsImmediate, HasRoom, Fits, MayGrow, IsNotDying, IsNotDoomed, IsNotRunning, IsNotInside, IsUnheld, IsUnreferenced, IsInterested, MayGive}
+use Rattle.tree_specs.specs.declared.test.Test.TheVariants.{IsSmall, IsObject, IsOwner, IsPlain, IsImmediate, IsDescriptor, IsOpen, IsUnwatched, HasRoom, Fits, MayGrow, IsNotDying, IsNotDoomed, IsNotRunning, IsNotInside, IsUnheld, IsUnreferenced, IsInterested, MayGive}
 use Rattle.tree_specs.specs.Rules.Sequence.{Scene}
 use Rattle.tree_specs.specs.Promises.Orderly.{RefusedJustNow}
 use Rattle.tree_specs.specs.Promises.Grounded.{AnsweredCall, HeldCall, CausedCall}
 use Rattle.tree_specs.proofs.Tree.Numbered.{by_test, same-equal}
 use Rattle.tree_specs.proofs.Tree.References.{not-held}
+use Rattle.tree_specs.proofs.Calls.Checks.{not-true}
 
 -- a destructor's number is no refusal of a call's own, and what is said to run runs
 abbrev pub IsOwn : Pool → Refusal → Type 0
@@ -83,6 +84,9 @@ own-test p (IsObject x) = own-object p x
 own-test p (IsOwner o) = own-owner p o
 own-test p (IsPlain x) = own-if p _ _ (λ t. tt)
 own-test p (IsImmediate x) = own-if p _ _ (λ t. tt)
+own-test p (IsDescriptor x) = own-if p _ _ (λ t. tt)
+own-test p (IsOpen fd) = own-if p _ _ (λ t. tt)
+own-test p (IsUnwatched fd) = own-if p _ _ (λ t. tt)
 own-test p (HasRoom k) = own-room p k
 own-test p (Fits o wanted) = own-below p o wanted
 own-test p (MayGrow x size) = own-growing p x size
@@ -105,10 +109,6 @@ own-refused p (t ∷ u ∷ ts) = own-both p (refusal_of p t) (refused p (u ∷ t
 pub own-just-now : (items : List Item) (p : Pool) (why : Refusal) → IsOwn p why → RefusedJustNow items (Told (Replied (No why)))
 own-just-now items p (refusal.Refused x v) h = absurd h
 own-just-now items p _ h = tt
-
-not-true : (b : Bool) → not b ≡ true → b ≡ false
-not-true true e = cc
-not-true false e = refl
 
 -- what a call to free says of a refusal
 abbrev Says : List Scene → Pool → Obj → Refusal → Type 0

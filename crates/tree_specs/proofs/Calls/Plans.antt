@@ -12,21 +12,27 @@ use Rattle.tree_specs.specs.declared.call.Call.{Call}
 use Rattle.tree_specs.specs.declared.call.Call.TheVariants as call
 use Rattle.tree_specs.specs.declared.reply.Reply.{Reply}
 use Rattle.tree_specs.specs.declared.reply.Reply.TheVariants as reply
+use Rattle.tree_specs.specs.declared.notice.Notice.{Notice}
+use Rattle.tree_specs.specs.declared.notice.Notice.TheVariants.{Warned}
+use Rattle.tree_specs.specs.declared.question.Ask.{Ask}
+use Rattle.tree_specs.specs.declared.question.Ask.TheVariants as ask
+use Rattle.tree_specs.specs.declared.watch.Watch.{Watch}
 use Rattle.tree_specs.specs.declared.frame.Frame.{Frame}
 use Rattle.tree_specs.specs.Tree.Pool.{Pool, row_of, is_row, is_owner, owner_of, target_at, is_inside, place, hooked_row, named_row, sized_row, limited_row}
 use Rattle.tree_specs.specs.Tree.Targets.{target_of, newest_ref}
 use Rattle.tree_specs.specs.Tree.Inside.{total}
 use Rattle.tree_specs.specs.Invariants.Measure.{weight, mark_weight}
 use Rattle.tree_specs.specs.Invariants.Consistent.{deposit, mark_deposit}
-use Rattle.tree_specs.specs.Calls.Refusals.{Check, tests, refusals, is_immediate, is_doomed_mark}
+use Rattle.tree_specs.specs.Calls.Refusals.{Check, tests, refusals, is_immediate, is_doomed_mark, is_open}
 use Rattle.tree_specs.specs.declared.moment.What.TheVariants as what
 use Rattle.tree_specs.specs.Events.Coming.{comes_as}
 use Rattle.tree_specs.specs.Events.Handlers.{handler_of}
+use Rattle.tree_specs.specs.Events.Rotation.{is_watched}
 use Rattle.tree_specs.specs.Invariants.Awaiting.{MayCome, is_event_row}
 use Rattle.tree_specs.specs.declared.test.Test.TheVariants.{IsObject, IsImmediate, IsNotDoomed}
 use Rattle.tree_specs.specs.Calls.Plans.{Change, Plan, changed_by, plan, planned, unless_refused, places, warns, frees, handed, gift}
-use Rattle.tree_specs.specs.Calls.Plans.Change.{Nothing, Edit, Add, Place, Handle, Schedule, Unschedule, Arm, Then}
-use Rattle.tree_specs.specs.Calls.Plans.Plan.{Does, Frees, Unlinks, Empties, AsksTime, Turns}
+use Rattle.tree_specs.specs.Calls.Plans.Change.{Nothing, Edit, Add, Place, Handle, Schedule, Arm, Watches, Rewatch, Close, Then}
+use Rattle.tree_specs.specs.Calls.Plans.Plan.{Does, Frees, Unlinks, Empties, Asks, Turns}
 use Rattle.tree_specs.specs.Invariants.Sound.{IsLive, IsReferable, IsQuietRow, MayBePlaced, Rests, Sound, claim}
 use Rattle.tree_specs.proofs.Tree.Numbered.{by_test, same-equal, is_below-some}
 use Rattle.tree_specs.proofs.Tree.Rows.{total-placed, row_of-placed-same}
@@ -54,28 +60,36 @@ pub record MayBeAdded (p : Pool) (kind : Kind) (o : Owner) : Type 0 where
   pub there : is_owner p.rows o ≡ true
   pub target : (t : Obj) → target_of kind ≡ Some t → IsReferable (row_of p.rows t)
 
+-- an event that watches a descriptor
+pub record MayWatch (p : Pool) (x : Obj) (fd : ℕ) : Type 0 where
+  pub comes : MayCome what.Descriptor (row_of p.rows x)
+  pub ready : is_some (handler_of p.handlers x) ≡ true
+  pub free : is_watched p.ring fd ≡ false
+  pub open_one : is_open p fd ≡ true
+
+-- how an event watches is changed, but not what it watches
+pub record KeepsWatched (g : Watch → Watch) : Type 0 where
+  pub object : (w : Watch) → (g w).object ≡ w.object
+  pub fd : (w : Watch) → (g w).fd ≡ w.fd
+
 abbrev pub MayDo : Pool → Change → Type 0
-MayDo p Nothing = Unit {0}
 MayDo p (Edit x g) = MayBeEdited p x g
 MayDo p (Add kind o size name) = MayBeAdded p kind o
 MayDo p (Place o x) = MayBePlaced p o x
 MayDo p (Handle x handler) = is_event_row (row_of p.rows x) ≡ true
 MayDo p (Schedule x) = MayCome what.Immediate (row_of p.rows x) × (is_some (handler_of p.handlers x) ≡ true)
-MayDo p (Unschedule x) = Unit {0}
 MayDo p (Arm x time number) = MayCome what.Timer (row_of p.rows x) × (is_some (handler_of p.handlers x) ≡ true)
+MayDo p (Watches x fd flags) = MayWatch p x fd
+MayDo p (Rewatch x g) = KeepsWatched g
+MayDo p (Close fd) = is_watched p.ring fd ≡ false
 MayDo p (Then first second) = MayDo p first × MayDo (changed_by first p) second
+MayDo p change = Unit {0}
 
 -- how many rows it adds
 abbrev pub added : Change → ℕ
-added Nothing = 0
-added (Edit x g) = 0
 added (Add kind o size name) = 1
-added (Place o x) = 0
-added (Handle x handler) = 0
-added (Schedule x) = 0
-added (Unschedule x) = 0
-added (Arm x time number) = 0
 added (Then first second) = added first + added second
+added change = 0
 
 -- ---- what a change leaves so
 
@@ -111,14 +125,11 @@ follows p (Place o x) may =
       deposit = omega (arith, b);
       later = later-placed p o x may.row may.is;
     }
-follows p (Handle x handler) may = waits p (changed_by (Handle x handler) p) refl refl
-follows p (Schedule x) may = waits p (changed_by (Schedule x) p) refl refl
-follows p (Unschedule x) may = waits p (changed_by (Unschedule x) p) refl refl
-follows p (Arm x time number) may = waits p (changed_by (Arm x time number) p) refl refl
 follows p (Then first second) may =
     let a = follows p first may.0 in
     let b = follows (changed_by first p) second may.1 in
     record { weight = omega (arith, a.weight, b.weight); number = omega (arith, a.number, b.number); deposit = omega (arith, a.deposit, b.deposit); later = later-still a.later b.later }
+follows p c may = waits p (changed_by c p) refl refl
 
 -- the rows stay sound under a work that claims as much
 pub change-sound : (f f' : Frame) (fs : List Frame) (p : Pool) (c : Change) → Sound f fs p → MayDo p c → ((y : Obj) → claim y f' ≡ claim y f) → ((q : Pool) → Rests f fs q) → Rests f' fs (changed_by c p) → Sound f' fs (changed_by c p)
@@ -126,27 +137,31 @@ change-sound f f' fs p Nothing s may same calm h = goes_on f f' fs p same h s
 change-sound f f' fs p (Edit x g) s may same calm h = unmarked-sound g f f' fs p x may.row s may.place may.mark may.is may.object same h
 change-sound f f' fs p (Add kind o size name) s may same calm h = new-sound f f' kind o size name fs p s may.there may.target same h
 change-sound f f' fs p (Place o x) s may same calm h = placed-sound f f' o x fs p s may same h
-change-sound f f' fs p (Handle x handler) s may same calm h = waiting-sound f f' fs p (changed_by (Handle x handler) p) s refl refl same h
-change-sound f f' fs p (Schedule x) s may same calm h = waiting-sound f f' fs p (changed_by (Schedule x) p) s refl refl same h
-change-sound f f' fs p (Unschedule x) s may same calm h = waiting-sound f f' fs p (changed_by (Unschedule x) p) s refl refl same h
-change-sound f f' fs p (Arm x time number) s may same calm h = waiting-sound f f' fs p (changed_by (Arm x time number) p) s refl refl same h
 change-sound f f' fs p (Then first second) s may same calm h =
     let t = change-sound f f fs p first s may.0 (λ y. refl) calm (calm (changed_by first p)) in
     change-sound f f' fs (changed_by first p) second t may.1 same calm h
+change-sound f f' fs p c s may same calm h = waiting-sound f f' fs p (changed_by c p) s refl refl same h
 
 -- ---- what a plan asks for
 
 -- the object of which it warns is there after the change
-abbrev pub IsThere : Option Obj → Pool → Type 0
-IsThere None p = Unit {0}
-IsThere (Some x) p = is_row p.rows x ≡ true
+abbrev pub IsThere : Option Notice → Pool → Type 0
+IsThere (Some (Warned x)) p = is_row p.rows x ≡ true
+IsThere notice p = Unit {0}
+
+-- what a call asks the outside
+abbrev pub IsOutside : Ask → Type 0
+IsOutside ask.Quiet = ⊥
+IsOutside (ask.Routine m) = ⊥
+IsOutside (ask.Wait limit) = ⊥
+IsOutside q = Unit {0}
 
 abbrev pub May : Pool → Plan → Type 0
-May p (Does c warned r) = MayDo p c × (added c ≤ 2) × IsThere warned (changed_by c p)
+May p (Does c notice r) = MayDo p c × (added c ≤ 2) × IsThere notice (changed_by c p)
 May p (Frees x) = (newest_ref p.rows x ≡ None) × (target_at p.rows x ≡ None)
 May p (Unlinks o x) = (r : Row) × (row_of p.rows x ≡ Some r) × IsLive r.mark × (target_of r.kind ≡ None)
 May p (Empties x) = Unit {0}
-May p AsksTime = Unit {0}
+May p (Asks q) = IsOutside q
 May p Turns = Unit {0}
 
 -- the reference that goes in the place of its target
@@ -168,7 +183,7 @@ module _ (f : Frame) (fs : List Frame) (p : Pool) (s : Sound f fs p) where
   placed : (o : Owner) (x : Obj) (r : Reply) → MayBePlaced p o x → May p (places p o x r)
   placed o x r may = (may, omega arith, there (warns p o x))
     where
-      there : (b : Bool) → IsThere (if b then Some x else None) (place p o x)
+      there : (b : Bool) → IsThere (if b then Some (Warned x) else None) (place p o x)
       there true = rw (row_of-placed-same p o x may.row may.is) refl
       there false = tt
 
@@ -240,6 +255,23 @@ module _ (f : Frame) (fs : List Frame) (p : Pool) (s : Sound f fs p) where
       let n : Obj = record { 0 = p.next } in
       let self : same n n ≡ true = same-equal n n refl in
       ((record { there = h.0; target = λ t e. cc }, (rw self refl, (rw self (refl, refl), with-own p.handlers n (record { routine = routine; user = user })))), omega arith, tt)
+  each (call.Fd o fd flags routine user) h =
+      let n : Obj = record { 0 = p.next } in
+      let self : same n n ≡ true = same-equal n n refl in (
+        (
+          record { there = h.0; target = λ t e. cc },
+          (rw self refl, record { comes = rw self (refl, refl); ready = with-own p.handlers n (record { routine = routine; user = user }); free = h.1.1.0; open_one = h.1.0 }),
+        ),
+        omega arith,
+        tt,
+      )
+  each (call.Flags x flags) h = (record { object = λ w. refl; fd = λ w. refl }, omega arith, tt)
+  each (call.Getflags x) h = (tt, omega arith, tt)
+  each (call.Autoclose x) h = (record { object = λ w. refl; fd = λ w. refl }, omega arith, tt)
+  each (call.Close fd) h = (h.1.0, omega arith, tt)
+  each (call.Accept fd) h = tt
+  each (call.Read fd len) h = tt
+  each (call.Write fd bytes) h = tt
   each call.Pending h = (tt, omega arith, tt)
   each call.Now h = tt
   each call.Turn h = tt

@@ -1,5 +1,6 @@
 -- What each change of the pool leaves of what waits.
-use Rattle.std.proofs.Common.{◌≡◌, ◌≢◌, ℕ, List, [], ◌∷◌, Option, Some, None, true, false, refl, sym, ◌∙◌, ap, subst, inl, inr}
+use Rattle.std.proofs.Common.{◌≡◌, ◌≢◌, ℕ, List, [], ◌∷◌, nat_eq, Option, Some, None, true, false, refl, sym, ◌∙◌, ap, subst, inl, inr}
+use Rattle.std.proofs.lemmas.Bool.{eqb-true}
 use Rattle.std.specs.Prelude.{is_some}
 use Rattle.tree_specs.specs.declared.object.Obj.{Obj}
 use Rattle.tree_specs.specs.declared.object.Owner.{Owner}
@@ -8,20 +9,25 @@ use Rattle.tree_specs.specs.declared.row.Mark.{Mark}
 use Rattle.tree_specs.specs.declared.kind.Kind.{Kind}
 use Rattle.tree_specs.specs.declared.handler.Handler.{Handler}
 use Rattle.tree_specs.specs.declared.moment.What.{What}
-use Rattle.tree_specs.specs.declared.moment.What.TheVariants.{Immediate, Timer}
+use Rattle.tree_specs.specs.declared.moment.What.TheVariants.{Immediate, Timer, Descriptor}
+use Rattle.tree_specs.specs.declared.watch.Watch.{Watch}
 use Rattle.tree_specs.specs.Words.Objects.{same}
 use Rattle.tree_specs.specs.Tree.Targets.{target_of}
-use Rattle.tree_specs.specs.Tree.Pool.{Pool, row_of, target_at, changed, without, add, remove, place, set_mark, marked_row, set_handler, schedule, unschedule, arm, disarm}
+use Rattle.tree_specs.specs.Tree.Pool.{Pool, row_of, target_at, changed, without, add, let_go, remove, place, set_mark, marked_row, set_handler, schedule, unschedule, arm, disarm, watch, rewatch, turn_back, open_descriptor, close_descriptor}
 use Rattle.tree_specs.specs.Events.Coming.{comes_as}
-use Rattle.tree_specs.specs.Calls.Refusals.{is_doomed_mark}
+use Rattle.tree_specs.specs.Events.Rotation.{is_watching, is_watched, closes_with, unwatched}
+use Rattle.tree_specs.specs.Events.Descriptors.{Descriptors, is_open_in, shut}
+use Rattle.tree_specs.specs.Calls.Refusals.{is_doomed_mark, is_open}
 use Rattle.tree_specs.specs.Invariants.Sound.{MayBePlaced}
-use Rattle.tree_specs.specs.Invariants.Awaiting.{waits, MayCome, is_event_row, Awaits}
+use Rattle.tree_specs.specs.Invariants.Awaiting.{waits, MayCome, is_event_row, AreDistinct, Awaits}
 use Rattle.tree_specs.proofs.Tree.Numbered.{by_test, same-true, same-equal, same-false, same_or_not}
 use Rattle.tree_specs.proofs.Tree.Rows.{row_of-changed-other, row_of-without-other, row_of-placed-other, row_of-placed-same}
 use Rattle.tree_specs.proofs.Invariants.Turning.{comes-event}
 use Rattle.tree_specs.specs.Events.Handlers.{handler_of}
 use Rattle.tree_specs.proofs.Events.HandlerLaws.{with-same, with-other, without-same, without-other}
 use Rattle.tree_specs.proofs.Events.PendingLaws.{unscheduled-other, scheduled-either, disarmed-other, armed-either}
+use Rattle.tree_specs.proofs.Events.RotationLaws.{unwatched-watched, unwatched-other, unwatched-distinct, unwatched-freed, closes-found, watched-watching, watched-watched, watched-distinct, rewatched-watching, rewatched-watched, rewatched-distinct, turned-watching, turned-watched, turned-distinct}
+use Rattle.tree_specs.proofs.Events.DescriptorLaws.{opened-still, closed-other}
 
 -- ---- rows that come
 
@@ -60,10 +66,12 @@ reference-stays p r t is w h = each (row_of p.rows r) refl h
 
 -- ---- the same objects wait
 
-pub same-awaits : (p q : Pool) → Awaits p → ((w : What) (x : Obj) → waits w q x ≡ true → waits w p x ≡ true) → q.rows ≡ p.rows → q.handlers ≡ p.handlers → Awaits q
-same-awaits p q a fewer rows handlers = record {
+pub same-awaits : (p q : Pool) → Awaits p → ((w : What) (x : Obj) → waits w q x ≡ true → waits w p x ≡ true) → q.rows ≡ p.rows → q.handlers ≡ p.handlers → q.ring ≡ p.ring → q.descriptors ≡ p.descriptors → Awaits q
+same-awaits p q a fewer rows handlers ring descriptors = record {
   events = λ w x h. rw (rows, handlers) (a.events w x (fewer w x h));
   handlers = λ x e. rw handlers (a.handlers x (rw rows at e));
+  distinct = rw ring a.distinct;
+  watched = λ fd h. rw descriptors (a.watched fd (rw ring at h));
 }
 
 rows-awaits : (p : Pool) (rows : List Row) → Awaits p → ((w : What) (x : Obj) → MayCome w (row_of p.rows x) → MayCome w (row_of rows x)) → ((x : Obj) → is_event_row (row_of rows x) ≡ is_event_row (row_of p.rows x))
@@ -71,11 +79,14 @@ rows-awaits : (p : Pool) (rows : List Row) → Awaits p → ((w : What) (x : Obj
 rows-awaits p rows a comes event = record {
   events = λ w x h. (let e = a.events w x (same-waits w x h) in (comes w x e.0, e.1));
   handlers = λ x e. a.handlers x (sym (event x) ∙ e);
+  distinct = a.distinct;
+  watched = a.watched;
 }
   where
     same-waits : (w : What) (x : Obj) → waits w (record p { rows = rows }) x ≡ true → waits w p x ≡ true
     same-waits Immediate x h = h
     same-waits Timer x h = h
+    same-waits Descriptor x h = h
     same-waits _ x h = cc
 
 pub changed-awaits : (g : Row → Row) (p : Pool) (x : Obj) → Stays g → Awaits p → Awaits (record p { rows = changed g p.rows x })
@@ -108,24 +119,39 @@ placed-awaits p o x may a = rows-awaits p (place p o x).rows a comes event
 -- ---- an object waits no more, and won't come
 
 -- one that leaves, or is doomed
-pub gone-awaits : (g : Row → Row) (p : Pool) (x : Obj) → ((r : Row) → (g r).serial ≡ r.serial) → ((r : Row) → (g r).kind ≡ r.kind) → Awaits p → Awaits (record (disarm (unschedule p x) x) { rows = changed g p.rows x })
+pub gone-awaits : (g : Row → Row) (p : Pool) (x : Obj) → ((r : Row) → (g r).serial ≡ r.serial) → ((r : Row) → (g r).kind ≡ r.kind) → Awaits p → Awaits (let_go p x g)
 gone-awaits g p x serial kind a = record {
   events = λ w y h. (let o = other w y h in rw (row_of-changed-other g p.rows x y serial o.1) (a.events w y o.0));
   handlers = λ y e. a.handlers y (sym (changed-event g p.rows x y serial kind) ∙ e);
+  distinct = unwatched-distinct p.ring x a.distinct;
+  watched = λ fd h. still_open fd (closes_with p.ring x) refl h;
 }
   where
-    other : (w : What) (y : Obj) → waits w (record (disarm (unschedule p x) x) { rows = changed g p.rows x }) y ≡ true → (waits w p y ≡ true) × (x ≢ y)
+    other : (w : What) (y : Obj) → waits w (let_go p x g) y ≡ true → (waits w p y ≡ true) × (x ≢ y)
     other Immediate y h = unscheduled-other p.soon x y h
     other Timer y h = disarmed-other p.times x y h
+    other Descriptor y h = unwatched-other p.ring x y h
     other _ y h = cc
+
+    -- nobody else watches the descriptor that is closed with it
+    still_open : (fd : ℕ) (o : Option ℕ) → closes_with p.ring x ≡ o → is_watched (unwatched p.ring x) fd ≡ true → is_open_in (shut p.descriptors o) fd ≡ true
+    still_open fd None e h = a.watched fd (unwatched-watched p.ring x fd h)
+    still_open fd (Some closing) e h =
+        let w = closes-found p.ring x closing e in
+        by_test (nat_eq fd closing)
+        (λ t.
+        let none : is_watched (unwatched p.ring x) fd ≡ false = subst (λ (n : ℕ). is_watched (unwatched p.ring x) n ≡ false) (w.2 ∙ sym (eqb-true fd closing t)) (unwatched-freed p.ring x w.0 a.distinct w.1) in
+        let bad : true ≡ false = sym h ∙ none in cc)
+        (λ t. closed-other p.descriptors closing fd t ∙ a.watched fd (unwatched-watched p.ring x fd h))
 
 -- one that doesn't wait
 pub removed-awaits : (p : Pool) (x : Obj) → ((w : What) → MayCome w (row_of p.rows x) → ⊥) → Awaits p → Awaits (remove p x)
-removed-awaits p x stays a = record { events = events; handlers = handlers }
+removed-awaits p x stays a = record { events = events; handlers = handlers; distinct = a.distinct; watched = a.watched }
   where
     still : (w : What) (y : Obj) → waits w (remove p x) y ≡ true → waits w p y ≡ true
     still Immediate y h = h
     still Timer y h = h
+    still Descriptor y h = h
     still _ y h = cc
 
     events : (w : What) (y : Obj) → waits w (remove p x) y ≡ true → MayCome w (row_of (without p.rows x) y) × (is_some (handler_of (remove p x).handlers y) ≡ true)
@@ -143,7 +169,7 @@ removed-awaits p x stays a = record { events = events; handlers = handlers }
 -- ---- a new object
 
 pub added-awaits : (p : Pool) (kind : Kind) (o : Owner) (size : ℕ) (name : List ℕ) → row_of p.rows (record { 0 = p.next }) ≡ None → Awaits p → Awaits (add p kind o size name)
-added-awaits p kind o size name fresh a = record { events = events; handlers = handlers }
+added-awaits p kind o size name fresh a = record { events = events; handlers = handlers; distinct = a.distinct; watched = a.watched }
   where
     n : Obj
     n = record { 0 = p.next }
@@ -151,6 +177,7 @@ added-awaits p kind o size name fresh a = record { events = events; handlers = h
     still : (w : What) (y : Obj) → waits w (add p kind o size name) y ≡ true → waits w p y ≡ true
     still Immediate y h = h
     still Timer y h = h
+    still Descriptor y h = h
     still _ y h = cc
 
     events : (w : What) (y : Obj) → waits w (add p kind o size name) y ≡ true → MayCome w (row_of (add p kind o size name).rows y) × (is_some (handler_of p.handlers y) ≡ true)
@@ -167,11 +194,12 @@ added-awaits p kind o size name fresh a = record { events = events; handlers = h
 -- ---- an object is to come
 
 pub handled-awaits : (p : Pool) (x : Obj) (h : Handler) → is_event_row (row_of p.rows x) ≡ true → Awaits p → Awaits (set_handler p x h)
-handled-awaits p x h there a = record { events = events; handlers = handlers }
+handled-awaits p x h there a = record { events = events; handlers = handlers; distinct = a.distinct; watched = a.watched }
   where
     still : (w : What) (y : Obj) → waits w (set_handler p x h) y ≡ true → waits w p y ≡ true
     still Immediate y k = k
     still Timer y k = k
+    still Descriptor y k = k
     still _ y k = cc
 
     events : (w : What) (y : Obj) → waits w (set_handler p x h) y ≡ true → MayCome w (row_of p.rows y) × (is_some (handler_of (set_handler p x h).handlers y) ≡ true)
@@ -185,7 +213,7 @@ handled-awaits p x h there a = record { events = events; handlers = handlers }
         (λ t. with-other p.handlers x y h t ∙ a.handlers y e)
 
 pub scheduled-awaits : (p : Pool) (x : Obj) → MayCome Immediate (row_of p.rows x) → is_some (handler_of p.handlers x) ≡ true → Awaits p → Awaits (schedule p x)
-scheduled-awaits p x comes ready a = record { events = events; handlers = a.handlers }
+scheduled-awaits p x comes ready a = record { events = events; handlers = a.handlers; distinct = a.distinct; watched = a.watched }
   where
     events : (w : What) (y : Obj) → waits w (schedule p x) y ≡ true → MayCome w (row_of p.rows y) × (is_some (handler_of p.handlers y) ≡ true)
     events Immediate y h = elim (scheduled-either p.soon x y h) [
@@ -193,10 +221,11 @@ scheduled-awaits p x comes ready a = record { events = events; handlers = a.hand
       | inr e ↦ subst (λ (z : Obj). MayCome Immediate (row_of p.rows z) × (is_some (handler_of p.handlers z) ≡ true)) e (comes, ready)
     ]
     events Timer y h = a.events Timer y h
+    events Descriptor y h = a.events Descriptor y h
     events _ y h = cc
 
 pub armed-awaits : (p : Pool) (x : Obj) (time number : ℕ) → MayCome Timer (row_of p.rows x) → is_some (handler_of p.handlers x) ≡ true → Awaits p → Awaits (arm p x time number)
-armed-awaits p x time number comes ready a = record { events = events; handlers = a.handlers }
+armed-awaits p x time number comes ready a = record { events = events; handlers = a.handlers; distinct = a.distinct; watched = a.watched }
   where
     events : (w : What) (y : Obj) → waits w (arm p x time number) y ≡ true → MayCome w (row_of p.rows y) × (is_some (handler_of p.handlers y) ≡ true)
     events Timer y h = elim (armed-either p.times x time number y h) [
@@ -204,20 +233,83 @@ armed-awaits p x time number comes ready a = record { events = events; handlers 
       | inr e ↦ subst (λ (z : Obj). MayCome Timer (row_of p.rows z) × (is_some (handler_of p.handlers z) ≡ true)) e (comes, ready)
     ]
     events Immediate y h = a.events Immediate y h
+    events Descriptor y h = a.events Descriptor y h
     events _ y h = cc
 
 pub unscheduled-awaits : (p : Pool) (x : Obj) → Awaits p → Awaits (unschedule p x)
-unscheduled-awaits p x a = same-awaits p (unschedule p x) a fewer refl refl
+unscheduled-awaits p x a = same-awaits p (unschedule p x) a fewer refl refl refl refl
   where
     fewer : (w : What) (y : Obj) → waits w (unschedule p x) y ≡ true → waits w p y ≡ true
     fewer Immediate y h = (unscheduled-other p.soon x y h).0
     fewer Timer y h = h
+    fewer Descriptor y h = h
     fewer _ y h = cc
 
 pub disarmed-awaits : (p : Pool) (x : Obj) → Awaits p → Awaits (disarm p x)
-disarmed-awaits p x a = same-awaits p (disarm p x) a fewer refl refl
+disarmed-awaits p x a = same-awaits p (disarm p x) a fewer refl refl refl refl
   where
     fewer : (w : What) (y : Obj) → waits w (disarm p x) y ≡ true → waits w p y ≡ true
     fewer Timer y h = (disarmed-other p.times x y h).0
     fewer Immediate y h = h
+    fewer Descriptor y h = h
     fewer _ y h = cc
+
+-- ---- an event watches a descriptor
+
+-- the same wait otherwise, and who is in the rotation may come
+ring-awaits : (p : Pool) (ring : List Watch) → ((y : Obj) → is_watching ring y ≡ true → MayCome Descriptor (row_of p.rows y) × (is_some (handler_of p.handlers y) ≡ true)) → AreDistinct ring
+    → ((fd : ℕ) → is_watched ring fd ≡ true → is_open p fd ≡ true) → Awaits p → Awaits (record p { ring = ring })
+ring-awaits p ring comes distinct still_open a = record { events = events; handlers = a.handlers; distinct = distinct; watched = still_open }
+  where
+    events : (w : What) (y : Obj) → waits w (record p { ring = ring }) y ≡ true → MayCome w (row_of p.rows y) × (is_some (handler_of p.handlers y) ≡ true)
+    events Descriptor y h = comes y h
+    events Immediate y h = a.events Immediate y h
+    events Timer y h = a.events Timer y h
+    events _ y h = cc
+
+pub watching-awaits : (p : Pool) (x : Obj) (fd flags : ℕ) → MayCome Descriptor (row_of p.rows x) → is_some (handler_of p.handlers x) ≡ true → is_watching p.ring x ≡ false → is_watched p.ring fd ≡ false
+    → is_open p fd ≡ true → Awaits p → Awaits (watch p x fd flags)
+watching-awaits p x fd flags comes ready new free still_open a =
+    ring-awaits p (watch p x fd flags).ring
+    (λ y h. elim (watched-watching p.ring x fd flags y h) [
+      | inl l ↦ a.events Descriptor y l
+      | inr e ↦ subst (λ (z : Obj). MayCome Descriptor (row_of p.rows z) × (is_some (handler_of p.handlers z) ≡ true)) e (comes, ready)
+    ])
+    (watched-distinct p.ring x fd flags a.distinct new free)
+    (λ g h. elim (watched-watched p.ring x fd flags g h) [
+      | inl l ↦ a.watched g l
+      | inr e ↦ subst (λ (n : ℕ). is_open p n ≡ true) e still_open
+    ]) a
+
+pub rewatched-awaits : (p : Pool) (x : Obj) (change : Watch → Watch) → ((w : Watch) → (change w).object ≡ w.object) → ((w : Watch) → (change w).fd ≡ w.fd) → Awaits p → Awaits (rewatch p x change)
+rewatched-awaits p x change same_object same_fd a =
+    ring-awaits p (rewatch p x change).ring (λ y h. a.events Descriptor y (sym (rewatched-watching change p.ring x y same_object) ∙ h)) (rewatched-distinct change p.ring x same_object same_fd a.distinct)
+    (λ fd h. a.watched fd (sym (rewatched-watched change p.ring x fd same_fd) ∙ h)) a
+
+pub turned-awaits : (p : Pool) (x : Obj) → Awaits p → Awaits (turn_back p x)
+turned-awaits p x a =
+    ring-awaits p (turn_back p x).ring (λ y h. a.events Descriptor y (turned-watching p.ring x y h)) (turned-distinct p.ring x a.distinct) (λ fd h. a.watched fd (turned-watched p.ring x fd h)) a
+
+-- ---- a descriptor is opened or closed
+
+-- what is watched is among those that are open then
+shut-awaits : (p : Pool) (ds : Descriptors) → ((fd : ℕ) → is_watched p.ring fd ≡ true → is_open_in ds fd ≡ true) → Awaits p → Awaits (record p { descriptors = ds })
+shut-awaits p ds still_open a = record { events = events; handlers = a.handlers; distinct = a.distinct; watched = still_open }
+  where
+    events : (w : What) (y : Obj) → waits w (record p { descriptors = ds }) y ≡ true → MayCome w (row_of p.rows y) × (is_some (handler_of p.handlers y) ≡ true)
+    events Descriptor y h = a.events Descriptor y h
+    events Immediate y h = a.events Immediate y h
+    events Timer y h = a.events Timer y h
+    events _ y h = cc
+
+pub opened-awaits : (p : Pool) (fd : ℕ) → Awaits p → Awaits (open_descriptor p fd)
+opened-awaits p fd a = shut-awaits p (open_descriptor p fd).descriptors (λ g h. opened-still p.descriptors fd g (a.watched g h)) a
+
+-- one that nobody watches
+pub closed-awaits : (p : Pool) (fd : ℕ) → is_watched p.ring fd ≡ false → Awaits p → Awaits (close_descriptor p fd)
+closed-awaits p fd free a = shut-awaits p (close_descriptor p fd).descriptors still_open a
+  where
+    still_open : (g : ℕ) → is_watched p.ring g ≡ true → is_open (close_descriptor p fd) g ≡ true
+    still_open g h = by_test (nat_eq g fd)
+        (λ t. let none : is_watched p.ring g ≡ false = subst (λ (n : ℕ). is_watched p.ring n ≡ false) (sym (eqb-true g fd t)) free in let bad : true ≡ false = sym h ∙ none in cc)
+        (λ t. closed-other p.descriptors fd g t ∙ a.watched g h)

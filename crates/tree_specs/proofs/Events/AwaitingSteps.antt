@@ -10,6 +10,10 @@ use Rattle.tree_specs.specs.declared.row.Mark.TheVariants.{Quiet, Asked, Busy, D
 use Rattle.tree_specs.specs.declared.event.Event.{Event}
 use Rattle.tree_specs.specs.declared.due.Due.{Due}
 use Rattle.tree_specs.specs.declared.handler.Handler.{Handler}
+use Rattle.tree_specs.specs.declared.moment.What.{What}
+use Rattle.tree_specs.specs.declared.moment.What.TheVariants.{Descriptor}
+use Rattle.tree_specs.specs.declared.watch.Watch.{Watch}
+use Rattle.tree_specs.specs.declared.notice.Notice.{Notice}
 use Rattle.tree_specs.specs.declared.question.Ask.{Ask}
 use Rattle.tree_specs.specs.declared.question.Ask.TheVariants as ask
 use Rattle.tree_specs.specs.declared.frame.Frame.{Frame}
@@ -18,6 +22,8 @@ use Rattle.tree_specs.specs.declared.frame.CallFrame.TheVariants.{Asking, Doing}
 use Rattle.tree_specs.specs.declared.frame.FreeFrame.{FreeFrame}
 use Rattle.tree_specs.specs.declared.frame.FreeFrame.TheVariants.{Unlinking, Releasing, Giving, Beginning, Judged, Leaving, Looping, AfterChild}
 use Rattle.tree_specs.specs.declared.frame.TurnFrame.{TurnFrame}
+use Rattle.tree_specs.specs.declared.frame.OutsideFrame.{OutsideFrame}
+use Rattle.tree_specs.specs.declared.frame.OutsideFrame.TheVariants.{Opening}
 use Rattle.tree_specs.specs.declared.frame.TurnFrame.TheVariants.{Taking, Timed, Starting, Handled}
 use Rattle.tree_specs.specs.declared.frame.Purpose.{Purpose}
 use Rattle.tree_specs.specs.declared.frame.Purpose.TheVariants.{Removal, Emptying}
@@ -29,19 +35,22 @@ use Rattle.tree_specs.specs.Tree.Heirs.{heir}
 use Rattle.tree_specs.specs.Tree.Forest.{Distinct}
 use Rattle.tree_specs.specs.declared.call.Call.{Call}
 use Rattle.tree_specs.specs.Calls.Plans.{Change, Plan, planned, changed_by}
-use Rattle.tree_specs.specs.Calls.Plans.Change.{Nothing, Edit, Add, Place, Handle, Schedule, Unschedule, Arm, Then}
+use Rattle.tree_specs.specs.Calls.Plans.Change.{Nothing, Edit, Add, Place, Handle, Schedule, Unschedule, Arm, Watches, Rewatch, Close, Then}
 use Rattle.tree_specs.specs.Calls.Plans.Plan.{Does, Turns}
 use Rattle.tree_specs.specs.Events.Pending.{first}
-use Rattle.tree_specs.specs.Events.Coming.{handler_for, goes_after}
+use Rattle.tree_specs.specs.Events.Rotation.{is_watching}
+use Rattle.tree_specs.specs.Events.Coming.{handler_for, rotated, goes_after}
 use Rattle.tree_specs.specs.Machine.Profiles.{InLoop}
-use Rattle.tree_specs.specs.Machine.Table.{FreeMove, event_of, announced, lifted, begin_step, refs_step, unlink_step, release_step, judge_step, last_step, child_step, loop_step, hand_on_step, tried_step, free_step, plan_step, turning_step, due_step, taking_step, timed_step, early_step, starting_step, handled_step, turn_step, step}
+use Rattle.tree_specs.specs.Machine.FreeTable.{FreeMove, begin_step, refs_step, unlink_step, release_step, judge_step, last_step, child_step, loop_step, hand_on_step, tried_step, free_step}
+use Rattle.tree_specs.specs.Machine.Table.{event_of, announced, lifted, notice_step, plan_step, turning_step, due_step, taking_step, timed_step, early_step, starting_step, handled_step, turn_step, outside_step, step}
 use Rattle.tree_specs.specs.Invariants.Sound.{ValidAt, claims, Rests, Sound}
 use Rattle.tree_specs.specs.Invariants.Awaiting.{MayCome, Awaits, pool_after}
 use Rattle.tree_specs.proofs.Tree.Numbered.{by_test}
 use Rattle.tree_specs.proofs.Tree.Referring.{newest-refers, newest-of-refers}
 use Rattle.tree_specs.proofs.Invariants.Changes.{dying-row, claim-here, heir-placed}
 use Rattle.tree_specs.proofs.Calls.Plans.{MayDo, May, may-planned, change-sound}
-use Rattle.tree_specs.proofs.Events.Awaiting.{changed-awaits, marked-awaits, placed-awaits, gone-awaits, removed-awaits, added-awaits, handled-awaits, scheduled-awaits, armed-awaits, unscheduled-awaits, disarmed-awaits, reference-stays}
+use Rattle.tree_specs.proofs.Calls.NewEvents.{AreNew, OnlyNew, new-events}
+use Rattle.tree_specs.proofs.Events.Awaiting.{changed-awaits, marked-awaits, placed-awaits, gone-awaits, removed-awaits, added-awaits, handled-awaits, scheduled-awaits, armed-awaits, unscheduled-awaits, disarmed-awaits, watching-awaits, rewatched-awaits, turned-awaits, opened-awaits, closed-awaits, reference-stays}
 
 -- ---- frees
 
@@ -128,16 +137,16 @@ free-awaits (AfterChild x c noted purpose b) fs p s a = tried x c noted purpose 
 free-awaits _ fs p s a = a
 
 -- among the host's works it leaves the same
-lifted-awaits : (m : FreeMove) → Awaits (pool_after m) → Awaits (pool_after (lifted m))
-lifted-awaits (Do.Done b p) a = a
-lifted-awaits (Do.Go f p) a = a
-lifted-awaits (Do.Emit e f p) a = each (event_of e)
+lifted-awaits : (ring : List Watch) (m : FreeMove) → Awaits (pool_after m) → Awaits (pool_after (lifted ring m))
+lifted-awaits ring (Do.Done b p) a = a
+lifted-awaits ring (Do.Go f p) a = a
+lifted-awaits ring (Do.Emit e f p) a = each (event_of ring e)
   where
     each : (o : Option Event) → Awaits (pool_after (announced o f p))
     each None = a
     each (Some e) = a
-lifted-awaits (Do.Wait q f p) a = a
-lifted-awaits (Do.Call g f p) a = a
+lifted-awaits ring (Do.Wait q f p) a = a
+lifted-awaits ring (Do.Call g f p) a = a
 
 -- ---- calls
 
@@ -146,28 +155,42 @@ fresh : (next : ℕ) (o : Option Row) → ValidAt next o (record { 0 = next }) �
 fresh next None v = refl
 fresh next (Some r) v = let l : next < next = v.1 in absurd (omega arith)
 
-change-awaits : (f : Frame) (fs : List Frame) (p : Pool) (c : Change) → Sound f fs p → ((q : Pool) → Rests f fs q) → MayDo p c → Awaits p → Awaits (changed_by c p)
-change-awaits f fs p Nothing s calm may a = a
-change-awaits f fs p (Edit x g) s calm may a = changed-awaits g p x (record { serial = may.place.serial; kind = may.place.kind; mark = λ r l. rw (may.mark r) l }) a
-change-awaits f fs p (Add kind o size name) s calm may a = added-awaits p kind o size name (fresh p.next _ (s.valid (record { 0 = p.next }))) a
-change-awaits f fs p (Place o x) s calm may a = placed-awaits p o x may a
-change-awaits f fs p (Handle x handler) s calm may a = handled-awaits p x handler may a
-change-awaits f fs p (Schedule x) s calm may a = scheduled-awaits p x may.0 may.1 a
-change-awaits f fs p (Unschedule x) s calm may a = unscheduled-awaits p x a
-change-awaits f fs p (Arm x time number) s calm may a = armed-awaits p x time number may.0 may.1 a
-change-awaits f fs p (Then c d) s calm may a =
+-- and so it watches nothing
+unwatching : (p : Pool) → ((x : Obj) → ValidAt p.next (row_of p.rows x) x) → Awaits p → is_watching p.ring (record { 0 = p.next }) ≡ false
+unwatching p valid a =
+    let n : Obj = record { 0 = p.next } in
+    by_test (is_watching p.ring n)
+    (λ t. absurd (let comes : MayCome Descriptor None = rw (fresh p.next (row_of p.rows n) (valid n)) at (a.events Descriptor n t).0 in comes))
+    (λ t. t)
+
+change-awaits : (f : Frame) (fs : List Frame) (p : Pool) (c : Change) → Sound f fs p → ((q : Pool) → Rests f fs q) → MayDo p c → AreNew p c → Awaits p → Awaits (changed_by c p)
+change-awaits f fs p Nothing s calm may new a = a
+change-awaits f fs p (Edit x g) s calm may new a = changed-awaits g p x (record { serial = may.place.serial; kind = may.place.kind; mark = λ r l. rw (may.mark r) l }) a
+change-awaits f fs p (Add kind o size name) s calm may new a = added-awaits p kind o size name (fresh p.next _ (s.valid (record { 0 = p.next }))) a
+change-awaits f fs p (Place o x) s calm may new a = placed-awaits p o x may a
+change-awaits f fs p (Handle x handler) s calm may new a = handled-awaits p x handler may a
+change-awaits f fs p (Schedule x) s calm may new a = scheduled-awaits p x may.0 may.1 a
+change-awaits f fs p (Unschedule x) s calm may new a = unscheduled-awaits p x a
+change-awaits f fs p (Arm x time number) s calm may new a = armed-awaits p x time number may.0 may.1 a
+change-awaits f fs p (Watches x fd flags) s calm may new a = watching-awaits p x fd flags may.comes may.ready new may.free may.open_one a
+change-awaits f fs p (Rewatch x g) s calm may new a = rewatched-awaits p x g may.object may.fd a
+change-awaits f fs p (Close fd) s calm may new a = closed-awaits p fd may a
+change-awaits f fs p (Then c d) s calm may new a =
     let t = change-sound f f fs p c s may.0 (λ y. refl) calm (calm (changed_by c p)) in
-    change-awaits f fs (changed_by c p) d t calm may.1 (change-awaits f fs p c s calm may.0 a)
+    change-awaits f fs (changed_by c p) d t calm may.1 new.1 (change-awaits f fs p c s calm may.0 new.0 a)
 
 turning-awaits : (q : Ask) (p : Pool) → Awaits p → Awaits (pool_after (turning_step q p))
 turning-awaits ask.Quiet p a = a
 turning-awaits _ p a = a
 
-planned-awaits : (q : Ask) (c : Call) (fs : List Frame) (p : Pool) → Sound (frame.Call (Doing q c)) fs p → (plan : Plan) → May p plan → Awaits p → Awaits (pool_after (plan_step q plan p))
-planned-awaits q c fs p s (Does change None r) may a = change-awaits (frame.Call (Doing q c)) fs p change s (λ q'. tt) may.0 a
-planned-awaits q c fs p s (Does change (Some x) r) may a = change-awaits (frame.Call (Doing q c)) fs p change s (λ q'. tt) may.0 a
-planned-awaits q c fs p s Turns may a = turning-awaits q p a
-planned-awaits q c fs p s _ may a = a
+planned-awaits : (q : Ask) (c : Call) (fs : List Frame) (p : Pool) → Sound (frame.Call (Doing q c)) fs p → (plan : Plan) → May p plan → OnlyNew p plan → Awaits p → Awaits (pool_after (plan_step q plan p))
+planned-awaits q c fs p s (Does change notice r) may new a = each notice
+  where
+    each : (notice : Option Notice) → Awaits (pool_after (notice_step notice q r (changed_by change p)))
+    each None = change-awaits (frame.Call (Doing q c)) fs p change s (λ q'. tt) may.0 new a
+    each (Some n) = change-awaits (frame.Call (Doing q c)) fs p change s (λ q'. tt) may.0 new a
+planned-awaits q c fs p s Turns may new a = turning-awaits q p a
+planned-awaits q c fs p s _ may new a = a
 
 -- ---- turns
 
@@ -193,14 +216,19 @@ timed again now p a = each (first p.times)
     each None = a
     each (Some d) = by_test (nat_le d.time now) (λ t. rw t (disarmed-awaits p d.object a)) (λ t. rw t (early again d))
 
+-- an event that comes goes to the end of the rotation
+rotated-awaits : (w : What) (x : Obj) (p : Pool) → Awaits p → Awaits (rotated w x p)
+rotated-awaits Descriptor x p a = turned-awaits p x a
+rotated-awaits _ x p a = a
+
 turn-awaits : (f : TurnFrame) (p : Pool) → Awaits p → Awaits (pool_after (turn_step f p))
 turn-awaits Taking p a = taking p a
 turn-awaits (Timed again now) p a = timed again now p a
-turn-awaits (Starting w x now) p a = each (handler_for p w x)
+turn-awaits (Starting w x occasion) p a = each (handler_for p w x)
   where
-    each : (o : Option Handler) → Awaits (pool_after (starting_step w x now o p))
+    each : (o : Option Handler) → Awaits (pool_after (starting_step w x occasion o p))
     each None = a
-    each (Some h) = marked-awaits Busy p x refl a
+    each (Some h) = marked-awaits Busy (rotated w x p) x refl (rotated-awaits w x p a)
 turn-awaits (Handled w x) p a = each (goes_after p w x)
   where
     each : (b : Bool) → Awaits (pool_after (handled_step x b p))
@@ -208,12 +236,19 @@ turn-awaits (Handled w x) p a = each (goes_after p w x)
     each false = marked-awaits Quiet p x refl a
 turn-awaits _ p a = a
 
+-- ---- questions to the outside
+
+outside-awaits : (f : OutsideFrame) (p : Pool) → Awaits p → Awaits (pool_after (outside_step f p))
+outside-awaits (Opening fd) p a = opened-awaits p fd a
+outside-awaits _ p a = a
+
 -- ---- all
 
 -- every step leaves what waits as it must be
 pub step-awaits : (f : Frame) (fs : List Frame) (p : Pool) → Sound f fs p → Awaits p → Awaits (pool_after (step f p))
-step-awaits (frame.Call (Doing q c)) fs p s a = planned-awaits q c fs p s (planned p c) (may-planned (frame.Call (Doing q c)) fs p s c) a
+step-awaits (frame.Call (Doing q c)) fs p s a = planned-awaits q c fs p s (planned p c) (may-planned (frame.Call (Doing q c)) fs p s c) (new-events p (unwatching p s.valid a) c) a
 step-awaits (frame.Call (Asking q)) fs p s a = a
 step-awaits (frame.Call _) fs p s a = a
-step-awaits (frame.Free f) fs p s a = lifted-awaits (free_step f p) (free-awaits f fs p s a)
+step-awaits (frame.Free f) fs p s a = lifted-awaits p.ring (free_step f p) (free-awaits f fs p s a)
 step-awaits (frame.Turn f) fs p s a = turn-awaits f p a
+step-awaits (frame.Outside f) fs p s a = outside-awaits f p a

@@ -20,7 +20,7 @@ use Rattle.tree_specs.specs.Invariants.Consistent.{IsConsistent}
 use Rattle.tree_specs.specs.Invariants.Awaiting.{waits, Awaits, pool_after, AwaitsBefore}
 use Rattle.tree_specs.specs.declared.object.Obj.{Obj}
 use Rattle.tree_specs.specs.declared.moment.What.{What}
-use Rattle.tree_specs.specs.declared.moment.What.TheVariants.{Immediate, Timer}
+use Rattle.tree_specs.specs.declared.moment.What.TheVariants.{Immediate, Timer, Descriptor}
 use Rattle.tree_specs.proofs.Events.AwaitingSteps.{step-awaits}
 use Rattle.tree_specs.proofs.Rules.Rest.{whole-kept}
 use Rattle.tree_specs.proofs.Rules.StoryLaws.{asking, begin-whole, story-walk}
@@ -53,11 +53,12 @@ kept scenes w ws p h =
     both scenes w.work w.note ws p (step w.work p) (whole-kept (record { innermost = w.work; below = map work_of ws; pool = p }) 1 h.0) h.1 (step-awaits w.work (map work_of ws) p h.0.sound h.1)
 
 none-await : (first : ℕ) → Awaits (empty first)
-none-await first = record { events = λ w x h. absurd (none w x h); handlers = λ x e. refl }
+none-await first = record { events = λ w x h. absurd (none w x h); handlers = λ x e. refl; distinct = tt; watched = λ fd h. cc }
   where
     none : (w : What) (x : Obj) → waits w (empty first) x ≡ true → ⊥
     none Immediate x h = cc
     none Timer x h = cc
+    none Descriptor x h = cc
     none _ x h = cc
 
 pub story-awaits : (first : ℕ) (is : List Input) → 1 ≤ first → EachFits AwaitsBefore (story first is)

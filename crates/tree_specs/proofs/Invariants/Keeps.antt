@@ -7,20 +7,20 @@ use Rattle.tree_specs.specs.declared.reply.Reply.TheVariants as reply
 use Rattle.tree_specs.specs.declared.reply.Refusal.TheVariants as refusal
 use Rattle.tree_specs.specs.declared.frame.Frame.{Frame}
 use Rattle.tree_specs.specs.declared.frame.Frame.TheVariants as frame
-use Rattle.tree_specs.specs.declared.frame.CallFrame.TheVariants.{Asking, Doing, Awaiting, Turning, Warning, Telling, Returning}
+use Rattle.tree_specs.specs.declared.frame.CallFrame.TheVariants.{Asking, Doing, Awaiting, Turning, Announcing, Telling, Returning}
 use Rattle.tree_specs.specs.declared.frame.FreeFrame.TheVariants.{Unlinking, Releasing, Giving, Beginning, Hooked, Judged, Dooming, Leaving, Looping, AfterChild, Ending}
 use Rattle.tree_specs.specs.declared.frame.Answer.TheVariants.{Freed, Returned}
 use Rattle.tree_specs.specs.declared.free_step.FreeReply.TheVariants.{Ok}
 use Rattle.tree_specs.specs.Tree.Pool.{Pool}
 use Rattle.tree_specs.specs.Calls.Plans.{Plan, planned}
-use Rattle.tree_specs.specs.Calls.Plans.Plan.{Does, Frees, Unlinks, Empties, AsksTime, Turns}
-use Rattle.tree_specs.specs.Rules.Story.{later}
+use Rattle.tree_specs.specs.Calls.Plans.Plan.{Does, Frees, Unlinks, Empties, Asks, Turns}
+use Rattle.tree_specs.specs.Rules.Answers.{later}
 use Rattle.tree_specs.specs.Machine.Table.{step, plan_step, turning_step}
 use Rattle.tree_specs.specs.Invariants.Sound.{Sound}
 use Rattle.tree_specs.proofs.Invariants.Changes.{stands, goes_on, placed-sound}
 use Rattle.tree_specs.proofs.Calls.Plans.{May, change-sound, may-planned}
 use Rattle.tree_specs.proofs.Invariants.KeptFrees.{KeptBy, asking, beginning, dooming, ended, hooked, judged, leaving, looping, releasing, still-there, tried, unlinking}
-use Rattle.tree_specs.proofs.Invariants.KeptTurns.{turn-kept}
+use Rattle.tree_specs.proofs.Invariants.KeptTurns.{turn-kept, outside-kept}
 
 turning-kept : (q : Ask) (c : Call) (fs : List Frame) (p : Pool) (k : ℕ) → Sound (frame.Call (Doing q c)) fs p → KeptBy (turning_step q p) fs k
 turning-kept Quiet c fs p k s = stands _ _ fs (frame.Call (Turning Quiet) ∷ fs) p (λ y. refl) (tt, s.waiting) tt s
@@ -29,18 +29,18 @@ turning-kept q c fs p k s = goes_on (frame.Call (Doing q c)) (frame.Call (Tellin
 -- the first step of a plan that may be carried out
 planned-kept : (q : Ask) (c : Call) (fs : List Frame) (p : Pool) (k : ℕ) → Sound (frame.Call (Doing q c)) fs p → (plan : Plan) → May p plan → KeptBy (plan_step q plan p) fs k
 planned-kept q c fs p k s (Does change None r) may = change-sound (frame.Call (Doing q c)) (frame.Call (Telling (later q r) r)) fs p change s may.0 (λ y. refl) (λ p'. tt) tt
-planned-kept q c fs p k s (Does change (Some x) r) may = change-sound (frame.Call (Doing q c)) (frame.Call (Warning (later q r) x r)) fs p change s may.0 (λ y. refl) (λ p'. tt) tt
+planned-kept q c fs p k s (Does change (Some notice) r) may = change-sound (frame.Call (Doing q c)) (frame.Call (Announcing (later q r) notice r)) fs p change s may.0 (λ y. refl) (λ p'. tt) tt
 planned-kept q c fs p k s (Frees x) may = stands _ _ fs (frame.Call (Awaiting q x) ∷ fs) p (λ y. refl) (tt, s.waiting) may s
 planned-kept q c fs p k s (Unlinks o x) may = stands _ _ fs (frame.Call (Awaiting q x) ∷ fs) p (λ y. refl) (tt, s.waiting) (tt, may.0, may.1, may.2, may.3) s
 planned-kept q c fs p k s (Empties x) may = stands _ _ fs (frame.Call (Awaiting q x) ∷ fs) p (λ y. refl) (tt, s.waiting) tt s
-planned-kept q c fs p k s AsksTime may = stands _ _ fs (frame.Call (Turning q) ∷ fs) p (λ y. refl) (tt, s.waiting) tt s
+planned-kept q c fs p k s (Asks outside) may = stands _ _ fs (frame.Call (Turning q) ∷ fs) p (λ y. refl) (tt, s.waiting) tt s
 planned-kept q c fs p k s Turns may = turning-kept q c fs p k s
 
 -- every step keeps what is sound
 pub sound-kept : (f : Frame) (fs : List Frame) (p : Pool) (k : ℕ) → Sound f fs p → KeptBy (step f p) fs k
 sound-kept (frame.Call (Asking q)) fs p k s = asking q fs p k s
 sound-kept (frame.Call (Doing q c)) fs p k s = planned-kept q c fs p k s (planned p c) (may-planned (frame.Call (Doing q c)) fs p s c)
-sound-kept (frame.Call (Warning q x r)) fs p k s = goes_on (frame.Call (Warning q x r)) (frame.Call (Telling q r)) fs p (λ y. refl) tt s
+sound-kept (frame.Call (Announcing q notice r)) fs p k s = goes_on (frame.Call (Announcing q notice r)) (frame.Call (Telling q r)) fs p (λ y. refl) tt s
 sound-kept (frame.Call (Telling q r)) fs p k s = goes_on (frame.Call (Telling q r)) (frame.Call (Asking q)) fs p (λ x. refl) tt s
 sound-kept (frame.Call (Returning v)) fs p k s = ended (Returned v) (frame.Call (Returning v)) fs p k s (λ x. refl) (λ x c n b gs e. tt)
 sound-kept (frame.Free (Unlinking o x)) fs p k s = unlinking o x fs p k s
@@ -55,5 +55,6 @@ sound-kept (frame.Free (Looping x purpose)) fs p k s = looping x purpose fs p k 
 sound-kept (frame.Free (AfterChild x c noted purpose a)) fs p k s = tried x c noted purpose a fs p k s
 sound-kept (frame.Free (Ending a)) fs p k s = ended (Freed a) (frame.Free (Ending a)) fs p k s (λ x. refl) (λ x c n b gs e. still-there a x c n p s.rests.0)
 sound-kept (frame.Turn f) fs p k s = turn-kept f fs p k s
+sound-kept (frame.Outside f) fs p k s = outside-kept f fs p k s
 -- a work that waits is not the innermost
 sound-kept _ fs p k s = absurd s.rests

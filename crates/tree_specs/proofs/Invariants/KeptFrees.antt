@@ -17,6 +17,7 @@ use Rattle.tree_specs.specs.declared.frame.Frame.{Frame}
 use Rattle.tree_specs.specs.declared.frame.Frame.TheVariants as frame
 use Rattle.tree_specs.specs.declared.frame.CallFrame.TheVariants.{Asking, Doing, Awaiting, Turning, Returning}
 use Rattle.tree_specs.specs.declared.frame.TurnFrame.TheVariants.{Handling, Clearing}
+use Rattle.tree_specs.specs.declared.frame.FreeFrame.{FreeFrame}
 use Rattle.tree_specs.specs.declared.frame.FreeFrame.TheVariants.{Unlinking, Releasing, Giving, Beginning, Hooked, Judged, Dooming, Leaving, Looping, FreeingChild, AfterChild, Ending}
 use Rattle.tree_specs.specs.declared.frame.Purpose.{Purpose}
 use Rattle.tree_specs.specs.declared.frame.Purpose.TheVariants.{Removal, Emptying}
@@ -25,10 +26,12 @@ use Rattle.tree_specs.specs.declared.frame.Answer.TheVariants.{Freed}
 use Rattle.tree_specs.specs.declared.free_step.FreeReply.{FreeReply}
 use Rattle.tree_specs.specs.declared.free_step.FreeReply.TheVariants.{Ok, Held, Running, Refused}
 use Rattle.tree_specs.specs.Words.Objects.{same}
-use Rattle.tree_specs.specs.Tree.Pool.{Pool, row_of, target_in, target_at, newest_ref_of, owner_in, owner_at, noted_owner, is_owner, is_below, owner_of, is_inside, first_kid, without, changed, remove, left_row, set_mark, doom, marked_row, hooked_row}
+use Rattle.tree_specs.specs.Events.Rotation.{closes_with}
+use Rattle.tree_specs.specs.Tree.Pool.{Pool, row_of, target_in, target_at, newest_ref_of, owner_in, owner_at, noted_owner, is_owner, is_below, owner_of, is_inside, first_kid, without, changed, remove, detach, left_row, set_mark, doom, marked_row, hooked_row}
 use Rattle.tree_specs.specs.Rules.Items.{Item}
-use Rattle.tree_specs.specs.Rules.Story.{hook_moment}
-use Rattle.tree_specs.specs.Machine.Table.{table, step, lifted, begin_quiet, begin_step, drop_step, refs_step, unlink_step, release_step, judge_step, last_step, child_step, loop_step, hand_on_step, reply_in, resume}
+use Rattle.tree_specs.specs.Rules.Answers.{hook_moment}
+use Rattle.tree_specs.specs.Machine.FreeTable.{begin_quiet, begin_step, drop_step, refs_step, unlink_step, release_step, judge_step, last_step, child_step, loop_step, hand_on_step}
+use Rattle.tree_specs.specs.Machine.Table.{table, step, closed_event, announced, lifted, reply_in, resume}
 use Rattle.tree_specs.specs.Tree.Heirs.{heir}
 use Rattle.tree_specs.specs.Invariants.Sound.{Owned, Shaped, ValidAt, phase_of, phases, claim, claims, AllWait, IsLive, IsReferable, NotedFor, Tries, StillThere, Refers, IsQuietRow, IsOver, MayAnswer, IsCalled, IsGivenUp, MayBePlaced, Sound, Footing, footing}
 use Rattle.tree_specs.specs.Invariants.Sound.Footing.{OnCall, OnFree, AtBottom}
@@ -66,7 +69,7 @@ ended a f (g ∷ gs) p k s none there = below g (waiter g gs s.waiting.0) s ther
     below _ (ForFree q x) s there = stands f _ (frame.Call (Awaiting q x) ∷ gs) gs p (λ y. rw (none y) refl) s.waiting.1 tt s
     below _ (ForRun x h) s there = stands f _ (frame.Free (Hooked x h) ∷ gs) gs p (λ y. rw (none y) refl) s.waiting.1 s.waiting.0 s
     below _ (ForTurn q) s there = stands f _ (frame.Call (Turning q) ∷ gs) gs p (λ y. rw (none y) refl) s.waiting.1 tt s
-    below _ (ForHandler what x handler now) s there = stands f _ (frame.Turn (Handling what x handler now) ∷ gs) gs p (λ y. rw (none y) refl) s.waiting.1 s.waiting.0 s
+    below _ (ForHandler what x handler occasion) s there = stands f _ (frame.Turn (Handling what x handler occasion) ∷ gs) gs p (λ y. rw (none y) refl) s.waiting.1 s.waiting.0 s
     below _ (ForClear x) s there = stands f _ (frame.Turn (Clearing x) ∷ gs) gs p (λ y. rw (none y) refl) s.waiting.1 s.waiting.0 s
     below _ (ForChild x c noted purpose) s there = stands f _ (frame.Free (FreeingChild x c noted purpose) ∷ gs) gs p (λ y. rw (none y) refl) s.waiting.1 (there x c noted purpose gs refl, s.waiting.0) s
 
@@ -76,6 +79,11 @@ still-there Running x c noted p h = absurd h
 still-there _ x c noted p h = tt
 
 -- ---- freeing
+
+-- a step that may tell that a descriptor was closed
+closing : (o : Option ℕ) (f : FreeFrame) (fs : List Frame) (p : Pool) (k : ℕ) → Sound (frame.Free f) fs p → KeptBy (announced (closed_event o) f p) fs k
+closing None f fs p k s = s
+closing (Some fd) f fs p k s = s
 
 pub leaving : (x : Obj) (h : ℕ) (fs : List Frame) (p : Pool) (k : ℕ) → Sound (frame.Free (Leaving x h)) fs p → KeptBy (step (frame.Free (Leaving x h)) p) fs k
 leaving x h fs p k s =
@@ -87,7 +95,7 @@ leaving x h fs p k s =
     let unreferred : newest_ref p.rows x ≡ None = s.rests.5 in
     let new : row_of (changed left_row p.rows x) x ≡ Some (left_row r) = row_of-changed-same left_row p.rows x r (λ q. refl) e in
     let other : (y : Obj) → x ≢ y → row_of (changed left_row p.rows x) y ≡ row_of p.rows y = (λ y ne. row_of-changed-other left_row p.rows x y (λ q. refl) ne) in
-    record {
+    closing (closes_with p.ring x) (Looping x (Removal h)) fs (detach p x) k (record {
       started = s.started;
       valid = valid-at p.next p.rows (changed left_row p.rows x) x s.valid other (rw new (v.0, v.1, left r.owner (live-owned r.mark r.owner x s.rests.2 v.2)));
       forest = forest-left p.rows x s.forest;
@@ -98,7 +106,7 @@ leaving x h fs p k s =
           (rw (self, none, new) refl);
       waiting = s.waiting;
       rests = tt;
-    }
+    })
   where
     left : (o : Option Owner) → Owned o x → Shaped (Dying (unwrap_or o Root)) None x
     left (Some o) h = h
@@ -125,15 +133,15 @@ removed x h fs p alone s =
 pub looping : (x : Obj) (purpose : Purpose) (fs : List Frame) (p : Pool) (k : ℕ) → Sound (frame.Free (Looping x purpose)) fs p → KeptBy (step (frame.Free (Looping x purpose)) p) fs k
 looping x purpose fs p k s = each (first_kid p.rows (Of x)) refl
   where
-    last : (purpose : Purpose) → first_kid p.rows (Of x) ≡ None → Sound (frame.Free (Looping x purpose)) fs p → KeptBy (lifted (last_step x purpose p)) fs k
+    last : (purpose : Purpose) → first_kid p.rows (Of x) ≡ None → Sound (frame.Free (Looping x purpose)) fs p → KeptBy (lifted p.ring (last_step x purpose p)) fs k
     last (Removal h) e s = removed x h fs p e s
     last Emptying e s = ended (Freed Ok) (frame.Free (Looping x Emptying)) fs p k s (λ y. refl) (λ y c n b gs q. tt)
 
-    each : (o : Option Obj) → first_kid p.rows (Of x) ≡ o → KeptBy (lifted (loop_step x purpose (first_kid p.rows (Of x)) p)) fs k
+    each : (o : Option Obj) → first_kid p.rows (Of x) ≡ o → KeptBy (lifted p.ring (loop_step x purpose (first_kid p.rows (Of x)) p)) fs k
     each None e = rw e (last purpose e s)
     each (Some c) e = rw e (child (target_at p.rows c) refl)
       where
-        child : (o : Option Obj) → target_at p.rows c ≡ o → KeptBy (lifted (child_step x c purpose (target_at p.rows c) p)) fs k
+        child : (o : Option Obj) → target_at p.rows c ≡ o → KeptBy (lifted p.ring (child_step x c purpose (target_at p.rows c) p)) fs k
         child None t = rw t (stands (frame.Free (Looping x purpose)) (frame.Free (Beginning c)) fs (frame.Free (FreeingChild x c (noted_owner p.rows c) purpose) ∷ fs) p (λ y. refl) (s.rests, s.waiting)
             ((refl, first_kid-owner p.rows (Of x) c s.forest.distinct e, inl refl), t) s)
         child (Some target) t = rw t (dropped-sound (frame.Free (Looping x purpose)) (frame.Free (Looping x purpose)) fs p c target s t (λ y. refl) s.rests)
@@ -143,7 +151,7 @@ pub tried : (x c : Obj) (noted : Option Owner) (purpose : Purpose) (a : FreeRepl
     → KeptBy (step (frame.Free (AfterChild x c noted purpose a)) p) fs k
 tried x c noted purpose a fs p k s = each a s
   where
-    handed : (b : FreeReply) → Sound (frame.Free (AfterChild x c noted purpose b)) fs p → KeptBy (lifted (hand_on_step x c noted purpose p)) fs k
+    handed : (b : FreeReply) → Sound (frame.Free (AfterChild x c noted purpose b)) fs p → KeptBy (lifted p.ring (hand_on_step x c noted purpose p)) fs k
     handed b s = by_test (is_below (owner_of p.rows c) (Of x))
         (λ t. rw t (placed-sound (frame.Free (AfterChild x c noted purpose b)) (frame.Free (Looping x purpose)) (heir p.rows x c noted) c fs p s (heir-placed x c noted _ fs p s t) (λ y. refl) s.rests.1))
         (λ t. rw t (goes_on (frame.Free (AfterChild x c noted purpose b)) (frame.Free (Looping x purpose)) fs p (λ y. refl) s.rests.1 s))
@@ -195,7 +203,7 @@ may-hold x r (g ∷ gs) p s newest = below g (waiter g gs s.waiting.0) s.rests.0
     below _ (ForClear y) t = let bad : None ≡ Some r = sym t ∙ newest in cc
     below _ _ t = tt
 
-drops : (x r : Obj) (fs : List Frame) (p : Pool) (k : ℕ) → Sound (frame.Free (Beginning x)) fs p → newest_ref p.rows x ≡ Some r → KeptBy (lifted (drop_step x r p)) fs k
+drops : (x r : Obj) (fs : List Frame) (p : Pool) (k : ℕ) → Sound (frame.Free (Beginning x)) fs p → newest_ref p.rows x ≡ Some r → KeptBy (lifted p.ring (drop_step x r p)) fs k
 drops x r fs p k s newest =
     let w = newest-refers p.rows x r s.forest.distinct newest in
     let is : target_at p.rows r ≡ Some x = rw w.1 w.2 in
@@ -249,7 +257,7 @@ beginning x fs p k s = newest (newest_ref p.rows x) refl
     object r e = let t : target_in (Some r) ≡ None = rw e at s.rests.1 in t
 
     -- the claims on an event stay when it is doomed
-    dooms : newest_ref p.rows x ≡ None → (r : Row) → row_of p.rows x ≡ Some r → r.mark ≡ Busy → KeptBy (Do.Go (frame.Free (Dooming x)) (doom p x)) fs k
+    dooms : newest_ref p.rows x ≡ None → (r : Row) → row_of p.rows x ≡ Some r → r.mark ≡ Busy → KeptBy (announced (closed_event (closes_with p.ring x)) (Dooming x) (doom p x)) fs k
     dooms none r e m =
         let same_owner : owner_of (doom p x).rows x ≡ owner_of p.rows x = rw (e, row_of-changed-same (marked_row Doomed) p.rows x r (λ q. refl) e) refl in
         let unreferred : newest_ref (doom p x).rows x ≡ None = newest-changed (marked_row Doomed) p.rows x x (λ q. refl) (λ q. refl) ∙ none in
@@ -257,9 +265,9 @@ beginning x fs p k s = newest (newest_ref p.rows x) refl
         (λ q is. (tries-same x (footing fs) p q none (rw is unreferred) (rw is same_owner) s.rests.0, rw is unreferred)) in
         let t : Sound (frame.Free (Dooming x)) fs (set_mark p x Doomed) = changed-sound (marked_row Doomed) (frame.Free (Beginning x)) (frame.Free (Dooming x)) fs fs p x r s (marks-place Doomed) e
         (live-owned r.mark r.owner x (rw m tt) (shape-of p x r s.valid e)) (object r e) (inr none) (λ y ne. refl) (s.open_frees x ∙ ap phases e ∙ ap phase_of m) s.waiting (rests (set_mark p x Doomed) refl) in
-        waiting-sound (frame.Free (Dooming x)) (frame.Free (Dooming x)) fs (set_mark p x Doomed) (doom p x) t refl refl (λ y. refl) (rests (doom p x) refl)
+        closing (closes_with p.ring x) (Dooming x) fs (doom p x) k (waiting-sound (frame.Free (Dooming x)) (frame.Free (Dooming x)) fs (set_mark p x Doomed) (doom p x) t refl refl (λ y. refl) (rests (doom p x) refl))
 
-    quiet : newest_ref p.rows x ≡ None → (r : Row) → row_of p.rows x ≡ Some r → r.mark ≡ Quiet → KeptBy (lifted (begin_quiet x r.hook p)) fs k
+    quiet : newest_ref p.rows x ≡ None → (r : Row) → row_of p.rows x ≡ Some r → r.mark ≡ Quiet → KeptBy (lifted p.ring (begin_quiet x r.hook p)) fs k
     quiet unreferred r e m =
         let none : claims x fs ≡ [] = s.open_frees x ∙ ap phases e ∙ ap phase_of m in
         let self : same x x ≡ true = same-equal x x refl in
@@ -270,18 +278,18 @@ beginning x fs p k s = newest (newest_ref p.rows x) refl
         (λ y ne. let u : same x y ≡ false = same-false x y ne in rw u refl) (rw (self, none) refl) s.waiting
         (positive r.hook t, rw (row_of-changed-same (marked_row Asked) p.rows x r (λ q. refl) e) refl)))
 
-    marks : newest_ref p.rows x ≡ None → (r : Row) (m : Mark) → r.mark ≡ m → row_of p.rows x ≡ Some r → KeptBy (lifted (begin_step x (row_of p.rows x) p)) fs k
+    marks : newest_ref p.rows x ≡ None → (r : Row) (m : Mark) → r.mark ≡ m → row_of p.rows x ≡ Some r → KeptBy (lifted p.ring (begin_step x (row_of p.rows x) p)) fs k
     marks none r Quiet m e = rw (e, m) (quiet none r e m)
     marks none r Asked m e = rw (e, m) (runs none)
     marks none r Busy m e = rw (e, m) (dooms none r e m)
     marks none r Doomed m e = rw (e, m) (runs none)
     marks none r (Dying former) m e = rw (e, m) over
 
-    each : newest_ref p.rows x ≡ None → (o : Option Row) → row_of p.rows x ≡ o → KeptBy (lifted (begin_step x (row_of p.rows x) p)) fs k
+    each : newest_ref p.rows x ≡ None → (o : Option Row) → row_of p.rows x ≡ o → KeptBy (lifted p.ring (begin_step x (row_of p.rows x) p)) fs k
     each none None e = rw e over
     each none (Some r) e = marks none r r.mark refl e
 
-    newest : (o : Option Obj) → newest_ref p.rows x ≡ o → KeptBy (lifted (refs_step x (newest_ref p.rows x) p)) fs k
+    newest : (o : Option Obj) → newest_ref p.rows x ≡ o → KeptBy (lifted p.ring (refs_step x (newest_ref p.rows x) p)) fs k
     newest None e = rw e (each e (row_of p.rows x) refl)
     newest (Some r) e = rw e (drops x r fs p k s e)
 
@@ -301,7 +309,7 @@ given_up-object x fs p h = rw h.2 h.4
 pub unlinking : (o : Owner) (x : Obj) (fs : List Frame) (p : Pool) (k : ℕ) → Sound (frame.Free (Unlinking o x)) fs p → KeptBy (step (frame.Free (Unlinking o x)) p) fs k
 unlinking o x fs p k s = each (newest_ref_of p.rows o x) refl
   where
-    each : (n : Option Obj) → newest_ref_of p.rows o x ≡ n → KeptBy (lifted (unlink_step x (newest_ref_of p.rows o x) p)) fs k
+    each : (n : Option Obj) → newest_ref_of p.rows o x ≡ n → KeptBy (lifted p.ring (unlink_step x (newest_ref_of p.rows o x) p)) fs k
     each None e = rw e (goes_on (frame.Free (Unlinking o x)) (frame.Free (Releasing x)) fs p (λ y. refl) s.rests s)
     each (Some r) e =
         let w = newest-of-refers p.rows o x r s.forest.distinct e in
@@ -352,7 +360,7 @@ releasing x fs p k s = each (newest_ref p.rows x) refl
         below _ (ForClear y) c = e
         below _ _ c = absurd c
 
-    each : (n : Option Obj) → newest_ref p.rows x ≡ n → KeptBy (lifted (release_step x (newest_ref p.rows x) p)) fs k
+    each : (n : Option Obj) → newest_ref p.rows x ≡ n → KeptBy (lifted p.ring (release_step x (newest_ref p.rows x) p)) fs k
     each None e = rw e (goes_on (frame.Free (Releasing x)) (frame.Free (Beginning x)) fs p (λ y. refl) (tries e fs s.waiting s.rests.0, given_up-object x fs p s.rests) s)
     each (Some r) e =
         let w = newest-refers p.rows x r s.forest.distinct e in
@@ -379,7 +387,7 @@ judged x h v fs p k s =
     hh : nat_eq h 0 ≡ false
     hh = not-zero h s.rests
 
-    by-row : (r : Row) → row_of p.rows x ≡ Some r → IsLive r.mark → claims x fs ≡ [] → InRun ∷ claims x fs ≡ phases (row_of p.rows x) → KeptBy (lifted (judge_step x h v p)) fs k
+    by-row : (r : Row) → row_of p.rows x ≡ Some r → IsLive r.mark → claims x fs ≡ [] → InRun ∷ claims x fs ≡ phases (row_of p.rows x) → KeptBy (lifted p.ring (judge_step x h v p)) fs k
     by-row r e live none phase =
         let object : target_of r.kind ≡ None = (let t : target_at p.rows x ≡ None = run-refers p.rows x (claims x fs) s.refers phase in let t' : target_in (Some r) ≡ None = rw e at t in t') in
         let unreferred : newest_ref p.rows x ≡ None = run-unreferred p.rows x (claims x fs) s.forest.distinct s.refers phase in

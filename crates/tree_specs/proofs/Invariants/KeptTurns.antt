@@ -5,27 +5,32 @@ use Rattle.tree_specs.specs.declared.row.Row.{Row}
 use Rattle.tree_specs.specs.declared.row.Mark.TheVariants.{Quiet, Busy}
 use Rattle.tree_specs.specs.declared.handler.Handler.{Handler}
 use Rattle.tree_specs.specs.declared.moment.What.{What}
+use Rattle.tree_specs.specs.declared.occasion.Occasion.{Occasion}
 use Rattle.tree_specs.specs.declared.question.Ask.TheVariants.{Routine}
+use Rattle.tree_specs.specs.declared.reply.Reply.TheVariants.{Number}
 use Rattle.tree_specs.specs.declared.frame.Frame.{Frame}
 use Rattle.tree_specs.specs.declared.frame.Frame.TheVariants as frame
 use Rattle.tree_specs.specs.declared.frame.CallFrame.TheVariants.{Asking}
 use Rattle.tree_specs.specs.declared.frame.FreeFrame.TheVariants.{Beginning}
 use Rattle.tree_specs.specs.declared.frame.TurnFrame.{TurnFrame}
-use Rattle.tree_specs.specs.declared.frame.TurnFrame.TheVariants.{Taking, Timing, Timed, Polling, Starting, Firing, Handling, Handled, Clearing, Reading, Closing}
-use Rattle.tree_specs.specs.declared.frame.Answer.TheVariants.{Turned}
+use Rattle.tree_specs.specs.declared.frame.TurnFrame.TheVariants.{Taking, Timing, Timed, Polling, Starting, Firing, Handling, Handled, Clearing, Closing}
+use Rattle.tree_specs.specs.declared.frame.OutsideFrame.{OutsideFrame}
+use Rattle.tree_specs.specs.declared.frame.OutsideFrame.TheVariants.{Reaching, Opening, Hearing}
+use Rattle.tree_specs.specs.declared.frame.Answer.TheVariants.{Turned, Heard}
 use Rattle.tree_specs.specs.Words.Objects.{same}
 use Rattle.tree_specs.specs.Tree.Targets.{target_of, newest_ref}
-use Rattle.tree_specs.specs.Tree.Pool.{Pool, row_of, target_at, changed, set_mark, marked_row}
-use Rattle.tree_specs.specs.Events.Coming.{handler_for, handler_moment, goes_after}
+use Rattle.tree_specs.specs.Tree.Pool.{Pool, row_of, target_at, changed, set_mark, marked_row, open_descriptor}
+use Rattle.tree_specs.specs.Events.Coming.{handler_for, handler_moment, rotated, begun, goes_after}
 use Rattle.tree_specs.specs.Machine.Profiles.{InHandler, turn_profile}
-use Rattle.tree_specs.specs.Machine.Table.{Step, starting_step, turn_step}
+use Rattle.tree_specs.specs.Machine.Table.{Step, starting_step, turn_step, outside_step}
 use Rattle.tree_specs.specs.Invariants.Sound.{phase_of, phases, claim, claim_by, claims, footing, AllWait, IsLive, IsReferable, IsTurned, Rests, Sound}
 use Rattle.tree_specs.proofs.Tree.Numbered.{by_test, same-equal, same-false}
 use Rattle.tree_specs.proofs.Tree.Rows.{row_of-changed-same}
 use Rattle.tree_specs.proofs.Tree.Referring.{unreferred, newest-changed}
 use Rattle.tree_specs.proofs.Invariants.Changes.{run-refers, run-unreferred, handling-row, claim-here, stands, goes_on, waiting-sound, changed-sound, shape-of, live-owned, marks-place}
 use Rattle.tree_specs.proofs.Invariants.KeptFrees.{KeptBy, ended}
-use Rattle.tree_specs.proofs.Invariants.Turning.{Ready, handler-ready, IsPlain, Passes, Pass, look-passes, taken-plain}
+use Rattle.tree_specs.proofs.Invariants.Turning.{Ready, handler-ready, rotated-rows, IsPlain, Passes, Pass, look-passes, taken-plain}
+use Rattle.tree_specs.proofs.Calls.Checks.{Reached, ReachedOpening, ReachedHearing, reached-leads}
 
 -- a work that says nothing of an object, over the same rows, in the place of another one
 plain-sound : (f g : TurnFrame) (steps : ℕ) (fs : List Frame) (p q : Pool) → q.rows ≡ p.rows → q.next ≡ p.next → (turn_profile f).claims ≡ None → IsPlain g steps → IsTurned (footing fs)
@@ -37,17 +42,25 @@ passes-kept : (f : TurnFrame) (fs : List Frame) (p : Pool) (k : ℕ) (m : Step) 
 passes-kept f fs p k _ none turned s (Pass g q rows next plain) = plain-sound f g 4 fs p q rows next none plain turned s
 
 -- an event with which nothing goes on becomes busy
-starts : (w : What) (x : Obj) (now : ℕ) (h : Handler) (fs : List Frame) (p : Pool) → Sound (frame.Turn (Starting w x now)) fs p → Ready p.rows w x
-    → Sound (frame.Turn (Firing w x h now)) fs (set_mark p x Busy)
-starts w x now h fs p s ready =
+starts : (w : What) (x : Obj) (o : Occasion) (h : Handler) (fs : List Frame) (p : Pool) → Sound (frame.Turn (Starting w x o)) fs p → Ready p.rows w x
+    → Sound (frame.Turn (Firing w x h o)) fs (set_mark p x Busy)
+starts w x o h fs p s ready =
     let r : Row = ready.row in
     let self : same x x ≡ true = same-equal x x refl in
     let none : claims x fs ≡ [] = s.open_frees x ∙ ap phases ready.is ∙ ap phase_of ready.quiet in
-    changed-sound (marked_row Busy) (frame.Turn (Starting w x now)) (frame.Turn (Firing w x h now)) fs fs p x r s (marks-place Busy) ready.is
+    changed-sound (marked_row Busy) (frame.Turn (Starting w x o)) (frame.Turn (Firing w x h o)) fs fs p x r s (marks-place Busy) ready.is
     (live-owned r.mark r.owner x (rw ready.quiet tt) (shape-of p x r s.valid ready.is)) ready.object
     (inr (unreferred p.rows x s.forest.distinct (λ q. let q' : IsReferable (Some r) = rw ready.is at q in let bad : true ≡ false = sym q'.0 ∙ ready.event in cc) s.refers))
     (λ y ne. let u : same x y ≡ false = same-false x y ne in rw u refl) (rw (self, none) refl) s.waiting
     (s.rests, marked_row Busy r, row_of-changed-same (marked_row Busy) p.rows x r (λ q. refl) ready.is, ready.comes, refl)
+
+-- and goes to the end of the rotation before
+begins : (w : What) (x : Obj) (o : Occasion) (h : Handler) (fs : List Frame) (p : Pool) → Sound (frame.Turn (Starting w x o)) fs p → Ready p.rows w x
+    → Sound (frame.Turn (Firing w x h o)) fs (begun w x p)
+begins w x o h fs p s ready =
+    let f : Frame = frame.Turn (Starting w x o) in
+    let r = rotated-rows w x p in
+    starts w x o h fs (rotated w x p) (waiting-sound f f fs p (rotated w x p) s r.0 r.1 (λ y. refl) s.rests) (rw r.0 ready)
 
 -- ---- a handler has returned
 
@@ -79,12 +92,12 @@ module _ (w : What) (x : Obj) (fs : List Frame) (p : Pool) (s : Sound (frame.Tur
 
 -- ---- all
 
-starting-kept : (w : What) (x : Obj) (now : ℕ) (fs : List Frame) (p : Pool) (k : ℕ) → Sound (frame.Turn (Starting w x now)) fs p → KeptBy (turn_step (Starting w x now) p) fs k
-starting-kept w x now fs p k s = each (handler_for p w x) refl
+starting-kept : (w : What) (x : Obj) (o : Occasion) (fs : List Frame) (p : Pool) (k : ℕ) → Sound (frame.Turn (Starting w x o)) fs p → KeptBy (turn_step (Starting w x o) p) fs k
+starting-kept w x o fs p k s = each (handler_for p w x) refl
   where
-    each : (o : Option Handler) → handler_for p w x ≡ o → KeptBy (starting_step w x now (handler_for p w x) p) fs k
-    each None e = rw e (goes_on (frame.Turn (Starting w x now)) (frame.Turn (Closing 1)) fs p (λ y. refl) s.rests s)
-    each (Some h) e = rw e (starts w x now h fs p s (handler-ready p w x h e))
+    each : (n : Option Handler) → handler_for p w x ≡ n → KeptBy (starting_step w x o (handler_for p w x) p) fs k
+    each None e = rw e (goes_on (frame.Turn (Starting w x o)) (frame.Turn (Closing 1)) fs p (λ y. refl) s.rests s)
+    each (Some h) e = rw e (begins w x o h fs p s (handler-ready p w x h e))
 
 -- a work that asks, with its answer
 asked-kept : (f : TurnFrame) (fs : List Frame) (p : Pool) → (turn_profile f).claims ≡ None → IsTurned (footing fs) → Sound (frame.Turn f) fs p → (t : TurnFrame) → IsPlain t 5
@@ -98,12 +111,24 @@ turn-kept (Timing again) fs p zero s = tt
 turn-kept (Timing again) fs p (suc k) s = λ i g e. (let t = taken-plain (Timing again) p i g e in subst (λ (z : Frame). Sound z fs p) (sym t.1) (asked-kept (Timing again) fs p refl s.rests s t.0 t.2))
 turn-kept (Polling limit) fs p zero s = tt
 turn-kept (Polling limit) fs p (suc k) s = λ i g e. (let t = taken-plain (Polling limit) p i g e in subst (λ (z : Frame). Sound z fs p) (sym t.1) (asked-kept (Polling limit) fs p refl s.rests s t.0 t.2))
-turn-kept Reading fs p zero s = tt
-turn-kept Reading fs p (suc k) s = λ i g e. (let t = taken-plain Reading p i g e in subst (λ (z : Frame). Sound z fs p) (sym t.1) (asked-kept Reading fs p refl s.rests s t.0 t.2))
-turn-kept (Starting w x now) fs p k s = starting-kept w x now fs p k s
-turn-kept (Firing w x h now) fs p k s = goes_on (frame.Turn (Firing w x h now)) (frame.Turn (Handling w x h now)) fs p (λ y. refl) (s.rests.0, s.rests.1.kind, s.rests.3) s
-turn-kept (Handling w x h now) fs p k s =
-    stands (frame.Turn (Handling w x h now)) (frame.Call (Asking (Routine (handler_moment w x h now)))) fs (frame.Turn (Handling w x h now) ∷ fs) p (λ y. refl) (s.rests.0, s.waiting) tt s
+turn-kept (Starting w x o) fs p k s = starting-kept w x o fs p k s
+turn-kept (Firing w x h o) fs p k s = goes_on (frame.Turn (Firing w x h o)) (frame.Turn (Handling w x h o)) fs p (λ y. refl) (s.rests.0, s.rests.1.kind, s.rests.3) s
+turn-kept (Handling w x h o) fs p k s =
+    stands (frame.Turn (Handling w x h o)) (frame.Call (Asking (Routine (handler_moment w x h o)))) fs (frame.Turn (Handling w x h o) ∷ fs) p (λ y. refl) (s.rests.0, s.waiting) tt s
 turn-kept (Handled w x) fs p k s = handled-kept w x fs p s k
 turn-kept (Clearing x) fs p k s = absurd s.rests
 turn-kept (Closing v) fs p k s = ended (Turned v) (frame.Turn (Closing v)) fs p k s (λ x. refl) (λ x c n b gs e. tt)
+
+-- ---- a question to the outside
+
+pub outside-kept : (f : OutsideFrame) (fs : List Frame) (p : Pool) (k : ℕ) → Sound (frame.Outside f) fs p → KeptBy (outside_step f p) fs k
+outside-kept (Reaching q) fs p zero s = tt
+outside-kept (Reaching q) fs p (suc k) s = λ i g e. leads g (reached-leads p q i g e)
+  where
+    leads : (g : Frame) → Reached p g → Sound g fs p
+    leads _ (ReachedOpening fd number closed) = goes_on (frame.Outside (Reaching q)) (frame.Outside (Opening fd)) fs p (λ y. refl) s.rests s
+    leads _ (ReachedHearing r) = goes_on (frame.Outside (Reaching q)) (frame.Outside (Hearing r)) fs p (λ y. refl) s.rests s
+outside-kept (Opening fd) fs p k s =
+    let f : Frame = frame.Outside (Opening fd) in
+    ended (Heard (Number fd)) f fs (open_descriptor p fd) k (waiting-sound f f fs p (open_descriptor p fd) s refl refl (λ y. refl) s.rests) (λ x. refl) (λ x c n b gs e. tt)
+outside-kept (Hearing r) fs p k s = ended (Heard r) (frame.Outside (Hearing r)) fs p k s (λ x. refl) (λ x c n b gs e. tt)

@@ -1,6 +1,6 @@
 -- How a turn goes on: what is to start, and the works that it goes on as.
 use Rattle.std.proofs.Common.{◌≡◌, ℕ, ◌≤◌, List, Option, Some, None, true, false, nat_eq, nat_le, Bool, refl, ◌∙◌, arith}
-use Rattle.std.specs.Prelude.{◌&&◌, ◌-◌}
+use Rattle.std.specs.Prelude.{◌-◌}
 use Rattle.step_machine.specs.Machine.{Move as Do}
 use Rattle.tree_specs.specs.declared.object.Obj.{Obj}
 use Rattle.tree_specs.specs.declared.due.Due.{Due}
@@ -11,22 +11,24 @@ use Rattle.tree_specs.specs.declared.kind.Kind.{Kind}
 use Rattle.tree_specs.specs.declared.kind.Kind.TheVariants as kind
 use Rattle.tree_specs.specs.declared.handler.Handler.{Handler}
 use Rattle.tree_specs.specs.declared.moment.What.{What}
-use Rattle.tree_specs.specs.declared.moment.What.TheVariants.{Immediate as ForImmediate, Timer as ForTimer}
+use Rattle.tree_specs.specs.declared.moment.What.TheVariants.{Immediate as ForImmediate, Timer as ForTimer, Descriptor as ForDescriptor}
+use Rattle.tree_specs.specs.declared.occasion.Occasion.{Occasion}
 use Rattle.tree_specs.specs.declared.question.Input.{Input}
 use Rattle.tree_specs.specs.declared.frame.Frame.{Frame}
 use Rattle.tree_specs.specs.declared.frame.Frame.TheVariants as frame
 use Rattle.tree_specs.specs.declared.frame.TurnFrame.{TurnFrame}
-use Rattle.tree_specs.specs.declared.frame.TurnFrame.TheVariants.{Taking, Timing, Timed, Polling, Starting, Reading, Closing}
+use Rattle.tree_specs.specs.declared.frame.TurnFrame.TheVariants.{Taking, Timing, Timed, Polling, Starting, Closing}
 use Rattle.tree_specs.specs.Tree.Targets.{target_of}
 use Rattle.tree_specs.specs.Tree.Pool.{Pool, row_of, unschedule, disarm}
 use Rattle.tree_specs.specs.Events.Pending.{first}
-use Rattle.tree_specs.specs.Events.Coming.{wait_limit, comes_as, is_quiet_mark, may_start, handler_for, looks_again}
+use Rattle.tree_specs.specs.Events.Rotation.{Ready as ReadyOne, first_ready}
+use Rattle.tree_specs.specs.Events.Coming.{wait_limit, comes_as, is_quiet_mark, may_start, handler_for, looks_again, at_time, with_flags, plainly, rotated}
 use Rattle.tree_specs.specs.Calls.Refusals.{is_plain}
-use Rattle.tree_specs.specs.Machine.Table.{Step, due_step, taking_step, early_step, timed_step, timed_turn, closed_turn, looked_turn, turn_step, turn_taken}
+use Rattle.tree_specs.specs.Machine.Table.{Step, due_step, taking_step, early_step, timed_step, timed_turn, ready_turn, looked_turn, turn_step, turn_taken}
 use Rattle.tree_specs.specs.Machine.Profiles.{turn_profile}
 use Rattle.tree_specs.specs.Invariants.Sound.{Footing, IsTurned, TurnRests}
 use Rattle.tree_specs.proofs.Tree.Numbered.{by_test}
-use Rattle.tree_specs.proofs.Calls.Checks.{clocked-by, polled-by}
+use Rattle.tree_specs.proofs.Calls.Checks.{both-true, clocked-by, polled-by}
 
 -- ---- what is to start
 
@@ -39,10 +41,6 @@ pub record Ready (rows : List Row) (what : What) (x : Obj) : Type 0 where
   pub comes : comes_as what row.kind ≡ true
   pub quiet : row.mark ≡ Quiet
 
-both : (a b : Bool) → (a && b) ≡ true → (a ≡ true) × (b ≡ true)
-both true b e = (refl, e)
-both false b e = cc
-
 quiet-mark : (m : Mark) → is_quiet_mark m ≡ true → m ≡ Quiet
 quiet-mark Quiet e = refl
 quiet-mark _ e = cc
@@ -51,6 +49,7 @@ quiet-mark _ e = cc
 pub comes-event : (w : What) (k : Kind) → comes_as w k ≡ true → (target_of k ≡ None) × (is_plain k ≡ false)
 comes-event ForImmediate kind.Immediate e = (refl, refl)
 comes-event ForTimer kind.Timer e = (refl, refl)
+comes-event ForDescriptor kind.Descriptor e = (refl, refl)
 comes-event _ _ e = cc
 
 pub handler-ready : (p : Pool) (w : What) (x : Obj) (h : Handler) → handler_for p w x ≡ Some h → Ready p.rows w x
@@ -59,9 +58,14 @@ handler-ready p w x h e = by_test (may_start w (row_of p.rows x)) (λ t. by-row 
     by-row : (o : Option Row) → row_of p.rows x ≡ o → may_start w o ≡ true → Ready p.rows w x
     by-row None k t = cc
     by-row (Some r) k t =
-        let b = both (comes_as w r.kind) (is_quiet_mark r.mark) t in
+        let b = both-true (comes_as w r.kind) (is_quiet_mark r.mark) t in
         let c = comes-event w r.kind b.0 in
         record { row = r; is = k; object = c.0; event = c.1; comes = b.0; quiet = quiet-mark r.mark b.1 }
+
+-- an event that comes goes to the end of the rotation, and nothing else changes
+pub rotated-rows : (w : What) (x : Obj) (p : Pool) → ((rotated w x p).rows ≡ p.rows) × ((rotated w x p).next ≡ p.next)
+rotated-rows ForDescriptor x p = (refl, refl)
+rotated-rows _ x p = (refl, refl)
 
 -- ---- works of a turn that say nothing of an object
 
@@ -80,8 +84,8 @@ plain-timing again = record { claims = refl; size = refl; cheap = omega arith; r
 pub plain-polling : (limit : ℕ) → IsPlain (Polling limit) 4
 plain-polling limit = record { claims = refl; size = refl; cheap = omega arith; rests = λ on p h. h }
 
-pub plain-starting : (w : What) (x : Obj) (now : ℕ) → IsPlain (Starting w x now) 4
-plain-starting w x now = record { claims = refl; size = refl; cheap = omega arith; rests = λ on p h. h }
+pub plain-starting : (w : What) (x : Obj) (occasion : Occasion) → IsPlain (Starting w x occasion) 4
+plain-starting w x occasion = record { claims = refl; size = refl; cheap = omega arith; rests = λ on p h. h }
 
 pub plain-closing : (v : ℕ) → IsPlain (Closing v) 4
 plain-closing v = record { claims = refl; size = refl; cheap = omega arith; rests = λ on p h. h }
@@ -107,12 +111,12 @@ look-passes Taking p i = each (first p.soon)
     due : (o : Option Due) → Passes p (due_step o p)
     due None = Pass (Polling wait_limit) p refl refl (plain-polling wait_limit)
     due (Some d) = by_test (nat_eq d.time 0)
-        (λ t. rw t (Pass (Starting ForTimer d.object 0) (disarm p d.object) refl refl (plain-starting ForTimer d.object 0)))
+        (λ t. rw t (Pass (Starting ForTimer d.object (at_time 0)) (disarm p d.object) refl refl (plain-starting ForTimer d.object (at_time 0))))
         (λ t. rw t (Pass (Timing false) p refl refl (plain-timing false)))
 
     each : (o : Option Obj) → Passes p (taking_step o p)
     each None = due (first p.times)
-    each (Some x) = Pass (Starting ForImmediate x 0) (unschedule p x) refl refl (plain-starting ForImmediate x 0)
+    each (Some x) = Pass (Starting ForImmediate x plainly) (unschedule p x) refl refl (plain-starting ForImmediate x plainly)
 look-passes (Timed again now) p i = each (first p.times)
   where
     early : (again : Bool) (d : Due) → Passes p (early_step again d now p)
@@ -122,18 +126,25 @@ look-passes (Timed again now) p i = each (first p.times)
     each : (o : Option Due) → Passes p (timed_step again now o p)
     each None = Pass (Closing 0) p refl refl (plain-closing 0)
     each (Some d) = by_test (nat_le d.time now)
-        (λ t. rw t (Pass (Starting ForTimer d.object now) (disarm p d.object) refl refl (plain-starting ForTimer d.object now)))
+        (λ t. rw t (Pass (Starting ForTimer d.object (at_time now)) (disarm p d.object) refl refl (plain-starting ForTimer d.object (at_time now))))
         (λ t. rw t (early again d))
 look-passes _ p i = absurd i
 
 -- ---- what an answer leads to
 
+-- an event on a descriptor comes, or none
+ready-plain : (o : Option ReadyOne) → (t : TurnFrame) × (ready_turn o ≡ frame.Turn t) × IsPlain t 5
+ready-plain None = (Closing 0, refl, plain-more (Closing 0) (plain-closing 0))
+ready-plain (Some r) =
+    let t : TurnFrame = Starting ForDescriptor r.object (with_flags r.flags) in
+    (t, refl, plain-more t (plain-starting ForDescriptor r.object (with_flags r.flags)))
+
 pub taken-plain : (f : TurnFrame) (p : Pool) (i : Input) (g : Frame) → turn_taken f p i ≡ Some g → (t : TurnFrame) × (g ≡ frame.Turn t) × IsPlain t 5
 taken-plain (Timing again) p i g e = let t = clocked-by (timed_turn again) i g e in (Timed again t.0, t.1, plain-timed again t.0)
-taken-plain Reading p i g e = let t = clocked-by closed_turn i g e in (Closing t.0, t.1, plain-more (Closing t.0) (plain-closing t.0))
 taken-plain (Polling limit) p i g e =
     let t = polled-by limit (looked_turn p) i g e in
+    let r = ready-plain (first_ready p.ring t.0) in
     by_test (looks_again p t.0)
     (λ l. (Timing true, t.1 ∙ rw l refl, plain-more (Timing true) (plain-timing true)))
-    (λ l. (Closing 0, t.1 ∙ rw l refl, plain-more (Closing 0) (plain-closing 0)))
+    (λ l. (r.0, t.1 ∙ rw l r.1, r.2))
 taken-plain _ p i g e = cc

@@ -9,6 +9,7 @@ use Rattle.tree_specs.specs.declared.frame.CallFrame.TheVariants.{Awaiting, Turn
 use Rattle.tree_specs.specs.declared.frame.TurnFrame.TheVariants.{Handling, Clearing}
 use Rattle.tree_specs.specs.declared.handler.Handler.{Handler}
 use Rattle.tree_specs.specs.declared.moment.What.{What}
+use Rattle.tree_specs.specs.declared.occasion.Occasion.{Occasion}
 use Rattle.tree_specs.specs.declared.frame.FreeFrame.TheVariants.{Hooked, FreeingChild}
 use Rattle.tree_specs.specs.declared.frame.Purpose.{Purpose}
 use Rattle.tree_specs.specs.Invariants.Sound.{IsWaiting}
@@ -19,7 +20,7 @@ pub data Waiter : Frame → Type 0 where
   ForRun : (x : Obj) (h : ℕ) → Waiter (frame.Free (Hooked x h))
   ForChild : (x c : Obj) (noted : Option Owner) (purpose : Purpose) → Waiter (frame.Free (FreeingChild x c noted purpose))
   ForTurn : (q : Ask) → Waiter (frame.Call (Turning q))
-  ForHandler : (what : What) (x : Obj) (handler : Handler) (now : ℕ) → Waiter (frame.Turn (Handling what x handler now))
+  ForHandler : (what : What) (x : Obj) (handler : Handler) (occasion : Occasion) → Waiter (frame.Turn (Handling what x handler occasion))
   ForClear : (x : Obj) → Waiter (frame.Turn (Clearing x))
 
 pub waiter : (g : Frame) (gs : List Frame) → IsWaiting g gs → Waiter g
@@ -27,6 +28,6 @@ waiter (frame.Call (Awaiting q x)) gs w = ForFree q x
 waiter (frame.Free (Hooked x h)) gs w = ForRun x h
 waiter (frame.Free (FreeingChild x c noted purpose)) gs w = ForChild x c noted purpose
 waiter (frame.Call (Turning q)) gs w = ForTurn q
-waiter (frame.Turn (Handling what x handler now)) gs w = ForHandler what x handler now
+waiter (frame.Turn (Handling what x handler occasion)) gs w = ForHandler what x handler occasion
 waiter (frame.Turn (Clearing x)) gs w = ForClear x
 waiter _ gs w = absurd w

@@ -13,11 +13,12 @@ use Rattle.tree_specs.specs.declared.reply.Reply.{Reply}
 use Rattle.tree_specs.specs.declared.event.Event.TheVariants.{Replied, Refused}
 use Rattle.tree_specs.specs.declared.frame.Frame.{Frame}
 use Rattle.tree_specs.specs.declared.frame.Frame.TheVariants as frame
-use Rattle.tree_specs.specs.declared.frame.CallFrame.TheVariants.{Awaiting, Warning, Telling, Returning}
+use Rattle.tree_specs.specs.declared.frame.CallFrame.TheVariants.{Awaiting, Announcing, Telling, Returning}
+use Rattle.tree_specs.specs.declared.frame.OutsideFrame.TheVariants.{Reaching, Hearing}
 use Rattle.tree_specs.specs.declared.frame.FreeFrame.TheVariants.{Unlinking, Releasing, Beginning, Hooked, Judged, Dooming, Ending}
 use Rattle.tree_specs.specs.declared.free_step.FreeReply.{FreeReply}
 use Rattle.tree_specs.specs.declared.free_step.FreeReply.TheVariants as free_reply
-use Rattle.tree_specs.specs.Tree.Pool.{Pool, row_of, is_row}
+use Rattle.tree_specs.specs.Tree.Pool.{Pool, row_of}
 use Rattle.tree_specs.specs.Calls.Refusals.{is_held, is_running}
 use Rattle.tree_specs.specs.Rules.Items.{Item}
 use Rattle.tree_specs.specs.Rules.Items.Item.{Told}
@@ -25,6 +26,8 @@ use Rattle.tree_specs.specs.Rules.Sequence.{CallStart, Scene}
 use Rattle.tree_specs.specs.Machine.Profiles.{Role, Calls, Frees, Waits, Never, AFree, ARun, AChild, ATurn, AHandler, AClear, profile}
 use Rattle.tree_specs.specs.Promises.Orderly.{RefusedJustNow, is_hook}
 use Rattle.tree_specs.specs.Promises.Grounded.{OfReply, AnsweredCall, HeldCall, CausedCall, IsItem, AsksHook}
+use Rattle.tree_specs.proofs.Calls.Plans.{IsThere, IsOutside}
+use Rattle.tree_specs.proofs.Promises.Answering.{IsNoRefusal}
 
 abbrev pub NotedWork : Type 0
 NotedWork = Noted Frame CallStart
@@ -81,16 +84,19 @@ abbrev pub NotHeld : Call → Pool → Type 0
 NotHeld (call.Free x) start = is_held start x ≡ false
 NotHeld c start = Unit {0}
 
--- a call whose reply is a number, or that it is nested
-abbrev pub IsNumbered : Call → Type 0
-IsNumbered call.Now = Unit {0}
-IsNumbered call.Turn = Unit {0}
-IsNumbered c = ⊥
+-- a call that takes a turn, or asks the outside
+abbrev pub TurnsOrAsks : Call → Type 0
+TurnsOrAsks call.Turn = Unit {0}
+TurnsOrAsks call.Now = Unit {0}
+TurnsOrAsks (call.Accept fd) = Unit {0}
+TurnsOrAsks (call.Read fd len) = Unit {0}
+TurnsOrAsks (call.Write fd bytes) = Unit {0}
+TurnsOrAsks c = ⊥
 
--- a caller that waits for a turn knows the call
+-- a caller that waits for a turn, or for the outside, knows the call
 abbrev pub KnowsTurn : Option CallStart → Type 0
 KnowsTurn None = ⊥
-KnowsTurn (Some b) = IsNumbered b.call
+KnowsTurn (Some b) = TurnsOrAsks b.call
 
 -- a caller that waits for a free knows the call
 abbrev pub Knows : Obj → Option CallStart → Type 0
@@ -157,7 +163,7 @@ HasRunFor x (frame.Call (Awaiting q y)) b = RanAtStart x b
 HasRunFor x f b = Unit {0}
 
 abbrev pub Cause : List Scene → Frame → Option CallStart → List NotedWork → Pool → Type 0
-Cause scenes (frame.Call (Warning q x r)) b ws p = ((more : List Scene) → IsCaused more b r) × (is_row p.rows x ≡ true)
+Cause scenes (frame.Call (Announcing q notice r)) b ws p = ((more : List Scene) → IsCaused more b r) × IsThere (Some notice) p
 Cause scenes (frame.Call (Telling q r)) b ws p = IsCaused scenes b r
 Cause scenes (frame.Call (Returning v)) b ws p = OfNext (IsAskedFor scenes) ws
 Cause scenes (frame.Free (Judged x h v)) b ws p = LastIs (AsksHook x) scenes
@@ -166,4 +172,6 @@ Cause scenes (frame.Free (Unlinking o x)) b ws p = OfNext (HasJustBegun p) ws
 Cause scenes (frame.Free (Releasing x)) b ws p = OfNext (HasJustBegun p) ws
 Cause scenes (frame.Free (Beginning x)) b ws p = OfNext (HasJustBegun p) ws
 Cause scenes (frame.Free (Dooming x)) b ws p = OfNext (HasRunFor x) ws
+Cause scenes (frame.Outside (Reaching q)) b ws p = IsOutside q
+Cause scenes (frame.Outside (Hearing r)) b ws p = IsNoRefusal r
 Cause scenes f b ws p = Unit {0}

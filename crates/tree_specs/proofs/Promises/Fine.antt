@@ -19,7 +19,6 @@ use Rattle.tree_specs.specs.declared.frame.Frame.{Frame}
 use Rattle.tree_specs.specs.declared.frame.Frame.TheVariants as frame
 use Rattle.tree_specs.specs.declared.frame.CallFrame.TheVariants.{Awaiting, Turning, Telling}
 use Rattle.tree_specs.specs.declared.frame.TurnFrame.TheVariants.{Handling, Clearing}
-use Rattle.tree_specs.specs.declared.reply.Reply.TheVariants as reply
 use Rattle.tree_specs.specs.declared.moment.What.{What}
 use Rattle.tree_specs.specs.declared.frame.FreeFrame.TheVariants.{Hooked, FreeingChild}
 use Rattle.tree_specs.specs.declared.frame.Answer.{Answer}
@@ -30,8 +29,8 @@ use Rattle.tree_specs.specs.Tree.Pool.{Pool}
 use Rattle.tree_specs.specs.Rules.Items.{Item}
 use Rattle.tree_specs.specs.Rules.Items.Item.{Told}
 use Rattle.tree_specs.specs.Rules.Sequence.{CallStart, Scene}
-use Rattle.tree_specs.specs.Rules.Story.{freed_reply, later}
-use Rattle.tree_specs.specs.Machine.Table.{notes, resume, reply_in, number_in}
+use Rattle.tree_specs.specs.Rules.Answers.{freed_reply, later}
+use Rattle.tree_specs.specs.Machine.Table.{notes, resume, reply_in, heard_in}
 use Rattle.tree_specs.specs.Machine.Profiles.{Waits, Never, AFree, ARun, AChild, ATurn, AHandler, AClear, profile}
 use Rattle.tree_specs.specs.Promises.Orderly.{Fits, RefusedJustNow}
 use Rattle.tree_specs.specs.Promises.Grounded.{IsGrounded, AnsweredCall, HeldCall, CausedCall, IsItem, AsksHook}
@@ -40,7 +39,7 @@ use Rattle.tree_specs.proofs.Tree.Numbered.{same-equal}
 use Rattle.tree_specs.specs.Machine.Meaning.{noted_table}
 use Rattle.tree_specs.proofs.Promises.Later.{later-same}
 use Rattle.tree_specs.proofs.Promises.Past.{IsLeaving, Accounts, Past, past-goes}
-use Rattle.tree_specs.proofs.Promises.Causes.{NotedWork, item_of, told, IsFreeOf, IsAskedAs, IsHook, IsNoHook, IsRunAs, FreesBy, IsNumbered, Knows, KnowsTurn, StandsFor, StandsOn, Stacked, OfNext, IsCaused, Cause, NotHeld}
+use Rattle.tree_specs.proofs.Promises.Causes.{NotedWork, item_of, told, IsFreeOf, IsAskedAs, IsHook, IsNoHook, IsRunAs, FreesBy, TurnsOrAsks, Knows, KnowsTurn, StandsFor, StandsOn, Stacked, OfNext, IsCaused, Cause, NotHeld}
 use Rattle.tree_specs.proofs.Invariants.Waiters.{Waiter, ForFree, ForRun, ForChild, ForTurn, ForHandler, ForClear, waiter}
 
 abbrev pub work_of : NotedWork → Frame
@@ -146,15 +145,15 @@ caused-reply scenes x (Some b) a k h = let e = each b.call k.0 k.1 in (just-now 
         (for-unlink o a h)
     each _ e n = absurd e
 
--- the reply to a call that asks the time or takes a turn
-pub caused-number : (scenes : List Scene) (b : Option CallStart) (r : Reply) → KnowsTurn b → RefusedJustNow (told scenes) (Told (Replied r)) → IsCaused scenes b r
-caused-number scenes None r k now = absurd k
-caused-number scenes (Some b) r k now = let e = each b.call k in (now, e.0, e.1, e.2)
+-- the reply to a call that takes a turn, or asks the outside
+pub caused-turn : (scenes : List Scene) (b : Option CallStart) (r : Reply) → KnowsTurn b → RefusedJustNow (told scenes) (Told (Replied r)) → IsCaused scenes b r
+caused-turn scenes None r k now = absurd k
+caused-turn scenes (Some b) r k now = let e = each b.call k in (now, e.0, e.1, e.2)
   where
-    each : (c : Call) → IsNumbered c → AnsweredCall c b.start r × HeldCall c b.start r × CausedCall scenes c b.start r
-    each call.Now h = (tt, tt, tt)
-    each call.Turn h = (tt, tt, tt)
-    each _ h = absurd h
+    each : (c : Call) → TurnsOrAsks c → AnsweredCall c b.start r × HeldCall c b.start r × CausedCall scenes c b.start r
+    each (call.Free x) h = absurd h
+    each (call.Unlink o x) h = absurd h
+    each _ h = (tt, tt, tt)
 
 -- ---- a work that ends
 
@@ -162,6 +161,7 @@ caused-number scenes (Some b) r k now = let e = each b.call k in (now, e.0, e.1,
 abbrev pub AnswersTo : List Scene → Answer → Frame → Option CallStart → Type 0
 AnswersTo scenes a (frame.Call (Awaiting q x)) b = ReplyCause scenes b x (reply_in a)
 AnswersTo scenes a (frame.Free (Hooked x h)) b = LastIs (AsksHook x) scenes
+AnswersTo scenes a (frame.Call (Turning q)) b = RefusedJustNow (told scenes) (Told (Replied (heard_in a)))
 AnswersTo scenes a f b = Unit {0}
 
 pub resumed : (scenes : List Scene) (f : Frame) (b : Option CallStart) (ws : List NotedWork) (p : Pool) (a : Answer) → Past (told scenes) f (map work_of ws) p
@@ -186,15 +186,15 @@ resumed scenes f b (w ∷ ws) p a past stays stacked wait h = below w.work (wait
       cause = h;
     }
     below _ (ForTurn q) past on under h =
-        let r : Reply = reply.Number (number_in a) in
+        let r : Reply = heard_in a in
         record {
           past = goes _ (frame.Call (Telling (later q r) r)) past tt;
           stacked = restacked (frame.Call (Turning q)) (frame.Call (Telling (later q r) r)) ws (λ y k. k) (λ y k. later-hook y q r k) under;
-          cause = caused-number scenes w.note r on tt;
+          cause = caused-turn scenes w.note r on h;
         }
-    below _ (ForHandler w x k now) past on under h = record {
+    below _ (ForHandler w x k occasion) past on under h = record {
       past = goes _ _ past tt;
-      stacked = restacked (frame.Turn (Handling w x k now)) _ ws (λ y l. l) (λ y l. l) under;
+      stacked = restacked (frame.Turn (Handling w x k occasion)) _ ws (λ y l. l) (λ y l. l) under;
       cause = tt;
     }
     below _ (ForClear x) past on under h = record {

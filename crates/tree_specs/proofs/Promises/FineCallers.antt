@@ -2,7 +2,10 @@
 use Rattle.tree_specs.specs.Machine.Profiles.{InRun, profile}
 use Rattle.tree_specs.specs.declared.reply.Reply.TheVariants as reply
 use Rattle.tree_specs.specs.declared.reply.Refusal.TheVariants as refusal
-use Rattle.tree_specs.specs.declared.frame.TurnFrame.TheVariants.{Taking, Reading}
+use Rattle.tree_specs.specs.declared.frame.TurnFrame.TheVariants.{Taking}
+use Rattle.tree_specs.specs.declared.frame.OutsideFrame.TheVariants.{Reaching}
+use Rattle.tree_specs.specs.declared.notice.Notice.{Notice}
+use Rattle.tree_specs.specs.declared.notice.Notice.TheVariants as notices
 use Rattle.tree_specs.specs.declared.row.Row.{Row}
 use Rattle.std.specs.List.{list_any}
 use Rattle.tree_specs.specs.Tree.Targets.{newest_ref}
@@ -16,10 +19,10 @@ use Rattle.tree_specs.specs.declared.question.Ask.{Ask}
 use Rattle.tree_specs.specs.declared.question.Ask.TheVariants as ask
 use Rattle.tree_specs.specs.declared.question.Input.{Input}
 use Rattle.tree_specs.specs.declared.reply.Reply.{Reply}
-use Rattle.tree_specs.specs.declared.event.Event.TheVariants.{Replied, Warned}
+use Rattle.tree_specs.specs.declared.event.Event.TheVariants.{Replied, Warned, Closed}
 use Rattle.tree_specs.specs.declared.frame.Frame.{Frame}
 use Rattle.tree_specs.specs.declared.frame.Frame.TheVariants as frame
-use Rattle.tree_specs.specs.declared.frame.CallFrame.TheVariants.{Asking, Doing, Awaiting, Turning, Warning, Telling, Returning}
+use Rattle.tree_specs.specs.declared.frame.CallFrame.TheVariants.{Asking, Doing, Awaiting, Turning, Announcing, Telling, Returning}
 use Rattle.tree_specs.specs.declared.frame.FreeFrame.TheVariants.{Unlinking, Beginning, Looping}
 use Rattle.tree_specs.specs.declared.frame.Purpose.TheVariants.{Emptying}
 use Rattle.tree_specs.specs.declared.frame.Answer.TheVariants as answer
@@ -28,9 +31,9 @@ use Rattle.tree_specs.specs.Rules.Items.{Item}
 use Rattle.tree_specs.specs.Rules.Items.Item.{Told, Asked}
 use Rattle.tree_specs.specs.Calls.Refusals.{Check, refusals, tests, is_held}
 use Rattle.tree_specs.specs.Rules.Sequence.{CallStart, Scene}
-use Rattle.tree_specs.specs.Rules.Story.{later}
+use Rattle.tree_specs.specs.Rules.Answers.{later}
 use Rattle.tree_specs.specs.Machine.Table.{notes, step, taken, plan_step, turning_step}
-use Rattle.tree_specs.specs.Promises.Orderly.{Fits, frees as tells_free}
+use Rattle.tree_specs.specs.Promises.Orderly.{Fits, accepts, drops, frees as tells_free}
 use Rattle.tree_specs.specs.Promises.Orderly.{asks_hook}
 use Rattle.tree_specs.specs.Promises.Grounded.{AsksHook}
 use Rattle.tree_specs.specs.Invariants.Sound.{AllWait, claim, claims, phases, Refers, Sound}
@@ -40,15 +43,15 @@ use Rattle.tree_specs.proofs.Calls.Checks.{all-pass, Heard, HeardCall, HeardRetu
 use Rattle.tree_specs.proofs.Calls.Plans.{May, follows, may-planned}
 use Rattle.tree_specs.specs.Tree.Forest.{Distinct}
 use Rattle.tree_specs.specs.Calls.Plans.{Plan, plan, planned, unless_refused, changed_by, frees}
-use Rattle.tree_specs.specs.Calls.Plans.Plan.{Does, Frees, Unlinks, Empties, AsksTime, Turns}
+use Rattle.tree_specs.specs.Calls.Plans.Plan.{Does, Frees, Unlinks, Empties, Asks, Turns}
 use Rattle.tree_specs.proofs.Invariants.Changes.{running-row, claim-here}
 use Rattle.tree_specs.proofs.Promises.Later.{Later, later-same}
 use Rattle.tree_specs.proofs.Promises.Past.{Accounts, Past, past-goes, past-tells, unfreed, unaccepted}
-use Rattle.tree_specs.proofs.Promises.Causes.{NotedWork, told, IsFreeOf, IsAskedAs, IsHook, IsNumbered, FreesBy, StandsOn, Stacked, IsCaused, IsAskedFor, Cause, NotHeld}
+use Rattle.tree_specs.proofs.Promises.Causes.{NotedWork, told, IsFreeOf, IsAskedAs, IsHook, TurnsOrAsks, FreesBy, StandsOn, Stacked, IsCaused, IsAskedFor, Cause, NotHeld}
 use Rattle.tree_specs.proofs.Invariants.Waiters.{Waiter, ForFree, ForRun, ForChild, ForTurn, ForHandler, ForClear, waiter}
 use Rattle.tree_specs.proofs.Calls.OwnRefusals.{AllOwn, own-refused, own-just-now, own-call}
-use Rattle.tree_specs.proofs.Promises.Fitting.{last-more, fits-replied, fits-quiet, fits-asked, fits-handler, fits-warned}
-use Rattle.tree_specs.proofs.Promises.Fine.{work_of, Known, FineBy, restacked, of-next, from-next, later-hook, AnswersTo, resumed, caused-number, known-told, taken-noted}
+use Rattle.tree_specs.proofs.Promises.Fitting.{last-more, fits-replied, fits-quiet, fits-asked, fits-handler, fits-warned, fits-closed}
+use Rattle.tree_specs.proofs.Promises.Fine.{work_of, Known, FineBy, restacked, of-next, from-next, later-hook, AnswersTo, resumed, caused-turn, known-told, taken-noted}
 
 -- the question of a destructor is of its object
 asks-hook : (x : Obj) (q : Ask) → IsAskedAs (IsHook x) q → asks_hook x (Asked q) ≡ true
@@ -75,7 +78,7 @@ asking-fine scenes q b ws p whole known = (
         let row = running-row (row_of p.rows x) (claims x gs) (claim-here x InRun (claims x gs) (row_of p.rows x) (claimed x)) in
         fits-asked (told scenes) x (unaccepted (told scenes) f (map work_of ws) p x row.0 known.past row.1 row.2 (λ l. l)) (unfreed (told scenes) f (map work_of ws) p x row.0 known.past row.1) q on
     of-hook _ gs n (ForFree a x) on seat claimed = absurd on.0
-    of-hook _ gs n (ForHandler w x h now) on seat claimed = fits-handler (told scenes) q on
+    of-hook _ gs n (ForHandler w x h occasion) on seat claimed = fits-handler (told scenes) q on
     of-hook _ gs n (ForChild x c noted purpose) on seat claimed = absurd on
     of-hook _ gs n (ForTurn a) on seat claimed = absurd seat
     of-hook _ gs n (ForClear x) on seat claimed = absurd seat
@@ -120,23 +123,35 @@ telling-fine scenes q r b ws p known =
           (restacked f g ws (λ x h. h) (λ x h. h) known.stacked) tt,
     )
 
--- it is told that an object went to another owner, and then the reply
-pub warning-fine : (scenes : List Scene) (q : Ask) (x : Obj) (r : Reply) (b : Option CallStart) (ws : List NotedWork) (p : Pool)
-    → Known scenes (with_note b (frame.Call (Warning q x r))) ws p → FineBy scenes (frame.Call (Warning q x r)) b p (step (frame.Call (Warning q x r)) p) ws
-warning-fine scenes q x r b ws p known =
-    let f : Frame = frame.Call (Warning q x r) in
-    let g : Frame = frame.Call (Telling q r) in
-    let e : Item = Told (Warned x) in
-    let past = past-tells (told scenes) e f (map work_of ws) p (λ x. refl) (λ x. refl) (λ x. refl) known.past in (
-      (fits-warned (told scenes) x (there (row_of p.rows x) refl), record { answered = tt; held = tt; caused = tt; started = tt }),
-      known-told scenes (scene notes f b p e) (with_note b g) ws p
-          (past-goes (told scenes ++ e ∷ []) f g (map work_of ws) (map work_of ws) p p past (later-same p) (λ y l. absurd l) tt past.all_account)
-          (restacked f g ws (λ y h. h) (λ y h. h) known.stacked) (known.cause.0 (scenes ++ scene notes f b p e ∷ [])),
-    )
+-- a notice is told, and then the reply
+pub announcing-fine : (scenes : List Scene) (q : Ask) (notice : Notice) (r : Reply) (b : Option CallStart) (ws : List NotedWork) (p : Pool)
+    → Known scenes (with_note b (frame.Call (Announcing q notice r))) ws p → FineBy scenes (frame.Call (Announcing q notice r)) b p (step (frame.Call (Announcing q notice r)) p) ws
+announcing-fine scenes q notice r b ws p known = each notice known
   where
-    there : (o : Option Row) → row_of p.rows x ≡ o → list_any (tells_free x) (told scenes) ≡ false
-    there None e = let bad : false ≡ true = rw e at known.cause.1 in cc
-    there (Some row) e = unfreed (told scenes) (frame.Call (Warning q x r)) (map work_of ws) p x row known.past e
+    next : (notice : Notice) (e : Item) → ((x : Obj) → accepts x e ≡ false) → ((x : Obj) → tells_free x e ≡ false) → ((x : Obj) → drops x e ≡ false)
+        → Known scenes (with_note b (frame.Call (Announcing q notice r))) ws p
+        → Known (scenes ++ scene notes (frame.Call (Announcing q notice r)) b p e ∷ []) (with_note b (frame.Call (Telling q r))) ws p
+    next notice e accepts_none frees_none drops_none known =
+        let f : Frame = frame.Call (Announcing q notice r) in
+        let g : Frame = frame.Call (Telling q r) in
+        let past = past-tells (told scenes) e f (map work_of ws) p accepts_none frees_none drops_none known.past in
+        known-told scenes (scene notes f b p e) (with_note b g) ws p
+        (past-goes (told scenes ++ e ∷ []) f g (map work_of ws) (map work_of ws) p p past (later-same p) (λ y l. absurd l) tt past.all_account)
+        (restacked f g ws (λ y h. h) (λ y h. h) known.stacked) (known.cause.0 (scenes ++ scene notes f b p e ∷ []))
+
+    each : (notice : Notice) → Known scenes (with_note b (frame.Call (Announcing q notice r))) ws p → FineBy scenes (frame.Call (Announcing q notice r)) b p (step (frame.Call (Announcing q notice r)) p) ws
+    each (notices.Warned x) known = (
+      (fits-warned (told scenes) x (there (row_of p.rows x) refl), record { answered = tt; held = tt; caused = tt; started = tt }),
+      next (notices.Warned x) (Told (Warned x)) (λ y. refl) (λ y. refl) (λ y. refl) known,
+    )
+      where
+        there : (o : Option Row) → row_of p.rows x ≡ o → list_any (tells_free x) (told scenes) ≡ false
+        there None e = let bad : false ≡ true = rw e at known.cause.1 in cc
+        there (Some row) e = unfreed (told scenes) (frame.Call (Announcing q (notices.Warned x) r)) (map work_of ws) p x row known.past e
+    each (notices.Closed fd) known = (
+      (fits-closed (told scenes) fd, record { answered = tt; held = tt; caused = tt; started = tt }),
+      next (notices.Closed fd) (Told (Closed fd)) (λ y. refl) (λ y. refl) (λ y. refl) known,
+    )
 
 pub returning-fine : (scenes : List Scene) (v : ℕ) (b : Option CallStart) (ws : List NotedWork) (p : Pool) → AllWait (map work_of ws)
     → Known scenes (with_note b (frame.Call (Returning v))) ws p → FineBy scenes (frame.Call (Returning v)) b p (step (frame.Call (Returning v)) p) ws
@@ -153,12 +168,12 @@ returning-fine scenes v b ws p wait known =
 
 -- why a plan replies so, or which call it is that frees
 abbrev CausedBy : Pool → Call → Plan → Type 0
-CausedBy p c (Does change warned r) = (scenes : List Scene) → IsCaused scenes (Some (record { call = c; start = p })) r
+CausedBy p c (Does change notice r) = (scenes : List Scene) → IsCaused scenes (Some (record { call = c; start = p })) r
 CausedBy p c (Frees x) = FreesBy x c × NotHeld c p
 CausedBy p c (Unlinks o x) = FreesBy x c × NotHeld c p
 CausedBy p c (Empties x) = FreesBy x c × NotHeld c p
-CausedBy p c AsksTime = IsNumbered c
-CausedBy p c Turns = IsNumbered c
+CausedBy p c (Asks q) = TurnsOrAsks c
+CausedBy p c Turns = TurnsOrAsks c
 
 -- what isn't said of a call is a reply that needs no cause
 caused : (p : Pool) (c : Call) → refusals p c ≡ [] → CausedBy p c (plan p c)
@@ -169,6 +184,9 @@ caused p (call.Free x) none = each (newest_ref p.rows x) ((all-pass p (tests (ca
     each (Some r) free = (refl, free)
 caused p (call.Freekids x) none = (refl, tt)
 caused p (call.Unlink o x) none = (refl, tt)
+caused p (call.Accept fd) none = tt
+caused p (call.Read fd len) none = tt
+caused p (call.Write fd bytes) none = tt
 caused p call.Now none = tt
 caused p call.Turn none = tt
 caused p c none = λ scenes. (tt, tt, tt, tt)
@@ -181,24 +199,24 @@ caused-planned p c d refers = each (refusals p c) refl (own-refused p (tests c))
     each (why ∷ rest) e own = λ scenes. (let h = own-call scenes p c why rest d refers e in (own-just-now (told scenes) p why own.0, h.0, h.1, h.2))
 
 -- a turn that is nested has its reply told, and any other is waited for
-turning-fine : (scenes : List Scene) (q : Ask) (c : Call) (b : Option CallStart) (ws : List NotedWork) (p : Pool) → Known scenes (with_note b (frame.Call (Doing q c))) ws p → IsNumbered c
+turning-fine : (scenes : List Scene) (q : Ask) (c : Call) (b : Option CallStart) (ws : List NotedWork) (p : Pool) → Known scenes (with_note b (frame.Call (Doing q c))) ws p → TurnsOrAsks c
     → FineBy scenes (frame.Call (Doing q c)) b p (turning_step q p) ws
-turning-fine scenes ask.Quiet c b ws p known numbered =
+turning-fine scenes ask.Quiet c b ws p known turns =
     let f : Frame = frame.Call (Doing ask.Quiet c) in
     let g : Frame = frame.Call (Turning ask.Quiet) in
     record {
       past = past-goes (told scenes) f (frame.Turn Taking) (map work_of ws) (g ∷ map work_of ws) p p known.past (later-same p) (λ y l. absurd l) tt (tt, known.past.all_account);
-      stacked = (numbered, restacked f g ws (λ y h. h) (λ y h. h) known.stacked);
+      stacked = (turns, restacked f g ws (λ y h. h) (λ y h. h) known.stacked);
       cause = tt;
     }
-turning-fine scenes q c b ws p known numbered =
+turning-fine scenes q c b ws p known turns =
     let f : Frame = frame.Call (Doing q c) in
     let r : Reply = reply.No refusal.Nested in
     let g : Frame = frame.Call (Telling (later q r) r) in
     record {
       past = past-goes (told scenes) f g (map work_of ws) (map work_of ws) p p known.past (later-same p) (λ y l. absurd l) tt known.past.all_account;
       stacked = restacked f g ws (λ y h. h) (λ y h. later-hook y q r h) known.stacked;
-      cause = caused-number scenes (Some (record { call = c; start = p })) r numbered tt;
+      cause = caused-turn scenes (Some (record { call = c; start = p })) r turns tt;
     }
 
 -- a call that needs no free has its reply told
@@ -229,9 +247,9 @@ module _ (scenes : List Scene) (q : Ask) (c : Call) (b : Option CallStart) (ws :
 
   planned-next : (plan : Plan) → May p plan → CausedBy p c plan → FineBy scenes (frame.Call (Doing q c)) b p (plan_step q plan p) ws
   planned-next (Does change None r) may cause = told-next r (changed_by change p) (follows p change may.0).later (cause scenes)
-  planned-next (Does change (Some x) r) may cause =
+  planned-next (Does change (Some notice) r) may cause =
       let f : Frame = frame.Call (Doing q c) in
-      let g : Frame = frame.Call (Warning (later q r) x r) in
+      let g : Frame = frame.Call (Announcing (later q r) notice r) in
       record {
         past = past-goes (told scenes) f g (map work_of ws) (map work_of ws) p (changed_by change p) known.past (follows p change may.0).later (λ y l. absurd l) tt known.past.all_account;
         stacked = restacked f g ws (λ y h. h) (λ y h. later-hook y q r h) known.stacked;
@@ -240,13 +258,13 @@ module _ (scenes : List Scene) (q : Ask) (c : Call) (b : Option CallStart) (ws :
   planned-next (Frees x) may cause = frees-next x (frame.Free (Beginning x)) refl cause.0 cause.1 tt refl
   planned-next (Unlinks o x) may cause = frees-next x (frame.Free (Unlinking o x)) refl cause.0 cause.1 tt refl
   planned-next (Empties x) may cause = frees-next x (frame.Free (Looping x Emptying)) refl cause.0 cause.1 tt tt
-  planned-next AsksTime may cause =
+  planned-next (Asks outside) may cause =
       let f : Frame = frame.Call (Doing q c) in
       let g : Frame = frame.Call (Turning q) in
       record {
-        past = past-goes (told scenes) f (frame.Turn Reading) (map work_of ws) (g ∷ map work_of ws) p p known.past (later-same p) (λ y l. absurd l) tt (tt, known.past.all_account);
+        past = past-goes (told scenes) f (frame.Outside (Reaching outside)) (map work_of ws) (g ∷ map work_of ws) p p known.past (later-same p) (λ y l. absurd l) tt (tt, known.past.all_account);
         stacked = (cause, restacked f g ws (λ y h. h) (λ y h. h) known.stacked);
-        cause = tt;
+        cause = may;
       }
   planned-next Turns may cause = turning-fine scenes q c b ws p known cause
 

@@ -4,7 +4,7 @@ use Rattle.tree_specs.proofs.Invariants.KeptFrees.{apart, given_up-object}
 use Rattle.tree_specs.proofs.Tree.Referring.{newest-refers, newest-of-refers}
 use Rattle.tree_specs.specs.Calls.Refusals.{is_running, is_running_row}
 use Rattle.tree_specs.specs.Tree.Targets.{newest_ref}
-use Rattle.std.proofs.Common.{◌≡◌, List, [], ◌∷◌, ◌++◌, Option, Some, None, true, false, nat_eq, refl, sym, ◌∙◌, ap, subst, map, ◌≢◌}
+use Rattle.std.proofs.Common.{◌≡◌, ℕ, List, [], ◌∷◌, ◌++◌, Option, Some, None, true, false, nat_eq, refl, sym, ◌∙◌, ap, subst, map, ◌≢◌}
 use Rattle.std.specs.List.{list_any}
 use Rattle.step_machine.specs.Machine.{Move}
 use Rattle.step_machine.specs.Machine.{Move as Do}
@@ -15,7 +15,7 @@ use Rattle.tree_specs.specs.declared.object.Owner.TheVariants.{Of, Root}
 use Rattle.tree_specs.specs.declared.row.Row.{Row}
 use Rattle.tree_specs.specs.declared.row.Mark.{Mark}
 use Rattle.tree_specs.specs.declared.row.Mark.TheVariants as mark
-use Rattle.tree_specs.specs.declared.event.Event.TheVariants.{Moved, Unreferenced}
+use Rattle.tree_specs.specs.declared.event.Event.TheVariants.{Moved, Unreferenced, Closed}
 use Rattle.tree_specs.specs.declared.frame.Frame.{Frame}
 use Rattle.tree_specs.specs.declared.frame.Frame.TheVariants as frame
 use Rattle.tree_specs.specs.declared.frame.FreeFrame.{FreeFrame}
@@ -28,17 +28,19 @@ use Rattle.tree_specs.specs.Tree.Pool.{Pool, row_of, is_row, owner_of, remove, p
 use Rattle.tree_specs.specs.Rules.Items.{Item}
 use Rattle.tree_specs.specs.Rules.Items.Item.{Told}
 use Rattle.tree_specs.specs.Rules.Sequence.{CallStart, Scene}
-use Rattle.tree_specs.specs.Machine.Table.{notes, step, lifted, begin_quiet, begin_step, refs_step, unlink_step, release_step}
+use Rattle.tree_specs.specs.Machine.FreeTable.{begin_quiet, begin_step, refs_step, unlink_step, release_step}
+use Rattle.tree_specs.specs.Events.Rotation.{closes_with}
+use Rattle.tree_specs.specs.Machine.Table.{notes, step, closed_event, announced, lifted}
 use Rattle.tree_specs.specs.Promises.Orderly.{frees}
 use Rattle.tree_specs.specs.Invariants.Sound.{IsLive, IsOver, ValidAt, IsQuietRow, IsReferable, AllWait, Tries, footing}
 use Rattle.tree_specs.specs.Invariants.Consistent.{IsConsistent}
 use Rattle.tree_specs.proofs.Tree.Numbered.{by_test}
 use Rattle.tree_specs.proofs.Tree.Rows.{row_of-without-same, row_of-without-other}
 use Rattle.tree_specs.proofs.Promises.Later.{later-rows, later-same, later-placed, later-marked, later-removed}
-use Rattle.tree_specs.proofs.Promises.Past.{IsLeaving, past-goes, past-tells, unfreed, unaccepted, Accounts, past-drops, undropped}
+use Rattle.tree_specs.proofs.Promises.Past.{IsLeaving, Past, past-goes, past-tells, unfreed, unaccepted, Accounts, past-drops, undropped}
 use Rattle.tree_specs.proofs.Promises.Causes.{NotedWork, told, StandsOn, Stacked, IsRefusedFor, IsAsAtStart, HasJustBegun, RanAtStart, HasRunFor, IsFreeOf, OfNext, Cause}
 use Rattle.tree_specs.proofs.Invariants.Waiters.{Waiter, ForFree, ForRun, waiter}
-use Rattle.tree_specs.proofs.Promises.Fitting.{fits-moved, fits-dropped}
+use Rattle.tree_specs.proofs.Promises.Fitting.{fits-moved, fits-dropped, fits-closed}
 use Rattle.tree_specs.proofs.Promises.Fine.{work_of, Known, FineBy, restacked, of-next, from-next, ReplyCause, AnswersTo, resumed, known-told}
 
 module _ (scenes : List Scene) (b : Option CallStart) (ws : List NotedWork) (p : Pool) where
@@ -102,6 +104,19 @@ module _ (scenes : List Scene) (b : Option CallStart) (ws : List NotedWork) (p :
   pub dooming-fine : (x : Obj) → At (Dooming x)
   dooming-fine x whole known = said-fine (Dooming x) x (λ y h. h) (λ y l. l) whole known known.cause
 
+  -- a step that may tell that a descriptor was closed
+  pub closing-fine : (f g : FreeFrame) (o : Option ℕ) (q : Pool) → ((items : List Item) → Past items (frame.Free f) (map work_of ws) p → Past items (frame.Free g) (map work_of ws) q)
+      → Stacked (frame.Free g) ws → ((more : List Scene) → Cause more (frame.Free g) None ws q) → Known scenes (with_note b (frame.Free f)) ws p
+      → FineBy scenes (frame.Free f) b p (announced (closed_event o) g q) ws
+  closing-fine f g None q past stacked cause known = record { past = past (told scenes) known.past; stacked = stacked; cause = cause scenes }
+  closing-fine f g (Some fd) q past stacked cause known =
+      let e : Item = Told (Closed fd) in
+      let s : Scene = scene notes (frame.Free f) b p e in (
+        (fits-closed (told scenes) fd, record { answered = tt; held = tt; caused = tt; started = tt }),
+        known-told scenes s (with_note None (frame.Free g)) ws q
+            (past (told scenes ++ e ∷ []) (past-tells (told scenes) e (frame.Free f) (map work_of ws) p (λ x. refl) (λ x. refl) (λ x. refl) known.past)) stacked (cause (scenes ++ s ∷ [])),
+      )
+
   -- a reference is dropped
   pub dropped-fine : (f g : FreeFrame) (r t : Obj) → IsConsistent (record { innermost = frame.Free f; below = map work_of ws; pool = p }) → Known scenes (with_note b (frame.Free f)) ws p → target_at p.rows r ≡ Some t
       → ((x : Obj) → IsLeaving (frame.Free f) x → ⊥) → Accounts (told scenes ++ Told (Unreferenced r t) ∷ []) (frame.Free g) → ((x : Obj) → IsFreeOf x (frame.Free f) → IsFreeOf x (frame.Free g))
@@ -163,7 +178,7 @@ module _ (scenes : List Scene) (b : Option CallStart) (ws : List NotedWork) (p :
       Step : Move Frame Answer Pool Item → Type 0
       Step m = FineBy scenes f b p m ws
 
-      quiet : (r : Row) → row_of p.rows x ≡ Some r → r.mark ≡ mark.Quiet → Step (lifted (begin_quiet x r.hook p))
+      quiet : (r : Row) → row_of p.rows x ≡ Some r → r.mark ≡ mark.Quiet → Step (lifted p.ring (begin_quiet x r.hook p))
       quiet r e m =
           let live : IsLive r.mark = rw m tt in
           by_test (nat_eq r.hook 0)
@@ -182,26 +197,25 @@ module _ (scenes : List Scene) (b : Option CallStart) (ws : List NotedWork) (p :
       runs : is_running p x ≡ true → Step (Do.Done (answer.Freed free_reply.Running) p)
       runs run = said-fine (Beginning x) x (λ y h. h) (λ y l. l) whole known (ran-then x run whole.sound.waiting known.stacked known.cause)
 
-      dooms : (r : Row) → row_of p.rows x ≡ Some r → r.mark ≡ mark.Busy → is_running p x ≡ true → Step (Do.Go (frame.Free (Dooming x)) (doom p x))
-      dooms r e m run = record {
-        past = past-goes (told scenes) f (frame.Free (Dooming x)) (map work_of ws) (map work_of ws) p (doom p x) known.past
-            (later-rows (later-marked p x r mark.Doomed e (rw m tt)) refl refl) (λ y l. absurd l) tt known.past.all_account;
-        stacked = restacked f (frame.Free (Dooming x)) ws (λ y h. h) (λ y h. h) known.stacked;
-        cause = ran-then x run whole.sound.waiting known.stacked known.cause;
-      }
+      dooms : (r : Row) → row_of p.rows x ≡ Some r → r.mark ≡ mark.Busy → is_running p x ≡ true → Step (announced (closed_event (closes_with p.ring x)) (Dooming x) (doom p x))
+      dooms r e m run = closing-fine (Beginning x) (Dooming x) (closes_with p.ring x) (doom p x)
+          (λ items past. past-goes items f (frame.Free (Dooming x)) (map work_of ws) (map work_of ws) p (doom p x) past
+          (later-rows (later-marked p x r mark.Doomed e (rw m tt)) refl refl) (λ y l. absurd l) tt past.all_account)
+          (restacked f (frame.Free (Dooming x)) ws (λ y h. h) (λ y h. h) known.stacked)
+          (λ more. ran-then x run whole.sound.waiting known.stacked known.cause) known
 
-      marks : (r : Row) (m : Mark) → r.mark ≡ m → row_of p.rows x ≡ Some r → Step (lifted (begin_step x (row_of p.rows x) p))
+      marks : (r : Row) (m : Mark) → r.mark ≡ m → row_of p.rows x ≡ Some r → Step (lifted p.ring (begin_step x (row_of p.rows x) p))
       marks r mark.Quiet m e = rw (e, m) (quiet r e m)
       marks r mark.Asked m e = let run : is_running p x ≡ true = rw (e, m) refl in rw (e, m) (runs run)
       marks r mark.Busy m e = let run : is_running p x ≡ true = rw (e, m) refl in rw (e, m) (dooms r e m run)
       marks r mark.Doomed m e = let run : is_running p x ≡ true = rw (e, m) refl in rw (e, m) (runs run)
       marks r (mark.Dying former) m e = rw (e, m) (over-fine (Beginning x) whole known (λ y l. l))
 
-      each : (o : Option Row) → row_of p.rows x ≡ o → Step (lifted (begin_step x (row_of p.rows x) p))
+      each : (o : Option Row) → row_of p.rows x ≡ o → Step (lifted p.ring (begin_step x (row_of p.rows x) p))
       each None e = rw e (over-fine (Beginning x) whole known (λ y l. l))
       each (Some r) e = marks r r.mark refl e
 
-      newest : (o : Option Obj) → newest_ref p.rows x ≡ o → Step (lifted (refs_step x (newest_ref p.rows x) p))
+      newest : (o : Option Obj) → newest_ref p.rows x ≡ o → Step (lifted p.ring (refs_step x (newest_ref p.rows x) p))
       newest None e = rw e (each (row_of p.rows x) refl)
       newest (Some r) e =
           let w = newest-refers p.rows x r whole.sound.forest.distinct e in
@@ -214,7 +228,7 @@ module _ (scenes : List Scene) (b : Option CallStart) (ws : List NotedWork) (p :
   pub unlinking-fine : (o : Owner) (x : Obj) → At (Unlinking o x)
   unlinking-fine o x whole known = each (newest_ref_of p.rows o x) refl
     where
-      each : (n : Option Obj) → newest_ref_of p.rows o x ≡ n → FineBy scenes (frame.Free (Unlinking o x)) b p (lifted (unlink_step x (newest_ref_of p.rows o x) p)) ws
+      each : (n : Option Obj) → newest_ref_of p.rows o x ≡ n → FineBy scenes (frame.Free (Unlinking o x)) b p (lifted p.ring (unlink_step x (newest_ref_of p.rows o x) p)) ws
       each None e = rw e (record {
         past = past-goes (told scenes) (frame.Free (Unlinking o x)) (frame.Free (Releasing x)) (map work_of ws) (map work_of ws) p p known.past (later-same p) (λ y l. absurd l) tt known.past.all_account;
         stacked = restacked (frame.Free (Unlinking o x)) (frame.Free (Releasing x)) ws (λ y h. h) (λ y h. h) known.stacked;
@@ -228,7 +242,7 @@ module _ (scenes : List Scene) (b : Option CallStart) (ws : List NotedWork) (p :
   pub releasing-fine : (x : Obj) → At (Releasing x)
   releasing-fine x whole known = each (newest_ref p.rows x) refl
     where
-      each : (n : Option Obj) → newest_ref p.rows x ≡ n → FineBy scenes (frame.Free (Releasing x)) b p (lifted (release_step x (newest_ref p.rows x) p)) ws
+      each : (n : Option Obj) → newest_ref p.rows x ≡ n → FineBy scenes (frame.Free (Releasing x)) b p (lifted p.ring (release_step x (newest_ref p.rows x) p)) ws
       each None e = rw e (record {
         past = past-goes (told scenes) (frame.Free (Releasing x)) (frame.Free (Beginning x)) (map work_of ws) (map work_of ws) p p known.past (later-same p) (λ y l. absurd l) tt known.past.all_account;
         stacked = restacked (frame.Free (Releasing x)) (frame.Free (Beginning x)) ws (λ y h. h) (λ y h. h) known.stacked;

@@ -21,10 +21,12 @@ use Rattle.tree_specs.specs.declared.free_step.FreeReply.{FreeReply}
 use Rattle.tree_specs.specs.declared.free_step.FreeReply.TheVariants as free_reply
 use Rattle.tree_specs.specs.Tree.Pool.{Pool, row_of, is_row, owner_of, is_below, first_kid, remove, detach, left_row, place, set_mark, set_hook, target_at, noted_owner}
 use Rattle.tree_specs.specs.Tree.Heirs.{heir}
+use Rattle.tree_specs.specs.Events.Rotation.{closes_with}
 use Rattle.tree_specs.specs.Rules.Items.Item.{Told}
 use Rattle.tree_specs.specs.Rules.Sequence.{CallStart, Scene}
-use Rattle.tree_specs.specs.Rules.Story.{hook_moment}
-use Rattle.tree_specs.specs.Machine.Table.{notes, lifted, judge_step, last_step, loop_step, hand_on_step, child_step}
+use Rattle.tree_specs.specs.Rules.Answers.{hook_moment}
+use Rattle.tree_specs.specs.Machine.FreeTable.{judge_step, last_step, loop_step, hand_on_step, child_step}
+use Rattle.tree_specs.specs.Machine.Table.{notes, lifted}
 use Rattle.tree_specs.specs.Promises.Orderly.{frees, accepts}
 use Rattle.tree_specs.specs.Promises.Grounded.{IsItem, is_asked}
 use Rattle.tree_specs.specs.Invariants.Sound.{IsLive, claims, ValidAt}
@@ -38,7 +40,7 @@ use Rattle.tree_specs.proofs.Promises.Causes.{NotedWork, told, StandsOn, Stacked
 use Rattle.tree_specs.proofs.Invariants.Waiters.{Waiter, ForFree}
 use Rattle.tree_specs.proofs.Promises.Fitting.{last-more, fits-accepted, fits-refused, fits-freed, fits-moved}
 use Rattle.tree_specs.proofs.Promises.Fine.{work_of, Known, FineBy, restacked, of-next, known-told}
-use Rattle.tree_specs.proofs.Promises.FineDrops.{At, over-fine, dropped-fine}
+use Rattle.tree_specs.proofs.Promises.FineDrops.{At, over-fine, closing-fine, dropped-fine}
 
 module _ (scenes : List Scene) (b : Option CallStart) (ws : List NotedWork) (p : Pool) where
   pub hooked-fine : (x : Obj) (h : ℕ) → At scenes b ws p (Hooked x h)
@@ -57,11 +59,10 @@ module _ (scenes : List Scene) (b : Option CallStart) (ws : List NotedWork) (p :
       let e : row_of p.rows x ≡ Some r = whole.sound.rests.1 in
       let new : row_of (detach p x).rows x ≡ Some (left_row r) = row_of-changed-same left_row p.rows x r (λ q. refl) e in
       let past_now : IsPast (row_of (detach p x).rows x) = rw new tt in
-      record {
-        past = past-goes (told scenes) f g (map work_of ws) (map work_of ws) p (detach p x) known.past (later-left p x r e) (λ y l. inl (subst (λ (z : Obj). IsPast (row_of (detach p x).rows z)) l past_now)) known.past.accounts known.past.all_account;
-        stacked = restacked f g ws (λ y k. k) (λ y k. k) known.stacked;
-        cause = tt;
-      }
+      closing-fine scenes b ws p (Leaving x h) (Looping x (Removal h)) (closes_with p.ring x) (detach p x)
+      (λ items past. past-goes items f g (map work_of ws) (map work_of ws) p (detach p x) past (later-left p x r e)
+      (λ y l. inl (subst (λ (z : Obj). IsPast (row_of (detach p x).rows z)) l past_now)) past.accounts past.all_account)
+      (restacked f g ws (λ y k. k) (λ y k. k) known.stacked) (λ more. tt) known
 
   -- a destructor's refusal is told right before the call that waits is
   refused-now : (s : Scene) (x : Obj) (h v w : ℕ) → s.item ≡ Told (Refused x v) → (g : Frame) (n : Option CallStart) → Waiter g → StandsOn (frame.Free (Judged x h w)) g n
@@ -78,7 +79,7 @@ module _ (scenes : List Scene) (b : Option CallStart) (ws : List NotedWork) (p :
       f : Frame
       f = frame.Free (Judged x h v)
 
-      by-row : (r : Row) → row_of p.rows x ≡ Some r → IsLive r.mark → claims x (map work_of ws) ≡ [] → is_asked p x ≡ true → FineBy scenes f b p (lifted (judge_step x h v p)) ws
+      by-row : (r : Row) → row_of p.rows x ≡ Some r → IsLive r.mark → claims x (map work_of ws) ≡ [] → is_asked p x ≡ true → FineBy scenes f b p (lifted p.ring (judge_step x h v p)) ws
       by-row r e live none run =
           let free = unaccepted (told scenes) f (map work_of ws) p x r known.past e live (λ l. l) in
           let there = unfreed (told scenes) f (map work_of ws) p x r known.past e in
@@ -103,7 +104,7 @@ module _ (scenes : List Scene) (b : Option CallStart) (ws : List NotedWork) (p :
 
   -- the last child is gone, and the object is removed
   removed-fine : (x : Obj) (h : ℕ) → IsConsistent (record { innermost = frame.Free (Looping x (Removal h)); below = map work_of ws; pool = p }) → Known scenes (with_note b (frame.Free (Looping x (Removal h)))) ws p
-      → FineBy scenes (frame.Free (Looping x (Removal h))) b p (lifted (last_step x (Removal h) p)) ws
+      → FineBy scenes (frame.Free (Looping x (Removal h))) b p (lifted p.ring (last_step x (Removal h) p)) ws
   removed-fine x h whole known =
       let f : Frame = frame.Free (Looping x (Removal h)) in
       let row = dying-row (row_of p.rows x) (claims x (map work_of ws)) (claim-here x InLoop (claims x (map work_of ws)) (row_of p.rows x) (whole.sound.open_frees x)) in
@@ -121,7 +122,7 @@ module _ (scenes : List Scene) (b : Option CallStart) (ws : List NotedWork) (p :
   looping-fine x purpose whole known = each (first_kid p.rows (Of x)) refl
     where
       last : (purpose : Purpose) → IsConsistent (record { innermost = frame.Free (Looping x purpose); below = map work_of ws; pool = p }) → Known scenes (with_note b (frame.Free (Looping x purpose))) ws p
-          → FineBy scenes (frame.Free (Looping x purpose)) b p (lifted (last_step x purpose p)) ws
+          → FineBy scenes (frame.Free (Looping x purpose)) b p (lifted p.ring (last_step x purpose p)) ws
       last (Removal h) whole known = removed-fine x h whole known
       last Emptying whole known = over-fine scenes b ws p (Looping x Emptying) whole known (λ y l. l)
 
@@ -130,7 +131,7 @@ module _ (scenes : List Scene) (b : Option CallStart) (ws : List NotedWork) (p :
       after c target (Removal h) a = any-as-before (accepts x) (told scenes) (Told (Unreferenced c target)) refl ∙ a
       after c target Emptying a = tt
 
-      child : (c : Obj) (o : Option Obj) → target_at p.rows c ≡ o → FineBy scenes (frame.Free (Looping x purpose)) b p (lifted (child_step x c purpose (target_at p.rows c) p)) ws
+      child : (c : Obj) (o : Option Obj) → target_at p.rows c ≡ o → FineBy scenes (frame.Free (Looping x purpose)) b p (lifted p.ring (child_step x c purpose (target_at p.rows c) p)) ws
       child c None t = rw t (record {
         past = past-goes (told scenes) (frame.Free (Looping x purpose)) (frame.Free (Beginning c)) (map work_of ws) (frame.Free (FreeingChild x c (noted_owner p.rows c) purpose) ∷ map work_of ws) p p known.past (later-same p)
             (λ y l. absurd l) tt (known.past.accounts, known.past.all_account);
@@ -139,13 +140,13 @@ module _ (scenes : List Scene) (b : Option CallStart) (ws : List NotedWork) (p :
       })
       child c (Some target) t = rw t (dropped-fine scenes b ws p (Looping x purpose) (Looping x purpose) c target whole known t (λ y l. l) (after c target purpose known.past.accounts) (λ y h. h) tt)
 
-      each : (o : Option Obj) → first_kid p.rows (Of x) ≡ o → FineBy scenes (frame.Free (Looping x purpose)) b p (lifted (loop_step x purpose (first_kid p.rows (Of x)) p)) ws
+      each : (o : Option Obj) → first_kid p.rows (Of x) ≡ o → FineBy scenes (frame.Free (Looping x purpose)) b p (lifted p.ring (loop_step x purpose (first_kid p.rows (Of x)) p)) ws
       each None e = rw e (last purpose whole known)
       each (Some c) e = rw e (child c (target_at p.rows c) refl)
 
   -- a child that wasn't freed is handed on
   handed-fine : (x c : Obj) (noted : Option Owner) (purpose : Purpose) (a : FreeReply) → IsConsistent (record { innermost = frame.Free (AfterChild x c noted purpose a); below = map work_of ws; pool = p })
-      → Known scenes (with_note b (frame.Free (AfterChild x c noted purpose a))) ws p → FineBy scenes (frame.Free (AfterChild x c noted purpose a)) b p (lifted (hand_on_step x c noted purpose p)) ws
+      → Known scenes (with_note b (frame.Free (AfterChild x c noted purpose a))) ws p → FineBy scenes (frame.Free (AfterChild x c noted purpose a)) b p (lifted p.ring (hand_on_step x c noted purpose p)) ws
   handed-fine x c noted purpose a whole known = by_test (is_below (owner_of p.rows c) (Of x)) (λ t. rw t (moves t)) (λ t. rw t stays)
     where
       f : Frame

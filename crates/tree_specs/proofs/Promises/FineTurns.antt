@@ -9,7 +9,8 @@ use Rattle.tree_specs.specs.declared.kind.Kind.{Kind}
 use Rattle.tree_specs.specs.declared.kind.Kind.TheVariants as kind
 use Rattle.tree_specs.specs.declared.handler.Handler.{Handler}
 use Rattle.tree_specs.specs.declared.moment.What.{What}
-use Rattle.tree_specs.specs.declared.moment.What.TheVariants.{Immediate as ForImmediate, Timer as ForTimer}
+use Rattle.tree_specs.specs.declared.moment.What.TheVariants.{Immediate as ForImmediate, Timer as ForTimer, Descriptor as ForDescriptor}
+use Rattle.tree_specs.specs.declared.occasion.Occasion.{Occasion}
 use Rattle.tree_specs.specs.declared.event.Event.TheVariants.{Fired}
 use Rattle.tree_specs.specs.declared.question.Ask.{Ask}
 use Rattle.tree_specs.specs.declared.question.Ask.TheVariants as ask
@@ -19,10 +20,10 @@ use Rattle.tree_specs.specs.declared.frame.Frame.TheVariants as frame
 use Rattle.tree_specs.specs.declared.frame.CallFrame.TheVariants.{Asking}
 use Rattle.tree_specs.specs.declared.frame.FreeFrame.TheVariants.{Beginning}
 use Rattle.tree_specs.specs.declared.frame.TurnFrame.{TurnFrame}
-use Rattle.tree_specs.specs.declared.frame.TurnFrame.TheVariants.{Taking, Timing, Timed, Polling, Starting, Firing, Handling, Handled, Clearing, Reading, Closing}
+use Rattle.tree_specs.specs.declared.frame.TurnFrame.TheVariants.{Taking, Timing, Timed, Polling, Starting, Firing, Handling, Handled, Clearing, Closing}
 use Rattle.tree_specs.specs.declared.frame.Answer.TheVariants as answer
-use Rattle.tree_specs.specs.Tree.Pool.{Pool, row_of, set_mark}
-use Rattle.tree_specs.specs.Events.Coming.{comes_as, handler_for, handler_moment, goes_after}
+use Rattle.tree_specs.specs.Tree.Pool.{Pool, row_of, changed, set_mark, marked_row}
+use Rattle.tree_specs.specs.Events.Coming.{comes_as, handler_for, handler_moment, begun, goes_after}
 use Rattle.tree_specs.specs.Rules.Items.{Item}
 use Rattle.tree_specs.specs.Rules.Items.Item.{Told, Asked}
 use Rattle.tree_specs.specs.Rules.Sequence.{CallStart, Scene}
@@ -34,9 +35,9 @@ use Rattle.tree_specs.specs.Invariants.Sound.{claims}
 use Rattle.tree_specs.specs.Invariants.Consistent.{IsConsistent}
 use Rattle.tree_specs.proofs.Tree.Numbered.{by_test}
 use Rattle.tree_specs.proofs.Invariants.Changes.{handling-row, claim-here}
-use Rattle.tree_specs.proofs.Invariants.Turning.{handler-ready, Passes, Pass, look-passes, taken-plain}
+use Rattle.tree_specs.proofs.Invariants.Turning.{handler-ready, rotated-rows, Passes, Pass, look-passes, taken-plain}
 use Rattle.tree_specs.proofs.Invariants.Waiters.{Waiter, ForRun}
-use Rattle.tree_specs.proofs.Promises.Later.{Later, later-same, later-waiting, later-marked}
+use Rattle.tree_specs.proofs.Promises.Later.{Later, later-rows, later-same, later-waiting, later-marked}
 use Rattle.tree_specs.proofs.Promises.Past.{Past, Accounts, past-goes, past-tells, unfreed}
 use Rattle.tree_specs.proofs.Promises.Causes.{NotedWork, told, StandsOn, Cause}
 use Rattle.tree_specs.proofs.Promises.Fitting.{fits-fired, fits-question}
@@ -46,12 +47,14 @@ use Rattle.tree_specs.proofs.Promises.Fine.{work_of, Known, FineBy, restacked, o
 comes-no-hook : (w : What) (k : Kind) → comes_as w k ≡ true → is_hook w ≡ false
 comes-no-hook ForImmediate kind.Immediate e = refl
 comes-no-hook ForTimer kind.Timer e = refl
+comes-no-hook ForDescriptor kind.Descriptor e = refl
 comes-no-hook _ _ e = cc
 
 -- it may run for a busy event
 comes-fires : (w : What) (k : Kind) → comes_as w k ≡ true → may_fire w k Busy ≡ true
 comes-fires ForImmediate kind.Immediate e = refl
 comes-fires ForTimer kind.Timer e = refl
+comes-fires ForDescriptor kind.Descriptor e = refl
 comes-fires _ _ e = cc
 
 module _ (scenes : List Scene) (b : Option CallStart) (ws : List NotedWork) (p : Pool) where
@@ -104,19 +107,21 @@ module _ (scenes : List Scene) (b : Option CallStart) (ws : List NotedWork) (p :
   plain : (f : TurnFrame) (i : Input) (g : Frame) → turn_taken f p i ≡ Some g → (t : TurnFrame) × (g ≡ frame.Turn t)
   plain f i g e = let t = taken-plain f p i g e in (t.0, t.1)
 
-  starting-fine : (w : What) (x : Obj) (now : ℕ) → AtTurn (Starting w x now)
-  starting-fine w x now whole known = each (handler_for p w x) refl
+  starting-fine : (w : What) (x : Obj) (occasion : Occasion) → AtTurn (Starting w x occasion)
+  starting-fine w x occasion whole known = each (handler_for p w x) refl
     where
-      each : (o : Option Handler) → handler_for p w x ≡ o → FineBy scenes (frame.Turn (Starting w x now)) b p (starting_step w x now (handler_for p w x) p) ws
-      each None e = rw e (goes (Starting w x now) (Closing 1) p (later-same p) known)
+      each : (o : Option Handler) → handler_for p w x ≡ o → FineBy scenes (frame.Turn (Starting w x occasion)) b p (starting_step w x occasion (handler_for p w x) p) ws
+      each None e = rw e (goes (Starting w x occasion) (Closing 1) p (later-same p) known)
       each (Some h) e =
           let ready = handler-ready p w x h e in
-          rw e (goes (Starting w x now) (Firing w x h now) (set_mark p x Busy) (later-marked p x ready.row Busy ready.is (rw ready.quiet tt)) known)
+          let r = rotated-rows w x p in
+          rw e (goes (Starting w x occasion) (Firing w x h occasion) (begun w x p)
+          (later-rows (later-marked p x ready.row Busy ready.is (rw ready.quiet tt)) (ap (λ (rows : List Row). changed (marked_row Busy) rows x) r.0) r.1) known)
 
-  firing-fine : (w : What) (x : Obj) (h : Handler) (now : ℕ) → AtTurn (Firing w x h now)
-  firing-fine w x h now whole known =
-      let f : Frame = frame.Turn (Firing w x h now) in
-      let g : Frame = frame.Turn (Handling w x h now) in
+  firing-fine : (w : What) (x : Obj) (h : Handler) (occasion : Occasion) → AtTurn (Firing w x h occasion)
+  firing-fine w x h occasion whole known =
+      let f : Frame = frame.Turn (Firing w x h occasion) in
+      let g : Frame = frame.Turn (Handling w x h occasion) in
       let e : Item = Told (Fired w x h.routine) in
       let rests = whole.sound.rests in
       let r : Row = rests.1 in
@@ -150,11 +155,10 @@ module _ (scenes : List Scene) (b : Option CallStart) (ws : List NotedWork) (p :
   turn-fine (Timed again now) whole known = passes (Timed again now) _ (look-passes (Timed again now) p tt) known
   turn-fine (Timing again) whole known = asks (Timing again) ask.Clock (λ y. refl) (plain (Timing again)) known
   turn-fine (Polling limit) whole known = asks (Polling limit) (ask.Wait limit) (λ y. refl) (plain (Polling limit)) known
-  turn-fine Reading whole known = asks Reading ask.Clock (λ y. refl) (plain Reading) known
-  turn-fine (Starting w x now) whole known = starting-fine w x now whole known
-  turn-fine (Firing w x h now) whole known = firing-fine w x h now whole known
-  turn-fine (Handling w x h now) whole known =
-      begins (Handling w x h now) (Handling w x h now) (frame.Call (Asking (ask.Routine (handler_moment w x h now)))) p (later-same p) tt (comes-no-hook w whole.sound.rests.1 whole.sound.rests.2) tt known
+  turn-fine (Starting w x occasion) whole known = starting-fine w x occasion whole known
+  turn-fine (Firing w x h occasion) whole known = firing-fine w x h occasion whole known
+  turn-fine (Handling w x h occasion) whole known =
+      begins (Handling w x h occasion) (Handling w x h occasion) (frame.Call (Asking (ask.Routine (handler_moment w x h occasion)))) p (later-same p) tt (comes-no-hook w whole.sound.rests.1 whole.sound.rests.2) tt known
   turn-fine (Handled w x) whole known = handled-fine w x whole known
   turn-fine (Clearing x) whole known = absurd whole.sound.rests
   turn-fine (Closing v) whole known = closing-fine v whole known

@@ -10,7 +10,7 @@ use Rattle.tree_specs.specs.declared.row.Row.{Row}
 use Rattle.tree_specs.specs.declared.question.Ask.{Ask}
 use Rattle.tree_specs.specs.declared.question.Ask.TheVariants as ask
 use Rattle.tree_specs.specs.declared.reply.Reply.{Reply}
-use Rattle.tree_specs.specs.declared.event.Event.TheVariants.{Replied, Fired, Accepted, Refused, Moved, Freed, Warned, Unreferenced}
+use Rattle.tree_specs.specs.declared.event.Event.TheVariants.{Replied, Fired, Accepted, Refused, Moved, Freed, Warned, Unreferenced, Closed}
 use Rattle.tree_specs.specs.declared.moment.What.{What}
 use Rattle.tree_specs.specs.Words.Objects.{same, same_owner}
 use Rattle.tree_specs.specs.Tree.Pool.{row_of, is_row, is_object_row, is_owner}
@@ -52,6 +52,10 @@ fits-replied items r h = fits-by items (Told (Replied r)) (λ x e. cc) (λ x e. 
 
 pub fits-freed : (items : List Item) (x : Obj) (h : ℕ) → FreedOnce items (Told (Freed x h)) → Fits items (Told (Freed x h))
 fits-freed items x h once = fits-by items (Told (Freed x h)) (λ y e. cc) (λ y e. cc) (once, tt, tt, tt)
+
+-- that a descriptor is closed says nothing of an object
+pub fits-closed : (items : List Item) (fd : ℕ) → Fits items (Told (Closed fd))
+fits-closed items fd = fits-by items (Told (Closed fd)) (λ x e. cc) (λ x e. cc) (tt, tt, tt, tt)
 
 -- an object that lives, and whose destructor hasn't accepted
 module _ (items : List Item) (x : Obj) (free : list_any (accepts x) items ≡ false) (there : list_any (frees x) items ≡ false) where

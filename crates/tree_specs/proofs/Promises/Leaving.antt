@@ -18,16 +18,18 @@ use Rattle.tree_specs.specs.declared.question.Input.{Input}
 use Rattle.tree_specs.specs.declared.free_step.FreeReply.{FreeReply}
 use Rattle.tree_specs.specs.declared.free_step.FreeReply.TheVariants as free_reply
 use Rattle.tree_specs.specs.Tree.Targets.{newest_ref}
-use Rattle.tree_specs.specs.Tree.Pool.{Pool, remove, set_mark, set_hook}
+use Rattle.tree_specs.specs.Tree.Pool.{Pool, row_of, remove, set_mark, set_hook}
 use Rattle.tree_specs.specs.Calls.Refusals.{Check, refusals}
 use Rattle.tree_specs.specs.Calls.Plans.{Plan, plan, frees, changed_by}
-use Rattle.tree_specs.specs.Calls.Plans.Plan.{Does, Frees, Unlinks, Empties, AsksTime, Turns}
+use Rattle.tree_specs.specs.Calls.Plans.Plan.{Does, Frees, Unlinks, Empties, Asks, Turns}
 use Rattle.tree_specs.specs.Rules.Items.Item.{Told}
 use Rattle.tree_specs.specs.Rules.Sequence.{Work, Scene}
-use Rattle.tree_specs.specs.Rules.Story.{hook_moment, effect, unlink, free, judged, leave, children, asked, freed_reply, numbered, turned, taking, reading}
+use Rattle.tree_specs.specs.Rules.Answers.{hook_moment, freed_reply}
+use Rattle.tree_specs.specs.Rules.Story.{effect, unlink, free, judged, leave, children, asked, numbered, turned, taking, reaching}
 use Rattle.tree_specs.specs.declared.question.Ask.TheVariants.{Quiet as AtRest}
-use Rattle.tree_specs.specs.Promises.Refused.{called, Untouched, OnlyDropped, told_refusal, LeftByFree, LeftByItsFree, LeftByRefused}
+use Rattle.tree_specs.specs.Promises.Refused.{called, Untouched, OnlyDropped, closed_at, told_refusal, LeftByFree, LeftByItsFree, LeftByRefused}
 use Rattle.tree_specs.proofs.Tree.Numbered.{by_test}
+use Rattle.tree_specs.proofs.Promises.Answering.{IsNoRefusal, reaching-answers}
 use Rattle.tree_specs.proofs.Rules.FreeCauses.{leave-ok, unlinked, dropped_scene, FreeGoes, free-goes}
 use Rattle.tree_specs.proofs.Rules.FreeCauses.FreeGoes.{IsOver, ByLeaving, ByAsking, AsRunning, Again, AsHeld}
 
@@ -46,7 +48,12 @@ left-more : (x r : Obj) (p q : Pool) (is left : List Input) (ts : List Scene) (a
     → Leaves x p is a q (dropped_scene p x r ∷ ts) left
 left-more x r p q is left ts free_reply.Ok h = tt
 left-more x r p q is left ts free_reply.Held h = (drop-more x r p q ts h.0, h.1)
-left-more x r p q is left ts free_reply.Running h = (h.0, drop-more x r p h.0 ts h.1, h.2, h.3)
+left-more x r p q is left ts free_reply.Running h =
+    let s : Scene = dropped_scene p x r in
+    let d = h.0 in (
+      record { dropped = s ∷ d.dropped; over = d.over; drops = drop-more x r p d.over d.dropped d.drops; told_is = ap (λ (l : List Scene). s ∷ l) d.told_is; pool = d.pool },
+      h.1,
+    )
 left-more x r p q is left ts (free_reply.Refused v) h =
     let s : Scene = dropped_scene p x r in
     record {
@@ -106,9 +113,10 @@ free-leaves-more n x ih p is a q ts left (ByAsking m h v r us vs mid run judge t
 free-leaves-more n x ih p is a q ts left (AsRunning r ran run is_doomed k) =
     let e1 : free_reply.Running ≡ a = cc in
     let e2 : r ≡ q = cc in
-    let e3 : [] ≡ ts = cc in
+    let e3 : closed_at (row_of p.rows x) x p ≡ ts = cc in
     let e4 : is ≡ left = cc in
-    subst (λ (z : FreeReply). Leaves x p is z q ts left) e1 (p, subst (OnlyDropped x p p) e3 (none-dropped x p), sym e2 ∙ is_doomed, sym e4)
+    subst (λ (z : FreeReply). Leaves x p is z q ts left) e1
+    (record { dropped = []; over = p; drops = none-dropped x p; told_is = sym e3; pool = sym e2 ∙ is_doomed }, sym e4)
 free-leaves-more n x ih p is a q ts left (Again r us k told) =
     subst (λ (l : List Scene). Leaves x p is a q l left) told (left-more x r p q is left us a (ih (remove p r) is a q us left k))
 free-leaves-more n x ih p is a q ts left (AsHeld r z t k) =
@@ -134,16 +142,11 @@ LeftByPlan (Frees x) why p q is left told = LeftByItsFree x why p q is left told
 LeftByPlan (Unlinks o x) why p q is left told = LeftByItsFree x why p q is left told
 LeftByPlan plan why p q is left told = ⊥
 
-IsDone : Reply → Type 0
-IsDone (reply.No why) = ⊥
-IsDone r = Unit {0}
-
 AnswersDone : Plan → Type 0
-AnswersDone (Does change warned r) = IsDone r
+AnswersDone (Does change notice r) = IsNoRefusal r
 AnswersDone plan = Unit {0}
 
-not-refused : (r : Reply) (why : Refusal) → IsDone r → r ≡ reply.No why → ⊥
-unfolding IsDone
+not-refused : (r : Reply) (why : Refusal) → IsNoRefusal r → r ≡ reply.No why → ⊥
 not-refused (reply.No w) why h e = h
 not-refused _ why h e = cc
 
@@ -166,10 +169,10 @@ never-refused w why p q is left told e =
     cc
 
 plan-leaves : (n : ℕ) (plan : Plan) (why : Refusal) (p q : Pool) (is left : List Input) (told : List Scene) → AnswersDone plan
-    → effect (free n) (unlink n) (children n) (numbered (reading n)) (turned AtRest (taking n)) plan p is ≡ Ended (reply.No why) q told left
+    → effect (free n) (unlink n) (children n) (reaching n) (turned AtRest (taking n)) plan p is ≡ Ended (reply.No why) q told left
     → LeftByPlan plan why p q is left told
 unfolding AnswersDone
-plan-leaves n (Does change warned r) why p q is left told done e =
+plan-leaves n (Does change notice r) why p q is left told done e =
     let e' : Ended r (changed_by change p) [] is ≡ Ended (reply.No why) q told left = e in
     let same : r ≡ reply.No why = cc in
     not-refused r why done same
@@ -183,7 +186,7 @@ plan-leaves n (Empties x) why p q is left told done e =
     let w = ended-followed (children n x p is) (λ u r mid. Ended reply.Ok r [] mid) (reply.No why) q told left e in
     let e' : Ended reply.Ok w.1 [] w.4 ≡ Ended (reply.No why) q w.3 left = w.6 in
     cc
-plan-leaves n AsksTime why p q is left told done e = never-refused (reading n) why p q is left told e
+plan-leaves n (Asks outside) why p q is left told done e = reaching-answers n outside (reply.No why) p q is left told e
 plan-leaves n Turns why p q is left told done e = never-refused (taking n) why p q is left told e
 
 refused-leaves : (c : Call) (why : Refusal) (p q : Pool) (is left : List Input) (told : List Scene) → Untouched p q is left told → LeftByRefused c why p q is left told
@@ -192,12 +195,12 @@ refused-leaves (call.Unlink o x) why p q is left told u = inl u
 refused-leaves c why p q is left told u = u
 
 passed-leaves : (n : ℕ) (c : Call) (why : Refusal) (p q : Pool) (is left : List Input) (told : List Scene)
-    → effect (free n) (unlink n) (children n) (numbered (reading n)) (turned AtRest (taking n)) (plan p c) p is ≡ Ended (reply.No why) q told left
+    → effect (free n) (unlink n) (children n) (reaching n) (turned AtRest (taking n)) (plan p c) p is ≡ Ended (reply.No why) q told left
     → LeftByRefused c why p q is left told
-unfolding AnswersDone IsDone
+unfolding AnswersDone
 passed-leaves n (call.Free x) why p q is left told e = inr (each (newest_ref p.rows x) e)
   where
-    each : (o : Option Obj) → effect (free n) (unlink n) (children n) (numbered (reading n)) (turned AtRest (taking n)) (frees o x) p is ≡ Ended (reply.No why) q told left
+    each : (o : Option Obj) → effect (free n) (unlink n) (children n) (reaching n) (turned AtRest (taking n)) (frees o x) p is ≡ Ended (reply.No why) q told left
         → LeftByItsFree x why p q is left told
     each None k = plan-leaves n (Frees x) why p q is left told tt k
     each (Some r) k = plan-leaves n (Unlinks Root x) why p q is left told tt k

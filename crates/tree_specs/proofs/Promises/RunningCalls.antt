@@ -16,11 +16,13 @@ use Rattle.tree_specs.specs.Tree.Targets.{newest_ref}
 use Rattle.tree_specs.specs.Tree.Forest.{Distinct}
 use Rattle.tree_specs.specs.Calls.Refusals.{Check, refusals, tests, is_running}
 use Rattle.tree_specs.specs.Calls.Plans.{Plan, plan, planned, frees, unless_refused, changed_by}
-use Rattle.tree_specs.specs.Calls.Plans.Plan.{Does, Frees, Unlinks, Empties, AsksTime, Turns}
+use Rattle.tree_specs.specs.Calls.Plans.Plan.{Does, Frees, Unlinks, Empties, Asks, Turns}
 use Rattle.tree_specs.specs.Rules.Sequence.{Scene}
-use Rattle.tree_specs.specs.Rules.Story.{effect, free, unlink, children, freed_reply, numbered, turned, taking, reading}
+use Rattle.tree_specs.specs.Rules.Answers.{freed_reply}
+use Rattle.tree_specs.specs.Rules.Story.{effect, free, unlink, children, turned, taking, reaching}
 use Rattle.tree_specs.specs.declared.question.Ask.TheVariants.{Quiet as AtRest}
 use Rattle.tree_specs.proofs.Calls.OwnRefusals.{IsOwn, AllOwn, own-refused}
+use Rattle.tree_specs.proofs.Promises.Answering.{reaching-answers}
 use Rattle.tree_specs.proofs.Promises.Leaving.{never-refused}
 use Rattle.tree_specs.proofs.Rules.FreeCauses.{FreeCause, RunsFrom, free-cause, unlink-cause}
 
@@ -30,7 +32,7 @@ OwnReply p (reply.No why) = IsOwn p why
 OwnReply p r = Unit {0}
 
 abbrev OwnPlan : Pool → Plan → Type 0
-OwnPlan p (Does change warned r) = OwnReply p r
+OwnPlan p (Does change notice r) = OwnReply p r
 OwnPlan p plan = Unit {0}
 
 plan-own : (p : Pool) (c : Call) → OwnPlan p (plan p c)
@@ -54,8 +56,8 @@ by-free p q x y told free_reply.Running d h e = let same : y ≡ x = cc in subst
 by-free p q x y told _ d h e = cc
 
 plan-runs : (n : ℕ) (plan : Plan) (x : Obj) (p q : Pool) (is left : List Input) (told : List Scene) → Distinct p.rows → OwnPlan p plan
-    → effect (free n) (unlink n) (children n) (numbered (reading n)) (turned AtRest (taking n)) plan p is ≡ Ended (reply.No (refusal.Running x)) q told left → is_running p x ≡ true
-plan-runs n (Does change warned r) x p q is left told d own e =
+    → effect (free n) (unlink n) (children n) (reaching n) (turned AtRest (taking n)) plan p is ≡ Ended (reply.No (refusal.Running x)) q told left → is_running p x ≡ true
+plan-runs n (Does change notice r) x p q is left told d own e =
     let e' : Ended r (changed_by change p) [] is ≡ Ended (reply.No (refusal.Running x)) q told left = e in
     let same : r ≡ reply.No (refusal.Running x) = cc in
     let own' : OwnReply p (reply.No (refusal.Running x)) = subst (OwnReply p) same own in own'
@@ -71,9 +73,9 @@ plan-runs n (Empties y) x p q is left told d own e =
     let w = ended-followed (children n y p is) (λ u r mid. Ended reply.Ok r [] mid) (reply.No (refusal.Running x)) q told left e in
     let e' : Ended reply.Ok w.1 [] w.4 ≡ Ended (reply.No (refusal.Running x)) q w.3 left = w.6 in
     cc
-plan-runs n AsksTime x p q is left told d own e = absurd (never-refused (reading n) (refusal.Running x) p q is left told e)
+plan-runs n (Asks outside) x p q is left told d own e = absurd (reaching-answers n outside (reply.No (refusal.Running x)) p q is left told e)
 plan-runs n Turns x p q is left told d own e = absurd (never-refused (taking n) (refusal.Running x) p q is left told e)
 
 pub call-runs : (n : ℕ) (c : Call) (x : Obj) (p q : Pool) (is left : List Input) (told : List Scene) → Distinct p.rows
-    → effect (free n) (unlink n) (children n) (numbered (reading n)) (turned AtRest (taking n)) (planned p c) p is ≡ Ended (reply.No (refusal.Running x)) q told left → is_running p x ≡ true
+    → effect (free n) (unlink n) (children n) (reaching n) (turned AtRest (taking n)) (planned p c) p is ≡ Ended (reply.No (refusal.Running x)) q told left → is_running p x ≡ true
 call-runs n c x p q is left told d e = plan-runs n (planned p c) x p q is left told d (planned-own p c) e

@@ -10,7 +10,7 @@ use Rattle.tree_specs.specs.declared.question.Input.{Input}
 use Rattle.tree_specs.specs.declared.question.Ask.TheVariants.{Quiet}
 use Rattle.tree_specs.specs.declared.frame.Frame.{Frame}
 use Rattle.tree_specs.specs.declared.frame.Frame.TheVariants as frame
-use Rattle.tree_specs.specs.declared.frame.CallFrame.TheVariants.{Asking, Doing, Warning, Telling, Returning}
+use Rattle.tree_specs.specs.declared.frame.CallFrame.TheVariants.{Asking, Doing, Announcing, Telling, Returning}
 use Rattle.tree_specs.specs.declared.frame.FreeFrame.TheVariants.{Unlinking, Releasing, Giving, Beginning, Hooked, Judged, Dooming, Leaving, Looping, AfterChild, Ending}
 use Rattle.tree_specs.specs.declared.frame.Answer.{Answer}
 use Rattle.tree_specs.specs.Tree.Pool.{Pool, empty}
@@ -26,10 +26,11 @@ use Rattle.tree_specs.proofs.Rules.TextLaws.{all-lawful, accepts-items}
 use Rattle.tree_specs.proofs.Rules.Rest.{whole-kept}
 use Rattle.tree_specs.proofs.Promises.Causes.{NotedWork, item_of, told}
 use Rattle.tree_specs.proofs.Promises.Fine.{work_of, IsFine, Known, FineBy, taken-noted}
-use Rattle.tree_specs.proofs.Promises.FineCallers.{asking-fine, telling-fine, returning-fine, doing-fine, warning-fine}
+use Rattle.tree_specs.proofs.Promises.FineCallers.{asking-fine, telling-fine, returning-fine, doing-fine, announcing-fine}
 use Rattle.tree_specs.proofs.Promises.FineFrees.{hooked-fine, leaving-fine, judged-fine, looping-fine, tried-fine}
 use Rattle.tree_specs.proofs.Promises.FineDrops.{ending-fine, beginning-fine, dooming-fine, unlinking-fine, releasing-fine, giving-fine}
 use Rattle.tree_specs.proofs.Promises.FineTurns.{turn-fine}
+use Rattle.tree_specs.proofs.Promises.FineOutside.{outside-fine}
 use Rattle.tree_specs.proofs.Rules.StoryLaws.{asking, begin-whole, story-walk}
 
 abbrev WholeAt : Frame → List Frame → Pool → Type 0
@@ -42,7 +43,7 @@ Holds scenes w ws p = WholeAt w.work (map work_of ws) p × Known scenes w ws p
 fine : (scenes : List Scene) (f : Frame) (b : Option CallStart) (ws : List NotedWork) (p : Pool) → WholeAt f (map work_of ws) p → Known scenes (with_note b f) ws p → FineBy scenes f b p (step f p) ws
 fine scenes (frame.Call (Asking q)) b ws p whole known = asking-fine scenes q b ws p whole known
 fine scenes (frame.Call (Doing q c)) b ws p whole known = doing-fine scenes q c b ws p whole.sound known
-fine scenes (frame.Call (Warning q x r)) b ws p whole known = warning-fine scenes q x r b ws p known
+fine scenes (frame.Call (Announcing q notice r)) b ws p whole known = announcing-fine scenes q notice r b ws p known
 fine scenes (frame.Call (Telling q r)) b ws p whole known = telling-fine scenes q r b ws p known
 fine scenes (frame.Call (Returning v)) b ws p whole known = returning-fine scenes v b ws p whole.sound.waiting known
 fine scenes (frame.Free (Unlinking o x)) b ws p whole known = unlinking-fine scenes b ws p o x whole known
@@ -57,6 +58,7 @@ fine scenes (frame.Free (Looping x purpose)) b ws p whole known = looping-fine s
 fine scenes (frame.Free (AfterChild x c noted purpose a)) b ws p whole known = tried-fine scenes b ws p x c noted purpose a whole known
 fine scenes (frame.Free (Ending a)) b ws p whole known = ending-fine scenes b ws p a whole known
 fine scenes (frame.Turn f) b ws p whole known = turn-fine scenes b ws p f whole known
+fine scenes (frame.Outside f) b ws p whole known = outside-fine scenes b ws p f whole known
 fine scenes _ b ws p whole known = absurd whole.sound.rests
 
 both : (scenes : List Scene) (f : Frame) (b : Option CallStart) (ws : List NotedWork) (p : Pool) (m : Move Frame Answer Pool Item) → Leads table (λ g gs q j. WholeAt g gs q) m (map work_of ws) 1

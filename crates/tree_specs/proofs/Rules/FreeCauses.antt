@@ -2,9 +2,9 @@
 use Rattle.tree_specs.specs.declared.object.Owner.{Owner}
 use Rattle.tree_specs.specs.declared.object.Owner.TheVariants.{Root, Of}
 use Rattle.tree_specs.specs.Tree.Targets.{newest_ref}
-use Rattle.std.proofs.Common.{◌≡◌, ℕ, suc, zero, nat_eq, List, [], ◌∷◌, ◌++◌, Option, Some, None, true, false, refl, subst, inl, inr, unwrap_or}
-use Rattle.step_machine.specs.Machine.{tell}
-use Rattle.step_machine.specs.Machine.Outcome.{Ended}
+use Rattle.std.proofs.Common.{◌≡◌, ℕ, suc, zero, nat_eq, List, [], ◌∷◌, ◌++◌, Option, Some, None, true, false, refl, sym, ◌∙◌, ap, subst, inl, inr, unwrap_or}
+use Rattle.step_machine.specs.Machine.{Outcome, tell, tells, followed}
+use Rattle.step_machine.specs.Machine.Outcome.{Ended, Short}
 use Rattle.step_machine.specs.Open.{LastIs}
 use Rattle.step_machine.proofs.Uses.{ended-tell, ended-followed}
 use Rattle.tree_specs.specs.declared.object.Obj.{Obj}
@@ -18,15 +18,18 @@ use Rattle.tree_specs.specs.declared.free_step.FreeReply.{FreeReply}
 use Rattle.tree_specs.specs.declared.free_step.FreeReply.TheVariants as free_reply
 use Rattle.tree_specs.specs.Tree.Pool.{Pool, row_of, owner_of, newest_ref_of, place, detach, remove, without, set_mark, doom, set_hook, is_inside, marked_row}
 use Rattle.tree_specs.specs.Rules.Items.Item.{Told}
-use Rattle.tree_specs.specs.Rules.Sequence.{Scene}
-use Rattle.tree_specs.specs.Rules.Story.{hook_moment, unlink, release, given, free, hooked, judged, dooming, leave, children, asked}
+use Rattle.tree_specs.specs.Rules.Sequence.{Work, Scene}
+use Rattle.tree_specs.specs.Rules.Answers.{hook_moment}
+use Rattle.tree_specs.specs.Rules.Story.{unlink, release, given, free, hooked, judged, dooming, leave, children, asked, lets_go}
 use Rattle.tree_specs.specs.Promises.Grounded.{DropsOutside, IsItem}
-use Rattle.tree_specs.specs.Promises.Refused.{doomed}
+use Rattle.tree_specs.specs.Promises.Refused.{doomed, told_closed, closed_at}
+use Rattle.tree_specs.specs.Events.Rotation.{closes_with}
 use Rattle.tree_specs.specs.Calls.Refusals.{is_running}
 use Rattle.tree_specs.specs.Tree.Forest.{Distinct}
 use Rattle.tree_specs.proofs.Tree.Rows.{row_of-changed-same, row_of-without-same, row_of-without-other, Distinct-without}
 use Rattle.tree_specs.proofs.Tree.Numbered.{by_test, same_or_not}
 use Rattle.tree_specs.proofs.Promises.Fitting.{last-more}
+use Rattle.tree_specs.proofs.Rules.LettingGo.{tells-ended, tells-short, lets_go-is}
 
 -- it runs, or a reference from outside was dropped last, or its refusal was told last
 abbrev pub FreeCause : Type 0 → Obj → List Scene → FreeReply → Type 0
@@ -70,9 +73,13 @@ runs-before p x r q h = (
 pub leave-ok : (n : ℕ) (x : Obj) (h : ℕ) (p : Pool) (is : List Input) (a : FreeReply) (q : Pool) (ts : List Scene) (left : List Input) → leave n x h p is ≡ Ended a q ts left → a ≡ free_reply.Ok
 leave-ok zero x h p is a q ts left e = cc
 leave-ok (suc n) x h p is a q ts left e =
-    let w = ended-followed (children n x (detach p x) is) (λ b r mid. tell (record { item = Told (Freed x h); before = r; about = None }) (Ended free_reply.Ok (remove r x) [] mid)) a q ts left e in
+    let v = ended-followed (lets_go x (λ r. detach r x) p is) (λ b r mid. followed (children n x r mid) gone) a q ts left e in
+    let w = ended-followed (children n x v.1 v.4) gone a q v.3 left v.6 in
     let e' : Ended free_reply.Ok (remove w.1 x) (record { item = Told (Freed x h); before = w.1; about = None } ∷ []) w.4 ≡ Ended a q w.3 left = w.6 in
     cc
+  where
+    gone : Unit {0} → Work FreeReply
+    gone b r mid = tell (record { item = Told (Freed x h); before = r; about = None }) (Ended free_reply.Ok (remove r x) [] mid)
 
 judged-cause : (n : ℕ) (x : Obj) (h v : ℕ) (p : Pool) (is : List Input) (a : FreeReply) (q : Pool) (ts : List Scene) (left : List Input) → judged n x h v p is ≡ Ended a q ts left
     → (Runs : Type 0) (us : List Scene) → FreeCause Runs x (us ++ ts) a
@@ -103,7 +110,7 @@ pub data FreeGoes (n : ℕ) (x : Obj) (p : Pool) (is : List Input) (a : FreeRepl
   -- its destructor runs, and has returned
   ByAsking : (m h v : ℕ) (r : Pool) (us vs : List Scene) (mid : List Input) → asked m (ask.Routine (hook_moment x h)) (set_mark p x mark.Asked) is ≡ Ended v r us mid → judged m x h v r mid ≡ Ended a q vs left → us ++ vs ≡ ts → FreeGoes n x p is a q ts left
   -- it runs already, or its handler runs and it is doomed by this
-  AsRunning : (r : Pool) → is_running p x ≡ true → is_running r x ≡ true → r ≡ doomed x p → Ended free_reply.Running r [] is ≡ Ended a q ts left → FreeGoes n x p is a q ts left
+  AsRunning : (r : Pool) → is_running p x ≡ true → is_running r x ≡ true → r ≡ doomed x p → Ended free_reply.Running r (closed_at (row_of p.rows x) x p) is ≡ Ended a q ts left → FreeGoes n x p is a q ts left
   -- a reference from inside was dropped, and it begins again
   Again : (r : Obj) (us : List Scene) → free n x (remove p r) is ≡ Ended a q us left → dropped_scene p x r ∷ us ≡ ts → FreeGoes n x p is a q ts left
   AsHeld : (r : Obj) → newest_ref p.rows x ≡ Some r → is_inside p.rows (Of r) (Of x) ≡ false → Ended free_reply.Held (remove p r) (dropped_scene p x r ∷ []) is ≡ Ended a q ts left → FreeGoes n x p is a q ts left
@@ -120,17 +127,24 @@ free-goes n x p is a q ts left e = newest (newest_ref p.rows x) refl
         let w = ended-followed (asked m (ask.Routine (hook_moment x h)) (set_mark p x mark.Asked) is) (λ v r mid. judged m x h v r mid) a q ts left k in
         ByAsking m h w.0 w.1 w.2 w.3 w.4 w.5 w.6 w.7
 
-    dooms : (m : ℕ) (r : Pool) → is_running p x ≡ true → is_running r x ≡ true → r ≡ doomed x p → dooming m x r is ≡ Ended a q ts left → Goes
-    dooms zero r ran run is_doomed k = cc
-    dooms (suc m) r ran run is_doomed k = AsRunning r ran run is_doomed k
+    -- its descriptor may be closed before
+    dooms : (m : ℕ) (r : Row) → row_of p.rows x ≡ Some r → r.mark ≡ mark.Busy → followed (lets_go x (λ s. doom s x) p is) (λ b. dooming m x) ≡ Ended a q ts left → Goes
+    dooms m r k busy h = each m (ap (λ (o : Outcome (Unit {0}) Pool Input Scene). followed o (λ b. dooming m x)) (sym (lets_go-is x (λ s. doom s x) p is)) ∙ h)
+      where
+        each : (m : ℕ) → tells (told_closed (closes_with p.ring x) p) (dooming m x (doom p x) is) ≡ Ended a q ts left → Goes
+        each zero h = let bad : Short ≡ Ended a q ts left = sym (tells-short (told_closed (closes_with p.ring x) p)) ∙ h in cc
+        each (suc m) h =
+            let ran : is_running p x ≡ true = rw (k, busy) refl in
+            let run : is_running (doom p x) x ≡ true = rw (row_of-changed-same (marked_row mark.Doomed) p.rows x r (λ s. refl) k) refl in
+            AsRunning (doom p x) ran run (rw (k, busy) refl) (rw (k, busy) (sym (tells-ended (told_closed (closes_with p.ring x) p) free_reply.Running (doom p x) is) ∙ h))
 
     marks : newest_ref p.rows x ≡ None → (r : Row) (m : Mark) → r.mark ≡ m → row_of p.rows x ≡ Some r → Goes
     marks z r mark.Quiet m k = by_test (nat_eq r.hook 0)
         (λ t. ByLeaving (rw (z, k, m, t) at e))
         (λ t. asks n r.hook (rw (z, k, m, t) at e))
-    marks z r mark.Asked m k = AsRunning p (rw (k, m) refl) (rw (k, m) refl) (rw (k, m) refl) (rw (z, k, m) at e)
-    marks z r mark.Busy m k = dooms n (doom p x) (rw (k, m) refl) (rw (row_of-changed-same (marked_row mark.Doomed) p.rows x r (λ s. refl) k) refl) (rw (k, m) refl) (rw (z, k, m) at e)
-    marks z r mark.Doomed m k = AsRunning p (rw (k, m) refl) (rw (k, m) refl) (rw (k, m) refl) (rw (z, k, m) at e)
+    marks z r mark.Asked m k = AsRunning p (rw (k, m) refl) (rw (k, m) refl) (rw (k, m) refl) (let e' : Ended free_reply.Running p [] is ≡ Ended a q ts left = rw (z, k, m) at e in rw (k, m) e')
+    marks z r mark.Busy m k = dooms n r k m (rw (z, k, m) at e)
+    marks z r mark.Doomed m k = AsRunning p (rw (k, m) refl) (rw (k, m) refl) (rw (k, m) refl) (let e' : Ended free_reply.Running p [] is ≡ Ended a q ts left = rw (z, k, m) at e in rw (k, m) e')
     marks z r (mark.Dying former) m k = IsOver (rw (z, k, m) at e)
 
     each : newest_ref p.rows x ≡ None → (o : Option Row) → row_of p.rows x ≡ o → Goes

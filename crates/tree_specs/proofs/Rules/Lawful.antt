@@ -7,6 +7,8 @@ use Rattle.step_machine.proofs.Uses.{Used, Used-same, Used-ended, Used-told, Use
 use Rattle.tree_specs.specs.declared.object.Obj.{Obj}
 use Rattle.tree_specs.specs.declared.call.Call.{Call}
 use Rattle.tree_specs.specs.declared.reply.Reply.{Reply}
+use Rattle.tree_specs.specs.declared.notice.Notice.{Notice}
+use Rattle.tree_specs.specs.declared.occasion.Occasion.{Occasion}
 use Rattle.tree_specs.specs.declared.question.Ask.{Ask}
 use Rattle.tree_specs.specs.declared.question.Ask.TheVariants as ask
 use Rattle.tree_specs.specs.declared.question.Act.TheVariants as act
@@ -17,7 +19,8 @@ use Rattle.tree_specs.specs.Tree.Pool.{Pool}
 use Rattle.tree_specs.specs.Rules.Items.{Item}
 use Rattle.tree_specs.specs.Rules.Items.Item.{Asked}
 use Rattle.tree_specs.specs.Rules.Sequence.{Work, Scene, CallStart, asks, fits_to}
-use Rattle.tree_specs.specs.Rules.Story.{later, free, hooked, judged, dooming, leave, children, tried, asked, acting, telling, returning, items, warning, unlink, release, given, taking, timing, timed, polling, starting, firing, handling, handled, reading, closing}
+use Rattle.tree_specs.specs.Rules.Answers.{later}
+use Rattle.tree_specs.specs.Rules.Story.{free, hooked, judged, dooming, leave, children, tried, asked, acting, telling, returning, items, announcing, unlink, release, given, taking, timing, timed, polling, starting, firing, handling, handled, reaching, opening, hearing, closing}
 use Rattle.tree_specs.specs.Promises.Acceptances.{Return, returned_by, answered_by, inputs_after, AcceptsNow, AcceptsAfterReturns}
 use Rattle.tree_specs.specs.declared.handler.Handler.{Handler}
 use Rattle.tree_specs.specs.declared.moment.What.{What}
@@ -164,7 +167,7 @@ pub record FreesLawful (n : ℕ) : Type 0 where
 pub record CallsLawful (n : ℕ) : Type 0 where
   pub asked : (q : Ask) (p : Pool) (last : Last) → Lawful last (Returned q) (asked n q p)
   pub acting : (q : Ask) (c : Call) (p : Pool) (last : Last) → Lawful last (Returned q) (acting n q c p)
-  pub warning : (q : Ask) (x : Obj) (r : Reply) (about : Option CallStart) (p : Pool) (last : Last) → Lawful last (Returned q) (warning n about (later q r) x r p)
+  pub announcing : (q : Ask) (notice : Notice) (r : Reply) (about : Option CallStart) (p : Pool) (last : Last) → Lawful last (Returned q) (announcing n about (later q r) notice r p)
   pub later : (q : Ask) (r : Reply) (about : Option CallStart) (p : Pool) (last : Last) → Lawful last (Returned q) (telling n about (later q r) r p)
   pub returning : (q : Ask) (v : ℕ) (p : Pool) (last : Last) → Returned q v last → Lawful last (Returned q) (returning n v p)
 
@@ -174,15 +177,21 @@ pub record TurnsLawful (n : ℕ) : Type 0 where
   pub timing : (again : Bool) (p : Pool) (last : Last) → Lawful last Any (timing n again p)
   pub timed : (again : Bool) (now : ℕ) (p : Pool) (last : Last) → Lawful last Any (timed n again now p)
   pub polling : (limit : ℕ) (p : Pool) (last : Last) → Lawful last Any (polling n limit p)
-  pub starting : (what : What) (x : Obj) (now : ℕ) (p : Pool) (last : Last) → Lawful last Any (starting n what x now p)
-  pub firing : (what : What) (x : Obj) (h : Handler) (now : ℕ) (p : Pool) (last : Last) → Lawful last Any (firing n what x h now p)
-  pub handling : (what : What) (x : Obj) (h : Handler) (now : ℕ) (p : Pool) (last : Last) → Lawful last Any (handling n what x h now p)
+  pub starting : (what : What) (x : Obj) (occasion : Occasion) (p : Pool) (last : Last) → Lawful last Any (starting n what x occasion p)
+  pub firing : (what : What) (x : Obj) (h : Handler) (occasion : Occasion) (p : Pool) (last : Last) → Lawful last Any (firing n what x h occasion p)
+  pub handling : (what : What) (x : Obj) (h : Handler) (occasion : Occasion) (p : Pool) (last : Last) → Lawful last Any (handling n what x h occasion p)
   pub handled : (what : What) (x : Obj) (p : Pool) (last : Last) → Lawful last Any (handled n what x p)
-  pub reading : (p : Pool) (last : Last) → Lawful last Any (reading n p)
   pub closing : (v : ℕ) (p : Pool) (last : Last) → Lawful last Any (closing n v p)
+
+-- those of a question to the outside
+pub record OutsideLawful (n : ℕ) : Type 0 where
+  pub reaching : (q : Ask) (p : Pool) (last : Last) → Lawful last Any (reaching n q p)
+  pub opening : (fd : ℕ) (p : Pool) (last : Last) → Lawful last Any (opening n fd p)
+  pub hearing : (r : Reply) (p : Pool) (last : Last) → Lawful last Any (hearing n r p)
 
 -- all works of the text
 pub record AllLawful (n : ℕ) : Type 0 where
   pub frees : FreesLawful n
   pub calls : CallsLawful n
   pub turns : TurnsLawful n
+  pub outside : OutsideLawful n

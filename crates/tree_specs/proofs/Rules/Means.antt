@@ -1,8 +1,8 @@
 -- The machine does what the rules' text says.
 use Rattle.tree_specs.specs.declared.object.Owner.{Owner}
 use Rattle.tree_specs.specs.Tree.Targets.{newest_ref}
-use Rattle.std.proofs.Common.{◌≡◌, ℕ, suc, zero, nat_eq, List, [], ◌∷◌, Option, Some, None, Bool, true, false, nat_le, refl, inl, inr}
-use Rattle.step_machine.specs.Machine.{Move, Outcome, after, run}
+use Rattle.std.proofs.Common.{◌≡◌, ℕ, suc, zero, nat_eq, List, [], ◌∷◌, Option, Some, None, Bool, true, false, nat_le, refl, sym, ap, inl, inr}
+use Rattle.step_machine.specs.Machine.{Move, Outcome, after, run, tell, followed}
 use Rattle.step_machine.specs.Noted.{Noted, noted, noted_move}
 use Rattle.step_machine.proofs.Laws.{Below, Below-trans, Below-after, followed-tell, followed-tells, followed-followed}
 use Rattle.tree_specs.specs.declared.object.Obj.{Obj}
@@ -18,30 +18,40 @@ use Rattle.tree_specs.specs.declared.frame.Frame.{Frame}
 use Rattle.tree_specs.specs.declared.frame.Frame.TheVariants as frame
 use Rattle.tree_specs.specs.declared.frame.CallFrame.TheVariants.{Asking, Doing, Awaiting, Turning, Returning}
 use Rattle.tree_specs.specs.declared.frame.TurnFrame.{TurnFrame}
-use Rattle.tree_specs.specs.declared.frame.TurnFrame.TheVariants.{Taking, Timing, Timed, Polling, Starting, Handled, Clearing, Reading, Closing}
-use Rattle.tree_specs.specs.declared.frame.FreeFrame.TheVariants.{Unlinking, Releasing, Beginning, Judged, Dooming, Looping, FreeingChild, AfterChild, Ending}
+use Rattle.tree_specs.specs.declared.frame.TurnFrame.TheVariants.{Taking, Timing, Timed, Polling, Starting, Handled, Clearing, Closing}
+use Rattle.tree_specs.specs.declared.frame.FreeFrame.{FreeFrame}
+use Rattle.tree_specs.specs.declared.frame.FreeFrame.TheVariants.{Unlinking, Releasing, Beginning, Judged, Dooming, Leaving, Looping, FreeingChild, AfterChild, Ending}
+use Rattle.tree_specs.specs.declared.frame.OutsideFrame.TheVariants.{Reaching}
 use Rattle.tree_specs.specs.declared.frame.Purpose.{Purpose}
 use Rattle.tree_specs.specs.declared.frame.Purpose.TheVariants.{Removal, Emptying}
 use Rattle.tree_specs.specs.declared.frame.Answer.{Answer}
 use Rattle.tree_specs.specs.declared.free_step.FreeReply.{FreeReply}
 use Rattle.tree_specs.specs.declared.free_step.FreeReply.TheVariants.{Ok}
-use Rattle.tree_specs.specs.Tree.Pool.{Pool, row_of, is_below, owner_of, first_kid, target_at, newest_ref_of, is_inside}
+use Rattle.tree_specs.specs.Tree.Pool.{Pool, row_of, is_below, owner_of, first_kid, target_at, newest_ref_of, is_inside, remove, doom, detach}
 use Rattle.tree_specs.specs.Rules.Items.{Item}
-use Rattle.tree_specs.specs.Words.Ranges.{is_sound_call, is_return, is_time}
+use Rattle.tree_specs.specs.Rules.Items.Item.{Told}
+use Rattle.tree_specs.specs.declared.event.Event.TheVariants.{Freed, Closed}
+use Rattle.std.specs.Prelude.{◌&&◌, not}
+use Rattle.tree_specs.specs.Words.Ranges.{is_sound_call, is_return, is_routine, is_time}
+use Rattle.tree_specs.specs.Calls.Refusals.{is_open}
 use Rattle.tree_specs.specs.Words.Wants.{is_wants}
 use Rattle.tree_specs.specs.Events.Pending.{first}
+use Rattle.tree_specs.specs.Events.Rotation.{Ready, closes_with, first_ready}
 use Rattle.tree_specs.specs.Events.Coming.{handler_for, goes_after, looks_again}
+use Rattle.tree_specs.specs.declared.occasion.Occasion.{Occasion}
+use Rattle.tree_specs.specs.declared.wants.Want.{Want}
 use Rattle.tree_specs.specs.declared.due.Due.{Due}
 use Rattle.tree_specs.specs.declared.handler.Handler.{Handler}
 use Rattle.tree_specs.specs.declared.moment.What.{What}
 use Rattle.tree_specs.specs.Calls.Given.{Given, given_to}
-use Rattle.tree_specs.specs.Calls.Given.Given.{Calls, Returns, Tells, IsReady}
+use Rattle.tree_specs.specs.Calls.Given.Given.{Calls, Returns, Tells, IsReady, Opens, Answers}
 use Rattle.tree_specs.specs.Calls.Plans.{Plan, planned}
-use Rattle.tree_specs.specs.Calls.Plans.Plan.{Does, Frees, Unlinks, Empties, AsksTime, Turns}
-use Rattle.tree_specs.specs.Rules.Sequence.{Work, Scene, CallStart, change}
-use Rattle.tree_specs.specs.Rules.Story.{free, judged, children, tried, unlink, release, taking, timing, timed, polling, starting, handled, reading}
-use Rattle.tree_specs.specs.Machine.Meaning.{noted_table, freed, closed, looped, mean}
-use Rattle.tree_specs.specs.Machine.Table.{notes, step, turn_step, lifted, judge_step, loop_step, tried_step, plan_step, refs_step, unlink_step, release_step}
+use Rattle.tree_specs.specs.Calls.Plans.Plan.{Does, Frees, Unlinks, Empties, Asks, Turns}
+use Rattle.tree_specs.specs.Rules.Sequence.{Work, Scene, CallStart, ◌>>◌, change, tells, gives}
+use Rattle.tree_specs.specs.Rules.Story.{free, lets_go, dooming, judged, leave, children, tried, unlink, release, taking, timing, timed, polling, starting, handled, reaching}
+use Rattle.tree_specs.specs.Machine.Meaning.{noted_table, freed, closed, answered, looped, mean}
+use Rattle.tree_specs.specs.Machine.FreeTable.{judge_step, loop_step, tried_step, refs_step, unlink_step, release_step}
+use Rattle.tree_specs.specs.Machine.Table.{notes, step, turn_step, outside_step, lifted, plan_step, announced, closed_event}
 use Rattle.tree_specs.proofs.Tree.Numbered.{by_test}
 
 ruleset laws = (followed-tell, followed-tells, followed-followed)
@@ -75,73 +85,98 @@ doing-turn n q c b p is = each (planned p c) refl
   where
     each : (plan : Plan) → planned p c ≡ plan → Below (Turn n (frame.Call (Doing q c)) b (plan_step q (planned p c) p) p is) (mean (suc n) (frame.Call (Doing q c)) b p is)
     each (Does change None r) e = rw e (inr refl)
-    each (Does change (Some x) r) e = rw e (inr refl)
+    each (Does change (Some notice) r) e = rw e (inr refl)
     each (Frees x) e = rw e (inr (simp laws))
     each (Unlinks o x) e = rw e (inr (simp laws))
     each (Empties x) e = rw e (inr (simp laws))
-    each AsksTime e = rw e (inr (simp laws))
+    each (Asks outside) e = rw e (inr (simp laws))
     each Turns e = turning-turn n q c b p is e
 
+-- an object is let go of
+letting-turn : (n : ℕ) (f g : FreeFrame) (b : Option CallStart) (x : Obj) (change : Pool → Pool) (p : Pool) (is : List Input) (k : Unit {0} → Work Answer)
+    → ((js : List Input) → mean n (frame.Free g) None (change p) js ≡ k tt (change p) js)
+    → Below (Turn n (frame.Free f) b (announced (closed_event (closes_with p.ring x)) g (change p)) p is) (followed (lets_go x change p is) k)
+letting-turn n f g b x change p is k law = each (closes_with p.ring x) refl
+  where
+    each : (o : Option ℕ) → closes_with p.ring x ≡ o → Below (Turn n (frame.Free f) b (announced (closed_event (closes_with p.ring x)) g (change p)) p is) (followed (lets_go x change p is) k)
+    each None c = rw c (inr (law is))
+    each (Some fd) c = rw c (inr (ap (tell (record { item = Told (Closed fd); before = p; about = None })) (law is)))
+
 beginning-turn : (n : ℕ) (x : Obj) (b : Option CallStart) (p : Pool) (is : List Input)
-    → Below (Turn n (frame.Free (Beginning x)) b (lifted (refs_step x (newest_ref p.rows x) p)) p is) (freed (free (suc n) x) p is)
+    → Below (Turn n (frame.Free (Beginning x)) b (lifted p.ring (refs_step x (newest_ref p.rows x) p)) p is) (freed (free (suc n) x) p is)
 beginning-turn n x b p is = newest (newest_ref p.rows x) refl
   where
     marks : newest_ref p.rows x ≡ None → (r : Row) (m : Mark) → r.mark ≡ m → row_of p.rows x ≡ Some r
-        → Below (Turn n (frame.Free (Beginning x)) b (lifted (refs_step x (newest_ref p.rows x) p)) p is) (freed (free (suc n) x) p is)
+        → Below (Turn n (frame.Free (Beginning x)) b (lifted p.ring (refs_step x (newest_ref p.rows x) p)) p is) (freed (free (suc n) x) p is)
     marks k r mark.Quiet m e = by_test (nat_eq r.hook 0) (λ t. rw (k, e, m, t) (inr refl)) (λ t. rw (k, e, m, t) (inr refl))
+    marks k r mark.Busy m e = rw (k, e, m)
+        (Below-trans _ _ _ (letting-turn n (Beginning x) (Dooming x) b x (λ q. doom q x) p is (λ u. freed (dooming n x)) (λ js. refl)) (inr (sym (followed-followed (lets_go x (λ q. doom q x) p is) _ _))))
     marks k r _ m e = rw (k, e, m) (inr refl)
 
     each : newest_ref p.rows x ≡ None → (o : Option Row) → row_of p.rows x ≡ o
-        → Below (Turn n (frame.Free (Beginning x)) b (lifted (refs_step x (newest_ref p.rows x) p)) p is) (freed (free (suc n) x) p is)
+        → Below (Turn n (frame.Free (Beginning x)) b (lifted p.ring (refs_step x (newest_ref p.rows x) p)) p is) (freed (free (suc n) x) p is)
     each k None e = rw (k, e) (inr refl)
     each k (Some r) e = marks k r r.mark refl e
 
-    newest : (o : Option Obj) → newest_ref p.rows x ≡ o → Below (Turn n (frame.Free (Beginning x)) b (lifted (refs_step x (newest_ref p.rows x) p)) p is) (freed (free (suc n) x) p is)
+    newest : (o : Option Obj) → newest_ref p.rows x ≡ o → Below (Turn n (frame.Free (Beginning x)) b (lifted p.ring (refs_step x (newest_ref p.rows x) p)) p is) (freed (free (suc n) x) p is)
     newest None k = each k (row_of p.rows x) refl
     newest (Some r) k = by_test (is_inside p.rows (Of r) (Of x)) (λ t. rw (k, t) (inr (simp laws))) (λ t. rw (k, t) (inr (simp laws)))
 
 unlinking-turn : (n : ℕ) (o : Owner) (x : Obj) (b : Option CallStart) (p : Pool) (is : List Input)
-    → Below (Turn n (frame.Free (Unlinking o x)) b (lifted (unlink_step x (newest_ref_of p.rows o x) p)) p is) (freed (unlink (suc n) o x) p is)
+    → Below (Turn n (frame.Free (Unlinking o x)) b (lifted p.ring (unlink_step x (newest_ref_of p.rows o x) p)) p is) (freed (unlink (suc n) o x) p is)
 unlinking-turn n o x b p is = each (newest_ref_of p.rows o x) refl
   where
-    each : (r : Option Obj) → newest_ref_of p.rows o x ≡ r → Below (Turn n (frame.Free (Unlinking o x)) b (lifted (unlink_step x (newest_ref_of p.rows o x) p)) p is) (freed (unlink (suc n) o x) p is)
+    each : (r : Option Obj) → newest_ref_of p.rows o x ≡ r → Below (Turn n (frame.Free (Unlinking o x)) b (lifted p.ring (unlink_step x (newest_ref_of p.rows o x) p)) p is) (freed (unlink (suc n) o x) p is)
     each None k = rw k (inr refl)
     each (Some r) k = rw k (inr (simp laws))
 
 releasing-turn : (n : ℕ) (x : Obj) (b : Option CallStart) (p : Pool) (is : List Input)
-    → Below (Turn n (frame.Free (Releasing x)) b (lifted (release_step x (newest_ref p.rows x) p)) p is) (freed (release (suc n) x) p is)
+    → Below (Turn n (frame.Free (Releasing x)) b (lifted p.ring (release_step x (newest_ref p.rows x) p)) p is) (freed (release (suc n) x) p is)
 releasing-turn n x b p is = each (newest_ref p.rows x) refl
   where
-    each : (r : Option Obj) → newest_ref p.rows x ≡ r → Below (Turn n (frame.Free (Releasing x)) b (lifted (release_step x (newest_ref p.rows x) p)) p is) (freed (release (suc n) x) p is)
+    each : (r : Option Obj) → newest_ref p.rows x ≡ r → Below (Turn n (frame.Free (Releasing x)) b (lifted p.ring (release_step x (newest_ref p.rows x) p)) p is) (freed (release (suc n) x) p is)
     each None k = rw k (inr refl)
     each (Some r) k = by_test (is_inside p.rows (Of r) (Of x)) (λ t. rw (k, t) (inr (simp laws))) (λ t. rw (k, t) (inr (simp laws)))
 
 judged-turn : (n : ℕ) (x : Obj) (h v : ℕ) (b : Option CallStart) (p : Pool) (is : List Input)
-    → Below (Turn n (frame.Free (Judged x h v)) b (lifted (judge_step x h v p)) p is) (freed (judged (suc n) x h v) p is)
+    → Below (Turn n (frame.Free (Judged x h v)) b (lifted p.ring (judge_step x h v p)) p is) (freed (judged (suc n) x h v) p is)
 judged-turn n x h v b p is = by_test (nat_eq v 0) (λ t. rw t (inr (simp laws))) (λ t. rw t (inr (simp laws)))
 
+leaving-turn : (n : ℕ) (x : Obj) (h : ℕ) (b : Option CallStart) (p : Pool) (is : List Input)
+    → Below (Turn n (frame.Free (Leaving x h)) b (step (frame.Free (Leaving x h)) p) p is) (freed (leave (suc n) x h) p is)
+leaving-turn n x h b p is =
+    Below-trans _ _ _ (letting-turn n (Leaving x h) (Looping x (Removal h)) b x (λ q. detach q x) p is (λ u. freed emptied) (λ js. simp laws)) (inr (sym (followed-followed (lets_go x (λ q. detach q x) p is) _ _)))
+  where
+    -- what follows
+    emptied : Work FreeReply
+    emptied = do
+      children n x
+      tells (Told (Freed x h))
+      change (λ q. remove q x)
+      gives Ok
+
 looping-turn : (n : ℕ) (x : Obj) (purpose : Purpose) (b : Option CallStart) (p : Pool) (is : List Input)
-    → Below (Turn n (frame.Free (Looping x purpose)) b (lifted (loop_step x purpose (first_kid p.rows (Of x)) p)) p is) (looped x purpose (children (suc n) x) p is)
+    → Below (Turn n (frame.Free (Looping x purpose)) b (lifted p.ring (loop_step x purpose (first_kid p.rows (Of x)) p)) p is) (looped x purpose (children (suc n) x) p is)
 looping-turn n x purpose b p is = each purpose (first_kid p.rows (Of x)) refl
   where
     child : (purpose : Purpose) (c : Obj) (t : Option Obj) → target_at p.rows c ≡ t → first_kid p.rows (Of x) ≡ Some c
-        → Below (Turn n (frame.Free (Looping x purpose)) b (lifted (loop_step x purpose (first_kid p.rows (Of x)) p)) p is) (looped x purpose (children (suc n) x) p is)
+        → Below (Turn n (frame.Free (Looping x purpose)) b (lifted p.ring (loop_step x purpose (first_kid p.rows (Of x)) p)) p is) (looped x purpose (children (suc n) x) p is)
     child (Removal h) c None k e = rw (e, k) (inr (simp laws))
     child Emptying c None k e = rw (e, k) (inr (simp laws))
     child (Removal h) c (Some t) k e = rw (e, k) (inr (simp laws))
     child Emptying c (Some t) k e = rw (e, k) (inr (simp laws))
 
     each : (purpose : Purpose) (o : Option Obj) → first_kid p.rows (Of x) ≡ o
-        → Below (Turn n (frame.Free (Looping x purpose)) b (lifted (loop_step x purpose (first_kid p.rows (Of x)) p)) p is) (looped x purpose (children (suc n) x) p is)
+        → Below (Turn n (frame.Free (Looping x purpose)) b (lifted p.ring (loop_step x purpose (first_kid p.rows (Of x)) p)) p is) (looped x purpose (children (suc n) x) p is)
     each (Removal h) None e = rw e (inr refl)
     each Emptying None e = rw e (inr refl)
     each purpose (Some c) e = child purpose c (target_at p.rows c) refl e
 
 tried-turn : (n : ℕ) (x c : Obj) (noted : Option Owner) (purpose : Purpose) (a : FreeReply) (b : Option CallStart) (p : Pool) (is : List Input)
-    → Below (Turn n (frame.Free (AfterChild x c noted purpose a)) b (lifted (tried_step x c noted purpose a p)) p is) (looped x purpose (tried (suc n) x c noted a) p is)
+    → Below (Turn n (frame.Free (AfterChild x c noted purpose a)) b (lifted p.ring (tried_step x c noted purpose a p)) p is) (looped x purpose (tried (suc n) x c noted a) p is)
 tried-turn n x c noted purpose a b p is = each purpose a
   where
-    each : (purpose : Purpose) (a : FreeReply) → Below (Turn n (frame.Free (AfterChild x c noted purpose a)) b (lifted (tried_step x c noted purpose a p)) p is) (looped x purpose (tried (suc n) x c noted a) p is)
+    each : (purpose : Purpose) (a : FreeReply) → Below (Turn n (frame.Free (AfterChild x c noted purpose a)) b (lifted p.ring (tried_step x c noted purpose a p)) p is) (looped x purpose (tried (suc n) x c noted a) p is)
     each (Removal h) Ok = inr refl
     each Emptying Ok = inr refl
     each _ _ = by_test (is_below (owner_of p.rows c) (Of x)) (λ t. rw t (inr (simp laws))) (λ t. rw t (inr refl))
@@ -177,30 +212,27 @@ timing-turn n again b p (i ∷ is) = each (given_to Clock i) refl
     each (Some (Tells now)) e = by_test (is_time now) (λ t. rw (e, t) (inr (simp laws))) (λ t. rw (e, t) (inr refl))
     each _ e = rw e (inr refl)
 
-reading-turn : (n : ℕ) (b : Option CallStart) (p : Pool) (is : List Input) → Below (Turn n (frame.Turn Reading) b (turn_step Reading p) p is) (closed (reading (suc n)) p is)
-reading-turn n b p [] = inr refl
-reading-turn n b p (i ∷ is) = each (given_to Clock i) refl
-  where
-    each : (g : Option Given) → given_to Clock i ≡ g → Below (Turn n (frame.Turn Reading) b (turn_step Reading p) p (i ∷ is)) (closed (reading (suc n)) p (i ∷ is))
-    each (Some (Tells now)) e = by_test (is_time now) (λ t. rw (e, t) (inr (simp laws))) (λ t. rw (e, t) (inr refl))
-    each _ e = rw e (inr refl)
-
 polling-turn : (n limit : ℕ) (b : Option CallStart) (p : Pool) (is : List Input)
     → Below (Turn n (frame.Turn (Polling limit)) b (turn_step (Polling limit) p) p is) (closed (polling (suc n) limit) p is)
 polling-turn n limit b p [] = inr refl
 polling-turn n limit b p (i ∷ is) = each (given_to (Wait limit) i) refl
   where
+    ready : (wants : List Want) → given_to (Wait limit) i ≡ Some (IsReady wants) → is_wants wants ≡ true → looks_again p wants ≡ false → (o : Option Ready) → first_ready p.ring wants ≡ o
+        → Below (Turn n (frame.Turn (Polling limit)) b (turn_step (Polling limit) p) p (i ∷ is)) (closed (polling (suc n) limit) p (i ∷ is))
+    ready wants e t l None k = rw (e, t, l, k) (inr (simp laws))
+    ready wants e t l (Some r) k = rw (e, t, l, k) (inr (simp laws))
+
     each : (g : Option Given) → given_to (Wait limit) i ≡ g → Below (Turn n (frame.Turn (Polling limit)) b (turn_step (Polling limit) p) p (i ∷ is)) (closed (polling (suc n) limit) p (i ∷ is))
     each (Some (IsReady wants)) e = by_test (is_wants wants)
-        (λ t. by_test (looks_again p wants) (λ l. rw (e, t, l) (inr (simp laws))) (λ l. rw (e, t, l) (inr (simp laws))))
+        (λ t. by_test (looks_again p wants) (λ l. rw (e, t, l) (inr (simp laws))) (λ l. ready wants e t l (first_ready p.ring wants) refl))
         (λ t. rw (e, t) (inr refl))
     each _ e = rw e (inr refl)
 
-starting-turn : (n : ℕ) (what : What) (x : Obj) (now : ℕ) (b : Option CallStart) (p : Pool) (is : List Input)
-    → Below (Turn n (frame.Turn (Starting what x now)) b (turn_step (Starting what x now) p) p is) (closed (starting (suc n) what x now) p is)
-starting-turn n what x now b p is = each (handler_for p what x) refl
+starting-turn : (n : ℕ) (what : What) (x : Obj) (occasion : Occasion) (b : Option CallStart) (p : Pool) (is : List Input)
+    → Below (Turn n (frame.Turn (Starting what x occasion)) b (turn_step (Starting what x occasion) p) p is) (closed (starting (suc n) what x occasion) p is)
+starting-turn n what x occasion b p is = each (handler_for p what x) refl
   where
-    each : (o : Option Handler) → handler_for p what x ≡ o → Below (Turn n (frame.Turn (Starting what x now)) b (turn_step (Starting what x now) p) p is) (closed (starting (suc n) what x now) p is)
+    each : (o : Option Handler) → handler_for p what x ≡ o → Below (Turn n (frame.Turn (Starting what x occasion)) b (turn_step (Starting what x occasion) p) p is) (closed (starting (suc n) what x occasion) p is)
     each None e = rw e (inr refl)
     each (Some handler) e = rw e (inr refl)
 
@@ -213,12 +245,24 @@ loop-turn n Taking b p is = taking-turn n b p is
 loop-turn n (Timing again) b p is = timing-turn n again b p is
 loop-turn n (Timed again now) b p is = timed-turn n again now b p is
 loop-turn n (Polling limit) b p is = polling-turn n limit b p is
-loop-turn n (Starting what x now) b p is = starting-turn n what x now b p is
+loop-turn n (Starting what x occasion) b p is = starting-turn n what x occasion b p is
 loop-turn n (Handled what x) b p is = handled-turn n what x b p is
 loop-turn n (Clearing x) b p is = inr refl
-loop-turn n Reading b p is = reading-turn n b p is
 loop-turn n (Closing v) b p is = inr refl
 loop-turn n _ b p is = inr (simp laws)
+
+-- ---- a question to the outside
+
+reaching-turn : (n : ℕ) (q : Ask) (b : Option CallStart) (p : Pool) (is : List Input)
+    → Below (Turn n (frame.Outside (Reaching q)) b (outside_step (Reaching q) p) p is) (answered (reaching (suc n) q) p is)
+reaching-turn n q b p [] = inr refl
+reaching-turn n q b p (i ∷ is) = each (given_to q i) refl
+  where
+    each : (g : Option Given) → given_to q i ≡ g → Below (Turn n (frame.Outside (Reaching q)) b (outside_step (Reaching q) p) p (i ∷ is)) (answered (reaching (suc n) q) p (i ∷ is))
+    each (Some (Tells now)) e = by_test (is_time now) (λ t. rw (e, t) (inr (simp laws))) (λ t. rw (e, t) (inr refl))
+    each (Some (Opens fd)) e = by_test (is_routine fd && not (is_open p fd)) (λ t. rw (e, t) (inr (simp laws))) (λ t. rw (e, t) (inr refl))
+    each (Some (Answers r)) e = rw e (inr (simp laws))
+    each _ e = rw e (inr refl)
 
 -- one turn of the machine is one turn of the text
 pub turn : (n : ℕ) (f : Frame) (b : Option CallStart) (p : Pool) (is : List Input) → Below (Turn n f b (step f p) p is) (mean (suc n) f b p is)
@@ -228,11 +272,14 @@ turn n (frame.Call (Awaiting q x)) b p is = inr refl
 turn n (frame.Call (Turning q)) b p is = inr refl
 turn n (frame.Call (Returning v)) b p is = inr refl
 turn n (frame.Turn f) b p is = loop-turn n f b p is
+turn n (frame.Outside (Reaching q)) b p is = reaching-turn n q b p is
+turn n (frame.Outside _) b p is = inr refl
 turn n (frame.Free (Unlinking o x)) b p is = unlinking-turn n o x b p is
 turn n (frame.Free (Releasing x)) b p is = releasing-turn n x b p is
 turn n (frame.Free (Beginning x)) b p is = beginning-turn n x b p is
 turn n (frame.Free (Judged x h v)) b p is = judged-turn n x h v b p is
 turn n (frame.Free (Dooming x)) b p is = inr refl
+turn n (frame.Free (Leaving x h)) b p is = leaving-turn n x h b p is
 turn n (frame.Free (Looping x purpose)) b p is = looping-turn n x purpose b p is
 turn n (frame.Free (FreeingChild x c noted purpose)) b p is = inr refl
 turn n (frame.Free (AfterChild x c noted purpose a)) b p is = tried-turn n x c noted purpose a b p is

@@ -16,11 +16,11 @@ use Rattle.tree_specs.specs.Rules.Items.{Item}
 use Rattle.tree_specs.specs.Rules.Sequence.{Scene, CallStart}
 use Rattle.tree_specs.specs.Rules.Story.{items}
 use Rattle.tree_specs.specs.Machine.Table.{table, notes, resume}
-use Rattle.tree_specs.specs.Machine.View.{View, rest_of}
+use Rattle.tree_specs.specs.Machine.View.{View, outcome_of, rest_of}
 use Rattle.tree_specs.specs.Invariants.Consistent.{IsConsistent}
 use Rattle.tree_specs.specs.Machine.Meaning.{noted_table, continued, run_of, text_rest, stated}
 use Rattle.tree_specs.proofs.Rules.Means.{run-means}
-use Rattle.tree_specs.proofs.Rules.Rest.{most, well, outcome, rest-enough, rest-is-walk, walk-whole, walk-long, not-short}
+use Rattle.tree_specs.proofs.Rules.Rest.{most, well, rest-enough, rest-is-walk, walk-whole, walk-long, not-short}
 use Rattle.tree_specs.proofs.Turns.Bound.{cost-turns}
 
 not-the-short : {A P I T : Type 0} (o : Outcome A P I T) → NotShort o → o ≢ Short
@@ -87,7 +87,7 @@ rest-items v is h =
     ∙ ap (λ (o : Outcome Answer Pool Input Scene). items (told_by o)) (text-rest n v is h (omega arith))
 
 -- so do more turns of the table
-pub rest-more_turns : (v : View) (n : ℕ) (is : List Input) → IsConsistent v → stated v.pool is ≤ n → rest table n v.innermost v.below v.pool is ≡ outcome v is
+pub rest-more_turns : (v : View) (n : ℕ) (is : List Input) → IsConsistent v → stated v.pool is ≤ n → rest table n v.innermost v.below v.pool is ≡ outcome_of v is
 rest-more_turns v n is h big =
     let c = cost-turns v (length is) h in
     rest-enough (most v (length is)) n v is h (well v (length is) h) (omega (arith, c))
@@ -101,7 +101,7 @@ pub innermost-enough : (v : View) (is : List Input) → IsConsistent v → run_o
 innermost-enough v is h e =
     let n : ℕ = stated v.pool is in
     let alone : run table n v.innermost v.pool is ≡ Short = sym (noted-run notes table n (with_note None v.innermost) v.pool is) ∙ ap (map_items item_of) e in
-    let short : outcome v is ≡ Short = ap (λ (o : Outcome Answer Pool Input Item). pass table n v.below o) alone ∙ pass-short table n v.below in
+    let short : outcome_of v is ≡ Short = ap (λ (o : Outcome Answer Pool Input Item). pass table n v.below o) alone ∙ pass-short table n v.below in
     subst NotShort short (not-short v is h)
 
 -- and more turns give the same

@@ -9,13 +9,16 @@ use Rattle.step_machine.proofs.Open.{Asks, Asks-items, Stays, walk-asks, items-t
 use Rattle.tree_specs.specs.declared.question.Input.{Input}
 use Rattle.tree_specs.specs.declared.frame.Frame.{Frame}
 use Rattle.tree_specs.specs.declared.frame.Frame.TheVariants as frame
-use Rattle.tree_specs.specs.declared.frame.CallFrame.TheVariants.{Asking, Doing, Awaiting, Turning, Warning, Telling, Returning}
+use Rattle.tree_specs.specs.declared.frame.CallFrame.TheVariants.{Asking, Doing, Awaiting, Turning, Announcing, Telling, Returning}
 use Rattle.tree_specs.specs.declared.frame.TurnFrame.{TurnFrame}
-use Rattle.tree_specs.specs.declared.frame.TurnFrame.TheVariants.{Taking, Timing, Timed, Polling, Starting, Handled, Reading}
+use Rattle.tree_specs.specs.declared.frame.TurnFrame.TheVariants.{Taking, Timing, Timed, Polling, Starting, Handled}
 use Rattle.tree_specs.specs.declared.handler.Handler.{Handler}
 use Rattle.tree_specs.specs.declared.question.Ask.TheVariants.{Quiet, Clock, Wait}
 use Rattle.tree_specs.specs.Events.Coming.{handler_for, goes_after}
 use Rattle.tree_specs.proofs.Invariants.Turning.{Passes, Pass, look-passes}
+use Rattle.tree_specs.specs.declared.frame.OutsideFrame.{OutsideFrame}
+use Rattle.tree_specs.specs.declared.frame.OutsideFrame.TheVariants.{Reaching}
+use Rattle.tree_specs.specs.declared.watch.Watch.{Watch}
 use Rattle.tree_specs.specs.declared.frame.FreeFrame.{FreeFrame}
 use Rattle.tree_specs.specs.declared.frame.Answer.{Answer}
 use Rattle.tree_specs.specs.declared.free_step.FreeReply.{FreeReply}
@@ -27,21 +30,19 @@ use Rattle.tree_specs.specs.Tree.Pool.{Pool}
 use Rattle.tree_specs.specs.Rules.Items.{Item, IsQuestion}
 use Rattle.tree_specs.specs.Rules.Items.Item.{Asked}
 use Rattle.tree_specs.specs.Calls.Plans.{Plan, planned, plan, unless_refused}
-use Rattle.tree_specs.specs.Calls.Plans.Plan.{Does, Frees, Unlinks, Empties, AsksTime, Turns}
+use Rattle.tree_specs.specs.Calls.Plans.Plan.{Does, Frees, Unlinks, Empties, Asks as AsksOutside, Turns}
 use Rattle.tree_specs.specs.Rules.Story.{turns}
 use Rattle.tree_specs.specs.Calls.Refusals.{Check}
-use Rattle.tree_specs.specs.Machine.Table.{Step, call_step, turning_step, starting_step, handled_step, turn_step, table, step, free_step, event_of, announced, plan_step, lifted, taken}
+use Rattle.tree_specs.specs.Machine.FreeTable.{free_step}
+use Rattle.tree_specs.specs.Machine.Table.{Step, call_step, turning_step, starting_step, handled_step, turn_step, outside_step, table, step, event_of, announced, plan_step, lifted, taken}
 use Rattle.tree_specs.specs.Invariants.Sound.{Sound, Rests}
 use Rattle.tree_specs.specs.Invariants.Measure.{cost}
-use Rattle.tree_specs.specs.Machine.View.{View, rest_of}
+use Rattle.tree_specs.specs.Machine.View.{View, outcome_of, rest_of}
 use Rattle.tree_specs.specs.Invariants.Consistent.{IsCaller, IsStacked, IsConsistent}
 use Rattle.tree_specs.proofs.Invariants.Keeps.{sound-kept}
 use Rattle.tree_specs.proofs.Turns.Falls.{Well, falls}
 use Rattle.tree_specs.proofs.Turns.Load.{Placed, placed-kept}
 use Rattle.tree_specs.proofs.Turns.Bound.{cost-turns, pending-most}
-
-abbrev pub outcome : View → List Input → Outcome Answer Pool Input Item
-outcome v is = rest table (turns (length v.pool.rows) (length is)) v.innermost v.below v.pool is
 
 -- a bound on the rows that there can be, with k inputs left
 abbrev pub most : View → ℕ → ℕ
@@ -52,7 +53,7 @@ well v k h = (h.sound, omega (arith, pending-most v.innermost))
 
 -- any number of turns above the measure gives the rest
 pub rest-enough : (R m : ℕ) (v : View) (is : List Input) → IsConsistent v → Well R v.innermost v.below v.pool (length is) → cost R v.innermost v.below v.pool (length is) < m
-    → rest table m v.innermost v.below v.pool is ≡ outcome v is
+    → rest table m v.innermost v.below v.pool is ≡ outcome_of v is
 rest-enough R m v is h w less =
     let n : ℕ = turns (length v.pool.rows) (length is) in
     let c = cost-turns v (length is) h in
@@ -73,12 +74,12 @@ walk-long n v is h big =
     enough table (Well R) (cost R) (falls R) n v.innermost v.below v.pool is (well v (length is) h) (omega (arith, c))
 
 -- as many steps are as good as so many turns
-pub rest-is-walk : (v : View) (is : List Input) → IsConsistent v → walk table (turns (length v.pool.rows) (length is)) v.innermost v.below v.pool is ≡ outcome v is
+pub rest-is-walk : (v : View) (is : List Input) → IsConsistent v → walk table (turns (length v.pool.rows) (length is)) v.innermost v.below v.pool is ≡ outcome_of v is
 rest-is-walk v is h =
     let R : ℕ = most v (length is) in
     rest-walk table (Well R) (cost R) (falls R) (turns (length v.pool.rows) (length is)) v.innermost v.below v.pool is (well v (length is) h) (cost-turns v (length is) h)
 
-pub not-short : (v : View) (is : List Input) → IsConsistent v → NotShort (outcome v is)
+pub not-short : (v : View) (is : List Input) → IsConsistent v → NotShort (outcome_of v is)
 not-short v is h = subst NotShort (rest-is-walk v is h) (walk-whole v is h)
 
 -- ---- what a step keeps
@@ -107,7 +108,7 @@ pub event-whole : (v : View) (e : Item) (f : Frame) (p : Pool) → IsConsistent 
 event-whole v e f p h is-emit = rw is-emit at (whole-kept v 0 h)
 
 pub event-law : (v : View) (e : Item) (f : Frame) (p : Pool) (is : List Input) → IsConsistent v → step v.innermost v.pool ≡ Do.Emit e f p
-    → outcome v is ≡ tell e (outcome (record { innermost = f; below = v.below; pool = p }) is)
+    → outcome_of v is ≡ tell e (outcome_of (record { innermost = f; below = v.below; pool = p }) is)
 event-law v e f p is h is-emit =
     let R : ℕ = most v (length is) in
     let n : ℕ = turns (length v.pool.rows) (length is) in
@@ -123,7 +124,7 @@ question-whole v q f g p i h is-wait fits =
     k i g fits
 
 pub question-law : (v : View) (q : Item) (f g : Frame) (p : Pool) (i : Input) (is : List Input) → IsConsistent v → step v.innermost v.pool ≡ Do.Wait q f p → taken f p i ≡ Some g
-    → outcome v (i ∷ is) ≡ tell q (outcome (record { innermost = g; below = v.below; pool = p }) is)
+    → outcome_of v (i ∷ is) ≡ tell q (outcome_of (record { innermost = g; below = v.below; pool = p }) is)
 question-law v q f g p i is h is-wait fits =
     let R : ℕ = most v (length (i ∷ is)) in
     let n : ℕ = turns (length v.pool.rows) (length (i ∷ is)) in
@@ -134,7 +135,7 @@ question-law v q f g p i is h is-wait fits =
     rest-question table (Well R) (cost R) (falls R) n n v.innermost f g v.below v.pool p q i is (well v (length (i ∷ is)) h) c is-wait fits (omega (arith, l.1, c))
     ∙ ap (tell q) (rest-enough R n (record { innermost = g; below = v.below; pool = p }) is (question-whole v q f g p i h is-wait fits) l.0 (omega (arith, l.1, c)))
 
-pub open-law : (v : View) (q : Item) (f : Frame) (p : Pool) → IsConsistent v → step v.innermost v.pool ≡ Do.Wait q f p → outcome v [] ≡ Waits (q ∷ [])
+pub open-law : (v : View) (q : Item) (f : Frame) (p : Pool) → IsConsistent v → step v.innermost v.pool ≡ Do.Wait q f p → outcome_of v [] ≡ Waits (q ∷ [])
 open-law v q f p h is-wait =
     let R : ℕ = most v 0 in
     rest-open table (Well R) (cost R) (falls R) (turns (length v.pool.rows) 0) v.innermost f v.below v.pool p q (well v 0 h) (cost-turns v 0 h) is-wait
@@ -146,7 +147,7 @@ pub silent-whole : (v : View) (s : State Frame Pool) → IsConsistent v → sile
 silent-whole v s h e = silent-leads table (λ g gs q j. IsConsistent (record { innermost = g; below = gs; pool = q })) (step v.innermost v.pool) v.below 0 s (whole-kept v 0 h) e
 
 pub silent-law : (v : View) (s : State Frame Pool) (is : List Input) → IsConsistent v → silent table (step v.innermost v.pool) v.below ≡ Some s
-    → outcome v is ≡ outcome (view_of_state s) is
+    → outcome_of v is ≡ outcome_of (view_of_state s) is
 silent-law v s is h e =
     let R : ℕ = most v (length is) in
     let n : ℕ = turns (length v.pool.rows) (length is) in
@@ -178,7 +179,7 @@ open-items v q f p h is-wait = ap told_by (open-law v q f p h is-wait)
 
 -- the reply of a call is to be told
 abbrev pub IsTelling : Frame → Type 0
-IsTelling (frame.Call (Warning q x r)) = Unit {0}
+IsTelling (frame.Call (Announcing q notice r)) = Unit {0}
 IsTelling (frame.Call (Telling q r)) = Unit {0}
 IsTelling _ = ⊥
 
@@ -194,27 +195,24 @@ turning-goes_on _ p = tt
 
 pub plan-goes_on : (q : Ask) (plan : Plan) (p : Pool) → GoesOn (plan_step q plan p)
 plan-goes_on q (Does change None r) p = tt
-plan-goes_on q (Does change (Some x) r) p = tt
+plan-goes_on q (Does change (Some notice) r) p = tt
 plan-goes_on q (Frees x) p = tt
 plan-goes_on q (Unlinks o x) p = tt
 plan-goes_on q (Empties x) p = tt
-plan-goes_on q AsksTime p = tt
+plan-goes_on q (AsksOutside outside) p = tt
 plan-goes_on q Turns p = turning-goes_on q p
 
 pub call-goes_on : (check : Check) (q : Ask) (c : Call) (p : Pool) → GoesOn (call_step check q c p)
 call-goes_on check q c p = plan-goes_on q (unless_refused check (plan p c)) p
 
 -- a free by itself asks the host for nothing but runs
-free-waits : (m : Move FreeFrame FreeReply Pool FreeStep) (p : Pool) (i : Item) (g : Frame) → lifted m ≡ Do.Wait i g p → ⊥
-free-waits (Do.Done a q) p i g e = cc
-free-waits (Do.Go f q) p i g e = cc
-free-waits (Do.Emit t f q) p i g e = announced-waits (event_of t) e
+free-waits : (ring : List Watch) (m : Move FreeFrame FreeReply Pool FreeStep) (p : Pool) (i : Item) (g : Frame) → lifted ring m ≡ Do.Wait i g p → ⊥
+free-waits ring (Do.Emit t f q) p i g e = announced-waits (event_of ring t) e
   where
     announced-waits : (o : Option Event) → announced o f q ≡ Do.Wait i g p → ⊥
     announced-waits None e = cc
     announced-waits (Some t) e = cc
-free-waits (Do.Wait t f q) p i g e = cc
-free-waits (Do.Call f h q) p i g e = cc
+free-waits ring _ p i g e = cc
 
 -- the host's own work doesn't end
 pub no-end : (f : Frame) (p q : Pool) (a : Answer) → IsCaller f → Rests f [] p → step f p ≡ Do.Done a q → ⊥
@@ -229,7 +227,6 @@ no-end _ p q a h r e = h
 turn-asks : (f : TurnFrame) (p q : Pool) (i : Item) (g : Frame) → turn_step f p ≡ Do.Wait i g q → (ask : Ask) × (i ≡ Asked ask)
 turn-asks (Timing again) p q i g e = (Clock, cc)
 turn-asks (Polling limit) p q i g e = (Wait limit, cc)
-turn-asks Reading p q i g e = (Clock, cc)
 turn-asks Taking p q i g e = absurd (passes (turn_step Taking p) (look-passes Taking p tt) e)
   where
     passes : (m : Step) → Passes p m → m ≡ Do.Wait i g q → ⊥
@@ -238,9 +235,9 @@ turn-asks (Timed again now) p q i g e = absurd (passes (turn_step (Timed again n
   where
     passes : (m : Step) → Passes p m → m ≡ Do.Wait i g q → ⊥
     passes _ (Pass t r rows next plain) e = cc
-turn-asks (Starting what x now) p q i g e = absurd (each (handler_for p what x) e)
+turn-asks (Starting what x occasion) p q i g e = absurd (each (handler_for p what x) e)
   where
-    each : (o : Option Handler) → starting_step what x now o p ≡ Do.Wait i g q → ⊥
+    each : (o : Option Handler) → starting_step what x occasion o p ≡ Do.Wait i g q → ⊥
     each None e = cc
     each (Some h) e = cc
 turn-asks (Handled what x) p q i g e = absurd (each (goes_after p what x) e)
@@ -250,12 +247,18 @@ turn-asks (Handled what x) p q i g e = absurd (each (goes_after p what x) e)
     each false e = cc
 turn-asks _ p q i g e = cc
 
--- callers and turns ask
+-- a question to the outside is asked
+outside-asks : (f : OutsideFrame) (p q : Pool) (i : Item) (g : Frame) → outside_step f p ≡ Do.Wait i g q → (ask : Ask) × (i ≡ Asked ask)
+outside-asks (Reaching ask) p q i g e = (ask, cc)
+outside-asks _ p q i g e = cc
+
+-- callers, turns and questions to the outside ask
 pub waits-asking : (f : Frame) (p q : Pool) (i : Item) (g : Frame) → step f p ≡ Do.Wait i g q → (ask : Ask) × (i ≡ Asked ask)
 waits-asking (frame.Call (Asking ask)) p q i g e = (ask, cc)
 waits-asking (frame.Turn f) p q i g e = turn-asks f p q i g e
+waits-asking (frame.Outside f) p q i g e = outside-asks f p q i g e
 waits-asking (frame.Call (Doing ask c)) p q i g e = absurd (subst GoesOn e (plan-goes_on ask (planned p c) p))
-waits-asking (frame.Free f) p q i g e = absurd (free-waits (free_step f p) q i g e)
+waits-asking (frame.Free f) p q i g e = absurd (free-waits p.ring (free_step f p) q i g e)
 waits-asking _ p q i g e = cc
 
 -- what a step asks is a question
@@ -304,7 +307,7 @@ begins-items v q f p is h is-wait = each is e (not-short v is h)
     n : ℕ
     n = turns (length v.pool.rows) (length is)
 
-    e : outcome v is ≡ asks table.taken (λ g p' left. walk table n g v.below p' left) q f p is
+    e : outcome_of v is ≡ asks table.taken (λ g p' left. walk table n g v.below p' left) q f p is
     e = rest-step table (Well (most v (length is))) (cost (most v (length is))) (falls (most v (length is))) n v.innermost v.below v.pool is (well v (length is) h) (cost-turns v (length is) h)
         ∙ ap (λ (m : Move Frame Answer Pool Item). leads table (walk table n) m v.below is) is-wait
 
@@ -313,7 +316,7 @@ begins-items v q f p is h is-wait = each is e (not-short v is h)
     fits i js None s = ([], refl)
     fits i js (Some g) s = begins-tell q (walk table n g v.below p js) s
 
-    each : (js : List Input) → outcome v is ≡ asks table.taken (λ g p' left. walk table n g v.below p' left) q f p js → NotShort (outcome v is) → (more : List Item) × (rest_of v is ≡ q ∷ more)
+    each : (js : List Input) → outcome_of v is ≡ asks table.taken (λ g p' left. walk table n g v.below p' left) q f p js → NotShort (outcome_of v is) → (more : List Item) × (rest_of v is ≡ q ∷ more)
     each [] e s = ([], ap told_by e)
     each (i ∷ js) e s =
         let w = fits i js (table.taken f p i) (subst NotShort e s) in

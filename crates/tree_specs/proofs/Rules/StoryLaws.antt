@@ -1,13 +1,13 @@
 -- The story by the rules' text, by the table, and by a host.
-use Rattle.std.proofs.Common.{◌≡◌, ◌≢◌, ℕ, ◌+◌, ◌-◌, ◌*◌, ◌≤◌, List, [], ◌∷◌, length, None, refl, sym, ◌∙◌, ap, subst, arith}
-use Rattle.step_machine.specs.Machine.{Outcome, run, walk, tell, tells, followed, map_items, items as told_by}
+use Rattle.std.proofs.Common.{◌≡◌, ◌≢◌, ℕ, ◌+◌, ◌-◌, ◌*◌, ◌≤◌, List, [], length, None, refl, sym, ◌∙◌, ap, subst, arith}
+use Rattle.step_machine.specs.Machine.{Outcome, run, walk, followed, is_stray, map_items, items as told_by}
 use Rattle.step_machine.specs.Machine.Outcome.{Ended, Waits, Stray, Short}
 use Rattle.step_machine.specs.Noted.{Noted, with_note}
 use Rattle.step_machine.specs.Open.{LastIs}
 use Rattle.step_machine.proofs.Ends.{NotShort, Below-equal, run-same}
 use Rattle.step_machine.proofs.Laws.{walk-rest}
 use Rattle.step_machine.proofs.NotedLaws.{noted-run, noted-walk}
-use Rattle.step_machine.proofs.Open.{items-map_items, NotShort-map_items}
+use Rattle.step_machine.proofs.Open.{items-map_items, stray-map_items, NotShort-map_items}
 use Rattle.tree_specs.specs.declared.question.Input.{Input}
 use Rattle.tree_specs.specs.declared.frame.Frame.{Frame}
 use Rattle.tree_specs.specs.declared.frame.Frame.TheVariants as frame
@@ -18,15 +18,16 @@ use Rattle.tree_specs.specs.declared.frame.Answer.TheVariants.{Returned}
 use Rattle.tree_specs.specs.Tree.Pool.{Pool, empty}
 use Rattle.tree_specs.specs.Rules.Items.{Item, IsQuestion}
 use Rattle.tree_specs.specs.Rules.Sequence.{Work, Scene, CallStart, gives}
-use Rattle.tree_specs.specs.Rules.Story.{asked, turns, story, items}
+use Rattle.tree_specs.specs.Rules.Story.{asked, turns, outcome, story, items}
 use Rattle.tree_specs.specs.Machine.Table.{table, notes}
-use Rattle.tree_specs.specs.Machine.View.{View, begin, rest_of}
+use Rattle.tree_specs.specs.Machine.View.{View, begin, outcome_of, strays_of, rest_of}
 use Rattle.tree_specs.specs.Invariants.Consistent.{IsConsistent}
 use Rattle.tree_specs.proofs.Tree.Rooted.{forest-none}
 use Rattle.tree_specs.proofs.Turns.Bound.{cost-turns}
 use Rattle.tree_specs.specs.Machine.Meaning.{noted_table, returned}
 use Rattle.tree_specs.proofs.Rules.Means.{run-means}
-use Rattle.tree_specs.proofs.Rules.Rest.{outcome, rest-enough, walk-whole, not-short, ends-asked}
+use Rattle.tree_specs.proofs.Rules.LettingGo.{tells-ended}
+use Rattle.tree_specs.proofs.Rules.Rest.{rest-enough, walk-whole, not-short, ends-asked}
 
 -- a host at its beginning
 pub begin-whole : (first : ℕ) → 1 ≤ first → IsConsistent (begin first)
@@ -50,15 +51,11 @@ answering (Waits ts) = Waits ts
 answering (Stray ts) = Stray ts
 answering Short = Short
 
-tells-ended : (ts : List Scene) (v : ℕ) (p : Pool) (is : List Input) → (let o : Told Answer = tells ts (Ended (Returned v) p [] is) in o) ≡ Ended (Returned v) p ts is
-tells-ended [] v p is = refl
-tells-ended (t ∷ ts) v p is = ap (tell t) (tells-ended ts v p is)
-
 returned-answering : (w : Work ℕ) (p : Pool) (is : List Input) → returned w p is ≡ answering (w p is)
 returned-answering w p is = each (w p is)
   where
     each : (o : Told ℕ) → followed o (λ v. gives (Returned v)) ≡ answering o
-    each (Ended v q ts left) = tells-ended ts v q left
+    each (Ended v q ts left) = tells-ended ts (Returned v) q left
     each _ = refl
 
 answering-same : (o u : Told ℕ) → answering o ≡ answering u → o ≡ u
@@ -83,6 +80,10 @@ answering-items : (o : Told ℕ) → told_by (answering o) ≡ told_by o
 answering-items (Ended v p ts is) = refl
 answering-items _ = refl
 
+answering-strays : (o : Told ℕ) → is_stray (answering o) ≡ is_stray o
+answering-strays (Stray ts) = refl
+answering-strays _ = refl
+
 answering-whole : (o : Told ℕ) → NotShort (answering o) → NotShort o
 answering-whole (Ended v p ts is) h = h
 answering-whole _ h = h
@@ -94,12 +95,12 @@ asking = with_note None (frame.Call (Asking Quiet))
 
 -- the rules' text, with turns enough, tells what the table's run tells
 text-run : (first n : ℕ) (is : List Input) → 1 ≤ first → turns 0 (length is) ≤ n
-    → (run noted_table n asking (empty first) is ≡ answering (asked n Quiet (empty first) is)) × (map_items item_of (answering (asked n Quiet (empty first) is)) ≡ outcome (begin first) is)
+    → (run noted_table n asking (empty first) is ≡ answering (asked n Quiet (empty first) is)) × (map_items item_of (answering (asked n Quiet (empty first) is)) ≡ outcome_of (begin first) is)
 text-run first n is h big =
     let v : View = begin first in
     let R : ℕ = 0 + 2 * length is + 2 in
     let c = cost-turns v (length is) (begin-whole first h) in
-    let e : run table n (frame.Call (Asking Quiet)) (empty first) is ≡ outcome v is = rest-enough R n v is (begin-whole first h) ((begin-whole first h).sound, omega arith) (omega (arith, c)) in
+    let e : run table n (frame.Call (Asking Quiet)) (empty first) is ≡ outcome_of v is = rest-enough R n v is (begin-whole first h) ((begin-whole first h).sound, omega arith) (omega (arith, c)) in
     let noted = noted-run notes table n asking (empty first) is in
     let whole : NotShort (map_items item_of (run noted_table n asking (empty first) is)) =
     subst NotShort (sym (noted ∙ e)) (not-short v is (begin-whole first h)) in
@@ -113,6 +114,13 @@ story-items first is h =
     let t = text-run first (turns 0 (length is)) is h (omega arith) in
     ap (λ (l : List Scene). items l) (sym (answering-items (asked (turns 0 (length is)) Quiet (empty first) is)))
     ∙ sym (items-map_items item_of (answering (asked (turns 0 (length is)) Quiet (empty first) is))) ∙ ap told_by t.1
+
+-- they stray at the same inputs
+pub story-strays : (first : ℕ) (is : List Input) → 1 ≤ first → strays_of (begin first) is ≡ is_stray (outcome first is)
+story-strays first is h =
+    let o : Told ℕ = outcome first is in
+    let t = text-run first (turns 0 (length is)) is h (omega arith) in
+    sym (ap is_stray t.1) ∙ stray-map_items item_of (answering o) ∙ answering-strays o
 
 -- the turns are never too few
 pub story-enough : (first n : ℕ) (is : List Input) → 1 ≤ first → turns 0 (length is) ≤ n → NotShort (asked n Quiet (empty first) is)

@@ -12,22 +12,27 @@ use Rattle.tree_specs.specs.declared.row.Mark.{Mark}
 use Rattle.tree_specs.specs.declared.row.Mark.TheVariants as mark
 use Rattle.tree_specs.specs.declared.call.Call.{Call}
 use Rattle.tree_specs.specs.declared.reply.Reply.{Reply}
-use Rattle.tree_specs.specs.declared.event.Event.TheVariants.{Replied, Accepted, Refused, Moved, Freed, Warned, Unreferenced}
+use Rattle.tree_specs.specs.declared.reply.Reply.TheVariants.{Number}
+use Rattle.tree_specs.specs.declared.notice.Notice.{Notice}
+use Rattle.tree_specs.specs.declared.notice.Notice.TheVariants.{Warned, Closed as IsClosed}
+use Rattle.tree_specs.specs.Events.Rotation.{closes_with}
+use Rattle.tree_specs.specs.declared.event.Event.TheVariants.{Replied, Accepted, Refused, Moved, Freed, Closed, Unreferenced}
 use Rattle.tree_specs.specs.declared.question.Ask.{Ask}
 use Rattle.tree_specs.specs.declared.question.Ask.TheVariants as ask
 use Rattle.tree_specs.specs.declared.question.Input.{Input}
 use Rattle.tree_specs.specs.declared.free_step.FreeReply.{FreeReply}
 use Rattle.tree_specs.specs.declared.free_step.FreeReply.TheVariants as free_reply
-use Rattle.tree_specs.specs.Tree.Pool.{Pool, row_of, is_below, owner_of, first_kid, detach, remove, place, set_mark, doom, set_hook, target_at, newest_ref_of, noted_owner, is_inside}
+use Rattle.tree_specs.specs.Tree.Pool.{Pool, row_of, is_below, owner_of, first_kid, detach, remove, place, set_mark, doom, set_hook, target_at, newest_ref_of, noted_owner, is_inside, open_descriptor}
 use Rattle.tree_specs.specs.Tree.Heirs.{heir}
 use Rattle.tree_specs.specs.Rules.Items.Item.{Told}
 use Rattle.tree_specs.specs.Rules.Sequence.{Work, Scene, CallStart}
-use Rattle.tree_specs.specs.Calls.Plans.{Plan, planned, warned_by, changed_by}
-use Rattle.tree_specs.specs.Calls.Plans.Plan.{Does, Frees, Unlinks, Empties, AsksTime, Turns}
-use Rattle.tree_specs.specs.Rules.Story.{hook_moment, later, heard, effect, free, hooked, judged, dooming, leave, children, tried, asked, acting, telling, returning, items, warning, unlink, release, given, numbered, turned, taking, timed, reading, closing}
+use Rattle.tree_specs.specs.Calls.Plans.{Plan, planned, notice_of, changed_by}
+use Rattle.tree_specs.specs.Calls.Plans.Plan.{Does, Frees, Unlinks, Empties, Asks, Turns}
+use Rattle.tree_specs.specs.Rules.Answers.{hook_moment, later, heard, reached}
+use Rattle.tree_specs.specs.Rules.Story.{effect, free, hooked, judged, dooming, leave, children, tried, asked, acting, telling, returning, items, announcing, unlink, release, given, numbered, turned, taking, timed, reaching, opening, hearing, lets_go, notice_event}
 use Rattle.tree_specs.specs.Promises.Acceptances.{returned_by, AcceptsAfterReturns}
 use Rattle.tree_specs.proofs.Tree.Numbered.{by_test}
-use Rattle.tree_specs.proofs.Calls.Checks.{heard-by}
+use Rattle.tree_specs.proofs.Calls.Checks.{heard-by, Reaches, IsOpened, IsTold, IsAnswered, reached-by}
 use Rattle.tree_specs.proofs.Rules.Lawful.{Last, last_after, After, Lawful, Any, same-lawful, ended-lawful, short-lawful, told-lawful, followed-lawful, asks-lawful, Returned, returned-later, scene_of, AllLawful}
 use Rattle.tree_specs.proofs.Rules.TurnLaws.{clocked-lawful, taking-lawful, timed-lawful, polling-lawful, starting-lawful, firing-lawful, handling-lawful, handled-lawful}
 
@@ -66,6 +71,15 @@ release-lawful n ih x p last = each (newest_ref p.rows x) refl
 given-lawful : (n : ℕ) (x : Obj) (o : Owner) (p : Pool) (last : Last) → Lawful last Any (given (suc n) x o p)
 given-lawful n x o p last = told-lawful last Any (scene_of (Told (Moved x o)) p) (λ js. Ended free_reply.Ok (place p o x) [] js) tt (λ is. (refl, refl)) (ended-lawful None Any free_reply.Ok (place p o x) tt)
 
+-- what is let go of may close a descriptor
+lets_go-lawful : (x : Obj) (f : Pool → Pool) (p : Pool) (last : Last) → Lawful last Any (lets_go x f p)
+lets_go-lawful x f p last = each (closes_with p.ring x) refl
+  where
+    each : (o : Option ℕ) → closes_with p.ring x ≡ o → Lawful last Any (lets_go x f p)
+    each None e = same-lawful last Any (lets_go x f p) (λ js. Ended tt (f p) [] js) (λ js. rw e refl) (ended-lawful last Any tt (f p) tt)
+    each (Some fd) e = same-lawful last Any (lets_go x f p) (λ js. tell (scene_of (Told (Closed fd)) p) (Ended tt (f p) [] js)) (λ js. rw e refl)
+        (told-lawful last Any (scene_of (Told (Closed fd)) p) (λ js. Ended tt (f p) [] js) tt (λ is. (refl, refl)) (ended-lawful None Any tt (f p) tt))
+
 free-lawful : (n : ℕ) → AllLawful n → (x : Obj) (p : Pool) (last : Last) → Lawful last Any (free (suc n) x p)
 free-lawful n ih x p last = newest (newest_ref p.rows x) refl
   where
@@ -77,7 +91,8 @@ free-lawful n ih x p last = newest (newest_ref p.rows x) refl
         (λ t. same-lawful last Any (free (suc n) x p) (leave n x 0 p) (λ js. rw (k, e, m, t) refl) (ih.frees.leave x 0 p last))
         (λ t. same-lawful last Any (free (suc n) x p) (hooked n x r.hook (set_mark p x mark.Asked)) (λ js. rw (k, e, m, t) refl) (ih.frees.hooked x r.hook (set_mark p x mark.Asked) last))
     marks k r mark.Asked m e = gives free_reply.Running p (λ js. rw (k, e, m) refl)
-    marks k r mark.Busy m e = same-lawful last Any (free (suc n) x p) (dooming n x (doom p x)) (λ js. rw (k, e, m) refl) (ih.frees.dooming x (doom p x) last)
+    marks k r mark.Busy m e = same-lawful last Any (free (suc n) x p) (λ js. followed (lets_go x (λ q. doom q x) p js) (λ a q left. dooming n x q left)) (λ js. rw (k, e, m) refl)
+        (followed-lawful last Any Any (lets_go x (λ q. doom q x) p) (λ a q left. dooming n x q left) (lets_go-lawful x (λ q. doom q x) p last) (λ a q l w. ih.frees.dooming x q l))
     marks k r mark.Doomed m e = gives free_reply.Running p (λ js. rw (k, e, m) refl)
     marks k r (mark.Dying former) m e = gives free_reply.Ok p (λ js. rw (k, e, m) refl)
 
@@ -109,8 +124,9 @@ judged-lawful n ih x h v p last e = by_test (nat_eq v 0)
 
 leave-lawful : (n : ℕ) → AllLawful n → (x : Obj) (h : ℕ) (p : Pool) (last : Last) → Lawful last Any (leave (suc n) x h p)
 leave-lawful n ih x h p last =
-    followed-lawful last Any Any (children n x (detach p x)) _ (ih.frees.children x (detach p x) last)
-    (λ a q l k. told-lawful l Any (scene_of (Told (Freed x h)) q) (λ js. Ended free_reply.Ok (remove q x) [] js) tt (λ is. (refl, refl)) (ended-lawful None Any free_reply.Ok (remove q x) tt))
+    followed-lawful last Any Any (lets_go x (λ q. detach q x) p) _ (lets_go-lawful x (λ q. detach q x) p last) (λ b r m w.
+    followed-lawful m Any Any (children n x r) _ (ih.frees.children x r m)
+    (λ a q l k. told-lawful l Any (scene_of (Told (Freed x h)) q) (λ js. Ended free_reply.Ok (remove q x) [] js) tt (λ is. (refl, refl)) (ended-lawful None Any free_reply.Ok (remove q x) tt)))
 
 children-lawful : (n : ℕ) → AllLawful n → (x : Obj) (p : Pool) (last : Last) → Lawful last Any (children (suc n) x p)
 children-lawful n ih x p last = each (first_kid p.rows (Of x)) refl
@@ -142,6 +158,14 @@ tried-lawful n ih x c noted a p last = each a
     each free_reply.Running = handed free_reply.Running (λ js t. rw t refl) (λ js t. rw t refl)
     each (free_reply.Refused v) = handed (free_reply.Refused v) (λ js t. rw t refl) (λ js t. rw t refl)
 
+reaching-lawful : (n : ℕ) → AllLawful n → (q : Ask) (p : Pool) (last : Last) → Lawful last Any (reaching (suc n) q p)
+reaching-lawful n ih q p last = asks-lawful last Any q (reached p q (opening n) (hearing n)) p (λ i w e. next i w (reached-by p q (opening n) (hearing n) i w e))
+  where
+    next : (i : Input) (w : Work Reply) → Reaches p q (opening n) (hearing n) i w → Lawful (returned_by q i) Any (w p)
+    next i w (IsOpened fd given number closed is) = subst (λ (u : Work Reply). Lawful (returned_by q i) Any (u p)) (sym is) (ih.outside.opening fd p (returned_by q i))
+    next i w (IsTold now given time is) = subst (λ (u : Work Reply). Lawful (returned_by q i) Any (u p)) (sym is) (ih.outside.hearing (Number now) p (returned_by q i))
+    next i w (IsAnswered r given is) = subst (λ (u : Work Reply). Lawful (returned_by q i) Any (u p)) (sym is) (ih.outside.hearing r p (returned_by q i))
+
 asked-lawful : (n : ℕ) → AllLawful n → (q : Ask) (p : Pool) (last : Last) → Lawful last (Returned q) (asked (suc n) q p)
 asked-lawful n ih q p last = asks-lawful last (Returned q) q (heard q (acting n q) (returning n)) p next
   where
@@ -159,33 +183,36 @@ turned-lawful : (q : Ask) (w : Work ℕ) (p : Pool) (last : Last) → Lawful las
 turned-lawful ask.Quiet w p last h = numbered-lawful w p last h
 turned-lawful _ w p last h = ended-lawful last Any _ p tt
 
-plan-lawful : (n : ℕ) → AllLawful n → (q : Ask) (plan : Plan) (p : Pool) (last : Last) → Lawful last Any (effect (free n) (unlink n) (children n) (numbered (reading n)) (turned q (taking n)) plan p)
-plan-lawful n ih q (Does change warned r) p last = ended-lawful last Any r (changed_by change p) tt
+plan-lawful : (n : ℕ) → AllLawful n → (q : Ask) (plan : Plan) (p : Pool) (last : Last) → Lawful last Any (effect (free n) (unlink n) (children n) (reaching n) (turned q (taking n)) plan p)
+plan-lawful n ih q (Does change notice r) p last = ended-lawful last Any r (changed_by change p) tt
 plan-lawful n ih q (Frees x) p last = followed-lawful last Any Any (free n x p) _ (ih.frees.free x p last) (λ a q l k. ended-lawful l Any _ q tt)
 plan-lawful n ih q (Unlinks o x) p last = followed-lawful last Any Any (unlink n o x p) _ (ih.frees.unlink o x p last) (λ a q l k. ended-lawful l Any _ q tt)
 plan-lawful n ih q (Empties x) p last = followed-lawful last Any Any (children n x p) _ (ih.frees.children x p last) (λ a q l k. ended-lawful l Any _ q tt)
-plan-lawful n ih q AsksTime p last = numbered-lawful (reading n) p last (ih.turns.reading p last)
+plan-lawful n ih q (Asks outside) p last = ih.outside.reaching outside p last
 plan-lawful n ih q Turns p last = turned-lawful q (taking n) p last (ih.turns.taking p last)
 
 acting-lawful : (n : ℕ) → AllLawful n → (q : Ask) (c : Call) (p : Pool) (last : Last) → Lawful last (Returned q) (acting (suc n) q c p)
-acting-lawful n ih q c p last = each (warned_by (planned p c)) refl
+acting-lawful n ih q c p last = each (notice_of (planned p c)) refl
   where
     done : Work Reply
-    done = effect (free n) (unlink n) (children n) (numbered (reading n)) (turned q (taking n)) (planned p c)
+    done = effect (free n) (unlink n) (children n) (reaching n) (turned q (taking n)) (planned p c)
 
-    each : (o : Option Obj) → warned_by (planned p c) ≡ o → Lawful last (Returned q) (acting (suc n) q c p)
+    each : (o : Option Notice) → notice_of (planned p c) ≡ o → Lawful last (Returned q) (acting (suc n) q c p)
     each None k = same-lawful last (Returned q) (acting (suc n) q c p)
         (λ js. followed (done p js) (λ r p' left. telling n (Some (record { call = c; start = p })) (later q r) r p' left)) (λ js. rw k refl)
         (followed-lawful last Any (Returned q) (done p) (λ r p' left. telling n (Some (record { call = c; start = p })) (later q r) r p' left)
         (plan-lawful n ih q (planned p c) p last) (λ r p' l w. ih.calls.later q r (Some (record { call = c; start = p })) p' l))
-    each (Some x) k = same-lawful last (Returned q) (acting (suc n) q c p)
-        (λ js. followed (done p js) (λ r p' left. warning n (Some (record { call = c; start = p })) (later q r) x r p' left)) (λ js. rw k refl)
-        (followed-lawful last Any (Returned q) (done p) (λ r p' left. warning n (Some (record { call = c; start = p })) (later q r) x r p' left)
-        (plan-lawful n ih q (planned p c) p last) (λ r p' l w. ih.calls.warning q x r (Some (record { call = c; start = p })) p' l))
+    each (Some notice) k = same-lawful last (Returned q) (acting (suc n) q c p)
+        (λ js. followed (done p js) (λ r p' left. announcing n (Some (record { call = c; start = p })) (later q r) notice r p' left)) (λ js. rw k refl)
+        (followed-lawful last Any (Returned q) (done p) (λ r p' left. announcing n (Some (record { call = c; start = p })) (later q r) notice r p' left)
+        (plan-lawful n ih q (planned p c) p last) (λ r p' l w. ih.calls.announcing q notice r (Some (record { call = c; start = p })) p' l))
 
-warning-lawful : (n : ℕ) → AllLawful n → (q : Ask) (x : Obj) (r : Reply) (about : Option CallStart) (p : Pool) (last : Last) → Lawful last (Returned q) (warning (suc n) about (later q r) x r p)
-warning-lawful n ih q x r about p last =
-    told-lawful last (Returned q) (scene_of (Told (Warned x)) p) (telling n about (later q r) r p) tt (λ is. (refl, refl)) (ih.calls.later q r about p None)
+announcing-lawful : (n : ℕ) → AllLawful n → (q : Ask) (notice : Notice) (r : Reply) (about : Option CallStart) (p : Pool) (last : Last) → Lawful last (Returned q) (announcing (suc n) about (later q r) notice r p)
+announcing-lawful n ih q notice r about p last = each notice
+  where
+    each : (notice : Notice) → Lawful last (Returned q) (announcing (suc n) about (later q r) notice r p)
+    each (Warned x) = told-lawful last (Returned q) (scene_of (Told (notice_event (Warned x))) p) (telling n about (later q r) r p) tt (λ is. (refl, refl)) (ih.calls.later q r about p None)
+    each (IsClosed fd) = told-lawful last (Returned q) (scene_of (Told (notice_event (IsClosed fd))) p) (telling n about (later q r) r p) tt (λ is. (refl, refl)) (ih.calls.later q r about p None)
 
 later-lawful : (n : ℕ) → AllLawful n → (q : Ask) (r : Reply) (about : Option CallStart) (p : Pool) (last : Last) → Lawful last (Returned q) (telling (suc n) about (later q r) r p)
 later-lawful n ih q r about p last =
@@ -213,7 +240,7 @@ all-lawful zero = record {
   calls = record {
     asked = λ q p last. short-lawful last (Returned q);
     acting = λ q c p last. short-lawful last (Returned q);
-    warning = λ q x r about p last. short-lawful last (Returned q);
+    announcing = λ q notice r about p last. short-lawful last (Returned q);
     later = λ q r about p last. short-lawful last (Returned q);
     returning = λ q v p last h. short-lawful last (Returned q);
   };
@@ -222,12 +249,16 @@ all-lawful zero = record {
     timing = λ again p last. short-lawful last Any;
     timed = λ again now p last. short-lawful last Any;
     polling = λ limit p last. short-lawful last Any;
-    starting = λ what x now p last. short-lawful last Any;
-    firing = λ what x h now p last. short-lawful last Any;
-    handling = λ what x h now p last. short-lawful last Any;
+    starting = λ what x occasion p last. short-lawful last Any;
+    firing = λ what x h occasion p last. short-lawful last Any;
+    handling = λ what x h occasion p last. short-lawful last Any;
     handled = λ what x p last. short-lawful last Any;
-    reading = λ p last. short-lawful last Any;
     closing = λ v p last. short-lawful last Any;
+  };
+  outside = record {
+    reaching = λ q p last. short-lawful last Any;
+    opening = λ fd p last. short-lawful last Any;
+    hearing = λ r p last. short-lawful last Any;
   };
 }
 all-lawful (suc n) =
@@ -248,7 +279,7 @@ all-lawful (suc n) =
       calls = record {
         asked = asked-lawful n ih;
         acting = acting-lawful n ih;
-        warning = warning-lawful n ih;
+        announcing = announcing-lawful n ih;
         later = later-lawful n ih;
         returning = returning-lawful n;
       };
@@ -261,8 +292,12 @@ all-lawful (suc n) =
         firing = firing-lawful n ih;
         handling = handling-lawful n ih;
         handled = handled-lawful n ih;
-        reading = λ p last. clocked-lawful (closing n) p last (λ now l. ih.turns.closing now p l);
         closing = λ v p last. ended-lawful last Any v p tt;
+      };
+      outside = record {
+        reaching = reaching-lawful n ih;
+        opening = λ fd p last. ended-lawful last Any (Number fd) (open_descriptor p fd) tt;
+        hearing = λ r p last. ended-lawful last Any r p tt;
       };
     }
 

@@ -9,17 +9,20 @@ use Rattle.tree_specs.specs.declared.question.Input.{Input}
 use Rattle.tree_specs.specs.Tree.Pool.{Pool, set_mark, unschedule, disarm}
 use Rattle.tree_specs.specs.Rules.Items.Item.{Told, Asked}
 use Rattle.tree_specs.specs.Rules.Sequence.{Work, asks}
-use Rattle.tree_specs.specs.Rules.Story.{free, asked, clocked, polled, taking, timing, timed, polling, starting, firing, handling, handled, closing}
+use Rattle.tree_specs.specs.Rules.Answers.{clocked, polled}
+use Rattle.tree_specs.specs.Rules.Story.{free, asked, taking, timing, timed, polling, starting, firing, handling, handled, closing}
 use Rattle.tree_specs.specs.Promises.Acceptances.{returned_by}
 use Rattle.tree_specs.proofs.Tree.Numbered.{by_test}
 use Rattle.tree_specs.proofs.Calls.Checks.{clocked-by, polled-by}
+use Rattle.tree_specs.specs.declared.occasion.Occasion.{Occasion}
 use Rattle.tree_specs.specs.declared.due.Due.{Due}
 use Rattle.tree_specs.specs.declared.handler.Handler.{Handler}
 use Rattle.tree_specs.specs.declared.moment.What.{What}
-use Rattle.tree_specs.specs.declared.moment.What.TheVariants.{Immediate as ForImmediate, Timer as ForTimer}
+use Rattle.tree_specs.specs.declared.moment.What.TheVariants.{Immediate as ForImmediate, Timer as ForTimer, Descriptor as ForDescriptor}
 use Rattle.tree_specs.specs.declared.wants.Want.{Want}
 use Rattle.tree_specs.specs.Events.Pending.{first}
-use Rattle.tree_specs.specs.Events.Coming.{wait_limit, handler_for, handler_moment, goes_after, looks_again}
+use Rattle.tree_specs.specs.Events.Rotation.{Ready, first_ready}
+use Rattle.tree_specs.specs.Events.Coming.{wait_limit, handler_for, handler_moment, at_time, with_flags, plainly, begun, goes_after, looks_again}
 use Rattle.std.specs.Prelude.{Bool, nat_le, ◌-◌, if◌then◌else◌}
 use Rattle.tree_specs.proofs.Rules.Lawful.{Last, Lawful, Any, same-lawful, told-lawful, followed-lawful, asks-lawful, Returned, scene_of, AllLawful}
 
@@ -33,12 +36,12 @@ taking-lawful n ih p last = each (first p.soon) refl
     due : first p.soon ≡ None → (o : Option Due) → first p.times ≡ o → Lawful last Any (taking (suc n) p)
     due e None k = same-lawful last Any (taking (suc n) p) (polling n wait_limit p) (λ js. rw (e, k) refl) (ih.turns.polling wait_limit p last)
     due e (Some d) k = by_test (nat_eq d.time 0)
-        (λ t. same-lawful last Any (taking (suc n) p) (starting n ForTimer d.object 0 (disarm p d.object)) (λ js. rw (e, k, t) refl) (ih.turns.starting ForTimer d.object 0 (disarm p d.object) last))
+        (λ t. same-lawful last Any (taking (suc n) p) (starting n ForTimer d.object (at_time 0) (disarm p d.object)) (λ js. rw (e, k, t) refl) (ih.turns.starting ForTimer d.object (at_time 0) (disarm p d.object) last))
         (λ t. same-lawful last Any (taking (suc n) p) (timing n false p) (λ js. rw (e, k, t) refl) (ih.turns.timing false p last))
 
     each : (o : Option Obj) → first p.soon ≡ o → Lawful last Any (taking (suc n) p)
     each None e = due e (first p.times) refl
-    each (Some x) e = same-lawful last Any (taking (suc n) p) (starting n ForImmediate x 0 (unschedule p x)) (λ js. rw e refl) (ih.turns.starting ForImmediate x 0 (unschedule p x) last)
+    each (Some x) e = same-lawful last Any (taking (suc n) p) (starting n ForImmediate x plainly (unschedule p x)) (λ js. rw e refl) (ih.turns.starting ForImmediate x plainly (unschedule p x) last)
 
 pub timed-lawful : (n : ℕ) → AllLawful n → (again : Bool) (now : ℕ) (p : Pool) (last : Last) → Lawful last Any (timed (suc n) again now p)
 timed-lawful n ih again now p last = each again (first p.times) refl
@@ -46,7 +49,7 @@ timed-lawful n ih again now p last = each again (first p.times) refl
     each : (again : Bool) (o : Option Due) → first p.times ≡ o → Lawful last Any (timed (suc n) again now p)
     each again None e = same-lawful last Any (timed (suc n) again now p) (closing n 0 p) (λ js. rw e refl) (ih.turns.closing 0 p last)
     each again (Some d) e = by_test (nat_le d.time now)
-        (λ t. same-lawful last Any (timed (suc n) again now p) (starting n ForTimer d.object now (disarm p d.object)) (λ js. rw (e, t) refl) (ih.turns.starting ForTimer d.object now (disarm p d.object) last))
+        (λ t. same-lawful last Any (timed (suc n) again now p) (starting n ForTimer d.object (at_time now) (disarm p d.object)) (λ js. rw (e, t) refl) (ih.turns.starting ForTimer d.object (at_time now) (disarm p d.object) last))
         (λ t. early again d e t)
       where
         early : (again : Bool) (d : Due) → first p.times ≡ Some d → nat_le d.time now ≡ false → Lawful last Any (timed (suc n) again now p)
@@ -57,7 +60,15 @@ pub polling-lawful : (n : ℕ) → AllLawful n → (limit : ℕ) (p : Pool) (las
 polling-lawful n ih limit p last = asks-lawful last Any (ask.Wait limit) _ p next
   where
     looked : List Want → Work ℕ
-    looked wants q is = (if looks_again q wants then timing n true else closing n 0) q is
+    looked wants q is = (if looks_again q wants then timing n true else elim (first_ready q.ring wants) [
+      | None ↦ closing n 0
+      | Some r ↦ starting n ForDescriptor r.object (with_flags r.flags)
+    ]) q is
+
+    ready : (l : Last) (wants : List Want) → looks_again p wants ≡ false → (o : Option Ready) → first_ready p.ring wants ≡ o → Lawful l Any (looked wants p)
+    ready l wants a None k = same-lawful l Any (looked wants p) (closing n 0 p) (λ js. rw (a, k) refl) (ih.turns.closing 0 p l)
+    ready l wants a (Some r) k = same-lawful l Any (looked wants p) (starting n ForDescriptor r.object (with_flags r.flags) p) (λ js. rw (a, k) refl)
+        (ih.turns.starting ForDescriptor r.object (with_flags r.flags) p l)
 
     next : (i : Input) (w : Work ℕ) → polled limit looked i ≡ Some w → Lawful (returned_by (ask.Wait limit) i) Any (w p)
     next i w e =
@@ -65,21 +76,21 @@ polling-lawful n ih limit p last = asks-lawful last Any (ask.Wait limit) _ p nex
         let l : Last = returned_by (ask.Wait limit) i in
         subst (λ (u : Work ℕ). Lawful l Any (u p)) (sym t.1) (by_test (looks_again p t.0)
         (λ a. same-lawful l Any (looked t.0 p) (timing n true p) (λ js. rw a refl) (ih.turns.timing true p l))
-        (λ a. same-lawful l Any (looked t.0 p) (closing n 0 p) (λ js. rw a refl) (ih.turns.closing 0 p l)))
+        (λ a. ready l t.0 a (first_ready p.ring t.0) refl))
 
-pub starting-lawful : (n : ℕ) → AllLawful n → (what : What) (x : Obj) (now : ℕ) (p : Pool) (last : Last) → Lawful last Any (starting (suc n) what x now p)
-starting-lawful n ih what x now p last = each (handler_for p what x) refl
+pub starting-lawful : (n : ℕ) → AllLawful n → (what : What) (x : Obj) (occasion : Occasion) (p : Pool) (last : Last) → Lawful last Any (starting (suc n) what x occasion p)
+starting-lawful n ih what x occasion p last = each (handler_for p what x) refl
   where
-    each : (o : Option Handler) → handler_for p what x ≡ o → Lawful last Any (starting (suc n) what x now p)
-    each None e = same-lawful last Any (starting (suc n) what x now p) (closing n 1 p) (λ js. rw e refl) (ih.turns.closing 1 p last)
-    each (Some h) e = same-lawful last Any (starting (suc n) what x now p) (firing n what x h now (set_mark p x mark.Busy)) (λ js. rw e refl) (ih.turns.firing what x h now (set_mark p x mark.Busy) last)
+    each : (o : Option Handler) → handler_for p what x ≡ o → Lawful last Any (starting (suc n) what x occasion p)
+    each None e = same-lawful last Any (starting (suc n) what x occasion p) (closing n 1 p) (λ js. rw e refl) (ih.turns.closing 1 p last)
+    each (Some h) e = same-lawful last Any (starting (suc n) what x occasion p) (firing n what x h occasion (begun what x p)) (λ js. rw e refl) (ih.turns.firing what x h occasion (begun what x p) last)
 
-pub firing-lawful : (n : ℕ) → AllLawful n → (what : What) (x : Obj) (h : Handler) (now : ℕ) (p : Pool) (last : Last) → Lawful last Any (firing (suc n) what x h now p)
-firing-lawful n ih what x h now p last = told-lawful last Any (scene_of (Told (Fired what x h.routine)) p) (handling n what x h now p) tt (λ is. (refl, refl)) (ih.turns.handling what x h now p None)
+pub firing-lawful : (n : ℕ) → AllLawful n → (what : What) (x : Obj) (h : Handler) (occasion : Occasion) (p : Pool) (last : Last) → Lawful last Any (firing (suc n) what x h occasion p)
+firing-lawful n ih what x h occasion p last = told-lawful last Any (scene_of (Told (Fired what x h.routine)) p) (handling n what x h occasion p) tt (λ is. (refl, refl)) (ih.turns.handling what x h occasion p None)
 
-pub handling-lawful : (n : ℕ) → AllLawful n → (what : What) (x : Obj) (h : Handler) (now : ℕ) (p : Pool) (last : Last) → Lawful last Any (handling (suc n) what x h now p)
-handling-lawful n ih what x h now p last =
-    followed-lawful last (Returned (ask.Routine (handler_moment what x h now))) Any (asked n (ask.Routine (handler_moment what x h now)) p) _ (ih.calls.asked (ask.Routine (handler_moment what x h now)) p last)
+pub handling-lawful : (n : ℕ) → AllLawful n → (what : What) (x : Obj) (h : Handler) (occasion : Occasion) (p : Pool) (last : Last) → Lawful last Any (handling (suc n) what x h occasion p)
+handling-lawful n ih what x h occasion p last =
+    followed-lawful last (Returned (ask.Routine (handler_moment what x h occasion))) Any (asked n (ask.Routine (handler_moment what x h occasion)) p) _ (ih.calls.asked (ask.Routine (handler_moment what x h occasion)) p last)
     (λ v q l k. ih.turns.handled what x q l)
 
 pub handled-lawful : (n : ℕ) → AllLawful n → (what : What) (x : Obj) (p : Pool) (last : Last) → Lawful last Any (handled (suc n) what x p)

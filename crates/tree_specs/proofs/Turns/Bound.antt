@@ -9,6 +9,8 @@ use Rattle.tree_specs.specs.declared.frame.Frame.TheVariants as frame
 use Rattle.tree_specs.specs.declared.frame.CallFrame.TheVariants.{Asking}
 use Rattle.tree_specs.specs.declared.frame.TurnFrame.{TurnFrame}
 use Rattle.tree_specs.specs.declared.frame.TurnFrame.TheVariants.{Taking}
+use Rattle.tree_specs.specs.declared.frame.OutsideFrame.{OutsideFrame}
+use Rattle.tree_specs.specs.declared.frame.OutsideFrame.TheVariants.{Reaching}
 use Rattle.tree_specs.specs.declared.frame.FreeFrame.TheVariants.{AfterChild}
 use Rattle.tree_specs.specs.declared.free_step.FreeReply.TheVariants.{Running}
 use Rattle.tree_specs.specs.declared.free_step.FreeReply.{FreeReply}
@@ -54,10 +56,15 @@ turn-fits : (f : TurnFrame) → Fits (profile (frame.Turn f))
 turn-fits Taking = record { waiting = omega arith; rounds = omega arith; steps = omega arith; adds = omega arith }
 turn-fits _ = record { waiting = omega arith; rounds = omega arith; steps = omega arith; adds = omega arith }
 
+outside-fits : (f : OutsideFrame) → Fits (profile (frame.Outside f))
+outside-fits (Reaching q) = record { waiting = omega arith; rounds = omega arith; steps = omega arith; adds = omega arith }
+outside-fits _ = record { waiting = omega arith; rounds = omega arith; steps = omega arith; adds = omega arith }
+
 fits : (f : Frame) → Fits (profile f)
 fits (frame.Free f) = free-fits f
 fits (frame.Call f) = call-fits f
 fits (frame.Turn f) = turn-fits f
+fits (frame.Outside f) = outside-fits f
 
 below-light : (fs : List Frame) → below_cost fs ≤ 3 * sizes fs
 below-light [] = omega arith

@@ -14,6 +14,7 @@ use Rattle.tree_specs.specs.declared.object.Owner.TheVariants.{Of, Root}
 use Rattle.tree_specs.specs.declared.row.Row.{Row}
 use Rattle.tree_specs.specs.declared.row.Mark.{Mark}
 use Rattle.tree_specs.specs.declared.row.Mark.TheVariants.{Quiet, Asked, Busy, Doomed, Dying}
+use Rattle.tree_specs.specs.declared.event.Event.{Event}
 use Rattle.tree_specs.specs.declared.question.Ask.{Ask}
 use Rattle.tree_specs.specs.declared.frame.Frame.{Frame}
 use Rattle.tree_specs.specs.declared.frame.Frame.TheVariants as frame
@@ -27,10 +28,12 @@ use Rattle.tree_specs.specs.declared.frame.Answer.TheVariants.{Freed, Returned}
 use Rattle.tree_specs.specs.declared.free_step.FreeReply.{FreeReply}
 use Rattle.tree_specs.specs.declared.free_step.FreeReply.TheVariants.{Ok, Running, Refused, Held}
 use Rattle.tree_specs.specs.Words.Objects.{same, same_owner}
-use Rattle.tree_specs.specs.Tree.Pool.{Pool, row_of, is_below, owner_of, first_kid, without, changed, remove, left_row, place, doom, marked_row, hooked_row, target_at, newest_ref_of, is_inside}
+use Rattle.tree_specs.specs.Tree.Pool.{Pool, row_of, is_below, owner_of, first_kid, without, changed, remove, left_row, place, detach, doom, marked_row, hooked_row, target_at, newest_ref_of, is_inside}
+use Rattle.tree_specs.specs.Events.Rotation.{closes_with}
 use Rattle.tree_specs.specs.Tree.Heirs.{heir}
 use Rattle.tree_specs.specs.Rules.Items.{Item}
-use Rattle.tree_specs.specs.Machine.Table.{table, step, resume, lifted, begin_quiet, begin_step, judge_step, last_step, loop_step, child_step, refs_step, unlink_step, release_step, hand_on_step}
+use Rattle.tree_specs.specs.Machine.FreeTable.{begin_quiet, begin_step, judge_step, last_step, loop_step, child_step, refs_step, unlink_step, release_step, hand_on_step}
+use Rattle.tree_specs.specs.Machine.Table.{table, step, resume, lifted, announced, closed_event}
 use Rattle.tree_specs.specs.Invariants.Sound.{claims, IsWaiting, AllWait, IsLive, Stands, Tries, IsOver, Sound, IsQuietRow, footing}
 use Rattle.tree_specs.proofs.Tree.Numbered.{by_test, same-equal, same_owner-false}
 use Rattle.tree_specs.proofs.Tree.Heirs.{heir-other}
@@ -67,7 +70,7 @@ over-pays : (R : ℕ) (a : FreeReply) → IsOver a → (rows : List Row) → len
 over-pays R a o rows n _ gs (ForFree q x) = omega arith
 over-pays R a o rows n _ gs (ForRun x h) = omega arith
 over-pays R a o rows n _ gs (ForTurn q) = omega arith
-over-pays R a o rows n _ gs (ForHandler what x h now) = omega arith
+over-pays R a o rows n _ gs (ForHandler what x h occasion) = omega arith
 over-pays R a o rows n _ gs (ForClear x) = omega arith
 over-pays R Ok o rows n _ gs (ForChild x c noted purpose) = let m = count-length rows (Of x) in omega (arith, m, n)
 over-pays R Held o rows n _ gs (ForChild x c noted purpose) = let m = count-length rows (Of x) in omega (arith, m, n)
@@ -112,6 +115,11 @@ pub live-weight : (m : Mark) → IsLive m → mark_weight m ≡ 2
 live-weight (Dying former) l = absurd l
 live-weight _ l = refl
 
+-- what is told of it makes no difference
+pub announced-lower : (R b : ℕ) (o : Option Event) (g : FreeFrame) (q : Pool) (fs : List Frame) (k : ℕ) → Room R (frame.Free g) q k × (cost R (frame.Free g) fs q k < b) → Lowers R b (announced o g q) fs k
+announced-lower R b None g q fs k l = l
+announced-lower R b (Some e) g q fs k l = l
+
 -- it leaves its owner
 leaving-lower : (R : ℕ) (x : Obj) (h : ℕ) (fs : List Frame) (p : Pool) (k : ℕ) → Sound (frame.Free (Leaving x h)) fs p → Room R (frame.Free (Leaving x h)) p k
     → Lowers R (cost R (frame.Free (Leaving x h)) fs p k) (step (frame.Free (Leaving x h)) p) fs k
@@ -123,7 +131,7 @@ leaving-lower R x h fs p k s room = by-row s.rests.0 s.rests.1 s.rests.2
         let n = length-changed left_row p.rows x in
         let c = count-length (changed left_row p.rows x) (Of x) in
         let u = ap (λ (z : ℕ). row_worth R * z) w in
-        (omega (arith, n), omega (arith, u, n, c))
+        announced-lower R _ _ (Looping x (Removal h)) (detach p x) fs k (omega (arith, n), omega (arith, u, n, c))
 
 -- the children of the loop below are no more than there can be rows
 pub kids-most : (R : ℕ) (rows : List Row) (fs : List Frame) → length rows ≤ R → loop_kids rows fs ≤ 4 * R
@@ -164,18 +172,18 @@ looping-lower R x purpose fs p k s most = each (first_kid p.rows (Of x)) refl
     called (frame.Turn (Clearing y)) gs c = omega arith
     called _ gs c = absurd c
 
-    last : (purpose : Purpose) → Sound (frame.Free (Looping x purpose)) fs p → Lowers R (cost R (frame.Free (Looping x purpose)) fs p k) (lifted (last_step x purpose p)) fs k
+    last : (purpose : Purpose) → Sound (frame.Free (Looping x purpose)) fs p → Lowers R (cost R (frame.Free (Looping x purpose)) fs p k) (lifted p.ring (last_step x purpose p)) fs k
     last (Removal h) s =
         let row = dying-row (row_of p.rows x) (claims x fs) (claim-here x InLoop (claims x fs) (row_of p.rows x) (s.open_frees x)) in
         gone h row.0 row.1 row.2 row.3
     last Emptying s = done-lower R (Freed Ok) (frame.Free (Looping x Emptying)) fs p k s.waiting (omega arith)
         (λ g gs e w. let l = called g gs (subst (λ (l : List Frame). Stands Emptying (footing l)) e s.rests) in omega (arith, l))
 
-    child : (c : Obj) (o : Option Obj) → target_at p.rows c ≡ o → Lowers R (cost R (frame.Free (Looping x purpose)) fs p k) (lifted (child_step x c purpose (target_at p.rows c) p)) fs k
+    child : (c : Obj) (o : Option Obj) → target_at p.rows c ≡ o → Lowers R (cost R (frame.Free (Looping x purpose)) fs p k) (lifted p.ring (child_step x c purpose (target_at p.rows c) p)) fs k
     child c None e = rw e (omega arith, omega arith)
     child c (Some t) e = rw e (dropped-lower R (Looping x purpose) (Looping x purpose) fs p k c t s e most (λ h. let n = count-length (without p.rows c) (Of x) in omega (arith, n)))
 
-    each : (o : Option Obj) → first_kid p.rows (Of x) ≡ o → Lowers R (cost R (frame.Free (Looping x purpose)) fs p k) (lifted (loop_step x purpose (first_kid p.rows (Of x)) p)) fs k
+    each : (o : Option Obj) → first_kid p.rows (Of x) ≡ o → Lowers R (cost R (frame.Free (Looping x purpose)) fs p k) (lifted p.ring (loop_step x purpose (first_kid p.rows (Of x)) p)) fs k
     each (Some c) e = rw e (child c (target_at p.rows c) refl)
     each None e = rw e (last purpose s)
 
@@ -217,7 +225,7 @@ tried-lower R x c noted purpose a fs p k s room = each a s
         let u = ap (λ (z : ℕ). row_worth R * z) (total-placed weight p (heir p.rows x c noted) c may.row may.is refl) in
         (omega (arith, n), omega (arith, u, cheaper))
 
-    handed : (b : FreeReply) → tried_cost b ≡ 8 → Sound (frame.Free (AfterChild x c noted purpose b)) fs p → Lowers R (cost R (frame.Free (AfterChild x c noted purpose b)) fs p k) (lifted (hand_on_step x c noted purpose p)) fs k
+    handed : (b : FreeReply) → tried_cost b ≡ 8 → Sound (frame.Free (AfterChild x c noted purpose b)) fs p → Lowers R (cost R (frame.Free (AfterChild x c noted purpose b)) fs p k) (lifted p.ring (hand_on_step x c noted purpose p)) fs k
     handed b e s = by_test (is_below (owner_of p.rows c) (Of x))
         (λ t. rw t (moved b s t (let m = handed-most x c noted _ fs p s t in omega (arith, m, e))))
         (λ t. rw t (omega arith, omega (arith, e)))
@@ -276,35 +284,35 @@ beginning-lower R x fs p k s room = newest (newest_ref p.rows x) refl
     runs : Lowers R (cost R (frame.Free (Beginning x)) fs p k) (Do.Done (Freed Running) p) fs k
     runs = at_once-lower R Running x (Beginning x) fs p k (inl refl) s.rests.0 s.waiting (omega arith) room
 
-    dooms : (r : Row) → row_of p.rows x ≡ Some r → r.mark ≡ Busy → Lowers R (cost R (frame.Free (Beginning x)) fs p k) (Do.Go (frame.Free (Dooming x)) (doom p x)) fs k
+    dooms : (r : Row) → row_of p.rows x ≡ Some r → r.mark ≡ Busy → Lowers R (cost R (frame.Free (Beginning x)) fs p k) (announced (closed_event (closes_with p.ring x)) (Dooming x) (doom p x)) fs k
     dooms r e m =
         let u = ap (λ (z : ℕ). row_worth R * z) (total-kept weight (marked_row Doomed) p.rows x r e (sym (ap mark_weight m))) in
-        (omega (arith, length-changed (marked_row Doomed) p.rows x), omega (arith, u, kids fs))
+        announced-lower R _ _ (Dooming x) (doom p x) fs k (omega (arith, length-changed (marked_row Doomed) p.rows x), omega (arith, u, kids fs))
       where
         kids : (fs : List Frame) → loop_kids (doom p x).rows fs ≡ loop_kids p.rows fs
         kids [] = refl
         kids (frame.Free (FreeingChild y c noted purpose) ∷ fs) = ap (λ (z : ℕ). 4 * z) (total-kept (λ q. if is_below q.owner (Of y) then 1 else 0) (marked_row Doomed) p.rows x r e refl)
         kids (_ ∷ fs) = refl
 
-    quiet : (r : Row) → row_of p.rows x ≡ Some r → r.mark ≡ Quiet → Lowers R (cost R (frame.Free (Beginning x)) fs p k) (lifted (begin_quiet x r.hook p)) fs k
+    quiet : (r : Row) → row_of p.rows x ≡ Some r → r.mark ≡ Quiet → Lowers R (cost R (frame.Free (Beginning x)) fs p k) (lifted p.ring (begin_quiet x r.hook p)) fs k
     quiet r e m = by_test (nat_eq r.hook 0)
         (λ t. rw t (omega arith, omega arith))
         (λ t. let u = ap (λ (z : ℕ). row_worth R * z) (total-kept weight (marked_row Asked) p.rows x r e (sym (ap mark_weight m))) in
         let n = length-changed (marked_row Asked) p.rows x in
         rw t (omega (arith, n), omega (arith, u)))
 
-    marks : (r : Row) (m : Mark) → r.mark ≡ m → row_of p.rows x ≡ Some r → Lowers R (cost R (frame.Free (Beginning x)) fs p k) (lifted (begin_step x (row_of p.rows x) p)) fs k
+    marks : (r : Row) (m : Mark) → r.mark ≡ m → row_of p.rows x ≡ Some r → Lowers R (cost R (frame.Free (Beginning x)) fs p k) (lifted p.ring (begin_step x (row_of p.rows x) p)) fs k
     marks r Quiet m e = rw (e, m) (quiet r e m)
     marks r Asked m e = rw (e, m) runs
     marks r Busy m e = rw (e, m) (dooms r e m)
     marks r Doomed m e = rw (e, m) runs
     marks r (Dying former) m e = rw (e, m) (over (dead r former m e))
 
-    each : (o : Option Row) → row_of p.rows x ≡ o → Lowers R (cost R (frame.Free (Beginning x)) fs p k) (lifted (begin_step x (row_of p.rows x) p)) fs k
+    each : (o : Option Row) → row_of p.rows x ≡ o → Lowers R (cost R (frame.Free (Beginning x)) fs p k) (lifted p.ring (begin_step x (row_of p.rows x) p)) fs k
     each None e = rw e (over (λ o q. let bad : None ≡ Some o = rw e at q in cc))
     each (Some r) e = marks r r.mark refl e
 
-    newest : (o : Option Obj) → newest_ref p.rows x ≡ o → Lowers R (cost R (frame.Free (Beginning x)) fs p k) (lifted (refs_step x (newest_ref p.rows x) p)) fs k
+    newest : (o : Option Obj) → newest_ref p.rows x ≡ o → Lowers R (cost R (frame.Free (Beginning x)) fs p k) (lifted p.ring (refs_step x (newest_ref p.rows x) p)) fs k
     newest None e = rw e (each (row_of p.rows x) refl)
     newest (Some r) e =
         let w = newest-refers p.rows x r s.forest.distinct e in
@@ -318,7 +326,7 @@ unlinking-lower : (R : ℕ) (o : Owner) (x : Obj) (fs : List Frame) (p : Pool) (
     → Lowers R (cost R (frame.Free (Unlinking o x)) fs p k) (step (frame.Free (Unlinking o x)) p) fs k
 unlinking-lower R o x fs p k s room = each (newest_ref_of p.rows o x) refl
   where
-    each : (n : Option Obj) → newest_ref_of p.rows o x ≡ n → Lowers R (cost R (frame.Free (Unlinking o x)) fs p k) (lifted (unlink_step x (newest_ref_of p.rows o x) p)) fs k
+    each : (n : Option Obj) → newest_ref_of p.rows o x ≡ n → Lowers R (cost R (frame.Free (Unlinking o x)) fs p k) (lifted p.ring (unlink_step x (newest_ref_of p.rows o x) p)) fs k
     each None e = rw e (omega arith, omega arith)
     each (Some r) e =
         let w = newest-of-refers p.rows o x r s.forest.distinct e in
@@ -328,7 +336,7 @@ releasing-lower : (R : ℕ) (x : Obj) (fs : List Frame) (p : Pool) (k : ℕ) →
     → Lowers R (cost R (frame.Free (Releasing x)) fs p k) (step (frame.Free (Releasing x)) p) fs k
 releasing-lower R x fs p k s room = each (newest_ref p.rows x) refl
   where
-    each : (n : Option Obj) → newest_ref p.rows x ≡ n → Lowers R (cost R (frame.Free (Releasing x)) fs p k) (lifted (release_step x (newest_ref p.rows x) p)) fs k
+    each : (n : Option Obj) → newest_ref p.rows x ≡ n → Lowers R (cost R (frame.Free (Releasing x)) fs p k) (lifted p.ring (release_step x (newest_ref p.rows x) p)) fs k
     each None e = rw e (omega arith, omega arith)
     each (Some r) e =
         let w = newest-refers p.rows x r s.forest.distinct e in
@@ -350,7 +358,7 @@ judged-lower R x h v fs p k s room =
     let row = running-row (row_of p.rows x) (claims x fs) (claim-here x InRun (claims x fs) (row_of p.rows x) (s.open_frees x)) in
     by-row row.0 row.1 row.2
   where
-    by-row : (r : Row) → row_of p.rows x ≡ Some r → IsLive r.mark → Lowers R (cost R (frame.Free (Judged x h v)) fs p k) (lifted (judge_step x h v p)) fs k
+    by-row : (r : Row) → row_of p.rows x ≡ Some r → IsLive r.mark → Lowers R (cost R (frame.Free (Judged x h v)) fs p k) (lifted p.ring (judge_step x h v p)) fs k
     by-row r e live = by_test (nat_eq v 0)
         (λ t. let u = ap (λ (z : ℕ). row_worth R * z) (total-kept weight (hooked_row 0) p.rows x r e refl) in
         let n = length-changed (hooked_row 0) p.rows x in rw t (omega (arith, n), omega (arith, u)))

@@ -1,5 +1,6 @@
 -- Each step of a turn lowers the measure.
 use Rattle.std.proofs.Common.{◌≡◌, ℕ, suc, zero, ◌+◌, ◌*◌, ◌<◌, List, ◌∷◌, Option, Some, None, refl, sym, ap, subst, arith}
+use Rattle.step_machine.specs.Machine.{Move as Do}
 use Rattle.tree_specs.specs.declared.object.Obj.{Obj}
 use Rattle.tree_specs.specs.declared.row.Mark.TheVariants.{Quiet, Busy}
 use Rattle.tree_specs.specs.declared.handler.Handler.{Handler}
@@ -8,17 +9,23 @@ use Rattle.tree_specs.specs.declared.frame.Frame.{Frame}
 use Rattle.tree_specs.specs.declared.frame.Frame.TheVariants as frame
 use Rattle.tree_specs.specs.declared.frame.CallFrame.TheVariants.{Turning}
 use Rattle.tree_specs.specs.declared.frame.TurnFrame.{TurnFrame}
-use Rattle.tree_specs.specs.declared.frame.TurnFrame.TheVariants.{Taking, Timing, Timed, Polling, Starting, Firing, Handling, Handled, Clearing, Reading, Closing}
-use Rattle.tree_specs.specs.declared.frame.Answer.TheVariants.{Turned}
-use Rattle.tree_specs.specs.Tree.Pool.{Pool, row_of, marked_row}
+use Rattle.tree_specs.specs.declared.frame.TurnFrame.TheVariants.{Taking, Timing, Timed, Polling, Starting, Firing, Handling, Handled, Clearing, Closing}
+use Rattle.tree_specs.specs.declared.frame.OutsideFrame.{OutsideFrame}
+use Rattle.tree_specs.specs.declared.frame.OutsideFrame.TheVariants.{Reaching, Opening, Hearing}
+use Rattle.tree_specs.specs.declared.frame.Answer.{Answer}
+use Rattle.tree_specs.specs.declared.frame.Answer.TheVariants.{Turned, Heard}
+use Rattle.tree_specs.specs.declared.reply.Reply.TheVariants.{Number}
+use Rattle.tree_specs.specs.declared.occasion.Occasion.{Occasion}
+use Rattle.tree_specs.specs.Tree.Pool.{Pool, row_of, marked_row, open_descriptor}
 use Rattle.tree_specs.specs.Events.Coming.{handler_for, goes_after}
 use Rattle.tree_specs.specs.Machine.Profiles.{InHandler, turn_profile}
-use Rattle.tree_specs.specs.Machine.Table.{Step, resume, starting_step, turn_step}
-use Rattle.tree_specs.specs.Invariants.Sound.{claims, footing, IsTurned, Sound}
-use Rattle.tree_specs.specs.Invariants.Measure.{mark_weight, weight, row_worth, waiting_cost, top_cost, cost}
+use Rattle.tree_specs.specs.Machine.Table.{Step, resume, starting_step, turn_step, outside_step}
+use Rattle.tree_specs.specs.Invariants.Sound.{claims, footing, AllWait, IsTurned, Sound}
+use Rattle.tree_specs.specs.Invariants.Measure.{mark_weight, weight, row_worth, waiting_cost, top_cost, cost, pending}
 use Rattle.tree_specs.proofs.Tree.Numbered.{by_test}
+use Rattle.tree_specs.proofs.Calls.Checks.{Reached, ReachedOpening, ReachedHearing, reached-leads}
 use Rattle.tree_specs.proofs.Invariants.Changes.{handling-row, claim-here}
-use Rattle.tree_specs.proofs.Invariants.Turning.{handler-ready, IsPlain, Passes, Pass, look-passes, taken-plain}
+use Rattle.tree_specs.proofs.Invariants.Turning.{handler-ready, rotated-rows, IsPlain, Passes, Pass, look-passes, taken-plain}
 use Rattle.tree_specs.proofs.Turns.FallingFrees.{Lowers, Room, done-lower, total-kept, length-changed, live-weight}
 
 passes-lower : (R : ℕ) (f : TurnFrame) (fs : List Frame) (p : Pool) (k : ℕ) (m : Step) → (turn_profile f).steps ≡ 5 → Passes p m → Room R (frame.Turn f) p k
@@ -34,17 +41,17 @@ asked-lower R f fs p k g t e plain room =
     let cheap = plain.cheap in
     subst (λ (z : Frame). Room R z p k × (cost R z fs p k < cost R (frame.Turn f) fs p (suc k))) (sym e) (omega arith, omega (arith, cheap))
 
-starting-lower : (R : ℕ) (w : What) (x : Obj) (now : ℕ) (fs : List Frame) (p : Pool) (k : ℕ) → Room R (frame.Turn (Starting w x now)) p k
-    → Lowers R (cost R (frame.Turn (Starting w x now)) fs p k) (turn_step (Starting w x now) p) fs k
-starting-lower R w x now fs p k room = each (handler_for p w x) refl
+starting-lower : (R : ℕ) (w : What) (x : Obj) (occasion : Occasion) (fs : List Frame) (p : Pool) (k : ℕ) → Room R (frame.Turn (Starting w x occasion)) p k
+    → Lowers R (cost R (frame.Turn (Starting w x occasion)) fs p k) (turn_step (Starting w x occasion) p) fs k
+starting-lower R w x occasion fs p k room = each (handler_for p w x) refl
   where
-    each : (o : Option Handler) → handler_for p w x ≡ o → Lowers R (cost R (frame.Turn (Starting w x now)) fs p k) (starting_step w x now (handler_for p w x) p) fs k
+    each : (o : Option Handler) → handler_for p w x ≡ o → Lowers R (cost R (frame.Turn (Starting w x occasion)) fs p k) (starting_step w x occasion (handler_for p w x) p) fs k
     each None e = rw e (omega arith, omega arith)
     each (Some h) e =
         let ready = handler-ready p w x h e in
         let u = ap (λ (z : ℕ). row_worth R * z) (total-kept weight (marked_row Busy) p.rows x ready.row ready.is (sym (ap mark_weight ready.quiet))) in
         let n = length-changed (marked_row Busy) p.rows x in
-        rw e (omega (arith, n), omega (arith, u))
+        rw (e, (rotated-rows w x p).0) (omega (arith, n), omega (arith, u))
 
 handled-lower : (R : ℕ) (w : What) (x : Obj) (fs : List Frame) (p : Pool) (k : ℕ) → Sound (frame.Turn (Handled w x)) fs p → Room R (frame.Turn (Handled w x)) p k
     → Lowers R (cost R (frame.Turn (Handled w x)) fs p k) (turn_step (Handled w x) p) fs k
@@ -54,13 +61,14 @@ handled-lower R w x fs p k s room =
     let n = length-changed (marked_row Quiet) p.rows x in
     by_test (goes_after p w x) (λ t. rw t (omega (arith, n), omega (arith, u))) (λ t. rw t (omega (arith, n), omega (arith, u)))
 
-closing-lower : (R v : ℕ) (fs : List Frame) (p : Pool) (k : ℕ) → Sound (frame.Turn (Closing v)) fs p → Room R (frame.Turn (Closing v)) p k
-    → Lowers R (cost R (frame.Turn (Closing v)) fs p k) (turn_step (Closing v) p) fs k
-closing-lower R v fs p k s room =
-    done-lower R (Turned v) (frame.Turn (Closing v)) fs p k s.waiting (omega arith) (λ g gs e w. (let l = pays g gs (subst (λ (l : List Frame). IsTurned (footing l)) e s.rests) in omega (arith, l)))
+-- a work that is over, and for which its call waits
+answers-lower : (R : ℕ) (a : Answer) (f : Frame) (fs : List Frame) (p : Pool) (k : ℕ) → AllWait fs → IsTurned (footing fs) → Room R f p k → pending f ≡ 0 → top_cost R f fs p.rows ≡ 2
+    → Lowers R (cost R f fs p k) (Do.Done a p) fs k
+answers-lower R a f fs p k wait turned room none two =
+    done-lower R a f fs p k wait (omega arith) (λ g gs e w. (let l = pays g gs (subst (λ (l : List Frame). IsTurned (footing l)) e turned) in omega (arith, l, two)))
   where
     -- a call is what waits for it
-    pays : (g : Frame) (gs : List Frame) → IsTurned (footing (g ∷ gs)) → top_cost R (resume g (Turned v)) gs p.rows < waiting_cost g + 2
+    pays : (g : Frame) (gs : List Frame) → IsTurned (footing (g ∷ gs)) → top_cost R (resume g a) gs p.rows < waiting_cost g + 2
     pays (frame.Call (Turning q)) gs t = omega arith
     pays (frame.Turn (Clearing x)) gs t = absurd t
     pays _ gs t = absurd t
@@ -72,11 +80,21 @@ turn-lower R (Timing again) fs p zero s room = tt
 turn-lower R (Timing again) fs p (suc k) s room = λ i g e. (let t = taken-plain (Timing again) p i g e in asked-lower R (Timing again) fs p k g t.0 t.1 t.2 room)
 turn-lower R (Polling limit) fs p zero s room = tt
 turn-lower R (Polling limit) fs p (suc k) s room = λ i g e. (let t = taken-plain (Polling limit) p i g e in asked-lower R (Polling limit) fs p k g t.0 t.1 t.2 room)
-turn-lower R Reading fs p zero s room = tt
-turn-lower R Reading fs p (suc k) s room = λ i g e. (let t = taken-plain Reading p i g e in asked-lower R Reading fs p k g t.0 t.1 t.2 room)
-turn-lower R (Starting w x now) fs p k s room = starting-lower R w x now fs p k room
-turn-lower R (Firing w x h now) fs p k s room = (omega arith, omega arith)
-turn-lower R (Handling w x h now) fs p k s room = (omega arith, omega arith)
+turn-lower R (Starting w x occasion) fs p k s room = starting-lower R w x occasion fs p k room
+turn-lower R (Firing w x h occasion) fs p k s room = (omega arith, omega arith)
+turn-lower R (Handling w x h occasion) fs p k s room = (omega arith, omega arith)
 turn-lower R (Handled w x) fs p k s room = handled-lower R w x fs p k s room
 turn-lower R (Clearing x) fs p k s room = absurd s.rests
-turn-lower R (Closing v) fs p k s room = closing-lower R v fs p k s room
+turn-lower R (Closing v) fs p k s room = answers-lower R (Turned v) (frame.Turn (Closing v)) fs p k s.waiting s.rests room refl (omega arith)
+
+-- ---- a question to the outside
+
+pub outside-lower : (R : ℕ) (f : OutsideFrame) (fs : List Frame) (p : Pool) (k : ℕ) → Sound (frame.Outside f) fs p → Room R (frame.Outside f) p k → Lowers R (cost R (frame.Outside f) fs p k) (outside_step f p) fs k
+outside-lower R (Reaching q) fs p zero s room = tt
+outside-lower R (Reaching q) fs p (suc k) s room = λ i g e. leads g (reached-leads p q i g e)
+  where
+    leads : (g : Frame) → Reached p g → Room R g p k × (cost R g fs p k < cost R (frame.Outside (Reaching q)) fs p (suc k))
+    leads _ (ReachedOpening fd number closed) = (omega arith, omega arith)
+    leads _ (ReachedHearing r) = (omega arith, omega arith)
+outside-lower R (Opening fd) fs p k s room = answers-lower R (Heard (Number fd)) (frame.Outside (Opening fd)) fs (open_descriptor p fd) k s.waiting s.rests room refl (omega arith)
+outside-lower R (Hearing r) fs p k s room = answers-lower R (Heard r) (frame.Outside (Hearing r)) fs p k s.waiting s.rests room refl (omega arith)

@@ -10,12 +10,12 @@ use Rattle.tree_specs.specs.declared.question.Ask.{Ask}
 use Rattle.tree_specs.specs.declared.question.Ask.TheVariants.{Quiet}
 use Rattle.tree_specs.specs.declared.frame.Frame.{Frame}
 use Rattle.tree_specs.specs.declared.frame.Frame.TheVariants as frame
-use Rattle.tree_specs.specs.declared.frame.CallFrame.TheVariants.{Warning, Telling, Asking, Doing, Returning}
+use Rattle.tree_specs.specs.declared.frame.CallFrame.TheVariants.{Announcing, Telling, Asking, Doing, Returning}
 use Rattle.tree_specs.specs.declared.frame.Answer.{Answer}
 use Rattle.tree_specs.specs.Tree.Pool.{Pool}
 use Rattle.tree_specs.specs.Rules.Items.{Item}
 use Rattle.tree_specs.specs.Calls.Plans.{Plan, planned, changed_by}
-use Rattle.tree_specs.specs.Calls.Plans.Plan.{Does, Frees, Unlinks, Empties, AsksTime, Turns}
+use Rattle.tree_specs.specs.Calls.Plans.Plan.{Does, Frees, Unlinks, Empties, Asks, Turns}
 use Rattle.tree_specs.specs.Machine.Table.{table, step, plan_step, turning_step}
 use Rattle.tree_specs.specs.Invariants.Sound.{Sound}
 use Rattle.tree_specs.specs.Tree.Inside.{total}
@@ -24,7 +24,7 @@ use Rattle.tree_specs.proofs.Tree.Rows.{count-length}
 use Rattle.tree_specs.proofs.Calls.Plans.{May, follows, may-planned}
 use Rattle.tree_specs.proofs.Invariants.Keeps.{sound-kept}
 use Rattle.tree_specs.proofs.Turns.FallingFrees.{Lowers, Room, asking-lower, returning-lower, free-lower}
-use Rattle.tree_specs.proofs.Turns.FallingTurns.{turn-lower}
+use Rattle.tree_specs.proofs.Turns.FallingTurns.{turn-lower, outside-lower}
 
 turning-lower : (R : ℕ) (q : Ask) (c : Call) (fs : List Frame) (p : Pool) (k : ℕ) → Room R (frame.Call (Doing q c)) p k → Lowers R (cost R (frame.Call (Doing q c)) fs p k) (turning_step q p) fs k
 turning-lower R Quiet c fs p k room = (omega arith, omega arith)
@@ -35,12 +35,12 @@ planned-lower : (R : ℕ) (q : Ask) (c : Call) (fs : List Frame) (p : Pool) (k :
     → Lowers R (cost R (frame.Call (Doing q c)) fs p k) (plan_step q plan p) fs k
 planned-lower R q c fs p k room (Does change None r) may =
     let f = follows p change may.0 in let few = may.1 in let w : total weight (changed_by change p).rows ≤ total weight p.rows + 4 = omega (arith, f.weight) in let u = mul-le-mul_left (row_worth R) w in (omega (arith, f.number), omega (arith, u))
-planned-lower R q c fs p k room (Does change (Some x) r) may =
+planned-lower R q c fs p k room (Does change (Some notice) r) may =
     let f = follows p change may.0 in let few = may.1 in let w : total weight (changed_by change p).rows ≤ total weight p.rows + 4 = omega (arith, f.weight) in let u = mul-le-mul_left (row_worth R) w in (omega (arith, f.number), omega (arith, u))
 planned-lower R q c fs p k room (Frees x) may = (omega arith, omega arith)
 planned-lower R q c fs p k room (Unlinks o x) may = (omega arith, omega arith)
 planned-lower R q c fs p k room (Empties x) may = let m = count-length p.rows (Of x) in (omega arith, omega arith)
-planned-lower R q c fs p k room AsksTime may = (omega arith, omega arith)
+planned-lower R q c fs p k room (Asks outside) may = (omega arith, omega arith)
 planned-lower R q c fs p k room Turns may = turning-lower R q c fs p k room
 
 -- every step lowers the measure
@@ -49,9 +49,10 @@ lower R (frame.Call (Asking q)) fs p k s room = asking-lower R q fs p k room
 lower R (frame.Call (Doing q c)) fs p k s room = planned-lower R q c fs p k room (planned p c) (may-planned (frame.Call (Doing q c)) fs p s c)
 lower R (frame.Call (Returning v)) fs p k s room = returning-lower R v fs p k s room
 lower R (frame.Free f) fs p k s room = free-lower R f fs p k s room
-lower R (frame.Call (Warning q x r)) fs p k s room = (omega arith, omega arith)
+lower R (frame.Call (Announcing q notice r)) fs p k s room = (omega arith, omega arith)
 lower R (frame.Call (Telling q r)) fs p k s room = (omega arith, omega arith)
 lower R (frame.Turn f) fs p k s room = turn-lower R f fs p k s room
+lower R (frame.Outside f) fs p k s room = outside-lower R f fs p k s room
 lower R _ fs p k s room = absurd s.rests
 
 -- what the measure speaks of

@@ -1,12 +1,15 @@
 -- The stated number of turns is above the measure at every moment, and each work stands where it may.
 use Rattle.tree_specs.specs.Machine.Profiles.{InRun, InHandler, InLoop}
+use Rattle.tree_specs.specs.declared.event.Event.{Event}
 use Rattle.tree_specs.specs.declared.event.Event.TheVariants.{Unreferenced}
+use Rattle.tree_specs.specs.declared.occasion.Occasion.{Occasion}
+use Rattle.tree_specs.specs.Events.Rotation.{closes_with}
 use Rattle.tree_specs.specs.Rules.Items.Item.{Told}
 use Rattle.std.specs.Prelude.{unwrap_or}
 use Rattle.tree_specs.proofs.Tree.Referring.{newest-refers, newest-of-refers}
 use Rattle.tree_specs.proofs.Calls.Plans.{May, follows, may-planned}
 use Rattle.tree_specs.specs.Calls.Plans.{Plan, planned}
-use Rattle.tree_specs.specs.Calls.Plans.Plan.{Does, Frees, Unlinks, Empties, AsksTime, Turns}
+use Rattle.tree_specs.specs.Calls.Plans.Plan.{Does, Frees, Unlinks, Empties, Asks, Turns}
 use Rattle.tree_specs.specs.Tree.Targets.{newest_ref}
 use Rattle.std.proofs.Common.{◌≡◌, ℕ, suc, zero, ◌+◌, ◌≤◌, List, [], ◌∷◌, Option, Some, None, nat_eq, refl, sym, ◌∙◌, ap, subst, arith}
 use Rattle.step_machine.specs.Machine.{Move}
@@ -24,32 +27,35 @@ use Rattle.tree_specs.specs.declared.question.Ask.TheVariants as asks
 use Rattle.tree_specs.specs.declared.reply.Reply.{Reply}
 use Rattle.tree_specs.specs.declared.frame.Frame.{Frame}
 use Rattle.tree_specs.specs.declared.frame.Frame.TheVariants as frame
-use Rattle.tree_specs.specs.declared.frame.CallFrame.TheVariants.{Asking, Doing, Awaiting, Turning, Warning, Telling, Returning}
+use Rattle.tree_specs.specs.declared.frame.CallFrame.TheVariants.{Asking, Doing, Awaiting, Turning, Announcing, Telling, Returning}
 use Rattle.tree_specs.specs.declared.frame.TurnFrame.{TurnFrame}
-use Rattle.tree_specs.specs.declared.frame.TurnFrame.TheVariants.{Taking, Timing, Timed, Polling, Starting, Firing, Handling, Handled, Clearing, Reading, Closing}
+use Rattle.tree_specs.specs.declared.frame.TurnFrame.TheVariants.{Taking, Timing, Timed, Polling, Starting, Firing, Handling, Handled, Clearing, Closing}
 use Rattle.tree_specs.specs.declared.handler.Handler.{Handler}
 use Rattle.tree_specs.specs.declared.moment.What.{What}
 use Rattle.tree_specs.specs.declared.reply.Reply.TheVariants as reply
 use Rattle.tree_specs.specs.declared.reply.Refusal.TheVariants as refusal
 use Rattle.tree_specs.specs.Events.Coming.{handler_for, goes_after}
-use Rattle.tree_specs.proofs.Invariants.Turning.{handler-ready, IsPlain, Passes, Pass, look-passes, taken-plain}
+use Rattle.tree_specs.proofs.Invariants.Turning.{handler-ready, rotated-rows, IsPlain, Passes, Pass, look-passes, taken-plain}
 use Rattle.tree_specs.specs.declared.frame.FreeFrame.{FreeFrame}
 use Rattle.tree_specs.specs.declared.frame.FreeFrame.TheVariants.{Unlinking, Releasing, Giving, Beginning, Hooked, Judged, Dooming, Leaving, Looping, FreeingChild, AfterChild, Ending}
 use Rattle.tree_specs.specs.declared.frame.Purpose.{Purpose}
 use Rattle.tree_specs.specs.declared.frame.Purpose.TheVariants.{Removal, Emptying}
 use Rattle.tree_specs.specs.declared.frame.Answer.{Answer}
-use Rattle.tree_specs.specs.declared.frame.Answer.TheVariants.{Freed, Returned, Turned}
+use Rattle.tree_specs.specs.declared.frame.OutsideFrame.{OutsideFrame}
+use Rattle.tree_specs.specs.declared.frame.OutsideFrame.TheVariants.{Reaching, Opening, Hearing}
+use Rattle.tree_specs.specs.declared.frame.Answer.TheVariants.{Freed, Returned, Turned, Heard as HeardBy}
 use Rattle.tree_specs.specs.declared.free_step.FreeReply.{FreeReply}
 use Rattle.tree_specs.specs.declared.free_step.FreeReply.TheVariants.{Ok, Running, Refused, Held}
-use Rattle.tree_specs.specs.Tree.Pool.{Pool, row_of, is_below, owner_of, first_kid, changed, left_row, marked_row, hooked_row, target_at, noted_owner, newest_ref_of, is_inside, remove}
+use Rattle.tree_specs.specs.Tree.Pool.{Pool, row_of, is_below, owner_of, first_kid, changed, left_row, marked_row, hooked_row, target_at, noted_owner, newest_ref_of, is_inside, remove, detach, doom, open_descriptor}
 use Rattle.tree_specs.specs.Tree.Heirs.{heir}
 use Rattle.tree_specs.specs.Rules.Items.{Item}
-use Rattle.tree_specs.specs.Machine.Table.{Step, table, step, turning_step, turn_step, starting_step, lifted, begin_quiet, begin_step, judge_step, last_step, loop_step, hand_on_step, plan_step, resume, child_step, refs_step, unlink_step, release_step}
+use Rattle.tree_specs.specs.Machine.FreeTable.{begin_quiet, begin_step, judge_step, last_step, loop_step, hand_on_step, child_step, refs_step, unlink_step, release_step}
+use Rattle.tree_specs.specs.Machine.Table.{Step, table, step, turning_step, turn_step, outside_step, starting_step, lifted, announced, closed_event, plan_step, resume}
 use Rattle.tree_specs.specs.Invariants.Sound.{phase_of, phases, claims, AllWait, Sound, Refers, IsQuietRow}
 use Rattle.tree_specs.proofs.Tree.Numbered.{by_test}
 use Rattle.tree_specs.specs.Machine.Profiles.{Waits, ARun, ATurn, AHandler, profile}
-use Rattle.tree_specs.proofs.Calls.Checks.{Heard, HeardCall, HeardReturn, heard-leads}
-use Rattle.tree_specs.specs.Rules.Story.{later}
+use Rattle.tree_specs.proofs.Calls.Checks.{Heard, HeardCall, HeardReturn, heard-leads, Reached, ReachedOpening, ReachedHearing, reached-leads}
+use Rattle.tree_specs.specs.Rules.Answers.{later}
 use Rattle.tree_specs.specs.Invariants.Consistent.{IsQuiet, IsOfRoutine, IsCaller, IsRun, IsFree, IsTurn, MayStandOn, Serves, IsStacked, size, innermost_size, sizes, mark_deposit, deposit, IsPaidFor}
 use Rattle.tree_specs.specs.Tree.Inside.{total}
 use Rattle.tree_specs.proofs.Tree.Rows.{total-without, total-placed, total-changed}
@@ -97,7 +103,7 @@ reseat-told q c r fs s = reseat (frame.Call (Doing q c)) (frame.Call (Telling (l
 resumed-seated : (g : Frame) (gs : List Frame) (a : Answer) → Waiter g → IsStacked g gs → IsStacked (resume g a) gs
 resumed-seated _ gs a (ForFree q x) s = reseat (frame.Call (Awaiting q x)) (resume (frame.Call (Awaiting q x)) a) gs (quiet-later q _) (routine-later q _) (λ z. z) (λ z. z) s
 resumed-seated _ gs a (ForTurn q) s = reseat (frame.Call (Turning q)) (resume (frame.Call (Turning q)) a) gs (quiet-later q _) (routine-later q _) (λ z. z) (λ z. z) s
-resumed-seated _ gs a (ForHandler w x h now) s = reseat-turn (Handling w x h now) _ gs s
+resumed-seated _ gs a (ForHandler w x h occasion) s = reseat-turn (Handling w x h occasion) _ gs s
 resumed-seated _ gs a (ForClear x) s = reseat-turn (Clearing x) _ gs s
 resumed-seated _ gs a (ForRun x h) s = reseat-free (Hooked x h) _ gs s
 resumed-seated _ gs a (ForChild x c noted purpose) s = reseat-free (FreeingChild x c noted purpose) _ gs s
@@ -112,7 +118,7 @@ size-resume f _ gs a (ForFree q x) s = omega arith
 size-resume f _ gs a (ForChild x c noted purpose) s = omega arith
 size-resume f _ gs a (ForRun x h) s = let n = run-size f s in omega (arith, n)
 size-resume f _ gs a (ForTurn q) s = omega arith
-size-resume f _ gs a (ForHandler w x h now) s = let n = run-size f s in omega (arith, n)
+size-resume f _ gs a (ForHandler w x h occasion) s = let n = run-size f s in omega (arith, n)
 size-resume f _ gs a (ForClear x) s = omega arith
 
 -- a work that ends, over rows whose deposit is as great
@@ -141,12 +147,17 @@ planned-placed q c fs p k s l plan may = each plan may
 
     each : (plan : Plan) → May p plan → Placed (plan_step q plan p) fs k
     each (Does change None r) may = (reseat-told q c r fs s, omega (arith, l, (follows p change may.0).deposit))
-    each (Does change (Some x) r) may = (reseat (frame.Call (Doing q c)) (frame.Call (Warning (later q r) x r)) fs (quiet-later q r) (routine-later q r) (λ z. z) (λ z. z) s, omega (arith, l, (follows p change may.0).deposit))
+    each (Does change (Some notice) r) may = (reseat (frame.Call (Doing q c)) (frame.Call (Announcing (later q r) notice r)) fs (quiet-later q r) (routine-later q r) (λ z. z) (λ z. z) s, omega (arith, l, (follows p change may.0).deposit))
     each (Frees x) may = ((tt, awaits x), omega (arith, l))
     each (Unlinks o x) may = ((tt, awaits x), omega (arith, l))
     each (Empties x) may = ((tt, awaits x), omega (arith, l))
-    each AsksTime may = ((tt, reseat (frame.Call (Doing q c)) (frame.Call (Turning q)) fs (λ z. z) (λ z. z) (λ z. z) (λ z. z) s), omega (arith, l))
+    each (Asks outside) may = ((tt, reseat (frame.Call (Doing q c)) (frame.Call (Turning q)) fs (λ z. z) (λ z. z) (λ z. z) (λ z. z) s), omega (arith, l))
     each Turns may = turning-placed q c fs p k s l
+
+-- what is told of it makes no difference
+announced-placed : (o : Option Event) (g : FreeFrame) (q : Pool) (fs : List Frame) (k : ℕ) → IsStacked (frame.Free g) fs × IsPaidFor (frame.Free g) fs q → Placed (announced o g q) fs k
+announced-placed None g q fs k l = l
+announced-placed (Some e) g q fs k l = l
 
 -- a reference bears nothing
 dropped-placed : (f g : FreeFrame) (fs : List Frame) (p : Pool) (k : ℕ) (r t : Obj) (e : Item) → Refers p.rows → target_at p.rows r ≡ Some t → innermost_size (frame.Free g) ≤ innermost_size (frame.Free f)
@@ -164,26 +175,26 @@ beginning-placed x fs p k sound s l = newest (newest_ref p.rows x) refl
     done : (a : FreeReply) → Placed (Do.Done (Freed a) p) fs k
     done a = over (Freed a) (frame.Free (Beginning x)) fs p k sound.waiting s l
 
-    quiet : (r : Row) → row_of p.rows x ≡ Some r → r.mark ≡ Quiet → Placed (lifted (begin_quiet x r.hook p)) fs k
+    quiet : (r : Row) → row_of p.rows x ≡ Some r → r.mark ≡ Quiet → Placed (lifted p.ring (begin_quiet x r.hook p)) fs k
     quiet r e m = by_test (nat_eq r.hook 0)
         (λ t. rw t (reseat-free (Beginning x) (Leaving x 0) fs s, l))
         (λ t. let u = total-changed deposit (marked_row Asked) p.rows x r e in
         rw t (reseat-free (Beginning x) (Hooked x r.hook) fs s, omega (arith, u, l, ap mark_deposit m)))
 
-    marks : (r : Row) (m : Mark) → r.mark ≡ m → row_of p.rows x ≡ Some r → Placed (lifted (begin_step x (row_of p.rows x) p)) fs k
+    marks : (r : Row) (m : Mark) → r.mark ≡ m → row_of p.rows x ≡ Some r → Placed (lifted p.ring (begin_step x (row_of p.rows x) p)) fs k
     marks r Quiet m e = rw (e, m) (quiet r e m)
     marks r Asked m e = rw (e, m) (done Running)
     marks r Busy m e =
         let u : total deposit (changed (marked_row Doomed) p.rows x) ≡ total deposit p.rows = total-kept deposit (marked_row Doomed) p.rows x r e (sym (ap mark_deposit m)) in
-        rw (e, m) (reseat-free (Beginning x) (Dooming x) fs s, omega (arith, u, l))
+        rw (e, m) (announced-placed (closed_event (closes_with p.ring x)) (Dooming x) (doom p x) fs k (reseat-free (Beginning x) (Dooming x) fs s, omega (arith, u, l)))
     marks r Doomed m e = rw (e, m) (done Running)
     marks r (Dying former) m e = rw (e, m) (done Ok)
 
-    each : (o : Option Row) → row_of p.rows x ≡ o → Placed (lifted (begin_step x (row_of p.rows x) p)) fs k
+    each : (o : Option Row) → row_of p.rows x ≡ o → Placed (lifted p.ring (begin_step x (row_of p.rows x) p)) fs k
     each None e = rw e (done Ok)
     each (Some r) e = marks r r.mark refl e
 
-    newest : (o : Option Obj) → newest_ref p.rows x ≡ o → Placed (lifted (refs_step x (newest_ref p.rows x) p)) fs k
+    newest : (o : Option Obj) → newest_ref p.rows x ≡ o → Placed (lifted p.ring (refs_step x (newest_ref p.rows x) p)) fs k
     newest None e = rw e (each (row_of p.rows x) refl)
     newest (Some r) e =
         let w = newest-refers p.rows x r sound.forest.distinct e in
@@ -196,7 +207,7 @@ unlinking-placed : (o : Owner) (x : Obj) (fs : List Frame) (p : Pool) (k : ℕ) 
     → Placed (step (frame.Free (Unlinking o x)) p) fs k
 unlinking-placed o x fs p k sound s l = each (newest_ref_of p.rows o x) refl
   where
-    each : (n : Option Obj) → newest_ref_of p.rows o x ≡ n → Placed (lifted (unlink_step x (newest_ref_of p.rows o x) p)) fs k
+    each : (n : Option Obj) → newest_ref_of p.rows o x ≡ n → Placed (lifted p.ring (unlink_step x (newest_ref_of p.rows o x) p)) fs k
     each None e = rw e (reseat-free (Unlinking o x) (Releasing x) fs s, l)
     each (Some r) e = let w = newest-of-refers p.rows o x r sound.forest.distinct e in rw e (dropped-placed (Unlinking o x) (Ending Ok) fs p k r x (Told (Unreferenced r x)) sound.refers (rw w.1 w.2) (omega arith) s l)
 
@@ -204,7 +215,7 @@ releasing-placed : (x : Obj) (fs : List Frame) (p : Pool) (k : ℕ) → Sound (f
     → Placed (step (frame.Free (Releasing x)) p) fs k
 releasing-placed x fs p k sound s l = each (newest_ref p.rows x) refl
   where
-    each : (n : Option Obj) → newest_ref p.rows x ≡ n → Placed (lifted (release_step x (newest_ref p.rows x) p)) fs k
+    each : (n : Option Obj) → newest_ref p.rows x ≡ n → Placed (lifted p.ring (release_step x (newest_ref p.rows x) p)) fs k
     each None e = rw e (reseat-free (Releasing x) (Beginning x) fs s, l)
     each (Some r) e =
         let w = newest-refers p.rows x r sound.forest.distinct e in
@@ -223,7 +234,7 @@ judged-placed x h v fs p k s seats l =
     let row = running-row (row_of p.rows x) (claims x fs) (claim-here x InRun (claims x fs) (row_of p.rows x) (s.open_frees x)) in
     by-row row.0 row.1
   where
-    by-row : (r : Row) → row_of p.rows x ≡ Some r → Placed (lifted (judge_step x h v p)) fs k
+    by-row : (r : Row) → row_of p.rows x ≡ Some r → Placed (lifted p.ring (judge_step x h v p)) fs k
     by-row r e = by_test (nat_eq v 0)
         (λ t. let u = total-kept deposit (hooked_row 0) p.rows x r e refl in
         rw t (reseat-free (Judged x h v) (Leaving x h) fs seats, by_test (nat_eq h 0) (λ y. rw y (omega (arith, u, l))) (λ y. rw y (omega (arith, u, l)))))
@@ -232,7 +243,8 @@ judged-placed x h v fs p k s seats l =
 
 leaving-placed : (x : Obj) (h : ℕ) (fs : List Frame) (p : Pool) (k : ℕ) → Sound (frame.Free (Leaving x h)) fs p → IsStacked (frame.Free (Leaving x h)) fs → IsPaidFor (frame.Free (Leaving x h)) fs p
     → Placed (step (frame.Free (Leaving x h)) p) fs k
-leaving-placed x h fs p k s seats l = (reseat-free (Leaving x h) (Looping x (Removal h)) fs seats, lighter s.rests.0 s.rests.1 s.rests.3)
+leaving-placed x h fs p k s seats l =
+    announced-placed (closed_event (closes_with p.ring x)) (Looping x (Removal h)) (detach p x) fs k (reseat-free (Leaving x h) (Looping x (Removal h)) fs seats, lighter s.rests.0 s.rests.1 s.rests.3)
   where
     calm : (m : Mark) → [] ≡ phase_of m → mark_deposit m ≡ 0
     calm Quiet e = refl
@@ -250,7 +262,7 @@ looping-placed : (x : Obj) (purpose : Purpose) (fs : List Frame) (p : Pool) (k :
 looping-placed x purpose fs p k s seats l = each (first_kid p.rows (Of x))
   where
     last : (purpose : Purpose) → Sound (frame.Free (Looping x purpose)) fs p → IsStacked (frame.Free (Looping x purpose)) fs → IsPaidFor (frame.Free (Looping x purpose)) fs p
-        → Placed (lifted (last_step x purpose p)) fs k
+        → Placed (lifted p.ring (last_step x purpose p)) fs k
     last (Removal h) s seats l =
         let row = dying-row (row_of p.rows x) (claims x fs) (claim-here x InLoop (claims x fs) (row_of p.rows x) (s.open_frees x)) in
         let w = total-without deposit p.rows x row.0 row.1 in
@@ -258,11 +270,11 @@ looping-placed x purpose fs p k s seats l = each (first_kid p.rows (Of x))
         (reseat-free (Looping x (Removal h)) (Ending Ok) fs seats, omega (arith, w, i, l))
     last Emptying s seats l = over (Freed Ok) (frame.Free (Looping x Emptying)) fs p k s.waiting seats l
 
-    child : (c : Obj) (o : Option Obj) → target_at p.rows c ≡ o → Placed (lifted (child_step x c purpose o p)) fs k
+    child : (c : Obj) (o : Option Obj) → target_at p.rows c ≡ o → Placed (lifted p.ring (child_step x c purpose o p)) fs k
     child c None e = ((tt, reseat-free (Looping x purpose) (FreeingChild x c (noted_owner p.rows c) purpose) fs seats), omega (arith, l))
     child c (Some t) e = dropped-placed (Looping x purpose) (Looping x purpose) fs p k c t (Told (Unreferenced c t)) s.refers e (omega arith) seats l
 
-    each : (o : Option Obj) → Placed (lifted (loop_step x purpose o p)) fs k
+    each : (o : Option Obj) → Placed (lifted p.ring (loop_step x purpose o p)) fs k
     each (Some c) = child c (target_at p.rows c) refl
     each None = last purpose s seats l
 
@@ -273,7 +285,7 @@ tried-placed x c noted purpose a fs p k s seats l = each a
     on : IsStacked (frame.Free (Looping x purpose)) fs
     on = reseat-free (AfterChild x c noted purpose a) (Looping x purpose) fs seats
 
-    handed : Placed (lifted (hand_on_step x c noted purpose p)) fs k
+    handed : Placed (lifted p.ring (hand_on_step x c noted purpose p)) fs k
     handed = by_test (is_below (owner_of p.rows c) (Of x))
         (λ t. let may = heir-placed x c noted _ fs p s t in
         let w = total-placed deposit p (heir p.rows x c noted) c may.row may.is refl in rw t (on, omega (arith, w, l)))
@@ -293,16 +305,16 @@ asked-placed : (f : TurnFrame) (fs : List Frame) (p : Pool) (g : Frame) (t : Tur
     → IsStacked g fs × IsPaidFor g fs p
 asked-placed f fs p g t e plain b l = let z = plain.size in subst (λ (w : Frame). IsStacked w fs × IsPaidFor w fs p) (sym e) (reseat-turn f t fs b, omega (arith, l, z))
 
-starting-placed : (w : What) (x : Obj) (now : ℕ) (fs : List Frame) (p : Pool) (k : ℕ) → IsStacked (frame.Turn (Starting w x now)) fs → IsPaidFor (frame.Turn (Starting w x now)) fs p
-    → Placed (turn_step (Starting w x now) p) fs k
-starting-placed w x now fs p k b l = each (handler_for p w x) refl
+starting-placed : (w : What) (x : Obj) (occasion : Occasion) (fs : List Frame) (p : Pool) (k : ℕ) → IsStacked (frame.Turn (Starting w x occasion)) fs → IsPaidFor (frame.Turn (Starting w x occasion)) fs p
+    → Placed (turn_step (Starting w x occasion) p) fs k
+starting-placed w x occasion fs p k b l = each (handler_for p w x) refl
   where
-    each : (o : Option Handler) → handler_for p w x ≡ o → Placed (starting_step w x now (handler_for p w x) p) fs k
-    each None e = rw e (reseat-turn (Starting w x now) (Closing 1) fs b, l)
+    each : (o : Option Handler) → handler_for p w x ≡ o → Placed (starting_step w x occasion (handler_for p w x) p) fs k
+    each None e = rw e (reseat-turn (Starting w x occasion) (Closing 1) fs b, l)
     each (Some h) e =
         let ready = handler-ready p w x h e in
         let u = total-changed deposit (marked_row Busy) p.rows x ready.row ready.is in
-        rw e (reseat-turn (Starting w x now) (Firing w x h now) fs b, omega (arith, u, l, ap mark_deposit ready.quiet))
+        rw (e, (rotated-rows w x p).0) (reseat-turn (Starting w x occasion) (Firing w x h occasion) fs b, omega (arith, u, l, ap mark_deposit ready.quiet))
 
 handled-placed : (w : What) (x : Obj) (fs : List Frame) (p : Pool) (k : ℕ) → Sound (frame.Turn (Handled w x)) fs p → IsStacked (frame.Turn (Handled w x)) fs
     → IsPaidFor (frame.Turn (Handled w x)) fs p → Placed (turn_step (Handled w x) p) fs k
@@ -321,19 +333,32 @@ turn-placed (Timing again) fs p zero s b l = tt
 turn-placed (Timing again) fs p (suc k) s b l = λ i g e. (let t = taken-plain (Timing again) p i g e in asked-placed (Timing again) fs p g t.0 t.1 t.2 b l)
 turn-placed (Polling limit) fs p zero s b l = tt
 turn-placed (Polling limit) fs p (suc k) s b l = λ i g e. (let t = taken-plain (Polling limit) p i g e in asked-placed (Polling limit) fs p g t.0 t.1 t.2 b l)
-turn-placed Reading fs p zero s b l = tt
-turn-placed Reading fs p (suc k) s b l = λ i g e. (let t = taken-plain Reading p i g e in asked-placed Reading fs p g t.0 t.1 t.2 b l)
-turn-placed (Starting w x now) fs p k s b l = starting-placed w x now fs p k b l
-turn-placed (Firing w x h now) fs p k s b l = (reseat-turn (Firing w x h now) (Handling w x h now) fs b, l)
-turn-placed (Handling w x h now) fs p k s b l = ((tt, b), omega (arith, l))
+turn-placed (Starting w x occasion) fs p k s b l = starting-placed w x occasion fs p k b l
+turn-placed (Firing w x h occasion) fs p k s b l = (reseat-turn (Firing w x h occasion) (Handling w x h occasion) fs b, l)
+turn-placed (Handling w x h occasion) fs p k s b l = ((tt, b), omega (arith, l))
 turn-placed (Handled w x) fs p k s b l = handled-placed w x fs p k s b l
 turn-placed (Clearing x) fs p k s b l = absurd s.rests
 turn-placed (Closing v) fs p k s b l = over (Turned v) (frame.Turn (Closing v)) fs p k s.waiting b l
 
+-- ---- a question to the outside
+
+reseat-outside : (f g : OutsideFrame) (fs : List Frame) → IsStacked (frame.Outside f) fs → IsStacked (frame.Outside g) fs
+reseat-outside f g fs s = reseat (frame.Outside f) (frame.Outside g) fs (λ c. c) (λ r. r) (λ k. k) (λ t. t) s
+
+outside-placed : (f : OutsideFrame) (fs : List Frame) (p : Pool) (k : ℕ) → Sound (frame.Outside f) fs p → IsStacked (frame.Outside f) fs → IsPaidFor (frame.Outside f) fs p → Placed (outside_step f p) fs k
+outside-placed (Reaching q) fs p zero s b l = tt
+outside-placed (Reaching q) fs p (suc k) s b l = λ i g e. leads g (reached-leads p q i g e)
+  where
+    leads : (g : Frame) → Reached p g → IsStacked g fs × IsPaidFor g fs p
+    leads _ (ReachedOpening fd number closed) = (reseat-outside (Reaching q) (Opening fd) fs b, l)
+    leads _ (ReachedHearing r) = (reseat-outside (Reaching q) (Hearing r) fs b, l)
+outside-placed (Opening fd) fs p k s b l = over (HeardBy (reply.Number fd)) (frame.Outside (Opening fd)) fs (open_descriptor p fd) k s.waiting b l
+outside-placed (Hearing r) fs p k s b l = over (HeardBy r) (frame.Outside (Hearing r)) fs p k s.waiting b l
+
 pub placed-kept : (f : Frame) (fs : List Frame) (p : Pool) (k : ℕ) → Sound f fs p → IsStacked f fs → IsPaidFor f fs p → Placed (step f p) fs k
 placed-kept (frame.Call (Asking q)) fs p k s b l = asking-placed q fs p k b l
 placed-kept (frame.Call (Doing q c)) fs p k s b l = planned-placed q c fs p k b l (planned p c) (may-planned (frame.Call (Doing q c)) fs p s c)
-placed-kept (frame.Call (Warning q x r)) fs p k s b l = (reseat (frame.Call (Warning q x r)) (frame.Call (Telling q r)) fs (λ z. z) (λ z. z) (λ z. z) (λ z. z) b, l)
+placed-kept (frame.Call (Announcing q notice r)) fs p k s b l = (reseat (frame.Call (Announcing q notice r)) (frame.Call (Telling q r)) fs (λ z. z) (λ z. z) (λ z. z) (λ z. z) b, l)
 placed-kept (frame.Call (Telling q r)) fs p k s b l = (reseat (frame.Call (Telling q r)) (frame.Call (Asking q)) fs (λ z. z) (λ z. z) (λ z. z) (λ z. z) b, l)
 placed-kept (frame.Call (Returning v)) fs p k s b l = over (Returned v) (frame.Call (Returning v)) fs p k s.waiting b l
 placed-kept (frame.Free (Unlinking o x)) fs p k s b l = unlinking-placed o x fs p k s b l
@@ -348,4 +373,5 @@ placed-kept (frame.Free (Looping x purpose)) fs p k s b l = looping-placed x pur
 placed-kept (frame.Free (AfterChild x c noted purpose a)) fs p k s b l = tried-placed x c noted purpose a fs p k s b l
 placed-kept (frame.Free (Ending answer)) fs p k s b l = over (Freed answer) (frame.Free (Ending answer)) fs p k s.waiting b l
 placed-kept (frame.Turn f) fs p k s b l = turn-placed f fs p k s b l
+placed-kept (frame.Outside f) fs p k s b l = outside-placed f fs p k s b l
 placed-kept _ fs p k s b l = absurd s.rests

@@ -4,16 +4,22 @@ use Rattle.tree_specs.specs.declared.object.Obj.{Obj}
 use Rattle.tree_specs.specs.declared.object.Owner.{Owner}
 use Rattle.tree_specs.specs.declared.object.Owner.TheVariants.{Root}
 use Rattle.tree_specs.specs.declared.kind.Kind.{Kind}
-use Rattle.tree_specs.specs.declared.kind.Kind.TheVariants.{Plain, Reference, Timer, Immediate}
+use Rattle.tree_specs.specs.declared.kind.Kind.TheVariants.{Plain, Reference, Timer, Immediate, Descriptor}
 use Rattle.tree_specs.specs.declared.row.Row.{Row}
 use Rattle.tree_specs.specs.declared.handler.Handler.{Handler}
+use Rattle.tree_specs.specs.declared.notice.Notice.{Notice}
+use Rattle.tree_specs.specs.declared.notice.Notice.TheVariants.{Warned, Closed}
+use Rattle.tree_specs.specs.declared.question.Ask.{Ask}
+use Rattle.tree_specs.specs.declared.question.Ask.TheVariants as ask
+use Rattle.tree_specs.specs.declared.watch.Watch.{Watch}
 use Rattle.tree_specs.specs.declared.call.Call.{Call}
 use Rattle.tree_specs.specs.declared.call.Call.TheVariants as call
 use Rattle.tree_specs.specs.declared.reply.Reply.{Reply}
 use Rattle.tree_specs.specs.declared.reply.Reply.TheVariants.{Ok, Number, Rows, No}
 use Rattle.tree_specs.specs.Words.Objects.{owner_number}
 use Rattle.tree_specs.specs.Tree.Targets.{newest_ref}
-use Rattle.tree_specs.specs.Tree.Pool.{Pool, changed, is_below, owner_of, newest_ref_of, add, place, named_row, hooked_row, sized_row, limited_row, set_handler, schedule, unschedule, arm}
+use Rattle.tree_specs.specs.Tree.Pool.{Pool, changed, is_below, owner_of, newest_ref_of, add, place, named_row, hooked_row, sized_row, limited_row, set_handler, schedule, unschedule, arm, watch, rewatch, close_descriptor}
+use Rattle.tree_specs.specs.Events.Rotation.{flags_of, flagged, closing}
 use Rattle.tree_specs.specs.Tree.Inside.{size_inside, count_inside}
 use Rattle.tree_specs.specs.Tree.Sums.{sum_inside}
 use Rattle.tree_specs.specs.Tree.Reports.{report}
@@ -35,6 +41,12 @@ pub data Change : Type 0 where
   Unschedule : Obj → Change
   -- an object is to come at a time; the number tells equal times apart
   Arm : Obj → ℕ → ℕ → Change
+  -- an event watches a descriptor, for these flags
+  Watches : Obj → ℕ → ℕ → Change
+  -- how it does is changed
+  Rewatch : Obj → (Watch → Watch) → Change
+  -- a descriptor is closed
+  Close : ℕ → Change
   -- one change after another
   Then : Change → Change → Change
 
@@ -47,18 +59,21 @@ changed_by (Handle x handler) p = set_handler p x handler
 changed_by (Schedule x) p = schedule p x
 changed_by (Unschedule x) p = unschedule p x
 changed_by (Arm x time number) p = arm p x time number
+changed_by (Watches x fd flags) p = watch p x fd flags
+changed_by (Rewatch x change) p = rewatch p x change
+changed_by (Close fd) p = close_descriptor p fd
 changed_by (Then first second) p = changed_by second (changed_by first p)
 
 pub data Plan : Type 0 where
-  -- a change, and the reply; before the reply it may be told that an object has references
-  Does : Change → Option Obj → Reply → Plan
+  -- a change, and the reply; before the reply there may be a notice
+  Does : Change → Option Notice → Reply → Plan
   Frees : Obj → Plan
   -- an owner's interest in an object is taken away
   Unlinks : Owner → Obj → Plan
   -- the children of an object are freed
   Empties : Obj → Plan
-  -- the clock is asked, and the time is the reply
-  AsksTime : Plan
+  -- the outside is asked, and its answer is the reply
+  Asks : Ask → Plan
   -- a turn of the event loop
   Turns : Plan
 
@@ -77,7 +92,7 @@ abbrev pub warns : Pool → Owner → Obj → Bool
 warns p o x = is_some (newest_ref p.rows x) && not (is_below (owner_of p.rows x) o)
 
 abbrev pub places : Pool → Owner → Obj → Reply → Plan
-places p o x r = Does (Place o x) (if warns p o x then Some x else None) r
+places p o x r = Does (Place o x) (if warns p o x then Some (Warned x) else None) r
 
 -- what an owner gives away of an object: the object itself, or its newest reference to it
 abbrev pub gift : Pool → Owner → Obj → Option Obj
@@ -111,6 +126,13 @@ comes_at x time handler = Then (Handle x handler) (Arm x time x.0)
 abbrev pub adds_timer : Pool → Owner → ℕ → Handler → Change
 adds_timer p o time handler = Then (Add Timer o 0 (codes "timer")) (comes_at (record { 0 = p.next }) time handler)
 
+-- an event gets a handler, and watches a descriptor
+abbrev pub watches : Obj → ℕ → ℕ → Handler → Change
+watches x fd flags handler = Then (Handle x handler) (Watches x fd flags)
+
+abbrev pub adds_descriptor : Pool → Owner → ℕ → ℕ → Handler → Change
+adds_descriptor p o fd flags handler = Then (Add Descriptor o 0 (codes "fd")) (watches (record { 0 = p.next }) fd flags handler)
+
 -- an owner by its number
 abbrev pub owner_reply : Option Owner → Reply
 owner_reply o = Number (owner_number (unwrap_or o Root))
@@ -138,8 +160,16 @@ plan p (call.Immediate o) = adds p Immediate o 0 (codes "immediate")
 plan p (call.Schedule x routine user) = Does (comes_soon x routine user) None Ok
 plan p (call.Unschedule x) = Does (Unschedule x) None Ok
 plan p (call.Timer o time routine user) = Does (adds_timer p o time (record { routine = routine; user = user })) None (Number p.next)
-plan p call.Pending = replies (Number (length p.soon + length p.times))
-plan p call.Now = AsksTime
+plan p (call.Fd o fd flags routine user) = Does (adds_descriptor p o fd flags (record { routine = routine; user = user })) None (Number p.next)
+plan p (call.Flags x flags) = Does (Rewatch x (flagged flags)) None Ok
+plan p (call.Getflags x) = replies (Number (unwrap_or (flags_of p.ring x) 0))
+plan p (call.Autoclose x) = Does (Rewatch x closing) None Ok
+plan p (call.Close fd) = Does (Close fd) (Some (Closed fd)) Ok
+plan p (call.Accept fd) = Asks (ask.Accept fd)
+plan p (call.Read fd len) = Asks (ask.Read fd len)
+plan p (call.Write fd bytes) = Asks (ask.Write fd bytes)
+plan p call.Pending = replies (Number (length p.soon + length p.times + length p.ring))
+plan p call.Now = Asks ask.Clock
 plan p call.Turn = Turns
 
 -- a call that is refused does nothing, and has the first refusal as its reply
@@ -150,11 +180,7 @@ unless_refused (why ∷ later) plan = replies (No why)
 abbrev pub planned : Pool → Call → Plan
 planned p c = unless_refused (refusals p c) (plan p c)
 
--- the object of which it warns
-abbrev pub warned_by : Plan → Option Obj
-warned_by (Does c warned r) = warned
-warned_by (Frees x) = None
-warned_by (Unlinks o x) = None
-warned_by (Empties x) = None
-warned_by AsksTime = None
-warned_by Turns = None
+-- what is told before the reply
+abbrev pub notice_of : Plan → Option Notice
+notice_of (Does c notice r) = notice
+notice_of plan = None

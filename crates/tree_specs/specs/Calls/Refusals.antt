@@ -5,18 +5,20 @@ use Rattle.tree_specs.specs.declared.object.Obj.{Obj}
 use Rattle.tree_specs.specs.declared.object.Owner.{Owner}
 use Rattle.tree_specs.specs.declared.object.Owner.TheVariants.{Root, Of}
 use Rattle.tree_specs.specs.declared.kind.Kind.{Kind}
-use Rattle.tree_specs.specs.declared.kind.Kind.TheVariants.{Plain, Immediate as ImmediateKind}
+use Rattle.tree_specs.specs.declared.kind.Kind.TheVariants.{Plain, Immediate as ImmediateKind, Descriptor}
 use Rattle.tree_specs.specs.declared.row.Row.{Row}
 use Rattle.tree_specs.specs.declared.row.Mark.{Mark}
 use Rattle.tree_specs.specs.declared.row.Mark.TheVariants as mark
 use Rattle.tree_specs.specs.declared.call.Call.{Call}
-use Rattle.tree_specs.specs.declared.call.Call.TheVariants.{New, Free, Freekids, Steal, Move, Reparent, Reference as Refer, Unlink, Hook, Unhook, Rename, Resize, Limit, Parent, Total, Count, Sum, Report, Immediate, Schedule, Unschedule, Timer, Pending, Now, Turn}
+use Rattle.tree_specs.specs.declared.call.Call.TheVariants.{New, Free, Freekids, Steal, Move, Reparent, Reference as Refer, Unlink, Hook, Unhook, Rename, Resize, Limit, Parent, Total, Count, Sum, Report, Immediate, Schedule, Unschedule, Timer, Fd, Flags, Getflags, Autoclose, Close, Accept, Read, Write, Pending, Now, Turn}
 use Rattle.tree_specs.specs.declared.test.Test.{Test}
-use Rattle.tree_specs.specs.declared.test.Test.TheVariants.{IsSmall, IsObject, IsOwner, IsPlain, IsImmediate, HasRoom, Fits, MayGrow, IsNotDying, IsNotDoomed, IsNotRunning, IsNotInside, IsUnheld, IsUnreferenced, IsInterested, MayGive}
+use Rattle.tree_specs.specs.declared.test.Test.TheVariants.{IsSmall, IsObject, IsOwner, IsPlain, IsImmediate, IsDescriptor, IsOpen, IsUnwatched, HasRoom, Fits, MayGrow, IsNotDying, IsNotDoomed, IsNotRunning, IsNotInside, IsUnheld, IsUnreferenced, IsInterested, MayGive}
 use Rattle.tree_specs.specs.declared.reply.Refusal.{Refusal}
-use Rattle.tree_specs.specs.declared.reply.Refusal.TheVariants.{NoSuch, WrongKind, Running, Held, NotParent, Loop, Dying, OverLimit, Full, Spent, TooBig}
+use Rattle.tree_specs.specs.declared.reply.Refusal.TheVariants.{NoSuch, WrongKind, Running, Held, NotParent, Loop, Dying, OverLimit, Full, Spent, InUse, TooBig}
 use Rattle.tree_specs.specs.Tree.Pool.{Pool, row_of, passes, is_below, owner_of, newest_ref_of, is_dying_mark, is_dying, is_inside}
 use Rattle.tree_specs.specs.Tree.Targets.{is_reference}
+use Rattle.tree_specs.specs.Events.Rotation.{is_watched}
+use Rattle.tree_specs.specs.Events.Descriptors.{is_open_in}
 use Rattle.tree_specs.specs.Tree.Reports.{count_refs}
 use Rattle.tree_specs.specs.Tree.Sums.{overhead, sum_inside, limit_at, size_at}
 
@@ -65,11 +67,19 @@ abbrev pub is_immediate : Kind → Bool
 is_immediate ImmediateKind = true
 is_immediate k = false
 
+-- an event on a descriptor
+abbrev pub is_descriptor : Kind → Bool
+is_descriptor Descriptor = true
+is_descriptor k = false
+
 abbrev pub is_plain_row : Option Row → Bool
 is_plain_row o = passes (λ r. is_plain r.kind) o
 
 abbrev pub is_immediate_row : Option Row → Bool
 is_immediate_row o = passes (λ r. is_immediate r.kind) o
+
+abbrev pub is_descriptor_row : Option Row → Bool
+is_descriptor_row o = passes (λ r. is_descriptor r.kind) o
 
 -- an object's row is of the right kind
 abbrev pub of_kind : (Option Row → Bool) → Pool → Obj → Check
@@ -82,6 +92,21 @@ plain p x = of_kind is_plain_row p x
 -- only an immediate is scheduled
 abbrev pub immediate : Pool → Obj → Check
 immediate p x = of_kind is_immediate_row p x
+
+-- only an event on a descriptor has flags
+abbrev pub descriptor : Pool → Obj → Check
+descriptor p x = of_kind is_descriptor_row p x
+
+abbrev pub is_open : Pool → ℕ → Bool
+is_open p fd = is_open_in p.descriptors fd
+
+-- nothing is asked of a descriptor that isn't open
+abbrev pub open_one : Pool → ℕ → Check
+open_one p fd = refuse_if (not (is_open p fd)) (NoSuch fd)
+
+-- there is one event on a descriptor at most, and none when it is closed
+abbrev pub unused : Pool → ℕ → Check
+unused p fd = refuse_if (is_watched p.ring fd) (InUse fd)
 
 -- the root, or an object
 abbrev pub owner : Pool → Owner → Check
@@ -180,6 +205,9 @@ refusal_of p (IsObject x) = object p x
 refusal_of p (IsOwner o) = owner p o
 refusal_of p (IsPlain x) = plain p x
 refusal_of p (IsImmediate x) = immediate p x
+refusal_of p (IsDescriptor x) = descriptor p x
+refusal_of p (IsOpen fd) = open_one p fd
+refusal_of p (IsUnwatched fd) = unused p fd
 refusal_of p (HasRoom k) = room p k
 refusal_of p (Fits o wanted) = fits p o wanted
 refusal_of p (MayGrow x size) = growing p x size
@@ -215,6 +243,14 @@ tests (Immediate o) = IsOwner o ∷ HasRoom 1 ∷ Fits o overhead ∷ []
 tests (Schedule x routine user) = IsObject x ∷ IsImmediate x ∷ IsNotDoomed x ∷ []
 tests (Unschedule x) = IsObject x ∷ IsImmediate x ∷ IsNotDoomed x ∷ []
 tests (Timer o time routine user) = IsOwner o ∷ HasRoom 1 ∷ Fits o overhead ∷ []
+tests (Fd o fd flags routine user) = IsOwner o ∷ IsOpen fd ∷ IsUnwatched fd ∷ HasRoom 1 ∷ Fits o overhead ∷ []
+tests (Flags x flags) = IsObject x ∷ IsDescriptor x ∷ IsNotDoomed x ∷ []
+tests (Getflags x) = IsObject x ∷ IsDescriptor x ∷ IsNotDoomed x ∷ []
+tests (Autoclose x) = IsObject x ∷ IsDescriptor x ∷ IsNotDoomed x ∷ []
+tests (Close fd) = IsOpen fd ∷ IsUnwatched fd ∷ []
+tests (Accept fd) = IsOpen fd ∷ []
+tests (Read fd len) = IsOpen fd ∷ []
+tests (Write fd bytes) = IsOpen fd ∷ []
 tests Pending = []
 tests Now = []
 tests Turn = []

@@ -3,18 +3,52 @@ use Rattle.std.specs.Prelude.{ℕ, List, [], ◌∷◌, codes}
 use Rattle.tree_specs.specs.declared.object.Obj.{Obj}
 use Rattle.tree_specs.specs.declared.object.Owner.{Owner}
 use Rattle.tree_specs.specs.declared.call.Call.{Call}
-use Rattle.tree_specs.specs.declared.call.Call.TheVariants.{New, Free, Freekids, Steal, Move, Reparent, Reference, Unlink, Hook, Unhook, Rename, Resize, Limit, Parent, Total, Count, Sum, Report, Immediate, Schedule, Unschedule, Timer, Pending, Now, Turn}
+use Rattle.tree_specs.specs.declared.call.Call.TheVariants.{New, Free, Freekids, Steal, Move, Reparent, Reference, Unlink, Hook, Unhook, Rename, Resize, Limit, Parent, Total, Count, Sum, Report, Immediate, Schedule, Unschedule, Timer, Fd, Flags, Getflags, Autoclose, Close, Accept, Read, Write, Pending, Now, Turn}
+
+-- the range of a number in decimal
+pub data Numeral : Type 0 where
+  -- below 2^64
+  Number : Numeral
+  -- below 2^32
+  Number32 : Numeral
+  -- the same, and not 0
+  Positive32 : Numeral
+  -- a time in microseconds
+  Time : Numeral
+  -- 1 for reading, 2 for writing, 3 for both, 0 for neither
+  FdFlags : Numeral
+  -- a number of bytes that one read or write passes on
+  Length : Numeral
 
 pub data Field : Type 0 where
   AnOwner : Owner → Field
   AnObject : Obj → Field
-  ANumber : ℕ → Field
-  ARoutine : ℕ → Field
-  -- 0 is none
-  ARoutineOrNone : ℕ → Field
-  -- in microseconds
-  ATime : ℕ → Field
+  ANumeral : Numeral → ℕ → Field
   AName : List ℕ → Field
+  -- in hexadecimal
+  SomeBytes : List ℕ → Field
+
+abbrev pub a_number : ℕ → Field
+a_number n = ANumeral Number n
+
+abbrev pub a_routine : ℕ → Field
+a_routine r = ANumeral Positive32 r
+
+-- 0 is none
+abbrev pub a_routine_or_none : ℕ → Field
+a_routine_or_none r = ANumeral Number32 r
+
+abbrev pub a_time : ℕ → Field
+a_time t = ANumeral Time t
+
+abbrev pub a_descriptor : ℕ → Field
+a_descriptor fd = ANumeral Number32 fd
+
+abbrev pub some_flags : ℕ → Field
+some_flags flags = ANumeral FdFlags flags
+
+abbrev pub a_length : ℕ → Field
+a_length len = ANumeral Length len
 
 pub record Spelling : Type 0 where
   pub verb : List ℕ
@@ -25,7 +59,7 @@ abbrev pub ◌with◌ : List ℕ → List Field → Spelling
 verb with fields = record { verb = verb; fields = fields }
 
 abbrev pub spelling : Call → Spelling
-spelling (New owner size name) = codes "new" with (AnOwner owner ∷ ANumber size ∷ AName name ∷ [])
+spelling (New owner size name) = codes "new" with (AnOwner owner ∷ a_number size ∷ AName name ∷ [])
 spelling (Free x) = codes "free" with (AnObject x ∷ [])
 spelling (Freekids x) = codes "freekids" with (AnObject x ∷ [])
 spelling (Steal owner x) = codes "steal" with (AnOwner owner ∷ AnObject x ∷ [])
@@ -33,20 +67,28 @@ spelling (Move owner x) = codes "move" with (AnOwner owner ∷ AnObject x ∷ []
 spelling (Reparent from to x) = codes "reparent" with (AnOwner from ∷ AnOwner to ∷ AnObject x ∷ [])
 spelling (Reference owner x) = codes "reference" with (AnOwner owner ∷ AnObject x ∷ [])
 spelling (Unlink owner x) = codes "unlink" with (AnOwner owner ∷ AnObject x ∷ [])
-spelling (Hook x routine) = codes "hook" with (AnObject x ∷ ARoutine routine ∷ [])
+spelling (Hook x routine) = codes "hook" with (AnObject x ∷ a_routine routine ∷ [])
 spelling (Unhook x) = codes "unhook" with (AnObject x ∷ [])
 spelling (Rename x name) = codes "rename" with (AnObject x ∷ AName name ∷ [])
-spelling (Resize x size) = codes "resize" with (AnObject x ∷ ANumber size ∷ [])
-spelling (Limit x max) = codes "limit" with (AnObject x ∷ ANumber max ∷ [])
+spelling (Resize x size) = codes "resize" with (AnObject x ∷ a_number size ∷ [])
+spelling (Limit x max) = codes "limit" with (AnObject x ∷ a_number max ∷ [])
 spelling (Parent x) = codes "parent" with (AnObject x ∷ [])
 spelling (Total owner) = codes "total" with (AnOwner owner ∷ [])
 spelling (Count owner) = codes "count" with (AnOwner owner ∷ [])
 spelling (Sum owner) = codes "sum" with (AnOwner owner ∷ [])
 spelling (Report owner) = codes "report" with (AnOwner owner ∷ [])
 spelling (Immediate owner) = codes "immediate" with (AnOwner owner ∷ [])
-spelling (Schedule x routine user) = codes "schedule" with (AnObject x ∷ ARoutineOrNone routine ∷ ANumber user ∷ [])
+spelling (Schedule x routine user) = codes "schedule" with (AnObject x ∷ a_routine_or_none routine ∷ a_number user ∷ [])
 spelling (Unschedule x) = codes "unschedule" with (AnObject x ∷ [])
-spelling (Timer owner time routine user) = codes "timer" with (AnOwner owner ∷ ATime time ∷ ARoutine routine ∷ ANumber user ∷ [])
+spelling (Timer owner time routine user) = codes "timer" with (AnOwner owner ∷ a_time time ∷ a_routine routine ∷ a_number user ∷ [])
+spelling (Fd owner fd flags routine user) = codes "fd" with (AnOwner owner ∷ a_descriptor fd ∷ some_flags flags ∷ a_routine routine ∷ a_number user ∷ [])
+spelling (Flags x flags) = codes "flags" with (AnObject x ∷ some_flags flags ∷ [])
+spelling (Getflags x) = codes "getflags" with (AnObject x ∷ [])
+spelling (Autoclose x) = codes "autoclose" with (AnObject x ∷ [])
+spelling (Close fd) = codes "close" with (a_descriptor fd ∷ [])
+spelling (Accept fd) = codes "accept" with (a_descriptor fd ∷ [])
+spelling (Read fd len) = codes "read" with (a_descriptor fd ∷ a_length len ∷ [])
+spelling (Write fd bytes) = codes "write" with (a_descriptor fd ∷ SomeBytes bytes ∷ [])
 spelling Pending = codes "pending" with []
 spelling Now = codes "now" with []
 spelling Turn = codes "turn" with []
@@ -58,12 +100,13 @@ pub data Reading : Type 0 where
   IsConsistent : Call → Reading
   TakesOwner : (Owner → Reading) → Reading
   TakesObject : (Obj → Reading) → Reading
-  TakesNumber : (ℕ → Reading) → Reading
-  TakesRoutine : (ℕ → Reading) → Reading
-  TakesRoutineOrNone : (ℕ → Reading) → Reading
-  TakesTime : (ℕ → Reading) → Reading
-  -- a name comes last
+  TakesNumeral : Numeral → (ℕ → Reading) → Reading
+  -- a name comes last, and so do bytes
   EndsInName : (List ℕ → Call) → Reading
+  EndsInBytes : (List ℕ → Call) → Reading
+
+abbrev pub takes_number : (ℕ → Reading) → Reading
+takes_number next = TakesNumeral Number next
 
 abbrev pub of_object : (Obj → Call) → Reading
 of_object call = TakesObject (λ x. IsConsistent (call x))
@@ -74,8 +117,11 @@ of_owner call = TakesOwner (λ owner. IsConsistent (call owner))
 abbrev pub owner_and_object : (Owner → Obj → Call) → Reading
 owner_and_object call = TakesOwner (λ owner. of_object (call owner))
 
+abbrev pub of_descriptor : (ℕ → Call) → Reading
+of_descriptor call = TakesNumeral Number32 (λ fd. IsConsistent (call fd))
+
 abbrev pub object_and_number : (Obj → ℕ → Call) → Reading
-object_and_number call = TakesObject (λ x. TakesNumber (λ n. IsConsistent (call x n)))
+object_and_number call = TakesObject (λ x. takes_number (λ n. IsConsistent (call x n)))
 
 pub record Form : Type 0 where
   pub verb : List ℕ
@@ -87,7 +133,7 @@ verb reads reading = record { verb = verb; reading = reading }
 
 abbrev pub forms : List Form
 forms =
-    (codes "new" reads TakesOwner (λ owner. TakesNumber (λ size. EndsInName (λ name. New owner size name))))
+    (codes "new" reads TakesOwner (λ owner. takes_number (λ size. EndsInName (λ name. New owner size name))))
     ∷ (codes "free" reads of_object Free)
     ∷ (codes "freekids" reads of_object Freekids)
     ∷ (codes "steal" reads owner_and_object Steal)
@@ -95,7 +141,7 @@ forms =
     ∷ (codes "reparent" reads TakesOwner (λ from. owner_and_object (λ to x. Reparent from to x)))
     ∷ (codes "reference" reads owner_and_object Reference)
     ∷ (codes "unlink" reads owner_and_object Unlink)
-    ∷ (codes "hook" reads TakesObject (λ x. TakesRoutine (λ routine. IsConsistent (Hook x routine))))
+    ∷ (codes "hook" reads TakesObject (λ x. TakesNumeral Positive32 (λ routine. IsConsistent (Hook x routine))))
     ∷ (codes "unhook" reads of_object Unhook)
     ∷ (codes "rename" reads TakesObject (λ x. EndsInName (λ name. Rename x name)))
     ∷ (codes "resize" reads object_and_number Resize)
@@ -106,9 +152,17 @@ forms =
     ∷ (codes "sum" reads of_owner Sum)
     ∷ (codes "report" reads of_owner Report)
     ∷ (codes "immediate" reads of_owner Immediate)
-    ∷ (codes "schedule" reads TakesObject (λ x. TakesRoutineOrNone (λ routine. TakesNumber (λ user. IsConsistent (Schedule x routine user)))))
+    ∷ (codes "schedule" reads TakesObject (λ x. TakesNumeral Number32 (λ routine. takes_number (λ user. IsConsistent (Schedule x routine user)))))
     ∷ (codes "unschedule" reads of_object Unschedule)
-    ∷ (codes "timer" reads TakesOwner (λ owner. TakesTime (λ time. TakesRoutine (λ routine. TakesNumber (λ user. IsConsistent (Timer owner time routine user))))))
+    ∷ (codes "timer" reads TakesOwner (λ owner. TakesNumeral Time (λ time. TakesNumeral Positive32 (λ routine. takes_number (λ user. IsConsistent (Timer owner time routine user))))))
+    ∷ (codes "fd" reads TakesOwner (λ owner. TakesNumeral Number32 (λ fd. TakesNumeral FdFlags (λ flags. TakesNumeral Positive32 (λ routine. takes_number (λ user. IsConsistent (Fd owner fd flags routine user)))))))
+    ∷ (codes "flags" reads TakesObject (λ x. TakesNumeral FdFlags (λ flags. IsConsistent (Flags x flags))))
+    ∷ (codes "getflags" reads of_object Getflags)
+    ∷ (codes "autoclose" reads of_object Autoclose)
+    ∷ (codes "close" reads of_descriptor Close)
+    ∷ (codes "accept" reads of_descriptor Accept)
+    ∷ (codes "read" reads TakesNumeral Number32 (λ fd. TakesNumeral Length (λ len. IsConsistent (Read fd len))))
+    ∷ (codes "write" reads TakesNumeral Number32 (λ fd. EndsInBytes (λ bytes. Write fd bytes)))
     ∷ (codes "pending" reads IsConsistent Pending)
     ∷ (codes "now" reads IsConsistent Now)
     ∷ (codes "turn" reads IsConsistent Turn)

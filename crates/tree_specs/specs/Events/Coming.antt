@@ -10,9 +10,10 @@ use Rattle.tree_specs.specs.declared.row.Mark.TheVariants as mark
 use Rattle.tree_specs.specs.declared.handler.Handler.{Handler}
 use Rattle.tree_specs.specs.declared.moment.Moment.{Moment}
 use Rattle.tree_specs.specs.declared.moment.What.{What}
-use Rattle.tree_specs.specs.declared.moment.What.TheVariants.{Timer, Immediate}
+use Rattle.tree_specs.specs.declared.moment.What.TheVariants.{Timer, Immediate, Descriptor}
+use Rattle.tree_specs.specs.declared.occasion.Occasion.{Occasion}
 use Rattle.tree_specs.specs.declared.wants.Want.{Want}
-use Rattle.tree_specs.specs.Tree.Pool.{Pool, row_of}
+use Rattle.tree_specs.specs.Tree.Pool.{Pool, row_of, set_mark, turn_back}
 use Rattle.tree_specs.specs.Events.Handlers.{handler_of}
 use Rattle.tree_specs.specs.Events.Pending.{first}
 use Rattle.tree_specs.specs.Calls.Refusals.{is_doomed}
@@ -21,10 +22,11 @@ use Rattle.tree_specs.specs.Calls.Refusals.{is_doomed}
 abbrev pub wait_limit : ℕ
 wait_limit = WAIT_LIMIT
 
--- an immediate and a timer come each as its own kind
+-- an immediate, a timer and an event on a descriptor come each as its own kind
 abbrev pub comes_as : What → Kind → Bool
 comes_as Immediate kind.Immediate = true
 comes_as Timer kind.Timer = true
+comes_as Descriptor kind.Descriptor = true
 comes_as what k = false
 
 abbrev pub is_quiet_mark : Mark → Bool
@@ -40,9 +42,27 @@ may_start what (Some r) = comes_as what r.kind && is_quiet_mark r.mark
 abbrev pub handler_for : Pool → What → Obj → Option Handler
 handler_for p what x = if may_start what (row_of p.rows x) then handler_of p.handlers x else None
 
+-- at this time; with these flags; without either
+abbrev pub at_time : ℕ → Occasion
+at_time now = record { now = now; flags = 0 }
+
+abbrev pub with_flags : ℕ → Occasion
+with_flags flags = record { now = 0; flags = flags }
+
+abbrev pub plainly : Occasion
+plainly = record { now = 0; flags = 0 }
+
 -- the first moment in the run of a handler
-abbrev pub handler_moment : What → Obj → Handler → ℕ → Moment
-handler_moment what x handler now = record { what = what; object = x; routine = handler.routine; user = handler.user; now = now; flags = 0; step = 0; last = None }
+abbrev pub handler_moment : What → Obj → Handler → Occasion → Moment
+handler_moment what x handler occasion = record { what = what; object = x; routine = handler.routine; user = handler.user; now = occasion.now; flags = occasion.flags; step = 0; last = None }
+
+-- an event with a handler starts: it is busy, and one on a descriptor is looked at after all others the next time
+abbrev pub rotated : What → Obj → Pool → Pool
+rotated Descriptor x p = turn_back p x
+rotated what x p = p
+
+abbrev pub begun : What → Obj → Pool → Pool
+begun what x p = set_mark (rotated what x p) x mark.Busy
 
 -- a timer comes once
 abbrev pub is_once : What → Bool

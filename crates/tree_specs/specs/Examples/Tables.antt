@@ -2,6 +2,7 @@
 use Rattle.std.specs.Prelude.{List, [], ◌∷◌, ◌++◌}
 use Rattle.tree_specs.specs.Examples.Exchanges.{Example}
 use Rattle.tree_specs.specs.Examples.Events.{events}
+use Rattle.tree_specs.specs.Examples.Descriptors.{descriptors}
 
 -- ---- objects and owners
 
@@ -329,4 +330,4 @@ limits =
     bounded ∷ resized ∷ []
 
 abbrev pub examples : List Example
-examples = trees ++ destructors ++ references ++ limits ++ events
+examples = trees ++ destructors ++ references ++ limits ++ events ++ descriptors

@@ -1,22 +1,25 @@
--- What waits for its turn at every moment: live events of their kinds, each with a handler.
-use Rattle.std.specs.Prelude.{◌≡◌, Bool, true, false, ◌||◌, is_some, List, Option, Some, None}
+-- What waits for its turn at every moment: live events of their kinds, each with a handler; and what is watched.
+use Rattle.std.specs.Prelude.{◌≡◌, ℕ, Bool, true, false, ◌||◌, is_some, List, [], ◌∷◌, Option, Some, None}
 use Rattle.step_machine.specs.Machine.{Move}
 use Rattle.step_machine.specs.Machine.Move.{Done, Go, Emit, Wait, Call}
 use Rattle.tree_specs.specs.declared.object.Obj.{Obj}
 use Rattle.tree_specs.specs.declared.row.Row.{Row}
 use Rattle.tree_specs.specs.declared.moment.What.{What}
-use Rattle.tree_specs.specs.declared.moment.What.TheVariants.{Timer, Immediate}
+use Rattle.tree_specs.specs.declared.watch.Watch.{Watch}
+use Rattle.tree_specs.specs.declared.moment.What.TheVariants.{Timer, Immediate, Descriptor}
 use Rattle.tree_specs.specs.Tree.Pool.{Pool, row_of}
 use Rattle.tree_specs.specs.Events.Handlers.{handler_of}
 use Rattle.tree_specs.specs.Events.Pending.{is_scheduled, is_armed}
+use Rattle.tree_specs.specs.Events.Rotation.{is_watching, is_watched}
 use Rattle.tree_specs.specs.Events.Coming.{comes_as}
-use Rattle.tree_specs.specs.Calls.Refusals.{is_doomed_mark}
+use Rattle.tree_specs.specs.Calls.Refusals.{is_doomed_mark, is_open}
 use Rattle.tree_specs.specs.Rules.Sequence.{Scene}
 
 -- an object is to come as this
 abbrev pub waits : What → Pool → Obj → Bool
 waits Immediate p x = is_scheduled p.soon x
 waits Timer p x = is_armed p.times x
+waits Descriptor p x = is_watching p.ring x
 waits what p x = false
 
 -- an event of the kind, which neither is being freed nor will be once its handler is over
@@ -26,12 +29,20 @@ MayCome what (Some r) = (comes_as what r.kind ≡ true) × (is_doomed_mark r.mar
 
 abbrev pub is_event_row : Option Row → Bool
 is_event_row None = false
-is_event_row (Some r) = comes_as Immediate r.kind || comes_as Timer r.kind
+is_event_row (Some r) = comes_as Immediate r.kind || (comes_as Timer r.kind || comes_as Descriptor r.kind)
+
+-- each event once, and each descriptor once
+abbrev pub AreDistinct : List Watch → Type 0
+AreDistinct [] = Unit {0}
+AreDistinct (w ∷ ws) = (is_watching ws w.object ≡ false) × (is_watched ws w.fd ≡ false) × AreDistinct ws
 
 pub record Awaits (p : Pool) : Type 0 where
   pub events : (what : What) (x : Obj) → waits what p x ≡ true → MayCome what (row_of p.rows x) × (is_some (handler_of p.handlers x) ≡ true)
   -- only events have handlers
   pub handlers : (x : Obj) → is_event_row (row_of p.rows x) ≡ false → handler_of p.handlers x ≡ None
+  pub distinct : AreDistinct p.ring
+  -- what is watched is open
+  pub watched : (fd : ℕ) → is_watched p.ring fd ≡ true → is_open p fd ≡ true
 
 -- so it is just before an item
 abbrev pub AwaitsBefore : List Scene → Scene → Type 0

@@ -8,7 +8,7 @@ use Rattle.tree_specs.specs.declared.row.Mark.{Mark}
 use Rattle.tree_specs.specs.declared.row.Mark.TheVariants.{Quiet, Busy}
 use Rattle.tree_specs.specs.declared.frame.Frame.{Frame}
 use Rattle.tree_specs.specs.declared.frame.Frame.TheVariants as frame
-use Rattle.tree_specs.specs.declared.frame.CallFrame.TheVariants.{Asking, Doing, Awaiting, Turning, Warning, Telling, Returning}
+use Rattle.tree_specs.specs.declared.frame.CallFrame.TheVariants.{Asking, Doing, Awaiting, Turning, Announcing, Telling, Returning}
 use Rattle.tree_specs.specs.declared.frame.FreeFrame.{FreeFrame}
 use Rattle.tree_specs.specs.declared.frame.FreeFrame.TheVariants.{Unlinking, Releasing, Giving, Beginning, Hooked, Judged, Dooming, Leaving, Looping, FreeingChild, AfterChild, Ending}
 use Rattle.tree_specs.specs.declared.frame.TurnFrame.{TurnFrame}
@@ -78,7 +78,7 @@ pub data Footing : Type 0 where
   OnCall : Footing
   -- a free
   OnFree : FreeFrame → Footing
-  -- the call that waits for a turn
+  -- the call that waits for a turn, or for the outside
   OnTurning : Footing
   -- a work that waits for no free
   OnOther : Footing
@@ -211,8 +211,8 @@ FreeRests (Ending answer) on claimed p = IsOver answer × MayAnswer answer on
 
 -- a turn is a call's own, and a handler runs for an event of its kind, which is busy
 abbrev pub TurnRests : TurnFrame → Footing → Pool → Type 0
-TurnRests (Firing what x handler now) on p = IsTurned on × (r : Row) × (row_of p.rows x ≡ Some r) × (comes_as what r.kind ≡ true) × (r.mark ≡ Busy)
-TurnRests (Handling what x handler now) on p = IsTurned on × (k : Kind) × (comes_as what k ≡ true)
+TurnRests (Firing what x handler occasion) on p = IsTurned on × (r : Row) × (row_of p.rows x ≡ Some r) × (comes_as what r.kind ≡ true) × (r.mark ≡ Busy)
+TurnRests (Handling what x handler occasion) on p = IsTurned on × (k : Kind) × (comes_as what k ≡ true)
 TurnRests (Clearing x) on p = ⊥
 TurnRests f on p = IsTurned on
 
@@ -222,11 +222,12 @@ Rests (frame.Call (Asking q)) fs p = Unit {0}
 Rests (frame.Call (Doing q c)) fs p = Unit {0}
 Rests (frame.Call (Awaiting q x)) fs p = ⊥
 Rests (frame.Call (Turning q)) fs p = ⊥
-Rests (frame.Call (Warning q x r)) fs p = Unit {0}
+Rests (frame.Call (Announcing q notice r)) fs p = Unit {0}
 Rests (frame.Call (Telling q r)) fs p = Unit {0}
 Rests (frame.Call (Returning v)) fs p = Unit {0}
 Rests (frame.Free f) fs p = FreeRests f (footing fs) (λ x. claims x fs) p
 Rests (frame.Turn f) fs p = TurnRests f (footing fs) p
+Rests (frame.Outside f) fs p = IsTurned (footing fs)
 
 pub record Sound (f : Frame) (fs : List Frame) (p : Pool) : Type 0 where
   pub started : 0 < p.next

@@ -7,19 +7,21 @@ use Rattle.tree_specs.specs.declared.event.Event.TheVariants.{Freed as IsFreed}
 use Rattle.tree_specs.specs.declared.question.Input.{Input}
 use Rattle.tree_specs.specs.declared.frame.Frame.{Frame}
 use Rattle.tree_specs.specs.declared.frame.Frame.TheVariants as frame
-use Rattle.tree_specs.specs.declared.frame.CallFrame.TheVariants.{Asking, Doing, Awaiting, Turning, Warning, Telling, Returning}
+use Rattle.tree_specs.specs.declared.frame.CallFrame.TheVariants.{Asking, Doing, Awaiting, Turning, Announcing, Telling, Returning}
 use Rattle.tree_specs.specs.declared.frame.FreeFrame.TheVariants.{Unlinking, Releasing, Giving, Beginning, Hooked, Judged, Dooming, Leaving, Looping, FreeingChild, AfterChild, Ending}
-use Rattle.tree_specs.specs.declared.frame.TurnFrame.TheVariants.{Taking, Timing, Timed, Polling, Starting, Firing, Handling, Handled, Clearing, Reading, Closing}
+use Rattle.tree_specs.specs.declared.frame.TurnFrame.TheVariants.{Taking, Timing, Timed, Polling, Starting, Firing, Handling, Handled, Clearing, Closing}
+use Rattle.tree_specs.specs.declared.frame.OutsideFrame.TheVariants.{Reaching, Opening, Hearing}
+use Rattle.tree_specs.specs.declared.reply.Reply.{Reply}
 use Rattle.tree_specs.specs.declared.frame.Purpose.{Purpose}
 use Rattle.tree_specs.specs.declared.frame.Purpose.TheVariants.{Removal, Emptying}
 use Rattle.tree_specs.specs.declared.frame.Answer.{Answer}
-use Rattle.tree_specs.specs.declared.frame.Answer.TheVariants.{Freed, Returned, Turned}
+use Rattle.tree_specs.specs.declared.frame.Answer.TheVariants.{Freed, Returned, Turned, Heard}
 use Rattle.tree_specs.specs.declared.free_step.FreeReply.{FreeReply}
 use Rattle.tree_specs.specs.declared.free_step.FreeReply.TheVariants.{Ok}
 use Rattle.tree_specs.specs.Tree.Pool.{Pool, remove}
 use Rattle.tree_specs.specs.Rules.Items.Item.{Told}
 use Rattle.tree_specs.specs.Rules.Sequence.{Work, Scene, CallStart, ◌>>=◌, ◌>>◌, gives, change, tells}
-use Rattle.tree_specs.specs.Rules.Story.{free, hooked, judged, dooming, leave, children, tried, asked, acting, telling, returning, warning, unlink, release, given, turns, taking, timing, timed, polling, starting, firing, handling, handled, reading, closing}
+use Rattle.tree_specs.specs.Rules.Story.{free, hooked, judged, dooming, leave, children, tried, asked, acting, telling, returning, announcing, unlink, release, given, turns, taking, timing, timed, polling, starting, firing, handling, handled, reaching, opening, hearing, closing}
 use Rattle.tree_specs.specs.Machine.Table.{table, notes, resume}
 use Rattle.tree_specs.specs.Machine.View.{View}
 
@@ -27,7 +29,7 @@ use Rattle.tree_specs.specs.Machine.View.{View}
 abbrev pub noted_table : Table (Noted Frame CallStart) Answer Pool Input Scene
 noted_table = noted notes table
 
--- a free, a routine's run, and a turn, as works of the machine
+-- a free, a routine's run, a turn, and a question to the outside, as works of the machine
 abbrev pub freed : Work FreeReply → Work Answer
 freed w = do
   a ← w
@@ -42,6 +44,11 @@ abbrev pub closed : Work ℕ → Work Answer
 closed w = do
   v ← w
   gives (Turned v)
+
+abbrev pub answered : Work Reply → Work Answer
+answered w = do
+  r ← w
+  gives (Heard r)
 
 -- what follows the children of an object
 abbrev pub looped : Obj → Purpose → Work (Unit {0}) → Work Answer
@@ -60,7 +67,7 @@ mean n (frame.Call (Asking q)) b = returned (asked n q)
 mean n (frame.Call (Doing q c)) b = returned (acting n q c)
 mean n (frame.Call (Awaiting q x)) b = gives (Freed Ok)
 mean n (frame.Call (Turning q)) b = gives (Freed Ok)
-mean n (frame.Call (Warning q x r)) b = returned (warning n b q x r)
+mean n (frame.Call (Announcing q notice r)) b = returned (announcing n b q notice r)
 mean n (frame.Call (Telling q r)) b = returned (telling n b q r)
 mean n (frame.Call (Returning v)) b = returned (returning n v)
 mean n (frame.Free (Unlinking o x)) b = freed (unlink n o x)
@@ -79,13 +86,15 @@ mean n (frame.Turn Taking) b = closed (taking n)
 mean n (frame.Turn (Timing again)) b = closed (timing n again)
 mean n (frame.Turn (Timed again now)) b = closed (timed n again now)
 mean n (frame.Turn (Polling limit)) b = closed (polling n limit)
-mean n (frame.Turn (Starting what x now)) b = closed (starting n what x now)
-mean n (frame.Turn (Firing what x handler now)) b = closed (firing n what x handler now)
-mean n (frame.Turn (Handling what x handler now)) b = closed (handling n what x handler now)
+mean n (frame.Turn (Starting what x occasion)) b = closed (starting n what x occasion)
+mean n (frame.Turn (Firing what x handler occasion)) b = closed (firing n what x handler occasion)
+mean n (frame.Turn (Handling what x handler occasion)) b = closed (handling n what x handler occasion)
 mean n (frame.Turn (Handled what x)) b = closed (handled n what x)
 mean n (frame.Turn (Clearing x)) b = gives (Freed Ok)
-mean n (frame.Turn Reading) b = closed (reading n)
 mean n (frame.Turn (Closing v)) b = closed (closing n v)
+mean n (frame.Outside (Reaching q)) b = answered (reaching n q)
+mean n (frame.Outside (Opening fd)) b = answered (opening n fd)
+mean n (frame.Outside (Hearing r)) b = answered (hearing n r)
 
 -- ---- runs of the machine
 

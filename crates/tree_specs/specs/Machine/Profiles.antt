@@ -9,11 +9,13 @@ use Rattle.tree_specs.specs.declared.question.Ask.{Ask}
 use Rattle.tree_specs.specs.declared.frame.Frame.{Frame}
 use Rattle.tree_specs.specs.declared.frame.Frame.TheVariants as frame
 use Rattle.tree_specs.specs.declared.frame.CallFrame.{CallFrame}
-use Rattle.tree_specs.specs.declared.frame.CallFrame.TheVariants.{Asking, Doing, Awaiting, Turning, Warning, Telling, Returning}
+use Rattle.tree_specs.specs.declared.frame.CallFrame.TheVariants.{Asking, Doing, Awaiting, Turning, Announcing, Telling, Returning}
 use Rattle.tree_specs.specs.declared.frame.FreeFrame.{FreeFrame}
 use Rattle.tree_specs.specs.declared.frame.FreeFrame.TheVariants.{Unlinking, Releasing, Giving, Beginning, Hooked, Judged, Dooming, Leaving, Looping, FreeingChild, AfterChild, Ending}
 use Rattle.tree_specs.specs.declared.frame.TurnFrame.{TurnFrame}
-use Rattle.tree_specs.specs.declared.frame.TurnFrame.TheVariants.{Taking, Timing, Timed, Polling, Starting, Firing, Handling, Handled, Clearing, Reading, Closing}
+use Rattle.tree_specs.specs.declared.frame.TurnFrame.TheVariants.{Taking, Timing, Timed, Polling, Starting, Firing, Handling, Handled, Clearing, Closing}
+use Rattle.tree_specs.specs.declared.frame.OutsideFrame.{OutsideFrame}
+use Rattle.tree_specs.specs.declared.frame.OutsideFrame.TheVariants.{Reaching, Opening, Hearing}
 use Rattle.tree_specs.specs.declared.frame.Purpose.{Purpose}
 use Rattle.tree_specs.specs.declared.frame.Purpose.TheVariants.{Removal, Emptying}
 use Rattle.tree_specs.specs.declared.free_step.FreeReply.{FreeReply}
@@ -49,7 +51,7 @@ pub data Role : Type 0 where
   Calls : Option Ask → Role
   -- a free of this object; none where it is over
   Frees : Option Obj → Role
-  -- a turn, or the asking of the clock
+  -- a turn, or a question to the outside
   Turns : Role
 
 -- what it waits for below another work
@@ -62,7 +64,7 @@ pub data Waits : Type 0 where
   ARun : Obj → ℕ → Waits
   -- for the freeing of this child
   AChild : Obj → Purpose → Waits
-  -- a call, for a turn or for the time
+  -- a call, for a turn or for the outside
   ATurn : Waits
   -- a turn, for the run of this event's handler
   AHandler : Obj → Waits
@@ -198,7 +200,7 @@ call_profile (Asking q) = a_caller q
 call_profile (Doing q c) = record (a_caller q) { cost = at_most 16 67 AtNone; adds = 2 }
 call_profile (Awaiting q x) = record (a_caller q) { waits = AFree x; waiting_cost = 1 }
 call_profile (Turning q) = record (a_caller q) { waits = ATurn }
-call_profile (Warning q x r) = record (a_caller q) { cost = at_most 0 2 AtNone }
+call_profile (Announcing q notice r) = record (a_caller q) { cost = at_most 0 2 AtNone }
 call_profile (Telling q r) = record (a_caller q) { cost = at_most 0 1 AtNone }
 call_profile (Returning v) = record { ask = None; waits = Never; waiting_cost = 0; cost = at_most 4 9 AtNone; adds = 0 }
 
@@ -230,17 +232,26 @@ turn_profile Taking = a_turn 5
 turn_profile (Timing again) = a_turn 1
 turn_profile (Timed again now) = a_turn 5
 turn_profile (Polling limit) = a_turn 1
-turn_profile (Starting what x now) = a_turn 4
-turn_profile (Firing what x handler now) = record (a_turn 3) { claims = handles x; size = 3; top_size = 3 }
+turn_profile (Starting what x occasion) = a_turn 4
+turn_profile (Firing what x handler occasion) = record (a_turn 3) { claims = handles x; size = 3; top_size = 3 }
 -- an event that is busy pays for the run of its handler
-turn_profile (Handling what x handler now) = record (a_turn 2) { waits = AHandler x; claims = handles x; size = 1; top_size = 3 }
+turn_profile (Handling what x handler occasion) = record (a_turn 2) { waits = AHandler x; claims = handles x; size = 1; top_size = 3 }
 turn_profile (Handled what x) = record (a_turn 8) { claims = handles x; size = 3; top_size = 3 }
 turn_profile (Clearing x) = record (a_turn 0) { waits = AClear x }
-turn_profile Reading = a_turn 1
 turn_profile (Closing v) = a_turn 2
 
 abbrev pub of_turn : TurnProfile → Profile
 of_turn f = record { role = Turns; waits = f.waits; claims = f.claims; removes = None; size = f.size; top_size = f.top_size; waiting_cost = 0; cost = at_most 0 f.steps AtNone; adds = 0 }
+
+-- ---- questions to the outside, each by the steps that it costs
+
+abbrev pub outside_steps : OutsideFrame → ℕ
+outside_steps (Reaching q) = 1
+outside_steps (Opening fd) = 2
+outside_steps (Hearing r) = 2
+
+abbrev pub of_outside : ℕ → Profile
+of_outside steps = record { role = Turns; waits = Never; claims = None; removes = None; size = 0; top_size = 0; waiting_cost = 0; cost = at_most 0 steps AtNone; adds = 0 }
 
 -- ---- all
 
@@ -248,3 +259,4 @@ abbrev pub profile : Frame → Profile
 profile (frame.Call f) = of_call (call_profile f)
 profile (frame.Free f) = of_free (free_profile f)
 profile (frame.Turn f) = of_turn (turn_profile f)
+profile (frame.Outside f) = of_outside (outside_steps f)

@@ -1,6 +1,6 @@
 -- A host is seen as its open works, the innermost first, over a pool.
-use Rattle.std.specs.Prelude.{List, [], length, Option, Some, None}
-use Rattle.step_machine.specs.Machine.{Move, rest, items as told_by}
+use Rattle.std.specs.Prelude.{List, [], length, Bool, Option, Some, None}
+use Rattle.step_machine.specs.Machine.{Move, Outcome, rest, is_stray, items as told_by}
 use Rattle.step_machine.specs.Machine.{Move as Do}
 use Rattle.tree_specs.specs.declared.question.Ask.{Ask}
 use Rattle.tree_specs.specs.declared.question.Input.{Input}
@@ -25,9 +25,17 @@ pub record View : Type 0 where
 abbrev pub begin : ℕ → View
 begin first = record { innermost = frame.Call (Asking AtRest); below = []; pool = empty first }
 
+-- what comes of these inputs
+abbrev pub outcome_of : View → List Input → Outcome Answer Pool Input Item
+outcome_of v is = rest table (turns (length v.pool.rows) (length is)) v.innermost v.below v.pool is
+
 -- the story still to come: its items
 abbrev pub rest_of : View → List Input → List Item
-rest_of v is = told_by (rest table (turns (length v.pool.rows) (length is)) v.innermost v.below v.pool is)
+rest_of v is = told_by (outcome_of v is)
+
+-- the last of these inputs doesn't fit, and those before it do
+abbrev pub strays_of : View → List Input → Bool
+strays_of v is = is_stray (outcome_of v is)
 
 abbrev pub asked_by : Item → Option Ask
 asked_by (Told e) = None

@@ -19,7 +19,7 @@ use Rattle.tree_specs.specs.Tree.Pool.{Pool, empty, add, set_mark}
 use Rattle.tree_specs.specs.Rules.Items.{Item}
 use Rattle.tree_specs.specs.Rules.Items.Item.{Told, Asked}
 use Rattle.tree_specs.specs.Rules.Sequence.{Scene}
-use Rattle.tree_specs.specs.Rules.Story.{hook_moment}
+use Rattle.tree_specs.specs.Rules.Answers.{hook_moment}
 
 -- two objects, and a reference
 abbrev pub a : Obj

@@ -11,23 +11,25 @@ use Rattle.tree_specs.specs.declared.reply.Reply.{Reply}
 use Rattle.tree_specs.specs.declared.reply.Reply.TheVariants.{No}
 use Rattle.tree_specs.specs.declared.reply.Refusal.{Refusal}
 use Rattle.tree_specs.specs.declared.reply.Refusal.TheVariants.{Running as IsRunning}
-use Rattle.tree_specs.specs.declared.event.Event.TheVariants.{Refused as HasRefused, Unreferenced}
+use Rattle.tree_specs.specs.declared.event.Event.TheVariants.{Refused as HasRefused, Unreferenced, Closed}
 use Rattle.tree_specs.specs.declared.question.Ask.TheVariants.{Quiet, Routine}
 use Rattle.tree_specs.specs.declared.question.Input.{Input}
 use Rattle.tree_specs.specs.declared.free_step.FreeReply.{FreeReply}
 use Rattle.tree_specs.specs.declared.free_step.FreeReply.TheVariants.{Ok, Held, Running, Refused}
 use Rattle.tree_specs.specs.Tree.Pool.{Pool, row_of, remove, set_mark, doom}
 use Rattle.tree_specs.specs.Tree.Forest.{Distinct}
+use Rattle.tree_specs.specs.Events.Rotation.{closes_with}
 use Rattle.tree_specs.specs.Calls.Refusals.{is_running}
 use Rattle.tree_specs.specs.Calls.Plans.{planned}
 use Rattle.tree_specs.specs.Rules.Items.{Item}
 use Rattle.tree_specs.specs.Rules.Items.Item.{Told}
 use Rattle.tree_specs.specs.Rules.Sequence.{Work, Scene}
-use Rattle.tree_specs.specs.Rules.Story.{effect, free, unlink, children, asked, hook_moment, freed_reply, numbered, turned, taking, reading}
+use Rattle.tree_specs.specs.Rules.Answers.{hook_moment, freed_reply}
+use Rattle.tree_specs.specs.Rules.Story.{effect, free, unlink, children, asked, turned, taking, reaching}
 
 -- a call, be it the host's own or an act, with its reply; a turn is the host's own
 abbrev pub called : ℕ → Call → Work Reply
-called n c p is = effect (free n) (unlink n) (children n) (numbered (reading n)) (turned Quiet (taking n)) (planned p c) p is
+called n c p is = effect (free n) (unlink n) (children n) (reaching n) (turned Quiet (taking n)) (planned p c) p is
 
 -- ---- running
 
@@ -81,6 +83,27 @@ doomed_at (Some r) x p = doomed_by r.mark x p
 abbrev pub doomed : Obj → Pool → Pool
 doomed x p = doomed_at (row_of p.rows x) x p
 
+-- a descriptor that is closed with it is told as closed
+abbrev pub told_closed : Option ℕ → Pool → List Scene
+told_closed None p = []
+told_closed (Some fd) p = record { item = Told (Closed fd); before = p; about = None } ∷ []
+
+abbrev pub closed_by : Mark → Obj → Pool → List Scene
+closed_by mark.Busy x p = told_closed (closes_with p.ring x) p
+closed_by m x p = []
+
+abbrev pub closed_at : Option Row → Obj → Pool → List Scene
+closed_at None x p = []
+closed_at (Some r) x p = closed_by r.mark x p
+
+-- references were dropped, and an object whose handler runs is doomed
+pub record OnlyDoomed (x : Obj) (p q : Pool) (told : List Scene) : Type 0 where
+  pub dropped : List Scene
+  pub over : Pool
+  pub drops : OnlyDropped x p over dropped
+  pub told_is : told ≡ dropped ++ closed_at (row_of over.rows x) x over
+  pub pool : q ≡ doomed x over
+
 abbrev pub told_refusal : Obj → ℕ → Pool → Scene
 told_refusal x v p = record { item = Told (HasRefused x v); before = p; about = None }
 
@@ -101,7 +124,7 @@ pub record AfterItsRun (x : Obj) (v : ℕ) (p q : Pool) (is left : List Input) (
 abbrev pub LeftByFree : Obj → FreeReply → Pool → Pool → List Input → List Input → List Scene → Type 0
 LeftByFree x Ok p q is left told = Unit {0}
 LeftByFree x Held p q is left told = OnlyDropped x p q told × (left ≡ is)
-LeftByFree x Running p q is left told = (r : Pool) × OnlyDropped x p r told × (q ≡ doomed x r) × (left ≡ is)
+LeftByFree x Running p q is left told = OnlyDoomed x p q told × (left ≡ is)
 LeftByFree x (Refused v) p q is left told = AfterItsRun x v p q is left told
 
 -- a free that the call did answers so

@@ -1,20 +1,22 @@
 -- The rules of freeing, of destructors and of calls, and the story that they tell. Each turn hands on one less.
-use Rattle.std.specs.Prelude.{ℕ, suc, zero, ◌+◌, ◌-◌, ◌*◌, ◌^◌, nat_eq, nat_lt, nat_le, Bool, true, false, List, length, map, Option, Some, None, unwrap_or, if◌then◌else◌}
-use Rattle.step_machine.specs.Machine.{items as told_by}
+use Rattle.std.specs.Prelude.{ℕ, suc, zero, ◌+◌, ◌-◌, ◌*◌, nat_eq, nat_le, Bool, true, false, List, length, map, Option, Some, None, unwrap_or, if◌then◌else◌}
+use Rattle.step_machine.specs.Machine.{Outcome, items as told_by}
 use Rattle.tree_specs.specs.declared.object.Obj.{Obj}
 use Rattle.tree_specs.specs.declared.object.Owner.TheVariants.{Root, Of}
 use Rattle.tree_specs.specs.declared.object.Owner.{Owner}
 use Rattle.tree_specs.specs.declared.row.Mark.TheVariants as mark
 use Rattle.tree_specs.specs.declared.call.Call.{Call}
 use Rattle.tree_specs.specs.declared.reply.Refusal.TheVariants as refusal
+use Rattle.tree_specs.specs.declared.notice.Notice.{Notice}
+use Rattle.tree_specs.specs.declared.notice.Notice.TheVariants as notice
+use Rattle.tree_specs.specs.declared.occasion.Occasion.{Occasion}
+use Rattle.tree_specs.specs.declared.event.Event.{Event}
 use Rattle.tree_specs.specs.declared.reply.Reply.{Reply}
 use Rattle.tree_specs.specs.declared.reply.Reply.TheVariants as reply
-use Rattle.tree_specs.specs.declared.event.Event.TheVariants.{Replied, Fired, Accepted, Refused, Moved, Warned, Freed, Unreferenced}
-use Rattle.tree_specs.specs.declared.moment.Moment.{Moment}
+use Rattle.tree_specs.specs.declared.event.Event.TheVariants.{Replied, Fired, Accepted, Refused, Moved, Warned, Freed, Unreferenced, Closed}
 use Rattle.tree_specs.specs.declared.moment.What.{What}
-use Rattle.tree_specs.specs.declared.moment.What.TheVariants.{Hook as ForHook, Immediate as ForImmediate, Timer as ForTimer}
+use Rattle.tree_specs.specs.declared.moment.What.TheVariants.{Immediate as ForImmediate, Timer as ForTimer, Descriptor as ForDescriptor}
 use Rattle.tree_specs.specs.declared.handler.Handler.{Handler}
-use Rattle.tree_specs.specs.declared.wants.Want.{Want}
 use Rattle.tree_specs.specs.declared.question.Ask.{Ask}
 use Rattle.tree_specs.specs.declared.question.Ask.TheVariants as ask
 use Rattle.tree_specs.specs.declared.question.Input.{Input}
@@ -22,71 +24,17 @@ use Rattle.tree_specs.specs.declared.free_step.FreeReply.{FreeReply}
 use Rattle.tree_specs.specs.declared.free_step.FreeReply.TheVariants as free_reply
 use Rattle.tree_specs.specs.declared.free_step.FreeReply.TheVariants.{Ok, Held, Running}
 use Rattle.tree_specs.specs.Tree.Targets.{newest_ref}
-use Rattle.tree_specs.specs.Tree.Pool.{Pool, empty, row_of, is_below, owner_of, newest_ref_of, target_at, noted_owner, is_inside, first_kid, detach, remove, place, set_mark, doom, set_hook, unschedule, disarm}
+use Rattle.tree_specs.specs.Tree.Pool.{Pool, empty, row_of, is_below, owner_of, newest_ref_of, target_at, noted_owner, is_inside, first_kid, detach, remove, place, set_mark, doom, set_hook, unschedule, disarm, open_descriptor}
 use Rattle.tree_specs.specs.Events.Pending.{first}
-use Rattle.tree_specs.specs.Events.Coming.{wait_limit, handler_for, handler_moment, goes_after, looks_again}
+use Rattle.tree_specs.specs.Events.Rotation.{closes_with, first_ready}
+use Rattle.tree_specs.specs.Events.Coming.{wait_limit, handler_for, handler_moment, at_time, with_flags, plainly, begun, goes_after, looks_again}
 use Rattle.tree_specs.specs.Tree.Heirs.{heir}
 use Rattle.tree_specs.specs.Rules.Items.{Item}
 use Rattle.tree_specs.specs.Rules.Items.Item.{Told, Asked}
-use Rattle.tree_specs.specs.Words.Ranges.{is_sound_call, is_return, is_time}
-use Rattle.tree_specs.specs.Words.Wants.{is_wants}
-use Rattle.tree_specs.specs.Calls.Given.{Given, given_to}
-use Rattle.tree_specs.specs.Calls.Given.Given.{Calls, Returns, Tells, IsReady}
-use Rattle.tree_specs.specs.Calls.Plans.{Plan, planned, warned_by, changed_by}
-use Rattle.tree_specs.specs.Calls.Plans.Plan.{Does, Frees, Unlinks, Empties, AsksTime, Turns}
+use Rattle.tree_specs.specs.Calls.Plans.{Plan, planned, notice_of, changed_by}
+use Rattle.tree_specs.specs.Calls.Plans.Plan.{Does, Frees, Unlinks, Empties, Asks, Turns}
+use Rattle.tree_specs.specs.Rules.Answers.{freed_reply, hook_moment, later, heard, clocked, polled, reached}
 use Rattle.tree_specs.specs.Rules.Sequence.{Work, Scene, CallStart, ◌>>=◌, ◌>>◌, gives, pool, change, tells, told_about, asks, short}
-
--- the reply to a call that frees
-abbrev pub freed_reply : Obj → FreeReply → Reply
-freed_reply x Ok = reply.Ok
-freed_reply x Held = reply.No (refusal.Held x)
-freed_reply x Running = reply.No (refusal.Running x)
-freed_reply x (free_reply.Refused v) = reply.No (refusal.Refused x v)
-
--- the first moment in the run of a destructor
-abbrev pub hook_moment : Obj → ℕ → Moment
-hook_moment x h = record { what = ForHook; object = x; routine = h; user = 0; now = 0; flags = 0; step = 0; last = None }
-
--- the number of a later step; it stays at the greatest one
-abbrev pub step_after : ℕ → ℕ
-step_after k = if nat_lt k (2 ^ 32 - 1) then k + 1 else k
-
--- what a caller is asked after a call: the host's own caller for the next one, a routine what it does next
-abbrev pub later : Ask → Reply → Ask
-later (ask.Routine m) r = ask.Routine (record m { step = step_after m.step; last = Some r })
-later ask.Quiet r = ask.Quiet
-later ask.Clock r = ask.Clock
-later (ask.Wait limit) r = ask.Wait limit
-later (ask.Accept descriptor) r = ask.Accept descriptor
-later (ask.Read descriptor most) r = ask.Read descriptor most
-later (ask.Write descriptor bytes) r = ask.Write descriptor bytes
-
--- what was given leads to a call, or to the end of a routine's run, where its numbers have their ranges
-abbrev pub led : {A : Type 0} → (Call → A) → (ℕ → A) → Option Given → Option A
-led does returns None = None
-led does returns (Some (Calls c)) = if is_sound_call c then Some (does c) else None
-led does returns (Some (Returns v)) = if is_return v then Some (returns v) else None
-led does returns (Some (Tells now)) = None
-led does returns (Some (IsReady wants)) = None
-
-abbrev pub heard : {A : Type 0} → Ask → (Call → A) → (ℕ → A) → Input → Option A
-heard q does returns i = led does returns (given_to q i)
-
--- the time, where the clock was asked
-abbrev pub told_time : {A : Type 0} → (ℕ → A) → Option Given → Option A
-told_time timed (Some (Tells now)) = if is_time now then Some (timed now) else None
-told_time timed given = None
-
-abbrev pub clocked : {A : Type 0} → (ℕ → A) → Input → Option A
-clocked timed i = told_time timed (given_to ask.Clock i)
-
--- the descriptors that are ready, where this was asked
-abbrev pub told_ready : {A : Type 0} → (List Want → A) → Option Given → Option A
-told_ready looked (Some (IsReady wants)) = if is_wants wants then Some (looked wants) else None
-told_ready looked given = None
-
-abbrev pub polled : {A : Type 0} → ℕ → (List Want → A) → Input → Option A
-polled limit looked i = told_ready looked (given_to (ask.Wait limit) i)
 
 -- its number is the reply
 abbrev pub numbered : Work ℕ → Work Reply
@@ -100,22 +48,22 @@ turned ask.Quiet turn = numbered turn
 turned q turn = gives (reply.No refusal.Nested)
 
 -- A plan carried out, with the reply to it. `free` frees an object, `unlink` takes an owner's interest in it away,
--- `children` frees those of an object, `time` asks the clock, and `turn` is a turn of the event loop.
-abbrev pub effect : (Obj → Work FreeReply) → (Owner → Obj → Work FreeReply) → (Obj → Work (Unit {0})) → Work Reply → Work Reply → Plan → Work Reply
-effect free unlink children time turn (Does c warned r) = do
+-- `children` frees those of an object, `reach` asks the outside, and `turn` is a turn of the event loop.
+abbrev pub effect : (Obj → Work FreeReply) → (Owner → Obj → Work FreeReply) → (Obj → Work (Unit {0})) → (Ask → Work Reply) → Work Reply → Plan → Work Reply
+effect free unlink children reach turn (Does c notice r) = do
   change (λ p. changed_by c p)
   gives r
-effect free unlink children time turn (Frees x) = do
+effect free unlink children reach turn (Frees x) = do
   answer ← free x
   gives (freed_reply x answer)
-effect free unlink children time turn (Unlinks o x) = do
+effect free unlink children reach turn (Unlinks o x) = do
   answer ← unlink o x
   gives (freed_reply x answer)
-effect free unlink children time turn (Empties x) = do
+effect free unlink children reach turn (Empties x) = do
   children x
   gives reply.Ok
-effect free unlink children time turn AsksTime = time
-effect free unlink children time turn Turns = turn
+effect free unlink children reach turn (Asks q) = reach q
+effect free unlink children reach turn Turns = turn
 
 -- a child of x that wasn't freed goes to its heir, where x still is its owner
 abbrev pub hand_on : Obj → Obj → Option Owner → Work (Unit {0})
@@ -138,6 +86,22 @@ abbrev pub drops : Obj → Obj → Work (Unit {0})
 drops r target = do
   tells (Told (Unreferenced r target))
   change (λ q. remove q r)
+
+-- an object is let go of: a descriptor that is to be closed with it is told as closed
+abbrev pub lets_go : Obj → (Pool → Pool) → Work (Unit {0})
+lets_go x f = do
+  p ← pool
+  elim (closes_with p.ring x) [
+    | None ↦ change f
+    | Some fd ↦ (do
+      tells (Told (Closed fd))
+      change f)
+  ]
+
+-- what is told before the reply to a call
+abbrev pub notice_event : Notice → Event
+notice_event (notice.Warned x) = Warned x
+notice_event (notice.Closed fd) = Closed fd
 
 -- The newest reference to an object is dropped: after one from inside the object this begins again, and after one from
 -- outside it goes on as `outside` says. Where there is none, it is `unreferred`.
@@ -192,7 +156,7 @@ abbrev mutual
               hooked n x r.hook)
         | mark.Asked ↦ gives Running
         | mark.Busy ↦ (do
-          change (λ q. doom q x)
+          lets_go x (λ q. doom q x)
           dooming n x)
         | mark.Doomed ↦ gives Running
         | mark.Dying former ↦ gives Ok
@@ -228,7 +192,7 @@ abbrev mutual
   pub leave : ℕ → Obj → ℕ → Work FreeReply
   leave zero x h = short
   leave (suc n) x h = do
-    change (λ p. detach p x)
+    lets_go x (λ p. detach p x)
     children n x
     tells (Told (Freed x h))
     change (λ p. remove p x)
@@ -267,16 +231,16 @@ abbrev mutual
   acting zero q c = short
   acting (suc n) q c = do
     p ← pool
-    r ← effect (free n) (unlink n) (children n) (numbered (reading n)) (turned q (taking n)) (planned p c)
-    elim (warned_by (planned p c)) [
+    r ← effect (free n) (unlink n) (children n) (reaching n) (turned q (taking n)) (planned p c)
+    elim (notice_of (planned p c)) [
       | None ↦ telling n (Some (record { call = c; start = p })) (later q r) r
-      | Some x ↦ warning n (Some (record { call = c; start = p })) (later q r) x r
+      | Some notice ↦ announcing n (Some (record { call = c; start = p })) (later q r) notice r
     ]
 
-  pub warning : ℕ → Option CallStart → Ask → Obj → Reply → Work ℕ
-  warning zero about q x r = short
-  warning (suc n) about q x r = do
-    tells (Told (Warned x))
+  pub announcing : ℕ → Option CallStart → Ask → Notice → Reply → Work ℕ
+  announcing zero about q notice r = short
+  announcing (suc n) about q notice r = do
+    tells (Told (notice_event notice))
     telling n about q r
 
   pub telling : ℕ → Option CallStart → Ask → Reply → Work ℕ
@@ -298,13 +262,13 @@ abbrev mutual
     elim (first p.soon) [
       | Some x ↦ (do
         change (λ q. unschedule q x)
-        starting n ForImmediate x 0)
+        starting n ForImmediate x plainly)
       | None ↦ elim (first p.times) [
         | None ↦ polling n wait_limit
         | Some d ↦ if nat_eq d.time 0
             then (do
               change (λ q. disarm q d.object)
-              starting n ForTimer d.object 0)
+              starting n ForTimer d.object (at_time 0))
             else timing n false
       ]
     ]
@@ -323,39 +287,43 @@ abbrev mutual
       | Some d ↦ if nat_le d.time now
           then (do
             change (λ q. disarm q d.object)
-            starting n ForTimer d.object now)
+            starting n ForTimer d.object (at_time now))
           else if again then closing n 0 else polling n (d.time - now)
     ]
 
-  -- after a wait in which nothing was ready the clock is asked again, where an event has a time
+  -- After a wait in which nothing was ready the clock is asked again, where an event has a time. Otherwise the first event
+  -- comes that waits for what its descriptor is ready for.
   pub polling : ℕ → ℕ → Work ℕ
   polling zero limit = short
   polling (suc n) limit = asks (Asked (ask.Wait limit)) (polled limit (λ wants. do
     p ← pool
-    if looks_again p wants then timing n true else closing n 0))
+    if looks_again p wants then timing n true else elim (first_ready p.ring wants) [
+      | None ↦ closing n 0
+      | Some r ↦ starting n ForDescriptor r.object (with_flags r.flags)
+    ]))
 
   -- an event with a handler is busy, and its handler runs
-  pub starting : ℕ → What → Obj → ℕ → Work ℕ
-  starting zero what x now = short
-  starting (suc n) what x now = do
+  pub starting : ℕ → What → Obj → Occasion → Work ℕ
+  starting zero what x occasion = short
+  starting (suc n) what x occasion = do
     p ← pool
     elim (handler_for p what x) [
       | None ↦ closing n 1
       | Some handler ↦ (do
-        change (λ q. set_mark q x mark.Busy)
-        firing n what x handler now)
+        change (λ q. begun what x q)
+        firing n what x handler occasion)
     ]
 
-  pub firing : ℕ → What → Obj → Handler → ℕ → Work ℕ
-  firing zero what x handler now = short
-  firing (suc n) what x handler now = do
+  pub firing : ℕ → What → Obj → Handler → Occasion → Work ℕ
+  firing zero what x handler occasion = short
+  firing (suc n) what x handler occasion = do
     tells (Told (Fired what x handler.routine))
-    handling n what x handler now
+    handling n what x handler occasion
 
-  pub handling : ℕ → What → Obj → Handler → ℕ → Work ℕ
-  handling zero what x handler now = short
-  handling (suc n) what x handler now = do
-    v ← asked n (ask.Routine (handler_moment what x handler now))
+  pub handling : ℕ → What → Obj → Handler → Occasion → Work ℕ
+  handling zero what x handler occasion = short
+  handling (suc n) what x handler occasion = do
+    v ← asked n (ask.Routine (handler_moment what x handler occasion))
     handled n what x
 
   -- nothing goes on with it any more; a timer is freed, and so is what was to be freed meanwhile
@@ -370,10 +338,22 @@ abbrev mutual
           closing n 1)
         else closing n 1
 
-  -- the time
-  pub reading : ℕ → Work ℕ
-  reading zero = short
-  reading (suc n) = asks (Asked ask.Clock) (clocked (closing n))
+  -- The outside is asked for a call, and what it answers is the reply. A descriptor that was accepted is open from then on.
+  pub reaching : ℕ → Ask → Work Reply
+  reaching zero q = short
+  reaching (suc n) q = do
+    p ← pool
+    asks (Asked q) (reached p q (opening n) (hearing n))
+
+  pub opening : ℕ → ℕ → Work Reply
+  opening zero fd = short
+  opening (suc n) fd = do
+    change (λ p. open_descriptor p fd)
+    gives (reply.Number fd)
+
+  pub hearing : ℕ → Reply → Work Reply
+  hearing zero r = short
+  hearing (suc n) r = gives r
 
   pub closing : ℕ → ℕ → Work ℕ
   closing zero v = short
@@ -383,9 +363,13 @@ abbrev mutual
 abbrev pub turns : ℕ → ℕ → ℕ
 turns r a = 64 * (a + 1) * ((r + 2 * a + 2) * (r + 2 * a + 2))
 
--- the story from an empty pool whose next number is `first`
+-- what comes of these inputs, from an empty pool whose next number is `first`
+abbrev pub outcome : ℕ → List Input → Outcome ℕ Pool Input Scene
+outcome first is = asked (turns 0 (length is)) ask.Quiet (empty first) is
+
+-- the story
 abbrev pub story : ℕ → List Input → List Scene
-story first is = told_by (asked (turns 0 (length is)) ask.Quiet (empty first) is)
+story first is = told_by (outcome first is)
 
 -- its items
 abbrev pub items : List Scene → List Item

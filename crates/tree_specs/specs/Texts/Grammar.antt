@@ -1,9 +1,11 @@
 -- The grammar of numbers, names, calls and schedule lines: the value that a text spells, or none.
-use Rattle.std.specs.Prelude.{ℕ, ◌^◌, Bool, true, false, ◌==◌, ◌&&◌, not, nat_lt, if◌then◌else◌, List, [], ◌∷◌, Option, Some, None, codes}
+use Rattle.std.specs.Prelude.{ℕ, ◌^◌, Bool, true, false, ◌==◌, ◌&&◌, not, nat_lt, if◌then◌else◌, List, [], ◌∷◌, Option, Some, None, Result, Ok, Err, codes}
 use Rattle.std.specs.List.{slice_split}
 use Rattle.std.specs.Option.{option_map}
 use Rattle.std.specs.Str.{all_ascii_digits, bytes_eq}
 use Rattle.std.specs.Str.Parse.{digits_value}
+use Rattle.hex.specs.Hex.{encode_lower, decode_of}
+use Rattle.hex.specs.declared.error.FromHexError.{FromHexError}
 use Rattle.tree_specs.specs.declared.object.Obj.{Obj}
 use Rattle.tree_specs.specs.declared.object.Owner.{Owner}
 use Rattle.tree_specs.specs.declared.call.Call.{Call}
@@ -12,10 +14,12 @@ use Rattle.tree_specs.specs.declared.question.Input.{Input}
 use Rattle.tree_specs.specs.declared.question.Input.TheVariants as inputs
 use Rattle.tree_specs.specs.declared.wants.Want.{Want}
 use Rattle.tree_specs.specs.Words.Names.{is_name}
-use Rattle.tree_specs.specs.Calls.Spelling.{Reading, Form, forms}
-use Rattle.tree_specs.specs.Calls.Spelling.Reading.{IsConsistent, TakesOwner, TakesObject, TakesNumber, TakesRoutine, TakesRoutineOrNone, TakesTime, EndsInName}
+use Rattle.tree_specs.specs.Words.Octets.{is_octets}
+use Rattle.tree_specs.specs.Calls.Spelling.{Numeral, Reading, Form, forms}
+use Rattle.tree_specs.specs.Calls.Spelling.Numeral.{Number32, Positive32, Time, Length}
+use Rattle.tree_specs.specs.Calls.Spelling.Reading.{IsConsistent, TakesOwner, TakesObject, TakesNumeral, EndsInName, EndsInBytes}
 use Rattle.tree_specs.specs.Words.Objects.{numbered_owner}
-use Rattle.tree_specs.specs.Words.Ranges.{is_time}
+use Rattle.tree_specs.specs.Words.Ranges.{is_in}
 use Rattle.tree_specs.specs.Words.Wants.{is_wants}
 
 infixl 10 ◌>>=◌
@@ -36,27 +40,11 @@ is_decimal ds = is_short ds && (all_ascii_digits ds && nat_lt (digits_value 10 d
 unfoldable pub number_of : List ℕ → Option ℕ
 number_of ds = if is_decimal ds then Some (digits_value 10 ds) else None
 
--- a number below a limit
-abbrev pub number_below : ℕ → List ℕ → Option ℕ
-number_below limit ds = do
+-- a number in its range
+unfoldable pub numeral_of : Numeral → List ℕ → Option ℕ
+numeral_of kind ds = do
   n ← number_of ds
-  if nat_lt n limit then Some n else None
-
--- a number below 2^32, as a routine returns it
-unfoldable pub number32_of : List ℕ → Option ℕ
-number32_of ds = number_below (2 ^ 32) ds
-
--- the number of a routine, which isn't 0
-unfoldable pub routine_of : List ℕ → Option ℕ
-routine_of ds = do
-  n ← number32_of ds
-  if n == 0 then None else Some n
-
--- a time in microseconds
-unfoldable pub time_of : List ℕ → Option ℕ
-time_of ds = do
-  n ← number_of ds
-  if is_time n then Some n else None
+  if is_in kind n then Some n else None
 
 unfoldable pub owner_of : List ℕ → Option Owner
 owner_of text = do
@@ -70,6 +58,15 @@ object_of text = do
 
 unfoldable pub name_of : List ℕ → Option (List ℕ)
 name_of text = if is_name text then Some text else None
+
+-- these bytes, where this is their one spelling
+abbrev pub if_spelled : List ℕ → Result (List ℕ) FromHexError → Option (List ℕ)
+if_spelled text (Ok bytes) = if bytes_eq (encode_lower bytes) text && is_octets bytes then Some bytes else None
+if_spelled text (Err e) = None
+
+-- bytes in hexadecimal, in lower case
+unfoldable pub octets_of : List ℕ → Option (List ℕ)
+octets_of text = if_spelled text (decode_of text)
 
 -- the words between single spaces
 abbrev pub words : List ℕ → List (List ℕ)
@@ -100,18 +97,18 @@ with_field reader words next = do
   first ← field reader words
   next first.0 first.1
 
--- the call that the words begin with, by what it takes, and the words that it leaves; a name is the last word
+-- the call that the words begin with, by what it takes, and the words that it leaves; a name is the last word, and so are bytes
 abbrev pub taken : Reading → List (List ℕ) → Option (Call × List (List ℕ))
 taken (IsConsistent call) words = Some (call, words)
 taken (TakesOwner next) words = with_field owner_of words (λ owner more. taken (next owner) more)
 taken (TakesObject next) words = with_field object_of words (λ x more. taken (next x) more)
-taken (TakesNumber next) words = with_field number_of words (λ n more. taken (next n) more)
-taken (TakesRoutine next) words = with_field routine_of words (λ routine more. taken (next routine) more)
-taken (TakesRoutineOrNone next) words = with_field number32_of words (λ routine more. taken (next routine) more)
-taken (TakesTime next) words = with_field time_of words (λ time more. taken (next time) more)
+taken (TakesNumeral kind next) words = with_field (numeral_of kind) words (λ n more. taken (next n) more)
 taken (EndsInName call) words = do
   name ← last_field name_of words
   Some (call name.0, name.1)
+taken (EndsInBytes call) words = do
+  bytes ← last_field octets_of words
+  Some (call bytes.0, bytes.1)
 
 -- what was read, where no word is left
 abbrev pub ended : {A : Type 0} → A × List (List ℕ) → Option A
@@ -154,16 +151,16 @@ abbrev pub act_input_of : List ℕ → Option Input
 act_input_of text = option_map (λ c. inputs.Act (acts.Do c)) (call_of text)
 
 abbrev pub return_input_of : List ℕ → Option Input
-return_input_of text = option_map (λ v. inputs.Act (acts.Ret v)) (number32_of text)
+return_input_of text = option_map (λ v. inputs.Act (acts.Ret v)) (numeral_of Number32 text)
 
 abbrev pub clock_input_of : List ℕ → Option Input
-clock_input_of text = option_map inputs.Clock (time_of text)
+clock_input_of text = option_map inputs.Clock (numeral_of Time text)
 
 -- a descriptor and its flags
 abbrev pub want_of_parts : List (List ℕ) → Option Want
 want_of_parts (fd ∷ flags ∷ []) = do
-  f ← number32_of fd
-  n ← number32_of flags
+  f ← numeral_of Number32 fd
+  n ← numeral_of Number32 flags
   Some (record { fd = f; flags = n })
 want_of_parts parts = None
 
@@ -187,6 +184,20 @@ ready_of_words words = None
 abbrev pub ready_input_of : List ℕ → Option Input
 ready_input_of text = ready_of_words (words text)
 
+abbrev pub took_input_of : List ℕ → Option Input
+took_input_of text = option_map inputs.Took (numeral_of Positive32 text)
+
+abbrev pub got_input_of : List ℕ → Option Input
+got_input_of text = option_map inputs.Got (octets_of text)
+
+abbrev pub wrote_input_of : List ℕ → Option Input
+wrote_input_of text = option_map inputs.Wrote (numeral_of Length text)
+
+-- a word with nothing behind it
+abbrev pub alone : Input → List ℕ → Option Input
+alone input [] = Some input
+alone input (x ∷ xs) = None
+
 infixl 9 ◌or◌
 -- the first that there is
 abbrev pub ◌or◌ : {A : Type 0} → Option A → Option A → Option A
@@ -201,3 +212,9 @@ input_of line =
     or (strip (codes "ret ") line >>= return_input_of)
     or (strip (codes "clock ") line >>= clock_input_of)
     or (strip (codes "ready") line >>= ready_input_of)
+    or (strip (codes "took ") line >>= took_input_of)
+    or (strip (codes "again") line >>= alone inputs.Again)
+    or (strip (codes "fault") line >>= alone inputs.Fault)
+    or (strip (codes "got ") line >>= got_input_of)
+    or (strip (codes "end") line >>= alone inputs.End)
+    or (strip (codes "wrote ") line >>= wrote_input_of)

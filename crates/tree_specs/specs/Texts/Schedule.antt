@@ -2,19 +2,20 @@
 use Rattle.std.specs.Prelude.{ℕ, ◌+◌, Bool, true, false, ◌==◌, ◌||◌, ◌&&◌, nat_lt, if◌then◌else◌, List, [], ◌∷◌, length, Option, Some, None, Result, Ok, Err, codes}
 use Rattle.std.specs.List.{slice_split}
 use Rattle.std.specs.Str.{bytes_eq}
+use Rattle.step_machine.specs.Machine.{is_stray}
 use Rattle.tree_specs.specs.declared.bounds.TheConstants.{LINE_LIMIT, LINES_LIMIT}
 use Rattle.tree_specs.specs.declared.question.Ask.{Ask}
 use Rattle.tree_specs.specs.declared.question.Input.{Input}
 use Rattle.tree_specs.specs.declared.schedule.Mode.{Mode}
 use Rattle.tree_specs.specs.declared.schedule.Mode.TheVariants.{Pool}
 use Rattle.tree_specs.specs.declared.schedule.Reason.{Reason}
-use Rattle.tree_specs.specs.declared.schedule.Reason.TheVariants.{Limit, Form, NotAsked}
+use Rattle.tree_specs.specs.declared.schedule.Reason.TheVariants.{Limit, Form, NotAsked, Token}
 use Rattle.tree_specs.specs.Calls.Given.{Given, given_to}
 use Rattle.tree_specs.specs.Rules.Items.{Item}
 use Rattle.tree_specs.specs.Rules.Items.Item.{Told, Asked}
 use Rattle.tree_specs.specs.Texts.Grammar.{input_of}
 use Rattle.tree_specs.specs.Texts.Text.{transcript}
-use Rattle.tree_specs.specs.Rules.Story.{story, items}
+use Rattle.tree_specs.specs.Rules.Story.{outcome, story, items}
 
 -- ---- lines
 
@@ -66,29 +67,46 @@ abbrev pub misfit : Option Ask → Input → Option Reason
 misfit None i = Some NotAsked
 misfit (Some q) i = unless_given (given_to q i)
 
+-- what comes of further inputs: the question that is open after them, and whether the last of them doesn't fit it
+pub record Course : Type 0 where
+  pub open_after : List Input → Option Ask
+  pub strays : List Input → Bool
+
+-- the same after this input
+abbrev pub once_given : Input → Course → Course
+once_given i c = record { open_after = λ is. c.open_after (i ∷ is); strays = λ is. c.strays (i ∷ is) }
+
+-- an input that is an answer to the open question, and yet doesn't fit: a descriptor was accepted that is open already
+abbrev pub unless_stray : Option Reason → Bool → Option Reason
+unless_stray (Some why) stray = Some why
+unless_stray None true = Some Token
+unless_stray None false = None
+
+abbrev pub why_not : Course → Input → Option Reason
+why_not c i = unless_stray (misfit (c.open_after []) i) (c.strays (i ∷ []))
+
 abbrev pub ok_unless : Input → Option Reason → Result Input Reason
 ok_unless i None = Ok i
 ok_unless i (Some why) = Err why
 
-abbrev pub fitting : Option Ask → Option Input → Result Input Reason
-fitting q None = Err Form
-fitting q (Some i) = ok_unless i (misfit q i)
+abbrev pub fitting : Course → Option Input → Result Input Reason
+fitting c None = Err Form
+fitting c (Some i) = ok_unless i (why_not c i)
 
--- the input of line n, where this question is open
-unfoldable pub line_input : ℕ → Option Ask → Line → Result Input Reason
-line_input n q line =
+-- the input of line n
+unfoldable pub line_input : ℕ → Course → Line → Result Input Reason
+line_input n c line =
     if is_over_limit n line then Err Limit else
-    if line.ended then fitting q (input_of line.text) else Err Form
+    if line.ended then fitting c (input_of line.text) else Err Form
 
 abbrev pub judged_one : ℕ → Result Input Reason → (Input → Judged) → Judged
 judged_one n (Ok i) next = record { inputs = i ∷ (next i).inputs; refused = (next i).refused }
 judged_one n (Err why) next = record { inputs = []; refused = Some (n, why) }
 
--- The lines from number n on. `open_after` gives the question that is open after further inputs.
-unfoldable pub judged_from : (List Input → Option Ask) → ℕ → List Line → Judged
-judged_from open_after n [] = record { inputs = []; refused = None }
-judged_from open_after n (line ∷ rest) =
-    judged_one n (line_input n (open_after []) line) (λ i. judged_from (λ more. open_after (i ∷ more)) (n + 1) rest)
+-- the lines from number n on
+unfoldable pub judged_from : Course → ℕ → List Line → Judged
+judged_from c n [] = record { inputs = []; refused = None }
+judged_from c n (line ∷ rest) = judged_one n (line_input n c line) (λ i. judged_from (once_given i c) (n + 1) rest)
 
 abbrev pub schedule_header : List ℕ
 schedule_header = codes "tv schedule 1 pool"
@@ -108,10 +126,10 @@ has_header (first ∷ rest) = is_header first
 abbrev pub header_reason : Line → Reason
 header_reason line = if is_over_limit 1 line then Limit else Form
 
-unfoldable pub judged_lines : (List Input → Option Ask) → List Line → Judged
-judged_lines open_after [] = record { inputs = []; refused = Some (1, Form) }
-judged_lines open_after (first ∷ rest) =
-    if is_header first then judged_from open_after 2 rest
+unfoldable pub judged_lines : Course → List Line → Judged
+judged_lines c [] = record { inputs = []; refused = Some (1, Form) }
+judged_lines c (first ∷ rest) =
+    if is_header first then judged_from c 2 rest
     else record { inputs = []; refused = Some (1, header_reason first) }
 
 -- the question that is the last item
@@ -121,8 +139,12 @@ open_question (Told e ∷ []) = None
 open_question (Asked q ∷ []) = Some q
 open_question (i ∷ j ∷ rest) = open_question (j ∷ rest)
 
+-- the course of a host whose first object gets the number 1
+abbrev pub course : Course
+course = record { open_after = λ is. open_question (items (story 1 is)); strays = λ is. is_stray (outcome 1 is) }
+
 abbrev pub judged : List ℕ → Judged
-judged bytes = judged_lines (λ is. open_question (items (story 1 is))) (lines bytes)
+judged bytes = judged_lines course (lines bytes)
 
 -- the first refused line and the reason, or none
 abbrev pub judge : List ℕ → Option (ℕ × Reason)

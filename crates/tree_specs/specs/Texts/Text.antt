@@ -23,7 +23,7 @@ use Rattle.tree_specs.specs.declared.question.Input.TheVariants as inputs
 use Rattle.tree_specs.specs.declared.wants.Want.{Want}
 use Rattle.tree_specs.specs.Words.Objects.{owner_number}
 use Rattle.tree_specs.specs.Calls.Spelling.{Field, spelling}
-use Rattle.tree_specs.specs.Calls.Spelling.Field.{AnOwner, AnObject, ANumber, ARoutine, ARoutineOrNone, ATime, AName}
+use Rattle.tree_specs.specs.Calls.Spelling.Field.{AnOwner, AnObject, ANumeral, AName, SomeBytes}
 use Rattle.tree_specs.specs.Rules.Items.{Item}
 use Rattle.tree_specs.specs.Rules.Items.Item.{Told, Asked}
 
@@ -33,11 +33,9 @@ newline = 10 ∷ []
 abbrev pub field_text : Field → List ℕ
 field_text (AnOwner o) = decimal (owner_number o)
 field_text (AnObject x) = decimal x.0
-field_text (ANumber n) = decimal n
-field_text (ARoutine r) = decimal r
-field_text (ARoutineOrNone r) = decimal r
-field_text (ATime n) = decimal n
+field_text (ANumeral kind n) = decimal n
 field_text (AName name) = name
+field_text (SomeBytes bytes) = encode_lower bytes
 
 -- the verb and the fields, with single spaces between them
 unfoldable pub call_text : Call → List ℕ
@@ -57,6 +55,12 @@ input_text (inputs.Act (acts.Do c)) = codes "act " ++ call_text c ++ newline
 input_text (inputs.Act (acts.Ret value)) = codes "ret " ++ decimal value ++ newline
 input_text (inputs.Clock now) = codes "clock " ++ decimal now ++ newline
 input_text (inputs.Ready wants) = codes "ready" ++ wants_text wants ++ newline
+input_text (inputs.Took fd) = codes "took " ++ decimal fd ++ newline
+input_text inputs.Again = codes "again\n"
+input_text inputs.Fault = codes "fault\n"
+input_text (inputs.Got bytes) = codes "got " ++ encode_lower bytes ++ newline
+input_text inputs.End = codes "end\n"
+input_text (inputs.Wrote n) = codes "wrote " ++ decimal n ++ newline
 
 -- ---- events
 

@@ -2,6 +2,7 @@
 use Rattle.std.specs.Prelude.{ℕ, suc, zero, ◌+◌, Bool, true, false, not, ◌||◌, ◌&&◌, List, [], ◌∷◌, length, Option, Some, None, is_some, unwrap_or, if◌then◌else◌}
 use Rattle.tree_specs.specs.declared.due.Due.{Due}
 use Rattle.tree_specs.specs.declared.handler.Handler.{Handler}
+use Rattle.tree_specs.specs.declared.watch.Watch.{Watch}
 use Rattle.tree_specs.specs.declared.object.Obj.{Obj}
 use Rattle.tree_specs.specs.declared.object.Owner.{Owner}
 use Rattle.tree_specs.specs.declared.object.Owner.TheVariants.{Root, Of}
@@ -11,6 +12,8 @@ use Rattle.tree_specs.specs.declared.row.Mark.TheVariants.{Quiet, Doomed, Dying}
 use Rattle.tree_specs.specs.declared.kind.Kind.{Kind}
 use Rattle.tree_specs.specs.Words.Objects.{same, same_owner}
 use Rattle.tree_specs.specs.Events.Pending.{scheduled, unscheduled, armed, disarmed}
+use Rattle.tree_specs.specs.Events.Rotation.{watched, unwatched, rewatched, turned_back, closes_with}
+use Rattle.tree_specs.specs.Events.Descriptors.{Descriptors, listener_alone, opened, closed, shut}
 use Rattle.tree_specs.specs.Events.Handlers.{Handlers, no_handlers, with_handler, without_handler}
 use Rattle.tree_specs.specs.Tree.Targets.{target_of, is_target, is_reference, newest, newest_ref}
 
@@ -21,12 +24,16 @@ pub record Pool : Type 0 where
   pub soon : List Obj
   -- objects whose time comes, the earliest first
   pub times : List Due
+  -- events on descriptors, in the order in which they are looked at
+  pub ring : List Watch
+  -- the descriptors that are open
+  pub descriptors : Descriptors
   -- what runs when an event comes
   pub handlers : Handlers
 
 -- objects of which none waits for its turn
 abbrev pub of_rows : List Row → ℕ → Pool
-of_rows rows next = record { rows = rows; next = next; soon = []; times = []; handlers = no_handlers }
+of_rows rows next = record { rows = rows; next = next; soon = []; times = []; ring = []; descriptors = listener_alone; handlers = no_handlers }
 
 abbrev pub empty : ℕ → Pool
 empty first = of_rows [] first
@@ -165,9 +172,19 @@ take_number p = record p { next = p.next + 1 }
 abbrev pub left_row : Row → Row
 left_row r = record r { owner = None; mark = Dying (unwrap_or r.owner Root) }
 
+-- an object's row is changed, and it waits for nothing any more; a descriptor that is to be closed with it is closed
+abbrev pub let_go : Pool → Obj → (Row → Row) → Pool
+let_go p x change = record p {
+  rows = changed change p.rows x;
+  soon = unscheduled p.soon x;
+  times = disarmed p.times x;
+  ring = unwatched p.ring x;
+  descriptors = shut p.descriptors (closes_with p.ring x);
+}
+
 -- an object leaves its owner, and waits for nothing any more
 abbrev pub detach : Pool → Obj → Pool
-detach p x = record p { rows = changed left_row p.rows x; soon = unscheduled p.soon x; times = disarmed p.times x }
+detach p x = let_go p x left_row
 
 abbrev pub remove : Pool → Obj → Pool
 remove p x = record p { rows = without p.rows x; handlers = without_handler p.handlers x }
@@ -203,7 +220,7 @@ set_mark p x mark = edited p x (marked_row mark)
 
 -- an event whose handler runs is to be freed after it, and waits for nothing until then
 abbrev pub doom : Pool → Obj → Pool
-doom p x = record p { rows = changed (marked_row Doomed) p.rows x; soon = unscheduled p.soon x; times = disarmed p.times x }
+doom p x = let_go p x (marked_row Doomed)
 
 -- a row with another destructor, size or limit
 abbrev pub hooked_row : ℕ → Row → Row
@@ -243,3 +260,23 @@ disarm p x = record p { times = disarmed p.times x }
 -- an object is to come at a time; at equal times the smaller number comes first
 abbrev pub arm : Pool → Obj → ℕ → ℕ → Pool
 arm p x time number = record p { times = armed p.times x time number }
+
+-- ---- descriptors
+
+-- an event watches a descriptor from now on, for these flags
+abbrev pub watch : Pool → Obj → ℕ → ℕ → Pool
+watch p x fd flags = record p { ring = watched p.ring x fd flags }
+
+-- how an event watches is changed
+abbrev pub rewatch : Pool → Obj → (Watch → Watch) → Pool
+rewatch p x change = record p { ring = rewatched change p.ring x }
+
+-- an event that has come is looked at after all others
+abbrev pub turn_back : Pool → Obj → Pool
+turn_back p x = record p { ring = turned_back p.ring x }
+
+abbrev pub open_descriptor : Pool → ℕ → Pool
+open_descriptor p fd = record p { descriptors = opened p.descriptors fd }
+
+abbrev pub close_descriptor : Pool → ℕ → Pool
+close_descriptor p fd = record p { descriptors = closed p.descriptors fd }

@@ -1,6 +1,6 @@
 -- Inputs whose numbers have the ranges of their fields.
 use Rattle.std.specs.Prelude.{ℕ, ◌^◌, Bool, true, ◌&&◌, nat_lt, nat_le, List, [], ◌∷◌}
-use Rattle.tree_specs.specs.declared.bounds.TheConstants.{TIME_LIMIT}
+use Rattle.tree_specs.specs.declared.bounds.TheConstants.{TIME_LIMIT, OCTETS_LIMIT}
 use Rattle.tree_specs.specs.declared.object.Owner.{Owner}
 use Rattle.tree_specs.specs.declared.object.Owner.TheVariants.{Root, Of}
 use Rattle.tree_specs.specs.declared.call.Call.{Call}
@@ -9,24 +9,42 @@ use Rattle.tree_specs.specs.declared.question.Act.TheVariants as acts
 use Rattle.tree_specs.specs.declared.question.Input.{Input}
 use Rattle.tree_specs.specs.declared.question.Input.TheVariants as inputs
 use Rattle.tree_specs.specs.Words.Names.{is_name}
+use Rattle.tree_specs.specs.Words.Octets.{is_octets}
 use Rattle.tree_specs.specs.Words.Wants.{is_wants}
-use Rattle.tree_specs.specs.Calls.Spelling.{Field, spelling}
-use Rattle.tree_specs.specs.Calls.Spelling.Field.{AnOwner, AnObject, ANumber, ARoutine, ARoutineOrNone, ATime, AName}
+use Rattle.tree_specs.specs.Calls.Spelling.{Numeral, Field, spelling}
+use Rattle.tree_specs.specs.Calls.Spelling.Numeral.{Number, Number32, Positive32, Time, FdFlags, Length}
+use Rattle.tree_specs.specs.Calls.Spelling.Field.{AnOwner, AnObject, ANumeral, AName, SomeBytes}
 
 abbrev pub is_number : ℕ → Bool
 is_number n = nat_lt n (2 ^ 64)
 
--- what a routine returns
+-- what a routine returns, and a descriptor
 abbrev pub is_return : ℕ → Bool
 is_return n = nat_lt n (2 ^ 32)
 
--- routines are numbered from 1 upwards
+-- routines are numbered from 1 upwards, and so are descriptors that are accepted
 abbrev pub is_routine : ℕ → Bool
 is_routine n = nat_lt 0 n && nat_lt n (2 ^ 32)
 
 -- a time in microseconds
 abbrev pub is_time : ℕ → Bool
 is_time n = nat_le n TIME_LIMIT
+
+-- what an event on a descriptor waits for
+abbrev pub is_flags : ℕ → Bool
+is_flags n = nat_le n 3
+
+-- so many bytes may be read or written at once
+abbrev pub is_length : ℕ → Bool
+is_length n = nat_le 1 n && nat_le n OCTETS_LIMIT
+
+abbrev pub is_in : Numeral → ℕ → Bool
+is_in Number n = is_number n
+is_in Number32 n = is_return n
+is_in Positive32 n = is_routine n
+is_in Time n = is_time n
+is_in FdFlags n = is_flags n
+is_in Length n = is_length n
 
 -- an owner that isn't the root has a number from 1 upwards
 abbrev pub is_sound_owner : Owner → Bool
@@ -36,11 +54,9 @@ is_sound_owner (Of x) = nat_lt 0 x.0 && is_number x.0
 abbrev pub is_sound_field : Field → Bool
 is_sound_field (AnOwner o) = is_sound_owner o
 is_sound_field (AnObject x) = is_number x.0
-is_sound_field (ANumber n) = is_number n
-is_sound_field (ARoutine r) = is_routine r
-is_sound_field (ARoutineOrNone r) = is_return r
-is_sound_field (ATime n) = is_time n
+is_sound_field (ANumeral kind n) = is_in kind n
 is_sound_field (AName name) = is_name name
+is_sound_field (SomeBytes bytes) = is_octets bytes
 
 abbrev pub all_sound : List Field → Bool
 all_sound [] = true
@@ -59,3 +75,9 @@ is_sound (inputs.Call call) = is_sound_call call
 is_sound (inputs.Act act) = is_sound_act act
 is_sound (inputs.Clock now) = is_time now
 is_sound (inputs.Ready wants) = is_wants wants
+is_sound (inputs.Took fd) = is_routine fd
+is_sound inputs.Again = true
+is_sound inputs.Fault = true
+is_sound (inputs.Got bytes) = is_octets bytes
+is_sound inputs.End = true
+is_sound (inputs.Wrote n) = is_length n

@@ -1,6 +1,6 @@
 use Rattle.std.proofs.Common.{◌≡◌, ℕ, List, sym, ap, ◌∙◌, subst}
 use Rattle.tree_specs.specs.declared.frame.FreeFrame.{FreeFrame}
-use Rattle.tree_specs.specs.Machine.Table.{FreeMove}
+use Rattle.tree_specs.specs.Machine.FreeTable.{FreeMove}
 use Rattle.tree_specs.specs.Tree.Pool.{Pool}
 use Rattle.tree_links.specs.Links.{pool_of}
 use Rattle.references.specs.Rows.{SameRefs}

@@ -20,12 +20,12 @@ pub finish-requires-clause-live : goal.finish-requires-clause-live
 finish-requires-clause-live c = let p = c.args.parts.now in (named-over c.requires.whole.0 p.callers.items p.turn p.objects c.handling-what.result c.requires.alone c.handling-what.ensures c.requires.whole.1).live
 
 -- the turn is over
-rests : (c : goal.After-after_turn) (v : ℕ) → IsConsistent (view_at (Returning v) c.args.parts.now) → Settles (view_at (Returning v) c.args.parts.now) (active.Caller c.after_turn.result) c.args.parts.now.callers.items None c.finish.new.self
+rests : (c : goal.After-after) (v : ℕ) → IsConsistent (view_at (Returning v) c.args.parts.now) → Settles (view_at (Returning v) c.args.parts.now) (active.Caller c.after.result) c.args.parts.now.callers.items None c.finish.new.self
 rests c v h =
     let p = c.args.parts.now in
-    handler-rests v p.callers.items p.turn p.objects c.finish.new.self c.handling-what.result.0 c.handling-what.result.1 (active.Caller c.after_turn.result)
+    handler-rests v p.callers.items p.turn p.objects c.finish.new.self c.handling-what.result.0 c.handling-what.result.1 (active.Caller c.after.result)
     (named-over v p.callers.items p.turn p.objects c.handling-what.result c.requires.alone c.handling-what.ensures h) c.requires.alone
-    (sym c.finish.ensures.goes ∙ c.if-not-finish.true) c.finish.ensures.quiet c.after_turn.ensures
+    (sym c.finish.ensures.goes ∙ c.if-not-finish.true) c.finish.ensures.quiet c.after.ensures
 
 pub returns-then-not-finish-clause-along : goal.returns-then-not-finish-clause-along
 returns-then-not-finish-clause-along c = λ v h. (rests c v h).along

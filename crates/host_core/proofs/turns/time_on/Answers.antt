@@ -7,21 +7,16 @@ use Rattle.tree_specs.specs.declared.frame.TurnFrame.{TurnFrame}
 use Rattle.tree_specs.specs.Invariants.Consistent.{IsConsistent}
 use Rattle.object_pool.specs.Objects.{Objects}
 use Rattle.host_core.specs.declared.active.Active.{Active}
-use Rattle.host_core.specs.Turns.{turns_of, frame_timed, pool_timed}
-use Rattle.host_core.specs.Hosts.{asked_now, given_view, stack_of, PartsReady, StandsWith}
-use Rattle.host_core.proofs.Turning.{Settles, look-turning, turning-is, told-time}
+use Rattle.host_core.specs.Turns.{frame_timed, pool_timed}
+use Rattle.host_core.specs.Hosts.{asked_now, given_view, PartsReady, StandsWith}
+use Rattle.host_core.proofs.Turning.{Settles, turning-is, told-time}
 use Rattle.host_core.proofs.turns.time_on.Goals as goal
-
-pub take_turn-frame-requires : goal.take_turn-frame-requires
-take_turn-frame-requires c =
-    let p = c.args.parts.now in
-    look-turning c.args.now.now (input.Clock c.args.time) p.objects.works (stack_of p.callers.items) (turns_of p.turn) p.objects.pool tt c.requires.fits c.requires.whole
 
 settled : (c : goal.After-go_to) → Settles (given_view c.args.now.now (input.Clock c.args.time) c.args.parts.now) c.go_to.new.self c.args.parts.now.callers.items c.args.parts.now.turn c.arrive-frame.new.objects
 settled c =
     let p = c.args.parts.now in
     let i = input.Clock c.args.time in
-    let t = turning-is c.args.now.now (look-turning c.args.now.now i p.objects.works (stack_of p.callers.items) (turns_of p.turn) p.objects.pool tt c.requires.fits c.requires.whole) in
+    let t = turning-is c.args.now.now c.requires.turning in
     let had = c.take_turn-frame.ensures t.0 t.1 in
     let frame = ap (λ (z : TurnFrame × Ask). z.0) had in
     let caller = ap (λ (z : TurnFrame × Ask). z.1) had in

@@ -1,9 +1,9 @@
 use Rattle.tree_specs.specs.declared.frame.FreeFrame.TheVariants.{Unlinking, Beginning, Looping}
 use Rattle.tree_specs.specs.declared.frame.Purpose.TheVariants.{Emptying}
-use Rattle.host_core.specs.Moves.{telling, warning}
+use Rattle.host_core.specs.Moves.{telling, announcing}
 use Rattle.host_core.proofs.Hosting.{begun-along, begun-ready, freed-object, unlinked-object}
 use Rattle.host_core.proofs.Calling.{open_question, stays-at}
-use Rattle.host_core.proofs.Turning.{time-asked}
+use Rattle.host_core.proofs.Reaching.{reaches-out}
 use Rattle.host_core.proofs.works.go_on.Goals as goal
 
 pub begin_free-requires-clause-object : goal.begin_free-requires-clause-object
@@ -35,14 +35,14 @@ returns-in-Replies-clause-ready c =
     let q = open_question c.args.now.now c.requires.asks in
     (stays-at c.reply.new.self (telling q.0 c.in-Replies.reply) c.args.parts.now.callers.items c.args.parts.now.turn c.args.parts.now.objects (c.reply.ensures q.0 q.1) (rw c.in-Replies.is at (c.requires.whole q.0 q.1))).1
 
-pub returns-in-Warns-clause-along : goal.returns-in-Warns-clause-along
-returns-in-Warns-clause-along c = λ q e.
-    rw c.in-Warns.is (stays-at c.warn.new.self (warning q c.in-Warns.x c.in-Warns.reply) c.args.parts.now.callers.items c.args.parts.now.turn c.args.parts.now.objects (c.warn.ensures q e) (rw c.in-Warns.is at (c.requires.whole q e))).0
+pub returns-in-Announces-clause-along : goal.returns-in-Announces-clause-along
+returns-in-Announces-clause-along c = λ q e.
+    rw c.in-Announces.is (stays-at c.announce.new.self (announcing q c.in-Announces.notice c.in-Announces.reply) c.args.parts.now.callers.items c.args.parts.now.turn c.args.parts.now.objects (c.announce.ensures q e) (rw c.in-Announces.is at (c.requires.whole q e))).0
 
-pub returns-in-Warns-clause-ready : goal.returns-in-Warns-clause-ready
-returns-in-Warns-clause-ready c =
+pub returns-in-Announces-clause-ready : goal.returns-in-Announces-clause-ready
+returns-in-Announces-clause-ready c =
     let q = open_question c.args.now.now c.requires.asks in
-    (stays-at c.warn.new.self (warning q.0 c.in-Warns.x c.in-Warns.reply) c.args.parts.now.callers.items c.args.parts.now.turn c.args.parts.now.objects (c.warn.ensures q.0 q.1) (rw c.in-Warns.is at (c.requires.whole q.0 q.1))).1
+    (stays-at c.announce.new.self (announcing q.0 c.in-Announces.notice c.in-Announces.reply) c.args.parts.now.callers.items c.args.parts.now.turn c.args.parts.now.objects (c.announce.ensures q.0 q.1) (rw c.in-Announces.is at (c.requires.whole q.0 q.1))).1
 
 pub returns-in-Frees-clause-along : goal.returns-in-Frees-clause-along
 returns-in-Frees-clause-along c = λ q e.
@@ -77,14 +77,14 @@ returns-in-Empties-clause-ready c =
     rw c.wait-in-Empties.ensures.freeing (begun-ready (Looping c.in-Empties.x Emptying) q.0 c.in-Empties.x c.args.parts.now.turn c.args.parts.now.objects c.begin_kids.new.self c.args.parts.now.callers.items c.wait-in-Empties.new.callers.items
     (rw c.in-Empties.is at (c.requires.whole q.0 q.1)) c.begin_kids.ensures.begins (c.wait-in-Empties.ensures.waits q.0 q.1) c.begin_kids.ensures.at_work)
 
-pub returns-in-AsksTime-clause-along : goal.returns-in-AsksTime-clause-along
-returns-in-AsksTime-clause-along c = λ q e.
-    rw c.in-AsksTime.is (time-asked c.args.parts.now.callers.items c.args.parts.now.turn c.args.parts.now.objects q c.ask_time.new.now (c.ask_time.ensures q e) (rw c.in-AsksTime.is at (c.requires.whole q e))).along
+pub returns-in-Asks-clause-along : goal.returns-in-Asks-clause-along
+returns-in-Asks-clause-along c = λ q e.
+    rw c.in-Asks.is (reaches-out c.args.parts.now.callers.items c.args.parts.now.turn c.args.parts.now.objects c.in-Asks.question q c.ask_outside.new.now (c.ask_outside.ensures q e) (rw c.in-Asks.is at c.requires.room) (rw c.in-Asks.is at (c.requires.whole q e))).0
 
-pub returns-in-AsksTime-clause-ready : goal.returns-in-AsksTime-clause-ready
-returns-in-AsksTime-clause-ready c =
+pub returns-in-Asks-clause-ready : goal.returns-in-Asks-clause-ready
+returns-in-Asks-clause-ready c =
     let q = open_question c.args.now.now c.requires.asks in
-    (time-asked c.args.parts.now.callers.items c.args.parts.now.turn c.args.parts.now.objects q.0 c.ask_time.new.now (c.ask_time.ensures q.0 q.1) (rw c.in-AsksTime.is at (c.requires.whole q.0 q.1))).ready
+    (reaches-out c.args.parts.now.callers.items c.args.parts.now.turn c.args.parts.now.objects c.in-Asks.question q.0 c.ask_outside.new.now (c.ask_outside.ensures q.0 q.1) (rw c.in-Asks.is at c.requires.room) (rw c.in-Asks.is at (c.requires.whole q.0 q.1))).1
 
 pub begin_turn-requires-clause-whole : goal.begin_turn-requires-clause-whole
 begin_turn-requires-clause-whole c = λ q e. rw c.in-Turns.is at (c.requires.whole q e)

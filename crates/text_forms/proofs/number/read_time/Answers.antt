@@ -1,5 +1,7 @@
-use Rattle.text_forms.proofs.Fields.{time_read}
+use Rattle.std.proofs.Common.{sym, ◌∙◌}
+use Rattle.tree_specs.specs.Calls.Spelling.Numeral.{Time}
+use Rattle.text_forms.proofs.Fields.{numeral_read}
 use Rattle.text_forms.proofs.number.read_time.Goals as goal
 
 pub returns : goal.returns
-returns c = time_read c.time_value.result c.args.text.now c.time_value.ensures
+returns c = numeral_read Time c.args.text.now c.in_ok-number_value.field-0 c.as_time.result (sym c.number_value.ensures ∙ c.in_ok-number_value.was) c.as_time.ensures

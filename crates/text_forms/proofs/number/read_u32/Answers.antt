@@ -1,5 +1,7 @@
-use Rattle.text_forms.proofs.Fields.{number32_read}
+use Rattle.std.proofs.Common.{sym, ◌∙◌}
+use Rattle.tree_specs.specs.Calls.Spelling.Numeral.{Number32}
+use Rattle.text_forms.proofs.Fields.{numeral_read}
 use Rattle.text_forms.proofs.number.read_u32.Goals as goal
 
 pub returns : goal.returns
-returns c = number32_read c.number32_value.result c.args.text.now c.number32_value.ensures
+returns c = numeral_read Number32 c.args.text.now c.in_ok-number_value.field-0 c.as_u32.result (sym c.number_value.ensures ∙ c.in_ok-number_value.was) c.as_u32.ensures

@@ -1,10 +1,11 @@
 use Rattle.std.proofs.Common.{None}
 use Rattle.step_machine.specs.Noted.{with_note}
 use Rattle.tree_specs.specs.declared.frame.CallFrame.TheVariants.{Asking}
-use Rattle.tree_specs.specs.declared.frame.Frame.TheVariants.{Call, Free, Turn}
+use Rattle.tree_specs.specs.declared.frame.Frame.TheVariants.{Call, Free, Turn, Outside}
 use Rattle.tree_specs.specs.declared.frame.FreeFrame.TheVariants.{Beginning, Unlinking, Looping}
 use Rattle.tree_specs.specs.declared.frame.Purpose.TheVariants.{Emptying}
-use Rattle.tree_specs.specs.declared.frame.TurnFrame.TheVariants.{Taking, Reading}
+use Rattle.tree_specs.specs.declared.frame.OutsideFrame.TheVariants.{Reaching}
+use Rattle.tree_specs.specs.declared.frame.TurnFrame.TheVariants.{Taking}
 use Rattle.tree_specs.proofs.Rules.Means.{run-means}
 use Rattle.tree_specs.proofs.Rules.MidStories.{not-short-equal, innermost-enough, innermost-more}
 use Rattle.tree_specs.proofs.machine.the_machine_tells_the_text.Goals as goal
@@ -21,8 +22,8 @@ returns-clause-children c = λ n x p is h. not-short-equal _ _ h (run-means n (w
 pub returns-clause-turn : goal.returns-clause-turn
 returns-clause-turn c = λ n p is h. not-short-equal _ _ h (run-means n (with_note None (Turn Taking)) p is)
 
-pub returns-clause-time : goal.returns-clause-time
-returns-clause-time c = λ n p is h. not-short-equal _ _ h (run-means n (with_note None (Turn Reading)) p is)
+pub returns-clause-outside : goal.returns-clause-outside
+returns-clause-outside c = λ n q p is h. not-short-equal _ _ h (run-means n (with_note None (Outside (Reaching q))) p is)
 
 pub returns-clause-enough : goal.returns-clause-enough
 returns-clause-enough c = λ v is h. innermost-enough v is h

@@ -1,6 +1,15 @@
-use Rattle.std.proofs.Common.{refl}
-use Rattle.object_pool.proofs.HandlerMaps.{none_listed}
+use Rattle.std.proofs.Common.{◌∙◌, refl}
+use Rattle.object_pool.proofs.NumberMaps.{none_listed, put_listed}
 use Rattle.object_pool.proofs.events.Events.new.Goals as goal
 
 pub returns : goal.returns
-returns c = rw (c.new.ensures.soon, c.new.ensures.times, none_listed c.new-2.result.pairs c.new-2.ensures.empty) refl
+returns c =
+    rw (
+      c.new.ensures.soon,
+      c.new.ensures.times,
+      c.new.ensures.ring,
+      none_listed c.new-2.result.pairs c.new-2.ensures.empty,
+      c.put.ensures,
+      put_listed c.reserve.new.self.pairs 0 tt,
+      none_listed c.reserve.new.self.pairs (c.reserve.ensures.pairs ∙ c.new-descriptors.ensures.empty),
+    ) refl

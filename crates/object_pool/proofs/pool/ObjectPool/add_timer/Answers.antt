@@ -9,6 +9,7 @@ use Rattle.object_pool.specs.Objects.{Objects}
 use Rattle.object_pool.specs.Upcoming.{AllNumbered}
 use Rattle.object_pool.proofs.Keeping.{spent, waits, never}
 use Rattle.object_pool.proofs.Numbers.{numbered-later, numbered-disarmed, numbered-armed, unnumbered}
+use Rattle.object_pool.proofs.Watchers.{watchers-later}
 use Rattle.object_pool.proofs.pool.ObjectPool.add_timer.Goals as goal
 
 pub arm-requires-clause-place : goal.arm-requires-clause-place
@@ -32,6 +33,7 @@ invariant_of-self c =
     waits (record c.self.inside { tree = c.add-timer.new.self; sums = c.count_added.new.sums; places = false; ready = false }) c.arm.new.self
     (rw c.arm.ensures
     (numbered-armed _ dues c.add-timer.result c.args.time c.add-timer.result.0 (omega (arith, n, number)) (numbered-later _ _ dues (omega (arith, n)) c.self.invariant.numbers)))
+    (rw c.arm.ensures (watchers-later _ _ c.self.inside.events.upcoming.ring (omega (arith, n)) c.self.invariant.watchers))
     (spent c.self.inside c.add-timer.new.self c.self.inside.refs c.count_added.new.sums false never
     (ap (λ (o : Objects). o.ready) c.self.view_is ∙ c.requires.ready) (omega (arith, n)) (omega (arith, more)) c.add-timer.ensures.works
     (subst (AreRefsOf c.self.inside.refs.pairs) (sym e) (refs-added c.self.inside.refs.pairs c.self.inside.tree.rows (record { 0 = c.self.inside.tree.next }) Timer c.args.owner 0 c.fixed.result fresh refl c.self.invariant.references))

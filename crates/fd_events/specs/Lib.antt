@@ -1,0 +1,2 @@
+pub mod Rotation
+pub mod Linked

@@ -1,0 +1,12 @@
+//! The events on descriptors (`tevent_add_fd`), in the rotation in which a loop looks at them.
+#![tactic(auto)]
+
+mod lane;
+mod node;
+mod ready;
+mod ring;
+#[cfg(test)]
+mod tests;
+
+pub use ready::ReadyEvent;
+pub use ring::Ring;

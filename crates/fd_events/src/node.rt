@@ -1,0 +1,82 @@
+ghost use Rattle.std.specs.Prelude.{◌≡◌, ℕ, cond, nat_eq};
+ghost use Rattle.std.specs.Option.{option_map};
+ghost use Rattle.std.specs.FinMap as map;
+ghost use Rattle.linked_lanes.specs.Lane.{is_at};
+ghost use Rattle.linked_lanes.specs.Chain.{noted};
+ghost use Rattle.linked_lanes.specs.declared.Sides.{Sides as SidesData};
+ghost use Rattle.fd_events.specs.Linked.{sides_at, watch_at, watching, with_flags, with_closing};
+
+use linked_lanes::{Link, Sides};
+use pool_arena::Arena;
+use tree_specs::{Obj, Watch};
+
+/// How an event watches, and its neighbours in the rotation.
+#[derive(Clone, Copy)]
+pub(crate) struct Node {
+    pub fd: u32,
+    pub flags: u32,
+    pub closes: bool,
+    pub sides: Sides,
+}
+
+impl Node {
+    /// How the event watches that has this under its number.
+    pub(crate) fn watch(self, x: Obj) -> Watch
+        ensures { result ≡ watching x.0 self }
+    {
+        Watch {
+            object: x,
+            fd: self.fd,
+            flags: self.flags,
+            closes: self.closes,
+        }
+    }
+}
+
+/// An event has another neighbour. Nothing changes where none is given, or where that one doesn't watch.
+pub(crate) fn set_link(nodes: &mut Arena<Node>, at: Option<u64>, link: Link)
+    ensures sides { (q : ℕ) → sides_at nodes.new.pairs q ≡ cond (is_at at q) (option_map (noted link) (sides_at nodes.old.pairs q)) (sides_at nodes.old.pairs q) }
+    ensures watches { (q : ℕ) → watch_at nodes.new.pairs q ≡ watch_at nodes.old.pairs q }
+    ensures len { map.len nodes.new.pairs ≡ map.len nodes.old.pairs }
+    ensures spare { nodes.new.spare ≡ nodes.old.spare }
+{
+    if let Some(x) = at
+        && let Some(node) = nodes.get_mut(x)
+    {
+        node.sides.note(link);
+    }
+}
+
+/// An event has these neighbours. Nothing changes where it doesn't watch.
+pub(crate) fn set_sides(nodes: &mut Arena<Node>, x: u64, sides: Sides)
+    ensures sides { (q : ℕ) → sides_at nodes.new.pairs q ≡ cond (nat_eq x q) (option_map (λ (_ : SidesData). sides) (sides_at nodes.old.pairs q)) (sides_at nodes.old.pairs q) }
+    ensures watches { (q : ℕ) → watch_at nodes.new.pairs q ≡ watch_at nodes.old.pairs q }
+    ensures len { map.len nodes.new.pairs ≡ map.len nodes.old.pairs }
+    ensures spare { nodes.new.spare ≡ nodes.old.spare }
+{
+    if let Some(node) = nodes.get_mut(x) {
+        node.sides = sides;
+    }
+}
+
+/// An event is watched for something else. Nothing changes where it doesn't watch.
+pub(crate) fn set_flags(nodes: &mut Arena<Node>, x: u64, flags: u32)
+    ensures nodes { (q : ℕ) → map.get nodes.new.pairs q ≡ cond (nat_eq x q) (option_map (with_flags flags) (map.get nodes.old.pairs q)) (map.get nodes.old.pairs q) }
+    ensures len { map.len nodes.new.pairs ≡ map.len nodes.old.pairs }
+    ensures spare { nodes.new.spare ≡ nodes.old.spare }
+{
+    if let Some(node) = nodes.get_mut(x) {
+        node.flags = flags;
+    }
+}
+
+/// The descriptor of an event is closed with it. Nothing changes where it doesn't watch.
+pub(crate) fn set_closing(nodes: &mut Arena<Node>, x: u64)
+    ensures nodes { (q : ℕ) → map.get nodes.new.pairs q ≡ cond (nat_eq x q) (option_map with_closing (map.get nodes.old.pairs q)) (map.get nodes.old.pairs q) }
+    ensures len { map.len nodes.new.pairs ≡ map.len nodes.old.pairs }
+    ensures spare { nodes.new.spare ≡ nodes.old.spare }
+{
+    if let Some(node) = nodes.get_mut(x) {
+        node.closes = true;
+    }
+}

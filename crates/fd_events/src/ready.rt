@@ -1,0 +1,27 @@
+ghost use Rattle.std.specs.Prelude.{◌≡◌, true};
+ghost use Rattle.tree_specs.specs.Words.Wants.{rises};
+ghost use Rattle.tree_specs.specs.Events.Rotation.{ready_for as ready_for_in};
+
+use tree_specs::{Obj, Want};
+
+/// An event that comes, since its descriptor is ready.
+#[derive(Clone, Copy, Debug, PartialEq, Eq)]
+pub struct ReadyEvent {
+    /// The event.
+    pub object: Obj,
+    /// What it is watched for and its descriptor is ready for: 1 for reading (`TEVENT_FD_READ`), 2 for writing
+    /// (`TEVENT_FD_WRITE`), 3 for both.
+    pub flags: u32,
+}
+
+/// What a descriptor is ready for, and 0 where it isn't named. The descriptors rise.
+pub(crate) fn ready_for(list: &[Want], fd: u32) -> u32
+    requires { rises list.now ≡ true }
+    ensures { result ≡ ready_for_in list.now fd }
+{
+    let at = list.partition_point(|want| want.fd < fd);
+    match list.get(at) {
+        Some(want) if want.fd == fd => want.flags,
+        _ => 0,
+    }
+}

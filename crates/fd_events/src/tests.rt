@@ -1,0 +1,280 @@
+ghost use Rattle.std.specs.Prelude.{◌+◌, ◌≤◌, ◌<◌, IfOk};
+
+use crate::{ReadyEvent, Ring};
+use std::alloc::Global;
+use std::test::Fail;
+use tree_specs::{Obj, Want, Wants, Watch};
+
+// No events, with room for so many.
+fn with_room(alloc: Global, room: usize) -> Result<Ring, Fail>
+    ensures { IfOk result (λ ring. room ≤ ring.spare) }
+{
+    let mut ring = Ring::new(alloc);
+    ring.reserve(room)?;
+    Ok(ring)
+}
+
+// An event watches a descriptor, in room that is there. Answers whether both were free; if not, nothing changes.
+fn add(ring: &mut Ring, x: u64, fd: u32, flags: u32) -> bool
+    requires { 0 < ring.old.spare }
+    ensures { ring.old.spare ≤ ring.new.spare + 1 }
+{
+    let free = ring.watch(Obj(x)).is_none() && ring.holder(fd).is_none();
+    if free {
+        ring.add(Obj(x), fd, flags);
+    }
+    free
+}
+
+// An event is watched for something else. Answers whether it watches; if not, nothing changes.
+fn set_flags(ring: &mut Ring, x: u64, flags: u32) -> bool
+    ensures { ring.old.spare ≤ ring.new.spare }
+{
+    let watching = ring.flags(Obj(x)).is_some();
+    ring.set_flags(Obj(x), flags);
+    watching
+}
+
+// The descriptor of an event is closed with it. Answers whether it watches; if not, nothing changes.
+fn set_closing(ring: &mut Ring, x: u64) -> bool
+    ensures { ring.old.spare ≤ ring.new.spare }
+{
+    let watching = ring.flags(Obj(x)).is_some();
+    ring.set_closing(Obj(x));
+    watching
+}
+
+// Whether it is told so of an event.
+fn is_watch(told: Option<Watch>, x: u64, fd: u32, flags: u32, closes: bool) -> bool {
+    match told {
+        None => false,
+        Some(w) => (w.object.0 == x) & (w.fd == fd) & (w.flags == flags) & (w.closes == closes),
+    }
+}
+
+// The number of an event, 0 where there is none.
+fn number(x: Option<Obj>) -> u64 {
+    match x {
+        None => 0,
+        Some(x) => x.0,
+    }
+}
+
+// What an event is watched for, 4 where it watches nothing.
+fn flags(ring: &Ring, x: u64) -> u32 {
+    match ring.flags(Obj(x)) {
+        None => 4,
+        Some(flags) => flags,
+    }
+}
+
+// Two descriptors, the lesser first, and what they are ready for.
+fn two(alloc: Global, first: Want, second: Want) -> Result<Vec<Want>, Fail> {
+    Ok(vec![in alloc; first, second]?)
+}
+
+// The first event that comes where these are ready, 10 times its number, and what for; 0 where none comes.
+fn first_ready(ring: &Ring, ready: &Wants) -> u64 {
+    match ring.first_ready(ready) {
+        None => 0,
+        Some(ReadyEvent { object, flags }) => object
+            .0
+            .wrapping_mul(10)
+            .wrapping_add(u64::from(flags)),
+    }
+}
+
+// The same where two descriptors are ready, and 0 too where the second isn't the greater.
+fn first_of_two(alloc: Global, ring: &Ring, first: Want, second: Want) -> Result<u64, Fail> {
+    Ok(match Wants::make(two(alloc, first, second)?) {
+        None => 0,
+        Some(wants) => first_ready(ring, &wants),
+    })
+}
+
+// Three events: 7 watches 40 for reading, 3 watches 9 for nothing, and 5 watches 2 for both. Answers whether all do.
+fn three(ring: &mut Ring) -> bool
+    requires { 3 ≤ ring.old.spare }
+{
+    let first = add(ring, 7, 40, 1);
+    let second = add(ring, 3, 9, 0);
+    let third = add(ring, 5, 2, 3);
+    first & second & third
+}
+
+// What is told of the three events.
+fn is_told(ring: &Ring) -> bool {
+    let first = is_watch(ring.first(), 7, 40, 1, false);
+    let second = is_watch(ring.watch(Obj(3)), 3, 9, 0, false);
+    let flags = (flags(ring, 5) == 3) & (flags(ring, 6) == 4);
+    let holders = (number(ring.holder(2)) == 5) & (number(ring.holder(3)) == 0);
+    first & second & flags & holders & (ring.len() == 3)
+}
+
+#[test]
+fn each_event_watches_as_it_was_told(rt: HostRuntime) -> Result<(), Fail> {
+    let mut ring = with_room(rt.alloc(), 3)?;
+    assert!(rt; ring.is_empty());
+    assert!(rt; three(&mut ring));
+    assert!(rt; is_told(&ring));
+    Ok(())
+}
+
+// What is told once two of the three are changed, and one goes to the end.
+fn is_changed(ring: &mut Ring) -> bool {
+    let flagged = set_flags(ring, 3, 2);
+    let closing = set_closing(ring, 7);
+    let absent = set_flags(ring, 4, 1);
+    ring.turn_back(Obj(7));
+    let first = is_watch(ring.first(), 3, 9, 2, false);
+    flagged & closing & !absent & first & (flags(ring, 5) == 3)
+}
+
+// What is told of one of the three that goes.
+fn is_removed(ring: &mut Ring) -> bool {
+    let removed = is_watch(ring.remove(Obj(7)), 7, 40, 1, true);
+    let again = ring.remove(Obj(7)).is_some();
+    removed & !again & (number(ring.holder(40)) == 0) & (ring.len() == 2)
+}
+
+#[test]
+fn what_is_changed_of_one_leaves_the_others(rt: HostRuntime) -> Result<(), Fail> {
+    let mut ring = with_room(rt.alloc(), 3)?;
+    assert!(rt; three(&mut ring));
+    assert!(rt; is_changed(&mut ring));
+    assert!(rt; is_removed(&mut ring));
+    Ok(())
+}
+
+#[test]
+fn the_first_that_is_ready_comes(rt: HostRuntime) -> Result<(), Fail> {
+    let mut ring = with_room(rt.alloc(), 3)?;
+    three(&mut ring);
+    let read = first_of_two(
+        rt.alloc(),
+        &ring,
+        Want { fd: 2, flags: 2 },
+        Want { fd: 40, flags: 3 },
+    )?;
+    let written = first_of_two(
+        rt.alloc(),
+        &ring,
+        Want { fd: 2, flags: 2 },
+        Want { fd: 40, flags: 2 },
+    )?;
+    let others = first_of_two(
+        rt.alloc(),
+        &ring,
+        Want { fd: 9, flags: 3 },
+        Want { fd: 41, flags: 1 },
+    )?;
+    ring.turn_back(Obj(7));
+    let again = first_of_two(
+        rt.alloc(),
+        &ring,
+        Want { fd: 2, flags: 3 },
+        Want { fd: 40, flags: 3 },
+    )?;
+    assert!(rt; (read == 71) & (written == 52) & (others == 0) & (again == 53));
+    Ok(())
+}
+
+// The descriptors that are wanted, in their order, each after 100 times those before it.
+fn wanted(ring: &Ring, out: &mut Vec<Want>) -> Result<u64, Fail> {
+    ring.wants(out)?;
+    let mut sum: u64 = 0;
+    for want in &*out {
+        sum = sum.wrapping_mul(100).wrapping_add(u64::from(want.fd));
+    }
+    Ok(sum)
+}
+
+#[test]
+fn wants_stand_in_the_order_of_the_rotation(rt: HostRuntime) -> Result<(), Fail> {
+    let mut ring = with_room(rt.alloc(), 3)?;
+    three(&mut ring);
+    let mut out = Vec::new(rt.alloc());
+    let before = wanted(&ring, &mut out)?;
+    ring.turn_back(Obj(7));
+    let after = wanted(&ring, &mut out)?;
+    assert!(rt; (before == 4_002) & (after == 240));
+    Ok(())
+}
+
+#[test]
+fn running_out_of_memory_leaves_them_as_they_were(rt: HostRuntime) -> Result<(), Fail> {
+    let mut ring = with_room(rt.alloc(), 3)?;
+    three(&mut ring);
+    assert!(rt; ring.reserve(usize::MAX).is_err());
+    assert!(rt; is_told(&ring));
+    Ok(())
+}
+
+// The events from 1 to `count` watch the descriptors from 0 up, in room that is there. Answers whether all were free.
+fn add_all(ring: &mut Ring, count: u32) -> bool
+    requires { count ≤ ring.old.spare }
+{
+    let mut free = true;
+    for fd in 0..count {
+        free &= add(ring, u64::from(fd) + 1, fd, 1);
+    }
+    free
+}
+
+// The event x leaves, which watches the descriptor below it. Answers whether that is told.
+fn remove(ring: &mut Ring, x: u32) -> bool
+    requires { 0 < x }
+{
+    is_watch(
+        ring.remove(Obj(u64::from(x))),
+        u64::from(x),
+        x - 1,
+        1,
+        false,
+    )
+}
+
+// The events from 2 to 2 * `half` - 1 leave, from the middle outward, and the event 1 goes to the end after each pair.
+// Answers whether each watched as it was told.
+fn remove_outward(ring: &mut Ring, half: u32) -> bool
+    requires some { 0 < half }
+    requires few { half ≤ 1000000 }
+{
+    let mut as_told = true;
+    for step in 0..half - 1 {
+        as_told &= remove(ring, half - step);
+        as_told &= remove(ring, half + 1 + step);
+        ring.turn_back(Obj(1));
+    }
+    as_told
+}
+
+#[test]
+fn many_leave_from_the_middle_outward(rt: HostRuntime) -> Result<(), Fail> {
+    let mut ring = with_room(rt.alloc(), 1_000_000)?;
+    assert!(rt; add_all(&mut ring, 1_000_000));
+    let last = first_of_two(
+        rt.alloc(),
+        &ring,
+        Want {
+            fd: 999_999,
+            flags: 1,
+        },
+        Want {
+            fd: 1_000_000,
+            flags: 1,
+        },
+    )?;
+    let removed = remove_outward(&mut ring, 500_000);
+    let both = first_of_two(
+        rt.alloc(),
+        &ring,
+        Want { fd: 0, flags: 1 },
+        Want {
+            fd: 999_999,
+            flags: 1,
+        },
+    )?;
+    assert!(rt; (last == 10_000_001) & removed & (ring.len() == 2) & (both == 10_000_001));
+    Ok(())
+}

@@ -1,0 +1,8 @@
+use tree_specs::Reply;
+
+/// A reply that owns memory, as a report and bytes do, with a copy where a routine is to remember it.
+#[derive(Debug, Drop)]
+pub struct OwnedReply {
+    pub reply: Reply,
+    pub copy: Option<Reply>,
+}

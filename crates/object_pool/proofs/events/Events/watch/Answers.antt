@@ -1,0 +1,6 @@
+use Rattle.std.proofs.Common.{refl}
+use Rattle.object_pool.proofs.NumberMaps.{put_listed}
+use Rattle.object_pool.proofs.events.Events.watch.Goals as goal
+
+pub returns : goal.returns
+returns c = rw (← c.self.view_is, c.add.ensures.watches, c.put.ensures, put_listed c.self.inside.handlers.pairs c.args.x.0 c.args.handler) refl

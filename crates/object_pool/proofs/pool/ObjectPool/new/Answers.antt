@@ -1,0 +1,19 @@
+use Rattle.std.proofs.Common.{refl, ap, arith}
+use Rattle.tree_specs.specs.Tree.Pool.{Pool}
+use Rattle.object_pool.proofs.Keeping.{never}
+use Rattle.object_pool.proofs.pool.ObjectPool.new.Goals as goal
+
+pub invariant_of-result : goal.invariant_of-result
+invariant_of-result c =
+    let rows = ap (λ (p : Pool). p.rows) c.new-3.ensures.rows in
+    record {
+      references = rw (c.new-4.ensures, rows) (λ r. refl);
+      limits = rw (c.new-5.ensures, rows) (record { limits = λ x. refl; bound = tt; sums = tt });
+      kept = rw c.new-2.ensures c.new-3.ensures.works;
+      room = rw (c.new-2.ensures, c.new-3.ensures.works) (omega arith);
+      numbers = rw c.in_ok-events.ensures tt;
+      watchers = rw c.in_ok-events.ensures tt;
+      call = never;
+      placed = never;
+      places = never;
+    }

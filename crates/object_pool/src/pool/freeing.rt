@@ -1,0 +1,134 @@
+//! Frees on the objects: their beginnings, and what comes next of the innermost one.
+ghost use Rattle.std.specs.Prelude.{◌≡◌, ◌∷◌, List, true, None, is_some, slice_get};
+ghost use Rattle.tree_specs.specs.declared.watch.Watch.{Watch as WatchData};
+ghost use Rattle.tree_specs.specs.declared.frame.FreeFrame.TheVariants.{Unlinking, Beginning, Looping};
+ghost use Rattle.tree_specs.specs.declared.frame.Purpose.TheVariants.{Emptying};
+ghost use Rattle.tree_specs.specs.Tree.Pool.{target_at};
+ghost use Rattle.tree_specs.specs.Tree.Targets.{newest_ref};
+ghost use Rattle.tree_specs.specs.Machine.Table.{event_of};
+ghost use Rattle.destructors.specs.Frees.{next_of, is_event, returned, speaking, Begins, Steps};
+ghost use Rattle.destructors.specs.Works.{IsAtWork, IsAwaiting, GoesOn};
+ghost use Rattle.destructors.specs.Moves.{IsLiveRow};
+ghost use Rattle.destructors.specs.Engine.{IsAsked};
+ghost use Rattle.object_pool.specs.Objects.{frees_in, LeavesRest};
+ghost use Rattle.object_pool.specs.Upcoming.{closed_of};
+
+use crate::counting::count_step;
+use crate::pool::ObjectPool;
+use tree_specs::{Event, FreeStep, Obj, Owner};
+
+/// What comes next of a free: the step, and the event that is told of it, if there is one.
+#[derive(Debug, Drop)]
+pub struct Progress {
+    pub step: FreeStep,
+    pub event: Option<Event>,
+}
+
+/// The event that is told of a step of a free which has closed this descriptor, or none.
+#[tactic(auto, using(crate::proofs::Announcing::closed_told))]
+fn event(step: FreeStep, closed: Option<u32>) -> Option<Event>
+    ensures { (ring : List WatchData) → closed ≡ closed_of ring step → result ≡ event_of ring step }
+{
+    match step {
+        FreeStep::Dropped { reference, target } => Some(Event::Unreferenced { reference, target }),
+        FreeStep::Refused { object, answer } => Some(Event::Refused { object, answer }),
+        FreeStep::Accepted(object) => Some(Event::Accepted(object)),
+        FreeStep::Moved { object, owner, .. } => Some(Event::Moved { object, owner }),
+        FreeStep::Gone { object, hook } => Some(Event::Freed { object, hook }),
+        FreeStep::Doom(_) | FreeStep::Left { .. } => closed.map(Event::Closed),
+        FreeStep::Ask(_) | FreeStep::Done(_) => None,
+    }
+}
+
+impl ObjectPool {
+    /// Begins the freeing of an object to which there is no reference.
+    pub fn begin_free(&mut self, x: Obj)
+        requires ready { self.old.ready ≡ true }
+        requires awaiting { IsAwaiting (frees_in self.old) }
+        requires object { target_at self.old.pool.rows x ≡ None }
+        requires unheld { newest_ref self.old.pool.rows x ≡ None }
+        ensures begins { Begins (Beginning x ∷ self.old.works) self.old.pool (frees_in self.new) }
+        ensures at_work { IsAtWork (frees_in self.new) }
+        ensures rest { LeavesRest self.old self.new }
+    {
+        self.ready = false;
+        self.engine.begin_free(&mut self.tree, &mut self.refs, x);
+    }
+
+    /// Begins to take the interest of an owner in an object away.
+    pub fn begin_unlink(&mut self, owner: Owner, x: Obj)
+        requires ready { self.old.ready ≡ true }
+        requires awaiting { IsAwaiting (frees_in self.old) }
+        requires live { IsLiveRow self.old.pool x }
+        requires object { target_at self.old.pool.rows x ≡ None }
+        ensures begins { Begins (Unlinking owner x ∷ self.old.works) self.old.pool (frees_in self.new) }
+        ensures at_work { IsAtWork (frees_in self.new) }
+        ensures rest { LeavesRest self.old self.new }
+    {
+        self.ready = false;
+        self.engine
+            .begin_unlink(&mut self.tree, &mut self.refs, owner, x);
+    }
+
+    /// Begins the freeing of an object's children. The object itself stays.
+    pub fn begin_kids(&mut self, x: Obj)
+        requires ready { self.old.ready ≡ true }
+        requires awaiting { IsAwaiting (frees_in self.old) }
+        ensures begins { Begins (Looping x Emptying ∷ self.old.works) self.old.pool (frees_in self.new) }
+        ensures at_work { IsAtWork (frees_in self.new) }
+        ensures rest { LeavesRest self.old self.new }
+    {
+        self.ready = false;
+        self.engine.begin_kids(&mut self.tree, &mut self.refs, x);
+    }
+
+    /// The destructor that the innermost free waits for has returned a number.
+    pub fn answer(&mut self, value: u32)
+        requires asked { IsAsked (slice_get self.old.works 0) }
+        requires awaiting { IsAwaiting (frees_in self.old) }
+        ensures returned { self.new ≡ record self.old { works = returned value (frees_in self.old) } }
+        ensures settles { speaking (frees_in self.new) ≡ true }
+        ensures at_work { IsAtWork (frees_in self.new) }
+    {
+        self.engine.answer(&self.tree, value);
+    }
+
+    /// Whether a free is open.
+    pub fn is_freeing(&self) -> bool
+        ensures { result ≡ is_some (slice_get self.now.works 0) }
+    {
+        self.engine.is_open()
+    }
+
+    /// Whether the next step of the innermost free tells an event.
+    pub fn announces(&self) -> bool
+        requires { speaking (frees_in self.now) ≡ true }
+        ensures { result ≡ is_event self.now.pool.ring (next_of (frees_in self.now)).0 }
+    {
+        match self.engine.lets_go(&self.tree, &self.refs) {
+            Some(x) => self.events.closes_with(x).is_some(),
+            None => self.engine.announces(&self.tree, &self.refs),
+        }
+    }
+
+    /// What comes next of the innermost free.
+    pub fn step(&mut self) -> Progress
+        requires at_work { IsAtWork (frees_in self.old) }
+        requires settled { speaking (frees_in self.old) ≡ true }
+        ensures steps { Steps (frees_in self.old) result.step (frees_in self.new) }
+        ensures goes_on { GoesOn result.step (frees_in self.new) }
+        ensures told { result.event ≡ event_of self.old.pool.ring result.step }
+        ensures rest { LeavesRest self.old self.new }
+    {
+        // All that is wanted of `len` is its contract: the objects are a forest.
+        let _rows = self.tree.len();
+        self.ready = false;
+        let step = self.engine.step(&mut self.tree, &mut self.refs);
+        count_step(&step, &self.tree, &mut self.sums);
+        let closed = self.events.follow(step);
+        Progress {
+            step,
+            event: event(step, closed),
+        }
+    }
+}

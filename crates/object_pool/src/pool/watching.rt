@@ -1,0 +1,99 @@
+//! Events on descriptors, and the descriptors that are open.
+ghost use Rattle.std.specs.Prelude.{◌≡◌, ◌-◌, ◌^◌, ◌<◌, true, false, [], OnOk, OnErr, length};
+ghost use Rattle.tree_specs.specs.Tree.Pool.{is_owner, rewatch, open_descriptor, close_descriptor};
+ghost use Rattle.tree_specs.specs.Events.Rotation.{is_watched, flags_of, flagged, closing, wanted_of};
+ghost use Rattle.tree_specs.specs.Calls.Refusals.{is_open, row_limit};
+ghost use Rattle.tree_specs.specs.Calls.Plans.{adds_descriptor, changed_by};
+
+use crate::counting::count_added;
+use crate::pool::ObjectPool;
+use tree_links::NewRow;
+use tree_specs::{Handler, Kind, Memory, Name, Obj, Owner, Want};
+
+impl ObjectPool {
+    /// Adds an event on a descriptor as the newest child of an owner, and gives its number. It waits for these flags (1 for
+    /// reading, 2 for writing), and this handler is to run when the descriptor is ready for one of them. It is looked at after
+    /// all others.
+    pub fn add_descriptor(&mut self, owner: Owner, fd: u32, flags: u32, handler: Handler) -> Obj
+        requires ready { self.old.ready ≡ true }
+        requires few { length self.old.pool.rows < row_limit }
+        requires numbered { self.old.pool.next < 2 ^ 64 - 1 }
+        requires owner { is_owner self.old.pool.rows owner ≡ true }
+        requires unwatched { is_watched self.old.pool.ring fd ≡ false }
+        ensures serial { result ≡ record { 0 = self.old.pool.next } }
+        ensures added { self.new ≡ record self.old { pool = changed_by (adds_descriptor self.old.pool owner fd flags handler) self.old.pool; ready = false } }
+    {
+        self.ready = false;
+        self.places = false;
+        let event = NewRow {
+            kind: Kind::Descriptor,
+            name: Name::fixed(b"fd"),
+            size: 0,
+        };
+        let event = self.tree.add(event, owner);
+        count_added(event, &self.tree, &mut self.sums);
+        self.events.watch(event, fd, flags, handler);
+        event
+    }
+
+    /// What an event on a descriptor waits for. None exactly where it watches nothing.
+    pub fn flags(&self, x: Obj) -> Option<u32>
+        ensures { result ≡ flags_of self.now.pool.ring x }
+    {
+        self.events.flags(x)
+    }
+
+    /// An event on a descriptor waits for these flags from now on. Nothing changes where it watches nothing.
+    pub fn set_flags(&mut self, x: Obj, flags: u32)
+        ensures { self.new ≡ record self.old { pool = rewatch self.old.pool x (flagged flags) } }
+    {
+        self.events.set_flags(x, flags);
+    }
+
+    /// The descriptor of an event is closed with it. Nothing changes where it watches nothing.
+    pub fn set_closing(&mut self, x: Obj)
+        ensures { self.new ≡ record self.old { pool = rewatch self.old.pool x closing } }
+    {
+        self.events.set_closing(x);
+    }
+
+    /// Whether an event watches a descriptor.
+    pub fn is_watched(&self, fd: u32) -> bool
+        ensures { result ≡ is_watched self.now.pool.ring fd }
+    {
+        self.events.is_watched(fd)
+    }
+
+    /// The descriptors that are watched for something, and what for, in the order in which they are looked at, in place of
+    /// what was there. After want of memory nothing is given.
+    pub fn wants(&self, out: &mut Vec<Want>) -> Result<(), Memory>
+        ensures wants { OnOk result (out.new.items ≡ wanted_of self.now.pool.ring) }
+        ensures nothing { OnErr result (out.new.items ≡ []) }
+    {
+        self.events.wants(out)
+    }
+
+    /// Whether a descriptor is open.
+    pub fn is_open(&self, fd: u32) -> bool
+        ensures { result ≡ is_open self.now.pool fd }
+    {
+        self.events.is_open(fd)
+    }
+
+    /// A descriptor is open from now on.
+    pub fn open(&mut self, fd: u32)
+        requires { self.old.ready ≡ true }
+        ensures { self.new ≡ record self.old { pool = open_descriptor self.old.pool fd; ready = false } }
+    {
+        self.ready = false;
+        self.places = false;
+        self.events.open(fd);
+    }
+
+    /// A descriptor is open no more.
+    pub fn close(&mut self, fd: u32)
+        ensures { self.new ≡ record self.old { pool = close_descriptor self.old.pool fd } }
+    {
+        self.events.close(fd);
+    }
+}

@@ -1,0 +1,225 @@
+-- A turn replies 0 exactly where nothing came.
+use Rattle.std.proofs.Common.{◌≡◌, ℕ, suc, zero, ◌≤◌, ◌-◌, List, [], ◌∷◌, ◌++◌, Option, Some, None, Bool, true, false, nat_eq, nat_le, if◌then◌else◌, is_some, refl, sym, ap, subst, arith}
+use Rattle.std.proofs.lemmas.Bool.Decides.{nat_tests}
+use Rattle.step_machine.specs.Machine.{tell, followed}
+use Rattle.step_machine.specs.Machine.Outcome.{Ended, Stray}
+use Rattle.step_machine.proofs.Uses.{ended-tell, ended-followed}
+use Rattle.tree_specs.specs.declared.object.Obj.{Obj}
+use Rattle.tree_specs.specs.declared.due.Due.{Due}
+use Rattle.tree_specs.specs.declared.handler.Handler.{Handler}
+use Rattle.tree_specs.specs.declared.occasion.Occasion.{Occasion}
+use Rattle.tree_specs.specs.declared.moment.What.{What}
+use Rattle.tree_specs.specs.declared.moment.What.TheVariants.{Immediate as ForImmediate, Timer as ForTimer, Descriptor as ForDescriptor}
+use Rattle.tree_specs.specs.declared.row.Mark.TheVariants as mark
+use Rattle.tree_specs.specs.declared.event.Event.TheVariants.{Fired}
+use Rattle.tree_specs.specs.declared.question.Ask.TheVariants as ask
+use Rattle.tree_specs.specs.declared.question.Input.{Input}
+use Rattle.tree_specs.specs.declared.question.Input.TheVariants.{Clock, Ready as IsReady}
+use Rattle.tree_specs.specs.declared.wants.Want.{Want}
+use Rattle.tree_specs.specs.Words.Ranges.{is_time}
+use Rattle.tree_specs.specs.Words.Wants.{is_wants}
+use Rattle.tree_specs.specs.Tree.Pool.{Pool, set_mark, unschedule, disarm}
+use Rattle.tree_specs.specs.Events.Pending.{first}
+use Rattle.tree_specs.specs.Events.Rotation.{Ready, first_ready}
+use Rattle.tree_specs.specs.Events.Coming.{wait_limit, handler_for, handler_moment, at_time, with_flags, plainly, begun, goes_after, looks_again}
+use Rattle.tree_specs.specs.Rules.Items.Item.{Told, Asked}
+use Rattle.tree_specs.specs.Rules.Sequence.{Work, Scene}
+use Rattle.tree_specs.specs.Rules.Story.{free, asked, taking, timing, timed, polling, starting, firing, handling, handled, closing}
+use Rattle.tree_specs.specs.Promises.Idle.{IsEarly, NobodyReady, NothingCame, Untimed, Unwatched, Early}
+use Rattle.tree_specs.proofs.Tree.Numbered.{by_test}
+use Rattle.tree_specs.proofs.Rules.Lawful.{scene_of}
+
+-- ---- an event that comes is replied to by 1
+
+closing-ends : (n w : ℕ) (p : Pool) (is : List Input) (v : ℕ) (q : Pool) (told : List Scene) (left : List Input) → closing n w p is ≡ Ended v q told left → (v ≡ w) × (is ≡ left)
+closing-ends zero w p is v q told left e = cc
+closing-ends (suc n) w p is v q told left e = let e' : Ended w p [] is ≡ Ended v q told left = e in (cc, cc)
+
+handled-one : (n : ℕ) (what : What) (x : Obj) (p : Pool) (is : List Input) (v : ℕ) (q : Pool) (told : List Scene) (left : List Input) → handled n what x p is ≡ Ended v q told left → v ≡ 1
+handled-one zero what x p is v q told left e = cc
+handled-one (suc n) what x p is v q told left e = by_test (goes_after p what x)
+    (λ t.
+    let e' : followed (free n x (set_mark p x mark.Quiet) is) (λ a. closing n 1) ≡ Ended v q told left = rw t at e in
+    let w = ended-followed (free n x (set_mark p x mark.Quiet) is) (λ a. closing n 1) v q told left e' in
+    (closing-ends n 1 w.1 w.4 v q w.3 left w.6).0)
+    (λ t. let e' : closing n 1 (set_mark p x mark.Quiet) is ≡ Ended v q told left = rw t at e in (closing-ends n 1 (set_mark p x mark.Quiet) is v q told left e').0)
+
+handling-one : (n : ℕ) (what : What) (x : Obj) (h : Handler) (o : Occasion) (p : Pool) (is : List Input) (v : ℕ) (q : Pool) (told : List Scene) (left : List Input)
+    → handling n what x h o p is ≡ Ended v q told left → v ≡ 1
+handling-one zero what x h o p is v q told left e = cc
+handling-one (suc n) what x h o p is v q told left e =
+    let w = ended-followed (asked n (ask.Routine (handler_moment what x h o)) p is) (λ a. handled n what x) v q told left e in
+    handled-one n what x w.1 w.4 v q w.3 left w.6
+
+firing-one : (n : ℕ) (what : What) (x : Obj) (h : Handler) (o : Occasion) (p : Pool) (is : List Input) (v : ℕ) (q : Pool) (told : List Scene) (left : List Input)
+    → firing n what x h o p is ≡ Ended v q told left → v ≡ 1
+firing-one zero what x h o p is v q told left e = cc
+firing-one (suc n) what x h o p is v q told left e =
+    let w = ended-tell (scene_of (Told (Fired what x h.routine)) p) (handling n what x h o p is) v q told left e in
+    handling-one n what x h o p is v q w.0 left w.1
+
+starting-one : (n : ℕ) (what : What) (x : Obj) (o : Occasion) (p : Pool) (is : List Input) (v : ℕ) (q : Pool) (told : List Scene) (left : List Input)
+    → starting n what x o p is ≡ Ended v q told left → v ≡ 1
+starting-one zero what x o p is v q told left e = cc
+starting-one (suc n) what x o p is v q told left e = each (handler_for p what x) refl
+  where
+    each : (h : Option Handler) → handler_for p what x ≡ h → v ≡ 1
+    each None k = let e' : closing n 1 p is ≡ Ended v q told left = rw k at e in (closing-ends n 1 p is v q told left e').0
+    each (Some h) k = let e' : firing n what x h o (begun what x p) is ≡ Ended v q told left = rw k at e in firing-one n what x h o (begun what x p) is v q told left e'
+
+-- ---- how the works that ask end
+
+-- after a wait
+data Polls (p : Pool) (is : List Input) (v : ℕ) (q : Pool) (left : List Input) : Type 0 where
+  LooksAgain : (m : ℕ) (rest : List Input) (us : List Scene) → is ≡ IsReady [] ∷ rest → is_some (first p.times) ≡ true → timing m true p rest ≡ Ended v q us left → Polls p is v q left
+  Nobody : (ready : List Want) → is ≡ IsReady ready ∷ left → NobodyReady p ready → looks_again p ready ≡ false → Polls p is v q left
+  Somebody : v ≡ 1 → Polls p is v q left
+
+polls : (n limit : ℕ) (p : Pool) (is : List Input) (v : ℕ) (q : Pool) (told : List Scene) (left : List Input) → polling n limit p is ≡ Ended v q told left → Polls p is v q left
+polls zero limit p is v q told left e = cc
+polls (suc n) limit p [] v q told left e = cc
+polls (suc n) limit p (IsReady wants ∷ is) v q told left e = by_test (is_wants wants)
+    (λ t. by_test (looks_again p wants) (again wants t e) (λ l. ready wants t l e (first_ready p.ring wants) refl))
+    (λ t. let bad : Stray (s ∷ []) ≡ Ended v q told left = rw t at e in cc)
+  where
+    s : Scene
+    s = scene_of (Asked (ask.Wait limit)) p
+
+    Goes : List Want → Type 0
+    Goes wants = polling (suc n) limit p (IsReady wants ∷ is) ≡ Ended v q told left
+
+    again : (wants : List Want) → is_wants wants ≡ true → Goes wants → looks_again p wants ≡ true → Polls p (IsReady wants ∷ is) v q left
+    again [] t e l =
+        let e' : tell s (timing n true p is) ≡ Ended v q told left = rw l at e in
+        let w = ended-tell s (timing n true p is) v q told left e' in
+        LooksAgain n is w.0 refl l w.1
+    again (w ∷ ws) t e l = cc
+
+    ready : (wants : List Want) → is_wants wants ≡ true → looks_again p wants ≡ false → Goes wants → (o : Option Ready) → first_ready p.ring wants ≡ o → Polls p (IsReady wants ∷ is) v q left
+    ready wants t l e None k =
+        let e' : tell s (closing n 0 p is) ≡ Ended v q told left = rw (t, l, k) at e in
+        let w = ended-tell s (closing n 0 p is) v q told left e' in
+        Nobody wants (ap (λ (js : List Input). IsReady wants ∷ js) (closing-ends n 0 p is v q w.0 left w.1).1) (record { sound = t; none = k }) l
+    ready wants t l e (Some r) k =
+        let o : Occasion = with_flags r.flags in
+        let e' : tell s (starting n ForDescriptor r.object o p is) ≡ Ended v q told left = rw (t, l, k) at e in
+        let w = ended-tell s (starting n ForDescriptor r.object o p is) v q told left e' in
+        Somebody (starting-one n ForDescriptor r.object o p is v q w.0 left w.1)
+polls (suc n) limit p (_ ∷ is) v q told left e = cc
+
+-- what follows where the first time has not come
+abbrev after_early : ℕ → Bool → ℕ → Work ℕ
+after_early n again limit = if again then closing n 0 else polling n limit
+
+-- after the clock was asked
+data Times (d : Due) (again : Bool) (p : Pool) (is : List Input) (v : ℕ) (q : Pool) (left : List Input) : Type 0 where
+  Earlier : (now m : ℕ) (rest : List Input) (us : List Scene) → is ≡ Clock now ∷ rest → IsEarly d now → after_early m again (d.time - now) p rest ≡ Ended v q us left → Times d again p is v q left
+  Came : v ≡ 1 → Times d again p is v q left
+
+timed-ends : (n : ℕ) (d : Due) (again : Bool) (now : ℕ) (p : Pool) (is : List Input) (v : ℕ) (q : Pool) (told : List Scene) (left : List Input) → first p.times ≡ Some d → is_time now ≡ true
+    → timed n again now p is ≡ Ended v q told left → Times d again p (Clock now ∷ is) v q left
+timed-ends zero d again now p is v q told left f time e = cc
+timed-ends (suc n) d again now p is v q told left f time e = by_test (nat_le d.time now)
+    (λ t. let e' : starting n ForTimer d.object (at_time now) (disarm p d.object) is ≡ Ended v q told left = rw (f, t) at e in
+    Came (starting-one n ForTimer d.object (at_time now) (disarm p d.object) is v q told left e'))
+    (λ t. let e' : after_early n again (d.time - now) p is ≡ Ended v q told left = rw (f, t) at e in
+    Earlier now n is told refl (record { time = grind (arith, nat_tests); before = grind (arith, nat_tests) }) e')
+
+times : (n : ℕ) (d : Due) (again : Bool) (p : Pool) (is : List Input) (v : ℕ) (q : Pool) (told : List Scene) (left : List Input) → first p.times ≡ Some d
+    → timing n again p is ≡ Ended v q told left → Times d again p is v q left
+times zero d again p is v q told left f e = cc
+times (suc n) d again p [] v q told left f e = cc
+times (suc n) d again p (Clock now ∷ is) v q told left f e =
+    let s : Scene = scene_of (Asked ask.Clock) p in
+    by_test (is_time now)
+    (λ t.
+    let e' : tell s (timed n again now p is) ≡ Ended v q told left = rw t at e in
+    let w = ended-tell s (timed n again now p is) v q told left e' in
+    timed-ends n d again now p is v q w.0 left f t w.1)
+    (λ t. let bad : Stray (s ∷ []) ≡ Ended v q told left = rw t at e in cc)
+times (suc n) d again p (_ ∷ is) v q told left f e = cc
+
+-- ---- a turn that replies 0
+
+abbrev Idle : Pool → List Input → List Input → Type 0
+Idle p is left = (used : List Input) × (used ++ left ≡ is) × NothingCame p used
+
+not-one : {A : Type 0} → ◌≡◌ {A = ℕ} 0 1 → A
+not-one e = absurd (omega (arith, e))
+
+-- no event has a time
+untimed : (p q : Pool) (is left : List Input) → first p.soon ≡ None → first p.times ≡ None → Polls p is 0 q left → Idle p is left
+untimed p q is left soon none (LooksAgain m rest us e some k) = let bad : false ≡ true = rw none at some in cc
+untimed p q is left soon none (Nobody ready e nobody l) = (IsReady ready ∷ [], sym e, Untimed ready soon none nobody)
+untimed p q is left soon none (Somebody e) = not-one e
+
+-- the first time hasn't come
+module _ (d : Due) (p q : Pool) (left : List Input) (soon : first p.soon ≡ None) (due : first p.times ≡ Some d) (now : ℕ) (early : IsEarly d now) where
+  waited : (is : List Input) → Polls p is 0 q left → Idle p (Clock now ∷ is) left
+  waited is (LooksAgain m rest us e some k) = again (times m d true p rest 0 q us left due k)
+    where
+      again : Times d true p rest 0 q left → Idle p (Clock now ∷ is) left
+      again (Earlier later m rest' us i before k) =
+          let over : rest' ≡ left = (closing-ends m 0 p rest' 0 q us left k).1 in
+          let used : Clock now ∷ IsReady [] ∷ Clock later ∷ left ≡ Clock now ∷ is = rw (e, i, over) refl in
+          (Clock now ∷ IsReady [] ∷ Clock later ∷ [], used, Early d now later soon due early before)
+      again (Came e) = not-one e
+  waited is (Nobody [] e nobody l) = let bad : true ≡ false = rw due at l in cc
+  waited is (Nobody (w ∷ ready) e nobody l) =
+      (Clock now ∷ IsReady (w ∷ ready) ∷ [], ap (λ (js : List Input). Clock now ∷ js) (sym e), Unwatched d now w ready soon due early nobody)
+  waited is (Somebody e) = not-one e
+
+pub idle-cause : (n : ℕ) (p q : Pool) (is left : List Input) (told : List Scene) → taking n p is ≡ Ended 0 q told left → Idle p is left
+idle-cause zero p q is left told e = cc
+idle-cause (suc n) p q is left told e = soonest (first p.soon) refl
+  where
+    timed-first : (d : Due) → first p.soon ≡ None → first p.times ≡ Some d → Times d false p is 0 q left → Idle p is left
+    timed-first d soon due (Earlier now m rest us i early k) = subst (λ (js : List Input). Idle p js left) (sym i) (waited d p q left soon due now early rest (polls m (d.time - now) p rest 0 q us left k))
+    timed-first d soon due (Came e) = not-one e
+
+    earliest : first p.soon ≡ None → (o : Option Due) → first p.times ≡ o → Idle p is left
+    earliest soon None k = untimed p q is left soon k (polls n wait_limit p is 0 q told left (rw (soon, k) at e))
+    earliest soon (Some d) k = by_test (nat_eq d.time 0)
+        (λ t. not-one (starting-one n ForTimer d.object (at_time 0) (disarm p d.object) is 0 q told left (rw (soon, k, t) at e)))
+        (λ t. timed-first d soon k (times n d false p is 0 q told left k (rw (soon, k, t) at e)))
+
+    soonest : (o : Option Obj) → first p.soon ≡ o → Idle p is left
+    soonest None k = earliest k (first p.times) refl
+    soonest (Some x) k = not-one (starting-one n ForImmediate x plainly (unschedule p x) is 0 q told left (rw k at e))
+
+-- ---- where nothing came a turn replies 0
+
+-- as many turns as a wait and two looks at the clock take
+abbrev seven : ℕ → ℕ
+seven n = suc (suc (suc (suc (suc (suc (suc n))))))
+
+abbrev Replies0 : ℕ → Pool → List Input → List Input → Type 0
+Replies0 n p is left = (q : Pool) × (told : List Scene) × (taking n p is ≡ Ended 0 q told left)
+
+early-tests : (d : Due) (now : ℕ) → IsEarly d now → (nat_eq d.time 0 ≡ false) × (is_time now ≡ true) × (nat_le d.time now ≡ false)
+early-tests d now early = let a = early.time in let b = early.before in (grind (arith, nat_tests), grind (arith, nat_tests), grind (arith, nat_tests))
+
+replies : (n : ℕ) (p : Pool) (used left : List Input) → NothingCame p used → Replies0 (seven n) p (used ++ left) left
+replies n p _ left (Untimed ready soon none nobody) = each ready nobody
+  where
+    each : (ready : List Want) → NobodyReady p ready → Replies0 (seven n) p (IsReady ready ∷ left) left
+    each [] nobody =
+        let once : looks_again p [] ≡ false = rw none refl in
+        (p, scene_of (Asked (ask.Wait wait_limit)) p ∷ [], rw (soon, none, once, nobody.none) refl)
+    each (w ∷ ws) nobody = (p, scene_of (Asked (ask.Wait wait_limit)) p ∷ [], rw (soon, none, nobody.sound, nobody.none) refl)
+replies n p _ left (Unwatched d now w ready soon due early nobody) =
+    let t = early-tests d now early in
+    (p, scene_of (Asked ask.Clock) p ∷ scene_of (Asked (ask.Wait (d.time - now))) p ∷ [], rw (soon, due, t.0, t.1, due, t.2, nobody.sound, nobody.none) refl)
+replies n p _ left (Early d now later soon due early before) =
+    let t = early-tests d now early in
+    let u = early-tests d later before in
+    let twice : looks_again p [] ≡ true = rw due refl in (
+      p,
+      scene_of (Asked ask.Clock) p ∷ scene_of (Asked (ask.Wait (d.time - now))) p ∷ scene_of (Asked ask.Clock) p ∷ [],
+      rw (soon, due, t.0, t.1, due, t.2, twice, u.1, due, u.2) refl,
+    )
+
+pub idle-replies : (p : Pool) (used left : List Input) (n : ℕ) → NothingCame p used → 8 ≤ n → Replies0 n p (used ++ left) left
+idle-replies p used left n came enough =
+    let e : n ≡ seven (n - 7) = omega arith in
+    subst (λ (m : ℕ). Replies0 m p (used ++ left) left) (sym e) (replies (n - 7) p used left came)

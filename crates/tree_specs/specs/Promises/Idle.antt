@@ -1,0 +1,30 @@
+-- A turn in which nothing came: what was to come before it, and what it was told.
+use Rattle.std.specs.Prelude.{◌≡◌, ℕ, ◌<◌, ◌≤◌, true, List, [], ◌∷◌, Some, None}
+use Rattle.tree_specs.specs.declared.bounds.TheConstants.{TIME_LIMIT}
+use Rattle.tree_specs.specs.declared.due.Due.{Due}
+use Rattle.tree_specs.specs.declared.question.Input.{Input}
+use Rattle.tree_specs.specs.declared.question.Input.TheVariants.{Clock, Ready}
+use Rattle.tree_specs.specs.declared.wants.Want.{Want}
+use Rattle.tree_specs.specs.Words.Wants.{is_wants}
+use Rattle.tree_specs.specs.Events.Pending.{first}
+use Rattle.tree_specs.specs.Events.Rotation.{first_ready}
+use Rattle.tree_specs.specs.Tree.Pool.{Pool}
+
+-- the clock tells a time at which this one has not come
+pub record IsEarly (d : Due) (now : ℕ) : Type 0 where
+  pub time : now ≤ TIME_LIMIT
+  pub before : now < d.time
+
+-- no event waits for what these descriptors are ready for
+pub record NobodyReady (p : Pool) (ready : List Want) : Type 0 where
+  pub sound : is_wants ready ≡ true
+  pub none : first_ready p.ring ready ≡ None
+
+-- Nothing was to come soon, and these inputs brought nothing.
+pub data NothingCame (p : Pool) : List Input → Type 0 where
+  -- no event has a time
+  Untimed : (ready : List Want) → first p.soon ≡ None → first p.times ≡ None → NobodyReady p ready → NothingCame p (Ready ready ∷ [])
+  -- the first time has not come, and then some descriptors are ready
+  Unwatched : (d : Due) (now : ℕ) (w : Want) (ready : List Want) → first p.soon ≡ None → first p.times ≡ Some d → IsEarly d now → NobodyReady p (w ∷ ready) → NothingCame p (Clock now ∷ Ready (w ∷ ready) ∷ [])
+  -- the first time has not come after a wait either, in which no descriptor was ready
+  Early : (d : Due) (now later : ℕ) → first p.soon ≡ None → first p.times ≡ Some d → IsEarly d now → IsEarly d later → NothingCame p (Clock now ∷ Ready [] ∷ Clock later ∷ [])

@@ -1,0 +1,10 @@
+use crate::object::Obj;
+
+/// What a call tells before its reply.
+#[derive(Clone, Copy, Debug, PartialEq, Eq)]
+pub enum Notice {
+    /// This object, which has references, was given to another owner.
+    Warned(Obj),
+    /// This descriptor was closed.
+    Closed(u32),
+}
