@@ -1,6 +1,6 @@
--- Where no object has a destructor, and no call asks for the time or is a turn, nothing is asked but the next call.
-use Rattle.std.proofs.Common.{◌≡◌, ℕ, suc, zero, nat_eq, Bool, true, List, [], ◌∷◌, length, Option, Some, None, refl, sym, subst, map, ap, ◌∙◌, arith}
-use Rattle.step_machine.specs.Machine.{Outcome, tell, tells, followed, items as told_by}
+-- Where no object has a destructor, and no call asks for anything, nothing is asked but the next call.
+use Rattle.std.proofs.Common.{◌≡◌, ℕ, suc, zero, Bool, true, false, List, [], ◌∷◌, length, Option, Some, None, refl, sym, subst, map, ap, ◌∙◌, arith}
+use Rattle.step_machine.specs.Machine.{Outcome, tell, tells, followed, is_stray, items as told_by}
 use Rattle.step_machine.specs.Machine.Outcome.{Ended, Waits, Stray, Short}
 use Rattle.step_machine.proofs.Ends.{NotShort}
 use Rattle.tree_specs.specs.declared.object.Obj.{Obj}
@@ -10,7 +10,8 @@ use Rattle.tree_specs.specs.declared.row.Row.{Row}
 use Rattle.tree_specs.specs.declared.row.Mark.{Mark}
 use Rattle.tree_specs.specs.declared.row.Mark.TheVariants as mark
 use Rattle.tree_specs.specs.declared.call.Call.{Call}
-use Rattle.tree_specs.specs.declared.event.Event.TheVariants.{Replied, Moved, Warned, Freed, Unreferenced}
+use Rattle.tree_specs.specs.declared.event.Event.TheVariants.{Freed, Closed}
+use Rattle.tree_specs.specs.declared.notice.Notice.{Notice}
 use Rattle.tree_specs.specs.declared.question.Ask.{Ask}
 use Rattle.tree_specs.specs.declared.question.Ask.TheVariants.{Quiet}
 use Rattle.tree_specs.specs.declared.question.Input.{Input}
@@ -21,15 +22,16 @@ use Rattle.tree_specs.specs.declared.free_step.FreeReply.{FreeReply}
 use Rattle.tree_specs.specs.declared.free_step.FreeReply.TheVariants as free_reply
 use Rattle.tree_specs.specs.Tree.Targets.{newest_ref}
 use Rattle.tree_specs.specs.Tree.Pool.{Pool, empty, row_of, is_below, owner_of, newest_ref_of, target_at, noted_owner, is_inside, first_kid, detach, remove, doom, place, left_row, marked_row}
+use Rattle.tree_specs.specs.Events.Rotation.{closes_with}
 use Rattle.tree_specs.specs.Tree.Heirs.{heir}
 use Rattle.tree_specs.specs.Words.Ranges.{is_sound_call}
 use Rattle.tree_specs.specs.Rules.Items.{Item}
 use Rattle.tree_specs.specs.Rules.Items.Item.{Told, Asked}
 use Rattle.tree_specs.specs.Rules.Sequence.{Work, Scene, CallStart, gives}
 use Rattle.tree_specs.specs.Rules.Answers.{freed_reply}
-use Rattle.tree_specs.specs.Rules.Story.{unlink, release, given, free, dooming, leave, children, tried, hand_on, hand_on_after, effect, numbered, turned, asked, acting, reading, taking, warning, telling, turns, story, items}
-use Rattle.tree_specs.specs.Calls.Plans.{Plan, planned, warned_by, changed_by}
-use Rattle.tree_specs.specs.Calls.Plans.Plan.{Does, Frees, Unlinks, Empties, AsksTime, Turns}
+use Rattle.tree_specs.specs.Rules.Story.{unlink, release, given, free, dooming, leave, lets_go, children, tried, hand_on, effect, turned, asked, acting, reaching, taking, announcing, telling, turns, outcome, story, items}
+use Rattle.tree_specs.specs.Calls.Plans.{Plan, planned, notice_of}
+use Rattle.tree_specs.specs.Calls.Plans.Plan.{Does, Frees, Unlinks}
 use Rattle.tree_specs.specs.Texts.Schedule.{open_question}
 use Rattle.tree_specs.proofs.Tree.Numbered.{by_test}
 use Rattle.tree_specs.proofs.Rules.StoryLaws.{story-enough}
@@ -61,6 +63,14 @@ followed-stays is (Waits ts) k s more = absurd s
 followed-stays is (Stray ts) k s more = absurd s
 followed-stays is Short k s more = tt
 
+-- an object is let go of: what is told of its descriptor asks nothing
+lets-go : (x : Obj) (f : Pool → Pool) (p : Pool) (is : List Input) → Unhooked (f p).rows → Stays is (lets_go x f p is)
+lets-go x f p is h = each (closes_with p.ring x) refl
+  where
+    each : (o : Option ℕ) → closes_with p.ring x ≡ o → Stays is (lets_go x f p is)
+    each None e = rw e (h, refl)
+    each (Some fd) e = rw e (h, refl)
+
 -- with so many turns
 record SilentAt (n : ℕ) : Type 0 where
   frees : (x : Obj) → IsSilent (free n x)
@@ -78,7 +88,8 @@ frees-more n ih x p is h = newest (newest_ref p.rows x) refl
     marks : newest_ref p.rows x ≡ None → (r : Row) (m : Mark) → r.mark ≡ m → row_of p.rows x ≡ Some r → Stays is (free (suc n) x p is)
     marks z r mark.Quiet m k = let e : r.hook ≡ 0 = unhooked-row p.rows x r k h in rw (z, k, m, e) (ih.leaves x p is h)
     marks z r mark.Asked m k = rw (z, k, m) (h, refl)
-    marks z r mark.Busy m k = rw (z, k, m) (ih.dooms x (doom p x) is (unhooked-changed (marked_row mark.Doomed) p.rows x (λ s e. e) h))
+    marks z r mark.Busy m k = rw (z, k, m)
+        (followed-stays is (lets_go x (λ q. doom q x) p is) (λ done. dooming n x) (lets-go x (λ q. doom q x) p is (unhooked-changed (marked_row mark.Doomed) p.rows x (λ s e. e) h)) (λ done. ih.dooms x))
     marks z r mark.Doomed m k = rw (z, k, m) (h, refl)
     marks z r (mark.Dying former) m k = rw (z, k, m) (h, refl)
 
@@ -94,9 +105,11 @@ frees-more n ih x p is h = newest (newest_ref p.rows x) refl
 
 leaves-more : (n : ℕ) → SilentAt n → (x : Obj) → IsSilent (leave (suc n) x 0)
 leaves-more n ih x p is h =
-    followed-stays is (children n x (detach p x) is) (λ a q left. tell (record { item = Told (Freed x 0); before = q; about = None }) (Ended free_reply.Ok (remove q x) [] left))
-    (ih.empties x (detach p x) is (unhooked-changed left_row p.rows x (λ s e. e) h))
-    (λ a q left k. (unhooked-without q.rows x k, refl))
+    followed-stays is (lets_go x (λ q. detach q x) p is) (λ done q left. followed (children n x q left) gone) (lets-go x (λ q. detach q x) p is (unhooked-changed left_row p.rows x (λ s e. e) h))
+    (λ done q left u. followed-stays left (children n x q left) gone (ih.empties x q left u) (λ a r last k. (unhooked-without r.rows x k, refl)))
+  where
+    gone : Unit {0} → Work FreeReply
+    gone a q left = tell (record { item = Told (Freed x 0); before = q; about = None }) (Ended free_reply.Ok (remove q x) [] left)
 
 empties-more : (n : ℕ) → SilentAt n → (x : Obj) → IsSilent (children (suc n) x)
 empties-more n ih x p is h = kids (first_kid p.rows (Of x)) refl
@@ -161,13 +174,11 @@ silent (suc n) = record {
   hands = hands-more n (silent n);
 }
 
-effect-silent : (n : ℕ) (w : Plan) (time turn : Work Reply) → IsCalm w → IsSilent (effect (free n) (unlink n) (children n) time turn w)
-effect-silent n (Does c warned r) time turn calm p is h = (calm p h, refl)
-effect-silent n (Frees x) time turn calm p is h = followed-stays is (free n x p is) (λ answer. gives (freed_reply x answer)) ((silent n).frees x p is h) (λ answer q left k. (k, refl))
-effect-silent n (Unlinks o x) time turn calm p is h = followed-stays is (unlink n o x p is) (λ answer. gives (freed_reply x answer)) ((silent n).unlinks o x p is h) (λ answer q left k. (k, refl))
-effect-silent n (Empties x) time turn calm p is h = followed-stays is (children n x p is) (λ a. gives reply.Ok) ((silent n).empties x p is h) (λ a q left k. (k, refl))
-effect-silent n AsksTime time turn calm p is h = absurd calm
-effect-silent n Turns time turn calm p is h = absurd calm
+effect-silent : (n : ℕ) (w : Plan) (reach : Ask → Work Reply) (turn : Work Reply) → IsCalm w → IsSilent (effect (free n) (unlink n) (children n) reach turn w)
+effect-silent n (Does c notice r) reach turn calm p is h = (calm p h, refl)
+effect-silent n (Frees x) reach turn calm p is h = followed-stays is (free n x p is) (λ answer. gives (freed_reply x answer)) ((silent n).frees x p is h) (λ answer q left k. (k, refl))
+effect-silent n (Unlinks o x) reach turn calm p is h = followed-stays is (unlink n o x p is) (λ answer. gives (freed_reply x answer)) ((silent n).unlinks o x p is h) (λ answer q left k. (k, refl))
+effect-silent n _ reach turn calm p is h = absurd calm
 
 -- ---- call after call
 
@@ -209,7 +220,7 @@ record AwaitsAt (n : ℕ) : Type 0 where
   asks : (p : Pool) (is : List Input) → Unhooked p.rows → AreCalls is → AwaitsCall (asked n Quiet p is)
   acts : (c : Call) → is_calm c ≡ true → (p : Pool) (is : List Input) → Unhooked p.rows → AreCalls is → AwaitsCall (acting n Quiet c p is)
   tells : (about : Option CallStart) (r : Reply) (p : Pool) (is : List Input) → Unhooked p.rows → AreCalls is → AwaitsCall (telling n about Quiet r p is)
-  warns : (about : Option CallStart) (x : Obj) (r : Reply) (p : Pool) (is : List Input) → Unhooked p.rows → AreCalls is → AwaitsCall (warning n about Quiet x r p is)
+  announces : (about : Option CallStart) (notice : Notice) (r : Reply) (p : Pool) (is : List Input) → Unhooked p.rows → AreCalls is → AwaitsCall (announcing n about Quiet notice r p is)
 
 asks-more : (n : ℕ) → AwaitsAt n → (p : Pool) (is : List Input) → Unhooked p.rows → AreCalls is → AwaitsCall (asked (suc n) Quiet p is)
 unfolding open_question
@@ -218,40 +229,41 @@ asks-more n ih p (inputs.Call c ∷ is) h a = rw a.0 (tell-awaits _ (acting n Qu
 asks-more n ih p (_ ∷ is) h a = absurd a
 
 acts-more : (n : ℕ) → AwaitsAt n → (c : Call) → is_calm c ≡ true → (p : Pool) (is : List Input) → Unhooked p.rows → AreCalls is → AwaitsCall (acting (suc n) Quiet c p is)
-acts-more n ih c e p is h a = each (planned p c) refl (warned_by (planned p c)) refl
+acts-more n ih c e p is h a = each (notice_of (planned p c)) refl
   where
-    time : Work Reply
-    time = numbered (reading n)
-
     turn : Work Reply
     turn = turned Quiet (taking n)
 
-    each : (w : Plan) → planned p c ≡ w → (warned : Option Obj) → warned_by (planned p c) ≡ warned → AwaitsCall (acting (suc n) Quiet c p is)
-    each w s None k = rw k (followed-awaits is (effect (free n) (unlink n) (children n) time turn (planned p c) p is) (λ r. telling n (Some (record { call = c; start = p })) Quiet r)
-        (effect-silent n (planned p c) time turn (calm-planned p c e) p is h) (λ r q u. ih.tells _ r q is u a))
-    each w s (Some x) k = rw k (followed-awaits is (effect (free n) (unlink n) (children n) time turn (planned p c) p is) (λ r. warning n (Some (record { call = c; start = p })) Quiet x r)
-        (effect-silent n (planned p c) time turn (calm-planned p c e) p is h) (λ r q u. ih.warns _ x r q is u a))
+    done : Work Reply
+    done = effect (free n) (unlink n) (children n) (reaching n) turn (planned p c)
+
+    does : Stays is (done p is)
+    does = effect-silent n (planned p c) (reaching n) turn (calm-planned p c e) p is h
+
+    each : (notice : Option Notice) → notice_of (planned p c) ≡ notice → AwaitsCall (acting (suc n) Quiet c p is)
+    each None k = rw k (followed-awaits is (done p is) (λ r. telling n (Some (record { call = c; start = p })) Quiet r) does (λ r q u. ih.tells _ r q is u a))
+    each (Some notice) k = rw k (followed-awaits is (done p is) (λ r. announcing n (Some (record { call = c; start = p })) Quiet notice r) does (λ r q u. ih.announces _ notice r q is u a))
 
 awaits : (n : ℕ) → AwaitsAt n
 awaits zero = record {
   asks = λ p is h a. tt;
   acts = λ c e p is h a. tt;
   tells = λ about r p is h a. tt;
-  warns = λ about x r p is h a. tt;
+  announces = λ about notice r p is h a. tt;
 }
 awaits (suc n) = record {
   asks = asks-more n (awaits n);
   acts = acts-more n (awaits n);
   tells = λ about r p is h a. tell-awaits _ (asked n Quiet p is) ((awaits n).asks p is h a);
-  warns = λ about x r p is h a. tell-awaits _ (telling n about Quiet r p is) ((awaits n).tells about r p is h a);
+  announces = λ about notice r p is h a. tell-awaits _ (telling n about Quiet r p is) ((awaits n).tells about r p is h a);
 }
 
--- the story of calls that give no object a destructor and ask for nothing waits for the next call
-pub story-awaits : (is : List Input) → AreCalls is → open_question (items (story 1 is)) ≡ Some Quiet
+-- the story of calls that give no object a destructor and ask for nothing waits for the next call, and all of them were taken
+pub story-awaits : (is : List Input) → AreCalls is → (open_question (items (story 1 is)) ≡ Some Quiet) × (is_stray (outcome 1 is) ≡ false)
 story-awaits is a = each (asked (turns 0 (length is)) Quiet (empty 1) is) ((awaits (turns 0 (length is))).asks (empty 1) is tt a) (story-enough 1 (turns 0 (length is)) is (omega arith) (omega arith))
   where
-    each : (o : Outcome ℕ Pool Input Scene) → AwaitsCall o → NotShort o → open_question (items (told_by o)) ≡ Some Quiet
+    each : (o : Outcome ℕ Pool Input Scene) → AwaitsCall o → NotShort o → (open_question (items (told_by o)) ≡ Some Quiet) × (is_stray o ≡ false)
     each (Ended v q ts left) h s = absurd h
-    each (Waits ts) h s = h
+    each (Waits ts) h s = (h, refl)
     each (Stray ts) h s = absurd h
     each Short h s = absurd s

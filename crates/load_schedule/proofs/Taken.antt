@@ -21,9 +21,8 @@ use Rattle.tree_specs.specs.Words.Ranges.{is_sound_owner, is_sound_call}
 use Rattle.tree_specs.specs.Calls.Spelling.{Field, spelling}
 use Rattle.tree_specs.specs.Texts.Grammar.{input_of}
 use Rattle.tree_specs.specs.Texts.Text.{field_text, call_text, input_text, newline}
-use Rattle.tree_specs.specs.Texts.Schedule.{Line, lines, lines_of_parts, line_limit, lines_limit, line_input, judged_from, judged_lines, judge, misfit, schedule_header, open_question}
+use Rattle.tree_specs.specs.Texts.Schedule.{Line, lines, lines_of_parts, line_limit, lines_limit, Course, course, once_given, line_input, judged_from, judged_lines, judge, unless_stray, misfit, why_not, schedule_header}
 use Rattle.tree_specs.specs.Texts.Load.{Place, next_state, drawn, kind, makes_object, second_draw, third_draw, owner_drawn, object_drawn, call_drawn, after_call, calls_from, calls_text, first_place, load_calls, load_schedule}
-use Rattle.tree_specs.specs.Rules.Story.{story, items}
 use Rattle.tree_specs.proofs.Tree.Numbered.{by_test}
 use Rattle.text_forms.proofs.Numerals.{decimal_digits}
 use Rattle.text_forms.proofs.Bools.{and_true}
@@ -230,18 +229,21 @@ first-calls [] post a = tt
 first-calls (inputs.Call c ∷ pre) post a = (a.0, a.1, first-calls pre post a.2)
 first-calls (_ ∷ pre) post a = absurd a
 
-misfit-none : (q : Option Ask) (c : Call) → q ≡ Some Quiet → misfit q (inputs.Call c) ≡ None
-misfit-none q c e = rw e refl
+-- a call fits where one is waited for
+call-fits : (k : Course) (c : Call) → k.open_after [] ≡ Some Quiet → k.strays (inputs.Call c ∷ []) ≡ false → why_not k (inputs.Call c) ≡ None
+call-fits k c asks taken =
+    ap (λ (q : Option Ask). unless_stray (misfit q (inputs.Call c)) (k.strays (inputs.Call c ∷ []))) asks ∙ ap (unless_stray None) taken
 
 -- where each time the next call is waited for
-all-taken : (open_after : List Input → Option Ask) (n : ℕ) (cs : List Call) → AllDrawn cs → ((pre post : List Input) → inputs_of_calls cs ≡ pre ++ post → open_after pre ≡ Some Quiet) → n + length cs ≤ suc lines_limit
-    → (judged_from open_after n (map (λ c. ended_line (line_of c)) cs)).refused ≡ None
+all-taken : (k : Course) (n : ℕ) (cs : List Call) → AllDrawn cs → ((pre post : List Input) → inputs_of_calls cs ≡ pre ++ post → (k.open_after pre ≡ Some Quiet) × (k.strays pre ≡ false)) → n + length cs ≤ suc lines_limit
+    → (judged_from k n (map (λ c. ended_line (line_of c)) cs)).refused ≡ None
 unfolding judged_from
-all-taken open_after n [] d awaits few = refl
-all-taken open_after n (c ∷ cs) d awaits few =
-    let fits : line_input n (open_after []) (ended_line (line_of c)) ≡ Ok (inputs.Call c) =
-    input-fits n (open_after []) (line_of c) (inputs.Call c) (line-short c d.0) (omega arith) (line-again c d.0) (misfit-none (open_after []) c (awaits [] (inputs_of_calls (c ∷ cs)) refl)) in
-    rw fits (all-taken (λ more. open_after (inputs.Call c ∷ more)) (n + 1) cs d.1
+all-taken k n [] d awaits few = refl
+all-taken k n (c ∷ cs) d awaits few =
+    let fits : line_input n k (ended_line (line_of c)) ≡ Ok (inputs.Call c) =
+    input-fits n k (line_of c) (inputs.Call c) (line-short c d.0) (omega arith) (line-again c d.0)
+    (call-fits k c (awaits [] (inputs_of_calls (c ∷ cs)) refl).0 (awaits (inputs.Call c ∷ []) (inputs_of_calls cs) refl).1) in
+    rw fits (all-taken (once_given (inputs.Call c) k) (n + 1) cs d.1
     (λ pre post e. awaits (inputs.Call c ∷ pre) post (ap (λ (l : List Input). inputs.Call c ∷ l) e)) (omega arith))
 
 schedule-lines : (cs : List Call) → AllDrawn cs → lines (schedule_header ++ newline ++ calls_text cs) ≡ ended_line schedule_header ∷ map (λ c. ended_line (line_of c)) cs
@@ -254,7 +256,7 @@ unfolding judged_lines
 load-taken number count few =
     let cs : List Call = load_calls number count in
     let d : AllDrawn cs = calls-drawn count (first_place number) in
-    ap (λ (ls : List Line). (judged_lines (λ is. open_question (items (story 1 is))) ls).refused) (schedule-lines cs d)
-    ∙ all-taken (λ is. open_question (items (story 1 is))) 2 cs d
+    ap (λ (ls : List Line). (judged_lines course ls).refused) (schedule-lines cs d)
+    ∙ all-taken course 2 cs d
     (λ pre post e. story-awaits pre (first-calls pre post (subst AreCalls e (are-calls cs d))))
     (omega (arith, calls-counted count (first_place number)))

@@ -1,5 +1,5 @@
 -- Pools in which no object has a destructor.
-use Rattle.std.proofs.Common.{◌≡◌, ℕ, Bool, true, false, nat_eq, List, [], ◌∷◌, Option, Some, None, refl, subst}
+use Rattle.std.proofs.Common.{◌≡◌, Bool, true, false, List, [], ◌∷◌, Option, Some, None, refl, subst}
 use Rattle.tree_specs.specs.declared.object.Obj.{Obj}
 use Rattle.tree_specs.specs.declared.object.Owner.{Owner}
 use Rattle.tree_specs.specs.declared.row.Row.{Row}
@@ -7,10 +7,10 @@ use Rattle.tree_specs.specs.declared.call.Call.{Call}
 use Rattle.tree_specs.specs.declared.call.Call.TheVariants as calls
 use Rattle.tree_specs.specs.Words.Objects.{same}
 use Rattle.tree_specs.specs.Tree.Targets.{newest_ref}
-use Rattle.tree_specs.specs.Tree.Pool.{Pool, row_of, changed, without, in_front, place, named_row, sized_row, limited_row, hooked_row}
+use Rattle.tree_specs.specs.Tree.Pool.{Pool, row_of, changed, without, in_front, place}
 use Rattle.tree_specs.specs.Calls.Refusals.{Check, refusals}
-use Rattle.tree_specs.specs.Calls.Plans.{Plan, plan, planned, gift, handed, frees, changed_by, unless_refused}
-use Rattle.tree_specs.specs.Calls.Plans.Plan.{Does, Frees, Unlinks, Empties, AsksTime, Turns}
+use Rattle.tree_specs.specs.Calls.Plans.{Plan, plan, planned, frees, changed_by, unless_refused}
+use Rattle.tree_specs.specs.Calls.Plans.Plan.{Does, Frees, Unlinks}
 use Rattle.tree_specs.proofs.Tree.Numbered.{by_test}
 
 -- no object has a destructor
@@ -46,28 +46,22 @@ unhooked-place p o x h = unhooked-front (row_of p.rows x) o (without p.rows x) (
 
 -- ---- calls
 
--- the call gives no object a destructor, and neither asks for the time nor is a turn
+-- the calls of which such a schedule is made: they give no object a destructor, and ask for nothing
 abbrev pub is_calm : Call → Bool
-is_calm (calls.Hook x routine) = false
-is_calm calls.Now = false
-is_calm calls.Turn = false
-is_calm _ = true
+is_calm (calls.New o size name) = true
+is_calm (calls.Free x) = true
+is_calm (calls.Steal o x) = true
+is_calm (calls.Reference o x) = true
+is_calm (calls.Unlink o x) = true
+is_calm (calls.Count o) = true
+is_calm _ = false
 
 -- what is done to the rows gives none either, and nothing is asked
 abbrev pub IsCalm : Plan → Type 0
-IsCalm (Does c warned r) = (q : Pool) → Unhooked q.rows → Unhooked (changed_by c q).rows
+IsCalm (Does c notice r) = (q : Pool) → Unhooked q.rows → Unhooked (changed_by c q).rows
 IsCalm (Frees x) = Unit {0}
 IsCalm (Unlinks o x) = Unit {0}
-IsCalm (Empties x) = Unit {0}
-IsCalm AsksTime = ⊥
-IsCalm Turns = ⊥
-
-calm-edit : (f : Row → Row) (x : Obj) → ((r : Row) → r.hook ≡ 0 → (f r).hook ≡ 0) → (q : Pool) → Unhooked q.rows → Unhooked (changed f q.rows x)
-calm-edit f x keeps q h = unhooked-changed f q.rows x keeps h
-
-calm-handed : (to : Owner) (g : Option Obj) (q : Pool) → Unhooked q.rows → Unhooked (changed_by (handed to g) q).rows
-calm-handed to None q h = h
-calm-handed to (Some r) q h = unhooked-place q to r h
+IsCalm _ = ⊥
 
 calm-frees : (r : Option Obj) (x : Obj) → IsCalm (frees r x)
 calm-frees None x = tt
@@ -76,23 +70,11 @@ calm-frees (Some r) x = tt
 calm-plan : (p : Pool) (c : Call) → is_calm c ≡ true → IsCalm (plan p c)
 calm-plan p (calls.New o size name) e = λ q h. (refl, h)
 calm-plan p (calls.Free x) e = calm-frees (newest_ref p.rows x) x
-calm-plan p (calls.Freekids x) e = tt
 calm-plan p (calls.Steal o x) e = λ q h. unhooked-place q o x h
-calm-plan p (calls.Move o x) e = λ q h. unhooked-place q o x h
-calm-plan p (calls.Reparent from to x) e = calm-handed to (gift p from x)
 calm-plan p (calls.Reference o x) e = λ q h. (refl, h)
 calm-plan p (calls.Unlink o x) e = tt
-calm-plan p (calls.Hook x routine) e = cc
-calm-plan p (calls.Unhook x) e = calm-edit (hooked_row 0) x (λ r k. refl)
-calm-plan p (calls.Rename x name) e = calm-edit (named_row name) x (λ r k. k)
-calm-plan p (calls.Resize x size) e = calm-edit (sized_row size) x (λ r k. k)
-calm-plan p (calls.Limit x max) e = calm-edit (limited_row max) x (λ r k. k)
-calm-plan p (calls.Immediate o) e = λ q h. (refl, h)
-calm-plan p (calls.Schedule x routine user) e = by_test (nat_eq routine 0) (λ t. rw t (λ q h. h)) (λ t. rw t (λ q h. h))
-calm-plan p (calls.Timer o time routine user) e = λ q h. (refl, h)
-calm-plan p calls.Now e = cc
-calm-plan p calls.Turn e = cc
-calm-plan p _ e = λ q h. h
+calm-plan p (calls.Count o) e = λ q h. h
+calm-plan p _ e = cc
 
 calm-unless : (checks : Check) (w : Plan) → IsCalm w → IsCalm (unless_refused checks w)
 calm-unless [] w h = h

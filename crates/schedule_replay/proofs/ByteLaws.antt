@@ -11,7 +11,7 @@ use Rattle.tree_specs.specs.Machine.View.{View}
 use Rattle.host_core.specs.Promises.{Waits}
 use Rattle.schedule_replay.specs.declared.stop.Stop.{Stop}
 use Rattle.schedule_replay.specs.declared.stop.Stop.TheVariants as errors
-use Rattle.schedule_replay.specs.Replays.{Replayed, with_front, replayed_from, ended_line, BeginsText, has_no_lf}
+use Rattle.schedule_replay.specs.Replays.{Replayed, with_front, replayed_from, ended_line, BeginsText, has_no_lf, course_of}
 use Rattle.schedule_replay.specs.Readings.{Reading, from_line, with_more, refused_text, RefusesHere, LineDone, TakesLine, Advances, Takes, EndsFront, Finishes, IsBetweenBytes}
 use Rattle.schedule_replay.specs.Cuts.{at_line}
 use Rattle.schedule_replay.proofs.TextLaws.{behind-behind, behind-nil, begins_behind}
@@ -84,7 +84,7 @@ long-refused s w line ls lt = by_test (eqb s.number 1) refl
         from-first s.host s.number (line ∷ ls) one ∙ header-refused s.host line ls (no-header line lt) ∙ rw (over 1, refused-first s one, one) refl
     by_test false h =
         let ne : s.number ≢ 1 = grind (arith, nat_tests) in
-        from-later s.host s.number (line ∷ ls) ne ∙ refuses s.host w s.number line ls Limit (limit-input s.number (Some w.question) line (over s.number)) ∙ rw (refused-later s w ne) refl
+        from-later s.host s.number (line ∷ ls) ne ∙ refuses s.host w s.number line ls Limit (limit-input s.number (course_of s.host) line (over s.number)) ∙ rw (refused-later s w ne) refl
 
 pub long-run : (s : Reading) (run bytes : List ℕ) → IsBetweenBytes s → has_no_lf run ≡ true → line_limit < length s.line + length run → with_more s (run ++ bytes) ≡ record { text = Some (refused_text s); refused = Some (s.number, Limit) }
 long-run s run bytes ready plain long =
@@ -102,7 +102,7 @@ late-refused s w line ls lt =
     let late : ltb lines_limit s.number ≡ true = grind (arith, nat_tests) in
     let over : is_over_limit s.number line ≡ true = rw late (or_true (ltb line_limit (length line.text))) in
     let ne : s.number ≢ 1 = (λ e. absurd (omega arith)) in
-    from-later s.host s.number (line ∷ ls) ne ∙ refuses s.host w s.number line ls Limit (limit-input s.number (Some w.question) line over) ∙ rw (refused-later s w ne) refl
+    from-later s.host s.number (line ∷ ls) ne ∙ refuses s.host w s.number line ls Limit (limit-input s.number (course_of s.host) line over) ∙ rw (refused-later s w ne) refl
   where
     or_true : (b : Bool) → (b || true) ≡ true
     or_true true = refl
@@ -246,7 +246,7 @@ ends-cut s l ready same some =
     by_test cut short low false h =
         let ne : s.number ≢ 1 = grind (arith, nat_tests) in
         from-later s.host s.number ((let z : Line = record { text = cut.text; ended = false } in z) ∷ []) ne
-        ∙ refuses s.host ready.waits s.number (record { text = cut.text; ended = false }) [] Form (cut-input s.number (Some ready.waits.question) cut.text low short)
+        ∙ refuses s.host ready.waits s.number (record { text = cut.text; ended = false }) [] Form (cut-input s.number (course_of s.host) cut.text low short)
         ∙ rw (refused-later s ready.waits ne) refl
 
 pub no-bytes : lines [] ≡ []

@@ -1,5 +1,6 @@
 pub mod LineLaws
 pub mod TextLaws
+pub mod Unanswered
 pub mod ReplayLaws
 pub mod StateLaws
 pub mod ByteLaws

@@ -12,10 +12,10 @@ use Rattle.tree_specs.specs.Rules.Items.{Item}
 use Rattle.tree_specs.specs.Rules.Items.Item.{Told, Asked}
 use Rattle.tree_specs.specs.Texts.Grammar.{input_of}
 use Rattle.tree_specs.specs.Texts.Text.{answered_text, end_text, item_text, body_text, header}
-use Rattle.tree_specs.specs.Texts.Schedule.{Line, Judged, line_input, judged_one, judged_from, open_question, is_over_limit, is_header, header_reason, schedule_header, fitting, misfit, ok_unless, line_limit, lines_limit}
-use Rattle.tree_specs.specs.Machine.View.{View, rest_of}
+use Rattle.tree_specs.specs.Texts.Schedule.{Line, Judged, line_input, Course, once_given, judged_one, judged_from, open_question, is_over_limit, is_header, header_reason, schedule_header, fitting, why_not, ok_unless, line_limit, lines_limit}
+use Rattle.tree_specs.specs.Machine.View.{View, rest_of, strays_of}
 use Rattle.host_core.specs.Promises.{Waits, TakesAnswer}
-use Rattle.schedule_replay.specs.Replays.{with_front, replayed_lines, replayed_all, replayed_from, refused_at_once, ended_line, BeginsText}
+use Rattle.schedule_replay.specs.Replays.{with_front, course_of, replayed_lines, replayed_all, replayed_from, refused_at_once, ended_line, BeginsText}
 use Rattle.schedule_replay.specs.Tellings.{event_texts}
 use Rattle.schedule_replay.proofs.TextLaws.{behind, behind-behind, begins_behind, question-skip, text-skip, last-question, last-text, asked-text, question-after, text-after}
 
@@ -25,6 +25,7 @@ use Rattle.schedule_replay.proofs.TextLaws.{behind, behind-behind, begins_behind
 pub record Answered (v w : View) (i : Input) (events : List Event) : Type 0 where
   pub before : Waits v
   pub goes_on : (is : List Input) → rest_of v (i ∷ is) ≡ Asked before.question ∷ (map Told events ++ rest_of w is)
+  pub strays : (is : List Input) → strays_of v (i ∷ is) ≡ strays_of w is
   pub after : Waits w
 
 question-answered : (v w : View) (i : Input) (events : List Event) (is : List Input) → Answered v w i events → open_question (rest_of v (i ∷ is)) ≡ open_question (rest_of w is)
@@ -53,35 +54,34 @@ text-answered v w i events is a =
     first [] rest = text-skip (Asked a.before.question) (Asked a.after.question) rest
     first (e ∷ events) rest = text-skip (Asked a.before.question) (Told e) (map Told events ++ Asked a.after.question ∷ rest)
 
-open-now : (v : View) (w : Waits v) → open_question (rest_of v []) ≡ Some w.question
+pub open-now : (v : View) (w : Waits v) → open_question (rest_of v []) ≡ Some w.question
 open-now v w = ap open_question w.last ∙ last-question w.question
 
 -- ---- a line that is accepted
 
-judged-ok : (open_after : List Input → Option Ask) (n : ℕ) (line : Line) (rest : List Line) (i : Input) → line_input n (open_after []) line ≡ Ok i
-    → judged_from open_after n (line ∷ rest) ≡ judged_one n (Ok i) (λ i. judged_from (λ more. open_after (i ∷ more)) (n + 1) rest)
+judged-ok : (c : Course) (n : ℕ) (line : Line) (rest : List Line) (i : Input) → line_input n c line ≡ Ok i → judged_from c n (line ∷ rest) ≡ judged_one n (Ok i) (λ i. judged_from (once_given i c) (n + 1) rest)
 unfolding judged_from
-judged-ok open_after n line rest i e = rw e refl
+judged-ok c n line rest i e = rw e refl
 
-judged-same : (f g : List Input → Option Ask) → ((is : List Input) → f is ≡ g is) → (n : ℕ) (ls : List Line) → judged_from f n ls ≡ judged_from g n ls
-judged-same f g h n ls = ap (λ (k : List Input → Option Ask). judged_from k n ls) (λ i is. h is i)
+course-after : (v w : View) (i : Input) (events : List Event) → Answered v w i events → once_given i (course_of v) ≡ course_of w
+course-after v w i events a = λ j. record { open_after = λ is. question-answered v w i events is a j; strays = λ is. a.strays is j }
 
-pub accepts : (v w : View) (n : ℕ) (line : Line) (rest : List Line) (i : Input) (events : List Event) (a : Answered v w i events) → line_input n (Some a.before.question) line ≡ Ok i
+pub accepts : (v w : View) (n : ℕ) (line : Line) (rest : List Line) (i : Input) (events : List Event) (a : Answered v w i events) → line_input n (course_of v) line ≡ Ok i
     → replayed_lines v n (line ∷ rest) ≡ with_front (answered_text a.before.question ++ event_texts events) (replayed_lines w (n + 1) rest)
 unfolding replayed_lines
 accepts v w n line rest i events a e =
-    let one = judged-ok (λ is. open_question (rest_of v is)) n line rest i (rw (open-now v a.before) e) in
-    let two = judged-same (λ more. open_question (rest_of v (i ∷ more))) (λ more. open_question (rest_of w more)) (λ more. question-answered v w i events more a) (n + 1) rest in
-    let j : Judged = judged_from (λ more. open_question (rest_of w more)) (n + 1) rest in
+    let one = judged-ok (course_of v) n line rest i e in
+    let two = ap (λ (c : Course). judged_from c (n + 1) rest) (course-after v w i events a) in
+    let j : Judged = judged_from (course_of w) (n + 1) rest in
     rw (one, two, text-answered v w i events j.inputs a) refl
 
 -- where the events were not all told, the text begins so
-pub begins-accepted : (v w : View) (n : ℕ) (line : Line) (rest : List Line) (i : Input) (ready : Waits v) (taken : TakesAnswer v i w) (front : List ℕ) → line_input n (Some ready.question) line ≡ Ok i
+pub begins-accepted : (v w : View) (n : ℕ) (line : Line) (rest : List Line) (i : Input) (ready : Waits v) (taken : TakesAnswer v i w) (front : List ℕ) → line_input n (course_of v) line ≡ Ok i
     → ((is : List Input) → BeginsText front (body_text (rest_of w is))) → BeginsText (answered_text ready.question ++ front) (replayed_lines v n (line ∷ rest)).text
 unfolding replayed_lines
 begins-accepted v w n line rest i ready taken front e begins =
-    let one = judged-ok (λ is. open_question (rest_of v is)) n line rest i (rw (open-now v ready) e) in
-    let js : List Input = (judged_from (λ more. open_question (rest_of v (i ∷ more))) (n + 1) rest).inputs in
+    let one = judged-ok (course_of v) n line rest i e in
+    let js : List Input = (judged_from (once_given i (course_of v)) (n + 1) rest).inputs in
     let m = taken.more js in
     let q : Some taken.question ≡ Some ready.question = sym taken.open_before ∙ ready.open_now in
     let q' : taken.question ≡ ready.question = cc in
@@ -93,16 +93,15 @@ begins-accepted v w n line rest i ready taken front e begins =
 
 -- ---- a line that is refused
 
-judged-err : (open_after : List Input → Option Ask) (n : ℕ) (line : Line) (rest : List Line) (why : Reason) → line_input n (open_after []) line ≡ Err why
-    → judged_from open_after n (line ∷ rest) ≡ record { inputs = []; refused = Some (n, why) }
+judged-err : (c : Course) (n : ℕ) (line : Line) (rest : List Line) (why : Reason) → line_input n c line ≡ Err why → judged_from c n (line ∷ rest) ≡ record { inputs = []; refused = Some (n, why) }
 unfolding judged_from
-judged-err open_after n line rest why e = rw e refl
+judged-err c n line rest why e = rw e refl
 
-pub refuses : (v : View) (w : Waits v) (n : ℕ) (line : Line) (rest : List Line) (why : Reason) → line_input n (Some w.question) line ≡ Err why
+pub refuses : (v : View) (w : Waits v) (n : ℕ) (line : Line) (rest : List Line) (why : Reason) → line_input n (course_of v) line ≡ Err why
     → replayed_lines v n (line ∷ rest) ≡ record { text = Some (end_text w.question); refused = Some (n, why) }
 unfolding replayed_lines
 refuses v w n line rest why e =
-    let one = judged-err (λ is. open_question (rest_of v is)) n line rest why (rw (open-now v w) e) in
+    let one = judged-err (course_of v) n line rest why e in
     rw (one, w.last, last-text w.question) refl
 
 -- no line is left
@@ -118,26 +117,26 @@ not-over n line low short =
     let b : ltb lines_limit n ≡ false = grind (arith, nat_tests) in
     rw (a, b) refl
 
-line-within : (n : ℕ) (q : Option Ask) (text : List ℕ) → length text ≤ line_limit → n ≤ lines_limit → line_input n q (ended_line text) ≡ fitting q (input_of text)
+line-within : (n : ℕ) (c : Course) (text : List ℕ) → length text ≤ line_limit → n ≤ lines_limit → line_input n c (ended_line text) ≡ fitting c (input_of text)
 unfolding line_input
-line-within n q text short low = rw (not-over n (ended_line text) low short) refl
+line-within n c text short low = rw (not-over n (ended_line text) low short) refl
 
-pub input-fits : (n : ℕ) (q : Option Ask) (text : List ℕ) (i : Input) → length text ≤ line_limit → n ≤ lines_limit → input_of text ≡ Some i → misfit q i ≡ None → line_input n q (ended_line text) ≡ Ok i
-input-fits n q text i short low e f = line-within n q text short low ∙ ap (fitting q) e ∙ ap (ok_unless i) f
+pub input-fits : (n : ℕ) (c : Course) (text : List ℕ) (i : Input) → length text ≤ line_limit → n ≤ lines_limit → input_of text ≡ Some i → why_not c i ≡ None → line_input n c (ended_line text) ≡ Ok i
+input-fits n c text i short low e f = line-within n c text short low ∙ ap (fitting c) e ∙ ap (ok_unless i) f
 
-pub input-misfits : (n : ℕ) (q : Option Ask) (text : List ℕ) (i : Input) (why : Reason) → length text ≤ line_limit → n ≤ lines_limit → input_of text ≡ Some i → misfit q i ≡ Some why → line_input n q (ended_line text) ≡ Err why
-input-misfits n q text i why short low e f = line-within n q text short low ∙ ap (fitting q) e ∙ ap (ok_unless i) f
+pub input-misfits : (n : ℕ) (c : Course) (text : List ℕ) (i : Input) (why : Reason) → length text ≤ line_limit → n ≤ lines_limit → input_of text ≡ Some i → why_not c i ≡ Some why → line_input n c (ended_line text) ≡ Err why
+input-misfits n c text i why short low e f = line-within n c text short low ∙ ap (fitting c) e ∙ ap (ok_unless i) f
 
-pub no-input : (n : ℕ) (q : Option Ask) (text : List ℕ) → length text ≤ line_limit → n ≤ lines_limit → input_of text ≡ None → line_input n q (ended_line text) ≡ Err Form
-no-input n q text short low e = line-within n q text short low ∙ ap (fitting q) e
+pub no-input : (n : ℕ) (c : Course) (text : List ℕ) → length text ≤ line_limit → n ≤ lines_limit → input_of text ≡ None → line_input n c (ended_line text) ≡ Err Form
+no-input n c text short low e = line-within n c text short low ∙ ap (fitting c) e
 
-pub cut-input : (n : ℕ) (q : Option Ask) (l : List ℕ) → n ≤ lines_limit → length l ≤ line_limit → line_input n q (record { text = l; ended = false }) ≡ Err Form
+pub cut-input : (n : ℕ) (c : Course) (l : List ℕ) → n ≤ lines_limit → length l ≤ line_limit → line_input n c (record { text = l; ended = false }) ≡ Err Form
 unfolding line_input
-cut-input n q l low short = rw (not-over n (record { text = l; ended = false }) low short) refl
+cut-input n c l low short = rw (not-over n (record { text = l; ended = false }) low short) refl
 
-pub limit-input : (n : ℕ) (q : Option Ask) (line : Line) → is_over_limit n line ≡ true → line_input n q line ≡ Err Limit
+pub limit-input : (n : ℕ) (c : Course) (line : Line) → is_over_limit n line ≡ true → line_input n c line ≡ Err Limit
 unfolding line_input
-limit-input n q line h = rw h refl
+limit-input n c line h = rw h refl
 
 -- ---- the first line, and the others
 

@@ -5,7 +5,7 @@ use Rattle.std.proofs.lemmas.Bool.Decides.{nat_tests}
 use Rattle.tree_specs.specs.declared.question.Ask.{Ask}
 use Rattle.tree_specs.specs.declared.question.Input.{Input}
 use Rattle.tree_specs.specs.declared.schedule.Reason.{Reason}
-use Rattle.tree_specs.specs.declared.schedule.Reason.TheVariants.{Form, NotAsked}
+use Rattle.tree_specs.specs.declared.schedule.Reason.TheVariants.{Form, NotAsked, Token}
 use Rattle.tree_specs.specs.Rules.Items.{Item}
 use Rattle.tree_specs.specs.Rules.Items.Item.{Asked}
 use Rattle.tree_specs.specs.Texts.Grammar.{input_of}
@@ -19,17 +19,18 @@ use Rattle.text_forms.specs.Reads.{Reads}
 use Rattle.tree_specs.specs.declared.schedule.Mode.{Mode}
 use Rattle.tree_specs.specs.declared.schedule.Mode.TheVariants.{Pool}
 use Rattle.tree_specs.proofs.Tree.Numbered.{by_test}
-use Rattle.tree_specs.specs.Texts.Schedule.{Line, schedule_header, mode_of, line_input, is_header, misfit, line_limit, lines_limit}
-use Rattle.tree_specs.specs.Machine.View.{View, rest_of, question_of}
+use Rattle.tree_specs.specs.Texts.Schedule.{Line, schedule_header, mode_of, line_input, is_header, misfit, unless_stray, why_not, line_limit, lines_limit}
+use Rattle.tree_specs.specs.Machine.View.{View, rest_of, strays_of, question_of}
 use Rattle.host_core.specs.Promises.{Waits, TakesAnswer}
 use Rattle.schedule_replay.specs.declared.stop.Stop.{Stop}
 use Rattle.schedule_replay.specs.declared.stop.Stop.TheVariants as errors
-use Rattle.schedule_replay.specs.Replays.{Replayed, with_front, replayed_from, ended_line, BeginsText}
+use Rattle.schedule_replay.specs.Replays.{Replayed, course_of, with_front, replayed_from, ended_line, BeginsText}
 use Rattle.schedule_replay.specs.Questions.{answered_of}
 use Rattle.schedule_replay.specs.Tellings.{event_texts, TellsAll, TellsFront}
 use Rattle.schedule_replay.specs.Readings.{Reading, refused_text, RefusesHere, TakesLine, IsBetweenBytes}
 use Rattle.schedule_replay.proofs.TextLaws.{begins_nil}
-use Rattle.schedule_replay.proofs.ReplayLaws.{Answered, accepts, begins-accepted, refuses, input-fits, input-misfits, no-input, from-first, from-later, header-taken, header-refused, header-form}
+use Rattle.schedule_replay.proofs.Unanswered.{unanswered}
+use Rattle.schedule_replay.proofs.ReplayLaws.{Answered, accepts, begins-accepted, refuses, input-fits, input-misfits, no-input, open-now, from-first, from-later, header-taken, header-refused, header-form}
 
 -- ---- a refusal
 
@@ -57,20 +58,29 @@ refuses-header s t r first short h refused =
     from-first s.host s.number (ended_line s.line ∷ rest) first ∙ header-refused s.host (ended_line s.line) rest h
     ∙ rw (header-form (ended_line s.line) short, first) refl)
 
-refuses-by : (s t : Reading) (why : Reason) (r : Result (Unit {0}) Stop) (w : Waits s.host) → s.number ≢ 1 → line_input s.number (Some w.question) (ended_line s.line) ≡ Err why → RefusesHere s t why r → TakesLine s t r
+refuses-by : (s t : Reading) (why : Reason) (r : Result (Unit {0}) Stop) (w : Waits s.host) → s.number ≢ 1 → line_input s.number (course_of s.host) (ended_line s.line) ≡ Err why → RefusesHere s t why r → TakesLine s t r
 refuses-by s t why r w ne e refused =
     refuses-line s t why r refused (λ rest.
     from-later s.host s.number (ended_line s.line ∷ rest) ne ∙ refuses s.host w s.number (ended_line s.line) rest why e
     ∙ rw (refused-later s w ne) refl)
 
 pub refuses-form : (s t : Reading) (r : Result (Unit {0}) Stop) → IsBetweenBytes s → s.number ≤ lines_limit → s.number ≢ 1 → input_of s.line ≡ None → RefusesHere s t Form r → TakesLine s t r
-refuses-form s t r ready low ne e refused = refuses-by s t Form r ready.waits ne (no-input s.number _ s.line ready.short low e) refused
+refuses-form s t r ready low ne e refused = refuses-by s t Form r ready.waits ne (no-input s.number (course_of s.host) s.line ready.short low e) refused
 
-pub refuses-misfit : (s t : Reading) (i : Input) (r : Result (Unit {0}) Stop) → IsBetweenBytes s → s.number ≤ lines_limit → s.number ≢ 1 → input_of s.line ≡ Some i → misfit (question_of s.host) i ≡ Some NotAsked
-    → RefusesHere s t NotAsked r → TakesLine s t r
-refuses-misfit s t i r ready low ne e m refused =
-    let m' : misfit (Some ready.waits.question) i ≡ Some NotAsked = ap (λ (q : Option Ask). misfit q i) (sym ready.waits.open_now) ∙ m in
-    refuses-by s t NotAsked r ready.waits ne (input-misfits s.number _ s.line i NotAsked ready.short low e m') refused
+-- why an input doesn't fit, by the question that is open
+why-now : (v : View) → Waits v → (i : Input) (o : Option Reason) → misfit (question_of v) i ≡ o → why_not (course_of v) i ≡ unless_stray o (strays_of v (i ∷ []))
+why-now v w i o m = ap (λ (z : Option Reason). unless_stray z (strays_of v (i ∷ []))) (ap (λ (q : Option Ask). misfit q i) (open-now v w ∙ sym w.open_now) ∙ m)
+
+pub not-asked : (v : View) → Waits v → (i : Input) → misfit (question_of v) i ≡ Some NotAsked → why_not (course_of v) i ≡ Some NotAsked
+not-asked v w i m = why-now v w i (Some NotAsked) m
+
+-- it was asked for, and yet doesn't fit
+pub taken-token : (v : View) → Waits v → (i : Input) → misfit (question_of v) i ≡ None → strays_of v (i ∷ []) ≡ true → why_not (course_of v) i ≡ Some Token
+taken-token v w i m s = why-now v w i None m ∙ ap (unless_stray None) s
+
+pub refuses-misfit : (s t : Reading) (i : Input) (why : Reason) (r : Result (Unit {0}) Stop) → IsBetweenBytes s → s.number ≤ lines_limit → s.number ≢ 1 → input_of s.line ≡ Some i → why_not (course_of s.host) i ≡ Some why
+    → RefusesHere s t why r → TakesLine s t r
+refuses-misfit s t i why r ready low ne e m refused = refuses-by s t why r ready.waits ne (input-misfits s.number (course_of s.host) s.line i why ready.short low e m) refused
 
 -- ---- out of memory before anything was written
 
@@ -128,12 +138,13 @@ answered-by v w x i before after ready taken told = record {
   goes_on = λ is.
       let q : ready.question ≡ taken.question = question-same v ready taken.question taken.open_before in
       taken.goes_on is ∙ ap (λ (z : Ask). Asked z ∷ rest_of w is) (sym q) ∙ ap (λ (l : List Item). Asked ready.question ∷ l) (told.goes_on is);
+  strays = λ is. taken.strays is ∙ told.strays is;
   after = told.waits;
 }
 
-fits-now : (s : Reading) (i : Input) (w : View) → IsBetweenBytes s → s.number ≤ lines_limit → input_of s.line ≡ Some i → (ready : Waits s.host) → TakesAnswer s.host i w → line_input s.number (Some ready.question) (ended_line s.line) ≡ Ok i
+fits-now : (s : Reading) (i : Input) (w : View) → IsBetweenBytes s → s.number ≤ lines_limit → input_of s.line ≡ Some i → (ready : Waits s.host) → TakesAnswer s.host i w → line_input s.number (course_of s.host) (ended_line s.line) ≡ Ok i
 fits-now s i w r low e ready taken =
-    input-fits s.number (Some ready.question) s.line i r.short low e (ap (λ (q : Option Ask). misfit q i) (sym ready.open_now) ∙ taken.fits)
+    input-fits s.number (course_of s.host) s.line i r.short low e (why-now s.host ready i None taken.fits ∙ ap (unless_stray None) (taken.strays [] ∙ unanswered w))
 
 answered-now : (v : View) (w : Waits v) → answered_of (question_of v) ≡ answered_text w.question
 answered-now v w = ap answered_of w.open_now

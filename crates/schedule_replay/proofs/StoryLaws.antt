@@ -6,7 +6,7 @@ use Rattle.tree_specs.specs.declared.question.Input.{Input}
 use Rattle.tree_specs.specs.declared.schedule.Reason.{Reason}
 use Rattle.tree_specs.specs.declared.schedule.Reason.TheVariants.{Form}
 use Rattle.tree_specs.specs.Rules.Story.{story, items}
-use Rattle.tree_specs.specs.Texts.Schedule.{Line, lines, judged_lines, judge, inputs_of, transcript_of, open_question, is_header, has_header, header_reason}
+use Rattle.tree_specs.specs.Texts.Schedule.{Line, Course, course, lines, judged_lines, judge, inputs_of, transcript_of, is_header, has_header, header_reason}
 use Rattle.tree_specs.proofs.Promises.StoryOrder.{story-orderly, story-grounded}
 use Rattle.schedule_replay.specs.declared.ran.Ran.{Ran}
 use Rattle.schedule_replay.specs.declared.ran.Ran.TheVariants as rans
@@ -14,10 +14,10 @@ use Rattle.schedule_replay.specs.Runs.{WritesText, IsDone, IsBad, Replays}
 use Rattle.schedule_replay.specs.Stories.{WritesStory}
 
 -- where the first line isn't refused there is a header
-headed : (open_after : List Input → Option Ask) (ls : List Line) → ((why : Reason) → (judged_lines open_after ls).refused ≢ Some (1, why)) → has_header ls ≡ true
+headed : (c : Course) (ls : List Line) → ((why : Reason) → (judged_lines c ls).refused ≢ Some (1, why)) → has_header ls ≡ true
 unfolding judged_lines
-headed open_after [] later = absurd (later Form refl)
-headed open_after (first ∷ rest) later = by (is_header first) refl
+headed c [] later = absurd (later Form refl)
+headed c (first ∷ rest) later = by (is_header first) refl
   where
     by : (b : Bool) → is_header first ≡ b → is_header first ≡ true
     by true e = e
@@ -29,7 +29,7 @@ line_in (Some refused) = refused.0
 
 writes-story : (bytes : List ℕ) (held now : Option (List ℕ)) → ((why : Reason) → judge bytes ≢ Some (1, why)) → WritesText (transcript_of bytes) held now → WritesStory bytes held now
 writes-story bytes held now later text =
-    let h : has_header (lines bytes) ≡ true = headed (λ is. open_question (items (story 1 is))) (lines bytes) later in
+    let h : has_header (lines bytes) ≡ true = headed course (lines bytes) later in
     record {
       scenes = story 1 (inputs_of bytes);
       inputs = refl;

@@ -10,7 +10,7 @@ use Rattle.tree_specs.specs.Rules.Items.Item.{Told, Asked}
 use Rattle.tree_specs.specs.Texts.Written.{WritesFront, IsFront}
 use Rattle.tree_specs.specs.Texts.Text.{event_text, answered_text, item_text, end_text, body_text}
 use Rattle.tree_specs.specs.Texts.Schedule.{open_question}
-use Rattle.tree_specs.specs.Machine.View.{View, rest_of}
+use Rattle.tree_specs.specs.Machine.View.{View, rest_of, strays_of}
 use Rattle.host_core.specs.Promises.{Waits}
 use Rattle.schedule_replay.specs.Replays.{BeginsText}
 use Rattle.schedule_replay.specs.Tellings.{event_texts, TellsAll, TellsFront}
@@ -102,9 +102,10 @@ pub record ToldSoFar (old : View) (before : List ℕ) (now : View) (text : List 
   pub events : List Event
   pub written : text ≡ before ++ event_texts events
   pub goes_on : (is : List Input) → rest_of old is ≡ map Told events ++ rest_of now is
+  pub strays : (is : List Input) → strays_of old is ≡ strays_of now is
 
 pub told-none : (v : View) (before : List ℕ) → ToldSoFar v before v before
-told-none v before = record { events = []; written = sym (append-nil before); goes_on = λ is. refl }
+told-none v before = record { events = []; written = sym (append-nil before); goes_on = λ is. refl; strays = λ is. refl }
 
 texts-more : (events : List Event) (e : Event) → event_texts (events ++ e ∷ []) ≡ event_texts events ++ event_text e
 texts-more [] e = append-nil (event_text e)
@@ -114,16 +115,17 @@ map-more : (events : List Event) (e : Event) (rest : List Item) → map Told (ev
 map-more [] e rest = refl
 map-more (x ∷ events) e rest = ap (λ (l : List Item). Told x ∷ l) (map-more events e rest)
 
-pub told-more : (old now next : View) (before text after : List ℕ) (e : Event) → ToldSoFar old before now text → ((is : List Input) → rest_of now is ≡ Told e ∷ rest_of next is) → after ≡ text ++ event_text e
-    → ToldSoFar old before next after
-told-more old now next before text after e s law written = record {
+pub told-more : (old now next : View) (before text after : List ℕ) (e : Event) → ToldSoFar old before now text → ((is : List Input) → rest_of now is ≡ Told e ∷ rest_of next is) → ((is : List Input) → strays_of now is ≡ strays_of next is)
+    → after ≡ text ++ event_text e → ToldSoFar old before next after
+told-more old now next before text after e s law same written = record {
   events = s.events ++ e ∷ [];
   written = written ∙ ap (λ (t : List ℕ). t ++ event_text e) s.written ∙ append_assoc before (event_texts s.events) (event_text e) ∙ ap (λ (t : List ℕ). before ++ t) (sym (texts-more s.events e));
   goes_on = λ is. s.goes_on is ∙ ap (λ (l : List Item). map Told s.events ++ l) (law is) ∙ sym (map-more s.events e (rest_of next is));
+  strays = λ is. s.strays is ∙ same is;
 }
 
 pub told-all : (old now : View) (before text : List ℕ) → ToldSoFar old before now text → Waits now → TellsAll old before now text
-told-all old now before text s w = record { events = s.events; text = s.written; goes_on = s.goes_on; waits = w }
+told-all old now before text s w = record { events = s.events; text = s.written; goes_on = s.goes_on; strays = s.strays; waits = w }
 
 -- a list that ends with an event has no text
 no-text : (front : List ℕ) (e : Event) → BeginsText front (body_text (Told e ∷ []))

@@ -7,40 +7,44 @@ use Rattle.tree_specs.specs.declared.question.Ask.{Ask}
 use Rattle.tree_specs.specs.declared.question.Input.{Input}
 use Rattle.tree_specs.specs.Rules.Items.{Item, IsQuestion}
 use Rattle.tree_specs.specs.Rules.Items.Item.{Told, Asked}
-use Rattle.tree_specs.specs.Rules.Story.{story, items}
+use Rattle.step_machine.specs.Machine.{is_stray}
+use Rattle.tree_specs.specs.Rules.Story.{outcome, story, items}
 use Rattle.tree_specs.specs.Texts.Text.{transcript, header, item_text, body_text, end_text}
-use Rattle.tree_specs.specs.Texts.Schedule.{Line, lines, judged_lines, judged_from, judge, inputs_of, transcript_of, open_question, is_header, has_header, header_reason}
-use Rattle.tree_specs.specs.Machine.View.{begin, rest_of}
-use Rattle.tree_specs.proofs.Rules.StoryLaws.{story-items, story-asks}
-use Rattle.schedule_replay.specs.Replays.{Replayed, with_front, replayed, replayed_all, replayed_lines, refused_at_once, BeginsText}
+use Rattle.tree_specs.specs.Texts.Schedule.{Line, Course, lines, judged_lines, judged_from, judge, inputs_of, transcript_of, open_question, is_header, has_header, header_reason}
+use Rattle.tree_specs.specs.Machine.View.{begin, rest_of, strays_of}
+use Rattle.tree_specs.proofs.Rules.StoryLaws.{story-items, story-strays, story-asks}
+use Rattle.schedule_replay.specs.Replays.{Replayed, course_of, with_front, replayed, replayed_all, replayed_lines, refused_at_once, BeginsText}
 use Rattle.schedule_replay.specs.Runs.{WritesText, IsDone, IsBad, IsFrontOf}
 
--- what is replayed of all lines, where this is told
-abbrev AllLines : (List Input → List Item) → Type 0
-AllLines told = (ls : List Line) → replayed_all (begin 1) ls
+-- what comes of inputs, where this is told, and the last of these doesn't fit
+abbrev course_by : (List Input → List Item) → (List Input → Bool) → Course
+course_by told strays = record { open_after = λ is. open_question (told is); strays = strays }
+
+-- what is replayed of all lines then
+abbrev AllLines : (List Input → List Item) → (List Input → Bool) → Type 0
+AllLines told strays = (ls : List Line) → replayed_all (begin 1) ls
     ≡ record {
-      text = cond (has_header ls) (transcript (told (judged_lines (λ is. open_question (told is)) ls).inputs)) (Some []);
-      refused = (judged_lines (λ is. open_question (told is)) ls).refused;
+      text = cond (has_header ls) (transcript (told (judged_lines (course_by told strays) ls).inputs)) (Some []);
+      refused = (judged_lines (course_by told strays) ls).refused;
     }
 
-abbrev host_open : List Input → Option Ask
-host_open is = open_question (rest_of (begin 1) is)
-
-host_lines : AllLines (rest_of (begin 1))
+host_lines : AllLines (rest_of (begin 1)) (strays_of (begin 1))
 unfolding replayed_all replayed_lines judged_lines
 host_lines [] = refl
 host_lines (first ∷ rest) = by_test (is_header first)
   where
     by_test : (b : Bool) → cond b (with_front header (replayed_lines (begin 1) 2 rest)) (refused_at_once (header_reason first))
         ≡ record {
-          text = cond b (transcript (rest_of (begin 1) (cond b (judged_from host_open 2 rest) (record { inputs = []; refused = Some (1, header_reason first) })).inputs)) (Some []);
-          refused = (cond b (judged_from host_open 2 rest) (record { inputs = []; refused = Some (1, header_reason first) })).refused;
+          text = cond b (transcript (rest_of (begin 1) (cond b (judged_from (course_of (begin 1)) 2 rest) (record { inputs = []; refused = Some (1, header_reason first) })).inputs)) (Some []);
+          refused = (cond b (judged_from (course_of (begin 1)) 2 rest) (record { inputs = []; refused = Some (1, header_reason first) })).refused;
         }
     by_test true = refl
     by_test false = refl
 
-story_lines : AllLines (λ is. items (story 1 is))
-story_lines = subst AllLines (λ i is. sym (story-items 1 is (omega arith)) i) host_lines
+story_lines : AllLines (λ is. items (story 1 is)) (λ is. is_stray (outcome 1 is))
+story_lines =
+    subst (AllLines (λ is. items (story 1 is))) (λ i is. story-strays 1 is (omega arith) i)
+    (subst (λ (told : List Input → List Item). AllLines told (strays_of (begin 1))) (λ i is. sym (story-items 1 is (omega arith)) i) host_lines)
 
 pub whole_is : (bytes : List ℕ) → replayed bytes ≡ record { text = transcript_of bytes; refused = judge bytes }
 whole_is bytes = story_lines (lines bytes)

@@ -6,7 +6,7 @@ use Rattle.tree_specs.specs.declared.memory.Memory.{Memory}
 use Rattle.tree_specs.specs.declared.question.Input.{Input}
 use Rattle.tree_specs.specs.Rules.Items.Item.{Told}
 use Rattle.tree_specs.specs.Texts.Text.{event_text, body_text}
-use Rattle.tree_specs.specs.Machine.View.{View, rest_of}
+use Rattle.tree_specs.specs.Machine.View.{View, rest_of, strays_of}
 use Rattle.host_core.specs.Promises.{Waits}
 use Rattle.schedule_replay.specs.Replays.{BeginsText}
 
@@ -18,6 +18,8 @@ pub record TellsAll (old : View) (before : List ℕ) (new : View) (after : List 
   pub events : List Event
   pub text : after ≡ before ++ event_texts events
   pub goes_on : (is : List Input) → rest_of old is ≡ map Told events ++ rest_of new is
+  -- the same inputs don't fit
+  pub strays : (is : List Input) → strays_of old is ≡ strays_of new is
   pub waits : Waits new
 
 -- A prefix of them was written.

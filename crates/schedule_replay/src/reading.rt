@@ -137,23 +137,15 @@ impl Replay {
     {
         let began = self.text.len();
         self.write_question()?;
-        match self.host.offer(input) {
-            Ok(()) => {
-                tell(&mut self.host, &mut self.text)?;
-                Ok(())
-            }
-            Err(OfferFault::NotAsked) => {
-                self.text.truncate(began);
-                self.refuse(Reason::NotAsked)
-            }
-            Err(OfferFault::Taken(_)) => {
-                self.text.truncate(began);
-                self.refuse(Reason::Token)
-            }
-            Err(OfferFault::Memory) => {
-                self.text.truncate(began);
-                Err(Stop::Memory)
-            }
+        let Err(fault) = self.host.offer(input) else {
+            tell(&mut self.host, &mut self.text)?;
+            return Ok(());
+        };
+        self.text.truncate(began);
+        match fault {
+            OfferFault::NotAsked => self.refuse(Reason::NotAsked),
+            OfferFault::Taken(_) => self.refuse(Reason::Token),
+            OfferFault::Memory => Err(Stop::Memory),
         }
     }
 

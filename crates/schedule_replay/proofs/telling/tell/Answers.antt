@@ -8,7 +8,7 @@ loop-event-smaller c = let e = ap length (c.in-Some.ensures.1 []) in omega (arit
 
 pub loop-event-preserved : goal.loop-event-preserved
 loop-event-preserved c =
-    told-more _ _ _ _ _ _ c.in-Some.event c.loop-event.invariant c.in-Some.ensures.1 c.in_ok-write_told.ensures
+    told-more _ _ _ _ _ _ c.in-Some.event c.loop-event.invariant c.in-Some.ensures.1 c.in-Some.ensures.2 c.in_ok-write_told.ensures
 
 pub returns-in_err-write_told : goal.returns-in_err-write_told
 returns-in_err-write_told c =
