@@ -6,9 +6,11 @@ use Rattle.tree_specs.specs.declared.call.Call.{Call}
 use Rattle.tree_specs.specs.declared.call.Call.TheVariants as call
 use Rattle.tree_specs.specs.Tree.Targets.{newest_ref}
 use Rattle.tree_specs.specs.Tree.Pool.{Pool}
+use Rattle.tree_specs.specs.declared.request.Note.{Note}
+use Rattle.tree_specs.specs.Events.Requests.{note_of, is_received}
 use Rattle.tree_specs.specs.Events.Rotation.{is_watching}
 use Rattle.tree_specs.specs.Calls.Refusals.{Check, refusals}
-use Rattle.tree_specs.specs.Calls.Plans.{Change, Plan, changed_by, plan, planned, unless_refused, frees, handed, gift}
+use Rattle.tree_specs.specs.Calls.Plans.{Change, Plan, changed_by, plan, planned, unless_refused, frees, handed, gift, receives}
 use Rattle.tree_specs.specs.Calls.Plans.Change.{Watches, Then}
 use Rattle.tree_specs.specs.Calls.Plans.Plan.{Does}
 use Rattle.tree_specs.proofs.Tree.Numbered.{by_test}
@@ -32,12 +34,20 @@ module _ (p : Pool) (new : is_watching p.ring (record { 0 = p.next }) ≡ false)
   given to None = tt
   given to (Some x) = tt
 
+  received : (x : Obj) (o : Option Note) → OnlyNew p (receives x o)
+  received x None = tt
+  received x (Some n) = by_test (is_received n.state) (λ t. rw t tt) (λ t. rw t tt)
+
   each : (c : Call) → OnlyNew p (plan p c)
   each (call.Free x) = freed x (newest_ref p.rows x)
   each (call.Reparent from to x) = given to (gift p from x)
   each (call.Schedule x routine user) = by_test (nat_eq routine 0) (λ t. rw t tt) (λ t. rw t (tt, tt))
   each (call.Timer o time routine user) = (tt, (tt, tt))
   each (call.Fd o fd flags routine user) = (tt, (tt, new))
+  each (call.Req o size name) = (tt, (tt, tt))
+  each (call.Error x error) = by_test (nat_eq error 0) (λ t. rw t tt) (λ t. rw t tt)
+  each (call.Received x) = received x (note_of p.requests x)
+  each (call.Endtime x time) = (tt, tt)
   each _ = tt
 
   -- so it is of each call, where the number of the next object is nobody's that watches

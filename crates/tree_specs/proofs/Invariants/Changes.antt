@@ -20,7 +20,7 @@ use Rattle.tree_specs.proofs.Tree.Rows.{row_of-changed-other, row_of-changed-sam
 use Rattle.tree_specs.proofs.Tree.Rooted.{KeepsPlace, forest-new, forest-placed, forest-changed, forest-without}
 use Rattle.tree_specs.proofs.Tree.Heirs.{heir-may_take}
 use Rattle.tree_specs.proofs.Tree.Referring.{none-refers, unreferred, refers-at, refers-nothing, referable-refers, reference-childless}
-use Rattle.tree_specs.specs.Calls.Refusals.{is_plain}
+use Rattle.tree_specs.specs.Calls.Refusals.{is_referable}
 use Rattle.tree_specs.specs.Tree.Forest.{Distinct}
 use Rattle.tree_specs.specs.Invariants.Sound.{MayBePlaced}
 
@@ -126,7 +126,7 @@ changed-sound g f f' fs fs' p x r s k e shaped object calm others here w h =
       refers = refers-at p.rows (changed g p.rows x) x other
           (λ t q. let q' : target_of (g r).kind ≡ Some t = rw new at q in let none : target_of (g r).kind ≡ None = ap target_of (k.kind r) ∙ object in let bad : None ≡ Some t = sym none ∙ q' in cc)
           (λ y q. elim calm [
-            | inl keeps ↦ let h : IsReferable (Some r) = rw e at (s.refers.target y x q) in rw new (ap is_plain (k.kind r) ∙ h.0, keeps h.1)
+            | inl keeps ↦ let h : IsReferable (Some r) = rw e at (s.refers.target y x q) in rw new (ap is_referable (k.kind r) ∙ h.0, keeps h.1)
             | inr none ↦ absurd (none-refers p.rows x y none q)
           ]) s.refers;
       open_frees = frees-at f f' fs fs' p.rows (changed g p.rows x) x s.open_frees other others (rw new here);

@@ -23,7 +23,7 @@ use Rattle.tree_specs.specs.Tree.Pool.{Pool, row_of, unschedule, disarm}
 use Rattle.tree_specs.specs.Events.Pending.{first}
 use Rattle.tree_specs.specs.Events.Rotation.{Ready as ReadyOne, first_ready}
 use Rattle.tree_specs.specs.Events.Coming.{wait_limit, comes_as, is_quiet_mark, may_start, handler_for, looks_again, at_time, with_flags, plainly, rotated}
-use Rattle.tree_specs.specs.Calls.Refusals.{is_plain}
+use Rattle.tree_specs.specs.Calls.Refusals.{is_referable}
 use Rattle.tree_specs.specs.Machine.Table.{Step, due_step, taking_step, early_step, timed_step, timed_turn, ready_turn, looked_turn, turn_step, turn_taken}
 use Rattle.tree_specs.specs.Machine.Profiles.{turn_profile}
 use Rattle.tree_specs.specs.Invariants.Sound.{Footing, IsTurned, TurnRests}
@@ -37,7 +37,7 @@ pub record Ready (rows : List Row) (what : What) (x : Obj) : Type 0 where
   pub row : Row
   pub is : row_of rows x ≡ Some row
   pub object : target_of row.kind ≡ None
-  pub event : is_plain row.kind ≡ false
+  pub event : is_referable row.kind ≡ false
   pub comes : comes_as what row.kind ≡ true
   pub quiet : row.mark ≡ Quiet
 
@@ -46,7 +46,7 @@ quiet-mark Quiet e = refl
 quiet-mark _ e = cc
 
 -- an event is neither plain nor a reference
-pub comes-event : (w : What) (k : Kind) → comes_as w k ≡ true → (target_of k ≡ None) × (is_plain k ≡ false)
+pub comes-event : (w : What) (k : Kind) → comes_as w k ≡ true → (target_of k ≡ None) × (is_referable k ≡ false)
 comes-event ForImmediate kind.Immediate e = (refl, refl)
 comes-event ForTimer kind.Timer e = (refl, refl)
 comes-event ForDescriptor kind.Descriptor e = (refl, refl)
