@@ -150,10 +150,10 @@ watches x fd flags handler = Then (Handle x handler) (Watches x fd flags)
 abbrev pub adds_descriptor : Pool → Owner → ℕ → ℕ → Handler → Change
 adds_descriptor p o fd flags handler = Then (Add Descriptor o 0 (codes "fd")) (watches (record { 0 = p.next }) fd flags handler)
 
--- a request below an owner, and below it a plain object of its own
+-- a request with its note below an owner, and below it a plain object of its own
 abbrev pub adds_request : Pool → Owner → ℕ → List ℕ → Change
 adds_request p o size name =
-    Then (Add Request o 0 (codes "req")) (Then (Add Plain (Of (record { 0 = p.next })) size name) (Notes (record { 0 = p.next }) (new_note (record { 0 = p.next + 1 }))))
+    Then (Notes (record { 0 = p.next }) (new_note (record { 0 = p.next + 1 }))) (Then (Add Request o 0 (codes "req")) (Add Plain (Of (record { 0 = p.next })) size name))
 
 abbrev pub renotes : Obj → (Note → Note) → Plan
 renotes x change = Does (Renotes x change) None Ok
