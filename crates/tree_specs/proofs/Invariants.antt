@@ -2,6 +2,7 @@
 pub mod Changes
 pub mod Turning
 pub mod KeptTurns
+pub mod KeptRequests
 pub mod Waiters
 pub mod Keeps
 pub mod KeptFrees

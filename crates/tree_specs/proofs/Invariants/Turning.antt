@@ -17,15 +17,19 @@ use Rattle.tree_specs.specs.declared.question.Input.{Input}
 use Rattle.tree_specs.specs.declared.frame.Frame.{Frame}
 use Rattle.tree_specs.specs.declared.frame.Frame.TheVariants as frame
 use Rattle.tree_specs.specs.declared.frame.TurnFrame.{TurnFrame}
-use Rattle.tree_specs.specs.declared.frame.TurnFrame.TheVariants.{Taking, Timing, Timed, Polling, Starting, Closing}
+use Rattle.tree_specs.specs.declared.frame.TurnFrame.TheVariants.{Taking, Timing, Timed, Polling, Starting, Serving, Closing}
+use Rattle.tree_specs.specs.declared.frame.Errand.{Errand}
+use Rattle.tree_specs.specs.declared.frame.Errand.TheVariants.{Finish, Notify}
+use Rattle.tree_specs.specs.declared.request.State.TheVariants.{TimedOut}
+use Rattle.tree_specs.specs.Events.Requests.{is_noted}
 use Rattle.tree_specs.specs.Tree.Targets.{target_of}
 use Rattle.tree_specs.specs.Tree.Pool.{Pool, row_of, unschedule, disarm}
 use Rattle.tree_specs.specs.Events.Pending.{first}
 use Rattle.tree_specs.specs.Events.Rotation.{Ready as ReadyOne, first_ready}
 use Rattle.tree_specs.specs.Events.Coming.{wait_limit, comes_as, is_quiet_mark, may_start, handler_for, looks_again, at_time, with_flags, plainly, rotated}
 use Rattle.tree_specs.specs.Calls.Refusals.{is_referable}
-use Rattle.tree_specs.specs.Machine.Table.{Step, due_step, taking_step, early_step, timed_step, timed_turn, ready_turn, looked_turn, turn_step, turn_taken}
-use Rattle.tree_specs.specs.Machine.Profiles.{turn_profile}
+use Rattle.tree_specs.specs.Machine.Table.{Step, work_of, due_now, due_step, taking_step, early_step, timed_step, timed_turn, ready_turn, looked_turn, turn_step, turn_taken}
+use Rattle.tree_specs.specs.Machine.Profiles.{turn_profile, caller_size}
 use Rattle.tree_specs.specs.Invariants.Sound.{Footing, IsTurned, TurnRests}
 use Rattle.tree_specs.proofs.Tree.Numbered.{by_test}
 use Rattle.tree_specs.proofs.Calls.Checks.{both-true, clocked-by, polled-by}
@@ -71,11 +75,11 @@ rotated-rows _ x p = (refl, refl)
 
 pub record IsPlain (f : TurnFrame) (steps : ℕ) : Type 0 where
   pub claims : (turn_profile f).claims ≡ None
-  pub size : (turn_profile f).top_size ≡ 0
+  pub size : (turn_profile f).top_size ≡ caller_size
   pub cheap : (turn_profile f).steps ≤ steps
   pub rests : (on : Footing) (p : Pool) → IsTurned on → TurnRests f on p
 
-pub plain-timed : (again : Bool) (now : ℕ) → IsPlain (Timed again now) 5
+pub plain-timed : (again : Bool) (now : ℕ) → IsPlain (Timed again now) 13
 plain-timed again now = record { claims = refl; size = refl; cheap = omega arith; rests = λ on p h. h }
 
 pub plain-timing : (again : Bool) → IsPlain (Timing again) 4
@@ -90,14 +94,23 @@ plain-starting w x occasion = record { claims = refl; size = refl; cheap = omega
 pub plain-closing : (v : ℕ) → IsPlain (Closing v) 4
 plain-closing v = record { claims = refl; size = refl; cheap = omega arith; rests = λ on p h. h }
 
-plain-more : (f : TurnFrame) → IsPlain f 4 → IsPlain f 5
+plain-more : (f : TurnFrame) → IsPlain f 4 → IsPlain f 13
 plain-more f h = record { claims = h.claims; size = h.size; cheap = (let l = h.cheap in omega (arith, l)); rests = h.rests }
 
 -- ---- looking for what comes
 
+-- a request is notified in its turn, or times out
+abbrev pub IsServed : Errand → Type 0
+IsServed Notify = Unit {0}
+IsServed (Finish TimedOut) = Unit {0}
+IsServed errand = ⊥
+
 -- it goes on over the same rows, and says nothing of an object
 pub data Passes (p : Pool) : Step → Type 0 where
-  Pass : (g : TurnFrame) (q : Pool) → q.rows ≡ p.rows → q.next ≡ p.next → IsPlain g 4 → Passes p (Do.Go (frame.Turn g) q)
+  Pass : (g : TurnFrame) (q : Pool) → q.rows ≡ p.rows → q.next ≡ p.next → q.requests ≡ p.requests → IsPlain g 4 → Passes p (Do.Go (frame.Turn g) q)
+  -- or a request has come
+  Serve : (errand : Errand) (x : Obj) (q : Pool) → q.rows ≡ p.rows → q.next ≡ p.next → q.requests ≡ p.requests → IsServed errand → is_noted p.requests x ≡ true
+      → Passes p (Do.Call (work_of errand x) (frame.Turn (Serving x)) q)
 
 -- the two works that look
 abbrev pub IsLook : TurnFrame → Type 0
@@ -105,41 +118,49 @@ IsLook Taking = Unit {0}
 IsLook (Timed again now) = Unit {0}
 IsLook f = ⊥
 
+-- a time has come
+due-passes : (x : Obj) (now : ℕ) (p : Pool) → Passes p (due_now x now p)
+due-passes x now p = by_test (is_noted p.requests x)
+    (λ t. rw t (Serve (Finish TimedOut) x (disarm p x) refl refl refl tt t))
+    (λ t. rw t (Pass (Starting ForTimer x (at_time now)) (disarm p x) refl refl refl (plain-starting ForTimer x (at_time now))))
+
 pub look-passes : (f : TurnFrame) (p : Pool) → IsLook f → Passes p (turn_step f p)
 look-passes Taking p i = each (first p.soon)
   where
     due : (o : Option Due) → Passes p (due_step o p)
-    due None = Pass (Polling wait_limit) p refl refl (plain-polling wait_limit)
+    due None = Pass (Polling wait_limit) p refl refl refl (plain-polling wait_limit)
     due (Some d) = by_test (nat_eq d.time 0)
-        (λ t. rw t (Pass (Starting ForTimer d.object (at_time 0)) (disarm p d.object) refl refl (plain-starting ForTimer d.object (at_time 0))))
-        (λ t. rw t (Pass (Timing false) p refl refl (plain-timing false)))
+        (λ t. rw t (due-passes d.object 0 p))
+        (λ t. rw t (Pass (Timing false) p refl refl refl (plain-timing false)))
 
     each : (o : Option Obj) → Passes p (taking_step o p)
     each None = due (first p.times)
-    each (Some x) = Pass (Starting ForImmediate x plainly) (unschedule p x) refl refl (plain-starting ForImmediate x plainly)
+    each (Some x) = by_test (is_noted p.requests x)
+        (λ t. rw t (Serve Notify x (unschedule p x) refl refl refl tt t))
+        (λ t. rw t (Pass (Starting ForImmediate x plainly) (unschedule p x) refl refl refl (plain-starting ForImmediate x plainly)))
 look-passes (Timed again now) p i = each (first p.times)
   where
     early : (again : Bool) (d : Due) → Passes p (early_step again d now p)
-    early true d = Pass (Closing 0) p refl refl (plain-closing 0)
-    early false d = Pass (Polling (d.time - now)) p refl refl (plain-polling (d.time - now))
+    early true d = Pass (Closing 0) p refl refl refl (plain-closing 0)
+    early false d = Pass (Polling (d.time - now)) p refl refl refl (plain-polling (d.time - now))
 
     each : (o : Option Due) → Passes p (timed_step again now o p)
-    each None = Pass (Closing 0) p refl refl (plain-closing 0)
+    each None = Pass (Closing 0) p refl refl refl (plain-closing 0)
     each (Some d) = by_test (nat_le d.time now)
-        (λ t. rw t (Pass (Starting ForTimer d.object (at_time now)) (disarm p d.object) refl refl (plain-starting ForTimer d.object (at_time now))))
+        (λ t. rw t (due-passes d.object now p))
         (λ t. rw t (early again d))
 look-passes _ p i = absurd i
 
 -- ---- what an answer leads to
 
 -- an event on a descriptor comes, or none
-ready-plain : (o : Option ReadyOne) → (t : TurnFrame) × (ready_turn o ≡ frame.Turn t) × IsPlain t 5
+ready-plain : (o : Option ReadyOne) → (t : TurnFrame) × (ready_turn o ≡ frame.Turn t) × IsPlain t 13
 ready-plain None = (Closing 0, refl, plain-more (Closing 0) (plain-closing 0))
 ready-plain (Some r) =
     let t : TurnFrame = Starting ForDescriptor r.object (with_flags r.flags) in
     (t, refl, plain-more t (plain-starting ForDescriptor r.object (with_flags r.flags)))
 
-pub taken-plain : (f : TurnFrame) (p : Pool) (i : Input) (g : Frame) → turn_taken f p i ≡ Some g → (t : TurnFrame) × (g ≡ frame.Turn t) × IsPlain t 5
+pub taken-plain : (f : TurnFrame) (p : Pool) (i : Input) (g : Frame) → turn_taken f p i ≡ Some g → (t : TurnFrame) × (g ≡ frame.Turn t) × IsPlain t 13
 taken-plain (Timing again) p i g e = let t = clocked-by (timed_turn again) i g e in (Timed again t.0, t.1, plain-timed again t.0)
 taken-plain (Polling limit) p i g e =
     let t = polled-by limit (looked_turn p) i g e in
