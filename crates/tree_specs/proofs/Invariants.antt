@@ -1,6 +1,8 @@
 -- What each step keeps.
 pub mod Changes
 pub mod Turning
+pub mod Notes
+pub mod KeptNotes
 pub mod KeptTurns
 pub mod KeptRequests
 pub mod Waiters

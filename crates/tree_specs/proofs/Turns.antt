@@ -2,5 +2,6 @@
 pub mod Falls
 pub mod FallingFrees
 pub mod FallingTurns
+pub mod FallingRequests
 pub mod Load
 pub mod Bound

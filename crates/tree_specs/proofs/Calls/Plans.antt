@@ -18,7 +18,7 @@ use Rattle.tree_specs.specs.declared.question.Ask.{Ask}
 use Rattle.tree_specs.specs.declared.question.Ask.TheVariants as ask
 use Rattle.tree_specs.specs.declared.watch.Watch.{Watch}
 use Rattle.tree_specs.specs.declared.frame.Frame.{Frame}
-use Rattle.tree_specs.specs.Tree.Pool.{Pool, row_of, is_row, is_owner, owner_of, target_at, is_inside, place, hooked_row, named_row, sized_row, limited_row, new_row, renote}
+use Rattle.tree_specs.specs.Tree.Pool.{Pool, row_of, is_row, is_owner, owner_of, target_at, is_inside, place, hooked_row, named_row, sized_row, limited_row, new_row, add, note, add_request, renote}
 use Rattle.tree_specs.specs.Tree.Targets.{target_of, newest_ref}
 use Rattle.tree_specs.specs.Tree.Inside.{total}
 use Rattle.tree_specs.specs.Invariants.Measure.{note_weight, weight}
@@ -30,8 +30,8 @@ use Rattle.tree_specs.specs.Events.Handlers.{handler_of}
 use Rattle.tree_specs.specs.Events.Rotation.{is_watched}
 use Rattle.tree_specs.specs.Invariants.Awaiting.{MayCome, waits_as, waits_as_row, is_event, is_event_row}
 use Rattle.tree_specs.specs.declared.test.Test.TheVariants.{IsObject, IsImmediate, IsRequest, IsInProgress as IsInProgressTest, IsNotDoomed}
-use Rattle.tree_specs.specs.Calls.Plans.{Change, Plan, changed_by, plan, planned, unless_refused, places, warns, frees, handed, gift, receives, adds_request}
-use Rattle.tree_specs.specs.Calls.Plans.Change.{Nothing, Edit, Add, Place, Handle, Schedule, Arm, Watches, Rewatch, Close, TakeNumber, Notes, Renotes, Then}
+use Rattle.tree_specs.specs.Calls.Plans.{Change, Plan, changed_by, plan, planned, unless_refused, places, warns, frees, handed, gift, receives}
+use Rattle.tree_specs.specs.Calls.Plans.Change.{Nothing, Edit, Add, Place, Handle, Schedule, Arm, Watches, Rewatch, Close, TakeNumber, AddRequest, Renotes, Then}
 use Rattle.tree_specs.specs.Calls.Plans.Plan.{Does, Frees, Unlinks, Empties, Asks, Turns, Works}
 use Rattle.tree_specs.specs.Invariants.Sound.{ValidAt, IsLive, IsReferable, IsQuietRow, IsToReceive, MayBePlaced, Rests, Sound, claim}
 use Rattle.tree_specs.specs.Invariants.Noted.{IsInProgress, IsBetween}
@@ -52,8 +52,8 @@ use Rattle.tree_specs.specs.declared.moment.What.{What}
 use Rattle.tree_specs.specs.declared.request.Note.{Note}
 use Rattle.tree_specs.specs.declared.request.State.{State}
 use Rattle.tree_specs.specs.declared.request.State.TheVariants as state
-use Rattle.tree_specs.specs.Events.Requests.{Notes as RequestNotes, is_in_progress, is_received, is_unreceived, note_of, renoted, failed_with}
-use Rattle.tree_specs.proofs.Events.NoteLaws.{renoted-same, renoted-none, renoted-lighter, total-lighter, total-unowned}
+use Rattle.tree_specs.specs.Events.Requests.{Notes as RequestNotes, is_in_progress, is_received, is_unreceived, note_of, renoted, new_note, failed_with}
+use Rattle.tree_specs.proofs.Events.NoteLaws.{renoted-same, renoted-none, note_weight-most, renoted-lighter, total-lighter, total-unowned}
 
 -- ---- what a change asks for
 
@@ -96,8 +96,8 @@ MayDo p (Arm x time number) = MayWait p what.Timer x
 MayDo p (Watches x fd flags) = MayWatch p x fd
 MayDo p (Rewatch x g) = KeepsWatched g
 MayDo p (Close fd) = is_watched p.ring fd ≡ false
--- it is nobody's number yet
-MayDo p (Notes x n) = (x.0 ≡ p.next) × (row_of p.rows x ≡ None)
+-- the next number is nobody's
+MayDo p (AddRequest o size name) = (is_owner p.rows o ≡ true) × (row_of p.rows (record { 0 = p.next }) ≡ None)
 MayDo p (Renotes x g) = (n : Note) → (g n).state ≡ n.state
 MayDo p (Then first second) = MayDo p first × MayDo (changed_by first p) second
 MayDo p change = Unit {0}
@@ -105,12 +105,14 @@ MayDo p change = Unit {0}
 -- what it adds to what the rows weigh
 abbrev pub heavier : Change → ℕ
 heavier (Add kind o size name) = 3
+heavier (AddRequest o size name) = 6
 heavier (Then first second) = heavier first + heavier second
 heavier change = 0
 
 -- how many rows it adds
 abbrev pub added : Change → ℕ
 added (Add kind o size name) = 1
+added (AddRequest o size name) = 2
 added (Then first second) = added first + added second
 added change = 0
 
@@ -128,11 +130,26 @@ pub record Follows (p q : Pool) (heavy more : ℕ) : Type 0 where
 waits : (p q : Pool) → q.rows ≡ p.rows → q.next ≡ p.next → q.requests ≡ p.requests → Follows p q 0 0
 waits p q rows next notes = record { weight = rw (rows, notes) (omega arith); number = rw rows (omega arith); deposit = rw rows (omega arith); later = later-waiting p q rows next notes }
 
-note_weight-most : (ns : RequestNotes) (r : Row) → note_weight ns r ≤ 1
-note_weight-most ns r = by_test (is_unreceived (note_of ns r.serial)) (λ t. rw t (omega arith)) (λ t. rw t (omega arith))
-
 edited-weight : (ns : RequestNotes) (g : Row → Row) (r : Row) → (g r).mark ≡ r.mark → (g r).serial ≡ r.serial → weight ns (g r) ≡ weight ns r
 edited-weight ns g r mark serial = rw (mark, serial) refl
+
+-- a new request, with its object
+requested : (p : Pool) (o : Owner) (size : ℕ) (name : List ℕ) → row_of p.rows (record { 0 = p.next }) ≡ None → Follows p (add_request p o size name) 6 2
+requested p o size name nobody =
+    let x : Obj = record { 0 = p.next } in
+    let n : Note = new_note (record { 0 = p.next + 1 }) in
+    let a : Pool = add p kind.Request o 0 (codes "req") in
+    let b : Pool = note a x n in
+    let w = total-unowned p.requests p.rows x n nobody in
+    let one = note_weight-most b.requests (new_row x kind.Request o 0 (codes "req")) in
+    let two = note_weight-most b.requests (new_row (record { 0 = p.next + 1 }) kind.Plain (Of x) size name) in
+    record {
+      weight = omega (arith, w, one, two);
+      number = omega arith;
+      deposit = omega arith;
+      later = later-still (later-noted p (note p x n) refl (omega arith) (states-noted p (note p x n) x n refl (omega arith)))
+      (later-still (later-added (note p x n) kind.Request o 0 (codes "req")) (later-added b kind.Plain (Of x) size name));
+    }
 
 pub follows : (p : Pool) (c : Change) → MayDo p c → Follows p (changed_by c p) (heavier c) (added c)
 follows p Nothing may = record { weight = omega arith; number = omega arith; deposit = omega arith; later = later-same p }
@@ -160,14 +177,9 @@ follows p (Then first second) may =
     let b = follows (changed_by first p) second may.1 in
     record { weight = omega (arith, a.weight, b.weight); number = omega (arith, a.number, b.number); deposit = omega (arith, a.deposit, b.deposit); later = later-still a.later b.later }
 follows p TakeNumber may = record { weight = omega arith; number = omega arith; deposit = omega arith; later = later-noted p (changed_by TakeNumber p) refl (omega arith) (λ x k l h. h) }
-follows p (Notes x n) may = record {
-  weight = omega (arith, total-unowned p.requests p.rows x n may.1);
-  number = omega arith;
-  deposit = omega arith;
-  later = later-noted p (changed_by (Notes x n) p) refl (omega arith) (states-noted p (changed_by (Notes x n) p) x n refl (omega (arith, may.0)));
-}
+follows p (AddRequest o size name) may = requested p o size name may.1
 follows p (Renotes x g) may = record {
-  weight = omega (arith, total-lighter (renoted g p.requests x) p.requests p.rows (renoted-lighter g p.requests x (λ n h. rw (may n) at h)));
+  weight = omega (arith, total-lighter (renoted g p.requests x) p.requests p.rows (renoted-lighter g p.requests x (λ n q h. rw (may n) at h)));
   number = omega arith;
   deposit = omega arith;
   later = later-noted p (changed_by (Renotes x g) p) refl (omega arith) (states-renoted g p (changed_by (Renotes x g) p) x refl (λ n e. rw (may n) (omega arith)));
@@ -183,6 +195,14 @@ change-sound f f' fs p (Place o x) s may same calm h = placed-sound f f' o x fs 
 change-sound f f' fs p (Then first second) s may same calm h =
     let t = change-sound f f fs p first s may.0 (λ y. refl) calm (calm (changed_by first p)) in
     change-sound f f' fs (changed_by first p) second t may.1 same calm h
+change-sound f f' fs p (AddRequest o size name) s may same calm h =
+    let x : Obj = record { 0 = p.next } in
+    let self : same x x ≡ true = same-equal x x refl in
+    let a : Pool = add p kind.Request o 0 (codes "req") in
+    let b : Pool = note a x (new_note (record { 0 = p.next + 1 })) in
+    let s1 = new-sound f f kind.Request o 0 (codes "req") fs p s may.0 (λ t e. cc) (λ y. refl) (calm a) in
+    let s2 = waiting-sound f f fs a b s1 refl refl (λ y. refl) (calm b) in
+    new-sound f f' kind.Plain (Of x) size name fs b s2 (rw self refl) (λ t e. cc) same h
 change-sound f f' fs p TakeNumber s may same calm h = numbered-sound f f' fs p s same h
 change-sound f f' fs p c s may same calm h = waiting-sound f f' fs p (changed_by c p) s refl refl same h
 
@@ -226,13 +246,6 @@ ref-placed f fs p o x r s is there = by-row (row_of p.rows r) refl (s.refers.qui
     by-row : (q : Option Row) → row_of p.rows r ≡ q → IsQuietRow q → MayBePlaced p o r
     by-row None e quiet = absurd quiet
     by-row (Some row) e quiet = record { row = row; is = e; live = rw quiet tt; apart = ne; there = there; outside = reference-outside p.rows r x o s.forest is ne }
-
--- the row of a request, and below it that of its state, after the note of a number that is nobody's
-request-may : (p : Pool) (o : Owner) (size : ℕ) (name : List ℕ) → ((x : Obj) → ValidAt p.next (row_of p.rows x) x) → is_owner p.rows o ≡ true → MayDo p (adds_request p o size name)
-request-may p o size name valid there =
-    let n : Obj = record { 0 = p.next } in
-    let self : same n n ≡ true = same-equal n n refl in
-    ((refl, nobody p valid), record { there = there; target = λ t e. cc }, record { there = rw self refl; target = λ t e. cc })
 
 -- what is kept of a request is changed, and not its state
 still-in_progress : (g : Note → Note) (p : Pool) (x : Obj) → ((n : Note) → (g n).state ≡ n.state) → in_progress p x ≡ [] → in_progress (renote p x g) x ≡ []
@@ -305,13 +318,13 @@ module _ (f : Frame) (fs : List Frame) (p : Pool) (s : Sound f fs p) where
       each (Some r) e t = let k = kinds r.kind t in record { comes = rw e k.0; ready = λ i. let i' : is_event r.kind ≡ true = rw e at i in let bad : true ≡ false = sym i' ∙ k.1 in cc }
 
   finishes : (x : Obj) (s : State) → IsBetween s → Passed p (IsRequest x) → Passed p (IsInProgressTest x) → May p (Works Nothing (Finish s) x)
-  finishes x s between h state = (tt, refl, refl, h, state, between)
+  finishes x s between h state = (tt, refl, refl, (h, state, between))
 
   received : (x : Obj) (o : Option Note) → Passed p (IsObject x) → note_of p.requests x ≡ o → May p (receives x o)
   received x None h e = (tt, omega arith, tt, omega arith)
   received x (Some n) h e = by_test (is_received n.state)
       (λ t. rw t (tt, omega arith, tt, omega arith))
-      (λ t. rw t (tt, refl, refl, rw (e, t) refl, h.0, h.1))
+      (λ t. rw t (tt, refl, refl, (rw (e, t) refl, (h.0, h.1))))
 
   each : (c : Call) → AllPassed p (tests c) → May p (plan p c)
   each (call.New o size name) h = (record { there = h.1.0; target = λ t e. cc }, omega arith, tt, omega arith)
@@ -362,7 +375,7 @@ module _ (f : Frame) (fs : List Frame) (p : Pool) (s : Sound f fs p) where
   each (call.Accept fd) h = tt
   each (call.Read fd len) h = tt
   each (call.Write fd bytes) h = tt
-  each (call.Req o size name) h = (request-may p o size name s.valid h.1.0, omega arith, tt, omega arith)
+  each (call.Req o size name) h = ((h.1.0, nobody p s.valid), omega arith, tt, omega arith)
   each (call.Callback x routine user) h = (λ n. refl, omega arith, tt, omega arith)
   each (call.Defer x) h = (λ n. refl, omega arith, tt, omega arith)
   each (call.Cleanup x routine) h = (λ n. refl, omega arith, tt, omega arith)
@@ -372,7 +385,7 @@ module _ (f : Frame) (fs : List Frame) (p : Pool) (s : Sound f fs p) where
   each (call.Done x) h = finishes x state.Done tt h.1.0 h.1.1.0
   each (call.Error x error) h = by_test (nat_eq error 0)
       (λ t. rw t (tt, omega arith, tt, omega arith))
-      (λ t. let progress : in_progress p x ≡ [] = rw t at h.1.1.0 in rw t ((λ n. refl), refl, refl, h.1.0, still-in_progress (failed_with error) p x (λ n. refl) progress, tt))
+      (λ t. let progress : in_progress p x ≡ [] = rw t at h.1.1.0 in rw t ((λ n. refl), refl, refl, (h.1.0, still-in_progress (failed_with error) p x (λ n. refl) progress, tt)))
   each (call.Oom x) h = finishes x state.NoMemory tt h.1.0 h.1.1.0
   each (call.Iserror x) h = (tt, omega arith, tt, omega arith)
   each (call.Progress x) h = (tt, omega arith, tt, omega arith)

@@ -56,6 +56,9 @@ renoted-other g ns x y ne = each (note_of ns x) refl
 
 -- ---- what all rows weigh
 
+pub note_weight-most : (ns : Notes) (r : Row) → note_weight ns r ≤ 1
+note_weight-most ns r = by_test (is_unreceived (note_of ns r.serial)) (λ t. rw t (omega arith)) (λ t. rw t (omega arith))
+
 -- so it is of each object
 abbrev pub NoHeavier : Notes → Notes → Type 0
 NoHeavier ms ns = (y : Obj) → is_unreceived (note_of ms y) ≡ true → is_unreceived (note_of ns y) ≡ true
@@ -103,7 +106,7 @@ forgotten-lighter ns x y h = by_test (same y x)
     (λ t. let none : note_of (without_note ns x) y ≡ None = of-without ns x y ∙ ap (λ b. cond b None (note_of ns y)) t in let bad : false ≡ true = rw none at h in cc)
     (λ t. let is : note_of (without_note ns x) y ≡ note_of ns y = of-without ns x y ∙ ap (λ b. cond b None (note_of ns y)) t in rw is at h)
 
-pub renoted-lighter : (g : Note → Note) (ns : Notes) (x : Obj) → ((n : Note) → is_unreceived (Some (g n)) ≡ true → is_unreceived (Some n) ≡ true) → NoHeavier (renoted g ns x) ns
+pub renoted-lighter : (g : Note → Note) (ns : Notes) (x : Obj) → ((n : Note) → note_of ns x ≡ Some n → is_unreceived (Some (g n)) ≡ true → is_unreceived (Some n) ≡ true) → NoHeavier (renoted g ns x) ns
 renoted-lighter g ns x calm y h = each (note_of ns x) refl
   where
     each : (o : Option Note) → note_of ns x ≡ o → is_unreceived (note_of ns y) ≡ true
@@ -113,14 +116,14 @@ renoted-lighter g ns x calm y h = each (note_of ns x) refl
         let h' : is_unreceived (note_of (with_note ns x (g n)) y) ≡ true = rw e at h in
         let h'' : is_unreceived (Some (g n)) ≡ true = rw is at h' in
         let at_x : note_of ns y ≡ Some n = ap (note_of ns) (same-true y x t) ∙ e in
-        rw at_x (calm n h''))
+        rw at_x (calm n e h''))
         (λ t. let is : note_of (with_note ns x (g n)) y ≡ note_of ns y = of-with ns x y (g n) ∙ ap (λ b. cond b (Some (g n)) (note_of ns y)) t in
         let h' : is_unreceived (note_of (with_note ns x (g n)) y) ≡ true = rw e at h in
         rw is at h')
 
 -- a request that is received pays for it
 pub total-receive : (ns : Notes) (rs : List Row) (x : Obj) (r : Row) → row_of rs x ≡ Some r → is_unreceived (note_of ns x) ≡ true → total (weight (renoted (in_state Received) ns x)) rs + 1 ≤ total (weight ns) rs
-total-receive ns rs x r e before = total-received (renoted (in_state Received) ns x) ns rs x r (renoted-lighter (in_state Received) ns x (λ n h. cc)) e (now (note_of ns x) refl) before
+total-receive ns rs x r e before = total-received (renoted (in_state Received) ns x) ns rs x r (renoted-lighter (in_state Received) ns x (λ n q h. cc)) e (now (note_of ns x) refl) before
   where
     now : (o : Option Note) → note_of ns x ≡ o → is_unreceived (note_of (renoted (in_state Received) ns x) x) ≡ false
     now None e = rw (renoted-none (in_state Received) ns x e) refl

@@ -1,5 +1,5 @@
 -- How a turn goes on: what is to start, and the works that it goes on as.
-use Rattle.std.proofs.Common.{◌≡◌, ℕ, ◌≤◌, List, Option, Some, None, true, false, nat_eq, nat_le, Bool, refl, ◌∙◌, arith}
+use Rattle.std.proofs.Common.{◌≡◌, ℕ, ◌≤◌, List, [], ◌∷◌, Option, Some, None, true, false, nat_eq, nat_le, Bool, refl, ap, ◌∙◌, arith}
 use Rattle.std.specs.Prelude.{◌-◌}
 use Rattle.step_machine.specs.Machine.{Move as Do}
 use Rattle.tree_specs.specs.declared.object.Obj.{Obj}
@@ -24,14 +24,16 @@ use Rattle.tree_specs.specs.declared.request.State.TheVariants.{TimedOut}
 use Rattle.tree_specs.specs.Events.Requests.{is_noted}
 use Rattle.tree_specs.specs.Tree.Targets.{target_of}
 use Rattle.tree_specs.specs.Tree.Pool.{Pool, row_of, unschedule, disarm}
-use Rattle.tree_specs.specs.Events.Pending.{first}
+use Rattle.tree_specs.specs.Words.Objects.{same}
+use Rattle.tree_specs.specs.Events.Pending.{first, is_armed}
+use Rattle.tree_specs.proofs.Events.PendingLaws.{disarmed-other}
 use Rattle.tree_specs.specs.Events.Rotation.{Ready as ReadyOne, first_ready}
 use Rattle.tree_specs.specs.Events.Coming.{wait_limit, comes_as, is_quiet_mark, may_start, handler_for, looks_again, at_time, with_flags, plainly, rotated}
 use Rattle.tree_specs.specs.Calls.Refusals.{is_referable}
 use Rattle.tree_specs.specs.Machine.Table.{Step, work_of, due_now, due_step, taking_step, early_step, timed_step, timed_turn, ready_turn, looked_turn, turn_step, turn_taken}
 use Rattle.tree_specs.specs.Machine.Profiles.{turn_profile, caller_size}
 use Rattle.tree_specs.specs.Invariants.Sound.{Footing, IsTurned, TurnRests}
-use Rattle.tree_specs.proofs.Tree.Numbered.{by_test}
+use Rattle.tree_specs.proofs.Tree.Numbered.{by_test, same-equal}
 use Rattle.tree_specs.proofs.Calls.Checks.{both-true, clocked-by, polled-by}
 
 -- ---- what is to start
@@ -67,9 +69,9 @@ handler-ready p w x h e = by_test (may_start w (row_of p.rows x)) (λ t. by-row 
         record { row = r; is = k; object = c.0; event = c.1; comes = b.0; quiet = quiet-mark r.mark b.1 }
 
 -- an event that comes goes to the end of the rotation, and nothing else changes
-pub rotated-rows : (w : What) (x : Obj) (p : Pool) → ((rotated w x p).rows ≡ p.rows) × ((rotated w x p).next ≡ p.next)
-rotated-rows ForDescriptor x p = (refl, refl)
-rotated-rows _ x p = (refl, refl)
+pub rotated-rows : (w : What) (x : Obj) (p : Pool) → ((rotated w x p).rows ≡ p.rows) × ((rotated w x p).next ≡ p.next) × ((rotated w x p).requests ≡ p.requests)
+rotated-rows ForDescriptor x p = (refl, refl, refl)
+rotated-rows _ x p = (refl, refl, refl)
 
 -- ---- works of a turn that say nothing of an object
 
@@ -99,17 +101,17 @@ plain-more f h = record { claims = h.claims; size = h.size; cheap = (let l = h.c
 
 -- ---- looking for what comes
 
--- a request is notified in its turn, or times out
-abbrev pub IsServed : Errand → Type 0
-IsServed Notify = Unit {0}
-IsServed (Finish TimedOut) = Unit {0}
-IsServed errand = ⊥
+-- a request is notified in its turn, or times out where it has an end time
+abbrev pub IsServed : Pool → Errand → Obj → Type 0
+IsServed p Notify x = Unit {0}
+IsServed p (Finish TimedOut) x = is_armed p.times x ≡ true
+IsServed p errand x = ⊥
 
 -- it goes on over the same rows, and says nothing of an object
 pub data Passes (p : Pool) : Step → Type 0 where
-  Pass : (g : TurnFrame) (q : Pool) → q.rows ≡ p.rows → q.next ≡ p.next → q.requests ≡ p.requests → IsPlain g 4 → Passes p (Do.Go (frame.Turn g) q)
+  Pass : (g : TurnFrame) (q : Pool) → q.rows ≡ p.rows → q.next ≡ p.next → q.requests ≡ p.requests → ((y : Obj) → is_armed q.times y ≡ true → is_armed p.times y ≡ true) → IsPlain g 4 → Passes p (Do.Go (frame.Turn g) q)
   -- or a request has come
-  Serve : (errand : Errand) (x : Obj) (q : Pool) → q.rows ≡ p.rows → q.next ≡ p.next → q.requests ≡ p.requests → IsServed errand → is_noted p.requests x ≡ true
+  Serve : (errand : Errand) (x : Obj) (q : Pool) → q.rows ≡ p.rows → q.next ≡ p.next → q.requests ≡ p.requests → ((y : Obj) → is_armed q.times y ≡ true → is_armed p.times y ≡ true) → IsServed p errand x → is_noted p.requests x ≡ true
       → Passes p (Do.Call (work_of errand x) (frame.Turn (Serving x)) q)
 
 -- the two works that look
@@ -118,36 +120,41 @@ IsLook Taking = Unit {0}
 IsLook (Timed again now) = Unit {0}
 IsLook f = ⊥
 
+-- what is first has a time
+first-armed : (ds : List Due) (d : Due) → first ds ≡ Some d → is_armed ds d.object ≡ true
+first-armed [] d e = cc
+first-armed (c ∷ ds) d e = let e' : c ≡ d = cc in let self : same c.object d.object ≡ true = same-equal c.object d.object (ap (λ (z : Due). z.object) e') in rw self refl
+
 -- a time has come
-due-passes : (x : Obj) (now : ℕ) (p : Pool) → Passes p (due_now x now p)
-due-passes x now p = by_test (is_noted p.requests x)
-    (λ t. rw t (Serve (Finish TimedOut) x (disarm p x) refl refl refl tt t))
-    (λ t. rw t (Pass (Starting ForTimer x (at_time now)) (disarm p x) refl refl refl (plain-starting ForTimer x (at_time now))))
+due-passes : (x : Obj) (now : ℕ) (p : Pool) → is_armed p.times x ≡ true → Passes p (due_now x now p)
+due-passes x now p timed = by_test (is_noted p.requests x)
+    (λ t. rw t (Serve (Finish TimedOut) x (disarm p x) refl refl refl (λ y h. (disarmed-other p.times x y h).0) timed t))
+    (λ t. rw t (Pass (Starting ForTimer x (at_time now)) (disarm p x) refl refl refl (λ y h. (disarmed-other p.times x y h).0) (plain-starting ForTimer x (at_time now))))
 
 pub look-passes : (f : TurnFrame) (p : Pool) → IsLook f → Passes p (turn_step f p)
 look-passes Taking p i = each (first p.soon)
   where
-    due : (o : Option Due) → Passes p (due_step o p)
-    due None = Pass (Polling wait_limit) p refl refl refl (plain-polling wait_limit)
-    due (Some d) = by_test (nat_eq d.time 0)
-        (λ t. rw t (due-passes d.object 0 p))
-        (λ t. rw t (Pass (Timing false) p refl refl refl (plain-timing false)))
+    due : (o : Option Due) → first p.times ≡ o → Passes p (due_step o p)
+    due None e = Pass (Polling wait_limit) p refl refl refl (λ y h. h) (plain-polling wait_limit)
+    due (Some d) e = by_test (nat_eq d.time 0)
+        (λ t. rw t (due-passes d.object 0 p (first-armed p.times d e)))
+        (λ t. rw t (Pass (Timing false) p refl refl refl (λ y h. h) (plain-timing false)))
 
     each : (o : Option Obj) → Passes p (taking_step o p)
-    each None = due (first p.times)
+    each None = due (first p.times) refl
     each (Some x) = by_test (is_noted p.requests x)
-        (λ t. rw t (Serve Notify x (unschedule p x) refl refl refl tt t))
-        (λ t. rw t (Pass (Starting ForImmediate x plainly) (unschedule p x) refl refl refl (plain-starting ForImmediate x plainly)))
-look-passes (Timed again now) p i = each (first p.times)
+        (λ t. rw t (Serve Notify x (unschedule p x) refl refl refl (λ y h. h) tt t))
+        (λ t. rw t (Pass (Starting ForImmediate x plainly) (unschedule p x) refl refl refl (λ y h. h) (plain-starting ForImmediate x plainly)))
+look-passes (Timed again now) p i = each (first p.times) refl
   where
     early : (again : Bool) (d : Due) → Passes p (early_step again d now p)
-    early true d = Pass (Closing 0) p refl refl refl (plain-closing 0)
-    early false d = Pass (Polling (d.time - now)) p refl refl refl (plain-polling (d.time - now))
+    early true d = Pass (Closing 0) p refl refl refl (λ y h. h) (plain-closing 0)
+    early false d = Pass (Polling (d.time - now)) p refl refl refl (λ y h. h) (plain-polling (d.time - now))
 
-    each : (o : Option Due) → Passes p (timed_step again now o p)
-    each None = Pass (Closing 0) p refl refl refl (plain-closing 0)
-    each (Some d) = by_test (nat_le d.time now)
-        (λ t. rw t (due-passes d.object now p))
+    each : (o : Option Due) → first p.times ≡ o → Passes p (timed_step again now o p)
+    each None e = Pass (Closing 0) p refl refl refl (λ y h. h) (plain-closing 0)
+    each (Some d) e = by_test (nat_le d.time now)
+        (λ t. rw t (due-passes d.object now p (first-armed p.times d e)))
         (λ t. rw t (early again d))
 look-passes _ p i = absurd i
 

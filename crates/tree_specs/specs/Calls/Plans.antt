@@ -2,9 +2,9 @@
 use Rattle.std.specs.Prelude.{ℕ, ◌+◌, nat_eq, codes, List, [], ◌∷◌, length, Bool, not, is_some, ◌&&◌, Option, Some, None, unwrap_or, if◌then◌else◌}
 use Rattle.tree_specs.specs.declared.object.Obj.{Obj}
 use Rattle.tree_specs.specs.declared.object.Owner.{Owner}
-use Rattle.tree_specs.specs.declared.object.Owner.TheVariants.{Root, Of}
+use Rattle.tree_specs.specs.declared.object.Owner.TheVariants.{Root}
 use Rattle.tree_specs.specs.declared.kind.Kind.{Kind}
-use Rattle.tree_specs.specs.declared.kind.Kind.TheVariants.{Plain, Reference, Timer, Immediate, Descriptor, Request}
+use Rattle.tree_specs.specs.declared.kind.Kind.TheVariants.{Plain, Reference, Timer, Immediate, Descriptor}
 use Rattle.tree_specs.specs.declared.row.Row.{Row}
 use Rattle.tree_specs.specs.declared.handler.Handler.{Handler}
 use Rattle.tree_specs.specs.declared.frame.Errand.{Errand}
@@ -23,9 +23,9 @@ use Rattle.tree_specs.specs.declared.reply.Reply.{Reply}
 use Rattle.tree_specs.specs.declared.reply.Reply.TheVariants.{Ok, Number, Pair, Rows, No}
 use Rattle.tree_specs.specs.Words.Objects.{owner_number}
 use Rattle.tree_specs.specs.Tree.Targets.{newest_ref}
-use Rattle.tree_specs.specs.Tree.Pool.{Pool, changed, is_below, owner_of, newest_ref_of, add, place, named_row, hooked_row, sized_row, limited_row, set_handler, schedule, unschedule, arm, watch, rewatch, close_descriptor, take_number, note, renote}
+use Rattle.tree_specs.specs.Tree.Pool.{Pool, changed, is_below, owner_of, newest_ref_of, add, place, named_row, hooked_row, sized_row, limited_row, set_handler, schedule, unschedule, arm, watch, rewatch, close_descriptor, take_number, add_request, renote}
 use Rattle.tree_specs.specs.Events.Rotation.{flags_of, flagged, closing}
-use Rattle.tree_specs.specs.Events.Requests.{state_number, is_in_progress, is_received, note_of, new_note, called_back, deferring, cleaned_by, cancelled_by, failed_with}
+use Rattle.tree_specs.specs.Events.Requests.{state_number, is_in_progress, is_received, note_of, called_back, deferring, cleaned_by, cancelled_by, failed_with}
 use Rattle.tree_specs.specs.Tree.Inside.{size_inside, count_inside}
 use Rattle.tree_specs.specs.Tree.Sums.{sum_inside}
 use Rattle.tree_specs.specs.Tree.Reports.{report}
@@ -55,8 +55,8 @@ pub data Change : Type 0 where
   Close : ℕ → Change
   -- a number is taken, which no object gets
   TakeNumber : Change
-  -- a request gets its note
-  Notes : Obj → Note → Change
+  -- a new request below an owner, and below it a plain object with this size and name
+  AddRequest : Owner → ℕ → List ℕ → Change
   -- what is kept of a request is changed
   Renotes : Obj → (Note → Note) → Change
   -- one change after another
@@ -75,7 +75,7 @@ changed_by (Watches x fd flags) p = watch p x fd flags
 changed_by (Rewatch x change) p = rewatch p x change
 changed_by (Close fd) p = close_descriptor p fd
 changed_by TakeNumber p = take_number p
-changed_by (Notes x n) p = note p x n
+changed_by (AddRequest o size name) p = add_request p o size name
 changed_by (Renotes x change) p = renote p x change
 changed_by (Then first second) p = changed_by second (changed_by first p)
 
@@ -150,11 +150,6 @@ watches x fd flags handler = Then (Handle x handler) (Watches x fd flags)
 abbrev pub adds_descriptor : Pool → Owner → ℕ → ℕ → Handler → Change
 adds_descriptor p o fd flags handler = Then (Add Descriptor o 0 (codes "fd")) (watches (record { 0 = p.next }) fd flags handler)
 
--- a request with its note below an owner, and below it a plain object of its own
-abbrev pub adds_request : Pool → Owner → ℕ → List ℕ → Change
-adds_request p o size name =
-    Then (Notes (record { 0 = p.next }) (new_note (record { 0 = p.next + 1 }))) (Then (Add Request o 0 (codes "req")) (Add Plain (Of (record { 0 = p.next })) size name))
-
 abbrev pub renotes : Obj → (Note → Note) → Plan
 renotes x change = Does (Renotes x change) None Ok
 
@@ -215,7 +210,7 @@ plan p (call.Close fd) = Does (Close fd) (Some (Closed fd)) Ok
 plan p (call.Accept fd) = Asks (ask.Accept fd)
 plan p (call.Read fd len) = Asks (ask.Read fd len)
 plan p (call.Write fd bytes) = Asks (ask.Write fd bytes)
-plan p (call.Req o size name) = Does (adds_request p o size name) None (Number p.next)
+plan p (call.Req o size name) = Does (AddRequest o size name) None (Number p.next)
 plan p (call.Callback x routine user) = renotes x (called_back routine user)
 plan p (call.Defer x) = renotes x deferring
 plan p (call.Cleanup x routine) = renotes x (cleaned_by routine)

@@ -31,11 +31,11 @@ weight notes r = mark_weight r.mark + note_weight notes r
 
 -- what the payment of a row is worth
 abbrev pub row_worth : ℕ → ℕ
-row_worth R = 4 * R + 64
+row_worth R = 4 * R + 24
 
 -- what an input is worth: two rows and a note that its call may add, and the call's own steps
 abbrev pub input_worth : ℕ → ℕ
-input_worth R = 20 * R + 341
+input_worth R = 24 * R + 148
 
 -- what a waiting work still costs
 abbrev pub waiting_cost : Frame → ℕ

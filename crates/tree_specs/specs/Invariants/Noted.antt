@@ -10,7 +10,8 @@ use Rattle.tree_specs.specs.declared.frame.Frame.TheVariants as frame
 use Rattle.tree_specs.specs.declared.frame.RequestFrame.{RequestFrame}
 use Rattle.tree_specs.specs.declared.frame.RequestFrame.TheVariants as request
 use Rattle.tree_specs.specs.Tree.Pool.{Pool, row_of}
-use Rattle.tree_specs.specs.Events.Requests.{note_of, is_noted}
+use Rattle.tree_specs.specs.Events.Pending.{is_armed}
+use Rattle.tree_specs.specs.Events.Requests.{is_noted}
 use Rattle.tree_specs.specs.Calls.Refusals.{in_progress, is_request_row}
 
 -- a request that isn't over
@@ -41,7 +42,11 @@ abbrev pub RestsNoted : Frame → Pool → Type 0
 RestsNoted (frame.Request f) p = WorkRests f p
 RestsNoted f p = Unit {0}
 
-pub record Noted (f : Frame) (p : Pool) : Type 0 where
-  -- what is kept is kept of requests, and of each of them
+-- what is kept is kept of requests, and of each of them; one that has an end time isn't over
+pub record NotesHold (p : Pool) : Type 0 where
   pub notes : (x : Obj) → is_noted p.requests x ≡ is_request_row (row_of p.rows x)
+  pub timed : (x : Obj) → is_armed p.times x ≡ true → IsInProgress p x
+
+pub record Noted (f : Frame) (p : Pool) : Type 0 where
+  pub pool : NotesHold p
   pub works : RestsNoted f p

@@ -217,13 +217,13 @@ a_caller q = record { ask = Some q; waits = Never; size = caller_size; waiting_c
 
 abbrev pub call_profile : CallFrame → CallProfile
 call_profile (Asking q) = a_caller q
-call_profile (Doing q c) = record (a_caller q) { cost = at_most 20 340 AtNone; adds = 2 }
+call_profile (Doing q c) = record (a_caller q) { cost = at_most 24 147 AtNone; adds = 2 }
 call_profile (Awaiting q x) = record (a_caller q) { waits = AFree x; waiting_cost = 1 }
 call_profile (Turning q) = record (a_caller q) { waits = ATurn; size = 0 }
 call_profile (Requesting q) = record (a_caller q) { waits = ARequest; size = 0 }
 call_profile (Announcing q notice r) = record (a_caller q) { cost = at_most 0 2 AtNone }
 call_profile (Telling q r) = record (a_caller q) { cost = at_most 0 1 AtNone }
-call_profile (Returning v) = record { ask = None; waits = Never; size = caller_size; waiting_cost = 0; cost = at_most 4 9 AtNone; adds = 0 }
+call_profile (Returning v) = record { ask = None; waits = Never; size = caller_size; waiting_cost = 0; cost = at_most 4 12 AtNone; adds = 0 }
 
 abbrev pub of_call : CallProfile → Profile
 of_call f = record { role = Calls f.ask; waits = f.waits; claims = None; removes = None; size = f.size; top_size = caller_size; waiting_cost = f.waiting_cost; cost = f.cost; adds = f.adds }

@@ -1,5 +1,5 @@
 -- The pool: the rows of the objects, the most recently placed first, the next serial number, and what waits for its turn.
-use Rattle.std.specs.Prelude.{ℕ, suc, zero, ◌+◌, Bool, true, false, not, ◌||◌, ◌&&◌, List, [], ◌∷◌, length, Option, Some, None, is_some, unwrap_or, if◌then◌else◌}
+use Rattle.std.specs.Prelude.{ℕ, suc, zero, ◌+◌, Bool, true, false, not, ◌||◌, ◌&&◌, List, [], ◌∷◌, length, Option, Some, None, is_some, unwrap_or, codes, if◌then◌else◌}
 use Rattle.tree_specs.specs.declared.due.Due.{Due}
 use Rattle.tree_specs.specs.declared.handler.Handler.{Handler}
 use Rattle.tree_specs.specs.declared.watch.Watch.{Watch}
@@ -13,12 +13,13 @@ use Rattle.tree_specs.specs.declared.row.Row.{Row}
 use Rattle.tree_specs.specs.declared.row.Mark.{Mark}
 use Rattle.tree_specs.specs.declared.row.Mark.TheVariants.{Quiet, Doomed, Dying}
 use Rattle.tree_specs.specs.declared.kind.Kind.{Kind}
+use Rattle.tree_specs.specs.declared.kind.Kind.TheVariants.{Plain, Request}
 use Rattle.tree_specs.specs.Words.Objects.{same, same_owner}
 use Rattle.tree_specs.specs.Events.Pending.{scheduled, unscheduled, armed, disarmed}
 use Rattle.tree_specs.specs.Events.Rotation.{watched, unwatched, rewatched, turned_back, closes_with}
 use Rattle.tree_specs.specs.Events.Descriptors.{Descriptors, listener_alone, opened, closed, shut}
 use Rattle.tree_specs.specs.Events.Handlers.{Handlers, no_handlers, with_handler, without_handler}
-use Rattle.tree_specs.specs.Events.Requests.{Notes, no_notes, with_note, without_note, renoted, in_state}
+use Rattle.tree_specs.specs.Events.Requests.{Notes, no_notes, new_note, with_note, without_note, renoted, in_state}
 use Rattle.tree_specs.specs.Tree.Targets.{target_of, is_target, is_reference, newest, newest_ref}
 
 pub record Pool : Type 0 where
@@ -292,6 +293,10 @@ close_descriptor p fd = record p { descriptors = closed p.descriptors fd }
 -- a request gets its note
 abbrev pub note : Pool → Obj → Note → Pool
 note p x n = record p { requests = with_note p.requests x n }
+
+-- a new request below an owner, and below it a plain object of its own
+abbrev pub add_request : Pool → Owner → ℕ → List ℕ → Pool
+add_request p o size name = add (note (add p Request o 0 (codes "req")) (record { 0 = p.next }) (new_note (record { 0 = p.next + 1 }))) Plain (Of (record { 0 = p.next })) size name
 
 -- what is kept of a request is changed
 abbrev pub renote : Pool → Obj → (Note → Note) → Pool
