@@ -2,7 +2,7 @@
 use Rattle.tree_specs.proofs.Tree.Referring.{unreferred, plain-refers}
 use Rattle.tree_specs.specs.Tree.Forest.{Distinct}
 use Rattle.tree_specs.specs.Invariants.Sound.{IsReferable, Refers}
-use Rattle.std.proofs.Common.{◌≡◌, ℕ, List, [], ◌∷◌, ◌++◌, Option, Some, None, Bool, true, false, refl, sym, ◌∙◌, subst, ap}
+use Rattle.std.proofs.Common.{nat_eq, ◌≡◌, ℕ, List, [], ◌∷◌, ◌++◌, Option, Some, None, Bool, true, false, refl, sym, ◌∙◌, subst, ap}
 use Rattle.tree_specs.specs.Tree.Sums.{size_at}
 use Rattle.std.specs.Prelude.{zero, suc, ◌-◌, ◌+◌, ◌^◌, nat_lt, nat_le, length, not, is_some}
 use Rattle.tree_specs.specs.declared.object.Obj.{Obj}

@@ -186,6 +186,10 @@ follows p (Renotes x g) may = record {
 }
 follows p c may = waits p (changed_by c p) refl refl refl
 
+-- a new request may own its object
+request-owner : (p : Pool) (o : Owner) → is_owner (add p kind.Request o 0 (codes "req")).rows (Of (record { 0 = p.next })) ≡ true
+request-owner p o = let n : Obj = record { 0 = p.next } in let self : same n n ≡ true = same-equal n n refl in rw self refl
+
 -- the rows stay sound under a work that claims as much
 pub change-sound : (f f' : Frame) (fs : List Frame) (p : Pool) (c : Change) → Sound f fs p → MayDo p c → ((y : Obj) → claim y f' ≡ claim y f) → ((q : Pool) → Rests f fs q) → Rests f' fs (changed_by c p) → Sound f' fs (changed_by c p)
 change-sound f f' fs p Nothing s may same calm h = goes_on f f' fs p same h s
@@ -197,12 +201,11 @@ change-sound f f' fs p (Then first second) s may same calm h =
     change-sound f f' fs (changed_by first p) second t may.1 same calm h
 change-sound f f' fs p (AddRequest o size name) s may same calm h =
     let x : Obj = record { 0 = p.next } in
-    let self : same x x ≡ true = same-equal x x refl in
     let a : Pool = add p kind.Request o 0 (codes "req") in
     let b : Pool = note a x (new_note (record { 0 = p.next + 1 })) in
     let s1 = new-sound f f kind.Request o 0 (codes "req") fs p s may.0 (λ t e. cc) (λ y. refl) (calm a) in
     let s2 = waiting-sound f f fs a b s1 refl refl (λ y. refl) (calm b) in
-    new-sound f f' kind.Plain (Of x) size name fs b s2 (rw self refl) (λ t e. cc) same h
+    new-sound f f' kind.Plain (Of x) size name fs b s2 (request-owner p o) (λ t e. cc) same h
 change-sound f f' fs p TakeNumber s may same calm h = numbered-sound f f' fs p s same h
 change-sound f f' fs p c s may same calm h = waiting-sound f f' fs p (changed_by c p) s refl refl same h
 
@@ -324,7 +327,7 @@ module _ (f : Frame) (fs : List Frame) (p : Pool) (s : Sound f fs p) where
   received x None h e = (tt, omega arith, tt, omega arith)
   received x (Some n) h e = by_test (is_received n.state)
       (λ t. rw t (tt, omega arith, tt, omega arith))
-      (λ t. rw t (tt, refl, refl, (rw (e, t) refl, (h.0, h.1))))
+      (λ t. rw t (tt, refl, refl, (rw (e, t) refl, h.0, h.1)))
 
   each : (c : Call) → AllPassed p (tests c) → May p (plan p c)
   each (call.New o size name) h = (record { there = h.1.0; target = λ t e. cc }, omega arith, tt, omega arith)

@@ -44,7 +44,7 @@ pub preparing : (x : Obj) (fs : List Frame) (p : Pool) (k : ℕ) → Sound (fram
 preparing x fs p k s =
     let phase = claim-here x InRun (claims x fs) (row_of p.rows x) (s.open_frees x) in
     let row = running-row (row_of p.rows x) (claims x fs) phase in
-    stands (frame.Free (Preparing x)) (frame.Request (request.Receiving x)) fs (frame.Free (Preparing x) ∷ fs) p (λ y. refl) (tt, s.waiting) (tt, (s.rests, (row.0, row.1))) s
+    stands (frame.Free (Preparing x)) (frame.Request (request.Receiving x)) fs (frame.Free (Preparing x) ∷ fs) p (λ y. refl) (tt, s.waiting) (tt, (s.rests, row.0, row.1)) s
 
 pub prepared : (x : Obj) (fs : List Frame) (p : Pool) (k : ℕ) → Sound (frame.Free (Prepared x)) fs p → KeptBy (step (frame.Free (Prepared x)) p) fs k
 prepared x fs p k s =

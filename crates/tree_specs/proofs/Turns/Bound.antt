@@ -40,7 +40,7 @@ look_rounds _ = 4
 -- the numbers of a work are in bounds
 record Fits (f : Profile) : Type 0 where
   waiting : f.waiting_cost ≤ 3 * f.size
-  rounds : f.cost.rounds + look_rounds f.cost.looks ≤ 16
+  rounds : f.cost.rounds + look_rounds f.cost.looks ≤ 24
   steps : f.cost.steps ≤ 147
   adds : f.adds ≤ 2
 

@@ -89,7 +89,7 @@ over-pays R a o rows n _ gs (ForClear x) = omega arith
 over-pays R a o rows n _ gs (ForRequest q) = omega arith
 over-pays R a o rows n _ gs (ForServed x) = omega arith
 over-pays R a o rows n _ gs (ForReceived x) = omega arith
-over-pays R a o rows n _ gs (ForRoutine what x h errand) = after-cost R what (Freed a) x h errand gs rows
+over-pays R a o rows n _ gs (ForRoutine what x h errand) = let l = after-cost R what (Freed a) x h errand gs rows in omega (arith, l)
 over-pays R a o rows n _ gs (ForRelease c) = omega arith
 over-pays R Ok o rows n _ gs (ForChild x c noted purpose) = let m = count-length rows (Of x) in omega (arith, m, n)
 over-pays R Held o rows n _ gs (ForChild x c noted purpose) = let m = count-length rows (Of x) in omega (arith, m, n)
@@ -108,6 +108,9 @@ returning-lower R v fs p k s room = done-lower R (Returned v) (frame.Call (Retur
   where
     as-over : (g : Frame) (gs : List Frame) → Waiter g → top_cost R (resume g (Returned v)) gs p.rows ≡ top_cost R (resume g (Freed Ok)) gs p.rows
     as-over _ gs (ForFree q x) = refl
+    as-over _ gs (ForRoutine whats.Cleanup x h errand) = refl
+    as-over _ gs (ForRoutine whats.Cancel x h errand) = refl
+    as-over _ gs (ForRoutine what x h errand) = refl
     as-over _ gs _ = refl
 
 pub asking-lower : (R : ℕ) (q : Ask) (fs : List Frame) (p : Pool) (k : ℕ) → Room R (frame.Call (Asking q)) p k
@@ -170,7 +173,7 @@ kids-most R rows (g ∷ fs) h = omega arith
 
 -- a reference that is gone pays for what comes next
 dropped-lower : (R : ℕ) (f g : FreeFrame) (fs : List Frame) (p : Pool) (k : ℕ) (r t : Obj) → Sound (frame.Free f) fs p → target_at p.rows r ≡ Some t → Room R (frame.Free f) p k
-    → (length (without p.rows r) ≤ R → top_cost R (frame.Free g) fs (without p.rows r) ≤ 4 * R + 10)
+    → (length (without p.rows r) ≤ R → top_cost R (frame.Free g) fs (without p.rows r) ≤ 4 * R + 13)
     → Room R (frame.Free g) (remove p r) k × (cost R (frame.Free g) fs (remove p r) k < cost R (frame.Free f) fs p k)
 dropped-lower R f g fs p k r t s is room most = by-row (row_of p.rows r) refl (s.refers.quiet r t is)
   where
@@ -325,19 +328,19 @@ beginning-lower R x fs p k s room = newest (newest_ref p.rows x) refl
         kids (frame.Free (FreeingChild y c noted purpose) ∷ fs) = ap (λ (z : ℕ). 4 * z) (total-kept (λ q. if is_below q.owner (Of y) then 1 else 0) (marked_row Doomed) p.rows x r e refl)
         kids (_ ∷ fs) = refl
 
-    quiet : (r : Row) → row_of p.rows x ≡ Some r → r.mark ≡ Quiet → Lowers R (cost R (frame.Free (Beginning x)) fs p k) (lifted p.ring (begin_quiet x r.hook p)) fs k
-    quiet r e m = by_test (is_unreceived (note_of p.requests x))
-        (λ t. let u = ap (λ (z : ℕ). row_worth R * z) (total-kept (weight p.requests) (marked_row Asked) p.rows x r e (marked-weight p.requests Asked r (sym (ap mark_weight m)))) in
-        let n = length-changed (marked_row Asked) p.rows x in
-        rw t (omega (arith, n), omega (arith, u)))
-        (λ t. rw t (plain r e m))
-
     plain : (r : Row) → row_of p.rows x ≡ Some r → r.mark ≡ Quiet → Lowers R (cost R (frame.Free (Beginning x)) fs p k) (lifted p.ring (begin_plain x r.hook p)) fs k
     plain r e m = by_test (nat_eq r.hook 0)
         (λ t. rw t (omega arith, omega arith))
         (λ t. let u = ap (λ (z : ℕ). row_worth R * z) (total-kept (weight p.requests) (marked_row Asked) p.rows x r e (marked-weight p.requests Asked r (sym (ap mark_weight m)))) in
         let n = length-changed (marked_row Asked) p.rows x in
         rw t (omega (arith, n), omega (arith, u)))
+
+    quiet : (r : Row) → row_of p.rows x ≡ Some r → r.mark ≡ Quiet → Lowers R (cost R (frame.Free (Beginning x)) fs p k) (lifted p.ring (begin_quiet x r.hook p)) fs k
+    quiet r e m = by_test (is_unreceived (note_of p.requests x))
+        (λ t. let u = ap (λ (z : ℕ). row_worth R * z) (total-kept (weight p.requests) (marked_row Asked) p.rows x r e (marked-weight p.requests Asked r (sym (ap mark_weight m)))) in
+        let n = length-changed (marked_row Asked) p.rows x in
+        rw t (omega (arith, n), omega (arith, u)))
+        (λ t. rw t (plain r e m))
 
     marks : (r : Row) (m : Mark) → r.mark ≡ m → row_of p.rows x ≡ Some r → Lowers R (cost R (frame.Free (Beginning x)) fs p k) (lifted p.ring (begin_step x (row_of p.rows x) p)) fs k
     marks r Quiet m e = rw (e, m) (quiet r e m)

@@ -456,7 +456,7 @@ request-placed (request.Cleaning x errand) fs p k s b l = cleaning-placed fs p k
 request-placed (request.Cleaned x errand) fs p k s b l = cleaned-placed fs p k x errand b l (note_of p.requests x)
 request-placed (request.Notifying x errand) fs p k s b l = notifying-placed fs p k x errand b l (note_of p.requests x)
 request-placed (request.Calling w x h errand) fs p k s b l = (reseat-work (request.Calling w x h errand) _ fs b, l)
-request-placed (request.Called w x h errand) fs p k s b l = ((tt, b), l)
+request-placed (request.Called w x h errand) fs p k s b l = ((tt, b), omega (arith, l))
 request-placed (request.Releasing c) fs p k s b l = absurd s.rests
 request-placed (request.Over r) fs p k s b l = over (HeardBy r) (frame.Request (request.Over r)) fs p k s.waiting b l
 

@@ -174,11 +174,11 @@ a_loop x purpose = record (a_free x) { claims = loops x purpose; removes = loop_
 abbrev pub free_profile : FreeFrame → FreeProfile
 free_profile (Unlinking o x) = record (a_free x) { cost = at_most 0 8 AtBelow }
 free_profile (Releasing x) = record (a_free x) { cost = at_most 0 7 AtBelow }
-free_profile (Giving x o) = record (a_free x) { cost = at_most 4 10 AtNone }
+free_profile (Giving x o) = record (a_free x) { cost = at_most 4 13 AtNone }
 free_profile (Beginning x) = record (a_free x) { cost = at_most 0 6 AtBelow }
 -- an object that is to be asked pays for the run that comes
 free_profile (Hooked x h) = record (a_free x) { waits = ARun x h; claims = runs x; size = 1; top_size = 3; waiting_cost = 3; cost = at_most 0 4 AtNone }
-free_profile (Judged x h v) = record (a_free x) { claims = runs x; size = 3; top_size = 3; cost = at_most 4 10 AtNone }
+free_profile (Judged x h v) = record (a_free x) { claims = runs x; size = 3; top_size = 3; cost = at_most 4 13 AtNone }
 -- a request that is to be received pays for the routines that run
 free_profile (Preparing x) = record (a_free x) { waits = ARequest; claims = runs x; size = 1; top_size = 3; cost = at_most 0 5 AtNone }
 free_profile (Prepared x) = record (a_free x) { claims = runs x; size = 3; top_size = 3; cost = at_most 0 1 AtNone }
@@ -193,7 +193,7 @@ free_profile (Leaving x h) = record (a_free x) {
 free_profile (Looping x purpose) = record (a_loop x purpose) { cost = at_most 0 7 (AtKids x) }
 free_profile (FreeingChild x c noted purpose) = record (a_loop x purpose) { waits = AChild c purpose }
 free_profile (AfterChild x c noted purpose answer) = record (a_loop x purpose) { cost = at_most 0 (tried_cost answer) (AtKids x) }
-free_profile (Ending answer) = record { object = None; waits = Never; claims = None; removes = None; size = 0; top_size = 0; waiting_cost = 0; cost = at_most 4 9 AtNone }
+free_profile (Ending answer) = record { object = None; waits = Never; claims = None; removes = None; size = 0; top_size = 0; waiting_cost = 0; cost = at_most 4 12 AtNone }
 
 abbrev pub of_free : FreeProfile → Profile
 of_free f = record { role = Frees f.object; waits = f.waits; claims = f.claims; removes = f.removes; size = f.size; top_size = f.top_size; waiting_cost = f.waiting_cost; cost = f.cost; adds = 0 }
