@@ -29,17 +29,12 @@ use Rattle.tree_specs.proofs.Promises.Later.{Later, later-same, later-waiting}
 use Rattle.tree_specs.proofs.Promises.Past.{Past, past-goes, past-tells}
 use Rattle.tree_specs.proofs.Promises.Causes.{NotedWork, told, StandsOn, Cause}
 use Rattle.tree_specs.proofs.Promises.Fitting.{fits-question}
-use Rattle.tree_specs.proofs.Promises.Fine.{work_of, Known, FineBy, restacked, of-next, AnswersTo, resumed, known-told, taken-noted}
+use Rattle.tree_specs.proofs.Promises.Fine.{work_of, Known, FineBy, restacked, of-next, AnswersTo, resumed, known-told, taken-noted, just-now}
 
 -- the outside is no destructor
 outside-no-hook : (q : Ask) → IsOutside q → (y : Obj) → asks_hook y (Asked q) ≡ false
 outside-no-hook (ask.Routine m) h y = absurd h
 outside-no-hook _ h y = refl
-
--- a reply that is no refusal follows none
-just-now : (items : List Item) (r : Reply) → IsNoRefusal r → RefusedJustNow items (Told (Replied r))
-just-now items (No why) h = absurd h
-just-now items _ h = tt
 
 module _ (scenes : List Scene) (b : Option CallStart) (ws : List NotedWork) (p : Pool) where
   abbrev AtOutside : OutsideFrame → Type 0
@@ -56,7 +51,7 @@ module _ (scenes : List Scene) (b : Option CallStart) (ws : List NotedWork) (p :
       s = scene notes f b p (Asked q)
 
       past : Past (told scenes ++ Asked q ∷ []) f (map work_of ws) p
-      past = past-tells (told scenes) (Asked q) f (map work_of ws) p (λ x. refl) (λ x. refl) (λ x. refl) known.past
+      past = past-tells (told scenes) (Asked q) f (map work_of ws) p (λ x. refl) (λ x. refl) (λ x. refl) (λ x k. refl) known.past
 
       after : (g : OutsideFrame) → Cause (scenes ++ s ∷ []) (frame.Outside g) None ws p → Known (scenes ++ s ∷ []) (with_note None (frame.Outside g)) ws p
       after g cause = known-told scenes s (with_note None (frame.Outside g)) ws p
@@ -89,5 +84,5 @@ module _ (scenes : List Scene) (b : Option CallStart) (ws : List NotedWork) (p :
 
   pub outside-fine : (f : OutsideFrame) → AtOutside f
   outside-fine (Reaching q) whole known = reaching-fine q whole known
-  outside-fine (Opening fd) whole known = heard-fine (Opening fd) (open_descriptor p fd) (Number fd) tt (later-waiting p (open_descriptor p fd) refl refl) whole known
+  outside-fine (Opening fd) whole known = heard-fine (Opening fd) (open_descriptor p fd) (Number fd) tt (later-waiting p (open_descriptor p fd) refl refl refl) whole known
   outside-fine (Hearing r) whole known = heard-fine (Hearing r) p r known.cause (later-same p) whole known

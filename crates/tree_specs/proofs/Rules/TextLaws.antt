@@ -38,11 +38,11 @@ use Rattle.tree_specs.proofs.Rules.Lawful.{Last, last_after, After, Lawful, Any,
 use Rattle.tree_specs.proofs.Rules.RequestLaws.{finishing-lawful, receiving-lawful, cancelling-lawful, cleaning-lawful, cleaned-lawful, notifying-lawful, calling-lawful, called-lawful, work-lawful}
 use Rattle.tree_specs.proofs.Rules.TurnLaws.{clocked-lawful, taking-lawful, timed-lawful, polling-lawful, starting-lawful, firing-lawful, handling-lawful, handled-lawful}
 
-weaker : (P Q : ℕ → Last → Type 0) (go : List Input → Outcome ℕ Pool Input Scene) → ((v : ℕ) (l : Last) → P v l → Q v l) → Lawful None P go → Lawful None Q go
-weaker P Q go h w = record { accepts = λ is. each is (go is) (w.accepts is); uses = w.uses }
+weaker : {A : Type 0} (last : Last) (P Q : A → Last → Type 0) (go : List Input → Outcome A Pool Input Scene) → ((v : A) (l : Last) → P v l → Q v l) → Lawful last P go → Lawful last Q go
+weaker {A = A} last P Q go h w = record { accepts = λ is. each is (go is) (w.accepts is); uses = w.uses }
   where
-    each : (is : List Input) (o : Outcome ℕ Pool Input Scene) → After None is P o → After None is Q o
-    each is (Ended v q ts left) a = (a.0, a.1, h v (last_after None ts is) a.2)
+    each : (is : List Input) (o : Outcome A Pool Input Scene) → After last is P o → After last is Q o
+    each is (Ended v q ts left) a = (a.0, a.1, h v (last_after last ts is) a.2)
     each is (Waits ts) a = a
     each is (Stray ts) a = a
     each is Short a = tt
@@ -194,7 +194,7 @@ plan-lawful n ih q (Unlinks o x) p last = followed-lawful last Any Any (unlink n
 plan-lawful n ih q (Empties x) p last = followed-lawful last Any Any (children n x p) _ (ih.frees.children x p last) (λ a q l k. ended-lawful l Any _ q tt)
 plan-lawful n ih q (Asks outside) p last = ih.outside.reaching outside p last
 plan-lawful n ih q Turns p last = turned-lawful q (taking n) p last (ih.turns.taking p last)
-plan-lawful n ih q (Works change errand x) p last = weaker Said Any (work_by (finishing n) (notifying n) (receiving n) (cancelling n) errand x (changed_by change p)) (λ r l s. tt) (work-lawful n ih errand x (changed_by change p) last)
+plan-lawful n ih q (Works change errand x) p last = weaker last Said Any (work_by (finishing n) (notifying n) (receiving n) (cancelling n) errand x (changed_by change p)) (λ r l s. tt) (work-lawful n ih errand x (changed_by change p) last)
 
 acting-lawful : (n : ℕ) → AllLawful n → (q : Ask) (c : Call) (p : Pool) (last : Last) → Lawful last (Returned q) (acting (suc n) q c p)
 acting-lawful n ih q c p last = each (notice_of (planned p c)) refl
@@ -222,7 +222,7 @@ announcing-lawful n ih q notice r about p last = each notice
 later-lawful : (n : ℕ) → AllLawful n → (q : Ask) (r : Reply) (about : Option CallStart) (p : Pool) (last : Last) → Lawful last (Returned q) (telling (suc n) about (later q r) r p)
 later-lawful n ih q r about p last =
     told-lawful last (Returned q) (record { item = Told (Replied r); before = p; about = about }) (asked n (later q r) p) tt (λ is. (refl, refl))
-    (weaker (Returned (later q r)) (Returned q) (asked n (later q r) p) (λ v l k s e. k s (returned-later q r v ∙ e)) (ih.calls.asked (later q r) p None))
+    (weaker None (Returned (later q r)) (Returned q) (asked n (later q r) p) (λ v l k s e. k s (returned-later q r v ∙ e)) (ih.calls.asked (later q r) p None))
 
 returning-lawful : (n : ℕ) (q : Ask) (v : ℕ) (p : Pool) (last : Last) → Returned q v last → Lawful last (Returned q) (returning (suc n) v p)
 returning-lawful n q v p last h = ended-lawful last (Returned q) v p h

@@ -94,7 +94,7 @@ request-lower R (request.Over r) fs p k s noted room =
     done-lower R (Heard r) (frame.Request (request.Over r)) fs p k s.waiting (omega arith) (λ g gs e w. let l = pays g gs (subst (λ (l : List Frame). IsRequested (footing l)) e s.rests) in omega (arith, l))
   where
     -- what waits for it
-    pays : (g : Frame) (gs : List Frame) → IsRequested (footing (g ∷ gs)) → top_cost R (resume g (Heard r)) gs p.rows < waiting_cost g + 2
+    pays : (g : Frame) (gs : List Frame) → IsRequested (footing (g ∷ gs)) → top_cost R (resume g (Heard r)) gs p.rows < waiting_cost g + 3
     pays (frame.Call (Requesting q)) gs t = omega arith
     pays (frame.Turn (Serving x)) gs t = omega arith
     pays (frame.Free (Preparing x)) gs t = omega arith

@@ -61,7 +61,7 @@ use Rattle.tree_specs.specs.Machine.FreeTable.{begin_quiet, begin_step, judge_st
 use Rattle.tree_specs.specs.Machine.Table.{Step, table, step, cancelling_step, cleaning_step, release_object, cleaned_step, callback_step, notifying_step, request_step, turning_step, turn_step, outside_step, starting_step, lifted, announced, closed_event, plan_step, resume}
 use Rattle.tree_specs.specs.Invariants.Sound.{phase_of, phases, claims, AllWait, Sound, Refers, IsQuietRow}
 use Rattle.tree_specs.proofs.Tree.Numbered.{by_test}
-use Rattle.tree_specs.specs.Machine.Profiles.{Waits, ARun, ATurn, AHandler, ARequest, AServed, ARoutine, profile}
+use Rattle.tree_specs.specs.Machine.Profiles.{Waits, ARun, ATurn, AHandler, ARequest, AReceived, AServed, ARoutine, profile}
 use Rattle.tree_specs.proofs.Calls.Checks.{Heard, HeardCall, HeardReturn, heard-leads, Reached, ReachedOpening, ReachedHearing, reached-leads}
 use Rattle.tree_specs.specs.Rules.Answers.{later}
 use Rattle.tree_specs.specs.Invariants.Consistent.{IsQuiet, IsOfRoutine, IsCaller, IsRun, IsFree, IsTurn, IsWork, MayStandOn, Serves, IsStacked, size, innermost_size, sizes, mark_deposit, deposit, IsPaidFor}
@@ -86,6 +86,7 @@ reseat f g (h ∷ hs) c r k t v s = (serve (profile h).waits s.0, s.1)
     serve (AHandler x) s = r s
     serve ATurn s = t s
     serve ARequest s = v s
+    serve (AReceived x) s = v s
     serve (AServed x) s = v s
     serve (ARoutine x) s = r s
     serve _ s = k s

@@ -10,7 +10,7 @@ use Rattle.tree_specs.specs.Tree.Inside.{total}
 use Rattle.tree_specs.specs.Invariants.Sound.{Sound}
 use Rattle.tree_specs.specs.Invariants.Noted.{Noted}
 use Rattle.tree_specs.specs.Machine.View.{View}
-use Rattle.tree_specs.specs.Machine.Profiles.{phase_in, Role, Calls, Frees, Turns, Requests, Waits, ARun, ATurn, AHandler, ARequest, AServed, ARoutine, profile}
+use Rattle.tree_specs.specs.Machine.Profiles.{phase_in, Role, Calls, Frees, Turns, Requests, Waits, ARun, ATurn, AHandler, ARequest, AReceived, AServed, ARoutine, profile}
 
 -- ---- which work may stand on which
 
@@ -66,6 +66,7 @@ Serves (ARun x h) f = IsRun f
 Serves (AHandler x) f = IsRun f
 Serves ATurn f = IsTurn f
 Serves ARequest f = IsWork f
+Serves (AReceived x) f = IsWork f
 Serves (AServed x) f = IsWork f
 Serves (ARoutine x) f = IsRun f
 Serves _ f = IsFree f

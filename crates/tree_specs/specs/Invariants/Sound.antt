@@ -25,7 +25,7 @@ use Rattle.tree_specs.specs.Tree.Pool.{Pool, row_of, owner_of, target_at, noted_
 use Rattle.tree_specs.specs.Events.Requests.{note_of, is_unreceived}
 use Rattle.tree_specs.specs.Calls.Refusals.{is_referable}
 use Rattle.tree_specs.specs.Tree.Forest.{IsForest}
-use Rattle.tree_specs.specs.Machine.Profiles.{Phase, Claim, former_in, phase_in, Waits, Never, AFree, ARun, AChild, ATurn, AHandler, AClear, ARequest, AServed, ARoutine, ARelease, profile}
+use Rattle.tree_specs.specs.Machine.Profiles.{Phase, Claim, former_in, phase_in, Waits, Never, AFree, ARun, AChild, ATurn, AHandler, AClear, ARequest, AReceived, AServed, ARoutine, ARelease, profile}
 use Rattle.tree_specs.specs.declared.kind.Kind.{Kind}
 use Rattle.tree_specs.specs.Events.Coming.{comes_as}
 
@@ -128,6 +128,7 @@ MayWait ATurn on = Unit {0}
 MayWait (AHandler x) on = IsTurned on
 MayWait (AClear x) on = IsTurned on
 MayWait ARequest on = Unit {0}
+MayWait (AReceived x) on = Unit {0}
 MayWait (AServed x) on = IsTurned on
 MayWait (ARoutine x) on = IsRequested on
 MayWait (ARelease c) on = IsRequested on

@@ -74,8 +74,10 @@ pub data Waits : Type 0 where
   AHandler : Obj → Waits
   -- a turn, for the freeing of this event
   AClear : Obj → Waits
-  -- a call, or a free, for the work of a request
+  -- a call, for the work of a request
   ARequest : Waits
+  -- a free, until this request was received
+  AReceived : Obj → Waits
   -- a turn, for the work of this request
   AServed : Obj → Waits
   -- the work of a request, for the run of this request's routine
@@ -180,7 +182,7 @@ free_profile (Beginning x) = record (a_free x) { cost = at_most 0 6 AtBelow }
 free_profile (Hooked x h) = record (a_free x) { waits = ARun x h; claims = runs x; size = 1; top_size = 3; waiting_cost = 3; cost = at_most 0 4 AtNone }
 free_profile (Judged x h v) = record (a_free x) { claims = runs x; size = 3; top_size = 3; cost = at_most 4 13 AtNone }
 -- a request that is to be received pays for the routines that run
-free_profile (Preparing x) = record (a_free x) { waits = ARequest; claims = runs x; size = 1; top_size = 3; cost = at_most 0 5 AtNone }
+free_profile (Preparing x) = record (a_free x) { waits = AReceived x; claims = runs x; size = 1; top_size = 3; cost = at_most 0 5 AtNone }
 free_profile (Prepared x) = record (a_free x) { claims = runs x; size = 3; top_size = 3; cost = at_most 0 1 AtNone }
 free_profile (Dooming x) = record (a_free x) { cost = at_most 0 5 AtBelow }
 -- it runs until it leaves its owner, where a destructor has accepted
@@ -295,7 +297,7 @@ request_profile (request.Calling what x handler errand) = a_work 3
 -- the routine weighs as much in its place
 request_profile (request.Called what x handler errand) = record (a_work 2) { waits = ARoutine x }
 request_profile (request.Releasing c) = record (a_work 0) { waits = ARelease c; size = caller_size }
-request_profile (request.Over r) = a_work 2
+request_profile (request.Over r) = a_work 3
 
 abbrev pub of_request : RequestProfile → Profile
 of_request f = record { role = Requests; waits = f.waits; claims = None; removes = None; size = f.size; top_size = caller_size; waiting_cost = 0; cost = at_most 0 f.steps AtNone; adds = 0 }
