@@ -3,6 +3,7 @@ pub mod Changes
 pub mod Turning
 pub mod Notes
 pub mod KeptNotes
+pub mod KeptCalm
 pub mod KeptTurns
 pub mod KeptRequests
 pub mod Waiters

@@ -28,7 +28,7 @@ use Rattle.tree_specs.specs.declared.moment.What.TheVariants as what
 use Rattle.tree_specs.specs.Events.Coming.{comes_as}
 use Rattle.tree_specs.specs.Events.Handlers.{handler_of}
 use Rattle.tree_specs.specs.Events.Rotation.{is_watched}
-use Rattle.tree_specs.specs.Invariants.Awaiting.{MayCome, waits_as, waits_as_row, is_event, is_event_row}
+use Rattle.tree_specs.specs.Invariants.Awaiting.{MayCome, waits_as, waits_as_row, is_event, is_event_row, IsHandled}
 use Rattle.tree_specs.specs.declared.test.Test.TheVariants.{IsObject, IsImmediate, IsRequest, IsInProgress as IsInProgressTest, IsNotDoomed}
 use Rattle.tree_specs.specs.Calls.Plans.{Change, Plan, changed_by, plan, planned, unless_refused, places, warns, frees, handed, gift, receives}
 use Rattle.tree_specs.specs.Calls.Plans.Change.{Nothing, Edit, Add, Place, Handle, Schedule, Arm, Watches, Rewatch, Close, TakeNumber, AddRequest, Renotes, Then}
@@ -60,7 +60,7 @@ use Rattle.tree_specs.proofs.Events.NoteLaws.{renoted-same, renoted-none, note_w
 -- an event or a request that comes as this; an event has a handler
 pub record MayWait (p : Pool) (w : What) (x : Obj) : Type 0 where
   pub comes : waits_as_row w (row_of p.rows x) ≡ true
-  pub ready : is_event_row (row_of p.rows x) ≡ true → is_some (handler_of p.handlers x) ≡ true
+  pub ready : IsHandled (row_of p.rows x) (handler_of p.handlers x)
 
 -- an object of which something changes that is nobody else's
 pub record MayBeEdited (p : Pool) (x : Obj) (g : Row → Row) : Type 0 where

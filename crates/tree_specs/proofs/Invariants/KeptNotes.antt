@@ -9,6 +9,7 @@ use Rattle.tree_specs.specs.declared.object.Owner.TheVariants.{Of}
 use Rattle.tree_specs.specs.declared.row.Row.{Row}
 use Rattle.tree_specs.specs.declared.row.Mark.{Mark}
 use Rattle.tree_specs.specs.declared.row.Mark.TheVariants.{Quiet, Asked, Busy, Doomed, Dying}
+use Rattle.tree_specs.specs.declared.kind.Kind.{Kind}
 use Rattle.tree_specs.specs.declared.kind.Kind.TheVariants as kind
 use Rattle.tree_specs.specs.declared.call.Call.{Call}
 use Rattle.tree_specs.specs.declared.call.Call.TheVariants as call
@@ -21,7 +22,10 @@ use Rattle.tree_specs.specs.declared.question.Ask.{Ask}
 use Rattle.tree_specs.specs.declared.question.Ask.TheVariants as ask
 use Rattle.tree_specs.specs.declared.reply.Reply.{Reply}
 use Rattle.tree_specs.specs.declared.request.Note.{Note}
+use Rattle.tree_specs.specs.declared.request.State.{State}
 use Rattle.tree_specs.specs.declared.request.State.TheVariants.{TimedOut, Received}
+use Rattle.tree_specs.specs.declared.reply.Refusal.TheVariants.{BadState}
+use Rattle.std.specs.Prelude.{not}
 use Rattle.tree_specs.specs.declared.watch.Watch.{Watch}
 use Rattle.tree_specs.specs.declared.frame.Errand.{Errand}
 use Rattle.tree_specs.specs.declared.frame.Errand.TheVariants.{Finish, Notify, Receive, Cancel}
@@ -29,7 +33,7 @@ use Rattle.tree_specs.specs.declared.frame.Frame.{Frame}
 use Rattle.tree_specs.specs.declared.frame.Frame.TheVariants as frame
 use Rattle.tree_specs.specs.declared.frame.CallFrame.TheVariants.{Asking, Doing, Announcing, Telling, Returning}
 use Rattle.tree_specs.specs.declared.frame.FreeFrame.{FreeFrame}
-use Rattle.tree_specs.specs.declared.frame.FreeFrame.TheVariants.{Unlinking, Releasing, Giving, Beginning, Hooked, Judged, Preparing, Prepared, Leaving, Looping, AfterChild}
+use Rattle.tree_specs.specs.declared.frame.FreeFrame.TheVariants.{Unlinking, Releasing, Giving, Beginning, Hooked, Judged, Preparing, Prepared, Dooming, Leaving, Looping, FreeingChild, AfterChild, Ending}
 use Rattle.tree_specs.specs.declared.frame.TurnFrame.{TurnFrame}
 use Rattle.tree_specs.specs.declared.frame.TurnFrame.TheVariants.{Taking, Timing, Timed, Polling, Starting, Firing, Handling, Handled, Closing}
 use Rattle.tree_specs.specs.declared.frame.OutsideFrame.{OutsideFrame}
@@ -44,144 +48,173 @@ use Rattle.tree_specs.specs.declared.free_step.FreeReply.{FreeReply}
 use Rattle.tree_specs.specs.declared.free_step.FreeReply.TheVariants.{Ok}
 use Rattle.tree_specs.specs.declared.question.Input.{Input}
 use Rattle.tree_specs.specs.Rules.Items.{Item}
-use Rattle.tree_specs.specs.Tree.Pool.{Pool, row_of, is_row, remove, target_at, newest_ref_of, is_below, owner_of, is_inside, first_kid, left_row, marked_row, hooked_row, schedule, renote, unschedule, disarm, open_descriptor}
+use Rattle.tree_specs.specs.Tree.Pool.{Pool, row_of, is_row, remove, target_at, newest_ref_of, is_below, owner_of, is_inside, first_kid, left_row, marked_row, hooked_row, set_mark, detach, doom, schedule, renote, open_descriptor}
 use Rattle.tree_specs.specs.Tree.Targets.{newest_ref}
 use Rattle.tree_specs.specs.Tree.Heirs.{heir}
 use Rattle.tree_specs.specs.Events.Coming.{handler_for, rotated, begun, goes_after}
-use Rattle.tree_specs.specs.Events.Requests.{note_of, is_noted, is_unreceived, cleanup_in, cancel_in, is_received, cleaned, not_deferring}
-use Rattle.tree_specs.specs.Calls.Refusals.{Check, tests, refusals, in_progress, is_request, is_request_row}
+use Rattle.tree_specs.specs.Events.Requests.{note_of, is_noted, is_unreceived, cleanup_in, cancel_in, is_received, is_in_progress, state_number, cleaned, not_deferring}
+use Rattle.tree_specs.specs.Calls.Refusals as refusing
+use Rattle.tree_specs.specs.Calls.Refusals.{Check, tests, refusals, in_progress, is_request, is_referable, is_request_row}
 use Rattle.tree_specs.specs.Calls.Plans.{Change, Plan, planned, plan, unless_refused, changed_by, frees, handed, gift, receives}
 use Rattle.tree_specs.specs.Calls.Plans.Change.{Nothing, Edit, Add, Place, Handle, Schedule, Unschedule, Arm, Watches, Rewatch, Close, TakeNumber, AddRequest, Renotes, Then}
 use Rattle.tree_specs.specs.Calls.Plans.Plan.{Does, Frees, Unlinks, Empties, Asks, Turns, Works}
 use Rattle.tree_specs.specs.Calls.Passed.{AllPassed}
 use Rattle.tree_specs.specs.Machine.FreeTable.{FreeMove, begin_quiet, begin_step, refs_step, unlink_step, release_step, judge_step, last_step, child_step, loop_step, hand_on_step, tried_step, free_step}
 use Rattle.tree_specs.specs.Machine.Table.{Step, table, event_of, announced, lifted, run_for, plan_step, notice_step, turning_step, starting_step, handled_step, turn_step, outside_step, cancelling_step, cleaning_step, release_object, cleaned_step, callback_step, notifying_step, request_step, resume, step}
-use Rattle.tree_specs.specs.Invariants.Sound.{AllWait, Rests, Sound}
-use Rattle.tree_specs.specs.Invariants.Awaiting.{pool_after}
+use Rattle.tree_specs.specs.Invariants.Sound.{phases, phase_of, claims, AllWait, Rests, Sound}
+use Rattle.tree_specs.specs.Machine.Profiles.{Phase, InRun, InHandler}
 use Rattle.tree_specs.specs.Invariants.Noted.{IsInProgress, IsOfRequest, WorkRests, RestsNoted, NotesHold, Noted}
 use Rattle.tree_specs.proofs.Tree.Numbered.{by_test}
 use Rattle.tree_specs.proofs.Events.PendingLaws.{disarmed-other}
 use Rattle.tree_specs.proofs.Calls.Checks.{all-pass, Heard as HeardBy, HeardCall, HeardReturn, heard-leads, Reached, ReachedOpening, ReachedHearing, reached-leads}
 use Rattle.tree_specs.proofs.Calls.Plans.{MayDo, MayWork, May, may-planned, change-sound}
-use Rattle.tree_specs.proofs.Invariants.Changes.{heir-placed, nobody}
-use Rattle.tree_specs.proofs.Invariants.Turning.{Passes, Pass, Serve, look-passes, taken-plain}
+use Rattle.tree_specs.proofs.Invariants.Changes.{claim-here, heir-placed, nobody}
+use Rattle.tree_specs.proofs.Invariants.Turning.{handler-ready, Passes, Pass, Serve, look-passes, taken-plain}
 use Rattle.tree_specs.proofs.Invariants.Waiters.{Waiter, ForRoutine, waiter}
-use Rattle.tree_specs.proofs.Invariants.Notes.{holds, same-holds, changed-holds, placed-holds, removed-holds, added-holds, requested-holds, armed-holds, renoted-holds, finished-holds}
+use Rattle.tree_specs.proofs.Invariants.Notes.{same-holds, excepted, settled, changed-holds, unmarked-holds, quiet-holds, placed-holds, removed-holds, added-holds, requested-holds, armed-holds, renoted-holds, finished-holds, received-holds}
 
 -- what a step leads to
 abbrev pub NotedBy : Move Frame Answer Pool Item → List Frame → ℕ → Type 0
 NotedBy m fs k = Leads table (λ g gs q j. Noted g q) m fs k
 
 -- a work that ends, over the same requests
-ended : (a : Answer) (fs : List Frame) (p : Pool) (k : ℕ) → AllWait fs → NotesHold p → NotedBy (Do.Done a p) fs k
+ended : (a : Answer) (fs : List Frame) (p : Pool) (k : ℕ) → AllWait fs → NotesHold None p → NotedBy (Do.Done a p) fs k
 ended a [] p k w h = tt
 ended a (g ∷ gs) p k w h = below g (waiter g gs w.0)
   where
-    after : (what : What) (x : Obj) (handler : Handler) (errand : Errand) → RestsNoted (resume (frame.Request (request.Called what x handler errand)) a) p
-    after whats.Cleanup x handler errand = tt
-    after whats.Cancel x handler errand = tt
-    after _ x handler errand = tt
+    after : (what : What) (x : Obj) (handler : Handler) (errand : Errand) → Noted (resume (frame.Request (request.Called what x handler errand)) a) p
+    after whats.Cleanup x handler errand = record { pool = h; works = tt }
+    after whats.Cancel x handler errand = record { pool = h; works = tt }
+    after _ x handler errand = record { pool = h; works = tt }
 
     below : (g : Frame) → Waiter g → Noted (resume g a) p
-    below _ (ForRoutine what x handler errand) = record { pool = h; works = after what x handler errand }
+    below _ (ForRoutine what x handler errand) = after what x handler errand
     below _ _ = record { pool = h; works = tt }
 
 -- ---- frees
 
-marked : (m : Mark) (p : Pool) (x : Obj) → NotesHold p → NotesHold (record p { rows = (changed_by (Edit x (marked_row m)) p).rows })
-marked m p x h = changed-holds (marked_row m) p _ x h (λ r. refl) (λ r. refl) refl refl (λ y t. t)
+-- what a free by itself leads to
+abbrev FreeNoted : FreeMove → Type 0
+FreeNoted (Do.Done a p) = NotesHold None p
+FreeNoted (Do.Go g p) = Noted (frame.Free g) p
+FreeNoted (Do.Emit e g p) = Noted (frame.Free g) p
+FreeNoted (Do.Wait q g p) = Noted (run_for g) p
+FreeNoted (Do.Call g f p) = Noted (frame.Free g) p
 
-beginning : (x : Obj) (fs : List Frame) (p : Pool) → Sound (frame.Free (Beginning x)) fs p → NotesHold p → NotesHold (pool_after (free_step (Beginning x) p))
+-- nothing is to be received of an object with which something goes on
+going : (p : Pool) (x : Obj) (a : Phase) (l : List Phase) → NotesHold None p → a ∷ l ≡ phases (row_of p.rows x) → is_unreceived (note_of p.requests x) ≡ false
+going p x a l h e = by_test (is_unreceived (note_of p.requests x)) (λ t. let bad : a ∷ l ≡ [] = e ∙ settled p x h t in cc) (λ t. t)
+
+beginning : (x : Obj) (fs : List Frame) (p : Pool) → Sound (frame.Free (Beginning x)) fs p → NotesHold None p → FreeNoted (free_step (Beginning x) p)
 beginning x fs p s h = newest (newest_ref p.rows x)
   where
-    quiet : (hook : ℕ) → NotesHold (pool_after (begin_quiet x hook p))
+    quiet : (hook : ℕ) → FreeNoted (begin_quiet x hook p)
     quiet hook = by_test (is_unreceived (note_of p.requests x))
-        (λ u. rw u (marked Asked p x h))
-        (λ u. by_test (nat_eq hook 0) (λ t. rw (u, t) h) (λ t. rw (u, t) (marked Asked p x h)))
+        (λ u. rw u (record { pool = changed-holds (marked_row Asked) p (set_mark p x Asked) x (excepted p x h) (λ r. refl) (λ r. refl) refl refl (λ y t. t) (λ t r. inr refl); works = tt }))
+        (λ u. by_test (nat_eq hook 0)
+        (λ t. rw (u, t) (record { pool = h; works = u }))
+        (λ t. rw (u, t) (record { pool = changed-holds (marked_row Asked) p (set_mark p x Asked) x h (λ r. refl) (λ r. refl) refl refl (λ y t. t) (λ v r. let bad : true ≡ false = sym v ∙ u in cc); works = tt })))
 
-    marks : (r : Row) (m : Mark) → r.mark ≡ m → NotesHold (pool_after (begin_step x (Some r) p))
-    marks r Quiet m = rw m (quiet r.hook)
-    marks r Busy m = rw m (changed-holds (marked_row Doomed) p _ x h (λ r. refl) (λ r. refl) refl refl (λ y t. (disarmed-other p.times x y t).0))
-    marks r _ m = rw m h
+    marks : (r : Row) (m : Mark) → r.mark ≡ m → row_of p.rows x ≡ Some r → FreeNoted (begin_step x (Some r) p)
+    marks r Quiet m e = rw m (quiet r.hook)
+    marks r Busy m e =
+        let runs : InHandler ∷ [] ≡ phases (row_of p.rows x) = sym (ap phases e ∙ ap phase_of m) in
+        rw m (record {
+          pool = changed-holds (marked_row Doomed) p (doom p x) x h (λ r. refl) (λ r. refl) refl refl (λ y t. (disarmed-other p.times x y t).0)
+              (λ v r. let bad : true ≡ false = sym v ∙ going p x InHandler [] h runs in cc);
+          works = tt;
+        })
+    marks r _ m e = rw m h
 
-    each : (o : Option Row) → NotesHold (pool_after (begin_step x o p))
-    each None = h
-    each (Some r) = marks r r.mark refl
+    each : (o : Option Row) → row_of p.rows x ≡ o → FreeNoted (begin_step x o p)
+    each None e = h
+    each (Some r) e = marks r r.mark refl e
 
-    newest : (o : Option Obj) → NotesHold (pool_after (refs_step x o p))
-    newest None = each (row_of p.rows x)
-    newest (Some r) = by_test (is_inside p.rows (Of r) (Of x)) (λ t. rw t (removed-holds p r s.forest.distinct h)) (λ t. rw t (removed-holds p r s.forest.distinct h))
+    newest : (o : Option Obj) → FreeNoted (refs_step x o p)
+    newest None = each (row_of p.rows x) refl
+    newest (Some r) = by_test (is_inside p.rows (Of r) (Of x))
+        (λ t. rw t (record { pool = removed-holds p r s.forest.distinct h; works = tt }))
+        (λ t. rw t (record { pool = removed-holds p r s.forest.distinct h; works = tt }))
 
-releasing : (x : Obj) (fs : List Frame) (p : Pool) → Sound (frame.Free (Releasing x)) fs p → NotesHold p → NotesHold (pool_after (free_step (Releasing x) p))
+releasing : (x : Obj) (fs : List Frame) (p : Pool) → Sound (frame.Free (Releasing x)) fs p → NotesHold None p → FreeNoted (free_step (Releasing x) p)
 releasing x fs p s h = each (newest_ref p.rows x)
   where
-    each : (o : Option Obj) → NotesHold (pool_after (release_step x o p))
-    each None = h
-    each (Some r) = by_test (is_inside p.rows (Of r) (Of x)) (λ t. rw t (removed-holds p r s.forest.distinct h)) (λ t. rw t (removed-holds p r s.forest.distinct h))
+    each : (o : Option Obj) → FreeNoted (release_step x o p)
+    each None = record { pool = h; works = tt }
+    each (Some r) = by_test (is_inside p.rows (Of r) (Of x))
+        (λ t. rw t (record { pool = removed-holds p r s.forest.distinct h; works = tt }))
+        (λ t. rw t (record { pool = removed-holds p r s.forest.distinct h; works = tt }))
 
-unlinking : (o : Owner) (x : Obj) (fs : List Frame) (p : Pool) → Sound (frame.Free (Unlinking o x)) fs p → NotesHold p → NotesHold (pool_after (free_step (Unlinking o x) p))
+unlinking : (o : Owner) (x : Obj) (fs : List Frame) (p : Pool) → Sound (frame.Free (Unlinking o x)) fs p → NotesHold None p → FreeNoted (free_step (Unlinking o x) p)
 unlinking o x fs p s h = each (newest_ref_of p.rows o x)
   where
-    each : (n : Option Obj) → NotesHold (pool_after (unlink_step x n p))
-    each None = h
-    each (Some r) = removed-holds p r s.forest.distinct h
+    each : (n : Option Obj) → FreeNoted (unlink_step x n p)
+    each None = record { pool = h; works = tt }
+    each (Some r) = record { pool = removed-holds p r s.forest.distinct h; works = tt }
 
-looping : (x : Obj) (purpose : Purpose) (fs : List Frame) (p : Pool) → Sound (frame.Free (Looping x purpose)) fs p → NotesHold p → NotesHold (pool_after (free_step (Looping x purpose) p))
+looping : (x : Obj) (purpose : Purpose) (fs : List Frame) (p : Pool) → Sound (frame.Free (Looping x purpose)) fs p → NotesHold None p → FreeNoted (free_step (Looping x purpose) p)
 looping x purpose fs p s h = each (first_kid p.rows (Of x))
   where
-    last : (purpose : Purpose) → NotesHold (pool_after (last_step x purpose p))
-    last (Removal hook) = removed-holds p x s.forest.distinct h
+    last : (purpose : Purpose) → FreeNoted (last_step x purpose p)
+    last (Removal hook) = record { pool = removed-holds p x s.forest.distinct h; works = tt }
     last Emptying = h
 
-    child : (c : Obj) (o : Option Obj) → NotesHold (pool_after (child_step x c purpose o p))
-    child c None = h
-    child c (Some t) = removed-holds p c s.forest.distinct h
+    child : (c : Obj) (o : Option Obj) → FreeNoted (child_step x c purpose o p)
+    child c None = record { pool = h; works = tt }
+    child c (Some t) = record { pool = removed-holds p c s.forest.distinct h; works = tt }
 
-    each : (o : Option Obj) → NotesHold (pool_after (loop_step x purpose o p))
+    each : (o : Option Obj) → FreeNoted (loop_step x purpose o p)
     each None = last purpose
     each (Some c) = child c (target_at p.rows c)
 
-tried : (x c : Obj) (noted : Option Owner) (purpose : Purpose) (b : FreeReply) (fs : List Frame) (p : Pool) → Sound (frame.Free (AfterChild x c noted purpose b)) fs p → NotesHold p
-    → NotesHold (pool_after (free_step (AfterChild x c noted purpose b) p))
+tried : (x c : Obj) (noted : Option Owner) (purpose : Purpose) (b : FreeReply) (fs : List Frame) (p : Pool) → Sound (frame.Free (AfterChild x c noted purpose b)) fs p → NotesHold None p
+    → FreeNoted (free_step (AfterChild x c noted purpose b) p)
 tried x c noted purpose b fs p s h = each b
   where
-    on : NotesHold (pool_after (hand_on_step x c noted purpose p))
-    on = by_test (is_below (owner_of p.rows c) (Of x)) (λ t. rw t (placed-holds p (heir p.rows x c noted) c (heir-placed x c noted _ fs p s t) h)) (λ t. rw t h)
+    on : FreeNoted (hand_on_step x c noted purpose p)
+    on = by_test (is_below (owner_of p.rows c) (Of x))
+        (λ t. rw t (record { pool = placed-holds p (heir p.rows x c noted) c (heir-placed x c noted _ fs p s t) h; works = tt }))
+        (λ t. rw t (record { pool = h; works = tt }))
 
-    each : (b : FreeReply) → NotesHold (pool_after (tried_step x c noted purpose b p))
-    each Ok = h
+    each : (b : FreeReply) → FreeNoted (tried_step x c noted purpose b p)
+    each Ok = record { pool = h; works = tt }
     each _ = on
 
-free-holds : (f : FreeFrame) (fs : List Frame) (p : Pool) → Sound (frame.Free f) fs p → NotesHold p → NotesHold (pool_after (free_step f p))
-free-holds (Unlinking o x) fs p s h = unlinking o x fs p s h
-free-holds (Releasing x) fs p s h = releasing x fs p s h
-free-holds (Giving x o) fs p s h = placed-holds p o x s.rests h
-free-holds (Beginning x) fs p s h = beginning x fs p s h
-free-holds (Judged x hook v) fs p s h = by_test (nat_eq v 0)
-    (λ t. rw t (changed-holds (hooked_row 0) p _ x h (λ r. refl) (λ r. refl) refl refl (λ y t. t)))
-    (λ t. rw t (marked Quiet p x h))
-free-holds (Prepared x) fs p s h = marked Quiet p x h
-free-holds (Leaving x hook) fs p s h = changed-holds left_row p _ x h (λ r. refl) (λ r. refl) refl refl (λ y t. (disarmed-other p.times x y t).0)
-free-holds (Looping x purpose) fs p s h = looping x purpose fs p s h
-free-holds (AfterChild x c noted purpose b) fs p s h = tried x c noted purpose b fs p s h
-free-holds _ fs p s h = h
+free-noted : (f : FreeFrame) (fs : List Frame) (p : Pool) → Sound (frame.Free f) fs p → Noted (frame.Free f) p → FreeNoted (free_step f p)
+free-noted (Unlinking o x) fs p s n = unlinking o x fs p s n.pool
+free-noted (Releasing x) fs p s n = releasing x fs p s n.pool
+free-noted (Giving x o) fs p s n = record { pool = placed-holds p o x s.rests n.pool; works = tt }
+free-noted (Beginning x) fs p s n = beginning x fs p s n.pool
+free-noted (Hooked x hook) fs p s n = record { pool = n.pool; works = tt }
+free-noted (Judged x hook v) fs p s n =
+    let runs = claim-here x InRun (claims x fs) (row_of p.rows x) (s.open_frees x) in
+    by_test (nat_eq v 0)
+    (λ t. rw t (record { pool = unmarked-holds (hooked_row 0) p x (λ r. refl) (λ r. refl) (λ r. refl) n.pool; works = going p x InRun (claims x fs) n.pool runs }))
+    (λ t. rw t (record { pool = quiet-holds p x n.pool; works = tt }))
+free-noted (Preparing x) fs p s n = record { pool = n.pool; works = tt }
+free-noted (Prepared x) fs p s n =
+    record { pool = quiet-holds p x n.pool; works = going p x InRun (claims x fs) n.pool (claim-here x InRun (claims x fs) (row_of p.rows x) (s.open_frees x)) }
+free-noted (Dooming x) fs p s n = n.pool
+free-noted (Leaving x hook) fs p s n = record {
+  pool = changed-holds left_row p (detach p x) x n.pool (λ r. refl) (λ r. refl) refl refl (λ y t. (disarmed-other p.times x y t).0) (λ v r. let bad : true ≡ false = sym v ∙ n.works in cc);
+  works = tt;
+}
+free-noted (Looping x purpose) fs p s n = looping x purpose fs p s n.pool
+free-noted (FreeingChild x c noted purpose) fs p s n = absurd s.rests
+free-noted (AfterChild x c noted purpose b) fs p s n = tried x c noted purpose b fs p s n.pool
+free-noted (Ending a) fs p s n = n.pool
 
 -- among the host's works
-lifted-noted : (ring : List Watch) (m : FreeMove) (fs : List Frame) (k : ℕ) → AllWait fs → NotesHold (pool_after m) → NotedBy (lifted ring m) fs k
+lifted-noted : (ring : List Watch) (m : FreeMove) (fs : List Frame) (k : ℕ) → AllWait fs → FreeNoted m → NotedBy (lifted ring m) fs k
 lifted-noted ring (Do.Done a p) fs k w h = ended (Freed a) fs p k w h
-lifted-noted ring (Do.Go f p) fs k w h = record { pool = h; works = tt }
+lifted-noted ring (Do.Go f p) fs k w h = h
 lifted-noted ring (Do.Emit e f p) fs k w h = each (event_of ring e)
   where
     each : (o : Option Event) → NotedBy (announced o f p) fs k
-    each None = record { pool = h; works = tt }
-    each (Some e) = record { pool = h; works = tt }
-lifted-noted ring (Do.Wait q f p) fs k w h = record { pool = h; works = waited f }
-  where
-    waited : (f : FreeFrame) → RestsNoted (run_for f) p
-    waited (Hooked x hook) = tt
-    waited (Preparing x) = tt
-    waited _ = tt
-lifted-noted ring (Do.Call g f p) fs k w h = record { pool = h; works = tt }
+    each None = h
+    each (Some e) = h
+lifted-noted ring (Do.Wait q f p) fs k w h = h
+lifted-noted ring (Do.Call g f p) fs k w h = h
 
 -- ---- calls
 
@@ -239,8 +272,8 @@ module _ (p : Pool) (new : IsInProgress p (record { 0 = p.next })) where
       by-check [] none = each c (all-pass p (tests c) none)
       by-check (why ∷ later) e = tt
 
-change-holds : (f : Frame) (fs : List Frame) (p : Pool) (c : Change) → Sound f fs p → ((q : Pool) → Rests f fs q) → MayDo p c → KeepsNotes p c → NotesHold p → NotesHold (changed_by c p)
-change-holds f fs p (Edit x g) s calm may keeps h = changed-holds g p _ x h may.place.serial may.place.kind refl refl (λ y t. t)
+change-holds : (f : Frame) (fs : List Frame) (p : Pool) (c : Change) → Sound f fs p → ((q : Pool) → Rests f fs q) → MayDo p c → KeepsNotes p c → NotesHold None p → NotesHold None (changed_by c p)
+change-holds f fs p (Edit x g) s calm may keeps h = unmarked-holds g p x may.place.serial may.place.kind may.mark h
 change-holds f fs p (Add k o size name) s calm may keeps h = added-holds p k o size name keeps (nobody p s.valid) h
 change-holds f fs p (AddRequest o size name) s calm may keeps h = requested-holds p o size name s.valid h
 change-holds f fs p (Place o x) s calm may keeps h = placed-holds p o x may h
@@ -249,17 +282,17 @@ change-holds f fs p (Renotes x g) s calm may keeps h = renoted-holds g p x may h
 change-holds f fs p (Then c d) s calm may keeps h =
     let t = change-sound f f fs p c s may.0 (λ y. refl) calm (calm (changed_by c p)) in
     change-holds f fs (changed_by c p) d t calm may.1 keeps.1 (change-holds f fs p c s calm may.0 keeps.0 h)
-change-holds f fs p c s calm may keeps h = same-holds p (changed_by c p) h refl refl refl
+change-holds f fs p c s calm may keeps h = same-holds p (changed_by c p) h refl refl (λ y t. t)
 
-planned-noted : (q : Ask) (c : Call) (fs : List Frame) (p : Pool) (k : ℕ) → Sound (frame.Call (Doing q c)) fs p → NotesHold p → (plan : Plan) → May p plan → PlanKeeps p plan → NotedBy (plan_step q plan p) fs k
+planned-noted : (q : Ask) (c : Call) (fs : List Frame) (p : Pool) (k : ℕ) → Sound (frame.Call (Doing q c)) fs p → NotesHold None p → (plan : Plan) → May p plan → PlanKeeps p plan → NotedBy (plan_step q plan p) fs k
 planned-noted q c fs p k s h plan may keeps = each plan may keeps
   where
-    over : (change : Change) → MayDo p change → KeepsNotes p change → NotesHold (changed_by change p)
+    over : (change : Change) → MayDo p change → KeepsNotes p change → NotesHold None (changed_by change p)
     over change may keeps = change-holds (frame.Call (Doing q c)) fs p change s (λ p'. tt) may keeps h
 
-    works : (change : Change) (errand : Errand) (x : Obj) → NotesHold (changed_by change p) → MayWork (changed_by change p) errand x → NotedBy (plan_step q (Works change errand x) p) fs k
+    works : (change : Change) (errand : Errand) (x : Obj) → NotesHold None (changed_by change p) → MayWork (changed_by change p) errand x → NotedBy (plan_step q (Works change errand x) p) fs k
     works change (Finish s) x h work = record { pool = h; works = work }
-    works change Receive x h work = record { pool = h; works = tt }
+    works change Receive x h work = record { pool = excepted (changed_by change p) x h; works = tt }
     works change Cancel x h work = record { pool = h; works = tt }
     works change Notify x h work = absurd work
 
@@ -276,37 +309,54 @@ planned-noted q c fs p k s h plan may keeps = each plan may keeps
 
 -- ---- turns
 
-passes-noted : (p : Pool) (fs : List Frame) (k : ℕ) (m : Step) → NotesHold p → Passes p m → NotedBy m fs k
-passes-noted p fs k _ h (Pass g q rows next notes times plain) = record { pool = holds p q h (λ y. ap (λ rs. is_request_row (row_of rs y)) rows) notes times; works = tt }
-passes-noted p fs k _ h (Serve Notify x q rows next notes times served noted) = record { pool = holds p q h (λ y. ap (λ rs. is_request_row (row_of rs y)) rows) notes times; works = tt }
+passes-noted : (p : Pool) (fs : List Frame) (k : ℕ) (m : Step) → NotesHold None p → Passes p m → NotedBy m fs k
+passes-noted p fs k _ h (Pass g q rows next notes times plain) = record { pool = same-holds p q h rows notes times; works = tt }
+passes-noted p fs k _ h (Serve Notify x q rows next notes times served noted) = record { pool = same-holds p q h rows notes times; works = tt }
 passes-noted p fs k _ h (Serve (Finish TimedOut) x q rows next notes times served noted) = record {
-  pool = holds p q h (λ y. ap (λ rs. is_request_row (row_of rs y)) rows) notes times;
+  pool = same-holds p q h rows notes times;
   works = (rw rows (sym (h.notes x) ∙ noted), rw notes (h.timed x served), tt);
 }
 passes-noted p fs k _ h (Serve _ x q rows next notes times served noted) = absurd served
 
--- an event that comes goes to the end of the rotation
-begun-holds : (w : What) (x : Obj) (p : Pool) → NotesHold p → NotesHold (begun w x p)
-begun-holds whats.Descriptor x p h = changed-holds (marked_row Busy) p _ x h (λ r. refl) (λ r. refl) refl refl (λ y t. t)
-begun-holds _ x p h = changed-holds (marked_row Busy) p _ x h (λ r. refl) (λ r. refl) refl refl (λ y t. t)
+-- an event that starts is no request
+begun-holds : (w : What) (x : Obj) (p : Pool) (handler : Handler) → handler_for p w x ≡ Some handler → NotesHold None p → NotesHold None (begun w x p)
+begun-holds w x p handler e h =
+    let ready = handler-ready p w x handler e in
+    let none : is_unreceived (note_of p.requests x) ≡ false = unrequested (h.notes x ∙ ap is_request_row ready.is ∙ no-request ready.row.kind ready.event) in
+    each w none
+  where
+    no-request : (k : Kind) → is_referable k ≡ false → is_request k ≡ false
+    no-request kind.Request e = cc
+    no-request _ e = refl
 
-turn-noted : (f : TurnFrame) (fs : List Frame) (p : Pool) (k : ℕ) → Sound (frame.Turn f) fs p → NotesHold p → NotedBy (turn_step f p) fs k
+    unrequested : is_noted p.requests x ≡ false → is_unreceived (note_of p.requests x) ≡ false
+    unrequested e = by-note (note_of p.requests x) refl
+      where
+        by-note : (o : Option Note) → note_of p.requests x ≡ o → is_unreceived (note_of p.requests x) ≡ false
+        by-note None n = rw n refl
+        by-note (Some m) n = let bad : true ≡ false = rw n at e in cc
+
+    each : (w : What) → is_unreceived (note_of p.requests x) ≡ false → NotesHold None (begun w x p)
+    each whats.Descriptor none = changed-holds (marked_row Busy) p (begun whats.Descriptor x p) x h (λ r. refl) (λ r. refl) refl refl (λ y t. t) (λ v r. let bad : true ≡ false = sym v ∙ none in cc)
+    each w none = changed-holds (marked_row Busy) p (begun w x p) x h (λ r. refl) (λ r. refl) refl refl (λ y t. t) (λ v r. let bad : true ≡ false = sym v ∙ none in cc)
+
+turn-noted : (f : TurnFrame) (fs : List Frame) (p : Pool) (k : ℕ) → Sound (frame.Turn f) fs p → NotesHold None p → NotedBy (turn_step f p) fs k
 turn-noted Taking fs p k s h = passes-noted p fs k _ h (look-passes Taking p tt)
 turn-noted (Timed again now) fs p k s h = passes-noted p fs k _ h (look-passes (Timed again now) p tt)
 turn-noted (Timing again) fs p zero s h = tt
 turn-noted (Timing again) fs p (suc k) s h = λ i g e. (let t = taken-plain (Timing again) p i g e in subst (λ (z : Frame). Noted z p) (sym t.1) (record { pool = h; works = tt }))
 turn-noted (Polling limit) fs p zero s h = tt
 turn-noted (Polling limit) fs p (suc k) s h = λ i g e. (let t = taken-plain (Polling limit) p i g e in subst (λ (z : Frame). Noted z p) (sym t.1) (record { pool = h; works = tt }))
-turn-noted (Starting w x occasion) fs p k s h = each (handler_for p w x)
+turn-noted (Starting w x occasion) fs p k s h = each (handler_for p w x) refl
   where
-    each : (o : Option Handler) → NotedBy (starting_step w x occasion o p) fs k
-    each None = record { pool = h; works = tt }
-    each (Some handler) = record { pool = begun-holds w x p h; works = tt }
+    each : (o : Option Handler) → handler_for p w x ≡ o → NotedBy (starting_step w x occasion o p) fs k
+    each None e = record { pool = h; works = tt }
+    each (Some handler) e = record { pool = begun-holds w x p handler e h; works = tt }
 turn-noted (Handled w x) fs p k s h = each (goes_after p w x)
   where
     each : (b : Bool) → NotedBy (handled_step x b p) fs k
-    each true = record { pool = marked Quiet p x h; works = tt }
-    each false = record { pool = marked Quiet p x h; works = tt }
+    each true = record { pool = quiet-holds p x h; works = tt }
+    each false = record { pool = quiet-holds p x h; works = tt }
 turn-noted (Closing v) fs p k s h = ended (Turned v) fs p k s.waiting h
 turn-noted (Firing w x handler occasion) fs p k s h = record { pool = h; works = tt }
 turn-noted (Handling w x handler occasion) fs p k s h = record { pool = h; works = tt }
@@ -314,23 +364,23 @@ turn-noted _ fs p k s h = absurd s.rests
 
 -- ---- a question to the outside
 
-outside-noted : (f : OutsideFrame) (fs : List Frame) (p : Pool) (k : ℕ) → Sound (frame.Outside f) fs p → NotesHold p → NotedBy (outside_step f p) fs k
+outside-noted : (f : OutsideFrame) (fs : List Frame) (p : Pool) (k : ℕ) → Sound (frame.Outside f) fs p → NotesHold None p → NotedBy (outside_step f p) fs k
 outside-noted (Reaching q) fs p zero s h = tt
 outside-noted (Reaching q) fs p (suc k) s h = λ i g e. leads g (reached-leads p q i g e)
   where
     leads : (g : Frame) → Reached p g → Noted g p
     leads _ (ReachedOpening fd number closed) = record { pool = h; works = tt }
     leads _ (ReachedHearing r) = record { pool = h; works = tt }
-outside-noted (Opening fd) fs p k s h = ended (Heard _) fs (open_descriptor p fd) k s.waiting (same-holds p (open_descriptor p fd) h refl refl refl)
+outside-noted (Opening fd) fs p k s h = ended (Heard _) fs (open_descriptor p fd) k s.waiting (same-holds p (open_descriptor p fd) h refl refl (λ y t. t))
 outside-noted (Hearing r) fs p k s h = ended (Heard r) fs p k s.waiting h
 
 -- ---- requests
 
 -- what is kept is kept of a request
-is-request : (p : Pool) (x : Obj) → NotesHold p → is_noted p.requests x ≡ true → is_request_row (row_of p.rows x) ≡ true
+is-request : (p : Pool) (x : Obj) → NotesHold None p → is_noted p.requests x ≡ true → is_request_row (row_of p.rows x) ≡ true
 is-request p x h noted = sym (h.notes x) ∙ noted
 
-module _ (fs : List Frame) (p : Pool) (k : ℕ) (h : NotesHold p) where
+module _ (fs : List Frame) (p : Pool) (k : ℕ) (h : NotesHold None p) where
   cancels : (x : Obj) (o : Option Note) → note_of p.requests x ≡ o → NotedBy (cancelling_step x (cancel_in o) p) fs k
   cancels x None e = record { pool = h; works = tt }
   cancels x (Some n) e = each (cancel_in (Some n))
@@ -360,17 +410,25 @@ module _ (fs : List Frame) (p : Pool) (k : ℕ) (h : NotesHold p) where
   notifies : (x : Obj) (errand : Errand) (o : Option Note) → note_of p.requests x ≡ o → NotedBy (notifying_step x errand o p) fs k
   notifies x errand None e = record { pool = h; works = tt }
   notifies x errand (Some n) e = by_test n.deferred
-      (λ t. let r = renoted-holds not_deferring p x (λ m. refl) h in rw t (record { pool = same-holds (renote p x not_deferring) (schedule (renote p x not_deferring) x) r refl refl refl; works = tt }))
+      (λ t. let r = renoted-holds not_deferring p x (λ m. refl) h in rw t (record { pool = same-holds (renote p x not_deferring) (schedule (renote p x not_deferring) x) r refl refl (λ y u. u); works = tt }))
       (λ t. rw t (back n.callback))
     where
       back : (o : Option Handler) → NotedBy (callback_step x errand o p) fs k
       back None = record { pool = h; works = tt }
       back (Some handler) = record { pool = h; works = (is-request p x h (rw e refl), tt) }
 
+-- what is in progress wasn't received
+pub going-unreceived : (p : Pool) (x : Obj) (n : Note) → IsInProgress p x → note_of p.requests x ≡ Some n → is_unreceived (Some n) ≡ true
+going-unreceived p x n h e = each n.state (let h' : refusing.in_state x is_in_progress (Some n) ≡ [] = rw e at h in h')
+  where
+    each : (s : State) → refusing.refuse_if (not (is_in_progress s)) (BadState x (state_number s)) ≡ [] → not (is_received s) ≡ true
+    each Received h = cc
+    each _ h = refl
+
 request-noted : (f : RequestFrame) (fs : List Frame) (p : Pool) (k : ℕ) → Sound (frame.Request f) fs p → Noted (frame.Request f) p → NotedBy (request_step f p) fs k
-request-noted (request.Finishing x s) fs p k sound n = record { pool = finished-holds p x s n.pool; works = tt }
+request-noted (request.Finishing x s) fs p k sound n = record { pool = finished-holds p x s (λ m e h. going-unreceived p x m n.works.1 e) n.pool; works = tt }
 request-noted (request.Receiving x) fs p k sound n =
-    record { pool = finished-holds (unschedule p x) x Received (same-holds p (unschedule p x) n.pool refl refl refl); works = tt }
+    record { pool = received-holds p x n.pool; works = tt }
 request-noted (request.Cancelling x) fs p k sound n = cancels fs p k n.pool x (note_of p.requests x) refl
 request-noted (request.Cleaning x errand) fs p k sound n = cleans fs p k n.pool x errand (note_of p.requests x) refl
 request-noted (request.Cleaned x errand) fs p k sound n = goes-on fs p k n.pool x errand (note_of p.requests x)
@@ -394,7 +452,7 @@ noted-kept (frame.Call (Doing q c)) fs p k s n =
 noted-kept (frame.Call (Announcing q notice r)) fs p k s n = record { pool = n.pool; works = tt }
 noted-kept (frame.Call (Telling q r)) fs p k s n = record { pool = n.pool; works = tt }
 noted-kept (frame.Call (Returning v)) fs p k s n = ended (Returned v) fs p k s.waiting n.pool
-noted-kept (frame.Free f) fs p k s n = lifted-noted p.ring (free_step f p) fs k s.waiting (free-holds f fs p s n.pool)
+noted-kept (frame.Free f) fs p k s n = lifted-noted p.ring (free_step f p) fs k s.waiting (free-noted f fs p s n)
 noted-kept (frame.Turn f) fs p k s n = turn-noted f fs p k s n.pool
 noted-kept (frame.Outside f) fs p k s n = outside-noted f fs p k s n.pool
 noted-kept (frame.Request f) fs p k s n = request-noted f fs p k s n

@@ -23,7 +23,7 @@ use Rattle.tree_specs.specs.Promises.Orderly.{RefusedJustNow, asks_hook}
 use Rattle.tree_specs.specs.Invariants.Consistent.{IsConsistent}
 use Rattle.tree_specs.proofs.Calls.Checks.{Reaches, IsOpened, IsTold, IsAnswered, reached-by}
 use Rattle.tree_specs.proofs.Calls.Plans.{IsOutside}
-use Rattle.tree_specs.proofs.Invariants.Waiters.{Waiter, ForRun, ForTurn}
+use Rattle.tree_specs.proofs.Invariants.Waiters.{Waiter, ForRun, ForTurn, ForRequest}
 use Rattle.tree_specs.proofs.Promises.Answering.{IsNoRefusal, given-answers}
 use Rattle.tree_specs.proofs.Promises.Later.{Later, later-same, later-waiting}
 use Rattle.tree_specs.proofs.Promises.Past.{Past, past-goes, past-tells}
@@ -80,6 +80,7 @@ module _ (scenes : List Scene) (b : Option CallStart) (ws : List NotedWork) (p :
       answers : (g : Frame) (n : Option CallStart) → Waiter g → StandsOn (frame.Outside f) g n → AnswersTo scenes (answer.Heard r) g n
       answers _ n (ForRun x h) on = absurd on
       answers _ n (ForTurn a) on = just-now (told scenes) r none
+      answers _ n (ForRequest a) on = just-now (told scenes) r none
       answers _ n _ on = tt
 
   pub outside-fine : (f : OutsideFrame) → AtOutside f

@@ -80,7 +80,7 @@ request-no-hook what.Hook h = absurd h
 request-no-hook _ h = refl
 
 -- one that is in progress has gone to no later state
-going-not : (p : Pool) (x : Obj) → NotesHold p → is_request_row (row_of p.rows x) ≡ true → IsInProgress p x → (k : ℕ) → 2 ≤ k → IsFrom k (note_of p.requests x) → ⊥
+going-not : (p : Pool) (x : Obj) → NotesHold None p → is_request_row (row_of p.rows x) ≡ true → IsInProgress p x → (k : ℕ) → 2 ≤ k → IsFrom k (note_of p.requests x) → ⊥
 going-not p x h row going k l from = each (note_of p.requests x) refl
   where
     states : (s : State) → refusals.in_state x is_in_progress (Some (record { state = s; error = 0; callback = None; deferred = false; cleanup = 0; cleaned = 0; cancel = 0; child = x })) ≡ [] → k ≤ state_number s → ⊥

@@ -49,6 +49,7 @@ use Rattle.tree_specs.specs.Machine.View.{View, outcome_of, rest_of}
 use Rattle.tree_specs.specs.Invariants.Consistent.{IsCaller, IsStacked, IsConsistent}
 use Rattle.tree_specs.proofs.Invariants.Keeps.{sound-kept}
 use Rattle.tree_specs.proofs.Invariants.KeptNotes.{NotedBy, noted-kept}
+use Rattle.tree_specs.proofs.Invariants.KeptCalm.{CalmBy, calm-kept}
 use Rattle.tree_specs.proofs.Turns.Falls.{Well, falls}
 use Rattle.tree_specs.proofs.Turns.Load.{Placed, placed-kept}
 use Rattle.tree_specs.proofs.Turns.Bound.{cost-turns, pending-most}
@@ -94,18 +95,18 @@ not-short v is h = subst NotShort (rest-is-walk v is h) (walk-whole v is h)
 -- ---- what a step keeps
 
 Leads-whole : (m : Move Frame Answer Pool Item) (fs : List Frame) (k : ℕ)
-    → Leads table (λ g gs q j. Sound g gs q) m fs k → NotedBy m fs k → Placed m fs k → Leads table (λ g gs q j. IsConsistent (record { innermost = g; below = gs; pool = q })) m fs k
-Leads-whole (Do.Done a p) [] k s n l = tt
-Leads-whole (Do.Done a p) (g ∷ gs) k s n l = record { sound = s; seated = l.0; light = l.1; noted = n }
-Leads-whole (Do.Go f p) fs k s n l = record { sound = s; seated = l.0; light = l.1; noted = n }
-Leads-whole (Do.Emit e f p) fs k s n l = record { sound = s; seated = l.0; light = l.1; noted = n }
-Leads-whole (Do.Wait q f p) fs zero s n l = tt
-Leads-whole (Do.Wait q f p) fs (suc k) s n l = λ i g e. record { sound = s i g e; seated = (l i g e).0; light = (l i g e).1; noted = n i g e }
-Leads-whole (Do.Call g f p) fs k s n l = record { sound = s; seated = l.0; light = l.1; noted = n }
+    → Leads table (λ g gs q j. Sound g gs q) m fs k → NotedBy m fs k → CalmBy m fs k → Placed m fs k → Leads table (λ g gs q j. IsConsistent (record { innermost = g; below = gs; pool = q })) m fs k
+Leads-whole (Do.Done a p) [] k s n c l = tt
+Leads-whole (Do.Done a p) (g ∷ gs) k s n c l = record { sound = s; seated = l.0; light = l.1; noted = n; calm = c }
+Leads-whole (Do.Go f p) fs k s n c l = record { sound = s; seated = l.0; light = l.1; noted = n; calm = c }
+Leads-whole (Do.Emit e f p) fs k s n c l = record { sound = s; seated = l.0; light = l.1; noted = n; calm = c }
+Leads-whole (Do.Wait q f p) fs zero s n c l = tt
+Leads-whole (Do.Wait q f p) fs (suc k) s n c l = λ i g e. record { sound = s i g e; seated = (l i g e).0; light = (l i g e).1; noted = n i g e; calm = c i g e }
+Leads-whole (Do.Call g f p) fs k s n c l = record { sound = s; seated = l.0; light = l.1; noted = n; calm = c }
 
 pub whole-kept : (v : View) (k : ℕ) → IsConsistent v → Leads table (λ g gs q j. IsConsistent (record { innermost = g; below = gs; pool = q })) (step v.innermost v.pool) v.below k
 whole-kept v k h =
-    Leads-whole (step v.innermost v.pool) v.below k (sound-kept v.innermost v.below v.pool k h.sound) (noted-kept v.innermost v.below v.pool k h.sound h.noted) (placed-kept v.innermost v.below v.pool k h.sound h.seated h.light)
+    Leads-whole (step v.innermost v.pool) v.below k (sound-kept v.innermost v.below v.pool k h.sound) (noted-kept v.innermost v.below v.pool k h.sound h.noted) (calm-kept v.innermost v.below v.pool k h.sound h.noted h.calm) (placed-kept v.innermost v.below v.pool k h.sound h.seated h.light)
 
 stays : (v : View) (k : ℕ) → IsConsistent v
     → Leads table (λ g gs q j. Well (most v k) g gs q j × (cost (most v k) g gs q j < cost (most v k) v.innermost v.below v.pool k)) (step v.innermost v.pool) v.below k

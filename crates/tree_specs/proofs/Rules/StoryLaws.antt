@@ -35,7 +35,8 @@ begin-whole first h = record {
   sound = record { started = omega arith; valid = λ x. tt; forest = forest-none; refers = record { target = λ r t e. cc; quiet = λ r t e. cc }; open_frees = λ x. refl; waiting = tt; rests = tt };
   seated = tt;
   light = omega arith;
-  noted = record { pool = record { notes = λ x. refl; timed = λ x t. cc }; works = tt };
+  noted = record { pool = record { notes = λ x. refl; timed = λ x t. cc; ready = λ x t. cc }; works = tt };
+  calm = ((λ x. refl), tt);
 }
 
 abbrev item_of : Scene → Item

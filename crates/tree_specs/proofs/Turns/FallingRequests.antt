@@ -31,6 +31,7 @@ use Rattle.tree_specs.specs.Invariants.Noted.{IsInProgress, Noted}
 use Rattle.tree_specs.specs.Invariants.Measure.{weight, row_worth, waiting_cost, top_cost, cost}
 use Rattle.tree_specs.proofs.Tree.Numbered.{by_test}
 use Rattle.tree_specs.proofs.Events.NoteLaws.{total-lighter, total-receive, renoted-lighter}
+use Rattle.tree_specs.proofs.Invariants.KeptNotes.{going-unreceived}
 use Rattle.tree_specs.proofs.Turns.FallingFrees.{Lowers, Room, done-lower}
 
 -- a note that is changed, where a request that wasn't received stays so, weighs no more
@@ -61,16 +62,8 @@ notifying-lower R x errand fs p k room (Some n) = by_test n.deferred
     back None = (omega arith, omega arith)
     back (Some handler) = (omega arith, omega arith)
 
--- what is in progress wasn't received
-going : (p : Pool) (x : Obj) (n : Note) → IsInProgress p x → note_of p.requests x ≡ Some n → is_unreceived (Some n) ≡ true
-going p x n h e = each n.state (let h' : refusals.in_state x is_in_progress (Some n) ≡ [] = rw e at h in h')
-  where
-    each : (s : State) → refusals.refuse_if (not (is_in_progress s)) (BadState x (state_number s)) ≡ [] → not (is_received s) ≡ true
-    each Received h = cc
-    each _ h = refl
-
 pub request-lower : (R : ℕ) (f : RequestFrame) (fs : List Frame) (p : Pool) (k : ℕ) → Sound (frame.Request f) fs p → Noted (frame.Request f) p → Room R (frame.Request f) p k → Lowers R (cost R (frame.Request f) fs p k) (request_step f p) fs k
-request-lower R (request.Finishing x state) fs p k s noted room = let u = renoted-cost R (in_state state) p x (λ n e h. going p x n noted.works.1 e) in (omega arith, omega (arith, u))
+request-lower R (request.Finishing x state) fs p k s noted room = let u = renoted-cost R (in_state state) p x (λ n e h. going-unreceived p x n noted.works.1 e) in (omega arith, omega (arith, u))
 request-lower R (request.Receiving x) fs p k s noted room =
     let w = total-receive p.requests p.rows x s.rests.1.1 s.rests.1.2 s.rests.1.0 in
     let u = mul-le-mul_left (row_worth R) w in
@@ -98,4 +91,5 @@ request-lower R (request.Over r) fs p k s noted room =
     pays (frame.Call (Requesting q)) gs t = omega arith
     pays (frame.Turn (Serving x)) gs t = omega arith
     pays (frame.Free (Preparing x)) gs t = omega arith
+    pays (frame.Request (request.Releasing c)) gs t = absurd t
     pays _ gs t = absurd t

@@ -4,6 +4,7 @@ use Rattle.step_machine.specs.Machine.{Move}
 use Rattle.step_machine.specs.Machine.Move.{Done, Go, Emit, Wait, Call}
 use Rattle.tree_specs.specs.declared.object.Obj.{Obj}
 use Rattle.tree_specs.specs.declared.row.Row.{Row}
+use Rattle.tree_specs.specs.declared.handler.Handler.{Handler}
 use Rattle.tree_specs.specs.declared.moment.What.{What}
 use Rattle.tree_specs.specs.declared.watch.Watch.{Watch}
 use Rattle.tree_specs.specs.declared.moment.What.TheVariants.{Timer, Immediate, Descriptor}
@@ -45,13 +46,17 @@ abbrev pub is_event_row : Option Row → Bool
 is_event_row None = false
 is_event_row (Some r) = is_event r.kind
 
+-- an event has a handler
+abbrev pub IsHandled : Option Row → Option Handler → Type 0
+IsHandled o h = is_event_row o ≡ true → is_some h ≡ true
+
 -- each event once, and each descriptor once
 abbrev pub AreDistinct : List Watch → Type 0
 AreDistinct [] = Unit {0}
 AreDistinct (w ∷ ws) = (is_watching ws w.object ≡ false) × (is_watched ws w.fd ≡ false) × AreDistinct ws
 
 pub record Awaits (p : Pool) : Type 0 where
-  pub events : (what : What) (x : Obj) → waits what p x ≡ true → MayCome what (row_of p.rows x) × (is_event_row (row_of p.rows x) ≡ true → is_some (handler_of p.handlers x) ≡ true)
+  pub events : (what : What) (x : Obj) → waits what p x ≡ true → MayCome what (row_of p.rows x) × IsHandled (row_of p.rows x) (handler_of p.handlers x)
   -- only events have handlers
   pub handlers : (x : Obj) → is_event_row (row_of p.rows x) ≡ false → handler_of p.handlers x ≡ None
   pub distinct : AreDistinct p.ring

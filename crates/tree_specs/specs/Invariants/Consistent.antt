@@ -8,7 +8,7 @@ use Rattle.tree_specs.specs.declared.frame.Frame.{Frame}
 use Rattle.tree_specs.specs.Tree.Pool.{Pool}
 use Rattle.tree_specs.specs.Tree.Inside.{total}
 use Rattle.tree_specs.specs.Invariants.Sound.{Sound}
-use Rattle.tree_specs.specs.Invariants.Noted.{Noted}
+use Rattle.tree_specs.specs.Invariants.Noted.{Noted, AllCalm}
 use Rattle.tree_specs.specs.Machine.View.{View}
 use Rattle.tree_specs.specs.Machine.Profiles.{phase_in, Role, Calls, Frees, Turns, Requests, Waits, ARun, ATurn, AHandler, ARequest, AReceived, AServed, ARoutine, profile}
 
@@ -107,3 +107,4 @@ pub record IsConsistent (v : View) : Type 0 where
   pub seated : IsStacked v.innermost v.below
   pub light : IsPaidFor v.innermost v.below v.pool
   pub noted : Noted v.innermost v.pool
+  pub calm : AllCalm (v.innermost ∷ v.below)
