@@ -16,6 +16,8 @@ use Rattle.tree_specs.specs.declared.notice.Notice.{Notice}
 use Rattle.tree_specs.specs.declared.question.Ask.{Ask}
 use Rattle.tree_specs.specs.declared.question.Ask.TheVariants as ask
 use Rattle.tree_specs.specs.declared.reply.Reply.{Reply}
+use Rattle.tree_specs.specs.declared.reply.Reply.TheVariants as reply
+use Rattle.tree_specs.specs.declared.reply.Refusal.TheVariants as refusal
 use Rattle.tree_specs.specs.declared.request.Note.{Note}
 use Rattle.tree_specs.specs.declared.request.State.{State}
 use Rattle.tree_specs.specs.declared.request.State.TheVariants as state
@@ -37,7 +39,7 @@ use Rattle.tree_specs.specs.declared.frame.Answer.{Answer}
 use Rattle.tree_specs.specs.declared.frame.Answer.TheVariants.{Freed, Returned, Turned, Heard}
 use Rattle.tree_specs.specs.Rules.Items.{Item}
 use Rattle.tree_specs.specs.Rules.Answers.{later}
-use Rattle.tree_specs.specs.Tree.Pool.{Pool, row_of, schedule, renote}
+use Rattle.tree_specs.specs.Tree.Pool.{Pool, row_of, schedule, renote, open_descriptor}
 use Rattle.tree_specs.specs.Events.Coming.{handler_for, goes_after}
 use Rattle.tree_specs.specs.Events.Requests.{note_of, is_noted, is_received, is_unreceived, cleanup_in, cancel_in, routine_of, not_deferring}
 use Rattle.tree_specs.specs.Calls.Plans.{Plan, planned}
@@ -128,7 +130,7 @@ planned-calm q c fs p k h Turns may s n = turns q h
   where
     turns : (q : Ask) → AllCalm (frame.Call (Doing q c) ∷ fs) → CalmBy (turning_step q p) fs k
     turns ask.Quiet h = (h.0, h)
-    turns q h = (ask-later q _ fs h.0, h.1)
+    turns q h = (ask-later q (reply.No refusal.Nested) fs h.0, h.1)
 planned-calm q c fs p k h (Works change (Finish state) x) may s n = (finishing-calm x state _ _ s n, h)
 planned-calm q c fs p k h (Works change Receive x) may s n = (tt, h)
 planned-calm q c fs p k h (Works change Cancel x) may s n = (tt, h)
@@ -171,7 +173,7 @@ outside-calm (Reaching q) fs p (suc k) s h = λ i g e. leads g (reached-leads p 
     leads : (g : Frame) → Reached p g → AllCalm (g ∷ fs)
     leads _ (ReachedOpening fd number closed) = (tt, h)
     leads _ (ReachedHearing r) = (tt, h)
-outside-calm (Opening fd) fs p k s h = ended (Heard _) fs _ k s.waiting h
+outside-calm (Opening fd) fs p k s h = ended (Heard (reply.Number fd)) fs (open_descriptor p fd) k s.waiting h
 outside-calm (Hearing r) fs p k s h = ended (Heard r) fs p k s.waiting h
 
 -- ---- requests
