@@ -2,6 +2,7 @@
 pub mod Changes
 pub mod Turning
 pub mod Notes
+pub mod FreeNotes
 pub mod KeptNotes
 pub mod KeptCalm
 pub mod KeptTurns
@@ -9,3 +10,4 @@ pub mod KeptRequests
 pub mod Waiters
 pub mod Keeps
 pub mod KeptFrees
+pub mod KeptGivings

@@ -1,4 +1,6 @@
 -- The stated number of turns is enough.
+pub mod Lowering
+pub mod Seats
 pub mod Falls
 pub mod FallingFrees
 pub mod FallingTurns

@@ -3,4 +3,5 @@ pub mod Answers
 pub mod Errands
 pub mod Items
 pub mod Sequence
+pub mod Pieces
 pub mod Story

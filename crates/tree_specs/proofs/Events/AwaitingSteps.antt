@@ -63,7 +63,8 @@ use Rattle.tree_specs.specs.Invariants.Awaiting.{waits_as, waits_as_row, is_even
 use Rattle.tree_specs.proofs.Tree.Numbered.{by_test, same-false}
 use Rattle.tree_specs.proofs.Tree.Referring.{newest-refers, newest-of-refers}
 use Rattle.tree_specs.proofs.Invariants.Changes.{dying-row, claim-here, heir-placed}
-use Rattle.tree_specs.proofs.Calls.Plans.{MayDo, May, may-planned, change-sound}
+use Rattle.tree_specs.proofs.Calls.Plans.{May, may-planned}
+use Rattle.tree_specs.proofs.Calls.Changes.{MayDo, change-sound}
 use Rattle.tree_specs.proofs.Calls.NewEvents.{AreNew, OnlyNew, quiet-spared, new-events}
 use Rattle.tree_specs.proofs.Events.Awaiting.{changed-awaits, marked-awaits, placed-awaits, gone-awaits, kept-awaits, removed-awaits, added-awaits, handled-awaits, scheduled-awaits, armed-awaits, unscheduled-awaits, disarmed-awaits, watching-awaits, rewatched-awaits, turned-awaits, opened-awaits, closed-awaits, reference-stays}
 

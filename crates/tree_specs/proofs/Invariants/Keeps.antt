@@ -24,8 +24,10 @@ use Rattle.tree_specs.specs.Machine.Table.{step, plan_step, turning_step}
 use Rattle.tree_specs.specs.Invariants.Sound.{RequestRests, Sound}
 use Rattle.tree_specs.specs.Invariants.Sound.Footing.{OnRequesting}
 use Rattle.tree_specs.proofs.Invariants.Changes.{stands, goes_on, placed-sound}
-use Rattle.tree_specs.proofs.Calls.Plans.{MayDo, MayWork, May, change-sound, may-planned}
-use Rattle.tree_specs.proofs.Invariants.KeptFrees.{KeptBy, asking, beginning, dooming, ended, hooked, judged, leaving, looping, releasing, still-there, tried, unlinking}
+use Rattle.tree_specs.proofs.Calls.Plans.{MayWork, May, may-planned}
+use Rattle.tree_specs.proofs.Calls.Changes.{MayDo, change-sound}
+use Rattle.tree_specs.proofs.Invariants.KeptFrees.{KeptBy, asking, beginning, dooming, ended, hooked, judged, leaving, looping, still-there, tried}
+use Rattle.tree_specs.proofs.Invariants.KeptGivings.{releasing, unlinking}
 use Rattle.tree_specs.proofs.Invariants.KeptTurns.{turn-kept, outside-kept}
 use Rattle.tree_specs.proofs.Invariants.KeptRequests.{preparing, prepared, request-kept}
 

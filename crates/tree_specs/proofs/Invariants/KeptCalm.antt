@@ -56,7 +56,8 @@ use Rattle.tree_specs.proofs.Invariants.Waiters.{Waiter, ForFree, ForTurn, ForRe
 use Rattle.tree_specs.proofs.Invariants.Notes.{settled}
 use Rattle.tree_specs.proofs.Invariants.KeptFrees.{KeptBy}
 use Rattle.tree_specs.proofs.Invariants.Keeps.{sound-kept}
-use Rattle.tree_specs.proofs.Invariants.KeptNotes.{NotedBy, noted-kept, going-unreceived}
+use Rattle.tree_specs.proofs.Invariants.KeptNotes.{noted-kept, going-unreceived}
+use Rattle.tree_specs.proofs.Invariants.FreeNotes.{NotedBy}
 
 -- what a step leads to
 abbrev pub CalmBy : Move Frame Answer Pool Item → List Frame → ℕ → Type 0

@@ -40,7 +40,8 @@ use Rattle.tree_specs.specs.Invariants.Sound.{AllWait, claim, claims, phases, Re
 use Rattle.tree_specs.specs.Invariants.Consistent.{IsConsistent, IsStacked, Serves}
 use Rattle.tree_specs.proofs.Tree.Numbered.{by_test, same-equal}
 use Rattle.tree_specs.proofs.Calls.Checks.{all-pass, Heard, HeardCall, HeardReturn, heard-leads}
-use Rattle.tree_specs.proofs.Calls.Plans.{MayWork, May, follows, may-planned}
+use Rattle.tree_specs.proofs.Calls.Plans.{MayWork, May, may-planned}
+use Rattle.tree_specs.proofs.Calls.Changes.{follows}
 use Rattle.tree_specs.specs.Tree.Forest.{Distinct}
 use Rattle.tree_specs.specs.Calls.Plans.{Plan, plan, planned, unless_refused, changed_by, frees, replies, receives, failure_in, failure_reply, progress_reply}
 use Rattle.tree_specs.specs.Calls.Plans.Plan.{Does, Frees, Unlinks, Empties, Asks, Turns, Works}

@@ -1,6 +1,7 @@
 -- What a free tells that begins, drops references or ends fits what was told before.
 use Rattle.std.specs.Prelude.{unwrap_or}
-use Rattle.tree_specs.proofs.Invariants.KeptFrees.{apart, given_up-object}
+use Rattle.tree_specs.proofs.Invariants.KeptFrees.{apart}
+use Rattle.tree_specs.proofs.Invariants.KeptGivings.{given_up-object}
 use Rattle.tree_specs.proofs.Tree.Referring.{newest-refers, newest-of-refers}
 use Rattle.tree_specs.specs.Calls.Refusals.{is_running, is_running_row}
 use Rattle.tree_specs.specs.Tree.Targets.{newest_ref}

@@ -33,7 +33,8 @@ use Rattle.tree_specs.specs.Calls.Plans.Plan.{Does, Frees, Unlinks, Empties, Ask
 use Rattle.tree_specs.specs.Rules.Items.Item.{Told}
 use Rattle.tree_specs.specs.Rules.Sequence.{Work, Scene}
 use Rattle.tree_specs.specs.Rules.Answers.{hook_moment, freed_reply}
-use Rattle.tree_specs.specs.Rules.Story.{effect, unlink, free, judged, leave, children, asked, numbered, turned, taking, reaching, work_by, finishing, receiving, cancelling, notifying}
+use Rattle.tree_specs.specs.Rules.Story.{unlink, free, judged, leave, children, asked, taking, reaching, finishing, receiving, cancelling, notifying}
+use Rattle.tree_specs.specs.Rules.Pieces.{effect, numbered, turned, work_by}
 use Rattle.tree_specs.specs.declared.question.Ask.TheVariants.{Quiet as AtRest}
 use Rattle.tree_specs.specs.Promises.Refused.{called, Untouched, OnlyDropped, closed_at, told_refusal, LeftByFree, LeftByItsFree, LeftByRefused}
 use Rattle.tree_specs.proofs.Tree.Numbered.{by_test}

@@ -26,7 +26,8 @@ use Rattle.tree_specs.specs.Calls.Plans.{Plan, plan, planned, frees, unless_refu
 use Rattle.tree_specs.specs.Calls.Plans.Plan.{Does, Frees, Unlinks, Empties, Asks, Turns, Works}
 use Rattle.tree_specs.specs.Rules.Sequence.{Scene}
 use Rattle.tree_specs.specs.Rules.Answers.{freed_reply}
-use Rattle.tree_specs.specs.Rules.Story.{effect, free, unlink, children, turned, taking, reaching, work_by, finishing, receiving, cancelling, notifying}
+use Rattle.tree_specs.specs.Rules.Story.{free, unlink, children, taking, reaching, finishing, receiving, cancelling, notifying}
+use Rattle.tree_specs.specs.Rules.Pieces.{effect, turned, work_by}
 use Rattle.tree_specs.specs.declared.question.Ask.TheVariants.{Quiet as AtRest}
 use Rattle.tree_specs.proofs.Calls.OwnRefusals.{IsOwn, AllOwn, own-refused}
 use Rattle.tree_specs.proofs.Promises.Answering.{reaching-answers}

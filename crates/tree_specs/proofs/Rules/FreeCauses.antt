@@ -20,7 +20,8 @@ use Rattle.tree_specs.specs.Tree.Pool.{Pool, row_of, owner_of, newest_ref_of, pl
 use Rattle.tree_specs.specs.Rules.Items.Item.{Told}
 use Rattle.tree_specs.specs.Rules.Sequence.{Work, Scene}
 use Rattle.tree_specs.specs.Rules.Answers.{hook_moment}
-use Rattle.tree_specs.specs.Rules.Story.{unlink, release, given, free, hooked, judged, dooming, preparing, prepared, receiving, leave, children, asked, lets_go}
+use Rattle.tree_specs.specs.Rules.Story.{unlink, release, given, free, hooked, judged, dooming, preparing, prepared, receiving, leave, children, asked}
+use Rattle.tree_specs.specs.Rules.Pieces.{lets_go}
 use Rattle.tree_specs.specs.Events.Requests.{note_of, is_unreceived}
 use Rattle.tree_specs.specs.Promises.Grounded.{DropsOutside, IsItem}
 use Rattle.tree_specs.specs.Promises.Refused.{doomed, told_closed, closed_at}

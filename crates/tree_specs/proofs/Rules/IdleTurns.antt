@@ -24,7 +24,8 @@ use Rattle.tree_specs.specs.Events.Rotation.{Ready, first_ready}
 use Rattle.tree_specs.specs.Events.Coming.{wait_limit, handler_for, handler_moment, at_time, with_flags, plainly, begun, goes_after, looks_again}
 use Rattle.tree_specs.specs.Rules.Items.Item.{Told, Asked}
 use Rattle.tree_specs.specs.Rules.Sequence.{Work, Scene}
-use Rattle.tree_specs.specs.Rules.Story.{free, asked, taking, timing, timed, polling, starting, firing, handling, handled, closing, comes, finishing, notifying}
+use Rattle.tree_specs.specs.Rules.Story.{free, asked, taking, timing, timed, polling, starting, firing, handling, handled, closing, finishing, notifying}
+use Rattle.tree_specs.specs.Rules.Pieces.{comes}
 use Rattle.tree_specs.specs.declared.reply.Reply.{Reply}
 use Rattle.tree_specs.specs.declared.request.State.TheVariants.{TimedOut}
 use Rattle.tree_specs.specs.declared.frame.Errand.TheVariants.{Notify}

@@ -56,7 +56,8 @@ use Rattle.tree_specs.specs.Events.Requests.{note_of, is_noted, is_unreceived, c
 use Rattle.tree_specs.specs.Calls.Plans.{Change, Plan, planned}
 use Rattle.tree_specs.specs.Calls.Plans.Plan.{Does, Frees, Unlinks, Empties, Asks, Turns, Works}
 use Rattle.tree_specs.specs.Rules.Sequence.{Work, Scene, CallStart, ◌>>◌, change, tells, gives}
-use Rattle.tree_specs.specs.Rules.Story.{free, lets_go, dooming, judged, leave, children, tried, unlink, release, taking, timing, timed, polling, starting, handled, reaching, freed_quietly, cancelling, cleaning, cleaned, notifying, called, over}
+use Rattle.tree_specs.specs.Rules.Story.{free, dooming, judged, leave, children, tried, unlink, release, taking, timing, timed, polling, starting, handled, reaching, cancelling, cleaning, cleaned, notifying, called, over}
+use Rattle.tree_specs.specs.Rules.Pieces.{lets_go, freed_quietly}
 use Rattle.tree_specs.specs.Rules.Errands.{reply_to}
 use Rattle.tree_specs.specs.Machine.Meaning.{noted_table, freed, closed, answered, looped, request_mean, mean}
 use Rattle.tree_specs.specs.Machine.FreeTable.{judge_step, loop_step, tried_step, refs_step, unlink_step, release_step}

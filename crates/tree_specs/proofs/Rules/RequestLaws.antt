@@ -26,7 +26,8 @@ use Rattle.tree_specs.specs.Calls.Plans.Plan.{Frees, Unlinks}
 use Rattle.tree_specs.specs.Rules.Items.Item.{Told}
 use Rattle.tree_specs.specs.Rules.Sequence.{Work, Scene}
 use Rattle.tree_specs.specs.Rules.Errands.{reply_to, cancelled_reply}
-use Rattle.tree_specs.specs.Rules.Story.{free, unlink, asked, work_by, freed_quietly, finishing, receiving, cancelling, cleaning, cleaned, notifying, calling, called, over}
+use Rattle.tree_specs.specs.Rules.Story.{free, unlink, asked, finishing, receiving, cancelling, cleaning, cleaned, notifying, calling, called, over}
+use Rattle.tree_specs.specs.Rules.Pieces.{work_by, freed_quietly}
 use Rattle.tree_specs.proofs.Tree.Numbered.{by_test}
 use Rattle.tree_specs.proofs.Rules.Lawful.{Last, After, Lawful, Any, Said, same-lawful, ended-lawful, told-lawful, followed-lawful, Returned, scene_of, AllLawful}
 

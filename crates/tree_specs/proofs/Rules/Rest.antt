@@ -48,10 +48,12 @@ use Rattle.tree_specs.specs.Invariants.Measure.{cost}
 use Rattle.tree_specs.specs.Machine.View.{View, outcome_of, rest_of}
 use Rattle.tree_specs.specs.Invariants.Consistent.{IsCaller, IsStacked, IsConsistent}
 use Rattle.tree_specs.proofs.Invariants.Keeps.{sound-kept}
-use Rattle.tree_specs.proofs.Invariants.KeptNotes.{NotedBy, noted-kept}
+use Rattle.tree_specs.proofs.Invariants.KeptNotes.{noted-kept}
+use Rattle.tree_specs.proofs.Invariants.FreeNotes.{NotedBy}
 use Rattle.tree_specs.proofs.Invariants.KeptCalm.{CalmBy, calm-kept}
 use Rattle.tree_specs.proofs.Turns.Falls.{Well, falls}
-use Rattle.tree_specs.proofs.Turns.Load.{Placed, placed-kept}
+use Rattle.tree_specs.proofs.Turns.Load.{placed-kept}
+use Rattle.tree_specs.proofs.Turns.Seats.{Placed}
 use Rattle.tree_specs.proofs.Turns.Bound.{cost-turns, pending-most}
 
 -- a bound on the rows that there can be, with k inputs left

@@ -30,7 +30,8 @@ use Rattle.tree_specs.specs.Calls.Plans.{Plan, planned, notice_of, changed_by}
 use Rattle.tree_specs.specs.Calls.Plans.Plan.{Does, Frees, Unlinks, Empties, Asks, Turns, Works}
 use Rattle.tree_specs.specs.Events.Requests.{note_of, is_unreceived}
 use Rattle.tree_specs.specs.Rules.Answers.{hook_moment, later, heard, reached}
-use Rattle.tree_specs.specs.Rules.Story.{effect, free, hooked, judged, dooming, leave, children, tried, asked, acting, telling, returning, items, announcing, unlink, release, given, numbered, turned, taking, timed, reaching, opening, hearing, lets_go, notice_event, preparing, work_by, finishing, receiving, cancelling, notifying}
+use Rattle.tree_specs.specs.Rules.Story.{free, hooked, judged, dooming, leave, children, tried, asked, acting, telling, returning, items, announcing, unlink, release, given, taking, timed, reaching, opening, hearing, preparing, finishing, receiving, cancelling, notifying}
+use Rattle.tree_specs.specs.Rules.Pieces.{effect, numbered, turned, lets_go, notice_event, work_by}
 use Rattle.tree_specs.specs.Promises.Acceptances.{returned_by, AcceptsAfterReturns}
 use Rattle.tree_specs.proofs.Tree.Numbered.{by_test}
 use Rattle.tree_specs.proofs.Calls.Checks.{heard-by, Reaches, IsOpened, IsTold, IsAnswered, reached-by}

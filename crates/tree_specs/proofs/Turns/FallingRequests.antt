@@ -32,7 +32,7 @@ use Rattle.tree_specs.specs.Invariants.Measure.{weight, row_worth, waiting_cost,
 use Rattle.tree_specs.proofs.Tree.Numbered.{by_test}
 use Rattle.tree_specs.proofs.Events.NoteLaws.{total-lighter, total-receive, renoted-lighter}
 use Rattle.tree_specs.proofs.Invariants.KeptNotes.{going-unreceived}
-use Rattle.tree_specs.proofs.Turns.FallingFrees.{Lowers, Room, done-lower}
+use Rattle.tree_specs.proofs.Turns.Lowering.{Lowers, Room, done-lower}
 
 -- a note that is changed, where a request that wasn't received stays so, weighs no more
 renoted-cost : (R : ℕ) (g : Note → Note) (p : Pool) (x : Obj) → ((n : Note) → note_of p.requests x ≡ Some n → is_unreceived (Some (g n)) ≡ true → is_unreceived (Some n) ≡ true)

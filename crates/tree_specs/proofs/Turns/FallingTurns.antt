@@ -30,7 +30,7 @@ use Rattle.tree_specs.proofs.Tree.Numbered.{by_test}
 use Rattle.tree_specs.proofs.Calls.Checks.{Reached, ReachedOpening, ReachedHearing, reached-leads}
 use Rattle.tree_specs.proofs.Invariants.Changes.{handling-row, claim-here}
 use Rattle.tree_specs.proofs.Invariants.Turning.{handler-ready, rotated-rows, IsPlain, Passes, Pass, Serve, look-passes, taken-plain}
-use Rattle.tree_specs.proofs.Turns.FallingFrees.{Lowers, Room, done-lower, total-kept, length-changed, marked-weight, live-weight}
+use Rattle.tree_specs.proofs.Turns.Lowering.{Lowers, Room, done-lower, total-kept, length-changed, marked-weight, live-weight}
 
 passes-lower : (R : ℕ) (f : TurnFrame) (fs : List Frame) (p : Pool) (k : ℕ) (m : Step) → (turn_profile f).steps ≡ 13 → Passes p m → Room R (frame.Turn f) p k
     → Lowers R (cost R (frame.Turn f) fs p k) m fs k

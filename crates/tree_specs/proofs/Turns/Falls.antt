@@ -24,11 +24,13 @@ use Rattle.tree_specs.specs.Invariants.Sound.{Sound}
 use Rattle.tree_specs.specs.Tree.Inside.{total}
 use Rattle.tree_specs.specs.Invariants.Measure.{weight, row_worth, cost}
 use Rattle.tree_specs.proofs.Tree.Rows.{count-length}
-use Rattle.tree_specs.proofs.Calls.Plans.{MayDo, MayWork, May, added, heavier, follows, may-planned}
+use Rattle.tree_specs.proofs.Calls.Plans.{MayWork, May, may-planned}
+use Rattle.tree_specs.proofs.Calls.Changes.{MayDo, added, heavier, follows}
 use Rattle.tree_specs.specs.Invariants.Noted.{Noted}
 use Rattle.tree_specs.proofs.Invariants.Keeps.{sound-kept}
 use Rattle.tree_specs.proofs.Invariants.KeptNotes.{noted-kept}
-use Rattle.tree_specs.proofs.Turns.FallingFrees.{Lowers, Room, asking-lower, returning-lower, free-lower}
+use Rattle.tree_specs.proofs.Turns.FallingFrees.{free-lower}
+use Rattle.tree_specs.proofs.Turns.Lowering.{Lowers, Room, asking-lower, returning-lower}
 use Rattle.tree_specs.proofs.Turns.FallingTurns.{turn-lower, outside-lower}
 use Rattle.tree_specs.proofs.Turns.FallingRequests.{request-lower}
 

@@ -59,7 +59,7 @@ use Rattle.tree_specs.specs.Calls.Plans.{Plan, plan, planned, unless_refused, ch
 use Rattle.tree_specs.specs.Calls.Plans.Plan.{Does, Frees, Unlinks, Empties, Asks, Turns, Works}
 use Rattle.tree_specs.specs.Rules.Sequence.{CallStart}
 use Rattle.tree_specs.specs.Rules.Answers.{freed_reply, hook_moment, later, heard, clocked, polled, reached}
-use Rattle.tree_specs.specs.Rules.Story.{notice_event}
+use Rattle.tree_specs.specs.Rules.Pieces.{notice_event}
 use Rattle.tree_specs.specs.Machine.FreeTable.{FreeMove, free_step, free_resume}
 
 -- ---- the host

@@ -25,7 +25,8 @@ use Rattle.tree_specs.specs.Rules.Items.{Item}
 use Rattle.tree_specs.specs.Rules.Items.Item.{Told}
 use Rattle.tree_specs.specs.Rules.Sequence.{Work, Scene}
 use Rattle.tree_specs.specs.Rules.Answers.{hook_moment, freed_reply}
-use Rattle.tree_specs.specs.Rules.Story.{effect, free, unlink, children, asked, turned, taking, reaching, work_by, finishing, notifying, receiving, cancelling}
+use Rattle.tree_specs.specs.Rules.Story.{free, unlink, children, asked, taking, reaching, finishing, notifying, receiving, cancelling}
+use Rattle.tree_specs.specs.Rules.Pieces.{effect, turned, work_by}
 
 -- a call, be it the host's own or an act, with its reply; a turn is the host's own
 abbrev pub called : ℕ → Call → Work Reply
