@@ -24,7 +24,7 @@ use Rattle.tree_specs.specs.declared.request.Note.{Note}
 use Rattle.tree_specs.specs.declared.request.State.{State}
 use Rattle.tree_specs.specs.Events.Requests.{is_in_progress, note_of}
 use Rattle.tree_specs.specs.Calls.Refusals.{is_finished}
-use Rattle.tree_specs.specs.Calls.Refusals.{Check, row_limit, refuse_if, refusal_of, refused, refusals, over, fits_in, fits, growing, in_state, in_progress, failing, object_row, object, owner, room, given_by, held, is_held, is_running}
+use Rattle.tree_specs.specs.Calls.Refusals.{Check, row_limit, refuse_if, refusal_of, refused, refusals, over, fits_in, fits, growing, in_state, object_row, object, owner, room, given_by, held, is_held, is_running}
 use Rattle.tree_specs.specs.declared.test.Test.TheVariants.{IsSmall, IsObject, IsOwner, IsPlain, IsImmediate, IsDescriptor, IsRequest, IsReferable as IsReferableTest, IsOpen, IsUnwatched, HasRoom, HasNumber, IsInProgress, IsFinished, MayFail, Fits, MayGrow, IsNotDying, IsNotDoomed, IsNotRunning, IsNotInside, IsUnheld, IsUnreferenced, IsInterested, MayGive}
 use Rattle.tree_specs.specs.Rules.Sequence.{Scene}
 use Rattle.tree_specs.specs.Promises.Orderly.{RefusedJustNow}

@@ -1,6 +1,6 @@
 -- What a plan asks for, what its change of the rows leaves so, and that a call which isn't refused may carry out its plan.
-use Rattle.std.proofs.Common.{ℕ, nat_eq, ◌≡◌, ◌≢◌, ◌≤◌, ◌+◌, ◌*◌, List, [], ◌∷◌, length, Option, Some, None, Bool, true, false, refl, sym, ◌∙◌, ap, subst, arith}
-use Rattle.std.specs.Prelude.{is_some, codes, if◌then◌else◌}
+use Rattle.std.proofs.Common.{nat_eq, ◌≡◌, ◌≢◌, ◌≤◌, List, [], ◌∷◌, Option, Some, None, Bool, true, false, refl, sym, ◌∙◌, subst, arith}
+use Rattle.std.specs.Prelude.{if◌then◌else◌}
 use Rattle.tree_specs.specs.declared.object.Obj.{Obj}
 use Rattle.tree_specs.specs.declared.object.Owner.{Owner}
 use Rattle.tree_specs.specs.declared.object.Owner.TheVariants.{Root, Of}
@@ -16,46 +16,36 @@ use Rattle.tree_specs.specs.declared.notice.Notice.{Notice}
 use Rattle.tree_specs.specs.declared.notice.Notice.TheVariants.{Warned}
 use Rattle.tree_specs.specs.declared.question.Ask.{Ask}
 use Rattle.tree_specs.specs.declared.question.Ask.TheVariants as ask
-use Rattle.tree_specs.specs.declared.watch.Watch.{Watch}
 use Rattle.tree_specs.specs.declared.frame.Frame.{Frame}
-use Rattle.tree_specs.specs.Tree.Pool.{Pool, row_of, is_row, is_owner, owner_of, target_at, is_inside, place, hooked_row, named_row, sized_row, limited_row, new_row, add, note, add_request, renote}
+use Rattle.tree_specs.specs.Tree.Pool.{Pool, row_of, is_row, is_owner, owner_of, target_at, is_inside, place, hooked_row, named_row, sized_row, limited_row, renote}
 use Rattle.tree_specs.specs.Tree.Targets.{target_of, newest_ref}
-use Rattle.tree_specs.specs.Tree.Inside.{total}
-use Rattle.tree_specs.specs.Invariants.Measure.{note_weight, weight}
-use Rattle.tree_specs.specs.Invariants.Consistent.{deposit, mark_deposit}
-use Rattle.tree_specs.specs.Calls.Refusals.{Check, tests, refusals, in_state, in_progress, is_immediate, is_request, is_request_row, is_open}
+use Rattle.tree_specs.specs.Calls.Refusals.{Check, tests, refusals, in_state, in_progress, is_immediate, is_request, is_request_row}
 use Rattle.tree_specs.specs.declared.moment.What.TheVariants as what
-use Rattle.tree_specs.specs.Events.Coming.{comes_as}
-use Rattle.tree_specs.specs.Events.Handlers.{handler_of}
-use Rattle.tree_specs.specs.Events.Rotation.{is_watched}
-use Rattle.tree_specs.specs.Invariants.Awaiting.{MayCome, waits_as, waits_as_row, is_event, is_event_row, IsHandled}
+use Rattle.tree_specs.specs.Invariants.Awaiting.{waits_as, waits_as_row, is_event, is_event_row}
 use Rattle.tree_specs.specs.declared.test.Test.TheVariants.{IsObject, IsImmediate, IsRequest, IsInProgress as IsInProgressTest, IsNotDoomed}
-use Rattle.tree_specs.specs.Calls.Plans.{Change, Plan, changed_by, plan, planned, unless_refused, places, warns, frees, handed, gift, receives}
-use Rattle.tree_specs.specs.Calls.Plans.Change.{Nothing, Edit, Add, Place, Handle, Schedule, Arm, Watches, Rewatch, Close, TakeNumber, AddRequest, Renotes, Then}
+use Rattle.tree_specs.specs.Calls.Plans.{Plan, changed_by, plan, planned, unless_refused, places, warns, frees, handed, gift, receives}
+use Rattle.tree_specs.specs.Calls.Plans.Change.{Nothing}
 use Rattle.tree_specs.specs.Calls.Plans.Plan.{Does, Frees, Unlinks, Empties, Asks, Turns, Works}
-use Rattle.tree_specs.specs.Invariants.Sound.{ValidAt, IsLive, IsReferable, IsQuietRow, IsToReceive, MayBePlaced, Rests, Sound, claim}
+use Rattle.tree_specs.specs.Invariants.Sound.{IsLive, IsReferable, IsQuietRow, IsToReceive, MayBePlaced, Sound}
 use Rattle.tree_specs.specs.Invariants.Noted.{IsInProgress, IsBetween}
 use Rattle.tree_specs.proofs.Tree.Numbered.{by_test, same-equal, is_below-some}
-use Rattle.tree_specs.proofs.Tree.Rows.{total-placed, row_of-placed-same}
+use Rattle.tree_specs.proofs.Tree.Rows.{row_of-placed-same}
 use Rattle.tree_specs.proofs.Tree.Rooted.{KeepsPlace}
 use Rattle.tree_specs.proofs.Tree.Referring.{newest-refers, newest-of-refers, refers-nothing, reference-outside, object-refers}
 use Rattle.tree_specs.specs.Calls.Passed.{Passed, AllPassed, Interest, AsOwner, AsHolder, Gives, Itself, ItsRef}
 use Rattle.tree_specs.proofs.Events.HandlerLaws.{with-own}
 use Rattle.tree_specs.proofs.Calls.Checks.{all-pass, may-place, quiet-row}
-use Rattle.tree_specs.proofs.Invariants.Changes.{names-place, hooks-place, sizes-place, limits-place, goes_on, waiting-sound, numbered-sound, nobody, unmarked-sound, placed-sound, new-sound, owned-row}
+use Rattle.tree_specs.proofs.Invariants.Changes.{names-place, hooks-place, sizes-place, limits-place, nobody, owned-row}
 use Rattle.tree_specs.proofs.Invariants.KeptGivings.{referred-live}
-use Rattle.tree_specs.proofs.Turns.FallingFrees.{length-placed}
-use Rattle.tree_specs.proofs.Turns.Lowering.{total-kept, length-changed}
-use Rattle.tree_specs.proofs.Promises.Later.{Later, later-still, later-same, later-changed, later-placed, later-added, later-waiting, later-noted, states-renoted, states-noted}
 use Rattle.tree_specs.specs.declared.frame.Errand.{Errand}
 use Rattle.tree_specs.specs.declared.frame.Errand.TheVariants.{Finish, Notify, Receive, Cancel}
 use Rattle.tree_specs.specs.declared.moment.What.{What}
 use Rattle.tree_specs.specs.declared.request.Note.{Note}
 use Rattle.tree_specs.specs.declared.request.State.{State}
 use Rattle.tree_specs.specs.declared.request.State.TheVariants as state
-use Rattle.tree_specs.specs.Events.Requests.{Notes as RequestNotes, is_in_progress, is_received, is_unreceived, note_of, renoted, new_note, failed_with}
-use Rattle.tree_specs.proofs.Events.NoteLaws.{renoted-same, renoted-none, note_weight-most, renoted-lighter, total-lighter, total-unowned}
-use Rattle.tree_specs.proofs.Calls.Changes.{MayWait, MayBeEdited, MayDo, heavier, added, waits}
+use Rattle.tree_specs.specs.Events.Requests.{is_in_progress, is_received, note_of, failed_with}
+use Rattle.tree_specs.proofs.Events.NoteLaws.{renoted-same, renoted-none}
+use Rattle.tree_specs.proofs.Calls.Changes.{MayWait, MayBeEdited, MayDo, heavier, added}
 
 -- ---- what a plan asks for
 

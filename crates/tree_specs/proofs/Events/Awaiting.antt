@@ -15,7 +15,6 @@ use Rattle.tree_specs.specs.declared.watch.Watch.{Watch}
 use Rattle.tree_specs.specs.Words.Objects.{same}
 use Rattle.tree_specs.specs.Tree.Targets.{target_of}
 use Rattle.tree_specs.specs.Tree.Pool.{Pool, row_of, target_at, changed, without, add, let_go, remove, place, set_mark, marked_row, set_handler, schedule, unschedule, arm, disarm, watch, rewatch, turn_back, open_descriptor, close_descriptor}
-use Rattle.tree_specs.specs.Events.Coming.{comes_as}
 use Rattle.tree_specs.specs.Events.Rotation.{is_watching, is_watched, closes_with, unwatched}
 use Rattle.tree_specs.specs.Events.Descriptors.{Descriptors, is_open_in, shut}
 use Rattle.tree_specs.specs.Calls.Refusals.{is_doomed_mark, is_open}

@@ -1,7 +1,6 @@
 -- What each step keeps of what is so of the works below one: the host's own caller stands on nothing, and nothing goes on with
 -- a request that is to be notified.
-use Rattle.std.proofs.Common.{◌≡◌, ℕ, suc, zero, List, [], ◌∷◌, ◌++◌, Option, Some, None, Bool, true, false, refl, sym, ◌∙◌, ap, subst}
-use Rattle.std.specs.Prelude.{is_some, not}
+use Rattle.std.proofs.Common.{◌≡◌, ℕ, suc, zero, List, [], ◌∷◌, Option, Some, None, Bool, true, false, refl, sym, ◌∙◌, subst}
 use Rattle.step_machine.specs.Machine.{Move}
 use Rattle.step_machine.specs.Machine.{Move as Do}
 use Rattle.step_machine.proofs.Ends.{Leads}
@@ -12,7 +11,6 @@ use Rattle.tree_specs.specs.declared.event.Event.{Event}
 use Rattle.tree_specs.specs.declared.handler.Handler.{Handler}
 use Rattle.tree_specs.specs.declared.moment.What.{What}
 use Rattle.tree_specs.specs.declared.moment.What.TheVariants as whats
-use Rattle.tree_specs.specs.declared.notice.Notice.{Notice}
 use Rattle.tree_specs.specs.declared.question.Ask.{Ask}
 use Rattle.tree_specs.specs.declared.question.Ask.TheVariants as ask
 use Rattle.tree_specs.specs.declared.reply.Reply.{Reply}
@@ -39,18 +37,18 @@ use Rattle.tree_specs.specs.declared.frame.Answer.{Answer}
 use Rattle.tree_specs.specs.declared.frame.Answer.TheVariants.{Freed, Returned, Turned, Heard}
 use Rattle.tree_specs.specs.Rules.Items.{Item}
 use Rattle.tree_specs.specs.Rules.Answers.{later}
-use Rattle.tree_specs.specs.Tree.Pool.{Pool, row_of, schedule, renote, open_descriptor}
+use Rattle.tree_specs.specs.Tree.Pool.{Pool, row_of, open_descriptor}
 use Rattle.tree_specs.specs.Events.Coming.{handler_for, goes_after}
-use Rattle.tree_specs.specs.Events.Requests.{note_of, is_noted, is_received, is_unreceived, cleanup_in, cancel_in, routine_of, not_deferring}
+use Rattle.tree_specs.specs.Events.Requests.{note_of, is_noted, is_received, is_unreceived, cleanup_in, cancel_in, routine_of}
 use Rattle.tree_specs.specs.Calls.Plans.{Plan, planned}
 use Rattle.tree_specs.specs.Calls.Plans.Plan.{Does, Frees, Unlinks, Empties, Asks, Turns, Works}
 use Rattle.tree_specs.specs.Machine.FreeTable.{FreeMove, free_step}
-use Rattle.tree_specs.specs.Machine.Table.{Step, table, event_of, announced, lifted, run_for, plan_step, turning_step, starting_step, handled_step, turn_step, outside_step, over_step, cancelling_step, cleaning_step, release_object, cleaned_step, callback_step, notifying_step, request_step, resume, step}
+use Rattle.tree_specs.specs.Machine.Table.{Step, table, event_of, announced, lifted, run_for, plan_step, turning_step, starting_step, handled_step, turn_step, outside_step, cancelling_step, cleaning_step, release_object, cleaned_step, callback_step, notifying_step, request_step, resume, step}
 use Rattle.tree_specs.specs.Invariants.Sound.{phases, claims, AllWait, Sound}
-use Rattle.tree_specs.specs.Invariants.Noted.{IsInProgress, NotesHold, Noted, ClaimNothing, CalmAsk, CalmErrand, IsCalm, AllCalm}
+use Rattle.tree_specs.specs.Invariants.Noted.{NotesHold, Noted, ClaimNothing, CalmAsk, CalmErrand, IsCalm, AllCalm}
 use Rattle.tree_specs.proofs.Tree.Numbered.{by_test}
 use Rattle.tree_specs.proofs.Calls.Checks.{Heard as HeardBy, HeardCall, HeardReturn, heard-leads, Reached, ReachedOpening, ReachedHearing, reached-leads}
-use Rattle.tree_specs.proofs.Calls.Plans.{MayWork, May, may-planned}
+use Rattle.tree_specs.proofs.Calls.Plans.{May, may-planned}
 use Rattle.tree_specs.proofs.Invariants.Turning.{Passes, Pass, Serve, look-passes, taken-plain}
 use Rattle.tree_specs.proofs.Invariants.Waiters.{Waiter, ForFree, ForTurn, ForRequest, ForRoutine, ForHandler, ForClear, ForServed, waiter}
 use Rattle.tree_specs.proofs.Invariants.Notes.{settled}

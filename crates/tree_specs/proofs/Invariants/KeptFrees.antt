@@ -24,7 +24,7 @@ use Rattle.tree_specs.specs.declared.moment.What.TheVariants as whats
 use Rattle.tree_specs.specs.Events.Requests.{note_of, is_unreceived}
 use Rattle.tree_specs.specs.Rules.Errands.{after_routine}
 use Rattle.tree_specs.specs.declared.frame.FreeFrame.{FreeFrame}
-use Rattle.tree_specs.specs.declared.frame.FreeFrame.TheVariants.{Unlinking, Releasing, Giving, Beginning, Hooked, Judged, Preparing, Prepared, Dooming, Leaving, Looping, FreeingChild, AfterChild, Ending}
+use Rattle.tree_specs.specs.declared.frame.FreeFrame.TheVariants.{Beginning, Hooked, Judged, Preparing, Dooming, Leaving, Looping, FreeingChild, AfterChild, Ending}
 use Rattle.tree_specs.specs.declared.frame.Purpose.{Purpose}
 use Rattle.tree_specs.specs.declared.frame.Purpose.TheVariants.{Removal, Emptying}
 use Rattle.tree_specs.specs.declared.frame.Answer.{Answer}
@@ -33,19 +33,19 @@ use Rattle.tree_specs.specs.declared.free_step.FreeReply.{FreeReply}
 use Rattle.tree_specs.specs.declared.free_step.FreeReply.TheVariants.{Ok, Held, Running, Refused}
 use Rattle.tree_specs.specs.Words.Objects.{same}
 use Rattle.tree_specs.specs.Events.Rotation.{closes_with}
-use Rattle.tree_specs.specs.Tree.Pool.{Pool, row_of, target_in, target_at, newest_ref_of, owner_in, owner_at, noted_owner, is_owner, is_below, owner_of, is_inside, first_kid, without, changed, remove, detach, left_row, set_mark, doom, marked_row, hooked_row}
+use Rattle.tree_specs.specs.Tree.Pool.{Pool, row_of, target_in, target_at, owner_in, owner_at, noted_owner, is_below, owner_of, is_inside, first_kid, without, changed, remove, detach, left_row, set_mark, doom, marked_row, hooked_row}
 use Rattle.tree_specs.specs.Rules.Items.{Item}
 use Rattle.tree_specs.specs.Rules.Answers.{hook_moment}
-use Rattle.tree_specs.specs.Machine.FreeTable.{begin_quiet, begin_step, drop_step, refs_step, unlink_step, release_step, judge_step, last_step, child_step, loop_step, hand_on_step}
+use Rattle.tree_specs.specs.Machine.FreeTable.{begin_quiet, begin_step, drop_step, refs_step, judge_step, last_step, child_step, loop_step, hand_on_step}
 use Rattle.tree_specs.specs.Machine.Table.{table, step, closed_event, announced, lifted, reply_in, resume}
 use Rattle.tree_specs.specs.Tree.Heirs.{heir}
-use Rattle.tree_specs.specs.Invariants.Sound.{Owned, Shaped, ValidAt, phase_of, phases, claim_if, claim, claims, AllWait, Rests, IsLive, IsReferable, NotedFor, Tries, StillThere, Refers, IsQuietRow, IsOver, MayAnswer, IsCalled, IsGivenUp, MayBePlaced, RequestRests, Sound, Footing, footing}
+use Rattle.tree_specs.specs.Invariants.Sound.{Owned, Shaped, ValidAt, phase_of, phases, claim_if, claim, claims, Rests, IsLive, IsReferable, NotedFor, Tries, StillThere, IsOver, MayAnswer, RequestRests, Sound, Footing, footing}
 use Rattle.tree_specs.specs.Invariants.Sound.Footing.{OnCall, OnFree, AtBottom}
 use Rattle.tree_specs.proofs.Tree.Numbered.{by_test, same-equal, same-false}
 use Rattle.tree_specs.proofs.Tree.Rows.{row_of-changed-other, row_of-changed-same, row_of-without-other, row_of-without-same, first_kid-owner}
-use Rattle.tree_specs.proofs.Tree.Rooted.{forest-left, forest-without, is_there-owner}
-use Rattle.tree_specs.proofs.Tree.Referring.{newest-refers, newest-of-refers, none-refers, newest-changed, refers-at, refers-nothing, outside-without, owner-without}
-use Rattle.tree_specs.proofs.Tree.Ancestry.{inside-self, inside-owner, inside-not_back}
+use Rattle.tree_specs.proofs.Tree.Rooted.{forest-left, forest-without}
+use Rattle.tree_specs.proofs.Tree.Referring.{newest-refers, none-refers, newest-changed, refers-at, refers-nothing}
+use Rattle.tree_specs.proofs.Tree.Ancestry.{inside-owner, inside-not_back}
 use Rattle.tree_specs.specs.Tree.Forest.{IsForest}
 use Rattle.tree_specs.specs.Tree.Targets.{target_of, newest_ref}
 use Rattle.tree_specs.proofs.Invariants.Waiters.{Waiter, ForFree, ForRun, ForChild, ForTurn, ForHandler, ForClear, ForRequest, ForServed, ForReceived, ForRoutine, ForRelease, waiter}

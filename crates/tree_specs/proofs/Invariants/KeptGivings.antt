@@ -1,56 +1,29 @@
 -- What the giving up of an object keeps of what holds at every moment.
-use Rattle.std.proofs.Common.{◌≡◌, ◌≢◌, ℕ, suc, zero, List, [], ◌∷◌, Option, Some, None, true, false, nat_eq, refl, sym, ◌∙◌, ap, subst, inl, inr}
+use Rattle.std.proofs.Common.{◌≡◌, ◌≢◌, ℕ, List, [], ◌∷◌, Option, Some, None, true, false, refl, sym, ◌∙◌, ap, subst}
 use Rattle.std.specs.Prelude.{unwrap_or, ◌||◌}
-use Rattle.step_machine.specs.Machine.{Move}
-use Rattle.step_machine.specs.Machine.{Move as Do}
-use Rattle.step_machine.proofs.Ends.{Leads}
-use Rattle.tree_specs.specs.Machine.Profiles.{InRun, InLoop}
 use Rattle.tree_specs.specs.declared.object.Obj.{Obj}
 use Rattle.tree_specs.specs.declared.object.Owner.{Owner}
 use Rattle.tree_specs.specs.declared.object.Owner.TheVariants.{Root, Of}
 use Rattle.tree_specs.specs.declared.row.Row.{Row}
 use Rattle.tree_specs.specs.declared.row.Mark.{Mark}
-use Rattle.tree_specs.specs.declared.row.Mark.TheVariants.{Quiet, Asked, Busy, Doomed, Dying}
-use Rattle.tree_specs.specs.declared.question.Ask.{Ask}
-use Rattle.tree_specs.specs.declared.question.Ask.TheVariants.{Routine}
+use Rattle.tree_specs.specs.declared.row.Mark.TheVariants.{Quiet}
 use Rattle.tree_specs.specs.declared.frame.Frame.{Frame}
 use Rattle.tree_specs.specs.declared.frame.Frame.TheVariants as frame
-use Rattle.tree_specs.specs.declared.frame.CallFrame.TheVariants.{Asking, Doing, Awaiting, Turning, Requesting, Returning}
-use Rattle.tree_specs.specs.declared.frame.TurnFrame.TheVariants.{Handling, Clearing, Serving}
-use Rattle.tree_specs.specs.declared.frame.RequestFrame.{RequestFrame}
-use Rattle.tree_specs.specs.declared.frame.RequestFrame.TheVariants as request
-use Rattle.tree_specs.specs.declared.moment.What.{What}
-use Rattle.tree_specs.specs.declared.moment.What.TheVariants as whats
-use Rattle.tree_specs.specs.Events.Requests.{note_of, is_unreceived}
-use Rattle.tree_specs.specs.Rules.Errands.{after_routine}
-use Rattle.tree_specs.specs.declared.frame.FreeFrame.{FreeFrame}
-use Rattle.tree_specs.specs.declared.frame.FreeFrame.TheVariants.{Unlinking, Releasing, Giving, Beginning, Hooked, Judged, Preparing, Prepared, Dooming, Leaving, Looping, FreeingChild, AfterChild, Ending}
-use Rattle.tree_specs.specs.declared.frame.Purpose.{Purpose}
-use Rattle.tree_specs.specs.declared.frame.Purpose.TheVariants.{Removal, Emptying}
-use Rattle.tree_specs.specs.declared.frame.Answer.{Answer}
-use Rattle.tree_specs.specs.declared.frame.Answer.TheVariants.{Freed}
-use Rattle.tree_specs.specs.declared.free_step.FreeReply.{FreeReply}
-use Rattle.tree_specs.specs.declared.free_step.FreeReply.TheVariants.{Ok, Held, Running, Refused}
+use Rattle.tree_specs.specs.declared.frame.FreeFrame.TheVariants.{Unlinking, Releasing, Giving, Beginning, Ending}
+use Rattle.tree_specs.specs.declared.free_step.FreeReply.TheVariants.{Ok}
 use Rattle.tree_specs.specs.Words.Objects.{same}
-use Rattle.tree_specs.specs.Events.Rotation.{closes_with}
-use Rattle.tree_specs.specs.Tree.Pool.{Pool, row_of, target_in, target_at, newest_ref_of, owner_in, owner_at, noted_owner, is_owner, is_below, owner_of, is_inside, first_kid, without, changed, remove, detach, left_row, set_mark, doom, marked_row, hooked_row}
-use Rattle.tree_specs.specs.Rules.Items.{Item}
-use Rattle.tree_specs.specs.Rules.Answers.{hook_moment}
-use Rattle.tree_specs.specs.Machine.FreeTable.{begin_quiet, begin_step, drop_step, refs_step, unlink_step, release_step, judge_step, last_step, child_step, loop_step, hand_on_step}
-use Rattle.tree_specs.specs.Machine.Table.{table, step, closed_event, announced, lifted, reply_in, resume}
-use Rattle.tree_specs.specs.Tree.Heirs.{heir}
-use Rattle.tree_specs.specs.Invariants.Sound.{Owned, Shaped, ValidAt, phase_of, phases, claim_if, claim, claims, AllWait, Rests, IsLive, IsReferable, NotedFor, Tries, StillThere, Refers, IsQuietRow, IsOver, MayAnswer, IsCalled, IsGivenUp, MayBePlaced, RequestRests, Sound, Footing, footing}
-use Rattle.tree_specs.specs.Invariants.Sound.Footing.{OnCall, OnFree, AtBottom}
-use Rattle.tree_specs.proofs.Tree.Numbered.{by_test, same-equal, same-false}
-use Rattle.tree_specs.proofs.Tree.Rows.{row_of-changed-other, row_of-changed-same, row_of-without-other, row_of-without-same, first_kid-owner}
-use Rattle.tree_specs.proofs.Tree.Rooted.{forest-left, forest-without, is_there-owner}
-use Rattle.tree_specs.proofs.Tree.Referring.{newest-refers, newest-of-refers, none-refers, newest-changed, refers-at, refers-nothing, outside-without, owner-without}
-use Rattle.tree_specs.proofs.Tree.Ancestry.{inside-self, inside-owner, inside-not_back}
-use Rattle.tree_specs.specs.Tree.Forest.{IsForest}
-use Rattle.tree_specs.specs.Tree.Targets.{target_of, newest_ref}
-use Rattle.tree_specs.proofs.Invariants.Waiters.{Waiter, ForFree, ForRun, ForChild, ForTurn, ForHandler, ForClear, ForRequest, ForServed, ForReceived, ForRoutine, ForRelease, waiter}
-use Rattle.tree_specs.proofs.Calls.Checks.{Heard, HeardCall, HeardReturn, heard-leads}
-use Rattle.tree_specs.proofs.Invariants.Changes.{run-refers, run-unreferred, dropped-sound, dying-row, running-row, claim-here, positive, not-zero, stands, goes_on, waiting-sound, changed-sound, shape-of, live-owned, marks-place, hooks-place, unmarked-sound, valid-at, frees-at, placed-sound, heir-placed}
+use Rattle.tree_specs.specs.Tree.Pool.{Pool, row_of, target_at, newest_ref_of, owner_in, is_owner, owner_of, is_inside, remove}
+use Rattle.tree_specs.specs.Machine.FreeTable.{unlink_step, release_step}
+use Rattle.tree_specs.specs.Machine.Table.{step, lifted}
+use Rattle.tree_specs.specs.Invariants.Sound.{Owned, Shaped, ValidAt, AllWait, IsLive, IsReferable, Tries, Refers, IsQuietRow, IsCalled, IsGivenUp, MayBePlaced, Sound, footing}
+use Rattle.tree_specs.proofs.Tree.Numbered.{by_test, same-false}
+use Rattle.tree_specs.proofs.Tree.Rows.{row_of-without-other}
+use Rattle.tree_specs.proofs.Tree.Rooted.{is_there-owner}
+use Rattle.tree_specs.proofs.Tree.Referring.{newest-refers, newest-of-refers, outside-without, owner-without}
+use Rattle.tree_specs.proofs.Tree.Ancestry.{inside-self, inside-owner}
+use Rattle.tree_specs.specs.Tree.Targets.{newest_ref}
+use Rattle.tree_specs.proofs.Invariants.Waiters.{Waiter, ForFree, ForClear, ForRelease, waiter}
+use Rattle.tree_specs.proofs.Invariants.Changes.{dropped-sound, goes_on}
 use Rattle.tree_specs.proofs.Invariants.KeptFrees.{KeptBy, apart}
 
 -- ---- an owner gives an object up

@@ -1,78 +1,55 @@
 -- What each step keeps of what holds of requests.
-use Rattle.std.proofs.Common.{◌≡◌, ℕ, suc, zero, nat_eq, List, [], ◌∷◌, Option, Some, None, Bool, true, false, refl, sym, ◌∙◌, ap, subst, inr}
-use Rattle.step_machine.specs.Machine.{Move}
-use Rattle.step_machine.specs.Machine.{Move as Do}
-use Rattle.step_machine.proofs.Ends.{Leads}
+use Rattle.std.proofs.Common.{◌≡◌, ℕ, suc, zero, nat_eq, List, [], ◌∷◌, Option, Some, None, Bool, true, false, refl, sym, ◌∙◌, ap, subst}
 use Rattle.tree_specs.specs.declared.object.Obj.{Obj}
 use Rattle.tree_specs.specs.declared.object.Owner.{Owner}
-use Rattle.tree_specs.specs.declared.object.Owner.TheVariants.{Of}
-use Rattle.tree_specs.specs.declared.row.Row.{Row}
-use Rattle.tree_specs.specs.declared.row.Mark.{Mark}
-use Rattle.tree_specs.specs.declared.row.Mark.TheVariants.{Quiet, Asked, Busy, Doomed, Dying}
+use Rattle.tree_specs.specs.declared.row.Mark.TheVariants.{Busy}
 use Rattle.tree_specs.specs.declared.kind.Kind.{Kind}
 use Rattle.tree_specs.specs.declared.kind.Kind.TheVariants as kind
 use Rattle.tree_specs.specs.declared.call.Call.{Call}
 use Rattle.tree_specs.specs.declared.call.Call.TheVariants as call
-use Rattle.tree_specs.specs.declared.event.Event.{Event}
 use Rattle.tree_specs.specs.declared.handler.Handler.{Handler}
 use Rattle.tree_specs.specs.declared.moment.What.{What}
 use Rattle.tree_specs.specs.declared.moment.What.TheVariants as whats
-use Rattle.tree_specs.specs.declared.notice.Notice.{Notice}
 use Rattle.tree_specs.specs.declared.question.Ask.{Ask}
 use Rattle.tree_specs.specs.declared.question.Ask.TheVariants as ask
-use Rattle.tree_specs.specs.declared.reply.Reply.{Reply}
 use Rattle.tree_specs.specs.declared.request.Note.{Note}
 use Rattle.tree_specs.specs.declared.request.State.{State}
 use Rattle.tree_specs.specs.declared.request.State.TheVariants.{TimedOut, Received}
 use Rattle.tree_specs.specs.declared.reply.Refusal.TheVariants.{BadState}
 use Rattle.std.specs.Prelude.{not}
-use Rattle.tree_specs.specs.declared.watch.Watch.{Watch}
 use Rattle.tree_specs.specs.declared.frame.Errand.{Errand}
 use Rattle.tree_specs.specs.declared.frame.Errand.TheVariants.{Finish, Notify, Receive, Cancel}
 use Rattle.tree_specs.specs.declared.frame.Frame.{Frame}
 use Rattle.tree_specs.specs.declared.frame.Frame.TheVariants as frame
 use Rattle.tree_specs.specs.declared.frame.CallFrame.TheVariants.{Asking, Doing, Announcing, Telling, Returning}
-use Rattle.tree_specs.specs.declared.frame.FreeFrame.{FreeFrame}
-use Rattle.tree_specs.specs.declared.frame.FreeFrame.TheVariants.{Unlinking, Releasing, Giving, Beginning, Hooked, Judged, Preparing, Prepared, Dooming, Leaving, Looping, FreeingChild, AfterChild, Ending}
 use Rattle.tree_specs.specs.declared.frame.TurnFrame.{TurnFrame}
 use Rattle.tree_specs.specs.declared.frame.TurnFrame.TheVariants.{Taking, Timing, Timed, Polling, Starting, Firing, Handling, Handled, Closing}
 use Rattle.tree_specs.specs.declared.frame.OutsideFrame.{OutsideFrame}
 use Rattle.tree_specs.specs.declared.frame.OutsideFrame.TheVariants.{Reaching, Opening, Hearing}
 use Rattle.tree_specs.specs.declared.frame.RequestFrame.{RequestFrame}
 use Rattle.tree_specs.specs.declared.frame.RequestFrame.TheVariants as request
-use Rattle.tree_specs.specs.declared.frame.Purpose.{Purpose}
-use Rattle.tree_specs.specs.declared.frame.Purpose.TheVariants.{Removal, Emptying}
-use Rattle.tree_specs.specs.declared.frame.Answer.{Answer}
-use Rattle.tree_specs.specs.declared.frame.Answer.TheVariants.{Freed, Returned, Turned, Heard}
-use Rattle.tree_specs.specs.declared.free_step.FreeReply.{FreeReply}
-use Rattle.tree_specs.specs.declared.free_step.FreeReply.TheVariants.{Ok}
-use Rattle.tree_specs.specs.declared.question.Input.{Input}
-use Rattle.tree_specs.specs.Rules.Items.{Item}
-use Rattle.tree_specs.specs.Tree.Pool.{Pool, row_of, is_row, remove, target_at, newest_ref_of, is_below, owner_of, is_inside, first_kid, left_row, marked_row, hooked_row, set_mark, detach, doom, schedule, renote, open_descriptor}
+use Rattle.tree_specs.specs.declared.frame.Answer.TheVariants.{Returned, Turned, Heard}
+use Rattle.tree_specs.specs.Tree.Pool.{Pool, row_of, marked_row, schedule, renote, open_descriptor}
 use Rattle.tree_specs.specs.Tree.Targets.{newest_ref}
-use Rattle.tree_specs.specs.Tree.Heirs.{heir}
-use Rattle.tree_specs.specs.Events.Coming.{handler_for, rotated, begun, goes_after}
+use Rattle.tree_specs.specs.Events.Coming.{handler_for, begun, goes_after}
 use Rattle.tree_specs.specs.Events.Requests.{note_of, is_noted, is_unreceived, cleanup_in, cancel_in, is_received, is_in_progress, state_number, cleaned, not_deferring}
 use Rattle.tree_specs.specs.Calls.Refusals as refusing
 use Rattle.tree_specs.specs.Calls.Refusals.{Check, tests, refusals, in_progress, is_request, is_referable, is_request_row}
 use Rattle.tree_specs.specs.Calls.Plans.{Change, Plan, planned, plan, unless_refused, changed_by, frees, handed, gift, receives}
-use Rattle.tree_specs.specs.Calls.Plans.Change.{Nothing, Edit, Add, Place, Handle, Schedule, Unschedule, Arm, Watches, Rewatch, Close, TakeNumber, AddRequest, Renotes, Then}
-use Rattle.tree_specs.specs.Calls.Plans.Plan.{Does, Frees, Unlinks, Empties, Asks, Turns, Works}
+use Rattle.tree_specs.specs.Calls.Plans.Change.{Edit, Add, Place, Arm, AddRequest, Renotes, Then}
+use Rattle.tree_specs.specs.Calls.Plans.Plan.{Does, Frees, Unlinks, Turns, Works}
 use Rattle.tree_specs.specs.Calls.Passed.{AllPassed}
-use Rattle.tree_specs.specs.Machine.FreeTable.{FreeMove, begin_quiet, begin_step, refs_step, unlink_step, release_step, judge_step, last_step, child_step, loop_step, hand_on_step, tried_step, free_step}
-use Rattle.tree_specs.specs.Machine.Table.{Step, table, event_of, announced, lifted, run_for, plan_step, notice_step, turning_step, starting_step, handled_step, turn_step, outside_step, cancelling_step, cleaning_step, release_object, cleaned_step, callback_step, notifying_step, request_step, resume, step}
-use Rattle.tree_specs.specs.Invariants.Sound.{phases, phase_of, claims, AllWait, Rests, Sound}
-use Rattle.tree_specs.specs.Machine.Profiles.{Phase, InRun, InHandler}
-use Rattle.tree_specs.specs.Invariants.Noted.{IsInProgress, IsOfRequest, WorkRests, RestsNoted, NotesHold, Noted}
+use Rattle.tree_specs.specs.Machine.FreeTable.{free_step}
+use Rattle.tree_specs.specs.Machine.Table.{Step, plan_step, turning_step, starting_step, handled_step, turn_step, outside_step, cancelling_step, cleaning_step, release_object, cleaned_step, callback_step, notifying_step, request_step, step}
+use Rattle.tree_specs.specs.Invariants.Sound.{Rests, Sound}
+use Rattle.tree_specs.specs.Invariants.Noted.{IsInProgress, NotesHold, Noted}
 use Rattle.tree_specs.proofs.Tree.Numbered.{by_test}
-use Rattle.tree_specs.proofs.Events.PendingLaws.{disarmed-other}
 use Rattle.tree_specs.proofs.Calls.Checks.{all-pass, Heard as HeardBy, HeardCall, HeardReturn, heard-leads, Reached, ReachedOpening, ReachedHearing, reached-leads}
 use Rattle.tree_specs.proofs.Calls.Plans.{MayWork, May, may-planned}
 use Rattle.tree_specs.proofs.Calls.Changes.{MayDo, change-sound}
-use Rattle.tree_specs.proofs.Invariants.Changes.{claim-here, heir-placed, nobody}
+use Rattle.tree_specs.proofs.Invariants.Changes.{nobody}
 use Rattle.tree_specs.proofs.Invariants.Turning.{handler-ready, Passes, Pass, Serve, look-passes, taken-plain}
-use Rattle.tree_specs.proofs.Invariants.Waiters.{Waiter, ForRoutine, waiter}
-use Rattle.tree_specs.proofs.Invariants.Notes.{same-holds, excepted, settled, changed-holds, unmarked-holds, quiet-holds, placed-holds, removed-holds, added-holds, requested-holds, armed-holds, renoted-holds, finished-holds, received-holds}
+use Rattle.tree_specs.proofs.Invariants.Notes.{same-holds, excepted, changed-holds, unmarked-holds, quiet-holds, placed-holds, added-holds, requested-holds, armed-holds, renoted-holds, finished-holds, received-holds}
 use Rattle.tree_specs.proofs.Invariants.FreeNotes.{NotedBy, ended, free-noted, lifted-noted}
 
 -- ---- calls

@@ -1,16 +1,12 @@
 -- What each step of a request's work, and of a free that waits for it, keeps of what holds at every moment.
-use Rattle.std.proofs.Common.{◌≡◌, ℕ, suc, zero, List, [], ◌∷◌, ◌++◌, Option, Some, None, Bool, true, false, refl, sym, ◌∙◌, ap, subst, inl, inr}
+use Rattle.std.proofs.Common.{◌≡◌, ℕ, List, [], ◌∷◌, Option, Some, None, false, refl, ◌∙◌, inl}
 use Rattle.tree_specs.specs.declared.object.Obj.{Obj}
-use Rattle.tree_specs.specs.declared.object.Owner.{Owner}
-use Rattle.tree_specs.specs.declared.object.Owner.TheVariants.{Root}
 use Rattle.tree_specs.specs.declared.row.Row.{Row}
-use Rattle.tree_specs.specs.declared.row.Mark.TheVariants.{Quiet, Asked}
+use Rattle.tree_specs.specs.declared.row.Mark.TheVariants.{Quiet}
 use Rattle.tree_specs.specs.declared.call.Call.TheVariants as call
 use Rattle.tree_specs.specs.declared.handler.Handler.{Handler}
-use Rattle.tree_specs.specs.declared.moment.What.{What}
 use Rattle.tree_specs.specs.declared.question.Ask.TheVariants.{Routine}
 use Rattle.tree_specs.specs.declared.request.Note.{Note}
-use Rattle.tree_specs.specs.declared.request.State.TheVariants.{Received}
 use Rattle.tree_specs.specs.declared.frame.Errand.{Errand}
 use Rattle.tree_specs.specs.declared.frame.Errand.TheVariants.{Finish, Receive}
 use Rattle.tree_specs.specs.declared.frame.Frame.{Frame}
@@ -22,20 +18,19 @@ use Rattle.tree_specs.specs.declared.frame.RequestFrame.TheVariants as request
 use Rattle.tree_specs.specs.declared.frame.Answer.TheVariants.{Heard}
 use Rattle.tree_specs.specs.Words.Objects.{same}
 use Rattle.tree_specs.specs.Tree.Targets.{target_of, newest_ref}
-use Rattle.tree_specs.specs.Tree.Pool.{Pool, row_of, target_in, target_at, changed, set_mark, marked_row, finish, receive}
-use Rattle.tree_specs.specs.Events.Requests.{note_of, is_unreceived, cleanup_in, cancel_in}
+use Rattle.tree_specs.specs.Tree.Pool.{Pool, row_of, target_in, target_at, set_mark, marked_row, finish, receive}
+use Rattle.tree_specs.specs.Events.Requests.{note_of, cleanup_in, cancel_in}
 use Rattle.tree_specs.specs.Events.Coming.{handler_moment, plainly}
 use Rattle.tree_specs.specs.Calls.Plans.{Plan, planned}
 use Rattle.tree_specs.specs.Calls.Plans.Plan.{Frees, Unlinks}
-use Rattle.tree_specs.specs.Rules.Errands.{is_receive}
-use Rattle.tree_specs.specs.Machine.Profiles.{Phase, InRun}
-use Rattle.tree_specs.specs.Machine.Table.{Step, step, cancelling_step, cleaning_step, release_object, cleaned_step, callback_step, notifying_step, request_step}
-use Rattle.tree_specs.specs.Invariants.Sound.{phases, claims, footing, AllWait, IsLive, IsRequested, IsToReceive, RequestRests, Sound}
-use Rattle.tree_specs.proofs.Tree.Numbered.{by_test, same-equal, same-false}
+use Rattle.tree_specs.specs.Machine.Profiles.{InRun}
+use Rattle.tree_specs.specs.Machine.Table.{step, cancelling_step, cleaning_step, release_object, cleaned_step, callback_step, notifying_step, request_step}
+use Rattle.tree_specs.specs.Invariants.Sound.{phases, claims, footing, IsLive, IsRequested, RequestRests, Sound}
+use Rattle.tree_specs.proofs.Tree.Numbered.{by_test, same-false}
 use Rattle.tree_specs.proofs.Tree.Rows.{row_of-changed-same}
 use Rattle.tree_specs.proofs.Tree.Referring.{newest-changed}
 use Rattle.tree_specs.proofs.Calls.Plans.{May, may-planned}
-use Rattle.tree_specs.proofs.Invariants.Changes.{run-refers, run-unreferred, running-row, claim-here, stands, goes_on, waiting-sound, changed-sound, shape-of, live-owned, marks-place}
+use Rattle.tree_specs.proofs.Invariants.Changes.{run-refers, run-unreferred, running-row, claim-here, stands, waiting-sound, changed-sound, shape-of, live-owned, marks-place}
 use Rattle.tree_specs.proofs.Invariants.KeptFrees.{KeptBy, ended}
 
 -- ---- a free that waits for a request

@@ -1,5 +1,5 @@
 -- What each change of the pool leaves of what holds of requests.
-use Rattle.std.proofs.Common.{◌≡◌, ◌≢◌, ◌⊎◌, ℕ, ◌+◌, ◌<◌, Bool, List, [], ◌∷◌, Option, Some, None, true, false, refl, sym, ◌∙◌, ap, subst, inl, inr, arith}
+use Rattle.std.proofs.Common.{◌≡◌, ◌≢◌, ◌⊎◌, ℕ, ◌+◌, ◌<◌, List, [], ◌∷◌, Option, Some, None, true, false, refl, sym, ◌∙◌, ap, subst, inl, inr, arith}
 use Rattle.std.specs.Prelude.{is_some, codes}
 use Rattle.tree_specs.specs.declared.object.Obj.{Obj}
 use Rattle.tree_specs.specs.declared.object.Owner.{Owner}
@@ -12,7 +12,7 @@ use Rattle.tree_specs.specs.declared.request.State.{State}
 use Rattle.tree_specs.specs.declared.request.State.TheVariants.{Received}
 use Rattle.tree_specs.specs.declared.row.Mark.TheVariants.{Quiet}
 use Rattle.tree_specs.specs.Words.Objects.{same}
-use Rattle.tree_specs.specs.Tree.Pool.{Pool, row_of, changed, without, add, note, add_request, remove, place, set_mark, marked_row, arm, disarm, unschedule, renote, finish, receive}
+use Rattle.tree_specs.specs.Tree.Pool.{Pool, row_of, changed, without, add, note, add_request, remove, place, set_mark, marked_row, arm, unschedule, renote, finish, receive}
 use Rattle.tree_specs.specs.Tree.Forest.{Distinct}
 use Rattle.tree_specs.specs.Events.Pending.{is_armed}
 use Rattle.tree_specs.specs.Events.Requests.{note_of, is_noted, is_unreceived, new_note, in_state, is_in_progress}
@@ -24,7 +24,6 @@ use Rattle.tree_specs.proofs.Tree.Numbered.{by_test, same-true, same-equal, same
 use Rattle.tree_specs.proofs.Tree.Rows.{row_of-changed-other, row_of-changed-same, row_of-changed-none, row_of-without-other, row_of-without-same, row_of-placed-other, row_of-placed-same}
 use Rattle.tree_specs.proofs.Events.PendingLaws.{disarmed-other, armed-either}
 use Rattle.tree_specs.proofs.Events.NoteLaws.{noted-same, noted-other, forgotten-same, forgotten-other, renoted-same, renoted-none, renoted-other, renoted-lighter}
-use Rattle.tree_specs.proofs.Invariants.Changes.{nobody}
 
 -- the same requests, of which none has an end time that had none, and with none of which something goes on now
 pub holds : {e : Option Obj} (p q : Pool) → NotesHold e p → ((y : Obj) → is_request_row (row_of q.rows y) ≡ is_request_row (row_of p.rows y)) → q.requests ≡ p.requests

@@ -1,8 +1,7 @@
 -- Each step of a request's work, and of a free that waits for it, tells what is fine.
-use Rattle.std.proofs.Common.{◌≡◌, ℕ, ◌≤◌, ◌<◌, List, [], ◌∷◌, ◌++◌, Option, Some, None, Bool, true, false, nat_eq, map, refl, sym, ◌∙◌, ap, subst, arith}
-use Rattle.std.specs.Prelude.{is_some, not}
+use Rattle.std.proofs.Common.{◌≡◌, ℕ, ◌≤◌, ◌<◌, List, [], ◌∷◌, ◌++◌, Option, Some, None, true, false, map, refl, ◌∙◌, arith}
+use Rattle.std.specs.Prelude.{not}
 use Rattle.std.specs.List.{list_any}
-use Rattle.step_machine.specs.Machine.{Move}
 use Rattle.step_machine.specs.Machine.{Move as Do}
 use Rattle.step_machine.specs.Noted.{with_note, scene}
 use Rattle.tree_specs.specs.declared.object.Obj.{Obj}
@@ -43,7 +42,7 @@ use Rattle.tree_specs.specs.Rules.Sequence.{CallStart, Scene}
 use Rattle.tree_specs.specs.Rules.Errands.{reply_to, cancelled_reply}
 use Rattle.tree_specs.specs.Machine.Profiles.{InRun}
 use Rattle.tree_specs.specs.Machine.Table.{notes, step, over_step, cancelling_step, cleaning_step, release_object, cleaned_step, callback_step, notifying_step, request_step}
-use Rattle.tree_specs.specs.Promises.Orderly.{frees, has_state_from, is_hook}
+use Rattle.tree_specs.specs.Promises.Orderly.{has_state_from, is_hook}
 use Rattle.tree_specs.specs.Promises.Grounded.{may_fire, may_fire_row}
 use Rattle.tree_specs.specs.Invariants.Sound.{ValidAt, claims}
 use Rattle.tree_specs.specs.Invariants.Noted.{IsInProgress, IsBetween, IsOfRequest, NotesHold}
@@ -52,7 +51,6 @@ use Rattle.tree_specs.proofs.Tree.Numbered.{by_test}
 use Rattle.tree_specs.proofs.Events.NoteLaws.{renoted-same, renoted-none}
 use Rattle.tree_specs.proofs.Invariants.Changes.{running-row, claim-here}
 use Rattle.tree_specs.proofs.Invariants.Waiters.{Waiter, ForRun, ForTurn, ForRequest}
-use Rattle.tree_specs.proofs.Promises.Answering.{IsNoRefusal}
 use Rattle.tree_specs.proofs.Promises.Later.{Later, IsFrom, later-same, later-marked, later-noted, states-renoted}
 use Rattle.tree_specs.proofs.Promises.Past.{Past, Accounts, past-goes, past-tells, past-state, unfreed, unaccepted}
 use Rattle.tree_specs.proofs.Promises.Causes.{NotedWork, told, StandsOn, Cause, done-reply}

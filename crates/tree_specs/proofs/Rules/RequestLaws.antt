@@ -1,6 +1,5 @@
 -- What is so of the works of requests: beside what is so of every work, none of them is refused.
-use Rattle.std.proofs.Common.{◌≡◌, ℕ, suc, zero, nat_eq, List, [], ◌∷◌, Option, Some, None, true, false, Bool, refl, sym, subst}
-use Rattle.step_machine.specs.Machine.{followed}
+use Rattle.std.proofs.Common.{◌≡◌, ℕ, suc, nat_eq, List, Option, Some, None, false, refl, subst}
 use Rattle.step_machine.specs.Machine.Outcome.{Ended}
 use Rattle.tree_specs.specs.declared.object.Obj.{Obj}
 use Rattle.tree_specs.specs.declared.call.Call.TheVariants as call
@@ -24,12 +23,12 @@ use Rattle.tree_specs.specs.Events.Requests.{state_number, note_of, cleanup_in, 
 use Rattle.tree_specs.specs.Calls.Plans.{Plan, planned}
 use Rattle.tree_specs.specs.Calls.Plans.Plan.{Frees, Unlinks}
 use Rattle.tree_specs.specs.Rules.Items.Item.{Told}
-use Rattle.tree_specs.specs.Rules.Sequence.{Work, Scene}
+use Rattle.tree_specs.specs.Rules.Sequence.{Scene}
 use Rattle.tree_specs.specs.Rules.Errands.{reply_to, cancelled_reply}
 use Rattle.tree_specs.specs.Rules.Story.{free, unlink, asked, finishing, receiving, cancelling, cleaning, cleaned, notifying, calling, called, over}
 use Rattle.tree_specs.specs.Rules.Pieces.{work_by, freed_quietly}
 use Rattle.tree_specs.proofs.Tree.Numbered.{by_test}
-use Rattle.tree_specs.proofs.Rules.Lawful.{Last, After, Lawful, Any, Said, same-lawful, ended-lawful, told-lawful, followed-lawful, Returned, scene_of, AllLawful}
+use Rattle.tree_specs.proofs.Rules.Lawful.{Last, After, Lawful, Any, Said, same-lawful, told-lawful, followed-lawful, Returned, scene_of, AllLawful}
 
 said-done : (errand : Errand) (l : Last) → Said (reply_to errand) l
 said-done (Finish UserError) l = tt

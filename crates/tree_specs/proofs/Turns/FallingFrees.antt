@@ -4,10 +4,8 @@ use Rattle.tree_specs.specs.Machine.Profiles.{InRun, InLoop, tried_cost}
 use Rattle.tree_specs.specs.declared.frame.FreeFrame.{FreeFrame}
 use Rattle.tree_specs.proofs.Tree.Referring.{newest-refers, newest-of-refers}
 use Rattle.tree_specs.specs.Tree.Targets.{newest_ref}
-use Rattle.std.proofs.Common.{inl, inr, ◌⊎◌, ◌≡◌, ◌≢◌, ℕ, suc, zero, ◌+◌, ◌*◌, ◌≤◌, ◌<◌, List, [], ◌∷◌, length, Option, Some, None, true, false, nat_eq, if◌then◌else◌, refl, sym, ◌∙◌, ap, subst, arith}
-use Rattle.step_machine.specs.Machine.{Move}
+use Rattle.std.proofs.Common.{inl, inr, ◌⊎◌, ◌≡◌, ◌≢◌, ℕ, ◌+◌, ◌*◌, ◌≤◌, ◌<◌, List, [], ◌∷◌, length, Option, Some, None, true, false, nat_eq, if◌then◌else◌, refl, sym, ◌∙◌, ap, subst, arith}
 use Rattle.step_machine.specs.Machine.{Move as Do}
-use Rattle.step_machine.proofs.Ends.{Leads}
 use Rattle.tree_specs.specs.declared.object.Obj.{Obj}
 use Rattle.tree_specs.specs.declared.object.Owner.{Owner}
 use Rattle.tree_specs.specs.declared.object.Owner.TheVariants.{Of, Root}
@@ -15,41 +13,32 @@ use Rattle.tree_specs.specs.declared.row.Row.{Row}
 use Rattle.tree_specs.specs.declared.row.Mark.{Mark}
 use Rattle.tree_specs.specs.declared.row.Mark.TheVariants.{Quiet, Asked, Busy, Doomed, Dying}
 use Rattle.tree_specs.specs.declared.event.Event.{Event}
-use Rattle.tree_specs.specs.declared.question.Ask.{Ask}
 use Rattle.tree_specs.specs.declared.frame.Frame.{Frame}
 use Rattle.tree_specs.specs.declared.frame.Frame.TheVariants as frame
-use Rattle.tree_specs.specs.declared.frame.CallFrame.TheVariants.{Asking, Awaiting, Returning}
+use Rattle.tree_specs.specs.declared.frame.CallFrame.TheVariants.{Awaiting}
 use Rattle.tree_specs.specs.declared.frame.TurnFrame.TheVariants.{Clearing}
 use Rattle.tree_specs.specs.declared.frame.FreeFrame.TheVariants.{Unlinking, Releasing, Giving, Beginning, Hooked, Judged, Preparing, Prepared, Dooming, Leaving, Looping, FreeingChild, AfterChild, Ending}
 use Rattle.tree_specs.specs.declared.frame.Purpose.{Purpose}
 use Rattle.tree_specs.specs.declared.frame.Purpose.TheVariants.{Removal, Emptying}
-use Rattle.tree_specs.specs.declared.frame.Answer.{Answer}
-use Rattle.tree_specs.specs.declared.frame.Answer.TheVariants.{Freed, Returned}
+use Rattle.tree_specs.specs.declared.frame.Answer.TheVariants.{Freed}
 use Rattle.tree_specs.specs.declared.free_step.FreeReply.{FreeReply}
 use Rattle.tree_specs.specs.declared.free_step.FreeReply.TheVariants.{Ok, Running, Refused, Held}
 use Rattle.std.proofs.Math.Nat.{mul-le-mul_left}
-use Rattle.tree_specs.specs.declared.handler.Handler.{Handler}
-use Rattle.tree_specs.specs.declared.moment.What.{What}
-use Rattle.tree_specs.specs.declared.moment.What.TheVariants as whats
-use Rattle.tree_specs.specs.declared.frame.Errand.{Errand}
 use Rattle.tree_specs.specs.declared.frame.RequestFrame.TheVariants as request
-use Rattle.tree_specs.specs.Events.Requests.{Notes, note_of, is_unreceived, without_note}
-use Rattle.tree_specs.proofs.Events.NoteLaws.{total-lighter, forgotten-lighter}
-use Rattle.tree_specs.specs.Words.Objects.{same, same_owner}
+use Rattle.tree_specs.specs.Events.Requests.{note_of, is_unreceived, without_note}
+use Rattle.tree_specs.specs.Words.Objects.{same_owner}
 use Rattle.tree_specs.specs.Tree.Pool.{Pool, row_of, is_below, owner_of, first_kid, without, changed, remove, left_row, place, detach, doom, marked_row, hooked_row, target_at, newest_ref_of, is_inside}
 use Rattle.tree_specs.specs.Events.Rotation.{closes_with}
 use Rattle.tree_specs.specs.Tree.Heirs.{heir}
-use Rattle.tree_specs.specs.Rules.Items.{Item}
 use Rattle.tree_specs.specs.Machine.FreeTable.{begin_plain, begin_quiet, begin_step, judge_step, last_step, loop_step, child_step, refs_step, unlink_step, release_step, hand_on_step}
-use Rattle.tree_specs.specs.Machine.Table.{table, step, resume, lifted, announced, closed_event}
-use Rattle.tree_specs.specs.Invariants.Sound.{claims, IsWaiting, AllWait, IsLive, Stands, Tries, IsOver, Sound, IsQuietRow, footing}
+use Rattle.tree_specs.specs.Machine.Table.{step, resume, lifted, announced, closed_event}
+use Rattle.tree_specs.specs.Invariants.Sound.{claims, AllWait, IsLive, Stands, Tries, Sound, IsQuietRow, footing}
 use Rattle.tree_specs.proofs.Tree.Numbered.{by_test, same-equal, same_owner-false}
 use Rattle.tree_specs.proofs.Tree.Heirs.{heir-other}
-use Rattle.tree_specs.proofs.Calls.Checks.{Heard, HeardCall, HeardReturn, heard-leads}
 use Rattle.tree_specs.specs.Tree.Inside.{total}
-use Rattle.tree_specs.specs.Invariants.Measure.{count, mark_weight, note_weight, weight, row_worth, waiting_cost, top_cost, cost, pending, loop_kids}
+use Rattle.tree_specs.specs.Invariants.Measure.{count, mark_weight, weight, row_worth, waiting_cost, top_cost, cost, loop_kids}
 use Rattle.tree_specs.proofs.Tree.Rows.{total-without, total-placed, total-changed, total-length, count-length}
-use Rattle.tree_specs.proofs.Invariants.Waiters.{Waiter, ForFree, ForRun, ForChild, ForTurn, ForHandler, ForClear, ForRequest, ForServed, ForReceived, ForRoutine, ForRelease, waiter}
+use Rattle.tree_specs.proofs.Invariants.Waiters.{Waiter, ForFree, ForChild, ForClear, ForRelease, waiter}
 use Rattle.tree_specs.proofs.Invariants.Changes.{dying-row, running-row, claim-here, owned-row, heir-placed}
 use Rattle.tree_specs.proofs.Turns.Lowering.{Room, Lowers, done-lower, ending-lower, length-changed, length-without, total-kept, marked-weight, removed-weight, live-weight}
 

@@ -1,13 +1,10 @@
 -- Each step of a request's work lowers the measure.
-use Rattle.std.proofs.Common.{◌≡◌, ℕ, ◌+◌, ◌*◌, ◌≤◌, ◌<◌, true, not, List, [], ◌∷◌, Option, Some, None, refl, ap, subst, arith}
+use Rattle.std.proofs.Common.{◌≡◌, ℕ, ◌+◌, ◌*◌, ◌≤◌, ◌<◌, true, List, ◌∷◌, Option, Some, None, subst, arith}
 use Rattle.std.proofs.Math.Nat.{mul-le-mul_left}
 use Rattle.tree_specs.specs.declared.object.Obj.{Obj}
 use Rattle.tree_specs.specs.declared.call.Call.TheVariants as call
 use Rattle.tree_specs.specs.declared.handler.Handler.{Handler}
-use Rattle.tree_specs.specs.declared.reply.Reply.{Reply}
 use Rattle.tree_specs.specs.declared.request.Note.{Note}
-use Rattle.tree_specs.specs.declared.request.State.{State}
-use Rattle.tree_specs.specs.declared.request.State.TheVariants.{Received}
 use Rattle.tree_specs.specs.declared.frame.Errand.{Errand}
 use Rattle.tree_specs.specs.declared.frame.Errand.TheVariants.{Receive}
 use Rattle.tree_specs.specs.declared.frame.Frame.{Frame}
@@ -20,14 +17,12 @@ use Rattle.tree_specs.specs.declared.frame.RequestFrame.TheVariants as request
 use Rattle.tree_specs.specs.declared.frame.Answer.TheVariants.{Heard}
 use Rattle.tree_specs.specs.Tree.Pool.{Pool}
 use Rattle.tree_specs.specs.Tree.Inside.{total}
-use Rattle.tree_specs.specs.Events.Requests.{note_of, cleanup_in, cancel_in, renoted, cleaned, not_deferring, in_state, is_unreceived, is_in_progress, is_received, state_number}
-use Rattle.tree_specs.specs.declared.reply.Refusal.TheVariants.{BadState}
-use Rattle.tree_specs.specs.Calls.Refusals as refusals
+use Rattle.tree_specs.specs.Events.Requests.{note_of, cleanup_in, cancel_in, renoted, cleaned, not_deferring, in_state, is_unreceived}
 use Rattle.tree_specs.specs.Calls.Plans.{Plan, planned}
 use Rattle.tree_specs.specs.Calls.Plans.Plan.{Frees, Unlinks}
 use Rattle.tree_specs.specs.Machine.Table.{resume, cancelling_step, cleaning_step, release_object, cleaned_step, callback_step, notifying_step, request_step}
 use Rattle.tree_specs.specs.Invariants.Sound.{footing, IsRequested, Sound}
-use Rattle.tree_specs.specs.Invariants.Noted.{IsInProgress, Noted}
+use Rattle.tree_specs.specs.Invariants.Noted.{Noted}
 use Rattle.tree_specs.specs.Invariants.Measure.{weight, row_worth, waiting_cost, top_cost, cost}
 use Rattle.tree_specs.proofs.Tree.Numbered.{by_test}
 use Rattle.tree_specs.proofs.Events.NoteLaws.{total-lighter, total-receive, renoted-lighter}

@@ -1,56 +1,40 @@
 -- What lowers the measure: works that end, and what rows weigh.
-use Rattle.std.specs.Prelude.{unwrap_or}
-use Rattle.tree_specs.specs.Machine.Profiles.{InRun, InLoop, tried_cost}
-use Rattle.tree_specs.specs.declared.frame.FreeFrame.{FreeFrame}
-use Rattle.tree_specs.proofs.Tree.Referring.{newest-refers, newest-of-refers}
-use Rattle.tree_specs.specs.Tree.Targets.{newest_ref}
-use Rattle.std.proofs.Common.{inl, inr, ◌⊎◌, ◌≡◌, ◌≢◌, ℕ, suc, zero, ◌+◌, ◌*◌, ◌≤◌, ◌<◌, List, [], ◌∷◌, length, Option, Some, None, true, false, nat_eq, if◌then◌else◌, refl, sym, ◌∙◌, ap, subst, arith}
+use Rattle.std.proofs.Common.{◌≡◌, ℕ, suc, zero, ◌+◌, ◌*◌, ◌≤◌, ◌<◌, List, [], ◌∷◌, length, Some, refl, ap, arith}
 use Rattle.step_machine.specs.Machine.{Move}
 use Rattle.step_machine.specs.Machine.{Move as Do}
 use Rattle.step_machine.proofs.Ends.{Leads}
 use Rattle.tree_specs.specs.declared.object.Obj.{Obj}
-use Rattle.tree_specs.specs.declared.object.Owner.{Owner}
-use Rattle.tree_specs.specs.declared.object.Owner.TheVariants.{Of, Root}
+use Rattle.tree_specs.specs.declared.object.Owner.TheVariants.{Of}
 use Rattle.tree_specs.specs.declared.row.Row.{Row}
 use Rattle.tree_specs.specs.declared.row.Mark.{Mark}
-use Rattle.tree_specs.specs.declared.row.Mark.TheVariants.{Quiet, Asked, Busy, Doomed, Dying}
-use Rattle.tree_specs.specs.declared.event.Event.{Event}
+use Rattle.tree_specs.specs.declared.row.Mark.TheVariants.{Dying}
 use Rattle.tree_specs.specs.declared.question.Ask.{Ask}
 use Rattle.tree_specs.specs.declared.frame.Frame.{Frame}
 use Rattle.tree_specs.specs.declared.frame.Frame.TheVariants as frame
-use Rattle.tree_specs.specs.declared.frame.CallFrame.TheVariants.{Asking, Awaiting, Returning}
-use Rattle.tree_specs.specs.declared.frame.TurnFrame.TheVariants.{Clearing}
-use Rattle.tree_specs.specs.declared.frame.FreeFrame.TheVariants.{Unlinking, Releasing, Giving, Beginning, Hooked, Judged, Preparing, Prepared, Dooming, Leaving, Looping, FreeingChild, AfterChild, Ending}
-use Rattle.tree_specs.specs.declared.frame.Purpose.{Purpose}
-use Rattle.tree_specs.specs.declared.frame.Purpose.TheVariants.{Removal, Emptying}
+use Rattle.tree_specs.specs.declared.frame.CallFrame.TheVariants.{Asking, Returning}
+use Rattle.tree_specs.specs.declared.frame.FreeFrame.TheVariants.{Ending}
 use Rattle.tree_specs.specs.declared.frame.Answer.{Answer}
 use Rattle.tree_specs.specs.declared.frame.Answer.TheVariants.{Freed, Returned}
 use Rattle.tree_specs.specs.declared.free_step.FreeReply.{FreeReply}
 use Rattle.tree_specs.specs.declared.free_step.FreeReply.TheVariants.{Ok, Running, Refused, Held}
-use Rattle.std.proofs.Math.Nat.{mul-le-mul_left}
 use Rattle.tree_specs.specs.declared.handler.Handler.{Handler}
 use Rattle.tree_specs.specs.declared.moment.What.{What}
 use Rattle.tree_specs.specs.declared.moment.What.TheVariants as whats
 use Rattle.tree_specs.specs.declared.frame.Errand.{Errand}
 use Rattle.tree_specs.specs.declared.frame.RequestFrame.TheVariants as request
-use Rattle.tree_specs.specs.Events.Requests.{Notes, note_of, is_unreceived, without_note}
+use Rattle.tree_specs.specs.Events.Requests.{Notes, without_note}
 use Rattle.tree_specs.proofs.Events.NoteLaws.{total-lighter, forgotten-lighter}
-use Rattle.tree_specs.specs.Words.Objects.{same, same_owner}
-use Rattle.tree_specs.specs.Tree.Pool.{Pool, row_of, is_below, owner_of, first_kid, without, changed, remove, left_row, place, detach, doom, marked_row, hooked_row, target_at, newest_ref_of, is_inside}
-use Rattle.tree_specs.specs.Events.Rotation.{closes_with}
-use Rattle.tree_specs.specs.Tree.Heirs.{heir}
+use Rattle.tree_specs.specs.Words.Objects.{same}
+use Rattle.tree_specs.specs.Tree.Pool.{Pool, row_of, without, changed, marked_row}
 use Rattle.tree_specs.specs.Rules.Items.{Item}
-use Rattle.tree_specs.specs.Machine.FreeTable.{begin_plain, begin_quiet, begin_step, judge_step, last_step, loop_step, child_step, refs_step, unlink_step, release_step, hand_on_step}
-use Rattle.tree_specs.specs.Machine.Table.{table, step, resume, lifted, announced, closed_event}
-use Rattle.tree_specs.specs.Invariants.Sound.{claims, IsWaiting, AllWait, IsLive, Stands, Tries, IsOver, Sound, IsQuietRow, footing}
-use Rattle.tree_specs.proofs.Tree.Numbered.{by_test, same-equal, same_owner-false}
-use Rattle.tree_specs.proofs.Tree.Heirs.{heir-other}
+use Rattle.tree_specs.specs.Machine.Table.{table, step, resume}
+use Rattle.tree_specs.specs.Invariants.Sound.{IsWaiting, AllWait, IsLive, IsOver, Sound}
+use Rattle.tree_specs.proofs.Tree.Numbered.{by_test}
 use Rattle.tree_specs.proofs.Calls.Checks.{Heard, HeardCall, HeardReturn, heard-leads}
 use Rattle.tree_specs.specs.Tree.Inside.{total}
-use Rattle.tree_specs.specs.Invariants.Measure.{count, mark_weight, note_weight, weight, row_worth, waiting_cost, top_cost, cost, pending, loop_kids}
-use Rattle.tree_specs.proofs.Tree.Rows.{total-without, total-placed, total-changed, total-length, count-length}
+use Rattle.tree_specs.specs.Invariants.Measure.{mark_weight, note_weight, weight, waiting_cost, top_cost, cost, pending}
+use Rattle.tree_specs.proofs.Tree.Rows.{total-without, total-changed, total-length, count-length}
 use Rattle.tree_specs.proofs.Invariants.Waiters.{Waiter, ForFree, ForRun, ForChild, ForTurn, ForHandler, ForClear, ForRequest, ForServed, ForReceived, ForRoutine, ForRelease, waiter}
-use Rattle.tree_specs.proofs.Invariants.Changes.{dying-row, running-row, claim-here, owned-row, heir-placed}
 
 -- R bounds the rows that there can be
 abbrev pub Room : ℕ → Frame → Pool → ℕ → Type 0

@@ -1,7 +1,7 @@
 -- What the errands of requests lead to: which reply, and what follows a routine.
 use Rattle.std.specs.Prelude.{ℕ, nat_eq, Bool, true, false, if◌then◌else◌}
 use Rattle.tree_specs.specs.declared.frame.Errand.{Errand}
-use Rattle.tree_specs.specs.declared.frame.Errand.TheVariants.{Finish, Notify, Receive, Cancel}
+use Rattle.tree_specs.specs.declared.frame.Errand.TheVariants.{Finish, Receive}
 use Rattle.tree_specs.specs.declared.moment.What.{What}
 use Rattle.tree_specs.specs.declared.moment.What.TheVariants as what
 use Rattle.tree_specs.specs.declared.reply.Reply.{Reply}
