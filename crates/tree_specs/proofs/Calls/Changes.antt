@@ -128,7 +128,7 @@ requested p o size name nobody =
       number = omega arith;
       deposit = omega arith;
       later = later-still (later-noted p (note p x n) refl (omega arith) (states-noted p (note p x n) x n refl (omega arith)))
-      (later-still (later-added (note p x n) kind.Request o 0 (codes "req")) (later-added b kind.Plain (Of x) size name));
+          (later-still (later-added (note p x n) kind.Request o 0 (codes "req")) (later-added b kind.Plain (Of x) size name));
     }
 
 pub follows : (p : Pool) (c : Change) → MayDo p c → Follows p (changed_by c p) (heavier c) (added c)

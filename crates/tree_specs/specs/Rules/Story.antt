@@ -82,10 +82,10 @@ abbrev mutual
               change (λ q. set_mark q x mark.Asked)
               preparing n x)
             else if nat_eq r.hook 0
-              then leave n x 0
-              else (do
-                change (λ q. set_mark q x mark.Asked)
-                hooked n x r.hook)
+            then leave n x 0
+            else (do
+              change (λ q. set_mark q x mark.Asked)
+              hooked n x r.hook)
         | mark.Asked ↦ gives Running
         | mark.Busy ↦ (do
           lets_go x (λ q. doom q x)
