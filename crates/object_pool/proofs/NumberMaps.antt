@@ -1,5 +1,5 @@
 -- What is kept under numbers, listed from the map that keeps it: the handlers of events, and the open descriptors.
-use Rattle.std.proofs.Common.{◌≡◌, ℕ, not, List, [], Option}
+use Rattle.std.proofs.Common.{◌≡◌, ℕ, not, []}
 use Rattle.std.specs.List.{filter}
 use Rattle.std.specs.Ordering.{nat_cmp, eq_by_cmp}
 use Rattle.std.specs.Cmp.{nat_cmp_total}
