@@ -1,5 +1,4 @@
 pub mod Marks
-pub mod NumberMaps
 pub mod Counted
 pub mod Told
 pub mod Fields

@@ -47,7 +47,7 @@ fn count(soon: usize, times: usize, ring: usize) -> Option<usize>
     soon.checked_add(times)?.checked_add(ring)
 }
 
-#[tactic(auto, using(crate::proofs::NumberMaps::none_listed, crate::proofs::NumberMaps::put_listed, crate::proofs::NumberMaps::removed_listed, crate::proofs::NumberMaps::found_listed))]
+#[tactic(auto, using(pool_arena::proofs::NumberMaps::none_listed, pool_arena::proofs::NumberMaps::put_listed, pool_arena::proofs::NumberMaps::removed_listed, pool_arena::proofs::NumberMaps::found_listed))]
 impl Events {
     ghost use Rattle.std.specs.Prelude.{◌^◌, IfOk, OnOk, OnErr, []};
     ghost use Rattle.tree_specs.specs.Events.Pending.{disarmed, is_numbered};

@@ -4,7 +4,7 @@ use Rattle.std.specs.Prelude.{◌≡◌, ℕ, ◌+◌, ◌≤◌, ◌<◌, List,
 use Rattle.tree_specs.specs.declared.object.Obj.{Obj}
 use Rattle.tree_specs.specs.declared.row.Row.{Row}
 use Rattle.tree_specs.specs.declared.frame.FreeFrame.{FreeFrame}
-use Rattle.tree_specs.specs.declared.frame.FreeFrame.TheVariants.{Hooked}
+use Rattle.tree_specs.specs.declared.frame.FreeFrame.TheVariants.{Hooked, Preparing}
 use Rattle.tree_specs.specs.Tree.Pool.{Pool, row_of}
 use Rattle.tree_specs.specs.Tree.Forest.{IsForest}
 use Rattle.tree_specs.specs.Tree.Inside.{total}
@@ -17,6 +17,7 @@ use Rattle.tree_specs.specs.Invariants.Consistent.{deposit}
 abbrev pub free_footing : List FreeFrame → Footing
 free_footing [] = OnCall
 free_footing (Hooked x h ∷ fs) = OnCall
+free_footing (Preparing x ∷ fs) = OnCall
 free_footing (f ∷ fs) = OnFree f
 
 -- what a free claims of x
@@ -41,16 +42,18 @@ abbrev pub AllFreesWait : List FreeFrame → Type 0
 AllFreesWait [] = Unit {0}
 AllFreesWait (f ∷ fs) = MayWait (free_profile f).waits (free_footing fs) × AllFreesWait fs
 
--- what the frees weigh, with the call below all of them and the run of each destructor
+-- what the frees weigh, with the call below all of them and the run of each destructor, or the work of each request
 abbrev pub free_sizes : List FreeFrame → ℕ
 free_sizes [] = caller_size
 free_sizes (Hooked x h ∷ fs) = caller_size + (free_profile (Hooked x h)).size + free_sizes fs
+free_sizes (Preparing x ∷ fs) = caller_size + (free_profile (Preparing x)).size + free_sizes fs
 free_sizes (f ∷ fs) = (free_profile f).size + free_sizes fs
 
--- the innermost free, if there is one, waits for its destructor
+-- the innermost free, if there is one, waits for its destructor, or for the work of its request
 abbrev pub AwaitsRun : List FreeFrame → Type 0
 AwaitsRun [] = Unit {0}
 AwaitsRun (Hooked x h ∷ fs) = Unit {0}
+AwaitsRun (Preparing x ∷ fs) = Unit {0}
 AwaitsRun (f ∷ fs) = ⊥
 
 -- What holds of the rows and of the open frees, by what these claim, and what the innermost rests on.
@@ -68,7 +71,7 @@ pub record FreesWork (f : FreeFrame) (fs : List FreeFrame) (p : Pool) : Type 0 w
   pub sound : FreesHold (λ x. free_claim x f ++ free_claims x fs) fs (FreeRests f (free_footing fs) (λ x. free_claims x fs) p) p
   pub light : (free_profile f).top_size + free_sizes fs ≤ total deposit p.rows + 2
 
--- All of them wait: a destructor runs, or no free is open.
+-- All of them wait: a destructor runs, a request does its work, or no free is open.
 pub record FreesWait (fs : List FreeFrame) (p : Pool) : Type 0 where
   pub sound : FreesHold (λ x. free_claims x fs) fs (AwaitsRun fs) p
   pub light : free_sizes fs ≤ total deposit p.rows + 2

@@ -1,5 +1,5 @@
 use Rattle.std.proofs.Common.{◌∙◌, refl}
-use Rattle.object_pool.proofs.NumberMaps.{none_listed, put_listed}
+use Rattle.pool_arena.proofs.NumberMaps.{none_listed, put_listed}
 use Rattle.object_pool.proofs.events.Events.new.Goals as goal
 
 pub returns : goal.returns

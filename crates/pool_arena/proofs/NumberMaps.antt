@@ -1,4 +1,4 @@
--- What is kept under numbers, listed from the map that keeps it: the handlers of events, and the open descriptors.
+-- What is kept under numbers, listed from the map that keeps it.
 use Rattle.std.proofs.Common.{◌≡◌, ℕ, not, List, [], Option}
 use Rattle.std.specs.List.{filter}
 use Rattle.std.specs.Ordering.{nat_cmp, eq_by_cmp}
