@@ -1,4 +1,4 @@
-ghost use Rattle.std.specs.Prelude.{◌≡◌, not, ◌&&◌, OnOk, true};
+ghost use Rattle.std.specs.Prelude.{◌≡◌, not, ◌&&◌, true};
 ghost use Rattle.tree_specs.specs.Calls.Refusals.{is_plain_row};
 ghost use Rattle.tree_specs.specs.Tree.Pool.{is_dying, row_of};
 ghost use Rattle.references.specs.Rows.{AreRefsOf};
@@ -10,7 +10,6 @@ use crate::FreeEngine;
 use references::Refs;
 use std::alloc::Global;
 use std::process::Abort;
-use std::test::Fail;
 use tree_links::{NewRow, Tree};
 use tree_specs::{FreeReply, FreeStep, Kind, Mark, Name, Obj, Owner};
 
@@ -46,20 +45,20 @@ impl World {
     }
 
     // Adds a plain object of the name a, while nothing is going on.
-    fn add(&mut self, rt: &impl Abort, alloc: Global, owner: Owner) -> Result<Obj, Fail>
+    fn add(&mut self, rt: &impl Abort, owner: Owner) -> Obj
         requires { IsAtRest self.old.tree self.old.refs }
         ensures { IsAtRest self.new.tree self.new.refs }
     {
-        self.tree.reserve(1)?;
+        self.tree.reserve(1).expect(rt, "memory");
         let row = NewRow {
             kind: Kind::Plain,
-            name: Name::make(b"a".to_vec(alloc)?).expect(rt, "a name"),
+            name: Name::fixed(b"a"),
             size: 0,
         };
         assert!(rt; self.tree.len() < 1_048_576);
         assert!(rt; self.tree.next_number() < u64::MAX);
         assert!(rt; self.tree.is_owner(owner));
-        Ok(self.tree.add(row, owner))
+        self.tree.add(row, owner)
     }
 
     // Gives an object a destructor, while nothing is going on.
@@ -72,16 +71,15 @@ impl World {
     }
 
     // The freeing of an object begins, while nothing is going on.
-    fn free(&mut self, rt: &impl Abort, x: Obj) -> Result<(), Fail>
+    fn free(&mut self, rt: &impl Abort, x: Obj)
         requires { IsAtRest self.old.tree self.old.refs }
-        ensures { OnOk result (IsFreeing self.new.engine self.new.tree self.new.refs) }
+        ensures { IsFreeing self.new.engine self.new.tree self.new.refs }
     {
-        self.tree.reserve(0)?;
+        self.tree.reserve(0).expect(rt, "memory");
         assert!(rt; self.refs.target(x).is_none());
         assert!(rt; self.refs.newest(&self.tree, x).is_none());
         self.engine = FreeEngine::new();
         self.engine.begin_free(&mut self.tree, &mut self.refs, x);
-        Ok(())
     }
 
     fn announces(&self) -> bool
@@ -127,18 +125,17 @@ impl World {
     }
 
     // A step that asks for the run of a destructor, in which the freeing of this object begins.
-    fn nest(&mut self, rt: &impl Abort, x: Obj) -> Result<(), Fail>
+    fn nest(&mut self, rt: &impl Abort, x: Obj)
         requires { IsFreeing self.old.engine self.old.tree self.old.refs }
-        ensures { OnOk result (IsFreeing self.new.engine self.new.tree self.new.refs) }
+        ensures { IsFreeing self.new.engine self.new.tree self.new.refs }
     {
         let FreeStep::Ask(_) = self.engine.step(&mut self.tree, &mut self.refs) else {
             panic!(rt; "no question")
         };
-        self.tree.reserve(0)?;
+        self.tree.reserve(0).expect(rt, "memory");
         assert!(rt; self.refs.target(x).is_none());
         assert!(rt; self.refs.newest(&self.tree, x).is_none());
         self.engine.begin_free(&mut self.tree, &mut self.refs, x);
-        Ok(())
     }
 
     // A step that ends a free. It gives what the free answers.

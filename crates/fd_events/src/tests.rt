@@ -68,6 +68,11 @@ fn flags(ring: &Ring, x: u64) -> u32 {
     }
 }
 
+// A descriptor, and what it is ready for.
+fn want(fd: u32, flags: u32) -> Want {
+    Want { fd, flags }
+}
+
 // Two descriptors, the lesser first, and what they are ready for.
 fn two(alloc: Global, first: Want, second: Want) -> Result<Vec<Want>, Fail> {
     Ok(vec![in alloc; first, second]?)
@@ -150,31 +155,11 @@ fn what_is_changed_of_one_leaves_the_others(rt: HostRuntime) -> Result<(), Fail>
 fn the_first_that_is_ready_comes(rt: HostRuntime) -> Result<(), Fail> {
     let mut ring = with_room(rt.alloc(), 3)?;
     three(&mut ring);
-    let read = first_of_two(
-        rt.alloc(),
-        &ring,
-        Want { fd: 2, flags: 2 },
-        Want { fd: 40, flags: 3 },
-    )?;
-    let written = first_of_two(
-        rt.alloc(),
-        &ring,
-        Want { fd: 2, flags: 2 },
-        Want { fd: 40, flags: 2 },
-    )?;
-    let others = first_of_two(
-        rt.alloc(),
-        &ring,
-        Want { fd: 9, flags: 3 },
-        Want { fd: 41, flags: 1 },
-    )?;
+    let read = first_of_two(rt.alloc(), &ring, want(2, 2), want(40, 3))?;
+    let written = first_of_two(rt.alloc(), &ring, want(2, 2), want(40, 2))?;
+    let others = first_of_two(rt.alloc(), &ring, want(9, 3), want(41, 1))?;
     ring.turn_back(Obj(7));
-    let again = first_of_two(
-        rt.alloc(),
-        &ring,
-        Want { fd: 2, flags: 3 },
-        Want { fd: 40, flags: 3 },
-    )?;
+    let again = first_of_two(rt.alloc(), &ring, want(2, 3), want(40, 3))?;
     assert!(rt; (read == 71) & (written == 52) & (others == 0) & (again == 53));
     Ok(())
 }
@@ -253,28 +238,9 @@ fn remove_outward(ring: &mut Ring, half: u32) -> bool
 fn many_leave_from_the_middle_outward(rt: HostRuntime) -> Result<(), Fail> {
     let mut ring = with_room(rt.alloc(), 1_000_000)?;
     assert!(rt; add_all(&mut ring, 1_000_000));
-    let last = first_of_two(
-        rt.alloc(),
-        &ring,
-        Want {
-            fd: 999_999,
-            flags: 1,
-        },
-        Want {
-            fd: 1_000_000,
-            flags: 1,
-        },
-    )?;
+    let last = first_of_two(rt.alloc(), &ring, want(999_999, 1), want(1_000_000, 1))?;
     let removed = remove_outward(&mut ring, 500_000);
-    let both = first_of_two(
-        rt.alloc(),
-        &ring,
-        Want { fd: 0, flags: 1 },
-        Want {
-            fd: 999_999,
-            flags: 1,
-        },
-    )?;
+    let both = first_of_two(rt.alloc(), &ring, want(0, 1), want(999_999, 1))?;
     assert!(rt; (last == 10_000_001) & removed & (ring.len() == 2) & (both == 10_000_001));
     Ok(())
 }

@@ -8,7 +8,7 @@ use Rattle.tree_specs.specs.declared.reply.Refusal.{Refusal}
 use Rattle.tree_specs.specs.declared.reply.Reply.TheVariants as reply
 use Rattle.tree_specs.specs.declared.test.Test.TheVariants.{IsObject, IsOwner, IsNotDying, IsNotInside, MayGive}
 use Rattle.tree_specs.specs.Tree.Pool.{Pool, is_below, owner_of}
-use Rattle.tree_specs.specs.Calls.Refusals.{Check, checked, tests, refusals}
+use Rattle.tree_specs.specs.Calls.Refusals.{Check, ◌before◌, checked, tests, refusals}
 use Rattle.tree_specs.specs.Calls.Passed.{Passed, AllPassed, Itself, ItsRef}
 use Rattle.tree_specs.specs.Calls.Plans.{plan}
 use Rattle.tree_specs.specs.Machine.Table.{call_step, plan_step, replied}
@@ -36,6 +36,23 @@ refused_first (other ∷ more) later why e = e
 pub allowed_first : (first later : Check) → checked first ≡ Ok tt → checked (first ++ later) ≡ checked later
 allowed_first [] later e = refl
 allowed_first (other ∷ more) later e = cc
+
+-- two checks, or three, before others
+pub refused_two : (a b later : Check) (why : Refusal) → checked (a before b) ≡ Err why → checked (a before b before later) ≡ Err why
+refused_two [] b later why e = refused_first b later why e
+refused_two (other ∷ more) b later why e = e
+
+pub allowed_two : (a b later : Check) → checked (a before b) ≡ Ok tt → checked (a before b before later) ≡ checked later
+allowed_two [] b later e = allowed_first b later e
+allowed_two (other ∷ more) b later e = cc
+
+pub refused_three : (a b c later : Check) (why : Refusal) → checked (a before b before c) ≡ Err why → checked (a before b before c before later) ≡ Err why
+refused_three [] b c later why e = refused_two b c later why e
+refused_three (other ∷ more) b c later why e = e
+
+pub allowed_three : (a b c later : Check) → checked (a before b before c) ≡ Ok tt → checked (a before b before c before later) ≡ checked later
+allowed_three [] b c later e = allowed_two b c later e
+allowed_three (other ∷ more) b c later e = cc
 
 none-first : (check : Check) → checked check ≡ Ok tt → check ≡ []
 none-first [] e = refl

@@ -157,7 +157,7 @@ fn bytes_in(input: Input) -> Octets
     }
 }
 
-/// It was asked for bytes, and these were read.
+/// It was asked for bytes, and these were read. When memory runs out, nothing has changed.
 pub fn read_on(now: &mut Active, alloc: Global, input: Input) -> Result<(), Memory>
     requires reaching { is_reaching now.old ≡ true }
     requires bytes { is_bytes input ≡ true }

@@ -4,10 +4,7 @@ ghost use Rattle.tree_specs.specs.declared.call.Call.TheVariants.{Reparent as Re
 ghost use Rattle.tree_specs.specs.Calls.Refusals.{checked, refused, refusals};
 ghost use Rattle.tree_specs.specs.Tree.Sums.{overhead};
 
-use crate::checks::{
-    check_five, check_four, check_open, check_owner, check_row, check_six, check_size, check_three,
-    check_two,
-};
+use crate::checks::{check_open, check_owner, check_row, check_size, check_three, check_two};
 use crate::subject::Subject;
 use object_pool::ObjectPool;
 use tree_specs::Test::{
@@ -32,61 +29,62 @@ fn check_new(owner: Owner, size: u64, pool: &ObjectPool) -> Result<(), Refusal>
     )
 }
 
+/// What is asked of an object, once it is there: two more tests.
+#[inline(always)]
+fn check_object(x: Obj, second: Test, third: Test, pool: &ObjectPool) -> Result<(), Refusal>
+    ensures { result ≡ checked (refused pool.now.pool (Test.IsObject x ∷ second ∷ third ∷ [])) }
+{
+    check_three(IsObject(x), second, third, &Subject::object(x, pool))
+}
+
 /// An object is put below an owner.
+#[tactic(auto, using(crate::proofs::Allowed::refused_two, crate::proofs::Allowed::allowed_two))]
 fn check_placing(owner: Owner, x: Obj, pool: &ObjectPool) -> Result<(), Refusal>
     ensures { result ≡ checked (refused pool.now.pool (Test.IsObject x ∷ Test.IsOwner owner ∷ Test.IsNotDying x ∷ Test.IsNotInside x owner ∷ [])) }
 {
-    check_four(
-        IsObject(x),
-        IsOwner(owner),
-        IsNotDying(x),
-        IsNotInside(x, owner),
-        &Subject::object(x, pool),
-    )
+    let objects = Subject::object(x, pool);
+    check_two(IsObject(x), IsOwner(owner), &objects)?;
+    check_two(IsNotDying(x), IsNotInside(x, owner), &objects)
 }
 
 /// An object, or a reference to it, that goes from one owner to another.
+#[tactic(auto, using(crate::proofs::Allowed::refused_three, crate::proofs::Allowed::allowed_three))]
 fn check_reparent(from: Owner, to: Owner, x: Obj, pool: &ObjectPool) -> Result<(), Refusal>
     ensures { result ≡ checked (refusals pool.now.pool (ReparentOf from to x)) }
 {
-    check_five(
-        IsObject(x),
-        IsOwner(from),
-        IsOwner(to),
-        IsNotDying(x),
-        MayGive(from, to, x),
-        &Subject::object(x, pool),
-    )
+    let objects = Subject::object(x, pool);
+    check_three(IsObject(x), IsOwner(from), IsOwner(to), &objects)?;
+    check_two(IsNotDying(x), MayGive(from, to, x), &objects)
 }
 
 /// A new reference to an object.
+#[tactic(auto, using(crate::proofs::Allowed::refused_three, crate::proofs::Allowed::allowed_three))]
 fn check_reference(owner: Owner, x: Obj, pool: &ObjectPool) -> Result<(), Refusal>
     ensures { result ≡ checked (refusals pool.now.pool (ReferenceOf owner x)) }
 {
-    check_six(
-        IsObject(x),
-        IsPlain(x),
-        IsOwner(owner),
-        IsNotRunning(x),
-        IsNotDying(x),
-        HasRoom(1),
-        &Subject::object(x, pool),
-    )
+    let objects = Subject::object(x, pool);
+    check_three(IsObject(x), IsPlain(x), IsOwner(owner), &objects)?;
+    check_three(IsNotRunning(x), IsNotDying(x), HasRoom(1), &objects)
 }
 
 /// Another size of an object.
+#[tactic(auto, using(crate::proofs::Allowed::refused_three, crate::proofs::Allowed::allowed_three))]
 fn check_resize(x: Obj, size: u64, pool: &ObjectPool) -> Result<(), Refusal>
     ensures { result ≡ checked (refusals pool.now.pool (ResizeOf x size)) }
 {
-    check_six(
-        IsSmall(size),
-        IsObject(x),
-        IsPlain(x),
-        IsUnreferenced(x),
-        IsNotDying(x),
-        MayGrow(x, size),
-        &Subject::object(x, pool),
-    )
+    let objects = Subject::object(x, pool);
+    check_three(IsSmall(size), IsObject(x), IsPlain(x), &objects)?;
+    check_three(IsUnreferenced(x), IsNotDying(x), MayGrow(x, size), &objects)
+}
+
+/// An event on a descriptor below an owner.
+#[tactic(auto, using(crate::proofs::Allowed::refused_three, crate::proofs::Allowed::allowed_three))]
+fn check_watching(owner: Owner, fd: u32, pool: &ObjectPool) -> Result<(), Refusal>
+    ensures { result ≡ checked (refused pool.now.pool (Test.IsOwner owner ∷ Test.IsOpen fd ∷ Test.IsUnwatched fd ∷ Test.HasRoom 1 ∷ Test.Fits owner overhead ∷ [])) }
+{
+    let objects = Subject::none(pool);
+    check_three(IsOwner(owner), IsOpen(fd), IsUnwatched(fd), &objects)?;
+    check_two(HasRoom(1), Fits(owner, OVERHEAD), &objects)
 }
 
 /// Whether a call is allowed, and else its first refusal.
@@ -99,21 +97,9 @@ pub fn check(call: &Call, pool: &ObjectPool) -> Result<(), Refusal>
         Call::Steal { owner, x } | Call::Move { owner, x } => check_placing(owner, x, pool),
         Call::Reparent { from, to, x } => check_reparent(from, to, x, pool),
         Call::Reference { owner, x } => check_reference(owner, x, pool),
-        Call::Unlink { owner, x } => {
-            check_three(
-                IsObject(x),
-                IsOwner(owner),
-                IsInterested(owner, x),
-                &Subject::object(x, pool),
-            )
-        }
+        Call::Unlink { owner, x } => check_object(x, IsOwner(owner), IsInterested(owner, x), pool),
         Call::Hook { x, .. } | Call::Unhook { x } => {
-            check_three(
-                IsObject(x),
-                IsPlain(x),
-                IsNotDying(x),
-                &Subject::object(x, pool),
-            )
+            check_object(x, IsPlain(x), IsNotDying(x), pool)
         }
         Call::Resize { x, size } => check_resize(x, size, pool),
         Call::Immediate { owner } | Call::Timer { owner, .. } => {
@@ -125,28 +111,11 @@ pub fn check(call: &Call, pool: &ObjectPool) -> Result<(), Refusal>
             )
         }
         Call::Schedule { x, .. } | Call::Unschedule { x } => {
-            check_three(
-                IsObject(x),
-                IsImmediate(x),
-                IsNotDoomed(x),
-                &Subject::object(x, pool),
-            )
+            check_object(x, IsImmediate(x), IsNotDoomed(x), pool)
         }
-        Call::Fd { owner, fd, .. } => check_five(
-            IsOwner(owner),
-            IsOpen(fd),
-            IsUnwatched(fd),
-            HasRoom(1),
-            Fits(owner, OVERHEAD),
-            &Subject::none(pool),
-        ),
+        Call::Fd { owner, fd, .. } => check_watching(owner, fd, pool),
         Call::Flags { x, .. } | Call::Getflags { x } | Call::Autoclose { x } => {
-            check_three(
-                IsObject(x),
-                IsDescriptor(x),
-                IsNotDoomed(x),
-                &Subject::object(x, pool),
-            )
+            check_object(x, IsDescriptor(x), IsNotDoomed(x), pool)
         }
         Call::Close { fd } => check_two(IsOpen(fd), IsUnwatched(fd), &Subject::none(pool)),
         Call::Accept { fd } | Call::Read { fd, .. } | Call::Write { fd, .. } => check_open(

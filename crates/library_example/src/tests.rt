@@ -61,12 +61,8 @@ fn opens(rt: &impl Abort, alloc: Global, host: &mut Host, routine: u32)
 
 #[test]
 fn an_object_in_use_stays(rt: HostRuntime) -> Result<(), Fail> {
-    keep_in_use(&rt, rt.alloc(), &mut Host::new(rt.alloc(), 1)?);
-    Ok(())
-}
-
-fn keep_in_use(rt: &impl Abort, alloc: Global, host: &mut Host) {
-    opens(rt, alloc, host, IN_USE);
+    let mut host = Host::new(rt.alloc(), 1)?;
+    opens(&rt, rt.alloc(), &mut host, IN_USE);
     let refused = [
         Event::Refused {
             object: Obj(1),
@@ -77,9 +73,15 @@ fn keep_in_use(rt: &impl Abort, alloc: Global, host: &mut Host) {
             answer: 1,
         })),
     ];
-    tells(rt, alloc, host, free(), &refused);
+    tells(&rt, rt.alloc(), &mut host, free(), &refused);
     assert!(rt; host.is_live(Obj(1)), "it stays");
-    tells(rt, alloc, host, hook(DONE), &[Event::Replied(Reply::Ok)]);
+    tells(
+        &rt,
+        rt.alloc(),
+        &mut host,
+        hook(DONE),
+        &[Event::Replied(Reply::Ok)],
+    );
     let freed = [
         Event::Accepted(Obj(1)),
         Event::Freed {
@@ -88,28 +90,30 @@ fn keep_in_use(rt: &impl Abort, alloc: Global, host: &mut Host) {
         },
         Event::Replied(Reply::Ok),
     ];
-    tells(rt, alloc, host, free(), &freed);
+    tells(&rt, rt.alloc(), &mut host, free(), &freed);
     assert_eq!(rt; host.live(), 0);
-}
-
-#[test]
-fn what_is_asked_may_wait(rt: HostRuntime) -> Result<(), Fail> {
-    let mut host = Host::new(rt.alloc(), 1)?;
-    let mut told = Vec::new(rt.alloc());
-    answer_later(&rt, rt.alloc(), &mut host, &mut told);
+    drop(host);
     Ok(())
 }
 
 // The destructor does a call of its own before it returns.
-fn answer_later(rt: &impl Abort, alloc: Global, host: &mut Host, told: &mut Vec<Event>) {
-    opens(rt, alloc, host, DONE);
-    assert_eq!(rt; perform(host, free(), 0, told), Ok(()));
+#[test]
+fn what_is_asked_may_wait(rt: HostRuntime) -> Result<(), Fail> {
+    let mut host = Host::new(rt.alloc(), 1)?;
+    let mut told = Vec::new(rt.alloc());
+    opens(&rt, rt.alloc(), &mut host, DONE);
+    assert_eq!(rt; perform(&mut host, free(), 0, &mut told), Ok(()));
     assert!(rt; told.is_empty(), "the destructor is asked first");
-    assert_eq!(rt; perform(host, free(), 0, told), Err(OfferFault::NotAsked));
+    assert_eq!(rt;
+        perform(&mut host, free(), 0, &mut told),
+        Err(OfferFault::NotAsked)
+    );
     let act = Input::Act(Act::Do(open()));
-    assert_eq!(rt; take(host, act, told), Ok(()));
-    were_told(rt, told, &[Event::Replied(Reply::Number(2))]);
-    assert_eq!(rt; take(host, Input::Act(Act::Ret(0)), told), Ok(()));
+    assert_eq!(rt; take(&mut host, act, &mut told), Ok(()));
+    were_told(&rt, &told, &[Event::Replied(Reply::Number(2))]);
+    assert_eq!(rt; take(&mut host, Input::Act(Act::Ret(0)), &mut told), Ok(()));
     assert_eq!(rt; told.len(), 4);
     assert_eq!(rt; host.live(), 1);
+    drop(host);
+    Ok(())
 }

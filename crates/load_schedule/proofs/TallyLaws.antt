@@ -11,8 +11,7 @@ use Rattle.text_forms.proofs.Bools.{and_true}
 use Rattle.schedule_replay.specs.Replays.{has_no_lf, is_plain, ended_line}
 use Rattle.schedule_replay.proofs.LineLaws.{lines_ended, lines_last}
 use Rattle.schedule_replay.specs.Cuts.{EndsAt}
-use Rattle.load_schedule.specs.declared.told.Kind.{Kind}
-use Rattle.load_schedule.specs.Tallies.{is_refusal, is_reply, is_freed, is_dropped, text_of, one_more, count_like, last_like, later_reply, Sums, five_of}
+use Rattle.load_schedule.specs.Tallies.{text_of, one_more, count_like, last_like, later_reply, Sums, five_of}
 
 -- ---- more lines
 
@@ -101,9 +100,6 @@ sums-line text line r f d r' f' d' last now s h er ef ed en = record {
 
 -- ---- the lines of some bytes, one by one
 
-counted-as : (b t : Bool) (n m : ℕ) → b ≡ t → m ≡ cond t (n + 1) n → m ≡ cond b (n + 1) n
-counted-as b t n m e h = h ∙ ap (λ (k : Bool). cond k (n + 1) n) (sym e)
-
 pub cut-line : (bytes : List ℕ) (n : ℕ) → EndsAt bytes n → take (n + 1) bytes ≡ take n bytes ++ 10 ∷ []
 cut-line bytes n e =
     take-add n 1 bytes ∙ ap (λ (t : List ℕ). take n bytes ++ take 1 t) (ap (drop n) e.cut ∙ drop_at (take n bytes) (10 ∷ drop (n + 1) bytes) n (length-take-le n bytes (omega (arith, e.within))))
@@ -129,19 +125,15 @@ put-line old mid now bytes n most end none em e le en =
     )
 
 -- the line at the end of those that were told
-pub told-more : (bytes : List ℕ) (kind : Kind) (at n r f d from many at' r' f' d' from' many' : ℕ) → Sums (take at bytes) r f d (take many (drop from bytes)) → EndsAt (drop at bytes) n
-    → begins_with (codes "reply no ") (take n (drop at bytes)) ≡ is_refusal kind → begins_with (codes "reply ") (take n (drop at bytes)) ≡ is_reply kind
-    → begins_with (codes "freed ") (take n (drop at bytes)) ≡ is_freed kind → begins_with (codes "unreferenced ") (take n (drop at bytes)) ≡ is_dropped kind
-    → at' ≡ at + n + 1 → r' ≡ cond (is_refusal kind) (r + 1) r → f' ≡ cond (is_freed kind) (f + 1) f → d' ≡ cond (is_dropped kind) (d + 1) d
-    → from' ≡ cond (is_reply kind) at from → many' ≡ cond (is_reply kind) n many → Sums (take at' bytes) r' f' d' (take many' (drop from' bytes))
-told-more bytes kind at n r f d from many at' r' f' d' from' many' s e is-refusal is-reply is-freed is-dropped ea er ef ed from-is many-is =
+pub told-more : (bytes : List ℕ) (at n r f d from many at' r' f' d' from' many' : ℕ) → Sums (take at bytes) r f d (take many (drop from bytes)) → EndsAt (drop at bytes) n
+    → at' ≡ at + n + 1 → r' ≡ one_more (codes "reply no ") (take n (drop at bytes)) r → f' ≡ one_more (codes "freed ") (take n (drop at bytes)) f → d' ≡ one_more (codes "unreferenced ") (take n (drop at bytes)) d
+    → from' ≡ cond (begins_with (codes "reply ") (take n (drop at bytes))) at from → many' ≡ cond (begins_with (codes "reply ") (take n (drop at bytes))) n many → Sums (take at' bytes) r' f' d' (take many' (drop from' bytes))
+told-more bytes at n r f d from many at' r' f' d' from' many' s e ea er ef ed from-is many-is =
     let line : List ℕ = take n (drop at bytes) in
     let sum : at' ≡ at + (n + 1) = omega arith in
     let cut : take at' bytes ≡ (take at bytes ++ line) ++ 10 ∷ [] =
     ap (λ (k : ℕ). take k bytes) sum ∙ take-add at (n + 1) bytes ∙ ap (λ (t : List ℕ). take at bytes ++ t) (cut-line (drop at bytes) n e) ∙ sym (append_assoc (take at bytes) line (10 ∷ [])) in
-    rw cut (sums-line (take at bytes) line r f d r' f' d' (take many (drop from bytes)) (take many' (drop from' bytes)) s e.plain
-    (counted-as _ _ r r' is-refusal er) (counted-as _ _ f f' is-freed ef) (counted-as _ _ d d' is-dropped ed)
-    (reply-there (is_reply kind) from-is many-is ∙ ap (λ (b : Bool). cond b line (take many (drop from bytes))) (sym is-reply)))
+    rw cut (sums-line (take at bytes) line r f d r' f' d' (take many (drop from bytes)) (take many' (drop from' bytes)) s e.plain er ef ed (reply-there (begins_with (codes "reply ") line) from-is many-is))
   where
     reply-there : (b : Bool) → from' ≡ cond b at from → many' ≡ cond b n many → take many' (drop from' bytes) ≡ cond b (take n (drop at bytes)) (take many (drop from bytes))
     reply-there true h k = rw (h, k) refl
@@ -149,22 +141,21 @@ told-more bytes kind at n r f d from many at' r' f' d' from' many' s e is-refusa
 
 -- ---- a line that ends
 
-added-as : (b t : Bool) (n w m : ℕ) → b ≡ t → w ≡ cond t 1 0 → m ≡ n + w → m ≡ cond b (n + 1) n
-added-as b true n w m e h k = rw (e, k, h) refl
-added-as b false n w m e h k = rw (e, k, h) (omega arith)
+added-as : (b : Bool) (n w m : ℕ) → w ≡ cond b (0 + 1) 0 → m ≡ n + w → m ≡ cond b (n + 1) n
+added-as true n w m h k = omega arith
+added-as false n w m h k = omega arith
 
 last-as : (line last reply now : List ℕ) (t : Bool) → begins_with (codes "reply ") line ≡ t → reply ≡ cond t line [] → now ≡ later_reply last reply → now ≡ cond (begins_with (codes "reply ") line) line last
 last-as [] last reply now true e h k = absurd cc
 last-as (x ∷ line) last reply now true e h k = rw (e, k, h) refl
 last-as line last reply now false e h k = rw (e, k, h) refl
 
-pub sums-end : (text line : List ℕ) (kind : Kind) (r f d r-more f-more d-more r' f' d' : ℕ) (last reply now : List ℕ) → Sums text r f d last → has_no_lf line ≡ true
-    → begins_with (codes "reply no ") line ≡ is_refusal kind → begins_with (codes "reply ") line ≡ is_reply kind → begins_with (codes "freed ") line ≡ is_freed kind → begins_with (codes "unreferenced ") line ≡ is_dropped kind
-    → r-more ≡ cond (is_refusal kind) 1 0 → f-more ≡ cond (is_freed kind) 1 0 → d-more ≡ cond (is_dropped kind) 1 0 → reply ≡ cond (is_reply kind) line []
+pub sums-end : (text line : List ℕ) (r f d r-more f-more d-more r' f' d' : ℕ) (last reply now : List ℕ) → Sums text r f d last → has_no_lf line ≡ true
+    → r-more ≡ one_more (codes "reply no ") line 0 → f-more ≡ one_more (codes "freed ") line 0 → d-more ≡ one_more (codes "unreferenced ") line 0 → reply ≡ cond (begins_with (codes "reply ") line) line []
     → r' ≡ r + r-more → f' ≡ f + f-more → d' ≡ d + d-more → now ≡ later_reply last reply → Sums (text ++ line ++ 10 ∷ []) r' f' d' now
-sums-end text line kind r f d r-more f-more d-more r' f' d' last reply now s h is-refusal is-reply is-freed is-dropped wr wf wd reply-is er ef ed en =
-    sums-line text line r f d r' f' d' last now s h (added-as _ _ r r-more r' is-refusal wr er) (added-as _ _ f f-more f' is-freed wf ef) (added-as _ _ d d-more d' is-dropped wd ed)
-    (last-as line last reply now (is_reply kind) is-reply reply-is en)
+sums-end text line r f d r-more f-more d-more r' f' d' last reply now s h wr wf wd reply-is er ef ed en =
+    sums-line text line r f d r' f' d' last now s h (added-as _ r r-more r' wr er) (added-as _ f f-more f' wf ef) (added-as _ d d-more d' wd ed)
+    (last-as line last reply now (begins_with (codes "reply ") line) refl reply-is en)
 
 -- ---- the lines of all that was put
 

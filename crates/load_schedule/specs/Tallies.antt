@@ -1,32 +1,12 @@
 -- What a tally of lines stands for.
-use Rattle.std.specs.Prelude.{◌≡◌, ℕ, ◌+◌, Bool, true, false, if◌then◌else◌, List, [], ◌∷◌, ◌++◌, map, flat_map, fold, count_by, drop, codes}
+use Rattle.std.specs.Prelude.{◌≡◌, ℕ, ◌+◌, true, if◌then◌else◌, List, [], ◌∷◌, ◌++◌, map, flat_map, fold, count_by, drop, codes}
 use Rattle.std.specs.List.{list_all}
 use Rattle.tree_specs.specs.Texts.Text.{newline}
 use Rattle.std.specs.Fmt.{decimal}
 use Rattle.tree_specs.specs.Texts.Load.{begins_with, named}
 use Rattle.schedule_replay.specs.Replays.{has_no_lf}
-use Rattle.load_schedule.specs.declared.told.Kind.{Kind}
-use Rattle.load_schedule.specs.declared.told.Kind.TheVariants.{Refusal, Reply, Freed, Dropped}
 
 -- ---- one line
-
--- whether a line of this kind is a refusal, a reply, and so on
-abbrev pub is_refusal : Kind → Bool
-is_refusal Refusal = true
-is_refusal _ = false
-
-abbrev pub is_reply : Kind → Bool
-is_reply Refusal = true
-is_reply Reply = true
-is_reply _ = false
-
-abbrev pub is_freed : Kind → Bool
-is_freed Freed = true
-is_freed _ = false
-
-abbrev pub is_dropped : Kind → Bool
-is_dropped Dropped = true
-is_dropped _ = false
 
 -- a count after one more line, which counts where it begins so
 abbrev pub one_more : List ℕ → List ℕ → ℕ → ℕ

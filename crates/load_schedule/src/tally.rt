@@ -7,7 +7,7 @@ ghost use Rattle.tree_specs.specs.Texts.Load.{five_lines, named};
 ghost use Rattle.schedule_replay.specs.Replays.{has_no_lf};
 ghost use Rattle.load_schedule.specs.Tallies.{five_of, later_reply, noted};
 
-use crate::told::{Counts, kind_of, line_end, reply_of, told_by};
+use crate::told::{Counts, line_end, reply_of, told_by};
 use http_server::Log;
 use itoa::Buffer;
 use outside::{Put, Sink};
@@ -165,9 +165,8 @@ impl Tally {
     {
         let begun = self.line.len();
         self.line.extend_from_slice(rest)?;
-        let kind = kind_of(&self.line);
-        let reply = reply_of(kind, &self.line);
-        let later = Counts::NONE.with(kind);
+        let reply = reply_of(&self.line);
+        let later = Counts::NONE.with(&self.line);
         if add(&mut self.counts, &mut self.last, later, reply).is_err() {
             self.line.truncate(begun);
             return Err(Memory);

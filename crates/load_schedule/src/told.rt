@@ -2,51 +2,26 @@
 ghost use Rattle.std.specs.Prelude.{◌≡◌, ◌<◌, ◌≤◌, ◌+◌, [], take, drop, length, codes, IfSome, if◌then◌else◌};
 ghost use Rattle.tree_specs.specs.Texts.Load.{begins_with};
 ghost use Rattle.schedule_replay.specs.Cuts.{EndsFirst};
-ghost use Rattle.load_schedule.specs.Tallies.{Sums, is_refusal, is_reply, is_freed, is_dropped};
+ghost use Rattle.load_schedule.specs.Tallies.{Sums, one_more as with_line};
 
 use memchr::memchr;
 
-/// What a line tells, as far as it counts.
-#[derive(Clone, Copy, Debug, PartialEq, Eq)]
-pub(crate) enum Kind {
-    /// A reply that refuses.
-    Refusal,
-    /// Another reply.
-    Reply,
-    /// An object is gone.
-    Freed,
-    /// A reference was dropped.
-    Dropped,
-    /// Nothing that counts.
-    Other,
-}
-
-impl Kind {
-    /// Whether such a line is a reply.
-    fn is_reply(self) -> bool
-        ensures { result ≡ is_reply self }
-    {
-        matches!(self, Kind::Refusal | Kind::Reply)
-    }
-}
-
-/// What the line tells.
-pub(crate) fn kind_of(line: &[u8]) -> Kind
-    ensures refusal { begins_with (codes "reply no ") line.now ≡ is_refusal result }
-    ensures reply { begins_with (codes "reply ") line.now ≡ is_reply result }
-    ensures freed { begins_with (codes "freed ") line.now ≡ is_freed result }
-    ensures dropped { begins_with (codes "unreferenced ") line.now ≡ is_dropped result }
+/// Whether the line is a reply, one that refuses too.
+fn is_reply(line: &[u8]) -> bool
+    ensures { result ≡ begins_with (codes "reply ") line.now }
 {
-    if line.starts_with(b"reply no ") {
-        Kind::Refusal
-    } else if line.starts_with(b"reply ") {
-        Kind::Reply
-    } else if line.starts_with(b"freed ") {
-        Kind::Freed
-    } else if line.starts_with(b"unreferenced ") {
-        Kind::Dropped
+    line.starts_with(b"reply ")
+}
+
+/// A count after one more line, which counts where it begins so.
+fn one_more(front: &[u8], line: &[u8], count: u64) -> u64
+    requires { count < u64.MAX }
+    ensures { result ≡ with_line front.now line.now count }
+{
+    if line.starts_with(front) {
+        count + 1
     } else {
-        Kind::Other
+        count
     }
 }
 
@@ -66,29 +41,19 @@ impl Counts {
         dropped: 0,
     };
 
-    /// With one more line, of this kind.
-    pub(crate) fn with(self, kind: Kind) -> Counts
+    /// With one more line.
+    pub(crate) fn with(self, line: &[u8]) -> Counts
         requires refused { self.refused < u64.MAX }
         requires freed { self.freed < u64.MAX }
         requires dropped { self.dropped < u64.MAX }
-        ensures refused { result.refused ≡ (if is_refusal kind then self.refused + 1 else self.refused) }
-        ensures freed { result.freed ≡ (if is_freed kind then self.freed + 1 else self.freed) }
-        ensures dropped { result.dropped ≡ (if is_dropped kind then self.dropped + 1 else self.dropped) }
+        ensures refused { result.refused ≡ with_line (codes "reply no ") line.now self.refused }
+        ensures freed { result.freed ≡ with_line (codes "freed ") line.now self.freed }
+        ensures dropped { result.dropped ≡ with_line (codes "unreferenced ") line.now self.dropped }
     {
-        match kind {
-            Kind::Refusal => Counts {
-                refused: self.refused + 1,
-                ..self
-            },
-            Kind::Freed => Counts {
-                freed: self.freed + 1,
-                ..self
-            },
-            Kind::Dropped => Counts {
-                dropped: self.dropped + 1,
-                ..self
-            },
-            Kind::Reply | Kind::Other => self,
+        Counts {
+            refused: one_more(b"reply no ", line, self.refused),
+            freed: one_more(b"freed ", line, self.freed),
+            dropped: one_more(b"unreferenced ", line, self.dropped),
         }
     }
 
@@ -106,11 +71,11 @@ impl Counts {
     }
 }
 
-/// The line where it is of a kind that is a reply, and else nothing.
-pub(crate) fn reply_of(kind: Kind, line: &[u8]) -> &[u8]
-    ensures { result.now ≡ (if is_reply kind then line.now else []) }
+/// The line where it is a reply, and else nothing.
+pub(crate) fn reply_of(line: &[u8]) -> &[u8]
+    ensures { result.now ≡ (if begins_with (codes "reply ") line.now then line.now else []) }
 {
-    let len = if kind.is_reply() { line.len() } else { 0 };
+    let len = if is_reply(line) { line.len() } else { 0 };
     &line[..len]
 }
 
@@ -151,30 +116,30 @@ impl Told {
         }
     }
 
-    /// With one more line, of this kind and so many bytes.
-    fn and(self, kind: Kind, line_len: usize) -> Told
+    /// With one more line.
+    fn and(self, line: &[u8]) -> Told
         requires refused { self.counts.refused < u64.MAX }
         requires freed { self.counts.freed < u64.MAX }
         requires dropped { self.counts.dropped < u64.MAX }
-        requires len { self.len + line_len < usize.MAX }
-        ensures len { result.len ≡ self.len + line_len + 1 }
-        ensures refused { result.counts.refused ≡ (if is_refusal kind then self.counts.refused + 1 else self.counts.refused) }
-        ensures freed { result.counts.freed ≡ (if is_freed kind then self.counts.freed + 1 else self.counts.freed) }
-        ensures dropped { result.counts.dropped ≡ (if is_dropped kind then self.counts.dropped + 1 else self.counts.dropped) }
-        ensures reply_at { result.reply_at ≡ (if is_reply kind then self.len else self.reply_at) }
-        ensures reply_len { result.reply_len ≡ (if is_reply kind then line_len else self.reply_len) }
+        requires len { self.len + length line.now < usize.MAX }
+        ensures len { result.len ≡ self.len + length line.now + 1 }
+        ensures refused { result.counts.refused ≡ with_line (codes "reply no ") line.now self.counts.refused }
+        ensures freed { result.counts.freed ≡ with_line (codes "freed ") line.now self.counts.freed }
+        ensures dropped { result.counts.dropped ≡ with_line (codes "unreferenced ") line.now self.counts.dropped }
+        ensures reply_at { result.reply_at ≡ (if begins_with (codes "reply ") line.now then self.len else self.reply_at) }
+        ensures reply_len { result.reply_len ≡ (if begins_with (codes "reply ") line.now then length line.now else self.reply_len) }
     {
         let more = Told {
-            len: self.len + line_len + 1,
-            counts: self.counts.with(kind),
+            len: self.len + line.len() + 1,
+            counts: self.counts.with(line),
             ..self
         };
-        if !kind.is_reply() {
+        if !is_reply(line) {
             return more;
         }
         Told {
             reply_at: self.len,
-            reply_len: line_len,
+            reply_len: line.len(),
             ..more
         }
     }
@@ -189,8 +154,7 @@ pub(crate) fn told_by(bytes: &[u8]) -> Told
 {
     let mut told = Told::nothing();
     'lines: while let Some(len) = line_end(&bytes[told.len..]) {
-        let kind = kind_of(&bytes[told.len..told.len + len]);
-        told = told.and(kind, len);
+        told = told.and(&bytes[told.len..told.len + len]);
     }
     told
 }

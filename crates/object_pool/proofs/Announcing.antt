@@ -1,9 +1,8 @@
 -- Whether a step of a free tells an event, by what is watched before it.
-use Rattle.std.proofs.Common.{◌≡◌, ℕ, Bool, List, [], Option, Some, None, is_some, refl, sym, ap, ◌∙◌}
+use Rattle.std.proofs.Common.{◌≡◌, ℕ, List, [], Option, Some, None, is_some, refl, sym, ap, ◌∙◌}
 use Rattle.std.specs.Option.{option_map}
 use Rattle.tree_specs.specs.declared.object.Obj.{Obj}
 use Rattle.tree_specs.specs.declared.watch.Watch.{Watch}
-use Rattle.tree_specs.specs.declared.event.Event.{Event}
 use Rattle.tree_specs.specs.declared.event.Event.TheVariants.{Closed}
 use Rattle.tree_specs.specs.declared.free_step.FreeStep.{FreeStep}
 use Rattle.tree_specs.specs.declared.free_step.FreeStep.TheVariants.{Doom, Left}

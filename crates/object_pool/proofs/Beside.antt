@@ -19,7 +19,7 @@ use Rattle.tree_specs.specs.Tree.Targets.{newest_ref}
 use Rattle.tree_specs.specs.Tree.Pool.{Pool, row_of, is_below, owner_of, target_at, newest_ref_of, is_inside, first_kid}
 use Rattle.tree_specs.specs.Machine.FreeTable.{FreeMove, free_step, begin_step, refs_step, drop_step, unlink_step, release_step, judge_step, loop_step, child_step, hand_on_step, tried_step}
 use Rattle.tree_specs.specs.Machine.Profiles.{Phase}
-use Rattle.tree_specs.specs.Invariants.Sound.{Footing, FreeRests}
+use Rattle.tree_specs.specs.Invariants.Sound.{Footing, FreeRests, Tries}
 use Rattle.tree_specs.specs.Invariants.Sound.Footing.{OnFree, OnCall, AtBottom}
 use Rattle.tree_specs.specs.Invariants.Alone.{FreesHold, FreesWait}
 use Rattle.tree_specs.proofs.Tree.Numbered.{by_test}
@@ -164,22 +164,21 @@ module _ (p : Pool) (u v : Upcoming) where
   abbrev there : Pool
   there = beside v p
 
+  tries-same : (x : Obj) (on : Footing) → Tries x on here → Tries x on there
+  tries-same x (OnFree (FreeingChild y d noted purpose)) t = t
+  tries-same x (OnFree _) t = absurd t
+  tries-same x OnCall t = t
+  tries-same x AtBottom t = t
+  tries-same x _ t = absurd t
+
   rests-same : (f : FreeFrame) (on : Footing) (claimed : Obj → List Phase) → FreeRests f on claimed here → FreeRests f on claimed there
   rests-same (Unlinking o x) on claimed h = h
   rests-same (Releasing x) on claimed h = h
   rests-same (Giving x o) on claimed h = record { row = h.row; is = h.is; live = h.live; apart = h.apart; there = h.there; outside = h.outside }
-  rests-same (Beginning x) (OnFree (FreeingChild y d noted purpose)) claimed h = h
-  rests-same (Beginning x) (OnFree _) claimed h = absurd h.0
-  rests-same (Beginning x) OnCall claimed h = h
-  rests-same (Beginning x) AtBottom claimed h = h
-  rests-same (Beginning x) _ claimed h = absurd h.0
+  rests-same (Beginning x) on claimed h = (tries-same x on h.0, h.1)
   rests-same (Hooked x g) on claimed h = h
   rests-same (Judged x g v) on claimed h = h
-  rests-same (Dooming x) (OnFree (FreeingChild y d noted purpose)) claimed h = h
-  rests-same (Dooming x) (OnFree _) claimed h = absurd h.0
-  rests-same (Dooming x) OnCall claimed h = h
-  rests-same (Dooming x) AtBottom claimed h = h
-  rests-same (Dooming x) _ claimed h = absurd h.0
+  rests-same (Dooming x) on claimed h = (tries-same x on h.0, h.1)
   rests-same (Leaving x g) on claimed h = h
   rests-same (Looping x purpose) on claimed h = h
   rests-same (FreeingChild x c noted purpose) on claimed h = h

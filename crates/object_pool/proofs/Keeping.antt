@@ -1,21 +1,23 @@
 -- What stays in agreement where the objects change.
-use Rattle.std.proofs.Common.{◌≡◌, Bool, ℕ, ◌+◌, ◌≤◌, List, [], ◌∷◌, length, Option, Some, None, true, false, refl, sym, ◌∙◌, ap, subst, arith}
+use Rattle.std.proofs.Common.{◌≡◌, Bool, ℕ, ◌+◌, ◌≤◌, ◌<◌, List, [], ◌∷◌, length, Option, Some, None, true, false, refl, sym, ◌∙◌, ap, subst, arith}
 use Rattle.tree_specs.specs.declared.frame.FreeFrame.{FreeFrame}
 use Rattle.tree_specs.specs.declared.frame.FreeFrame.TheVariants.{Unlinking, Hooked, Judged}
 use Rattle.tree_specs.specs.declared.object.Obj.{Obj}
 use Rattle.tree_specs.specs.declared.object.Owner.{Owner}
+use Rattle.tree_specs.specs.declared.kind.Kind.{Kind}
 use Rattle.tree_specs.specs.declared.row.Row.{Row}
 use Rattle.tree_specs.specs.Tree.Inside.{total}
 use Rattle.tree_specs.specs.declared.row.Mark.{Mark}
-use Rattle.tree_specs.specs.Tree.Pool.{Pool, row_of, is_row, changed, marked_row, place, set_mark}
+use Rattle.tree_specs.specs.Tree.Pool.{Pool, row_of, is_row, changed, marked_row, add, place, set_mark}
 use Rattle.tree_specs.specs.Tree.Sums.{charge}
+use Rattle.tree_specs.specs.Tree.Targets.{target_of}
 use Rattle.tree_specs.proofs.Turns.FallingFrees.{total-kept, length-changed, length-placed}
 use Rattle.tree_specs.proofs.Tree.Rows.{total-placed}
 use Rattle.tree_specs.proofs.Tree.SumLaws.{changed-weights}
 use Rattle.tree_links.specs.Links.{Links, pool_of, works_of}
 use Rattle.references.specs.Pairs.{Pairs}
 use Rattle.references.specs.Rows.{AreRefsOf}
-use Rattle.references.proofs.Rows.{refs-same, same-changed}
+use Rattle.references.proofs.Rows.{refs-same, refs-added, same-changed}
 use Rattle.references.proofs.SameRefs.{put-elsewhere}
 use Rattle.memory_limits.specs.Limits.{Limits, AreLimitsOf}
 use Rattle.destructors.specs.Frees.{OpenFrees, Steps, before, frees_of, returned}
@@ -35,8 +37,8 @@ use Rattle.object_pool.specs.Agreeing.{AgreeWith}
 use Rattle.loop_core.specs.declared.pick.Pick.{Pick}
 use Rattle.loop_core.specs.declared.pick.Pick.TheVariants.{Soon, Time}
 use Rattle.object_pool.specs.Upcoming.{Upcoming, Agenda, KeepsPlaces, AllNumbered, AllWatchersNumbered, after, picked, pending, with_watch, with_closed, without_event}
-use Rattle.object_pool.proofs.Numbers.{numbered-later, numbered-told, numbered-picked, steps-next}
-use Rattle.object_pool.proofs.Watchers.{watchers-later, watchers-told, watchers-picked, watchers-changed, watchers-turned, unwatched-fewer, rewatched-many, turned-fewer}
+use Rattle.object_pool.proofs.Numbers.{numbered-later, steps-next}
+use Rattle.object_pool.proofs.Watchers.{watchers-later, watchers-changed, watchers-turned, unwatched-fewer, rewatched-many, turned-fewer, AllGiven, given-later, told-given, picked-given}
 use Rattle.object_pool.specs.declared.pool.ObjectPool.TheInside.{Inside}
 use Rattle.object_pool.proofs.Counted.{same-kept}
 use Rattle.object_pool.proofs.Fields.{changed-kept}
@@ -191,6 +193,18 @@ spent b t' ps' ls' pl places ready next rows works refs limits a =
       places = places;
     }
 
+-- a new row of an object that refers to no other
+pub row-added : (b : Inside) (t' : Links) (ls' : Limits) (pl : Bool) (x : Obj) (kind : Kind) (owner : Owner) (size : ℕ) (name : List ℕ) → (pl ≡ true → HasPlaces b.refs ls' b.events) → b.ready ≡ true → target_of kind ≡ None
+    → x ≡ record { 0 = b.tree.next } → row_of b.tree.rows x ≡ None → pool_of t' ≡ add (pool_of b.tree) kind owner size name → works_of t' ≡ works_of b.tree → AreLimitsOf ls'.limited t'.rows
+    → AgreeWith b → AgreeWith (record b { tree = t'; sums = ls'; places = pl; ready = false })
+row-added b t' ls' pl x kind owner size name places ready plain serial fresh is works limits a =
+    let rows : t'.rows ≡ (add (pool_of b.tree) kind owner size name).rows = ap (λ (p : Pool). p.rows) is in
+    let more = ap length rows in
+    let next = ap (λ (p : Pool). p.next) is in
+    let absent = subst (λ (y : Obj). row_of b.tree.rows y ≡ None) serial fresh in
+    spent b t' b.refs ls' pl places ready (omega (arith, next)) (omega (arith, more)) works
+    (subst (AreRefsOf b.refs.pairs) (sym rows) (refs-added b.refs.pairs b.tree.rows (record { 0 = b.tree.next }) kind owner size name absent plain a.references)) limits a
+
 -- ---- a destructor has returned
 
 pub answer-room : (o o' : Option FreeFrame) (t : Links) (v : ℕ) → frees_of o' t ≡ record { works = returned v (frees_of o t); pool = pool_of t } → IsAsked o → HasRoom o t → HasRoom o' t
@@ -226,23 +240,36 @@ pub record Books (b : Inside) (told : FreeStep) (r : Pairs) (ls : Limits) (e : A
 -- a step of a free, with the engine, the tree and all books after it
 pub stepped : (b : Inside) (o : Option FreeFrame) (t : Links) (r : Pairs) (ls : Limits) (e : Agenda) (told : FreeStep) → Steps (frees_of b.engine b.tree) told (frees_of o t) → Books b told r ls e
     → AreRefsOf r.pairs t.rows → AreLimitsOf ls.limited t.rows → AreKept o t → HasRoom o t → AgreeWith b → AgreeWith (record b { engine = o; tree = t; refs = r; sums = ls; events = e; ready = false })
-stepped b o t r ls e told steps k refs limits kept room a = record {
-  references = refs;
-  limits = limits;
-  kept = kept;
-  room = room;
-  numbers = rw k.upcoming (numbered-told t.next b.events.upcoming told (numbered-later b.tree.next t.next b.events.upcoming.times (let n = steps-next _ _ _ steps in omega (arith, n)) a.numbers));
-  watchers = rw k.upcoming (watchers-told t.next b.events.upcoming told (watchers-later b.tree.next t.next b.events.upcoming.ring (let n = steps-next _ _ _ steps in omega (arith, n)) a.watchers));
-  call = never;
-  placed = never;
-  places = λ there. fewer-wait r ls b.events e k.places (rw k.upcoming (told-fewer told b.events.upcoming)) (still-places b.refs r b.sums ls b.events k.refs k.sums (a.places there));
-}
+stepped b o t r ls e told steps k refs limits kept room a =
+    let n = steps-next _ _ _ steps in
+    let given : AllGiven t.next (after (Some told) b.events.upcoming) = told-given t.next b.events.upcoming told (given-later b.tree.next t.next b.events.upcoming (omega (arith, n)) (a.numbers, a.watchers)) in
+    record {
+      references = refs;
+      limits = limits;
+      kept = kept;
+      room = room;
+      numbers = rw k.upcoming given.0;
+      watchers = rw k.upcoming given.1;
+      call = never;
+      placed = never;
+      places = λ there. fewer-wait r ls b.events e k.places (rw k.upcoming (told-fewer told b.events.upcoming)) (still-places b.refs r b.sums ls b.events k.refs k.sums (a.places there));
+    }
 
 -- ---- other events are to come
 
 -- what is to come has changed, and the memory for one more is used up
 pub waits : (b : Inside) (e : Agenda) → AllNumbered b.tree.next e.upcoming.times → AllWatchersNumbered b.tree.next e.upcoming.ring → AgreeWith b → AgreeWith (record b { events = e; places = false; ready = false })
 waits b e numbers watchers a = record { references = a.references; limits = a.limits; kept = a.kept; room = a.room; numbers = numbers; watchers = watchers; call = never; placed = never; places = never }
+
+-- a new event, and what is to come with it
+pub event-added : (b : Inside) (t' : Links) (ls' : Limits) (e : Agenda) (x : Obj) (kind : Kind) (owner : Owner) (name : List ℕ) → b.ready ≡ true → target_of kind ≡ None
+    → x ≡ record { 0 = b.tree.next } → row_of b.tree.rows x ≡ None → pool_of t' ≡ add (pool_of b.tree) kind owner 0 name → works_of t' ≡ works_of b.tree → AreLimitsOf ls'.limited t'.rows
+    → (b.tree.next ≤ t'.next → x.0 < t'.next → AllGiven t'.next e.upcoming) → AgreeWith b → AgreeWith (record b { tree = t'; sums = ls'; events = e; places = false; ready = false })
+event-added b t' ls' e x kind owner name ready plain serial fresh is works limits given a =
+    let next = ap (λ (p : Pool). p.next) is in
+    let number = ap (λ (y : Obj). y.0) serial in
+    let all = given (omega (arith, next)) (omega (arith, next, number)) in
+    waits (record b { tree = t'; sums = ls'; places = false; ready = false }) e all.0 all.1 (row-added b t' ls' false x kind owner 0 name never ready plain serial fresh is works limits a)
 
 -- no more wait
 pub still-agree : (b : Inside) (e : Agenda) → KeepsPlaces b.events e → pending e.upcoming ≤ pending b.events.upcoming → AllNumbered b.tree.next e.upcoming.times → AllWatchersNumbered b.tree.next e.upcoming.ring → AgreeWith b
@@ -264,7 +291,8 @@ unscheduled-agree b e x is k a = still-agree b e k (rw is (picked-fewer (Soon x)
 
 pub picked-agree : (b : Inside) (e : Agenda) (pick : Pick) → e.upcoming ≡ picked pick b.events.upcoming → KeepsPlaces b.events e → AgreeWith b → AgreeWith (record b { events = e })
 picked-agree b e pick is k a =
-    still-agree b e k (rw is (picked-fewer pick b.events.upcoming)) (rw is (numbered-picked b.tree.next b.events.upcoming pick a.numbers)) (rw is (watchers-picked b.tree.next b.events.upcoming pick a.watchers)) a
+    let given : AllGiven b.tree.next (picked pick b.events.upcoming) = picked-given b.tree.next b.events.upcoming pick (a.numbers, a.watchers) in
+    still-agree b e k (rw is (picked-fewer pick b.events.upcoming)) (rw is given.0) (rw is given.1) a
 
 -- ---- the events on descriptors
 

@@ -16,7 +16,6 @@ use Rattle.tree_specs.specs.declared.frame.Purpose.TheVariants.{Removal, Emptyin
 use Rattle.tree_specs.specs.declared.free_step.FreeReply.{FreeReply}
 use Rattle.tree_specs.specs.declared.free_step.FreeReply.TheVariants as free_reply
 use Rattle.tree_specs.specs.declared.free_step.FreeStep.{FreeStep}
-use Rattle.tree_specs.specs.declared.free_step.FreeStep.TheVariants.{Doom, Left}
 use Rattle.tree_specs.specs.Events.Pending.{disarmed, armed, put_in, comes_before, is_numbered}
 use Rattle.tree_specs.specs.Words.Objects.{same}
 use Rattle.tree_specs.specs.Tree.Targets.{newest_ref}
@@ -24,9 +23,7 @@ use Rattle.tree_specs.specs.Tree.Pool.{Pool, row_of, is_below, owner_of, target_
 use Rattle.tree_specs.specs.Machine.FreeTable.{FreeMove, free_step, begin_step, refs_step, unlink_step, release_step, loop_step, child_step, tried_step}
 use Rattle.tree_specs.proofs.Tree.Numbered.{by_test}
 use Rattle.destructors.specs.Frees.{OpenFrees, moved, moves, next_of, Silently, Still, On, Steps, Begins}
-use Rattle.loop_core.specs.declared.pick.Pick.{Pick}
-use Rattle.loop_core.specs.declared.pick.Pick.TheVariants.{Time}
-use Rattle.object_pool.specs.Upcoming.{Upcoming, AllNumbered, after, picked}
+use Rattle.object_pool.specs.Upcoming.{AllNumbered}
 
 -- numbers that were given before one were given before a later one
 pub numbered-later : (n m : ℕ) (ds : List Due) → n ≤ m → AllNumbered n ds → AllNumbered m ds
@@ -38,15 +35,6 @@ numbered-disarmed n [] x a = tt
 numbered-disarmed n (d ∷ ds) x a = by_test (same d.object x)
     (λ t. rw t (numbered-disarmed n ds x a.1))
     (λ t. rw t (a.0, numbered-disarmed n ds x a.1))
-
-pub numbered-told : (n : ℕ) (u : Upcoming) (told : FreeStep) → AllNumbered n u.times → AllNumbered n (after (Some told) u).times
-numbered-told n u (Left x from) a = numbered-disarmed n u.times x a
-numbered-told n u (Doom x) a = numbered-disarmed n u.times x a
-numbered-told n u _ a = a
-
-pub numbered-picked : (n : ℕ) (u : Upcoming) (pick : Pick) → AllNumbered n u.times → AllNumbered n (picked pick u).times
-numbered-picked n u (Time x now) a = numbered-disarmed n u.times x a
-numbered-picked n u _ a = a
 
 numbered-put : (n : ℕ) (d : Due) (ds : List Due) → d.number < n → AllNumbered n ds → AllNumbered n (put_in d ds)
 numbered-put n d [] l a = (l, tt)

@@ -1,16 +1,18 @@
--- Events that watch descriptors: their numbers were given, and how many there are.
-use Rattle.std.proofs.Common.{◌≡◌, ℕ, ◌<◌, ◌≤◌, ◌+◌, nat_eq, true, false, List, [], ◌∷◌, ◌++◌, length, Option, Some, None, refl, sym, ap, subst, ◌∙◌, arith}
+-- Events that watch descriptors: their numbers were given, and how many there are; and the numbers of all that is to come.
+use Rattle.std.proofs.Common.{◌≡◌, ℕ, ◌<◌, ◌≤◌, ◌+◌, nat_eq, false, List, [], ◌∷◌, ◌++◌, length, Option, Some, None, refl, arith}
 use Rattle.std.proofs.lemmas.Bool.{ne_eqb}
 use Rattle.tree_specs.specs.declared.object.Obj.{Obj}
 use Rattle.tree_specs.specs.declared.watch.Watch.{Watch}
 use Rattle.tree_specs.specs.declared.free_step.FreeStep.{FreeStep}
 use Rattle.tree_specs.specs.declared.free_step.FreeStep.TheVariants.{Doom, Left}
 use Rattle.tree_specs.specs.Words.Objects.{same}
-use Rattle.tree_specs.specs.Events.Rotation.{watch_of, is_watching, watched, unwatched, rewatched, behind_all, turned_back}
+use Rattle.tree_specs.specs.Events.Pending.{disarmed}
+use Rattle.tree_specs.specs.Events.Rotation.{watch_of, is_watching, unwatched, rewatched, behind_all, turned_back}
 use Rattle.tree_specs.proofs.Tree.Numbered.{by_test}
 use Rattle.loop_core.specs.declared.pick.Pick.{Pick}
-use Rattle.loop_core.specs.declared.pick.Pick.TheVariants.{Soon, Time}
-use Rattle.object_pool.specs.Upcoming.{Upcoming, AllWatchersNumbered, after, picked}
+use Rattle.loop_core.specs.declared.pick.Pick.TheVariants.{Time}
+use Rattle.object_pool.specs.Upcoming.{Upcoming, AllNumbered, AllWatchersNumbered, after, picked}
+use Rattle.object_pool.proofs.Numbers.{numbered-later, numbered-disarmed}
 
 -- ---- numbers
 
@@ -24,16 +26,6 @@ watchers-gone n [] x a = tt
 watchers-gone n (w ∷ ws) x a = by_test (same w.object x)
     (λ t. rw t (watchers-gone n ws x a.1))
     (λ t. rw t (a.0, watchers-gone n ws x a.1))
-
-pub watchers-told : (n : ℕ) (u : Upcoming) (told : FreeStep) → AllWatchersNumbered n u.ring → AllWatchersNumbered n (after (Some told) u).ring
-watchers-told n u (Left x from) a = watchers-gone n u.ring x a
-watchers-told n u (Doom x) a = watchers-gone n u.ring x a
-watchers-told n u _ a = a
-
-pub watchers-picked : (n : ℕ) (u : Upcoming) (pick : Pick) → AllWatchersNumbered n u.ring → AllWatchersNumbered n (picked pick u).ring
-watchers-picked n u (Soon x) a = a
-watchers-picked n u (Time x now) a = a
-watchers-picked n u _ a = a
 
 pub watchers-pushed : (n : ℕ) (ws : List Watch) (w : Watch) → w.object.0 < n → AllWatchersNumbered n ws → AllWatchersNumbered n (ws ++ w ∷ [])
 watchers-pushed n [] w l a = (l, tt)
@@ -92,3 +84,24 @@ turned-fewer ws x = each (watch_of ws x) refl
     each : (o : Option Watch) → watch_of ws x ≡ o → length (behind_all (unwatched ws x) o) ≤ length ws
     each None e = unwatched-fewer ws x
     each (Some w) e = let n = gone ws w e in let m = pushed (unwatched ws x) w in omega (arith, n, m)
+
+-- ---- times and watchers
+
+-- the numbers of all times and of all watching events were given before this one
+abbrev pub AllGiven : ℕ → Upcoming → Type 0
+AllGiven n u = AllNumbered n u.times × AllWatchersNumbered n u.ring
+
+pub given-later : (n m : ℕ) (u : Upcoming) → n ≤ m → AllGiven n u → AllGiven m u
+given-later n m u le a = (numbered-later n m u.times le a.0, watchers-later n m u.ring le a.1)
+
+gone-given : (n : ℕ) (u : Upcoming) (x : Obj) → AllGiven n u → AllNumbered n (disarmed u.times x) × AllWatchersNumbered n (unwatched u.ring x)
+gone-given n u x a = (numbered-disarmed n u.times x a.0, watchers-gone n u.ring x a.1)
+
+pub told-given : (n : ℕ) (u : Upcoming) (told : FreeStep) → AllGiven n u → AllGiven n (after (Some told) u)
+told-given n u (Left x from) a = gone-given n u x a
+told-given n u (Doom x) a = gone-given n u x a
+told-given n u _ a = a
+
+pub picked-given : (n : ℕ) (u : Upcoming) (pick : Pick) → AllGiven n u → AllGiven n (picked pick u)
+picked-given n u (Time x now) a = (numbered-disarmed n u.times x a.0, a.1)
+picked-given n u _ a = a

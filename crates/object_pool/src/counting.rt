@@ -1,11 +1,14 @@
 //! What the sums are told, after the objects have changed.
-ghost use Rattle.std.specs.Prelude.{◌≡◌, ◌≤◌};
+ghost use Rattle.std.specs.Prelude.{◌≡◌, ◌≤◌, ◌<◌, ◌^◌, ◌-◌, true, None, length};
+ghost use Rattle.tree_specs.specs.Tree.Pool.{row_of, is_owner, add as added};
+ghost use Rattle.tree_specs.specs.Calls.Refusals.{row_limit, size_limit};
+ghost use Rattle.tree_links.specs.Links.{pool_of, works_of};
 ghost use Rattle.memory_limits.specs.Limits.{AreLimitsOf};
 ghost use Rattle.object_pool.specs.Counting.{WasAdded, WentFrom, WasCounted};
 
 use memory_limits::Sums;
-use tree_links::Tree;
-use tree_specs::{FreeStep, Obj, Owner};
+use tree_links::{NewRow, Tree};
+use tree_specs::{FreeStep, Kind, Name, Obj, Owner};
 
 /// A new object is there.
 pub fn count_added(x: Obj, tree: &Tree, sums: &mut Sums)
@@ -16,6 +19,33 @@ pub fn count_added(x: Obj, tree: &Tree, sums: &mut Sums)
     // All that is wanted of `len` is its contract: each number stands once.
     let _rows = tree.len();
     sums.joined(tree, x);
+}
+
+/// Adds an object as the newest child of an owner, and gives its number.
+pub fn add_row(
+    kind: Kind,
+    name: Name,
+    size: u64,
+    owner: Owner,
+    tree: &mut Tree,
+    sums: &mut Sums,
+) -> Obj
+    requires room { 0 < tree.old.spare }
+    requires few { length tree.old.rows < row_limit }
+    requires small { size < size_limit }
+    requires numbered { tree.old.next < 2 ^ 64 - 1 }
+    requires owner { is_owner tree.old.rows owner ≡ true }
+    requires limits { AreLimitsOf sums.old.limited tree.old.rows }
+    ensures serial { result ≡ record { 0 = tree.old.next } }
+    ensures fresh { row_of tree.old.rows result ≡ None }
+    ensures rows { pool_of tree.new ≡ added (pool_of tree.old) kind owner size name }
+    ensures works { works_of tree.new ≡ works_of tree.old }
+    ensures limits { AreLimitsOf sums.new.limited tree.new.rows }
+    ensures spare { sums.new.spare ≡ sums.old.spare }
+{
+    let added = tree.add(NewRow { kind, name, size }, owner);
+    count_added(added, tree, sums);
+    added
 }
 
 /// An object went from an owner, or from none, to another one.

@@ -1,11 +1,11 @@
-use crate::counting::{count_added, count_went};
+use crate::counting::{add_row, count_added, count_went};
 use crate::events::Events;
 use destructors::FreeEngine;
 use memory_limits::Sums;
 use references::{Refs, refer};
 use std::alloc::Global;
 use std::marker::Model;
-use tree_links::{NewRow, Tree};
+use tree_links::Tree;
 use tree_report::{count, rows, total};
 use tree_specs::{Kind, Memory, Name, Obj, Owner, Refusal, ReportRows, Row};
 
@@ -105,9 +105,7 @@ impl ObjectPool {
         ensures added { self.new ≡ record self.old { pool = added self.old.pool kind owner size name; ready = false } }
     {
         self.ready = false;
-        let serial = self.tree.add(NewRow { kind, name, size }, owner);
-        count_added(serial, &self.tree, &mut self.sums);
-        serial
+        add_row(kind, name, size, owner, &mut self.tree, &mut self.sums)
     }
 
     /// An owner gets a reference to an object, which is an object with a number of its own.

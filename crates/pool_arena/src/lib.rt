@@ -3,7 +3,7 @@
 #![tactic(auto)]
 
 ghost use Rattle.indexmap.specs.IndexMap.{get as place_get};
-ghost use Rattle.std.specs.Prelude.{nat_eq, ◌≡◌, ◌≤◌, ◌+◌, IsOk, OnOk, OnErr, Some, None, option_copied, IsSome};
+ghost use Rattle.std.specs.Prelude.{nat_eq, ◌≡◌, ◌≤◌, ◌+◌, IsOk, IsTrue, OnOk, OnErr, Some, None, option_copied, IsSome};
 ghost use Rattle.std.specs.Option.{option_copied_mut};
 ghost use Rattle.std.specs.Ordering.{nat_cmp};
 ghost use Rattle.std.specs.FinMap as map;
@@ -39,10 +39,20 @@ impl<T> Model for Arena<T> {
     ghost invariant = { λ a. IsSound a.places a.slots };
 }
 
+/// Whether nothing is held at all, so that a key isn't, which needs no hash then: most arenas of a host are empty.
+fn is_vacant(places: &IndexMap<u64, usize>, _key: u64) -> bool
+    ensures { IsTrue result → place_get nat_eq places.now _key ≡ None }
+{
+    places.is_empty()
+}
+
 /// The slot of a key. None exactly where it isn't held.
 fn slot_of(places: &IndexMap<u64, usize>, key: u64) -> Option<usize>
     ensures { result ≡ place_get nat_eq places.now key }
 {
+    if is_vacant(places, key) {
+        return None;
+    }
     places.get(&key).copied()
 }
 
@@ -112,6 +122,9 @@ impl<T> Arena<T> {
         ensures pairs { self.new.pairs ≡ map.remove self.old.pairs key }
         ensures spare { self.old.spare ≤ self.new.spare }
     {
+        if is_vacant(&self.places, key) {
+            return None;
+        }
         match self.places.swap_remove(&key) {
             Some(slot) => self.slots.try_remove(slot),
             None => None,

@@ -84,7 +84,9 @@ fn run<S: Source, K: Sink>(alloc: Global, input: &mut S, out: &mut K) -> Result<
     ensures writes { Counts (K.faults out.old) (K.faults out.new) (result ≡ Err Stop.Write) }
 {
     let mut replay = Replay::new(alloc)?;
-    pass(&mut replay, input, out)
+    let passed = pass(&mut replay, input, out);
+    drop(replay);
+    passed
 }
 
 /// Replays the schedule that the source gives into its transcript, which goes to the sink piece by

@@ -4,7 +4,7 @@ ghost use Rattle.schedule_replay.specs.declared.stop.Stop.TheVariants as errors;
 ghost use Rattle.schedule_replay.specs.Passes.{stop_of_put};
 
 use outside::PutError;
-use std::alloc::{AllocError, AllocFailed};
+use std::alloc::AllocError;
 use tree_specs::{Memory, Reason};
 
 /// Why a replay ends before its schedule does.
@@ -31,14 +31,6 @@ impl From<AllocError> for Stop {
     ghost from_gives = { λ _ e. e ≡ errors.Memory };
 
     fn from(_e: AllocError) -> Stop {
-        Stop::Memory
-    }
-}
-
-impl<T: Drop> From<AllocFailed<T>> for Stop {
-    ghost from_gives = { λ _ e. e ≡ errors.Memory };
-
-    fn from(_e: AllocFailed<T>) -> Stop {
         Stop::Memory
     }
 }

@@ -6,7 +6,10 @@ ghost use Rattle.tree_specs.specs.Texts.Written.{Writes};
 ghost use Rattle.schedule_text.specs.Heard.{input_has_bytes};
 
 use crate::ready::write_ready;
-use text_forms::{call_bytes, lend_bytes, write_call, write_numbers, write_octets, write_pieces};
+use text_forms::{
+    lend_bytes, the_bytes_of_a_call_are_bytes, write_call, write_numbers, write_octets,
+    write_pieces,
+};
 use tree_specs::{Act, Call, Input, Memory};
 
 // The line of a call after this front.
@@ -40,14 +43,16 @@ fn write_line(input: &Input, out: &mut Vec<u8>) -> Result<(), Memory>
     }
 }
 
-// The bytes that an input carries, where it does, and that they are bytes.
-fn input_bytes(input: &Input) -> Option<&[u8]>
+// Tells that what an input carries are bytes, as its type says.
+fn the_bytes_of_an_input_are_bytes(input: &Input)
     ensures { IsTrue (input_has_bytes input.now) }
 {
     match input {
-        Input::Call(call) | Input::Act(Act::Do(call)) => call_bytes(call),
-        Input::Got(bytes) => Some(lend_bytes(bytes)),
-        _ => None,
+        Input::Call(call) | Input::Act(Act::Do(call)) => the_bytes_of_a_call_are_bytes(call),
+        Input::Got(bytes) => {
+            lend_bytes(bytes);
+        }
+        _ => {}
     }
 }
 
@@ -59,6 +64,6 @@ pub fn write_input(input: &Input, out: &mut Vec<u8>) -> Result<(), Memory>
     // The line, without its LF, is read back as the same input.
     ensures read_back { (line : List ℕ) → line ++ newline ≡ input_text input.now → input_of line ≡ Some input.now }
 {
-    input_bytes(input);
+    the_bytes_of_an_input_are_bytes(input);
     write_line(input, out)
 }

@@ -22,12 +22,10 @@ fn writes(rt: &impl Abort, alloc: Global, cases: &[(Event, &[u8])]) -> Result<()
     Ok(())
 }
 
-// No line is an input.
-fn reads_none(rt: &impl Abort, alloc: Global, lines: &[&[u8]]) {
-    for line in lines {
-        let input = read_line(alloc, line);
-        assert!(rt; matches!(input, Err(FormFault::NoForm)), "at {line:?}");
-    }
+// The line is no input.
+fn reads_none(rt: &impl Abort, alloc: Global, line: &str) {
+    let input = read_line(alloc, line.as_bytes());
+    assert!(rt; matches!(input, Err(FormFault::NoForm)), "at {line:?}");
 }
 
 fn replied(reply: Reply) -> Event {

@@ -95,13 +95,12 @@ fn write_text(call: &Call, out: &mut Vec<u8>) -> Result<(), Memory>
     }
 }
 
-/// The bytes that a call carries, where it does, and that they are bytes.
-pub fn call_bytes(call: &Call) -> Option<&[u8]>
+/// Tells that what a call carries are bytes, as its type says. It does nothing: proofs of what is written need the fact.
+pub fn the_bytes_of_a_call_are_bytes(call: &Call)
     ensures { IsTrue (has_bytes call.now) }
 {
-    match call {
-        Call::Write { bytes, .. } => Some(lend_bytes(bytes)),
-        _ => None,
+    if let Call::Write { bytes, .. } = call {
+        lend_bytes(bytes);
     }
 }
 
@@ -113,6 +112,6 @@ pub fn write_call(call: &Call, out: &mut Vec<u8>) -> Result<(), Memory>
     ensures written { Writes out.old.items out.new.items result (call_text call.now) }
     ensures read_back { call_of (call_text call.now) ≡ Some call.now }
 {
-    call_bytes(call);
+    the_bytes_of_a_call_are_bytes(call);
     write_text(call, out)
 }

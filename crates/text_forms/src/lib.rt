@@ -19,7 +19,7 @@ mod tests;
 mod verb;
 
 pub use call_reader::read_call;
-pub use call_writer::{call_bytes, write_call};
+pub use call_writer::{the_bytes_of_a_call_are_bytes, write_call};
 pub use form::FormFault;
 pub use name::read_name;
 pub use number::{read_length, read_number, read_positive, read_time, read_u32, write_number};

@@ -7,23 +7,21 @@ use tree_specs::{Call, Name, Owner, ReportRow, RowKind};
 
 mod descriptors;
 
-// What is read of each text is written as this text.
-fn writes_again(rt: &impl Abort, alloc: Global, texts: &[&[u8]]) -> Result<(), Fail> {
-    for text in texts {
+// What is read of each line is written as this line.
+fn writes_again(rt: &impl Abort, alloc: Global, lines: &str) -> Result<(), Fail> {
+    for line in lines.lines() {
         let mut out = Vec::new(alloc);
-        let call = read_call(alloc, text)?;
+        let call = read_call(alloc, line.as_bytes())?;
         write_call(&call, &mut out)?;
-        assert_eq!(rt; out.as_slice(), *text);
+        assert_eq!(rt; out.as_slice(), line.as_bytes());
     }
     Ok(())
 }
 
-// No text is a call.
-fn reads_none(rt: &impl Abort, alloc: Global, texts: &[&[u8]]) {
-    for text in texts {
-        let call = read_call(alloc, text);
-        assert!(rt; matches!(call, Err(FormFault::NoForm)), "at {text:?}");
-    }
+// The text is no call.
+fn reads_none(rt: &impl Abort, alloc: Global, text: &str) {
+    let call = read_call(alloc, text.as_bytes());
+    assert!(rt; matches!(call, Err(FormFault::NoForm)), "at {text:?}");
 }
 
 #[test]
@@ -47,12 +45,21 @@ fn reads_numbers(rt: HostRuntime) {
     }
 }
 
+// From 0, as what a routine returns, and from 1, as a descriptor that was accepted.
 #[test]
-fn reads_what_a_routine_returns(rt: HostRuntime) {
-    assert_eq!(rt; read_u32(b"0"), Some(0));
-    assert_eq!(rt; read_u32(b"4294967295"), Some(4_294_967_295));
-    assert_eq!(rt; read_u32(b"4294967296"), None);
-    assert_eq!(rt; read_u32(b"01"), None);
+fn reads_numbers_of_32_bits(rt: HostRuntime) {
+    let greatest = Some(4_294_967_295);
+    let cases = [
+        ("0", Some(0), None),
+        ("1", Some(1), Some(1)),
+        ("4294967295", greatest, greatest),
+        ("4294967296", None, None),
+        ("01", None, None),
+    ];
+    for (text, from_0, from_1) in cases {
+        assert_eq!(rt; read_u32(text.as_bytes()), from_0, "at {text}");
+        assert_eq!(rt; read_positive(text.as_bytes()), from_1, "at {text}");
+    }
 }
 
 #[test]
@@ -65,12 +72,7 @@ fn reads_times(rt: HostRuntime) {
 }
 
 #[test]
-fn reads_numbers_from_1(rt: HostRuntime) {
-    assert_eq!(rt; read_positive(b"0"), None);
-    assert_eq!(rt; read_positive(b"1"), Some(1));
-    assert_eq!(rt; read_positive(b"4294967295"), Some(4_294_967_295));
-    assert_eq!(rt; read_positive(b"4294967296"), None);
-    assert_eq!(rt; read_positive(b"01"), None);
+fn reads_lengths(rt: HostRuntime) {
     assert_eq!(rt; read_length(b"0"), None);
     assert_eq!(rt; read_length(b"1"), Some(1));
     assert_eq!(rt; read_length(b"65536"), Some(65_536));
@@ -147,79 +149,83 @@ fn writes_the_root_as_zero(rt: HostRuntime) -> Result<(), Fail> {
     Ok(())
 }
 
+// Calls, as they are written.
+const CALLS: &str = "\
+new 7 10 a-b
+free 9
+freekids 9
+steal 7 9
+move 0 9
+reparent 7 0 9
+hook 1 16
+hook 18446744073709551615 4294967295
+unhook 1
+rename 9 a-b
+reference 7 9
+unlink 0 9
+resize 9 10
+limit 9 10
+parent 9
+sum 7
+total 0
+total 7
+count 0
+count 7
+report 0
+report 7
+pending
+now
+turn
+";
+
 #[test]
 fn writes_what_was_read(rt: HostRuntime) -> Result<(), Fail> {
-    let texts = [
-        b"new 7 10 a-b".as_slice(),
-        b"free 9".as_slice(),
-        b"freekids 9".as_slice(),
-        b"steal 7 9".as_slice(),
-        b"move 0 9".as_slice(),
-        b"reparent 7 0 9".as_slice(),
-        b"hook 1 16".as_slice(),
-        b"hook 18446744073709551615 4294967295".as_slice(),
-        b"unhook 1".as_slice(),
-        b"rename 9 a-b".as_slice(),
-        b"reference 7 9".as_slice(),
-        b"unlink 0 9".as_slice(),
-        b"resize 9 10".as_slice(),
-        b"limit 9 10".as_slice(),
-        b"parent 9".as_slice(),
-        b"sum 7".as_slice(),
-        b"total 0".as_slice(),
-        b"total 7".as_slice(),
-        b"count 0".as_slice(),
-        b"count 7".as_slice(),
-        b"report 0".as_slice(),
-        b"report 7".as_slice(),
-        b"pending".as_slice(),
-        b"now".as_slice(),
-        b"turn".as_slice(),
-    ];
-    writes_again(&rt, rt.alloc(), &texts)
+    writes_again(&rt, rt.alloc(), CALLS)
 }
+
+// Lines that are no call.
+const NO_CALLS: &str = "\
+free
+free 09
+free 9 9
+Free 9
+new 7 10
+new 7 10 a b
+new  7 10 a
+steal 9
+move 7 9 9
+reparent 7 9
+rename 9
+parent
+freekids
+freekids 9 9
+freekid 9
+total
+total 0 0
+count 07
+report
+report 7 0
+free 9x
+free x
+free 18446744073709551616
+freekids9
+steal 7  9
+hook 1
+hook 1 0
+hook 1 4294967296
+hook 1 016
+hook 1 16 2
+unhook 1 16
+";
 
 #[test]
 fn reads_no_call(rt: HostRuntime) {
-    let texts = [
-        b"".as_slice(),
-        b"free".as_slice(),
-        b"free 09".as_slice(),
-        b"free 9 ".as_slice(),
-        b"free 9 9".as_slice(),
-        b" free 9".as_slice(),
-        b"Free 9".as_slice(),
-        b"new 7 10".as_slice(),
-        b"new 7 10 a b".as_slice(),
-        b"new  7 10 a".as_slice(),
-        b"steal 9".as_slice(),
-        b"move 7 9 9".as_slice(),
-        b"reparent 7 9".as_slice(),
-        b"rename 9".as_slice(),
-        b"parent".as_slice(),
-        b"freekids".as_slice(),
-        b"freekids 9 9".as_slice(),
-        b"freekid 9".as_slice(),
-        b"total".as_slice(),
-        b"total 0 0".as_slice(),
-        b"count 07".as_slice(),
-        b"count 7 ".as_slice(),
-        b"report".as_slice(),
-        b"report 7 0".as_slice(),
-        b"free 9x".as_slice(),
-        b"free x".as_slice(),
-        b"free 18446744073709551616".as_slice(),
-        b"freekids9".as_slice(),
-        b"rename 9 ".as_slice(),
-        b"steal 7  9".as_slice(),
-        b"hook 1".as_slice(),
-        b"hook 1 0".as_slice(),
-        b"hook 1 4294967296".as_slice(),
-        b"hook 1 016".as_slice(),
-        b"hook 1 16 2".as_slice(),
-        b"unhook 1 16".as_slice(),
-    ];
-    reads_none(&rt, rt.alloc(), &texts);
+    for text in NO_CALLS.lines() {
+        reads_none(&rt, rt.alloc(), text);
+    }
+    for text in ["", "free 9 ", " free 9", "count 7 ", "rename 9 "] {
+        reads_none(&rt, rt.alloc(), text);
+    }
 }
 
 #[test]

@@ -1,9 +1,4 @@
-ghost use Rattle.destructors.specs.Engine.{IsAtRest};
-
 use super::World;
-use std::alloc::Global;
-use std::process::Abort;
-use std::test::Fail;
 use tree_specs::{FreeReply, FreeStep, Obj, Owner};
 
 fn left(x: u64, from: Owner) -> FreeStep {
@@ -27,92 +22,62 @@ fn moved(x: u64, from: Owner, owner: Owner) -> FreeStep {
 
 // 1 owns 2, which has a destructor.
 #[test]
-fn a_destructor_accepts(rt: HostRuntime) -> Result<(), Fail> {
+fn a_destructor_accepts(rt: HostRuntime) {
     let mut world = World::new(rt.alloc());
-    show_that_a_destructor_accepts(&rt, rt.alloc(), &mut world)
-}
-
-fn show_that_a_destructor_accepts(
-    rt: &impl Abort,
-    alloc: Global,
-    world: &mut World,
-) -> Result<(), Fail>
-    requires { IsAtRest world.old.tree world.old.refs }
-{
-    let top = world.add(rt, alloc, Owner::Root)?;
-    let child = world.add(rt, alloc, Owner::Of(top))?;
-    world.hook(rt, child);
-    world.free(rt, top)?;
+    let top = world.add(&rt, Owner::Root);
+    let child = world.add(&rt, Owner::Of(top));
+    world.hook(&rt, child);
+    world.free(&rt, top);
     assert_eq!(rt; world.lets_go(), Some(top));
-    assert_eq!(rt; world.event(rt), left(1, Owner::Root));
+    assert_eq!(rt; world.event(&rt), left(1, Owner::Root));
     assert_eq!(rt; world.lets_go(), None);
-    assert_eq!(rt; world.ask(rt, 0), child);
+    assert_eq!(rt; world.ask(&rt, 0), child);
     let accepted = FreeStep::Accepted(child);
-    assert_eq!(rt; world.event(rt), accepted);
-    assert_eq!(rt; world.event(rt), left(2, Owner::Of(top)));
-    assert_eq!(rt; world.event(rt), gone(2, 16));
-    assert_eq!(rt; world.event(rt), gone(1, 0));
-    assert_eq!(rt; world.done(rt), FreeReply::Ok);
+    assert_eq!(rt; world.event(&rt), accepted);
+    assert_eq!(rt; world.event(&rt), left(2, Owner::Of(top)));
+    assert_eq!(rt; world.event(&rt), gone(2, 16));
+    assert_eq!(rt; world.event(&rt), gone(1, 0));
+    assert_eq!(rt; world.done(&rt), FreeReply::Ok);
     assert!(rt; world.tree.is_empty());
-    Ok(())
+    drop(world);
 }
 
 // 1 owns 2, and 2 owns 3, which has a destructor.
 #[test]
-fn a_child_that_refuses_goes_to_its_heir(rt: HostRuntime) -> Result<(), Fail> {
+fn a_child_that_refuses_goes_to_its_heir(rt: HostRuntime) {
     let mut world = World::new(rt.alloc());
-    show_that_a_child_that_refuses_goes_to_its_heir(&rt, rt.alloc(), &mut world)
-}
-
-fn show_that_a_child_that_refuses_goes_to_its_heir(
-    rt: &impl Abort,
-    alloc: Global,
-    world: &mut World,
-) -> Result<(), Fail>
-    requires { IsAtRest world.old.tree world.old.refs }
-{
-    let top = world.add(rt, alloc, Owner::Root)?;
-    let middle = world.add(rt, alloc, Owner::Of(top))?;
-    let bottom = world.add(rt, alloc, Owner::Of(middle))?;
-    world.hook(rt, bottom);
-    world.free(rt, middle)?;
-    assert_eq!(rt; world.event(rt), left(2, Owner::Of(top)));
-    assert_eq!(rt; world.ask(rt, 7), bottom);
+    let top = world.add(&rt, Owner::Root);
+    let middle = world.add(&rt, Owner::Of(top));
+    let bottom = world.add(&rt, Owner::Of(middle));
+    world.hook(&rt, bottom);
+    world.free(&rt, middle);
+    assert_eq!(rt; world.event(&rt), left(2, Owner::Of(top)));
+    assert_eq!(rt; world.ask(&rt, 7), bottom);
     let refused = FreeStep::Refused {
         object: bottom,
         answer: 7,
     };
-    assert_eq!(rt; world.event(rt), refused);
+    assert_eq!(rt; world.event(&rt), refused);
     let to_heir = moved(3, Owner::Of(middle), Owner::Of(top));
-    assert_eq!(rt; world.event(rt), to_heir);
-    assert_eq!(rt; world.event(rt), gone(2, 0));
-    assert_eq!(rt; world.done(rt), FreeReply::Ok);
+    assert_eq!(rt; world.event(&rt), to_heir);
+    assert_eq!(rt; world.event(&rt), gone(2, 0));
+    assert_eq!(rt; world.done(&rt), FreeReply::Ok);
     assert_eq!(rt; world.tree.parent(bottom), Some(Owner::Of(top)));
     assert_eq!(rt; world.tree.len(), 2);
-    Ok(())
+    drop(world);
 }
 
 // The destructor of 1 frees 1.
 #[test]
-fn an_object_whose_destructor_runs_is_not_freed(rt: HostRuntime) -> Result<(), Fail> {
+fn an_object_whose_destructor_runs_is_not_freed(rt: HostRuntime) {
     let mut world = World::new(rt.alloc());
-    show_that_an_object_whose_destructor_runs_is_not_freed(&rt, rt.alloc(), &mut world)
-}
-
-fn show_that_an_object_whose_destructor_runs_is_not_freed(
-    rt: &impl Abort,
-    alloc: Global,
-    world: &mut World,
-) -> Result<(), Fail>
-    requires { IsAtRest world.old.tree world.old.refs }
-{
-    let top = world.add(rt, alloc, Owner::Root)?;
-    world.hook(rt, top);
-    world.free(rt, top)?;
-    world.nest(rt, top)?;
+    let top = world.add(&rt, Owner::Root);
+    world.hook(&rt, top);
+    world.free(&rt, top);
+    world.nest(&rt, top);
     assert!(rt; !world.announces());
-    let answer = world.done(rt);
+    let answer = world.done(&rt);
     assert_eq!(rt; answer, FreeReply::Running);
     assert_eq!(rt; world.tree.parent(top), Some(Owner::Root));
-    Ok(())
+    drop(world);
 }

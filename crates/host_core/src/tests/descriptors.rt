@@ -138,51 +138,56 @@ fn comes(rt: &impl Abort, alloc: Global, host: &mut Host, fd: u32, number: u64) 
 #[test]
 fn a_handler_reads_and_writes(rt: HostRuntime) -> Result<(), Fail> {
     let mut host = Host::new(rt.alloc(), 1)?;
-    read_and_write(&rt, rt.alloc(), &mut host);
-    Ok(())
-}
-
-fn read_and_write(rt: &impl Abort, alloc: Global, host: &mut Host) {
-    connects(rt, host, 1, 1);
-    comes(rt, alloc, host, 1, 1);
-    leads(rt, host, act(read(1)), &[], &Ask::Read(1, 4));
-    let told = Event::Replied(told_bytes(rt, alloc, "hi"));
-    let asked = moment(1, 1, Some(told_bytes(rt, alloc, "hi")));
-    leads(rt, host, got(rt, alloc, "hi"), &[told], &asked);
-    let call = act(write(rt, alloc, 1, "hello"));
+    connects(&rt, &mut host, 1, 1);
+    comes(&rt, rt.alloc(), &mut host, 1, 1);
+    leads(&rt, &mut host, act(read(1)), &[], &Ask::Read(1, 4));
+    let told = Event::Replied(told_bytes(&rt, rt.alloc(), "hi"));
+    let asked = moment(1, 1, Some(told_bytes(&rt, rt.alloc(), "hi")));
+    leads(&rt, &mut host, got(&rt, rt.alloc(), "hi"), &[told], &asked);
+    let call = act(write(&rt, rt.alloc(), 1, "hello"));
     leads(
-        rt,
-        host,
+        &rt,
+        &mut host,
         call,
         &[],
-        &Ask::Write(1, bytes_of(rt, alloc, "hello")),
+        &Ask::Write(1, bytes_of(&rt, rt.alloc(), "hello")),
     );
     let asked = moment(1, 2, Some(Reply::Number(3)));
-    leads(rt, host, Input::Wrote(3), &[told_number(3)], &asked);
-    leads(rt, host, ret(0), &[told_number(1)], &Ask::Quiet);
-    tells(rt, host, free(1), &[freed(1), Event::Replied(Reply::Ok)]);
+    leads(&rt, &mut host, Input::Wrote(3), &[told_number(3)], &asked);
+    leads(&rt, &mut host, ret(0), &[told_number(1)], &Ask::Quiet);
     tells(
-        rt,
-        host,
+        &rt,
+        &mut host,
+        free(1),
+        &[freed(1), Event::Replied(Reply::Ok)],
+    );
+    tells(
+        &rt,
+        &mut host,
         close(1),
         &[Event::Closed(1), Event::Replied(Reply::Ok)],
     );
     assert!(rt; !host.is_open(1), "it is closed");
+    drop(host);
+    Ok(())
 }
 
 #[test]
 fn a_descriptor_that_is_open_is_not_accepted_again(rt: HostRuntime) -> Result<(), Fail> {
     let mut host = Host::new(rt.alloc(), 1)?;
-    accept_again(&rt, &mut host);
-    Ok(())
-}
-
-fn accept_again(rt: &impl Abort, host: &mut Host) {
-    connects(rt, host, 7, 1);
-    leads(rt, host, accept(), &[], &Ask::Accept(0));
+    connects(&rt, &mut host, 7, 1);
+    leads(&rt, &mut host, accept(), &[], &Ask::Accept(0));
     assert_eq!(rt; host.offer(Input::Took(7)), Err(OfferFault::Taken(7)));
-    waits(rt, host, &Ask::Accept(0));
-    leads(rt, host, Input::Took(8), &[told_number(8)], &Ask::Quiet);
+    waits(&rt, &mut host, &Ask::Accept(0));
+    leads(
+        &rt,
+        &mut host,
+        Input::Took(8),
+        &[told_number(8)],
+        &Ask::Quiet,
+    );
+    drop(host);
+    Ok(())
 }
 
 // The descriptors are looked at in this order.
@@ -195,20 +200,17 @@ fn looks(rt: &impl Abort, alloc: Global, host: &Host, order: &[Want]) {
 #[test]
 fn the_descriptor_that_has_come_is_looked_at_last(rt: HostRuntime) -> Result<(), Fail> {
     let mut host = Host::new(rt.alloc(), 1)?;
-    look_in_turn(&rt, rt.alloc(), &mut host);
-    Ok(())
-}
-
-fn look_in_turn(rt: &impl Abort, alloc: Global, host: &mut Host) {
-    connects(rt, host, 1, 1);
-    connects(rt, host, 2, 2);
+    connects(&rt, &mut host, 1, 1);
+    connects(&rt, &mut host, 2, 2);
     let first = Want { fd: 1, flags: 1 };
     let second = Want { fd: 2, flags: 1 };
-    looks(rt, alloc, host, &[first, second]);
-    comes(rt, alloc, host, 1, 1);
-    looks(rt, alloc, host, &[second, first]);
-    leads(rt, host, ret(0), &[told_number(1)], &Ask::Quiet);
-    looks(rt, alloc, host, &[second, first]);
+    looks(&rt, rt.alloc(), &host, &[first, second]);
+    comes(&rt, rt.alloc(), &mut host, 1, 1);
+    looks(&rt, rt.alloc(), &host, &[second, first]);
+    leads(&rt, &mut host, ret(0), &[told_number(1)], &Ask::Quiet);
+    looks(&rt, rt.alloc(), &host, &[second, first]);
+    drop(host);
+    Ok(())
 }
 
 #[test]

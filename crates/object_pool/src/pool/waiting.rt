@@ -5,9 +5,8 @@ ghost use Rattle.tree_specs.specs.Tree.Pool.{is_owner, set_handler as handled, s
 ghost use Rattle.tree_specs.specs.Calls.Refusals.{row_limit};
 ghost use Rattle.tree_specs.specs.Calls.Plans.{adds_timer, changed_by};
 
-use crate::counting::count_added;
+use crate::counting::add_row;
 use crate::pool::ObjectPool;
-use tree_links::NewRow;
 use tree_specs::{Handler, Kind, Name, Obj, Owner};
 
 impl ObjectPool {
@@ -40,13 +39,8 @@ impl ObjectPool {
     {
         self.ready = false;
         self.places = false;
-        let timer = NewRow {
-            kind: Kind::Timer,
-            name: Name::fixed(b"timer"),
-            size: 0,
-        };
-        let timer = self.tree.add(timer, owner);
-        count_added(timer, &self.tree, &mut self.sums);
+        let name = Name::fixed(b"timer");
+        let timer = add_row(Kind::Timer, name, 0, owner, &mut self.tree, &mut self.sums);
         self.events.arm(timer, time, handler);
         timer
     }

@@ -5,9 +5,8 @@ ghost use Rattle.tree_specs.specs.Events.Rotation.{is_watched, flags_of, flagged
 ghost use Rattle.tree_specs.specs.Calls.Refusals.{is_open, row_limit};
 ghost use Rattle.tree_specs.specs.Calls.Plans.{adds_descriptor, changed_by};
 
-use crate::counting::count_added;
+use crate::counting::add_row;
 use crate::pool::ObjectPool;
-use tree_links::NewRow;
 use tree_specs::{Handler, Kind, Memory, Name, Obj, Owner, Want};
 
 impl ObjectPool {
@@ -25,13 +24,15 @@ impl ObjectPool {
     {
         self.ready = false;
         self.places = false;
-        let event = NewRow {
-            kind: Kind::Descriptor,
-            name: Name::fixed(b"fd"),
-            size: 0,
-        };
-        let event = self.tree.add(event, owner);
-        count_added(event, &self.tree, &mut self.sums);
+        let name = Name::fixed(b"fd");
+        let event = add_row(
+            Kind::Descriptor,
+            name,
+            0,
+            owner,
+            &mut self.tree,
+            &mut self.sums,
+        );
         self.events.watch(event, fd, flags, handler);
         event
     }

@@ -59,60 +59,61 @@ fn reads_what_descriptors_answer(rt: HostRuntime) -> Result<(), Fail> {
     Ok(())
 }
 
+// The bytes that were read, or that a routine writes to descriptor 6.
+fn bytes_in(input: &Input) -> Option<&[u8]> {
+    match input {
+        Input::Got(bytes) => Some(bytes.as_slice()),
+        Input::Act(Act::Do(Call::Write { fd: 6, bytes })) => Some(bytes.as_slice()),
+        _ => None,
+    }
+}
+
 #[test]
-fn reads_what_was_got(rt: HostRuntime) -> Result<(), Fail> {
-    match &read_line(rt.alloc(), b"got 3120390a")? {
-        Input::Got(bytes) => assert_eq!(rt; bytes.as_slice(), b"1 9\n".as_slice()),
-        _ => assert!(rt; false, "another input"),
+fn reads_bytes(rt: HostRuntime) -> Result<(), Fail> {
+    let cases = [
+        (b"got 3120390a".as_slice(), b"1 9\n".as_slice()),
+        (b"act write 6 0aff".as_slice(), b"\x0a\xff".as_slice()),
+    ];
+    for (line, want) in cases {
+        let input = read_line(rt.alloc(), line)?;
+        assert_eq!(rt; bytes_in(&input), Some(want), "at {line:?}");
     }
     Ok(())
 }
 
-#[test]
-fn reads_an_act_of_write(rt: HostRuntime) -> Result<(), Fail> {
-    match &read_line(rt.alloc(), b"act write 6 0aff")? {
-        Input::Act(Act::Do(Call::Write { fd, bytes })) => {
-            assert_eq!(rt; *fd, 6);
-            assert_eq!(rt; bytes.as_slice(), b"\x0a\xff".as_slice());
-        }
-        _ => assert!(rt; false, "another input"),
-    }
-    Ok(())
-}
+// Lines that are no answer.
+const NO_ANSWERS: &str = "\
+took
+took 0
+took 06
+took 4294967296
+took 6 7
+again 6
+agai
+Again
+faults
+got
+got 0
+got 0A
+got 0g
+got  00
+got 00 11
+end quiet
+wrote
+wrote 0
+wrote 01
+wrote 65537
+act again
+";
 
 #[test]
 fn reads_no_answer(rt: HostRuntime) {
-    let lines = [
-        b"took".as_slice(),
-        b"took ".as_slice(),
-        b"took 0".as_slice(),
-        b"took 06".as_slice(),
-        b"took 4294967296".as_slice(),
-        b"took 6 ".as_slice(),
-        b"took 6 7".as_slice(),
-        b"again ".as_slice(),
-        b"again 6".as_slice(),
-        b"again\n".as_slice(),
-        b"agai".as_slice(),
-        b"Again".as_slice(),
-        b"fault ".as_slice(),
-        b"faults".as_slice(),
-        b"got".as_slice(),
-        b"got ".as_slice(),
-        b"got 0".as_slice(),
-        b"got 0A".as_slice(),
-        b"got 0g".as_slice(),
-        b"got 00 ".as_slice(),
-        b"got  00".as_slice(),
-        b"got 00 11".as_slice(),
-        b"end ".as_slice(),
-        b"end quiet".as_slice(),
-        b"wrote".as_slice(),
-        b"wrote ".as_slice(),
-        b"wrote 0".as_slice(),
-        b"wrote 01".as_slice(),
-        b"wrote 65537".as_slice(),
-        b"act again".as_slice(),
-    ];
-    reads_none(&rt, rt.alloc(), &lines);
+    for line in NO_ANSWERS.lines() {
+        reads_none(&rt, rt.alloc(), line);
+    }
+    for line in [
+        "took ", "took 6 ", "again ", "again\n", "fault ", "got ", "got 00 ", "end ", "wrote ",
+    ] {
+        reads_none(&rt, rt.alloc(), line);
+    }
 }

@@ -26,41 +26,43 @@ fn reads_a_call_of_new(rt: HostRuntime) -> Result<(), Fail> {
     Ok(())
 }
 
+// Inputs, as they are written.
+const INPUTS: &str = "\
+call new 7 10 a-b
+call hook 1 16
+call unhook 1
+act new 7 10 a-b
+act free 9
+act freekids 9
+act steal 7 9
+act move 0 9
+act reparent 7 0 9
+act hook 1 4294967295
+act unhook 1
+act rename 9 a-b
+act parent 9
+act total 0
+act count 7
+act report 0
+ret 0
+ret 4294967295
+call now
+act turn
+clock 0
+clock 4611686018427387904
+ready
+ready 3:1 5:3
+ready 0:2 4294967295:1
+";
+
 #[test]
 fn writes_what_was_read(rt: HostRuntime) -> Result<(), Fail> {
-    let lines = [
-        b"call new 7 10 a-b".as_slice(),
-        b"call hook 1 16".as_slice(),
-        b"call unhook 1".as_slice(),
-        b"act new 7 10 a-b".as_slice(),
-        b"act free 9".as_slice(),
-        b"act freekids 9".as_slice(),
-        b"act steal 7 9".as_slice(),
-        b"act move 0 9".as_slice(),
-        b"act reparent 7 0 9".as_slice(),
-        b"act hook 1 4294967295".as_slice(),
-        b"act unhook 1".as_slice(),
-        b"act rename 9 a-b".as_slice(),
-        b"act parent 9".as_slice(),
-        b"act total 0".as_slice(),
-        b"act count 7".as_slice(),
-        b"act report 0".as_slice(),
-        b"ret 0".as_slice(),
-        b"ret 4294967295".as_slice(),
-        b"call now".as_slice(),
-        b"act turn".as_slice(),
-        b"clock 0".as_slice(),
-        b"clock 4611686018427387904".as_slice(),
-        b"ready".as_slice(),
-        b"ready 3:1 5:3".as_slice(),
-        b"ready 0:2 4294967295:1".as_slice(),
-    ];
-    for line in lines {
+    for line in INPUTS.lines() {
         let mut out = Vec::new(rt.alloc());
-        let input = read_line(rt.alloc(), line)?;
+        let input = read_line(rt.alloc(), line.as_bytes())?;
         write_input(&input, &mut out)?;
         assert_eq!(rt; out.pop(), Some(b'\n'), "at {line:?}");
-        assert_eq!(rt; out.as_slice(), line);
+        assert_eq!(rt; out.as_slice(), line.as_bytes());
     }
     Ok(())
 }
@@ -140,50 +142,58 @@ fn reads_a_call_of_free(rt: HostRuntime) -> Result<(), Fail> {
     Ok(())
 }
 
+// Lines that are no input.
+const NO_INPUTS: &str = "\
+call
+call fre
+call  free 9
+Call free 9
+free 9
+call ret 0
+act
+act free 9 9
+act hook 1 0
+act call free 9
+act ret 0
+ret
+ret 01
+ret 4294967296
+ret 0 0
+ret free 9
+call now 0
+clock
+clock 01
+clock 0 0
+clock 4611686018427387905
+ready 5:1 3:1
+ready 3:1 3:2
+ready 3:0
+ready 3:4
+ready 3
+ready 3:
+ready :1
+ready 3:1:1
+ready  3:1
+ready 03:1
+ready3:1
+ready 4294967296:1
+";
+
 #[test]
 fn reads_no_line(rt: HostRuntime) {
-    let lines = [
-        b"".as_slice(),
-        b"call".as_slice(),
-        b"call ".as_slice(),
-        b"call fre".as_slice(),
-        b"call free 9\n".as_slice(),
-        b"call  free 9".as_slice(),
-        b"Call free 9".as_slice(),
-        b"free 9".as_slice(),
-        b"call ret 0".as_slice(),
-        b"act".as_slice(),
-        b"act free 9 9".as_slice(),
-        b"act hook 1 0".as_slice(),
-        b"act call free 9".as_slice(),
-        b"act ret 0".as_slice(),
-        b"ret".as_slice(),
-        b"ret 01".as_slice(),
-        b"ret 4294967296".as_slice(),
-        b"ret 0 0".as_slice(),
-        b"ret free 9".as_slice(),
-        b"call now 0".as_slice(),
-        b"clock".as_slice(),
-        b"clock ".as_slice(),
-        b"clock 01".as_slice(),
-        b"clock 0 0".as_slice(),
-        b"clock 4611686018427387905".as_slice(),
-        b"ready ".as_slice(),
-        b"ready 5:1 3:1".as_slice(),
-        b"ready 3:1 3:2".as_slice(),
-        b"ready 3:0".as_slice(),
-        b"ready 3:4".as_slice(),
-        b"ready 3".as_slice(),
-        b"ready 3:".as_slice(),
-        b"ready :1".as_slice(),
-        b"ready 3:1:1".as_slice(),
-        b"ready  3:1".as_slice(),
-        b"ready 3:1 ".as_slice(),
-        b"ready 03:1".as_slice(),
-        b"ready3:1".as_slice(),
-        b"ready 4294967296:1".as_slice(),
-    ];
-    reads_none(&rt, rt.alloc(), &lines);
+    for line in NO_INPUTS.lines() {
+        reads_none(&rt, rt.alloc(), line);
+    }
+    for line in [
+        "",
+        "call ",
+        "call free 9\n",
+        "clock ",
+        "ready ",
+        "ready 3:1 ",
+    ] {
+        reads_none(&rt, rt.alloc(), line);
+    }
 }
 
 #[test]

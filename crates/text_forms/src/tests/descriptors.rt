@@ -104,53 +104,60 @@ fn reads_what_is_written(rt: HostRuntime) -> Result<(), Fail> {
     Ok(())
 }
 
+// Calls on descriptors, as they are written.
+const CALLS: &str = "\
+fd 0 0 0 1 0
+fd 18446744073709551615 4294967295 3 4294967295 18446744073709551615
+flags 9 0
+flags 9 3
+getflags 9
+autoclose 9
+close 0
+accept 4294967295
+read 0 1
+read 5 65536
+write 5 00
+";
+
 #[test]
 fn writes_what_was_read(rt: HostRuntime) -> Result<(), Fail> {
-    let texts = [
-        b"fd 0 0 0 1 0".as_slice(),
-        b"fd 18446744073709551615 4294967295 3 4294967295 18446744073709551615".as_slice(),
-        b"flags 9 0".as_slice(),
-        b"flags 9 3".as_slice(),
-        b"getflags 9".as_slice(),
-        b"autoclose 9".as_slice(),
-        b"close 0".as_slice(),
-        b"accept 4294967295".as_slice(),
-        b"read 0 1".as_slice(),
-        b"read 5 65536".as_slice(),
-        b"write 5 00".as_slice(),
-    ];
-    writes_again(&rt, rt.alloc(), &texts)
+    writes_again(&rt, rt.alloc(), CALLS)
 }
+
+// Lines that are no call on a descriptor.
+const NO_CALLS: &str = "\
+fd 0 5 1 16
+fd 0 5 1 16 0 0
+fd 0 5 4 16 0
+fd 0 5 1 0 0
+fd 0 4294967296 1 16 0
+flags 9
+flags 9 4
+flags 9 03
+getflags
+getflags 9 1
+autoclose 9 0
+close
+close 4294967296
+accept 5 5
+read 5
+read 5 0
+read 5 65537
+write 5
+write 5 0
+write 5 0A
+write 5 0g
+write 5 00 11
+write 00
+write  00
+";
 
 #[test]
 fn reads_no_call(rt: HostRuntime) {
-    let texts = [
-        b"fd 0 5 1 16".as_slice(),
-        b"fd 0 5 1 16 0 0".as_slice(),
-        b"fd 0 5 4 16 0".as_slice(),
-        b"fd 0 5 1 0 0".as_slice(),
-        b"fd 0 4294967296 1 16 0".as_slice(),
-        b"flags 9".as_slice(),
-        b"flags 9 4".as_slice(),
-        b"flags 9 03".as_slice(),
-        b"getflags".as_slice(),
-        b"getflags 9 1".as_slice(),
-        b"autoclose 9 0".as_slice(),
-        b"close".as_slice(),
-        b"close 4294967296".as_slice(),
-        b"accept 5 5".as_slice(),
-        b"read 5".as_slice(),
-        b"read 5 0".as_slice(),
-        b"read 5 65537".as_slice(),
-        b"write 5".as_slice(),
-        b"write 5 ".as_slice(),
-        b"write 5 0".as_slice(),
-        b"write 5 0A".as_slice(),
-        b"write 5 0g".as_slice(),
-        b"write 5 00 ".as_slice(),
-        b"write 5 00 11".as_slice(),
-        b"write 00".as_slice(),
-        b"write  00".as_slice(),
-    ];
-    reads_none(&rt, rt.alloc(), &texts);
+    for text in NO_CALLS.lines() {
+        reads_none(&rt, rt.alloc(), text);
+    }
+    for text in ["write 5 ", "write 5 00 "] {
+        reads_none(&rt, rt.alloc(), text);
+    }
 }

@@ -1,4 +1,4 @@
-use Rattle.std.proofs.Common.{◌≡◌, Option, is_some, sym, ap, ◌∙◌}
+use Rattle.std.proofs.Common.{is_some, sym, ap, ◌∙◌}
 use Rattle.destructors.specs.Frees.{frees_of, next_of, is_event, speaking}
 use Rattle.object_pool.specs.Objects.{Objects, frees_in}
 use Rattle.object_pool.proofs.Announcing.{lets-go, lets-none-go, told-beside}
