@@ -3,18 +3,31 @@ ghost use Rattle.std.specs.Prelude.{◌≡◌, ◌≤◌, None};
 ghost use Rattle.tree_specs.specs.Tree.Pool.{row_of, first_kid, owner_of, target_at, newest_ref_of};
 ghost use Rattle.tree_specs.specs.Tree.Targets.{newest_ref};
 ghost use Rattle.tree_specs.specs.declared.object.Owner.TheVariants.{Of as below};
-ghost use Rattle.tree_specs.specs.declared.frame.FreeFrame.TheVariants.{Looping as Loops};
+ghost use Rattle.tree_specs.specs.declared.frame.FreeFrame.TheVariants.{Beginning, Looping as Loops};
+ghost use Rattle.tree_specs.specs.Tree.Pool.{Pool as PoolData};
+ghost use Rattle.destructors.specs.declared.motion.Motion.TheVariants.{Goes};
 ghost use Rattle.tree_specs.specs.Machine.FreeTable.{free_step, begin_step, begin_quiet, refs_step, unlink_step, release_step, judge_step, last_step, child_step, loop_step, hand_on_step};
 ghost use Rattle.tree_links.specs.Links.{pool_of, works_of, MayPlace};
 ghost use Rattle.references.specs.Rows.{AreRefsOf, SameRefs};
-ghost use Rattle.destructors.specs.Moves.{move_of, outlook_of, IsLiveRow, MayHandOn, MoveRests};
+ghost use Rattle.destructors.specs.Moves.{move_of, outlook_of, entered, IsLiveRow, MayHandOn, MoveRests};
 
 use crate::dropping::{drop_ref, hold, noted_owner, release, unlink};
 use crate::heir::heir;
 use crate::motion::{Motion, Outlook};
 use references::Refs;
 use tree_links::Tree;
-use tree_specs::{FreeFrame, FreeReply, FreeStep, Mark, Obj, Owner, Purpose};
+use tree_specs::{FreeFrame, FreeReply, FreeStep, Kind, Mark, Obj, Owner, Purpose};
+
+/// What the freeing of a quiet object begins with: a request is received, and an object with a destructor is asked.
+fn first_work(x: Obj, kind: Kind, hook: u32) -> FreeFrame
+    ensures { (pool : PoolData) → begin_quiet x kind hook pool ≡ move_of (Goes result) (entered (Beginning x) result pool) }
+{
+    match kind {
+        Kind::Request => FreeFrame::Preparing { x },
+        _ if hook == 0 => FreeFrame::Leaving { x, hook },
+        _ => FreeFrame::Hooked { x, hook },
+    }
+}
 
 /// The freeing of an object to which there is no reference begins.
 fn begin(x: Obj, tree: &mut Tree) -> Motion
@@ -26,12 +39,13 @@ fn begin(x: Obj, tree: &mut Tree) -> Motion
     let Some(row) = tree.row(x) else {
         return Motion::Ends(FreeReply::Ok);
     };
-    let hook = row.hook;
+    let next = first_work(x, row.kind, row.hook);
     match row.mark {
-        Mark::Quiet if hook == 0 => Motion::Goes(FreeFrame::Leaving { x, hook }),
         Mark::Quiet => {
-            tree.set_mark(x, Mark::Asked);
-            Motion::Goes(FreeFrame::Hooked { x, hook })
+            if !matches!(next, FreeFrame::Leaving { .. }) {
+                tree.set_mark(x, Mark::Asked);
+            }
+            Motion::Goes(next)
         }
         Mark::Asked | Mark::Doomed => Motion::Ends(FreeReply::Running),
         Mark::Busy => {
@@ -76,6 +90,18 @@ fn begin_free(x: Obj, tree: &mut Tree, refs: &mut Refs) -> Motion
         Some(reference) => hold(x, reference, tree, refs),
         None => begin(x, tree),
     }
+}
+
+/// A request was received, and is quiet again before it leaves its owner.
+fn go_on(x: Obj, tree: &mut Tree) -> Motion
+    requires { IsLiveRow (pool_of tree.old) x }
+    ensures moved { move_of result (pool_of tree.new) ≡ free_step (FreeFrame.Prepared x) (pool_of tree.old) }
+    ensures spare { tree.old.spare ≤ tree.new.spare }
+    ensures works { works_of tree.new ≡ works_of tree.old }
+    ensures same_refs { SameRefs tree.old.rows tree.new.rows }
+{
+    tree.set_mark(x, Mark::Quiet);
+    Motion::Goes(FreeFrame::Leaving { x, hook: 0 })
 }
 
 fn leave(x: Obj, hook: u32, tree: &mut Tree) -> Motion
@@ -215,8 +241,10 @@ pub fn move_once(work: FreeFrame, tree: &mut Tree, refs: &mut Refs) -> Motion
         FreeFrame::Releasing { x } => release(x, tree, refs),
         FreeFrame::Giving { x, owner } => give(x, owner, tree),
         FreeFrame::Beginning { x } => begin_free(x, tree, refs),
-        FreeFrame::Hooked { x, .. } => Motion::Asks(x, work),
+        FreeFrame::Hooked { x, .. } => Motion::Waits(FreeStep::Ask(x), work),
         FreeFrame::Judged { x, hook, value } => judge(x, hook, value, tree),
+        FreeFrame::Preparing { x } => Motion::Waits(FreeStep::Prepare(x), work),
+        FreeFrame::Prepared { x } => go_on(x, tree),
         FreeFrame::Dooming { .. } => Motion::Ends(FreeReply::Running),
         FreeFrame::Leaving { x, hook } => leave(x, hook, tree),
         FreeFrame::Looping { x, purpose } => look(x, purpose, tree, refs),
@@ -249,10 +277,8 @@ fn outlook_of_begin(x: Obj, tree: &Tree, refs: &Refs) -> Outlook
     let Some(row) = tree.row(x) else {
         return Outlook::Ending(FreeReply::Ok);
     };
-    let hook = row.hook;
     match row.mark {
-        Mark::Quiet if hook == 0 => Outlook::Going(FreeFrame::Leaving { x, hook }),
-        Mark::Quiet => Outlook::Going(FreeFrame::Hooked { x, hook }),
+        Mark::Quiet => Outlook::Going(first_work(x, row.kind, row.hook)),
         Mark::Asked | Mark::Doomed => Outlook::Ending(FreeReply::Running),
         Mark::Busy => Outlook::Telling,
         Mark::Dying(_) => Outlook::Ending(FreeReply::Ok),
@@ -337,8 +363,10 @@ pub fn outlook(work: FreeFrame, tree: &Tree, refs: &Refs) -> Outlook
         FreeFrame::Beginning { x } => outlook_of_begin(x, tree, refs),
         FreeFrame::Giving { .. }
         | FreeFrame::Hooked { .. }
+        | FreeFrame::Preparing { .. }
         | FreeFrame::Judged { .. }
         | FreeFrame::Leaving { .. } => Outlook::Telling,
+        FreeFrame::Prepared { x } => Outlook::Going(FreeFrame::Leaving { x, hook: 0 }),
         FreeFrame::Looping { x, purpose } => outlook_of_loop(x, purpose, tree, refs),
         FreeFrame::AfterChild {
             x,

@@ -3,7 +3,8 @@ use Rattle.tree_specs.specs.Tree.Pool.{Pool}
 use Rattle.references.specs.Rows.{AreRefsOf}
 use Rattle.tree_links.specs.Links.{pool_of}
 use Rattle.destructors.specs.Frees.{before, frees_of, Begins}
-use Rattle.destructors.proofs.Begins.{begins, begun, begun-room}
+use Rattle.destructors.proofs.Hosting.{begins}
+use Rattle.destructors.proofs.Begins.{begun, begun-room, waits-room}
 use Rattle.destructors.proofs.Counting.{silent-rows}
 use Rattle.destructors.proofs.engine.FreeEngine.begin.Goals as goal
 
@@ -30,5 +31,8 @@ returns c =
       places = search rules;
       same =
           (silent-rows (record { works = c.args.work ∷ before c.args.self.now c.args.tree.now.frees; pool = pool_of c.args.tree.now }) _
-          (begins c.args.work (frees_of c.args.self.now c.args.tree.now) c.requires.first c.requires.awaiting) begun_so.moves_on).1;
+          (begins c.args.work (before c.args.self.now c.args.tree.now.frees) (pool_of c.args.tree.now) c.requires.first c.requires.awaiting) begun_so.moves_on).1;
     }
+
+pub wait-requires : goal.wait-requires
+wait-requires c = waits-room c.args.work c.self.inside.innermost c.args.tree.now c.requires.room
