@@ -213,6 +213,10 @@ pub record MayBePlaced (p : Pool) (o : Owner) (x : Obj) : Type 0 where
 abbrev pub IsGivenUp : Obj → Footing → Pool → Type 0
 IsGivenUp x on p = IsCalled on × (r : Row) × (row_of p.rows x ≡ Some r) × IsLive r.mark × (target_of r.kind ≡ None)
 
+-- where a request is still to be received, its row is there
+abbrev pub MayReceive : Obj → Pool → Type 0
+MayReceive x p = is_unreceived (note_of p.requests x) ≡ true → (r : Row) × (row_of p.rows x ≡ Some r)
+
 -- what the innermost free rests on, by what it stands on and what the works below it claim
 abbrev pub FreeRests : FreeFrame → Footing → (Obj → List Phase) → Pool → Type 0
 FreeRests (Unlinking o x) on claimed p = IsGivenUp x on p
@@ -221,7 +225,7 @@ FreeRests (Giving x o) on claimed p = MayBePlaced p o x
 FreeRests (Beginning x) on claimed p = Tries x on p × (target_at p.rows x ≡ None)
 FreeRests (Hooked x h) on claimed p = (0 < h) × HasHook (row_of p.rows x) h
 FreeRests (Judged x h v) on claimed p = 0 < h
-FreeRests (Preparing x) on claimed p = is_unreceived (note_of p.requests x) ≡ true
+FreeRests (Preparing x) on claimed p = MayReceive x p
 FreeRests (Prepared x) on claimed p = Unit {0}
 FreeRests (Dooming x) on claimed p = Tries x on p × (newest_ref p.rows x ≡ None)
 FreeRests (Leaving x h) on claimed p = (r : Row) × (row_of p.rows x ≡ Some r) × IsLive r.mark × (claimed x ≡ []) × (target_of r.kind ≡ None) × (newest_ref p.rows x ≡ None)
@@ -238,13 +242,9 @@ TurnRests (Clearing x) on p = ⊥
 TurnRests (Serving x) on p = ⊥
 TurnRests f on p = IsTurned on
 
--- a row of a request that is still to be received
-abbrev pub IsToReceive : Obj → Pool → Type 0
-IsToReceive x p = (is_unreceived (note_of p.requests x) ≡ true) × (r : Row) × (row_of p.rows x ≡ Some r)
-
 -- the work of a request is for what waits for it
 abbrev pub RequestRests : RequestFrame → Footing → Pool → Type 0
-RequestRests (request.Receiving x) on p = IsRequested on × IsToReceive x p
+RequestRests (request.Receiving x) on p = IsRequested on × MayReceive x p
 RequestRests (request.Releasing c) on p = ⊥
 RequestRests f on p = IsRequested on
 
