@@ -22,7 +22,6 @@ use Rattle.tree_specs.specs.declared.free_step.FreeReply.TheVariants.{Ok, Held, 
 use Rattle.tree_specs.specs.Words.Objects.{same}
 use Rattle.tree_specs.specs.Tree.Targets.{target_of, newest_ref}
 use Rattle.tree_specs.specs.Tree.Pool.{Pool, row_of, owner_of, target_at, noted_owner, is_owner, is_inside}
-use Rattle.tree_specs.specs.Events.Requests.{note_of, is_unreceived}
 use Rattle.tree_specs.specs.Calls.Refusals.{is_referable}
 use Rattle.tree_specs.specs.Tree.Forest.{IsForest}
 use Rattle.tree_specs.specs.Machine.Profiles.{Phase, Claim, former_in, phase_in, Waits, Never, AFree, ARun, AChild, ATurn, AHandler, AClear, ARequest, AReceived, AServed, ARoutine, ARelease, profile}
@@ -213,9 +212,9 @@ pub record MayBePlaced (p : Pool) (o : Owner) (x : Obj) : Type 0 where
 abbrev pub IsGivenUp : Obj → Footing → Pool → Type 0
 IsGivenUp x on p = IsCalled on × (r : Row) × (row_of p.rows x ≡ Some r) × IsLive r.mark × (target_of r.kind ≡ None)
 
--- where a request is still to be received, its row is there
+-- the row of a request that is received is there, whether it was received before or not
 abbrev pub MayReceive : Obj → Pool → Type 0
-MayReceive x p = is_unreceived (note_of p.requests x) ≡ true → (r : Row) × (row_of p.rows x ≡ Some r)
+MayReceive x p = (r : Row) × (row_of p.rows x ≡ Some r)
 
 -- what the innermost free rests on, by what it stands on and what the works below it claim
 abbrev pub FreeRests : FreeFrame → Footing → (Obj → List Phase) → Pool → Type 0
