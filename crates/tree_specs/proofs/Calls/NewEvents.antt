@@ -24,7 +24,7 @@ use Rattle.tree_specs.proofs.Calls.Checks.{all-pass}
 use Rattle.tree_specs.proofs.Invariants.Notes.{settled}
 use Rattle.tree_specs.specs.Events.Rotation.{is_watching}
 use Rattle.tree_specs.specs.Calls.Refusals.{Check, tests, refusals, refuse_if, in_state, is_finished, is_doomed_mark, is_doomed, is_request_row}
-use Rattle.tree_specs.specs.Calls.Plans.{Change, Plan, changed_by, plan, planned, unless_refused, frees, handed, gift, receives}
+use Rattle.tree_specs.specs.Calls.Plans.{Change, Plan, changed_by, plan, planned, unless_refused, frees, handed, gift}
 use Rattle.tree_specs.specs.Calls.Plans.Change.{Watches, Schedule, Arm, Then}
 use Rattle.tree_specs.specs.Calls.Plans.Plan.{Does, Works}
 use Rattle.tree_specs.proofs.Tree.Numbered.{by_test, same-equal}
@@ -84,10 +84,6 @@ module _ (p : Pool) (new : is_watching p.ring (record { 0 = p.next }) ≡ false)
   given to None = tt
   given to (Some x) = tt
 
-  received : (x : Obj) (o : Option Note) → OnlyNew p (receives x o)
-  received x None = tt
-  received x (Some n) = by_test (is_received n.state) (λ t. rw t tt) (λ t. rw t tt)
-
   each : (c : Call) → AllPassed p (tests c) → OnlyNew p (plan p c)
   each (call.Free x) h = freed x (newest_ref p.rows x)
   each (call.Reparent from to x) h = given to (gift p from x)
@@ -99,7 +95,6 @@ module _ (p : Pool) (new : is_watching p.ring (record { 0 = p.next }) ≡ false)
   each (call.Fd o fd flags routine user) h = (tt, (tt, new))
   each (call.Post x) h = spared x is_finished over h.1.0 h.1.1.0
   each (call.Error x error) h = by_test (nat_eq error 0) (λ t. rw t tt) (λ t. rw t tt)
-  each (call.Received x) h = received x (note_of p.requests x)
   each (call.Endtime x time) h = (spared x is_in_progress going h.1.0 h.1.1.0, tt)
   each _ h = tt
 

@@ -23,10 +23,10 @@ use Rattle.tree_specs.specs.Calls.Refusals.{Check, tests, refusals, in_state, in
 use Rattle.tree_specs.specs.declared.moment.What.TheVariants as what
 use Rattle.tree_specs.specs.Invariants.Awaiting.{waits_as, waits_as_row, is_event, is_event_row}
 use Rattle.tree_specs.specs.declared.test.Test.TheVariants.{IsObject, IsImmediate, IsRequest, IsInProgress as IsInProgressTest, IsNotDoomed}
-use Rattle.tree_specs.specs.Calls.Plans.{Plan, changed_by, plan, planned, unless_refused, places, warns, frees, handed, gift, receives}
+use Rattle.tree_specs.specs.Calls.Plans.{Plan, changed_by, plan, planned, unless_refused, places, warns, frees, handed, gift}
 use Rattle.tree_specs.specs.Calls.Plans.Change.{Nothing}
 use Rattle.tree_specs.specs.Calls.Plans.Plan.{Does, Frees, Unlinks, Empties, Asks, Turns, Works}
-use Rattle.tree_specs.specs.Invariants.Sound.{IsLive, IsReferable, IsQuietRow, IsToReceive, MayBePlaced, Sound}
+use Rattle.tree_specs.specs.Invariants.Sound.{IsLive, IsReferable, IsQuietRow, MayReceive, MayBePlaced, Sound}
 use Rattle.tree_specs.specs.Invariants.Noted.{IsInProgress, IsBetween}
 use Rattle.tree_specs.proofs.Tree.Numbered.{by_test, same-equal, is_below-some}
 use Rattle.tree_specs.proofs.Tree.Rows.{row_of-placed-same}
@@ -43,7 +43,7 @@ use Rattle.tree_specs.specs.declared.moment.What.{What}
 use Rattle.tree_specs.specs.declared.request.Note.{Note}
 use Rattle.tree_specs.specs.declared.request.State.{State}
 use Rattle.tree_specs.specs.declared.request.State.TheVariants as state
-use Rattle.tree_specs.specs.Events.Requests.{is_in_progress, is_received, note_of, failed_with}
+use Rattle.tree_specs.specs.Events.Requests.{is_in_progress, note_of, failed_with}
 use Rattle.tree_specs.proofs.Events.NoteLaws.{renoted-same, renoted-none}
 use Rattle.tree_specs.proofs.Calls.Changes.{MayWait, MayBeEdited, MayDo, heavier, added}
 
@@ -61,10 +61,10 @@ IsOutside (ask.Routine m) = ⊥
 IsOutside (ask.Wait limit) = ⊥
 IsOutside q = Unit {0}
 
--- only what wasn't received is received, and only what is in progress goes to one of the states in between
+-- only what is there is received, and only what is in progress goes to one of the states in between
 abbrev pub MayWork : Pool → Errand → Obj → Type 0
 MayWork p (Finish s) x = (is_request_row (row_of p.rows x) ≡ true) × IsInProgress p x × IsBetween s
-MayWork p Receive x = IsToReceive x p
+MayWork p Receive x = MayReceive x p
 MayWork p Notify x = ⊥
 MayWork p Cancel x = Unit {0}
 
@@ -161,12 +161,6 @@ module _ (f : Frame) (fs : List Frame) (p : Pool) (s : Sound f fs p) where
   finishes : (x : Obj) (s : State) → IsBetween s → Passed p (IsRequest x) → Passed p (IsInProgressTest x) → May p (Works Nothing (Finish s) x)
   finishes x s between h state = (tt, refl, refl, (h, state, between))
 
-  received : (x : Obj) (o : Option Note) → Passed p (IsObject x) → note_of p.requests x ≡ o → May p (receives x o)
-  received x None h e = (tt, omega arith, tt, omega arith)
-  received x (Some n) h e = by_test (is_received n.state)
-      (λ t. rw t (tt, omega arith, tt, omega arith))
-      (λ t. rw t (tt, refl, refl, (rw (e, t) refl, h.0, h.1)))
-
   each : (c : Call) → AllPassed p (tests c) → May p (plan p c)
   each (call.New o size name) h = (record { there = h.1.0; target = λ t e. cc }, omega arith, tt, omega arith)
   each (call.Free x) h = freed x h.0 (newest_ref p.rows x) refl
@@ -231,7 +225,7 @@ module _ (f : Frame) (fs : List Frame) (p : Pool) (s : Sound f fs p) where
   each (call.Iserror x) h = (tt, omega arith, tt, omega arith)
   each (call.Progress x) h = (tt, omega arith, tt, omega arith)
   each (call.Endtime x time) h = ((posted what.Timer x refl h.1.0, tt), omega arith, tt, omega arith)
-  each (call.Received x) h = received x (note_of p.requests x) h.0 refl
+  each (call.Received x) h = (tt, refl, refl, (h.0.0, h.0.1))
   each call.Pending h = (tt, omega arith, tt, omega arith)
   each call.Now h = tt
   each call.Turn h = tt

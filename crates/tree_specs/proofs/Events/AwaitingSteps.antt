@@ -83,7 +83,7 @@ beginning : (x : Obj) (fs : List Frame) (p : Pool) → Sound (frame.Free (Beginn
 beginning x fs p s a = each (newest_ref p.rows x) refl
   where
     marks : (r : Row) (m : Mark) → r.mark ≡ m → Awaits (pool_after (begin_step x (Some r) p))
-    marks r Quiet m = rw m (by_test (is_unreceived (note_of p.requests x))
+    marks r Quiet m = rw m (by_test (is_request r.kind)
         (λ u. rw u (marked-awaits Asked p x refl a))
         (λ u. by_test (nat_eq r.hook 0) (λ t. rw (u, t) a) (λ t. rw (u, t) (marked-awaits Asked p x refl a))))
     marks r Busy m = rw m (gone-awaits (marked_row Doomed) p x (λ q. refl) (λ q. refl) a)
@@ -348,7 +348,9 @@ module _ (fs : List Frame) (p : Pool) (a : Awaits p) where
 
 request-awaits : (f : RequestFrame) (fs : List Frame) (p : Pool) → Sound (frame.Request f) fs p → Noted (frame.Request f) p → IsCalm (frame.Request f) fs → Awaits p → Awaits (pool_after (request_step f p))
 request-awaits (request.Finishing x s) fs p sound n c a = finished-awaits p x s a
-request-awaits (request.Receiving x) fs p sound n c a = finished-awaits (unschedule p x) x Received (unscheduled-awaits p x a)
+request-awaits (request.Receiving x) fs p sound n c a = by_test (is_unreceived (note_of p.requests x))
+    (λ t. rw t (finished-awaits (unschedule p x) x Received (unscheduled-awaits p x a)))
+    (λ t. rw t a)
 request-awaits (request.Cancelling x) fs p sound n c a = cancelling fs p a x (cancel_in (note_of p.requests x))
 request-awaits (request.Cleaning x errand) fs p sound n c a = cleaning fs p a x errand (cleanup_in (note_of p.requests x))
 request-awaits (request.Cleaned x errand) fs p sound n c a = cleaned-object fs p a x errand (note_of p.requests x)

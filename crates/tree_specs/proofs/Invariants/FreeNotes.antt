@@ -31,6 +31,7 @@ use Rattle.tree_specs.specs.Tree.Pool.{Pool, row_of, target_at, newest_ref_of, i
 use Rattle.tree_specs.specs.Tree.Targets.{newest_ref}
 use Rattle.tree_specs.specs.Tree.Heirs.{heir}
 use Rattle.tree_specs.specs.Events.Requests.{note_of, is_unreceived}
+use Rattle.tree_specs.specs.Calls.Refusals.{is_request, is_request_row}
 use Rattle.tree_specs.specs.Machine.FreeTable.{FreeMove, begin_quiet, begin_step, refs_step, unlink_step, release_step, last_step, child_step, loop_step, hand_on_step, tried_step, free_step}
 use Rattle.tree_specs.specs.Machine.Table.{table, event_of, announced, lifted, run_for, resume}
 use Rattle.tree_specs.specs.Invariants.Sound.{phases, phase_of, claims, AllWait, Sound}
@@ -40,7 +41,7 @@ use Rattle.tree_specs.proofs.Tree.Numbered.{by_test}
 use Rattle.tree_specs.proofs.Events.PendingLaws.{disarmed-other}
 use Rattle.tree_specs.proofs.Invariants.Changes.{claim-here, heir-placed}
 use Rattle.tree_specs.proofs.Invariants.Waiters.{Waiter, ForRoutine, waiter}
-use Rattle.tree_specs.proofs.Invariants.Notes.{excepted, settled, changed-holds, unmarked-holds, quiet-holds, placed-holds, removed-holds}
+use Rattle.tree_specs.proofs.Invariants.Notes.{excepted, settled, unnoted-unreceived, changed-holds, unmarked-holds, quiet-holds, placed-holds, removed-holds}
 
 -- what a step leads to
 abbrev pub NotedBy : Move Frame Answer Pool Item → List Frame → ℕ → Type 0
@@ -77,15 +78,16 @@ going p x a l h e = by_test (is_unreceived (note_of p.requests x)) (λ t. let ba
 beginning : (x : Obj) (fs : List Frame) (p : Pool) → Sound (frame.Free (Beginning x)) fs p → NotesHold None p → FreeNoted (free_step (Beginning x) p)
 beginning x fs p s h = newest (newest_ref p.rows x)
   where
-    quiet : (hook : ℕ) → FreeNoted (begin_quiet x hook p)
-    quiet hook = by_test (is_unreceived (note_of p.requests x))
+    -- what is no request has nothing to be received
+    quiet : (r : Row) → row_of p.rows x ≡ Some r → FreeNoted (begin_quiet x r.kind r.hook p)
+    quiet r e = by_test (is_request r.kind)
         (λ u. rw u (record { pool = changed-holds (marked_row Asked) p (set_mark p x Asked) x (excepted p x h) (λ r. refl) (λ r. refl) refl refl (λ y t. t) (λ t r. inr refl); works = tt }))
-        (λ u. by_test (nat_eq hook 0)
-        (λ t. rw (u, t) (record { pool = h; works = u }))
-        (λ t. rw (u, t) (record { pool = changed-holds (marked_row Asked) p (set_mark p x Asked) x h (λ r. refl) (λ r. refl) refl refl (λ y t. t) (λ v r. let bad : true ≡ false = sym v ∙ u in cc); works = tt })))
+        (λ u. let none = unnoted-unreceived p x (h.notes x ∙ ap is_request_row e ∙ u) in by_test (nat_eq r.hook 0)
+        (λ t. rw (u, t) (record { pool = h; works = none }))
+        (λ t. rw (u, t) (record { pool = changed-holds (marked_row Asked) p (set_mark p x Asked) x h (λ r. refl) (λ r. refl) refl refl (λ y t. t) (λ v r. let bad : true ≡ false = sym v ∙ none in cc); works = tt })))
 
     marks : (r : Row) (m : Mark) → r.mark ≡ m → row_of p.rows x ≡ Some r → FreeNoted (begin_step x (Some r) p)
-    marks r Quiet m e = rw m (quiet r.hook)
+    marks r Quiet m e = rw m (quiet r e)
     marks r Busy m e =
         let runs : InHandler ∷ [] ≡ phases (row_of p.rows x) = sym (ap phases e ∙ ap phase_of m) in
         rw m (record {

@@ -219,7 +219,7 @@ module _ (fs : List Frame) (p : Pool) (k : ℕ) (h : AllCalm fs) where
 
 request-calm : (f : RequestFrame) (fs : List Frame) (p : Pool) (k : ℕ) → Sound (frame.Request f) fs p → Noted (frame.Request f) p → AllCalm (frame.Request f ∷ fs) → CalmBy (request_step f p) fs k
 request-calm (request.Finishing x s) fs p k sound n h = h
-request-calm (request.Receiving x) fs p k sound n h = (tt, h.1)
+request-calm (request.Receiving x) fs p k sound n h = by_test (is_unreceived (note_of p.requests x)) (λ t. rw t (tt, h.1)) (λ t. rw t (tt, h.1))
 request-calm (request.Cancelling x) fs p k sound n h = cancelling-calm fs p k h.1 x (sound.open_frees x) n.pool (note_of p.requests x) refl
 request-calm (request.Cleaning x errand) fs p k sound n h = cleaning-calm fs p k h.1 x errand h.0 (cleanup_in (note_of p.requests x))
 request-calm (request.Cleaned x errand) fs p k sound n h = cleaned-calm fs p k h.1 x errand h.0 (note_of p.requests x)

@@ -21,7 +21,7 @@ use Rattle.tree_specs.specs.declared.frame.RequestFrame.{RequestFrame}
 use Rattle.tree_specs.specs.declared.frame.RequestFrame.TheVariants as request
 use Rattle.tree_specs.specs.declared.moment.What.{What}
 use Rattle.tree_specs.specs.declared.moment.What.TheVariants as whats
-use Rattle.tree_specs.specs.Events.Requests.{note_of, is_unreceived}
+use Rattle.tree_specs.specs.Calls.Refusals.{is_request}
 use Rattle.tree_specs.specs.Rules.Errands.{after_routine}
 use Rattle.tree_specs.specs.declared.frame.FreeFrame.{FreeFrame}
 use Rattle.tree_specs.specs.declared.frame.FreeFrame.TheVariants.{Beginning, Hooked, Judged, Preparing, Dooming, Leaving, Looping, FreeingChild, AfterChild, Ending}
@@ -297,11 +297,11 @@ beginning x fs p k s = newest (newest_ref p.rows x) refl
         (live-owned r.mark r.owner x (rw m tt) (shape-of p x r s.valid e)) (object r e) (inr unreferred)
         (λ y ne. let u : same x y ≡ false = same-false x y ne in rw (claims-it y, u) refl) (rw (claims-it x, self, none) refl) s.waiting rests
 
-    quiet : newest_ref p.rows x ≡ None → (r : Row) → row_of p.rows x ≡ Some r → r.mark ≡ Quiet → KeptBy (lifted p.ring (begin_quiet x r.hook p)) fs k
+    quiet : newest_ref p.rows x ≡ None → (r : Row) → row_of p.rows x ≡ Some r → r.mark ≡ Quiet → KeptBy (lifted p.ring (begin_quiet x r.kind r.hook p)) fs k
     quiet unreferred r e m =
         let none : claims x fs ≡ [] = s.open_frees x ∙ ap phases e ∙ ap phase_of m in
-        by_test (is_unreceived (note_of p.requests x))
-        (λ u. rw u (asks (Preparing x) unreferred r e m (λ y. refl) u))
+        by_test (is_request r.kind)
+        (λ u. rw u (asks (Preparing x) unreferred r e m (λ y. refl) (marked_row Asked r, row_of-changed-same (marked_row Asked) p.rows x r (λ q. refl) e)))
         (λ u. by_test (nat_eq r.hook 0)
         (λ t. rw (u, t) (goes_on (frame.Free (Beginning x)) (frame.Free (Leaving x 0)) fs p (λ y. refl) (r, e, rw m tt, none, object r e, unreferred) s))
         (λ t. rw (u, t) (asks (Hooked x r.hook) unreferred r e m (λ y. refl) (positive r.hook t, rw (row_of-changed-same (marked_row Asked) p.rows x r (λ q. refl) e) refl))))

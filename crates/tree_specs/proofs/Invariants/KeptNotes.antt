@@ -34,8 +34,8 @@ use Rattle.tree_specs.specs.Tree.Targets.{newest_ref}
 use Rattle.tree_specs.specs.Events.Coming.{handler_for, begun, goes_after}
 use Rattle.tree_specs.specs.Events.Requests.{note_of, is_noted, is_unreceived, cleanup_in, cancel_in, is_received, is_in_progress, state_number, cleaned, not_deferring}
 use Rattle.tree_specs.specs.Calls.Refusals as refusing
-use Rattle.tree_specs.specs.Calls.Refusals.{Check, tests, refusals, in_progress, is_request, is_referable, is_request_row}
-use Rattle.tree_specs.specs.Calls.Plans.{Change, Plan, planned, plan, unless_refused, changed_by, frees, handed, gift, receives}
+use Rattle.tree_specs.specs.Calls.Refusals.{Check, tests, refusals, is_request, is_referable, is_request_row}
+use Rattle.tree_specs.specs.Calls.Plans.{Change, Plan, planned, plan, unless_refused, changed_by, frees, handed, gift}
 use Rattle.tree_specs.specs.Calls.Plans.Change.{Edit, Add, Place, Arm, AddRequest, Renotes, Then}
 use Rattle.tree_specs.specs.Calls.Plans.Plan.{Does, Frees, Unlinks, Turns, Works}
 use Rattle.tree_specs.specs.Calls.Passed.{AllPassed}
@@ -49,7 +49,7 @@ use Rattle.tree_specs.proofs.Calls.Plans.{MayWork, May, may-planned}
 use Rattle.tree_specs.proofs.Calls.Changes.{MayDo, change-sound}
 use Rattle.tree_specs.proofs.Invariants.Changes.{nobody}
 use Rattle.tree_specs.proofs.Invariants.Turning.{handler-ready, Passes, Pass, Serve, look-passes, taken-plain}
-use Rattle.tree_specs.proofs.Invariants.Notes.{same-holds, excepted, changed-holds, unmarked-holds, quiet-holds, placed-holds, added-holds, requested-holds, armed-holds, renoted-holds, finished-holds, received-holds}
+use Rattle.tree_specs.proofs.Invariants.Notes.{same-holds, unnoted-unreceived, excepted, unexcepted, changed-holds, unmarked-holds, quiet-holds, placed-holds, added-holds, requested-holds, armed-holds, renoted-holds, finished-holds, received-holds}
 use Rattle.tree_specs.proofs.Invariants.FreeNotes.{NotedBy, ended, free-noted, lifted-noted}
 
 -- ---- calls
@@ -83,10 +83,6 @@ module _ (p : Pool) (new : IsInProgress p (record { 0 = p.next })) where
   given to None = tt
   given to (Some x) = tt
 
-  taken : (x : Obj) (o : Option Note) → PlanKeeps p (receives x o)
-  taken x None = tt
-  taken x (Some n) = by_test (is_received n.state) (λ t. rw t tt) (λ t. rw t tt)
-
   each : (c : Call) → AllPassed p (tests c) → PlanKeeps p (plan p c)
   each (call.New o size name) h = refl
   each (call.Free x) h = freed x (newest_ref p.rows x)
@@ -98,7 +94,6 @@ module _ (p : Pool) (new : IsInProgress p (record { 0 = p.next })) where
   each (call.Fd o fd flags routine user) h = (refl, (tt, tt))
   each (call.Error x error) h = by_test (nat_eq error 0) (λ t. rw t tt) (λ t. rw t tt)
   each (call.Endtime x time) h = (h.1.1.0, tt)
-  each (call.Received x) h = taken x (note_of p.requests x)
   each _ h = tt
 
   plan-keeps : (c : Call) → PlanKeeps p (planned p c)
@@ -158,19 +153,12 @@ passes-noted p fs k _ h (Serve _ x q rows next notes times served noted) = absur
 begun-holds : (w : What) (x : Obj) (p : Pool) (handler : Handler) → handler_for p w x ≡ Some handler → NotesHold None p → NotesHold None (begun w x p)
 begun-holds w x p handler e h =
     let ready = handler-ready p w x handler e in
-    let none : is_unreceived (note_of p.requests x) ≡ false = unrequested (h.notes x ∙ ap is_request_row ready.is ∙ no-request ready.row.kind ready.event) in
+    let none : is_unreceived (note_of p.requests x) ≡ false = unnoted-unreceived p x (h.notes x ∙ ap is_request_row ready.is ∙ no-request ready.row.kind ready.event) in
     each w none
   where
     no-request : (k : Kind) → is_referable k ≡ false → is_request k ≡ false
     no-request kind.Request e = cc
     no-request _ e = refl
-
-    unrequested : is_noted p.requests x ≡ false → is_unreceived (note_of p.requests x) ≡ false
-    unrequested e = by-note (note_of p.requests x) refl
-      where
-        by-note : (o : Option Note) → note_of p.requests x ≡ o → is_unreceived (note_of p.requests x) ≡ false
-        by-note None n = rw n refl
-        by-note (Some m) n = let bad : true ≡ false = rw n at e in cc
 
     each : (w : What) → is_unreceived (note_of p.requests x) ≡ false → NotesHold None (begun w x p)
     each whats.Descriptor none = changed-holds (marked_row Busy) p (begun whats.Descriptor x p) x h (λ r. refl) (λ r. refl) refl refl (λ y t. t) (λ v r. let bad : true ≡ false = sym v ∙ none in cc)
@@ -263,8 +251,9 @@ going-unreceived p x n h e = each n.state (let h' : refusing.in_state x is_in_pr
 
 request-noted : (f : RequestFrame) (fs : List Frame) (p : Pool) (k : ℕ) → Sound (frame.Request f) fs p → Noted (frame.Request f) p → NotedBy (request_step f p) fs k
 request-noted (request.Finishing x s) fs p k sound n = record { pool = finished-holds p x s (λ m e h. going-unreceived p x m n.works.1 e) n.pool; works = tt }
-request-noted (request.Receiving x) fs p k sound n =
-    record { pool = received-holds p x n.pool; works = tt }
+request-noted (request.Receiving x) fs p k sound n = by_test (is_unreceived (note_of p.requests x))
+    (λ t. rw t (record { pool = received-holds p x n.pool; works = tt }))
+    (λ t. let h = unexcepted p x n.pool t in rw t (record { pool = h; works = tt }))
 request-noted (request.Cancelling x) fs p k sound n = cancels fs p k n.pool x (note_of p.requests x) refl
 request-noted (request.Cleaning x errand) fs p k sound n = cleans fs p k n.pool x errand (note_of p.requests x) refl
 request-noted (request.Cleaned x errand) fs p k sound n = goes-on fs p k n.pool x errand (note_of p.requests x)

@@ -19,8 +19,9 @@ use Rattle.tree_specs.specs.declared.frame.Answer.TheVariants.{Heard}
 use Rattle.tree_specs.specs.Words.Objects.{same}
 use Rattle.tree_specs.specs.Tree.Targets.{target_of, newest_ref}
 use Rattle.tree_specs.specs.Tree.Pool.{Pool, row_of, target_in, target_at, set_mark, marked_row, finish, receive}
-use Rattle.tree_specs.specs.Events.Requests.{note_of, cleanup_in, cancel_in}
+use Rattle.tree_specs.specs.Events.Requests.{note_of, is_unreceived, cleanup_in, cancel_in}
 use Rattle.tree_specs.specs.Events.Coming.{handler_moment, plainly}
+use Rattle.tree_specs.specs.Rules.Errands.{reply_to}
 use Rattle.tree_specs.specs.Calls.Plans.{Plan, planned}
 use Rattle.tree_specs.specs.Calls.Plans.Plan.{Frees, Unlinks}
 use Rattle.tree_specs.specs.Machine.Profiles.{InRun}
@@ -37,9 +38,7 @@ use Rattle.tree_specs.proofs.Invariants.KeptFrees.{KeptBy, ended}
 
 pub preparing : (x : Obj) (fs : List Frame) (p : Pool) (k : ℕ) → Sound (frame.Free (Preparing x)) fs p → KeptBy (step (frame.Free (Preparing x)) p) fs k
 preparing x fs p k s =
-    let phase = claim-here x InRun (claims x fs) (row_of p.rows x) (s.open_frees x) in
-    let row = running-row (row_of p.rows x) (claims x fs) phase in
-    stands (frame.Free (Preparing x)) (frame.Request (request.Receiving x)) fs (frame.Free (Preparing x) ∷ fs) p (λ y. refl) (tt, s.waiting) (tt, (s.rests, row.0, row.1)) s
+    stands (frame.Free (Preparing x)) (frame.Request (request.Receiving x)) fs (frame.Free (Preparing x) ∷ fs) p (λ y. refl) (tt, s.waiting) (tt, s.rests) s
 
 pub prepared : (x : Obj) (fs : List Frame) (p : Pool) (k : ℕ) → Sound (frame.Free (Prepared x)) fs p → KeptBy (step (frame.Free (Prepared x)) p) fs k
 prepared x fs p k s =
@@ -84,7 +83,9 @@ notifying-kept x errand fs p k s (Some n) = by_test n.deferred (λ t. rw t (goes
 
 pub request-kept : (f : RequestFrame) (fs : List Frame) (p : Pool) (k : ℕ) → Sound (frame.Request f) fs p → KeptBy (request_step f p) fs k
 request-kept (request.Finishing x state) fs p k s = goes (request.Finishing x state) (request.Cleaning x (Finish state)) fs p (finish p x state) refl refl s s.rests
-request-kept (request.Receiving x) fs p k s = goes (request.Receiving x) (request.Cleaning x Receive) fs p (receive p x) refl refl s s.rests.0
+request-kept (request.Receiving x) fs p k s = by_test (is_unreceived (note_of p.requests x))
+    (λ t. rw t (goes (request.Receiving x) (request.Cleaning x Receive) fs p (receive p x) refl refl s s.rests.0))
+    (λ t. rw t (goes (request.Receiving x) (request.Over (reply_to Receive)) fs p p refl refl s s.rests.0))
 request-kept (request.Cancelling x) fs p k s = each (cancel_in (note_of p.requests x))
   where
     each : (o : Option Handler) → KeptBy (cancelling_step x o p) fs k

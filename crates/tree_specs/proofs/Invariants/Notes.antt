@@ -47,9 +47,24 @@ settled p x h t = elim (h.ready x t) [
   | inr e ↦ cc
 ]
 
+-- nothing is to be received where no note is kept
+pub unnoted-unreceived : (p : Pool) (x : Obj) → is_noted p.requests x ≡ false → is_unreceived (note_of p.requests x) ≡ false
+unnoted-unreceived p x e = each (note_of p.requests x) refl
+  where
+    each : (o : Option Note) → note_of p.requests x ≡ o → is_unreceived (note_of p.requests x) ≡ false
+    each None n = rw n refl
+    each (Some m) n = let bad : true ≡ false = rw n at e in cc
+
 -- what isn't received next may be so
 pub excepted : (p : Pool) (x : Obj) → NotesHold None p → NotesHold (Some x) p
 excepted p x h = record { notes = h.notes; timed = h.timed; ready = λ y t. inl (settled p y h t) }
+
+-- nor is what was received already
+pub unexcepted : (p : Pool) (x : Obj) → NotesHold (Some x) p → is_unreceived (note_of p.requests x) ≡ false → NotesHold None p
+unexcepted p x h f = record { notes = h.notes; timed = h.timed; ready = λ y t. elim (h.ready y t) [
+  | inl e ↦ inl e
+  | inr e ↦ let is : x ≡ y = cc in let bad : is_unreceived (note_of p.requests y) ≡ false = subst (λ (z : Obj). is_unreceived (note_of p.requests z) ≡ false) is f in let worse : true ≡ false = sym t ∙ bad in cc
+] }
 
 -- ---- rows
 

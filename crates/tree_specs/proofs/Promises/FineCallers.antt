@@ -43,7 +43,7 @@ use Rattle.tree_specs.proofs.Calls.Checks.{all-pass, Heard, HeardCall, HeardRetu
 use Rattle.tree_specs.proofs.Calls.Plans.{MayWork, May, may-planned}
 use Rattle.tree_specs.proofs.Calls.Changes.{follows}
 use Rattle.tree_specs.specs.Tree.Forest.{Distinct}
-use Rattle.tree_specs.specs.Calls.Plans.{Plan, plan, planned, unless_refused, changed_by, frees, replies, receives, failure_in, failure_reply, progress_reply}
+use Rattle.tree_specs.specs.Calls.Plans.{Plan, plan, planned, unless_refused, changed_by, frees, replies, failure_in, failure_reply, progress_reply}
 use Rattle.tree_specs.specs.Calls.Plans.Plan.{Does, Frees, Unlinks, Empties, Asks, Turns, Works}
 use Rattle.tree_specs.specs.declared.request.Note.{Note}
 use Rattle.tree_specs.specs.declared.request.State.{State}
@@ -52,7 +52,7 @@ use Rattle.tree_specs.specs.declared.frame.Errand.{Errand}
 use Rattle.tree_specs.specs.declared.frame.Errand.TheVariants.{Finish, Notify, Receive, Cancel}
 use Rattle.tree_specs.specs.declared.frame.RequestFrame.{RequestFrame}
 use Rattle.tree_specs.specs.declared.frame.RequestFrame.TheVariants as request
-use Rattle.tree_specs.specs.Events.Requests.{note_of, is_received, is_in_progress}
+use Rattle.tree_specs.specs.Events.Requests.{note_of, is_in_progress}
 use Rattle.tree_specs.proofs.Invariants.Changes.{running-row, claim-here}
 use Rattle.tree_specs.proofs.Promises.Later.{Later, later-same}
 use Rattle.tree_specs.proofs.Promises.Past.{Accounts, Past, past-goes, past-tells, unfreed, unaccepted}
@@ -208,11 +208,7 @@ caused p (call.Cancel x) none = tt
 caused p (call.Done x) none = tt
 caused p (call.Oom x) none = tt
 caused p (call.Error x error) none = by_test (nat_eq error 0) (λ t. rw t (λ scenes. (tt, tt, tt, tt))) (λ t. rw t tt)
-caused p (call.Received x) none = each (note_of p.requests x)
-  where
-    each : (o : Option Note) → CausedBy p (call.Received x) (receives x o)
-    each None = λ scenes. (tt, tt, tt, tt)
-    each (Some n) = by_test (is_received n.state) (λ t. rw t (λ scenes. (tt, tt, tt, tt))) (λ t. rw t tt)
+caused p (call.Received x) none = tt
 caused p (call.Iserror x) none = each (note_of p.requests x)
   where
     states : (s : State) (error : ℕ) → CausedBy p (call.Iserror x) (replies (failure_in s error))

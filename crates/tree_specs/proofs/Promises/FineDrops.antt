@@ -30,7 +30,7 @@ use Rattle.tree_specs.specs.Rules.Items.{Item}
 use Rattle.tree_specs.specs.Rules.Items.Item.{Told}
 use Rattle.tree_specs.specs.Rules.Sequence.{CallStart, Scene}
 use Rattle.tree_specs.specs.Machine.FreeTable.{begin_plain, begin_quiet, begin_step, refs_step, unlink_step, release_step}
-use Rattle.tree_specs.specs.Events.Requests.{note_of, is_unreceived}
+use Rattle.tree_specs.specs.Calls.Refusals.{is_request}
 use Rattle.tree_specs.specs.Events.Rotation.{closes_with}
 use Rattle.tree_specs.specs.Machine.Table.{notes, step, closed_event, announced, lifted}
 use Rattle.tree_specs.specs.Promises.Orderly.{frees}
@@ -195,10 +195,10 @@ module _ (scenes : List Scene) (b : Option CallStart) (ws : List NotedWork) (p :
             cause = tt;
           }))
 
-      quiet : (r : Row) → row_of p.rows x ≡ Some r → r.mark ≡ mark.Quiet → Step (lifted p.ring (begin_quiet x r.hook p))
+      quiet : (r : Row) → row_of p.rows x ≡ Some r → r.mark ≡ mark.Quiet → Step (lifted p.ring (begin_quiet x r.kind r.hook p))
       quiet r e m =
           let live : IsLive r.mark = rw m tt in
-          by_test (is_unreceived (note_of p.requests x))
+          by_test (is_request r.kind)
           (λ t. rw t (record {
             past = past-goes (told scenes) f (frame.Free (Preparing x)) (map work_of ws) (map work_of ws) p (set_mark p x mark.Asked) known.past (later-marked p x r mark.Asked e live) (λ y l. absurd l) tt known.past.all_account;
             stacked = restacked f (frame.Free (Preparing x)) ws (λ y h. h) (λ y h. h) known.stacked;

@@ -182,15 +182,19 @@ module _ (scenes : List Scene) (b : Option CallStart) (ws : List NotedWork) (p :
           each _ h = cc
 
   receiving-fine : (x : Obj) → AtRequest (request.Receiving x)
-  receiving-fine x whole known =
-      let rests = whole.sound.rests.1 in
-      state-fine (request.Receiving x) (request.Cleaning x Receive) x state.Received (receive p x) rests.1 rests.2 refl refl refl
-      (later-noted p (receive p x) refl (omega arith) (states-renoted (in_state state.Received) p (receive p x) x refl (λ m e. most m.state)))
-      (omega arith, omega arith, untold (frame.Request (request.Receiving x)) x 6 known.past (unreceived-not (note_of p.requests x) rests.0), λ l. absurd (omega arith)) whole tt known
+  receiving-fine x whole known = by_test (is_unreceived (note_of p.requests x))
+      (λ t. rw t (receives t))
+      (λ t. rw t (over (request.Receiving x) Receive p (later-same p) known))
     where
       most : (t : State) → state_number t ≤ 6
       most state.Received = omega arith
       most _ = omega arith
+
+      receives : is_unreceived (note_of p.requests x) ≡ true
+          → FineBy scenes (frame.Request (request.Receiving x)) b p (Do.Emit (Told (StateOf x (state_number state.Received))) (frame.Request (request.Cleaning x Receive)) (receive p x)) ws
+      receives t = state-fine (request.Receiving x) (request.Cleaning x Receive) x state.Received (receive p x) whole.sound.rests.1.0 whole.sound.rests.1.1 refl refl refl
+          (later-noted p (receive p x) refl (omega arith) (states-renoted (in_state state.Received) p (receive p x) x refl (λ m e. most m.state)))
+          (omega arith, omega arith, untold (frame.Request (request.Receiving x)) x 6 known.past (unreceived-not (note_of p.requests x) t), λ l. absurd (omega arith)) whole tt known
 
   calling-fine : (w : What) (x : Obj) (h : Handler) (errand : Errand) → AtRequest (request.Calling w x h errand)
   calling-fine w x h errand whole known =

@@ -23,12 +23,12 @@ use Rattle.tree_specs.specs.Calls.Refusals.{Check, refusals}
 use Rattle.tree_specs.specs.declared.request.Note.{Note}
 use Rattle.tree_specs.specs.declared.request.State.{State}
 use Rattle.tree_specs.specs.declared.request.State.TheVariants as state
-use Rattle.tree_specs.specs.declared.frame.Errand.TheVariants.{Finish, Receive}
-use Rattle.tree_specs.specs.Events.Requests.{note_of, is_received, is_in_progress, failed_with}
+use Rattle.tree_specs.specs.declared.frame.Errand.TheVariants.{Finish}
+use Rattle.tree_specs.specs.Events.Requests.{note_of, is_in_progress, failed_with}
 use Rattle.tree_specs.proofs.Rules.RequestLaws.{work-said}
 use Rattle.tree_specs.proofs.Rules.TextLaws.{all-lawful}
-use Rattle.tree_specs.specs.Calls.Plans.Change.{Nothing, Renotes}
-use Rattle.tree_specs.specs.Calls.Plans.{Plan, plan, frees, changed_by, replies, receives, failure_in, failure_reply, progress_reply}
+use Rattle.tree_specs.specs.Calls.Plans.Change.{Renotes}
+use Rattle.tree_specs.specs.Calls.Plans.{Plan, plan, frees, changed_by, replies, failure_in, failure_reply, progress_reply}
 use Rattle.tree_specs.specs.Calls.Plans.Plan.{Does, Frees, Unlinks, Empties, Asks, Turns, Works}
 use Rattle.tree_specs.specs.Rules.Items.Item.{Told}
 use Rattle.tree_specs.specs.Rules.Sequence.{Work, Scene}
@@ -232,14 +232,6 @@ passed-leaves n (call.Unlink o x) why p q is left told e = inr (plan-leaves n (U
 passed-leaves n (call.Error x error) why p q is left told e = by_test (nat_eq error 0)
     (λ t. absurd (plan-leaves n (replies (reply.Number 0)) why p q is left told tt (rw t at e)))
     (λ t. absurd (plan-leaves n (Works (Renotes x (failed_with error)) (Finish state.UserError) x) why p q is left told tt (rw t at e)))
-passed-leaves n (call.Received x) why p q is left told e = each (note_of p.requests x) e
-  where
-    each : (o : Option Note) → effect (free n) (unlink n) (children n) (reaching n) (turned AtRest (taking n)) (work_by (finishing n) (notifying n) (receiving n) (cancelling n)) (receives x o) p is ≡ Ended (reply.No why) q told left
-        → Untouched p q is left told
-    each None k = absurd (plan-leaves n (replies reply.Ok) why p q is left told tt k)
-    each (Some m) k = by_test (is_received m.state)
-        (λ t. absurd (plan-leaves n (replies reply.Ok) why p q is left told tt (rw t at k)))
-        (λ t. absurd (plan-leaves n (Works Nothing Receive x) why p q is left told tt (rw t at k)))
 passed-leaves n (call.Iserror x) why p q is left told e = absurd (plan-leaves n (replies (failure_reply (note_of p.requests x))) why p q is left told (told-failure (note_of p.requests x)) e)
 passed-leaves n (call.Progress x) why p q is left told e = absurd (plan-leaves n (replies (progress_reply (note_of p.requests x))) why p q is left told (told-progress (note_of p.requests x)) e)
 passed-leaves n c why p q is left told e = absurd (plan-leaves n (plan p c) why p q is left told tt e)

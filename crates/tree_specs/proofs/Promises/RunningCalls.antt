@@ -3,7 +3,7 @@ use Rattle.std.proofs.Common.{◌≡◌, ℕ, nat_eq, List, [], ◌∷◌, Optio
 use Rattle.tree_specs.specs.declared.request.Note.{Note}
 use Rattle.tree_specs.specs.declared.request.State.{State}
 use Rattle.tree_specs.specs.declared.request.State.TheVariants as state
-use Rattle.tree_specs.specs.Events.Requests.{note_of, is_received, is_in_progress}
+use Rattle.tree_specs.specs.Events.Requests.{note_of, is_in_progress}
 use Rattle.tree_specs.proofs.Tree.Numbered.{by_test}
 use Rattle.tree_specs.proofs.Rules.RequestLaws.{work-said}
 use Rattle.tree_specs.proofs.Rules.TextLaws.{all-lawful}
@@ -22,7 +22,7 @@ use Rattle.tree_specs.specs.Tree.Pool.{Pool}
 use Rattle.tree_specs.specs.Tree.Targets.{newest_ref}
 use Rattle.tree_specs.specs.Tree.Forest.{Distinct}
 use Rattle.tree_specs.specs.Calls.Refusals.{Check, refusals, tests, is_running}
-use Rattle.tree_specs.specs.Calls.Plans.{Plan, plan, planned, frees, unless_refused, changed_by, receives, failure_in, failure_reply, progress_reply}
+use Rattle.tree_specs.specs.Calls.Plans.{Plan, plan, planned, frees, unless_refused, changed_by, failure_in, failure_reply, progress_reply}
 use Rattle.tree_specs.specs.Calls.Plans.Plan.{Does, Frees, Unlinks, Empties, Asks, Turns, Works}
 use Rattle.tree_specs.specs.Rules.Sequence.{Scene}
 use Rattle.tree_specs.specs.Rules.Answers.{freed_reply}
@@ -50,11 +50,6 @@ plan-own p (call.Free x) = each (newest_ref p.rows x)
     each None = tt
     each (Some r) = tt
 plan-own p (call.Error x error) = by_test (nat_eq error 0) (λ t. rw t tt) (λ t. rw t tt)
-plan-own p (call.Received x) = each (note_of p.requests x)
-  where
-    each : (o : Option Note) → OwnPlan p (receives x o)
-    each None = tt
-    each (Some n) = by_test (is_received n.state) (λ t. rw t tt) (λ t. rw t tt)
 plan-own p (call.Iserror x) = each (note_of p.requests x)
   where
     states : (s : State) (error : ℕ) → OwnReply p (failure_in s error)

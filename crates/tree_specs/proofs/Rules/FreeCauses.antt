@@ -22,7 +22,7 @@ use Rattle.tree_specs.specs.Rules.Sequence.{Work, Scene}
 use Rattle.tree_specs.specs.Rules.Answers.{hook_moment}
 use Rattle.tree_specs.specs.Rules.Story.{unlink, release, given, free, hooked, judged, dooming, preparing, prepared, receiving, leave, children, asked}
 use Rattle.tree_specs.specs.Rules.Pieces.{lets_go}
-use Rattle.tree_specs.specs.Events.Requests.{note_of, is_unreceived}
+use Rattle.tree_specs.specs.Calls.Refusals.{is_request}
 use Rattle.tree_specs.specs.Promises.Grounded.{DropsOutside, IsItem}
 use Rattle.tree_specs.specs.Promises.Refused.{doomed, told_closed, closed_at}
 use Rattle.tree_specs.specs.Events.Rotation.{closes_with}
@@ -120,7 +120,7 @@ pub data FreeGoes (n : ℕ) (x : Obj) (p : Pool) (is : List Input) (a : FreeRepl
   -- there is nothing to free
   IsOver : Ended free_reply.Ok p [] is ≡ Ended a q ts left → FreeGoes n x p is a q ts left
   ByLeaving : leave n x 0 p is ≡ Ended a q ts left → FreeGoes n x p is a q ts left
-  -- it is a request, and was received before
+  -- it is a request, and is received first
   ByReceiving : preparing n x (set_mark p x mark.Asked) is ≡ Ended a q ts left → FreeGoes n x p is a q ts left
   -- its destructor runs, and has returned
   ByAsking : (m h v : ℕ) (r : Pool) (us vs : List Scene) (mid : List Input) → asked m (ask.Routine (hook_moment x h)) (set_mark p x mark.Asked) is ≡ Ended v r us mid → judged m x h v r mid ≡ Ended a q vs left → us ++ vs ≡ ts → FreeGoes n x p is a q ts left
@@ -154,7 +154,7 @@ free-goes n x p is a q ts left e = newest (newest_ref p.rows x) refl
             AsRunning (doom p x) ran run (rw (k, busy) refl) (rw (k, busy) (sym (tells-ended (told_closed (closes_with p.ring x) p) free_reply.Running (doom p x) is) ∙ h))
 
     marks : newest_ref p.rows x ≡ None → (r : Row) (m : Mark) → r.mark ≡ m → row_of p.rows x ≡ Some r → Goes
-    marks z r mark.Quiet m k = by_test (is_unreceived (note_of p.requests x))
+    marks z r mark.Quiet m k = by_test (is_request r.kind)
         (λ u. ByReceiving (rw (z, k, m, u) at e))
         (λ u. by_test (nat_eq r.hook 0)
         (λ t. ByLeaving (rw (z, k, m, u, t) at e))

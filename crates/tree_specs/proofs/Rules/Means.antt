@@ -37,7 +37,7 @@ use Rattle.tree_specs.specs.Rules.Items.Item.{Told}
 use Rattle.tree_specs.specs.declared.event.Event.TheVariants.{Freed, Closed}
 use Rattle.std.specs.Prelude.{◌&&◌, not}
 use Rattle.tree_specs.specs.Words.Ranges.{is_sound_call, is_return, is_routine, is_time}
-use Rattle.tree_specs.specs.Calls.Refusals.{is_open}
+use Rattle.tree_specs.specs.Calls.Refusals.{is_open, is_request}
 use Rattle.tree_specs.specs.Words.Wants.{is_wants}
 use Rattle.tree_specs.specs.Events.Pending.{first}
 use Rattle.tree_specs.specs.Events.Rotation.{Ready, closes_with, first_ready}
@@ -123,7 +123,7 @@ beginning-turn n x b p is = newest (newest_ref p.rows x) refl
   where
     marks : newest_ref p.rows x ≡ None → (r : Row) (m : Mark) → r.mark ≡ m → row_of p.rows x ≡ Some r
         → Below (Turn n (frame.Free (Beginning x)) b (lifted p.ring (refs_step x (newest_ref p.rows x) p)) p is) (freed (free (suc n) x) p is)
-    marks k r mark.Quiet m e = by_test (is_unreceived (note_of p.requests x))
+    marks k r mark.Quiet m e = by_test (is_request r.kind)
         (λ u. rw (k, e, m, u) (inr refl))
         (λ u. by_test (nat_eq r.hook 0) (λ t. rw (k, e, m, u, t) (inr refl)) (λ t. rw (k, e, m, u, t) (inr refl)))
     marks k r mark.Busy m e = rw (k, e, m)
@@ -342,6 +342,7 @@ called-turn n whats.Cancel x handler errand b p is = inr (simp laws)
 called-turn n _ x handler errand b p is = inr (simp laws)
 
 request-turn : (n : ℕ) (f : RequestFrame) (b : Option CallStart) (p : Pool) (is : List Input) → Below (Turn n (frame.Request f) b (request_step f p) p is) (request_mean (suc n) f p is)
+request-turn n (request.Receiving x) b p is = by_test (is_unreceived (note_of p.requests x)) (λ t. rw t (inr (simp laws))) (λ t. rw t (inr refl))
 request-turn n (request.Cancelling x) b p is = cancelling-turn n x b p is
 request-turn n (request.Cleaning x errand) b p is = cleaning-turn n x errand b p is
 request-turn n (request.Cleaned x errand) b p is = cleaned-turn n x errand b p is

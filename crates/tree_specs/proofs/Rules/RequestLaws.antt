@@ -1,5 +1,6 @@
 -- What is so of the works of requests: beside what is so of every work, none of them is refused.
 use Rattle.std.proofs.Common.{◌≡◌, ℕ, suc, nat_eq, List, Option, Some, None, false, refl, subst}
+use Rattle.step_machine.specs.Machine.{tell}
 use Rattle.step_machine.specs.Machine.Outcome.{Ended}
 use Rattle.tree_specs.specs.declared.object.Obj.{Obj}
 use Rattle.tree_specs.specs.declared.call.Call.TheVariants as call
@@ -19,7 +20,7 @@ use Rattle.tree_specs.specs.declared.frame.Errand.{Errand}
 use Rattle.tree_specs.specs.declared.frame.Errand.TheVariants.{Finish, Notify, Receive, Cancel}
 use Rattle.tree_specs.specs.Tree.Pool.{Pool, schedule, renote, finish, receive}
 use Rattle.tree_specs.specs.Events.Coming.{handler_moment, plainly}
-use Rattle.tree_specs.specs.Events.Requests.{state_number, note_of, cleanup_in, cancel_in, cleaned as is_cleaned, not_deferring}
+use Rattle.tree_specs.specs.Events.Requests.{state_number, note_of, is_unreceived, cleanup_in, cancel_in, cleaned as is_cleaned, not_deferring}
 use Rattle.tree_specs.specs.Calls.Plans.{Plan, planned}
 use Rattle.tree_specs.specs.Calls.Plans.Plan.{Frees, Unlinks}
 use Rattle.tree_specs.specs.Rules.Items.Item.{Told}
@@ -42,8 +43,10 @@ finishing-lawful n ih x s p last =
     told-lawful last Said (scene_of (Told (StateOf x (state_number s))) p) (cleaning n x (Finish s) (finish p x s)) tt (λ is. (refl, refl)) (ih.requests.cleaning x (Finish s) (finish p x s) None)
 
 pub receiving-lawful : (n : ℕ) → AllLawful n → (x : Obj) (p : Pool) (last : Last) → Lawful last Said (receiving (suc n) x p)
-receiving-lawful n ih x p last =
-    told-lawful last Said (scene_of (Told (StateOf x (state_number Received))) p) (cleaning n x Receive (receive p x)) tt (λ is. (refl, refl)) (ih.requests.cleaning x Receive (receive p x) None)
+receiving-lawful n ih x p last = by_test (is_unreceived (note_of p.requests x))
+    (λ t. same-lawful last Said (receiving (suc n) x p) (λ js. tell (scene_of (Told (StateOf x (state_number Received))) p) (cleaning n x Receive (receive p x) js)) (λ js. rw t refl)
+    (told-lawful last Said (scene_of (Told (StateOf x (state_number Received))) p) (cleaning n x Receive (receive p x)) tt (λ is. (refl, refl)) (ih.requests.cleaning x Receive (receive p x) None)))
+    (λ t. same-lawful last Said (receiving (suc n) x p) (over n (reply_to Receive) p) (λ js. rw t refl) (ih.requests.over (reply_to Receive) p last (said-done Receive last)))
 
 pub cancelling-lawful : (n : ℕ) → AllLawful n → (x : Obj) (p : Pool) (last : Last) → Lawful last Said (cancelling (suc n) x p)
 cancelling-lawful n ih x p last = each (cancel_in (note_of p.requests x)) refl

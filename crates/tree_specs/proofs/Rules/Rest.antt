@@ -23,7 +23,7 @@ use Rattle.tree_specs.specs.declared.frame.Errand.{Errand}
 use Rattle.tree_specs.specs.declared.frame.Errand.TheVariants.{Receive}
 use Rattle.tree_specs.specs.declared.frame.RequestFrame.{RequestFrame}
 use Rattle.tree_specs.specs.declared.frame.RequestFrame.TheVariants as request
-use Rattle.tree_specs.specs.Events.Requests.{note_of, cleanup_in, cancel_in, not_deferring}
+use Rattle.tree_specs.specs.Events.Requests.{note_of, is_unreceived, cleanup_in, cancel_in, not_deferring}
 use Rattle.tree_specs.specs.declared.frame.OutsideFrame.{OutsideFrame}
 use Rattle.tree_specs.specs.declared.frame.OutsideFrame.TheVariants.{Reaching}
 use Rattle.tree_specs.specs.declared.watch.Watch.{Watch}
@@ -42,7 +42,7 @@ use Rattle.tree_specs.specs.Calls.Plans.Plan.{Does, Frees, Unlinks, Empties, Ask
 use Rattle.tree_specs.specs.Rules.Story.{turns}
 use Rattle.tree_specs.specs.Calls.Refusals.{Check}
 use Rattle.tree_specs.specs.Machine.FreeTable.{free_step}
-use Rattle.tree_specs.specs.Machine.Table.{Step, call_step, turning_step, starting_step, handled_step, turn_step, outside_step, over_step, cancelling_step, cleaning_step, release_object, cleaned_step, callback_step, notifying_step, request_step, table, step, event_of, announced, plan_step, lifted, taken}
+use Rattle.tree_specs.specs.Machine.Table.{Step, call_step, turning_step, starting_step, handled_step, turn_step, outside_step, over_step, cancelling_step, cleaning_step, release_object, cleaned_step, callback_step, notifying_step, receiving_step, request_step, table, step, event_of, announced, plan_step, lifted, taken}
 use Rattle.tree_specs.specs.Invariants.Sound.{Sound, Rests}
 use Rattle.tree_specs.specs.Invariants.Measure.{cost}
 use Rattle.tree_specs.specs.Machine.View.{View, outcome_of, rest_of}
@@ -270,6 +270,11 @@ outside-asks _ p q i g e = cc
 
 -- the work of a request asks nothing by itself
 work-asks : (f : RequestFrame) (p q : Pool) (i : Item) (g : Frame) → request_step f p ≡ Do.Wait i g q → ⊥
+work-asks (request.Receiving x) p q i g e = each (is_unreceived (note_of p.requests x)) e
+  where
+    each : (b : Bool) → receiving_step x b p ≡ Do.Wait i g q → ⊥
+    each true e = cc
+    each false e = cc
 work-asks (request.Cancelling x) p q i g e = each (cancel_in (note_of p.requests x)) e
   where
     each : (o : Option Handler) → cancelling_step x o p ≡ Do.Wait i g q → ⊥

@@ -28,7 +28,7 @@ use Rattle.tree_specs.specs.Rules.Items.Item.{Told}
 use Rattle.tree_specs.specs.Rules.Sequence.{Work, Scene, CallStart}
 use Rattle.tree_specs.specs.Calls.Plans.{Plan, planned, notice_of, changed_by}
 use Rattle.tree_specs.specs.Calls.Plans.Plan.{Does, Frees, Unlinks, Empties, Asks, Turns, Works}
-use Rattle.tree_specs.specs.Events.Requests.{note_of, is_unreceived}
+use Rattle.tree_specs.specs.Calls.Refusals.{is_request}
 use Rattle.tree_specs.specs.Rules.Answers.{hook_moment, later, heard, reached}
 use Rattle.tree_specs.specs.Rules.Story.{free, hooked, judged, dooming, leave, children, tried, asked, acting, telling, returning, items, announcing, unlink, release, given, taking, timed, reaching, opening, hearing, preparing, finishing, receiving, cancelling, notifying}
 use Rattle.tree_specs.specs.Rules.Pieces.{effect, numbered, turned, lets_go, notice_event, work_by}
@@ -90,7 +90,7 @@ free-lawful n ih x p last = newest (newest_ref p.rows x) refl
     gives a q law = same-lawful last Any (free (suc n) x p) (λ js. Ended a q [] js) law (ended-lawful last Any a q tt)
 
     marks : newest_ref p.rows x ≡ None → (r : Row) (m : Mark) → r.mark ≡ m → row_of p.rows x ≡ Some r → Lawful last Any (free (suc n) x p)
-    marks k r mark.Quiet m e = by_test (is_unreceived (note_of p.requests x))
+    marks k r mark.Quiet m e = by_test (is_request r.kind)
         (λ u. same-lawful last Any (free (suc n) x p) (preparing n x (set_mark p x mark.Asked)) (λ js. rw (k, e, m, u) refl) (ih.frees.preparing x (set_mark p x mark.Asked) last))
         (λ u. by_test (nat_eq r.hook 0)
         (λ t. same-lawful last Any (free (suc n) x p) (leave n x 0 p) (λ js. rw (k, e, m, u, t) refl) (ih.frees.leave x 0 p last))

@@ -25,7 +25,8 @@ use Rattle.tree_specs.specs.declared.free_step.FreeReply.{FreeReply}
 use Rattle.tree_specs.specs.declared.free_step.FreeReply.TheVariants.{Ok, Running, Refused, Held}
 use Rattle.std.proofs.Math.Nat.{mul-le-mul_left}
 use Rattle.tree_specs.specs.declared.frame.RequestFrame.TheVariants as request
-use Rattle.tree_specs.specs.Events.Requests.{note_of, is_unreceived, without_note}
+use Rattle.tree_specs.specs.Events.Requests.{without_note}
+use Rattle.tree_specs.specs.Calls.Refusals.{is_request}
 use Rattle.tree_specs.specs.Words.Objects.{same_owner}
 use Rattle.tree_specs.specs.Tree.Pool.{Pool, row_of, is_below, owner_of, first_kid, without, changed, remove, left_row, place, detach, doom, marked_row, hooked_row, target_at, newest_ref_of, is_inside}
 use Rattle.tree_specs.specs.Events.Rotation.{closes_with}
@@ -230,8 +231,8 @@ beginning-lower R x fs p k s room = newest (newest_ref p.rows x) refl
         let n = length-changed (marked_row Asked) p.rows x in
         rw t (omega (arith, n), omega (arith, u)))
 
-    quiet : (r : Row) → row_of p.rows x ≡ Some r → r.mark ≡ Quiet → Lowers R (cost R (frame.Free (Beginning x)) fs p k) (lifted p.ring (begin_quiet x r.hook p)) fs k
-    quiet r e m = by_test (is_unreceived (note_of p.requests x))
+    quiet : (r : Row) → row_of p.rows x ≡ Some r → r.mark ≡ Quiet → Lowers R (cost R (frame.Free (Beginning x)) fs p k) (lifted p.ring (begin_quiet x r.kind r.hook p)) fs k
+    quiet r e m = by_test (is_request r.kind)
         (λ t. let u = ap (λ (z : ℕ). row_worth R * z) (total-kept (weight p.requests) (marked_row Asked) p.rows x r e (marked-weight p.requests Asked r (sym (ap mark_weight m)))) in
         let n = length-changed (marked_row Asked) p.rows x in
         rw t (omega (arith, n), omega (arith, u)))

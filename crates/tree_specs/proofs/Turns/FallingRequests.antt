@@ -59,10 +59,12 @@ notifying-lower R x errand fs p k room (Some n) = by_test n.deferred
 
 pub request-lower : (R : ℕ) (f : RequestFrame) (fs : List Frame) (p : Pool) (k : ℕ) → Sound (frame.Request f) fs p → Noted (frame.Request f) p → Room R (frame.Request f) p k → Lowers R (cost R (frame.Request f) fs p k) (request_step f p) fs k
 request-lower R (request.Finishing x state) fs p k s noted room = let u = renoted-cost R (in_state state) p x (λ n e h. going-unreceived p x n noted.works.1 e) in (omega arith, omega (arith, u))
-request-lower R (request.Receiving x) fs p k s noted room =
-    let w = total-receive p.requests p.rows x s.rests.1.1 s.rests.1.2 s.rests.1.0 in
+request-lower R (request.Receiving x) fs p k s noted room = by_test (is_unreceived (note_of p.requests x))
+    (λ t.
+    let w = total-receive p.requests p.rows x s.rests.1.0 s.rests.1.1 t in
     let u = mul-le-mul_left (row_worth R) w in
-    (omega arith, omega (arith, u))
+    rw t (omega arith, omega (arith, u)))
+    (λ t. rw t (omega arith, omega arith))
 request-lower R (request.Cancelling x) fs p k s noted room = each (cancel_in (note_of p.requests x))
   where
     each : (o : Option Handler) → Lowers R (cost R (frame.Request (request.Cancelling x)) fs p k) (cancelling_step x o p) fs k

@@ -18,6 +18,7 @@ use Rattle.tree_specs.specs.declared.frame.Errand.TheVariants.{Finish, Notify, R
 use Rattle.tree_specs.specs.declared.frame.RequestFrame.{RequestFrame}
 use Rattle.tree_specs.specs.declared.frame.RequestFrame.TheVariants as request
 use Rattle.tree_specs.specs.Events.Requests.{note_of, is_unreceived, cleanup_in, cancel_in}
+use Rattle.tree_specs.specs.Calls.Refusals.{is_request}
 use Rattle.tree_specs.specs.Calls.Plans.Plan.{Does, Frees, Unlinks, Empties, Asks, Turns, Works}
 use Rattle.tree_specs.specs.Tree.Targets.{newest_ref}
 use Rattle.std.proofs.Common.{◌≡◌, ℕ, suc, zero, ◌+◌, ◌≤◌, List, [], Option, Some, None, nat_eq, refl, sym, ◌∙◌, ap, subst, arith}
@@ -129,10 +130,10 @@ beginning-placed x fs p k sound s l = newest (newest_ref p.rows x) refl
     done : (a : FreeReply) → Placed (Do.Done (Freed a) p) fs k
     done a = over (Freed a) (frame.Free (Beginning x)) fs p k sound.waiting s l
 
-    quiet : (r : Row) → row_of p.rows x ≡ Some r → r.mark ≡ Quiet → Placed (lifted p.ring (begin_quiet x r.hook p)) fs k
+    quiet : (r : Row) → row_of p.rows x ≡ Some r → r.mark ≡ Quiet → Placed (lifted p.ring (begin_quiet x r.kind r.hook p)) fs k
     quiet r e m =
         let u = total-changed deposit (marked_row Asked) p.rows x r e in
-        by_test (is_unreceived (note_of p.requests x))
+        by_test (is_request r.kind)
         (λ v. rw v (reseat-free (Beginning x) (Preparing x) fs s, omega (arith, u, l, ap mark_deposit m)))
         (λ v. by_test (nat_eq r.hook 0)
         (λ t. rw (v, t) (reseat-free (Beginning x) (Leaving x 0) fs s, l))
@@ -354,7 +355,9 @@ module _ (fs : List Frame) (p : Pool) (k : ℕ) where
 
 request-placed : (f : RequestFrame) (fs : List Frame) (p : Pool) (k : ℕ) → Sound (frame.Request f) fs p → IsStacked (frame.Request f) fs → IsPaidFor (frame.Request f) fs p → Placed (request_step f p) fs k
 request-placed (request.Finishing x state) fs p k s b l = (reseat-work (request.Finishing x state) _ fs b, l)
-request-placed (request.Receiving x) fs p k s b l = (reseat-work (request.Receiving x) _ fs b, l)
+request-placed (request.Receiving x) fs p k s b l = by_test (is_unreceived (note_of p.requests x))
+    (λ t. rw t (reseat-work (request.Receiving x) _ fs b, l))
+    (λ t. rw t (reseat-work (request.Receiving x) _ fs b, l))
 request-placed (request.Cancelling x) fs p k s b l = cancelling-placed fs p k x b l (cancel_in (note_of p.requests x))
 request-placed (request.Cleaning x errand) fs p k s b l = cleaning-placed fs p k x errand b l (cleanup_in (note_of p.requests x))
 request-placed (request.Cleaned x errand) fs p k s b l = cleaned-placed fs p k x errand b l (note_of p.requests x)

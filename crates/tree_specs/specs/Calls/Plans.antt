@@ -25,7 +25,7 @@ use Rattle.tree_specs.specs.Words.Objects.{owner_number}
 use Rattle.tree_specs.specs.Tree.Targets.{newest_ref}
 use Rattle.tree_specs.specs.Tree.Pool.{Pool, changed, is_below, owner_of, newest_ref_of, add, place, named_row, hooked_row, sized_row, limited_row, set_handler, schedule, unschedule, arm, watch, rewatch, close_descriptor, take_number, add_request, renote}
 use Rattle.tree_specs.specs.Events.Rotation.{flags_of, flagged, closing}
-use Rattle.tree_specs.specs.Events.Requests.{state_number, is_in_progress, is_received, note_of, called_back, deferring, cleaned_by, cancelled_by, failed_with}
+use Rattle.tree_specs.specs.Events.Requests.{state_number, is_in_progress, note_of, called_back, deferring, cleaned_by, cancelled_by, failed_with}
 use Rattle.tree_specs.specs.Tree.Inside.{size_inside, count_inside}
 use Rattle.tree_specs.specs.Tree.Sums.{sum_inside}
 use Rattle.tree_specs.specs.Tree.Reports.{report}
@@ -170,11 +170,6 @@ progress_reply (Some n) = if is_in_progress n.state then Number 1 else Number 0
 abbrev pub fails : Obj → ℕ → Plan
 fails x error = if nat_eq error 0 then replies (Number 0) else Works (Renotes x (failed_with error)) (Finish state.UserError) x
 
--- a request is received once
-abbrev pub receives : Obj → Option Note → Plan
-receives x None = replies Ok
-receives x (Some n) = if is_received n.state then replies Ok else Works Nothing Receive x
-
 -- an owner by its number
 abbrev pub owner_reply : Option Owner → Reply
 owner_reply o = Number (owner_number (unwrap_or o Root))
@@ -223,7 +218,7 @@ plan p (call.Oom x) = Works Nothing (Finish state.NoMemory) x
 plan p (call.Iserror x) = replies (failure_reply (note_of p.requests x))
 plan p (call.Progress x) = replies (progress_reply (note_of p.requests x))
 plan p (call.Endtime x time) = Does (Then (Arm x time p.next) TakeNumber) None Ok
-plan p (call.Received x) = receives x (note_of p.requests x)
+plan p (call.Received x) = Works Nothing Receive x
 plan p call.Pending = replies (Number (length p.soon + length p.times + length p.ring))
 plan p call.Now = Asks ask.Clock
 plan p call.Turn = Turns

@@ -144,6 +144,20 @@ freed_by_its_cancelling =
     ("call cancel 1", "reply no 1 1" ∷ []) ∷
     []
 
+-- a request is received once: neither a second call nor its freeing does so again, and this holds in its cleanup too
+abbrev pub received_once : Example
+received_once =
+    ("call req 0 0 st", "reply 1" ∷ []) ∷
+    ("call received 1", "state 1 6" ∷ "freed 2 0" ∷ "reply ok" ∷ []) ∷
+    ("call received 1", "reply ok" ∷ []) ∷
+    ("call free 1", "freed 1 0" ∷ "reply ok" ∷ []) ∷
+    ("call req 0 0 st", "reply 3" ∷ []) ∷
+    ("call cleanup 3 17", "reply ok" ∷ []) ∷
+    ("call received 3", "state 3 6" ∷ "fired cleanup 3 17" ∷ "ask cleanup 3 17 6 0 0 0" ∷ []) ∷
+    ("act free 3", "freed 4 0" ∷ "freed 3 0" ∷ "reply ok" ∷ "ask cleanup 3 17 6 0 0 1" ∷ []) ∷
+    ("ret 0", "reply ok" ∷ []) ∷
+    []
+
 -- the object of a request is freed as by a call: one that is held stays, and one with a destructor is asked
 abbrev pub released : Example
 released =
@@ -177,4 +191,4 @@ posted =
 abbrev pub requests : List Example
 requests =
     finished ∷ cancelled ∷ refused ∷ freed_by_its_callback ∷ freed_by_its_cleanup ∷ received_by_its_cleanup ∷ freed_by_its_cancelling
-    ∷ released ∷ posted ∷ []
+    ∷ received_once ∷ released ∷ posted ∷ []

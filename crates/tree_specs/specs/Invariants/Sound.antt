@@ -22,7 +22,6 @@ use Rattle.tree_specs.specs.declared.free_step.FreeReply.TheVariants.{Ok, Held, 
 use Rattle.tree_specs.specs.Words.Objects.{same}
 use Rattle.tree_specs.specs.Tree.Targets.{target_of, newest_ref}
 use Rattle.tree_specs.specs.Tree.Pool.{Pool, row_of, owner_of, target_at, noted_owner, is_owner, is_inside}
-use Rattle.tree_specs.specs.Events.Requests.{note_of, is_unreceived}
 use Rattle.tree_specs.specs.Calls.Refusals.{is_referable}
 use Rattle.tree_specs.specs.Tree.Forest.{IsForest}
 use Rattle.tree_specs.specs.Machine.Profiles.{Phase, Claim, former_in, phase_in, Waits, Never, AFree, ARun, AChild, ATurn, AHandler, AClear, ARequest, AReceived, AServed, ARoutine, ARelease, profile}
@@ -213,6 +212,10 @@ pub record MayBePlaced (p : Pool) (o : Owner) (x : Obj) : Type 0 where
 abbrev pub IsGivenUp : Obj → Footing → Pool → Type 0
 IsGivenUp x on p = IsCalled on × (r : Row) × (row_of p.rows x ≡ Some r) × IsLive r.mark × (target_of r.kind ≡ None)
 
+-- the row of a request that is received is there, whether it was received before or not
+abbrev pub MayReceive : Obj → Pool → Type 0
+MayReceive x p = (r : Row) × (row_of p.rows x ≡ Some r)
+
 -- what the innermost free rests on, by what it stands on and what the works below it claim
 abbrev pub FreeRests : FreeFrame → Footing → (Obj → List Phase) → Pool → Type 0
 FreeRests (Unlinking o x) on claimed p = IsGivenUp x on p
@@ -221,7 +224,7 @@ FreeRests (Giving x o) on claimed p = MayBePlaced p o x
 FreeRests (Beginning x) on claimed p = Tries x on p × (target_at p.rows x ≡ None)
 FreeRests (Hooked x h) on claimed p = (0 < h) × HasHook (row_of p.rows x) h
 FreeRests (Judged x h v) on claimed p = 0 < h
-FreeRests (Preparing x) on claimed p = is_unreceived (note_of p.requests x) ≡ true
+FreeRests (Preparing x) on claimed p = MayReceive x p
 FreeRests (Prepared x) on claimed p = Unit {0}
 FreeRests (Dooming x) on claimed p = Tries x on p × (newest_ref p.rows x ≡ None)
 FreeRests (Leaving x h) on claimed p = (r : Row) × (row_of p.rows x ≡ Some r) × IsLive r.mark × (claimed x ≡ []) × (target_of r.kind ≡ None) × (newest_ref p.rows x ≡ None)
@@ -238,13 +241,9 @@ TurnRests (Clearing x) on p = ⊥
 TurnRests (Serving x) on p = ⊥
 TurnRests f on p = IsTurned on
 
--- a row of a request that is still to be received
-abbrev pub IsToReceive : Obj → Pool → Type 0
-IsToReceive x p = (is_unreceived (note_of p.requests x) ≡ true) × (r : Row) × (row_of p.rows x ≡ Some r)
-
 -- the work of a request is for what waits for it
 abbrev pub RequestRests : RequestFrame → Footing → Pool → Type 0
-RequestRests (request.Receiving x) on p = IsRequested on × IsToReceive x p
+RequestRests (request.Receiving x) on p = IsRequested on × MayReceive x p
 RequestRests (request.Releasing c) on p = ⊥
 RequestRests f on p = IsRequested on
 

@@ -5,6 +5,7 @@ use Rattle.step_machine.specs.Machine.{Move as Do}
 use Rattle.tree_specs.specs.declared.object.Obj.{Obj}
 use Rattle.tree_specs.specs.declared.object.Owner.{Owner}
 use Rattle.tree_specs.specs.declared.object.Owner.TheVariants.{Root, Of}
+use Rattle.tree_specs.specs.declared.kind.Kind.{Kind}
 use Rattle.tree_specs.specs.declared.row.Row.{Row}
 use Rattle.tree_specs.specs.declared.row.Mark.{Mark}
 use Rattle.tree_specs.specs.declared.row.Mark.TheVariants as mark
@@ -20,7 +21,7 @@ use Rattle.tree_specs.specs.declared.free_step.FreeStep.TheVariants.{Ask as AskO
 use Rattle.tree_specs.specs.Tree.Targets.{newest_ref}
 use Rattle.tree_specs.specs.Tree.Pool.{Pool, row_of, is_below, owner_of, target_at, newest_ref_of, noted_owner, is_inside, first_kid, detach, remove, place, set_mark, doom, set_hook}
 use Rattle.tree_specs.specs.Tree.Heirs.{heir}
-use Rattle.tree_specs.specs.Events.Requests.{note_of, is_unreceived}
+use Rattle.tree_specs.specs.Calls.Refusals.{is_request}
 
 -- a step of a free by itself
 abbrev pub FreeMove : Type 0
@@ -31,20 +32,20 @@ abbrev pub begin_plain : Obj → ℕ → Pool → FreeMove
 begin_plain x h p = if nat_eq h 0 then Do.Go (Leaving x 0) p else Do.Go (Hooked x h) (set_mark p x mark.Asked)
 
 -- a quiet request is received first
-abbrev pub begin_quiet : Obj → ℕ → Pool → FreeMove
-begin_quiet x h p = if is_unreceived (note_of p.requests x) then Do.Go (Preparing x) (set_mark p x mark.Asked) else begin_plain x h p
+abbrev pub begin_quiet : Obj → Kind → ℕ → Pool → FreeMove
+begin_quiet x k h p = if is_request k then Do.Go (Preparing x) (set_mark p x mark.Asked) else begin_plain x h p
 
 -- the freeing of an object begins, by what is going on with it
-abbrev pub begin_by : Obj → ℕ → Mark → Pool → FreeMove
-begin_by x h mark.Quiet p = begin_quiet x h p
-begin_by x h mark.Asked p = Do.Done Running p
-begin_by x h mark.Busy p = Do.Emit (Doom x) (Dooming x) (doom p x)
-begin_by x h mark.Doomed p = Do.Done Running p
-begin_by x h (mark.Dying former) p = Do.Done Ok p
+abbrev pub begin_by : Obj → Kind → ℕ → Mark → Pool → FreeMove
+begin_by x k h mark.Quiet p = begin_quiet x k h p
+begin_by x k h mark.Asked p = Do.Done Running p
+begin_by x k h mark.Busy p = Do.Emit (Doom x) (Dooming x) (doom p x)
+begin_by x k h mark.Doomed p = Do.Done Running p
+begin_by x k h (mark.Dying former) p = Do.Done Ok p
 
 abbrev pub begin_step : Obj → Option Row → Pool → FreeMove
 begin_step x None p = Do.Done Ok p
-begin_step x (Some r) p = begin_by x r.hook r.mark p
+begin_step x (Some r) p = begin_by x r.kind r.hook r.mark p
 
 -- the newest reference is dropped: one from inside makes the freeing begin again, and one from outside holds the object
 abbrev pub drop_step : Obj → Obj → Pool → FreeMove

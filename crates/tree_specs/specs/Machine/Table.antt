@@ -48,7 +48,7 @@ use Rattle.tree_specs.specs.declared.free_step.FreeStep.{FreeStep}
 use Rattle.tree_specs.specs.declared.free_step.FreeStep.TheVariants.{Ask as AskOf, Prepare, Dropped, Refused, Accepted, Doom, Left, Moved, Gone, Done as Over}
 use Rattle.tree_specs.specs.Tree.Pool.{Pool, set_mark, schedule, unschedule, disarm, open_descriptor, renote, finish, receive}
 use Rattle.tree_specs.specs.Events.Pending.{first}
-use Rattle.tree_specs.specs.Events.Requests.{state_number, note_of, is_noted, cleanup_in, cancel_in, cleaned, not_deferring}
+use Rattle.tree_specs.specs.Events.Requests.{state_number, note_of, is_noted, is_unreceived, cleanup_in, cancel_in, cleaned, not_deferring}
 use Rattle.tree_specs.specs.Rules.Errands.{reply_to, cancelled_reply, is_receive, after_routine}
 use Rattle.tree_specs.specs.Events.Rotation.{Ready, closes_with, first_ready}
 use Rattle.tree_specs.specs.Events.Coming.{wait_limit, handler_for, handler_moment, at_time, with_flags, plainly, begun, goes_after, looks_again}
@@ -252,9 +252,14 @@ notifying_step x errand (Some n) p =
     if n.deferred then over_step errand (schedule (renote p x not_deferring) x)
     else callback_step x errand n.callback p
 
+-- a request is received once
+abbrev pub receiving_step : Obj → Bool → Pool → Step
+receiving_step x true p = Do.Emit (Told (event.State x (state_number Received))) (frame.Request (request.Cleaning x Receive)) (receive p x)
+receiving_step x false p = over_step Receive p
+
 abbrev pub request_step : RequestFrame → Pool → Step
 request_step (request.Finishing x state) p = Do.Emit (Told (event.State x (state_number state))) (frame.Request (request.Cleaning x (Finish state))) (finish p x state)
-request_step (request.Receiving x) p = Do.Emit (Told (event.State x (state_number Received))) (frame.Request (request.Cleaning x Receive)) (receive p x)
+request_step (request.Receiving x) p = receiving_step x (is_unreceived (note_of p.requests x)) p
 request_step (request.Cancelling x) p = cancelling_step x (cancel_in (note_of p.requests x)) p
 request_step (request.Cleaning x errand) p = cleaning_step x errand (cleanup_in (note_of p.requests x)) p
 request_step (request.Cleaned x errand) p = cleaned_step x errand (note_of p.requests x) p

@@ -1,27 +1,36 @@
 -- Pieces of the rules, over the works that they are made of: what a plan does, what is let go of, and what comes.
-use Rattle.std.specs.Prelude.{ℕ, Bool, true, false, Option, Some, None, if◌then◌else◌}
+use Rattle.std.specs.Prelude.{ℕ, nat_eq, Bool, true, false, Option, Some, None, if◌then◌else◌}
 use Rattle.tree_specs.specs.declared.object.Obj.{Obj}
 use Rattle.tree_specs.specs.declared.object.Owner.TheVariants.{Of}
 use Rattle.tree_specs.specs.declared.object.Owner.{Owner}
+use Rattle.tree_specs.specs.declared.row.Row.{Row}
+use Rattle.tree_specs.specs.declared.row.Mark.TheVariants as mark
 use Rattle.tree_specs.specs.declared.frame.Errand.{Errand}
 use Rattle.tree_specs.specs.declared.frame.Errand.TheVariants.{Finish, Notify, Receive, Cancel}
 use Rattle.tree_specs.specs.declared.request.State.{State}
+use Rattle.tree_specs.specs.declared.request.State.TheVariants.{TimedOut}
+use Rattle.tree_specs.specs.declared.moment.What.{What}
+use Rattle.tree_specs.specs.declared.moment.What.TheVariants.{Timer as ForTimer}
+use Rattle.tree_specs.specs.declared.occasion.Occasion.{Occasion}
 use Rattle.tree_specs.specs.declared.reply.Refusal.TheVariants as refusal
 use Rattle.tree_specs.specs.declared.notice.Notice.{Notice}
 use Rattle.tree_specs.specs.declared.notice.Notice.TheVariants as notice
 use Rattle.tree_specs.specs.declared.event.Event.{Event}
 use Rattle.tree_specs.specs.declared.reply.Reply.{Reply}
 use Rattle.tree_specs.specs.declared.reply.Reply.TheVariants as reply
-use Rattle.tree_specs.specs.declared.event.Event.TheVariants.{Moved, Warned, Unreferenced, Closed}
+use Rattle.tree_specs.specs.declared.event.Event.TheVariants.{Moved, Warned, Unreferenced, Closed, State as StateOf}
 use Rattle.tree_specs.specs.declared.question.Ask.{Ask}
 use Rattle.tree_specs.specs.declared.question.Ask.TheVariants as ask
 use Rattle.tree_specs.specs.declared.free_step.FreeReply.{FreeReply}
 use Rattle.tree_specs.specs.declared.free_step.FreeReply.TheVariants as free_reply
 use Rattle.tree_specs.specs.declared.free_step.FreeReply.TheVariants.{Ok, Held, Running}
-use Rattle.tree_specs.specs.Tree.Pool.{Pool, is_below, owner_of, is_inside, remove, place, finish, receive}
+use Rattle.tree_specs.specs.Tree.Pool.{Pool, is_below, owner_of, is_inside, remove, place, set_mark, disarm}
 use Rattle.tree_specs.specs.Events.Rotation.{closes_with}
+use Rattle.tree_specs.specs.Events.Requests.{state_number, is_noted}
+use Rattle.tree_specs.specs.Events.Coming.{at_time}
 use Rattle.tree_specs.specs.Tree.Heirs.{heir}
 use Rattle.tree_specs.specs.Rules.Items.Item.{Told}
+use Rattle.tree_specs.specs.Calls.Refusals.{is_request}
 use Rattle.tree_specs.specs.Calls.Plans.{Plan, changed_by}
 use Rattle.tree_specs.specs.Calls.Plans.Plan.{Does, Frees, Unlinks, Empties, Asks, Turns, Works}
 use Rattle.tree_specs.specs.Rules.Answers.{freed_reply}
@@ -73,6 +82,18 @@ comes true errand close start = do
   answer ← errand
   close
 comes false errand close start = start
+
+-- a time has come: a request times out, and a timer starts
+abbrev pub falls_due : Pool → Obj → ℕ → (Obj → State → Work Reply) → Work ℕ → (What → Obj → Occasion → Work ℕ) → Work ℕ
+falls_due p x now finish close start = do
+  change (λ q. disarm q x)
+  comes (is_noted p.requests x) (finish x TimedOut) close (start ForTimer x (at_time now))
+
+-- a request goes to a state, and with this the pool is changed
+abbrev pub enters : Obj → State → (Pool → Pool) → Work (Unit {0})
+enters x state f = do
+  tells (Told (StateOf x (state_number state)))
+  change f
 
 -- an object is freed as a call frees it, and what comes of this isn't told
 abbrev pub freed_quietly : (Obj → Work FreeReply) → (Owner → Obj → Work FreeReply) → Work Reply → Plan → Work Reply
@@ -129,3 +150,17 @@ from_newest None p x again outside unreferred = unreferred
 from_newest (Some r) p x again outside unreferred = do
   drops r x
   if is_inside p.rows (Of r) (Of x) then again else outside r
+
+-- An object with which nothing goes on is freed: a request is received first, one with a destructor is asked, and any other
+-- leaves its owner at once.
+abbrev pub from_quiet : Row → Obj → Work FreeReply → Work FreeReply → Work FreeReply → Work FreeReply
+from_quiet r x receive ask leave =
+    if is_request r.kind
+    then (do
+      change (λ p. set_mark p x mark.Asked)
+      receive)
+    else if nat_eq r.hook 0
+    then leave
+    else (do
+      change (λ p. set_mark p x mark.Asked)
+      ask)

@@ -10,14 +10,14 @@ use Rattle.tree_specs.specs.declared.call.Call.TheVariants as call
 use Rattle.tree_specs.specs.declared.frame.Errand.{Errand}
 use Rattle.tree_specs.specs.declared.frame.Errand.TheVariants.{Finish, Notify, Receive, Cancel}
 use Rattle.tree_specs.specs.declared.request.State.{State}
-use Rattle.tree_specs.specs.declared.request.State.TheVariants.{TimedOut, Received}
+use Rattle.tree_specs.specs.declared.request.State.TheVariants.{Received}
 use Rattle.tree_specs.specs.declared.notice.Notice.{Notice}
 use Rattle.tree_specs.specs.declared.occasion.Occasion.{Occasion}
 use Rattle.tree_specs.specs.declared.reply.Reply.{Reply}
 use Rattle.tree_specs.specs.declared.reply.Reply.TheVariants as reply
-use Rattle.tree_specs.specs.declared.event.Event.TheVariants.{Replied, Fired, Accepted, Refused, Moved, Freed, State as StateOf}
+use Rattle.tree_specs.specs.declared.event.Event.TheVariants.{Replied, Fired, Accepted, Refused, Moved, Freed}
 use Rattle.tree_specs.specs.declared.moment.What.{What}
-use Rattle.tree_specs.specs.declared.moment.What.TheVariants.{Immediate as ForImmediate, Timer as ForTimer, Descriptor as ForDescriptor, Callback as ForCallback, Cleanup as ForCleanup, Cancel as ForCancel}
+use Rattle.tree_specs.specs.declared.moment.What.TheVariants.{Immediate as ForImmediate, Descriptor as ForDescriptor, Callback as ForCallback, Cleanup as ForCleanup, Cancel as ForCancel}
 use Rattle.tree_specs.specs.declared.handler.Handler.{Handler}
 use Rattle.tree_specs.specs.declared.question.Ask.{Ask}
 use Rattle.tree_specs.specs.declared.question.Ask.TheVariants as ask
@@ -26,18 +26,18 @@ use Rattle.tree_specs.specs.declared.free_step.FreeReply.{FreeReply}
 use Rattle.tree_specs.specs.declared.free_step.FreeReply.TheVariants as free_reply
 use Rattle.tree_specs.specs.declared.free_step.FreeReply.TheVariants.{Ok, Held, Running}
 use Rattle.tree_specs.specs.Tree.Targets.{newest_ref}
-use Rattle.tree_specs.specs.Tree.Pool.{Pool, empty, row_of, owner_of, newest_ref_of, target_at, noted_owner, first_kid, detach, remove, place, set_mark, doom, set_hook, schedule, unschedule, disarm, open_descriptor, renote, finish, receive}
+use Rattle.tree_specs.specs.Tree.Pool.{Pool, empty, row_of, owner_of, newest_ref_of, target_at, noted_owner, first_kid, detach, remove, place, set_mark, doom, set_hook, schedule, unschedule, open_descriptor, renote, finish, receive}
 use Rattle.tree_specs.specs.Events.Pending.{first}
-use Rattle.tree_specs.specs.Events.Requests.{state_number, note_of, is_noted, is_unreceived, cleanup_in, cancel_in, cleaned as is_cleaned, not_deferring}
+use Rattle.tree_specs.specs.Events.Requests.{note_of, is_noted, is_unreceived, cleanup_in, cancel_in, cleaned as is_cleaned, not_deferring}
 use Rattle.tree_specs.specs.Rules.Errands.{reply_to, cancelled_reply, is_receive, after_routine}
 use Rattle.tree_specs.specs.Events.Rotation.{first_ready}
-use Rattle.tree_specs.specs.Events.Coming.{wait_limit, handler_for, handler_moment, at_time, with_flags, plainly, begun, goes_after, looks_again}
+use Rattle.tree_specs.specs.Events.Coming.{wait_limit, handler_for, handler_moment, with_flags, plainly, begun, goes_after, looks_again}
 use Rattle.tree_specs.specs.Rules.Items.{Item}
 use Rattle.tree_specs.specs.Rules.Items.Item.{Told, Asked}
 use Rattle.tree_specs.specs.Calls.Plans.{planned, notice_of}
 use Rattle.tree_specs.specs.Rules.Answers.{hook_moment, later, heard, clocked, polled, reached}
 use Rattle.tree_specs.specs.Rules.Sequence.{Work, Scene, CallStart, ◌>>=◌, ◌>>◌, gives, pool, change, tells, told_about, asks, short}
-use Rattle.tree_specs.specs.Rules.Pieces.{turned, effect, work_by, comes, freed_quietly, hand_on_after, drops, lets_go, notice_event, from_newest}
+use Rattle.tree_specs.specs.Rules.Pieces.{turned, effect, work_by, comes, falls_due, enters, freed_quietly, hand_on_after, drops, lets_go, notice_event, from_newest, from_quiet}
 
 abbrev mutual
   -- An owner's interest in an object is taken away: its newest reference to it is dropped, or it gives the object up.
@@ -69,7 +69,7 @@ abbrev mutual
 
   -- An object is freed. The newest reference to it is dropped first: one from inside makes the freeing begin again, and
   -- one from outside holds the object. One that is dying is left to the free that it is in, and one that runs can't be
-  -- freed now. A request is received before it is freed.
+  -- freed now. Where nothing goes on with it a request is received first, and the destructor runs of an object that has one.
   pub free : ℕ → Obj → Work FreeReply
   free zero x = short
   free (suc n) x = do
@@ -77,15 +77,7 @@ abbrev mutual
     from_newest (newest_ref p.rows x) p x (free n x) (λ r. gives Held) (elim (row_of p.rows x) [
       | None ↦ gives Ok
       | Some r ↦ elim r.mark [
-        | mark.Quiet ↦ if is_unreceived (note_of p.requests x)
-            then (do
-              change (λ q. set_mark q x mark.Asked)
-              preparing n x)
-            else if nat_eq r.hook 0
-            then leave n x 0
-            else (do
-              change (λ q. set_mark q x mark.Asked)
-              hooked n x r.hook)
+        | mark.Quiet ↦ from_quiet r x (preparing n x) (hooked n x r.hook) (leave n x 0)
         | mark.Asked ↦ gives Running
         | mark.Busy ↦ (do
           lets_go x (λ q. doom q x)
@@ -212,9 +204,7 @@ abbrev mutual
       | None ↦ elim (first p.times) [
         | None ↦ polling n wait_limit
         | Some d ↦ if nat_eq d.time 0
-            then (do
-              change (λ q. disarm q d.object)
-              comes (is_noted p.requests d.object) (finishing n d.object TimedOut) (closing n 1) (starting n ForTimer d.object (at_time 0)))
+            then falls_due p d.object 0 (finishing n) (closing n 1) (starting n)
             else timing n false
       ]
     ]
@@ -231,9 +221,7 @@ abbrev mutual
     elim (first p.times) [
       | None ↦ closing n 0
       | Some d ↦ if nat_le d.time now
-          then (do
-            change (λ q. disarm q d.object)
-            comes (is_noted p.requests d.object) (finishing n d.object TimedOut) (closing n 1) (starting n ForTimer d.object (at_time now)))
+          then falls_due p d.object now (finishing n) (closing n 1) (starting n)
           else if again then closing n 0 else polling n (d.time - now)
     ]
 
@@ -288,18 +276,20 @@ abbrev mutual
   pub finishing : ℕ → Obj → State → Work Reply
   finishing zero x state = short
   finishing (suc n) x state = do
-    tells (Told (StateOf x (state_number state)))
-    change (λ p. finish p x state)
+    enters x state (λ p. finish p x state)
     cleaning n x (Finish state)
 
-  -- A request is received: it comes no more and has no end time. Its cleanup runs, and then the object that it was made with
-  -- is freed.
+  -- A request is received, once: it comes no more and has no end time. Its cleanup runs, and then the object that it was made
+  -- with is freed.
   pub receiving : ℕ → Obj → Work Reply
   receiving zero x = short
   receiving (suc n) x = do
-    tells (Told (StateOf x (state_number Received)))
-    change (λ p. receive p x)
-    cleaning n x Receive
+    p ← pool
+    if is_unreceived (note_of p.requests x)
+        then (do
+          enters x Received (λ q. receive q x)
+          cleaning n x Receive)
+        else over n (reply_to Receive)
 
   -- the routine runs that cancels a request, where it has one and wasn't received
   pub cancelling : ℕ → Obj → Work Reply
