@@ -1,5 +1,5 @@
 -- Objects as their callers see them, and what is kept of them.
-use Rattle.std.specs.Prelude.{◌≡◌, true, false, ◌+◌, ◌^◌, ◌<◌, ◌≤◌, Bool, List, length, Option, Some}
+use Rattle.std.specs.Prelude.{◌≡◌, true, false, ◌+◌, ◌^◌, ◌<◌, ◌≤◌, ◌⊎◌, Bool, List, length, slice_get, Option, Some}
 use Rattle.tree_specs.specs.declared.frame.FreeFrame.{FreeFrame}
 use Rattle.tree_specs.specs.declared.object.Obj.{Obj}
 use Rattle.tree_specs.specs.declared.object.Owner.{Owner}
@@ -9,6 +9,7 @@ use Rattle.tree_links.specs.Links.{Links, pool_of, MayPlace}
 use Rattle.references.specs.Pairs.{Pairs}
 use Rattle.memory_limits.specs.Limits.{Limits}
 use Rattle.destructors.specs.Frees.{OpenFrees, before}
+use Rattle.destructors.specs.Engine.{IsReceiving}
 use Rattle.object_pool.specs.Upcoming.{Upcoming, Agenda, HasPlace, beside, pending}
 
 pub record Objects : Type 0 where
@@ -25,6 +26,10 @@ LeavesRest old new = new ≡ record old { pool = new.pool; works = new.works; re
 -- the open frees
 abbrev pub frees_in : Objects → OpenFrees
 frees_in o = record { works = o.works; pool = o.pool }
+
+-- the memory for a call is taken, or the innermost free waits until its request was received
+abbrev pub MayBeginFree : Objects → Type 0
+MayBeginFree o = (o.ready ≡ true) ⊎ IsReceiving (slice_get o.works 0)
 
 -- by the parts
 abbrev pub objects_of : Option FreeFrame → Links → Upcoming → Bool → Objects

@@ -3,5 +3,4 @@ pub mod Sound
 pub mod Noted
 pub mod Awaiting
 pub mod Consistent
-pub mod Alone
 pub mod Measure

@@ -10,7 +10,7 @@ ghost use Rattle.destructors.specs.Frees.{next_of, is_event, returned, speaking,
 ghost use Rattle.destructors.specs.Works.{IsAtWork, IsAwaiting, GoesOn};
 ghost use Rattle.destructors.specs.Moves.{IsLiveRow};
 ghost use Rattle.destructors.specs.Engine.{IsAsked};
-ghost use Rattle.object_pool.specs.Objects.{frees_in, LeavesRest};
+ghost use Rattle.object_pool.specs.Objects.{frees_in, LeavesRest, MayBeginFree};
 ghost use Rattle.object_pool.specs.Upcoming.{closed_of};
 
 use crate::counting::count_step;
@@ -36,14 +36,15 @@ fn event(step: FreeStep, closed: Option<u32>) -> Option<Event>
         FreeStep::Moved { object, owner, .. } => Some(Event::Moved { object, owner }),
         FreeStep::Gone { object, hook } => Some(Event::Freed { object, hook }),
         FreeStep::Doom(_) | FreeStep::Left { .. } => closed.map(Event::Closed),
-        FreeStep::Ask(_) | FreeStep::Done(_) => None,
+        FreeStep::Ask(_) | FreeStep::Prepare(_) | FreeStep::Done(_) => None,
     }
 }
 
 impl ObjectPool {
-    /// Begins the freeing of an object to which there is no reference.
+    /// Begins the freeing of an object to which there is no reference. The memory for a call is taken before, but where a free
+    /// waits until a request was received: then that for its works is enough.
     pub fn begin_free(&mut self, x: Obj)
-        requires ready { self.old.ready ≡ true }
+        requires room { MayBeginFree self.old }
         requires awaiting { IsAwaiting (frees_in self.old) }
         requires object { target_at self.old.pool.rows x ≡ None }
         requires unheld { newest_ref self.old.pool.rows x ≡ None }
@@ -57,7 +58,7 @@ impl ObjectPool {
 
     /// Begins to take the interest of an owner in an object away.
     pub fn begin_unlink(&mut self, owner: Owner, x: Obj)
-        requires ready { self.old.ready ≡ true }
+        requires room { MayBeginFree self.old }
         requires awaiting { IsAwaiting (frees_in self.old) }
         requires live { IsLiveRow self.old.pool x }
         requires object { target_at self.old.pool.rows x ≡ None }

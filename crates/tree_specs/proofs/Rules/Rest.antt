@@ -44,9 +44,10 @@ use Rattle.tree_specs.specs.Calls.Refusals.{Check}
 use Rattle.tree_specs.specs.Machine.FreeTable.{free_step}
 use Rattle.tree_specs.specs.Machine.Table.{Step, call_step, turning_step, starting_step, handled_step, turn_step, outside_step, over_step, cancelling_step, cleaning_step, release_object, cleaned_step, callback_step, notifying_step, receiving_step, request_step, table, step, event_of, announced, plan_step, lifted, taken}
 use Rattle.tree_specs.specs.Invariants.Sound.{Sound, Rests}
+use Rattle.tree_specs.specs.Invariants.Noted.{Noted}
 use Rattle.tree_specs.specs.Invariants.Measure.{cost}
 use Rattle.tree_specs.specs.Machine.View.{View, outcome_of, rest_of}
-use Rattle.tree_specs.specs.Invariants.Consistent.{IsCaller, IsStacked, IsConsistent}
+use Rattle.tree_specs.specs.Invariants.Consistent.{IsCaller, IsStacked, IsPaidFor, IsConsistent}
 use Rattle.tree_specs.proofs.Invariants.Keeps.{sound-kept}
 use Rattle.tree_specs.proofs.Invariants.KeptNotes.{noted-kept}
 use Rattle.tree_specs.proofs.Invariants.FreeNotes.{NotedBy}
@@ -60,15 +61,18 @@ use Rattle.tree_specs.proofs.Turns.Bound.{cost-turns, pending-most}
 abbrev pub most : View → ℕ → ℕ
 most v k = length v.pool.rows + 2 * k + 2
 
+pub well-of : (v : View) (k : ℕ) → Sound v.innermost v.below v.pool → Noted v.innermost v.pool → Well (most v k) v.innermost v.below v.pool k
+well-of v k s n = (s, n, omega (arith, pending-most v.innermost))
+
 pub well : (v : View) (k : ℕ) → IsConsistent v → Well (most v k) v.innermost v.below v.pool k
-well v k h = (h.sound, h.noted, omega (arith, pending-most v.innermost))
+well v k h = well-of v k h.sound h.noted
 
 -- any number of turns above the measure gives the rest
 pub rest-enough : (R m : ℕ) (v : View) (is : List Input) → IsConsistent v → Well R v.innermost v.below v.pool (length is) → cost R v.innermost v.below v.pool (length is) < m
     → rest table m v.innermost v.below v.pool is ≡ outcome_of v is
 rest-enough R m v is h w less =
     let n : ℕ = turns (length v.pool.rows) (length is) in
-    let c = cost-turns v (length is) h in
+    let c = cost-turns v (length is) h.light in
     rest-any table (Well R) (cost R) (falls R) m (m + n) v.innermost v.below v.pool is w less (omega arith)
     ∙ rest-any table (Well (most v (length is))) (cost (most v (length is))) (falls (most v (length is))) (m + n) n v.innermost v.below v.pool is (well v (length is) h) (omega (arith, c)) c
 
@@ -76,23 +80,32 @@ rest-enough R m v is h w less =
 pub walk-whole : (v : View) (is : List Input) → IsConsistent v → NotShort (walk table (turns (length v.pool.rows) (length is)) v.innermost v.below v.pool is)
 walk-whole v is h =
     let R : ℕ = most v (length is) in
-    enough table (Well R) (cost R) (falls R) (turns (length v.pool.rows) (length is)) v.innermost v.below v.pool is (well v (length is) h) (cost-turns v (length is) h)
+    enough table (Well R) (cost R) (falls R) (turns (length v.pool.rows) (length is)) v.innermost v.below v.pool is (well v (length is) h) (cost-turns v (length is) h.light)
 
 -- and so are more
 pub walk-long : (n : ℕ) (v : View) (is : List Input) → IsConsistent v → turns (length v.pool.rows) (length is) ≤ n → NotShort (walk table n v.innermost v.below v.pool is)
 walk-long n v is h big =
     let R : ℕ = most v (length is) in
-    let c = cost-turns v (length is) h in
+    let c = cost-turns v (length is) h.light in
     enough table (Well R) (cost R) (falls R) n v.innermost v.below v.pool is (well v (length is) h) (omega (arith, c))
 
 -- as many steps are as good as so many turns
 pub rest-is-walk : (v : View) (is : List Input) → IsConsistent v → walk table (turns (length v.pool.rows) (length is)) v.innermost v.below v.pool is ≡ outcome_of v is
 rest-is-walk v is h =
     let R : ℕ = most v (length is) in
-    rest-walk table (Well R) (cost R) (falls R) (turns (length v.pool.rows) (length is)) v.innermost v.below v.pool is (well v (length is) h) (cost-turns v (length is) h)
+    rest-walk table (Well R) (cost R) (falls R) (turns (length v.pool.rows) (length is)) v.innermost v.below v.pool is (well v (length is) h) (cost-turns v (length is) h.light)
+
+-- whatever else holds, the stated turns are enough for works that the rows pay for
+pub paid-enough : (v : View) (is : List Input) → Sound v.innermost v.below v.pool → Noted v.innermost v.pool → IsPaidFor v.innermost v.below v.pool → NotShort (outcome_of v is)
+paid-enough v is s n l =
+    let R : ℕ = most v (length is) in
+    let k : ℕ = turns (length v.pool.rows) (length is) in
+    let w = well-of v (length is) s n in
+    let c = cost-turns v (length is) l in
+    subst NotShort (rest-walk table (Well R) (cost R) (falls R) k v.innermost v.below v.pool is w c) (enough table (Well R) (cost R) (falls R) k v.innermost v.below v.pool is w c)
 
 pub not-short : (v : View) (is : List Input) → IsConsistent v → NotShort (outcome_of v is)
-not-short v is h = subst NotShort (rest-is-walk v is h) (walk-whole v is h)
+not-short v is h = paid-enough v is h.sound h.noted h.light
 
 -- ---- what a step keeps
 
@@ -124,7 +137,7 @@ pub event-law : (v : View) (e : Item) (f : Frame) (p : Pool) (is : List Input) �
 event-law v e f p is h is-emit =
     let R : ℕ = most v (length is) in
     let n : ℕ = turns (length v.pool.rows) (length is) in
-    let c = cost-turns v (length is) h in
+    let c = cost-turns v (length is) h.light in
     let k : Well R f v.below p (length is) × (cost R f v.below p (length is) < cost R v.innermost v.below v.pool (length is)) = rw is-emit at (stays v (length is) h) in
     rest-event table (Well R) (cost R) (falls R) n n v.innermost f v.below v.pool p e is (well v (length is) h) c is-emit (omega (arith, k.1, c))
     ∙ ap (tell e) (rest-enough R n (record { innermost = f; below = v.below; pool = p }) is (event-whole v e f p h is-emit) k.0 (omega (arith, k.1, c)))
@@ -140,7 +153,7 @@ pub question-law : (v : View) (q : Item) (f g : Frame) (p : Pool) (i : Input) (i
 question-law v q f g p i is h is-wait fits =
     let R : ℕ = most v (length (i ∷ is)) in
     let n : ℕ = turns (length v.pool.rows) (length (i ∷ is)) in
-    let c = cost-turns v (length (i ∷ is)) h in
+    let c = cost-turns v (length (i ∷ is)) h.light in
     let k : (i : Input) (g : Frame) → taken f p i ≡ Some g → Well R g v.below p (length is) × (cost R g v.below p (length is) < cost R v.innermost v.below v.pool (length (i ∷ is))) =
     rw is-wait at (stays v (length (i ∷ is)) h) in
     let l : Well R g v.below p (length is) × (cost R g v.below p (length is) < cost R v.innermost v.below v.pool (length (i ∷ is))) = k i g fits in
@@ -150,7 +163,7 @@ question-law v q f g p i is h is-wait fits =
 pub open-law : (v : View) (q : Item) (f : Frame) (p : Pool) → IsConsistent v → step v.innermost v.pool ≡ Do.Wait q f p → outcome_of v [] ≡ Waits (q ∷ [])
 open-law v q f p h is-wait =
     let R : ℕ = most v 0 in
-    rest-open table (Well R) (cost R) (falls R) (turns (length v.pool.rows) 0) v.innermost f v.below v.pool p q (well v 0 h) (cost-turns v 0 h) is-wait
+    rest-open table (Well R) (cost R) (falls R) (turns (length v.pool.rows) 0) v.innermost f v.below v.pool p q (well v 0 h) (cost-turns v 0 h.light) is-wait
 
 abbrev pub view_of_state : State Frame Pool → View
 view_of_state s = record { innermost = s.now; below = s.below; pool = s.pool }
@@ -163,7 +176,7 @@ pub silent-law : (v : View) (s : State Frame Pool) (is : List Input) → IsConsi
 silent-law v s is h e =
     let R : ℕ = most v (length is) in
     let n : ℕ = turns (length v.pool.rows) (length is) in
-    let c = cost-turns v (length is) h in
+    let c = cost-turns v (length is) h.light in
     let k : Well R s.now s.below s.pool (length is) × (cost R s.now s.below s.pool (length is) < cost R v.innermost v.below v.pool (length is)) =
     silent-leads table (λ g gs q j. Well (most v (length is)) g gs q j × (cost (most v (length is)) g gs q j < cost (most v (length is)) v.innermost v.below v.pool (length is))) (step v.innermost v.pool) v.below (length is) s (stays v (length is) h) e in
     rest-silent table (Well R) (cost R) (falls R) n n v.innermost v.below v.pool s is (well v (length is) h) c e (omega (arith, k.1, c))
@@ -349,7 +362,7 @@ ends-asked v is h =
     let n : ℕ = turns (length v.pool.rows) (length is) in
     let w : Asks IsQuestion (walk table n v.innermost v.below v.pool is) = walk-asks table WholeAt IsQuestion asks-kept n v.innermost v.below v.pool is h in
     Asks-items IsQuestion _ (not-short v is h)
-    (subst (λ (o : Outcome Answer Pool Input Item). Asks IsQuestion o) (rest-walk table (Well R) (cost R) (falls R) n v.innermost v.below v.pool is (well v (length is) h) (cost-turns v (length is) h)) w)
+    (subst (λ (o : Outcome Answer Pool Input Item). Asks IsQuestion o) (rest-walk table (Well R) (cost R) (falls R) n v.innermost v.below v.pool is (well v (length is) h) (cost-turns v (length is) h.light)) w)
 
 -- ---- where a question is open the story still to come begins with it
 
@@ -366,7 +379,7 @@ begins-items v q f p is h is-wait = each is e (not-short v is h)
     n = turns (length v.pool.rows) (length is)
 
     e : outcome_of v is ≡ asks table.taken (λ g p' left. walk table n g v.below p' left) q f p is
-    e = rest-step table (Well (most v (length is))) (cost (most v (length is))) (falls (most v (length is))) n v.innermost v.below v.pool is (well v (length is) h) (cost-turns v (length is) h)
+    e = rest-step table (Well (most v (length is))) (cost (most v (length is))) (falls (most v (length is))) n v.innermost v.below v.pool is (well v (length is) h) (cost-turns v (length is) h.light)
         ∙ ap (λ (m : Move Frame Answer Pool Item). leads table (walk table n) m v.below is) is-wait
 
     fits : (i : Input) (js : List Input) (o : Option Frame) → NotShort (given (λ g p' left. walk table n g v.below p' left) q p js o)

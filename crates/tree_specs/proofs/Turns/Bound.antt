@@ -20,7 +20,7 @@ use Rattle.std.proofs.Math.Nat.{mul-le-mul_left}
 use Rattle.tree_specs.specs.Machine.Profiles.{Looks, AtNone, AtKids, AtBelow, Cost, Profile, tried_cost, profile}
 use Rattle.tree_specs.specs.Rules.Story.{turns}
 use Rattle.tree_specs.specs.Machine.View.{View}
-use Rattle.tree_specs.specs.Invariants.Consistent.{sizes, deposit, IsConsistent}
+use Rattle.tree_specs.specs.Invariants.Consistent.{sizes, deposit, IsPaidFor}
 use Rattle.tree_specs.specs.declared.frame.RequestFrame.{RequestFrame}
 use Rattle.tree_specs.specs.declared.frame.RequestFrame.TheVariants as request
 use Rattle.tree_specs.specs.Events.Requests.{Notes}
@@ -111,10 +111,10 @@ numbers r k w z d e hw hz hd he =
     omega arith
 
 -- the measure is below the stated number of turns at every moment
-pub cost-turns : (v : View) (k : ℕ) → IsConsistent v → cost (length v.pool.rows + 2 * k + 2) v.innermost v.below v.pool k < turns (length v.pool.rows) k
-cost-turns v k h =
+pub cost-turns : (v : View) (k : ℕ) → IsPaidFor v.innermost v.below v.pool → cost (length v.pool.rows + 2 * k + 2) v.innermost v.below v.pool k < turns (length v.pool.rows) k
+cost-turns v k l =
     numbers (length v.pool.rows) k (total (weight v.pool.requests) v.pool.rows) (sizes v.below) (below_cost v.below) (top_cost (length v.pool.rows + 2 * k + 2) v.innermost v.below v.pool.rows)
-    (weight-most v.pool.requests v.pool.rows) (let m = deposit-most v.pool.rows in let l = h.light in omega arith)
+    (weight-most v.pool.requests v.pool.rows) (let m = deposit-most v.pool.rows in omega (arith, l, m))
     (below-light v.below) (top-most (length v.pool.rows + 2 * k + 2) v.innermost v.below v.pool.rows (omega arith))
 
 pub pending-most : (f : Frame) → pending f ≤ 2
