@@ -61,10 +61,14 @@ excepted p x h = record { notes = h.notes; timed = h.timed; ready = λ y t. inl 
 
 -- nor is what was received already
 pub unexcepted : (p : Pool) (x : Obj) → NotesHold (Some x) p → is_unreceived (note_of p.requests x) ≡ false → NotesHold None p
-unexcepted p x h f = record { notes = h.notes; timed = h.timed; ready = λ y t. elim (h.ready y t) [
-  | inl e ↦ inl e
-  | inr e ↦ let is : x ≡ y = cc in let bad : is_unreceived (note_of p.requests y) ≡ false = subst (λ (z : Obj). is_unreceived (note_of p.requests z) ≡ false) is f in let worse : true ≡ false = sym t ∙ bad in cc
-] }
+unexcepted p x h f = record {
+  notes = h.notes;
+  timed = h.timed;
+  ready = λ y t. elim (h.ready y t) [
+    | inl e ↦ inl e
+    | inr e ↦ let is : x ≡ y = cc in let bad : is_unreceived (note_of p.requests y) ≡ false = subst (λ (z : Obj). is_unreceived (note_of p.requests z) ≡ false) is f in let worse : true ≡ false = sym t ∙ bad in cc
+  ];
+}
 
 -- ---- rows
 
