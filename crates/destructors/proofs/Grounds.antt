@@ -4,48 +4,32 @@ use Rattle.step_machine.specs.Machine.{Move as Do}
 use Rattle.tree_specs.specs.Machine.Profiles.{InRun, InLoop}
 use Rattle.tree_specs.specs.declared.frame.Frame.{Frame}
 use Rattle.tree_specs.specs.declared.frame.Frame.TheVariants as frame
-use Rattle.tree_specs.specs.declared.frame.CallFrame.{CallFrame}
 use Rattle.tree_specs.specs.declared.frame.FreeFrame.{FreeFrame}
-use Rattle.tree_specs.specs.declared.frame.FreeFrame.TheVariants.{Unlinking, Releasing, Giving, Beginning, Hooked, Judged, Dooming, Leaving, Looping, AfterChild}
+use Rattle.tree_specs.specs.declared.frame.FreeFrame.TheVariants.{Unlinking, Releasing, Giving, Beginning, Hooked, Judged, Preparing, Prepared, Dooming, Leaving, Looping, FreeingChild, AfterChild, Ending}
 use Rattle.tree_specs.specs.declared.frame.Purpose.{Purpose}
 use Rattle.tree_specs.specs.declared.frame.Purpose.TheVariants.{Removal, Emptying}
-use Rattle.tree_specs.specs.declared.frame.Answer.TheVariants.{Freed}
 use Rattle.tree_specs.specs.declared.free_step.FreeReply.{FreeReply}
-use Rattle.tree_specs.specs.declared.free_step.FreeReply.TheVariants.{Held, Running, Refused as IsRefused}
+use Rattle.tree_specs.specs.declared.free_step.FreeReply.TheVariants.{Ok, Held, Running, Refused as IsRefused}
 use Rattle.tree_specs.specs.declared.free_step.FreeStep.{FreeStep}
-use Rattle.tree_specs.specs.declared.free_step.FreeStep.TheVariants.{Ask, Done}
+use Rattle.tree_specs.specs.declared.free_step.FreeStep.TheVariants.{Accepted, Moved as MovedStep, Refused as IsRefusedStep}
 use Rattle.tree_specs.specs.declared.object.Obj.{Obj}
 use Rattle.tree_specs.specs.declared.object.Owner.{Owner}
 use Rattle.tree_specs.specs.declared.object.Owner.TheVariants.{Of}
 use Rattle.tree_specs.specs.declared.row.Row.{Row}
 use Rattle.tree_specs.specs.declared.row.Mark.{Mark}
 use Rattle.tree_specs.specs.declared.row.Mark.TheVariants.{Quiet, Asked, Busy, Doomed, Dying}
-use Rattle.tree_specs.specs.Tree.Pool.{Pool, row_of, is_below, owner_of, first_kid, target_at, newest_ref_of, is_inside, is_dying_mark, without, marked_row, hooked_row, left_row, set_mark}
+use Rattle.tree_specs.specs.Tree.Pool.{Pool, row_of, is_below, owner_of, first_kid, target_at, newest_ref_of, is_inside, is_dying_mark, without, set_mark, set_hook, place}
 use Rattle.tree_specs.specs.Tree.Targets.{newest_ref}
 use Rattle.tree_specs.specs.Words.Objects.{same}
 use Rattle.tree_specs.specs.Tree.Heirs.{heir}
 use Rattle.tree_specs.specs.Tree.Inside.{total}
-use Rattle.tree_specs.specs.Machine.FreeTable.{FreeMove, free_step, begin_step, refs_step, unlink_step, release_step, child_step, loop_step, hand_on_step}
-use Rattle.tree_specs.specs.Machine.Table.{caller_resume}
-use Rattle.tree_specs.specs.Invariants.Measure.{below_cost, loop_kids, top_cost, cost}
-use Rattle.tree_specs.specs.Invariants.Sound.{claims, IsLive, Sound}
-use Rattle.tree_specs.specs.Invariants.Consistent.{IsConsistent}
+use Rattle.tree_specs.specs.Machine.FreeTable.{free_step, judge_step, child_step, loop_step, hand_on_step}
+use Rattle.tree_specs.specs.Invariants.Sound.{claim, claims, IsLive, Sound}
 use Rattle.tree_specs.specs.Invariants.Sound.{MayBePlaced}
 use Rattle.tree_specs.proofs.Tree.Numbered.{by_test}
-use Rattle.tree_specs.proofs.Tree.Rows.{total-without, total-placed, total-changed}
 use Rattle.tree_specs.proofs.Invariants.Changes.{dying-row, running-row, claim-here, heir-placed}
-use Rattle.tree_specs.proofs.Turns.FallingFrees.{Room, total-kept}
-use Rattle.tree_specs.proofs.Turns.Falls.{lower}
-use Rattle.tree_specs.proofs.Rules.Rest.{whole-kept}
 use Rattle.tree_links.specs.Links.{MayPlace}
-use Rattle.destructors.specs.Frees.{OpenFrees, answered, moved, moves}
-use Rattle.destructors.specs.Works.{AtWork, IsAtWork, IsAwaiting, GoesOn}
-use Rattle.destructors.specs.Callers.{OpenTurn, calling, standing, free_view}
 use Rattle.destructors.specs.Moves.{IsLiveRow, MayHandOn, MoveRests}
-use Rattle.destructors.specs.Room.{mark_places, row_places, work_places, wanted}
-use Rattle.destructors.proofs.Callers.{some_callers, some-caller, some_standing, among, work-alone, call-alone}
-use Rattle.destructors.proofs.Parts.{some_turns}
-use Rattle.destructors.proofs.Lifting.{OnFree, OnTold, OnMove, OnCaller, lift}
 
 -- ---- what a move rests on
 

@@ -33,8 +33,8 @@ use Rattle.tree_specs.specs.Invariants.Consistent.{IsStacked, IsPaidFor}
 use Rattle.tree_specs.proofs.Tree.Numbered.{by_test}
 use Rattle.tree_specs.proofs.Tree.Rows.{total-without, total-placed, total-changed}
 use Rattle.tree_specs.proofs.Invariants.Changes.{dying-row, running-row, claim-here, heir-placed, not-zero}
-use Rattle.tree_specs.proofs.Turns.FallingFrees.{free-lower, total-kept}
-use Rattle.tree_specs.proofs.Turns.Lowering.{Room}
+use Rattle.tree_specs.proofs.Turns.FallingFrees.{free-lower}
+use Rattle.tree_specs.proofs.Turns.Lowering.{Room, total-kept}
 use Rattle.tree_specs.proofs.Turns.Load.{placed-kept}
 use Rattle.tree_specs.proofs.Invariants.Keeps.{sound-kept}
 use Rattle.destructors.specs.Frees.{OpenFrees, awaits_run, answered, moved, moves}

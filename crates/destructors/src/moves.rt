@@ -3,13 +3,12 @@ ghost use Rattle.std.specs.Prelude.{◌≡◌, ◌≤◌, None};
 ghost use Rattle.tree_specs.specs.Tree.Pool.{row_of, first_kid, owner_of, target_at, newest_ref_of};
 ghost use Rattle.tree_specs.specs.Tree.Targets.{newest_ref};
 ghost use Rattle.tree_specs.specs.declared.object.Owner.TheVariants.{Of as below};
-ghost use Rattle.tree_specs.specs.declared.frame.FreeFrame.TheVariants.{Beginning, Looping as Loops};
-ghost use Rattle.tree_specs.specs.Tree.Pool.{Pool as PoolData};
-ghost use Rattle.destructors.specs.declared.motion.Motion.TheVariants.{Goes};
-ghost use Rattle.tree_specs.specs.Machine.FreeTable.{free_step, begin_step, begin_quiet, refs_step, unlink_step, release_step, judge_step, last_step, child_step, loop_step, hand_on_step};
+ghost use Rattle.tree_specs.specs.declared.frame.FreeFrame.TheVariants.{Looping as Loops};
+ghost use Rattle.tree_specs.specs.Calls.Refusals.{is_request};
+ghost use Rattle.tree_specs.specs.Machine.FreeTable.{free_step, begin_step, refs_step, unlink_step, release_step, judge_step, last_step, child_step, loop_step, hand_on_step};
 ghost use Rattle.tree_links.specs.Links.{pool_of, works_of, MayPlace};
 ghost use Rattle.references.specs.Rows.{AreRefsOf, SameRefs};
-ghost use Rattle.destructors.specs.Moves.{move_of, outlook_of, entered, IsLiveRow, MayHandOn, MoveRests};
+ghost use Rattle.destructors.specs.Moves.{move_of, outlook_of, IsLiveRow, MayHandOn, MoveRests};
 
 use crate::dropping::{drop_ref, hold, noted_owner, release, unlink};
 use crate::heir::heir;
@@ -18,15 +17,11 @@ use references::Refs;
 use tree_links::Tree;
 use tree_specs::{FreeFrame, FreeReply, FreeStep, Kind, Mark, Obj, Owner, Purpose};
 
-/// What the freeing of a quiet object begins with: a request is received, and an object with a destructor is asked.
-fn first_work(x: Obj, kind: Kind, hook: u32) -> FreeFrame
-    ensures { (pool : PoolData) → begin_quiet x kind hook pool ≡ move_of (Goes result) (entered (Beginning x) result pool) }
+/// Whether it is the kind of requests.
+fn is_request(kind: Kind) -> bool
+    ensures { result ≡ is_request kind }
 {
-    match kind {
-        Kind::Request => FreeFrame::Preparing { x },
-        _ if hook == 0 => FreeFrame::Leaving { x, hook },
-        _ => FreeFrame::Hooked { x, hook },
-    }
+    matches!(kind, Kind::Request)
 }
 
 /// The freeing of an object to which there is no reference begins.
@@ -39,13 +34,16 @@ fn begin(x: Obj, tree: &mut Tree) -> Motion
     let Some(row) = tree.row(x) else {
         return Motion::Ends(FreeReply::Ok);
     };
-    let next = first_work(x, row.kind, row.hook);
+    let hook = row.hook;
     match row.mark {
+        Mark::Quiet if is_request(row.kind) => {
+            tree.set_mark(x, Mark::Asked);
+            Motion::Goes(FreeFrame::Preparing { x })
+        }
+        Mark::Quiet if hook == 0 => Motion::Goes(FreeFrame::Leaving { x, hook }),
         Mark::Quiet => {
-            if !matches!(next, FreeFrame::Leaving { .. }) {
-                tree.set_mark(x, Mark::Asked);
-            }
-            Motion::Goes(next)
+            tree.set_mark(x, Mark::Asked);
+            Motion::Goes(FreeFrame::Hooked { x, hook })
         }
         Mark::Asked | Mark::Doomed => Motion::Ends(FreeReply::Running),
         Mark::Busy => {
@@ -277,8 +275,11 @@ fn outlook_of_begin(x: Obj, tree: &Tree, refs: &Refs) -> Outlook
     let Some(row) = tree.row(x) else {
         return Outlook::Ending(FreeReply::Ok);
     };
+    let hook = row.hook;
     match row.mark {
-        Mark::Quiet => Outlook::Going(first_work(x, row.kind, row.hook)),
+        Mark::Quiet if is_request(row.kind) => Outlook::Going(FreeFrame::Preparing { x }),
+        Mark::Quiet if hook == 0 => Outlook::Going(FreeFrame::Leaving { x, hook }),
+        Mark::Quiet => Outlook::Going(FreeFrame::Hooked { x, hook }),
         Mark::Asked | Mark::Doomed => Outlook::Ending(FreeReply::Running),
         Mark::Busy => Outlook::Telling,
         Mark::Dying(_) => Outlook::Ending(FreeReply::Ok),

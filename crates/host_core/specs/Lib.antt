@@ -1,6 +1,10 @@
+pub mod Subjects
 pub mod Moves
-pub mod Turns
 pub mod Reaches
+pub mod Callers
+pub mod Stacks
+pub mod Steps
+pub mod Turns
+pub mod Requests
 pub mod Hosts
 pub mod Promises
-pub mod Subjects

@@ -1,174 +1,194 @@
-//! The open works, step after step: callers, turns and frees, each on the one that waits for it.
-ghost use Rattle.std.specs.Prelude.{◌≡◌, ◌<◌, [], ◌∷◌, ◌++◌, Some, None, IsSome, is_none, true, false, length, vec_capacity};
-ghost use Rattle.tree_specs.specs.declared.frame.CallFrame.TheVariants.{Doing};
-ghost use Rattle.tree_specs.specs.declared.question.Ask.{Ask as AskData};
-ghost use Rattle.tree_specs.specs.declared.question.Input.TheVariants as inputs;
-ghost use Rattle.tree_specs.specs.Invariants.Consistent.{IsConsistent};
-ghost use Rattle.tree_specs.specs.Texts.Schedule.{misfit};
-ghost use Rattle.destructors.specs.Works.{IsAwaiting};
-ghost use Rattle.object_pool.specs.Objects.{frees_in};
-ghost use Rattle.host_core.specs.Moves.{ReadyFor};
-ghost use Rattle.host_core.specs.Reaches.{is_bytes};
-ghost use Rattle.host_core.specs.Turns.{turns_of};
-ghost use Rattle.host_core.specs.Hosts.{stack_of, view_after, host_view, view_at, given_view, speaking_view, caller_asked, asked_now, MayDo, MayBegin, PartsReady, TellsSameStory, StepsSilently, IsBetweenSteps, Finished, at_work};
-
+//! The open works, step after step: callers, turns, frees and the works of requests, each on the one that waits for it.
 use crate::active::Active;
-use crate::caller::{Caller, Waiting};
-use crate::calls::act;
+use crate::answer::Answer;
+use crate::caller::{Caller, Stage};
+use crate::calls::{act, freed};
 use crate::motion::Motion;
 use crate::parts::Parts;
-use crate::reach::{ask_outside, hear_on};
 use crate::short_reply::ShortReply;
-use crate::turns::{begin_turn, ready_on, return_on, time_on};
-use object_pool::Progress;
+use crate::step::Step;
+use crate::turn::Turn;
+use crate::turns::turn_step;
+use crate::waiting::{Waiting, turn_resumed};
+use crate::work::Work;
+use crate::working::work_step;
+use object_pool::{ObjectPool, Progress};
 use std::mem;
-use tree_specs::{Act, Ask, Call, FreeReply, FreeStep, Input, Obj, TurnFrame};
+use tree_specs::{Act, Ask, Call, Event, FreeReply, FreeStep, Input, Refusal, TurnFrame};
 
-/// The caller that was asked waits for a free, which is at work from then on.
-fn wait(now: &mut Active, callers: &mut Vec<Waiting>, x: Obj)
-    requires asks { IsSome (caller_asked now.old) }
-    requires place { length callers.old.items < vec_capacity callers.old }
-    ensures freeing { now.new ≡ Active.Freeing }
-    ensures waits { (q : AskData) → caller_asked now.old ≡ Some q → callers.new.items ≡ callers.old.items ++ record { ask = q; x = x } ∷ [] }
+/// The open frees have waited for this: the innermost goes on, and is at work.
+fn free_again(answer: Answer, objects: &mut ObjectPool)
 {
-    match mem::replace(now, Active::Freeing) {
-        Active::Caller(Caller { ask, .. }) => callers.push_reserved(Waiting { ask, x }),
-        _ => unreachable!(),
+    match answer {
+        Answer::Returned(value) => objects.answer(value),
+        _ => objects.received(),
     }
 }
 
-/// The caller that was asked goes on with what its call does first.
-fn go_on(now: &mut Active, motion: Motion, parts: &mut Parts)
-    requires asks { IsSome (caller_asked now.old) }
-    requires whole { (q : AskData) → caller_asked now.old ≡ Some q → IsConsistent (view_after q motion parts.old.objects.works (stack_of parts.old.callers.items) (turns_of parts.old.turn) parts.old.objects.pool) }
-    requires awaiting { IsAwaiting (frees_in parts.old.objects) }
-    requires place { length parts.old.callers.items < vec_capacity parts.old.callers }
-    requires room { ReadyFor motion parts.old.objects.ready }
-    ensures along { (q : AskData) → caller_asked now.old ≡ Some q → TellsSameStory (view_after q motion parts.old.objects.works (stack_of parts.old.callers.items) (turns_of parts.old.turn) parts.old.objects.pool) (host_view now.new parts.new) }
-    ensures ready { IsBetweenSteps now.new parts.new }
+/// The innermost work is over. The one below it goes on with its answer.
+fn end(answer: Answer, parts: &mut Parts) -> Active
+{
+    match parts.waiting.pop() {
+        Some(Waiting::Freeing) => {
+            free_again(answer, &mut parts.objects);
+            Active::Freeing
+        }
+        Some(Waiting::Awaiting { ask, x }) => {
+            Active::Caller(Caller::after(ask, freed(x, answer.of_free())))
+        }
+        Some(Waiting::Turning { ask } | Waiting::Requesting { ask }) => {
+            Active::Caller(Caller::after(ask, answer.reply()))
+        }
+        Some(Waiting::Turn(frame)) => Active::Turning(Turn::new(turn_resumed(frame))),
+        Some(Waiting::Work(work)) => Active::Requesting(work.resumed(answer)),
+        None => unreachable!(),
+    }
+}
+
+/// What a step leads to is at work from then on.
+fn go_on(step: Step, parts: &mut Parts) -> Active
+{
+    match step {
+        Step::Goes(next) => next,
+        Step::Calls(first, second) => {
+            parts.waiting.push_reserved(second);
+            first
+        }
+        Step::Frees(x, second) => {
+            parts.waiting.push_reserved(second);
+            parts.objects.begin_free(x);
+            Active::Freeing
+        }
+        Step::Unlinks(owner, x, second) => {
+            parts.waiting.push_reserved(second);
+            parts.objects.begin_unlink(owner, x);
+            Active::Freeing
+        }
+        Step::Empties(x, second) => {
+            parts.waiting.push_reserved(second);
+            parts.objects.begin_kids(x);
+            Active::Freeing
+        }
+        Step::Ends(answer) => end(answer, parts),
+    }
+}
+
+/// A turn begins for the host's own caller. A routine is refused one, since it may run in a turn itself.
+fn turn(ask: Ask) -> Step
+{
+    match ask {
+        Ask::Quiet => {
+            let turn = Active::Turning(Turn::new(TurnFrame::Taking));
+            Step::Calls(turn, Waiting::Turning { ask: Ask::Quiet })
+        }
+        _ => replies(ask, ShortReply::No(Refusal::Nested)),
+    }
+}
+
+/// The reply to the call of the caller that was asked comes next.
+fn replies(ask: Ask, reply: ShortReply) -> Step
+{
+    Step::Goes(Active::Caller(Caller::after(ask, reply)))
+}
+
+/// A caller that was asked goes on with what its call does first.
+fn call_step(ask: Ask, motion: Motion) -> Step
 {
     match motion {
-        Motion::Replies(reply) => now.reply(reply),
-        Motion::Announces(notice, reply) => now.announce(notice, reply),
-        Motion::Frees(x) => {
-            wait(now, &mut parts.callers, x);
-            parts.objects.begin_free(x);
+        Motion::Replies(reply) => replies(ask, reply),
+        Motion::Announces(notice, reply) => {
+            Step::Goes(Active::Caller(Caller::announcing(ask, notice, reply)))
         }
-        Motion::Unlinks(owner, x) => {
-            wait(now, &mut parts.callers, x);
-            parts.objects.begin_unlink(owner, x);
+        Motion::Frees(x) => Step::Frees(x, Waiting::Awaiting { ask, x }),
+        Motion::Unlinks(owner, x) => Step::Unlinks(owner, x, Waiting::Awaiting { ask, x }),
+        Motion::Empties(x) => Step::Empties(x, Waiting::Awaiting { ask, x }),
+        Motion::Asks(question) => {
+            Step::Calls(Active::Reaching(question), Waiting::Turning { ask })
         }
-        Motion::Empties(x) => {
-            wait(now, &mut parts.callers, x);
-            parts.objects.begin_kids(x);
+        Motion::Turns => turn(ask),
+        Motion::Works(errand, x) => {
+            let work = Active::Requesting(Work::of(errand, x));
+            Step::Calls(work, Waiting::Requesting { ask })
         }
-        Motion::Asks(question) => ask_outside(now, question),
-        Motion::Turns => begin_turn(now, parts),
     }
 }
 
-/// Does a call for the caller that was asked.
-fn call_on(now: &mut Active, call: Call, parts: &mut Parts)
-    requires asks { IsSome (caller_asked now.old) }
-    requires whole { (q : AskData) → caller_asked now.old ≡ Some q → IsConsistent (view_at (Doing q call) parts.old) }
-    requires may { MayDo call (length parts.old.callers.items) (vec_capacity parts.old.callers) parts.old.objects.ready }
-    ensures along { (q : AskData) → caller_asked now.old ≡ Some q → TellsSameStory (view_at (Doing q call) parts.old) (host_view now.new parts.new) }
-    ensures ready { IsBetweenSteps now.new parts.new }
+/// The clock has told a turn this time, in microseconds.
+fn timed(frame: TurnFrame, now: u64) -> TurnFrame
 {
-    let motion = act(call, &mut parts.objects);
-    go_on(now, motion, parts);
-}
-
-/// The routine that was asked does a call, or returns.
-fn act_on(now: &mut Active, act: Act, parts: &mut Parts)
-    requires asks { IsSome (caller_asked now.old) }
-    requires whole { IsConsistent (given_view now.old (inputs.Act act) parts.old) }
-    requires may { MayBegin (inputs.Act act) (length parts.old.callers.items) (vec_capacity parts.old.callers) parts.old.objects.ready }
-    ensures along { TellsSameStory (given_view now.old (inputs.Act act) parts.old) (host_view now.new parts.new) }
-    ensures ready { IsBetweenSteps now.new parts.new }
-{
-    match act {
-        Act::Do(call) => call_on(now, call, parts),
-        Act::Ret(value) => return_on(now, value, parts),
+    match frame {
+        TurnFrame::Timing { again } => TurnFrame::Timed { again, now },
+        _ => frame,
     }
 }
 
-/// Who was asked goes on with the answer.
+/// Who was asked goes on with the answer, which takes no memory of its own.
 pub fn answer_on(now: &mut Active, input: Input, parts: &mut Parts)
-    requires fits { is_none (misfit (asked_now now.old) input) ≡ true }
-    requires ready { PartsReady now.old parts.old.objects }
-    requires no_bytes { is_bytes input ≡ false }
-    requires whole { IsConsistent (given_view now.old input parts.old) }
-    requires may { MayBegin input (length parts.old.callers.items) (vec_capacity parts.old.callers) parts.old.objects.ready }
-    ensures along { TellsSameStory (given_view now.old input parts.old) (host_view now.new parts.new) }
-    ensures ready { IsBetweenSteps now.new parts.new }
 {
-    if now.is_reaching() {
-        return hear_on(now, input, parts);
-    }
-    match input {
-        Input::Call(call) => call_on(now, call, parts),
-        Input::Act(act) => act_on(now, act, parts),
-        Input::Clock(time) => time_on(now, time, parts),
-        Input::Ready(list) => ready_on(now, &list, parts),
-        _ => unreachable!(),
-    }
-}
-
-/// The innermost free is over. The caller that has waited for it goes on; where there is none, the turn that has waited is
-/// over.
-fn finish(answer: FreeReply, callers: &mut Vec<Waiting>, turn: &mut Option<TurnFrame>) -> Caller
-    ensures { Finished answer callers.old.items turn.old (Active.Caller result) callers.new.items turn.new }
-{
-    match callers.pop() {
-        Some(waiting) => waiting.resumed(answer),
-        None => {
-            *turn = None;
-            Caller::after(Ask::Quiet, ShortReply::Number(1))
+    let present = mem::replace(now, Active::Freeing);
+    *now = match (present, input) {
+        (
+            Active::Caller(Caller { ask, .. }),
+            Input::Call(call) | Input::Act(Act::Do(call)),
+        ) => {
+            let motion = act(call, &mut parts.objects);
+            go_on(call_step(ask, motion), parts)
         }
-    }
+        (Active::Caller(_), Input::Act(Act::Ret(value))) => end(Answer::Returned(value), parts),
+        (Active::Turning(turn), Input::Clock(time)) => {
+            Active::Turning(Turn::new(timed(turn.frame, time)))
+        }
+        (Active::Turning(_), Input::Ready(list)) => {
+            Active::Turning(Turn::new(looked(parts.objects.ready(&list))))
+        }
+        (Active::Reaching(_), input) => {
+            let reply = heard(input, &mut parts.objects);
+            end(Answer::Heard(reply), parts)
+        }
+        _ => unreachable!(),
+    };
 }
 
-/// A step of the innermost free that tells no event: the caller that goes on, or none where the free does.
-fn free_on(parts: &mut Parts) -> Option<Caller>
-    requires ready { IsBetweenSteps Active.Freeing parts.old }
-    requires quiet { speaking_view (host_view Active.Freeing parts.old) ≡ false }
-    ensures onward { StepsSilently (host_view Active.Freeing parts.old) (host_view (at_work result) parts.new) }
-    ensures ready { IsBetweenSteps (at_work result) parts.new }
+/// What comes next of the open frees where this tells no event.
+fn free_step(parts: &mut Parts) -> Active
 {
     let Progress { step, .. } = parts.objects.step();
     match step {
-        FreeStep::Ask(x) => Some(Caller::run(x, &parts.objects)),
-        FreeStep::Done(answer) => Some(finish(answer, &mut parts.callers, &mut parts.turn)),
-        _ => None,
+        FreeStep::Ask(x) => {
+            parts.waiting.push_reserved(Waiting::Freeing);
+            Active::Caller(Caller::destructor(x, &parts.objects))
+        }
+        FreeStep::Prepare(x) => {
+            parts.waiting.push_reserved(Waiting::Freeing);
+            Active::Requesting(Work::Receiving { x })
+        }
+        FreeStep::Done(answer) => end(Answer::Freed(answer), parts),
+        _ => Active::Freeing,
     }
 }
 
-/// The steps of the innermost free that tell nothing, up to its next event, or to a caller that goes on.
-fn free_up(parts: &mut Parts) -> Option<Caller>
-    requires { IsBetweenSteps Active.Freeing parts.old }
-    ensures along { TellsSameStory (host_view Active.Freeing parts.old) (host_view (at_work result) parts.new) }
-    ensures ready { IsBetweenSteps (at_work result) parts.new }
-    ensures settled { speaking_view (host_view (at_work result) parts.new) ≡ true }
+/// A step that tells and asks nothing.
+fn quiet_step(now: Active, parts: &mut Parts) -> Active
 {
-    while !parts.objects.announces() {
-        if let Some(caller) = free_on(parts) {
-            return Some(caller);
+    match now {
+        Active::Freeing => free_step(parts),
+        Active::Turning(turn) => {
+            let step = turn_step(turn.frame, &mut parts.objects);
+            go_on(step, parts)
         }
+        Active::Requesting(work) => {
+            let step = work_step(work, &mut parts.objects);
+            go_on(step, parts)
+        }
+        _ => now,
     }
-    None
 }
 
 /// The steps that tell nothing, up to the next event or question.
 pub fn settle(now: &mut Active, parts: &mut Parts)
-    requires { IsBetweenSteps now.old parts.old }
-    ensures along { TellsSameStory (host_view now.old parts.old) (host_view now.new parts.new) }
-    ensures ready { IsBetweenSteps now.new parts.new }
-    ensures settled { speaking_view (host_view now.new parts.new) ≡ true }
 {
-    if now.is_freeing()
-        && let Some(caller) = free_up(parts)
-    {
-        now.go_to(Active::Caller(caller));
+    while !now.speaks(&parts.objects) {
+        let present = mem::replace(now, Active::Freeing);
+        *now = quiet_step(present, parts);
     }
 }

@@ -35,9 +35,9 @@ MayBeginFree o = (o.ready ≡ true) ⊎ IsReceiving (slice_get o.works 0)
 abbrev pub objects_of : Option FreeFrame → Links → Upcoming → Bool → Objects
 objects_of engine tree upcoming ready = record { pool = beside upcoming (pool_of tree); works = before engine tree.frees; ready = ready }
 
--- the memory for the rows and works of a call, with all that comes of it up to the next question
+-- the memory for the two rows and for the works of a call, with all that comes of it up to the next question
 pub record HasCallRoom (tree : Links) : Type 0 where
-  pub row : 0 < tree.spare
+  pub row : 2 ≤ tree.spare
   pub works : length tree.rows + 4 ≤ tree.room
 
 -- the memory for one more reference, one more limit, one more object that waits, and one more descriptor; and those that wait

@@ -76,7 +76,7 @@ fn cleanup_of(note: &Note) -> Option<Handler>
 
 #[tactic(auto, using(pool_arena::proofs::NumberMaps::none_listed, pool_arena::proofs::NumberMaps::put_listed, pool_arena::proofs::NumberMaps::removed_listed, pool_arena::proofs::NumberMaps::found_listed))]
 impl Requests {
-    ghost use Rattle.std.specs.Prelude.{◌+◌, ◌<◌, ◌≤◌, OnOk, None, is_some};
+    ghost use Rattle.std.specs.Prelude.{◌+◌, ◌<◌, ◌≤◌, OnOk, None, is_some, length};
     ghost use Rattle.tree_specs.specs.Events.Requests.{no_notes, note_of, is_noted, with_note, without_note, renoted, called_back, deferring, not_deferring, cleaned_by, cleaned, cancelled_by, failed_with, in_state, cleanup_in};
     ghost use Rattle.requests.specs.Register.{notify_of, left_by, posted_by};
 
@@ -87,6 +87,13 @@ impl Requests {
         Requests {
             notes: Arena::new(alloc),
         }
+    }
+
+    /// How many requests there are.
+    pub fn len(&self) -> usize
+        ensures { result ≡ length self.now.notes }
+    {
+        self.notes.len()
     }
 
     /// Takes memory for so many more requests. If memory runs out, they are as they were.

@@ -1,5 +1,5 @@
 //! What is kept of requests, beside what is to come of them.
-ghost use Rattle.std.specs.Prelude.{◌≡◌, ◌≤◌, ◌<◌, false, None};
+ghost use Rattle.std.specs.Prelude.{◌≡◌, ◌≤◌, ◌<◌, false, None, length};
 ghost use Rattle.tree_specs.specs.Events.Pending.{disarmed, is_numbered, unscheduled};
 ghost use Rattle.tree_specs.specs.Events.Requests.{note_of, called_back, deferring, cleaned_by, cancelled_by, failed_with, cleanup_in};
 ghost use Rattle.requests.specs.Register.{notify_of, left_by, posted_by};
@@ -15,6 +15,13 @@ impl Events {
         ensures { result ≡ note_of self.now.upcoming.requests x }
     {
         self.requests.note(x)
+    }
+
+    /// How many requests there are.
+    pub fn count_requests(&self) -> usize
+        ensures { result ≡ length self.now.upcoming.requests }
+    {
+        self.requests.len()
     }
 
     /// A new request, with the object that it was made with.

@@ -1,5 +1,5 @@
 //! Frees on the objects: their beginnings, and what comes next of the innermost one.
-ghost use Rattle.std.specs.Prelude.{◌≡◌, ◌∷◌, List, true, None, is_some, slice_get};
+ghost use Rattle.std.specs.Prelude.{◌≡◌, ◌∷◌, ◌≤◌, List, true, None, is_some, slice_get};
 ghost use Rattle.tree_specs.specs.declared.watch.Watch.{Watch as WatchData};
 ghost use Rattle.tree_specs.specs.declared.frame.FreeFrame.TheVariants.{Unlinking, Beginning, Looping};
 ghost use Rattle.tree_specs.specs.declared.frame.Purpose.TheVariants.{Emptying};
@@ -12,6 +12,7 @@ ghost use Rattle.destructors.specs.Moves.{IsLiveRow};
 ghost use Rattle.destructors.specs.Engine.{IsAsked};
 ghost use Rattle.object_pool.specs.Objects.{frees_in, LeavesRest, MayBeginFree};
 ghost use Rattle.object_pool.specs.Upcoming.{closed_of};
+ghost use Rattle.object_pool.specs.Requests.{count_unreceived};
 
 use crate::counting::count_step;
 use crate::pool::ObjectPool;
@@ -50,6 +51,7 @@ impl ObjectPool {
         requires unheld { newest_ref self.old.pool.rows x ≡ None }
         ensures begins { Begins (Beginning x ∷ self.old.works) self.old.pool (frees_in self.new) }
         ensures at_work { IsAtWork (frees_in self.new) }
+        ensures requests { self.new.pool.requests ≡ self.old.pool.requests }
         ensures rest { LeavesRest self.old self.new }
     {
         self.ready = false;
@@ -64,6 +66,7 @@ impl ObjectPool {
         requires object { target_at self.old.pool.rows x ≡ None }
         ensures begins { Begins (Unlinking owner x ∷ self.old.works) self.old.pool (frees_in self.new) }
         ensures at_work { IsAtWork (frees_in self.new) }
+        ensures requests { self.new.pool.requests ≡ self.old.pool.requests }
         ensures rest { LeavesRest self.old self.new }
     {
         self.ready = false;
@@ -77,6 +80,7 @@ impl ObjectPool {
         requires awaiting { IsAwaiting (frees_in self.old) }
         ensures begins { Begins (Looping x Emptying ∷ self.old.works) self.old.pool (frees_in self.new) }
         ensures at_work { IsAtWork (frees_in self.new) }
+        ensures requests { self.new.pool.requests ≡ self.old.pool.requests }
         ensures rest { LeavesRest self.old self.new }
     {
         self.ready = false;
@@ -119,6 +123,7 @@ impl ObjectPool {
         ensures steps { Steps (frees_in self.old) result.step (frees_in self.new) }
         ensures goes_on { GoesOn result.step (frees_in self.new) }
         ensures told { result.event ≡ event_of self.old.pool.ring result.step }
+        ensures requests { count_unreceived self.new.pool.requests ≤ count_unreceived self.old.pool.requests }
         ensures rest { LeavesRest self.old self.new }
     {
         // All that is wanted of `len` is its contract: the objects are a forest.

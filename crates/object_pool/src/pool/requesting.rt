@@ -1,7 +1,7 @@
 //! Requests: what is kept of them, and what they leave.
 ghost use Rattle.std.specs.Prelude.{◌≡◌, ◌+◌, ◌-◌, ◌^◌, ◌<◌, ◌≤◌, ◌∷◌, true, false, List, length, slice_get};
 ghost use Rattle.tree_specs.specs.Tree.Pool.{is_owner, add_request, renote, schedule as scheduled, finish, receive};
-ghost use Rattle.tree_specs.specs.Events.Requests.{note_of, called_back, deferring, cleaned_by, cancelled_by, failed_with, cancel_in, cleanup_in};
+ghost use Rattle.tree_specs.specs.Events.Requests.{note_of, called_back, deferring, cleaned_by, cancelled_by, failed_with, cancel_in, cleanup_in, is_unreceived};
 ghost use Rattle.tree_specs.specs.Calls.Refusals.{row_limit, size_limit};
 ghost use Rattle.tree_specs.specs.Calls.Plans.Change.{Then, Arm, TakeNumber};
 ghost use Rattle.tree_specs.specs.Calls.Plans.{changed_by};
@@ -9,7 +9,7 @@ ghost use Rattle.destructors.specs.Frees.{received as received_works, Begins};
 ghost use Rattle.destructors.specs.Works.{IsAtWork, IsAwaiting};
 ghost use Rattle.destructors.specs.Engine.{IsReceiving};
 ghost use Rattle.object_pool.specs.Objects.{frees_in, LeavesRest};
-ghost use Rattle.object_pool.specs.Requests.{cleaning, notifying};
+ghost use Rattle.object_pool.specs.Requests.{cleaning, notifying, count_unreceived};
 ghost use Rattle.requests.specs.Register.{notify_of};
 
 use crate::counting::add_row;
@@ -23,6 +23,22 @@ impl ObjectPool {
         ensures { result ≡ note_of self.now.pool.requests x }
     {
         self.events.note(x)
+    }
+
+    /// Whether a request is still to be received. False where it is none.
+    pub fn is_unreceived(&self, x: Obj) -> bool
+        ensures { result ≡ is_unreceived (note_of self.now.pool.requests x) }
+    {
+        self.events
+            .note(x)
+            .is_some_and(|note| note.state != State::Received)
+    }
+
+    /// How many requests there are: at least as many as are still to be received.
+    pub fn count_requests(&self) -> usize
+        ensures { count_unreceived self.now.pool.requests ≤ result }
+    {
+        self.events.count_requests()
     }
 
     /// Adds a request in progress as the newest child of an owner, and below it a plain object with this size in bytes and this
@@ -162,6 +178,7 @@ impl ObjectPool {
         requires awaiting { IsAwaiting (frees_in self.old) }
         ensures begins { Begins (received_works self.old.works) self.old.pool (frees_in self.new) }
         ensures at_work { IsAtWork (frees_in self.new) }
+        ensures requests { self.new.pool.requests ≡ self.old.pool.requests }
         ensures rest { LeavesRest self.old self.new }
     {
         self.ready = false;

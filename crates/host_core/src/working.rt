@@ -1,0 +1,190 @@
+//! The steps of a request's work: its state is told, its cleanup runs, and whoever waits for it is notified.
+ghost use Rattle.std.specs.Prelude.{◌≡◌, true};
+ghost use Rattle.tree_specs.specs.Tree.Pool.{Pool as PoolData};
+ghost use Rattle.tree_specs.specs.Machine.Table.{request_step, release_object};
+ghost use Rattle.host_core.specs.Stacks.{work_frame};
+ghost use Rattle.host_core.specs.Steps.{step_of, IsBusy};
+ghost use Rattle.host_core.specs.Requests.{MayWork, StaysReady, work_tells, work_told, pool_told};
+
+use crate::active::Active;
+use crate::answer::Answer;
+use crate::calls::release;
+use crate::caller::Caller;
+use crate::motion::Motion;
+use crate::step::Step;
+use crate::waiting::Waiting;
+use crate::work::{Work, cancelled, reply_to};
+use object_pool::ObjectPool;
+use requests::Notify;
+use tree_specs::{Errand, Event, Handler, Obj, Occasion, State, What};
+
+/// The work of a request goes on with this.
+fn goes(work: Work) -> Step
+    ensures step { (p : PoolData) → step_of result p ≡ Do.Go (RequestOf (work_frame work)) p }
+    ensures busy { IsBusy result }
+{
+    Step::Goes(Active::Requesting(work))
+}
+
+/// An errand is over.
+fn over(errand: Errand) -> Step
+    ensures step { (p : PoolData) → step_of result p ≡ over_step errand p }
+    ensures busy { IsBusy result }
+{
+    goes(Work::Over {
+        reply: reply_to(errand),
+    })
+}
+
+/// A routine of a request is to run.
+fn calls(what: What, x: Obj, handler: Handler, errand: Errand) -> Step
+    ensures step { (p : PoolData) → step_of result p ≡ Do.Go (calling_one what x handler errand) p }
+    ensures busy { IsBusy result }
+{
+    goes(Work::Calling {
+        what,
+        x,
+        handler,
+        errand,
+    })
+}
+
+/// The routine runs that cancels a request, where it has one and wasn't received.
+fn cancel(x: Obj, objects: &ObjectPool) -> Step
+    ensures step { step_of result objects.now.pool ≡ request_step (Cancelling x) objects.now.pool }
+    ensures busy { IsBusy result }
+{
+    match objects.cancel_routine(x) {
+        Some(handler) => calls(What::Cancel, x, handler, Errand::Cancel),
+        None => goes(Work::Over {
+            reply: cancelled(0),
+        }),
+    }
+}
+
+/// A cleanup runs once for each state.
+fn clean(x: Obj, errand: Errand, objects: &mut ObjectPool) -> Step
+    ensures step { step_of result objects.new.pool ≡ request_step (Cleaning x errand) objects.old.pool }
+    ensures busy { IsBusy result }
+    ensures rest { objects.new ≡ record objects.old { pool = objects.new.pool } }
+{
+    match objects.to_clean(x) {
+        Some(handler) => calls(What::Cleanup, x, handler, errand),
+        None => goes(Work::Cleaned { x, errand }),
+    }
+}
+
+/// What a request was made with is freed as a call frees it, and what comes of this isn't told.
+fn let_go(child: Obj, objects: &ObjectPool) -> Step
+    ensures step { step_of result objects.now.pool ≡ release_object (planned objects.now.pool (FreeOf child)) Receive objects.now.pool }
+    ensures busy { IsBusy result }
+{
+    let waiting = Waiting::Work(Work::Releasing { child });
+    match release(child, objects) {
+        Some(Motion::Frees(x)) => Step::Frees(x, waiting),
+        Some(Motion::Unlinks(owner, x)) => Step::Unlinks(owner, x, waiting),
+        _ => over(Errand::Receive),
+    }
+}
+
+/// After its cleanup nothing more is done for a request that is no more.
+fn cleaned(x: Obj, errand: Errand, objects: &ObjectPool) -> Step
+    ensures step { step_of result objects.now.pool ≡ request_step (Cleaned x errand) objects.now.pool }
+    ensures busy { IsBusy result }
+{
+    let Some(note) = objects.note(x) else {
+        return over(errand);
+    };
+    if errand == Errand::Receive {
+        return let_go(note.child, objects);
+    }
+    goes(Work::Notifying { x, errand })
+}
+
+/// A request whose callback is deferred comes soon; otherwise its callback runs, where it has one.
+fn notify(x: Obj, errand: Errand, objects: &mut ObjectPool) -> Step
+    requires { objects.old.ready ≡ true }
+    ensures step { step_of result objects.new.pool ≡ request_step (Notifying x errand) objects.old.pool }
+    ensures busy { IsBusy result }
+    ensures rest { objects.new ≡ record objects.old { pool = objects.new.pool; ready = objects.new.ready } }
+{
+    match objects.to_notify(x) {
+        Notify::Run(handler) => calls(What::Callback, x, handler, errand),
+        Notify::Post | Notify::Nothing => over(errand),
+    }
+}
+
+/// The next step of a request's work that tells nothing with it.
+pub fn work_step(work: Work, objects: &mut ObjectPool) -> Step
+    requires may { MayWork work objects.old }
+    ensures step { step_of result objects.new.pool ≡ request_step (work_frame work) objects.old.pool }
+    ensures busy { IsBusy result }
+    ensures rest { objects.new ≡ record objects.old { pool = objects.new.pool; ready = objects.new.ready } }
+    ensures ready { StaysReady work objects.old.ready objects.new.ready }
+{
+    match work {
+        Work::Receiving { .. } => over(Errand::Receive),
+        Work::Cancelling { x } => cancel(x, objects),
+        Work::Cleaning { x, errand } => clean(x, errand, objects),
+        Work::Cleaned { x, errand } => cleaned(x, errand, objects),
+        Work::Notifying { x, errand } => notify(x, errand, objects),
+        Work::Called {
+            what, x, handler, ..
+        } => {
+            let plainly = Occasion { now: 0, flags: 0 };
+            let routine = Active::Caller(Caller::routine(what, x, handler, plainly));
+            Step::Calls(routine, Waiting::Work(work))
+        }
+        Work::Over { reply } => Step::Ends(Answer::Heard(reply)),
+        _ => unreachable!(),
+    }
+}
+
+/// A request goes to a state, which is told.
+fn tell_state(x: Obj, state: State) -> Event {
+    Event::State {
+        request: x,
+        state: state.number(),
+    }
+}
+
+/// Tells what comes next of a request's work, which goes on after it. None where it tells nothing, and then nothing changes.
+pub fn tell_work(work: &mut Work, objects: &mut ObjectPool) -> Option<Event>
+    ensures event { result ≡ work_tells work.old objects.old.pool }
+    ensures work { work.new ≡ work_told work.old objects.old.pool }
+    ensures pool { objects.new ≡ record objects.old { pool = pool_told work.old objects.old.pool } }
+{
+    match *work {
+        Work::Finishing { x, state } => {
+            objects.finish_request(x, state);
+            let errand = Errand::Finish(state);
+            *work = Work::Cleaning { x, errand };
+            Some(tell_state(x, state))
+        }
+        Work::Receiving { x } if objects.is_unreceived(x) => {
+            objects.receive_request(x);
+            let errand = Errand::Receive;
+            *work = Work::Cleaning { x, errand };
+            Some(tell_state(x, State::Received))
+        }
+        Work::Calling {
+            what,
+            x,
+            handler,
+            errand,
+        } => {
+            *work = Work::Called {
+                what,
+                x,
+                handler,
+                errand,
+            };
+            Some(Event::Fired {
+                what,
+                object: x,
+                routine: handler.routine,
+            })
+        }
+        _ => None,
+    }
+}
