@@ -103,7 +103,7 @@ pub enum FreeFrame {
         hook: u32,
         value: u32,
     },
-    /// `x` is a request that is to be received before it leaves its owner. Then it waits until this is over.
+    /// `x` is a request. Before it leaves its owner it is to be received, where it wasn't yet; it waits until this is over.
     Preparing {
         x: Obj,
     },
@@ -235,7 +235,7 @@ pub enum RequestFrame {
         x: Obj,
         state: State,
     },
-    /// `x` is to be received.
+    /// `x` is to be received, where it wasn't yet.
     Receiving {
         x: Obj,
     },

@@ -18,7 +18,7 @@ pub enum FreeReply {
 pub enum FreeStep {
     /// The destructor of the object is to run.
     Ask(Obj),
-    /// The object is a request, which is to be received.
+    /// The object is a request, which is to be received where it wasn't yet.
     Prepare(Obj),
     /// A reference is no more.
     Dropped {

@@ -287,7 +287,7 @@ a_work steps = record { waits = Never; size = 0; steps = steps }
 
 abbrev pub request_profile : RequestFrame → RequestProfile
 request_profile (request.Finishing x state) = a_work 12
--- that it was not received before pays for what follows
+-- where it was not received before, this pays for what follows
 request_profile (request.Receiving x) = a_work 4
 request_profile (request.Cancelling x) = a_work 4
 request_profile (request.Cleaning x errand) = a_work 11

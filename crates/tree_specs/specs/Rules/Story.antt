@@ -69,7 +69,7 @@ abbrev mutual
 
   -- An object is freed. The newest reference to it is dropped first: one from inside makes the freeing begin again, and
   -- one from outside holds the object. One that is dying is left to the free that it is in, and one that runs can't be
-  -- freed now. Where nothing goes on with it a request is received first, and the destructor runs of an object that has one.
+  -- freed now. With what is quiet it begins: a request is received first, and an object with a destructor is asked.
   pub free : ℕ → Obj → Work FreeReply
   free zero x = short
   free (suc n) x = do
