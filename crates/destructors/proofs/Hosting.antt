@@ -68,7 +68,7 @@ waits-free f (Hooked x h) gs s = absurd s.0
 waits-free f (Preparing x) gs s = absurd s.0
 waits-free f _ gs s = refl
 
-resumed-free : (g : FreeFrame) (a : FreeReply) → awaits_run g ≡ false → freeing_resume g (Freed a) ≡ free_resume g a
+pub resumed-free : (g : FreeFrame) (a : FreeReply) → awaits_run g ≡ false → freeing_resume g (Freed a) ≡ free_resume g a
 resumed-free (Hooked x h) a n = cc
 resumed-free (Preparing x) a n = cc
 resumed-free _ a n = refl
@@ -100,7 +100,7 @@ over-awaits f fs p w none on =
       over = record {
         below = w.below;
         frees = w.frees;
-        sound = goes_on (frame.Free f) (frame.Free (Ending Ok)) w.below p (λ x. sym (none x)) (tt, rw on tt) w.sound;
+        sound = goes_on (frame.Free f) (frame.Free (Ending Ok)) w.below p (λ x. sym (none x)) (tt, tt) w.sound;
         seated = reseat-free f (Ending Ok) w.below w.seated;
         light = omega (arith, l);
         turns = w.turns;
@@ -127,8 +127,8 @@ asked-awaits x h fs p w =
       over = record {
         below = caller ∷ frame.Free (Hooked x h) ∷ w.below;
         frees = ap (λ (z : List FreeFrame). Hooked x h ∷ z) w.frees;
-        sound = stands (frame.Free (Hooked x h)) (frame.Free (Ending Ok)) w.below (caller ∷ frame.Free (Hooked x h) ∷ w.below) p (λ y. refl) (tt, w.sound.rests.0, w.sound.waiting) (tt, tt) w.sound;
-        seated = (tt, tt, w.seated);
+        sound = stands (frame.Free (Hooked x h)) (frame.Free (Ending Ok)) w.below (caller ∷ frame.Free (Hooked x h) ∷ w.below) p (λ y. refl) (tt, (w.sound.rests.0, w.sound.waiting)) (tt, tt) w.sound;
+        seated = (tt, (tt, w.seated));
         light = omega (arith, l);
         turns = w.turns;
       };
@@ -144,8 +144,8 @@ received-awaits x fs p w =
       over = record {
         below = releasing ∷ frame.Free (Preparing x) ∷ w.below;
         frees = ap (λ (z : List FreeFrame). Preparing x ∷ z) w.frees;
-        sound = stands (frame.Free (Preparing x)) (frame.Free (Ending Ok)) w.below (releasing ∷ frame.Free (Preparing x) ∷ w.below) p (λ y. refl) (tt, tt, w.sound.waiting) (tt, tt) w.sound;
-        seated = (tt, tt, w.seated);
+        sound = stands (frame.Free (Preparing x)) (frame.Free (Ending Ok)) w.below (releasing ∷ frame.Free (Preparing x) ∷ w.below) p (λ y. refl) (tt, (tt, w.sound.waiting)) (tt, tt) w.sound;
+        seated = (tt, (tt, w.seated));
         light = omega (arith, l);
         turns = w.turns;
       };
@@ -265,48 +265,50 @@ begins f fs p may a =
       turns = w.turns;
     }
 
--- a free that waits, among the works above it
-record Under (g : FreeFrame) (fs : List FreeFrame) (above : List Frame) : Type 0 where
+-- a free that waits, among works that weigh so much more than it and those below it
+record Under (g : FreeFrame) (fs : List FreeFrame) (more : ℕ) (works : List Frame) : Type 0 where
   pub below : List Frame
   pub frees : frees_among below ≡ fs
   pub waits : AllWait (frame.Free g ∷ below)
   pub seated : IsStacked (frame.Free g) below
   pub turns : AreTurnsLast below
-  pub claimed : (x : Obj) → claims x above ≡ claims x (frame.Free g ∷ below)
-  pub small : sizes (frame.Free g ∷ below) ≤ sizes above
+  pub claimed : (x : Obj) → claims x works ≡ claims x (frame.Free g ∷ below)
+  pub heavier : sizes (frame.Free g ∷ below) + more ≤ sizes works
 
-deeper : (h : Frame) (g : FreeFrame) (fs : List FreeFrame) (gs : List Frame) → ((x : Obj) → claim x h ≡ []) → Under g fs gs → Under g fs (h ∷ gs)
+deeper : (h : Frame) (g : FreeFrame) (fs : List FreeFrame) (gs : List Frame) → ((x : Obj) → claim x h ≡ []) → Under g fs 0 gs → Under g fs (size h) (h ∷ gs)
 deeper h g fs gs none u =
-    let n = u.small in
-    record { below = u.below; frees = u.frees; waits = u.waits; seated = u.seated; turns = u.turns; claimed = λ x. rw (none x) (u.claimed x); small = omega (arith, n) }
+    let n = u.heavier in
+    record { below = u.below; frees = u.frees; waits = u.waits; seated = u.seated; turns = u.turns; claimed = λ x. rw (none x) (u.claimed x); heavier = omega (arith, n) }
 
-under : (f : Frame) (gs : List Frame) (g : FreeFrame) (fs : List FreeFrame) → frees_among gs ≡ g ∷ fs → AreTurnsLast gs → AllWait gs → IsStacked f gs → Under g fs gs
+lighter : (m : ℕ) (g : FreeFrame) (fs : List FreeFrame) (gs : List Frame) → Under g fs m gs → Under g fs 0 gs
+lighter m g fs gs u = let n = u.heavier in record { below = u.below; frees = u.frees; waits = u.waits; seated = u.seated; turns = u.turns; claimed = u.claimed; heavier = omega (arith, n) }
+
+under : (f : Frame) (gs : List Frame) (g : FreeFrame) (fs : List FreeFrame) → frees_among gs ≡ g ∷ fs → AreTurnsLast gs → AllWait gs → IsStacked f gs → Under g fs 0 gs
 under f [] g fs e t w s = cc
 under f (frame.Free h ∷ gs) g fs e t w s =
     let is : h ≡ g = cc in
     let rest : frees_among gs ≡ fs = cc in
-    subst (λ (z : FreeFrame). Under z fs (frame.Free h ∷ gs)) is (record { below = gs; frees = rest; waits = w; seated = s.1; turns = t; claimed = λ x. refl; small = omega arith })
+    subst (λ (z : FreeFrame). Under z fs 0 (frame.Free h ∷ gs)) is (record { below = gs; frees = rest; waits = w; seated = s.1; turns = t; claimed = λ x. refl; heavier = omega arith })
 under f (frame.Turn h ∷ gs) g fs e t w s = let bad : [] ≡ g ∷ fs = sym t.0 ∙ e in cc
-under f (frame.Call c ∷ gs) g fs e t w s = deeper (frame.Call c) g fs gs (λ x. refl) (under (frame.Call c) gs g fs e t w.1 s.1)
-under f (frame.Outside o ∷ gs) g fs e t w s = deeper (frame.Outside o) g fs gs (λ x. refl) (under (frame.Outside o) gs g fs e t w.1 s.1)
-under f (frame.Request r ∷ gs) g fs e t w s = deeper (frame.Request r) g fs gs (λ x. refl) (under (frame.Request r) gs g fs e t w.1 s.1)
+under f (frame.Call c ∷ gs) g fs e t w s = lighter _ g fs _ (deeper (frame.Call c) g fs gs (λ x. refl) (under (frame.Call c) gs g fs e t w.1 s.1))
+under f (frame.Outside o ∷ gs) g fs e t w s = lighter _ g fs _ (deeper (frame.Outside o) g fs gs (λ x. refl) (under (frame.Outside o) gs g fs e t w.1 s.1))
+under f (frame.Request r ∷ gs) g fs e t w s = lighter _ g fs _ (deeper (frame.Request r) g fs gs (λ x. refl) (under (frame.Request r) gs g fs e t w.1 s.1))
 
--- what the free that is over stands on weighs something, besides the free that waits below
-below-weighs : (gs : List Frame) (g : FreeFrame) (fs : List FreeFrame) → footing gs ≡ OnCall → frees_among gs ≡ g ∷ fs → AreTurnsLast gs → AllWait gs → IsStacked (frame.Free (Ending Ok)) gs → (u : Under g fs gs) × (sizes (frame.Free g ∷ u.below) + caller_size ≤ sizes gs)
-below-weighs [] g fs on e t w s = cc
-below-weighs (frame.Call (Awaiting q x) ∷ gs) g fs on e t w s = let u = under (frame.Call (Awaiting q x)) gs g fs e t w.1 s.1 in let n = u.small in (deeper (frame.Call (Awaiting q x)) g fs gs (λ y. refl) u, omega (arith, n))
-below-weighs (frame.Request (Releasing c) ∷ gs) g fs on e t w s = let u = under (frame.Request (Releasing c)) gs g fs e t w.1 s.1 in let n = u.small in (deeper (frame.Request (Releasing c)) g fs gs (λ y. refl) u, omega (arith, n))
-below-weighs (frame.Turn h ∷ gs) g fs on e t w s = let bad : [] ≡ g ∷ fs = sym t.0 ∙ e in cc
-below-weighs (h ∷ gs) g fs on e t w s = cc
+-- what waits for a free weighs something, besides the free that waits below it
+below-call : (gs : List Frame) (g : FreeFrame) (fs : List FreeFrame) → footing gs ≡ OnCall → frees_among gs ≡ g ∷ fs → AreTurnsLast gs → AllWait gs → IsStacked (frame.Free (Ending Ok)) gs → Under g fs caller_size gs
+below-call [] g fs on e t w s = cc
+below-call (frame.Call (Awaiting q x) ∷ gs) g fs on e t w s = deeper (frame.Call (Awaiting q x)) g fs gs (λ y. refl) (under (frame.Call (Awaiting q x)) gs g fs e t w.1 s.1)
+below-call (frame.Request (Releasing c) ∷ gs) g fs on e t w s = deeper (frame.Request (Releasing c)) g fs gs (λ y. refl) (under (frame.Request (Releasing c)) gs g fs e t w.1 s.1)
+below-call (frame.Turn h ∷ gs) g fs on e t w s = let bad : [] ≡ g ∷ fs = sym t.0 ∙ e in cc
+below-call (h ∷ gs) g fs on e t w s = cc
 
 -- the work that a free goes on with takes the place of the one that has waited
 resumes : (g f : FreeFrame) (fs : List FreeFrame) (p : Pool) → ((x : Obj) → claim x (frame.Free f) ≡ claim x (frame.Free g)) → innermost_size (frame.Free f) ≤ size (frame.Free g) + caller_size
     → ((below : List Frame) → AllWait (frame.Free g ∷ below) → Rests (frame.Free f) below p) → AreAwaiting (g ∷ fs) p → IsHosted f fs p
 resumes g f fs p same small rests a =
     let w = a.over in
-    let b = below-weighs w.below g fs a.on w.frees w.turns w.sound.waiting w.seated in
-    let u = b.0 in
-    let n = b.1 in
+    let u = below-call w.below g fs a.on w.frees w.turns w.sound.waiting w.seated in
+    let n = u.heavier in
     let l = w.light in
     record {
       below = u.below;

@@ -17,6 +17,7 @@ use Rattle.tree_specs.specs.Tree.Targets.{target_of}
 use Rattle.tree_specs.specs.Calls.Refusals.{is_plain, is_plain_row}
 use Rattle.tree_specs.specs.Invariants.Consistent.{deposit}
 use Rattle.tree_specs.proofs.Invariants.Changes.{hooks-place, new-sound, unmarked-sound}
+use Rattle.tree_specs.proofs.Tree.Rooted.{forest-none}
 use Rattle.tree_specs.proofs.Turns.Lowering.{total-kept}
 use Rattle.tree_links.specs.Links.{Links, pool_of}
 use Rattle.destructors.specs.Frees.{OpenFrees, before, frees_of, moves, next_of, speaking, Steps}
@@ -34,7 +35,7 @@ empty-rests first positive = record {
     sound = record {
       started = positive;
       valid = λ x. tt;
-      forest = record { distinct = tt; rooted = λ o e. absurd e };
+      forest = forest-none;
       refers = record { target = λ r t e. cc; quiet = λ r t e. cc };
       open_frees = λ x. refl;
       waiting = (tt, tt);
@@ -97,16 +98,21 @@ first-is {A = A} {B = B} (v, b) u e = ap (λ (z : A). let y : A × B = (z, b) in
 -- an engine that has asked waits for a destructor
 pub asked : (o : Option FreeFrame) (old : Links) (x : Obj) (n : Option FreeFrame) (new : Links) → IsAtWork (frees_of o old) → AreKept o old → Steps (frees_of o old) (Ask x) (frees_of n new) → AreKept n new → IsAsked n
 asked None old x n new w k s m = let bad : AtWork [] (pool_of old) = rw k at w in absurd bad
-asked (Some f) old x n new w k s m =
-    let t : OpenFrees = (next_of (frees_of (Some f) old)).1 in
-    let h = asks-waiting f old.frees (pool_of old) (Ask x) (Hooked x 0) t refl (first-is (moves (f ∷ old.frees) (pool_of old)) (Some (Ask x)) s.tells) in
-    let loud : speaking t ≡ true = rw h.1 (run-speaks f old.frees (pool_of old) (asks-run (Ask x) f h.0)) in
-    each n m (ap (λ (z : OpenFrees). z.works) (sym (still t (frees_of n new) s.moves_on loud) ∙ h.1))
+asked (Some f) old x n new w k s m = each n m (ap (λ (z : OpenFrees). z.works) (sym (still t (frees_of n new) s.moves_on loud) ∙ is.1))
   where
+    t : OpenFrees
+    t = (next_of (frees_of (Some f) old)).1
+
+    is : AsksFor (Ask x) f × (t ≡ record { works = f ∷ old.frees; pool = pool_of old })
+    is = asks-waiting f old.frees (pool_of old) (Ask x) (Hooked x 0) t refl (first-is (moves (f ∷ old.frees) (pool_of old)) (Some (Ask x)) s.tells)
+
+    loud : speaking t ≡ true
+    loud = rw is.1 (run-speaks f old.frees (pool_of old) (asks-run (Ask x) f is.0))
+
     hooked : (g : FreeFrame) → AsksFor (Ask x) g → IsAsked (Some g)
     hooked (Hooked y h) a = tt
     hooked g a = absurd a
 
     each : (n : Option FreeFrame) → AreKept n new → before n new.frees ≡ f ∷ old.frees → IsAsked n
     each None m e = let bad : f ∷ old.frees ≡ [] = sym e ∙ m in cc
-    each (Some g) m e = let is : f ≡ g = cc in subst (λ (z : FreeFrame). IsAsked (Some z)) is (hooked f (asks-waiting f old.frees (pool_of old) (Ask x) (Hooked x 0) t refl (first-is (moves (f ∷ old.frees) (pool_of old)) (Some (Ask x)) s.tells)).0)
+    each (Some g) m e = let same : f ≡ g = cc in subst (λ (z : FreeFrame). IsAsked (Some z)) same (hooked f is.0)

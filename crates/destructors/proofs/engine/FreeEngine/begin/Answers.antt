@@ -12,7 +12,7 @@ pub settle-self-inside-requires : goal.settle-self-inside-requires
 settle-self-inside-requires c = record {
   ready = record {
     moves = inl (begun c.args.work c.args.self.now c.self.inside.innermost c.args.tree.now c.wait.new.tree c.self.view_is c.requires.first c.requires.awaiting c.wait.ensures.rows c.wait.ensures.works);
-    room = begun-room c.args.work c.self.inside.innermost c.args.tree.now c.wait.new.tree c.requires.room c.wait.ensures.rows c.wait.ensures.works c.wait.ensures.room;
+    room = begun-room c.args.work c.self.inside.innermost c.args.tree.now c.wait.new.tree (rw c.self.view_is c.requires.room) c.wait.ensures.rows c.wait.ensures.works c.wait.ensures.room;
   };
   refs = subst (λ (p : Pool). AreRefsOf c.args.refs.now.pairs p.rows) (sym c.wait.ensures.rows) c.requires.refs;
 }
@@ -35,4 +35,4 @@ returns c =
     }
 
 pub wait-requires : goal.wait-requires
-wait-requires c = waits-room c.args.work c.self.inside.innermost c.args.tree.now c.requires.room
+wait-requires c = waits-room c.args.work c.self.inside.innermost c.args.tree.now (rw c.self.view_is c.requires.room)
