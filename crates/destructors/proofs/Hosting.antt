@@ -109,7 +109,7 @@ over-awaits f fs p w none on =
     }
 
 -- whatever a free stands on that is no free, it waits for it
-begun-on : (f : FreeFrame) (g : Frame) (gs : List Frame) → Waiter g → (IsFree g → ⊥) → IsStacked (frame.Free f) (g ∷ gs) → footing (g ∷ gs) ≡ OnCall
+pub begun-on : (f : FreeFrame) (g : Frame) (gs : List Frame) → Waiter g → (IsFree g → ⊥) → IsStacked (frame.Free f) (g ∷ gs) → footing (g ∷ gs) ≡ OnCall
 begun-on f _ gs (ForFree q x) n s = refl
 begun-on f _ gs (ForClear x) n s = refl
 begun-on f _ gs (ForRelease c) n s = refl

@@ -1,15 +1,6 @@
 pub mod Allowed
 pub mod StepsSilently
 pub mod FreeSteps
-pub mod CallSteps
-pub mod TurnSteps
 pub mod Hosting
-pub mod Calling
-pub mod Turning
-pub mod Stepping
-pub mod Answering
-pub mod Reaching
-pub mod Offering
-pub mod Reading
-pub mod Straying
-pub mod Nexts
+pub mod Ending
+pub mod Going

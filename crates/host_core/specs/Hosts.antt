@@ -1,5 +1,5 @@
 -- A host by its parts, and what they keep.
-use Rattle.std.specs.Prelude.{◌≡◌, ℕ, ◌+◌, ◌*◌, ◌≤◌, ◌<◌, ◌×◌, Bool, true, false, List, [], ◌∷◌, length, reverse, vec_capacity, Option, Some, None, if◌then◌else◌}
+use Rattle.std.specs.Prelude.{◌≡◌, ℕ, ◌+◌, ◌*◌, ◌≤◌, ◌<◌, Bool, true, false, List, [], ◌∷◌, length, reverse, vec_capacity, Option, Some, None, if◌then◌else◌}
 use Rattle.step_machine.specs.Machine.{Move}
 use Rattle.step_machine.specs.Machine.{Move as Do}
 use Rattle.tree_specs.specs.declared.event.Event.{Event}
@@ -29,11 +29,12 @@ use Rattle.tree_specs.specs.Rules.Items.{Item}
 use Rattle.tree_specs.specs.Rules.Items.Item.{Told, Asked}
 use Rattle.tree_specs.specs.Invariants.Measure.{pending, cost}
 use Rattle.tree_specs.specs.Invariants.Consistent.{IsConsistent}
-use Rattle.tree_specs.specs.Machine.Table.{step, resume, call_step, replied}
+use Rattle.tree_specs.specs.Machine.Table.{step, resume, event_of, call_step, replied}
 use Rattle.tree_specs.specs.Machine.View.{View, rest_of, strays_of}
-use Rattle.destructors.specs.Frees.{speaking}
-use Rattle.destructors.specs.Works.{IsAtWork}
-use Rattle.object_pool.specs.Objects.{Objects, frees_in}
+use Rattle.tree_specs.specs.declared.free_step.FreeStep.{FreeStep}
+use Rattle.destructors.specs.Frees.{speaking, Steps}
+use Rattle.destructors.specs.Works.{IsAtWork, GoesOn}
+use Rattle.object_pool.specs.Objects.{Objects, frees_in, LeavesRest}
 use Rattle.object_pool.specs.Requests.{count_unreceived}
 use Rattle.host_core.specs.declared.parts.Parts.{Parts}
 use Rattle.host_core.specs.declared.active.Active.{Active}
@@ -120,7 +121,7 @@ HasPlaces now waiting notes most = waiting + places now + 2 * count_unreceived n
 pub record IsBetweenSteps (now : Active) (parts : Parts) : Type 0 where
   pub whole : IsConsistent (host_view now parts)
   pub fit : AllFit now parts.objects.works (reverse parts.waiting.items)
-  pub parts : PartsReady now parts.objects
+  pub ready : PartsReady now parts.objects
   pub places : HasPlaces now (length parts.waiting.items) parts.objects.pool.requests (vec_capacity parts.waiting)
 
 -- ---- a step
@@ -171,6 +172,11 @@ abbrev pub other_speaks : Active → Pool → Bool
 other_speaks (active.Turning t) p = turn_speaks t.frame
 other_speaks (active.Requesting w) p = work_speaks w p
 other_speaks now p = true
+
+-- the innermost free is at hand, where one is at work
+abbrev pub IsSettled : Active → Objects → Type 0
+IsSettled active.Freeing objects = FreeReady objects
+IsSettled now objects = Unit {0}
 
 -- ---- an answer to the open question
 
@@ -223,3 +229,21 @@ IsCopy i copy o p = copy ≡ None
 pub record IsReport (i : Input) (r : OwnedReply) (o : Owner) (p : Pool) : Type 0 where
   pub reply : IsReplyOf o r.reply p
   pub copy : IsCopy i r.copy o p
+
+-- the innermost free has made a step, of which this is told
+pub record FreeTells (told : Option Event) (o : Objects) (now : Active) (o' : Objects) : Type 0 where
+  pub step : FreeStep
+  pub still : now ≡ active.Freeing
+  pub steps : Steps (frees_in o) step (frees_in o')
+  pub goes_on : GoesOn step (frees_in o')
+  pub event : told ≡ event_of o.pool.ring step
+  pub rest : LeavesRest o o'
+  pub requests : count_unreceived o'.pool.requests ≤ count_unreceived o.pool.requests
+
+-- what is at work has told this with the next step of the host, and goes on after it; of the open frees this is said elsewhere
+abbrev pub Tells : Option Event → Active → Objects → Active → Objects → Type 0
+Tells told active.Freeing o now o' = FreeTells told o now o'
+Tells told old o now o' =
+    (told ≡ (next_of (other_view (active_frame old) o.works [] o.pool)).0)
+    × (active_frame now ≡ (next_of (other_view (active_frame old) o.works [] o.pool)).1.innermost)
+    × (o' ≡ record o { pool = (next_of (other_view (active_frame old) o.works [] o.pool)).1.pool })

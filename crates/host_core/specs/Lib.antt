@@ -7,4 +7,5 @@ pub mod Steps
 pub mod Turns
 pub mod Requests
 pub mod Hosts
+pub mod Going
 pub mod Promises

@@ -77,3 +77,14 @@ abbrev pub turn_given : TurnFrame → Input → Pool → TurnFrame
 turn_given (Timing again) (input.Clock now) p = Timed again now
 turn_given (Polling limit) (input.Ready wants) p = frame_looked (looks_again p wants) (first_ready p.ring wants)
 turn_given f i p = f
+
+-- the clock has told this time
+abbrev pub frame_timed : TurnFrame → ℕ → TurnFrame
+frame_timed (Timing again) now = Timed again now
+frame_timed f now = f
+
+-- what is still to do once it was told which descriptors are ready, and this was picked
+abbrev pub looked_frame : Pick → TurnFrame
+looked_frame pick.AskClock = Timing true
+looked_frame (pick.Descriptor x flags) = Starting ForDescriptor x (with_flags flags)
+looked_frame picked = Closing 0

@@ -1,8 +1,11 @@
 //! What is at work in a host, above all that waits.
-ghost use Rattle.std.specs.Prelude.{◌≡◌, Some, IsSome, is_none, true};
+ghost use Rattle.std.specs.Prelude.{◌≡◌, List, is_none};
 ghost use Rattle.std.specs.Option.{option_copied};
 ghost use Rattle.tree_specs.specs.Texts.Schedule.{misfit};
-ghost use Rattle.host_core.specs.Hosts.{asked_now, speaks_now};
+ghost use Rattle.host_core.specs.Hosts.{asked_now, view_of, speaking_view, IsSettled};
+ghost use Rattle.host_core.specs.Requests.{work_speaks};
+ghost use Rattle.host_core.specs.Turns.{turn_speaks};
+ghost use Rattle.host_core.specs.declared.waiting.Waiting.{Waiting as WaitingData};
 
 use crate::caller::{Caller, Stage};
 use crate::reach::takes;
@@ -78,7 +81,7 @@ impl Active {
     /// Whether an event or a question comes with the next step.
     pub fn speaks(&self, objects: &ObjectPool) -> bool
         requires { IsSettled self.now objects.now }
-        ensures { result ≡ speaking_view (view_of self.now waiting objects.now) }
+        ensures { (waiting : List WaitingData) → result ≡ speaking_view (view_of self.now waiting objects.now) }
     {
         match self {
             Active::Caller(_) | Active::Reaching(_) => true,

@@ -130,6 +130,18 @@ impl Caller {
         caller
     }
 
+    /// A caller who is told a notice, and then this reply.
+    pub fn announcing(ask: Ask, notice: Notice, reply: ShortReply) -> Caller
+        ensures { frame_of result ≡ announcing ask notice reply }
+    {
+        let mut caller = Caller {
+            ask,
+            stage: Stage::Asking,
+        };
+        caller.announce(notice, reply);
+        caller
+    }
+
     /// A reply that owns memory comes next. A routine remembers the copy.
     pub fn reply_whole(&mut self, reply: Reply, copy: Option<Reply>)
         ensures { frame_of self.new ≡ Telling (remembers self.old.ask copy) reply }

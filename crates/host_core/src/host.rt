@@ -1,4 +1,6 @@
-ghost use Rattle.std.specs.Prelude.{◌≡◌, ◌≤◌, ◌<◌, ◌↔◌, true, Some, Err, IsTrue, IsSome, IfOk, OnOk, OnErr, length, vec_capacity};
+ghost use Rattle.object_pool.specs.Requests.{count_unreceived};
+ghost use Rattle.host_core.specs.Hosts.{IsSettled, Tells};
+ghost use Rattle.std.specs.Prelude.{◌≡◌, ◌+◌, ◌*◌, ◌≤◌, ◌<◌, ◌↔◌, true, Some, Err, IsTrue, IsSome, IfOk, OnOk, OnErr, length, vec_capacity};
 ghost use Rattle.std.specs.Option.{option_copied};
 ghost use Rattle.tree_specs.specs.declared.schedule.Reason.TheVariants as reasons;
 ghost use Rattle.tree_specs.specs.Texts.Schedule.{misfit};

@@ -1,23 +1,13 @@
 //! Questions to the outside: a call asks the clock or a descriptor, and the answer is its reply.
-ghost use Rattle.std.specs.Prelude.{◌≡◌, Some, IfOk, OnOk, OnErr, IsSome, ℕ, List, is_none, is_some, true, false};
-ghost use Rattle.tree_specs.specs.declared.question.Ask.{Ask as AskData};
-ghost use Rattle.tree_specs.specs.declared.question.Input.TheVariants as inputs;
+ghost use Rattle.std.specs.Prelude.{◌≡◌, IfOk, ℕ, List, is_some, true};
 ghost use Rattle.tree_specs.specs.Calls.Given.{given_to, bytes_read, bytes_written};
-ghost use Rattle.tree_specs.specs.Invariants.Consistent.{IsConsistent};
-ghost use Rattle.tree_specs.specs.Texts.Schedule.{misfit};
 ghost use Rattle.tree_specs.specs.declared.reply.Reply.TheVariants.{Bytes as BytesReply};
-ghost use Rattle.host_core.specs.Hosts.{asked_now, caller_asked, given_view, host_view, is_reaching, remembers, StandsAs, PartsReady, TellsSameStory, IsBetweenSteps};
-ghost use Rattle.tree_specs.specs.declared.frame.CallFrame.TheVariants.{Telling};
-ghost use Rattle.host_core.specs.declared.reach.Reach.{Reach as ReachData};
-ghost use Rattle.host_core.specs.Reaches.{remembered, is_bytes, IsShortAnswer, HeardShort};
+ghost use Rattle.host_core.specs.Reaches.{remembered, IsShortAnswer, short_answer, pool_heard};
 
-use crate::active::Active;
-use crate::caller::Caller;
 use crate::owned_reply::OwnedReply;
-use crate::parts::Parts;
 use crate::short_reply::ShortReply;
+use object_pool::ObjectPool;
 use std::alloc::Global;
-use std::mem;
 use tree_specs::{Ask, Input, Memory, Octets, Reply};
 
 /// Whether so many bytes are no more than were asked for.
@@ -94,11 +84,4 @@ pub fn made_bytes(alloc: Global, caller: &Ask, bytes: Octets) -> Result<OwnedRep
         reply: Reply::Bytes(bytes),
         copy,
     })
-}
-
-/// Whether these are bytes that were read: the one answer of the outside that owns memory.
-pub fn is_bytes(input: &Input) -> bool
-    ensures { result ≡ is_bytes input.now }
-{
-    matches!(input, Input::Got(_))
 }

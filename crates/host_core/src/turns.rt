@@ -1,9 +1,16 @@
 //! The steps of a turn of the event loop: one thing comes, its handler runs, and it is quiet again or goes.
-ghost use Rattle.std.specs.Prelude.{◌≡◌, true, false};
-ghost use Rattle.tree_specs.specs.Tree.Pool.{Pool as PoolData};
+ghost use Rattle.std.specs.Prelude.{◌≡◌, true};
 ghost use Rattle.tree_specs.specs.Machine.Table.{turn_step};
-ghost use Rattle.host_core.specs.Turns.{turn_asks, comes_by, picked_by, MayTurn};
-ghost use Rattle.host_core.specs.Steps.{step_of, IsBusy};
+ghost use Rattle.host_core.specs.Turns.{MayTurn};
+ghost use Rattle.host_core.specs.Steps.{step_of};
+ghost use Rattle.host_core.specs.Going.{goes_as, GoesWell, IsTurnStep, IsPlainErrand};
+ghost use Rattle.host_core.specs.Hosts.{turn_places, FrameReady};
+ghost use Rattle.tree_specs.specs.declared.frame.TurnFrame.TheVariants.{Starting, Handled};
+ghost use Rattle.tree_specs.specs.Events.Coming.{at_time};
+ghost use Rattle.tree_specs.specs.Events.Requests.{is_noted};
+ghost use Rattle.tree_specs.specs.Machine.Table.{come_step};
+ghost use Rattle.destructors.specs.Moves.{IsLiveRow};
+ghost use Rattle.host_core.specs.Turns.{picked_step, looked_frame};
 
 use crate::active::Active;
 use crate::answer::Answer;
@@ -18,16 +25,14 @@ use tree_specs::{Errand, Obj, Occasion, State, TurnFrame, What};
 
 /// A turn goes on with this.
 fn goes(frame: TurnFrame) -> Step
-    ensures step { (p : PoolData) → step_of result p ≡ Do.Go (TurnOf frame) p }
-    ensures busy { IsBusy result }
+    ensures { result ≡ goes_as frame }
 {
     Step::Goes(Active::Turning(Turn::new(frame)))
 }
 
 /// An event starts, at this time or for these flags, where it has any.
 fn starts(what: What, x: Obj, now: u64, flags: u32) -> Step
-    ensures step { (p : PoolData) → step_of result p ≡ Do.Go (TurnOf (Starting what x (record { now = now; flags = flags }))) p }
-    ensures busy { IsBusy result }
+    ensures { result ≡ goes_as (Starting what x (record { now = now; flags = flags })) }
 {
     let occasion = Occasion { now, flags };
     goes(TurnFrame::Starting { what, x, occasion })
@@ -35,8 +40,11 @@ fn starts(what: What, x: Obj, now: u64, flags: u32) -> Step
 
 /// What has come is a request, whose errand is done while the turn waits; or it is an event, which starts.
 fn comes(what: What, x: Obj, now: u64, errand: Errand, objects: &ObjectPool) -> Step
+    requires plain { IsPlainErrand errand }
+    requires ready { objects.now.ready ≡ true }
     ensures step { step_of result objects.now.pool ≡ come_step (is_noted objects.now.pool.requests x) errand what x (at_time now) objects.now.pool }
-    ensures busy { IsBusy result }
+    ensures goes { GoesWell 2 result objects.now }
+    ensures ends { IsTurnStep result }
 {
     if objects.note(x).is_none() {
         return starts(what, x, now, 0);
@@ -47,8 +55,10 @@ fn comes(what: What, x: Obj, now: u64, errand: Errand, objects: &ObjectPool) -> 
 
 /// What is done after this was picked, where readiness was asked before, or wasn't.
 fn picked(pick: Pick, waited: bool, objects: &ObjectPool) -> Step
+    requires ready { objects.now.ready ≡ true }
     ensures step { step_of result objects.now.pool ≡ picked_step waited pick objects.now.pool }
-    ensures busy { IsBusy result }
+    ensures goes { GoesWell 2 result objects.now }
+    ensures ends { IsTurnStep result }
 {
     match pick {
         Pick::Soon(x) => comes(What::Immediate, x, 0, Errand::Notify, objects),
@@ -65,8 +75,10 @@ fn picked(pick: Pick, waited: bool, objects: &ObjectPool) -> Step
 /// What comes is busy from now on, and its handler is to be told of; where it has none the turn is over.
 fn start(what: What, x: Obj, occasion: Occasion, objects: &mut ObjectPool) -> Step
     ensures step { step_of result objects.new.pool ≡ turn_step (Starting what x occasion) objects.old.pool }
-    ensures busy { IsBusy result }
+    ensures goes { GoesWell 1 result objects.new }
+    ensures ends { IsTurnStep result }
     ensures rest { objects.new ≡ record objects.old { pool = objects.new.pool } }
+    ensures requests { objects.new.pool.requests ≡ objects.old.pool.requests }
 {
     match objects.start(what, x) {
         Some(handler) => goes(TurnFrame::Firing {
@@ -81,10 +93,13 @@ fn start(what: What, x: Obj, occasion: Occasion, objects: &mut ObjectPool) -> St
 
 /// The handler of an event has returned: the event is quiet again, and the turn is over, or waits until the event is freed.
 fn handled(what: What, x: Obj, objects: &mut ObjectPool) -> Step
-    requires { IsLiveRow objects.old.pool x }
+    requires live { IsLiveRow objects.old.pool x }
+    requires ready { objects.old.ready ≡ true }
     ensures step { step_of result objects.new.pool ≡ turn_step (Handled what x) objects.old.pool }
-    ensures busy { IsBusy result }
+    ensures goes { GoesWell 3 result objects.new }
+    ensures ends { IsTurnStep result }
     ensures rest { objects.new ≡ record objects.old { pool = objects.new.pool } }
+    ensures requests { objects.new.pool.requests ≡ objects.old.pool.requests }
 {
     if objects.finish(what, x) {
         return Step::Frees(x, Waiting::Turn(TurnFrame::Clearing { x }));
@@ -95,9 +110,12 @@ fn handled(what: What, x: Obj, objects: &mut ObjectPool) -> Step
 /// The next step of a turn that tells and asks nothing with it.
 pub fn turn_step(frame: TurnFrame, objects: &mut ObjectPool) -> Step
     requires may { MayTurn frame objects.old.pool }
+    requires ready { FrameReady frame objects.old }
     ensures step { step_of result objects.new.pool ≡ turn_step frame objects.old.pool }
-    ensures busy { IsBusy result }
+    ensures goes { GoesWell (turn_places frame) result objects.new }
+    ensures ends { IsTurnStep result }
     ensures rest { objects.new ≡ record objects.old { pool = objects.new.pool } }
+    ensures requests { objects.new.pool.requests ≡ objects.old.pool.requests }
 {
     match frame {
         TurnFrame::Taking => {
@@ -121,5 +139,20 @@ pub fn turn_step(frame: TurnFrame, objects: &mut ObjectPool) -> Step
         TurnFrame::Handled { what, x } => handled(what, x, objects),
         TurnFrame::Closing { value } => Step::Ends(Answer::Turned(value)),
         _ => unreachable!(),
+    }
+}
+
+/// What is still to do of a turn once it was told which descriptors are ready, and this was picked.
+pub fn looked(pick: Pick) -> TurnFrame
+    ensures { result ≡ looked_frame pick }
+{
+    match pick {
+        Pick::AskClock => TurnFrame::Timing { again: true },
+        Pick::Descriptor(x, flags) => {
+            let occasion = Occasion { now: 0, flags };
+            let what = What::Descriptor;
+            TurnFrame::Starting { what, x, occasion }
+        }
+        _ => TurnFrame::Closing { value: 0 },
     }
 }

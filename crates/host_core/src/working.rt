@@ -1,10 +1,18 @@
 //! The steps of a request's work: its state is told, its cleanup runs, and whoever waits for it is notified.
-ghost use Rattle.std.specs.Prelude.{◌≡◌, true};
+ghost use Rattle.std.specs.Prelude.{◌≡◌, ◌≤◌, true};
 ghost use Rattle.tree_specs.specs.Tree.Pool.{Pool as PoolData};
-ghost use Rattle.tree_specs.specs.Machine.Table.{request_step, release_object};
+ghost use Rattle.tree_specs.specs.declared.call.Call.TheVariants.{Free as FreeOf};
+ghost use Rattle.tree_specs.specs.declared.frame.Errand.TheVariants.{Receive};
+ghost use Rattle.tree_specs.specs.declared.frame.RequestFrame.TheVariants.{Cancelling, Cleaning, Cleaned, Notifying};
+ghost use Rattle.tree_specs.specs.Calls.Plans.{planned};
+ghost use Rattle.tree_specs.specs.Machine.Table.{request_step, release_object, over_step};
+ghost use Rattle.object_pool.specs.Objects.{Objects as ObjectsData, MayBeginFree};
+ghost use Rattle.object_pool.specs.Requests.{count_unreceived};
 ghost use Rattle.host_core.specs.Stacks.{work_frame};
-ghost use Rattle.host_core.specs.Steps.{step_of, IsBusy};
-ghost use Rattle.host_core.specs.Requests.{MayWork, StaysReady, work_tells, work_told, pool_told};
+ghost use Rattle.host_core.specs.Steps.{step_of};
+ghost use Rattle.host_core.specs.Hosts.{errand_places, work_places};
+ghost use Rattle.host_core.specs.Going.{works_as, GoesWell, IsWorkStep};
+ghost use Rattle.host_core.specs.Requests.{MayWork, ErrandReady, WorkReady, work_tells, work_told, pool_told};
 
 use crate::active::Active;
 use crate::answer::Answer;
@@ -16,12 +24,11 @@ use crate::waiting::Waiting;
 use crate::work::{Work, cancelled, reply_to};
 use object_pool::ObjectPool;
 use requests::Notify;
-use tree_specs::{Errand, Event, Handler, Obj, Occasion, State, What};
+use tree_specs::{Errand, Event, Obj, Occasion, State, What};
 
 /// The work of a request goes on with this.
 fn goes(work: Work) -> Step
-    ensures step { (p : PoolData) → step_of result p ≡ Do.Go (RequestOf (work_frame work)) p }
-    ensures busy { IsBusy result }
+    ensures { result ≡ works_as work }
 {
     Step::Goes(Active::Requesting(work))
 }
@@ -29,33 +36,27 @@ fn goes(work: Work) -> Step
 /// An errand is over.
 fn over(errand: Errand) -> Step
     ensures step { (p : PoolData) → step_of result p ≡ over_step errand p }
-    ensures busy { IsBusy result }
+    ensures goes { (o : ObjectsData) → GoesWell 1 result o }
+    ensures ends { IsWorkStep result }
 {
     goes(Work::Over {
         reply: reply_to(errand),
     })
 }
 
-/// A routine of a request is to run.
-fn calls(what: What, x: Obj, handler: Handler, errand: Errand) -> Step
-    ensures step { (p : PoolData) → step_of result p ≡ Do.Go (calling_one what x handler errand) p }
-    ensures busy { IsBusy result }
-{
-    goes(Work::Calling {
-        what,
-        x,
-        handler,
-        errand,
-    })
-}
-
 /// The routine runs that cancels a request, where it has one and wasn't received.
 fn cancel(x: Obj, objects: &ObjectPool) -> Step
     ensures step { step_of result objects.now.pool ≡ request_step (Cancelling x) objects.now.pool }
-    ensures busy { IsBusy result }
+    ensures goes { GoesWell 1 result objects.now }
+    ensures ends { IsWorkStep result }
 {
     match objects.cancel_routine(x) {
-        Some(handler) => calls(What::Cancel, x, handler, Errand::Cancel),
+        Some(handler) => goes(Work::Calling {
+            what: What::Cancel,
+            x,
+            handler,
+            errand: Errand::Cancel,
+        }),
         None => goes(Work::Over {
             reply: cancelled(0),
         }),
@@ -64,20 +65,30 @@ fn cancel(x: Obj, objects: &ObjectPool) -> Step
 
 /// A cleanup runs once for each state.
 fn clean(x: Obj, errand: Errand, objects: &mut ObjectPool) -> Step
+    requires ready { ErrandReady errand objects.old }
     ensures step { step_of result objects.new.pool ≡ request_step (Cleaning x errand) objects.old.pool }
-    ensures busy { IsBusy result }
+    ensures goes { GoesWell (errand_places errand) result objects.new }
+    ensures ends { IsWorkStep result }
     ensures rest { objects.new ≡ record objects.old { pool = objects.new.pool } }
+    ensures requests { count_unreceived objects.new.pool.requests ≤ count_unreceived objects.old.pool.requests }
 {
     match objects.to_clean(x) {
-        Some(handler) => calls(What::Cleanup, x, handler, errand),
+        Some(handler) => goes(Work::Calling {
+            what: What::Cleanup,
+            x,
+            handler,
+            errand,
+        }),
         None => goes(Work::Cleaned { x, errand }),
     }
 }
 
 /// What a request was made with is freed as a call frees it, and what comes of this isn't told.
 fn let_go(child: Obj, objects: &ObjectPool) -> Step
+    requires ready { MayBeginFree objects.now }
     ensures step { step_of result objects.now.pool ≡ release_object (planned objects.now.pool (FreeOf child)) Receive objects.now.pool }
-    ensures busy { IsBusy result }
+    ensures goes { GoesWell 3 result objects.now }
+    ensures ends { IsWorkStep result }
 {
     let waiting = Waiting::Work(Work::Releasing { child });
     match release(child, objects) {
@@ -89,27 +100,36 @@ fn let_go(child: Obj, objects: &ObjectPool) -> Step
 
 /// After its cleanup nothing more is done for a request that is no more.
 fn cleaned(x: Obj, errand: Errand, objects: &ObjectPool) -> Step
+    requires ready { ErrandReady errand objects.now }
     ensures step { step_of result objects.now.pool ≡ request_step (Cleaned x errand) objects.now.pool }
-    ensures busy { IsBusy result }
+    ensures goes { GoesWell (errand_places errand) result objects.now }
+    ensures ends { IsWorkStep result }
 {
     let Some(note) = objects.note(x) else {
         return over(errand);
     };
-    if errand == Errand::Receive {
-        return let_go(note.child, objects);
+    match errand {
+        Errand::Receive => let_go(note.child, objects),
+        _ => goes(Work::Notifying { x, errand }),
     }
-    goes(Work::Notifying { x, errand })
 }
 
 /// A request whose callback is deferred comes soon; otherwise its callback runs, where it has one.
 fn notify(x: Obj, errand: Errand, objects: &mut ObjectPool) -> Step
-    requires { objects.old.ready ≡ true }
+    requires ready { objects.old.ready ≡ true }
     ensures step { step_of result objects.new.pool ≡ request_step (Notifying x errand) objects.old.pool }
-    ensures busy { IsBusy result }
+    ensures goes { GoesWell 1 result objects.new }
+    ensures ends { IsWorkStep result }
     ensures rest { objects.new ≡ record objects.old { pool = objects.new.pool; ready = objects.new.ready } }
+    ensures requests { count_unreceived objects.new.pool.requests ≤ count_unreceived objects.old.pool.requests }
 {
     match objects.to_notify(x) {
-        Notify::Run(handler) => calls(What::Callback, x, handler, errand),
+        Notify::Run(handler) => goes(Work::Calling {
+            what: What::Callback,
+            x,
+            handler,
+            errand,
+        }),
         Notify::Post | Notify::Nothing => over(errand),
     }
 }
@@ -117,10 +137,12 @@ fn notify(x: Obj, errand: Errand, objects: &mut ObjectPool) -> Step
 /// The next step of a request's work that tells nothing with it.
 pub fn work_step(work: Work, objects: &mut ObjectPool) -> Step
     requires may { MayWork work objects.old }
+    requires ready { WorkReady work objects.old }
     ensures step { step_of result objects.new.pool ≡ request_step (work_frame work) objects.old.pool }
-    ensures busy { IsBusy result }
+    ensures goes { GoesWell (work_places work) result objects.new }
+    ensures ends { IsWorkStep result }
     ensures rest { objects.new ≡ record objects.old { pool = objects.new.pool; ready = objects.new.ready } }
-    ensures ready { StaysReady work objects.old.ready objects.new.ready }
+    ensures requests { count_unreceived objects.new.pool.requests ≤ count_unreceived objects.old.pool.requests }
 {
     match work {
         Work::Receiving { .. } => over(Errand::Receive),

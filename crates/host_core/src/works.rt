@@ -1,14 +1,32 @@
 //! The open works, step after step: callers, turns, frees and the works of requests, each on the one that waits for it.
+ghost use Rattle.std.specs.Prelude.{◌≡◌, ◌+◌, ◌*◌, ◌≤◌, true, false, is_none, reverse, slice_get, length, vec_capacity};
+ghost use Rattle.tree_specs.specs.Tree.Pool.{Pool as PoolData};
+ghost use Rattle.tree_specs.specs.Invariants.Consistent.{IsConsistent};
+ghost use Rattle.tree_specs.specs.Texts.Schedule.{misfit};
+ghost use Rattle.host_core.specs.Moves.{move_of, ReadyFor};
+ghost use Rattle.host_core.specs.Reaches.{is_bytes};
+ghost use Rattle.host_core.specs.Stacks.{Fits};
+ghost use Rattle.host_core.specs.Steps.{step_of, IsBusy};
+ghost use Rattle.host_core.specs.Going.{stepped_view, ended_view, answer_places, step_places, Answers, StepReady, StepAnswers, AnswersTo, resumed_works, HasPlacesFor};
+ghost use Rattle.destructors.specs.Frees.{speaking, Begins};
+ghost use Rattle.destructors.specs.Works.{IsAtWork};
+ghost use Rattle.object_pool.specs.Objects.{Objects as ObjectsData, frees_in};
+ghost use Rattle.host_core.specs.Moves.{call_of, reported};
+ghost use Rattle.host_core.specs.Turns.{frame_timed};
+ghost use Rattle.host_core.specs.declared.waiting.Waiting.{Waiting as WaitingData};
+ghost use Rattle.std.specs.Prelude.{List, None};
+ghost use Rattle.host_core.specs.Hosts.{host_view, given_view, asked_now, speaking_view, PartsReady, HasRoom, IsBetweenSteps, TellsSameStory, StepsSilently};
 use crate::active::Active;
 use crate::answer::Answer;
 use crate::caller::{Caller, Stage};
 use crate::calls::{act, freed};
 use crate::motion::Motion;
 use crate::parts::Parts;
+use crate::reach::heard;
 use crate::short_reply::ShortReply;
 use crate::step::Step;
 use crate::turn::Turn;
-use crate::turns::turn_step;
+use crate::turns::{looked, turn_step};
 use crate::waiting::{Waiting, turn_resumed};
 use crate::work::Work;
 use crate::working::work_step;
@@ -18,6 +36,11 @@ use tree_specs::{Act, Ask, Call, Event, FreeReply, FreeStep, Input, Refusal, Tur
 
 /// The open frees have waited for this: the innermost goes on, and is at work.
 fn free_again(answer: Answer, objects: &mut ObjectPool)
+    requires { AnswersTo answer Waiting.Freeing objects.old }
+    ensures at_work { IsAtWork (frees_in objects.new) }
+    ensures settled { speaking (frees_in objects.new) ≡ true }
+    ensures begins { Begins (resumed_works answer objects.old.works) objects.old.pool (frees_in objects.new) }
+    ensures requests { objects.new.pool.requests ≡ objects.old.pool.requests }
 {
     match answer {
         Answer::Returned(value) => objects.answer(value),
@@ -27,6 +50,12 @@ fn free_again(answer: Answer, objects: &mut ObjectPool)
 
 /// The innermost work is over. The one below it goes on with its answer.
 fn end(answer: Answer, parts: &mut Parts) -> Active
+    requires answers { Answers answer (reverse parts.old.waiting.items) parts.old.objects }
+    requires whole { IsConsistent (ended_view answer parts.old) }
+    requires fit { Fits parts.old.objects.works (reverse parts.old.waiting.items) }
+    requires places { HasPlacesFor (answer_places answer) parts.old }
+    ensures along { TellsSameStory (ended_view answer parts.old) (host_view result parts.new) }
+    ensures ready { IsBetweenSteps result parts.new }
 {
     match parts.waiting.pop() {
         Some(Waiting::Freeing) => {
@@ -47,6 +76,14 @@ fn end(answer: Answer, parts: &mut Parts) -> Active
 
 /// What a step leads to is at work from then on.
 fn go_on(step: Step, parts: &mut Parts) -> Active
+    requires busy { IsBusy step }
+    requires whole { IsConsistent (stepped_view step parts.old) }
+    requires fit { Fits parts.old.objects.works (reverse parts.old.waiting.items) }
+    requires ready { StepReady step parts.old.objects }
+    requires answers { StepAnswers step (reverse parts.old.waiting.items) parts.old.objects }
+    requires places { HasPlacesFor (step_places step) parts.old }
+    ensures along { TellsSameStory (stepped_view step parts.old) (host_view result parts.new) }
+    ensures ready { IsBetweenSteps result parts.new }
 {
     match step {
         Step::Goes(next) => next,
@@ -75,6 +112,9 @@ fn go_on(step: Step, parts: &mut Parts) -> Active
 
 /// A turn begins for the host's own caller. A routine is refused one, since it may run in a turn itself.
 fn turn(ask: Ask) -> Step
+    ensures step { (p : PoolData) → step_of result p ≡ move_of ask Motion.Turns p }
+    ensures busy { IsBusy result }
+    ensures places { step_places result ≤ 3 }
 {
     match ask {
         Ask::Quiet => {
@@ -87,12 +127,20 @@ fn turn(ask: Ask) -> Step
 
 /// The reply to the call of the caller that was asked comes next.
 fn replies(ask: Ask, reply: ShortReply) -> Step
+    ensures step { (p : PoolData) → step_of result p ≡ move_of ask (Motion.Replies reply) p }
+    ensures busy { IsBusy result }
+    ensures places { step_places result ≤ 3 }
 {
     Step::Goes(Active::Caller(Caller::after(ask, reply)))
 }
 
 /// A caller that was asked goes on with what its call does first.
 fn call_step(ask: Ask, motion: Motion) -> Step
+    ensures step { (p : PoolData) → step_of result p ≡ move_of ask motion p }
+    ensures busy { IsBusy result }
+    ensures places { step_places result ≤ 3 }
+    ensures ready { (o : ObjectsData) → ReadyFor motion o.ready → StepReady result o }
+    ensures answers { (ws : List WaitingData) (o : ObjectsData) → StepAnswers result ws o }
 {
     match motion {
         Motion::Replies(reply) => replies(ask, reply),
@@ -115,6 +163,7 @@ fn call_step(ask: Ask, motion: Motion) -> Step
 
 /// The clock has told a turn this time, in microseconds.
 fn timed(frame: TurnFrame, now: u64) -> TurnFrame
+    ensures { result ≡ frame_timed frame now }
 {
     match frame {
         TurnFrame::Timing { again } => TurnFrame::Timed { again, now },
@@ -124,6 +173,15 @@ fn timed(frame: TurnFrame, now: u64) -> TurnFrame
 
 /// Who was asked goes on with the answer, which takes no memory of its own.
 pub fn answer_on(now: &mut Active, input: Input, parts: &mut Parts)
+    requires fits { is_none (misfit (asked_now now.old) input) ≡ true }
+    requires no_bytes { is_bytes input ≡ false }
+    requires no_report { reported (call_of input) ≡ None }
+    requires ready { PartsReady now.old parts.old.objects }
+    requires fit { Fits parts.old.objects.works (reverse parts.old.waiting.items) }
+    requires whole { IsConsistent (given_view now.old input parts.old) }
+    requires room { HasRoom parts.old }
+    ensures along { TellsSameStory (given_view now.old input parts.old) (host_view now.new parts.new) }
+    ensures ready { IsBetweenSteps now.new parts.new }
 {
     let present = mem::replace(now, Active::Freeing);
     *now = match (present, input) {
@@ -151,6 +209,10 @@ pub fn answer_on(now: &mut Active, input: Input, parts: &mut Parts)
 
 /// What comes next of the open frees where this tells no event.
 fn free_step(parts: &mut Parts) -> Active
+    requires ready { IsBetweenSteps Active.Freeing parts.old }
+    requires quiet { speaking_view (host_view Active.Freeing parts.old) ≡ false }
+    ensures onward { StepsSilently (host_view Active.Freeing parts.old) (host_view result parts.new) }
+    ensures ready { IsBetweenSteps result parts.new }
 {
     let Progress { step, .. } = parts.objects.step();
     match step {
@@ -169,6 +231,10 @@ fn free_step(parts: &mut Parts) -> Active
 
 /// A step that tells and asks nothing.
 fn quiet_step(now: Active, parts: &mut Parts) -> Active
+    requires ready { IsBetweenSteps now parts.old }
+    requires quiet { speaking_view (host_view now parts.old) ≡ false }
+    ensures onward { StepsSilently (host_view now parts.old) (host_view result parts.new) }
+    ensures ready { IsBetweenSteps result parts.new }
 {
     match now {
         Active::Freeing => free_step(parts),
@@ -186,6 +252,10 @@ fn quiet_step(now: Active, parts: &mut Parts) -> Active
 
 /// The steps that tell nothing, up to the next event or question.
 pub fn settle(now: &mut Active, parts: &mut Parts)
+    requires { IsBetweenSteps now.old parts.old }
+    ensures along { TellsSameStory (host_view now.old parts.old) (host_view now.new parts.new) }
+    ensures ready { IsBetweenSteps now.new parts.new }
+    ensures settled { speaking_view (host_view now.new parts.new) ≡ true }
 {
     while !now.speaks(&parts.objects) {
         let present = mem::replace(now, Active::Freeing);

@@ -1,0 +1,113 @@
+-- What a step leads to, by the parts of a host.
+use Rattle.std.proofs.Common.{◌≡◌, ℕ, ◌+◌, ◌*◌, ◌≤◌, List, [], ◌∷◌, ◌++◌, reverse, length, Option, Some, None, true, false, refl, sym, ◌∙◌, ap, subst, arith}
+use Rattle.std.proofs.lemmas.List.{reverse-append}
+use Rattle.step_machine.specs.Machine.{Move as Do}
+use Rattle.tree_specs.specs.declared.frame.Frame.{Frame}
+use Rattle.tree_specs.specs.declared.frame.Frame.TheVariants as frame
+use Rattle.tree_specs.specs.declared.frame.FreeFrame.{FreeFrame}
+use Rattle.tree_specs.specs.declared.free_step.FreeReply.{FreeReply}
+use Rattle.tree_specs.specs.declared.free_step.FreeStep.{FreeStep}
+use Rattle.tree_specs.specs.Events.Requests.{Notes}
+use Rattle.tree_specs.specs.Tree.Pool.{Pool}
+use Rattle.tree_specs.specs.Machine.FreeTable.{FreeMove, free_step, free_resume}
+use Rattle.tree_specs.specs.Machine.View.{View}
+use Rattle.tree_specs.proofs.Tree.Numbered.{by_test}
+use Rattle.destructors.specs.Frees.{OpenFrees, awaits_run, answered, moves, Silently, Still, On}
+use Rattle.destructors.specs.Frees.{moved as free_moved}
+use Rattle.destructors.proofs.FreeMoves.{IsMoveOf, is_move}
+use Rattle.destructors.proofs.Hosting.{AwaitsRun}
+use Rattle.object_pool.specs.Requests.{count_unreceived}
+use Rattle.host_core.specs.declared.active.Active.{Active}
+use Rattle.host_core.specs.declared.active.Active.TheVariants as active
+use Rattle.host_core.specs.declared.waiting.Waiting.{Waiting}
+use Rattle.host_core.specs.declared.waiting.Waiting.TheVariants.{Freeing, Awaiting, Turning, Requesting, Turn, Work}
+use Rattle.host_core.specs.Stacks.{waiting_frame, active_frame, ahead, behind, standing, below_free, Fits, FreesFit, AllFit, free_view, other_view, freeing_view, seen}
+use Rattle.host_core.specs.Steps.{IsOther, IsWaiter}
+use Rattle.host_core.specs.Hosts.{places, HasPlaces}
+
+-- ---- what isn't the open frees
+
+pub other-seen : (now : Active) (fs : List FreeFrame) (ws : List Waiting) (p : Pool) → IsOther now → seen now fs ws p ≡ other_view (active_frame now) fs ws p
+other-seen active.Freeing fs ws p n = absurd n
+other-seen (active.Caller c) fs ws p n = refl
+other-seen (active.Turning t) fs ws p n = refl
+other-seen (active.Reaching q) fs ws p n = refl
+other-seen (active.Requesting w) fs ws p n = refl
+
+pub other-fit : (now : Active) (fs : List FreeFrame) (ws : List Waiting) → IsOther now → Fits fs ws → AllFit now fs ws
+other-fit active.Freeing fs ws n e = absurd n
+other-fit (active.Caller c) fs ws n e = e
+other-fit (active.Turning t) fs ws n e = e
+other-fit (active.Reaching q) fs ws n e = e
+other-fit (active.Requesting w) fs ws n e = e
+
+pub has-places : (now : Active) (waiting : ℕ) (notes : Notes) (most : ℕ) → waiting + places now + 2 * count_unreceived notes ≤ most → HasPlaces now waiting notes most
+has-places (active.Caller c) waiting notes most l = tt
+has-places (active.Reaching q) waiting notes most l = tt
+has-places active.Freeing waiting notes most l = l
+has-places (active.Turning t) waiting notes most l = l
+has-places (active.Requesting w) waiting notes most l = l
+
+-- ---- one more that waits
+
+pub pushed : (old new : List Waiting) (w : Waiting) → new ≡ old ++ w ∷ [] → reverse new ≡ w ∷ reverse old
+pushed old new w e = ap reverse e ∙ reverse-append old (w ∷ [])
+
+pub standing-waiter : (fs : List FreeFrame) (w : Waiting) (ws : List Waiting) → IsWaiter w → standing fs (w ∷ ws) ≡ waiting_frame w ∷ standing fs ws
+standing-waiter fs Freeing ws n = absurd n
+standing-waiter fs (Awaiting q x) ws n = refl
+standing-waiter fs (Turning q) ws n = refl
+standing-waiter fs (Requesting q) ws n = refl
+standing-waiter fs (Turn f) ws n = refl
+standing-waiter fs (Work w) ws n = refl
+
+pub fits-waiter : (fs : List FreeFrame) (w : Waiting) (ws : List Waiting) → IsWaiter w → Fits fs ws → Fits fs (w ∷ ws)
+fits-waiter fs Freeing ws n e = absurd n
+fits-waiter fs (Awaiting q x) ws n e = e
+fits-waiter fs (Turning q) ws n e = e
+fits-waiter fs (Requesting q) ws n e = e
+fits-waiter fs (Turn f) ws n e = e
+fits-waiter fs (Work w) ws n e = e
+
+pub unfits-waiter : (fs : List FreeFrame) (w : Waiting) (ws : List Waiting) → IsWaiter w → Fits fs (w ∷ ws) → Fits fs ws
+unfits-waiter fs Freeing ws n e = absurd n
+unfits-waiter fs (Awaiting q x) ws n e = e
+unfits-waiter fs (Turning q) ws n e = e
+unfits-waiter fs (Requesting q) ws n e = e
+unfits-waiter fs (Turn f) ws n e = e
+unfits-waiter fs (Work w) ws n e = e
+
+-- ---- the open frees stay marked where they wait
+
+-- where the first of them waits for no free, none of them is ahead
+pub none-ahead : (fs : List FreeFrame) → AwaitsRun fs → (ahead fs ≡ []) × (behind fs ≡ fs)
+none-ahead [] w = (refl, refl)
+none-ahead (f ∷ fs) w = (rw w refl, rw w refl)
+
+pub below-begun : (fs : List FreeFrame) (ws : List Waiting) → AwaitsRun fs → below_free fs ws ≡ standing fs ws
+below-begun fs ws w = let n = none-ahead fs w in rw (n.0, n.1) refl
+
+abbrev FitAfter : Option FreeStep × OpenFrees → List Waiting → Type 0
+FitAfter (None, s) ws = FreesFit s.works ws
+FitAfter (Some t, s) ws = Unit {0}
+
+fit-answered : (a : FreeReply) (q : Pool) (fs : List FreeFrame) (ws : List Waiting) → Fits (behind fs) ws → FitAfter (answered a q fs) ws
+fit-answered a q [] ws e = tt
+fit-answered a q (g ∷ fs) ws e = by_test (awaits_run g)
+    (λ t. rw t tt)
+    (λ t. let e' : Fits (behind fs) ws = rw t at e in rw t e')
+
+fit-moved : (f : FreeFrame) (p : Pool) (m : FreeMove) (fs : List FreeFrame) (ws : List Waiting) → IsMoveOf f p m → Fits (behind fs) ws → FitAfter (free_moved m fs) ws
+fit-moved f p (Do.Done a q) fs ws of e = fit-answered a q fs ws e
+fit-moved f p (Do.Go g q) fs ws of e = e
+fit-moved f p (Do.Emit t g q) fs ws of e = tt
+fit-moved f p (Do.Wait t g q) fs ws of e = tt
+fit-moved f p (Do.Call g h q) fs ws of e = rw of.1 e
+
+pub fits-silently : (s t : OpenFrees) (ws : List Waiting) → Silently s t → FreesFit s.works ws → FreesFit t.works ws
+fits-silently s _ ws Still e = e
+fits-silently s t ws (On u _ earlier last) e = each u.works (fits-silently s u ws earlier e) last
+  where
+    each : (works : List FreeFrame) → FreesFit works ws → moves works u.pool ≡ (None, t) → FreesFit t.works ws
+    each [] k m = absurd k
+    each (f ∷ fs) k m = subst (λ (z : Option FreeStep × OpenFrees). FitAfter z ws) m (fit-moved f u.pool (free_step f u.pool) fs ws (is_move f u.pool) k)
