@@ -178,7 +178,7 @@ silently-along s t ws (On u _ earlier last) h =
 -- ---- a step of the innermost free
 
 module _ (f : FreeFrame) (fs : List FreeFrame) (ws : List Waiting) (p : Pool) (new : OpenFrees) (h : IsConsistent (free_view f fs ws p)) where
-  mid : OpenFrees
+  abbrev mid : OpenFrees
   mid = (moves (f ∷ fs) p).1
 
   told-by : (t : FreeStep) → Steps (record { works = f ∷ fs; pool = p }) t new → moves (f ∷ fs) p ≡ (Some t, mid)

@@ -53,29 +53,21 @@ has-places (active.Requesting w) waiting notes most l = l
 pub pushed : (old new : List Waiting) (w : Waiting) → new ≡ old ++ w ∷ [] → reverse new ≡ w ∷ reverse old
 pushed old new w e = ap reverse e ∙ reverse-append old (w ∷ [])
 
-pub standing-waiter : (fs : List FreeFrame) (w : Waiting) (ws : List Waiting) → IsWaiter w → standing fs (w ∷ ws) ≡ waiting_frame w ∷ standing fs ws
-standing-waiter fs Freeing ws n = absurd n
-standing-waiter fs (Awaiting q x) ws n = refl
-standing-waiter fs (Turning q) ws n = refl
-standing-waiter fs (Requesting q) ws n = refl
-standing-waiter fs (Turn f) ws n = refl
-standing-waiter fs (Work w) ws n = refl
-
-pub fits-waiter : (fs : List FreeFrame) (w : Waiting) (ws : List Waiting) → IsWaiter w → Fits fs ws → Fits fs (w ∷ ws)
-fits-waiter fs Freeing ws n e = absurd n
-fits-waiter fs (Awaiting q x) ws n e = e
-fits-waiter fs (Turning q) ws n e = e
-fits-waiter fs (Requesting q) ws n e = e
-fits-waiter fs (Turn f) ws n e = e
-fits-waiter fs (Work w) ws n e = e
-
-pub unfits-waiter : (fs : List FreeFrame) (w : Waiting) (ws : List Waiting) → IsWaiter w → Fits fs (w ∷ ws) → Fits fs ws
-unfits-waiter fs Freeing ws n e = absurd n
-unfits-waiter fs (Awaiting q x) ws n e = e
-unfits-waiter fs (Turning q) ws n e = e
-unfits-waiter fs (Requesting q) ws n e = e
-unfits-waiter fs (Turn f) ws n e = e
-unfits-waiter fs (Work w) ws n e = e
+-- one that is not the open frees stands on the others, which are marked as they were
+pub below-waiter : (fs : List FreeFrame) (w : Waiting) (ws : List Waiting) → IsWaiter w
+    → (standing fs (w ∷ ws) ≡ waiting_frame w ∷ standing fs ws) × (Fits fs ws → Fits fs (w ∷ ws)) × (Fits fs (w ∷ ws) → Fits fs ws)
+below-waiter [] Freeing ws n = absurd n
+below-waiter [] (Awaiting q x) ws n = (refl, λ e. e, λ e. e)
+below-waiter [] (Turning q) ws n = (refl, λ e. e, λ e. e)
+below-waiter [] (Requesting q) ws n = (refl, λ e. e, λ e. e)
+below-waiter [] (Turn t) ws n = (refl, λ e. e, λ e. e)
+below-waiter [] (Work k) ws n = (refl, λ e. e, λ e. e)
+below-waiter (f ∷ fs) Freeing ws n = absurd n
+below-waiter (f ∷ fs) (Awaiting q x) ws n = (refl, λ e. e, λ e. e)
+below-waiter (f ∷ fs) (Turning q) ws n = (refl, λ e. e, λ e. e)
+below-waiter (f ∷ fs) (Requesting q) ws n = (refl, λ e. e, λ e. e)
+below-waiter (f ∷ fs) (Turn t) ws n = (refl, λ e. e, λ e. e)
+below-waiter (f ∷ fs) (Work k) ws n = (refl, λ e. e, λ e. e)
 
 -- ---- the open frees stay marked where they wait
 

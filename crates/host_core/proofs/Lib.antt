@@ -4,3 +4,4 @@ pub mod FreeSteps
 pub mod Hosting
 pub mod Ending
 pub mod Going
+pub mod Resuming

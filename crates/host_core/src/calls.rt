@@ -110,6 +110,7 @@ fn progress(note: Option<Note>) -> Motion
 
 /// A request fails with a number; with 0 it doesn't.
 fn fail(x: Obj, error: u64, pool: &mut ObjectPool) -> Motion
+    requires { pool.old.ready ≡ true }
     ensures goes { ReadyFor result pool.old.ready }
     ensures ready { pool.new.ready ≡ pool.old.ready }
     ensures works { pool.new.works ≡ pool.old.works }

@@ -35,6 +35,7 @@ use std::mem;
 use tree_specs::{Act, Ask, Call, Event, FreeReply, FreeStep, Input, Refusal, TurnFrame};
 
 /// The open frees have waited for this: the innermost goes on, and is at work.
+#[tactic(auto, using(crate::proofs::Resuming::returned_begins, crate::proofs::Resuming::received_begins))]
 fn free_again(answer: Answer, objects: &mut ObjectPool)
     requires { AnswersTo answer Waiting.Freeing objects.old }
     ensures at_work { IsAtWork (frees_in objects.new) }
@@ -44,7 +45,8 @@ fn free_again(answer: Answer, objects: &mut ObjectPool)
 {
     match answer {
         Answer::Returned(value) => objects.answer(value),
-        _ => objects.received(),
+        Answer::Heard(_) => objects.received(),
+        Answer::Freed(_) | Answer::Turned(_) => unreachable!(),
     }
 }
 
