@@ -51,7 +51,7 @@ freed-work f _ a o gs w s = absurd w.0
 -- what waits for a free that is over, where the next free waits for no free
 pub freed-answers : (f : FreeFrame) (fs : List FreeFrame) (ws : List Waiting) (a : FreeReply) (o : Objects) → AwaitsRun fs → Fits fs ws → AllWait (standing fs ws) → IsStacked (frame.Free f) (standing fs ws) → Answers (Freed a) ws o
 freed-answers f fs [] a o r e w s = absurd s
-freed-answers f [] (Freeing ∷ ws) a o r e w s = absurd e
+freed-answers f [] (Freeing ∷ ws) a o r e w s = absurd e.0
 freed-answers f (g ∷ fs) (Freeing ∷ ws) a o r e w s = absurd (free-on f g _ r s)
 freed-answers f fs (Awaiting q x ∷ ws) a o r e w s = record { first = Awaiting q x; others = ws; are = refl; answers = tt }
 freed-answers f fs (Turning q ∷ ws) a o r e w s = absurd s.0
@@ -82,7 +82,7 @@ returned-answers v ws o ready e h = each o.works ws e h.sound.waiting h.seated (
   where
     each : (fs : List FreeFrame) (vs : List Waiting) → Fits fs vs → AllWait (standing fs vs) → IsStacked (frame.Call (Returning v)) (standing fs vs) → AreAwaiting o.works o.pool → o.works ≡ fs → Answers (Returned v) vs o
     each fs [] e w s a k = absurd s
-    each [] (Freeing ∷ vs) e w s a k = absurd e
+    each [] (Freeing ∷ vs) e w s a k = absurd e.0
     each (g ∷ fs) (Freeing ∷ vs) e w s a k = record { first = Freeing; others = vs; are = refl; answers = (rw k (asked-free v g _ s), a) }
     each fs (Awaiting q x ∷ vs) e w s a k = absurd s.0
     each fs (Turning q ∷ vs) e w s a k = absurd s.0
@@ -95,7 +95,7 @@ returned-answers v ws o ready e h = each o.works ws e h.sound.waiting h.seated (
 -- only a call waits for what is a turn to it
 turned-call : (f : Frame) (a : Answer) (o : Objects) → IsTurn f → (IsFree f → ⊥) → (IsRun f → ⊥) → (IsWork f → ⊥) → ((q : Ask) → AnswersTo a (Turning q) o) → (fs : List FreeFrame) (ws : List Waiting) → Fits fs ws → AllWait (standing fs ws) → IsStacked f (standing fs ws) → (IsCaller f → ⊥) → Answers a ws o
 turned-call f a o t no_free no_run no_work answers fs [] e w s c = absurd (c s)
-turned-call f a o t no_free no_run no_work answers [] (Freeing ∷ ws) e w s c = absurd e
+turned-call f a o t no_free no_run no_work answers [] (Freeing ∷ ws) e w s c = absurd e.0
 turned-call f a o t no_free no_run no_work answers (g ∷ fs) (Freeing ∷ ws) e w s c = absurd (each g s.0)
   where
     each : (g : FreeFrame) → MayStandOn f (frame.Free g ∷ []) → ⊥
@@ -147,7 +147,7 @@ worked-answers r b ws o e h = each o.works ws e h.sound.waiting h.seated (worked
   where
     each : (fs : List FreeFrame) (vs : List Waiting) → Fits fs vs → AllWait (standing fs vs) → IsStacked (frame.Request (Over r)) (standing fs vs) → AreAwaiting o.works o.pool → o.works ≡ fs → Answers (Heard b) vs o
     each fs [] e w s a k = absurd s
-    each [] (Freeing ∷ vs) e w s a k = absurd e
+    each [] (Freeing ∷ vs) e w s a k = absurd e.0
     each (g ∷ fs) (Freeing ∷ vs) e w s a k = record { first = Freeing; others = vs; are = refl; answers = (rw k (received-free r g _ s), a) }
     each fs (Awaiting q x ∷ vs) e w s a k = absurd s.0
     each fs (Turning q ∷ vs) e w s a k = absurd s.0

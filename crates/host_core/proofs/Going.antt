@@ -56,18 +56,12 @@ pushed old new w e = ap reverse e ∙ reverse-append old (w ∷ [])
 -- one that is not the open frees stands on the others, which are marked as they were
 pub below-waiter : (fs : List FreeFrame) (w : Waiting) (ws : List Waiting) → IsWaiter w
     → (standing fs (w ∷ ws) ≡ waiting_frame w ∷ standing fs ws) × (Fits fs ws → Fits fs (w ∷ ws)) × (Fits fs (w ∷ ws) → Fits fs ws)
-below-waiter [] Freeing ws n = absurd n
-below-waiter [] (Awaiting q x) ws n = (refl, λ e. e, λ e. e)
-below-waiter [] (Turning q) ws n = (refl, λ e. e, λ e. e)
-below-waiter [] (Requesting q) ws n = (refl, λ e. e, λ e. e)
-below-waiter [] (Turn t) ws n = (refl, λ e. e, λ e. e)
-below-waiter [] (Work k) ws n = (refl, λ e. e, λ e. e)
-below-waiter (f ∷ fs) Freeing ws n = absurd n
-below-waiter (f ∷ fs) (Awaiting q x) ws n = (refl, λ e. e, λ e. e)
-below-waiter (f ∷ fs) (Turning q) ws n = (refl, λ e. e, λ e. e)
-below-waiter (f ∷ fs) (Requesting q) ws n = (refl, λ e. e, λ e. e)
-below-waiter (f ∷ fs) (Turn t) ws n = (refl, λ e. e, λ e. e)
-below-waiter (f ∷ fs) (Work k) ws n = (refl, λ e. e, λ e. e)
+below-waiter fs Freeing ws n = absurd n
+below-waiter fs (Awaiting q x) ws n = (refl, λ e. e, λ e. e)
+below-waiter fs (Turning q) ws n = (refl, λ e. e, λ e. e)
+below-waiter fs (Requesting q) ws n = (refl, λ e. e, λ e. e)
+below-waiter fs (Turn t) ws n = (refl, λ e. e, λ e. e)
+below-waiter fs (Work k) ws n = (refl, λ e. e, λ e. e)
 
 -- ---- the open frees stay marked where they wait
 
@@ -87,19 +81,19 @@ fit-answered : (a : FreeReply) (q : Pool) (fs : List FreeFrame) (ws : List Waiti
 fit-answered a q [] ws e = tt
 fit-answered a q (g ∷ fs) ws e = by_test (awaits_run g)
     (λ t. rw t tt)
-    (λ t. let e' : Fits (behind fs) ws = rw t at e in rw t e')
+    (λ t. let e' : Fits (behind fs) ws = rw t at e in rw t (tt, e'))
 
 fit-moved : (f : FreeFrame) (p : Pool) (m : FreeMove) (fs : List FreeFrame) (ws : List Waiting) → IsMoveOf f p m → Fits (behind fs) ws → FitAfter (free_moved m fs) ws
 fit-moved f p (Do.Done a q) fs ws of e = fit-answered a q fs ws e
-fit-moved f p (Do.Go g q) fs ws of e = e
+fit-moved f p (Do.Go g q) fs ws of e = (tt, e)
 fit-moved f p (Do.Emit t g q) fs ws of e = tt
 fit-moved f p (Do.Wait t g q) fs ws of e = tt
-fit-moved f p (Do.Call g h q) fs ws of e = rw of.1 e
+fit-moved f p (Do.Call g h q) fs ws of e = rw of.1 (tt, e)
 
 pub fits-silently : (s t : OpenFrees) (ws : List Waiting) → Silently s t → FreesFit s.works ws → FreesFit t.works ws
 fits-silently s _ ws Still e = e
 fits-silently s t ws (On u _ earlier last) e = each u.works (fits-silently s u ws earlier e) last
   where
     each : (works : List FreeFrame) → FreesFit works ws → moves works u.pool ≡ (None, t) → FreesFit t.works ws
-    each [] k m = absurd k
-    each (f ∷ fs) k m = subst (λ (z : Option FreeStep × OpenFrees). FitAfter z ws) m (fit-moved f u.pool (free_step f u.pool) fs ws (is_move f u.pool) k)
+    each [] k m = absurd k.0
+    each (f ∷ fs) k m = subst (λ (z : Option FreeStep × OpenFrees). FitAfter z ws) m (fit-moved f u.pool (free_step f u.pool) fs ws (is_move f u.pool) k.1)

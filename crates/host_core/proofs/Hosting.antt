@@ -45,9 +45,9 @@ both-parts (f ∷ fs) = let ih = both-parts fs in by_test (awaits_run f) (λ t. 
 
 pub frees-standing : (fs : List FreeFrame) (ws : List Waiting) → Fits fs ws → frees_among (standing fs ws) ≡ fs
 frees-standing fs [] e = sym e
-frees-standing [] (Freeing ∷ ws) e = absurd e
+frees-standing [] (Freeing ∷ ws) e = absurd e.0
 frees-standing (f ∷ fs) (Freeing ∷ ws) e =
-    ap (λ (z : List FreeFrame). f ∷ z) (frees-front (ahead fs) (standing (behind fs) ws) ∙ ap (λ (z : List FreeFrame). ahead fs ++ z) (frees-standing (behind fs) ws e) ∙ both-parts fs)
+    ap (λ (z : List FreeFrame). f ∷ z) (frees-front (ahead fs) (standing (behind fs) ws) ∙ ap (λ (z : List FreeFrame). ahead fs ++ z) (frees-standing (behind fs) ws e.1) ∙ both-parts fs)
 frees-standing fs (Awaiting q x ∷ ws) e = frees-standing fs ws e
 frees-standing fs (Turning q ∷ ws) e = frees-standing fs ws e
 frees-standing fs (Requesting q ∷ ws) e = frees-standing fs ws e
@@ -112,6 +112,7 @@ hosted f fs below p h e = record { below = below; frees = e; sound = h.sound; se
 -- a free that begins, and claims nothing, is awaited
 pub begun-awaits : (f : FreeFrame) (w : Waiting) (fs : List FreeFrame) (ws : List Waiting) (p : Pool) → IsWaiter w → Fits fs ws → ((x : Obj) → claim x (frame.Free f) ≡ [])
     → IsConsistent (record { innermost = frame.Free f; below = waiting_frame w ∷ standing fs ws; pool = p }) → AreAwaiting fs p
+unfolding hosted
 begun-awaits f w fs ws p n e none h =
     over-awaits f fs p (hosted f fs (waiting_frame w ∷ standing fs ws) p h (skip-waiter w (standing fs ws) n ∙ frees-standing fs ws e)) none
     (begun-on f (waiting_frame w) (standing fs ws) (waiter (waiting_frame w) (standing fs ws) h.sound.waiting.0) (no-free w n) h.seated)

@@ -4,4 +4,5 @@ pub mod FreeSteps
 pub mod Hosting
 pub mod Ending
 pub mod Going
+pub mod Beginning
 pub mod Resuming

@@ -118,7 +118,7 @@ module _ (a : Answer) (old new : Parts) (popped : old.waiting.items ≡ new.wait
       ∙ each old.objects.works free-fits
     where
       each : (fs : List FreeFrame) → Fits fs (Freeing ∷ free_ws) → (moved (Do.Done (answer_of a) old.objects.pool) (standing fs (Freeing ∷ free_ws))).1 ≡ freeing_view (resumed_works a fs) free_ws old.objects.pool
-      each [] e = absurd e
+      each [] e = absurd e.0
       each (f ∷ fs) e = refl
 
   pub again_along : TellsSameStory (ended_view a old) (host_view active.Freeing new)
@@ -139,7 +139,7 @@ module _ (a : Answer) (old new : Parts) (popped : old.waiting.items ≡ new.wait
       }
     where
       each : (fs : List FreeFrame) → Fits fs (Freeing ∷ free_ws) → FreesFit (resumed_works a fs) free_ws
-      each [] e = absurd e
+      each [] e = absurd e.0
       each (f ∷ fs) e = e
 
 -- ---- what a turn or the work of a request may want then

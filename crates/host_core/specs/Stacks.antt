@@ -80,22 +80,33 @@ abbrev pub behind : List FreeFrame → List FreeFrame
 behind [] = []
 behind (f ∷ fs) = if awaits_run f then f ∷ fs else behind fs
 
+-- the frees of which the innermost goes on where they waited, and those below them
+abbrev pub first_frees : List FreeFrame → List Frame
+first_frees [] = []
+first_frees (f ∷ fs) = frame.Free f ∷ free_frames (ahead fs)
+
+abbrev pub other_frees : List FreeFrame → List FreeFrame
+other_frees [] = []
+other_frees (f ∷ fs) = behind fs
+
 -- the works that wait, the innermost first, with the open frees among them
 abbrev pub standing : List FreeFrame → List Waiting → List Frame
 standing fs [] = []
-standing [] (Freeing ∷ ws) = standing [] ws
-standing (f ∷ fs) (Freeing ∷ ws) = frame.Free f ∷ (free_frames (ahead fs) ++ standing (behind fs) ws)
+standing fs (Freeing ∷ ws) = first_frees fs ++ standing (other_frees fs) ws
 standing fs (w ∷ ws) = waiting_frame w ∷ standing fs ws
 
 -- the works below a free: those that were begun with it, and what waits for them
 abbrev pub below_free : List FreeFrame → List Waiting → List Frame
 below_free fs ws = free_frames (ahead fs) ++ standing (behind fs) ws
 
+abbrev pub IsOpen : List FreeFrame → Type 0
+IsOpen [] = ⊥
+IsOpen (f ∷ fs) = Unit {0}
+
 -- it is marked where each of the frees waits that waits for no free
 abbrev pub Fits : List FreeFrame → List Waiting → Type 0
 Fits fs [] = fs ≡ []
-Fits [] (Freeing ∷ ws) = ⊥
-Fits (f ∷ fs) (Freeing ∷ ws) = Fits (behind fs) ws
+Fits fs (Freeing ∷ ws) = IsOpen fs × Fits (other_frees fs) ws
 Fits fs (w ∷ ws) = Fits fs ws
 
 abbrev pub free_view : FreeFrame → List FreeFrame → List Waiting → Pool → View
@@ -114,8 +125,7 @@ seen active.Freeing fs ws p = freeing_view fs ws p
 seen now fs ws p = other_view (active_frame now) fs ws p
 
 abbrev pub FreesFit : List FreeFrame → List Waiting → Type 0
-FreesFit [] ws = ⊥
-FreesFit (f ∷ fs) ws = Fits (behind fs) ws
+FreesFit fs ws = IsOpen fs × Fits (other_frees fs) ws
 
 abbrev pub AllFit : Active → List FreeFrame → List Waiting → Type 0
 AllFit active.Freeing fs ws = FreesFit fs ws
