@@ -1,4 +1,4 @@
--- Pools in which no object has a destructor.
+-- Pools in which no object has a destructor, and none is a request.
 use Rattle.std.proofs.Common.{◌≡◌, Bool, true, false, List, [], ◌∷◌, Option, Some, None, refl, subst}
 use Rattle.tree_specs.specs.declared.object.Obj.{Obj}
 use Rattle.tree_specs.specs.declared.object.Owner.{Owner}
@@ -7,7 +7,8 @@ use Rattle.tree_specs.specs.declared.call.Call.{Call}
 use Rattle.tree_specs.specs.declared.call.Call.TheVariants as calls
 use Rattle.tree_specs.specs.Words.Objects.{same}
 use Rattle.tree_specs.specs.Tree.Targets.{newest_ref}
-use Rattle.tree_specs.specs.Tree.Pool.{Pool, row_of, changed, without, in_front, place}
+use Rattle.tree_specs.specs.Tree.Pool.{Pool, row_of, changed, without, in_front, remove, place, let_go}
+use Rattle.tree_specs.specs.Events.Requests.{no_notes}
 use Rattle.tree_specs.specs.Calls.Refusals.{Check, refusals}
 use Rattle.tree_specs.specs.Calls.Plans.{Plan, plan, planned, frees, changed_by, unless_refused}
 use Rattle.tree_specs.specs.Calls.Plans.Plan.{Does, Frees, Unlinks}
@@ -44,9 +45,22 @@ unhooked-front (Some r) o rs k h = (k r refl, h)
 pub unhooked-place : (p : Pool) (o : Owner) (x : Obj) → Unhooked p.rows → Unhooked (place p o x).rows
 unhooked-place p o x h = unhooked-front (row_of p.rows x) o (without p.rows x) (λ r e. unhooked-row p.rows x r e h) (unhooked-without p.rows x h)
 
+-- no object has a destructor, and nothing is kept of a request
+abbrev pub IsBare : Pool → Type 0
+IsBare p = Unhooked p.rows × (p.requests ≡ no_notes)
+
+pub bare-removed : (p : Pool) (x : Obj) → IsBare p → IsBare (remove p x)
+bare-removed p x h = (unhooked-without p.rows x h.0, rw h.1 refl)
+
+pub bare-placed : (p : Pool) (o : Owner) (x : Obj) → IsBare p → IsBare (place p o x)
+bare-placed p o x h = (unhooked-place p o x h.0, h.1)
+
+pub bare-let_go : (p : Pool) (x : Obj) (f : Row → Row) → ((r : Row) → r.hook ≡ 0 → (f r).hook ≡ 0) → IsBare p → IsBare (let_go p x f)
+bare-let_go p x f keeps h = (unhooked-changed f p.rows x keeps h.0, h.1)
+
 -- ---- calls
 
--- the calls of which such a schedule is made: they give no object a destructor, and ask for nothing
+-- the calls of which such a schedule is made: they give no object a destructor, make no request, and ask for nothing
 abbrev pub is_calm : Call → Bool
 is_calm (calls.New o size name) = true
 is_calm (calls.Free x) = true
@@ -56,9 +70,9 @@ is_calm (calls.Unlink o x) = true
 is_calm (calls.Count o) = true
 is_calm _ = false
 
--- what is done to the rows gives none either, and nothing is asked
+-- what is done gives no destructor and makes no request either, and nothing is asked
 abbrev pub IsCalm : Plan → Type 0
-IsCalm (Does c notice r) = (q : Pool) → Unhooked q.rows → Unhooked (changed_by c q).rows
+IsCalm (Does c notice r) = (q : Pool) → IsBare q → IsBare (changed_by c q)
 IsCalm (Frees x) = Unit {0}
 IsCalm (Unlinks o x) = Unit {0}
 IsCalm _ = ⊥
@@ -68,10 +82,10 @@ calm-frees None x = tt
 calm-frees (Some r) x = tt
 
 calm-plan : (p : Pool) (c : Call) → is_calm c ≡ true → IsCalm (plan p c)
-calm-plan p (calls.New o size name) e = λ q h. (refl, h)
+calm-plan p (calls.New o size name) e = λ q h. ((refl, h.0), h.1)
 calm-plan p (calls.Free x) e = calm-frees (newest_ref p.rows x) x
-calm-plan p (calls.Steal o x) e = λ q h. unhooked-place q o x h
-calm-plan p (calls.Reference o x) e = λ q h. (refl, h)
+calm-plan p (calls.Steal o x) e = λ q h. bare-placed q o x h
+calm-plan p (calls.Reference o x) e = λ q h. ((refl, h.0), h.1)
 calm-plan p (calls.Unlink o x) e = tt
 calm-plan p (calls.Count o) e = λ q h. h
 calm-plan p _ e = cc

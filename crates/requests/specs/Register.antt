@@ -8,10 +8,12 @@ use Rattle.requests.specs.declared.requests.Notify.{Notify}
 use Rattle.requests.specs.declared.requests.Notify.TheVariants.{Post, Run, Nothing}
 
 pub record Register : Type 0 where
+  -- those of all requests, by their numbers
   pub notes : Notes
   -- so many can be added without taking memory
   pub spare : ℕ
 
+-- its callback runs, where it has one
 abbrev pub callback_runs : Option Handler → Notify
 callback_runs None = Nothing
 callback_runs (Some handler) = Run handler

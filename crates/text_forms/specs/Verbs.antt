@@ -9,8 +9,10 @@ use Rattle.text_forms.specs.declared.verb.EventVerb.{EventVerb}
 use Rattle.text_forms.specs.declared.verb.EventVerb.TheVariants.{Immediate, Schedule, Unschedule, Timer, Fd, Flags, Getflags, Autoclose, Pending, Now, Turn}
 use Rattle.text_forms.specs.declared.verb.DescriptorVerb.{DescriptorVerb}
 use Rattle.text_forms.specs.declared.verb.DescriptorVerb.TheVariants.{Close, Accept, Read, Write}
+use Rattle.text_forms.specs.declared.verb.RequestVerb.{RequestVerb}
+use Rattle.text_forms.specs.declared.verb.RequestVerb.TheVariants.{Req, Callback, Defer, Cleanup, Setcancel, Cancel, Post, Done, Error, Oom, Iserror, Progress, Endtime, Received}
 use Rattle.text_forms.specs.declared.verb.Verb.{Verb}
-use Rattle.text_forms.specs.declared.verb.Verb.TheVariants.{Tree, Event, Descriptor}
+use Rattle.text_forms.specs.declared.verb.Verb.TheVariants.{Tree, Event, Descriptor, Request}
 
 abbrev pub tree_word : TreeVerb → List ℕ
 tree_word New = codes "new"
@@ -51,10 +53,27 @@ descriptor_word Accept = codes "accept"
 descriptor_word Read = codes "read"
 descriptor_word Write = codes "write"
 
+abbrev pub request_word : RequestVerb → List ℕ
+request_word Req = codes "req"
+request_word Callback = codes "callback"
+request_word Defer = codes "defer"
+request_word Cleanup = codes "cleanup"
+request_word Setcancel = codes "setcancel"
+request_word Cancel = codes "cancel"
+request_word Post = codes "post"
+request_word Done = codes "done"
+request_word Error = codes "error"
+request_word Oom = codes "oom"
+request_word Iserror = codes "iserror"
+request_word Progress = codes "progress"
+request_word Endtime = codes "endtime"
+request_word Received = codes "received"
+
 abbrev pub word_of : Verb → List ℕ
 word_of (Tree verb) = tree_word verb
 word_of (Event verb) = event_word verb
 word_of (Descriptor verb) = descriptor_word verb
+word_of (Request verb) = request_word verb
 
 -- a word is this verb, or the verb of no form
 abbrev pub IsVerb : Option Verb → List ℕ → Type 0

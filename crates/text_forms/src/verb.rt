@@ -4,7 +4,7 @@ ghost use Rattle.text_forms.specs.declared.verb.Verb.TheVariants as verbs;
 ghost use Rattle.text_forms.specs.Cursor.{Takes};
 ghost use Rattle.text_forms.specs.Verbs.{IsVerb, fields_read};
 
-use crate::field::{Fields, object_and_number, owner_and_object};
+use crate::field::{Fields, object_and_number, object_and_routine, owner_and_object};
 use crate::form::FormFault;
 use std::alloc::Global;
 use tree_specs::Call;
@@ -57,12 +57,32 @@ pub(crate) enum DescriptorVerb {
     Write,
 }
 
+// What a call on requests asks for.
+#[derive(Clone, Copy)]
+pub(crate) enum RequestVerb {
+    Req,
+    Callback,
+    Defer,
+    Cleanup,
+    Setcancel,
+    Cancel,
+    Post,
+    Done,
+    Error,
+    Oom,
+    Iserror,
+    Progress,
+    Endtime,
+    Received,
+}
+
 // What a call asks for: its first word.
 #[derive(Clone, Copy)]
 pub(crate) enum Verb {
     Tree(TreeVerb),
     Event(EventVerb),
     Descriptor(DescriptorVerb),
+    Request(RequestVerb),
 }
 
 // The verb that this word is.
@@ -100,6 +120,20 @@ pub(crate) fn read_verb(word: &[u8]) -> Option<Verb>
         b"accept" => Verb::Descriptor(DescriptorVerb::Accept),
         b"read" => Verb::Descriptor(DescriptorVerb::Read),
         b"write" => Verb::Descriptor(DescriptorVerb::Write),
+        b"req" => Verb::Request(RequestVerb::Req),
+        b"callback" => Verb::Request(RequestVerb::Callback),
+        b"defer" => Verb::Request(RequestVerb::Defer),
+        b"cleanup" => Verb::Request(RequestVerb::Cleanup),
+        b"setcancel" => Verb::Request(RequestVerb::Setcancel),
+        b"cancel" => Verb::Request(RequestVerb::Cancel),
+        b"post" => Verb::Request(RequestVerb::Post),
+        b"done" => Verb::Request(RequestVerb::Done),
+        b"error" => Verb::Request(RequestVerb::Error),
+        b"oom" => Verb::Request(RequestVerb::Oom),
+        b"iserror" => Verb::Request(RequestVerb::Iserror),
+        b"progress" => Verb::Request(RequestVerb::Progress),
+        b"endtime" => Verb::Request(RequestVerb::Endtime),
+        b"received" => Verb::Request(RequestVerb::Received),
         b"pending" => Verb::Event(EventVerb::Pending),
         b"now" => Verb::Event(EventVerb::Now),
         b"turn" => Verb::Event(EventVerb::Turn),
@@ -213,6 +247,50 @@ fn read_descriptor_fields(
     }
 }
 
+// The call on requests of this verb, whose fields come next.
+#[tactic(auto, unfolding(crate::specs::Verbs::fields_read))]
+fn read_request_fields(
+    alloc: Global,
+    verb: RequestVerb,
+    fields: &mut Fields,
+) -> Result<Call, FormFault>
+    ensures { Takes result (fields_read (verbs.Request verb) fields.old) fields.new }
+{
+    match verb {
+        RequestVerb::Req => Ok(Call::Req {
+            owner: fields.owner()?,
+            size: fields.number()?,
+            name: fields.name(alloc)?,
+        }),
+        RequestVerb::Callback => Ok(Call::Callback {
+            x: fields.object()?,
+            routine: fields.number32()?,
+            user: fields.number()?,
+        }),
+        RequestVerb::Defer => fields.object().map(|x| Call::Defer { x }),
+        RequestVerb::Cleanup => object_and_routine(fields).map(|(x, routine)| Call::Cleanup {
+            x,
+            routine,
+        }),
+        RequestVerb::Setcancel => object_and_routine(fields).map(|(x, routine)| Call::Setcancel {
+            x,
+            routine,
+        }),
+        RequestVerb::Cancel => fields.object().map(|x| Call::Cancel { x }),
+        RequestVerb::Post => fields.object().map(|x| Call::Post { x }),
+        RequestVerb::Done => fields.object().map(|x| Call::Done { x }),
+        RequestVerb::Error => object_and_number(fields).map(|(x, error)| Call::Error { x, error }),
+        RequestVerb::Oom => fields.object().map(|x| Call::Oom { x }),
+        RequestVerb::Iserror => fields.object().map(|x| Call::Iserror { x }),
+        RequestVerb::Progress => fields.object().map(|x| Call::Progress { x }),
+        RequestVerb::Endtime => Ok(Call::Endtime {
+            x: fields.object()?,
+            time: fields.time()?,
+        }),
+        RequestVerb::Received => fields.object().map(|x| Call::Received { x }),
+    }
+}
+
 // The call of this verb, whose fields come next.
 pub(crate) fn read_fields(alloc: Global, verb: Verb, fields: &mut Fields) -> Result<Call, FormFault>
     ensures { Takes result (fields_read verb fields.old) fields.new }
@@ -221,5 +299,6 @@ pub(crate) fn read_fields(alloc: Global, verb: Verb, fields: &mut Fields) -> Res
         Verb::Tree(verb) => read_tree_fields(alloc, verb, fields),
         Verb::Event(verb) => read_event_fields(verb, fields),
         Verb::Descriptor(verb) => read_descriptor_fields(alloc, verb, fields),
+        Verb::Request(verb) => read_request_fields(alloc, verb, fields),
     }
 }
