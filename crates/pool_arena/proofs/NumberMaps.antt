@@ -1,10 +1,10 @@
 -- What is kept under numbers, listed from the map that keeps it.
-use Rattle.std.proofs.Common.{◌≡◌, ℕ, not, List, [], Option}
+use Rattle.std.proofs.Common.{◌≡◌, ℕ, not, [], length}
 use Rattle.std.specs.List.{filter}
 use Rattle.std.specs.Ordering.{nat_cmp, eq_by_cmp}
 use Rattle.std.specs.Cmp.{nat_cmp_total}
 use Rattle.std.specs.FinMap as map
-use Rattle.std.specs.FinMap.{FinMap, entries-insert, get-entries}
+use Rattle.std.specs.FinMap.{FinMap, entries-insert, get-entries, len-entries}
 use Rattle.std.specs.FinMap.Entries.{find, put}
 use Rattle.pool_arena.proofs.Entries.{entries-removed, entries-empty}
 
@@ -19,3 +19,6 @@ removed_listed m n = entries-removed m n
 
 pub found_listed : {V : Type 0} (m : FinMap nat_cmp V) (n : ℕ) → map.get m n ≡ find nat_cmp n (map.entries m)
 found_listed m n = get-entries m n
+
+pub many_listed : {V : Type 0} (m : FinMap nat_cmp V) → map.len m ≡ length (map.entries m)
+many_listed m = len-entries m

@@ -74,7 +74,7 @@ fn cleanup_of(note: &Note) -> Option<Handler>
     }
 }
 
-#[tactic(auto, using(pool_arena::proofs::NumberMaps::none_listed, pool_arena::proofs::NumberMaps::put_listed, pool_arena::proofs::NumberMaps::removed_listed, pool_arena::proofs::NumberMaps::found_listed))]
+#[tactic(auto, using(pool_arena::proofs::NumberMaps::none_listed, pool_arena::proofs::NumberMaps::put_listed, pool_arena::proofs::NumberMaps::removed_listed, pool_arena::proofs::NumberMaps::found_listed, pool_arena::proofs::NumberMaps::many_listed))]
 impl Requests {
     ghost use Rattle.std.specs.Prelude.{◌+◌, ◌<◌, ◌≤◌, OnOk, None, is_some, length};
     ghost use Rattle.tree_specs.specs.Events.Requests.{no_notes, note_of, is_noted, with_note, without_note, renoted, called_back, deferring, not_deferring, cleaned_by, cleaned, cancelled_by, failed_with, in_state, cleanup_in};
