@@ -25,7 +25,7 @@ use Rattle.tree_specs.specs.declared.frame.Frame.TheVariants as frame
 use Rattle.tree_specs.specs.Calls.Refusals.{is_request}
 use Rattle.tree_specs.proofs.Tree.Numbered.{by_test}
 use Rattle.tree_specs.proofs.Invariants.Changes.{waiting-sound}
-use Rattle.destructors.specs.Frees.{OpenFrees, awaits_run, answered, moved, moves, next_of, Silently, Still, On, speaking, speaks, Steps, Begins}
+use Rattle.destructors.specs.Frees.{OpenFrees, awaits_run, answered, moved, moves, next_of, returned, Silently, Still, On, speaking, speaks, Steps, Begins}
 use Rattle.destructors.specs.Works.{IsHosted, AtWork, AreAwaiting, GoesOn}
 use Rattle.object_pool.specs.Upcoming.{Upcoming, beside, frees_beside, after}
 
@@ -202,6 +202,7 @@ module _ (p : Pool) (u v : Upcoming) where
   works-same (f ∷ fs) h = hosted-same f fs h
 
   pub awaits-same : (fs : List FreeFrame) → AreAwaiting fs here → AreAwaiting fs there
+  unfolding hosted-same
   awaits-same fs a = record { over = hosted-same (Ending free_reply.Ok) fs a.over; on = a.on }
 
   pub goes_on-same : (told : FreeStep) (fs : List FreeFrame) → GoesOn told (record { works = fs; pool = here }) → GoesOn told (record { works = fs; pool = there })
@@ -209,3 +210,12 @@ module _ (p : Pool) (u v : Upcoming) where
   goes_on-same (Prepare x) fs h = awaits-same fs h
   goes_on-same (Done a) fs h = awaits-same fs h
   goes_on-same _ fs h = works-same fs h
+
+-- what a destructor has returned is judged whatever is to come
+pub returned-beside : (v : ℕ) (u : Upcoming) (s : OpenFrees) → returned v (frees_beside u s) ≡ returned v s
+returned-beside v u s = each s.works
+  where
+    each : (fs : List FreeFrame) → returned v (record { works = fs; pool = beside u s.pool }) ≡ returned v (record { works = fs; pool = s.pool })
+    each [] = refl
+    each (Hooked x h ∷ fs) = refl
+    each (f ∷ fs) = refl

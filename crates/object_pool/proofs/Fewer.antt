@@ -26,7 +26,7 @@ module _ {A : Type 0} where
   filtered-twice keep test (x ∷ xs) =
       let n = filtered-twice keep test xs in
       by_test (keep x)
-      (λ t. by_test (test x) (λ u. rw (t, u, u) (omega (arith, n))) (λ u. rw (t, u, u) n))
+      (λ t. by_test (test x) (λ u. rw (t, u) (omega (arith, n))) (λ u. rw (t, u) n))
       (λ t. by_test (test x) (λ u. rw (t, u) (omega (arith, n))) (λ u. rw (t, u) n))
 
   one-more : (xs : List A) (x : A) → length (xs ++ x ∷ []) ≡ length xs + 1

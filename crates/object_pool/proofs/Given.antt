@@ -1,10 +1,12 @@
 -- The numbers of what is to come, and of requests: all were given before the next one.
-use Rattle.std.proofs.Common.{◌≡◌, ℕ, ◌<◌, ◌≤◌, nat_eq, Bool, true, false, List, [], ◌∷◌, ◌++◌, map, Option, Some, None, refl, sym, ap, ◌∙◌, eqb-true, arith}
-use Rattle.std.proofs.lemmas.Bool.{ne_eqb}
+use Rattle.std.proofs.Common.{◌≡◌, ℕ, ◌<◌, ◌≤◌, nat_eq, Bool, true, false, List, [], ◌∷◌, ◌++◌, map, Option, Some, None, if◌then◌else◌, refl, sym, ◌∙◌, arith}
+use Rattle.std.proofs.lemmas.Bool.{eqb-true, ne_eqb}
 use Rattle.std.specs.List.{filter, find}
 use Rattle.std.specs.Cmp.{unsigned_tied}
 use Rattle.std.specs.FinMap.Entries.{by_order, put}
-use Rattle.std.specs.Ordering.{Ordering, Less, Equal, Greater, nat_cmp, eq_by_cmp}
+use Rattle.std.specs.Ordering.{nat_cmp, eq_by_cmp}
+use Rattle.std.specs.declared.cmp.Ordering.{Ordering}
+use Rattle.std.specs.declared.cmp.Ordering.TheVariants.{Less, Equal, Greater}
 use Rattle.tree_specs.specs.declared.due.Due.{Due}
 use Rattle.tree_specs.specs.declared.free_step.FreeStep.{FreeStep}
 use Rattle.tree_specs.specs.declared.free_step.FreeStep.TheVariants.{Dropped, Doom, Left, Gone}
@@ -80,7 +82,7 @@ pub unwatching : (n : ℕ) (ws : List Watch) → AllBefore watcher_number n ws �
 unwatching n ws a = let none = none-numbered watcher_number n ws a in rw none refl
 
 pub ring-changed : (n : ℕ) (change : Watch → Watch) (ws : List Watch) (x : Obj) → ((w : Watch) → (change w).object ≡ w.object) → AllBefore watcher_number n ws → AllBefore watcher_number n (rewatched change ws x)
-ring-changed n change ws x k a = before-mapped watcher_number n _ ws (λ w. by_test (same w.object x) (λ t. rw (t, k w) refl) (λ t. rw t refl)) a
+ring-changed n change ws x k a = before-mapped watcher_number n (λ w. if same w.object x then change w else w) ws (λ w. by_test (same w.object x) (λ t. rw (t, k w) refl) (λ t. rw t refl)) a
 
 pub ring-turned : (n : ℕ) (ws : List Watch) (x : Obj) → AllBefore watcher_number n ws → AllBefore watcher_number n (turned_back ws x)
 ring-turned n ws x a = each (watch_of ws x) refl

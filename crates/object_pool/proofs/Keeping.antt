@@ -11,7 +11,8 @@ use Rattle.tree_specs.specs.declared.row.Mark.{Mark}
 use Rattle.tree_specs.specs.Tree.Pool.{Pool, row_of, is_row, changed, marked_row, add, place, set_mark}
 use Rattle.tree_specs.specs.Tree.Sums.{charge}
 use Rattle.tree_specs.specs.Tree.Targets.{target_of}
-use Rattle.tree_specs.proofs.Turns.FallingFrees.{total-kept, length-changed, length-placed}
+use Rattle.tree_specs.proofs.Turns.Lowering.{total-kept, length-changed}
+use Rattle.tree_specs.proofs.Turns.FallingFrees.{length-placed}
 use Rattle.tree_specs.proofs.Tree.Rows.{total-placed}
 use Rattle.tree_specs.proofs.Tree.SumLaws.{changed-weights}
 use Rattle.tree_links.specs.Links.{Links, pool_of, works_of}
@@ -170,17 +171,22 @@ spent b t' ps' ls' pl places ready next rows works refs limits a =
       places = places;
     }
 
--- a new row of an object that refers to no other
+-- the references where there is a new row of an object that refers to no other
+pub refs-with : (ps : Pairs) (t t' : Links) (x : Obj) (kind : Kind) (owner : Owner) (size : ℕ) (name : List ℕ) → target_of kind ≡ None → x ≡ record { 0 = t.next } → row_of t.rows x ≡ None → pool_of t' ≡ add (pool_of t) kind owner size name
+    → AreRefsOf ps.pairs t.rows → AreRefsOf ps.pairs t'.rows
+refs-with ps t t' x kind owner size name plain serial fresh is refs =
+    let rows : t'.rows ≡ (add (pool_of t) kind owner size name).rows = ap (λ (p : Pool). p.rows) is in
+    let absent = subst (λ (y : Obj). row_of t.rows y ≡ None) serial fresh in
+    subst (AreRefsOf ps.pairs) (sym rows) (refs-added ps.pairs t.rows (record { 0 = t.next }) kind owner size name absent plain refs)
+
+-- such a row
 pub row-added : (b : Inside) (t' : Links) (ls' : Limits) (pl : Bool) (x : Obj) (kind : Kind) (owner : Owner) (size : ℕ) (name : List ℕ) → (pl ≡ true → HasPlaces b.refs ls' b.events) → b.ready ≡ true → target_of kind ≡ None
     → x ≡ record { 0 = b.tree.next } → row_of b.tree.rows x ≡ None → pool_of t' ≡ add (pool_of b.tree) kind owner size name → works_of t' ≡ works_of b.tree → AreLimitsOf ls'.limited t'.rows
     → AgreeWith b → AgreeWith (record b { tree = t'; sums = ls'; places = pl; ready = false })
 row-added b t' ls' pl x kind owner size name places ready plain serial fresh is works limits a =
-    let rows : t'.rows ≡ (add (pool_of b.tree) kind owner size name).rows = ap (λ (p : Pool). p.rows) is in
-    let more = ap length rows in
+    let more = ap (λ (p : Pool). length p.rows) is in
     let next = ap (λ (p : Pool). p.next) is in
-    let absent = subst (λ (y : Obj). row_of b.tree.rows y ≡ None) serial fresh in
-    spent b t' b.refs ls' pl places ready (omega (arith, next)) (omega (arith, more)) works
-    (subst (AreRefsOf b.refs.pairs) (sym rows) (refs-added b.refs.pairs b.tree.rows (record { 0 = b.tree.next }) kind owner size name absent plain a.references)) limits a
+    spent b t' b.refs ls' pl places ready (omega (arith, next)) (omega (arith, more)) works (refs-with b.refs b.tree t' x kind owner size name plain serial fresh is a.references) limits a
 
 -- ---- a destructor has returned
 
