@@ -5,5 +5,8 @@ pub mod Fields
 pub mod Keeping
 pub mod Beside
 pub mod Numbers
-pub mod Watchers
+pub mod Given
+pub mod Fewer
+pub mod Requesting
+pub mod Opening
 pub mod Announcing

@@ -165,12 +165,22 @@ started (Some handler) what x p = begun what x p
 
 -- ---- numbers
 
--- the numbers that tell equal times apart were all given before this one
-abbrev pub AllNumbered : ℕ → List Due → Type 0
-AllNumbered next [] = Unit {0}
-AllNumbered next (d ∷ ds) = (d.number < next) × AllNumbered next ds
+-- the numbers of all of these were given before this one
+abbrev pub AllBefore : {A : Type 0} → (A → ℕ) → ℕ → List A → Type 0
+AllBefore number next [] = Unit {0}
+AllBefore number next (x ∷ xs) = (number x < next) × AllBefore number next xs
 
--- so were those of the events that watch
-abbrev pub AllWatchersNumbered : ℕ → List Watch → Type 0
-AllWatchersNumbered next [] = Unit {0}
-AllWatchersNumbered next (w ∷ ws) = (w.object.0 < next) × AllWatchersNumbered next ws
+abbrev pub due_number : Due → ℕ
+due_number d = d.number
+
+abbrev pub watcher_number : Watch → ℕ
+watcher_number w = w.object.0
+
+abbrev pub note_number : ℕ × Note → ℕ
+note_number n = n.0
+
+-- the numbers that tell equal times apart, those of the events that watch, and those of the requests were all given before this one
+pub record AreGiven (next : ℕ) (u : Upcoming) : Type 0 where
+  pub times : AllBefore due_number next u.times
+  pub ring : AllBefore watcher_number next u.ring
+  pub requests : AllBefore note_number next u.requests

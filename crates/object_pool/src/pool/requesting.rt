@@ -117,9 +117,10 @@ impl ObjectPool {
     {
         self.ready = false;
         self.places = false;
-        if let Some(number) = self.tree.take_number() {
-            self.events.set_time(x, time, number);
-        }
+        let Some(number) = self.tree.take_number() else {
+            unreachable!()
+        };
+        self.events.set_time(x, time, number);
     }
 
     /// A request goes to a state, and has no end time any more.

@@ -1,0 +1,11 @@
+use Rattle.std.proofs.Common.{◌≤◌, subst, arith}
+use Rattle.object_pool.specs.Objects.{Objects}
+use Rattle.object_pool.specs.Requests.{count_unreceived}
+use Rattle.object_pool.proofs.Fewer.{unreceived-most}
+use Rattle.object_pool.proofs.pool.ObjectPool.count_requests.Goals as goal
+
+pub returns : goal.returns
+returns c =
+    let most = unreceived-most c.self.inside.events.upcoming.requests in
+    let all = c.count_requests.ensures in
+    subst (λ (o : Objects). count_unreceived o.pool.requests ≤ c.count_requests.result) c.self.view_is (omega (arith, most, all))
