@@ -242,11 +242,9 @@ module _ (f : FreeFrame) (fs : List FreeFrame) (ws : List Waiting) (p : Pool) (n
           (rw e tt, rw (e, a) on')
       each g a e on = absurd a
 
-  -- the free is over
-  pub step-ends : (a : FreeReply) → Steps (record { works = f ∷ fs; pool = p }) (Done a) new → StepsSilently (free_view f fs ws p) (over_view a new ws)
-  step-ends a s =
-      let same : mid ≡ new = still mid new s.moves_on (done-speaks (told-by (Done a) s)) in
-      subst (λ (z : OpenFrees). StepsSilently (free_view f fs ws p) (over_view a z ws)) same (move-onward f fs ws p (Some (Done a)) mid h (told-by (Done a) s) refl)
+  -- the free is over, and nothing is done before its answer is heard
+  pub ends-there : (a : FreeReply) → Steps (record { works = f ∷ fs; pool = p }) (Done a) new → mid ≡ new
+  ends-there a s = still mid new s.moves_on (done-speaks (told-by (Done a) s))
     where
       no-news : IsNews (Done a) → ⊥
       no-news n = n
@@ -271,3 +269,7 @@ module _ (f : FreeFrame) (fs : List FreeFrame) (ws : List Waiting) (p : Pool) (n
 
       done-speaks : moves (f ∷ fs) p ≡ (Some (Done a), mid) → speaking mid ≡ true
       done-speaks e = each (free_step f p) (is_move f p) e
+
+  pub step-ends : (a : FreeReply) → Steps (record { works = f ∷ fs; pool = p }) (Done a) new → StepsSilently (free_view f fs ws p) (over_view a new ws)
+  step-ends a s =
+      subst (λ (z : OpenFrees). StepsSilently (free_view f fs ws p) (over_view a z ws)) (ends-there a s) (move-onward f fs ws p (Some (Done a)) mid h (told-by (Done a) s) refl)

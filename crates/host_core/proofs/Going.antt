@@ -7,6 +7,7 @@ use Rattle.tree_specs.specs.declared.frame.Frame.TheVariants as frame
 use Rattle.tree_specs.specs.declared.frame.FreeFrame.{FreeFrame}
 use Rattle.tree_specs.specs.declared.free_step.FreeReply.{FreeReply}
 use Rattle.tree_specs.specs.declared.free_step.FreeStep.{FreeStep}
+use Rattle.tree_specs.specs.declared.free_step.FreeStep.TheVariants.{Ask as AskOf, Prepare, Done}
 use Rattle.tree_specs.specs.Events.Requests.{Notes}
 use Rattle.tree_specs.specs.Tree.Pool.{Pool}
 use Rattle.tree_specs.specs.Machine.FreeTable.{FreeMove, free_step, free_resume}
@@ -14,6 +15,7 @@ use Rattle.tree_specs.specs.Machine.View.{View}
 use Rattle.tree_specs.proofs.Tree.Numbered.{by_test}
 use Rattle.destructors.specs.Frees.{OpenFrees, awaits_run, answered, moves, Silently, Still, On}
 use Rattle.destructors.specs.Frees.{moved as free_moved}
+use Rattle.destructors.specs.Runs.{IsNews, AsksFor}
 use Rattle.destructors.proofs.FreeMoves.{IsMoveOf, is_move}
 use Rattle.destructors.proofs.Hosting.{AwaitsRun}
 use Rattle.object_pool.specs.Requests.{count_unreceived}
@@ -73,22 +75,37 @@ none-ahead (f ∷ fs) w = (rw w refl, rw w refl)
 pub below-begun : (fs : List FreeFrame) (ws : List Waiting) → AwaitsRun fs → below_free fs ws ≡ standing fs ws
 below-begun fs ws w = let n = none-ahead fs w in rw (n.0, n.1) refl
 
-abbrev FitAfter : Option FreeStep × OpenFrees → List Waiting → Type 0
-FitAfter (None, s) ws = FreesFit s.works ws
-FitAfter (Some t, s) ws = Unit {0}
+-- after a move the innermost free goes on, or it is over and those below it are marked
+abbrev pub FitAfter : Option FreeStep × OpenFrees → List Waiting → Type 0
+FitAfter (Some (Done a), s) ws = Fits s.works ws
+FitAfter (told, s) ws = FreesFit s.works ws
 
 fit-answered : (a : FreeReply) (q : Pool) (fs : List FreeFrame) (ws : List Waiting) → Fits (behind fs) ws → FitAfter (answered a q fs) ws
-fit-answered a q [] ws e = tt
+fit-answered a q [] ws e = e
 fit-answered a q (g ∷ fs) ws e = by_test (awaits_run g)
-    (λ t. rw t tt)
+    (λ t. let e' : Fits (g ∷ fs) ws = rw t at e in rw t e')
     (λ t. let e' : Fits (behind fs) ws = rw t at e in rw t (tt, e'))
+
+fit-news : (t : FreeStep) (s : OpenFrees) (ws : List Waiting) → IsNews t → FreesFit s.works ws → FitAfter (Some t, s) ws
+fit-news (AskOf x) s ws n e = absurd n
+fit-news (Prepare x) s ws n e = absurd n
+fit-news (Done a) s ws n e = absurd n
+fit-news _ s ws n e = e
+
+fit-asked : (t : FreeStep) (f : FreeFrame) (s : OpenFrees) (ws : List Waiting) → AsksFor t f → FreesFit s.works ws → FitAfter (Some t, s) ws
+fit-asked (AskOf x) f s ws a e = e
+fit-asked (Prepare x) f s ws a e = e
+fit-asked t f s ws a e = absurd a
 
 fit-moved : (f : FreeFrame) (p : Pool) (m : FreeMove) (fs : List FreeFrame) (ws : List Waiting) → IsMoveOf f p m → Fits (behind fs) ws → FitAfter (free_moved m fs) ws
 fit-moved f p (Do.Done a q) fs ws of e = fit-answered a q fs ws e
 fit-moved f p (Do.Go g q) fs ws of e = (tt, e)
-fit-moved f p (Do.Emit t g q) fs ws of e = tt
-fit-moved f p (Do.Wait t g q) fs ws of e = tt
+fit-moved f p (Do.Emit t g q) fs ws of e = fit-news t (record { works = g ∷ fs; pool = q }) ws of (tt, e)
+fit-moved f p (Do.Wait t g q) fs ws of e = fit-asked t f (record { works = g ∷ fs; pool = q }) ws of.2 (tt, e)
 fit-moved f p (Do.Call g h q) fs ws of e = rw of.1 (tt, e)
+
+pub fit-next : (f : FreeFrame) (fs : List FreeFrame) (p : Pool) (ws : List Waiting) → FreesFit (f ∷ fs) ws → FitAfter (moves (f ∷ fs) p) ws
+fit-next f fs p ws e = fit-moved f p (free_step f p) fs ws (is_move f p) e.1
 
 pub fits-silently : (s t : OpenFrees) (ws : List Waiting) → Silently s t → FreesFit s.works ws → FreesFit t.works ws
 fits-silently s _ ws Still e = e
@@ -96,4 +113,4 @@ fits-silently s t ws (On u _ earlier last) e = each u.works (fits-silently s u w
   where
     each : (works : List FreeFrame) → FreesFit works ws → moves works u.pool ≡ (None, t) → FreesFit t.works ws
     each [] k m = absurd k.0
-    each (f ∷ fs) k m = subst (λ (z : Option FreeStep × OpenFrees). FitAfter z ws) m (fit-moved f u.pool (free_step f u.pool) fs ws (is_move f u.pool) k.1)
+    each (f ∷ fs) k m = subst (λ (z : Option FreeStep × OpenFrees). FitAfter z ws) m (fit-next f fs u.pool ws k)

@@ -5,4 +5,5 @@ pub mod Hosting
 pub mod Ending
 pub mod Going
 pub mod Beginning
+pub mod FreeStepping
 pub mod Resuming
