@@ -23,20 +23,17 @@ use Rattle.references.proofs.SameRefs.{put-elsewhere}
 use Rattle.memory_limits.specs.Limits.{Limits, AreLimitsOf}
 use Rattle.destructors.specs.Frees.{OpenFrees, Steps, before, frees_of, returned}
 use Rattle.tree_specs.specs.declared.free_step.FreeStep.{FreeStep}
-use Rattle.tree_specs.specs.declared.free_step.FreeStep.TheVariants.{Doom, Left}
-use Rattle.tree_specs.specs.declared.due.Due.{Due}
 use Rattle.tree_specs.specs.declared.watch.Watch.{Watch}
-use Rattle.tree_specs.proofs.Tree.Numbered.{by_test}
 use Rattle.destructors.specs.Engine.{IsAsked, AreKept, HasRoom}
 use Rattle.destructors.specs.Room.{mark_places, row_places, wanted}
 use Rattle.destructors.proofs.Begins.{any-room}
 use Rattle.object_pool.specs.Objects.{HasPlaces}
-use Rattle.tree_specs.specs.Events.Pending.{unscheduled, disarmed}
+use Rattle.tree_specs.specs.Events.Pending.{unscheduled}
 use Rattle.tree_specs.specs.Events.Rotation.{rewatched, turned_back}
 use Rattle.tree_specs.specs.Words.Objects.{same}
 use Rattle.object_pool.specs.Agreeing.{AgreeWith}
 use Rattle.loop_core.specs.declared.pick.Pick.{Pick}
-use Rattle.loop_core.specs.declared.pick.Pick.TheVariants.{Soon, Time}
+use Rattle.loop_core.specs.declared.pick.Pick.TheVariants.{Soon}
 use Rattle.object_pool.specs.Upcoming.{Upcoming, Agenda, KeepsPlaces, AllBefore, AreGiven, watcher_number, after, picked, pending, with_watch, with_closed}
 use Rattle.object_pool.proofs.Numbers.{steps-next}
 use Rattle.object_pool.proofs.Given.{given-later, told-given, picked-given, ring-changed, ring-turned}

@@ -1,7 +1,5 @@
 -- Objects of which a turn says that their handler runs, or that it has returned.
-use Rattle.std.proofs.Common.{◌≡◌, true, false, List, Option, Some, None, refl, sym}
-use Rattle.std.specs.Prelude.{is_some}
-use Rattle.tree_specs.specs.declared.handler.Handler.{Handler}
+use Rattle.std.proofs.Common.{◌≡◌, true, false, Option, Some, None, refl}
 use Rattle.tree_specs.specs.declared.moment.What.{What}
 use Rattle.tree_specs.specs.declared.moment.What.TheVariants.{Descriptor}
 use Rattle.tree_specs.specs.declared.object.Obj.{Obj}
@@ -9,15 +7,9 @@ use Rattle.tree_specs.specs.declared.row.Row.{Row}
 use Rattle.tree_specs.specs.declared.row.Mark.{Mark}
 use Rattle.tree_specs.specs.declared.row.Mark.TheVariants.{Asked, Dying}
 use Rattle.tree_specs.specs.Tree.Pool.{Pool, row_of, is_row, is_dying, is_dying_mark}
-use Rattle.tree_specs.specs.Events.Coming.{rotated, handler_for}
+use Rattle.tree_specs.specs.Events.Coming.{rotated}
 use Rattle.tree_specs.specs.Promises.Grounded.{is_asked, is_asked_mark}
-use Rattle.tree_specs.proofs.Invariants.Turning.{Ready, handler-ready}
 use Rattle.destructors.specs.Room.{mark_places}
-
--- a handler that is to run is that of a quiet event
-pub starts : (o : Option Handler) (p : Pool) (w : What) (x : Obj) → is_some o ≡ true → o ≡ handler_for p w x → Ready p.rows w x
-starts None p w x there is = cc
-starts (Some h) p w x there is = handler-ready p w x h (sym is)
 
 live-places : (m : Mark) → is_dying_mark m ≡ false → is_asked_mark m ≡ false → mark_places m ≡ 1
 live-places (Dying former) e a = cc

@@ -1,16 +1,16 @@
 -- What a free that begins, or goes on, needs of the objects, by the parts of a pool.
-use Rattle.std.proofs.Common.{◌≡◌, ℕ, List, [], ◌∷◌, Option, Some, None, true, slice_get, ◌⊎◌, inl, inr, refl, sym, subst, arith}
+use Rattle.std.proofs.Common.{◌≡◌, Option, Some, None, true, slice_get, inl, inr, refl, sym, subst, arith}
 use Rattle.tree_specs.specs.declared.frame.FreeFrame.{FreeFrame}
 use Rattle.tree_specs.specs.declared.frame.FreeFrame.TheVariants.{Preparing}
 use Rattle.tree_links.specs.Links.{Links, pool_of}
 use Rattle.destructors.specs.Engine.{IsReceiving, AreKept, HasRoom, HasRoomFor}
-use Rattle.destructors.specs.Frees.{before, frees_of, awaits_run}
+use Rattle.destructors.specs.Frees.{before, frees_of}
 use Rattle.destructors.specs.Room.{work_places}
 use Rattle.destructors.specs.Works.{IsAwaiting, IsAtWork}
 use Rattle.destructors.proofs.Begins.{any-room-for, room-within}
 use Rattle.object_pool.specs.Agreeing.{AgreeWith}
 use Rattle.object_pool.specs.Objects.{Objects, MayBeginFree, frees_in, objects_of}
-use Rattle.object_pool.specs.Upcoming.{Upcoming, nothing_comes}
+use Rattle.object_pool.specs.Upcoming.{nothing_comes}
 use Rattle.object_pool.specs.declared.pool.ObjectPool.TheInside.{Inside}
 use Rattle.object_pool.proofs.Beside.{awaits-same, works-same}
 

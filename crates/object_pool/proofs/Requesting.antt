@@ -1,5 +1,5 @@
 -- What stays in agreement where requests change.
-use Rattle.std.proofs.Common.{◌≡◌, ℕ, ◌≤◌, ◌+◌, List, [], ◌∷◌, length, Option, Some, None, true, false, nat_eq, ◌<◌, ◌-◌, ◌^◌, refl, sym, ap, ◌∙◌, subst, arith}
+use Rattle.std.proofs.Common.{◌≡◌, ℕ, List, ◌∷◌, length, Option, Some, None, true, false, nat_eq, ◌<◌, ◌-◌, ◌^◌, refl, sym, ap, ◌∙◌, subst, arith}
 use Rattle.std.proofs.lemmas.Bool.{ne_eqb}
 use Rattle.tree_specs.specs.declared.handler.Handler.{Handler}
 use Rattle.tree_specs.specs.declared.kind.Kind.TheVariants.{Plain, Request}
@@ -20,7 +20,7 @@ use Rattle.requests.specs.Register.{left_by, posted_by}
 use Rattle.requests.specs.declared.requests.Notify.{Notify}
 use Rattle.requests.specs.declared.requests.Notify.TheVariants.{Post}
 use Rattle.object_pool.specs.Agreeing.{AgreeWith}
-use Rattle.object_pool.specs.Upcoming.{Upcoming, Agenda, KeepsPlaces, AllBefore, note_number, finished, requested, timed_under, with_request}
+use Rattle.object_pool.specs.Upcoming.{Agenda, KeepsPlaces, AllBefore, note_number, finished, requested, timed_under, with_request}
 use Rattle.object_pool.specs.declared.pool.ObjectPool.TheInside.{Inside}
 use Rattle.object_pool.proofs.Fewer.{times-fewer}
 use Rattle.object_pool.proofs.Given.{given-later, notes-changed, notes-put, times-armed, times-gone}

@@ -55,8 +55,22 @@ impl ObjectPool {
         self.ready = false;
         self.places = false;
         let tree = &mut self.tree;
-        let request = add_row(Kind::Request, Name::fixed(b"req"), 0, owner, tree, &mut self.sums);
-        let child = add_row(Kind::Plain, name, size, Owner::Of(request), tree, &mut self.sums);
+        let request = add_row(
+            Kind::Request,
+            Name::fixed(b"req"),
+            0,
+            owner,
+            tree,
+            &mut self.sums,
+        );
+        let child = add_row(
+            Kind::Plain,
+            name,
+            size,
+            Owner::Of(request),
+            tree,
+            &mut self.sums,
+        );
         self.events.create(request, child);
         request
     }

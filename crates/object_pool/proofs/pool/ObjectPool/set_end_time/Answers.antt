@@ -1,7 +1,7 @@
 use Rattle.std.proofs.Common.{◌≡◌, ℕ, ◌<◌, ◌-◌, ◌^◌, false, refl, sym, ap, subst, ◌∙◌}
 use Rattle.tree_specs.specs.Events.Pending.{disarmed, is_numbered}
 use Rattle.object_pool.specs.Objects.{Objects}
-use Rattle.object_pool.specs.Upcoming.{Agenda, timed_under}
+use Rattle.object_pool.specs.Upcoming.{timed_under}
 use Rattle.object_pool.proofs.Given.{unnumbered}
 use Rattle.object_pool.proofs.Requesting.{taken-next, timed-agree}
 use Rattle.object_pool.proofs.pool.ObjectPool.set_end_time.Goals as goal
