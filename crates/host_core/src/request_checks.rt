@@ -1,5 +1,7 @@
 //! What a call on a request is refused for.
-ghost use Rattle.std.specs.Prelude.{◌≡◌};
+ghost use Rattle.std.specs.Prelude.{◌≡◌, Err};
+ghost use Rattle.tree_specs.specs.declared.reply.Refusal.TheVariants.{BadState};
+ghost use Rattle.tree_specs.specs.Events.Requests.{state_number};
 ghost use Rattle.tree_specs.specs.Calls.Refusals.{checked, request, referable, number, in_progress, finished, failing};
 
 use crate::subject::Subject;
@@ -49,7 +51,9 @@ pub fn check_number(pool: &ObjectPool) -> Result<(), Refusal>
 }
 
 /// A request's state is none of those that a call is for.
-fn refused(x: Obj, state: State) -> Result<(), Refusal> {
+fn refused(x: Obj, state: State) -> Result<(), Refusal>
+    ensures { result ≡ Err (BadState x (state_number state)) }
+{
     Err(Refusal::BadState {
         object: x,
         state: state.number(),

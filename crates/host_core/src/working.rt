@@ -1,5 +1,7 @@
 //! The steps of a request's work: its state is told, its cleanup runs, and whoever waits for it is notified.
 ghost use Rattle.std.specs.Prelude.{◌≡◌, ◌≤◌, true};
+ghost use Rattle.tree_specs.specs.declared.event.Event.TheVariants.{State as StateOf};
+ghost use Rattle.tree_specs.specs.Events.Requests.{state_number};
 ghost use Rattle.tree_specs.specs.Tree.Pool.{Pool as PoolData};
 ghost use Rattle.tree_specs.specs.declared.call.Call.TheVariants.{Free as FreeOf};
 ghost use Rattle.tree_specs.specs.declared.frame.Errand.TheVariants.{Receive};
@@ -163,7 +165,9 @@ pub fn work_step(work: Work, objects: &mut ObjectPool) -> Step
 }
 
 /// A request goes to a state, which is told.
-fn tell_state(x: Obj, state: State) -> Event {
+fn tell_state(x: Obj, state: State) -> Event
+    ensures { result ≡ StateOf x (state_number state) }
+{
     Event::State {
         request: x,
         state: state.number(),
