@@ -1,5 +1,5 @@
 -- What follows where a call is refused, and where it isn't.
-use Rattle.std.proofs.Common.{◌≡◌, List, [], ◌∷◌, ◌++◌, true, Ok, Err, refl}
+use Rattle.std.proofs.Common.{◌≡◌, Option, None, List, [], ◌∷◌, ◌++◌, true, Ok, Err, refl}
 use Rattle.tree_specs.specs.declared.object.Obj.{Obj}
 use Rattle.tree_specs.specs.declared.object.Owner.{Owner}
 use Rattle.tree_specs.specs.declared.question.Ask.{Ask}
@@ -10,15 +10,17 @@ use Rattle.tree_specs.specs.declared.test.Test.TheVariants.{IsObject, IsOwner, I
 use Rattle.tree_specs.specs.Tree.Pool.{Pool, is_below, owner_of}
 use Rattle.tree_specs.specs.Calls.Refusals.{Check, ◌before◌, checked, tests, refusals}
 use Rattle.tree_specs.specs.Calls.Passed.{Passed, AllPassed, Itself, ItsRef}
-use Rattle.tree_specs.specs.Calls.Plans.{plan}
+use Rattle.tree_specs.specs.Calls.Plans.{Plan, plan, unless_refused}
 use Rattle.tree_specs.specs.Machine.Table.{call_step, plan_step, replied}
 use Rattle.tree_specs.proofs.Calls.Checks.{all-pass, may-place}
 use Rattle.tree_specs.proofs.Calls.Plans.{ref-placed}
 use Rattle.tree_specs.specs.declared.frame.Frame.{Frame}
 use Rattle.tree_specs.specs.Invariants.Sound.{Sound}
 use Rattle.tree_links.specs.Links.{MayPlace}
-use Rattle.destructors.proofs.Keeping.{placeable}
+use Rattle.destructors.proofs.Grounds.{placeable}
 use Rattle.object_pool.specs.Objects.{RefsMayGo}
+use Rattle.host_core.specs.declared.motion.Motion.{Motion}
+use Rattle.host_core.specs.Requests.{IsReleaseBy}
 
 pub refused_step : (check : Check) (q : Ask) (c : Call) (p : Pool) (why : Refusal) → checked check ≡ Err why → call_step check q c p ≡ replied q (reply.No why) p
 refused_step [] q c p why e = cc
@@ -74,3 +76,13 @@ may_go_itself p from to x is there staying (ItsRef r other n) below = cc
 -- a reference goes wherever there is an owner
 pub refs-go : (f : Frame) (fs : List Frame) (p : Pool) → Sound f fs p → RefsMayGo p.rows
 refs-go f fs p s = λ r t o is there. placeable p o r (ref-placed f fs p o t r s is there)
+
+-- ---- what a request was made with
+
+pub allowed_release : (check : Check) (plan : Plan) (m : Option Motion) → checked check ≡ Ok tt → IsReleaseBy plan m → IsReleaseBy (unless_refused check plan) m
+allowed_release [] plan m e r = r
+allowed_release (why ∷ later) plan m e r = cc
+
+pub refused_release : (check : Check) (plan : Plan) (why : Refusal) → checked check ≡ Err why → IsReleaseBy (unless_refused check plan) None
+refused_release [] plan why e = cc
+refused_release (other ∷ later) plan why e = refl

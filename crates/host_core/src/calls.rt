@@ -8,7 +8,7 @@ ghost use Rattle.tree_specs.specs.declared.question.Ask.{Ask as AskData};
 ghost use Rattle.host_core.specs.declared.motion.Motion.TheVariants.{Replies, Works};
 ghost use Rattle.tree_specs.specs.declared.frame.Errand.TheVariants.{Finish as FinishOf};
 ghost use Rattle.tree_specs.specs.Tree.Pool.{Pool as PoolData};
-ghost use Rattle.host_core.specs.Requests.{IsRelease};
+ghost use Rattle.host_core.specs.Requests.{IsRelease, IsReleaseBy};
 ghost use Rattle.host_core.specs.declared.short_reply.ShortReply.TheVariants.{Number as NumberReply};
 ghost use Rattle.tree_specs.specs.Rules.Answers.{freed_reply};
 ghost use Rattle.tree_specs.specs.Machine.Table.{call_step, plan_step};
@@ -62,6 +62,7 @@ fn give(x: Obj, owner: Owner, reply: ShortReply, pool: &mut ObjectPool) -> Motio
 /// Frees an object to which there is no reference. The one reference to an object of the root's is dropped instead.
 fn free(x: Obj, pool: &ObjectPool) -> Motion
     ensures goes { ReadyFor result true }
+    ensures releases { IsReleaseBy (plan pool.now.pool (FreeOf x)) (Some result) }
     ensures moved { (q : AskData) → move_of q result pool.now.pool ≡ plan_step q (plan pool.now.pool (FreeOf x)) pool.now.pool }
 {
     match pool.newest(x) {
@@ -131,6 +132,7 @@ fn finish(x: Obj, state: State) -> Motion
 }
 
 /// Frees what a request was made with, as a call does, where this isn't refused. None where it is.
+#[tactic(auto, using(crate::proofs::Allowed::allowed_release, crate::proofs::Allowed::refused_release))]
 pub fn release(child: Obj, pool: &ObjectPool) -> Option<Motion>
     ensures { IsRelease child pool.now.pool result }
 {
