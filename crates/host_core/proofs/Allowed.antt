@@ -1,5 +1,5 @@
 -- What follows where a call is refused, and where it isn't.
-use Rattle.std.proofs.Common.{◌≡◌, Option, None, List, [], ◌∷◌, ◌++◌, true, Ok, Err, refl}
+use Rattle.std.proofs.Common.{◌≡◌, Option, Some, None, List, [], ◌∷◌, ◌++◌, true, Ok, Err, refl}
 use Rattle.tree_specs.specs.declared.object.Obj.{Obj}
 use Rattle.tree_specs.specs.declared.object.Owner.{Owner}
 use Rattle.tree_specs.specs.declared.question.Ask.{Ask}
@@ -11,7 +11,7 @@ use Rattle.tree_specs.specs.Tree.Pool.{Pool, is_below, owner_of}
 use Rattle.tree_specs.specs.Calls.Refusals.{Check, ◌before◌, checked, tests, refusals}
 use Rattle.tree_specs.specs.Calls.Passed.{Passed, AllPassed, Itself, ItsRef}
 use Rattle.tree_specs.specs.Calls.Plans.{Plan, plan, unless_refused}
-use Rattle.tree_specs.specs.Machine.Table.{call_step, plan_step, replied}
+use Rattle.tree_specs.specs.Machine.Table.{call_step, plan_step, replied, release_object, over_step}
 use Rattle.tree_specs.proofs.Calls.Checks.{all-pass, may-place}
 use Rattle.tree_specs.proofs.Calls.Plans.{ref-placed}
 use Rattle.tree_specs.specs.declared.frame.Frame.{Frame}
@@ -20,6 +20,9 @@ use Rattle.tree_links.specs.Links.{MayPlace}
 use Rattle.destructors.proofs.Grounds.{placeable}
 use Rattle.object_pool.specs.Objects.{RefsMayGo}
 use Rattle.host_core.specs.declared.motion.Motion.{Motion}
+use Rattle.host_core.specs.declared.motion.Motion.TheVariants.{Frees as FreesMotion, Unlinks as UnlinksMotion}
+use Rattle.tree_specs.specs.declared.frame.Errand.{Errand}
+use Rattle.tree_specs.specs.Calls.Plans.Plan.{Frees as FreesOf, Unlinks as UnlinksOf}
 use Rattle.host_core.specs.Requests.{IsReleaseBy}
 
 pub refused_step : (check : Check) (q : Ask) (c : Call) (p : Pool) (why : Refusal) → checked check ≡ Err why → call_step check q c p ≡ replied q (reply.No why) p
@@ -86,3 +89,8 @@ allowed_release (why ∷ later) plan m e r = cc
 pub refused_release : (check : Check) (plan : Plan) (why : Refusal) → checked check ≡ Err why → IsReleaseBy (unless_refused check plan) None
 refused_release [] plan why e = cc
 refused_release (other ∷ later) plan why e = refl
+
+pub release_none : (plan : Plan) (m : Option Motion) (errand : Errand) (p : Pool) → IsReleaseBy plan m → ((x : Obj) → m ≡ Some (FreesMotion x) → ⊥) → ((o : Owner) (x : Obj) → m ≡ Some (UnlinksMotion o x) → ⊥) → over_step errand p ≡ release_object plan errand p
+release_none (FreesOf x) m errand p r no-free no-unlink = absurd (no-free x r)
+release_none (UnlinksOf o x) m errand p r no-free no-unlink = absurd (no-unlink o x r)
+release_none _ m errand p r no-free no-unlink = refl
