@@ -50,7 +50,7 @@ use Rattle.host_core.proofs.Ending.{freed-answers}
 -- ---- the free that makes the step, and those below it
 
 module _ (f : FreeFrame) (fs : List FreeFrame) (ws : List Waiting) (p : Pool) (new : OpenFrees) (h : IsConsistent (freeing_view (f ∷ fs) ws p)) where
-  step-fits : (t : FreeStep) → FreesFit (f ∷ fs) ws → Steps (record { works = f ∷ fs; pool = p }) t new → FitAfter (Some t, new) ws
+  pub step-fits : (t : FreeStep) → FreesFit (f ∷ fs) ws → Steps (record { works = f ∷ fs; pool = p }) t new → FitAfter (Some t, new) ws
   step-fits t e s = each t s (subst (λ (z : Option FreeStep). FitAfter (z, (moves (f ∷ fs) p).1) ws) s.tells (fit-next f fs p ws e))
     where
       each : (t : FreeStep) → Steps (record { works = f ∷ fs; pool = p }) t new → FitAfter (Some t, (moves (f ∷ fs) p).1) ws → FitAfter (Some t, new) ws
@@ -83,13 +83,13 @@ is_news (Prepare x) no-ask no-prepare no-done = absurd (no-prepare x refl)
 is_news (Done a) no-ask no-prepare no-done = absurd (no-done a refl)
 is_news _ no-ask no-prepare no-done = tt
 
-news-work : (t : FreeStep) (s : OpenFrees) → IsNews t → GoesOn t s → IsAtWork s
+pub news-work : (t : FreeStep) (s : OpenFrees) → IsNews t → GoesOn t s → IsAtWork s
 news-work (AskOf x) s n g = absurd n
 news-work (Prepare x) s n g = absurd n
 news-work (Done a) s n g = absurd n
 news-work _ s n g = g
 
-news-fit : (t : FreeStep) (s : OpenFrees) (ws : List Waiting) → IsNews t → FitAfter (Some t, s) ws → FreesFit s.works ws
+pub news-fit : (t : FreeStep) (s : OpenFrees) (ws : List Waiting) → IsNews t → FitAfter (Some t, s) ws → FreesFit s.works ws
 news-fit (AskOf x) s ws n e = absurd n
 news-fit (Prepare x) s ws n e = absurd n
 news-fit (Done a) s ws n e = absurd n

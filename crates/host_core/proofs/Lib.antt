@@ -7,3 +7,13 @@ pub mod Going
 pub mod Beginning
 pub mod FreeStepping
 pub mod Resuming
+pub mod Speaking
+pub mod Turning
+pub mod Stepping
+pub mod Calling
+pub mod Answering
+pub mod Reaching
+pub mod Offering
+pub mod Straying
+pub mod Nexts
+pub mod Unreceived

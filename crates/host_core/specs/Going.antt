@@ -1,15 +1,22 @@
 -- What a step leads to in a host, and what it may want.
-use Rattle.std.specs.Prelude.{◌≡◌, ℕ, ◌+◌, ◌*◌, ◌≤◌, true, List, [], ◌∷◌, length, reverse, slice_get, vec_capacity}
+use Rattle.std.specs.Prelude.{◌≡◌, ℕ, ◌+◌, ◌*◌, ◌≤◌, true, List, [], ◌∷◌, ◌++◌, length, reverse, slice_get, vec_capacity}
 use Rattle.step_machine.specs.Machine.{Move as Do}
 use Rattle.tree_specs.specs.declared.frame.TurnFrame.TheVariants.{Handling, Clearing, Serving}
+use Rattle.tree_specs.specs.declared.frame.CallFrame.TheVariants.{Telling}
+use Rattle.tree_specs.specs.declared.frame.Frame.TheVariants as frame
 use Rattle.tree_specs.specs.declared.frame.FreeFrame.{FreeFrame}
 use Rattle.tree_specs.specs.Machine.Table.{freeing_resume}
+use Rattle.tree_specs.specs.declared.question.Ask.{Ask}
+use Rattle.tree_specs.specs.declared.question.Input.{Input}
+use Rattle.tree_specs.specs.declared.question.Input.TheVariants.{Got}
+use Rattle.tree_specs.specs.declared.reply.Reply.TheVariants as reply
 use Rattle.tree_specs.specs.Machine.View.{View}
 use Rattle.tree_specs.specs.Invariants.Consistent.{IsConsistent}
 use Rattle.destructors.specs.Engine.{IsAsked, IsReceiving}
 use Rattle.destructors.specs.Works.{IsAwaiting}
 use Rattle.object_pool.specs.Objects.{Objects, frees_in, MayBeginFree}
 use Rattle.object_pool.specs.Requests.{count_unreceived}
+use Rattle.host_core.specs.declared.active.Active.{Active}
 use Rattle.host_core.specs.declared.answer.Answer.{Answer}
 use Rattle.host_core.specs.declared.answer.Answer.TheVariants.{Freed, Returned, Turned, Heard}
 use Rattle.host_core.specs.declared.parts.Parts.{Parts}
@@ -18,9 +25,11 @@ use Rattle.host_core.specs.declared.step.Step.TheVariants.{Goes, Calls, Frees, U
 use Rattle.host_core.specs.declared.waiting.Waiting.{Waiting}
 use Rattle.host_core.specs.declared.waiting.Waiting.TheVariants.{Freeing, Awaiting, Turning, Requesting, Turn, Work as WorkOf}
 use Rattle.host_core.specs.declared.work.Work.{Work}
-use Rattle.host_core.specs.declared.work.Work.TheVariants.{Called, Releasing}
+use Rattle.host_core.specs.declared.work.Work.TheVariants.{Called, Releasing, Over}
+use Rattle.host_core.specs.Callers.{remembers}
+use Rattle.host_core.specs.Reaches.{remembered}
 use Rattle.host_core.specs.Hosts.{below_in, moved, places, PartsReady}
-use Rattle.host_core.specs.Stacks.{answer_of, Fits, standing}
+use Rattle.host_core.specs.Stacks.{active_frame, answer_of, Fits, standing}
 use Rattle.host_core.specs.Steps.{step_of, IsBusy}
 use Rattle.host_core.specs.Turns.{turn_asks}
 use Rattle.host_core.specs.declared.active.Active.TheVariants as active
@@ -94,16 +103,20 @@ abbrev pub StepAnswers : Step → List Waiting → Objects → Type 0
 StepAnswers (Ends a) ws o = Answers a ws o
 StepAnswers step ws o = Unit {0}
 
--- only a turn's reply, or only what a request's work has come to
+-- a turn ends with its reply alone, and the work of a request once it is over
 abbrev pub IsTurnStep : Step → Type 0
 IsTurnStep (Ends (Turned v)) = Unit {0}
 IsTurnStep (Ends a) = ⊥
 IsTurnStep step = Unit {0}
 
-abbrev pub IsWorkStep : Step → Type 0
-IsWorkStep (Ends (Heard r)) = Unit {0}
-IsWorkStep (Ends a) = ⊥
-IsWorkStep step = Unit {0}
+-- something is still to do
+abbrev pub IsOngoing : Step → Type 0
+IsOngoing (Ends a) = ⊥
+IsOngoing step = Unit {0}
+
+abbrev pub IsWorkStep : Work → Step → Type 0
+IsWorkStep (Over reply) (Ends (Heard r)) = Unit {0}
+IsWorkStep w step = IsOngoing step
 
 -- there are places for what is at work or comes to be, besides those of requests that are still to be received
 abbrev pub HasPlacesFor : ℕ → Parts → Type 0
@@ -127,3 +140,19 @@ pub record GoesWell (most : ℕ) (step : Step) (o : Objects) : Type 0 where
 abbrev pub IsPlainErrand : Errand → Type 0
 IsPlainErrand Receive = ⊥
 IsPlainErrand errand = Unit {0}
+
+-- ---- what the outside has answered
+
+-- the innermost of the works that wait is a call that asks the outside
+pub record CallsOutside (waiting : List Waiting) : Type 0 where
+  pub question : Ask
+  pub others : List Waiting
+  pub are : waiting ≡ others ++ Turning question ∷ []
+
+-- its caller, which was asked this, is told the bytes that were read, and a routine remembers them
+pub record Reads (q : Ask) (i : Input) (now : Active) (old new : Parts) : Type 0 where
+  pub bytes : List ℕ
+  pub were : i ≡ Got bytes
+  pub tells : active_frame now ≡ frame.Call (Telling (remembers q (remembered q (reply.Bytes bytes))) (reply.Bytes bytes))
+  pub waited : old.waiting.items ≡ new.waiting.items ++ Turning q ∷ []
+  pub same : new.objects ≡ old.objects

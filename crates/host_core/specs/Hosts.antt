@@ -36,6 +36,7 @@ use Rattle.destructors.specs.Frees.{speaking, Steps}
 use Rattle.destructors.specs.Works.{IsAtWork, GoesOn}
 use Rattle.object_pool.specs.Objects.{Objects, frees_in, LeavesRest}
 use Rattle.object_pool.specs.Requests.{count_unreceived}
+use Rattle.requests.specs.Register.{AreInOrder}
 use Rattle.host_core.specs.declared.parts.Parts.{Parts}
 use Rattle.host_core.specs.declared.active.Active.{Active}
 use Rattle.host_core.specs.declared.active.Active.TheVariants as active
@@ -44,12 +45,12 @@ use Rattle.host_core.specs.declared.turn.Turn.{Turn}
 use Rattle.host_core.specs.declared.waiting.Waiting.{Waiting}
 use Rattle.host_core.specs.declared.work.Work.{Work}
 use Rattle.host_core.specs.declared.work.Work.TheVariants as work
-use Rattle.host_core.specs.Callers.{frame_of, open_at}
+use Rattle.host_core.specs.Callers.{frame_of, told_by, after_telling, open_at}
 use Rattle.host_core.specs.Moves.{report_of}
 use Rattle.host_core.specs.Reaches.{IsOutside, outside_given}
-use Rattle.host_core.specs.Requests.{work_speaks, WorkReady}
+use Rattle.host_core.specs.Requests.{work_speaks, work_tells, work_told, pool_told, WorkReady}
 use Rattle.host_core.specs.Stacks.{standing, active_frame, freeing_view, other_view, seen, AllFit}
-use Rattle.host_core.specs.Turns.{turn_asks, turn_given, turn_speaks}
+use Rattle.host_core.specs.Turns.{turn_asks, turn_given, turn_speaks, turn_tells, frame_fired}
 
 abbrev pub view_of : Active → List Waiting → Objects → View
 view_of now waiting objects = seen now objects.works (reverse waiting) objects.pool
@@ -200,6 +201,16 @@ begins_with q (input.Act (act.Do c)) = Doing q c
 begins_with q (input.Act (act.Ret v)) = Returning v
 begins_with q i = Asking q
 
+-- a call, or what a routine does
+abbrev pub IsActing : Input → Type 0
+IsActing (input.Call c) = Unit {0}
+IsActing (input.Act a) = Unit {0}
+IsActing i = ⊥
+
+-- the works once a caller that was asked has answered
+abbrev pub called_view : Ask → Input → Parts → View
+called_view q i parts = other_view (frame.Call (begins_with q i)) parts.objects.works (reverse parts.waiting.items) parts.objects.pool
+
 -- what is at work once the answer was given
 abbrev pub given_frame : Active → Input → Pool → Frame
 given_frame (active.Caller c) i p = frame.Call (begins_with c.ask i)
@@ -213,6 +224,7 @@ given_view now i parts = other_view (given_frame now i parts.objects.pool) parts
 -- the memory is taken that may be wanted up to the next question
 pub record HasRoom (parts : Parts) : Type 0 where
   pub ready : parts.objects.ready ≡ true
+  pub order : AreInOrder parts.objects.pool.requests
   pub places : length parts.waiting.items + 2 * count_unreceived parts.objects.pool.requests + 3 ≤ vec_capacity parts.waiting
 
 -- the reply that a report of this owner has, whoever asks for it
@@ -240,10 +252,10 @@ pub record FreeTells (told : Option Event) (o : Objects) (now : Active) (o' : Ob
   pub rest : LeavesRest o o'
   pub requests : count_unreceived o'.pool.requests ≤ count_unreceived o.pool.requests
 
--- what is at work has told this with the next step of the host, and goes on after it; of the open frees this is said elsewhere
+-- what is at work has told this with the next step of the host, and goes on after it
 abbrev pub Tells : Option Event → Active → Objects → Active → Objects → Type 0
+Tells told (active.Caller c) o now o' = (told ≡ told_by (frame_of c)) × (active_frame now ≡ frame.Call (after_telling (frame_of c))) × (o' ≡ o)
 Tells told active.Freeing o now o' = FreeTells told o now o'
-Tells told old o now o' =
-    (told ≡ (next_of (other_view (active_frame old) o.works [] o.pool)).0)
-    × (active_frame now ≡ (next_of (other_view (active_frame old) o.works [] o.pool)).1.innermost)
-    × (o' ≡ record o { pool = (next_of (other_view (active_frame old) o.works [] o.pool)).1.pool })
+Tells told (active.Turning t) o now o' = (told ≡ turn_tells t.frame) × (now ≡ active.Turning (record t { frame = frame_fired t.frame })) × (o' ≡ o)
+Tells told (active.Reaching q) o now o' = (told ≡ None) × (now ≡ active.Reaching q) × (o' ≡ o)
+Tells told (active.Requesting w) o now o' = (told ≡ work_tells w o.pool) × (now ≡ active.Requesting (work_told w o.pool)) × (o' ≡ record o { pool = pool_told w o.pool }) × AreInOrder o.pool.requests

@@ -18,6 +18,7 @@ use Rattle.tree_specs.specs.Events.Coming.{at_time, with_flags, plainly, looks_a
 use Rattle.tree_specs.specs.Events.Requests.{is_noted}
 use Rattle.tree_specs.specs.Events.Rotation.{Ready, first_ready}
 use Rattle.tree_specs.specs.Machine.Table.{Step, come_step}
+use Rattle.tree_specs.specs.Promises.Grounded.{is_asked}
 use Rattle.destructors.specs.Moves.{IsLiveRow}
 use Rattle.loop_core.specs.declared.pick.Pick.{Pick}
 use Rattle.loop_core.specs.declared.pick.Pick.TheVariants as pick
@@ -59,7 +60,7 @@ MayTurn Taking p = Unit {0}
 MayTurn (Timed again now) p = Unit {0}
 MayTurn (Starting what x occasion) p = Unit {0}
 MayTurn (Handling what x handler occasion) p = Unit {0}
-MayTurn (Handled what x) p = IsLiveRow p x
+MayTurn (Handled what x) p = IsLiveRow p x × (is_asked p x ≡ false)
 MayTurn (Closing v) p = Unit {0}
 MayTurn f p = ⊥
 
@@ -77,11 +78,6 @@ abbrev pub turn_given : TurnFrame → Input → Pool → TurnFrame
 turn_given (Timing again) (input.Clock now) p = Timed again now
 turn_given (Polling limit) (input.Ready wants) p = frame_looked (looks_again p wants) (first_ready p.ring wants)
 turn_given f i p = f
-
--- the clock has told this time
-abbrev pub frame_timed : TurnFrame → ℕ → TurnFrame
-frame_timed (Timing again) now = Timed again now
-frame_timed f now = f
 
 -- what is still to do once it was told which descriptors are ready, and this was picked
 abbrev pub looked_frame : Pick → TurnFrame

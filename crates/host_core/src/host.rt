@@ -1,4 +1,5 @@
 ghost use Rattle.object_pool.specs.Requests.{count_unreceived};
+ghost use Rattle.requests.specs.Register.{AreInOrder};
 ghost use Rattle.host_core.specs.Hosts.{IsSettled, Tells};
 ghost use Rattle.std.specs.Prelude.{◌≡◌, ◌+◌, ◌*◌, ◌≤◌, ◌<◌, ◌↔◌, true, Some, Err, IsTrue, IsSome, IfOk, OnOk, OnErr, length, vec_capacity};
 ghost use Rattle.std.specs.Option.{option_copied};
@@ -11,6 +12,7 @@ use crate::active::Active;
 use crate::caller::{Caller, Stage};
 use crate::fault::OfferFault;
 use crate::parts::Parts;
+use crate::reach::is_bytes;
 use crate::replies::{read_on, report_on};
 use crate::reports::{made_report, report_owner};
 use crate::waiting::Waiting;
@@ -29,6 +31,7 @@ fn make_room(waiting: &mut Vec<Waiting>, objects: &mut ObjectPool) -> Result<(),
     ensures places { OnOk result (length waiting.new.items + 2 * count_unreceived objects.old.pool.requests + 3 ≤ vec_capacity waiting.new) }
     ensures ok { OnOk result (objects.new ≡ record objects.old { ready = true }) }
     ensures err { OnErr result (objects.new ≡ objects.old) }
+    ensures order { AreInOrder objects.old.pool.requests }
 {
     let places = objects.count_requests().checked_mul(2).ok_or(Memory)?;
     waiting.reserve(places.checked_add(3).ok_or(Memory)?)?;
@@ -172,9 +175,9 @@ impl Host {
     pub fn next(&mut self) -> Option<Event>
         ensures { NextLaw result self.old self.new }
     {
-        let event = tell(&mut self.active, &mut self.parts.objects);
+        let event = tell(&mut self.active, &mut self.parts.objects)?;
         settle(&mut self.active, &mut self.parts);
-        event
+        Some(event)
     }
 
     /// The descriptor that was accepted, where it is open already.
@@ -205,17 +208,17 @@ impl Host {
         if let Some(fd) = self.taken(&input) {
             return Err(OfferFault::Taken(fd));
         }
+        let Parts { waiting, objects } = &mut self.parts;
         if let Some(owner) = report_owner(&input) {
-            let alloc = *self.parts.waiting.allocator();
-            let report = made_report(alloc, &input, owner, &self.parts.objects)?;
+            let report = made_report(*waiting.allocator(), &input, owner, objects)?;
             report_on(&mut self.active, report);
             return Ok(());
         }
-        if let Input::Got(bytes) = input {
-            read_on(&mut self.active, bytes, &mut self.parts)?;
+        if is_bytes(&input) {
+            read_on(&mut self.active, input, &mut self.parts)?;
             return Ok(());
         }
-        make_room(&mut self.parts.waiting, &mut self.parts.objects)?;
+        make_room(waiting, objects)?;
         answer_on(&mut self.active, input, &mut self.parts);
         settle(&mut self.active, &mut self.parts);
         Ok(())

@@ -2,7 +2,8 @@
 ghost use Rattle.std.specs.Prelude.{◌≡◌, IfOk, ℕ, List, is_some, true};
 ghost use Rattle.tree_specs.specs.Calls.Given.{given_to, bytes_read, bytes_written};
 ghost use Rattle.tree_specs.specs.declared.reply.Reply.TheVariants.{Bytes as BytesReply};
-ghost use Rattle.host_core.specs.Reaches.{remembered, IsShortAnswer, short_answer, pool_heard};
+ghost use Rattle.host_core.specs.Reaches.{remembered, is_bytes, IsShortAnswer, short_answer, pool_heard};
+ghost use Rattle.tree_specs.specs.declared.question.Input.TheVariants as inputs;
 
 use crate::owned_reply::OwnedReply;
 use crate::short_reply::ShortReply;
@@ -60,6 +61,24 @@ pub fn heard(input: Input, objects: &mut ObjectPool) -> ShortReply
         Input::Again => ShortReply::Again,
         Input::Fault => ShortReply::Fault,
         Input::End => ShortReply::End,
+        _ => unreachable!(),
+    }
+}
+
+/// Whether these are bytes that were read: the one answer of the outside that owns memory.
+pub fn is_bytes(input: &Input) -> bool
+    ensures { result ≡ is_bytes input.now }
+{
+    matches!(input, Input::Got(_))
+}
+
+/// The bytes that were read.
+pub fn bytes_in(input: Input) -> Octets
+    requires { is_bytes input ≡ true }
+    ensures { input ≡ inputs.Got result }
+{
+    match input {
+        Input::Got(bytes) => bytes,
         _ => unreachable!(),
     }
 }

@@ -1,5 +1,5 @@
 //! The steps of a turn of the event loop: one thing comes, its handler runs, and it is quiet again or goes.
-ghost use Rattle.std.specs.Prelude.{◌≡◌, true};
+ghost use Rattle.std.specs.Prelude.{◌≡◌, true, false};
 ghost use Rattle.tree_specs.specs.Machine.Table.{turn_step};
 ghost use Rattle.host_core.specs.Turns.{MayTurn};
 ghost use Rattle.host_core.specs.Steps.{step_of};
@@ -9,6 +9,7 @@ ghost use Rattle.tree_specs.specs.declared.frame.TurnFrame.TheVariants.{Starting
 ghost use Rattle.tree_specs.specs.Events.Coming.{at_time};
 ghost use Rattle.tree_specs.specs.Events.Requests.{is_noted};
 ghost use Rattle.tree_specs.specs.Machine.Table.{come_step};
+ghost use Rattle.tree_specs.specs.Promises.Grounded.{is_asked};
 ghost use Rattle.destructors.specs.Moves.{IsLiveRow};
 ghost use Rattle.host_core.specs.Turns.{picked_step, looked_frame};
 
@@ -94,6 +95,7 @@ fn start(what: What, x: Obj, occasion: Occasion, objects: &mut ObjectPool) -> St
 /// The handler of an event has returned: the event is quiet again, and the turn is over, or waits until the event is freed.
 fn handled(what: What, x: Obj, objects: &mut ObjectPool) -> Step
     requires live { IsLiveRow objects.old.pool x }
+    requires unasked { is_asked objects.old.pool x ≡ false }
     requires ready { objects.old.ready ≡ true }
     ensures step { step_of result objects.new.pool ≡ turn_step (Handled what x) objects.old.pool }
     ensures goes { GoesWell 3 result objects.new }
@@ -108,6 +110,7 @@ fn handled(what: What, x: Obj, objects: &mut ObjectPool) -> Step
 }
 
 /// The next step of a turn that tells and asks nothing with it.
+#[tactic(auto, using(crate::proofs::Turning::timed_picked))]
 pub fn turn_step(frame: TurnFrame, objects: &mut ObjectPool) -> Step
     requires may { MayTurn frame objects.old.pool }
     requires ready { FrameReady frame objects.old }

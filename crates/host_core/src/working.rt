@@ -10,10 +10,11 @@ ghost use Rattle.tree_specs.specs.Calls.Plans.{planned};
 ghost use Rattle.tree_specs.specs.Machine.Table.{request_step, release_object, over_step};
 ghost use Rattle.object_pool.specs.Objects.{Objects as ObjectsData, MayBeginFree};
 ghost use Rattle.object_pool.specs.Requests.{count_unreceived};
+ghost use Rattle.requests.specs.Register.{AreInOrder};
 ghost use Rattle.host_core.specs.Stacks.{work_frame};
 ghost use Rattle.host_core.specs.Steps.{step_of};
 ghost use Rattle.host_core.specs.Hosts.{errand_places, work_places};
-ghost use Rattle.host_core.specs.Going.{works_as, GoesWell, IsWorkStep};
+ghost use Rattle.host_core.specs.Going.{works_as, GoesWell, IsOngoing, IsWorkStep};
 ghost use Rattle.host_core.specs.Requests.{MayWork, ErrandReady, WorkReady, work_tells, work_told, pool_told};
 
 use crate::active::Active;
@@ -39,7 +40,7 @@ fn goes(work: Work) -> Step
 fn over(errand: Errand) -> Step
     ensures step { (p : PoolData) → step_of result p ≡ over_step errand p }
     ensures goes { (o : ObjectsData) → GoesWell 1 result o }
-    ensures ends { IsWorkStep result }
+    ensures ongoing { IsOngoing result }
 {
     goes(Work::Over {
         reply: reply_to(errand),
@@ -50,7 +51,7 @@ fn over(errand: Errand) -> Step
 fn cancel(x: Obj, objects: &ObjectPool) -> Step
     ensures step { step_of result objects.now.pool ≡ request_step (Cancelling x) objects.now.pool }
     ensures goes { GoesWell 1 result objects.now }
-    ensures ends { IsWorkStep result }
+    ensures ongoing { IsOngoing result }
 {
     match objects.cancel_routine(x) {
         Some(handler) => goes(Work::Calling {
@@ -68,9 +69,10 @@ fn cancel(x: Obj, objects: &ObjectPool) -> Step
 /// A cleanup runs once for each state.
 fn clean(x: Obj, errand: Errand, objects: &mut ObjectPool) -> Step
     requires ready { ErrandReady errand objects.old }
+    requires order { AreInOrder objects.old.pool.requests }
     ensures step { step_of result objects.new.pool ≡ request_step (Cleaning x errand) objects.old.pool }
     ensures goes { GoesWell (errand_places errand) result objects.new }
-    ensures ends { IsWorkStep result }
+    ensures ongoing { IsOngoing result }
     ensures rest { objects.new ≡ record objects.old { pool = objects.new.pool } }
     ensures requests { count_unreceived objects.new.pool.requests ≤ count_unreceived objects.old.pool.requests }
 {
@@ -90,13 +92,13 @@ fn let_go(child: Obj, objects: &ObjectPool) -> Step
     requires ready { MayBeginFree objects.now }
     ensures step { step_of result objects.now.pool ≡ release_object (planned objects.now.pool (FreeOf child)) Receive objects.now.pool }
     ensures goes { GoesWell 3 result objects.now }
-    ensures ends { IsWorkStep result }
+    ensures ongoing { IsOngoing result }
 {
     let waiting = Waiting::Work(Work::Releasing { child });
     match release(child, objects) {
         Some(Motion::Frees(x)) => Step::Frees(x, waiting),
         Some(Motion::Unlinks(owner, x)) => Step::Unlinks(owner, x, waiting),
-        _ => over(Errand::Receive),
+        Some(_) | None => over(Errand::Receive),
     }
 }
 
@@ -105,7 +107,7 @@ fn cleaned(x: Obj, errand: Errand, objects: &ObjectPool) -> Step
     requires ready { ErrandReady errand objects.now }
     ensures step { step_of result objects.now.pool ≡ request_step (Cleaned x errand) objects.now.pool }
     ensures goes { GoesWell (errand_places errand) result objects.now }
-    ensures ends { IsWorkStep result }
+    ensures ongoing { IsOngoing result }
 {
     let Some(note) = objects.note(x) else {
         return over(errand);
@@ -119,9 +121,10 @@ fn cleaned(x: Obj, errand: Errand, objects: &ObjectPool) -> Step
 /// A request whose callback is deferred comes soon; otherwise its callback runs, where it has one.
 fn notify(x: Obj, errand: Errand, objects: &mut ObjectPool) -> Step
     requires ready { objects.old.ready ≡ true }
+    requires order { AreInOrder objects.old.pool.requests }
     ensures step { step_of result objects.new.pool ≡ request_step (Notifying x errand) objects.old.pool }
     ensures goes { GoesWell 1 result objects.new }
-    ensures ends { IsWorkStep result }
+    ensures ongoing { IsOngoing result }
     ensures rest { objects.new ≡ record objects.old { pool = objects.new.pool; ready = objects.new.ready } }
     ensures requests { count_unreceived objects.new.pool.requests ≤ count_unreceived objects.old.pool.requests }
 {
@@ -142,10 +145,12 @@ pub fn work_step(work: Work, objects: &mut ObjectPool) -> Step
     requires ready { WorkReady work objects.old }
     ensures step { step_of result objects.new.pool ≡ request_step (work_frame work) objects.old.pool }
     ensures goes { GoesWell (work_places work) result objects.new }
-    ensures ends { IsWorkStep result }
+    ensures ends { IsWorkStep work result }
     ensures rest { objects.new ≡ record objects.old { pool = objects.new.pool; ready = objects.new.ready } }
     ensures requests { count_unreceived objects.new.pool.requests ≤ count_unreceived objects.old.pool.requests }
 {
+    // All that is wanted of `count_requests` is its contract: the notes stand in their order.
+    let _requests = objects.count_requests();
     match work {
         Work::Receiving { .. } => over(Errand::Receive),
         Work::Cancelling { x } => cancel(x, objects),
@@ -179,7 +184,10 @@ pub fn tell_work(work: &mut Work, objects: &mut ObjectPool) -> Option<Event>
     ensures event { result ≡ work_tells work.old objects.old.pool }
     ensures work { work.new ≡ work_told work.old objects.old.pool }
     ensures pool { objects.new ≡ record objects.old { pool = pool_told work.old objects.old.pool } }
+    ensures order { AreInOrder objects.old.pool.requests }
 {
+    // All that is wanted of `count_requests` is its contract: the notes stand in their order.
+    let _requests = objects.count_requests();
     match *work {
         Work::Finishing { x, state } => {
             objects.finish_request(x, state);

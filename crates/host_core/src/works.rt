@@ -12,10 +12,10 @@ ghost use Rattle.destructors.specs.Frees.{speaking, Begins};
 ghost use Rattle.destructors.specs.Works.{IsAtWork};
 ghost use Rattle.object_pool.specs.Objects.{Objects as ObjectsData, frees_in};
 ghost use Rattle.host_core.specs.Moves.{call_of, reported};
-ghost use Rattle.host_core.specs.Turns.{frame_timed};
+ghost use Rattle.host_core.specs.Turns.{turn_asks, turn_given};
 ghost use Rattle.host_core.specs.declared.waiting.Waiting.{Waiting as WaitingData};
 ghost use Rattle.std.specs.Prelude.{List, None};
-ghost use Rattle.host_core.specs.Hosts.{host_view, given_view, asked_now, speaking_view, PartsReady, HasRoom, IsBetweenSteps, TellsSameStory, StepsSilently};
+ghost use Rattle.host_core.specs.Hosts.{host_view, given_view, asked_now, speaking_view, PartsReady, HasRoom, IsActing, called_view, IsBetweenSteps, TellsSameStory, StepsSilently};
 use crate::active::Active;
 use crate::answer::Answer;
 use crate::caller::{Caller, Stage};
@@ -163,12 +163,34 @@ fn call_step(ask: Ask, motion: Motion) -> Step
     }
 }
 
-/// The clock has told a turn this time, in microseconds.
-fn timed(frame: TurnFrame, now: u64) -> TurnFrame
-    ensures { result ≡ frame_timed frame now }
+/// What a caller that was asked has answered: it does a call, or a routine returns.
+fn call_on(ask: Ask, input: Input, parts: &mut Parts) -> Active
+    requires acts { IsActing input }
+    requires no_report { reported (call_of input) ≡ None }
+    requires fit { Fits parts.old.objects.works (reverse parts.old.waiting.items) }
+    requires whole { IsConsistent (called_view ask input parts.old) }
+    requires room { HasRoom parts.old }
+    ensures along { TellsSameStory (called_view ask input parts.old) (host_view result parts.new) }
+    ensures ready { IsBetweenSteps result parts.new }
 {
-    match frame {
-        TurnFrame::Timing { again } => TurnFrame::Timed { again, now },
+    match input {
+        Input::Call(call) | Input::Act(Act::Do(call)) => {
+            let motion = act(call, &mut parts.objects);
+            go_on(call_step(ask, motion), parts)
+        }
+        Input::Act(Act::Ret(value)) => end(Answer::Returned(value), parts),
+        _ => unreachable!(),
+    }
+}
+
+/// What is still to do of a turn once it was told the time, in microseconds, or which descriptors are ready.
+fn turn_given(frame: TurnFrame, input: &Input, objects: &ObjectPool) -> TurnFrame
+    requires { is_none (misfit (turn_asks frame) input.now) ≡ true }
+    ensures { result ≡ turn_given frame input.now objects.now.pool }
+{
+    match (frame, input) {
+        (TurnFrame::Timing { again }, Input::Clock(now)) => TurnFrame::Timed { again, now: *now },
+        (_, Input::Ready(list)) => looked(objects.ready(list)),
         _ => frame,
     }
 }
@@ -185,27 +207,16 @@ pub fn answer_on(now: &mut Active, input: Input, parts: &mut Parts)
     ensures along { TellsSameStory (given_view now.old input parts.old) (host_view now.new parts.new) }
     ensures ready { IsBetweenSteps now.new parts.new }
 {
-    let present = mem::replace(now, Active::Freeing);
-    *now = match (present, input) {
-        (
-            Active::Caller(Caller { ask, .. }),
-            Input::Call(call) | Input::Act(Act::Do(call)),
-        ) => {
-            let motion = act(call, &mut parts.objects);
-            go_on(call_step(ask, motion), parts)
+    *now = match mem::replace(now, Active::Freeing) {
+        Active::Caller(caller) => call_on(caller.ask, input, parts),
+        Active::Turning(turn) => {
+            Active::Turning(Turn::new(turn_given(turn.frame, &input, &parts.objects)))
         }
-        (Active::Caller(_), Input::Act(Act::Ret(value))) => end(Answer::Returned(value), parts),
-        (Active::Turning(turn), Input::Clock(time)) => {
-            Active::Turning(Turn::new(timed(turn.frame, time)))
-        }
-        (Active::Turning(_), Input::Ready(list)) => {
-            Active::Turning(Turn::new(looked(parts.objects.ready(&list))))
-        }
-        (Active::Reaching(_), input) => {
+        Active::Reaching(_question) => {
             let reply = heard(input, &mut parts.objects);
             end(Answer::Heard(reply), parts)
         }
-        _ => unreachable!(),
+        _other => unreachable!(),
     };
 }
 

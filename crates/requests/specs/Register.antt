@@ -1,5 +1,7 @@
 -- The notes of requests as their callers see them.
-use Rattle.std.specs.Prelude.{ℕ, Option, Some, None, if◌then◌else◌}
+use Rattle.std.specs.Prelude.{ℕ, T, Option, Some, None, if◌then◌else◌}
+use Rattle.std.specs.Ordering.{nat_cmp}
+use Rattle.std.specs.FinMap.Entries.{is_sorted}
 use Rattle.tree_specs.specs.declared.handler.Handler.{Handler}
 use Rattle.tree_specs.specs.declared.object.Obj.{Obj}
 use Rattle.tree_specs.specs.declared.request.Note.{Note}
@@ -12,6 +14,10 @@ pub record Register : Type 0 where
   pub notes : Notes
   -- so many can be added without taking memory
   pub spare : ℕ
+
+-- they stand in the order of the numbers
+abbrev pub AreInOrder : Notes → Type 0
+AreInOrder notes = T (is_sorted nat_cmp notes)
 
 -- its callback runs, where it has one
 abbrev pub callback_runs : Option Handler → Notify

@@ -78,7 +78,7 @@ fn cleanup_of(note: &Note) -> Option<Handler>
 impl Requests {
     ghost use Rattle.std.specs.Prelude.{◌+◌, ◌<◌, ◌≤◌, OnOk, None, is_some, length};
     ghost use Rattle.tree_specs.specs.Events.Requests.{no_notes, note_of, is_noted, with_note, without_note, renoted, called_back, deferring, not_deferring, cleaned_by, cleaned, cancelled_by, failed_with, in_state, cleanup_in};
-    ghost use Rattle.requests.specs.Register.{notify_of, left_by, posted_by};
+    ghost use Rattle.requests.specs.Register.{AreInOrder, notify_of, left_by, posted_by};
 
     /// No requests. It takes no memory.
     pub fn new(alloc: Global) -> Requests
@@ -89,9 +89,10 @@ impl Requests {
         }
     }
 
-    /// How many requests there are.
+    /// How many requests there are. Their notes stand in the order of the numbers.
     pub fn len(&self) -> usize
-        ensures { result ≡ length self.now.notes }
+        ensures many { result ≡ length self.now.notes }
+        ensures order { AreInOrder self.now.notes }
     {
         self.notes.len()
     }

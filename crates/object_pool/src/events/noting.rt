@@ -2,7 +2,7 @@
 ghost use Rattle.std.specs.Prelude.{◌≡◌, ◌≤◌, ◌<◌, false, None, length};
 ghost use Rattle.tree_specs.specs.Events.Pending.{disarmed, is_numbered, unscheduled};
 ghost use Rattle.tree_specs.specs.Events.Requests.{note_of, called_back, deferring, cleaned_by, cancelled_by, failed_with, cleanup_in};
-ghost use Rattle.requests.specs.Register.{notify_of, left_by, posted_by};
+ghost use Rattle.requests.specs.Register.{AreInOrder, notify_of, left_by, posted_by};
 ghost use Rattle.object_pool.specs.Upcoming.{HasPlace, KeepsPlaces, with_request, requested, posted, timed_under, finished};
 
 use crate::events::Events;
@@ -17,9 +17,10 @@ impl Events {
         self.requests.note(x)
     }
 
-    /// How many requests there are.
+    /// How many requests there are. Their notes stand in the order of the numbers.
     pub fn count_requests(&self) -> usize
-        ensures { result ≡ length self.now.upcoming.requests }
+        ensures many { result ≡ length self.now.upcoming.requests }
+        ensures order { AreInOrder self.now.upcoming.requests }
     {
         self.requests.len()
     }

@@ -10,7 +10,7 @@ ghost use Rattle.destructors.specs.Works.{IsAtWork, IsAwaiting};
 ghost use Rattle.destructors.specs.Engine.{IsReceiving};
 ghost use Rattle.object_pool.specs.Objects.{frees_in, LeavesRest};
 ghost use Rattle.object_pool.specs.Requests.{cleaning, notifying, count_unreceived};
-ghost use Rattle.requests.specs.Register.{notify_of};
+ghost use Rattle.requests.specs.Register.{AreInOrder, notify_of};
 
 use crate::counting::add_row;
 use crate::pool::ObjectPool;
@@ -34,9 +34,11 @@ impl ObjectPool {
             .is_some_and(|note| note.state != State::Received)
     }
 
-    /// How many requests there are: at least as many as are still to be received.
+    /// How many requests there are: at least as many as are still to be received. Their notes stand in the order of the
+    /// numbers.
     pub fn count_requests(&self) -> usize
-        ensures { count_unreceived self.now.pool.requests ≤ result }
+        ensures many { count_unreceived self.now.pool.requests ≤ result }
+        ensures order { AreInOrder self.now.pool.requests }
     {
         self.events.count_requests()
     }

@@ -1,0 +1,98 @@
+-- What a call begins, and what it may take of the memory for it.
+use Rattle.std.proofs.Common.{◌≡◌, ℕ, ◌+◌, ◌*◌, ◌≤◌, List, Option, Some, None, false, refl, sym, ◌∙◌, ap, arith}
+use Rattle.step_machine.specs.Machine.{Move as Do}
+use Rattle.tree_specs.specs.declared.call.Call.{Call}
+use Rattle.tree_specs.specs.declared.frame.CallFrame.{CallFrame}
+use Rattle.tree_specs.specs.declared.frame.Frame.TheVariants as frame
+use Rattle.tree_specs.specs.declared.notice.Notice.{Notice}
+use Rattle.tree_specs.specs.declared.question.Ask.{Ask}
+use Rattle.tree_specs.specs.declared.question.Ask.TheVariants.{Quiet}
+use Rattle.tree_specs.specs.declared.reply.Reply.{Reply}
+use Rattle.tree_specs.specs.Calls.Plans.{Change, Plan, changed_by}
+use Rattle.tree_specs.specs.Calls.Plans.Plan.{Does, Frees as FreesOf, Unlinks as UnlinksOf, Empties as EmptiesOf, Asks as AsksOf, Turns as TurnsOf, Works as WorksOf}
+use Rattle.tree_specs.specs.Machine.Table.{plan_step, notice_step, turning_step}
+use Rattle.tree_specs.specs.Tree.Pool.{Pool}
+use Rattle.tree_specs.proofs.Calls.Changes.{added}
+use Rattle.tree_specs.proofs.Calls.Plans.{May}
+use Rattle.requests.specs.Register.{AreInOrder}
+use Rattle.object_pool.specs.Requests.{count_unreceived}
+use Rattle.host_core.specs.declared.active.Active.TheVariants as active
+use Rattle.host_core.specs.declared.step.Step.{Step}
+use Rattle.host_core.specs.declared.step.Step.TheVariants.{Goes, Calls, Frees, Unlinks, Empties, Ends}
+use Rattle.host_core.specs.Steps.{step_of, IsBusy}
+use Rattle.host_core.specs.Going.{step_places}
+use Rattle.host_core.specs.Hosts.{speaks}
+use Rattle.host_core.proofs.Stepping.{pool_in, pool-left}
+use Rattle.host_core.proofs.Unreceived.{change-counted}
+
+-- ---- it tells and asks nothing
+
+pub call-silent : (q : Ask) (plan : Plan) (p : Pool) → speaks (plan_step q plan p) ≡ false
+call-silent q (Does c None r) p = refl
+call-silent q (Does c (Some notice) r) p = refl
+call-silent q (FreesOf x) p = refl
+call-silent q (UnlinksOf owner x) p = refl
+call-silent q (EmptiesOf x) p = refl
+call-silent q (AsksOf outside) p = refl
+call-silent Quiet TurnsOf p = refl
+call-silent _ TurnsOf p = refl
+call-silent q (WorksOf c errand x) p = refl
+
+-- ---- its places
+
+-- a caller takes none
+caller-takes : (step : Step) (f : CallFrame) (p q : Pool) → IsBusy step → step_of step p ≡ Do.Go (frame.Call f) q → step_places step ≡ 0
+caller-takes (Goes (active.Caller c)) f p q b e = refl
+caller-takes (Goes active.Freeing) f p q b e = absurd b
+caller-takes (Goes (active.Turning t)) f p q b e = cc
+caller-takes (Goes (active.Reaching r)) f p q b e = refl
+caller-takes (Goes (active.Requesting w)) f p q b e = cc
+caller-takes _ f p q b e = cc
+
+-- the objects after a plan
+abbrev pub planned_pool : Plan → Pool → Pool
+planned_pool (Does c notice r) p = changed_by c p
+planned_pool (WorksOf c errand x) p = changed_by c p
+planned_pool plan p = p
+
+plan-left : (q : Ask) (plan : Plan) (p : Pool) → pool_in (plan_step q plan p) ≡ planned_pool plan p
+plan-left q (Does c None r) p = refl
+plan-left q (Does c (Some notice) r) p = refl
+plan-left q (FreesOf x) p = refl
+plan-left q (UnlinksOf owner x) p = refl
+plan-left q (EmptiesOf x) p = refl
+plan-left q (AsksOf outside) p = refl
+plan-left Quiet TurnsOf p = refl
+plan-left _ TurnsOf p = refl
+plan-left q (WorksOf c errand x) p = refl
+
+-- what a call begins has the places that were taken for it
+pub call-room : (q : Ask) (step : Step) (plan : Plan) (old new : Pool) → May old plan → AreInOrder old.requests → IsBusy step → step_places step ≤ 3 → step_of step new ≡ plan_step q plan old
+    → step_places step + 2 * count_unreceived new.requests ≤ 3 + 2 * count_unreceived old.requests
+call-room q step plan old new may order busy most e = each plan may e (sym (pool-left step new) ∙ ap pool_in e ∙ plan-left q plan old)
+  where
+    -- with as many requests
+    as-many : new ≡ old → step_places step + 2 * count_unreceived new.requests ≤ 3 + 2 * count_unreceived old.requests
+    as-many same = let counts = ap (λ (p : Pool). count_unreceived p.requests) same in omega (arith, most, counts)
+
+    each : (plan : Plan) → May old plan → step_of step new ≡ plan_step q plan old → new ≡ planned_pool plan old → step_places step + 2 * count_unreceived new.requests ≤ 3 + 2 * count_unreceived old.requests
+    each (Does c notice r) may e same =
+        let few = (change-counted c old order may.0).few in
+        let adds = may.1.0 in
+        let counts = ap (λ (p : Pool). count_unreceived p.requests) same in
+        let none = takes notice e in
+        omega (arith, few, adds, counts, none)
+      where
+        takes : (notice : Option Notice) → step_of step new ≡ plan_step q (Does c notice r) old → step_places step ≡ 0
+        takes None e = caller-takes step _ new (changed_by c old) busy e
+        takes (Some n) e = caller-takes step _ new (changed_by c old) busy e
+    each (WorksOf c errand x) may e same =
+        let few = (change-counted c old order may.0).few in
+        let adds = may.1.0 in
+        let counts = ap (λ (p : Pool). count_unreceived p.requests) same in
+        omega (arith, few, adds, counts, most)
+    each (FreesOf x) may e same = as-many same
+    each (UnlinksOf owner x) may e same = as-many same
+    each (EmptiesOf x) may e same = as-many same
+    each (AsksOf outside) may e same = as-many same
+    each TurnsOf may e same = as-many same

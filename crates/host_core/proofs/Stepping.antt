@@ -1,0 +1,96 @@
+-- A step that tells nothing, by the parts of a host.
+use Rattle.std.proofs.Common.{◌≡◌, ℕ, ◌+◌, ◌*◌, ◌≤◌, List, [], ◌∷◌, length, reverse, Option, Some, None, true, false, refl, sym, ◌∙◌, ap, subst, arith}
+use Rattle.std.specs.Prelude.{vec_capacity}
+use Rattle.step_machine.specs.Machine.{Move}
+use Rattle.step_machine.specs.Machine.{Move as Do}
+use Rattle.tree_specs.specs.declared.frame.Answer.{Answer as Answered}
+use Rattle.tree_specs.specs.declared.frame.Frame.{Frame}
+use Rattle.tree_specs.specs.declared.frame.Frame.TheVariants as frame
+use Rattle.tree_specs.specs.declared.frame.FreeFrame.{FreeFrame}
+use Rattle.tree_specs.specs.declared.frame.TurnFrame.{TurnFrame}
+use Rattle.tree_specs.specs.Events.Requests.{note_of, is_unreceived}
+use Rattle.tree_specs.specs.Invariants.Consistent.{IsConsistent}
+use Rattle.tree_specs.specs.Machine.Table.{step as machine_step, request_step, receiving_step}
+use Rattle.tree_specs.specs.Machine.View.{View}
+use Rattle.tree_specs.specs.Rules.Items.{Item}
+use Rattle.tree_specs.specs.Tree.Pool.{Pool}
+use Rattle.tree_specs.proofs.Tree.Numbered.{by_test}
+use Rattle.object_pool.specs.Objects.{Objects}
+use Rattle.host_core.specs.declared.answer.Answer.TheVariants.{Freed, Returned, Turned, Heard}
+use Rattle.host_core.specs.declared.parts.Parts.{Parts}
+use Rattle.host_core.specs.declared.step.Step.{Step}
+use Rattle.host_core.specs.declared.step.Step.TheVariants.{Goes, Calls, Frees, Unlinks, Empties, Ends}
+use Rattle.host_core.specs.declared.waiting.Waiting.{Waiting}
+use Rattle.host_core.specs.declared.work.Work.{Work}
+use Rattle.host_core.specs.declared.work.Work.TheVariants as work
+use Rattle.host_core.specs.Moves.{reply_of}
+use Rattle.host_core.specs.Stacks.{standing, Fits, other_view, work_frame}
+use Rattle.host_core.specs.Steps.{step_of}
+use Rattle.host_core.specs.Hosts.{moved, next_of, speaks, speaking_view, StepsSilently}
+use Rattle.host_core.specs.Going.{stepped_view, IsTurnStep, IsWorkStep, StepAnswers}
+use Rattle.host_core.specs.Requests.{MayWork, WorkReady}
+use Rattle.host_core.proofs.StepsSilently.{onward}
+use Rattle.host_core.proofs.Ending.{turned-answers, worked-answers}
+
+-- the objects that a move leaves
+abbrev pub pool_in : Move Frame Answered Pool Item → Pool
+pool_in (Do.Done a p) = p
+pool_in (Do.Go f p) = p
+pool_in (Do.Emit e f p) = p
+pool_in (Do.Wait q f p) = p
+pool_in (Do.Call f g p) = p
+
+pub pool-left : (step : Step) (p : Pool) → pool_in (step_of step p) ≡ p
+pool-left (Goes next) p = refl
+pool-left (Calls first second) p = refl
+pool-left (Frees x second) p = refl
+pool-left (Unlinks owner x second) p = refl
+pool-left (Empties x second) p = refl
+pool-left (Ends a) p = refl
+
+-- the code's step is that of the machine
+module _ (f : Frame) (step : Step) (old : Parts) (o : Objects) (whole : IsConsistent (other_view f old.objects.works (reverse old.waiting.items) old.objects.pool))
+    (same : step_of step o.pool ≡ machine_step f old.objects.pool) (works : o.works ≡ old.objects.works) where
+  abbrev before : View
+  before = other_view f old.objects.works (reverse old.waiting.items) old.objects.pool
+
+  abbrev after : Parts
+  after = record { waiting = old.waiting; objects = o }
+
+  leads : (next_of before).1 ≡ stepped_view step after
+  leads =
+      ap (λ (m : Move Frame Answered Pool Item). (moved m (standing old.objects.works (reverse old.waiting.items))).1) (sym same)
+      ∙ ap (λ (fs : List FreeFrame). (moved (step_of step o.pool) (standing fs (reverse old.waiting.items))).1) (sym works)
+
+  pub step_onward : speaking_view before ≡ false → StepsSilently before (stepped_view step after)
+  step_onward quiet = onward before (stepped_view step after) whole quiet leads
+
+-- ---- whoever waits for a turn, or for the work of a request
+
+pub turn_answers : (step : Step) (t : TurnFrame) (fs : List FreeFrame) (ws : List Waiting) (p : Pool) (o : Objects) → IsTurnStep step → Fits fs ws → IsConsistent (other_view (frame.Turn t) fs ws p) → StepAnswers step ws o
+turn_answers (Ends (Turned v)) t fs ws p o s fit h = turned-answers t v fs ws o fit h.sound.waiting h.seated
+turn_answers (Ends (Freed a)) t fs ws p o s fit h = absurd s
+turn_answers (Ends (Returned v)) t fs ws p o s fit h = absurd s
+turn_answers (Ends (Heard r)) t fs ws p o s fit h = absurd s
+turn_answers _ t fs ws p o s fit h = tt
+
+pub work_answers : (step : Step) (w : Work) (fs : List FreeFrame) (ws : List Waiting) (p : Pool) (o : Objects) → IsWorkStep w step → Fits fs ws → o.works ≡ fs → step_of step o.pool ≡ request_step (work_frame w) p → IsConsistent (other_view (frame.Request (work_frame w)) fs ws p)
+    → StepAnswers step ws o
+work_answers (Ends (Heard b)) (work.Over reply) fs ws p o s fit works same h =
+    let pool : o.pool ≡ p = ap pool_in same in
+    worked-answers (reply_of reply) b ws o (subst (λ (l : List FreeFrame). Fits l ws) (sym works) fit) (rw (works, pool) h)
+work_answers (Ends (Heard b)) w fs ws p o s fit works same h = absurd s
+work_answers (Ends a) w fs ws p o s fit works same h = absurd s
+work_answers _ w fs ws p o s fit works same h = tt
+
+-- ---- what the work of a request may do that tells nothing
+
+pub may_work : (w : Work) (fs : List FreeFrame) (ws : List Waiting) (o : Objects) → speaking_view (other_view (frame.Request (work_frame w)) fs ws o.pool) ≡ false → WorkReady w o → MayWork w o
+may_work (work.Receiving x) fs ws o quiet r = by_test (is_unreceived (note_of o.pool.requests x))
+    (λ t. let bad : true ≡ false = rw t at quiet in cc)
+    (λ t. t)
+may_work (work.Releasing child) fs ws o quiet r = absurd r
+may_work (work.Notifying x errand) fs ws o quiet r = r
+may_work (work.Finishing x state) fs ws o quiet r = cc
+may_work (work.Calling what x handler errand) fs ws o quiet r = cc
+may_work _ fs ws o quiet r = tt
