@@ -93,7 +93,7 @@ returned-answers v ws o ready e h = each o.works ws e h.sound.waiting h.seated (
 -- ---- a turn, and the outside
 
 -- only a call waits for what is a turn to it
-turned-call : (f : Frame) (a : Answer) (o : Objects) → IsTurn f → (IsFree f → ⊥) → (IsRun f → ⊥) → (IsWork f → ⊥) → ((q : Ask) → AnswersTo a (Turning q) o) → (fs : List FreeFrame) (ws : List Waiting) → Fits fs ws → AllWait (standing fs ws) → IsStacked f (standing fs ws) → (IsCaller f → ⊥) → Answers a ws o
+pub turned-call : (f : Frame) (a : Answer) (o : Objects) → IsTurn f → (IsFree f → ⊥) → (IsRun f → ⊥) → (IsWork f → ⊥) → ((q : Ask) → AnswersTo a (Turning q) o) → (fs : List FreeFrame) (ws : List Waiting) → Fits fs ws → AllWait (standing fs ws) → IsStacked f (standing fs ws) → (IsCaller f → ⊥) → Answers a ws o
 turned-call f a o t no_free no_run no_work answers fs [] e w s c = absurd (c s)
 turned-call f a o t no_free no_run no_work answers [] (Freeing ∷ ws) e w s c = absurd e.0
 turned-call f a o t no_free no_run no_work answers (g ∷ fs) (Freeing ∷ ws) e w s c = absurd (each g s.0)

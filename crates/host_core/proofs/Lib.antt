@@ -13,7 +13,10 @@ pub mod Stepping
 pub mod Calling
 pub mod Answering
 pub mod Reaching
+pub mod Working
+pub mod Given
 pub mod Offering
 pub mod Straying
+pub mod Telling
 pub mod Nexts
 pub mod Unreceived

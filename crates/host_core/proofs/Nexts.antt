@@ -50,7 +50,7 @@ use Rattle.host_core.specs.Hosts.{host_view, below_in, speaking_view, asked_now,
 use Rattle.host_core.proofs.StepsSilently.{AfterEvent, after-event, event-along}
 use Rattle.host_core.proofs.FreeSteps.{speaks-events, step-event}
 use Rattle.host_core.proofs.FreeStepping.{step-fits, news-work, news-fit}
-use Rattle.host_core.proofs.Offering.{waits-now}
+use Rattle.host_core.proofs.Offering.{caller-now, waits-now}
 use Rattle.host_core.proofs.Speaking.{turn_speaking, work_speaking, question_seen}
 use Rattle.host_core.proofs.Unreceived.{finished-most, received-fewer}
 
@@ -64,10 +64,6 @@ pub record Told (e : Event) (old : Active) (parts : Parts) (now : Active) (o : O
   pub after : AfterEvent (host_view old parts) (host_view now (with parts o)) e
 
 -- ---- a caller
-
-caller-now : (now : Active) (f : CallFrame) → active_frame now ≡ frame.Call f → (c : Caller) × (now ≡ active.Caller c) × (frame_of c ≡ f)
-caller-now (active.Caller c) f e = let e' : frame_of c ≡ f = cc in (c, refl, e')
-caller-now _ f e = cc
 
 caller-told : (e : Event) (c : Caller) (parts : Parts) (now : Active) (o : Objects) → IsBetweenSteps (active.Caller c) parts → Tells (Some e) (active.Caller c) parts.objects now o → Told e (active.Caller c) parts now o
 caller-told e c parts now o b t =

@@ -63,6 +63,10 @@ at f below p = record { innermost = f; below = below; pool = p }
 
 -- ---- the open question
 
+pub caller-now : (now : Active) (f : CallFrame) → active_frame now ≡ frame.Call f → (c : Caller) × (now ≡ active.Caller c) × (frame_of c ≡ f)
+caller-now (active.Caller c) f e = let e' : frame_of c ≡ f = cc in (c, refl, e')
+caller-now _ f e = cc
+
 -- who is asked, and stands at its question
 asking : (s : Stage) (q asked : Ask) → open_at s q ≡ Some asked → (staged q s ≡ Asking asked) × (q ≡ asked)
 asking stage.Asking q asked e = let e' : q ≡ asked = cc in (ap Asking e', e')

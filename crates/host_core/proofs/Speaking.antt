@@ -1,5 +1,5 @@
 -- Whether what is at work tells or asks something with its next step, and what it asks.
-use Rattle.std.proofs.Common.{◌≡◌, ℕ, Bool, true, false, nat_eq, nat_le, List, [], ◌∷◌, Option, Some, None, is_some, refl, sym, ◌∙◌, ap, subst}
+use Rattle.std.proofs.Common.{◌≡◌, ℕ, Bool, true, false, nat_eq, nat_le, List, [], ◌∷◌, reverse, Option, Some, None, is_some, refl, sym, ◌∙◌, ap, subst}
 use Rattle.step_machine.specs.Machine.{Move}
 use Rattle.step_machine.specs.Machine.{Move as Do}
 use Rattle.tree_specs.specs.declared.due.Due.{Due}
@@ -39,6 +39,7 @@ use Rattle.host_core.specs.declared.active.Active.TheVariants as active
 use Rattle.host_core.specs.declared.caller.Caller.{Caller}
 use Rattle.host_core.specs.declared.caller.Stage.{Stage}
 use Rattle.host_core.specs.declared.caller.Stage.TheVariants as stage
+use Rattle.host_core.specs.declared.turn.Turn.{Turn}
 use Rattle.host_core.specs.declared.waiting.Waiting.{Waiting}
 use Rattle.host_core.specs.declared.work.Work.{Work}
 use Rattle.host_core.specs.declared.work.Work.TheVariants as work
@@ -46,7 +47,7 @@ use Rattle.host_core.specs.Callers.{staged, open_at}
 use Rattle.host_core.specs.Requests.{work_speaks}
 use Rattle.host_core.specs.Stacks.{other_view, freeing_view, seen, active_frame, work_frame}
 use Rattle.host_core.specs.Turns.{turn_asks, turn_speaks}
-use Rattle.host_core.specs.Hosts.{speaks, speaking_view, asked_now, PartsReady}
+use Rattle.host_core.specs.Hosts.{view_of, speaks, speaking_view, asked_now, IsSettled, PartsReady}
 use Rattle.host_core.proofs.FreeSteps.{speaks-events}
 
 -- ---- a turn
@@ -150,6 +151,26 @@ caller_speaking c below p = each c.stage
     each stage.Asking = refl
     each (stage.Telling r) = refl
     each (stage.Announcing notice r) = refl
+
+-- ---- by what is at work
+
+-- the innermost free is at hand
+pub ready-settled : (now : Active) (o : Objects) → PartsReady now o → IsSettled now o
+ready-settled active.Freeing o r = r
+ready-settled _ o r = tt
+
+module _ (now : Active) (waiting : List Waiting) (o : Objects) where
+  pub speaks_caller : (c : Caller) → now ≡ active.Caller c → true ≡ speaking_view (view_of now waiting o)
+  speaks_caller c is = rw is (sym (caller_speaking c _ o.pool))
+
+  pub speaks_frees : now ≡ active.Freeing → is_event o.pool.ring (moves o.works o.pool).0 ≡ speaking_view (view_of now waiting o)
+  speaks_frees is = rw is (sym (frees_speaking o.works (reverse waiting) o.pool))
+
+  pub speaks_turn : (t : Turn) → now ≡ active.Turning t → turn_speaks t.frame ≡ speaking_view (view_of now waiting o)
+  speaks_turn t is = rw is (sym (turn_speaking t.frame o.pool))
+
+  pub speaks_work : (w : Work) → now ≡ active.Requesting w → work_speaks w o.pool ≡ speaking_view (view_of now waiting o)
+  speaks_work w is = rw is (sym (work_speaking w o.pool))
 
 -- ---- the open question
 

@@ -10,15 +10,19 @@ use Rattle.tree_specs.specs.declared.frame.FreeFrame.{FreeFrame}
 use Rattle.tree_specs.specs.declared.frame.TurnFrame.{TurnFrame}
 use Rattle.tree_specs.specs.Events.Requests.{note_of, is_unreceived}
 use Rattle.tree_specs.specs.Invariants.Consistent.{IsConsistent}
-use Rattle.tree_specs.specs.Machine.Table.{step as machine_step, request_step, receiving_step}
+use Rattle.tree_specs.specs.Machine.Table.{step as machine_step, turn_step, request_step}
 use Rattle.tree_specs.specs.Machine.View.{View}
 use Rattle.tree_specs.specs.Rules.Items.{Item}
 use Rattle.tree_specs.specs.Tree.Pool.{Pool}
 use Rattle.tree_specs.proofs.Tree.Numbered.{by_test}
 use Rattle.object_pool.specs.Objects.{Objects}
+use Rattle.object_pool.specs.Requests.{count_unreceived}
+use Rattle.host_core.specs.declared.active.Active.{Active}
+use Rattle.host_core.specs.declared.active.Active.TheVariants as active
 use Rattle.host_core.specs.declared.answer.Answer.TheVariants.{Freed, Returned, Turned, Heard}
 use Rattle.host_core.specs.declared.parts.Parts.{Parts}
 use Rattle.host_core.specs.declared.step.Step.{Step}
+use Rattle.host_core.specs.declared.turn.Turn.{Turn}
 use Rattle.host_core.specs.declared.step.Step.TheVariants.{Goes, Calls, Frees, Unlinks, Empties, Ends}
 use Rattle.host_core.specs.declared.waiting.Waiting.{Waiting}
 use Rattle.host_core.specs.declared.work.Work.{Work}
@@ -26,11 +30,14 @@ use Rattle.host_core.specs.declared.work.Work.TheVariants as work
 use Rattle.host_core.specs.Moves.{reply_of}
 use Rattle.host_core.specs.Stacks.{standing, Fits, other_view, work_frame}
 use Rattle.host_core.specs.Steps.{step_of}
-use Rattle.host_core.specs.Hosts.{moved, next_of, speaks, speaking_view, StepsSilently}
-use Rattle.host_core.specs.Going.{stepped_view, IsTurnStep, IsWorkStep, StepAnswers}
+use Rattle.host_core.specs.Turns.{MayTurn}
+use Rattle.host_core.specs.Hosts.{host_view, below_in, moved, next_of, speaking_view, turn_places, work_places, FrameReady, IsBetweenSteps, StepsSilently}
+use Rattle.host_core.specs.Going.{stepped_view, IsTurnStep, IsWorkStep, StepAnswers, GoesWell, step_places, HasPlacesFor}
 use Rattle.host_core.specs.Requests.{MayWork, WorkReady}
 use Rattle.host_core.proofs.StepsSilently.{onward}
 use Rattle.host_core.proofs.Ending.{turned-answers, worked-answers}
+use Rattle.host_core.proofs.Speaking.{turn_speaking}
+use Rattle.host_core.proofs.Turning.{may_turn}
 
 -- the objects that a move leaves
 abbrev pub pool_in : Move Frame Answered Pool Item → Pool
@@ -94,3 +101,68 @@ may_work (work.Notifying x errand) fs ws o quiet r = r
 may_work (work.Finishing x state) fs ws o quiet r = cc
 may_work (work.Calling what x handler errand) fs ws o quiet r = cc
 may_work _ fs ws o quiet r = tt
+
+-- ---- what a quiet step leads to
+
+-- it goes on with what it may want
+pub record GoesOn (now : Active) (step : Step) (old : Parts) (o : Objects) : Type 0 where
+  pub onward : StepsSilently (host_view now old) (stepped_view step (record { waiting = old.waiting; objects = o }))
+  pub fit : Fits o.works (reverse old.waiting.items)
+  pub answers : StepAnswers step (reverse old.waiting.items) o
+  pub places : HasPlacesFor (step_places step) (record { waiting = old.waiting; objects = o })
+
+-- a turn at work that tells and asks nothing
+module _ (now : Active) (t : Turn) (old : Parts) (is : now ≡ active.Turning t) (b : IsBetweenSteps now old) (quiet : speaking_view (host_view now old) ≡ false) where
+  there : IsBetweenSteps (active.Turning t) old
+  there = subst (λ (z : Active). IsBetweenSteps z old) is b
+
+  silent : speaking_view (host_view (active.Turning t) old) ≡ false
+  silent = subst (λ (z : Active). speaking_view (host_view z old) ≡ false) is quiet
+
+  pub turn_may : MayTurn t.frame old.objects.pool
+  turn_may = may_turn t.frame (below_in old) old.objects.pool there.whole (sym (turn_speaking t.frame old.objects.pool) ∙ silent)
+
+  pub turn_ready : FrameReady t.frame old.objects
+  turn_ready = there.ready.frame
+
+  pub turn_goes : (step : Step) (o : Objects) → step_of step o.pool ≡ turn_step t.frame old.objects.pool → GoesWell (turn_places t.frame) step o → IsTurnStep step → o ≡ record old.objects { pool = o.pool } → o.pool.requests ≡ old.objects.pool.requests → GoesOn now step old o
+  turn_goes step o same goes ends rest requests =
+      let works : o.works ≡ old.objects.works = ap (λ (z : Objects). z.works) rest in
+      let fits : Fits o.works (reverse old.waiting.items) = subst (λ (fs : List FreeFrame). Fits fs (reverse old.waiting.items)) (sym works) there.fit in
+      let room = there.places in
+      let few = goes.places in
+      let counts = ap count_unreceived requests in
+      subst (λ (z : Active). GoesOn z step old o) (sym is) (record {
+        onward = step_onward (frame.Turn t.frame) step old o there.whole same works silent;
+        fit = fits;
+        answers = turn_answers step t.frame old.objects.works (reverse old.waiting.items) old.objects.pool o ends there.fit there.whole;
+        places = omega (arith, room, few, counts);
+      })
+
+-- the work of a request
+module _ (now : Active) (w : Work) (old : Parts) (is : now ≡ active.Requesting w) (b : IsBetweenSteps now old) (quiet : speaking_view (host_view now old) ≡ false) where
+  working : IsBetweenSteps (active.Requesting w) old
+  working = subst (λ (z : Active). IsBetweenSteps z old) is b
+
+  says-nothing : speaking_view (host_view (active.Requesting w) old) ≡ false
+  says-nothing = subst (λ (z : Active). speaking_view (host_view z old) ≡ false) is quiet
+
+  pub work_may : MayWork w old.objects
+  work_may = may_work w old.objects.works (reverse old.waiting.items) old.objects says-nothing working.ready
+
+  pub work_wants : WorkReady w old.objects
+  work_wants = working.ready
+
+  pub work_goes : (step : Step) (o : Objects) → step_of step o.pool ≡ request_step (work_frame w) old.objects.pool → GoesWell (work_places w) step o → IsWorkStep w step → o ≡ record old.objects { pool = o.pool; ready = o.ready }
+      → count_unreceived o.pool.requests ≤ count_unreceived old.objects.pool.requests → GoesOn now step old o
+  work_goes step o same goes ends rest requests =
+      let works : o.works ≡ old.objects.works = ap (λ (z : Objects). z.works) rest in
+      let fits : Fits o.works (reverse old.waiting.items) = subst (λ (fs : List FreeFrame). Fits fs (reverse old.waiting.items)) (sym works) working.fit in
+      let room = working.places in
+      let few = goes.places in
+      subst (λ (z : Active). GoesOn z step old o) (sym is) (record {
+        onward = step_onward (frame.Request (work_frame w)) step old o working.whole same works says-nothing;
+        fit = fits;
+        answers = work_answers step w old.objects.works (reverse old.waiting.items) old.objects.pool o ends working.fit works same working.whole;
+        places = omega (arith, room, few, requests);
+      })

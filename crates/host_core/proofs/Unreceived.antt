@@ -6,20 +6,24 @@ use Rattle.std.specs.Ordering.{nat_cmp}
 use Rattle.std.specs.Cmp.{nat_cmp_total}
 use Rattle.std.specs.FinMap.Entries.{find, put, is_sorted, below_all, is_sorted-put}
 use Rattle.std.proofs.lemmas.Bool.{ltb-true, lt-ltb}
+use Rattle.tree_specs.specs.declared.handler.Handler.{Handler}
 use Rattle.tree_specs.specs.declared.object.Obj.{Obj}
 use Rattle.tree_specs.specs.declared.request.Note.{Note}
 use Rattle.tree_specs.specs.declared.reply.Refusal.TheVariants.{BadState}
 use Rattle.tree_specs.specs.declared.request.State.{State}
 use Rattle.tree_specs.specs.declared.request.State.TheVariants.{InProgress, Received}
 use Rattle.tree_specs.specs.Calls.Refusals.{in_progress}
-use Rattle.tree_specs.specs.Events.Requests.{Notes, note_of, new_note, is_in_progress, is_received, is_unreceived, renoted, in_state, state_number}
+use Rattle.tree_specs.specs.Events.Requests.{Notes, note_of, new_note, is_in_progress, is_received, is_unreceived, renoted, cleaned, not_deferring, in_state, state_number}
 use Rattle.tree_specs.specs.Tree.Pool.{Pool}
 use Rattle.tree_specs.specs.Calls.Plans.{Change, changed_by}
 use Rattle.tree_specs.specs.Calls.Plans.Change.{Nothing, Edit, Add, Place, Handle, Schedule, Unschedule, Arm, Watches, Rewatch, Close, TakeNumber, AddRequest, Renotes, Then}
 use Rattle.tree_specs.proofs.Tree.Numbered.{by_test}
 use Rattle.tree_specs.proofs.Calls.Changes.{MayDo, added}
 use Rattle.requests.specs.Register.{AreInOrder}
-use Rattle.object_pool.specs.Requests.{count_unreceived}
+use Rattle.requests.specs.declared.requests.Notify.{Notify}
+use Rattle.requests.specs.declared.requests.Notify.TheVariants.{Post}
+use Rattle.object_pool.specs.Objects.{Objects}
+use Rattle.object_pool.specs.Requests.{cleaning, notifying, count_unreceived}
 
 -- ---- one note in its place
 
@@ -134,6 +138,15 @@ finished-most state p x o running = each (note_of p.requests x) refl
         let m = one-most (in_state state n) in
         rw e (omega (arith, s, k, m)))
         (λ t. let bad : BadState x (state_number n.state) ∷ [] ≡ [] = rw (e, t) at running in cc)
+
+-- as many are to be received after a cleanup, and once one was notified
+pub cleaning_many : (x : Obj) (handler : Option Handler) (p : Pool) → AreInOrder p.requests → count_unreceived (cleaning x handler p).requests ≡ count_unreceived p.requests
+cleaning_many x None p o = refl
+cleaning_many x (Some handler) p o = renoted-many cleaned p.requests x o (λ n. refl)
+
+pub notifying_many : (x : Obj) (notify : Notify) (o : Objects) → AreInOrder o.pool.requests → count_unreceived (notifying x notify o).pool.requests ≡ count_unreceived o.pool.requests
+notifying_many x Post o k = renoted-many not_deferring o.pool.requests x k (λ n. refl)
+notifying_many x _ o k = refl
 
 -- ---- a change by a call
 

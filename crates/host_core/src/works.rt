@@ -11,7 +11,7 @@ ghost use Rattle.host_core.specs.Going.{stepped_view, ended_view, answer_places,
 ghost use Rattle.destructors.specs.Frees.{speaking, Begins};
 ghost use Rattle.destructors.specs.Works.{IsAtWork};
 ghost use Rattle.object_pool.specs.Objects.{Objects as ObjectsData, frees_in};
-ghost use Rattle.host_core.specs.Moves.{call_of, reported};
+ghost use Rattle.host_core.specs.Moves.{call_of, report_of, reported};
 ghost use Rattle.host_core.specs.Turns.{turn_asks, turn_given};
 ghost use Rattle.host_core.specs.declared.waiting.Waiting.{Waiting as WaitingData};
 ghost use Rattle.std.specs.Prelude.{List, None};
@@ -163,8 +163,21 @@ fn call_step(ask: Ask, motion: Motion) -> Step
     }
 }
 
-/// What a caller that was asked has answered: it does a call, or a routine returns.
-fn call_on(ask: Ask, input: Input, parts: &mut Parts) -> Active
+/// The caller that was asked does a call.
+fn call_on(ask: Ask, call: Call, parts: &mut Parts) -> Active
+    requires no_report { report_of call ≡ None }
+    requires fit { Fits parts.old.objects.works (reverse parts.old.waiting.items) }
+    requires whole { IsConsistent (called_view ask (Input.Call call) parts.old) }
+    requires room { HasRoom parts.old }
+    ensures along { TellsSameStory (called_view ask (Input.Call call) parts.old) (host_view result parts.new) }
+    ensures ready { IsBetweenSteps result parts.new }
+{
+    let motion = act(call, &mut parts.objects);
+    go_on(call_step(ask, motion), parts)
+}
+
+/// A caller that was asked does a call, or is a routine that returns.
+fn caller_on(ask: Ask, input: Input, parts: &mut Parts) -> Active
     requires acts { IsActing input }
     requires no_report { reported (call_of input) ≡ None }
     requires fit { Fits parts.old.objects.works (reverse parts.old.waiting.items) }
@@ -174,10 +187,7 @@ fn call_on(ask: Ask, input: Input, parts: &mut Parts) -> Active
     ensures ready { IsBetweenSteps result parts.new }
 {
     match input {
-        Input::Call(call) | Input::Act(Act::Do(call)) => {
-            let motion = act(call, &mut parts.objects);
-            go_on(call_step(ask, motion), parts)
-        }
+        Input::Call(call) | Input::Act(Act::Do(call)) => call_on(ask, call, parts),
         Input::Act(Act::Ret(value)) => end(Answer::Returned(value), parts),
         _ => unreachable!(),
     }
@@ -208,7 +218,7 @@ pub fn answer_on(now: &mut Active, input: Input, parts: &mut Parts)
     ensures ready { IsBetweenSteps now.new parts.new }
 {
     *now = match mem::replace(now, Active::Freeing) {
-        Active::Caller(caller) => call_on(caller.ask, input, parts),
+        Active::Caller(caller) => caller_on(caller.ask, input, parts),
         Active::Turning(turn) => {
             Active::Turning(Turn::new(turn_given(turn.frame, &input, &parts.objects)))
         }

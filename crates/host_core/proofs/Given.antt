@@ -1,0 +1,144 @@
+-- What is given to whoever has asked, and what it leads to, by the parts of a host.
+use Rattle.std.proofs.Common.{◌≡◌, ℕ, ◌+◌, ◌*◌, ◌≤◌, Bool, List, length, reverse, Option, Some, None, true, false, refl, sym, ◌∙◌, ap, subst, arith}
+use Rattle.std.specs.Prelude.{is_none, vec_capacity}
+use Rattle.step_machine.specs.Machine.{Move as Do}
+use Rattle.tree_specs.specs.declared.call.Call.{Call}
+use Rattle.tree_specs.specs.declared.frame.CallFrame.TheVariants.{Doing, Returning}
+use Rattle.tree_specs.specs.declared.frame.Frame.TheVariants as frame
+use Rattle.tree_specs.specs.declared.frame.FreeFrame.{FreeFrame}
+use Rattle.tree_specs.specs.declared.frame.TurnFrame.{TurnFrame}
+use Rattle.tree_specs.specs.declared.frame.TurnFrame.TheVariants.{Timing, Polling}
+use Rattle.tree_specs.specs.declared.question.Ask.{Ask}
+use Rattle.tree_specs.specs.declared.question.Input.{Input}
+use Rattle.tree_specs.specs.declared.question.Input.TheVariants as input
+use Rattle.tree_specs.specs.Calls.Plans.{planned}
+use Rattle.tree_specs.specs.Calls.Refusals.{refusals}
+use Rattle.tree_specs.specs.Events.Coming.{looks_again}
+use Rattle.tree_specs.specs.Events.Rotation.{Ready, first_ready}
+use Rattle.tree_specs.specs.Invariants.Consistent.{IsConsistent}
+use Rattle.tree_specs.specs.Machine.Table.{call_step, outside_step}
+use Rattle.tree_specs.specs.Texts.Schedule.{misfit}
+use Rattle.tree_specs.specs.Tree.Pool.{Pool}
+use Rattle.tree_specs.proofs.Calls.Plans.{may-planned}
+use Rattle.object_pool.specs.Objects.{Objects, RefsMayGo}
+use Rattle.object_pool.specs.Requests.{count_unreceived}
+use Rattle.host_core.specs.declared.active.Active.{Active}
+use Rattle.host_core.specs.declared.active.Active.TheVariants as active
+use Rattle.host_core.specs.declared.answer.Answer.TheVariants.{Returned, Heard}
+use Rattle.host_core.specs.declared.motion.Motion.{Motion}
+use Rattle.host_core.specs.declared.parts.Parts.{Parts}
+use Rattle.host_core.specs.declared.short_reply.ShortReply.{ShortReply}
+use Rattle.host_core.specs.declared.step.Step.{Step}
+use Rattle.host_core.specs.declared.step.Step.TheVariants.{Ends}
+use Rattle.host_core.specs.declared.turn.Turn.{Turn}
+use Rattle.host_core.specs.Going.{Answers, ended_view, stepped_view, step_places, HasPlacesFor}
+use Rattle.host_core.specs.Moves.{move_of}
+use Rattle.host_core.specs.Reaches.{is_bytes, IsShortAnswer, short_answer, pool_heard, outside_given}
+use Rattle.host_core.specs.Stacks.{Fits, other_view}
+use Rattle.host_core.specs.Steps.{step_of, IsBusy}
+use Rattle.host_core.specs.Turns.{turn_asks, turn_given, frame_looked}
+use Rattle.host_core.specs.Hosts.{host_view, given_view, called_view, speaks, asked_now, turn_places, FrameReady, PartsReady, HasRoom, IsBetweenSteps, TellsSameStory, StepsSilently}
+use Rattle.host_core.proofs.Allowed.{refs-go}
+use Rattle.host_core.proofs.Answering.{short-answer}
+use Rattle.host_core.proofs.Calling.{call-silent, call-room}
+use Rattle.host_core.proofs.Ending.{returned-answers, heard-answers}
+use Rattle.host_core.proofs.Reaching.{heard-step, no-reason}
+use Rattle.host_core.proofs.Stepping.{step_onward}
+use Rattle.host_core.proofs.StepsSilently.{stays}
+
+-- ---- a call
+
+module _ (q : Ask) (c : Call) (old : Parts) (whole : IsConsistent (called_view q (input.Call c) old)) where
+  pub call_refs : RefsMayGo old.objects.pool.rows
+  call_refs = refs-go _ _ old.objects.pool whole.sound
+
+  module _ (step : Step) (motion : Motion) (o : Objects) (steps : step_of step o.pool ≡ move_of q motion o.pool) (moved : move_of q motion o.pool ≡ call_step (refusals old.objects.pool c) q c old.objects.pool) (works : o.works ≡ old.objects.works) where
+    pub call_onward : StepsSilently (called_view q (input.Call c) old) (stepped_view step (record { waiting = old.waiting; objects = o }))
+    call_onward = step_onward (frame.Call (Doing q c)) step old o whole (steps ∙ moved) works (call-silent q (planned old.objects.pool c) old.objects.pool)
+
+    pub call_fit : Fits old.objects.works (reverse old.waiting.items) → Fits o.works (reverse old.waiting.items)
+    call_fit fit = subst (λ (fs : List FreeFrame). Fits fs (reverse old.waiting.items)) (sym works) fit
+
+    pub call_places : IsBusy step → step_places step ≤ 3 → HasRoom old → HasPlacesFor (step_places step) (record { waiting = old.waiting; objects = o })
+    call_places busy most room =
+        let few = call-room q step (planned old.objects.pool c) old.objects.pool o.pool (may-planned (frame.Call (Doing q c)) _ old.objects.pool whole.sound c) room.order busy most (steps ∙ moved) in
+        let places = room.places in
+        omega (arith, few, places)
+
+-- ---- a routine has returned
+
+module _ (q : Ask) (v : ℕ) (old : Parts) (whole : IsConsistent (other_view (frame.Call (Returning v)) old.objects.works (reverse old.waiting.items) old.objects.pool)) where
+  pub return_onward : StepsSilently (other_view (frame.Call (Returning v)) old.objects.works (reverse old.waiting.items) old.objects.pool) (ended_view (Returned v) old)
+  return_onward = step_onward (frame.Call (Returning v)) (Ends (Returned v)) old old.objects whole refl refl refl
+
+  pub return_answers : Fits old.objects.works (reverse old.waiting.items) → HasRoom old → Answers (Returned v) (reverse old.waiting.items) old.objects
+  return_answers fit room = returned-answers v (reverse old.waiting.items) old.objects room.ready fit whole
+
+-- ---- a turn was told the time, or what is ready
+
+given-ready : (f : TurnFrame) (i : Input) (p : Pool) (o : Objects) → is_none (misfit (turn_asks f) i) ≡ true → o.ready ≡ true → FrameReady (turn_given f i p) o × (turn_places (turn_given f i p) ≤ 3)
+given-ready (Timing again) (input.Clock now) p o fits ready = (ready, omega arith)
+given-ready (Polling limit) (input.Ready wants) p o fits ready = each (looks_again p wants) (first_ready p.ring wants)
+  where
+    each : (b : Bool) (r : Option Ready) → FrameReady (frame_looked b r) o × (turn_places (frame_looked b r) ≤ 3)
+    each true r = (tt, omega arith)
+    each false None = (tt, omega arith)
+    each false (Some r) = (tt, omega arith)
+given-ready _ _ p o fits ready = cc
+
+module _ (now : Active) (t : Turn) (i : Input) (old : Parts) (is : now ≡ active.Turning t) (fits : is_none (misfit (asked_now now) i) ≡ true) (ready : PartsReady now old.objects) where
+  pub given_fits : is_none (misfit (turn_asks t.frame) i) ≡ true
+  given_fits =
+      let ready' : PartsReady (active.Turning t) old.objects = subst (λ (z : Active). PartsReady z old.objects) is ready in
+      let fits' : is_none (misfit t.question i) ≡ true = subst (λ (z : Active). is_none (misfit (asked_now z) i) ≡ true) is fits in
+      ap (λ (z : Option Ask). is_none (misfit z i)) (sym ready'.question) ∙ fits'
+
+  -- what it is then
+  pub given_turn : (f : TurnFrame) → f ≡ turn_given t.frame i old.objects.pool → IsConsistent (given_view now i old) → Fits old.objects.works (reverse old.waiting.items) → HasRoom old
+      → TellsSameStory (given_view now i old) (host_view (active.Turning (record { frame = f; question = turn_asks f })) old) × IsBetweenSteps (active.Turning (record { frame = f; question = turn_asks f })) old
+  given_turn f e h fit room =
+      let h' : IsConsistent (given_view (active.Turning t) i old) = subst (λ (z : Active). IsConsistent (given_view z i old)) is h in
+      let r = given-ready t.frame i old.objects.pool old.objects given_fits room.ready in
+      let few = r.1 in
+      let places = room.places in
+      rw (is, e) (stays (given_view (active.Turning t) i old) h', record { whole = h'; fit = fit; ready = record { question = refl; frame = r.0 }; places = omega (arith, few, places) })
+
+-- ---- the outside has answered
+
+heard-requests : (i : Input) (p : Pool) → (pool_heard i p).requests ≡ p.requests
+heard-requests (input.Took fd) p = refl
+heard-requests _ p = refl
+
+module _ (now : Active) (q : Ask) (i : Input) (old : Parts) (is : now ≡ active.Reaching q) (fits : is_none (misfit (asked_now now) i) ≡ true) (ready : PartsReady now old.objects) (no_bytes : is_bytes i ≡ false) where
+  fits-here : is_none (misfit (Some q) i) ≡ true
+  fits-here = subst (λ (z : Active). is_none (misfit (asked_now z) i) ≡ true) is fits
+
+  pub heard_short : IsShortAnswer i
+  heard_short = short-answer q i (subst (λ (z : Active). PartsReady z old.objects) is ready) fits-here no_bytes
+
+  module _ (b : ShortReply) (o : Objects) (reply : b ≡ short_answer i) (pool : o ≡ record old.objects { pool = pool_heard i old.objects.pool; ready = o.ready }) (h : IsConsistent (given_view now i old)) where
+    here : IsConsistent (given_view (active.Reaching q) i old)
+    here = subst (λ (z : Active). IsConsistent (given_view z i old)) is h
+
+    over : step_of (Ends (Heard b)) o.pool ≡ outside_step (outside_given q i) old.objects.pool
+    over = rw (reply, ap (λ (z : Objects). z.pool) pool) (sym (heard-step q i old.objects.pool heard_short (no-reason (misfit (Some q) i) fits-here)))
+
+    works : o.works ≡ old.objects.works
+    works = ap (λ (z : Objects). z.works) pool
+
+    pub heard_onward : StepsSilently (given_view now i old) (ended_view (Heard b) (record { waiting = old.waiting; objects = o }))
+    heard_onward =
+        subst (λ (z : Active). StepsSilently (given_view z i old) (ended_view (Heard b) (record { waiting = old.waiting; objects = o }))) (sym is)
+        (step_onward (frame.Outside (outside_given q i)) (Ends (Heard b)) old o here over works (ap speaks (heard-step q i old.objects.pool heard_short (no-reason (misfit (Some q) i) fits-here))))
+
+    pub heard_fit : Fits old.objects.works (reverse old.waiting.items) → Fits o.works (reverse old.waiting.items)
+    heard_fit fit = subst (λ (fs : List FreeFrame). Fits fs (reverse old.waiting.items)) (sym works) fit
+
+    pub heard_answers : Fits old.objects.works (reverse old.waiting.items) → Answers (Heard b) (reverse old.waiting.items) o
+    heard_answers fit = heard-answers (outside_given q i) b old.objects.works (reverse old.waiting.items) o fit here.sound.waiting here.seated
+
+    pub heard_places : HasRoom old → HasPlacesFor 1 (record { waiting = old.waiting; objects = o })
+    heard_places room =
+        let places = room.places in
+        let counts = ap (λ (z : Objects). count_unreceived z.pool.requests) pool ∙ ap count_unreceived (heard-requests i old.objects.pool) in
+        omega (arith, places, counts)
