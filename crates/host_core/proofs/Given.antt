@@ -25,6 +25,7 @@ use Rattle.object_pool.specs.Requests.{count_unreceived}
 use Rattle.host_core.specs.declared.active.Active.{Active}
 use Rattle.host_core.specs.declared.active.Active.TheVariants as active
 use Rattle.host_core.specs.declared.answer.Answer.TheVariants.{Returned, Heard}
+use Rattle.host_core.specs.declared.caller.Caller.{Caller}
 use Rattle.host_core.specs.declared.motion.Motion.{Motion}
 use Rattle.host_core.specs.declared.parts.Parts.{Parts}
 use Rattle.host_core.specs.declared.short_reply.ShortReply.{ShortReply}
@@ -37,9 +38,9 @@ use Rattle.host_core.specs.Reaches.{is_bytes, IsShortAnswer, short_answer, pool_
 use Rattle.host_core.specs.Stacks.{Fits, other_view}
 use Rattle.host_core.specs.Steps.{step_of, IsBusy}
 use Rattle.host_core.specs.Turns.{turn_asks, turn_given, frame_looked}
-use Rattle.host_core.specs.Hosts.{host_view, given_view, called_view, speaks, asked_now, turn_places, FrameReady, PartsReady, HasRoom, IsBetweenSteps, TellsSameStory, StepsSilently}
+use Rattle.host_core.specs.Hosts.{host_view, given_view, called_view, speaks, asked_now, turn_places, FrameReady, PartsReady, HasRoom, IsActing, IsBetweenSteps, TellsSameStory, StepsSilently}
 use Rattle.host_core.proofs.Allowed.{refs-go}
-use Rattle.host_core.proofs.Answering.{short-answer}
+use Rattle.host_core.proofs.Answering.{caller-acts, short-answer}
 use Rattle.host_core.proofs.Calling.{call-silent, call-room}
 use Rattle.host_core.proofs.Ending.{returned-answers, heard-answers}
 use Rattle.host_core.proofs.Reaching.{heard-step, no-reason}
@@ -64,6 +65,12 @@ module _ (q : Ask) (c : Call) (old : Parts) (whole : IsConsistent (called_view q
         let few = call-room q step (planned old.objects.pool c) old.objects.pool o.pool (may-planned (frame.Call (Doing q c)) _ old.objects.pool whole.sound c) room.order busy most (steps ∙ moved) in
         let places = room.places in
         omega (arith, few, places)
+
+-- a caller is answered with a call, or with what a routine does
+pub caller_acting : (now : Active) (c : Caller) (i : Input) (parts : Parts) → now ≡ active.Caller c → is_none (misfit (asked_now now) i) ≡ true → IsConsistent (given_view now i parts) → IsActing i
+caller_acting now c i parts is fits h =
+    let h' : IsConsistent (given_view (active.Caller c) i parts) = subst (λ (z : Active). IsConsistent (given_view z i parts)) is h in
+    caller-acts c.stage c.ask i _ (subst (λ (z : Active). is_none (misfit (asked_now z) i) ≡ true) is fits) h'.seated
 
 -- ---- a routine has returned
 

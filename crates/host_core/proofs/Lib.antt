@@ -13,7 +13,7 @@ pub mod Stepping
 pub mod Calling
 pub mod Answering
 pub mod Reaching
-pub mod Working
+pub mod Notifying
 pub mod Given
 pub mod Offering
 pub mod Straying

@@ -21,6 +21,7 @@ use crate::works::{answer_on, settle};
 use object_pool::ObjectPool;
 use std::alloc::Global;
 use std::marker::Model;
+use std::mem;
 use tree_specs::{Ask, Event, Input, Kind, Memory, Obj, Owner, Want};
 
 /// Takes the memory for all that comes up to the next question: each request that wasn't received may want two places, and what
@@ -219,7 +220,8 @@ impl Host {
             return Ok(());
         }
         make_room(waiting, objects)?;
-        answer_on(&mut self.active, input, &mut self.parts);
+        let present = mem::replace(&mut self.active, Active::Freeing);
+        self.active = answer_on(present, input, &mut self.parts);
         settle(&mut self.active, &mut self.parts);
         Ok(())
     }

@@ -53,6 +53,17 @@ fn asker(waiting: &Vec<Waiting>) -> &Ask
     }
 }
 
+/// The caller whose call waits for the outside waits no more. Gives its question.
+fn take_asker(waiting: &mut Vec<Waiting>) -> Ask
+    requires { CallsOutside waiting.old.items }
+    ensures { waiting.old.items ≡ waiting.new.items ++ Waiting.Turning result ∷ [] }
+{
+    match waiting.pop() {
+        Some(Waiting::Turning { ask }) => ask,
+        _ => unreachable!(),
+    }
+}
+
 /// It was asked for bytes, and these were read: they come next to the caller whose call it was. When memory runs out, nothing
 /// has changed.
 pub fn read_on(now: &mut Active, input: Input, parts: &mut Parts) -> Result<(), Memory>
@@ -63,9 +74,6 @@ pub fn read_on(now: &mut Active, input: Input, parts: &mut Parts) -> Result<(), 
 {
     let alloc = *parts.waiting.allocator();
     let reply = made_bytes(alloc, asker(&parts.waiting), bytes_in(input))?;
-    match parts.waiting.pop() {
-        Some(Waiting::Turning { ask }) => *now = told(ask, reply),
-        _ => unreachable!(),
-    }
+    *now = told(take_asker(&mut parts.waiting), reply);
     Ok(())
 }

@@ -205,19 +205,19 @@ fn turn_given(frame: TurnFrame, input: &Input, objects: &ObjectPool) -> TurnFram
     }
 }
 
-/// Who was asked goes on with the answer, which takes no memory of its own.
-pub fn answer_on(now: &mut Active, input: Input, parts: &mut Parts)
-    requires fits { is_none (misfit (asked_now now.old) input) ≡ true }
+/// Who was asked goes on with the answer, which takes no memory of its own. Gives what is at work then.
+pub fn answer_on(now: Active, input: Input, parts: &mut Parts) -> Active
+    requires fits { is_none (misfit (asked_now now) input) ≡ true }
     requires no_bytes { is_bytes input ≡ false }
     requires no_report { reported (call_of input) ≡ None }
-    requires ready { PartsReady now.old parts.old.objects }
+    requires ready { PartsReady now parts.old.objects }
     requires fit { Fits parts.old.objects.works (reverse parts.old.waiting.items) }
-    requires whole { IsConsistent (given_view now.old input parts.old) }
+    requires whole { IsConsistent (given_view now input parts.old) }
     requires room { HasRoom parts.old }
-    ensures along { TellsSameStory (given_view now.old input parts.old) (host_view now.new parts.new) }
-    ensures ready { IsBetweenSteps now.new parts.new }
+    ensures along { TellsSameStory (given_view now input parts.old) (host_view result parts.new) }
+    ensures ready { IsBetweenSteps result parts.new }
 {
-    *now = match mem::replace(now, Active::Freeing) {
+    match now {
         Active::Caller(caller) => caller_on(caller.ask, input, parts),
         Active::Turning(turn) => {
             Active::Turning(Turn::new(turn_given(turn.frame, &input, &parts.objects)))
@@ -227,7 +227,7 @@ pub fn answer_on(now: &mut Active, input: Input, parts: &mut Parts)
             end(Answer::Heard(reply), parts)
         }
         _other => unreachable!(),
-    };
+    }
 }
 
 /// What comes next of the open frees where this tells no event.
