@@ -23,7 +23,11 @@ use Rattle.host_core.specs.declared.motion.Motion.{Motion}
 use Rattle.host_core.specs.declared.motion.Motion.TheVariants.{Frees as FreesMotion, Unlinks as UnlinksMotion}
 use Rattle.tree_specs.specs.declared.frame.Errand.{Errand}
 use Rattle.tree_specs.specs.Calls.Plans.Plan.{Frees as FreesOf, Unlinks as UnlinksOf}
-use Rattle.host_core.specs.Requests.{IsReleaseBy}
+use Rattle.host_core.specs.Requests.{IsFreeing, IsReleaseBy}
+use Rattle.step_machine.specs.Machine.{Move as Do}
+use Rattle.tree_specs.specs.declared.frame.Frame.TheVariants as frame
+use Rattle.tree_specs.specs.declared.frame.FreeFrame.TheVariants.{Beginning, Unlinking}
+use Rattle.tree_specs.specs.declared.frame.RequestFrame.TheVariants.{Releasing}
 
 pub refused_step : (check : Check) (q : Ask) (c : Call) (p : Pool) (why : Refusal) → checked check ≡ Err why → call_step check q c p ≡ replied q (reply.No why) p
 refused_step [] q c p why e = cc
@@ -90,7 +94,22 @@ pub refused_release : (check : Check) (plan : Plan) (why : Refusal) → checked 
 refused_release [] plan why e = cc
 refused_release (other ∷ later) plan why e = refl
 
-pub release_none : (plan : Plan) (m : Option Motion) (errand : Errand) (p : Pool) → IsReleaseBy plan m → ((x : Obj) → m ≡ Some (FreesMotion x) → ⊥) → ((o : Owner) (x : Obj) → m ≡ Some (UnlinksMotion o x) → ⊥) → over_step errand p ≡ release_object plan errand p
-release_none (FreesOf x) m errand p r no-free no-unlink = absurd (no-free x r)
-release_none (UnlinksOf o x) m errand p r no-free no-unlink = absurd (no-unlink o x r)
-release_none _ m errand p r no-free no-unlink = refl
+pub release_frees : (x : Obj) (plan : Plan) (errand : Errand) (p : Pool) → IsReleaseBy plan (Some (FreesMotion x)) → Do.Call (frame.Free (Beginning x)) (frame.Request (Releasing x)) p ≡ release_object plan errand p
+release_frees x (FreesOf y) errand p r = let e : x ≡ y = cc in rw e refl
+release_frees x (UnlinksOf o y) errand p r = cc
+release_frees x _ errand p r = cc
+
+pub release_unlinks : (o : Owner) (x : Obj) (plan : Plan) (errand : Errand) (p : Pool) → IsReleaseBy plan (Some (UnlinksMotion o x)) → Do.Call (frame.Free (Unlinking o x)) (frame.Request (Releasing x)) p ≡ release_object plan errand p
+release_unlinks o x (FreesOf y) errand p r = cc
+release_unlinks o x (UnlinksOf owner y) errand p r = let e : x ≡ y = cc in let e' : o ≡ owner = cc in rw (e, e') refl
+release_unlinks o x _ errand p r = cc
+
+pub release_none : (plan : Plan) (errand : Errand) (p : Pool) → IsReleaseBy plan None → over_step errand p ≡ release_object plan errand p
+release_none (FreesOf x) errand p r = cc
+release_none (UnlinksOf o x) errand p r = cc
+release_none _ errand p r = refl
+
+pub freeing_release : (plan : Plan) (m : Motion) → IsReleaseBy plan (Some m) → IsFreeing m
+freeing_release (FreesOf x) m r = let e : m ≡ FreesMotion x = cc in rw e tt
+freeing_release (UnlinksOf o x) m r = let e : m ≡ UnlinksMotion o x = cc in rw e tt
+freeing_release _ m r = cc

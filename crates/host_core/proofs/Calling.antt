@@ -78,7 +78,7 @@ call-room q step plan old new may order busy most e = each plan may e (sym (pool
     each : (plan : Plan) → May old plan → step_of step new ≡ plan_step q plan old → new ≡ planned_pool plan old → step_places step + 2 * count_unreceived new.requests ≤ 3 + 2 * count_unreceived old.requests
     each (Does c notice r) may e same =
         let few = (change-counted c old order may.0).few in
-        let adds = may.1.0 in
+        let adds = may.1 in
         let counts = ap (λ (p : Pool). count_unreceived p.requests) same in
         let none = takes notice e in
         omega (arith, few, adds, counts, none)
@@ -88,7 +88,7 @@ call-room q step plan old new may order busy most e = each plan may e (sym (pool
         takes (Some n) e = caller-takes step _ new (changed_by c old) busy e
     each (WorksOf c errand x) may e same =
         let few = (change-counted c old order may.0).few in
-        let adds = may.1.0 in
+        let adds = may.1 in
         let counts = ap (λ (p : Pool). count_unreceived p.requests) same in
         omega (arith, few, adds, counts, most)
     each (FreesOf x) may e same = as-many same

@@ -25,7 +25,12 @@ use Rattle.host_core.specs.declared.waiting.Waiting.{Waiting}
 use Rattle.host_core.specs.declared.waiting.Waiting.TheVariants.{Freeing, Awaiting, Turning, Requesting, Turn, Work}
 use Rattle.host_core.specs.Stacks.{waiting_frame, active_frame, ahead, behind, standing, below_free, Fits, FreesFit, AllFit, free_view, other_view, freeing_view, seen}
 use Rattle.host_core.specs.Steps.{IsOther, IsWaiter}
-use Rattle.host_core.specs.Hosts.{places, HasPlaces}
+use Rattle.host_core.specs.declared.step.Step.{Step}
+use Rattle.tree_specs.specs.declared.frame.Errand.{Errand}
+use Rattle.tree_specs.specs.declared.frame.Errand.TheVariants.{Receive}
+use Rattle.object_pool.specs.Objects.{Objects}
+use Rattle.host_core.specs.Going.{GoesWell}
+use Rattle.host_core.specs.Hosts.{places, errand_places, HasPlaces}
 
 -- ---- what isn't the open frees
 
@@ -114,3 +119,12 @@ fits-silently s t ws (On u _ earlier last) e = each u.works (fits-silently s u w
     each : (works : List FreeFrame) → FreesFit works ws → moves works u.pool ≡ (None, t) → FreesFit t.works ws
     each [] k m = absurd k.0
     each (f ∷ fs) k m = subst (λ (z : Option FreeStep × OpenFrees). FitAfter z ws) m (fit-next f fs u.pool ws k)
+
+-- ---- more places than a step takes
+
+pub more-places : (a b : ℕ) (step : Step) (o : Objects) → a ≤ b → GoesWell a step o → GoesWell b step o
+more-places a b step o l g = let most = g.places in record { busy = g.busy; ready = g.ready; places = omega (arith, l, most) }
+
+pub errand-takes : (errand : Errand) → 1 ≤ errand_places errand
+errand-takes Receive = omega arith
+errand-takes _ = omega arith

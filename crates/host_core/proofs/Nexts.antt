@@ -67,10 +67,10 @@ pub record Told (e : Event) (old : Active) (parts : Parts) (now : Active) (o : O
 
 caller-told : (e : Event) (c : Caller) (parts : Parts) (now : Active) (o : Objects) → IsBetweenSteps (active.Caller c) parts → Tells (Some e) (active.Caller c) parts.objects now o → Told e (active.Caller c) parts now o
 caller-told e c parts now o b t =
-    let n = caller-now now (after_telling (frame_of c)) t.1.0 in
+    let n = caller-now now (after_telling (frame_of c)) t.1 in
     let v = λ (z : CallFrame). let r : View = record { innermost = frame.Call z; below = below_in parts; pool = parts.objects.pool } in r in
     let a : AfterEvent (v (frame_of c)) (v (frame_of n.0)) e = subst (λ (z : CallFrame). AfterEvent (v (frame_of c)) (v z) e) (sym n.2) (each c.stage b.whole t.0) in
-    rw (n.1, t.1.1) (record {
+    rw (n.1, t.2) (record {
       ready = record { whole = a.whole; fit = b.fit; ready = tt; places = tt };
       after = a;
     })
@@ -136,7 +136,7 @@ work-told e (work.Finishing x state) parts order b told =
     let o : Objects = record parts.objects { pool = finish parts.objects.pool x state } in
     let is : StateOf x (state_number state) ≡ e = cc in
     let a = after-event (host_view (active.Requesting (work.Finishing x state)) parts) (host_view (active.Requesting (work.Cleaning x (Finish state))) (with parts o)) (StateOf x (state_number state)) b.whole refl in
-    let m = finished-most state parts.objects.pool x order b.whole.noted.works.1.0 in
+    let m = finished-most state parts.objects.pool x order b.whole.noted.works.1 in
     let room = b.places in
     rw (← is) (record { ready = record { whole = a.whole; fit = b.fit; ready = b.ready; places = omega (arith, m, room) }; after = a })
 work-told e (work.Receiving x) parts order b told = by_test (is_unreceived (note_of parts.objects.pool.requests x))
@@ -160,9 +160,9 @@ work-told e _ parts order b told = cc
 pub told-next : (e : Event) (old : Active) (parts : Parts) (now : Active) (o : Objects) → IsBetweenSteps old parts → Tells (Some e) old parts.objects now o → Told e old parts now o
 told-next e (active.Caller c) parts now o b t = caller-told e c parts now o b t
 told-next e active.Freeing parts now o b t = free-told e parts now o b t
-told-next e (active.Turning f) parts now o b t = rw (t.1.0, t.1.1) (turn-told e f.frame f.question parts b t.0)
+told-next e (active.Turning f) parts now o b t = rw (t.1, t.2) (turn-told e f.frame f.question parts b t.0)
 told-next e (active.Reaching q) parts now o b t = cc
-told-next e (active.Requesting w) parts now o b t = rw (t.1.0, t.1.1.0) (work-told e w parts t.1.1.1 b t.0)
+told-next e (active.Requesting w) parts now o b t = rw (t.1, t.2) (work-told e w parts t.3 b t.0)
 
 -- an event is the next item of the story
 pub next-law : (e : Event) (old : Active) (parts : Parts) (now : Active) (o : Objects) (v w : View) → IsBetweenSteps old parts → speaking_view (host_view old parts) ≡ true → host_view old parts ≡ v → Tells (Some e) old parts.objects now o
@@ -198,10 +198,10 @@ pub record Still (old : Active) (parts : Parts) (now : Active) (o : Objects) : T
 
 caller-still : (c : Caller) (parts : Parts) (now : Active) (o : Objects) → IsBetweenSteps (active.Caller c) parts → Tells None (active.Caller c) parts.objects now o → Still (active.Caller c) parts now o
 caller-still c parts now o b t =
-    let n = caller-now now (after_telling (frame_of c)) t.1.0 in
+    let n = caller-now now (after_telling (frame_of c)) t.1 in
     let k : (frame_of n.0 ≡ frame_of c) × (asked_now (active.Caller c) ≡ Some c.ask) = each c.stage t.0 n.2 in
     let v = λ (z : CallFrame). let r : View = record { innermost = frame.Call z; below = below_in parts; pool = parts.objects.pool } in r in
-    rw (n.1, t.1.1) (record {
+    rw (n.1, t.2) (record {
       ready = record { whole = subst (λ (z : CallFrame). IsConsistent (v z)) (sym k.0) b.whole; fit = b.fit; ready = tt; places = tt };
       same = ap v k.0;
       waits = waits-now (active.Caller c) parts c.ask k.1 b;
@@ -235,6 +235,6 @@ work-loud _ p s told = cc
 pub still-waits : (old : Active) (parts : Parts) (now : Active) (o : Objects) → IsBetweenSteps old parts → speaking_view (host_view old parts) ≡ true → Tells None old parts.objects now o → Still old parts now o
 still-waits (active.Caller c) parts now o b s t = caller-still c parts now o b t
 still-waits active.Freeing parts now o b s t = free-still parts now o b s t
-still-waits (active.Turning f) parts now o b s t = rw (t.1.0, t.1.1) (turn-still f.frame f.question parts b (sym (turn_speaking f.frame parts.objects.pool) ∙ s) t.0)
-still-waits (active.Reaching q) parts now o b s t = rw (t.1.0, t.1.1) (record { ready = b; same = refl; waits = waits-now (active.Reaching q) parts q refl b })
+still-waits (active.Turning f) parts now o b s t = rw (t.1, t.2) (turn-still f.frame f.question parts b (sym (turn_speaking f.frame parts.objects.pool) ∙ s) t.0)
+still-waits (active.Reaching q) parts now o b s t = rw (t.1, t.2) (record { ready = b; same = refl; waits = waits-now (active.Reaching q) parts q refl b })
 still-waits (active.Requesting w) parts now o b s t = absurd (work-loud w parts.objects.pool (sym (work_speaking w parts.objects.pool) ∙ s) t.0)

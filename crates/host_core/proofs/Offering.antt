@@ -46,7 +46,9 @@ use Rattle.host_core.specs.declared.fault.OfferFault.{OfferFault}
 use Rattle.host_core.specs.declared.fault.OfferFault.TheVariants as fault
 use Rattle.host_core.specs.declared.owned_reply.OwnedReply.{OwnedReply}
 use Rattle.host_core.specs.declared.parts.Parts.{Parts}
-use Rattle.host_core.specs.Callers.{staged, open_at, remembers}
+use Rattle.host_core.specs.declared.caller.Caller.{Caller}
+use Rattle.host_core.specs.Callers.{frame_of, staged, open_at, remembers}
+use Rattle.host_core.specs.Stacks.{active_frame}
 use Rattle.host_core.specs.Moves.{report_of, call_of, reported}
 use Rattle.host_core.specs.Promises.{Waits, TakesAnswer, taken_in}
 use Rattle.host_core.specs.Reaches.{outside_given, IsOutside}

@@ -45,7 +45,7 @@ use Rattle.host_core.specs.declared.work.Work.{Work}
 use Rattle.host_core.specs.declared.work.Work.TheVariants as work
 use Rattle.host_core.specs.Callers.{staged, open_at}
 use Rattle.host_core.specs.Requests.{work_speaks}
-use Rattle.host_core.specs.Stacks.{other_view, freeing_view, seen, active_frame, work_frame}
+use Rattle.host_core.specs.Stacks.{standing, other_view, freeing_view, seen, active_frame, work_frame}
 use Rattle.host_core.specs.Turns.{turn_asks, turn_speaks}
 use Rattle.host_core.specs.Hosts.{view_of, speaks, speaking_view, asked_now, IsSettled, PartsReady}
 use Rattle.host_core.proofs.FreeSteps.{speaks-events}
@@ -161,7 +161,7 @@ ready-settled _ o r = tt
 
 module _ (now : Active) (waiting : List Waiting) (o : Objects) where
   pub speaks_caller : (c : Caller) → now ≡ active.Caller c → true ≡ speaking_view (view_of now waiting o)
-  speaks_caller c is = rw is (sym (caller_speaking c _ o.pool))
+  speaks_caller c is = rw is (sym (caller_speaking c (standing o.works (reverse waiting)) o.pool))
 
   pub speaks_frees : now ≡ active.Freeing → is_event o.pool.ring (moves o.works o.pool).0 ≡ speaking_view (view_of now waiting o)
   speaks_frees is = rw is (sym (frees_speaking o.works (reverse waiting) o.pool))
@@ -210,6 +210,6 @@ question_seen active.Freeing ws o r s = each o.works
     each : (works : List FreeFrame) → question_of (freeing_view works ws o.pool) ≡ None
     each [] = refl
     each (f ∷ fs) = free-asks-nothing o.pool.ring (free_step f o.pool)
-question_seen (active.Turning t) ws o r s = turn-question t.frame _ o.pool (sym (turn_speaking t.frame o.pool) ∙ s) ∙ sym r.question
+question_seen (active.Turning t) ws o r s = turn-question t.frame (standing o.works ws) o.pool (sym (turn_speaking t.frame o.pool) ∙ s) ∙ sym r.question
 question_seen (active.Reaching q) ws o r s = refl
-question_seen (active.Requesting w) ws o r s = work-question w _ o.pool (sym (work_speaking w o.pool) ∙ s)
+question_seen (active.Requesting w) ws o r s = work-question w (standing o.works ws) o.pool (sym (work_speaking w o.pool) ∙ s)

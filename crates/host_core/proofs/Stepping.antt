@@ -86,7 +86,7 @@ pub work_answers : (step : Step) (w : Work) (fs : List FreeFrame) (ws : List Wai
 work_answers (Ends (Heard b)) (work.Over reply) fs ws p o s fit works same h =
     let pool : o.pool ≡ p = ap pool_in same in
     worked-answers (reply_of reply) b ws o (subst (λ (l : List FreeFrame). Fits l ws) (sym works) fit) (rw (works, pool) h)
-work_answers (Ends (Heard b)) w fs ws p o s fit works same h = absurd s
+work_answers (Ends (Heard b)) _ fs ws p o s fit works same h = absurd s
 work_answers (Ends a) w fs ws p o s fit works same h = absurd s
 work_answers _ w fs ws p o s fit works same h = tt
 

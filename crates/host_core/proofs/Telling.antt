@@ -57,11 +57,13 @@ pub record Stands (f : CallFrame) (now : Active) (parts : Parts) : Type 0 where
 pub stands_at : (now : Active) (f : CallFrame) (parts : Parts) → active_frame now ≡ frame.Call f → Fits parts.objects.works (reverse parts.waiting.items) → IsConsistent (record { innermost = frame.Call f; below = below_in parts; pool = parts.objects.pool }) → Stands f now parts
 stands_at now f parts e fit h =
     let n = caller-now now f e in
-    rw (n.1, ← n.2) (record {
-      along = stays (host_view (active.Caller n.0) parts) (rw (← n.2) at h);
-      ready = record { whole = rw (← n.2) at h; fit = fit; ready = tt; places = tt };
+    let whole : IsConsistent (host_view (active.Caller n.0) parts) = subst (λ (g : CallFrame). IsConsistent (record { innermost = frame.Call g; below = below_in parts; pool = parts.objects.pool })) (sym n.2) h in
+    let stands : Stands (frame_of n.0) (active.Caller n.0) parts = record {
+      along = stays (host_view (active.Caller n.0) parts) whole;
+      ready = record { whole = whole; fit = fit; ready = tt; places = tt };
       speaks = caller_speaking n.0 (below_in parts) parts.objects.pool;
-    })
+    } in
+    subst (λ (z : Active). Stands f z parts) (sym n.1) (subst (λ (g : CallFrame). Stands g (active.Caller n.0) parts) n.2 stands)
 
 -- where a question is open it is marked where the open frees wait
 pub asked-fit : (now : Active) (parts : Parts) (q : Ask) → asked_now now ≡ Some q → IsBetweenSteps now parts → Fits parts.objects.works (reverse parts.waiting.items)
@@ -104,10 +106,9 @@ calls-outside q parts b =
     each a.first a.others a.are a.answers
   where
     each : (first : Waiting) (others : List Waiting) → reverse parts.waiting.items ≡ first ∷ others → AnswersTo (Turned 0) first parts.objects → CallsOutside parts.waiting.items
-    each (Turning asked) others are answers = record { question = asked; others = reverse others; are = sym (reverse-reverse parts.waiting.items) ∙ ap reverse are ∙ turned others (Turning asked) }
-      where
-        turned : (others : List Waiting) (w : Waiting) → reverse (w ∷ others) ≡ reverse others ++ w ∷ []
-        turned others w = refl
+    each (Turning asked) others are answers =
+        let turned : reverse (reverse others ++ Turning asked ∷ []) ≡ Turning asked ∷ others = pushed (reverse others) (reverse others ++ Turning asked ∷ []) (Turning asked) refl ∙ ap (λ (l : List Waiting). Turning asked ∷ l) (reverse-reverse others) in
+        record { question = asked; others = reverse others; are = sym (reverse-reverse parts.waiting.items) ∙ ap reverse (are ∙ sym turned) ∙ reverse-reverse (reverse others ++ Turning asked ∷ []) }
     each _ others are answers = absurd answers
 
 -- the outside has answered with them, and the call that waits is told them
@@ -116,35 +117,36 @@ pub record Heard (asked : Ask) (i : Input) (old : Parts) (now : Active) (new : P
   pub ready : IsBetweenSteps now new
   pub speaks : speaking_view (host_view now new) ≡ true
 
-pub read-along : (asked q : Ask) (i : Input) (now : Active) (old new : Parts) → is_none (misfit (Some asked) i) ≡ true → IsConsistent (given_view (active.Reaching asked) i old) → Fits old.objects.works (reverse old.waiting.items) → Reads q i now old new → Heard asked i old now new
-read-along asked q i now old new fits h fit r = subst (λ (o : Objects). Heard asked i old now (record { waiting = new.waiting; objects = o })) (sym r.same) there
-  where
-    abbrev after : Parts
-    after = record { waiting = new.waiting; objects = old.objects }
+module _ (asked q : Ask) (i : Input) (now : Active) (old new : Parts) (fits : is_none (misfit (Some asked) i) ≡ true) (h : IsConsistent (given_view (active.Reaching asked) i old)) (fit : Fits old.objects.works (reverse old.waiting.items)) (r : Reads q i now old new) where
+  abbrev after : Parts
+  after = record { waiting = new.waiting; objects = old.objects }
 
-    abbrev told : CallFrame
-    told = Telling (later q (reply.Bytes r.bytes)) (reply.Bytes r.bytes)
+  abbrev told : CallFrame
+  told = Telling (later q (reply.Bytes r.bytes)) (reply.Bytes r.bytes)
 
-    turned : reverse old.waiting.items ≡ Turning q ∷ reverse new.waiting.items
-    turned = pushed new.waiting.items old.waiting.items (Turning q) r.waited
+  turned : reverse old.waiting.items ≡ Turning q ∷ reverse new.waiting.items
+  turned = pushed new.waiting.items old.waiting.items (Turning q) r.waited
 
-    over : outside_step (outside_given asked i) old.objects.pool ≡ Do.Done (answered.Heard (reply.Bytes r.bytes)) old.objects.pool
-    over =
-        ap (λ (z : Input). outside_step (outside_given asked z) old.objects.pool) r.were
-        ∙ read-step asked r.bytes old.objects.pool (no-reason (misfit (Some asked) (input.Got r.bytes)) (ap (λ (z : Input). is_none (misfit (Some asked) z)) (sym r.were) ∙ fits))
+  over : outside_step (outside_given asked i) old.objects.pool ≡ Do.Done (answered.Heard (reply.Bytes r.bytes)) old.objects.pool
+  over =
+      ap (λ (z : Input). outside_step (outside_given asked z) old.objects.pool) r.were
+      ∙ read-step asked r.bytes old.objects.pool (no-reason (misfit (Some asked) (input.Got r.bytes)) (ap (λ (z : Input). is_none (misfit (Some asked) z)) (sym r.were) ∙ fits))
 
-    below : below_in old ≡ frame.Call (call_frame.Turning q) ∷ below_in after
-    below = ap (standing old.objects.works) turned ∙ (below-waiter old.objects.works (Turning q) (reverse new.waiting.items) tt).0
+  below : below_in old ≡ frame.Call (call_frame.Turning q) ∷ below_in after
+  below = ap (standing old.objects.works) turned ∙ (below-waiter old.objects.works (Turning q) (reverse new.waiting.items) tt).0
 
-    leads : (next_of (given_view (active.Reaching asked) i old)).1 ≡ record { innermost = frame.Call told; below = below_in after; pool = old.objects.pool }
-    leads =
-        ap (λ (m : Move Frame Answer Pool Item). (moved m (below_in old)).1) over
-        ∙ ap (λ (l : List Frame). (moved (Do.Done (answered.Heard (reply.Bytes r.bytes)) old.objects.pool) l).1) below
+  leads : (next_of (given_view (active.Reaching asked) i old)).1 ≡ record { innermost = frame.Call told; below = below_in after; pool = old.objects.pool }
+  leads =
+      ap (λ (m : Move Frame Answer Pool Item). (moved m (below_in old)).1) over
+      ∙ ap (λ (l : List Frame). (moved (Do.Done (answered.Heard (reply.Bytes r.bytes)) old.objects.pool) l).1) below
 
-    there : Heard asked i old now after
-    there =
-        let on = (onward (given_view (active.Reaching asked) i old) _ h (ap speaks over) leads).along in
-        let tells : active_frame now ≡ frame.Call told = r.tells ∙ ap (λ (z : Ask). frame.Call (Telling z (reply.Bytes r.bytes))) (kept q (reply.Bytes r.bytes)) in
-        let fit' : Fits old.objects.works (reverse new.waiting.items) = (below-waiter old.objects.works (Turning q) (reverse new.waiting.items) tt).2 (subst (Fits old.objects.works) turned fit) in
-        let s = stands_at now told after tells fit' on.whole in
-        record { along = along-then _ _ _ on s.along; ready = s.ready; speaks = s.speaks }
+  there : Heard asked i old now after
+  there =
+      let on = (onward (given_view (active.Reaching asked) i old) _ h (ap speaks over) leads).along in
+      let tells : active_frame now ≡ frame.Call told = r.tells ∙ ap (λ (z : Ask). frame.Call (Telling z (reply.Bytes r.bytes))) (kept q (reply.Bytes r.bytes)) in
+      let fit' : Fits old.objects.works (reverse new.waiting.items) = (below-waiter old.objects.works (Turning q) (reverse new.waiting.items) tt).2 (subst (Fits old.objects.works) turned fit) in
+      let s = stands_at now told after tells fit' on.whole in
+      record { along = along-then _ _ _ on s.along; ready = s.ready; speaks = s.speaks }
+
+  pub read_along : Heard asked i old now new
+  read_along = subst (λ (o : Objects). Heard asked i old now (record { waiting = new.waiting; objects = o })) (sym r.same) there

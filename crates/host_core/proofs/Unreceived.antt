@@ -27,7 +27,7 @@ use Rattle.object_pool.specs.Requests.{cleaning, notifying, count_unreceived}
 
 -- ---- one note in its place
 
-one : Note → ℕ
+abbrev one : Note → ℕ
 one n = if is_unreceived (Some n) then 1 else 0
 
 first-of : (a b : Bool) → T (a && b) → T a
@@ -51,7 +51,7 @@ before-first k x (e ∷ es) l b = by_test (nat_lt x e.0)
     (λ t. by_test (nat_eq x e.0) (λ u. absurd (rw (t, u) at b)) (λ u. absurd (rw (t, u) at b)))
 
 counted : (e : ℕ × Note) (es : Notes) → count_unreceived (e ∷ es) ≡ one e.1 + count_unreceived es
-counted e es = by_test (is_unreceived (Some e.1)) (λ t. rw t refl) (λ t. rw t refl)
+counted e es = by_test (is_unreceived (Some e.1)) (λ t. rw t (omega arith)) (λ t. rw t (omega arith))
 
 -- a note that is found is changed, and the others stay
 swapped : (k : ℕ) (v w : Note) (es : Notes) → AreInOrder es → find nat_cmp k es ≡ Some v → count_unreceived (put nat_cmp k w es) + one v ≡ count_unreceived es + one w

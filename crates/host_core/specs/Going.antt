@@ -114,8 +114,12 @@ abbrev pub IsOngoing : Step → Type 0
 IsOngoing (Ends a) = ⊥
 IsOngoing step = Unit {0}
 
+abbrev pub IsOver : Work → Type 0
+IsOver (Over reply) = Unit {0}
+IsOver w = ⊥
+
 abbrev pub IsWorkStep : Work → Step → Type 0
-IsWorkStep (Over reply) (Ends (Heard r)) = Unit {0}
+IsWorkStep w (Ends (Heard r)) = IsOver w
 IsWorkStep w step = IsOngoing step
 
 -- there are places for what is at work or comes to be, besides those of requests that are still to be received

@@ -63,7 +63,6 @@ abbrev pub ReadyFor : Motion → Bool → Type 0
 ReadyFor (Replies b) ready = Unit {0}
 ReadyFor (Announces notice b) ready = Unit {0}
 ReadyFor (Asks outside) ready = IsOutside outside
-ReadyFor Turns ready = Unit {0}
 ReadyFor m ready = ready ≡ true
 
 -- the owner that a report is about; it is the one call whose reply takes memory

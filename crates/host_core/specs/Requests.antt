@@ -76,6 +76,12 @@ abbrev pub StaysReady : Work → Bool → Bool → Type 0
 StaysReady (work.Notifying x errand) before after = Unit {0}
 StaysReady w before after = after ≡ before
 
+-- it begins a free, or to take an interest away
+abbrev pub IsFreeing : Motion → Type 0
+IsFreeing (Frees x) = Unit {0}
+IsFreeing (Unlinks o x) = Unit {0}
+IsFreeing m = ⊥
+
 -- what a request was made with is freed as a call frees it
 abbrev pub IsReleaseBy : Plan → Option Motion → Type 0
 IsReleaseBy (FreesOf x) m = m ≡ Some (Frees x)

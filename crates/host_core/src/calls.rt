@@ -1,5 +1,5 @@
 //! The steps of a caller: a call is done, or its reply is there.
-ghost use Rattle.std.specs.Prelude.{◌≡◌, None, true};
+ghost use Rattle.std.specs.Prelude.{◌≡◌, Bool, None, true};
 ghost use Rattle.tree_specs.specs.Calls.Refusals.{tests, refusals};
 ghost use Rattle.tree_specs.specs.Calls.Passed.{AllPassed};
 ghost use Rattle.tree_specs.specs.Calls.Plans.{plan, places as places_of, warns as worth_a_warning, replies, failure_reply, progress_reply, fails};
@@ -90,7 +90,8 @@ fn number(n: u64) -> Motion
 
 /// How a request has failed: 0 where it is done, and else the number of its state and that of its failure.
 fn failure(note: Option<Note>) -> Motion
-    ensures { (q : AskData) (p : PoolData) → move_of q result p ≡ plan_step q (replies (failure_reply note)) p }
+    ensures moved { (q : AskData) (p : PoolData) → move_of q result p ≡ plan_step q (replies (failure_reply note)) p }
+    ensures goes { (ready : Bool) → ReadyFor result ready }
 {
     let Some(note) = note else {
         return number(0);
@@ -103,7 +104,8 @@ fn failure(note: Option<Note>) -> Motion
 
 /// 1 where a request is in progress, and else 0.
 fn progress(note: Option<Note>) -> Motion
-    ensures { (q : AskData) (p : PoolData) → move_of q result p ≡ plan_step q (replies (progress_reply note)) p }
+    ensures moved { (q : AskData) (p : PoolData) → move_of q result p ≡ plan_step q (replies (progress_reply note)) p }
+    ensures goes { (ready : Bool) → ReadyFor result ready }
 {
     let is_in_progress = note.is_some_and(|note| note.state == State::InProgress);
     number(u64::from(is_in_progress))

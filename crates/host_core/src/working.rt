@@ -1,12 +1,13 @@
 //! The steps of a request's work: its state is told, its cleanup runs, and whoever waits for it is notified.
-ghost use Rattle.std.specs.Prelude.{◌≡◌, ◌≤◌, true};
+ghost use Rattle.std.specs.Prelude.{◌≡◌, ◌≤◌, true, Some};
 ghost use Rattle.tree_specs.specs.declared.event.Event.TheVariants.{State as StateOf};
 ghost use Rattle.tree_specs.specs.Events.Requests.{state_number};
 ghost use Rattle.tree_specs.specs.Tree.Pool.{Pool as PoolData};
 ghost use Rattle.tree_specs.specs.declared.call.Call.TheVariants.{Free as FreeOf};
 ghost use Rattle.tree_specs.specs.declared.frame.Errand.TheVariants.{Receive};
 ghost use Rattle.tree_specs.specs.declared.frame.RequestFrame.TheVariants.{Cancelling, Cleaning, Cleaned, Notifying};
-ghost use Rattle.tree_specs.specs.Calls.Plans.{planned};
+ghost use Rattle.tree_specs.specs.Calls.Plans.{Plan as PlanData, planned};
+ghost use Rattle.tree_specs.specs.declared.frame.Errand.{Errand as ErrandData};
 ghost use Rattle.tree_specs.specs.Machine.Table.{request_step, release_object, over_step};
 ghost use Rattle.object_pool.specs.Objects.{Objects as ObjectsData, MayBeginFree};
 ghost use Rattle.object_pool.specs.Requests.{count_unreceived};
@@ -15,7 +16,7 @@ ghost use Rattle.host_core.specs.Stacks.{work_frame};
 ghost use Rattle.host_core.specs.Steps.{step_of};
 ghost use Rattle.host_core.specs.Hosts.{errand_places, work_places};
 ghost use Rattle.host_core.specs.Going.{works_as, GoesWell, IsOngoing, IsWorkStep};
-ghost use Rattle.host_core.specs.Requests.{MayWork, ErrandReady, WorkReady, work_tells, work_told, pool_told};
+ghost use Rattle.host_core.specs.Requests.{MayWork, ErrandReady, WorkReady, IsFreeing, IsReleaseBy, work_tells, work_told, pool_told};
 
 use crate::active::Active;
 use crate::answer::Answer;
@@ -87,6 +88,22 @@ fn clean(x: Obj, errand: Errand, objects: &mut ObjectPool) -> Step
     }
 }
 
+/// An object begins to be freed, or an interest in it to be taken away, while the work of a request waits.
+fn begins(motion: Motion) -> Step
+    requires { IsFreeing motion }
+    ensures step { (plan : PlanData) (errand : ErrandData) (p : PoolData) → IsReleaseBy plan (Some motion) → step_of result p ≡ release_object plan errand p }
+    ensures goes { (o : ObjectsData) → MayBeginFree o → GoesWell 3 result o }
+    ensures ongoing { IsOngoing result }
+{
+    match motion {
+        Motion::Frees(x) => Step::Frees(x, Waiting::Work(Work::Releasing { child: x })),
+        Motion::Unlinks(owner, x) => {
+            Step::Unlinks(owner, x, Waiting::Work(Work::Releasing { child: x }))
+        }
+        _ => unreachable!(),
+    }
+}
+
 /// What a request was made with is freed as a call frees it, and what comes of this isn't told.
 fn let_go(child: Obj, objects: &ObjectPool) -> Step
     requires ready { MayBeginFree objects.now }
@@ -94,11 +111,9 @@ fn let_go(child: Obj, objects: &ObjectPool) -> Step
     ensures goes { GoesWell 3 result objects.now }
     ensures ongoing { IsOngoing result }
 {
-    let waiting = Waiting::Work(Work::Releasing { child });
     match release(child, objects) {
-        Some(Motion::Frees(x)) => Step::Frees(x, waiting),
-        Some(Motion::Unlinks(owner, x)) => Step::Unlinks(owner, x, waiting),
-        Some(_) | None => over(Errand::Receive),
+        Some(motion) => begins(motion),
+        None => over(Errand::Receive),
     }
 }
 

@@ -117,6 +117,8 @@ fn turn(ask: Ask) -> Step
     ensures step { (p : PoolData) → step_of result p ≡ move_of ask Motion.Turns p }
     ensures busy { IsBusy result }
     ensures places { step_places result ≤ 3 }
+    ensures ready { (o : ObjectsData) → o.ready ≡ true → StepReady result o }
+    ensures answers { (ws : List WaitingData) (o : ObjectsData) → StepAnswers result ws o }
 {
     match ask {
         Ask::Quiet => {
@@ -132,6 +134,8 @@ fn replies(ask: Ask, reply: ShortReply) -> Step
     ensures step { (p : PoolData) → step_of result p ≡ move_of ask (Motion.Replies reply) p }
     ensures busy { IsBusy result }
     ensures places { step_places result ≤ 3 }
+    ensures ready { (o : ObjectsData) → StepReady result o }
+    ensures answers { (ws : List WaitingData) (o : ObjectsData) → StepAnswers result ws o }
 {
     Step::Goes(Active::Caller(Caller::after(ask, reply)))
 }

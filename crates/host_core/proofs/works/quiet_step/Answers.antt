@@ -1,7 +1,7 @@
-use Rattle.host_core.specs.declared.active.Active.{Active}
 use Rattle.host_core.proofs.StepsSilently.{onward-along}
 use Rattle.host_core.proofs.Stepping.{GoesOn, turn_may, turn_ready, turn_goes, work_may, work_wants, work_goes}
 use Rattle.host_core.proofs.works.quiet_step.Goals as goal
+use Rattle.host_core.proofs.works.quiet_step.Goals.{After-turn_step-step, After-work_step-step}
 
 pub turn_step-step-requires-clause-may : goal.turn_step-step-requires-clause-may
 turn_step-step-requires-clause-may c = turn_may c.args.now c.in-Turning.turn c.args.parts.now c.in-Turning.is c.requires.ready c.requires.quiet
@@ -9,7 +9,7 @@ turn_step-step-requires-clause-may c = turn_may c.args.now c.in-Turning.turn c.a
 pub turn_step-step-requires-clause-ready : goal.turn_step-step-requires-clause-ready
 turn_step-step-requires-clause-ready c = turn_ready c.args.now c.in-Turning.turn c.args.parts.now c.in-Turning.is c.requires.ready c.requires.quiet
 
-turned : (c : goal.After-turn_step-step) → GoesOn c.args.now c.turn_step-step.result c.args.parts.now c.turn_step-step.new.objects
+turned : (c : After-turn_step-step) → GoesOn c.args.now c.turn_step-step.result c.args.parts.now c.turn_step-step.new.objects
 turned c =
     let t = c.turn_step-step in
     turn_goes c.args.now c.in-Turning.turn c.args.parts.now c.in-Turning.is c.requires.ready c.requires.quiet t.result t.new.objects t.ensures.step t.ensures.goes t.ensures.ends t.ensures.rest t.ensures.requests
@@ -35,22 +35,22 @@ work_step-step-requires-clause-may c = work_may c.args.now c.in-Requesting.work 
 pub work_step-step-requires-clause-ready : goal.work_step-step-requires-clause-ready
 work_step-step-requires-clause-ready c = work_wants c.args.now c.in-Requesting.work c.args.parts.now c.in-Requesting.is c.requires.ready c.requires.quiet
 
-worked : (c : goal.After-work_step-step) → GoesOn c.args.now c.work_step-step.result c.args.parts.now c.work_step-step.new.objects
+worked : (c : After-work_step-step) → GoesOn c.args.now c.work_step-step.result c.args.parts.now c.work_step-step.new.objects
 worked c =
     let w = c.work_step-step in
     work_goes c.args.now c.in-Requesting.work c.args.parts.now c.in-Requesting.is c.requires.ready c.requires.quiet w.result w.new.objects w.ensures.step w.ensures.goes w.ensures.ends w.ensures.rest w.ensures.requests
 
-pub go_on-in-Requesting-requires-clause-whole : goal.go_on-in-Requesting-requires-clause-whole
-go_on-in-Requesting-requires-clause-whole c = (worked c).onward.along.whole
+pub go_on-requires-in-Requesting-clause-whole : goal.go_on-requires-in-Requesting-clause-whole
+go_on-requires-in-Requesting-clause-whole c = (worked c).onward.along.whole
 
-pub go_on-in-Requesting-requires-clause-fit : goal.go_on-in-Requesting-requires-clause-fit
-go_on-in-Requesting-requires-clause-fit c = (worked c).fit
+pub go_on-requires-in-Requesting-clause-fit : goal.go_on-requires-in-Requesting-clause-fit
+go_on-requires-in-Requesting-clause-fit c = (worked c).fit
 
-pub go_on-in-Requesting-requires-clause-answers : goal.go_on-in-Requesting-requires-clause-answers
-go_on-in-Requesting-requires-clause-answers c = (worked c).answers
+pub go_on-requires-in-Requesting-clause-answers : goal.go_on-requires-in-Requesting-clause-answers
+go_on-requires-in-Requesting-clause-answers c = (worked c).answers
 
-pub go_on-in-Requesting-requires-clause-places : goal.go_on-in-Requesting-requires-clause-places
-go_on-in-Requesting-requires-clause-places c = (worked c).places
+pub go_on-requires-in-Requesting-clause-places : goal.go_on-requires-in-Requesting-clause-places
+go_on-requires-in-Requesting-clause-places c = (worked c).places
 
 pub returns-in-Requesting-clause-onward : goal.returns-in-Requesting-clause-onward
 returns-in-Requesting-clause-onward c = onward-along _ _ _ (worked c).onward c.go_on-in-Requesting.ensures.along

@@ -3,7 +3,7 @@ use Rattle.tree_specs.specs.Texts.Schedule.{misfit}
 use Rattle.tree_specs.specs.Machine.View.{View, strays_of}
 use Rattle.host_core.specs.Promises.{taken_in}
 use Rattle.host_core.proofs.Offering.{report-caller, offered, offered-report, unasked, out-of-memory, fitting-asked, question-view, takes-answer}
-use Rattle.host_core.proofs.Telling.{stands_at, asked-fit, asked-ready, bytes-asked, calls-outside, read-along}
+use Rattle.host_core.proofs.Telling.{stands_at, asked-fit, asked-ready, bytes-asked, calls-outside, read_along}
 use Rattle.host_core.proofs.StepsSilently.{along-then}
 use Rattle.host_core.proofs.Straying.{not-taken, no-some, taken-there, taken-strays}
 use Rattle.host_core.proofs.host.Host.offer.Goals as goal
