@@ -74,7 +74,7 @@ caller_acting now c i parts is fits h =
 
 -- ---- a routine has returned
 
-module _ (q : Ask) (v : ℕ) (old : Parts) (whole : IsConsistent (other_view (frame.Call (Returning v)) old.objects.works (reverse old.waiting.items) old.objects.pool)) where
+module _ (v : ℕ) (old : Parts) (whole : IsConsistent (other_view (frame.Call (Returning v)) old.objects.works (reverse old.waiting.items) old.objects.pool)) where
   pub return_onward : StepsSilently (other_view (frame.Call (Returning v)) old.objects.works (reverse old.waiting.items) old.objects.pool) (ended_view (Returned v) old)
   return_onward = step_onward (frame.Call (Returning v)) (Ends (Returned v)) old old.objects whole refl refl refl
 

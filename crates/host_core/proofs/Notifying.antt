@@ -1,5 +1,5 @@
 -- The steps of a request's work, by what it is to do.
-use Rattle.std.proofs.Common.{◌≡◌, Option, Some, None, true, false, refl, sym, ◌∙◌, ap}
+use Rattle.std.proofs.Common.{◌≡◌, ◌⊎◌, inl, inr, Option, Some, None, true, false, refl, sym, ◌∙◌, ap}
 use Rattle.step_machine.specs.Machine.{Move as Do}
 use Rattle.tree_specs.specs.declared.frame.Errand.{Errand}
 use Rattle.tree_specs.specs.declared.handler.Handler.{Handler}
@@ -31,9 +31,16 @@ notified None x errand p = refl
 notified (Some n) x errand p = by_test n.deferred (λ t. rw t refl) (λ t. rw t (called-back n.callback x errand p))
 
 -- a request whose callback is deferred comes soon, and its errand is over
-pub posted : (x : Obj) (errand : Errand) (n : Notify) (old new : Objects) → n ≡ notify_of (note_of old.pool.requests x) → n ≡ Post → new ≡ notifying x n old → over_step errand new.pool ≡ notifying_step x errand (note_of old.pool.requests x) old.pool
+posted : (x : Obj) (errand : Errand) (n : Notify) (old new : Objects) → n ≡ notify_of (note_of old.pool.requests x) → n ≡ Post → new ≡ notifying x n old → over_step errand new.pool ≡ notifying_step x errand (note_of old.pool.requests x) old.pool
 posted x errand n old new r is left =
     let left' : new ≡ notifying x Post old = rw is at left in
+    rw left' (sym (notified (note_of old.pool.requests x) x errand old.pool ∙ ap (λ (z : Notify). notify_step z x errand old.pool) (sym r ∙ is)))
+
+-- and so it is where nobody waits for it
+pub notified_over : (x : Obj) (errand : Errand) (n : Notify) (old new : Objects) → n ≡ notify_of (note_of old.pool.requests x) → (n ≡ Post) ⊎ (n ≡ Nothing) → new ≡ notifying x n old → over_step errand new.pool ≡ notifying_step x errand (note_of old.pool.requests x) old.pool
+notified_over x errand n old new r (inl is) left = posted x errand n old new r is left
+notified_over x errand n old new r (inr is) left =
+    let left' : new ≡ old = rw is at left in
     rw left' (sym (notified (note_of old.pool.requests x) x errand old.pool ∙ ap (λ (z : Notify). notify_step z x errand old.pool) (sym r ∙ is)))
 
 -- all but the objects and the memory for a call stays

@@ -226,6 +226,10 @@ pub record Offered (now : Active) (parts : Parts) (i : Input) (q : Ask) (w : Vie
   pub law : (is : List Input) → rest_of (host_view now parts) (i ∷ is) ≡ Asked q ∷ rest_of w is
   pub strays : (is : List Input) → strays_of (host_view now parts) (i ∷ is) ≡ strays_of w is
 
+-- the works of a host whose caller, which was asked this, is told a reply that owns memory
+abbrev pub told_view : Ask → OwnedReply → Parts → View
+told_view q r parts = at (frame.Call (Telling (remembers q r.copy) r.reply)) (below_in parts) parts.objects.pool
+
 -- only a caller asks for a call, or for what a routine does
 acting-caller : (now : Active) (i : Input) (objects : Objects) → PartsReady now objects → is_none (misfit (asked_now now) i) ≡ true → IsActing i → (q : Ask) × (caller_asked now ≡ Some q)
 acting-caller (active.Caller c) i objects r e k = let f = fitting (open_at c.stage c.ask) i e in (f.0, f.1)
@@ -270,7 +274,7 @@ module _ (now : Active) (parts : Parts) (i : Input) (ready : IsBetweenSteps now 
 
   -- the report that it wants is told at once
   pub offered-report : (q : Ask) (o : Owner) (r : OwnedReply) → caller_asked now ≡ Some q → reported (call_of i) ≡ Some o → IsReport i r o parts.objects.pool
-      → Offered now parts i q (at (frame.Call (Telling (remembers q r.copy) r.reply)) (below_in parts) parts.objects.pool)
+      → Offered now parts i q (told_view q r parts)
   offered-report q o r e wants is =
       let f = offered-caller q e in
       let fit = fits-at q f.open_before in

@@ -1,5 +1,5 @@
 -- A reply that owns memory: a report, or bytes that were read, is told to the caller whose call it was.
-use Rattle.std.proofs.Common.{◌≡◌, ℕ, List, [], ◌∷◌, ◌++◌, reverse, Option, Some, None, true, false, refl, sym, ◌∙◌, ap, subst}
+use Rattle.std.proofs.Common.{◌≡◌, ℕ, ◌≤◌, List, [], ◌∷◌, ◌++◌, reverse, Option, Some, None, true, false, refl, sym, ◌∙◌, ap, subst}
 use Rattle.std.specs.Prelude.{is_none}
 use Rattle.std.proofs.lemmas.List.{reverse-reverse}
 use Rattle.step_machine.specs.Machine.{Move}
@@ -22,7 +22,12 @@ use Rattle.tree_specs.specs.declared.question.Input.TheVariants as input
 use Rattle.tree_specs.specs.declared.reply.Reply.TheVariants as reply
 use Rattle.tree_specs.specs.Invariants.Consistent.{IsConsistent}
 use Rattle.tree_specs.specs.Machine.Table.{outside_step}
-use Rattle.tree_specs.specs.Machine.View.{View}
+use Rattle.tree_specs.specs.Machine.View.{View, begin}
+use Rattle.tree_specs.specs.Tree.Pool.{empty}
+use Rattle.tree_specs.specs.declared.question.Ask.TheVariants.{Quiet}
+use Rattle.tree_specs.proofs.Rules.StoryLaws.{begin-whole}
+use Rattle.host_core.specs.declared.caller.Stage.TheVariants as stage
+use Rattle.host_core.specs.Promises.{Waits}
 use Rattle.tree_specs.specs.Rules.Answers.{later}
 use Rattle.tree_specs.specs.Texts.Schedule.{misfit}
 use Rattle.object_pool.specs.Objects.{Objects}
@@ -38,7 +43,7 @@ use Rattle.host_core.specs.Reaches.{is_bytes, IsOutside, outside_given}
 use Rattle.host_core.specs.Stacks.{active_frame, Fits, standing, other_view}
 use Rattle.host_core.specs.Turns.{turn_asks}
 use Rattle.host_core.specs.Hosts.{moved, next_of, speaks, FrameReady, host_view, below_in, given_view, speaking_view, asked_now, PartsReady, IsBetweenSteps, TellsSameStory}
-use Rattle.host_core.proofs.StepsSilently.{stays, along-then, onward}
+use Rattle.host_core.proofs.StepsSilently.{stays, along-then, onward, begin_waits}
 use Rattle.host_core.proofs.Answering.{caller-acts, turn-acts-not}
 use Rattle.host_core.proofs.Ending.{turned-call}
 use Rattle.host_core.proofs.Going.{below-waiter, pushed}
@@ -150,3 +155,17 @@ module _ (asked q : Ask) (i : Input) (now : Active) (old new : Parts) (fits : is
 
   pub read_along : Heard asked i old now new
   read_along = subst (λ (o : Objects). Heard asked i old now (record { waiting = new.waiting; objects = o })) (sym r.same) there
+
+-- ---- a host begins
+
+abbrev first_caller : Active
+first_caller = active.Caller (record { ask = Quiet; stage = stage.Asking })
+
+begun : (first : ℕ) (parts : Parts) → parts.waiting.items ≡ [] → parts.objects ≡ record { pool = empty first; works = []; ready = false } → host_view first_caller parts ≡ begin first
+begun first parts none objects = rw (none, objects) refl
+
+pub begins_ready : (first : ℕ) (parts : Parts) → 1 ≤ first → parts.waiting.items ≡ [] → parts.objects ≡ record { pool = empty first; works = []; ready = false } → IsBetweenSteps first_caller parts × (speaking_view (host_view first_caller parts) ≡ true)
+begins_ready first parts h none objects = (record { whole = subst IsConsistent (sym (begun first parts none objects)) (begin-whole first h); fit = rw (none, objects) refl; ready = tt; places = tt }, refl)
+
+pub begins_waits : (first : ℕ) (parts : Parts) → 1 ≤ first → parts.waiting.items ≡ [] → parts.objects ≡ record { pool = empty first; works = []; ready = false } → Waits (host_view first_caller parts)
+begins_waits first parts h none objects = subst Waits (sym (begun first parts none objects)) (begin_waits first h)

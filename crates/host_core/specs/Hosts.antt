@@ -1,5 +1,5 @@
 -- A host by its parts, and what they keep.
-use Rattle.std.specs.Prelude.{◌≡◌, ℕ, ◌+◌, ◌*◌, ◌≤◌, ◌<◌, Bool, true, false, List, [], ◌∷◌, length, reverse, vec_capacity, Option, Some, None, if◌then◌else◌}
+use Rattle.std.specs.Prelude.{◌≡◌, ℕ, ◌+◌, ◌*◌, ◌≤◌, ◌<◌, Bool, true, false, List, [], ◌∷◌, length, reverse, vec_capacity, is_none, Option, Some, None, if◌then◌else◌}
 use Rattle.step_machine.specs.Machine.{Move}
 use Rattle.step_machine.specs.Machine.{Move as Do}
 use Rattle.tree_specs.specs.declared.event.Event.{Event}
@@ -46,10 +46,11 @@ use Rattle.host_core.specs.declared.waiting.Waiting.{Waiting}
 use Rattle.host_core.specs.declared.work.Work.{Work}
 use Rattle.host_core.specs.declared.work.Work.TheVariants as work
 use Rattle.host_core.specs.Callers.{frame_of, told_by, after_telling, open_at}
-use Rattle.host_core.specs.Moves.{report_of}
-use Rattle.host_core.specs.Reaches.{IsOutside, outside_given}
+use Rattle.tree_specs.specs.Texts.Schedule.{misfit}
+use Rattle.host_core.specs.Moves.{report_of, call_of, reported}
+use Rattle.host_core.specs.Reaches.{IsOutside, is_bytes, outside_given}
 use Rattle.host_core.specs.Requests.{work_speaks, work_tells, work_told, pool_told, WorkReady}
-use Rattle.host_core.specs.Stacks.{standing, active_frame, freeing_view, other_view, seen, AllFit}
+use Rattle.host_core.specs.Stacks.{standing, active_frame, freeing_view, other_view, seen, Fits, AllFit}
 use Rattle.host_core.specs.Turns.{turn_asks, turn_given, turn_speaks, turn_tells, frame_fired}
 
 abbrev pub view_of : Active → List Waiting → Objects → View
@@ -226,6 +227,16 @@ pub record HasRoom (parts : Parts) : Type 0 where
   pub ready : parts.objects.ready ≡ true
   pub order : AreInOrder parts.objects.pool.requests
   pub places : length parts.waiting.items + 2 * count_unreceived parts.objects.pool.requests + 3 ≤ vec_capacity parts.waiting
+
+-- this is an answer to what is asked, and takes no memory of its own
+pub record MayTake (now : Active) (i : Input) (parts : Parts) : Type 0 where
+  pub fits : is_none (misfit (asked_now now) i) ≡ true
+  pub no_bytes : is_bytes i ≡ false
+  pub no_report : reported (call_of i) ≡ None
+  pub ready : PartsReady now parts.objects
+  pub fit : Fits parts.objects.works (reverse parts.waiting.items)
+  pub whole : IsConsistent (given_view now i parts)
+  pub room : HasRoom parts
 
 -- the reply that a report of this owner has, whoever asks for it
 abbrev pub IsReplyOf : Owner → Reply → Pool → Type 0

@@ -21,7 +21,6 @@ use crate::works::{answer_on, settle};
 use object_pool::ObjectPool;
 use std::alloc::Global;
 use std::marker::Model;
-use std::mem;
 use tree_specs::{Ask, Event, Input, Kind, Memory, Obj, Owner, Want};
 
 /// Takes the memory for all that comes up to the next question: each request that wasn't received may want two places, and what
@@ -93,7 +92,6 @@ impl Host {
     ghost use Rattle.tree_specs.specs.Machine.View.{rest_of};
 
     /// A host with no objects, whose first one gets the number `first`. It waits for a call.
-    #[tactic(auto, using(crate::proofs::StepsSilently::begin_waits))]
     pub fn new(alloc: Global, first: u64) -> Result<Host, Memory>
         requires { 1 ≤ first }
         ensures begins { IfOk result (λ host. host ≡ begin first) }
@@ -220,8 +218,7 @@ impl Host {
             return Ok(());
         }
         make_room(waiting, objects)?;
-        let present = mem::replace(&mut self.active, Active::Freeing);
-        self.active = answer_on(present, input, &mut self.parts);
+        answer_on(&mut self.active, input, &mut self.parts);
         settle(&mut self.active, &mut self.parts);
         Ok(())
     }

@@ -15,7 +15,7 @@ ghost use Rattle.host_core.specs.Moves.{call_of, report_of, reported};
 ghost use Rattle.host_core.specs.Turns.{turn_asks, turn_given};
 ghost use Rattle.host_core.specs.declared.waiting.Waiting.{Waiting as WaitingData};
 ghost use Rattle.std.specs.Prelude.{List, None};
-ghost use Rattle.host_core.specs.Hosts.{host_view, given_view, asked_now, speaking_view, PartsReady, HasRoom, IsActing, called_view, IsBetweenSteps, TellsSameStory, StepsSilently};
+ghost use Rattle.host_core.specs.Hosts.{host_view, given_view, asked_now, speaking_view, PartsReady, HasRoom, IsActing, MayTake, called_view, IsBetweenSteps, TellsSameStory, StepsSilently};
 use crate::active::Active;
 use crate::answer::Answer;
 use crate::caller::{Caller, Stage};
@@ -209,15 +209,9 @@ fn turn_given(frame: TurnFrame, input: &Input, objects: &ObjectPool) -> TurnFram
     }
 }
 
-/// Who was asked goes on with the answer, which takes no memory of its own. Gives what is at work then.
-pub fn answer_on(now: Active, input: Input, parts: &mut Parts) -> Active
-    requires fits { is_none (misfit (asked_now now) input) ≡ true }
-    requires no_bytes { is_bytes input ≡ false }
-    requires no_report { reported (call_of input) ≡ None }
-    requires ready { PartsReady now parts.old.objects }
-    requires fit { Fits parts.old.objects.works (reverse parts.old.waiting.items) }
-    requires whole { IsConsistent (given_view now input parts.old) }
-    requires room { HasRoom parts.old }
+/// What goes on with the answer to what it has asked.
+fn answered(now: Active, input: Input, parts: &mut Parts) -> Active
+    requires { MayTake now input parts.old }
     ensures along { TellsSameStory (given_view now input parts.old) (host_view result parts.new) }
     ensures ready { IsBetweenSteps result parts.new }
 {
@@ -232,6 +226,16 @@ pub fn answer_on(now: Active, input: Input, parts: &mut Parts) -> Active
         }
         _other => unreachable!(),
     }
+}
+
+/// Who was asked goes on with the answer, which takes no memory of its own.
+pub fn answer_on(now: &mut Active, input: Input, parts: &mut Parts)
+    requires { MayTake now.old input parts.old }
+    ensures along { TellsSameStory (given_view now.old input parts.old) (host_view now.new parts.new) }
+    ensures ready { IsBetweenSteps now.new parts.new }
+{
+    let present = mem::replace(now, Active::Freeing);
+    *now = answered(present, input, parts);
 }
 
 /// What comes next of the open frees where this tells no event.

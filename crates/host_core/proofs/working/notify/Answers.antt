@@ -1,7 +1,7 @@
 use Rattle.std.proofs.Common.{◌≡◌, ◌≤◌, sym, ◌∙◌, ap, subst, arith}
 use Rattle.object_pool.specs.Objects.{Objects}
 use Rattle.object_pool.specs.Requests.{count_unreceived}
-use Rattle.host_core.proofs.Notifying.{posted, notifying-rest}
+use Rattle.host_core.proofs.Notifying.{notified_over, notifying-rest}
 use Rattle.host_core.proofs.Unreceived.{notifying_many}
 use Rattle.host_core.proofs.working.notify.Goals as goal
 
@@ -10,7 +10,7 @@ returns-in-Post c =
     let t = c.to_notify in
     let many = notifying_many c.args.x t.result c.args.objects.now c.requires.order in
     record {
-      step = c.over.ensures.step t.new.self.pool ∙ posted c.args.x c.args.errand t.result c.args.objects.now t.new.self t.ensures.result c.in-Post.is t.ensures.pool;
+      step = c.over.ensures.step t.new.self.pool ∙ notified_over c.args.x c.args.errand t.result c.args.objects.now t.new.self t.ensures.result c.in-Post.is t.ensures.pool;
       goes = c.over.ensures.goes t.new.self;
       ongoing = c.over.ensures.ongoing;
       rest = subst (λ (o : Objects). o ≡ record c.args.objects.now { pool = o.pool; ready = o.ready }) (sym t.ensures.pool) (notifying-rest c.args.x t.result c.args.objects.now);

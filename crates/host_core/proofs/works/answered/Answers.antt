@@ -1,10 +1,6 @@
-use Rattle.std.proofs.Common.{sym, ◌∙◌, ap, subst}
-use Rattle.tree_specs.specs.Invariants.Consistent.{IsConsistent}
-use Rattle.host_core.specs.declared.active.Active.{Active}
-use Rattle.host_core.specs.Hosts.{given_view, host_view, TellsSameStory}
 use Rattle.host_core.proofs.StepsSilently.{along-then}
-use Rattle.host_core.proofs.Given.{caller_acting, given_fits, given_turn, heard_short, heard_onward, heard_fit, heard_answers, heard_places}
-use Rattle.host_core.proofs.works.answer_on.Goals as goal
+use Rattle.host_core.proofs.Given.{caller_acting, given_fits, heard_short, heard_onward, heard_fit, heard_answers, heard_places}
+use Rattle.host_core.proofs.works.answered.Goals as goal
 
 pub caller_on-requires-clause-acts : goal.caller_on-requires-clause-acts
 caller_on-requires-clause-acts c = caller_acting c.args.now c.in-Caller.caller c.args.input c.args.parts.now c.in-Caller.is c.requires.fits c.requires.whole
@@ -30,3 +26,9 @@ end-requires-clause-fit c =
 pub end-requires-clause-places : goal.end-requires-clause-places
 end-requires-clause-places c =
     heard_places c.args.now c.in-Reaching._question c.args.input c.args.parts.now c.in-Reaching.is c.requires.fits c.requires.ready c.requires.no_bytes c.heard-reply.result c.heard-reply.new.objects c.heard-reply.ensures.reply c.heard-reply.ensures.pool c.requires.whole c.requires.room
+
+pub returns-in-Reaching-clause-along : goal.returns-in-Reaching-clause-along
+returns-in-Reaching-clause-along c =
+    along-then _ _ _
+    (heard_onward c.args.now c.in-Reaching._question c.args.input c.args.parts.now c.in-Reaching.is c.requires.fits c.requires.ready c.requires.no_bytes c.heard-reply.result c.heard-reply.new.objects c.heard-reply.ensures.reply c.heard-reply.ensures.pool c.requires.whole).along
+    c.end.ensures.along
