@@ -18,5 +18,6 @@ pub mod Given
 pub mod Offering
 pub mod Straying
 pub mod Telling
+pub mod Taking
 pub mod Nexts
 pub mod Unreceived

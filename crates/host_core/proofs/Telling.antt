@@ -27,7 +27,6 @@ use Rattle.tree_specs.specs.Tree.Pool.{empty}
 use Rattle.tree_specs.specs.declared.question.Ask.TheVariants.{Quiet}
 use Rattle.tree_specs.proofs.Rules.StoryLaws.{begin-whole}
 use Rattle.host_core.specs.declared.caller.Stage.TheVariants as stage
-use Rattle.host_core.specs.Promises.{Waits}
 use Rattle.tree_specs.specs.Rules.Answers.{later}
 use Rattle.tree_specs.specs.Texts.Schedule.{misfit}
 use Rattle.object_pool.specs.Objects.{Objects}
@@ -43,7 +42,7 @@ use Rattle.host_core.specs.Reaches.{is_bytes, IsOutside, outside_given}
 use Rattle.host_core.specs.Stacks.{active_frame, Fits, standing, other_view}
 use Rattle.host_core.specs.Turns.{turn_asks}
 use Rattle.host_core.specs.Hosts.{moved, next_of, speaks, FrameReady, host_view, below_in, given_view, speaking_view, asked_now, PartsReady, IsBetweenSteps, TellsSameStory}
-use Rattle.host_core.proofs.StepsSilently.{stays, along-then, onward, begin_waits}
+use Rattle.host_core.proofs.StepsSilently.{stays, along-then, onward}
 use Rattle.host_core.proofs.Answering.{caller-acts, turn-acts-not}
 use Rattle.host_core.proofs.Ending.{turned-call}
 use Rattle.host_core.proofs.Going.{below-waiter, pushed}
@@ -166,6 +165,3 @@ begun first parts none objects = rw (none, objects) refl
 
 pub begins_ready : (first : ℕ) (parts : Parts) → 1 ≤ first → parts.waiting.items ≡ [] → parts.objects ≡ record { pool = empty first; works = []; ready = false } → IsBetweenSteps first_caller parts × (speaking_view (host_view first_caller parts) ≡ true)
 begins_ready first parts h none objects = (record { whole = subst IsConsistent (sym (begun first parts none objects)) (begin-whole first h); fit = rw (none, objects) refl; ready = tt; places = tt }, refl)
-
-pub begins_waits : (first : ℕ) (parts : Parts) → 1 ≤ first → parts.waiting.items ≡ [] → parts.objects ≡ record { pool = empty first; works = []; ready = false } → Waits (host_view first_caller parts)
-begins_waits first parts h none objects = subst Waits (sym (begun first parts none objects)) (begin_waits first h)
