@@ -1,12 +1,10 @@
 -- Who is given which answer, and what it leads to.
-use Rattle.std.proofs.Common.{◌≡◌, ℕ, Bool, true, false, List, [], ◌∷◌, Option, Some, None, refl, sym, ◌∙◌, ap}
+use Rattle.std.proofs.Common.{◌≡◌, true, false, List, [], ◌∷◌, Some, refl}
 use Rattle.std.specs.Prelude.{is_none}
 use Rattle.tree_specs.specs.declared.call.Call.{Call}
-use Rattle.tree_specs.specs.declared.wants.Want.{Want}
 use Rattle.tree_specs.specs.declared.question.Ask.{Ask}
 use Rattle.tree_specs.specs.declared.question.Ask.TheVariants as ask
 use Rattle.tree_specs.specs.declared.question.Act.{Act}
-use Rattle.tree_specs.specs.declared.question.Act.TheVariants as act
 use Rattle.tree_specs.specs.declared.question.Input.{Input}
 use Rattle.tree_specs.specs.declared.question.Input.TheVariants as input
 use Rattle.tree_specs.specs.declared.frame.Frame.{Frame}
@@ -14,16 +12,11 @@ use Rattle.tree_specs.specs.declared.frame.Frame.TheVariants as frame
 use Rattle.tree_specs.specs.declared.frame.TurnFrame.{TurnFrame}
 use Rattle.tree_specs.specs.declared.frame.TurnFrame.TheVariants.{Timing, Polling}
 use Rattle.tree_specs.specs.declared.frame.CallFrame.TheVariants.{Asking}
-use Rattle.tree_specs.specs.Machine.Profiles.{Calls, Waits as WaitsFor, ATurn, ARequest, AReceived, AServed, ARun, AHandler, ARoutine, profile}
+use Rattle.tree_specs.specs.Machine.Profiles.{Calls, Waits as WaitsFor, ARun, AHandler, ARoutine, profile}
 use Rattle.tree_specs.specs.Texts.Schedule.{misfit}
-use Rattle.tree_specs.specs.Tree.Pool.{Pool}
-use Rattle.tree_specs.specs.Invariants.Consistent.{IsStacked, IsQuiet, IsOfRoutine, Serves, IsConsistent}
-use Rattle.object_pool.specs.Objects.{Objects}
-use Rattle.host_core.specs.declared.active.Active.{Active}
-use Rattle.host_core.specs.declared.active.Active.TheVariants as active
+use Rattle.tree_specs.specs.Invariants.Consistent.{IsStacked, IsQuiet, IsOfRoutine, Serves}
 use Rattle.host_core.specs.declared.caller.Stage.{Stage}
 use Rattle.host_core.specs.declared.caller.Stage.TheVariants as stage
-use Rattle.host_core.specs.declared.parts.Parts.{Parts}
 use Rattle.host_core.specs.Callers.{open_at}
 use Rattle.host_core.specs.Reaches.{IsOutside, is_bytes, IsShortAnswer}
 use Rattle.host_core.specs.Turns.{turn_asks}

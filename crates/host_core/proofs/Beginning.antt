@@ -1,5 +1,5 @@
 -- What a step begins stands on what waits for it.
-use Rattle.std.proofs.Common.{◌≡◌, ℕ, ◌+◌, ◌*◌, ◌≤◌, List, [], ◌∷◌, ◌++◌, length, length-append, reverse, true, refl, sym, ◌∙◌, ap, subst, arith}
+use Rattle.std.proofs.Common.{◌≡◌, ◌+◌, List, [], ◌∷◌, ◌++◌, length, length-append, reverse, sym, ◌∙◌, ap, subst, arith}
 use Rattle.std.specs.Prelude.{vec_capacity}
 use Rattle.tree_specs.specs.declared.frame.Frame.{Frame}
 use Rattle.tree_specs.specs.declared.frame.Frame.TheVariants as frame
@@ -8,7 +8,7 @@ use Rattle.tree_specs.specs.declared.object.Obj.{Obj}
 use Rattle.tree_specs.specs.Machine.View.{View}
 use Rattle.tree_specs.specs.Invariants.Sound.{claim}
 use Rattle.tree_specs.specs.Invariants.Consistent.{IsConsistent}
-use Rattle.destructors.specs.Frees.{OpenFrees, speaking, Begins}
+use Rattle.destructors.specs.Frees.{OpenFrees, Begins}
 use Rattle.destructors.specs.Works.{IsAtWork, AreAwaiting}
 use Rattle.destructors.proofs.Hosting.{AwaitsRun, awaiting-runs}
 use Rattle.object_pool.specs.Objects.{Objects, frees_in}
@@ -18,7 +18,7 @@ use Rattle.host_core.specs.declared.active.Active.TheVariants as active
 use Rattle.host_core.specs.declared.parts.Parts.{Parts}
 use Rattle.host_core.specs.declared.step.Step.{Step}
 use Rattle.host_core.specs.declared.waiting.Waiting.{Waiting}
-use Rattle.host_core.specs.Stacks.{waiting_frame, active_frame, standing, behind, below_free, Fits, FreesFit, other_view, freeing_view}
+use Rattle.host_core.specs.Stacks.{waiting_frame, active_frame, Fits, FreesFit, other_view, freeing_view}
 use Rattle.host_core.specs.Steps.{IsOther, IsWaiter}
 use Rattle.host_core.specs.Hosts.{host_view, below_in, places, PartsReady, TellsSameStory, IsBetweenSteps}
 use Rattle.host_core.specs.Going.{stepped_view, HasPlacesFor}

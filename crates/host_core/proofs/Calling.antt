@@ -1,5 +1,5 @@
 -- What a call begins, and what it may take of the memory for it.
-use Rattle.std.proofs.Common.{◌≡◌, ℕ, ◌+◌, ◌*◌, ◌≤◌, List, Option, Some, None, false, refl, sym, ◌∙◌, ap, arith}
+use Rattle.std.proofs.Common.{◌≡◌, ◌+◌, ◌*◌, ◌≤◌, Option, Some, None, false, refl, sym, ◌∙◌, ap, arith}
 use Rattle.step_machine.specs.Machine.{Move as Do}
 use Rattle.tree_specs.specs.declared.call.Call.{Call}
 use Rattle.tree_specs.specs.declared.frame.CallFrame.{CallFrame}
@@ -7,18 +7,16 @@ use Rattle.tree_specs.specs.declared.frame.Frame.TheVariants as frame
 use Rattle.tree_specs.specs.declared.notice.Notice.{Notice}
 use Rattle.tree_specs.specs.declared.question.Ask.{Ask}
 use Rattle.tree_specs.specs.declared.question.Ask.TheVariants.{Quiet}
-use Rattle.tree_specs.specs.declared.reply.Reply.{Reply}
-use Rattle.tree_specs.specs.Calls.Plans.{Change, Plan, changed_by}
+use Rattle.tree_specs.specs.Calls.Plans.{Plan, changed_by}
 use Rattle.tree_specs.specs.Calls.Plans.Plan.{Does, Frees as FreesOf, Unlinks as UnlinksOf, Empties as EmptiesOf, Asks as AsksOf, Turns as TurnsOf, Works as WorksOf}
-use Rattle.tree_specs.specs.Machine.Table.{plan_step, notice_step, turning_step}
+use Rattle.tree_specs.specs.Machine.Table.{plan_step}
 use Rattle.tree_specs.specs.Tree.Pool.{Pool}
-use Rattle.tree_specs.proofs.Calls.Changes.{added}
 use Rattle.tree_specs.proofs.Calls.Plans.{May}
 use Rattle.requests.specs.Register.{AreInOrder}
 use Rattle.object_pool.specs.Requests.{count_unreceived}
 use Rattle.host_core.specs.declared.active.Active.TheVariants as active
 use Rattle.host_core.specs.declared.step.Step.{Step}
-use Rattle.host_core.specs.declared.step.Step.TheVariants.{Goes, Calls, Frees, Unlinks, Empties, Ends}
+use Rattle.host_core.specs.declared.step.Step.TheVariants.{Goes}
 use Rattle.host_core.specs.Steps.{step_of, IsBusy}
 use Rattle.host_core.specs.Going.{step_places}
 use Rattle.host_core.specs.Hosts.{speaks}

@@ -1,8 +1,7 @@
 -- A step of the innermost free by the parts of a host.
-use Rattle.std.proofs.Common.{◌≡◌, ℕ, ◌+◌, ◌*◌, ◌≤◌, List, [], ◌∷◌, ◌++◌, length, length-append, reverse, Option, Some, None, true, false, refl, sym, ◌∙◌, ap, subst, inr, arith}
+use Rattle.std.proofs.Common.{◌≡◌, ℕ, ◌+◌, ◌≤◌, List, [], ◌∷◌, ◌++◌, length, length-append, reverse, Option, Some, None, false, refl, sym, ◌∙◌, ap, subst, inr, arith}
 use Rattle.std.specs.Prelude.{slice_get, vec_capacity}
 use Rattle.step_machine.specs.Machine.{Move as Do}
-use Rattle.tree_specs.specs.declared.frame.Answer.TheVariants as answered
 use Rattle.tree_specs.specs.declared.frame.CallFrame.TheVariants.{Asking}
 use Rattle.tree_specs.specs.declared.frame.Frame.TheVariants as frame
 use Rattle.tree_specs.specs.declared.frame.FreeFrame.{FreeFrame}
@@ -14,7 +13,6 @@ use Rattle.tree_specs.specs.declared.object.Obj.{Obj}
 use Rattle.tree_specs.specs.declared.question.Ask.TheVariants.{Routine}
 use Rattle.tree_specs.specs.Rules.Answers.{hook_moment}
 use Rattle.tree_specs.specs.Tree.Pool.{Pool, row_of}
-use Rattle.tree_specs.specs.Machine.View.{View}
 use Rattle.tree_specs.specs.Invariants.Sound.{HasHook}
 use Rattle.tree_specs.specs.Invariants.Consistent.{IsConsistent}
 use Rattle.destructors.specs.Engine.{IsReceiving}
@@ -40,10 +38,9 @@ use Rattle.host_core.specs.declared.waiting.Waiting.TheVariants.{Freeing}
 use Rattle.host_core.specs.declared.work.Work.TheVariants as work
 use Rattle.host_core.specs.Callers.{frame_of}
 use Rattle.host_core.specs.Stacks.{standing, Fits, FreesFit, other_view, freeing_view}
-use Rattle.host_core.specs.Hosts.{host_view, moved, speaking_view, StepsSilently, IsBetweenSteps}
+use Rattle.host_core.specs.Hosts.{host_view, speaking_view, StepsSilently, IsBetweenSteps}
 use Rattle.host_core.specs.Going.{Answers, ended_view}
 use Rattle.host_core.proofs.FreeSteps.{step-news, step-asks, step-prepares, step-ends, ends-there}
-use Rattle.host_core.proofs.StepsSilently.{onward-along}
 use Rattle.host_core.proofs.Going.{pushed, below-begun, FitAfter, fit-next, fits-silently}
 use Rattle.host_core.proofs.Ending.{freed-answers}
 

@@ -1,5 +1,5 @@
 -- The steps of the innermost free, among the works of a host.
-use Rattle.std.proofs.Common.{◌≡◌, ℕ, ◌<◌, List, [], ◌∷◌, ◌++◌, Option, Some, None, is_some, true, false, refl, sym, ◌∙◌, ap, subst}
+use Rattle.std.proofs.Common.{◌≡◌, ℕ, List, [], ◌∷◌, Option, Some, None, is_some, true, false, refl, sym, ◌∙◌, ap, subst}
 use Rattle.std.specs.Prelude.{slice_get}
 use Rattle.step_machine.specs.Machine.{Move as Do}
 use Rattle.tree_specs.specs.declared.event.Event.{Event}
@@ -21,11 +21,11 @@ use Rattle.tree_specs.specs.Rules.Answers.{hook_moment}
 use Rattle.tree_specs.specs.Invariants.Consistent.{IsConsistent}
 use Rattle.tree_specs.specs.Invariants.Sound.{HasHook}
 use Rattle.tree_specs.specs.Machine.FreeTable.{FreeMove, free_step, free_resume}
-use Rattle.tree_specs.specs.Machine.Table.{announced, event_of, lifted, run_for, freeing_resume}
+use Rattle.tree_specs.specs.Machine.Table.{announced, event_of, lifted, run_for}
 use Rattle.tree_specs.specs.Machine.View.{View}
 use Rattle.tree_specs.proofs.Tree.Numbered.{by_test}
 use Rattle.destructors.specs.Engine.{IsReceiving}
-use Rattle.destructors.specs.Frees.{OpenFrees, awaits_run, answered, moves, is_event, speaking, speaks as speaks_free, Silently, Still, On, Steps}
+use Rattle.destructors.specs.Frees.{OpenFrees, awaits_run, answered, moves, is_event, speaking, Silently, Still, On, Steps}
 use Rattle.destructors.specs.Frees.{moved as free_moved}
 use Rattle.destructors.specs.Runs.{IsNews, AsksFor}
 use Rattle.destructors.proofs.FreeMoves.{IsMoveOf, is_move}
@@ -33,7 +33,7 @@ use Rattle.destructors.proofs.Hosting.{resumed-free}
 use Rattle.destructors.proofs.Settling.{run-speaks, still, asks-run, asks-waiting}
 use Rattle.host_core.specs.declared.waiting.Waiting.{Waiting}
 use Rattle.host_core.specs.declared.waiting.Waiting.TheVariants.{Freeing}
-use Rattle.host_core.specs.Stacks.{ahead, behind, standing, below_free, free_view, other_view, no_frame, freeing_view}
+use Rattle.host_core.specs.Stacks.{standing, below_free, free_view, other_view, no_frame, freeing_view}
 use Rattle.host_core.specs.Hosts.{moved, next_of, speaks, speaking_view, TellsSameStory, StepsSilently}
 use Rattle.host_core.proofs.StepsSilently.{onward, stays, along-then, onward-along, AfterEvent, after-event, event-along}
 

@@ -1,20 +1,15 @@
 -- What is given to whoever has asked, and what it leads to, by the parts of a host.
-use Rattle.std.proofs.Common.{◌≡◌, ℕ, ◌+◌, ◌*◌, ◌≤◌, Bool, List, length, reverse, Option, Some, None, true, false, refl, sym, ◌∙◌, ap, subst, arith}
-use Rattle.std.specs.Prelude.{is_none, vec_capacity}
-use Rattle.step_machine.specs.Machine.{Move as Do}
+use Rattle.std.proofs.Common.{◌≡◌, ℕ, ◌≤◌, List, reverse, Option, Some, true, false, refl, sym, ◌∙◌, ap, subst, arith}
+use Rattle.std.specs.Prelude.{is_none}
 use Rattle.tree_specs.specs.declared.call.Call.{Call}
 use Rattle.tree_specs.specs.declared.frame.CallFrame.TheVariants.{Doing, Returning}
 use Rattle.tree_specs.specs.declared.frame.Frame.TheVariants as frame
 use Rattle.tree_specs.specs.declared.frame.FreeFrame.{FreeFrame}
-use Rattle.tree_specs.specs.declared.frame.TurnFrame.{TurnFrame}
-use Rattle.tree_specs.specs.declared.frame.TurnFrame.TheVariants.{Timing, Polling}
 use Rattle.tree_specs.specs.declared.question.Ask.{Ask}
 use Rattle.tree_specs.specs.declared.question.Input.{Input}
 use Rattle.tree_specs.specs.declared.question.Input.TheVariants as input
 use Rattle.tree_specs.specs.Calls.Plans.{planned}
 use Rattle.tree_specs.specs.Calls.Refusals.{refusals}
-use Rattle.tree_specs.specs.Events.Coming.{looks_again}
-use Rattle.tree_specs.specs.Events.Rotation.{Ready, first_ready}
 use Rattle.tree_specs.specs.Invariants.Consistent.{IsConsistent}
 use Rattle.tree_specs.specs.Machine.Table.{call_step, outside_step}
 use Rattle.tree_specs.specs.Texts.Schedule.{misfit}
@@ -37,15 +32,14 @@ use Rattle.host_core.specs.Moves.{move_of}
 use Rattle.host_core.specs.Reaches.{is_bytes, IsShortAnswer, short_answer, pool_heard, outside_given}
 use Rattle.host_core.specs.Stacks.{Fits, other_view}
 use Rattle.host_core.specs.Steps.{step_of, IsBusy}
-use Rattle.host_core.specs.Turns.{turn_asks, turn_given, frame_looked}
-use Rattle.host_core.specs.Hosts.{host_view, given_view, called_view, speaks, asked_now, turn_places, FrameReady, PartsReady, HasRoom, IsActing, IsBetweenSteps, TellsSameStory, StepsSilently}
+use Rattle.host_core.specs.Turns.{turn_asks}
+use Rattle.host_core.specs.Hosts.{given_view, called_view, speaks, asked_now, PartsReady, HasRoom, IsActing, StepsSilently}
 use Rattle.host_core.proofs.Allowed.{refs-go}
 use Rattle.host_core.proofs.Answering.{caller-acts, short-answer}
 use Rattle.host_core.proofs.Calling.{call-silent, call-room}
 use Rattle.host_core.proofs.Ending.{returned-answers, heard-answers}
 use Rattle.host_core.proofs.Reaching.{heard-step, no-reason}
 use Rattle.host_core.proofs.Stepping.{step_onward}
-use Rattle.host_core.proofs.StepsSilently.{stays}
 
 -- ---- a call
 
@@ -83,32 +77,12 @@ module _ (v : ℕ) (old : Parts) (whole : IsConsistent (other_view (frame.Call (
 
 -- ---- a turn was told the time, or what is ready
 
-given-ready : (f : TurnFrame) (i : Input) (p : Pool) (o : Objects) → is_none (misfit (turn_asks f) i) ≡ true → o.ready ≡ true → FrameReady (turn_given f i p) o × (turn_places (turn_given f i p) ≤ 3)
-given-ready (Timing again) (input.Clock now) p o fits ready = (ready, omega arith)
-given-ready (Polling limit) (input.Ready wants) p o fits ready = each (looks_again p wants) (first_ready p.ring wants)
-  where
-    each : (b : Bool) (r : Option Ready) → FrameReady (frame_looked b r) o × (turn_places (frame_looked b r) ≤ 3)
-    each true r = (tt, omega arith)
-    each false None = (tt, omega arith)
-    each false (Some r) = (tt, omega arith)
-given-ready _ _ p o fits ready = cc
-
 module _ (now : Active) (t : Turn) (i : Input) (old : Parts) (is : now ≡ active.Turning t) (fits : is_none (misfit (asked_now now) i) ≡ true) (ready : PartsReady now old.objects) where
   pub given_fits : is_none (misfit (turn_asks t.frame) i) ≡ true
   given_fits =
       let ready' : PartsReady (active.Turning t) old.objects = subst (λ (z : Active). PartsReady z old.objects) is ready in
       let fits' : is_none (misfit t.question i) ≡ true = subst (λ (z : Active). is_none (misfit (asked_now z) i) ≡ true) is fits in
       ap (λ (z : Option Ask). is_none (misfit z i)) (sym ready'.question) ∙ fits'
-
-  -- what it is then
-  pub given_turn : (f : TurnFrame) → f ≡ turn_given t.frame i old.objects.pool → IsConsistent (given_view now i old) → Fits old.objects.works (reverse old.waiting.items) → HasRoom old
-      → TellsSameStory (given_view now i old) (host_view (active.Turning (record { frame = f; question = turn_asks f })) old) × IsBetweenSteps (active.Turning (record { frame = f; question = turn_asks f })) old
-  given_turn f e h fit room =
-      let h' : IsConsistent (given_view (active.Turning t) i old) = subst (λ (z : Active). IsConsistent (given_view z i old)) is h in
-      let r = given-ready t.frame i old.objects.pool old.objects given_fits room.ready in
-      let few = r.1 in
-      let places = room.places in
-      rw (is, e) (stays (given_view (active.Turning t) i old) h', record { whole = h'; fit = fit; ready = record { question = refl; frame = r.0 }; places = omega (arith, few, places) })
 
 -- ---- the outside has answered
 

@@ -1,17 +1,14 @@
 -- What a step leads to, by the parts of a host.
-use Rattle.std.proofs.Common.{◌≡◌, ℕ, ◌+◌, ◌*◌, ◌≤◌, List, [], ◌∷◌, ◌++◌, reverse, length, Option, Some, None, true, false, refl, sym, ◌∙◌, ap, subst, arith}
+use Rattle.std.proofs.Common.{◌≡◌, ℕ, ◌+◌, ◌*◌, ◌≤◌, List, [], ◌∷◌, ◌++◌, reverse, Option, Some, None, refl, ◌∙◌, ap, subst, arith}
 use Rattle.std.proofs.lemmas.List.{reverse-append}
 use Rattle.step_machine.specs.Machine.{Move as Do}
-use Rattle.tree_specs.specs.declared.frame.Frame.{Frame}
-use Rattle.tree_specs.specs.declared.frame.Frame.TheVariants as frame
 use Rattle.tree_specs.specs.declared.frame.FreeFrame.{FreeFrame}
 use Rattle.tree_specs.specs.declared.free_step.FreeReply.{FreeReply}
 use Rattle.tree_specs.specs.declared.free_step.FreeStep.{FreeStep}
 use Rattle.tree_specs.specs.declared.free_step.FreeStep.TheVariants.{Ask as AskOf, Prepare, Done}
 use Rattle.tree_specs.specs.Events.Requests.{Notes}
 use Rattle.tree_specs.specs.Tree.Pool.{Pool}
-use Rattle.tree_specs.specs.Machine.FreeTable.{FreeMove, free_step, free_resume}
-use Rattle.tree_specs.specs.Machine.View.{View}
+use Rattle.tree_specs.specs.Machine.FreeTable.{FreeMove, free_step}
 use Rattle.tree_specs.proofs.Tree.Numbered.{by_test}
 use Rattle.destructors.specs.Frees.{OpenFrees, awaits_run, answered, moves, Silently, Still, On}
 use Rattle.destructors.specs.Frees.{moved as free_moved}
@@ -23,7 +20,7 @@ use Rattle.host_core.specs.declared.active.Active.{Active}
 use Rattle.host_core.specs.declared.active.Active.TheVariants as active
 use Rattle.host_core.specs.declared.waiting.Waiting.{Waiting}
 use Rattle.host_core.specs.declared.waiting.Waiting.TheVariants.{Freeing, Awaiting, Turning, Requesting, Turn, Work}
-use Rattle.host_core.specs.Stacks.{waiting_frame, active_frame, ahead, behind, standing, below_free, Fits, FreesFit, AllFit, free_view, other_view, freeing_view, seen}
+use Rattle.host_core.specs.Stacks.{waiting_frame, active_frame, ahead, behind, standing, below_free, Fits, FreesFit, AllFit, other_view, seen}
 use Rattle.host_core.specs.Steps.{IsOther, IsWaiter}
 use Rattle.host_core.specs.declared.step.Step.{Step}
 use Rattle.tree_specs.specs.declared.frame.Errand.{Errand}

@@ -1,5 +1,5 @@
 -- The open frees of a host, as whoever calls the engine has to know them.
-use Rattle.std.proofs.Common.{◌≡◌, ℕ, ◌+◌, ◌≤◌, List, [], ◌∷◌, ◌++◌, Option, Some, None, true, false, refl, sym, ◌∙◌, ap, subst, arith}
+use Rattle.std.proofs.Common.{◌≡◌, ℕ, ◌+◌, List, [], ◌∷◌, ◌++◌, true, refl, sym, ◌∙◌, ap, arith}
 use Rattle.tree_specs.specs.declared.frame.CallFrame.TheVariants.{Awaiting as AwaitingCall, Returning}
 use Rattle.tree_specs.specs.declared.frame.Frame.{Frame}
 use Rattle.tree_specs.specs.declared.frame.Frame.TheVariants as frame
@@ -7,7 +7,6 @@ use Rattle.tree_specs.specs.declared.frame.FreeFrame.{FreeFrame}
 use Rattle.tree_specs.specs.declared.frame.FreeFrame.TheVariants.{Hooked, Preparing, Ending}
 use Rattle.tree_specs.specs.declared.frame.RequestFrame.TheVariants.{Releasing, Over}
 use Rattle.tree_specs.specs.declared.free_step.FreeReply.TheVariants.{Ok}
-use Rattle.tree_specs.specs.declared.moment.Moment.{Moment}
 use Rattle.tree_specs.specs.declared.object.Obj.{Obj}
 use Rattle.tree_specs.specs.declared.question.Ask.TheVariants.{Routine}
 use Rattle.tree_specs.specs.declared.reply.Reply.{Reply}
@@ -15,9 +14,7 @@ use Rattle.tree_specs.specs.Rules.Answers.{hook_moment}
 use Rattle.tree_specs.specs.Tree.Pool.{Pool}
 use Rattle.tree_specs.specs.Words.Objects.{same}
 use Rattle.tree_specs.specs.Machine.Profiles.{Phase, InRun}
-use Rattle.tree_specs.specs.Machine.View.{View}
-use Rattle.tree_specs.specs.Invariants.Sound.{AllWait, claim, claims, claim_if, footing}
-use Rattle.tree_specs.specs.Invariants.Sound.Footing.{OnCall}
+use Rattle.tree_specs.specs.Invariants.Sound.{claim, claims, claim_if}
 use Rattle.tree_specs.specs.Invariants.Noted.{AllCalm, ClaimNothing}
 use Rattle.tree_specs.specs.Invariants.Consistent.{IsFree, IsStacked, IsConsistent}
 use Rattle.tree_specs.proofs.Tree.Numbered.{same-equal}
@@ -30,7 +27,7 @@ use Rattle.destructors.specs.Works.{frees_among, AreTurnsLast, IsHosted, AreAwai
 use Rattle.destructors.proofs.Hosting.{over-awaits, begun-on}
 use Rattle.host_core.specs.declared.waiting.Waiting.{Waiting}
 use Rattle.host_core.specs.declared.waiting.Waiting.TheVariants.{Freeing, Awaiting, Turning, Requesting, Turn, Work}
-use Rattle.host_core.specs.Stacks.{waiting_frame, free_frames, ahead, behind, standing, below_free, Fits, free_view, other_view}
+use Rattle.host_core.specs.Stacks.{waiting_frame, free_frames, ahead, behind, standing, Fits}
 use Rattle.host_core.specs.Steps.{IsWaiter}
 
 -- ---- the frees among the works
@@ -53,9 +50,6 @@ frees-standing fs (Turning q ∷ ws) e = frees-standing fs ws e
 frees-standing fs (Requesting q ∷ ws) e = frees-standing fs ws e
 frees-standing fs (Turn f ∷ ws) e = frees-standing fs ws e
 frees-standing fs (Work w ∷ ws) e = frees-standing fs ws e
-
-pub frees-below : (fs : List FreeFrame) (ws : List Waiting) → Fits (behind fs) ws → frees_among (below_free fs ws) ≡ fs
-frees-below fs ws e = frees-front (ahead fs) (standing (behind fs) ws) ∙ ap (λ (z : List FreeFrame). ahead fs ++ z) (frees-standing (behind fs) ws e) ∙ both-parts fs
 
 pub skip-waiter : (w : Waiting) (gs : List Frame) → IsWaiter w → frees_among (waiting_frame w ∷ gs) ≡ frees_among gs
 skip-waiter Freeing gs n = absurd n

@@ -1,19 +1,16 @@
 -- What comes next of a host that has settled.
-use Rattle.std.proofs.Common.{◌≡◌, ℕ, ◌+◌, ◌*◌, ◌≤◌, Option, List, [], ◌∷◌, reverse, Some, None, is_some, true, false, refl, sym, ◌∙◌, ap, subst, inl, arith}
+use Rattle.std.proofs.Common.{◌≡◌, Option, List, [], ◌∷◌, reverse, Some, None, is_some, true, false, refl, sym, ◌∙◌, ap, subst, arith}
 use Rattle.tree_specs.specs.declared.event.Event.{Event}
 use Rattle.tree_specs.specs.declared.event.Event.TheVariants.{Replied, Fired, State as StateOf}
 use Rattle.tree_specs.specs.declared.frame.CallFrame.{CallFrame}
 use Rattle.tree_specs.specs.declared.frame.CallFrame.TheVariants.{Asking, Announcing, Telling}
 use Rattle.tree_specs.specs.declared.frame.Errand.TheVariants.{Finish, Receive}
-use Rattle.tree_specs.specs.declared.frame.Frame.{Frame}
 use Rattle.tree_specs.specs.declared.frame.Frame.TheVariants as frame
 use Rattle.tree_specs.specs.declared.frame.FreeFrame.{FreeFrame}
-use Rattle.tree_specs.specs.declared.frame.RequestFrame.TheVariants as request
 use Rattle.tree_specs.specs.declared.frame.TurnFrame.{TurnFrame}
 use Rattle.tree_specs.specs.declared.frame.TurnFrame.TheVariants.{Timing, Polling, Firing, Handling}
 use Rattle.tree_specs.specs.declared.free_step.FreeStep.{FreeStep}
 use Rattle.tree_specs.specs.declared.free_step.FreeStep.TheVariants.{Ask, Prepare, Done}
-use Rattle.tree_specs.specs.declared.object.Obj.{Obj}
 use Rattle.tree_specs.specs.declared.question.Ask.{Ask as Question}
 use Rattle.tree_specs.specs.declared.question.Ask.TheVariants.{Clock, Wait}
 use Rattle.tree_specs.specs.declared.request.State.TheVariants.{Received}
@@ -22,27 +19,24 @@ use Rattle.tree_specs.specs.Events.Requests.{note_of, is_unreceived, state_numbe
 use Rattle.tree_specs.specs.Rules.Pieces.{notice_event}
 use Rattle.tree_specs.specs.Tree.Pool.{Pool, finish, receive}
 use Rattle.tree_specs.specs.Machine.Table.{event_of}
-use Rattle.tree_specs.specs.Machine.View.{View, question_of}
+use Rattle.tree_specs.specs.Machine.View.{View}
 use Rattle.tree_specs.specs.Invariants.Consistent.{IsConsistent}
 use Rattle.tree_specs.proofs.Tree.Numbered.{by_test}
-use Rattle.destructors.specs.Frees.{OpenFrees, is_event, Steps}
-use Rattle.destructors.specs.Works.{GoesOn as FreesGoOn}
+use Rattle.destructors.specs.Frees.{is_event, Steps}
 use Rattle.destructors.specs.Runs.{IsNews}
-use Rattle.object_pool.specs.Objects.{Objects, frees_in, LeavesRest}
-use Rattle.object_pool.specs.Requests.{count_unreceived}
+use Rattle.object_pool.specs.Objects.{Objects, frees_in}
 use Rattle.host_core.specs.declared.active.Active.{Active}
 use Rattle.host_core.specs.declared.active.Active.TheVariants as active
 use Rattle.host_core.specs.declared.caller.Caller.{Caller}
 use Rattle.host_core.specs.declared.caller.Stage.{Stage}
 use Rattle.host_core.specs.declared.caller.Stage.TheVariants as stage
 use Rattle.host_core.specs.declared.parts.Parts.{Parts}
-use Rattle.host_core.specs.declared.turn.Turn.{Turn}
 use Rattle.host_core.specs.declared.waiting.Waiting.{Waiting}
 use Rattle.host_core.specs.declared.work.Work.{Work}
 use Rattle.host_core.specs.declared.work.Work.TheVariants as work
 use Rattle.host_core.specs.Callers.{frame_of, staged, told_by, after_telling, open_at}
 use Rattle.host_core.specs.Promises.{Waits, NextLaw}
-use Rattle.host_core.specs.Stacks.{active_frame, work_frame, Fits, FreesFit, freeing_view, other_view}
+use Rattle.host_core.specs.Stacks.{FreesFit, freeing_view}
 use Rattle.host_core.specs.Turns.{turn_asks, turn_tells, turn_speaks, frame_fired}
 use Rattle.host_core.specs.Requests.{work_speaks, work_tells, work_told, pool_told}
 use Rattle.requests.specs.Register.{AreInOrder}

@@ -1,6 +1,6 @@
 -- What an answer to the open question leads to.
-use Rattle.std.proofs.Common.{Result, Err, IsErrAnd, ◌≡◌, ℕ, ◌+◌, ◌*◌, ◌≤◌, Bool, List, [], ◌∷◌, reverse, Option, Some, None, true, false, refl, sym, ◌∙◌, ap, subst}
-use Rattle.std.specs.Prelude.{is_none, is_some, IsSome}
+use Rattle.std.proofs.Common.{Result, Err, IsErrAnd, ◌≡◌, List, ◌∷◌, reverse, Option, Some, None, true, false, refl, sym, ◌∙◌, ap, subst}
+use Rattle.std.specs.Prelude.{is_none, is_some}
 use Rattle.std.specs.Option.{option_map}
 use Rattle.step_machine.specs.Machine.{Move as Do}
 use Rattle.std.proofs.lemmas.Result.{err_from_is_err_and}

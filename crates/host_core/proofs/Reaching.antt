@@ -11,7 +11,7 @@ use Rattle.tree_specs.specs.declared.reply.Reply.{Reply}
 use Rattle.tree_specs.specs.declared.reply.Reply.TheVariants as reply
 use Rattle.tree_specs.specs.declared.frame.Frame.TheVariants as frame
 use Rattle.tree_specs.specs.declared.frame.OutsideFrame.{OutsideFrame}
-use Rattle.tree_specs.specs.declared.frame.OutsideFrame.TheVariants.{Reaching, Opening, Hearing}
+use Rattle.tree_specs.specs.declared.frame.OutsideFrame.TheVariants.{Reaching, Hearing}
 use Rattle.tree_specs.specs.Tree.Pool.{Pool}
 use Rattle.tree_specs.specs.Words.Octets.{is_octets}
 use Rattle.tree_specs.specs.Words.Ranges.{is_sound, is_routine}

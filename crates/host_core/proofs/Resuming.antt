@@ -1,9 +1,8 @@
 -- What waited for a work goes on once it is over.
-use Rattle.std.proofs.Common.{◌≡◌, ℕ, ◌+◌, ◌*◌, ◌≤◌, inl, List, [], ◌∷◌, ◌++◌, length, length-append, reverse, Option, Some, None, true, false, refl, sym, ◌∙◌, ap, subst, arith}
+use Rattle.std.proofs.Common.{◌≡◌, ℕ, ◌+◌, ◌≤◌, inl, List, [], ◌∷◌, ◌++◌, length, length-append, reverse, true, refl, sym, ◌∙◌, ap, subst, arith}
 use Rattle.std.specs.Prelude.{slice_get, vec_capacity}
 use Rattle.step_machine.specs.Machine.{Move as Do}
 use Rattle.tree_specs.specs.declared.frame.Frame.{Frame}
-use Rattle.tree_specs.specs.declared.frame.Frame.TheVariants as frame
 use Rattle.tree_specs.specs.declared.frame.FreeFrame.{FreeFrame}
 use Rattle.tree_specs.specs.declared.frame.FreeFrame.TheVariants.{Hooked, Preparing}
 use Rattle.tree_specs.specs.declared.frame.Errand.{Errand}
@@ -14,7 +13,6 @@ use Rattle.tree_specs.specs.declared.frame.TurnFrame.{TurnFrame}
 use Rattle.tree_specs.specs.declared.frame.TurnFrame.TheVariants.{Handling, Clearing, Serving}
 use Rattle.tree_specs.specs.declared.reply.Reply.{Reply}
 use Rattle.tree_specs.specs.declared.moment.What.TheVariants.{Cleanup, Cancel}
-use Rattle.tree_specs.specs.Tree.Pool.{Pool}
 use Rattle.tree_specs.specs.Machine.Table.{resume, turn_resume, request_resume}
 use Rattle.tree_specs.specs.Machine.View.{View}
 use Rattle.tree_specs.specs.Invariants.Consistent.{IsConsistent}
@@ -26,16 +24,16 @@ use Rattle.object_pool.specs.Requests.{count_unreceived}
 use Rattle.host_core.specs.declared.active.Active.{Active}
 use Rattle.host_core.specs.declared.active.Active.TheVariants as active
 use Rattle.host_core.specs.declared.answer.Answer.{Answer}
-use Rattle.host_core.specs.declared.answer.Answer.TheVariants.{Freed, Returned, Turned, Heard}
+use Rattle.host_core.specs.declared.answer.Answer.TheVariants.{Freed, Returned, Heard}
 use Rattle.host_core.specs.declared.parts.Parts.{Parts}
 use Rattle.host_core.specs.declared.waiting.Waiting.{Waiting}
 use Rattle.host_core.specs.declared.waiting.Waiting.TheVariants.{Freeing, Turn, Work as WorkOf}
 use Rattle.host_core.specs.declared.work.Work.{Work}
 use Rattle.host_core.specs.declared.work.Work.TheVariants as work
 use Rattle.host_core.specs.Requests.{WorkReady, ErrandReady}
-use Rattle.host_core.specs.Stacks.{waiting_frame, work_frame, active_frame, answer_of, standing, behind, Fits, FreesFit, other_view, freeing_view}
+use Rattle.host_core.specs.Stacks.{waiting_frame, work_frame, active_frame, answer_of, standing, Fits, FreesFit, other_view, freeing_view}
 use Rattle.host_core.specs.Steps.{IsOther, IsWaiter}
-use Rattle.host_core.specs.Hosts.{host_view, moved, places, errand_places, turn_places, work_places, FrameReady, PartsReady, FreeReady, TellsSameStory, IsBetweenSteps}
+use Rattle.host_core.specs.Hosts.{host_view, moved, places, errand_places, turn_places, work_places, FrameReady, PartsReady, TellsSameStory, IsBetweenSteps}
 use Rattle.host_core.specs.Going.{AnswersTo, Answers, resumed_works, answer_places, ended_view, HasPlacesFor}
 use Rattle.host_core.proofs.StepsSilently.{stays}
 use Rattle.host_core.proofs.FreeSteps.{silently-along}

@@ -1,11 +1,10 @@
 -- Whether what is at work tells or asks something with its next step, and what it asks.
-use Rattle.std.proofs.Common.{◌≡◌, ℕ, Bool, true, false, nat_eq, nat_le, List, [], ◌∷◌, reverse, Option, Some, None, is_some, refl, sym, ◌∙◌, ap, subst}
+use Rattle.std.proofs.Common.{◌≡◌, ℕ, Bool, true, false, nat_eq, nat_le, List, [], ◌∷◌, reverse, Option, Some, None, refl, sym, ◌∙◌}
 use Rattle.step_machine.specs.Machine.{Move}
 use Rattle.step_machine.specs.Machine.{Move as Do}
 use Rattle.tree_specs.specs.declared.due.Due.{Due}
 use Rattle.tree_specs.specs.declared.event.Event.{Event}
 use Rattle.tree_specs.specs.declared.frame.Errand.{Errand}
-use Rattle.tree_specs.specs.declared.frame.Errand.TheVariants.{Receive}
 use Rattle.tree_specs.specs.declared.frame.Frame.{Frame}
 use Rattle.tree_specs.specs.declared.frame.Frame.TheVariants as frame
 use Rattle.tree_specs.specs.declared.frame.FreeFrame.{FreeFrame}
@@ -17,7 +16,6 @@ use Rattle.tree_specs.specs.declared.handler.Handler.{Handler}
 use Rattle.tree_specs.specs.declared.moment.What.{What}
 use Rattle.tree_specs.specs.declared.object.Obj.{Obj}
 use Rattle.tree_specs.specs.declared.occasion.Occasion.{Occasion}
-use Rattle.tree_specs.specs.declared.question.Ask.{Ask}
 use Rattle.tree_specs.specs.declared.request.Note.{Note}
 use Rattle.tree_specs.specs.declared.watch.Watch.{Watch}
 use Rattle.tree_specs.specs.Calls.Plans.{Plan, planned}
@@ -28,7 +26,7 @@ use Rattle.tree_specs.specs.Events.Pending.{first}
 use Rattle.tree_specs.specs.Events.Requests.{note_of, is_unreceived, cleanup_in, cancel_in}
 use Rattle.tree_specs.specs.Machine.FreeTable.{free_step}
 use Rattle.tree_specs.specs.Machine.Table.{come_step, due_step, taking_step, early_step, timed_step, starting_step, handled_step, turn_step, cancelling_step, cleaning_step, release_object, cleaned_step, callback_step, notifying_step, receiving_step, request_step, lifted, announced, event_of}
-use Rattle.tree_specs.specs.Machine.View.{View, question_in, question_of}
+use Rattle.tree_specs.specs.Machine.View.{question_in, question_of}
 use Rattle.tree_specs.specs.Rules.Errands.{is_receive}
 use Rattle.tree_specs.specs.Tree.Pool.{Pool}
 use Rattle.tree_specs.proofs.Tree.Numbered.{by_test}
@@ -45,7 +43,7 @@ use Rattle.host_core.specs.declared.work.Work.{Work}
 use Rattle.host_core.specs.declared.work.Work.TheVariants as work
 use Rattle.host_core.specs.Callers.{staged, open_at}
 use Rattle.host_core.specs.Requests.{work_speaks}
-use Rattle.host_core.specs.Stacks.{standing, other_view, freeing_view, seen, active_frame, work_frame}
+use Rattle.host_core.specs.Stacks.{standing, other_view, freeing_view, seen, work_frame}
 use Rattle.host_core.specs.Turns.{turn_asks, turn_speaks}
 use Rattle.host_core.specs.Hosts.{view_of, speaks, speaking_view, asked_now, IsSettled, PartsReady}
 use Rattle.host_core.proofs.FreeSteps.{speaks-events}
@@ -159,18 +157,8 @@ pub ready-settled : (now : Active) (o : Objects) → PartsReady now o → IsSett
 ready-settled active.Freeing o r = r
 ready-settled _ o r = tt
 
-module _ (now : Active) (waiting : List Waiting) (o : Objects) where
-  pub speaks_caller : (c : Caller) → now ≡ active.Caller c → true ≡ speaking_view (view_of now waiting o)
-  speaks_caller c is = rw is (sym (caller_speaking c (standing o.works (reverse waiting)) o.pool))
-
-  pub speaks_frees : now ≡ active.Freeing → is_event o.pool.ring (moves o.works o.pool).0 ≡ speaking_view (view_of now waiting o)
-  speaks_frees is = rw is (sym (frees_speaking o.works (reverse waiting) o.pool))
-
-  pub speaks_turn : (t : Turn) → now ≡ active.Turning t → turn_speaks t.frame ≡ speaking_view (view_of now waiting o)
-  speaks_turn t is = rw is (sym (turn_speaking t.frame o.pool))
-
-  pub speaks_work : (w : Work) → now ≡ active.Requesting w → work_speaks w o.pool ≡ speaking_view (view_of now waiting o)
-  speaks_work w is = rw is (sym (work_speaking w o.pool))
+pub speaks_frees : (now : Active) (waiting : List Waiting) (o : Objects) → now ≡ active.Freeing → is_event o.pool.ring (moves o.works o.pool).0 ≡ speaking_view (view_of now waiting o)
+speaks_frees now waiting o is = rw is (sym (frees_speaking o.works (reverse waiting) o.pool))
 
 -- ---- the open question
 

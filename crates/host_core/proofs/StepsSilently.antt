@@ -19,7 +19,7 @@ use Rattle.tree_specs.specs.Rules.Items.Item.{Told, Asked}
 use Rattle.tree_specs.specs.Rules.Story.{turns}
 use Rattle.tree_specs.specs.Machine.Table.{table, step, taken}
 use Rattle.tree_specs.specs.Invariants.Measure.{cost, pending}
-use Rattle.tree_specs.specs.Machine.View.{View, begin, outcome_of, rest_of, strays_of, question_in}
+use Rattle.tree_specs.specs.Machine.View.{View, begin, rest_of, strays_of, question_in}
 use Rattle.tree_specs.specs.Invariants.Consistent.{IsConsistent}
 use Rattle.tree_specs.proofs.Rules.StoryLaws.{begin-whole}
 use Rattle.tree_specs.proofs.Turns.Lowering.{Room}

@@ -1,16 +1,15 @@
 -- An answer that doesn't fit, though it was asked for: a descriptor was accepted that is open already.
-use Rattle.std.proofs.Common.{◌≡◌, ℕ, Bool, true, false, List, [], ◌∷◌, reverse, Option, Some, None, refl, sym, ◌∙◌, ap, subst}
+use Rattle.std.proofs.Common.{◌≡◌, ℕ, Bool, true, false, List, [], ◌∷◌, reverse, Option, Some, None, refl, sym, ◌∙◌, ap}
 use Rattle.std.specs.Prelude.{◌&&◌, not, is_none, if◌then◌else◌}
 use Rattle.tree_specs.specs.declared.question.Ask.{Ask}
 use Rattle.tree_specs.specs.declared.question.Ask.TheVariants as ask
 use Rattle.tree_specs.specs.declared.question.Input.{Input}
 use Rattle.tree_specs.specs.declared.question.Input.TheVariants as input
-use Rattle.tree_specs.specs.declared.frame.Frame.{Frame}
 use Rattle.tree_specs.specs.declared.frame.Frame.TheVariants as frame
 use Rattle.tree_specs.specs.declared.frame.CallFrame.TheVariants.{Asking}
 use Rattle.tree_specs.specs.declared.frame.FreeFrame.{FreeFrame}
 use Rattle.tree_specs.specs.declared.frame.TurnFrame.{TurnFrame}
-use Rattle.tree_specs.specs.declared.frame.TurnFrame.TheVariants.{Timing, Polling}
+use Rattle.tree_specs.specs.declared.frame.TurnFrame.TheVariants.{Timing}
 use Rattle.tree_specs.specs.declared.frame.OutsideFrame.TheVariants.{Reaching}
 use Rattle.tree_specs.specs.Rules.Items.Item.{Asked}
 use Rattle.tree_specs.specs.Tree.Pool.{Pool}
@@ -19,20 +18,18 @@ use Rattle.tree_specs.specs.Calls.Refusals.{is_open}
 use Rattle.tree_specs.specs.Texts.Schedule.{misfit}
 use Rattle.tree_specs.specs.Machine.View.{View, strays_of}
 use Rattle.tree_specs.specs.Invariants.Consistent.{IsStacked, IsConsistent}
-use Rattle.object_pool.specs.Objects.{Objects}
 use Rattle.host_core.specs.declared.active.Active.{Active}
 use Rattle.host_core.specs.declared.active.Active.TheVariants as active
 use Rattle.host_core.specs.declared.caller.Stage.{Stage}
 use Rattle.host_core.specs.declared.caller.Stage.TheVariants as stage
 use Rattle.host_core.specs.declared.parts.Parts.{Parts}
-use Rattle.host_core.specs.declared.waiting.Waiting.{Waiting}
 use Rattle.host_core.specs.Callers.{staged, open_at}
 use Rattle.host_core.specs.Promises.{taken_in, taken_by}
 use Rattle.host_core.specs.Stacks.{freeing_view}
 use Rattle.host_core.specs.Turns.{turn_asks}
 use Rattle.host_core.specs.Hosts.{host_view, below_in, asked_now, IsBetweenSteps}
 use Rattle.host_core.proofs.StepsSilently.{untaken-strays}
-use Rattle.host_core.proofs.Answering.{IsForCaller, caller-kind}
+use Rattle.host_core.proofs.Answering.{caller-kind}
 
 -- ---- what was accepted
 

@@ -1,5 +1,5 @@
 -- An answer that fits is taken: bytes that were read, or what takes no memory of its own.
-use Rattle.std.proofs.Common.{◌≡◌, ℕ, ◌+◌, ◌*◌, ◌≤◌, length, reverse, Option, Some, None, true, false, refl, sym, ap, subst}
+use Rattle.std.proofs.Common.{◌≡◌, ◌+◌, ◌*◌, ◌≤◌, length, Some, None, true, false, refl, sym, subst}
 use Rattle.std.specs.Prelude.{is_none, vec_capacity}
 use Rattle.tree_specs.specs.declared.frame.CallFrame.TheVariants.{Telling}
 use Rattle.tree_specs.specs.declared.frame.Frame.TheVariants as frame
@@ -10,7 +10,6 @@ use Rattle.tree_specs.specs.Invariants.Consistent.{IsConsistent}
 use Rattle.tree_specs.specs.Machine.View.{View}
 use Rattle.tree_specs.specs.Texts.Schedule.{misfit}
 use Rattle.tree_specs.specs.Words.Ranges.{is_sound}
-use Rattle.object_pool.specs.Objects.{Objects}
 use Rattle.object_pool.specs.Requests.{count_unreceived}
 use Rattle.requests.specs.Register.{AreInOrder}
 use Rattle.host_core.specs.declared.active.Active.{Active}

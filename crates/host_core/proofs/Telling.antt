@@ -1,5 +1,5 @@
 -- A reply that owns memory: a report, or bytes that were read, is told to the caller whose call it was.
-use Rattle.std.proofs.Common.{◌≡◌, ℕ, ◌≤◌, List, [], ◌∷◌, ◌++◌, reverse, Option, Some, None, true, false, refl, sym, ◌∙◌, ap, subst}
+use Rattle.std.proofs.Common.{◌≡◌, ℕ, ◌≤◌, List, [], ◌∷◌, ◌++◌, reverse, Option, Some, true, false, refl, sym, ◌∙◌, ap, subst}
 use Rattle.std.specs.Prelude.{is_none}
 use Rattle.std.proofs.lemmas.List.{reverse-reverse}
 use Rattle.step_machine.specs.Machine.{Move}
@@ -22,7 +22,7 @@ use Rattle.tree_specs.specs.declared.question.Input.TheVariants as input
 use Rattle.tree_specs.specs.declared.reply.Reply.TheVariants as reply
 use Rattle.tree_specs.specs.Invariants.Consistent.{IsConsistent}
 use Rattle.tree_specs.specs.Machine.Table.{outside_step}
-use Rattle.tree_specs.specs.Machine.View.{View, begin}
+use Rattle.tree_specs.specs.Machine.View.{begin}
 use Rattle.tree_specs.specs.Tree.Pool.{empty}
 use Rattle.tree_specs.specs.declared.question.Ask.TheVariants.{Quiet}
 use Rattle.tree_specs.proofs.Rules.StoryLaws.{begin-whole}
@@ -35,15 +35,15 @@ use Rattle.host_core.specs.declared.active.Active.TheVariants as active
 use Rattle.host_core.specs.declared.answer.Answer.TheVariants.{Turned}
 use Rattle.host_core.specs.declared.parts.Parts.{Parts}
 use Rattle.host_core.specs.declared.waiting.Waiting.{Waiting}
-use Rattle.host_core.specs.declared.waiting.Waiting.TheVariants.{Freeing, Awaiting, Turning, Requesting, Turn, Work}
+use Rattle.host_core.specs.declared.waiting.Waiting.TheVariants.{Turning}
 use Rattle.host_core.specs.Callers.{frame_of}
-use Rattle.host_core.specs.Going.{Answers, AnswersTo, CallsOutside, Reads}
-use Rattle.host_core.specs.Reaches.{is_bytes, IsOutside, outside_given}
-use Rattle.host_core.specs.Stacks.{active_frame, Fits, standing, other_view}
+use Rattle.host_core.specs.Going.{AnswersTo, CallsOutside, Reads}
+use Rattle.host_core.specs.Reaches.{is_bytes, outside_given}
+use Rattle.host_core.specs.Stacks.{active_frame, Fits, standing}
 use Rattle.host_core.specs.Turns.{turn_asks}
 use Rattle.host_core.specs.Hosts.{moved, next_of, speaks, FrameReady, host_view, below_in, given_view, speaking_view, asked_now, PartsReady, IsBetweenSteps, TellsSameStory}
 use Rattle.host_core.proofs.StepsSilently.{stays, along-then, onward}
-use Rattle.host_core.proofs.Answering.{caller-acts, turn-acts-not}
+use Rattle.host_core.proofs.Answering.{caller-acts}
 use Rattle.host_core.proofs.Ending.{turned-call}
 use Rattle.host_core.proofs.Going.{below-waiter, pushed}
 use Rattle.host_core.proofs.Offering.{caller-now}

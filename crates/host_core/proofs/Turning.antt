@@ -1,33 +1,27 @@
 -- The steps of a turn, by what was picked and by whose handler has returned.
-use Rattle.std.proofs.Common.{◌≡◌, ℕ, ◌-◌, Bool, true, false, nat_le, List, [], ◌∷◌, Option, Some, None, refl, sym, ◌∙◌, ap, cond}
+use Rattle.std.proofs.Common.{◌≡◌, ℕ, ◌-◌, Bool, true, false, nat_le, List, [], ◌∷◌, Option, Some, None, refl}
 use Rattle.tree_specs.specs.declared.due.Due.{Due}
 use Rattle.tree_specs.specs.declared.frame.Frame.{Frame}
 use Rattle.tree_specs.specs.declared.frame.Frame.TheVariants as frame
 use Rattle.tree_specs.specs.declared.frame.TurnFrame.{TurnFrame}
-use Rattle.tree_specs.specs.declared.frame.TurnFrame.TheVariants.{Timing, Timed, Polling, Starting, Firing, Handling, Handled, Clearing, Serving, Closing, Taking}
+use Rattle.tree_specs.specs.declared.frame.TurnFrame.TheVariants.{Timed, Starting, Handling, Handled, Clearing, Serving, Closing, Taking}
 use Rattle.tree_specs.specs.declared.moment.What.{What}
 use Rattle.tree_specs.specs.declared.object.Obj.{Obj}
 use Rattle.tree_specs.specs.declared.row.Mark.{Mark}
-use Rattle.tree_specs.specs.declared.row.Mark.TheVariants.{Quiet, Asked, Dying}
+use Rattle.tree_specs.specs.declared.row.Mark.TheVariants.{Asked, Dying}
 use Rattle.tree_specs.specs.declared.row.Row.{Row}
-use Rattle.tree_specs.specs.declared.wants.Want.{Want}
-use Rattle.tree_specs.specs.declared.question.Input.TheVariants as input
-use Rattle.tree_specs.specs.Events.Coming.{looks_again}
 use Rattle.tree_specs.specs.Events.Pending.{first}
-use Rattle.tree_specs.specs.Events.Rotation.{Ready, first_ready}
 use Rattle.tree_specs.specs.Invariants.Sound.{phases, claims}
 use Rattle.tree_specs.specs.Invariants.Consistent.{IsConsistent}
 use Rattle.tree_specs.specs.Machine.Profiles.{Phase, InRun, InHandler, InLoop}
 use Rattle.tree_specs.specs.Machine.Table.{turn_step, timed_step, early_step}
-use Rattle.tree_specs.specs.Machine.View.{View}
-use Rattle.tree_specs.specs.Promises.Grounded.{is_asked, is_asked_mark}
-use Rattle.tree_specs.specs.Tree.Pool.{Pool, row_of, is_row, is_dying, is_dying_mark}
+use Rattle.tree_specs.specs.Promises.Grounded.{is_asked_mark}
+use Rattle.tree_specs.specs.Tree.Pool.{Pool, row_of, is_dying_mark}
 use Rattle.tree_specs.proofs.Tree.Numbered.{by_test}
 use Rattle.tree_specs.proofs.Invariants.Changes.{claim-here}
-use Rattle.loop_core.specs.declared.pick.Pick.{Pick}
-use Rattle.loop_core.specs.Picks.{clock_pick, early_pick, watch_pick, ready_pick}
+use Rattle.loop_core.specs.Picks.{clock_pick, early_pick}
 use Rattle.object_pool.specs.Upcoming.{pool_picked}
-use Rattle.host_core.specs.Turns.{picked_step, MayTurn, looked_frame, frame_ready, frame_looked, turn_speaks}
+use Rattle.host_core.specs.Turns.{picked_step, MayTurn, turn_speaks}
 
 -- ---- what was picked
 
@@ -42,19 +36,6 @@ timed_picked again now p = each p.times
     each : (ds : List Due) → picked_step again (clock_pick again now ds) (pool_picked (clock_pick again now ds) p) ≡ timed_step again now (first ds) p
     each [] = refl
     each (d ∷ ds) = by_test (nat_le d.time now) (λ t. rw t refl) (λ t. rw t (early again d))
-
--- once it was told which descriptors are ready
-pub looked_picked : (wants : List Want) (p : Pool) → looked_frame (ready_pick wants p.times p.ring) ≡ frame_looked (looks_again p wants) (first_ready p.ring wants)
-looked_picked wants p = each wants p.times refl
-  where
-    watched : (o : Option Ready) → looked_frame (watch_pick o) ≡ frame_ready o
-    watched None = refl
-    watched (Some r) = refl
-
-    each : (ws : List Want) (ds : List Due) → p.times ≡ ds → looked_frame (ready_pick ws p.times p.ring) ≡ frame_looked (looks_again p ws) (first_ready p.ring ws)
-    each [] [] e = rw e (watched (first_ready p.ring []))
-    each [] (d ∷ ds) e = rw e refl
-    each (w ∷ ws) ds e = watched (first_ready p.ring (w ∷ ws))
 
 -- ---- a handler that has returned
 

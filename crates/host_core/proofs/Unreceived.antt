@@ -1,7 +1,6 @@
 -- How many requests are still to be received, where what is kept of one is changed.
-use Rattle.std.proofs.Common.{◌≡◌, ℕ, ◌+◌, ◌*◌, ◌≤◌, ◌<◌, Bool, true, false, T, ◌&&◌, List, [], ◌∷◌, length, Option, Some, None, refl, arith}
+use Rattle.std.proofs.Common.{◌≡◌, ℕ, ◌+◌, ◌*◌, ◌≤◌, Bool, true, false, T, ◌&&◌, [], ◌∷◌, Option, Some, None, refl, arith}
 use Rattle.std.specs.Prelude.{nat_lt, nat_eq, if◌then◌else◌}
-use Rattle.std.specs.List.{filter}
 use Rattle.std.specs.Ordering.{nat_cmp}
 use Rattle.std.specs.Cmp.{nat_cmp_total}
 use Rattle.std.specs.FinMap.Entries.{find, put, is_sorted, below_all, is_sorted-put}

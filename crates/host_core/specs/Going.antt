@@ -1,5 +1,5 @@
 -- What a step leads to in a host, and what it may want.
-use Rattle.std.specs.Prelude.{◌≡◌, ℕ, ◌+◌, ◌*◌, ◌≤◌, true, List, [], ◌∷◌, ◌++◌, length, reverse, slice_get, vec_capacity}
+use Rattle.std.specs.Prelude.{◌≡◌, ℕ, ◌+◌, ◌*◌, ◌≤◌, true, List, [], ◌∷◌, ◌++◌, length, slice_get, vec_capacity}
 use Rattle.step_machine.specs.Machine.{Move as Do}
 use Rattle.tree_specs.specs.declared.frame.TurnFrame.TheVariants.{Handling, Clearing, Serving}
 use Rattle.tree_specs.specs.declared.frame.CallFrame.TheVariants.{Telling}
@@ -11,7 +11,6 @@ use Rattle.tree_specs.specs.declared.question.Input.{Input}
 use Rattle.tree_specs.specs.declared.question.Input.TheVariants.{Got}
 use Rattle.tree_specs.specs.declared.reply.Reply.TheVariants as reply
 use Rattle.tree_specs.specs.Machine.View.{View}
-use Rattle.tree_specs.specs.Invariants.Consistent.{IsConsistent}
 use Rattle.destructors.specs.Engine.{IsAsked, IsReceiving}
 use Rattle.destructors.specs.Works.{IsAwaiting}
 use Rattle.object_pool.specs.Objects.{Objects, frees_in, MayBeginFree}
@@ -29,7 +28,7 @@ use Rattle.host_core.specs.declared.work.Work.TheVariants.{Called, Releasing, Ov
 use Rattle.host_core.specs.Callers.{remembers}
 use Rattle.host_core.specs.Reaches.{remembered}
 use Rattle.host_core.specs.Hosts.{below_in, moved, places, PartsReady}
-use Rattle.host_core.specs.Stacks.{active_frame, answer_of, Fits, standing}
+use Rattle.host_core.specs.Stacks.{active_frame, answer_of}
 use Rattle.host_core.specs.Steps.{step_of, IsBusy}
 use Rattle.host_core.specs.Turns.{turn_asks}
 use Rattle.host_core.specs.declared.active.Active.TheVariants as active

@@ -1,5 +1,5 @@
 -- A host by its parts, and what they keep.
-use Rattle.std.specs.Prelude.{◌≡◌, ℕ, ◌+◌, ◌*◌, ◌≤◌, ◌<◌, Bool, true, false, List, [], ◌∷◌, length, reverse, vec_capacity, is_none, Option, Some, None, if◌then◌else◌}
+use Rattle.std.specs.Prelude.{◌≡◌, ℕ, ◌+◌, ◌*◌, ◌≤◌, ◌<◌, Bool, true, false, List, [], ◌∷◌, length, reverse, vec_capacity, is_none, Option, Some, None}
 use Rattle.step_machine.specs.Machine.{Move}
 use Rattle.step_machine.specs.Machine.{Move as Do}
 use Rattle.tree_specs.specs.declared.event.Event.{Event}
@@ -11,7 +11,7 @@ use Rattle.tree_specs.specs.declared.frame.CallFrame.{CallFrame}
 use Rattle.tree_specs.specs.declared.frame.CallFrame.TheVariants.{Asking, Doing, Returning}
 use Rattle.tree_specs.specs.declared.frame.FreeFrame.TheVariants.{Ending}
 use Rattle.tree_specs.specs.declared.frame.TurnFrame.{TurnFrame}
-use Rattle.tree_specs.specs.declared.frame.TurnFrame.TheVariants.{Taking, Timed, Handled, Clearing, Serving, Closing, Timing, Polling}
+use Rattle.tree_specs.specs.declared.frame.TurnFrame.TheVariants.{Taking, Timed, Handled, Clearing, Serving, Closing}
 use Rattle.tree_specs.specs.declared.frame.Answer.{Answer}
 use Rattle.tree_specs.specs.declared.free_step.FreeReply.TheVariants.{Ok}
 use Rattle.tree_specs.specs.declared.question.Act.TheVariants as act
@@ -21,9 +21,8 @@ use Rattle.tree_specs.specs.declared.question.Input.TheVariants as input
 use Rattle.tree_specs.specs.declared.call.Call.TheVariants as call
 use Rattle.tree_specs.specs.declared.object.Owner.{Owner}
 use Rattle.tree_specs.specs.declared.reply.Reply.{Reply}
-use Rattle.tree_specs.specs.declared.request.Note.{Note}
 use Rattle.tree_specs.specs.Calls.Refusals.{refusals}
-use Rattle.tree_specs.specs.Events.Requests.{Notes, is_unreceived}
+use Rattle.tree_specs.specs.Events.Requests.{Notes}
 use Rattle.tree_specs.specs.Tree.Pool.{Pool}
 use Rattle.tree_specs.specs.Rules.Items.{Item}
 use Rattle.tree_specs.specs.Rules.Items.Item.{Told, Asked}
@@ -47,11 +46,11 @@ use Rattle.host_core.specs.declared.work.Work.{Work}
 use Rattle.host_core.specs.declared.work.Work.TheVariants as work
 use Rattle.host_core.specs.Callers.{frame_of, told_by, after_telling, open_at}
 use Rattle.tree_specs.specs.Texts.Schedule.{misfit}
-use Rattle.host_core.specs.Moves.{report_of, call_of, reported}
+use Rattle.host_core.specs.Moves.{call_of, reported}
 use Rattle.host_core.specs.Reaches.{IsOutside, is_bytes, outside_given}
-use Rattle.host_core.specs.Requests.{work_speaks, work_tells, work_told, pool_told, WorkReady}
-use Rattle.host_core.specs.Stacks.{standing, active_frame, freeing_view, other_view, seen, Fits, AllFit}
-use Rattle.host_core.specs.Turns.{turn_asks, turn_given, turn_speaks, turn_tells, frame_fired}
+use Rattle.host_core.specs.Requests.{work_tells, work_told, pool_told, WorkReady}
+use Rattle.host_core.specs.Stacks.{standing, active_frame, other_view, seen, Fits, AllFit}
+use Rattle.host_core.specs.Turns.{turn_asks, turn_given, turn_tells, frame_fired}
 
 abbrev pub view_of : Active → List Waiting → Objects → View
 view_of now waiting objects = seen now objects.works (reverse waiting) objects.pool
@@ -168,12 +167,6 @@ pub record StepsSilently (v w : View) : Type 0 where
   pub along : TellsSameStory v w
   pub cheaper : (R : ℕ) → length v.pool.rows + pending v.innermost ≤ R → cost R w.innermost w.below w.pool 0 < cost R v.innermost v.below v.pool 0
 
-
--- whether what is at work tells or asks something next, but for the open frees
-abbrev pub other_speaks : Active → Pool → Bool
-other_speaks (active.Turning t) p = turn_speaks t.frame
-other_speaks (active.Requesting w) p = work_speaks w p
-other_speaks now p = true
 
 -- the innermost free is at hand, where one is at work
 abbrev pub IsSettled : Active → Objects → Type 0

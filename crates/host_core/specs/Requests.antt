@@ -1,5 +1,5 @@
 -- The work of a request in a host: what it tells, and what it may want.
-use Rattle.std.specs.Prelude.{◌≡◌, ◌⊎◌, Bool, true, false, slice_get, Option, Some, None, if◌then◌else◌}
+use Rattle.std.specs.Prelude.{◌≡◌, Bool, true, false, Option, Some, None, if◌then◌else◌}
 use Rattle.tree_specs.specs.declared.event.Event.{Event}
 use Rattle.tree_specs.specs.declared.event.Event.TheVariants.{Fired, State as StateOf}
 use Rattle.tree_specs.specs.declared.frame.Errand.{Errand}
@@ -70,11 +70,6 @@ MayWork (work.Receiving x) o = is_unreceived (note_of o.pool.requests x) ≡ fal
 MayWork (work.Releasing child) o = ⊥
 MayWork (work.Notifying x errand) o = o.ready ≡ true
 MayWork w o = Unit {0}
-
--- only a request that is notified may use up the memory for a call
-abbrev pub StaysReady : Work → Bool → Bool → Type 0
-StaysReady (work.Notifying x errand) before after = Unit {0}
-StaysReady w before after = after ≡ before
 
 -- it begins a free, or to take an interest away
 abbrev pub IsFreeing : Motion → Type 0

@@ -1,6 +1,6 @@
 -- What is at work in a host and what waits below it, as frames: each work stands on the next one, and the open frees stand where it is
 -- marked that they wait.
-use Rattle.std.specs.Prelude.{◌≡◌, ℕ, ◌+◌, Bool, true, false, List, [], ◌∷◌, ◌++◌, map, reverse, Option, Some, None, if◌then◌else◌}
+use Rattle.std.specs.Prelude.{◌≡◌, ◌+◌, List, [], ◌∷◌, ◌++◌, map, if◌then◌else◌}
 use Rattle.tree_specs.specs.declared.frame.Answer.{Answer as Answered}
 use Rattle.tree_specs.specs.declared.frame.Answer.TheVariants as answered
 use Rattle.tree_specs.specs.declared.frame.Frame.{Frame}
@@ -15,7 +15,6 @@ use Rattle.tree_specs.specs.declared.free_step.FreeReply.TheVariants.{Ok}
 use Rattle.tree_specs.specs.Tree.Pool.{Pool}
 use Rattle.tree_specs.specs.Machine.View.{View}
 use Rattle.destructors.specs.Frees.{awaits_run}
-use Rattle.object_pool.specs.Objects.{Objects}
 use Rattle.host_core.specs.declared.active.Active.{Active}
 use Rattle.host_core.specs.declared.active.Active.TheVariants as active
 use Rattle.host_core.specs.declared.answer.Answer.{Answer}

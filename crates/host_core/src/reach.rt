@@ -1,5 +1,5 @@
 //! Questions to the outside: a call asks the clock or a descriptor, and the answer is its reply.
-ghost use Rattle.std.specs.Prelude.{◌≡◌, IfOk, ℕ, List, is_some, true};
+ghost use Rattle.std.specs.Prelude.{◌≡◌, IfOk, is_some, true};
 ghost use Rattle.tree_specs.specs.Calls.Given.{given_to, bytes_read, bytes_written};
 ghost use Rattle.tree_specs.specs.declared.reply.Reply.TheVariants.{Bytes as BytesReply};
 ghost use Rattle.host_core.specs.Reaches.{remembered, is_bytes, IsShortAnswer, short_answer, pool_heard};

@@ -1,4 +1,4 @@
-use Rattle.std.proofs.Common.{◌≡◌, ◌≤◌, sym, ◌∙◌, ap, subst, arith}
+use Rattle.std.proofs.Common.{◌≡◌, ◌≤◌, sym, ◌∙◌, subst, arith}
 use Rattle.object_pool.specs.Objects.{Objects}
 use Rattle.object_pool.specs.Requests.{count_unreceived}
 use Rattle.host_core.proofs.Notifying.{notified_over, notifying-rest}

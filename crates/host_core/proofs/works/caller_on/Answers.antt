@@ -3,7 +3,7 @@ use Rattle.tree_specs.specs.declared.question.Act.{Act}
 use Rattle.tree_specs.specs.declared.question.Input.{Input}
 use Rattle.tree_specs.specs.declared.question.Input.TheVariants as input
 use Rattle.tree_specs.specs.Invariants.Consistent.{IsConsistent}
-use Rattle.host_core.specs.Hosts.{called_view, host_view, TellsSameStory}
+use Rattle.host_core.specs.Hosts.{called_view}
 use Rattle.host_core.proofs.Given.{return_onward, return_answers}
 use Rattle.host_core.proofs.StepsSilently.{along-then}
 use Rattle.host_core.proofs.works.caller_on.Goals as goal

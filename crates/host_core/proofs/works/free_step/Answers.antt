@@ -1,7 +1,6 @@
-use Rattle.std.proofs.Common.{◌≡◌, refl, subst}
-use Rattle.host_core.specs.declared.parts.Parts.{Parts}
+use Rattle.std.proofs.Common.{refl, subst}
 use Rattle.tree_specs.specs.declared.free_step.FreeStep.{FreeStep}
-use Rattle.object_pool.specs.Objects.{Objects, frees_in}
+use Rattle.object_pool.specs.Objects.{frees_in}
 use Rattle.destructors.specs.Frees.{Steps}
 use Rattle.destructors.specs.Works.{GoesOn}
 use Rattle.host_core.proofs.StepsSilently.{onward-along}
