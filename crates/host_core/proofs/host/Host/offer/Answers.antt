@@ -96,7 +96,7 @@ returns-clause-ok c =
     let fits = sym c.takes.ensures ∙ c.if-not-takes.false in
     let none : taken_in parts.objects.pool c.args.input ≡ None = taken-there c.args.self.now c.self.inside.active parts c.args.input c.taken.result c.self.view_is c.taken.ensures ∙ no-some c.taken.result c.in_default.not-Some in
     let o = offered c.self.inside.active parts c.args.input c.self.invariant.0 fits c.requires none in
-    let same = given_same c.self.inside.active parts c.args.input c.self.invariant.0 fits c.requires none _ c.make_room.ensures.waiting c.in_ok-make_room.ensures.ok in
+    let same = given_same c.self.inside.active parts c.args.input c.self.invariant.0 fits c.requires none (record { waiting = c.make_room.new.waiting; objects = c.make_room.new.objects }) c.make_room.ensures.waiting c.in_ok-make_room.ensures.ok in
     takes-answer c.args.self.now c.self.inside.active parts c.args.input o.0 _ _ c.self.invariant.0 c.self.invariant.1 c.self.view_is o.1
     (along-then _ _ _ (subst (λ (v : View). TellsSameStory v (host_view c.answer_on.new.now c.answer_on.new.parts)) same c.answer_on.ensures.along) c.settle.ensures.along)
 
