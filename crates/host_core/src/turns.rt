@@ -1,17 +1,15 @@
 //! The steps of a turn of the event loop: one thing comes, its handler runs, and it is quiet again or goes.
 ghost use Rattle.std.specs.Prelude.{◌≡◌, true, false};
-ghost use Rattle.tree_specs.specs.Machine.Table.{turn_step};
-ghost use Rattle.host_core.specs.Turns.{MayTurn};
+ghost use Rattle.tree_specs.specs.Machine.Table.{turn_step, come_step};
+ghost use Rattle.host_core.specs.Turns.{MayTurn, picked_step, looked_frame};
 ghost use Rattle.host_core.specs.Steps.{step_of};
 ghost use Rattle.host_core.specs.Going.{goes_as, GoesWell, IsTurnStep, IsPlainErrand};
 ghost use Rattle.host_core.specs.Hosts.{turn_places, FrameReady};
 ghost use Rattle.tree_specs.specs.declared.frame.TurnFrame.TheVariants.{Starting, Handled};
 ghost use Rattle.tree_specs.specs.Events.Coming.{at_time};
 ghost use Rattle.tree_specs.specs.Events.Requests.{is_noted};
-ghost use Rattle.tree_specs.specs.Machine.Table.{come_step};
 ghost use Rattle.tree_specs.specs.Promises.Grounded.{is_asked};
 ghost use Rattle.destructors.specs.Moves.{IsLiveRow};
-ghost use Rattle.host_core.specs.Turns.{picked_step, looked_frame};
 
 use crate::active::Active;
 use crate::answer::Answer;

@@ -1,20 +1,19 @@
 //! The open works, step after step: callers, turns, frees and the works of requests, each on the one that waits for it.
-ghost use Rattle.std.specs.Prelude.{◌≡◌, ◌*◌, ◌≤◌, true, false, is_none, reverse};
+ghost use Rattle.std.specs.Prelude.{◌≡◌, ◌*◌, ◌≤◌, true, false, is_none, reverse, List, None};
 ghost use Rattle.tree_specs.specs.Tree.Pool.{Pool as PoolData};
 ghost use Rattle.tree_specs.specs.Invariants.Consistent.{IsConsistent};
 ghost use Rattle.tree_specs.specs.Texts.Schedule.{misfit};
-ghost use Rattle.host_core.specs.Moves.{move_of, ReadyFor};
+ghost use Rattle.host_core.specs.Moves.{move_of, ReadyFor, call_of, report_of, reported};
 ghost use Rattle.host_core.specs.Stacks.{Fits};
 ghost use Rattle.host_core.specs.Steps.{step_of, IsBusy};
 ghost use Rattle.host_core.specs.Going.{stepped_view, ended_view, answer_places, step_places, Answers, StepReady, StepAnswers, AnswersTo, resumed_works, HasPlacesFor};
 ghost use Rattle.destructors.specs.Frees.{speaking, Begins};
 ghost use Rattle.destructors.specs.Works.{IsAtWork};
 ghost use Rattle.object_pool.specs.Objects.{Objects as ObjectsData, frees_in};
-ghost use Rattle.host_core.specs.Moves.{call_of, report_of, reported};
 ghost use Rattle.host_core.specs.Turns.{turn_asks, turn_given};
 ghost use Rattle.host_core.specs.declared.waiting.Waiting.{Waiting as WaitingData};
-ghost use Rattle.std.specs.Prelude.{List, None};
 ghost use Rattle.host_core.specs.Hosts.{host_view, given_view, speaking_view, HasRoom, IsActing, MayTake, called_view, IsBetweenSteps, TellsSameStory, StepsSilently};
+
 use crate::active::Active;
 use crate::answer::Answer;
 use crate::caller::{Caller, Stage};
