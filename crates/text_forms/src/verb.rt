@@ -2,7 +2,7 @@
 
 ghost use Rattle.text_forms.specs.declared.verb.Verb.TheVariants as verbs;
 ghost use Rattle.text_forms.specs.Cursor.{Takes};
-ghost use Rattle.text_forms.specs.Verbs.{IsVerb, fields_read};
+ghost use Rattle.text_forms.specs.Verbs.{IsTreeVerb, IsEventVerb, IsDescriptorVerb, IsRequestVerb, IsVerb, fields_read};
 
 use crate::field::{Fields, object_and_number, object_and_routine, owner_and_object};
 use crate::form::FormFault;
@@ -85,61 +85,110 @@ pub(crate) enum Verb {
     Request(RequestVerb),
 }
 
+// The verb of a call on the tree that this word is.
+fn tree_verb(word: &[u8]) -> Option<TreeVerb>
+    ensures { IsTreeVerb result word.now }
+{
+    let verb = match word {
+        b"new" => TreeVerb::New,
+        b"free" => TreeVerb::Free,
+        b"freekids" => TreeVerb::Freekids,
+        b"steal" => TreeVerb::Steal,
+        b"move" => TreeVerb::Move,
+        b"reparent" => TreeVerb::Reparent,
+        b"reference" => TreeVerb::Reference,
+        b"unlink" => TreeVerb::Unlink,
+        b"hook" => TreeVerb::Hook,
+        b"unhook" => TreeVerb::Unhook,
+        b"rename" => TreeVerb::Rename,
+        b"resize" => TreeVerb::Resize,
+        b"limit" => TreeVerb::Limit,
+        b"parent" => TreeVerb::Parent,
+        b"total" => TreeVerb::Total,
+        b"count" => TreeVerb::Count,
+        b"sum" => TreeVerb::Sum,
+        b"report" => TreeVerb::Report,
+        _ => return None,
+    };
+    Some(verb)
+}
+
+// The verb of a call on events or the loop that this word is.
+fn event_verb(word: &[u8]) -> Option<EventVerb>
+    ensures { IsEventVerb result word.now }
+{
+    let verb = match word {
+        b"immediate" => EventVerb::Immediate,
+        b"schedule" => EventVerb::Schedule,
+        b"unschedule" => EventVerb::Unschedule,
+        b"timer" => EventVerb::Timer,
+        b"fd" => EventVerb::Fd,
+        b"flags" => EventVerb::Flags,
+        b"getflags" => EventVerb::Getflags,
+        b"autoclose" => EventVerb::Autoclose,
+        b"pending" => EventVerb::Pending,
+        b"now" => EventVerb::Now,
+        b"turn" => EventVerb::Turn,
+        _ => return None,
+    };
+    Some(verb)
+}
+
+// The verb of a call on a descriptor that this word is.
+fn descriptor_verb(word: &[u8]) -> Option<DescriptorVerb>
+    ensures { IsDescriptorVerb result word.now }
+{
+    let verb = match word {
+        b"close" => DescriptorVerb::Close,
+        b"accept" => DescriptorVerb::Accept,
+        b"read" => DescriptorVerb::Read,
+        b"write" => DescriptorVerb::Write,
+        _ => return None,
+    };
+    Some(verb)
+}
+
+// The verb of a call on a request that this word is.
+fn request_verb(word: &[u8]) -> Option<RequestVerb>
+    ensures { IsRequestVerb result word.now }
+{
+    let verb = match word {
+        b"req" => RequestVerb::Req,
+        b"callback" => RequestVerb::Callback,
+        b"defer" => RequestVerb::Defer,
+        b"cleanup" => RequestVerb::Cleanup,
+        b"setcancel" => RequestVerb::Setcancel,
+        b"cancel" => RequestVerb::Cancel,
+        b"post" => RequestVerb::Post,
+        b"done" => RequestVerb::Done,
+        b"error" => RequestVerb::Error,
+        b"oom" => RequestVerb::Oom,
+        b"iserror" => RequestVerb::Iserror,
+        b"progress" => RequestVerb::Progress,
+        b"endtime" => RequestVerb::Endtime,
+        b"received" => RequestVerb::Received,
+        _ => return None,
+    };
+    Some(verb)
+}
+
 // The verb that this word is.
 pub(crate) fn read_verb(word: &[u8]) -> Option<Verb>
     ensures { IsVerb result word.now }
 {
-    let verb = match word {
-        b"new" => Verb::Tree(TreeVerb::New),
-        b"free" => Verb::Tree(TreeVerb::Free),
-        b"freekids" => Verb::Tree(TreeVerb::Freekids),
-        b"steal" => Verb::Tree(TreeVerb::Steal),
-        b"move" => Verb::Tree(TreeVerb::Move),
-        b"reparent" => Verb::Tree(TreeVerb::Reparent),
-        b"reference" => Verb::Tree(TreeVerb::Reference),
-        b"unlink" => Verb::Tree(TreeVerb::Unlink),
-        b"hook" => Verb::Tree(TreeVerb::Hook),
-        b"unhook" => Verb::Tree(TreeVerb::Unhook),
-        b"rename" => Verb::Tree(TreeVerb::Rename),
-        b"resize" => Verb::Tree(TreeVerb::Resize),
-        b"limit" => Verb::Tree(TreeVerb::Limit),
-        b"parent" => Verb::Tree(TreeVerb::Parent),
-        b"total" => Verb::Tree(TreeVerb::Total),
-        b"count" => Verb::Tree(TreeVerb::Count),
-        b"sum" => Verb::Tree(TreeVerb::Sum),
-        b"report" => Verb::Tree(TreeVerb::Report),
-        b"immediate" => Verb::Event(EventVerb::Immediate),
-        b"schedule" => Verb::Event(EventVerb::Schedule),
-        b"unschedule" => Verb::Event(EventVerb::Unschedule),
-        b"timer" => Verb::Event(EventVerb::Timer),
-        b"fd" => Verb::Event(EventVerb::Fd),
-        b"flags" => Verb::Event(EventVerb::Flags),
-        b"getflags" => Verb::Event(EventVerb::Getflags),
-        b"autoclose" => Verb::Event(EventVerb::Autoclose),
-        b"close" => Verb::Descriptor(DescriptorVerb::Close),
-        b"accept" => Verb::Descriptor(DescriptorVerb::Accept),
-        b"read" => Verb::Descriptor(DescriptorVerb::Read),
-        b"write" => Verb::Descriptor(DescriptorVerb::Write),
-        b"req" => Verb::Request(RequestVerb::Req),
-        b"callback" => Verb::Request(RequestVerb::Callback),
-        b"defer" => Verb::Request(RequestVerb::Defer),
-        b"cleanup" => Verb::Request(RequestVerb::Cleanup),
-        b"setcancel" => Verb::Request(RequestVerb::Setcancel),
-        b"cancel" => Verb::Request(RequestVerb::Cancel),
-        b"post" => Verb::Request(RequestVerb::Post),
-        b"done" => Verb::Request(RequestVerb::Done),
-        b"error" => Verb::Request(RequestVerb::Error),
-        b"oom" => Verb::Request(RequestVerb::Oom),
-        b"iserror" => Verb::Request(RequestVerb::Iserror),
-        b"progress" => Verb::Request(RequestVerb::Progress),
-        b"endtime" => Verb::Request(RequestVerb::Endtime),
-        b"received" => Verb::Request(RequestVerb::Received),
-        b"pending" => Verb::Event(EventVerb::Pending),
-        b"now" => Verb::Event(EventVerb::Now),
-        b"turn" => Verb::Event(EventVerb::Turn),
-        _ => return None,
-    };
-    Some(verb)
+    if let Some(verb) = tree_verb(word) {
+        return Some(Verb::Tree(verb));
+    }
+    if let Some(verb) = event_verb(word) {
+        return Some(Verb::Event(verb));
+    }
+    if let Some(verb) = descriptor_verb(word) {
+        return Some(Verb::Descriptor(verb));
+    }
+    match request_verb(word) {
+        Some(verb) => Some(Verb::Request(verb)),
+        None => None,
+    }
 }
 
 // The call on the tree of this verb, whose fields come next.

@@ -1,5 +1,5 @@
 -- How each call is spelled: its verb, and its fields in order. One row writes it, and one reads it.
-use Rattle.std.specs.Prelude.{ℕ, List, [], ◌∷◌, codes}
+use Rattle.std.specs.Prelude.{ℕ, List, [], ◌∷◌, ◌++◌, codes}
 use Rattle.tree_specs.specs.declared.object.Obj.{Obj}
 use Rattle.tree_specs.specs.declared.object.Owner.{Owner}
 use Rattle.tree_specs.specs.declared.call.Call.{Call}
@@ -148,8 +148,9 @@ infixr 8 ◌reads◌
 abbrev pub ◌reads◌ : List ℕ → Reading → Form
 verb reads reading = record { verb = verb; reading = reading }
 
-abbrev pub forms : List Form
-forms =
+-- calls on the tree
+abbrev pub tree_forms : List Form
+tree_forms =
     (codes "new" reads TakesOwner (λ owner. takes_number (λ size. EndsInName (λ name. New owner size name))))
     ∷ (codes "free" reads of_object Free)
     ∷ (codes "freekids" reads of_object Freekids)
@@ -168,7 +169,12 @@ forms =
     ∷ (codes "count" reads of_owner Count)
     ∷ (codes "sum" reads of_owner Sum)
     ∷ (codes "report" reads of_owner Report)
-    ∷ (codes "immediate" reads of_owner Immediate)
+    ∷ []
+
+-- calls on events
+abbrev pub event_forms : List Form
+event_forms =
+    (codes "immediate" reads of_owner Immediate)
     ∷ (codes "schedule" reads TakesObject (λ x. TakesNumeral Number32 (λ routine. takes_number (λ user. IsConsistent (Schedule x routine user)))))
     ∷ (codes "unschedule" reads of_object Unschedule)
     ∷ (codes "timer" reads TakesOwner (λ owner. TakesNumeral Time (λ time. TakesNumeral Positive32 (λ routine. takes_number (λ user. IsConsistent (Timer owner time routine user))))))
@@ -176,11 +182,21 @@ forms =
     ∷ (codes "flags" reads TakesObject (λ x. TakesNumeral FdFlags (λ flags. IsConsistent (Flags x flags))))
     ∷ (codes "getflags" reads of_object Getflags)
     ∷ (codes "autoclose" reads of_object Autoclose)
-    ∷ (codes "close" reads of_descriptor Close)
+    ∷ []
+
+-- calls on descriptors
+abbrev pub descriptor_forms : List Form
+descriptor_forms =
+    (codes "close" reads of_descriptor Close)
     ∷ (codes "accept" reads of_descriptor Accept)
     ∷ (codes "read" reads TakesNumeral Number32 (λ fd. TakesNumeral Length (λ len. IsConsistent (Read fd len))))
     ∷ (codes "write" reads TakesNumeral Number32 (λ fd. EndsInBytes (λ bytes. Write fd bytes)))
-    ∷ (codes "req" reads TakesOwner (λ owner. takes_number (λ size. EndsInName (λ name. Req owner size name))))
+    ∷ []
+
+-- calls on requests
+abbrev pub request_forms : List Form
+request_forms =
+    (codes "req" reads TakesOwner (λ owner. takes_number (λ size. EndsInName (λ name. Req owner size name))))
     ∷ (codes "callback" reads TakesObject (λ x. TakesNumeral Number32 (λ routine. takes_number (λ user. IsConsistent (Callback x routine user)))))
     ∷ (codes "defer" reads of_object Defer)
     ∷ (codes "cleanup" reads object_and_routine Cleanup)
@@ -194,7 +210,16 @@ forms =
     ∷ (codes "progress" reads of_object Progress)
     ∷ (codes "endtime" reads TakesObject (λ x. TakesNumeral Time (λ time. IsConsistent (Endtime x time))))
     ∷ (codes "received" reads of_object Received)
-    ∷ (codes "pending" reads IsConsistent Pending)
+    ∷ []
+
+-- calls on the loop
+abbrev pub loop_forms : List Form
+loop_forms =
+    (codes "pending" reads IsConsistent Pending)
     ∷ (codes "now" reads IsConsistent Now)
     ∷ (codes "turn" reads IsConsistent Turn)
     ∷ []
+
+-- all calls
+abbrev pub forms : List Form
+forms = tree_forms ++ event_forms ++ descriptor_forms ++ request_forms ++ loop_forms
