@@ -1,13 +1,13 @@
 -- A free that begins, or is answered, is at work.
-use Rattle.std.proofs.Common.{◌≡◌, ℕ, ◌+◌, ◌≤◌, List, [], ◌∷◌, length, Option, Some, None, true, false, nat_eq, refl, ◌∙◌, ap, arith}
+use Rattle.std.proofs.Common.{◌≡◌, ℕ, ◌+◌, ◌≤◌, List, [], ◌∷◌, length, Option, Some, None, true, false, nat_eq, refl, ◌∙◌, ap, inl, arith}
 use Rattle.tree_specs.specs.declared.frame.FreeFrame.{FreeFrame}
-use Rattle.tree_specs.specs.declared.frame.FreeFrame.TheVariants.{Unlinking, Beginning, Hooked, Judged, Leaving, Looping}
+use Rattle.tree_specs.specs.declared.frame.FreeFrame.TheVariants.{Unlinking, Beginning, Hooked, Preparing, Prepared, Leaving, Looping}
 use Rattle.tree_specs.specs.declared.frame.Purpose.TheVariants.{Emptying}
 use Rattle.tree_specs.specs.declared.object.Obj.{Obj}
 use Rattle.tree_specs.specs.declared.row.Row.{Row}
 use Rattle.tree_specs.specs.declared.row.Mark.{Mark}
 use Rattle.tree_specs.specs.declared.row.Mark.TheVariants as mark
-use Rattle.tree_specs.specs.declared.row.Mark.TheVariants.{Asked, Busy, Doomed, Dying}
+use Rattle.tree_specs.specs.declared.row.Mark.TheVariants.{Dying}
 use Rattle.tree_specs.specs.Tree.Inside.{total}
 use Rattle.tree_specs.specs.Tree.Pool.{Pool, row_of, target_at, is_dying_mark}
 use Rattle.tree_specs.specs.Tree.Targets.{target_of, newest_ref}
@@ -19,39 +19,11 @@ use Rattle.tree_specs.proofs.Tree.Numbered.{by_test}
 use Rattle.tree_links.specs.Links.{Links, pool_of}
 use Rattle.destructors.specs.Moves.{IsLiveRow}
 use Rattle.destructors.specs.Room.{mark_places, row_places, work_places, wanted}
-use Rattle.destructors.specs.Engine.{IsAsked, HasRoom}
-use Rattle.destructors.specs.Frees.{OpenFrees, before, frees_of, speaking}
-use Rattle.tree_specs.specs.Invariants.Sound.Footing.{OnCall}
-use Rattle.tree_specs.specs.Machine.Profiles.{Phase, InLoop}
-use Rattle.tree_specs.specs.Invariants.Alone.{free_footing, free_claims, free_phases, AllFreesWait, AwaitsRun, FreesHold}
-use Rattle.destructors.specs.Works.{LeavesIdle, AtWork, IsAwaiting, MayBegin}
-
--- the rows are the same; the works, what they claim and what the innermost rests on are others
-holding : {claimed claimed' : Obj → List Phase} {below below' : List FreeFrame} {grounds grounds' : Type 0} {p : Pool} → FreesHold claimed below grounds p
-    → ((x : Obj) → claimed' x ≡ free_phases (row_of p.rows x)) → AllFreesWait below' → grounds' → FreesHold claimed' below' grounds' p
-holding h open_frees waiting rests = record { started = h.started; valid = h.valid; forest = h.forest; refers = h.refers; open_frees = open_frees; waiting = waiting; rests = rests }
-
--- what is begun stands on the call that it is for
-on-call : (fs : List FreeFrame) → AwaitsRun fs → free_footing fs ≡ OnCall
-on-call [] w = refl
-on-call (Hooked x h ∷ fs) w = refl
-on-call (_ ∷ fs) w = absurd w
-
--- no object leaves its owner with a work that begins
-begins-idle : (f : FreeFrame) (p : Pool) → MayBegin f p → LeavesIdle f p
-begins-idle (Leaving x h) p may = let bad : InLoop ∷ [] ≡ [] = (may.rests (λ y. InLoop ∷ [])).3 in cc
-begins-idle _ p may = tt
-
-pub begins : (f : FreeFrame) (s : OpenFrees) → MayBegin f s.pool → IsAwaiting s → AtWork (f ∷ s.works) s.pool
-begins f s may a =
-    let l = a.light in
-    let n = may.small in (
-      record {
-        sound = holding a.sound (λ x. rw (may.claims_nothing x) (a.sound.open_frees x)) a.sound.waiting (rw (on-call s.works a.sound.rests) (may.rests (λ x. free_claims x s.works)));
-        light = omega (arith, l, n);
-      },
-      begins-idle f s.pool may,
-    )
+use Rattle.destructors.specs.Engine.{IsAsked, HasRoom, HasRoomFor, IsBetweenCalls}
+use Rattle.destructors.specs.Frees.{before, frees_of, awaits_run, received, speaking}
+use Rattle.destructors.specs.Works.{AtWork, IsAwaiting, MayBegin}
+use Rattle.destructors.proofs.Hosting.{begins, judges, was-received}
+use Rattle.destructors.proofs.Keeping.{run-places}
 
 pub may-free : (x : Obj) (p : Pool) → newest_ref p.rows x ≡ None → target_at p.rows x ≡ None → MayBegin (Beginning x) p
 may-free x p unheld object = record { claims_nothing = λ y. refl; rests = λ claimed. (unheld, object); small = refl }
@@ -73,12 +45,6 @@ may-unlink o x p live object = each (row_of p.rows x) refl
 pub may-empty : (x : Obj) (p : Pool) → MayBegin (Looping x Emptying) p
 may-empty x p = record { claims_nothing = λ y. refl; rests = λ claimed. tt; small = refl }
 
--- the destructor has returned
-pub judges : (x : Obj) (h v : ℕ) (fs : List FreeFrame) (p : Pool) → IsAwaiting (record { works = Hooked x h ∷ fs; pool = p }) → AtWork (Judged x h v ∷ fs) p
-judges x h v fs p a =
-    let l = a.light in
-    (record { sound = holding a.sound a.sound.open_frees a.sound.waiting.1 a.sound.waiting.0; light = omega (arith, l) }, tt)
-
 -- ---- by the parts of an engine
 
 pub answered : (f : FreeFrame) (v : ℕ) (fs : List FreeFrame) (p : Pool) → IsAsked (Some f) → IsAwaiting (record { works = f ∷ fs; pool = p }) → AtWork (unwrap_or (free_taken f p v) f ∷ fs) p
@@ -93,9 +59,21 @@ answered-speaks _ v fs p asked = absurd asked
 pub begun : (f : FreeFrame) (o o' : Option FreeFrame) (old new : Links) → o' ≡ o → MayBegin f (pool_of old) → IsAwaiting (frees_of o old) → pool_of new ≡ pool_of old → new.frees ≡ before o' old.frees
     → AtWork (f ∷ new.frees) (pool_of new)
 begun f o o' old new same may a rows works =
-    let w : AtWork (f ∷ before o old.frees) (pool_of old) = begins f (frees_of o old) may a in
+    let w : AtWork (f ∷ before o old.frees) (pool_of old) = begins f (before o old.frees) (pool_of old) may a in
     let l : new.frees ≡ before o old.frees = works ∙ ap (λ (z : Option FreeFrame). before z old.frees) same in
     rw (l, rows) w
+
+-- the request of the innermost free was received: it goes on
+pub received-works : (o : Option FreeFrame) (x : Obj) (tree : Links) → o ≡ Some (Preparing x) → IsAwaiting (frees_of o tree) → AtWork (Prepared x ∷ tree.frees) (pool_of tree)
+received-works o x tree e a = let a' : IsAwaiting (frees_of (Some (Preparing x)) tree) = rw e at a in was-received x tree.frees (pool_of tree) a'
+
+pub received-ready : (o : Option FreeFrame) (x : Obj) (tree : Links) → o ≡ Some (Preparing x) → IsAwaiting (frees_of o tree) → HasRoom o tree → IsBetweenCalls (Some (Prepared x)) tree
+received-ready o x tree e a room = let r : HasRoom (Some (Preparing x)) tree = rw e at room in record { moves = inl (received-works o x tree e a); room = omega (arith, r) }
+
+pub received-are : (o : Option FreeFrame) (x : Obj) (fs : List FreeFrame) → o ≡ Some (Preparing x) → received (before o fs) ≡ Prepared x ∷ fs
+received-are o x fs e = rw e refl
+
+-- ---- room
 
 row_places-most : (rs : List Row) → total row_places rs ≤ length rs
 row_places-most [] = omega arith
@@ -106,10 +84,19 @@ row_places-most (r ∷ rs) = let ih = row_places-most rs in omega (arith, ih, fe
     few _ = omega arith
 
 work_places-most : (f : FreeFrame) → work_places f ≤ 1
+work_places-most (Leaving x h) = by_test (nat_eq h 0) (λ t. rw t (omega arith)) (λ t. rw t (omega arith))
 work_places-most (Unlinking o x) = omega arith
 work_places-most _ = omega arith
 
--- as much room is enough for any work
+waiting-most : (o : Option FreeFrame) (fs : List FreeFrame) → length (before o fs) ≤ length fs + 1
+waiting-most None fs = omega arith
+waiting-most (Some g) fs = omega arith
+
+-- room for a place for each row, and two, is enough for any free that begins
+pub any-room-for : (f : FreeFrame) (o : Option FreeFrame) (tree : Links) → length tree.rows + 2 ≤ tree.room → HasRoomFor f o tree
+any-room-for f o tree room = let m = row_places-most tree.rows in let w = work_places-most f in let n = waiting-most o tree.frees in omega (arith, m, w, n, room)
+
+-- and enough for those that are open
 pub any-room : (o : Option FreeFrame) (tree : Links) → length tree.rows + 2 ≤ tree.room → HasRoom o tree
 any-room None tree room = waiting tree.frees
   where
@@ -118,16 +105,17 @@ any-room None tree room = waiting tree.frees
     waiting (g ∷ gs) = let m = row_places-most tree.rows in let w = work_places-most g in omega (arith, m, w, room)
 any-room (Some f) tree room = let m = row_places-most tree.rows in let w = work_places-most f in omega (arith, m, w, room)
 
-pub begun-room : (f : FreeFrame) (o : Option FreeFrame) (old new : Links) → length old.rows + 2 ≤ old.room → pool_of new ≡ pool_of old → new.frees ≡ before o old.frees
+-- a free begins in the run that another waits for, with a work that wants no place of its own, within the room that there is
+pub room-within : (f g : FreeFrame) (tree : Links) → work_places f ≡ 0 → awaits_run g ≡ true → HasRoom (Some g) tree → HasRoomFor f (Some g) tree
+room-within f g tree none waits room = let w = run-places g waits in omega (arith, none, w, room)
+
+pub begun-room : (f : FreeFrame) (o : Option FreeFrame) (old new : Links) → HasRoomFor f o old → pool_of new ≡ pool_of old → new.frees ≡ before o old.frees
     → length old.frees + old.room ≤ length new.frees + new.room → HasRoom (Some f) new
 begun-room f o old new room rows works kept =
     let r : new.rows ≡ old.rows = ap (λ (p : Pool). p.rows) rows in
-    let m = row_places-most new.rows in
-    let w = work_places-most f in
-    let n : length new.rows ≡ length old.rows = ap length r in
-    let l : length new.frees ≤ length old.frees + 1 = rw works (one o) in
-    omega (arith, room, kept, m, w, n, l)
-  where
-    one : (o : Option FreeFrame) → length (before o old.frees) ≤ length old.frees + 1
-    one None = omega arith
-    one (Some g) = omega arith
+    let w : wanted (f ∷ new.frees) new.rows ≡ wanted (f ∷ before o old.frees) old.rows = rw (works, r) refl in
+    omega (arith, room, kept, w)
+
+-- where the innermost work is to wait, there is room for it
+pub waits-room : (f : FreeFrame) (o : Option FreeFrame) (tree : Links) → HasRoomFor f o tree → length (before o tree.frees) ≤ length tree.frees + tree.room
+waits-room f o tree room = omega (arith, room)

@@ -6,13 +6,13 @@ use Rattle.tree_specs.specs.Machine.Profiles.{InLoop}
 use Rattle.tree_specs.specs.declared.frame.Frame.{Frame}
 use Rattle.tree_specs.specs.declared.frame.Frame.TheVariants as frame
 use Rattle.tree_specs.specs.declared.frame.FreeFrame.{FreeFrame}
-use Rattle.tree_specs.specs.declared.frame.FreeFrame.TheVariants.{Unlinking, Releasing, Giving, Beginning, Hooked, Judged, Dooming, Leaving, Looping, FreeingChild, AfterChild, Ending}
+use Rattle.tree_specs.specs.declared.frame.FreeFrame.TheVariants.{Unlinking, Releasing, Giving, Beginning, Hooked, Judged, Preparing, Prepared, Dooming, Leaving, Looping, FreeingChild, AfterChild, Ending}
 use Rattle.tree_specs.specs.declared.frame.Purpose.{Purpose}
 use Rattle.tree_specs.specs.declared.frame.Purpose.TheVariants.{Removal, Emptying}
 use Rattle.tree_specs.specs.declared.free_step.FreeReply.{FreeReply}
 use Rattle.tree_specs.specs.declared.free_step.FreeReply.TheVariants as replies
 use Rattle.tree_specs.specs.declared.free_step.FreeStep.{FreeStep}
-use Rattle.tree_specs.specs.declared.free_step.FreeStep.TheVariants.{Ask, Dropped, Left, Moved, Gone, Done}
+use Rattle.tree_specs.specs.declared.free_step.FreeStep.TheVariants.{Ask, Prepare, Dropped, Left, Moved, Gone, Done}
 use Rattle.tree_specs.specs.declared.object.Obj.{Obj}
 use Rattle.tree_specs.specs.declared.object.Owner.{Owner}
 use Rattle.tree_specs.specs.declared.object.Owner.TheVariants.{Root, Of}
@@ -22,16 +22,17 @@ use Rattle.tree_specs.specs.declared.row.Mark.TheVariants as mark
 use Rattle.tree_specs.specs.Words.Objects.{same}
 use Rattle.tree_specs.specs.Tree.Targets.{newest_ref}
 use Rattle.tree_specs.specs.Tree.Pool.{Pool, row_of, owner_in, is_below, owner_of, target_in, target_at, newest_ref_of, is_inside, first_kid, changed, marked_row, hooked_row}
-use Rattle.tree_specs.specs.Machine.FreeTable.{FreeMove, free_step, begin_step}
+use Rattle.tree_specs.specs.Calls.Refusals.{is_request}
+use Rattle.tree_specs.specs.Machine.FreeTable.{FreeMove, free_step, free_resume, begin_step}
 use Rattle.tree_specs.specs.Invariants.Sound.{claims, IsLive, Shaped, ValidAt, Sound}
 use Rattle.tree_specs.proofs.Tree.Numbered.{by_test, is_below-some}
 use Rattle.tree_specs.proofs.Tree.Referring.{newest-refers, newest-of-refers}
 use Rattle.tree_specs.proofs.Invariants.Changes.{dying-row, claim-here}
-use Rattle.destructors.specs.Frees.{OpenFrees, answered, moved, moves, Silently, Still, On, Steps}
+use Rattle.destructors.specs.Frees.{OpenFrees, awaits_run, answered, moved, moves, Silently, Still, On, Steps}
 use Rattle.destructors.specs.Works.{AtWork, IsAtWork, GoesOn}
 use Rattle.destructors.specs.Changes.{bare, SameRows, ChangedBy}
-use Rattle.destructors.proofs.Callers.{among}
-use Rattle.destructors.proofs.Keeping.{rests, kept, told-kept}
+use Rattle.destructors.proofs.Grounds.{rests}
+use Rattle.destructors.proofs.Keeping.{kept, told-kept}
 use Rattle.destructors.proofs.Settling.{awaiting-speaks, still}
 
 -- what a move does
@@ -87,7 +88,9 @@ module _ (p : Pool) (fs : List Frame) where
   begins x (Some r) = each r.mark
     where
       each : (m : Mark) → MoveChanges (begin_step x (Some (record r { mark = m })) p) p.rows
-      each mark.Quiet = by_test (nat_eq r.hook 0) (λ t. rw t refl) (λ t. rw t (marked-same mark.Asked p.rows x))
+      each mark.Quiet = by_test (is_request r.kind)
+          (λ u. rw u (marked-same mark.Asked p.rows x))
+          (λ u. rw u (by_test (nat_eq r.hook 0) (λ t. rw t refl) (λ t. rw t (marked-same mark.Asked p.rows x))))
       each mark.Busy = marked-same mark.Doomed p.rows x
       each _ = refl
 
@@ -119,6 +122,8 @@ module _ (p : Pool) (fs : List Frame) where
       each (Some r) e = by_test (is_inside p.rows (Of r) (Of x)) (λ t. rw (e, t) (refers (frame.Free (Beginning x)) x r s e, refl)) (λ t. rw (e, t) (refers (frame.Free (Beginning x)) x r s e, refl))
   move-changes (Hooked x h) s = refl
   move-changes (Judged x h v) s = by_test (nat_eq v 0) (λ t. rw t (hooked-same 0 p.rows x)) (λ t. rw t (marked-same mark.Quiet p.rows x))
+  move-changes (Preparing x) s = refl
+  move-changes (Prepared x) s = marked-same mark.Quiet p.rows x
   move-changes (Dooming x) s = refl
   move-changes (Leaving x h) s = (live-owner p.next (row_of p.rows x) x s.rests.0 s.rests.1 (s.valid x) s.rests.2, refl)
   move-changes (Looping x purpose) s = each (first_kid p.rows (Of x)) refl
@@ -143,22 +148,15 @@ module _ (p : Pool) (fs : List Frame) where
 -- ---- a move of the open frees
 
 quiet-rows : (m : FreeMove) (fs : List FreeFrame) (rs : List Row) (s : OpenFrees) → MoveChanges m rs → moved m fs ≡ (None, s) → SameRows rs s.pool.rows
-quiet-rows (Do.Done a q) fs rs s c e = c' fs e
+quiet-rows (Do.Done a q) fs rs s c e = over fs e
   where
-    c' : (fs : List FreeFrame) → answered a q fs ≡ (None, s) → SameRows rs s.pool.rows
-    c' [] e = let bad : Some (Done a) ≡ None = ap (λ (z : Option FreeStep × OpenFrees). z.0) e in cc
-    c' (Hooked x h ∷ fs) e = let bad : Some (Done a) ≡ None = ap (λ (z : Option FreeStep × OpenFrees). z.0) e in cc
-    c' (Unlinking o x ∷ fs) e = subst (λ (z : OpenFrees). SameRows rs z.pool.rows) (ap (λ (z : Option FreeStep × OpenFrees). z.1) e) c
-    c' (Releasing x ∷ fs) e = subst (λ (z : OpenFrees). SameRows rs z.pool.rows) (ap (λ (z : Option FreeStep × OpenFrees). z.1) e) c
-    c' (Giving x o ∷ fs) e = subst (λ (z : OpenFrees). SameRows rs z.pool.rows) (ap (λ (z : Option FreeStep × OpenFrees). z.1) e) c
-    c' (Beginning x ∷ fs) e = subst (λ (z : OpenFrees). SameRows rs z.pool.rows) (ap (λ (z : Option FreeStep × OpenFrees). z.1) e) c
-    c' (Judged x h v ∷ fs) e = subst (λ (z : OpenFrees). SameRows rs z.pool.rows) (ap (λ (z : Option FreeStep × OpenFrees). z.1) e) c
-    c' (Dooming x ∷ fs) e = subst (λ (z : OpenFrees). SameRows rs z.pool.rows) (ap (λ (z : Option FreeStep × OpenFrees). z.1) e) c
-    c' (Leaving x h ∷ fs) e = subst (λ (z : OpenFrees). SameRows rs z.pool.rows) (ap (λ (z : Option FreeStep × OpenFrees). z.1) e) c
-    c' (Looping x purpose ∷ fs) e = subst (λ (z : OpenFrees). SameRows rs z.pool.rows) (ap (λ (z : Option FreeStep × OpenFrees). z.1) e) c
-    c' (FreeingChild x d noted purpose ∷ fs) e = subst (λ (z : OpenFrees). SameRows rs z.pool.rows) (ap (λ (z : Option FreeStep × OpenFrees). z.1) e) c
-    c' (AfterChild x d noted purpose b ∷ fs) e = subst (λ (z : OpenFrees). SameRows rs z.pool.rows) (ap (λ (z : Option FreeStep × OpenFrees). z.1) e) c
-    c' (Ending b ∷ fs) e = subst (λ (z : OpenFrees). SameRows rs z.pool.rows) (ap (λ (z : Option FreeStep × OpenFrees). z.1) e) c
+    over : (fs : List FreeFrame) → answered a q fs ≡ (None, s) → SameRows rs s.pool.rows
+    over [] e = let bad : Some (Done a) ≡ None = ap (λ (z : Option FreeStep × OpenFrees). z.0) e in cc
+    over (f ∷ fs) e = by_test (awaits_run f)
+        (λ t. let e' : (let y : Option FreeStep × OpenFrees = (Some (Done a), record { works = f ∷ fs; pool = q }) in y) ≡ (None, s) = rw t at e in let bad : Some (Done a) ≡ None = ap (λ (z : Option FreeStep × OpenFrees). z.0) e' in cc)
+        (λ t.
+        let e' : (let y : Option FreeStep × OpenFrees = (None, record { works = free_resume f a ∷ fs; pool = q }) in y) ≡ (None, s) = rw t at e in
+        subst (λ (z : OpenFrees). SameRows rs z.pool.rows) (ap (λ (z : Option FreeStep × OpenFrees). z.1) e') c)
 quiet-rows (Do.Go f q) fs rs s c e = subst (λ (z : OpenFrees). SameRows rs z.pool.rows) (ap (λ (z : Option FreeStep × OpenFrees). z.1) e) c
 quiet-rows (Do.Emit t f q) fs rs s c e = let bad : Some t ≡ None = ap (λ (z : Option FreeStep × OpenFrees). z.0) e in cc
 quiet-rows (Do.Wait t f q) fs rs s c e = let bad : Some t ≡ None = ap (λ (z : Option FreeStep × OpenFrees). z.0) e in cc
@@ -178,18 +176,9 @@ told-rows (Do.Done a q) fs rs t s c e = c' fs e
 
     c' : (fs : List FreeFrame) → answered a q fs ≡ (Some t, s) → ChangedBy t rs s.pool.rows
     c' [] e = over (Some (Done a)) refl _ refl e
-    c' (Hooked x h ∷ fs) e = over (Some (Done a)) refl _ refl e
-    c' (Unlinking o x ∷ fs) e = none _ e
-    c' (Releasing x ∷ fs) e = none _ e
-    c' (Giving x o ∷ fs) e = none _ e
-    c' (Beginning x ∷ fs) e = none _ e
-    c' (Judged x h v ∷ fs) e = none _ e
-    c' (Dooming x ∷ fs) e = none _ e
-    c' (Leaving x h ∷ fs) e = none _ e
-    c' (Looping x purpose ∷ fs) e = none _ e
-    c' (FreeingChild x d noted purpose ∷ fs) e = none _ e
-    c' (AfterChild x d noted purpose b ∷ fs) e = none _ e
-    c' (Ending b ∷ fs) e = none _ e
+    c' (f ∷ fs) e = by_test (awaits_run f)
+        (λ u. let e' : (let y : Option FreeStep × OpenFrees = (Some (Done a), record { works = f ∷ fs; pool = q }) in y) ≡ (Some t, s) = rw u at e in over (Some (Done a)) refl _ refl e')
+        (λ u. let e' : (let y : Option FreeStep × OpenFrees = (None, record { works = free_resume f a ∷ fs; pool = q }) in y) ≡ (Some t, s) = rw u at e in none _ e')
 told-rows (Do.Go f q) fs rs t s c e = let bad : None ≡ Some t = ap (λ (z : Option FreeStep × OpenFrees). z.0) e in cc
 told-rows (Do.Emit u f q) fs rs t s c e = told-by rs (Some u) _ t s (λ v w. let w' : u ≡ v = cc in subst (λ (z : FreeStep). ChangedBy z rs q.rows) w' c) e
 told-rows (Do.Wait u f q) fs rs t s c e = told-by rs (Some u) _ t s (λ v w. let w' : u ≡ v = cc in subst (λ (z : FreeStep). ChangedBy z rs q.rows) w' c) e
@@ -203,7 +192,7 @@ silent-rows s t w (On u _ earlier last) = let a = silent-rows s u w earlier in e
   where
     each : (works : List FreeFrame) → AtWork works u.pool → SameRows s.pool.rows u.pool.rows → moves works u.pool ≡ (None, t) → IsAtWork t × SameRows s.pool.rows t.pool.rows
     each [] v b e = absurd v
-    each (f ∷ fs) v b e = (kept f fs u.pool t v e, quiet-rows (free_step f u.pool) fs u.pool.rows t (move-changes u.pool _ f (among f fs u.pool v).sound) e ∙ b)
+    each (f ∷ fs) v b e = (kept f fs u.pool t v e, quiet-rows (free_step f u.pool) fs u.pool.rows t (move-changes u.pool _ f v.sound) e ∙ b)
 
 then-same : (t : FreeStep) (rs mid new : List Row) → ChangedBy t rs mid → SameRows mid new → ChangedBy t rs new
 then-same (Dropped r target) rs mid new c e = (c.0, e ∙ c.1)
@@ -215,6 +204,7 @@ then-same _ rs mid new c e = e ∙ c
 -- what follows a move that told something
 settled-rows : (t : FreeStep) (mid new : OpenFrees) → GoesOn t mid → Silently mid new → SameRows mid.pool.rows new.pool.rows
 settled-rows (Ask x) mid new g on = ap (λ (z : OpenFrees). map bare z.pool.rows) (sym (still mid new on (awaiting-speaks mid g)))
+settled-rows (Prepare x) mid new g on = ap (λ (z : OpenFrees). map bare z.pool.rows) (sym (still mid new on (awaiting-speaks mid g)))
 settled-rows (Done a) mid new g on = ap (λ (z : OpenFrees). map bare z.pool.rows) (sym (still mid new on (awaiting-speaks mid g)))
 settled-rows _ mid new g on = (silent-rows mid new g on).1
 
@@ -226,5 +216,5 @@ step-changes old new t w s = each old.works w s
     each (f ∷ fs) v st =
         let mid : OpenFrees = (moves (f ∷ fs) old.pool).1 in
         let e : moves (f ∷ fs) old.pool ≡ (Some t, mid) = ap (λ (z : Option FreeStep). let y : Option FreeStep × OpenFrees = (z, mid) in y) st.tells in
-        then-same t old.pool.rows mid.pool.rows new.pool.rows (told-rows (free_step f old.pool) fs old.pool.rows t mid (move-changes old.pool _ f (among f fs old.pool v).sound) e)
+        then-same t old.pool.rows mid.pool.rows new.pool.rows (told-rows (free_step f old.pool) fs old.pool.rows t mid (move-changes old.pool _ f v.sound) e)
         (settled-rows t mid new (told-kept f fs old.pool t mid v e) st.moves_on)

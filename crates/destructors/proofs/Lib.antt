@@ -1,12 +1,10 @@
 pub mod FreeMoves
-pub mod Lifting
-pub mod Paying
-pub mod Parts
-pub mod Callers
-pub mod Resting
-pub mod Keeping
+pub mod Grounds
 pub mod Quiet
-pub mod Begins
+pub mod Hosting
+pub mod Keeping
 pub mod Settling
+pub mod Resting
+pub mod Begins
 pub mod TextRuns
 pub mod Counting

@@ -1,22 +1,44 @@
 -- A move that tells nothing, by the parts of an engine.
 use Rattle.std.proofs.Common.{◌≡◌, ℕ, ◌+◌, ◌≤◌, ◌<◌, List, [], ◌∷◌, length, Option, Some, None, true, false, refl, sym, ◌∙◌, ap, subst, inl, inr, arith}
 use Rattle.tree_specs.specs.declared.frame.FreeFrame.{FreeFrame}
-use Rattle.tree_specs.specs.declared.frame.FreeFrame.TheVariants.{Hooked}
+use Rattle.tree_specs.specs.declared.frame.FreeFrame.TheVariants.{Hooked, Preparing}
 use Rattle.step_machine.specs.Machine.{Move as Do}
-use Rattle.tree_specs.specs.declared.object.Obj.{Obj}
 use Rattle.tree_specs.specs.declared.free_step.FreeReply.{FreeReply}
 use Rattle.tree_specs.specs.declared.free_step.FreeStep.{FreeStep}
-use Rattle.tree_specs.specs.declared.free_step.FreeStep.TheVariants.{Ask, Done}
-use Rattle.tree_specs.specs.Machine.FreeTable.{FreeMove, free_step}
+use Rattle.tree_specs.specs.declared.free_step.FreeStep.TheVariants.{Ask, Prepare, Done}
+use Rattle.tree_specs.specs.Machine.FreeTable.{FreeMove, free_step, free_resume}
 use Rattle.tree_specs.specs.Tree.Pool.{Pool}
 use Rattle.tree_links.specs.Links.{Links, pool_of}
-use Rattle.destructors.specs.Frees.{OpenFrees, before, frees_of, answered, moved, moves, speaks, speaking, Silently, Still, On}
-use Rattle.tree_specs.specs.Invariants.Alone.{AwaitsRun}
+use Rattle.destructors.specs.Frees.{OpenFrees, before, frees_of, awaits_run, answered, moved, moves, speaks, speaking, Silently, Still, On}
 use Rattle.destructors.specs.Works.{AtWork, IsAtWork, IsAwaiting, GoesOn}
 use Rattle.destructors.specs.Engine.{AreKept, HasRoom, MayMove, IsBetweenCalls}
-use Rattle.destructors.specs.Runs.{IsNews}
-use Rattle.destructors.proofs.FreeMoves.{AsksFor, IsMoveOf, is_move}
-use Rattle.destructors.proofs.Keeping.{kept, told-kept, falls, narrow, free_cost}
+use Rattle.tree_specs.proofs.Tree.Numbered.{by_test}
+use Rattle.destructors.specs.Moves.{MoveRests}
+use Rattle.destructors.specs.Runs.{IsNews, AsksFor}
+use Rattle.destructors.proofs.FreeMoves.{IsMoveOf, is_move}
+use Rattle.destructors.proofs.Hosting.{AwaitsRun, awaiting-runs}
+use Rattle.destructors.proofs.Keeping.{work-rests, kept, told-kept, falls, narrow, free_cost}
+
+-- a work that awaits a run has nothing to do but to ask
+pub run-speaks : (f : FreeFrame) (fs : List FreeFrame) (p : Pool) → awaits_run f ≡ true → speaks (f ∷ fs) (moves (f ∷ fs) p).0 ≡ true
+run-speaks (Hooked x h) fs p w = refl
+run-speaks (Preparing x) fs p w = refl
+run-speaks _ fs p w = cc
+
+-- and rests on nothing
+run-rests : (f : FreeFrame) (p : Pool) → awaits_run f ≡ true → MoveRests f p
+run-rests (Hooked x h) p w = tt
+run-rests (Preparing x) p w = tt
+run-rests _ p w = cc
+
+-- what the next move rests on
+pub ready-rests : (f : FreeFrame) (o : Option FreeFrame) (tree : Links) → o ≡ Some f → IsBetweenCalls o tree → MoveRests f (pool_of tree)
+ready-rests f o tree e r =
+    let m : MayMove (Some f) tree = rw e at r.moves in
+    elim m [
+      | inl w ↦ work-rests f tree.frees (pool_of tree) w
+      | inr waits ↦ run-rests f (pool_of tree) waits
+    ]
 
 -- a work whose next move tells nothing is at work
 pub ready-work : (f : FreeFrame) (o : Option FreeFrame) (tree : Links) → o ≡ Some f → IsBetweenCalls o tree → speaking (frees_of (Some f) tree) ≡ false → AtWork (f ∷ tree.frees) (pool_of tree)
@@ -24,7 +46,7 @@ ready-work f o tree e r quiet =
     let m : MayMove (Some f) tree = rw e at r.moves in
     elim m [
       | inl w ↦ w
-      | inr loud ↦ (let bad : true ≡ false = sym loud ∙ quiet in cc)
+      | inr waits ↦ (let bad : true ≡ false = sym (run-speaks f tree.frees (pool_of tree) waits) ∙ quiet in cc)
     ]
 
 -- what a move tells that tells nothing
@@ -36,6 +58,11 @@ silent (Some t) fs f e = cc
 at-work : (o : Option FreeFrame) (tree : Links) → AreKept o tree → IsAtWork (frees_of o tree) → MayMove o tree
 at-work None tree k w = k
 at-work (Some f) tree k w = inl w
+
+-- and they stay so where the tree keeps the same works
+pub kept-same : (o : Option FreeFrame) (t t' : Links) → t'.frees ≡ t.frees → AreKept o t → AreKept o t'
+kept-same None t t' e k = e ∙ k
+kept-same (Some f) t t' e k = tt
 
 pub record Onward (f : FreeFrame) (before_it : Links) (o : Option FreeFrame) (tree : Links) : Type 0 where
   pub ready : IsBetweenCalls o tree
@@ -64,12 +91,11 @@ onward f g old next new e r m room =
 
 -- a free that waits for its caller has nothing to do but to ask
 pub awaiting-speaks : (s : OpenFrees) → IsAwaiting s → speaking s ≡ true
-awaiting-speaks s a = each s.works a.sound.rests
+awaiting-speaks s a = each s.works (awaiting-runs s.works s.pool a)
   where
     each : (works : List FreeFrame) → AwaitsRun works → speaks works (moves works s.pool).0 ≡ true
     each [] w = refl
-    each (Hooked x h ∷ fs) w = refl
-    each (_ ∷ fs) w = absurd w
+    each (f ∷ fs) w = run-speaks f fs s.pool w
 
 -- where there is nothing to do but to tell, nothing is done silently
 pub still : (s t : OpenFrees) → Silently s t → speaking s ≡ true → s ≡ t
@@ -90,14 +116,19 @@ pub told-ready : (told : FreeStep) (o : Option FreeFrame) (tree : Links) → Are
 told-ready told None tree k g = k
 told-ready told (Some f) tree k g = each told g
   where
+    waits : IsAwaiting (frees_of (Some f) tree) → MayMove (Some f) tree
+    waits a = inr (awaiting-runs (f ∷ tree.frees) (pool_of tree) a)
+
     each : (told : FreeStep) → GoesOn told (frees_of (Some f) tree) → MayMove (Some f) tree
-    each (Ask x) a = inr (awaiting-speaks (frees_of (Some f) tree) a)
-    each (Done a) w = inr (awaiting-speaks (frees_of (Some f) tree) w)
+    each (Ask x) a = waits a
+    each (Prepare x) a = waits a
+    each (Done a) w = waits w
     each _ w = inl w
 
 -- and go on so after the moves that tell nothing
 pub told-settled : (told : FreeStep) (s t : OpenFrees) → GoesOn told s → Silently s t → (IsAtWork s → IsAtWork t) → GoesOn told t
 told-settled (Ask x) s t g moves_on keeps = subst IsAwaiting (still s t moves_on (awaiting-speaks s g)) g
+told-settled (Prepare x) s t g moves_on keeps = subst IsAwaiting (still s t moves_on (awaiting-speaks s g)) g
 told-settled (Done a) s t g moves_on keeps = subst IsAwaiting (still s t moves_on (awaiting-speaks s g)) g
 told-settled _ s t g moves_on keeps = keeps g
 
@@ -118,34 +149,46 @@ tells f g old told t o new e w had is m k room =
 
 -- ---- which work asks
 
--- only the work of an object's destructor asks for its run, and it stays
-pub asks-hooked : (f : FreeFrame) (fs : List FreeFrame) (p : Pool) (x : Obj) (t : OpenFrees) → moves (f ∷ fs) p ≡ (Some (Ask x), t) → (h : ℕ) × (f ≡ Hooked x h) × (t ≡ record { works = f ∷ fs; pool = p })
-asks-hooked f fs p x t e = each (free_step f p) (is_move f p) e
+-- what is asked is no news
+pub no-news : (u : FreeStep) (g : FreeFrame) → IsNews u → AsksFor u g → ⊥
+no-news (Ask x) g n a = n
+no-news (Prepare x) g n a = n
+no-news _ g n a = a
+
+pub asks-run : (asked : FreeStep) (f : FreeFrame) → AsksFor asked f → awaits_run f ≡ true
+asks-run (Ask x) (Hooked y h) a = refl
+asks-run (Prepare x) (Preparing y) a = refl
+asks-run asked f a = absurd a
+
+-- only a work that awaits a run asks for it, and it stays
+pub asks-waiting : (f : FreeFrame) (fs : List FreeFrame) (p : Pool) (asked : FreeStep) (g : FreeFrame) (t : OpenFrees) → AsksFor asked g → moves (f ∷ fs) p ≡ (Some asked, t) → AsksFor asked f × (t ≡ record { works = f ∷ fs; pool = p })
+asks-waiting f fs p asked g t asks e = each (free_step f p) (is_move f p) e
   where
-    told : (o : Option FreeStep) (s : OpenFrees) → (let y : Option FreeStep × OpenFrees = (o, s) in y) ≡ (Some (Ask x), t) → (o ≡ Some (Ask x)) × (s ≡ t)
+    told : (o : Option FreeStep) (s : OpenFrees) → (let y : Option FreeStep × OpenFrees = (o, s) in y) ≡ (Some asked, t) → (o ≡ Some asked) × (s ≡ t)
     told o s e = (ap (λ (z : Option FreeStep × OpenFrees). z.0) e, ap (λ (z : Option FreeStep × OpenFrees). z.1) e)
 
-    hook : (g : FreeFrame) → AsksFor (Ask x) g → (h : ℕ) × (g ≡ Hooked x h)
-    hook (Hooked y h) a = (h, ap (λ (z : Obj). Hooked z h) (sym a))
-    hook g a = absurd a
+    no-end : (a : FreeReply) → Some (Done a) ≡ Some asked → ⊥
+    no-end a e = let e' : Done a ≡ asked = cc in subst (λ (z : FreeStep). AsksFor z g) (sym e') asks
 
-    over : (a : FreeReply) (q : Pool) (gs : List FreeFrame) → answered a q gs ≡ (Some (Ask x), t) → ⊥
-    over a q [] e = let d = (told _ _ e).0 in let bad : Some (Done a) ≡ Some (Ask x) = d in cc
-    over a q (Hooked y h ∷ gs) e = let bad : Some (Done a) ≡ Some (Ask x) = (told _ _ e).0 in cc
-    over a q (_ ∷ gs) e = let bad : None ≡ Some (Ask x) = (told _ _ e).0 in cc
+    over : (a : FreeReply) (q : Pool) (gs : List FreeFrame) → answered a q gs ≡ (Some asked, t) → ⊥
+    over a q [] e = no-end a (told _ _ e).0
+    over a q (h ∷ gs) e = by_test (awaits_run h)
+        (λ u. let e' : (let y : Option FreeStep × OpenFrees = (Some (Done a), record { works = h ∷ gs; pool = q }) in y) ≡ (Some asked, t) = rw u at e in no-end a (told _ _ e').0)
+        (λ u. let e' : (let y : Option FreeStep × OpenFrees = (None, record { works = free_resume h a ∷ gs; pool = q }) in y) ≡ (Some asked, t) = rw u at e in let bad : None ≡ Some asked = (told _ _ e').0 in cc)
 
-    each : (m : FreeMove) → IsMoveOf f p m → moved m fs ≡ (Some (Ask x), t) → (h : ℕ) × (f ≡ Hooked x h) × (t ≡ record { works = f ∷ fs; pool = p })
+    each : (m : FreeMove) → IsMoveOf f p m → moved m fs ≡ (Some asked, t) → AsksFor asked f × (t ≡ record { works = f ∷ fs; pool = p })
     each (Do.Done a q) of e = absurd (over a q fs e)
-    each (Do.Go g q) of e = let bad : None ≡ Some (Ask x) = (told _ _ e).0 in cc
-    each (Do.Call g h q) of e = let bad : None ≡ Some (Ask x) = (told _ _ e).0 in cc
-    each (Do.Emit s g q) of e =
-        let d : Some s ≡ Some (Ask x) = (told _ _ e).0 in
-        let d' : s ≡ Ask x = cc in
-        absurd (subst IsNews d' of)
-    each (Do.Wait s g q) of e =
+    each (Do.Go h q) of e = let bad : None ≡ Some asked = (told _ _ e).0 in cc
+    each (Do.Call h i q) of e = let bad : None ≡ Some asked = (told _ _ e).0 in cc
+    each (Do.Emit s h q) of e =
+        let d : Some s ≡ Some asked = (told _ _ e).0 in
+        let d' : s ≡ asked = cc in
+        absurd (no-news s g of (subst (λ (z : FreeStep). AsksFor z g) (sym d') asks))
+    each (Do.Wait s h q) of e =
         let w = told _ _ e in
-        let d : Some s ≡ Some (Ask x) = w.0 in
-        let d' : s ≡ Ask x = cc in
-        let h = hook f (subst (λ (z : FreeStep). AsksFor z f) d' of.2) in
-        let i : record { works = g ∷ fs; pool = q } ≡ t = w.1 in
-        (h.0, h.1, sym i ∙ ap (λ (z : FreeFrame). let o : OpenFrees = record { works = z ∷ fs; pool = q } in o) of.0 ∙ ap (λ (z : Pool). let o : OpenFrees = record { works = f ∷ fs; pool = z } in o) of.1)
+        let d : Some s ≡ Some asked = w.0 in
+        let d' : s ≡ asked = cc in
+        let i : record { works = h ∷ fs; pool = q } ≡ t = w.1 in (
+          subst (λ (z : FreeStep). AsksFor z f) d' of.2,
+          sym i ∙ ap (λ (z : FreeFrame). let o : OpenFrees = record { works = z ∷ fs; pool = q } in o) of.0 ∙ ap (λ (z : Pool). let o : OpenFrees = record { works = f ∷ fs; pool = z } in o) of.1,
+        )

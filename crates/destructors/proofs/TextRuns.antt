@@ -1,5 +1,5 @@
 -- A free that is driven from its beginning to its end is the free of the rules' text.
-use Rattle.std.proofs.Common.{◌≡◌, ◌≢◌, ℕ, suc, zero, ◌+◌, List, [], ◌∷◌, ◌++◌, map, Option, Some, None, true, refl, sym, ◌∙◌, ap, subst, arith}
+use Rattle.std.proofs.Common.{◌≡◌, ◌≢◌, ℕ, suc, zero, ◌+◌, List, [], ◌∷◌, ◌++◌, map, Option, Some, None, true, false, refl, sym, ◌∙◌, ap, subst, arith}
 use Rattle.step_machine.specs.Machine.{Outcome, run, rest, pass, leads, tell, tells, followed, map_items}
 use Rattle.step_machine.specs.Machine.{Move as Do}
 use Rattle.step_machine.specs.Machine.Outcome.{Ended, Waits, Stray, Short}
@@ -12,57 +12,52 @@ use Rattle.step_machine.proofs.NotedLaws.{noted-run}
 use Rattle.step_machine.proofs.Uses.{uses, tells-ended, ended-followed}
 use Rattle.tree_specs.specs.declared.event.Event.{Event}
 use Rattle.tree_specs.specs.declared.frame.Answer.{Answer}
-use Rattle.tree_specs.specs.declared.frame.Answer.TheVariants.{Freed, Returned}
-use Rattle.tree_specs.specs.declared.frame.CallFrame.TheVariants.{Asking}
+use Rattle.tree_specs.specs.declared.frame.Answer.TheVariants.{Freed}
 use Rattle.tree_specs.specs.declared.frame.Frame.{Frame}
 use Rattle.tree_specs.specs.declared.frame.Frame.TheVariants as frame
 use Rattle.tree_specs.specs.declared.frame.FreeFrame.{FreeFrame}
-use Rattle.tree_specs.specs.declared.frame.FreeFrame.TheVariants.{Unlinking, Beginning, Hooked, Judged, Looping}
+use Rattle.tree_specs.specs.declared.frame.FreeFrame.TheVariants.{Unlinking, Beginning, Hooked, Preparing, Looping}
 use Rattle.tree_specs.specs.declared.frame.Purpose.TheVariants.{Emptying}
 use Rattle.tree_specs.specs.declared.free_step.FreeReply.{FreeReply}
 use Rattle.tree_specs.specs.declared.free_step.FreeReply.TheVariants.{Ok}
 use Rattle.tree_specs.specs.declared.free_step.FreeStep.{FreeStep}
-use Rattle.tree_specs.specs.declared.free_step.FreeStep.TheVariants.{Ask, Done}
+use Rattle.tree_specs.specs.declared.free_step.FreeStep.TheVariants.{Ask, Prepare, Done}
 use Rattle.tree_specs.specs.declared.object.Obj.{Obj}
 use Rattle.tree_specs.specs.declared.object.Owner.{Owner}
-use Rattle.tree_specs.specs.declared.question.Ask.TheVariants.{Routine}
 use Rattle.tree_specs.specs.declared.question.Input.{Input}
-use Rattle.tree_specs.specs.Invariants.Alone.{AwaitsRun, FreesWait}
+use Rattle.tree_specs.specs.Invariants.Noted.{NotesHold, RestsNoted, received_next}
+use Rattle.tree_specs.specs.Invariants.Noted.{Noted as NotedOf}
 use Rattle.tree_specs.specs.Rules.Items.{Item}
 use Rattle.tree_specs.specs.Rules.Items.Item.{Told}
 use Rattle.tree_specs.specs.Tree.Pool.{Pool, target_at}
 use Rattle.tree_specs.specs.Tree.Targets.{newest_ref}
-use Rattle.tree_specs.specs.Rules.Answers.{hook_moment}
 use Rattle.tree_specs.specs.Rules.Story.{items, free, unlink, children}
 use Rattle.tree_specs.specs.Rules.Sequence.{Scene, CallStart, gives}
 use Rattle.tree_specs.specs.Machine.Meaning.{noted_table, mean, stated}
 use Rattle.tree_specs.specs.Machine.FreeTable.{FreeMove, free_step, free_resume}
-use Rattle.tree_specs.specs.Machine.Table.{table, notes, step, resume, freeing_resume, event_of, lifted}
+use Rattle.tree_specs.specs.Machine.Table.{Step, table, notes, step, resume, run_for, freeing_resume, event_of, lifted}
 use Rattle.tree_specs.proofs.Rules.Means.{run-means}
 use Rattle.tree_specs.proofs.Rules.MidStories.{innermost-enough}
-use Rattle.destructors.specs.Frees.{OpenFrees, answered, moved, moves, next_of, speaking, Silently, Still, On, Steps, Begins}
-use Rattle.destructors.specs.Runs.{IsNews, listed, told_of, AwaitsHook, hook_run, told_back, Drives, Over, Tells, Runs, EndsAs}
-use Rattle.destructors.proofs.FreeMoves.{IsNoHook, AsksFor, IsMoveOf, is_move}
-use Rattle.destructors.specs.Callers.{OpenTurn, free_view}
+use Rattle.destructors.specs.Frees.{OpenFrees, awaits_run, answered, moved, moves, next_of, speaking, Silently, Still, On, Steps, Begins}
+use Rattle.destructors.specs.Runs.{IsNews, AsksFor, listed, told_of, run_of, gone_on, Drives, Over, Tells, Runs, EndsAs}
+use Rattle.destructors.proofs.FreeMoves.{IsMoveOf, is_move}
 use Rattle.destructors.specs.Moves.{IsLiveRow}
-use Rattle.destructors.specs.Works.{MayBegin}
-use Rattle.destructors.proofs.Callers.{some_callers, among}
-use Rattle.destructors.proofs.Parts.{some_turns}
-use Rattle.destructors.proofs.Begins.{begins, may-free, may-unlink, may-empty}
-use Rattle.destructors.proofs.Settling.{still, asks-hooked}
+use Rattle.destructors.specs.Works.{AreAwaiting, MayBegin}
+use Rattle.destructors.proofs.Hosting.{AwaitsRun, awaiting-runs, resumed-free, told-answer, begins}
+use Rattle.destructors.proofs.Begins.{may-free, may-unlink, may-empty}
+use Rattle.destructors.proofs.Settling.{run-speaks, still, no-news, asks-run, asks-waiting}
 
 waits-speak : (works : List FreeFrame) (p : Pool) → AwaitsRun works → speaking (record { works = works; pool = p }) ≡ true
 waits-speak [] p w = refl
-waits-speak (Hooked x h ∷ fs) p w = refl
-waits-speak (_ ∷ fs) p w = absurd w
+waits-speak (f ∷ fs) p w = run-speaks f fs p w
 
 first-is : {A B : Type 0} (a : A × B) (u : A) → a.0 ≡ u → a ≡ (u, a.1)
 first-is {A = A} {B = B} (v, b) u e = ap (λ (z : A). let y : A × B = (z, b) in y) e
 
--- none of these works waits for a destructor
-abbrev NoHooks : List FreeFrame → Type 0
-NoHooks [] = Unit {0}
-NoHooks (f ∷ fs) = IsNoHook f × NoHooks fs
+-- all of these works wait for a free
+abbrev NoRuns : List FreeFrame → Type 0
+NoRuns [] = Unit {0}
+NoRuns (f ∷ fs) = (awaits_run f ≡ false) × NoRuns fs
 
 abbrev free_frame : FreeFrame → Frame
 free_frame f = frame.Free f
@@ -76,7 +71,7 @@ EndsBy f fs p is told a q = (n : ℕ) × (rest table n (frame.Free f) (free_fram
 
 -- what stands above the works of other begins ends so
 abbrev Ends : List FreeFrame → OpenFrees → List Input → List Item → FreeReply → Pool → Type 0
-Ends below s is told a q = (f : FreeFrame) (fs : List FreeFrame) → NoHooks fs → s.works ≡ f ∷ (fs ++ below) → EndsBy f fs s.pool is told a q
+Ends below s is told a q = (f : FreeFrame) (fs : List FreeFrame) → NoRuns fs → s.works ≡ f ∷ (fs ++ below) → EndsBy f fs s.pool is told a q
 
 -- ---- more turns
 
@@ -98,11 +93,6 @@ more-turns n (suc d) f fs p is h =
 
 -- ---- what a move leads to
 
--- a work that waits for no destructor goes on with what the free above it answers
-goes_on : (g : FreeFrame) (b : FreeReply) → IsNoHook g → freeing_resume g (Freed b) ≡ free_resume g b
-goes_on (Hooked x h) b n = absurd n
-goes_on _ b n = refl
-
 first-of : {A B : Type 0} (a c : A) (b d : B) → (let y : A × B = (a, b) in y) ≡ (c, d) → a ≡ c
 first-of {A = A} {B = B} a c b d e = ap (λ (z : A × B). z.0) e
 
@@ -111,38 +101,36 @@ second-of {A = A} {B = B} a c b d e = ap (λ (z : A × B). z.1) e
 
 module _ (below : List FreeFrame) (waits : AwaitsRun below) (a : FreeReply) (q : Pool) where
   -- an answer that is told ends the innermost begin
-  told-over : (b : FreeReply) (p : Pool) (fs : List FreeFrame) → NoHooks fs → (u : OpenFrees) (t : FreeStep) → answered b p (fs ++ below) ≡ (Some t, u) → (fs ≡ []) × (t ≡ Done b) × (u ≡ record { works = below; pool = p })
-  told-over b p [] n u t e = bottom below waits e
-    where
-      bottom : (gs : List FreeFrame) → AwaitsRun gs → answered b p gs ≡ (Some t, u) → (let none : List FreeFrame = [] in none ≡ []) × (t ≡ Done b) × (u ≡ record { works = gs; pool = p })
-      bottom [] w e = let d : Some (Done b) ≡ Some t = first-of _ _ _ _ e in let d' : Done b ≡ t = cc in (refl, sym d', sym (second-of _ _ _ _ e))
-      bottom (Hooked x h ∷ gs) w e = let d : Some (Done b) ≡ Some t = first-of _ _ _ _ e in let d' : Done b ≡ t = cc in (refl, sym d', sym (second-of _ _ _ _ e))
-      bottom (_ ∷ gs) w e = absurd w
-  told-over b p (Hooked x h ∷ fs) n u t e = absurd n.0
-  told-over b p (_ ∷ fs) n u t e = let bad : None ≡ Some t = first-of _ _ _ _ e in cc
+  told-over : (b : FreeReply) (p : Pool) (fs : List FreeFrame) → NoRuns fs → (u : OpenFrees) (t : FreeStep) → answered b p (fs ++ below) ≡ (Some t, u) → (fs ≡ []) × (t ≡ Done b) × (u ≡ record { works = below; pool = p })
+  told-over b p [] n u t e =
+      let e' : (let y : Option FreeStep × OpenFrees = (Some (Done b), record { works = below; pool = p }) in y) ≡ (Some t, u) = sym (told-answer b below p waits) ∙ e in
+      let d : Some (Done b) ≡ Some t = first-of _ _ _ _ e' in
+      let d' : Done b ≡ t = cc in
+      (refl, sym d', sym (second-of _ _ _ _ e'))
+  told-over b p (g ∷ fs) n u t e =
+      let e' : (let y : Option FreeStep × OpenFrees = (None, record { works = free_resume g b ∷ (fs ++ below); pool = p }) in y) ≡ (Some t, u) = rw n.0 at e in
+      let bad : None ≡ Some t = first-of _ _ _ _ e' in cc
 
   -- an answer that isn't told goes to the work below
-  handed-down : (b : FreeReply) (p : Pool) (fs : List FreeFrame) → NoHooks fs → (u : OpenFrees) → answered b p (fs ++ below) ≡ (None, u)
-      → (g : FreeFrame) × (gs : List FreeFrame) × (fs ≡ g ∷ gs) × IsNoHook g × NoHooks gs × (u ≡ record { works = free_resume g b ∷ (gs ++ below); pool = p })
-  handed-down b p [] n u e = absurd (bottom below waits e)
-    where
-      bottom : (gs : List FreeFrame) → AwaitsRun gs → answered b p gs ≡ (None, u) → ⊥
-      bottom [] w e = let bad : Some (Done b) ≡ None = first-of _ _ _ _ e in cc
-      bottom (Hooked x h ∷ gs) w e = let bad : Some (Done b) ≡ None = first-of _ _ _ _ e in cc
-      bottom (_ ∷ gs) w e = absurd w
-  handed-down b p (Hooked x h ∷ fs) n u e = absurd n.0
-  handed-down b p (g ∷ fs) n u e = (g, fs, refl, n.0, n.1, sym (second-of _ _ _ _ e))
+  handed-down : (b : FreeReply) (p : Pool) (fs : List FreeFrame) → NoRuns fs → (u : OpenFrees) → answered b p (fs ++ below) ≡ (None, u)
+      → (g : FreeFrame) × (gs : List FreeFrame) × (fs ≡ g ∷ gs) × (awaits_run g ≡ false) × NoRuns gs × (u ≡ record { works = free_resume g b ∷ (gs ++ below); pool = p })
+  handed-down b p [] n u e =
+      let e' : (let y : Option FreeStep × OpenFrees = (Some (Done b), record { works = below; pool = p }) in y) ≡ (None, u) = sym (told-answer b below p waits) ∙ e in
+      let bad : Some (Done b) ≡ None = first-of _ _ _ _ e' in cc
+  handed-down b p (g ∷ fs) n u e =
+      let e' : (let y : Option FreeStep × OpenFrees = (None, record { works = free_resume g b ∷ (fs ++ below); pool = p }) in y) ≡ (None, u) = rw n.0 at e in
+      (g, fs, refl, n.0, n.1, sym (second-of _ _ _ _ e'))
 
   -- ---- a move that tells nothing
 
-  handed-back : (f g : FreeFrame) (fs gs : List FreeFrame) (b : FreeReply) (p r : Pool) (is : List Input) (told : List Item) (n : ℕ) → free_step f p ≡ Do.Done b r → fs ≡ g ∷ gs → IsNoHook g
+  handed-back : (f g : FreeFrame) (fs gs : List FreeFrame) (b : FreeReply) (p r : Pool) (is : List Input) (told : List Item) (n : ℕ) → free_step f p ≡ Do.Done b r → fs ≡ g ∷ gs → awaits_run g ≡ false
       → rest table n (frame.Free (free_resume g b)) (free_frames gs) r is ≡ Ended (Freed a) q told [] → EndsBy f fs p is told a q
-  handed-back f g fs gs b p r is told n k e no_hook l = turned n f fs p is a q told (rw (k, e, goes_on g b no_hook) l)
+  handed-back f g fs gs b p r is told n k e free l = turned n f fs p is a q told (rw (k, e, resumed-free g b free) l)
 
   silent-back : (s t : OpenFrees) (is : List Input) (told : List Item) → next_of s ≡ (None, t) → Ends below t is told a q → Ends below s is told a q
   silent-back s t is told e h f fs n w = each (free_step f s.pool) refl (is_move f s.pool) (subst (λ (l : List FreeFrame). moves l s.pool ≡ (None, t)) w e)
     where
-      later : (g : FreeFrame) (gs : List FreeFrame) (p : Pool) → NoHooks gs → record { works = g ∷ (gs ++ below); pool = p } ≡ t → EndsBy g gs p is told a q
+      later : (g : FreeFrame) (gs : List FreeFrame) (p : Pool) → NoRuns gs → record { works = g ∷ (gs ++ below); pool = p } ≡ t → EndsBy g gs p is told a q
       later g gs p n d = subst (λ (z : OpenFrees). Ends below z is told a q) (sym d) h g gs n refl
 
       each : (m : FreeMove) → free_step f s.pool ≡ m → IsMoveOf f s.pool m → moved m (fs ++ below) ≡ (None, t) → EndsBy f fs s.pool is told a q
@@ -172,8 +160,7 @@ module _ (below : List FreeFrame) (waits : AwaitsRun below) (a : FreeReply) (q :
       no-end b d = let bad : IsNews (Done b) = subst IsNews d new in bad
 
       no-ask : (g : FreeFrame) (u : FreeStep) → AsksFor u g → u ≡ news → ⊥
-      no-ask g (Ask x) of d = let bad : IsNews (Ask x) = subst IsNews (sym d) new in bad
-      no-ask g _ of d = of
+      no-ask g u of d = no-news u g (subst IsNews (sym d) new) of
 
       -- where a step closes no descriptor, an object's leaving is no event
       emitted : (m : ℕ) (o : Option Event) (u : FreeStep) (g : FreeFrame) (p : Pool) → event_of s.pool.ring u ≡ o → rest table m (frame.Free g) (free_frames fs) p is ≡ Ended (Freed a) q told []
@@ -223,42 +210,44 @@ module _ (below : List FreeFrame) (waits : AwaitsRun below) (a : FreeReply) (q :
           let bad : AsksFor (Done b) f = subst (λ (z : FreeStep). AsksFor z f) e1 of.2 in absurd bad
       each (Do.Call g i p) k of d = let bad : None ≡ Some (Done b) = first-of _ _ _ _ d in cc
 
-  -- ---- a destructor runs
+  -- ---- what a free waits for runs
 
   -- a run that ends with these inputs leaves those that come after them
-  run-on : (m : ℕ) (x : Obj) (h v : ℕ) (p r : Pool) (us is : List Input) (ran : List Item) → hook_run m x h p us ≡ Ended (Returned v) r ran [] → hook_run m x h p (us ++ is) ≡ Ended (Returned v) r ran is
-  run-on m x h v p r us is ran e =
-      let u = uses table m (frame.Call (Asking (Routine (hook_moment x h)))) p us (Returned v) r ran [] e in
+  run-on : (m : ℕ) (g : FreeFrame) (b : Answer) (p r : Pool) (us is : List Input) (ran : List Item) → run_of m g p us ≡ Ended b r ran [] → run_of m g p (us ++ is) ≡ Ended b r ran is
+  run-on m g b p r us is ran e =
+      let u = uses table m (run_for g) p us b r ran [] e in
       let same : u.0 ≡ us = sym (append-none u.0) ∙ u.1 in
-      ap (λ (z : List Input). hook_run m x h p (z ++ is)) (sym same) ∙ u.2.ends is
+      ap (λ (z : List Input). run_of m g p (z ++ is)) (sym same) ∙ u.2.ends is
 
-  asked-back : (f : FreeFrame) (x : Obj) (h : ℕ) (fs : List FreeFrame) (p : Pool) (is : List Input) (told : List Item) (n : ℕ) → f ≡ Hooked x h
-      → leads table (rest table n) (step (frame.Free (Hooked x h)) p) (free_frames fs) is ≡ Ended (Freed a) q told [] → EndsBy f fs p is told a q
-  asked-back f x h fs p is told n e l = turned n f fs p is a q told (rw e l)
+  -- a work that asks calls the run that it waits for
+  calls-run : (asked : FreeStep) (g : FreeFrame) (p : Pool) → AsksFor asked g → step (frame.Free g) p ≡ Do.Call (run_for g) (frame.Free g) p
+  calls-run (Ask x) (Hooked y h) p a = refl
+  calls-run (Prepare x) (Preparing y) p a = refl
+  calls-run asked g p a = absurd a
 
-  runs-back : (s t : OpenFrees) (x : Obj) (h m v : ℕ) (p : Pool) (us is : List Input) (ran told : List Item) → Steps s (Ask x) t → AwaitsHook t.works x h → hook_run m x h t.pool us ≡ Ended (Returned v) p ran []
-      → Ends below (told_back v t.works p) is told a q → Ends below s (us ++ is) (ran ++ told) a q
-  runs-back s t x h m v p us is ran told steps hooked ran_so ends f fs n w =
-      let g = asks-hooked f (fs ++ below) s.pool x (next_of s).1 (subst (λ (l : List FreeFrame). moves l s.pool ≡ (Some (Ask x), (next_of s).1)) w (first-is (next_of s) (Some (Ask x)) steps.tells)) in
-      let loud : speaking (next_of s).1 ≡ true = rw (g.2, g.1) refl in
-      let t_is : t ≡ record { works = Hooked x g.0 ∷ (fs ++ below); pool = s.pool } = sym (still (next_of s).1 t steps.moves_on loud) ∙ g.2 ∙ ap (λ (z : FreeFrame). let y : OpenFrees = record { works = z ∷ (fs ++ below); pool = s.pool } in y) g.1 in
-      let same : Hooked x g.0 ≡ Hooked x h = subst (λ (z : OpenFrees). AwaitsHook z.works x h) t_is hooked in
-      let same_hook : g.0 ≡ h = cc in
-      let works_are : t.works ≡ Hooked x h ∷ (fs ++ below) = ap (λ (z : OpenFrees). z.works) t_is ∙ ap (λ (z : ℕ). Hooked x z ∷ (fs ++ below)) same_hook in
+  runs-back : (s t : OpenFrees) (asked : FreeStep) (g : FreeFrame) (gs : List FreeFrame) (m : ℕ) (b : Answer) (p : Pool) (us is : List Input) (ran told : List Item) → Steps s asked t → AsksFor asked g → t.works ≡ g ∷ gs
+      → run_of m g t.pool us ≡ Ended b p ran [] → Ends below (gone_on b g gs p) is told a q → Ends below s (us ++ is) (ran ++ told) a q
+  runs-back s t asked g gs m b p us is ran told steps asks works ran_so ends f fs n w =
+      let k = asks-waiting f (fs ++ below) s.pool asked g (next_of s).1 asks (subst (λ (l : List FreeFrame). moves l s.pool ≡ (Some asked, (next_of s).1)) w (first-is (next_of s) (Some asked) steps.tells)) in
+      let loud : speaking (next_of s).1 ≡ true = rw k.1 (run-speaks f (fs ++ below) s.pool (asks-run asked f k.0)) in
+      let t_is : t ≡ record { works = f ∷ (fs ++ below); pool = s.pool } = sym (still (next_of s).1 t steps.moves_on loud) ∙ k.1 in
       let pool_is : t.pool ≡ s.pool = ap (λ (z : OpenFrees). z.pool) t_is in
-      let l = ends (Judged x h v) fs n (ap (λ (z : List FreeFrame). (told_back v z p).works) works_are) in
-      let run_now : hook_run m x h s.pool (us ++ is) ≡ Ended (Returned v) p ran is = run-on m x h v s.pool p us is ran (subst (λ (z : Pool). hook_run m x h z us ≡ Ended (Returned v) p ran []) pool_is ran_so) in
-      let big : hook_run (m + l.0) x h s.pool (us ++ is) ≡ Ended (Returned v) p ran is =
-      sym (run-same table m l.0 (frame.Call (Asking (Routine (hook_moment x h)))) s.pool (us ++ is) (ended-whole _ (Returned v) p ran is run_now)) ∙ run_now in
+      let here : f ∷ (fs ++ below) ≡ g ∷ gs = sym (ap (λ (z : OpenFrees). z.works) t_is) ∙ works in
+      let same : f ≡ g = cc in
+      let rest_is : fs ++ below ≡ gs = cc in
+      let l = ends (freeing_resume g b) fs n (ap (λ (z : List FreeFrame). freeing_resume g b ∷ z) (sym rest_is)) in
+      let run_now : run_of m g s.pool (us ++ is) ≡ Ended b p ran is = run-on m g b s.pool p us is ran (subst (λ (z : Pool). run_of m g z us ≡ Ended b p ran []) pool_is ran_so) in
+      let big : run_of (m + l.0) g s.pool (us ++ is) ≡ Ended b p ran is = sym (run-same table m l.0 (run_for g) s.pool (us ++ is) (ended-whole _ b p ran is run_now)) ∙ run_now in
       let turns : l.0 + m ≡ m + l.0 = omega arith in
-      let rest_on : rest table (m + l.0) (frame.Free (Judged x h v)) (free_frames fs) p is ≡ Ended (Freed a) q told [] =
-      ap (λ (k : ℕ). rest table k (frame.Free (Judged x h v)) (free_frames fs) p is) (sym turns)
-      ∙ sym (more-turns l.0 m (frame.Free (Judged x h v)) (free_frames fs) p is (ended-whole _ (Freed a) q told [] l.1)) ∙ l.1 in
-      let leading : leads table (rest table (m + l.0)) (step (frame.Free (Hooked x h)) s.pool) (free_frames fs) (us ++ is) ≡ Ended (Freed a) q (ran ++ told) [] =
-      ap (λ (o : Outcome Answer Pool Input Item). followed o (λ b r left. pass table (m + l.0) (free_frames fs) (run table (m + l.0) (resume (frame.Free (Hooked x h)) b) r left))) big
+      let rest_on : rest table (m + l.0) (frame.Free (freeing_resume g b)) (free_frames fs) p is ≡ Ended (Freed a) q told [] =
+      ap (λ (k : ℕ). rest table k (frame.Free (freeing_resume g b)) (free_frames fs) p is) (sym turns)
+      ∙ sym (more-turns l.0 m (frame.Free (freeing_resume g b)) (free_frames fs) p is (ended-whole _ (Freed a) q told [] l.1)) ∙ l.1 in
+      let followed_on : followed (run_of (m + l.0) g s.pool (us ++ is)) (λ c r left. pass table (m + l.0) (free_frames fs) (run table (m + l.0) (resume (frame.Free g) c) r left)) ≡ Ended (Freed a) q (ran ++ told) [] =
+      ap (λ (o : Outcome Answer Pool Input Item). followed o (λ c r left. pass table (m + l.0) (free_frames fs) (run table (m + l.0) (resume (frame.Free g) c) r left))) big
       ∙ ap (λ (o : Outcome Answer Pool Input Item). tells ran o) rest_on ∙ tells-ended ran (Freed a) q told [] in
-      let f_is : f ≡ Hooked x h = g.1 ∙ ap (λ (z : ℕ). Hooked x z) same_hook in
-      asked-back f x h fs s.pool (us ++ is) (ran ++ told) (m + l.0) f_is leading
+      let leading : leads table (rest table (m + l.0)) (step (frame.Free g) s.pool) (free_frames fs) (us ++ is) ≡ Ended (Freed a) q (ran ++ told) [] =
+      ap (λ (z : Step). leads table (rest table (m + l.0)) z (free_frames fs) (us ++ is)) (calls-run asked g s.pool asks) ∙ followed_on in
+      subst (λ (z : FreeFrame). EndsBy z fs s.pool (us ++ is) (ran ++ told) a q) (sym same) (turned (m + l.0) g fs s.pool (us ++ is) a q (ran ++ told) leading)
 
 -- ---- all of it
 
@@ -268,8 +257,8 @@ drives-ends below waits s _ _ a _ (Over _ t _ steps) = over-back below waits a t
 drives-ends below waits s _ _ a q (Tells _ t news is more _ _ new steps later) =
     news-back below waits a q s (next_of s).1 news is more new (first-is (next_of s) (Some news) steps.tells)
     (silently-back below waits a q (next_of s).1 t is more steps.moves_on (drives-ends below waits t is more a q later))
-drives-ends below waits s _ _ a q (Runs _ t x h n v p us is ran more _ _ steps hooked run later) =
-    runs-back below waits a q s t x h n v p us is ran more steps hooked run (drives-ends below waits (told_back v t.works p) is more a q later)
+drives-ends below waits s _ _ a q (Runs _ t asked f fs n b p us is ran more _ _ steps asks works run later) =
+    runs-back below waits a q s t asked f fs n b p us is ran more steps asks works run (drives-ends below waits (gone_on b f fs p) is more a q later)
 
 -- what was begun ends so by the table
 begun-ends : (f : FreeFrame) (below : List FreeFrame) (p : Pool) (s : OpenFrees) (is : List Input) (told : List Item) (a : FreeReply) (q : Pool) → AwaitsRun below → Begins (f ∷ below) p s → Drives s is told a q
@@ -300,14 +289,15 @@ no-short f (Stray ts) e = cc
 no-short f Short e = refl
 
 -- and by the text, with the stated turns
-begun-means : (f : FreeFrame) (below : List FreeFrame) (p : Pool) (s : OpenFrees) (is : List Input) (told : List Item) (a : FreeReply) (q : Pool) → MayBegin f p → FreesWait below p → Begins (f ∷ below) p s → Drives s is told a q
-    → (scenes : List Scene) × (mean (stated p is) (frame.Free f) None p is ≡ Ended (Freed a) q scenes []) × (items scenes ≡ told)
-begun-means f below p s is told a q may waits started drives =
+begun-means : (f : FreeFrame) (below : List FreeFrame) (p : Pool) (s : OpenFrees) (is : List Input) (told : List Item) (a : FreeReply) (q : Pool) → MayBegin f p → RestsNoted (frame.Free f) p → received_next (frame.Free f) ≡ None → AreAwaiting below p → NotesHold None p
+    → Begins (f ∷ below) p s → Drives s is told a q → (scenes : List Scene) × (mean (stated p is) (frame.Free f) None p is ≡ Ended (Freed a) q scenes []) × (items scenes ≡ told)
+begun-means f below p s is told a q may noted next waits notes_hold started drives =
     let n : ℕ = stated p is in
-    let ts : List OpenTurn = some_turns p.rows in
-    let r = begun-ends f below p s is told a q waits.sound.rests started drives in
+    let r = begun-ends f below p s is told a q (awaiting-runs below p waits) started drives in
     let w : Noted Frame CallStart = with_note None (frame.Free f) in
-    let whole : run noted_table n w p is ≢ Short = innermost-enough (free_view f below (some_callers below ts) ts p) is (among f below p (begins f (record { works = below; pool = p }) may waits)) in
+    let h = begins f below p may waits in
+    let holds : NotedOf (frame.Free f) p = record { pool = rw next notes_hold; works = noted } in
+    let whole : run noted_table n w p is ≢ Short = innermost-enough (record { innermost = frame.Free f; below = h.below; pool = p }) is h.sound holds h.light in
     let plain : run table n (frame.Free f) p is ≢ Short = λ short. whole (no-short item_of (run noted_table n w p is) (noted-run notes table n w p is ∙ short)) in
     let ended : run table r.0 (frame.Free f) p is ≢ Short = λ short. let bad : Ended (Freed a) q told [] ≡ Short = sym r.1 ∙ short in cc in
     let sum : n + r.0 ≡ r.0 + n = omega arith in
@@ -336,21 +326,21 @@ emptied-ends o a q ts e =
           ∙ ap (λ (z : List Scene). let y : Outcome (Unit {0}) Pool Input Scene = Ended tt q z w.4 in y) same ∙ ap (λ (z : List Input). let y : Outcome (Unit {0}) Pool Input Scene = Ended tt q ts z in y) e4,
     )
 
-pub free-as_text : (x : Obj) (below : List FreeFrame) (p q : Pool) (s : OpenFrees) (is : List Input) (told : List Item) (a : FreeReply) → FreesWait below p → target_at p.rows x ≡ None → newest_ref p.rows x ≡ None
+pub free-as_text : (x : Obj) (below : List FreeFrame) (p q : Pool) (s : OpenFrees) (is : List Input) (told : List Item) (a : FreeReply) → AreAwaiting below p → NotesHold None p → target_at p.rows x ≡ None → newest_ref p.rows x ≡ None
     → Begins (Beginning x ∷ below) p s → Drives s is told a q → EndsAs (free (stated p is) x p is) a q told
-free-as_text x below p q s is told a waits object unheld started drives =
-    let m = begun-means (Beginning x) below p s is told a q (may-free x p unheld object) waits started drives in
+free-as_text x below p q s is told a waits notes object unheld started drives =
+    let m = begun-means (Beginning x) below p s is told a q (may-free x p unheld object) tt refl waits notes started drives in
     (m.0, freed-ends (free (stated p is) x p is) a q m.0 m.1, m.2)
 
-pub unlink-as_text : (o : Owner) (x : Obj) (below : List FreeFrame) (p q : Pool) (s : OpenFrees) (is : List Input) (told : List Item) (a : FreeReply) → FreesWait below p → IsLiveRow p x → target_at p.rows x ≡ None
+pub unlink-as_text : (o : Owner) (x : Obj) (below : List FreeFrame) (p q : Pool) (s : OpenFrees) (is : List Input) (told : List Item) (a : FreeReply) → AreAwaiting below p → NotesHold None p → IsLiveRow p x → target_at p.rows x ≡ None
     → Begins (Unlinking o x ∷ below) p s → Drives s is told a q → EndsAs (unlink (stated p is) o x p is) a q told
-unlink-as_text o x below p q s is told a waits live object started drives =
-    let m = begun-means (Unlinking o x) below p s is told a q (may-unlink o x p live object) waits started drives in
+unlink-as_text o x below p q s is told a waits notes live object started drives =
+    let m = begun-means (Unlinking o x) below p s is told a q (may-unlink o x p live object) tt refl waits notes started drives in
     (m.0, freed-ends (unlink (stated p is) o x p is) a q m.0 m.1, m.2)
 
-pub children-as_text : (x : Obj) (below : List FreeFrame) (p q : Pool) (s : OpenFrees) (is : List Input) (told : List Item) (a : FreeReply) → FreesWait below p
+pub children-as_text : (x : Obj) (below : List FreeFrame) (p q : Pool) (s : OpenFrees) (is : List Input) (told : List Item) (a : FreeReply) → AreAwaiting below p → NotesHold None p
     → Begins (Looping x Emptying ∷ below) p s → Drives s is told a q → (a ≡ Ok) × EndsAs (children (stated p is) x p is) tt q told
-children-as_text x below p q s is told a waits started drives =
-    let m = begun-means (Looping x Emptying) below p s is told a q (may-empty x p) waits started drives in
+children-as_text x below p q s is told a waits notes started drives =
+    let m = begun-means (Looping x Emptying) below p s is told a q (may-empty x p) tt refl waits notes started drives in
     let e = emptied-ends (children (stated p is) x p is) a q m.0 m.1 in
     (e.0, (m.0, e.1, m.2))

@@ -1,14 +1,13 @@
 -- What an engine and the tree keep of the open frees.
-use Rattle.std.specs.Prelude.{◌≡◌, ◌+◌, ◌≤◌, true, [], ◌∷◌, length, Option, Some, None, ◌⊎◌}
+use Rattle.std.specs.Prelude.{◌≡◌, ◌+◌, ◌≤◌, true, List, [], ◌∷◌, length, Option, Some, None, ◌⊎◌}
 use Rattle.tree_specs.specs.declared.frame.FreeFrame.{FreeFrame}
-use Rattle.tree_specs.specs.declared.frame.FreeFrame.TheVariants.{Hooked}
+use Rattle.tree_specs.specs.declared.frame.FreeFrame.TheVariants.{Hooked, Preparing}
 use Rattle.tree_links.specs.Links.{Links, pool_of}
-use Rattle.destructors.specs.Frees.{before, frees_of, moves, speaking, Begins}
+use Rattle.destructors.specs.Frees.{before, frees_of, awaits_run, moves, speaking, Begins}
 use Rattle.destructors.specs.Changes.{SameRows}
-use Rattle.tree_specs.specs.Invariants.Alone.{FreesWait}
 use Rattle.references.specs.Pairs.{Pairs}
 use Rattle.references.specs.Rows.{AreRefsOf}
-use Rattle.destructors.specs.Works.{AtWork, IsAtWork}
+use Rattle.destructors.specs.Works.{AtWork, IsAtWork, AreAwaiting}
 use Rattle.destructors.specs.Room.{wanted}
 
 -- the innermost free waits for its destructor
@@ -16,19 +15,28 @@ abbrev pub IsAsked : Option FreeFrame → Type 0
 IsAsked (Some (Hooked x h)) = Unit {0}
 IsAsked _ = ⊥
 
+-- or until its request was received
+abbrev pub IsReceiving : Option FreeFrame → Type 0
+IsReceiving (Some (Preparing x)) = Unit {0}
+IsReceiving _ = ⊥
+
 -- where the engine has no work, none waits in the tree
 abbrev pub AreKept : Option FreeFrame → Links → Type 0
 AreKept None tree = tree.frees ≡ []
 AreKept (Some f) tree = Unit {0}
 
--- there is room for all works that may come to stand until the next destructor runs
+-- there is room for all works that may come to stand
 abbrev pub HasRoom : Option FreeFrame → Links → Type 0
 HasRoom innermost tree = wanted (before innermost tree.frees) tree.rows ≤ length tree.frees + tree.room
 
--- no free is open, or one is at work, or there is nothing to do but to tell
+-- and so there is once a free has begun with this work
+abbrev pub HasRoomFor : FreeFrame → Option FreeFrame → Links → Type 0
+HasRoomFor work innermost tree = wanted (work ∷ before innermost tree.frees) tree.rows ≤ length tree.frees + tree.room
+
+-- no free is open, or one is at work, or it waits for no free
 abbrev pub MayMove : Option FreeFrame → Links → Type 0
 MayMove None tree = tree.frees ≡ []
-MayMove (Some f) tree = AtWork (f ∷ tree.frees) (pool_of tree) ⊎ (speaking (frees_of (Some f) tree) ≡ true)
+MayMove (Some f) tree = AtWork (f ∷ tree.frees) (pool_of tree) ⊎ (awaits_run f ≡ true)
 
 -- the next move of a work tells nothing, and leads to this work; or it speaks, and nothing is done
 abbrev pub MovesQuietly : FreeFrame → Links → Option FreeFrame → Links → Type 0
@@ -38,7 +46,7 @@ MovesQuietly work tree (Some next) tree' = moves (work ∷ tree.frees) (pool_of 
 -- no free is open, and none of the objects is asked or dying
 pub record IsAtRest (tree : Links) (pairs : Pairs) : Type 0 where
   pub alone : tree.frees ≡ []
-  pub waiting : FreesWait [] (pool_of tree)
+  pub waiting : AreAwaiting [] (pool_of tree)
   pub refs : AreRefsOf pairs.pairs tree.rows
 
 pub record IsBetweenCalls (innermost : Option FreeFrame) (tree : Links) : Type 0 where
@@ -53,9 +61,9 @@ pub record IsFreeing (innermost : Option FreeFrame) (tree : Links) (pairs : Pair
   pub kept : AreKept innermost tree
   pub room : HasRoom innermost tree
 
--- a free has begun with this work, before those that were open, and has come to what it tells or asks first
-pub record HasBegun (work : FreeFrame) (innermost : Option FreeFrame) (tree : Links) (pairs : Pairs) (innermost' : Option FreeFrame) (tree' : Links) (pairs' : Pairs) : Type 0 where
-  pub begins : Begins (work ∷ before innermost tree.frees) (pool_of tree) (frees_of innermost' tree')
+-- a free has begun, or goes on, with these works, and has come to what it tells or asks first
+pub record HasBegun (works : List FreeFrame) (tree : Links) (pairs : Pairs) (innermost' : Option FreeFrame) (tree' : Links) (pairs' : Pairs) : Type 0 where
+  pub begins : Begins works (pool_of tree) (frees_of innermost' tree')
   pub at_work : IsAtWork (frees_of innermost' tree')
   pub kept : AreKept innermost' tree'
   pub room : HasRoom innermost' tree'

@@ -1,9 +1,9 @@
 -- The open frees, one move after another. The works of all frees stand in one list, the innermost first; each begin stands on the free
--- whose destructor runs.
-use Rattle.std.specs.Prelude.{◌≡◌, ℕ, Bool, true, false, ◌&&◌, List, [], ◌∷◌, Option, Some, None, is_some, is_none, unwrap_or}
+-- whose destructor runs, or whose request is received.
+use Rattle.std.specs.Prelude.{◌≡◌, ℕ, Bool, true, false, ◌&&◌, List, [], ◌∷◌, Option, Some, None, is_some, is_none, unwrap_or, if◌then◌else◌}
 use Rattle.step_machine.specs.Machine.{Move as Do}
 use Rattle.tree_specs.specs.declared.frame.FreeFrame.{FreeFrame}
-use Rattle.tree_specs.specs.declared.frame.FreeFrame.TheVariants.{Hooked}
+use Rattle.tree_specs.specs.declared.frame.FreeFrame.TheVariants.{Hooked, Preparing, Prepared}
 use Rattle.tree_specs.specs.declared.free_step.FreeReply.{FreeReply}
 use Rattle.tree_specs.specs.declared.free_step.FreeStep.{FreeStep}
 use Rattle.tree_specs.specs.declared.free_step.FreeStep.TheVariants.{Doom, Left, Done}
@@ -29,11 +29,16 @@ before (Some f) fs = f ∷ fs
 abbrev pub frees_of : Option FreeFrame → Links → OpenFrees
 frees_of innermost t = record { works = before innermost t.frees; pool = pool_of t }
 
--- what a free answers goes to the work below it; where that waits for a destructor, or there is none, the begin is over
+-- it waits for no free, but for the run of a destructor, or until a request was received
+abbrev pub awaits_run : FreeFrame → Bool
+awaits_run (Hooked x h) = true
+awaits_run (Preparing x) = true
+awaits_run f = false
+
+-- what a free answers goes to the work below it; where that waits for no free, or there is none, the begin is over
 abbrev pub answered : FreeReply → Pool → List FreeFrame → Option FreeStep × OpenFrees
 answered a p [] = (Some (Done a), record { works = []; pool = p })
-answered a p (Hooked x h ∷ fs) = (Some (Done a), record { works = Hooked x h ∷ fs; pool = p })
-answered a p (f ∷ fs) = (None, record { works = free_resume f a ∷ fs; pool = p })
+answered a p (f ∷ fs) = if awaits_run f then (Some (Done a), record { works = f ∷ fs; pool = p }) else (None, record { works = free_resume f a ∷ fs; pool = p })
 
 -- what a move tells, and the frees after it
 abbrev pub moved : FreeMove → List FreeFrame → Option FreeStep × OpenFrees
@@ -77,6 +82,15 @@ returned v s = judged v s.works
     judged : ℕ → List FreeFrame → List FreeFrame
     judged v [] = []
     judged v (f ∷ fs) = unwrap_or (free_taken f s.pool v) f ∷ fs
+
+-- the request that the innermost free waits for was received
+abbrev pub was_received : FreeFrame → FreeFrame
+was_received (Preparing x) = Prepared x
+was_received f = f
+
+abbrev pub received : List FreeFrame → List FreeFrame
+received [] = []
+received (f ∷ fs) = was_received f ∷ fs
 
 -- moves that tell nothing
 pub data Silently (s : OpenFrees) : OpenFrees → Type 0 where

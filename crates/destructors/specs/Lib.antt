@@ -2,7 +2,6 @@ pub mod Moves
 pub mod Frees
 pub mod Works
 pub mod Runs
-pub mod Callers
 pub mod Room
 pub mod Engine
 pub mod Changes

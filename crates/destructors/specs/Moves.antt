@@ -5,16 +5,15 @@ use Rattle.tree_specs.specs.declared.object.Obj.{Obj}
 use Rattle.tree_specs.specs.declared.object.Owner.{Owner}
 use Rattle.tree_specs.specs.declared.object.Owner.TheVariants.{Of}
 use Rattle.tree_specs.specs.declared.frame.FreeFrame.{FreeFrame}
-use Rattle.tree_specs.specs.declared.frame.FreeFrame.TheVariants.{Unlinking, Releasing, Giving, Beginning, Hooked, Judged, Dooming, Leaving, Looping, FreeingChild, AfterChild, Ending}
+use Rattle.tree_specs.specs.declared.frame.FreeFrame.TheVariants.{Unlinking, Releasing, Giving, Beginning, Hooked, Judged, Preparing, Prepared, Dooming, Leaving, Looping, FreeingChild, AfterChild, Ending}
 use Rattle.tree_specs.specs.declared.frame.Purpose.TheVariants.{Removal, Emptying}
-use Rattle.tree_specs.specs.declared.free_step.FreeStep.TheVariants.{Ask}
 use Rattle.tree_specs.specs.declared.row.Mark.TheVariants as mark
 use Rattle.tree_specs.specs.Tree.Pool.{Pool, is_row, is_below, owner_of, target_at, is_dying, set_mark}
 use Rattle.tree_specs.specs.Tree.Heirs.{heir}
 use Rattle.tree_specs.specs.Machine.FreeTable.{FreeMove}
 use Rattle.tree_links.specs.Links.{MayPlace}
 use Rattle.destructors.specs.declared.motion.Motion.{Motion}
-use Rattle.destructors.specs.declared.motion.Motion.TheVariants.{Ends, Goes, Tells, Asks, Pushes}
+use Rattle.destructors.specs.declared.motion.Motion.TheVariants.{Ends, Goes, Tells, Waits, Pushes}
 use Rattle.destructors.specs.declared.motion.Outlook.{Outlook}
 use Rattle.destructors.specs.declared.motion.Outlook.TheVariants.{Telling, Ending as Over, Going, Pushing}
 
@@ -22,7 +21,7 @@ abbrev pub move_of : Motion → Pool → FreeMove
 move_of (Ends a) p = Do.Done a p
 move_of (Goes f) p = Do.Go f p
 move_of (Tells t f) p = Do.Emit t f p
-move_of (Asks x f) p = Do.Wait (Ask x) f p
+move_of (Waits t f) p = Do.Wait t f p
 move_of (Pushes g f) p = Do.Call g f p
 
 -- what can be said of a move before it is made
@@ -37,14 +36,19 @@ outlook_of (Do.Call g f p) = Pushing g f
 abbrev pub IsLiveRow : Pool → Obj → Type 0
 IsLiveRow p x = (is_row p.rows x ≡ true) × (is_dying p.rows x ≡ false)
 
--- what a move that tells nothing does to the objects: one that is to be asked is marked so
-abbrev pub entered : FreeFrame → Pool → Pool
-entered (Hooked x h) p = set_mark p x mark.Asked
-entered f p = p
+-- what a move that tells nothing does to the objects: one that is to be asked, or to be received, is marked so, and one that was
+-- received is quiet again
+abbrev pub entered : FreeFrame → FreeFrame → Pool → Pool
+entered (Prepared x) next p = set_mark p x mark.Quiet
+entered work (Hooked x h) p = set_mark p x mark.Asked
+entered work (Preparing x) p = set_mark p x mark.Asked
+entered work next p = p
 
-abbrev pub MayEnter : FreeFrame → Pool → Type 0
-MayEnter (Hooked x h) p = IsLiveRow p x
-MayEnter f p = Unit {0}
+abbrev pub MayEnter : FreeFrame → FreeFrame → Pool → Type 0
+MayEnter (Prepared x) next p = IsLiveRow p x
+MayEnter work (Hooked x h) p = IsLiveRow p x
+MayEnter work (Preparing x) p = IsLiveRow p x
+MayEnter work next p = Unit {0}
 
 -- a child that is to be handed on may be put below its heir
 abbrev pub MayHandOn : Pool → Obj → Obj → Option Owner → Type 0
@@ -58,6 +62,8 @@ MoveRests (Giving x o) p = MayPlace p.rows x o
 MoveRests (Beginning x) p = Unit {0}
 MoveRests (Hooked x h) p = Unit {0}
 MoveRests (Judged x h v) p = IsLiveRow p x
+MoveRests (Preparing x) p = Unit {0}
+MoveRests (Prepared x) p = IsLiveRow p x
 MoveRests (Dooming x) p = Unit {0}
 MoveRests (Leaving x h) p = IsLiveRow p x
 MoveRests (Looping x (Removal h)) p = (is_dying p.rows x ≡ true) × (target_at p.rows x ≡ None)

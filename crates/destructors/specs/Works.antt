@@ -1,52 +1,66 @@
--- What an engine keeps of the open frees between its calls, whoever waits for them.
-use Rattle.std.specs.Prelude.{◌≡◌, List, [], ◌∷◌, Option, Some, None}
+-- What an engine keeps of the open frees between its calls: that they are those of a host in which everything holds that always does.
+use Rattle.std.specs.Prelude.{◌≡◌, List, [], ◌∷◌}
 use Rattle.tree_specs.specs.declared.object.Obj.{Obj}
+use Rattle.tree_specs.specs.declared.frame.Frame.{Frame}
+use Rattle.tree_specs.specs.declared.frame.Frame.TheVariants as frame
 use Rattle.tree_specs.specs.declared.frame.FreeFrame.{FreeFrame}
-use Rattle.tree_specs.specs.declared.frame.FreeFrame.TheVariants.{Leaving}
-use Rattle.tree_specs.specs.declared.row.Row.{Row}
+use Rattle.tree_specs.specs.declared.frame.FreeFrame.TheVariants.{Ending}
+use Rattle.tree_specs.specs.declared.free_step.FreeReply.TheVariants.{Ok}
 use Rattle.tree_specs.specs.declared.free_step.FreeStep.{FreeStep}
-use Rattle.tree_specs.specs.declared.free_step.FreeStep.TheVariants.{Ask, Done}
-use Rattle.tree_specs.specs.Tree.Pool.{Pool, row_of}
-use Rattle.tree_specs.specs.Machine.Profiles.{Phase, InHandler, phase_in, free_profile}
-use Rattle.tree_specs.specs.Invariants.Sound.{FreeRests}
+use Rattle.tree_specs.specs.declared.free_step.FreeStep.TheVariants.{Ask, Prepare, Done}
+use Rattle.tree_specs.specs.Tree.Pool.{Pool}
+use Rattle.tree_specs.specs.Machine.Profiles.{Phase}
+use Rattle.tree_specs.specs.Invariants.Sound.{Sound, FreeRests, footing, claim}
 use Rattle.tree_specs.specs.Invariants.Sound.Footing.{OnCall}
-use Rattle.tree_specs.specs.Invariants.Alone.{free_claim, FreesWork, FreesWait}
+use Rattle.tree_specs.specs.Invariants.Consistent.{IsStacked, IsPaidFor, innermost_size}
 use Rattle.destructors.specs.Frees.{OpenFrees}
 
--- what a turn says of an object: that its handler runs
-abbrev pub by_turn : Option Phase → List Phase
-by_turn (Some InHandler) = InHandler ∷ []
-by_turn phase = []
+-- the frees among the works of a host
+abbrev pub frees_among : List Frame → List FreeFrame
+frees_among [] = []
+frees_among (frame.Free f ∷ fs) = f ∷ frees_among fs
+frees_among (f ∷ fs) = frees_among fs
 
-abbrev pub turn_phases : Option Row → List Phase
-turn_phases None = []
-turn_phases (Some r) = by_turn (phase_in r.mark)
+-- no turn stands on a free
+abbrev pub AreTurnsLast : List Frame → Type 0
+AreTurnsLast [] = Unit {0}
+AreTurnsLast (frame.Turn t ∷ fs) = (frees_among fs ≡ []) × AreTurnsLast fs
+AreTurnsLast (f ∷ fs) = AreTurnsLast fs
 
--- no object leaves its owner while its handler runs
-abbrev pub LeavesIdle : FreeFrame → Pool → Type 0
-LeavesIdle (Leaving x h) p = turn_phases (row_of p.rows x) ≡ []
-LeavesIdle f p = Unit {0}
+-- This work of a free is innermost in some host, and these are the frees below it.
+pub record IsHosted (f : FreeFrame) (fs : List FreeFrame) (p : Pool) : Type 0 where
+  pub below : List Frame
+  pub frees : frees_among below ≡ fs
+  pub sound : Sound (frame.Free f) below p
+  pub seated : IsStacked (frame.Free f) below
+  pub light : IsPaidFor (frame.Free f) below p
+  pub turns : AreTurnsLast below
 
--- The innermost free is at work, and the others wait.
+-- the innermost free is at work, and the others wait
 abbrev pub AtWork : List FreeFrame → Pool → Type 0
 AtWork [] p = ⊥
-AtWork (f ∷ fs) p = FreesWork f fs p × LeavesIdle f p
+AtWork (f ∷ fs) p = IsHosted f fs p
 
 abbrev pub IsAtWork : OpenFrees → Type 0
 IsAtWork s = AtWork s.works s.pool
 
--- A caller is at work, whom the innermost free awaits, if there is one.
+-- whoever waits for a free that is over may begin another one, and the open frees wait for him
+pub record AreAwaiting (fs : List FreeFrame) (p : Pool) : Type 0 where
+  pub over : IsHosted (Ending Ok) fs p
+  pub on : footing over.below ≡ OnCall
+
 abbrev pub IsAwaiting : OpenFrees → Type 0
-IsAwaiting s = FreesWait s.works s.pool
+IsAwaiting s = AreAwaiting s.works s.pool
 
 -- what holds after a step
 abbrev pub GoesOn : FreeStep → OpenFrees → Type 0
 GoesOn (Ask x) s = IsAwaiting s
+GoesOn (Prepare x) s = IsAwaiting s
 GoesOn (Done a) s = IsAwaiting s
 GoesOn _ s = IsAtWork s
 
 -- a work that claims nothing, rests on the call that it is for, and takes no place of its own
 pub record MayBegin (f : FreeFrame) (p : Pool) : Type 0 where
-  pub claims_nothing : (x : Obj) → free_claim x f ≡ []
+  pub claims_nothing : (x : Obj) → claim x (frame.Free f) ≡ []
   pub rests : (claimed : Obj → List Phase) → FreeRests f OnCall claimed p
-  pub small : (free_profile f).top_size ≡ 0
+  pub small : innermost_size (frame.Free f) ≡ 0

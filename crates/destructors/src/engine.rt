@@ -13,7 +13,7 @@ use tree_links::Tree;
 use tree_specs::{FreeFrame, FreeStep, Mark, Obj, Owner, Purpose};
 
 /// Frees in progress on a tree and the references in it, as `talloc_free` and `talloc_unlink` go, with the runs of
-/// destructors left to the caller. Begins nest: while a destructor runs, further frees may begin and end. Contracts see
+/// destructors, and the receiving of requests, left to the caller. Begins nest: meanwhile further frees may begin and end. Contracts see
 /// the innermost work of the open frees; those that wait for it stand in the tree, and contracts see both as one list
 /// (`frees_of`).
 ///
@@ -32,7 +32,7 @@ impl Model for FreeEngine {
 
 /// The innermost work is to wait in the tree.
 fn wait(innermost: Option<FreeFrame>, tree: &mut Tree)
-    requires { 0 < tree.old.room }
+    requires { length (before innermost tree.old.frees) ≤ length tree.old.frees + tree.old.room }
     ensures rows { pool_of tree.new ≡ pool_of tree.old }
     ensures works { tree.new.frees ≡ before innermost tree.old.frees }
     ensures room { length tree.old.frees + tree.old.room ≤ length tree.new.frees + tree.new.room }
@@ -62,17 +62,17 @@ fn is_doomed_now(x: Obj, tree: &Tree, refs: &Refs) -> bool
 }
 
 impl FreeEngine {
-    ghost use Rattle.std.specs.Prelude.{true, None, is_some, []};
+    ghost use Rattle.std.specs.Prelude.{true, None, is_some, [], ◌∷◌};
     ghost use Rattle.tree_specs.specs.declared.frame.FreeFrame.TheVariants.{Unlinking, Beginning, Looping};
     ghost use Rattle.tree_specs.specs.declared.frame.Purpose.TheVariants.{Emptying};
-    ghost use Rattle.destructors.specs.Frees.{frees_of, next_of, is_event, let_go_by, returned, speaking, Steps};
+    ghost use Rattle.destructors.specs.Frees.{frees_of, next_of, is_event, let_go_by, returned, received as received_works, speaking, Steps};
     ghost use Rattle.destructors.specs.Works.{IsAtWork, IsAwaiting, MayBegin, GoesOn};
     ghost use Rattle.tree_specs.specs.Tree.Targets.{newest_ref};
     ghost use Rattle.tree_specs.specs.Tree.Pool.{target_at};
     ghost use Rattle.references.specs.Rows.{AreRefsOf};
     ghost use Rattle.destructors.specs.Moves.{IsLiveRow};
     ghost use Rattle.destructors.specs.Changes.{ChangedBy};
-    ghost use Rattle.destructors.specs.Engine.{IsAsked, AreKept, HasBegun, HasRoom};
+    ghost use Rattle.destructors.specs.Engine.{IsAsked, IsReceiving, AreKept, HasBegun, HasRoom, HasRoomFor};
 
     /// An engine with no open free.
     pub fn new() -> FreeEngine
@@ -93,9 +93,9 @@ impl FreeEngine {
         requires awaiting { IsAwaiting (frees_of self.old tree.old) }
         requires kept { AreKept self.old tree.old }
         requires first { MayBegin work (pool_of tree.old) }
-        requires room { length tree.old.rows + 2 ≤ tree.old.room }
+        requires room { HasRoomFor work self.old tree.old }
         requires refs { AreRefsOf refs.old.pairs tree.old.rows }
-        ensures { HasBegun work self.old tree.old refs.old self.new tree.new refs.new }
+        ensures { HasBegun (work ∷ before self.old tree.old.frees) tree.old refs.old self.new tree.new refs.new }
     {
         wait(self.innermost, tree);
         self.innermost = settle(Some(work), tree, refs);
@@ -108,9 +108,9 @@ impl FreeEngine {
         requires kept { AreKept self.old tree.old }
         requires object { target_at tree.old.rows x ≡ None }
         requires unheld { newest_ref tree.old.rows x ≡ None }
-        requires room { length tree.old.rows + 2 ≤ tree.old.room }
+        requires room { HasRoomFor (Beginning x) self.old tree.old }
         requires refs { AreRefsOf refs.old.pairs tree.old.rows }
-        ensures { HasBegun (Beginning x) self.old tree.old refs.old self.new tree.new refs.new }
+        ensures { HasBegun (Beginning x ∷ before self.old tree.old.frees) tree.old refs.old self.new tree.new refs.new }
     {
         self.begin(tree, refs, FreeFrame::Beginning { x });
     }
@@ -122,9 +122,9 @@ impl FreeEngine {
         requires kept { AreKept self.old tree.old }
         requires live { IsLiveRow (pool_of tree.old) x }
         requires object { target_at tree.old.rows x ≡ None }
-        requires room { length tree.old.rows + 2 ≤ tree.old.room }
+        requires room { HasRoomFor (Unlinking owner x) self.old tree.old }
         requires refs { AreRefsOf refs.old.pairs tree.old.rows }
-        ensures { HasBegun (Unlinking owner x) self.old tree.old refs.old self.new tree.new refs.new }
+        ensures { HasBegun (Unlinking owner x ∷ before self.old tree.old.frees) tree.old refs.old self.new tree.new refs.new }
     {
         self.begin(tree, refs, FreeFrame::Unlinking { owner, x });
     }
@@ -133,9 +133,9 @@ impl FreeEngine {
     pub fn begin_kids(&mut self, tree: &mut Tree, refs: &mut Refs, x: Obj)
         requires awaiting { IsAwaiting (frees_of self.old tree.old) }
         requires kept { AreKept self.old tree.old }
-        requires room { length tree.old.rows + 2 ≤ tree.old.room }
+        requires room { HasRoomFor (Looping x Emptying) self.old tree.old }
         requires refs { AreRefsOf refs.old.pairs tree.old.rows }
-        ensures { HasBegun (Looping x Emptying) self.old tree.old refs.old self.new tree.new refs.new }
+        ensures { HasBegun (Looping x Emptying ∷ before self.old tree.old.frees) tree.old refs.old self.new tree.new refs.new }
     {
         let purpose = Purpose::Emptying;
         self.begin(tree, refs, FreeFrame::Looping { x, purpose });
@@ -153,6 +153,19 @@ impl FreeEngine {
     {
         if let Some(work) = self.innermost {
             self.innermost = Some(judged(work, value));
+        }
+    }
+
+    /// The request that the innermost free waits for was received: the freeing goes on.
+    pub fn received(&mut self, tree: &mut Tree, refs: &mut Refs)
+        requires receiving { IsReceiving self.old }
+        requires awaiting { IsAwaiting (frees_of self.old tree.old) }
+        requires room { HasRoom self.old tree.old }
+        requires refs { AreRefsOf refs.old.pairs tree.old.rows }
+        ensures { HasBegun (received_works (before self.old tree.old.frees)) tree.old refs.old self.new tree.new refs.new }
+    {
+        if let Some(FreeFrame::Preparing { x }) = self.innermost {
+            self.innermost = settle(Some(FreeFrame::Prepared { x }), tree, refs);
         }
     }
 
@@ -185,6 +198,8 @@ impl FreeEngine {
         };
         match work {
             FreeFrame::Hooked { .. }
+            | FreeFrame::Preparing { .. }
+            | FreeFrame::Prepared { .. }
             | FreeFrame::Dooming { .. }
             | FreeFrame::Leaving { .. }
             | FreeFrame::FreeingChild { .. }
@@ -200,8 +215,8 @@ impl FreeEngine {
 
     /// What comes next of the innermost free.
     ///
-    /// At `Ask` the caller runs the object's destructor and answers with what it returned; it may begin further
-    /// frees until then. At `Done` the innermost free is over, and the one around it, if there is one, still waits
+    /// At `Ask` the caller runs the object's destructor and answers with what it returned, and at `Prepare` he receives
+    /// the request and says so (`received`); he may begin further frees until then. At `Done` the innermost free is over, and the one around it, if there is one, still waits
     /// for its answer.
     pub fn step(&mut self, tree: &mut Tree, refs: &mut Refs) -> FreeStep
         requires at_work { IsAtWork (frees_of self.old tree.old) }

@@ -1,4 +1,4 @@
-use tree_specs::{FreeFrame, FreeReply, FreeStep, Obj};
+use tree_specs::{FreeFrame, FreeReply, FreeStep};
 
 /// What one move of the innermost work does.
 #[derive(Clone, Copy, Debug)]
@@ -9,8 +9,8 @@ pub enum Motion {
     Goes(FreeFrame),
     /// It tells something and goes on.
     Tells(FreeStep, FreeFrame),
-    /// It wants the destructor of this object to run, and waits.
-    Asks(Obj, FreeFrame),
+    /// It asks for the run of a destructor, or for a request to be received, and waits.
+    Waits(FreeStep, FreeFrame),
     /// It puts the first work before itself, and waits as the second.
     Pushes(FreeFrame, FreeFrame),
 }

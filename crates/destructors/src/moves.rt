@@ -4,7 +4,8 @@ ghost use Rattle.tree_specs.specs.Tree.Pool.{row_of, first_kid, owner_of, target
 ghost use Rattle.tree_specs.specs.Tree.Targets.{newest_ref};
 ghost use Rattle.tree_specs.specs.declared.object.Owner.TheVariants.{Of as below};
 ghost use Rattle.tree_specs.specs.declared.frame.FreeFrame.TheVariants.{Looping as Loops};
-ghost use Rattle.tree_specs.specs.Machine.FreeTable.{free_step, begin_step, begin_quiet, refs_step, unlink_step, release_step, judge_step, last_step, child_step, loop_step, hand_on_step};
+ghost use Rattle.tree_specs.specs.Calls.Refusals.{is_request};
+ghost use Rattle.tree_specs.specs.Machine.FreeTable.{free_step, begin_step, refs_step, unlink_step, release_step, judge_step, last_step, child_step, loop_step, hand_on_step};
 ghost use Rattle.tree_links.specs.Links.{pool_of, works_of, MayPlace};
 ghost use Rattle.references.specs.Rows.{AreRefsOf, SameRefs};
 ghost use Rattle.destructors.specs.Moves.{move_of, outlook_of, IsLiveRow, MayHandOn, MoveRests};
@@ -14,7 +15,14 @@ use crate::heir::heir;
 use crate::motion::{Motion, Outlook};
 use references::Refs;
 use tree_links::Tree;
-use tree_specs::{FreeFrame, FreeReply, FreeStep, Mark, Obj, Owner, Purpose};
+use tree_specs::{FreeFrame, FreeReply, FreeStep, Kind, Mark, Obj, Owner, Purpose};
+
+/// Whether it is the kind of requests.
+fn is_request(kind: Kind) -> bool
+    ensures { result ≡ is_request kind }
+{
+    matches!(kind, Kind::Request)
+}
 
 /// The freeing of an object to which there is no reference begins.
 fn begin(x: Obj, tree: &mut Tree) -> Motion
@@ -28,6 +36,10 @@ fn begin(x: Obj, tree: &mut Tree) -> Motion
     };
     let hook = row.hook;
     match row.mark {
+        Mark::Quiet if is_request(row.kind) => {
+            tree.set_mark(x, Mark::Asked);
+            Motion::Goes(FreeFrame::Preparing { x })
+        }
         Mark::Quiet if hook == 0 => Motion::Goes(FreeFrame::Leaving { x, hook }),
         Mark::Quiet => {
             tree.set_mark(x, Mark::Asked);
@@ -76,6 +88,18 @@ fn begin_free(x: Obj, tree: &mut Tree, refs: &mut Refs) -> Motion
         Some(reference) => hold(x, reference, tree, refs),
         None => begin(x, tree),
     }
+}
+
+/// A request was received, and is quiet again before it leaves its owner.
+fn go_on(x: Obj, tree: &mut Tree) -> Motion
+    requires { IsLiveRow (pool_of tree.old) x }
+    ensures moved { move_of result (pool_of tree.new) ≡ free_step (FreeFrame.Prepared x) (pool_of tree.old) }
+    ensures spare { tree.old.spare ≤ tree.new.spare }
+    ensures works { works_of tree.new ≡ works_of tree.old }
+    ensures same_refs { SameRefs tree.old.rows tree.new.rows }
+{
+    tree.set_mark(x, Mark::Quiet);
+    Motion::Goes(FreeFrame::Leaving { x, hook: 0 })
 }
 
 fn leave(x: Obj, hook: u32, tree: &mut Tree) -> Motion
@@ -215,8 +239,10 @@ pub fn move_once(work: FreeFrame, tree: &mut Tree, refs: &mut Refs) -> Motion
         FreeFrame::Releasing { x } => release(x, tree, refs),
         FreeFrame::Giving { x, owner } => give(x, owner, tree),
         FreeFrame::Beginning { x } => begin_free(x, tree, refs),
-        FreeFrame::Hooked { x, .. } => Motion::Asks(x, work),
+        FreeFrame::Hooked { x, .. } => Motion::Waits(FreeStep::Ask(x), work),
         FreeFrame::Judged { x, hook, value } => judge(x, hook, value, tree),
+        FreeFrame::Preparing { x } => Motion::Waits(FreeStep::Prepare(x), work),
+        FreeFrame::Prepared { x } => go_on(x, tree),
         FreeFrame::Dooming { .. } => Motion::Ends(FreeReply::Running),
         FreeFrame::Leaving { x, hook } => leave(x, hook, tree),
         FreeFrame::Looping { x, purpose } => look(x, purpose, tree, refs),
@@ -251,6 +277,7 @@ fn outlook_of_begin(x: Obj, tree: &Tree, refs: &Refs) -> Outlook
     };
     let hook = row.hook;
     match row.mark {
+        Mark::Quiet if is_request(row.kind) => Outlook::Going(FreeFrame::Preparing { x }),
         Mark::Quiet if hook == 0 => Outlook::Going(FreeFrame::Leaving { x, hook }),
         Mark::Quiet => Outlook::Going(FreeFrame::Hooked { x, hook }),
         Mark::Asked | Mark::Doomed => Outlook::Ending(FreeReply::Running),
@@ -337,8 +364,10 @@ pub fn outlook(work: FreeFrame, tree: &Tree, refs: &Refs) -> Outlook
         FreeFrame::Beginning { x } => outlook_of_begin(x, tree, refs),
         FreeFrame::Giving { .. }
         | FreeFrame::Hooked { .. }
+        | FreeFrame::Preparing { .. }
         | FreeFrame::Judged { .. }
         | FreeFrame::Leaving { .. } => Outlook::Telling,
+        FreeFrame::Prepared { x } => Outlook::Going(FreeFrame::Leaving { x, hook: 0 }),
         FreeFrame::Looping { x, purpose } => outlook_of_loop(x, purpose, tree, refs),
         FreeFrame::AfterChild {
             x,

@@ -6,7 +6,7 @@ ghost use Rattle.tree_specs.specs.Machine.FreeTable.{free_resume, free_step};
 ghost use Rattle.tree_links.specs.Links.{pool_of, works_of};
 ghost use Rattle.references.specs.Rows.{AreRefsOf, SameRefs};
 ghost use Rattle.destructors.specs.Moves.{MoveRests, MayEnter, entered};
-ghost use Rattle.destructors.specs.Frees.{answered, frees_of, moves as moves_of, speaking, Silently};
+ghost use Rattle.destructors.specs.Frees.{awaits_run, answered, frees_of, moves as moves_of, speaking, Silently};
 ghost use Rattle.destructors.specs.Works.{IsAtWork};
 ghost use Rattle.destructors.specs.Engine.{AreKept, HasRoom, MovesQuietly, IsBetweenCalls};
 
@@ -41,6 +41,13 @@ fn telling(told: FreeStep, innermost: Option<FreeFrame>) -> Progress
     }
 }
 
+/// Whether a work waits for no free, but for the run of a destructor, or until a request was received.
+fn awaits_run(work: FreeFrame) -> bool
+    ensures { result ≡ awaits_run work }
+{
+    matches!(work, FreeFrame::Hooked { .. } | FreeFrame::Preparing { .. })
+}
+
 /// A work that has waited, with the answer of the work above it.
 fn resumed(work: FreeFrame, answer: FreeReply) -> FreeFrame
     ensures { result ≡ free_resume work answer }
@@ -62,8 +69,8 @@ fn resumed(work: FreeFrame, answer: FreeReply) -> FreeFrame
     }
 }
 
-/// The innermost work is over. Its answer goes to the work below it; where that waits for its destructor, or there
-/// is none, the free is over.
+/// The innermost work is over. Its answer goes to the work below it; where that waits for no free, or there is none, the
+/// free is over.
 fn end(answer: FreeReply, tree: &mut Tree) -> Progress
     ensures moved { answered answer (pool_of tree.old) tree.old.frees ≡ (result.told, frees_of result.innermost tree.new) }
     ensures rows { pool_of tree.new ≡ pool_of tree.old }
@@ -72,10 +79,7 @@ fn end(answer: FreeReply, tree: &mut Tree) -> Progress
     ensures room { length tree.old.frees + tree.old.room ≤ length tree.new.frees + tree.new.room }
 {
     match tree.pop_free() {
-        Some(FreeFrame::Hooked { x, hook }) => telling(
-            FreeStep::Done(answer),
-            Some(FreeFrame::Hooked { x, hook }),
-        ),
+        Some(work) if awaits_run(work) => telling(FreeStep::Done(answer), Some(work)),
         Some(work) => silently(resumed(work, answer)),
         None => telling(FreeStep::Done(answer), None),
     }
@@ -98,7 +102,7 @@ pub fn advance(work: FreeFrame, tree: &mut Tree, refs: &mut Refs) -> Progress
         Motion::Ends(answer) => end(answer, tree),
         Motion::Goes(next) => silently(next),
         Motion::Tells(told, next) => telling(told, Some(next)),
-        Motion::Asks(x, next) => telling(FreeStep::Ask(x), Some(next)),
+        Motion::Waits(asked, next) => telling(asked, Some(next)),
         Motion::Pushes(first, second) => {
             tree.push_free(second);
             silently(first)
@@ -106,20 +110,24 @@ pub fn advance(work: FreeFrame, tree: &mut Tree, refs: &mut Refs) -> Progress
     }
 }
 
-/// An object whose destructor is to be asked is marked so.
-fn enter(next: FreeFrame, tree: &mut Tree)
-    requires { MayEnter next (pool_of tree.old) }
-    ensures rows { pool_of tree.new ≡ entered next (pool_of tree.old) }
+/// An object that is to be asked, or to be received, is marked so before the next work, and one that was received is quiet
+/// again after the former work.
+fn enter(work: FreeFrame, next: FreeFrame, tree: &mut Tree)
+    requires { MayEnter work next (pool_of tree.old) }
+    ensures rows { pool_of tree.new ≡ entered work next (pool_of tree.old) }
     ensures works { works_of tree.new ≡ works_of tree.old }
     ensures spare { tree.old.spare ≤ tree.new.spare }
 {
-    if let FreeFrame::Hooked { x, .. } = next {
-        tree.set_mark(x, Mark::Asked);
+    match (work, next) {
+        (FreeFrame::Prepared { x }, _) => tree.set_mark(x, Mark::Quiet),
+        (_, FreeFrame::Hooked { x, .. }) => tree.set_mark(x, Mark::Asked),
+        (_, FreeFrame::Preparing { x }) => tree.set_mark(x, Mark::Asked),
+        _ => {}
     }
 }
 
-/// A work ends, and the free that waits for it goes on. None where none waits but for the run of a destructor: then the
-/// free is over, which is told, and nothing is done.
+/// A work ends, and the free that waits for it goes on. None where none waits for a free: then this free is over, which is
+/// told, and nothing is done.
 fn end_quietly(_work: FreeFrame, answer: FreeReply, tree: &mut Tree) -> Option<FreeFrame>
     requires { free_step _work (pool_of tree.old) ≡ Do.Done answer (pool_of tree.old) }
     ensures moved { MovesQuietly _work tree.old result tree.new }
@@ -128,7 +136,7 @@ fn end_quietly(_work: FreeFrame, answer: FreeReply, tree: &mut Tree) -> Option<F
     ensures same_refs { SameRefs tree.old.rows tree.new.rows }
 {
     let waiting = tree.innermost_free()?;
-    if matches!(waiting, FreeFrame::Hooked { .. }) {
+    if awaits_run(waiting) {
         return None;
     }
     tree.pop_free();
@@ -138,6 +146,7 @@ fn end_quietly(_work: FreeFrame, answer: FreeReply, tree: &mut Tree) -> Option<F
 /// The next move of a work where it tells nothing, with the work that is innermost after it. None where the move tells or
 /// asks something, or ends the free: then nothing is done.
 pub fn move_quietly(work: FreeFrame, tree: &mut Tree, refs: &Refs) -> Option<FreeFrame>
+    requires rests { MoveRests work (pool_of tree.old) }
     requires room { HasRoom (Some work) tree.old }
     requires refs { AreRefsOf refs.now.pairs tree.old.rows }
     ensures moved { MovesQuietly work tree.old result tree.new }
@@ -149,7 +158,7 @@ pub fn move_quietly(work: FreeFrame, tree: &mut Tree, refs: &Refs) -> Option<Fre
         Outlook::Telling => None,
         Outlook::Ending(answer) => end_quietly(work, answer, tree),
         Outlook::Going(next) => {
-            enter(next, tree);
+            enter(work, next, tree);
             Some(next)
         }
         Outlook::Pushing(first, second) => {

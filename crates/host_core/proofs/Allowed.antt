@@ -1,5 +1,5 @@
 -- What follows where a call is refused, and where it isn't.
-use Rattle.std.proofs.Common.{◌≡◌, List, [], ◌∷◌, ◌++◌, true, Ok, Err, refl}
+use Rattle.std.proofs.Common.{◌≡◌, Option, Some, None, List, [], ◌∷◌, ◌++◌, true, Ok, Err, refl}
 use Rattle.tree_specs.specs.declared.object.Obj.{Obj}
 use Rattle.tree_specs.specs.declared.object.Owner.{Owner}
 use Rattle.tree_specs.specs.declared.question.Ask.{Ask}
@@ -10,15 +10,24 @@ use Rattle.tree_specs.specs.declared.test.Test.TheVariants.{IsObject, IsOwner, I
 use Rattle.tree_specs.specs.Tree.Pool.{Pool, is_below, owner_of}
 use Rattle.tree_specs.specs.Calls.Refusals.{Check, ◌before◌, checked, tests, refusals}
 use Rattle.tree_specs.specs.Calls.Passed.{Passed, AllPassed, Itself, ItsRef}
-use Rattle.tree_specs.specs.Calls.Plans.{plan}
-use Rattle.tree_specs.specs.Machine.Table.{call_step, plan_step, replied}
+use Rattle.tree_specs.specs.Calls.Plans.{Plan, plan, unless_refused}
+use Rattle.tree_specs.specs.Machine.Table.{call_step, plan_step, replied, release_object, over_step}
 use Rattle.tree_specs.proofs.Calls.Checks.{all-pass, may-place}
 use Rattle.tree_specs.proofs.Calls.Plans.{ref-placed}
 use Rattle.tree_specs.specs.declared.frame.Frame.{Frame}
 use Rattle.tree_specs.specs.Invariants.Sound.{Sound}
 use Rattle.tree_links.specs.Links.{MayPlace}
-use Rattle.destructors.proofs.Keeping.{placeable}
+use Rattle.destructors.proofs.Grounds.{placeable}
 use Rattle.object_pool.specs.Objects.{RefsMayGo}
+use Rattle.host_core.specs.declared.motion.Motion.{Motion}
+use Rattle.host_core.specs.declared.motion.Motion.TheVariants.{Frees as FreesMotion, Unlinks as UnlinksMotion}
+use Rattle.tree_specs.specs.declared.frame.Errand.{Errand}
+use Rattle.tree_specs.specs.Calls.Plans.Plan.{Frees as FreesOf, Unlinks as UnlinksOf}
+use Rattle.host_core.specs.Requests.{IsFreeing, IsReleaseBy}
+use Rattle.step_machine.specs.Machine.{Move as Do}
+use Rattle.tree_specs.specs.declared.frame.Frame.TheVariants as frame
+use Rattle.tree_specs.specs.declared.frame.FreeFrame.TheVariants.{Beginning, Unlinking}
+use Rattle.tree_specs.specs.declared.frame.RequestFrame.TheVariants.{Releasing}
 
 pub refused_step : (check : Check) (q : Ask) (c : Call) (p : Pool) (why : Refusal) → checked check ≡ Err why → call_step check q c p ≡ replied q (reply.No why) p
 refused_step [] q c p why e = cc
@@ -74,3 +83,33 @@ may_go_itself p from to x is there staying (ItsRef r other n) below = cc
 -- a reference goes wherever there is an owner
 pub refs-go : (f : Frame) (fs : List Frame) (p : Pool) → Sound f fs p → RefsMayGo p.rows
 refs-go f fs p s = λ r t o is there. placeable p o r (ref-placed f fs p o t r s is there)
+
+-- ---- what a request was made with
+
+pub allowed_release : (check : Check) (plan : Plan) (m : Option Motion) → checked check ≡ Ok tt → IsReleaseBy plan m → IsReleaseBy (unless_refused check plan) m
+allowed_release [] plan m e r = r
+allowed_release (why ∷ later) plan m e r = cc
+
+pub refused_release : (check : Check) (plan : Plan) (why : Refusal) → checked check ≡ Err why → IsReleaseBy (unless_refused check plan) None
+refused_release [] plan why e = cc
+refused_release (other ∷ later) plan why e = refl
+
+pub release_frees : (x : Obj) (plan : Plan) (errand : Errand) (p : Pool) → IsReleaseBy plan (Some (FreesMotion x)) → Do.Call (frame.Free (Beginning x)) (frame.Request (Releasing x)) p ≡ release_object plan errand p
+release_frees x (FreesOf y) errand p r = let e : x ≡ y = cc in rw e refl
+release_frees x (UnlinksOf o y) errand p r = cc
+release_frees x _ errand p r = cc
+
+pub release_unlinks : (o : Owner) (x : Obj) (plan : Plan) (errand : Errand) (p : Pool) → IsReleaseBy plan (Some (UnlinksMotion o x)) → Do.Call (frame.Free (Unlinking o x)) (frame.Request (Releasing x)) p ≡ release_object plan errand p
+release_unlinks o x (FreesOf y) errand p r = cc
+release_unlinks o x (UnlinksOf owner y) errand p r = let e : x ≡ y = cc in let e' : o ≡ owner = cc in rw (e, e') refl
+release_unlinks o x _ errand p r = cc
+
+pub release_none : (plan : Plan) (errand : Errand) (p : Pool) → IsReleaseBy plan None → over_step errand p ≡ release_object plan errand p
+release_none (FreesOf x) errand p r = cc
+release_none (UnlinksOf o x) errand p r = cc
+release_none _ errand p r = refl
+
+pub freeing_release : (plan : Plan) (m : Motion) → IsReleaseBy plan (Some m) → IsFreeing m
+freeing_release (FreesOf x) m r = let e : m ≡ FreesMotion x = cc in rw e tt
+freeing_release (UnlinksOf o x) m r = let e : m ≡ UnlinksMotion o x = cc in rw e tt
+freeing_release _ m r = cc

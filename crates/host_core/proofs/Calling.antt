@@ -1,122 +1,96 @@
--- A caller's step by the parts of a host.
-use Rattle.std.proofs.Common.{◌≡◌, ℕ, List, [], ◌∷◌, Option, Some, None, true, refl, sym, ap, subst}
-use Rattle.std.specs.Prelude.{IsSome, is_some, slice_get}
+-- What a call begins, and what it may take of the memory for it.
+use Rattle.std.proofs.Common.{◌≡◌, ◌+◌, ◌*◌, ◌≤◌, Option, Some, None, false, refl, sym, ◌∙◌, ap, arith}
+use Rattle.step_machine.specs.Machine.{Move as Do}
 use Rattle.tree_specs.specs.declared.call.Call.{Call}
-use Rattle.tree_specs.specs.declared.question.Ask.{Ask}
-use Rattle.tree_specs.specs.declared.question.Ask.TheVariants.{Quiet, Routine}
-use Rattle.tree_specs.specs.declared.frame.Frame.{Frame}
-use Rattle.tree_specs.specs.declared.frame.Frame.TheVariants as frame
-use Rattle.tree_specs.specs.Machine.Profiles.{Waits as WaitsFor, ARun, AHandler, profile}
-use Rattle.tree_specs.specs.declared.question.Input.{Input}
 use Rattle.tree_specs.specs.declared.frame.CallFrame.{CallFrame}
-use Rattle.tree_specs.specs.declared.frame.CallFrame.TheVariants.{Asking, Doing, Returning}
-use Rattle.tree_specs.specs.declared.frame.FreeFrame.{FreeFrame}
-use Rattle.tree_specs.specs.declared.frame.TurnFrame.{TurnFrame}
+use Rattle.tree_specs.specs.declared.frame.Frame.TheVariants as frame
+use Rattle.tree_specs.specs.declared.notice.Notice.{Notice}
+use Rattle.tree_specs.specs.declared.question.Ask.{Ask}
+use Rattle.tree_specs.specs.declared.question.Ask.TheVariants.{Quiet}
+use Rattle.tree_specs.specs.Calls.Plans.{Plan, changed_by}
+use Rattle.tree_specs.specs.Calls.Plans.Plan.{Does, Frees as FreesOf, Unlinks as UnlinksOf, Empties as EmptiesOf, Asks as AsksOf, Turns as TurnsOf, Works as WorksOf}
+use Rattle.tree_specs.specs.Machine.Table.{plan_step}
 use Rattle.tree_specs.specs.Tree.Pool.{Pool}
-use Rattle.tree_specs.specs.Calls.Refusals.{refusals}
-use Rattle.tree_specs.specs.Machine.Table.{call_step}
-use Rattle.tree_specs.specs.Invariants.Consistent.{IsStacked, IsQuiet, IsOfRoutine, Serves, IsConsistent}
-use Rattle.destructors.specs.Frees.{returned, speaking}
-use Rattle.destructors.specs.Works.{IsAtWork, IsAwaiting}
-use Rattle.destructors.specs.Callers.{OpenTurn, under, call_view}
-use Rattle.destructors.specs.Engine.{IsAsked}
-use Rattle.object_pool.specs.Objects.{Objects, frees_in}
-use Rattle.host_core.specs.declared.motion.Motion.{Motion}
-use Rattle.host_core.specs.declared.active.Active.{Active}
+use Rattle.tree_specs.proofs.Calls.Plans.{May}
+use Rattle.requests.specs.Register.{AreInOrder}
+use Rattle.object_pool.specs.Requests.{count_unreceived}
 use Rattle.host_core.specs.declared.active.Active.TheVariants as active
-use Rattle.host_core.specs.declared.caller.Caller.{Caller}
-use Rattle.host_core.specs.declared.caller.Stage.{Stage}
-use Rattle.host_core.specs.declared.caller.Stage.TheVariants as stage
-use Rattle.host_core.specs.declared.caller.Waiting.{Waiting}
-use Rattle.host_core.specs.Moves.{move_of}
-use Rattle.host_core.specs.Turns.{turns_of}
-use Rattle.host_core.specs.Hosts.{seen, view_of, view_after, view_given, stack_of, open_at, caller_asked, begins_with, staged, frame_of, speaking_view, StandsAs, BetweenSteps, TellsSameStory, StepsSilently}
-use Rattle.host_core.proofs.CallSteps.{act-onward, act-awaits, return-onward}
-use Rattle.host_core.proofs.Hosting.{asked}
-use Rattle.host_core.proofs.StepsSilently.{stays}
+use Rattle.host_core.specs.declared.step.Step.{Step}
+use Rattle.host_core.specs.declared.step.Step.TheVariants.{Goes}
+use Rattle.host_core.specs.Steps.{step_of, IsBusy}
+use Rattle.host_core.specs.Going.{step_places}
+use Rattle.host_core.specs.Hosts.{speaks}
+use Rattle.host_core.proofs.Stepping.{pool_in, pool-left}
+use Rattle.host_core.proofs.Unreceived.{change-counted}
 
--- the question that a caller is asked
-pub open_question : (now : Active) → IsSome (caller_asked now) → (q : Ask) × (caller_asked now ≡ Some q)
-open_question now s = each (caller_asked now) refl s
+-- ---- it tells and asks nothing
+
+pub call-silent : (q : Ask) (plan : Plan) (p : Pool) → speaks (plan_step q plan p) ≡ false
+call-silent q (Does c None r) p = refl
+call-silent q (Does c (Some notice) r) p = refl
+call-silent q (FreesOf x) p = refl
+call-silent q (UnlinksOf owner x) p = refl
+call-silent q (EmptiesOf x) p = refl
+call-silent q (AsksOf outside) p = refl
+call-silent Quiet TurnsOf p = refl
+call-silent _ TurnsOf p = refl
+call-silent q (WorksOf c errand x) p = refl
+
+-- ---- its places
+
+-- a caller takes none
+caller-takes : (step : Step) (f : CallFrame) (p q : Pool) → IsBusy step → step_of step p ≡ Do.Go (frame.Call f) q → step_places step ≡ 0
+caller-takes (Goes (active.Caller c)) f p q b e = refl
+caller-takes (Goes active.Freeing) f p q b e = absurd b
+caller-takes (Goes (active.Turning t)) f p q b e = cc
+caller-takes (Goes (active.Reaching r)) f p q b e = refl
+caller-takes (Goes (active.Requesting w)) f p q b e = cc
+caller-takes _ f p q b e = cc
+
+-- the objects after a plan
+abbrev pub planned_pool : Plan → Pool → Pool
+planned_pool (Does c notice r) p = changed_by c p
+planned_pool (WorksOf c errand x) p = changed_by c p
+planned_pool plan p = p
+
+plan-left : (q : Ask) (plan : Plan) (p : Pool) → pool_in (plan_step q plan p) ≡ planned_pool plan p
+plan-left q (Does c None r) p = refl
+plan-left q (Does c (Some notice) r) p = refl
+plan-left q (FreesOf x) p = refl
+plan-left q (UnlinksOf owner x) p = refl
+plan-left q (EmptiesOf x) p = refl
+plan-left q (AsksOf outside) p = refl
+plan-left Quiet TurnsOf p = refl
+plan-left _ TurnsOf p = refl
+plan-left q (WorksOf c errand x) p = refl
+
+-- what a call begins has the places that were taken for it
+pub call-room : (q : Ask) (step : Step) (plan : Plan) (old new : Pool) → May old plan → AreInOrder old.requests → IsBusy step → step_places step ≤ 3 → step_of step new ≡ plan_step q plan old
+    → step_places step + 2 * count_unreceived new.requests ≤ 3 + 2 * count_unreceived old.requests
+call-room q step plan old new may order busy most e = each plan may e (sym (pool-left step new) ∙ ap pool_in e ∙ plan-left q plan old)
   where
-    each : (o : Option Ask) → caller_asked now ≡ o → IsSome o → (q : Ask) × (caller_asked now ≡ Some q)
-    each None e s = cc
-    each (Some q) e s = (q, e)
+    -- with as many requests
+    as-many : new ≡ old → step_places step + 2 * count_unreceived new.requests ≤ 3 + 2 * count_unreceived old.requests
+    as-many same = let counts = ap (λ (p : Pool). count_unreceived p.requests) same in omega (arith, most, counts)
 
--- a caller that was given an answer begins with it
-pub given-caller : (now : Active) (q : Ask) (i : Input) (works : List FreeFrame) (cs : List CallFrame) (ts : List OpenTurn) (p : Pool) → caller_asked now ≡ Some q → view_given now i works cs ts p ≡ call_view (begins_with q i) works cs ts p
-given-caller (active.Caller c) q i works cs ts p e = each c.stage e
-  where
-    each : (s : Stage) → open_at s c.ask ≡ Some q → call_view (begins_with c.ask i) works cs ts p ≡ call_view (begins_with q i) works cs ts p
-    each stage.Asking e = let e' : c.ask ≡ q = cc in ap (λ (z : Ask). call_view (begins_with z i) works cs ts p) e'
-    each _ e = cc
-given-caller _ q i works cs ts p e = cc
-
--- a caller is asked this
-abbrev pub IsForCaller : Ask → Type 0
-IsForCaller Quiet = Unit {0}
-IsForCaller (Routine m) = Unit {0}
-IsForCaller _ = ⊥
-
--- who is asked for a call, or for what a routine does next
-pub caller-kind : (q : Ask) (works : List FreeFrame) (cs : List CallFrame) (ts : List OpenTurn) → IsStacked (frame.Call (Asking q)) (under works cs ts) → IsForCaller q
-caller-kind q works cs ts s = each (under works cs ts) s
-  where
-    quiet : (q : Ask) → IsQuiet q → IsForCaller q
-    quiet Quiet k = tt
-    quiet _ k = absurd k
-
-    routine : (q : Ask) → IsOfRoutine q → IsForCaller q
-    routine (Routine m) k = tt
-    routine _ k = absurd k
-
-    on : (w : WaitsFor) → Serves w (frame.Call (Asking q)) → IsForCaller q
-    on (ARun x h) k = routine q k
-    on (AHandler x) k = routine q k
-    on _ k = absurd k
-
-    each : (fs : List Frame) → IsStacked (frame.Call (Asking q)) fs → IsForCaller q
-    each [] k = quiet q k
-    each (g ∷ gs) k = on (profile g).waits k.0
-
-pub caller-speaks : (c : Caller) (works : List FreeFrame) (cs : List CallFrame) (ts : List OpenTurn) (p : Pool) → speaking_view (call_view (frame_of c) works cs ts p) ≡ true
-caller-speaks c works cs ts p = each c.stage
-  where
-    each : (s : Stage) → speaking_view (call_view (staged c.ask s) works cs ts p) ≡ true
-    each stage.Asking = refl
-    each (stage.Telling r) = refl
-    each (stage.Announcing notice r) = refl
-
--- a caller at work, with the parts that are with it
-pub stays-at : (now : Active) (f : CallFrame) (callers : List Waiting) (turn : Option TurnFrame) (objects : Objects) → StandsAs now f → IsConsistent (call_view f objects.works (stack_of callers) (turns_of turn) objects.pool)
-    → TellsSameStory (call_view f objects.works (stack_of callers) (turns_of turn) objects.pool) (view_of now callers turn objects) × BetweenSteps now callers turn objects
-stays-at (active.Caller c) f callers turn objects e h =
-    let w : IsConsistent (view_of (active.Caller c) callers turn objects) = subst (λ (z : CallFrame). IsConsistent (call_view z objects.works (stack_of callers) (turns_of turn) objects.pool)) (sym e) h in
-    (subst (λ (z : CallFrame). TellsSameStory (call_view z objects.works (stack_of callers) (turns_of turn) objects.pool) (view_of (active.Caller c) callers turn objects)) e (stays _ w), record { whole = w; parts = tt })
-stays-at _ f callers turn objects e h = absurd e
-
--- a caller at work tells something next, or asks
-pub speaks-at : (now : Active) (f : CallFrame) (works : List FreeFrame) (cs : List CallFrame) (ts : List OpenTurn) (p : Pool) → StandsAs now f → speaking_view (seen now works cs ts p) ≡ true
-speaks-at (active.Caller c) f works cs ts p e = caller-speaks c works cs ts p
-speaks-at _ f works cs ts p e = absurd e
-
--- a call that was done
-module _ (q : Ask) (c : Call) (callers : List Waiting) (turn : Option TurnFrame) (objects : Objects) (m : Motion) (objects' : Objects)
-    (h : IsConsistent (call_view (Doing q c) objects.works (stack_of callers) (turns_of turn) objects.pool)) (e : move_of q m objects'.pool ≡ call_step (refusals objects.pool c) q c objects.pool) (same : objects'.works ≡ objects.works) where
-  pub acts : StepsSilently (call_view (Doing q c) objects.works (stack_of callers) (turns_of turn) objects.pool) (view_after q m objects'.works (stack_of callers) (turns_of turn) objects'.pool)
-  acts = rw same (act-onward q c objects.works (stack_of callers) (turns_of turn) objects.pool objects'.pool m h e)
-
-  pub awaits : IsAwaiting (frees_in objects')
-  awaits = rw same (act-awaits q c objects.works (stack_of callers) (turns_of turn) objects.pool objects'.pool m h e)
-
--- a routine that has returned, to the free that is open
-module _ (v : ℕ) (callers : List Waiting) (turn : Option TurnFrame) (objects : Objects) (h : IsConsistent (call_view (Returning v) objects.works (stack_of callers) (turns_of turn) objects.pool)) (opened : is_some (slice_get objects.works 0) ≡ true) where
-  pub is-asked : IsAsked (slice_get objects.works 0)
-  is-asked = asked objects.works v (stack_of callers) (turns_of turn) objects.pool opened h
-
-  pub returns : (objects' : Objects) → objects' ≡ record objects { works = returned v (frees_in objects) }
-      → StepsSilently (call_view (Returning v) objects.works (stack_of callers) (turns_of turn) objects.pool) (view_of active.Freeing callers turn objects')
-  returns objects' e = rw e (return-onward v objects.works (stack_of callers) (turns_of turn) objects.pool opened h)
-
-  pub returned-ready : (objects' : Objects) → objects' ≡ record objects { works = returned v (frees_in objects) } → speaking (frees_in objects') ≡ true → IsAtWork (frees_in objects') → BetweenSteps active.Freeing callers turn objects'
-  returned-ready objects' e loud work = record { whole = (returns objects' e).along.whole; parts = record { at_work = work; settled = loud } }
+    each : (plan : Plan) → May old plan → step_of step new ≡ plan_step q plan old → new ≡ planned_pool plan old → step_places step + 2 * count_unreceived new.requests ≤ 3 + 2 * count_unreceived old.requests
+    each (Does c notice r) may e same =
+        let few = (change-counted c old order may.0).few in
+        let adds = may.1 in
+        let counts = ap (λ (p : Pool). count_unreceived p.requests) same in
+        let none = takes notice e in
+        omega (arith, few, adds, counts, none)
+      where
+        takes : (notice : Option Notice) → step_of step new ≡ plan_step q (Does c notice r) old → step_places step ≡ 0
+        takes None e = caller-takes step _ new (changed_by c old) busy e
+        takes (Some n) e = caller-takes step _ new (changed_by c old) busy e
+    each (WorksOf c errand x) may e same =
+        let few = (change-counted c old order may.0).few in
+        let adds = may.1 in
+        let counts = ap (λ (p : Pool). count_unreceived p.requests) same in
+        omega (arith, few, adds, counts, most)
+    each (FreesOf x) may e same = as-many same
+    each (UnlinksOf owner x) may e same = as-many same
+    each (EmptiesOf x) may e same = as-many same
+    each (AsksOf outside) may e same = as-many same
+    each TurnsOf may e same = as-many same

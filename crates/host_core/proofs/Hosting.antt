@@ -1,170 +1,148 @@
--- What the steps of a host leave ready.
-use Rattle.std.proofs.Common.{◌≡◌, ◌⊎◌, inl, inr, ℕ, List, [], ◌∷◌, ◌++◌, Option, Some, None, true, false, refl, sym, ◌∙◌, ap, subst}
-use Rattle.std.specs.Prelude.{map, is_some, slice_get}
-use Rattle.std.proofs.lemmas.List.{reverse-append}
-use Rattle.tree_specs.specs.declared.event.Event.{Event}
-use Rattle.tree_specs.specs.declared.question.Ask.{Ask}
-use Rattle.tree_specs.specs.declared.question.Ask.TheVariants.{Quiet, Routine}
+-- The open frees of a host, as whoever calls the engine has to know them.
+use Rattle.std.proofs.Common.{◌≡◌, ℕ, ◌+◌, List, [], ◌∷◌, ◌++◌, true, refl, sym, ◌∙◌, ap, arith}
+use Rattle.tree_specs.specs.declared.frame.CallFrame.TheVariants.{Awaiting as AwaitingCall, Returning}
 use Rattle.tree_specs.specs.declared.frame.Frame.{Frame}
 use Rattle.tree_specs.specs.declared.frame.Frame.TheVariants as frame
-use Rattle.tree_specs.specs.declared.frame.CallFrame.{CallFrame}
-use Rattle.tree_specs.specs.declared.frame.CallFrame.TheVariants.{Asking, Awaiting, Returning}
 use Rattle.tree_specs.specs.declared.frame.FreeFrame.{FreeFrame}
-use Rattle.tree_specs.specs.declared.frame.FreeFrame.TheVariants.{Unlinking, Beginning, Hooked}
-use Rattle.tree_specs.specs.declared.frame.TurnFrame.{TurnFrame}
-use Rattle.tree_specs.specs.declared.frame.TurnFrame.TheVariants.{Closing}
-use Rattle.tree_specs.specs.declared.frame.Answer.TheVariants.{Freed}
-use Rattle.tree_specs.specs.declared.free_step.FreeReply.{FreeReply}
-use Rattle.tree_specs.specs.declared.free_step.FreeStep.{FreeStep}
-use Rattle.tree_specs.specs.declared.free_step.FreeStep.TheVariants.{Ask as AskOf, Done}
+use Rattle.tree_specs.specs.declared.frame.FreeFrame.TheVariants.{Hooked, Preparing, Ending}
+use Rattle.tree_specs.specs.declared.frame.RequestFrame.TheVariants.{Releasing, Over}
+use Rattle.tree_specs.specs.declared.free_step.FreeReply.TheVariants.{Ok}
 use Rattle.tree_specs.specs.declared.object.Obj.{Obj}
-use Rattle.tree_specs.specs.Tree.Pool.{Pool, row_of, target_at}
+use Rattle.tree_specs.specs.declared.question.Ask.TheVariants.{Routine}
+use Rattle.tree_specs.specs.declared.reply.Reply.{Reply}
 use Rattle.tree_specs.specs.Rules.Answers.{hook_moment}
-use Rattle.tree_specs.specs.Invariants.Sound.{HasHook, Rests}
-use Rattle.tree_specs.specs.Tree.Targets.{newest_ref}
-use Rattle.tree_specs.specs.declared.object.Owner.{Owner}
-use Rattle.tree_specs.specs.Machine.Table.{event_of, caller_resume}
-use Rattle.tree_specs.specs.Machine.Profiles.{profile}
-use Rattle.tree_specs.specs.Invariants.Consistent.{IsStacked, Serves, IsConsistent}
-use Rattle.destructors.specs.Frees.{OpenFrees, moves, is_event, Begins, Steps}
-use Rattle.destructors.specs.Works.{IsAtWork, IsAwaiting, GoesOn}
-use Rattle.destructors.proofs.Callers.{on-caller}
-use Rattle.destructors.specs.Callers.{OpenTurn, standing, under, free_view, call_view}
-use Rattle.destructors.specs.Moves.{IsLiveRow}
-use Rattle.destructors.specs.Engine.{IsAsked}
-use Rattle.destructors.specs.Runs.{IsNews}
-use Rattle.destructors.proofs.Keeping.{live-row}
-use Rattle.object_pool.specs.Objects.{Objects, frees_in}
-use Rattle.host_core.specs.declared.active.Active.TheVariants as active
-use Rattle.host_core.specs.declared.caller.Waiting.{Waiting}
-use Rattle.host_core.specs.Turns.{turns_of, turn_view}
-use Rattle.host_core.specs.Hosts.{seen, view_of, stack_of, awaiting, speaking_view, BetweenSteps, TellsSameStory, StepsSilently}
-use Rattle.host_core.proofs.StepsSilently.{AfterEvent}
-use Rattle.host_core.proofs.FreeSteps.{speaks-events, silently-along}
-use Rattle.host_core.proofs.CallSteps.{news-onward, news-event, ask-onward, done-onward, over-onward}
+use Rattle.tree_specs.specs.Tree.Pool.{Pool}
+use Rattle.tree_specs.specs.Words.Objects.{same}
+use Rattle.tree_specs.specs.Machine.Profiles.{Phase, InRun}
+use Rattle.tree_specs.specs.Invariants.Sound.{claim, claims, claim_if}
+use Rattle.tree_specs.specs.Invariants.Noted.{AllCalm, ClaimNothing}
+use Rattle.tree_specs.specs.Invariants.Consistent.{IsFree, IsStacked, IsConsistent}
+use Rattle.tree_specs.proofs.Tree.Numbered.{same-equal}
+use Rattle.tree_specs.proofs.Invariants.Changes.{stands}
+use Rattle.tree_specs.proofs.Invariants.Waiters.{waiter}
+use Rattle.tree_specs.proofs.Turns.Seats.{reseat, reseat-work}
+use Rattle.tree_specs.proofs.Tree.Numbered.{by_test}
+use Rattle.destructors.specs.Frees.{awaits_run}
+use Rattle.destructors.specs.Works.{frees_among, AreTurnsLast, IsHosted, AreAwaiting}
+use Rattle.destructors.proofs.Hosting.{over-awaits, begun-on}
+use Rattle.host_core.specs.declared.waiting.Waiting.{Waiting}
+use Rattle.host_core.specs.declared.waiting.Waiting.TheVariants.{Freeing, Awaiting, Turning, Requesting, Turn, Work}
+use Rattle.host_core.specs.Stacks.{waiting_frame, free_frames, ahead, behind, standing, Fits}
+use Rattle.host_core.specs.Steps.{IsWaiter}
 
--- ---- a step of the innermost free
+-- ---- the frees among the works
 
--- what a step tells is what the next move tells
-told-by : (works : List FreeFrame) (p : Pool) (t : FreeStep) (new : OpenFrees) → Steps (record { works = works; pool = p }) t new → moves works p ≡ (Some t, (moves works p).1)
-told-by works p t new s = ap (λ (z : Option FreeStep). let y : Option FreeStep × OpenFrees = (z, (moves works p).1) in y) s.tells
+frees-front : (fs : List FreeFrame) (gs : List Frame) → frees_among (free_frames fs ++ gs) ≡ fs ++ frees_among gs
+frees-front [] gs = refl
+frees-front (f ∷ fs) gs = ap (λ (z : List FreeFrame). f ∷ z) (frees-front fs gs)
 
-tells-nothing : {B : Type 0} (p : Pool) (t : FreeStep) (new : OpenFrees) → Steps (record { works = []; pool = p }) t new → B
-tells-nothing p t new s = let bad : None ≡ Some t = s.tells in absurd (no bad)
+both-parts : (fs : List FreeFrame) → ahead fs ++ behind fs ≡ fs
+both-parts [] = refl
+both-parts (f ∷ fs) = let ih = both-parts fs in by_test (awaits_run f) (λ t. rw t refl) (λ t. rw t (ap (λ (z : List FreeFrame). f ∷ z) ih))
+
+pub frees-standing : (fs : List FreeFrame) (ws : List Waiting) → Fits fs ws → frees_among (standing fs ws) ≡ fs
+frees-standing fs [] e = sym e
+frees-standing [] (Freeing ∷ ws) e = absurd e.0
+frees-standing (f ∷ fs) (Freeing ∷ ws) e =
+    ap (λ (z : List FreeFrame). f ∷ z) (frees-front (ahead fs) (standing (behind fs) ws) ∙ ap (λ (z : List FreeFrame). ahead fs ++ z) (frees-standing (behind fs) ws e.1) ∙ both-parts fs)
+frees-standing fs (Awaiting q x ∷ ws) e = frees-standing fs ws e
+frees-standing fs (Turning q ∷ ws) e = frees-standing fs ws e
+frees-standing fs (Requesting q ∷ ws) e = frees-standing fs ws e
+frees-standing fs (Turn f ∷ ws) e = frees-standing fs ws e
+frees-standing fs (Work w ∷ ws) e = frees-standing fs ws e
+
+pub skip-waiter : (w : Waiting) (gs : List Frame) → IsWaiter w → frees_among (waiting_frame w ∷ gs) ≡ frees_among gs
+skip-waiter Freeing gs n = absurd n
+skip-waiter (Awaiting q x) gs n = refl
+skip-waiter (Turning q) gs n = refl
+skip-waiter (Requesting q) gs n = refl
+skip-waiter (Turn f) gs n = refl
+skip-waiter (Work w) gs n = refl
+
+pub no-free : (w : Waiting) → IsWaiter w → IsFree (waiting_frame w) → ⊥
+no-free Freeing n k = n
+no-free (Awaiting q x) n k = k
+no-free (Turning q) n k = k
+no-free (Requesting q) n k = k
+no-free (Turn f) n k = k
+no-free (Work w) n k = k
+
+-- ---- turns stand below all frees
+
+nothing-below : (a b : List Phase) → a ++ b ≡ [] → b ≡ []
+nothing-below [] b e = e
+nothing-below (p ∷ a) b e = cc
+
+-- where nothing is claimed there is no free below a work that is none
+none-open : (f : Frame) (gs : List Frame) → (IsFree f → ⊥) → IsStacked f gs → ClaimNothing gs → frees_among gs ≡ []
+none-open f [] n s c = refl
+none-open f (frame.Free g ∷ gs) n s c = absurd (each g s c)
   where
-    no : None ≡ Some t → ⊥
-    no e = cc
+    run : (x : Obj) (l : List Phase) → claim_if (same x x) InRun ++ l ≡ [] → ⊥
+    run x l e = let self : same x x ≡ true = same-equal x x refl in let e' : InRun ∷ l ≡ [] = rw self at e in cc
 
-no-event : (o : Option Event) → is_some o ≡ false → o ≡ None
-no-event None e = refl
-no-event (Some e) q = cc
+    each : (g : FreeFrame) → IsStacked f (frame.Free g ∷ gs) → ClaimNothing (frame.Free g ∷ gs) → ⊥
+    each (Hooked x h) s c = run x (claims x gs) (c x)
+    each (Preparing x) s c = run x (claims x gs) (c x)
+    each _ s c = n s.0
+none-open f (frame.Call c ∷ gs) n s k = none-open (frame.Call c) gs (λ z. z) s.1 k
+none-open f (frame.Turn t ∷ gs) n s k = none-open (frame.Turn t) gs (λ z. z) s.1 (λ x. nothing-below (claim x (frame.Turn t)) (claims x gs) (k x))
+none-open f (frame.Outside o ∷ gs) n s k = none-open (frame.Outside o) gs (λ z. z) s.1 k
+none-open f (frame.Request r ∷ gs) n s k = none-open (frame.Request r) gs (λ z. z) s.1 k
 
-pub step-news : (works : List FreeFrame) (cs : List CallFrame) (ts : List OpenTurn) (p : Pool) (t : FreeStep) (new : OpenFrees) → IsConsistent (seen active.Freeing works cs ts p) → speaking_view (seen active.Freeing works cs ts p) ≡ false
-    → Steps (record { works = works; pool = p }) t new → IsNews t → StepsSilently (seen active.Freeing works cs ts p) (seen active.Freeing new.works cs ts new.pool)
-step-news [] cs ts p t new h quiet s n = tells-nothing p t new s
-step-news (f ∷ fs) cs ts p t new h quiet s n =
-    let m = told-by (f ∷ fs) p t new s in
-    let silent : is_some (event_of p.ring t) ≡ false = ap (is_event p.ring) (sym s.tells) ∙ sym (speaks-events f fs cs ts p) ∙ quiet in
-    news-onward f fs cs ts p t (moves (f ∷ fs) p).1 new h m (no-event (event_of p.ring t) silent) n s.moves_on
+pub turns-last : (f : Frame) (gs : List Frame) → IsStacked f gs → AllCalm gs → AreTurnsLast gs
+turns-last f [] s c = tt
+turns-last f (frame.Turn t ∷ gs) s c = (none-open (frame.Turn t) gs (λ z. z) s.1 c.0, turns-last (frame.Turn t) gs s.1 c.1)
+turns-last f (frame.Free g ∷ gs) s c = turns-last (frame.Free g) gs s.1 c.1
+turns-last f (frame.Call k ∷ gs) s c = turns-last (frame.Call k) gs s.1 c.1
+turns-last f (frame.Outside o ∷ gs) s c = turns-last (frame.Outside o) gs s.1 c.1
+turns-last f (frame.Request r ∷ gs) s c = turns-last (frame.Request r) gs s.1 c.1
 
-pub step-event : (works : List FreeFrame) (cs : List CallFrame) (ts : List OpenTurn) (p : Pool) (t : FreeStep) (e : Event) (new : OpenFrees) → IsConsistent (seen active.Freeing works cs ts p) → Steps (record { works = works; pool = p }) t new → event_of p.ring t ≡ Some e → IsNews t
-    → AfterEvent (seen active.Freeing works cs ts p) (seen active.Freeing new.works cs ts new.pool) e
-step-event [] cs ts p t e new h s loud n = tells-nothing p t new s
-step-event (f ∷ fs) cs ts p t e new h s loud n = news-event f fs cs ts p t e (moves (f ∷ fs) p).1 new h (told-by (f ∷ fs) p t new s) loud n s.moves_on
+-- ---- what the engine has to know
 
-pub step-ask : (works : List FreeFrame) (cs : List CallFrame) (ts : List OpenTurn) (p : Pool) (x : Obj) (new : OpenFrees) → IsConsistent (seen active.Freeing works cs ts p) → Steps (record { works = works; pool = p }) (AskOf x) new
-    → (h : ℕ) × HasHook (row_of new.pool.rows x) h × StepsSilently (seen active.Freeing works cs ts p) (call_view (Asking (Routine (hook_moment x h))) new.works cs ts new.pool)
-step-ask [] cs ts p x new h s = tells-nothing p (AskOf x) new s
-step-ask (f ∷ fs) cs ts p x new h s = ask-onward f fs cs ts p x (moves (f ∷ fs) p).1 new h (told-by (f ∷ fs) p (AskOf x) new s) s.moves_on
+pub hosted : (f : FreeFrame) (fs : List FreeFrame) (below : List Frame) (p : Pool) → IsConsistent (record { innermost = frame.Free f; below = below; pool = p }) → frees_among below ≡ fs → IsHosted f fs p
+hosted f fs below p h e = record { below = below; frees = e; sound = h.sound; seated = h.seated; light = h.light; turns = turns-last (frame.Free f) below h.seated h.calm.1 }
 
--- ---- callers that wait, as frames
+-- a free that begins, and claims nothing, is awaited
+pub begun-awaits : (f : FreeFrame) (w : Waiting) (fs : List FreeFrame) (ws : List Waiting) (p : Pool) → IsWaiter w → Fits fs ws → ((x : Obj) → claim x (frame.Free f) ≡ [])
+    → IsConsistent (record { innermost = frame.Free f; below = waiting_frame w ∷ standing fs ws; pool = p }) → AreAwaiting fs p
+unfolding hosted
+begun-awaits f w fs ws p n e none h =
+    over-awaits f fs p (hosted f fs (waiting_frame w ∷ standing fs ws) p h (skip-waiter w (standing fs ws) n ∙ frees-standing fs ws e)) none
+    (begun-on f (waiting_frame w) (standing fs ws) (waiter (waiting_frame w) (standing fs ws) h.sound.waiting.0) (no-free w n) h.seated)
 
--- the innermost of them
-pub innermost : (ws : List Waiting) (c : CallFrame) (cs : List CallFrame) → map awaiting ws ≡ c ∷ cs → (w : Waiting) × (vs : List Waiting) × (ws ≡ w ∷ vs) × (awaiting w ≡ c) × (map awaiting vs ≡ cs)
-innermost [] c cs e = cc
-innermost (w ∷ vs) c cs e = let a : awaiting w ≡ c = cc in let b : map awaiting vs ≡ cs = cc in (w, vs, refl, a, b)
+-- a routine that has returned
+pub returned-awaits : (v : ℕ) (fs : List FreeFrame) (below : List Frame) (p : Pool) → IsConsistent (record { innermost = frame.Call (Returning v); below = below; pool = p }) → frees_among below ≡ fs → AreAwaiting fs p
+returned-awaits v fs below p h e =
+    let l = h.light in
+    let x : Obj = record { 0 = 0 } in
+    let waits = frame.Call (AwaitingCall (Routine (hook_moment x 0)) x) in
+    record {
+      over = record {
+        below = waits ∷ below;
+        frees = e;
+        sound = stands (frame.Call (Returning v)) (frame.Free (Ending Ok)) below (waits ∷ below) p (λ y. refl) (tt, h.sound.waiting) (tt, tt) h.sound;
+        seated = (tt, reseat (frame.Call (Returning v)) waits below (λ c. absurd c) (λ r. tt) (λ k. k) (λ t. t) (λ v. v) h.seated);
+        light = omega (arith, l);
+        turns = turns-last (frame.Call (Returning v)) below h.seated h.calm.1;
+      };
+      on = refl;
+    }
 
--- one more that waits is the innermost
-pub stacked : (old new : List Waiting) (w : Waiting) → new ≡ old ++ w ∷ [] → stack_of new ≡ awaiting w ∷ stack_of old
-stacked old new w e = ap stack_of e ∙ ap (map awaiting) (reverse-append old (w ∷ []))
-
--- a free that is over, and the caller that has waited for it
-pub record Over (works : List FreeFrame) (cs : List CallFrame) (ts : List OpenTurn) (p : Pool) (a : FreeReply) (new : OpenFrees) : Type 0 where
-  pub caller : CallFrame
-  pub callers : List CallFrame
-  pub waited : cs ≡ caller ∷ callers
-  pub onward : StepsSilently (seen active.Freeing works cs ts p) (call_view (caller_resume caller (Freed a)) new.works callers ts new.pool)
-
--- or the turn that has waited for it, which is over
-pub record TurnOver (works : List FreeFrame) (cs : List CallFrame) (turn : Option TurnFrame) (p : Pool) (new : OpenFrees) : Type 0 where
-  pub alone : cs ≡ []
-  pub frees : new.works ≡ []
-  pub onward : StepsSilently (seen active.Freeing works cs (turns_of turn) p) (turn_view (Closing 1) Quiet new.works [] [] new.pool)
-
--- a free stands on a call, or on a turn
-no-bottom : (f : FreeFrame) (fs : List FreeFrame) → IsStacked (frame.Free f) (standing fs [] []) → ⊥
-no-bottom f [] s = s
-no-bottom f (Hooked x h ∷ fs) s = s.0
-no-bottom f (g ∷ fs) s = no-bottom g fs s.1
-
-pub step-done : (works : List FreeFrame) (cs : List CallFrame) (turn : Option TurnFrame) (p : Pool) (a : FreeReply) (new : OpenFrees) → IsConsistent (seen active.Freeing works cs (turns_of turn) p) → Steps (record { works = works; pool = p }) (Done a) new
-    → Over works cs (turns_of turn) p a new ⊎ TurnOver works cs turn p new
-step-done [] cs turn p a new h s = tells-nothing p (Done a) new s
-step-done (f ∷ fs) (c ∷ ds) turn p a new h s =
-    inl (record { caller = c; callers = ds; waited = refl; onward = done-onward f fs c ds (turns_of turn) p a (moves (f ∷ fs) p).1 new h (told-by (f ∷ fs) p (Done a) new s) s.moves_on })
-step-done (f ∷ fs) [] None p a new h s = absurd (no-bottom f fs h.seated)
-step-done (f ∷ fs) [] (Some g) p a new h s =
-    let t : OpenTurn = record { turn = g; ask = Quiet } in
-    let o = over-onward f fs t [] p a (moves (f ∷ fs) p).1 new h (told-by (f ∷ fs) p (Done a) new s) s.moves_on in
-    inr (record { alone = refl; frees = o.0; onward = rw o.0 o.1 })
-
--- news leaves the innermost free at work
-pub news-work : (t : FreeStep) (s : OpenFrees) → IsNews t → GoesOn t s → IsAtWork s
-news-work (AskOf x) s n g = absurd n
-news-work (Done a) s n g = absurd n
-news-work _ s n g = g
-
--- what neither asks nor is over is news
-pub other-news : (t : FreeStep) → ((x : Obj) → t ≡ AskOf x → ⊥) → ((a : FreeReply) → t ≡ Done a → ⊥) → IsNews t
-other-news (AskOf x) ask done = ask x refl
-other-news (Done a) ask done = done a refl
-other-news _ ask done = tt
-
--- ---- a routine that has returned
-
--- the innermost free waits for the routine that has returned
-pub asked : (works : List FreeFrame) (v : ℕ) (cs : List CallFrame) (ts : List OpenTurn) (p : Pool) → is_some (slice_get works 0) ≡ true → IsConsistent (call_view (Returning v) works cs ts p) → IsAsked (slice_get works 0)
-asked [] v cs ts p opened h = cc
-asked (Hooked x g ∷ fs) v cs ts p opened h = tt
-asked (_ ∷ fs) v cs ts p opened h = absurd h.seated.0
-
--- ---- a free that has begun
-
--- a free that a call has begun goes on above it
-module _ (f : FreeFrame) (q : Ask) (x : Obj) (turn : Option TurnFrame) (objects objects' : Objects) (callers callers' : List Waiting)
-    (h : IsConsistent (free_view f objects.works (Awaiting q x ∷ stack_of callers) (turns_of turn) objects.pool)) (b : Begins (f ∷ objects.works) objects.pool (frees_in objects')) (e : callers' ≡ callers ++ record { ask = q; x = x } ∷ []) where
-  pub begun-along : TellsSameStory (free_view f objects.works (Awaiting q x ∷ stack_of callers) (turns_of turn) objects.pool) (view_of active.Freeing callers' turn objects')
-  begun-along =
-      subst (λ (z : List CallFrame). TellsSameStory (free_view f objects.works (Awaiting q x ∷ stack_of callers) (turns_of turn) objects.pool) (seen active.Freeing objects'.works z (turns_of turn) objects'.pool)) (sym (stacked callers callers' (record { ask = q; x = x }) e))
-      (silently-along (record { works = f ∷ objects.works; pool = objects.pool }) (frees_in objects') (Awaiting q x ∷ stack_of callers) (turns_of turn) b.moves_on h)
-
-  pub begun-ready : IsAtWork (frees_in objects') → BetweenSteps active.Freeing callers' turn objects'
-  begun-ready work = record { whole = begun-along.whole; parts = record { at_work = work; settled = b.settles } }
-
--- ---- what a free that a call begins rests on
-
-begun-rests : (f : FreeFrame) (q : Ask) (x : Obj) (works : List FreeFrame) (cs : List CallFrame) (ts : List OpenTurn) (p : Pool) → IsAwaiting (record { works = works; pool = p }) → IsConsistent (free_view f works (Awaiting q x ∷ cs) ts p)
-    → Rests (frame.Free f) (frame.Call (Awaiting q x) ∷ under works cs ts) p
-begun-rests f q x works cs ts p a w = subst (λ (l : List Frame). Rests (frame.Free f) l p) (on-caller works (Awaiting q x) cs ts a.sound.rests) w.sound.rests
-
--- there is no reference to an object that is freed
-pub freed-object : (q : Ask) (x : Obj) (works : List FreeFrame) (cs : List CallFrame) (ts : List OpenTurn) (p : Pool) → IsAwaiting (record { works = works; pool = p }) → IsConsistent (free_view (Beginning x) works (Awaiting q x ∷ cs) ts p)
-    → (newest_ref p.rows x ≡ None) × (target_at p.rows x ≡ None)
-freed-object q x works cs ts p a w = begun-rests (Beginning x) q x works cs ts p a w
-
--- one that an owner gives up is live
-pub unlinked-object : (q : Ask) (o : Owner) (x : Obj) (works : List FreeFrame) (cs : List CallFrame) (ts : List OpenTurn) (p : Pool) → IsAwaiting (record { works = works; pool = p }) → IsConsistent (free_view (Unlinking o x) works (Awaiting q x ∷ cs) ts p)
-    → IsLiveRow p x × (target_at p.rows x ≡ None)
-unlinked-object q o x works cs ts p a w =
-    let r = begun-rests (Unlinking o x) q x works cs ts p a w in
-    (live-row p x r.1 r.2 r.3, rw r.2 r.4)
+-- the work of a request that is over
+pub worked-awaits : (r : Reply) (fs : List FreeFrame) (below : List Frame) (p : Pool) → IsConsistent (record { innermost = frame.Request (Over r); below = below; pool = p }) → frees_among below ≡ fs → AreAwaiting fs p
+worked-awaits r fs below p h e =
+    let l = h.light in
+    let x : Obj = record { 0 = 0 } in
+    let waits = frame.Request (Releasing x) in
+    record {
+      over = record {
+        below = waits ∷ below;
+        frees = e;
+        sound = stands (frame.Request (Over r)) (frame.Free (Ending Ok)) below (waits ∷ below) p (λ y. refl) (h.sound.rests, h.sound.waiting) (tt, tt) h.sound;
+        seated = (tt, reseat-work (Over r) (Releasing x) below h.seated);
+        light = omega (arith, l);
+        turns = turns-last (frame.Request (Over r)) below h.seated h.calm.1;
+      };
+      on = refl;
+    }

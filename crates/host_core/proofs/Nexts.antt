@@ -1,32 +1,28 @@
 -- What comes next of a host that has settled.
-use Rattle.std.proofs.Common.{◌≡◌, ℕ, Option, List, [], ◌∷◌, Some, None, true, refl, sym, ◌∙◌, ap, subst}
-use Rattle.std.specs.Prelude.{is_some}
+use Rattle.std.proofs.Common.{◌≡◌, Option, List, [], ◌∷◌, reverse, Some, None, is_some, true, false, refl, sym, ◌∙◌, ap, subst, arith}
 use Rattle.tree_specs.specs.declared.event.Event.{Event}
-use Rattle.tree_specs.specs.declared.event.Event.TheVariants.{Replied, Fired}
+use Rattle.tree_specs.specs.declared.event.Event.TheVariants.{Replied, Fired, State as StateOf}
 use Rattle.tree_specs.specs.declared.frame.CallFrame.{CallFrame}
-use Rattle.tree_specs.specs.declared.frame.CallFrame.TheVariants.{Asking, Turning, Announcing, Telling}
+use Rattle.tree_specs.specs.declared.frame.CallFrame.TheVariants.{Asking, Announcing, Telling}
+use Rattle.tree_specs.specs.declared.frame.Errand.TheVariants.{Finish, Receive}
 use Rattle.tree_specs.specs.declared.frame.Frame.TheVariants as frame
+use Rattle.tree_specs.specs.declared.frame.FreeFrame.{FreeFrame}
 use Rattle.tree_specs.specs.declared.frame.TurnFrame.{TurnFrame}
 use Rattle.tree_specs.specs.declared.frame.TurnFrame.TheVariants.{Timing, Polling, Firing, Handling}
-use Rattle.tree_specs.specs.declared.handler.Handler.{Handler}
-use Rattle.tree_specs.specs.declared.moment.What.{What}
-use Rattle.tree_specs.specs.declared.object.Obj.{Obj}
-use Rattle.tree_specs.specs.declared.occasion.Occasion.{Occasion}
-use Rattle.tree_specs.specs.declared.watch.Watch.{Watch}
-use Rattle.tree_specs.specs.Events.Coming.{handler_moment}
-use Rattle.tree_specs.specs.declared.frame.FreeFrame.{FreeFrame}
 use Rattle.tree_specs.specs.declared.free_step.FreeStep.{FreeStep}
+use Rattle.tree_specs.specs.declared.free_step.FreeStep.TheVariants.{Ask, Prepare, Done}
 use Rattle.tree_specs.specs.declared.question.Ask.{Ask as Question}
-use Rattle.tree_specs.specs.declared.question.Ask.TheVariants.{Quiet, Routine, Clock, Wait}
-use Rattle.tree_specs.specs.declared.free_step.FreeStep.TheVariants.{Ask, Done}
-use Rattle.tree_specs.specs.Tree.Pool.{Pool}
-use Rattle.tree_specs.specs.Rules.Story.{notice_event}
+use Rattle.tree_specs.specs.declared.question.Ask.TheVariants.{Clock, Wait}
+use Rattle.tree_specs.specs.declared.request.State.TheVariants.{Received}
+use Rattle.tree_specs.specs.declared.watch.Watch.{Watch}
+use Rattle.tree_specs.specs.Events.Requests.{note_of, is_unreceived, state_number}
+use Rattle.tree_specs.specs.Rules.Pieces.{notice_event}
+use Rattle.tree_specs.specs.Tree.Pool.{Pool, finish, receive}
 use Rattle.tree_specs.specs.Machine.Table.{event_of}
-use Rattle.tree_specs.specs.Machine.View.{View, question_of}
-use Rattle.tree_specs.specs.Invariants.Consistent.{IsStacked, IsConsistent}
-use Rattle.destructors.specs.Frees.{OpenFrees, is_event, Steps}
-use Rattle.destructors.specs.Works.{GoesOn as FreesGoOn}
-use Rattle.destructors.specs.Callers.{OpenTurn, under, call_view}
+use Rattle.tree_specs.specs.Machine.View.{View}
+use Rattle.tree_specs.specs.Invariants.Consistent.{IsConsistent}
+use Rattle.tree_specs.proofs.Tree.Numbered.{by_test}
+use Rattle.destructors.specs.Frees.{is_event, Steps}
 use Rattle.destructors.specs.Runs.{IsNews}
 use Rattle.object_pool.specs.Objects.{Objects, frees_in}
 use Rattle.host_core.specs.declared.active.Active.{Active}
@@ -34,152 +30,205 @@ use Rattle.host_core.specs.declared.active.Active.TheVariants as active
 use Rattle.host_core.specs.declared.caller.Caller.{Caller}
 use Rattle.host_core.specs.declared.caller.Stage.{Stage}
 use Rattle.host_core.specs.declared.caller.Stage.TheVariants as stage
-use Rattle.host_core.specs.declared.caller.Waiting.{Waiting}
-use Rattle.host_core.specs.declared.reach.Reach.{Reach}
-use Rattle.host_core.specs.declared.turn.Turn.{Turn}
+use Rattle.host_core.specs.declared.parts.Parts.{Parts}
+use Rattle.host_core.specs.declared.waiting.Waiting.{Waiting}
+use Rattle.host_core.specs.declared.work.Work.{Work}
+use Rattle.host_core.specs.declared.work.Work.TheVariants as work
+use Rattle.host_core.specs.Callers.{frame_of, staged, told_by, after_telling, open_at}
 use Rattle.host_core.specs.Promises.{Waits, NextLaw}
-use Rattle.host_core.specs.Turns.{turns_of, turn_view}
-use Rattle.host_core.specs.Hosts.{seen, staged, frame_of, stack_of, view_of, speaking_view, told_by, after_telling, asked_now, StandsAs, FiresBy, Fires, BetweenSteps, TellsSameStory}
-use Rattle.host_core.proofs.StepsSilently.{AfterEvent, after-event, event-along, waits-asked}
-use Rattle.host_core.proofs.FreeSteps.{speaks-events}
-use Rattle.host_core.proofs.Stepping.{event_told}
-use Rattle.host_core.proofs.TurnSteps.{quiet-alone, fired}
-use Rattle.host_core.proofs.Calling.{stays-at, speaks-at}
-use Rattle.host_core.proofs.Offering.{question-seen, waits-now}
+use Rattle.host_core.specs.Stacks.{FreesFit, freeing_view}
+use Rattle.host_core.specs.Turns.{turn_asks, turn_tells, turn_speaks, frame_fired}
+use Rattle.host_core.specs.Requests.{work_speaks, work_tells, work_told, pool_told}
+use Rattle.requests.specs.Register.{AreInOrder}
+use Rattle.host_core.specs.Hosts.{host_view, below_in, speaking_view, asked_now, IsBetweenSteps, Tells, FreeTells, TellsSameStory}
+use Rattle.host_core.proofs.StepsSilently.{AfterEvent, after-event, event-along}
+use Rattle.host_core.proofs.FreeSteps.{speaks-events, step-event}
+use Rattle.host_core.proofs.FreeStepping.{step-fits, news-work, news-fit}
+use Rattle.host_core.proofs.Offering.{caller-now, waits-now}
+use Rattle.host_core.proofs.Speaking.{turn_speaking, work_speaking, question_seen}
+use Rattle.host_core.proofs.Unreceived.{finished-most, received-fewer}
 
--- an event is the next item of the story
-pub event-law : (v w : View) (e : Event) → question_of v ≡ None → AfterEvent v w e → NextLaw (Some e) v w
-event-law v w e none a = (none, a.law, a.strays)
+-- the same works that wait
+abbrev with : Parts → Objects → Parts
+with parts o = record { waiting = parts.waiting; objects = o }
+
+-- what has told an event, and is ready for the steps after it
+pub record Told (e : Event) (old : Active) (parts : Parts) (now : Active) (o : Objects) : Type 0 where
+  pub ready : IsBetweenSteps now (with parts o)
+  pub after : AfterEvent (host_view old parts) (host_view now (with parts o)) e
 
 -- ---- a caller
 
--- what comes next of a caller, and what it leaves
-pub record CallerNext (f f' : CallFrame) (callers : List Waiting) (turn : Option TurnFrame) (objects : Objects) : Type 0 where
-  pub law : NextLaw (told_by f) (call_view f objects.works (stack_of callers) (turns_of turn) objects.pool) (call_view f' objects.works (stack_of callers) (turns_of turn) objects.pool)
-  pub whole : IsConsistent (call_view f' objects.works (stack_of callers) (turns_of turn) objects.pool)
-
-caller-next : (q : Question) (s : Stage) (callers : List Waiting) (turn : Option TurnFrame) (objects : Objects) → IsConsistent (call_view (staged q s) objects.works (stack_of callers) (turns_of turn) objects.pool) → CallerNext (staged q s) (after_telling (staged q s)) callers turn objects
-caller-next q stage.Asking callers turn objects h = record { law = (waits-asked q _ objects.pool h, refl); whole = h }
-caller-next q (stage.Announcing notice r) callers turn objects h =
-    let a = after-event (call_view (Announcing q notice r) objects.works (stack_of callers) (turns_of turn) objects.pool) (call_view (Telling q r) objects.works (stack_of callers) (turns_of turn) objects.pool) (notice_event notice) h refl in
-    record { law = event-law _ _ (notice_event notice) refl a; whole = a.whole }
-caller-next q (stage.Telling r) callers turn objects h =
-    let a = after-event (call_view (Telling q r) objects.works (stack_of callers) (turns_of turn) objects.pool) (call_view (Asking q) objects.works (stack_of callers) (turns_of turn) objects.pool) (Replied r) h refl in
-    record { law = event-law _ _ (Replied r) refl a; whole = a.whole }
-
--- ---- a free
-
-loud : (works : List FreeFrame) (cs : List CallFrame) (ts : List OpenTurn) (p : Pool) (t : FreeStep) (new : OpenFrees) → speaking_view (seen active.Freeing works cs ts p) ≡ true → Steps (record { works = works; pool = p }) t new → is_some (event_of p.ring t) ≡ true
-loud [] cs ts p t new s st = cc
-loud (f ∷ fs) cs ts p t new s st = ap (is_event p.ring) (sym st.tells) ∙ sym (speaks-events f fs cs ts p) ∙ s
-
--- what is told is news
-told-news : (ring : List Watch) (t : FreeStep) → is_some (event_of ring t) ≡ true → (e : Event) × (event_of ring t ≡ Some e) × IsNews t
-told-news ring (Ask x) l = cc
-told-news ring (Done a) l = cc
-told-news ring t l = let s = some-event (event_of ring t) l in (s.0, s.1, tt)
+caller-told : (e : Event) (c : Caller) (parts : Parts) (now : Active) (o : Objects) → IsBetweenSteps (active.Caller c) parts → Tells (Some e) (active.Caller c) parts.objects now o → Told e (active.Caller c) parts now o
+caller-told e c parts now o b t =
+    let n = caller-now now (after_telling (frame_of c)) t.1 in
+    let v = λ (z : CallFrame). let r : View = record { innermost = frame.Call z; below = below_in parts; pool = parts.objects.pool } in r in
+    let a : AfterEvent (v (frame_of c)) (v (frame_of n.0)) e = subst (λ (z : CallFrame). AfterEvent (v (frame_of c)) (v z) e) (sym n.2) (each c.stage b.whole t.0) in
+    rw (n.1, t.2) (record {
+      ready = record { whole = a.whole; fit = b.fit; ready = tt; places = tt };
+      after = a;
+    })
   where
-    some-event : (o : Option Event) → is_some o ≡ true → (e : Event) × (o ≡ Some e)
-    some-event None l = cc
-    some-event (Some e) l = (e, refl)
+    each : (s : Stage) → IsConsistent (record { innermost = frame.Call (staged c.ask s); below = below_in parts; pool = parts.objects.pool }) → Some e ≡ told_by (staged c.ask s)
+        → AfterEvent (record { innermost = frame.Call (staged c.ask s); below = below_in parts; pool = parts.objects.pool }) (record { innermost = frame.Call (after_telling (staged c.ask s)); below = below_in parts; pool = parts.objects.pool }) e
+    each stage.Asking h told = cc
+    each (stage.Announcing notice r) h told = let is : notice_event notice ≡ e = cc in rw (← is) (after-event _ _ (notice_event notice) h refl)
+    each (stage.Telling r) h told = let is : Replied r ≡ e = cc in rw (← is) (after-event _ _ (Replied r) h refl)
 
--- what comes next of a free, and what it leaves
-pub record FreeNext (callers : List Waiting) (turn : Option TurnFrame) (objects : Objects) (t : FreeStep) (objects' : Objects) : Type 0 where
-  pub ready : BetweenSteps active.Freeing callers turn objects'
-  pub law : (w : View) → TellsSameStory (view_of active.Freeing callers turn objects') w → NextLaw (event_of objects.pool.ring t) (view_of active.Freeing callers turn objects) w
+-- ---- the open frees
 
-pub free-next : (callers : List Waiting) (turn : Option TurnFrame) (objects : Objects) (t : FreeStep) (objects' : Objects) → BetweenSteps active.Freeing callers turn objects → speaking_view (view_of active.Freeing callers turn objects) ≡ true
-    → Steps (frees_in objects) t (frees_in objects') → FreesGoOn t (frees_in objects') → FreeNext callers turn objects t objects'
-free-next callers turn objects t objects' h s st g =
-    let n = told-news objects.pool.ring t (loud objects.works (stack_of callers) (turns_of turn) objects.pool t (frees_in objects') s st) in
-    let e = event_told callers turn objects objects' t h st n.0 n.1 n.2 g in
-    record {
-      ready = e.1;
-      law = λ w a. rw n.1 (event-law (view_of active.Freeing callers turn objects) w n.0 (question-seen active.Freeing (stack_of callers) (turns_of turn) objects h.parts) (event-along _ _ _ n.0 e.0 a));
-    }
+-- what tells an event is news
+told-news : (ring : List Watch) (t : FreeStep) (e : Event) → event_of ring t ≡ Some e → IsNews t
+told-news ring (Ask x) e l = cc
+told-news ring (Prepare x) e l = cc
+told-news ring (Done a) e l = cc
+told-news ring _ e l = tt
 
--- ---- a turn, or a question to the outside
-
--- what comes next of it, and what it leaves
-pub record FireNext (old : Active) (callers : List Waiting) (turn : Option TurnFrame) (objects : Objects) (told : Option Event) (now : Active) (turn' : Option TurnFrame) : Type 0 where
-  pub law : NextLaw told (view_of old callers turn objects) (view_of now callers turn' objects)
-  pub ready : BetweenSteps now callers turn' objects
-  pub speaks : speaking_view (view_of now callers turn' objects) ≡ true
-
--- one that asks
-asks-next : (old : Active) (callers : List Waiting) (turn : Option TurnFrame) (objects : Objects) (told : Option Event) (now : Active) (turn' : Option TurnFrame) (q : Question) → BetweenSteps old callers turn objects → asked_now old ≡ Some q
-    → speaking_view (view_of old callers turn objects) ≡ true → told ≡ None → now ≡ old → turn' ≡ turn → FireNext old callers turn objects told now turn'
-asks-next old callers turn objects told now turn' q h asks speaks e e' e'' =
-    rw (e, e', e'') (record { law = (waits-now old q (stack_of callers) (turns_of turn) objects asks h.parts h.whole, refl); ready = h; speaks = speaks })
-
-abbrev a_turn : TurnFrame → Option Question → Question → Active
-a_turn f question q = active.Turning (record { frame = f; question = question; caller = q })
-
--- one whose handler starts
-turn-fires : (what : What) (x : Obj) (handler : Handler) (occasion : Occasion) (question : Option Question) (q : Question) (callers : List Waiting) (turn : Option TurnFrame) (objects : Objects) (told : Option Event) (now : Active) (turn' : Option TurnFrame)
-    → BetweenSteps (a_turn (Firing what x handler occasion) question q) callers turn objects → told ≡ Some (Fired what x handler.routine)
-    → StandsAs now (Asking (Routine (handler_moment what x handler occasion))) → turn' ≡ Some (Handling what x handler occasion) → FireNext (a_turn (Firing what x handler occasion) question q) callers turn objects told now turn'
-turn-fires what x handler occasion question q callers turn objects told now turn' h e s e' =
-    let f = Firing what x handler occasion in
-    let runs : CallFrame = Asking (Routine (handler_moment what x handler occasion)) in
-    let quiet : q ≡ Quiet = h.parts.caller in
-    let a = quiet-alone objects.works (stack_of callers) (turns_of turn) (subst (λ (z : Question). IsStacked (frame.Call (Turning z)) (under objects.works (stack_of callers) (turns_of turn))) quiet h.whole.seated.1) in
-    let same : turn_view f q objects.works (stack_of callers) (turns_of turn) objects.pool ≡ turn_view f Quiet [] [] [] objects.pool = rw (quiet, a.frees, a.callers, a.turns) refl in
-    let after = fired what x handler occasion objects.pool (subst IsConsistent same h.whole) in
-    let there : call_view runs [] [] (turns_of (Some (Handling what x handler occasion))) objects.pool ≡ call_view runs objects.works (stack_of callers) (turns_of turn') objects.pool = rw (a.frees, a.callers, e') refl in
-    let w = subst IsConsistent there after.whole in
-    let stands = stays-at now runs callers turn' objects s w in
-    let law = event-law _ (view_of now callers turn' objects) (Fired what x handler.routine) (question-seen (a_turn f question q) (stack_of callers) (turns_of turn) objects h.parts ∙ h.parts.question)
-    (event-along _ _ _ (Fired what x handler.routine) (subst (λ (v : View). AfterEvent v (call_view runs objects.works (stack_of callers) (turns_of turn') objects.pool) (Fired what x handler.routine)) (sym same)
-    (subst (λ (v : View). AfterEvent (turn_view f Quiet [] [] [] objects.pool) v (Fired what x handler.routine)) there after)) stands.0) in
-    rw e (record { law = law; ready = stands.1; speaks = speaks-at now runs objects.works (stack_of callers) (turns_of turn') objects.pool s })
-
-turn-next : (t : Turn) (callers : List Waiting) (turn : Option TurnFrame) (objects : Objects) (told : Option Event) (now : Active) (turn' : Option TurnFrame) → BetweenSteps (active.Turning t) callers turn objects → FiresBy t.frame turn told (active.Turning t) now turn'
-    → FireNext (active.Turning t) callers turn objects told now turn'
-turn-next t callers turn objects told now turn' h k = each t.frame t.question t.caller h k
+free-told : (e : Event) (parts : Parts) (now : Active) (o : Objects) → IsBetweenSteps active.Freeing parts → FreeTells (Some e) parts.objects now o → Told e active.Freeing parts now o
+free-told e parts now o b t = rw t.still (each parts.objects.works refl b.fit b.whole t.steps)
   where
-    each : (f : TurnFrame) (question : Option Question) (q : Question) → BetweenSteps (a_turn f question q) callers turn objects → FiresBy f turn told (a_turn f question q) now turn' → FireNext (a_turn f question q) callers turn objects told now turn'
-    each (Firing what x handler occasion) question q h k = turn-fires what x handler occasion question q callers turn objects told now turn' h k.0 k.1 k.2
-    each (Timing again) question q h k = asks-next _ callers turn objects told now turn' Clock h h.parts.question refl k.0 k.1 k.2
-    each (Polling limit) question q h k = asks-next _ callers turn objects told now turn' (Wait limit) h h.parts.question refl k.0 k.1 k.2
-    each _ question q h k = absurd h.parts.speaks
+    ws : List Waiting
+    ws = reverse parts.waiting.items
+
+    news : IsNews t.step
+    news = told-news parts.objects.pool.ring t.step e (sym t.event)
+
+    each : (works : List FreeFrame) → parts.objects.works ≡ works → FreesFit works ws → IsConsistent (freeing_view works ws parts.objects.pool) → Steps (record { works = works; pool = parts.objects.pool }) t.step (frees_in o) → Told e active.Freeing parts active.Freeing o
+    each [] k fit h s = absurd fit.0
+    each (f ∷ fs) k fit h s =
+        let a = step-event f fs ws parts.objects.pool (frees_in o) h t.step e s (sym t.event) news in
+        let a' : AfterEvent (host_view active.Freeing parts) (host_view active.Freeing (with parts o)) e = subst (λ (z : List FreeFrame). AfterEvent (freeing_view z ws parts.objects.pool) (freeing_view o.works ws o.pool) e) (sym k) a in
+        let room = b.places in
+        let fewer = t.requests in
+        record {
+          ready = record {
+            whole = a'.whole;
+            fit = news-fit t.step (frees_in o) ws news (step-fits f fs ws parts.objects.pool (frees_in o) h t.step fit s);
+            ready = record { at_work = news-work t.step (frees_in o) news t.goes_on; settled = s.settles };
+            places = omega (arith, room, fewer);
+          };
+          after = a';
+        }
+
+-- ---- a turn
+
+abbrev a_turn : TurnFrame → Option Question → Active
+a_turn f question = active.Turning (record { frame = f; question = question })
+
+turn-told : (e : Event) (f : TurnFrame) (question : Option Question) (parts : Parts) → IsBetweenSteps (a_turn f question) parts → Some e ≡ turn_tells f → Told e (a_turn f question) parts (a_turn (frame_fired f) question) parts.objects
+turn-told e (Firing what x handler occasion) question parts b told =
+    let is : Fired what x handler.routine ≡ e = cc in
+    let a = after-event (host_view (a_turn (Firing what x handler occasion) question) parts) (host_view (a_turn (Handling what x handler occasion) question) parts) (Fired what x handler.routine) b.whole refl in
+    rw (← is) (record { ready = record { whole = a.whole; fit = b.fit; ready = record { question = b.ready.question; frame = tt }; places = b.places }; after = a })
+turn-told e _ question parts b told = cc
+
+-- ---- the work of a request
+
+work-told : (e : Event) (w : Work) (parts : Parts) → AreInOrder parts.objects.pool.requests → IsBetweenSteps (active.Requesting w) parts → Some e ≡ work_tells w parts.objects.pool
+    → Told e (active.Requesting w) parts (active.Requesting (work_told w parts.objects.pool)) (record parts.objects { pool = pool_told w parts.objects.pool })
+work-told e (work.Finishing x state) parts order b told =
+    let o : Objects = record parts.objects { pool = finish parts.objects.pool x state } in
+    let is : StateOf x (state_number state) ≡ e = cc in
+    let a = after-event (host_view (active.Requesting (work.Finishing x state)) parts) (host_view (active.Requesting (work.Cleaning x (Finish state))) (with parts o)) (StateOf x (state_number state)) b.whole refl in
+    let m = finished-most state parts.objects.pool x order b.whole.noted.works.1 in
+    let room = b.places in
+    rw (← is) (record { ready = record { whole = a.whole; fit = b.fit; ready = b.ready; places = omega (arith, m, room) }; after = a })
+work-told e (work.Receiving x) parts order b told = by_test (is_unreceived (note_of parts.objects.pool.requests x))
+    (λ t.
+    let o : Objects = record parts.objects { pool = receive parts.objects.pool x } in
+    let told' : Some e ≡ Some (StateOf x (state_number Received)) = rw t at told in
+    let is : StateOf x (state_number Received) ≡ e = cc in
+    let a = after-event (host_view (active.Requesting (work.Receiving x)) parts) (host_view (active.Requesting (work.Cleaning x Receive)) (with parts o)) (StateOf x (state_number Received)) b.whole (rw t refl) in
+    let m = received-fewer parts.objects.pool.requests x order t in
+    let room = b.places in
+    rw (t, ← is) (record { ready = record { whole = a.whole; fit = b.fit; ready = b.ready; places = omega (arith, m, room) }; after = a }))
+    (λ t. let bad : Some e ≡ None = rw t at told in cc)
+work-told e (work.Calling what x handler errand) parts order b told =
+    let is : Fired what x handler.routine ≡ e = cc in
+    let a = after-event (host_view (active.Requesting (work.Calling what x handler errand)) parts) (host_view (active.Requesting (work.Called what x handler errand)) parts) (Fired what x handler.routine) b.whole refl in
+    rw (← is) (record { ready = record { whole = a.whole; fit = b.fit; ready = tt; places = b.places }; after = a })
+work-told e _ parts order b told = cc
 
 -- ---- by the parts of a host
 
--- a caller was told, and stands where that leaves it
-module _ (now : Active) (c c' : Caller) (callers : List Waiting) (turn : Option TurnFrame) (objects : Objects) (e : now ≡ active.Caller c) (goes : frame_of c' ≡ after_telling (frame_of c)) (r : BetweenSteps now callers turn objects) where
-  next_of_caller : CallerNext (frame_of c) (frame_of c') callers turn objects
-  next_of_caller = subst (λ (z : CallFrame). CallerNext (frame_of c) z callers turn objects) (sym goes) (caller-next c.ask c.stage callers turn objects (subst (λ (z : Active). IsConsistent (view_of z callers turn objects)) e r.whole))
+pub told-next : (e : Event) (old : Active) (parts : Parts) (now : Active) (o : Objects) → IsBetweenSteps old parts → Tells (Some e) old parts.objects now o → Told e old parts now o
+told-next e (active.Caller c) parts now o b t = caller-told e c parts now o b t
+told-next e active.Freeing parts now o b t = free-told e parts now o b t
+told-next e (active.Turning f) parts now o b t = rw (t.1, t.2) (turn-told e f.frame f.question parts b t.0)
+told-next e (active.Reaching q) parts now o b t = cc
+told-next e (active.Requesting w) parts now o b t = rw (t.1, t.2) (work-told e w parts t.3 b t.0)
 
-  pub caller-law : (v : View) → view_of now callers turn objects ≡ v → NextLaw (told_by (frame_of c)) v (view_of (active.Caller c') callers turn objects)
-  caller-law v is = subst (λ (z : View). NextLaw (told_by (frame_of c)) z (view_of (active.Caller c') callers turn objects)) (ap (λ (z : Active). view_of z callers turn objects) (sym e) ∙ is) next_of_caller.law
+-- an event is the next item of the story
+pub next-law : (e : Event) (old : Active) (parts : Parts) (now : Active) (o : Objects) (v w : View) → IsBetweenSteps old parts → speaking_view (host_view old parts) ≡ true → host_view old parts ≡ v → Tells (Some e) old parts.objects now o
+    → TellsSameStory (host_view now (with parts o)) w → NextLaw (Some e) v w
+next-law e old parts now o v w b s is t along =
+    let told = told-next e old parts now o b t in
+    let a = event-along _ _ _ e told.after along in
+    subst (λ (z : View). NextLaw (Some e) z w) is (question_seen old (reverse parts.waiting.items) parts.objects b.ready s ∙ unasked old b t, a.law, a.strays)
+  where
+    unasked : (old : Active) → IsBetweenSteps old parts → Tells (Some e) old parts.objects now o → asked_now old ≡ None
+    unasked (active.Caller c) b t = stages c.stage t.0
+      where
+        stages : (s : Stage) → Some e ≡ told_by (staged c.ask s) → open_at s c.ask ≡ None
+        stages stage.Asking t = cc
+        stages (stage.Announcing notice r) t = refl
+        stages (stage.Telling r) t = refl
+    unasked active.Freeing b t = refl
+    unasked (active.Turning f) b t = b.ready.question ∙ fires f.frame t.0
+      where
+        fires : (f : TurnFrame) → Some e ≡ turn_tells f → turn_asks f ≡ None
+        fires (Firing what x handler occasion) t = refl
+        fires _ t = cc
+    unasked (active.Reaching q) b t = cc
+    unasked (active.Requesting w) b t = refl
 
-  pub caller-ready : BetweenSteps (active.Caller c') callers turn objects
-  caller-ready = record { whole = next_of_caller.whole; parts = tt }
+-- ---- a question is open
 
-pub free-parts : (now : Active) (callers : List Waiting) (turn : Option TurnFrame) (objects : Objects) (t : FreeStep) (objects' : Objects) → now ≡ active.Freeing → BetweenSteps now callers turn objects → speaking_view (view_of now callers turn objects) ≡ true
-    → Steps (frees_in objects) t (frees_in objects') → FreesGoOn t (frees_in objects') → FreeNext callers turn objects t objects'
-free-parts now callers turn objects t objects' e r s st g =
-    free-next callers turn objects t objects' (subst (λ (z : Active). BetweenSteps z callers turn objects) e r) (ap (λ (z : Active). speaking_view (view_of z callers turn objects)) (sym e) ∙ s) st g
+-- nothing was told, and nothing has changed
+pub record Still (old : Active) (parts : Parts) (now : Active) (o : Objects) : Type 0 where
+  pub ready : IsBetweenSteps now (with parts o)
+  pub same : host_view now (with parts o) ≡ host_view old parts
+  pub waits : Waits (host_view old parts)
 
-pub free-law : (now : Active) (v : View) (callers : List Waiting) (turn : Option TurnFrame) (objects : Objects) (t : FreeStep) (objects' : Objects) (w : View) → now ≡ active.Freeing → view_of now callers turn objects ≡ v → FreeNext callers turn objects t objects'
-    → TellsSameStory (view_of active.Freeing callers turn objects') w → NextLaw (event_of objects.pool.ring t) v w
-free-law now v callers turn objects t objects' w e is n a =
-    subst (λ (z : View). NextLaw (event_of objects.pool.ring t) z w) (ap (λ (z : Active). view_of z callers turn objects) (sym e) ∙ is) (n.law w a)
+caller-still : (c : Caller) (parts : Parts) (now : Active) (o : Objects) → IsBetweenSteps (active.Caller c) parts → Tells None (active.Caller c) parts.objects now o → Still (active.Caller c) parts now o
+caller-still c parts now o b t =
+    let n = caller-now now (after_telling (frame_of c)) t.1 in
+    let k : (frame_of n.0 ≡ frame_of c) × (asked_now (active.Caller c) ≡ Some c.ask) = each c.stage t.0 n.2 in
+    let v = λ (z : CallFrame). let r : View = record { innermost = frame.Call z; below = below_in parts; pool = parts.objects.pool } in r in
+    rw (n.1, t.2) (record {
+      ready = record { whole = subst (λ (z : CallFrame). IsConsistent (v z)) (sym k.0) b.whole; fit = b.fit; ready = tt; places = tt };
+      same = ap v k.0;
+      waits = waits-now (active.Caller c) parts c.ask k.1 b;
+    })
+  where
+    each : {d : CallFrame} (s : Stage) → None ≡ told_by (staged c.ask s) → d ≡ after_telling (staged c.ask s) → (d ≡ staged c.ask s) × (open_at s c.ask ≡ Some c.ask)
+    each stage.Asking told e = (e, refl)
+    each (stage.Announcing notice r) told e = cc
+    each (stage.Telling r) told e = cc
 
--- it is a turn
-pub turn-fires-next : (old now : Active) (t : Turn) (callers : List Waiting) (turn turn' : Option TurnFrame) (objects : Objects) (told : Option Event) → old ≡ active.Turning t → BetweenSteps old callers turn objects → Fires old turn told now turn'
-    → FireNext old callers turn objects told now turn'
-turn-fires-next old now t callers turn turn' objects told e h k =
-    subst (λ (z : Active). FireNext z callers turn objects told now turn') (sym e)
-    (turn-next t callers turn objects told now turn' (subst (λ (z : Active). BetweenSteps z callers turn objects) e h) (subst (λ (z : Active). Fires z turn told now turn') e k))
+free-still : (parts : Parts) (now : Active) (o : Objects) → IsBetweenSteps active.Freeing parts → speaking_view (host_view active.Freeing parts) ≡ true → FreeTells None parts.objects now o → Still active.Freeing parts now o
+free-still parts now o b s t = each parts.objects.works b.fit s t.steps
+  where
+    each : (works : List FreeFrame) → FreesFit works (reverse parts.waiting.items) → speaking_view (freeing_view works (reverse parts.waiting.items) parts.objects.pool) ≡ true → Steps (record { works = works; pool = parts.objects.pool }) t.step (frees_in o) → Still active.Freeing parts now o
+    each [] fit s st = absurd fit.0
+    each (f ∷ fs) fit s st =
+        let loud : is_some (event_of parts.objects.pool.ring t.step) ≡ true = ap (is_event parts.objects.pool.ring) (sym st.tells) ∙ sym (speaks-events f fs (reverse parts.waiting.items) parts.objects.pool) ∙ s in
+        let bad : false ≡ true = ap is_some t.event ∙ loud in
+        cc
 
-pub fire-law : (old now : Active) (callers : List Waiting) (turn turn' : Option TurnFrame) (objects : Objects) (told : Option Event) (v : View) → view_of old callers turn objects ≡ v → FireNext old callers turn objects told now turn'
-    → NextLaw told v (view_of now callers turn' objects)
-fire-law old now callers turn turn' objects told v is n = subst (λ (z : View). NextLaw told z (view_of now callers turn' objects)) is n.law
+turn-still : (f : TurnFrame) (question : Option Question) (parts : Parts) → IsBetweenSteps (a_turn f question) parts → turn_speaks f ≡ true → None ≡ turn_tells f → Still (a_turn f question) parts (a_turn (frame_fired f) question) parts.objects
+turn-still (Timing again) question parts b s told = record { ready = b; same = refl; waits = waits-now (a_turn (Timing again) question) parts Clock b.ready.question b }
+turn-still (Polling limit) question parts b s told = record { ready = b; same = refl; waits = waits-now (a_turn (Polling limit) question) parts (Wait limit) b.ready.question b }
+turn-still (Firing what x handler occasion) question parts b s told = cc
+turn-still _ question parts b s told = cc
 
--- it is a question to the outside, which is open
-pub reach-waits : (now : Active) (r : Reach) (callers : List Waiting) (turn : Option TurnFrame) (objects : Objects) (v : View) → now ≡ active.Reaching r → view_of now callers turn objects ≡ v → BetweenSteps now callers turn objects → Waits v
-reach-waits now r callers turn objects v e is h =
-    subst Waits is (subst (λ (z : Active). Waits (view_of z callers turn objects)) (sym e)
-    (let b = subst (λ (z : Active). BetweenSteps z callers turn objects) e h in waits-now (active.Reaching r) r.question (stack_of callers) (turns_of turn) objects refl b.parts b.whole))
+work-loud : (w : Work) (p : Pool) → work_speaks w p ≡ true → None ≡ work_tells w p → ⊥
+work-loud (work.Receiving x) p s told = let bad : None ≡ Some (StateOf x (state_number Received)) = rw s at told in cc
+work-loud _ p s told = cc
+
+pub still-waits : (old : Active) (parts : Parts) (now : Active) (o : Objects) → IsBetweenSteps old parts → speaking_view (host_view old parts) ≡ true → Tells None old parts.objects now o → Still old parts now o
+still-waits (active.Caller c) parts now o b s t = caller-still c parts now o b t
+still-waits active.Freeing parts now o b s t = free-still parts now o b s t
+still-waits (active.Turning f) parts now o b s t = rw (t.1, t.2) (turn-still f.frame f.question parts b (sym (turn_speaking f.frame parts.objects.pool) ∙ s) t.0)
+still-waits (active.Reaching q) parts now o b s t = rw (t.1, t.2) (record { ready = b; same = refl; waits = waits-now (active.Reaching q) parts q refl b })
+still-waits (active.Requesting w) parts now o b s t = absurd (work-loud w parts.objects.pool (sym (work_speaking w parts.objects.pool) ∙ s) t.0)

@@ -1,13 +1,11 @@
 -- What an answer to the open question leads to.
-use Rattle.std.proofs.Common.{Result, Err, IsErrAnd, ◌≡◌, ℕ, ◌<◌, Bool, List, [], ◌∷◌, Option, Some, None, true, false, refl, sym, ◌∙◌, ap, subst}
-use Rattle.std.specs.Prelude.{is_none, is_some, IsSome}
+use Rattle.std.proofs.Common.{Result, Err, IsErrAnd, ◌≡◌, List, ◌∷◌, reverse, Option, Some, None, true, false, refl, sym, ◌∙◌, ap, subst}
+use Rattle.std.specs.Prelude.{is_none, is_some}
 use Rattle.std.specs.Option.{option_map}
-use Rattle.step_machine.specs.Machine.{Move}
 use Rattle.step_machine.specs.Machine.{Move as Do}
 use Rattle.std.proofs.lemmas.Result.{err_from_is_err_and}
 use Rattle.tree_specs.specs.declared.call.Call.{Call}
 use Rattle.tree_specs.specs.declared.call.Call.TheVariants as call
-use Rattle.tree_specs.specs.declared.event.Event.{Event}
 use Rattle.tree_specs.specs.declared.object.Owner.{Owner}
 use Rattle.tree_specs.specs.declared.question.Ask.{Ask}
 use Rattle.tree_specs.specs.declared.question.Ask.TheVariants as ask
@@ -20,15 +18,10 @@ use Rattle.tree_specs.specs.declared.schedule.Reason.TheVariants.{NotAsked}
 use Rattle.tree_specs.specs.declared.frame.Frame.{Frame}
 use Rattle.tree_specs.specs.declared.frame.Frame.TheVariants as frame
 use Rattle.tree_specs.specs.declared.frame.TurnFrame.{TurnFrame}
-use Rattle.tree_specs.specs.declared.frame.TurnFrame.TheVariants.{Timing, Polling, Firing}
-use Rattle.tree_specs.specs.declared.frame.OutsideFrame.{OutsideFrame}
+use Rattle.tree_specs.specs.declared.frame.TurnFrame.TheVariants.{Timing, Polling}
 use Rattle.tree_specs.specs.declared.frame.OutsideFrame.TheVariants.{Reaching}
 use Rattle.tree_specs.specs.declared.frame.CallFrame.{CallFrame}
 use Rattle.tree_specs.specs.declared.frame.CallFrame.TheVariants.{Asking, Doing, Telling}
-use Rattle.tree_specs.specs.declared.frame.FreeFrame.{FreeFrame}
-use Rattle.tree_specs.specs.declared.free_step.FreeReply.{FreeReply}
-use Rattle.tree_specs.specs.declared.free_step.FreeStep.{FreeStep}
-use Rattle.tree_specs.specs.declared.watch.Watch.{Watch}
 use Rattle.tree_specs.specs.Events.Rotation.{Ready, first_ready}
 use Rattle.tree_specs.specs.Tree.Pool.{Pool}
 use Rattle.tree_specs.specs.Rules.Items.{Item}
@@ -39,97 +32,64 @@ use Rattle.tree_specs.specs.Texts.Schedule.{unless_given, misfit}
 use Rattle.tree_specs.specs.Words.Ranges.{is_sound}
 use Rattle.tree_specs.specs.Rules.Answers.{later, heard}
 use Rattle.tree_specs.specs.Events.Coming.{looks_again}
-use Rattle.tree_specs.specs.Machine.Profiles.{Waits as WaitsFor, ARun, AHandler, profile}
-use Rattle.tree_specs.specs.Machine.FreeTable.{free_step}
-use Rattle.tree_specs.specs.Machine.Table.{step, taken, call_step, replied, doing, returning, lifted, announced, event_of, ready_turn, turn_taken}
-use Rattle.tree_specs.specs.Machine.View.{View, rest_of, strays_of, question_in, question_of}
-use Rattle.tree_specs.specs.Invariants.Consistent.{IsStacked, IsQuiet, IsOfRoutine, Serves, IsConsistent}
+use Rattle.tree_specs.specs.Machine.Table.{step, taken, call_step, replied, doing, returning, ready_turn, turn_taken}
+use Rattle.tree_specs.specs.Machine.View.{View, rest_of, strays_of, question_of}
+use Rattle.tree_specs.specs.Invariants.Consistent.{IsConsistent}
 use Rattle.tree_specs.proofs.Tree.Numbered.{by_test}
 use Rattle.tree_specs.proofs.Rules.Rest.{question-whole, question-items}
-use Rattle.destructors.specs.Callers.{OpenTurn, under, call_view}
 use Rattle.object_pool.specs.Objects.{Objects}
 use Rattle.host_core.specs.declared.active.Active.{Active}
 use Rattle.host_core.specs.declared.active.Active.TheVariants as active
-use Rattle.host_core.specs.declared.caller.Caller.{Caller}
 use Rattle.host_core.specs.declared.caller.Stage.{Stage}
 use Rattle.host_core.specs.declared.caller.Stage.TheVariants as stage
-use Rattle.host_core.specs.declared.caller.Waiting.{Waiting}
 use Rattle.host_core.specs.declared.fault.OfferFault.{OfferFault}
 use Rattle.host_core.specs.declared.fault.OfferFault.TheVariants as fault
 use Rattle.host_core.specs.declared.owned_reply.OwnedReply.{OwnedReply}
+use Rattle.host_core.specs.declared.parts.Parts.{Parts}
+use Rattle.host_core.specs.declared.caller.Caller.{Caller}
+use Rattle.host_core.specs.Callers.{frame_of, staged, open_at, remembers}
+use Rattle.host_core.specs.Stacks.{active_frame}
 use Rattle.host_core.specs.Moves.{report_of, call_of, reported}
 use Rattle.host_core.specs.Promises.{Waits, TakesAnswer, taken_in}
-use Rattle.host_core.specs.Reaches.{outside_view, outside_given, IsOutside}
-use Rattle.host_core.specs.Turns.{turns_of, turn_view, turn_asks, turn_given, frame_ready, TurnSpeaks}
-use Rattle.host_core.specs.Hosts.{seen, staged, open_at, stack_of, view_of, view_given, speaking_view, StandsAs, PartsReady, BetweenSteps, TellsSameStory, caller_asked, asked_now, remembers, begins_with, MayBegin, IsReplyOf, IsCopy, IsReport}
-use Rattle.host_core.proofs.Calling.{IsForCaller, caller-kind, given-caller}
+use Rattle.host_core.specs.Reaches.{outside_given, IsOutside}
+use Rattle.host_core.specs.Turns.{turn_asks, turn_given, frame_ready}
+use Rattle.host_core.specs.Hosts.{host_view, below_in, given_view, called_view, speaking_view, caller_asked, asked_now, begins_with, PartsReady, IsBetweenSteps, IsActing, TellsSameStory, IsReplyOf, IsCopy, IsReport}
 use Rattle.host_core.proofs.StepsSilently.{onward, question-strays, waits-at, waits-asked, always-more}
-use Rattle.host_core.proofs.Answering.{IsActing, turn-acts-not, outside-acts-not}
+use Rattle.host_core.proofs.Answering.{IsForCaller, caller-kind, turn-acts-not, outside-acts-not}
 use Rattle.host_core.proofs.Reaching.{outside-answered, no-reason}
+use Rattle.host_core.proofs.Speaking.{question_seen}
+
+-- the works with this innermost
+abbrev at : Frame → List Frame → Pool → View
+at f below p = record { innermost = f; below = below; pool = p }
 
 -- ---- the open question
 
-free-asks-nothing : (ring : List Watch) (m : Move FreeFrame FreeReply Pool FreeStep) → question_in (lifted ring m) ≡ None
-free-asks-nothing ring (Do.Done a p) = refl
-free-asks-nothing ring (Do.Go f p) = refl
-free-asks-nothing ring (Do.Emit t f p) = each (event_of ring t)
-  where
-    each : (o : Option Event) → question_in (announced o f p) ≡ None
-    each None = refl
-    each (Some e) = refl
-free-asks-nothing ring (Do.Wait t f p) = refl
-free-asks-nothing ring (Do.Call f h p) = refl
+pub caller-now : (now : Active) (f : CallFrame) → active_frame now ≡ frame.Call f → (c : Caller) × (now ≡ active.Caller c) × (frame_of c ≡ f)
+caller-now (active.Caller c) f e = let e' : frame_of c ≡ f = cc in (c, refl, e')
+caller-now _ f e = cc
 
--- a turn asks what it says
-turn-question : (f : TurnFrame) (q : Ask) (works : List FreeFrame) (cs : List CallFrame) (ts : List OpenTurn) (p : Pool) → TurnSpeaks f → question_of (turn_view f q works cs ts p) ≡ turn_asks f
-turn-question (Timing again) q works cs ts p s = refl
-turn-question (Polling limit) q works cs ts p s = refl
-turn-question (Firing what x handler occasion) q works cs ts p s = refl
-turn-question _ q works cs ts p s = absurd s
+-- who is asked, and stands at its question
+asking : (s : Stage) (q asked : Ask) → open_at s q ≡ Some asked → (staged q s ≡ Asking asked) × (q ≡ asked)
+asking stage.Asking q asked e = let e' : q ≡ asked = cc in (ap Asking e', e')
+asking (stage.Telling r) q asked e = cc
+asking (stage.Announcing notice r) q asked e = cc
 
-pub question-seen : (now : Active) (cs : List CallFrame) (ts : List OpenTurn) (objects : Objects) → PartsReady now objects → question_of (seen now objects.works cs ts objects.pool) ≡ asked_now now
-question-seen (active.Caller c) cs ts objects r = each c.stage
-  where
-    each : (s : Stage) → question_of (call_view (staged c.ask s) objects.works cs ts objects.pool) ≡ open_at s c.ask
-    each stage.Asking = refl
-    each (stage.Telling r) = refl
-    each (stage.Announcing notice r) = refl
-question-seen active.Freeing cs ts objects r = each objects.works
-  where
-    each : (works : List FreeFrame) → question_of (seen active.Freeing works cs ts objects.pool) ≡ None
-    each [] = refl
-    each (f ∷ fs) = free-asks-nothing objects.pool.ring (free_step f objects.pool)
-question-seen (active.Turning t) cs ts objects r = turn-question t.frame t.caller objects.works cs ts objects.pool r.speaks ∙ sym r.question
-question-seen (active.Reaching reach) cs ts objects r = refl
-
-asking : (now : Active) (q : Ask) → caller_asked now ≡ Some q → StandsAs now (Asking q)
-asking (active.Caller c) q e = each c.stage e
-  where
-    each : (s : Stage) → open_at s c.ask ≡ Some q → staged c.ask s ≡ Asking q
-    each stage.Asking e = let e' : c.ask ≡ q = cc in ap Asking e'
-    each (stage.Telling r) e = cc
-    each (stage.Announcing notice r) e = cc
-asking _ q e = cc
-
--- the works of a host whose caller asks
-asks-view : (now : Active) (q : Ask) (works : List FreeFrame) (cs : List CallFrame) (ts : List OpenTurn) (p : Pool) → StandsAs now (Asking q) → seen now works cs ts p ≡ call_view (Asking q) works cs ts p
-asks-view (active.Caller c) q works cs ts p e = ap (λ (z : CallFrame). call_view z works cs ts p) e
-asks-view _ q works cs ts p e = absurd e
-
--- a turn that asks waits
-turn-waits : (f : TurnFrame) (q asked : Ask) (works : List FreeFrame) (cs : List CallFrame) (ts : List OpenTurn) (p : Pool) → turn_asks f ≡ Some asked → IsConsistent (turn_view f q works cs ts p) → Waits (turn_view f q works cs ts p)
-turn-waits (Timing again) q asked works cs ts p e h = waits-at (turn_view (Timing again) q works cs ts p) Clock h refl
-turn-waits (Polling limit) q asked works cs ts p e h = waits-at (turn_view (Polling limit) q works cs ts p) (Wait limit) h refl
-turn-waits _ q asked works cs ts p e h = cc
+turn-waits : (f : TurnFrame) (asked : Ask) (below : List Frame) (p : Pool) → turn_asks f ≡ Some asked → IsConsistent (at (frame.Turn f) below p) → Waits (at (frame.Turn f) below p)
+turn-waits (Timing again) asked below p e h = waits-at (at (frame.Turn (Timing again)) below p) Clock h refl
+turn-waits (Polling limit) asked below p e h = waits-at (at (frame.Turn (Polling limit)) below p) (Wait limit) h refl
+turn-waits _ asked below p e h = cc
 
 -- a host that asks waits
-pub waits-now : (now : Active) (q : Ask) (cs : List CallFrame) (ts : List OpenTurn) (objects : Objects) → asked_now now ≡ Some q → PartsReady now objects → IsConsistent (seen now objects.works cs ts objects.pool) → Waits (seen now objects.works cs ts objects.pool)
-waits-now (active.Caller c) q cs ts objects e r h =
-    let a = asks-view (active.Caller c) q objects.works cs ts objects.pool (asking (active.Caller c) q e) in
-    subst Waits (sym a) (waits-asked q (under objects.works cs ts) objects.pool (subst IsConsistent a h))
-waits-now active.Freeing q cs ts objects e r h = cc
-waits-now (active.Turning t) q cs ts objects e r h = turn-waits t.frame t.caller q objects.works cs ts objects.pool (sym r.question ∙ e) h
-waits-now (active.Reaching reach) q cs ts objects e r h = waits-at (seen (active.Reaching reach) objects.works cs ts objects.pool) reach.question h refl
+pub waits-now : (now : Active) (parts : Parts) (q : Ask) → asked_now now ≡ Some q → IsBetweenSteps now parts → Waits (host_view now parts)
+waits-now (active.Caller c) parts q e b =
+    let a = (asking c.stage c.ask q e).0 in
+    let at-caller = λ (z : CallFrame). at (frame.Call z) (below_in parts) parts.objects.pool in
+    subst (λ (z : CallFrame). Waits (at-caller z)) (sym a) (waits-asked q (below_in parts) parts.objects.pool (subst (λ (z : CallFrame). IsConsistent (at-caller z)) a b.whole))
+waits-now active.Freeing parts q e b = cc
+waits-now (active.Turning t) parts q e b = turn-waits t.frame q (below_in parts) parts.objects.pool (sym b.ready.question ∙ e) b.whole
+waits-now (active.Reaching asked) parts q e b = waits-at (host_view (active.Reaching asked) parts) asked b.whole refl
+waits-now (active.Requesting w) parts q e b = cc
 
 -- an answer that doesn't fit isn't asked for
 pub unasked : (o : Option Ask) (i : Input) → is_none (misfit o i) ≡ false → misfit o i ≡ Some NotAsked
@@ -223,31 +183,31 @@ goes-to v q f g i h w a = record {
   strays = λ is. question-strays v (Asked q) f g v.pool i is h w a;
 }
 
-goes-heard : (q : Ask) (i : Input) (works : List FreeFrame) (cs : List CallFrame) (ts : List OpenTurn) (p : Pool) → IsForCaller q → misfit (Some q) i ≡ None → is_sound i ≡ true → IsConsistent (call_view (Asking q) works cs ts p)
-    → Goes q i (call_view (Asking q) works cs ts p) (call_view (begins_with q i) works cs ts p)
-goes-heard q i works cs ts p k m s h = goes-to (call_view (Asking q) works cs ts p) q (frame.Call (Asking q)) (frame.Call (begins_with q i)) i h refl (answered q i k m s)
+goes-heard : (q : Ask) (i : Input) (below : List Frame) (p : Pool) → IsForCaller q → misfit (Some q) i ≡ None → is_sound i ≡ true → IsConsistent (at (frame.Call (Asking q)) below p)
+    → Goes q i (at (frame.Call (Asking q)) below p) (at (frame.Call (begins_with q i)) below p)
+goes-heard q i below p k m s h = goes-to (at (frame.Call (Asking q)) below p) q (frame.Call (Asking q)) (frame.Call (begins_with q i)) i h refl (answered q i k m s)
 
-goes-told : (f : TurnFrame) (caller q : Ask) (i : Input) (works : List FreeFrame) (cs : List CallFrame) (ts : List OpenTurn) (p : Pool) → turn_asks f ≡ Some q → misfit (Some q) i ≡ None → is_sound i ≡ true → IsConsistent (turn_view f caller works cs ts p)
-    → Goes q i (turn_view f caller works cs ts p) (turn_view (turn_given f i p) caller works cs ts p)
-goes-told f caller q i works cs ts p e m s h = goes-to (turn_view f caller works cs ts p) q (frame.Turn f) (frame.Turn (turn_given f i p)) i h (asks-step f q p e) (turn-answered f q p i e m s)
+goes-told : (f : TurnFrame) (q : Ask) (i : Input) (below : List Frame) (p : Pool) → turn_asks f ≡ Some q → misfit (Some q) i ≡ None → is_sound i ≡ true → IsConsistent (at (frame.Turn f) below p)
+    → Goes q i (at (frame.Turn f) below p) (at (frame.Turn (turn_given f i p)) below p)
+goes-told f q i below p e m s h = goes-to (at (frame.Turn f) below p) q (frame.Turn f) (frame.Turn (turn_given f i p)) i h (asks-step f q p e) (turn-answered f q p i e m s)
   where
     asks-step : (f : TurnFrame) (q : Ask) (p : Pool) → turn_asks f ≡ Some q → step (frame.Turn f) p ≡ Do.Wait (Asked q) (frame.Turn f) p
     asks-step (Timing again) q p e = let e' : Clock ≡ q = cc in rw (← e') refl
     asks-step (Polling limit) q p e = let e' : Wait limit ≡ q = cc in rw (← e') refl
     asks-step _ q p e = cc
 
-goes-reached : (q caller : Ask) (i : Input) (works : List FreeFrame) (cs : List CallFrame) (ts : List OpenTurn) (p : Pool) → IsOutside q → misfit (Some q) i ≡ None → is_sound i ≡ true → taken_in p i ≡ None → IsConsistent (outside_view (Reaching q) caller works cs ts p)
-    → Goes q i (outside_view (Reaching q) caller works cs ts p) (outside_view (outside_given q i) caller works cs ts p)
-goes-reached q caller i works cs ts p o m s none h =
-    goes-to (outside_view (Reaching q) caller works cs ts p) q (frame.Outside (Reaching q)) (frame.Outside (outside_given q i)) i h refl (outside-answered q p i o m s none)
+goes-reached : (q : Ask) (i : Input) (below : List Frame) (p : Pool) → IsOutside q → misfit (Some q) i ≡ None → is_sound i ≡ true → taken_in p i ≡ None → IsConsistent (at (frame.Outside (Reaching q)) below p)
+    → Goes q i (at (frame.Outside (Reaching q)) below p) (at (frame.Outside (outside_given q i)) below p)
+goes-reached q i below p o m s none h =
+    goes-to (at (frame.Outside (Reaching q)) below p) q (frame.Outside (Reaching q)) (frame.Outside (outside_given q i)) i h refl (outside-answered q p i o m s none)
 
 -- a call whose report was made is at once at its reply
-goes-replied : (q : Ask) (c : Call) (r : Reply) (i : Input) (v : View) (works : List FreeFrame) (cs : List CallFrame) (ts : List OpenTurn) (p : Pool) → call_step (refusals p c) q c p ≡ replied q r p → Goes q i v (call_view (Doing q c) works cs ts p)
-    → Goes q i v (call_view (Telling (later q r) r) works cs ts p)
-goes-replied q c r i v works cs ts p e g =
-    let w : View = call_view (Doing q c) works cs ts p in
+goes-replied : (q : Ask) (c : Call) (r : Reply) (i : Input) (v : View) (below : List Frame) (p : Pool) → call_step (refusals p c) q c p ≡ replied q r p → Goes q i v (at (frame.Call (Doing q c)) below p)
+    → Goes q i v (at (frame.Call (Telling (later q r) r)) below p)
+goes-replied q c r i v below p e g =
+    let w : View = at (frame.Call (Doing q c)) below p in
     let quiet : speaking_view w ≡ false = rw e refl in
-    let o = onward w (call_view (Telling (later q r) r) works cs ts p) g.whole quiet (rw e refl) in
+    let o = onward w (at (frame.Call (Telling (later q r) r)) below p) g.whole quiet (rw e refl) in
     record { whole = o.along.whole; law = λ is. g.law is ∙ ap (λ (l : List Item). Asked q ∷ l) (o.along.same is); strays = λ is. g.strays is ∙ o.along.strays is }
 
 -- the answer that wants a report is to do it
@@ -256,42 +216,36 @@ reports q (input.Call c) o e = ap (Doing q) (is-report c o e)
 reports q (input.Act (act.Do c)) o e = ap (Doing q) (is-report c o e)
 reports q _ o e = cc
 
--- an answer that wants no report has the memory that it may want
-pub may-begin : (i : Input) (waiting places : ℕ) (ready : Bool) → reported (call_of i) ≡ None → waiting < places → ready ≡ true → MayBegin i waiting places ready
-may-begin (input.Call c) waiting places ready none place e = record { no_report = none; place = place; ready = e }
-may-begin (input.Act (act.Do c)) waiting places ready none place e = record { no_report = none; place = place; ready = e }
-may-begin _ waiting places ready none place e = e
-
 -- ---- by the parts of a host
 
 -- a host that was given an answer, and what it is then
-pub record Offered (now : Active) (callers : List Waiting) (turn : Option TurnFrame) (objects : Objects) (i : Input) (q : Ask) (w : View) : Type 0 where
+pub record Offered (now : Active) (parts : Parts) (i : Input) (q : Ask) (w : View) : Type 0 where
   pub open_before : asked_now now ≡ Some q
   pub fits : misfit (asked_now now) i ≡ None
   pub whole : IsConsistent w
-  pub law : (is : List Input) → rest_of (view_of now callers turn objects) (i ∷ is) ≡ Asked q ∷ rest_of w is
-  pub strays : (is : List Input) → strays_of (view_of now callers turn objects) (i ∷ is) ≡ strays_of w is
+  pub law : (is : List Input) → rest_of (host_view now parts) (i ∷ is) ≡ Asked q ∷ rest_of w is
+  pub strays : (is : List Input) → strays_of (host_view now parts) (i ∷ is) ≡ strays_of w is
+
+-- the works of a host whose caller, which was asked this, is told a reply that owns memory
+abbrev pub told_view : Ask → OwnedReply → Parts → View
+told_view q r parts = at (frame.Call (Telling (remembers q r.copy) r.reply)) (below_in parts) parts.objects.pool
 
 -- only a caller asks for a call, or for what a routine does
-pub acting-caller : (now : Active) (i : Input) (objects : Objects) → PartsReady now objects → is_none (misfit (asked_now now) i) ≡ true → IsActing i → (q : Ask) × (caller_asked now ≡ Some q)
+acting-caller : (now : Active) (i : Input) (objects : Objects) → PartsReady now objects → is_none (misfit (asked_now now) i) ≡ true → IsActing i → (q : Ask) × (caller_asked now ≡ Some q)
 acting-caller (active.Caller c) i objects r e k = let f = fitting (open_at c.stage c.ask) i e in (f.0, f.1)
-acting-caller active.Freeing i objects r e k = cc
 acting-caller (active.Turning t) i objects r e k = absurd (turn-acts-not t.frame i (ap (λ (z : Option Ask). is_none (misfit z i)) (sym r.question) ∙ e) k)
-acting-caller (active.Reaching reach) i objects r e k = absurd (outside-acts-not reach.question i r e k)
-
-caller-asks : (now : Active) (q : Ask) → caller_asked now ≡ Some q → asked_now now ≡ Some q
-caller-asks (active.Caller c) q e = e
-caller-asks _ q e = cc
+acting-caller (active.Reaching q) i objects r e k = absurd (outside-acts-not q i r e k)
+acting-caller _ i objects r e k = cc
 
 acts : (i : Input) (o : Owner) → reported (call_of i) ≡ Some o → IsActing i
 acts (input.Call c) o e = tt
 acts (input.Act a) o e = tt
 acts _ o e = cc
 
-module _ (now : Active) (callers : List Waiting) (turn : Option TurnFrame) (objects : Objects) (i : Input) (ready : BetweenSteps now callers turn objects) (fits : is_none (misfit (asked_now now) i) ≡ true) (s : is_sound i ≡ true) where
+module _ (now : Active) (parts : Parts) (i : Input) (ready : IsBetweenSteps now parts) (fits : is_none (misfit (asked_now now) i) ≡ true) (s : is_sound i ≡ true) where
   -- who wants a report
   pub report-caller : (o : Owner) → reported (call_of i) ≡ Some o → (q : Ask) × (caller_asked now ≡ Some q)
-  report-caller o wants = acting-caller now i objects ready.parts fits (acts i o wants)
+  report-caller o wants = acting-caller now i parts.objects ready.ready fits (acts i o wants)
 
   fits-at : (q : Ask) → asked_now now ≡ Some q → misfit (Some q) i ≡ None
   fits-at q e =
@@ -300,72 +254,73 @@ module _ (now : Active) (callers : List Waiting) (turn : Option TurnFrame) (obje
       let same' : f.0 ≡ q = cc in
       ap (λ (z : Ask). misfit (Some z) i) (sym same') ∙ f.2
 
-  offered-caller : (q : Ask) → caller_asked now ≡ Some q → Offered now callers turn objects i q (call_view (begins_with q i) objects.works (stack_of callers) (turns_of turn) objects.pool)
-  offered-caller q e =
-      let opened = caller-asks now q e in
-      let fit = fits-at q opened in
-      let a = asks-view now q objects.works (stack_of callers) (turns_of turn) objects.pool (asking now q e) in
-      let h = subst IsConsistent a ready.whole in
-      let g = goes-heard q i objects.works (stack_of callers) (turns_of turn) objects.pool (caller-kind q objects.works (stack_of callers) (turns_of turn) h.seated) fit s h in
-      record {
-        open_before = opened;
-        fits = rw opened fit;
-        whole = g.whole;
-        law = λ is. ap (λ (v : View). rest_of v (i ∷ is)) a ∙ g.law is;
-        strays = λ is. ap (λ (v : View). strays_of v (i ∷ is)) a ∙ g.strays is;
-      }
+  pub offered-caller : (q : Ask) → caller_asked now ≡ Some q → Offered now parts i q (called_view q i parts)
+  offered-caller q e = each now ready fits-at e
+    where
+      each : (now : Active) → IsBetweenSteps now parts → ((q : Ask) → asked_now now ≡ Some q → misfit (Some q) i ≡ None) → caller_asked now ≡ Some q → Offered now parts i q (called_view q i parts)
+      each (active.Caller c) ready fits e =
+          let a = (asking c.stage c.ask q e).0 in
+          let v = λ (z : CallFrame). at (frame.Call z) (below_in parts) parts.objects.pool in
+          let h : IsConsistent (v (Asking q)) = subst (λ (z : CallFrame). IsConsistent (v z)) a ready.whole in
+          let g = goes-heard q i (below_in parts) parts.objects.pool (caller-kind (frame.Call (Asking q)) q (below_in parts) refl h.seated) (fits q e) s h in
+          record {
+            open_before = e;
+            fits = rw e (fits q e);
+            whole = g.whole;
+            law = λ is. ap (λ (z : CallFrame). rest_of (v z) (i ∷ is)) a ∙ g.law is;
+            strays = λ is. ap (λ (z : CallFrame). strays_of (v z) (i ∷ is)) a ∙ g.strays is;
+          }
+      each _ ready fits e = cc
 
   -- the report that it wants is told at once
-  pub offered-report : (q : Ask) (o : Owner) (r : OwnedReply) → caller_asked now ≡ Some q → reported (call_of i) ≡ Some o → IsReport i r o objects.pool
-      → Offered now callers turn objects i q (call_view (Telling (remembers q r.copy) r.reply) objects.works (stack_of callers) (turns_of turn) objects.pool)
+  pub offered-report : (q : Ask) (o : Owner) (r : OwnedReply) → caller_asked now ≡ Some q → reported (call_of i) ≡ Some o → IsReport i r o parts.objects.pool
+      → Offered now parts i q (told_view q r parts)
   offered-report q o r e wants is =
       let f = offered-caller q e in
       let fit = fits-at q f.open_before in
       let does = reports q i o wants in
-      let at = λ (z : CallFrame). call_view z objects.works (stack_of callers) (turns_of turn) objects.pool in
-      let g : Goes q i (view_of now callers turn objects) (at (Doing q (call.Report o))) = record {
-        whole = subst (λ (z : CallFrame). IsConsistent (at z)) does f.whole;
-        law = λ is. f.law is ∙ ap (λ (z : CallFrame). Asked q ∷ rest_of (at z) is) does;
-        strays = λ is. f.strays is ∙ ap (λ (z : CallFrame). strays_of (at z) is) does;
+      let v = λ (z : CallFrame). at (frame.Call z) (below_in parts) parts.objects.pool in
+      let g : Goes q i (host_view now parts) (v (Doing q (call.Report o))) = record {
+        whole = subst (λ (z : CallFrame). IsConsistent (v z)) does f.whole;
+        law = λ is. f.law is ∙ ap (λ (z : CallFrame). Asked q ∷ rest_of (v z) is) does;
+        strays = λ is. f.strays is ∙ ap (λ (z : CallFrame). strays_of (v z) is) does;
       } in
-      let t = goes-replied q (call.Report o) r.reply i _ objects.works (stack_of callers) (turns_of turn) objects.pool (is.reply q) g in
-      let l : remembers q r.copy ≡ later q r.reply = copy-is q i r o objects.pool (acts i o wants) fit is.reply is.copy in
+      let t = goes-replied q (call.Report o) r.reply i _ (below_in parts) parts.objects.pool (is.reply q) g in
+      let l : remembers q r.copy ≡ later q r.reply = copy-is q i r o parts.objects.pool (acts i o wants) fit is.reply is.copy in
       rw l (record { open_before = f.open_before; fits = f.fits; whole = t.whole; law = t.law; strays = t.strays })
 
 -- any answer that fits
-pub offered : (now : Active) (callers : List Waiting) (turn : Option TurnFrame) (objects : Objects) (i : Input) → BetweenSteps now callers turn objects → is_none (misfit (asked_now now) i) ≡ true → is_sound i ≡ true → taken_in objects.pool i ≡ None
-    → (q : Ask) × Offered now callers turn objects i q (view_given now i objects.works (stack_of callers) (turns_of turn) objects.pool)
-offered (active.Caller c) callers turn objects i ready fits s none =
+pub offered : (now : Active) (parts : Parts) (i : Input) → IsBetweenSteps now parts → is_none (misfit (asked_now now) i) ≡ true → is_sound i ≡ true → taken_in parts.objects.pool i ≡ None
+    → (q : Ask) × Offered now parts i q (given_view now i parts)
+offered (active.Caller c) parts i ready fits s none =
     let f = fitting (open_at c.stage c.ask) i fits in
-    let o = offered-caller (active.Caller c) callers turn objects i ready fits s f.0 f.1 in
-    (f.0, subst (Offered (active.Caller c) callers turn objects i f.0) (sym (given-caller (active.Caller c) f.0 i objects.works (stack_of callers) (turns_of turn) objects.pool f.1)) o)
-offered active.Freeing callers turn objects i ready fits s none = cc
-offered (active.Turning t) callers turn objects i ready fits s none =
+    let is = (asking c.stage c.ask f.0 f.1).1 in
+    (f.0, subst (λ (z : Ask). Offered (active.Caller c) parts i f.0 (called_view z i parts)) (sym is) (offered-caller (active.Caller c) parts i ready fits s f.0 f.1))
+offered (active.Turning t) parts i ready fits s none =
     let f = fitting t.question i fits in
-    let g = goes-told t.frame t.caller f.0 i objects.works (stack_of callers) (turns_of turn) objects.pool (sym ready.parts.question ∙ f.1) f.2 s ready.whole in
+    let g = goes-told t.frame f.0 i (below_in parts) parts.objects.pool (sym ready.ready.question ∙ f.1) f.2 s ready.whole in
     (f.0, record { open_before = f.1; fits = rw f.1 f.2; whole = g.whole; law = g.law; strays = g.strays })
-offered (active.Reaching r) callers turn objects i ready fits s none =
-    let m = no-reason (misfit (Some r.question) i) fits in
-    let g = goes-reached r.question r.caller i objects.works (stack_of callers) (turns_of turn) objects.pool ready.parts m s none ready.whole in
-    (r.question, record { open_before = refl; fits = m; whole = g.whole; law = g.law; strays = g.strays })
+offered (active.Reaching q) parts i ready fits s none =
+    let m = no-reason (misfit (Some q) i) fits in
+    let g = goes-reached q i (below_in parts) parts.objects.pool ready.ready m s none ready.whole in
+    (q, record { open_before = refl; fits = m; whole = g.whole; law = g.law; strays = g.strays })
+offered _ parts i ready fits s none = cc
 
 -- the question of a host by its parts
-pub question-view : (v : View) (now : Active) (callers : List Waiting) (turn : Option TurnFrame) (objects : Objects) → PartsReady now objects → view_of now callers turn objects ≡ v → question_of v ≡ asked_now now
-question-view v now callers turn objects r e = ap question_of (sym e) ∙ question-seen now (stack_of callers) (turns_of turn) objects r
+pub question-view : (v : View) (now : Active) (parts : Parts) → IsBetweenSteps now parts → speaking_view (host_view now parts) ≡ true → host_view now parts ≡ v → question_of v ≡ asked_now now
+question-view v now parts b s e = ap question_of (sym e) ∙ question_seen now (reverse parts.waiting.items) parts.objects b.ready s
 
 -- an open question that is lent is waited at
-pub waits-some : {R : Type 0} (v : R → Ask) (lent : Option R) (now : Active) (callers : List Waiting) (turn : Option TurnFrame) (objects : Objects) → BetweenSteps now callers turn objects → option_map v lent ≡ asked_now now → is_some lent ≡ true
-    → Waits (view_of now callers turn objects)
-waits-some v None now callers turn objects h e s = cc
-waits-some v (Some r) now callers turn objects h e s = waits-now now (v r) (stack_of callers) (turns_of turn) objects (sym e) h.parts h.whole
+pub waits-some : {R : Type 0} (v : R → Ask) (lent : Option R) (now : Active) (parts : Parts) → IsBetweenSteps now parts → option_map v lent ≡ asked_now now → is_some lent ≡ true → Waits (host_view now parts)
+waits-some v None now parts h e s = cc
+waits-some v (Some r) now parts h e s = waits-now now parts (v r) (sym e) h
 
 -- the answer was taken, and the story goes on after the steps that tell nothing
-pub takes-answer : (v : View) (now : Active) (callers : List Waiting) (turn : Option TurnFrame) (objects : Objects) (i : Input) (q : Ask) (w w' : View) → PartsReady now objects → view_of now callers turn objects ≡ v → Offered now callers turn objects i q w
-    → TellsSameStory w w' → TakesAnswer v i w'
-takes-answer v now callers turn objects i q w w' r e o a = record {
+pub takes-answer : (v : View) (now : Active) (parts : Parts) (i : Input) (q : Ask) (w w' : View) → IsBetweenSteps now parts → speaking_view (host_view now parts) ≡ true → host_view now parts ≡ v → Offered now parts i q w → TellsSameStory w w' → TakesAnswer v i w'
+takes-answer v now parts i q w w' b s e o a = record {
   question = q;
-  open_before = question-view v now callers turn objects r e ∙ o.open_before;
-  fits = ap (λ (z : Option Ask). misfit z i) (question-view v now callers turn objects r e) ∙ o.fits;
+  open_before = question-view v now parts b s e ∙ o.open_before;
+  fits = ap (λ (z : Option Ask). misfit z i) (question-view v now parts b s e) ∙ o.fits;
   goes_on = λ is. ap (λ (z : View). rest_of z (i ∷ is)) (sym e) ∙ o.law is ∙ ap (λ (l : List Item). Asked q ∷ l) (a.same is);
   strays = λ is. ap (λ (z : View). strays_of z (i ∷ is)) (sym e) ∙ o.strays is ∙ a.strays is;
   more = λ is. always-more w' is a.whole;

@@ -1,104 +1,167 @@
--- A step of the innermost free by the parts of a host.
-use Rattle.std.proofs.Common.{◌≡◌, ℕ, List, [], ◌∷◌, Option, Some, false, refl, subst, ap, sym, ◌∙◌, inl, inr}
-use Rattle.std.proofs.lemmas.List.{reverse-reverse}
-use Rattle.tree_specs.specs.declared.frame.CallFrame.{CallFrame}
-use Rattle.std.specs.Prelude.{reverse, map}
-use Rattle.tree_specs.specs.declared.event.Event.{Event}
-use Rattle.tree_specs.specs.declared.question.Ask.TheVariants.{Quiet, Routine}
+-- A step that tells nothing, by the parts of a host.
+use Rattle.std.proofs.Common.{◌≡◌, ◌≤◌, List, reverse, true, false, refl, sym, ◌∙◌, ap, subst, arith}
+use Rattle.step_machine.specs.Machine.{Move}
+use Rattle.step_machine.specs.Machine.{Move as Do}
+use Rattle.tree_specs.specs.declared.frame.Answer.{Answer as Answered}
+use Rattle.tree_specs.specs.declared.frame.Frame.{Frame}
+use Rattle.tree_specs.specs.declared.frame.Frame.TheVariants as frame
+use Rattle.tree_specs.specs.declared.frame.FreeFrame.{FreeFrame}
 use Rattle.tree_specs.specs.declared.frame.TurnFrame.{TurnFrame}
+use Rattle.tree_specs.specs.Events.Requests.{note_of, is_unreceived}
+use Rattle.tree_specs.specs.Invariants.Consistent.{IsConsistent}
+use Rattle.tree_specs.specs.Machine.Table.{step as machine_step, turn_step, request_step}
 use Rattle.tree_specs.specs.Machine.View.{View}
-use Rattle.tree_specs.specs.declared.frame.CallFrame.TheVariants.{Asking}
-use Rattle.tree_specs.specs.declared.frame.Answer.TheVariants.{Freed}
-use Rattle.tree_specs.specs.declared.free_step.FreeReply.{FreeReply}
-use Rattle.tree_specs.specs.declared.free_step.FreeStep.{FreeStep}
-use Rattle.tree_specs.specs.declared.free_step.FreeStep.TheVariants.{Ask, Done}
-use Rattle.tree_specs.specs.declared.object.Obj.{Obj}
-use Rattle.tree_specs.specs.Tree.Pool.{row_of}
-use Rattle.tree_specs.specs.Rules.Answers.{hook_moment}
-use Rattle.tree_specs.specs.Invariants.Sound.{HasHook}
-use Rattle.tree_specs.specs.Machine.Table.{event_of, caller_resume}
-use Rattle.destructors.specs.Frees.{Steps}
-use Rattle.destructors.specs.Works.{GoesOn}
-use Rattle.destructors.specs.Callers.{OpenTurn, call_view}
-use Rattle.destructors.specs.Runs.{IsNews}
-use Rattle.object_pool.specs.Objects.{Objects, frees_in}
+use Rattle.tree_specs.specs.Rules.Items.{Item}
+use Rattle.tree_specs.specs.Tree.Pool.{Pool}
+use Rattle.tree_specs.proofs.Tree.Numbered.{by_test}
+use Rattle.object_pool.specs.Objects.{Objects}
+use Rattle.object_pool.specs.Requests.{count_unreceived}
 use Rattle.host_core.specs.declared.active.Active.{Active}
 use Rattle.host_core.specs.declared.active.Active.TheVariants as active
-use Rattle.host_core.specs.declared.caller.Caller.{Caller}
-use Rattle.host_core.specs.declared.caller.Waiting.{Waiting}
-use Rattle.host_core.specs.Turns.{turns_of}
-use Rattle.host_core.specs.Hosts.{view_of, frame_of, awaiting, stack_of, turn_over, speaking_view, BetweenSteps, StepsSilently, Finished}
-use Rattle.host_core.proofs.TurnSteps.{closing-onward}
-use Rattle.host_core.proofs.StepsSilently.{AfterEvent, onward-along}
-use Rattle.host_core.proofs.Hosting.{Over, TurnOver, step-news, step-event, step-ask, step-done, news-work, innermost}
-use Rattle.host_core.proofs.Calling.{stays-at}
+use Rattle.host_core.specs.declared.answer.Answer.TheVariants.{Freed, Returned, Turned, Heard}
+use Rattle.host_core.specs.declared.parts.Parts.{Parts}
+use Rattle.host_core.specs.declared.step.Step.{Step}
+use Rattle.host_core.specs.declared.turn.Turn.{Turn}
+use Rattle.host_core.specs.declared.step.Step.TheVariants.{Goes, Calls, Frees, Unlinks, Empties, Ends}
+use Rattle.host_core.specs.declared.waiting.Waiting.{Waiting}
+use Rattle.host_core.specs.declared.work.Work.{Work}
+use Rattle.host_core.specs.declared.work.Work.TheVariants as work
+use Rattle.host_core.specs.Moves.{reply_of}
+use Rattle.host_core.specs.Stacks.{standing, Fits, other_view, work_frame}
+use Rattle.host_core.specs.Steps.{step_of}
+use Rattle.host_core.specs.Turns.{MayTurn}
+use Rattle.host_core.specs.Hosts.{host_view, below_in, moved, next_of, speaking_view, turn_places, work_places, FrameReady, IsBetweenSteps, StepsSilently}
+use Rattle.host_core.specs.Going.{stepped_view, IsTurnStep, IsWorkStep, StepAnswers, GoesWell, step_places, HasPlacesFor}
+use Rattle.host_core.specs.Requests.{MayWork, WorkReady}
+use Rattle.host_core.proofs.StepsSilently.{onward}
+use Rattle.host_core.proofs.Ending.{turned-answers, worked-answers}
+use Rattle.host_core.proofs.Speaking.{turn_speaking}
+use Rattle.host_core.proofs.Turning.{may_turn}
 
--- where a step has led
-pub record Led (callers : List Waiting) (turn : Option TurnFrame) (objects : Objects) (now : Active) (callers' : List Waiting) (turn' : Option TurnFrame) (objects' : Objects) : Type 0 where
-  pub onward : StepsSilently (view_of active.Freeing callers turn objects) (view_of now callers' turn' objects')
-  pub ready : BetweenSteps now callers' turn' objects'
+-- the objects that a move leaves
+abbrev pub pool_in : Move Frame Answered Pool Item → Pool
+pool_in (Do.Done a p) = p
+pool_in (Do.Go f p) = p
+pool_in (Do.Emit e f p) = p
+pool_in (Do.Wait q f p) = p
+pool_in (Do.Call f g p) = p
 
--- no caller waits
-none-wait : (ws : List Waiting) → map awaiting ws ≡ [] → ws ≡ []
-none-wait [] e = refl
-none-wait (w ∷ ws) e = cc
+pub pool-left : (step : Step) (p : Pool) → pool_in (step_of step p) ≡ p
+pool-left (Goes next) p = refl
+pool-left (Calls first second) p = refl
+pool-left (Frees x second) p = refl
+pool-left (Unlinks owner x second) p = refl
+pool-left (Empties x second) p = refl
+pool-left (Ends a) p = refl
 
-pub no-callers : (callers : List Waiting) → stack_of callers ≡ [] → callers ≡ []
-no-callers callers e = sym (reverse-reverse callers) ∙ ap reverse (none-wait (reverse callers) e)
+-- the code's step is that of the machine
+module _ (f : Frame) (step : Step) (old : Parts) (o : Objects) (whole : IsConsistent (other_view f old.objects.works (reverse old.waiting.items) old.objects.pool))
+    (same : step_of step o.pool ≡ machine_step f old.objects.pool) (works : o.works ≡ old.objects.works) where
+  abbrev before : View
+  before = other_view f old.objects.works (reverse old.waiting.items) old.objects.pool
 
-module _ (callers : List Waiting) (turn : Option TurnFrame) (objects : Objects) (objects' : Objects) (t : FreeStep)
-    (had : BetweenSteps active.Freeing callers turn objects) (s : Steps (frees_in objects) t (frees_in objects')) where
-  -- the run of a destructor begins
-  pub asks : (x : Obj) (c : Caller) → t ≡ Ask x → ((h : ℕ) → HasHook (row_of objects'.pool.rows x) h → frame_of c ≡ Asking (Routine (hook_moment x h))) → Led callers turn objects (active.Caller c) callers turn objects'
-  asks x c is runs =
-      let a = step-ask objects.works (stack_of callers) (turns_of turn) objects.pool x (frees_in objects') had.whole (subst (λ (z : FreeStep). Steps (frees_in objects) z (frees_in objects')) is s) in
-      let e : frame_of c ≡ Asking (Routine (hook_moment x a.0)) = runs a.0 a.1 in
-      let on : StepsSilently (view_of active.Freeing callers turn objects) (call_view (frame_of c) objects'.works (stack_of callers) (turns_of turn) objects'.pool) = rw e a.2 in
-      record { onward = on; ready = record { whole = on.along.whole; parts = tt } }
+  abbrev after : Parts
+  after = record { waiting = old.waiting; objects = o }
 
-  -- the free is over, and a caller goes on
-  caller-ends : (a : FreeReply) (now : Active) (callers' : List Waiting) (turn' : Option TurnFrame) → Over objects.works (stack_of callers) (turns_of turn) objects.pool a (frees_in objects') → Finished a callers turn now callers' turn'
-      → Led callers turn objects now callers' turn' objects'
-  caller-ends a now callers' turn' d finished =
-      let i = innermost (reverse callers) d.caller d.callers d.waited in
-      let f = finished.caller i.0 i.1 i.2 in
-      let l : stack_of callers' ≡ d.callers = ap (map awaiting) f.1 ∙ i.4 in
-      let same : turns_of turn' ≡ turns_of turn = ap turns_of f.2 in
-      let from : View = view_of active.Freeing callers turn objects in
-      let on : StepsSilently from (call_view (caller_resume (awaiting i.0) (Freed a)) objects'.works (stack_of callers') (turns_of turn') objects'.pool) =
-      subst (λ (z : CallFrame). StepsSilently from (call_view (caller_resume z (Freed a)) objects'.works (stack_of callers') (turns_of turn') objects'.pool)) (sym i.3)
-      (subst (λ (z : List CallFrame). StepsSilently from (call_view (caller_resume d.caller (Freed a)) objects'.works z (turns_of turn') objects'.pool)) (sym l)
-      (subst (λ (z : List OpenTurn). StepsSilently from (call_view (caller_resume d.caller (Freed a)) objects'.works d.callers z objects'.pool)) (sym same) d.onward)) in
-      let s = stays-at now (caller_resume (awaiting i.0) (Freed a)) callers' turn' objects' f.0 on.along.whole in
-      record { onward = onward-along _ _ _ on s.0; ready = s.1 }
+  leads : (next_of before).1 ≡ stepped_view step after
+  leads =
+      ap (λ (m : Move Frame Answered Pool Item). (moved m (standing old.objects.works (reverse old.waiting.items))).1) (sym same)
+      ∙ ap (λ (fs : List FreeFrame). (moved (step_of step o.pool) (standing fs (reverse old.waiting.items))).1) (sym works)
 
-  -- or the turn is over
-  turn-ends : (a : FreeReply) (now : Active) (callers' : List Waiting) (turn' : Option TurnFrame) → TurnOver objects.works (stack_of callers) turn objects.pool (frees_in objects') → Finished a callers turn now callers' turn'
-      → Led callers turn objects now callers' turn' objects'
-  turn-ends a now callers' turn' d finished =
-      let f = finished.over (no-callers callers d.alone) in
-      let from : View = view_of active.Freeing callers turn objects in
-      let closed = closing-onward Quiet objects'.works [] [] 1 objects'.pool d.onward.along.whole in
-      let on : StepsSilently from (call_view (turn_over Quiet 1) objects'.works [] [] objects'.pool) = onward-along _ _ _ d.onward closed.along in
-      let on' : StepsSilently from (call_view (turn_over Quiet 1) objects'.works (stack_of callers') (turns_of turn') objects'.pool) = rw (f.1, f.2) on in
-      let s = stays-at now (turn_over Quiet 1) callers' turn' objects' f.0 on'.along.whole in
-      record { onward = onward-along _ _ _ on' s.0; ready = s.1 }
+  pub step_onward : speaking_view before ≡ false → StepsSilently before (stepped_view step after)
+  step_onward quiet = onward before (stepped_view step after) whole quiet leads
 
-  pub ends : (a : FreeReply) (now : Active) (callers' : List Waiting) (turn' : Option TurnFrame) → t ≡ Done a → Finished a callers turn now callers' turn' → Led callers turn objects now callers' turn' objects'
-  ends a now callers' turn' is finished = elim (step-done objects.works (stack_of callers) turn objects.pool a (frees_in objects') had.whole (subst (λ (z : FreeStep). Steps (frees_in objects) z (frees_in objects')) is s)) [
-    | inl d ↦ caller-ends a now callers' turn' d finished
-    | inr d ↦ turn-ends a now callers' turn' d finished
-  ]
+-- ---- whoever waits for a turn, or for the work of a request
 
-  -- the free goes on
-  pub goes_on : IsNews t → GoesOn t (frees_in objects') → speaking_view (view_of active.Freeing callers turn objects) ≡ false → Led callers turn objects active.Freeing callers turn objects'
-  goes_on news g quiet =
-      let on = step-news objects.works (stack_of callers) (turns_of turn) objects.pool t (frees_in objects') had.whole quiet s news in
-      record { onward = on; ready = record { whole = on.along.whole; parts = record { at_work = news-work t (frees_in objects') news g; settled = s.settles } } }
+pub turn_answers : (step : Step) (t : TurnFrame) (fs : List FreeFrame) (ws : List Waiting) (p : Pool) (o : Objects) → IsTurnStep step → Fits fs ws → IsConsistent (other_view (frame.Turn t) fs ws p) → StepAnswers step ws o
+turn_answers (Ends (Turned v)) t fs ws p o s fit h = turned-answers t v fs ws o fit h.sound.waiting h.seated
+turn_answers (Ends (Freed a)) t fs ws p o s fit h = absurd s
+turn_answers (Ends (Returned v)) t fs ws p o s fit h = absurd s
+turn_answers (Ends (Heard r)) t fs ws p o s fit h = absurd s
+turn_answers _ t fs ws p o s fit h = tt
 
-  -- an event was told, and the free goes on
-  pub event_told : (e : Event) → event_of objects.pool.ring t ≡ Some e → IsNews t → GoesOn t (frees_in objects')
-      → AfterEvent (view_of active.Freeing callers turn objects) (view_of active.Freeing callers turn objects') e × BetweenSteps active.Freeing callers turn objects'
-  event_told e loud news g =
-      let a = step-event objects.works (stack_of callers) (turns_of turn) objects.pool t e (frees_in objects') had.whole s loud news in
-      (a, record { whole = a.whole; parts = record { at_work = news-work t (frees_in objects') news g; settled = s.settles } })
+pub work_answers : (step : Step) (w : Work) (fs : List FreeFrame) (ws : List Waiting) (p : Pool) (o : Objects) → IsWorkStep w step → Fits fs ws → o.works ≡ fs → step_of step o.pool ≡ request_step (work_frame w) p → IsConsistent (other_view (frame.Request (work_frame w)) fs ws p)
+    → StepAnswers step ws o
+work_answers (Ends (Heard b)) (work.Over reply) fs ws p o s fit works same h =
+    let pool : o.pool ≡ p = ap pool_in same in
+    worked-answers (reply_of reply) b ws o (subst (λ (l : List FreeFrame). Fits l ws) (sym works) fit) (rw (works, pool) h)
+work_answers (Ends (Heard b)) _ fs ws p o s fit works same h = absurd s
+work_answers (Ends a) w fs ws p o s fit works same h = absurd s
+work_answers _ w fs ws p o s fit works same h = tt
+
+-- ---- what the work of a request may do that tells nothing
+
+pub may_work : (w : Work) (fs : List FreeFrame) (ws : List Waiting) (o : Objects) → speaking_view (other_view (frame.Request (work_frame w)) fs ws o.pool) ≡ false → WorkReady w o → MayWork w o
+may_work (work.Receiving x) fs ws o quiet r = by_test (is_unreceived (note_of o.pool.requests x))
+    (λ t. let bad : true ≡ false = rw t at quiet in cc)
+    (λ t. t)
+may_work (work.Releasing child) fs ws o quiet r = absurd r
+may_work (work.Notifying x errand) fs ws o quiet r = r
+may_work (work.Finishing x state) fs ws o quiet r = cc
+may_work (work.Calling what x handler errand) fs ws o quiet r = cc
+may_work _ fs ws o quiet r = tt
+
+-- ---- what a quiet step leads to
+
+-- it goes on with what it may want
+pub record GoesOn (now : Active) (step : Step) (old : Parts) (o : Objects) : Type 0 where
+  pub onward : StepsSilently (host_view now old) (stepped_view step (record { waiting = old.waiting; objects = o }))
+  pub fit : Fits o.works (reverse old.waiting.items)
+  pub answers : StepAnswers step (reverse old.waiting.items) o
+  pub places : HasPlacesFor (step_places step) (record { waiting = old.waiting; objects = o })
+
+-- a turn at work that tells and asks nothing
+module _ (now : Active) (t : Turn) (old : Parts) (is : now ≡ active.Turning t) (b : IsBetweenSteps now old) (quiet : speaking_view (host_view now old) ≡ false) where
+  there : IsBetweenSteps (active.Turning t) old
+  there = subst (λ (z : Active). IsBetweenSteps z old) is b
+
+  silent : speaking_view (host_view (active.Turning t) old) ≡ false
+  silent = subst (λ (z : Active). speaking_view (host_view z old) ≡ false) is quiet
+
+  pub turn_may : MayTurn t.frame old.objects.pool
+  turn_may = may_turn t.frame (below_in old) old.objects.pool there.whole (sym (turn_speaking t.frame old.objects.pool) ∙ silent)
+
+  pub turn_ready : FrameReady t.frame old.objects
+  turn_ready = there.ready.frame
+
+  pub turn_goes : (step : Step) (o : Objects) → step_of step o.pool ≡ turn_step t.frame old.objects.pool → GoesWell (turn_places t.frame) step o → IsTurnStep step → o ≡ record old.objects { pool = o.pool } → o.pool.requests ≡ old.objects.pool.requests → GoesOn now step old o
+  turn_goes step o same goes ends rest requests =
+      let works : o.works ≡ old.objects.works = ap (λ (z : Objects). z.works) rest in
+      let fits : Fits o.works (reverse old.waiting.items) = subst (λ (fs : List FreeFrame). Fits fs (reverse old.waiting.items)) (sym works) there.fit in
+      let room = there.places in
+      let few = goes.places in
+      let counts = ap count_unreceived requests in
+      subst (λ (z : Active). GoesOn z step old o) (sym is) (record {
+        onward = step_onward (frame.Turn t.frame) step old o there.whole same works silent;
+        fit = fits;
+        answers = turn_answers step t.frame old.objects.works (reverse old.waiting.items) old.objects.pool o ends there.fit there.whole;
+        places = omega (arith, room, few, counts);
+      })
+
+-- the work of a request
+module _ (now : Active) (w : Work) (old : Parts) (is : now ≡ active.Requesting w) (b : IsBetweenSteps now old) (quiet : speaking_view (host_view now old) ≡ false) where
+  working : IsBetweenSteps (active.Requesting w) old
+  working = subst (λ (z : Active). IsBetweenSteps z old) is b
+
+  says-nothing : speaking_view (host_view (active.Requesting w) old) ≡ false
+  says-nothing = subst (λ (z : Active). speaking_view (host_view z old) ≡ false) is quiet
+
+  pub work_may : MayWork w old.objects
+  work_may = may_work w old.objects.works (reverse old.waiting.items) old.objects says-nothing working.ready
+
+  pub work_wants : WorkReady w old.objects
+  work_wants = working.ready
+
+  pub work_goes : (step : Step) (o : Objects) → step_of step o.pool ≡ request_step (work_frame w) old.objects.pool → GoesWell (work_places w) step o → IsWorkStep w step → o ≡ record old.objects { pool = o.pool; ready = o.ready }
+      → count_unreceived o.pool.requests ≤ count_unreceived old.objects.pool.requests → GoesOn now step old o
+  work_goes step o same goes ends rest requests =
+      let works : o.works ≡ old.objects.works = ap (λ (z : Objects). z.works) rest in
+      let fits : Fits o.works (reverse old.waiting.items) = subst (λ (fs : List FreeFrame). Fits fs (reverse old.waiting.items)) (sym works) working.fit in
+      let room = working.places in
+      let few = goes.places in
+      subst (λ (z : Active). GoesOn z step old o) (sym is) (record {
+        onward = step_onward (frame.Request (work_frame w)) step old o working.whole same works says-nothing;
+        fit = fits;
+        answers = work_answers step w old.objects.works (reverse old.waiting.items) old.objects.pool o ends working.fit works same working.whole;
+        places = omega (arith, room, few, requests);
+      })

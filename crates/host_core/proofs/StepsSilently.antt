@@ -19,10 +19,10 @@ use Rattle.tree_specs.specs.Rules.Items.Item.{Told, Asked}
 use Rattle.tree_specs.specs.Rules.Story.{turns}
 use Rattle.tree_specs.specs.Machine.Table.{table, step, taken}
 use Rattle.tree_specs.specs.Invariants.Measure.{cost, pending}
-use Rattle.tree_specs.specs.Machine.View.{View, begin, outcome_of, rest_of, strays_of, question_in}
+use Rattle.tree_specs.specs.Machine.View.{View, begin, rest_of, strays_of, question_in}
 use Rattle.tree_specs.specs.Invariants.Consistent.{IsConsistent}
 use Rattle.tree_specs.proofs.Rules.StoryLaws.{begin-whole}
-use Rattle.tree_specs.proofs.Turns.FallingFrees.{Room}
+use Rattle.tree_specs.proofs.Turns.Lowering.{Room}
 use Rattle.tree_specs.proofs.Turns.Bound.{cost-turns}
 use Rattle.tree_specs.proofs.Turns.Falls.{Well, lower, falls}
 use Rattle.tree_specs.proofs.Rules.Rest.{most, well, event-whole, event-law, event-items, question-law, open-law, open-items, begins-items, ends-asked, silent-whole, silent-law, no-end, view_of_state}
@@ -59,7 +59,7 @@ silent-onward v s h e = record {
 }
   where
     lowered : (R : ℕ) → length v.pool.rows + pending v.innermost ≤ R → Room R s.now s.pool 0 × (cost R s.now s.below s.pool 0 < cost R v.innermost v.below v.pool 0)
-    lowered R r = silent-leads table (λ g gs q j. Room R g q j × (cost R g gs q j < cost R v.innermost v.below v.pool 0)) (step v.innermost v.pool) v.below 0 s (lower R v.innermost v.below v.pool 0 h.sound (omega arith)) e
+    lowered R r = silent-leads table (λ g gs q j. Room R g q j × (cost R g gs q j < cost R v.innermost v.below v.pool 0)) (step v.innermost v.pool) v.below 0 s (lower R v.innermost v.below v.pool 0 h.sound h.noted (omega arith)) e
 
 pub onward : (v w : View) → IsConsistent v → speaking_view v ≡ false → (next_of v).1 ≡ w → StepsSilently v w
 onward v w h t e =
@@ -108,7 +108,7 @@ untaken-strays v q f p i h is-wait none =
     let R : ℕ = most v (length (i ∷ [])) in
     let go = λ (g : Frame) (p' : Pool) (left : List Input). walk table n g v.below p' left in
     ap is_stray
-    (rest-step table (Well R) (cost R) (falls R) n v.innermost v.below v.pool (i ∷ []) (well v (length (i ∷ [])) h) (cost-turns v (length (i ∷ [])) h)
+    (rest-step table (Well R) (cost R) (falls R) n v.innermost v.below v.pool (i ∷ []) (well v (length (i ∷ [])) h) (cost-turns v (length (i ∷ [])) h.light)
     ∙ ap (λ (m : Move Frame Answer Pool Item). leads table (walk table n) m v.below (i ∷ [])) is-wait
     ∙ ap (given go q p []) none)
 

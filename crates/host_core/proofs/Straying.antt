@@ -1,16 +1,15 @@
 -- An answer that doesn't fit, though it was asked for: a descriptor was accepted that is open already.
-use Rattle.std.proofs.Common.{◌≡◌, ℕ, Bool, true, false, List, [], ◌∷◌, Option, Some, None, refl, sym, ◌∙◌, ap, subst}
+use Rattle.std.proofs.Common.{◌≡◌, ℕ, Bool, true, false, List, [], ◌∷◌, reverse, Option, Some, None, refl, sym, ◌∙◌, ap}
 use Rattle.std.specs.Prelude.{◌&&◌, not, is_none, if◌then◌else◌}
 use Rattle.tree_specs.specs.declared.question.Ask.{Ask}
 use Rattle.tree_specs.specs.declared.question.Ask.TheVariants as ask
 use Rattle.tree_specs.specs.declared.question.Input.{Input}
 use Rattle.tree_specs.specs.declared.question.Input.TheVariants as input
 use Rattle.tree_specs.specs.declared.frame.Frame.TheVariants as frame
-use Rattle.tree_specs.specs.declared.frame.Frame.{Frame}
 use Rattle.tree_specs.specs.declared.frame.CallFrame.TheVariants.{Asking}
 use Rattle.tree_specs.specs.declared.frame.FreeFrame.{FreeFrame}
 use Rattle.tree_specs.specs.declared.frame.TurnFrame.{TurnFrame}
-use Rattle.tree_specs.specs.declared.frame.TurnFrame.TheVariants.{Timing, Polling}
+use Rattle.tree_specs.specs.declared.frame.TurnFrame.TheVariants.{Timing}
 use Rattle.tree_specs.specs.declared.frame.OutsideFrame.TheVariants.{Reaching}
 use Rattle.tree_specs.specs.Rules.Items.Item.{Asked}
 use Rattle.tree_specs.specs.Tree.Pool.{Pool}
@@ -19,20 +18,18 @@ use Rattle.tree_specs.specs.Calls.Refusals.{is_open}
 use Rattle.tree_specs.specs.Texts.Schedule.{misfit}
 use Rattle.tree_specs.specs.Machine.View.{View, strays_of}
 use Rattle.tree_specs.specs.Invariants.Consistent.{IsStacked, IsConsistent}
-use Rattle.destructors.specs.Callers.{under}
-use Rattle.object_pool.specs.Objects.{Objects}
 use Rattle.host_core.specs.declared.active.Active.{Active}
 use Rattle.host_core.specs.declared.active.Active.TheVariants as active
 use Rattle.host_core.specs.declared.caller.Stage.{Stage}
 use Rattle.host_core.specs.declared.caller.Stage.TheVariants as stage
-use Rattle.host_core.specs.declared.caller.Waiting.{Waiting}
-use Rattle.host_core.specs.declared.reach.Reach.{Reach}
+use Rattle.host_core.specs.declared.parts.Parts.{Parts}
+use Rattle.host_core.specs.Callers.{staged, open_at}
 use Rattle.host_core.specs.Promises.{taken_in, taken_by}
-use Rattle.host_core.specs.Reaches.{IsOutside, outside_view}
-use Rattle.host_core.specs.Turns.{turns_of, turn_asks}
-use Rattle.host_core.specs.Hosts.{seen, view_of, staged, open_at, stack_of, asked_now, BetweenSteps}
-use Rattle.host_core.proofs.Calling.{caller-kind}
+use Rattle.host_core.specs.Stacks.{freeing_view}
+use Rattle.host_core.specs.Turns.{turn_asks}
+use Rattle.host_core.specs.Hosts.{host_view, below_in, asked_now, IsBetweenSteps}
 use Rattle.host_core.proofs.StepsSilently.{untaken-strays}
+use Rattle.host_core.proofs.Answering.{caller-kind}
 
 -- ---- what was accepted
 
@@ -59,18 +56,19 @@ not-taken o asked p i fd same fits e = never (sym (taken-fits o p i fd e) ∙ ap
     never e = cc
 
 -- a host is seen over its pool
-view-pool : (now : Active) (callers : List Waiting) (turn : Option TurnFrame) (objects : Objects) → (view_of now callers turn objects).pool ≡ objects.pool
-view-pool (active.Caller c) callers turn objects = refl
-view-pool active.Freeing callers turn objects = each objects.works
+view-pool : (now : Active) (parts : Parts) → (host_view now parts).pool ≡ parts.objects.pool
+view-pool active.Freeing parts = each parts.objects.works
   where
-    each : (works : List FreeFrame) → (seen active.Freeing works (stack_of callers) (turns_of turn) objects.pool).pool ≡ objects.pool
+    each : (works : List FreeFrame) → (freeing_view works (reverse parts.waiting.items) parts.objects.pool).pool ≡ parts.objects.pool
     each [] = refl
     each (f ∷ fs) = refl
-view-pool (active.Turning t) callers turn objects = refl
-view-pool (active.Reaching r) callers turn objects = refl
+view-pool (active.Caller c) parts = refl
+view-pool (active.Turning t) parts = refl
+view-pool (active.Reaching q) parts = refl
+view-pool (active.Requesting w) parts = refl
 
-pub taken-there : (v : View) (now : Active) (callers : List Waiting) (turn : Option TurnFrame) (objects : Objects) (i : Input) (o : Option ℕ) → view_of now callers turn objects ≡ v → o ≡ taken_in v.pool i → taken_in objects.pool i ≡ o
-taken-there v now callers turn objects i o is e = ap (λ (z : Pool). taken_in z i) (sym (view-pool now callers turn objects) ∙ ap (λ (z : View). z.pool) is) ∙ sym e
+pub taken-there : (v : View) (now : Active) (parts : Parts) (i : Input) (o : Option ℕ) → host_view now parts ≡ v → o ≡ taken_in v.pool i → taken_in parts.objects.pool i ≡ o
+taken-there v now parts i o is e = ap (λ (z : Pool). taken_in z i) (sym (view-pool now parts) ∙ ap (λ (z : View). z.pool) is) ∙ sym e
 
 pub no-some : {A : Type 0} (o : Option A) → ((x : A) → o ≡ Some x → ⊥) → o ≡ None
 no-some None none = refl
@@ -89,26 +87,21 @@ turn-takes-not : (f : TurnFrame) (new : ℕ) → is_none (misfit (turn_asks f) (
 turn-takes-not (Timing again) new fits = cc
 turn-takes-not _ new fits = cc
 
-reach-strays : (r : Reach) (callers : List Waiting) (turn : Option TurnFrame) (objects : Objects) (new fd : ℕ) → IsConsistent (view_of (active.Reaching r) callers turn objects) → is_none (misfit (Some r.question) (input.Took new)) ≡ true
-    → taken_in objects.pool (input.Took new) ≡ Some fd → strays_of (view_of (active.Reaching r) callers turn objects) (input.Took new ∷ []) ≡ true
-reach-strays r callers turn objects new fd h fits e = each r.question h fits
-  where
-    each : (q : Ask) → IsConsistent (view_of (active.Reaching (record { question = q; caller = r.caller })) callers turn objects) → is_none (misfit (Some q) (input.Took new)) ≡ true
-        → strays_of (view_of (active.Reaching (record { question = q; caller = r.caller })) callers turn objects) (input.Took new ∷ []) ≡ true
-    each (ask.Accept listener) h fits =
-        untaken-strays (view_of (active.Reaching (record { question = ask.Accept listener; caller = r.caller })) callers turn objects) (Asked (ask.Accept listener)) (frame.Outside (Reaching (ask.Accept listener))) objects.pool (input.Took new) h refl
-        (opens-not (is_routine new) (is_open objects.pool new) new fd _ e)
-    each _ h fits = cc
+reach-strays : (q : Ask) (parts : Parts) (new fd : ℕ) → IsConsistent (host_view (active.Reaching q) parts) → is_none (misfit (Some q) (input.Took new)) ≡ true → taken_in parts.objects.pool (input.Took new) ≡ Some fd
+    → strays_of (host_view (active.Reaching q) parts) (input.Took new ∷ []) ≡ true
+reach-strays (ask.Accept listener) parts new fd h fits e =
+    untaken-strays (host_view (active.Reaching (ask.Accept listener)) parts) (Asked (ask.Accept listener)) (frame.Outside (Reaching (ask.Accept listener))) parts.objects.pool (input.Took new) h refl
+    (opens-not (is_routine new) (is_open parts.objects.pool new) new fd _ e)
+reach-strays _ parts new fd h fits e = cc
 
-pub taken-strays : (now : Active) (callers : List Waiting) (turn : Option TurnFrame) (objects : Objects) (i : Input) (fd : ℕ) → BetweenSteps now callers turn objects → is_none (misfit (asked_now now) i) ≡ true → taken_in objects.pool i ≡ Some fd
-    → strays_of (view_of now callers turn objects) (i ∷ []) ≡ true
-taken-strays (active.Reaching r) callers turn objects (input.Took new) fd b fits e = reach-strays r callers turn objects new fd b.whole fits e
-taken-strays (active.Turning t) callers turn objects (input.Took new) fd b fits e = absurd (turn-takes-not t.frame new (ap (λ (z : Option Ask). is_none (misfit z (input.Took new))) (sym b.parts.question) ∙ fits))
-taken-strays (active.Caller c) callers turn objects (input.Took new) fd b fits e = absurd (no c.stage c.ask b.whole.seated fits)
+pub taken-strays : (now : Active) (parts : Parts) (i : Input) (fd : ℕ) → IsBetweenSteps now parts → is_none (misfit (asked_now now) i) ≡ true → taken_in parts.objects.pool i ≡ Some fd → strays_of (host_view now parts) (i ∷ []) ≡ true
+taken-strays (active.Reaching q) parts (input.Took new) fd b fits e = reach-strays q parts new fd b.whole fits e
+taken-strays (active.Turning t) parts (input.Took new) fd b fits e = absurd (turn-takes-not t.frame new (ap (λ (z : Option Ask). is_none (misfit z (input.Took new))) (sym b.ready.question) ∙ fits))
+taken-strays (active.Caller c) parts (input.Took new) fd b fits e = absurd (no c.stage c.ask b.whole.seated fits)
   where
-    no : (s : Stage) (q : Ask) → IsStacked (frame.Call (staged q s)) (under objects.works (stack_of callers) (turns_of turn)) → is_none (misfit (open_at s q) (input.Took new)) ≡ true → ⊥
-    no stage.Asking (ask.Accept listener) seated fits = caller-kind (ask.Accept listener) objects.works (stack_of callers) (turns_of turn) seated
+    no : (s : Stage) (q : Ask) → IsStacked (frame.Call (staged q s)) (below_in parts) → is_none (misfit (open_at s q) (input.Took new)) ≡ true → ⊥
+    no stage.Asking (ask.Accept listener) seated fits = caller-kind (frame.Call (Asking (ask.Accept listener))) (ask.Accept listener) (below_in parts) refl seated
     no stage.Asking _ seated fits = cc
     no _ q seated fits = cc
-taken-strays active.Freeing callers turn objects (input.Took new) fd b fits e = cc
-taken-strays _ callers turn objects _ fd b fits e = cc
+taken-strays _ parts (input.Took new) fd b fits e = cc
+taken-strays _ parts _ fd b fits e = cc

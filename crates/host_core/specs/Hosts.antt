@@ -1,161 +1,129 @@
 -- A host by its parts, and what they keep.
-use Rattle.std.specs.Prelude.{◌≡◌, ℕ, ◌+◌, ◌≤◌, ◌<◌, Bool, true, false, List, [], ◌∷◌, length, map, reverse, Option, Some, None}
+use Rattle.std.specs.Prelude.{◌≡◌, ℕ, ◌+◌, ◌*◌, ◌≤◌, ◌<◌, Bool, true, false, List, [], ◌∷◌, length, reverse, vec_capacity, is_none, Option, Some, None}
 use Rattle.step_machine.specs.Machine.{Move}
 use Rattle.step_machine.specs.Machine.{Move as Do}
 use Rattle.tree_specs.specs.declared.event.Event.{Event}
-use Rattle.tree_specs.specs.declared.event.Event.TheVariants.{Replied, Fired}
+use Rattle.tree_specs.specs.declared.frame.Errand.{Errand}
+use Rattle.tree_specs.specs.declared.frame.Errand.TheVariants.{Receive}
 use Rattle.tree_specs.specs.declared.frame.Frame.{Frame}
 use Rattle.tree_specs.specs.declared.frame.Frame.TheVariants as frame
 use Rattle.tree_specs.specs.declared.frame.CallFrame.{CallFrame}
-use Rattle.tree_specs.specs.declared.frame.CallFrame.TheVariants.{Asking, Doing, Awaiting, Announcing, Telling, Returning}
-use Rattle.tree_specs.specs.declared.frame.FreeFrame.{FreeFrame}
-use Rattle.tree_specs.specs.declared.frame.FreeFrame.TheVariants.{Unlinking, Beginning, Looping, Ending}
+use Rattle.tree_specs.specs.declared.frame.CallFrame.TheVariants.{Asking, Doing, Returning}
+use Rattle.tree_specs.specs.declared.frame.FreeFrame.TheVariants.{Ending}
 use Rattle.tree_specs.specs.declared.frame.TurnFrame.{TurnFrame}
-use Rattle.tree_specs.specs.declared.frame.TurnFrame.TheVariants.{Taking, Firing, Handling, Closing}
-use Rattle.tree_specs.specs.declared.frame.OutsideFrame.TheVariants.{Reaching}
-use Rattle.tree_specs.specs.declared.frame.Purpose.TheVariants.{Emptying}
+use Rattle.tree_specs.specs.declared.frame.TurnFrame.TheVariants.{Taking, Timed, Handled, Clearing, Serving, Closing}
 use Rattle.tree_specs.specs.declared.frame.Answer.{Answer}
-use Rattle.tree_specs.specs.declared.frame.Answer.TheVariants.{Freed}
-use Rattle.tree_specs.specs.declared.free_step.FreeReply.{FreeReply}
 use Rattle.tree_specs.specs.declared.free_step.FreeReply.TheVariants.{Ok}
-use Rattle.tree_specs.specs.Tree.Pool.{Pool}
-use Rattle.tree_specs.specs.Rules.Items.{Item}
-use Rattle.tree_specs.specs.Rules.Items.Item.{Told, Asked}
-use Rattle.tree_specs.specs.Machine.Table.{step, resume, caller_resume, call_step, replied}
-use Rattle.tree_specs.specs.declared.question.Ask.{Ask}
-use Rattle.tree_specs.specs.declared.question.Ask.TheVariants.{Quiet, Routine}
-use Rattle.tree_specs.specs.Events.Coming.{handler_moment}
-use Rattle.tree_specs.specs.declared.reply.Refusal.TheVariants as refusal
-use Rattle.host_core.specs.declared.short_reply.ShortReply.TheVariants as short_reply
 use Rattle.tree_specs.specs.declared.question.Act.TheVariants as act
+use Rattle.tree_specs.specs.declared.question.Ask.{Ask}
 use Rattle.tree_specs.specs.declared.question.Input.{Input}
 use Rattle.tree_specs.specs.declared.question.Input.TheVariants as input
-use Rattle.tree_specs.specs.declared.call.Call.{Call}
 use Rattle.tree_specs.specs.declared.call.Call.TheVariants as call
 use Rattle.tree_specs.specs.declared.object.Owner.{Owner}
 use Rattle.tree_specs.specs.declared.reply.Reply.{Reply}
 use Rattle.tree_specs.specs.Calls.Refusals.{refusals}
-use Rattle.tree_specs.specs.Rules.Answers.{later}
+use Rattle.tree_specs.specs.Events.Requests.{Notes}
+use Rattle.tree_specs.specs.Tree.Pool.{Pool}
+use Rattle.tree_specs.specs.Rules.Items.{Item}
+use Rattle.tree_specs.specs.Rules.Items.Item.{Told, Asked}
 use Rattle.tree_specs.specs.Invariants.Measure.{pending, cost}
-use Rattle.tree_specs.specs.Rules.Story.{notice_event}
-use Rattle.tree_specs.specs.Machine.View.{View, rest_of, strays_of}
 use Rattle.tree_specs.specs.Invariants.Consistent.{IsConsistent}
-use Rattle.destructors.specs.Frees.{speaking}
-use Rattle.destructors.specs.Works.{IsAtWork}
-use Rattle.destructors.specs.Callers.{OpenTurn, calling, free_view, call_view}
-use Rattle.object_pool.specs.Objects.{Objects, frees_in}
+use Rattle.tree_specs.specs.Machine.Table.{step, resume, event_of, call_step, replied}
+use Rattle.tree_specs.specs.Machine.View.{View, rest_of, strays_of}
+use Rattle.tree_specs.specs.declared.free_step.FreeStep.{FreeStep}
+use Rattle.destructors.specs.Frees.{speaking, Steps}
+use Rattle.destructors.specs.Works.{IsAtWork, GoesOn}
+use Rattle.object_pool.specs.Objects.{Objects, frees_in, LeavesRest}
+use Rattle.object_pool.specs.Requests.{count_unreceived}
+use Rattle.requests.specs.Register.{AreInOrder}
 use Rattle.host_core.specs.declared.parts.Parts.{Parts}
 use Rattle.host_core.specs.declared.active.Active.{Active}
-use Rattle.host_core.specs.declared.caller.Caller.{Caller}
-use Rattle.host_core.specs.declared.caller.Stage.{Stage}
-use Rattle.host_core.specs.declared.caller.Stage.TheVariants as stage
-use Rattle.host_core.specs.declared.caller.Waiting.{Waiting}
 use Rattle.host_core.specs.declared.active.Active.TheVariants as active
-use Rattle.host_core.specs.declared.motion.Motion.{Motion}
 use Rattle.host_core.specs.declared.owned_reply.OwnedReply.{OwnedReply}
-use Rattle.host_core.specs.declared.reach.Reach.{Reach}
-use Rattle.host_core.specs.declared.motion.Motion.TheVariants.{Replies, Announces, Frees, Unlinks, Empties, Asks, Turns}
 use Rattle.host_core.specs.declared.turn.Turn.{Turn}
-use Rattle.host_core.specs.Moves.{report_of, telling, announcing}
-use Rattle.host_core.specs.Turns.{turns_of, turn_view, turn_asks, TurnSpeaks, turn_given}
-use Rattle.host_core.specs.Reaches.{IsOutside, outside_view, outside_given}
+use Rattle.host_core.specs.declared.waiting.Waiting.{Waiting}
+use Rattle.host_core.specs.declared.work.Work.{Work}
+use Rattle.host_core.specs.declared.work.Work.TheVariants as work
+use Rattle.host_core.specs.Callers.{frame_of, told_by, after_telling, open_at}
+use Rattle.tree_specs.specs.Texts.Schedule.{misfit}
+use Rattle.host_core.specs.Moves.{call_of, reported}
+use Rattle.host_core.specs.Reaches.{IsOutside, is_bytes, outside_given}
+use Rattle.host_core.specs.Requests.{work_tells, work_told, pool_told, WorkReady}
+use Rattle.host_core.specs.Stacks.{standing, active_frame, other_view, seen, Fits, AllFit}
+use Rattle.host_core.specs.Turns.{turn_asks, turn_given, turn_tells, frame_fired}
 
--- ---- the callers of a host, as frames
+abbrev pub view_of : Active → List Waiting → Objects → View
+view_of now waiting objects = seen now objects.works (reverse waiting) objects.pool
 
--- what comes next of a caller with this question
-abbrev pub staged : Ask → Stage → CallFrame
-staged q stage.Asking = Asking q
-staged q (stage.Telling r) = Telling q r
-staged q (stage.Announcing notice r) = Announcing q notice r
+abbrev pub host_view : Active → Parts → View
+host_view now parts = view_of now parts.waiting.items parts.objects
 
-abbrev pub frame_of : Caller → CallFrame
-frame_of c = staged c.ask c.stage
+-- the works below what is no free
+abbrev pub below_in : Parts → List Frame
+below_in parts = standing parts.objects.works (reverse parts.waiting.items)
 
-abbrev pub awaiting : Waiting → CallFrame
-awaiting w = Awaiting w.ask w.x
-
--- the callers that wait, the innermost first; it stands last among them
-abbrev pub stack_of : List Waiting → List CallFrame
-stack_of ws = map awaiting (reverse ws)
-
--- a caller is at work, at this frame
-abbrev pub StandsAs : Active → CallFrame → Type 0
-StandsAs (active.Caller c) f = frame_of c ≡ f
-StandsAs _ f = ⊥
-
--- the works of a host whose callers and turns wait in this order, the innermost first
-abbrev pub seen : Active → List FreeFrame → List CallFrame → List OpenTurn → Pool → View
-seen (active.Caller c) works callers turns p = call_view (frame_of c) works callers turns p
-seen active.Freeing [] callers turns p = record { innermost = frame.Free (Ending Ok); below = calling callers turns; pool = p }
-seen active.Freeing (f ∷ fs) callers turns p = free_view f fs callers turns p
-seen (active.Turning t) works callers turns p = turn_view t.frame t.caller works callers turns p
-seen (active.Reaching r) works callers turns p = outside_view (Reaching r.question) r.caller works callers turns p
-
-abbrev pub is_quiet : Ask → Bool
-is_quiet Quiet = true
-is_quiet q = false
-
--- a turn is for the host's own caller alone
-abbrev pub turn_begun : Ask → List FreeFrame → List CallFrame → List OpenTurn → Pool → View
-turn_begun Quiet works callers turns p = turn_view Taking Quiet works callers turns p
-turn_begun q works callers turns p = call_view (telling q (short_reply.No refusal.Nested)) works callers turns p
-
--- the works of a host whose caller, which was asked this, has done a call: it goes on, or waits for what the call has begun
-abbrev pub view_after : Ask → Motion → List FreeFrame → List CallFrame → List OpenTurn → Pool → View
-view_after q (Replies b) works callers turns p = call_view (telling q b) works callers turns p
-view_after q (Announces notice b) works callers turns p = call_view (announcing q notice b) works callers turns p
-view_after q (Frees x) works callers turns p = free_view (Beginning x) works (Awaiting q x ∷ callers) turns p
-view_after q (Unlinks o x) works callers turns p = free_view (Unlinking o x) works (Awaiting q x ∷ callers) turns p
-view_after q (Empties x) works callers turns p = free_view (Looping x Emptying) works (Awaiting q x ∷ callers) turns p
-view_after q (Asks outside) works callers turns p = outside_view (Reaching outside) q works callers turns p
-view_after q Turns works callers turns p = turn_begun q works callers turns p
-
-abbrev pub view_of : Active → List Waiting → Option TurnFrame → Objects → View
-view_of now callers turn objects = seen now objects.works (stack_of callers) (turns_of turn) objects.pool
-
--- a call that is to be done has the memory that it may want, with all that comes up to the next question
-pub record MayDo (c : Call) (waiting places : ℕ) (taken : Bool) : Type 0 where
-  pub no_report : report_of c ≡ None
-  pub place : waiting < places
-  pub ready : taken ≡ true
+-- ---- what the parts keep besides what holds of a host at every moment
 
 -- the innermost free is at work, and tells something with its next step
 pub record FreeReady (objects : Objects) : Type 0 where
   pub at_work : IsAtWork (frees_in objects)
   pub settled : speaking (frees_in objects) ≡ true
 
--- a turn tells or asks something next, is a call of the host's own caller, and has its question at hand
-pub record TurnReady (t : Turn) : Type 0 where
-  pub speaks : TurnSpeaks t.frame
-  pub caller : t.caller ≡ Quiet
-  pub question : t.question ≡ turn_asks t.frame
+-- a turn has its question at hand, and the memory for what follows, until it waits or is over
+abbrev pub FrameReady : TurnFrame → Objects → Type 0
+FrameReady Taking o = o.ready ≡ true
+FrameReady (Timed again now) o = o.ready ≡ true
+FrameReady (Handled what x) o = o.ready ≡ true
+FrameReady (Clearing x) o = ⊥
+FrameReady (Serving x) o = ⊥
+FrameReady f o = Unit {0}
 
--- what the parts keep besides what holds of a host at every moment
+pub record TurnReady (t : Turn) (objects : Objects) : Type 0 where
+  pub question : t.question ≡ turn_asks t.frame
+  pub frame : FrameReady t.frame objects
+
 abbrev pub PartsReady : Active → Objects → Type 0
 PartsReady (active.Caller c) objects = Unit {0}
 PartsReady active.Freeing objects = FreeReady objects
-PartsReady (active.Turning t) objects = TurnReady t
-PartsReady (active.Reaching r) objects = IsOutside r.question
+PartsReady (active.Turning t) objects = TurnReady t objects
+PartsReady (active.Reaching q) objects = IsOutside q
+PartsReady (active.Requesting w) objects = WorkReady w objects
 
-pub record BetweenSteps (now : Active) (callers : List Waiting) (turn : Option TurnFrame) (objects : Objects) : Type 0 where
-  pub whole : IsConsistent (view_of now callers turn objects)
-  pub parts : PartsReady now objects
+-- the places among the works that wait which what is at work may take before the next question, besides those of requests that
+-- are still to be received
+abbrev pub errand_places : Errand → ℕ
+errand_places Receive = 3
+errand_places errand = 1
 
--- ---- the same of the parts as one
+abbrev pub work_places : Work → ℕ
+work_places (work.Cleaning x errand) = errand_places errand
+work_places (work.Cleaned x errand) = errand_places errand
+work_places w = 1
 
-abbrev pub host_view : Active → Parts → View
-host_view now parts = view_of now parts.callers.items parts.turn parts.objects
+abbrev pub turn_places : TurnFrame → ℕ
+turn_places Taking = 2
+turn_places (Timed again now) = 2
+turn_places (Handled what x) = 3
+turn_places (Closing v) = 0
+turn_places f = 1
 
-abbrev pub IsBetweenSteps : Active → Parts → Type 0
-IsBetweenSteps now parts = BetweenSteps now parts.callers.items parts.turn parts.objects
+abbrev pub places : Active → ℕ
+places active.Freeing = 2
+places (active.Turning t) = turn_places t.frame
+places (active.Requesting w) = work_places w
+places now = 0
 
--- the works of a host whose caller is at this frame
-abbrev pub view_at : CallFrame → Parts → View
-view_at f parts = call_view f parts.objects.works (stack_of parts.callers.items) (turns_of parts.turn) parts.objects.pool
+-- so many places, and two for each request that is still to be received, are there for what is at work
+abbrev pub HasPlaces : Active → ℕ → Notes → ℕ → Type 0
+HasPlaces (active.Caller c) waiting notes most = Unit {0}
+HasPlaces (active.Reaching q) waiting notes most = Unit {0}
+HasPlaces now waiting notes most = waiting + places now + 2 * count_unreceived notes ≤ most
 
--- the works of a host in which a turn is at work, for the caller that was asked this
-abbrev pub turn_at : TurnFrame → Ask → Parts → View
-turn_at f q parts = turn_view f q parts.objects.works (stack_of parts.callers.items) (turns_of parts.turn) parts.objects.pool
+pub record IsBetweenSteps (now : Active) (parts : Parts) : Type 0 where
+  pub whole : IsConsistent (host_view now parts)
+  pub fit : AllFit now parts.objects.works (reverse parts.waiting.items)
+  pub ready : PartsReady now parts.objects
+  pub places : HasPlaces now (length parts.waiting.items) parts.objects.pool.requests (vec_capacity parts.waiting)
 
 -- ---- a step
 
@@ -199,72 +167,12 @@ pub record StepsSilently (v w : View) : Type 0 where
   pub along : TellsSameStory v w
   pub cheaper : (R : ℕ) → length v.pool.rows + pending v.innermost ≤ R → cost R w.innermost w.below w.pool 0 < cost R v.innermost v.below v.pool 0
 
--- a caller is at work, or else a free
-abbrev pub at_work : Option Caller → Active
-at_work None = active.Freeing
-at_work (Some c) = active.Caller c
-
--- a turn is over with this reply
-abbrev pub turn_over : Ask → ℕ → CallFrame
-turn_over q v = telling q (short_reply.Number v)
-
--- the innermost caller goes on with what the free that it has waited for answers, or the turn is over where no caller waits
-pub record Finished (a : FreeReply) (old : List Waiting) (turn : Option TurnFrame) (now : Active) (new : List Waiting) (turn' : Option TurnFrame) : Type 0 where
-  pub caller : (w : Waiting) (ws : List Waiting) → reverse old ≡ w ∷ ws → StandsAs now (caller_resume (awaiting w) (Freed a)) × (reverse new ≡ ws) × (turn' ≡ turn)
-  pub over : old ≡ [] → StandsAs now (turn_over Quiet 1) × (new ≡ []) × (turn' ≡ None)
-
--- ---- what is told
-
--- what a caller tells
-abbrev pub told_by : CallFrame → Option Event
-told_by (Announcing q notice r) = Some (notice_event notice)
-told_by (Telling q r) = Some (Replied r)
-told_by f = None
-
--- and how it goes on
-abbrev pub after_telling : CallFrame → CallFrame
-after_telling (Announcing q notice r) = Telling q r
-after_telling (Telling q r) = Asking q
-after_telling f = f
-
--- ---- a turn
-
--- a turn is at work
-abbrev pub IsTurning : Active → Type 0
-IsTurning (active.Turning t) = Unit {0}
-IsTurning _ = ⊥
-
--- a question to the outside is open
-abbrev pub is_reaching : Active → Bool
-is_reaching (active.Reaching r) = true
-is_reaching now = false
-
--- a turn waits for the run of a handler
-abbrev pub IsHandling : Option TurnFrame → Type 0
-IsHandling (Some (Handling what x handler occasion)) = Unit {0}
-IsHandling _ = ⊥
-
--- who is at work where this is still to do of a turn that was called for by who was asked this
-abbrev pub StandsWith : TurnFrame → Ask → Active → Type 0
-StandsWith (Closing v) q now = StandsAs now (turn_over q v)
-StandsWith f q now = now ≡ active.Turning (record { frame = f; question = turn_asks f; caller = q })
-
--- a turn has told that a handler starts, which runs from then on; or it tells nothing, and nothing has changed
-abbrev pub FiresBy : TurnFrame → Option TurnFrame → Option Event → Active → Active → Option TurnFrame → Type 0
-FiresBy (Firing what x handler occasion) turn told old now turn' =
-    (told ≡ Some (Fired what x handler.routine)) × StandsAs now (Asking (Routine (handler_moment what x handler occasion))) × (turn' ≡ Some (Handling what x handler occasion))
-FiresBy f turn told old now turn' = (told ≡ None) × (now ≡ old) × (turn' ≡ turn)
-
-abbrev pub Fires : Active → Option TurnFrame → Option Event → Active → Option TurnFrame → Type 0
-Fires (active.Turning t) turn told now turn' = FiresBy t.frame turn told (active.Turning t) now turn'
-Fires old turn told now turn' = (told ≡ None) × (now ≡ old) × (turn' ≡ turn)
+-- the innermost free is at hand, where one is at work
+abbrev pub IsSettled : Active → Objects → Type 0
+IsSettled active.Freeing objects = FreeReady objects
+IsSettled now objects = Unit {0}
 
 -- ---- an answer to the open question
-
--- the question that is open at this stage
-abbrev pub open_at : Stage → Ask → Option Ask
-open_at stage.Asking q = Some q
-open_at s q = None
 
 -- the question that a caller is asked
 abbrev pub caller_asked : Active → Option Ask
@@ -276,12 +184,8 @@ abbrev pub asked_now : Active → Option Ask
 asked_now (active.Caller c) = open_at c.stage c.ask
 asked_now active.Freeing = None
 asked_now (active.Turning t) = t.question
-asked_now (active.Reaching r) = Some r.question
-
--- the question with what a routine is to remember
-abbrev pub remembers : Ask → Option Reply → Ask
-remembers q None = q
-remembers q (Some r) = later q r
+asked_now (active.Reaching q) = Some q
+asked_now (active.Requesting w) = None
 
 -- what a caller begins with that was asked
 abbrev pub begins_with : Ask → Input → CallFrame
@@ -290,21 +194,41 @@ begins_with q (input.Act (act.Do c)) = Doing q c
 begins_with q (input.Act (act.Ret v)) = Returning v
 begins_with q i = Asking q
 
--- the works of a host that was given an answer to its question
-abbrev pub view_given : Active → Input → List FreeFrame → List CallFrame → List OpenTurn → Pool → View
-view_given (active.Caller c) i works callers turns p = call_view (begins_with c.ask i) works callers turns p
-view_given active.Freeing i works callers turns p = seen active.Freeing works callers turns p
-view_given (active.Turning t) i works callers turns p = turn_view (turn_given t.frame i p) t.caller works callers turns p
-view_given (active.Reaching r) i works callers turns p = outside_view (outside_given r.question i) r.caller works callers turns p
+-- a call, or what a routine does
+abbrev pub IsActing : Input → Type 0
+IsActing (input.Call c) = Unit {0}
+IsActing (input.Act a) = Unit {0}
+IsActing i = ⊥
+
+-- the works once a caller that was asked has answered
+abbrev pub called_view : Ask → Input → Parts → View
+called_view q i parts = other_view (frame.Call (begins_with q i)) parts.objects.works (reverse parts.waiting.items) parts.objects.pool
+
+-- what is at work once the answer was given
+abbrev pub given_frame : Active → Input → Pool → Frame
+given_frame (active.Caller c) i p = frame.Call (begins_with c.ask i)
+given_frame (active.Turning t) i p = frame.Turn (turn_given t.frame i p)
+given_frame (active.Reaching q) i p = frame.Outside (outside_given q i)
+given_frame now i p = active_frame now
 
 abbrev pub given_view : Active → Input → Parts → View
-given_view now i parts = view_given now i parts.objects.works (stack_of parts.callers.items) (turns_of parts.turn) parts.objects.pool
+given_view now i parts = other_view (given_frame now i parts.objects.pool) parts.objects.works (reverse parts.waiting.items) parts.objects.pool
 
--- the memory that this may want is there
-abbrev pub MayBegin : Input → ℕ → ℕ → Bool → Type 0
-MayBegin (input.Call c) waiting places ready = MayDo c waiting places ready
-MayBegin (input.Act (act.Do c)) waiting places ready = MayDo c waiting places ready
-MayBegin i waiting places ready = ready ≡ true
+-- the memory is taken that may be wanted up to the next question
+pub record HasRoom (parts : Parts) : Type 0 where
+  pub ready : parts.objects.ready ≡ true
+  pub order : AreInOrder parts.objects.pool.requests
+  pub places : length parts.waiting.items + 2 * count_unreceived parts.objects.pool.requests + 3 ≤ vec_capacity parts.waiting
+
+-- this is an answer to what is asked, and takes no memory of its own
+pub record MayTake (now : Active) (i : Input) (parts : Parts) : Type 0 where
+  pub fits : is_none (misfit (asked_now now) i) ≡ true
+  pub no_bytes : is_bytes i ≡ false
+  pub no_report : reported (call_of i) ≡ None
+  pub ready : PartsReady now parts.objects
+  pub fit : Fits parts.objects.works (reverse parts.waiting.items)
+  pub whole : IsConsistent (given_view now i parts)
+  pub room : HasRoom parts
 
 -- the reply that a report of this owner has, whoever asks for it
 abbrev pub IsReplyOf : Owner → Reply → Pool → Type 0
@@ -320,3 +244,21 @@ IsCopy i copy o p = copy ≡ None
 pub record IsReport (i : Input) (r : OwnedReply) (o : Owner) (p : Pool) : Type 0 where
   pub reply : IsReplyOf o r.reply p
   pub copy : IsCopy i r.copy o p
+
+-- the innermost free has made a step, of which this is told
+pub record FreeTells (told : Option Event) (o : Objects) (now : Active) (o' : Objects) : Type 0 where
+  pub step : FreeStep
+  pub still : now ≡ active.Freeing
+  pub steps : Steps (frees_in o) step (frees_in o')
+  pub goes_on : GoesOn step (frees_in o')
+  pub event : told ≡ event_of o.pool.ring step
+  pub rest : LeavesRest o o'
+  pub requests : count_unreceived o'.pool.requests ≤ count_unreceived o.pool.requests
+
+-- what is at work has told this with the next step of the host, and goes on after it
+abbrev pub Tells : Option Event → Active → Objects → Active → Objects → Type 0
+Tells told (active.Caller c) o now o' = (told ≡ told_by (frame_of c)) × (active_frame now ≡ frame.Call (after_telling (frame_of c))) × (o' ≡ o)
+Tells told active.Freeing o now o' = FreeTells told o now o'
+Tells told (active.Turning t) o now o' = (told ≡ turn_tells t.frame) × (now ≡ active.Turning (record t { frame = frame_fired t.frame })) × (o' ≡ o)
+Tells told (active.Reaching q) o now o' = (told ≡ None) × (now ≡ active.Reaching q) × (o' ≡ o)
+Tells told (active.Requesting w) o now o' = (told ≡ work_tells w o.pool) × (now ≡ active.Requesting (work_told w o.pool)) × (o' ≡ record o { pool = pool_told w o.pool }) × AreInOrder o.pool.requests

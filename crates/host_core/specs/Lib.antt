@@ -1,6 +1,11 @@
-pub mod Moves
-pub mod Turns
-pub mod Reaches
-pub mod Hosts
-pub mod Promises
 pub mod Subjects
+pub mod Moves
+pub mod Reaches
+pub mod Callers
+pub mod Stacks
+pub mod Steps
+pub mod Turns
+pub mod Requests
+pub mod Hosts
+pub mod Going
+pub mod Promises

@@ -11,10 +11,10 @@ use Rattle.tree_specs.specs.declared.question.Input.TheVariants as input
 use Rattle.tree_specs.specs.declared.frame.Frame.{Frame}
 use Rattle.tree_specs.specs.declared.frame.Frame.TheVariants as frame
 use Rattle.tree_specs.specs.declared.frame.CallFrame.{CallFrame}
-use Rattle.tree_specs.specs.declared.frame.CallFrame.TheVariants.{Awaiting, Turning, Telling, Announcing}
+use Rattle.tree_specs.specs.declared.frame.CallFrame.TheVariants.{Awaiting, Turning, Requesting, Telling, Announcing}
 use Rattle.tree_specs.specs.declared.frame.OutsideFrame.TheVariants.{Reaching}
 use Rattle.tree_specs.specs.declared.notice.Notice.{Notice}
-use Rattle.tree_specs.specs.Machine.Table.{turning_step}
+use Rattle.tree_specs.specs.Machine.Table.{turning_step, work_of}
 use Rattle.tree_specs.specs.declared.frame.FreeFrame.TheVariants.{Unlinking, Beginning, Looping}
 use Rattle.tree_specs.specs.declared.frame.Purpose.TheVariants.{Emptying}
 use Rattle.tree_specs.specs.declared.frame.Answer.{Answer}
@@ -26,13 +26,14 @@ use Rattle.tree_specs.specs.Rules.Items.{Item}
 use Rattle.tree_specs.specs.Rules.Answers.{later}
 use Rattle.host_core.specs.Reaches.{IsOutside}
 use Rattle.host_core.specs.declared.motion.Motion.{Motion}
-use Rattle.host_core.specs.declared.motion.Motion.TheVariants.{Replies, Announces, Frees, Unlinks, Empties, Asks, Turns}
+use Rattle.host_core.specs.declared.motion.Motion.TheVariants.{Replies, Announces, Frees, Unlinks, Empties, Asks, Turns, Works}
 use Rattle.host_core.specs.declared.short_reply.ShortReply.{ShortReply}
 use Rattle.host_core.specs.declared.short_reply.ShortReply.TheVariants as short_reply
 
 abbrev pub reply_of : ShortReply → Reply
 reply_of short_reply.Ok = reply.Ok
 reply_of (short_reply.Number n) = reply.Number n
+reply_of (short_reply.Pair first second) = reply.Pair first second
 reply_of short_reply.Again = reply.Again
 reply_of short_reply.Fault = reply.Fault
 reply_of short_reply.End = reply.End
@@ -55,13 +56,13 @@ move_of q (Unlinks o x) p = Do.Call (frame.Free (Unlinking o x)) (frame.Call (Aw
 move_of q (Empties x) p = Do.Call (frame.Free (Looping x Emptying)) (frame.Call (Awaiting q x)) p
 move_of q (Asks outside) p = Do.Call (frame.Outside (Reaching outside)) (frame.Call (Turning q)) p
 move_of q Turns p = turning_step q p
+move_of q (Works errand x) p = Do.Call (work_of errand x) (frame.Call (Requesting q)) p
 
 -- what a call begins has the memory that the call was given, and what it asks is asked of the outside
 abbrev pub ReadyFor : Motion → Bool → Type 0
 ReadyFor (Replies b) ready = Unit {0}
 ReadyFor (Announces notice b) ready = Unit {0}
 ReadyFor (Asks outside) ready = IsOutside outside
-ReadyFor Turns ready = Unit {0}
 ReadyFor m ready = ready ≡ true
 
 -- the owner that a report is about; it is the one call whose reply takes memory

@@ -1,10 +1,5 @@
 -- A question to the outside that is open in a host, and what its answer leaves.
-use Rattle.std.specs.Prelude.{◌≡◌, Bool, true, false, List, ◌∷◌, Option, Some, None}
-use Rattle.tree_specs.specs.declared.call.Call.{Call}
-use Rattle.tree_specs.specs.declared.frame.Frame.TheVariants as frame
-use Rattle.tree_specs.specs.declared.frame.CallFrame.{CallFrame}
-use Rattle.tree_specs.specs.declared.frame.CallFrame.TheVariants.{Turning}
-use Rattle.tree_specs.specs.declared.frame.FreeFrame.{FreeFrame}
+use Rattle.std.specs.Prelude.{Bool, true, false, Option, Some, None}
 use Rattle.tree_specs.specs.declared.frame.OutsideFrame.{OutsideFrame}
 use Rattle.tree_specs.specs.declared.frame.OutsideFrame.TheVariants.{Reaching, Opening, Hearing}
 use Rattle.tree_specs.specs.declared.question.Ask.{Ask}
@@ -17,16 +12,8 @@ use Rattle.tree_specs.specs.declared.reply.Reply.TheVariants as reply
 use Rattle.tree_specs.specs.Tree.Pool.{Pool, open_descriptor}
 use Rattle.tree_specs.specs.Calls.Given.{Given, given_to}
 use Rattle.tree_specs.specs.Calls.Given.Given.{Tells, Opens, Answers}
-use Rattle.tree_specs.specs.Machine.View.{View}
-use Rattle.destructors.specs.Callers.{OpenTurn, under}
-use Rattle.object_pool.specs.Objects.{Objects}
-use Rattle.host_core.specs.declared.parts.Parts.{Parts}
 use Rattle.host_core.specs.declared.short_reply.ShortReply.{ShortReply}
 use Rattle.host_core.specs.declared.short_reply.ShortReply.TheVariants as short_reply
-
--- a question to the outside is at work for a call of the caller that was asked this
-abbrev pub outside_view : OutsideFrame → Ask → List FreeFrame → List CallFrame → List OpenTurn → Pool → View
-outside_view f q works callers turns p = record { innermost = frame.Outside f; below = frame.Call (Turning q) ∷ under works callers turns; pool = p }
 
 -- what is still to do of it after this was given
 abbrev pub outside_given_by : Ask → Option Given → OutsideFrame
@@ -79,11 +66,3 @@ short_answer i = short_reply.End
 abbrev pub pool_heard : Input → Pool → Pool
 pool_heard (input.Took fd) p = open_descriptor p fd
 pool_heard i p = p
-
--- the reply, and what it leaves of the parts
-pub record HeardShort (i : Input) (old : Parts) (b : ShortReply) (new : Parts) : Type 0 where
-  pub reply : b ≡ short_answer i
-  pub callers : new.callers ≡ old.callers
-  pub turn : new.turn ≡ old.turn
-  pub works : new.objects.works ≡ old.objects.works
-  pub pool : new.objects.pool ≡ pool_heard i old.objects.pool

@@ -1,41 +1,27 @@
--- A turn of the event loop at work in a host: what is still to do of it, and whose call it is.
-use Rattle.std.specs.Prelude.{◌≡◌, ℕ, Bool, true, false, List, [], ◌∷◌, Option, Some, None}
+-- A turn of the event loop at work in a host: what it asks and tells, and what it does once something was picked.
+use Rattle.std.specs.Prelude.{◌≡◌, Bool, true, false, Option, Some, None}
+use Rattle.step_machine.specs.Machine.{Move as Do}
 use Rattle.tree_specs.specs.declared.event.Event.{Event}
 use Rattle.tree_specs.specs.declared.event.Event.TheVariants.{Fired}
-use Rattle.tree_specs.specs.declared.object.Obj.{Obj}
-use Rattle.tree_specs.specs.declared.moment.What.{What}
-use Rattle.tree_specs.specs.declared.moment.What.TheVariants.{Immediate as ForImmediate, Timer as ForTimer, Descriptor as ForDescriptor}
-use Rattle.tree_specs.specs.declared.handler.Handler.{Handler}
-use Rattle.tree_specs.specs.declared.frame.Frame.{Frame}
+use Rattle.tree_specs.specs.declared.frame.Errand.TheVariants.{Finish, Notify}
 use Rattle.tree_specs.specs.declared.frame.Frame.TheVariants as frame
-use Rattle.tree_specs.specs.declared.frame.CallFrame.{CallFrame}
-use Rattle.tree_specs.specs.declared.frame.CallFrame.TheVariants.{Turning}
-use Rattle.tree_specs.specs.declared.frame.FreeFrame.{FreeFrame}
 use Rattle.tree_specs.specs.declared.frame.TurnFrame.{TurnFrame}
-use Rattle.tree_specs.specs.declared.frame.TurnFrame.TheVariants.{Timing, Timed, Polling, Starting, Firing, Handling, Clearing, Closing}
+use Rattle.tree_specs.specs.declared.frame.TurnFrame.TheVariants.{Taking, Timing, Timed, Polling, Starting, Firing, Handling, Handled, Closing}
+use Rattle.tree_specs.specs.declared.moment.What.TheVariants.{Immediate as ForImmediate, Timer as ForTimer, Descriptor as ForDescriptor}
 use Rattle.tree_specs.specs.declared.question.Ask.{Ask}
-use Rattle.tree_specs.specs.declared.question.Ask.TheVariants.{Quiet, Clock, Wait}
+use Rattle.tree_specs.specs.declared.question.Ask.TheVariants.{Clock, Wait}
 use Rattle.tree_specs.specs.declared.question.Input.{Input}
 use Rattle.tree_specs.specs.declared.question.Input.TheVariants as input
+use Rattle.tree_specs.specs.declared.request.State.TheVariants.{TimedOut}
 use Rattle.tree_specs.specs.Tree.Pool.{Pool}
-use Rattle.tree_specs.specs.declared.occasion.Occasion.{Occasion}
+use Rattle.tree_specs.specs.Events.Coming.{at_time, with_flags, plainly, looks_again}
+use Rattle.tree_specs.specs.Events.Requests.{is_noted}
 use Rattle.tree_specs.specs.Events.Rotation.{Ready, first_ready}
-use Rattle.tree_specs.specs.Events.Coming.{at_time, with_flags, plainly, handler_for, looks_again}
-use Rattle.tree_specs.specs.Machine.View.{View}
+use Rattle.tree_specs.specs.Machine.Table.{Step, come_step}
+use Rattle.tree_specs.specs.Promises.Grounded.{is_asked}
+use Rattle.destructors.specs.Moves.{IsLiveRow}
 use Rattle.loop_core.specs.declared.pick.Pick.{Pick}
 use Rattle.loop_core.specs.declared.pick.Pick.TheVariants as pick
-use Rattle.loop_core.specs.Picks.{clock_pick}
-use Rattle.object_pool.specs.Upcoming.{pool_picked, started}
-use Rattle.destructors.specs.Callers.{OpenTurn, under}
-
--- the turn that waits below all callers is a call of the host's own caller
-abbrev pub turns_of : Option TurnFrame → List OpenTurn
-turns_of None = []
-turns_of (Some f) = record { turn = f; ask = Quiet } ∷ []
-
--- a turn is at work for a call of the caller that was asked this
-abbrev pub turn_view : TurnFrame → Ask → List FreeFrame → List CallFrame → List OpenTurn → Pool → View
-turn_view f q works callers turns p = record { innermost = frame.Turn f; below = frame.Call (Turning q) ∷ under works callers turns; pool = p }
 
 -- what it asks
 abbrev pub turn_asks : TurnFrame → Option Ask
@@ -43,21 +29,40 @@ turn_asks (Timing again) = Some Clock
 turn_asks (Polling limit) = Some (Wait limit)
 turn_asks f = None
 
--- it tells or asks something next
-abbrev pub TurnSpeaks : TurnFrame → Type 0
-TurnSpeaks (Timing again) = Unit {0}
-TurnSpeaks (Polling limit) = Unit {0}
-TurnSpeaks (Firing what x handler occasion) = Unit {0}
-TurnSpeaks f = ⊥
+-- what it tells, and how it goes on
+abbrev pub turn_tells : TurnFrame → Option Event
+turn_tells (Firing what x handler occasion) = Some (Fired what x handler.routine)
+turn_tells f = None
 
--- what is still to do after this was picked
-abbrev pub frame_picked : Bool → Pick → TurnFrame
-frame_picked waited (pick.Soon x) = Starting ForImmediate x plainly
-frame_picked waited (pick.Time x now) = Starting ForTimer x (at_time now)
-frame_picked waited (pick.Descriptor x flags) = Starting ForDescriptor x (with_flags flags)
-frame_picked waited pick.AskClock = Timing waited
-frame_picked waited (pick.AskWait limit) = Polling limit
-frame_picked waited pick.Nothing = Closing 0
+abbrev pub frame_fired : TurnFrame → TurnFrame
+frame_fired (Firing what x handler occasion) = Handling what x handler occasion
+frame_fired f = f
+
+-- it tells or asks something next
+abbrev pub turn_speaks : TurnFrame → Bool
+turn_speaks (Timing again) = true
+turn_speaks (Polling limit) = true
+turn_speaks (Firing what x handler occasion) = true
+turn_speaks f = false
+
+-- what is done after this was picked, where readiness was asked before, or wasn't
+abbrev pub picked_step : Bool → Pick → Pool → Step
+picked_step waited (pick.Soon x) p = come_step (is_noted p.requests x) Notify ForImmediate x plainly p
+picked_step waited (pick.Time x now) p = come_step (is_noted p.requests x) (Finish TimedOut) ForTimer x (at_time now) p
+picked_step waited (pick.Descriptor x flags) p = Do.Go (frame.Turn (Starting ForDescriptor x (with_flags flags))) p
+picked_step waited pick.AskClock p = Do.Go (frame.Turn (Timing waited)) p
+picked_step waited (pick.AskWait limit) p = Do.Go (frame.Turn (Polling limit)) p
+picked_step waited pick.Nothing p = Do.Go (frame.Turn (Closing 0)) p
+
+-- what it may do next without telling or asking
+abbrev pub MayTurn : TurnFrame → Pool → Type 0
+MayTurn Taking p = Unit {0}
+MayTurn (Timed again now) p = Unit {0}
+MayTurn (Starting what x occasion) p = Unit {0}
+MayTurn (Handling what x handler occasion) p = Unit {0}
+MayTurn (Handled what x) p = IsLiveRow p x × (is_asked p x ≡ false)
+MayTurn (Closing v) p = Unit {0}
+MayTurn f p = ⊥
 
 -- after a wait the clock is asked again, or an event comes that waits for what its descriptor is ready for
 abbrev pub frame_ready : Option Ready → TurnFrame
@@ -74,42 +79,8 @@ turn_given (Timing again) (input.Clock now) p = Timed again now
 turn_given (Polling limit) (input.Ready wants) p = frame_looked (looks_again p wants) (first_ready p.ring wants)
 turn_given f i p = f
 
--- what it tells, and how it goes on
-abbrev pub turn_tells : TurnFrame → Option Event
-turn_tells (Firing what x handler occasion) = Some (Fired what x handler.routine)
-turn_tells f = None
-
--- ---- what comes, and its handler
-
--- the handler of what comes is to be told of, where there is one
-abbrev pub frame_started : What → Obj → Occasion → Option Handler → TurnFrame
-frame_started what x occasion None = Closing 1
-frame_started what x occasion (Some handler) = Firing what x handler occasion
-
--- what is still to do once what comes is busy
-abbrev pub frame_arrived : TurnFrame → Pool → TurnFrame
-frame_arrived (Starting what x occasion) p = frame_started what x occasion (handler_for p what x)
-frame_arrived f p = f
-
-abbrev pub pool_arrived : TurnFrame → Pool → Pool
-pool_arrived (Starting what x occasion) p = started (handler_for p what x) what x p
-pool_arrived f p = p
-
--- the clock has told this time: what comes by it is picked
-abbrev pub frame_timed : TurnFrame → ℕ → Pool → TurnFrame
-frame_timed (Timing again) now p = frame_picked again (clock_pick again now p.times)
-frame_timed f now p = Closing now
-
-abbrev pub pool_timed : TurnFrame → ℕ → Pool → Pool
-pool_timed (Timing again) now p = pool_picked (clock_pick again now p.times) p
-pool_timed f now p = p
-
--- a turn is over, or tells or asks something next
-abbrev pub TurnStops : TurnFrame → Type 0
-TurnStops (Closing v) = Unit {0}
-TurnStops f = TurnSpeaks f
-
--- it is looked at what comes, or there is nothing more to look at
-abbrev pub TurnLooks : TurnFrame → Type 0
-TurnLooks (Starting what x occasion) = Unit {0}
-TurnLooks f = TurnStops f
+-- what is still to do once it was told which descriptors are ready, and this was picked
+abbrev pub looked_frame : Pick → TurnFrame
+looked_frame pick.AskClock = Timing true
+looked_frame (pick.Descriptor x flags) = Starting ForDescriptor x (with_flags flags)
+looked_frame picked = Closing 0

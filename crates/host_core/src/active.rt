@@ -1,20 +1,18 @@
 //! What is at work in a host, above all that waits.
-ghost use Rattle.std.specs.Prelude.{◌≡◌, ◌↔◌, Some, IsSome, IsTrue, is_none, true};
+ghost use Rattle.std.specs.Prelude.{◌≡◌, List, is_none};
 ghost use Rattle.std.specs.Option.{option_copied};
-ghost use Rattle.tree_specs.specs.declared.question.Ask.{Ask as AskData};
-ghost use Rattle.tree_specs.specs.declared.frame.CallFrame.TheVariants.{Telling};
 ghost use Rattle.tree_specs.specs.Texts.Schedule.{misfit};
-ghost use Rattle.host_core.specs.Hosts.{remembers, caller_asked, asked_now, is_quiet, is_reaching, StandsAs};
-ghost use Rattle.host_core.specs.declared.reach.Reach.{Reach as ReachData};
-ghost use Rattle.host_core.specs.Moves.{telling, announcing};
+ghost use Rattle.host_core.specs.Hosts.{asked_now, view_of, speaking_view, IsSettled};
+ghost use Rattle.host_core.specs.Requests.{work_speaks};
+ghost use Rattle.host_core.specs.Turns.{turn_speaks};
+ghost use Rattle.host_core.specs.declared.waiting.Waiting.{Waiting as WaitingData};
 
 use crate::caller::{Caller, Stage};
-use crate::owned_reply::OwnedReply;
-use crate::reach::{Reach, takes};
-use crate::short_reply::ShortReply;
+use crate::reach::takes;
 use crate::turn::Turn;
-use std::mem;
-use tree_specs::{Ask, Input, Notice};
+use crate::work::Work;
+use object_pool::ObjectPool;
+use tree_specs::{Ask, Input, TurnFrame};
 
 /// What is at work, above all that waits.
 #[derive(Debug, Drop)]
@@ -26,7 +24,30 @@ pub enum Active {
     /// A turn of the event loop.
     Turning(Turn),
     /// A question to the outside.
-    Reaching(Reach),
+    Reaching(Ask),
+    /// The work of a request.
+    Requesting(Work),
+}
+
+/// Whether a turn tells or asks something next.
+fn turn_speaks(frame: TurnFrame) -> bool
+    ensures { result ≡ turn_speaks frame }
+{
+    matches!(
+        frame,
+        TurnFrame::Timing { .. } | TurnFrame::Polling { .. } | TurnFrame::Firing { .. }
+    )
+}
+
+/// Whether the work of a request tells something next.
+fn work_speaks(work: Work, objects: &ObjectPool) -> bool
+    ensures { result ≡ work_speaks work objects.now.pool }
+{
+    match work {
+        Work::Finishing { .. } | Work::Calling { .. } => true,
+        Work::Receiving { x } => objects.is_unreceived(x),
+        _ => false,
+    }
 }
 
 impl Active {
@@ -42,7 +63,7 @@ impl Active {
                 },
             ) => Some(ask),
             Active::Turning(turn) => turn.question.as_ref(),
-            Active::Reaching(reach) => Some(&reach.question),
+            Active::Reaching(question) => Some(question),
             _ => None,
         }
     }
@@ -57,82 +78,16 @@ impl Active {
         }
     }
 
-    /// Something else is at work from now on.
-    pub fn go_to(&mut self, next: Active)
-        ensures { self.new ≡ next }
+    /// Whether an event or a question comes with the next step.
+    pub fn speaks(&self, objects: &ObjectPool) -> bool
+        requires { IsSettled self.now objects.now }
+        ensures { (waiting : List WaitingData) → result ≡ speaking_view (view_of self.now waiting objects.now) }
     {
-        *self = next;
-    }
-
-    /// Whether a free is at work.
-    pub fn is_freeing(&self) -> bool
-        ensures { IsTrue result ↔ (self.now ≡ Active.Freeing) }
-    {
-        matches!(self, Active::Freeing)
-    }
-
-    /// Whether a question to the outside is open.
-    pub fn is_reaching(&self) -> bool
-        ensures { result ≡ is_reaching self.now }
-    {
-        matches!(self, Active::Reaching(_))
-    }
-
-    /// The outside has answered with a reply that owns memory, which comes next to the caller that asked.
-    pub fn hear(&mut self, reply: OwnedReply)
-        requires { is_reaching self.old ≡ true }
-        ensures { (r : ReachData) → self.old ≡ Active.Reaching r → StandsAs self.new (Telling (remembers r.caller reply.copy) reply.reply) }
-    {
-        if let Active::Reaching(Reach { caller, .. }) = mem::replace(self, Active::Freeing) {
-            let mut caller = Caller {
-                ask: caller,
-                stage: Stage::Asking,
-            };
-            caller.reply_whole(reply.reply, reply.copy);
-            self.go_to(Active::Caller(caller));
-        }
-    }
-
-    /// Whether the host's own caller is at work.
-    pub fn is_quiet(&self) -> bool
-        ensures { (q : AskData) → caller_asked self.now ≡ Some q → result ≡ is_quiet q }
-    {
-        matches!(
-            self,
-            Active::Caller(Caller {
-                ask: Ask::Quiet,
-                ..
-            })
-        )
-    }
-
-    /// The reply to the call of the caller that was asked comes next.
-    pub fn reply(&mut self, reply: ShortReply)
-        requires { IsSome (caller_asked self.old) }
-        ensures { (q : AskData) → caller_asked self.old ≡ Some q → StandsAs self.new (telling q reply) }
-    {
-        if let Active::Caller(caller) = self {
-            caller.reply(reply);
-        }
-    }
-
-    /// A notice comes next, and then the reply to the call of the caller that was asked.
-    pub fn announce(&mut self, notice: Notice, reply: ShortReply)
-        requires { IsSome (caller_asked self.old) }
-        ensures { (q : AskData) → caller_asked self.old ≡ Some q → StandsAs self.new (announcing q notice reply) }
-    {
-        if let Active::Caller(caller) = self {
-            caller.announce(notice, reply);
-        }
-    }
-
-    /// A report comes next to the caller that was asked.
-    pub fn report(&mut self, report: OwnedReply)
-        requires { IsSome (caller_asked self.old) }
-        ensures { (q : AskData) → caller_asked self.old ≡ Some q → StandsAs self.new (Telling (remembers q report.copy) report.reply) }
-    {
-        if let Active::Caller(caller) = self {
-            caller.reply_whole(report.reply, report.copy);
+        match self {
+            Active::Caller(_) | Active::Reaching(_) => true,
+            Active::Freeing => objects.announces(),
+            Active::Turning(turn) => turn_speaks(turn.frame),
+            Active::Requesting(work) => work_speaks(*work, objects),
         }
     }
 }

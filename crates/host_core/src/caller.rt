@@ -1,21 +1,19 @@
 //! Callers: each is asked, does a call, and is told the reply.
 ghost use Rattle.std.specs.Prelude.{◌≡◌, ℕ};
 ghost use Rattle.tree_specs.specs.declared.frame.CallFrame.TheVariants.{Asking, Telling};
-ghost use Rattle.tree_specs.specs.declared.frame.Answer.TheVariants.{Freed};
 ghost use Rattle.tree_specs.specs.declared.question.Ask.TheVariants.{Routine};
 ghost use Rattle.tree_specs.specs.Tree.Pool.{row_of};
 ghost use Rattle.tree_specs.specs.Invariants.Sound.{HasHook};
 ghost use Rattle.tree_specs.specs.Rules.Answers.{later, hook_moment};
-ghost use Rattle.tree_specs.specs.Machine.Table.{caller_resume};
-ghost use Rattle.host_core.specs.Hosts.{frame_of, awaiting, after_telling, told_by, remembers};
+ghost use Rattle.tree_specs.specs.Events.Coming.{handler_moment};
+ghost use Rattle.host_core.specs.Callers.{frame_of, after_telling, told_by, remembers};
 ghost use Rattle.host_core.specs.Moves.{reply_of, telling, announcing};
-ghost use Rattle.tree_specs.specs.Rules.Story.{notice_event};
+ghost use Rattle.tree_specs.specs.Rules.Pieces.{notice_event};
 
-use crate::calls::freed;
 use crate::short_reply::ShortReply;
 use object_pool::ObjectPool;
 use std::mem;
-use tree_specs::{Ask, Event, FreeReply, Moment, Notice, Obj, Reply, What};
+use tree_specs::{Ask, Event, Handler, Moment, Notice, Obj, Occasion, Reply, What};
 
 /// One that is asked for calls, and is told the reply to each. It is known by its question.
 #[derive(Debug, Drop)]
@@ -33,13 +31,6 @@ pub enum Stage {
     Telling(Reply),
     /// The notice, and then the reply.
     Announcing(Notice, Reply),
-}
-
-/// A caller whose call waits for the freeing of an object, or of its children.
-#[derive(Debug, Drop)]
-pub struct Waiting {
-    pub ask: Ask,
-    pub x: Obj,
 }
 
 /// The event by which a notice is told.
@@ -81,18 +72,17 @@ fn remember_copy(ask: &mut Ask, copy: Option<Reply>)
 }
 
 impl Caller {
-    /// The run of an object's destructor, at its first moment.
-    pub fn run(x: Obj, objects: &ObjectPool) -> Caller
-        ensures { (h : ℕ) → HasHook (row_of objects.now.pool.rows x) h → frame_of result ≡ Asking (Routine (hook_moment x h)) }
+    /// The run of this routine for an object, at its first moment.
+    pub fn routine(what: What, object: Obj, handler: Handler, occasion: Occasion) -> Caller
+        ensures { frame_of result ≡ Asking (Routine (handler_moment what object handler occasion)) }
     {
-        let routine = objects.row(x).map_or(0, |row| row.hook);
         let moment = Moment {
-            what: What::Hook,
-            object: x,
-            routine,
-            user: 0,
-            now: 0,
-            flags: 0,
+            what,
+            object,
+            routine: handler.routine,
+            user: handler.user,
+            now: occasion.now,
+            flags: occasion.flags,
             step: 0,
             last: None,
         };
@@ -100,6 +90,16 @@ impl Caller {
             ask: Ask::Routine(moment),
             stage: Stage::Asking,
         }
+    }
+
+    /// The run of an object's destructor, at its first moment.
+    pub fn destructor(x: Obj, objects: &ObjectPool) -> Caller
+        ensures { (h : ℕ) → HasHook (row_of objects.now.pool.rows x) h → frame_of result ≡ Asking (Routine (hook_moment x h)) }
+    {
+        let routine = objects.row(x).map_or(0, |row| row.hook);
+        let handler = Handler { routine, user: 0 };
+        let plainly = Occasion { now: 0, flags: 0 };
+        Caller::routine(What::Hook, x, handler, plainly)
     }
 
     /// The reply to its call comes next, and the caller remembers it.
@@ -130,6 +130,18 @@ impl Caller {
         caller
     }
 
+    /// A caller who is told a notice, and then this reply.
+    pub fn announcing(ask: Ask, notice: Notice, reply: ShortReply) -> Caller
+        ensures { frame_of result ≡ announcing ask notice reply }
+    {
+        let mut caller = Caller {
+            ask,
+            stage: Stage::Asking,
+        };
+        caller.announce(notice, reply);
+        caller
+    }
+
     /// A reply that owns memory comes next. A routine remembers the copy.
     pub fn reply_whole(&mut self, reply: Reply, copy: Option<Reply>)
         ensures { frame_of self.new ≡ Telling (remembers self.old.ask copy) reply }
@@ -151,14 +163,5 @@ impl Caller {
                 Some(event_of(notice))
             }
         }
-    }
-}
-
-impl Waiting {
-    /// The caller goes on, once the free that it has waited for has answered.
-    pub fn resumed(self, answer: FreeReply) -> Caller
-        ensures { frame_of result ≡ caller_resume (awaiting self) (Freed answer) }
-    {
-        Caller::after(self.ask, freed(self.x, answer))
     }
 }

@@ -1,11 +1,14 @@
 //! The steps of a caller: a call is done, or its reply is there.
-ghost use Rattle.std.specs.Prelude.{◌≡◌, None, true};
+ghost use Rattle.std.specs.Prelude.{◌≡◌, Bool, None, true};
 ghost use Rattle.tree_specs.specs.Calls.Refusals.{tests, refusals};
 ghost use Rattle.tree_specs.specs.Calls.Passed.{AllPassed};
-ghost use Rattle.tree_specs.specs.Calls.Plans.{plan, places as places_of, warns as worth_a_warning};
+ghost use Rattle.tree_specs.specs.Calls.Plans.{plan, places as places_of, warns as worth_a_warning, replies, failure_reply, progress_reply, fails};
 ghost use Rattle.tree_specs.specs.declared.call.Call.TheVariants.{Free as FreeOf, Close as CloseOf};
 ghost use Rattle.tree_specs.specs.declared.question.Ask.{Ask as AskData};
-ghost use Rattle.host_core.specs.declared.motion.Motion.TheVariants.{Replies};
+ghost use Rattle.host_core.specs.declared.motion.Motion.TheVariants.{Replies, Works};
+ghost use Rattle.tree_specs.specs.declared.frame.Errand.TheVariants.{Finish as FinishOf};
+ghost use Rattle.tree_specs.specs.Tree.Pool.{Pool as PoolData};
+ghost use Rattle.host_core.specs.Requests.{IsRelease, IsReleaseBy};
 ghost use Rattle.host_core.specs.declared.short_reply.ShortReply.TheVariants.{Number as NumberReply};
 ghost use Rattle.tree_specs.specs.Rules.Answers.{freed_reply};
 ghost use Rattle.tree_specs.specs.Machine.Table.{call_step, plan_step};
@@ -17,7 +20,9 @@ use crate::motion::Motion;
 use crate::refusals::check;
 use crate::short_reply::ShortReply;
 use object_pool::ObjectPool;
-use tree_specs::{Ask, Call, FreeReply, Handler, Kind, Name, Notice, Obj, Owner, Refusal};
+use tree_specs::{
+    Ask, Call, Errand, FreeReply, Handler, Kind, Name, Note, Notice, Obj, Owner, Refusal, State,
+};
 
 /// The reply to a call that has freed.
 pub fn freed(x: Obj, answer: FreeReply) -> ShortReply
@@ -57,6 +62,7 @@ fn give(x: Obj, owner: Owner, reply: ShortReply, pool: &mut ObjectPool) -> Motio
 /// Frees an object to which there is no reference. The one reference to an object of the root's is dropped instead.
 fn free(x: Obj, pool: &ObjectPool) -> Motion
     ensures goes { ReadyFor result true }
+    ensures releases { IsReleaseBy (plan pool.now.pool (FreeOf x)) (Some result) }
     ensures moved { (q : AskData) → move_of q result pool.now.pool ≡ plan_step q (plan pool.now.pool (FreeOf x)) pool.now.pool }
 {
     match pool.newest(x) {
@@ -80,6 +86,62 @@ fn number(n: u64) -> Motion
     ensures { result ≡ Replies (NumberReply n) }
 {
     Motion::Replies(ShortReply::Number(n))
+}
+
+/// How a request has failed: 0 where it is done, and else the number of its state and that of its failure.
+fn failure(note: Option<Note>) -> Motion
+    ensures moved { (q : AskData) (p : PoolData) → move_of q result p ≡ plan_step q (replies (failure_reply note)) p }
+    ensures goes { (ready : Bool) → ReadyFor result ready }
+{
+    let Some(note) = note else {
+        return number(0);
+    };
+    if note.state == State::Done {
+        return number(0);
+    }
+    Motion::Replies(ShortReply::Pair(u64::from(note.state.number()), note.error))
+}
+
+/// 1 where a request is in progress, and else 0.
+fn progress(note: Option<Note>) -> Motion
+    ensures moved { (q : AskData) (p : PoolData) → move_of q result p ≡ plan_step q (replies (progress_reply note)) p }
+    ensures goes { (ready : Bool) → ReadyFor result ready }
+{
+    let is_in_progress = note.is_some_and(|note| note.state == State::InProgress);
+    number(u64::from(is_in_progress))
+}
+
+/// A request fails with a number; with 0 it doesn't.
+fn fail(x: Obj, error: u64, pool: &mut ObjectPool) -> Motion
+    requires { pool.old.ready ≡ true }
+    ensures goes { ReadyFor result pool.old.ready }
+    ensures ready { pool.new.ready ≡ pool.old.ready }
+    ensures works { pool.new.works ≡ pool.old.works }
+    ensures moved { (q : AskData) → move_of q result pool.new.pool ≡ plan_step q (fails x error) pool.old.pool }
+{
+    if error == 0 {
+        return number(0);
+    }
+    pool.set_error(x, error);
+    Motion::Works(Errand::Finish(State::UserError), x)
+}
+
+/// What is done with a request.
+fn finish(x: Obj, state: State) -> Motion
+    ensures { result ≡ Works (FinishOf state) x }
+{
+    Motion::Works(Errand::Finish(state), x)
+}
+
+/// Frees what a request was made with, as a call does, where this isn't refused. None where it is.
+#[tactic(auto, using(crate::proofs::Allowed::allowed_release, crate::proofs::Allowed::refused_release))]
+pub fn release(child: Obj, pool: &ObjectPool) -> Option<Motion>
+    ensures { IsRelease child pool.now.pool result }
+{
+    match check(&Call::Free { x: child }, pool) {
+        Ok(()) => Some(free(child, pool)),
+        Err(_) => None,
+    }
 }
 
 /// Does a call that isn't refused, and takes no memory for its reply.
@@ -136,6 +198,20 @@ fn effect(call: Call, pool: &mut ObjectPool) -> Motion
         Call::Now => return Motion::Asks(Ask::Clock),
         Call::Turn => return Motion::Turns,
         Call::Pending => return number(pool.pending()),
+        Call::Req { owner, size, name } => return number(pool.add_request(owner, size, name).0),
+        Call::Cancel { x } => return Motion::Works(Errand::Cancel, x),
+        Call::Done { x } => return finish(x, State::Done),
+        Call::Oom { x } => return finish(x, State::NoMemory),
+        Call::Error { x, error } => return fail(x, error, pool),
+        Call::Received { x } => return Motion::Works(Errand::Receive, x),
+        Call::Iserror { x } => return failure(pool.note(x)),
+        Call::Progress { x } => return progress(pool.note(x)),
+        Call::Callback { x, routine, user } => pool.set_callback(x, routine, user),
+        Call::Defer { x } => pool.defer(x),
+        Call::Cleanup { x, routine } => pool.set_cleanup(x, routine),
+        Call::Setcancel { x, routine } => pool.set_cancel(x, routine),
+        Call::Post { x } => pool.post(x),
+        Call::Endtime { x, time } => pool.set_end_time(x, time),
         Call::Schedule { x, routine: 0, .. } | Call::Unschedule { x } => pool.unschedule(x),
         Call::Schedule { x, routine, user } => pool.schedule(x, Handler { routine, user }),
         Call::Flags { x, flags } => pool.set_flags(x, flags),

@@ -3,12 +3,16 @@ ghost use Rattle.std.specs.Prelude.{◌≡◌, ◌<◌, [], ◌∷◌, IsOk};
 ghost use Rattle.std.specs.Option.{option_copied};
 ghost use Rattle.tree_specs.specs.Calls.Refusals.{checked, small, owner, object_row, plain, immediate, descriptor, open_one, unused, room, staying, lasting, still, apart, held, interested, given_by, unreferenced, growing, size_limit, refusal_of, refused};
 
+use crate::request_checks::{
+    check_failing, check_finished, check_in_progress, check_number, check_referable, check_request,
+};
 use crate::subject::Subject;
 use object_pool::ObjectPool;
 use tree_specs::Test::{
-    Fits, HasRoom, IsDescriptor, IsImmediate, IsInterested, IsNotDoomed, IsNotDying, IsNotInside,
-    IsNotRunning, IsObject, IsOpen, IsOwner, IsPlain, IsSmall, IsUnheld, IsUnreferenced,
-    IsUnwatched, MayGive, MayGrow,
+    Fits, HasNumber, HasRoom, IsDescriptor, IsFinished, IsImmediate, IsInProgress, IsInterested,
+    IsNotDoomed, IsNotDying, IsNotInside, IsNotRunning, IsObject, IsOpen, IsOwner, IsPlain,
+    IsReferable, IsRequest, IsSmall, IsUnheld, IsUnreferenced, IsUnwatched, MayFail, MayGive,
+    MayGrow,
 };
 use tree_specs::{Kind, Mark, Obj, Owner, ROW_LIMIT, Refusal, Row, SIZE_LIMIT, Test};
 
@@ -254,6 +258,12 @@ fn check_test(test: Test, objects: &Subject) -> Result<(), Refusal>
         IsPlain(x) => check_plain(x, objects),
         IsImmediate(x) => check_immediate(x, objects),
         IsDescriptor(x) => check_descriptor(x, objects),
+        IsRequest(x) => check_request(x, objects),
+        IsReferable(x) => check_referable(x, objects),
+        HasNumber => check_number(objects.pool()),
+        IsInProgress(x) => check_in_progress(x, objects.pool()),
+        IsFinished(x) => check_finished(x, objects.pool()),
+        MayFail(x, error) => check_failing(x, error, objects.pool()),
         IsOpen(fd) => check_open(fd, objects.pool()),
         IsUnwatched(fd) => check_unwatched(fd, objects.pool()),
         HasRoom(rows) => check_room(rows, objects.pool()),

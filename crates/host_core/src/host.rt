@@ -1,4 +1,7 @@
-ghost use Rattle.std.specs.Prelude.{◌≡◌, ◌≤◌, ◌<◌, ◌↔◌, true, Some, Err, IsTrue, IsSome, IfOk, OnOk, OnErr, length, vec_capacity};
+ghost use Rattle.object_pool.specs.Requests.{count_unreceived};
+ghost use Rattle.requests.specs.Register.{AreInOrder};
+ghost use Rattle.host_core.specs.Hosts.{IsSettled, Tells};
+ghost use Rattle.std.specs.Prelude.{◌≡◌, ◌+◌, ◌*◌, ◌≤◌, ◌<◌, ◌↔◌, true, Some, Err, IsTrue, IsSome, IfOk, OnOk, OnErr, length, vec_capacity};
 ghost use Rattle.std.specs.Option.{option_copied};
 ghost use Rattle.tree_specs.specs.declared.schedule.Reason.TheVariants as reasons;
 ghost use Rattle.tree_specs.specs.Texts.Schedule.{misfit};
@@ -6,30 +9,47 @@ ghost use Rattle.tree_specs.specs.Words.Ranges.{is_sound};
 ghost use Rattle.tree_specs.specs.Machine.View.{begin, question_of};
 
 use crate::active::Active;
-use crate::caller::{Caller, Stage, Waiting};
+use crate::caller::{Caller, Stage};
 use crate::fault::OfferFault;
 use crate::parts::Parts;
-use crate::reach::{is_bytes, read_on};
+use crate::reach::is_bytes;
+use crate::replies::{read_on, report_on};
 use crate::reports::{made_report, report_owner};
-use crate::turns::fire;
+use crate::waiting::Waiting;
+use crate::working::tell_work;
 use crate::works::{answer_on, settle};
-use object_pool::{ObjectPool, Progress};
+use object_pool::ObjectPool;
 use std::alloc::Global;
 use std::marker::Model;
 use tree_specs::{Ask, Event, Input, Kind, Memory, Obj, Owner, Want};
 
-/// Takes the memory for all that comes up to the next question. If memory runs out, callers and objects are as they
-/// were.
-fn make_room(callers: &mut Vec<Waiting>, objects: &mut ObjectPool) -> Result<(), Memory>
-    ensures callers { callers.new.items ≡ callers.old.items }
-    ensures kept { vec_capacity callers.old ≤ vec_capacity callers.new }
-    ensures place { OnOk result (length callers.new.items < vec_capacity callers.new) }
+/// Takes the memory for all that comes up to the next question: each request that wasn't received may want two places, and what
+/// is at work three. If memory runs out, the works and the objects are as they were.
+fn make_room(waiting: &mut Vec<Waiting>, objects: &mut ObjectPool) -> Result<(), Memory>
+    ensures waiting { waiting.new.items ≡ waiting.old.items }
+    ensures kept { vec_capacity waiting.old ≤ vec_capacity waiting.new }
+    ensures places { OnOk result (length waiting.new.items + 2 * count_unreceived objects.old.pool.requests + 3 ≤ vec_capacity waiting.new) }
     ensures ok { OnOk result (objects.new ≡ record objects.old { ready = true }) }
     ensures err { OnErr result (objects.new ≡ objects.old) }
+    ensures order { AreInOrder objects.old.pool.requests }
 {
-    callers.reserve(1)?;
-    objects.reserve()?;
-    Ok(())
+    let places = objects.count_requests().checked_mul(2).ok_or(Memory)?;
+    waiting.reserve(places.checked_add(3).ok_or(Memory)?)?;
+    objects.reserve()
+}
+
+/// Tells what comes next of what is at work. None where a question is open, and then nothing changes.
+fn tell(now: &mut Active, objects: &mut ObjectPool) -> Option<Event>
+    requires { IsSettled now.old objects.old }
+    ensures { Tells result now.old objects.old now.new objects.new }
+{
+    match now {
+        Active::Caller(caller) => caller.tell(),
+        Active::Freeing => objects.step().event,
+        Active::Turning(turn) => turn.tell(),
+        Active::Reaching(_) => None,
+        Active::Requesting(work) => tell_work(work, objects),
+    }
 }
 
 /// A tree of objects as a state machine. Contracts see its open works, the innermost first, over a pool, and
@@ -72,7 +92,6 @@ impl Host {
     ghost use Rattle.tree_specs.specs.Machine.View.{rest_of};
 
     /// A host with no objects, whose first one gets the number `first`. It waits for a call.
-    #[tactic(auto, using(crate::proofs::StepsSilently::begin_waits))]
     pub fn new(alloc: Global, first: u64) -> Result<Host, Memory>
         requires { 1 ≤ first }
         ensures begins { IfOk result (λ host. host ≡ begin first) }
@@ -84,8 +103,7 @@ impl Host {
                 stage: Stage::Asking,
             }),
             parts: Parts {
-                callers: Vec::new(alloc),
-                turn: None,
+                waiting: Vec::new(alloc),
                 objects: ObjectPool::new(alloc, first)?,
             },
         })
@@ -156,16 +174,9 @@ impl Host {
     pub fn next(&mut self) -> Option<Event>
         ensures { NextLaw result self.old self.new }
     {
-        match &mut self.active {
-            Active::Caller(caller) => caller.tell(),
-            Active::Freeing => {
-                let Progress { event, .. } = self.parts.objects.step();
-                settle(&mut self.active, &mut self.parts);
-                event
-            }
-            Active::Turning(_) => fire(&mut self.active, &mut self.parts.turn),
-            Active::Reaching(_) => None,
-        }
+        let event = tell(&mut self.active, &mut self.parts.objects)?;
+        settle(&mut self.active, &mut self.parts);
+        Some(event)
     }
 
     /// The descriptor that was accepted, where it is open already.
@@ -196,21 +207,17 @@ impl Host {
         if let Some(fd) = self.taken(&input) {
             return Err(OfferFault::Taken(fd));
         }
-        let Parts {
-            callers,
-            objects,
-            ..
-        } = &mut self.parts;
+        let Parts { waiting, objects } = &mut self.parts;
         if let Some(owner) = report_owner(&input) {
-            let report = made_report(*callers.allocator(), &input, owner, objects)?;
-            self.active.report(report);
+            let report = made_report(*waiting.allocator(), &input, owner, objects)?;
+            report_on(&mut self.active, report);
             return Ok(());
         }
         if is_bytes(&input) {
-            read_on(&mut self.active, *callers.allocator(), input)?;
+            read_on(&mut self.active, input, &mut self.parts)?;
             return Ok(());
         }
-        make_room(callers, objects)?;
+        make_room(waiting, objects)?;
         answer_on(&mut self.active, input, &mut self.parts);
         settle(&mut self.active, &mut self.parts);
         Ok(())

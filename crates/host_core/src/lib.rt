@@ -2,6 +2,7 @@
 #![tactic(auto)]
 
 mod active;
+mod answer;
 mod caller;
 mod calls;
 mod checks;
@@ -12,13 +13,19 @@ mod owned_reply;
 mod parts;
 mod reach;
 mod refusals;
+mod replies;
 mod reports;
+mod request_checks;
 mod short_reply;
+mod step;
 mod subject;
 #[cfg(test)]
 mod tests;
 mod turn;
 mod turns;
+mod waiting;
+mod work;
+mod working;
 mod works;
 
 pub use fault::OfferFault;

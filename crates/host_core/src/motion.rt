@@ -1,5 +1,5 @@
 use crate::short_reply::ShortReply;
-use tree_specs::{Ask, Notice, Obj, Owner};
+use tree_specs::{Ask, Errand, Notice, Obj, Owner};
 
 /// What a call does first.
 #[derive(Debug, Drop)]
@@ -18,4 +18,6 @@ pub enum Motion {
     Asks(Ask),
     /// A turn of the event loop begins, and the caller waits; a routine is refused one.
     Turns,
+    /// This is done for a request, and the caller waits.
+    Works(Errand, Obj),
 }

@@ -1,32 +1,15 @@
 //! Questions to the outside: a call asks the clock or a descriptor, and the answer is its reply.
-ghost use Rattle.std.specs.Prelude.{◌≡◌, Some, IfOk, OnOk, OnErr, IsSome, ℕ, List, is_none, is_some, true, false};
-ghost use Rattle.tree_specs.specs.declared.question.Ask.{Ask as AskData};
-ghost use Rattle.tree_specs.specs.declared.question.Input.TheVariants as inputs;
+ghost use Rattle.std.specs.Prelude.{◌≡◌, IfOk, is_some, true};
 ghost use Rattle.tree_specs.specs.Calls.Given.{given_to, bytes_read, bytes_written};
-ghost use Rattle.tree_specs.specs.Invariants.Consistent.{IsConsistent};
-ghost use Rattle.tree_specs.specs.Texts.Schedule.{misfit};
 ghost use Rattle.tree_specs.specs.declared.reply.Reply.TheVariants.{Bytes as BytesReply};
-ghost use Rattle.host_core.specs.Hosts.{asked_now, caller_asked, given_view, host_view, is_reaching, remembers, StandsAs, PartsReady, TellsSameStory, IsBetweenSteps};
-ghost use Rattle.tree_specs.specs.declared.frame.CallFrame.TheVariants.{Telling};
-ghost use Rattle.host_core.specs.declared.reach.Reach.{Reach as ReachData};
-ghost use Rattle.host_core.specs.Reaches.{remembered, is_bytes, IsShortAnswer, HeardShort};
+ghost use Rattle.host_core.specs.Reaches.{remembered, is_bytes, IsShortAnswer, short_answer, pool_heard};
+ghost use Rattle.tree_specs.specs.declared.question.Input.TheVariants as inputs;
 
-use crate::active::Active;
-use crate::caller::Caller;
 use crate::owned_reply::OwnedReply;
-use crate::parts::Parts;
 use crate::short_reply::ShortReply;
+use object_pool::ObjectPool;
 use std::alloc::Global;
-use std::mem;
 use tree_specs::{Ask, Input, Memory, Octets, Reply};
-
-/// A question to the outside that is open.
-#[derive(Debug, Drop)]
-pub struct Reach {
-    pub question: Ask,
-    /// The question of the caller whose call it is.
-    pub caller: Ask,
-}
 
 /// Whether so many bytes are no more than were asked for.
 fn is_within(bytes: &Octets, most: u32) -> bool
@@ -60,33 +43,18 @@ pub fn takes(ask: &Ask, input: &Input) -> bool
     }
 }
 
-/// The caller that was asked waits for what the outside answers to this.
-pub fn ask_outside(now: &mut Active, question: Ask)
-    requires { IsSome (caller_asked now.old) }
-    ensures { (q : AskData) → caller_asked now.old ≡ Some q → now.new ≡ Active.Reaching (record { question = question; caller = q }) }
-{
-    match mem::replace(now, Active::Freeing) {
-        Active::Caller(Caller { ask, .. }) => {
-            now.go_to(Active::Reaching(Reach {
-                question,
-                caller: ask,
-            }));
-        }
-        _ => unreachable!(),
-    }
-}
-
 /// The outside has answered, with what takes no memory: it is the reply to the call that asked. A descriptor that was accepted
 /// is open from then on.
-fn heard(input: Input, parts: &mut Parts) -> ShortReply
+pub fn heard(input: Input, objects: &mut ObjectPool) -> ShortReply
     requires short { IsShortAnswer input }
-    requires room { parts.old.objects.ready ≡ true }
-    ensures { HeardShort input parts.old result parts.new }
+    requires room { objects.old.ready ≡ true }
+    ensures reply { result ≡ short_answer input }
+    ensures pool { objects.new ≡ record objects.old { pool = pool_heard input objects.old.pool; ready = objects.new.ready } }
 {
     match input {
         Input::Clock(time) => ShortReply::Number(time),
         Input::Took(fd) => {
-            parts.objects.open(fd);
+            objects.open(fd);
             ShortReply::Number(u64::from(fd))
         }
         Input::Wrote(n) => ShortReply::Number(u64::from(n)),
@@ -97,22 +65,20 @@ fn heard(input: Input, parts: &mut Parts) -> ShortReply
     }
 }
 
-/// The outside was asked, and has answered with what takes no memory.
-pub fn hear_on(now: &mut Active, input: Input, parts: &mut Parts)
-    requires fits { is_none (misfit (asked_now now.old) input) ≡ true }
-    requires ready { PartsReady now.old parts.old.objects }
-    requires no_bytes { is_bytes input ≡ false }
-    requires room { parts.old.objects.ready ≡ true }
-    requires reaching { is_reaching now.old ≡ true }
-    requires whole { IsConsistent (given_view now.old input parts.old) }
-    ensures along { TellsSameStory (given_view now.old input parts.old) (host_view now.new parts.new) }
-    ensures ready { IsBetweenSteps now.new parts.new }
+/// Whether these are bytes that were read: the one answer of the outside that owns memory.
+pub fn is_bytes(input: &Input) -> bool
+    ensures { result ≡ is_bytes input.now }
 {
-    let reply = heard(input, parts);
-    match mem::replace(now, Active::Freeing) {
-        Active::Reaching(Reach { caller, .. }) => {
-            now.go_to(Active::Caller(Caller::after(caller, reply)));
-        }
+    matches!(input, Input::Got(_))
+}
+
+/// The bytes that were read.
+pub fn bytes_in(input: Input) -> Octets
+    requires { is_bytes input ≡ true }
+    ensures { input ≡ inputs.Got result }
+{
+    match input {
+        Input::Got(bytes) => bytes,
         _ => unreachable!(),
     }
 }
@@ -129,45 +95,12 @@ fn copy_of(alloc: Global, caller: &Ask, bytes: &Octets) -> Result<Option<Reply>,
 }
 
 /// These bytes were read: the reply to the call that asked for them.
-fn made_bytes(alloc: Global, reach: &Reach, bytes: Octets) -> Result<OwnedReply, Memory>
-    ensures { IfOk result (λ r. r ≡ record { reply = BytesReply bytes; copy = remembered reach.now.caller (BytesReply bytes) }) }
+pub fn made_bytes(alloc: Global, caller: &Ask, bytes: Octets) -> Result<OwnedReply, Memory>
+    ensures { IfOk result (λ r. r ≡ record { reply = BytesReply bytes; copy = remembered caller.now (BytesReply bytes) }) }
 {
-    let copy = copy_of(alloc, &reach.caller, &bytes)?;
+    let copy = copy_of(alloc, caller, &bytes)?;
     Ok(OwnedReply {
         reply: Reply::Bytes(bytes),
         copy,
     })
-}
-
-/// Whether these are bytes that were read: the one answer of the outside that owns memory.
-pub fn is_bytes(input: &Input) -> bool
-    ensures { result ≡ is_bytes input.now }
-{
-    matches!(input, Input::Got(_))
-}
-
-/// The bytes that were read.
-fn bytes_in(input: Input) -> Octets
-    requires { is_bytes input ≡ true }
-    ensures { input ≡ inputs.Got result }
-{
-    match input {
-        Input::Got(bytes) => bytes,
-        _ => unreachable!(),
-    }
-}
-
-/// It was asked for bytes, and these were read. When memory runs out, nothing has changed.
-pub fn read_on(now: &mut Active, alloc: Global, input: Input) -> Result<(), Memory>
-    requires reaching { is_reaching now.old ≡ true }
-    requires bytes { is_bytes input ≡ true }
-    ensures ok { OnOk result ((r : ReachData) (bytes : List ℕ) → now.old ≡ Active.Reaching r → input ≡ inputs.Got bytes → StandsAs now.new (Telling (remembers r.caller (remembered r.caller (BytesReply bytes))) (BytesReply bytes))) }
-    ensures err { OnErr result (now.new ≡ now.old) }
-{
-    let Active::Reaching(reach) = now else {
-        unreachable!();
-    };
-    let heard = made_bytes(alloc, reach, bytes_in(input))?;
-    now.hear(heard);
-    Ok(())
 }

@@ -8,9 +8,10 @@ use crate::checks::{check_open, check_owner, check_row, check_size, check_three,
 use crate::subject::Subject;
 use object_pool::ObjectPool;
 use tree_specs::Test::{
-    Fits, HasRoom, IsDescriptor, IsImmediate, IsInterested, IsNotDoomed, IsNotDying, IsNotInside,
-    IsNotRunning, IsObject, IsOpen, IsOwner, IsPlain, IsSmall, IsUnheld, IsUnreferenced,
-    IsUnwatched, MayGive, MayGrow,
+    Fits, HasNumber, HasRoom, IsDescriptor, IsFinished, IsImmediate, IsInProgress, IsInterested,
+    IsNotDoomed, IsNotDying, IsNotInside, IsNotRunning, IsObject, IsOpen, IsOwner, IsPlain,
+    IsReferable, IsRequest, IsSmall, IsUnheld, IsUnreferenced, IsUnwatched, MayFail, MayGive,
+    MayGrow,
 };
 use tree_specs::{Call, OVERHEAD, Obj, Owner, Refusal, Test};
 
@@ -27,6 +28,31 @@ fn check_new(owner: Owner, size: u64, pool: &ObjectPool) -> Result<(), Refusal>
         Fits(owner, wanted),
         &Subject::none(pool),
     )
+}
+
+/// A new request, with an object of its own. The size of this is looked at first, so that what is wanted is a number.
+#[tactic(auto, using(crate::proofs::Allowed::refused_first, crate::proofs::Allowed::allowed_first))]
+fn check_new_request(owner: Owner, size: u64, pool: &ObjectPool) -> Result<(), Refusal>
+    ensures { result ≡ checked (refused pool.now.pool (Test.IsSmall size ∷ Test.IsOwner owner ∷ Test.HasRoom 2 ∷ Test.Fits owner (size + overhead + overhead) ∷ [])) }
+{
+    check_size(size)?;
+    let wanted = size + OVERHEAD + OVERHEAD;
+    check_three(
+        IsOwner(owner),
+        HasRoom(2),
+        Fits(owner, wanted),
+        &Subject::none(pool),
+    )
+}
+
+/// The end time of a request.
+#[tactic(auto, using(crate::proofs::Allowed::refused_two, crate::proofs::Allowed::allowed_two))]
+fn check_endtime(x: Obj, pool: &ObjectPool) -> Result<(), Refusal>
+    ensures { result ≡ checked (refused pool.now.pool (Test.IsObject x ∷ Test.IsRequest x ∷ Test.IsInProgress x ∷ Test.HasNumber ∷ [])) }
+{
+    let objects = Subject::object(x, pool);
+    check_two(IsObject(x), IsRequest(x), &objects)?;
+    check_two(IsInProgress(x), HasNumber, &objects)
 }
 
 /// What is asked of an object, once it is there: two more tests.
@@ -63,7 +89,7 @@ fn check_reference(owner: Owner, x: Obj, pool: &ObjectPool) -> Result<(), Refusa
     ensures { result ≡ checked (refusals pool.now.pool (ReferenceOf owner x)) }
 {
     let objects = Subject::object(x, pool);
-    check_three(IsObject(x), IsPlain(x), IsOwner(owner), &objects)?;
+    check_three(IsObject(x), IsReferable(x), IsOwner(owner), &objects)?;
     check_three(IsNotRunning(x), IsNotDying(x), HasRoom(1), &objects)
 }
 
@@ -121,6 +147,18 @@ pub fn check(call: &Call, pool: &ObjectPool) -> Result<(), Refusal>
         Call::Accept { fd } | Call::Read { fd, .. } | Call::Write { fd, .. } => check_open(
             fd, pool,
         ),
+        Call::Req { owner, size, .. } => check_new_request(owner, size, pool),
+        Call::Callback { x, .. }
+        | Call::Defer { x }
+        | Call::Cleanup { x, .. }
+        | Call::Setcancel { x, .. } => check_object(x, IsRequest(x), IsNotDying(x), pool),
+        Call::Post { x } => check_object(x, IsRequest(x), IsFinished(x), pool),
+        Call::Done { x } | Call::Oom { x } => check_object(x, IsRequest(x), IsInProgress(x), pool),
+        Call::Error { x, error } => check_object(x, IsRequest(x), MayFail(x, error), pool),
+        Call::Endtime { x, .. } => check_endtime(x, pool),
+        Call::Cancel { x } | Call::Iserror { x } | Call::Progress { x } | Call::Received { x } => {
+            check_two(IsObject(x), IsRequest(x), &Subject::object(x, pool))
+        }
         Call::Pending | Call::Now | Call::Turn => Ok(()),
         Call::Parent { x } => check_two(IsObject(x), IsNotDying(x), &Subject::object(x, pool)),
         Call::Freekids { x } | Call::Rename { x, .. } | Call::Limit { x, .. } => {

@@ -8,6 +8,7 @@ use tree_specs::{Refusal, Reply};
 pub enum ShortReply {
     Ok,
     Number(u64),
+    Pair(u64, u64),
     Again,
     Fault,
     End,
@@ -21,6 +22,7 @@ impl ShortReply {
         match self {
             ShortReply::Ok => Reply::Ok,
             ShortReply::Number(n) => Reply::Number(n),
+            ShortReply::Pair(first, second) => Reply::Pair(first, second),
             ShortReply::Again => Reply::Again,
             ShortReply::Fault => Reply::Fault,
             ShortReply::End => Reply::End,

@@ -1,203 +1,165 @@
 //! The steps of a turn of the event loop: one thing comes, its handler runs, and it is quiet again or goes.
-ghost use Rattle.std.specs.Prelude.{◌≡◌, ℕ, Some, None, [], IsSome, is_none, true};
-ghost use Rattle.tree_specs.specs.declared.frame.CallFrame.TheVariants.{Returning};
-ghost use Rattle.tree_specs.specs.declared.frame.TurnFrame.TheVariants.{Handling};
-ghost use Rattle.tree_specs.specs.declared.occasion.Occasion.{Occasion as OccasionData};
-ghost use Rattle.tree_specs.specs.declared.handler.Handler.{Handler as HandlerData};
-ghost use Rattle.tree_specs.specs.declared.moment.What.{What as WhatData};
-ghost use Rattle.tree_specs.specs.declared.object.Obj.{Obj as ObjData};
-ghost use Rattle.host_core.specs.declared.turn.Turn.{Turn as TurnData};
-ghost use Rattle.tree_specs.specs.declared.question.Ask.{Ask as AskData};
-ghost use Rattle.tree_specs.specs.declared.question.Ask.TheVariants.{Quiet as AtRest};
-ghost use Rattle.tree_specs.specs.declared.question.Input.TheVariants as inputs;
-ghost use Rattle.tree_specs.specs.declared.question.Act.TheVariants as acts;
-ghost use Rattle.tree_specs.specs.Events.Coming.{handler_for};
-ghost use Rattle.tree_specs.specs.Invariants.Consistent.{IsConsistent};
-ghost use Rattle.tree_specs.specs.Texts.Schedule.{misfit};
-ghost use Rattle.destructors.specs.Works.{IsAwaiting};
-ghost use Rattle.object_pool.specs.Objects.{frees_in};
-ghost use Rattle.host_core.specs.Turns.{turns_of, turn_asks, frame_started, frame_arrived, pool_arrived, frame_timed, pool_timed, TurnStops, TurnLooks};
-ghost use Rattle.host_core.specs.Hosts.{turn_at, view_at, given_view, turn_begun, host_view, caller_asked, asked_now, is_quiet, stack_of, IsTurning, IsHandling, PartsReady, TellsSameStory, IsBetweenSteps, StandsWith, Fires};
+ghost use Rattle.std.specs.Prelude.{◌≡◌, true, false};
+ghost use Rattle.tree_specs.specs.Machine.Table.{turn_step, come_step};
+ghost use Rattle.host_core.specs.Turns.{MayTurn, picked_step, looked_frame};
+ghost use Rattle.host_core.specs.Steps.{step_of};
+ghost use Rattle.host_core.specs.Going.{goes_as, GoesWell, IsTurnStep, IsPlainErrand};
+ghost use Rattle.host_core.specs.Hosts.{turn_places, FrameReady};
+ghost use Rattle.tree_specs.specs.declared.frame.TurnFrame.TheVariants.{Starting, Handled};
+ghost use Rattle.tree_specs.specs.Events.Coming.{at_time};
+ghost use Rattle.tree_specs.specs.Events.Requests.{is_noted};
+ghost use Rattle.tree_specs.specs.Promises.Grounded.{is_asked};
+ghost use Rattle.destructors.specs.Moves.{IsLiveRow};
 
 use crate::active::Active;
+use crate::answer::Answer;
 use crate::caller::Caller;
-use crate::parts::Parts;
-use crate::short_reply::ShortReply;
-use crate::turn::{Turn, frame_picked};
+use crate::step::Step;
+use crate::turn::Turn;
+use crate::waiting::Waiting;
+use crate::work::Work;
+use loop_core::Pick;
 use object_pool::ObjectPool;
-use std::mem;
-use tree_specs::{Ask, Event, Obj, Refusal, TurnFrame, Wants, What};
+use tree_specs::{Errand, Obj, Occasion, State, TurnFrame, What};
+
+/// A turn goes on with this.
+fn goes(frame: TurnFrame) -> Step
+    ensures { result ≡ goes_as frame }
+{
+    Step::Goes(Active::Turning(Turn::new(frame)))
+}
+
+/// An event starts, at this time or for these flags, where it has any.
+fn starts(what: What, x: Obj, now: u64, flags: u32) -> Step
+    ensures { result ≡ goes_as (Starting what x (record { now = now; flags = flags })) }
+{
+    let occasion = Occasion { now, flags };
+    goes(TurnFrame::Starting { what, x, occasion })
+}
+
+/// What has come is a request, whose errand is done while the turn waits; or it is an event, which starts.
+fn comes(what: What, x: Obj, now: u64, errand: Errand, objects: &ObjectPool) -> Step
+    requires plain { IsPlainErrand errand }
+    requires ready { objects.now.ready ≡ true }
+    ensures step { step_of result objects.now.pool ≡ come_step (is_noted objects.now.pool.requests x) errand what x (at_time now) objects.now.pool }
+    ensures goes { GoesWell 2 result objects.now }
+    ensures ends { IsTurnStep result }
+{
+    if objects.note(x).is_none() {
+        return starts(what, x, now, 0);
+    }
+    let work = Active::Requesting(Work::of(errand, x));
+    Step::Calls(work, Waiting::Turn(TurnFrame::Serving { x }))
+}
+
+/// What is done after this was picked, where readiness was asked before, or wasn't.
+fn picked(pick: Pick, waited: bool, objects: &ObjectPool) -> Step
+    requires ready { objects.now.ready ≡ true }
+    ensures step { step_of result objects.now.pool ≡ picked_step waited pick objects.now.pool }
+    ensures goes { GoesWell 2 result objects.now }
+    ensures ends { IsTurnStep result }
+{
+    match pick {
+        Pick::Soon(x) => comes(What::Immediate, x, 0, Errand::Notify, objects),
+        Pick::Time(x, now) => {
+            comes(
+                What::Timer,
+                x,
+                now,
+                Errand::Finish(State::TimedOut),
+                objects,
+            )
+        }
+        Pick::Descriptor(x, flags) => starts(What::Descriptor, x, 0, flags),
+        Pick::AskClock => goes(TurnFrame::Timing { again: waited }),
+        Pick::AskWait(limit) => goes(TurnFrame::Polling { limit }),
+        Pick::Nothing => goes(TurnFrame::Closing { value: 0 }),
+    }
+}
 
 /// What comes is busy from now on, and its handler is to be told of; where it has none the turn is over.
-fn arrive(frame: TurnFrame, objects: &mut ObjectPool) -> TurnFrame
-    ensures frame { result ≡ frame_arrived frame objects.old.pool }
-    ensures pool { objects.new ≡ record objects.old { pool = pool_arrived frame objects.old.pool } }
+fn start(what: What, x: Obj, occasion: Occasion, objects: &mut ObjectPool) -> Step
+    ensures step { step_of result objects.new.pool ≡ turn_step (Starting what x occasion) objects.old.pool }
+    ensures goes { GoesWell 1 result objects.new }
+    ensures ends { IsTurnStep result }
+    ensures rest { objects.new ≡ record objects.old { pool = objects.new.pool } }
+    ensures requests { objects.new.pool.requests ≡ objects.old.pool.requests }
 {
-    let TurnFrame::Starting { what, x, occasion } = frame else {
-        return frame;
-    };
     match objects.start(what, x) {
-        Some(handler) => TurnFrame::Firing {
+        Some(handler) => goes(TurnFrame::Firing {
             what,
             x,
             handler,
             occasion,
-        },
-        None => TurnFrame::Closing { value: 1 },
+        }),
+        None => goes(TurnFrame::Closing { value: 1 }),
     }
 }
 
-/// Who is at work where this is still to do of a turn: the caller whose call it is, where the turn is over.
-fn stand(frame: TurnFrame, caller: Ask) -> Active
-    ensures { StandsWith frame caller result }
+/// The handler of an event has returned: the event is quiet again, and the turn is over, or waits until the event is freed.
+fn handled(what: What, x: Obj, objects: &mut ObjectPool) -> Step
+    requires live { IsLiveRow objects.old.pool x }
+    requires unasked { is_asked objects.old.pool x ≡ false }
+    requires ready { objects.old.ready ≡ true }
+    ensures step { step_of result objects.new.pool ≡ turn_step (Handled what x) objects.old.pool }
+    ensures goes { GoesWell 3 result objects.new }
+    ensures ends { IsTurnStep result }
+    ensures rest { objects.new ≡ record objects.old { pool = objects.new.pool } }
+    ensures requests { objects.new.pool.requests ≡ objects.old.pool.requests }
+{
+    if objects.finish(what, x) {
+        return Step::Frees(x, Waiting::Turn(TurnFrame::Clearing { x }));
+    }
+    goes(TurnFrame::Closing { value: 1 })
+}
+
+/// The next step of a turn that tells and asks nothing with it.
+#[tactic(auto, using(crate::proofs::Turning::timed_picked))]
+pub fn turn_step(frame: TurnFrame, objects: &mut ObjectPool) -> Step
+    requires may { MayTurn frame objects.old.pool }
+    requires ready { FrameReady frame objects.old }
+    ensures step { step_of result objects.new.pool ≡ turn_step frame objects.old.pool }
+    ensures goes { GoesWell (turn_places frame) result objects.new }
+    ensures ends { IsTurnStep result }
+    ensures rest { objects.new ≡ record objects.old { pool = objects.new.pool } }
+    ensures requests { objects.new.pool.requests ≡ objects.old.pool.requests }
 {
     match frame {
-        TurnFrame::Closing { value } => {
-            Active::Caller(Caller::after(caller, ShortReply::Number(value)))
+        TurnFrame::Taking => {
+            let pick = objects.begin_turn();
+            picked(pick, false, objects)
         }
-        _ => Active::Turning(Turn::new(frame, caller)),
-    }
-}
-
-/// The turn that is at work, and the caller whose call it is; what is at work is to be put in its place.
-fn take_turn(now: &mut Active) -> (TurnFrame, Ask)
-    requires { IsTurning now.old }
-    ensures { (t : TurnData) → now.old ≡ Active.Turning t → result ≡ (t.frame, t.caller) }
-{
-    match mem::replace(now, Active::Freeing) {
-        Active::Turning(turn) => (turn.frame, turn.caller),
+        TurnFrame::Timed { again, now } => {
+            let pick = objects.clock(now, again);
+            picked(pick, again, objects)
+        }
+        TurnFrame::Starting { what, x, occasion } => start(what, x, occasion, objects),
+        TurnFrame::Handling {
+            what,
+            x,
+            handler,
+            occasion,
+        } => {
+            let routine = Active::Caller(Caller::routine(what, x, handler, occasion));
+            Step::Calls(routine, Waiting::Turn(frame))
+        }
+        TurnFrame::Handled { what, x } => handled(what, x, objects),
+        TurnFrame::Closing { value } => Step::Ends(Answer::Turned(value)),
         _ => unreachable!(),
     }
 }
 
-/// The event whose handler a turn waits for, as what it has come.
-fn handling(turn: Option<TurnFrame>) -> (What, Obj)
-    requires { IsHandling turn }
-    ensures { (what : WhatData) (x : ObjData) (handler : HandlerData) (occasion : OccasionData) → turn ≡ Some (Handling what x handler occasion) → result ≡ (what, x) }
+/// What is still to do of a turn once it was told which descriptors are ready, and this was picked.
+pub fn looked(pick: Pick) -> TurnFrame
+    ensures { result ≡ looked_frame pick }
 {
-    match turn {
-        Some(TurnFrame::Handling { what, x, .. }) => (what, x),
-        _ => unreachable!(),
+    match pick {
+        Pick::AskClock => TurnFrame::Timing { again: true },
+        Pick::Descriptor(x, flags) => {
+            let occasion = Occasion { now: 0, flags };
+            let what = What::Descriptor;
+            TurnFrame::Starting { what, x, occasion }
+        }
+        _ => TurnFrame::Closing { value: 0 },
     }
-}
-
-/// A turn begins for the host's own caller. A routine is refused one, since it may run in a turn itself.
-pub fn begin_turn(now: &mut Active, parts: &mut Parts)
-    requires asks { IsSome (caller_asked now.old) }
-    requires whole { (q : AskData) → caller_asked now.old ≡ Some q → IsConsistent (turn_begun q parts.old.objects.works (stack_of parts.old.callers.items) (turns_of parts.old.turn) parts.old.objects.pool) }
-    ensures along { (q : AskData) → caller_asked now.old ≡ Some q → TellsSameStory (turn_begun q parts.old.objects.works (stack_of parts.old.callers.items) (turns_of parts.old.turn) parts.old.objects.pool) (host_view now.new parts.new) }
-    ensures ready { IsBetweenSteps now.new parts.new }
-{
-    if now.is_quiet() {
-        let pick = parts.objects.begin_turn();
-        let frame = arrive(frame_picked(pick, false), &mut parts.objects);
-        now.go_to(stand(frame, Ask::Quiet));
-    } else {
-        now.reply(ShortReply::No(Refusal::Nested));
-    }
-}
-
-/// What is still to do once the clock has told the time, in microseconds: what comes by it is picked.
-fn timed(frame: TurnFrame, time: u64, objects: &mut ObjectPool) -> TurnFrame
-    ensures frame { result ≡ frame_timed frame time objects.old.pool }
-    ensures pool { objects.new ≡ record objects.old { pool = pool_timed frame time objects.old.pool } }
-{
-    match frame {
-        TurnFrame::Timing { again } => frame_picked(objects.clock(time, again), again),
-        _ => TurnFrame::Closing { value: time },
-    }
-}
-
-/// A turn has asked the clock, which has told the time, in microseconds.
-pub fn time_on(now: &mut Active, time: u64, parts: &mut Parts)
-    requires turning { IsTurning now.old }
-    requires fits { is_none (misfit (asked_now now.old) (inputs.Clock time)) ≡ true }
-    requires ready { PartsReady now.old parts.old.objects }
-    requires whole { IsConsistent (given_view now.old (inputs.Clock time) parts.old) }
-    ensures along { TellsSameStory (given_view now.old (inputs.Clock time) parts.old) (host_view now.new parts.new) }
-    ensures ready { IsBetweenSteps now.new parts.new }
-{
-    let (frame, caller) = take_turn(now);
-    let frame = timed(frame, time, &mut parts.objects);
-    let frame = arrive(frame, &mut parts.objects);
-    now.go_to(stand(frame, caller));
-}
-
-/// A turn has asked which descriptors are ready, and these are.
-pub fn ready_on(now: &mut Active, list: &Wants, parts: &mut Parts)
-    requires turning { IsTurning now.old }
-    requires fits { is_none (misfit (asked_now now.old) (inputs.Ready list.now)) ≡ true }
-    requires ready { PartsReady now.old parts.old.objects }
-    requires whole { IsConsistent (given_view now.old (inputs.Ready list.now) parts.old) }
-    ensures along { TellsSameStory (given_view now.old (inputs.Ready list.now) parts.old) (host_view now.new parts.new) }
-    ensures ready { IsBetweenSteps now.new parts.new }
-{
-    let (_, caller) = take_turn(now);
-    let frame = frame_picked(parts.objects.ready(list), true);
-    let frame = arrive(frame, &mut parts.objects);
-    now.go_to(stand(frame, caller));
-}
-
-/// A handler has returned: its event is quiet again, and the turn is over, or waits until the event is freed.
-fn handled(parts: &mut Parts) -> Active
-    requires alone { parts.old.objects.works ≡ [] }
-    requires whole { (v : ℕ) × IsConsistent (view_at (Returning v) parts.old) }
-    requires room { parts.old.objects.ready ≡ true }
-    ensures along { (v : ℕ) → IsConsistent (view_at (Returning v) parts.old) → TellsSameStory (view_at (Returning v) parts.old) (host_view result parts.new) }
-    ensures ready { IsBetweenSteps result parts.new }
-{
-    let (what, x) = handling(parts.turn);
-    if !parts.objects.finish(what, x) {
-        parts.turn = None;
-        return Active::Caller(Caller::after(Ask::Quiet, ShortReply::Number(1)));
-    }
-    parts.turn = Some(TurnFrame::Clearing { x });
-    parts.objects.begin_free(x);
-    Active::Freeing
-}
-
-/// The routine that was asked has returned a number, to the free whose destructor it is, or to the turn whose handler it is.
-pub fn return_on(now: &mut Active, value: u32, parts: &mut Parts)
-    requires asks { IsSome (caller_asked now.old) }
-    requires whole { IsConsistent (given_view now.old (inputs.Act (acts.Ret value)) parts.old) }
-    requires room { parts.old.objects.ready ≡ true }
-    ensures along { TellsSameStory (given_view now.old (inputs.Act (acts.Ret value)) parts.old) (host_view now.new parts.new) }
-    ensures ready { IsBetweenSteps now.new parts.new }
-{
-    if parts.objects.is_freeing() {
-        parts.objects.answer(value);
-        now.go_to(Active::Freeing);
-    } else {
-        now.go_to(handled(parts));
-    }
-}
-
-/// A turn tells that a handler starts, which runs from then on. None where it asks, and then nothing changes.
-pub fn fire(now: &mut Active, turn: &mut Option<TurnFrame>) -> Option<Event>
-    ensures { Fires now.old turn.old result now.new turn.new }
-{
-    let Active::Turning(present) = now else {
-        return None;
-    };
-    let TurnFrame::Firing {
-        what,
-        x,
-        handler,
-        occasion,
-    } = present.frame
-    else {
-        return None;
-    };
-    *turn = Some(TurnFrame::Handling {
-        what,
-        x,
-        handler,
-        occasion,
-    });
-    now.go_to(Active::Caller(Caller::handle(what, x, handler, occasion)));
-    Some(Event::Fired {
-        what,
-        object: x,
-        routine: handler.routine,
-    })
 }

@@ -1,162 +1,282 @@
-//! The open works, step after step: callers, turns and frees, each on the one that waits for it.
-ghost use Rattle.std.specs.Prelude.{◌≡◌, ◌<◌, [], ◌∷◌, ◌++◌, Some, None, IsSome, is_none, true, false, length, vec_capacity};
-ghost use Rattle.tree_specs.specs.declared.frame.CallFrame.TheVariants.{Doing};
-ghost use Rattle.tree_specs.specs.declared.question.Ask.{Ask as AskData};
-ghost use Rattle.tree_specs.specs.declared.question.Input.TheVariants as inputs;
+//! The open works, step after step: callers, turns, frees and the works of requests, each on the one that waits for it.
+ghost use Rattle.std.specs.Prelude.{◌≡◌, ◌*◌, ◌≤◌, true, false, is_none, reverse, List, None};
+ghost use Rattle.tree_specs.specs.Tree.Pool.{Pool as PoolData};
 ghost use Rattle.tree_specs.specs.Invariants.Consistent.{IsConsistent};
 ghost use Rattle.tree_specs.specs.Texts.Schedule.{misfit};
-ghost use Rattle.destructors.specs.Works.{IsAwaiting};
-ghost use Rattle.object_pool.specs.Objects.{frees_in};
-ghost use Rattle.host_core.specs.Moves.{ReadyFor};
-ghost use Rattle.host_core.specs.Reaches.{is_bytes};
-ghost use Rattle.host_core.specs.Turns.{turns_of};
-ghost use Rattle.host_core.specs.Hosts.{stack_of, view_after, host_view, view_at, given_view, speaking_view, caller_asked, asked_now, MayDo, MayBegin, PartsReady, TellsSameStory, StepsSilently, IsBetweenSteps, Finished, at_work};
+ghost use Rattle.host_core.specs.Moves.{move_of, ReadyFor, call_of, report_of, reported};
+ghost use Rattle.host_core.specs.Stacks.{Fits};
+ghost use Rattle.host_core.specs.Steps.{step_of, IsBusy};
+ghost use Rattle.host_core.specs.Going.{stepped_view, ended_view, answer_places, step_places, Answers, StepReady, StepAnswers, AnswersTo, resumed_works, HasPlacesFor};
+ghost use Rattle.destructors.specs.Frees.{speaking, Begins};
+ghost use Rattle.destructors.specs.Works.{IsAtWork};
+ghost use Rattle.object_pool.specs.Objects.{Objects as ObjectsData, frees_in};
+ghost use Rattle.host_core.specs.Turns.{turn_asks, turn_given};
+ghost use Rattle.host_core.specs.declared.waiting.Waiting.{Waiting as WaitingData};
+ghost use Rattle.host_core.specs.Hosts.{host_view, given_view, speaking_view, HasRoom, IsActing, MayTake, called_view, IsBetweenSteps, TellsSameStory, StepsSilently};
 
 use crate::active::Active;
-use crate::caller::{Caller, Waiting};
-use crate::calls::act;
+use crate::answer::Answer;
+use crate::caller::{Caller, Stage};
+use crate::calls::{act, freed};
 use crate::motion::Motion;
 use crate::parts::Parts;
-use crate::reach::{ask_outside, hear_on};
+use crate::reach::heard;
 use crate::short_reply::ShortReply;
-use crate::turns::{begin_turn, ready_on, return_on, time_on};
-use object_pool::Progress;
+use crate::step::Step;
+use crate::turn::Turn;
+use crate::turns::{looked, turn_step};
+use crate::waiting::{Waiting, turn_resumed};
+use crate::work::Work;
+use crate::working::work_step;
+use object_pool::{ObjectPool, Progress};
 use std::mem;
-use tree_specs::{Act, Ask, Call, FreeReply, FreeStep, Input, Obj, TurnFrame};
+use tree_specs::{Act, Ask, Call, Event, FreeReply, FreeStep, Input, Refusal, TurnFrame};
 
-/// The caller that was asked waits for a free, which is at work from then on.
-fn wait(now: &mut Active, callers: &mut Vec<Waiting>, x: Obj)
-    requires asks { IsSome (caller_asked now.old) }
-    requires place { length callers.old.items < vec_capacity callers.old }
-    ensures freeing { now.new ≡ Active.Freeing }
-    ensures waits { (q : AskData) → caller_asked now.old ≡ Some q → callers.new.items ≡ callers.old.items ++ record { ask = q; x = x } ∷ [] }
+/// The open frees have waited for this: the innermost goes on, and is at work.
+#[tactic(auto, using(crate::proofs::Resuming::returned_begins, crate::proofs::Resuming::received_begins))]
+fn free_again(answer: Answer, objects: &mut ObjectPool)
+    requires { AnswersTo answer Waiting.Freeing objects.old }
+    ensures at_work { IsAtWork (frees_in objects.new) }
+    ensures settled { speaking (frees_in objects.new) ≡ true }
+    ensures begins { Begins (resumed_works answer objects.old.works) objects.old.pool (frees_in objects.new) }
+    ensures requests { objects.new.pool.requests ≡ objects.old.pool.requests }
 {
-    match mem::replace(now, Active::Freeing) {
-        Active::Caller(Caller { ask, .. }) => callers.push_reserved(Waiting { ask, x }),
+    match answer {
+        Answer::Returned(value) => objects.answer(value),
+        Answer::Heard(_) => objects.received(),
+        Answer::Freed(_) | Answer::Turned(_) => unreachable!(),
+    }
+}
+
+/// The innermost work is over. The one below it goes on with its answer.
+fn end(answer: Answer, parts: &mut Parts) -> Active
+    requires answers { Answers answer (reverse parts.old.waiting.items) parts.old.objects }
+    requires whole { IsConsistent (ended_view answer parts.old) }
+    requires fit { Fits parts.old.objects.works (reverse parts.old.waiting.items) }
+    requires places { HasPlacesFor (answer_places answer) parts.old }
+    ensures along { TellsSameStory (ended_view answer parts.old) (host_view result parts.new) }
+    ensures ready { IsBetweenSteps result parts.new }
+{
+    match parts.waiting.pop() {
+        Some(Waiting::Freeing) => {
+            free_again(answer, &mut parts.objects);
+            Active::Freeing
+        }
+        Some(Waiting::Awaiting { ask, x }) => {
+            Active::Caller(Caller::after(ask, freed(x, answer.of_free())))
+        }
+        Some(Waiting::Turning { ask } | Waiting::Requesting { ask }) => {
+            Active::Caller(Caller::after(ask, answer.reply()))
+        }
+        Some(Waiting::Turn(frame)) => Active::Turning(Turn::new(turn_resumed(frame))),
+        Some(Waiting::Work(work)) => Active::Requesting(work.resumed(answer)),
+        None => unreachable!(),
+    }
+}
+
+/// What a step leads to is at work from then on.
+fn go_on(step: Step, parts: &mut Parts) -> Active
+    requires busy { IsBusy step }
+    requires whole { IsConsistent (stepped_view step parts.old) }
+    requires fit { Fits parts.old.objects.works (reverse parts.old.waiting.items) }
+    requires ready { StepReady step parts.old.objects }
+    requires answers { StepAnswers step (reverse parts.old.waiting.items) parts.old.objects }
+    requires places { HasPlacesFor (step_places step) parts.old }
+    ensures along { TellsSameStory (stepped_view step parts.old) (host_view result parts.new) }
+    ensures ready { IsBetweenSteps result parts.new }
+{
+    match step {
+        Step::Goes(next) => next,
+        Step::Calls(first, second) => {
+            parts.waiting.push_reserved(second);
+            first
+        }
+        Step::Frees(x, second) => {
+            parts.waiting.push_reserved(second);
+            parts.objects.begin_free(x);
+            Active::Freeing
+        }
+        Step::Unlinks(owner, x, second) => {
+            parts.waiting.push_reserved(second);
+            parts.objects.begin_unlink(owner, x);
+            Active::Freeing
+        }
+        Step::Empties(x, second) => {
+            parts.waiting.push_reserved(second);
+            parts.objects.begin_kids(x);
+            Active::Freeing
+        }
+        Step::Ends(answer) => end(answer, parts),
+    }
+}
+
+/// A turn begins for the host's own caller. A routine is refused one, since it may run in a turn itself.
+fn turn(ask: Ask) -> Step
+    ensures step { (p : PoolData) → step_of result p ≡ move_of ask Motion.Turns p }
+    ensures busy { IsBusy result }
+    ensures places { step_places result ≤ 3 }
+    ensures ready { (o : ObjectsData) → o.ready ≡ true → StepReady result o }
+    ensures answers { (ws : List WaitingData) (o : ObjectsData) → StepAnswers result ws o }
+{
+    match ask {
+        Ask::Quiet => {
+            let turn = Active::Turning(Turn::new(TurnFrame::Taking));
+            Step::Calls(turn, Waiting::Turning { ask: Ask::Quiet })
+        }
+        _ => replies(ask, ShortReply::No(Refusal::Nested)),
+    }
+}
+
+/// The reply to the call of the caller that was asked comes next.
+fn replies(ask: Ask, reply: ShortReply) -> Step
+    ensures step { (p : PoolData) → step_of result p ≡ move_of ask (Motion.Replies reply) p }
+    ensures busy { IsBusy result }
+    ensures places { step_places result ≤ 3 }
+    ensures ready { (o : ObjectsData) → StepReady result o }
+    ensures answers { (ws : List WaitingData) (o : ObjectsData) → StepAnswers result ws o }
+{
+    Step::Goes(Active::Caller(Caller::after(ask, reply)))
+}
+
+/// A caller that was asked goes on with what its call does first.
+fn call_step(ask: Ask, motion: Motion) -> Step
+    ensures step { (p : PoolData) → step_of result p ≡ move_of ask motion p }
+    ensures busy { IsBusy result }
+    ensures places { step_places result ≤ 3 }
+    ensures ready { (o : ObjectsData) → ReadyFor motion o.ready → StepReady result o }
+    ensures answers { (ws : List WaitingData) (o : ObjectsData) → StepAnswers result ws o }
+{
+    match motion {
+        Motion::Replies(reply) => replies(ask, reply),
+        Motion::Announces(notice, reply) => {
+            Step::Goes(Active::Caller(Caller::announcing(ask, notice, reply)))
+        }
+        Motion::Frees(x) => Step::Frees(x, Waiting::Awaiting { ask, x }),
+        Motion::Unlinks(owner, x) => Step::Unlinks(owner, x, Waiting::Awaiting { ask, x }),
+        Motion::Empties(x) => Step::Empties(x, Waiting::Awaiting { ask, x }),
+        Motion::Asks(question) => {
+            Step::Calls(Active::Reaching(question), Waiting::Turning { ask })
+        }
+        Motion::Turns => turn(ask),
+        Motion::Works(errand, x) => {
+            let work = Active::Requesting(Work::of(errand, x));
+            Step::Calls(work, Waiting::Requesting { ask })
+        }
+    }
+}
+
+/// The caller that was asked does a call.
+fn call_on(ask: Ask, call: Call, parts: &mut Parts) -> Active
+    requires no_report { report_of call ≡ None }
+    requires fit { Fits parts.old.objects.works (reverse parts.old.waiting.items) }
+    requires whole { IsConsistent (called_view ask (Input.Call call) parts.old) }
+    requires room { HasRoom parts.old }
+    ensures along { TellsSameStory (called_view ask (Input.Call call) parts.old) (host_view result parts.new) }
+    ensures ready { IsBetweenSteps result parts.new }
+{
+    let motion = act(call, &mut parts.objects);
+    go_on(call_step(ask, motion), parts)
+}
+
+/// A caller that was asked does a call, or is a routine that returns.
+fn caller_on(ask: Ask, input: Input, parts: &mut Parts) -> Active
+    requires acts { IsActing input }
+    requires no_report { reported (call_of input) ≡ None }
+    requires fit { Fits parts.old.objects.works (reverse parts.old.waiting.items) }
+    requires whole { IsConsistent (called_view ask input parts.old) }
+    requires room { HasRoom parts.old }
+    ensures along { TellsSameStory (called_view ask input parts.old) (host_view result parts.new) }
+    ensures ready { IsBetweenSteps result parts.new }
+{
+    match input {
+        Input::Call(call) | Input::Act(Act::Do(call)) => call_on(ask, call, parts),
+        Input::Act(Act::Ret(value)) => end(Answer::Returned(value), parts),
         _ => unreachable!(),
     }
 }
 
-/// The caller that was asked goes on with what its call does first.
-fn go_on(now: &mut Active, motion: Motion, parts: &mut Parts)
-    requires asks { IsSome (caller_asked now.old) }
-    requires whole { (q : AskData) → caller_asked now.old ≡ Some q → IsConsistent (view_after q motion parts.old.objects.works (stack_of parts.old.callers.items) (turns_of parts.old.turn) parts.old.objects.pool) }
-    requires awaiting { IsAwaiting (frees_in parts.old.objects) }
-    requires place { length parts.old.callers.items < vec_capacity parts.old.callers }
-    requires room { ReadyFor motion parts.old.objects.ready }
-    ensures along { (q : AskData) → caller_asked now.old ≡ Some q → TellsSameStory (view_after q motion parts.old.objects.works (stack_of parts.old.callers.items) (turns_of parts.old.turn) parts.old.objects.pool) (host_view now.new parts.new) }
-    ensures ready { IsBetweenSteps now.new parts.new }
+/// What is still to do of a turn once it was told the time, in microseconds, or which descriptors are ready.
+fn turn_given(frame: TurnFrame, input: &Input, objects: &ObjectPool) -> TurnFrame
+    requires { is_none (misfit (turn_asks frame) input.now) ≡ true }
+    ensures { result ≡ turn_given frame input.now objects.now.pool }
 {
-    match motion {
-        Motion::Replies(reply) => now.reply(reply),
-        Motion::Announces(notice, reply) => now.announce(notice, reply),
-        Motion::Frees(x) => {
-            wait(now, &mut parts.callers, x);
-            parts.objects.begin_free(x);
-        }
-        Motion::Unlinks(owner, x) => {
-            wait(now, &mut parts.callers, x);
-            parts.objects.begin_unlink(owner, x);
-        }
-        Motion::Empties(x) => {
-            wait(now, &mut parts.callers, x);
-            parts.objects.begin_kids(x);
-        }
-        Motion::Asks(question) => ask_outside(now, question),
-        Motion::Turns => begin_turn(now, parts),
+    match (frame, input) {
+        (TurnFrame::Timing { again }, Input::Clock(now)) => TurnFrame::Timed { again, now: *now },
+        (_, Input::Ready(list)) => looked(objects.ready(list)),
+        _ => frame,
     }
 }
 
-/// Does a call for the caller that was asked.
-fn call_on(now: &mut Active, call: Call, parts: &mut Parts)
-    requires asks { IsSome (caller_asked now.old) }
-    requires whole { (q : AskData) → caller_asked now.old ≡ Some q → IsConsistent (view_at (Doing q call) parts.old) }
-    requires may { MayDo call (length parts.old.callers.items) (vec_capacity parts.old.callers) parts.old.objects.ready }
-    ensures along { (q : AskData) → caller_asked now.old ≡ Some q → TellsSameStory (view_at (Doing q call) parts.old) (host_view now.new parts.new) }
-    ensures ready { IsBetweenSteps now.new parts.new }
+/// What goes on with the answer to what it has asked.
+fn answered(now: Active, input: Input, parts: &mut Parts) -> Active
+    requires { MayTake now input parts.old }
+    ensures along { TellsSameStory (given_view now input parts.old) (host_view result parts.new) }
+    ensures ready { IsBetweenSteps result parts.new }
 {
-    let motion = act(call, &mut parts.objects);
-    go_on(now, motion, parts);
-}
-
-/// The routine that was asked does a call, or returns.
-fn act_on(now: &mut Active, act: Act, parts: &mut Parts)
-    requires asks { IsSome (caller_asked now.old) }
-    requires whole { IsConsistent (given_view now.old (inputs.Act act) parts.old) }
-    requires may { MayBegin (inputs.Act act) (length parts.old.callers.items) (vec_capacity parts.old.callers) parts.old.objects.ready }
-    ensures along { TellsSameStory (given_view now.old (inputs.Act act) parts.old) (host_view now.new parts.new) }
-    ensures ready { IsBetweenSteps now.new parts.new }
-{
-    match act {
-        Act::Do(call) => call_on(now, call, parts),
-        Act::Ret(value) => return_on(now, value, parts),
+    match now {
+        Active::Caller(caller) => caller_on(caller.ask, input, parts),
+        Active::Turning(turn) => {
+            Active::Turning(Turn::new(turn_given(turn.frame, &input, &parts.objects)))
+        }
+        Active::Reaching(_question) => {
+            let reply = heard(input, &mut parts.objects);
+            end(Answer::Heard(reply), parts)
+        }
+        _other => unreachable!(),
     }
 }
 
-/// Who was asked goes on with the answer.
+/// Who was asked goes on with the answer, which takes no memory of its own.
 pub fn answer_on(now: &mut Active, input: Input, parts: &mut Parts)
-    requires fits { is_none (misfit (asked_now now.old) input) ≡ true }
-    requires ready { PartsReady now.old parts.old.objects }
-    requires no_bytes { is_bytes input ≡ false }
-    requires whole { IsConsistent (given_view now.old input parts.old) }
-    requires may { MayBegin input (length parts.old.callers.items) (vec_capacity parts.old.callers) parts.old.objects.ready }
+    requires { MayTake now.old input parts.old }
     ensures along { TellsSameStory (given_view now.old input parts.old) (host_view now.new parts.new) }
     ensures ready { IsBetweenSteps now.new parts.new }
 {
-    if now.is_reaching() {
-        return hear_on(now, input, parts);
-    }
-    match input {
-        Input::Call(call) => call_on(now, call, parts),
-        Input::Act(act) => act_on(now, act, parts),
-        Input::Clock(time) => time_on(now, time, parts),
-        Input::Ready(list) => ready_on(now, &list, parts),
-        _ => unreachable!(),
-    }
+    let present = mem::replace(now, Active::Freeing);
+    *now = answered(present, input, parts);
 }
 
-/// The innermost free is over. The caller that has waited for it goes on; where there is none, the turn that has waited is
-/// over.
-fn finish(answer: FreeReply, callers: &mut Vec<Waiting>, turn: &mut Option<TurnFrame>) -> Caller
-    ensures { Finished answer callers.old.items turn.old (Active.Caller result) callers.new.items turn.new }
-{
-    match callers.pop() {
-        Some(waiting) => waiting.resumed(answer),
-        None => {
-            *turn = None;
-            Caller::after(Ask::Quiet, ShortReply::Number(1))
-        }
-    }
-}
-
-/// A step of the innermost free that tells no event: the caller that goes on, or none where the free does.
-fn free_on(parts: &mut Parts) -> Option<Caller>
+/// What comes next of the open frees where this tells no event.
+fn free_step(parts: &mut Parts) -> Active
     requires ready { IsBetweenSteps Active.Freeing parts.old }
     requires quiet { speaking_view (host_view Active.Freeing parts.old) ≡ false }
-    ensures onward { StepsSilently (host_view Active.Freeing parts.old) (host_view (at_work result) parts.new) }
-    ensures ready { IsBetweenSteps (at_work result) parts.new }
+    ensures onward { StepsSilently (host_view Active.Freeing parts.old) (host_view result parts.new) }
+    ensures ready { IsBetweenSteps result parts.new }
 {
     let Progress { step, .. } = parts.objects.step();
     match step {
-        FreeStep::Ask(x) => Some(Caller::run(x, &parts.objects)),
-        FreeStep::Done(answer) => Some(finish(answer, &mut parts.callers, &mut parts.turn)),
-        _ => None,
+        FreeStep::Ask(x) => {
+            parts.waiting.push_reserved(Waiting::Freeing);
+            Active::Caller(Caller::destructor(x, &parts.objects))
+        }
+        FreeStep::Prepare(x) => {
+            parts.waiting.push_reserved(Waiting::Freeing);
+            Active::Requesting(Work::Receiving { x })
+        }
+        FreeStep::Done(answer) => end(Answer::Freed(answer), parts),
+        _ => Active::Freeing,
     }
 }
 
-/// The steps of the innermost free that tell nothing, up to its next event, or to a caller that goes on.
-fn free_up(parts: &mut Parts) -> Option<Caller>
-    requires { IsBetweenSteps Active.Freeing parts.old }
-    ensures along { TellsSameStory (host_view Active.Freeing parts.old) (host_view (at_work result) parts.new) }
-    ensures ready { IsBetweenSteps (at_work result) parts.new }
-    ensures settled { speaking_view (host_view (at_work result) parts.new) ≡ true }
+/// A step that tells and asks nothing.
+fn quiet_step(now: Active, parts: &mut Parts) -> Active
+    requires ready { IsBetweenSteps now parts.old }
+    requires quiet { speaking_view (host_view now parts.old) ≡ false }
+    ensures onward { StepsSilently (host_view now parts.old) (host_view result parts.new) }
+    ensures ready { IsBetweenSteps result parts.new }
 {
-    while !parts.objects.announces() {
-        if let Some(caller) = free_on(parts) {
-            return Some(caller);
+    match now {
+        Active::Freeing => free_step(parts),
+        Active::Turning(turn) => {
+            let step = turn_step(turn.frame, &mut parts.objects);
+            go_on(step, parts)
         }
+        Active::Requesting(work) => {
+            let step = work_step(work, &mut parts.objects);
+            go_on(step, parts)
+        }
+        _ => now,
     }
-    None
 }
 
 /// The steps that tell nothing, up to the next event or question.
@@ -166,9 +286,8 @@ pub fn settle(now: &mut Active, parts: &mut Parts)
     ensures ready { IsBetweenSteps now.new parts.new }
     ensures settled { speaking_view (host_view now.new parts.new) ≡ true }
 {
-    if now.is_freeing()
-        && let Some(caller) = free_up(parts)
-    {
-        now.go_to(Active::Caller(caller));
+    while !now.speaks(&parts.objects) {
+        let present = mem::replace(now, Active::Freeing);
+        *now = quiet_step(present, parts);
     }
 }

@@ -1,24 +1,24 @@
--- Where no object has a destructor, and no call asks for anything, nothing is asked but the next call.
-use Rattle.std.proofs.Common.{◌≡◌, ℕ, suc, zero, Bool, true, false, List, [], ◌∷◌, length, Option, Some, None, refl, sym, subst, map, ap, ◌∙◌, arith}
+-- Where no object has a destructor and none is a request, and no call asks for anything, nothing is asked but the next call.
+use Rattle.std.proofs.Common.{◌≡◌, ℕ, suc, zero, true, false, List, [], ◌∷◌, length, Option, Some, None, refl, sym, subst, arith}
 use Rattle.step_machine.specs.Machine.{Outcome, tell, tells, followed, is_stray, items as told_by}
 use Rattle.step_machine.specs.Machine.Outcome.{Ended, Waits, Stray, Short}
 use Rattle.step_machine.proofs.Ends.{NotShort}
 use Rattle.tree_specs.specs.declared.object.Obj.{Obj}
 use Rattle.tree_specs.specs.declared.object.Owner.{Owner}
-use Rattle.tree_specs.specs.declared.object.Owner.TheVariants.{Root, Of}
+use Rattle.tree_specs.specs.declared.object.Owner.TheVariants.{Of}
 use Rattle.tree_specs.specs.declared.row.Row.{Row}
 use Rattle.tree_specs.specs.declared.row.Mark.{Mark}
 use Rattle.tree_specs.specs.declared.row.Mark.TheVariants as mark
 use Rattle.tree_specs.specs.declared.call.Call.{Call}
-use Rattle.tree_specs.specs.declared.event.Event.TheVariants.{Freed, Closed}
+use Rattle.tree_specs.specs.declared.event.Event.TheVariants.{Freed}
 use Rattle.tree_specs.specs.declared.notice.Notice.{Notice}
 use Rattle.tree_specs.specs.declared.question.Ask.{Ask}
 use Rattle.tree_specs.specs.declared.question.Ask.TheVariants.{Quiet}
 use Rattle.tree_specs.specs.declared.question.Input.{Input}
 use Rattle.tree_specs.specs.declared.question.Input.TheVariants as inputs
 use Rattle.tree_specs.specs.declared.reply.Reply.{Reply}
-use Rattle.tree_specs.specs.declared.reply.Reply.TheVariants as reply
 use Rattle.tree_specs.specs.declared.free_step.FreeReply.{FreeReply}
+use Rattle.tree_specs.specs.declared.frame.Errand.{Errand}
 use Rattle.tree_specs.specs.declared.free_step.FreeReply.TheVariants as free_reply
 use Rattle.tree_specs.specs.Tree.Targets.{newest_ref}
 use Rattle.tree_specs.specs.Tree.Pool.{Pool, empty, row_of, is_below, owner_of, newest_ref_of, target_at, noted_owner, is_inside, first_kid, detach, remove, doom, place, left_row, marked_row}
@@ -29,23 +29,24 @@ use Rattle.tree_specs.specs.Rules.Items.{Item}
 use Rattle.tree_specs.specs.Rules.Items.Item.{Told, Asked}
 use Rattle.tree_specs.specs.Rules.Sequence.{Work, Scene, CallStart, gives}
 use Rattle.tree_specs.specs.Rules.Answers.{freed_reply}
-use Rattle.tree_specs.specs.Rules.Story.{unlink, release, given, free, dooming, leave, lets_go, children, tried, hand_on, effect, turned, asked, acting, reaching, taking, announcing, telling, turns, outcome, story, items}
+use Rattle.tree_specs.specs.Rules.Pieces.{lets_go, hand_on, effect, turned, work_by}
+use Rattle.tree_specs.specs.Rules.Story.{unlink, release, given, free, dooming, leave, children, tried, asked, acting, reaching, taking, finishing, notifying, receiving, cancelling, announcing, telling, turns, outcome, story, items}
 use Rattle.tree_specs.specs.Calls.Plans.{Plan, planned, notice_of}
 use Rattle.tree_specs.specs.Calls.Plans.Plan.{Does, Frees, Unlinks}
 use Rattle.tree_specs.specs.Texts.Schedule.{open_question}
 use Rattle.tree_specs.proofs.Tree.Numbered.{by_test}
 use Rattle.tree_specs.proofs.Rules.StoryLaws.{story-enough}
-use Rattle.load_schedule.proofs.Unhooked.{Unhooked, IsCalm, is_calm, unhooked-row, unhooked-changed, unhooked-without, unhooked-place, calm-planned}
+use Rattle.load_schedule.proofs.Bare.{IsBare, IsCalm, is_calm, bare-row, bare-removed, bare-placed, bare-let_go, calm-planned}
 
--- nothing was asked, and no object has a destructor then
+-- nothing was asked, and no object has a destructor or is a request then
 abbrev Stays : {A : Type 0} → List Input → Outcome A Pool Input Scene → Type 0
-Stays is (Ended a q ts left) = Unhooked q.rows × (left ≡ is)
+Stays is (Ended a q ts left) = IsBare q × (left ≡ is)
 Stays is (Waits ts) = ⊥
 Stays is (Stray ts) = ⊥
 Stays is Short = Unit {0}
 
 abbrev IsSilent : {A : Type 0} → Work A → Type 0
-IsSilent w = (p : Pool) (is : List Input) → Unhooked p.rows → Stays is (w p is)
+IsSilent w = (p : Pool) (is : List Input) → IsBare p → Stays is (w p is)
 
 tell-stays : {A : Type 0} (is : List Input) (t : Scene) (o : Outcome A Pool Input Scene) → Stays is o → Stays is (tell t o)
 tell-stays is t (Ended a q ts left) h = h
@@ -64,7 +65,7 @@ followed-stays is (Stray ts) k s more = absurd s
 followed-stays is Short k s more = tt
 
 -- an object is let go of: what is told of its descriptor asks nothing
-lets-go : (x : Obj) (f : Pool → Pool) (p : Pool) (is : List Input) → Unhooked (f p).rows → Stays is (lets_go x f p is)
+lets-go : (x : Obj) (f : Pool → Pool) (p : Pool) (is : List Input) → IsBare (f p) → Stays is (lets_go x f p is)
 lets-go x f p is h = each (closes_with p.ring x) refl
   where
     each : (o : Option ℕ) → closes_with p.ring x ≡ o → Stays is (lets_go x f p is)
@@ -86,10 +87,10 @@ frees-more : (n : ℕ) → SilentAt n → (x : Obj) → IsSilent (free (suc n) x
 frees-more n ih x p is h = newest (newest_ref p.rows x) refl
   where
     marks : newest_ref p.rows x ≡ None → (r : Row) (m : Mark) → r.mark ≡ m → row_of p.rows x ≡ Some r → Stays is (free (suc n) x p is)
-    marks z r mark.Quiet m k = let e : r.hook ≡ 0 = unhooked-row p.rows x r k h in rw (z, k, m, e) (ih.leaves x p is h)
+    marks z r mark.Quiet m k = let e = bare-row p.rows x r k h in rw (z, k, m, e.0, e.1) (ih.leaves x p is h)
     marks z r mark.Asked m k = rw (z, k, m) (h, refl)
     marks z r mark.Busy m k = rw (z, k, m)
-        (followed-stays is (lets_go x (λ q. doom q x) p is) (λ done. dooming n x) (lets-go x (λ q. doom q x) p is (unhooked-changed (marked_row mark.Doomed) p.rows x (λ s e. e) h)) (λ done. ih.dooms x))
+        (followed-stays is (lets_go x (λ q. doom q x) p is) (λ done. dooming n x) (lets-go x (λ q. doom q x) p is (bare-let_go p x (marked_row mark.Doomed) (λ s e. e) h)) (λ done. ih.dooms x))
     marks z r mark.Doomed m k = rw (z, k, m) (h, refl)
     marks z r (mark.Dying former) m k = rw (z, k, m) (h, refl)
 
@@ -100,13 +101,13 @@ frees-more n ih x p is h = newest (newest_ref p.rows x) refl
     newest : (o : Option Obj) → newest_ref p.rows x ≡ o → Stays is (free (suc n) x p is)
     newest None z = each z (row_of p.rows x) refl
     newest (Some r) z = by_test (is_inside p.rows (Of r) (Of x))
-        (λ t. rw (z, t) (tell-stays is _ (free n x (remove p r) is) (ih.frees x (remove p r) is (unhooked-without p.rows r h))))
-        (λ t. rw (z, t) (unhooked-without p.rows r h, refl))
+        (λ t. rw (z, t) (tell-stays is _ (free n x (remove p r) is) (ih.frees x (remove p r) is (bare-removed p r h))))
+        (λ t. rw (z, t) (bare-removed p r h, refl))
 
 leaves-more : (n : ℕ) → SilentAt n → (x : Obj) → IsSilent (leave (suc n) x 0)
 leaves-more n ih x p is h =
-    followed-stays is (lets_go x (λ q. detach q x) p is) (λ done q left. followed (children n x q left) gone) (lets-go x (λ q. detach q x) p is (unhooked-changed left_row p.rows x (λ s e. e) h))
-    (λ done q left u. followed-stays left (children n x q left) gone (ih.empties x q left u) (λ a r last k. (unhooked-without r.rows x k, refl)))
+    followed-stays is (lets_go x (λ q. detach q x) p is) (λ done q left. followed (children n x q left) gone) (lets-go x (λ q. detach q x) p is (bare-let_go p x left_row (λ s e. e) h))
+    (λ done q left u. followed-stays left (children n x q left) gone (ih.empties x q left u) (λ a r last k. (bare-removed r x k, refl)))
   where
     gone : Unit {0} → Work FreeReply
     gone a q left = tell (record { item = Told (Freed x 0); before = q; about = None }) (Ended free_reply.Ok (remove q x) [] left)
@@ -116,15 +117,15 @@ empties-more n ih x p is h = kids (first_kid p.rows (Of x)) refl
   where
     targets : (c : Obj) → first_kid p.rows (Of x) ≡ Some c → (o : Option Obj) → target_at p.rows c ≡ o → Stays is (children (suc n) x p is)
     targets c e None k = rw (e, k) (followed-stays is (free n c p is) (λ answer q left. tried n x c (noted_owner p.rows c) answer q left) (ih.frees c p is h) (λ answer. ih.tries x c (noted_owner p.rows c) answer))
-    targets c e (Some target) k = rw (e, k) (tell-stays is _ (children n x (remove p c) is) (ih.empties x (remove p c) is (unhooked-without p.rows c h)))
+    targets c e (Some target) k = rw (e, k) (tell-stays is _ (children n x (remove p c) is) (ih.empties x (remove p c) is (bare-removed p c h)))
 
     kids : (o : Option Obj) → first_kid p.rows (Of x) ≡ o → Stays is (children (suc n) x p is)
     kids None e = rw e (h, refl)
     kids (Some c) e = targets c e (target_at p.rows c) refl
 
-handed-on : (n : ℕ) → SilentAt n → (x c : Obj) (noted : Option Owner) (p : Pool) (is : List Input) → Unhooked p.rows → Stays is (followed (hand_on x c noted p is) (λ a q left. children n x q left))
+handed-on : (n : ℕ) → SilentAt n → (x c : Obj) (noted : Option Owner) (p : Pool) (is : List Input) → IsBare p → Stays is (followed (hand_on x c noted p is) (λ a q left. children n x q left))
 handed-on n ih x c noted p is h = by_test (is_below (owner_of p.rows c) (Of x))
-    (λ t. rw t (tell-stays is _ (children n x (place p (heir p.rows x c noted) c) is) (ih.empties x (place p (heir p.rows x c noted) c) is (unhooked-place p (heir p.rows x c noted) c h))))
+    (λ t. rw t (tell-stays is _ (children n x (place p (heir p.rows x c noted) c) is) (ih.empties x (place p (heir p.rows x c noted) c) is (bare-placed p (heir p.rows x c noted) c h))))
     (λ t. rw t (ih.empties x p is h))
 
 tries-more : (n : ℕ) → SilentAt n → (x c : Obj) (noted : Option Owner) (answer : FreeReply) → IsSilent (tried (suc n) x c noted answer)
@@ -138,7 +139,7 @@ unlinks-more n ih o x p is h = each (newest_ref_of p.rows o x) refl
   where
     each : (r : Option Obj) → newest_ref_of p.rows o x ≡ r → Stays is (unlink (suc n) o x p is)
     each None e = rw e (ih.releases x p is h)
-    each (Some r) e = rw e (unhooked-without p.rows r h, refl)
+    each (Some r) e = rw e (bare-removed p r h, refl)
 
 releases-more : (n : ℕ) → SilentAt n → (x : Obj) → IsSilent (release (suc n) x)
 releases-more n ih x p is h = each (newest_ref p.rows x) refl
@@ -146,11 +147,11 @@ releases-more n ih x p is h = each (newest_ref p.rows x) refl
     each : (o : Option Obj) → newest_ref p.rows x ≡ o → Stays is (release (suc n) x p is)
     each None e = rw e (ih.frees x p is h)
     each (Some r) e = by_test (is_inside p.rows (Of r) (Of x))
-        (λ t. rw (e, t) (tell-stays is _ (release n x (remove p r) is) (ih.releases x (remove p r) is (unhooked-without p.rows r h))))
-        (λ t. rw (e, t) (tell-stays is _ (given n x _ (remove p r) is) (ih.hands x _ (remove p r) is (unhooked-without p.rows r h))))
+        (λ t. rw (e, t) (tell-stays is _ (release n x (remove p r) is) (ih.releases x (remove p r) is (bare-removed p r h))))
+        (λ t. rw (e, t) (tell-stays is _ (given n x _ (remove p r) is) (ih.hands x _ (remove p r) is (bare-removed p r h))))
 
 hands-more : (n : ℕ) → SilentAt n → (x : Obj) (o : Owner) → IsSilent (given (suc n) x o)
-hands-more n ih x o p is h = (unhooked-place p o x h, refl)
+hands-more n ih x o p is h = (bare-placed p o x h, refl)
 
 silent : (n : ℕ) → SilentAt n
 silent zero = record {
@@ -174,11 +175,11 @@ silent (suc n) = record {
   hands = hands-more n (silent n);
 }
 
-effect-silent : (n : ℕ) (w : Plan) (reach : Ask → Work Reply) (turn : Work Reply) → IsCalm w → IsSilent (effect (free n) (unlink n) (children n) reach turn w)
-effect-silent n (Does c notice r) reach turn calm p is h = (calm p h, refl)
-effect-silent n (Frees x) reach turn calm p is h = followed-stays is (free n x p is) (λ answer. gives (freed_reply x answer)) ((silent n).frees x p is h) (λ answer q left k. (k, refl))
-effect-silent n (Unlinks o x) reach turn calm p is h = followed-stays is (unlink n o x p is) (λ answer. gives (freed_reply x answer)) ((silent n).unlinks o x p is h) (λ answer q left k. (k, refl))
-effect-silent n _ reach turn calm p is h = absurd calm
+effect-silent : (n : ℕ) (w : Plan) (reach : Ask → Work Reply) (turn : Work Reply) (work : Errand → Obj → Work Reply) → IsCalm w → IsSilent (effect (free n) (unlink n) (children n) reach turn work w)
+effect-silent n (Does c notice r) reach turn work calm p is h = (calm p h, refl)
+effect-silent n (Frees x) reach turn work calm p is h = followed-stays is (free n x p is) (λ answer. gives (freed_reply x answer)) ((silent n).frees x p is h) (λ answer q left k. (k, refl))
+effect-silent n (Unlinks o x) reach turn work calm p is h = followed-stays is (unlink n o x p is) (λ answer. gives (freed_reply x answer)) ((silent n).unlinks o x p is h) (λ answer q left k. (k, refl))
+effect-silent n _ reach turn work calm p is h = absurd calm
 
 -- ---- call after call
 
@@ -210,35 +211,38 @@ tells-awaits : (ts : List Scene) (o : Outcome ℕ Pool Input Scene) → AwaitsCa
 tells-awaits [] o h = h
 tells-awaits (t ∷ ts) o h = tell-awaits t (tells ts o) (tells-awaits ts o h)
 
-followed-awaits : {A : Type 0} (is : List Input) (o : Outcome A Pool Input Scene) (k : A → Work ℕ) → Stays is o → ((a : A) (q : Pool) → Unhooked q.rows → AwaitsCall (k a q is)) → AwaitsCall (followed o k)
+followed-awaits : {A : Type 0} (is : List Input) (o : Outcome A Pool Input Scene) (k : A → Work ℕ) → Stays is o → ((a : A) (q : Pool) → IsBare q → AwaitsCall (k a q is)) → AwaitsCall (followed o k)
 followed-awaits is (Ended a q ts left) k s more = tells-awaits ts (k a q left) (subst (λ (l : List Input). AwaitsCall (k a q l)) (sym s.1) (more a q s.0))
 followed-awaits is (Waits ts) k s more = absurd s
 followed-awaits is (Stray ts) k s more = absurd s
 followed-awaits is Short k s more = tt
 
 record AwaitsAt (n : ℕ) : Type 0 where
-  asks : (p : Pool) (is : List Input) → Unhooked p.rows → AreCalls is → AwaitsCall (asked n Quiet p is)
-  acts : (c : Call) → is_calm c ≡ true → (p : Pool) (is : List Input) → Unhooked p.rows → AreCalls is → AwaitsCall (acting n Quiet c p is)
-  tells : (about : Option CallStart) (r : Reply) (p : Pool) (is : List Input) → Unhooked p.rows → AreCalls is → AwaitsCall (telling n about Quiet r p is)
-  announces : (about : Option CallStart) (notice : Notice) (r : Reply) (p : Pool) (is : List Input) → Unhooked p.rows → AreCalls is → AwaitsCall (announcing n about Quiet notice r p is)
+  asks : (p : Pool) (is : List Input) → IsBare p → AreCalls is → AwaitsCall (asked n Quiet p is)
+  acts : (c : Call) → is_calm c ≡ true → (p : Pool) (is : List Input) → IsBare p → AreCalls is → AwaitsCall (acting n Quiet c p is)
+  tells : (about : Option CallStart) (r : Reply) (p : Pool) (is : List Input) → IsBare p → AreCalls is → AwaitsCall (telling n about Quiet r p is)
+  announces : (about : Option CallStart) (notice : Notice) (r : Reply) (p : Pool) (is : List Input) → IsBare p → AreCalls is → AwaitsCall (announcing n about Quiet notice r p is)
 
-asks-more : (n : ℕ) → AwaitsAt n → (p : Pool) (is : List Input) → Unhooked p.rows → AreCalls is → AwaitsCall (asked (suc n) Quiet p is)
+asks-more : (n : ℕ) → AwaitsAt n → (p : Pool) (is : List Input) → IsBare p → AreCalls is → AwaitsCall (asked (suc n) Quiet p is)
 unfolding open_question
 asks-more n ih p [] h a = refl
 asks-more n ih p (inputs.Call c ∷ is) h a = rw a.0 (tell-awaits _ (acting n Quiet c p is) (ih.acts c a.1 p is h a.2))
 asks-more n ih p (_ ∷ is) h a = absurd a
 
-acts-more : (n : ℕ) → AwaitsAt n → (c : Call) → is_calm c ≡ true → (p : Pool) (is : List Input) → Unhooked p.rows → AreCalls is → AwaitsCall (acting (suc n) Quiet c p is)
+acts-more : (n : ℕ) → AwaitsAt n → (c : Call) → is_calm c ≡ true → (p : Pool) (is : List Input) → IsBare p → AreCalls is → AwaitsCall (acting (suc n) Quiet c p is)
 acts-more n ih c e p is h a = each (notice_of (planned p c)) refl
   where
     turn : Work Reply
     turn = turned Quiet (taking n)
 
+    work : Errand → Obj → Work Reply
+    work = work_by (finishing n) (notifying n) (receiving n) (cancelling n)
+
     done : Work Reply
-    done = effect (free n) (unlink n) (children n) (reaching n) turn (planned p c)
+    done = effect (free n) (unlink n) (children n) (reaching n) turn work (planned p c)
 
     does : Stays is (done p is)
-    does = effect-silent n (planned p c) (reaching n) turn (calm-planned p c e) p is h
+    does = effect-silent n (planned p c) (reaching n) turn work (calm-planned p c e) p is h
 
     each : (notice : Option Notice) → notice_of (planned p c) ≡ notice → AwaitsCall (acting (suc n) Quiet c p is)
     each None k = rw k (followed-awaits is (done p is) (λ r. telling n (Some (record { call = c; start = p })) Quiet r) does (λ r q u. ih.tells _ r q is u a))

@@ -1,5 +1,7 @@
 -- The sums stay those of what is inside, where it is told what has changed.
 use Rattle.std.proofs.Common.{◌≡◌, ℕ, zero, suc, ◌+◌, ◌<◌, ◌≤◌, List, [], ◌∷◌, map, Option, Some, None, Ok, Err, true, false, ◌&&◌, nat_lt, if◌then◌else◌, refl, sym, ◌∙◌, ap, arith}
+use Rattle.tree_specs.specs.declared.kind.Kind.{Kind}
+use Rattle.tree_specs.specs.declared.kind.Kind.TheVariants.{Plain}
 use Rattle.tree_specs.specs.declared.object.Obj.{Obj}
 use Rattle.tree_specs.specs.declared.object.Owner.{Owner}
 use Rattle.tree_specs.specs.declared.object.Owner.TheVariants.{Root, Of}
@@ -13,7 +15,6 @@ use Rattle.tree_specs.specs.Calls.Refusals.{is_plain, is_plain_row, checked, ref
 use Rattle.tree_specs.specs.declared.reply.Refusal.TheVariants.{OverLimit}
 use Rattle.std.specs.List.{AllByRecursion}
 use Rattle.tree_specs.proofs.Tree.Numbered.{by_test, same-true, same-false, same-equal}
-use Rattle.tree_specs.proofs.Tree.Referring.{plain-refers}
 use Rattle.tree_specs.proofs.Tree.SumLaws.{sum-below, sum-lone, sum-before, sum-sized}
 use Rattle.tree_links.specs.Links.{IsTree}
 use Rattle.tree_links.proofs.Weighing.{sum-small}
@@ -165,6 +166,11 @@ pub over-fits : (ls : List Limited) (rs : List Row) (wanted : ℕ) (x : Obj) (l 
     → checked (over rs wanted x) ≡ Ok tt
 over-fits ls rs wanted x l are e t = ap checked (over-found ls rs wanted x l are e) ∙ rw t refl
 
+-- what is plain is no reference
+plain-object : (k : Kind) → is_plain k ≡ true → is_reference k ≡ false
+plain-object Plain e = refl
+plain-object _ e = cc
+
 pub resizes : (rs : List Row) (next : ℕ) (x : Obj) (before : ℕ) (ls : List Limited) → IsTree rs next → is_plain_row (row_of rs x) ≡ true → AllSums ls (changed (sized_row before) rs x)
     → AllSums (map (counts (record { less = before; more = size_at rs x }) rs (Of x)) ls) rs
 resizes rs next x before ls t plain s = each (row_of rs x) refl
@@ -173,7 +179,7 @@ resizes rs next x before ls t plain s = each (row_of rs x) refl
     each None e = let bad : false ≡ true = rw e at plain in cc
     each (Some r) e =
         let p : is_plain r.kind ≡ true = rw e at plain in
-        let object : is_reference r.kind ≡ false = rw (plain-refers r.kind p) refl in
+        let object : is_reference r.kind ≡ false = plain-object r.kind p in
         let size : size_at rs x ≡ r.size = rw e refl in
         rw size (sizes rs next x r before ls t e object s)
 

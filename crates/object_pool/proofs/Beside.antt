@@ -8,23 +8,25 @@ use Rattle.tree_specs.specs.declared.row.Row.{Row}
 use Rattle.tree_specs.specs.declared.row.Mark.{Mark}
 use Rattle.tree_specs.specs.declared.row.Mark.TheVariants as mark
 use Rattle.tree_specs.specs.declared.frame.FreeFrame.{FreeFrame}
-use Rattle.tree_specs.specs.declared.frame.FreeFrame.TheVariants.{Unlinking, Releasing, Giving, Beginning, Hooked, Judged, Dooming, Leaving, Looping, FreeingChild, AfterChild, Ending}
+use Rattle.tree_specs.specs.declared.frame.FreeFrame.TheVariants.{Unlinking, Releasing, Giving, Beginning, Hooked, Judged, Preparing, Prepared, Dooming, Leaving, Looping, FreeingChild, AfterChild, Ending}
 use Rattle.tree_specs.specs.declared.frame.Purpose.{Purpose}
 use Rattle.tree_specs.specs.declared.frame.Purpose.TheVariants.{Removal, Emptying}
 use Rattle.tree_specs.specs.declared.free_step.FreeReply.{FreeReply}
 use Rattle.tree_specs.specs.declared.free_step.FreeReply.TheVariants as free_reply
 use Rattle.tree_specs.specs.declared.free_step.FreeStep.{FreeStep}
-use Rattle.tree_specs.specs.declared.free_step.FreeStep.TheVariants.{Ask, Done}
+use Rattle.tree_specs.specs.declared.free_step.FreeStep.TheVariants.{Ask, Prepare, Done}
 use Rattle.tree_specs.specs.Tree.Targets.{newest_ref}
 use Rattle.tree_specs.specs.Tree.Pool.{Pool, row_of, is_below, owner_of, target_at, newest_ref_of, is_inside, first_kid}
 use Rattle.tree_specs.specs.Machine.FreeTable.{FreeMove, free_step, begin_step, refs_step, drop_step, unlink_step, release_step, judge_step, loop_step, child_step, hand_on_step, tried_step}
 use Rattle.tree_specs.specs.Machine.Profiles.{Phase}
-use Rattle.tree_specs.specs.Invariants.Sound.{Footing, FreeRests, Tries}
+use Rattle.tree_specs.specs.Invariants.Sound.{Footing, FreeRests, Tries, claims, footing}
 use Rattle.tree_specs.specs.Invariants.Sound.Footing.{OnFree, OnCall, AtBottom}
-use Rattle.tree_specs.specs.Invariants.Alone.{FreesHold, FreesWait}
+use Rattle.tree_specs.specs.declared.frame.Frame.TheVariants as frame
+use Rattle.tree_specs.specs.Calls.Refusals.{is_request}
 use Rattle.tree_specs.proofs.Tree.Numbered.{by_test}
-use Rattle.destructors.specs.Frees.{OpenFrees, answered, moved, moves, next_of, Silently, Still, On, speaking, speaks, Steps, Begins}
-use Rattle.destructors.specs.Works.{LeavesIdle, AtWork, GoesOn}
+use Rattle.tree_specs.proofs.Invariants.Changes.{waiting-sound}
+use Rattle.destructors.specs.Frees.{OpenFrees, awaits_run, answered, moved, moves, next_of, returned, Silently, Still, On, speaking, speaks, Steps, Begins}
+use Rattle.destructors.specs.Works.{IsHosted, AtWork, AreAwaiting, GoesOn}
 use Rattle.object_pool.specs.Upcoming.{Upcoming, beside, frees_beside, after}
 
 -- ---- a move
@@ -54,7 +56,9 @@ module _ (events : Upcoming) where
   begin-beside x p (Some r) = each r.mark refl
     where
       each : (m : Mark) → r.mark ≡ m → begin_step x (Some r) (beside events p) ≡ beside_move events (begin_step x (Some r) p)
-      each mark.Quiet e = by_test (nat_eq r.hook 0) (λ t. rw (e, t) refl) (λ t. rw (e, t) refl)
+      each mark.Quiet e = by_test (is_request r.kind)
+          (λ t. rw (e, t) refl)
+          (λ t. by_test (nat_eq r.hook 0) (λ h. rw (e, t, h) refl) (λ h. rw (e, t, h) refl))
       each mark.Asked e = rw e refl
       each mark.Busy e = rw e refl
       each mark.Doomed e = rw e refl
@@ -103,6 +107,8 @@ module _ (events : Upcoming) where
   move-beside (Beginning x) p = refs-beside x p (newest_ref p.rows x)
   move-beside (Hooked x h) p = refl
   move-beside (Judged x h v) p = judge-beside x h v p
+  move-beside (Preparing x) p = refl
+  move-beside (Prepared x) p = refl
   move-beside (Dooming x) p = refl
   move-beside (Leaving x h) p = refl
   move-beside (Looping x purpose) p = loop-beside x purpose p (first_kid p.rows (Of x))
@@ -118,8 +124,7 @@ module _ (events : Upcoming) where
 
   answered-beside : (a : FreeReply) (p : Pool) (fs : List FreeFrame) → answered a (beside events p) fs ≡ Beside (answered a p fs)
   answered-beside a p [] = refl
-  answered-beside a p (Hooked x h ∷ fs) = refl
-  answered-beside a p (f ∷ fs) = refl
+  answered-beside a p (f ∷ fs) = by_test (awaits_run f) (λ t. rw t refl) (λ t. rw t refl)
 
   moved-beside : (m : FreeMove) (fs : List FreeFrame) → moved (beside_move events m) fs ≡ Beside (moved m fs)
   moved-beside (Do.Done a p) fs = answered-beside a p fs
@@ -172,35 +177,45 @@ module _ (p : Pool) (u v : Upcoming) where
   tries-same x _ t = absurd t
 
   rests-same : (f : FreeFrame) (on : Footing) (claimed : Obj → List Phase) → FreeRests f on claimed here → FreeRests f on claimed there
-  rests-same (Unlinking o x) on claimed h = h
-  rests-same (Releasing x) on claimed h = h
   rests-same (Giving x o) on claimed h = record { row = h.row; is = h.is; live = h.live; apart = h.apart; there = h.there; outside = h.outside }
   rests-same (Beginning x) on claimed h = (tries-same x on h.0, h.1)
-  rests-same (Hooked x g) on claimed h = h
-  rests-same (Judged x g v) on claimed h = h
   rests-same (Dooming x) on claimed h = (tries-same x on h.0, h.1)
-  rests-same (Leaving x g) on claimed h = h
-  rests-same (Looping x purpose) on claimed h = h
-  rests-same (FreeingChild x c noted purpose) on claimed h = h
   rests-same (AfterChild x c noted purpose free_reply.Running) on claimed h = h
   rests-same (AfterChild x c noted purpose _) on claimed h = (tt, h.1)
-  rests-same (Ending a) on claimed h = h
+  rests-same _ on claimed h = h
 
-  holds-same : (claimed : Obj → List Phase) (below : List FreeFrame) (G G' : Type 0) → (G → G') → FreesHold claimed below G here → FreesHold claimed below G' there
-  holds-same claimed below G G' g h = record { started = h.started; valid = h.valid; forest = h.forest; refers = h.refers; open_frees = h.open_frees; waiting = h.waiting; rests = g h.rests }
+  pub hosted-same : (f : FreeFrame) (fs : List FreeFrame) → IsHosted f fs here → IsHosted f fs there
+  hosted-same f fs w =
+      let g = frame.Free f in
+      let s = w.sound in
+      record {
+        below = w.below;
+        frees = w.frees;
+        sound = waiting-sound g g w.below here there s refl refl (λ x. refl) (rests-same f (footing w.below) (λ x. claims x w.below) s.rests);
+        seated = w.seated;
+        light = w.light;
+        turns = w.turns;
+      }
 
   pub works-same : (fs : List FreeFrame) → AtWork fs here → AtWork fs there
   works-same [] h = h
-  works-same (f ∷ fs) h = (record { sound = holds-same _ fs _ _ (rests-same f _ _) h.0.sound; light = h.0.light }, idle f h.1)
-    where
-      idle : (g : FreeFrame) → LeavesIdle g here → LeavesIdle g there
-      idle (Leaving x e) i = i
-      idle _ i = tt
+  works-same (f ∷ fs) h = hosted-same f fs h
 
-  pub awaits-same : (fs : List FreeFrame) → FreesWait fs here → FreesWait fs there
-  awaits-same fs h = record { sound = holds-same _ fs _ _ (λ g. g) h.sound; light = h.light }
+  pub awaits-same : (fs : List FreeFrame) → AreAwaiting fs here → AreAwaiting fs there
+  unfolding hosted-same
+  awaits-same fs a = record { over = hosted-same (Ending free_reply.Ok) fs a.over; on = a.on }
 
   pub goes_on-same : (told : FreeStep) (fs : List FreeFrame) → GoesOn told (record { works = fs; pool = here }) → GoesOn told (record { works = fs; pool = there })
   goes_on-same (Ask x) fs h = awaits-same fs h
+  goes_on-same (Prepare x) fs h = awaits-same fs h
   goes_on-same (Done a) fs h = awaits-same fs h
   goes_on-same _ fs h = works-same fs h
+
+-- what a destructor has returned is judged whatever is to come
+pub returned-beside : (v : ℕ) (u : Upcoming) (s : OpenFrees) → returned v (frees_beside u s) ≡ returned v s
+returned-beside v u s = each s.works
+  where
+    each : (fs : List FreeFrame) → returned v (record { works = fs; pool = beside u s.pool }) ≡ returned v (record { works = fs; pool = s.pool })
+    each [] = refl
+    each (Hooked x h ∷ fs) = refl
+    each (f ∷ fs) = refl

@@ -11,7 +11,8 @@ use Rattle.tree_specs.specs.declared.row.Mark.{Mark}
 use Rattle.tree_specs.specs.Tree.Pool.{Pool, row_of, is_row, changed, marked_row, add, place, set_mark}
 use Rattle.tree_specs.specs.Tree.Sums.{charge}
 use Rattle.tree_specs.specs.Tree.Targets.{target_of}
-use Rattle.tree_specs.proofs.Turns.FallingFrees.{total-kept, length-changed, length-placed}
+use Rattle.tree_specs.proofs.Turns.Lowering.{total-kept, length-changed}
+use Rattle.tree_specs.proofs.Turns.FallingFrees.{length-placed}
 use Rattle.tree_specs.proofs.Tree.Rows.{total-placed}
 use Rattle.tree_specs.proofs.Tree.SumLaws.{changed-weights}
 use Rattle.tree_links.specs.Links.{Links, pool_of, works_of}
@@ -22,50 +23,26 @@ use Rattle.references.proofs.SameRefs.{put-elsewhere}
 use Rattle.memory_limits.specs.Limits.{Limits, AreLimitsOf}
 use Rattle.destructors.specs.Frees.{OpenFrees, Steps, before, frees_of, returned}
 use Rattle.tree_specs.specs.declared.free_step.FreeStep.{FreeStep}
-use Rattle.tree_specs.specs.declared.free_step.FreeStep.TheVariants.{Doom, Left}
-use Rattle.tree_specs.specs.declared.due.Due.{Due}
 use Rattle.tree_specs.specs.declared.watch.Watch.{Watch}
-use Rattle.tree_specs.proofs.Tree.Numbered.{by_test}
 use Rattle.destructors.specs.Engine.{IsAsked, AreKept, HasRoom}
 use Rattle.destructors.specs.Room.{mark_places, row_places, wanted}
 use Rattle.destructors.proofs.Begins.{any-room}
+use Rattle.destructors.proofs.Settling.{kept-same}
 use Rattle.object_pool.specs.Objects.{HasPlaces}
-use Rattle.tree_specs.specs.Events.Pending.{unscheduled, disarmed}
+use Rattle.tree_specs.specs.Events.Pending.{unscheduled}
 use Rattle.tree_specs.specs.Events.Rotation.{rewatched, turned_back}
 use Rattle.tree_specs.specs.Words.Objects.{same}
 use Rattle.object_pool.specs.Agreeing.{AgreeWith}
 use Rattle.loop_core.specs.declared.pick.Pick.{Pick}
-use Rattle.loop_core.specs.declared.pick.Pick.TheVariants.{Soon, Time}
-use Rattle.object_pool.specs.Upcoming.{Upcoming, Agenda, KeepsPlaces, AllNumbered, AllWatchersNumbered, after, picked, pending, with_watch, with_closed, without_event}
-use Rattle.object_pool.proofs.Numbers.{numbered-later, steps-next}
-use Rattle.object_pool.proofs.Watchers.{watchers-later, watchers-changed, watchers-turned, unwatched-fewer, rewatched-many, turned-fewer, AllGiven, given-later, told-given, picked-given}
+use Rattle.loop_core.specs.declared.pick.Pick.TheVariants.{Soon}
+use Rattle.object_pool.specs.Upcoming.{Upcoming, Agenda, KeepsPlaces, AllBefore, AreGiven, watcher_number, after, picked, pending, with_watch, with_closed}
+use Rattle.object_pool.proofs.Numbers.{steps-next}
+use Rattle.object_pool.proofs.Given.{given-later, told-given, picked-given, ring-changed, ring-turned}
+use Rattle.object_pool.proofs.Fewer.{told-fewer, picked-fewer, rewatched-many, turned-fewer}
 use Rattle.object_pool.specs.declared.pool.ObjectPool.TheInside.{Inside}
 use Rattle.object_pool.proofs.Counted.{same-kept}
 use Rattle.object_pool.proofs.Fields.{changed-kept}
 use Rattle.destructors.specs.Changes.{SameRows}
-
--- ---- fewer wait
-
-fewer : (xs : List Obj) (x : Obj) → length (unscheduled xs x) ≤ length xs
-fewer [] x = omega arith
-fewer (y ∷ ys) x = let n = fewer ys x in by_test (same y x) (λ t. rw t (omega (arith, n))) (λ t. rw t (omega (arith, n)))
-
-disarmed-fewer : (ds : List Due) (x : Obj) → length (disarmed ds x) ≤ length ds
-disarmed-fewer [] x = omega arith
-disarmed-fewer (d ∷ ds) x = let n = disarmed-fewer ds x in by_test (same d.object x) (λ t. rw t (omega (arith, n))) (λ t. rw t (omega (arith, n)))
-
-without-fewer : (x : Obj) (u : Upcoming) → pending (without_event x u) ≤ pending u
-without-fewer x u = let m = fewer u.soon x in let n = disarmed-fewer u.times x in let k = unwatched-fewer u.ring x in omega (arith, m, n, k)
-
-told-fewer : (told : FreeStep) (u : Upcoming) → pending (after (Some told) u) ≤ pending u
-told-fewer (Left x from) u = without-fewer x u
-told-fewer (Doom x) u = without-fewer x u
-told-fewer _ u = omega arith
-
-picked-fewer : (pick : Pick) (u : Upcoming) → pending (picked pick u) ≤ pending u
-picked-fewer (Soon x) u = let m = fewer u.soon x in omega (arith, m)
-picked-fewer (Time x now) u = let n = disarmed-fewer u.times x in omega (arith, n)
-picked-fewer _ u = omega arith
 
 -- ---- rows that want no more room
 
@@ -79,10 +56,6 @@ pub record Stays (t t' : Links) : Type 0 where
 wanted-same : (fs : List FreeFrame) (rs rs' : List Row) → total row_places rs' ≡ total row_places rs → wanted fs rs' ≡ wanted fs rs
 wanted-same [] rs rs' e = refl
 wanted-same (f ∷ fs) rs rs' e = omega (arith, e)
-
-kept-same : (o : Option FreeFrame) (t t' : Links) → t'.frees ≡ t.frees → AreKept o t → AreKept o t'
-kept-same None t t' e k = e ∙ k
-kept-same (Some f) t t' e k = tt
 
 -- places that are there stay, where others change
 pub still-places : (ps ps' : Pairs) (ls ls' : Limits) (a : Agenda) → ps.spare ≤ ps'.spare → ls.spare ≤ ls'.spare → HasPlaces ps ls a → HasPlaces ps' ls' a
@@ -104,6 +77,7 @@ fewer-wait ps ls a a' k n h = record {
     watch = (let i = h.event.watch in let s = k.ring in omega (arith, i, s));
     descriptor = (let i = h.event.descriptor in let s = k.descriptors in omega (arith, i, s));
     handler = (let i = h.event.handler in let s = k.handlers in omega (arith, i, s));
+    request = (let i = h.event.request in let s = k.requests in omega (arith, i, s));
   };
   waiting = (let w = h.waiting in omega (arith, w, n));
 }
@@ -116,8 +90,7 @@ stays b t' ls' s refs limits spare a =
       references = refs;
       limits = limits;
       kept = kept-same b.engine b.tree t' frees a.kept;
-      numbers = numbered-later b.tree.next t'.next b.events.upcoming.times s.next a.numbers;
-      watchers = watchers-later b.tree.next t'.next b.events.upcoming.ring s.next a.watchers;
+      given = given-later b.tree.next t'.next b.events.upcoming s.next a.given;
       room = rw (frees, room, wanted-same (before b.engine b.tree.frees) b.tree.rows t'.rows s.places) a.room;
       call = λ e. let c = a.call e in record { row = (let r = c.row in omega (arith, r, s.spare)); works = rw (s.rows, room) c.works };
       placed = a.placed;
@@ -175,7 +148,7 @@ pub never : {A : Type 0} → false ≡ true → A
 never e = cc
 
 -- what the memory for a call was taken for
-pub spent : (b : Inside) (t' : Links) (ps' : Pairs) (ls' : Limits) (pl : Bool) → (pl ≡ true → HasPlaces ps' ls' b.events) → b.ready ≡ true → b.tree.next ≤ t'.next → length t'.rows ≤ length b.tree.rows + 1 → works_of t' ≡ works_of b.tree → AreRefsOf ps'.pairs t'.rows → AreLimitsOf ls'.limited t'.rows
+pub spent : (b : Inside) (t' : Links) (ps' : Pairs) (ls' : Limits) (pl : Bool) → (pl ≡ true → HasPlaces ps' ls' b.events) → b.ready ≡ true → b.tree.next ≤ t'.next → length t'.rows ≤ length b.tree.rows + 2 → works_of t' ≡ works_of b.tree → AreRefsOf ps'.pairs t'.rows → AreLimitsOf ls'.limited t'.rows
     → AgreeWith b → AgreeWith (record b { tree = t'; refs = ps'; sums = ls'; places = pl; ready = false })
 spent b t' ps' ls' pl places ready next rows works refs limits a =
     let frees : t'.frees ≡ b.tree.frees = ap (λ (z : List FreeFrame × ℕ). z.0) works in
@@ -186,24 +159,28 @@ spent b t' ps' ls' pl places ready next rows works refs limits a =
       limits = limits;
       kept = kept-same b.engine b.tree t' frees a.kept;
       room = any-room b.engine t' (omega (arith, c, room, rows));
-      numbers = numbered-later b.tree.next t'.next b.events.upcoming.times next a.numbers;
-      watchers = watchers-later b.tree.next t'.next b.events.upcoming.ring next a.watchers;
+      given = given-later b.tree.next t'.next b.events.upcoming next a.given;
       call = never;
       placed = never;
       places = places;
     }
 
--- a new row of an object that refers to no other
+-- the references where there is a new row of an object that refers to no other
+pub refs-with : (ps : Pairs) (t t' : Links) (x : Obj) (kind : Kind) (owner : Owner) (size : ℕ) (name : List ℕ) → target_of kind ≡ None → x ≡ record { 0 = t.next } → row_of t.rows x ≡ None → pool_of t' ≡ add (pool_of t) kind owner size name
+    → AreRefsOf ps.pairs t.rows → AreRefsOf ps.pairs t'.rows
+refs-with ps t t' x kind owner size name plain serial fresh is refs =
+    let rows : t'.rows ≡ (add (pool_of t) kind owner size name).rows = ap (λ (p : Pool). p.rows) is in
+    let absent = subst (λ (y : Obj). row_of t.rows y ≡ None) serial fresh in
+    subst (AreRefsOf ps.pairs) (sym rows) (refs-added ps.pairs t.rows (record { 0 = t.next }) kind owner size name absent plain refs)
+
+-- such a row
 pub row-added : (b : Inside) (t' : Links) (ls' : Limits) (pl : Bool) (x : Obj) (kind : Kind) (owner : Owner) (size : ℕ) (name : List ℕ) → (pl ≡ true → HasPlaces b.refs ls' b.events) → b.ready ≡ true → target_of kind ≡ None
     → x ≡ record { 0 = b.tree.next } → row_of b.tree.rows x ≡ None → pool_of t' ≡ add (pool_of b.tree) kind owner size name → works_of t' ≡ works_of b.tree → AreLimitsOf ls'.limited t'.rows
     → AgreeWith b → AgreeWith (record b { tree = t'; sums = ls'; places = pl; ready = false })
 row-added b t' ls' pl x kind owner size name places ready plain serial fresh is works limits a =
-    let rows : t'.rows ≡ (add (pool_of b.tree) kind owner size name).rows = ap (λ (p : Pool). p.rows) is in
-    let more = ap length rows in
+    let more = ap (λ (p : Pool). length p.rows) is in
     let next = ap (λ (p : Pool). p.next) is in
-    let absent = subst (λ (y : Obj). row_of b.tree.rows y ≡ None) serial fresh in
-    spent b t' b.refs ls' pl places ready (omega (arith, next)) (omega (arith, more)) works
-    (subst (AreRefsOf b.refs.pairs) (sym rows) (refs-added b.refs.pairs b.tree.rows (record { 0 = b.tree.next }) kind owner size name absent plain a.references)) limits a
+    spent b t' b.refs ls' pl places ready (omega (arith, next)) (omega (arith, more)) works (refs-with b.refs b.tree t' x kind owner size name plain serial fresh is a.references) limits a
 
 -- ---- a destructor has returned
 
@@ -223,8 +200,7 @@ begun b o t r a refs same next spare kept room = record {
   limits = same-kept b.sums.limited b.tree.rows t.rows same a.limits;
   kept = kept;
   room = room;
-  numbers = numbered-later b.tree.next t.next b.events.upcoming.times (omega (arith, next)) a.numbers;
-  watchers = watchers-later b.tree.next t.next b.events.upcoming.ring (omega (arith, next)) a.watchers;
+  given = given-later b.tree.next t.next b.events.upcoming (omega (arith, next)) a.given;
   call = never;
   placed = never;
   places = λ e. still-places b.refs r b.sums b.sums b.events spare (omega arith) (a.places e);
@@ -242,14 +218,13 @@ pub stepped : (b : Inside) (o : Option FreeFrame) (t : Links) (r : Pairs) (ls : 
     → AreRefsOf r.pairs t.rows → AreLimitsOf ls.limited t.rows → AreKept o t → HasRoom o t → AgreeWith b → AgreeWith (record b { engine = o; tree = t; refs = r; sums = ls; events = e; ready = false })
 stepped b o t r ls e told steps k refs limits kept room a =
     let n = steps-next _ _ _ steps in
-    let given : AllGiven t.next (after (Some told) b.events.upcoming) = told-given t.next b.events.upcoming told (given-later b.tree.next t.next b.events.upcoming (omega (arith, n)) (a.numbers, a.watchers)) in
+    let given = told-given t.next b.events.upcoming told (given-later b.tree.next t.next b.events.upcoming (omega (arith, n)) a.given) in
     record {
       references = refs;
       limits = limits;
       kept = kept;
       room = room;
-      numbers = rw k.upcoming given.0;
-      watchers = rw k.upcoming given.1;
+      given = rw k.upcoming given;
       call = never;
       placed = never;
       places = λ there. fewer-wait r ls b.events e k.places (rw k.upcoming (told-fewer told b.events.upcoming)) (still-places b.refs r b.sums ls b.events k.refs k.sums (a.places there));
@@ -258,48 +233,51 @@ stepped b o t r ls e told steps k refs limits kept room a =
 -- ---- other events are to come
 
 -- what is to come has changed, and the memory for one more is used up
-pub waits : (b : Inside) (e : Agenda) → AllNumbered b.tree.next e.upcoming.times → AllWatchersNumbered b.tree.next e.upcoming.ring → AgreeWith b → AgreeWith (record b { events = e; places = false; ready = false })
-waits b e numbers watchers a = record { references = a.references; limits = a.limits; kept = a.kept; room = a.room; numbers = numbers; watchers = watchers; call = never; placed = never; places = never }
+pub waits : (b : Inside) (e : Agenda) → AreGiven b.tree.next e.upcoming → AgreeWith b → AgreeWith (record b { events = e; places = false; ready = false })
+waits b e given a = record { references = a.references; limits = a.limits; kept = a.kept; room = a.room; given = given; call = never; placed = never; places = never }
 
 -- a new event, and what is to come with it
 pub event-added : (b : Inside) (t' : Links) (ls' : Limits) (e : Agenda) (x : Obj) (kind : Kind) (owner : Owner) (name : List ℕ) → b.ready ≡ true → target_of kind ≡ None
     → x ≡ record { 0 = b.tree.next } → row_of b.tree.rows x ≡ None → pool_of t' ≡ add (pool_of b.tree) kind owner 0 name → works_of t' ≡ works_of b.tree → AreLimitsOf ls'.limited t'.rows
-    → (b.tree.next ≤ t'.next → x.0 < t'.next → AllGiven t'.next e.upcoming) → AgreeWith b → AgreeWith (record b { tree = t'; sums = ls'; events = e; places = false; ready = false })
+    → (b.tree.next ≤ t'.next → x.0 < t'.next → AreGiven t'.next e.upcoming) → AgreeWith b → AgreeWith (record b { tree = t'; sums = ls'; events = e; places = false; ready = false })
 event-added b t' ls' e x kind owner name ready plain serial fresh is works limits given a =
     let next = ap (λ (p : Pool). p.next) is in
     let number = ap (λ (y : Obj). y.0) serial in
     let all = given (omega (arith, next)) (omega (arith, next, number)) in
-    waits (record b { tree = t'; sums = ls'; places = false; ready = false }) e all.0 all.1 (row-added b t' ls' false x kind owner 0 name never ready plain serial fresh is works limits a)
+    waits (record b { tree = t'; sums = ls'; places = false; ready = false }) e all (row-added b t' ls' false x kind owner 0 name never ready plain serial fresh is works limits a)
 
 -- no more wait
-pub still-agree : (b : Inside) (e : Agenda) → KeepsPlaces b.events e → pending e.upcoming ≤ pending b.events.upcoming → AllNumbered b.tree.next e.upcoming.times → AllWatchersNumbered b.tree.next e.upcoming.ring → AgreeWith b
-    → AgreeWith (record b { events = e })
-still-agree b e k n numbers watchers a = record {
+pub still-agree : (b : Inside) (e : Agenda) → KeepsPlaces b.events e → pending e.upcoming ≤ pending b.events.upcoming → AreGiven b.tree.next e.upcoming → AgreeWith b → AgreeWith (record b { events = e })
+still-agree b e k n given a = record {
   references = a.references;
   limits = a.limits;
   kept = a.kept;
   room = a.room;
-  numbers = numbers;
-  watchers = watchers;
+  given = given;
   call = a.call;
   placed = a.placed;
   places = λ there. fewer-wait b.refs b.sums b.events e k n (a.places there);
 }
 
+-- what is to come is this now, of which no more wait
+pub becomes : (b : Inside) (e : Agenda) (u : Upcoming) → e.upcoming ≡ u → KeepsPlaces b.events e → pending u ≤ pending b.events.upcoming → AreGiven b.tree.next u → AgreeWith b → AgreeWith (record b { events = e })
+becomes b e u is k n given a = still-agree b e k (rw is n) (rw is given) a
+
 pub unscheduled-agree : (b : Inside) (e : Agenda) (x : Obj) → e.upcoming ≡ record b.events.upcoming { soon = unscheduled b.events.upcoming.soon x } → KeepsPlaces b.events e → AgreeWith b → AgreeWith (record b { events = e })
-unscheduled-agree b e x is k a = still-agree b e k (rw is (picked-fewer (Soon x) b.events.upcoming)) (rw is a.numbers) (rw is a.watchers) a
+unscheduled-agree b e x is k a =
+    let u = b.events.upcoming in
+    becomes b e (record u { soon = unscheduled u.soon x }) is k (picked-fewer (Soon x) u) (record { times = a.given.times; ring = a.given.ring; requests = a.given.requests }) a
 
 pub picked-agree : (b : Inside) (e : Agenda) (pick : Pick) → e.upcoming ≡ picked pick b.events.upcoming → KeepsPlaces b.events e → AgreeWith b → AgreeWith (record b { events = e })
-picked-agree b e pick is k a =
-    let given : AllGiven b.tree.next (picked pick b.events.upcoming) = picked-given b.tree.next b.events.upcoming pick (a.numbers, a.watchers) in
-    still-agree b e k (rw is (picked-fewer pick b.events.upcoming)) (rw is given.0) (rw is given.1) a
+picked-agree b e pick is k a = becomes b e (picked pick b.events.upcoming) is k (picked-fewer pick b.events.upcoming) (picked-given b.tree.next b.events.upcoming pick a.given) a
 
 -- ---- the events on descriptors
 
 -- the rotation is another one, of no more events, whose numbers were given
-pub ring-agree : (b : Inside) (e : Agenda) (ring : List Watch) → e.upcoming ≡ record b.events.upcoming { ring = ring } → length ring ≤ length b.events.upcoming.ring → AllWatchersNumbered b.tree.next ring → KeepsPlaces b.events e
+pub ring-agree : (b : Inside) (e : Agenda) (ring : List Watch) → e.upcoming ≡ record b.events.upcoming { ring = ring } → length ring ≤ length b.events.upcoming.ring → AllBefore watcher_number b.tree.next ring → KeepsPlaces b.events e
     → AgreeWith b → AgreeWith (record b { events = e })
-ring-agree b e ring is n watchers k a = still-agree b e k (rw is (omega (arith, n))) (rw is a.numbers) (rw is watchers) a
+ring-agree b e ring is n watchers k a =
+    becomes b e (record b.events.upcoming { ring = ring }) is k (omega (arith, n)) (record { times = a.given.times; ring = watchers; requests = a.given.requests }) a
 
 -- how an event watches is changed
 pub rewatched-agree : (b : Inside) (e : Agenda) (change : Watch → Watch) (x : Obj) → e.upcoming ≡ with_watch change x b.events.upcoming → ((w : Watch) → (change w).object ≡ w.object) → KeepsPlaces b.events e
@@ -307,15 +285,16 @@ pub rewatched-agree : (b : Inside) (e : Agenda) (change : Watch → Watch) (x : 
 rewatched-agree b e change x is same_object k a =
     let ring = b.events.upcoming.ring in
     let n = rewatched-many change ring x in
-    ring-agree b e (rewatched change ring x) is (omega (arith, n)) (watchers-changed b.tree.next change ring x same_object a.watchers) k a
+    ring-agree b e (rewatched change ring x) is (omega (arith, n)) (ring-changed b.tree.next change ring x same_object a.given.ring) k a
 
 pub turned-agree : (b : Inside) (e : Agenda) (x : Obj) → e.upcoming ≡ record b.events.upcoming { ring = turned_back b.events.upcoming.ring x } → KeepsPlaces b.events e → AgreeWith b → AgreeWith (record b { events = e })
 turned-agree b e x is k a =
     let ring = b.events.upcoming.ring in
-    ring-agree b e (turned_back ring x) is (turned-fewer ring x) (watchers-turned b.tree.next ring x a.watchers) k a
+    ring-agree b e (turned_back ring x) is (turned-fewer ring x) (ring-turned b.tree.next ring x a.given.ring) k a
 
 pub closed-agree : (b : Inside) (e : Agenda) (fd : ℕ) → e.upcoming ≡ with_closed fd b.events.upcoming → KeepsPlaces b.events e → AgreeWith b → AgreeWith (record b { events = e })
-closed-agree b e fd is k a = still-agree b e k (rw is (omega arith)) (rw is a.numbers) (rw is a.watchers) a
+closed-agree b e fd is k a =
+    becomes b e (with_closed fd b.events.upcoming) is k (omega arith) (record { times = a.given.times; ring = a.given.ring; requests = a.given.requests }) a
 
 -- ---- an object that doesn't die gets another mark
 

@@ -1,10 +1,12 @@
 pub mod Marks
-pub mod NumberMaps
 pub mod Counted
 pub mod Told
 pub mod Fields
 pub mod Keeping
 pub mod Beside
 pub mod Numbers
-pub mod Watchers
+pub mod Given
+pub mod Fewer
+pub mod Requesting
+pub mod Opening
 pub mod Announcing

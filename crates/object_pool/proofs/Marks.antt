@@ -1,34 +1,28 @@
 -- Objects of which a turn says that their handler runs, or that it has returned.
-use Rattle.std.proofs.Common.{◌≡◌, true, false, List, Option, Some, None, refl, sym}
-use Rattle.std.specs.Prelude.{is_some}
-use Rattle.tree_specs.specs.declared.handler.Handler.{Handler}
+use Rattle.std.proofs.Common.{◌≡◌, true, false, Option, Some, None, refl}
 use Rattle.tree_specs.specs.declared.moment.What.{What}
 use Rattle.tree_specs.specs.declared.moment.What.TheVariants.{Descriptor}
 use Rattle.tree_specs.specs.declared.object.Obj.{Obj}
 use Rattle.tree_specs.specs.declared.row.Row.{Row}
 use Rattle.tree_specs.specs.declared.row.Mark.{Mark}
-use Rattle.tree_specs.specs.declared.row.Mark.TheVariants.{Dying}
+use Rattle.tree_specs.specs.declared.row.Mark.TheVariants.{Asked, Dying}
 use Rattle.tree_specs.specs.Tree.Pool.{Pool, row_of, is_row, is_dying, is_dying_mark}
-use Rattle.tree_specs.specs.Events.Coming.{rotated, handler_for}
-use Rattle.tree_specs.proofs.Invariants.Turning.{Ready, handler-ready}
+use Rattle.tree_specs.specs.Events.Coming.{rotated}
+use Rattle.tree_specs.specs.Promises.Grounded.{is_asked, is_asked_mark}
 use Rattle.destructors.specs.Room.{mark_places}
 
--- a handler that is to run is that of a quiet event
-pub starts : (o : Option Handler) (p : Pool) (w : What) (x : Obj) → is_some o ≡ true → o ≡ handler_for p w x → Ready p.rows w x
-starts None p w x there is = cc
-starts (Some h) p w x there is = handler-ready p w x h (sym is)
+live-places : (m : Mark) → is_dying_mark m ≡ false → is_asked_mark m ≡ false → mark_places m ≡ 1
+live-places (Dying former) e a = cc
+live-places Asked e a = cc
+live-places _ e a = refl
 
-live-places : (m : Mark) → is_dying_mark m ≡ false → mark_places m ≡ 1
-live-places (Dying former) e = cc
-live-places _ e = refl
-
--- an object that doesn't die, as the room for the open frees sees it
-pub live-row : (rows : List Row) (x : Obj) → is_row rows x ≡ true → is_dying rows x ≡ false → (r : Row) × (row_of rows x ≡ Some r) × (mark_places r.mark ≡ 1)
-live-row rows x is live = each (row_of rows x) refl
+-- an object that doesn't die and isn't asked, as the room for the open frees sees it
+pub live-row : (p : Pool) (x : Obj) → is_row p.rows x ≡ true → is_dying p.rows x ≡ false → is_asked p x ≡ false → (r : Row) × (row_of p.rows x ≡ Some r) × (mark_places r.mark ≡ 1)
+live-row p x is live unasked = each (row_of p.rows x) refl
   where
-    each : (o : Option Row) → row_of rows x ≡ o → (r : Row) × (row_of rows x ≡ Some r) × (mark_places r.mark ≡ 1)
+    each : (o : Option Row) → row_of p.rows x ≡ o → (r : Row) × (row_of p.rows x ≡ Some r) × (mark_places r.mark ≡ 1)
     each None e = let bad : false ≡ true = rw e at is in cc
-    each (Some r) e = (r, e, live-places r.mark (rw e at live))
+    each (Some r) e = (r, e, live-places r.mark (rw e at live) (rw e at unasked))
 
 -- an event that is looked at later leaves the rows
 pub rotated-rows : (what : What) (x : Obj) (p : Pool) → (rotated what x p).rows ≡ p.rows

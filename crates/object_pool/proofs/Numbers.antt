@@ -1,8 +1,6 @@
--- Numbers of times, and numbers that are still to be given.
-use Rattle.std.proofs.Common.{◌≡◌, ℕ, ◌<◌, ◌≤◌, nat_eq, false, List, [], ◌∷◌, Option, Some, None, refl, sym, ap, ◌∙◌, arith}
-use Rattle.std.proofs.lemmas.Bool.{ne_eqb}
+-- Moves of frees give no number.
+use Rattle.std.proofs.Common.{◌≡◌, nat_eq, List, [], ◌∷◌, Option, Some, None, refl, sym, ap, ◌∙◌}
 use Rattle.step_machine.specs.Machine.{Move as Do}
-use Rattle.tree_specs.specs.declared.due.Due.{Due}
 use Rattle.tree_specs.specs.declared.object.Obj.{Obj}
 use Rattle.tree_specs.specs.declared.object.Owner.{Owner}
 use Rattle.tree_specs.specs.declared.object.Owner.TheVariants.{Of}
@@ -10,47 +8,18 @@ use Rattle.tree_specs.specs.declared.row.Row.{Row}
 use Rattle.tree_specs.specs.declared.row.Mark.{Mark}
 use Rattle.tree_specs.specs.declared.row.Mark.TheVariants as mark
 use Rattle.tree_specs.specs.declared.frame.FreeFrame.{FreeFrame}
-use Rattle.tree_specs.specs.declared.frame.FreeFrame.TheVariants.{Unlinking, Releasing, Giving, Beginning, Hooked, Judged, Dooming, Leaving, Looping, FreeingChild, AfterChild, Ending}
+use Rattle.tree_specs.specs.declared.frame.FreeFrame.TheVariants.{Unlinking, Releasing, Giving, Beginning, Hooked, Judged, Preparing, Prepared, Dooming, Leaving, Looping, FreeingChild, AfterChild, Ending}
 use Rattle.tree_specs.specs.declared.frame.Purpose.{Purpose}
 use Rattle.tree_specs.specs.declared.frame.Purpose.TheVariants.{Removal, Emptying}
 use Rattle.tree_specs.specs.declared.free_step.FreeReply.{FreeReply}
 use Rattle.tree_specs.specs.declared.free_step.FreeReply.TheVariants as free_reply
 use Rattle.tree_specs.specs.declared.free_step.FreeStep.{FreeStep}
-use Rattle.tree_specs.specs.Events.Pending.{disarmed, armed, put_in, comes_before, is_numbered}
-use Rattle.tree_specs.specs.Words.Objects.{same}
 use Rattle.tree_specs.specs.Tree.Targets.{newest_ref}
 use Rattle.tree_specs.specs.Tree.Pool.{Pool, row_of, is_below, owner_of, target_at, newest_ref_of, is_inside, first_kid}
 use Rattle.tree_specs.specs.Machine.FreeTable.{FreeMove, free_step, begin_step, refs_step, unlink_step, release_step, loop_step, child_step, tried_step}
+use Rattle.tree_specs.specs.Calls.Refusals.{is_request}
 use Rattle.tree_specs.proofs.Tree.Numbered.{by_test}
-use Rattle.destructors.specs.Frees.{OpenFrees, moved, moves, next_of, Silently, Still, On, Steps, Begins}
-use Rattle.object_pool.specs.Upcoming.{AllNumbered}
-
--- numbers that were given before one were given before a later one
-pub numbered-later : (n m : ℕ) (ds : List Due) → n ≤ m → AllNumbered n ds → AllNumbered m ds
-numbered-later n m [] le a = tt
-numbered-later n m (d ∷ ds) le a = ((let l = a.0 in omega (arith, l, le)), numbered-later n m ds le a.1)
-
-pub numbered-disarmed : (n : ℕ) (ds : List Due) (x : Obj) → AllNumbered n ds → AllNumbered n (disarmed ds x)
-numbered-disarmed n [] x a = tt
-numbered-disarmed n (d ∷ ds) x a = by_test (same d.object x)
-    (λ t. rw t (numbered-disarmed n ds x a.1))
-    (λ t. rw t (a.0, numbered-disarmed n ds x a.1))
-
-numbered-put : (n : ℕ) (d : Due) (ds : List Due) → d.number < n → AllNumbered n ds → AllNumbered n (put_in d ds)
-numbered-put n d [] l a = (l, tt)
-numbered-put n d (e ∷ es) l a = by_test (comes_before d e)
-    (λ t. rw t (l, a))
-    (λ t. rw t (a.0, numbered-put n d es l a.1))
-
-pub numbered-armed : (n : ℕ) (ds : List Due) (x : Obj) (time number : ℕ) → number < n → AllNumbered n ds → AllNumbered n (armed ds x time number)
-numbered-armed n ds x time number l a = numbered-put n (record { time = time; number = number; object = x }) (disarmed ds x) l (numbered-disarmed n ds x a)
-
--- a number that is still to be given is that of no time
-pub unnumbered : (n : ℕ) (ds : List Due) → AllNumbered n ds → is_numbered ds n ≡ false
-unnumbered n [] a = refl
-unnumbered n (d ∷ ds) a = let l = a.0 in let ne : nat_eq d.number n ≡ false = ne_eqb d.number n (λ e. omega (arith, l, e)) in rw ne (unnumbered n ds a.1)
-
--- ---- moves of frees give no number
+use Rattle.destructors.specs.Frees.{OpenFrees, awaits_run, moved, moves, next_of, Silently, Still, On, Steps, Begins}
 
 -- the objects after a move
 abbrev pool_in : FreeMove → Pool
@@ -65,7 +34,9 @@ begun-next x p None = refl
 begun-next x p (Some r) = each r.mark refl
   where
     each : (m : Mark) → r.mark ≡ m → (pool_in (begin_step x (Some r) p)).next ≡ p.next
-    each mark.Quiet e = by_test (nat_eq r.hook 0) (λ t. rw (e, t) refl) (λ t. rw (e, t) refl)
+    each mark.Quiet e = by_test (is_request r.kind)
+        (λ t. rw (e, t) refl)
+        (λ t. by_test (nat_eq r.hook 0) (λ h. rw (e, t, h) refl) (λ h. rw (e, t, h) refl))
     each mark.Asked e = rw e refl
     each mark.Busy e = rw e refl
     each mark.Doomed e = rw e refl
@@ -105,6 +76,8 @@ move-next (Looping x purpose) p = loop-next x purpose p (first_kid p.rows (Of x)
 move-next (AfterChild x c noted purpose a) p = tried-next x c noted purpose a p
 move-next (Giving x o) p = refl
 move-next (Hooked x h) p = refl
+move-next (Preparing x) p = refl
+move-next (Prepared x) p = refl
 move-next (Dooming x) p = refl
 move-next (Leaving x h) p = refl
 move-next (FreeingChild x c noted purpose) p = refl
@@ -112,8 +85,7 @@ move-next (Ending a) p = refl
 
 moved-next : (m : FreeMove) (fs : List FreeFrame) → (moved m fs).1.pool.next ≡ (pool_in m).next
 moved-next (Do.Done a p) [] = refl
-moved-next (Do.Done a p) (Hooked x h ∷ fs) = refl
-moved-next (Do.Done a p) (f ∷ fs) = refl
+moved-next (Do.Done a p) (f ∷ fs) = by_test (awaits_run f) (λ t. rw t refl) (λ t. rw t refl)
 moved-next (Do.Go f p) fs = refl
 moved-next (Do.Emit t f p) fs = refl
 moved-next (Do.Wait t f p) fs = refl

@@ -5,17 +5,16 @@ use Rattle.memory_limits.specs.Limits.{AreLimitsOf}
 use Rattle.destructors.specs.Engine.{AreKept, HasRoom}
 use Rattle.object_pool.specs.declared.pool.ObjectPool.TheInside.{Inside}
 use Rattle.object_pool.specs.Objects.{HasCallRoom, HasPlaces}
-use Rattle.object_pool.specs.Upcoming.{AllNumbered, AllWatchersNumbered}
+use Rattle.object_pool.specs.Upcoming.{AreGiven}
 
--- references and limits are those of the rows, there is room for what is open, and no time and no watching event has a number
--- that is still to be given
+-- references and limits are those of the rows, there is room for what is open, and no time, no watching event and no request has a
+-- number that is still to be given
 pub record AgreeWith (b : Inside) : Type 0 where
   pub references : AreRefsOf b.refs.pairs b.tree.rows
   pub limits : AreLimitsOf b.sums.limited b.tree.rows
   pub kept : AreKept b.engine b.tree
   pub room : HasRoom b.engine b.tree
-  pub numbers : AllNumbered b.tree.next b.events.upcoming.times
-  pub watchers : AllWatchersNumbered b.tree.next b.events.upcoming.ring
+  pub given : AreGiven b.tree.next b.events.upcoming
   pub call : b.ready ≡ true → HasCallRoom b.tree
   pub placed : b.ready ≡ true → b.places ≡ true
   pub places : b.places ≡ true → HasPlaces b.refs b.sums b.events

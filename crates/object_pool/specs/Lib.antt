@@ -2,3 +2,4 @@ pub mod Counting
 pub mod Upcoming
 pub mod Objects
 pub mod Agreeing
+pub mod Requests

@@ -1,5 +1,5 @@
 -- Objects as their callers see them, and what is kept of them.
-use Rattle.std.specs.Prelude.{◌≡◌, true, false, ◌+◌, ◌^◌, ◌<◌, ◌≤◌, Bool, List, length, Option, Some}
+use Rattle.std.specs.Prelude.{◌≡◌, true, false, ◌+◌, ◌^◌, ◌<◌, ◌≤◌, ◌⊎◌, Bool, List, length, slice_get, Option, Some}
 use Rattle.tree_specs.specs.declared.frame.FreeFrame.{FreeFrame}
 use Rattle.tree_specs.specs.declared.object.Obj.{Obj}
 use Rattle.tree_specs.specs.declared.object.Owner.{Owner}
@@ -9,6 +9,7 @@ use Rattle.tree_links.specs.Links.{Links, pool_of, MayPlace}
 use Rattle.references.specs.Pairs.{Pairs}
 use Rattle.memory_limits.specs.Limits.{Limits}
 use Rattle.destructors.specs.Frees.{OpenFrees, before}
+use Rattle.destructors.specs.Engine.{IsReceiving}
 use Rattle.object_pool.specs.Upcoming.{Upcoming, Agenda, HasPlace, beside, pending}
 
 pub record Objects : Type 0 where
@@ -26,13 +27,17 @@ LeavesRest old new = new ≡ record old { pool = new.pool; works = new.works; re
 abbrev pub frees_in : Objects → OpenFrees
 frees_in o = record { works = o.works; pool = o.pool }
 
+-- the memory for a call is taken, or the innermost free waits until its request was received
+abbrev pub MayBeginFree : Objects → Type 0
+MayBeginFree o = (o.ready ≡ true) ⊎ IsReceiving (slice_get o.works 0)
+
 -- by the parts
 abbrev pub objects_of : Option FreeFrame → Links → Upcoming → Bool → Objects
 objects_of engine tree upcoming ready = record { pool = beside upcoming (pool_of tree); works = before engine tree.frees; ready = ready }
 
--- the memory for the rows and works of a call, with all that comes of it up to the next question
+-- the memory for the two rows and for the works of a call, with all that comes of it up to the next question
 pub record HasCallRoom (tree : Links) : Type 0 where
-  pub row : 0 < tree.spare
+  pub row : 2 ≤ tree.spare
   pub works : length tree.rows + 4 ≤ tree.room
 
 -- the memory for one more reference, one more limit, one more object that waits, and one more descriptor; and those that wait

@@ -5,12 +5,15 @@ use Rattle.tree_specs.specs.declared.handler.Handler.{Handler}
 use Rattle.tree_specs.specs.declared.moment.What.{What}
 use Rattle.tree_specs.specs.declared.watch.Watch.{Watch}
 use Rattle.tree_specs.specs.declared.object.Obj.{Obj}
+use Rattle.tree_specs.specs.declared.request.Note.{Note}
+use Rattle.tree_specs.specs.declared.request.State.{State}
 use Rattle.tree_specs.specs.declared.free_step.FreeStep.{FreeStep}
 use Rattle.tree_specs.specs.declared.free_step.FreeStep.TheVariants.{Dropped, Doom, Left, Gone}
 use Rattle.tree_specs.specs.Events.Pending.{scheduled, unscheduled, armed, disarmed}
 use Rattle.tree_specs.specs.Events.Rotation.{watched, unwatched, rewatched, closes_with}
 use Rattle.tree_specs.specs.Events.Descriptors.{Descriptors, listener_alone, opened, closed, shut}
 use Rattle.tree_specs.specs.Events.Handlers.{Handlers, no_handlers, with_handler, without_handler}
+use Rattle.tree_specs.specs.Events.Requests.{Notes, no_notes, without_note, with_note, new_note, renoted, in_state}
 use Rattle.tree_specs.specs.Events.Coming.{begun}
 use Rattle.tree_specs.specs.Tree.Pool.{Pool, unschedule, disarm}
 use Rattle.loop_core.specs.declared.pick.Pick.{Pick}
@@ -28,13 +31,15 @@ pub record Upcoming : Type 0 where
   pub descriptors : Descriptors
   -- what runs when an event comes
   pub handlers : Handlers
+  -- what is kept of the requests
+  pub requests : Notes
 
 abbrev pub nothing_comes : Upcoming
-nothing_comes = record { soon = []; times = []; ring = []; descriptors = listener_alone; handlers = no_handlers }
+nothing_comes = record { soon = []; times = []; ring = []; descriptors = listener_alone; handlers = no_handlers; requests = no_notes }
 
 -- the same objects, with this to come
 abbrev pub beside : Upcoming → Pool → Pool
-beside u p = record p { soon = u.soon; times = u.times; ring = u.ring; descriptors = u.descriptors; handlers = u.handlers }
+beside u p = record p { soon = u.soon; times = u.times; ring = u.ring; descriptors = u.descriptors; handlers = u.handlers; requests = u.requests }
 
 abbrev pub frees_beside : Upcoming → OpenFrees → OpenFrees
 frees_beside u s = record s { pool = beside u s.pool }
@@ -52,6 +57,7 @@ pub record Agenda : Type 0 where
   pub ring_spare : ℕ
   pub descriptors_spare : ℕ
   pub handlers_spare : ℕ
+  pub requests_spare : ℕ
 
 -- one more may come
 pub record HasPlace (a : Agenda) : Type 0 where
@@ -60,6 +66,7 @@ pub record HasPlace (a : Agenda) : Type 0 where
   pub watch : 0 < a.ring_spare
   pub descriptor : 0 < a.descriptors_spare
   pub handler : 0 < a.handlers_spare
+  pub request : 0 < a.requests_spare
 
 -- no fewer more may come
 pub record KeepsPlaces (old new : Agenda) : Type 0 where
@@ -68,6 +75,7 @@ pub record KeepsPlaces (old new : Agenda) : Type 0 where
   pub ring : old.ring_spare ≤ new.ring_spare
   pub descriptors : old.descriptors_spare ≤ new.descriptors_spare
   pub handlers : old.handlers_spare ≤ new.handlers_spare
+  pub requests : old.requests_spare ≤ new.requests_spare
 
 -- ---- what is told, and what it leaves
 
@@ -80,16 +88,16 @@ without_event x u = record u {
   descriptors = shut u.descriptors (closes_with u.ring x);
 }
 
--- an object has no handler
-abbrev pub unhandled : Obj → Upcoming → Upcoming
-unhandled x u = record u { handlers = without_handler u.handlers x }
+-- nothing is kept of an object
+abbrev pub forgotten : Obj → Upcoming → Upcoming
+forgotten x u = record u { handlers = without_handler u.handlers x; requests = without_note u.requests x }
 
--- an object that leaves its owner, or is to go once its handler is over, waits no more, and what is no more has no handler
+-- an object that leaves its owner, or is to go once its handler is over, waits no more, and nothing is kept of what is no more
 abbrev pub after : Option FreeStep → Upcoming → Upcoming
 after (Some (Left x from)) u = without_event x u
 after (Some (Doom x)) u = without_event x u
-after (Some (Gone x h)) u = unhandled x u
-after (Some (Dropped r target)) u = unhandled r u
+after (Some (Gone x h)) u = forgotten x u
+after (Some (Dropped r target)) u = forgotten r u
 after told u = u
 
 -- the descriptor that a step closes, by what was watched before it
@@ -119,6 +127,26 @@ with_open fd u = record u { descriptors = opened u.descriptors fd }
 abbrev pub with_closed : ℕ → Upcoming → Upcoming
 with_closed fd u = record u { descriptors = closed u.descriptors fd }
 
+-- what is kept of a request is changed
+abbrev pub with_request : (Note → Note) → Obj → Upcoming → Upcoming
+with_request change x u = record u { requests = renoted change u.requests x }
+
+-- a new request, with the object that it was made with
+abbrev pub requested : Obj → Obj → Upcoming → Upcoming
+requested x child u = record u { requests = with_note u.requests x (new_note child) }
+
+-- an object comes soon
+abbrev pub posted : Obj → Upcoming → Upcoming
+posted x u = record u { soon = scheduled u.soon x }
+
+-- an object's time comes, under this number
+abbrev pub timed_under : Obj → ℕ → ℕ → Upcoming → Upcoming
+timed_under x time number u = record u { times = armed u.times x time number }
+
+-- a request goes to a state, and has no end time any more
+abbrev pub finished : Obj → State → Upcoming → Upcoming
+finished x state u = record u { times = disarmed u.times x; requests = renoted (in_state state) u.requests x }
+
 -- what was picked in a turn waits no more
 abbrev pub picked : Pick → Upcoming → Upcoming
 picked (Soon x) u = record u { soon = unscheduled u.soon x }
@@ -137,12 +165,22 @@ started (Some handler) what x p = begun what x p
 
 -- ---- numbers
 
--- the numbers that tell equal times apart were all given before this one
-abbrev pub AllNumbered : ℕ → List Due → Type 0
-AllNumbered next [] = Unit {0}
-AllNumbered next (d ∷ ds) = (d.number < next) × AllNumbered next ds
+-- the numbers of all of these were given before this one
+abbrev pub AllBefore : {A : Type 0} → (A → ℕ) → ℕ → List A → Type 0
+AllBefore number next [] = Unit {0}
+AllBefore number next (x ∷ xs) = (number x < next) × AllBefore number next xs
 
--- so were those of the events that watch
-abbrev pub AllWatchersNumbered : ℕ → List Watch → Type 0
-AllWatchersNumbered next [] = Unit {0}
-AllWatchersNumbered next (w ∷ ws) = (w.object.0 < next) × AllWatchersNumbered next ws
+abbrev pub due_number : Due → ℕ
+due_number d = d.number
+
+abbrev pub watcher_number : Watch → ℕ
+watcher_number w = w.object.0
+
+abbrev pub note_number : ℕ × Note → ℕ
+note_number n = n.0
+
+-- the numbers that tell equal times apart, those of the events that watch, and those of the requests were all given before this one
+pub record AreGiven (next : ℕ) (u : Upcoming) : Type 0 where
+  pub times : AllBefore due_number next u.times
+  pub ring : AllBefore watcher_number next u.ring
+  pub requests : AllBefore note_number next u.requests

@@ -1,5 +1,5 @@
 //! What the sums are told, after the objects have changed.
-ghost use Rattle.std.specs.Prelude.{◌≡◌, ◌≤◌, ◌<◌, ◌^◌, ◌-◌, true, None, length};
+ghost use Rattle.std.specs.Prelude.{◌≡◌, ◌≤◌, ◌<◌, ◌^◌, ◌+◌, ◌-◌, true, None, length};
 ghost use Rattle.tree_specs.specs.Tree.Pool.{row_of, is_owner, add as added};
 ghost use Rattle.tree_specs.specs.Calls.Refusals.{row_limit, size_limit};
 ghost use Rattle.tree_links.specs.Links.{pool_of, works_of};
@@ -42,6 +42,7 @@ pub fn add_row(
     ensures works { works_of tree.new ≡ works_of tree.old }
     ensures limits { AreLimitsOf sums.new.limited tree.new.rows }
     ensures spare { sums.new.spare ≡ sums.old.spare }
+    ensures places { tree.old.spare ≤ tree.new.spare + 1 }
 {
     let added = tree.add(NewRow { kind, name, size }, owner);
     count_added(added, tree, sums);

@@ -2,15 +2,18 @@
 ghost use Rattle.std.specs.Prelude.{◌≡◌, ◌+◌, ◌<◌, false, IfSome};
 ghost use Rattle.std.specs.FinMap as map;
 
+mod noting;
+
 use loop_core::{Loop, Pick};
 use pool_arena::Arena;
+use requests::Requests;
 use std::alloc::Global;
 use std::marker::Model;
 use tree_specs::{FreeStep, Handler, Memory, Obj, Want, Wants};
 
-/// The events of a host: which of them are to come, and the handler of each; and the descriptors that are open. Contracts
-/// see the lists of those to come, the handlers by the numbers of their events, the numbers of the descriptors, and how many
-/// more there may be without taking memory.
+/// The events of a host: which of them are to come, and the handler of each; the descriptors that are open; and the notes of
+/// requests. Contracts see the lists of those to come, the handlers and notes by the numbers of their events and requests, the
+/// numbers of the descriptors, and how many more there may be without taking memory.
 #[derive(Debug, Drop)]
 pub struct Events {
     order: Loop,
@@ -18,6 +21,7 @@ pub struct Events {
     handlers: Arena<Handler>,
     /// The descriptors that are open, each under its number.
     descriptors: Arena<()>,
+    requests: Requests,
 }
 
 impl Model for Events {
@@ -26,7 +30,7 @@ impl Model for Events {
 
     ghost Value = { Agenda };
 
-    ghost view = { λ e. record { upcoming = record { soon = e.order.soon.objects; times = e.order.times.dues; ring = e.order.ring.watches; descriptors = entries e.descriptors.pairs; handlers = entries e.handlers.pairs }; soon_spare = e.order.soon.spare; times_spare = e.order.times.spare; ring_spare = e.order.ring.spare; descriptors_spare = e.descriptors.spare; handlers_spare = e.handlers.spare } };
+    ghost view = { λ e. record { upcoming = record { soon = e.order.soon.objects; times = e.order.times.dues; ring = e.order.ring.watches; descriptors = entries e.descriptors.pairs; handlers = entries e.handlers.pairs; requests = e.requests.notes }; soon_spare = e.order.soon.spare; times_spare = e.order.times.spare; ring_spare = e.order.ring.spare; descriptors_spare = e.descriptors.spare; handlers_spare = e.handlers.spare; requests_spare = e.requests.spare } };
 }
 
 /// This is kept under a number, in place of what was kept there.
@@ -47,7 +51,7 @@ fn count(soon: usize, times: usize, ring: usize) -> Option<usize>
     soon.checked_add(times)?.checked_add(ring)
 }
 
-#[tactic(auto, using(crate::proofs::NumberMaps::none_listed, crate::proofs::NumberMaps::put_listed, crate::proofs::NumberMaps::removed_listed, crate::proofs::NumberMaps::found_listed))]
+#[tactic(auto, using(pool_arena::proofs::NumberMaps::none_listed, pool_arena::proofs::NumberMaps::put_listed, pool_arena::proofs::NumberMaps::removed_listed, pool_arena::proofs::NumberMaps::found_listed))]
 impl Events {
     ghost use Rattle.std.specs.Prelude.{◌^◌, IfOk, OnOk, OnErr, []};
     ghost use Rattle.tree_specs.specs.Events.Pending.{disarmed, is_numbered};
@@ -55,7 +59,7 @@ impl Events {
     ghost use Rattle.tree_specs.specs.Events.Rotation.{is_watching, is_watched, flags_of, flagged, closing, turned_back, closes_with, wanted_of};
     ghost use Rattle.tree_specs.specs.Events.Descriptors.{is_open_in};
     ghost use Rattle.loop_core.specs.Picks.{begin_pick, clock_pick, ready_pick};
-    ghost use Rattle.object_pool.specs.Upcoming.{nothing_comes, pending, HasPlace, KeepsPlaces, after, closed_of, picked, soon_with, timed_with, watching_with, with_watch, with_open, with_closed, without_event, unhandled};
+    ghost use Rattle.object_pool.specs.Upcoming.{nothing_comes, pending, HasPlace, KeepsPlaces, after, closed_of, picked, soon_with, timed_with, watching_with, with_watch, with_open, with_closed, without_event, forgotten};
     ghost use Rattle.std.specs.Prelude.{Some};
     ghost use Rattle.tree_specs.specs.Events.Pending.{unscheduled};
 
@@ -70,10 +74,11 @@ impl Events {
             order: Loop::new(alloc),
             handlers: Arena::new(alloc),
             descriptors,
+            requests: Requests::new(alloc),
         })
     }
 
-    /// Takes the memory for one more that is to come and one more descriptor, where as many can be counted. If memory runs
+    /// Takes the memory for one more that is to come, one more descriptor and one more request, where as many can be counted. If memory runs
     /// out, all is as it was.
     pub fn reserve(&mut self) -> Result<(), Memory>
         ensures upcoming { self.new.upcoming ≡ self.old.upcoming }
@@ -88,7 +93,7 @@ impl Events {
         ring.reserve(1)?;
         self.handlers.reserve(1)?;
         self.descriptors.reserve(1)?;
-        Ok(())
+        self.requests.reserve(1)
     }
 
     /// An event is to come soon, after all others, and this handler is to run then. One that waits already goes to the end.
@@ -223,16 +228,17 @@ impl Events {
         closed
     }
 
-    /// An object has no handler.
+    /// Nothing is kept of an object any more.
     fn forget(&mut self, x: Obj)
-        ensures upcoming { self.new.upcoming ≡ unhandled x self.old.upcoming }
+        ensures upcoming { self.new.upcoming ≡ forgotten x self.old.upcoming }
         ensures kept { KeepsPlaces self.old self.new }
     {
         self.handlers.take(x.0);
+        self.requests.forget(x);
     }
 
     /// A step of a free was made: an object that has left its owner, or is to go once its handler is over, waits no more,
-    /// and what is no more has no handler. Gives the descriptor that was closed, where one was.
+    /// and nothing is kept of what is no more. Gives the descriptor that was closed, where one was.
     pub fn follow(&mut self, step: FreeStep) -> Option<u32>
         ensures closed { result ≡ closed_of self.old.upcoming.ring step }
         ensures upcoming { self.new.upcoming ≡ after (Some step) self.old.upcoming }

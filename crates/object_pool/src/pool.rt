@@ -10,6 +10,7 @@ use tree_report::{count, rows, total};
 use tree_specs::{Kind, Memory, Name, Obj, Owner, Refusal, ReportRows, Row};
 
 mod freeing;
+mod requesting;
 mod turning;
 mod waiting;
 mod watching;
@@ -27,7 +28,8 @@ pub struct ObjectPool {
     refs: Refs,
     sums: Sums,
     events: Events,
-    /// The memory for one more reference, one more limit, one more event that is to come and one more descriptor is taken.
+    /// The memory for one more reference, one more limit, one more event that is to come, one more descriptor and one more
+    /// request is taken.
     places: bool,
     /// The memory for one call is taken.
     ready: bool,

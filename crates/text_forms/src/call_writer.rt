@@ -89,6 +89,24 @@ fn write_text(call: &Call, out: &mut Vec<u8>) -> Result<(), Memory>
         Call::Accept { fd } => write_fields(b"accept", &[u64::from(*fd)], out),
         Call::Read { fd, len } => write_fields(b"read", &[u64::from(*fd), u64::from(*len)], out),
         Call::Write { fd, bytes } => { write_octets(b"write", &[u64::from(*fd)], bytes, b"", out) }
+        Call::Req { owner, size, name } => write_named(b"req", &[owner.number(), *size], name, out),
+        Call::Callback { x, routine, user } => {
+            write_fields(b"callback", &[x.0, u64::from(*routine), *user], out)
+        }
+        Call::Defer { x } => write_fields(b"defer", &[x.0], out),
+        Call::Cleanup { x, routine } => write_fields(b"cleanup", &[x.0, u64::from(*routine)], out),
+        Call::Setcancel { x, routine } => {
+            write_fields(b"setcancel", &[x.0, u64::from(*routine)], out)
+        }
+        Call::Cancel { x } => write_fields(b"cancel", &[x.0], out),
+        Call::Post { x } => write_fields(b"post", &[x.0], out),
+        Call::Done { x } => write_fields(b"done", &[x.0], out),
+        Call::Error { x, error } => write_fields(b"error", &[x.0, *error], out),
+        Call::Oom { x } => write_fields(b"oom", &[x.0], out),
+        Call::Iserror { x } => write_fields(b"iserror", &[x.0], out),
+        Call::Progress { x } => write_fields(b"progress", &[x.0], out),
+        Call::Endtime { x, time } => write_fields(b"endtime", &[x.0, *time], out),
+        Call::Received { x } => write_fields(b"received", &[x.0], out),
         Call::Pending => write_fields(b"pending", &[], out),
         Call::Now => write_fields(b"now", &[], out),
         Call::Turn => write_fields(b"turn", &[], out),

@@ -170,3 +170,10 @@ pub(crate) fn object_and_number(fields: &mut Fields) -> Result<(Obj, u64), FormF
 {
     Ok((fields.object()?, fields.number()?))
 }
+
+// An object field, and then a field with a routine, where 0 is none.
+pub(crate) fn object_and_routine(fields: &mut Fields) -> Result<(Obj, u32), FormFault>
+    ensures { Takes result (both object_of (numeral_of Number32) fields.old) fields.new }
+{
+    Ok((fields.object()?, fields.number32()?))
+}

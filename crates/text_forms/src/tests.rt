@@ -1,3 +1,6 @@
+ghost use Rattle.std.specs.Prelude.{IsTrue};
+ghost use Rattle.tree_specs.specs.Words.Ranges.{is_sound_call};
+
 use super::*;
 use std::alloc::Global;
 use std::fmt::InlineText;
@@ -6,14 +9,23 @@ use std::test::Fail;
 use tree_specs::{Call, Name, Owner, ReportRow, RowKind};
 
 mod descriptors;
+mod requests;
+
+// The call is written as these bytes.
+fn writes(rt: &impl Abort, alloc: Global, call: &Call, want: &[u8]) -> Result<(), Fail>
+    requires { IsTrue (is_sound_call call.now) }
+{
+    let mut out = Vec::new(alloc);
+    write_call(call, &mut out)?;
+    assert_eq!(rt; out.as_slice(), want);
+    Ok(())
+}
 
 // What is read of each line is written as this line.
 fn writes_again(rt: &impl Abort, alloc: Global, lines: &str) -> Result<(), Fail> {
     for line in lines.lines() {
-        let mut out = Vec::new(alloc);
         let call = read_call(alloc, line.as_bytes())?;
-        write_call(&call, &mut out)?;
-        assert_eq!(rt; out.as_slice(), line.as_bytes());
+        writes(rt, alloc, &call, line.as_bytes())?;
     }
     Ok(())
 }
@@ -135,18 +147,12 @@ fn reads_names(rt: HostRuntime) -> Result<(), Fail> {
 
 #[test]
 fn writes_the_root_as_zero(rt: HostRuntime) -> Result<(), Fail> {
-    let mut out = Vec::new(rt.alloc());
-    let name = read_name(rt.alloc(), b"top")?;
-    write_call(
-        &Call::New {
-            owner: Owner::Root,
-            size: 0,
-            name,
-        },
-        &mut out,
-    )?;
-    assert_eq!(rt; out.as_slice(), b"new 0 0 top".as_slice());
-    Ok(())
+    let new = Call::New {
+        owner: Owner::Root,
+        size: 0,
+        name: read_name(rt.alloc(), b"top")?,
+    };
+    writes(&rt, rt.alloc(), &new, b"new 0 0 top")
 }
 
 // Calls, as they are written.

@@ -2,9 +2,9 @@
 
 ghost use Rattle.text_forms.specs.declared.verb.Verb.TheVariants as verbs;
 ghost use Rattle.text_forms.specs.Cursor.{Takes};
-ghost use Rattle.text_forms.specs.Verbs.{IsVerb, fields_read};
+ghost use Rattle.text_forms.specs.Verbs.{IsTreeVerb, IsEventVerb, IsDescriptorVerb, IsRequestVerb, IsVerb, fields_read};
 
-use crate::field::{Fields, object_and_number, owner_and_object};
+use crate::field::{Fields, object_and_number, object_and_routine, owner_and_object};
 use crate::form::FormFault;
 use std::alloc::Global;
 use tree_specs::Call;
@@ -57,55 +57,138 @@ pub(crate) enum DescriptorVerb {
     Write,
 }
 
+// What a call on requests asks for.
+#[derive(Clone, Copy)]
+pub(crate) enum RequestVerb {
+    Req,
+    Callback,
+    Defer,
+    Cleanup,
+    Setcancel,
+    Cancel,
+    Post,
+    Done,
+    Error,
+    Oom,
+    Iserror,
+    Progress,
+    Endtime,
+    Received,
+}
+
 // What a call asks for: its first word.
 #[derive(Clone, Copy)]
 pub(crate) enum Verb {
     Tree(TreeVerb),
     Event(EventVerb),
     Descriptor(DescriptorVerb),
+    Request(RequestVerb),
+}
+
+// The verb of a call on the tree that this word is.
+fn tree_verb(word: &[u8]) -> Option<TreeVerb>
+    ensures { IsTreeVerb result word.now }
+{
+    let verb = match word {
+        b"new" => TreeVerb::New,
+        b"free" => TreeVerb::Free,
+        b"freekids" => TreeVerb::Freekids,
+        b"steal" => TreeVerb::Steal,
+        b"move" => TreeVerb::Move,
+        b"reparent" => TreeVerb::Reparent,
+        b"reference" => TreeVerb::Reference,
+        b"unlink" => TreeVerb::Unlink,
+        b"hook" => TreeVerb::Hook,
+        b"unhook" => TreeVerb::Unhook,
+        b"rename" => TreeVerb::Rename,
+        b"resize" => TreeVerb::Resize,
+        b"limit" => TreeVerb::Limit,
+        b"parent" => TreeVerb::Parent,
+        b"total" => TreeVerb::Total,
+        b"count" => TreeVerb::Count,
+        b"sum" => TreeVerb::Sum,
+        b"report" => TreeVerb::Report,
+        _ => return None,
+    };
+    Some(verb)
+}
+
+// The verb of a call on events or the loop that this word is.
+fn event_verb(word: &[u8]) -> Option<EventVerb>
+    ensures { IsEventVerb result word.now }
+{
+    let verb = match word {
+        b"immediate" => EventVerb::Immediate,
+        b"schedule" => EventVerb::Schedule,
+        b"unschedule" => EventVerb::Unschedule,
+        b"timer" => EventVerb::Timer,
+        b"fd" => EventVerb::Fd,
+        b"flags" => EventVerb::Flags,
+        b"getflags" => EventVerb::Getflags,
+        b"autoclose" => EventVerb::Autoclose,
+        b"pending" => EventVerb::Pending,
+        b"now" => EventVerb::Now,
+        b"turn" => EventVerb::Turn,
+        _ => return None,
+    };
+    Some(verb)
+}
+
+// The verb of a call on a descriptor that this word is.
+fn descriptor_verb(word: &[u8]) -> Option<DescriptorVerb>
+    ensures { IsDescriptorVerb result word.now }
+{
+    let verb = match word {
+        b"close" => DescriptorVerb::Close,
+        b"accept" => DescriptorVerb::Accept,
+        b"read" => DescriptorVerb::Read,
+        b"write" => DescriptorVerb::Write,
+        _ => return None,
+    };
+    Some(verb)
+}
+
+// The verb of a call on a request that this word is.
+fn request_verb(word: &[u8]) -> Option<RequestVerb>
+    ensures { IsRequestVerb result word.now }
+{
+    let verb = match word {
+        b"req" => RequestVerb::Req,
+        b"callback" => RequestVerb::Callback,
+        b"defer" => RequestVerb::Defer,
+        b"cleanup" => RequestVerb::Cleanup,
+        b"setcancel" => RequestVerb::Setcancel,
+        b"cancel" => RequestVerb::Cancel,
+        b"post" => RequestVerb::Post,
+        b"done" => RequestVerb::Done,
+        b"error" => RequestVerb::Error,
+        b"oom" => RequestVerb::Oom,
+        b"iserror" => RequestVerb::Iserror,
+        b"progress" => RequestVerb::Progress,
+        b"endtime" => RequestVerb::Endtime,
+        b"received" => RequestVerb::Received,
+        _ => return None,
+    };
+    Some(verb)
 }
 
 // The verb that this word is.
 pub(crate) fn read_verb(word: &[u8]) -> Option<Verb>
     ensures { IsVerb result word.now }
 {
-    let verb = match word {
-        b"new" => Verb::Tree(TreeVerb::New),
-        b"free" => Verb::Tree(TreeVerb::Free),
-        b"freekids" => Verb::Tree(TreeVerb::Freekids),
-        b"steal" => Verb::Tree(TreeVerb::Steal),
-        b"move" => Verb::Tree(TreeVerb::Move),
-        b"reparent" => Verb::Tree(TreeVerb::Reparent),
-        b"reference" => Verb::Tree(TreeVerb::Reference),
-        b"unlink" => Verb::Tree(TreeVerb::Unlink),
-        b"hook" => Verb::Tree(TreeVerb::Hook),
-        b"unhook" => Verb::Tree(TreeVerb::Unhook),
-        b"rename" => Verb::Tree(TreeVerb::Rename),
-        b"resize" => Verb::Tree(TreeVerb::Resize),
-        b"limit" => Verb::Tree(TreeVerb::Limit),
-        b"parent" => Verb::Tree(TreeVerb::Parent),
-        b"total" => Verb::Tree(TreeVerb::Total),
-        b"count" => Verb::Tree(TreeVerb::Count),
-        b"sum" => Verb::Tree(TreeVerb::Sum),
-        b"report" => Verb::Tree(TreeVerb::Report),
-        b"immediate" => Verb::Event(EventVerb::Immediate),
-        b"schedule" => Verb::Event(EventVerb::Schedule),
-        b"unschedule" => Verb::Event(EventVerb::Unschedule),
-        b"timer" => Verb::Event(EventVerb::Timer),
-        b"fd" => Verb::Event(EventVerb::Fd),
-        b"flags" => Verb::Event(EventVerb::Flags),
-        b"getflags" => Verb::Event(EventVerb::Getflags),
-        b"autoclose" => Verb::Event(EventVerb::Autoclose),
-        b"close" => Verb::Descriptor(DescriptorVerb::Close),
-        b"accept" => Verb::Descriptor(DescriptorVerb::Accept),
-        b"read" => Verb::Descriptor(DescriptorVerb::Read),
-        b"write" => Verb::Descriptor(DescriptorVerb::Write),
-        b"pending" => Verb::Event(EventVerb::Pending),
-        b"now" => Verb::Event(EventVerb::Now),
-        b"turn" => Verb::Event(EventVerb::Turn),
-        _ => return None,
-    };
-    Some(verb)
+    if let Some(verb) = tree_verb(word) {
+        return Some(Verb::Tree(verb));
+    }
+    if let Some(verb) = event_verb(word) {
+        return Some(Verb::Event(verb));
+    }
+    if let Some(verb) = descriptor_verb(word) {
+        return Some(Verb::Descriptor(verb));
+    }
+    match request_verb(word) {
+        Some(verb) => Some(Verb::Request(verb)),
+        None => None,
+    }
 }
 
 // The call on the tree of this verb, whose fields come next.
@@ -213,6 +296,50 @@ fn read_descriptor_fields(
     }
 }
 
+// The call on requests of this verb, whose fields come next.
+#[tactic(auto, unfolding(crate::specs::Verbs::fields_read))]
+fn read_request_fields(
+    alloc: Global,
+    verb: RequestVerb,
+    fields: &mut Fields,
+) -> Result<Call, FormFault>
+    ensures { Takes result (fields_read (verbs.Request verb) fields.old) fields.new }
+{
+    match verb {
+        RequestVerb::Req => Ok(Call::Req {
+            owner: fields.owner()?,
+            size: fields.number()?,
+            name: fields.name(alloc)?,
+        }),
+        RequestVerb::Callback => Ok(Call::Callback {
+            x: fields.object()?,
+            routine: fields.number32()?,
+            user: fields.number()?,
+        }),
+        RequestVerb::Defer => fields.object().map(|x| Call::Defer { x }),
+        RequestVerb::Cleanup => object_and_routine(fields).map(|(x, routine)| Call::Cleanup {
+            x,
+            routine,
+        }),
+        RequestVerb::Setcancel => object_and_routine(fields).map(|(x, routine)| Call::Setcancel {
+            x,
+            routine,
+        }),
+        RequestVerb::Cancel => fields.object().map(|x| Call::Cancel { x }),
+        RequestVerb::Post => fields.object().map(|x| Call::Post { x }),
+        RequestVerb::Done => fields.object().map(|x| Call::Done { x }),
+        RequestVerb::Error => object_and_number(fields).map(|(x, error)| Call::Error { x, error }),
+        RequestVerb::Oom => fields.object().map(|x| Call::Oom { x }),
+        RequestVerb::Iserror => fields.object().map(|x| Call::Iserror { x }),
+        RequestVerb::Progress => fields.object().map(|x| Call::Progress { x }),
+        RequestVerb::Endtime => Ok(Call::Endtime {
+            x: fields.object()?,
+            time: fields.time()?,
+        }),
+        RequestVerb::Received => fields.object().map(|x| Call::Received { x }),
+    }
+}
+
 // The call of this verb, whose fields come next.
 pub(crate) fn read_fields(alloc: Global, verb: Verb, fields: &mut Fields) -> Result<Call, FormFault>
     ensures { Takes result (fields_read verb fields.old) fields.new }
@@ -221,5 +348,6 @@ pub(crate) fn read_fields(alloc: Global, verb: Verb, fields: &mut Fields) -> Res
         Verb::Tree(verb) => read_tree_fields(alloc, verb, fields),
         Verb::Event(verb) => read_event_fields(verb, fields),
         Verb::Descriptor(verb) => read_descriptor_fields(alloc, verb, fields),
+        Verb::Request(verb) => read_request_fields(alloc, verb, fields),
     }
 }

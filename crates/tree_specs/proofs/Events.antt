@@ -1,5 +1,7 @@
 -- Events, and what waits for its turn.
+pub mod EntryLaws
 pub mod HandlerLaws
+pub mod NoteLaws
 pub mod PendingLaws
 pub mod RotationLaws
 pub mod DescriptorLaws

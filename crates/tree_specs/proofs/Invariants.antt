@@ -1,7 +1,13 @@
 -- What each step keeps.
 pub mod Changes
 pub mod Turning
+pub mod Notes
+pub mod FreeNotes
+pub mod KeptNotes
+pub mod KeptCalm
 pub mod KeptTurns
+pub mod KeptRequests
 pub mod Waiters
 pub mod Keeps
 pub mod KeptFrees
+pub mod KeptGivings

@@ -8,6 +8,7 @@ pub mod FineCallers
 pub mod FineDrops
 pub mod FineFrees
 pub mod FineTurns
+pub mod FineRequests
 pub mod FineOutside
 pub mod Fitting
 pub mod StoryOrder

@@ -5,6 +5,7 @@ pub mod LettingGo
 pub mod FreeCauses
 pub mod Lawful
 pub mod TurnLaws
+pub mod RequestLaws
 pub mod TextLaws
 pub mod IdleTurns
 pub mod StoryLaws

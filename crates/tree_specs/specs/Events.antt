@@ -3,4 +3,5 @@ pub mod Coming
 pub mod Descriptors
 pub mod Handlers
 pub mod Pending
+pub mod Requests
 pub mod Rotation

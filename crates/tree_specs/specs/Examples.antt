@@ -2,4 +2,5 @@
 pub mod Exchanges
 pub mod Descriptors
 pub mod Events
+pub mod Requests
 pub mod Tables

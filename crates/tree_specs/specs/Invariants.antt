@@ -1,6 +1,6 @@
 -- What holds at every moment, and the measure that each step lowers.
 pub mod Sound
+pub mod Noted
 pub mod Awaiting
 pub mod Consistent
-pub mod Alone
 pub mod Measure

@@ -36,7 +36,7 @@ pub enum Call {
         to: Owner,
         x: Obj,
     },
-    /// `reference P X`: a reference to a plain object below an owner, as `talloc_reference` makes it. The reply is its
+    /// `reference P X`: a reference to a plain object, or to a request, below an owner, as `talloc_reference` makes it. The reply is its
     /// number.
     Reference {
         owner: Owner,
@@ -161,7 +161,82 @@ pub enum Call {
         fd: u32,
         bytes: Octets,
     },
-    /// `pending`: how many events wait: immediates that are scheduled, timers, and events on descriptors.
+    /// `req P SIZE NAME`: a request below an owner, in progress, and below it a plain object of this size in bytes and with
+    /// this name for its own state, as `tevent_req_create` makes them. The reply is the request's number; that of the plain
+    /// object is the next one.
+    Req {
+        owner: Owner,
+        size: u64,
+        name: Name,
+    },
+    /// `callback X R U`: when the request is over the routine R runs with the user number U, as `tevent_req_set_callback`
+    /// says. With 0 for R none does.
+    Callback {
+        x: Obj,
+        routine: u32,
+        user: u64,
+    },
+    /// `defer X`: when the request is over it comes soon, and its callback runs only then, as `tevent_req_defer_callback`
+    /// says.
+    Defer {
+        x: Obj,
+    },
+    /// `cleanup X R`: each time that the request goes to a later state the routine R runs, as `tevent_req_set_cleanup_fn`
+    /// says. With 0 for R none does.
+    Cleanup {
+        x: Obj,
+        routine: u32,
+    },
+    /// `setcancel X R`: the routine R cancels the request, as `tevent_req_set_cancel_fn` says. With 0 for R none does.
+    Setcancel {
+        x: Obj,
+        routine: u32,
+    },
+    /// `cancel X`: runs the routine that cancels the request, as `tevent_req_cancel` does. The reply is 0 where this returns
+    /// 0 or there is none, and else 1.
+    Cancel {
+        x: Obj,
+    },
+    /// `post X`: a request that is over comes soon, as `tevent_req_post` says.
+    Post {
+        x: Obj,
+    },
+    /// `done X`: the work of the request is done, as `tevent_req_done` says.
+    Done {
+        x: Obj,
+    },
+    /// `error X N`: the work of the request has failed with this number, as `tevent_req_error` says. The reply is 1; with 0
+    /// it hasn't failed, and the reply is 0.
+    Error {
+        x: Obj,
+        error: u64,
+    },
+    /// `oom X`: there was no memory for the work of the request, as `tevent_req_oom` says.
+    Oom {
+        x: Obj,
+    },
+    /// `iserror X`: 0 where the request is done, and else the number of its state and that of its failure, as
+    /// `tevent_req_is_error` tells.
+    Iserror {
+        x: Obj,
+    },
+    /// `progress X`: 1 where the request is in progress, and else 0, as `tevent_req_is_in_progress` tells.
+    Progress {
+        x: Obj,
+    },
+    /// `endtime X TIME`: the request times out at a time in microseconds, from 0 to 2^62, where it still is in progress then,
+    /// as `tevent_req_set_endtime` says.
+    Endtime {
+        x: Obj,
+        time: u64,
+    },
+    /// `received X`: what came of the request was taken, as `tevent_req_received` says: the object that it was made with is
+    /// freed, and no state comes after this.
+    Received {
+        x: Obj,
+    },
+    /// `pending`: how many events wait: immediates and requests that come soon, timers and end times of requests, and events
+    /// on descriptors.
     Pending,
     /// `now`: the time in microseconds, as `tevent_timeval_current` tells. The host asks the clock.
     Now,

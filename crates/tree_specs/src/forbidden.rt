@@ -82,12 +82,13 @@ pub fn a_refused_free_has_its_cause()
     ensures unlinked_refused { (is : List InputData) → Grounded bad.unlinked_refused_unheard is → ⊥ }
 {}
 
-/// A handler starts for a live object of its kind, whose turn it is, and a destructor accepts right after a question to
+/// A handler starts for a live object of its kind, whose turn it is, a request's routine for a request, and a destructor accepts right after a question to
 /// it, while its object is asked.
 pub fn routines_start_for_live_objects()
     ensures missing { (is : List InputData) → Grounded bad.fired_for_no_object is → ⊥ }
     ensures quiet { (is : List InputData) → Grounded bad.fired_while_quiet is → ⊥ }
     ensures kind { (is : List InputData) → Grounded bad.fired_as_another_kind is → ⊥ }
+    ensures request { (is : List InputData) → Grounded bad.called_back_for_no_request is → ⊥ }
     ensures unasked { (is : List InputData) → Grounded bad.accepted_unasked is → ⊥ }
     ensures stopped { (is : List InputData) → Grounded bad.accepted_while_quiet is → ⊥ }
     ensures busy { (is : List InputData) → Grounded bad.accepted_while_busy is → ⊥ }

@@ -7,6 +7,7 @@ use crate::object::{Obj, Owner};
 use crate::occasion::Occasion;
 use crate::question::Ask;
 use crate::reply::Reply;
+use crate::request::State;
 
 /// What is still to do of one open work. Works stand on one another, the innermost in front.
 #[derive(Debug, Drop)]
@@ -15,6 +16,7 @@ pub enum Frame {
     Free(FreeFrame),
     Turn(TurnFrame),
     Outside(OutsideFrame),
+    Request(RequestFrame),
 }
 
 /// What is still to do for a caller, who does one call after another. A caller is known by the question that
@@ -37,6 +39,10 @@ pub enum CallFrame {
     },
     /// The call waits for a turn of the event loop, or for what the outside answers.
     Turning {
+        ask: Ask,
+    },
+    /// The call waits for the work of a request.
+    Requesting {
         ask: Ask,
     },
     /// The reply is to be told, and the next question comes after it.
@@ -96,6 +102,14 @@ pub enum FreeFrame {
         x: Obj,
         hook: u32,
         value: u32,
+    },
+    /// `x` is a request. Before it leaves its owner it is to be received, where it wasn't yet; it waits until this is over.
+    Preparing {
+        x: Obj,
+    },
+    /// It was received, and is to be as before for its freeing to go on.
+    Prepared {
+        x: Obj,
     },
     /// The handler of `x` runs, and `x` was marked to be freed after it.
     Dooming {
@@ -179,6 +193,10 @@ pub enum TurnFrame {
     Clearing {
         x: Obj,
     },
+    /// It waits for the work of the request `x`, which has come.
+    Serving {
+        x: Obj,
+    },
     /// It is over, and this is the reply.
     Closing {
         value: u64,
@@ -196,6 +214,74 @@ pub enum OutsideFrame {
     Hearing { reply: Reply },
 }
 
+/// What is done with a request, step by step.
+#[derive(Clone, Copy, Debug, PartialEq, Eq)]
+pub enum Errand {
+    /// It goes to this state, and whoever waits for it is notified (`tevent_req_done` and the like).
+    Finish(State),
+    /// Whoever waits for it is notified, as its turn has come.
+    Notify,
+    /// What came of it is taken (`tevent_req_received`).
+    Receive,
+    /// Its routine for this cancels it (`tevent_req_cancel`).
+    Cancel,
+}
+
+/// What is still to do of one request's work.
+#[derive(Debug, Drop)]
+pub enum RequestFrame {
+    /// `x` is to go to this state.
+    Finishing {
+        x: Obj,
+        state: State,
+    },
+    /// `x` is to be received, where it wasn't yet.
+    Receiving {
+        x: Obj,
+    },
+    /// `x` is to be cancelled.
+    Cancelling {
+        x: Obj,
+    },
+    /// The cleanup of `x` is to run, where it hasn't for this state.
+    Cleaning {
+        x: Obj,
+        errand: Errand,
+    },
+    /// The cleanup of `x` is over.
+    Cleaned {
+        x: Obj,
+        errand: Errand,
+    },
+    /// Whoever waits for `x` is to be notified.
+    Notifying {
+        x: Obj,
+        errand: Errand,
+    },
+    /// It is to be told that this routine of `x` runs.
+    Calling {
+        what: What,
+        x: Obj,
+        handler: Handler,
+        errand: Errand,
+    },
+    /// The routine is to be asked. Then it waits until this has returned.
+    Called {
+        what: What,
+        x: Obj,
+        handler: Handler,
+        errand: Errand,
+    },
+    /// It waits for the freeing of the object that a request was made with.
+    Releasing {
+        child: Obj,
+    },
+    /// It is over with this reply.
+    Over {
+        reply: Reply,
+    },
+}
+
 /// What a work that is over answers to the work below it.
 #[derive(Debug, PartialEq, Eq, Drop)]
 pub enum Answer {
@@ -205,6 +291,6 @@ pub enum Answer {
     Returned(u32),
     /// A turn is over with this reply.
     Turned(u64),
-    /// The outside has answered, and this is the reply.
+    /// The outside has answered, or the work of a request is over, and this is the reply.
     Heard(Reply),
 }

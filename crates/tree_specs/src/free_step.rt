@@ -18,6 +18,8 @@ pub enum FreeReply {
 pub enum FreeStep {
     /// The destructor of the object is to run.
     Ask(Obj),
+    /// The object is a request, which is to be received where it wasn't yet.
+    Prepare(Obj),
     /// A reference is no more.
     Dropped {
         reference: Obj,

@@ -91,15 +91,16 @@ pub fn every_story_is_orderly()
 {}
 
 /// Every story is grounded: to free a live object, or to take an owner's interest in it away, succeeds, or is refused
-/// while its destructor or handler runs, or right after its destructor refused, or while it is held; and each acceptance
+/// while its destructor or handler runs, or while it is a request that is received for its freeing, or right after its
+/// destructor refused, or while it is held; and each acceptance
 /// comes right after the object's destructor has returned 0.
 pub fn every_story_is_grounded()
     ensures { (first : ℕ) (is : List InputData) → 1 ≤ first → Grounded (story first is) is }
 {}
 
 /// What waits for its turn is at every moment a live event with a handler: an immediate where it comes soon, a timer where
-/// it has a time, a descriptor's event where it watches. What is being freed, or will be once its handler is over, waits no
-/// more, and only events have handlers. Each descriptor that is watched is open, and one event watches it.
+/// it has a time, a descriptor's event where it watches; or a live request, where it comes soon or has an end time. What is
+/// being freed, or will be once its handler is over, waits no more, and only events have handlers. Each descriptor that is watched is open, and one event watches it.
 pub fn what_waits_is_a_live_event()
     ensures in_stories { (first : ℕ) (is : List InputData) → 1 ≤ first → EachFits AwaitsBefore (story first is) }
     ensures after_each_step { (v : View) → IsConsistent v → Awaits v.pool → Awaits (pool_after (step v.innermost v.pool)) }

@@ -27,6 +27,7 @@ mod question;
 pub mod refusing;
 mod reply;
 mod report;
+mod request;
 mod row;
 mod schedule;
 mod test;
@@ -42,7 +43,9 @@ pub use bounds::{
 pub use call::Call;
 pub use due::Due;
 pub use event::Event;
-pub use frame::{Answer, CallFrame, Frame, FreeFrame, OutsideFrame, Purpose, TurnFrame};
+pub use frame::{
+    Answer, CallFrame, Errand, Frame, FreeFrame, OutsideFrame, Purpose, RequestFrame, TurnFrame,
+};
 pub use free_step::{FreeReply, FreeStep};
 pub use handler::Handler;
 pub use kind::Kind;
@@ -56,6 +59,7 @@ pub use octets::Octets;
 pub use question::{Act, Ask, Input};
 pub use reply::{Refusal, Reply};
 pub use report::{ReportRow, ReportRows, RowKind};
+pub use request::{Note, State};
 pub use row::{Mark, Row};
 pub use schedule::{Mode, Reason};
 pub use test::Test;

@@ -5,18 +5,21 @@ ghost use Rattle.std.specs.Prelude.{◌≡◌, ◌≢◌, ◌≤◌, ℕ, List};
 ghost use Rattle.step_machine.specs.Machine.{items as told_by, rest};
 ghost use Rattle.step_machine.specs.Machine.Outcome.{Short};
 ghost use Rattle.tree_specs.specs.declared.frame.CallFrame.TheVariants.{Asking};
-ghost use Rattle.tree_specs.specs.declared.frame.Frame.TheVariants.{Call, Free, Turn, Outside};
+ghost use Rattle.tree_specs.specs.declared.frame.Frame.TheVariants.{Call, Free, Turn, Outside, Request};
 ghost use Rattle.tree_specs.specs.declared.frame.FreeFrame.TheVariants.{Beginning, Unlinking, Looping};
 ghost use Rattle.tree_specs.specs.declared.frame.Purpose.TheVariants.{Emptying};
 ghost use Rattle.tree_specs.specs.declared.frame.OutsideFrame.TheVariants.{Reaching};
+ghost use Rattle.tree_specs.specs.declared.frame.RequestFrame.TheVariants.{Finishing, Receiving, Cancelling, Notifying};
+ghost use Rattle.tree_specs.specs.declared.frame.Errand.{Errand as ErrandData};
 ghost use Rattle.tree_specs.specs.declared.frame.TurnFrame.TheVariants.{Taking};
 ghost use Rattle.tree_specs.specs.declared.object.Obj.{Obj as ObjData};
 ghost use Rattle.tree_specs.specs.declared.object.Owner.{Owner as OwnerData};
 ghost use Rattle.tree_specs.specs.declared.question.Ask.{Ask as AskData};
 ghost use Rattle.tree_specs.specs.declared.question.Input.{Input as InputData};
+ghost use Rattle.tree_specs.specs.declared.request.State.{State as StateData};
 ghost use Rattle.tree_specs.specs.Machine.Meaning.{answered, closed, emptied, freed, returned, run_of, stated, text_rest};
 ghost use Rattle.tree_specs.specs.Tree.Pool.{Pool};
-ghost use Rattle.tree_specs.specs.Rules.Story.{asked, children, free, items, reaching, taking, unlink};
+ghost use Rattle.tree_specs.specs.Rules.Story.{asked, cancelling, children, finishing, free, items, notifying, reaching, receiving, taking, unlink};
 ghost use Rattle.tree_specs.specs.Machine.Table.{table};
 ghost use Rattle.tree_specs.specs.Machine.View.{View, rest_of};
 ghost use Rattle.tree_specs.specs.Invariants.Consistent.{IsConsistent};
@@ -24,7 +27,7 @@ ghost use Rattle.tree_specs.specs.Invariants.Consistent.{IsConsistent};
 /// From the beginning of a free the table of single steps tells, answers, leaves and takes what the text says of it,
 /// over every pool and all inputs, whenever the turns are enough; so it is where an owner's interest is taken away, where
 /// the children of an object are freed, and where a caller is asked, as a destructor that runs is; and where a turn of the
-/// event loop is taken, or the outside is asked.
+/// event loop is taken, the outside is asked, or a request goes to a state, is notified, received or cancelled.
 pub fn the_machine_tells_the_text()
     ensures free { (n : ℕ) (x : ObjData) (p : Pool) (is : List InputData) → run_of n (Free (Beginning x)) p is ≢ Short →
         run_of n (Free (Beginning x)) p is ≡ freed (free n x) p is }
@@ -38,6 +41,14 @@ pub fn the_machine_tells_the_text()
         run_of n (Turn Taking) p is ≡ closed (taking n) p is }
     ensures outside { (n : ℕ) (q : AskData) (p : Pool) (is : List InputData) → run_of n (Outside (Reaching q)) p is ≢ Short →
         run_of n (Outside (Reaching q)) p is ≡ answered (reaching n q) p is }
+    ensures finish { (n : ℕ) (x : ObjData) (s : StateData) (p : Pool) (is : List InputData) → run_of n (Request (Finishing x s)) p is ≢ Short →
+        run_of n (Request (Finishing x s)) p is ≡ answered (finishing n x s) p is }
+    ensures notify { (n : ℕ) (x : ObjData) (e : ErrandData) (p : Pool) (is : List InputData) → run_of n (Request (Notifying x e)) p is ≢ Short →
+        run_of n (Request (Notifying x e)) p is ≡ answered (notifying n x e) p is }
+    ensures receive { (n : ℕ) (x : ObjData) (p : Pool) (is : List InputData) → run_of n (Request (Receiving x)) p is ≢ Short →
+        run_of n (Request (Receiving x)) p is ≡ answered (receiving n x) p is }
+    ensures cancel { (n : ℕ) (x : ObjData) (p : Pool) (is : List InputData) → run_of n (Request (Cancelling x)) p is ≢ Short →
+        run_of n (Request (Cancelling x)) p is ≡ answered (cancelling n x) p is }
 
     // The stated turns are enough for the innermost of open works that hold together, and more give the same.
     ensures enough { (v : View) (is : List InputData) → IsConsistent v → run_of (stated v.pool is) v.innermost v.pool is ≢ Short }

@@ -19,7 +19,8 @@ ghost use Rattle.tree_specs.specs.Calls.Refusals.{Check, refusals};
 ghost use Rattle.tree_specs.specs.Tree.Pool.{Pool, first_kid, noted_owner, target_at};
 ghost use Rattle.tree_specs.specs.Promises.Refused.{called, SayOnlyWhatRan, RefuseOnlyWhatRan, RefusedChangeNothing};
 ghost use Rattle.tree_specs.specs.Rules.Sequence.{Work};
-ghost use Rattle.tree_specs.specs.Rules.Story.{children, free, tried, turned, unlink};
+ghost use Rattle.tree_specs.specs.Rules.Story.{children, free, tried, unlink};
+ghost use Rattle.tree_specs.specs.Rules.Pieces.{turned};
 ghost use Rattle.tree_specs.specs.Promises.BadTexts as bad;
 
 /// Whatever is answered as running ran when this was begun: a free, be it a call's, an act's or the try of a child; the

@@ -15,12 +15,24 @@ pub enum Test {
     IsImmediate(Obj),
     /// The object is an event on a descriptor.
     IsDescriptor(Obj),
+    /// The object is a request.
+    IsRequest(Obj),
+    /// The object is one to which there may be references: a plain one, or a request.
+    IsReferable(Obj),
     /// The descriptor is open.
     IsOpen(u32),
     /// No event watches the descriptor.
     IsUnwatched(u32),
     /// There is room for so many rows, and there are so many numbers.
     HasRoom(u8),
+    /// There is a number that no object gets.
+    HasNumber,
+    /// The request is in progress.
+    IsInProgress(Obj),
+    /// The request is over, and wasn't received.
+    IsFinished(Obj),
+    /// The request is in progress, where it is to fail with this number; with 0 it doesn't fail.
+    MayFail(Obj, u64),
     /// The limits leave room for so many more bytes below the owner.
     Fits(Owner, u64),
     /// The object gets this size: where it grows, the limits leave room for it.
@@ -29,7 +41,7 @@ pub enum Test {
     IsNotDying(Obj),
     /// The object isn't being freed, and won't be once its handler is over.
     IsNotDoomed(Obj),
-    /// Neither its destructor nor its handler runs.
+    /// Neither its destructor nor its handler runs, nor is it a request that is received to be freed.
     IsNotRunning(Obj),
     /// The owner isn't inside the object.
     IsNotInside(Obj, Owner),

@@ -87,6 +87,23 @@ fn each_reason_has_its_message_and_so_has_memory(rt: HostRuntime) {
     says(&rt, Memory, "out of memory");
 }
 
+#[test]
+fn states_have_their_numbers(rt: HostRuntime) {
+    let states = [
+        State::InProgress,
+        State::Done,
+        State::UserError,
+        State::TimedOut,
+        State::NoMemory,
+        State::Received,
+    ];
+    let mut want = 1;
+    for state in states.iter() {
+        assert_eq!(rt; state.number(), want);
+        want += 1;
+    }
+}
+
 fn makes(rt: &impl Abort, alloc: Global, list: &[Want], want: bool) -> Result<(), Fail> {
     let made = Wants::make(Vec::from_slice(alloc, list)?).is_some();
     assert_eq!(rt; made, want);

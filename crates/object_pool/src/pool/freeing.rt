@@ -1,5 +1,5 @@
 //! Frees on the objects: their beginnings, and what comes next of the innermost one.
-ghost use Rattle.std.specs.Prelude.{◌≡◌, ◌∷◌, List, true, None, is_some, slice_get};
+ghost use Rattle.std.specs.Prelude.{◌≡◌, ◌∷◌, ◌≤◌, List, true, None, is_some, slice_get};
 ghost use Rattle.tree_specs.specs.declared.watch.Watch.{Watch as WatchData};
 ghost use Rattle.tree_specs.specs.declared.frame.FreeFrame.TheVariants.{Unlinking, Beginning, Looping};
 ghost use Rattle.tree_specs.specs.declared.frame.Purpose.TheVariants.{Emptying};
@@ -10,8 +10,9 @@ ghost use Rattle.destructors.specs.Frees.{next_of, is_event, returned, speaking,
 ghost use Rattle.destructors.specs.Works.{IsAtWork, IsAwaiting, GoesOn};
 ghost use Rattle.destructors.specs.Moves.{IsLiveRow};
 ghost use Rattle.destructors.specs.Engine.{IsAsked};
-ghost use Rattle.object_pool.specs.Objects.{frees_in, LeavesRest};
+ghost use Rattle.object_pool.specs.Objects.{frees_in, LeavesRest, MayBeginFree};
 ghost use Rattle.object_pool.specs.Upcoming.{closed_of};
+ghost use Rattle.object_pool.specs.Requests.{count_unreceived};
 
 use crate::counting::count_step;
 use crate::pool::ObjectPool;
@@ -36,19 +37,21 @@ fn event(step: FreeStep, closed: Option<u32>) -> Option<Event>
         FreeStep::Moved { object, owner, .. } => Some(Event::Moved { object, owner }),
         FreeStep::Gone { object, hook } => Some(Event::Freed { object, hook }),
         FreeStep::Doom(_) | FreeStep::Left { .. } => closed.map(Event::Closed),
-        FreeStep::Ask(_) | FreeStep::Done(_) => None,
+        FreeStep::Ask(_) | FreeStep::Prepare(_) | FreeStep::Done(_) => None,
     }
 }
 
 impl ObjectPool {
-    /// Begins the freeing of an object to which there is no reference.
+    /// Begins the freeing of an object to which there is no reference. The memory for a call is taken before, but where a free
+    /// waits until a request was received: then that for its works is enough.
     pub fn begin_free(&mut self, x: Obj)
-        requires ready { self.old.ready ≡ true }
+        requires room { MayBeginFree self.old }
         requires awaiting { IsAwaiting (frees_in self.old) }
         requires object { target_at self.old.pool.rows x ≡ None }
         requires unheld { newest_ref self.old.pool.rows x ≡ None }
         ensures begins { Begins (Beginning x ∷ self.old.works) self.old.pool (frees_in self.new) }
         ensures at_work { IsAtWork (frees_in self.new) }
+        ensures requests { self.new.pool.requests ≡ self.old.pool.requests }
         ensures rest { LeavesRest self.old self.new }
     {
         self.ready = false;
@@ -57,12 +60,13 @@ impl ObjectPool {
 
     /// Begins to take the interest of an owner in an object away.
     pub fn begin_unlink(&mut self, owner: Owner, x: Obj)
-        requires ready { self.old.ready ≡ true }
+        requires room { MayBeginFree self.old }
         requires awaiting { IsAwaiting (frees_in self.old) }
         requires live { IsLiveRow self.old.pool x }
         requires object { target_at self.old.pool.rows x ≡ None }
         ensures begins { Begins (Unlinking owner x ∷ self.old.works) self.old.pool (frees_in self.new) }
         ensures at_work { IsAtWork (frees_in self.new) }
+        ensures requests { self.new.pool.requests ≡ self.old.pool.requests }
         ensures rest { LeavesRest self.old self.new }
     {
         self.ready = false;
@@ -76,6 +80,7 @@ impl ObjectPool {
         requires awaiting { IsAwaiting (frees_in self.old) }
         ensures begins { Begins (Looping x Emptying ∷ self.old.works) self.old.pool (frees_in self.new) }
         ensures at_work { IsAtWork (frees_in self.new) }
+        ensures requests { self.new.pool.requests ≡ self.old.pool.requests }
         ensures rest { LeavesRest self.old self.new }
     {
         self.ready = false;
@@ -118,6 +123,7 @@ impl ObjectPool {
         ensures steps { Steps (frees_in self.old) result.step (frees_in self.new) }
         ensures goes_on { GoesOn result.step (frees_in self.new) }
         ensures told { result.event ≡ event_of self.old.pool.ring result.step }
+        ensures requests { count_unreceived self.new.pool.requests ≤ count_unreceived self.old.pool.requests }
         ensures rest { LeavesRest self.old self.new }
     {
         // All that is wanted of `len` is its contract: the objects are a forest.

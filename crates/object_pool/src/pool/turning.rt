@@ -2,6 +2,7 @@
 ghost use Rattle.std.specs.Prelude.{◌≡◌, true, false};
 ghost use Rattle.tree_specs.specs.declared.row.Mark.TheVariants.{Quiet};
 ghost use Rattle.tree_specs.specs.Tree.Pool.{is_row, is_dying, set_mark as marked};
+ghost use Rattle.tree_specs.specs.Promises.Grounded.{is_asked};
 ghost use Rattle.tree_specs.specs.Events.Coming.{rotated, begun, comes_as, is_once, handler_for, goes_after};
 ghost use Rattle.tree_specs.specs.Calls.Refusals.{is_doomed_mark};
 ghost use Rattle.loop_core.specs.Picks.{begin_pick, clock_pick, ready_pick};
@@ -87,6 +88,7 @@ impl ObjectPool {
     fn begin(&mut self, what: What, x: Obj)
         requires is { is_row self.old.pool.rows x ≡ true }
         requires live { is_dying self.old.pool.rows x ≡ false }
+        requires unasked { is_asked self.old.pool x ≡ false }
         ensures { self.new ≡ record self.old { pool = begun what x self.old.pool } }
     {
         self.rotate(what, x);
@@ -111,6 +113,7 @@ impl ObjectPool {
     pub fn finish(&mut self, what: What, x: Obj) -> bool
         requires is { is_row self.old.pool.rows x ≡ true }
         requires live { is_dying self.old.pool.rows x ≡ false }
+        requires unasked { is_asked self.old.pool x ≡ false }
         ensures goes { result ≡ goes_after self.old.pool what x }
         ensures quiet { self.new ≡ record self.old { pool = marked self.old.pool x Quiet } }
     {

@@ -1,6 +1,6 @@
 use super::writes;
 use std::test::Fail;
-use tree_specs::{Event, Obj, Owner, What};
+use tree_specs::{Event, Obj, Owner, State, What};
 
 fn fired(what: What) -> Event {
     Event::Fired {
@@ -72,15 +72,26 @@ fn writes_what_happens_outside(rt: HostRuntime) -> Result<(), Fail> {
     writes(
         &rt,
         rt.alloc(),
+        &[(Event::Closed(6), b"closed 6\n".as_slice())],
+    )
+}
+
+#[test]
+fn writes_what_happens_to_requests(rt: HostRuntime) -> Result<(), Fail> {
+    let state = |state: State| Event::State {
+        request: Obj(9),
+        state: state.number(),
+    };
+    writes(
+        &rt,
+        rt.alloc(),
         &[
-            (Event::Closed(6), b"closed 6\n".as_slice()),
-            (
-                Event::State {
-                    request: Obj(1),
-                    state: 2,
-                },
-                b"state 1 2\n".as_slice(),
-            ),
+            (state(State::InProgress), b"state 9 1\n".as_slice()),
+            (state(State::Done), b"state 9 2\n".as_slice()),
+            (state(State::UserError), b"state 9 3\n".as_slice()),
+            (state(State::TimedOut), b"state 9 4\n".as_slice()),
+            (state(State::NoMemory), b"state 9 5\n".as_slice()),
+            (state(State::Received), b"state 9 6\n".as_slice()),
         ],
     )
 }

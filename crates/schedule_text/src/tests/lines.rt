@@ -53,6 +53,21 @@ clock 4611686018427387904
 ready
 ready 3:1 5:3
 ready 0:2 4294967295:1
+call req 7 10 a-b
+act callback 1 16 5
+act callback 1 0 0
+call defer 1
+act cleanup 1 17
+act setcancel 1 0
+call cancel 1
+act post 1
+act done 1
+call error 1 18446744073709551615
+act oom 1
+call iserror 1
+call progress 1
+act endtime 1 4611686018427387904
+act received 1
 ";
 
 #[test]
@@ -177,6 +192,16 @@ ready  3:1
 ready 03:1
 ready3:1
 ready 4294967296:1
+call done
+call done 01
+call error 1
+done 1
+act endtime 1 4611686018427387905
+act req 7 10
+act callback 1 4294967296 0
+act cleanup 1 17 0
+call state 1 2
+state 1 2
 ";
 
 #[test]

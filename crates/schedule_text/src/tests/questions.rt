@@ -1,17 +1,20 @@
 use super::octets;
 use crate::{write_answered, write_ask, write_end};
+use std::alloc::Global;
+use std::process::Abort;
 use std::test::Fail;
 use tree_specs::{Ask, Moment, Obj, Reply, What};
 
 // A question, its text, its line once it was answered, and its line at the end.
 type Case = (Ask, &'static [u8], &'static [u8], &'static [u8]);
 
-fn timer() -> Ask {
+// What an object's routine is asked, with its own number as its user number.
+fn routine(what: What, object: u64) -> Ask {
     Ask::Routine(Moment {
-        what: What::Timer,
-        object: Obj(3),
+        what,
+        object: Obj(object),
         routine: 18,
-        user: 3,
+        user: object,
         now: 0,
         flags: 0,
         step: 0,
@@ -32,13 +35,27 @@ fn descriptor() -> Ask {
     })
 }
 
+// Each question is written in these three ways.
+fn writes_each(rt: &impl Abort, alloc: Global, cases: &[Case]) -> Result<(), Fail> {
+    for (ask, text, answered, end) in cases {
+        let mut out = Vec::new(alloc);
+        write_ask(ask, &mut out)?;
+        assert_eq!(rt; out.as_slice(), *text, "at {ask:?}");
+        out.clear();
+        write_answered(ask, &mut out)?;
+        assert_eq!(rt; out.as_slice(), *answered, "at {ask:?}");
+        out.clear();
+        write_end(ask, &mut out)?;
+        assert_eq!(rt; out.as_slice(), *end, "at {ask:?}");
+    }
+    Ok(())
+}
+
 #[test]
-fn writes_questions(rt: HostRuntime) -> Result<(), Fail> {
-    let bytes = octets(rt.alloc(), b"1 9\n")?;
-    let cases: [Case; 8] = [
-        (Ask::Quiet, b"quiet", b"", b"end quiet\n"),
+fn writes_what_routines_are_asked(rt: HostRuntime) -> Result<(), Fail> {
+    let cases: [Case; 5] = [
         (
-            timer(),
+            routine(What::Timer, 3),
             b"timer 3 18 3 0 0 0",
             b"ask timer 3 18 3 0 0 0\n",
             b"end timer 3 18 3 0 0 0\n",
@@ -49,6 +66,33 @@ fn writes_questions(rt: HostRuntime) -> Result<(), Fail> {
             b"ask fd 1 2 18446744073709551615 4 5 4294967295\n",
             b"end fd 1 2 18446744073709551615 4 5 4294967295\n",
         ),
+        (
+            routine(What::Callback, 9),
+            b"callback 9 18 9 0 0 0",
+            b"ask callback 9 18 9 0 0 0\n",
+            b"end callback 9 18 9 0 0 0\n",
+        ),
+        (
+            routine(What::Cleanup, 2),
+            b"cleanup 2 18 2 0 0 0",
+            b"ask cleanup 2 18 2 0 0 0\n",
+            b"end cleanup 2 18 2 0 0 0\n",
+        ),
+        (
+            routine(What::Cancel, 0),
+            b"cancel 0 18 0 0 0 0",
+            b"ask cancel 0 18 0 0 0 0\n",
+            b"end cancel 0 18 0 0 0 0\n",
+        ),
+    ];
+    writes_each(&rt, rt.alloc(), &cases)
+}
+
+#[test]
+fn writes_questions_to_the_outside(rt: HostRuntime) -> Result<(), Fail> {
+    let bytes = octets(rt.alloc(), b"1 9\n")?;
+    let cases: [Case; 6] = [
+        (Ask::Quiet, b"quiet", b"", b"end quiet\n"),
         (Ask::Clock, b"clock", b"ask clock\n", b"end clock\n"),
         (
             Ask::Wait(30_000_000),
@@ -75,16 +119,5 @@ fn writes_questions(rt: HostRuntime) -> Result<(), Fail> {
             b"end write 1 3120390a\n",
         ),
     ];
-    for (ask, text, answered, end) in &cases {
-        let mut out = Vec::new(rt.alloc());
-        write_ask(ask, &mut out)?;
-        assert_eq!(rt; out.as_slice(), *text, "at {ask:?}");
-        out.clear();
-        write_answered(ask, &mut out)?;
-        assert_eq!(rt; out.as_slice(), *answered, "at {ask:?}");
-        out.clear();
-        write_end(ask, &mut out)?;
-        assert_eq!(rt; out.as_slice(), *end, "at {ask:?}");
-    }
-    Ok(())
+    writes_each(&rt, rt.alloc(), &cases)
 }

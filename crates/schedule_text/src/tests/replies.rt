@@ -20,6 +20,11 @@ fn writes_replies(rt: HostRuntime) -> Result<(), Fail> {
                 b"reply 18446744073709551615\n".as_slice(),
             ),
             (replied(Reply::Pair(3, 77)), b"reply 3 77\n".as_slice()),
+            (replied(Reply::Pair(4, 0)), b"reply 4 0\n".as_slice()),
+            (
+                replied(Reply::Pair(6, largest)),
+                b"reply 6 18446744073709551615\n".as_slice(),
+            ),
             (
                 replied(Reply::Bytes(read)),
                 b"reply got 31206e\n".as_slice(),

@@ -1,5 +1,5 @@
-use super::{reads_none, writes_again};
-use crate::{FormFault, read_call, read_octets, write_call, write_octets};
+use super::{reads_none, writes, writes_again};
+use crate::{FormFault, read_call, read_octets, write_octets};
 use std::alloc::Global;
 use std::test::Fail;
 use tree_specs::{Call, Obj, Octets, Owner};
@@ -68,15 +68,13 @@ fn writes_calls(rt: HostRuntime) -> Result<(), Fail> {
         user: 42,
     };
     let bytes = octets(rt.alloc(), b"1 9\n")?;
+    let flags = Call::Flags {
+        x: Obj(9),
+        flags: 2,
+    };
     let cases = [
         (fd, b"fd 7 5 1 16 42".as_slice()),
-        (
-            Call::Flags {
-                x: Obj(9),
-                flags: 2,
-            },
-            b"flags 9 2".as_slice(),
-        ),
+        (flags, b"flags 9 2".as_slice()),
         (Call::Getflags { x: Obj(9) }, b"getflags 9".as_slice()),
         (Call::Autoclose { x: Obj(9) }, b"autoclose 9".as_slice()),
         (Call::Close { fd: 6 }, b"close 6".as_slice()),
@@ -85,9 +83,7 @@ fn writes_calls(rt: HostRuntime) -> Result<(), Fail> {
         (Call::Write { fd: 6, bytes }, b"write 6 3120390a".as_slice()),
     ];
     for (call, want) in &cases {
-        let mut out = Vec::new(rt.alloc());
-        write_call(call, &mut out)?;
-        assert_eq!(rt; out.as_slice(), *want);
+        writes(&rt, rt.alloc(), call, want)?;
     }
     Ok(())
 }

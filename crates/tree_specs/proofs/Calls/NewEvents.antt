@@ -1,29 +1,81 @@
--- An event that a call has watch a descriptor is a new one.
-use Rattle.std.proofs.Common.{◌≡◌, nat_eq, [], ◌∷◌, Option, Some, None, false}
+-- An event that a call has watch a descriptor is a new one, and what a call has come isn't being freed.
+use Rattle.std.proofs.Common.{◌≡◌, nat_eq, [], ◌∷◌, Option, Some, None, Bool, true, false, refl, ◌∙◌}
+use Rattle.std.specs.Prelude.{not}
 use Rattle.tree_specs.specs.declared.object.Obj.{Obj}
 use Rattle.tree_specs.specs.declared.object.Owner.{Owner}
 use Rattle.tree_specs.specs.declared.call.Call.{Call}
 use Rattle.tree_specs.specs.declared.call.Call.TheVariants as call
 use Rattle.tree_specs.specs.Tree.Targets.{newest_ref}
-use Rattle.tree_specs.specs.Tree.Pool.{Pool}
+use Rattle.tree_specs.specs.Tree.Pool.{Pool, row_of, passes}
+use Rattle.tree_specs.specs.declared.request.Note.{Note}
+use Rattle.tree_specs.specs.declared.request.State.{State}
+use Rattle.tree_specs.specs.declared.request.State.TheVariants as state
+use Rattle.tree_specs.specs.declared.reply.Refusal.TheVariants.{BadState}
+use Rattle.tree_specs.specs.declared.row.Row.{Row}
+use Rattle.tree_specs.specs.declared.row.Mark.{Mark}
+use Rattle.tree_specs.specs.declared.row.Mark.TheVariants.{Quiet, Asked, Busy, Doomed, Dying}
+use Rattle.tree_specs.specs.Words.Objects.{same}
+use Rattle.tree_specs.specs.Events.Requests.{note_of, is_noted, is_received, is_unreceived, is_in_progress, state_number}
+use Rattle.tree_specs.specs.Calls.Passed.{AllPassed}
+use Rattle.tree_specs.specs.Machine.Profiles.{InHandler, InLoop}
+use Rattle.tree_specs.specs.Invariants.Sound.{phases}
+use Rattle.tree_specs.specs.Invariants.Noted.{NotesHold}
+use Rattle.tree_specs.proofs.Calls.Checks.{all-pass}
+use Rattle.tree_specs.proofs.Invariants.Notes.{settled}
 use Rattle.tree_specs.specs.Events.Rotation.{is_watching}
-use Rattle.tree_specs.specs.Calls.Refusals.{Check, refusals}
+use Rattle.tree_specs.specs.Calls.Refusals.{Check, tests, refusals, refuse_if, in_state, is_finished, is_doomed_mark, is_doomed, is_request_row}
 use Rattle.tree_specs.specs.Calls.Plans.{Change, Plan, changed_by, plan, planned, unless_refused, frees, handed, gift}
-use Rattle.tree_specs.specs.Calls.Plans.Change.{Watches, Then}
-use Rattle.tree_specs.specs.Calls.Plans.Plan.{Does}
-use Rattle.tree_specs.proofs.Tree.Numbered.{by_test}
+use Rattle.tree_specs.specs.Calls.Plans.Change.{Watches, Schedule, Arm, Then}
+use Rattle.tree_specs.specs.Calls.Plans.Plan.{Does, Works}
+use Rattle.tree_specs.proofs.Tree.Numbered.{by_test, same-equal}
 
--- each event that a change has watch a descriptor watches none yet
+-- each event that a change has watch a descriptor watches none yet, and what comes soon or at a time isn't being freed
 abbrev pub AreNew : Pool → Change → Type 0
 AreNew p (Watches x fd flags) = is_watching p.ring x ≡ false
+AreNew p (Schedule x) = is_doomed p x ≡ false
+AreNew p (Arm x time number) = is_doomed p x ≡ false
 AreNew p (Then first second) = AreNew p first × AreNew (changed_by first p) second
 AreNew p change = Unit {0}
 
 abbrev pub OnlyNew : Pool → Plan → Type 0
 OnlyNew p (Does change notice r) = AreNew p change
+OnlyNew p (Works change errand x) = AreNew p change
 OnlyNew p plan = Unit {0}
 
-module _ (p : Pool) (new : is_watching p.ring (record { 0 = p.next }) ≡ false) where
+-- an object with which nothing goes on isn't being freed
+pub quiet-spared : (o : Option Row) → phases o ≡ [] → passes (λ r. is_doomed_mark r.mark) o ≡ false
+quiet-spared None e = refl
+quiet-spared (Some r) e = marks r.mark refl
+  where
+    marks : (m : Mark) → r.mark ≡ m → is_doomed_mark r.mark ≡ false
+    marks Quiet m = rw m refl
+    marks Asked m = rw m refl
+    marks Busy m = rw m refl
+    marks Doomed m = let bad : InHandler ∷ [] ≡ [] = rw m at e in cc
+    marks (Dying former) m = let bad : InLoop ∷ [] ≡ [] = rw m at e in cc
+
+module _ (p : Pool) (new : is_watching p.ring (record { 0 = p.next }) ≡ false) (holds : NotesHold None p) where
+  -- nor is a request that wasn't received
+  spared : (x : Obj) (is_right : State → Bool) → ((s : State) → is_right s ≡ true → is_received s ≡ false) → is_request_row (row_of p.rows x) ≡ true → in_state x is_right (note_of p.requests x) ≡ [] → is_doomed p x ≡ false
+  spared x is_right right row h = quiet-spared (row_of p.rows x) (settled p x holds (each (note_of p.requests x) refl))
+    where
+      passed : (s : State) → is_right s ≡ true → not (is_received s) ≡ true
+      passed s t = rw (right s t) refl
+
+      each : (o : Option Note) → note_of p.requests x ≡ o → is_unreceived (note_of p.requests x) ≡ true
+      each None e = let noted : is_noted p.requests x ≡ true = holds.notes x ∙ row in let bad : false ≡ true = rw e at noted in cc
+      each (Some n) e =
+          let h' : refuse_if (not (is_right n.state)) (BadState x (state_number n.state)) ≡ [] = rw e at h in
+          rw e (by_test (is_right n.state) (λ t. passed n.state t) (λ t. let bad : BadState x (state_number n.state) ∷ [] ≡ [] = rw t at h' in cc))
+
+  going : (s : State) → is_in_progress s ≡ true → is_received s ≡ false
+  going state.Received t = cc
+  going _ t = refl
+
+  over : (s : State) → is_finished s ≡ true → is_received s ≡ false
+  over state.Received t = cc
+  over _ t = refl
+
   freed : (x : Obj) (r : Option Obj) → OnlyNew p (frees r x)
   freed x None = tt
   freed x (Some r) = tt
@@ -32,18 +84,24 @@ module _ (p : Pool) (new : is_watching p.ring (record { 0 = p.next }) ≡ false)
   given to None = tt
   given to (Some x) = tt
 
-  each : (c : Call) → OnlyNew p (plan p c)
-  each (call.Free x) = freed x (newest_ref p.rows x)
-  each (call.Reparent from to x) = given to (gift p from x)
-  each (call.Schedule x routine user) = by_test (nat_eq routine 0) (λ t. rw t tt) (λ t. rw t (tt, tt))
-  each (call.Timer o time routine user) = (tt, (tt, tt))
-  each (call.Fd o fd flags routine user) = (tt, (tt, new))
-  each _ = tt
+  each : (c : Call) → AllPassed p (tests c) → OnlyNew p (plan p c)
+  each (call.Free x) h = freed x (newest_ref p.rows x)
+  each (call.Reparent from to x) h = given to (gift p from x)
+  each (call.Schedule x routine user) h = by_test (nat_eq routine 0) (λ t. rw t tt) (λ t. rw t (tt, h.1.1.0))
+  each (call.Timer o time routine user) h =
+      let n : Obj = record { 0 = p.next } in
+      let self : same n n ≡ true = same-equal n n refl in
+      (tt, (tt, rw self refl))
+  each (call.Fd o fd flags routine user) h = (tt, (tt, new))
+  each (call.Post x) h = spared x is_finished over h.1.0 h.1.1.0
+  each (call.Error x error) h = by_test (nat_eq error 0) (λ t. rw t tt) (λ t. rw t tt)
+  each (call.Endtime x time) h = (spared x is_in_progress going h.1.0 h.1.1.0, tt)
+  each _ h = tt
 
   -- so it is of each call, where the number of the next object is nobody's that watches
   pub new-events : (c : Call) → OnlyNew p (planned p c)
-  new-events c = by-check (refusals p c)
+  new-events c = by-check (refusals p c) refl
     where
-      by-check : (check : Check) → OnlyNew p (unless_refused check (plan p c))
-      by-check [] = each c
-      by-check (why ∷ later) = tt
+      by-check : (check : Check) → refusals p c ≡ check → OnlyNew p (unless_refused check (plan p c))
+      by-check [] none = each c (all-pass p (tests c) none)
+      by-check (why ∷ later) none = tt

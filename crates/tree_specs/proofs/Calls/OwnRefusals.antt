@@ -2,7 +2,7 @@
 use Rattle.tree_specs.proofs.Tree.Referring.{unreferred, plain-refers}
 use Rattle.tree_specs.specs.Tree.Forest.{Distinct}
 use Rattle.tree_specs.specs.Invariants.Sound.{IsReferable, Refers}
-use Rattle.std.proofs.Common.{◌≡◌, ℕ, List, [], ◌∷◌, ◌++◌, Option, Some, None, Bool, true, false, refl, sym, ◌∙◌, subst, ap}
+use Rattle.std.proofs.Common.{nat_eq, ◌≡◌, ℕ, List, [], ◌∷◌, ◌++◌, Option, Some, None, Bool, true, false, refl, sym, ◌∙◌, subst, ap}
 use Rattle.tree_specs.specs.Tree.Sums.{size_at}
 use Rattle.std.specs.Prelude.{zero, suc, ◌-◌, ◌+◌, ◌^◌, nat_lt, nat_le, length, not, is_some}
 use Rattle.tree_specs.specs.declared.object.Obj.{Obj}
@@ -20,8 +20,12 @@ use Rattle.tree_specs.specs.Tree.Targets.{is_reference}
 use Rattle.tree_specs.specs.Rules.Items.{Item}
 use Rattle.tree_specs.specs.Rules.Items.Item.{Told}
 use Rattle.tree_specs.specs.declared.test.Test.{Test}
-use Rattle.tree_specs.specs.Calls.Refusals.{Check, row_limit, refuse_if, refusal_of, refused, refusals, over, fits_in, fits, growing, object_row, object, owner, room, given_by, held, is_held, is_running}
-use Rattle.tree_specs.specs.declared.test.Test.TheVariants.{IsSmall, IsObject, IsOwner, IsPlain, IsImmediate, IsDescriptor, IsOpen, IsUnwatched, HasRoom, Fits, MayGrow, IsNotDying, IsNotDoomed, IsNotRunning, IsNotInside, IsUnheld, IsUnreferenced, IsInterested, MayGive}
+use Rattle.tree_specs.specs.declared.request.Note.{Note}
+use Rattle.tree_specs.specs.declared.request.State.{State}
+use Rattle.tree_specs.specs.Events.Requests.{is_in_progress, note_of}
+use Rattle.tree_specs.specs.Calls.Refusals.{is_finished}
+use Rattle.tree_specs.specs.Calls.Refusals.{Check, row_limit, refuse_if, refusal_of, refused, refusals, over, fits_in, fits, growing, in_state, object_row, object, owner, room, given_by, held, is_held, is_running}
+use Rattle.tree_specs.specs.declared.test.Test.TheVariants.{IsSmall, IsObject, IsOwner, IsPlain, IsImmediate, IsDescriptor, IsRequest, IsReferable as IsReferableTest, IsOpen, IsUnwatched, HasRoom, HasNumber, IsInProgress, IsFinished, MayFail, Fits, MayGrow, IsNotDying, IsNotDoomed, IsNotRunning, IsNotInside, IsUnheld, IsUnreferenced, IsInterested, MayGive}
 use Rattle.tree_specs.specs.Rules.Sequence.{Scene}
 use Rattle.tree_specs.specs.Promises.Orderly.{RefusedJustNow}
 use Rattle.tree_specs.specs.Promises.Grounded.{AnsweredCall, HeldCall, CausedCall}
@@ -78,6 +82,10 @@ own-growing p x size = by_test (nat_lt (size_at p.rows x) size) (λ t. rw t (own
 own-given : (p : Pool) (from to : Owner) (x : Obj) → AllOwn p (given_by p from to x)
 own-given p from to x = by_test (is_below (owner_of p.rows x) from) (λ t. rw t (own-if p _ (refusal.Loop x to) (λ t. tt))) (λ t. rw t (own-if p _ (refusal.NotParent x from) (λ t. tt)))
 
+own-state : (p : Pool) (x : Obj) (is_right : State → Bool) (n : Option Note) → AllOwn p (in_state x is_right n)
+own-state p x is_right None = tt
+own-state p x is_right (Some n) = own-if p _ _ (λ t. tt)
+
 own-test : (p : Pool) (t : Test) → AllOwn p (refusal_of p t)
 own-test p (IsSmall size) = own-if p _ _ (λ t. tt)
 own-test p (IsObject x) = own-object p x
@@ -85,9 +93,15 @@ own-test p (IsOwner o) = own-owner p o
 own-test p (IsPlain x) = own-if p _ _ (λ t. tt)
 own-test p (IsImmediate x) = own-if p _ _ (λ t. tt)
 own-test p (IsDescriptor x) = own-if p _ _ (λ t. tt)
+own-test p (IsRequest x) = own-if p _ _ (λ t. tt)
+own-test p (IsReferableTest x) = own-if p _ _ (λ t. tt)
 own-test p (IsOpen fd) = own-if p _ _ (λ t. tt)
 own-test p (IsUnwatched fd) = own-if p _ _ (λ t. tt)
 own-test p (HasRoom k) = own-room p k
+own-test p HasNumber = own-if p _ _ (λ t. tt)
+own-test p (IsInProgress x) = own-state p x is_in_progress (note_of p.requests x)
+own-test p (IsFinished x) = own-state p x is_finished (note_of p.requests x)
+own-test p (MayFail x error) = by_test (nat_eq error 0) (λ t. rw t tt) (λ t. rw t (own-state p x is_in_progress (note_of p.requests x)))
 own-test p (Fits o wanted) = own-below p o wanted
 own-test p (MayGrow x size) = own-growing p x size
 own-test p (IsNotDying x) = own-if p _ _ (λ t. tt)

@@ -1,6 +1,6 @@
 -- What a plan asks for, what its change of the rows leaves so, and that a call which isn't refused may carry out its plan.
-use Rattle.std.proofs.Common.{ℕ, nat_eq, ◌≡◌, ◌≢◌, ◌≤◌, ◌+◌, ◌*◌, List, [], ◌∷◌, length, Option, Some, None, Bool, true, false, refl, sym, ◌∙◌, ap, subst, arith}
-use Rattle.std.specs.Prelude.{is_some, codes, if◌then◌else◌}
+use Rattle.std.proofs.Common.{nat_eq, ◌≡◌, ◌≢◌, ◌≤◌, List, [], ◌∷◌, Option, Some, None, Bool, true, false, refl, sym, ◌∙◌, subst, arith}
+use Rattle.std.specs.Prelude.{if◌then◌else◌}
 use Rattle.tree_specs.specs.declared.object.Obj.{Obj}
 use Rattle.tree_specs.specs.declared.object.Owner.{Owner}
 use Rattle.tree_specs.specs.declared.object.Owner.TheVariants.{Root, Of}
@@ -16,131 +16,36 @@ use Rattle.tree_specs.specs.declared.notice.Notice.{Notice}
 use Rattle.tree_specs.specs.declared.notice.Notice.TheVariants.{Warned}
 use Rattle.tree_specs.specs.declared.question.Ask.{Ask}
 use Rattle.tree_specs.specs.declared.question.Ask.TheVariants as ask
-use Rattle.tree_specs.specs.declared.watch.Watch.{Watch}
 use Rattle.tree_specs.specs.declared.frame.Frame.{Frame}
-use Rattle.tree_specs.specs.Tree.Pool.{Pool, row_of, is_row, is_owner, owner_of, target_at, is_inside, place, hooked_row, named_row, sized_row, limited_row}
+use Rattle.tree_specs.specs.Tree.Pool.{Pool, row_of, is_row, is_owner, owner_of, target_at, is_inside, place, hooked_row, named_row, sized_row, limited_row, renote}
 use Rattle.tree_specs.specs.Tree.Targets.{target_of, newest_ref}
-use Rattle.tree_specs.specs.Tree.Inside.{total}
-use Rattle.tree_specs.specs.Invariants.Measure.{weight, mark_weight}
-use Rattle.tree_specs.specs.Invariants.Consistent.{deposit, mark_deposit}
-use Rattle.tree_specs.specs.Calls.Refusals.{Check, tests, refusals, is_immediate, is_doomed_mark, is_open}
+use Rattle.tree_specs.specs.Calls.Refusals.{Check, tests, refusals, in_state, in_progress, is_immediate, is_request, is_request_row}
 use Rattle.tree_specs.specs.declared.moment.What.TheVariants as what
-use Rattle.tree_specs.specs.Events.Coming.{comes_as}
-use Rattle.tree_specs.specs.Events.Handlers.{handler_of}
-use Rattle.tree_specs.specs.Events.Rotation.{is_watched}
-use Rattle.tree_specs.specs.Invariants.Awaiting.{MayCome, is_event_row}
-use Rattle.tree_specs.specs.declared.test.Test.TheVariants.{IsObject, IsImmediate, IsNotDoomed}
-use Rattle.tree_specs.specs.Calls.Plans.{Change, Plan, changed_by, plan, planned, unless_refused, places, warns, frees, handed, gift}
-use Rattle.tree_specs.specs.Calls.Plans.Change.{Nothing, Edit, Add, Place, Handle, Schedule, Arm, Watches, Rewatch, Close, Then}
-use Rattle.tree_specs.specs.Calls.Plans.Plan.{Does, Frees, Unlinks, Empties, Asks, Turns}
-use Rattle.tree_specs.specs.Invariants.Sound.{IsLive, IsReferable, IsQuietRow, MayBePlaced, Rests, Sound, claim}
+use Rattle.tree_specs.specs.Invariants.Awaiting.{waits_as, waits_as_row, is_event, is_event_row}
+use Rattle.tree_specs.specs.declared.test.Test.TheVariants.{IsObject, IsImmediate, IsRequest, IsInProgress as IsInProgressTest, IsNotDoomed}
+use Rattle.tree_specs.specs.Calls.Plans.{Plan, changed_by, plan, planned, unless_refused, places, warns, frees, handed, gift}
+use Rattle.tree_specs.specs.Calls.Plans.Change.{Nothing}
+use Rattle.tree_specs.specs.Calls.Plans.Plan.{Does, Frees, Unlinks, Empties, Asks, Turns, Works}
+use Rattle.tree_specs.specs.Invariants.Sound.{IsLive, IsReferable, IsQuietRow, MayReceive, MayBePlaced, Sound}
+use Rattle.tree_specs.specs.Invariants.Noted.{IsInProgress, IsBetween}
 use Rattle.tree_specs.proofs.Tree.Numbered.{by_test, same-equal, is_below-some}
-use Rattle.tree_specs.proofs.Tree.Rows.{total-placed, row_of-placed-same}
+use Rattle.tree_specs.proofs.Tree.Rows.{row_of-placed-same}
 use Rattle.tree_specs.proofs.Tree.Rooted.{KeepsPlace}
 use Rattle.tree_specs.proofs.Tree.Referring.{newest-refers, newest-of-refers, refers-nothing, reference-outside, object-refers}
 use Rattle.tree_specs.specs.Calls.Passed.{Passed, AllPassed, Interest, AsOwner, AsHolder, Gives, Itself, ItsRef}
 use Rattle.tree_specs.proofs.Events.HandlerLaws.{with-own}
 use Rattle.tree_specs.proofs.Calls.Checks.{all-pass, may-place, quiet-row}
-use Rattle.tree_specs.proofs.Invariants.Changes.{names-place, hooks-place, sizes-place, limits-place, goes_on, waiting-sound, unmarked-sound, placed-sound, new-sound, owned-row}
-use Rattle.tree_specs.proofs.Invariants.KeptFrees.{referred-live}
-use Rattle.tree_specs.proofs.Turns.FallingFrees.{total-kept, length-changed, length-placed}
-use Rattle.tree_specs.proofs.Promises.Later.{Later, later-still, later-same, later-changed, later-placed, later-added, later-waiting}
-
--- ---- what a change asks for
-
--- an object of which something changes that is nobody else's
-pub record MayBeEdited (p : Pool) (x : Obj) (g : Row → Row) : Type 0 where
-  pub row : Row
-  pub is : row_of p.rows x ≡ Some row
-  pub object : target_of row.kind ≡ None
-  pub place : KeepsPlace g
-  pub mark : (r : Row) → (g r).mark ≡ r.mark
-
-pub record MayBeAdded (p : Pool) (kind : Kind) (o : Owner) : Type 0 where
-  pub there : is_owner p.rows o ≡ true
-  pub target : (t : Obj) → target_of kind ≡ Some t → IsReferable (row_of p.rows t)
-
--- an event that watches a descriptor
-pub record MayWatch (p : Pool) (x : Obj) (fd : ℕ) : Type 0 where
-  pub comes : MayCome what.Descriptor (row_of p.rows x)
-  pub ready : is_some (handler_of p.handlers x) ≡ true
-  pub free : is_watched p.ring fd ≡ false
-  pub open_one : is_open p fd ≡ true
-
--- how an event watches is changed, but not what it watches
-pub record KeepsWatched (g : Watch → Watch) : Type 0 where
-  pub object : (w : Watch) → (g w).object ≡ w.object
-  pub fd : (w : Watch) → (g w).fd ≡ w.fd
-
-abbrev pub MayDo : Pool → Change → Type 0
-MayDo p (Edit x g) = MayBeEdited p x g
-MayDo p (Add kind o size name) = MayBeAdded p kind o
-MayDo p (Place o x) = MayBePlaced p o x
-MayDo p (Handle x handler) = is_event_row (row_of p.rows x) ≡ true
-MayDo p (Schedule x) = MayCome what.Immediate (row_of p.rows x) × (is_some (handler_of p.handlers x) ≡ true)
-MayDo p (Arm x time number) = MayCome what.Timer (row_of p.rows x) × (is_some (handler_of p.handlers x) ≡ true)
-MayDo p (Watches x fd flags) = MayWatch p x fd
-MayDo p (Rewatch x g) = KeepsWatched g
-MayDo p (Close fd) = is_watched p.ring fd ≡ false
-MayDo p (Then first second) = MayDo p first × MayDo (changed_by first p) second
-MayDo p change = Unit {0}
-
--- how many rows it adds
-abbrev pub added : Change → ℕ
-added (Add kind o size name) = 1
-added (Then first second) = added first + added second
-added change = 0
-
--- ---- what a change leaves so
-
--- at most so many rows are there more, each of which pays twice; those that are there bear as much; what was past stays so
-pub record Follows (p q : Pool) (more : ℕ) : Type 0 where
-  pub weight : total weight q.rows ≤ total weight p.rows + 2 * more
-  pub number : length q.rows ≤ length p.rows + more
-  pub deposit : total deposit p.rows ≤ total deposit q.rows
-  pub later : Later p q
-
--- the same rows, of which others wait
-waits : (p q : Pool) → q.rows ≡ p.rows → q.next ≡ p.next → Follows p q 0
-waits p q rows next = record { weight = rw rows (omega arith); number = rw rows (omega arith); deposit = rw rows (omega arith); later = later-waiting p q rows next }
-
-pub follows : (p : Pool) (c : Change) → MayDo p c → Follows p (changed_by c p) (added c)
-follows p Nothing may = record { weight = omega arith; number = omega arith; deposit = omega arith; later = later-same p }
-follows p (Edit x g) may =
-    let w = total-kept weight g p.rows x may.row may.is (ap mark_weight (may.mark may.row)) in
-    let b = total-kept deposit g p.rows x may.row may.is (ap mark_deposit (may.mark may.row)) in
-    record {
-      weight = omega (arith, w);
-      number = omega (arith, length-changed g p.rows x);
-      deposit = omega (arith, b);
-      later = later-changed g p x may.row may.place.serial may.is (λ d. rw (may.mark may.row) d);
-    }
-follows p (Add kind o size name) may = record { weight = omega arith; number = omega arith; deposit = omega arith; later = later-added p kind o size name }
-follows p (Place o x) may =
-    let w = total-placed weight p o x may.row may.is refl in
-    let b = total-placed deposit p o x may.row may.is refl in
-    record {
-      weight = omega (arith, w);
-      number = omega (arith, length-placed p o x may.row may.is);
-      deposit = omega (arith, b);
-      later = later-placed p o x may.row may.is;
-    }
-follows p (Then first second) may =
-    let a = follows p first may.0 in
-    let b = follows (changed_by first p) second may.1 in
-    record { weight = omega (arith, a.weight, b.weight); number = omega (arith, a.number, b.number); deposit = omega (arith, a.deposit, b.deposit); later = later-still a.later b.later }
-follows p c may = waits p (changed_by c p) refl refl
-
--- the rows stay sound under a work that claims as much
-pub change-sound : (f f' : Frame) (fs : List Frame) (p : Pool) (c : Change) → Sound f fs p → MayDo p c → ((y : Obj) → claim y f' ≡ claim y f) → ((q : Pool) → Rests f fs q) → Rests f' fs (changed_by c p) → Sound f' fs (changed_by c p)
-change-sound f f' fs p Nothing s may same calm h = goes_on f f' fs p same h s
-change-sound f f' fs p (Edit x g) s may same calm h = unmarked-sound g f f' fs p x may.row s may.place may.mark may.is may.object same h
-change-sound f f' fs p (Add kind o size name) s may same calm h = new-sound f f' kind o size name fs p s may.there may.target same h
-change-sound f f' fs p (Place o x) s may same calm h = placed-sound f f' o x fs p s may same h
-change-sound f f' fs p (Then first second) s may same calm h =
-    let t = change-sound f f fs p first s may.0 (λ y. refl) calm (calm (changed_by first p)) in
-    change-sound f f' fs (changed_by first p) second t may.1 same calm h
-change-sound f f' fs p c s may same calm h = waiting-sound f f' fs p (changed_by c p) s refl refl same h
+use Rattle.tree_specs.proofs.Invariants.Changes.{names-place, hooks-place, sizes-place, limits-place, nobody, owned-row}
+use Rattle.tree_specs.proofs.Invariants.KeptGivings.{referred-live}
+use Rattle.tree_specs.specs.declared.frame.Errand.{Errand}
+use Rattle.tree_specs.specs.declared.frame.Errand.TheVariants.{Finish, Notify, Receive, Cancel}
+use Rattle.tree_specs.specs.declared.moment.What.{What}
+use Rattle.tree_specs.specs.declared.request.Note.{Note}
+use Rattle.tree_specs.specs.declared.request.State.{State}
+use Rattle.tree_specs.specs.declared.request.State.TheVariants as state
+use Rattle.tree_specs.specs.Events.Requests.{is_in_progress, note_of, failed_with}
+use Rattle.tree_specs.proofs.Events.NoteLaws.{renoted-same, renoted-none}
+use Rattle.tree_specs.proofs.Calls.Changes.{MayWait, MayBeEdited, MayDo, heavier, added}
 
 -- ---- what a plan asks for
 
@@ -156,13 +61,21 @@ IsOutside (ask.Routine m) = ⊥
 IsOutside (ask.Wait limit) = ⊥
 IsOutside q = Unit {0}
 
+-- only what is there is received, and only what is in progress goes to one of the states in between
+abbrev pub MayWork : Pool → Errand → Obj → Type 0
+MayWork p (Finish s) x = (is_request_row (row_of p.rows x) ≡ true) × IsInProgress p x × IsBetween s
+MayWork p Receive x = MayReceive x p
+MayWork p Notify x = ⊥
+MayWork p Cancel x = Unit {0}
+
 abbrev pub May : Pool → Plan → Type 0
-May p (Does c notice r) = MayDo p c × (added c ≤ 2) × IsThere notice (changed_by c p)
+May p (Does c notice r) = MayDo p c × (added c ≤ 2) × IsThere notice (changed_by c p) × (heavier c ≤ 6)
 May p (Frees x) = (newest_ref p.rows x ≡ None) × (target_at p.rows x ≡ None)
 May p (Unlinks o x) = (r : Row) × (row_of p.rows x ≡ Some r) × IsLive r.mark × (target_of r.kind ≡ None)
 May p (Empties x) = Unit {0}
 May p (Asks q) = IsOutside q
 May p Turns = Unit {0}
+May p (Works c errand x) = MayDo p c × (added c ≡ 0) × (heavier c ≡ 0) × MayWork (changed_by c p) errand x
 
 -- the reference that goes in the place of its target
 pub ref-placed : (f : Frame) (fs : List Frame) (p : Pool) (o : Owner) (x r : Obj) → Sound f fs p → target_at p.rows r ≡ Some x → is_owner p.rows o ≡ true → MayBePlaced p o r
@@ -175,13 +88,21 @@ ref-placed f fs p o x r s is there = by-row (row_of p.rows r) refl (s.refers.qui
     by-row None e quiet = absurd quiet
     by-row (Some row) e quiet = record { row = row; is = e; live = rw quiet tt; apart = ne; there = there; outside = reference-outside p.rows r x o s.forest is ne }
 
+-- what is kept of a request is changed, and not its state
+still-in_progress : (g : Note → Note) (p : Pool) (x : Obj) → ((n : Note) → (g n).state ≡ n.state) → in_progress p x ≡ [] → in_progress (renote p x g) x ≡ []
+still-in_progress g p x calm h = each (note_of p.requests x) refl
+  where
+    each : (o : Option Note) → note_of p.requests x ≡ o → in_progress (renote p x g) x ≡ []
+    each None e = rw (renoted-none g p.requests x e) refl
+    each (Some n) e = let h' : in_state x is_in_progress (Some n) ≡ [] = rw e at h in rw (renoted-same g p.requests x n e, calm n) h'
+
 -- a call that isn't refused may carry out its plan
 module _ (f : Frame) (fs : List Frame) (p : Pool) (s : Sound f fs p) where
   edited : (x : Obj) (g : Row → Row) → Passed p (IsObject x) → KeepsPlace g → ((r : Row) → (g r).mark ≡ r.mark) → MayBeEdited p x g
   edited x g h place mark = record { row = h.0; is = h.1; object = h.2; place = place; mark = mark }
 
   placed : (o : Owner) (x : Obj) (r : Reply) → MayBePlaced p o x → May p (places p o x r)
-  placed o x r may = (may, omega arith, there (warns p o x))
+  placed o x r may = (may, omega arith, there (warns p o x), omega arith)
     where
       there : (b : Bool) → IsThere (if b then Some (Warned x) else None) (place p o x)
       there true = rw (row_of-placed-same p o x may.row may.is) refl
@@ -204,28 +125,44 @@ module _ (f : Frame) (fs : List Frame) (p : Pool) (s : Sound f fs p) where
 
   given : (from to : Owner) (x : Obj) → Gives p from to x → is_owner p.rows to ≡ true → (is_inside p.rows to (Of x) ≡ false → MayBePlaced p to x)
       → May p (Does (handed to (gift p from x)) None reply.Ok)
-  given from to x (Itself t outside) there placed = rw t (placed outside, omega arith, tt)
+  given from to x (Itself t outside) there placed = rw t (placed outside, omega arith, tt, omega arith)
   given from to x (ItsRef r t n) there placed =
       let w = newest-of-refers p.rows from x r s.forest.distinct n in
-      rw (t, n) (ref-placed f fs p to x r s (rw w.1 w.2) there, omega arith, tt)
+      rw (t, n) (ref-placed f fs p to x r s (rw w.1 w.2) there, omega arith, tt, omega arith)
 
   -- an immediate that isn't doomed
-  scheduled : (x : Obj) → AllPassed p (IsObject x ∷ IsImmediate x ∷ IsNotDoomed x ∷ []) → MayCome what.Immediate (row_of p.rows x)
-  scheduled x h =
-      let k : is_immediate h.0.0.kind ≡ true = rw h.0.1 at h.1.0 in
-      let m : is_doomed_mark h.0.0.mark ≡ false = rw h.0.1 at h.1.1.0 in
-      rw h.0.1 (comes h.0.0.kind k, m)
+  scheduled : (x : Obj) → AllPassed p (IsObject x ∷ IsImmediate x ∷ IsNotDoomed x ∷ []) → waits_as_row what.Immediate (row_of p.rows x) ≡ true
+  scheduled x h = let k : is_immediate h.0.0.kind ≡ true = rw h.0.1 at h.1.0 in rw h.0.1 (comes h.0.0.kind k)
     where
-      comes : (k : Kind) → is_immediate k ≡ true → comes_as what.Immediate k ≡ true
+      comes : (k : Kind) → is_immediate k ≡ true → waits_as what.Immediate k ≡ true
       comes kind.Immediate e = refl
       comes _ e = cc
 
-  event : (x : Obj) (o : Option Row) → MayCome what.Immediate o → is_event_row o ≡ true
-  event x None h = absurd h
-  event x (Some r) h = rw h.0 refl
+  -- it is an event
+  event : (x : Obj) → AllPassed p (IsObject x ∷ IsImmediate x ∷ IsNotDoomed x ∷ []) → is_event_row (row_of p.rows x) ≡ true
+  event x h = let k : is_immediate h.0.0.kind ≡ true = rw h.0.1 at h.1.0 in rw h.0.1 (comes h.0.0.kind k)
+    where
+      comes : (k : Kind) → is_immediate k ≡ true → is_event k ≡ true
+      comes kind.Immediate e = refl
+      comes _ e = cc
+
+  -- a request waits as what comes soon, and as what has a time; it needs no handler
+  posted : (w : What) (x : Obj) → waits_as w kind.Request ≡ true → Passed p (IsRequest x) → MayWait p w x
+  posted w x may h = each (row_of p.rows x) refl h
+    where
+      kinds : (k : Kind) → is_request k ≡ true → (waits_as w k ≡ true) × (is_event k ≡ false)
+      kinds kind.Request e = (may, refl)
+      kinds _ e = cc
+
+      each : (o : Option Row) → row_of p.rows x ≡ o → is_request_row o ≡ true → MayWait p w x
+      each None e t = cc
+      each (Some r) e t = let k = kinds r.kind t in record { comes = rw e k.0; ready = λ i. let i' : is_event r.kind ≡ true = rw e at i in let bad : true ≡ false = sym i' ∙ k.1 in cc }
+
+  finishes : (x : Obj) (s : State) → IsBetween s → Passed p (IsRequest x) → Passed p (IsInProgressTest x) → May p (Works Nothing (Finish s) x)
+  finishes x s between h state = (tt, refl, refl, (h, state, between))
 
   each : (c : Call) → AllPassed p (tests c) → May p (plan p c)
-  each (call.New o size name) h = (record { there = h.1.0; target = λ t e. cc }, omega arith, tt)
+  each (call.New o size name) h = (record { there = h.1.0; target = λ t e. cc }, omega arith, tt, omega arith)
   each (call.Free x) h = freed x h.0 (newest_ref p.rows x) refl
   each (call.Freekids x) h = tt
   each (call.Steal o x) h = placed o x reply.Ok (may-place p o x h.0 h.1.0 h.1.1.0 h.1.1.1.0)
@@ -234,27 +171,27 @@ module _ (f : Frame) (fs : List Frame) (p : Pool) (s : Sound f fs p) where
   each (call.Reference o x) h =
       let quiet = quiet-row p x h.0.0 h.0.1 h.1.1.1.0 h.1.1.1.1.0 in
       let plain : IsReferable (row_of p.rows x) = rw h.0.1 (rw h.0.1 at h.1.0, quiet) in
-      (record { there = h.1.1.0; target = λ t e. let e' : x ≡ t = cc in subst (λ (z : Obj). IsReferable (row_of p.rows z)) e' plain }, omega arith, tt)
+      (record { there = h.1.1.0; target = λ t e. let e' : x ≡ t = cc in subst (λ (z : Obj). IsReferable (row_of p.rows z)) e' plain }, omega arith, tt, omega arith)
   each (call.Unlink o x) h = unlinked o x h.0 h.1.1.0
-  each (call.Hook x routine) h = (edited x (hooked_row routine) h.0 (hooks-place routine) (λ r. refl), omega arith, tt)
-  each (call.Unhook x) h = (edited x (hooked_row 0) h.0 (hooks-place 0) (λ r. refl), omega arith, tt)
-  each (call.Rename x name) h = (edited x (named_row name) h.0 (names-place name) (λ r. refl), omega arith, tt)
-  each (call.Resize x size) h = (edited x (sized_row size) h.1.0 (sizes-place size) (λ r. refl), omega arith, tt)
-  each (call.Limit x max) h = (edited x (limited_row max) h.0 (limits-place max) (λ r. refl), omega arith, tt)
-  each (call.Parent x) h = (tt, omega arith, tt)
-  each (call.Total o) h = (tt, omega arith, tt)
-  each (call.Count o) h = (tt, omega arith, tt)
-  each (call.Sum o) h = (tt, omega arith, tt)
-  each (call.Report o) h = (tt, omega arith, tt)
-  each (call.Immediate o) h = (record { there = h.0; target = λ t e. cc }, omega arith, tt)
+  each (call.Hook x routine) h = (edited x (hooked_row routine) h.0 (hooks-place routine) (λ r. refl), omega arith, tt, omega arith)
+  each (call.Unhook x) h = (edited x (hooked_row 0) h.0 (hooks-place 0) (λ r. refl), omega arith, tt, omega arith)
+  each (call.Rename x name) h = (edited x (named_row name) h.0 (names-place name) (λ r. refl), omega arith, tt, omega arith)
+  each (call.Resize x size) h = (edited x (sized_row size) h.1.0 (sizes-place size) (λ r. refl), omega arith, tt, omega arith)
+  each (call.Limit x max) h = (edited x (limited_row max) h.0 (limits-place max) (λ r. refl), omega arith, tt, omega arith)
+  each (call.Parent x) h = (tt, omega arith, tt, omega arith)
+  each (call.Total o) h = (tt, omega arith, tt, omega arith)
+  each (call.Count o) h = (tt, omega arith, tt, omega arith)
+  each (call.Sum o) h = (tt, omega arith, tt, omega arith)
+  each (call.Report o) h = (tt, omega arith, tt, omega arith)
+  each (call.Immediate o) h = (record { there = h.0; target = λ t e. cc }, omega arith, tt, omega arith)
   each (call.Schedule x routine user) h = by_test (nat_eq routine 0)
-      (λ t. rw t (tt, omega arith, tt))
-      (λ t. rw t ((event x (row_of p.rows x) (scheduled x h), (scheduled x h, with-own p.handlers x (record { routine = routine; user = user }))), omega arith, tt))
-  each (call.Unschedule x) h = (tt, omega arith, tt)
+      (λ t. rw t (tt, omega arith, tt, omega arith))
+      (λ t. rw t ((event x h, record { comes = scheduled x h; ready = λ i. with-own p.handlers x (record { routine = routine; user = user }) }), omega arith, tt, omega arith))
+  each (call.Unschedule x) h = (tt, omega arith, tt, omega arith)
   each (call.Timer o time routine user) h =
       let n : Obj = record { 0 = p.next } in
       let self : same n n ≡ true = same-equal n n refl in
-      ((record { there = h.0; target = λ t e. cc }, (rw self refl, (rw self (refl, refl), with-own p.handlers n (record { routine = routine; user = user })))), omega arith, tt)
+      ((record { there = h.0; target = λ t e. cc }, (rw self refl, record { comes = rw self refl; ready = λ i. with-own p.handlers n (record { routine = routine; user = user }) })), omega arith, tt, omega arith)
   each (call.Fd o fd flags routine user) h =
       let n : Obj = record { 0 = p.next } in
       let self : same n n ≡ true = same-equal n n refl in (
@@ -264,15 +201,32 @@ module _ (f : Frame) (fs : List Frame) (p : Pool) (s : Sound f fs p) where
         ),
         omega arith,
         tt,
+        omega arith,
       )
-  each (call.Flags x flags) h = (record { object = λ w. refl; fd = λ w. refl }, omega arith, tt)
-  each (call.Getflags x) h = (tt, omega arith, tt)
-  each (call.Autoclose x) h = (record { object = λ w. refl; fd = λ w. refl }, omega arith, tt)
-  each (call.Close fd) h = (h.1.0, omega arith, tt)
+  each (call.Flags x flags) h = (record { object = λ w. refl; fd = λ w. refl }, omega arith, tt, omega arith)
+  each (call.Getflags x) h = (tt, omega arith, tt, omega arith)
+  each (call.Autoclose x) h = (record { object = λ w. refl; fd = λ w. refl }, omega arith, tt, omega arith)
+  each (call.Close fd) h = (h.1.0, omega arith, tt, omega arith)
   each (call.Accept fd) h = tt
   each (call.Read fd len) h = tt
   each (call.Write fd bytes) h = tt
-  each call.Pending h = (tt, omega arith, tt)
+  each (call.Req o size name) h = ((h.1.0, nobody p s.valid), omega arith, tt, omega arith)
+  each (call.Callback x routine user) h = (λ n. refl, omega arith, tt, omega arith)
+  each (call.Defer x) h = (λ n. refl, omega arith, tt, omega arith)
+  each (call.Cleanup x routine) h = (λ n. refl, omega arith, tt, omega arith)
+  each (call.Setcancel x routine) h = (λ n. refl, omega arith, tt, omega arith)
+  each (call.Cancel x) h = (tt, refl, refl, tt)
+  each (call.Post x) h = (posted what.Immediate x refl h.1.0, omega arith, tt, omega arith)
+  each (call.Done x) h = finishes x state.Done tt h.1.0 h.1.1.0
+  each (call.Error x error) h = by_test (nat_eq error 0)
+      (λ t. rw t (tt, omega arith, tt, omega arith))
+      (λ t. let progress : in_progress p x ≡ [] = rw t at h.1.1.0 in rw t ((λ n. refl), refl, refl, (h.1.0, still-in_progress (failed_with error) p x (λ n. refl) progress, tt)))
+  each (call.Oom x) h = finishes x state.NoMemory tt h.1.0 h.1.1.0
+  each (call.Iserror x) h = (tt, omega arith, tt, omega arith)
+  each (call.Progress x) h = (tt, omega arith, tt, omega arith)
+  each (call.Endtime x time) h = ((posted what.Timer x refl h.1.0, tt), omega arith, tt, omega arith)
+  each (call.Received x) h = (tt, refl, refl, (h.0.0, h.0.1))
+  each call.Pending h = (tt, omega arith, tt, omega arith)
   each call.Now h = tt
   each call.Turn h = tt
 
@@ -285,12 +239,4 @@ module _ (f : Frame) (fs : List Frame) (p : Pool) (s : Sound f fs p) where
     where
       by-check : (check : Check) → refusals p c ≡ check → May p (unless_refused check (plan p c))
       by-check [] none = may c none
-      by-check (why ∷ later) e = (tt, omega arith, tt)
-
--- ---- a request to come: the row of the request, and below it that of its state
-
-pub request-may : (p : Pool) (o : Owner) (size : ℕ) (name : List ℕ) → is_owner p.rows o ≡ true → MayDo p (Then (Add kind.Request o 0 (codes "req")) (Add kind.Plain (Of (record { 0 = p.next })) size name))
-request-may p o size name there =
-    let n : Obj = record { 0 = p.next } in
-    let self : same n n ≡ true = same-equal n n refl in
-    (record { there = there; target = λ t e. cc }, record { there = rw self refl; target = λ t e. cc })
+      by-check (why ∷ later) e = (tt, omega arith, tt, omega arith)

@@ -7,6 +7,7 @@ use Rattle.tree_specs.specs.declared.object.Owner.{Owner}
 use Rattle.tree_specs.specs.declared.row.Row.{Row}
 use Rattle.tree_specs.specs.declared.row.Mark.{Mark}
 use Rattle.tree_specs.specs.declared.kind.Kind.{Kind}
+use Rattle.tree_specs.specs.declared.kind.Kind.TheVariants as kind
 use Rattle.tree_specs.specs.declared.handler.Handler.{Handler}
 use Rattle.tree_specs.specs.declared.moment.What.{What}
 use Rattle.tree_specs.specs.declared.moment.What.TheVariants.{Immediate, Timer, Descriptor}
@@ -14,17 +15,15 @@ use Rattle.tree_specs.specs.declared.watch.Watch.{Watch}
 use Rattle.tree_specs.specs.Words.Objects.{same}
 use Rattle.tree_specs.specs.Tree.Targets.{target_of}
 use Rattle.tree_specs.specs.Tree.Pool.{Pool, row_of, target_at, changed, without, add, let_go, remove, place, set_mark, marked_row, set_handler, schedule, unschedule, arm, disarm, watch, rewatch, turn_back, open_descriptor, close_descriptor}
-use Rattle.tree_specs.specs.Events.Coming.{comes_as}
 use Rattle.tree_specs.specs.Events.Rotation.{is_watching, is_watched, closes_with, unwatched}
 use Rattle.tree_specs.specs.Events.Descriptors.{Descriptors, is_open_in, shut}
 use Rattle.tree_specs.specs.Calls.Refusals.{is_doomed_mark, is_open}
 use Rattle.tree_specs.specs.Invariants.Sound.{MayBePlaced}
-use Rattle.tree_specs.specs.Invariants.Awaiting.{waits, MayCome, is_event_row, AreDistinct, Awaits}
+use Rattle.tree_specs.specs.Invariants.Awaiting.{waits, waits_as, MayCome, is_event_row, IsHandled, AreDistinct, Awaits}
 use Rattle.tree_specs.proofs.Tree.Numbered.{by_test, same-true, same-equal, same-false, same_or_not}
 use Rattle.tree_specs.proofs.Tree.Rows.{row_of-changed-other, row_of-without-other, row_of-placed-other, row_of-placed-same}
-use Rattle.tree_specs.proofs.Invariants.Turning.{comes-event}
 use Rattle.tree_specs.specs.Events.Handlers.{handler_of}
-use Rattle.tree_specs.proofs.Events.HandlerLaws.{with-same, with-other, without-same, without-other}
+use Rattle.tree_specs.proofs.Events.EntryLaws.{with-same, with-other, without-same, without-other}
 use Rattle.tree_specs.proofs.Events.PendingLaws.{unscheduled-other, scheduled-either, disarmed-other, armed-either}
 use Rattle.tree_specs.proofs.Events.RotationLaws.{unwatched-watched, unwatched-other, unwatched-distinct, unwatched-freed, closes-found, watched-watching, watched-watched, watched-distinct, rewatched-watching, rewatched-watched, rewatched-distinct, turned-watching, turned-watched, turned-distinct}
 use Rattle.tree_specs.proofs.Events.DescriptorLaws.{opened-still, closed-other}
@@ -41,7 +40,7 @@ changed-comes : (g : Row → Row) (rs : List Row) (x y : Obj) (w : What) → Sta
 changed-comes g [] x y w k h = h
 changed-comes g (s ∷ rs) x y w k h = by_test (same s.serial x)
     (λ t. by_test (same s.serial y)
-    (λ u. let h' : MayCome w (Some s) = rw u at h in rw (t, k.serial s, u) (ap (comes_as w) (k.kind s) ∙ h'.0, k.mark s h'.1))
+    (λ u. let h' : MayCome w (Some s) = rw u at h in rw (t, k.serial s, u) (ap (waits_as w) (k.kind s) ∙ h'.0, k.mark s h'.1))
     (λ u. let h' : MayCome w (row_of rs y) = rw u at h in rw (t, k.serial s, u) h'))
     (λ t. by_test (same s.serial y)
     (λ u. let h' : MayCome w (Some s) = rw u at h in rw (t, u) h')
@@ -54,6 +53,17 @@ changed-event g (s ∷ rs) x y k l = by_test (same s.serial x)
     (λ t. by_test (same s.serial y) (λ u. rw (t, k s, u, l s) refl) (λ u. rw (t, k s, u) refl))
     (λ t. by_test (same s.serial y) (λ u. rw (t, u) refl) (λ u. let ih = changed-event g rs x y k l in rw (t, u) ih))
 
+-- what waits is no reference
+waits-object : (w : What) (k : Kind) → waits_as w k ≡ true → target_of k ≡ None
+waits-object w kind.Request e = refl
+waits-object w (kind.Reference t) e = refused w e
+  where
+    refused : (w : What) → waits_as w (kind.Reference t) ≡ true → target_of (kind.Reference t) ≡ None
+    refused Immediate e = cc
+    refused Timer e = cc
+    refused _ e = cc
+waits-object w _ e = refl
+
 -- a reference doesn't come
 pub reference-stays : (p : Pool) (r t : Obj) → target_at p.rows r ≡ Some t → (w : What) → MayCome w (row_of p.rows r) → ⊥
 reference-stays p r t is w h = each (row_of p.rows r) refl h
@@ -62,7 +72,7 @@ reference-stays p r t is w h = each (row_of p.rows r) refl h
     each None e h = h
     each (Some row) e h =
         let at : target_of row.kind ≡ Some t = rw e at is in
-        let bad : Some t ≡ None = sym at ∙ (comes-event w row.kind h.0).0 in cc
+        let bad : Some t ≡ None = sym at ∙ waits-object w row.kind h.0 in cc
 
 -- ---- the same objects wait
 
@@ -77,7 +87,7 @@ same-awaits p q a fewer rows handlers ring descriptors = record {
 rows-awaits : (p : Pool) (rows : List Row) → Awaits p → ((w : What) (x : Obj) → MayCome w (row_of p.rows x) → MayCome w (row_of rows x)) → ((x : Obj) → is_event_row (row_of rows x) ≡ is_event_row (row_of p.rows x))
     → Awaits (record p { rows = rows })
 rows-awaits p rows a comes event = record {
-  events = λ w x h. (let e = a.events w x (same-waits w x h) in (comes w x e.0, e.1));
+  events = λ w x h. (let e = a.events w x (same-waits w x h) in (comes w x e.0, λ i. e.1 (sym (event x) ∙ i)));
   handlers = λ x e. a.handlers x (sym (event x) ∙ e);
   distinct = a.distinct;
   watched = a.watched;
@@ -154,12 +164,12 @@ removed-awaits p x stays a = record { events = events; handlers = handlers; dist
     still Descriptor y h = h
     still _ y h = cc
 
-    events : (w : What) (y : Obj) → waits w (remove p x) y ≡ true → MayCome w (row_of (without p.rows x) y) × (is_some (handler_of (remove p x).handlers y) ≡ true)
+    events : (w : What) (y : Obj) → waits w (remove p x) y ≡ true → MayCome w (row_of (without p.rows x) y) × IsHandled (row_of (without p.rows x) y) (handler_of (remove p x).handlers y)
     events w y h =
         let e = a.events w y (still w y h) in
         let ne : x ≢ y = (λ q. stays w (subst (λ (z : Obj). MayCome w (row_of p.rows z)) (sym q) e.0)) in
         let apart : same y x ≡ false = same-false y x (λ q. ne (sym q)) in
-        (rw (row_of-without-other p.rows x y ne) e.0, ap is_some (without-other p.handlers x y apart) ∙ e.1)
+        (rw (row_of-without-other p.rows x y ne) e.0, λ i. ap is_some (without-other p.handlers x y apart) ∙ e.1 (sym (ap is_event_row (row_of-without-other p.rows x y ne)) ∙ i))
 
     handlers : (y : Obj) → is_event_row (row_of (without p.rows x) y) ≡ false → handler_of (remove p x).handlers y ≡ None
     handlers y e = by_test (same y x)
@@ -180,7 +190,7 @@ added-awaits p kind o size name fresh a = record { events = events; handlers = h
     still Descriptor y h = h
     still _ y h = cc
 
-    events : (w : What) (y : Obj) → waits w (add p kind o size name) y ≡ true → MayCome w (row_of (add p kind o size name).rows y) × (is_some (handler_of p.handlers y) ≡ true)
+    events : (w : What) (y : Obj) → waits w (add p kind o size name) y ≡ true → MayCome w (row_of (add p kind o size name).rows y) × IsHandled (row_of (add p kind o size name).rows y) (handler_of p.handlers y)
     events w y h =
         let e = a.events w y (still w y h) in
         let ne : same n y ≡ false = same-false n y (λ q. let bad : MayCome w None = rw fresh at (subst (λ (z : Obj). MayCome w (row_of p.rows z)) (sym q) e.0) in bad) in
@@ -202,35 +212,35 @@ handled-awaits p x h there a = record { events = events; handlers = handlers; di
     still Descriptor y k = k
     still _ y k = cc
 
-    events : (w : What) (y : Obj) → waits w (set_handler p x h) y ≡ true → MayCome w (row_of p.rows y) × (is_some (handler_of (set_handler p x h).handlers y) ≡ true)
+    events : (w : What) (y : Obj) → waits w (set_handler p x h) y ≡ true → MayCome w (row_of p.rows y) × IsHandled (row_of p.rows y) (handler_of (set_handler p x h).handlers y)
     events w y k =
         let e = a.events w y (still w y k) in
-        by_test (same y x) (λ t. (e.0, ap is_some (with-same p.handlers x y h t))) (λ t. (e.0, ap is_some (with-other p.handlers x y h t) ∙ e.1))
+        by_test (same y x) (λ t. (e.0, λ i. ap is_some (with-same p.handlers x y h t))) (λ t. (e.0, λ i. ap is_some (with-other p.handlers x y h t) ∙ e.1 i))
 
     handlers : (y : Obj) → is_event_row (row_of p.rows y) ≡ false → handler_of (set_handler p x h).handlers y ≡ None
     handlers y e = by_test (same y x)
         (λ t. let e' : is_event_row (row_of p.rows x) ≡ false = subst (λ (z : Obj). is_event_row (row_of p.rows z) ≡ false) (same-true y x t) e in let bad : true ≡ false = sym there ∙ e' in cc)
         (λ t. with-other p.handlers x y h t ∙ a.handlers y e)
 
-pub scheduled-awaits : (p : Pool) (x : Obj) → MayCome Immediate (row_of p.rows x) → is_some (handler_of p.handlers x) ≡ true → Awaits p → Awaits (schedule p x)
+pub scheduled-awaits : (p : Pool) (x : Obj) → MayCome Immediate (row_of p.rows x) → IsHandled (row_of p.rows x) (handler_of p.handlers x) → Awaits p → Awaits (schedule p x)
 scheduled-awaits p x comes ready a = record { events = events; handlers = a.handlers; distinct = a.distinct; watched = a.watched }
   where
-    events : (w : What) (y : Obj) → waits w (schedule p x) y ≡ true → MayCome w (row_of p.rows y) × (is_some (handler_of p.handlers y) ≡ true)
+    events : (w : What) (y : Obj) → waits w (schedule p x) y ≡ true → MayCome w (row_of p.rows y) × IsHandled (row_of p.rows y) (handler_of p.handlers y)
     events Immediate y h = elim (scheduled-either p.soon x y h) [
       | inl l ↦ a.events Immediate y l
-      | inr e ↦ subst (λ (z : Obj). MayCome Immediate (row_of p.rows z) × (is_some (handler_of p.handlers z) ≡ true)) e (comes, ready)
+      | inr e ↦ subst (λ (z : Obj). MayCome Immediate (row_of p.rows z) × IsHandled (row_of p.rows z) (handler_of p.handlers z)) e (comes, ready)
     ]
     events Timer y h = a.events Timer y h
     events Descriptor y h = a.events Descriptor y h
     events _ y h = cc
 
-pub armed-awaits : (p : Pool) (x : Obj) (time number : ℕ) → MayCome Timer (row_of p.rows x) → is_some (handler_of p.handlers x) ≡ true → Awaits p → Awaits (arm p x time number)
+pub armed-awaits : (p : Pool) (x : Obj) (time number : ℕ) → MayCome Timer (row_of p.rows x) → IsHandled (row_of p.rows x) (handler_of p.handlers x) → Awaits p → Awaits (arm p x time number)
 armed-awaits p x time number comes ready a = record { events = events; handlers = a.handlers; distinct = a.distinct; watched = a.watched }
   where
-    events : (w : What) (y : Obj) → waits w (arm p x time number) y ≡ true → MayCome w (row_of p.rows y) × (is_some (handler_of p.handlers y) ≡ true)
+    events : (w : What) (y : Obj) → waits w (arm p x time number) y ≡ true → MayCome w (row_of p.rows y) × IsHandled (row_of p.rows y) (handler_of p.handlers y)
     events Timer y h = elim (armed-either p.times x time number y h) [
       | inl l ↦ a.events Timer y l
-      | inr e ↦ subst (λ (z : Obj). MayCome Timer (row_of p.rows z) × (is_some (handler_of p.handlers z) ≡ true)) e (comes, ready)
+      | inr e ↦ subst (λ (z : Obj). MayCome Timer (row_of p.rows z) × IsHandled (row_of p.rows z) (handler_of p.handlers z)) e (comes, ready)
     ]
     events Immediate y h = a.events Immediate y h
     events Descriptor y h = a.events Descriptor y h
@@ -254,26 +264,36 @@ disarmed-awaits p x a = same-awaits p (disarm p x) a fewer refl refl refl refl
     fewer Descriptor y h = h
     fewer _ y h = cc
 
+-- a change of what is kept of requests, or of the next number
+pub kept-awaits : (p q : Pool) → Awaits p → q.rows ≡ p.rows → q.handlers ≡ p.handlers → q.ring ≡ p.ring → q.descriptors ≡ p.descriptors → q.soon ≡ p.soon → q.times ≡ p.times → Awaits q
+kept-awaits p q a rows handlers ring descriptors soon times = same-awaits p q a fewer rows handlers ring descriptors
+  where
+    fewer : (w : What) (y : Obj) → waits w q y ≡ true → waits w p y ≡ true
+    fewer Immediate y h = rw soon at h
+    fewer Timer y h = rw times at h
+    fewer Descriptor y h = rw ring at h
+    fewer _ y h = cc
+
 -- ---- an event watches a descriptor
 
 -- the same wait otherwise, and who is in the rotation may come
-ring-awaits : (p : Pool) (ring : List Watch) → ((y : Obj) → is_watching ring y ≡ true → MayCome Descriptor (row_of p.rows y) × (is_some (handler_of p.handlers y) ≡ true)) → AreDistinct ring
+ring-awaits : (p : Pool) (ring : List Watch) → ((y : Obj) → is_watching ring y ≡ true → MayCome Descriptor (row_of p.rows y) × IsHandled (row_of p.rows y) (handler_of p.handlers y)) → AreDistinct ring
     → ((fd : ℕ) → is_watched ring fd ≡ true → is_open p fd ≡ true) → Awaits p → Awaits (record p { ring = ring })
 ring-awaits p ring comes distinct still_open a = record { events = events; handlers = a.handlers; distinct = distinct; watched = still_open }
   where
-    events : (w : What) (y : Obj) → waits w (record p { ring = ring }) y ≡ true → MayCome w (row_of p.rows y) × (is_some (handler_of p.handlers y) ≡ true)
+    events : (w : What) (y : Obj) → waits w (record p { ring = ring }) y ≡ true → MayCome w (row_of p.rows y) × IsHandled (row_of p.rows y) (handler_of p.handlers y)
     events Descriptor y h = comes y h
     events Immediate y h = a.events Immediate y h
     events Timer y h = a.events Timer y h
     events _ y h = cc
 
-pub watching-awaits : (p : Pool) (x : Obj) (fd flags : ℕ) → MayCome Descriptor (row_of p.rows x) → is_some (handler_of p.handlers x) ≡ true → is_watching p.ring x ≡ false → is_watched p.ring fd ≡ false
+pub watching-awaits : (p : Pool) (x : Obj) (fd flags : ℕ) → MayCome Descriptor (row_of p.rows x) → IsHandled (row_of p.rows x) (handler_of p.handlers x) → is_watching p.ring x ≡ false → is_watched p.ring fd ≡ false
     → is_open p fd ≡ true → Awaits p → Awaits (watch p x fd flags)
 watching-awaits p x fd flags comes ready new free still_open a =
     ring-awaits p (watch p x fd flags).ring
     (λ y h. elim (watched-watching p.ring x fd flags y h) [
       | inl l ↦ a.events Descriptor y l
-      | inr e ↦ subst (λ (z : Obj). MayCome Descriptor (row_of p.rows z) × (is_some (handler_of p.handlers z) ≡ true)) e (comes, ready)
+      | inr e ↦ subst (λ (z : Obj). MayCome Descriptor (row_of p.rows z) × IsHandled (row_of p.rows z) (handler_of p.handlers z)) e (comes, ready)
     ])
     (watched-distinct p.ring x fd flags a.distinct new free)
     (λ g h. elim (watched-watched p.ring x fd flags g h) [
@@ -296,7 +316,7 @@ turned-awaits p x a =
 shut-awaits : (p : Pool) (ds : Descriptors) → ((fd : ℕ) → is_watched p.ring fd ≡ true → is_open_in ds fd ≡ true) → Awaits p → Awaits (record p { descriptors = ds })
 shut-awaits p ds still_open a = record { events = events; handlers = a.handlers; distinct = a.distinct; watched = still_open }
   where
-    events : (w : What) (y : Obj) → waits w (record p { descriptors = ds }) y ≡ true → MayCome w (row_of p.rows y) × (is_some (handler_of p.handlers y) ≡ true)
+    events : (w : What) (y : Obj) → waits w (record p { descriptors = ds }) y ≡ true → MayCome w (row_of p.rows y) × IsHandled (row_of p.rows y) (handler_of p.handlers y)
     events Descriptor y h = a.events Descriptor y h
     events Immediate y h = a.events Immediate y h
     events Timer y h = a.events Timer y h

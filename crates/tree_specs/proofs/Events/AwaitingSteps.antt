@@ -1,5 +1,5 @@
 -- Each step leaves what waits as it must be.
-use Rattle.std.proofs.Common.{◌≡◌, ℕ, List, Option, Some, None, Bool, true, false, nat_eq, nat_le, ◌<◌, arith, refl}
+use Rattle.std.proofs.Common.{◌≡◌, ℕ, List, [], Option, Some, None, Bool, true, false, nat_eq, nat_le, ◌<◌, arith, refl, sym, ◌∙◌, ap}
 use Rattle.step_machine.specs.Machine.{Move as Do}
 use Rattle.tree_specs.specs.declared.object.Obj.{Obj}
 use Rattle.tree_specs.specs.declared.object.Owner.{Owner}
@@ -11,7 +11,22 @@ use Rattle.tree_specs.specs.declared.event.Event.{Event}
 use Rattle.tree_specs.specs.declared.due.Due.{Due}
 use Rattle.tree_specs.specs.declared.handler.Handler.{Handler}
 use Rattle.tree_specs.specs.declared.moment.What.{What}
-use Rattle.tree_specs.specs.declared.moment.What.TheVariants.{Descriptor}
+use Rattle.tree_specs.specs.declared.moment.What.TheVariants.{Immediate, Timer, Descriptor}
+use Rattle.std.specs.Prelude.{◌+◌, is_some, codes}
+use Rattle.tree_specs.specs.Words.Objects.{same}
+use Rattle.tree_specs.specs.declared.kind.Kind.{Kind}
+use Rattle.tree_specs.specs.declared.kind.Kind.TheVariants as kind
+use Rattle.tree_specs.specs.declared.call.Call.TheVariants as call
+use Rattle.tree_specs.specs.declared.request.Note.{Note}
+use Rattle.tree_specs.specs.declared.request.State.{State}
+use Rattle.tree_specs.specs.declared.request.State.TheVariants.{Received}
+use Rattle.tree_specs.specs.declared.frame.Errand.{Errand}
+use Rattle.tree_specs.specs.declared.frame.Errand.TheVariants.{Receive}
+use Rattle.tree_specs.specs.declared.frame.RequestFrame.{RequestFrame}
+use Rattle.tree_specs.specs.declared.frame.RequestFrame.TheVariants as request
+use Rattle.tree_specs.specs.Events.Requests.{note_of, is_noted, is_unreceived, new_note, cleanup_in, cancel_in, cleaned, not_deferring}
+use Rattle.tree_specs.specs.Calls.Refusals.{is_doomed_mark, is_request, is_request_row}
+use Rattle.tree_specs.specs.Invariants.Noted.{IsCalm, NotesHold, Noted}
 use Rattle.tree_specs.specs.declared.watch.Watch.{Watch}
 use Rattle.tree_specs.specs.declared.notice.Notice.{Notice}
 use Rattle.tree_specs.specs.declared.question.Ask.{Ask}
@@ -20,7 +35,7 @@ use Rattle.tree_specs.specs.declared.frame.Frame.{Frame}
 use Rattle.tree_specs.specs.declared.frame.Frame.TheVariants as frame
 use Rattle.tree_specs.specs.declared.frame.CallFrame.TheVariants.{Asking, Doing}
 use Rattle.tree_specs.specs.declared.frame.FreeFrame.{FreeFrame}
-use Rattle.tree_specs.specs.declared.frame.FreeFrame.TheVariants.{Unlinking, Releasing, Giving, Beginning, Judged, Leaving, Looping, AfterChild}
+use Rattle.tree_specs.specs.declared.frame.FreeFrame.TheVariants.{Unlinking, Releasing, Giving, Beginning, Judged, Prepared, Leaving, Looping, AfterChild}
 use Rattle.tree_specs.specs.declared.frame.TurnFrame.{TurnFrame}
 use Rattle.tree_specs.specs.declared.frame.OutsideFrame.{OutsideFrame}
 use Rattle.tree_specs.specs.declared.frame.OutsideFrame.TheVariants.{Opening}
@@ -29,28 +44,29 @@ use Rattle.tree_specs.specs.declared.frame.Purpose.{Purpose}
 use Rattle.tree_specs.specs.declared.frame.Purpose.TheVariants.{Removal, Emptying}
 use Rattle.tree_specs.specs.declared.free_step.FreeReply.{FreeReply}
 use Rattle.tree_specs.specs.declared.free_step.FreeReply.TheVariants.{Ok}
-use Rattle.tree_specs.specs.Tree.Pool.{Pool, row_of, remove, target_at, newest_ref_of, is_below, owner_of, is_inside, first_kid, left_row, marked_row, hooked_row}
+use Rattle.tree_specs.specs.Tree.Pool.{Pool, row_of, passes, add, note, add_request, schedule, unschedule, disarm, renote, finish, remove, target_at, newest_ref_of, is_below, owner_of, is_inside, first_kid, left_row, marked_row, hooked_row}
 use Rattle.tree_specs.specs.Tree.Targets.{newest_ref}
 use Rattle.tree_specs.specs.Tree.Heirs.{heir}
 use Rattle.tree_specs.specs.Tree.Forest.{Distinct}
 use Rattle.tree_specs.specs.declared.call.Call.{Call}
 use Rattle.tree_specs.specs.Calls.Plans.{Change, Plan, planned, changed_by}
-use Rattle.tree_specs.specs.Calls.Plans.Change.{Nothing, Edit, Add, Place, Handle, Schedule, Unschedule, Arm, Watches, Rewatch, Close, Then}
-use Rattle.tree_specs.specs.Calls.Plans.Plan.{Does, Turns}
+use Rattle.tree_specs.specs.Calls.Plans.Change.{Nothing, Edit, Add, Place, Handle, Schedule, Unschedule, Arm, Watches, Rewatch, Close, TakeNumber, AddRequest, Renotes, Then}
+use Rattle.tree_specs.specs.Calls.Plans.Plan.{Does, Frees, Unlinks, Turns, Works}
 use Rattle.tree_specs.specs.Events.Pending.{first}
 use Rattle.tree_specs.specs.Events.Rotation.{is_watching}
 use Rattle.tree_specs.specs.Events.Coming.{handler_for, rotated, goes_after}
 use Rattle.tree_specs.specs.Machine.Profiles.{InLoop}
 use Rattle.tree_specs.specs.Machine.FreeTable.{FreeMove, begin_step, refs_step, unlink_step, release_step, judge_step, last_step, child_step, loop_step, hand_on_step, tried_step, free_step}
-use Rattle.tree_specs.specs.Machine.Table.{event_of, announced, lifted, notice_step, plan_step, turning_step, due_step, taking_step, timed_step, early_step, starting_step, handled_step, turn_step, outside_step, step}
-use Rattle.tree_specs.specs.Invariants.Sound.{ValidAt, claims, Rests, Sound}
-use Rattle.tree_specs.specs.Invariants.Awaiting.{MayCome, Awaits, pool_after}
-use Rattle.tree_specs.proofs.Tree.Numbered.{by_test}
+use Rattle.tree_specs.specs.Machine.Table.{event_of, announced, lifted, notice_step, plan_step, turning_step, due_step, taking_step, timed_step, early_step, due_now, starting_step, handled_step, turn_step, outside_step, cancelling_step, cleaning_step, release_object, cleaned_step, callback_step, notifying_step, request_step, step}
+use Rattle.tree_specs.specs.Invariants.Sound.{ValidAt, phases, claims, Rests, Sound}
+use Rattle.tree_specs.specs.Invariants.Awaiting.{waits_as, waits_as_row, is_event, is_event_row, MayCome, Awaits, pool_after}
+use Rattle.tree_specs.proofs.Tree.Numbered.{by_test, same-false}
 use Rattle.tree_specs.proofs.Tree.Referring.{newest-refers, newest-of-refers}
 use Rattle.tree_specs.proofs.Invariants.Changes.{dying-row, claim-here, heir-placed}
-use Rattle.tree_specs.proofs.Calls.Plans.{MayDo, May, may-planned, change-sound}
-use Rattle.tree_specs.proofs.Calls.NewEvents.{AreNew, OnlyNew, new-events}
-use Rattle.tree_specs.proofs.Events.Awaiting.{changed-awaits, marked-awaits, placed-awaits, gone-awaits, removed-awaits, added-awaits, handled-awaits, scheduled-awaits, armed-awaits, unscheduled-awaits, disarmed-awaits, watching-awaits, rewatched-awaits, turned-awaits, opened-awaits, closed-awaits, reference-stays}
+use Rattle.tree_specs.proofs.Calls.Plans.{May, may-planned}
+use Rattle.tree_specs.proofs.Calls.Changes.{MayDo, change-sound}
+use Rattle.tree_specs.proofs.Calls.NewEvents.{AreNew, OnlyNew, quiet-spared, new-events}
+use Rattle.tree_specs.proofs.Events.Awaiting.{changed-awaits, marked-awaits, placed-awaits, gone-awaits, kept-awaits, removed-awaits, added-awaits, handled-awaits, scheduled-awaits, armed-awaits, unscheduled-awaits, disarmed-awaits, watching-awaits, rewatched-awaits, turned-awaits, opened-awaits, closed-awaits, reference-stays}
 
 -- ---- frees
 
@@ -67,7 +83,9 @@ beginning : (x : Obj) (fs : List Frame) (p : Pool) → Sound (frame.Free (Beginn
 beginning x fs p s a = each (newest_ref p.rows x) refl
   where
     marks : (r : Row) (m : Mark) → r.mark ≡ m → Awaits (pool_after (begin_step x (Some r) p))
-    marks r Quiet m = rw m (by_test (nat_eq r.hook 0) (λ t. rw t a) (λ t. rw t (marked-awaits Asked p x refl a)))
+    marks r Quiet m = rw m (by_test (is_request r.kind)
+        (λ u. rw u (marked-awaits Asked p x refl a))
+        (λ u. by_test (nat_eq r.hook 0) (λ t. rw (u, t) a) (λ t. rw (u, t) (marked-awaits Asked p x refl a))))
     marks r Busy m = rw m (gone-awaits (marked_row Doomed) p x (λ q. refl) (λ q. refl) a)
     marks r Asked m = rw m a
     marks r _ m = rw m a
@@ -131,6 +149,7 @@ free-awaits (Releasing x) fs p s a = releasing x fs p s a
 free-awaits (Giving x o) fs p s a = placed-awaits p o x s.rests a
 free-awaits (Beginning x) fs p s a = beginning x fs p s a
 free-awaits (Judged x h v) fs p s a = judged x h v p a
+free-awaits (Prepared x) fs p s a = marked-awaits Quiet p x refl a
 free-awaits (Leaving x h) fs p s a = gone-awaits left_row p x (λ r. refl) (λ r. refl) a
 free-awaits (Looping x purpose) fs p s a = looping x purpose fs p s a
 free-awaits (AfterChild x c noted purpose b) fs p s a = tried x c noted purpose b fs p s a
@@ -163,18 +182,44 @@ unwatching p valid a =
     (λ t. absurd (let comes : MayCome Descriptor None = rw (fresh p.next (row_of p.rows n) (valid n)) at (a.events Descriptor n t).0 in comes))
     (λ t. t)
 
+-- what may wait so, and isn't being freed
+comes : (w : What) (o : Option Row) → waits_as_row w o ≡ true → passes (λ r. is_doomed_mark r.mark) o ≡ false → MayCome w o
+comes w None t d = cc
+comes w (Some r) t d = (t, d)
+
+-- a new request, with its object
+requested-awaits : (p : Pool) (o : Owner) (size : ℕ) (name : List ℕ) → ((x : Obj) → ValidAt p.next (row_of p.rows x) x) → Awaits p → Awaits (add_request p o size name)
+requested-awaits p o size name valid a =
+    let x : Obj = record { 0 = p.next } in
+    let b : Pool = note (add p kind.Request o 0 (codes "req")) x (new_note (record { 0 = p.next + 1 })) in
+    let one = added-awaits p kind.Request o 0 (codes "req") (fresh p.next _ (valid x)) a in
+    added-awaits b kind.Plain (Of x) size name later (kept-awaits (add p kind.Request o 0 (codes "req")) b one refl refl refl refl refl refl)
+  where
+    apart : same (record { 0 = p.next }) (record { 0 = p.next + 1 }) ≡ false
+    apart = same-false (record { 0 = p.next }) (record { 0 = p.next + 1 }) (λ e. let e' : p.next ≡ p.next + 1 = ap (λ (z : Obj). z.0) e in absurd (omega arith))
+
+    later : row_of (add p kind.Request o 0 (codes "req")).rows (record { 0 = p.next + 1 }) ≡ None
+    later = rw apart (each (row_of p.rows (record { 0 = p.next + 1 })) (valid (record { 0 = p.next + 1 })))
+      where
+        each : (q : Option Row) → ValidAt p.next q (record { 0 = p.next + 1 }) → q ≡ None
+        each None v = refl
+        each (Some r) v = let l : p.next + 1 < p.next = v.1 in absurd (omega arith)
+
 change-awaits : (f : Frame) (fs : List Frame) (p : Pool) (c : Change) → Sound f fs p → ((q : Pool) → Rests f fs q) → MayDo p c → AreNew p c → Awaits p → Awaits (changed_by c p)
 change-awaits f fs p Nothing s calm may new a = a
 change-awaits f fs p (Edit x g) s calm may new a = changed-awaits g p x (record { serial = may.place.serial; kind = may.place.kind; mark = λ r l. rw (may.mark r) l }) a
 change-awaits f fs p (Add kind o size name) s calm may new a = added-awaits p kind o size name (fresh p.next _ (s.valid (record { 0 = p.next }))) a
 change-awaits f fs p (Place o x) s calm may new a = placed-awaits p o x may a
 change-awaits f fs p (Handle x handler) s calm may new a = handled-awaits p x handler may a
-change-awaits f fs p (Schedule x) s calm may new a = scheduled-awaits p x may.0 may.1 a
+change-awaits f fs p (Schedule x) s calm may new a = scheduled-awaits p x (comes Immediate (row_of p.rows x) may.comes new) may.ready a
 change-awaits f fs p (Unschedule x) s calm may new a = unscheduled-awaits p x a
-change-awaits f fs p (Arm x time number) s calm may new a = armed-awaits p x time number may.0 may.1 a
-change-awaits f fs p (Watches x fd flags) s calm may new a = watching-awaits p x fd flags may.comes may.ready new may.free may.open_one a
+change-awaits f fs p (Arm x time number) s calm may new a = armed-awaits p x time number (comes Timer (row_of p.rows x) may.comes new) may.ready a
+change-awaits f fs p (Watches x fd flags) s calm may new a = watching-awaits p x fd flags may.comes (λ i. may.ready) new may.free may.open_one a
 change-awaits f fs p (Rewatch x g) s calm may new a = rewatched-awaits p x g may.object may.fd a
 change-awaits f fs p (Close fd) s calm may new a = closed-awaits p fd may a
+change-awaits f fs p (AddRequest o size name) s calm may new a = requested-awaits p o size name s.valid a
+change-awaits f fs p TakeNumber s calm may new a = kept-awaits p (changed_by TakeNumber p) a refl refl refl refl refl refl
+change-awaits f fs p (Renotes x g) s calm may new a = kept-awaits p (changed_by (Renotes x g) p) a refl refl refl refl refl refl
 change-awaits f fs p (Then c d) s calm may new a =
     let t = change-sound f f fs p c s may.0 (λ y. refl) calm (calm (changed_by c p)) in
     change-awaits f fs (changed_by c p) d t calm may.1 new.1 (change-awaits f fs p c s calm may.0 new.0 a)
@@ -190,20 +235,25 @@ planned-awaits q c fs p s (Does change notice r) may new a = each notice
     each None = change-awaits (frame.Call (Doing q c)) fs p change s (λ q'. tt) may.0 new a
     each (Some n) = change-awaits (frame.Call (Doing q c)) fs p change s (λ q'. tt) may.0 new a
 planned-awaits q c fs p s Turns may new a = turning-awaits q p a
+planned-awaits q c fs p s (Works change errand x) may new a = change-awaits (frame.Call (Doing q c)) fs p change s (λ q'. tt) may.0 new a
 planned-awaits q c fs p s _ may new a = a
 
 -- ---- turns
+
+-- a time has come
+has-come : (x : Obj) (now : ℕ) (p : Pool) → Awaits p → Awaits (pool_after (due_now x now p))
+has-come x now p a = by_test (is_noted p.requests x) (λ t. rw t (disarmed-awaits p x a)) (λ t. rw t (disarmed-awaits p x a))
 
 taking : (p : Pool) → Awaits p → Awaits (pool_after (turn_step Taking p))
 taking p a = each (first p.soon)
   where
     due : (o : Option Due) → Awaits (pool_after (due_step o p))
     due None = a
-    due (Some d) = by_test (nat_eq d.time 0) (λ t. rw t (disarmed-awaits p d.object a)) (λ t. rw t a)
+    due (Some d) = by_test (nat_eq d.time 0) (λ t. rw t (has-come d.object 0 p a)) (λ t. rw t a)
 
     each : (o : Option Obj) → Awaits (pool_after (taking_step o p))
     each None = due (first p.times)
-    each (Some x) = unscheduled-awaits p x a
+    each (Some x) = by_test (is_noted p.requests x) (λ t. rw t (unscheduled-awaits p x a)) (λ t. rw t (unscheduled-awaits p x a))
 
 timed : (again : Bool) (now : ℕ) (p : Pool) → Awaits p → Awaits (pool_after (turn_step (Timed again now) p))
 timed again now p a = each (first p.times)
@@ -214,7 +264,7 @@ timed again now p a = each (first p.times)
 
     each : (o : Option Due) → Awaits (pool_after (timed_step again now o p))
     each None = a
-    each (Some d) = by_test (nat_le d.time now) (λ t. rw t (disarmed-awaits p d.object a)) (λ t. rw t (early again d))
+    each (Some d) = by_test (nat_le d.time now) (λ t. rw t (has-come d.object now p a)) (λ t. rw t (early again d))
 
 -- an event that comes goes to the end of the rotation
 rotated-awaits : (w : What) (x : Obj) (p : Pool) → Awaits p → Awaits (rotated w x p)
@@ -242,13 +292,79 @@ outside-awaits : (f : OutsideFrame) (p : Pool) → Awaits p → Awaits (pool_aft
 outside-awaits (Opening fd) p a = opened-awaits p fd a
 outside-awaits _ p a = a
 
+-- ---- requests
+
+-- it goes to a state, and has no end time any more
+finished-awaits : (p : Pool) (x : Obj) (s : State) → Awaits p → Awaits (finish p x s)
+finished-awaits p x s a = kept-awaits (disarm p x) (finish p x s) (disarmed-awaits p x a) refl refl refl refl refl refl
+
+module _ (fs : List Frame) (p : Pool) (a : Awaits p) where
+  cancelling : (x : Obj) (o : Option Handler) → Awaits (pool_after (cancelling_step x o p))
+  cancelling x None = a
+  cancelling x (Some handler) = a
+
+  cleaning : (x : Obj) (errand : Errand) (o : Option Handler) → Awaits (pool_after (cleaning_step x errand o p))
+  cleaning x errand None = a
+  cleaning x errand (Some handler) = kept-awaits p (renote p x cleaned) a refl refl refl refl refl refl
+
+  cleaned-object : (x : Obj) (errand : Errand) (o : Option Note) → Awaits (pool_after (cleaned_step x errand o p))
+  cleaned-object x errand None = a
+  cleaned-object x Receive (Some n) = releases (planned p (call.Free n.child))
+    where
+      releases : (plan : Plan) → Awaits (pool_after (release_object plan Receive p))
+      releases (Frees c) = a
+      releases (Unlinks o c) = a
+      releases _ = a
+  cleaned-object x _ (Some n) = a
+
+  -- a request with which nothing goes on comes soon
+  notifying : (x : Obj) (errand : Errand) → phases (row_of p.rows x) ≡ [] → NotesHold None p → (o : Option Note) → note_of p.requests x ≡ o → Awaits (pool_after (notifying_step x errand o p))
+  notifying x errand quiet holds None e = a
+  notifying x errand quiet holds (Some n) e = by_test n.deferred (λ t. rw t comes-soon) (λ t. rw t (back n.callback))
+    where
+      q : Pool
+      q = renote p x not_deferring
+
+      row : is_request_row (row_of p.rows x) ≡ true
+      row = sym (holds.notes x) ∙ ap is_some e
+
+      kinds : (k : Kind) → is_request k ≡ true → (waits_as Immediate k ≡ true) × (is_event k ≡ false)
+      kinds kind.Request t = (refl, refl)
+      kinds _ t = cc
+
+      waits : (o : Option Row) → is_request_row o ≡ true → (waits_as_row Immediate o ≡ true) × (is_event_row o ≡ false)
+      waits None t = cc
+      waits (Some r) t = kinds r.kind t
+
+      comes-soon : Awaits (schedule q x)
+      comes-soon =
+          let w = waits (row_of p.rows x) row in
+          scheduled-awaits q x (comes Immediate (row_of p.rows x) w.0 (quiet-spared (row_of p.rows x) quiet)) (λ i. let bad : true ≡ false = sym i ∙ w.1 in cc)
+          (kept-awaits p q a refl refl refl refl refl refl)
+
+      back : (o : Option Handler) → Awaits (pool_after (callback_step x errand o p))
+      back None = a
+      back (Some handler) = a
+
+request-awaits : (f : RequestFrame) (fs : List Frame) (p : Pool) → Sound (frame.Request f) fs p → Noted (frame.Request f) p → IsCalm (frame.Request f) fs → Awaits p → Awaits (pool_after (request_step f p))
+request-awaits (request.Finishing x s) fs p sound n c a = finished-awaits p x s a
+request-awaits (request.Receiving x) fs p sound n c a = by_test (is_unreceived (note_of p.requests x))
+    (λ t. rw t (finished-awaits (unschedule p x) x Received (unscheduled-awaits p x a)))
+    (λ t. rw t a)
+request-awaits (request.Cancelling x) fs p sound n c a = cancelling fs p a x (cancel_in (note_of p.requests x))
+request-awaits (request.Cleaning x errand) fs p sound n c a = cleaning fs p a x errand (cleanup_in (note_of p.requests x))
+request-awaits (request.Cleaned x errand) fs p sound n c a = cleaned-object fs p a x errand (note_of p.requests x)
+request-awaits (request.Notifying x errand) fs p sound n c a = notifying fs p a x errand (sym (sound.open_frees x) ∙ c) n.pool (note_of p.requests x) refl
+request-awaits _ fs p sound n c a = a
+
 -- ---- all
 
 -- every step leaves what waits as it must be
-pub step-awaits : (f : Frame) (fs : List Frame) (p : Pool) → Sound f fs p → Awaits p → Awaits (pool_after (step f p))
-step-awaits (frame.Call (Doing q c)) fs p s a = planned-awaits q c fs p s (planned p c) (may-planned (frame.Call (Doing q c)) fs p s c) (new-events p (unwatching p s.valid a) c) a
-step-awaits (frame.Call (Asking q)) fs p s a = a
-step-awaits (frame.Call _) fs p s a = a
-step-awaits (frame.Free f) fs p s a = lifted-awaits p.ring (free_step f p) (free-awaits f fs p s a)
-step-awaits (frame.Turn f) fs p s a = turn-awaits f p a
-step-awaits (frame.Outside f) fs p s a = outside-awaits f p a
+pub step-awaits : (f : Frame) (fs : List Frame) (p : Pool) → Sound f fs p → Noted f p → IsCalm f fs → Awaits p → Awaits (pool_after (step f p))
+step-awaits (frame.Call (Doing q c)) fs p s n c' a = planned-awaits q c fs p s (planned p c) (may-planned (frame.Call (Doing q c)) fs p s c) (new-events p (unwatching p s.valid a) n.pool c) a
+step-awaits (frame.Call (Asking q)) fs p s n c a = a
+step-awaits (frame.Call _) fs p s n c a = a
+step-awaits (frame.Free f) fs p s n c a = lifted-awaits p.ring (free_step f p) (free-awaits f fs p s a)
+step-awaits (frame.Turn f) fs p s n c a = turn-awaits f p a
+step-awaits (frame.Outside f) fs p s n c a = outside-awaits f p a
+step-awaits (frame.Request f) fs p s n c a = request-awaits f fs p s n c a

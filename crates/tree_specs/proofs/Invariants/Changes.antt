@@ -11,7 +11,7 @@ use Rattle.tree_specs.specs.declared.row.Mark.TheVariants.{Quiet, Asked, Dying}
 use Rattle.tree_specs.specs.declared.frame.Frame.{Frame}
 use Rattle.tree_specs.specs.declared.kind.Kind.{Kind}
 use Rattle.tree_specs.specs.Words.Objects.{same}
-use Rattle.tree_specs.specs.Tree.Pool.{Pool, row_of, target_at, is_object_row, is_owner, is_below, owner_of, without, changed, add, remove, place, named_row, sized_row, limited_row, marked_row, hooked_row}
+use Rattle.tree_specs.specs.Tree.Pool.{Pool, row_of, target_at, is_object_row, is_owner, is_below, owner_of, without, changed, add, take_number, remove, place, named_row, sized_row, limited_row, marked_row, hooked_row}
 use Rattle.tree_specs.specs.Tree.Heirs.{heir}
 use Rattle.tree_specs.specs.Tree.Targets.{target_of, newest_ref}
 use Rattle.tree_specs.specs.Invariants.Sound.{IsReferable, IsQuietRow, Refers, Owned, Shaped, ValidAt, phase_of, phases, claim_if, claim, claims, AllWait, IsLive, Rests, Sound}
@@ -20,7 +20,7 @@ use Rattle.tree_specs.proofs.Tree.Rows.{row_of-changed-other, row_of-changed-sam
 use Rattle.tree_specs.proofs.Tree.Rooted.{KeepsPlace, forest-new, forest-placed, forest-changed, forest-without}
 use Rattle.tree_specs.proofs.Tree.Heirs.{heir-may_take}
 use Rattle.tree_specs.proofs.Tree.Referring.{none-refers, unreferred, refers-at, refers-nothing, referable-refers, reference-childless}
-use Rattle.tree_specs.specs.Calls.Refusals.{is_plain}
+use Rattle.tree_specs.specs.Calls.Refusals.{is_referable}
 use Rattle.tree_specs.specs.Tree.Forest.{Distinct}
 use Rattle.tree_specs.specs.Invariants.Sound.{MayBePlaced}
 
@@ -92,6 +92,30 @@ waiting-sound f f' fs p q s rows next e h = record {
   rests = h;
 }
 
+valid-higher : (next : ℕ) (q : Option Row) (y : Obj) → ValidAt next q y → ValidAt (next + 1) q y
+valid-higher next None y v = tt
+valid-higher next (Some r) y v = let l : y.0 < next = v.1 in (v.0, omega arith, v.2)
+
+-- the next number is nobody's
+pub nobody : (p : Pool) → ((x : Obj) → ValidAt p.next (row_of p.rows x) x) → row_of p.rows (record { 0 = p.next }) ≡ None
+nobody p valid = each (row_of p.rows (record { 0 = p.next })) (valid (record { 0 = p.next }))
+  where
+    each : (q : Option Row) → ValidAt p.next q (record { 0 = p.next }) → q ≡ None
+    each None v = refl
+    each (Some r) v = let l : p.next < p.next = v.1 in absurd (omega arith)
+
+-- a number is taken
+pub numbered-sound : (f f' : Frame) (fs : List Frame) (p : Pool) → Sound f fs p → ((x : Obj) → claim x f' ≡ claim x f) → Rests f' fs (take_number p) → Sound f' fs (take_number p)
+numbered-sound f f' fs p s e h = record {
+  started = omega arith;
+  valid = λ y. valid-higher p.next (row_of p.rows y) y (s.valid y);
+  forest = s.forest;
+  refers = s.refers;
+  open_frees = λ x. ap (λ (l : List Phase). l ++ claims x fs) (e x) ∙ s.open_frees x;
+  waiting = s.waiting;
+  rests = h;
+}
+
 -- ---- a row that is changed in its place
 
 -- a fact on each object, where one row was changed
@@ -126,7 +150,7 @@ changed-sound g f f' fs fs' p x r s k e shaped object calm others here w h =
       refers = refers-at p.rows (changed g p.rows x) x other
           (λ t q. let q' : target_of (g r).kind ≡ Some t = rw new at q in let none : target_of (g r).kind ≡ None = ap target_of (k.kind r) ∙ object in let bad : None ≡ Some t = sym none ∙ q' in cc)
           (λ y q. elim calm [
-            | inl keeps ↦ let h : IsReferable (Some r) = rw e at (s.refers.target y x q) in rw new (ap is_plain (k.kind r) ∙ h.0, keeps h.1)
+            | inl keeps ↦ let h : IsReferable (Some r) = rw e at (s.refers.target y x q) in rw new (ap is_referable (k.kind r) ∙ h.0, keeps h.1)
             | inr none ↦ absurd (none-refers p.rows x y none q)
           ]) s.refers;
       open_frees = frees-at f f' fs fs' p.rows (changed g p.rows x) x s.open_frees other others (rw new here);
@@ -230,7 +254,7 @@ pub new-sound : (f f' : Frame) (kind : Kind) (o : Owner) (size : ℕ) (name : Li
     → ((t : Obj) → target_of kind ≡ Some t → IsReferable (row_of p.rows t)) → ((x : Obj) → claim x f' ≡ claim x f) → Rests f' fs (add p kind o size name) → Sound f' fs (add p kind o size name)
 new-sound f f' kind o size name fs p s e may claim-same h =
     let n : Obj = record { 0 = p.next } in
-    let none : row_of p.rows n ≡ None = fresh (row_of p.rows n) (s.valid n) in
+    let none : row_of p.rows n ≡ None = nobody p s.valid in
     let ne : o ≢ Of n = other o e in
     let self : same n n ≡ true = same-equal n n refl in
     record {
@@ -247,7 +271,7 @@ new-sound f f' kind o size name fs p s e may claim-same h =
           (λ y q. absurd (let r : IsReferable None = rw none at (s.refers.target y n q) in r)) s.refers;
       valid = λ y. by_test (same n y)
           (λ z. let q : n ≡ y = same-true n y z in rw z (subst (λ (v : Obj). (0 < v.0) × (v.0 < p.next + 1) × (o ≢ Of v)) q (s.started, omega arith, ne)))
-          (λ z. rw z (higher (row_of p.rows y) y (s.valid y)));
+          (λ z. rw z (valid-higher p.next (row_of p.rows y) y (s.valid y)));
       open_frees = λ y. ap (λ (l : List Phase). l ++ claims y fs) (claim-same y) ∙ by_test (same n y)
           (λ z. let q : n ≡ y = same-true n y z in rw z (s.open_frees y ∙ ap phases (ap (row_of p.rows) (sym q) ∙ none)))
           (λ z. rw z (s.open_frees y));
@@ -255,10 +279,6 @@ new-sound f f' kind o size name fs p s e may claim-same h =
       rests = h;
     }
   where
-    fresh : (q : Option Row) → ValidAt p.next q (record { 0 = p.next }) → q ≡ None
-    fresh None v = refl
-    fresh (Some r) v = let l : p.next < p.next = v.1 in absurd (omega arith)
-
     below : (x : Obj) (q : Option Row) → is_object_row q ≡ true → ValidAt p.next q x → Of x ≢ Of (record { 0 = p.next })
     below x None b v = cc
     below x (Some r) b v = λ d. let l : x.0 < p.next = v.1 in let d' : x ≡ record { 0 = p.next } = cc in let d'' : x.0 ≡ p.next = ap (λ (z : Obj). z.0) d' in absurd (omega arith)
@@ -266,10 +286,6 @@ new-sound f f' kind o size name fs p s e may claim-same h =
     other : (w : Owner) → is_owner p.rows w ≡ true → w ≢ Of (record { 0 = p.next })
     other Root b = λ d. cc
     other (Of x) b = below x (row_of p.rows x) b (s.valid x)
-
-    higher : (q : Option Row) (y : Obj) → ValidAt p.next q y → ValidAt (p.next + 1) q y
-    higher None y v = tt
-    higher (Some r) y v = let l : y.0 < p.next = v.1 in (v.0, omega arith, v.2)
 
 -- ---- references
 

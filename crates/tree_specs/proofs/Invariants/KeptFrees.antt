@@ -15,10 +15,16 @@ use Rattle.tree_specs.specs.declared.question.Ask.{Ask}
 use Rattle.tree_specs.specs.declared.question.Ask.TheVariants.{Routine}
 use Rattle.tree_specs.specs.declared.frame.Frame.{Frame}
 use Rattle.tree_specs.specs.declared.frame.Frame.TheVariants as frame
-use Rattle.tree_specs.specs.declared.frame.CallFrame.TheVariants.{Asking, Doing, Awaiting, Turning, Returning}
-use Rattle.tree_specs.specs.declared.frame.TurnFrame.TheVariants.{Handling, Clearing}
+use Rattle.tree_specs.specs.declared.frame.CallFrame.TheVariants.{Asking, Doing, Awaiting, Turning, Requesting, Returning}
+use Rattle.tree_specs.specs.declared.frame.TurnFrame.TheVariants.{Handling, Clearing, Serving}
+use Rattle.tree_specs.specs.declared.frame.RequestFrame.{RequestFrame}
+use Rattle.tree_specs.specs.declared.frame.RequestFrame.TheVariants as request
+use Rattle.tree_specs.specs.declared.moment.What.{What}
+use Rattle.tree_specs.specs.declared.moment.What.TheVariants as whats
+use Rattle.tree_specs.specs.Calls.Refusals.{is_request}
+use Rattle.tree_specs.specs.Rules.Errands.{after_routine}
 use Rattle.tree_specs.specs.declared.frame.FreeFrame.{FreeFrame}
-use Rattle.tree_specs.specs.declared.frame.FreeFrame.TheVariants.{Unlinking, Releasing, Giving, Beginning, Hooked, Judged, Dooming, Leaving, Looping, FreeingChild, AfterChild, Ending}
+use Rattle.tree_specs.specs.declared.frame.FreeFrame.TheVariants.{Beginning, Hooked, Judged, Preparing, Dooming, Leaving, Looping, FreeingChild, AfterChild, Ending}
 use Rattle.tree_specs.specs.declared.frame.Purpose.{Purpose}
 use Rattle.tree_specs.specs.declared.frame.Purpose.TheVariants.{Removal, Emptying}
 use Rattle.tree_specs.specs.declared.frame.Answer.{Answer}
@@ -27,22 +33,22 @@ use Rattle.tree_specs.specs.declared.free_step.FreeReply.{FreeReply}
 use Rattle.tree_specs.specs.declared.free_step.FreeReply.TheVariants.{Ok, Held, Running, Refused}
 use Rattle.tree_specs.specs.Words.Objects.{same}
 use Rattle.tree_specs.specs.Events.Rotation.{closes_with}
-use Rattle.tree_specs.specs.Tree.Pool.{Pool, row_of, target_in, target_at, newest_ref_of, owner_in, owner_at, noted_owner, is_owner, is_below, owner_of, is_inside, first_kid, without, changed, remove, detach, left_row, set_mark, doom, marked_row, hooked_row}
+use Rattle.tree_specs.specs.Tree.Pool.{Pool, row_of, target_in, target_at, owner_in, owner_at, noted_owner, is_below, owner_of, is_inside, first_kid, without, changed, remove, detach, left_row, set_mark, doom, marked_row, hooked_row}
 use Rattle.tree_specs.specs.Rules.Items.{Item}
 use Rattle.tree_specs.specs.Rules.Answers.{hook_moment}
-use Rattle.tree_specs.specs.Machine.FreeTable.{begin_quiet, begin_step, drop_step, refs_step, unlink_step, release_step, judge_step, last_step, child_step, loop_step, hand_on_step}
+use Rattle.tree_specs.specs.Machine.FreeTable.{begin_quiet, begin_step, drop_step, refs_step, judge_step, last_step, child_step, loop_step, hand_on_step}
 use Rattle.tree_specs.specs.Machine.Table.{table, step, closed_event, announced, lifted, reply_in, resume}
 use Rattle.tree_specs.specs.Tree.Heirs.{heir}
-use Rattle.tree_specs.specs.Invariants.Sound.{Owned, Shaped, ValidAt, phase_of, phases, claim, claims, AllWait, IsLive, IsReferable, NotedFor, Tries, StillThere, Refers, IsQuietRow, IsOver, MayAnswer, IsCalled, IsGivenUp, MayBePlaced, Sound, Footing, footing}
+use Rattle.tree_specs.specs.Invariants.Sound.{Owned, Shaped, ValidAt, phase_of, phases, claim_if, claim, claims, Rests, IsLive, IsReferable, NotedFor, Tries, StillThere, IsOver, MayAnswer, RequestRests, Sound, Footing, footing}
 use Rattle.tree_specs.specs.Invariants.Sound.Footing.{OnCall, OnFree, AtBottom}
 use Rattle.tree_specs.proofs.Tree.Numbered.{by_test, same-equal, same-false}
 use Rattle.tree_specs.proofs.Tree.Rows.{row_of-changed-other, row_of-changed-same, row_of-without-other, row_of-without-same, first_kid-owner}
-use Rattle.tree_specs.proofs.Tree.Rooted.{forest-left, forest-without, is_there-owner}
-use Rattle.tree_specs.proofs.Tree.Referring.{newest-refers, newest-of-refers, none-refers, newest-changed, refers-at, refers-nothing, outside-without, owner-without}
-use Rattle.tree_specs.proofs.Tree.Ancestry.{inside-self, inside-owner, inside-not_back}
+use Rattle.tree_specs.proofs.Tree.Rooted.{forest-left, forest-without}
+use Rattle.tree_specs.proofs.Tree.Referring.{newest-refers, none-refers, newest-changed, refers-at, refers-nothing}
+use Rattle.tree_specs.proofs.Tree.Ancestry.{inside-owner, inside-not_back}
 use Rattle.tree_specs.specs.Tree.Forest.{IsForest}
 use Rattle.tree_specs.specs.Tree.Targets.{target_of, newest_ref}
-use Rattle.tree_specs.proofs.Invariants.Waiters.{Waiter, ForFree, ForRun, ForChild, ForTurn, ForHandler, ForClear, waiter}
+use Rattle.tree_specs.proofs.Invariants.Waiters.{Waiter, ForFree, ForRun, ForChild, ForTurn, ForHandler, ForClear, ForRequest, ForServed, ForReceived, ForRoutine, ForRelease, waiter}
 use Rattle.tree_specs.proofs.Calls.Checks.{Heard, HeardCall, HeardReturn, heard-leads}
 use Rattle.tree_specs.proofs.Invariants.Changes.{run-refers, run-unreferred, dropped-sound, dying-row, running-row, claim-here, positive, not-zero, stands, goes_on, waiting-sound, changed-sound, shape-of, live-owned, marks-place, hooks-place, unmarked-sound, valid-at, frees-at, placed-sound, heir-placed}
 
@@ -58,6 +64,12 @@ asking q fs p (suc k) s = λ i g e. leads g (heard-leads q i g e)
     leads _ (HeardCall c) = goes_on (frame.Call (Asking q)) (frame.Call (Doing q c)) fs p (λ x. refl) tt s
     leads _ (HeardReturn v of) = goes_on (frame.Call (Asking q)) (frame.Call (Returning v)) fs p (λ x. refl) tt s
 
+-- what the work of a request rests on after a routine
+after_rests : (w : What) (f g h : RequestFrame) (on : Footing) (p : Pool) → RequestRests f on p → RequestRests g on p → RequestRests h on p → RequestRests (after_routine w f g h) on p
+after_rests whats.Cleanup f g h on p a b c = a
+after_rests whats.Cancel f g h on p a b c = b
+after_rests _ f g h on p a b c = c
+
 -- a work that ends leaves the work below it sound
 pub ended : (a : Answer) (f : Frame) (fs : List Frame) (p : Pool) (k : ℕ) → Sound f fs p → ((x : Obj) → claim x f ≡ [])
     → ((x c : Obj) (noted : Option Owner) (purpose : Purpose) (gs : List Frame) → fs ≡ frame.Free (FreeingChild x c noted purpose) ∷ gs → StillThere (reply_in a) x c noted p) → KeptBy (Do.Done a p) fs k
@@ -71,6 +83,12 @@ ended a f (g ∷ gs) p k s none there = below g (waiter g gs s.waiting.0) s ther
     below _ (ForTurn q) s there = stands f _ (frame.Call (Turning q) ∷ gs) gs p (λ y. rw (none y) refl) s.waiting.1 tt s
     below _ (ForHandler what x handler occasion) s there = stands f _ (frame.Turn (Handling what x handler occasion) ∷ gs) gs p (λ y. rw (none y) refl) s.waiting.1 s.waiting.0 s
     below _ (ForClear x) s there = stands f _ (frame.Turn (Clearing x) ∷ gs) gs p (λ y. rw (none y) refl) s.waiting.1 s.waiting.0 s
+    below _ (ForRequest q) s there = stands f _ (frame.Call (Requesting q) ∷ gs) gs p (λ y. rw (none y) refl) s.waiting.1 tt s
+    below _ (ForServed x) s there = stands f _ (frame.Turn (Serving x) ∷ gs) gs p (λ y. rw (none y) refl) s.waiting.1 s.waiting.0 s
+    below _ (ForReceived x) s there = stands f _ (frame.Free (Preparing x) ∷ gs) gs p (λ y. rw (none y) refl) s.waiting.1 tt s
+    below _ (ForRoutine what x handler errand) s there =
+        stands f _ (frame.Request (request.Called what x handler errand) ∷ gs) gs p (λ y. rw (none y) refl) s.waiting.1 (after_rests what (request.Cleaned x errand) _ _ (footing gs) p s.waiting.0 s.waiting.0 s.waiting.0) s
+    below _ (ForRelease c) s there = stands f _ (frame.Request (request.Releasing c) ∷ gs) gs p (λ y. rw (none y) refl) s.waiting.1 s.waiting.0 s
     below _ (ForChild x c noted purpose) s there = stands f _ (frame.Free (FreeingChild x c noted purpose) ∷ gs) gs p (λ y. rw (none y) refl) s.waiting.1 (there x c noted purpose gs refl, s.waiting.0) s
 
 -- a child that isn't said to run need not be where it was
@@ -188,6 +206,7 @@ tries-dropped x r (g ∷ gs) p s newest ne inside = below g (waiter g gs s.waiti
     below : (g : Frame) → Waiter g → Tries x (footing (g ∷ gs)) p → Tries x (footing (g ∷ gs)) (remove p r)
     below _ (ForFree q y) t = let bad : None ≡ Some r = sym t ∙ newest in cc
     below _ (ForClear y) t = let bad : None ≡ Some r = sym t ∙ newest in cc
+    below _ (ForRelease y) t = let bad : None ≡ Some r = sym t ∙ newest in cc
     below _ (ForChild y c noted purpose) t =
         let same_row : row_of (without p.rows r) x ≡ row_of p.rows x = row_of-without-other p.rows r x ne in
         let n : NotedFor y x noted p = subst (λ (z : Obj). NotedFor y z noted p) refl t.2 in
@@ -201,6 +220,7 @@ may-hold x r (g ∷ gs) p s newest = below g (waiter g gs s.waiting.0) s.rests.0
     below : (g : Frame) → Waiter g → Tries x (footing (g ∷ gs)) p → MayAnswer Held (footing (g ∷ gs))
     below _ (ForFree q y) t = let bad : None ≡ Some r = sym t ∙ newest in cc
     below _ (ForClear y) t = let bad : None ≡ Some r = sym t ∙ newest in cc
+    below _ (ForRelease y) t = let bad : None ≡ Some r = sym t ∙ newest in cc
     below _ _ t = tt
 
 drops : (x r : Obj) (fs : List Frame) (p : Pool) (k : ℕ) → Sound (frame.Free (Beginning x)) fs p → newest_ref p.rows x ≡ Some r → KeptBy (lifted p.ring (drop_step x r p)) fs k
@@ -267,16 +287,24 @@ beginning x fs p k s = newest (newest_ref p.rows x) refl
         (live-owned r.mark r.owner x (rw m tt) (shape-of p x r s.valid e)) (object r e) (inr none) (λ y ne. refl) (s.open_frees x ∙ ap phases e ∙ ap phase_of m) s.waiting (rests (set_mark p x Doomed) refl) in
         closing (closes_with p.ring x) (Dooming x) fs (doom p x) k (waiting-sound (frame.Free (Dooming x)) (frame.Free (Dooming x)) fs (set_mark p x Doomed) (doom p x) t refl refl (λ y. refl) (rests (doom p x) refl))
 
-    quiet : newest_ref p.rows x ≡ None → (r : Row) → row_of p.rows x ≡ Some r → r.mark ≡ Quiet → KeptBy (lifted p.ring (begin_quiet x r.hook p)) fs k
-    quiet unreferred r e m =
+    -- an object that is asked, be it by its destructor or as a request
+    asks : (g : FreeFrame) → newest_ref p.rows x ≡ None → (r : Row) → row_of p.rows x ≡ Some r → r.mark ≡ Quiet → ((y : Obj) → claim y (frame.Free g) ≡ claim_if (same x y) InRun)
+        → Rests (frame.Free g) fs (set_mark p x Asked) → Sound (frame.Free g) fs (set_mark p x Asked)
+    asks g unreferred r e m claims-it rests =
         let none : claims x fs ≡ [] = s.open_frees x ∙ ap phases e ∙ ap phase_of m in
         let self : same x x ≡ true = same-equal x x refl in
-        by_test (nat_eq r.hook 0)
-        (λ t. rw t (goes_on (frame.Free (Beginning x)) (frame.Free (Leaving x 0)) fs p (λ y. refl) (r, e, rw m tt, none, object r e, unreferred) s))
-        (λ t. rw t (changed-sound (marked_row Asked) (frame.Free (Beginning x)) (frame.Free (Hooked x r.hook)) fs fs p x r s (marks-place Asked) e
+        changed-sound (marked_row Asked) (frame.Free (Beginning x)) (frame.Free g) fs fs p x r s (marks-place Asked) e
         (live-owned r.mark r.owner x (rw m tt) (shape-of p x r s.valid e)) (object r e) (inr unreferred)
-        (λ y ne. let u : same x y ≡ false = same-false x y ne in rw u refl) (rw (self, none) refl) s.waiting
-        (positive r.hook t, rw (row_of-changed-same (marked_row Asked) p.rows x r (λ q. refl) e) refl)))
+        (λ y ne. let u : same x y ≡ false = same-false x y ne in rw (claims-it y, u) refl) (rw (claims-it x, self, none) refl) s.waiting rests
+
+    quiet : newest_ref p.rows x ≡ None → (r : Row) → row_of p.rows x ≡ Some r → r.mark ≡ Quiet → KeptBy (lifted p.ring (begin_quiet x r.kind r.hook p)) fs k
+    quiet unreferred r e m =
+        let none : claims x fs ≡ [] = s.open_frees x ∙ ap phases e ∙ ap phase_of m in
+        by_test (is_request r.kind)
+        (λ u. rw u (asks (Preparing x) unreferred r e m (λ y. refl) (marked_row Asked r, row_of-changed-same (marked_row Asked) p.rows x r (λ q. refl) e)))
+        (λ u. by_test (nat_eq r.hook 0)
+        (λ t. rw (u, t) (goes_on (frame.Free (Beginning x)) (frame.Free (Leaving x 0)) fs p (λ y. refl) (r, e, rw m tt, none, object r e, unreferred) s))
+        (λ t. rw (u, t) (asks (Hooked x r.hook) unreferred r e m (λ y. refl) (positive r.hook t, rw (row_of-changed-same (marked_row Asked) p.rows x r (λ q. refl) e) refl))))
 
     marks : newest_ref p.rows x ≡ None → (r : Row) (m : Mark) → r.mark ≡ m → row_of p.rows x ≡ Some r → KeptBy (lifted p.ring (begin_step x (row_of p.rows x) p)) fs k
     marks none r Quiet m e = rw (e, m) (quiet none r e m)
@@ -292,84 +320,6 @@ beginning x fs p k s = newest (newest_ref p.rows x) refl
     newest : (o : Option Obj) → newest_ref p.rows x ≡ o → KeptBy (lifted p.ring (refs_step x (newest_ref p.rows x) p)) fs k
     newest None e = rw e (each e (row_of p.rows x) refl)
     newest (Some r) e = rw e (drops x r fs p k s e)
-
--- ---- an owner gives an object up
-
--- what is referred to is live
-pub referred-live : (p : Pool) (x r : Obj) (row : Row) → Refers p.rows → target_at p.rows r ≡ Some x → row_of p.rows x ≡ Some row → IsLive row.mark
-referred-live p x r row refers is e = let h : IsReferable (Some row) = rw e at (refers.target r x is) in rw h.1 tt
-
--- the same object is given up after a reference to it is gone
-given_up-dropped : (x r : Obj) (fs : List Frame) (p : Pool) → IsGivenUp x (footing fs) p → r ≢ x → IsGivenUp x (footing fs) (remove p r)
-given_up-dropped x r fs p h ne = (h.0, h.1, row_of-without-other p.rows r x ne ∙ h.2, h.3, h.4)
-
-pub given_up-object : (x : Obj) (fs : List Frame) (p : Pool) → IsGivenUp x (footing fs) p → target_at p.rows x ≡ None
-given_up-object x fs p h = rw h.2 h.4
-
-pub unlinking : (o : Owner) (x : Obj) (fs : List Frame) (p : Pool) (k : ℕ) → Sound (frame.Free (Unlinking o x)) fs p → KeptBy (step (frame.Free (Unlinking o x)) p) fs k
-unlinking o x fs p k s = each (newest_ref_of p.rows o x) refl
-  where
-    each : (n : Option Obj) → newest_ref_of p.rows o x ≡ n → KeptBy (lifted p.ring (unlink_step x (newest_ref_of p.rows o x) p)) fs k
-    each None e = rw e (goes_on (frame.Free (Unlinking o x)) (frame.Free (Releasing x)) fs p (λ y. refl) s.rests s)
-    each (Some r) e =
-        let w = newest-of-refers p.rows o x r s.forest.distinct e in
-        let is : target_at p.rows r ≡ Some x = rw w.1 w.2 in
-        rw e (dropped-sound (frame.Free (Unlinking o x)) (frame.Free (Ending Ok)) fs p r x s is (λ y. refl) (tt, tt))
-
--- the owner of a reference from outside may take the object
-giver : (f : Frame) (fs : List Frame) (p : Pool) (x r : Obj) → Sound f fs p → IsGivenUp x (footing fs) p → target_at p.rows r ≡ Some x → is_inside p.rows (Of r) (Of x) ≡ false
-    → MayBePlaced (remove p r) (unwrap_or (owner_of p.rows r) Root) x
-giver f fs p x r s h is out = by-row (row_of p.rows r) refl (s.refers.quiet r x is) (s.valid r)
-  where
-    ne : r ≢ x
-    ne = apart p x r x (given_up-object x fs p h) is
-
-    by-owner : (w : Option Owner) → owner_of p.rows r ≡ w → Owned w r → MayBePlaced (remove p r) (unwrap_or w Root) x
-    by-owner None e o = absurd o
-    by-owner (Some w) e o =
-        let i : is_inside p.rows (Of r) (Of x) ≡ (same r x || is_inside p.rows w (Of x)) = inside-owner p.rows r w (Of x) e in
-        let other : same r x ≡ false = same-false r x ne in
-        let i' : is_inside p.rows (Of r) (Of x) ≡ is_inside p.rows w (Of x) = rw other at i in
-        let above : is_inside p.rows w (Of x) ≡ false = sym i' ∙ out in
-        let there : is_owner p.rows w ≡ true = rw e at (is_there-owner p.rows p.rows r s.forest.owned) in
-        record {
-          row = h.1;
-          is = row_of-without-other p.rows r x ne ∙ h.2;
-          live = h.3;
-          apart = λ q. (let u : is_inside p.rows (Of x) (Of x) ≡ false = subst (λ (z : Owner). is_inside p.rows z (Of x) ≡ false) q above in let bad : true ≡ false = sym (inside-self p.rows (Of x)) ∙ u in cc);
-          there = owner-without p.rows r x s.forest is w o there;
-          outside = outside-without p.rows r x s.forest is w (Of x) o above;
-        }
-
-    by-row : (q : Option Row) → row_of p.rows r ≡ q → IsQuietRow q → ValidAt p.next q r → MayBePlaced (remove p r) (unwrap_or (owner_of p.rows r) Root) x
-    by-row None e quiet v = absurd quiet
-    by-row (Some row) e quiet v =
-        let shaped : Shaped Quiet row.owner r = subst (λ (m : Mark). Shaped m row.owner r) quiet v.2 in
-        let at : owner_of p.rows r ≡ row.owner = ap owner_in e in
-        rw at (by-owner row.owner at shaped)
-
-pub releasing : (x : Obj) (fs : List Frame) (p : Pool) (k : ℕ) → Sound (frame.Free (Releasing x)) fs p → KeptBy (step (frame.Free (Releasing x)) p) fs k
-releasing x fs p k s = each (newest_ref p.rows x) refl
-  where
-    tries : newest_ref p.rows x ≡ None → (fs : List Frame) → AllWait fs → IsCalled (footing fs) → Tries x (footing fs) p
-    tries e [] w c = absurd c
-    tries e (g ∷ gs) w c = below g (waiter g gs w.0) c
-      where
-        below : (g : Frame) → Waiter g → IsCalled (footing (g ∷ gs)) → Tries x (footing (g ∷ gs)) p
-        below _ (ForFree q y) c = e
-        below _ (ForClear y) c = e
-        below _ _ c = absurd c
-
-    each : (n : Option Obj) → newest_ref p.rows x ≡ n → KeptBy (lifted p.ring (release_step x (newest_ref p.rows x) p)) fs k
-    each None e = rw e (goes_on (frame.Free (Releasing x)) (frame.Free (Beginning x)) fs p (λ y. refl) (tries e fs s.waiting s.rests.0, given_up-object x fs p s.rests) s)
-    each (Some r) e =
-        let w = newest-refers p.rows x r s.forest.distinct e in
-        let is : target_at p.rows r ≡ Some x = rw w.1 w.2 in
-        let ne : r ≢ x = apart p x r x (given_up-object x fs p s.rests) is in
-        rw e (by_test (is_inside p.rows (Of r) (Of x))
-        (λ t. rw t (dropped-sound (frame.Free (Releasing x)) (frame.Free (Releasing x)) fs p r x s is (λ y. refl) (given_up-dropped x r fs p s.rests ne)))
-        (λ t. rw t (dropped-sound (frame.Free (Releasing x)) (frame.Free (Giving x (unwrap_or (owner_of p.rows r) Root))) fs p r x s is (λ y. refl)
-        (giver (frame.Free (Releasing x)) fs p x r s s.rests is t))))
 
 -- the destructor's run begins
 pub hooked : (x : Obj) (h : ℕ) (fs : List Frame) (p : Pool) (k : ℕ) → Sound (frame.Free (Hooked x h)) fs p → KeptBy (step (frame.Free (Hooked x h)) p) fs k

@@ -13,7 +13,11 @@ use Rattle.tree_specs.specs.declared.frame.Frame.TheVariants as frame
 use Rattle.tree_specs.specs.declared.frame.CallFrame.TheVariants.{Asking}
 use Rattle.tree_specs.specs.declared.frame.FreeFrame.TheVariants.{Beginning}
 use Rattle.tree_specs.specs.declared.frame.TurnFrame.{TurnFrame}
-use Rattle.tree_specs.specs.declared.frame.TurnFrame.TheVariants.{Taking, Timing, Timed, Polling, Starting, Firing, Handling, Handled, Clearing, Closing}
+use Rattle.tree_specs.specs.declared.frame.TurnFrame.TheVariants.{Taking, Timing, Timed, Polling, Starting, Firing, Handling, Handled, Clearing, Serving, Closing}
+use Rattle.tree_specs.specs.declared.frame.RequestFrame.{RequestFrame}
+use Rattle.tree_specs.specs.declared.frame.RequestFrame.TheVariants as request
+use Rattle.tree_specs.specs.declared.frame.Errand.TheVariants.{Finish, Notify}
+use Rattle.tree_specs.specs.declared.request.State.TheVariants as state
 use Rattle.tree_specs.specs.declared.frame.OutsideFrame.{OutsideFrame}
 use Rattle.tree_specs.specs.declared.frame.OutsideFrame.TheVariants.{Reaching, Opening, Hearing}
 use Rattle.tree_specs.specs.declared.frame.Answer.TheVariants.{Turned, Heard}
@@ -23,13 +27,13 @@ use Rattle.tree_specs.specs.Tree.Pool.{Pool, row_of, target_at, changed, set_mar
 use Rattle.tree_specs.specs.Events.Coming.{handler_for, handler_moment, rotated, begun, goes_after}
 use Rattle.tree_specs.specs.Machine.Profiles.{InHandler, turn_profile}
 use Rattle.tree_specs.specs.Machine.Table.{Step, starting_step, turn_step, outside_step}
-use Rattle.tree_specs.specs.Invariants.Sound.{phase_of, phases, claim, claim_by, claims, footing, AllWait, IsLive, IsReferable, IsTurned, Rests, Sound}
+use Rattle.tree_specs.specs.Invariants.Sound.{phase_of, phases, claim, claim_by, claims, footing, AllWait, IsLive, IsReferable, Footing, IsTurned, IsRequested, RequestRests, Rests, Sound}
 use Rattle.tree_specs.proofs.Tree.Numbered.{by_test, same-equal, same-false}
 use Rattle.tree_specs.proofs.Tree.Rows.{row_of-changed-same}
 use Rattle.tree_specs.proofs.Tree.Referring.{unreferred, newest-changed}
 use Rattle.tree_specs.proofs.Invariants.Changes.{run-refers, run-unreferred, handling-row, claim-here, stands, goes_on, waiting-sound, changed-sound, shape-of, live-owned, marks-place}
 use Rattle.tree_specs.proofs.Invariants.KeptFrees.{KeptBy, ended}
-use Rattle.tree_specs.proofs.Invariants.Turning.{Ready, handler-ready, rotated-rows, IsPlain, Passes, Pass, look-passes, taken-plain}
+use Rattle.tree_specs.proofs.Invariants.Turning.{Ready, handler-ready, rotated-rows, IsPlain, Passes, Pass, Serve, look-passes, taken-plain}
 use Rattle.tree_specs.proofs.Calls.Checks.{Reached, ReachedOpening, ReachedHearing, reached-leads}
 
 -- a work that says nothing of an object, over the same rows, in the place of another one
@@ -38,8 +42,18 @@ plain-sound : (f g : TurnFrame) (steps : ℕ) (fs : List Frame) (p q : Pool) →
 plain-sound f g steps fs p q rows next none plain turned s =
     waiting-sound (frame.Turn f) (frame.Turn g) fs p q s rows next (λ x. ap (claim_by x) plain.claims ∙ sym (ap (claim_by x) none)) (plain.rests (footing fs) q turned)
 
+-- the work of a request stands on the turn that waits for it
+served-sound : (f : TurnFrame) (g : RequestFrame) (x : Obj) (fs : List Frame) (p q : Pool) → q.rows ≡ p.rows → q.next ≡ p.next → (turn_profile f).claims ≡ None → IsTurned (footing fs) → Sound (frame.Turn f) fs p
+    → ((on : Footing) (p' : Pool) → IsRequested on → RequestRests g on p') → Sound (frame.Request g) (frame.Turn (Serving x) ∷ fs) q
+served-sound f g x fs p q rows next none turned s rests =
+    let t : Sound (frame.Turn (Closing 1)) fs q = waiting-sound (frame.Turn f) (frame.Turn (Closing 1)) fs p q s rows next (λ x. sym (ap (claim_by x) none)) turned in
+    stands (frame.Turn (Closing 1)) (frame.Request g) fs (frame.Turn (Serving x) ∷ fs) q (λ y. refl) (turned, t.waiting) (rests (footing (frame.Turn (Serving x) ∷ fs)) q tt) t
+
 passes-kept : (f : TurnFrame) (fs : List Frame) (p : Pool) (k : ℕ) (m : Step) → (turn_profile f).claims ≡ None → IsTurned (footing fs) → Sound (frame.Turn f) fs p → Passes p m → KeptBy m fs k
-passes-kept f fs p k _ none turned s (Pass g q rows next plain) = plain-sound f g 4 fs p q rows next none plain turned s
+passes-kept f fs p k _ none turned s (Pass g q rows next notes times plain) = plain-sound f g 4 fs p q rows next none plain turned s
+passes-kept f fs p k _ none turned s (Serve Notify x q rows next notes times served noted) = served-sound f (request.Notifying x Notify) x fs p q rows next none turned s (λ on p' r. r)
+passes-kept f fs p k _ none turned s (Serve (Finish state.TimedOut) x q rows next notes times served noted) = served-sound f (request.Finishing x state.TimedOut) x fs p q rows next none turned s (λ on p' r. r)
+passes-kept f fs p k _ none turned s (Serve _ x q rows next notes times served noted) = absurd served
 
 -- an event with which nothing goes on becomes busy
 starts : (w : What) (x : Obj) (o : Occasion) (h : Handler) (fs : List Frame) (p : Pool) → Sound (frame.Turn (Starting w x o)) fs p → Ready p.rows w x
@@ -100,9 +114,9 @@ starting-kept w x o fs p k s = each (handler_for p w x) refl
     each (Some h) e = rw e (begins w x o h fs p s (handler-ready p w x h e))
 
 -- a work that asks, with its answer
-asked-kept : (f : TurnFrame) (fs : List Frame) (p : Pool) → (turn_profile f).claims ≡ None → IsTurned (footing fs) → Sound (frame.Turn f) fs p → (t : TurnFrame) → IsPlain t 5
+asked-kept : (f : TurnFrame) (fs : List Frame) (p : Pool) → (turn_profile f).claims ≡ None → IsTurned (footing fs) → Sound (frame.Turn f) fs p → (t : TurnFrame) → IsPlain t 13
     → Sound (frame.Turn t) fs p
-asked-kept f fs p none turned s t plain = plain-sound f t 5 fs p p refl refl none plain turned s
+asked-kept f fs p none turned s t plain = plain-sound f t 13 fs p p refl refl none plain turned s
 
 pub turn-kept : (f : TurnFrame) (fs : List Frame) (p : Pool) (k : ℕ) → Sound (frame.Turn f) fs p → KeptBy (turn_step f p) fs k
 turn-kept Taking fs p k s = passes-kept Taking fs p k _ refl s.rests s (look-passes Taking p tt)
@@ -117,6 +131,7 @@ turn-kept (Handling w x h o) fs p k s =
     stands (frame.Turn (Handling w x h o)) (frame.Call (Asking (Routine (handler_moment w x h o)))) fs (frame.Turn (Handling w x h o) ∷ fs) p (λ y. refl) (s.rests.0, s.waiting) tt s
 turn-kept (Handled w x) fs p k s = handled-kept w x fs p s k
 turn-kept (Clearing x) fs p k s = absurd s.rests
+turn-kept (Serving x) fs p k s = absurd s.rests
 turn-kept (Closing v) fs p k s = ended (Turned v) (frame.Turn (Closing v)) fs p k s (λ x. refl) (λ x c n b gs e. tt)
 
 -- ---- a question to the outside

@@ -1,5 +1,5 @@
 -- How a turn goes on: what is to start, and the works that it goes on as.
-use Rattle.std.proofs.Common.{◌≡◌, ℕ, ◌≤◌, List, Option, Some, None, true, false, nat_eq, nat_le, Bool, refl, ◌∙◌, arith}
+use Rattle.std.proofs.Common.{◌≡◌, ℕ, ◌≤◌, List, [], ◌∷◌, Option, Some, None, true, false, nat_eq, nat_le, Bool, refl, ap, ◌∙◌, arith}
 use Rattle.std.specs.Prelude.{◌-◌}
 use Rattle.step_machine.specs.Machine.{Move as Do}
 use Rattle.tree_specs.specs.declared.object.Obj.{Obj}
@@ -17,17 +17,23 @@ use Rattle.tree_specs.specs.declared.question.Input.{Input}
 use Rattle.tree_specs.specs.declared.frame.Frame.{Frame}
 use Rattle.tree_specs.specs.declared.frame.Frame.TheVariants as frame
 use Rattle.tree_specs.specs.declared.frame.TurnFrame.{TurnFrame}
-use Rattle.tree_specs.specs.declared.frame.TurnFrame.TheVariants.{Taking, Timing, Timed, Polling, Starting, Closing}
+use Rattle.tree_specs.specs.declared.frame.TurnFrame.TheVariants.{Taking, Timing, Timed, Polling, Starting, Serving, Closing}
+use Rattle.tree_specs.specs.declared.frame.Errand.{Errand}
+use Rattle.tree_specs.specs.declared.frame.Errand.TheVariants.{Finish, Notify}
+use Rattle.tree_specs.specs.declared.request.State.TheVariants.{TimedOut}
+use Rattle.tree_specs.specs.Events.Requests.{is_noted}
 use Rattle.tree_specs.specs.Tree.Targets.{target_of}
 use Rattle.tree_specs.specs.Tree.Pool.{Pool, row_of, unschedule, disarm}
-use Rattle.tree_specs.specs.Events.Pending.{first}
+use Rattle.tree_specs.specs.Words.Objects.{same}
+use Rattle.tree_specs.specs.Events.Pending.{first, is_armed}
+use Rattle.tree_specs.proofs.Events.PendingLaws.{disarmed-other}
 use Rattle.tree_specs.specs.Events.Rotation.{Ready as ReadyOne, first_ready}
 use Rattle.tree_specs.specs.Events.Coming.{wait_limit, comes_as, is_quiet_mark, may_start, handler_for, looks_again, at_time, with_flags, plainly, rotated}
-use Rattle.tree_specs.specs.Calls.Refusals.{is_plain}
-use Rattle.tree_specs.specs.Machine.Table.{Step, due_step, taking_step, early_step, timed_step, timed_turn, ready_turn, looked_turn, turn_step, turn_taken}
-use Rattle.tree_specs.specs.Machine.Profiles.{turn_profile}
+use Rattle.tree_specs.specs.Calls.Refusals.{is_referable}
+use Rattle.tree_specs.specs.Machine.Table.{Step, work_of, due_now, due_step, taking_step, early_step, timed_step, timed_turn, ready_turn, looked_turn, turn_step, turn_taken}
+use Rattle.tree_specs.specs.Machine.Profiles.{turn_profile, caller_size}
 use Rattle.tree_specs.specs.Invariants.Sound.{Footing, IsTurned, TurnRests}
-use Rattle.tree_specs.proofs.Tree.Numbered.{by_test}
+use Rattle.tree_specs.proofs.Tree.Numbered.{by_test, same-equal}
 use Rattle.tree_specs.proofs.Calls.Checks.{both-true, clocked-by, polled-by}
 
 -- ---- what is to start
@@ -37,7 +43,7 @@ pub record Ready (rows : List Row) (what : What) (x : Obj) : Type 0 where
   pub row : Row
   pub is : row_of rows x ≡ Some row
   pub object : target_of row.kind ≡ None
-  pub event : is_plain row.kind ≡ false
+  pub event : is_referable row.kind ≡ false
   pub comes : comes_as what row.kind ≡ true
   pub quiet : row.mark ≡ Quiet
 
@@ -46,7 +52,7 @@ quiet-mark Quiet e = refl
 quiet-mark _ e = cc
 
 -- an event is neither plain nor a reference
-pub comes-event : (w : What) (k : Kind) → comes_as w k ≡ true → (target_of k ≡ None) × (is_plain k ≡ false)
+pub comes-event : (w : What) (k : Kind) → comes_as w k ≡ true → (target_of k ≡ None) × (is_referable k ≡ false)
 comes-event ForImmediate kind.Immediate e = (refl, refl)
 comes-event ForTimer kind.Timer e = (refl, refl)
 comes-event ForDescriptor kind.Descriptor e = (refl, refl)
@@ -63,19 +69,19 @@ handler-ready p w x h e = by_test (may_start w (row_of p.rows x)) (λ t. by-row 
         record { row = r; is = k; object = c.0; event = c.1; comes = b.0; quiet = quiet-mark r.mark b.1 }
 
 -- an event that comes goes to the end of the rotation, and nothing else changes
-pub rotated-rows : (w : What) (x : Obj) (p : Pool) → ((rotated w x p).rows ≡ p.rows) × ((rotated w x p).next ≡ p.next)
-rotated-rows ForDescriptor x p = (refl, refl)
-rotated-rows _ x p = (refl, refl)
+pub rotated-rows : (w : What) (x : Obj) (p : Pool) → ((rotated w x p).rows ≡ p.rows) × ((rotated w x p).next ≡ p.next) × ((rotated w x p).requests ≡ p.requests)
+rotated-rows ForDescriptor x p = (refl, refl, refl)
+rotated-rows _ x p = (refl, refl, refl)
 
 -- ---- works of a turn that say nothing of an object
 
 pub record IsPlain (f : TurnFrame) (steps : ℕ) : Type 0 where
   pub claims : (turn_profile f).claims ≡ None
-  pub size : (turn_profile f).top_size ≡ 0
+  pub size : (turn_profile f).top_size ≡ caller_size
   pub cheap : (turn_profile f).steps ≤ steps
   pub rests : (on : Footing) (p : Pool) → IsTurned on → TurnRests f on p
 
-pub plain-timed : (again : Bool) (now : ℕ) → IsPlain (Timed again now) 5
+pub plain-timed : (again : Bool) (now : ℕ) → IsPlain (Timed again now) 13
 plain-timed again now = record { claims = refl; size = refl; cheap = omega arith; rests = λ on p h. h }
 
 pub plain-timing : (again : Bool) → IsPlain (Timing again) 4
@@ -90,14 +96,23 @@ plain-starting w x occasion = record { claims = refl; size = refl; cheap = omega
 pub plain-closing : (v : ℕ) → IsPlain (Closing v) 4
 plain-closing v = record { claims = refl; size = refl; cheap = omega arith; rests = λ on p h. h }
 
-plain-more : (f : TurnFrame) → IsPlain f 4 → IsPlain f 5
+plain-more : (f : TurnFrame) → IsPlain f 4 → IsPlain f 13
 plain-more f h = record { claims = h.claims; size = h.size; cheap = (let l = h.cheap in omega (arith, l)); rests = h.rests }
 
 -- ---- looking for what comes
 
+-- a request is notified in its turn, or times out where it has an end time
+abbrev pub IsServed : Pool → Errand → Obj → Type 0
+IsServed p Notify x = Unit {0}
+IsServed p (Finish TimedOut) x = is_armed p.times x ≡ true
+IsServed p errand x = ⊥
+
 -- it goes on over the same rows, and says nothing of an object
 pub data Passes (p : Pool) : Step → Type 0 where
-  Pass : (g : TurnFrame) (q : Pool) → q.rows ≡ p.rows → q.next ≡ p.next → IsPlain g 4 → Passes p (Do.Go (frame.Turn g) q)
+  Pass : (g : TurnFrame) (q : Pool) → q.rows ≡ p.rows → q.next ≡ p.next → q.requests ≡ p.requests → ((y : Obj) → is_armed q.times y ≡ true → is_armed p.times y ≡ true) → IsPlain g 4 → Passes p (Do.Go (frame.Turn g) q)
+  -- or a request has come
+  Serve : (errand : Errand) (x : Obj) (q : Pool) → q.rows ≡ p.rows → q.next ≡ p.next → q.requests ≡ p.requests → ((y : Obj) → is_armed q.times y ≡ true → is_armed p.times y ≡ true) → IsServed p errand x → is_noted p.requests x ≡ true
+      → Passes p (Do.Call (work_of errand x) (frame.Turn (Serving x)) q)
 
 -- the two works that look
 abbrev pub IsLook : TurnFrame → Type 0
@@ -105,41 +120,54 @@ IsLook Taking = Unit {0}
 IsLook (Timed again now) = Unit {0}
 IsLook f = ⊥
 
+-- what is first has a time
+first-armed : (ds : List Due) (d : Due) → first ds ≡ Some d → is_armed ds d.object ≡ true
+first-armed [] d e = cc
+first-armed (c ∷ ds) d e = let e' : c ≡ d = cc in let self : same c.object d.object ≡ true = same-equal c.object d.object (ap (λ (z : Due). z.object) e') in rw self refl
+
+-- a time has come
+due-passes : (x : Obj) (now : ℕ) (p : Pool) → is_armed p.times x ≡ true → Passes p (due_now x now p)
+due-passes x now p timed = by_test (is_noted p.requests x)
+    (λ t. rw t (Serve (Finish TimedOut) x (disarm p x) refl refl refl (λ y h. (disarmed-other p.times x y h).0) timed t))
+    (λ t. rw t (Pass (Starting ForTimer x (at_time now)) (disarm p x) refl refl refl (λ y h. (disarmed-other p.times x y h).0) (plain-starting ForTimer x (at_time now))))
+
 pub look-passes : (f : TurnFrame) (p : Pool) → IsLook f → Passes p (turn_step f p)
 look-passes Taking p i = each (first p.soon)
   where
-    due : (o : Option Due) → Passes p (due_step o p)
-    due None = Pass (Polling wait_limit) p refl refl (plain-polling wait_limit)
-    due (Some d) = by_test (nat_eq d.time 0)
-        (λ t. rw t (Pass (Starting ForTimer d.object (at_time 0)) (disarm p d.object) refl refl (plain-starting ForTimer d.object (at_time 0))))
-        (λ t. rw t (Pass (Timing false) p refl refl (plain-timing false)))
+    due : (o : Option Due) → first p.times ≡ o → Passes p (due_step o p)
+    due None e = Pass (Polling wait_limit) p refl refl refl (λ y h. h) (plain-polling wait_limit)
+    due (Some d) e = by_test (nat_eq d.time 0)
+        (λ t. rw t (due-passes d.object 0 p (first-armed p.times d e)))
+        (λ t. rw t (Pass (Timing false) p refl refl refl (λ y h. h) (plain-timing false)))
 
     each : (o : Option Obj) → Passes p (taking_step o p)
-    each None = due (first p.times)
-    each (Some x) = Pass (Starting ForImmediate x plainly) (unschedule p x) refl refl (plain-starting ForImmediate x plainly)
-look-passes (Timed again now) p i = each (first p.times)
+    each None = due (first p.times) refl
+    each (Some x) = by_test (is_noted p.requests x)
+        (λ t. rw t (Serve Notify x (unschedule p x) refl refl refl (λ y h. h) tt t))
+        (λ t. rw t (Pass (Starting ForImmediate x plainly) (unschedule p x) refl refl refl (λ y h. h) (plain-starting ForImmediate x plainly)))
+look-passes (Timed again now) p i = each (first p.times) refl
   where
     early : (again : Bool) (d : Due) → Passes p (early_step again d now p)
-    early true d = Pass (Closing 0) p refl refl (plain-closing 0)
-    early false d = Pass (Polling (d.time - now)) p refl refl (plain-polling (d.time - now))
+    early true d = Pass (Closing 0) p refl refl refl (λ y h. h) (plain-closing 0)
+    early false d = Pass (Polling (d.time - now)) p refl refl refl (λ y h. h) (plain-polling (d.time - now))
 
-    each : (o : Option Due) → Passes p (timed_step again now o p)
-    each None = Pass (Closing 0) p refl refl (plain-closing 0)
-    each (Some d) = by_test (nat_le d.time now)
-        (λ t. rw t (Pass (Starting ForTimer d.object (at_time now)) (disarm p d.object) refl refl (plain-starting ForTimer d.object (at_time now))))
+    each : (o : Option Due) → first p.times ≡ o → Passes p (timed_step again now o p)
+    each None e = Pass (Closing 0) p refl refl refl (λ y h. h) (plain-closing 0)
+    each (Some d) e = by_test (nat_le d.time now)
+        (λ t. rw t (due-passes d.object now p (first-armed p.times d e)))
         (λ t. rw t (early again d))
 look-passes _ p i = absurd i
 
 -- ---- what an answer leads to
 
 -- an event on a descriptor comes, or none
-ready-plain : (o : Option ReadyOne) → (t : TurnFrame) × (ready_turn o ≡ frame.Turn t) × IsPlain t 5
+ready-plain : (o : Option ReadyOne) → (t : TurnFrame) × (ready_turn o ≡ frame.Turn t) × IsPlain t 13
 ready-plain None = (Closing 0, refl, plain-more (Closing 0) (plain-closing 0))
 ready-plain (Some r) =
     let t : TurnFrame = Starting ForDescriptor r.object (with_flags r.flags) in
     (t, refl, plain-more t (plain-starting ForDescriptor r.object (with_flags r.flags)))
 
-pub taken-plain : (f : TurnFrame) (p : Pool) (i : Input) (g : Frame) → turn_taken f p i ≡ Some g → (t : TurnFrame) × (g ≡ frame.Turn t) × IsPlain t 5
+pub taken-plain : (f : TurnFrame) (p : Pool) (i : Input) (g : Frame) → turn_taken f p i ≡ Some g → (t : TurnFrame) × (g ≡ frame.Turn t) × IsPlain t 13
 taken-plain (Timing again) p i g e = let t = clocked-by (timed_turn again) i g e in (Timed again t.0, t.1, plain-timed again t.0)
 taken-plain (Polling limit) p i g e =
     let t = polled-by limit (looked_turn p) i g e in

@@ -5,12 +5,14 @@ use Rattle.tree_specs.specs.declared.object.Owner.{Owner}
 use Rattle.tree_specs.specs.declared.question.Ask.{Ask}
 use Rattle.tree_specs.specs.declared.frame.Frame.{Frame}
 use Rattle.tree_specs.specs.declared.frame.Frame.TheVariants as frame
-use Rattle.tree_specs.specs.declared.frame.CallFrame.TheVariants.{Awaiting, Turning}
-use Rattle.tree_specs.specs.declared.frame.TurnFrame.TheVariants.{Handling, Clearing}
+use Rattle.tree_specs.specs.declared.frame.CallFrame.TheVariants.{Awaiting, Turning, Requesting}
+use Rattle.tree_specs.specs.declared.frame.TurnFrame.TheVariants.{Handling, Clearing, Serving}
+use Rattle.tree_specs.specs.declared.frame.RequestFrame.TheVariants as request
+use Rattle.tree_specs.specs.declared.frame.Errand.{Errand}
 use Rattle.tree_specs.specs.declared.handler.Handler.{Handler}
 use Rattle.tree_specs.specs.declared.moment.What.{What}
 use Rattle.tree_specs.specs.declared.occasion.Occasion.{Occasion}
-use Rattle.tree_specs.specs.declared.frame.FreeFrame.TheVariants.{Hooked, FreeingChild}
+use Rattle.tree_specs.specs.declared.frame.FreeFrame.TheVariants.{Hooked, Preparing, FreeingChild}
 use Rattle.tree_specs.specs.declared.frame.Purpose.{Purpose}
 use Rattle.tree_specs.specs.Invariants.Sound.{IsWaiting}
 
@@ -22,6 +24,11 @@ pub data Waiter : Frame → Type 0 where
   ForTurn : (q : Ask) → Waiter (frame.Call (Turning q))
   ForHandler : (what : What) (x : Obj) (handler : Handler) (occasion : Occasion) → Waiter (frame.Turn (Handling what x handler occasion))
   ForClear : (x : Obj) → Waiter (frame.Turn (Clearing x))
+  ForRequest : (q : Ask) → Waiter (frame.Call (Requesting q))
+  ForServed : (x : Obj) → Waiter (frame.Turn (Serving x))
+  ForReceived : (x : Obj) → Waiter (frame.Free (Preparing x))
+  ForRoutine : (what : What) (x : Obj) (handler : Handler) (errand : Errand) → Waiter (frame.Request (request.Called what x handler errand))
+  ForRelease : (c : Obj) → Waiter (frame.Request (request.Releasing c))
 
 pub waiter : (g : Frame) (gs : List Frame) → IsWaiting g gs → Waiter g
 waiter (frame.Call (Awaiting q x)) gs w = ForFree q x
@@ -30,4 +37,9 @@ waiter (frame.Free (FreeingChild x c noted purpose)) gs w = ForChild x c noted p
 waiter (frame.Call (Turning q)) gs w = ForTurn q
 waiter (frame.Turn (Handling what x handler occasion)) gs w = ForHandler what x handler occasion
 waiter (frame.Turn (Clearing x)) gs w = ForClear x
+waiter (frame.Call (Requesting q)) gs w = ForRequest q
+waiter (frame.Turn (Serving x)) gs w = ForServed x
+waiter (frame.Free (Preparing x)) gs w = ForReceived x
+waiter (frame.Request (request.Called what x handler errand)) gs w = ForRoutine what x handler errand
+waiter (frame.Request (request.Releasing c)) gs w = ForRelease c
 waiter _ gs w = absurd w

@@ -1,5 +1,5 @@
 -- What the works and the items told so far say of the items to come.
-use Rattle.std.proofs.Common.{◌≡◌, List, [], ◌∷◌, Option, Some, None, map, true, false}
+use Rattle.std.proofs.Common.{◌≡◌, ℕ, nat_eq, List, [], ◌∷◌, Option, Some, None, map, true, false}
 use Rattle.step_machine.specs.Noted.{Noted}
 use Rattle.step_machine.specs.Open.{LastIs}
 use Rattle.tree_specs.specs.declared.object.Obj.{Obj}
@@ -15,6 +15,12 @@ use Rattle.tree_specs.specs.declared.frame.Frame.{Frame}
 use Rattle.tree_specs.specs.declared.frame.Frame.TheVariants as frame
 use Rattle.tree_specs.specs.declared.frame.CallFrame.TheVariants.{Awaiting, Announcing, Telling, Returning}
 use Rattle.tree_specs.specs.declared.frame.OutsideFrame.TheVariants.{Reaching, Hearing}
+use Rattle.tree_specs.specs.declared.frame.RequestFrame.TheVariants as request
+use Rattle.tree_specs.specs.declared.frame.Errand.{Errand}
+use Rattle.tree_specs.specs.declared.frame.Errand.TheVariants.{Finish}
+use Rattle.tree_specs.specs.declared.request.State.TheVariants.{UserError}
+use Rattle.tree_specs.specs.Rules.Errands.{reply_to, cancelled_reply}
+use Rattle.tree_specs.proofs.Tree.Numbered.{by_test}
 use Rattle.tree_specs.specs.declared.frame.FreeFrame.TheVariants.{Unlinking, Releasing, Beginning, Hooked, Judged, Dooming, Ending}
 use Rattle.tree_specs.specs.declared.free_step.FreeReply.{FreeReply}
 use Rattle.tree_specs.specs.declared.free_step.FreeReply.TheVariants as free_reply
@@ -23,7 +29,7 @@ use Rattle.tree_specs.specs.Calls.Refusals.{is_held, is_running}
 use Rattle.tree_specs.specs.Rules.Items.{Item}
 use Rattle.tree_specs.specs.Rules.Items.Item.{Told}
 use Rattle.tree_specs.specs.Rules.Sequence.{CallStart, Scene}
-use Rattle.tree_specs.specs.Machine.Profiles.{Role, Calls, Frees, Waits, Never, AFree, ARun, AChild, ATurn, AHandler, AClear, profile}
+use Rattle.tree_specs.specs.Machine.Profiles.{Role, Calls, Frees, Waits, Never, AFree, ARun, AChild, ATurn, AHandler, AClear, ARequest, AReceived, AServed, ARoutine, ARelease, profile}
 use Rattle.tree_specs.specs.Promises.Orderly.{RefusedJustNow, is_hook}
 use Rattle.tree_specs.specs.Promises.Grounded.{OfReply, AnsweredCall, HeldCall, CausedCall, IsItem, AsksHook}
 use Rattle.tree_specs.proofs.Calls.Plans.{IsThere, IsOutside}
@@ -84,16 +90,21 @@ abbrev pub NotHeld : Call → Pool → Type 0
 NotHeld (call.Free x) start = is_held start x ≡ false
 NotHeld c start = Unit {0}
 
--- a call that takes a turn, or asks the outside
+-- a call that takes a turn, asks the outside, or has an errand of a request done
 abbrev pub TurnsOrAsks : Call → Type 0
 TurnsOrAsks call.Turn = Unit {0}
 TurnsOrAsks call.Now = Unit {0}
 TurnsOrAsks (call.Accept fd) = Unit {0}
 TurnsOrAsks (call.Read fd len) = Unit {0}
 TurnsOrAsks (call.Write fd bytes) = Unit {0}
+TurnsOrAsks (call.Cancel x) = Unit {0}
+TurnsOrAsks (call.Done x) = Unit {0}
+TurnsOrAsks (call.Error x error) = Unit {0}
+TurnsOrAsks (call.Oom x) = Unit {0}
+TurnsOrAsks (call.Received x) = Unit {0}
 TurnsOrAsks c = ⊥
 
--- a caller that waits for a turn, or for the outside, knows the call
+-- a caller that waits for a turn, for the outside or for a request knows the call
 abbrev pub KnowsTurn : Option CallStart → Type 0
 KnowsTurn None = ⊥
 KnowsTurn (Some b) = TurnsOrAsks b.call
@@ -110,6 +121,11 @@ StandsFor (ARun x h) f b = IsRunAs (IsHook x) f
 StandsFor (AHandler x) f b = IsRunAs IsNoHook f
 StandsFor ATurn f b = KnowsTurn b
 StandsFor (AClear x) f b = Unit {0}
+StandsFor ARequest f b = KnowsTurn b
+StandsFor (AReceived x) f b = Unit {0}
+StandsFor (AServed x) f b = Unit {0}
+StandsFor (ARoutine x) f b = IsRunAs IsNoHook f
+StandsFor (ARelease c) f b = Unit {0}
 StandsFor Never f b = Unit {0}
 
 -- what a work that waits says of the one that stands on it
@@ -124,6 +140,15 @@ Stacked f (w ∷ ws) = StandsOn f w.work w.note × Stacked w.work ws
 abbrev pub OfNext : (Frame → Option CallStart → Type 0) → List NotedWork → Type 0
 OfNext Q [] = Unit {0}
 OfNext Q (w ∷ ws) = Q w.work w.note
+
+-- ---- the end of an errand is no refusal
+
+pub done-reply : (errand : Errand) → IsNoRefusal (reply_to errand)
+done-reply (Finish UserError) = tt
+done-reply _ = tt
+
+pub cancelled-done : (v : ℕ) → IsNoRefusal (cancelled_reply v)
+cancelled-done v = by_test (nat_eq v 0) (λ t. rw t tt) (λ t. rw t tt)
 
 -- ---- what the innermost work is about to tell has its cause
 
@@ -174,4 +199,5 @@ Cause scenes (frame.Free (Beginning x)) b ws p = OfNext (HasJustBegun p) ws
 Cause scenes (frame.Free (Dooming x)) b ws p = OfNext (HasRunFor x) ws
 Cause scenes (frame.Outside (Reaching q)) b ws p = IsOutside q
 Cause scenes (frame.Outside (Hearing r)) b ws p = IsNoRefusal r
+Cause scenes (frame.Request (request.Over r)) b ws p = IsNoRefusal r
 Cause scenes f b ws p = Unit {0}

@@ -17,10 +17,16 @@ use Rattle.tree_specs.specs.declared.reply.Reply.{Reply}
 use Rattle.tree_specs.specs.declared.event.Event.TheVariants.{Replied, Refused}
 use Rattle.tree_specs.specs.declared.frame.Frame.{Frame}
 use Rattle.tree_specs.specs.declared.frame.Frame.TheVariants as frame
-use Rattle.tree_specs.specs.declared.frame.CallFrame.TheVariants.{Awaiting, Turning, Telling}
-use Rattle.tree_specs.specs.declared.frame.TurnFrame.TheVariants.{Handling, Clearing}
+use Rattle.tree_specs.specs.declared.frame.CallFrame.TheVariants.{Awaiting, Turning, Requesting, Telling}
+use Rattle.tree_specs.specs.declared.frame.TurnFrame.TheVariants.{Handling, Clearing, Serving}
+use Rattle.tree_specs.specs.declared.handler.Handler.{Handler}
+use Rattle.tree_specs.specs.declared.moment.What.TheVariants as whats
+use Rattle.tree_specs.specs.declared.reply.Reply.TheVariants as reply
+use Rattle.tree_specs.specs.declared.frame.Errand.{Errand}
+use Rattle.tree_specs.specs.declared.frame.RequestFrame.TheVariants as request
+use Rattle.tree_specs.proofs.Promises.Answering.{IsNoRefusal}
 use Rattle.tree_specs.specs.declared.moment.What.{What}
-use Rattle.tree_specs.specs.declared.frame.FreeFrame.TheVariants.{Hooked, FreeingChild}
+use Rattle.tree_specs.specs.declared.frame.FreeFrame.TheVariants.{Hooked, Preparing, FreeingChild}
 use Rattle.tree_specs.specs.declared.frame.Answer.{Answer}
 use Rattle.tree_specs.specs.declared.free_step.FreeReply.{FreeReply}
 use Rattle.tree_specs.specs.declared.free_step.FreeReply.TheVariants as free_reply
@@ -30,8 +36,8 @@ use Rattle.tree_specs.specs.Rules.Items.{Item}
 use Rattle.tree_specs.specs.Rules.Items.Item.{Told}
 use Rattle.tree_specs.specs.Rules.Sequence.{CallStart, Scene}
 use Rattle.tree_specs.specs.Rules.Answers.{freed_reply, later}
-use Rattle.tree_specs.specs.Machine.Table.{notes, resume, reply_in, heard_in}
-use Rattle.tree_specs.specs.Machine.Profiles.{Waits, Never, AFree, ARun, AChild, ATurn, AHandler, AClear, profile}
+use Rattle.tree_specs.specs.Machine.Table.{notes, resume, reply_in, value_in, heard_in}
+use Rattle.tree_specs.specs.Machine.Profiles.{Waits, Never, AFree, ARun, AChild, ATurn, AHandler, AClear, ARequest, AReceived, AServed, ARoutine, ARelease, profile}
 use Rattle.tree_specs.specs.Promises.Orderly.{Fits, RefusedJustNow}
 use Rattle.tree_specs.specs.Promises.Grounded.{IsGrounded, AnsweredCall, HeldCall, CausedCall, IsItem, AsksHook}
 use Rattle.tree_specs.specs.Invariants.Sound.{AllWait}
@@ -39,8 +45,8 @@ use Rattle.tree_specs.proofs.Tree.Numbered.{same-equal}
 use Rattle.tree_specs.specs.Machine.Meaning.{noted_table}
 use Rattle.tree_specs.proofs.Promises.Later.{later-same}
 use Rattle.tree_specs.proofs.Promises.Past.{IsLeaving, Accounts, Past, past-goes}
-use Rattle.tree_specs.proofs.Promises.Causes.{NotedWork, item_of, told, IsFreeOf, IsAskedAs, IsHook, IsNoHook, IsRunAs, FreesBy, TurnsOrAsks, Knows, KnowsTurn, StandsFor, StandsOn, Stacked, OfNext, IsCaused, Cause, NotHeld}
-use Rattle.tree_specs.proofs.Invariants.Waiters.{Waiter, ForFree, ForRun, ForChild, ForTurn, ForHandler, ForClear, waiter}
+use Rattle.tree_specs.proofs.Promises.Causes.{NotedWork, item_of, told, IsFreeOf, IsAskedAs, IsHook, IsNoHook, IsRunAs, FreesBy, TurnsOrAsks, Knows, KnowsTurn, StandsFor, StandsOn, Stacked, OfNext, IsCaused, Cause, NotHeld, done-reply, cancelled-done}
+use Rattle.tree_specs.proofs.Invariants.Waiters.{Waiter, ForFree, ForRun, ForChild, ForTurn, ForHandler, ForClear, ForRequest, ForServed, ForReceived, ForRoutine, ForRelease, waiter}
 
 abbrev pub work_of : NotedWork → Frame
 work_of w = w.work
@@ -77,6 +83,11 @@ restacked f f' (w ∷ ws) free run s = (stands (profile w.work).waits s.0, s.1)
     stands (AHandler x) h = run IsNoHook h
     stands ATurn h = h
     stands (AClear x) h = h
+    stands ARequest h = h
+    stands (AReceived x) h = h
+    stands (AServed x) h = h
+    stands (ARoutine x) h = run IsNoHook h
+    stands (ARelease c) h = h
     stands Never h = tt
 
 -- what holds of each work that may stand right below
@@ -145,7 +156,12 @@ caused-reply scenes x (Some b) a k h = let e = each b.call k.0 k.1 in (just-now 
         (for-unlink o a h)
     each _ e n = absurd e
 
--- the reply to a call that takes a turn, or asks the outside
+-- a reply that is no refusal follows none
+pub just-now : (items : List Item) (r : Reply) → IsNoRefusal r → RefusedJustNow items (Told (Replied r))
+just-now items (reply.No why) h = absurd h
+just-now items _ h = tt
+
+-- the reply to a call that takes a turn, asks the outside, or has an errand of a request done
 pub caused-turn : (scenes : List Scene) (b : Option CallStart) (r : Reply) → KnowsTurn b → RefusedJustNow (told scenes) (Told (Replied r)) → IsCaused scenes b r
 caused-turn scenes None r k now = absurd k
 caused-turn scenes (Some b) r k now = let e = each b.call k in (now, e.0, e.1, e.2)
@@ -161,6 +177,7 @@ caused-turn scenes (Some b) r k now = let e = each b.call k in (now, e.0, e.1, e
 abbrev pub AnswersTo : List Scene → Answer → Frame → Option CallStart → Type 0
 AnswersTo scenes a (frame.Call (Awaiting q x)) b = ReplyCause scenes b x (reply_in a)
 AnswersTo scenes a (frame.Free (Hooked x h)) b = LastIs (AsksHook x) scenes
+AnswersTo scenes a (frame.Call (Requesting q)) b = RefusedJustNow (told scenes) (Told (Replied (heard_in a)))
 AnswersTo scenes a (frame.Call (Turning q)) b = RefusedJustNow (told scenes) (Told (Replied (heard_in a)))
 AnswersTo scenes a f b = Unit {0}
 
@@ -171,6 +188,11 @@ resumed scenes f b (w ∷ ws) p a past stays stacked wait h = below w.work (wait
   where
     goes : (g g' : Frame) → Past (told scenes) f (g ∷ map work_of ws) p → Accounts (told scenes) g' → Past (told scenes) g' (map work_of ws) p
     goes g g' past account = past-goes (told scenes) f g' (g ∷ map work_of ws) (map work_of ws) p p past (later-same p) (λ x l. absurd (stays x l)) account past.all_account.1
+
+    after : (what : What) (x : Obj) (k : Handler) (errand : Errand) → Cause scenes (resume (frame.Request (request.Called what x k errand)) a) w.note ws p
+    after whats.Cleanup x k errand = tt
+    after whats.Cancel x k errand = cancelled-done (value_in a)
+    after _ x k errand = done-reply errand
 
     below : (g : Frame) → Waiter g → Past (told scenes) f (g ∷ map work_of ws) p → StandsOn f g w.note → Stacked g ws → AnswersTo scenes a g w.note → Known scenes (with_note w.note (resume g a)) ws p
     below _ (ForFree q x) past on under h =
@@ -192,6 +214,33 @@ resumed scenes f b (w ∷ ws) p a past stays stacked wait h = below w.work (wait
           stacked = restacked (frame.Call (Turning q)) (frame.Call (Telling (later q r) r)) ws (λ y k. k) (λ y k. later-hook y q r k) under;
           cause = caused-turn scenes w.note r on h;
         }
+    below _ (ForRequest q) past on under h =
+        let r : Reply = heard_in a in
+        record {
+          past = goes _ (frame.Call (Telling (later q r) r)) past tt;
+          stacked = restacked (frame.Call (Requesting q)) (frame.Call (Telling (later q r) r)) ws (λ y k. k) (λ y k. later-hook y q r k) under;
+          cause = caused-turn scenes w.note r on h;
+        }
+    below _ (ForServed x) past on under h = record {
+      past = goes _ _ past tt;
+      stacked = restacked (frame.Turn (Serving x)) _ ws (λ y l. l) (λ y l. l) under;
+      cause = tt;
+    }
+    below _ (ForReceived x) past on under h = record {
+      past = goes _ _ past tt;
+      stacked = restacked (frame.Free (Preparing x)) _ ws (λ y l. l) (λ y l. l) under;
+      cause = tt;
+    }
+    below _ (ForRoutine what x k errand) past on under h = record {
+      past = goes _ _ past tt;
+      stacked = restacked (frame.Request (request.Called what x k errand)) _ ws (λ y l. l) (λ y l. l) under;
+      cause = after what x k errand;
+    }
+    below _ (ForRelease c) past on under h = record {
+      past = goes _ _ past tt;
+      stacked = restacked (frame.Request (request.Releasing c)) _ ws (λ y l. l) (λ y l. l) under;
+      cause = tt;
+    }
     below _ (ForHandler w x k occasion) past on under h = record {
       past = goes _ _ past tt;
       stacked = restacked (frame.Turn (Handling w x k occasion)) _ ws (λ y l. l) (λ y l. l) under;

@@ -9,7 +9,7 @@ use Rattle.tree_specs.specs.declared.notice.Notice.TheVariants as notices
 use Rattle.tree_specs.specs.declared.row.Row.{Row}
 use Rattle.std.specs.List.{list_any}
 use Rattle.tree_specs.specs.Tree.Targets.{newest_ref}
-use Rattle.std.proofs.Common.{◌≡◌, ℕ, List, [], ◌∷◌, ◌++◌, Option, Some, None, true, refl, sym, subst, map, false}
+use Rattle.std.proofs.Common.{◌≡◌, ℕ, nat_eq, List, [], ◌∷◌, ◌++◌, Option, Some, None, true, refl, sym, subst, map, false}
 use Rattle.step_machine.specs.Machine.{Move as Do}
 use Rattle.step_machine.specs.Noted.{noted_work, with_note, scene}
 use Rattle.tree_specs.specs.declared.object.Obj.{Obj}
@@ -22,7 +22,7 @@ use Rattle.tree_specs.specs.declared.reply.Reply.{Reply}
 use Rattle.tree_specs.specs.declared.event.Event.TheVariants.{Replied, Warned, Closed}
 use Rattle.tree_specs.specs.declared.frame.Frame.{Frame}
 use Rattle.tree_specs.specs.declared.frame.Frame.TheVariants as frame
-use Rattle.tree_specs.specs.declared.frame.CallFrame.TheVariants.{Asking, Doing, Awaiting, Turning, Announcing, Telling, Returning}
+use Rattle.tree_specs.specs.declared.frame.CallFrame.TheVariants.{Asking, Doing, Awaiting, Turning, Requesting, Announcing, Telling, Returning}
 use Rattle.tree_specs.specs.declared.frame.FreeFrame.TheVariants.{Unlinking, Beginning, Looping}
 use Rattle.tree_specs.specs.declared.frame.Purpose.TheVariants.{Emptying}
 use Rattle.tree_specs.specs.declared.frame.Answer.TheVariants as answer
@@ -33,22 +33,31 @@ use Rattle.tree_specs.specs.Calls.Refusals.{Check, refusals, tests, is_held}
 use Rattle.tree_specs.specs.Rules.Sequence.{CallStart, Scene}
 use Rattle.tree_specs.specs.Rules.Answers.{later}
 use Rattle.tree_specs.specs.Machine.Table.{notes, step, taken, plan_step, turning_step}
-use Rattle.tree_specs.specs.Promises.Orderly.{Fits, accepts, drops, frees as tells_free}
+use Rattle.tree_specs.specs.Promises.Orderly.{Fits, accepts, drops, has_state_from, frees as tells_free}
 use Rattle.tree_specs.specs.Promises.Orderly.{asks_hook}
 use Rattle.tree_specs.specs.Promises.Grounded.{AsksHook}
 use Rattle.tree_specs.specs.Invariants.Sound.{AllWait, claim, claims, phases, Refers, Sound}
 use Rattle.tree_specs.specs.Invariants.Consistent.{IsConsistent, IsStacked, Serves}
-use Rattle.tree_specs.proofs.Tree.Numbered.{same-equal}
+use Rattle.tree_specs.proofs.Tree.Numbered.{by_test, same-equal}
 use Rattle.tree_specs.proofs.Calls.Checks.{all-pass, Heard, HeardCall, HeardReturn, heard-leads}
-use Rattle.tree_specs.proofs.Calls.Plans.{May, follows, may-planned}
+use Rattle.tree_specs.proofs.Calls.Plans.{MayWork, May, may-planned}
+use Rattle.tree_specs.proofs.Calls.Changes.{follows}
 use Rattle.tree_specs.specs.Tree.Forest.{Distinct}
-use Rattle.tree_specs.specs.Calls.Plans.{Plan, plan, planned, unless_refused, changed_by, frees}
-use Rattle.tree_specs.specs.Calls.Plans.Plan.{Does, Frees, Unlinks, Empties, Asks, Turns}
+use Rattle.tree_specs.specs.Calls.Plans.{Plan, plan, planned, unless_refused, changed_by, frees, replies, failure_in, failure_reply, progress_reply}
+use Rattle.tree_specs.specs.Calls.Plans.Plan.{Does, Frees, Unlinks, Empties, Asks, Turns, Works}
+use Rattle.tree_specs.specs.declared.request.Note.{Note}
+use Rattle.tree_specs.specs.declared.request.State.{State}
+use Rattle.tree_specs.specs.declared.request.State.TheVariants as state
+use Rattle.tree_specs.specs.declared.frame.Errand.{Errand}
+use Rattle.tree_specs.specs.declared.frame.Errand.TheVariants.{Finish, Notify, Receive, Cancel}
+use Rattle.tree_specs.specs.declared.frame.RequestFrame.{RequestFrame}
+use Rattle.tree_specs.specs.declared.frame.RequestFrame.TheVariants as request
+use Rattle.tree_specs.specs.Events.Requests.{note_of, is_in_progress}
 use Rattle.tree_specs.proofs.Invariants.Changes.{running-row, claim-here}
 use Rattle.tree_specs.proofs.Promises.Later.{Later, later-same}
 use Rattle.tree_specs.proofs.Promises.Past.{Accounts, Past, past-goes, past-tells, unfreed, unaccepted}
 use Rattle.tree_specs.proofs.Promises.Causes.{NotedWork, told, IsFreeOf, IsAskedAs, IsHook, TurnsOrAsks, FreesBy, StandsOn, Stacked, IsCaused, IsAskedFor, Cause, NotHeld}
-use Rattle.tree_specs.proofs.Invariants.Waiters.{Waiter, ForFree, ForRun, ForChild, ForTurn, ForHandler, ForClear, waiter}
+use Rattle.tree_specs.proofs.Invariants.Waiters.{Waiter, ForFree, ForRun, ForChild, ForTurn, ForHandler, ForClear, ForRequest, ForServed, ForReceived, ForRoutine, ForRelease, waiter}
 use Rattle.tree_specs.proofs.Calls.OwnRefusals.{AllOwn, own-refused, own-just-now, own-call}
 use Rattle.tree_specs.proofs.Promises.Fitting.{last-more, fits-replied, fits-quiet, fits-asked, fits-handler, fits-warned, fits-closed}
 use Rattle.tree_specs.proofs.Promises.Fine.{work_of, Known, FineBy, restacked, of-next, from-next, later-hook, AnswersTo, resumed, caused-turn, known-told, taken-noted}
@@ -82,13 +91,18 @@ asking-fine scenes q b ws p whole known = (
     of-hook _ gs n (ForChild x c noted purpose) on seat claimed = absurd on
     of-hook _ gs n (ForTurn a) on seat claimed = absurd seat
     of-hook _ gs n (ForClear x) on seat claimed = absurd seat
+    of-hook _ gs n (ForRoutine w x h errand) on seat claimed = fits-handler (told scenes) q on
+    of-hook _ gs n (ForRequest a) on seat claimed = absurd seat
+    of-hook _ gs n (ForServed x) on seat claimed = absurd seat
+    of-hook _ gs n (ForReceived x) on seat claimed = absurd seat
+    of-hook _ gs n (ForRelease x) on seat claimed = absurd seat
 
     fits : (us : List NotedWork) → IsStacked f (map work_of us) → AllWait (map work_of us) → Stacked f us → ((x : Obj) → claims x (map work_of us) ≡ phases (row_of p.rows x)) → Fits (told scenes) (Asked q)
     fits [] seated wait on claimed = fits-quiet (told scenes) q seated
     fits (u ∷ us) seated wait on claimed = of-hook u.work (map work_of us) u.note (waiter u.work (map work_of us) wait.0) on.0 seated.0 claimed
 
     past : Past (told scenes ++ Asked q ∷ []) f (map work_of ws) p
-    past = past-tells (told scenes) (Asked q) f (map work_of ws) p (λ x. refl) (λ x. refl) (λ x. refl) known.past
+    past = past-tells (told scenes) (Asked q) f (map work_of ws) p (λ x. refl) (λ x. refl) (λ x. refl) (λ x k. refl) known.past
 
     goes : (g : Frame) → Accounts (told scenes ++ Asked q ∷ []) g → Past (told scenes ++ Asked q ∷ []) g (map work_of ws) p
     goes g a = past-goes (told scenes ++ Asked q ∷ []) f g (map work_of ws) (map work_of ws) p p past (later-same p) (λ x l. absurd l) a past.all_account
@@ -116,7 +130,7 @@ telling-fine scenes q r b ws p known =
     let f : Frame = frame.Call (Telling q r) in
     let g : Frame = frame.Call (Asking q) in
     let e : Item = Told (Replied r) in
-    let past = past-tells (told scenes) e f (map work_of ws) p (λ x. refl) (λ x. refl) (λ x. refl) known.past in (
+    let past = past-tells (told scenes) e f (map work_of ws) p (λ x. refl) (λ x. refl) (λ x. refl) (λ x k. refl) known.past in (
       (fits-replied (told scenes) r known.cause.0, record { answered = known.cause.1; held = known.cause.2; caused = known.cause.3; started = tt }),
       known-told scenes (scene notes f b p e) (with_note None g) ws p
           (past-goes (told scenes ++ e ∷ []) f g (map work_of ws) (map work_of ws) p p past (later-same p) (λ x l. absurd l) tt past.all_account)
@@ -128,13 +142,13 @@ pub announcing-fine : (scenes : List Scene) (q : Ask) (notice : Notice) (r : Rep
     → Known scenes (with_note b (frame.Call (Announcing q notice r))) ws p → FineBy scenes (frame.Call (Announcing q notice r)) b p (step (frame.Call (Announcing q notice r)) p) ws
 announcing-fine scenes q notice r b ws p known = each notice known
   where
-    next : (notice : Notice) (e : Item) → ((x : Obj) → accepts x e ≡ false) → ((x : Obj) → tells_free x e ≡ false) → ((x : Obj) → drops x e ≡ false)
+    next : (notice : Notice) (e : Item) → ((x : Obj) → accepts x e ≡ false) → ((x : Obj) → tells_free x e ≡ false) → ((x : Obj) → drops x e ≡ false) → ((x : Obj) (k : ℕ) → has_state_from k x e ≡ false)
         → Known scenes (with_note b (frame.Call (Announcing q notice r))) ws p
         → Known (scenes ++ scene notes (frame.Call (Announcing q notice r)) b p e ∷ []) (with_note b (frame.Call (Telling q r))) ws p
-    next notice e accepts_none frees_none drops_none known =
+    next notice e accepts_none frees_none drops_none states_none known =
         let f : Frame = frame.Call (Announcing q notice r) in
         let g : Frame = frame.Call (Telling q r) in
-        let past = past-tells (told scenes) e f (map work_of ws) p accepts_none frees_none drops_none known.past in
+        let past = past-tells (told scenes) e f (map work_of ws) p accepts_none frees_none drops_none states_none known.past in
         known-told scenes (scene notes f b p e) (with_note b g) ws p
         (past-goes (told scenes ++ e ∷ []) f g (map work_of ws) (map work_of ws) p p past (later-same p) (λ y l. absurd l) tt past.all_account)
         (restacked f g ws (λ y h. h) (λ y h. h) known.stacked) (known.cause.0 (scenes ++ scene notes f b p e ∷ []))
@@ -142,7 +156,7 @@ announcing-fine scenes q notice r b ws p known = each notice known
     each : (notice : Notice) → Known scenes (with_note b (frame.Call (Announcing q notice r))) ws p → FineBy scenes (frame.Call (Announcing q notice r)) b p (step (frame.Call (Announcing q notice r)) p) ws
     each (notices.Warned x) known = (
       (fits-warned (told scenes) x (there (row_of p.rows x) refl), record { answered = tt; held = tt; caused = tt; started = tt }),
-      next (notices.Warned x) (Told (Warned x)) (λ y. refl) (λ y. refl) (λ y. refl) known,
+      next (notices.Warned x) (Told (Warned x)) (λ y. refl) (λ y. refl) (λ y. refl) (λ y k. refl) known,
     )
       where
         there : (o : Option Row) → row_of p.rows x ≡ o → list_any (tells_free x) (told scenes) ≡ false
@@ -150,7 +164,7 @@ announcing-fine scenes q notice r b ws p known = each notice known
         there (Some row) e = unfreed (told scenes) (frame.Call (Announcing q (notices.Warned x) r)) (map work_of ws) p x row known.past e
     each (notices.Closed fd) known = (
       (fits-closed (told scenes) fd, record { answered = tt; held = tt; caused = tt; started = tt }),
-      next (notices.Closed fd) (Told (Closed fd)) (λ y. refl) (λ y. refl) (λ y. refl) known,
+      next (notices.Closed fd) (Told (Closed fd)) (λ y. refl) (λ y. refl) (λ y. refl) (λ y k. refl) known,
     )
 
 pub returning-fine : (scenes : List Scene) (v : ℕ) (b : Option CallStart) (ws : List NotedWork) (p : Pool) → AllWait (map work_of ws)
@@ -174,6 +188,7 @@ CausedBy p c (Unlinks o x) = FreesBy x c × NotHeld c p
 CausedBy p c (Empties x) = FreesBy x c × NotHeld c p
 CausedBy p c (Asks q) = TurnsOrAsks c
 CausedBy p c Turns = TurnsOrAsks c
+CausedBy p c (Works change errand x) = TurnsOrAsks c
 
 -- what isn't said of a call is a reply that needs no cause
 caused : (p : Pool) (c : Call) → refusals p c ≡ [] → CausedBy p c (plan p c)
@@ -189,6 +204,25 @@ caused p (call.Read fd len) none = tt
 caused p (call.Write fd bytes) none = tt
 caused p call.Now none = tt
 caused p call.Turn none = tt
+caused p (call.Cancel x) none = tt
+caused p (call.Done x) none = tt
+caused p (call.Oom x) none = tt
+caused p (call.Error x error) none = by_test (nat_eq error 0) (λ t. rw t (λ scenes. (tt, tt, tt, tt))) (λ t. rw t tt)
+caused p (call.Received x) none = tt
+caused p (call.Iserror x) none = each (note_of p.requests x)
+  where
+    states : (s : State) (error : ℕ) → CausedBy p (call.Iserror x) (replies (failure_in s error))
+    states state.Done error = λ scenes. (tt, tt, tt, tt)
+    states _ error = λ scenes. (tt, tt, tt, tt)
+
+    each : (o : Option Note) → CausedBy p (call.Iserror x) (replies (failure_reply o))
+    each None = λ scenes. (tt, tt, tt, tt)
+    each (Some n) = states n.state n.error
+caused p (call.Progress x) none = each (note_of p.requests x)
+  where
+    each : (o : Option Note) → CausedBy p (call.Progress x) (replies (progress_reply o))
+    each None = λ scenes. (tt, tt, tt, tt)
+    each (Some n) = by_test (is_in_progress n.state) (λ t. rw t (λ scenes. (tt, tt, tt, tt))) (λ t. rw t (λ scenes. (tt, tt, tt, tt)))
 caused p c none = λ scenes. (tt, tt, tt, tt)
 
 caused-planned : (p : Pool) (c : Call) → Distinct p.rows → Refers p.rows → CausedBy p c (planned p c)
@@ -267,6 +301,24 @@ module _ (scenes : List Scene) (q : Ask) (c : Call) (b : Option CallStart) (ws :
         cause = may;
       }
   planned-next Turns may cause = turning-fine scenes q c b ws p known cause
+  planned-next (Works change errand x) may cause = works errand may.3
+    where
+      begun-work : (g : RequestFrame) → Cause scenes (frame.Request g) None (with_note (Some begun) (frame.Call (Requesting q)) ∷ ws) (changed_by change p)
+          → FineBy scenes (frame.Call (Doing q c)) b p (Do.Call (frame.Request g) (frame.Call (Requesting q)) (changed_by change p)) ws
+      begun-work g cause-of =
+          let f : Frame = frame.Call (Doing q c) in
+          let h : Frame = frame.Call (Requesting q) in
+          record {
+            past = past-goes (told scenes) f (frame.Request g) (map work_of ws) (h ∷ map work_of ws) p (changed_by change p) known.past (follows p change may.0).later (λ y l. absurd l) tt (tt, known.past.all_account);
+            stacked = (cause, restacked f h ws (λ y h. h) (λ y h. h) known.stacked);
+            cause = cause-of;
+          }
+
+      works : (errand : Errand) → MayWork (changed_by change p) errand x → FineBy scenes (frame.Call (Doing q c)) b p (plan_step q (Works change errand x) p) ws
+      works (Finish s) work = begun-work (request.Finishing x s) tt
+      works Receive work = begun-work (request.Receiving x) tt
+      works Cancel work = begun-work (request.Cancelling x) tt
+      works Notify work = absurd work
 
 pub doing-fine : (scenes : List Scene) (q : Ask) (c : Call) (b : Option CallStart) (ws : List NotedWork) (p : Pool) → Sound (frame.Call (Doing q c)) (map work_of ws) p
     → Known scenes (with_note b (frame.Call (Doing q c))) ws p → FineBy scenes (frame.Call (Doing q c)) b p (step (frame.Call (Doing q c)) p) ws

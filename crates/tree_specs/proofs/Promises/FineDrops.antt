@@ -1,6 +1,7 @@
 -- What a free tells that begins, drops references or ends fits what was told before.
 use Rattle.std.specs.Prelude.{unwrap_or}
-use Rattle.tree_specs.proofs.Invariants.KeptFrees.{apart, given_up-object}
+use Rattle.tree_specs.proofs.Invariants.KeptFrees.{apart}
+use Rattle.tree_specs.proofs.Invariants.KeptGivings.{given_up-object}
 use Rattle.tree_specs.proofs.Tree.Referring.{newest-refers, newest-of-refers}
 use Rattle.tree_specs.specs.Calls.Refusals.{is_running, is_running_row}
 use Rattle.tree_specs.specs.Tree.Targets.{newest_ref}
@@ -19,7 +20,7 @@ use Rattle.tree_specs.specs.declared.event.Event.TheVariants.{Moved, Unreference
 use Rattle.tree_specs.specs.declared.frame.Frame.{Frame}
 use Rattle.tree_specs.specs.declared.frame.Frame.TheVariants as frame
 use Rattle.tree_specs.specs.declared.frame.FreeFrame.{FreeFrame}
-use Rattle.tree_specs.specs.declared.frame.FreeFrame.TheVariants.{Unlinking, Releasing, Giving, Beginning, Hooked, Dooming, Leaving, Ending}
+use Rattle.tree_specs.specs.declared.frame.FreeFrame.TheVariants.{Unlinking, Releasing, Giving, Beginning, Hooked, Preparing, Dooming, Leaving, Ending}
 use Rattle.tree_specs.specs.declared.frame.Answer.{Answer}
 use Rattle.tree_specs.specs.declared.frame.Answer.TheVariants as answer
 use Rattle.tree_specs.specs.declared.free_step.FreeReply.{FreeReply}
@@ -28,7 +29,8 @@ use Rattle.tree_specs.specs.Tree.Pool.{Pool, row_of, is_row, owner_of, remove, p
 use Rattle.tree_specs.specs.Rules.Items.{Item}
 use Rattle.tree_specs.specs.Rules.Items.Item.{Told}
 use Rattle.tree_specs.specs.Rules.Sequence.{CallStart, Scene}
-use Rattle.tree_specs.specs.Machine.FreeTable.{begin_quiet, begin_step, refs_step, unlink_step, release_step}
+use Rattle.tree_specs.specs.Machine.FreeTable.{begin_plain, begin_quiet, begin_step, refs_step, unlink_step, release_step}
+use Rattle.tree_specs.specs.Calls.Refusals.{is_request}
 use Rattle.tree_specs.specs.Events.Rotation.{closes_with}
 use Rattle.tree_specs.specs.Machine.Table.{notes, step, closed_event, announced, lifted}
 use Rattle.tree_specs.specs.Promises.Orderly.{frees}
@@ -114,7 +116,7 @@ module _ (scenes : List Scene) (b : Option CallStart) (ws : List NotedWork) (p :
       let s : Scene = scene notes (frame.Free f) b p e in (
         (fits-closed (told scenes) fd, record { answered = tt; held = tt; caused = tt; started = tt }),
         known-told scenes s (with_note None (frame.Free g)) ws q
-            (past (told scenes ++ e ∷ []) (past-tells (told scenes) e (frame.Free f) (map work_of ws) p (λ x. refl) (λ x. refl) (λ x. refl) known.past)) stacked (cause (scenes ++ s ∷ [])),
+            (past (told scenes ++ e ∷ []) (past-tells (told scenes) e (frame.Free f) (map work_of ws) p (λ x. refl) (λ x. refl) (λ x. refl) (λ x k. refl) known.past)) stacked (cause (scenes ++ s ∷ [])),
       )
 
   -- a reference is dropped
@@ -178,9 +180,8 @@ module _ (scenes : List Scene) (b : Option CallStart) (ws : List NotedWork) (p :
       Step : Move Frame Answer Pool Item → Type 0
       Step m = FineBy scenes f b p m ws
 
-      quiet : (r : Row) → row_of p.rows x ≡ Some r → r.mark ≡ mark.Quiet → Step (lifted p.ring (begin_quiet x r.hook p))
-      quiet r e m =
-          let live : IsLive r.mark = rw m tt in
+      plain : (r : Row) → row_of p.rows x ≡ Some r → IsLive r.mark → Step (lifted p.ring (begin_plain x r.hook p))
+      plain r e live =
           by_test (nat_eq r.hook 0)
           (λ t. rw t (record {
             past = past-goes (told scenes) f (frame.Free (Leaving x 0)) (map work_of ws) (map work_of ws) p p known.past (later-same p) (λ y l. absurd l)
@@ -194,13 +195,24 @@ module _ (scenes : List Scene) (b : Option CallStart) (ws : List NotedWork) (p :
             cause = tt;
           }))
 
+      quiet : (r : Row) → row_of p.rows x ≡ Some r → r.mark ≡ mark.Quiet → Step (lifted p.ring (begin_quiet x r.kind r.hook p))
+      quiet r e m =
+          let live : IsLive r.mark = rw m tt in
+          by_test (is_request r.kind)
+          (λ t. rw t (record {
+            past = past-goes (told scenes) f (frame.Free (Preparing x)) (map work_of ws) (map work_of ws) p (set_mark p x mark.Asked) known.past (later-marked p x r mark.Asked e live) (λ y l. absurd l) tt known.past.all_account;
+            stacked = restacked f (frame.Free (Preparing x)) ws (λ y h. h) (λ y h. h) known.stacked;
+            cause = tt;
+          }))
+          (λ u. rw u (plain r e live))
+
       runs : is_running p x ≡ true → Step (Do.Done (answer.Freed free_reply.Running) p)
       runs run = said-fine (Beginning x) x (λ y h. h) (λ y l. l) whole known (ran-then x run whole.sound.waiting known.stacked known.cause)
 
       dooms : (r : Row) → row_of p.rows x ≡ Some r → r.mark ≡ mark.Busy → is_running p x ≡ true → Step (announced (closed_event (closes_with p.ring x)) (Dooming x) (doom p x))
       dooms r e m run = closing-fine (Beginning x) (Dooming x) (closes_with p.ring x) (doom p x)
           (λ items past. past-goes items f (frame.Free (Dooming x)) (map work_of ws) (map work_of ws) p (doom p x) past
-          (later-rows (later-marked p x r mark.Doomed e (rw m tt)) refl refl) (λ y l. absurd l) tt past.all_account)
+          (later-rows (later-marked p x r mark.Doomed e (rw m tt)) refl refl refl) (λ y l. absurd l) tt past.all_account)
           (restacked f (frame.Free (Dooming x)) ws (λ y h. h) (λ y h. h) known.stacked)
           (λ more. ran-then x run whole.sound.waiting known.stacked known.cause) known
 
@@ -262,7 +274,7 @@ module _ (scenes : List Scene) (b : Option CallStart) (ws : List NotedWork) (p :
       let g : Frame = frame.Free (Ending free_reply.Ok) in
       let may = whole.sound.rests in
       let child : is_row p.rows x ≡ true = rw may.is refl in
-      let past = past-tells (told scenes) (Told (Moved x o)) f (map work_of ws) p (λ y. refl) (λ y. refl) (λ y. refl) known.past in (
+      let past = past-tells (told scenes) (Told (Moved x o)) f (map work_of ws) p (λ y. refl) (λ y. refl) (λ y. refl) (λ y k. refl) known.past in (
         (fits-moved (told scenes) p.rows x o (λ y e. there y (row_of p.rows y) refl e) child may.there, record { answered = tt; held = tt; caused = tt; started = tt }),
         known-told scenes (scene notes f b p (Told (Moved x o))) (with_note None g) ws (place p o x)
             (past-goes (told scenes ++ Told (Moved x o) ∷ []) f g (map work_of ws) (map work_of ws) p (place p o x) past (later-placed p o x may.row may.is) (λ y l. absurd l) tt past.all_account)

@@ -95,8 +95,8 @@ module _ (scenes : List Scene) (b : Option CallStart) (ws : List NotedWork) (p :
             (fits-refused (told scenes) x free there v, record { answered = tt; held = tt; caused = tt; started = tt }),
             known-told scenes (scene notes f b p (Told (Refused x v))) (with_note None (frame.Free (Ending (free_reply.Refused v)))) ws (set_mark p x mark.Quiet)
                 (past-goes (told scenes ++ Told (Refused x v) ∷ []) f (frame.Free (Ending (free_reply.Refused v))) (map work_of ws) (map work_of ws) p (set_mark p x mark.Quiet)
-                (past-tells (told scenes) (Told (Refused x v)) f (map work_of ws) p (λ y. refl) (λ y. refl) (λ y. refl) known.past) (later-marked p x r mark.Quiet e live) (λ y l. absurd l) tt
-                (past-tells (told scenes) (Told (Refused x v)) f (map work_of ws) p (λ y. refl) (λ y. refl) (λ y. refl) known.past).all_account)
+                (past-tells (told scenes) (Told (Refused x v)) f (map work_of ws) p (λ y. refl) (λ y. refl) (λ y. refl) (λ y k. refl) known.past) (later-marked p x r mark.Quiet e live) (λ y l. absurd l) tt
+                (past-tells (told scenes) (Told (Refused x v)) f (map work_of ws) p (λ y. refl) (λ y. refl) (λ y. refl) (λ y k. refl) known.past).all_account)
                 (restacked f (frame.Free (Ending (free_reply.Refused v))) ws (λ y k. tt) (λ y k. k) known.stacked)
                 (of-next (IsRefusedFor (scenes ++ scene notes f b p (Told (Refused x v)) ∷ []) (free_reply.Refused v)) f ws whole.sound.waiting known.stacked
                 (refused-now (scene notes f b p (Told (Refused x v))) x h v v refl)),
@@ -179,7 +179,7 @@ module _ (scenes : List Scene) (b : Option CallStart) (ws : List NotedWork) (p :
       moves t =
           let may = heir-placed x c noted f (map work_of ws) p whole.sound t in
           let child : is_row p.rows c ≡ true = rw may.is refl in
-          let past = past-tells (told scenes) (Told (Moved c o)) f (map work_of ws) p (λ y. refl) (λ y. refl) (λ y. refl) known.past in (
+          let past = past-tells (told scenes) (Told (Moved c o)) f (map work_of ws) p (λ y. refl) (λ y. refl) (λ y. refl) (λ y k. refl) known.past in (
             (fits-moved (told scenes) p.rows c o there child may.there, record { answered = tt; held = tt; caused = tt; started = tt }),
             known-told scenes (scene notes f b p (Told (Moved c o))) (with_note None g) ws (place p o c)
                 (past-goes (told scenes ++ Told (Moved c o) ∷ []) f g (map work_of ws) (map work_of ws) p (place p o c) past (later-placed p o c may.row may.is) (λ y l. absurd l) past.accounts past.all_account)

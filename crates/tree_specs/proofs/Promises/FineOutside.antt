@@ -3,43 +3,36 @@ use Rattle.std.proofs.Common.{◌≡◌, List, [], ◌∷◌, ◌++◌, Option, 
 use Rattle.step_machine.specs.Machine.{Move as Do}
 use Rattle.step_machine.specs.Noted.{scene, with_note, noted_work}
 use Rattle.tree_specs.specs.declared.object.Obj.{Obj}
-use Rattle.tree_specs.specs.declared.event.Event.TheVariants.{Replied}
 use Rattle.tree_specs.specs.declared.question.Ask.{Ask}
 use Rattle.tree_specs.specs.declared.question.Ask.TheVariants as ask
 use Rattle.tree_specs.specs.declared.question.Input.{Input}
 use Rattle.tree_specs.specs.declared.reply.Reply.{Reply}
-use Rattle.tree_specs.specs.declared.reply.Reply.TheVariants.{No, Number}
+use Rattle.tree_specs.specs.declared.reply.Reply.TheVariants.{Number}
 use Rattle.tree_specs.specs.declared.frame.Frame.{Frame}
 use Rattle.tree_specs.specs.declared.frame.Frame.TheVariants as frame
 use Rattle.tree_specs.specs.declared.frame.OutsideFrame.{OutsideFrame}
 use Rattle.tree_specs.specs.declared.frame.OutsideFrame.TheVariants.{Reaching, Opening, Hearing}
 use Rattle.tree_specs.specs.declared.frame.Answer.TheVariants as answer
 use Rattle.tree_specs.specs.Tree.Pool.{Pool, open_descriptor}
-use Rattle.tree_specs.specs.Rules.Items.{Item}
-use Rattle.tree_specs.specs.Rules.Items.Item.{Told, Asked}
+use Rattle.tree_specs.specs.Rules.Items.Item.{Asked}
 use Rattle.tree_specs.specs.Rules.Sequence.{CallStart, Scene}
 use Rattle.tree_specs.specs.Machine.Table.{notes, taken, outside_step, opening_one, hearing_one}
-use Rattle.tree_specs.specs.Promises.Orderly.{RefusedJustNow, asks_hook}
+use Rattle.tree_specs.specs.Promises.Orderly.{asks_hook}
 use Rattle.tree_specs.specs.Invariants.Consistent.{IsConsistent}
 use Rattle.tree_specs.proofs.Calls.Checks.{Reaches, IsOpened, IsTold, IsAnswered, reached-by}
 use Rattle.tree_specs.proofs.Calls.Plans.{IsOutside}
-use Rattle.tree_specs.proofs.Invariants.Waiters.{Waiter, ForRun, ForTurn}
+use Rattle.tree_specs.proofs.Invariants.Waiters.{Waiter, ForRun, ForTurn, ForRequest}
 use Rattle.tree_specs.proofs.Promises.Answering.{IsNoRefusal, given-answers}
 use Rattle.tree_specs.proofs.Promises.Later.{Later, later-same, later-waiting}
 use Rattle.tree_specs.proofs.Promises.Past.{Past, past-goes, past-tells}
 use Rattle.tree_specs.proofs.Promises.Causes.{NotedWork, told, StandsOn, Cause}
 use Rattle.tree_specs.proofs.Promises.Fitting.{fits-question}
-use Rattle.tree_specs.proofs.Promises.Fine.{work_of, Known, FineBy, restacked, of-next, AnswersTo, resumed, known-told, taken-noted}
+use Rattle.tree_specs.proofs.Promises.Fine.{work_of, Known, FineBy, restacked, of-next, AnswersTo, resumed, known-told, taken-noted, just-now}
 
 -- the outside is no destructor
 outside-no-hook : (q : Ask) → IsOutside q → (y : Obj) → asks_hook y (Asked q) ≡ false
 outside-no-hook (ask.Routine m) h y = absurd h
 outside-no-hook _ h y = refl
-
--- a reply that is no refusal follows none
-just-now : (items : List Item) (r : Reply) → IsNoRefusal r → RefusedJustNow items (Told (Replied r))
-just-now items (No why) h = absurd h
-just-now items _ h = tt
 
 module _ (scenes : List Scene) (b : Option CallStart) (ws : List NotedWork) (p : Pool) where
   abbrev AtOutside : OutsideFrame → Type 0
@@ -56,7 +49,7 @@ module _ (scenes : List Scene) (b : Option CallStart) (ws : List NotedWork) (p :
       s = scene notes f b p (Asked q)
 
       past : Past (told scenes ++ Asked q ∷ []) f (map work_of ws) p
-      past = past-tells (told scenes) (Asked q) f (map work_of ws) p (λ x. refl) (λ x. refl) (λ x. refl) known.past
+      past = past-tells (told scenes) (Asked q) f (map work_of ws) p (λ x. refl) (λ x. refl) (λ x. refl) (λ x k. refl) known.past
 
       after : (g : OutsideFrame) → Cause (scenes ++ s ∷ []) (frame.Outside g) None ws p → Known (scenes ++ s ∷ []) (with_note None (frame.Outside g)) ws p
       after g cause = known-told scenes s (with_note None (frame.Outside g)) ws p
@@ -85,9 +78,10 @@ module _ (scenes : List Scene) (b : Option CallStart) (ws : List NotedWork) (p :
       answers : (g : Frame) (n : Option CallStart) → Waiter g → StandsOn (frame.Outside f) g n → AnswersTo scenes (answer.Heard r) g n
       answers _ n (ForRun x h) on = absurd on
       answers _ n (ForTurn a) on = just-now (told scenes) r none
+      answers _ n (ForRequest a) on = just-now (told scenes) r none
       answers _ n _ on = tt
 
   pub outside-fine : (f : OutsideFrame) → AtOutside f
   outside-fine (Reaching q) whole known = reaching-fine q whole known
-  outside-fine (Opening fd) whole known = heard-fine (Opening fd) (open_descriptor p fd) (Number fd) tt (later-waiting p (open_descriptor p fd) refl refl) whole known
+  outside-fine (Opening fd) whole known = heard-fine (Opening fd) (open_descriptor p fd) (Number fd) tt (later-waiting p (open_descriptor p fd) refl refl refl) whole known
   outside-fine (Hearing r) whole known = heard-fine (Hearing r) p r known.cause (later-same p) whole known

@@ -20,7 +20,10 @@ use Rattle.tree_specs.specs.declared.frame.Frame.TheVariants as frame
 use Rattle.tree_specs.specs.declared.frame.CallFrame.TheVariants.{Asking}
 use Rattle.tree_specs.specs.declared.frame.FreeFrame.TheVariants.{Beginning}
 use Rattle.tree_specs.specs.declared.frame.TurnFrame.{TurnFrame}
-use Rattle.tree_specs.specs.declared.frame.TurnFrame.TheVariants.{Taking, Timing, Timed, Polling, Starting, Firing, Handling, Handled, Clearing, Closing}
+use Rattle.tree_specs.specs.declared.frame.TurnFrame.TheVariants.{Taking, Timing, Timed, Polling, Starting, Firing, Handling, Handled, Clearing, Serving, Closing}
+use Rattle.tree_specs.specs.declared.frame.Errand.TheVariants.{Finish, Notify}
+use Rattle.tree_specs.specs.declared.request.State.TheVariants.{TimedOut}
+use Rattle.tree_specs.specs.declared.frame.RequestFrame.TheVariants as request
 use Rattle.tree_specs.specs.declared.frame.Answer.TheVariants as answer
 use Rattle.tree_specs.specs.Tree.Pool.{Pool, row_of, changed, set_mark, marked_row}
 use Rattle.tree_specs.specs.Events.Coming.{comes_as, handler_for, handler_moment, begun, goes_after}
@@ -35,7 +38,7 @@ use Rattle.tree_specs.specs.Invariants.Sound.{claims}
 use Rattle.tree_specs.specs.Invariants.Consistent.{IsConsistent}
 use Rattle.tree_specs.proofs.Tree.Numbered.{by_test}
 use Rattle.tree_specs.proofs.Invariants.Changes.{handling-row, claim-here}
-use Rattle.tree_specs.proofs.Invariants.Turning.{handler-ready, rotated-rows, Passes, Pass, look-passes, taken-plain}
+use Rattle.tree_specs.proofs.Invariants.Turning.{handler-ready, rotated-rows, Passes, Pass, Serve, look-passes, taken-plain}
 use Rattle.tree_specs.proofs.Invariants.Waiters.{Waiter, ForRun}
 use Rattle.tree_specs.proofs.Promises.Later.{Later, later-rows, later-same, later-waiting, later-marked}
 use Rattle.tree_specs.proofs.Promises.Past.{Past, Accounts, past-goes, past-tells, unfreed}
@@ -79,7 +82,10 @@ module _ (scenes : List Scene) (b : Option CallStart) (ws : List NotedWork) (p :
   }
 
   passes : (f : TurnFrame) (m : Step) → Passes p m → Known scenes (with_note b (frame.Turn f)) ws p → FineBy scenes (frame.Turn f) b p m ws
-  passes f _ (Pass g q rows next plain) known = goes f g q (later-waiting p q rows next) known
+  passes f _ (Pass g q rows next notes-are times plain) known = goes f g q (later-waiting p q rows next notes-are) known
+  passes f _ (Serve Notify x q rows next notes-are times served noted) known = begins f (Serving x) (frame.Request (request.Notifying x Notify)) q (later-waiting p q rows next notes-are) tt tt tt known
+  passes f _ (Serve (Finish TimedOut) x q rows next notes-are times served noted) known = begins f (Serving x) (frame.Request (request.Finishing x TimedOut)) q (later-waiting p q rows next notes-are) tt tt tt known
+  passes f _ (Serve _ x q rows next notes-are times served noted) known = absurd served
 
   -- it asks no destructor, and goes on as a turn
   asks : (f : TurnFrame) (q : Ask) → ((y : Obj) → asks_hook y (Asked q) ≡ false) → ((i : Input) (g : Frame) → turn_taken f p i ≡ Some g → (t : TurnFrame) × (g ≡ frame.Turn t))
@@ -91,7 +97,7 @@ module _ (scenes : List Scene) (b : Option CallStart) (ws : List NotedWork) (p :
       s = scene notes (frame.Turn f) b p (Asked q)
 
       past : Past (told scenes ++ Asked q ∷ []) (frame.Turn f) (map work_of ws) p
-      past = past-tells (told scenes) (Asked q) (frame.Turn f) (map work_of ws) p (λ x. refl) (λ x. refl) (λ x. refl) known.past
+      past = past-tells (told scenes) (Asked q) (frame.Turn f) (map work_of ws) p (λ x. refl) (λ x. refl) (λ x. refl) (λ x k. refl) known.past
 
       after : (t : TurnFrame) → Known (scenes ++ s ∷ []) (with_note None (frame.Turn t)) ws p
       after t = known-told scenes s (with_note None (frame.Turn t)) ws p
@@ -116,7 +122,7 @@ module _ (scenes : List Scene) (b : Option CallStart) (ws : List NotedWork) (p :
           let ready = handler-ready p w x h e in
           let r = rotated-rows w x p in
           rw e (goes (Starting w x occasion) (Firing w x h occasion) (begun w x p)
-          (later-rows (later-marked p x ready.row Busy ready.is (rw ready.quiet tt)) (ap (λ (rows : List Row). changed (marked_row Busy) rows x) r.0) r.1) known)
+          (later-rows (later-marked p x ready.row Busy ready.is (rw ready.quiet tt)) (ap (λ (rows : List Row). changed (marked_row Busy) rows x) r.0) r.1 r.2) known)
 
   firing-fine : (w : What) (x : Obj) (h : Handler) (occasion : Occasion) → AtTurn (Firing w x h occasion)
   firing-fine w x h occasion whole known =
@@ -126,7 +132,7 @@ module _ (scenes : List Scene) (b : Option CallStart) (ws : List NotedWork) (p :
       let rests = whole.sound.rests in
       let r : Row = rests.1 in
       let fires : may_fire_row w (row_of p.rows x) ≡ true = rw (rests.2, rests.4) (comes-fires w r.kind rests.3) in
-      let past = past-tells (told scenes) e f (map work_of ws) p (λ y. refl) (λ y. refl) (λ y. refl) known.past in (
+      let past = past-tells (told scenes) e f (map work_of ws) p (λ y. refl) (λ y. refl) (λ y. refl) (λ y k. refl) known.past in (
         (fits-fired (told scenes) w x h.routine (unfreed (told scenes) f (map work_of ws) p x r known.past rests.2), record { answered = tt; held = tt; caused = tt; started = fires }),
         known-told scenes (scene notes f b p e) (with_note None g) ws p
             (past-goes (told scenes ++ e ∷ []) f g (map work_of ws) (map work_of ws) p p past (later-same p) (λ y l. absurd l) tt past.all_account)
@@ -161,4 +167,5 @@ module _ (scenes : List Scene) (b : Option CallStart) (ws : List NotedWork) (p :
       begins (Handling w x h occasion) (Handling w x h occasion) (frame.Call (Asking (ask.Routine (handler_moment w x h occasion)))) p (later-same p) tt (comes-no-hook w whole.sound.rests.1 whole.sound.rests.2) tt known
   turn-fine (Handled w x) whole known = handled-fine w x whole known
   turn-fine (Clearing x) whole known = absurd whole.sound.rests
+  turn-fine (Serving x) whole known = absurd whole.sound.rests
   turn-fine (Closing v) whole known = closing-fine v whole known

@@ -10,7 +10,7 @@ use Rattle.tree_specs.specs.declared.row.Row.{Row}
 use Rattle.tree_specs.specs.declared.question.Ask.{Ask}
 use Rattle.tree_specs.specs.declared.question.Ask.TheVariants as ask
 use Rattle.tree_specs.specs.declared.reply.Reply.{Reply}
-use Rattle.tree_specs.specs.declared.event.Event.TheVariants.{Replied, Fired, Accepted, Refused, Moved, Freed, Warned, Unreferenced, Closed}
+use Rattle.tree_specs.specs.declared.event.Event.TheVariants.{Replied, Fired, Accepted, Refused, Moved, Freed, Warned, Unreferenced, Closed, State}
 use Rattle.tree_specs.specs.declared.moment.What.{What}
 use Rattle.tree_specs.specs.Words.Objects.{same, same_owner}
 use Rattle.tree_specs.specs.Tree.Pool.{row_of, is_row, is_object_row, is_owner}
@@ -121,6 +121,10 @@ fits-moved items rows c o there child owner = fits-by items (Told (Moved c o)) (
       | inl t ↦ there y (subst (λ (z : Obj). is_row rows z ≡ true) (same-true c y t) child)
       | inr t ↦ there y (object-row (row_of rows y) (subst (λ (z : Owner). is_owner rows z ≡ true) (same_owner-true o (Of y) t) owner))
     ]
+
+-- a request that is there goes to a state
+pub fits-state : (items : List Item) (x : Obj) (s : ℕ) → list_any (frees x) items ≡ false → StatesGoUp items (Told (State x s)) → Fits items (Told (State x s))
+fits-state items x s there up = fits-by items (Told (State x s)) (λ y e. cc) (λ y e. subst (λ (z : Obj). list_any (frees z) items ≡ false) (same-true x y e) there) (tt, tt, tt, up)
 
 -- a reference is dropped, and its target is there
 pub fits-dropped : (items : List Item) (r t : Obj) → list_any (drops r) items ≡ false → list_any (frees t) items ≡ false → Fits items (Told (Unreferenced r t))

@@ -20,18 +20,27 @@ use Rattle.tree_specs.specs.declared.free_step.FreeReply.TheVariants as free_rep
 use Rattle.tree_specs.specs.Tree.Targets.{newest_ref}
 use Rattle.tree_specs.specs.Tree.Pool.{Pool, row_of, remove, set_mark, set_hook}
 use Rattle.tree_specs.specs.Calls.Refusals.{Check, refusals}
-use Rattle.tree_specs.specs.Calls.Plans.{Plan, plan, frees, changed_by}
-use Rattle.tree_specs.specs.Calls.Plans.Plan.{Does, Frees, Unlinks, Empties, Asks, Turns}
+use Rattle.tree_specs.specs.declared.request.Note.{Note}
+use Rattle.tree_specs.specs.declared.request.State.{State}
+use Rattle.tree_specs.specs.declared.request.State.TheVariants as state
+use Rattle.tree_specs.specs.declared.frame.Errand.TheVariants.{Finish}
+use Rattle.tree_specs.specs.Events.Requests.{note_of, is_in_progress, failed_with}
+use Rattle.tree_specs.proofs.Rules.RequestLaws.{work-said}
+use Rattle.tree_specs.proofs.Rules.TextLaws.{all-lawful}
+use Rattle.tree_specs.specs.Calls.Plans.Change.{Renotes}
+use Rattle.tree_specs.specs.Calls.Plans.{Plan, plan, frees, changed_by, replies, failure_in, failure_reply, progress_reply}
+use Rattle.tree_specs.specs.Calls.Plans.Plan.{Does, Frees, Unlinks, Empties, Asks, Turns, Works}
 use Rattle.tree_specs.specs.Rules.Items.Item.{Told}
 use Rattle.tree_specs.specs.Rules.Sequence.{Work, Scene}
 use Rattle.tree_specs.specs.Rules.Answers.{hook_moment, freed_reply}
-use Rattle.tree_specs.specs.Rules.Story.{effect, unlink, free, judged, leave, children, asked, numbered, turned, taking, reaching}
+use Rattle.tree_specs.specs.Rules.Story.{unlink, free, judged, leave, children, asked, taking, reaching, finishing, receiving, cancelling, notifying}
+use Rattle.tree_specs.specs.Rules.Pieces.{effect, numbered, turned, work_by}
 use Rattle.tree_specs.specs.declared.question.Ask.TheVariants.{Quiet as AtRest}
 use Rattle.tree_specs.specs.Promises.Refused.{called, Untouched, OnlyDropped, closed_at, told_refusal, LeftByFree, LeftByItsFree, LeftByRefused}
 use Rattle.tree_specs.proofs.Tree.Numbered.{by_test}
 use Rattle.tree_specs.proofs.Promises.Answering.{IsNoRefusal, reaching-answers}
-use Rattle.tree_specs.proofs.Rules.FreeCauses.{leave-ok, unlinked, dropped_scene, FreeGoes, free-goes}
-use Rattle.tree_specs.proofs.Rules.FreeCauses.FreeGoes.{IsOver, ByLeaving, ByAsking, AsRunning, Again, AsHeld}
+use Rattle.tree_specs.proofs.Rules.FreeCauses.{leave-ok, received-ok, unlinked, dropped_scene, FreeGoes, free-goes}
+use Rattle.tree_specs.proofs.Rules.FreeCauses.FreeGoes.{IsOver, ByLeaving, ByReceiving, ByAsking, AsRunning, Again, AsHeld}
 
 -- what a free leaves, with the inputs that it took
 abbrev Leaves : Obj → Pool → List Input → FreeReply → Pool → List Scene → List Input → Type 0
@@ -108,6 +117,7 @@ free-leaves-more : (n : ℕ) (x : Obj) → ((p : Pool) (is : List Input) (a : Fr
     → (p : Pool) (is : List Input) (a : FreeReply) (q : Pool) (ts : List Scene) (left : List Input) → FreeGoes n x p is a q ts left → Leaves x p is a q ts left
 free-leaves-more n x ih p is a q ts left (IsOver k) = let ok : a ≡ free_reply.Ok = cc in ok-leaves x p is a q ts left ok
 free-leaves-more n x ih p is a q ts left (ByLeaving k) = ok-leaves x p is a q ts left (leave-ok n x 0 p is a q ts left k)
+free-leaves-more n x ih p is a q ts left (ByReceiving k) = ok-leaves x p is a q ts left (received-ok n x (set_mark p x mark.Asked) is a q ts left k)
 free-leaves-more n x ih p is a q ts left (ByAsking m h v r us vs mid run judge told) =
     subst (λ (l : List Scene). Leaves x p is a q l left) told (judged-leaves m m x h v p r q is mid left us vs a run judge)
 free-leaves-more n x ih p is a q ts left (AsRunning r ran run is_doomed k) =
@@ -169,7 +179,7 @@ never-refused w why p q is left told e =
     cc
 
 plan-leaves : (n : ℕ) (plan : Plan) (why : Refusal) (p q : Pool) (is left : List Input) (told : List Scene) → AnswersDone plan
-    → effect (free n) (unlink n) (children n) (reaching n) (turned AtRest (taking n)) plan p is ≡ Ended (reply.No why) q told left
+    → effect (free n) (unlink n) (children n) (reaching n) (turned AtRest (taking n)) (work_by (finishing n) (notifying n) (receiving n) (cancelling n)) plan p is ≡ Ended (reply.No why) q told left
     → LeftByPlan plan why p q is left told
 unfolding AnswersDone
 plan-leaves n (Does change notice r) why p q is left told done e =
@@ -188,23 +198,42 @@ plan-leaves n (Empties x) why p q is left told done e =
     cc
 plan-leaves n (Asks outside) why p q is left told done e = reaching-answers n outside (reply.No why) p q is left told e
 plan-leaves n Turns why p q is left told done e = never-refused (taking n) why p q is left told e
+plan-leaves n (Works change errand x) why p q is left told done e = work-said n (all-lawful n) errand x why (changed_by change p) q is left told e
 
 refused-leaves : (c : Call) (why : Refusal) (p q : Pool) (is left : List Input) (told : List Scene) → Untouched p q is left told → LeftByRefused c why p q is left told
 refused-leaves (call.Free x) why p q is left told u = inl u
 refused-leaves (call.Unlink o x) why p q is left told u = inl u
 refused-leaves c why p q is left told u = u
 
+-- what is told of a request is no refusal
+told-failure : (o : Option Note) → IsNoRefusal (failure_reply o)
+told-failure None = tt
+told-failure (Some n) = each n.state
+  where
+    each : (s : State) → IsNoRefusal (failure_in s n.error)
+    each state.Done = tt
+    each _ = tt
+
+told-progress : (o : Option Note) → IsNoRefusal (progress_reply o)
+told-progress None = tt
+told-progress (Some n) = by_test (is_in_progress n.state) (λ t. rw t tt) (λ t. rw t tt)
+
 passed-leaves : (n : ℕ) (c : Call) (why : Refusal) (p q : Pool) (is left : List Input) (told : List Scene)
-    → effect (free n) (unlink n) (children n) (reaching n) (turned AtRest (taking n)) (plan p c) p is ≡ Ended (reply.No why) q told left
+    → effect (free n) (unlink n) (children n) (reaching n) (turned AtRest (taking n)) (work_by (finishing n) (notifying n) (receiving n) (cancelling n)) (plan p c) p is ≡ Ended (reply.No why) q told left
     → LeftByRefused c why p q is left told
 unfolding AnswersDone
 passed-leaves n (call.Free x) why p q is left told e = inr (each (newest_ref p.rows x) e)
   where
-    each : (o : Option Obj) → effect (free n) (unlink n) (children n) (reaching n) (turned AtRest (taking n)) (frees o x) p is ≡ Ended (reply.No why) q told left
+    each : (o : Option Obj) → effect (free n) (unlink n) (children n) (reaching n) (turned AtRest (taking n)) (work_by (finishing n) (notifying n) (receiving n) (cancelling n)) (frees o x) p is ≡ Ended (reply.No why) q told left
         → LeftByItsFree x why p q is left told
     each None k = plan-leaves n (Frees x) why p q is left told tt k
     each (Some r) k = plan-leaves n (Unlinks Root x) why p q is left told tt k
 passed-leaves n (call.Unlink o x) why p q is left told e = inr (plan-leaves n (Unlinks o x) why p q is left told tt e)
+passed-leaves n (call.Error x error) why p q is left told e = by_test (nat_eq error 0)
+    (λ t. absurd (plan-leaves n (replies (reply.Number 0)) why p q is left told tt (rw t at e)))
+    (λ t. absurd (plan-leaves n (Works (Renotes x (failed_with error)) (Finish state.UserError) x) why p q is left told tt (rw t at e)))
+passed-leaves n (call.Iserror x) why p q is left told e = absurd (plan-leaves n (replies (failure_reply (note_of p.requests x))) why p q is left told (told-failure (note_of p.requests x)) e)
+passed-leaves n (call.Progress x) why p q is left told e = absurd (plan-leaves n (replies (progress_reply (note_of p.requests x))) why p q is left told (told-progress (note_of p.requests x)) e)
 passed-leaves n c why p q is left told e = absurd (plan-leaves n (plan p c) why p q is left told tt e)
 
 pub call-leaves : (n : ℕ) (c : Call) (why : Refusal) (p q : Pool) (is left : List Input) (told : List Scene) → called n c p is ≡ Ended (reply.No why) q told left → LeftByRefused c why p q is left told

@@ -1,27 +1,31 @@
 -- What the items told so far say of the objects and of the open works.
-use Rattle.std.proofs.Common.{◌≡◌, ℕ, ◌<◌, List, [], ◌∷◌, ◌++◌, Option, Some, None, Bool, true, false, nat_eq, refl, sym, ◌∙◌, ap, subst, ◌⊎◌, inl, inr, arith}
-use Rattle.std.specs.Prelude.{not, ◌||◌}
+use Rattle.std.proofs.Common.{◌≡◌, ℕ, ◌≤◌, ◌<◌, List, [], ◌∷◌, ◌++◌, Option, Some, None, Bool, true, false, nat_eq, refl, sym, ◌∙◌, ap, subst, ◌⊎◌, inl, inr, arith}
+use Rattle.std.specs.Prelude.{not, ◌||◌, ◌&&◌, nat_le}
 use Rattle.std.specs.List.{list_any}
+use Rattle.std.proofs.lemmas.Bool.Decides.{nat_tests}
 use Rattle.std.proofs.lemmas.List.Folds.{list_any-append}
 use Rattle.std.proofs.Math.Bool.{or-false}
 use Rattle.tree_specs.specs.Machine.Profiles.{Phase, InLoop, Removing, loops, loop_removes, profile}
 use Rattle.tree_specs.specs.declared.object.Obj.{Obj}
 use Rattle.tree_specs.specs.declared.row.Row.{Row}
-use Rattle.tree_specs.specs.declared.event.Event.TheVariants.{Accepted, Freed, Unreferenced}
+use Rattle.tree_specs.specs.declared.event.Event.TheVariants.{Accepted, Freed, Unreferenced, State}
+use Rattle.tree_specs.specs.declared.request.Note.{Note}
+use Rattle.tree_specs.specs.Events.Requests.{state_number, note_of}
+use Rattle.tree_specs.proofs.Calls.Checks.{both-true}
 use Rattle.tree_specs.specs.declared.frame.Frame.{Frame}
 use Rattle.tree_specs.specs.declared.frame.Frame.TheVariants as frame
-use Rattle.tree_specs.specs.declared.frame.CallFrame.TheVariants.{Awaiting, Turning}
-use Rattle.tree_specs.specs.declared.frame.FreeFrame.TheVariants.{Hooked, Judged, Leaving, Looping, FreeingChild}
+use Rattle.tree_specs.specs.declared.frame.CallFrame.TheVariants.{Awaiting, Turning, Requesting}
+use Rattle.tree_specs.specs.declared.frame.FreeFrame.TheVariants.{Hooked, Judged, Preparing, Leaving, Looping, FreeingChild}
 use Rattle.tree_specs.specs.declared.frame.Purpose.{Purpose}
 use Rattle.tree_specs.specs.declared.frame.Purpose.TheVariants.{Removal, Emptying}
 use Rattle.tree_specs.specs.Words.Objects.{same}
 use Rattle.tree_specs.specs.Tree.Pool.{Pool, row_of}
 use Rattle.tree_specs.specs.Rules.Items.{Item}
 use Rattle.tree_specs.specs.Rules.Items.Item.{Told}
-use Rattle.tree_specs.specs.Promises.Orderly.{accepts, frees, drops}
+use Rattle.tree_specs.specs.Promises.Orderly.{accepts, frees, drops, has_state_from}
 use Rattle.tree_specs.specs.Invariants.Sound.{IsLive, claim_by, claim, claims, IsWaiting, AllWait}
-use Rattle.tree_specs.proofs.Tree.Numbered.{by_test, same-equal, same-false, same_or_not}
-use Rattle.tree_specs.proofs.Promises.Later.{IsDying, IsPast, Later, live-not-dying}
+use Rattle.tree_specs.proofs.Tree.Numbered.{by_test, same-true, same-equal, same-false, same_or_not}
+use Rattle.tree_specs.proofs.Promises.Later.{IsDying, IsPast, IsFrom, Later, live-not-dying}
 use Rattle.tree_specs.proofs.Invariants.Changes.{not-zero}
 
 -- it leaves its owner with the next step
@@ -51,6 +55,8 @@ pub record Past (items : List Item) (f : Frame) (fs : List Frame) (p : Pool) : T
   pub dropped : (r : Obj) → list_any (drops r) items ≡ true → (r.0 < p.next) × (row_of p.rows r ≡ None)
   -- what has accepted is no more, is dying, or leaves its owner now
   pub spent : (x : Obj) → list_any (accepts x) items ≡ true → (x.0 < p.next) × (IsPast (row_of p.rows x) ⊎ IsLeaving f x)
+  -- a request of which a state was told is in this state or a later one
+  pub states : (x : Obj) (k : ℕ) → list_any (has_state_from k x) items ≡ true → (x.0 < p.next) × IsFrom k (note_of p.requests x)
   pub accounts : Accounts items f
   pub all_account : AllAccount items fs
 
@@ -119,6 +125,9 @@ unclaimed x (f ∷ fs) w e r = elim r [
     claimed (frame.Call (Awaiting q y)) w r e = r
     claimed (frame.Call (Turning q)) w r e = r
     claimed (frame.Turn f) w r e = r
+    claimed (frame.Request f) w r e = r
+    claimed (frame.Call (Requesting q)) w r e = r
+    claimed (frame.Free (Preparing y)) w r e = r
     claimed (frame.Free (Hooked y h)) w r e = r
     claimed _ w r e = absurd w
 
@@ -137,17 +146,19 @@ past-goes items f f' fs fs' p q past later leaves a all = record {
       | inr now ↦ leaves x now
     ],
   );
+  states = λ x k t. let g = past.states x k t in let l : x.0 < p.next = g.0 in (omega (arith, later.grows), later.states x k l g.1);
   accounts = a;
   all_account = all;
 }
 
 -- an item that ends nothing
 pub past-tells : (items : List Item) (e : Item) (f : Frame) (fs : List Frame) (p : Pool) → ((x : Obj) → accepts x e ≡ false) → ((x : Obj) → frees x e ≡ false) → ((x : Obj) → drops x e ≡ false)
-    → Past items f fs p → Past (items ++ e ∷ []) f fs p
-past-tells items e f fs p a g d past = record {
+    → ((x : Obj) (k : ℕ) → has_state_from k x e ≡ false) → Past items f fs p → Past (items ++ e ∷ []) f fs p
+past-tells items e f fs p a g d u past = record {
   gone = λ x t. past.gone x (sym (any-as-before (frees x) items e (g x)) ∙ t);
   dropped = λ x t. past.dropped x (sym (any-as-before (drops x) items e (d x)) ∙ t);
   spent = λ x t. past.spent x (sym (any-as-before (accepts x) items e (a x)) ∙ t);
+  states = λ x k t. past.states x k (sym (any-as-before (has_state_from k x) items e (u x k)) ∙ t);
   accounts = accounts-more items e f (λ y r. a y) past.accounts;
   all_account = all-more items e fs (λ y r. a y) past.all_account;
 }
@@ -165,6 +176,7 @@ past-accepts items x h v fs p q past later l pos wait none =
         | inl same_one ↦ (subst (λ (z : Obj). z.0 < q.next) same_one l, inr same_one)
         | inr other ↦ before y (sym (any-as-before (accepts y) items e (same-false x y other)) ∙ t)
       ];
+      states = λ y k t. let g = past.states y k (sym (any-as-before (has_state_from k y) items e refl) ∙ t) in let b : y.0 < p.next = g.0 in (omega (arith, later.grows), later.states y k b g.1);
       accounts = any-now (accepts x) items e self ∙ sym (ap not (not-zero h pos));
       all_account = all-more items e fs (λ y r. same-false x y (λ same_one. unclaimed x fs wait none (subst (AnyRemoves fs) (sym same_one) r))) past.all_account;
     }
@@ -196,6 +208,7 @@ past-frees items x h f' fs p q past later l none a =
           | inr now ↦ absurd now
         ],
       );
+      states = λ y k t. let g = past.states y k (sym (any-as-before (has_state_from k y) items e refl) ∙ t) in let b : y.0 < p.next = g.0 in (omega (arith, later.grows), later.states y k b g.1);
       accounts = a;
       all_account = all-more items e fs (λ y r. refl) past.all_account;
     }
@@ -218,9 +231,39 @@ past-drops items r t f f' fs p q past later l none stays a =
           | inr now ↦ absurd (stays y now)
         ],
       );
+      states = λ y k t. let g = past.states y k (sym (any-as-before (has_state_from k y) items e refl) ∙ t) in let b : y.0 < p.next = g.0 in (omega (arith, later.grows), later.states y k b g.1);
       accounts = a;
       all_account = all-more items e fs (λ y u. refl) past.all_account;
     }
+
+-- a request goes to a state
+pub past-state : (items : List Item) (x : Obj) (s : ℕ) (f f' : Frame) (fs : List Frame) (p q : Pool) → Past items f fs p → Later p q → x.0 < q.next → IsFrom s (note_of q.requests x)
+    → ((y : Obj) → IsLeaving f y → ⊥) → Accounts (items ++ Told (State x s) ∷ []) f' → Past (items ++ Told (State x s) ∷ []) f' fs q
+past-state items x s f f' fs p q past later l from stays a =
+    let e : Item = Told (State x s) in
+    record {
+      gone = λ y u. let g = past.gone y (sym (any-as-before (frees y) items e refl) ∙ u) in let b : y.0 < p.next = g.0 in (omega (arith, later.grows), later.none y b g.1);
+      dropped = λ y u. let g = past.dropped y (sym (any-as-before (drops y) items e refl) ∙ u) in let b : y.0 < p.next = g.0 in (omega (arith, later.grows), later.none y b g.1);
+      spent = λ y u. let s = past.spent y (sym (any-as-before (accepts y) items e refl) ∙ u) in let b : y.0 < p.next = s.0 in (
+        omega (arith, later.grows),
+        elim s.1 [
+          | inl gone ↦ inl (later.past y b gone)
+          | inr now ↦ absurd (stays y now)
+        ],
+      );
+      states = λ y k t. by_test (same x y && nat_le k s)
+          (λ u. let c = both-true (same x y) (nat_le k s) u in now y k (same-true x y c.0) c.1)
+          (λ u. let g = past.states y k (sym (any-as-before (has_state_from k y) items e u) ∙ t) in let b : y.0 < p.next = g.0 in (omega (arith, later.grows), later.states y k b g.1));
+      accounts = a;
+      all_account = all-more items e fs (λ y u. refl) past.all_account;
+    }
+  where
+    least : (k : ℕ) → k ≤ s → (o : Option Note) → IsFrom s o → IsFrom k o
+    least k m None h = tt
+    least k m (Some n) h = let h' : s ≤ state_number n.state = h in omega arith
+
+    now : (y : Obj) (k : ℕ) → x ≡ y → nat_le k s ≡ true → (y.0 < q.next) × IsFrom k (note_of q.requests y)
+    now y k is le = let m : k ≤ s = grind (arith, nat_tests) in subst (λ (z : Obj). (z.0 < q.next) × IsFrom k (note_of q.requests z)) is (l, least k m (note_of q.requests x) from)
 
 -- ---- what a live object tells
 

@@ -1,5 +1,12 @@
 -- A call is refused as running only where the object ran when the call began.
-use Rattle.std.proofs.Common.{◌≡◌, ℕ, List, [], ◌∷◌, Option, Some, None, true, subst}
+use Rattle.std.proofs.Common.{◌≡◌, ℕ, nat_eq, List, [], ◌∷◌, Option, Some, None, true, subst}
+use Rattle.tree_specs.specs.declared.request.Note.{Note}
+use Rattle.tree_specs.specs.declared.request.State.{State}
+use Rattle.tree_specs.specs.declared.request.State.TheVariants as state
+use Rattle.tree_specs.specs.Events.Requests.{note_of, is_in_progress}
+use Rattle.tree_specs.proofs.Tree.Numbered.{by_test}
+use Rattle.tree_specs.proofs.Rules.RequestLaws.{work-said}
+use Rattle.tree_specs.proofs.Rules.TextLaws.{all-lawful}
 use Rattle.step_machine.specs.Machine.Outcome.{Ended}
 use Rattle.step_machine.proofs.Uses.{ended-followed}
 use Rattle.tree_specs.specs.declared.object.Obj.{Obj}
@@ -15,11 +22,12 @@ use Rattle.tree_specs.specs.Tree.Pool.{Pool}
 use Rattle.tree_specs.specs.Tree.Targets.{newest_ref}
 use Rattle.tree_specs.specs.Tree.Forest.{Distinct}
 use Rattle.tree_specs.specs.Calls.Refusals.{Check, refusals, tests, is_running}
-use Rattle.tree_specs.specs.Calls.Plans.{Plan, plan, planned, frees, unless_refused, changed_by}
-use Rattle.tree_specs.specs.Calls.Plans.Plan.{Does, Frees, Unlinks, Empties, Asks, Turns}
+use Rattle.tree_specs.specs.Calls.Plans.{Plan, plan, planned, frees, unless_refused, changed_by, failure_in, failure_reply, progress_reply}
+use Rattle.tree_specs.specs.Calls.Plans.Plan.{Does, Frees, Unlinks, Empties, Asks, Turns, Works}
 use Rattle.tree_specs.specs.Rules.Sequence.{Scene}
 use Rattle.tree_specs.specs.Rules.Answers.{freed_reply}
-use Rattle.tree_specs.specs.Rules.Story.{effect, free, unlink, children, turned, taking, reaching}
+use Rattle.tree_specs.specs.Rules.Story.{free, unlink, children, taking, reaching, finishing, receiving, cancelling, notifying}
+use Rattle.tree_specs.specs.Rules.Pieces.{effect, turned, work_by}
 use Rattle.tree_specs.specs.declared.question.Ask.TheVariants.{Quiet as AtRest}
 use Rattle.tree_specs.proofs.Calls.OwnRefusals.{IsOwn, AllOwn, own-refused}
 use Rattle.tree_specs.proofs.Promises.Answering.{reaching-answers}
@@ -41,6 +49,21 @@ plan-own p (call.Free x) = each (newest_ref p.rows x)
     each : (o : Option Obj) → OwnPlan p (frees o x)
     each None = tt
     each (Some r) = tt
+plan-own p (call.Error x error) = by_test (nat_eq error 0) (λ t. rw t tt) (λ t. rw t tt)
+plan-own p (call.Iserror x) = each (note_of p.requests x)
+  where
+    states : (s : State) (error : ℕ) → OwnReply p (failure_in s error)
+    states state.Done error = tt
+    states _ error = tt
+
+    each : (o : Option Note) → OwnReply p (failure_reply o)
+    each None = tt
+    each (Some n) = states n.state n.error
+plan-own p (call.Progress x) = each (note_of p.requests x)
+  where
+    each : (o : Option Note) → OwnReply p (progress_reply o)
+    each None = tt
+    each (Some n) = by_test (is_in_progress n.state) (λ t. rw t tt) (λ t. rw t tt)
 plan-own p c = tt
 
 planned-own : (p : Pool) (c : Call) → OwnPlan p (planned p c)
@@ -56,7 +79,7 @@ by-free p q x y told free_reply.Running d h e = let same : y ≡ x = cc in subst
 by-free p q x y told _ d h e = cc
 
 plan-runs : (n : ℕ) (plan : Plan) (x : Obj) (p q : Pool) (is left : List Input) (told : List Scene) → Distinct p.rows → OwnPlan p plan
-    → effect (free n) (unlink n) (children n) (reaching n) (turned AtRest (taking n)) plan p is ≡ Ended (reply.No (refusal.Running x)) q told left → is_running p x ≡ true
+    → effect (free n) (unlink n) (children n) (reaching n) (turned AtRest (taking n)) (work_by (finishing n) (notifying n) (receiving n) (cancelling n)) plan p is ≡ Ended (reply.No (refusal.Running x)) q told left → is_running p x ≡ true
 plan-runs n (Does change notice r) x p q is left told d own e =
     let e' : Ended r (changed_by change p) [] is ≡ Ended (reply.No (refusal.Running x)) q told left = e in
     let same : r ≡ reply.No (refusal.Running x) = cc in
@@ -74,8 +97,9 @@ plan-runs n (Empties y) x p q is left told d own e =
     let e' : Ended reply.Ok w.1 [] w.4 ≡ Ended (reply.No (refusal.Running x)) q w.3 left = w.6 in
     cc
 plan-runs n (Asks outside) x p q is left told d own e = absurd (reaching-answers n outside (reply.No (refusal.Running x)) p q is left told e)
+plan-runs n (Works change errand y) x p q is left told d own e = absurd (work-said n (all-lawful n) errand y (refusal.Running x) (changed_by change p) q is left told e)
 plan-runs n Turns x p q is left told d own e = absurd (never-refused (taking n) (refusal.Running x) p q is left told e)
 
 pub call-runs : (n : ℕ) (c : Call) (x : Obj) (p q : Pool) (is left : List Input) (told : List Scene) → Distinct p.rows
-    → effect (free n) (unlink n) (children n) (reaching n) (turned AtRest (taking n)) (planned p c) p is ≡ Ended (reply.No (refusal.Running x)) q told left → is_running p x ≡ true
+    → effect (free n) (unlink n) (children n) (reaching n) (turned AtRest (taking n)) (work_by (finishing n) (notifying n) (receiving n) (cancelling n)) (planned p c) p is ≡ Ended (reply.No (refusal.Running x)) q told left → is_running p x ≡ true
 call-runs n c x p q is left told d e = plan-runs n (planned p c) x p q is left told d (planned-own p c) e

@@ -11,7 +11,7 @@ use Rattle.tree_specs.specs.declared.question.Ask.TheVariants.{Quiet}
 use Rattle.tree_specs.specs.declared.frame.Frame.{Frame}
 use Rattle.tree_specs.specs.declared.frame.Frame.TheVariants as frame
 use Rattle.tree_specs.specs.declared.frame.CallFrame.TheVariants.{Asking, Doing, Announcing, Telling, Returning}
-use Rattle.tree_specs.specs.declared.frame.FreeFrame.TheVariants.{Unlinking, Releasing, Giving, Beginning, Hooked, Judged, Dooming, Leaving, Looping, AfterChild, Ending}
+use Rattle.tree_specs.specs.declared.frame.FreeFrame.TheVariants.{Unlinking, Releasing, Giving, Beginning, Hooked, Judged, Preparing, Prepared, Dooming, Leaving, Looping, AfterChild, Ending}
 use Rattle.tree_specs.specs.declared.frame.Answer.{Answer}
 use Rattle.tree_specs.specs.Tree.Pool.{Pool, empty}
 use Rattle.tree_specs.specs.Rules.Items.{Item}
@@ -31,6 +31,7 @@ use Rattle.tree_specs.proofs.Promises.FineFrees.{hooked-fine, leaving-fine, judg
 use Rattle.tree_specs.proofs.Promises.FineDrops.{ending-fine, beginning-fine, dooming-fine, unlinking-fine, releasing-fine, giving-fine}
 use Rattle.tree_specs.proofs.Promises.FineTurns.{turn-fine}
 use Rattle.tree_specs.proofs.Promises.FineOutside.{outside-fine}
+use Rattle.tree_specs.proofs.Promises.FineRequests.{preparing-fine, prepared-fine, request-fine}
 use Rattle.tree_specs.proofs.Rules.StoryLaws.{asking, begin-whole, story-walk}
 
 abbrev WholeAt : Frame → List Frame → Pool → Type 0
@@ -52,6 +53,8 @@ fine scenes (frame.Free (Giving x o)) b ws p whole known = giving-fine scenes b 
 fine scenes (frame.Free (Beginning x)) b ws p whole known = beginning-fine scenes b ws p x whole known
 fine scenes (frame.Free (Hooked x h)) b ws p whole known = hooked-fine scenes b ws p x h whole known
 fine scenes (frame.Free (Judged x h v)) b ws p whole known = judged-fine scenes b ws p x h v whole known
+fine scenes (frame.Free (Preparing x)) b ws p whole known = preparing-fine scenes b ws p x whole known
+fine scenes (frame.Free (Prepared x)) b ws p whole known = prepared-fine scenes b ws p x whole known
 fine scenes (frame.Free (Dooming x)) b ws p whole known = dooming-fine scenes b ws p x whole known
 fine scenes (frame.Free (Leaving x h)) b ws p whole known = leaving-fine scenes b ws p x h whole known
 fine scenes (frame.Free (Looping x purpose)) b ws p whole known = looping-fine scenes b ws p x purpose whole known
@@ -59,6 +62,7 @@ fine scenes (frame.Free (AfterChild x c noted purpose a)) b ws p whole known = t
 fine scenes (frame.Free (Ending a)) b ws p whole known = ending-fine scenes b ws p a whole known
 fine scenes (frame.Turn f) b ws p whole known = turn-fine scenes b ws p f whole known
 fine scenes (frame.Outside f) b ws p whole known = outside-fine scenes b ws p f whole known
+fine scenes (frame.Request f) b ws p whole known = request-fine scenes b ws p f whole known
 fine scenes _ b ws p whole known = absurd whole.sound.rests
 
 both : (scenes : List Scene) (f : Frame) (b : Option CallStart) (ws : List NotedWork) (p : Pool) (m : Move Frame Answer Pool Item) → Leads table (λ g gs q j. WholeAt g gs q) m (map work_of ws) 1
@@ -81,7 +85,7 @@ kept scenes w ws p h = both scenes w.work w.note ws p (step w.work p) (whole-kep
 -- nothing is told as yet
 at-first : (first : ℕ) → Known [] asking [] (empty first)
 at-first first = record {
-  past = record { gone = λ x e. cc; dropped = λ x e. cc; spent = λ x e. cc; accounts = tt; all_account = tt };
+  past = record { gone = λ x e. cc; dropped = λ x e. cc; spent = λ x e. cc; states = λ x k e. cc; accounts = tt; all_account = tt };
   stacked = tt;
   cause = tt;
 }

@@ -24,7 +24,12 @@ use Rattle.tree_specs.specs.Events.Rotation.{Ready, first_ready}
 use Rattle.tree_specs.specs.Events.Coming.{wait_limit, handler_for, handler_moment, at_time, with_flags, plainly, begun, goes_after, looks_again}
 use Rattle.tree_specs.specs.Rules.Items.Item.{Told, Asked}
 use Rattle.tree_specs.specs.Rules.Sequence.{Work, Scene}
-use Rattle.tree_specs.specs.Rules.Story.{free, asked, taking, timing, timed, polling, starting, firing, handling, handled, closing}
+use Rattle.tree_specs.specs.Rules.Story.{free, asked, taking, timing, timed, polling, starting, firing, handling, handled, closing, finishing, notifying}
+use Rattle.tree_specs.specs.Rules.Pieces.{comes}
+use Rattle.tree_specs.specs.declared.reply.Reply.{Reply}
+use Rattle.tree_specs.specs.declared.request.State.TheVariants.{TimedOut}
+use Rattle.tree_specs.specs.declared.frame.Errand.TheVariants.{Notify}
+use Rattle.tree_specs.specs.Events.Requests.{is_noted}
 use Rattle.tree_specs.specs.Promises.Idle.{IsEarly, NobodyReady, NothingCame, Untimed, Unwatched, Early}
 use Rattle.tree_specs.proofs.Tree.Numbered.{by_test}
 use Rattle.tree_specs.proofs.Rules.Lawful.{scene_of}
@@ -66,6 +71,14 @@ starting-one (suc n) what x o p is v q told left e = each (handler_for p what x)
     each : (h : Option Handler) → handler_for p what x ≡ h → v ≡ 1
     each None k = let e' : closing n 1 p is ≡ Ended v q told left = rw k at e in (closing-ends n 1 p is v q told left e').0
     each (Some h) k = let e' : firing n what x h o (begun what x p) is ≡ Ended v q told left = rw k at e in firing-one n what x h o (begun what x p) is v q told left e'
+
+-- and so is a request that comes
+comes-one : (n : ℕ) (b : Bool) (w : Work Reply) (what : What) (x : Obj) (o : Occasion) (p : Pool) (is : List Input) (v : ℕ) (q : Pool) (told : List Scene) (left : List Input)
+    → comes b w (closing n 1) (starting n what x o) p is ≡ Ended v q told left → v ≡ 1
+comes-one n true w what x o p is v q told left e =
+    let u = ended-followed (w p is) (λ a. closing n 1) v q told left e in
+    (closing-ends n 1 u.1 u.4 v q u.3 left u.6).0
+comes-one n false w what x o p is v q told left e = starting-one n what x o p is v q told left e
 
 -- ---- how the works that ask end
 
@@ -120,8 +133,7 @@ timed-ends : (n : ℕ) (d : Due) (again : Bool) (now : ℕ) (p : Pool) (is : Lis
     → timed n again now p is ≡ Ended v q told left → Times d again p (Clock now ∷ is) v q left
 timed-ends zero d again now p is v q told left f time e = cc
 timed-ends (suc n) d again now p is v q told left f time e = by_test (nat_le d.time now)
-    (λ t. let e' : starting n ForTimer d.object (at_time now) (disarm p d.object) is ≡ Ended v q told left = rw (f, t) at e in
-    Came (starting-one n ForTimer d.object (at_time now) (disarm p d.object) is v q told left e'))
+    (λ t. Came (comes-one n (is_noted p.requests d.object) (finishing n d.object TimedOut) ForTimer d.object (at_time now) (disarm p d.object) is v q told left (rw (f, t) at e)))
     (λ t. let e' : after_early n again (d.time - now) p is ≡ Ended v q told left = rw (f, t) at e in
     Earlier now n is told refl (record { time = grind (arith, nat_tests); before = grind (arith, nat_tests) }) e')
 
@@ -180,12 +192,12 @@ idle-cause (suc n) p q is left told e = soonest (first p.soon) refl
     earliest : first p.soon ≡ None → (o : Option Due) → first p.times ≡ o → Idle p is left
     earliest soon None k = untimed p q is left soon k (polls n wait_limit p is 0 q told left (rw (soon, k) at e))
     earliest soon (Some d) k = by_test (nat_eq d.time 0)
-        (λ t. not-one (starting-one n ForTimer d.object (at_time 0) (disarm p d.object) is 0 q told left (rw (soon, k, t) at e)))
+        (λ t. not-one (comes-one n (is_noted p.requests d.object) (finishing n d.object TimedOut) ForTimer d.object (at_time 0) (disarm p d.object) is 0 q told left (rw (soon, k, t) at e)))
         (λ t. timed-first d soon k (times n d false p is 0 q told left k (rw (soon, k, t) at e)))
 
     soonest : (o : Option Obj) → first p.soon ≡ o → Idle p is left
     soonest None k = earliest k (first p.times) refl
-    soonest (Some x) k = not-one (starting-one n ForImmediate x plainly (unschedule p x) is 0 q told left (rw k at e))
+    soonest (Some x) k = not-one (comes-one n (is_noted p.requests x) (notifying n x Notify) ForImmediate x plainly (unschedule p x) is 0 q told left (rw k at e))
 
 -- ---- where nothing came a turn replies 0
 

@@ -7,6 +7,9 @@ use Rattle.step_machine.proofs.Uses.{Used, Used-same, Used-ended, Used-told, Use
 use Rattle.tree_specs.specs.declared.object.Obj.{Obj}
 use Rattle.tree_specs.specs.declared.call.Call.{Call}
 use Rattle.tree_specs.specs.declared.reply.Reply.{Reply}
+use Rattle.tree_specs.specs.declared.reply.Reply.TheVariants.{No}
+use Rattle.tree_specs.specs.declared.request.State.{State}
+use Rattle.tree_specs.specs.declared.frame.Errand.{Errand}
 use Rattle.tree_specs.specs.declared.notice.Notice.{Notice}
 use Rattle.tree_specs.specs.declared.occasion.Occasion.{Occasion}
 use Rattle.tree_specs.specs.declared.question.Ask.{Ask}
@@ -20,7 +23,7 @@ use Rattle.tree_specs.specs.Rules.Items.{Item}
 use Rattle.tree_specs.specs.Rules.Items.Item.{Asked}
 use Rattle.tree_specs.specs.Rules.Sequence.{Work, Scene, CallStart, asks, fits_to}
 use Rattle.tree_specs.specs.Rules.Answers.{later}
-use Rattle.tree_specs.specs.Rules.Story.{free, hooked, judged, dooming, leave, children, tried, asked, acting, telling, returning, items, announcing, unlink, release, given, taking, timing, timed, polling, starting, firing, handling, handled, reaching, opening, hearing, closing}
+use Rattle.tree_specs.specs.Rules.Story.{free, hooked, judged, dooming, leave, children, tried, asked, acting, telling, returning, items, announcing, unlink, release, given, taking, timing, timed, polling, starting, firing, handling, handled, reaching, opening, hearing, closing, preparing, prepared, finishing, receiving, cancelling, cleaning, cleaned, notifying, calling, called, over}
 use Rattle.tree_specs.specs.Promises.Acceptances.{Return, returned_by, answered_by, inputs_after, AcceptsNow, AcceptsAfterReturns}
 use Rattle.tree_specs.specs.declared.handler.Handler.{Handler}
 use Rattle.tree_specs.specs.declared.moment.What.{What}
@@ -77,6 +80,11 @@ pub record Lawful {A : Type 0} (last : Last) (Q : A → Last → Type 0) (go : L
 -- nothing is asked of its answer
 abbrev pub Any : {A : Type 0} → A → Last → Type 0
 Any a l = Unit {0}
+
+-- it isn't refused
+abbrev pub Said : Reply → Last → Type 0
+Said (No why) l = ⊥
+Said r l = Unit {0}
 
 pub same-lawful : {A : Type 0} (last : Last) (Q : A → Last → Type 0) (go go' : List Input → Outcome A Pool Input Scene) → ((js : List Input) → go js ≡ go' js) → Lawful last Q go' → Lawful last Q go
 same-lawful last Q go go' law h = record {
@@ -158,6 +166,8 @@ pub record FreesLawful (n : ℕ) : Type 0 where
   pub free : (x : Obj) (p : Pool) (last : Last) → Lawful last Any (free n x p)
   pub hooked : (x : Obj) (h : ℕ) (p : Pool) (last : Last) → Lawful last Any (hooked n x h p)
   pub judged : (x : Obj) (h v : ℕ) (p : Pool) (last : Last) → last ≡ Some (record { object = x; value = v }) → Lawful last Any (judged n x h v p)
+  pub preparing : (x : Obj) (p : Pool) (last : Last) → Lawful last Any (preparing n x p)
+  pub prepared : (x : Obj) (p : Pool) (last : Last) → Lawful last Any (prepared n x p)
   pub dooming : (x : Obj) (p : Pool) (last : Last) → Lawful last Any (dooming n x p)
   pub leave : (x : Obj) (h : ℕ) (p : Pool) (last : Last) → Lawful last Any (leave n x h p)
   pub children : (x : Obj) (p : Pool) (last : Last) → Lawful last Any (children n x p)
@@ -189,9 +199,22 @@ pub record OutsideLawful (n : ℕ) : Type 0 where
   pub opening : (fd : ℕ) (p : Pool) (last : Last) → Lawful last Any (opening n fd p)
   pub hearing : (r : Reply) (p : Pool) (last : Last) → Lawful last Any (hearing n r p)
 
+-- those of a request, none of which is refused
+pub record RequestsLawful (n : ℕ) : Type 0 where
+  pub finishing : (x : Obj) (s : State) (p : Pool) (last : Last) → Lawful last Said (finishing n x s p)
+  pub receiving : (x : Obj) (p : Pool) (last : Last) → Lawful last Said (receiving n x p)
+  pub cancelling : (x : Obj) (p : Pool) (last : Last) → Lawful last Said (cancelling n x p)
+  pub cleaning : (x : Obj) (errand : Errand) (p : Pool) (last : Last) → Lawful last Said (cleaning n x errand p)
+  pub cleaned : (x : Obj) (errand : Errand) (p : Pool) (last : Last) → Lawful last Said (cleaned n x errand p)
+  pub notifying : (x : Obj) (errand : Errand) (p : Pool) (last : Last) → Lawful last Said (notifying n x errand p)
+  pub calling : (what : What) (x : Obj) (h : Handler) (errand : Errand) (p : Pool) (last : Last) → Lawful last Said (calling n what x h errand p)
+  pub called : (what : What) (x : Obj) (h : Handler) (errand : Errand) (p : Pool) (last : Last) → Lawful last Said (called n what x h errand p)
+  pub over : (r : Reply) (p : Pool) (last : Last) → Said r last → Lawful last Said (over n r p)
+
 -- all works of the text
 pub record AllLawful (n : ℕ) : Type 0 where
   pub frees : FreesLawful n
   pub calls : CallsLawful n
   pub turns : TurnsLawful n
   pub outside : OutsideLawful n
+  pub requests : RequestsLawful n

@@ -7,7 +7,7 @@ use Rattle.tree_specs.specs.declared.question.Input.{Input}
 use Rattle.tree_specs.specs.Tree.Pool.{Pool}
 use Rattle.tree_specs.specs.Events.Rotation.{closes_with}
 use Rattle.tree_specs.specs.Rules.Sequence.{Scene}
-use Rattle.tree_specs.specs.Rules.Story.{lets_go}
+use Rattle.tree_specs.specs.Rules.Pieces.{lets_go}
 use Rattle.tree_specs.specs.Promises.Refused.{told_closed}
 
 -- what is told before an end is told by it

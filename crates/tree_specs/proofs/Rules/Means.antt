@@ -16,12 +16,16 @@ use Rattle.tree_specs.specs.declared.question.Ask.TheVariants.{Quiet, Clock, Wai
 use Rattle.tree_specs.specs.declared.question.Input.{Input}
 use Rattle.tree_specs.specs.declared.frame.Frame.{Frame}
 use Rattle.tree_specs.specs.declared.frame.Frame.TheVariants as frame
-use Rattle.tree_specs.specs.declared.frame.CallFrame.TheVariants.{Asking, Doing, Awaiting, Turning, Returning}
+use Rattle.tree_specs.specs.declared.frame.CallFrame.TheVariants.{Asking, Doing, Awaiting, Turning, Requesting, Returning}
 use Rattle.tree_specs.specs.declared.frame.TurnFrame.{TurnFrame}
-use Rattle.tree_specs.specs.declared.frame.TurnFrame.TheVariants.{Taking, Timing, Timed, Polling, Starting, Handled, Clearing, Closing}
+use Rattle.tree_specs.specs.declared.frame.TurnFrame.TheVariants.{Taking, Timing, Timed, Polling, Starting, Handled, Clearing, Serving, Closing}
 use Rattle.tree_specs.specs.declared.frame.FreeFrame.{FreeFrame}
-use Rattle.tree_specs.specs.declared.frame.FreeFrame.TheVariants.{Unlinking, Releasing, Beginning, Judged, Dooming, Leaving, Looping, FreeingChild, AfterChild, Ending}
+use Rattle.tree_specs.specs.declared.frame.FreeFrame.TheVariants.{Unlinking, Releasing, Beginning, Judged, Prepared, Dooming, Leaving, Looping, FreeingChild, AfterChild, Ending}
 use Rattle.tree_specs.specs.declared.frame.OutsideFrame.TheVariants.{Reaching}
+use Rattle.tree_specs.specs.declared.frame.RequestFrame.{RequestFrame}
+use Rattle.tree_specs.specs.declared.frame.RequestFrame.TheVariants as request
+use Rattle.tree_specs.specs.declared.call.Call.TheVariants as call
+use Rattle.tree_specs.specs.declared.moment.What.TheVariants as whats
 use Rattle.tree_specs.specs.declared.frame.Purpose.{Purpose}
 use Rattle.tree_specs.specs.declared.frame.Purpose.TheVariants.{Removal, Emptying}
 use Rattle.tree_specs.specs.declared.frame.Answer.{Answer}
@@ -33,7 +37,7 @@ use Rattle.tree_specs.specs.Rules.Items.Item.{Told}
 use Rattle.tree_specs.specs.declared.event.Event.TheVariants.{Freed, Closed}
 use Rattle.std.specs.Prelude.{◌&&◌, not}
 use Rattle.tree_specs.specs.Words.Ranges.{is_sound_call, is_return, is_routine, is_time}
-use Rattle.tree_specs.specs.Calls.Refusals.{is_open}
+use Rattle.tree_specs.specs.Calls.Refusals.{is_open, is_request}
 use Rattle.tree_specs.specs.Words.Wants.{is_wants}
 use Rattle.tree_specs.specs.Events.Pending.{first}
 use Rattle.tree_specs.specs.Events.Rotation.{Ready, closes_with, first_ready}
@@ -45,13 +49,19 @@ use Rattle.tree_specs.specs.declared.handler.Handler.{Handler}
 use Rattle.tree_specs.specs.declared.moment.What.{What}
 use Rattle.tree_specs.specs.Calls.Given.{Given, given_to}
 use Rattle.tree_specs.specs.Calls.Given.Given.{Calls, Returns, Tells, IsReady, Opens, Answers}
-use Rattle.tree_specs.specs.Calls.Plans.{Plan, planned}
-use Rattle.tree_specs.specs.Calls.Plans.Plan.{Does, Frees, Unlinks, Empties, Asks, Turns}
+use Rattle.tree_specs.specs.declared.frame.Errand.{Errand}
+use Rattle.tree_specs.specs.declared.frame.Errand.TheVariants.{Finish, Receive}
+use Rattle.tree_specs.specs.declared.request.Note.{Note}
+use Rattle.tree_specs.specs.Events.Requests.{note_of, is_noted, is_unreceived, cleanup_in, cancel_in}
+use Rattle.tree_specs.specs.Calls.Plans.{Change, Plan, planned}
+use Rattle.tree_specs.specs.Calls.Plans.Plan.{Does, Frees, Unlinks, Empties, Asks, Turns, Works}
 use Rattle.tree_specs.specs.Rules.Sequence.{Work, Scene, CallStart, ◌>>◌, change, tells, gives}
-use Rattle.tree_specs.specs.Rules.Story.{free, lets_go, dooming, judged, leave, children, tried, unlink, release, taking, timing, timed, polling, starting, handled, reaching}
-use Rattle.tree_specs.specs.Machine.Meaning.{noted_table, freed, closed, answered, looped, mean}
+use Rattle.tree_specs.specs.Rules.Story.{free, dooming, judged, leave, children, tried, unlink, release, taking, timing, timed, polling, starting, handled, reaching, cancelling, cleaning, cleaned, notifying, called, over}
+use Rattle.tree_specs.specs.Rules.Pieces.{lets_go, freed_quietly}
+use Rattle.tree_specs.specs.Rules.Errands.{reply_to}
+use Rattle.tree_specs.specs.Machine.Meaning.{noted_table, freed, closed, answered, looped, request_mean, mean}
 use Rattle.tree_specs.specs.Machine.FreeTable.{judge_step, loop_step, tried_step, refs_step, unlink_step, release_step}
-use Rattle.tree_specs.specs.Machine.Table.{notes, step, turn_step, outside_step, lifted, plan_step, announced, closed_event}
+use Rattle.tree_specs.specs.Machine.Table.{notes, step, turn_step, outside_step, request_step, release_object, lifted, plan_step, announced, closed_event}
 use Rattle.tree_specs.proofs.Tree.Numbered.{by_test}
 
 ruleset laws = (followed-tell, followed-tells, followed-followed)
@@ -83,6 +93,10 @@ doing-turn : (n : ℕ) (q : Ask) (c : Call) (b : Option CallStart) (p : Pool) (i
     → Below (Turn n (frame.Call (Doing q c)) b (plan_step q (planned p c) p) p is) (mean (suc n) (frame.Call (Doing q c)) b p is)
 doing-turn n q c b p is = each (planned p c) refl
   where
+    works : (change : Change) (errand : Errand) (x : Obj) → planned p c ≡ Works change errand x → Below (Turn n (frame.Call (Doing q c)) b (plan_step q (planned p c) p) p is) (mean (suc n) (frame.Call (Doing q c)) b p is)
+    works change (Finish s) x e = rw e (inr (simp laws))
+    works change _ x e = rw e (inr (simp laws))
+
     each : (plan : Plan) → planned p c ≡ plan → Below (Turn n (frame.Call (Doing q c)) b (plan_step q (planned p c) p) p is) (mean (suc n) (frame.Call (Doing q c)) b p is)
     each (Does change None r) e = rw e (inr refl)
     each (Does change (Some notice) r) e = rw e (inr refl)
@@ -91,6 +105,7 @@ doing-turn n q c b p is = each (planned p c) refl
     each (Empties x) e = rw e (inr (simp laws))
     each (Asks outside) e = rw e (inr (simp laws))
     each Turns e = turning-turn n q c b p is e
+    each (Works change errand x) e = works change errand x e
 
 -- an object is let go of
 letting-turn : (n : ℕ) (f g : FreeFrame) (b : Option CallStart) (x : Obj) (change : Pool → Pool) (p : Pool) (is : List Input) (k : Unit {0} → Work Answer)
@@ -108,7 +123,9 @@ beginning-turn n x b p is = newest (newest_ref p.rows x) refl
   where
     marks : newest_ref p.rows x ≡ None → (r : Row) (m : Mark) → r.mark ≡ m → row_of p.rows x ≡ Some r
         → Below (Turn n (frame.Free (Beginning x)) b (lifted p.ring (refs_step x (newest_ref p.rows x) p)) p is) (freed (free (suc n) x) p is)
-    marks k r mark.Quiet m e = by_test (nat_eq r.hook 0) (λ t. rw (k, e, m, t) (inr refl)) (λ t. rw (k, e, m, t) (inr refl))
+    marks k r mark.Quiet m e = by_test (is_request r.kind)
+        (λ u. rw (k, e, m, u) (inr refl))
+        (λ u. by_test (nat_eq r.hook 0) (λ t. rw (k, e, m, u, t) (inr refl)) (λ t. rw (k, e, m, u, t) (inr refl)))
     marks k r mark.Busy m e = rw (k, e, m)
         (Below-trans _ _ _ (letting-turn n (Beginning x) (Dooming x) b x (λ q. doom q x) p is (λ u. freed (dooming n x)) (λ js. refl)) (inr (sym (followed-followed (lets_go x (λ q. doom q x) p is) _ _))))
     marks k r _ m e = rw (k, e, m) (inr refl)
@@ -188,20 +205,25 @@ taking-turn n b p is = each (first p.soon) refl
   where
     due : first p.soon ≡ None → (o : Option Due) → first p.times ≡ o → Below (Turn n (frame.Turn Taking) b (turn_step Taking p) p is) (closed (taking (suc n)) p is)
     due e None k = rw (e, k) (inr refl)
-    due e (Some d) k = by_test (nat_eq d.time 0) (λ t. rw (e, k, t) (inr refl)) (λ t. rw (e, k, t) (inr refl))
+    due e (Some d) k = by_test (nat_eq d.time 0)
+        (λ t. by_test (is_noted p.requests d.object) (λ u. rw (e, k, t, u) (inr (simp laws))) (λ u. rw (e, k, t, u) (inr refl)))
+        (λ t. rw (e, k, t) (inr refl))
 
     each : (o : Option Obj) → first p.soon ≡ o → Below (Turn n (frame.Turn Taking) b (turn_step Taking p) p is) (closed (taking (suc n)) p is)
     each None e = due e (first p.times) refl
-    each (Some x) e = rw e (inr refl)
+    each (Some x) e = by_test (is_noted p.requests x) (λ u. rw (e, u) (inr (simp laws))) (λ u. rw (e, u) (inr refl))
 
 timed-turn : (n : ℕ) (again : Bool) (now : ℕ) (b : Option CallStart) (p : Pool) (is : List Input)
     → Below (Turn n (frame.Turn (Timed again now)) b (turn_step (Timed again now) p) p is) (closed (timed (suc n) again now) p is)
 timed-turn n again now b p is = each again (first p.times) refl
   where
+    has_come : (again : Bool) (d : Due) → first p.times ≡ Some d → nat_le d.time now ≡ true → Below (Turn n (frame.Turn (Timed again now)) b (turn_step (Timed again now) p) p is) (closed (timed (suc n) again now) p is)
+    has_come again d e t = by_test (is_noted p.requests d.object) (λ u. rw (e, t, u) (inr (simp laws))) (λ u. rw (e, t, u) (inr refl))
+
     each : (again : Bool) (o : Option Due) → first p.times ≡ o → Below (Turn n (frame.Turn (Timed again now)) b (turn_step (Timed again now) p) p is) (closed (timed (suc n) again now) p is)
     each again None e = rw e (inr refl)
-    each true (Some d) e = by_test (nat_le d.time now) (λ t. rw (e, t) (inr refl)) (λ t. rw (e, t) (inr refl))
-    each false (Some d) e = by_test (nat_le d.time now) (λ t. rw (e, t) (inr refl)) (λ t. rw (e, t) (inr refl))
+    each true (Some d) e = by_test (nat_le d.time now) (λ t. has_come true d e t) (λ t. rw (e, t) (inr refl))
+    each false (Some d) e = by_test (nat_le d.time now) (λ t. has_come false d e t) (λ t. rw (e, t) (inr refl))
 
 timing-turn : (n : ℕ) (again : Bool) (b : Option CallStart) (p : Pool) (is : List Input)
     → Below (Turn n (frame.Turn (Timing again)) b (turn_step (Timing again) p) p is) (closed (timing (suc n) again) p is)
@@ -248,6 +270,7 @@ loop-turn n (Polling limit) b p is = polling-turn n limit b p is
 loop-turn n (Starting what x occasion) b p is = starting-turn n what x occasion b p is
 loop-turn n (Handled what x) b p is = handled-turn n what x b p is
 loop-turn n (Clearing x) b p is = inr refl
+loop-turn n (Serving x) b p is = inr refl
 loop-turn n (Closing v) b p is = inr refl
 loop-turn n _ b p is = inr (simp laws)
 
@@ -264,21 +287,89 @@ reaching-turn n q b p (i ∷ is) = each (given_to q i) refl
     each (Some (Answers r)) e = rw e (inr (simp laws))
     each _ e = rw e (inr refl)
 
+-- ---- requests
+
+cancelling-turn : (n : ℕ) (x : Obj) (b : Option CallStart) (p : Pool) (is : List Input)
+    → Below (Turn n (frame.Request (request.Cancelling x)) b (request_step (request.Cancelling x) p) p is) (answered (cancelling (suc n) x) p is)
+cancelling-turn n x b p is = each (cancel_in (note_of p.requests x)) refl
+  where
+    each : (o : Option Handler) → cancel_in (note_of p.requests x) ≡ o → Below (Turn n (frame.Request (request.Cancelling x)) b (request_step (request.Cancelling x) p) p is) (answered (cancelling (suc n) x) p is)
+    each None e = rw e (inr refl)
+    each (Some handler) e = rw e (inr refl)
+
+cleaning-turn : (n : ℕ) (x : Obj) (errand : Errand) (b : Option CallStart) (p : Pool) (is : List Input)
+    → Below (Turn n (frame.Request (request.Cleaning x errand)) b (request_step (request.Cleaning x errand) p) p is) (answered (cleaning (suc n) x errand) p is)
+cleaning-turn n x errand b p is = each (cleanup_in (note_of p.requests x)) refl
+  where
+    each : (o : Option Handler) → cleanup_in (note_of p.requests x) ≡ o → Below (Turn n (frame.Request (request.Cleaning x errand)) b (request_step (request.Cleaning x errand) p) p is) (answered (cleaning (suc n) x errand) p is)
+    each None e = rw e (inr refl)
+    each (Some handler) e = rw e (inr refl)
+
+-- the object of a request is freed as by a call
+releasing-object : (n : ℕ) (x : Obj) (b : Option CallStart) (plan : Plan) (p : Pool) (is : List Input)
+    → Below (Turn n (frame.Request (request.Cleaned x Receive)) b (release_object plan Receive p) p is) (answered (freed_quietly (free n) (unlink n) (over n (reply_to Receive)) plan) p is)
+releasing-object n x b (Frees c) p is = inr (simp laws)
+releasing-object n x b (Unlinks o c) p is = inr (simp laws)
+releasing-object n x b _ p is = inr refl
+
+cleaned-turn : (n : ℕ) (x : Obj) (errand : Errand) (b : Option CallStart) (p : Pool) (is : List Input)
+    → Below (Turn n (frame.Request (request.Cleaned x errand)) b (request_step (request.Cleaned x errand) p) p is) (answered (cleaned (suc n) x errand) p is)
+cleaned-turn n x errand b p is = each errand (note_of p.requests x) refl
+  where
+    each : (errand : Errand) (o : Option Note) → note_of p.requests x ≡ o
+        → Below (Turn n (frame.Request (request.Cleaned x errand)) b (request_step (request.Cleaned x errand) p) p is) (answered (cleaned (suc n) x errand) p is)
+    each errand None e = rw e (inr refl)
+    each Receive (Some note) e = rw e (releasing-object n x b (planned p (call.Free note.child)) p is)
+    each _ (Some note) e = rw e (inr refl)
+
+notifying-turn : (n : ℕ) (x : Obj) (errand : Errand) (b : Option CallStart) (p : Pool) (is : List Input)
+    → Below (Turn n (frame.Request (request.Notifying x errand)) b (request_step (request.Notifying x errand) p) p is) (answered (notifying (suc n) x errand) p is)
+notifying-turn n x errand b p is = each (note_of p.requests x) refl
+  where
+    back : (note : Note) (o : Option Handler) → note.callback ≡ o → note.deferred ≡ false → note_of p.requests x ≡ Some note
+        → Below (Turn n (frame.Request (request.Notifying x errand)) b (request_step (request.Notifying x errand) p) p is) (answered (notifying (suc n) x errand) p is)
+    back note None c t e = rw (e, t, c) (inr refl)
+    back note (Some handler) c t e = rw (e, t, c) (inr refl)
+
+    each : (o : Option Note) → note_of p.requests x ≡ o → Below (Turn n (frame.Request (request.Notifying x errand)) b (request_step (request.Notifying x errand) p) p is) (answered (notifying (suc n) x errand) p is)
+    each None e = rw e (inr refl)
+    each (Some note) e = by_test note.deferred (λ t. rw (e, t) (inr refl)) (λ t. back note note.callback refl t e)
+
+called-turn : (n : ℕ) (what : What) (x : Obj) (handler : Handler) (errand : Errand) (b : Option CallStart) (p : Pool) (is : List Input)
+    → Below (Turn n (frame.Request (request.Called what x handler errand)) b (request_step (request.Called what x handler errand) p) p is) (answered (called (suc n) what x handler errand) p is)
+called-turn n whats.Cleanup x handler errand b p is = inr (simp laws)
+called-turn n whats.Cancel x handler errand b p is = inr (simp laws)
+called-turn n _ x handler errand b p is = inr (simp laws)
+
+request-turn : (n : ℕ) (f : RequestFrame) (b : Option CallStart) (p : Pool) (is : List Input) → Below (Turn n (frame.Request f) b (request_step f p) p is) (request_mean (suc n) f p is)
+request-turn n (request.Receiving x) b p is = by_test (is_unreceived (note_of p.requests x)) (λ t. rw t (inr (simp laws))) (λ t. rw t (inr refl))
+request-turn n (request.Cancelling x) b p is = cancelling-turn n x b p is
+request-turn n (request.Cleaning x errand) b p is = cleaning-turn n x errand b p is
+request-turn n (request.Cleaned x errand) b p is = cleaned-turn n x errand b p is
+request-turn n (request.Notifying x errand) b p is = notifying-turn n x errand b p is
+request-turn n (request.Called what x handler errand) b p is = called-turn n what x handler errand b p is
+request-turn n (request.Releasing c) b p is = inr refl
+request-turn n (request.Over r) b p is = inr refl
+request-turn n _ b p is = inr (simp laws)
+
 -- one turn of the machine is one turn of the text
 pub turn : (n : ℕ) (f : Frame) (b : Option CallStart) (p : Pool) (is : List Input) → Below (Turn n f b (step f p) p is) (mean (suc n) f b p is)
 turn n (frame.Call (Asking q)) b p is = asking-turn n q b p is
 turn n (frame.Call (Doing q c)) b p is = doing-turn n q c b p is
 turn n (frame.Call (Awaiting q x)) b p is = inr refl
 turn n (frame.Call (Turning q)) b p is = inr refl
+turn n (frame.Call (Requesting q)) b p is = inr refl
 turn n (frame.Call (Returning v)) b p is = inr refl
 turn n (frame.Turn f) b p is = loop-turn n f b p is
 turn n (frame.Outside (Reaching q)) b p is = reaching-turn n q b p is
 turn n (frame.Outside _) b p is = inr refl
+turn n (frame.Request f) b p is = request-turn n f b p is
 turn n (frame.Free (Unlinking o x)) b p is = unlinking-turn n o x b p is
 turn n (frame.Free (Releasing x)) b p is = releasing-turn n x b p is
 turn n (frame.Free (Beginning x)) b p is = beginning-turn n x b p is
 turn n (frame.Free (Judged x h v)) b p is = judged-turn n x h v b p is
 turn n (frame.Free (Dooming x)) b p is = inr refl
+turn n (frame.Free (Prepared x)) b p is = inr refl
 turn n (frame.Free (Leaving x h)) b p is = leaving-turn n x h b p is
 turn n (frame.Free (Looping x purpose)) b p is = looping-turn n x purpose b p is
 turn n (frame.Free (FreeingChild x c noted purpose)) b p is = inr refl

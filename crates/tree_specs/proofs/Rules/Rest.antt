@@ -9,13 +9,21 @@ use Rattle.step_machine.proofs.Open.{Asks, Asks-items, Stays, walk-asks, items-t
 use Rattle.tree_specs.specs.declared.question.Input.{Input}
 use Rattle.tree_specs.specs.declared.frame.Frame.{Frame}
 use Rattle.tree_specs.specs.declared.frame.Frame.TheVariants as frame
-use Rattle.tree_specs.specs.declared.frame.CallFrame.TheVariants.{Asking, Doing, Awaiting, Turning, Announcing, Telling, Returning}
+use Rattle.tree_specs.specs.declared.frame.CallFrame.TheVariants.{Asking, Doing, Awaiting, Turning, Requesting, Announcing, Telling, Returning}
 use Rattle.tree_specs.specs.declared.frame.TurnFrame.{TurnFrame}
 use Rattle.tree_specs.specs.declared.frame.TurnFrame.TheVariants.{Taking, Timing, Timed, Polling, Starting, Handled}
 use Rattle.tree_specs.specs.declared.handler.Handler.{Handler}
 use Rattle.tree_specs.specs.declared.question.Ask.TheVariants.{Quiet, Clock, Wait}
 use Rattle.tree_specs.specs.Events.Coming.{handler_for, goes_after}
-use Rattle.tree_specs.proofs.Invariants.Turning.{Passes, Pass, look-passes}
+use Rattle.tree_specs.proofs.Invariants.Turning.{Passes, Pass, Serve, look-passes}
+use Rattle.tree_specs.proofs.Tree.Numbered.{by_test}
+use Rattle.tree_specs.specs.declared.call.Call.TheVariants as call
+use Rattle.tree_specs.specs.declared.request.Note.{Note}
+use Rattle.tree_specs.specs.declared.frame.Errand.{Errand}
+use Rattle.tree_specs.specs.declared.frame.Errand.TheVariants.{Receive}
+use Rattle.tree_specs.specs.declared.frame.RequestFrame.{RequestFrame}
+use Rattle.tree_specs.specs.declared.frame.RequestFrame.TheVariants as request
+use Rattle.tree_specs.specs.Events.Requests.{note_of, is_unreceived, cleanup_in, cancel_in, not_deferring}
 use Rattle.tree_specs.specs.declared.frame.OutsideFrame.{OutsideFrame}
 use Rattle.tree_specs.specs.declared.frame.OutsideFrame.TheVariants.{Reaching}
 use Rattle.tree_specs.specs.declared.watch.Watch.{Watch}
@@ -26,37 +34,45 @@ use Rattle.tree_specs.specs.declared.free_step.FreeStep.{FreeStep}
 use Rattle.tree_specs.specs.declared.event.Event.{Event}
 use Rattle.tree_specs.specs.declared.call.Call.{Call}
 use Rattle.tree_specs.specs.declared.question.Ask.{Ask}
-use Rattle.tree_specs.specs.Tree.Pool.{Pool}
+use Rattle.tree_specs.specs.Tree.Pool.{Pool, schedule, renote}
 use Rattle.tree_specs.specs.Rules.Items.{Item, IsQuestion}
 use Rattle.tree_specs.specs.Rules.Items.Item.{Asked}
 use Rattle.tree_specs.specs.Calls.Plans.{Plan, planned, plan, unless_refused}
-use Rattle.tree_specs.specs.Calls.Plans.Plan.{Does, Frees, Unlinks, Empties, Asks as AsksOutside, Turns}
+use Rattle.tree_specs.specs.Calls.Plans.Plan.{Does, Frees, Unlinks, Empties, Asks as AsksOutside, Turns, Works}
 use Rattle.tree_specs.specs.Rules.Story.{turns}
 use Rattle.tree_specs.specs.Calls.Refusals.{Check}
 use Rattle.tree_specs.specs.Machine.FreeTable.{free_step}
-use Rattle.tree_specs.specs.Machine.Table.{Step, call_step, turning_step, starting_step, handled_step, turn_step, outside_step, table, step, event_of, announced, plan_step, lifted, taken}
+use Rattle.tree_specs.specs.Machine.Table.{Step, call_step, turning_step, starting_step, handled_step, turn_step, outside_step, over_step, cancelling_step, cleaning_step, release_object, cleaned_step, callback_step, notifying_step, receiving_step, request_step, table, step, event_of, announced, plan_step, lifted, taken}
 use Rattle.tree_specs.specs.Invariants.Sound.{Sound, Rests}
+use Rattle.tree_specs.specs.Invariants.Noted.{Noted}
 use Rattle.tree_specs.specs.Invariants.Measure.{cost}
 use Rattle.tree_specs.specs.Machine.View.{View, outcome_of, rest_of}
-use Rattle.tree_specs.specs.Invariants.Consistent.{IsCaller, IsStacked, IsConsistent}
+use Rattle.tree_specs.specs.Invariants.Consistent.{IsCaller, IsStacked, IsPaidFor, IsConsistent}
 use Rattle.tree_specs.proofs.Invariants.Keeps.{sound-kept}
+use Rattle.tree_specs.proofs.Invariants.KeptNotes.{noted-kept}
+use Rattle.tree_specs.proofs.Invariants.FreeNotes.{NotedBy}
+use Rattle.tree_specs.proofs.Invariants.KeptCalm.{CalmBy, calm-kept}
 use Rattle.tree_specs.proofs.Turns.Falls.{Well, falls}
-use Rattle.tree_specs.proofs.Turns.Load.{Placed, placed-kept}
+use Rattle.tree_specs.proofs.Turns.Load.{placed-kept}
+use Rattle.tree_specs.proofs.Turns.Seats.{Placed}
 use Rattle.tree_specs.proofs.Turns.Bound.{cost-turns, pending-most}
 
 -- a bound on the rows that there can be, with k inputs left
 abbrev pub most : View → ℕ → ℕ
 most v k = length v.pool.rows + 2 * k + 2
 
+pub well-of : (v : View) (k : ℕ) → Sound v.innermost v.below v.pool → Noted v.innermost v.pool → Well (most v k) v.innermost v.below v.pool k
+well-of v k s n = (s, n, omega (arith, pending-most v.innermost))
+
 pub well : (v : View) (k : ℕ) → IsConsistent v → Well (most v k) v.innermost v.below v.pool k
-well v k h = (h.sound, omega (arith, pending-most v.innermost))
+well v k h = well-of v k h.sound h.noted
 
 -- any number of turns above the measure gives the rest
 pub rest-enough : (R m : ℕ) (v : View) (is : List Input) → IsConsistent v → Well R v.innermost v.below v.pool (length is) → cost R v.innermost v.below v.pool (length is) < m
     → rest table m v.innermost v.below v.pool is ≡ outcome_of v is
 rest-enough R m v is h w less =
     let n : ℕ = turns (length v.pool.rows) (length is) in
-    let c = cost-turns v (length is) h in
+    let c = cost-turns v (length is) h.light in
     rest-any table (Well R) (cost R) (falls R) m (m + n) v.innermost v.below v.pool is w less (omega arith)
     ∙ rest-any table (Well (most v (length is))) (cost (most v (length is))) (falls (most v (length is))) (m + n) n v.innermost v.below v.pool is (well v (length is) h) (omega (arith, c)) c
 
@@ -64,39 +80,48 @@ rest-enough R m v is h w less =
 pub walk-whole : (v : View) (is : List Input) → IsConsistent v → NotShort (walk table (turns (length v.pool.rows) (length is)) v.innermost v.below v.pool is)
 walk-whole v is h =
     let R : ℕ = most v (length is) in
-    enough table (Well R) (cost R) (falls R) (turns (length v.pool.rows) (length is)) v.innermost v.below v.pool is (well v (length is) h) (cost-turns v (length is) h)
+    enough table (Well R) (cost R) (falls R) (turns (length v.pool.rows) (length is)) v.innermost v.below v.pool is (well v (length is) h) (cost-turns v (length is) h.light)
 
 -- and so are more
 pub walk-long : (n : ℕ) (v : View) (is : List Input) → IsConsistent v → turns (length v.pool.rows) (length is) ≤ n → NotShort (walk table n v.innermost v.below v.pool is)
 walk-long n v is h big =
     let R : ℕ = most v (length is) in
-    let c = cost-turns v (length is) h in
+    let c = cost-turns v (length is) h.light in
     enough table (Well R) (cost R) (falls R) n v.innermost v.below v.pool is (well v (length is) h) (omega (arith, c))
 
 -- as many steps are as good as so many turns
 pub rest-is-walk : (v : View) (is : List Input) → IsConsistent v → walk table (turns (length v.pool.rows) (length is)) v.innermost v.below v.pool is ≡ outcome_of v is
 rest-is-walk v is h =
     let R : ℕ = most v (length is) in
-    rest-walk table (Well R) (cost R) (falls R) (turns (length v.pool.rows) (length is)) v.innermost v.below v.pool is (well v (length is) h) (cost-turns v (length is) h)
+    rest-walk table (Well R) (cost R) (falls R) (turns (length v.pool.rows) (length is)) v.innermost v.below v.pool is (well v (length is) h) (cost-turns v (length is) h.light)
+
+-- whatever else holds, the stated turns are enough for works that the rows pay for
+pub paid-enough : (v : View) (is : List Input) → Sound v.innermost v.below v.pool → Noted v.innermost v.pool → IsPaidFor v.innermost v.below v.pool → NotShort (outcome_of v is)
+paid-enough v is s n l =
+    let R : ℕ = most v (length is) in
+    let k : ℕ = turns (length v.pool.rows) (length is) in
+    let w = well-of v (length is) s n in
+    let c = cost-turns v (length is) l in
+    subst NotShort (rest-walk table (Well R) (cost R) (falls R) k v.innermost v.below v.pool is w c) (enough table (Well R) (cost R) (falls R) k v.innermost v.below v.pool is w c)
 
 pub not-short : (v : View) (is : List Input) → IsConsistent v → NotShort (outcome_of v is)
-not-short v is h = subst NotShort (rest-is-walk v is h) (walk-whole v is h)
+not-short v is h = paid-enough v is h.sound h.noted h.light
 
 -- ---- what a step keeps
 
 Leads-whole : (m : Move Frame Answer Pool Item) (fs : List Frame) (k : ℕ)
-    → Leads table (λ g gs q j. Sound g gs q) m fs k → Placed m fs k → Leads table (λ g gs q j. IsConsistent (record { innermost = g; below = gs; pool = q })) m fs k
-Leads-whole (Do.Done a p) [] k s l = tt
-Leads-whole (Do.Done a p) (g ∷ gs) k s l = record { sound = s; seated = l.0; light = l.1 }
-Leads-whole (Do.Go f p) fs k s l = record { sound = s; seated = l.0; light = l.1 }
-Leads-whole (Do.Emit e f p) fs k s l = record { sound = s; seated = l.0; light = l.1 }
-Leads-whole (Do.Wait q f p) fs zero s l = tt
-Leads-whole (Do.Wait q f p) fs (suc k) s l = λ i g e. record { sound = s i g e; seated = (l i g e).0; light = (l i g e).1 }
-Leads-whole (Do.Call g f p) fs k s l = record { sound = s; seated = l.0; light = l.1 }
+    → Leads table (λ g gs q j. Sound g gs q) m fs k → NotedBy m fs k → CalmBy m fs k → Placed m fs k → Leads table (λ g gs q j. IsConsistent (record { innermost = g; below = gs; pool = q })) m fs k
+Leads-whole (Do.Done a p) [] k s n c l = tt
+Leads-whole (Do.Done a p) (g ∷ gs) k s n c l = record { sound = s; seated = l.0; light = l.1; noted = n; calm = c }
+Leads-whole (Do.Go f p) fs k s n c l = record { sound = s; seated = l.0; light = l.1; noted = n; calm = c }
+Leads-whole (Do.Emit e f p) fs k s n c l = record { sound = s; seated = l.0; light = l.1; noted = n; calm = c }
+Leads-whole (Do.Wait q f p) fs zero s n c l = tt
+Leads-whole (Do.Wait q f p) fs (suc k) s n c l = λ i g e. record { sound = s i g e; seated = (l i g e).0; light = (l i g e).1; noted = n i g e; calm = c i g e }
+Leads-whole (Do.Call g f p) fs k s n c l = record { sound = s; seated = l.0; light = l.1; noted = n; calm = c }
 
 pub whole-kept : (v : View) (k : ℕ) → IsConsistent v → Leads table (λ g gs q j. IsConsistent (record { innermost = g; below = gs; pool = q })) (step v.innermost v.pool) v.below k
 whole-kept v k h =
-    Leads-whole (step v.innermost v.pool) v.below k (sound-kept v.innermost v.below v.pool k h.sound) (placed-kept v.innermost v.below v.pool k h.sound h.seated h.light)
+    Leads-whole (step v.innermost v.pool) v.below k (sound-kept v.innermost v.below v.pool k h.sound) (noted-kept v.innermost v.below v.pool k h.sound h.noted) (calm-kept v.innermost v.below v.pool k h.sound h.noted h.calm) (placed-kept v.innermost v.below v.pool k h.sound h.seated h.light)
 
 stays : (v : View) (k : ℕ) → IsConsistent v
     → Leads table (λ g gs q j. Well (most v k) g gs q j × (cost (most v k) g gs q j < cost (most v k) v.innermost v.below v.pool k)) (step v.innermost v.pool) v.below k
@@ -112,7 +137,7 @@ pub event-law : (v : View) (e : Item) (f : Frame) (p : Pool) (is : List Input) �
 event-law v e f p is h is-emit =
     let R : ℕ = most v (length is) in
     let n : ℕ = turns (length v.pool.rows) (length is) in
-    let c = cost-turns v (length is) h in
+    let c = cost-turns v (length is) h.light in
     let k : Well R f v.below p (length is) × (cost R f v.below p (length is) < cost R v.innermost v.below v.pool (length is)) = rw is-emit at (stays v (length is) h) in
     rest-event table (Well R) (cost R) (falls R) n n v.innermost f v.below v.pool p e is (well v (length is) h) c is-emit (omega (arith, k.1, c))
     ∙ ap (tell e) (rest-enough R n (record { innermost = f; below = v.below; pool = p }) is (event-whole v e f p h is-emit) k.0 (omega (arith, k.1, c)))
@@ -128,7 +153,7 @@ pub question-law : (v : View) (q : Item) (f g : Frame) (p : Pool) (i : Input) (i
 question-law v q f g p i is h is-wait fits =
     let R : ℕ = most v (length (i ∷ is)) in
     let n : ℕ = turns (length v.pool.rows) (length (i ∷ is)) in
-    let c = cost-turns v (length (i ∷ is)) h in
+    let c = cost-turns v (length (i ∷ is)) h.light in
     let k : (i : Input) (g : Frame) → taken f p i ≡ Some g → Well R g v.below p (length is) × (cost R g v.below p (length is) < cost R v.innermost v.below v.pool (length (i ∷ is))) =
     rw is-wait at (stays v (length (i ∷ is)) h) in
     let l : Well R g v.below p (length is) × (cost R g v.below p (length is) < cost R v.innermost v.below v.pool (length (i ∷ is))) = k i g fits in
@@ -138,7 +163,7 @@ question-law v q f g p i is h is-wait fits =
 pub open-law : (v : View) (q : Item) (f : Frame) (p : Pool) → IsConsistent v → step v.innermost v.pool ≡ Do.Wait q f p → outcome_of v [] ≡ Waits (q ∷ [])
 open-law v q f p h is-wait =
     let R : ℕ = most v 0 in
-    rest-open table (Well R) (cost R) (falls R) (turns (length v.pool.rows) 0) v.innermost f v.below v.pool p q (well v 0 h) (cost-turns v 0 h) is-wait
+    rest-open table (Well R) (cost R) (falls R) (turns (length v.pool.rows) 0) v.innermost f v.below v.pool p q (well v 0 h) (cost-turns v 0 h.light) is-wait
 
 abbrev pub view_of_state : State Frame Pool → View
 view_of_state s = record { innermost = s.now; below = s.below; pool = s.pool }
@@ -151,7 +176,7 @@ pub silent-law : (v : View) (s : State Frame Pool) (is : List Input) → IsConsi
 silent-law v s is h e =
     let R : ℕ = most v (length is) in
     let n : ℕ = turns (length v.pool.rows) (length is) in
-    let c = cost-turns v (length is) h in
+    let c = cost-turns v (length is) h.light in
     let k : Well R s.now s.below s.pool (length is) × (cost R s.now s.below s.pool (length is) < cost R v.innermost v.below v.pool (length is)) =
     silent-leads table (λ g gs q j. Well (most v (length is)) g gs q j × (cost (most v (length is)) g gs q j < cost (most v (length is)) v.innermost v.below v.pool (length is))) (step v.innermost v.pool) v.below (length is) s (stays v (length is) h) e in
     rest-silent table (Well R) (cost R) (falls R) n n v.innermost v.below v.pool s is (well v (length is) h) c e (omega (arith, k.1, c))
@@ -201,6 +226,7 @@ plan-goes_on q (Unlinks o x) p = tt
 plan-goes_on q (Empties x) p = tt
 plan-goes_on q (AsksOutside outside) p = tt
 plan-goes_on q Turns p = turning-goes_on q p
+plan-goes_on q (Works change errand x) p = tt
 
 pub call-goes_on : (check : Check) (q : Ask) (c : Call) (p : Pool) → GoesOn (call_step check q c p)
 call-goes_on check q c p = plan-goes_on q (unless_refused check (plan p c)) p
@@ -218,6 +244,7 @@ free-waits ring _ p i g e = cc
 pub no-end : (f : Frame) (p q : Pool) (a : Answer) → IsCaller f → Rests f [] p → step f p ≡ Do.Done a q → ⊥
 no-end (frame.Call (Awaiting ask x)) p q a h r e = r
 no-end (frame.Call (Turning ask)) p q a h r e = r
+no-end (frame.Call (Requesting ask)) p q a h r e = r
 no-end (frame.Call (Returning v)) p q a h r e = h
 no-end (frame.Call (Doing ask c)) p q a h r e = subst GoesOn e (plan-goes_on ask (planned p c) p)
 no-end (frame.Call _) p q a h r e = cc
@@ -230,11 +257,13 @@ turn-asks (Polling limit) p q i g e = (Wait limit, cc)
 turn-asks Taking p q i g e = absurd (passes (turn_step Taking p) (look-passes Taking p tt) e)
   where
     passes : (m : Step) → Passes p m → m ≡ Do.Wait i g q → ⊥
-    passes _ (Pass t r rows next plain) e = cc
+    passes _ (Pass t r rows next notes times plain) e = cc
+    passes _ (Serve errand x r rows next notes times served noted) e = cc
 turn-asks (Timed again now) p q i g e = absurd (passes (turn_step (Timed again now) p) (look-passes (Timed again now) p tt) e)
   where
     passes : (m : Step) → Passes p m → m ≡ Do.Wait i g q → ⊥
-    passes _ (Pass t r rows next plain) e = cc
+    passes _ (Pass t r rows next notes times plain) e = cc
+    passes _ (Serve errand x r rows next notes times served noted) e = cc
 turn-asks (Starting what x occasion) p q i g e = absurd (each (handler_for p what x) e)
   where
     each : (o : Option Handler) → starting_step what x occasion o p ≡ Do.Wait i g q → ⊥
@@ -252,12 +281,54 @@ outside-asks : (f : OutsideFrame) (p q : Pool) (i : Item) (g : Frame) → outsid
 outside-asks (Reaching ask) p q i g e = (ask, cc)
 outside-asks _ p q i g e = cc
 
+-- the work of a request asks nothing by itself
+work-asks : (f : RequestFrame) (p q : Pool) (i : Item) (g : Frame) → request_step f p ≡ Do.Wait i g q → ⊥
+work-asks (request.Receiving x) p q i g e = each (is_unreceived (note_of p.requests x)) e
+  where
+    each : (b : Bool) → receiving_step x b p ≡ Do.Wait i g q → ⊥
+    each true e = cc
+    each false e = cc
+work-asks (request.Cancelling x) p q i g e = each (cancel_in (note_of p.requests x)) e
+  where
+    each : (o : Option Handler) → cancelling_step x o p ≡ Do.Wait i g q → ⊥
+    each None e = cc
+    each (Some handler) e = cc
+work-asks (request.Cleaning x errand) p q i g e = each (cleanup_in (note_of p.requests x)) e
+  where
+    each : (o : Option Handler) → cleaning_step x errand o p ≡ Do.Wait i g q → ⊥
+    each None e = cc
+    each (Some handler) e = cc
+work-asks (request.Cleaned x errand) p q i g e = each errand (note_of p.requests x) e
+  where
+    releases : (plan : Plan) → release_object plan Receive p ≡ Do.Wait i g q → ⊥
+    releases (Frees c) e = cc
+    releases (Unlinks o c) e = cc
+    releases _ e = cc
+
+    each : (errand : Errand) (o : Option Note) → cleaned_step x errand o p ≡ Do.Wait i g q → ⊥
+    each errand None e = cc
+    each Receive (Some n) e = releases (planned p (call.Free n.child)) e
+    each _ (Some n) e = cc
+work-asks (request.Notifying x errand) p q i g e = each (note_of p.requests x) e
+  where
+    back : (o : Option Handler) → callback_step x errand o p ≡ Do.Wait i g q → ⊥
+    back None e = cc
+    back (Some handler) e = cc
+
+    each : (o : Option Note) → notifying_step x errand o p ≡ Do.Wait i g q → ⊥
+    each None e = cc
+    each (Some n) e = by_test n.deferred
+        (λ t. let e' : over_step errand (schedule (renote p x not_deferring) x) ≡ Do.Wait i g q = rw t at e in cc)
+        (λ t. let e' : callback_step x errand n.callback p ≡ Do.Wait i g q = rw t at e in back n.callback e')
+work-asks _ p q i g e = cc
+
 -- callers, turns and questions to the outside ask
 pub waits-asking : (f : Frame) (p q : Pool) (i : Item) (g : Frame) → step f p ≡ Do.Wait i g q → (ask : Ask) × (i ≡ Asked ask)
 waits-asking (frame.Call (Asking ask)) p q i g e = (ask, cc)
 waits-asking (frame.Turn f) p q i g e = turn-asks f p q i g e
 waits-asking (frame.Outside f) p q i g e = outside-asks f p q i g e
 waits-asking (frame.Call (Doing ask c)) p q i g e = absurd (subst GoesOn e (plan-goes_on ask (planned p c) p))
+waits-asking (frame.Request f) p q i g e = absurd (work-asks f p q i g e)
 waits-asking (frame.Free f) p q i g e = absurd (free-waits p.ring (free_step f p) q i g e)
 waits-asking _ p q i g e = cc
 
@@ -291,7 +362,7 @@ ends-asked v is h =
     let n : ℕ = turns (length v.pool.rows) (length is) in
     let w : Asks IsQuestion (walk table n v.innermost v.below v.pool is) = walk-asks table WholeAt IsQuestion asks-kept n v.innermost v.below v.pool is h in
     Asks-items IsQuestion _ (not-short v is h)
-    (subst (λ (o : Outcome Answer Pool Input Item). Asks IsQuestion o) (rest-walk table (Well R) (cost R) (falls R) n v.innermost v.below v.pool is (well v (length is) h) (cost-turns v (length is) h)) w)
+    (subst (λ (o : Outcome Answer Pool Input Item). Asks IsQuestion o) (rest-walk table (Well R) (cost R) (falls R) n v.innermost v.below v.pool is (well v (length is) h) (cost-turns v (length is) h.light)) w)
 
 -- ---- where a question is open the story still to come begins with it
 
@@ -308,7 +379,7 @@ begins-items v q f p is h is-wait = each is e (not-short v is h)
     n = turns (length v.pool.rows) (length is)
 
     e : outcome_of v is ≡ asks table.taken (λ g p' left. walk table n g v.below p' left) q f p is
-    e = rest-step table (Well (most v (length is))) (cost (most v (length is))) (falls (most v (length is))) n v.innermost v.below v.pool is (well v (length is) h) (cost-turns v (length is) h)
+    e = rest-step table (Well (most v (length is))) (cost (most v (length is))) (falls (most v (length is))) n v.innermost v.below v.pool is (well v (length is) h) (cost-turns v (length is) h.light)
         ∙ ap (λ (m : Move Frame Answer Pool Item). leads table (walk table n) m v.below is) is-wait
 
     fits : (i : Input) (js : List Input) (o : Option Frame) → NotShort (given (λ g p' left. walk table n g v.below p' left) q p js o)

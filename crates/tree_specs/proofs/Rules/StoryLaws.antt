@@ -35,6 +35,8 @@ begin-whole first h = record {
   sound = record { started = omega arith; valid = λ x. tt; forest = forest-none; refers = record { target = λ r t e. cc; quiet = λ r t e. cc }; open_frees = λ x. refl; waiting = tt; rests = tt };
   seated = tt;
   light = omega arith;
+  noted = record { pool = record { notes = λ x. refl; timed = λ x t. cc; ready = λ x t. cc }; works = tt };
+  calm = ((λ x. refl), tt);
 }
 
 abbrev item_of : Scene → Item
@@ -99,8 +101,8 @@ text-run : (first n : ℕ) (is : List Input) → 1 ≤ first → turns 0 (length
 text-run first n is h big =
     let v : View = begin first in
     let R : ℕ = 0 + 2 * length is + 2 in
-    let c = cost-turns v (length is) (begin-whole first h) in
-    let e : run table n (frame.Call (Asking Quiet)) (empty first) is ≡ outcome_of v is = rest-enough R n v is (begin-whole first h) ((begin-whole first h).sound, omega arith) (omega (arith, c)) in
+    let c = cost-turns v (length is) (begin-whole first h).light in
+    let e : run table n (frame.Call (Asking Quiet)) (empty first) is ≡ outcome_of v is = rest-enough R n v is (begin-whole first h) ((begin-whole first h).sound, (begin-whole first h).noted, omega arith) (omega (arith, c)) in
     let noted = noted-run notes table n asking (empty first) is in
     let whole : NotShort (map_items item_of (run noted_table n asking (empty first) is)) =
     subst NotShort (sym (noted ∙ e)) (not-short v is (begin-whole first h)) in

@@ -27,20 +27,23 @@ use Rattle.tree_specs.specs.Tree.Heirs.{heir}
 use Rattle.tree_specs.specs.Rules.Items.Item.{Told}
 use Rattle.tree_specs.specs.Rules.Sequence.{Work, Scene, CallStart}
 use Rattle.tree_specs.specs.Calls.Plans.{Plan, planned, notice_of, changed_by}
-use Rattle.tree_specs.specs.Calls.Plans.Plan.{Does, Frees, Unlinks, Empties, Asks, Turns}
+use Rattle.tree_specs.specs.Calls.Plans.Plan.{Does, Frees, Unlinks, Empties, Asks, Turns, Works}
+use Rattle.tree_specs.specs.Calls.Refusals.{is_request}
 use Rattle.tree_specs.specs.Rules.Answers.{hook_moment, later, heard, reached}
-use Rattle.tree_specs.specs.Rules.Story.{effect, free, hooked, judged, dooming, leave, children, tried, asked, acting, telling, returning, items, announcing, unlink, release, given, numbered, turned, taking, timed, reaching, opening, hearing, lets_go, notice_event}
+use Rattle.tree_specs.specs.Rules.Story.{free, hooked, judged, dooming, leave, children, tried, asked, acting, telling, returning, items, announcing, unlink, release, given, taking, timed, reaching, opening, hearing, preparing, finishing, receiving, cancelling, notifying}
+use Rattle.tree_specs.specs.Rules.Pieces.{effect, numbered, turned, lets_go, notice_event, work_by}
 use Rattle.tree_specs.specs.Promises.Acceptances.{returned_by, AcceptsAfterReturns}
 use Rattle.tree_specs.proofs.Tree.Numbered.{by_test}
 use Rattle.tree_specs.proofs.Calls.Checks.{heard-by, Reaches, IsOpened, IsTold, IsAnswered, reached-by}
-use Rattle.tree_specs.proofs.Rules.Lawful.{Last, last_after, After, Lawful, Any, same-lawful, ended-lawful, short-lawful, told-lawful, followed-lawful, asks-lawful, Returned, returned-later, scene_of, AllLawful}
+use Rattle.tree_specs.proofs.Rules.Lawful.{Last, last_after, After, Lawful, Any, Said, same-lawful, ended-lawful, short-lawful, told-lawful, followed-lawful, asks-lawful, Returned, returned-later, scene_of, AllLawful}
+use Rattle.tree_specs.proofs.Rules.RequestLaws.{finishing-lawful, receiving-lawful, cancelling-lawful, cleaning-lawful, cleaned-lawful, notifying-lawful, calling-lawful, called-lawful, work-lawful}
 use Rattle.tree_specs.proofs.Rules.TurnLaws.{clocked-lawful, taking-lawful, timed-lawful, polling-lawful, starting-lawful, firing-lawful, handling-lawful, handled-lawful}
 
-weaker : (P Q : ℕ → Last → Type 0) (go : List Input → Outcome ℕ Pool Input Scene) → ((v : ℕ) (l : Last) → P v l → Q v l) → Lawful None P go → Lawful None Q go
-weaker P Q go h w = record { accepts = λ is. each is (go is) (w.accepts is); uses = w.uses }
+weaker : {A : Type 0} (last : Last) (P Q : A → Last → Type 0) (go : List Input → Outcome A Pool Input Scene) → ((v : A) (l : Last) → P v l → Q v l) → Lawful last P go → Lawful last Q go
+weaker {A = A} last P Q go h w = record { accepts = λ is. each is (go is) (w.accepts is); uses = w.uses }
   where
-    each : (is : List Input) (o : Outcome ℕ Pool Input Scene) → After None is P o → After None is Q o
-    each is (Ended v q ts left) a = (a.0, a.1, h v (last_after None ts is) a.2)
+    each : (is : List Input) (o : Outcome A Pool Input Scene) → After last is P o → After last is Q o
+    each is (Ended v q ts left) a = (a.0, a.1, h v (last_after last ts is) a.2)
     each is (Waits ts) a = a
     each is (Stray ts) a = a
     each is Short a = tt
@@ -87,9 +90,11 @@ free-lawful n ih x p last = newest (newest_ref p.rows x) refl
     gives a q law = same-lawful last Any (free (suc n) x p) (λ js. Ended a q [] js) law (ended-lawful last Any a q tt)
 
     marks : newest_ref p.rows x ≡ None → (r : Row) (m : Mark) → r.mark ≡ m → row_of p.rows x ≡ Some r → Lawful last Any (free (suc n) x p)
-    marks k r mark.Quiet m e = by_test (nat_eq r.hook 0)
-        (λ t. same-lawful last Any (free (suc n) x p) (leave n x 0 p) (λ js. rw (k, e, m, t) refl) (ih.frees.leave x 0 p last))
-        (λ t. same-lawful last Any (free (suc n) x p) (hooked n x r.hook (set_mark p x mark.Asked)) (λ js. rw (k, e, m, t) refl) (ih.frees.hooked x r.hook (set_mark p x mark.Asked) last))
+    marks k r mark.Quiet m e = by_test (is_request r.kind)
+        (λ u. same-lawful last Any (free (suc n) x p) (preparing n x (set_mark p x mark.Asked)) (λ js. rw (k, e, m, u) refl) (ih.frees.preparing x (set_mark p x mark.Asked) last))
+        (λ u. by_test (nat_eq r.hook 0)
+        (λ t. same-lawful last Any (free (suc n) x p) (leave n x 0 p) (λ js. rw (k, e, m, u, t) refl) (ih.frees.leave x 0 p last))
+        (λ t. same-lawful last Any (free (suc n) x p) (hooked n x r.hook (set_mark p x mark.Asked)) (λ js. rw (k, e, m, u, t) refl) (ih.frees.hooked x r.hook (set_mark p x mark.Asked) last)))
     marks k r mark.Asked m e = gives free_reply.Running p (λ js. rw (k, e, m) refl)
     marks k r mark.Busy m e = same-lawful last Any (free (suc n) x p) (λ js. followed (lets_go x (λ q. doom q x) p js) (λ a q left. dooming n x q left)) (λ js. rw (k, e, m) refl)
         (followed-lawful last Any Any (lets_go x (λ q. doom q x) p) (λ a q left. dooming n x q left) (lets_go-lawful x (λ q. doom q x) p last) (λ a q l w. ih.frees.dooming x q l))
@@ -183,19 +188,20 @@ turned-lawful : (q : Ask) (w : Work ℕ) (p : Pool) (last : Last) → Lawful las
 turned-lawful ask.Quiet w p last h = numbered-lawful w p last h
 turned-lawful _ w p last h = ended-lawful last Any _ p tt
 
-plan-lawful : (n : ℕ) → AllLawful n → (q : Ask) (plan : Plan) (p : Pool) (last : Last) → Lawful last Any (effect (free n) (unlink n) (children n) (reaching n) (turned q (taking n)) plan p)
+plan-lawful : (n : ℕ) → AllLawful n → (q : Ask) (plan : Plan) (p : Pool) (last : Last) → Lawful last Any (effect (free n) (unlink n) (children n) (reaching n) (turned q (taking n)) (work_by (finishing n) (notifying n) (receiving n) (cancelling n)) plan p)
 plan-lawful n ih q (Does change notice r) p last = ended-lawful last Any r (changed_by change p) tt
 plan-lawful n ih q (Frees x) p last = followed-lawful last Any Any (free n x p) _ (ih.frees.free x p last) (λ a q l k. ended-lawful l Any _ q tt)
 plan-lawful n ih q (Unlinks o x) p last = followed-lawful last Any Any (unlink n o x p) _ (ih.frees.unlink o x p last) (λ a q l k. ended-lawful l Any _ q tt)
 plan-lawful n ih q (Empties x) p last = followed-lawful last Any Any (children n x p) _ (ih.frees.children x p last) (λ a q l k. ended-lawful l Any _ q tt)
 plan-lawful n ih q (Asks outside) p last = ih.outside.reaching outside p last
 plan-lawful n ih q Turns p last = turned-lawful q (taking n) p last (ih.turns.taking p last)
+plan-lawful n ih q (Works change errand x) p last = weaker last Said Any (work_by (finishing n) (notifying n) (receiving n) (cancelling n) errand x (changed_by change p)) (λ r l s. tt) (work-lawful n ih errand x (changed_by change p) last)
 
 acting-lawful : (n : ℕ) → AllLawful n → (q : Ask) (c : Call) (p : Pool) (last : Last) → Lawful last (Returned q) (acting (suc n) q c p)
 acting-lawful n ih q c p last = each (notice_of (planned p c)) refl
   where
     done : Work Reply
-    done = effect (free n) (unlink n) (children n) (reaching n) (turned q (taking n)) (planned p c)
+    done = effect (free n) (unlink n) (children n) (reaching n) (turned q (taking n)) (work_by (finishing n) (notifying n) (receiving n) (cancelling n)) (planned p c)
 
     each : (o : Option Notice) → notice_of (planned p c) ≡ o → Lawful last (Returned q) (acting (suc n) q c p)
     each None k = same-lawful last (Returned q) (acting (suc n) q c p)
@@ -217,7 +223,7 @@ announcing-lawful n ih q notice r about p last = each notice
 later-lawful : (n : ℕ) → AllLawful n → (q : Ask) (r : Reply) (about : Option CallStart) (p : Pool) (last : Last) → Lawful last (Returned q) (telling (suc n) about (later q r) r p)
 later-lawful n ih q r about p last =
     told-lawful last (Returned q) (record { item = Told (Replied r); before = p; about = about }) (asked n (later q r) p) tt (λ is. (refl, refl))
-    (weaker (Returned (later q r)) (Returned q) (asked n (later q r) p) (λ v l k s e. k s (returned-later q r v ∙ e)) (ih.calls.asked (later q r) p None))
+    (weaker None (Returned (later q r)) (Returned q) (asked n (later q r) p) (λ v l k s e. k s (returned-later q r v ∙ e)) (ih.calls.asked (later q r) p None))
 
 returning-lawful : (n : ℕ) (q : Ask) (v : ℕ) (p : Pool) (last : Last) → Returned q v last → Lawful last (Returned q) (returning (suc n) v p)
 returning-lawful n q v p last h = ended-lawful last (Returned q) v p h
@@ -232,6 +238,8 @@ all-lawful zero = record {
     free = λ x p last. short-lawful last Any;
     hooked = λ x h p last. short-lawful last Any;
     judged = λ x h v p last e. short-lawful last Any;
+    preparing = λ x p last. short-lawful last Any;
+    prepared = λ x p last. short-lawful last Any;
     dooming = λ x p last. short-lawful last Any;
     leave = λ x h p last. short-lawful last Any;
     children = λ x p last. short-lawful last Any;
@@ -260,6 +268,17 @@ all-lawful zero = record {
     opening = λ fd p last. short-lawful last Any;
     hearing = λ r p last. short-lawful last Any;
   };
+  requests = record {
+    finishing = λ x s p last. short-lawful last Said;
+    receiving = λ x p last. short-lawful last Said;
+    cancelling = λ x p last. short-lawful last Said;
+    cleaning = λ x errand p last. short-lawful last Said;
+    cleaned = λ x errand p last. short-lawful last Said;
+    notifying = λ x errand p last. short-lawful last Said;
+    calling = λ what x h errand p last. short-lawful last Said;
+    called = λ what x h errand p last. short-lawful last Said;
+    over = λ r p last s. short-lawful last Said;
+  };
 }
 all-lawful (suc n) =
     let ih : AllLawful n = all-lawful n in
@@ -271,6 +290,8 @@ all-lawful (suc n) =
         free = free-lawful n ih;
         hooked = hooked-lawful n ih;
         judged = judged-lawful n ih;
+        preparing = λ x p last. followed-lawful last Said Any (receiving n x p) _ (ih.requests.receiving x p last) (λ r q l s. ih.frees.prepared x q l);
+        prepared = λ x p last. ih.frees.leave x 0 (set_mark p x mark.Quiet) last;
         dooming = λ x p last. ended-lawful last Any free_reply.Running p tt;
         leave = leave-lawful n ih;
         children = children-lawful n ih;
@@ -298,6 +319,17 @@ all-lawful (suc n) =
         reaching = reaching-lawful n ih;
         opening = λ fd p last. ended-lawful last Any (Number fd) (open_descriptor p fd) tt;
         hearing = λ r p last. ended-lawful last Any r p tt;
+      };
+      requests = record {
+        finishing = finishing-lawful n ih;
+        receiving = receiving-lawful n ih;
+        cancelling = cancelling-lawful n ih;
+        cleaning = cleaning-lawful n ih;
+        cleaned = cleaned-lawful n ih;
+        notifying = notifying-lawful n ih;
+        calling = calling-lawful n ih;
+        called = called-lawful n ih;
+        over = λ r p last s. ended-lawful last Said r p s;
       };
     }
 

@@ -10,7 +10,12 @@ use Rattle.tree_specs.specs.Tree.Pool.{Pool, set_mark, unschedule, disarm}
 use Rattle.tree_specs.specs.Rules.Items.Item.{Told, Asked}
 use Rattle.tree_specs.specs.Rules.Sequence.{Work, asks}
 use Rattle.tree_specs.specs.Rules.Answers.{clocked, polled}
-use Rattle.tree_specs.specs.Rules.Story.{free, asked, taking, timing, timed, polling, starting, firing, handling, handled, closing}
+use Rattle.tree_specs.specs.Rules.Story.{free, asked, taking, timing, timed, polling, starting, firing, handling, handled, closing, finishing, notifying}
+use Rattle.tree_specs.specs.Rules.Pieces.{comes}
+use Rattle.tree_specs.specs.declared.reply.Reply.{Reply}
+use Rattle.tree_specs.specs.declared.request.State.TheVariants.{TimedOut}
+use Rattle.tree_specs.specs.declared.frame.Errand.TheVariants.{Notify}
+use Rattle.tree_specs.specs.Events.Requests.{is_noted}
 use Rattle.tree_specs.specs.Promises.Acceptances.{returned_by}
 use Rattle.tree_specs.proofs.Tree.Numbered.{by_test}
 use Rattle.tree_specs.proofs.Calls.Checks.{clocked-by, polled-by}
@@ -24,11 +29,16 @@ use Rattle.tree_specs.specs.Events.Pending.{first}
 use Rattle.tree_specs.specs.Events.Rotation.{Ready, first_ready}
 use Rattle.tree_specs.specs.Events.Coming.{wait_limit, handler_for, handler_moment, at_time, with_flags, plainly, begun, goes_after, looks_again}
 use Rattle.std.specs.Prelude.{Bool, nat_le, ◌-◌, if◌then◌else◌}
-use Rattle.tree_specs.proofs.Rules.Lawful.{Last, Lawful, Any, same-lawful, told-lawful, followed-lawful, asks-lawful, Returned, scene_of, AllLawful}
+use Rattle.tree_specs.proofs.Rules.Lawful.{Last, Lawful, Any, Said, same-lawful, told-lawful, followed-lawful, asks-lawful, Returned, scene_of, AllLawful}
 
 pub clocked-lawful : (timed : ℕ → Work ℕ) (p : Pool) (last : Last) → ((now : ℕ) (l : Last) → Lawful l Any (timed now p)) → Lawful last Any (asks (Asked ask.Clock) (clocked timed) p)
 clocked-lawful timed p last h = asks-lawful last Any ask.Clock (clocked timed) p
     (λ i w e. (let t = clocked-by timed i w e in subst (λ (u : Work ℕ). Lawful (returned_by ask.Clock i) Any (u p)) (sym t.1) (h t.0 (returned_by ask.Clock i))))
+
+-- a request or an event has come
+comes-lawful : (n : ℕ) → AllLawful n → (b : Bool) (w : Work Reply) (what : What) (x : Obj) (o : Occasion) (p : Pool) (last : Last) → Lawful last Said (w p) → Lawful last Any (comes b w (closing n 1) (starting n what x o) p)
+comes-lawful n ih true w what x o p last h = followed-lawful last Said Any (w p) _ h (λ r q l s. ih.turns.closing 1 q l)
+comes-lawful n ih false w what x o p last h = ih.turns.starting what x o p last
 
 pub taking-lawful : (n : ℕ) → AllLawful n → (p : Pool) (last : Last) → Lawful last Any (taking (suc n) p)
 taking-lawful n ih p last = each (first p.soon) refl
@@ -36,12 +46,14 @@ taking-lawful n ih p last = each (first p.soon) refl
     due : first p.soon ≡ None → (o : Option Due) → first p.times ≡ o → Lawful last Any (taking (suc n) p)
     due e None k = same-lawful last Any (taking (suc n) p) (polling n wait_limit p) (λ js. rw (e, k) refl) (ih.turns.polling wait_limit p last)
     due e (Some d) k = by_test (nat_eq d.time 0)
-        (λ t. same-lawful last Any (taking (suc n) p) (starting n ForTimer d.object (at_time 0) (disarm p d.object)) (λ js. rw (e, k, t) refl) (ih.turns.starting ForTimer d.object (at_time 0) (disarm p d.object) last))
+        (λ t. same-lawful last Any (taking (suc n) p) (comes (is_noted p.requests d.object) (finishing n d.object TimedOut) (closing n 1) (starting n ForTimer d.object (at_time 0)) (disarm p d.object)) (λ js. rw (e, k, t) refl)
+        (comes-lawful n ih (is_noted p.requests d.object) (finishing n d.object TimedOut) ForTimer d.object (at_time 0) (disarm p d.object) last (ih.requests.finishing d.object TimedOut (disarm p d.object) last)))
         (λ t. same-lawful last Any (taking (suc n) p) (timing n false p) (λ js. rw (e, k, t) refl) (ih.turns.timing false p last))
 
     each : (o : Option Obj) → first p.soon ≡ o → Lawful last Any (taking (suc n) p)
     each None e = due e (first p.times) refl
-    each (Some x) e = same-lawful last Any (taking (suc n) p) (starting n ForImmediate x plainly (unschedule p x)) (λ js. rw e refl) (ih.turns.starting ForImmediate x plainly (unschedule p x) last)
+    each (Some x) e = same-lawful last Any (taking (suc n) p) (comes (is_noted p.requests x) (notifying n x Notify) (closing n 1) (starting n ForImmediate x plainly) (unschedule p x)) (λ js. rw e refl)
+        (comes-lawful n ih (is_noted p.requests x) (notifying n x Notify) ForImmediate x plainly (unschedule p x) last (ih.requests.notifying x Notify (unschedule p x) last))
 
 pub timed-lawful : (n : ℕ) → AllLawful n → (again : Bool) (now : ℕ) (p : Pool) (last : Last) → Lawful last Any (timed (suc n) again now p)
 timed-lawful n ih again now p last = each again (first p.times) refl
@@ -49,7 +61,8 @@ timed-lawful n ih again now p last = each again (first p.times) refl
     each : (again : Bool) (o : Option Due) → first p.times ≡ o → Lawful last Any (timed (suc n) again now p)
     each again None e = same-lawful last Any (timed (suc n) again now p) (closing n 0 p) (λ js. rw e refl) (ih.turns.closing 0 p last)
     each again (Some d) e = by_test (nat_le d.time now)
-        (λ t. same-lawful last Any (timed (suc n) again now p) (starting n ForTimer d.object (at_time now) (disarm p d.object)) (λ js. rw (e, t) refl) (ih.turns.starting ForTimer d.object (at_time now) (disarm p d.object) last))
+        (λ t. same-lawful last Any (timed (suc n) again now p) (comes (is_noted p.requests d.object) (finishing n d.object TimedOut) (closing n 1) (starting n ForTimer d.object (at_time now)) (disarm p d.object)) (λ js. rw (e, t) refl)
+        (comes-lawful n ih (is_noted p.requests d.object) (finishing n d.object TimedOut) ForTimer d.object (at_time now) (disarm p d.object) last (ih.requests.finishing d.object TimedOut (disarm p d.object) last)))
         (λ t. early again d e t)
       where
         early : (again : Bool) (d : Due) → first p.times ≡ Some d → nat_le d.time now ≡ false → Lawful last Any (timed (suc n) again now p)

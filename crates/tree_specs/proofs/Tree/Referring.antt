@@ -10,7 +10,7 @@ use Rattle.tree_specs.specs.declared.row.Row.{Row}
 use Rattle.tree_specs.specs.Words.Objects.{same, same_owner}
 use Rattle.tree_specs.specs.Tree.Targets.{target_of, is_target, newer, newest, newest_ref}
 use Rattle.tree_specs.specs.Tree.Pool.{reaches, without, owner_in, is_owner, is_inside, next_owner, is_below, newest_ref_of, row_of, is_object_row, target_in, target_at, first_kid, owner_of, changed}
-use Rattle.tree_specs.specs.Calls.Refusals.{is_plain}
+use Rattle.tree_specs.specs.Calls.Refusals.{is_referable}
 use Rattle.tree_specs.specs.Tree.Forest.{Distinct, IsForest}
 use Rattle.tree_specs.specs.Invariants.Sound.{IsReferable, IsQuietRow, Refers}
 use Rattle.tree_specs.proofs.Tree.Numbered.{by_test, same-true, same-equal, same-false, same_or_not, same_owner-false}
@@ -118,8 +118,9 @@ pub refers-nothing : (rs : List Row) (x t : Obj) → target_at rs x ≡ None →
 refers-nothing rs x t e q = let bad : None ≡ Some t = sym e ∙ q in cc
 
 -- what may be referred to is no reference
-pub plain-refers : (k : Kind) → is_plain k ≡ true → target_of k ≡ None
+pub plain-refers : (k : Kind) → is_referable k ≡ true → target_of k ≡ None
 plain-refers kind.Plain e = refl
+plain-refers kind.Request e = refl
 plain-refers _ e = cc
 
 pub referable-refers : (o : Option Row) → IsReferable o → target_in o ≡ None

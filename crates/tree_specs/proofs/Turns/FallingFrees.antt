@@ -4,10 +4,8 @@ use Rattle.tree_specs.specs.Machine.Profiles.{InRun, InLoop, tried_cost}
 use Rattle.tree_specs.specs.declared.frame.FreeFrame.{FreeFrame}
 use Rattle.tree_specs.proofs.Tree.Referring.{newest-refers, newest-of-refers}
 use Rattle.tree_specs.specs.Tree.Targets.{newest_ref}
-use Rattle.std.proofs.Common.{inl, inr, ◌⊎◌, ◌≡◌, ◌≢◌, ℕ, suc, zero, ◌+◌, ◌*◌, ◌≤◌, ◌<◌, List, [], ◌∷◌, length, Option, Some, None, true, false, nat_eq, if◌then◌else◌, refl, sym, ◌∙◌, ap, subst, arith}
-use Rattle.step_machine.specs.Machine.{Move}
+use Rattle.std.proofs.Common.{inl, inr, ◌⊎◌, ◌≡◌, ◌≢◌, ℕ, ◌+◌, ◌*◌, ◌≤◌, ◌<◌, List, [], ◌∷◌, length, Option, Some, None, true, false, nat_eq, if◌then◌else◌, refl, sym, ◌∙◌, ap, subst, arith}
 use Rattle.step_machine.specs.Machine.{Move as Do}
-use Rattle.step_machine.proofs.Ends.{Leads}
 use Rattle.tree_specs.specs.declared.object.Obj.{Obj}
 use Rattle.tree_specs.specs.declared.object.Owner.{Owner}
 use Rattle.tree_specs.specs.declared.object.Owner.TheVariants.{Of, Root}
@@ -15,105 +13,35 @@ use Rattle.tree_specs.specs.declared.row.Row.{Row}
 use Rattle.tree_specs.specs.declared.row.Mark.{Mark}
 use Rattle.tree_specs.specs.declared.row.Mark.TheVariants.{Quiet, Asked, Busy, Doomed, Dying}
 use Rattle.tree_specs.specs.declared.event.Event.{Event}
-use Rattle.tree_specs.specs.declared.question.Ask.{Ask}
 use Rattle.tree_specs.specs.declared.frame.Frame.{Frame}
 use Rattle.tree_specs.specs.declared.frame.Frame.TheVariants as frame
-use Rattle.tree_specs.specs.declared.frame.CallFrame.TheVariants.{Asking, Awaiting, Returning}
+use Rattle.tree_specs.specs.declared.frame.CallFrame.TheVariants.{Awaiting}
 use Rattle.tree_specs.specs.declared.frame.TurnFrame.TheVariants.{Clearing}
-use Rattle.tree_specs.specs.declared.frame.FreeFrame.TheVariants.{Unlinking, Releasing, Giving, Beginning, Hooked, Judged, Dooming, Leaving, Looping, FreeingChild, AfterChild, Ending}
+use Rattle.tree_specs.specs.declared.frame.FreeFrame.TheVariants.{Unlinking, Releasing, Giving, Beginning, Hooked, Judged, Preparing, Prepared, Dooming, Leaving, Looping, FreeingChild, AfterChild, Ending}
 use Rattle.tree_specs.specs.declared.frame.Purpose.{Purpose}
 use Rattle.tree_specs.specs.declared.frame.Purpose.TheVariants.{Removal, Emptying}
-use Rattle.tree_specs.specs.declared.frame.Answer.{Answer}
-use Rattle.tree_specs.specs.declared.frame.Answer.TheVariants.{Freed, Returned}
+use Rattle.tree_specs.specs.declared.frame.Answer.TheVariants.{Freed}
 use Rattle.tree_specs.specs.declared.free_step.FreeReply.{FreeReply}
 use Rattle.tree_specs.specs.declared.free_step.FreeReply.TheVariants.{Ok, Running, Refused, Held}
-use Rattle.tree_specs.specs.Words.Objects.{same, same_owner}
+use Rattle.std.proofs.Math.Nat.{mul-le-mul_left}
+use Rattle.tree_specs.specs.declared.frame.RequestFrame.TheVariants as request
+use Rattle.tree_specs.specs.Events.Requests.{without_note}
+use Rattle.tree_specs.specs.Calls.Refusals.{is_request}
+use Rattle.tree_specs.specs.Words.Objects.{same_owner}
 use Rattle.tree_specs.specs.Tree.Pool.{Pool, row_of, is_below, owner_of, first_kid, without, changed, remove, left_row, place, detach, doom, marked_row, hooked_row, target_at, newest_ref_of, is_inside}
 use Rattle.tree_specs.specs.Events.Rotation.{closes_with}
 use Rattle.tree_specs.specs.Tree.Heirs.{heir}
-use Rattle.tree_specs.specs.Rules.Items.{Item}
-use Rattle.tree_specs.specs.Machine.FreeTable.{begin_quiet, begin_step, judge_step, last_step, loop_step, child_step, refs_step, unlink_step, release_step, hand_on_step}
-use Rattle.tree_specs.specs.Machine.Table.{table, step, resume, lifted, announced, closed_event}
-use Rattle.tree_specs.specs.Invariants.Sound.{claims, IsWaiting, AllWait, IsLive, Stands, Tries, IsOver, Sound, IsQuietRow, footing}
+use Rattle.tree_specs.specs.Machine.FreeTable.{begin_plain, begin_quiet, begin_step, judge_step, last_step, loop_step, child_step, refs_step, unlink_step, release_step, hand_on_step}
+use Rattle.tree_specs.specs.Machine.Table.{step, resume, lifted, announced, closed_event}
+use Rattle.tree_specs.specs.Invariants.Sound.{claims, AllWait, IsLive, Stands, Tries, Sound, IsQuietRow, footing}
 use Rattle.tree_specs.proofs.Tree.Numbered.{by_test, same-equal, same_owner-false}
 use Rattle.tree_specs.proofs.Tree.Heirs.{heir-other}
-use Rattle.tree_specs.proofs.Calls.Checks.{Heard, HeardCall, HeardReturn, heard-leads}
 use Rattle.tree_specs.specs.Tree.Inside.{total}
-use Rattle.tree_specs.specs.Invariants.Measure.{count, mark_weight, weight, row_worth, waiting_cost, top_cost, cost, pending, loop_kids}
+use Rattle.tree_specs.specs.Invariants.Measure.{count, mark_weight, weight, row_worth, waiting_cost, top_cost, cost, loop_kids}
 use Rattle.tree_specs.proofs.Tree.Rows.{total-without, total-placed, total-changed, total-length, count-length}
-use Rattle.tree_specs.proofs.Invariants.Waiters.{Waiter, ForFree, ForRun, ForChild, ForTurn, ForHandler, ForClear, waiter}
+use Rattle.tree_specs.proofs.Invariants.Waiters.{Waiter, ForFree, ForChild, ForClear, ForRelease, waiter}
 use Rattle.tree_specs.proofs.Invariants.Changes.{dying-row, running-row, claim-here, owned-row, heir-placed}
-
--- R bounds the rows that there can be
-abbrev pub Room : ℕ → Frame → Pool → ℕ → Type 0
-Room R f p k = length p.rows + 2 * k + pending f ≤ R
-
-abbrev pub Lowers : ℕ → ℕ → Move Frame Answer Pool Item → List Frame → ℕ → Type 0
-Lowers R b m fs k = Leads table (λ g gs q j. Room R g q j × (cost R g gs q j < b)) m fs k
-
--- a work that ends pays for what the work below it begins
-pub done-lower : (R : ℕ) (a : Answer) (f : Frame) (fs : List Frame) (p : Pool) (k : ℕ) → AllWait fs → length p.rows + 2 * k ≤ R
-    → ((g : Frame) (gs : List Frame) → fs ≡ g ∷ gs → IsWaiting g gs → top_cost R (resume g a) gs p.rows < waiting_cost g + top_cost R f fs p.rows)
-    → Lowers R (cost R f fs p k) (Do.Done a p) fs k
-done-lower R a f [] p k w room pays = tt
-done-lower R a f (g ∷ gs) p k w room pays =
-    let l = pays g gs refl w.0 in
-    (calm g (waiter g gs w.0), omega (arith, l))
-  where
-    calm : (g : Frame) → Waiter g → Room R (resume g a) p k
-    calm _ (ForFree q x) = omega arith
-    calm _ (ForChild x c noted purpose) = omega arith
-    calm _ _ = omega arith
-
--- what a work that is over pays for
-over-pays : (R : ℕ) (a : FreeReply) → IsOver a → (rows : List Row) → length rows ≤ R → (g : Frame) (gs : List Frame) → Waiter g → top_cost R (resume g (Freed a)) gs rows < waiting_cost g + (4 * R + 9)
-over-pays R a o rows n _ gs (ForFree q x) = omega arith
-over-pays R a o rows n _ gs (ForRun x h) = omega arith
-over-pays R a o rows n _ gs (ForTurn q) = omega arith
-over-pays R a o rows n _ gs (ForHandler what x h occasion) = omega arith
-over-pays R a o rows n _ gs (ForClear x) = omega arith
-over-pays R Ok o rows n _ gs (ForChild x c noted purpose) = let m = count-length rows (Of x) in omega (arith, m, n)
-over-pays R Held o rows n _ gs (ForChild x c noted purpose) = let m = count-length rows (Of x) in omega (arith, m, n)
-over-pays R (Refused v) o rows n _ gs (ForChild x c noted purpose) = let m = count-length rows (Of x) in omega (arith, m, n)
-over-pays R Running o rows n _ gs (ForChild x c noted purpose) = absurd o
-
-ending-lower : (R : ℕ) (a : FreeReply) (fs : List Frame) (p : Pool) (k : ℕ) → Sound (frame.Free (Ending a)) fs p → Room R (frame.Free (Ending a)) p k
-    → Lowers R (cost R (frame.Free (Ending a)) fs p k) (step (frame.Free (Ending a)) p) fs k
-ending-lower R a fs p k s room = done-lower R (Freed a) (frame.Free (Ending a)) fs p k s.waiting (omega arith) (λ g gs e w. let l = over-pays R a s.rests.0 p.rows (omega arith) g gs (waiter g gs w) in omega (arith, l))
-
--- a routine that has returned pays as one that is over
-pub returning-lower : (R v : ℕ) (fs : List Frame) (p : Pool) (k : ℕ) → Sound (frame.Call (Returning v)) fs p → Room R (frame.Call (Returning v)) p k
-    → Lowers R (cost R (frame.Call (Returning v)) fs p k) (step (frame.Call (Returning v)) p) fs k
-returning-lower R v fs p k s room = done-lower R (Returned v) (frame.Call (Returning v)) fs p k s.waiting (omega arith)
-    (λ g gs e w. let l = over-pays R Ok tt p.rows (omega arith) g gs (waiter g gs w) in omega (arith, l, as-over g gs (waiter g gs w)))
-  where
-    as-over : (g : Frame) (gs : List Frame) → Waiter g → top_cost R (resume g (Returned v)) gs p.rows ≡ top_cost R (resume g (Freed Ok)) gs p.rows
-    as-over _ gs (ForFree q x) = refl
-    as-over _ gs _ = refl
-
-pub asking-lower : (R : ℕ) (q : Ask) (fs : List Frame) (p : Pool) (k : ℕ) → Room R (frame.Call (Asking q)) p k
-    → Lowers R (cost R (frame.Call (Asking q)) fs p k) (step (frame.Call (Asking q)) p) fs k
-asking-lower R q fs p zero room = tt
-asking-lower R q fs p (suc k) room = λ i g e. leads g (heard-leads q i g e)
-  where
-    leads : (g : Frame) → Heard q g → Room R g p k × (cost R g fs p k < cost R (frame.Call (Asking q)) fs p (suc k))
-    leads _ (HeardCall c) = (omega arith, omega arith)
-    leads _ (HeardReturn v of) = (omega arith, omega arith)
-
-pub length-changed : (g : Row → Row) (rs : List Row) (x : Obj) → length (changed g rs x) ≡ length rs
-length-changed g [] x = refl
-length-changed g (s ∷ rs) x = let ih = length-changed g rs x in by_test (same s.serial x) (λ t. rw t refl) (λ t. rw t (ap suc ih))
-
-pub length-without : (rs : List Row) (x : Obj) (r : Row) → row_of rs x ≡ Some r → length rs ≡ suc (length (without rs x))
-length-without rs x r e = omega (arith, total-without (λ q. 1) rs x r e, total-length rs, total-length (without rs x))
-
--- a row is changed to one as heavy
-pub total-kept : (w : Row → ℕ) (g : Row → Row) (rs : List Row) (x : Obj) (r : Row) → row_of rs x ≡ Some r → w (g r) ≡ w r → total w (changed g rs x) ≡ total w rs
-total-kept w g rs x r e same_weight = omega (arith, total-changed w g rs x r e, same_weight)
-
-pub live-weight : (m : Mark) → IsLive m → mark_weight m ≡ 2
-live-weight (Dying former) l = absurd l
-live-weight _ l = refl
+use Rattle.tree_specs.proofs.Turns.Lowering.{Room, Lowers, done-lower, ending-lower, length-changed, length-without, total-kept, marked-weight, removed-weight, live-weight}
 
 -- what is told of it makes no difference
 pub announced-lower : (R b : ℕ) (o : Option Event) (g : FreeFrame) (q : Pool) (fs : List Frame) (k : ℕ) → Room R (frame.Free g) q k × (cost R (frame.Free g) fs q k < b) → Lowers R b (announced o g q) fs k
@@ -127,7 +55,7 @@ leaving-lower R x h fs p k s room = by-row s.rests.0 s.rests.1 s.rests.2
   where
     by-row : (r : Row) → row_of p.rows x ≡ Some r → IsLive r.mark → Lowers R (cost R (frame.Free (Leaving x h)) fs p k) (step (frame.Free (Leaving x h)) p) fs k
     by-row r e l =
-        let w : total weight p.rows ≡ total weight (changed left_row p.rows x) + 1 = omega (arith, total-changed weight left_row p.rows x r e, live-weight r.mark l) in
+        let w : total (weight p.requests) p.rows ≡ total (weight p.requests) (changed left_row p.rows x) + 1 = omega (arith, total-changed (weight p.requests) left_row p.rows x r e, live-weight r.mark l) in
         let n = length-changed left_row p.rows x in
         let c = count-length (changed left_row p.rows x) (Of x) in
         let u = ap (λ (z : ℕ). row_worth R * z) w in
@@ -141,15 +69,15 @@ kids-most R rows (g ∷ fs) h = omega arith
 
 -- a reference that is gone pays for what comes next
 dropped-lower : (R : ℕ) (f g : FreeFrame) (fs : List Frame) (p : Pool) (k : ℕ) (r t : Obj) → Sound (frame.Free f) fs p → target_at p.rows r ≡ Some t → Room R (frame.Free f) p k
-    → (length (without p.rows r) ≤ R → top_cost R (frame.Free g) fs (without p.rows r) ≤ 4 * R + 10)
+    → (length (without p.rows r) ≤ R → top_cost R (frame.Free g) fs (without p.rows r) ≤ 4 * R + 13)
     → Room R (frame.Free g) (remove p r) k × (cost R (frame.Free g) fs (remove p r) k < cost R (frame.Free f) fs p k)
 dropped-lower R f g fs p k r t s is room most = by-row (row_of p.rows r) refl (s.refers.quiet r t is)
   where
     by-row : (q : Option Row) → row_of p.rows r ≡ q → IsQuietRow q → Room R (frame.Free g) (remove p r) k × (cost R (frame.Free g) fs (remove p r) k < cost R (frame.Free f) fs p k)
     by-row None e quiet = absurd quiet
     by-row (Some row) e quiet =
-        let w : total weight p.rows ≡ total weight (without p.rows r) + 2 = omega (arith, total-without weight p.rows r row e, ap mark_weight quiet) in
-        let u = ap (λ (z : ℕ). row_worth R * z) w in
+        let w : total (weight (without_note p.requests r)) (without p.rows r) + 2 ≤ total (weight p.requests) p.rows = removed-weight p r row 2 e (ap mark_weight quiet) in
+        let u = mul-le-mul_left (row_worth R) w in
         let n = length-without p.rows r row e in
         let m = most (omega (arith, n)) in
         (omega (arith, n), omega (arith, u, m))
@@ -161,8 +89,8 @@ looping-lower R x purpose fs p k s most = each (first_kid p.rows (Of x)) refl
     gone : (h : ℕ) (r : Row) → row_of p.rows x ≡ Some r → (former : Owner) → r.mark ≡ Dying former
         → Room R (frame.Free (Ending Ok)) (remove p x) k × (cost R (frame.Free (Ending Ok)) fs (remove p x) k < cost R (frame.Free (Looping x (Removal h))) fs p k)
     gone h r e former m =
-        let w : total weight p.rows ≡ total weight (without p.rows x) + 1 = omega (arith, total-without weight p.rows x r e, ap mark_weight m) in
-        let u = ap (λ (z : ℕ). row_worth R * z) w in
+        let w : total (weight (without_note p.requests x)) (without p.rows x) + 1 ≤ total (weight p.requests) p.rows = removed-weight p x r 1 e (ap mark_weight m) in
+        let u = mul-le-mul_left (row_worth R) w in
         let n = length-without p.rows x r e in
         (omega (arith, n), omega (arith, u))
 
@@ -170,6 +98,7 @@ looping-lower R x purpose fs p k s most = each (first_kid p.rows (Of x)) refl
     called : (g : Frame) (gs : List Frame) → Stands Emptying (footing (g ∷ gs)) → top_cost R (resume g (Freed Ok)) gs p.rows < waiting_cost g + (4 * count p.rows (Of x) + 7)
     called (frame.Call (Awaiting q y)) gs c = omega arith
     called (frame.Turn (Clearing y)) gs c = omega arith
+    called (frame.Request (request.Releasing y)) gs c = omega arith
     called _ gs c = absurd c
 
     last : (purpose : Purpose) → Sound (frame.Free (Looping x purpose)) fs p → Lowers R (cost R (frame.Free (Looping x purpose)) fs p k) (lifted p.ring (last_step x purpose p)) fs k
@@ -222,7 +151,7 @@ tried-lower R x c noted purpose a fs p k s room = each a s
     moved b s below cheaper =
         let may = heir-placed x c noted _ fs p s below in
         let n = length-placed p (heir p.rows x c noted) c may.row may.is in
-        let u = ap (λ (z : ℕ). row_worth R * z) (total-placed weight p (heir p.rows x c noted) c may.row may.is refl) in
+        let u = ap (λ (z : ℕ). row_worth R * z) (total-placed (weight p.requests) p (heir p.rows x c noted) c may.row may.is refl) in
         (omega (arith, n), omega (arith, u, cheaper))
 
     handed : (b : FreeReply) → tried_cost b ≡ 8 → Sound (frame.Free (AfterChild x c noted purpose b)) fs p → Lowers R (cost R (frame.Free (AfterChild x c noted purpose b)) fs p k) (lifted p.ring (hand_on_step x c noted purpose p)) fs k
@@ -255,6 +184,7 @@ at_once-lower R a x f (g ∷ gs) p k h t w most room = below g (waiter g gs w.0)
         → Lowers R (cost R (frame.Free f) (g ∷ gs) p k) (Do.Done (Freed a) p) (g ∷ gs) k
     below _ (ForFree q y) t most = (omega arith, omega (arith, most))
     below _ (ForClear y) t most = (omega arith, omega (arith, most))
+    below _ (ForRelease y) t most = (omega arith, omega (arith, most))
     below _ (ForChild y c noted purpose) t most = elim h [
       | inl is ↦ runs y c noted purpose a is most
       | inr none ↦ absurd (none (Of y) t.1)
@@ -286,7 +216,7 @@ beginning-lower R x fs p k s room = newest (newest_ref p.rows x) refl
 
     dooms : (r : Row) → row_of p.rows x ≡ Some r → r.mark ≡ Busy → Lowers R (cost R (frame.Free (Beginning x)) fs p k) (announced (closed_event (closes_with p.ring x)) (Dooming x) (doom p x)) fs k
     dooms r e m =
-        let u = ap (λ (z : ℕ). row_worth R * z) (total-kept weight (marked_row Doomed) p.rows x r e (sym (ap mark_weight m))) in
+        let u = ap (λ (z : ℕ). row_worth R * z) (total-kept (weight p.requests) (marked_row Doomed) p.rows x r e (marked-weight p.requests Doomed r (sym (ap mark_weight m)))) in
         announced-lower R _ _ (Dooming x) (doom p x) fs k (omega (arith, length-changed (marked_row Doomed) p.rows x), omega (arith, u, kids fs))
       where
         kids : (fs : List Frame) → loop_kids (doom p x).rows fs ≡ loop_kids p.rows fs
@@ -294,12 +224,19 @@ beginning-lower R x fs p k s room = newest (newest_ref p.rows x) refl
         kids (frame.Free (FreeingChild y c noted purpose) ∷ fs) = ap (λ (z : ℕ). 4 * z) (total-kept (λ q. if is_below q.owner (Of y) then 1 else 0) (marked_row Doomed) p.rows x r e refl)
         kids (_ ∷ fs) = refl
 
-    quiet : (r : Row) → row_of p.rows x ≡ Some r → r.mark ≡ Quiet → Lowers R (cost R (frame.Free (Beginning x)) fs p k) (lifted p.ring (begin_quiet x r.hook p)) fs k
-    quiet r e m = by_test (nat_eq r.hook 0)
+    plain : (r : Row) → row_of p.rows x ≡ Some r → r.mark ≡ Quiet → Lowers R (cost R (frame.Free (Beginning x)) fs p k) (lifted p.ring (begin_plain x r.hook p)) fs k
+    plain r e m = by_test (nat_eq r.hook 0)
         (λ t. rw t (omega arith, omega arith))
-        (λ t. let u = ap (λ (z : ℕ). row_worth R * z) (total-kept weight (marked_row Asked) p.rows x r e (sym (ap mark_weight m))) in
+        (λ t. let u = ap (λ (z : ℕ). row_worth R * z) (total-kept (weight p.requests) (marked_row Asked) p.rows x r e (marked-weight p.requests Asked r (sym (ap mark_weight m)))) in
         let n = length-changed (marked_row Asked) p.rows x in
         rw t (omega (arith, n), omega (arith, u)))
+
+    quiet : (r : Row) → row_of p.rows x ≡ Some r → r.mark ≡ Quiet → Lowers R (cost R (frame.Free (Beginning x)) fs p k) (lifted p.ring (begin_quiet x r.kind r.hook p)) fs k
+    quiet r e m = by_test (is_request r.kind)
+        (λ t. let u = ap (λ (z : ℕ). row_worth R * z) (total-kept (weight p.requests) (marked_row Asked) p.rows x r e (marked-weight p.requests Asked r (sym (ap mark_weight m)))) in
+        let n = length-changed (marked_row Asked) p.rows x in
+        rw t (omega (arith, n), omega (arith, u)))
+        (λ t. rw t (plain r e m))
 
     marks : (r : Row) (m : Mark) → r.mark ≡ m → row_of p.rows x ≡ Some r → Lowers R (cost R (frame.Free (Beginning x)) fs p k) (lifted p.ring (begin_step x (row_of p.rows x) p)) fs k
     marks r Quiet m e = rw (e, m) (quiet r e m)
@@ -349,7 +286,7 @@ giving-lower : (R : ℕ) (x : Obj) (o : Owner) (fs : List Frame) (p : Pool) (k :
     → Lowers R (cost R (frame.Free (Giving x o)) fs p k) (step (frame.Free (Giving x o)) p) fs k
 giving-lower R x o fs p k s room =
     let n = length-placed p o x s.rests.row s.rests.is in
-    let u = ap (λ (z : ℕ). row_worth R * z) (total-placed weight p o x s.rests.row s.rests.is refl) in
+    let u = ap (λ (z : ℕ). row_worth R * z) (total-placed (weight p.requests) p o x s.rests.row s.rests.is refl) in
     (omega (arith, n), omega (arith, u))
 
 judged-lower : (R : ℕ) (x : Obj) (h v : ℕ) (fs : List Frame) (p : Pool) (k : ℕ) → Sound (frame.Free (Judged x h v)) fs p → Room R (frame.Free (Judged x h v)) p k
@@ -360,10 +297,18 @@ judged-lower R x h v fs p k s room =
   where
     by-row : (r : Row) → row_of p.rows x ≡ Some r → IsLive r.mark → Lowers R (cost R (frame.Free (Judged x h v)) fs p k) (lifted p.ring (judge_step x h v p)) fs k
     by-row r e live = by_test (nat_eq v 0)
-        (λ t. let u = ap (λ (z : ℕ). row_worth R * z) (total-kept weight (hooked_row 0) p.rows x r e refl) in
+        (λ t. let u = ap (λ (z : ℕ). row_worth R * z) (total-kept (weight p.requests) (hooked_row 0) p.rows x r e refl) in
         let n = length-changed (hooked_row 0) p.rows x in rw t (omega (arith, n), omega (arith, u)))
-        (λ t. let u = ap (λ (z : ℕ). row_worth R * z) (total-kept weight (marked_row Quiet) p.rows x r e (sym (live-weight r.mark live))) in
+        (λ t. let u = ap (λ (z : ℕ). row_worth R * z) (total-kept (weight p.requests) (marked_row Quiet) p.rows x r e (marked-weight p.requests Quiet r (sym (live-weight r.mark live)))) in
         let n = length-changed (marked_row Quiet) p.rows x in rw t (omega (arith, n), omega (arith, u)))
+
+prepared-lower : (R : ℕ) (x : Obj) (fs : List Frame) (p : Pool) (k : ℕ) → Sound (frame.Free (Prepared x)) fs p → Room R (frame.Free (Prepared x)) p k
+    → Lowers R (cost R (frame.Free (Prepared x)) fs p k) (step (frame.Free (Prepared x)) p) fs k
+prepared-lower R x fs p k s room =
+    let row = running-row (row_of p.rows x) (claims x fs) (claim-here x InRun (claims x fs) (row_of p.rows x) (s.open_frees x)) in
+    let u = ap (λ (z : ℕ). row_worth R * z) (total-kept (weight p.requests) (marked_row Quiet) p.rows x row.0 row.1 (marked-weight p.requests Quiet row.0 (sym (live-weight row.0.mark row.2)))) in
+    let n = length-changed (marked_row Quiet) p.rows x in
+    (omega (arith, n), omega (arith, u))
 
 pub free-lower : (R : ℕ) (f : FreeFrame) (fs : List Frame) (p : Pool) (k : ℕ) → Sound (frame.Free f) fs p → Room R (frame.Free f) p k → Lowers R (cost R (frame.Free f) fs p k) (step (frame.Free f) p) fs k
 free-lower R (Unlinking o x) fs p k s room = unlinking-lower R o x fs p k s room
@@ -377,4 +322,6 @@ free-lower R (Looping x purpose) fs p k s room = looping-lower R x purpose fs p 
 free-lower R (AfterChild x c noted purpose a) fs p k s room = tried-lower R x c noted purpose a fs p k s room
 free-lower R (Ending answer) fs p k s room = ending-lower R answer fs p k s room
 free-lower R (Hooked x h) fs p k s room = (omega arith, omega arith)
+free-lower R (Preparing x) fs p k s room = (omega arith, omega arith)
+free-lower R (Prepared x) fs p k s room = prepared-lower R x fs p k s room
 free-lower R _ fs p k s room = absurd s.rests

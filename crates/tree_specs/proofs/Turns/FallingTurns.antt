@@ -9,7 +9,10 @@ use Rattle.tree_specs.specs.declared.frame.Frame.{Frame}
 use Rattle.tree_specs.specs.declared.frame.Frame.TheVariants as frame
 use Rattle.tree_specs.specs.declared.frame.CallFrame.TheVariants.{Turning}
 use Rattle.tree_specs.specs.declared.frame.TurnFrame.{TurnFrame}
-use Rattle.tree_specs.specs.declared.frame.TurnFrame.TheVariants.{Taking, Timing, Timed, Polling, Starting, Firing, Handling, Handled, Clearing, Closing}
+use Rattle.tree_specs.specs.declared.frame.TurnFrame.TheVariants.{Taking, Timing, Timed, Polling, Starting, Firing, Handling, Handled, Clearing, Serving, Closing}
+use Rattle.tree_specs.specs.declared.frame.Errand.TheVariants.{Finish, Notify}
+use Rattle.tree_specs.specs.declared.request.State.TheVariants.{TimedOut}
+use Rattle.tree_specs.specs.declared.frame.RequestFrame.TheVariants as request
 use Rattle.tree_specs.specs.declared.frame.OutsideFrame.{OutsideFrame}
 use Rattle.tree_specs.specs.declared.frame.OutsideFrame.TheVariants.{Reaching, Opening, Hearing}
 use Rattle.tree_specs.specs.declared.frame.Answer.{Answer}
@@ -25,17 +28,20 @@ use Rattle.tree_specs.specs.Invariants.Measure.{mark_weight, weight, row_worth, 
 use Rattle.tree_specs.proofs.Tree.Numbered.{by_test}
 use Rattle.tree_specs.proofs.Calls.Checks.{Reached, ReachedOpening, ReachedHearing, reached-leads}
 use Rattle.tree_specs.proofs.Invariants.Changes.{handling-row, claim-here}
-use Rattle.tree_specs.proofs.Invariants.Turning.{handler-ready, rotated-rows, IsPlain, Passes, Pass, look-passes, taken-plain}
-use Rattle.tree_specs.proofs.Turns.FallingFrees.{Lowers, Room, done-lower, total-kept, length-changed, live-weight}
+use Rattle.tree_specs.proofs.Invariants.Turning.{handler-ready, rotated-rows, IsPlain, Passes, Pass, Serve, look-passes, taken-plain}
+use Rattle.tree_specs.proofs.Turns.Lowering.{Lowers, Room, done-lower, total-kept, length-changed, marked-weight, live-weight}
 
-passes-lower : (R : ℕ) (f : TurnFrame) (fs : List Frame) (p : Pool) (k : ℕ) (m : Step) → (turn_profile f).steps ≡ 5 → Passes p m → Room R (frame.Turn f) p k
+passes-lower : (R : ℕ) (f : TurnFrame) (fs : List Frame) (p : Pool) (k : ℕ) (m : Step) → (turn_profile f).steps ≡ 13 → Passes p m → Room R (frame.Turn f) p k
     → Lowers R (cost R (frame.Turn f) fs p k) m fs k
-passes-lower R f fs p k _ five (Pass g q rows next plain) room =
+passes-lower R f fs p k _ most (Pass g q rows next notes times plain) room =
     let cheap = plain.cheap in
-    rw rows (omega arith, omega (arith, cheap, five))
+    rw (rows, notes) (omega arith, omega (arith, cheap, most))
+passes-lower R f fs p k _ most (Serve Notify x q rows next notes times served noted) room = rw (rows, notes) (omega arith, omega (arith, most))
+passes-lower R f fs p k _ most (Serve (Finish TimedOut) x q rows next notes times served noted) room = rw (rows, notes) (omega arith, omega (arith, most))
+passes-lower R f fs p k _ most (Serve _ x q rows next notes times served noted) room = absurd served
 
 -- what an answer leads to costs less than the answer pays
-asked-lower : (R : ℕ) (f : TurnFrame) (fs : List Frame) (p : Pool) (k : ℕ) (g : Frame) (t : TurnFrame) → g ≡ frame.Turn t → IsPlain t 5 → Room R (frame.Turn f) p (suc k)
+asked-lower : (R : ℕ) (f : TurnFrame) (fs : List Frame) (p : Pool) (k : ℕ) (g : Frame) (t : TurnFrame) → g ≡ frame.Turn t → IsPlain t 13 → Room R (frame.Turn f) p (suc k)
     → Room R g p k × (cost R g fs p k < cost R (frame.Turn f) fs p (suc k))
 asked-lower R f fs p k g t e plain room =
     let cheap = plain.cheap in
@@ -49,15 +55,15 @@ starting-lower R w x occasion fs p k room = each (handler_for p w x) refl
     each None e = rw e (omega arith, omega arith)
     each (Some h) e =
         let ready = handler-ready p w x h e in
-        let u = ap (λ (z : ℕ). row_worth R * z) (total-kept weight (marked_row Busy) p.rows x ready.row ready.is (sym (ap mark_weight ready.quiet))) in
+        let u = ap (λ (z : ℕ). row_worth R * z) (total-kept (weight p.requests) (marked_row Busy) p.rows x ready.row ready.is (marked-weight p.requests Busy ready.row (sym (ap mark_weight ready.quiet)))) in
         let n = length-changed (marked_row Busy) p.rows x in
-        rw (e, (rotated-rows w x p).0) (omega (arith, n), omega (arith, u))
+        rw (e, (rotated-rows w x p).0, (rotated-rows w x p).2) (omega (arith, n), omega (arith, u))
 
 handled-lower : (R : ℕ) (w : What) (x : Obj) (fs : List Frame) (p : Pool) (k : ℕ) → Sound (frame.Turn (Handled w x)) fs p → Room R (frame.Turn (Handled w x)) p k
     → Lowers R (cost R (frame.Turn (Handled w x)) fs p k) (turn_step (Handled w x) p) fs k
 handled-lower R w x fs p k s room =
     let row = handling-row (row_of p.rows x) (claims x fs) (claim-here x InHandler (claims x fs) (row_of p.rows x) (s.open_frees x)) in
-    let u = ap (λ (z : ℕ). row_worth R * z) (total-kept weight (marked_row Quiet) p.rows x row.0 row.1 (sym (live-weight row.0.mark row.2))) in
+    let u = ap (λ (z : ℕ). row_worth R * z) (total-kept (weight p.requests) (marked_row Quiet) p.rows x row.0 row.1 (marked-weight p.requests Quiet row.0 (sym (live-weight row.0.mark row.2)))) in
     let n = length-changed (marked_row Quiet) p.rows x in
     by_test (goes_after p w x) (λ t. rw t (omega (arith, n), omega (arith, u))) (λ t. rw t (omega (arith, n), omega (arith, u)))
 
@@ -71,6 +77,8 @@ answers-lower R a f fs p k wait turned room none two =
     pays : (g : Frame) (gs : List Frame) → IsTurned (footing (g ∷ gs)) → top_cost R (resume g a) gs p.rows < waiting_cost g + 2
     pays (frame.Call (Turning q)) gs t = omega arith
     pays (frame.Turn (Clearing x)) gs t = absurd t
+    pays (frame.Turn (Serving x)) gs t = absurd t
+    pays (frame.Request (request.Releasing c)) gs t = absurd t
     pays _ gs t = absurd t
 
 pub turn-lower : (R : ℕ) (f : TurnFrame) (fs : List Frame) (p : Pool) (k : ℕ) → Sound (frame.Turn f) fs p → Room R (frame.Turn f) p k → Lowers R (cost R (frame.Turn f) fs p k) (turn_step f p) fs k
@@ -85,6 +93,7 @@ turn-lower R (Firing w x h occasion) fs p k s room = (omega arith, omega arith)
 turn-lower R (Handling w x h occasion) fs p k s room = (omega arith, omega arith)
 turn-lower R (Handled w x) fs p k s room = handled-lower R w x fs p k s room
 turn-lower R (Clearing x) fs p k s room = absurd s.rests
+turn-lower R (Serving x) fs p k s room = absurd s.rests
 turn-lower R (Closing v) fs p k s room = answers-lower R (Turned v) (frame.Turn (Closing v)) fs p k s.waiting s.rests room refl (omega arith)
 
 -- ---- a question to the outside

@@ -1,5 +1,5 @@
 -- Each step lowers the measure.
-use Rattle.std.proofs.Common.{◌≤◌, ◌+◌, ℕ, suc, zero, ◌<◌, List, [], ◌∷◌, Some, None, arith}
+use Rattle.std.proofs.Common.{◌≡◌, ◌≤◌, ◌+◌, ◌*◌, ℕ, suc, zero, ◌<◌, List, [], ◌∷◌, length, Some, None, arith}
 use Rattle.std.proofs.Math.Nat.{mul-le-mul_left}
 use Rattle.step_machine.specs.Machine.{Move}
 use Rattle.step_machine.specs.Machine.{Move as Do}
@@ -14,60 +14,87 @@ use Rattle.tree_specs.specs.declared.frame.CallFrame.TheVariants.{Announcing, Te
 use Rattle.tree_specs.specs.declared.frame.Answer.{Answer}
 use Rattle.tree_specs.specs.Tree.Pool.{Pool}
 use Rattle.tree_specs.specs.Rules.Items.{Item}
-use Rattle.tree_specs.specs.Calls.Plans.{Plan, planned, changed_by}
-use Rattle.tree_specs.specs.Calls.Plans.Plan.{Does, Frees, Unlinks, Empties, Asks, Turns}
+use Rattle.tree_specs.specs.declared.object.Obj.{Obj}
+use Rattle.tree_specs.specs.declared.frame.Errand.{Errand}
+use Rattle.tree_specs.specs.declared.frame.Errand.TheVariants.{Finish, Notify, Receive, Cancel}
+use Rattle.tree_specs.specs.Calls.Plans.{Change, Plan, planned, changed_by}
+use Rattle.tree_specs.specs.Calls.Plans.Plan.{Does, Frees, Unlinks, Empties, Asks, Turns, Works}
 use Rattle.tree_specs.specs.Machine.Table.{table, step, plan_step, turning_step}
 use Rattle.tree_specs.specs.Invariants.Sound.{Sound}
 use Rattle.tree_specs.specs.Tree.Inside.{total}
 use Rattle.tree_specs.specs.Invariants.Measure.{weight, row_worth, cost}
 use Rattle.tree_specs.proofs.Tree.Rows.{count-length}
-use Rattle.tree_specs.proofs.Calls.Plans.{May, follows, may-planned}
+use Rattle.tree_specs.proofs.Calls.Plans.{MayWork, May, may-planned}
+use Rattle.tree_specs.proofs.Calls.Changes.{MayDo, added, heavier, follows}
+use Rattle.tree_specs.specs.Invariants.Noted.{Noted}
 use Rattle.tree_specs.proofs.Invariants.Keeps.{sound-kept}
-use Rattle.tree_specs.proofs.Turns.FallingFrees.{Lowers, Room, asking-lower, returning-lower, free-lower}
+use Rattle.tree_specs.proofs.Invariants.KeptNotes.{noted-kept}
+use Rattle.tree_specs.proofs.Turns.FallingFrees.{free-lower}
+use Rattle.tree_specs.proofs.Turns.Lowering.{Lowers, Room, asking-lower, returning-lower}
 use Rattle.tree_specs.proofs.Turns.FallingTurns.{turn-lower, outside-lower}
+use Rattle.tree_specs.proofs.Turns.FallingRequests.{request-lower}
 
 turning-lower : (R : ℕ) (q : Ask) (c : Call) (fs : List Frame) (p : Pool) (k : ℕ) → Room R (frame.Call (Doing q c)) p k → Lowers R (cost R (frame.Call (Doing q c)) fs p k) (turning_step q p) fs k
 turning-lower R Quiet c fs p k room = (omega arith, omega arith)
 turning-lower R q c fs p k room = (omega arith, omega arith)
 
+-- the work of a request begins
+work-lower : (R : ℕ) (q : Ask) (c : Call) (fs : List Frame) (p : Pool) (k : ℕ) → Room R (frame.Call (Doing q c)) p k → (change : Change) (errand : Errand) (x : Obj) → MayDo p change → added change ≡ 0 → heavier change ≡ 0
+    → MayWork (changed_by change p) errand x → Lowers R (cost R (frame.Call (Doing q c)) fs p k) (plan_step q (Works change errand x) p) fs k
+work-lower R q c fs p k room change errand x may none light work = each errand work
+  where
+    u : row_worth R * total (weight (changed_by change p).requests) (changed_by change p).rows ≤ row_worth R * total (weight p.requests) p.rows
+    u = let f = follows p change may in mul-le-mul_left (row_worth R) (omega (arith, f.weight, light))
+
+    n : length (changed_by change p).rows ≤ length p.rows
+    n = let f = follows p change may in omega (arith, f.number, none)
+
+    each : (errand : Errand) → MayWork (changed_by change p) errand x → Lowers R (cost R (frame.Call (Doing q c)) fs p k) (plan_step q (Works change errand x) p) fs k
+    each (Finish s) work = (omega (arith, n), omega (arith, u))
+    each Receive work = (omega (arith, n), omega (arith, u))
+    each Cancel work = (omega (arith, n), omega (arith, u))
+    each Notify work = absurd work
+
 -- the first step of a plan that may be carried out
 planned-lower : (R : ℕ) (q : Ask) (c : Call) (fs : List Frame) (p : Pool) (k : ℕ) → Room R (frame.Call (Doing q c)) p k → (plan : Plan) → May p plan
     → Lowers R (cost R (frame.Call (Doing q c)) fs p k) (plan_step q plan p) fs k
 planned-lower R q c fs p k room (Does change None r) may =
-    let f = follows p change may.0 in let few = may.1 in let w : total weight (changed_by change p).rows ≤ total weight p.rows + 4 = omega (arith, f.weight) in let u = mul-le-mul_left (row_worth R) w in (omega (arith, f.number), omega (arith, u))
+    let f = follows p change may.0 in let few = may.1 in let heavy = may.3 in let w : total (weight (changed_by change p).requests) (changed_by change p).rows ≤ total (weight p.requests) p.rows + 6 = omega (arith, f.weight, heavy) in let u = mul-le-mul_left (row_worth R) w in (omega (arith, f.number), omega (arith, u))
 planned-lower R q c fs p k room (Does change (Some notice) r) may =
-    let f = follows p change may.0 in let few = may.1 in let w : total weight (changed_by change p).rows ≤ total weight p.rows + 4 = omega (arith, f.weight) in let u = mul-le-mul_left (row_worth R) w in (omega (arith, f.number), omega (arith, u))
+    let f = follows p change may.0 in let few = may.1 in let heavy = may.3 in let w : total (weight (changed_by change p).requests) (changed_by change p).rows ≤ total (weight p.requests) p.rows + 6 = omega (arith, f.weight, heavy) in let u = mul-le-mul_left (row_worth R) w in (omega (arith, f.number), omega (arith, u))
 planned-lower R q c fs p k room (Frees x) may = (omega arith, omega arith)
 planned-lower R q c fs p k room (Unlinks o x) may = (omega arith, omega arith)
 planned-lower R q c fs p k room (Empties x) may = let m = count-length p.rows (Of x) in (omega arith, omega arith)
 planned-lower R q c fs p k room (Asks outside) may = (omega arith, omega arith)
 planned-lower R q c fs p k room Turns may = turning-lower R q c fs p k room
+planned-lower R q c fs p k room (Works change errand x) may = work-lower R q c fs p k room change errand x may.0 may.1 may.2 may.3
 
 -- every step lowers the measure
-pub lower : (R : ℕ) (f : Frame) (fs : List Frame) (p : Pool) (k : ℕ) → Sound f fs p → Room R f p k → Lowers R (cost R f fs p k) (step f p) fs k
-lower R (frame.Call (Asking q)) fs p k s room = asking-lower R q fs p k room
-lower R (frame.Call (Doing q c)) fs p k s room = planned-lower R q c fs p k room (planned p c) (may-planned (frame.Call (Doing q c)) fs p s c)
-lower R (frame.Call (Returning v)) fs p k s room = returning-lower R v fs p k s room
-lower R (frame.Free f) fs p k s room = free-lower R f fs p k s room
-lower R (frame.Call (Announcing q notice r)) fs p k s room = (omega arith, omega arith)
-lower R (frame.Call (Telling q r)) fs p k s room = (omega arith, omega arith)
-lower R (frame.Turn f) fs p k s room = turn-lower R f fs p k s room
-lower R (frame.Outside f) fs p k s room = outside-lower R f fs p k s room
-lower R _ fs p k s room = absurd s.rests
+pub lower : (R : ℕ) (f : Frame) (fs : List Frame) (p : Pool) (k : ℕ) → Sound f fs p → Noted f p → Room R f p k → Lowers R (cost R f fs p k) (step f p) fs k
+lower R (frame.Call (Asking q)) fs p k s noted room = asking-lower R q fs p k room
+lower R (frame.Call (Doing q c)) fs p k s noted room = planned-lower R q c fs p k room (planned p c) (may-planned (frame.Call (Doing q c)) fs p s c)
+lower R (frame.Call (Returning v)) fs p k s noted room = returning-lower R v fs p k s room
+lower R (frame.Free f) fs p k s noted room = free-lower R f fs p k s room
+lower R (frame.Call (Announcing q notice r)) fs p k s noted room = (omega arith, omega arith)
+lower R (frame.Call (Telling q r)) fs p k s noted room = (omega arith, omega arith)
+lower R (frame.Turn f) fs p k s noted room = turn-lower R f fs p k s room
+lower R (frame.Outside f) fs p k s noted room = outside-lower R f fs p k s room
+lower R (frame.Request f) fs p k s noted room = request-lower R f fs p k s noted room
+lower R _ fs p k s noted room = absurd s.rests
 
 -- what the measure speaks of
 abbrev pub Well : ℕ → Frame → List Frame → Pool → ℕ → Type 0
-Well R f fs p k = Sound f fs p × Room R f p k
+Well R f fs p k = Sound f fs p × Noted f p × Room R f p k
 
 Leads-both : (b R : ℕ) (m : Move Frame Answer Pool Item) (fs : List Frame) (k : ℕ)
-    → Leads table (λ g gs q j. Sound g gs q) m fs k → Lowers R b m fs k → Leads table (λ g gs q j. Well R g gs q j × (cost R g gs q j < b)) m fs k
-Leads-both b R (Do.Done a p) [] k s l = tt
-Leads-both b R (Do.Done a p) (g ∷ gs) k s l = ((s, l.0), l.1)
-Leads-both b R (Do.Go f p) fs k s l = ((s, l.0), l.1)
-Leads-both b R (Do.Emit e f p) fs k s l = ((s, l.0), l.1)
-Leads-both b R (Do.Wait q f p) fs zero s l = tt
-Leads-both b R (Do.Wait q f p) fs (suc k) s l = λ i g e. ((s i g e, (l i g e).0), (l i g e).1)
-Leads-both b R (Do.Call g f p) fs k s l = ((s, l.0), l.1)
+    → Leads table (λ g gs q j. Sound g gs q) m fs k → Leads table (λ g gs q j. Noted g q) m fs k → Lowers R b m fs k → Leads table (λ g gs q j. Well R g gs q j × (cost R g gs q j < b)) m fs k
+Leads-both b R (Do.Done a p) [] k s n l = tt
+Leads-both b R (Do.Done a p) (g ∷ gs) k s n l = ((s, n, l.0), l.1)
+Leads-both b R (Do.Go f p) fs k s n l = ((s, n, l.0), l.1)
+Leads-both b R (Do.Emit e f p) fs k s n l = ((s, n, l.0), l.1)
+Leads-both b R (Do.Wait q f p) fs zero s n l = tt
+Leads-both b R (Do.Wait q f p) fs (suc k) s n l = λ i g e. ((s i g e, n i g e, (l i g e).0), (l i g e).1)
+Leads-both b R (Do.Call g f p) fs k s n l = ((s, n, l.0), l.1)
 
 pub falls : (R : ℕ) → Falls table (Well R) (cost R)
-falls R = record { keeps = λ f fs p k h. Leads-both (cost R f fs p k) R (step f p) fs k (sound-kept f fs p k h.0) (lower R f fs p k h.0 h.1) }
+falls R = record { keeps = λ f fs p k h. Leads-both (cost R f fs p k) R (step f p) fs k (sound-kept f fs p k h.0) (noted-kept f fs p k h.0 h.1) (lower R f fs p k h.0 h.1 h.2) }

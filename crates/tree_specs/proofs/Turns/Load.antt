@@ -7,14 +7,22 @@ use Rattle.tree_specs.specs.Events.Rotation.{closes_with}
 use Rattle.tree_specs.specs.Rules.Items.Item.{Told}
 use Rattle.std.specs.Prelude.{unwrap_or}
 use Rattle.tree_specs.proofs.Tree.Referring.{newest-refers, newest-of-refers}
-use Rattle.tree_specs.proofs.Calls.Plans.{May, follows, may-planned}
-use Rattle.tree_specs.specs.Calls.Plans.{Plan, planned}
-use Rattle.tree_specs.specs.Calls.Plans.Plan.{Does, Frees, Unlinks, Empties, Asks, Turns}
+use Rattle.tree_specs.proofs.Calls.Plans.{MayWork, May, may-planned}
+use Rattle.tree_specs.proofs.Calls.Changes.{MayDo, follows}
+use Rattle.tree_specs.specs.Calls.Plans.{Change, Plan, planned, changed_by}
+use Rattle.tree_specs.specs.declared.call.Call.TheVariants as call
+use Rattle.tree_specs.specs.declared.request.Note.{Note}
+use Rattle.tree_specs.specs.declared.request.State.TheVariants.{TimedOut}
+use Rattle.tree_specs.specs.declared.frame.Errand.{Errand}
+use Rattle.tree_specs.specs.declared.frame.Errand.TheVariants.{Finish, Notify, Receive, Cancel}
+use Rattle.tree_specs.specs.declared.frame.RequestFrame.{RequestFrame}
+use Rattle.tree_specs.specs.declared.frame.RequestFrame.TheVariants as request
+use Rattle.tree_specs.specs.Events.Requests.{note_of, is_unreceived, cleanup_in, cancel_in}
+use Rattle.tree_specs.specs.Calls.Refusals.{is_request}
+use Rattle.tree_specs.specs.Calls.Plans.Plan.{Does, Frees, Unlinks, Empties, Asks, Turns, Works}
 use Rattle.tree_specs.specs.Tree.Targets.{newest_ref}
-use Rattle.std.proofs.Common.{◌≡◌, ℕ, suc, zero, ◌+◌, ◌≤◌, List, [], ◌∷◌, Option, Some, None, nat_eq, refl, sym, ◌∙◌, ap, subst, arith}
-use Rattle.step_machine.specs.Machine.{Move}
+use Rattle.std.proofs.Common.{◌≡◌, ℕ, suc, zero, ◌+◌, ◌≤◌, List, [], Option, Some, None, nat_eq, refl, sym, ◌∙◌, ap, subst, arith}
 use Rattle.step_machine.specs.Machine.{Move as Do}
-use Rattle.step_machine.proofs.Ends.{Leads}
 use Rattle.tree_specs.specs.declared.object.Obj.{Obj}
 use Rattle.tree_specs.specs.declared.object.Owner.{Owner}
 use Rattle.tree_specs.specs.declared.object.Owner.TheVariants.{Of, Root}
@@ -24,23 +32,21 @@ use Rattle.tree_specs.specs.declared.row.Mark.TheVariants.{Quiet, Asked, Busy, D
 use Rattle.tree_specs.specs.declared.call.Call.{Call}
 use Rattle.tree_specs.specs.declared.question.Ask.{Ask}
 use Rattle.tree_specs.specs.declared.question.Ask.TheVariants as asks
-use Rattle.tree_specs.specs.declared.reply.Reply.{Reply}
 use Rattle.tree_specs.specs.declared.frame.Frame.{Frame}
 use Rattle.tree_specs.specs.declared.frame.Frame.TheVariants as frame
-use Rattle.tree_specs.specs.declared.frame.CallFrame.TheVariants.{Asking, Doing, Awaiting, Turning, Announcing, Telling, Returning}
+use Rattle.tree_specs.specs.declared.frame.CallFrame.TheVariants.{Asking, Doing, Awaiting, Turning, Requesting, Announcing, Telling, Returning}
 use Rattle.tree_specs.specs.declared.frame.TurnFrame.{TurnFrame}
-use Rattle.tree_specs.specs.declared.frame.TurnFrame.TheVariants.{Taking, Timing, Timed, Polling, Starting, Firing, Handling, Handled, Clearing, Closing}
+use Rattle.tree_specs.specs.declared.frame.TurnFrame.TheVariants.{Taking, Timing, Timed, Polling, Starting, Firing, Handling, Handled, Clearing, Serving, Closing}
 use Rattle.tree_specs.specs.declared.handler.Handler.{Handler}
 use Rattle.tree_specs.specs.declared.moment.What.{What}
 use Rattle.tree_specs.specs.declared.reply.Reply.TheVariants as reply
 use Rattle.tree_specs.specs.declared.reply.Refusal.TheVariants as refusal
 use Rattle.tree_specs.specs.Events.Coming.{handler_for, goes_after}
-use Rattle.tree_specs.proofs.Invariants.Turning.{handler-ready, rotated-rows, IsPlain, Passes, Pass, look-passes, taken-plain}
+use Rattle.tree_specs.proofs.Invariants.Turning.{handler-ready, rotated-rows, IsPlain, Passes, Pass, Serve, look-passes, taken-plain}
 use Rattle.tree_specs.specs.declared.frame.FreeFrame.{FreeFrame}
-use Rattle.tree_specs.specs.declared.frame.FreeFrame.TheVariants.{Unlinking, Releasing, Giving, Beginning, Hooked, Judged, Dooming, Leaving, Looping, FreeingChild, AfterChild, Ending}
+use Rattle.tree_specs.specs.declared.frame.FreeFrame.TheVariants.{Unlinking, Releasing, Giving, Beginning, Hooked, Judged, Preparing, Prepared, Dooming, Leaving, Looping, FreeingChild, AfterChild, Ending}
 use Rattle.tree_specs.specs.declared.frame.Purpose.{Purpose}
 use Rattle.tree_specs.specs.declared.frame.Purpose.TheVariants.{Removal, Emptying}
-use Rattle.tree_specs.specs.declared.frame.Answer.{Answer}
 use Rattle.tree_specs.specs.declared.frame.OutsideFrame.{OutsideFrame}
 use Rattle.tree_specs.specs.declared.frame.OutsideFrame.TheVariants.{Reaching, Opening, Hearing}
 use Rattle.tree_specs.specs.declared.frame.Answer.TheVariants.{Freed, Returned, Turned, Heard as HeardBy}
@@ -50,92 +56,28 @@ use Rattle.tree_specs.specs.Tree.Pool.{Pool, row_of, is_below, owner_of, first_k
 use Rattle.tree_specs.specs.Tree.Heirs.{heir}
 use Rattle.tree_specs.specs.Rules.Items.{Item}
 use Rattle.tree_specs.specs.Machine.FreeTable.{begin_quiet, begin_step, judge_step, last_step, loop_step, hand_on_step, child_step, refs_step, unlink_step, release_step}
-use Rattle.tree_specs.specs.Machine.Table.{Step, table, step, turning_step, turn_step, outside_step, starting_step, lifted, announced, closed_event, plan_step, resume}
-use Rattle.tree_specs.specs.Invariants.Sound.{phase_of, phases, claims, AllWait, Sound, Refers, IsQuietRow}
+use Rattle.tree_specs.specs.Machine.Table.{Step, step, cancelling_step, cleaning_step, release_object, cleaned_step, callback_step, notifying_step, request_step, turning_step, turn_step, outside_step, starting_step, lifted, announced, closed_event, plan_step}
+use Rattle.tree_specs.specs.Invariants.Sound.{phase_of, phases, claims, Sound, Refers, IsQuietRow}
 use Rattle.tree_specs.proofs.Tree.Numbered.{by_test}
-use Rattle.tree_specs.specs.Machine.Profiles.{Waits, ARun, ATurn, AHandler, profile}
 use Rattle.tree_specs.proofs.Calls.Checks.{Heard, HeardCall, HeardReturn, heard-leads, Reached, ReachedOpening, ReachedHearing, reached-leads}
 use Rattle.tree_specs.specs.Rules.Answers.{later}
-use Rattle.tree_specs.specs.Invariants.Consistent.{IsQuiet, IsOfRoutine, IsCaller, IsRun, IsFree, IsTurn, MayStandOn, Serves, IsStacked, size, innermost_size, sizes, mark_deposit, deposit, IsPaidFor}
+use Rattle.tree_specs.specs.Invariants.Consistent.{IsStacked, innermost_size, sizes, mark_deposit, deposit, IsPaidFor}
 use Rattle.tree_specs.specs.Tree.Inside.{total}
 use Rattle.tree_specs.proofs.Tree.Rows.{total-without, total-placed, total-changed}
-use Rattle.tree_specs.proofs.Invariants.Waiters.{Waiter, ForFree, ForRun, ForChild, ForTurn, ForHandler, ForClear, waiter}
 use Rattle.tree_specs.proofs.Invariants.Changes.{dying-row, running-row, handling-row, claim-here, heir-placed}
-use Rattle.tree_specs.proofs.Turns.FallingFrees.{total-kept}
-
--- what a move leads to stands where it may, and is light
-abbrev pub Placed : Move Frame Answer Pool Item → List Frame → ℕ → Type 0
-Placed m fs k = Leads table (λ g gs q j. IsStacked g gs × IsPaidFor g gs q) m fs k
-
--- ---- a work in the place of another
-
-pub reseat : (f g : Frame) (fs : List Frame) → (IsCaller f → IsCaller g) → (IsRun f → IsRun g) → (IsFree f → IsFree g) → (IsTurn f → IsTurn g) → IsStacked f fs → IsStacked g fs
-reseat f g [] c r k t s = c s
-reseat f g (h ∷ hs) c r k t s = (serve (profile h).waits s.0, s.1)
-  where
-    serve : (w : Waits) → Serves w f → Serves w g
-    serve (ARun x h) s = r s
-    serve (AHandler x) s = r s
-    serve ATurn s = t s
-    serve _ s = k s
-
-pub reseat-free : (f g : FreeFrame) (fs : List Frame) → IsStacked (frame.Free f) fs → IsStacked (frame.Free g) fs
-reseat-free f g fs s = reseat (frame.Free f) (frame.Free g) fs (λ c. c) (λ r. r) (λ k. tt) (λ t. t) s
-
-reseat-turn : (f g : TurnFrame) (fs : List Frame) → IsStacked (frame.Turn f) fs → IsStacked (frame.Turn g) fs
-reseat-turn f g fs s = reseat (frame.Turn f) (frame.Turn g) fs (λ c. c) (λ r. r) (λ k. k) (λ t. t) s
-
-quiet-later : (q : Ask) (r : Reply) → IsQuiet q → IsQuiet (later q r)
-quiet-later asks.Quiet r h = tt
-quiet-later _ r h = absurd h
-
-routine-later : (q : Ask) (r : Reply) → IsOfRoutine q → IsOfRoutine (later q r)
-routine-later (asks.Routine m) r h = tt
-routine-later _ r h = absurd h
-
-not-both : (q : Ask) → IsQuiet q → IsOfRoutine q → ⊥
-not-both asks.Quiet h k = k
-not-both _ h k = h
-
-reseat-told : (q : Ask) (c : Call) (r : Reply) (fs : List Frame) → IsStacked (frame.Call (Doing q c)) fs → IsStacked (frame.Call (Telling (later q r) r)) fs
-reseat-told q c r fs s = reseat (frame.Call (Doing q c)) (frame.Call (Telling (later q r) r)) fs (quiet-later q r) (routine-later q r) (λ z. z) (λ z. z) s
-
-resumed-seated : (g : Frame) (gs : List Frame) (a : Answer) → Waiter g → IsStacked g gs → IsStacked (resume g a) gs
-resumed-seated _ gs a (ForFree q x) s = reseat (frame.Call (Awaiting q x)) (resume (frame.Call (Awaiting q x)) a) gs (quiet-later q _) (routine-later q _) (λ z. z) (λ z. z) s
-resumed-seated _ gs a (ForTurn q) s = reseat (frame.Call (Turning q)) (resume (frame.Call (Turning q)) a) gs (quiet-later q _) (routine-later q _) (λ z. z) (λ z. z) s
-resumed-seated _ gs a (ForHandler w x h occasion) s = reseat-turn (Handling w x h occasion) _ gs s
-resumed-seated _ gs a (ForClear x) s = reseat-turn (Clearing x) _ gs s
-resumed-seated _ gs a (ForRun x h) s = reseat-free (Hooked x h) _ gs s
-resumed-seated _ gs a (ForChild x c noted purpose) s = reseat-free (FreeingChild x c noted purpose) _ gs s
-
-run-size : (f : Frame) → IsRun f → innermost_size f ≡ 2
-run-size (frame.Call f) r = refl
-run-size _ r = absurd r
-
--- a work that goes on is no larger than it and the work that has ended
-size-resume : (f g : Frame) (gs : List Frame) (a : Answer) → Waiter g → MayStandOn f (g ∷ gs) → innermost_size (resume g a) ≤ size g + innermost_size f
-size-resume f _ gs a (ForFree q x) s = omega arith
-size-resume f _ gs a (ForChild x c noted purpose) s = omega arith
-size-resume f _ gs a (ForRun x h) s = let n = run-size f s in omega (arith, n)
-size-resume f _ gs a (ForTurn q) s = omega arith
-size-resume f _ gs a (ForHandler w x h occasion) s = let n = run-size f s in omega (arith, n)
-size-resume f _ gs a (ForClear x) s = omega arith
-
--- a work that ends, over rows whose deposit is as great
-over : (a : Answer) (f : Frame) (fs : List Frame) (p : Pool) (k : ℕ) → AllWait fs → IsStacked f fs → IsPaidFor f fs p → Placed (Do.Done a p) fs k
-over a f [] p k w s l = tt
-over a f (g ∷ gs) p k w s l = let waits = waiter g gs w.0 in (resumed-seated g gs a waits s.1, omega (arith, l, size-resume f g gs a waits s.0))
+use Rattle.tree_specs.proofs.Turns.Lowering.{total-kept}
+use Rattle.tree_specs.proofs.Turns.Seats.{Placed, reseat, reseat-free, reseat-turn, reseat-work, quiet-later, routine-later, not-both, reseat-told, turn-least, over}
 
 asking-placed : (q : Ask) (fs : List Frame) (p : Pool) (k : ℕ) → IsStacked (frame.Call (Asking q)) fs → IsPaidFor (frame.Call (Asking q)) fs p → Placed (step (frame.Call (Asking q)) p) fs k
 asking-placed q fs p zero s l = tt
 asking-placed q fs p (suc k) s l = λ i g e. leads g (heard-leads q i g e)
   where
     leads : (g : Frame) → Heard q g → IsStacked g fs × IsPaidFor g fs p
-    leads _ (HeardCall c) = (reseat (frame.Call (Asking q)) (frame.Call (Doing q c)) fs (λ z. z) (λ z. z) (λ z. z) (λ z. z) s, l)
-    leads _ (HeardReturn v of) = (reseat (frame.Call (Asking q)) (frame.Call (Returning v)) fs (λ z. not-both q z of) (λ z. tt) (λ z. z) (λ z. z) s, l)
+    leads _ (HeardCall c) = (reseat (frame.Call (Asking q)) (frame.Call (Doing q c)) fs (λ z. z) (λ z. z) (λ z. z) (λ z. z) (λ z. z) s, l)
+    leads _ (HeardReturn v of) = (reseat (frame.Call (Asking q)) (frame.Call (Returning v)) fs (λ z. not-both q z of) (λ z. tt) (λ z. z) (λ z. z) (λ z. z) s, l)
 
 turning-placed : (q : Ask) (c : Call) (fs : List Frame) (p : Pool) (k : ℕ) → IsStacked (frame.Call (Doing q c)) fs → IsPaidFor (frame.Call (Doing q c)) fs p → Placed (turning_step q p) fs k
-turning-placed asks.Quiet c fs p k s l = ((tt, reseat (frame.Call (Doing asks.Quiet c)) (frame.Call (Turning asks.Quiet)) fs (λ z. z) (λ z. z) (λ z. z) (λ z. z) s), omega (arith, l))
+turning-placed asks.Quiet c fs p k s l = ((tt, reseat (frame.Call (Doing asks.Quiet c)) (frame.Call (Turning asks.Quiet)) fs (λ z. z) (λ z. z) (λ z. z) (λ z. z) (λ z. z) s), omega (arith, l))
 turning-placed q c fs p k s l = (reseat-told q c (reply.No refusal.Nested) fs s, l)
 
 -- the first step of a plan that may be carried out
@@ -143,16 +85,29 @@ planned-placed : (q : Ask) (c : Call) (fs : List Frame) (p : Pool) (k : ℕ) →
 planned-placed q c fs p k s l plan may = each plan may
   where
     awaits : (x : Obj) → IsStacked (frame.Call (Awaiting q x)) fs
-    awaits x = reseat (frame.Call (Doing q c)) (frame.Call (Awaiting q x)) fs (λ z. z) (λ z. z) (λ z. z) (λ z. z) s
+    awaits x = reseat (frame.Call (Doing q c)) (frame.Call (Awaiting q x)) fs (λ z. z) (λ z. z) (λ z. z) (λ z. z) (λ z. z) s
+
+    works : (change : Change) (errand : Errand) (x : Obj) → MayDo p change → MayWork (changed_by change p) errand x → Placed (plan_step q (Works change errand x) p) fs k
+    works change errand x may work = begun errand work
+      where
+        on : IsStacked (frame.Call (Requesting q)) fs
+        on = reseat (frame.Call (Doing q c)) (frame.Call (Requesting q)) fs (λ z. z) (λ z. z) (λ z. z) (λ z. z) (λ z. z) s
+
+        begun : (errand : Errand) → MayWork (changed_by change p) errand x → Placed (plan_step q (Works change errand x) p) fs k
+        begun (Finish s) work = ((tt, on), omega (arith, l, (follows p change may).deposit))
+        begun Receive work = ((tt, on), omega (arith, l, (follows p change may).deposit))
+        begun Cancel work = ((tt, on), omega (arith, l, (follows p change may).deposit))
+        begun Notify work = absurd work
 
     each : (plan : Plan) → May p plan → Placed (plan_step q plan p) fs k
     each (Does change None r) may = (reseat-told q c r fs s, omega (arith, l, (follows p change may.0).deposit))
-    each (Does change (Some notice) r) may = (reseat (frame.Call (Doing q c)) (frame.Call (Announcing (later q r) notice r)) fs (quiet-later q r) (routine-later q r) (λ z. z) (λ z. z) s, omega (arith, l, (follows p change may.0).deposit))
+    each (Does change (Some notice) r) may = (reseat (frame.Call (Doing q c)) (frame.Call (Announcing (later q r) notice r)) fs (quiet-later q r) (routine-later q r) (λ z. z) (λ z. z) (λ z. z) s, omega (arith, l, (follows p change may.0).deposit))
     each (Frees x) may = ((tt, awaits x), omega (arith, l))
     each (Unlinks o x) may = ((tt, awaits x), omega (arith, l))
     each (Empties x) may = ((tt, awaits x), omega (arith, l))
-    each (Asks outside) may = ((tt, reseat (frame.Call (Doing q c)) (frame.Call (Turning q)) fs (λ z. z) (λ z. z) (λ z. z) (λ z. z) s), omega (arith, l))
+    each (Asks outside) may = ((tt, reseat (frame.Call (Doing q c)) (frame.Call (Turning q)) fs (λ z. z) (λ z. z) (λ z. z) (λ z. z) (λ z. z) s), omega (arith, l))
     each Turns may = turning-placed q c fs p k s l
+    each (Works change errand x) may = works change errand x may.0 may.3
 
 -- what is told of it makes no difference
 announced-placed : (o : Option Event) (g : FreeFrame) (q : Pool) (fs : List Frame) (k : ℕ) → IsStacked (frame.Free g) fs × IsPaidFor (frame.Free g) fs q → Placed (announced o g q) fs k
@@ -175,11 +130,14 @@ beginning-placed x fs p k sound s l = newest (newest_ref p.rows x) refl
     done : (a : FreeReply) → Placed (Do.Done (Freed a) p) fs k
     done a = over (Freed a) (frame.Free (Beginning x)) fs p k sound.waiting s l
 
-    quiet : (r : Row) → row_of p.rows x ≡ Some r → r.mark ≡ Quiet → Placed (lifted p.ring (begin_quiet x r.hook p)) fs k
-    quiet r e m = by_test (nat_eq r.hook 0)
-        (λ t. rw t (reseat-free (Beginning x) (Leaving x 0) fs s, l))
-        (λ t. let u = total-changed deposit (marked_row Asked) p.rows x r e in
-        rw t (reseat-free (Beginning x) (Hooked x r.hook) fs s, omega (arith, u, l, ap mark_deposit m)))
+    quiet : (r : Row) → row_of p.rows x ≡ Some r → r.mark ≡ Quiet → Placed (lifted p.ring (begin_quiet x r.kind r.hook p)) fs k
+    quiet r e m =
+        let u = total-changed deposit (marked_row Asked) p.rows x r e in
+        by_test (is_request r.kind)
+        (λ v. rw v (reseat-free (Beginning x) (Preparing x) fs s, omega (arith, u, l, ap mark_deposit m)))
+        (λ v. by_test (nat_eq r.hook 0)
+        (λ t. rw (v, t) (reseat-free (Beginning x) (Leaving x 0) fs s, l))
+        (λ t. rw (v, t) (reseat-free (Beginning x) (Hooked x r.hook) fs s, omega (arith, u, l, ap mark_deposit m))))
 
     marks : (r : Row) (m : Mark) → r.mark ≡ m → row_of p.rows x ≡ Some r → Placed (lifted p.ring (begin_step x (row_of p.rows x) p)) fs k
     marks r Quiet m e = rw (e, m) (quiet r e m)
@@ -298,12 +256,15 @@ tried-placed x c noted purpose a fs p k s seats l = each a
 -- ---- turns
 
 passes-placed : (f : TurnFrame) (fs : List Frame) (p : Pool) (k : ℕ) (m : Step) → Passes p m → IsStacked (frame.Turn f) fs → IsPaidFor (frame.Turn f) fs p → Placed m fs k
-passes-placed f fs p k _ (Pass g q rows next plain) b l = let z = plain.size in (reseat-turn f g fs b, rw rows (omega (arith, l, z)))
+passes-placed f fs p k _ (Pass g q rows next notes times plain) b l = let z = plain.size in (reseat-turn f g fs b, rw rows (omega (arith, l, z, turn-least f)))
+passes-placed f fs p k _ (Serve Notify x q rows next notes times served noted) b l = ((tt, reseat-turn f (Serving x) fs b), rw rows (omega (arith, l, turn-least f)))
+passes-placed f fs p k _ (Serve (Finish TimedOut) x q rows next notes times served noted) b l = ((tt, reseat-turn f (Serving x) fs b), rw rows (omega (arith, l, turn-least f)))
+passes-placed f fs p k _ (Serve _ x q rows next notes times served noted) b l = absurd served
 
 -- what an answer leads to is as light
-asked-placed : (f : TurnFrame) (fs : List Frame) (p : Pool) (g : Frame) (t : TurnFrame) → g ≡ frame.Turn t → IsPlain t 5 → IsStacked (frame.Turn f) fs → IsPaidFor (frame.Turn f) fs p
+asked-placed : (f : TurnFrame) (fs : List Frame) (p : Pool) (g : Frame) (t : TurnFrame) → g ≡ frame.Turn t → IsPlain t 13 → IsStacked (frame.Turn f) fs → IsPaidFor (frame.Turn f) fs p
     → IsStacked g fs × IsPaidFor g fs p
-asked-placed f fs p g t e plain b l = let z = plain.size in subst (λ (w : Frame). IsStacked w fs × IsPaidFor w fs p) (sym e) (reseat-turn f t fs b, omega (arith, l, z))
+asked-placed f fs p g t e plain b l = let z = plain.size in subst (λ (w : Frame). IsStacked w fs × IsPaidFor w fs p) (sym e) (reseat-turn f t fs b, omega (arith, l, z, turn-least f))
 
 starting-placed : (w : What) (x : Obj) (occasion : Occasion) (fs : List Frame) (p : Pool) (k : ℕ) → IsStacked (frame.Turn (Starting w x occasion)) fs → IsPaidFor (frame.Turn (Starting w x occasion)) fs p
     → Placed (turn_step (Starting w x occasion) p) fs k
@@ -338,12 +299,13 @@ turn-placed (Firing w x h occasion) fs p k s b l = (reseat-turn (Firing w x h oc
 turn-placed (Handling w x h occasion) fs p k s b l = ((tt, b), omega (arith, l))
 turn-placed (Handled w x) fs p k s b l = handled-placed w x fs p k s b l
 turn-placed (Clearing x) fs p k s b l = absurd s.rests
+turn-placed (Serving x) fs p k s b l = absurd s.rests
 turn-placed (Closing v) fs p k s b l = over (Turned v) (frame.Turn (Closing v)) fs p k s.waiting b l
 
 -- ---- a question to the outside
 
 reseat-outside : (f g : OutsideFrame) (fs : List Frame) → IsStacked (frame.Outside f) fs → IsStacked (frame.Outside g) fs
-reseat-outside f g fs s = reseat (frame.Outside f) (frame.Outside g) fs (λ c. c) (λ r. r) (λ k. k) (λ t. t) s
+reseat-outside f g fs s = reseat (frame.Outside f) (frame.Outside g) fs (λ c. c) (λ r. r) (λ k. k) (λ t. t) (λ v. v) s
 
 outside-placed : (f : OutsideFrame) (fs : List Frame) (p : Pool) (k : ℕ) → Sound (frame.Outside f) fs p → IsStacked (frame.Outside f) fs → IsPaidFor (frame.Outside f) fs p → Placed (outside_step f p) fs k
 outside-placed (Reaching q) fs p zero s b l = tt
@@ -355,11 +317,61 @@ outside-placed (Reaching q) fs p (suc k) s b l = λ i g e. leads g (reached-lead
 outside-placed (Opening fd) fs p k s b l = over (HeardBy (reply.Number fd)) (frame.Outside (Opening fd)) fs (open_descriptor p fd) k s.waiting b l
 outside-placed (Hearing r) fs p k s b l = over (HeardBy r) (frame.Outside (Hearing r)) fs p k s.waiting b l
 
+prepared-placed : (x : Obj) (fs : List Frame) (p : Pool) (k : ℕ) → Sound (frame.Free (Prepared x)) fs p → IsStacked (frame.Free (Prepared x)) fs → IsPaidFor (frame.Free (Prepared x)) fs p
+    → Placed (step (frame.Free (Prepared x)) p) fs k
+prepared-placed x fs p k s seats l =
+    let row = running-row (row_of p.rows x) (claims x fs) (claim-here x InRun (claims x fs) (row_of p.rows x) (s.open_frees x)) in
+    let u = total-changed deposit (marked_row Quiet) p.rows x row.0 row.1 in
+    (reseat-free (Prepared x) (Leaving x 0) fs seats, omega (arith, u, l, mark_deposit-most row.0.mark))
+
+-- ---- requests
+
+module _ (fs : List Frame) (p : Pool) (k : ℕ) where
+  cleaned-placed : (x : Obj) (errand : Errand) → IsStacked (frame.Request (request.Cleaned x errand)) fs → IsPaidFor (frame.Request (request.Cleaned x errand)) fs p → (o : Option Note) → Placed (cleaned_step x errand o p) fs k
+  cleaned-placed x errand b l None = (reseat-work (request.Cleaned x errand) _ fs b, l)
+  cleaned-placed x Receive b l (Some n) = releases (planned p (call.Free n.child))
+    where
+      releases : (plan : Plan) → Placed (release_object plan Receive p) fs k
+      releases (Frees c) = ((tt, reseat-work (request.Cleaned x Receive) _ fs b), omega (arith, l))
+      releases (Unlinks o c) = ((tt, reseat-work (request.Cleaned x Receive) _ fs b), omega (arith, l))
+      releases _ = (reseat-work (request.Cleaned x Receive) _ fs b, l)
+  cleaned-placed x errand b l (Some n) = (reseat-work (request.Cleaned x errand) _ fs b, l)
+
+  notifying-placed : (x : Obj) (errand : Errand) → IsStacked (frame.Request (request.Notifying x errand)) fs → IsPaidFor (frame.Request (request.Notifying x errand)) fs p → (o : Option Note) → Placed (notifying_step x errand o p) fs k
+  notifying-placed x errand b l None = (reseat-work (request.Notifying x errand) _ fs b, l)
+  notifying-placed x errand b l (Some n) = by_test n.deferred (λ t. rw t (reseat-work (request.Notifying x errand) _ fs b, l)) (λ t. rw t (back n.callback))
+    where
+      back : (o : Option Handler) → Placed (callback_step x errand o p) fs k
+      back None = (reseat-work (request.Notifying x errand) _ fs b, l)
+      back (Some handler) = (reseat-work (request.Notifying x errand) _ fs b, l)
+
+  cancelling-placed : (x : Obj) → IsStacked (frame.Request (request.Cancelling x)) fs → IsPaidFor (frame.Request (request.Cancelling x)) fs p → (o : Option Handler) → Placed (cancelling_step x o p) fs k
+  cancelling-placed x b l None = (reseat-work (request.Cancelling x) _ fs b, l)
+  cancelling-placed x b l (Some handler) = (reseat-work (request.Cancelling x) _ fs b, l)
+
+  cleaning-placed : (x : Obj) (errand : Errand) → IsStacked (frame.Request (request.Cleaning x errand)) fs → IsPaidFor (frame.Request (request.Cleaning x errand)) fs p → (o : Option Handler) → Placed (cleaning_step x errand o p) fs k
+  cleaning-placed x errand b l None = (reseat-work (request.Cleaning x errand) _ fs b, l)
+  cleaning-placed x errand b l (Some handler) = (reseat-work (request.Cleaning x errand) _ fs b, l)
+
+request-placed : (f : RequestFrame) (fs : List Frame) (p : Pool) (k : ℕ) → Sound (frame.Request f) fs p → IsStacked (frame.Request f) fs → IsPaidFor (frame.Request f) fs p → Placed (request_step f p) fs k
+request-placed (request.Finishing x state) fs p k s b l = (reseat-work (request.Finishing x state) _ fs b, l)
+request-placed (request.Receiving x) fs p k s b l = by_test (is_unreceived (note_of p.requests x))
+    (λ t. rw t (reseat-work (request.Receiving x) _ fs b, l))
+    (λ t. rw t (reseat-work (request.Receiving x) _ fs b, l))
+request-placed (request.Cancelling x) fs p k s b l = cancelling-placed fs p k x b l (cancel_in (note_of p.requests x))
+request-placed (request.Cleaning x errand) fs p k s b l = cleaning-placed fs p k x errand b l (cleanup_in (note_of p.requests x))
+request-placed (request.Cleaned x errand) fs p k s b l = cleaned-placed fs p k x errand b l (note_of p.requests x)
+request-placed (request.Notifying x errand) fs p k s b l = notifying-placed fs p k x errand b l (note_of p.requests x)
+request-placed (request.Calling w x h errand) fs p k s b l = (reseat-work (request.Calling w x h errand) _ fs b, l)
+request-placed (request.Called w x h errand) fs p k s b l = ((tt, b), omega (arith, l))
+request-placed (request.Releasing c) fs p k s b l = absurd s.rests
+request-placed (request.Over r) fs p k s b l = over (HeardBy r) (frame.Request (request.Over r)) fs p k s.waiting b l
+
 pub placed-kept : (f : Frame) (fs : List Frame) (p : Pool) (k : ℕ) → Sound f fs p → IsStacked f fs → IsPaidFor f fs p → Placed (step f p) fs k
 placed-kept (frame.Call (Asking q)) fs p k s b l = asking-placed q fs p k b l
 placed-kept (frame.Call (Doing q c)) fs p k s b l = planned-placed q c fs p k b l (planned p c) (may-planned (frame.Call (Doing q c)) fs p s c)
-placed-kept (frame.Call (Announcing q notice r)) fs p k s b l = (reseat (frame.Call (Announcing q notice r)) (frame.Call (Telling q r)) fs (λ z. z) (λ z. z) (λ z. z) (λ z. z) b, l)
-placed-kept (frame.Call (Telling q r)) fs p k s b l = (reseat (frame.Call (Telling q r)) (frame.Call (Asking q)) fs (λ z. z) (λ z. z) (λ z. z) (λ z. z) b, l)
+placed-kept (frame.Call (Announcing q notice r)) fs p k s b l = (reseat (frame.Call (Announcing q notice r)) (frame.Call (Telling q r)) fs (λ z. z) (λ z. z) (λ z. z) (λ z. z) (λ z. z) b, l)
+placed-kept (frame.Call (Telling q r)) fs p k s b l = (reseat (frame.Call (Telling q r)) (frame.Call (Asking q)) fs (λ z. z) (λ z. z) (λ z. z) (λ z. z) (λ z. z) b, l)
 placed-kept (frame.Call (Returning v)) fs p k s b l = over (Returned v) (frame.Call (Returning v)) fs p k s.waiting b l
 placed-kept (frame.Free (Unlinking o x)) fs p k s b l = unlinking-placed o x fs p k s b l
 placed-kept (frame.Free (Releasing x)) fs p k s b l = releasing-placed x fs p k s b l
@@ -367,6 +379,8 @@ placed-kept (frame.Free (Giving x o)) fs p k s b l = let w = total-placed deposi
 placed-kept (frame.Free (Beginning x)) fs p k s b l = beginning-placed x fs p k s b l
 placed-kept (frame.Free (Hooked x h)) fs p k s b l = ((tt, b), omega (arith, l))
 placed-kept (frame.Free (Judged x h v)) fs p k s b l = judged-placed x h v fs p k s b l
+placed-kept (frame.Free (Preparing x)) fs p k s b l = ((tt, b), omega (arith, l))
+placed-kept (frame.Free (Prepared x)) fs p k s b l = prepared-placed x fs p k s b l
 placed-kept (frame.Free (Dooming x)) fs p k s b l = over (Freed Running) (frame.Free (Dooming x)) fs p k s.waiting b l
 placed-kept (frame.Free (Leaving x h)) fs p k s b l = leaving-placed x h fs p k s b l
 placed-kept (frame.Free (Looping x purpose)) fs p k s b l = looping-placed x purpose fs p k s b l
@@ -374,4 +388,5 @@ placed-kept (frame.Free (AfterChild x c noted purpose a)) fs p k s b l = tried-p
 placed-kept (frame.Free (Ending answer)) fs p k s b l = over (Freed answer) (frame.Free (Ending answer)) fs p k s.waiting b l
 placed-kept (frame.Turn f) fs p k s b l = turn-placed f fs p k s b l
 placed-kept (frame.Outside f) fs p k s b l = outside-placed f fs p k s b l
+placed-kept (frame.Request f) fs p k s b l = request-placed f fs p k s b l
 placed-kept _ fs p k s b l = absurd s.rests

@@ -5,12 +5,12 @@ use Rattle.tree_specs.specs.declared.object.Owner.{Owner}
 use Rattle.tree_specs.specs.declared.object.Owner.TheVariants.{Of}
 use Rattle.tree_specs.specs.declared.row.Row.{Row}
 use Rattle.tree_specs.specs.declared.test.Test.{Test}
-use Rattle.tree_specs.specs.declared.test.Test.TheVariants.{IsSmall, IsObject, IsOwner, IsPlain, IsImmediate, IsDescriptor, IsOpen, IsUnwatched, HasRoom, Fits, MayGrow, IsNotDying, IsNotDoomed, IsNotRunning, IsNotInside, IsUnheld, IsUnreferenced, IsInterested, MayGive}
+use Rattle.tree_specs.specs.declared.test.Test.TheVariants.{IsSmall, IsObject, IsOwner, IsPlain, IsImmediate, IsDescriptor, IsRequest, IsReferable, IsOpen, IsUnwatched, HasRoom, HasNumber, IsInProgress, IsFinished, MayFail, Fits, MayGrow, IsNotDying, IsNotDoomed, IsNotRunning, IsNotInside, IsUnheld, IsUnreferenced, IsInterested, MayGive}
 use Rattle.tree_specs.specs.Tree.Targets.{target_of}
 use Rattle.tree_specs.specs.Tree.Pool.{Pool, row_of, is_owner, is_below, owner_of, newest_ref_of, is_dying, is_inside}
 use Rattle.tree_specs.specs.Tree.Reports.{count_refs}
 use Rattle.tree_specs.specs.Events.Rotation.{is_watched}
-use Rattle.tree_specs.specs.Calls.Refusals.{size_limit, row_limit, is_plain_row, is_immediate_row, is_descriptor_row, is_open, is_held, is_doomed, is_running, fits, growing}
+use Rattle.tree_specs.specs.Calls.Refusals.{size_limit, row_limit, is_plain_row, is_immediate_row, is_descriptor_row, is_request_row, is_referable_row, in_progress, finished, failing, is_open, is_held, is_doomed, is_running, fits, growing}
 
 -- an interest is an owner's, or of one that has a reference
 pub data Interest (p : Pool) (o : Owner) (x : Obj) : Type 0 where
@@ -29,9 +29,15 @@ Passed p (IsOwner o) = is_owner p.rows o ≡ true
 Passed p (IsPlain x) = is_plain_row (row_of p.rows x) ≡ true
 Passed p (IsImmediate x) = is_immediate_row (row_of p.rows x) ≡ true
 Passed p (IsDescriptor x) = is_descriptor_row (row_of p.rows x) ≡ true
+Passed p (IsRequest x) = is_request_row (row_of p.rows x) ≡ true
+Passed p (IsReferable x) = is_referable_row (row_of p.rows x) ≡ true
 Passed p (IsOpen fd) = is_open p fd ≡ true
 Passed p (IsUnwatched fd) = is_watched p.ring fd ≡ false
 Passed p (HasRoom k) = (length p.rows + k ≤ row_limit) × (p.next + k < 2 ^ 64)
+Passed p HasNumber = p.next + 1 < 2 ^ 64
+Passed p (IsInProgress x) = in_progress p x ≡ []
+Passed p (IsFinished x) = finished p x ≡ []
+Passed p (MayFail x error) = failing p x error ≡ []
 Passed p (Fits o wanted) = fits p o wanted ≡ []
 Passed p (MayGrow x size) = growing p x size ≡ []
 Passed p (IsNotDying x) = is_dying p.rows x ≡ false

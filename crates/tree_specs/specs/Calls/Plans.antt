@@ -7,6 +7,11 @@ use Rattle.tree_specs.specs.declared.kind.Kind.{Kind}
 use Rattle.tree_specs.specs.declared.kind.Kind.TheVariants.{Plain, Reference, Timer, Immediate, Descriptor}
 use Rattle.tree_specs.specs.declared.row.Row.{Row}
 use Rattle.tree_specs.specs.declared.handler.Handler.{Handler}
+use Rattle.tree_specs.specs.declared.frame.Errand.{Errand}
+use Rattle.tree_specs.specs.declared.frame.Errand.TheVariants.{Finish, Receive, Cancel}
+use Rattle.tree_specs.specs.declared.request.Note.{Note}
+use Rattle.tree_specs.specs.declared.request.State.{State}
+use Rattle.tree_specs.specs.declared.request.State.TheVariants as state
 use Rattle.tree_specs.specs.declared.notice.Notice.{Notice}
 use Rattle.tree_specs.specs.declared.notice.Notice.TheVariants.{Warned, Closed}
 use Rattle.tree_specs.specs.declared.question.Ask.{Ask}
@@ -15,11 +20,12 @@ use Rattle.tree_specs.specs.declared.watch.Watch.{Watch}
 use Rattle.tree_specs.specs.declared.call.Call.{Call}
 use Rattle.tree_specs.specs.declared.call.Call.TheVariants as call
 use Rattle.tree_specs.specs.declared.reply.Reply.{Reply}
-use Rattle.tree_specs.specs.declared.reply.Reply.TheVariants.{Ok, Number, Rows, No}
+use Rattle.tree_specs.specs.declared.reply.Reply.TheVariants.{Ok, Number, Pair, Rows, No}
 use Rattle.tree_specs.specs.Words.Objects.{owner_number}
 use Rattle.tree_specs.specs.Tree.Targets.{newest_ref}
-use Rattle.tree_specs.specs.Tree.Pool.{Pool, changed, is_below, owner_of, newest_ref_of, add, place, named_row, hooked_row, sized_row, limited_row, set_handler, schedule, unschedule, arm, watch, rewatch, close_descriptor}
+use Rattle.tree_specs.specs.Tree.Pool.{Pool, changed, is_below, owner_of, newest_ref_of, add, place, named_row, hooked_row, sized_row, limited_row, set_handler, schedule, unschedule, arm, watch, rewatch, close_descriptor, take_number, add_request, renote}
 use Rattle.tree_specs.specs.Events.Rotation.{flags_of, flagged, closing}
+use Rattle.tree_specs.specs.Events.Requests.{state_number, is_in_progress, note_of, called_back, deferring, cleaned_by, cancelled_by, failed_with}
 use Rattle.tree_specs.specs.Tree.Inside.{size_inside, count_inside}
 use Rattle.tree_specs.specs.Tree.Sums.{sum_inside}
 use Rattle.tree_specs.specs.Tree.Reports.{report}
@@ -47,6 +53,12 @@ pub data Change : Type 0 where
   Rewatch : Obj → (Watch → Watch) → Change
   -- a descriptor is closed
   Close : ℕ → Change
+  -- a number is taken, which no object gets
+  TakeNumber : Change
+  -- a new request below an owner, and below it a plain object with this size and name
+  AddRequest : Owner → ℕ → List ℕ → Change
+  -- what is kept of a request is changed
+  Renotes : Obj → (Note → Note) → Change
   -- one change after another
   Then : Change → Change → Change
 
@@ -62,6 +74,9 @@ changed_by (Arm x time number) p = arm p x time number
 changed_by (Watches x fd flags) p = watch p x fd flags
 changed_by (Rewatch x change) p = rewatch p x change
 changed_by (Close fd) p = close_descriptor p fd
+changed_by TakeNumber p = take_number p
+changed_by (AddRequest o size name) p = add_request p o size name
+changed_by (Renotes x change) p = renote p x change
 changed_by (Then first second) p = changed_by second (changed_by first p)
 
 pub data Plan : Type 0 where
@@ -76,6 +91,8 @@ pub data Plan : Type 0 where
   Asks : Ask → Plan
   -- a turn of the event loop
   Turns : Plan
+  -- a change, and then an errand of a request, whose end tells the reply
+  Works : Change → Errand → Obj → Plan
 
 abbrev pub replies : Reply → Plan
 replies r = Does Nothing None r
@@ -133,6 +150,26 @@ watches x fd flags handler = Then (Handle x handler) (Watches x fd flags)
 abbrev pub adds_descriptor : Pool → Owner → ℕ → ℕ → Handler → Change
 adds_descriptor p o fd flags handler = Then (Add Descriptor o 0 (codes "fd")) (watches (record { 0 = p.next }) fd flags handler)
 
+abbrev pub renotes : Obj → (Note → Note) → Plan
+renotes x change = Does (Renotes x change) None Ok
+
+-- a request that is done has no failure; in any other state its number is told with that of the failure
+abbrev pub failure_in : State → ℕ → Reply
+failure_in state.Done error = Number 0
+failure_in s error = Pair (state_number s) error
+
+abbrev pub failure_reply : Option Note → Reply
+failure_reply None = Number 0
+failure_reply (Some n) = failure_in n.state n.error
+
+abbrev pub progress_reply : Option Note → Reply
+progress_reply None = Number 0
+progress_reply (Some n) = if is_in_progress n.state then Number 1 else Number 0
+
+-- with 0 a request doesn't fail
+abbrev pub fails : Obj → ℕ → Plan
+fails x error = if nat_eq error 0 then replies (Number 0) else Works (Renotes x (failed_with error)) (Finish state.UserError) x
+
 -- an owner by its number
 abbrev pub owner_reply : Option Owner → Reply
 owner_reply o = Number (owner_number (unwrap_or o Root))
@@ -168,6 +205,20 @@ plan p (call.Close fd) = Does (Close fd) (Some (Closed fd)) Ok
 plan p (call.Accept fd) = Asks (ask.Accept fd)
 plan p (call.Read fd len) = Asks (ask.Read fd len)
 plan p (call.Write fd bytes) = Asks (ask.Write fd bytes)
+plan p (call.Req o size name) = Does (AddRequest o size name) None (Number p.next)
+plan p (call.Callback x routine user) = renotes x (called_back routine user)
+plan p (call.Defer x) = renotes x deferring
+plan p (call.Cleanup x routine) = renotes x (cleaned_by routine)
+plan p (call.Setcancel x routine) = renotes x (cancelled_by routine)
+plan p (call.Cancel x) = Works Nothing Cancel x
+plan p (call.Post x) = Does (Schedule x) None Ok
+plan p (call.Done x) = Works Nothing (Finish state.Done) x
+plan p (call.Error x error) = fails x error
+plan p (call.Oom x) = Works Nothing (Finish state.NoMemory) x
+plan p (call.Iserror x) = replies (failure_reply (note_of p.requests x))
+plan p (call.Progress x) = replies (progress_reply (note_of p.requests x))
+plan p (call.Endtime x time) = Does (Then (Arm x time p.next) TakeNumber) None Ok
+plan p (call.Received x) = Works Nothing Receive x
 plan p call.Pending = replies (Number (length p.soon + length p.times + length p.ring))
 plan p call.Now = Asks ask.Clock
 plan p call.Turn = Turns

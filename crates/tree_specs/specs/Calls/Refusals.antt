@@ -5,20 +5,23 @@ use Rattle.tree_specs.specs.declared.object.Obj.{Obj}
 use Rattle.tree_specs.specs.declared.object.Owner.{Owner}
 use Rattle.tree_specs.specs.declared.object.Owner.TheVariants.{Root, Of}
 use Rattle.tree_specs.specs.declared.kind.Kind.{Kind}
-use Rattle.tree_specs.specs.declared.kind.Kind.TheVariants.{Plain, Immediate as ImmediateKind, Descriptor}
+use Rattle.tree_specs.specs.declared.kind.Kind.TheVariants.{Plain, Immediate as ImmediateKind, Descriptor, Request}
+use Rattle.tree_specs.specs.declared.request.Note.{Note}
+use Rattle.tree_specs.specs.declared.request.State.{State}
 use Rattle.tree_specs.specs.declared.row.Row.{Row}
 use Rattle.tree_specs.specs.declared.row.Mark.{Mark}
 use Rattle.tree_specs.specs.declared.row.Mark.TheVariants as mark
 use Rattle.tree_specs.specs.declared.call.Call.{Call}
-use Rattle.tree_specs.specs.declared.call.Call.TheVariants.{New, Free, Freekids, Steal, Move, Reparent, Reference as Refer, Unlink, Hook, Unhook, Rename, Resize, Limit, Parent, Total, Count, Sum, Report, Immediate, Schedule, Unschedule, Timer, Fd, Flags, Getflags, Autoclose, Close, Accept, Read, Write, Pending, Now, Turn}
+use Rattle.tree_specs.specs.declared.call.Call.TheVariants.{New, Free, Freekids, Steal, Move, Reparent, Reference as Refer, Unlink, Hook, Unhook, Rename, Resize, Limit, Parent, Total, Count, Sum, Report, Immediate, Schedule, Unschedule, Timer, Fd, Flags, Getflags, Autoclose, Close, Accept, Read, Write, Req, Callback, Defer, Cleanup, Setcancel, Cancel, Post, Done, Error, Oom, Iserror, Progress, Endtime, Received, Pending, Now, Turn}
 use Rattle.tree_specs.specs.declared.test.Test.{Test}
-use Rattle.tree_specs.specs.declared.test.Test.TheVariants.{IsSmall, IsObject, IsOwner, IsPlain, IsImmediate, IsDescriptor, IsOpen, IsUnwatched, HasRoom, Fits, MayGrow, IsNotDying, IsNotDoomed, IsNotRunning, IsNotInside, IsUnheld, IsUnreferenced, IsInterested, MayGive}
+use Rattle.tree_specs.specs.declared.test.Test.TheVariants.{IsSmall, IsObject, IsOwner, IsPlain, IsImmediate, IsDescriptor, IsRequest, IsReferable, IsOpen, IsUnwatched, HasRoom, HasNumber, IsInProgress, IsFinished, MayFail, Fits, MayGrow, IsNotDying, IsNotDoomed, IsNotRunning, IsNotInside, IsUnheld, IsUnreferenced, IsInterested, MayGive}
 use Rattle.tree_specs.specs.declared.reply.Refusal.{Refusal}
-use Rattle.tree_specs.specs.declared.reply.Refusal.TheVariants.{NoSuch, WrongKind, Running, Held, NotParent, Loop, Dying, OverLimit, Full, Spent, InUse, TooBig}
+use Rattle.tree_specs.specs.declared.reply.Refusal.TheVariants.{NoSuch, WrongKind, Running, Held, NotParent, Loop, Dying, OverLimit, Full, Spent, InUse, BadState, TooBig}
 use Rattle.tree_specs.specs.Tree.Pool.{Pool, row_of, passes, is_below, owner_of, newest_ref_of, is_dying_mark, is_dying, is_inside}
 use Rattle.tree_specs.specs.Tree.Targets.{is_reference}
 use Rattle.tree_specs.specs.Events.Rotation.{is_watched}
 use Rattle.tree_specs.specs.Events.Descriptors.{is_open_in}
+use Rattle.tree_specs.specs.Events.Requests.{state_number, is_in_progress, is_received, note_of}
 use Rattle.tree_specs.specs.Tree.Reports.{count_refs}
 use Rattle.tree_specs.specs.Tree.Sums.{overhead, sum_inside, limit_at, size_at}
 
@@ -72,6 +75,16 @@ abbrev pub is_descriptor : Kind → Bool
 is_descriptor Descriptor = true
 is_descriptor k = false
 
+abbrev pub is_request : Kind → Bool
+is_request Request = true
+is_request k = false
+
+-- there may be references to a plain object, and to a request
+abbrev pub is_referable : Kind → Bool
+is_referable Plain = true
+is_referable Request = true
+is_referable k = false
+
 abbrev pub is_plain_row : Option Row → Bool
 is_plain_row o = passes (λ r. is_plain r.kind) o
 
@@ -80,6 +93,12 @@ is_immediate_row o = passes (λ r. is_immediate r.kind) o
 
 abbrev pub is_descriptor_row : Option Row → Bool
 is_descriptor_row o = passes (λ r. is_descriptor r.kind) o
+
+abbrev pub is_request_row : Option Row → Bool
+is_request_row o = passes (λ r. is_request r.kind) o
+
+abbrev pub is_referable_row : Option Row → Bool
+is_referable_row o = passes (λ r. is_referable r.kind) o
 
 -- an object's row is of the right kind
 abbrev pub of_kind : (Option Row → Bool) → Pool → Obj → Check
@@ -96,6 +115,13 @@ immediate p x = of_kind is_immediate_row p x
 -- only an event on a descriptor has flags
 abbrev pub descriptor : Pool → Obj → Check
 descriptor p x = of_kind is_descriptor_row p x
+
+-- only a request has a state
+abbrev pub request : Pool → Obj → Check
+request p x = of_kind is_request_row p x
+
+abbrev pub referable : Pool → Obj → Check
+referable p x = of_kind is_referable_row p x
 
 abbrev pub is_open : Pool → ℕ → Bool
 is_open p fd = is_open_in p.descriptors fd
@@ -118,6 +144,29 @@ abbrev pub room : Pool → ℕ → Check
 room p k =
     refuse_if (nat_lt row_limit (length p.rows + k)) (Full (length p.rows))
     before refuse_if (nat_le (2 ^ 64) (p.next + k)) Spent
+
+-- a number that no object gets
+abbrev pub number : Pool → Check
+number p = refuse_if (nat_le (2 ^ 64) (p.next + 1)) Spent
+
+-- the state of a request is one of these
+abbrev pub in_state : Obj → (State → Bool) → Option Note → Check
+in_state x is_right None = []
+in_state x is_right (Some n) = refuse_if (not (is_right n.state)) (BadState x (state_number n.state))
+
+abbrev pub in_progress : Pool → Obj → Check
+in_progress p x = in_state x is_in_progress (note_of p.requests x)
+
+-- it is over, and wasn't received
+abbrev pub is_finished : State → Bool
+is_finished s = not (is_in_progress s) && not (is_received s)
+
+abbrev pub finished : Pool → Obj → Check
+finished p x = in_state x is_finished (note_of p.requests x)
+
+-- with 0 it doesn't fail
+abbrev pub failing : Pool → Obj → ℕ → Check
+failing p x error = if nat_eq error 0 then [] else in_progress p x
 
 -- an object with a limit has no room for so many more bytes beside what is inside it
 abbrev pub over : List Row → ℕ → Obj → Check
@@ -189,7 +238,7 @@ is_running_mark m = true
 abbrev pub is_running_row : Option Row → Bool
 is_running_row o = passes (λ r. is_running_mark r.mark) o
 
--- its destructor or its handler runs
+-- its destructor or its handler runs, or it is received to be freed
 abbrev pub is_running : Pool → Obj → Bool
 is_running p x = is_running_row (row_of p.rows x)
 
@@ -206,9 +255,15 @@ refusal_of p (IsOwner o) = owner p o
 refusal_of p (IsPlain x) = plain p x
 refusal_of p (IsImmediate x) = immediate p x
 refusal_of p (IsDescriptor x) = descriptor p x
+refusal_of p (IsRequest x) = request p x
+refusal_of p (IsReferable x) = referable p x
 refusal_of p (IsOpen fd) = open_one p fd
 refusal_of p (IsUnwatched fd) = unused p fd
 refusal_of p (HasRoom k) = room p k
+refusal_of p HasNumber = number p
+refusal_of p (IsInProgress x) = in_progress p x
+refusal_of p (IsFinished x) = finished p x
+refusal_of p (MayFail x error) = failing p x error
 refusal_of p (Fits o wanted) = fits p o wanted
 refusal_of p (MayGrow x size) = growing p x size
 refusal_of p (IsNotDying x) = staying p x
@@ -227,7 +282,7 @@ tests (Freekids x) = IsObject x ∷ []
 tests (Steal o x) = IsObject x ∷ IsOwner o ∷ IsNotDying x ∷ IsNotInside x o ∷ []
 tests (Move o x) = IsObject x ∷ IsOwner o ∷ IsNotDying x ∷ IsNotInside x o ∷ []
 tests (Reparent from to x) = IsObject x ∷ IsOwner from ∷ IsOwner to ∷ IsNotDying x ∷ MayGive from to x ∷ []
-tests (Refer o x) = IsObject x ∷ IsPlain x ∷ IsOwner o ∷ IsNotRunning x ∷ IsNotDying x ∷ HasRoom 1 ∷ []
+tests (Refer o x) = IsObject x ∷ IsReferable x ∷ IsOwner o ∷ IsNotRunning x ∷ IsNotDying x ∷ HasRoom 1 ∷ []
 tests (Unlink o x) = IsObject x ∷ IsOwner o ∷ IsInterested o x ∷ []
 tests (Hook x routine) = IsObject x ∷ IsPlain x ∷ IsNotDying x ∷ []
 tests (Unhook x) = IsObject x ∷ IsPlain x ∷ IsNotDying x ∷ []
@@ -251,6 +306,20 @@ tests (Close fd) = IsOpen fd ∷ IsUnwatched fd ∷ []
 tests (Accept fd) = IsOpen fd ∷ []
 tests (Read fd len) = IsOpen fd ∷ []
 tests (Write fd bytes) = IsOpen fd ∷ []
+tests (Req o size name) = IsSmall size ∷ IsOwner o ∷ HasRoom 2 ∷ Fits o (size + overhead + overhead) ∷ []
+tests (Callback x routine user) = IsObject x ∷ IsRequest x ∷ IsNotDying x ∷ []
+tests (Defer x) = IsObject x ∷ IsRequest x ∷ IsNotDying x ∷ []
+tests (Cleanup x routine) = IsObject x ∷ IsRequest x ∷ IsNotDying x ∷ []
+tests (Setcancel x routine) = IsObject x ∷ IsRequest x ∷ IsNotDying x ∷ []
+tests (Cancel x) = IsObject x ∷ IsRequest x ∷ []
+tests (Post x) = IsObject x ∷ IsRequest x ∷ IsFinished x ∷ []
+tests (Done x) = IsObject x ∷ IsRequest x ∷ IsInProgress x ∷ []
+tests (Error x error) = IsObject x ∷ IsRequest x ∷ MayFail x error ∷ []
+tests (Oom x) = IsObject x ∷ IsRequest x ∷ IsInProgress x ∷ []
+tests (Iserror x) = IsObject x ∷ IsRequest x ∷ []
+tests (Progress x) = IsObject x ∷ IsRequest x ∷ []
+tests (Endtime x time) = IsObject x ∷ IsRequest x ∷ IsInProgress x ∷ HasNumber ∷ []
+tests (Received x) = IsObject x ∷ IsRequest x ∷ []
 tests Pending = []
 tests Now = []
 tests Turn = []

@@ -1,9 +1,9 @@
 -- How each call is spelled: its verb, and its fields in order. One row writes it, and one reads it.
-use Rattle.std.specs.Prelude.{ℕ, List, [], ◌∷◌, codes}
+use Rattle.std.specs.Prelude.{ℕ, List, [], ◌∷◌, ◌++◌, codes}
 use Rattle.tree_specs.specs.declared.object.Obj.{Obj}
 use Rattle.tree_specs.specs.declared.object.Owner.{Owner}
 use Rattle.tree_specs.specs.declared.call.Call.{Call}
-use Rattle.tree_specs.specs.declared.call.Call.TheVariants.{New, Free, Freekids, Steal, Move, Reparent, Reference, Unlink, Hook, Unhook, Rename, Resize, Limit, Parent, Total, Count, Sum, Report, Immediate, Schedule, Unschedule, Timer, Fd, Flags, Getflags, Autoclose, Close, Accept, Read, Write, Pending, Now, Turn}
+use Rattle.tree_specs.specs.declared.call.Call.TheVariants.{New, Free, Freekids, Steal, Move, Reparent, Reference, Unlink, Hook, Unhook, Rename, Resize, Limit, Parent, Total, Count, Sum, Report, Immediate, Schedule, Unschedule, Timer, Fd, Flags, Getflags, Autoclose, Close, Accept, Read, Write, Req, Callback, Defer, Cleanup, Setcancel, Cancel, Post, Done, Error, Oom, Iserror, Progress, Endtime, Received, Pending, Now, Turn}
 
 -- the range of a number in decimal
 pub data Numeral : Type 0 where
@@ -89,6 +89,20 @@ spelling (Close fd) = codes "close" with (a_descriptor fd ∷ [])
 spelling (Accept fd) = codes "accept" with (a_descriptor fd ∷ [])
 spelling (Read fd len) = codes "read" with (a_descriptor fd ∷ a_length len ∷ [])
 spelling (Write fd bytes) = codes "write" with (a_descriptor fd ∷ SomeBytes bytes ∷ [])
+spelling (Req owner size name) = codes "req" with (AnOwner owner ∷ a_number size ∷ AName name ∷ [])
+spelling (Callback x routine user) = codes "callback" with (AnObject x ∷ a_routine_or_none routine ∷ a_number user ∷ [])
+spelling (Defer x) = codes "defer" with (AnObject x ∷ [])
+spelling (Cleanup x routine) = codes "cleanup" with (AnObject x ∷ a_routine_or_none routine ∷ [])
+spelling (Setcancel x routine) = codes "setcancel" with (AnObject x ∷ a_routine_or_none routine ∷ [])
+spelling (Cancel x) = codes "cancel" with (AnObject x ∷ [])
+spelling (Post x) = codes "post" with (AnObject x ∷ [])
+spelling (Done x) = codes "done" with (AnObject x ∷ [])
+spelling (Error x error) = codes "error" with (AnObject x ∷ a_number error ∷ [])
+spelling (Oom x) = codes "oom" with (AnObject x ∷ [])
+spelling (Iserror x) = codes "iserror" with (AnObject x ∷ [])
+spelling (Progress x) = codes "progress" with (AnObject x ∷ [])
+spelling (Endtime x time) = codes "endtime" with (AnObject x ∷ a_time time ∷ [])
+spelling (Received x) = codes "received" with (AnObject x ∷ [])
 spelling Pending = codes "pending" with []
 spelling Now = codes "now" with []
 spelling Turn = codes "turn" with []
@@ -123,6 +137,9 @@ of_descriptor call = TakesNumeral Number32 (λ fd. IsConsistent (call fd))
 abbrev pub object_and_number : (Obj → ℕ → Call) → Reading
 object_and_number call = TakesObject (λ x. takes_number (λ n. IsConsistent (call x n)))
 
+abbrev pub object_and_routine : (Obj → ℕ → Call) → Reading
+object_and_routine call = TakesObject (λ x. TakesNumeral Number32 (λ routine. IsConsistent (call x routine)))
+
 pub record Form : Type 0 where
   pub verb : List ℕ
   pub reading : Reading
@@ -131,8 +148,9 @@ infixr 8 ◌reads◌
 abbrev pub ◌reads◌ : List ℕ → Reading → Form
 verb reads reading = record { verb = verb; reading = reading }
 
-abbrev pub forms : List Form
-forms =
+-- calls on the tree
+abbrev pub tree_forms : List Form
+tree_forms =
     (codes "new" reads TakesOwner (λ owner. takes_number (λ size. EndsInName (λ name. New owner size name))))
     ∷ (codes "free" reads of_object Free)
     ∷ (codes "freekids" reads of_object Freekids)
@@ -151,7 +169,12 @@ forms =
     ∷ (codes "count" reads of_owner Count)
     ∷ (codes "sum" reads of_owner Sum)
     ∷ (codes "report" reads of_owner Report)
-    ∷ (codes "immediate" reads of_owner Immediate)
+    ∷ []
+
+-- calls on events
+abbrev pub event_forms : List Form
+event_forms =
+    (codes "immediate" reads of_owner Immediate)
     ∷ (codes "schedule" reads TakesObject (λ x. TakesNumeral Number32 (λ routine. takes_number (λ user. IsConsistent (Schedule x routine user)))))
     ∷ (codes "unschedule" reads of_object Unschedule)
     ∷ (codes "timer" reads TakesOwner (λ owner. TakesNumeral Time (λ time. TakesNumeral Positive32 (λ routine. takes_number (λ user. IsConsistent (Timer owner time routine user))))))
@@ -159,11 +182,44 @@ forms =
     ∷ (codes "flags" reads TakesObject (λ x. TakesNumeral FdFlags (λ flags. IsConsistent (Flags x flags))))
     ∷ (codes "getflags" reads of_object Getflags)
     ∷ (codes "autoclose" reads of_object Autoclose)
-    ∷ (codes "close" reads of_descriptor Close)
+    ∷ []
+
+-- calls on descriptors
+abbrev pub descriptor_forms : List Form
+descriptor_forms =
+    (codes "close" reads of_descriptor Close)
     ∷ (codes "accept" reads of_descriptor Accept)
     ∷ (codes "read" reads TakesNumeral Number32 (λ fd. TakesNumeral Length (λ len. IsConsistent (Read fd len))))
     ∷ (codes "write" reads TakesNumeral Number32 (λ fd. EndsInBytes (λ bytes. Write fd bytes)))
-    ∷ (codes "pending" reads IsConsistent Pending)
+    ∷ []
+
+-- calls on requests
+abbrev pub request_forms : List Form
+request_forms =
+    (codes "req" reads TakesOwner (λ owner. takes_number (λ size. EndsInName (λ name. Req owner size name))))
+    ∷ (codes "callback" reads TakesObject (λ x. TakesNumeral Number32 (λ routine. takes_number (λ user. IsConsistent (Callback x routine user)))))
+    ∷ (codes "defer" reads of_object Defer)
+    ∷ (codes "cleanup" reads object_and_routine Cleanup)
+    ∷ (codes "setcancel" reads object_and_routine Setcancel)
+    ∷ (codes "cancel" reads of_object Cancel)
+    ∷ (codes "post" reads of_object Post)
+    ∷ (codes "done" reads of_object Done)
+    ∷ (codes "error" reads object_and_number Error)
+    ∷ (codes "oom" reads of_object Oom)
+    ∷ (codes "iserror" reads of_object Iserror)
+    ∷ (codes "progress" reads of_object Progress)
+    ∷ (codes "endtime" reads TakesObject (λ x. TakesNumeral Time (λ time. IsConsistent (Endtime x time))))
+    ∷ (codes "received" reads of_object Received)
+    ∷ []
+
+-- calls on the loop
+abbrev pub loop_forms : List Form
+loop_forms =
+    (codes "pending" reads IsConsistent Pending)
     ∷ (codes "now" reads IsConsistent Now)
     ∷ (codes "turn" reads IsConsistent Turn)
     ∷ []
+
+-- all calls
+abbrev pub forms : List Form
+forms = tree_forms ++ event_forms ++ descriptor_forms ++ request_forms ++ loop_forms

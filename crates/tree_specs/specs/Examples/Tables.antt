@@ -3,6 +3,7 @@ use Rattle.std.specs.Prelude.{List, [], ◌∷◌, ◌++◌}
 use Rattle.tree_specs.specs.Examples.Exchanges.{Example}
 use Rattle.tree_specs.specs.Examples.Events.{events}
 use Rattle.tree_specs.specs.Examples.Descriptors.{descriptors}
+use Rattle.tree_specs.specs.Examples.Requests.{requests}
 
 -- ---- objects and owners
 
@@ -330,4 +331,4 @@ limits =
     bounded ∷ resized ∷ []
 
 abbrev pub examples : List Example
-examples = trees ++ destructors ++ references ++ limits ++ events ++ descriptors
+examples = trees ++ destructors ++ references ++ limits ++ events ++ descriptors ++ requests

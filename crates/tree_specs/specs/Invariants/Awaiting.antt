@@ -1,13 +1,16 @@
--- What waits for its turn at every moment: live events of their kinds, each with a handler; and what is watched.
+-- What waits for its turn at every moment: live events of their kinds, each with a handler, and live requests; and what is watched.
 use Rattle.std.specs.Prelude.{◌≡◌, ℕ, Bool, true, false, ◌||◌, is_some, List, [], ◌∷◌, Option, Some, None}
 use Rattle.step_machine.specs.Machine.{Move}
 use Rattle.step_machine.specs.Machine.Move.{Done, Go, Emit, Wait, Call}
 use Rattle.tree_specs.specs.declared.object.Obj.{Obj}
 use Rattle.tree_specs.specs.declared.row.Row.{Row}
+use Rattle.tree_specs.specs.declared.handler.Handler.{Handler}
 use Rattle.tree_specs.specs.declared.moment.What.{What}
 use Rattle.tree_specs.specs.declared.watch.Watch.{Watch}
 use Rattle.tree_specs.specs.declared.moment.What.TheVariants.{Timer, Immediate, Descriptor}
-use Rattle.tree_specs.specs.Tree.Pool.{Pool, row_of}
+use Rattle.tree_specs.specs.declared.kind.Kind.{Kind}
+use Rattle.tree_specs.specs.declared.kind.Kind.TheVariants as kind
+use Rattle.tree_specs.specs.Tree.Pool.{Pool, row_of, passes}
 use Rattle.tree_specs.specs.Events.Handlers.{handler_of}
 use Rattle.tree_specs.specs.Events.Pending.{is_scheduled, is_armed}
 use Rattle.tree_specs.specs.Events.Rotation.{is_watching, is_watched}
@@ -22,14 +25,30 @@ waits Timer p x = is_armed p.times x
 waits Descriptor p x = is_watching p.ring x
 waits what p x = false
 
--- an event of the kind, which neither is being freed nor will be once its handler is over
+-- an event waits as its own kind; a request comes soon, and at its end time
+abbrev pub waits_as : What → Kind → Bool
+waits_as Immediate kind.Request = true
+waits_as Timer kind.Request = true
+waits_as what k = comes_as what k
+
+abbrev pub waits_as_row : What → Option Row → Bool
+waits_as_row what o = passes (λ r. waits_as what r.kind) o
+
+-- an event or a request of the kind, which neither is being freed nor will be once its handler is over
 abbrev pub MayCome : What → Option Row → Type 0
 MayCome what None = ⊥
-MayCome what (Some r) = (comes_as what r.kind ≡ true) × (is_doomed_mark r.mark ≡ false)
+MayCome what (Some r) = (waits_as what r.kind ≡ true) × (is_doomed_mark r.mark ≡ false)
+
+abbrev pub is_event : Kind → Bool
+is_event k = comes_as Immediate k || (comes_as Timer k || comes_as Descriptor k)
 
 abbrev pub is_event_row : Option Row → Bool
 is_event_row None = false
-is_event_row (Some r) = comes_as Immediate r.kind || (comes_as Timer r.kind || comes_as Descriptor r.kind)
+is_event_row (Some r) = is_event r.kind
+
+-- an event has a handler
+abbrev pub IsHandled : Option Row → Option Handler → Type 0
+IsHandled o h = is_event_row o ≡ true → is_some h ≡ true
 
 -- each event once, and each descriptor once
 abbrev pub AreDistinct : List Watch → Type 0
@@ -37,7 +56,7 @@ AreDistinct [] = Unit {0}
 AreDistinct (w ∷ ws) = (is_watching ws w.object ≡ false) × (is_watched ws w.fd ≡ false) × AreDistinct ws
 
 pub record Awaits (p : Pool) : Type 0 where
-  pub events : (what : What) (x : Obj) → waits what p x ≡ true → MayCome what (row_of p.rows x) × (is_some (handler_of p.handlers x) ≡ true)
+  pub events : (what : What) (x : Obj) → waits what p x ≡ true → MayCome what (row_of p.rows x) × IsHandled (row_of p.rows x) (handler_of p.handlers x)
   -- only events have handlers
   pub handlers : (x : Obj) → is_event_row (row_of p.rows x) ≡ false → handler_of p.handlers x ≡ None
   pub distinct : AreDistinct p.ring

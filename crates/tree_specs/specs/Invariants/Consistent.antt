@@ -8,8 +8,9 @@ use Rattle.tree_specs.specs.declared.frame.Frame.{Frame}
 use Rattle.tree_specs.specs.Tree.Pool.{Pool}
 use Rattle.tree_specs.specs.Tree.Inside.{total}
 use Rattle.tree_specs.specs.Invariants.Sound.{Sound}
+use Rattle.tree_specs.specs.Invariants.Noted.{Noted, AllCalm}
 use Rattle.tree_specs.specs.Machine.View.{View}
-use Rattle.tree_specs.specs.Machine.Profiles.{phase_in, Role, Calls, Frees, Turns, Waits, ARun, ATurn, AHandler, profile}
+use Rattle.tree_specs.specs.Machine.Profiles.{phase_in, Role, Calls, Frees, Turns, Requests, Waits, ARun, ATurn, AHandler, ARequest, AReceived, AServed, ARoutine, profile}
 
 -- ---- which work may stand on which
 
@@ -38,6 +39,10 @@ abbrev pub FreesFor : Role → Type 0
 FreesFor (Frees x) = Unit {0}
 FreesFor _ = ⊥
 
+abbrev pub RequestsFor : Role → Type 0
+RequestsFor Requests = Unit {0}
+RequestsFor _ = ⊥
+
 -- the host's own caller, which never ends
 abbrev pub IsCaller : Frame → Type 0
 IsCaller f = CallsFor (profile f).role
@@ -52,15 +57,22 @@ IsFree f = FreesFor (profile f).role
 abbrev pub IsTurn : Frame → Type 0
 IsTurn f = TurnsFor (profile f).role
 
+abbrev pub IsWork : Frame → Type 0
+IsWork f = RequestsFor (profile f).role
+
 -- what stands on a work that waits
 abbrev pub Serves : Waits → Frame → Type 0
 Serves (ARun x h) f = IsRun f
 Serves (AHandler x) f = IsRun f
 Serves ATurn f = IsTurn f
+Serves ARequest f = IsWork f
+Serves (AReceived x) f = IsWork f
+Serves (AServed x) f = IsWork f
+Serves (ARoutine x) f = IsRun f
 Serves _ f = IsFree f
 
--- the host's own caller stands below all others, a run on the free or the turn that waits for it, a turn on its call, and a
--- free on the call, the free or the turn that waits for it
+-- the host's own caller stands below all others, a run on the free, the turn or the request that waits for it, a turn on its
+-- call, the work of a request on the call, the free or the turn that waits for it, and a free on whatever waits for it
 abbrev pub MayStandOn : Frame → List Frame → Type 0
 MayStandOn f [] = IsCaller f
 MayStandOn f (g ∷ gs) = Serves (profile g).waits f
@@ -94,3 +106,5 @@ pub record IsConsistent (v : View) : Type 0 where
   pub sound : Sound v.innermost v.below v.pool
   pub seated : IsStacked v.innermost v.below
   pub light : IsPaidFor v.innermost v.below v.pool
+  pub noted : Noted v.innermost v.pool
+  pub calm : AllCalm (v.innermost ∷ v.below)

@@ -8,6 +8,7 @@ use Rattle.tree_specs.specs.declared.frame.Frame.{Frame}
 use Rattle.tree_specs.specs.declared.frame.Frame.TheVariants as frame
 use Rattle.tree_specs.specs.declared.frame.FreeFrame.TheVariants.{FreeingChild}
 use Rattle.tree_specs.specs.Tree.Pool.{Pool, is_below}
+use Rattle.tree_specs.specs.Events.Requests.{Notes, note_of, is_unreceived}
 use Rattle.tree_specs.specs.Tree.Inside.{total}
 use Rattle.tree_specs.specs.Machine.Profiles.{former_in, Looks, AtNone, AtKids, AtBelow, profile}
 
@@ -15,22 +16,26 @@ use Rattle.tree_specs.specs.Machine.Profiles.{former_in, Looks, AtNone, AtKids, 
 abbrev pub count : List Row → Owner → ℕ
 count rs p = total (λ r. if is_below r.owner p then 1 else 0) rs
 
--- A row pays once when it leaves its owner, and once when it is removed.
+-- A row pays once when it leaves its owner, and once when it is removed; that of a request pays once more when it is
+-- received.
 abbrev pub mark_weight : Mark → ℕ
 mark_weight m = if is_some (former_in m) then 1 else 2
 
-abbrev pub weight : Row → ℕ
-weight r = mark_weight r.mark
+abbrev pub note_weight : Notes → Row → ℕ
+note_weight notes r = if is_unreceived (note_of notes r.serial) then 1 else 0
+
+abbrev pub weight : Notes → Row → ℕ
+weight notes r = mark_weight r.mark + note_weight notes r
 
 -- Below, R bounds the rows that there can be.
 
 -- what the payment of a row is worth
 abbrev pub row_worth : ℕ → ℕ
-row_worth R = 4 * R + 16
+row_worth R = 4 * R + 24
 
--- what an input is worth: the rows that its call may add, and the call's own steps
+-- what an input is worth: two rows and a note that its call may add, and the call's own steps
 abbrev pub input_worth : ℕ → ℕ
-input_worth R = 16 * R + 68
+input_worth R = 24 * R + 148
 
 -- what a waiting work still costs
 abbrev pub waiting_cost : Frame → ℕ
@@ -57,7 +62,7 @@ top_cost R f fs rows = (profile f).cost.rounds * R + (profile f).cost.steps + lo
 
 -- the measure, for k inputs left
 abbrev pub cost : ℕ → Frame → List Frame → Pool → ℕ → ℕ
-cost R f fs p k = row_worth R * total weight p.rows + input_worth R * k + below_cost fs + top_cost R f fs p.rows
+cost R f fs p k = row_worth R * total (weight p.requests) p.rows + input_worth R * k + below_cost fs + top_cost R f fs p.rows
 
 -- the rows that a work may add, and those that it may add after the next input
 abbrev pub pending : Frame → ℕ

@@ -8,11 +8,13 @@ use Rattle.tree_specs.specs.declared.row.Mark.{Mark}
 use Rattle.tree_specs.specs.declared.row.Mark.TheVariants.{Quiet, Busy}
 use Rattle.tree_specs.specs.declared.frame.Frame.{Frame}
 use Rattle.tree_specs.specs.declared.frame.Frame.TheVariants as frame
-use Rattle.tree_specs.specs.declared.frame.CallFrame.TheVariants.{Asking, Doing, Awaiting, Turning, Announcing, Telling, Returning}
+use Rattle.tree_specs.specs.declared.frame.CallFrame.TheVariants.{Asking, Doing, Awaiting, Turning, Requesting, Announcing, Telling, Returning}
 use Rattle.tree_specs.specs.declared.frame.FreeFrame.{FreeFrame}
-use Rattle.tree_specs.specs.declared.frame.FreeFrame.TheVariants.{Unlinking, Releasing, Giving, Beginning, Hooked, Judged, Dooming, Leaving, Looping, FreeingChild, AfterChild, Ending}
+use Rattle.tree_specs.specs.declared.frame.FreeFrame.TheVariants.{Unlinking, Releasing, Giving, Beginning, Hooked, Judged, Preparing, Prepared, Dooming, Leaving, Looping, FreeingChild, AfterChild, Ending}
 use Rattle.tree_specs.specs.declared.frame.TurnFrame.{TurnFrame}
-use Rattle.tree_specs.specs.declared.frame.TurnFrame.TheVariants.{Firing, Handling, Clearing}
+use Rattle.tree_specs.specs.declared.frame.TurnFrame.TheVariants.{Firing, Handling, Clearing, Serving}
+use Rattle.tree_specs.specs.declared.frame.RequestFrame.{RequestFrame}
+use Rattle.tree_specs.specs.declared.frame.RequestFrame.TheVariants as request
 use Rattle.tree_specs.specs.declared.frame.Purpose.{Purpose}
 use Rattle.tree_specs.specs.declared.frame.Purpose.TheVariants.{Removal, Emptying}
 use Rattle.tree_specs.specs.declared.free_step.FreeReply.{FreeReply}
@@ -20,9 +22,9 @@ use Rattle.tree_specs.specs.declared.free_step.FreeReply.TheVariants.{Ok, Held, 
 use Rattle.tree_specs.specs.Words.Objects.{same}
 use Rattle.tree_specs.specs.Tree.Targets.{target_of, newest_ref}
 use Rattle.tree_specs.specs.Tree.Pool.{Pool, row_of, owner_of, target_at, noted_owner, is_owner, is_inside}
-use Rattle.tree_specs.specs.Calls.Refusals.{is_plain}
+use Rattle.tree_specs.specs.Calls.Refusals.{is_referable}
 use Rattle.tree_specs.specs.Tree.Forest.{IsForest}
-use Rattle.tree_specs.specs.Machine.Profiles.{Phase, Claim, former_in, phase_in, Waits, Never, AFree, ARun, AChild, ATurn, AHandler, AClear, profile}
+use Rattle.tree_specs.specs.Machine.Profiles.{Phase, Claim, former_in, phase_in, Waits, Never, AFree, ARun, AChild, ATurn, AHandler, AClear, ARequest, AReceived, AServed, ARoutine, ARelease, profile}
 use Rattle.tree_specs.specs.declared.kind.Kind.{Kind}
 use Rattle.tree_specs.specs.Events.Coming.{comes_as}
 
@@ -74,12 +76,14 @@ claims x (f ∷ fs) = claim x f ++ claims x fs
 -- ---- what a work stands on
 
 pub data Footing : Type 0 where
-  -- the call, or the turn, that waits for it
+  -- the call, the turn or the request that waits for it
   OnCall : Footing
   -- a free
   OnFree : FreeFrame → Footing
   -- the call that waits for a turn, or for the outside
   OnTurning : Footing
+  -- the call, or the turn, that waits for the work of a request
+  OnRequesting : Footing
   -- a work that waits for no free
   OnOther : Footing
   AtBottom : Footing
@@ -90,6 +94,9 @@ footing (frame.Free f ∷ fs) = OnFree f
 footing (frame.Call (Awaiting q x) ∷ fs) = OnCall
 footing (frame.Call (Turning q) ∷ fs) = OnTurning
 footing (frame.Turn (Clearing x) ∷ fs) = OnCall
+footing (frame.Request (request.Releasing c) ∷ fs) = OnCall
+footing (frame.Call (Requesting q) ∷ fs) = OnRequesting
+footing (frame.Turn (Serving x) ∷ fs) = OnRequesting
 footing (_ ∷ fs) = OnOther
 
 abbrev pub IsCalled : Footing → Type 0
@@ -99,6 +106,12 @@ IsCalled _ = ⊥
 abbrev pub IsTurned : Footing → Type 0
 IsTurned OnTurning = Unit {0}
 IsTurned _ = ⊥
+
+-- the work of a request is a call's, a turn's, or that of a free that waits for it
+abbrev pub IsRequested : Footing → Type 0
+IsRequested OnRequesting = Unit {0}
+IsRequested (OnFree (Preparing x)) = Unit {0}
+IsRequested _ = ⊥
 
 -- a loop that only empties an object is a call's own
 abbrev pub Stands : Purpose → Footing → Type 0
@@ -113,6 +126,11 @@ MayWait (AChild c purpose) on = Stands purpose on
 MayWait ATurn on = Unit {0}
 MayWait (AHandler x) on = IsTurned on
 MayWait (AClear x) on = IsTurned on
+MayWait ARequest on = Unit {0}
+MayWait (AReceived x) on = Unit {0}
+MayWait (AServed x) on = IsTurned on
+MayWait (ARoutine x) on = IsRequested on
+MayWait (ARelease c) on = IsRequested on
 
 -- the works below the innermost wait for the one above them
 abbrev pub IsWaiting : Frame → List Frame → Type 0
@@ -131,16 +149,16 @@ IsLive m = IsNoOwner (former_in m)
 
 -- ---- references
 
--- a plain object that nothing is going on with
+-- a plain object or a request that nothing is going on with
 abbrev pub IsReferable : Option Row → Type 0
 IsReferable None = ⊥
-IsReferable (Some r) = (is_plain r.kind ≡ true) × (r.mark ≡ Quiet)
+IsReferable (Some r) = (is_referable r.kind ≡ true) × (r.mark ≡ Quiet)
 
 abbrev pub IsQuietRow : Option Row → Type 0
 IsQuietRow None = ⊥
 IsQuietRow (Some r) = r.mark ≡ Quiet
 
--- what a reference refers to is there, is plain, and neither runs nor dies; nothing goes on with a reference
+-- what a reference refers to is there, is plain or a request, and neither runs nor dies; nothing goes on with a reference
 pub record Refers (rows : List Row) : Type 0 where
   pub target : (r t : Obj) → target_at rows r ≡ Some t → IsReferable (row_of rows t)
   pub quiet : (r t : Obj) → target_at rows r ≡ Some t → IsQuietRow (row_of rows r)
@@ -194,6 +212,10 @@ pub record MayBePlaced (p : Pool) (o : Owner) (x : Obj) : Type 0 where
 abbrev pub IsGivenUp : Obj → Footing → Pool → Type 0
 IsGivenUp x on p = IsCalled on × (r : Row) × (row_of p.rows x ≡ Some r) × IsLive r.mark × (target_of r.kind ≡ None)
 
+-- the row of a request that is received is there, whether it was received before or not
+abbrev pub MayReceive : Obj → Pool → Type 0
+MayReceive x p = (r : Row) × (row_of p.rows x ≡ Some r)
+
 -- what the innermost free rests on, by what it stands on and what the works below it claim
 abbrev pub FreeRests : FreeFrame → Footing → (Obj → List Phase) → Pool → Type 0
 FreeRests (Unlinking o x) on claimed p = IsGivenUp x on p
@@ -202,6 +224,8 @@ FreeRests (Giving x o) on claimed p = MayBePlaced p o x
 FreeRests (Beginning x) on claimed p = Tries x on p × (target_at p.rows x ≡ None)
 FreeRests (Hooked x h) on claimed p = (0 < h) × HasHook (row_of p.rows x) h
 FreeRests (Judged x h v) on claimed p = 0 < h
+FreeRests (Preparing x) on claimed p = MayReceive x p
+FreeRests (Prepared x) on claimed p = Unit {0}
 FreeRests (Dooming x) on claimed p = Tries x on p × (newest_ref p.rows x ≡ None)
 FreeRests (Leaving x h) on claimed p = (r : Row) × (row_of p.rows x ≡ Some r) × IsLive r.mark × (claimed x ≡ []) × (target_of r.kind ≡ None) × (newest_ref p.rows x ≡ None)
 FreeRests (Looping x purpose) on claimed p = Stands purpose on
@@ -214,7 +238,14 @@ abbrev pub TurnRests : TurnFrame → Footing → Pool → Type 0
 TurnRests (Firing what x handler occasion) on p = IsTurned on × (r : Row) × (row_of p.rows x ≡ Some r) × (comes_as what r.kind ≡ true) × (r.mark ≡ Busy)
 TurnRests (Handling what x handler occasion) on p = IsTurned on × (k : Kind) × (comes_as what k ≡ true)
 TurnRests (Clearing x) on p = ⊥
+TurnRests (Serving x) on p = ⊥
 TurnRests f on p = IsTurned on
+
+-- the work of a request is for what waits for it
+abbrev pub RequestRests : RequestFrame → Footing → Pool → Type 0
+RequestRests (request.Receiving x) on p = IsRequested on × MayReceive x p
+RequestRests (request.Releasing c) on p = ⊥
+RequestRests f on p = IsRequested on
 
 -- what the innermost work rests on
 abbrev pub Rests : Frame → List Frame → Pool → Type 0
@@ -222,12 +253,14 @@ Rests (frame.Call (Asking q)) fs p = Unit {0}
 Rests (frame.Call (Doing q c)) fs p = Unit {0}
 Rests (frame.Call (Awaiting q x)) fs p = ⊥
 Rests (frame.Call (Turning q)) fs p = ⊥
+Rests (frame.Call (Requesting q)) fs p = ⊥
 Rests (frame.Call (Announcing q notice r)) fs p = Unit {0}
 Rests (frame.Call (Telling q r)) fs p = Unit {0}
 Rests (frame.Call (Returning v)) fs p = Unit {0}
 Rests (frame.Free f) fs p = FreeRests f (footing fs) (λ x. claims x fs) p
 Rests (frame.Turn f) fs p = TurnRests f (footing fs) p
 Rests (frame.Outside f) fs p = IsTurned (footing fs)
+Rests (frame.Request f) fs p = RequestRests f (footing fs) p
 
 pub record Sound (f : Frame) (fs : List Frame) (p : Pool) : Type 0 where
   pub started : 0 < p.next
@@ -235,7 +268,7 @@ pub record Sound (f : Frame) (fs : List Frame) (p : Pool) : Type 0 where
   -- each number stands once, the owner of each row is the root or a row, and from owner to owner one comes to an end
   pub forest : IsForest p.rows
   pub refers : Refers p.rows
-  -- each object whose destructor runs, or that is dying, is in exactly one open free, and each whose handler runs in exactly
+  -- each object whose destructor runs, that is received to be freed, or that is dying, is in exactly one open free, and each whose handler runs in exactly
   -- one open turn; no other object is
   pub open_frees : (x : Obj) → claim x f ++ claims x fs ≡ phases (row_of p.rows x)
   pub waiting : AllWait fs

@@ -5,41 +5,47 @@ use Rattle.step_machine.specs.Machine.{Move as Do}
 use Rattle.tree_specs.specs.declared.object.Obj.{Obj}
 use Rattle.tree_specs.specs.declared.object.Owner.{Owner}
 use Rattle.tree_specs.specs.declared.object.Owner.TheVariants.{Root, Of}
+use Rattle.tree_specs.specs.declared.kind.Kind.{Kind}
 use Rattle.tree_specs.specs.declared.row.Row.{Row}
 use Rattle.tree_specs.specs.declared.row.Mark.{Mark}
 use Rattle.tree_specs.specs.declared.row.Mark.TheVariants as mark
 use Rattle.tree_specs.specs.declared.frame.FreeFrame.{FreeFrame}
-use Rattle.tree_specs.specs.declared.frame.FreeFrame.TheVariants.{Unlinking, Releasing, Giving, Beginning, Hooked, Judged, Dooming, Leaving, Looping, FreeingChild, AfterChild, Ending}
+use Rattle.tree_specs.specs.declared.frame.FreeFrame.TheVariants.{Unlinking, Releasing, Giving, Beginning, Hooked, Judged, Preparing, Prepared, Dooming, Leaving, Looping, FreeingChild, AfterChild, Ending}
 use Rattle.tree_specs.specs.declared.frame.Purpose.{Purpose}
 use Rattle.tree_specs.specs.declared.frame.Purpose.TheVariants.{Removal, Emptying}
 use Rattle.tree_specs.specs.declared.free_step.FreeReply.{FreeReply}
 use Rattle.tree_specs.specs.declared.free_step.FreeReply.TheVariants as free_reply
 use Rattle.tree_specs.specs.declared.free_step.FreeReply.TheVariants.{Ok, Held, Running}
 use Rattle.tree_specs.specs.declared.free_step.FreeStep.{FreeStep}
-use Rattle.tree_specs.specs.declared.free_step.FreeStep.TheVariants.{Ask as AskOf, Dropped, Refused, Accepted, Doom, Left, Moved, Gone}
+use Rattle.tree_specs.specs.declared.free_step.FreeStep.TheVariants.{Ask as AskOf, Prepare, Dropped, Refused, Accepted, Doom, Left, Moved, Gone}
 use Rattle.tree_specs.specs.Tree.Targets.{newest_ref}
 use Rattle.tree_specs.specs.Tree.Pool.{Pool, row_of, is_below, owner_of, target_at, newest_ref_of, noted_owner, is_inside, first_kid, detach, remove, place, set_mark, doom, set_hook}
 use Rattle.tree_specs.specs.Tree.Heirs.{heir}
+use Rattle.tree_specs.specs.Calls.Refusals.{is_request}
 
 -- a step of a free by itself
 abbrev pub FreeMove : Type 0
 FreeMove = Move FreeFrame FreeReply Pool FreeStep
 
 -- a quiet object with a destructor is asked, and any other leaves its owner
-abbrev pub begin_quiet : Obj → ℕ → Pool → FreeMove
-begin_quiet x h p = if nat_eq h 0 then Do.Go (Leaving x 0) p else Do.Go (Hooked x h) (set_mark p x mark.Asked)
+abbrev pub begin_plain : Obj → ℕ → Pool → FreeMove
+begin_plain x h p = if nat_eq h 0 then Do.Go (Leaving x 0) p else Do.Go (Hooked x h) (set_mark p x mark.Asked)
+
+-- a quiet request is received first
+abbrev pub begin_quiet : Obj → Kind → ℕ → Pool → FreeMove
+begin_quiet x k h p = if is_request k then Do.Go (Preparing x) (set_mark p x mark.Asked) else begin_plain x h p
 
 -- the freeing of an object begins, by what is going on with it
-abbrev pub begin_by : Obj → ℕ → Mark → Pool → FreeMove
-begin_by x h mark.Quiet p = begin_quiet x h p
-begin_by x h mark.Asked p = Do.Done Running p
-begin_by x h mark.Busy p = Do.Emit (Doom x) (Dooming x) (doom p x)
-begin_by x h mark.Doomed p = Do.Done Running p
-begin_by x h (mark.Dying former) p = Do.Done Ok p
+abbrev pub begin_by : Obj → Kind → ℕ → Mark → Pool → FreeMove
+begin_by x k h mark.Quiet p = begin_quiet x k h p
+begin_by x k h mark.Asked p = Do.Done Running p
+begin_by x k h mark.Busy p = Do.Emit (Doom x) (Dooming x) (doom p x)
+begin_by x k h mark.Doomed p = Do.Done Running p
+begin_by x k h (mark.Dying former) p = Do.Done Ok p
 
 abbrev pub begin_step : Obj → Option Row → Pool → FreeMove
 begin_step x None p = Do.Done Ok p
-begin_step x (Some r) p = begin_by x r.hook r.mark p
+begin_step x (Some r) p = begin_by x r.kind r.hook r.mark p
 
 -- the newest reference is dropped: one from inside makes the freeing begin again, and one from outside holds the object
 abbrev pub drop_step : Obj → Obj → Pool → FreeMove
@@ -105,6 +111,8 @@ free_step (Giving x o) p = Do.Emit (Moved x (unwrap_or (owner_of p.rows x) Root)
 free_step (Beginning x) p = refs_step x (newest_ref p.rows x) p
 free_step (Hooked x h) p = Do.Wait (AskOf x) (Hooked x h) p
 free_step (Judged x h v) p = judge_step x h v p
+free_step (Preparing x) p = Do.Wait (Prepare x) (Preparing x) p
+free_step (Prepared x) p = Do.Go (Leaving x 0) (set_mark p x mark.Quiet)
 free_step (Dooming x) p = Do.Done Running p
 free_step (Leaving x h) p = Do.Emit (Left x (unwrap_or (owner_of p.rows x) Root)) (Looping x (Removal h)) (detach p x)
 free_step (Looping x purpose) p = loop_step x purpose (first_kid p.rows (Of x)) p

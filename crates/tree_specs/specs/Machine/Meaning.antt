@@ -7,10 +7,12 @@ use Rattle.tree_specs.specs.declared.event.Event.TheVariants.{Freed as IsFreed}
 use Rattle.tree_specs.specs.declared.question.Input.{Input}
 use Rattle.tree_specs.specs.declared.frame.Frame.{Frame}
 use Rattle.tree_specs.specs.declared.frame.Frame.TheVariants as frame
-use Rattle.tree_specs.specs.declared.frame.CallFrame.TheVariants.{Asking, Doing, Awaiting, Turning, Announcing, Telling, Returning}
-use Rattle.tree_specs.specs.declared.frame.FreeFrame.TheVariants.{Unlinking, Releasing, Giving, Beginning, Hooked, Judged, Dooming, Leaving, Looping, FreeingChild, AfterChild, Ending}
-use Rattle.tree_specs.specs.declared.frame.TurnFrame.TheVariants.{Taking, Timing, Timed, Polling, Starting, Firing, Handling, Handled, Clearing, Closing}
+use Rattle.tree_specs.specs.declared.frame.CallFrame.TheVariants.{Asking, Doing, Awaiting, Turning, Requesting, Announcing, Telling, Returning}
+use Rattle.tree_specs.specs.declared.frame.FreeFrame.TheVariants.{Unlinking, Releasing, Giving, Beginning, Hooked, Judged, Preparing, Prepared, Dooming, Leaving, Looping, FreeingChild, AfterChild, Ending}
+use Rattle.tree_specs.specs.declared.frame.TurnFrame.TheVariants.{Taking, Timing, Timed, Polling, Starting, Firing, Handling, Handled, Clearing, Serving, Closing}
 use Rattle.tree_specs.specs.declared.frame.OutsideFrame.TheVariants.{Reaching, Opening, Hearing}
+use Rattle.tree_specs.specs.declared.frame.RequestFrame.{RequestFrame}
+use Rattle.tree_specs.specs.declared.frame.RequestFrame.TheVariants as request
 use Rattle.tree_specs.specs.declared.reply.Reply.{Reply}
 use Rattle.tree_specs.specs.declared.frame.Purpose.{Purpose}
 use Rattle.tree_specs.specs.declared.frame.Purpose.TheVariants.{Removal, Emptying}
@@ -21,7 +23,7 @@ use Rattle.tree_specs.specs.declared.free_step.FreeReply.TheVariants.{Ok}
 use Rattle.tree_specs.specs.Tree.Pool.{Pool, remove}
 use Rattle.tree_specs.specs.Rules.Items.Item.{Told}
 use Rattle.tree_specs.specs.Rules.Sequence.{Work, Scene, CallStart, ◌>>=◌, ◌>>◌, gives, change, tells}
-use Rattle.tree_specs.specs.Rules.Story.{free, hooked, judged, dooming, leave, children, tried, asked, acting, telling, returning, announcing, unlink, release, given, turns, taking, timing, timed, polling, starting, firing, handling, handled, reaching, opening, hearing, closing}
+use Rattle.tree_specs.specs.Rules.Story.{free, hooked, judged, preparing, prepared, dooming, leave, children, tried, asked, acting, telling, returning, announcing, unlink, release, given, turns, taking, timing, timed, polling, starting, firing, handling, handled, reaching, opening, hearing, closing, finishing, receiving, cancelling, cleaning, cleaned, notifying, calling, called, over}
 use Rattle.tree_specs.specs.Machine.Table.{table, notes, resume}
 use Rattle.tree_specs.specs.Machine.View.{View}
 
@@ -61,12 +63,26 @@ looped x Emptying w = do
   w
   gives (Freed Ok)
 
+-- the work of a request
+abbrev pub request_mean : ℕ → RequestFrame → Work Answer
+request_mean n (request.Finishing x state) = answered (finishing n x state)
+request_mean n (request.Receiving x) = answered (receiving n x)
+request_mean n (request.Cancelling x) = answered (cancelling n x)
+request_mean n (request.Cleaning x errand) = answered (cleaning n x errand)
+request_mean n (request.Cleaned x errand) = answered (cleaned n x errand)
+request_mean n (request.Notifying x errand) = answered (notifying n x errand)
+request_mean n (request.Calling what x handler errand) = answered (calling n what x handler errand)
+request_mean n (request.Called what x handler errand) = answered (called n what x handler errand)
+request_mean n (request.Releasing c) = gives (Freed Ok)
+request_mean n (request.Over r) = answered (over n r)
+
 -- what a work does, by the text
 abbrev pub mean : ℕ → Frame → Option CallStart → Work Answer
 mean n (frame.Call (Asking q)) b = returned (asked n q)
 mean n (frame.Call (Doing q c)) b = returned (acting n q c)
 mean n (frame.Call (Awaiting q x)) b = gives (Freed Ok)
 mean n (frame.Call (Turning q)) b = gives (Freed Ok)
+mean n (frame.Call (Requesting q)) b = gives (Freed Ok)
 mean n (frame.Call (Announcing q notice r)) b = returned (announcing n b q notice r)
 mean n (frame.Call (Telling q r)) b = returned (telling n b q r)
 mean n (frame.Call (Returning v)) b = returned (returning n v)
@@ -76,6 +92,8 @@ mean n (frame.Free (Giving x o)) b = freed (given n x o)
 mean n (frame.Free (Beginning x)) b = freed (free n x)
 mean n (frame.Free (Hooked x h)) b = freed (hooked n x h)
 mean n (frame.Free (Judged x h v)) b = freed (judged n x h v)
+mean n (frame.Free (Preparing x)) b = freed (preparing n x)
+mean n (frame.Free (Prepared x)) b = freed (prepared n x)
 mean n (frame.Free (Dooming x)) b = freed (dooming n x)
 mean n (frame.Free (Leaving x h)) b = freed (leave n x h)
 mean n (frame.Free (Looping x purpose)) b = looped x purpose (children n x)
@@ -91,10 +109,12 @@ mean n (frame.Turn (Firing what x handler occasion)) b = closed (firing n what x
 mean n (frame.Turn (Handling what x handler occasion)) b = closed (handling n what x handler occasion)
 mean n (frame.Turn (Handled what x)) b = closed (handled n what x)
 mean n (frame.Turn (Clearing x)) b = gives (Freed Ok)
+mean n (frame.Turn (Serving x)) b = gives (Freed Ok)
 mean n (frame.Turn (Closing v)) b = closed (closing n v)
 mean n (frame.Outside (Reaching q)) b = answered (reaching n q)
 mean n (frame.Outside (Opening fd)) b = answered (opening n fd)
 mean n (frame.Outside (Hearing r)) b = answered (hearing n r)
+mean n (frame.Request f) b = request_mean n f
 
 -- ---- runs of the machine
 

@@ -9,13 +9,15 @@ use Rattle.tree_specs.specs.declared.question.Ask.{Ask}
 use Rattle.tree_specs.specs.declared.frame.Frame.{Frame}
 use Rattle.tree_specs.specs.declared.frame.Frame.TheVariants as frame
 use Rattle.tree_specs.specs.declared.frame.CallFrame.{CallFrame}
-use Rattle.tree_specs.specs.declared.frame.CallFrame.TheVariants.{Asking, Doing, Awaiting, Turning, Announcing, Telling, Returning}
+use Rattle.tree_specs.specs.declared.frame.CallFrame.TheVariants.{Asking, Doing, Awaiting, Turning, Requesting, Announcing, Telling, Returning}
 use Rattle.tree_specs.specs.declared.frame.FreeFrame.{FreeFrame}
-use Rattle.tree_specs.specs.declared.frame.FreeFrame.TheVariants.{Unlinking, Releasing, Giving, Beginning, Hooked, Judged, Dooming, Leaving, Looping, FreeingChild, AfterChild, Ending}
+use Rattle.tree_specs.specs.declared.frame.FreeFrame.TheVariants.{Unlinking, Releasing, Giving, Beginning, Hooked, Judged, Preparing, Prepared, Dooming, Leaving, Looping, FreeingChild, AfterChild, Ending}
 use Rattle.tree_specs.specs.declared.frame.TurnFrame.{TurnFrame}
-use Rattle.tree_specs.specs.declared.frame.TurnFrame.TheVariants.{Taking, Timing, Timed, Polling, Starting, Firing, Handling, Handled, Clearing, Closing}
+use Rattle.tree_specs.specs.declared.frame.TurnFrame.TheVariants.{Taking, Timing, Timed, Polling, Starting, Firing, Handling, Handled, Clearing, Serving, Closing}
 use Rattle.tree_specs.specs.declared.frame.OutsideFrame.{OutsideFrame}
 use Rattle.tree_specs.specs.declared.frame.OutsideFrame.TheVariants.{Reaching, Opening, Hearing}
+use Rattle.tree_specs.specs.declared.frame.RequestFrame.{RequestFrame}
+use Rattle.tree_specs.specs.declared.frame.RequestFrame.TheVariants as request
 use Rattle.tree_specs.specs.declared.frame.Purpose.{Purpose}
 use Rattle.tree_specs.specs.declared.frame.Purpose.TheVariants.{Removal, Emptying}
 use Rattle.tree_specs.specs.declared.free_step.FreeReply.{FreeReply}
@@ -23,7 +25,7 @@ use Rattle.tree_specs.specs.declared.free_step.FreeReply.TheVariants.{Running}
 
 -- what is going on with an object
 pub data Phase : Type 0 where
-  -- its destructor runs
+  -- its destructor runs, or it is received to be freed
   InRun : Phase
   -- its handler runs
   InHandler : Phase
@@ -53,6 +55,8 @@ pub data Role : Type 0 where
   Frees : Option Obj → Role
   -- a turn, or a question to the outside
   Turns : Role
+  -- the work of a request
+  Requests : Role
 
 -- what it waits for below another work
 pub data Waits : Type 0 where
@@ -70,6 +74,16 @@ pub data Waits : Type 0 where
   AHandler : Obj → Waits
   -- a turn, for the freeing of this event
   AClear : Obj → Waits
+  -- a call, for the work of a request
+  ARequest : Waits
+  -- a free, until this request was received
+  AReceived : Obj → Waits
+  -- a turn, for the work of this request
+  AServed : Obj → Waits
+  -- the work of a request, for the run of this request's routine
+  ARoutine : Obj → Waits
+  -- the work of a request, for the freeing of this object
+  ARelease : Obj → Waits
 
 -- that something is going on with an object
 pub record Claim : Type 0 where
@@ -162,11 +176,14 @@ a_loop x purpose = record (a_free x) { claims = loops x purpose; removes = loop_
 abbrev pub free_profile : FreeFrame → FreeProfile
 free_profile (Unlinking o x) = record (a_free x) { cost = at_most 0 8 AtBelow }
 free_profile (Releasing x) = record (a_free x) { cost = at_most 0 7 AtBelow }
-free_profile (Giving x o) = record (a_free x) { cost = at_most 4 10 AtNone }
+free_profile (Giving x o) = record (a_free x) { cost = at_most 4 13 AtNone }
 free_profile (Beginning x) = record (a_free x) { cost = at_most 0 6 AtBelow }
 -- an object that is to be asked pays for the run that comes
 free_profile (Hooked x h) = record (a_free x) { waits = ARun x h; claims = runs x; size = 1; top_size = 3; waiting_cost = 3; cost = at_most 0 4 AtNone }
-free_profile (Judged x h v) = record (a_free x) { claims = runs x; size = 3; top_size = 3; cost = at_most 4 10 AtNone }
+free_profile (Judged x h v) = record (a_free x) { claims = runs x; size = 3; top_size = 3; cost = at_most 4 13 AtNone }
+-- a request that is to be received pays for the routines that run
+free_profile (Preparing x) = record (a_free x) { waits = AReceived x; claims = runs x; size = 1; top_size = 3; cost = at_most 0 5 AtNone }
+free_profile (Prepared x) = record (a_free x) { claims = runs x; size = 3; top_size = 3; cost = at_most 0 1 AtNone }
 free_profile (Dooming x) = record (a_free x) { cost = at_most 0 5 AtBelow }
 -- it runs until it leaves its owner, where a destructor has accepted
 free_profile (Leaving x h) = record (a_free x) {
@@ -178,38 +195,40 @@ free_profile (Leaving x h) = record (a_free x) {
 free_profile (Looping x purpose) = record (a_loop x purpose) { cost = at_most 0 7 (AtKids x) }
 free_profile (FreeingChild x c noted purpose) = record (a_loop x purpose) { waits = AChild c purpose }
 free_profile (AfterChild x c noted purpose answer) = record (a_loop x purpose) { cost = at_most 0 (tried_cost answer) (AtKids x) }
-free_profile (Ending answer) = record { object = None; waits = Never; claims = None; removes = None; size = 0; top_size = 0; waiting_cost = 0; cost = at_most 4 9 AtNone }
+free_profile (Ending answer) = record { object = None; waits = Never; claims = None; removes = None; size = 0; top_size = 0; waiting_cost = 0; cost = at_most 4 12 AtNone }
 
 abbrev pub of_free : FreeProfile → Profile
 of_free f = record { role = Frees f.object; waits = f.waits; claims = f.claims; removes = f.removes; size = f.size; top_size = f.top_size; waiting_cost = f.waiting_cost; cost = f.cost; adds = 0 }
 
 -- ---- callers
 
+-- what a caller weighs; while it waits for a turn, the outside or a request, this weighs as much in its place
+abbrev pub caller_size : ℕ
+caller_size = 2
+
 pub record CallProfile : Type 0 where
   pub ask : Option Ask
   pub waits : Waits
+  pub size : ℕ
   pub waiting_cost : ℕ
   pub cost : Cost
   pub adds : ℕ
 
 abbrev pub a_caller : Ask → CallProfile
-a_caller q = record { ask = Some q; waits = Never; waiting_cost = 0; cost = at_most 0 0 AtNone; adds = 0 }
+a_caller q = record { ask = Some q; waits = Never; size = caller_size; waiting_cost = 0; cost = at_most 0 0 AtNone; adds = 0 }
 
 abbrev pub call_profile : CallFrame → CallProfile
 call_profile (Asking q) = a_caller q
-call_profile (Doing q c) = record (a_caller q) { cost = at_most 16 67 AtNone; adds = 2 }
+call_profile (Doing q c) = record (a_caller q) { cost = at_most 24 147 AtNone; adds = 2 }
 call_profile (Awaiting q x) = record (a_caller q) { waits = AFree x; waiting_cost = 1 }
-call_profile (Turning q) = record (a_caller q) { waits = ATurn }
+call_profile (Turning q) = record (a_caller q) { waits = ATurn; size = 0 }
+call_profile (Requesting q) = record (a_caller q) { waits = ARequest; size = 0 }
 call_profile (Announcing q notice r) = record (a_caller q) { cost = at_most 0 2 AtNone }
 call_profile (Telling q r) = record (a_caller q) { cost = at_most 0 1 AtNone }
-call_profile (Returning v) = record { ask = None; waits = Never; waiting_cost = 0; cost = at_most 4 9 AtNone; adds = 0 }
-
--- what a caller weighs, whatever it waits for
-abbrev pub caller_size : ℕ
-caller_size = 2
+call_profile (Returning v) = record { ask = None; waits = Never; size = caller_size; waiting_cost = 0; cost = at_most 4 12 AtNone; adds = 0 }
 
 abbrev pub of_call : CallProfile → Profile
-of_call f = record { role = Calls f.ask; waits = f.waits; claims = None; removes = None; size = caller_size; top_size = caller_size; waiting_cost = f.waiting_cost; cost = f.cost; adds = f.adds }
+of_call f = record { role = Calls f.ask; waits = f.waits; claims = None; removes = None; size = f.size; top_size = caller_size; waiting_cost = f.waiting_cost; cost = f.cost; adds = f.adds }
 
 -- ---- turns
 
@@ -222,22 +241,24 @@ pub record TurnProfile : Type 0 where
   pub steps : ℕ
 
 abbrev pub a_turn : ℕ → TurnProfile
-a_turn steps = record { waits = Never; claims = None; size = 0; top_size = 0; steps = steps }
+a_turn steps = record { waits = Never; claims = None; size = caller_size; top_size = caller_size; steps = steps }
 
 abbrev pub handles : Obj → Option Claim
 handles x = Some (record { object = x; phase = InHandler })
 
 abbrev pub turn_profile : TurnFrame → TurnProfile
-turn_profile Taking = a_turn 5
+turn_profile Taking = a_turn 13
 turn_profile (Timing again) = a_turn 1
-turn_profile (Timed again now) = a_turn 5
+turn_profile (Timed again now) = a_turn 13
 turn_profile (Polling limit) = a_turn 1
 turn_profile (Starting what x occasion) = a_turn 4
-turn_profile (Firing what x handler occasion) = record (a_turn 3) { claims = handles x; size = 3; top_size = 3 }
+turn_profile (Firing what x handler occasion) = record (a_turn 3) { claims = handles x; size = 5; top_size = 5 }
 -- an event that is busy pays for the run of its handler
-turn_profile (Handling what x handler occasion) = record (a_turn 2) { waits = AHandler x; claims = handles x; size = 1; top_size = 3 }
-turn_profile (Handled what x) = record (a_turn 8) { claims = handles x; size = 3; top_size = 3 }
+turn_profile (Handling what x handler occasion) = record (a_turn 2) { waits = AHandler x; claims = handles x; size = 3; top_size = 5 }
+turn_profile (Handled what x) = record (a_turn 8) { claims = handles x; size = 5; top_size = 5 }
 turn_profile (Clearing x) = record (a_turn 0) { waits = AClear x }
+-- the request weighs as much in its place
+turn_profile (Serving x) = record (a_turn 0) { waits = AServed x; size = 0 }
 turn_profile (Closing v) = a_turn 2
 
 abbrev pub of_turn : TurnProfile → Profile
@@ -251,7 +272,35 @@ outside_steps (Opening fd) = 2
 outside_steps (Hearing r) = 2
 
 abbrev pub of_outside : ℕ → Profile
-of_outside steps = record { role = Turns; waits = Never; claims = None; removes = None; size = 0; top_size = 0; waiting_cost = 0; cost = at_most 0 steps AtNone; adds = 0 }
+of_outside steps = record { role = Turns; waits = Never; claims = None; removes = None; size = 0; top_size = caller_size; waiting_cost = 0; cost = at_most 0 steps AtNone; adds = 0 }
+
+-- ---- requests
+
+-- the work of a request: what is the same of all stands in `of_request`
+pub record RequestProfile : Type 0 where
+  pub waits : Waits
+  pub size : ℕ
+  pub steps : ℕ
+
+abbrev pub a_work : ℕ → RequestProfile
+a_work steps = record { waits = Never; size = 0; steps = steps }
+
+abbrev pub request_profile : RequestFrame → RequestProfile
+request_profile (request.Finishing x state) = a_work 12
+-- where it was not received before, this pays for what follows
+request_profile (request.Receiving x) = a_work 4
+request_profile (request.Cancelling x) = a_work 4
+request_profile (request.Cleaning x errand) = a_work 11
+request_profile (request.Cleaned x errand) = a_work 10
+request_profile (request.Notifying x errand) = a_work 4
+request_profile (request.Calling what x handler errand) = a_work 3
+-- the routine weighs as much in its place
+request_profile (request.Called what x handler errand) = record (a_work 2) { waits = ARoutine x }
+request_profile (request.Releasing c) = record (a_work 0) { waits = ARelease c; size = caller_size }
+request_profile (request.Over r) = a_work 3
+
+abbrev pub of_request : RequestProfile → Profile
+of_request f = record { role = Requests; waits = f.waits; claims = None; removes = None; size = f.size; top_size = caller_size; waiting_cost = 0; cost = at_most 0 f.steps AtNone; adds = 0 }
 
 -- ---- all
 
@@ -260,3 +309,4 @@ profile (frame.Call f) = of_call (call_profile f)
 profile (frame.Free f) = of_free (free_profile f)
 profile (frame.Turn f) = of_turn (turn_profile f)
 profile (frame.Outside f) = of_outside (outside_steps f)
+profile (frame.Request f) = of_request (request_profile f)

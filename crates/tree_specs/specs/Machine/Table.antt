@@ -6,6 +6,9 @@ use Rattle.step_machine.specs.Noted.{Notes}
 use Rattle.tree_specs.specs.declared.object.Obj.{Obj}
 use Rattle.tree_specs.specs.declared.row.Mark.TheVariants as mark
 use Rattle.tree_specs.specs.declared.call.Call.{Call}
+use Rattle.tree_specs.specs.declared.call.Call.TheVariants as call
+use Rattle.tree_specs.specs.declared.request.Note.{Note}
+use Rattle.tree_specs.specs.declared.request.State.TheVariants.{TimedOut, Received}
 use Rattle.tree_specs.specs.declared.reply.Reply.{Reply}
 use Rattle.tree_specs.specs.declared.reply.Reply.TheVariants as reply
 use Rattle.tree_specs.specs.declared.reply.Refusal.TheVariants as refusal
@@ -16,7 +19,7 @@ use Rattle.tree_specs.specs.declared.handler.Handler.{Handler}
 use Rattle.tree_specs.specs.declared.wants.Want.{Want}
 use Rattle.tree_specs.specs.declared.watch.Watch.{Watch}
 use Rattle.tree_specs.specs.declared.moment.What.{What}
-use Rattle.tree_specs.specs.declared.moment.What.TheVariants.{Immediate as ForImmediate, Timer as ForTimer, Descriptor as ForDescriptor}
+use Rattle.tree_specs.specs.declared.moment.What.TheVariants.{Immediate as ForImmediate, Timer as ForTimer, Descriptor as ForDescriptor, Callback as ForCallback, Cleanup as ForCleanup, Cancel as ForCancel}
 use Rattle.tree_specs.specs.declared.event.Event.{Event}
 use Rattle.tree_specs.specs.declared.event.Event.TheVariants as event
 use Rattle.tree_specs.specs.declared.question.Ask.{Ask}
@@ -25,32 +28,38 @@ use Rattle.tree_specs.specs.declared.question.Input.{Input}
 use Rattle.tree_specs.specs.declared.frame.Frame.{Frame}
 use Rattle.tree_specs.specs.declared.frame.Frame.TheVariants as frame
 use Rattle.tree_specs.specs.declared.frame.CallFrame.{CallFrame}
-use Rattle.tree_specs.specs.declared.frame.CallFrame.TheVariants.{Asking, Doing, Awaiting, Turning, Announcing, Telling, Returning}
+use Rattle.tree_specs.specs.declared.frame.CallFrame.TheVariants.{Asking, Doing, Awaiting, Turning, Requesting, Announcing, Telling, Returning}
 use Rattle.tree_specs.specs.declared.frame.FreeFrame.{FreeFrame}
-use Rattle.tree_specs.specs.declared.frame.FreeFrame.TheVariants.{Unlinking, Beginning, Hooked, Judged, Looping}
+use Rattle.tree_specs.specs.declared.frame.FreeFrame.TheVariants.{Unlinking, Beginning, Hooked, Judged, Preparing, Prepared, Looping}
 use Rattle.tree_specs.specs.declared.frame.TurnFrame.{TurnFrame}
-use Rattle.tree_specs.specs.declared.frame.TurnFrame.TheVariants.{Taking, Timing, Timed, Polling, Starting, Firing, Handling, Handled, Clearing, Closing}
+use Rattle.tree_specs.specs.declared.frame.TurnFrame.TheVariants.{Taking, Timing, Timed, Polling, Starting, Firing, Handling, Handled, Clearing, Serving, Closing}
 use Rattle.tree_specs.specs.declared.frame.OutsideFrame.{OutsideFrame}
 use Rattle.tree_specs.specs.declared.frame.OutsideFrame.TheVariants.{Reaching, Opening, Hearing}
+use Rattle.tree_specs.specs.declared.frame.RequestFrame.{RequestFrame}
+use Rattle.tree_specs.specs.declared.frame.RequestFrame.TheVariants as request
+use Rattle.tree_specs.specs.declared.frame.Errand.{Errand}
+use Rattle.tree_specs.specs.declared.frame.Errand.TheVariants.{Finish, Notify, Receive, Cancel}
 use Rattle.tree_specs.specs.declared.frame.Purpose.TheVariants.{Emptying}
 use Rattle.tree_specs.specs.declared.frame.Answer.{Answer}
 use Rattle.tree_specs.specs.declared.frame.Answer.TheVariants.{Freed, Returned, Turned, Heard}
 use Rattle.tree_specs.specs.declared.free_step.FreeReply.{FreeReply}
 use Rattle.tree_specs.specs.declared.free_step.FreeReply.TheVariants.{Ok}
 use Rattle.tree_specs.specs.declared.free_step.FreeStep.{FreeStep}
-use Rattle.tree_specs.specs.declared.free_step.FreeStep.TheVariants.{Ask as AskOf, Dropped, Refused, Accepted, Doom, Left, Moved, Gone, Done as Over}
-use Rattle.tree_specs.specs.Tree.Pool.{Pool, set_mark, unschedule, disarm, open_descriptor}
+use Rattle.tree_specs.specs.declared.free_step.FreeStep.TheVariants.{Ask as AskOf, Prepare, Dropped, Refused, Accepted, Doom, Left, Moved, Gone, Done as Over}
+use Rattle.tree_specs.specs.Tree.Pool.{Pool, set_mark, schedule, unschedule, disarm, open_descriptor, renote, finish, receive}
 use Rattle.tree_specs.specs.Events.Pending.{first}
+use Rattle.tree_specs.specs.Events.Requests.{state_number, note_of, is_noted, is_unreceived, cleanup_in, cancel_in, cleaned, not_deferring}
+use Rattle.tree_specs.specs.Rules.Errands.{reply_to, cancelled_reply, is_receive, after_routine}
 use Rattle.tree_specs.specs.Events.Rotation.{Ready, closes_with, first_ready}
 use Rattle.tree_specs.specs.Events.Coming.{wait_limit, handler_for, handler_moment, at_time, with_flags, plainly, begun, goes_after, looks_again}
 use Rattle.tree_specs.specs.Rules.Items.{Item}
 use Rattle.tree_specs.specs.Rules.Items.Item.{Told, Asked}
 use Rattle.tree_specs.specs.Calls.Refusals.{Check, refusals}
-use Rattle.tree_specs.specs.Calls.Plans.{Plan, plan, unless_refused, changed_by}
-use Rattle.tree_specs.specs.Calls.Plans.Plan.{Does, Frees, Unlinks, Empties, Asks, Turns}
+use Rattle.tree_specs.specs.Calls.Plans.{Plan, plan, planned, unless_refused, changed_by}
+use Rattle.tree_specs.specs.Calls.Plans.Plan.{Does, Frees, Unlinks, Empties, Asks, Turns, Works}
 use Rattle.tree_specs.specs.Rules.Sequence.{CallStart}
 use Rattle.tree_specs.specs.Rules.Answers.{freed_reply, hook_moment, later, heard, clocked, polled, reached}
-use Rattle.tree_specs.specs.Rules.Story.{notice_event}
+use Rattle.tree_specs.specs.Rules.Pieces.{notice_event}
 use Rattle.tree_specs.specs.Machine.FreeTable.{FreeMove, free_step, free_resume}
 
 -- ---- the host
@@ -66,6 +75,7 @@ closed_event (Some fd) = Some (event.Closed fd)
 -- what the host tells of a step of a free, by what was watched before it; an object that is let go of may close a descriptor
 abbrev pub event_of : List Watch → FreeStep → Option Event
 event_of ring (AskOf x) = None
+event_of ring (Prepare x) = None
 event_of ring (Dropped r target) = Some (event.Unreferenced r target)
 event_of ring (Refused x v) = Some (event.Refused x v)
 event_of ring (Accepted x) = Some (event.Accepted x)
@@ -79,9 +89,10 @@ abbrev pub announced : Option Event → FreeFrame → Pool → Step
 announced None f p = Do.Go (frame.Free f) p
 announced (Some e) f p = Do.Emit (Told e) (frame.Free f) p
 
--- what a free waits for: the run of a destructor
+-- what a free waits for: the run of a destructor, or that a request is received
 abbrev pub run_for : FreeFrame → Frame
 run_for (Hooked x h) = frame.Call (Asking (Routine (hook_moment x h)))
+run_for (Preparing x) = frame.Request (request.Receiving x)
 run_for f = frame.Free f
 
 -- a step of a free, among the host's works, with what was watched before it
@@ -106,6 +117,13 @@ abbrev pub turning_step : Ask → Pool → Step
 turning_step Quiet p = Do.Call (frame.Turn Taking) (frame.Call (Turning Quiet)) p
 turning_step q p = replied q (reply.No refusal.Nested) p
 
+-- an errand of a request, as a work
+abbrev pub work_of : Errand → Obj → Frame
+work_of (Finish s) x = frame.Request (request.Finishing x s)
+work_of Notify x = frame.Request (request.Notifying x Notify)
+work_of Receive x = frame.Request (request.Receiving x)
+work_of Cancel x = frame.Request (request.Cancelling x)
+
 -- the first step of a plan
 abbrev pub plan_step : Ask → Plan → Pool → Step
 plan_step q (Does c notice r) p = notice_step notice q r (changed_by c p)
@@ -114,6 +132,7 @@ plan_step q (Unlinks o x) p = Do.Call (frame.Free (Unlinking o x)) (frame.Call (
 plan_step q (Empties x) p = Do.Call (frame.Free (Looping x Emptying)) (frame.Call (Awaiting q x)) p
 plan_step q (Asks outside) p = Do.Call (frame.Outside (Reaching outside)) (frame.Call (Turning q)) p
 plan_step q Turns p = turning_step q p
+plan_step q (Works c errand x) p = Do.Call (work_of errand x) (frame.Call (Requesting q)) (changed_by c p)
 
 -- the first refusal that applies, otherwise the plan
 abbrev pub call_step : Check → Ask → Call → Pool → Step
@@ -125,21 +144,31 @@ caller_step (Doing q c) p = call_step (refusals p c) q c p
 -- it waits for the work above it
 caller_step (Awaiting q x) p = Do.Done (Freed Ok) p
 caller_step (Turning q) p = Do.Done (Freed Ok) p
+caller_step (Requesting q) p = Do.Done (Freed Ok) p
 caller_step (Announcing q notice r) p = Do.Emit (Told (notice_event notice)) (frame.Call (Telling q r)) p
 caller_step (Telling q r) p = Do.Emit (Told (event.Replied r)) (frame.Call (Asking q)) p
 caller_step (Returning v) p = Do.Done (Returned v) p
 
 -- ---- the turn
 
+-- what has come is a request, whose errand is done, or it is an event, which starts
+abbrev pub come_step : Bool → Errand → What → Obj → Occasion → Pool → Step
+come_step true errand what x occasion p = Do.Call (work_of errand x) (frame.Turn (Serving x)) p
+come_step false errand what x occasion p = Do.Go (frame.Turn (Starting what x occasion)) p
+
+-- a time has come: a request times out
+abbrev pub due_now : Obj → ℕ → Pool → Step
+due_now x now p = come_step (is_noted p.requests x) (Finish TimedOut) ForTimer x (at_time now) (disarm p x)
+
 -- the first time, where it is 0, has come; for any other the clock is asked
 abbrev pub due_step : Option Due → Pool → Step
 due_step None p = Do.Go (frame.Turn (Polling wait_limit)) p
-due_step (Some d) p = if nat_eq d.time 0 then Do.Go (frame.Turn (Starting ForTimer d.object (at_time 0))) (disarm p d.object) else Do.Go (frame.Turn (Timing false)) p
+due_step (Some d) p = if nat_eq d.time 0 then due_now d.object 0 p else Do.Go (frame.Turn (Timing false)) p
 
 -- those that come soon are first
 abbrev pub taking_step : Option Obj → Pool → Step
 taking_step None p = due_step (first p.times) p
-taking_step (Some x) p = Do.Go (frame.Turn (Starting ForImmediate x plainly)) (unschedule p x)
+taking_step (Some x) p = come_step (is_noted p.requests x) Notify ForImmediate x plainly (unschedule p x)
 
 -- where the first time hasn't come it is asked once what is ready, until then at the longest
 abbrev pub early_step : Bool → Due → ℕ → Pool → Step
@@ -148,7 +177,7 @@ early_step false d now p = Do.Go (frame.Turn (Polling (d.time - now))) p
 
 abbrev pub timed_step : Bool → ℕ → Option Due → Pool → Step
 timed_step again now None p = Do.Go (frame.Turn (Closing 0)) p
-timed_step again now (Some d) p = if nat_le d.time now then Do.Go (frame.Turn (Starting ForTimer d.object (at_time now))) (disarm p d.object) else early_step again d now p
+timed_step again now (Some d) p = if nat_le d.time now then due_now d.object now p else early_step again d now p
 
 -- an event that has no handler does nothing
 abbrev pub starting_step : What → Obj → Occasion → Option Handler → Pool → Step
@@ -171,6 +200,7 @@ turn_step (Handling what x handler occasion) p = Do.Call (frame.Call (Asking (Ro
 turn_step (Handled what x) p = handled_step x (goes_after p what x) p
 -- it waits for the work above it
 turn_step (Clearing x) p = Do.Done (Freed Ok) p
+turn_step (Serving x) p = Do.Done (Freed Ok) p
 turn_step (Closing v) p = Do.Done (Turned v) p
 
 -- ---- a question to the outside
@@ -180,6 +210,66 @@ outside_step (Reaching q) p = Do.Wait (Asked q) (frame.Outside (Reaching q)) p
 outside_step (Opening fd) p = Do.Done (Heard (reply.Number fd)) (open_descriptor p fd)
 outside_step (Hearing r) p = Do.Done (Heard r) p
 
+-- ---- requests
+
+abbrev pub over_step : Errand → Pool → Step
+over_step errand p = Do.Go (frame.Request (request.Over (reply_to errand))) p
+
+abbrev pub calling_one : What → Obj → Handler → Errand → Frame
+calling_one what x handler errand = frame.Request (request.Calling what x handler errand)
+
+abbrev pub cancelling_step : Obj → Option Handler → Pool → Step
+cancelling_step x None p = Do.Go (frame.Request (request.Over (cancelled_reply 0))) p
+cancelling_step x (Some handler) p = Do.Go (calling_one ForCancel x handler Cancel) p
+
+-- a cleanup runs once for each state
+abbrev pub cleaning_step : Obj → Errand → Option Handler → Pool → Step
+cleaning_step x errand None p = Do.Go (frame.Request (request.Cleaned x errand)) p
+cleaning_step x errand (Some handler) p = Do.Go (calling_one ForCleanup x handler errand) (renote p x cleaned)
+
+-- an object is freed as a call frees it, and what comes of this isn't told
+abbrev pub release_object : Plan → Errand → Pool → Step
+release_object (Frees c) errand p = Do.Call (frame.Free (Beginning c)) (frame.Request (request.Releasing c)) p
+release_object (Unlinks o c) errand p = Do.Call (frame.Free (Unlinking o c)) (frame.Request (request.Releasing c)) p
+release_object plan errand p = over_step errand p
+
+-- after its cleanup nothing more is done for a request that is no more
+abbrev pub cleaned_step : Obj → Errand → Option Note → Pool → Step
+cleaned_step x errand None p = over_step errand p
+cleaned_step x errand (Some n) p =
+    if is_receive errand then release_object (planned p (call.Free n.child)) errand p
+    else Do.Go (frame.Request (request.Notifying x errand)) p
+
+-- a request that has a callback is called back
+abbrev pub callback_step : Obj → Errand → Option Handler → Pool → Step
+callback_step x errand None p = over_step errand p
+callback_step x errand (Some handler) p = Do.Go (calling_one ForCallback x handler errand) p
+
+-- a request whose callback is deferred comes soon
+abbrev pub notifying_step : Obj → Errand → Option Note → Pool → Step
+notifying_step x errand None p = over_step errand p
+notifying_step x errand (Some n) p =
+    if n.deferred then over_step errand (schedule (renote p x not_deferring) x)
+    else callback_step x errand n.callback p
+
+-- a request is received once
+abbrev pub receiving_step : Obj → Bool → Pool → Step
+receiving_step x true p = Do.Emit (Told (event.State x (state_number Received))) (frame.Request (request.Cleaning x Receive)) (receive p x)
+receiving_step x false p = over_step Receive p
+
+abbrev pub request_step : RequestFrame → Pool → Step
+request_step (request.Finishing x state) p = Do.Emit (Told (event.State x (state_number state))) (frame.Request (request.Cleaning x (Finish state))) (finish p x state)
+request_step (request.Receiving x) p = receiving_step x (is_unreceived (note_of p.requests x)) p
+request_step (request.Cancelling x) p = cancelling_step x (cancel_in (note_of p.requests x)) p
+request_step (request.Cleaning x errand) p = cleaning_step x errand (cleanup_in (note_of p.requests x)) p
+request_step (request.Cleaned x errand) p = cleaned_step x errand (note_of p.requests x) p
+request_step (request.Notifying x errand) p = notifying_step x errand (note_of p.requests x) p
+request_step (request.Calling what x handler errand) p = Do.Emit (Told (event.Fired what x handler.routine)) (frame.Request (request.Called what x handler errand)) p
+request_step (request.Called what x handler errand) p = Do.Call (frame.Call (Asking (Routine (handler_moment what x handler plainly)))) (frame.Request (request.Called what x handler errand)) p
+-- it waits for the work above it
+request_step (request.Releasing c) p = Do.Done (Freed Ok) p
+request_step (request.Over r) p = Do.Done (Heard r) p
+
 -- ---- all works
 
 abbrev pub step : Frame → Pool → Step
@@ -187,6 +277,7 @@ step (frame.Call f) p = caller_step f p
 step (frame.Free f) p = lifted p.ring (free_step f p)
 step (frame.Turn f) p = turn_step f p
 step (frame.Outside f) p = outside_step f p
+step (frame.Request f) p = request_step f p
 
 -- what a work answers, where a free is waited for
 abbrev pub reply_in : Answer → FreeReply
@@ -198,7 +289,7 @@ abbrev pub value_in : Answer → ℕ
 value_in (Returned v) = v
 value_in answer = 0
 
--- the reply to a call that waits for a turn or for the outside
+-- the reply to a call that waits for a turn, for the outside or for a request
 abbrev pub heard_in : Answer → Reply
 heard_in (Turned v) = reply.Number v
 heard_in (Heard r) = r
@@ -207,23 +298,33 @@ heard_in answer = reply.Number 0
 abbrev pub caller_resume : CallFrame → Answer → CallFrame
 caller_resume (Awaiting q x) a = Telling (later q (freed_reply x (reply_in a))) (freed_reply x (reply_in a))
 caller_resume (Turning q) a = Telling (later q (heard_in a)) (heard_in a)
+caller_resume (Requesting q) a = Telling (later q (heard_in a)) (heard_in a)
 caller_resume f a = f
 
 -- a free that has waited goes on with what it waited for
 abbrev pub freeing_resume : FreeFrame → Answer → FreeFrame
 freeing_resume (Hooked x h) a = Judged x h (value_in a)
+freeing_resume (Preparing x) a = Prepared x
 freeing_resume f a = free_resume f (reply_in a)
 
 abbrev pub turn_resume : TurnFrame → TurnFrame
 turn_resume (Handling what x handler occasion) = Handled what x
 turn_resume (Clearing x) = Closing 1
+turn_resume (Serving x) = Closing 1
 turn_resume f = f
+
+abbrev pub request_resume : RequestFrame → Answer → RequestFrame
+request_resume (request.Called what x handler errand) a =
+    after_routine what (request.Cleaned x errand) (request.Over (cancelled_reply (value_in a))) (request.Over (reply_to errand))
+request_resume (request.Releasing c) a = request.Over (reply_to Receive)
+request_resume f a = f
 
 abbrev pub resume : Frame → Answer → Frame
 resume (frame.Call f) a = frame.Call (caller_resume f a)
 resume (frame.Free f) a = frame.Free (freeing_resume f a)
 resume (frame.Turn f) a = frame.Turn (turn_resume f)
 resume (frame.Outside f) a = frame.Outside f
+resume (frame.Request f) a = frame.Request (request_resume f a)
 
 abbrev pub doing : Ask → Call → Frame
 doing q c = frame.Call (Doing q c)
@@ -282,6 +383,7 @@ note_after (frame.Call (Doing q c)) p b = Some (record { call = c; start = p })
 note_after (frame.Call (Asking q)) p b = b
 note_after (frame.Call (Awaiting q x)) p b = b
 note_after (frame.Call (Turning q)) p b = b
+note_after (frame.Call (Requesting q)) p b = b
 note_after (frame.Call (Announcing q notice r)) p b = b
 note_after f p b = None
 

@@ -197,6 +197,10 @@ fired_while_quiet = seen one_timer (told (Fired what.Timer a 16)) ∷ []
 abbrev pub fired_as_another_kind : List Scene
 fired_as_another_kind = seen (set_mark one_timer a mark.Busy) (told (Fired what.Descriptor a 16)) ∷ []
 
+-- a routine of a request runs for a plain object
+abbrev pub called_back_for_no_request : List Scene
+called_back_for_no_request = seen one_object (told (Fired what.Callback a 16)) ∷ []
+
 abbrev pub accepted_unasked : List Scene
 accepted_unasked = seen (set_mark one_object a mark.Asked) (told (Accepted a)) ∷ []
 

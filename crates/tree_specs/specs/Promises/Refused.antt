@@ -25,11 +25,12 @@ use Rattle.tree_specs.specs.Rules.Items.{Item}
 use Rattle.tree_specs.specs.Rules.Items.Item.{Told}
 use Rattle.tree_specs.specs.Rules.Sequence.{Work, Scene}
 use Rattle.tree_specs.specs.Rules.Answers.{hook_moment, freed_reply}
-use Rattle.tree_specs.specs.Rules.Story.{effect, free, unlink, children, asked, turned, taking, reaching}
+use Rattle.tree_specs.specs.Rules.Story.{free, unlink, children, asked, taking, reaching, finishing, notifying, receiving, cancelling}
+use Rattle.tree_specs.specs.Rules.Pieces.{effect, turned, work_by}
 
 -- a call, be it the host's own or an act, with its reply; a turn is the host's own
 abbrev pub called : ℕ → Call → Work Reply
-called n c p is = effect (free n) (unlink n) (children n) (reaching n) (turned Quiet (taking n)) (planned p c) p is
+called n c p is = effect (free n) (unlink n) (children n) (reaching n) (turned Quiet (taking n)) (work_by (finishing n) (notifying n) (receiving n) (cancelling n)) (planned p c) p is
 
 -- ---- running
 

@@ -6,16 +6,18 @@ use Rattle.tree_specs.specs.declared.object.Owner.TheVariants.{Root, Of}
 use Rattle.tree_specs.specs.declared.object.Owner.{Owner}
 use Rattle.tree_specs.specs.declared.row.Mark.TheVariants as mark
 use Rattle.tree_specs.specs.declared.call.Call.{Call}
-use Rattle.tree_specs.specs.declared.reply.Refusal.TheVariants as refusal
+use Rattle.tree_specs.specs.declared.call.Call.TheVariants as call
+use Rattle.tree_specs.specs.declared.frame.Errand.{Errand}
+use Rattle.tree_specs.specs.declared.frame.Errand.TheVariants.{Finish, Notify, Receive, Cancel}
+use Rattle.tree_specs.specs.declared.request.State.{State}
+use Rattle.tree_specs.specs.declared.request.State.TheVariants.{Received}
 use Rattle.tree_specs.specs.declared.notice.Notice.{Notice}
-use Rattle.tree_specs.specs.declared.notice.Notice.TheVariants as notice
 use Rattle.tree_specs.specs.declared.occasion.Occasion.{Occasion}
-use Rattle.tree_specs.specs.declared.event.Event.{Event}
 use Rattle.tree_specs.specs.declared.reply.Reply.{Reply}
 use Rattle.tree_specs.specs.declared.reply.Reply.TheVariants as reply
-use Rattle.tree_specs.specs.declared.event.Event.TheVariants.{Replied, Fired, Accepted, Refused, Moved, Warned, Freed, Unreferenced, Closed}
+use Rattle.tree_specs.specs.declared.event.Event.TheVariants.{Replied, Fired, Accepted, Refused, Moved, Freed}
 use Rattle.tree_specs.specs.declared.moment.What.{What}
-use Rattle.tree_specs.specs.declared.moment.What.TheVariants.{Immediate as ForImmediate, Timer as ForTimer, Descriptor as ForDescriptor}
+use Rattle.tree_specs.specs.declared.moment.What.TheVariants.{Immediate as ForImmediate, Descriptor as ForDescriptor, Callback as ForCallback, Cleanup as ForCleanup, Cancel as ForCancel}
 use Rattle.tree_specs.specs.declared.handler.Handler.{Handler}
 use Rattle.tree_specs.specs.declared.question.Ask.{Ask}
 use Rattle.tree_specs.specs.declared.question.Ask.TheVariants as ask
@@ -24,92 +26,18 @@ use Rattle.tree_specs.specs.declared.free_step.FreeReply.{FreeReply}
 use Rattle.tree_specs.specs.declared.free_step.FreeReply.TheVariants as free_reply
 use Rattle.tree_specs.specs.declared.free_step.FreeReply.TheVariants.{Ok, Held, Running}
 use Rattle.tree_specs.specs.Tree.Targets.{newest_ref}
-use Rattle.tree_specs.specs.Tree.Pool.{Pool, empty, row_of, is_below, owner_of, newest_ref_of, target_at, noted_owner, is_inside, first_kid, detach, remove, place, set_mark, doom, set_hook, unschedule, disarm, open_descriptor}
+use Rattle.tree_specs.specs.Tree.Pool.{Pool, empty, row_of, owner_of, newest_ref_of, target_at, noted_owner, first_kid, detach, remove, place, set_mark, doom, set_hook, schedule, unschedule, open_descriptor, renote, finish, receive}
 use Rattle.tree_specs.specs.Events.Pending.{first}
-use Rattle.tree_specs.specs.Events.Rotation.{closes_with, first_ready}
-use Rattle.tree_specs.specs.Events.Coming.{wait_limit, handler_for, handler_moment, at_time, with_flags, plainly, begun, goes_after, looks_again}
-use Rattle.tree_specs.specs.Tree.Heirs.{heir}
+use Rattle.tree_specs.specs.Events.Requests.{note_of, is_noted, is_unreceived, cleanup_in, cancel_in, cleaned as is_cleaned, not_deferring}
+use Rattle.tree_specs.specs.Rules.Errands.{reply_to, cancelled_reply, is_receive, after_routine}
+use Rattle.tree_specs.specs.Events.Rotation.{first_ready}
+use Rattle.tree_specs.specs.Events.Coming.{wait_limit, handler_for, handler_moment, with_flags, plainly, begun, goes_after, looks_again}
 use Rattle.tree_specs.specs.Rules.Items.{Item}
 use Rattle.tree_specs.specs.Rules.Items.Item.{Told, Asked}
-use Rattle.tree_specs.specs.Calls.Plans.{Plan, planned, notice_of, changed_by}
-use Rattle.tree_specs.specs.Calls.Plans.Plan.{Does, Frees, Unlinks, Empties, Asks, Turns}
-use Rattle.tree_specs.specs.Rules.Answers.{freed_reply, hook_moment, later, heard, clocked, polled, reached}
+use Rattle.tree_specs.specs.Calls.Plans.{planned, notice_of}
+use Rattle.tree_specs.specs.Rules.Answers.{hook_moment, later, heard, clocked, polled, reached}
 use Rattle.tree_specs.specs.Rules.Sequence.{Work, Scene, CallStart, ◌>>=◌, ◌>>◌, gives, pool, change, tells, told_about, asks, short}
-
--- its number is the reply
-abbrev pub numbered : Work ℕ → Work Reply
-numbered work = do
-  n ← work
-  gives (reply.Number n)
-
--- a turn is for the host's own caller alone, since a routine that runs may be in one
-abbrev pub turned : Ask → Work ℕ → Work Reply
-turned ask.Quiet turn = numbered turn
-turned q turn = gives (reply.No refusal.Nested)
-
--- A plan carried out, with the reply to it. `free` frees an object, `unlink` takes an owner's interest in it away,
--- `children` frees those of an object, `reach` asks the outside, and `turn` is a turn of the event loop.
-abbrev pub effect : (Obj → Work FreeReply) → (Owner → Obj → Work FreeReply) → (Obj → Work (Unit {0})) → (Ask → Work Reply) → Work Reply → Plan → Work Reply
-effect free unlink children reach turn (Does c notice r) = do
-  change (λ p. changed_by c p)
-  gives r
-effect free unlink children reach turn (Frees x) = do
-  answer ← free x
-  gives (freed_reply x answer)
-effect free unlink children reach turn (Unlinks o x) = do
-  answer ← unlink o x
-  gives (freed_reply x answer)
-effect free unlink children reach turn (Empties x) = do
-  children x
-  gives reply.Ok
-effect free unlink children reach turn (Asks q) = reach q
-effect free unlink children reach turn Turns = turn
-
--- a child of x that wasn't freed goes to its heir, where x still is its owner
-abbrev pub hand_on : Obj → Obj → Option Owner → Work (Unit {0})
-hand_on x c noted = do
-  p ← pool
-  if is_below (owner_of p.rows c) (Of x)
-      then (do
-        tells (Told (Moved c (heir p.rows x c noted)))
-        change (λ q. place q (heir p.rows x c noted) c))
-      else gives tt
-
-abbrev pub hand_on_after : Obj → Obj → Option Owner → FreeReply → Work (Unit {0})
-hand_on_after x c noted Ok = gives tt
-hand_on_after x c noted Held = hand_on x c noted
-hand_on_after x c noted Running = hand_on x c noted
-hand_on_after x c noted (free_reply.Refused v) = hand_on x c noted
-
--- a reference is no more
-abbrev pub drops : Obj → Obj → Work (Unit {0})
-drops r target = do
-  tells (Told (Unreferenced r target))
-  change (λ q. remove q r)
-
--- an object is let go of: a descriptor that is to be closed with it is told as closed
-abbrev pub lets_go : Obj → (Pool → Pool) → Work (Unit {0})
-lets_go x f = do
-  p ← pool
-  elim (closes_with p.ring x) [
-    | None ↦ change f
-    | Some fd ↦ (do
-      tells (Told (Closed fd))
-      change f)
-  ]
-
--- what is told before the reply to a call
-abbrev pub notice_event : Notice → Event
-notice_event (notice.Warned x) = Warned x
-notice_event (notice.Closed fd) = Closed fd
-
--- The newest reference to an object is dropped: after one from inside the object this begins again, and after one from
--- outside it goes on as `outside` says. Where there is none, it is `unreferred`.
-abbrev pub from_newest : Option Obj → Pool → Obj → Work FreeReply → (Obj → Work FreeReply) → Work FreeReply → Work FreeReply
-from_newest None p x again outside unreferred = unreferred
-from_newest (Some r) p x again outside unreferred = do
-  drops r x
-  if is_inside p.rows (Of r) (Of x) then again else outside r
+use Rattle.tree_specs.specs.Rules.Pieces.{turned, effect, work_by, comes, falls_due, enters, freed_quietly, hand_on_after, drops, lets_go, notice_event, from_newest, from_quiet}
 
 abbrev mutual
   -- An owner's interest in an object is taken away: its newest reference to it is dropped, or it gives the object up.
@@ -141,7 +69,7 @@ abbrev mutual
 
   -- An object is freed. The newest reference to it is dropped first: one from inside makes the freeing begin again, and
   -- one from outside holds the object. One that is dying is left to the free that it is in, and one that runs can't be
-  -- freed now.
+  -- freed now. With what is quiet it begins: a request is received first, and an object with a destructor is asked.
   pub free : ℕ → Obj → Work FreeReply
   free zero x = short
   free (suc n) x = do
@@ -149,11 +77,7 @@ abbrev mutual
     from_newest (newest_ref p.rows x) p x (free n x) (λ r. gives Held) (elim (row_of p.rows x) [
       | None ↦ gives Ok
       | Some r ↦ elim r.mark [
-        | mark.Quiet ↦ if nat_eq r.hook 0
-            then leave n x 0
-            else (do
-              change (λ q. set_mark q x mark.Asked)
-              hooked n x r.hook)
+        | mark.Quiet ↦ from_quiet r x (preparing n x) (hooked n x r.hook) (leave n x 0)
         | mark.Asked ↦ gives Running
         | mark.Busy ↦ (do
           lets_go x (λ q. doom q x)
@@ -162,6 +86,19 @@ abbrev mutual
         | mark.Dying former ↦ gives Ok
       ]
     ])
+
+  -- a request is received, and then it leaves its owner as any other object
+  pub preparing : ℕ → Obj → Work FreeReply
+  preparing zero x = short
+  preparing (suc n) x = do
+    answer ← receiving n x
+    prepared n x
+
+  pub prepared : ℕ → Obj → Work FreeReply
+  prepared zero x = short
+  prepared (suc n) x = do
+    change (λ p. set_mark p x mark.Quiet)
+    leave n x 0
 
   -- its handler runs, and it is freed after it
   pub dooming : ℕ → Obj → Work FreeReply
@@ -231,7 +168,7 @@ abbrev mutual
   acting zero q c = short
   acting (suc n) q c = do
     p ← pool
-    r ← effect (free n) (unlink n) (children n) (reaching n) (turned q (taking n)) (planned p c)
+    r ← effect (free n) (unlink n) (children n) (reaching n) (turned q (taking n)) (work_by (finishing n) (notifying n) (receiving n) (cancelling n)) (planned p c)
     elim (notice_of (planned p c)) [
       | None ↦ telling n (Some (record { call = c; start = p })) (later q r) r
       | Some notice ↦ announcing n (Some (record { call = c; start = p })) (later q r) notice r
@@ -253,8 +190,9 @@ abbrev mutual
   returning zero v = short
   returning (suc n) v = gives v
 
-  -- A turn: one event comes. It is the first of those that come soon, or else the one with the first time, where this has
-  -- come. Where none has, it is asked which descriptors are ready, until then at the longest.
+  -- A turn: one event or request comes. It is the first of those that come soon, or else the one with the first time, where
+  -- this has come: a request is notified, or times out. Where none has, it is asked which descriptors are ready, until then at
+  -- the longest.
   pub taking : ℕ → Work ℕ
   taking zero = short
   taking (suc n) = do
@@ -262,13 +200,11 @@ abbrev mutual
     elim (first p.soon) [
       | Some x ↦ (do
         change (λ q. unschedule q x)
-        starting n ForImmediate x plainly)
+        comes (is_noted p.requests x) (notifying n x Notify) (closing n 1) (starting n ForImmediate x plainly))
       | None ↦ elim (first p.times) [
         | None ↦ polling n wait_limit
         | Some d ↦ if nat_eq d.time 0
-            then (do
-              change (λ q. disarm q d.object)
-              starting n ForTimer d.object (at_time 0))
+            then falls_due p d.object 0 (finishing n) (closing n 1) (starting n)
             else timing n false
       ]
     ]
@@ -285,9 +221,7 @@ abbrev mutual
     elim (first p.times) [
       | None ↦ closing n 0
       | Some d ↦ if nat_le d.time now
-          then (do
-            change (λ q. disarm q d.object)
-            starting n ForTimer d.object (at_time now))
+          then falls_due p d.object now (finishing n) (closing n 1) (starting n)
           else if again then closing n 0 else polling n (d.time - now)
     ]
 
@@ -337,6 +271,93 @@ abbrev mutual
           answer ← free n x
           closing n 1)
         else closing n 1
+
+  -- A request goes to a state and has no end time any more. Its cleanup runs, and then whoever waits for it is notified.
+  pub finishing : ℕ → Obj → State → Work Reply
+  finishing zero x state = short
+  finishing (suc n) x state = do
+    enters x state (λ p. finish p x state)
+    cleaning n x (Finish state)
+
+  -- A request is received, once: it comes no more and has no end time. Its cleanup runs, and then the object that it was made
+  -- with is freed.
+  pub receiving : ℕ → Obj → Work Reply
+  receiving zero x = short
+  receiving (suc n) x = do
+    p ← pool
+    if is_unreceived (note_of p.requests x)
+        then (do
+          enters x Received (λ q. receive q x)
+          cleaning n x Receive)
+        else over n (reply_to Receive)
+
+  -- the routine runs that cancels a request, where it has one and wasn't received
+  pub cancelling : ℕ → Obj → Work Reply
+  cancelling zero x = short
+  cancelling (suc n) x = do
+    p ← pool
+    elim (cancel_in (note_of p.requests x)) [
+      | None ↦ over n (cancelled_reply 0)
+      | Some handler ↦ calling n ForCancel x handler Cancel
+    ]
+
+  -- a cleanup runs once for each state
+  pub cleaning : ℕ → Obj → Errand → Work Reply
+  cleaning zero x errand = short
+  cleaning (suc n) x errand = do
+    p ← pool
+    elim (cleanup_in (note_of p.requests x)) [
+      | None ↦ cleaned n x errand
+      | Some handler ↦ (do
+        change (λ q. renote q x is_cleaned)
+        calling n ForCleanup x handler errand)
+    ]
+
+  -- after its cleanup nothing more is done for a request that is no more
+  pub cleaned : ℕ → Obj → Errand → Work Reply
+  cleaned zero x errand = short
+  cleaned (suc n) x errand = do
+    p ← pool
+    elim (note_of p.requests x) [
+      | None ↦ over n (reply_to errand)
+      | Some note ↦ if is_receive errand
+          then freed_quietly (free n) (unlink n) (over n (reply_to errand)) (planned p (call.Free note.child))
+          else notifying n x errand
+    ]
+
+  -- a request whose callback is deferred comes soon; otherwise its callback runs, where it has one
+  pub notifying : ℕ → Obj → Errand → Work Reply
+  notifying zero x errand = short
+  notifying (suc n) x errand = do
+    p ← pool
+    elim (note_of p.requests x) [
+      | None ↦ over n (reply_to errand)
+      | Some note ↦ if note.deferred
+          then (do
+            change (λ q. schedule (renote q x not_deferring) x)
+            over n (reply_to errand))
+          else elim note.callback [
+            | None ↦ over n (reply_to errand)
+            | Some handler ↦ calling n ForCallback x handler errand
+          ]
+    ]
+
+  -- a routine of a request runs
+  pub calling : ℕ → What → Obj → Handler → Errand → Work Reply
+  calling zero what x handler errand = short
+  calling (suc n) what x handler errand = do
+    tells (Told (Fired what x handler.routine))
+    called n what x handler errand
+
+  pub called : ℕ → What → Obj → Handler → Errand → Work Reply
+  called zero what x handler errand = short
+  called (suc n) what x handler errand = do
+    v ← asked n (ask.Routine (handler_moment what x handler plainly))
+    after_routine what (cleaned n x errand) (over n (cancelled_reply v)) (over n (reply_to errand))
+
+  pub over : ℕ → Reply → Work Reply
+  over zero r = short
+  over (suc n) r = gives r
 
   -- The outside is asked for a call, and what it answers is the reply. A descriptor that was accepted is open from then on.
   pub reaching : ℕ → Ask → Work Reply

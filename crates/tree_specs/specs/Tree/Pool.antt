@@ -1,8 +1,11 @@
 -- The pool: the rows of the objects, the most recently placed first, the next serial number, and what waits for its turn.
-use Rattle.std.specs.Prelude.{ℕ, suc, zero, ◌+◌, Bool, true, false, not, ◌||◌, ◌&&◌, List, [], ◌∷◌, length, Option, Some, None, is_some, unwrap_or, if◌then◌else◌}
+use Rattle.std.specs.Prelude.{ℕ, suc, zero, ◌+◌, Bool, true, false, not, ◌||◌, ◌&&◌, List, [], ◌∷◌, length, Option, Some, None, is_some, unwrap_or, codes, if◌then◌else◌}
 use Rattle.tree_specs.specs.declared.due.Due.{Due}
 use Rattle.tree_specs.specs.declared.handler.Handler.{Handler}
 use Rattle.tree_specs.specs.declared.watch.Watch.{Watch}
+use Rattle.tree_specs.specs.declared.request.Note.{Note}
+use Rattle.tree_specs.specs.declared.request.State.{State}
+use Rattle.tree_specs.specs.declared.request.State.TheVariants.{Received}
 use Rattle.tree_specs.specs.declared.object.Obj.{Obj}
 use Rattle.tree_specs.specs.declared.object.Owner.{Owner}
 use Rattle.tree_specs.specs.declared.object.Owner.TheVariants.{Root, Of}
@@ -10,11 +13,13 @@ use Rattle.tree_specs.specs.declared.row.Row.{Row}
 use Rattle.tree_specs.specs.declared.row.Mark.{Mark}
 use Rattle.tree_specs.specs.declared.row.Mark.TheVariants.{Quiet, Doomed, Dying}
 use Rattle.tree_specs.specs.declared.kind.Kind.{Kind}
+use Rattle.tree_specs.specs.declared.kind.Kind.TheVariants.{Plain, Request}
 use Rattle.tree_specs.specs.Words.Objects.{same, same_owner}
 use Rattle.tree_specs.specs.Events.Pending.{scheduled, unscheduled, armed, disarmed}
 use Rattle.tree_specs.specs.Events.Rotation.{watched, unwatched, rewatched, turned_back, closes_with}
 use Rattle.tree_specs.specs.Events.Descriptors.{Descriptors, listener_alone, opened, closed, shut}
 use Rattle.tree_specs.specs.Events.Handlers.{Handlers, no_handlers, with_handler, without_handler}
+use Rattle.tree_specs.specs.Events.Requests.{Notes, no_notes, new_note, with_note, without_note, renoted, in_state}
 use Rattle.tree_specs.specs.Tree.Targets.{target_of, is_target, is_reference, newest, newest_ref}
 
 pub record Pool : Type 0 where
@@ -30,10 +35,12 @@ pub record Pool : Type 0 where
   pub descriptors : Descriptors
   -- what runs when an event comes
   pub handlers : Handlers
+  -- what is kept of requests
+  pub requests : Notes
 
 -- objects of which none waits for its turn
 abbrev pub of_rows : List Row → ℕ → Pool
-of_rows rows next = record { rows = rows; next = next; soon = []; times = []; ring = []; descriptors = listener_alone; handlers = no_handlers }
+of_rows rows next = record { rows = rows; next = next; soon = []; times = []; ring = []; descriptors = listener_alone; handlers = no_handlers; requests = no_notes }
 
 abbrev pub empty : ℕ → Pool
 empty first = of_rows [] first
@@ -187,7 +194,7 @@ abbrev pub detach : Pool → Obj → Pool
 detach p x = let_go p x left_row
 
 abbrev pub remove : Pool → Obj → Pool
-remove p x = record p { rows = without p.rows x; handlers = without_handler p.handlers x }
+remove p x = record p { rows = without p.rows x; handlers = without_handler p.handlers x; requests = without_note p.requests x }
 
 -- a row is put below an owner, in front of all others
 abbrev pub in_front : Option Row → Owner → List Row → List Row
@@ -280,3 +287,25 @@ open_descriptor p fd = record p { descriptors = opened p.descriptors fd }
 
 abbrev pub close_descriptor : Pool → ℕ → Pool
 close_descriptor p fd = record p { descriptors = closed p.descriptors fd }
+
+-- ---- requests
+
+-- a request gets its note
+abbrev pub note : Pool → Obj → Note → Pool
+note p x n = record p { requests = with_note p.requests x n }
+
+-- a new request below an owner, and below it a plain object of its own
+abbrev pub add_request : Pool → Owner → ℕ → List ℕ → Pool
+add_request p o size name = add (note (add p Request o 0 (codes "req")) (record { 0 = p.next }) (new_note (record { 0 = p.next + 1 }))) Plain (Of (record { 0 = p.next })) size name
+
+-- what is kept of a request is changed
+abbrev pub renote : Pool → Obj → (Note → Note) → Pool
+renote p x change = record p { requests = renoted change p.requests x }
+
+-- a request goes to a state, and its end time is dropped
+abbrev pub finish : Pool → Obj → State → Pool
+finish p x state = renote (disarm p x) x (in_state state)
+
+-- it was received, and comes no more
+abbrev pub receive : Pool → Obj → Pool
+receive p x = finish (unschedule p x) x Received

@@ -1,7 +1,7 @@
 use Rattle.std.proofs.Common.{length, Some, None, refl, arith}
 use Rattle.destructors.specs.Frees.{frees_of, Still, On}
 use Rattle.destructors.specs.Engine.{MayMove, HasRoom, MovesQuietly}
-use Rattle.destructors.proofs.Settling.{onward}
+use Rattle.destructors.proofs.Settling.{onward, ready-rests}
 use Rattle.destructors.proofs.works.settle.Goals as goal
 
 pub loop-innermost-init : goal.loop-innermost-init
@@ -32,3 +32,6 @@ loop-innermost-preserved c =
       spare = omega (arith, c.loop-innermost.invariant.spare, c.move_quietly.ensures.spare);
       refs = c.move_quietly.ensures.refs;
     }
+
+pub move_quietly-requires-clause-rests : goal.move_quietly-requires-clause-rests
+move_quietly-requires-clause-rests c = ready-rests c.in-Some.work c.loop-innermost.innermost c.loop-innermost.tree c.in-Some.is c.loop-innermost.invariant.ready

@@ -16,6 +16,9 @@ returns-clause-quiet c = λ is g. let o = g.each in let bad : false ≡ true = (
 pub returns-clause-kind : goal.returns-clause-kind
 returns-clause-kind c = λ is g. let o = g.each in let bad : false ≡ true = (o ([]) (seen (set_mark one_timer a mark.Busy) (told (Fired what.Descriptor a 16))) [] refl).started in cc
 
+pub returns-clause-request : goal.returns-clause-request
+returns-clause-request c = λ is g. let o = g.each in let bad : false ≡ true = (o ([]) (seen one_object (told (Fired what.Callback a 16))) [] refl).started in cc
+
 pub returns-clause-unasked : goal.returns-clause-unasked
 returns-clause-unasked c = λ is g. let o = g.each in (o [] (seen (set_mark one_object a mark.Asked) (told (Accepted a))) [] refl).started.1
 

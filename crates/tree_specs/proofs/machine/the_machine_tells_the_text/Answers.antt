@@ -1,7 +1,8 @@
 use Rattle.std.proofs.Common.{None}
 use Rattle.step_machine.specs.Noted.{with_note}
 use Rattle.tree_specs.specs.declared.frame.CallFrame.TheVariants.{Asking}
-use Rattle.tree_specs.specs.declared.frame.Frame.TheVariants.{Call, Free, Turn, Outside}
+use Rattle.tree_specs.specs.declared.frame.Frame.TheVariants.{Call, Free, Turn, Outside, Request}
+use Rattle.tree_specs.specs.declared.frame.RequestFrame.TheVariants.{Finishing, Receiving, Cancelling, Notifying}
 use Rattle.tree_specs.specs.declared.frame.FreeFrame.TheVariants.{Beginning, Unlinking, Looping}
 use Rattle.tree_specs.specs.declared.frame.Purpose.TheVariants.{Emptying}
 use Rattle.tree_specs.specs.declared.frame.OutsideFrame.TheVariants.{Reaching}
@@ -25,8 +26,20 @@ returns-clause-turn c = λ n p is h. not-short-equal _ _ h (run-means n (with_no
 pub returns-clause-outside : goal.returns-clause-outside
 returns-clause-outside c = λ n q p is h. not-short-equal _ _ h (run-means n (with_note None (Outside (Reaching q))) p is)
 
+pub returns-clause-finish : goal.returns-clause-finish
+returns-clause-finish c = λ n x s p is h. not-short-equal _ _ h (run-means n (with_note None (Request (Finishing x s))) p is)
+
+pub returns-clause-notify : goal.returns-clause-notify
+returns-clause-notify c = λ n x e p is h. not-short-equal _ _ h (run-means n (with_note None (Request (Notifying x e))) p is)
+
+pub returns-clause-receive : goal.returns-clause-receive
+returns-clause-receive c = λ n x p is h. not-short-equal _ _ h (run-means n (with_note None (Request (Receiving x))) p is)
+
+pub returns-clause-cancel : goal.returns-clause-cancel
+returns-clause-cancel c = λ n x p is h. not-short-equal _ _ h (run-means n (with_note None (Request (Cancelling x))) p is)
+
 pub returns-clause-enough : goal.returns-clause-enough
-returns-clause-enough c = λ v is h. innermost-enough v is h
+returns-clause-enough c = λ v is h. innermost-enough v is h.sound h.noted h.light
 
 pub returns-clause-same : goal.returns-clause-same
 returns-clause-same c = λ v n is h big. innermost-more v n is h big

@@ -1,5 +1,5 @@
 use Rattle.std.proofs.Common.{refl}
-use Rattle.object_pool.proofs.NumberMaps.{removed_listed}
+use Rattle.pool_arena.proofs.NumberMaps.{removed_listed}
 use Rattle.object_pool.proofs.events.Events.close.Goals as goal
 
 pub returns-clause-upcoming : goal.returns-clause-upcoming

@@ -1,7 +1,7 @@
 use Rattle.std.proofs.Common.{◌∙◌, ap}
 use Rattle.tree_specs.specs.Events.Handlers.{handler_of}
 use Rattle.object_pool.specs.Upcoming.{Agenda}
-use Rattle.object_pool.proofs.NumberMaps.{found_listed}
+use Rattle.pool_arena.proofs.NumberMaps.{found_listed}
 use Rattle.object_pool.proofs.events.Events.handler.Goals as goal
 
 pub returns : goal.returns

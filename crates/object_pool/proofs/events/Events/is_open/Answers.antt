@@ -3,7 +3,7 @@ use Rattle.std.specs.Borrow.{Bor}
 use Rattle.std.specs.FinMap as map
 use Rattle.tree_specs.specs.Events.Descriptors.{is_open_in}
 use Rattle.object_pool.specs.Upcoming.{Agenda}
-use Rattle.object_pool.proofs.NumberMaps.{found_listed}
+use Rattle.pool_arena.proofs.NumberMaps.{found_listed}
 use Rattle.object_pool.proofs.events.Events.is_open.Goals as goal
 
 lent : {V : Type 0} (o : Option (Bor V)) → is_some o ≡ is_some (option_copied o)

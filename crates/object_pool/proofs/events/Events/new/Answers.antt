@@ -1,5 +1,5 @@
 use Rattle.std.proofs.Common.{◌∙◌, refl}
-use Rattle.object_pool.proofs.NumberMaps.{none_listed, put_listed}
+use Rattle.pool_arena.proofs.NumberMaps.{none_listed, put_listed}
 use Rattle.object_pool.proofs.events.Events.new.Goals as goal
 
 pub returns : goal.returns
@@ -9,6 +9,7 @@ returns c =
       c.new.ensures.times,
       c.new.ensures.ring,
       none_listed c.new-2.result.pairs c.new-2.ensures.empty,
+      c.new-3.ensures,
       c.put.ensures,
       put_listed c.reserve.new.self.pairs 0 tt,
       none_listed c.reserve.new.self.pairs (c.reserve.ensures.pairs ∙ c.new-descriptors.ensures.empty),

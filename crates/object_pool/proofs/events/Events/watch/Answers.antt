@@ -1,5 +1,5 @@
 use Rattle.std.proofs.Common.{refl}
-use Rattle.object_pool.proofs.NumberMaps.{put_listed}
+use Rattle.pool_arena.proofs.NumberMaps.{put_listed}
 use Rattle.object_pool.proofs.events.Events.watch.Goals as goal
 
 pub returns : goal.returns

@@ -4,8 +4,8 @@ use Rattle.tree_specs.specs.declared.kind.Kind.TheVariants.{Descriptor}
 use Rattle.tree_specs.specs.Events.Rotation.{is_watching}
 use Rattle.object_pool.specs.Objects.{Objects}
 use Rattle.object_pool.proofs.Keeping.{event-added}
-use Rattle.object_pool.proofs.Numbers.{numbered-later}
-use Rattle.object_pool.proofs.Watchers.{watchers-later, watchers-pushed, unwatching}
+use Rattle.object_pool.specs.Upcoming.{watcher_number}
+use Rattle.object_pool.proofs.Given.{given-later, before-pushed, unwatching}
 use Rattle.object_pool.proofs.pool.ObjectPool.add_descriptor.Goals as goal
 
 pub watch-requires-clause-place : goal.watch-requires-clause-place
@@ -14,7 +14,7 @@ watch-requires-clause-place c = (c.self.invariant.places (c.self.invariant.place
 pub watch-requires-clause-event : goal.watch-requires-clause-event
 watch-requires-clause-event c =
     let ring = c.self.inside.events.upcoming.ring in
-    subst (λ (x : Obj). is_watching ring x ≡ false) (sym c.add_row-event.ensures.serial) (unwatching c.self.inside.tree.next ring c.self.invariant.watchers)
+    subst (λ (x : Obj). is_watching ring x ≡ false) (sym c.add_row-event.ensures.serial) (unwatching c.self.inside.tree.next ring c.self.invariant.given.ring)
 
 pub invariant_of-self : goal.invariant_of-self
 invariant_of-self c =
@@ -22,6 +22,6 @@ invariant_of-self c =
     event-added c.self.inside c.add_row-event.new.tree c.add_row-event.new.sums c.watch.new.self c.add_row-event.result Descriptor c.args.owner c.fixed-name.result
     (ap (λ (o : Objects). o.ready) c.self.view_is ∙ c.requires.ready) refl
     c.add_row-event.ensures.serial c.add_row-event.ensures.fresh c.add_row-event.ensures.rows c.add_row-event.ensures.works c.add_row-event.ensures.limits
-    (λ le lt. rw c.watch.ensures
-    (numbered-later _ _ before.times le c.self.invariant.numbers, watchers-pushed _ before.ring _ lt (watchers-later _ _ before.ring le c.self.invariant.watchers)))
+    (λ le lt. let later = given-later _ c.add_row-event.new.tree.next before le c.self.invariant.given in
+    rw c.watch.ensures (record { times = later.times; ring = before-pushed watcher_number _ before.ring _ lt later.ring; requests = later.requests }))
     c.self.invariant

@@ -4,8 +4,7 @@ use Rattle.tree_specs.specs.declared.kind.Kind.TheVariants.{Timer}
 use Rattle.tree_specs.specs.Events.Pending.{disarmed, is_numbered}
 use Rattle.object_pool.specs.Objects.{Objects}
 use Rattle.object_pool.proofs.Keeping.{event-added}
-use Rattle.object_pool.proofs.Numbers.{numbered-later, numbered-disarmed, numbered-armed, unnumbered}
-use Rattle.object_pool.proofs.Watchers.{watchers-later}
+use Rattle.object_pool.proofs.Given.{given-later, times-armed, unnumbered}
 use Rattle.object_pool.proofs.pool.ObjectPool.add_timer.Goals as goal
 
 pub arm-requires-clause-place : goal.arm-requires-clause-place
@@ -15,15 +14,15 @@ pub arm-requires-clause-number : goal.arm-requires-clause-number
 arm-requires-clause-number c =
     let dues = c.self.inside.events.upcoming.times in
     let next = c.self.inside.tree.next in
-    subst (λ (x : Obj). is_numbered (disarmed dues x) x.0 ≡ false) (sym c.add_row-timer.ensures.serial)
-    (unnumbered next (disarmed dues (record { 0 = next })) (numbered-disarmed next dues (record { 0 = next }) c.self.invariant.numbers))
+    subst (λ (x : Obj). is_numbered (disarmed dues x) x.0 ≡ false) (sym c.add_row-timer.ensures.serial) (unnumbered next dues (record { 0 = next }) c.self.invariant.given.times)
 
 pub invariant_of-self : goal.invariant_of-self
 invariant_of-self c =
     let timer = c.add_row-timer.ensures in
-    let dues = c.self.inside.events.upcoming.times in
+    let before = c.self.inside.events.upcoming in
     event-added c.self.inside c.add_row-timer.new.tree c.add_row-timer.new.sums c.arm.new.self c.add_row-timer.result Timer c.args.owner c.fixed-name.result (ap (λ (o : Objects). o.ready) c.self.view_is ∙ c.requires.ready) refl
     timer.serial timer.fresh timer.rows timer.works timer.limits
-    (λ le lt. rw c.arm.ensures
-    (numbered-armed _ dues c.add_row-timer.result c.args.time c.add_row-timer.result.0 lt (numbered-later _ _ dues le c.self.invariant.numbers), watchers-later _ _ c.self.inside.events.upcoming.ring le c.self.invariant.watchers))
+    (λ le lt. let later = given-later _ c.add_row-timer.new.tree.next before le c.self.invariant.given in
+    rw c.arm.ensures
+    (record { times = times-armed _ before.times c.add_row-timer.result c.args.time c.add_row-timer.result.0 lt later.times; ring = later.ring; requests = later.requests }))
     c.self.invariant

@@ -1,6 +1,6 @@
 use Rattle.std.proofs.Common.{◌≡◌, true, false, length, refl, sym, ◌∙◌, ap, subst, arith}
 use Rattle.tree_specs.specs.Tree.Pool.{Pool, is_row, limited_row}
-use Rattle.tree_specs.proofs.Turns.FallingFrees.{length-changed}
+use Rattle.tree_specs.proofs.Turns.Lowering.{length-changed}
 use Rattle.references.specs.Rows.{AreRefsOf}
 use Rattle.references.proofs.Rows.{refs-same, same-changed}
 use Rattle.memory_limits.specs.Limits.{AllSums, AreLimitsOf}

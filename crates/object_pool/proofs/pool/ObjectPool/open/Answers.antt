@@ -7,4 +7,6 @@ pub open-requires : goal.open-requires
 open-requires c = (c.self.invariant.places (c.self.invariant.placed (ap (λ (o : Objects). o.ready) c.self.view_is ∙ c.requires))).event
 
 pub invariant_of-self : goal.invariant_of-self
-invariant_of-self c = waits c.self.inside c.open.new.self (rw c.open.ensures c.self.invariant.numbers) (rw c.open.ensures c.self.invariant.watchers) c.self.invariant
+invariant_of-self c =
+    let given = c.self.invariant.given in
+    waits c.self.inside c.open.new.self (rw c.open.ensures (record { times = given.times; ring = given.ring; requests = given.requests })) c.self.invariant

@@ -1,11 +1,17 @@
 use Rattle.std.proofs.Common.{Some, sym, ap, subst, ◌∙◌}
 use Rattle.tree_specs.specs.Machine.Table.{event_of}
-use Rattle.destructors.specs.Frees.{frees_of, speaking, Steps}
+use Rattle.destructors.specs.Frees.{before, frees_of, speaking, Steps}
+use Rattle.tree_links.specs.Links.{pool_of}
 use Rattle.object_pool.specs.Objects.{Objects, frees_in}
-use Rattle.object_pool.specs.Upcoming.{frees_beside, after}
-use Rattle.object_pool.proofs.Beside.{speaking-beside, steps-beside}
+use Rattle.object_pool.specs.Upcoming.{frees_beside, after, nothing_comes}
+use Rattle.object_pool.proofs.Beside.{goes_on-same, speaking-beside, steps-beside}
+use Rattle.object_pool.proofs.Fewer.{told-unreceived}
 use Rattle.object_pool.proofs.Keeping.{stepped}
+use Rattle.object_pool.proofs.Opening.{at_work-inside}
 use Rattle.object_pool.proofs.pool.ObjectPool.step.Goals as goal
+
+pub step-step-requires-clause-at_work : goal.step-step-requires-clause-at_work
+step-step-requires-clause-at_work c = at_work-inside c.self.inside c.args.self.now c.self.view_is c.requires.at_work
 
 pub step-step-requires-clause-settled : goal.step-step-requires-clause-settled
 step-step-requires-clause-settled c =
@@ -29,3 +35,11 @@ returns-clause-steps c =
 
 pub returns-clause-told : goal.returns-clause-told
 returns-clause-told c = c.event.ensures _ c.follow-closed.ensures.closed ∙ ap (λ (o : Objects). event_of o.pool.ring c.step-step.result) c.self.view_is
+
+pub returns-clause-goes_on : goal.returns-clause-goes_on
+returns-clause-goes_on c =
+    let left = c.step-step.new in
+    goes_on-same (pool_of left.tree) nothing_comes c.follow-closed.new.self.upcoming c.step-step.result (before left.self left.tree.frees) c.step-step.ensures.goes_on
+
+pub returns-clause-requests : goal.returns-clause-requests
+returns-clause-requests c = rw (← c.self.view_is, c.follow-closed.ensures.upcoming) (told-unreceived c.step-step.result c.self.inside.events.upcoming)

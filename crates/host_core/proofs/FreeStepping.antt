@@ -1,0 +1,194 @@
+-- A step of the innermost free by the parts of a host.
+use Rattle.std.proofs.Common.{◌≡◌, ℕ, ◌+◌, ◌≤◌, List, [], ◌∷◌, ◌++◌, length, length-append, reverse, Option, Some, None, false, refl, sym, ◌∙◌, ap, subst, inr, arith}
+use Rattle.std.specs.Prelude.{slice_get, vec_capacity}
+use Rattle.step_machine.specs.Machine.{Move as Do}
+use Rattle.tree_specs.specs.declared.frame.CallFrame.TheVariants.{Asking}
+use Rattle.tree_specs.specs.declared.frame.Frame.TheVariants as frame
+use Rattle.tree_specs.specs.declared.frame.FreeFrame.{FreeFrame}
+use Rattle.tree_specs.specs.declared.frame.RequestFrame.TheVariants.{Receiving}
+use Rattle.tree_specs.specs.declared.free_step.FreeReply.{FreeReply}
+use Rattle.tree_specs.specs.declared.free_step.FreeStep.{FreeStep}
+use Rattle.tree_specs.specs.declared.free_step.FreeStep.TheVariants.{Ask as AskOf, Prepare, Done}
+use Rattle.tree_specs.specs.declared.object.Obj.{Obj}
+use Rattle.tree_specs.specs.declared.question.Ask.TheVariants.{Routine}
+use Rattle.tree_specs.specs.Rules.Answers.{hook_moment}
+use Rattle.tree_specs.specs.Tree.Pool.{Pool, row_of}
+use Rattle.tree_specs.specs.Invariants.Sound.{HasHook}
+use Rattle.tree_specs.specs.Invariants.Consistent.{IsConsistent}
+use Rattle.destructors.specs.Engine.{IsReceiving}
+use Rattle.destructors.specs.Frees.{OpenFrees, moves, Steps}
+use Rattle.tree_specs.proofs.Tree.Numbered.{by_test}
+use Rattle.tree_specs.specs.Machine.FreeTable.{FreeMove, free_step}
+use Rattle.tree_specs.specs.Invariants.Sound.{AllWait}
+use Rattle.tree_specs.specs.Invariants.Consistent.{IsStacked}
+use Rattle.destructors.specs.Frees.{awaits_run}
+use Rattle.destructors.specs.Frees.{moved as free_moved, answered as frees_answered}
+use Rattle.destructors.proofs.FreeMoves.{IsMoveOf, is_move}
+use Rattle.destructors.specs.Runs.{IsNews, AsksFor}
+use Rattle.destructors.specs.Works.{IsAtWork, GoesOn}
+use Rattle.destructors.proofs.Hosting.{AwaitsRun, awaiting-runs}
+use Rattle.object_pool.specs.Objects.{Objects, frees_in}
+use Rattle.object_pool.specs.Requests.{count_unreceived}
+use Rattle.host_core.specs.declared.active.Active.TheVariants as active
+use Rattle.host_core.specs.declared.answer.Answer.TheVariants.{Freed}
+use Rattle.host_core.specs.declared.caller.Caller.{Caller}
+use Rattle.host_core.specs.declared.parts.Parts.{Parts}
+use Rattle.host_core.specs.declared.waiting.Waiting.{Waiting}
+use Rattle.host_core.specs.declared.waiting.Waiting.TheVariants.{Freeing}
+use Rattle.host_core.specs.declared.work.Work.TheVariants as work
+use Rattle.host_core.specs.Callers.{frame_of}
+use Rattle.host_core.specs.Stacks.{standing, Fits, FreesFit, other_view, freeing_view}
+use Rattle.host_core.specs.Hosts.{host_view, speaking_view, StepsSilently, IsBetweenSteps}
+use Rattle.host_core.specs.Going.{Answers, ended_view}
+use Rattle.host_core.proofs.FreeSteps.{step-news, step-asks, step-prepares, step-ends, ends-there}
+use Rattle.host_core.proofs.Going.{pushed, below-begun, FitAfter, fit-next, fits-silently}
+use Rattle.host_core.proofs.Ending.{freed-answers}
+
+-- ---- the free that makes the step, and those below it
+
+module _ (f : FreeFrame) (fs : List FreeFrame) (ws : List Waiting) (p : Pool) (new : OpenFrees) (h : IsConsistent (freeing_view (f ∷ fs) ws p)) where
+  pub step-fits : (t : FreeStep) → FreesFit (f ∷ fs) ws → Steps (record { works = f ∷ fs; pool = p }) t new → FitAfter (Some t, new) ws
+  step-fits t e s = each t s (subst (λ (z : Option FreeStep). FitAfter (z, (moves (f ∷ fs) p).1) ws) s.tells (fit-next f fs p ws e))
+    where
+      each : (t : FreeStep) → Steps (record { works = f ∷ fs; pool = p }) t new → FitAfter (Some t, (moves (f ∷ fs) p).1) ws → FitAfter (Some t, new) ws
+      each (Done a) s k = subst (λ (z : OpenFrees). Fits z.works ws) (ends-there f fs ws p new h a s) k
+      each _ s k = fits-silently (moves (f ∷ fs) p).1 new ws s.moves_on k
+
+  -- when a free is over those below it are as they were
+  ends-below : (a : FreeReply) → Steps (record { works = f ∷ fs; pool = p }) (Done a) new → new.works ≡ fs
+  ends-below a s = ap (λ (z : OpenFrees). z.works) (sym (ends-there f fs ws p new h a s)) ∙ each (free_step f p) (is_move f p) s.tells
+    where
+      over : (b : FreeReply) (q : Pool) (gs : List FreeFrame) → (frees_answered b q gs).0 ≡ Some (Done a) → (frees_answered b q gs).1.works ≡ gs
+      over b q [] e = refl
+      over b q (g ∷ gs) e = by_test (awaits_run g)
+          (λ u. rw u refl)
+          (λ u. let e' : (let z : Option FreeStep = None in z) ≡ Some (Done a) = rw u at e in cc)
+
+      each : (m : FreeMove) → IsMoveOf f p m → (free_moved m fs).0 ≡ Some (Done a) → (free_moved m fs).1.works ≡ fs
+      each (Do.Done b q) of e = over b q fs e
+      each (Do.Go g q) of e = cc
+      each (Do.Call g k q) of e = cc
+      each (Do.Emit t g q) of e = absurd (no-news (let is : t ≡ Done a = cc in subst IsNews is of))
+        where
+          no-news : IsNews (Done a) → ⊥
+          no-news n = n
+      each (Do.Wait t g q) of e = absurd (let is : t ≡ Done a = cc in subst (λ (z : FreeStep). AsksFor z f) is of.2)
+
+pub is_news : (t : FreeStep) → ((x : Obj) → t ≡ AskOf x → ⊥) → ((x : Obj) → t ≡ Prepare x → ⊥) → ((a : FreeReply) → t ≡ Done a → ⊥) → IsNews t
+is_news (AskOf x) no-ask no-prepare no-done = absurd (no-ask x refl)
+is_news (Prepare x) no-ask no-prepare no-done = absurd (no-prepare x refl)
+is_news (Done a) no-ask no-prepare no-done = absurd (no-done a refl)
+is_news _ no-ask no-prepare no-done = tt
+
+pub news-work : (t : FreeStep) (s : OpenFrees) → IsNews t → GoesOn t s → IsAtWork s
+news-work (AskOf x) s n g = absurd n
+news-work (Prepare x) s n g = absurd n
+news-work (Done a) s n g = absurd n
+news-work _ s n g = g
+
+pub news-fit : (t : FreeStep) (s : OpenFrees) (ws : List Waiting) → IsNews t → FitAfter (Some t, s) ws → FreesFit s.works ws
+news-fit (AskOf x) s ws n e = absurd n
+news-fit (Prepare x) s ws n e = absurd n
+news-fit (Done a) s ws n e = absurd n
+news-fit _ s ws n e = e
+
+-- ---- a host whose innermost free makes a step that tells no event
+
+module _ (old : Parts) (o : Objects) (had : IsBetweenSteps active.Freeing old) (quiet : speaking_view (host_view active.Freeing old) ≡ false)
+    (requests : count_unreceived o.pool.requests ≤ count_unreceived old.objects.pool.requests) where
+  abbrev ws : List Waiting
+  ws = reverse old.waiting.items
+
+  abbrev p : Pool
+  p = old.objects.pool
+
+  -- what a step of any free has shown
+  abbrev Shows : FreeStep → Type 0 → Type 0
+  Shows t A = (f : FreeFrame) (fs : List FreeFrame) → FreesFit (f ∷ fs) ws → IsConsistent (freeing_view (f ∷ fs) ws p) → speaking_view (freeing_view (f ∷ fs) ws p) ≡ false
+      → old.objects.works ≡ f ∷ fs → Steps (record { works = f ∷ fs; pool = p }) t (frees_in o) → A
+
+  shown : (A : Type 0) (t : FreeStep) → Steps (frees_in old.objects) t (frees_in o) → Shows t A → A
+  shown A t s shows = each old.objects.works refl had.fit had.whole quiet s
+    where
+      each : (works : List FreeFrame) → old.objects.works ≡ works → FreesFit works ws → IsConsistent (freeing_view works ws p) → speaking_view (freeing_view works ws p) ≡ false → Steps (record { works = works; pool = p }) t (frees_in o) → A
+      each [] k e w q s = absurd e.0
+      each (f ∷ fs) k e w q s = shows f fs e w q k s
+
+  pub news_onward : (t : FreeStep) → Steps (frees_in old.objects) t (frees_in o) → IsNews t → StepsSilently (host_view active.Freeing old) (freeing_view o.works ws o.pool)
+  news_onward t s n = shown (StepsSilently (host_view active.Freeing old) (freeing_view o.works ws o.pool)) t s
+      (λ f fs e w q k s. subst (λ (fs : List FreeFrame). StepsSilently (freeing_view fs ws p) (freeing_view o.works ws o.pool)) (sym k) (step-news f fs ws p (frees_in o) w t s n q))
+
+  pub news_ready : (t : FreeStep) → Steps (frees_in old.objects) t (frees_in o) → IsNews t → GoesOn t (frees_in o) → IsBetweenSteps active.Freeing (record { waiting = old.waiting; objects = o })
+  news_ready t s n goes = record {
+    whole = (news_onward t s n).along.whole;
+    fit = shown (FreesFit o.works ws) t s (λ f fs e w q k s. news-fit t (frees_in o) ws n (step-fits f fs ws p (frees_in o) w t e s));
+    ready = record { at_work = news-work t (frees_in o) n goes; settled = s.settles };
+    places = (let room = had.places in let fewer = requests in omega (arith, room, fewer));
+  }
+
+  one-more : (new : Parts) → new.waiting.items ≡ old.waiting.items ++ Freeing ∷ [] → length new.waiting.items ≡ length old.waiting.items + 1
+  one-more new e = ap length e ∙ length-append old.waiting.items (Freeing ∷ [])
+
+  pub asks_onward : (x : Obj) (c : Caller) (new : Parts) → new.objects ≡ o → new.waiting.items ≡ old.waiting.items ++ Freeing ∷ [] → Steps (frees_in old.objects) (AskOf x) (frees_in o)
+      → ((g : ℕ) → HasHook (row_of o.pool.rows x) g → frame_of c ≡ Asking (Routine (hook_moment x g))) → StepsSilently (host_view active.Freeing old) (host_view (active.Caller c) new)
+  asks_onward x c new same push s runs =
+      rw (same, pushed old.waiting.items new.waiting.items Freeing push)
+      (shown (StepsSilently (host_view active.Freeing old) (other_view (frame.Call (frame_of c)) o.works (Freeing ∷ ws) o.pool)) (AskOf x) s
+      (λ f fs e w q k s.
+      let a = step-asks f fs ws p (frees_in o) w x s in
+      let on : StepsSilently (freeing_view (f ∷ fs) ws p) (other_view (frame.Call (frame_of c)) o.works (Freeing ∷ ws) o.pool) = rw (runs a.0 a.1) a.2 in
+      subst (λ (fs : List FreeFrame). StepsSilently (freeing_view fs ws p) (other_view (frame.Call (frame_of c)) o.works (Freeing ∷ ws) o.pool)) (sym k) on))
+
+  marked : (t : FreeStep) (new : Parts) → new.objects ≡ o → new.waiting.items ≡ old.waiting.items ++ Freeing ∷ [] → FreesFit o.works ws → Fits new.objects.works (reverse new.waiting.items)
+  marked t new same push e = rw (same, pushed old.waiting.items new.waiting.items Freeing push) e
+
+  pub asks_ready : (x : Obj) (c : Caller) (new : Parts) → new.objects ≡ o → new.waiting.items ≡ old.waiting.items ++ Freeing ∷ [] → Steps (frees_in old.objects) (AskOf x) (frees_in o)
+      → ((g : ℕ) → HasHook (row_of o.pool.rows x) g → frame_of c ≡ Asking (Routine (hook_moment x g))) → IsBetweenSteps (active.Caller c) new
+  asks_ready x c new same push s runs = record {
+    whole = (asks_onward x c new same push s runs).along.whole;
+    fit = marked (AskOf x) new same push (shown (FreesFit o.works ws) (AskOf x) s (λ f fs e w q k s. step-fits f fs ws p (frees_in o) w (AskOf x) e s));
+    ready = tt;
+    places = tt;
+  }
+
+  pub prepares_onward : (x : Obj) (new : Parts) → new.objects ≡ o → new.waiting.items ≡ old.waiting.items ++ Freeing ∷ [] → Steps (frees_in old.objects) (Prepare x) (frees_in o)
+      → StepsSilently (host_view active.Freeing old) (host_view (active.Requesting (work.Receiving x)) new)
+  prepares_onward x new same push s =
+      rw (same, pushed old.waiting.items new.waiting.items Freeing push)
+      (shown (StepsSilently (host_view active.Freeing old) (other_view (frame.Request (Receiving x)) o.works (Freeing ∷ ws) o.pool)) (Prepare x) s
+      (λ f fs e w q k s.
+      subst (λ (fs : List FreeFrame). StepsSilently (freeing_view fs ws p) (other_view (frame.Request (Receiving x)) o.works (Freeing ∷ ws) o.pool)) (sym k) (step-prepares f fs ws p (frees_in o) w x s).1))
+
+  pub prepares_ready : (x : Obj) (new : Parts) → new.objects ≡ o → new.waiting.items ≡ old.waiting.items ++ Freeing ∷ [] → vec_capacity new.waiting ≡ vec_capacity old.waiting → Steps (frees_in old.objects) (Prepare x) (frees_in o)
+      → IsBetweenSteps (active.Requesting (work.Receiving x)) new
+  prepares_ready x new same push cap s =
+      let counts : count_unreceived new.objects.pool.requests ≡ count_unreceived o.pool.requests = ap (λ (z : Objects). count_unreceived z.pool.requests) same in
+      let n = one-more new push in
+      let room = had.places in
+      let fewer = requests in
+      record {
+        whole = (prepares_onward x new same push s).along.whole;
+        fit = marked (Prepare x) new same push (shown (FreesFit o.works ws) (Prepare x) s (λ f fs e w q k s. step-fits f fs ws p (frees_in o) w (Prepare x) e s));
+        ready = rw same (inr (shown (IsReceiving (slice_get o.works 0)) (Prepare x) s (λ f fs e w q k s. (step-prepares f fs ws p (frees_in o) w x s).0)));
+        places = omega (arith, room, fewer, cap, n, counts);
+      }
+
+  pub ends_onward : (a : FreeReply) → Steps (frees_in old.objects) (Done a) (frees_in o) → StepsSilently (host_view active.Freeing old) (ended_view (Freed a) (record { waiting = old.waiting; objects = o }))
+  ends_onward a s = shown (StepsSilently (host_view active.Freeing old) (ended_view (Freed a) (record { waiting = old.waiting; objects = o }))) (Done a) s
+      (λ f fs e w q k s.
+      subst (λ (fs : List FreeFrame). StepsSilently (freeing_view fs ws p) (ended_view (Freed a) (record { waiting = old.waiting; objects = o }))) (sym k) (step-ends f fs ws p (frees_in o) w a s))
+
+  pub ends_fit : (a : FreeReply) → Steps (frees_in old.objects) (Done a) (frees_in o) → Fits o.works ws
+  ends_fit a s = shown (Fits o.works ws) (Done a) s (λ f fs e w q k s. step-fits f fs ws p (frees_in o) w (Done a) e s)
+
+  pub ends_answers : (a : FreeReply) → Steps (frees_in old.objects) (Done a) (frees_in o) → GoesOn (Done a) (frees_in o) → Answers (Freed a) ws o
+  ends_answers a s goes = shown (Answers (Freed a) ws o) (Done a) s
+      (λ f fs e w q k s.
+      let runs : AwaitsRun o.works = awaiting-runs o.works o.pool goes in
+      let are : o.works ≡ fs = ends-below f fs ws p (frees_in o) w a s in
+      let runs' : AwaitsRun fs = subst AwaitsRun are runs in
+      let stands = below-begun fs ws runs' in
+      let waits : AllWait (standing fs ws) = rw stands at w.sound.waiting in
+      let seated : IsStacked (frame.Free f) (standing fs ws) = rw stands at w.seated in
+      let fits : Fits fs ws = subst (λ (z : List FreeFrame). Fits z ws) are (step-fits f fs ws p (frees_in o) w (Done a) e s) in
+      freed-answers f fs ws a o runs' fits waits seated)

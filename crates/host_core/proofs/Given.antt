@@ -1,0 +1,125 @@
+-- What is given to whoever has asked, and what it leads to, by the parts of a host.
+use Rattle.std.proofs.Common.{◌≡◌, ℕ, ◌≤◌, List, reverse, Option, Some, true, false, refl, sym, ◌∙◌, ap, subst, arith}
+use Rattle.std.specs.Prelude.{is_none}
+use Rattle.tree_specs.specs.declared.call.Call.{Call}
+use Rattle.tree_specs.specs.declared.frame.CallFrame.TheVariants.{Doing, Returning}
+use Rattle.tree_specs.specs.declared.frame.Frame.TheVariants as frame
+use Rattle.tree_specs.specs.declared.frame.FreeFrame.{FreeFrame}
+use Rattle.tree_specs.specs.declared.question.Ask.{Ask}
+use Rattle.tree_specs.specs.declared.question.Input.{Input}
+use Rattle.tree_specs.specs.declared.question.Input.TheVariants as input
+use Rattle.tree_specs.specs.Calls.Plans.{planned}
+use Rattle.tree_specs.specs.Calls.Refusals.{refusals}
+use Rattle.tree_specs.specs.Invariants.Consistent.{IsConsistent}
+use Rattle.tree_specs.specs.Machine.Table.{call_step, outside_step}
+use Rattle.tree_specs.specs.Texts.Schedule.{misfit}
+use Rattle.tree_specs.specs.Tree.Pool.{Pool}
+use Rattle.tree_specs.proofs.Calls.Plans.{may-planned}
+use Rattle.object_pool.specs.Objects.{Objects, RefsMayGo}
+use Rattle.object_pool.specs.Requests.{count_unreceived}
+use Rattle.host_core.specs.declared.active.Active.{Active}
+use Rattle.host_core.specs.declared.active.Active.TheVariants as active
+use Rattle.host_core.specs.declared.answer.Answer.TheVariants.{Returned, Heard}
+use Rattle.host_core.specs.declared.caller.Caller.{Caller}
+use Rattle.host_core.specs.declared.motion.Motion.{Motion}
+use Rattle.host_core.specs.declared.parts.Parts.{Parts}
+use Rattle.host_core.specs.declared.short_reply.ShortReply.{ShortReply}
+use Rattle.host_core.specs.declared.step.Step.{Step}
+use Rattle.host_core.specs.declared.step.Step.TheVariants.{Ends}
+use Rattle.host_core.specs.declared.turn.Turn.{Turn}
+use Rattle.host_core.specs.Going.{Answers, ended_view, stepped_view, step_places, HasPlacesFor}
+use Rattle.host_core.specs.Moves.{move_of}
+use Rattle.host_core.specs.Reaches.{is_bytes, IsShortAnswer, short_answer, pool_heard, outside_given}
+use Rattle.host_core.specs.Stacks.{Fits, other_view}
+use Rattle.host_core.specs.Steps.{step_of, IsBusy}
+use Rattle.host_core.specs.Turns.{turn_asks}
+use Rattle.host_core.specs.Hosts.{given_view, called_view, speaks, asked_now, PartsReady, HasRoom, IsActing, StepsSilently}
+use Rattle.host_core.proofs.Allowed.{refs-go}
+use Rattle.host_core.proofs.Answering.{caller-acts, short-answer}
+use Rattle.host_core.proofs.Calling.{call-silent, call-room}
+use Rattle.host_core.proofs.Ending.{returned-answers, heard-answers}
+use Rattle.host_core.proofs.Reaching.{heard-step, no-reason}
+use Rattle.host_core.proofs.Stepping.{step_onward}
+
+-- ---- a call
+
+module _ (q : Ask) (c : Call) (old : Parts) (whole : IsConsistent (called_view q (input.Call c) old)) where
+  pub call_refs : RefsMayGo old.objects.pool.rows
+  call_refs = refs-go _ _ old.objects.pool whole.sound
+
+  module _ (step : Step) (motion : Motion) (o : Objects) (steps : step_of step o.pool ≡ move_of q motion o.pool) (moved : move_of q motion o.pool ≡ call_step (refusals old.objects.pool c) q c old.objects.pool) (works : o.works ≡ old.objects.works) where
+    pub call_onward : StepsSilently (called_view q (input.Call c) old) (stepped_view step (record { waiting = old.waiting; objects = o }))
+    call_onward = step_onward (frame.Call (Doing q c)) step old o whole (steps ∙ moved) works (call-silent q (planned old.objects.pool c) old.objects.pool)
+
+    pub call_fit : Fits old.objects.works (reverse old.waiting.items) → Fits o.works (reverse old.waiting.items)
+    call_fit fit = subst (λ (fs : List FreeFrame). Fits fs (reverse old.waiting.items)) (sym works) fit
+
+    pub call_places : IsBusy step → step_places step ≤ 3 → HasRoom old → HasPlacesFor (step_places step) (record { waiting = old.waiting; objects = o })
+    call_places busy most room =
+        let few = call-room q step (planned old.objects.pool c) old.objects.pool o.pool (may-planned (frame.Call (Doing q c)) _ old.objects.pool whole.sound c) room.order busy most (steps ∙ moved) in
+        let places = room.places in
+        omega (arith, few, places)
+
+-- a caller is answered with a call, or with what a routine does
+pub caller_acting : (now : Active) (c : Caller) (i : Input) (parts : Parts) → now ≡ active.Caller c → is_none (misfit (asked_now now) i) ≡ true → IsConsistent (given_view now i parts) → IsActing i
+caller_acting now c i parts is fits h =
+    let h' : IsConsistent (given_view (active.Caller c) i parts) = subst (λ (z : Active). IsConsistent (given_view z i parts)) is h in
+    caller-acts c.stage c.ask i _ (subst (λ (z : Active). is_none (misfit (asked_now z) i) ≡ true) is fits) h'.seated
+
+-- ---- a routine has returned
+
+module _ (v : ℕ) (old : Parts) (whole : IsConsistent (other_view (frame.Call (Returning v)) old.objects.works (reverse old.waiting.items) old.objects.pool)) where
+  pub return_onward : StepsSilently (other_view (frame.Call (Returning v)) old.objects.works (reverse old.waiting.items) old.objects.pool) (ended_view (Returned v) old)
+  return_onward = step_onward (frame.Call (Returning v)) (Ends (Returned v)) old old.objects whole refl refl refl
+
+  pub return_answers : Fits old.objects.works (reverse old.waiting.items) → HasRoom old → Answers (Returned v) (reverse old.waiting.items) old.objects
+  return_answers fit room = returned-answers v (reverse old.waiting.items) old.objects room.ready fit whole
+
+-- ---- a turn was told the time, or what is ready
+
+module _ (now : Active) (t : Turn) (i : Input) (old : Parts) (is : now ≡ active.Turning t) (fits : is_none (misfit (asked_now now) i) ≡ true) (ready : PartsReady now old.objects) where
+  pub given_fits : is_none (misfit (turn_asks t.frame) i) ≡ true
+  given_fits =
+      let ready' : PartsReady (active.Turning t) old.objects = subst (λ (z : Active). PartsReady z old.objects) is ready in
+      let fits' : is_none (misfit t.question i) ≡ true = subst (λ (z : Active). is_none (misfit (asked_now z) i) ≡ true) is fits in
+      ap (λ (z : Option Ask). is_none (misfit z i)) (sym ready'.question) ∙ fits'
+
+-- ---- the outside has answered
+
+heard-requests : (i : Input) (p : Pool) → (pool_heard i p).requests ≡ p.requests
+heard-requests (input.Took fd) p = refl
+heard-requests _ p = refl
+
+module _ (now : Active) (q : Ask) (i : Input) (old : Parts) (is : now ≡ active.Reaching q) (fits : is_none (misfit (asked_now now) i) ≡ true) (ready : PartsReady now old.objects) (no_bytes : is_bytes i ≡ false) where
+  fits-here : is_none (misfit (Some q) i) ≡ true
+  fits-here = subst (λ (z : Active). is_none (misfit (asked_now z) i) ≡ true) is fits
+
+  pub heard_short : IsShortAnswer i
+  heard_short = short-answer q i (subst (λ (z : Active). PartsReady z old.objects) is ready) fits-here no_bytes
+
+  module _ (b : ShortReply) (o : Objects) (reply : b ≡ short_answer i) (pool : o ≡ record old.objects { pool = pool_heard i old.objects.pool; ready = o.ready }) (h : IsConsistent (given_view now i old)) where
+    here : IsConsistent (given_view (active.Reaching q) i old)
+    here = subst (λ (z : Active). IsConsistent (given_view z i old)) is h
+
+    over : step_of (Ends (Heard b)) o.pool ≡ outside_step (outside_given q i) old.objects.pool
+    over = rw (reply, ap (λ (z : Objects). z.pool) pool) (sym (heard-step q i old.objects.pool heard_short (no-reason (misfit (Some q) i) fits-here)))
+
+    works : o.works ≡ old.objects.works
+    works = ap (λ (z : Objects). z.works) pool
+
+    pub heard_onward : StepsSilently (given_view now i old) (ended_view (Heard b) (record { waiting = old.waiting; objects = o }))
+    heard_onward =
+        subst (λ (z : Active). StepsSilently (given_view z i old) (ended_view (Heard b) (record { waiting = old.waiting; objects = o }))) (sym is)
+        (step_onward (frame.Outside (outside_given q i)) (Ends (Heard b)) old o here over works (ap speaks (heard-step q i old.objects.pool heard_short (no-reason (misfit (Some q) i) fits-here))))
+
+    pub heard_fit : Fits old.objects.works (reverse old.waiting.items) → Fits o.works (reverse old.waiting.items)
+    heard_fit fit = subst (λ (fs : List FreeFrame). Fits fs (reverse old.waiting.items)) (sym works) fit
+
+    pub heard_answers : Fits old.objects.works (reverse old.waiting.items) → Answers (Heard b) (reverse old.waiting.items) o
+    heard_answers fit = heard-answers (outside_given q i) b old.objects.works (reverse old.waiting.items) o fit here.sound.waiting here.seated
+
+    pub heard_places : HasRoom old → HasPlacesFor 1 (record { waiting = old.waiting; objects = o })
+    heard_places room =
+        let places = room.places in
+        let counts = ap (λ (z : Objects). count_unreceived z.pool.requests) pool ∙ ap count_unreceived (heard-requests i old.objects.pool) in
+        omega (arith, places, counts)

@@ -1,0 +1,184 @@
+-- What waited for a work goes on once it is over.
+use Rattle.std.proofs.Common.{◌≡◌, ℕ, ◌+◌, ◌≤◌, inl, List, [], ◌∷◌, ◌++◌, length, length-append, reverse, true, refl, sym, ◌∙◌, ap, subst, arith}
+use Rattle.std.specs.Prelude.{slice_get, vec_capacity}
+use Rattle.step_machine.specs.Machine.{Move as Do}
+use Rattle.tree_specs.specs.declared.frame.Frame.{Frame}
+use Rattle.tree_specs.specs.declared.frame.FreeFrame.{FreeFrame}
+use Rattle.tree_specs.specs.declared.frame.FreeFrame.TheVariants.{Hooked, Preparing}
+use Rattle.tree_specs.specs.declared.frame.Errand.{Errand}
+use Rattle.tree_specs.specs.declared.frame.Errand.TheVariants.{Receive}
+use Rattle.tree_specs.specs.declared.frame.RequestFrame.TheVariants as request
+use Rattle.tree_specs.specs.declared.object.Obj.{Obj}
+use Rattle.tree_specs.specs.declared.frame.TurnFrame.{TurnFrame}
+use Rattle.tree_specs.specs.declared.frame.TurnFrame.TheVariants.{Handling, Clearing, Serving}
+use Rattle.tree_specs.specs.declared.reply.Reply.{Reply}
+use Rattle.tree_specs.specs.declared.moment.What.TheVariants.{Cleanup, Cancel}
+use Rattle.tree_specs.specs.Machine.Table.{resume, turn_resume, request_resume}
+use Rattle.tree_specs.specs.Machine.View.{View}
+use Rattle.tree_specs.specs.Invariants.Consistent.{IsConsistent}
+use Rattle.destructors.specs.Engine.{IsAsked, IsReceiving}
+use Rattle.destructors.specs.Frees.{OpenFrees, returned, received, speaking, Silently, Still, Begins}
+use Rattle.destructors.specs.Works.{IsAtWork}
+use Rattle.object_pool.specs.Objects.{Objects, frees_in}
+use Rattle.object_pool.specs.Requests.{count_unreceived}
+use Rattle.host_core.specs.declared.active.Active.{Active}
+use Rattle.host_core.specs.declared.active.Active.TheVariants as active
+use Rattle.host_core.specs.declared.answer.Answer.{Answer}
+use Rattle.host_core.specs.declared.answer.Answer.TheVariants.{Freed, Returned, Heard}
+use Rattle.host_core.specs.declared.parts.Parts.{Parts}
+use Rattle.host_core.specs.declared.waiting.Waiting.{Waiting}
+use Rattle.host_core.specs.declared.waiting.Waiting.TheVariants.{Freeing, Turn, Work as WorkOf}
+use Rattle.host_core.specs.declared.work.Work.{Work}
+use Rattle.host_core.specs.declared.work.Work.TheVariants as work
+use Rattle.host_core.specs.Requests.{WorkReady, ErrandReady}
+use Rattle.host_core.specs.Stacks.{waiting_frame, work_frame, active_frame, answer_of, standing, Fits, FreesFit, other_view, freeing_view}
+use Rattle.host_core.specs.Steps.{IsOther, IsWaiter}
+use Rattle.host_core.specs.Hosts.{host_view, moved, places, errand_places, turn_places, work_places, FrameReady, PartsReady, TellsSameStory, IsBetweenSteps}
+use Rattle.host_core.specs.Going.{AnswersTo, Answers, resumed_works, answer_places, ended_view, HasPlacesFor}
+use Rattle.host_core.proofs.StepsSilently.{stays}
+use Rattle.host_core.proofs.FreeSteps.{silently-along}
+use Rattle.host_core.proofs.Going.{other-seen, other-fit, has-places, pushed, below-waiter, fits-silently}
+
+-- ---- the open frees
+
+pub returned_begins : (v : ℕ) (o new : Objects) → IsAsked (slice_get o.works 0) → new ≡ record o { works = returned v (frees_in o) } → speaking (frees_in new) ≡ true → Begins (resumed_works (Returned v) o.works) o.pool (frees_in new)
+returned_begins v o new a e s = record { moves_on = rw e (each o.works a); settles = s }
+  where
+    each : (fs : List FreeFrame) → IsAsked (slice_get fs 0) → Silently (record { works = resumed_works (Returned v) fs; pool = o.pool }) (record { works = returned v (record { works = fs; pool = o.pool }); pool = o.pool })
+    each [] a = absurd a
+    each (Hooked x h ∷ fs) a = Still
+    each (f ∷ fs) a = absurd a
+
+pub received_begins : (a : Answer) (o new : Objects) → IsReceiving (slice_get o.works 0) → Begins (received o.works) o.pool (frees_in new) → Begins (resumed_works a o.works) o.pool (frees_in new)
+received_begins a o new r b = subst (λ (z : List FreeFrame). Begins z o.pool (frees_in new)) (each o.works r) b
+  where
+    each : (fs : List FreeFrame) → IsReceiving (slice_get fs 0) → received fs ≡ resumed_works a fs
+    each [] r = absurd r
+    each (Preparing x ∷ fs) r = refl
+    each (f ∷ fs) r = absurd r
+
+-- ---- whoever waited
+
+one-fewer : (old new : List Waiting) (w : Waiting) → old ≡ new ++ w ∷ [] → length old ≡ length new + 1
+one-fewer old new w e = ap length e ∙ length-append new (w ∷ [])
+
+module _ (a : Answer) (w : Waiting) (next : Active) (old new : Parts) (waits : IsWaiter w) (other : IsOther next) (popped : old.waiting.items ≡ new.waiting.items ++ w ∷ [])
+    (same : new.objects ≡ old.objects) (resumed : active_frame next ≡ resume (waiting_frame w) (answer_of a)) (whole : IsConsistent (ended_view a old)) where
+  abbrev ws : List Waiting
+  ws = reverse new.waiting.items
+
+  turned : reverse old.waiting.items ≡ w ∷ ws
+  turned = pushed new.waiting.items old.waiting.items w popped
+
+  leads : ended_view a old ≡ host_view next new
+  leads =
+      ap (λ (l : List Waiting). (moved (Do.Done (answer_of a) old.objects.pool) (standing old.objects.works l)).1) turned
+      ∙ ap (λ (l : List Frame). (moved (Do.Done (answer_of a) old.objects.pool) l).1) (below-waiter old.objects.works w ws waits).0
+      ∙ ap (λ (g : Frame). other_view g old.objects.works ws old.objects.pool) (sym resumed)
+      ∙ ap (λ (o : Objects). other_view (active_frame next) o.works ws o.pool) (sym same)
+      ∙ sym (other-seen next new.objects.works ws new.objects.pool other)
+
+  pub end_along : TellsSameStory (ended_view a old) (host_view next new)
+  end_along = subst (TellsSameStory (ended_view a old)) leads (stays (ended_view a old) whole)
+
+  pub end_ready : Fits old.objects.works (reverse old.waiting.items) → PartsReady next new.objects → places next ≤ 1 + answer_places a → HasPlacesFor (answer_places a) old → vec_capacity new.waiting ≡ vec_capacity old.waiting → IsBetweenSteps next new
+  end_ready fit ready few room cap =
+      let fit' : Fits old.objects.works (w ∷ ws) = subst (Fits old.objects.works) turned fit in
+      let fits : Fits new.objects.works ws = subst (λ (o : Objects). Fits o.works ws) (sym same) ((below-waiter old.objects.works w ws waits).2 fit') in
+      let n = one-fewer old.waiting.items new.waiting.items w popped in
+      let counts : count_unreceived new.objects.pool.requests ≡ count_unreceived old.objects.pool.requests = ap (λ (o : Objects). count_unreceived o.pool.requests) same in
+      record {
+        whole = subst IsConsistent leads whole;
+        fit = other-fit next new.objects.works ws other fits;
+        ready = ready;
+        places = has-places next (length new.waiting.items) new.objects.pool.requests (vec_capacity new.waiting) (omega (arith, few, room, cap, n, counts));
+      }
+
+-- ---- the open frees, which waited
+
+module _ (a : Answer) (old new : Parts) (popped : old.waiting.items ≡ new.waiting.items ++ Freeing ∷ []) (begins : Begins (resumed_works a old.objects.works) old.objects.pool (frees_in new.objects))
+    (whole : IsConsistent (ended_view a old)) (fit : Fits old.objects.works (reverse old.waiting.items)) where
+  abbrev free_ws : List Waiting
+  free_ws = reverse new.waiting.items
+
+  free-turned : reverse old.waiting.items ≡ Freeing ∷ free_ws
+  free-turned = pushed new.waiting.items old.waiting.items Freeing popped
+
+  free-fits : Fits old.objects.works (Freeing ∷ free_ws)
+  free-fits = subst (Fits old.objects.works) free-turned fit
+
+  abbrev resumed_frees : OpenFrees
+  resumed_frees = record { works = resumed_works a old.objects.works; pool = old.objects.pool }
+
+  free-leads : ended_view a old ≡ freeing_view resumed_frees.works free_ws resumed_frees.pool
+  free-leads =
+      ap (λ (l : List Waiting). (moved (Do.Done (answer_of a) old.objects.pool) (standing old.objects.works l)).1) free-turned
+      ∙ each old.objects.works free-fits
+    where
+      each : (fs : List FreeFrame) → Fits fs (Freeing ∷ free_ws) → (moved (Do.Done (answer_of a) old.objects.pool) (standing fs (Freeing ∷ free_ws))).1 ≡ freeing_view (resumed_works a fs) free_ws old.objects.pool
+      each [] e = absurd e.0
+      each (f ∷ fs) e = refl
+
+  pub again_along : TellsSameStory (ended_view a old) (host_view active.Freeing new)
+  again_along =
+      subst (λ (z : View). TellsSameStory z (host_view active.Freeing new)) (sym free-leads)
+      (silently-along resumed_frees (frees_in new.objects) free_ws begins.moves_on (subst IsConsistent free-leads whole))
+
+  pub again_ready : IsAtWork (frees_in new.objects) → speaking (frees_in new.objects) ≡ true → new.objects.pool.requests ≡ old.objects.pool.requests → 2 ≤ 1 + answer_places a → HasPlacesFor (answer_places a) old → vec_capacity new.waiting ≡ vec_capacity old.waiting
+      → IsBetweenSteps active.Freeing new
+  again_ready at settled requests few room cap =
+      let n = one-fewer old.waiting.items new.waiting.items Freeing popped in
+      let counts = ap count_unreceived requests in
+      record {
+        whole = again_along.whole;
+        fit = fits-silently resumed_frees (frees_in new.objects) free_ws begins.moves_on (each old.objects.works free-fits);
+        ready = record { at_work = at; settled = settled };
+        places = omega (arith, few, room, cap, n, counts);
+      }
+    where
+      each : (fs : List FreeFrame) → Fits fs (Freeing ∷ free_ws) → FreesFit (resumed_works a fs) free_ws
+      each [] e = absurd e.0
+      each (f ∷ fs) e = e
+
+-- ---- what a turn or the work of a request may want then
+
+pub turn_ready : (a : Answer) (t : TurnFrame) (o : Objects) → AnswersTo a (Turn t) o → FrameReady (turn_resume t) o × (turn_places (turn_resume t) ≤ 1 + answer_places a)
+turn_ready (Freed r) (Clearing x) o e = (tt, omega arith)
+turn_ready (Returned v) (Handling what x handler occasion) o e = (e, omega arith)
+turn_ready (Heard r) (Serving x) o e = (tt, omega arith)
+turn_ready _ _ o e = absurd e
+
+errand-ready : (errand : Errand) (o : Objects) → o.ready ≡ true → ErrandReady errand o × (errand_places errand ≤ 3)
+errand-ready Receive o e = (inl e, omega arith)
+errand-ready _ o e = (e, omega arith)
+
+over-ready : (r : Work) (reply : Reply) (o : Objects) → work_frame r ≡ request.Over reply → WorkReady r o × (work_places r ≤ 1)
+over-ready (work.Over b) reply o e = (tt, omega arith)
+over-ready _ reply o e = cc
+
+cleaned-ready : (r : Work) (x : Obj) (errand : Errand) (o : Objects) → o.ready ≡ true → work_frame r ≡ request.Cleaned x errand → WorkReady r o × (work_places r ≤ 3)
+cleaned-ready (work.Cleaned y e) x errand o ready k = errand-ready e o ready
+cleaned-ready _ x errand o ready k = cc
+
+pub work_ready : (a : Answer) (w r : Work) (o : Objects) → AnswersTo a (WorkOf w) o → work_frame r ≡ request_resume (work_frame w) (answer_of a) → WorkReady r o × (work_places r ≤ 1 + answer_places a)
+work_ready (Freed b) (work.Releasing child) r o e k = let w = over-ready r _ o k in let few = w.1 in (w.0, omega (arith, few))
+work_ready (Returned v) (work.Called Cleanup x handler errand) r o e k = cleaned-ready r x errand o e k
+work_ready (Returned v) (work.Called Cancel x handler errand) r o e k = let w = over-ready r _ o k in let few = w.1 in (w.0, omega (arith, few))
+work_ready (Returned v) (work.Called _ x handler errand) r o e k = let w = over-ready r _ o k in let few = w.1 in (w.0, omega (arith, few))
+work_ready _ _ r o e k = absurd e
+
+pub again_places : (a : Answer) (o : Objects) → AnswersTo a Freeing o → 2 ≤ 1 + answer_places a
+again_places (Returned v) o e = omega arith
+again_places (Heard r) o e = omega arith
+again_places _ o e = absurd e
+
+-- ---- the innermost of the works that wait
+
+pub popped_one : (old new : List Waiting) (x w : Waiting) → old ≡ new ++ x ∷ [] → x ≡ w → old ≡ new ++ w ∷ []
+popped_one old new x w e is = e ∙ ap (λ (z : Waiting). new ++ z ∷ []) is
+
+pub answers_popped : (a : Answer) (w : Waiting) (old new : List Waiting) (o : Objects) → Answers a (reverse old) o → old ≡ new ++ w ∷ [] → AnswersTo a w o
+answers_popped a w old new o r e =
+    let same : r.first ∷ r.others ≡ w ∷ reverse new = sym r.are ∙ pushed new old w e in
+    let first : r.first ≡ w = cc in
+    subst (λ (z : Waiting). AnswersTo a z o) first r.answers

@@ -1,0 +1,10 @@
+use Rattle.std.proofs.Common.{sym, ◌∙◌}
+use Rattle.tree_specs.specs.declared.call.Call.TheVariants.{Free as FreeOf}
+use Rattle.tree_specs.specs.Calls.Plans.{plan}
+use Rattle.tree_specs.specs.Calls.Refusals.{refusals}
+use Rattle.host_core.proofs.Allowed.{refused_release}
+use Rattle.host_core.proofs.calls.release.Goals as goal
+
+-- src/calls.rt:135:1
+pub returns : goal.returns
+returns c = refused_release (refusals c.args.pool.now.pool (FreeOf c.args.child)) (plan c.args.pool.now.pool (FreeOf c.args.child)) c.in-Err.field-0 (sym c.check.ensures ∙ c.in-Err.is)

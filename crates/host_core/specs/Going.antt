@@ -1,0 +1,161 @@
+-- What a step leads to in a host, and what it may want.
+use Rattle.std.specs.Prelude.{◌≡◌, ℕ, ◌+◌, ◌*◌, ◌≤◌, true, List, [], ◌∷◌, ◌++◌, length, slice_get, vec_capacity}
+use Rattle.step_machine.specs.Machine.{Move as Do}
+use Rattle.tree_specs.specs.declared.frame.TurnFrame.TheVariants.{Handling, Clearing, Serving}
+use Rattle.tree_specs.specs.declared.frame.CallFrame.TheVariants.{Telling}
+use Rattle.tree_specs.specs.declared.frame.Frame.TheVariants as frame
+use Rattle.tree_specs.specs.declared.frame.FreeFrame.{FreeFrame}
+use Rattle.tree_specs.specs.Machine.Table.{freeing_resume}
+use Rattle.tree_specs.specs.declared.question.Ask.{Ask}
+use Rattle.tree_specs.specs.declared.question.Input.{Input}
+use Rattle.tree_specs.specs.declared.question.Input.TheVariants.{Got}
+use Rattle.tree_specs.specs.declared.reply.Reply.TheVariants as reply
+use Rattle.tree_specs.specs.Machine.View.{View}
+use Rattle.destructors.specs.Engine.{IsAsked, IsReceiving}
+use Rattle.destructors.specs.Works.{IsAwaiting}
+use Rattle.object_pool.specs.Objects.{Objects, frees_in, MayBeginFree}
+use Rattle.object_pool.specs.Requests.{count_unreceived}
+use Rattle.host_core.specs.declared.active.Active.{Active}
+use Rattle.host_core.specs.declared.answer.Answer.{Answer}
+use Rattle.host_core.specs.declared.answer.Answer.TheVariants.{Freed, Returned, Turned, Heard}
+use Rattle.host_core.specs.declared.parts.Parts.{Parts}
+use Rattle.host_core.specs.declared.step.Step.{Step}
+use Rattle.host_core.specs.declared.step.Step.TheVariants.{Goes, Calls, Frees, Unlinks, Empties, Ends}
+use Rattle.host_core.specs.declared.waiting.Waiting.{Waiting}
+use Rattle.host_core.specs.declared.waiting.Waiting.TheVariants.{Freeing, Awaiting, Turning, Requesting, Turn, Work as WorkOf}
+use Rattle.host_core.specs.declared.work.Work.{Work}
+use Rattle.host_core.specs.declared.work.Work.TheVariants.{Called, Releasing, Over}
+use Rattle.host_core.specs.Callers.{remembers}
+use Rattle.host_core.specs.Reaches.{remembered}
+use Rattle.host_core.specs.Hosts.{below_in, moved, places, PartsReady}
+use Rattle.host_core.specs.Stacks.{active_frame, answer_of}
+use Rattle.host_core.specs.Steps.{step_of, IsBusy}
+use Rattle.host_core.specs.Turns.{turn_asks}
+use Rattle.host_core.specs.declared.active.Active.TheVariants as active
+use Rattle.tree_specs.specs.declared.frame.Errand.{Errand}
+use Rattle.tree_specs.specs.declared.frame.Errand.TheVariants.{Receive}
+use Rattle.tree_specs.specs.declared.frame.TurnFrame.{TurnFrame}
+
+-- the works after a step
+abbrev pub stepped_view : Step → Parts → View
+stepped_view step parts = (moved (step_of step parts.objects.pool) (below_in parts)).1
+
+-- ---- what is over
+
+-- what is over answers to what waits for it
+abbrev pub AnswersTo : Answer → Waiting → Objects → Type 0
+AnswersTo (Freed a) (Awaiting q x) o = Unit {0}
+AnswersTo (Freed a) (Turn (Clearing x)) o = Unit {0}
+AnswersTo (Freed a) (WorkOf (Releasing child)) o = Unit {0}
+AnswersTo (Returned v) Freeing o = IsAsked (slice_get o.works 0) × IsAwaiting (frees_in o)
+AnswersTo (Returned v) (Turn (Handling what x handler occasion)) o = o.ready ≡ true
+AnswersTo (Returned v) (WorkOf (Called what x handler errand)) o = o.ready ≡ true
+AnswersTo (Turned v) (Turning q) o = Unit {0}
+AnswersTo (Heard r) (Turning q) o = Unit {0}
+AnswersTo (Heard r) (Requesting q) o = Unit {0}
+AnswersTo (Heard r) (Turn (Serving x)) o = Unit {0}
+AnswersTo (Heard r) Freeing o = IsReceiving (slice_get o.works 0) × IsAwaiting (frees_in o)
+AnswersTo a w o = ⊥
+
+-- the open frees go on with what the innermost of them has waited for
+abbrev pub resumed_works : Answer → List FreeFrame → List FreeFrame
+resumed_works a [] = []
+resumed_works a (f ∷ fs) = freeing_resume f (answer_of a) ∷ fs
+
+-- the places that what waits for it may take
+abbrev pub answer_places : Answer → ℕ
+answer_places (Freed a) = 2
+answer_places (Returned v) = 2
+answer_places (Turned v) = 0
+answer_places (Heard r) = 1
+
+-- the innermost of the works that wait
+pub record Answers (a : Answer) (ws : List Waiting) (o : Objects) : Type 0 where
+  pub first : Waiting
+  pub others : List Waiting
+  pub are : ws ≡ first ∷ others
+  pub answers : AnswersTo a first o
+
+abbrev pub ended_view : Answer → Parts → View
+ended_view a parts = (moved (Do.Done (answer_of a) parts.objects.pool) (below_in parts)).1
+
+-- ---- what a step may want
+
+abbrev pub StepReady : Step → Objects → Type 0
+StepReady (Goes next) o = PartsReady next o
+StepReady (Calls first second) o = PartsReady first o
+StepReady (Frees x second) o = MayBeginFree o
+StepReady (Unlinks owner x second) o = MayBeginFree o
+StepReady (Empties x second) o = o.ready ≡ true
+StepReady (Ends a) o = Unit {0}
+
+abbrev pub step_places : Step → ℕ
+step_places (Goes next) = places next
+step_places (Calls first second) = 1 + places first
+step_places (Frees x second) = 3
+step_places (Unlinks owner x second) = 3
+step_places (Empties x second) = 3
+step_places (Ends a) = answer_places a
+
+-- whoever waits for a work that is over
+abbrev pub StepAnswers : Step → List Waiting → Objects → Type 0
+StepAnswers (Ends a) ws o = Answers a ws o
+StepAnswers step ws o = Unit {0}
+
+-- a turn ends with its reply alone, and the work of a request once it is over
+abbrev pub IsTurnStep : Step → Type 0
+IsTurnStep (Ends (Turned v)) = Unit {0}
+IsTurnStep (Ends a) = ⊥
+IsTurnStep step = Unit {0}
+
+-- something is still to do
+abbrev pub IsOngoing : Step → Type 0
+IsOngoing (Ends a) = ⊥
+IsOngoing step = Unit {0}
+
+abbrev pub IsOver : Work → Type 0
+IsOver (Over reply) = Unit {0}
+IsOver w = ⊥
+
+abbrev pub IsWorkStep : Work → Step → Type 0
+IsWorkStep w (Ends (Heard r)) = IsOver w
+IsWorkStep w step = IsOngoing step
+
+-- there are places for what is at work or comes to be, besides those of requests that are still to be received
+abbrev pub HasPlacesFor : ℕ → Parts → Type 0
+HasPlacesFor n parts = length parts.waiting.items + n + 2 * count_unreceived parts.objects.pool.requests ≤ vec_capacity parts.waiting
+
+-- a turn goes on with this
+abbrev pub goes_as : TurnFrame → Step
+goes_as frame = Goes (active.Turning (record { frame = frame; question = turn_asks frame }))
+
+-- the work of a request goes on with this
+abbrev pub works_as : Work → Step
+works_as w = Goes (active.Requesting w)
+
+-- what a step leads to has what it may want, and takes so many places at most
+pub record GoesWell (most : ℕ) (step : Step) (o : Objects) : Type 0 where
+  pub busy : IsBusy step
+  pub ready : StepReady step o
+  pub places : step_places step ≤ most
+
+-- an errand in which nothing is received
+abbrev pub IsPlainErrand : Errand → Type 0
+IsPlainErrand Receive = ⊥
+IsPlainErrand errand = Unit {0}
+
+-- ---- what the outside has answered
+
+-- the innermost of the works that wait is a call that asks the outside
+pub record CallsOutside (waiting : List Waiting) : Type 0 where
+  pub question : Ask
+  pub others : List Waiting
+  pub are : waiting ≡ others ++ Turning question ∷ []
+
+-- its caller, which was asked this, is told the bytes that were read, and a routine remembers them
+pub record Reads (q : Ask) (i : Input) (now : Active) (old new : Parts) : Type 0 where
+  pub bytes : List ℕ
+  pub were : i ≡ Got bytes
+  pub tells : active_frame now ≡ frame.Call (Telling (remembers q (remembered q (reply.Bytes bytes))) (reply.Bytes bytes))
+  pub waited : old.waiting.items ≡ new.waiting.items ++ Turning q ∷ []
+  pub same : new.objects ≡ old.objects

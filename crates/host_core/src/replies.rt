@@ -1,0 +1,79 @@
+//! Replies that own memory: reports, and bytes that were read.
+ghost use Rattle.std.specs.Prelude.{◌≡◌, ◌++◌, ◌∷◌, [], true, Some, IsSome, OnOk, OnErr, List};
+ghost use Rattle.tree_specs.specs.declared.frame.Frame.TheVariants as frames;
+ghost use Rattle.tree_specs.specs.declared.frame.CallFrame.TheVariants.{Telling};
+ghost use Rattle.tree_specs.specs.declared.question.Ask.{Ask as AskData};
+ghost use Rattle.host_core.specs.declared.waiting.Waiting.{Waiting as WaitingData};
+ghost use Rattle.host_core.specs.Callers.{remembers};
+ghost use Rattle.host_core.specs.Stacks.{active_frame};
+ghost use Rattle.host_core.specs.Hosts.{caller_asked};
+ghost use Rattle.host_core.specs.Reaches.{is_bytes};
+ghost use Rattle.host_core.specs.Going.{CallsOutside, Reads};
+
+use crate::active::Active;
+use crate::caller::{Caller, Stage};
+use crate::owned_reply::OwnedReply;
+use crate::parts::Parts;
+use crate::reach::{bytes_in, made_bytes};
+use crate::waiting::Waiting;
+use std::mem;
+use tree_specs::{Ask, Input, Memory};
+
+/// A caller that was asked this is told a reply that owns memory, of which a routine remembers the copy.
+fn told(ask: Ask, reply: OwnedReply) -> Active
+    ensures { active_frame result ≡ frames.Call (Telling (remembers ask reply.copy) reply.reply) }
+{
+    let mut caller = Caller {
+        ask,
+        stage: Stage::Asking,
+    };
+    caller.reply_whole(reply.reply, reply.copy);
+    Active::Caller(caller)
+}
+
+/// A report comes next to the caller that was asked.
+pub fn report_on(now: &mut Active, report: OwnedReply)
+    requires { IsSome (caller_asked now.old) }
+    ensures { (q : AskData) → caller_asked now.old ≡ Some q → active_frame now.new ≡ frames.Call (Telling (remembers q report.copy) report.reply) }
+{
+    match mem::replace(now, Active::Freeing) {
+        Active::Caller(Caller { ask, .. }) => *now = told(ask, report),
+        _ => unreachable!(),
+    }
+}
+
+/// The question of the caller whose call waits for the outside.
+fn asker(waiting: &Vec<Waiting>) -> &Ask
+    requires { CallsOutside waiting.now.items }
+    ensures { (q : AskData) (others : List WaitingData) → waiting.now.items ≡ others ++ Waiting.Turning q ∷ [] → result.now ≡ q }
+{
+    match waiting.last() {
+        Some(Waiting::Turning { ask }) => ask,
+        _ => unreachable!(),
+    }
+}
+
+/// The caller whose call waits for the outside waits no more. Gives its question.
+fn take_asker(waiting: &mut Vec<Waiting>) -> Ask
+    requires { CallsOutside waiting.old.items }
+    ensures { waiting.old.items ≡ waiting.new.items ++ Waiting.Turning result ∷ [] }
+{
+    match waiting.pop() {
+        Some(Waiting::Turning { ask }) => ask,
+        _ => unreachable!(),
+    }
+}
+
+/// It was asked for bytes, and these were read: they come next to the caller whose call it was. When memory runs out, nothing
+/// has changed.
+pub fn read_on(now: &mut Active, input: Input, parts: &mut Parts) -> Result<(), Memory>
+    requires bytes { is_bytes input ≡ true }
+    requires called { CallsOutside parts.old.waiting.items }
+    ensures ok { OnOk result ((q : AskData) × Reads q input now.new parts.old parts.new) }
+    ensures err { OnErr result ((now.new ≡ now.old) × (parts.new ≡ parts.old)) }
+{
+    let alloc = *parts.waiting.allocator();
+    let reply = made_bytes(alloc, asker(&parts.waiting), bytes_in(input))?;
+    *now = told(take_asker(&mut parts.waiting), reply);
+    Ok(())
+}

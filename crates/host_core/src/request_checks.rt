@@ -1,0 +1,93 @@
+//! What a call on a request is refused for.
+ghost use Rattle.std.specs.Prelude.{◌≡◌, Err};
+ghost use Rattle.tree_specs.specs.declared.reply.Refusal.TheVariants.{BadState};
+ghost use Rattle.tree_specs.specs.Events.Requests.{state_number};
+ghost use Rattle.tree_specs.specs.Calls.Refusals.{checked, request, referable, number, in_progress, finished, failing};
+
+use crate::subject::Subject;
+use object_pool::ObjectPool;
+use tree_specs::{Kind, Obj, Refusal, Row, State};
+
+/// Only a request has a state.
+#[inline]
+pub fn check_request(x: Obj, objects: &Subject) -> Result<(), Refusal>
+    ensures { result ≡ checked (request objects.now x) }
+{
+    match objects.row(x) {
+        Some(
+            Row {
+                kind: Kind::Request,
+                ..
+            },
+        ) => Ok(()),
+        _ => Err(Refusal::WrongKind(x)),
+    }
+}
+
+/// There are references to plain objects and requests alone.
+#[inline]
+pub fn check_referable(x: Obj, objects: &Subject) -> Result<(), Refusal>
+    ensures { result ≡ checked (referable objects.now x) }
+{
+    match objects.row(x) {
+        Some(
+            Row {
+                kind: Kind::Plain | Kind::Request,
+                ..
+            },
+        ) => Ok(()),
+        _ => Err(Refusal::WrongKind(x)),
+    }
+}
+
+/// There is a number that no object gets.
+pub fn check_number(pool: &ObjectPool) -> Result<(), Refusal>
+    ensures { result ≡ checked (number pool.now.pool) }
+{
+    if pool.next_number() > u64::MAX - 1 {
+        return Err(Refusal::Spent);
+    }
+    Ok(())
+}
+
+/// A request's state is none of those that a call is for.
+fn refused(x: Obj, state: State) -> Result<(), Refusal>
+    ensures { result ≡ Err (BadState x (state_number state)) }
+{
+    Err(Refusal::BadState {
+        object: x,
+        state: state.number(),
+    })
+}
+
+/// A request is in progress.
+pub fn check_in_progress(x: Obj, pool: &ObjectPool) -> Result<(), Refusal>
+    ensures { result ≡ checked (in_progress pool.now.pool x) }
+{
+    match pool.note(x) {
+        Some(note) if note.state != State::InProgress => refused(x, note.state),
+        _ => Ok(()),
+    }
+}
+
+/// A request is over, and wasn't received.
+pub fn check_finished(x: Obj, pool: &ObjectPool) -> Result<(), Refusal>
+    ensures { result ≡ checked (finished pool.now.pool x) }
+{
+    match pool.note(x) {
+        Some(note) if matches!(note.state, State::InProgress | State::Received) => {
+            refused(x, note.state)
+        }
+        _ => Ok(()),
+    }
+}
+
+/// A request that is to fail with this number is in progress; with 0 it doesn't fail.
+pub fn check_failing(x: Obj, error: u64, pool: &ObjectPool) -> Result<(), Refusal>
+    ensures { result ≡ checked (failing pool.now.pool x error) }
+{
+    if error == 0 {
+        return Ok(());
+    }
+    check_in_progress(x, pool)
+}

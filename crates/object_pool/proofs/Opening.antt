@@ -1,0 +1,49 @@
+-- What a free that begins, or goes on, needs of the objects, by the parts of a pool.
+use Rattle.std.proofs.Common.{◌≡◌, Option, Some, None, true, slice_get, inl, inr, refl, sym, subst, arith}
+use Rattle.tree_specs.specs.declared.frame.FreeFrame.{FreeFrame}
+use Rattle.tree_specs.specs.declared.frame.FreeFrame.TheVariants.{Preparing}
+use Rattle.tree_links.specs.Links.{Links, pool_of}
+use Rattle.destructors.specs.Engine.{IsReceiving, AreKept, HasRoom, HasRoomFor}
+use Rattle.destructors.specs.Frees.{before, frees_of}
+use Rattle.destructors.specs.Room.{work_places}
+use Rattle.destructors.specs.Works.{IsAwaiting, IsAtWork}
+use Rattle.destructors.proofs.Begins.{any-room-for, room-within}
+use Rattle.object_pool.specs.Agreeing.{AgreeWith}
+use Rattle.object_pool.specs.Objects.{Objects, MayBeginFree, frees_in, objects_of}
+use Rattle.object_pool.specs.Upcoming.{nothing_comes}
+use Rattle.object_pool.specs.declared.pool.ObjectPool.TheInside.{Inside}
+use Rattle.object_pool.proofs.Beside.{awaits-same, works-same}
+
+-- the objects, by the parts
+abbrev pub seen : Inside → Objects
+seen b = objects_of b.engine b.tree b.events.upcoming b.ready
+
+pub awaits-inside : (b : Inside) (o : Objects) → seen b ≡ o → IsAwaiting (frees_in o) → IsAwaiting (frees_of b.engine b.tree)
+awaits-inside b o e a = awaits-same (pool_of b.tree) b.events.upcoming nothing_comes (before b.engine b.tree.frees) (subst (λ (z : Objects). IsAwaiting (frees_in z)) (sym e) a)
+
+pub at_work-inside : (b : Inside) (o : Objects) → seen b ≡ o → IsAtWork (frees_in o) → IsAtWork (frees_of b.engine b.tree)
+at_work-inside b o e a = works-same (pool_of b.tree) b.events.upcoming nothing_comes (before b.engine b.tree.frees) (subst (λ (z : Objects). IsAtWork (frees_in z)) (sym e) a)
+
+-- the innermost of the open frees is the engine's
+pub innermost-is : (o : Option FreeFrame) (t : Links) → AreKept o t → slice_get (before o t.frees) 0 ≡ o
+innermost-is None t kept = rw kept refl
+innermost-is (Some f) t kept = refl
+
+-- what is known of it is known of the engine's work
+pub innermost-has : (P : Option FreeFrame → Type 0) (b : Inside) (o : Objects) → seen b ≡ o → AgreeWith b → P (slice_get o.works 0) → P b.engine
+innermost-has P b o e a h = subst P (innermost-is b.engine b.tree a.kept) (subst (λ (z : Objects). P (slice_get z.works 0)) (sym e) h)
+
+receiving-room : (f : FreeFrame) (o : Option FreeFrame) (t : Links) → work_places f ≡ 0 → HasRoom o t → IsReceiving o → HasRoomFor f o t
+receiving-room f None t none room r = absurd r
+receiving-room f (Some (Preparing x)) t none room r = room-within f (Preparing x) t none refl room
+receiving-room f (Some _) t none room r = absurd r
+
+-- there is room for the works of a free where it may begin
+pub room-ready : (f : FreeFrame) (b : Inside) → b.ready ≡ true → AgreeWith b → HasRoomFor f b.engine b.tree
+room-ready f b ready a = let c = (a.call ready).works in any-room-for f b.engine b.tree (omega (arith, c))
+
+pub room-begins : (f : FreeFrame) (b : Inside) (o : Objects) → seen b ≡ o → work_places f ≡ 0 → MayBeginFree o → AgreeWith b → HasRoomFor f b.engine b.tree
+room-begins f b o e none may a = elim (subst MayBeginFree (sym e) may) [
+  | inl ready ↦ room-ready f b ready a
+  | inr receiving ↦ receiving-room f b.engine b.tree none a.room (subst IsReceiving (innermost-is b.engine b.tree a.kept) receiving)
+]

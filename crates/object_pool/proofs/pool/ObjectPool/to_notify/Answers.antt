@@ -1,0 +1,7 @@
+use Rattle.object_pool.proofs.Requesting.{posted-agree}
+use Rattle.object_pool.proofs.pool.ObjectPool.to_notify.Goals as goal
+
+pub invariant_of-self : goal.invariant_of-self
+invariant_of-self c =
+    let notify = c.to_notify-notify in
+    posted-agree c.self.inside notify.new.self notify.result c.args.x notify.ensures.upcoming notify.ensures.kept c.self.invariant

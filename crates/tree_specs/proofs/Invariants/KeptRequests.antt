@@ -1,0 +1,105 @@
+-- What each step of a request's work, and of a free that waits for it, keeps of what holds at every moment.
+use Rattle.std.proofs.Common.{◌≡◌, ℕ, List, [], ◌∷◌, Option, Some, None, false, refl, ◌∙◌, inl}
+use Rattle.tree_specs.specs.declared.object.Obj.{Obj}
+use Rattle.tree_specs.specs.declared.row.Row.{Row}
+use Rattle.tree_specs.specs.declared.row.Mark.TheVariants.{Quiet}
+use Rattle.tree_specs.specs.declared.call.Call.TheVariants as call
+use Rattle.tree_specs.specs.declared.handler.Handler.{Handler}
+use Rattle.tree_specs.specs.declared.question.Ask.TheVariants.{Routine}
+use Rattle.tree_specs.specs.declared.request.Note.{Note}
+use Rattle.tree_specs.specs.declared.frame.Errand.{Errand}
+use Rattle.tree_specs.specs.declared.frame.Errand.TheVariants.{Finish, Receive}
+use Rattle.tree_specs.specs.declared.frame.Frame.{Frame}
+use Rattle.tree_specs.specs.declared.frame.Frame.TheVariants as frame
+use Rattle.tree_specs.specs.declared.frame.CallFrame.TheVariants.{Asking}
+use Rattle.tree_specs.specs.declared.frame.FreeFrame.TheVariants.{Preparing, Prepared, Leaving, Beginning, Unlinking}
+use Rattle.tree_specs.specs.declared.frame.RequestFrame.{RequestFrame}
+use Rattle.tree_specs.specs.declared.frame.RequestFrame.TheVariants as request
+use Rattle.tree_specs.specs.declared.frame.Answer.TheVariants.{Heard}
+use Rattle.tree_specs.specs.Words.Objects.{same}
+use Rattle.tree_specs.specs.Tree.Targets.{target_of, newest_ref}
+use Rattle.tree_specs.specs.Tree.Pool.{Pool, row_of, target_in, target_at, set_mark, marked_row, finish, receive}
+use Rattle.tree_specs.specs.Events.Requests.{note_of, is_unreceived, cleanup_in, cancel_in}
+use Rattle.tree_specs.specs.Events.Coming.{handler_moment, plainly}
+use Rattle.tree_specs.specs.Rules.Errands.{reply_to}
+use Rattle.tree_specs.specs.Calls.Plans.{Plan, planned}
+use Rattle.tree_specs.specs.Calls.Plans.Plan.{Frees, Unlinks}
+use Rattle.tree_specs.specs.Machine.Profiles.{InRun}
+use Rattle.tree_specs.specs.Machine.Table.{step, cancelling_step, cleaning_step, release_object, cleaned_step, callback_step, notifying_step, request_step}
+use Rattle.tree_specs.specs.Invariants.Sound.{phases, claims, footing, IsLive, IsRequested, RequestRests, Sound}
+use Rattle.tree_specs.proofs.Tree.Numbered.{by_test, same-false}
+use Rattle.tree_specs.proofs.Tree.Rows.{row_of-changed-same}
+use Rattle.tree_specs.proofs.Tree.Referring.{newest-changed}
+use Rattle.tree_specs.proofs.Calls.Plans.{May, may-planned}
+use Rattle.tree_specs.proofs.Invariants.Changes.{run-refers, run-unreferred, running-row, claim-here, stands, waiting-sound, changed-sound, shape-of, live-owned, marks-place}
+use Rattle.tree_specs.proofs.Invariants.KeptFrees.{KeptBy, ended}
+
+-- ---- a free that waits for a request
+
+pub preparing : (x : Obj) (fs : List Frame) (p : Pool) (k : ℕ) → Sound (frame.Free (Preparing x)) fs p → KeptBy (step (frame.Free (Preparing x)) p) fs k
+preparing x fs p k s =
+    stands (frame.Free (Preparing x)) (frame.Request (request.Receiving x)) fs (frame.Free (Preparing x) ∷ fs) p (λ y. refl) (tt, s.waiting) (tt, s.rests) s
+
+pub prepared : (x : Obj) (fs : List Frame) (p : Pool) (k : ℕ) → Sound (frame.Free (Prepared x)) fs p → KeptBy (step (frame.Free (Prepared x)) p) fs k
+prepared x fs p k s =
+    let phase = claim-here x InRun (claims x fs) (row_of p.rows x) (s.open_frees x) in
+    let row = running-row (row_of p.rows x) (claims x fs) phase in
+    by-row row.0 row.1 row.2 row.3 phase
+  where
+    by-row : (r : Row) → row_of p.rows x ≡ Some r → IsLive r.mark → claims x fs ≡ [] → InRun ∷ claims x fs ≡ phases (row_of p.rows x) → Sound (frame.Free (Leaving x 0)) fs (set_mark p x Quiet)
+    by-row r e live none phase =
+        let object : target_of r.kind ≡ None = (let t : target_at p.rows x ≡ None = run-refers p.rows x (claims x fs) s.refers phase in let t' : target_in (Some r) ≡ None = rw e at t in t') in
+        let unreferred : newest_ref p.rows x ≡ None = run-unreferred p.rows x (claims x fs) s.forest.distinct s.refers phase in
+        changed-sound (marked_row Quiet) (frame.Free (Prepared x)) (frame.Free (Leaving x 0)) fs fs p x r s (marks-place Quiet) e
+        (live-owned r.mark r.owner x live (shape-of p x r s.valid e)) object (inl (λ q. refl)) (λ y ne. let u : same x y ≡ false = same-false x y ne in rw u refl) none s.waiting
+        (marked_row Quiet r, row_of-changed-same (marked_row Quiet) p.rows x r (λ q. refl) e, tt, none, object, newest-changed (marked_row Quiet) p.rows x x (λ q. refl) (λ q. refl) ∙ unreferred)
+
+-- ---- the work of a request
+
+-- another step of it, over the same rows
+goes : (f g : RequestFrame) (fs : List Frame) (p q : Pool) → q.rows ≡ p.rows → q.next ≡ p.next → Sound (frame.Request f) fs p → RequestRests g (footing fs) q → Sound (frame.Request g) fs q
+goes f g fs p q rows next s rests = waiting-sound (frame.Request f) (frame.Request g) fs p q s rows next (λ y. refl) rests
+
+-- the object of a request is freed as by a call
+releasing : (x : Obj) (fs : List Frame) (p : Pool) (k : ℕ) → IsRequested (footing fs) → Sound (frame.Request (request.Cleaned x Receive)) fs p → (plan : Plan) → May p plan → KeptBy (release_object plan Receive p) fs k
+releasing x fs p k on s (Frees c) may =
+    stands (frame.Request (request.Cleaned x Receive)) (frame.Free (Beginning c)) fs (frame.Request (request.Releasing c) ∷ fs) p (λ y. refl) (on, s.waiting) may s
+releasing x fs p k on s (Unlinks o c) may =
+    stands (frame.Request (request.Cleaned x Receive)) (frame.Free (Unlinking o c)) fs (frame.Request (request.Releasing c) ∷ fs) p (λ y. refl) (on, s.waiting) (tt, may.0, may.1, may.2, may.3) s
+releasing x fs p k on s _ may = goes (request.Cleaned x Receive) _ fs p p refl refl s on
+
+cleaned-kept : (x : Obj) (errand : Errand) (fs : List Frame) (p : Pool) (k : ℕ) → Sound (frame.Request (request.Cleaned x errand)) fs p → (o : Option Note) → KeptBy (cleaned_step x errand o p) fs k
+cleaned-kept x errand fs p k s None = goes (request.Cleaned x errand) _ fs p p refl refl s s.rests
+cleaned-kept x Receive fs p k s (Some n) = releasing x fs p k s.rests s (planned p (call.Free n.child)) (may-planned (frame.Request (request.Cleaned x Receive)) fs p s (call.Free n.child))
+cleaned-kept x errand fs p k s (Some n) = goes (request.Cleaned x errand) (request.Notifying x errand) fs p p refl refl s s.rests
+
+notifying-kept : (x : Obj) (errand : Errand) (fs : List Frame) (p : Pool) (k : ℕ) → Sound (frame.Request (request.Notifying x errand)) fs p → (o : Option Note) → KeptBy (notifying_step x errand o p) fs k
+notifying-kept x errand fs p k s None = goes (request.Notifying x errand) _ fs p p refl refl s s.rests
+notifying-kept x errand fs p k s (Some n) = by_test n.deferred (λ t. rw t (goes (request.Notifying x errand) _ fs p _ refl refl s s.rests)) (λ t. rw t (back n.callback))
+  where
+    back : (o : Option Handler) → KeptBy (callback_step x errand o p) fs k
+    back None = goes (request.Notifying x errand) _ fs p p refl refl s s.rests
+    back (Some handler) = goes (request.Notifying x errand) _ fs p p refl refl s s.rests
+
+pub request-kept : (f : RequestFrame) (fs : List Frame) (p : Pool) (k : ℕ) → Sound (frame.Request f) fs p → KeptBy (request_step f p) fs k
+request-kept (request.Finishing x state) fs p k s = goes (request.Finishing x state) (request.Cleaning x (Finish state)) fs p (finish p x state) refl refl s s.rests
+request-kept (request.Receiving x) fs p k s = by_test (is_unreceived (note_of p.requests x))
+    (λ t. rw t (goes (request.Receiving x) (request.Cleaning x Receive) fs p (receive p x) refl refl s s.rests.0))
+    (λ t. rw t (goes (request.Receiving x) (request.Over (reply_to Receive)) fs p p refl refl s s.rests.0))
+request-kept (request.Cancelling x) fs p k s = each (cancel_in (note_of p.requests x))
+  where
+    each : (o : Option Handler) → KeptBy (cancelling_step x o p) fs k
+    each None = goes (request.Cancelling x) _ fs p p refl refl s s.rests
+    each (Some handler) = goes (request.Cancelling x) _ fs p p refl refl s s.rests
+request-kept (request.Cleaning x errand) fs p k s = each (cleanup_in (note_of p.requests x))
+  where
+    each : (o : Option Handler) → KeptBy (cleaning_step x errand o p) fs k
+    each None = goes (request.Cleaning x errand) _ fs p p refl refl s s.rests
+    each (Some handler) = goes (request.Cleaning x errand) _ fs p _ refl refl s s.rests
+request-kept (request.Cleaned x errand) fs p k s = cleaned-kept x errand fs p k s (note_of p.requests x)
+request-kept (request.Notifying x errand) fs p k s = notifying-kept x errand fs p k s (note_of p.requests x)
+request-kept (request.Calling what x handler errand) fs p k s = goes (request.Calling what x handler errand) (request.Called what x handler errand) fs p p refl refl s s.rests
+request-kept (request.Called what x handler errand) fs p k s =
+    stands (frame.Request (request.Called what x handler errand)) (frame.Call (Asking (Routine (handler_moment what x handler plainly)))) fs (frame.Request (request.Called what x handler errand) ∷ fs) p (λ y. refl) (s.rests, s.waiting) tt s
+request-kept (request.Releasing c) fs p k s = absurd s.rests
+request-kept (request.Over r) fs p k s = ended (Heard r) (frame.Request (request.Over r)) fs p k s (λ x. refl) (λ x c n b gs e. tt)
