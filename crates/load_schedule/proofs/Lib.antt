@@ -1,4 +1,4 @@
-pub mod Unhooked
+pub mod Bare
 pub mod Silent
 pub mod Taken
 pub mod TallyLaws

@@ -37,7 +37,7 @@ use Rattle.tree_specs.specs.Calls.Plans.Plan.{Does, Frees, Unlinks}
 use Rattle.tree_specs.specs.Texts.Schedule.{open_question}
 use Rattle.tree_specs.proofs.Tree.Numbered.{by_test}
 use Rattle.tree_specs.proofs.Rules.StoryLaws.{story-enough}
-use Rattle.load_schedule.proofs.Unhooked.{IsBare, IsCalm, is_calm, unhooked-row, bare-removed, bare-placed, bare-let_go, calm-planned}
+use Rattle.load_schedule.proofs.Bare.{IsBare, IsCalm, is_calm, bare-row, bare-removed, bare-placed, bare-let_go, calm-planned}
 
 -- nothing was asked, and no object has a destructor or is a request then
 abbrev Stays : {A : Type 0} → List Input → Outcome A Pool Input Scene → Type 0
@@ -88,7 +88,7 @@ frees-more : (n : ℕ) → SilentAt n → (x : Obj) → IsSilent (free (suc n) x
 frees-more n ih x p is h = newest (newest_ref p.rows x) refl
   where
     marks : newest_ref p.rows x ≡ None → (r : Row) (m : Mark) → r.mark ≡ m → row_of p.rows x ≡ Some r → Stays is (free (suc n) x p is)
-    marks z r mark.Quiet m k = let e : r.hook ≡ 0 = unhooked-row p.rows x r k h.0 in rw (z, k, m, h.1, e) (ih.leaves x p is h)
+    marks z r mark.Quiet m k = let e = bare-row p.rows x r k h in rw (z, k, m, e.0, e.1) (ih.leaves x p is h)
     marks z r mark.Asked m k = rw (z, k, m) (h, refl)
     marks z r mark.Busy m k = rw (z, k, m)
         (followed-stays is (lets_go x (λ q. doom q x) p is) (λ done. dooming n x) (lets-go x (λ q. doom q x) p is (bare-let_go p x (marked_row mark.Doomed) (λ s e. e) h)) (λ done. ih.dooms x))
@@ -265,7 +265,7 @@ awaits (suc n) = record {
 
 -- the story of calls that give no object a destructor and ask for nothing waits for the next call, and all of them were taken
 pub story-awaits : (is : List Input) → AreCalls is → (open_question (items (story 1 is)) ≡ Some Quiet) × (is_stray (outcome 1 is) ≡ false)
-story-awaits is a = each (asked (turns 0 (length is)) Quiet (empty 1) is) ((awaits (turns 0 (length is))).asks (empty 1) is (tt, refl) a) (story-enough 1 (turns 0 (length is)) is (omega arith) (omega arith))
+story-awaits is a = each (asked (turns 0 (length is)) Quiet (empty 1) is) ((awaits (turns 0 (length is))).asks (empty 1) is tt a) (story-enough 1 (turns 0 (length is)) is (omega arith) (omega arith))
   where
     each : (o : Outcome ℕ Pool Input Scene) → AwaitsCall o → NotShort o → (open_question (items (told_by o)) ≡ Some Quiet) × (is_stray o ≡ false)
     each (Ended v q ts left) h s = absurd h

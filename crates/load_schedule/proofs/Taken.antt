@@ -31,7 +31,7 @@ use Rattle.text_forms.proofs.Calls as calls
 use Rattle.schedule_replay.specs.Replays.{has_no_lf, is_plain, ended_line}
 use Rattle.schedule_replay.proofs.LineLaws.{lines_ended, plain_append}
 use Rattle.schedule_replay.proofs.ReplayLaws.{input-fits}
-use Rattle.load_schedule.proofs.Unhooked.{is_calm}
+use Rattle.load_schedule.proofs.Bare.{is_calm}
 use Rattle.load_schedule.proofs.Silent.{AreCalls, story-awaits}
 
 -- ---- small numbers

@@ -8,55 +8,53 @@ use Rattle.tree_specs.specs.declared.call.Call.TheVariants as calls
 use Rattle.tree_specs.specs.Words.Objects.{same}
 use Rattle.tree_specs.specs.Tree.Targets.{newest_ref}
 use Rattle.tree_specs.specs.Tree.Pool.{Pool, row_of, changed, without, in_front, remove, place, let_go}
-use Rattle.tree_specs.specs.Events.Requests.{no_notes}
-use Rattle.tree_specs.specs.Calls.Refusals.{Check, refusals}
+use Rattle.tree_specs.specs.Calls.Refusals.{Check, refusals, is_request}
 use Rattle.tree_specs.specs.Calls.Plans.{Plan, plan, planned, frees, changed_by, unless_refused}
 use Rattle.tree_specs.specs.Calls.Plans.Plan.{Does, Frees, Unlinks}
 use Rattle.tree_specs.proofs.Tree.Numbered.{by_test}
 
--- no object has a destructor
-abbrev pub Unhooked : List Row → Type 0
-Unhooked [] = Unit {0}
-Unhooked (r ∷ rs) = (r.hook ≡ 0) × Unhooked rs
+-- an object has no destructor, and is no request
+abbrev IsBareRow : Row → Type 0
+IsBareRow r = (r.hook ≡ 0) × (is_request r.kind ≡ false)
 
-pub unhooked-row : (rs : List Row) (x : Obj) (r : Row) → row_of rs x ≡ Some r → Unhooked rs → r.hook ≡ 0
-unhooked-row [] x r e h = cc
-unhooked-row (s ∷ rs) x r e h = by_test (same s.serial x)
+abbrev AreBareRows : List Row → Type 0
+AreBareRows [] = Unit {0}
+AreBareRows (r ∷ rs) = IsBareRow r × AreBareRows rs
+
+pub bare-row : (rs : List Row) (x : Obj) (r : Row) → row_of rs x ≡ Some r → AreBareRows rs → IsBareRow r
+bare-row [] x r e h = cc
+bare-row (s ∷ rs) x r e h = by_test (same s.serial x)
     (λ t.
     let e' : Some s ≡ Some r = rw t at e in
     let is : s ≡ r = cc in
-    subst (λ (q : Row). q.hook ≡ 0) is h.0)
-    (λ t. let e' : row_of rs x ≡ Some r = rw t at e in unhooked-row rs x r e' h.1)
+    subst (λ (q : Row). IsBareRow q) is h.0)
+    (λ t. let e' : row_of rs x ≡ Some r = rw t at e in bare-row rs x r e' h.1)
 
-pub unhooked-changed : (f : Row → Row) (rs : List Row) (x : Obj) → ((r : Row) → r.hook ≡ 0 → (f r).hook ≡ 0) → Unhooked rs → Unhooked (changed f rs x)
-unhooked-changed f [] x keeps h = tt
-unhooked-changed f (r ∷ rs) x keeps h = by_test (same r.serial x)
+bare-changed : (f : Row → Row) (rs : List Row) (x : Obj) → ((r : Row) → IsBareRow r → IsBareRow (f r)) → AreBareRows rs → AreBareRows (changed f rs x)
+bare-changed f [] x keeps h = tt
+bare-changed f (r ∷ rs) x keeps h = by_test (same r.serial x)
     (λ t. rw t (keeps r h.0, h.1))
-    (λ t. rw t (h.0, unhooked-changed f rs x keeps h.1))
+    (λ t. rw t (h.0, bare-changed f rs x keeps h.1))
 
-pub unhooked-without : (rs : List Row) (x : Obj) → Unhooked rs → Unhooked (without rs x)
-unhooked-without [] x h = tt
-unhooked-without (r ∷ rs) x h = by_test (same r.serial x) (λ t. rw t h.1) (λ t. rw t (h.0, unhooked-without rs x h.1))
+bare-without : (rs : List Row) (x : Obj) → AreBareRows rs → AreBareRows (without rs x)
+bare-without [] x h = tt
+bare-without (r ∷ rs) x h = by_test (same r.serial x) (λ t. rw t h.1) (λ t. rw t (h.0, bare-without rs x h.1))
 
-unhooked-front : (row : Option Row) (o : Owner) (rs : List Row) → ((r : Row) → row ≡ Some r → r.hook ≡ 0) → Unhooked rs → Unhooked (in_front row o rs)
-unhooked-front None o rs k h = h
-unhooked-front (Some r) o rs k h = (k r refl, h)
+bare-front : (row : Option Row) (o : Owner) (rs : List Row) → ((r : Row) → row ≡ Some r → IsBareRow r) → AreBareRows rs → AreBareRows (in_front row o rs)
+bare-front None o rs k h = h
+bare-front (Some r) o rs k h = (k r refl, h)
 
-pub unhooked-place : (p : Pool) (o : Owner) (x : Obj) → Unhooked p.rows → Unhooked (place p o x).rows
-unhooked-place p o x h = unhooked-front (row_of p.rows x) o (without p.rows x) (λ r e. unhooked-row p.rows x r e h) (unhooked-without p.rows x h)
-
--- no object has a destructor, and nothing is kept of a request
 abbrev pub IsBare : Pool → Type 0
-IsBare p = Unhooked p.rows × (p.requests ≡ no_notes)
+IsBare p = AreBareRows p.rows
 
 pub bare-removed : (p : Pool) (x : Obj) → IsBare p → IsBare (remove p x)
-bare-removed p x h = (unhooked-without p.rows x h.0, rw h.1 refl)
+bare-removed p x h = bare-without p.rows x h
 
 pub bare-placed : (p : Pool) (o : Owner) (x : Obj) → IsBare p → IsBare (place p o x)
-bare-placed p o x h = (unhooked-place p o x h.0, h.1)
+bare-placed p o x h = bare-front (row_of p.rows x) o (without p.rows x) (λ r e. bare-row p.rows x r e h) (bare-without p.rows x h)
 
-pub bare-let_go : (p : Pool) (x : Obj) (f : Row → Row) → ((r : Row) → r.hook ≡ 0 → (f r).hook ≡ 0) → IsBare p → IsBare (let_go p x f)
-bare-let_go p x f keeps h = (unhooked-changed f p.rows x keeps h.0, h.1)
+pub bare-let_go : (p : Pool) (x : Obj) (f : Row → Row) → ((r : Row) → IsBareRow r → IsBareRow (f r)) → IsBare p → IsBare (let_go p x f)
+bare-let_go p x f keeps h = bare-changed f p.rows x keeps h
 
 -- ---- calls
 
@@ -82,10 +80,10 @@ calm-frees None x = tt
 calm-frees (Some r) x = tt
 
 calm-plan : (p : Pool) (c : Call) → is_calm c ≡ true → IsCalm (plan p c)
-calm-plan p (calls.New o size name) e = λ q h. ((refl, h.0), h.1)
+calm-plan p (calls.New o size name) e = λ q h. ((refl, refl), h)
 calm-plan p (calls.Free x) e = calm-frees (newest_ref p.rows x) x
 calm-plan p (calls.Steal o x) e = λ q h. bare-placed q o x h
-calm-plan p (calls.Reference o x) e = λ q h. ((refl, h.0), h.1)
+calm-plan p (calls.Reference o x) e = λ q h. ((refl, refl), h)
 calm-plan p (calls.Unlink o x) e = tt
 calm-plan p (calls.Count o) e = λ q h. h
 calm-plan p _ e = cc
