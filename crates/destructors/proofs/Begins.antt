@@ -1,13 +1,13 @@
 -- A free that begins, or is answered, is at work.
-use Rattle.std.proofs.Common.{◌≡◌, ℕ, ◌+◌, ◌≤◌, ◌<◌, List, [], ◌∷◌, length, Option, Some, None, true, false, nat_eq, refl, ◌∙◌, ap, inl, arith}
+use Rattle.std.proofs.Common.{◌≡◌, ℕ, ◌+◌, ◌≤◌, List, [], ◌∷◌, length, Option, Some, None, true, false, nat_eq, refl, ◌∙◌, ap, inl, arith}
 use Rattle.tree_specs.specs.declared.frame.FreeFrame.{FreeFrame}
-use Rattle.tree_specs.specs.declared.frame.FreeFrame.TheVariants.{Unlinking, Beginning, Hooked, Judged, Preparing, Prepared, Leaving, Looping}
+use Rattle.tree_specs.specs.declared.frame.FreeFrame.TheVariants.{Unlinking, Beginning, Hooked, Preparing, Prepared, Leaving, Looping}
 use Rattle.tree_specs.specs.declared.frame.Purpose.TheVariants.{Emptying}
 use Rattle.tree_specs.specs.declared.object.Obj.{Obj}
 use Rattle.tree_specs.specs.declared.row.Row.{Row}
 use Rattle.tree_specs.specs.declared.row.Mark.{Mark}
 use Rattle.tree_specs.specs.declared.row.Mark.TheVariants as mark
-use Rattle.tree_specs.specs.declared.row.Mark.TheVariants.{Asked, Busy, Doomed, Dying}
+use Rattle.tree_specs.specs.declared.row.Mark.TheVariants.{Dying}
 use Rattle.tree_specs.specs.Tree.Inside.{total}
 use Rattle.tree_specs.specs.Tree.Pool.{Pool, row_of, target_at, is_dying_mark}
 use Rattle.tree_specs.specs.Tree.Targets.{target_of, newest_ref}
@@ -20,7 +20,7 @@ use Rattle.tree_links.specs.Links.{Links, pool_of}
 use Rattle.destructors.specs.Moves.{IsLiveRow}
 use Rattle.destructors.specs.Room.{mark_places, row_places, work_places, wanted}
 use Rattle.destructors.specs.Engine.{IsAsked, HasRoom, HasRoomFor, IsBetweenCalls}
-use Rattle.destructors.specs.Frees.{OpenFrees, before, frees_of, awaits_run, received, speaking}
+use Rattle.destructors.specs.Frees.{before, frees_of, awaits_run, received, speaking}
 use Rattle.destructors.specs.Works.{AtWork, IsAwaiting, MayBegin}
 use Rattle.destructors.proofs.Hosting.{begins, judges, was-received}
 use Rattle.destructors.proofs.Keeping.{run-places}

@@ -7,7 +7,6 @@ use Rattle.tree_specs.specs.declared.frame.Answer.TheVariants.{Freed}
 use Rattle.tree_specs.specs.declared.frame.Frame.{Frame}
 use Rattle.tree_specs.specs.declared.frame.Frame.TheVariants as frame
 use Rattle.tree_specs.specs.declared.frame.CallFrame.TheVariants.{Awaiting}
-use Rattle.tree_specs.specs.declared.frame.TurnFrame.TheVariants.{Clearing}
 use Rattle.tree_specs.specs.declared.frame.FreeFrame.{FreeFrame}
 use Rattle.tree_specs.specs.declared.frame.FreeFrame.TheVariants.{Hooked, Judged, Preparing, Prepared, Ending}
 use Rattle.tree_specs.specs.declared.frame.RequestFrame.TheVariants.{Releasing}

@@ -1,8 +1,8 @@
 -- What the moves of the open frees keep: a free stays at work, the measure falls, and no more places are wanted.
-use Rattle.std.proofs.Common.{◌≡◌, ℕ, ◌+◌, ◌≤◌, ◌<◌, nat_eq, List, [], ◌∷◌, ◌++◌, map, length, Option, Some, None, true, false, refl, sym, ◌∙◌, ap, subst, arith}
+use Rattle.std.proofs.Common.{◌≡◌, ℕ, ◌+◌, ◌≤◌, ◌<◌, nat_eq, List, [], ◌∷◌, ◌++◌, map, length, Option, Some, None, true, refl, sym, ◌∙◌, ap, subst, arith}
 use Rattle.step_machine.specs.Machine.{Move as Do}
 use Rattle.step_machine.proofs.Ends.{Leads}
-use Rattle.tree_specs.specs.Machine.Profiles.{Phase, InRun, InLoop}
+use Rattle.tree_specs.specs.Machine.Profiles.{InRun, InLoop}
 use Rattle.tree_specs.specs.declared.frame.Frame.{Frame}
 use Rattle.tree_specs.specs.declared.frame.Frame.TheVariants as frame
 use Rattle.tree_specs.specs.declared.frame.FreeFrame.{FreeFrame}
@@ -18,7 +18,7 @@ use Rattle.tree_specs.specs.declared.object.Owner.{Owner}
 use Rattle.tree_specs.specs.declared.object.Owner.TheVariants.{Of}
 use Rattle.tree_specs.specs.declared.row.Row.{Row}
 use Rattle.tree_specs.specs.declared.row.Mark.{Mark}
-use Rattle.tree_specs.specs.declared.row.Mark.TheVariants.{Quiet, Asked, Busy, Doomed, Dying}
+use Rattle.tree_specs.specs.declared.row.Mark.TheVariants.{Quiet, Asked, Busy, Doomed}
 use Rattle.tree_specs.specs.Tree.Pool.{Pool, row_of, is_below, owner_of, first_kid, target_at, newest_ref_of, is_inside, without, marked_row, hooked_row, left_row, set_mark}
 use Rattle.tree_specs.specs.Tree.Targets.{newest_ref}
 use Rattle.tree_specs.specs.Words.Objects.{same}
@@ -41,7 +41,6 @@ use Rattle.destructors.specs.Frees.{OpenFrees, awaits_run, answered, moved, move
 use Rattle.destructors.specs.Works.{frees_among, IsHosted, AtWork, IsAtWork, GoesOn}
 use Rattle.destructors.specs.Moves.{MoveRests}
 use Rattle.destructors.specs.Room.{mark_places, row_places, work_places, wanted}
-use Rattle.destructors.proofs.FreeMoves.{IsMoveOf, is_move}
 use Rattle.destructors.proofs.Grounds.{rests}
 use Rattle.destructors.proofs.Hosting.{other_cost, AwaitsRun, awaits-run, LiftedTo, OnTold, OnMove, moves-on}
 

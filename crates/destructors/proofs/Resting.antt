@@ -1,5 +1,5 @@
 -- Trees in which nothing is going on, and engines that ask: what the tests rest on.
-use Rattle.std.proofs.Common.{◌≡◌, ◌≢◌, ℕ, ◌<◌, List, [], ◌∷◌, Option, Some, None, true, false, refl, sym, ◌∙◌, ap, subst, arith}
+use Rattle.std.proofs.Common.{◌≡◌, ℕ, ◌<◌, List, [], ◌∷◌, Option, Some, None, true, false, refl, sym, ◌∙◌, ap, subst, arith}
 use Rattle.tree_specs.specs.declared.frame.Frame.TheVariants as frame
 use Rattle.tree_specs.specs.declared.frame.CallFrame.TheVariants.{Awaiting}
 use Rattle.tree_specs.specs.declared.frame.FreeFrame.{FreeFrame}
@@ -12,7 +12,7 @@ use Rattle.tree_specs.specs.declared.object.Obj.{Obj}
 use Rattle.tree_specs.specs.declared.object.Owner.{Owner}
 use Rattle.tree_specs.specs.declared.question.Ask.TheVariants.{Quiet}
 use Rattle.tree_specs.specs.declared.row.Row.{Row}
-use Rattle.tree_specs.specs.Tree.Pool.{Pool, empty, row_of, is_owner, target_at, add, set_hook, hooked_row}
+use Rattle.tree_specs.specs.Tree.Pool.{Pool, empty, row_of, is_owner, add, set_hook, hooked_row}
 use Rattle.tree_specs.specs.Tree.Targets.{target_of}
 use Rattle.tree_specs.specs.Calls.Refusals.{is_plain, is_plain_row}
 use Rattle.tree_specs.specs.Invariants.Consistent.{deposit}
@@ -21,7 +21,7 @@ use Rattle.tree_specs.proofs.Tree.Rooted.{forest-none}
 use Rattle.tree_specs.proofs.Turns.Lowering.{total-kept}
 use Rattle.tree_links.specs.Links.{Links, pool_of}
 use Rattle.destructors.specs.Frees.{OpenFrees, before, frees_of, moves, next_of, speaking, Steps}
-use Rattle.destructors.specs.Works.{AtWork, IsAtWork, IsHosted, AreAwaiting}
+use Rattle.destructors.specs.Works.{AtWork, IsAtWork, AreAwaiting}
 use Rattle.destructors.specs.Engine.{IsAsked, AreKept}
 use Rattle.destructors.specs.Runs.{AsksFor}
 use Rattle.destructors.proofs.Settling.{run-speaks, asks-run, still, asks-waiting}

@@ -12,7 +12,7 @@ use Rattle.step_machine.proofs.NotedLaws.{noted-run}
 use Rattle.step_machine.proofs.Uses.{uses, tells-ended, ended-followed}
 use Rattle.tree_specs.specs.declared.event.Event.{Event}
 use Rattle.tree_specs.specs.declared.frame.Answer.{Answer}
-use Rattle.tree_specs.specs.declared.frame.Answer.TheVariants.{Freed, Returned}
+use Rattle.tree_specs.specs.declared.frame.Answer.TheVariants.{Freed}
 use Rattle.tree_specs.specs.declared.frame.Frame.{Frame}
 use Rattle.tree_specs.specs.declared.frame.Frame.TheVariants as frame
 use Rattle.tree_specs.specs.declared.frame.FreeFrame.{FreeFrame}

@@ -1,5 +1,5 @@
 -- What the top call answers and says.
-use Rattle.std.specs.Prelude.{ℕ, List, [], length, take, map, Option, Result, Ok, Err, String, ◌⊎◌}
+use Rattle.std.specs.Prelude.{ℕ, List, length, take, map, Option, Ok, Err, String, ◌⊎◌}
 use Rattle.std.specs.String.{string_bytes}
 use Rattle.std.specs.Io.KnownBytes.{Appends}
 use Rattle.outside.specs.Causes.{Rose}

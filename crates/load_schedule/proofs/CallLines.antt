@@ -1,14 +1,13 @@
 -- The lines of the calls that are drawn, as they are written.
-use Rattle.std.proofs.Common.{◌≡◌, ◌≢◌, ◌≤◌, ◌<◌, ℕ, zero, suc, ◌+◌, ◌%◌, List, [], ◌∷◌, ◌++◌, length, refl, sym, ap, ◌∙◌, codes, arith}
+use Rattle.std.proofs.Common.{◌≡◌, ℕ, zero, suc, ◌+◌, ◌%◌, List, [], ◌∷◌, ◌++◌, refl, sym, ap, ◌∙◌, codes}
 use Rattle.std.specs.Fmt.{decimal}
 use Rattle.std.proofs.lemmas.List.{append-nil, append_assoc}
-use Rattle.std.proofs.lemmas.Bool.Decides.{nat_tests}
-use Rattle.std.proofs.Common.{Bool, true, false, ltb, eqb}
+use Rattle.std.proofs.Common.{true, ltb}
 use Rattle.tree_specs.specs.declared.call.Call.{Call}
 use Rattle.tree_specs.specs.declared.question.Input.TheVariants as inputs
 use Rattle.tree_specs.specs.Words.Objects.{owner_number, numbered_owner}
 use Rattle.tree_specs.specs.Texts.Text.{call_text, input_text, newline}
-use Rattle.tree_specs.specs.Texts.Load.{Place, kind, makes_object, second_draw, third_draw, call_drawn}
+use Rattle.tree_specs.specs.Texts.Load.{Place, kind, second_draw, third_draw, call_drawn}
 
 -- a number that is drawn among so many
 abbrev pub owner_digits : Place → List ℕ

@@ -1,5 +1,5 @@
 -- Of the schedules that are made from a number no line is refused.
-use Rattle.std.proofs.Common.{◌≡◌, ◌≤◌, ◌<◌, ℕ, zero, suc, ◌+◌, ◌*◌, ◌^◌, ◌%◌, Bool, true, false, cond, ltb, eqb, not, ◌&&◌, List, [], ◌∷◌, ◌++◌, length, map, Option, Some, None, Result, Ok, Err, refl, sym, ap, ◌∙◌, subst, codes, arith, length-append}
+use Rattle.std.proofs.Common.{◌≡◌, ◌≤◌, ◌<◌, ℕ, zero, suc, ◌+◌, ◌*◌, ◌^◌, ◌%◌, true, false, ltb, eqb, List, [], ◌∷◌, ◌++◌, length, map, Option, Some, None, Ok, refl, ap, ◌∙◌, subst, codes, arith, length-append}
 use Rattle.std.specs.Prelude.{flat_map}
 use Rattle.std.specs.Fmt.{decimal}
 use Rattle.std.specs.Str.{all_ascii_digits}
@@ -7,7 +7,6 @@ use Rattle.std.specs.Char.{is_ascii_digit}
 use Rattle.std.proofs.lemmas.Bool.Decides.{nat_tests}
 use Rattle.std.proofs.lemmas.Fmt.{length-decimal-le}
 use Rattle.std.proofs.lemmas.List.{append_assoc}
-use Rattle.tree_specs.specs.declared.object.Obj.{Obj}
 use Rattle.tree_specs.specs.declared.object.Owner.{Owner}
 use Rattle.tree_specs.specs.declared.object.Owner.TheVariants.{Root, Of}
 use Rattle.tree_specs.specs.declared.call.Call.{Call}
@@ -22,7 +21,7 @@ use Rattle.tree_specs.specs.Calls.Spelling.{Field, spelling}
 use Rattle.tree_specs.specs.Texts.Grammar.{input_of}
 use Rattle.tree_specs.specs.Texts.Text.{field_text, call_text, input_text, newline}
 use Rattle.tree_specs.specs.Texts.Schedule.{Line, lines, lines_of_parts, line_limit, lines_limit, Course, course, once_given, line_input, judged_from, judged_lines, judge, unless_stray, misfit, why_not, schedule_header}
-use Rattle.tree_specs.specs.Texts.Load.{Place, next_state, drawn, kind, makes_object, second_draw, third_draw, owner_drawn, object_drawn, call_drawn, after_call, calls_from, calls_text, first_place, load_calls, load_schedule}
+use Rattle.tree_specs.specs.Texts.Load.{Place, next_state, drawn, kind, makes_object, second_draw, owner_drawn, object_drawn, call_drawn, after_call, calls_from, calls_text, first_place, load_calls, load_schedule}
 use Rattle.tree_specs.proofs.Tree.Numbered.{by_test}
 use Rattle.text_forms.proofs.Numerals.{decimal_digits}
 use Rattle.text_forms.specs.Bytes.{has_bytes}

@@ -1,15 +1,15 @@
 -- The list of the limits against the map of what is kept.
-use Rattle.std.proofs.Common.{◌≡◌, ℕ, ◌<◌, ◌≤◌, Bool, true, false, length, ◌&&◌, nat_eq, if◌then◌else◌, List, [], ◌∷◌, map as each, not, Option, Some, None, is_some, refl, sym, ap, subst, ◌∙◌, arith, T}
+use Rattle.std.proofs.Common.{◌≡◌, ℕ, ◌<◌, ◌≤◌, Bool, true, false, length, ◌&&◌, nat_eq, if◌then◌else◌, List, [], ◌∷◌, map as each, Option, Some, None, is_some, refl, sym, ap, subst, ◌∙◌, arith, T}
 use Rattle.std.specs.List.{AllByRecursion}
 use Rattle.std.specs.Option.{option_map}
-use Rattle.std.specs.Ordering.{nat_cmp, eq_by_cmp, is_lt, is_eq}
+use Rattle.std.specs.Ordering.{nat_cmp, is_lt, is_eq}
 use Rattle.std.specs.declared.cmp.Ordering.{Ordering}
 use Rattle.std.specs.declared.cmp.Ordering.TheVariants.{Less, Equal, Greater}
-use Rattle.std.proofs.lemmas.Cmp.{nat_cmp_total, eq_by_cmp_equiv}
+use Rattle.std.proofs.lemmas.Cmp.{nat_cmp_total}
 use Rattle.std.proofs.lemmas.Bool.{eqb-true, eq-eqb}
 use Rattle.std.specs.FinMap as map
-use Rattle.std.specs.FinMap.{nat_cmp-IsAntisymmetric, get-entries, get-insert, get-remove, entries_sorted, entries-insert, len-entries, len-empty}
-use Rattle.std.specs.FinMap.Entries.{find, put, where_key, is_sorted, is_sorted-where_key, find-where_key, below_all, same_entries}
+use Rattle.std.specs.FinMap.{nat_cmp-IsAntisymmetric, get-entries, get-insert, entries_sorted, entries-insert, len-entries, len-empty}
+use Rattle.std.specs.FinMap.Entries.{find, put, where_key, is_sorted, below_all}
 use Rattle.pool_arena.proofs.Entries.{others, entries-removed}
 use Rattle.pool_arena.proofs.Keeps.{ties, eqb-false}
 use Rattle.tree_specs.specs.declared.object.Obj.{Obj}

@@ -1,11 +1,9 @@
 -- What a replay writes of a schedule with a header is the text of a story that is orderly and grounded.
 use Rattle.std.proofs.Common.{◌≡◌, ◌≢◌, ℕ, Bool, true, false, List, [], ◌∷◌, Option, Some, None, refl, sym, ◌∙◌, ap, subst, arith}
 use Rattle.std.specs.Prelude.{IfSome}
-use Rattle.tree_specs.specs.declared.question.Ask.{Ask}
-use Rattle.tree_specs.specs.declared.question.Input.{Input}
 use Rattle.tree_specs.specs.declared.schedule.Reason.{Reason}
 use Rattle.tree_specs.specs.declared.schedule.Reason.TheVariants.{Form}
-use Rattle.tree_specs.specs.Rules.Story.{story, items}
+use Rattle.tree_specs.specs.Rules.Story.{story}
 use Rattle.tree_specs.specs.Texts.Schedule.{Line, Course, course, lines, judged_lines, judge, inputs_of, transcript_of, is_header, has_header, header_reason}
 use Rattle.tree_specs.proofs.Promises.StoryOrder.{story-orderly, story-grounded}
 use Rattle.schedule_replay.specs.declared.ran.Ran.{Ran}

@@ -1,5 +1,5 @@
 -- Where no input comes there is none that doesn't fit.
-use Rattle.std.proofs.Common.{◌≡◌, ℕ, suc, zero, Bool, false, List, [], ◌∷◌, refl, sym, subst}
+use Rattle.std.proofs.Common.{◌≡◌, ℕ, suc, zero, false, List, [], ◌∷◌, refl, sym, subst}
 use Rattle.step_machine.specs.Machine.{Move, Table, Outcome, tell, tells, followed, after, run, pass, is_stray}
 use Rattle.step_machine.specs.Machine.Move.{Done, Go, Emit, Wait, Call}
 use Rattle.step_machine.specs.Machine.Outcome.{Ended, Waits, Stray, Short}

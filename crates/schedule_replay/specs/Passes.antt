@@ -1,5 +1,5 @@
 -- What the bytes of a schedule do to the sink of its replay.
-use Rattle.std.specs.Prelude.{ℕ, List, Option, Result, Ok, Err, None, Some}
+use Rattle.std.specs.Prelude.{ℕ, List, Option, Result, Err}
 use Rattle.std.specs.Io.KnownBytes.{Appends}
 use Rattle.schedule_replay.specs.declared.stop.Stop.{Stop}
 use Rattle.schedule_replay.specs.declared.stop.Stop.TheVariants as errors

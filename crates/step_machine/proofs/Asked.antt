@@ -1,5 +1,5 @@
 -- A stack that waits has asked last.
-use Rattle.std.proofs.Common.{◌≡◌, ℕ, suc, zero, List, [], ◌∷◌, Option, Some, None, refl, sym, ◌∙◌, ap, subst}
+use Rattle.std.proofs.Common.{◌≡◌, ℕ, suc, zero, List, [], ◌∷◌, Option, Some, None, refl, subst}
 use Rattle.step_machine.specs.Machine.{Move, Table, Outcome, tell, given, leads, walk}
 use Rattle.step_machine.specs.Machine.Move.{Done, Go, Emit, Wait, Call}
 use Rattle.step_machine.specs.Machine.Outcome.{Ended, Waits, Stray, Short}

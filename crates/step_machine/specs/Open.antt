@@ -1,6 +1,6 @@
 -- A list whose last element has a property, and what a machine asks.
 use Rattle.std.specs.Prelude.{◌≡◌, List, [], ◌∷◌}
-use Rattle.step_machine.specs.Machine.{Move, Table}
+use Rattle.step_machine.specs.Machine.{Table}
 use Rattle.step_machine.specs.Machine.Move.{Wait}
 
 abbrev pub LastIs : {T : Type 0} → (T → Type 0) → List T → Type 0

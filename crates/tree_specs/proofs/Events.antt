@@ -1,4 +1,5 @@
 -- Events, and what waits for its turn.
+pub mod EntryLaws
 pub mod HandlerLaws
 pub mod NoteLaws
 pub mod PendingLaws

@@ -23,7 +23,7 @@ use Rattle.tree_specs.specs.Invariants.Awaiting.{waits, waits_as, MayCome, is_ev
 use Rattle.tree_specs.proofs.Tree.Numbered.{by_test, same-true, same-equal, same-false, same_or_not}
 use Rattle.tree_specs.proofs.Tree.Rows.{row_of-changed-other, row_of-without-other, row_of-placed-other, row_of-placed-same}
 use Rattle.tree_specs.specs.Events.Handlers.{handler_of}
-use Rattle.tree_specs.proofs.Events.HandlerLaws.{with-same, with-other, without-same, without-other}
+use Rattle.tree_specs.proofs.Events.EntryLaws.{with-same, with-other, without-same, without-other}
 use Rattle.tree_specs.proofs.Events.PendingLaws.{unscheduled-other, scheduled-either, disarmed-other, armed-either}
 use Rattle.tree_specs.proofs.Events.RotationLaws.{unwatched-watched, unwatched-other, unwatched-distinct, unwatched-freed, closes-found, watched-watching, watched-watched, watched-distinct, rewatched-watching, rewatched-watched, rewatched-distinct, turned-watching, turned-watched, turned-distinct}
 use Rattle.tree_specs.proofs.Events.DescriptorLaws.{opened-still, closed-other}

@@ -1,8 +1,5 @@
 -- What is kept of requests, where a note is put in, taken out or changed; and what the rows of requests weigh by it.
-use Rattle.std.proofs.Common.{◌≡◌, ◌≢◌, ◌+◌, ◌≤◌, Bool, true, false, cond, not, List, [], ◌∷◌, Option, Some, None, refl, sym, ap, ◌∙◌, arith}
-use Rattle.std.specs.Ordering.{nat_cmp, eq_by_cmp, is_eq}
-use Rattle.std.specs.Cmp.{nat_cmp_total, unsigned_tied, alike_right, eq_by_cmp_equiv}
-use Rattle.std.specs.FinMap.Entries.{find-put, find-where_key}
+use Rattle.std.proofs.Common.{◌≡◌, ◌≢◌, ◌+◌, ◌≤◌, true, false, List, [], ◌∷◌, Option, Some, None, refl, sym, ap, ◌∙◌, arith}
 use Rattle.tree_specs.specs.declared.object.Obj.{Obj}
 use Rattle.tree_specs.specs.declared.request.Note.{Note}
 use Rattle.tree_specs.specs.declared.request.State.TheVariants.{Received}
@@ -13,32 +10,21 @@ use Rattle.tree_specs.specs.Tree.Inside.{total}
 use Rattle.tree_specs.specs.Events.Requests.{Notes, note_of, is_unreceived, with_note, without_note, renoted, in_state}
 use Rattle.tree_specs.specs.Invariants.Measure.{note_weight, weight}
 use Rattle.tree_specs.proofs.Tree.Numbered.{by_test, same-true, same-equal, same-false}
+use Rattle.tree_specs.proofs.Events.EntryLaws.{with-same, with-other, without-same, without-other}
 
 -- ---- one note
 
-of-with : (ns : Notes) (x y : Obj) (n : Note) → note_of (with_note ns x n) y ≡ cond (same y x) (Some n) (note_of ns y)
-of-with ns x y n = find-put nat_cmp nat_cmp_total y.0 x.0 n ns ∙ ap (λ b. cond b (Some n) (note_of ns y)) (unsigned_tied y.0 x.0)
-
-of-without : (ns : Notes) (x y : Obj) → note_of (without_note ns x) y ≡ cond (same y x) None (note_of ns y)
-of-without ns x y =
-    find-where_key nat_cmp (λ k. not (eq_by_cmp nat_cmp x.0 k)) y.0 (λ k t. ap (λ r. not (is_eq r)) (sym (alike_right nat_cmp_total y.0 k x.0 t))) ns
-    ∙ turned (eq_by_cmp nat_cmp x.0 y.0) (note_of ns y) ∙ ap (λ b. cond b None (note_of ns y)) ((eq_by_cmp_equiv nat_cmp_total).symm x.0 y.0 ∙ unsigned_tied y.0 x.0)
-  where
-    turned : (b : Bool) (o : Option Note) → cond (not b) o None ≡ cond b None o
-    turned true o = refl
-    turned false o = refl
-
 pub noted-same : (ns : Notes) (x : Obj) (n : Note) → note_of (with_note ns x n) x ≡ Some n
-noted-same ns x n = of-with ns x x n ∙ ap (λ b. cond b (Some n) (note_of ns x)) (same-equal x x refl)
+noted-same ns x n = with-same ns x x n (same-equal x x refl)
 
 pub noted-other : (ns : Notes) (x y : Obj) (n : Note) → x ≢ y → note_of (with_note ns x n) y ≡ note_of ns y
-noted-other ns x y n ne = of-with ns x y n ∙ ap (λ b. cond b (Some n) (note_of ns y)) (same-false y x (λ e. ne (sym e)))
+noted-other ns x y n ne = with-other ns x y n (same-false y x (λ e. ne (sym e)))
 
 pub forgotten-same : (ns : Notes) (x : Obj) → note_of (without_note ns x) x ≡ None
-forgotten-same ns x = of-without ns x x ∙ ap (λ b. cond b None (note_of ns x)) (same-equal x x refl)
+forgotten-same ns x = without-same ns x x (same-equal x x refl)
 
 pub forgotten-other : (ns : Notes) (x y : Obj) → x ≢ y → note_of (without_note ns x) y ≡ note_of ns y
-forgotten-other ns x y ne = of-without ns x y ∙ ap (λ b. cond b None (note_of ns y)) (same-false y x (λ e. ne (sym e)))
+forgotten-other ns x y ne = without-other ns x y (same-false y x (λ e. ne (sym e)))
 
 pub renoted-same : (g : Note → Note) (ns : Notes) (x : Obj) (n : Note) → note_of ns x ≡ Some n → note_of (renoted g ns x) x ≡ Some (g n)
 renoted-same g ns x n e = rw e (noted-same ns x (g n))
@@ -102,8 +88,8 @@ total-unowned ns (s ∷ rs) x n e = by_test (same s.serial x)
 
 pub forgotten-lighter : (ns : Notes) (x : Obj) → NoHeavier (without_note ns x) ns
 forgotten-lighter ns x y h = by_test (same y x)
-    (λ t. let none : note_of (without_note ns x) y ≡ None = of-without ns x y ∙ ap (λ b. cond b None (note_of ns y)) t in let bad : false ≡ true = rw none at h in cc)
-    (λ t. let is : note_of (without_note ns x) y ≡ note_of ns y = of-without ns x y ∙ ap (λ b. cond b None (note_of ns y)) t in rw is at h)
+    (λ t. let none : note_of (without_note ns x) y ≡ None = without-same ns x y t in let bad : false ≡ true = rw none at h in cc)
+    (λ t. let is : note_of (without_note ns x) y ≡ note_of ns y = without-other ns x y t in rw is at h)
 
 pub renoted-lighter : (g : Note → Note) (ns : Notes) (x : Obj) → ((n : Note) → note_of ns x ≡ Some n → is_unreceived (Some (g n)) ≡ true → is_unreceived (Some n) ≡ true) → NoHeavier (renoted g ns x) ns
 renoted-lighter g ns x calm y h = each (note_of ns x) refl
@@ -111,12 +97,12 @@ renoted-lighter g ns x calm y h = each (note_of ns x) refl
     each : (o : Option Note) → note_of ns x ≡ o → is_unreceived (note_of ns y) ≡ true
     each None e = rw e at h
     each (Some n) e = by_test (same y x)
-        (λ t. let is : note_of (with_note ns x (g n)) y ≡ Some (g n) = of-with ns x y (g n) ∙ ap (λ b. cond b (Some (g n)) (note_of ns y)) t in
+        (λ t. let is : note_of (with_note ns x (g n)) y ≡ Some (g n) = with-same ns x y (g n) t in
         let h' : is_unreceived (note_of (with_note ns x (g n)) y) ≡ true = rw e at h in
         let h'' : is_unreceived (Some (g n)) ≡ true = rw is at h' in
         let at_x : note_of ns y ≡ Some n = ap (note_of ns) (same-true y x t) ∙ e in
         rw at_x (calm n e h''))
-        (λ t. let is : note_of (with_note ns x (g n)) y ≡ note_of ns y = of-with ns x y (g n) ∙ ap (λ b. cond b (Some (g n)) (note_of ns y)) t in
+        (λ t. let is : note_of (with_note ns x (g n)) y ≡ note_of ns y = with-other ns x y (g n) t in
         let h' : is_unreceived (note_of (with_note ns x (g n)) y) ≡ true = rw e at h in
         rw is at h')
 

@@ -22,7 +22,7 @@ use Rattle.tree_specs.specs.Invariants.Noted.{Noted as NotedOf}
 use Rattle.tree_specs.specs.Invariants.Consistent.{IsPaidFor, IsConsistent}
 use Rattle.tree_specs.specs.Machine.Meaning.{noted_table, continued, run_of, text_rest, stated}
 use Rattle.tree_specs.proofs.Rules.Means.{run-means}
-use Rattle.tree_specs.proofs.Rules.Rest.{most, well, rest-enough, rest-is-walk, walk-whole, walk-long, paid-enough, not-short}
+use Rattle.tree_specs.proofs.Rules.Rest.{most, well, rest-enough, rest-is-walk, walk-whole, walk-long, paid-enough}
 use Rattle.tree_specs.proofs.Turns.Bound.{cost-turns}
 
 not-the-short : {A P I T : Type 0} (o : Outcome A P I T) → NotShort o → o ≢ Short

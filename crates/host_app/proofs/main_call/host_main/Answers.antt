@@ -1,4 +1,4 @@
-use Rattle.std.proofs.Common.{rules, ◌≡◌, ◌∙◌, ap, sym, ℕ, Some, None}
+use Rattle.std.proofs.Common.{rules, ◌≡◌, ◌∙◌, ap, sym, Some, None}
 use Rattle.command_words.specs.declared.command.Command.TheVariants.{Replay, Load}
 use Rattle.host_app.specs.Mains.{names, Loads}
 use Rattle.host_app.proofs.MainLaws.{replay-front, kept-front, loads-by, loads-same, not-load, not-named, load-none}

@@ -1,9 +1,7 @@
-use Rattle.std.proofs.Common.{rules, ◌≡◌, Option, Some, sym, ◌∙◌, ap}
-use Rattle.tree_specs.specs.declared.frame.FreeFrame.{FreeFrame}
+use Rattle.std.proofs.Common.{rules, ◌≡◌, Some}
 use Rattle.tree_specs.specs.declared.frame.FreeFrame.TheVariants.{Preparing, Prepared}
 use Rattle.tree_links.specs.Links.{pool_of}
 use Rattle.destructors.specs.Frees.{before, frees_of, received, Begins}
-use Rattle.destructors.specs.Works.{AtWork}
 use Rattle.destructors.proofs.Begins.{received-works, received-ready, received-are}
 use Rattle.destructors.proofs.Counting.{silent-rows}
 use Rattle.destructors.proofs.engine.FreeEngine.received.Goals as goal

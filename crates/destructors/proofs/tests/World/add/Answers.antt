@@ -1,4 +1,4 @@
-use Rattle.std.proofs.Common.{rules, ◌≡◌, [], true, ◌∙◌}
+use Rattle.std.proofs.Common.{rules, ◌≡◌, [], true}
 use Rattle.tree_specs.specs.Tree.Pool.{is_owner}
 use Rattle.tree_links.specs.Links.{pool_of}
 use Rattle.references.proofs.Rows.{refs-added}

@@ -1,4 +1,4 @@
-use Rattle.std.proofs.Common.{[], length, refl, ap, arith}
+use Rattle.std.proofs.Common.{refl, arith}
 use Rattle.schedule_replay.proofs.reading.Replay.new.Goals as goal
 
 pub returns-clause-ready : goal.returns-clause-ready

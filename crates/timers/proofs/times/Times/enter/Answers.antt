@@ -1,4 +1,4 @@
-use Rattle.std.proofs.Common.{◌≡◌, ℕ, List, Option, is_some, Some, None, ◌++◌, ◌∷◌, [], length, set, slice_get, false, sym, ap, subst, ◌∙◌}
+use Rattle.std.proofs.Common.{◌≡◌, ℕ, Option, is_some, Some, ◌++◌, ◌∷◌, [], length, set, slice_get, sym, ap, subst, ◌∙◌}
 use Rattle.std.specs.FinMap as map
 use Rattle.pool_arena.specs.Arena.{get}
 use Rattle.pool_arena.proofs.Keeps.{get-with_entry}

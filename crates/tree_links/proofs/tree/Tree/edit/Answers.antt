@@ -1,5 +1,4 @@
 use Rattle.std.proofs.Common.{refl, ap, ◌∙◌}
-use Rattle.tree_specs.specs.declared.row.Row.{Row}
 use Rattle.tree_links.specs.declared.node.Edit.{Edit}
 use Rattle.tree_links.specs.declared.node.Edit.TheVariants.{Name, Mark, Hook, Size, Limit}
 use Rattle.tree_links.specs.Edits.{edited, with_edit, KeepsSmall}
