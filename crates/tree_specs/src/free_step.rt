@@ -18,7 +18,7 @@ pub enum FreeReply {
 pub enum FreeStep {
     /// The destructor of the object is to run.
     Ask(Obj),
-    /// The object is a request, which is to be received where it wasn't yet.
+    /// The object is a request, which is to be received where it wasn't yet, or a queue, whose entries are to be freed.
     Prepare(Obj),
     /// A reference is no more.
     Dropped {

@@ -21,7 +21,7 @@ use Rattle.tree_specs.specs.declared.free_step.FreeStep.TheVariants.{Ask as AskO
 use Rattle.tree_specs.specs.Tree.Targets.{newest_ref}
 use Rattle.tree_specs.specs.Tree.Pool.{Pool, row_of, is_below, owner_of, target_at, newest_ref_of, noted_owner, is_inside, first_kid, detach, remove, place, set_mark, doom, set_hook}
 use Rattle.tree_specs.specs.Tree.Heirs.{heir}
-use Rattle.tree_specs.specs.Calls.Refusals.{is_request}
+use Rattle.tree_specs.specs.Calls.Refusals.{is_prepared}
 
 -- a step of a free by itself
 abbrev pub FreeMove : Type 0
@@ -31,9 +31,9 @@ FreeMove = Move FreeFrame FreeReply Pool FreeStep
 abbrev pub begin_plain : Obj → ℕ → Pool → FreeMove
 begin_plain x h p = if nat_eq h 0 then Do.Go (Leaving x 0) p else Do.Go (Hooked x h) (set_mark p x mark.Asked)
 
--- a quiet request is received first
+-- a quiet request is received first, and the entries of a quiet queue are freed first
 abbrev pub begin_quiet : Obj → Kind → ℕ → Pool → FreeMove
-begin_quiet x k h p = if is_request k then Do.Go (Preparing x) (set_mark p x mark.Asked) else begin_plain x h p
+begin_quiet x k h p = if is_prepared k then Do.Go (Preparing x) (set_mark p x mark.Asked) else begin_plain x h p
 
 -- the freeing of an object begins, by what is going on with it
 abbrev pub begin_by : Obj → Kind → ℕ → Mark → Pool → FreeMove

@@ -23,7 +23,7 @@ use Rattle.tree_specs.specs.declared.free_step.FreeReply.TheVariants.{Ok}
 use Rattle.tree_specs.specs.Tree.Pool.{Pool, remove}
 use Rattle.tree_specs.specs.Rules.Items.Item.{Told}
 use Rattle.tree_specs.specs.Rules.Sequence.{Work, Scene, CallStart, ◌>>=◌, ◌>>◌, gives, change, tells}
-use Rattle.tree_specs.specs.Rules.Story.{free, hooked, judged, preparing, prepared, dooming, leave, children, tried, asked, acting, telling, returning, announcing, unlink, release, given, turns, taking, timing, timed, polling, starting, firing, handling, handled, reaching, opening, hearing, closing, finishing, receiving, cancelling, cleaning, cleaned, notifying, calling, called, over}
+use Rattle.tree_specs.specs.Rules.Story.{free, hooked, judged, preparing, prepared, dooming, leave, children, tried, asked, acting, telling, returning, announcing, unlink, release, given, turns, taking, timing, timed, polling, starting, firing, handling, handled, reaching, opening, hearing, closing, finishing, receiving, cancelling, cleaning, cleaned, notifying, calling, called, draining, triggering, over}
 use Rattle.tree_specs.specs.Machine.Table.{table, notes, resume}
 use Rattle.tree_specs.specs.Machine.View.{View}
 
@@ -74,6 +74,9 @@ request_mean n (request.Notifying x errand) = answered (notifying n x errand)
 request_mean n (request.Calling what x handler errand) = answered (calling n what x handler errand)
 request_mean n (request.Called what x handler errand) = answered (called n what x handler errand)
 request_mean n (request.Releasing c) = gives (Freed Ok)
+request_mean n (request.Draining q) = answered (draining n q)
+request_mean n (request.Dropping q e) = gives (Freed Ok)
+request_mean n (request.Triggering q) = answered (triggering n q)
 request_mean n (request.Over r) = answered (over n r)
 
 -- what a work does, by the text

@@ -297,6 +297,9 @@ request_profile (request.Calling what x handler errand) = a_work 3
 -- the routine weighs as much in its place
 request_profile (request.Called what x handler errand) = record (a_work 2) { waits = ARoutine x }
 request_profile (request.Releasing c) = record (a_work 0) { waits = ARelease c; size = caller_size }
+request_profile (request.Draining q) = a_work 4
+request_profile (request.Dropping q e) = record (a_work 0) { waits = ARelease e; size = caller_size }
+request_profile (request.Triggering q) = a_work 4
 request_profile (request.Over r) = a_work 3
 
 abbrev pub of_request : RequestProfile → Profile

@@ -19,7 +19,7 @@ use Rattle.tree_specs.specs.declared.handler.Handler.{Handler}
 use Rattle.tree_specs.specs.declared.wants.Want.{Want}
 use Rattle.tree_specs.specs.declared.watch.Watch.{Watch}
 use Rattle.tree_specs.specs.declared.moment.What.{What}
-use Rattle.tree_specs.specs.declared.moment.What.TheVariants.{Immediate as ForImmediate, Timer as ForTimer, Descriptor as ForDescriptor, Callback as ForCallback, Cleanup as ForCleanup, Cancel as ForCancel}
+use Rattle.tree_specs.specs.declared.moment.What.TheVariants.{Immediate as ForImmediate, Timer as ForTimer, Descriptor as ForDescriptor, Callback as ForCallback, Cleanup as ForCleanup, Cancel as ForCancel, Trigger as ForTrigger}
 use Rattle.tree_specs.specs.declared.event.Event.{Event}
 use Rattle.tree_specs.specs.declared.event.Event.TheVariants as event
 use Rattle.tree_specs.specs.declared.question.Ask.{Ask}
@@ -46,8 +46,9 @@ use Rattle.tree_specs.specs.declared.free_step.FreeReply.{FreeReply}
 use Rattle.tree_specs.specs.declared.free_step.FreeReply.TheVariants.{Ok}
 use Rattle.tree_specs.specs.declared.free_step.FreeStep.{FreeStep}
 use Rattle.tree_specs.specs.declared.free_step.FreeStep.TheVariants.{Ask as AskOf, Prepare, Dropped, Refused, Accepted, Doom, Left, Moved, Gone, Done as Over}
-use Rattle.tree_specs.specs.Tree.Pool.{Pool, set_mark, schedule, unschedule, disarm, open_descriptor, renote, finish, receive}
+use Rattle.tree_specs.specs.Tree.Pool.{Pool, set_mark, schedule, unschedule, disarm, open_descriptor, renote, finish, receive, run_queue, trigger}
 use Rattle.tree_specs.specs.Events.Pending.{first}
+use Rattle.tree_specs.specs.Events.Queues.{Head, is_queue, head_of, next_of}
 use Rattle.tree_specs.specs.Events.Requests.{state_number, note_of, is_noted, is_unreceived, cleanup_in, cancel_in, cleaned, not_deferring}
 use Rattle.tree_specs.specs.Rules.Errands.{reply_to, cancelled_reply, is_receive, after_routine}
 use Rattle.tree_specs.specs.Events.Rotation.{Ready, closes_with, first_ready}
@@ -89,18 +90,18 @@ abbrev pub announced : Option Event → FreeFrame → Pool → Step
 announced None f p = Do.Go (frame.Free f) p
 announced (Some e) f p = Do.Emit (Told e) (frame.Free f) p
 
--- what a free waits for: the run of a destructor, or that a request is received
-abbrev pub run_for : FreeFrame → Frame
-run_for (Hooked x h) = frame.Call (Asking (Routine (hook_moment x h)))
-run_for (Preparing x) = frame.Request (request.Receiving x)
-run_for f = frame.Free f
+-- what a free waits for: the run of a destructor, that a request is received, or that the entries of a queue are freed
+abbrev pub run_for : FreeFrame → Pool → Frame
+run_for (Hooked x h) p = frame.Call (Asking (Routine (hook_moment x h)))
+run_for (Preparing x) p = if is_queue p.queues x then frame.Request (request.Draining x) else frame.Request (request.Receiving x)
+run_for f p = frame.Free f
 
 -- a step of a free, among the host's works, with what was watched before it
 abbrev pub lifted : List Watch → FreeMove → Step
 lifted ring (Do.Done a p) = Do.Done (Freed a) p
 lifted ring (Do.Go f p) = Do.Go (frame.Free f) p
 lifted ring (Do.Emit e f p) = announced (event_of ring e) f p
-lifted ring (Do.Wait q f p) = Do.Call (run_for f) (frame.Free f) p
+lifted ring (Do.Wait q f p) = Do.Call (run_for f p) (frame.Free f) p
 lifted ring (Do.Call g f p) = Do.Call (frame.Free g) (frame.Free f) p
 
 -- the reply is told next, and then the caller is asked again
@@ -165,10 +166,20 @@ abbrev pub due_step : Option Due → Pool → Step
 due_step None p = Do.Go (frame.Turn (Polling wait_limit)) p
 due_step (Some d) p = if nat_eq d.time 0 then due_now d.object 0 p else Do.Go (frame.Turn (Timing false)) p
 
+-- what has come is a queue, whose first entry is triggered, or it is an event, which starts
+abbrev pub queue_step : Bool → Obj → Pool → Step
+queue_step true x p = Do.Call (frame.Request (request.Triggering x)) (frame.Turn (Serving x)) p
+queue_step false x p = Do.Go (frame.Turn (Starting ForImmediate x plainly)) p
+
+-- or it is a request, which is notified
+abbrev pub soon_step : Bool → Obj → Pool → Step
+soon_step true x p = Do.Call (work_of Notify x) (frame.Turn (Serving x)) p
+soon_step false x p = queue_step (is_queue p.queues x) x p
+
 -- those that come soon are first
 abbrev pub taking_step : Option Obj → Pool → Step
 taking_step None p = due_step (first p.times) p
-taking_step (Some x) p = come_step (is_noted p.requests x) Notify ForImmediate x plainly (unschedule p x)
+taking_step (Some x) p = soon_step (is_noted p.requests x) x (unschedule p x)
 
 -- where the first time hasn't come it is asked once what is ready, until then at the longest
 abbrev pub early_step : Bool → Due → ℕ → Pool → Step
@@ -257,6 +268,16 @@ abbrev pub receiving_step : Obj → Bool → Pool → Step
 receiving_step x true p = Do.Emit (Told (event.State x (state_number Received))) (frame.Request (request.Cleaning x Receive)) (receive p x)
 receiving_step x false p = over_step Receive p
 
+-- the first entry of a queue is freed; it doesn't run meanwhile
+abbrev pub draining_step : Obj → Option Head → Pool → Step
+draining_step q None p = Do.Go (frame.Request (request.Over reply.Ok)) p
+draining_step q (Some h) p = Do.Call (frame.Free (Beginning h.object)) (frame.Request (request.Dropping q h.object)) p
+
+-- the trigger of an entry runs for its request
+abbrev pub triggering_step : Option Head → Pool → Step
+triggering_step None p = Do.Go (frame.Request (request.Over reply.Ok)) p
+triggering_step (Some h) p = Do.Emit (Told (event.Fired ForTrigger h.entry.request h.entry.trigger.routine)) (frame.Request (request.Called ForTrigger h.entry.request h.entry.trigger Notify)) (trigger p h)
+
 abbrev pub request_step : RequestFrame → Pool → Step
 request_step (request.Finishing x state) p = Do.Emit (Told (event.State x (state_number state))) (frame.Request (request.Cleaning x (Finish state))) (finish p x state)
 request_step (request.Receiving x) p = receiving_step x (is_unreceived (note_of p.requests x)) p
@@ -268,6 +289,9 @@ request_step (request.Calling what x handler errand) p = Do.Emit (Told (event.Fi
 request_step (request.Called what x handler errand) p = Do.Call (frame.Call (Asking (Routine (handler_moment what x handler plainly)))) (frame.Request (request.Called what x handler errand)) p
 -- it waits for the work above it
 request_step (request.Releasing c) p = Do.Done (Freed Ok) p
+request_step (request.Draining q) p = draining_step q (head_of p.queues q) (run_queue p q false)
+request_step (request.Dropping q e) p = Do.Done (Freed Ok) p
+request_step (request.Triggering q) p = triggering_step (next_of p.queues q) p
 request_step (request.Over r) p = Do.Done (Heard r) p
 
 -- ---- all works
@@ -317,6 +341,7 @@ abbrev pub request_resume : RequestFrame → Answer → RequestFrame
 request_resume (request.Called what x handler errand) a =
     after_routine what (request.Cleaned x errand) (request.Over (cancelled_reply (value_in a))) (request.Over (reply_to errand))
 request_resume (request.Releasing c) a = request.Over (reply_to Receive)
+request_resume (request.Dropping q e) a = request.Draining q
 request_resume f a = f
 
 abbrev pub resume : Frame → Answer → Frame
