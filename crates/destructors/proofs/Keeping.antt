@@ -27,7 +27,7 @@ use Rattle.tree_specs.specs.Tree.Inside.{total}
 use Rattle.tree_specs.specs.Calls.Refusals.{is_request}
 use Rattle.tree_specs.specs.Machine.FreeTable.{FreeMove, free_step, free_resume, begin_step, refs_step, unlink_step, release_step, child_step, loop_step, hand_on_step}
 use Rattle.tree_specs.specs.Machine.Table.{Step, table, lifted}
-use Rattle.tree_specs.specs.Invariants.Measure.{below_cost, loop_kids, top_cost, cost}
+use Rattle.tree_specs.specs.Invariants.Measure.{below_cost, below_wants, top_cost, cost}
 use Rattle.tree_specs.specs.Invariants.Sound.{phase_of, phases, claim_if, claims, Sound}
 use Rattle.tree_specs.specs.Invariants.Consistent.{IsStacked, IsPaidFor}
 use Rattle.tree_specs.proofs.Tree.Numbered.{by_test}
@@ -99,17 +99,17 @@ both-costs (frame.Outside o ∷ fs) = let ih = both-costs fs in omega (arith, ih
 both-costs (frame.Request r ∷ fs) = let ih = both-costs fs in omega (arith, ih)
 
 -- a free that waits for no free has no children to look at
-no-kids : (rows : List Row) (fs : List FreeFrame) → AwaitsRun fs → loop_kids rows (map (λ g. frame.Free g) fs) ≡ 0
+no-kids : (rows : List Row) (fs : List FreeFrame) → AwaitsRun fs → below_wants rows (map (λ g. frame.Free g) fs) ≡ 0
 no-kids rows [] w = refl
 no-kids rows (Hooked x h ∷ fs) w = refl
 no-kids rows (Preparing x ∷ fs) w = refl
 no-kids rows (_ ∷ fs) w = cc
 
-same-kids : (rows : List Row) (f : FreeFrame) (fs : List Frame) → IsStacked (frame.Free f) fs → loop_kids rows fs ≡ loop_kids rows (map (λ g. frame.Free g) (frees_among fs))
+same-kids : (rows : List Row) (f : FreeFrame) (fs : List Frame) → IsStacked (frame.Free f) fs → below_wants rows fs ≡ below_wants rows (map (λ g. frame.Free g) (frees_among fs))
 same-kids rows f [] s = refl
 same-kids rows f (frame.Free g ∷ gs) s = among g
   where
-    among : (g : FreeFrame) → loop_kids rows (frame.Free g ∷ gs) ≡ loop_kids rows (frame.Free g ∷ map (λ h. frame.Free h) (frees_among gs))
+    among : (g : FreeFrame) → below_wants rows (frame.Free g ∷ gs) ≡ below_wants rows (frame.Free g ∷ map (λ h. frame.Free h) (frees_among gs))
     among (Looping x purpose) = refl
     among _ = refl
 same-kids rows f (frame.Call c ∷ gs) s = sym (no-kids rows (frees_among gs) (awaits-run (frame.Call c) gs (λ z. z) s.1))

@@ -2,6 +2,7 @@
 pub mod Changes
 pub mod Turning
 pub mod Notes
+pub mod Queues
 pub mod FreeNotes
 pub mod KeptNotes
 pub mod KeptCalm

@@ -103,9 +103,12 @@ pub enum FreeFrame {
         hook: u32,
         value: u32,
     },
-    /// `x` is a request, which is to be received before it leaves its owner, where it wasn't yet; or it is a queue, whose
-    /// entries are to be freed. It waits until this is over.
+    /// `x` is a request. Before it leaves its owner it is to be received, where it wasn't yet; it waits until this is over.
     Preparing {
+        x: Obj,
+    },
+    /// `x` is a queue. Before it leaves its owner its entries are to be freed; it waits until this is over.
+    Draining {
         x: Obj,
     },
     /// This is over, and it is to be as before for its freeing to go on.
@@ -274,7 +277,7 @@ pub enum RequestFrame {
         errand: Errand,
     },
     /// The queue is to be freed: it doesn't run any more, and its entries are to be freed before it, the first one first.
-    Draining {
+    Vacating {
         queue: Obj,
     },
     /// It waits for the freeing of an entry of the queue.

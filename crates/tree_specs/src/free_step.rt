@@ -18,8 +18,10 @@ pub enum FreeReply {
 pub enum FreeStep {
     /// The destructor of the object is to run.
     Ask(Obj),
-    /// The object is a request, which is to be received where it wasn't yet, or a queue, whose entries are to be freed.
+    /// The object is a request, which is to be received where it wasn't yet.
     Prepare(Obj),
+    /// The object is a queue, whose entries are to be freed.
+    Drain(Obj),
     /// A reference is no more.
     Dropped {
         reference: Obj,

@@ -38,7 +38,7 @@ use Rattle.tree_specs.specs.Invariants.Sound.{claims}
 use Rattle.tree_specs.specs.Invariants.Consistent.{IsConsistent}
 use Rattle.tree_specs.proofs.Tree.Numbered.{by_test}
 use Rattle.tree_specs.proofs.Invariants.Changes.{handling-row, claim-here}
-use Rattle.tree_specs.proofs.Invariants.Turning.{handler-ready, rotated-rows, Passes, Pass, Serve, look-passes, taken-plain}
+use Rattle.tree_specs.proofs.Invariants.Turning.{handler-ready, rotated-rows, Passes, Pass, Serve, look-passes, taken-plain, Trigger}
 use Rattle.tree_specs.proofs.Invariants.Waiters.{Waiter, ForRun}
 use Rattle.tree_specs.proofs.Promises.Later.{Later, later-rows, later-same, later-waiting, later-marked}
 use Rattle.tree_specs.proofs.Promises.Past.{Past, Accounts, past-goes, past-tells, unfreed}
@@ -82,10 +82,11 @@ module _ (scenes : List Scene) (b : Option CallStart) (ws : List NotedWork) (p :
   }
 
   passes : (f : TurnFrame) (m : Step) → Passes p m → Known scenes (with_note b (frame.Turn f)) ws p → FineBy scenes (frame.Turn f) b p m ws
-  passes f _ (Pass g q rows next notes-are times plain) known = goes f g q (later-waiting p q rows next notes-are) known
-  passes f _ (Serve Notify x q rows next notes-are times served noted) known = begins f (Serving x) (frame.Request (request.Notifying x Notify)) q (later-waiting p q rows next notes-are) tt tt tt known
-  passes f _ (Serve (Finish TimedOut) x q rows next notes-are times served noted) known = begins f (Serving x) (frame.Request (request.Finishing x TimedOut)) q (later-waiting p q rows next notes-are) tt tt tt known
-  passes f _ (Serve _ x q rows next notes-are times served noted) known = absurd served
+  passes f _ (Pass g q rows next notes-are queues times plain) known = goes f g q (later-waiting p q rows next notes-are) known
+  passes f _ (Trigger x q rows next notes-are queues times queue) known = begins f (Serving x) (frame.Request (request.Triggering x)) q (later-waiting p q rows next notes-are) tt tt tt known
+  passes f _ (Serve Notify x q rows next notes-are queues times served noted) known = begins f (Serving x) (frame.Request (request.Notifying x Notify)) q (later-waiting p q rows next notes-are) tt tt tt known
+  passes f _ (Serve (Finish TimedOut) x q rows next notes-are queues times served noted) known = begins f (Serving x) (frame.Request (request.Finishing x TimedOut)) q (later-waiting p q rows next notes-are) tt tt tt known
+  passes f _ (Serve _ x q rows next notes-are queues times served noted) known = absurd served
 
   -- it asks no destructor, and goes on as a turn
   asks : (f : TurnFrame) (q : Ask) → ((y : Obj) → asks_hook y (Asked q) ≡ false) → ((i : Input) (g : Frame) → turn_taken f p i ≡ Some g → (t : TurnFrame) × (g ≡ frame.Turn t))

@@ -15,7 +15,7 @@ use Rattle.tree_specs.specs.declared.frame.TurnFrame.TheVariants.{Taking, Timing
 use Rattle.tree_specs.specs.declared.handler.Handler.{Handler}
 use Rattle.tree_specs.specs.declared.question.Ask.TheVariants.{Quiet, Clock, Wait}
 use Rattle.tree_specs.specs.Events.Coming.{handler_for, goes_after}
-use Rattle.tree_specs.proofs.Invariants.Turning.{Passes, Pass, Serve, look-passes}
+use Rattle.tree_specs.proofs.Invariants.Turning.{Passes, Pass, Serve, look-passes, Trigger}
 use Rattle.tree_specs.proofs.Tree.Numbered.{by_test}
 use Rattle.tree_specs.specs.declared.call.Call.TheVariants as call
 use Rattle.tree_specs.specs.declared.request.Note.{Note}
@@ -34,7 +34,7 @@ use Rattle.tree_specs.specs.declared.free_step.FreeStep.{FreeStep}
 use Rattle.tree_specs.specs.declared.event.Event.{Event}
 use Rattle.tree_specs.specs.declared.call.Call.{Call}
 use Rattle.tree_specs.specs.declared.question.Ask.{Ask}
-use Rattle.tree_specs.specs.Tree.Pool.{Pool, schedule, renote}
+use Rattle.tree_specs.specs.Tree.Pool.{Pool, schedule, renote, run_queue}
 use Rattle.tree_specs.specs.Rules.Items.{Item, IsQuestion}
 use Rattle.tree_specs.specs.Rules.Items.Item.{Asked}
 use Rattle.tree_specs.specs.Calls.Plans.{Plan, planned, plan, unless_refused}
@@ -42,7 +42,7 @@ use Rattle.tree_specs.specs.Calls.Plans.Plan.{Does, Frees, Unlinks, Empties, Ask
 use Rattle.tree_specs.specs.Rules.Story.{turns}
 use Rattle.tree_specs.specs.Calls.Refusals.{Check}
 use Rattle.tree_specs.specs.Machine.FreeTable.{free_step}
-use Rattle.tree_specs.specs.Machine.Table.{Step, call_step, turning_step, starting_step, handled_step, turn_step, outside_step, over_step, cancelling_step, cleaning_step, release_object, cleaned_step, callback_step, notifying_step, receiving_step, request_step, table, step, event_of, announced, plan_step, lifted, taken}
+use Rattle.tree_specs.specs.Machine.Table.{Step, call_step, turning_step, starting_step, handled_step, turn_step, outside_step, over_step, cancelling_step, cleaning_step, release_object, cleaned_step, callback_step, notifying_step, receiving_step, request_step, table, step, event_of, announced, plan_step, lifted, taken, vacating_step, triggering_step}
 use Rattle.tree_specs.specs.Invariants.Sound.{Sound, Rests}
 use Rattle.tree_specs.specs.Invariants.Noted.{Noted}
 use Rattle.tree_specs.specs.Invariants.Measure.{cost}
@@ -56,6 +56,7 @@ use Rattle.tree_specs.proofs.Turns.Falls.{Well, falls}
 use Rattle.tree_specs.proofs.Turns.Load.{placed-kept}
 use Rattle.tree_specs.proofs.Turns.Seats.{Placed}
 use Rattle.tree_specs.proofs.Turns.Bound.{cost-turns, pending-most}
+use Rattle.tree_specs.specs.Events.Queues.{Head, head_of, next_of}
 
 -- a bound on the rows that there can be, with k inputs left
 abbrev pub most : View → ℕ → ℕ
@@ -257,13 +258,15 @@ turn-asks (Polling limit) p q i g e = (Wait limit, cc)
 turn-asks Taking p q i g e = absurd (passes (turn_step Taking p) (look-passes Taking p tt) e)
   where
     passes : (m : Step) → Passes p m → m ≡ Do.Wait i g q → ⊥
-    passes _ (Pass t r rows next notes times plain) e = cc
-    passes _ (Serve errand x r rows next notes times served noted) e = cc
+    passes _ (Pass t r rows next notes queues times plain) e = cc
+    passes _ (Trigger x r rows next notes queues times queue) e = cc
+    passes _ (Serve errand x r rows next notes queues times served noted) e = cc
 turn-asks (Timed again now) p q i g e = absurd (passes (turn_step (Timed again now) p) (look-passes (Timed again now) p tt) e)
   where
     passes : (m : Step) → Passes p m → m ≡ Do.Wait i g q → ⊥
-    passes _ (Pass t r rows next notes times plain) e = cc
-    passes _ (Serve errand x r rows next notes times served noted) e = cc
+    passes _ (Pass t r rows next notes queues times plain) e = cc
+    passes _ (Trigger x r rows next notes queues times queue) e = cc
+    passes _ (Serve errand x r rows next notes queues times served noted) e = cc
 turn-asks (Starting what x occasion) p q i g e = absurd (each (handler_for p what x) e)
   where
     each : (o : Option Handler) → starting_step what x occasion o p ≡ Do.Wait i g q → ⊥
@@ -320,6 +323,16 @@ work-asks (request.Notifying x errand) p q i g e = each (note_of p.requests x) e
     each (Some n) e = by_test n.deferred
         (λ t. let e' : over_step errand (schedule (renote p x not_deferring) x) ≡ Do.Wait i g q = rw t at e in cc)
         (λ t. let e' : callback_step x errand n.callback p ≡ Do.Wait i g q = rw t at e in back n.callback e')
+work-asks (request.Vacating x) p q i g e = each (head_of p.queues x) e
+  where
+    each : (o : Option Head) → vacating_step x o (run_queue p x false) ≡ Do.Wait i g q → ⊥
+    each None e = cc
+    each (Some h) e = cc
+work-asks (request.Triggering x) p q i g e = each (next_of p.queues x) e
+  where
+    each : (o : Option Head) → triggering_step o p ≡ Do.Wait i g q → ⊥
+    each None e = cc
+    each (Some h) e = cc
 work-asks _ p q i g e = cc
 
 -- callers, turns and questions to the outside ask

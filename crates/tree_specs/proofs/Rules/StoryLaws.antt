@@ -36,6 +36,7 @@ begin-whole first h = record {
   seated = tt;
   light = omega arith;
   noted = record { pool = record { notes = λ x. refl; timed = λ x t. cc; ready = λ x t. cc }; works = tt };
+  queued = record { pool = record { queues = λ x. refl; entries = λ x. refl; waiting = tt; idle = λ q t. cc }; works = tt; frees = (tt, tt) };
   calm = ((λ x. refl), tt);
 }
 

@@ -2,9 +2,9 @@
 use Rattle.std.specs.Prelude.{ℕ, ◌+◌, nat_eq, codes, List, [], ◌∷◌, length, Bool, true, false, not, is_some, ◌&&◌, Option, Some, None, unwrap_or, if◌then◌else◌}
 use Rattle.tree_specs.specs.declared.object.Obj.{Obj}
 use Rattle.tree_specs.specs.declared.object.Owner.{Owner}
-use Rattle.tree_specs.specs.declared.object.Owner.TheVariants.{Root, Of}
+use Rattle.tree_specs.specs.declared.object.Owner.TheVariants.{Root}
 use Rattle.tree_specs.specs.declared.kind.Kind.{Kind}
-use Rattle.tree_specs.specs.declared.kind.Kind.TheVariants.{Plain, Reference, Timer, Immediate, Descriptor, Queue as QueueKind, Entry}
+use Rattle.tree_specs.specs.declared.kind.Kind.TheVariants.{Plain, Reference, Timer, Immediate, Descriptor}
 use Rattle.tree_specs.specs.declared.row.Row.{Row}
 use Rattle.tree_specs.specs.declared.handler.Handler.{Handler}
 use Rattle.tree_specs.specs.declared.frame.Errand.{Errand}
@@ -12,7 +12,6 @@ use Rattle.tree_specs.specs.declared.frame.Errand.TheVariants.{Finish, Receive, 
 use Rattle.tree_specs.specs.declared.request.Note.{Note}
 use Rattle.tree_specs.specs.declared.request.State.{State}
 use Rattle.tree_specs.specs.declared.request.State.TheVariants as state
-use Rattle.tree_specs.specs.declared.queue.QueueEntry.{QueueEntry}
 use Rattle.tree_specs.specs.declared.notice.Notice.{Notice}
 use Rattle.tree_specs.specs.declared.notice.Notice.TheVariants.{Warned, Closed}
 use Rattle.tree_specs.specs.declared.question.Ask.{Ask}
@@ -24,7 +23,7 @@ use Rattle.tree_specs.specs.declared.reply.Reply.{Reply}
 use Rattle.tree_specs.specs.declared.reply.Reply.TheVariants.{Ok, Number, Pair, Rows, No}
 use Rattle.tree_specs.specs.Words.Objects.{owner_number}
 use Rattle.tree_specs.specs.Tree.Targets.{newest_ref}
-use Rattle.tree_specs.specs.Tree.Pool.{Pool, changed, is_below, owner_of, newest_ref_of, add, place, named_row, hooked_row, sized_row, limited_row, set_handler, schedule, unschedule, arm, watch, rewatch, close_descriptor, take_number, add_request, renote, run_queue, enter, look_at}
+use Rattle.tree_specs.specs.Tree.Pool.{Pool, changed, is_below, owner_of, newest_ref_of, add, place, named_row, hooked_row, sized_row, limited_row, set_handler, schedule, unschedule, arm, watch, rewatch, close_descriptor, take_number, add_request, renote, run_queue, add_queue, add_entry, look_at}
 use Rattle.tree_specs.specs.Events.Rotation.{flags_of, flagged, closing}
 use Rattle.tree_specs.specs.Events.Requests.{state_number, is_in_progress, note_of, called_back, deferring, cleaned_by, cancelled_by, failed_with}
 use Rattle.tree_specs.specs.Events.Queues.{runs, length_of}
@@ -63,8 +62,10 @@ pub data Change : Type 0 where
   Renotes : Obj → (Note → Note) → Change
   -- a queue runs from now on, or it doesn't
   Runs : Obj → Bool → Change
-  -- an entry waits in a queue
-  Enters : Obj → QueueEntry → Change
+  -- a new queue below an owner, which runs
+  AddQueue : Owner → List ℕ → Change
+  -- a new entry of a queue, for a request
+  AddEntry : Obj → Obj → Handler → Change
   -- a queue comes soon, where it runs and its first entry waits for its trigger
   LooksAt : Obj → Change
   -- one change after another
@@ -86,7 +87,8 @@ changed_by TakeNumber p = take_number p
 changed_by (AddRequest o size name) p = add_request p o size name
 changed_by (Renotes x change) p = renote p x change
 changed_by (Runs q running) p = run_queue p q running
-changed_by (Enters x entry) p = enter p x entry
+changed_by (AddQueue o name) p = add_queue p o name
+changed_by (AddEntry q x trigger) p = add_entry p q x trigger
 changed_by (LooksAt q) p = look_at p q
 changed_by (Then first second) p = changed_by second (changed_by first p)
 
@@ -181,17 +183,6 @@ progress_reply (Some n) = if is_in_progress n.state then Number 1 else Number 0
 abbrev pub fails : Obj → ℕ → Plan
 fails x error = if nat_eq error 0 then replies (Number 0) else Works (Renotes x (failed_with error)) (Finish state.UserError) x
 
--- a new queue runs
-abbrev pub adds_queue : Pool → Owner → List ℕ → Change
-adds_queue p o name = Then (Add QueueKind o 0 name) (Runs (record { 0 = p.next }) true)
-
-abbrev pub new_entry : Obj → Obj → Handler → QueueEntry
-new_entry q x handler = record { queue = q; request = x; trigger = handler; triggered = false }
-
--- a new entry, which is a child of its request
-abbrev pub adds_entry : Pool → Obj → Obj → Handler → Change
-adds_entry p q x handler = Then (Add Entry (Of x) 0 (codes "entry")) (Then (Enters (record { 0 = p.next }) (new_entry q x handler)) (LooksAt q))
-
 -- starting a queue that runs changes nothing
 abbrev pub starts : Pool → Obj → Plan
 starts p q = if runs p.queues q then replies Ok else Does (Then (Runs q true) (LooksAt q)) None Ok
@@ -245,8 +236,8 @@ plan p (call.Iserror x) = replies (failure_reply (note_of p.requests x))
 plan p (call.Progress x) = replies (progress_reply (note_of p.requests x))
 plan p (call.Endtime x time) = Does (Then (Arm x time p.next) TakeNumber) None Ok
 plan p (call.Received x) = Works Nothing Receive x
-plan p (call.Queue o name) = Does (adds_queue p o name) None (Number p.next)
-plan p (call.Enqueue q x routine user) = Does (adds_entry p q x (record { routine = routine; user = user })) None (Number p.next)
+plan p (call.Queue o name) = Does (AddQueue o name) None (Number p.next)
+plan p (call.Enqueue q x routine user) = Does (AddEntry q x (record { routine = routine; user = user })) None (Number p.next)
 plan p (call.Start q) = starts p q
 plan p (call.Stop q) = Does (Runs q false) None Ok
 plan p (call.Length q) = replies (Number (length_of p.queues q))

@@ -87,12 +87,6 @@ abbrev pub is_entry : Kind → Bool
 is_entry Entry = true
 is_entry k = false
 
--- work comes before the freeing of a request, which is received, and of a queue, whose entries are freed
-abbrev pub is_prepared : Kind → Bool
-is_prepared Request = true
-is_prepared QueueKind = true
-is_prepared k = false
-
 -- there may be references to a plain object, and to a request
 abbrev pub is_referable : Kind → Bool
 is_referable Plain = true
@@ -215,18 +209,6 @@ fits p o wanted = fits_in (length p.rows) p.rows wanted (Some o)
 abbrev pub staying : Pool → Obj → Check
 staying p x = refuse_if (is_dying p.rows x) (Dying x)
 
--- it is being freed, or its entries are before it
-abbrev pub is_going_mark : Mark → Bool
-is_going_mark mark.Asked = true
-is_going_mark m = is_dying_mark m
-
-abbrev pub is_going : Pool → Obj → Bool
-is_going p x = passes (λ r. is_going_mark r.mark) (row_of p.rows x)
-
--- nothing is done with a queue that goes
-abbrev pub remaining : Pool → Obj → Check
-remaining p x = refuse_if (is_going p x) (Dying x)
-
 -- it is being freed, or is to be once its handler is over
 abbrev pub is_doomed_mark : Mark → Bool
 is_doomed_mark mark.Doomed = true
@@ -234,6 +216,18 @@ is_doomed_mark m = is_dying_mark m
 
 abbrev pub is_doomed : Pool → Obj → Bool
 is_doomed p x = passes (λ r. is_doomed_mark r.mark) (row_of p.rows x)
+
+-- it is being freed, or its entries are before it: something goes on with it
+abbrev pub is_going_mark : Mark → Bool
+is_going_mark mark.Quiet = false
+is_going_mark m = true
+
+abbrev pub is_going : Pool → Obj → Bool
+is_going p x = passes (λ r. is_going_mark r.mark) (row_of p.rows x)
+
+-- nothing is done with a queue that goes
+abbrev pub remaining : Pool → Obj → Check
+remaining p x = refuse_if (is_going p x) (Dying x)
 
 -- an event that is to be freed waits for nothing
 abbrev pub lasting : Pool → Obj → Check

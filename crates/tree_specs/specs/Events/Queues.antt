@@ -6,6 +6,7 @@ use Rattle.std.specs.FinMap.Entries.{find, put}
 use Rattle.tree_specs.specs.declared.object.Obj.{Obj}
 use Rattle.tree_specs.specs.declared.queue.QueueEntry.{QueueEntry}
 use Rattle.tree_specs.specs.Words.Objects.{same}
+use Rattle.tree_specs.specs.declared.handler.Handler.{Handler}
 
 -- All queues and all entries by their numbers, in the order of the numbers. A new entry has the greatest number so far, so that
 -- the entries of a queue stand in the order in which they came.
@@ -23,15 +24,18 @@ no_queues = record { running = []; entries = [] }
 abbrev pub running_of : Queues → Obj → Option Bool
 running_of qs q = find nat_cmp q.0 qs.running
 
-abbrev pub is_queue : Queues → Obj → Bool
-is_queue qs q = is_some (running_of qs q)
+abbrev pub has_queue : Queues → Obj → Bool
+has_queue qs q = is_some (running_of qs q)
 
 abbrev pub runs : Queues → Obj → Bool
 runs qs q = unwrap_or (running_of qs q) false
 
--- it runs from now on, or it doesn't
 abbrev pub with_queue : Queues → Obj → Bool → Queues
 with_queue qs q running = record qs { running = put nat_cmp q.0 running qs.running }
+
+-- a queue runs from now on, or it doesn't
+abbrev pub run_as : Queues → Obj → Bool → Queues
+run_as qs q running = if has_queue qs q then with_queue qs q running else qs
 
 abbrev pub without_queue : Queues → Obj → Queues
 without_queue qs q = record qs { running = filter (λ r. not (eq_by_cmp nat_cmp q.0 r.0)) qs.running }
@@ -59,6 +63,9 @@ entries_in (e ∷ es) q = if same e.1.queue q then record { 0 = e.0 } ∷ entrie
 abbrev pub length_of : Queues → Obj → ℕ
 length_of qs q = length (entries_in qs.entries q)
 
+abbrev pub new_entry : Obj → Obj → Handler → QueueEntry
+new_entry q x trigger = record { queue = q; request = x; trigger = trigger; triggered = false }
+
 -- ---- whose turn it is
 
 -- the first entry of a queue, and the object that it is
@@ -72,6 +79,9 @@ head_in (e ∷ es) q = if same e.1.queue q then Some (record { object = record {
 
 abbrev pub head_of : Queues → Obj → Option Head
 head_of qs q = head_in qs.entries q
+
+abbrev pub has_entries : Queues → Obj → Bool
+has_entries qs q = is_some (head_of qs q)
 
 abbrev pub untriggered : Option Head → Option Head
 untriggered None = None

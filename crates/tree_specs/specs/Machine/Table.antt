@@ -30,7 +30,7 @@ use Rattle.tree_specs.specs.declared.frame.Frame.TheVariants as frame
 use Rattle.tree_specs.specs.declared.frame.CallFrame.{CallFrame}
 use Rattle.tree_specs.specs.declared.frame.CallFrame.TheVariants.{Asking, Doing, Awaiting, Turning, Requesting, Announcing, Telling, Returning}
 use Rattle.tree_specs.specs.declared.frame.FreeFrame.{FreeFrame}
-use Rattle.tree_specs.specs.declared.frame.FreeFrame.TheVariants.{Unlinking, Beginning, Hooked, Judged, Preparing, Prepared, Looping}
+use Rattle.tree_specs.specs.declared.frame.FreeFrame.TheVariants.{Unlinking, Beginning, Hooked, Judged, Preparing, Prepared, Looping, Draining}
 use Rattle.tree_specs.specs.declared.frame.TurnFrame.{TurnFrame}
 use Rattle.tree_specs.specs.declared.frame.TurnFrame.TheVariants.{Taking, Timing, Timed, Polling, Starting, Firing, Handling, Handled, Clearing, Serving, Closing}
 use Rattle.tree_specs.specs.declared.frame.OutsideFrame.{OutsideFrame}
@@ -45,10 +45,10 @@ use Rattle.tree_specs.specs.declared.frame.Answer.TheVariants.{Freed, Returned, 
 use Rattle.tree_specs.specs.declared.free_step.FreeReply.{FreeReply}
 use Rattle.tree_specs.specs.declared.free_step.FreeReply.TheVariants.{Ok}
 use Rattle.tree_specs.specs.declared.free_step.FreeStep.{FreeStep}
-use Rattle.tree_specs.specs.declared.free_step.FreeStep.TheVariants.{Ask as AskOf, Prepare, Dropped, Refused, Accepted, Doom, Left, Moved, Gone, Done as Over}
+use Rattle.tree_specs.specs.declared.free_step.FreeStep.TheVariants.{Ask as AskOf, Prepare, Dropped, Refused, Accepted, Doom, Left, Moved, Gone, Done as Over, Drain}
 use Rattle.tree_specs.specs.Tree.Pool.{Pool, set_mark, schedule, unschedule, disarm, open_descriptor, renote, finish, receive, run_queue, trigger}
 use Rattle.tree_specs.specs.Events.Pending.{first}
-use Rattle.tree_specs.specs.Events.Queues.{Head, is_queue, head_of, next_of}
+use Rattle.tree_specs.specs.Events.Queues.{Head, has_queue, head_of, next_of}
 use Rattle.tree_specs.specs.Events.Requests.{state_number, note_of, is_noted, is_unreceived, cleanup_in, cancel_in, cleaned, not_deferring}
 use Rattle.tree_specs.specs.Rules.Errands.{reply_to, cancelled_reply, is_receive, after_routine}
 use Rattle.tree_specs.specs.Events.Rotation.{Ready, closes_with, first_ready}
@@ -77,6 +77,7 @@ closed_event (Some fd) = Some (event.Closed fd)
 abbrev pub event_of : List Watch → FreeStep → Option Event
 event_of ring (AskOf x) = None
 event_of ring (Prepare x) = None
+event_of ring (Drain x) = None
 event_of ring (Dropped r target) = Some (event.Unreferenced r target)
 event_of ring (Refused x v) = Some (event.Refused x v)
 event_of ring (Accepted x) = Some (event.Accepted x)
@@ -91,17 +92,18 @@ announced None f p = Do.Go (frame.Free f) p
 announced (Some e) f p = Do.Emit (Told e) (frame.Free f) p
 
 -- what a free waits for: the run of a destructor, that a request is received, or that the entries of a queue are freed
-abbrev pub run_for : FreeFrame → Pool → Frame
-run_for (Hooked x h) p = frame.Call (Asking (Routine (hook_moment x h)))
-run_for (Preparing x) p = if is_queue p.queues x then frame.Request (request.Draining x) else frame.Request (request.Receiving x)
-run_for f p = frame.Free f
+abbrev pub run_for : FreeFrame → Frame
+run_for (Hooked x h) = frame.Call (Asking (Routine (hook_moment x h)))
+run_for (Preparing x) = frame.Request (request.Receiving x)
+run_for (Draining x) = frame.Request (request.Vacating x)
+run_for f = frame.Free f
 
 -- a step of a free, among the host's works, with what was watched before it
 abbrev pub lifted : List Watch → FreeMove → Step
 lifted ring (Do.Done a p) = Do.Done (Freed a) p
 lifted ring (Do.Go f p) = Do.Go (frame.Free f) p
 lifted ring (Do.Emit e f p) = announced (event_of ring e) f p
-lifted ring (Do.Wait q f p) = Do.Call (run_for f p) (frame.Free f) p
+lifted ring (Do.Wait q f p) = Do.Call (run_for f) (frame.Free f) p
 lifted ring (Do.Call g f p) = Do.Call (frame.Free g) (frame.Free f) p
 
 -- the reply is told next, and then the caller is asked again
@@ -174,7 +176,7 @@ queue_step false x p = Do.Go (frame.Turn (Starting ForImmediate x plainly)) p
 -- or it is a request, which is notified
 abbrev pub soon_step : Bool → Obj → Pool → Step
 soon_step true x p = Do.Call (work_of Notify x) (frame.Turn (Serving x)) p
-soon_step false x p = queue_step (is_queue p.queues x) x p
+soon_step false x p = queue_step (has_queue p.queues x) x p
 
 -- those that come soon are first
 abbrev pub taking_step : Option Obj → Pool → Step
@@ -269,9 +271,9 @@ receiving_step x true p = Do.Emit (Told (event.State x (state_number Received)))
 receiving_step x false p = over_step Receive p
 
 -- the first entry of a queue is freed; it doesn't run meanwhile
-abbrev pub draining_step : Obj → Option Head → Pool → Step
-draining_step q None p = Do.Go (frame.Request (request.Over reply.Ok)) p
-draining_step q (Some h) p = Do.Call (frame.Free (Beginning h.object)) (frame.Request (request.Dropping q h.object)) p
+abbrev pub vacating_step : Obj → Option Head → Pool → Step
+vacating_step q None p = Do.Go (frame.Request (request.Over reply.Ok)) p
+vacating_step q (Some h) p = Do.Call (frame.Free (Beginning h.object)) (frame.Request (request.Dropping q h.object)) p
 
 -- the trigger of an entry runs for its request
 abbrev pub triggering_step : Option Head → Pool → Step
@@ -289,7 +291,7 @@ request_step (request.Calling what x handler errand) p = Do.Emit (Told (event.Fi
 request_step (request.Called what x handler errand) p = Do.Call (frame.Call (Asking (Routine (handler_moment what x handler plainly)))) (frame.Request (request.Called what x handler errand)) p
 -- it waits for the work above it
 request_step (request.Releasing c) p = Do.Done (Freed Ok) p
-request_step (request.Draining q) p = draining_step q (head_of p.queues q) (run_queue p q false)
+request_step (request.Vacating q) p = vacating_step q (head_of p.queues q) (run_queue p q false)
 request_step (request.Dropping q e) p = Do.Done (Freed Ok) p
 request_step (request.Triggering q) p = triggering_step (next_of p.queues q) p
 request_step (request.Over r) p = Do.Done (Heard r) p
@@ -329,6 +331,7 @@ caller_resume f a = f
 abbrev pub freeing_resume : FreeFrame → Answer → FreeFrame
 freeing_resume (Hooked x h) a = Judged x h (value_in a)
 freeing_resume (Preparing x) a = Prepared x
+freeing_resume (Draining x) a = Prepared x
 freeing_resume f a = free_resume f (reply_in a)
 
 abbrev pub turn_resume : TurnFrame → TurnFrame
@@ -341,7 +344,7 @@ abbrev pub request_resume : RequestFrame → Answer → RequestFrame
 request_resume (request.Called what x handler errand) a =
     after_routine what (request.Cleaned x errand) (request.Over (cancelled_reply (value_in a))) (request.Over (reply_to errand))
 request_resume (request.Releasing c) a = request.Over (reply_to Receive)
-request_resume (request.Dropping q e) a = request.Draining q
+request_resume (request.Dropping q e) a = request.Vacating q
 request_resume f a = f
 
 abbrev pub resume : Frame → Answer → Frame

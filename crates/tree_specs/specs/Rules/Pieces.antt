@@ -30,7 +30,7 @@ use Rattle.tree_specs.specs.Events.Requests.{state_number, is_noted}
 use Rattle.tree_specs.specs.Events.Coming.{at_time}
 use Rattle.tree_specs.specs.Tree.Heirs.{heir}
 use Rattle.tree_specs.specs.Rules.Items.Item.{Told}
-use Rattle.tree_specs.specs.Calls.Refusals.{is_prepared}
+use Rattle.tree_specs.specs.Calls.Refusals.{is_request, is_queue}
 use Rattle.tree_specs.specs.Calls.Plans.{Plan, changed_by}
 use Rattle.tree_specs.specs.Calls.Plans.Plan.{Does, Frees, Unlinks, Empties, Asks, Turns, Works}
 use Rattle.tree_specs.specs.Rules.Answers.{freed_reply}
@@ -153,12 +153,16 @@ from_newest (Some r) p x again outside unreferred = do
 
 -- An object with which nothing goes on is freed: a request is received first, the entries of a queue are freed first, an object
 -- with a destructor is asked, and any other leaves its owner at once.
-abbrev pub from_quiet : Row → Obj → Work FreeReply → Work FreeReply → Work FreeReply → Work FreeReply
-from_quiet r x prepare ask leave =
-    if is_prepared r.kind
+abbrev pub from_quiet : Row → Obj → Work FreeReply → Work FreeReply → Work FreeReply → Work FreeReply → Work FreeReply
+from_quiet r x receive drain ask leave =
+    if is_request r.kind
     then (do
       change (λ p. set_mark p x mark.Asked)
-      prepare)
+      receive)
+    else if is_queue r.kind
+    then (do
+      change (λ p. set_mark p x mark.Asked)
+      drain)
     else if nat_eq r.hook 0
     then leave
     else (do

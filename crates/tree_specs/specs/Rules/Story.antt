@@ -29,7 +29,7 @@ use Rattle.tree_specs.specs.Tree.Targets.{newest_ref}
 use Rattle.tree_specs.specs.Tree.Pool.{Pool, empty, row_of, owner_of, newest_ref_of, target_at, noted_owner, first_kid, detach, remove, place, set_mark, doom, set_hook, schedule, unschedule, open_descriptor, renote, finish, receive, run_queue, trigger}
 use Rattle.tree_specs.specs.Events.Pending.{first}
 use Rattle.tree_specs.specs.Events.Requests.{note_of, is_noted, is_unreceived, cleanup_in, cancel_in, cleaned as is_cleaned, not_deferring}
-use Rattle.tree_specs.specs.Events.Queues.{is_queue, head_of, next_of}
+use Rattle.tree_specs.specs.Events.Queues.{has_queue, head_of, next_of}
 use Rattle.tree_specs.specs.Rules.Errands.{reply_to, cancelled_reply, is_receive, after_routine}
 use Rattle.tree_specs.specs.Events.Rotation.{first_ready}
 use Rattle.tree_specs.specs.Events.Coming.{wait_limit, handler_for, handler_moment, with_flags, plainly, begun, goes_after, looks_again}
@@ -79,7 +79,7 @@ abbrev mutual
     from_newest (newest_ref p.rows x) p x (free n x) (λ r. gives Held) (elim (row_of p.rows x) [
       | None ↦ gives Ok
       | Some r ↦ elim r.mark [
-        | mark.Quiet ↦ from_quiet r x (preparing n x) (hooked n x r.hook) (leave n x 0)
+        | mark.Quiet ↦ from_quiet r x (preparing n x) (draining n x) (hooked n x r.hook) (leave n x 0)
         | mark.Asked ↦ gives Running
         | mark.Busy ↦ (do
           lets_go x (λ q. doom q x)
@@ -89,12 +89,18 @@ abbrev mutual
       ]
     ])
 
-  -- a request is received, or the entries of a queue are freed, and then it leaves its owner as any other object
+  -- a request is received, and then it leaves its owner as any other object
   pub preparing : ℕ → Obj → Work FreeReply
   preparing zero x = short
   preparing (suc n) x = do
-    p ← pool
-    answer ← if is_queue p.queues x then draining n x else receiving n x
+    answer ← receiving n x
+    prepared n x
+
+  -- the entries of a queue are freed, and then it leaves its owner
+  pub draining : ℕ → Obj → Work FreeReply
+  draining zero x = short
+  draining (suc n) x = do
+    answer ← vacating n x
     prepared n x
 
   pub prepared : ℕ → Obj → Work FreeReply
@@ -203,7 +209,7 @@ abbrev mutual
     elim (first p.soon) [
       | Some x ↦ (do
         change (λ q. unschedule q x)
-        comes (is_noted p.requests x) (notifying n x Notify) (closing n 1) (comes (is_queue p.queues x) (triggering n x) (closing n 1) (starting n ForImmediate x plainly)))
+        comes (is_noted p.requests x) (notifying n x Notify) (closing n 1) (comes (has_queue p.queues x) (triggering n x) (closing n 1) (starting n ForImmediate x plainly)))
       | None ↦ elim (first p.times) [
         | None ↦ polling n wait_limit
         | Some d ↦ if nat_eq d.time 0
@@ -359,16 +365,16 @@ abbrev mutual
     after_routine what (cleaned n x errand) (over n (cancelled_reply v)) (over n (reply_to errand))
 
   -- A queue is to be freed. It doesn't run any more, and its entries are freed before it, the first one first.
-  pub draining : ℕ → Obj → Work Reply
-  draining zero q = short
-  draining (suc n) q = do
-    change (λ p. run_queue p q false)
+  pub vacating : ℕ → Obj → Work Reply
+  vacating zero q = short
+  vacating (suc n) q = do
     p ← pool
+    change (λ p'. run_queue p' q false)
     elim (head_of p.queues q) [
       | None ↦ over n reply.Ok
       | Some h ↦ (do
         answer ← free n h.object
-        draining n q)
+        vacating n q)
     ]
 
   -- the trigger of a queue's first entry runs for the request, where the queue runs and this waits for it

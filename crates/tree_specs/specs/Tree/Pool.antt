@@ -14,14 +14,14 @@ use Rattle.tree_specs.specs.declared.row.Row.{Row}
 use Rattle.tree_specs.specs.declared.row.Mark.{Mark}
 use Rattle.tree_specs.specs.declared.row.Mark.TheVariants.{Quiet, Doomed, Dying}
 use Rattle.tree_specs.specs.declared.kind.Kind.{Kind}
-use Rattle.tree_specs.specs.declared.kind.Kind.TheVariants.{Plain, Request}
+use Rattle.tree_specs.specs.declared.kind.Kind.TheVariants.{Plain, Request, Queue, Entry}
 use Rattle.tree_specs.specs.Words.Objects.{same, same_owner}
 use Rattle.tree_specs.specs.Events.Pending.{scheduled, unscheduled, armed, disarmed}
 use Rattle.tree_specs.specs.Events.Rotation.{watched, unwatched, rewatched, turned_back, closes_with}
 use Rattle.tree_specs.specs.Events.Descriptors.{Descriptors, listener_alone, opened, closed, shut}
 use Rattle.tree_specs.specs.Events.Handlers.{Handlers, no_handlers, with_handler, without_handler}
 use Rattle.tree_specs.specs.Events.Requests.{Notes, no_notes, new_note, with_note, without_note, renoted, in_state}
-use Rattle.tree_specs.specs.Events.Queues.{Queues, Head, no_queues, with_queue, without_queue, entry_of, with_entry, without_entry, next_of, triggered}
+use Rattle.tree_specs.specs.Events.Queues.{Queues, Head, no_queues, with_queue, run_as, without_queue, new_entry, entry_of, with_entry, without_entry, next_of, triggered}
 use Rattle.tree_specs.specs.Tree.Targets.{target_of, is_target, is_reference, newest, newest_ref}
 
 pub record Pool : Type 0 where
@@ -329,14 +329,19 @@ receive p x = finish (unschedule p x) x Received
 
 -- a queue runs from now on, or it doesn't
 abbrev pub run_queue : Pool → Obj → Bool → Pool
-run_queue p q running = record p { queues = with_queue p.queues q running }
+run_queue p q running = record p { queues = run_as p.queues q running }
 
--- an entry waits in a queue, behind all others
-abbrev pub enter : Pool → Obj → QueueEntry → Pool
-enter p x entry = record p { queues = with_entry p.queues x entry }
-
+-- a queue comes soon, where it runs and its first entry waits for its trigger
 abbrev pub look_at : Pool → Obj → Pool
 look_at p q = record p { soon = looked_at p.queues q p.soon }
+
+-- a new queue below an owner, which runs
+abbrev pub add_queue : Pool → Owner → List ℕ → Pool
+add_queue p o name = record (add p Queue o 0 name) { queues = with_queue p.queues (record { 0 = p.next }) true }
+
+-- a new entry of a queue, behind all others; it is a child of its request
+abbrev pub add_entry : Pool → Obj → Obj → Handler → Pool
+add_entry p q x trigger = look_at (record (add p Entry (Of x) 0 (codes "entry")) { queues = with_entry p.queues (record { 0 = p.next }) (new_entry q x trigger) }) q
 
 -- the trigger of an entry begins
 abbrev pub trigger : Pool → Head → Pool
