@@ -30,7 +30,7 @@ use Rattle.tree_specs.proofs.Invariants.KeptFrees.{KeptBy, asking, beginning, do
 use Rattle.tree_specs.proofs.Invariants.KeptGivings.{releasing, unlinking}
 use Rattle.tree_specs.proofs.Invariants.KeptTurns.{turn-kept, outside-kept}
 use Rattle.tree_specs.proofs.Invariants.KeptRequests.{preparing, prepared, request-kept, draining}
-use Rattle.tree_specs.specs.Invariants.Queued.{AreWaiting}
+use Rattle.tree_specs.specs.Invariants.Queued.{AreQueued}
 
 turning-kept : (q : Ask) (c : Call) (fs : List Frame) (p : Pool) (k : ℕ) → Sound (frame.Call (Doing q c)) fs p → KeptBy (turning_step q p) fs k
 turning-kept Quiet c fs p k s = stands _ _ fs (frame.Call (Turning Quiet) ∷ fs) p (λ y. refl) (tt, s.waiting) tt s
@@ -66,7 +66,7 @@ planned-kept q c fs p k s Turns may = turning-kept q c fs p k s
 planned-kept q c fs p k s (Works change errand x) may = work-kept q c fs p k change errand x s may.0 may.3
 
 -- every step keeps what is sound
-pub sound-kept : (f : Frame) (fs : List Frame) (p : Pool) (k : ℕ) → Sound f fs p → AreWaiting p → KeptBy (step f p) fs k
+pub sound-kept : (f : Frame) (fs : List Frame) (p : Pool) (k : ℕ) → Sound f fs p → AreQueued p → KeptBy (step f p) fs k
 sound-kept (frame.Call (Asking q)) fs p k s w = asking q fs p k s
 sound-kept (frame.Call (Doing q c)) fs p k s w = planned-kept q c fs p k s (planned p c) (may-planned (frame.Call (Doing q c)) fs p s c)
 sound-kept (frame.Call (Announcing q notice r)) fs p k s w = goes_on (frame.Call (Announcing q notice r)) (frame.Call (Telling q r)) fs p (λ y. refl) tt s

@@ -57,6 +57,7 @@ use Rattle.tree_specs.proofs.Invariants.Keeps.{sound-kept}
 use Rattle.tree_specs.proofs.Invariants.KeptNotes.{noted-kept, going-unreceived}
 use Rattle.tree_specs.proofs.Invariants.FreeNotes.{NotedBy}
 use Rattle.tree_specs.specs.Events.Queues.{Head, head_of, next_of}
+use Rattle.tree_specs.specs.Invariants.Queued.{AreQueued}
 
 -- what a step leads to
 abbrev pub CalmBy : Move Frame Answer Pool Item → List Frame → ℕ → Type 0
@@ -244,20 +245,20 @@ request-calm (request.Over r) fs p k sound n h = ended (Heard r) fs p k sound.wa
 
 -- ---- all
 
-pub calm-kept : (f : Frame) (fs : List Frame) (p : Pool) (k : ℕ) → Sound f fs p → Noted f p → AllCalm (f ∷ fs) → CalmBy (step f p) fs k
-calm-kept (frame.Call (Asking q)) fs p zero s n h = tt
-calm-kept (frame.Call (Asking q)) fs p (suc k) s n h = λ i g e. leads g (heard-leads q i g e)
+pub calm-kept : (f : Frame) (fs : List Frame) (p : Pool) (k : ℕ) → Sound f fs p → Noted f p → AreQueued p → AllCalm (f ∷ fs) → CalmBy (step f p) fs k
+calm-kept (frame.Call (Asking q)) fs p zero s n w h = tt
+calm-kept (frame.Call (Asking q)) fs p (suc k) s n w h = λ i g e. leads g (heard-leads q i g e)
   where
     leads : (g : Frame) → HeardBy q g → AllCalm (g ∷ fs)
     leads _ (HeardCall c) = h
     leads _ (HeardReturn v of) = (tt, h.1)
-calm-kept (frame.Call (Doing q c)) fs p k s n h =
-    planned-calm q c fs p k h (planned p c) (may-planned (frame.Call (Doing q c)) fs p s c) (sound-kept (frame.Call (Doing q c)) fs p k s) (noted-kept (frame.Call (Doing q c)) fs p k s n)
-calm-kept (frame.Call (Announcing q notice r)) fs p k s n h = h
-calm-kept (frame.Call (Telling q r)) fs p k s n h = h
-calm-kept (frame.Call (Returning v)) fs p k s n h = ended (Returned v) fs p k s.waiting h.1
-calm-kept (frame.Free f) fs p k s n h = lifted-calm p.ring (free_step f p) fs k s.waiting h.1
-calm-kept (frame.Turn f) fs p k s n h = turn-calm f fs p k s h.0 h.1
-calm-kept (frame.Outside f) fs p k s n h = outside-calm f fs p k s h.1
-calm-kept (frame.Request f) fs p k s n h = request-calm f fs p k s n h
-calm-kept _ fs p k s n h = absurd s.rests
+calm-kept (frame.Call (Doing q c)) fs p k s n w h =
+    planned-calm q c fs p k h (planned p c) (may-planned (frame.Call (Doing q c)) fs p s c) (sound-kept (frame.Call (Doing q c)) fs p k s w) (noted-kept (frame.Call (Doing q c)) fs p k s n)
+calm-kept (frame.Call (Announcing q notice r)) fs p k s n w h = h
+calm-kept (frame.Call (Telling q r)) fs p k s n w h = h
+calm-kept (frame.Call (Returning v)) fs p k s n w h = ended (Returned v) fs p k s.waiting h.1
+calm-kept (frame.Free f) fs p k s n w h = lifted-calm p.ring (free_step f p) fs k s.waiting h.1
+calm-kept (frame.Turn f) fs p k s n w h = turn-calm f fs p k s h.0 h.1
+calm-kept (frame.Outside f) fs p k s n w h = outside-calm f fs p k s h.1
+calm-kept (frame.Request f) fs p k s n w h = request-calm f fs p k s n h
+calm-kept _ fs p k s n w h = absurd s.rests

@@ -34,7 +34,7 @@ use Rattle.tree_specs.proofs.Calls.Plans.{May, may-planned}
 use Rattle.tree_specs.proofs.Invariants.Changes.{run-refers, run-unreferred, running-row, claim-here, stands, waiting-sound, changed-sound, shape-of, live-owned, marks-place}
 use Rattle.tree_specs.proofs.Invariants.KeptFrees.{KeptBy, ended, prepared-on}
 use Rattle.tree_specs.specs.Invariants.Sound.Footing.{OnFree}
-use Rattle.tree_specs.specs.Invariants.Queued.{AreWaiting}
+use Rattle.tree_specs.specs.Invariants.Queued.{AreQueued}
 use Rattle.tree_specs.specs.Events.Queues.{Head, head_of, next_of}
 use Rattle.tree_specs.specs.declared.reply.Reply.TheVariants.{Ok}
 use Rattle.tree_specs.proofs.Invariants.Queues.{entry-object, entry-unreferred, head-waiting, idle-entry}
@@ -91,7 +91,7 @@ notifying-kept x errand fs p k s (Some n) = by_test n.deferred (λ t. rw t (goes
     back (Some handler) = goes (request.Notifying x errand) _ fs p p refl refl s s.rests
 
 -- the freeing of the first entry of a queue begins
-vacating-kept : (q : Obj) (fs : List Frame) (p : Pool) (k : ℕ) → Sound (frame.Request (request.Vacating q)) fs p → AreWaiting p → KeptBy (request_step (request.Vacating q) p) fs k
+vacating-kept : (q : Obj) (fs : List Frame) (p : Pool) (k : ℕ) → Sound (frame.Request (request.Vacating q)) fs p → AreQueued p → KeptBy (request_step (request.Vacating q) p) fs k
 vacating-kept q fs p k s waiting = each (head_of p.queues q) refl
   where
     drained : Sound (frame.Request (request.Vacating q)) fs (run_queue p q false)
@@ -108,7 +108,7 @@ vacating-kept q fs p k s waiting = each (head_of p.queues q) refl
         rw e (stands (frame.Request (request.Vacating q)) (frame.Free (Beginning h.object)) fs (frame.Request (request.Dropping q h.object) ∷ fs) (run_queue p q false) (λ y. refl) (s.rests, s.waiting)
         ((entry-unreferred p h.object h.entry s.forest.distinct s.refers w, idle-entry h.entry.request (row_of p.rows h.object) w.entry), entry-object p h.object h.entry w) drained)
 
-pub request-kept : (f : RequestFrame) (fs : List Frame) (p : Pool) (k : ℕ) → Sound (frame.Request f) fs p → AreWaiting p → KeptBy (request_step f p) fs k
+pub request-kept : (f : RequestFrame) (fs : List Frame) (p : Pool) (k : ℕ) → Sound (frame.Request f) fs p → AreQueued p → KeptBy (request_step f p) fs k
 request-kept (request.Finishing x state) fs p k s w = goes (request.Finishing x state) (request.Cleaning x (Finish state)) fs p (finish p x state) refl refl s s.rests
 request-kept (request.Receiving x) fs p k s w = by_test (is_unreceived (note_of p.requests x))
     (λ t. rw t (goes (request.Receiving x) (request.Cleaning x Receive) fs p (receive p x) refl refl s s.rests.0))

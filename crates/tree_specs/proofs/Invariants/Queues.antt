@@ -1,6 +1,6 @@
 -- What each change of the pool leaves of what holds of queues.
 use Rattle.std.proofs.Common.{◌≡◌, ◌≢◌, ◌⊎◌, ℕ, Bool, true, false, not, List, [], ◌∷◌, Option, Some, None, refl, sym, ap, subst, ◌∙◌, inl, inr}
-use Rattle.std.specs.Prelude.{is_some, ◌&&◌, codes}
+use Rattle.std.specs.Prelude.{is_some, ◌&&◌, codes, if◌then◌else◌}
 use Rattle.std.specs.declared.cmp.Ordering.{Ordering}
 use Rattle.std.specs.declared.cmp.Ordering.TheVariants.{Less, Equal, Greater}
 use Rattle.std.specs.Ordering.{nat_cmp, eq_by_cmp}
@@ -26,7 +26,7 @@ use Rattle.tree_specs.specs.Tree.Forest.{Distinct}
 use Rattle.tree_specs.specs.Events.Queues.{Queues, Head, has_queue, entry_of, is_entered, head_in, head_of, has_entries, next_of, runs, untriggered, with_entry, triggered_entry, new_entry}
 use Rattle.tree_specs.specs.Calls.Refusals.{is_entry, is_queue, is_request, is_referable, is_queue_row, is_request_row}
 use Rattle.tree_specs.specs.Invariants.Sound.{IsIdleEntry, IsReferable, Refers, MayBePlaced, phases, phase_of}
-use Rattle.tree_specs.specs.Invariants.Queued.{IsEntryRow, IsWaiting, AllWaiting, AreWaiting, is_live_entry, drains, QueuesHold}
+use Rattle.tree_specs.specs.Invariants.Queued.{IsEntryRow, IsQueued, AllQueued, AreQueued, is_live_entry, drains, QueuesHold}
 use Rattle.tree_specs.proofs.Tree.Numbered.{by_test, same-true, same-equal, same-false, same_or_not}
 use Rattle.tree_specs.proofs.Tree.Referring.{unreferred}
 use Rattle.tree_specs.proofs.Tree.Rows.{row_of-changed-other, row_of-changed-same, row_of-without-other, row_of-without-same, row_of-placed-other, row_of-placed-same}
@@ -47,15 +47,15 @@ entry-target : (x : Obj) (o : Option Row) → IsEntryRow x o → target_in o ≡
 entry-target x None h = absurd h
 entry-target x (Some r) h = (entry-kind r.kind h.0).0
 
-pub entry-object : (p : Pool) (x : Obj) (e : QueueEntry) → IsWaiting p x e → target_at p.rows x ≡ None
+pub entry-object : (p : Pool) (x : Obj) (e : QueueEntry) → IsQueued p x e → target_at p.rows x ≡ None
 entry-object p x e w = entry-target e.request (row_of p.rows x) w.entry
 
-entry-unreferable : (x : Obj) (o : Option Row) → IsEntryRow x o → IsReferable o → ⊥
+pub entry-unreferable : (x : Obj) (o : Option Row) → IsEntryRow x o → IsReferable o → ⊥
 entry-unreferable x None h r = r
 entry-unreferable x (Some s) h r = let bad : true ≡ false = sym r.0 ∙ (entry-kind s.kind h.0).1 in cc
 
 -- there is no reference to it
-pub entry-unreferred : (p : Pool) (x : Obj) (e : QueueEntry) → Distinct p.rows → Refers p.rows → IsWaiting p x e → newest_ref p.rows x ≡ None
+pub entry-unreferred : (p : Pool) (x : Obj) (e : QueueEntry) → Distinct p.rows → Refers p.rows → IsQueued p x e → newest_ref p.rows x ≡ None
 entry-unreferred p x e distinct refers w = unreferred p.rows x distinct (entry-unreferable e.request (row_of p.rows x) w.entry) refers
 
 -- ---- all of them
@@ -74,22 +74,22 @@ tied-number a b t = each (nat_cmp a b) refl
 itself : (x : Obj) (n : ℕ) → x.0 ≡ n → eq_by_cmp nat_cmp x.0 n ≡ true
 itself x n e = ap (eq_by_cmp nat_cmp x.0) (sym e) ∙ unsigned_tied x.0 x.0 ∙ same-equal x x refl
 
-pub find-waiting : (p : Pool) (es : List (ℕ × QueueEntry)) (x : Obj) (e : QueueEntry) → AllWaiting p es → find nat_cmp x.0 es ≡ Some e → IsWaiting p x e
+pub find-waiting : (p : Pool) (es : List (ℕ × QueueEntry)) (x : Obj) (e : QueueEntry) → AllQueued p es → find nat_cmp x.0 es ≡ Some e → IsQueued p x e
 find-waiting p [] x e all k = cc
 find-waiting p (s ∷ es) x e all k = by_test (eq_by_cmp nat_cmp x.0 s.0)
     (λ t.
     let k' : Some s.1 ≡ Some e = rw t at k in
     let is : s.1 ≡ e = cc in
-    subst (λ (z : Obj). IsWaiting p z e) (sym (number-is x s.0 (tied-number x.0 s.0 t))) (subst (λ (z : QueueEntry). IsWaiting p (record { 0 = s.0 }) z) is all.0))
+    subst (λ (z : Obj). IsQueued p z e) (sym (number-is x s.0 (tied-number x.0 s.0 t))) (subst (λ (z : QueueEntry). IsQueued p (record { 0 = s.0 }) z) is all.0))
     (λ t. find-waiting p es x e all.1 (rw t at k))
 
-pub head-waiting : (p : Pool) (es : List (ℕ × QueueEntry)) (q : Obj) (h : Head) → AllWaiting p es → head_in es q ≡ Some h → IsWaiting p h.object h.entry
+pub head-waiting : (p : Pool) (es : List (ℕ × QueueEntry)) (q : Obj) (h : Head) → AllQueued p es → head_in es q ≡ Some h → IsQueued p h.object h.entry
 head-waiting p [] q h all e = cc
 head-waiting p (s ∷ es) q h all e = by_test (same s.1.queue q)
     (λ t.
     let e' : Some (record { object = record { 0 = s.0 }; entry = s.1 }) ≡ Some h = rw t at e in
     let is : record { object = record { 0 = s.0 }; entry = s.1 } ≡ h = cc in
-    subst (λ (z : Head). IsWaiting p z.object z.entry) is all.0)
+    subst (λ (z : Head). IsQueued p z.object z.entry) is all.0)
     (λ t. head-waiting p es q h all.1 (rw t at e))
 
 pub head-queue : (es : List (ℕ × QueueEntry)) (q : Obj) (h : Head) → head_in es q ≡ Some h → same h.entry.queue q ≡ true
@@ -102,43 +102,47 @@ head-queue (s ∷ es) q h e = by_test (same s.1.queue q)
     (λ t. head-queue es q h (rw t at e))
 
 pub next-head : (qs : Queues) (q : Obj) (h : Head) → next_of qs q ≡ Some h → head_in qs.entries q ≡ Some h
-next-head qs q h e = by_test (runs qs q)
-    (λ t. each (head_in qs.entries q) (rw t at e))
-    (λ t. let bad : None ≡ Some h = rw t at e in cc)
+next-head qs q h e = running (runs qs q) e
   where
+    waits : (b : Bool) (g : Head) → (if b then None else Some g) ≡ Some h → Some g ≡ Some h
+    waits true g t = cc
+    waits false g t = t
+
     each : (o : Option Head) → untriggered o ≡ Some h → o ≡ Some h
     each None t = cc
-    each (Some g) t = by_test g.entry.triggered
-        (λ u. let bad : None ≡ Some h = rw u at t in cc)
-        (λ u. rw u at t)
+    each (Some g) t = waits g.entry.triggered g t
+
+    running : (b : Bool) → (if b then untriggered (head_in qs.entries q) else None) ≡ Some h → head_in qs.entries q ≡ Some h
+    running true t = each (head_in qs.entries q) t
+    running false t = cc
 
 -- each waits in another pool as it does in this
-pub waiting-kept : (p q : Pool) (es : List (ℕ × QueueEntry)) → ((x : Obj) (e : QueueEntry) → IsWaiting p x e → IsWaiting q x e) → AllWaiting p es → AllWaiting q es
+pub waiting-kept : (p q : Pool) (es : List (ℕ × QueueEntry)) → ((x : Obj) (e : QueueEntry) → IsQueued p x e → IsQueued q x e) → AllQueued p es → AllQueued q es
 waiting-kept p q [] keeps all = tt
 waiting-kept p q (e ∷ es) keeps all = (keeps (record { 0 = e.0 }) e.1 all.0, waiting-kept p q es keeps all.1)
 
 -- so it is of all but one that is taken out
-pub waiting-without : (p q : Pool) (es : List (ℕ × QueueEntry)) (x : Obj) → ((y : Obj) (e : QueueEntry) → x ≢ y → IsWaiting p y e → IsWaiting q y e) → AllWaiting p es
-    → AllWaiting q (filter (λ e. not (eq_by_cmp nat_cmp x.0 e.0)) es)
+pub waiting-without : (p q : Pool) (es : List (ℕ × QueueEntry)) (x : Obj) → ((y : Obj) (e : QueueEntry) → x ≢ y → IsQueued p y e → IsQueued q y e) → AllQueued p es
+    → AllQueued q (filter (λ e. not (eq_by_cmp nat_cmp x.0 e.0)) es)
 waiting-without p q [] x keeps all = tt
 waiting-without p q (e ∷ es) x keeps all = by_test (eq_by_cmp nat_cmp x.0 e.0)
     (λ t. rw t (waiting-without p q es x keeps all.1))
     (λ t. rw t (keeps (record { 0 = e.0 }) e.1 (λ is. let u = itself x e.0 (ap (λ (z : Obj). z.0) is) in let bad : true ≡ false = sym u ∙ t in cc) all.0, waiting-without p q es x keeps all.1))
 
 -- and where none is in this queue
-pub waiting-elsewhere : (p q : Pool) (es : List (ℕ × QueueEntry)) (x : Obj) → is_some (head_in es x) ≡ false → ((y : Obj) (e : QueueEntry) → x ≢ e.queue → IsWaiting p y e → IsWaiting q y e) → AllWaiting p es → AllWaiting q es
+pub waiting-elsewhere : (p q : Pool) (es : List (ℕ × QueueEntry)) (x : Obj) → is_some (head_in es x) ≡ false → ((y : Obj) (e : QueueEntry) → x ≢ e.queue → IsQueued p y e → IsQueued q y e) → AllQueued p es → AllQueued q es
 waiting-elsewhere p q [] x none keeps all = tt
 waiting-elsewhere p q (e ∷ es) x none keeps all = by_test (same e.1.queue x)
     (λ t. let bad : true ≡ false = rw t at none in cc)
     (λ t. (keeps (record { 0 = e.0 }) e.1 (λ is. let u = same-equal e.1.queue x (sym is) in let bad : true ≡ false = sym u ∙ t in cc) all.0, waiting-elsewhere p q es x (rw t at none) keeps all.1))
 
-pub waiting-with : (p : Pool) (es : List (ℕ × QueueEntry)) (x : Obj) (entry : QueueEntry) → IsWaiting p x entry → AllWaiting p es → AllWaiting p (put nat_cmp x.0 entry es)
+pub waiting-with : (p : Pool) (es : List (ℕ × QueueEntry)) (x : Obj) (entry : QueueEntry) → IsQueued p x entry → AllQueued p es → AllQueued p (put nat_cmp x.0 entry es)
 waiting-with p [] x entry one all = (one, tt)
 waiting-with p (e ∷ es) x entry one all = each (nat_cmp x.0 e.0) refl (waiting-with p es x entry one all.1)
   where
-    each : (o : Ordering) → nat_cmp x.0 e.0 ≡ o → AllWaiting p (put nat_cmp x.0 entry es) → AllWaiting p (put nat_cmp x.0 entry (e ∷ es))
+    each : (o : Ordering) → nat_cmp x.0 e.0 ≡ o → AllQueued p (put nat_cmp x.0 entry es) → AllQueued p (put nat_cmp x.0 entry (e ∷ es))
     each Less k more = rw k (one, (all.0, all.1))
-    each Equal k more = rw k (subst (λ (z : Obj). IsWaiting p z entry) (number-is x e.0 (nat_cmp-IsAntisymmetric x.0 e.0 k)) one, all.1)
+    each Equal k more = rw k (subst (λ (z : Obj). IsQueued p z entry) (number-is x e.0 (nat_cmp-IsAntisymmetric x.0 e.0 k)) one, all.1)
     each Greater k more = rw k (all.0, more)
 
 -- ---- what is so of an object
@@ -152,7 +156,7 @@ not-entered p fs x h live = each (entry_of p.queues x) (h.entries x ∙ live)
     each (Some e) t = cc
 
 -- what is no queue has no entries
-pub no-entries : (p : Pool) (es : List (ℕ × QueueEntry)) (q : Obj) → AllWaiting p es → is_queue_row (row_of p.rows q) ≡ false → is_some (head_in es q) ≡ false
+pub no-entries : (p : Pool) (es : List (ℕ × QueueEntry)) (q : Obj) → AllQueued p es → is_queue_row (row_of p.rows q) ≡ false → is_some (head_in es q) ≡ false
 no-entries p [] q all no_queue = refl
 no-entries p (e ∷ es) q all no_queue = by_test (same e.1.queue q)
     (λ t. let w : is_queue_row (row_of p.rows q) ≡ true = subst (λ (z : Obj). is_queue_row (row_of p.rows z) ≡ true) (same-true e.1.queue q t) all.0.queue in let bad : true ≡ false = sym w ∙ no_queue in cc)
@@ -168,7 +172,7 @@ pub holds : (fs gs : List Frame) (p q : Pool) → QueuesHold fs p → q.queues �
 holds fs gs p q h same_queues queues requests lives entries idle = record {
   queues = λ y. ap (λ qs. has_queue qs y) same_queues ∙ h.queues y ∙ sym (queues y);
   entries = λ y. ap (λ qs. is_entered qs y) same_queues ∙ h.entries y ∙ sym (lives y);
-  waiting = subst (λ (qs : Queues). AllWaiting q qs.entries) (sym same_queues) (waiting-kept p q p.queues.entries waits h.waiting);
+  waiting = subst (λ (qs : Queues). AllQueued q qs.entries) (sym same_queues) (waiting-kept p q p.queues.entries waits h.waiting);
   idle = λ y t. (let t' : has_entries p.queues y ≡ true = ap (λ qs. has_entries qs y) (sym same_queues) ∙ t in idle y t' (h.idle y t'));
 }
   where
@@ -176,7 +180,7 @@ holds fs gs p q h same_queues queues requests lives entries idle = record {
     live r None e = absurd e
     live r (Some s) e = rw (e.0, e.1) refl
 
-    waits : (x : Obj) (e : QueueEntry) → IsWaiting p x e → IsWaiting q x e
+    waits : (x : Obj) (e : QueueEntry) → IsQueued p x e → IsQueued q x e
     waits x e w = record {
       entry = entries x e.request (h.entries x ∙ live e.request (row_of p.rows x) w.entry) w.entry;
       request = requests e.request w.request;
@@ -275,7 +279,7 @@ gone-queues g fs gs p x r h e serial kind_is live more here = record { queues = 
       | inr ne ↦ ap is_some (without-other p.queues.entries x y (same-false y x (λ q. ne (sym q)))) ∙ h.entries y ∙ sym (ap is_live_entry (other y ne))
     ]
 
-    waits : (y : Obj) (w : QueueEntry) → x ≢ y → IsWaiting p y w → IsWaiting (let_go p x g) y w
+    waits : (y : Obj) (w : QueueEntry) → x ≢ y → IsQueued p y w → IsQueued (let_go p x g) y w
     waits y w ne i = record { entry = rw (other y ne) i.entry; request = kinds w.request is_request ∙ i.request; queue = kinds w.queue is_queue ∙ i.queue }
 
     idle : (y : Obj) → has_entries (let_go p x g).queues y ≡ true → (phases (row_of (changed g p.rows x) y) ≡ []) ⊎ (drains y gs ≡ true)
@@ -291,7 +295,7 @@ gone-queues g fs gs p x r h e serial kind_is live more here = record { queues = 
 
 -- an object is no more: no entry, no queue with entries, and no request that has any
 pub removed-queues : (fs gs : List Frame) (p : Pool) (x : Obj) → Distinct p.rows → QueuesHold fs p → is_live_entry (row_of p.rows x) ≡ false → has_entries p.queues x ≡ false
-    → ((y : Obj) (w : QueueEntry) → IsWaiting p y w → x ≢ w.request) → ((y : Obj) → x ≢ y → drains y fs ≡ true → drains y gs ≡ true) → QueuesHold gs (remove p x)
+    → ((y : Obj) (w : QueueEntry) → IsQueued p y w → x ≢ w.request) → ((y : Obj) → x ≢ y → drains y fs ≡ true → drains y gs ≡ true) → QueuesHold gs (remove p x)
 removed-queues fs gs p x d h live none alone more = record { queues = queues; entries = entries; waiting = waiting-elsewhere p (remove p x) p.queues.entries x none waits h.waiting; idle = idle }
   where
     gone : row_of (without p.rows x) x ≡ None
@@ -312,7 +316,7 @@ removed-queues fs gs p x d h live none alone more = record { queues = queues; en
       | inr ne ↦ h.entries y ∙ sym (ap is_live_entry (other y ne))
     ]
 
-    waits : (y : Obj) (w : QueueEntry) → x ≢ w.queue → IsWaiting p y w → IsWaiting (remove p x) y w
+    waits : (y : Obj) (w : QueueEntry) → x ≢ w.queue → IsQueued p y w → IsQueued (remove p x) y w
     waits y w ne i = record {
       entry = elim (same_or_not x y) [
         | inl is ↦ (let l : is_live_entry (row_of p.rows x) ≡ true = subst (λ (z : Obj). is_live_entry (row_of p.rows z) ≡ true) (sym is) (live-entry w.request (row_of p.rows y) i.entry) in let bad : true ≡ false = sym l ∙ live in cc)
@@ -334,7 +338,7 @@ removed-queues fs gs p x d h live none alone more = record { queues = queues; en
 -- ---- new objects
 
 module _ (p : Pool) (nobody : row_of p.rows (record { 0 = p.next }) ≡ None) where
-  n : Obj
+  abbrev n : Obj
   n = record { 0 = p.next }
 
   -- what passes a test before is another object
@@ -349,7 +353,7 @@ module _ (p : Pool) (nobody : row_of p.rows (record { 0 = p.next }) ≡ None) wh
   entry-there : (r y : Obj) → IsEntryRow r (row_of p.rows y) → row_of p.rows y ≡ None → ⊥
   entry-there r y w none = let bad : IsEntryRow r None = rw none at w in bad
 
-  waits-behind : (k : Kind) (o : Owner) (size : ℕ) (name : List ℕ) (q : Pool) → q.rows ≡ (add p k o size name).rows → (y : Obj) (w : QueueEntry) → IsWaiting p y w → IsWaiting q y w
+  waits-behind : (k : Kind) (o : Owner) (size : ℕ) (name : List ℕ) (q : Pool) → q.rows ≡ (add p k o size name).rows → (y : Obj) (w : QueueEntry) → IsQueued p y w → IsQueued q y w
   waits-behind k o size name q rows y w i = record {
     entry = rw (rows, behind k o size name y (entry-there w.request y i.entry)) i.entry;
     request = rw (rows, behind k o size name w.request (passing (λ s. is_request s.kind) w.request i.request)) i.request;
@@ -377,7 +381,7 @@ module _ (p : Pool) (nobody : row_of p.rows (record { 0 = p.next }) ≡ None) wh
   added-queues fs gs k o size name q no_queue no_entry rows queues more h = record {
     queues = λ y. ap (λ qs. has_queue qs y) queues ∙ h.queues y ∙ at-new k o size name (λ s. is_queue s.kind) y no_queue ∙ sym (ap (λ rs. is_queue_row (row_of rs y)) rows);
     entries = λ y. ap (λ qs. is_entered qs y) queues ∙ h.entries y ∙ at-new k o size name (λ s. is_entry s.kind && not (is_dying_mark s.mark)) y (rw no_entry refl) ∙ sym (ap (λ rs. is_live_entry (row_of rs y)) rows);
-    waiting = subst (λ (qs : Queues). AllWaiting q qs.entries) (sym queues) (waiting-kept p q p.queues.entries (waits-behind k o size name q rows) h.waiting);
+    waiting = subst (λ (qs : Queues). AllQueued q qs.entries) (sym queues) (waiting-kept p q p.queues.entries (waits-behind k o size name q rows) h.waiting);
     idle = λ y t. rw rows (more-idle fs gs k o size name more h y (ap (λ qs. has_entries qs y) (sym queues) ∙ t));
   }
 
@@ -410,7 +414,7 @@ module _ (p : Pool) (nobody : row_of p.rows (record { 0 = p.next }) ≡ None) wh
       p' : Pool
       p' = add_entry p q x trigger
 
-      one : IsWaiting p' n e
+      one : IsQueued p' n e
       one =
           let self : same n n ≡ true = same-equal n n refl in
           record {
@@ -458,7 +462,7 @@ triggered-queues fs gs p q e is more h = record {
   idle = idle;
 }
   where
-    w : IsWaiting p e.object e.entry
+    w : IsQueued p e.object e.entry
     w = head-waiting p p.queues.entries q e h.waiting is
 
     entries : (y : Obj) → is_entered (trigger p e).queues y ≡ is_live_entry (row_of p.rows y)

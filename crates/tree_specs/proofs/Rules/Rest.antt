@@ -57,16 +57,21 @@ use Rattle.tree_specs.proofs.Turns.Load.{placed-kept}
 use Rattle.tree_specs.proofs.Turns.Seats.{Placed}
 use Rattle.tree_specs.proofs.Turns.Bound.{cost-turns, pending-most}
 use Rattle.tree_specs.specs.Events.Queues.{Head, head_of, next_of}
+use Rattle.tree_specs.proofs.Invariants.FreeQueues.{QueuedBy}
+use Rattle.tree_specs.proofs.Invariants.KeptQueues.{queued-kept}
+use Rattle.tree_specs.specs.Invariants.Queued.{Queued}
 
 -- a bound on the rows that there can be, with k inputs left
 abbrev pub most : View → ℕ → ℕ
 most v k = length v.pool.rows + 2 * k + 2
 
-pub well-of : (v : View) (k : ℕ) → Sound v.innermost v.below v.pool → Noted v.innermost v.pool → Well (most v k) v.innermost v.below v.pool k
-well-of v k s n = (s, n, omega (arith, pending-most v.innermost))
+
+pub well-of : (v : View) (k : ℕ) → Sound v.innermost v.below v.pool → Noted v.innermost v.pool → Queued v.innermost v.below v.pool → IsStacked v.innermost v.below → IsPaidFor v.innermost v.below v.pool
+    → Well (most v k) v.innermost v.below v.pool k
+well-of v k s n u seated l = record { sound = s; noted = n; queued = u; seated = seated; light = l; room = omega (arith, pending-most v.innermost) }
 
 pub well : (v : View) (k : ℕ) → IsConsistent v → Well (most v k) v.innermost v.below v.pool k
-well v k h = well-of v k h.sound h.noted
+well v k h = well-of v k h.sound h.noted h.queued h.seated h.light
 
 -- any number of turns above the measure gives the rest
 pub rest-enough : (R m : ℕ) (v : View) (is : List Input) → IsConsistent v → Well R v.innermost v.below v.pool (length is) → cost R v.innermost v.below v.pool (length is) < m
@@ -97,32 +102,33 @@ rest-is-walk v is h =
     rest-walk table (Well R) (cost R) (falls R) (turns (length v.pool.rows) (length is)) v.innermost v.below v.pool is (well v (length is) h) (cost-turns v (length is) h.light)
 
 -- whatever else holds, the stated turns are enough for works that the rows pay for
-pub paid-enough : (v : View) (is : List Input) → Sound v.innermost v.below v.pool → Noted v.innermost v.pool → IsPaidFor v.innermost v.below v.pool → NotShort (outcome_of v is)
-paid-enough v is s n l =
+pub paid-enough : (v : View) (is : List Input) → Sound v.innermost v.below v.pool → Noted v.innermost v.pool → Queued v.innermost v.below v.pool → IsStacked v.innermost v.below → IsPaidFor v.innermost v.below v.pool
+    → NotShort (outcome_of v is)
+paid-enough v is s n u seated l =
     let R : ℕ = most v (length is) in
     let k : ℕ = turns (length v.pool.rows) (length is) in
-    let w = well-of v (length is) s n in
+    let w = well-of v (length is) s n u seated l in
     let c = cost-turns v (length is) l in
     subst NotShort (rest-walk table (Well R) (cost R) (falls R) k v.innermost v.below v.pool is w c) (enough table (Well R) (cost R) (falls R) k v.innermost v.below v.pool is w c)
 
 pub not-short : (v : View) (is : List Input) → IsConsistent v → NotShort (outcome_of v is)
-not-short v is h = paid-enough v is h.sound h.noted h.light
+not-short v is h = paid-enough v is h.sound h.noted h.queued h.seated h.light
 
 -- ---- what a step keeps
 
 Leads-whole : (m : Move Frame Answer Pool Item) (fs : List Frame) (k : ℕ)
-    → Leads table (λ g gs q j. Sound g gs q) m fs k → NotedBy m fs k → CalmBy m fs k → Placed m fs k → Leads table (λ g gs q j. IsConsistent (record { innermost = g; below = gs; pool = q })) m fs k
-Leads-whole (Do.Done a p) [] k s n c l = tt
-Leads-whole (Do.Done a p) (g ∷ gs) k s n c l = record { sound = s; seated = l.0; light = l.1; noted = n; calm = c }
-Leads-whole (Do.Go f p) fs k s n c l = record { sound = s; seated = l.0; light = l.1; noted = n; calm = c }
-Leads-whole (Do.Emit e f p) fs k s n c l = record { sound = s; seated = l.0; light = l.1; noted = n; calm = c }
-Leads-whole (Do.Wait q f p) fs zero s n c l = tt
-Leads-whole (Do.Wait q f p) fs (suc k) s n c l = λ i g e. record { sound = s i g e; seated = (l i g e).0; light = (l i g e).1; noted = n i g e; calm = c i g e }
-Leads-whole (Do.Call g f p) fs k s n c l = record { sound = s; seated = l.0; light = l.1; noted = n; calm = c }
+    → Leads table (λ g gs q j. Sound g gs q) m fs k → NotedBy m fs k → QueuedBy m fs k → CalmBy m fs k → Placed m fs k → Leads table (λ g gs q j. IsConsistent (record { innermost = g; below = gs; pool = q })) m fs k
+Leads-whole (Do.Done a p) [] k s n u c l = tt
+Leads-whole (Do.Done a p) (g ∷ gs) k s n u c l = record { sound = s; seated = l.0; light = l.1; noted = n; queued = u; calm = c }
+Leads-whole (Do.Go f p) fs k s n u c l = record { sound = s; seated = l.0; light = l.1; noted = n; queued = u; calm = c }
+Leads-whole (Do.Emit e f p) fs k s n u c l = record { sound = s; seated = l.0; light = l.1; noted = n; queued = u; calm = c }
+Leads-whole (Do.Wait q f p) fs zero s n u c l = tt
+Leads-whole (Do.Wait q f p) fs (suc k) s n u c l = λ i g e. record { sound = s i g e; seated = (l i g e).0; light = (l i g e).1; noted = n i g e; queued = u i g e; calm = c i g e }
+Leads-whole (Do.Call g f p) fs k s n u c l = record { sound = s; seated = l.0; light = l.1; noted = n; queued = u; calm = c }
 
 pub whole-kept : (v : View) (k : ℕ) → IsConsistent v → Leads table (λ g gs q j. IsConsistent (record { innermost = g; below = gs; pool = q })) (step v.innermost v.pool) v.below k
 whole-kept v k h =
-    Leads-whole (step v.innermost v.pool) v.below k (sound-kept v.innermost v.below v.pool k h.sound) (noted-kept v.innermost v.below v.pool k h.sound h.noted) (calm-kept v.innermost v.below v.pool k h.sound h.noted h.calm) (placed-kept v.innermost v.below v.pool k h.sound h.seated h.light)
+    Leads-whole (step v.innermost v.pool) v.below k (sound-kept v.innermost v.below v.pool k h.sound h.queued.pool.waiting) (noted-kept v.innermost v.below v.pool k h.sound h.noted) (queued-kept v.innermost v.below v.pool k h.sound h.seated h.queued) (calm-kept v.innermost v.below v.pool k h.sound h.noted h.queued.pool.waiting h.calm) (placed-kept v.innermost v.below v.pool k h.sound h.seated h.light)
 
 stays : (v : View) (k : ℕ) → IsConsistent v
     → Leads table (λ g gs q j. Well (most v k) g gs q j × (cost (most v k) g gs q j < cost (most v k) v.innermost v.below v.pool k)) (step v.innermost v.pool) v.below k

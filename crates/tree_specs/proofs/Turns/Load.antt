@@ -395,6 +395,7 @@ placed-kept (frame.Free (Beginning x)) fs p k s b l = beginning-placed x fs p k 
 placed-kept (frame.Free (Hooked x h)) fs p k s b l = ((tt, b), omega (arith, l))
 placed-kept (frame.Free (Judged x h v)) fs p k s b l = judged-placed x h v fs p k s b l
 placed-kept (frame.Free (Preparing x)) fs p k s b l = ((tt, b), omega (arith, l))
+placed-kept (frame.Free (Draining x)) fs p k s b l = ((tt, b), omega (arith, l))
 placed-kept (frame.Free (Prepared x)) fs p k s b l = prepared-placed x fs p k s b l
 placed-kept (frame.Free (Dooming x)) fs p k s b l = over (Freed Running) (frame.Free (Dooming x)) fs p k s.waiting b l
 placed-kept (frame.Free (Leaving x h)) fs p k s b l = leaving-placed x h fs p k s b l

@@ -26,17 +26,17 @@ IsEntryRow x None = ⊥
 IsEntryRow x (Some r) = (is_entry r.kind ≡ true) × (r.mark ≡ Quiet) × (r.hook ≡ 0) × (r.owner ≡ Some (Of x))
 
 -- an entry in a queue is a child of its request
-pub record IsWaiting (p : Pool) (x : Obj) (e : QueueEntry) : Type 0 where
+pub record IsQueued (p : Pool) (x : Obj) (e : QueueEntry) : Type 0 where
   pub entry : IsEntryRow e.request (row_of p.rows x)
   pub request : is_request_row (row_of p.rows e.request) ≡ true
   pub queue : is_queue_row (row_of p.rows e.queue) ≡ true
 
-abbrev pub AllWaiting : Pool → List (ℕ × QueueEntry) → Type 0
-AllWaiting p [] = Unit {0}
-AllWaiting p (e ∷ es) = IsWaiting p (record { 0 = e.0 }) e.1 × AllWaiting p es
+abbrev pub AllQueued : Pool → List (ℕ × QueueEntry) → Type 0
+AllQueued p [] = Unit {0}
+AllQueued p (e ∷ es) = IsQueued p (record { 0 = e.0 }) e.1 × AllQueued p es
 
-abbrev pub AreWaiting : Pool → Type 0
-AreWaiting p = AllWaiting p p.queues.entries
+abbrev pub AreQueued : Pool → Type 0
+AreQueued p = AllQueued p p.queues.entries
 
 -- an entry that isn't being freed
 abbrev pub is_live_entry : Option Row → Bool
@@ -55,7 +55,7 @@ pub record QueuesHold (fs : List Frame) (p : Pool) : Type 0 where
   pub queues : (x : Obj) → has_queue p.queues x ≡ is_queue_row (row_of p.rows x)
   -- each entry that isn't being freed stands once in a queue, and no other does
   pub entries : (x : Obj) → is_entered p.queues x ≡ is_live_entry (row_of p.rows x)
-  pub waiting : AreWaiting p
+  pub waiting : AreQueued p
   -- nothing goes on with a queue that has entries, but that these are freed
   pub idle : (q : Obj) → has_entries p.queues q ≡ true → (phases (row_of p.rows q) ≡ []) ⊎ (drains q fs ≡ true)
 
