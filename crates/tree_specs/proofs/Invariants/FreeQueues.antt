@@ -37,14 +37,14 @@ use Rattle.tree_specs.specs.declared.free_step.FreeStep.{FreeStep}
 use Rattle.tree_specs.specs.Words.Objects.{same}
 use Rattle.tree_specs.specs.Tree.Targets.{target_of, newest_ref}
 use Rattle.tree_specs.specs.Tree.Heirs.{heir}
-use Rattle.tree_specs.specs.Tree.Pool.{Pool, row_of, target_at, target_in, is_below, owner_of, newest_ref_of, is_inside, first_kid, is_dying_mark, passes, remove, detach, left_row, doom, set_mark, set_hook, marked_row, hooked_row, place}
+use Rattle.tree_specs.specs.Tree.Pool.{Pool, row_of, target_at, target_in, is_below, owner_of, noted_owner, newest_ref_of, is_inside, first_kid, is_dying_mark, passes, remove, detach, left_row, doom, set_mark, set_hook, marked_row, hooked_row, place}
 use Rattle.tree_specs.specs.Tree.Forest.{Distinct}
 use Rattle.tree_specs.specs.Events.Queues.{entry_of, is_entered, has_entries}
-use Rattle.tree_specs.specs.Calls.Refusals.{is_request, is_queue, is_entry, is_queue_row, is_request_row}
+use Rattle.tree_specs.specs.Calls.Refusals.{is_doomed_mark, is_request, is_queue, is_entry, is_queue_row, is_request_row}
 use Rattle.tree_specs.specs.Rules.Items.{Item}
 use Rattle.tree_specs.specs.Machine.FreeTable.{FreeMove, begin_plain, begin_quiet, begin_step, drop_step, refs_step, unlink_step, release_step, judge_step, last_step, child_step, loop_step, hand_on_step, tried_step, free_step}
 use Rattle.tree_specs.specs.Machine.Profiles.{Phase, InRun, InHandler, InLoop, free_profile}
-use Rattle.tree_specs.specs.Machine.Table.{table, resume, reply_in, run_for, announced, event_of, lifted}
+use Rattle.tree_specs.specs.Machine.Table.{table, resume, reply_in, value_in, run_for, announced, event_of, lifted}
 use Rattle.tree_specs.specs.Invariants.Sound.{IsWaiting, Footing, OnFree, OnRequesting, footing, phases, phase_of, claims, claim, AllWait, IsReferable, MayBePlaced, IsRequested, IsLive, Sound}
 use Rattle.tree_specs.specs.Invariants.Consistent.{IsFree, IsWork, IsStacked, MayStandOn}
 use Rattle.tree_specs.specs.Invariants.Queued.{IsEntryRow, IsQueued, is_live_entry, drains, QueuesHold, IsNoEntry, EndsFor, OverFor, RestsQueued, IsThat, IsOfChild, AreOfChildren, Queued}
@@ -125,22 +125,22 @@ ended a (g ∷ gs) p k w h of ends over = below g (waiter g gs w.0) w.0 h of.0 e
     below : (g : Frame) → Waiter g → IsWaiting g gs → QueuesHold (g ∷ gs) p → IsOfChild g (footing gs) → EndsFor (reply_in a) (footing (g ∷ gs)) p → OverFor (footing (g ∷ gs)) p → Queued (resume g a) gs p
     below _ (ForFree q x) w h one ends over = record { pool = moved (frame.Call (Awaiting q x)) _ h (λ y t d. d); works = tt; frees = (tt, of.1) }
     below _ (ForRun x hook) w h one ends over =
-        record { pool = moved (frame.Free (Hooked x hook)) _ h (λ y t d. d); works = tt; frees = (of-same (Hooked x hook) _ (footing gs) (λ c e. e) one, of.1) }
+        record { pool = moved (frame.Free (Hooked x hook)) _ h (λ y t d. d); works = tt; frees = (of-same (Hooked x hook) (Judged x hook (value_in a)) (footing gs) (λ c e. e) one, of.1) }
     below _ (ForChild x c noted purpose) w h one ends over =
-        record { pool = moved (frame.Free (FreeingChild x c noted purpose)) _ h (λ y t d. d); works = ends; frees = (of-same (FreeingChild x c noted purpose) _ (footing gs) (λ z e. e) one, of.1) }
+        record { pool = moved (frame.Free (FreeingChild x c noted purpose)) _ h (λ y t d. d); works = ends; frees = (of-same (FreeingChild x c noted purpose) (AfterChild x c noted purpose (reply_in a)) (footing gs) (λ z e. e) one, of.1) }
     below _ (ForTurn q) w h one ends over = record { pool = moved (frame.Call (Turning q)) _ h (λ y t d. d); works = tt; frees = (tt, of.1) }
     below _ (ForHandler what x handler occasion) w h one ends over = record { pool = moved (frame.Turn (Handling what x handler occasion)) _ h (λ y t d. d); works = tt; frees = (tt, of.1) }
     below _ (ForClear x) w h one ends over = record { pool = moved (frame.Turn (Clearing x)) _ h (λ y t d. d); works = tt; frees = (tt, of.1) }
     below _ (ForRequest q) w h one ends over = record { pool = moved (frame.Call (Requesting q)) _ h (λ y t d. d); works = tt; frees = (tt, of.1) }
     below _ (ForServed x) w h one ends over = record { pool = moved (frame.Turn (Serving x)) _ h (λ y t d. d); works = tt; frees = (tt, of.1) }
     below _ (ForReceived x) w h one ends over =
-        record { pool = moved (frame.Free (Preparing x)) _ h (λ y t d. d); works = tt; frees = (of-same (Preparing x) _ (footing gs) (λ c e. e) one, of.1) }
+        record { pool = moved (frame.Free (Preparing x)) _ h (λ y t d. d); works = tt; frees = (of-same (Preparing x) (Prepared x) (footing gs) (λ c e. e) one, of.1) }
     below _ (ForDrained x) w h one ends over = record {
       pool = moved (frame.Free (Draining x)) _ h (λ y t d. by_test (same x y)
           (λ u. let t' : has_entries p.queues x ≡ true = subst (λ (z : Obj). has_entries p.queues z ≡ true) (sym (same-true x y u)) t in let bad : true ≡ false = sym t' ∙ over in cc)
           (λ u. rw u at d));
       works = tt;
-      frees = (of-same (Draining x) _ (footing gs) (λ c e. e) one, of.1);
+      frees = (of-same (Draining x) (Prepared x) (footing gs) (λ c e. e) one, of.1);
     }
     below _ (ForRoutine what x handler errand) w h one ends over = after what x handler errand w (same-queues (frame.Request (request.Called what x handler errand) ∷ gs) gs p p h refl refl (λ y t d. d))
     below _ (ForRelease c) w h one ends over = record { pool = moved (frame.Request (request.Releasing c)) _ h (λ y t d. d); works = requested-over (footing gs) p w; frees = (tt, of.1) }
@@ -170,31 +170,53 @@ lifted-queued ring (Do.Call g f p) fs k w of over h = h
 
 -- ---- what is so of an object
 
-later-none : (l m : List Phase) → l ++ m ≡ [] → m ≡ []
-later-none [] m e = e
-later-none (a ∷ l) m e = cc
+-- one of these works runs a destructor, or does what comes before a free
+abbrev HasRun : List Phase → Type 0
+HasRun [] = ⊥
+HasRun (InRun ∷ l) = Unit {0}
+HasRun (_ ∷ l) = HasRun l
+
+later-run : (l m : List Phase) → HasRun m → HasRun (l ++ m)
+later-run [] m h = h
+later-run (InRun ∷ l) m h = tt
+later-run (_ ∷ l) m h = later-run l m h
+
+-- a queue whose entries are freed is claimed by the work that does it
+drained-runs : (x : Obj) (fs : List Frame) → AllWait fs → drains x fs ≡ true → HasRun (claims x fs)
+drained-runs x [] w d = cc
+drained-runs x (g ∷ gs) w d = below g (waiter g gs w.0) d (drained-runs x gs w.1)
+  where
+    below : (g : Frame) → Waiter g → drains x (g ∷ gs) ≡ true → (drains x gs ≡ true → HasRun (claims x gs)) → HasRun (claims x (g ∷ gs))
+    below _ (ForDrained y) d more = by_test (same y x) (λ t. rw t tt) (λ t. rw t (more (rw t at d)))
+    below g (ForFree q y) d more = later-run (claim x g) (claims x gs) (more d)
+    below g (ForRun y h) d more = later-run (claim x g) (claims x gs) (more d)
+    below g (ForChild y c noted purpose) d more = later-run (claim x g) (claims x gs) (more d)
+    below g (ForTurn q) d more = later-run (claim x g) (claims x gs) (more d)
+    below g (ForHandler what y handler occasion) d more = later-run (claim x g) (claims x gs) (more d)
+    below g (ForClear y) d more = later-run (claim x g) (claims x gs) (more d)
+    below g (ForRequest q) d more = later-run (claim x g) (claims x gs) (more d)
+    below g (ForServed y) d more = later-run (claim x g) (claims x gs) (more d)
+    below g (ForReceived y) d more = later-run (claim x g) (claims x gs) (more d)
+    below g (ForRoutine what y handler errand) d more = later-run (claim x g) (claims x gs) (more d)
+    below g (ForRelease c) d more = later-run (claim x g) (claims x gs) (more d)
+    below g (ForEntry q e) d more = later-run (claim x g) (claims x gs) (more d)
 
 -- what no work claims isn't drained
 claims-drained : (x : Obj) (fs : List Frame) → AllWait fs → drains x fs ≡ true → claims x fs ≡ [] → ⊥
-claims-drained x [] w d none = cc
-claims-drained x (g ∷ gs) w d none = below g (waiter g gs w.0) d none (claims-drained x gs w.1)
+claims-drained x fs w d none = subst HasRun none (drained-runs x fs w d)
+
+-- and what is drained isn't doomed
+pub drained-spared : (f : Frame) (fs : List Frame) (p : Pool) (x : Obj) → Sound f fs p → drains x fs ≡ true → passes (λ r. is_doomed_mark r.mark) (row_of p.rows x) ≡ false
+drained-spared f fs p x s d = each (row_of p.rows x) (subst HasRun (s.open_frees x) (later-run (claim x f) (claims x fs) (drained-runs x fs s.waiting d)))
   where
-    below : (g : Frame) → Waiter g → drains x (g ∷ gs) ≡ true → claims x (g ∷ gs) ≡ [] → (drains x gs ≡ true → claims x gs ≡ [] → ⊥) → ⊥
-    below _ (ForDrained y) d none more = by_test (same y x)
-        (λ t. let bad : InRun ∷ claims x gs ≡ [] = rw t at none in cc)
-        (λ t. more (rw t at d) (rw t at none))
-    below g (ForFree q y) d none more = more d (later-none (claim x g) (claims x gs) none)
-    below g (ForRun y h) d none more = more d (later-none (claim x g) (claims x gs) none)
-    below g (ForChild y c noted purpose) d none more = more d (later-none (claim x g) (claims x gs) none)
-    below g (ForTurn q) d none more = more d (later-none (claim x g) (claims x gs) none)
-    below g (ForHandler what y handler occasion) d none more = more d (later-none (claim x g) (claims x gs) none)
-    below g (ForClear y) d none more = more d (later-none (claim x g) (claims x gs) none)
-    below g (ForRequest q) d none more = more d (later-none (claim x g) (claims x gs) none)
-    below g (ForServed y) d none more = more d (later-none (claim x g) (claims x gs) none)
-    below g (ForReceived y) d none more = more d (later-none (claim x g) (claims x gs) none)
-    below g (ForRoutine what y handler errand) d none more = more d (later-none (claim x g) (claims x gs) none)
-    below g (ForRelease c) d none more = more d (later-none (claim x g) (claims x gs) none)
-    below g (ForEntry q e) d none more = more d (later-none (claim x g) (claims x gs) none)
+    marks : (m : Mark) → HasRun (phase_of m) → is_doomed_mark m ≡ false
+    marks Asked h = refl
+    marks Quiet h = absurd h
+    marks _ h = absurd h
+
+    each : (o : Option Row) → HasRun (phases o) → passes (λ r. is_doomed_mark r.mark) o ≡ false
+    each None h = absurd h
+    each (Some r) h = marks r.mark h
 
 entry-is : (k : Kind) → is_entry k ≡ true → (is_request k ≡ false) × (is_queue k ≡ false)
 entry-is kind.Entry e = (refl, refl)
@@ -451,7 +473,7 @@ looping x purpose fs p s q = each (first_kid p.rows (Of x)) refl
     last Emptying alone s of = (h, ends-ok (footing fs) p)
 
     child : (c : Obj) (o : Option Obj) → target_at p.rows c ≡ o → FreeQueued fs (child_step x c purpose o p)
-    child c None t = record { pool = same-queues fs _ p p h refl refl (λ y t d. d); works = tt; frees = (refl, (of-same (Looping x purpose) (FreeingChild x c _ purpose) (footing fs) (λ z e. e) q.frees.0, q.frees.1)) }
+    child c None t = record { pool = same-queues fs _ p p h refl refl (λ y t d. d); works = tt; frees = (refl, (of-same (Looping x purpose) (FreeingChild x c (noted_owner p.rows c) purpose) (footing fs) (λ z e. e) q.frees.0, q.frees.1)) }
     child c (Some target) t = record { pool = dropped fs (frame.Free (Looping x purpose) ∷ fs) p c target s.forest.distinct t (λ y d. d) h; works = tt; frees = q.frees }
 
     each : (o : Option Obj) → first_kid p.rows (Of x) ≡ o → FreeQueued fs (loop_step x purpose o p)

@@ -34,6 +34,7 @@ use Rattle.tree_specs.specs.declared.frame.OutsideFrame.TheVariants.{Reaching, O
 use Rattle.tree_specs.specs.declared.frame.RequestFrame.{RequestFrame}
 use Rattle.tree_specs.specs.declared.frame.RequestFrame.TheVariants as request
 use Rattle.tree_specs.specs.declared.frame.Answer.TheVariants.{Returned, Turned, Heard}
+use Rattle.tree_specs.specs.declared.free_step.FreeReply.TheVariants.{Ok as FreeOk}
 use Rattle.tree_specs.specs.Tree.Targets.{newest_ref, target_of}
 use Rattle.tree_specs.specs.Tree.Pool.{Pool, row_of, passes, changed, set_mark, marked_row, run_queue, trigger, open_descriptor, finish, receive, renote, schedule, look_at, add, note, is_below, owner_of, newest_ref_of, is_dying_mark}
 use Rattle.tree_specs.specs.Events.Queues.{Head, entry_of, is_entered, head_of, has_entries, next_of, runs, has_queue, head_in}
@@ -276,7 +277,7 @@ turn-queued (Firing w x h occasion) fs p k s b u = record { pool = goes (frame.T
 turn-queued (Handling w x h occasion) fs p k s b u = record { pool = same-queues (frame.Turn (Handling w x h occasion) ∷ fs) _ p p u.pool refl refl (λ y t d. d); works = tt; frees = (tt, u.frees) }
 turn-queued (Handled w x) fs p k s b u = handled-queued w x fs p k s u
 turn-queued (Closing v) fs p k s b u = ended (Turned v) fs p k s.waiting (same-queues (frame.Turn (Closing v) ∷ fs) fs p p u.pool refl refl (λ y t d. d)) u.frees.1
-    (no-free-ends (frame.Turn (Closing v)) fs p _ (λ z. z) s.waiting b) (no-work-over (frame.Turn (Closing v)) fs p (λ z. z) s.waiting b)
+    (no-free-ends (frame.Turn (Closing v)) fs p FreeOk (λ z. z) s.waiting b) (no-work-over (frame.Turn (Closing v)) fs p (λ z. z) s.waiting b)
 turn-queued _ fs p k s b u = absurd s.rests
 
 -- ---- a question to the outside
@@ -289,9 +290,9 @@ outside-queued (Reaching q) fs p (suc k) s b u = λ i g e. leads g (reached-lead
     leads _ (ReachedOpening fd number closed) = record { pool = goes (frame.Outside (Reaching q)) _ fs p p refl refl (λ y d. d) u.pool; works = tt; frees = (tt, u.frees.1) }
     leads _ (ReachedHearing r) = record { pool = goes (frame.Outside (Reaching q)) _ fs p p refl refl (λ y d. d) u.pool; works = tt; frees = (tt, u.frees.1) }
 outside-queued (Opening fd) fs p k s b u = ended (Heard _) fs (open_descriptor p fd) k s.waiting (same-queues (frame.Outside (Opening fd) ∷ fs) fs p (open_descriptor p fd) u.pool refl refl (λ y t d. d)) u.frees.1
-    (no-free-ends (frame.Outside (Opening fd)) fs (open_descriptor p fd) _ (λ z. z) s.waiting b) (no-work-over (frame.Outside (Opening fd)) fs (open_descriptor p fd) (λ z. z) s.waiting b)
+    (no-free-ends (frame.Outside (Opening fd)) fs (open_descriptor p fd) FreeOk (λ z. z) s.waiting b) (no-work-over (frame.Outside (Opening fd)) fs (open_descriptor p fd) (λ z. z) s.waiting b)
 outside-queued (Hearing r) fs p k s b u = ended (Heard r) fs p k s.waiting (same-queues (frame.Outside (Hearing r) ∷ fs) fs p p u.pool refl refl (λ y t d. d)) u.frees.1
-    (no-free-ends (frame.Outside (Hearing r)) fs p _ (λ z. z) s.waiting b) (no-work-over (frame.Outside (Hearing r)) fs p (λ z. z) s.waiting b)
+    (no-free-ends (frame.Outside (Hearing r)) fs p FreeOk (λ z. z) s.waiting b) (no-work-over (frame.Outside (Hearing r)) fs p (λ z. z) s.waiting b)
 
 -- ---- requests and queues
 
@@ -299,7 +300,6 @@ module _ (f : RequestFrame) (fs : List Frame) (p : Pool) (k : ℕ) (u : Queued (
   -- it goes on over the same rows and queues
   on : (g : RequestFrame) (q : Pool) → q.rows ≡ p.rows → q.queues ≡ p.queues → RestsQueued (frame.Request g) fs q → Queued (frame.Request g) fs q
   on g q rows queues works = record { pool = goes (frame.Request f) (frame.Request g) fs p q rows queues (λ y d. d) u.pool; works = works; frees = (tt, u.frees.1) }
-
 
   -- a work that drains nothing stands on it
   under : (g : Frame) (h : RequestFrame) (q : Pool) → QueuesHold (g ∷ frame.Request h ∷ fs) q → RestsQueued g (frame.Request h ∷ fs) q → IsOfChild g (footing (frame.Request h ∷ fs)) → Queued g (frame.Request h ∷ fs) q
@@ -371,7 +371,7 @@ request-queued (request.Vacating q) fs p k s b u = vacates fs p k q s.rests u (h
 request-queued (request.Dropping q e) fs p k s b u = absurd s.rests
 request-queued (request.Triggering q) fs p k s b u = triggers fs p k q s.rests u (next_of p.queues q) refl
 request-queued (request.Over r) fs p k s b u = ended (Heard r) fs p k s.waiting (same-queues (frame.Request (request.Over r) ∷ fs) fs p p u.pool refl refl (λ y t d. d)) u.frees.1
-    (no-free-ends (frame.Request (request.Over r)) fs p _ (λ z. z) s.waiting b) u.works
+    (no-free-ends (frame.Request (request.Over r)) fs p FreeOk (λ z. z) s.waiting b) u.works
 
 -- ---- all
 
@@ -386,7 +386,7 @@ queued-kept (frame.Call (Doing q c)) fs p k s b u = planned-queued q c fs p k s 
 queued-kept (frame.Call (Announcing q notice r)) fs p k s b u = record { pool = goes (frame.Call (Announcing q notice r)) _ fs p p refl refl (λ y d. d) u.pool; works = tt; frees = (tt, u.frees.1) }
 queued-kept (frame.Call (Telling q r)) fs p k s b u = record { pool = goes (frame.Call (Telling q r)) _ fs p p refl refl (λ y d. d) u.pool; works = tt; frees = (tt, u.frees.1) }
 queued-kept (frame.Call (Returning v)) fs p k s b u = ended (Returned v) fs p k s.waiting (same-queues (frame.Call (Returning v) ∷ fs) fs p p u.pool refl refl (λ y t d. d)) u.frees.1
-    (no-free-ends (frame.Call (Returning v)) fs p _ (λ z. z) s.waiting b) (no-work-over (frame.Call (Returning v)) fs p (λ z. z) s.waiting b)
+    (no-free-ends (frame.Call (Returning v)) fs p FreeOk (λ z. z) s.waiting b) (no-work-over (frame.Call (Returning v)) fs p (λ z. z) s.waiting b)
 queued-kept (frame.Free f) fs p k s b u = lifted-queued p.ring (free_step f p) fs k s.waiting u.frees.1 (λ q. no-work-over (frame.Free f) fs q (λ z. z) s.waiting b) (free-queued f fs p s u)
 queued-kept (frame.Turn f) fs p k s b u = turn-queued f fs p k s b u
 queued-kept (frame.Outside f) fs p k s b u = outside-queued f fs p k s b u

@@ -33,7 +33,7 @@ use Rattle.tree_specs.specs.Tree.Pool.{Pool, row_of, set_mark, schedule, renote,
 use Rattle.tree_specs.specs.Events.Requests.{state_number, note_of, is_noted, is_in_progress, is_received, is_unreceived, cleanup_in, cancel_in, cleaned, not_deferring, in_state, renoted}
 use Rattle.tree_specs.specs.Events.Coming.{handler_moment, plainly}
 use Rattle.tree_specs.specs.Calls.Refusals as refusals
-use Rattle.tree_specs.specs.Calls.Refusals.{is_request, is_request_row}
+use Rattle.tree_specs.specs.Calls.Refusals.{is_request, is_request_row, is_entry_row}
 use Rattle.tree_specs.specs.Calls.Plans.{Plan, planned}
 use Rattle.tree_specs.specs.Calls.Plans.Plan.{Frees, Unlinks}
 use Rattle.tree_specs.specs.Rules.Items.{Item}
@@ -43,9 +43,10 @@ use Rattle.tree_specs.specs.Rules.Errands.{reply_to, cancelled_reply}
 use Rattle.tree_specs.specs.Machine.Profiles.{InRun}
 use Rattle.tree_specs.specs.Machine.Table.{notes, step, over_step, cancelling_step, cleaning_step, release_object, cleaned_step, callback_step, notifying_step, request_step, vacating_step, triggering_step}
 use Rattle.tree_specs.specs.Promises.Orderly.{has_state_from, is_hook}
-use Rattle.tree_specs.specs.Promises.Grounded.{may_fire, may_fire_row}
+use Rattle.tree_specs.specs.Promises.Grounded.{IsTurn, may_fire, may_fire_row}
 use Rattle.tree_specs.specs.Invariants.Sound.{ValidAt, claims}
 use Rattle.tree_specs.specs.Invariants.Noted.{IsInProgress, IsBetween, IsOfRequest, NotesHold, IsForRequest}
+use Rattle.tree_specs.specs.Invariants.Queued.{IsEntryRow}
 use Rattle.tree_specs.specs.Invariants.Consistent.{IsConsistent}
 use Rattle.tree_specs.proofs.Tree.Numbered.{by_test}
 use Rattle.tree_specs.proofs.Events.NoteLaws.{renoted-same, renoted-none}
@@ -74,6 +75,18 @@ request-fires what.Callback _ m h e = cc
 request-fires what.Cleanup _ m h e = cc
 request-fires what.Cancel _ m h e = cc
 request-fires _ k m h e = absurd h
+
+-- these routines aren't triggers
+no-turn : (w : What) (p : Pool) (x : Obj) (routine : ℕ) → IsOfRequest w → IsTurn w p x routine
+no-turn what.Callback p x routine h = tt
+no-turn what.Cleanup p x routine h = tt
+no-turn what.Cancel p x routine h = tt
+no-turn _ p x routine h = absurd h
+
+-- what waits in a queue is an entry
+entry-row : (z : Obj) (o : Option Row) → IsEntryRow z o → is_entry_row o ≡ true
+entry-row z None i = absurd i
+entry-row z (Some r) i = i.0
 
 trigger-fires : (k : Kind) (m : Mark) → is_request k ≡ true → may_fire what.Trigger k m ≡ true
 trigger-fires kind.Request m e = refl
@@ -211,7 +224,7 @@ module _ (scenes : List Scene) (b : Option CallStart) (ws : List NotedWork) (p :
       let r : Row = row.0 in
       let fires : may_fire_row w (row_of p.rows x) ≡ true = rw row.1 (request-fires w r.kind r.mark whole.noted.works.1 row.2) in
       let past = past-tells (told scenes) e f (map work_of ws) p (λ y. refl) (λ y. refl) (λ y. refl) (λ y k. refl) known.past in (
-        (fits-fired (told scenes) w x h.routine (unfreed (told scenes) f (map work_of ws) p x r known.past row.1), record { answered = tt; held = tt; caused = tt; started = fires }),
+        (fits-fired (told scenes) w x h.routine (unfreed (told scenes) f (map work_of ws) p x r known.past row.1), record { answered = tt; held = tt; caused = tt; started = (fires, no-turn w p x h.routine whole.noted.works.1) }),
         known-told scenes (scene notes f b p e) (with_note None g) ws p
             (past-goes (told scenes ++ e ∷ []) f g (map work_of ws) (map work_of ws) p p past (later-same p) (λ y l. absurd l) tt past.all_account)
             (restacked f g ws (λ w h. h) (λ w h. h) known.stacked) tt,
@@ -287,7 +300,7 @@ module _ (scenes : List Scene) (b : Option CallStart) (ws : List NotedWork) (p :
           let row = request-row (row_of p.rows x) w.request in
           let starts : may_fire_row what.Trigger (row_of p.rows x) ≡ true = rw row.1 (trigger-fires row.0.kind row.0.mark row.2) in
           let past = past-tells (told scenes) i f (map work_of ws) p (λ y. refl) (λ y. refl) (λ y. refl) (λ y k. refl) known.past in (
-            (fits-fired (told scenes) what.Trigger x h.entry.trigger.routine (unfreed (told scenes) f (map work_of ws) p x row.0 known.past row.1), record { answered = tt; held = tt; caused = tt; started = starts }),
+            (fits-fired (told scenes) what.Trigger x h.entry.trigger.routine (unfreed (told scenes) f (map work_of ws) p x row.0 known.past row.1), record { answered = tt; held = tt; caused = tt; started = (starts, record { queue = q; first = h; next = e; entry = entry-row x (row_of p.rows h.object) w.entry; request = refl; routine = refl }) }),
             known-told scenes (scene notes f b p i) (with_note None g) ws (trigger p h)
                 (past-goes (told scenes ++ i ∷ []) f g (map work_of ws) (map work_of ws) p (trigger p h) past (later-waiting p (trigger p h) refl refl refl) (λ y l. absurd l) tt past.all_account)
                 (restacked f g ws (λ w h. h) (λ w h. h) known.stacked) tt,

@@ -9,7 +9,7 @@ use Rattle.tree_specs.specs.declared.kind.Kind.{Kind}
 use Rattle.tree_specs.specs.declared.kind.Kind.TheVariants as kind
 use Rattle.tree_specs.specs.declared.handler.Handler.{Handler}
 use Rattle.tree_specs.specs.declared.moment.What.{What}
-use Rattle.tree_specs.specs.declared.moment.What.TheVariants.{Immediate as ForImmediate, Timer as ForTimer, Descriptor as ForDescriptor}
+use Rattle.tree_specs.specs.declared.moment.What.TheVariants.{Immediate as ForImmediate, Timer as ForTimer, Descriptor as ForDescriptor, Trigger as ForTrigger}
 use Rattle.tree_specs.specs.declared.occasion.Occasion.{Occasion}
 use Rattle.tree_specs.specs.declared.event.Event.TheVariants.{Fired}
 use Rattle.tree_specs.specs.declared.question.Ask.{Ask}
@@ -32,7 +32,7 @@ use Rattle.tree_specs.specs.Rules.Items.Item.{Told, Asked}
 use Rattle.tree_specs.specs.Rules.Sequence.{CallStart, Scene}
 use Rattle.tree_specs.specs.Machine.Table.{Step, notes, taken, starting_step, turn_step, turn_taken}
 use Rattle.tree_specs.specs.Promises.Orderly.{is_hook, asks_hook}
-use Rattle.tree_specs.specs.Promises.Grounded.{may_fire, may_fire_row}
+use Rattle.tree_specs.specs.Promises.Grounded.{IsTurn, may_fire, may_fire_row}
 use Rattle.tree_specs.specs.Machine.Profiles.{InHandler}
 use Rattle.tree_specs.specs.Invariants.Sound.{claims}
 use Rattle.tree_specs.specs.Invariants.Consistent.{IsConsistent}
@@ -125,6 +125,11 @@ module _ (scenes : List Scene) (b : Option CallStart) (ws : List NotedWork) (p :
           rw e (goes (Starting w x occasion) (Firing w x h occasion) (begun w x p)
           (later-rows (later-marked p x ready.row Busy ready.is (rw ready.quiet tt)) (ap (λ (rows : List Row). changed (marked_row Busy) rows x) r.0) r.1 r.2) known)
 
+  -- an event waits in no queue
+  no-turn : (w : What) (k : Kind) → comes_as w k ≡ true → (x : Obj) (routine : ℕ) → IsTurn w p x routine
+  no-turn ForTrigger k e x routine = cc
+  no-turn _ k e x routine = tt
+
   firing-fine : (w : What) (x : Obj) (h : Handler) (occasion : Occasion) → AtTurn (Firing w x h occasion)
   firing-fine w x h occasion whole known =
       let f : Frame = frame.Turn (Firing w x h occasion) in
@@ -134,7 +139,7 @@ module _ (scenes : List Scene) (b : Option CallStart) (ws : List NotedWork) (p :
       let r : Row = rests.1 in
       let fires : may_fire_row w (row_of p.rows x) ≡ true = rw (rests.2, rests.4) (comes-fires w r.kind rests.3) in
       let past = past-tells (told scenes) e f (map work_of ws) p (λ y. refl) (λ y. refl) (λ y. refl) (λ y k. refl) known.past in (
-        (fits-fired (told scenes) w x h.routine (unfreed (told scenes) f (map work_of ws) p x r known.past rests.2), record { answered = tt; held = tt; caused = tt; started = fires }),
+        (fits-fired (told scenes) w x h.routine (unfreed (told scenes) f (map work_of ws) p x r known.past rests.2), record { answered = tt; held = tt; caused = tt; started = (fires, no-turn w r.kind rests.3 x h.routine) }),
         known-told scenes (scene notes f b p e) (with_note None g) ws p
             (past-goes (told scenes ++ e ∷ []) f g (map work_of ws) (map work_of ws) p p past (later-same p) (λ y l. absurd l) tt past.all_account)
             (restacked f g ws (λ w h. h) (λ w h. h) known.stacked) tt,
