@@ -59,6 +59,11 @@ at-work : (o : Option FreeFrame) (tree : Links) → AreKept o tree → IsAtWork 
 at-work None tree k w = k
 at-work (Some f) tree k w = inl w
 
+-- and they stay so where the tree keeps the same works
+pub kept-same : (o : Option FreeFrame) (t t' : Links) → t'.frees ≡ t.frees → AreKept o t → AreKept o t'
+kept-same None t t' e k = e ∙ k
+kept-same (Some f) t t' e k = tt
+
 pub record Onward (f : FreeFrame) (before_it : Links) (o : Option FreeFrame) (tree : Links) : Type 0 where
   pub ready : IsBetweenCalls o tree
   pub at_work : IsAtWork (frees_of o tree)

@@ -167,7 +167,6 @@ pub record StepsSilently (v w : View) : Type 0 where
   pub along : TellsSameStory v w
   pub cheaper : (R : ℕ) → length v.pool.rows + pending v.innermost ≤ R → cost R w.innermost w.below w.pool 0 < cost R v.innermost v.below v.pool 0
 
-
 -- the innermost free is at hand, where one is at work
 abbrev pub IsSettled : Active → Objects → Type 0
 IsSettled active.Freeing objects = FreeReady objects

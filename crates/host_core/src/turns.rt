@@ -62,7 +62,13 @@ fn picked(pick: Pick, waited: bool, objects: &ObjectPool) -> Step
     match pick {
         Pick::Soon(x) => comes(What::Immediate, x, 0, Errand::Notify, objects),
         Pick::Time(x, now) => {
-            comes(What::Timer, x, now, Errand::Finish(State::TimedOut), objects)
+            comes(
+                What::Timer,
+                x,
+                now,
+                Errand::Finish(State::TimedOut),
+                objects,
+            )
         }
         Pick::Descriptor(x, flags) => starts(What::Descriptor, x, 0, flags),
         Pick::AskClock => goes(TurnFrame::Timing { again: waited }),

@@ -14,17 +14,33 @@ use tree_specs::{Errand, Handler, Obj, State, What};
 #[derive(Clone, Copy, Debug)]
 pub enum Work {
     /// `x` is to go to this state, which is told.
-    Finishing { x: Obj, state: State },
+    Finishing {
+        x: Obj,
+        state: State,
+    },
     /// `x` is to be received, which is told where it hasn't been.
-    Receiving { x: Obj },
+    Receiving {
+        x: Obj,
+    },
     /// `x` is to be cancelled.
-    Cancelling { x: Obj },
+    Cancelling {
+        x: Obj,
+    },
     /// The cleanup of `x` is to run, where it hasn't for this state.
-    Cleaning { x: Obj, errand: Errand },
+    Cleaning {
+        x: Obj,
+        errand: Errand,
+    },
     /// The cleanup of `x` is over.
-    Cleaned { x: Obj, errand: Errand },
+    Cleaned {
+        x: Obj,
+        errand: Errand,
+    },
     /// Whoever waits for `x` is to be notified.
-    Notifying { x: Obj, errand: Errand },
+    Notifying {
+        x: Obj,
+        errand: Errand,
+    },
     /// It is to be told that this routine of `x` runs.
     Calling {
         what: What,
@@ -40,9 +56,13 @@ pub enum Work {
         errand: Errand,
     },
     /// It waits for the freeing of the object that a request was made with.
-    Releasing { child: Obj },
+    Releasing {
+        child: Obj,
+    },
     /// It is over with this reply.
-    Over { reply: ShortReply },
+    Over {
+        reply: ShortReply,
+    },
 }
 
 /// The reply at the end of an errand: only a failure with a number tells one.

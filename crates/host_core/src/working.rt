@@ -20,8 +20,8 @@ ghost use Rattle.host_core.specs.Requests.{MayWork, ErrandReady, WorkReady, IsFr
 
 use crate::active::Active;
 use crate::answer::Answer;
-use crate::calls::release;
 use crate::caller::Caller;
+use crate::calls::release;
 use crate::motion::Motion;
 use crate::step::Step;
 use crate::waiting::Waiting;
@@ -173,7 +173,10 @@ pub fn work_step(work: Work, objects: &mut ObjectPool) -> Step
         Work::Cleaned { x, errand } => cleaned(x, errand, objects),
         Work::Notifying { x, errand } => notify(x, errand, objects),
         Work::Called {
-            what, x, handler, ..
+            what,
+            x,
+            handler,
+            ..
         } => {
             let plainly = Occasion { now: 0, flags: 0 };
             let routine = Active::Caller(Caller::routine(what, x, handler, plainly));

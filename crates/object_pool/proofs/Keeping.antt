@@ -27,6 +27,7 @@ use Rattle.tree_specs.specs.declared.watch.Watch.{Watch}
 use Rattle.destructors.specs.Engine.{IsAsked, AreKept, HasRoom}
 use Rattle.destructors.specs.Room.{mark_places, row_places, wanted}
 use Rattle.destructors.proofs.Begins.{any-room}
+use Rattle.destructors.proofs.Settling.{kept-same}
 use Rattle.object_pool.specs.Objects.{HasPlaces}
 use Rattle.tree_specs.specs.Events.Pending.{unscheduled}
 use Rattle.tree_specs.specs.Events.Rotation.{rewatched, turned_back}
@@ -55,10 +56,6 @@ pub record Stays (t t' : Links) : Type 0 where
 wanted-same : (fs : List FreeFrame) (rs rs' : List Row) → total row_places rs' ≡ total row_places rs → wanted fs rs' ≡ wanted fs rs
 wanted-same [] rs rs' e = refl
 wanted-same (f ∷ fs) rs rs' e = omega (arith, e)
-
-kept-same : (o : Option FreeFrame) (t t' : Links) → t'.frees ≡ t.frees → AreKept o t → AreKept o t'
-kept-same None t t' e k = e ∙ k
-kept-same (Some f) t t' e k = tt
 
 -- places that are there stay, where others change
 pub still-places : (ps ps' : Pairs) (ls ls' : Limits) (a : Agenda) → ps.spare ≤ ps'.spare → ls.spare ≤ ls'.spare → HasPlaces ps ls a → HasPlaces ps' ls' a

@@ -42,13 +42,13 @@ report_on-requires c =
 pub invariant_of-self-in-Some-report_owner : goal.invariant_of-self-in-Some-report_owner
 invariant_of-self-in-Some-report_owner c =
     let r = told_report c.self.inside.active c.self.inside.parts c.args.input c.self.invariant.0 (sym c.takes.ensures ∙ c.if-not-takes.false) c.requires c.in-Some-report_owner.owner (sym c.report_owner.ensures ∙ c.in-Some-report_owner.is)
-        c.in_ok-report.report c.report_on.new.now c.in_ok-report.ensures c.report_on.ensures c.args.self.now c.self.invariant.1 c.self.view_is in
+    c.in_ok-report.report c.report_on.new.now c.in_ok-report.ensures c.report_on.ensures c.args.self.now c.self.invariant.1 c.self.view_is in
     (r.0, r.1)
 
 pub returns-in-Some-report_owner-clause-ok : goal.returns-in-Some-report_owner-clause-ok
 returns-in-Some-report_owner-clause-ok c =
     let r = told_report c.self.inside.active c.self.inside.parts c.args.input c.self.invariant.0 (sym c.takes.ensures ∙ c.if-not-takes.false) c.requires c.in-Some-report_owner.owner (sym c.report_owner.ensures ∙ c.in-Some-report_owner.is)
-        c.in_ok-report.report c.report_on.new.now c.in_ok-report.ensures c.report_on.ensures c.args.self.now c.self.invariant.1 c.self.view_is in
+    c.in_ok-report.report c.report_on.new.now c.in_ok-report.ensures c.report_on.ensures c.args.self.now c.self.invariant.1 c.self.view_is in
     r.2
 
 pub returns-in-Some-report_owner-clause-not_asked : goal.returns-in-Some-report_owner-clause-not_asked
