@@ -199,6 +199,18 @@ fn effect(call: Call, pool: &mut ObjectPool) -> Motion
         Call::Turn => return Motion::Turns,
         Call::Pending => return number(pool.pending()),
         Call::Req { owner, size, name } => return number(pool.add_request(owner, size, name).0),
+        Call::Queue { owner, name } => return number(pool.add_queue(owner, name).0),
+        Call::Enqueue {
+            queue,
+            x,
+            routine,
+            user,
+        } => return number(pool.add_entry(queue, x, Handler { routine, user }).0),
+        Call::Length { queue } => return number(pool.queue_length(queue)),
+        Call::Running { queue } => {
+            let runs = pool.queue_running(queue).unwrap_or(false);
+            return number(u64::from(runs));
+        }
         Call::Cancel { x } => return Motion::Works(Errand::Cancel, x),
         Call::Done { x } => return finish(x, State::Done),
         Call::Oom { x } => return finish(x, State::NoMemory),
@@ -211,6 +223,8 @@ fn effect(call: Call, pool: &mut ObjectPool) -> Motion
         Call::Cleanup { x, routine } => pool.set_cleanup(x, routine),
         Call::Setcancel { x, routine } => pool.set_cancel(x, routine),
         Call::Post { x } => pool.post(x),
+        Call::Start { queue } => pool.start_queue(queue),
+        Call::Stop { queue } => pool.stop_queue(queue),
         Call::Endtime { x, time } => pool.set_end_time(x, time),
         Call::Schedule { x, routine: 0, .. } | Call::Unschedule { x } => pool.unschedule(x),
         Call::Schedule { x, routine, user } => pool.schedule(x, Handler { routine, user }),

@@ -15,6 +15,7 @@ mod reach;
 mod refusals;
 mod replies;
 mod reports;
+mod queue_checks;
 mod request_checks;
 mod short_reply;
 mod step;

@@ -37,6 +37,15 @@ fn starts(what: What, x: Obj, now: u64, flags: u32) -> Step
     goes(TurnFrame::Starting { what, x, occasion })
 }
 
+/// What has come soon is a queue, whose first entry is triggered while the turn waits; or it is as in `comes`.
+fn comes_soon(x: Obj, objects: &ObjectPool) -> Step {
+    if objects.queue_running(x).is_none() {
+        return comes(What::Immediate, x, 0, Errand::Notify, objects);
+    }
+    let work = Active::Requesting(Work::Triggering { queue: x });
+    Step::Calls(work, Waiting::Turn(TurnFrame::Serving { x }))
+}
+
 /// What has come is a request, whose errand is done while the turn waits; or it is an event, which starts.
 fn comes(what: What, x: Obj, now: u64, errand: Errand, objects: &ObjectPool) -> Step
     requires plain { IsPlainErrand errand }
@@ -60,7 +69,7 @@ fn picked(pick: Pick, waited: bool, objects: &ObjectPool) -> Step
     ensures ends { IsTurnStep result }
 {
     match pick {
-        Pick::Soon(x) => comes(What::Immediate, x, 0, Errand::Notify, objects),
+        Pick::Soon(x) => comes_soon(x, objects),
         Pick::Time(x, now) => {
             comes(
                 What::Timer,

@@ -1,4 +1,5 @@
-//! The steps of a request's work: its state is told, its cleanup runs, and whoever waits for it is notified.
+//! The steps of a request's work: its state is told, its cleanup runs, and whoever waits for it is notified; and those of a
+//! queue's: its first entry is triggered, or its entries are freed before it.
 ghost use Rattle.std.specs.Prelude.{◌≡◌, ◌≤◌, true, Some};
 ghost use Rattle.tree_specs.specs.declared.event.Event.TheVariants.{State as StateOf};
 ghost use Rattle.tree_specs.specs.Events.Requests.{state_number};
@@ -23,6 +24,7 @@ use crate::answer::Answer;
 use crate::caller::Caller;
 use crate::calls::release;
 use crate::motion::Motion;
+use crate::short_reply::ShortReply;
 use crate::step::Step;
 use crate::waiting::Waiting;
 use crate::work::{Work, cancelled, reply_to};
@@ -154,7 +156,18 @@ fn notify(x: Obj, errand: Errand, objects: &mut ObjectPool) -> Step
     }
 }
 
-/// The next step of a request's work that tells nothing with it.
+/// The first entry of a queue that is to be freed is freed before it. Once there is none this is over.
+fn vacate(queue: Obj, objects: &mut ObjectPool) -> Step {
+    objects.stop_queue(queue);
+    match objects.first_entry(queue) {
+        Some(entry) => Step::Frees(entry, Waiting::Work(Work::Dropping { queue, entry })),
+        None => goes(Work::Over {
+            reply: ShortReply::Ok,
+        }),
+    }
+}
+
+/// The next step of a request's or a queue's work that tells nothing with it.
 pub fn work_step(work: Work, objects: &mut ObjectPool) -> Step
     requires may { MayWork work objects.old }
     requires ready { WorkReady work objects.old }
@@ -182,6 +195,8 @@ pub fn work_step(work: Work, objects: &mut ObjectPool) -> Step
             let routine = Active::Caller(Caller::routine(what, x, handler, plainly));
             Step::Calls(routine, Waiting::Work(work))
         }
+        Work::Vacating { queue } => vacate(queue, objects),
+        Work::Triggering { .. } => over(Errand::Notify),
         Work::Over { reply } => Step::Ends(Answer::Heard(reply)),
         _ => unreachable!(),
     }
@@ -197,7 +212,25 @@ fn tell_state(x: Obj, state: State) -> Event
     }
 }
 
-/// Tells what comes next of a request's work, which goes on after it. None where it tells nothing, and then nothing changes.
+/// The trigger of a queue's first entry runs for its request, which is told. None where no entry waits for it, and then nothing
+/// changes.
+fn tell_trigger(queue: Obj, work: &mut Work, objects: &mut ObjectPool) -> Option<Event> {
+    let turn = objects.trigger(queue)?;
+    let what = What::Trigger;
+    *work = Work::Called {
+        what,
+        x: turn.request,
+        handler: turn.trigger,
+        errand: Errand::Notify,
+    };
+    Some(Event::Fired {
+        what,
+        object: turn.request,
+        routine: turn.trigger.routine,
+    })
+}
+
+/// Tells what comes next of a request's or a queue's work, which goes on after it. None where it tells nothing, and then nothing changes.
 pub fn tell_work(work: &mut Work, objects: &mut ObjectPool) -> Option<Event>
     ensures event { result ≡ work_tells work.old objects.old.pool }
     ensures work { work.new ≡ work_told work.old objects.old.pool }
@@ -237,6 +270,7 @@ pub fn tell_work(work: &mut Work, objects: &mut ObjectPool) -> Option<Event>
                 routine: handler.routine,
             })
         }
+        Work::Triggering { queue } => tell_trigger(queue, work, objects),
         _ => None,
     }
 }

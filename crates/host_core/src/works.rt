@@ -43,7 +43,7 @@ fn free_again(answer: Answer, objects: &mut ObjectPool)
 {
     match answer {
         Answer::Returned(value) => objects.answer(value),
-        Answer::Heard(_) => objects.received(),
+        Answer::Heard(_) => objects.prepared(),
         Answer::Freed(_) | Answer::Turned(_) => unreachable!(),
     }
 }
@@ -252,6 +252,10 @@ fn free_step(parts: &mut Parts) -> Active
         FreeStep::Prepare(x) => {
             parts.waiting.push_reserved(Waiting::Freeing);
             Active::Requesting(Work::Receiving { x })
+        }
+        FreeStep::Drain(queue) => {
+            parts.waiting.push_reserved(Waiting::Freeing);
+            Active::Requesting(Work::Vacating { queue })
         }
         FreeStep::Done(answer) => end(Answer::Freed(answer), parts),
         _ => Active::Freeing,

@@ -92,7 +92,7 @@ pub entries-more : (es : List (ℕ × QueueEntry)) (n : ℕ) (e : QueueEntry) �
 entries-more [] n e = omega arith
 entries-more (f ∷ fs) n e = each (nat_cmp n f.0) (entries-more fs n e)
   where
-    each : (o : Ordering) → length (put nat_cmp n e fs) ≤ length fs + 1 → length (by_order o ((n, e) ∷ f ∷ fs) ((f.0, e) ∷ fs) (f ∷ put nat_cmp n e fs)) ≤ length fs + 1 + 1
+    each : (o : Ordering) → length (put nat_cmp n e fs) ≤ length fs + 1 → length (by_order o ((n, e) ∷ f ∷ fs) ((f.0, e) ∷ fs) (f ∷ put nat_cmp n e fs)) ≤ length (f ∷ fs) + 1
     each Less k = omega arith
     each Equal k = omega arith
     each Greater k = omega (arith, k)

@@ -90,15 +90,22 @@ pub record KeepsPlaces (old new : Agenda) : Type 0 where
 
 -- ---- what is told, and what it leaves
 
--- an object waits no more; a descriptor that is to be closed with it is closed, and an entry leaves its queue
-abbrev pub without_event : Obj → Upcoming → Upcoming
-without_event x u = record u {
-  soon = looked_after (without_entry u.queues x) (entry_of u.queues x) (unscheduled u.soon x);
+-- an object waits no more; a descriptor that is to be closed with it is closed
+abbrev pub stilled : Obj → Upcoming → Upcoming
+stilled x u = record u {
+  soon = unscheduled u.soon x;
   times = disarmed u.times x;
   ring = unwatched u.ring x;
   descriptors = shut u.descriptors (closes_with u.ring x);
-  queues = without_entry u.queues x;
 }
+
+-- an entry leaves its queue, which comes soon where it runs and its first entry then waits for its trigger
+abbrev pub out_of_queue : Obj → Upcoming → Upcoming
+out_of_queue x u = record u { soon = looked_after (without_entry u.queues x) (entry_of u.queues x) u.soon; queues = without_entry u.queues x }
+
+-- an object waits no more, and stands in no queue
+abbrev pub without_event : Obj → Upcoming → Upcoming
+without_event x u = out_of_queue x (stilled x u)
 
 -- nothing is kept of an object
 abbrev pub forgotten : Obj → Upcoming → Upcoming

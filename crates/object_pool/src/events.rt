@@ -68,7 +68,7 @@ impl Events {
     ghost use Rattle.tree_specs.specs.Events.Rotation.{is_watching, is_watched, flags_of, flagged, closing, turned_back, closes_with, wanted_of};
     ghost use Rattle.tree_specs.specs.Events.Descriptors.{is_open_in};
     ghost use Rattle.loop_core.specs.Picks.{begin_pick, clock_pick, ready_pick};
-    ghost use Rattle.object_pool.specs.Upcoming.{nothing_comes, pending, pending_most, HasPlace, KeepsPlaces, after, closed_of, picked, soon_with, timed_with, watching_with, with_watch, with_open, with_closed, without_event, forgotten, MayForget};
+    ghost use Rattle.object_pool.specs.Upcoming.{nothing_comes, pending, pending_most, HasPlace, KeepsPlaces, after, closed_of, picked, soon_with, timed_with, watching_with, with_watch, with_open, with_closed, without_event, stilled, forgotten, MayForget};
     ghost use Rattle.tree_specs.specs.Events.Queues.{has_entries};
     ghost use Rattle.std.specs.Prelude.{Some};
     ghost use Rattle.tree_specs.specs.Events.Pending.{unscheduled};
@@ -226,10 +226,10 @@ impl Events {
         if watch.closes { Some(watch.fd) } else { None }
     }
 
-    /// An object waits no more, and an entry leaves its queue. Gives the descriptor that was closed with it, where one was.
+    /// An object waits no more. Gives the descriptor that was closed with it, where one was.
     fn disarm(&mut self, x: Obj) -> Option<u32>
         ensures closed { result ≡ closes_with self.old.upcoming.ring x }
-        ensures upcoming { self.new.upcoming ≡ without_event x self.old.upcoming }
+        ensures upcoming { self.new.upcoming ≡ stilled x self.old.upcoming }
         ensures kept { KeepsPlaces self.old self.new }
     {
         let closed = self.closes_with(x);
@@ -239,9 +239,17 @@ impl Events {
         if let Some(fd) = closed {
             self.close(fd);
         }
-        if let Some(queue) = self.queues.remove_entry(x) {
-            self.order.soon.push(queue);
-        }
+        closed
+    }
+
+    /// An object waits no more, and an entry leaves its queue. Gives the descriptor that was closed with it, where one was.
+    fn let_go(&mut self, x: Obj) -> Option<u32>
+        ensures closed { result ≡ closes_with self.old.upcoming.ring x }
+        ensures upcoming { self.new.upcoming ≡ without_event x self.old.upcoming }
+        ensures kept { KeepsPlaces self.old self.new }
+    {
+        let closed = self.disarm(x);
+        self.remove_entry(x);
         closed
     }
 
@@ -265,7 +273,7 @@ impl Events {
         ensures kept { KeepsPlaces self.old self.new }
     {
         match step {
-            FreeStep::Left { object, .. } | FreeStep::Doom(object) => return self.disarm(object),
+            FreeStep::Left { object, .. } | FreeStep::Doom(object) => return self.let_go(object),
             FreeStep::Gone { object, .. } => self.forget(object),
             FreeStep::Dropped { reference, .. } => self.forget(reference),
             _ => {}

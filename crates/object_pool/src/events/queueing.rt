@@ -1,9 +1,9 @@
 //! What is kept of queues, beside what is to come of them.
-ghost use Rattle.std.specs.Prelude.{◌≡◌, ◌<◌, ◌≤◌, None, Some, true, false, length};
+ghost use Rattle.std.specs.Prelude.{◌≡◌, ◌<◌, ◌≤◌, None, Some, true, false, is_some, length};
 ghost use Rattle.std.specs.Option.{option_map};
 ghost use Rattle.tree_specs.specs.Events.Queues.{running_of, has_queue, run_as, length_of, head_of, next_of};
 ghost use Rattle.request_queue.specs.Register.{IsAbove, object_of, turn_of, triggered_by};
-ghost use Rattle.object_pool.specs.Upcoming.{HasPlace, KeepsPlaces, queued, entered, running, with_queues};
+ghost use Rattle.object_pool.specs.Upcoming.{HasPlace, KeepsPlaces, queued, entered, out_of_queue, running, with_queues};
 
 use crate::events::Events;
 use request_queue::Turn;
@@ -29,6 +29,17 @@ impl Events {
     {
         if self.queues.add_entry(q, e, request, trigger) {
             self.order.soon.push(q);
+        }
+    }
+
+    /// An entry leaves its queue, which comes soon where it runs and its first entry then waits for its trigger. Nothing changes
+    /// where it is no entry.
+    pub fn remove_entry(&mut self, e: Obj)
+        ensures upcoming { self.new.upcoming ≡ out_of_queue e self.old.upcoming }
+        ensures kept { KeepsPlaces self.old self.new }
+    {
+        if let Some(queue) = self.queues.remove_entry(e) {
+            self.order.soon.push(queue);
         }
     }
 
@@ -66,6 +77,13 @@ impl Events {
         ensures kept { KeepsPlaces self.old self.new }
     {
         self.queues.trigger(q)
+    }
+
+    /// Whether a queue runs and its first entry waits for its trigger.
+    pub fn queue_waits(&self, q: Obj) -> bool
+        ensures { result ≡ is_some (next_of self.now.upcoming.queues q) }
+    {
+        self.queues.waits(q)
     }
 
     /// How many entries a queue has. It is 0 where it is none.

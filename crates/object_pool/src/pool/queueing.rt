@@ -1,5 +1,5 @@
 //! Queues: what is kept of them, and of the entries in them.
-ghost use Rattle.std.specs.Prelude.{◌≡◌, ◌-◌, ◌^◌, ◌<◌, true, false, length};
+ghost use Rattle.std.specs.Prelude.{◌≡◌, ◌-◌, ◌^◌, ◌<◌, true, false, is_some, length};
 ghost use Rattle.std.specs.Option.{option_map};
 ghost use Rattle.tree_specs.specs.declared.object.Owner.TheVariants.{Of};
 ghost use Rattle.tree_specs.specs.Tree.Pool.{is_owner, add_queue, add_entry, run_queue};
@@ -93,6 +93,13 @@ impl ObjectPool {
         ensures pool { self.new ≡ record self.old { pool = triggering (next_of self.old.pool.queues queue) self.old.pool } }
     {
         self.events.trigger(queue)
+    }
+
+    /// Whether a queue runs and its first entry waits for its trigger.
+    pub fn queue_waits(&self, queue: Obj) -> bool
+        ensures { result ≡ is_some (next_of self.now.pool.queues queue) }
+    {
+        self.events.queue_waits(queue)
     }
 
     /// How many entries a queue has (`tevent_queue_length`). It is 0 where it is none.
