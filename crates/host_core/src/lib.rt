@@ -20,8 +20,6 @@ mod request_checks;
 mod short_reply;
 mod step;
 mod subject;
-#[cfg(test)]
-mod tests;
 mod turn;
 mod turns;
 mod waiting;

@@ -2,7 +2,7 @@ ghost use Rattle.std.specs.Prelude.{◌<◌, IsTrue};
 ghost use Rattle.tree_specs.specs.Words.Names.{is_name};
 ghost use Rattle.tree_specs.specs.Words.Ranges.{is_sound, is_sound_owner};
 
-use super::*;
+use host_core::{Host, OfferFault};
 use std::alloc::Global;
 use std::fmt::InlineText;
 use std::process::Abort;

@@ -4,7 +4,7 @@ ghost use Rattle.tree_specs.specs.Words.Octets.{is_octets};
 ghost use Rattle.tree_specs.specs.Words.Ranges.{is_sound};
 
 use super::{act, free, freed, leads, ret, tells, told_number, waits};
-use crate::{Host, OfferFault};
+use host_core::{Host, OfferFault};
 use std::alloc::Global;
 use std::fmt::InlineText;
 use std::process::Abort;

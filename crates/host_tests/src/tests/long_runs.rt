@@ -6,7 +6,7 @@ use super::{
     act, add_stolen_chain, adds, count, free, freed, hook, leads, moment, next_is, report, ret,
     takes, tells, told_number, total, waits,
 };
-use crate::Host;
+use host_core::Host;
 use std::alloc::Global;
 use std::process::Abort;
 use std::test::Fail;
