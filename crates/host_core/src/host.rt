@@ -23,8 +23,8 @@ use std::alloc::Global;
 use std::marker::Model;
 use tree_specs::{Ask, Event, Input, Kind, Memory, Obj, Owner, Want};
 
-/// Takes the memory for all that comes up to the next question: each request that wasn't received may want two places, and what
-/// is at work three. If memory runs out, the works and the objects are as they were.
+/// Takes the memory for all that comes up to the next question: each request that wasn't received and each queue may want two
+/// places, and what is at work three. If memory runs out, the works and the objects are as they were.
 fn make_room(waiting: &mut Vec<Waiting>, objects: &mut ObjectPool) -> Result<(), Memory>
     ensures waiting { waiting.new.items ≡ waiting.old.items }
     ensures kept { vec_capacity waiting.old ≤ vec_capacity waiting.new }
@@ -33,7 +33,9 @@ fn make_room(waiting: &mut Vec<Waiting>, objects: &mut ObjectPool) -> Result<(),
     ensures err { OnErr result (objects.new ≡ objects.old) }
     ensures order { AreInOrder objects.old.pool.requests }
 {
-    let places = objects.count_requests().checked_mul(2).ok_or(Memory)?;
+    let requests = objects.count_requests();
+    let most = requests.checked_add(objects.count_queues()).ok_or(Memory)?;
+    let places = most.checked_mul(2).ok_or(Memory)?;
     waiting.reserve(places.checked_add(3).ok_or(Memory)?)?;
     objects.reserve()
 }

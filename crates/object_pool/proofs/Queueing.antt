@@ -1,12 +1,12 @@
 -- What stays in agreement where queues change.
-use Rattle.std.proofs.Common.{◌≡◌, ℕ, ◌<◌, ◌≤◌, Bool, true, false, List, [], ◌∷◌, length, Option, Some, None, refl, sym, arith}
+use Rattle.std.proofs.Common.{◌≡◌, ℕ, ◌<◌, ◌≤◌, Bool, true, false, List, [], ◌∷◌, length, Option, Some, None, is_some, refl, sym, arith}
 use Rattle.tree_specs.specs.declared.object.Obj.{Obj}
 use Rattle.tree_specs.specs.declared.queue.QueueEntry.{QueueEntry}
 use Rattle.tree_specs.specs.Words.Objects.{same}
 use Rattle.tree_specs.specs.Events.Queues.{Queues, Head, head_in, next_of, runs, run_as, triggered_entry}
 use Rattle.tree_specs.proofs.Invariants.Queues.{next-head}
 use Rattle.tree_specs.proofs.Tree.Numbered.{by_test}
-use Rattle.request_queue.specs.Register.{IsAbove, triggered_by}
+use Rattle.request_queue.specs.Register.{IsAbove, starts_next, started, triggered_by}
 use Rattle.object_pool.specs.declared.pool.ObjectPool.TheInside.{Inside}
 use Rattle.object_pool.specs.Agreeing.{AgreeWith}
 use Rattle.object_pool.specs.Upcoming.{Upcoming, Agenda, KeepsPlaces, AllBefore, AreGiven, key_number, running, with_queues}
@@ -53,6 +53,12 @@ triggered-agree b e q is n k a = queues-agree b e _ is (omega (arith, n)) (runni
 pub above-all : (n : ℕ) (es : List (ℕ × QueueEntry)) → AllBefore key_number n es → IsAbove (record { 0 = n }) es
 above-all n [] a = tt
 above-all n (e ∷ es) a = (a.0, above-all n es a.1)
+
+-- one that ran already, or whose first entry waits for no trigger, doesn't come soon
+pub starts-not : (u : Upcoming) (q : Obj) → starts_next u.queues q ≡ false → record u { queues = started u.queues q } ≡ running q u
+starts-not u q not_next = by_test (runs u.queues q)
+    (λ t. rw t refl)
+    (λ t. let none : is_some (next_of (run_as u.queues q true) q) ≡ false = rw t at not_next in rw (t, none) refl)
 
 -- a queue that didn't run does
 pub running-all : (n : ℕ) (u : Upcoming) (q : Obj) → AreGiven n u → AreGiven n (running q u)

@@ -23,10 +23,6 @@ numbered n = record { 0 = n }
 abbrev pub running_in : Line → Bool
 running_in l = l.running
 
-abbrev pub ran_in : Option Line → Bool
-ran_in None = false
-ran_in (Some l) = l.running
-
 abbrev pub newest_in : Option Line → Option ℕ
 newest_in None = None
 newest_in (Some l) = l.newest

@@ -24,6 +24,10 @@ looked_for left (Some e) = if is_some (next_of left e.queue) then Some e.queue e
 abbrev pub starts_next : Queues → Obj → Bool
 starts_next qs q = not (runs qs q) && is_some (next_of (run_as qs q true) q)
 
+-- a queue runs from now on; one that does already stays as it is
+abbrev pub started : Queues → Obj → Queues
+started qs q = if runs qs q then qs else run_as qs q true
+
 -- the object of an entry
 abbrev pub object_of : Head → Obj
 object_of h = h.object

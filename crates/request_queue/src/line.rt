@@ -2,7 +2,7 @@ ghost use Rattle.std.specs.Prelude.{◌≡◌, ◌-◌, ◌^◌, ◌<◌, ℕ, S
 ghost use Rattle.std.specs.Option.{option_map};
 ghost use Rattle.pool_arena.specs.Arena.{get};
 ghost use Rattle.request_queue.specs.declared.line.Line.{Line as LineData};
-ghost use Rattle.request_queue.specs.Linked.{newest_in, oldest_in, length_in, running_in, ran_in, run_by, joined, left};
+ghost use Rattle.request_queue.specs.Linked.{newest_in, oldest_in, length_in, running_in, run_by, joined, left};
 
 use linked_lanes::Sides;
 use pool_arena::Arena;
@@ -59,19 +59,13 @@ pub(crate) fn running(lines: &Arena<Line>, queue: u64) -> Option<bool>
     }
 }
 
-/// A queue runs from now on, or it doesn't. Nothing changes where it is none. Answers whether it ran.
-pub(crate) fn set_running(lines: &mut Arena<Line>, queue: u64, running: bool) -> bool
-    ensures result { result ≡ ran_in (get lines.old queue) }
+/// A queue runs from now on, or it doesn't. Nothing changes where it is none.
+pub(crate) fn set_running(lines: &mut Arena<Line>, queue: u64, running: bool)
     ensures lines { (q : ℕ) → get lines.new q ≡ cond (nat_eq queue q) (option_map (run_by running) (get lines.old q)) (get lines.old q) }
     ensures spare { lines.new.spare ≡ lines.old.spare }
 {
-    match lines.get_mut(queue) {
-        None => false,
-        Some(line) => {
-            let ran = line.running;
-            line.running = running;
-            ran
-        }
+    if let Some(line) = lines.get_mut(queue) {
+        line.running = running;
     }
 }
 

@@ -69,9 +69,9 @@ fn next_in(lines: &Arena<Line>, nodes: &Arena<Node>, queue: u64) -> Option<u64>
 
 impl Queues {
     ghost use Rattle.std.specs.Prelude.{◌+◌, ◌<◌, ◌≤◌, OnOk, Bool, None, true, false, is_some, length};
-    ghost use Rattle.tree_specs.specs.Events.Queues.{no_queues, running_of, has_queue, with_queue, runs, run_as, without_queue, entry_of, with_entry, without_entry, new_entry, length_of, head_of, has_entries, next_of};
+    ghost use Rattle.tree_specs.specs.Events.Queues.{no_queues, running_of, has_queue, with_queue, run_as, without_queue, entry_of, with_entry, without_entry, new_entry, length_of, head_of, has_entries, next_of};
     ghost use Rattle.request_queue.specs.Linked.{queue_of};
-    ghost use Rattle.request_queue.specs.Register.{IsAbove, looked_for, starts_next, object_of, turn_of, triggered_by};
+    ghost use Rattle.request_queue.specs.Register.{IsAbove, looked_for, starts_next, started, object_of, turn_of, triggered_by};
 
     /// No queues. It takes no memory.
     pub fn new(alloc: Global) -> Queues
@@ -173,25 +173,25 @@ impl Queues {
         if self.waits(queue) { Some(queue) } else { None }
     }
 
-    // A queue runs from now on, or it doesn't. Nothing changes where it is none. Answers whether it ran.
-    fn run(&mut self, q: Obj, running: bool) -> bool
-        ensures result { result ≡ runs self.old.queues q }
+    // A queue runs from now on, or it doesn't. Nothing changes where it is none.
+    fn run(&mut self, q: Obj, running: bool)
         ensures queues { self.new.queues ≡ run_as self.old.queues q running }
         ensures spare { self.new.spare ≡ self.old.spare }
     {
-        set_running(&mut self.lines, q.0, running)
+        set_running(&mut self.lines, q.0, running);
     }
 
     /// A queue runs from now on (`tevent_queue_start`). Nothing changes where it runs already, or is none. Answers whether it
     /// didn't run and its first entry waits for its trigger, so that the queue is to come soon.
     pub fn start(&mut self, q: Obj) -> bool
         ensures result { result ≡ starts_next self.old.queues q }
-        ensures queues { self.new.queues ≡ run_as self.old.queues q true }
+        ensures queues { self.new.queues ≡ started self.old.queues q }
         ensures spare { self.new.spare ≡ self.old.spare }
     {
-        if self.run(q, true) {
+        if self.running(q) == Some(true) {
             return false;
         }
+        self.run(q, true);
         self.waits(q)
     }
 
@@ -244,6 +244,13 @@ impl Queues {
             None => None,
             Some(node) => Some(node.entry),
         }
+    }
+
+    /// How many queues there are.
+    pub fn count(&self) -> usize
+        ensures { result ≡ length self.now.queues.running }
+    {
+        self.lines.len()
     }
 
     /// How many entries there are in all queues.

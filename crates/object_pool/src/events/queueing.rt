@@ -61,6 +61,13 @@ impl Events {
         self.queues.stop(q);
     }
 
+    /// How many queues there are.
+    pub fn count_queues(&self) -> usize
+        ensures { result ≡ length self.now.upcoming.queues.running }
+    {
+        self.queues.count()
+    }
+
     /// The first entry of a queue. None exactly where it has none.
     pub fn head(&self, q: Obj) -> Option<Obj>
         ensures { result ≡ option_map object_of (head_of self.now.upcoming.queues q) }

@@ -79,6 +79,13 @@ impl ObjectPool {
         self.events.stop(queue);
     }
 
+    /// How many queues there are.
+    pub fn count_queues(&self) -> usize
+        ensures { result ≡ length self.now.pool.queues.running }
+    {
+        self.events.count_queues()
+    }
+
     /// The first entry of a queue. None exactly where it has none.
     pub fn first_entry(&self, queue: Obj) -> Option<Obj>
         ensures { result ≡ option_map object_of (head_of self.now.pool.queues queue) }
