@@ -11,7 +11,7 @@ use Rattle.tree_specs.specs.declared.question.Input.{Input}
 use Rattle.tree_specs.specs.declared.question.Input.TheVariants.{Got}
 use Rattle.tree_specs.specs.declared.reply.Reply.TheVariants as reply
 use Rattle.tree_specs.specs.Machine.View.{View}
-use Rattle.destructors.specs.Engine.{IsAsked, IsReceiving}
+use Rattle.destructors.specs.Engine.{IsAsked, IsPreparing}
 use Rattle.destructors.specs.Works.{IsAwaiting}
 use Rattle.object_pool.specs.Objects.{Objects, frees_in, MayBeginFree}
 use Rattle.object_pool.specs.Requests.{count_unreceived}
@@ -24,7 +24,7 @@ use Rattle.host_core.specs.declared.step.Step.TheVariants.{Goes, Calls, Frees, U
 use Rattle.host_core.specs.declared.waiting.Waiting.{Waiting}
 use Rattle.host_core.specs.declared.waiting.Waiting.TheVariants.{Freeing, Awaiting, Turning, Requesting, Turn, Work as WorkOf}
 use Rattle.host_core.specs.declared.work.Work.{Work}
-use Rattle.host_core.specs.declared.work.Work.TheVariants.{Called, Releasing, Over}
+use Rattle.host_core.specs.declared.work.Work.TheVariants.{Called, Releasing, Dropping, Over}
 use Rattle.host_core.specs.Callers.{remembers}
 use Rattle.host_core.specs.Reaches.{remembered}
 use Rattle.host_core.specs.Hosts.{below_in, moved, places, PartsReady}
@@ -47,6 +47,7 @@ abbrev pub AnswersTo : Answer → Waiting → Objects → Type 0
 AnswersTo (Freed a) (Awaiting q x) o = Unit {0}
 AnswersTo (Freed a) (Turn (Clearing x)) o = Unit {0}
 AnswersTo (Freed a) (WorkOf (Releasing child)) o = Unit {0}
+AnswersTo (Freed a) (WorkOf (Dropping queue entry)) o = IsPreparing (slice_get o.works 0)
 AnswersTo (Returned v) Freeing o = IsAsked (slice_get o.works 0) × IsAwaiting (frees_in o)
 AnswersTo (Returned v) (Turn (Handling what x handler occasion)) o = o.ready ≡ true
 AnswersTo (Returned v) (WorkOf (Called what x handler errand)) o = o.ready ≡ true
@@ -54,7 +55,7 @@ AnswersTo (Turned v) (Turning q) o = Unit {0}
 AnswersTo (Heard r) (Turning q) o = Unit {0}
 AnswersTo (Heard r) (Requesting q) o = Unit {0}
 AnswersTo (Heard r) (Turn (Serving x)) o = Unit {0}
-AnswersTo (Heard r) Freeing o = IsReceiving (slice_get o.works 0) × IsAwaiting (frees_in o)
+AnswersTo (Heard r) Freeing o = IsPreparing (slice_get o.works 0) × IsAwaiting (frees_in o)
 AnswersTo a w o = ⊥
 
 -- the open frees go on with what the innermost of them has waited for

@@ -98,6 +98,7 @@ errand_places errand = 1
 abbrev pub work_places : Work → ℕ
 work_places (work.Cleaning x errand) = errand_places errand
 work_places (work.Cleaned x errand) = errand_places errand
+work_places (work.Vacating queue) = 3
 work_places w = 1
 
 abbrev pub turn_places : TurnFrame → ℕ

@@ -44,6 +44,9 @@ work_frame (work.Notifying x errand) = request.Notifying x errand
 work_frame (work.Calling what x handler errand) = request.Calling what x handler errand
 work_frame (work.Called what x handler errand) = request.Called what x handler errand
 work_frame (work.Releasing child) = request.Releasing child
+work_frame (work.Vacating queue) = request.Vacating queue
+work_frame (work.Dropping queue entry) = request.Dropping queue entry
+work_frame (work.Triggering queue) = request.Triggering queue
 work_frame (work.Over reply) = request.Over (reply_of reply)
 
 -- a free that is over, where it is the open frees that go on or wait; they are kept elsewhere

@@ -1,6 +1,6 @@
 //! The steps of a turn of the event loop: one thing comes, its handler runs, and it is quiet again or goes.
 ghost use Rattle.std.specs.Prelude.{◌≡◌, true, false};
-ghost use Rattle.tree_specs.specs.Machine.Table.{turn_step, come_step};
+ghost use Rattle.tree_specs.specs.Machine.Table.{turn_step, come_step, soon_step};
 ghost use Rattle.host_core.specs.Turns.{MayTurn, picked_step, looked_frame};
 ghost use Rattle.host_core.specs.Steps.{step_of};
 ghost use Rattle.host_core.specs.Going.{goes_as, GoesWell, IsTurnStep, IsPlainErrand};
@@ -37,15 +37,6 @@ fn starts(what: What, x: Obj, now: u64, flags: u32) -> Step
     goes(TurnFrame::Starting { what, x, occasion })
 }
 
-/// What has come soon is a queue, whose first entry is triggered while the turn waits; or it is as in `comes`.
-fn comes_soon(x: Obj, objects: &ObjectPool) -> Step {
-    if objects.queue_running(x).is_none() {
-        return comes(What::Immediate, x, 0, Errand::Notify, objects);
-    }
-    let work = Active::Requesting(Work::Triggering { queue: x });
-    Step::Calls(work, Waiting::Turn(TurnFrame::Serving { x }))
-}
-
 /// What has come is a request, whose errand is done while the turn waits; or it is an event, which starts.
 fn comes(what: What, x: Obj, now: u64, errand: Errand, objects: &ObjectPool) -> Step
     requires plain { IsPlainErrand errand }
@@ -58,6 +49,21 @@ fn comes(what: What, x: Obj, now: u64, errand: Errand, objects: &ObjectPool) -> 
         return starts(what, x, now, 0);
     }
     let work = Active::Requesting(Work::of(errand, x));
+    Step::Calls(work, Waiting::Turn(TurnFrame::Serving { x }))
+}
+
+/// What has come soon is a queue, which triggers its first entry while the turn waits; or it is a request or an event. No
+/// queue is a request.
+fn comes_soon(x: Obj, objects: &ObjectPool) -> Step
+    requires ready { objects.now.ready ≡ true }
+    ensures step { step_of result objects.now.pool ≡ soon_step (is_noted objects.now.pool.requests x) x objects.now.pool }
+    ensures goes { GoesWell 2 result objects.now }
+    ensures ends { IsTurnStep result }
+{
+    if objects.note(x).is_some() || objects.queue_running(x).is_none() {
+        return comes(What::Immediate, x, 0, Errand::Notify, objects);
+    }
+    let work = Active::Requesting(Work::Triggering { queue: x });
     Step::Calls(work, Waiting::Turn(TurnFrame::Serving { x }))
 }
 

@@ -6,7 +6,8 @@ ghost use Rattle.tree_specs.specs.Events.Requests.{state_number};
 ghost use Rattle.tree_specs.specs.Tree.Pool.{Pool as PoolData};
 ghost use Rattle.tree_specs.specs.declared.call.Call.TheVariants.{Free as FreeOf};
 ghost use Rattle.tree_specs.specs.declared.frame.Errand.TheVariants.{Receive};
-ghost use Rattle.tree_specs.specs.declared.frame.RequestFrame.TheVariants.{Cancelling, Cleaning, Cleaned, Notifying};
+ghost use Rattle.tree_specs.specs.declared.frame.RequestFrame.TheVariants.{Cancelling, Cleaning, Cleaned, Notifying, Vacating};
+ghost use Rattle.host_core.specs.declared.work.Work.TheVariants.{Triggering as TriggeringWork};
 ghost use Rattle.tree_specs.specs.Calls.Plans.{Plan as PlanData, planned};
 ghost use Rattle.tree_specs.specs.declared.frame.Errand.{Errand as ErrandData};
 ghost use Rattle.tree_specs.specs.Machine.Table.{request_step, release_object, over_step};
@@ -157,7 +158,14 @@ fn notify(x: Obj, errand: Errand, objects: &mut ObjectPool) -> Step
 }
 
 /// The first entry of a queue that is to be freed is freed before it. Once there is none this is over.
-fn vacate(queue: Obj, objects: &mut ObjectPool) -> Step {
+fn vacate(queue: Obj, objects: &mut ObjectPool) -> Step
+    requires ready { MayBeginFree objects.old }
+    ensures step { step_of result objects.new.pool ≡ request_step (Vacating queue) objects.old.pool }
+    ensures goes { GoesWell 3 result objects.new }
+    ensures ongoing { IsOngoing result }
+    ensures rest { objects.new ≡ record objects.old { pool = objects.new.pool } }
+    ensures requests { objects.new.pool.requests ≡ objects.old.pool.requests }
+{
     objects.stop_queue(queue);
     match objects.first_entry(queue) {
         Some(entry) => Step::Frees(entry, Waiting::Work(Work::Dropping { queue, entry })),
@@ -214,7 +222,12 @@ fn tell_state(x: Obj, state: State) -> Event
 
 /// The trigger of a queue's first entry runs for its request, which is told. None where no entry waits for it, and then nothing
 /// changes.
-fn tell_trigger(queue: Obj, work: &mut Work, objects: &mut ObjectPool) -> Option<Event> {
+fn tell_trigger(queue: Obj, work: &mut Work, objects: &mut ObjectPool) -> Option<Event>
+    requires { work.old ≡ TriggeringWork queue }
+    ensures event { result ≡ work_tells work.old objects.old.pool }
+    ensures work { work.new ≡ work_told work.old objects.old.pool }
+    ensures pool { objects.new ≡ record objects.old { pool = pool_told work.old objects.old.pool } }
+{
     let turn = objects.trigger(queue)?;
     let what = What::Trigger;
     *work = Work::Called {
