@@ -20,7 +20,7 @@ use Rattle.tree_specs.specs.Tree.Pool.{Pool, row_of, is_below, owner_of, target_
 use Rattle.tree_specs.specs.Machine.FreeTable.{FreeMove, free_step, begin_step, refs_step, drop_step, unlink_step, release_step, judge_step, loop_step, child_step, hand_on_step, tried_step}
 use Rattle.tree_specs.specs.Machine.Profiles.{Phase}
 use Rattle.tree_specs.specs.Invariants.Sound.{Footing, FreeRests, Tries, claims, footing}
-use Rattle.tree_specs.specs.Invariants.Sound.Footing.{OnFree, OnCall, AtBottom}
+use Rattle.tree_specs.specs.Invariants.Sound.Footing.{OnFree, OnCall, OnDropping, AtBottom}
 use Rattle.tree_specs.specs.declared.frame.Frame.TheVariants as frame
 use Rattle.tree_specs.specs.Calls.Refusals.{is_request, is_queue}
 use Rattle.tree_specs.proofs.Tree.Numbered.{by_test}
@@ -176,13 +176,14 @@ module _ (p : Pool) (u v : Upcoming) where
   tries-same x (OnFree (FreeingChild y d noted purpose)) t = t
   tries-same x (OnFree _) t = absurd t
   tries-same x OnCall t = t
+  tries-same x OnDropping t = t
   tries-same x AtBottom t = t
   tries-same x _ t = absurd t
 
   rests-same : (f : FreeFrame) (on : Footing) (claimed : Obj → List Phase) → FreeRests f on claimed here → FreeRests f on claimed there
   rests-same (Giving x o) on claimed h = record { row = h.row; is = h.is; live = h.live; apart = h.apart; there = h.there; outside = h.outside }
   rests-same (Beginning x) on claimed h = (tries-same x on h.0, h.1)
-  rests-same (Dooming x) on claimed h = (tries-same x on h.0, h.1)
+  rests-same (Dooming x) on claimed h = (tries-same x on h.0, h.1, h.2)
   rests-same (AfterChild x c noted purpose free_reply.Running) on claimed h = h
   rests-same (AfterChild x c noted purpose _) on claimed h = (tt, h.1)
   rests-same _ on claimed h = h
