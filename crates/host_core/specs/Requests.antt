@@ -8,9 +8,10 @@ use Rattle.tree_specs.specs.declared.moment.What.TheVariants.{Trigger}
 use Rattle.tree_specs.specs.declared.object.Obj.{Obj}
 use Rattle.tree_specs.specs.declared.request.State.TheVariants.{Received}
 use Rattle.tree_specs.specs.declared.call.Call.TheVariants.{Free as FreeOf}
-use Rattle.tree_specs.specs.Tree.Pool.{Pool, finish, receive}
+use Rattle.tree_specs.specs.Tree.Pool.{Pool, row_of, finish, receive}
 use Rattle.tree_specs.specs.Events.Requests.{state_number, note_of, is_unreceived}
-use Rattle.tree_specs.specs.Events.Queues.{Head, next_of}
+use Rattle.tree_specs.specs.Events.Queues.{Head, has_queue, next_of}
+use Rattle.tree_specs.specs.Calls.Refusals.{is_queue_row}
 use Rattle.tree_specs.specs.Calls.Plans.{Plan, planned}
 use Rattle.tree_specs.specs.Calls.Plans.Plan.{Frees as FreesOf, Unlinks as UnlinksOf}
 use Rattle.object_pool.specs.Objects.{Objects, MayBeginFree}
@@ -58,6 +59,10 @@ pool_told (work.Finishing x state) p = finish p x state
 pool_told (work.Receiving x) p = if is_unreceived (note_of p.requests x) then receive p x else p
 pool_told (work.Triggering queue) p = triggering (next_of p.queues queue) p
 pool_told w p = p
+
+-- what is kept of queues is kept of each of them, and of nothing else
+abbrev pub QueuesAreKept : Pool → Type 0
+QueuesAreKept p = (x : Obj) → has_queue p.queues x ≡ is_queue_row (row_of p.rows x)
 
 -- ---- what it may want
 

@@ -8,7 +8,7 @@ ghost use Rattle.tree_specs.specs.declared.question.Ask.{Ask as AskData};
 ghost use Rattle.host_core.specs.declared.motion.Motion.TheVariants.{Replies, Works};
 ghost use Rattle.tree_specs.specs.declared.frame.Errand.TheVariants.{Finish as FinishOf};
 ghost use Rattle.tree_specs.specs.Tree.Pool.{Pool as PoolData};
-ghost use Rattle.host_core.specs.Requests.{IsRelease, IsReleaseBy};
+ghost use Rattle.host_core.specs.Requests.{IsRelease, IsReleaseBy, QueuesAreKept};
 ghost use Rattle.host_core.specs.declared.short_reply.ShortReply.TheVariants.{Number as NumberReply};
 ghost use Rattle.tree_specs.specs.Rules.Answers.{freed_reply};
 ghost use Rattle.tree_specs.specs.Machine.Table.{call_step, plan_step};
@@ -151,6 +151,7 @@ fn effect(call: Call, pool: &mut ObjectPool) -> Motion
     requires allowed { AllPassed pool.old.pool (tests call) }
     requires no_report { report_of call ≡ None }
     requires reference { RefsMayGo pool.old.pool.rows }
+    requires queues { QueuesAreKept pool.old.pool }
     ensures goes { ReadyFor result pool.new.ready }
     ensures works { pool.new.works ≡ pool.old.works }
     ensures moved { (q : AskData) → move_of q result pool.new.pool ≡ plan_step q (plan pool.old.pool call) pool.old.pool }
@@ -246,6 +247,7 @@ pub fn act(call: Call, pool: &mut ObjectPool) -> Motion
     requires ready { pool.old.ready ≡ true }
     requires no_report { report_of call ≡ None }
     requires reference { RefsMayGo pool.old.pool.rows }
+    requires queues { QueuesAreKept pool.old.pool }
     ensures goes { ReadyFor result pool.new.ready }
     ensures works { pool.new.works ≡ pool.old.works }
     ensures moved { (q : AskData) → move_of q result pool.new.pool ≡ call_step (refusals pool.old.pool call) q call pool.old.pool }
