@@ -129,7 +129,7 @@ fn handled(what: What, x: Obj, objects: &mut ObjectPool) -> Step
 }
 
 /// The next step of a turn that tells and asks nothing with it.
-#[tactic(auto, using(crate::proofs::Turning::timed_picked))]
+#[tactic(auto, using(crate::proofs::Turning::taking_picked, crate::proofs::Turning::timed_picked))]
 pub fn turn_step(frame: TurnFrame, objects: &mut ObjectPool) -> Step
     requires may { MayTurn frame objects.old.pool }
     requires ready { FrameReady frame objects.old }
