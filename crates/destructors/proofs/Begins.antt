@@ -1,7 +1,7 @@
 -- A free that begins, or is answered, is at work.
 use Rattle.std.proofs.Common.{◌≡◌, ℕ, ◌+◌, ◌≤◌, List, [], ◌∷◌, length, Option, Some, None, true, false, nat_eq, refl, ◌∙◌, ap, inl, arith}
 use Rattle.tree_specs.specs.declared.frame.FreeFrame.{FreeFrame}
-use Rattle.tree_specs.specs.declared.frame.FreeFrame.TheVariants.{Unlinking, Beginning, Hooked, Preparing, Prepared, Leaving, Looping}
+use Rattle.tree_specs.specs.declared.frame.FreeFrame.TheVariants.{Unlinking, Beginning, Hooked, Preparing, Draining, Leaving, Looping}
 use Rattle.tree_specs.specs.declared.frame.Purpose.TheVariants.{Emptying}
 use Rattle.tree_specs.specs.declared.object.Obj.{Obj}
 use Rattle.tree_specs.specs.declared.row.Row.{Row}
@@ -19,10 +19,10 @@ use Rattle.tree_specs.proofs.Tree.Numbered.{by_test}
 use Rattle.tree_links.specs.Links.{Links, pool_of}
 use Rattle.destructors.specs.Moves.{IsLiveRow}
 use Rattle.destructors.specs.Room.{mark_places, row_places, work_places, wanted}
-use Rattle.destructors.specs.Engine.{IsAsked, HasRoom, HasRoomFor, IsBetweenCalls}
-use Rattle.destructors.specs.Frees.{before, frees_of, awaits_run, received, speaking}
+use Rattle.destructors.specs.Engine.{IsAsked, IsPreparing, HasRoom, HasRoomFor, IsBetweenCalls}
+use Rattle.destructors.specs.Frees.{before, frees_of, awaits_run, was_prepared, speaking}
 use Rattle.destructors.specs.Works.{AtWork, IsAwaiting, MayBegin}
-use Rattle.destructors.proofs.Hosting.{begins, judges, was-received}
+use Rattle.destructors.proofs.Hosting.{begins, judges, was-prepared}
 use Rattle.destructors.proofs.Keeping.{run-places}
 
 pub may-free : (x : Obj) (p : Pool) → newest_ref p.rows x ≡ None → target_at p.rows x ≡ None → MayBegin (Beginning x) p
@@ -63,15 +63,17 @@ begun f o o' old new same may a rows works =
     let l : new.frees ≡ before o old.frees = works ∙ ap (λ (z : Option FreeFrame). before z old.frees) same in
     rw (l, rows) w
 
--- the request of the innermost free was received: it goes on
-pub received-works : (o : Option FreeFrame) (x : Obj) (tree : Links) → o ≡ Some (Preparing x) → IsAwaiting (frees_of o tree) → AtWork (Prepared x ∷ tree.frees) (pool_of tree)
-received-works o x tree e a = let a' : IsAwaiting (frees_of (Some (Preparing x)) tree) = rw e at a in was-received x tree.frees (pool_of tree) a'
+-- what comes before the innermost free is over: it goes on
+pub prepared-works : (f : FreeFrame) (fs : List FreeFrame) (p : Pool) → IsPreparing (Some f) → IsAwaiting (record { works = f ∷ fs; pool = p }) → AtWork (was_prepared f ∷ fs) p
+prepared-works f fs p is a = was-prepared f fs p is a
 
-pub received-ready : (o : Option FreeFrame) (x : Obj) (tree : Links) → o ≡ Some (Preparing x) → IsAwaiting (frees_of o tree) → HasRoom o tree → IsBetweenCalls (Some (Prepared x)) tree
-received-ready o x tree e a room = let r : HasRoom (Some (Preparing x)) tree = rw e at room in record { moves = inl (received-works o x tree e a); room = omega (arith, r) }
+prepared-room : (f : FreeFrame) (tree : Links) → IsPreparing (Some f) → HasRoom (Some f) tree → HasRoom (Some (was_prepared f)) tree
+prepared-room (Preparing x) tree is room = omega (arith, room)
+prepared-room (Draining x) tree is room = omega (arith, room)
+prepared-room _ tree is room = absurd is
 
-pub received-are : (o : Option FreeFrame) (x : Obj) (fs : List FreeFrame) → o ≡ Some (Preparing x) → received (before o fs) ≡ Prepared x ∷ fs
-received-are o x fs e = rw e refl
+pub prepared-ready : (f : FreeFrame) (tree : Links) → IsPreparing (Some f) → IsAwaiting (frees_of (Some f) tree) → HasRoom (Some f) tree → IsBetweenCalls (Some (was_prepared f)) tree
+prepared-ready f tree is a room = record { moves = inl (prepared-works f tree.frees (pool_of tree) is a); room = prepared-room f tree is room }
 
 -- ---- room
 

@@ -6,13 +6,13 @@ use Rattle.tree_specs.specs.Machine.Profiles.{InLoop}
 use Rattle.tree_specs.specs.declared.frame.Frame.{Frame}
 use Rattle.tree_specs.specs.declared.frame.Frame.TheVariants as frame
 use Rattle.tree_specs.specs.declared.frame.FreeFrame.{FreeFrame}
-use Rattle.tree_specs.specs.declared.frame.FreeFrame.TheVariants.{Unlinking, Releasing, Giving, Beginning, Hooked, Judged, Preparing, Prepared, Dooming, Leaving, Looping, FreeingChild, AfterChild, Ending}
+use Rattle.tree_specs.specs.declared.frame.FreeFrame.TheVariants.{Unlinking, Releasing, Giving, Beginning, Hooked, Judged, Preparing, Draining, Prepared, Dooming, Leaving, Looping, FreeingChild, AfterChild, Ending}
 use Rattle.tree_specs.specs.declared.frame.Purpose.{Purpose}
 use Rattle.tree_specs.specs.declared.frame.Purpose.TheVariants.{Removal, Emptying}
 use Rattle.tree_specs.specs.declared.free_step.FreeReply.{FreeReply}
 use Rattle.tree_specs.specs.declared.free_step.FreeReply.TheVariants as replies
 use Rattle.tree_specs.specs.declared.free_step.FreeStep.{FreeStep}
-use Rattle.tree_specs.specs.declared.free_step.FreeStep.TheVariants.{Ask, Prepare, Dropped, Left, Moved, Gone, Done}
+use Rattle.tree_specs.specs.declared.free_step.FreeStep.TheVariants.{Ask, Prepare, Drain, Dropped, Left, Moved, Gone, Done}
 use Rattle.tree_specs.specs.declared.object.Obj.{Obj}
 use Rattle.tree_specs.specs.declared.object.Owner.{Owner}
 use Rattle.tree_specs.specs.declared.object.Owner.TheVariants.{Root, Of}
@@ -22,7 +22,7 @@ use Rattle.tree_specs.specs.declared.row.Mark.TheVariants as mark
 use Rattle.tree_specs.specs.Words.Objects.{same}
 use Rattle.tree_specs.specs.Tree.Targets.{newest_ref}
 use Rattle.tree_specs.specs.Tree.Pool.{Pool, row_of, owner_in, is_below, owner_of, target_in, target_at, newest_ref_of, is_inside, first_kid, changed, marked_row, hooked_row}
-use Rattle.tree_specs.specs.Calls.Refusals.{is_request}
+use Rattle.tree_specs.specs.Calls.Refusals.{is_request, is_queue}
 use Rattle.tree_specs.specs.Machine.FreeTable.{FreeMove, free_step, free_resume, begin_step}
 use Rattle.tree_specs.specs.Invariants.Sound.{claims, IsLive, Shaped, ValidAt, Sound}
 use Rattle.tree_specs.proofs.Tree.Numbered.{by_test, is_below-some}
@@ -90,7 +90,9 @@ module _ (p : Pool) (fs : List Frame) where
       each : (m : Mark) → MoveChanges (begin_step x (Some (record r { mark = m })) p) p.rows
       each mark.Quiet = by_test (is_request r.kind)
           (λ u. rw u (marked-same mark.Asked p.rows x))
-          (λ u. rw u (by_test (nat_eq r.hook 0) (λ t. rw t refl) (λ t. rw t (marked-same mark.Asked p.rows x))))
+          (λ u. by_test (is_queue r.kind)
+          (λ v. rw (u, v) (marked-same mark.Asked p.rows x))
+          (λ v. rw (u, v) (by_test (nat_eq r.hook 0) (λ t. rw t refl) (λ t. rw t (marked-same mark.Asked p.rows x)))))
       each mark.Busy = marked-same mark.Doomed p.rows x
       each _ = refl
 
@@ -123,6 +125,7 @@ module _ (p : Pool) (fs : List Frame) where
   move-changes (Hooked x h) s = refl
   move-changes (Judged x h v) s = by_test (nat_eq v 0) (λ t. rw t (hooked-same 0 p.rows x)) (λ t. rw t (marked-same mark.Quiet p.rows x))
   move-changes (Preparing x) s = refl
+  move-changes (Draining x) s = refl
   move-changes (Prepared x) s = marked-same mark.Quiet p.rows x
   move-changes (Dooming x) s = refl
   move-changes (Leaving x h) s = (live-owner p.next (row_of p.rows x) x s.rests.0 s.rests.1 (s.valid x) s.rests.2, refl)
@@ -205,6 +208,7 @@ then-same _ rs mid new c e = e ∙ c
 settled-rows : (t : FreeStep) (mid new : OpenFrees) → GoesOn t mid → Silently mid new → SameRows mid.pool.rows new.pool.rows
 settled-rows (Ask x) mid new g on = ap (λ (z : OpenFrees). map bare z.pool.rows) (sym (still mid new on (awaiting-speaks mid g)))
 settled-rows (Prepare x) mid new g on = ap (λ (z : OpenFrees). map bare z.pool.rows) (sym (still mid new on (awaiting-speaks mid g)))
+settled-rows (Drain x) mid new g on = ap (λ (z : OpenFrees). map bare z.pool.rows) (sym (still mid new on (awaiting-speaks mid g)))
 settled-rows (Done a) mid new g on = ap (λ (z : OpenFrees). map bare z.pool.rows) (sym (still mid new on (awaiting-speaks mid g)))
 settled-rows _ mid new g on = (silent-rows mid new g on).1
 

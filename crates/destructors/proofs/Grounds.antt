@@ -5,7 +5,7 @@ use Rattle.tree_specs.specs.Machine.Profiles.{InRun, InLoop}
 use Rattle.tree_specs.specs.declared.frame.Frame.{Frame}
 use Rattle.tree_specs.specs.declared.frame.Frame.TheVariants as frame
 use Rattle.tree_specs.specs.declared.frame.FreeFrame.{FreeFrame}
-use Rattle.tree_specs.specs.declared.frame.FreeFrame.TheVariants.{Unlinking, Releasing, Giving, Beginning, Hooked, Judged, Preparing, Prepared, Dooming, Leaving, Looping, FreeingChild, AfterChild, Ending}
+use Rattle.tree_specs.specs.declared.frame.FreeFrame.TheVariants.{Unlinking, Releasing, Giving, Beginning, Hooked, Judged, Preparing, Draining, Prepared, Dooming, Leaving, Looping, FreeingChild, AfterChild, Ending}
 use Rattle.tree_specs.specs.declared.frame.Purpose.TheVariants.{Removal, Emptying}
 use Rattle.tree_specs.specs.declared.free_step.FreeReply.{FreeReply}
 use Rattle.tree_specs.specs.declared.free_step.FreeReply.TheVariants.{Ok, Held, Running, Refused as IsRefused}
@@ -74,6 +74,7 @@ claimless (Ending b) fs p a s e x = refl
 claimless (Looping y Emptying) fs p a s e x = refl
 claimless (Hooked y h) fs p a s e x = cc
 claimless (Preparing y) fs p a s e x = cc
+claimless (Draining y) fs p a s e x = cc
 claimless (Prepared y) fs p a s e x = cc
 claimless (Leaving y h) fs p a s e x = cc
 claimless (FreeingChild y c noted purpose) fs p a s e x = absurd s.rests

@@ -6,13 +6,13 @@ use Rattle.tree_specs.specs.Machine.Profiles.{InRun, InLoop}
 use Rattle.tree_specs.specs.declared.frame.Frame.{Frame}
 use Rattle.tree_specs.specs.declared.frame.Frame.TheVariants as frame
 use Rattle.tree_specs.specs.declared.frame.FreeFrame.{FreeFrame}
-use Rattle.tree_specs.specs.declared.frame.FreeFrame.TheVariants.{Unlinking, Releasing, Giving, Beginning, Hooked, Judged, Preparing, Prepared, Dooming, Leaving, Looping, FreeingChild, AfterChild}
+use Rattle.tree_specs.specs.declared.frame.FreeFrame.TheVariants.{Unlinking, Releasing, Giving, Beginning, Hooked, Judged, Preparing, Draining, Prepared, Dooming, Leaving, Looping, FreeingChild, AfterChild}
 use Rattle.tree_specs.specs.declared.frame.Purpose.{Purpose}
 use Rattle.tree_specs.specs.declared.frame.Purpose.TheVariants.{Removal, Emptying}
 use Rattle.tree_specs.specs.declared.free_step.FreeReply.{FreeReply}
 use Rattle.tree_specs.specs.declared.free_step.FreeReply.TheVariants.{Held, Running, Refused as IsRefused}
 use Rattle.tree_specs.specs.declared.free_step.FreeStep.{FreeStep}
-use Rattle.tree_specs.specs.declared.free_step.FreeStep.TheVariants.{Ask, Prepare, Done}
+use Rattle.tree_specs.specs.declared.free_step.FreeStep.TheVariants.{Ask, Prepare, Drain, Done}
 use Rattle.tree_specs.specs.declared.object.Obj.{Obj}
 use Rattle.tree_specs.specs.declared.object.Owner.{Owner}
 use Rattle.tree_specs.specs.declared.object.Owner.TheVariants.{Of}
@@ -24,11 +24,13 @@ use Rattle.tree_specs.specs.Tree.Targets.{newest_ref}
 use Rattle.tree_specs.specs.Words.Objects.{same}
 use Rattle.tree_specs.specs.Tree.Heirs.{heir}
 use Rattle.tree_specs.specs.Tree.Inside.{total}
-use Rattle.tree_specs.specs.Calls.Refusals.{is_request}
+use Rattle.tree_specs.specs.Calls.Refusals.{is_request, is_queue}
 use Rattle.tree_specs.specs.Machine.FreeTable.{FreeMove, free_step, free_resume, begin_step, refs_step, unlink_step, release_step, child_step, loop_step, hand_on_step}
 use Rattle.tree_specs.specs.Machine.Table.{Step, table, lifted}
-use Rattle.tree_specs.specs.Invariants.Measure.{below_cost, loop_kids, top_cost, cost}
-use Rattle.tree_specs.specs.Invariants.Sound.{phase_of, phases, claim_if, claims, Sound}
+use Rattle.tree_specs.specs.Invariants.Measure.{below_cost, below_wants, top_cost, cost}
+use Rattle.tree_specs.specs.Invariants.Sound.{phase_of, phases, claim_if, claims, footing, Sound}
+use Rattle.tree_specs.specs.Invariants.Sound.Footing.{OnDropping}
+use Rattle.tree_specs.specs.declared.frame.RequestFrame.TheVariants.{Dropping}
 use Rattle.tree_specs.specs.Invariants.Consistent.{IsStacked, IsPaidFor}
 use Rattle.tree_specs.proofs.Tree.Numbered.{by_test}
 use Rattle.tree_specs.proofs.Tree.Rows.{total-without, total-placed, total-changed}
@@ -36,12 +38,13 @@ use Rattle.tree_specs.proofs.Invariants.Changes.{dying-row, running-row, claim-h
 use Rattle.tree_specs.proofs.Turns.FallingFrees.{free-lower}
 use Rattle.tree_specs.proofs.Turns.Lowering.{Room, total-kept}
 use Rattle.tree_specs.proofs.Turns.Load.{placed-kept}
-use Rattle.tree_specs.proofs.Invariants.Keeps.{sound-kept}
 use Rattle.destructors.specs.Frees.{OpenFrees, awaits_run, answered, moved, moves}
-use Rattle.destructors.specs.Works.{frees_among, IsHosted, AtWork, IsAtWork, GoesOn}
+use Rattle.destructors.specs.Works.{frees_among, as_received, IsHosted, AtWork, IsAtWork, GoesOn}
 use Rattle.destructors.specs.Moves.{MoveRests}
 use Rattle.destructors.specs.Room.{mark_places, row_places, work_places, wanted}
 use Rattle.destructors.proofs.Grounds.{rests}
+use Rattle.destructors.proofs.Received.{undropped}
+use Rattle.destructors.proofs.FreesKept.{free-kept}
 use Rattle.destructors.proofs.Hosting.{other_cost, AwaitsRun, awaits-run, LiftedTo, OnTold, OnMove, moves-on}
 
 pub work-rests : (f : FreeFrame) (fs : List FreeFrame) (p : Pool) → AtWork (f ∷ fs) p → MoveRests f p
@@ -64,10 +67,10 @@ pairs P Q (Do.Call g f p) fs l k = (l, k)
 
 hosts-on : (f : FreeFrame) (fs : List FreeFrame) (p : Pool) → (w : IsHosted f fs p) → Leads table IsHost (lifted p.ring (free_step f p)) w.below 0
 hosts-on f fs p w = pairs (λ g gs q k. Sound g gs q) (λ g gs q k. IsStacked g gs × IsPaidFor g gs q) (lifted p.ring (free_step f p)) w.below
-    (sound-kept (frame.Free f) w.below p 0 w.sound) (placed-kept (frame.Free f) w.below p 0 w.sound w.seated w.light)
+    (free-kept f w.below p 0 w.sound) (placed-kept (frame.Free f) w.below p 0 w.sound w.seated w.light)
 
 at-work : (former : List Frame) (s : OpenFrees) → LiftedTo IsHost former s → IsAtWork s
-at-work former s l = subst (λ (z : List FreeFrame). AtWork z s.pool) (sym l.works) (record { below = l.below; frees = refl; sound = l.holds.0; seated = l.holds.1.0; light = l.holds.1.1; turns = l.turns })
+at-work former s l = subst (λ (z : List FreeFrame). AtWork z s.pool) (sym l.works) (record { below = l.below; frees = l.frees; sound = l.holds.0; seated = l.holds.1.0; light = l.holds.1.1; turns = l.turns })
 
 -- a move that tells nothing leaves a free at work
 pub kept : (f : FreeFrame) (fs : List FreeFrame) (p : Pool) (t : OpenFrees) → AtWork (f ∷ fs) p → moves (f ∷ fs) p ≡ (None, t) → IsAtWork t
@@ -80,15 +83,19 @@ told-kept f fs p told t w e = each told (subst (OnMove IsHost w.below) e (moves-
     each : (told : FreeStep) → OnTold IsHost w.below told t → GoesOn told t
     each (Ask x) l = l
     each (Prepare x) l = l
+    each (Drain x) l = l
     each (Done a) l = l
     each _ l = at-work w.below t l
 
 -- ---- the measure
 
 -- the cost of the works without those between them
+abbrev pub works_cost : ℕ → FreeFrame → List FreeFrame → Pool → ℕ
+works_cost R f fs p = cost R (frame.Free f) (map (λ g. frame.Free g) fs) p 0
+
 abbrev pub free_cost : ℕ → List FreeFrame → Pool → ℕ
 free_cost R [] p = 0
-free_cost R (f ∷ fs) p = cost R (frame.Free f) (map (λ g. frame.Free g) fs) p 0
+free_cost R (f ∷ fs) p = works_cost R f (map as_received fs) p
 
 both-costs : (fs : List Frame) → below_cost fs ≡ below_cost (map (λ g. frame.Free g) (frees_among fs)) + other_cost fs
 both-costs [] = refl
@@ -99,34 +106,37 @@ both-costs (frame.Outside o ∷ fs) = let ih = both-costs fs in omega (arith, ih
 both-costs (frame.Request r ∷ fs) = let ih = both-costs fs in omega (arith, ih)
 
 -- a free that waits for no free has no children to look at
-no-kids : (rows : List Row) (fs : List FreeFrame) → AwaitsRun fs → loop_kids rows (map (λ g. frame.Free g) fs) ≡ 0
+no-kids : (rows : List Row) (fs : List FreeFrame) → AwaitsRun fs → below_wants rows (map (λ g. frame.Free g) fs) ≡ 4
 no-kids rows [] w = refl
 no-kids rows (Hooked x h ∷ fs) w = refl
 no-kids rows (Preparing x ∷ fs) w = refl
+no-kids rows (Draining x ∷ fs) w = refl
 no-kids rows (_ ∷ fs) w = cc
 
-same-kids : (rows : List Row) (f : FreeFrame) (fs : List Frame) → IsStacked (frame.Free f) fs → loop_kids rows fs ≡ loop_kids rows (map (λ g. frame.Free g) (frees_among fs))
-same-kids rows f [] s = refl
-same-kids rows f (frame.Free g ∷ gs) s = among g
+-- so it is among the works of a host, where no entry of a queue is freed
+same-kids : (rows : List Row) (f : FreeFrame) (fs : List Frame) → (footing fs ≡ OnDropping → ⊥) → IsStacked (frame.Free f) fs → below_wants rows fs ≡ below_wants rows (map (λ g. frame.Free g) (frees_among fs))
+same-kids rows f [] apart s = refl
+same-kids rows f (frame.Free g ∷ gs) apart s = among g
   where
-    among : (g : FreeFrame) → loop_kids rows (frame.Free g ∷ gs) ≡ loop_kids rows (frame.Free g ∷ map (λ h. frame.Free h) (frees_among gs))
+    among : (g : FreeFrame) → below_wants rows (frame.Free g ∷ gs) ≡ below_wants rows (frame.Free g ∷ map (λ h. frame.Free h) (frees_among gs))
     among (Looping x purpose) = refl
     among _ = refl
-same-kids rows f (frame.Call c ∷ gs) s = sym (no-kids rows (frees_among gs) (awaits-run (frame.Call c) gs (λ z. z) s.1))
-same-kids rows f (frame.Turn t ∷ gs) s = sym (no-kids rows (frees_among gs) (awaits-run (frame.Turn t) gs (λ z. z) s.1))
-same-kids rows f (frame.Outside o ∷ gs) s = sym (no-kids rows (frees_among gs) (awaits-run (frame.Outside o) gs (λ z. z) s.1))
-same-kids rows f (frame.Request r ∷ gs) s = sym (no-kids rows (frees_among gs) (awaits-run (frame.Request r) gs (λ z. z) s.1))
+same-kids rows f (frame.Call c ∷ gs) apart s = sym (no-kids rows (frees_among gs) (awaits-run (frame.Call c) gs (λ z. z) s.1))
+same-kids rows f (frame.Turn t ∷ gs) apart s = sym (no-kids rows (frees_among gs) (awaits-run (frame.Turn t) gs (λ z. z) s.1))
+same-kids rows f (frame.Outside o ∷ gs) apart s = sym (no-kids rows (frees_among gs) (awaits-run (frame.Outside o) gs (λ z. z) s.1))
+same-kids rows f (frame.Request (Dropping q e) ∷ gs) apart s = absurd (apart refl)
+same-kids rows f (frame.Request r ∷ gs) apart s = sym (no-kids rows (frees_among gs) (awaits-run (frame.Request r) gs (λ z. z) s.1))
 
-same-top : (R : ℕ) (f : FreeFrame) (fs : List Frame) (rows : List Row) → IsStacked (frame.Free f) fs → top_cost R (frame.Free f) fs rows ≡ top_cost R (frame.Free f) (map (λ g. frame.Free g) (frees_among fs)) rows
-same-top R (Unlinking o x) fs rows s = let k = same-kids rows (Unlinking o x) fs s in omega (arith, k)
-same-top R (Releasing x) fs rows s = let k = same-kids rows (Releasing x) fs s in omega (arith, k)
-same-top R (Beginning x) fs rows s = let k = same-kids rows (Beginning x) fs s in omega (arith, k)
-same-top R (Dooming x) fs rows s = let k = same-kids rows (Dooming x) fs s in omega (arith, k)
-same-top R _ fs rows s = refl
+same-top : (R : ℕ) (f : FreeFrame) (fs : List Frame) (rows : List Row) → (footing fs ≡ OnDropping → ⊥) → IsStacked (frame.Free f) fs → top_cost R (frame.Free f) fs rows ≡ top_cost R (frame.Free f) (map (λ g. frame.Free g) (frees_among fs)) rows
+same-top R (Unlinking o x) fs rows apart s = let k = same-kids rows (Unlinking o x) fs apart s in omega (arith, k)
+same-top R (Releasing x) fs rows apart s = let k = same-kids rows (Releasing x) fs apart s in omega (arith, k)
+same-top R (Beginning x) fs rows apart s = let k = same-kids rows (Beginning x) fs apart s in omega (arith, k)
+same-top R (Dooming x) fs rows apart s = let k = same-kids rows (Dooming x) fs apart s in omega (arith, k)
+same-top R _ fs rows apart s = refl
 
 -- in a host the works cost as much more as those between them
-hosted-cost : (R : ℕ) (f : FreeFrame) (fs : List Frame) (p : Pool) → IsStacked (frame.Free f) fs → cost R (frame.Free f) fs p 0 ≡ free_cost R (f ∷ frees_among fs) p + other_cost fs
-hosted-cost R f fs p s = let a = both-costs fs in let b = same-top R f fs p.rows s in omega (arith, a, b)
+hosted-cost : (R : ℕ) (f : FreeFrame) (fs : List Frame) (p : Pool) → (footing fs ≡ OnDropping → ⊥) → IsStacked (frame.Free f) fs → cost R (frame.Free f) fs p 0 ≡ works_cost R f (frees_among fs) p + other_cost fs
+hosted-cost R f fs p apart s = let a = both-costs fs in let b = same-top R f fs p.rows apart s in omega (arith, a, b)
 
 -- a move that tells nothing lowers the measure
 pub falls : (R : ℕ) (f : FreeFrame) (fs : List FreeFrame) (p : Pool) (t : OpenFrees) → AtWork (f ∷ fs) p → length p.rows ≤ R → moves (f ∷ fs) p ≡ (None, t)
@@ -144,10 +154,11 @@ falls R f fs p t w n e = fell (subst (OnMove Q w.below) e (moves-on Q w.below f 
 
     fell : LiftedTo Q w.below t → (length t.pool.rows ≤ R) × (free_cost R t.works t.pool < free_cost R (f ∷ fs) p)
     fell u =
-        let a = hosted-cost R f w.below p w.seated in
-        let b = hosted-cost R u.first u.below t.pool u.holds.1.1.0 in
-        let c : free_cost R t.works t.pool ≡ free_cost R (u.first ∷ frees_among u.below) t.pool = ap (λ (z : List FreeFrame). free_cost R z t.pool) u.works in
-        let d : free_cost R (f ∷ frees_among w.below) p ≡ free_cost R (f ∷ fs) p = ap (λ (z : List FreeFrame). free_cost R (f ∷ z) p) w.frees in
+        let a = hosted-cost R f w.below p (undropped w.below fs w.frees w.sound.waiting) w.seated in
+        let b = hosted-cost R u.first u.below t.pool (undropped u.below u.later u.frees u.holds.1.0.waiting) u.holds.1.1.0 in
+        let c : free_cost R t.works t.pool ≡ works_cost R u.first (frees_among u.below) t.pool =
+        ap (λ (z : List FreeFrame). free_cost R z t.pool) u.works ∙ ap (λ (z : List FreeFrame). works_cost R u.first z t.pool) (sym u.frees) in
+        let d : works_cost R f (frees_among w.below) p ≡ free_cost R (f ∷ fs) p = ap (λ (z : List FreeFrame). works_cost R f z p) w.frees in
         let r = u.holds.0.0 in
         let s = u.holds.0.1 in
         let o = u.cost in
@@ -178,7 +189,9 @@ slim-begin x p = each (row_of p.rows x) refl
         let u = asked r m e in
         by_test (is_request r.kind)
         (λ t. rw (e, m, t) (omega (arith, u)))
-        (λ t. by_test (nat_eq r.hook 0) (λ v. rw (e, m, t, v) (omega arith)) (λ v. rw (e, m, t, v) (omega (arith, u))))
+        (λ t. by_test (is_queue r.kind)
+        (λ q. rw (e, m, t, q) (omega (arith, u)))
+        (λ q. by_test (nat_eq r.hook 0) (λ v. rw (e, m, t, q, v) (omega arith)) (λ v. rw (e, m, t, q, v) (omega (arith, u)))))
     marks r Busy m e = let u = marked r Doomed e (sym (ap mark_places m)) in rw (e, m) (omega (arith, u))
     marks r _ m e = rw (e, m) (omega arith)
 
@@ -220,6 +233,7 @@ slim (Beginning x) fs p s = each (newest_ref p.rows x)
     each (Some r) = let l = fewer-places p.rows r in by_test (is_inside p.rows (Of r) (Of x)) (λ t. rw t (omega (arith, l))) (λ t. rw t (omega (arith, l)))
 slim (Hooked x h) fs p s = omega arith
 slim (Preparing x) fs p s = omega arith
+slim (Draining x) fs p s = omega arith
 slim (Judged x h v) fs p s =
     let row = running-row (row_of p.rows x) (claims x fs) (claim-here x InRun (claims x fs) (row_of p.rows x) (s.open_frees x)) in
     by_test (nat_eq v 0)
@@ -266,6 +280,7 @@ slim _ fs p s = omega arith
 pub run-places : (f : FreeFrame) → awaits_run f ≡ true → work_places f ≡ 1
 run-places (Hooked x h) e = refl
 run-places (Preparing x) e = refl
+run-places (Draining x) e = refl
 run-places _ e = cc
 
 resumed-places : (f : FreeFrame) (a : FreeReply) → work_places (free_resume f a) ≤ 1

@@ -1,6 +1,10 @@
 pub mod FreeMoves
 pub mod Grounds
 pub mod Quiet
+pub mod Received
+pub mod FreesKept
+pub mod Children
+pub mod Standing
 pub mod Hosting
 pub mod Keeping
 pub mod Settling

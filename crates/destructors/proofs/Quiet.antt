@@ -2,7 +2,7 @@
 use Rattle.std.proofs.Common.{◌≡◌, nat_eq, Option, Some, None, refl, ap}
 use Rattle.step_machine.specs.Machine.{Move as Do}
 use Rattle.tree_specs.specs.declared.frame.FreeFrame.{FreeFrame}
-use Rattle.tree_specs.specs.declared.frame.FreeFrame.TheVariants.{Unlinking, Releasing, Beginning, Hooked, Judged, Preparing, Prepared, Dooming, Looping, FreeingChild, AfterChild, Ending}
+use Rattle.tree_specs.specs.declared.frame.FreeFrame.TheVariants.{Unlinking, Releasing, Beginning, Hooked, Judged, Preparing, Draining, Prepared, Dooming, Looping, FreeingChild, AfterChild, Ending}
 use Rattle.tree_specs.specs.declared.frame.Purpose.{Purpose}
 use Rattle.tree_specs.specs.declared.frame.Purpose.TheVariants.{Removal, Emptying}
 use Rattle.tree_specs.specs.declared.free_step.FreeReply.{FreeReply}
@@ -15,7 +15,7 @@ use Rattle.tree_specs.specs.declared.row.Mark.TheVariants.{Quiet, Asked, Busy, D
 use Rattle.tree_specs.specs.Tree.Pool.{Pool, marked_row, row_of, is_below, owner_of, first_kid, target_at, newest_ref_of, is_inside}
 use Rattle.tree_specs.specs.Tree.Targets.{newest_ref}
 use Rattle.tree_specs.specs.Machine.FreeTable.{FreeMove, free_step, begin_by, begin_step, refs_step, unlink_step, release_step, child_step, loop_step, hand_on_step, tried_step}
-use Rattle.tree_specs.specs.Calls.Refusals.{is_request}
+use Rattle.tree_specs.specs.Calls.Refusals.{is_request, is_queue}
 use Rattle.tree_specs.proofs.Tree.Numbered.{by_test}
 use Rattle.destructors.specs.declared.motion.Outlook.TheVariants.{Ending as Over, Going, Pushing}
 use Rattle.references.specs.Rows.{SameRefs}
@@ -46,9 +46,11 @@ does (Beginning x) p rests = each (newest_ref p.rows x)
     marks : (r : Row) (m : Mark) → row_of p.rows x ≡ Some r → r.mark ≡ m → DoesTo (Beginning x) p (begin_by x r.kind r.hook m p)
     marks r Quiet e m = by_test (is_request r.kind)
         (λ t. rw t (refl, (rw e refl, rw (e, m) refl)))
-        (λ t. rw t (by_test (nat_eq r.hook 0)
+        (λ t. by_test (is_queue r.kind)
+        (λ v. rw (t, v) (refl, (rw e refl, rw (e, m) refl)))
+        (λ v. rw (t, v) (by_test (nat_eq r.hook 0)
         (λ u. rw u (refl, tt))
-        (λ u. rw u (refl, (rw e refl, rw (e, m) refl)))))
+        (λ u. rw u (refl, (rw e refl, rw (e, m) refl))))))
     marks r Asked e m = refl
     marks r Busy e m = tt
     marks r Doomed e m = refl
@@ -104,6 +106,7 @@ pub entered-refs : (f g : FreeFrame) (p : Pool) → SameRefs p.rows (entered f g
 entered-refs (Prepared x) g p = same-changed (marked_row Quiet) p.rows x (λ r. refl) (λ r. refl)
 entered-refs f (Hooked x h) p = same-changed (marked_row Asked) p.rows x (λ r. refl) (λ r. refl)
 entered-refs f (Preparing x) p = same-changed (marked_row Asked) p.rows x (λ r. refl) (λ r. refl)
+entered-refs f (Draining x) p = same-changed (marked_row Asked) p.rows x (λ r. refl) (λ r. refl)
 entered-refs f g p = λ r. refl
 
 module _ (f : FreeFrame) (p : Pool) (rests : MoveRests f p) where

@@ -1,9 +1,9 @@
 -- Trees in which nothing is going on, and engines that ask: what the tests rest on.
-use Rattle.std.proofs.Common.{◌≡◌, ℕ, ◌<◌, List, [], ◌∷◌, Option, Some, None, true, false, refl, sym, ◌∙◌, ap, subst, arith}
+use Rattle.std.proofs.Common.{◌≡◌, ℕ, ◌+◌, ◌≤◌, ◌<◌, List, [], ◌∷◌, length, Option, Some, None, true, false, refl, sym, ◌∙◌, ap, subst, arith}
 use Rattle.tree_specs.specs.declared.frame.Frame.TheVariants as frame
 use Rattle.tree_specs.specs.declared.frame.CallFrame.TheVariants.{Awaiting}
 use Rattle.tree_specs.specs.declared.frame.FreeFrame.{FreeFrame}
-use Rattle.tree_specs.specs.declared.frame.FreeFrame.TheVariants.{Hooked, Ending}
+use Rattle.tree_specs.specs.declared.frame.FreeFrame.TheVariants.{Hooked, Judged, Ending}
 use Rattle.tree_specs.specs.declared.free_step.FreeReply.TheVariants.{Ok}
 use Rattle.tree_specs.specs.declared.free_step.FreeStep.TheVariants.{Ask}
 use Rattle.tree_specs.specs.declared.kind.Kind.{Kind}
@@ -20,9 +20,10 @@ use Rattle.tree_specs.proofs.Invariants.Changes.{hooks-place, new-sound, unmarke
 use Rattle.tree_specs.proofs.Tree.Rooted.{forest-none}
 use Rattle.tree_specs.proofs.Turns.Lowering.{total-kept}
 use Rattle.tree_links.specs.Links.{Links, pool_of}
-use Rattle.destructors.specs.Frees.{OpenFrees, before, frees_of, moves, next_of, speaking, Steps}
+use Rattle.destructors.specs.Frees.{OpenFrees, before, frees_of, moves, next_of, returned, speaking, Steps}
 use Rattle.destructors.specs.Works.{AtWork, IsAtWork, AreAwaiting}
-use Rattle.destructors.specs.Engine.{IsAsked, AreKept}
+use Rattle.destructors.specs.Engine.{IsAsked, AreKept, HasRoom}
+use Rattle.destructors.specs.Room.{wanted}
 use Rattle.destructors.specs.Runs.{AsksFor}
 use Rattle.destructors.proofs.Settling.{run-speaks, asks-run, still, asks-waiting}
 
@@ -116,3 +117,10 @@ asked (Some f) old x n new w k s m = each n m (ap (λ (z : OpenFrees). z.works) 
     each : (n : Option FreeFrame) → AreKept n new → before n new.frees ≡ f ∷ old.frees → IsAsked n
     each None m e = let bad : f ∷ old.frees ≡ [] = sym e ∙ m in cc
     each (Some g) m e = let same : f ≡ g = cc in subst (λ (z : FreeFrame). IsAsked (Some z)) same (hooked f is.0)
+
+-- an answer wants no more room
+pub answered-room : (o n : Option FreeFrame) (v : ℕ) (tree : Links) → IsAsked o → frees_of n tree ≡ record { works = returned v (frees_of o tree); pool = pool_of tree } → HasRoom o tree → HasRoom n tree
+answered-room (Some (Hooked x h)) n v tree a e room =
+    let w : before n tree.frees ≡ Judged x h v ∷ tree.frees = ap (λ (s : OpenFrees). s.works) e in
+    subst (λ (z : List FreeFrame). wanted z tree.rows ≤ length tree.frees + tree.room) (sym w) (omega (arith, room))
+answered-room _ n v tree a e room = absurd a

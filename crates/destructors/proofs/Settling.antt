@@ -1,11 +1,11 @@
 -- A move that tells nothing, by the parts of an engine.
 use Rattle.std.proofs.Common.{◌≡◌, ℕ, ◌+◌, ◌≤◌, ◌<◌, List, [], ◌∷◌, length, Option, Some, None, true, false, refl, sym, ◌∙◌, ap, subst, inl, inr, arith}
 use Rattle.tree_specs.specs.declared.frame.FreeFrame.{FreeFrame}
-use Rattle.tree_specs.specs.declared.frame.FreeFrame.TheVariants.{Hooked, Preparing}
+use Rattle.tree_specs.specs.declared.frame.FreeFrame.TheVariants.{Hooked, Preparing, Draining}
 use Rattle.step_machine.specs.Machine.{Move as Do}
 use Rattle.tree_specs.specs.declared.free_step.FreeReply.{FreeReply}
 use Rattle.tree_specs.specs.declared.free_step.FreeStep.{FreeStep}
-use Rattle.tree_specs.specs.declared.free_step.FreeStep.TheVariants.{Ask, Prepare, Done}
+use Rattle.tree_specs.specs.declared.free_step.FreeStep.TheVariants.{Ask, Prepare, Drain, Done}
 use Rattle.tree_specs.specs.Machine.FreeTable.{FreeMove, free_step, free_resume}
 use Rattle.tree_specs.specs.Tree.Pool.{Pool}
 use Rattle.tree_links.specs.Links.{Links, pool_of}
@@ -23,12 +23,14 @@ use Rattle.destructors.proofs.Keeping.{work-rests, kept, told-kept, falls, narro
 pub run-speaks : (f : FreeFrame) (fs : List FreeFrame) (p : Pool) → awaits_run f ≡ true → speaks (f ∷ fs) (moves (f ∷ fs) p).0 ≡ true
 run-speaks (Hooked x h) fs p w = refl
 run-speaks (Preparing x) fs p w = refl
+run-speaks (Draining x) fs p w = refl
 run-speaks _ fs p w = cc
 
 -- and rests on nothing
 run-rests : (f : FreeFrame) (p : Pool) → awaits_run f ≡ true → MoveRests f p
 run-rests (Hooked x h) p w = tt
 run-rests (Preparing x) p w = tt
+run-rests (Draining x) p w = tt
 run-rests _ p w = cc
 
 -- what the next move rests on
@@ -122,6 +124,7 @@ told-ready told (Some f) tree k g = each told g
     each : (told : FreeStep) → GoesOn told (frees_of (Some f) tree) → MayMove (Some f) tree
     each (Ask x) a = waits a
     each (Prepare x) a = waits a
+    each (Drain x) a = waits a
     each (Done a) w = waits w
     each _ w = inl w
 
@@ -129,6 +132,7 @@ told-ready told (Some f) tree k g = each told g
 pub told-settled : (told : FreeStep) (s t : OpenFrees) → GoesOn told s → Silently s t → (IsAtWork s → IsAtWork t) → GoesOn told t
 told-settled (Ask x) s t g moves_on keeps = subst IsAwaiting (still s t moves_on (awaiting-speaks s g)) g
 told-settled (Prepare x) s t g moves_on keeps = subst IsAwaiting (still s t moves_on (awaiting-speaks s g)) g
+told-settled (Drain x) s t g moves_on keeps = subst IsAwaiting (still s t moves_on (awaiting-speaks s g)) g
 told-settled (Done a) s t g moves_on keeps = subst IsAwaiting (still s t moves_on (awaiting-speaks s g)) g
 told-settled _ s t g moves_on keeps = keeps g
 
@@ -153,11 +157,13 @@ tells f g old told t o new e w had is m k room =
 pub no-news : (u : FreeStep) (g : FreeFrame) → IsNews u → AsksFor u g → ⊥
 no-news (Ask x) g n a = n
 no-news (Prepare x) g n a = n
+no-news (Drain x) g n a = n
 no-news _ g n a = a
 
 pub asks-run : (asked : FreeStep) (f : FreeFrame) → AsksFor asked f → awaits_run f ≡ true
 asks-run (Ask x) (Hooked y h) a = refl
 asks-run (Prepare x) (Preparing y) a = refl
+asks-run (Drain x) (Draining y) a = refl
 asks-run asked f a = absurd a
 
 -- only a work that awaits a run asks for it, and it stays

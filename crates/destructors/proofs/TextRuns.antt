@@ -1,5 +1,5 @@
 -- A free that is driven from its beginning to its end is the free of the rules' text.
-use Rattle.std.proofs.Common.{◌≡◌, ◌≢◌, ℕ, suc, zero, ◌+◌, List, [], ◌∷◌, ◌++◌, map, Option, Some, None, true, false, refl, sym, ◌∙◌, ap, subst, arith}
+use Rattle.std.proofs.Common.{◌≡◌, ◌≢◌, ℕ, suc, zero, ◌+◌, List, [], ◌∷◌, ◌++◌, map, Option, Some, None, true, false, refl, sym, ◌∙◌, ap, subst, inl, inr, arith}
 use Rattle.step_machine.specs.Machine.{Outcome, run, rest, pass, leads, tell, tells, followed, map_items}
 use Rattle.step_machine.specs.Machine.{Move as Do}
 use Rattle.step_machine.specs.Machine.Outcome.{Ended, Waits, Stray, Short}
@@ -16,17 +16,23 @@ use Rattle.tree_specs.specs.declared.frame.Answer.TheVariants.{Freed}
 use Rattle.tree_specs.specs.declared.frame.Frame.{Frame}
 use Rattle.tree_specs.specs.declared.frame.Frame.TheVariants as frame
 use Rattle.tree_specs.specs.declared.frame.FreeFrame.{FreeFrame}
-use Rattle.tree_specs.specs.declared.frame.FreeFrame.TheVariants.{Unlinking, Beginning, Hooked, Preparing, Looping}
+use Rattle.tree_specs.specs.declared.frame.FreeFrame.TheVariants.{Unlinking, Beginning, Hooked, Preparing, Draining, Looping, Ending}
 use Rattle.tree_specs.specs.declared.frame.Purpose.TheVariants.{Emptying}
 use Rattle.tree_specs.specs.declared.free_step.FreeReply.{FreeReply}
 use Rattle.tree_specs.specs.declared.free_step.FreeReply.TheVariants.{Ok}
 use Rattle.tree_specs.specs.declared.free_step.FreeStep.{FreeStep}
-use Rattle.tree_specs.specs.declared.free_step.FreeStep.TheVariants.{Ask, Prepare, Done}
+use Rattle.tree_specs.specs.declared.free_step.FreeStep.TheVariants.{Ask, Prepare, Drain, Done}
 use Rattle.tree_specs.specs.declared.object.Obj.{Obj}
 use Rattle.tree_specs.specs.declared.object.Owner.{Owner}
 use Rattle.tree_specs.specs.declared.question.Input.{Input}
 use Rattle.tree_specs.specs.Invariants.Noted.{NotesHold, RestsNoted, received_next}
 use Rattle.tree_specs.specs.Invariants.Noted.{Noted as NotedOf}
+use Rattle.tree_specs.specs.Invariants.Sound.{Sound, Footing, FreeRests, claims, footing}
+use Rattle.tree_specs.specs.Invariants.Sound.Footing.{OnCall}
+use Rattle.tree_specs.specs.Invariants.Consistent.{IsPaidFor}
+use Rattle.tree_specs.specs.Invariants.Queued.{QueuesHold, Queued, RestsQueued}
+use Rattle.tree_specs.proofs.Invariants.Changes.{stands}
+use Rattle.tree_specs.proofs.Turns.Seats.{reseat-free}
 use Rattle.tree_specs.specs.Rules.Items.{Item}
 use Rattle.tree_specs.specs.Rules.Items.Item.{Told}
 use Rattle.tree_specs.specs.Tree.Pool.{Pool, target_at}
@@ -43,7 +49,8 @@ use Rattle.destructors.specs.Runs.{IsNews, AsksFor, listed, told_of, run_of, gon
 use Rattle.destructors.proofs.FreeMoves.{IsMoveOf, is_move}
 use Rattle.destructors.specs.Moves.{IsLiveRow}
 use Rattle.destructors.specs.Works.{AreAwaiting, MayBegin}
-use Rattle.destructors.proofs.Hosting.{AwaitsRun, awaiting-runs, resumed-free, told-answer, begins}
+use Rattle.destructors.proofs.Hosting.{AwaitsRun, awaiting-runs, resumed-free, told-answer}
+use Rattle.destructors.proofs.Children.{renamed, claims-renamed, all-wait, on-call, stacked, sizes-renamed, are-of-children}
 use Rattle.destructors.proofs.Begins.{may-free, may-unlink, may-empty}
 use Rattle.destructors.proofs.Settling.{run-speaks, still, no-news, asks-run, asks-waiting}
 
@@ -223,6 +230,7 @@ module _ (below : List FreeFrame) (waits : AwaitsRun below) (a : FreeReply) (q :
   calls-run : (asked : FreeStep) (g : FreeFrame) (p : Pool) → AsksFor asked g → step (frame.Free g) p ≡ Do.Call (run_for g) (frame.Free g) p
   calls-run (Ask x) (Hooked y h) p a = refl
   calls-run (Prepare x) (Preparing y) p a = refl
+  calls-run (Drain x) (Draining y) p a = refl
   calls-run asked g p a = absurd a
 
   runs-back : (s t : OpenFrees) (asked : FreeStep) (g : FreeFrame) (gs : List FreeFrame) (m : ℕ) (b : Answer) (p : Pool) (us is : List Input) (ran told : List Item) → Steps s asked t → AsksFor asked g → t.works ≡ g ∷ gs
@@ -288,16 +296,41 @@ no-short f (Waits ts) e = cc
 no-short f (Stray ts) e = cc
 no-short f Short e = refl
 
+-- what holds of queues where no entries are freed holds whatever else is open
+queues-under : (fs : List Frame) (p : Pool) → QueuesHold [] p → QueuesHold fs p
+queues-under fs p h = record {
+  queues = h.queues;
+  entries = h.entries;
+  waiting = h.waiting;
+  idle = λ q t. elim (h.idle q t) [ inl none ↦ inl none | inr d ↦ cc ];
+}
+
+-- the stated turns are enough for what begins
+begun-enough : (f : FreeFrame) (below : List FreeFrame) (p : Pool) (is : List Input) → MayBegin f p → NotedOf (frame.Free f) p → ((fs : List Frame) → RestsQueued (frame.Free f) fs p) → AreAwaiting below p → QueuesHold [] p
+    → run noted_table (stated p is) (with_note None (frame.Free f)) p is ≢ Short
+begun-enough f below p is may noted rests waits queues =
+    let h = waits.over in
+    let l = h.light in
+    let small = may.small in
+    let under : List Frame = renamed (frame.Free f) h.below in
+    let weight = sizes-renamed (frame.Free f) h.below in
+    let on : footing under ≡ OnCall = on-call (frame.Free f) h.below waits.on in
+    let may_rest : FreeRests f (footing under) (λ x. claims x under) p = subst (λ (z : Footing). FreeRests f z (λ x. claims x under) p) (sym on) (may.rests (λ x. claims x under)) in
+    let sound : Sound (frame.Free f) under p =
+    stands (frame.Free (Ending Ok)) (frame.Free f) h.below under p (λ x. rw (may.claims_nothing x) (claims-renamed x (frame.Free f) h.below)) (all-wait (frame.Free f) h.below h.sound.waiting) may_rest h.sound in
+    let queued : Queued (frame.Free f) under p = record { pool = queues-under (frame.Free f ∷ under) p queues; works = rests under; frees = are-of-children (frame.Free f) h.below } in
+    let light : IsPaidFor (frame.Free f) under p = omega (arith, l, small, weight) in
+    innermost-enough (record { innermost = frame.Free f; below = under; pool = p }) is sound noted queued (stacked (frame.Free f) h.below (reseat-free (Ending Ok) f h.below h.seated)) light
+
 -- and by the text, with the stated turns
-begun-means : (f : FreeFrame) (below : List FreeFrame) (p : Pool) (s : OpenFrees) (is : List Input) (told : List Item) (a : FreeReply) (q : Pool) → MayBegin f p → RestsNoted (frame.Free f) p → received_next (frame.Free f) ≡ None → AreAwaiting below p → NotesHold None p
+begun-means : (f : FreeFrame) (below : List FreeFrame) (p : Pool) (s : OpenFrees) (is : List Input) (told : List Item) (a : FreeReply) (q : Pool) → MayBegin f p → RestsNoted (frame.Free f) p → received_next (frame.Free f) ≡ None → ((fs : List Frame) → RestsQueued (frame.Free f) fs p) → AreAwaiting below p → NotesHold None p → QueuesHold [] p
     → Begins (f ∷ below) p s → Drives s is told a q → (scenes : List Scene) × (mean (stated p is) (frame.Free f) None p is ≡ Ended (Freed a) q scenes []) × (items scenes ≡ told)
-begun-means f below p s is told a q may noted next waits notes_hold started drives =
+begun-means f below p s is told a q may noted next queued waits notes_hold queues_hold started drives =
     let n : ℕ = stated p is in
     let r = begun-ends f below p s is told a q (awaiting-runs below p waits) started drives in
     let w : Noted Frame CallStart = with_note None (frame.Free f) in
-    let h = begins f below p may waits in
     let holds : NotedOf (frame.Free f) p = record { pool = rw next notes_hold; works = noted } in
-    let whole : run noted_table n w p is ≢ Short = innermost-enough (record { innermost = frame.Free f; below = h.below; pool = p }) is h.sound holds h.light in
+    let whole : run noted_table n w p is ≢ Short = begun-enough f below p is may holds queued waits queues_hold in
     let plain : run table n (frame.Free f) p is ≢ Short = λ short. whole (no-short item_of (run noted_table n w p is) (noted-run notes table n w p is ∙ short)) in
     let ended : run table r.0 (frame.Free f) p is ≢ Short = λ short. let bad : Ended (Freed a) q told [] ≡ Short = sym r.1 ∙ short in cc in
     let sum : n + r.0 ≡ r.0 + n = omega arith in
@@ -326,21 +359,21 @@ emptied-ends o a q ts e =
           ∙ ap (λ (z : List Scene). let y : Outcome (Unit {0}) Pool Input Scene = Ended tt q z w.4 in y) same ∙ ap (λ (z : List Input). let y : Outcome (Unit {0}) Pool Input Scene = Ended tt q ts z in y) e4,
     )
 
-pub free-as_text : (x : Obj) (below : List FreeFrame) (p q : Pool) (s : OpenFrees) (is : List Input) (told : List Item) (a : FreeReply) → AreAwaiting below p → NotesHold None p → target_at p.rows x ≡ None → newest_ref p.rows x ≡ None
+pub free-as_text : (x : Obj) (below : List FreeFrame) (p q : Pool) (s : OpenFrees) (is : List Input) (told : List Item) (a : FreeReply) → AreAwaiting below p → NotesHold None p → QueuesHold [] p → target_at p.rows x ≡ None → newest_ref p.rows x ≡ None
     → Begins (Beginning x ∷ below) p s → Drives s is told a q → EndsAs (free (stated p is) x p is) a q told
-free-as_text x below p q s is told a waits notes object unheld started drives =
-    let m = begun-means (Beginning x) below p s is told a q (may-free x p unheld object) tt refl waits notes started drives in
+free-as_text x below p q s is told a waits notes queues object unheld started drives =
+    let m = begun-means (Beginning x) below p s is told a q (may-free x p unheld object) tt refl (λ fs. tt) waits notes queues started drives in
     (m.0, freed-ends (free (stated p is) x p is) a q m.0 m.1, m.2)
 
-pub unlink-as_text : (o : Owner) (x : Obj) (below : List FreeFrame) (p q : Pool) (s : OpenFrees) (is : List Input) (told : List Item) (a : FreeReply) → AreAwaiting below p → NotesHold None p → IsLiveRow p x → target_at p.rows x ≡ None
+pub unlink-as_text : (o : Owner) (x : Obj) (below : List FreeFrame) (p q : Pool) (s : OpenFrees) (is : List Input) (told : List Item) (a : FreeReply) → AreAwaiting below p → NotesHold None p → QueuesHold [] p → IsLiveRow p x → target_at p.rows x ≡ None
     → Begins (Unlinking o x ∷ below) p s → Drives s is told a q → EndsAs (unlink (stated p is) o x p is) a q told
-unlink-as_text o x below p q s is told a waits notes live object started drives =
-    let m = begun-means (Unlinking o x) below p s is told a q (may-unlink o x p live object) tt refl waits notes started drives in
+unlink-as_text o x below p q s is told a waits notes queues live object started drives =
+    let m = begun-means (Unlinking o x) below p s is told a q (may-unlink o x p live object) tt refl (λ fs. tt) waits notes queues started drives in
     (m.0, freed-ends (unlink (stated p is) o x p is) a q m.0 m.1, m.2)
 
-pub children-as_text : (x : Obj) (below : List FreeFrame) (p q : Pool) (s : OpenFrees) (is : List Input) (told : List Item) (a : FreeReply) → AreAwaiting below p → NotesHold None p
+pub children-as_text : (x : Obj) (below : List FreeFrame) (p q : Pool) (s : OpenFrees) (is : List Input) (told : List Item) (a : FreeReply) → AreAwaiting below p → NotesHold None p → QueuesHold [] p
     → Begins (Looping x Emptying ∷ below) p s → Drives s is told a q → (a ≡ Ok) × EndsAs (children (stated p is) x p is) tt q told
-children-as_text x below p q s is told a waits notes started drives =
-    let m = begun-means (Looping x Emptying) below p s is told a q (may-empty x p) tt refl waits notes started drives in
+children-as_text x below p q s is told a waits notes queues started drives =
+    let m = begun-means (Looping x Emptying) below p s is told a q (may-empty x p) tt refl (λ fs. tt) waits notes queues started drives in
     let e = emptied-ends (children (stated p is) x p is) a q m.0 m.1 in
     (e.0, (m.0, e.1, m.2))

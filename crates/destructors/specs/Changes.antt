@@ -5,7 +5,7 @@ use Rattle.tree_specs.specs.declared.object.Owner.{Owner}
 use Rattle.tree_specs.specs.declared.row.Row.{Row}
 use Rattle.tree_specs.specs.declared.row.Mark.TheVariants.{Quiet}
 use Rattle.tree_specs.specs.declared.free_step.FreeStep.{FreeStep}
-use Rattle.tree_specs.specs.declared.free_step.FreeStep.TheVariants.{Ask, Prepare, Dropped, Refused, Accepted, Doom, Left, Moved, Gone, Done}
+use Rattle.tree_specs.specs.declared.free_step.FreeStep.TheVariants.{Ask, Prepare, Drain, Dropped, Refused, Accepted, Doom, Left, Moved, Gone, Done}
 use Rattle.tree_specs.specs.Tree.Pool.{of_rows, is_row, owner_of, target_at, changed, without, left_row, place}
 use Rattle.tree_links.specs.Links.{MayPlace}
 
@@ -23,6 +23,7 @@ placed_rows rs o x = (place (of_rows rs 0) o x).rows
 abbrev pub ChangedBy : FreeStep → List Row → List Row → Type 0
 ChangedBy (Ask x) rs rs' = SameRows rs rs'
 ChangedBy (Prepare x) rs rs' = SameRows rs rs'
+ChangedBy (Drain x) rs rs' = SameRows rs rs'
 ChangedBy (Dropped r target) rs rs' = (target_at rs r ≡ Some target) × SameRows (without rs r) rs'
 ChangedBy (Refused x v) rs rs' = SameRows rs rs'
 ChangedBy (Accepted x) rs rs' = SameRows rs rs'

@@ -1,7 +1,7 @@
 -- What an engine and the tree keep of the open frees.
 use Rattle.std.specs.Prelude.{◌≡◌, ◌+◌, ◌≤◌, true, List, [], ◌∷◌, length, Option, Some, None, ◌⊎◌}
 use Rattle.tree_specs.specs.declared.frame.FreeFrame.{FreeFrame}
-use Rattle.tree_specs.specs.declared.frame.FreeFrame.TheVariants.{Hooked, Preparing}
+use Rattle.tree_specs.specs.declared.frame.FreeFrame.TheVariants.{Hooked, Preparing, Draining}
 use Rattle.tree_links.specs.Links.{Links, pool_of}
 use Rattle.destructors.specs.Frees.{before, frees_of, awaits_run, moves, speaking, Begins}
 use Rattle.destructors.specs.Changes.{SameRows}
@@ -15,10 +15,11 @@ abbrev pub IsAsked : Option FreeFrame → Type 0
 IsAsked (Some (Hooked x h)) = Unit {0}
 IsAsked _ = ⊥
 
--- or until its request was received
-abbrev pub IsReceiving : Option FreeFrame → Type 0
-IsReceiving (Some (Preparing x)) = Unit {0}
-IsReceiving _ = ⊥
+-- or until its request was received, or its queue has no entries
+abbrev pub IsPreparing : Option FreeFrame → Type 0
+IsPreparing (Some (Preparing x)) = Unit {0}
+IsPreparing (Some (Draining x)) = Unit {0}
+IsPreparing _ = ⊥
 
 -- where the engine has no work, none waits in the tree
 abbrev pub AreKept : Option FreeFrame → Links → Type 0

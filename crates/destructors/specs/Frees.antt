@@ -1,9 +1,9 @@
 -- The open frees, one move after another. The works of all frees stand in one list, the innermost first; each begin stands on the free
--- whose destructor runs, or whose request is received.
+-- whose destructor runs, whose request is received, or whose queue's entries are freed.
 use Rattle.std.specs.Prelude.{◌≡◌, ℕ, Bool, true, false, ◌&&◌, List, [], ◌∷◌, Option, Some, None, is_some, is_none, unwrap_or, if◌then◌else◌}
 use Rattle.step_machine.specs.Machine.{Move as Do}
 use Rattle.tree_specs.specs.declared.frame.FreeFrame.{FreeFrame}
-use Rattle.tree_specs.specs.declared.frame.FreeFrame.TheVariants.{Hooked, Preparing, Prepared}
+use Rattle.tree_specs.specs.declared.frame.FreeFrame.TheVariants.{Hooked, Preparing, Draining, Prepared}
 use Rattle.tree_specs.specs.declared.free_step.FreeReply.{FreeReply}
 use Rattle.tree_specs.specs.declared.free_step.FreeStep.{FreeStep}
 use Rattle.tree_specs.specs.declared.free_step.FreeStep.TheVariants.{Doom, Left, Done}
@@ -29,10 +29,11 @@ before (Some f) fs = f ∷ fs
 abbrev pub frees_of : Option FreeFrame → Links → OpenFrees
 frees_of innermost t = record { works = before innermost t.frees; pool = pool_of t }
 
--- it waits for no free, but for the run of a destructor, or until a request was received
+-- it waits for no free, but for the run of a destructor, until a request was received, or until the entries of a queue are freed
 abbrev pub awaits_run : FreeFrame → Bool
 awaits_run (Hooked x h) = true
 awaits_run (Preparing x) = true
+awaits_run (Draining x) = true
 awaits_run f = false
 
 -- what a free answers goes to the work below it; where that waits for no free, or there is none, the begin is over
@@ -83,14 +84,15 @@ returned v s = judged v s.works
     judged v [] = []
     judged v (f ∷ fs) = unwrap_or (free_taken f s.pool v) f ∷ fs
 
--- the request that the innermost free waits for was received
-abbrev pub was_received : FreeFrame → FreeFrame
-was_received (Preparing x) = Prepared x
-was_received f = f
+-- what comes before the freeing of the request or the queue that the innermost free waits for is over
+abbrev pub was_prepared : FreeFrame → FreeFrame
+was_prepared (Preparing x) = Prepared x
+was_prepared (Draining x) = Prepared x
+was_prepared f = f
 
-abbrev pub received : List FreeFrame → List FreeFrame
-received [] = []
-received (f ∷ fs) = was_received f ∷ fs
+abbrev pub prepared : List FreeFrame → List FreeFrame
+prepared [] = []
+prepared (f ∷ fs) = was_prepared f ∷ fs
 
 -- moves that tell nothing
 pub data Silently (s : OpenFrees) : OpenFrees → Type 0 where

@@ -5,7 +5,7 @@ use Rattle.tree_specs.specs.declared.object.Obj.{Obj}
 use Rattle.tree_specs.specs.declared.object.Owner.{Owner}
 use Rattle.tree_specs.specs.declared.object.Owner.TheVariants.{Of}
 use Rattle.tree_specs.specs.declared.frame.FreeFrame.{FreeFrame}
-use Rattle.tree_specs.specs.declared.frame.FreeFrame.TheVariants.{Unlinking, Releasing, Giving, Beginning, Hooked, Judged, Preparing, Prepared, Dooming, Leaving, Looping, FreeingChild, AfterChild, Ending}
+use Rattle.tree_specs.specs.declared.frame.FreeFrame.TheVariants.{Unlinking, Releasing, Giving, Beginning, Hooked, Judged, Preparing, Draining, Prepared, Dooming, Leaving, Looping, FreeingChild, AfterChild, Ending}
 use Rattle.tree_specs.specs.declared.frame.Purpose.TheVariants.{Removal, Emptying}
 use Rattle.tree_specs.specs.declared.row.Mark.TheVariants as mark
 use Rattle.tree_specs.specs.Tree.Pool.{Pool, is_row, is_below, owner_of, target_at, is_dying, set_mark}
@@ -36,18 +36,20 @@ outlook_of (Do.Call g f p) = Pushing g f
 abbrev pub IsLiveRow : Pool → Obj → Type 0
 IsLiveRow p x = (is_row p.rows x ≡ true) × (is_dying p.rows x ≡ false)
 
--- what a move that tells nothing does to the objects: one that is to be asked, or to be received, is marked so, and one that was
--- received is quiet again
+-- what a move that tells nothing does to the objects: one that is to be asked, or to be prepared, is marked so, and one that was
+-- prepared is quiet again
 abbrev pub entered : FreeFrame → FreeFrame → Pool → Pool
 entered (Prepared x) next p = set_mark p x mark.Quiet
 entered work (Hooked x h) p = set_mark p x mark.Asked
 entered work (Preparing x) p = set_mark p x mark.Asked
+entered work (Draining x) p = set_mark p x mark.Asked
 entered work next p = p
 
 abbrev pub MayEnter : FreeFrame → FreeFrame → Pool → Type 0
 MayEnter (Prepared x) next p = IsLiveRow p x
 MayEnter work (Hooked x h) p = IsLiveRow p x
 MayEnter work (Preparing x) p = IsLiveRow p x
+MayEnter work (Draining x) p = IsLiveRow p x
 MayEnter work next p = Unit {0}
 
 -- a child that is to be handed on may be put below its heir
@@ -63,6 +65,7 @@ MoveRests (Beginning x) p = Unit {0}
 MoveRests (Hooked x h) p = Unit {0}
 MoveRests (Judged x h v) p = IsLiveRow p x
 MoveRests (Preparing x) p = Unit {0}
+MoveRests (Draining x) p = Unit {0}
 MoveRests (Prepared x) p = IsLiveRow p x
 MoveRests (Dooming x) p = Unit {0}
 MoveRests (Leaving x h) p = IsLiveRow p x

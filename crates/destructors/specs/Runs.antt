@@ -4,10 +4,10 @@ use Rattle.step_machine.specs.Machine.{Outcome, run}
 use Rattle.step_machine.specs.Machine.Outcome.{Ended}
 use Rattle.tree_specs.specs.declared.frame.Answer.{Answer}
 use Rattle.tree_specs.specs.declared.frame.FreeFrame.{FreeFrame}
-use Rattle.tree_specs.specs.declared.frame.FreeFrame.TheVariants.{Hooked, Preparing}
+use Rattle.tree_specs.specs.declared.frame.FreeFrame.TheVariants.{Hooked, Preparing, Draining}
 use Rattle.tree_specs.specs.declared.free_step.FreeReply.{FreeReply}
 use Rattle.tree_specs.specs.declared.free_step.FreeStep.{FreeStep}
-use Rattle.tree_specs.specs.declared.free_step.FreeStep.TheVariants.{Ask, Prepare, Done}
+use Rattle.tree_specs.specs.declared.free_step.FreeStep.TheVariants.{Ask, Prepare, Drain, Done}
 use Rattle.tree_specs.specs.declared.event.Event.{Event}
 use Rattle.tree_specs.specs.declared.object.Obj.{Obj}
 use Rattle.tree_specs.specs.declared.watch.Watch.{Watch}
@@ -24,6 +24,7 @@ use Rattle.destructors.specs.Frees.{OpenFrees, Steps}
 abbrev pub IsNews : FreeStep → Type 0
 IsNews (Ask x) = ⊥
 IsNews (Prepare x) = ⊥
+IsNews (Drain x) = ⊥
 IsNews (Done a) = ⊥
 IsNews _ = Unit {0}
 
@@ -31,6 +32,7 @@ IsNews _ = Unit {0}
 abbrev pub AsksFor : FreeStep → FreeFrame → Type 0
 AsksFor (Ask x) (Hooked y h) = x ≡ y
 AsksFor (Prepare x) (Preparing y) = x ≡ y
+AsksFor (Drain x) (Draining y) = x ≡ y
 AsksFor t f = ⊥
 
 abbrev pub listed : Option Event → List Item
@@ -41,8 +43,8 @@ listed (Some e) = Told e ∷ []
 abbrev pub told_of : List Watch → FreeStep → List Item
 told_of ring told = listed (event_of ring told)
 
--- what a free waits for, over these inputs, in so many turns: the run of a destructor, or that a request is received. Calls may be
--- done meanwhile.
+-- what a free waits for, over these inputs, in so many turns: the run of a destructor, that a request is received, or that the
+-- entries of a queue are freed. Calls may be done meanwhile.
 abbrev pub run_of : ℕ → FreeFrame → Pool → List Input → Outcome Answer Pool Input Item
 run_of n f p is = run table n (run_for f) p is
 

@@ -1,13 +1,13 @@
 -- What an engine keeps of the open frees between its calls: that they are those of a host in which everything holds that always does.
-use Rattle.std.specs.Prelude.{◌≡◌, List, [], ◌∷◌}
+use Rattle.std.specs.Prelude.{◌≡◌, List, [], ◌∷◌, map}
 use Rattle.tree_specs.specs.declared.object.Obj.{Obj}
 use Rattle.tree_specs.specs.declared.frame.Frame.{Frame}
 use Rattle.tree_specs.specs.declared.frame.Frame.TheVariants as frame
 use Rattle.tree_specs.specs.declared.frame.FreeFrame.{FreeFrame}
-use Rattle.tree_specs.specs.declared.frame.FreeFrame.TheVariants.{Ending}
+use Rattle.tree_specs.specs.declared.frame.FreeFrame.TheVariants.{Preparing, Draining, Ending}
 use Rattle.tree_specs.specs.declared.free_step.FreeReply.TheVariants.{Ok}
 use Rattle.tree_specs.specs.declared.free_step.FreeStep.{FreeStep}
-use Rattle.tree_specs.specs.declared.free_step.FreeStep.TheVariants.{Ask, Prepare, Done}
+use Rattle.tree_specs.specs.declared.free_step.FreeStep.TheVariants.{Ask, Prepare, Drain, Done}
 use Rattle.tree_specs.specs.Tree.Pool.{Pool}
 use Rattle.tree_specs.specs.Machine.Profiles.{Phase}
 use Rattle.tree_specs.specs.Invariants.Sound.{Sound, FreeRests, footing, claim}
@@ -27,10 +27,16 @@ AreTurnsLast [] = Unit {0}
 AreTurnsLast (frame.Turn t ∷ fs) = (frees_among fs ≡ []) × AreTurnsLast fs
 AreTurnsLast (f ∷ fs) = AreTurnsLast fs
 
--- This work of a free is innermost in some host, and these are the frees below it.
+-- While the entries of a queue are freed any free may begin, as while a request is received. So a queue that waits for this stands
+-- in the host as such a request does.
+abbrev pub as_received : FreeFrame → FreeFrame
+as_received (Draining x) = Preparing x
+as_received f = f
+
+-- This work of a free is innermost in some host, and these are the frees below it, with each queue as a request.
 pub record IsHosted (f : FreeFrame) (fs : List FreeFrame) (p : Pool) : Type 0 where
   pub below : List Frame
-  pub frees : frees_among below ≡ fs
+  pub frees : frees_among below ≡ map as_received fs
   pub sound : Sound (frame.Free f) below p
   pub seated : IsStacked (frame.Free f) below
   pub light : IsPaidFor (frame.Free f) below p
@@ -56,6 +62,7 @@ IsAwaiting s = AreAwaiting s.works s.pool
 abbrev pub GoesOn : FreeStep → OpenFrees → Type 0
 GoesOn (Ask x) s = IsAwaiting s
 GoesOn (Prepare x) s = IsAwaiting s
+GoesOn (Drain x) s = IsAwaiting s
 GoesOn (Done a) s = IsAwaiting s
 GoesOn _ s = IsAtWork s
 

@@ -3,7 +3,7 @@ ghost use Rattle.tree_specs.specs.declared.frame.FreeFrame.{FreeFrame as FreeFra
 ghost use Rattle.tree_specs.specs.Tree.Pool.{Pool as PoolData};
 ghost use Rattle.tree_specs.specs.Machine.FreeTable.{free_taken};
 ghost use Rattle.tree_links.specs.Links.{pool_of};
-ghost use Rattle.destructors.specs.Frees.{before, dooms};
+ghost use Rattle.destructors.specs.Frees.{before, dooms, was_prepared};
 ghost use Rattle.references.specs.Rows.{AreRefsOf};
 
 use crate::works::{advance, settle};
@@ -13,9 +13,9 @@ use tree_links::Tree;
 use tree_specs::{FreeFrame, FreeStep, Mark, Obj, Owner, Purpose};
 
 /// Frees in progress on a tree and the references in it, as `talloc_free` and `talloc_unlink` go, with the runs of
-/// destructors, and the receiving of requests, left to the caller. Begins nest: meanwhile further frees may begin and end. Contracts see
-/// the innermost work of the open frees; those that wait for it stand in the tree, and contracts see both as one list
-/// (`frees_of`).
+/// destructors, the receiving of requests, and the freeing of a queue's entries left to the caller. Begins nest: meanwhile
+/// further frees may begin and end. Contracts see the innermost work of the open frees; those that wait for it stand in
+/// the tree, and contracts see both as one list (`frees_of`).
 ///
 /// The engine takes no memory: `Tree::reserve` takes the room for its works. Between a step that asks and the
 /// answer, the caller may do with the tree what keeps that the open frees await it (`IsAwaiting`).
@@ -53,6 +53,18 @@ fn judged(work: FreeFrame, value: u32) -> FreeFrame
     }
 }
 
+/// A work that waits until its request was received, or its queue has no entries, once this is so. Every other work stays as
+/// it is.
+fn going_on(work: FreeFrame) -> FreeFrame
+    ensures { result ≡ was_prepared work }
+{
+    match work {
+        FreeFrame::Preparing { x } => FreeFrame::Prepared { x },
+        FreeFrame::Draining { x } => FreeFrame::Prepared { x },
+        _ => work,
+    }
+}
+
 /// Whether an object whose freeing begins is to go after its handler, which runs.
 fn is_doomed_now(x: Obj, tree: &Tree, refs: &Refs) -> bool
     requires { AreRefsOf refs.now.pairs tree.now.rows }
@@ -65,14 +77,14 @@ impl FreeEngine {
     ghost use Rattle.std.specs.Prelude.{true, None, is_some, [], ◌∷◌};
     ghost use Rattle.tree_specs.specs.declared.frame.FreeFrame.TheVariants.{Unlinking, Beginning, Looping};
     ghost use Rattle.tree_specs.specs.declared.frame.Purpose.TheVariants.{Emptying};
-    ghost use Rattle.destructors.specs.Frees.{frees_of, next_of, is_event, let_go_by, returned, received as received_works, speaking, Steps};
+    ghost use Rattle.destructors.specs.Frees.{frees_of, next_of, is_event, let_go_by, returned, prepared as prepared_works, speaking, Steps};
     ghost use Rattle.destructors.specs.Works.{IsAtWork, IsAwaiting, MayBegin, GoesOn};
     ghost use Rattle.tree_specs.specs.Tree.Targets.{newest_ref};
     ghost use Rattle.tree_specs.specs.Tree.Pool.{target_at};
     ghost use Rattle.references.specs.Rows.{AreRefsOf};
     ghost use Rattle.destructors.specs.Moves.{IsLiveRow};
     ghost use Rattle.destructors.specs.Changes.{ChangedBy};
-    ghost use Rattle.destructors.specs.Engine.{IsAsked, IsReceiving, AreKept, HasBegun, HasRoom, HasRoomFor};
+    ghost use Rattle.destructors.specs.Engine.{IsAsked, IsPreparing, AreKept, HasBegun, HasRoom, HasRoomFor};
 
     /// An engine with no open free.
     pub fn new() -> FreeEngine
@@ -156,16 +168,17 @@ impl FreeEngine {
         }
     }
 
-    /// The request that the innermost free waits for was received: the freeing goes on.
-    pub fn received(&mut self, tree: &mut Tree, refs: &mut Refs)
-        requires receiving { IsReceiving self.old }
+    /// What comes before the freeing of the request or the queue that the innermost free waits for is over: the freeing
+    /// goes on.
+    pub fn prepared(&mut self, tree: &mut Tree, refs: &mut Refs)
+        requires preparing { IsPreparing self.old }
         requires awaiting { IsAwaiting (frees_of self.old tree.old) }
         requires room { HasRoom self.old tree.old }
         requires refs { AreRefsOf refs.old.pairs tree.old.rows }
-        ensures { HasBegun (received_works (before self.old tree.old.frees)) tree.old refs.old self.new tree.new refs.new }
+        ensures { HasBegun (prepared_works (before self.old tree.old.frees)) tree.old refs.old self.new tree.new refs.new }
     {
-        if let Some(FreeFrame::Preparing { x }) = self.innermost {
-            self.innermost = settle(Some(FreeFrame::Prepared { x }), tree, refs);
+        if let Some(work) = self.innermost {
+            self.innermost = settle(Some(going_on(work)), tree, refs);
         }
     }
 
@@ -199,6 +212,7 @@ impl FreeEngine {
         match work {
             FreeFrame::Hooked { .. }
             | FreeFrame::Preparing { .. }
+            | FreeFrame::Draining { .. }
             | FreeFrame::Prepared { .. }
             | FreeFrame::Dooming { .. }
             | FreeFrame::Leaving { .. }
@@ -209,15 +223,20 @@ impl FreeEngine {
                 x,
                 purpose: Purpose::Emptying,
             } => tree.first_kid(Owner::Of(x)).is_some(),
-            _ => true,
+            FreeFrame::Looping { .. } => true,
+            FreeFrame::Unlinking { .. }
+            | FreeFrame::Releasing { .. }
+            | FreeFrame::Giving { .. }
+            | FreeFrame::Judged { .. }
+            | FreeFrame::AfterChild { .. } => true,
         }
     }
 
     /// What comes next of the innermost free.
     ///
-    /// At `Ask` the caller runs the object's destructor and answers with what it returned, and at `Prepare` he receives
-    /// the request and says so (`received`); he may begin further frees until then. At `Done` the innermost free is over, and the one around it, if there is one, still waits
-    /// for its answer.
+    /// At `Ask` the caller runs the object's destructor and answers with what it returned. At `Prepare` he receives the
+    /// request, and at `Drain` he frees the entries of the queue, and says so (`prepared`). He may begin further frees until
+    /// then. At `Done` the innermost free is over, and the one around it, if there is one, still waits for its answer.
     pub fn step(&mut self, tree: &mut Tree, refs: &mut Refs) -> FreeStep
         requires at_work { IsAtWork (frees_of self.old tree.old) }
         requires settled { speaking (frees_of self.old tree.old) ≡ true }

@@ -14,6 +14,7 @@ ghost use Rattle.tree_specs.specs.declared.question.Ask.TheVariants.{Routine};
 ghost use Rattle.tree_specs.specs.declared.question.Input.{Input as InputData};
 ghost use Rattle.tree_specs.specs.declared.question.Input.TheVariants.{Act};
 ghost use Rattle.tree_specs.specs.Invariants.Noted.{NotesHold};
+ghost use Rattle.tree_specs.specs.Invariants.Queued.{QueuesHold};
 ghost use Rattle.tree_specs.specs.Rules.Items.{Item};
 ghost use Rattle.tree_specs.specs.Machine.Meaning.{stated};
 ghost use Rattle.tree_specs.specs.Rules.Items.Item.{Asked};
@@ -27,18 +28,18 @@ ghost use Rattle.destructors.specs.Runs.{Drives, EndsAs, hook_run};
 ghost use Rattle.destructors.specs.Moves.{IsLiveRow};
 ghost use Rattle.destructors.specs.Works.{AreAwaiting};
 
-/// What is driven from its beginning to its `Done`, by `step`, `answer` and `received`, is what the rules' text says over
+/// What is driven from its beginning to its `Done`, by `step`, `answer` and `prepared`, is what the rules' text says over
 /// the answers of the routines that ran, whatever these did to the objects before they returned: its answer, the pool that
-/// it leaves, and all that was told and asked. Other frees may wait meanwhile, for a destructor or for a request.
+/// it leaves, and all that was told and asked. Other frees may wait meanwhile, for a destructor, a request or a queue.
 pub fn what_is_driven_to_its_end_is_the_text()
     ensures free { (x : ObjData) (below : List FreeFrameData) (p q : Pool) (s : OpenFrees) (is : List InputData) (told : List Item) (a : FreeReplyData) →
-        AreAwaiting below p → NotesHold None p → target_at p.rows x ≡ None → newest_ref p.rows x ≡ None → Begins (Beginning x ∷ below) p s → Drives s is told a q →
+        AreAwaiting below p → NotesHold None p → QueuesHold [] p → target_at p.rows x ≡ None → newest_ref p.rows x ≡ None → Begins (Beginning x ∷ below) p s → Drives s is told a q →
         EndsAs (free (stated p is) x p is) a q told }
     ensures unlink { (o : OwnerData) (x : ObjData) (below : List FreeFrameData) (p q : Pool) (s : OpenFrees) (is : List InputData) (told : List Item) (a : FreeReplyData) →
-        AreAwaiting below p → NotesHold None p → IsLiveRow p x → target_at p.rows x ≡ None → Begins (Unlinking o x ∷ below) p s → Drives s is told a q →
+        AreAwaiting below p → NotesHold None p → QueuesHold [] p → IsLiveRow p x → target_at p.rows x ≡ None → Begins (Unlinking o x ∷ below) p s → Drives s is told a q →
         EndsAs (unlink (stated p is) o x p is) a q told }
     ensures kids { (x : ObjData) (below : List FreeFrameData) (p q : Pool) (s : OpenFrees) (is : List InputData) (told : List Item) (a : FreeReplyData) →
-        AreAwaiting below p → NotesHold None p → Begins (Looping x Emptying ∷ below) p s → Drives s is told a q → (a ≡ Ok) × EndsAs (children (stated p is) x p is) tt q told }
+        AreAwaiting below p → NotesHold None p → QueuesHold [] p → Begins (Looping x Emptying ∷ below) p s → Drives s is told a q → (a ≡ Ok) × EndsAs (children (stated p is) x p is) tt q told }
 {}
 
 /// A destructor that returns at once leaves the objects as they are: it is asked, and returns what it was answered. So

@@ -6,6 +6,7 @@
 mod dropping;
 mod engine;
 mod heir;
+mod kinds;
 pub mod laws;
 mod motion;
 mod moves;

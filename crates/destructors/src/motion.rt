@@ -9,7 +9,7 @@ pub enum Motion {
     Goes(FreeFrame),
     /// It tells something and goes on.
     Tells(FreeStep, FreeFrame),
-    /// It asks for the run of a destructor, or for a request to be received, and waits.
+    /// It asks for the run of a destructor, for a request to be received, or for the entries of a queue to be freed, and waits.
     Waits(FreeStep, FreeFrame),
     /// It puts the first work before itself, and waits as the second.
     Pushes(FreeFrame, FreeFrame),

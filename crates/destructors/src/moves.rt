@@ -4,7 +4,6 @@ ghost use Rattle.tree_specs.specs.Tree.Pool.{row_of, first_kid, owner_of, target
 ghost use Rattle.tree_specs.specs.Tree.Targets.{newest_ref};
 ghost use Rattle.tree_specs.specs.declared.object.Owner.TheVariants.{Of as below};
 ghost use Rattle.tree_specs.specs.declared.frame.FreeFrame.TheVariants.{Looping as Loops};
-ghost use Rattle.tree_specs.specs.Calls.Refusals.{is_request};
 ghost use Rattle.tree_specs.specs.Machine.FreeTable.{free_step, begin_step, refs_step, unlink_step, release_step, judge_step, last_step, child_step, loop_step, hand_on_step};
 ghost use Rattle.tree_links.specs.Links.{pool_of, works_of, MayPlace};
 ghost use Rattle.references.specs.Rows.{AreRefsOf, SameRefs};
@@ -12,17 +11,11 @@ ghost use Rattle.destructors.specs.Moves.{move_of, outlook_of, IsLiveRow, MayHan
 
 use crate::dropping::{drop_ref, hold, noted_owner, release, unlink};
 use crate::heir::heir;
+use crate::kinds::{is_queue, is_request};
 use crate::motion::{Motion, Outlook};
 use references::Refs;
 use tree_links::Tree;
-use tree_specs::{FreeFrame, FreeReply, FreeStep, Kind, Mark, Obj, Owner, Purpose};
-
-/// Whether it is the kind of requests.
-fn is_request(kind: Kind) -> bool
-    ensures { result ≡ is_request kind }
-{
-    matches!(kind, Kind::Request)
-}
+use tree_specs::{FreeFrame, FreeReply, FreeStep, Mark, Obj, Owner, Purpose};
 
 /// The freeing of an object to which there is no reference begins.
 fn begin(x: Obj, tree: &mut Tree) -> Motion
@@ -39,6 +32,10 @@ fn begin(x: Obj, tree: &mut Tree) -> Motion
         Mark::Quiet if is_request(row.kind) => {
             tree.set_mark(x, Mark::Asked);
             Motion::Goes(FreeFrame::Preparing { x })
+        }
+        Mark::Quiet if is_queue(row.kind) => {
+            tree.set_mark(x, Mark::Asked);
+            Motion::Goes(FreeFrame::Draining { x })
         }
         Mark::Quiet if hook == 0 => Motion::Goes(FreeFrame::Leaving { x, hook }),
         Mark::Quiet => {
@@ -90,7 +87,7 @@ fn begin_free(x: Obj, tree: &mut Tree, refs: &mut Refs) -> Motion
     }
 }
 
-/// A request was received, and is quiet again before it leaves its owner.
+/// A request was received, or a queue has no entries: it is quiet again before it leaves its owner.
 fn go_on(x: Obj, tree: &mut Tree) -> Motion
     requires { IsLiveRow (pool_of tree.old) x }
     ensures moved { move_of result (pool_of tree.new) ≡ free_step (FreeFrame.Prepared x) (pool_of tree.old) }
@@ -242,6 +239,7 @@ pub fn move_once(work: FreeFrame, tree: &mut Tree, refs: &mut Refs) -> Motion
         FreeFrame::Hooked { x, .. } => Motion::Waits(FreeStep::Ask(x), work),
         FreeFrame::Judged { x, hook, value } => judge(x, hook, value, tree),
         FreeFrame::Preparing { x } => Motion::Waits(FreeStep::Prepare(x), work),
+        FreeFrame::Draining { x } => Motion::Waits(FreeStep::Drain(x), work),
         FreeFrame::Prepared { x } => go_on(x, tree),
         FreeFrame::Dooming { .. } => Motion::Ends(FreeReply::Running),
         FreeFrame::Leaving { x, hook } => leave(x, hook, tree),
@@ -278,6 +276,7 @@ fn outlook_of_begin(x: Obj, tree: &Tree, refs: &Refs) -> Outlook
     let hook = row.hook;
     match row.mark {
         Mark::Quiet if is_request(row.kind) => Outlook::Going(FreeFrame::Preparing { x }),
+        Mark::Quiet if is_queue(row.kind) => Outlook::Going(FreeFrame::Draining { x }),
         Mark::Quiet if hook == 0 => Outlook::Going(FreeFrame::Leaving { x, hook }),
         Mark::Quiet => Outlook::Going(FreeFrame::Hooked { x, hook }),
         Mark::Asked | Mark::Doomed => Outlook::Ending(FreeReply::Running),
@@ -365,6 +364,7 @@ pub fn outlook(work: FreeFrame, tree: &Tree, refs: &Refs) -> Outlook
         FreeFrame::Giving { .. }
         | FreeFrame::Hooked { .. }
         | FreeFrame::Preparing { .. }
+        | FreeFrame::Draining { .. }
         | FreeFrame::Judged { .. }
         | FreeFrame::Leaving { .. } => Outlook::Telling,
         FreeFrame::Prepared { x } => Outlook::Going(FreeFrame::Leaving { x, hook: 0 }),

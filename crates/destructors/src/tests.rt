@@ -101,7 +101,9 @@ impl World {
     {
         let told = self.engine.step(&mut self.tree, &mut self.refs);
         match told {
-            FreeStep::Ask(_) | FreeStep::Prepare(_) | FreeStep::Done(_) => panic!(rt; "no event"),
+            FreeStep::Ask(_) | FreeStep::Prepare(_) | FreeStep::Drain(_) | FreeStep::Done(_) => {
+                panic!(rt; "no event")
+            }
             FreeStep::Dropped { .. } => told,
             FreeStep::Refused { .. } => told,
             FreeStep::Accepted(_) => told,

@@ -41,11 +41,15 @@ fn telling(told: FreeStep, innermost: Option<FreeFrame>) -> Progress
     }
 }
 
-/// Whether a work waits for no free, but for the run of a destructor, or until a request was received.
+/// Whether a work waits for no free, but for the run of a destructor, until a request was received, or until the entries
+/// of a queue are freed.
 fn awaits_run(work: FreeFrame) -> bool
     ensures { result ≡ awaits_run work }
 {
-    matches!(work, FreeFrame::Hooked { .. } | FreeFrame::Preparing { .. })
+    matches!(
+        work,
+        FreeFrame::Hooked { .. } | FreeFrame::Preparing { .. } | FreeFrame::Draining { .. }
+    )
 }
 
 /// A work that has waited, with the answer of the work above it.
@@ -110,7 +114,7 @@ pub fn advance(work: FreeFrame, tree: &mut Tree, refs: &mut Refs) -> Progress
     }
 }
 
-/// An object that is to be asked, or to be received, is marked so before the next work, and one that was received is quiet
+/// An object that is to be asked, or to be prepared, is marked so before the next work, and one that was prepared is quiet
 /// again after the former work.
 fn enter(work: FreeFrame, next: FreeFrame, tree: &mut Tree)
     requires { MayEnter work next (pool_of tree.old) }
@@ -122,6 +126,7 @@ fn enter(work: FreeFrame, next: FreeFrame, tree: &mut Tree)
         (FreeFrame::Prepared { x }, _) => tree.set_mark(x, Mark::Quiet),
         (_, FreeFrame::Hooked { x, .. }) => tree.set_mark(x, Mark::Asked),
         (_, FreeFrame::Preparing { x }) => tree.set_mark(x, Mark::Asked),
+        (_, FreeFrame::Draining { x }) => tree.set_mark(x, Mark::Asked),
         _ => {}
     }
 }

@@ -1,5 +1,5 @@
 -- The steps of a turn, by what was picked and by whose handler has returned.
-use Rattle.std.proofs.Common.{◌≡◌, ℕ, ◌-◌, Bool, true, false, nat_le, List, [], ◌∷◌, Option, Some, None, refl}
+use Rattle.std.proofs.Common.{◌≡◌, ℕ, ◌-◌, Bool, true, false, nat_eq, nat_le, List, [], ◌∷◌, Option, Some, None, refl}
 use Rattle.tree_specs.specs.declared.due.Due.{Due}
 use Rattle.tree_specs.specs.declared.frame.Frame.{Frame}
 use Rattle.tree_specs.specs.declared.frame.Frame.TheVariants as frame
@@ -14,16 +14,28 @@ use Rattle.tree_specs.specs.Events.Pending.{first}
 use Rattle.tree_specs.specs.Invariants.Sound.{phases, claims}
 use Rattle.tree_specs.specs.Invariants.Consistent.{IsConsistent}
 use Rattle.tree_specs.specs.Machine.Profiles.{Phase, InRun, InHandler, InLoop}
-use Rattle.tree_specs.specs.Machine.Table.{turn_step, timed_step, early_step}
+use Rattle.tree_specs.specs.Machine.Table.{turn_step, due_step, taking_step, timed_step, early_step}
 use Rattle.tree_specs.specs.Promises.Grounded.{is_asked_mark}
 use Rattle.tree_specs.specs.Tree.Pool.{Pool, row_of, is_dying_mark}
 use Rattle.tree_specs.proofs.Tree.Numbered.{by_test}
 use Rattle.tree_specs.proofs.Invariants.Changes.{claim-here}
-use Rattle.loop_core.specs.Picks.{clock_pick, early_pick}
+use Rattle.loop_core.specs.Picks.{begin_pick, time_pick, clock_pick, early_pick}
 use Rattle.object_pool.specs.Upcoming.{pool_picked}
 use Rattle.host_core.specs.Turns.{picked_step, MayTurn, turn_speaks}
 
 -- ---- what was picked
+
+-- at the beginning of a turn
+pub taking_picked : (p : Pool) → picked_step false (begin_pick p.soon p.times) (pool_picked (begin_pick p.soon p.times) p) ≡ turn_step Taking p
+taking_picked p = soon p.soon
+  where
+    due : (ds : List Due) → picked_step false (time_pick ds) (pool_picked (time_pick ds) p) ≡ due_step (first ds) p
+    due [] = refl
+    due (d ∷ ds) = by_test (nat_eq d.time 0) (λ t. rw t refl) (λ t. rw t refl)
+
+    soon : (xs : List Obj) → picked_step false (begin_pick xs p.times) (pool_picked (begin_pick xs p.times) p) ≡ taking_step (first xs) p
+    soon [] = due p.times
+    soon (x ∷ xs) = refl
 
 -- once the clock has told the time
 pub timed_picked : (again : Bool) (now : ℕ) (p : Pool) → picked_step again (clock_pick again now p.times) (pool_picked (clock_pick again now p.times) p) ≡ turn_step (Timed again now) p

@@ -1,5 +1,5 @@
 -- What a step leads to in a host, and what it may want.
-use Rattle.std.specs.Prelude.{◌≡◌, ℕ, ◌+◌, ◌*◌, ◌≤◌, true, List, [], ◌∷◌, ◌++◌, length, slice_get, vec_capacity}
+use Rattle.std.specs.Prelude.{◌≡◌, ℕ, ◌+◌, ◌≤◌, true, List, [], ◌∷◌, ◌++◌, slice_get}
 use Rattle.step_machine.specs.Machine.{Move as Do}
 use Rattle.tree_specs.specs.declared.frame.TurnFrame.TheVariants.{Handling, Clearing, Serving}
 use Rattle.tree_specs.specs.declared.frame.CallFrame.TheVariants.{Telling}
@@ -11,10 +11,9 @@ use Rattle.tree_specs.specs.declared.question.Input.{Input}
 use Rattle.tree_specs.specs.declared.question.Input.TheVariants.{Got}
 use Rattle.tree_specs.specs.declared.reply.Reply.TheVariants as reply
 use Rattle.tree_specs.specs.Machine.View.{View}
-use Rattle.destructors.specs.Engine.{IsAsked, IsReceiving}
+use Rattle.destructors.specs.Engine.{IsAsked, IsPreparing}
 use Rattle.destructors.specs.Works.{IsAwaiting}
 use Rattle.object_pool.specs.Objects.{Objects, frees_in, MayBeginFree}
-use Rattle.object_pool.specs.Requests.{count_unreceived}
 use Rattle.host_core.specs.declared.active.Active.{Active}
 use Rattle.host_core.specs.declared.answer.Answer.{Answer}
 use Rattle.host_core.specs.declared.answer.Answer.TheVariants.{Freed, Returned, Turned, Heard}
@@ -24,10 +23,11 @@ use Rattle.host_core.specs.declared.step.Step.TheVariants.{Goes, Calls, Frees, U
 use Rattle.host_core.specs.declared.waiting.Waiting.{Waiting}
 use Rattle.host_core.specs.declared.waiting.Waiting.TheVariants.{Freeing, Awaiting, Turning, Requesting, Turn, Work as WorkOf}
 use Rattle.host_core.specs.declared.work.Work.{Work}
-use Rattle.host_core.specs.declared.work.Work.TheVariants.{Called, Releasing, Over}
+use Rattle.host_core.specs.declared.work.Work.TheVariants.{Called, Releasing, Dropping, Over}
 use Rattle.host_core.specs.Callers.{remembers}
 use Rattle.host_core.specs.Reaches.{remembered}
-use Rattle.host_core.specs.Hosts.{below_in, moved, places, PartsReady}
+use Rattle.host_core.specs.Hosts.{below_in, moved, PartsReady}
+use Rattle.host_core.specs.Places.{places}
 use Rattle.host_core.specs.Stacks.{active_frame, answer_of}
 use Rattle.host_core.specs.Steps.{step_of, IsBusy}
 use Rattle.host_core.specs.Turns.{turn_asks}
@@ -47,6 +47,7 @@ abbrev pub AnswersTo : Answer → Waiting → Objects → Type 0
 AnswersTo (Freed a) (Awaiting q x) o = Unit {0}
 AnswersTo (Freed a) (Turn (Clearing x)) o = Unit {0}
 AnswersTo (Freed a) (WorkOf (Releasing child)) o = Unit {0}
+AnswersTo (Freed a) (WorkOf (Dropping queue entry)) o = IsPreparing (slice_get o.works 0)
 AnswersTo (Returned v) Freeing o = IsAsked (slice_get o.works 0) × IsAwaiting (frees_in o)
 AnswersTo (Returned v) (Turn (Handling what x handler occasion)) o = o.ready ≡ true
 AnswersTo (Returned v) (WorkOf (Called what x handler errand)) o = o.ready ≡ true
@@ -54,7 +55,7 @@ AnswersTo (Turned v) (Turning q) o = Unit {0}
 AnswersTo (Heard r) (Turning q) o = Unit {0}
 AnswersTo (Heard r) (Requesting q) o = Unit {0}
 AnswersTo (Heard r) (Turn (Serving x)) o = Unit {0}
-AnswersTo (Heard r) Freeing o = IsReceiving (slice_get o.works 0) × IsAwaiting (frees_in o)
+AnswersTo (Heard r) Freeing o = IsPreparing (slice_get o.works 0) × IsAwaiting (frees_in o)
 AnswersTo a w o = ⊥
 
 -- the open frees go on with what the innermost of them has waited for
@@ -62,10 +63,10 @@ abbrev pub resumed_works : Answer → List FreeFrame → List FreeFrame
 resumed_works a [] = []
 resumed_works a (f ∷ fs) = freeing_resume f (answer_of a) ∷ fs
 
--- the places that what waits for it may take
+-- the places that what waits for it may take; an object whose destructor or handler has returned may be quiet again
 abbrev pub answer_places : Answer → ℕ
 answer_places (Freed a) = 2
-answer_places (Returned v) = 2
+answer_places (Returned v) = 4
 answer_places (Turned v) = 0
 answer_places (Heard r) = 1
 
@@ -120,10 +121,6 @@ IsOver w = ⊥
 abbrev pub IsWorkStep : Work → Step → Type 0
 IsWorkStep w (Ends (Heard r)) = IsOver w
 IsWorkStep w step = IsOngoing step
-
--- there are places for what is at work or comes to be, besides those of requests that are still to be received
-abbrev pub HasPlacesFor : ℕ → Parts → Type 0
-HasPlacesFor n parts = length parts.waiting.items + n + 2 * count_unreceived parts.objects.pool.requests ≤ vec_capacity parts.waiting
 
 -- a turn goes on with this
 abbrev pub goes_as : TurnFrame → Step

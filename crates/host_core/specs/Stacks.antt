@@ -1,6 +1,6 @@
 -- What is at work in a host and what waits below it, as frames: each work stands on the next one, and the open frees stand where it is
 -- marked that they wait.
-use Rattle.std.specs.Prelude.{◌≡◌, ◌+◌, List, [], ◌∷◌, ◌++◌, map, if◌then◌else◌}
+use Rattle.std.specs.Prelude.{◌≡◌, List, [], ◌∷◌, ◌++◌, map, if◌then◌else◌}
 use Rattle.tree_specs.specs.declared.frame.Answer.{Answer as Answered}
 use Rattle.tree_specs.specs.declared.frame.Answer.TheVariants as answered
 use Rattle.tree_specs.specs.declared.frame.Frame.{Frame}
@@ -44,6 +44,9 @@ work_frame (work.Notifying x errand) = request.Notifying x errand
 work_frame (work.Calling what x handler errand) = request.Calling what x handler errand
 work_frame (work.Called what x handler errand) = request.Called what x handler errand
 work_frame (work.Releasing child) = request.Releasing child
+work_frame (work.Vacating queue) = request.Vacating queue
+work_frame (work.Dropping queue entry) = request.Dropping queue entry
+work_frame (work.Triggering queue) = request.Triggering queue
 work_frame (work.Over reply) = request.Over (reply_of reply)
 
 -- a free that is over, where it is the open frees that go on or wait; they are kept elsewhere

@@ -3,21 +3,21 @@ use Rattle.std.specs.Prelude.{◌≡◌, Bool, true, false, Option, Some, None}
 use Rattle.step_machine.specs.Machine.{Move as Do}
 use Rattle.tree_specs.specs.declared.event.Event.{Event}
 use Rattle.tree_specs.specs.declared.event.Event.TheVariants.{Fired}
-use Rattle.tree_specs.specs.declared.frame.Errand.TheVariants.{Finish, Notify}
+use Rattle.tree_specs.specs.declared.frame.Errand.TheVariants.{Finish}
 use Rattle.tree_specs.specs.declared.frame.Frame.TheVariants as frame
 use Rattle.tree_specs.specs.declared.frame.TurnFrame.{TurnFrame}
 use Rattle.tree_specs.specs.declared.frame.TurnFrame.TheVariants.{Taking, Timing, Timed, Polling, Starting, Firing, Handling, Handled, Closing}
-use Rattle.tree_specs.specs.declared.moment.What.TheVariants.{Immediate as ForImmediate, Timer as ForTimer, Descriptor as ForDescriptor}
+use Rattle.tree_specs.specs.declared.moment.What.TheVariants.{Timer as ForTimer, Descriptor as ForDescriptor}
 use Rattle.tree_specs.specs.declared.question.Ask.{Ask}
 use Rattle.tree_specs.specs.declared.question.Ask.TheVariants.{Clock, Wait}
 use Rattle.tree_specs.specs.declared.question.Input.{Input}
 use Rattle.tree_specs.specs.declared.question.Input.TheVariants as input
 use Rattle.tree_specs.specs.declared.request.State.TheVariants.{TimedOut}
 use Rattle.tree_specs.specs.Tree.Pool.{Pool}
-use Rattle.tree_specs.specs.Events.Coming.{at_time, with_flags, plainly, looks_again}
+use Rattle.tree_specs.specs.Events.Coming.{at_time, with_flags, looks_again}
 use Rattle.tree_specs.specs.Events.Requests.{is_noted}
 use Rattle.tree_specs.specs.Events.Rotation.{Ready, first_ready}
-use Rattle.tree_specs.specs.Machine.Table.{Step, come_step}
+use Rattle.tree_specs.specs.Machine.Table.{Step, come_step, soon_step}
 use Rattle.tree_specs.specs.Promises.Grounded.{is_asked}
 use Rattle.destructors.specs.Moves.{IsLiveRow}
 use Rattle.loop_core.specs.declared.pick.Pick.{Pick}
@@ -47,7 +47,7 @@ turn_speaks f = false
 
 -- what is done after this was picked, where readiness was asked before, or wasn't
 abbrev pub picked_step : Bool → Pick → Pool → Step
-picked_step waited (pick.Soon x) p = come_step (is_noted p.requests x) Notify ForImmediate x plainly p
+picked_step waited (pick.Soon x) p = soon_step (is_noted p.requests x) x p
 picked_step waited (pick.Time x now) p = come_step (is_noted p.requests x) (Finish TimedOut) ForTimer x (at_time now) p
 picked_step waited (pick.Descriptor x flags) p = Do.Go (frame.Turn (Starting ForDescriptor x (with_flags flags))) p
 picked_step waited pick.AskClock p = Do.Go (frame.Turn (Timing waited)) p

@@ -25,7 +25,7 @@ pub enum Active {
     Turning(Turn),
     /// A question to the outside.
     Reaching(Ask),
-    /// The work of a request.
+    /// The work of a request, or of a queue.
     Requesting(Work),
 }
 
@@ -39,13 +39,14 @@ fn turn_speaks(frame: TurnFrame) -> bool
     )
 }
 
-/// Whether the work of a request tells something next.
+/// Whether the work of a request or of a queue tells something next.
 fn work_speaks(work: Work, objects: &ObjectPool) -> bool
     ensures { result ≡ work_speaks work objects.now.pool }
 {
     match work {
         Work::Finishing { .. } | Work::Calling { .. } => true,
         Work::Receiving { x } => objects.is_unreceived(x),
+        Work::Triggering { queue } => objects.queue_waits(queue),
         _ => false,
     }
 }

@@ -8,7 +8,7 @@ ghost use Rattle.tree_specs.specs.declared.question.Ask.{Ask as AskData};
 ghost use Rattle.host_core.specs.declared.motion.Motion.TheVariants.{Replies, Works};
 ghost use Rattle.tree_specs.specs.declared.frame.Errand.TheVariants.{Finish as FinishOf};
 ghost use Rattle.tree_specs.specs.Tree.Pool.{Pool as PoolData};
-ghost use Rattle.host_core.specs.Requests.{IsRelease, IsReleaseBy};
+ghost use Rattle.host_core.specs.Requests.{IsRelease, IsReleaseBy, QueuesAreKept};
 ghost use Rattle.host_core.specs.declared.short_reply.ShortReply.TheVariants.{Number as NumberReply};
 ghost use Rattle.tree_specs.specs.Rules.Answers.{freed_reply};
 ghost use Rattle.tree_specs.specs.Machine.Table.{call_step, plan_step};
@@ -151,6 +151,7 @@ fn effect(call: Call, pool: &mut ObjectPool) -> Motion
     requires allowed { AllPassed pool.old.pool (tests call) }
     requires no_report { report_of call ≡ None }
     requires reference { RefsMayGo pool.old.pool.rows }
+    requires queues { QueuesAreKept pool.old.pool }
     ensures goes { ReadyFor result pool.new.ready }
     ensures works { pool.new.works ≡ pool.old.works }
     ensures moved { (q : AskData) → move_of q result pool.new.pool ≡ plan_step q (plan pool.old.pool call) pool.old.pool }
@@ -199,6 +200,18 @@ fn effect(call: Call, pool: &mut ObjectPool) -> Motion
         Call::Turn => return Motion::Turns,
         Call::Pending => return number(pool.pending()),
         Call::Req { owner, size, name } => return number(pool.add_request(owner, size, name).0),
+        Call::Queue { owner, name } => return number(pool.add_queue(owner, name).0),
+        Call::Enqueue {
+            queue,
+            x,
+            routine,
+            user,
+        } => return number(pool.add_entry(queue, x, Handler { routine, user }).0),
+        Call::Length { queue } => return number(pool.queue_length(queue)),
+        Call::Running { queue } => {
+            let runs = pool.queue_running(queue).unwrap_or(false);
+            return number(u64::from(runs));
+        }
         Call::Cancel { x } => return Motion::Works(Errand::Cancel, x),
         Call::Done { x } => return finish(x, State::Done),
         Call::Oom { x } => return finish(x, State::NoMemory),
@@ -211,6 +224,8 @@ fn effect(call: Call, pool: &mut ObjectPool) -> Motion
         Call::Cleanup { x, routine } => pool.set_cleanup(x, routine),
         Call::Setcancel { x, routine } => pool.set_cancel(x, routine),
         Call::Post { x } => pool.post(x),
+        Call::Start { queue } => pool.start_queue(queue),
+        Call::Stop { queue } => pool.stop_queue(queue),
         Call::Endtime { x, time } => pool.set_end_time(x, time),
         Call::Schedule { x, routine: 0, .. } | Call::Unschedule { x } => pool.unschedule(x),
         Call::Schedule { x, routine, user } => pool.schedule(x, Handler { routine, user }),
@@ -232,6 +247,7 @@ pub fn act(call: Call, pool: &mut ObjectPool) -> Motion
     requires ready { pool.old.ready ≡ true }
     requires no_report { report_of call ≡ None }
     requires reference { RefsMayGo pool.old.pool.rows }
+    requires queues { QueuesAreKept pool.old.pool }
     ensures goes { ReadyFor result pool.new.ready }
     ensures works { pool.new.works ≡ pool.old.works }
     ensures moved { (q : AskData) → move_of q result pool.new.pool ≡ call_step (refusals pool.old.pool call) q call pool.old.pool }

@@ -3,6 +3,7 @@ ghost use Rattle.std.specs.Prelude.{◌≡◌, ◌<◌, [], ◌∷◌, IsOk};
 ghost use Rattle.std.specs.Option.{option_copied};
 ghost use Rattle.tree_specs.specs.Calls.Refusals.{checked, small, owner, object_row, plain, immediate, descriptor, open_one, unused, room, staying, lasting, still, apart, held, interested, given_by, unreferenced, growing, size_limit, refusal_of, refused};
 
+use crate::queue_checks::{check_movable, check_queue, check_remaining};
 use crate::request_checks::{
     check_failing, check_finished, check_in_progress, check_number, check_referable, check_request,
 };
@@ -10,9 +11,9 @@ use crate::subject::Subject;
 use object_pool::ObjectPool;
 use tree_specs::Test::{
     Fits, HasNumber, HasRoom, IsDescriptor, IsFinished, IsImmediate, IsInProgress, IsInterested,
-    IsNotDoomed, IsNotDying, IsNotInside, IsNotRunning, IsObject, IsOpen, IsOwner, IsPlain,
-    IsReferable, IsRequest, IsSmall, IsUnheld, IsUnreferenced, IsUnwatched, MayFail, MayGive,
-    MayGrow,
+    IsMovable, IsNotDoomed, IsNotDying, IsNotGoing, IsNotInside, IsNotRunning, IsObject, IsOpen,
+    IsOwner, IsPlain, IsQueue, IsReferable, IsRequest, IsSmall, IsUnheld, IsUnreferenced,
+    IsUnwatched, MayFail, MayGive, MayGrow,
 };
 use tree_specs::{Kind, Mark, Obj, Owner, ROW_LIMIT, Refusal, Row, SIZE_LIMIT, Test};
 
@@ -259,6 +260,8 @@ fn check_test(test: Test, objects: &Subject) -> Result<(), Refusal>
         IsImmediate(x) => check_immediate(x, objects),
         IsDescriptor(x) => check_descriptor(x, objects),
         IsRequest(x) => check_request(x, objects),
+        IsQueue(x) => check_queue(x, objects),
+        IsMovable(x) => check_movable(x, objects),
         IsReferable(x) => check_referable(x, objects),
         HasNumber => check_number(objects.pool()),
         IsInProgress(x) => check_in_progress(x, objects.pool()),
@@ -270,6 +273,7 @@ fn check_test(test: Test, objects: &Subject) -> Result<(), Refusal>
         Fits(owner, wanted) => objects.pool().fits(owner, wanted),
         MayGrow(x, size) => check_growing(x, size, objects),
         IsNotDying(x) => check_not_dying(x, objects),
+        IsNotGoing(x) => check_remaining(x, objects),
         IsNotDoomed(x) => check_not_doomed(x, objects),
         IsNotRunning(x) => check_not_running(x, objects),
         IsNotInside(x, owner) => check_not_inside(x, owner, objects.pool()),

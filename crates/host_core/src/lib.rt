@@ -11,6 +11,7 @@ mod host;
 mod motion;
 mod owned_reply;
 mod parts;
+mod queue_checks;
 mod reach;
 mod refusals;
 mod replies;

@@ -2,6 +2,7 @@
 ghost use Rattle.std.specs.Prelude.{◌≡◌, ◌+◌, [], ◌∷◌};
 ghost use Rattle.tree_specs.specs.declared.call.Call.TheVariants.{Reparent as ReparentOf, Reference as ReferenceOf, Resize as ResizeOf};
 ghost use Rattle.tree_specs.specs.Calls.Refusals.{checked, refused, refusals};
+ghost use Rattle.tree_specs.specs.declared.object.Owner.TheVariants.{Of as At};
 ghost use Rattle.tree_specs.specs.Tree.Sums.{overhead};
 
 use crate::checks::{check_open, check_owner, check_row, check_size, check_three, check_two};
@@ -9,9 +10,9 @@ use crate::subject::Subject;
 use object_pool::ObjectPool;
 use tree_specs::Test::{
     Fits, HasNumber, HasRoom, IsDescriptor, IsFinished, IsImmediate, IsInProgress, IsInterested,
-    IsNotDoomed, IsNotDying, IsNotInside, IsNotRunning, IsObject, IsOpen, IsOwner, IsPlain,
-    IsReferable, IsRequest, IsSmall, IsUnheld, IsUnreferenced, IsUnwatched, MayFail, MayGive,
-    MayGrow,
+    IsMovable, IsNotDoomed, IsNotDying, IsNotGoing, IsNotInside, IsNotRunning, IsObject, IsOpen,
+    IsOwner, IsPlain, IsQueue, IsReferable, IsRequest, IsSmall, IsUnheld, IsUnreferenced,
+    IsUnwatched, MayFail, MayGive, MayGrow,
 };
 use tree_specs::{Call, OVERHEAD, Obj, Owner, Refusal, Test};
 
@@ -64,12 +65,12 @@ fn check_object(x: Obj, second: Test, third: Test, pool: &ObjectPool) -> Result<
 }
 
 /// An object is put below an owner.
-#[tactic(auto, using(crate::proofs::Allowed::refused_two, crate::proofs::Allowed::allowed_two))]
+#[tactic(auto, using(crate::proofs::Allowed::refused_three, crate::proofs::Allowed::allowed_three))]
 fn check_placing(owner: Owner, x: Obj, pool: &ObjectPool) -> Result<(), Refusal>
-    ensures { result ≡ checked (refused pool.now.pool (Test.IsObject x ∷ Test.IsOwner owner ∷ Test.IsNotDying x ∷ Test.IsNotInside x owner ∷ [])) }
+    ensures { result ≡ checked (refused pool.now.pool (Test.IsObject x ∷ Test.IsMovable x ∷ Test.IsOwner owner ∷ Test.IsNotDying x ∷ Test.IsNotInside x owner ∷ [])) }
 {
     let objects = Subject::object(x, pool);
-    check_two(IsObject(x), IsOwner(owner), &objects)?;
+    check_three(IsObject(x), IsMovable(x), IsOwner(owner), &objects)?;
     check_two(IsNotDying(x), IsNotInside(x, owner), &objects)
 }
 
@@ -79,8 +80,8 @@ fn check_reparent(from: Owner, to: Owner, x: Obj, pool: &ObjectPool) -> Result<(
     ensures { result ≡ checked (refusals pool.now.pool (ReparentOf from to x)) }
 {
     let objects = Subject::object(x, pool);
-    check_three(IsObject(x), IsOwner(from), IsOwner(to), &objects)?;
-    check_two(IsNotDying(x), MayGive(from, to, x), &objects)
+    check_three(IsObject(x), IsMovable(x), IsOwner(from), &objects)?;
+    check_three(IsOwner(to), IsNotDying(x), MayGive(from, to, x), &objects)
 }
 
 /// A new reference to an object.
@@ -113,6 +114,17 @@ fn check_watching(owner: Owner, fd: u32, pool: &ObjectPool) -> Result<(), Refusa
     check_two(HasRoom(1), Fits(owner, OVERHEAD), &objects)
 }
 
+/// A request comes into a queue. The tests of the queue come first.
+#[tactic(auto, using(crate::proofs::Allowed::refused_three, crate::proofs::Allowed::allowed_three))]
+fn check_enqueue(queue: Obj, x: Obj, pool: &ObjectPool) -> Result<(), Refusal>
+    ensures { result ≡ checked (refused pool.now.pool (Test.IsObject queue ∷ Test.IsQueue queue ∷ Test.IsNotGoing queue ∷ Test.IsObject x ∷ Test.IsRequest x ∷ Test.IsNotDying x ∷ Test.HasRoom 1 ∷ Test.Fits (At x) overhead ∷ [])) }
+{
+    check_object(queue, IsQueue(queue), IsNotGoing(queue), pool)?;
+    let objects = Subject::object(x, pool);
+    check_three(IsObject(x), IsRequest(x), IsNotDying(x), &objects)?;
+    check_two(HasRoom(1), Fits(Owner::Of(x), OVERHEAD), &objects)
+}
+
 /// Whether a call is allowed, and else its first refusal.
 pub fn check(call: &Call, pool: &ObjectPool) -> Result<(), Refusal>
     ensures { result ≡ checked (refusals pool.now.pool call.now) }
@@ -128,7 +140,7 @@ pub fn check(call: &Call, pool: &ObjectPool) -> Result<(), Refusal>
             check_object(x, IsPlain(x), IsNotDying(x), pool)
         }
         Call::Resize { x, size } => check_resize(x, size, pool),
-        Call::Immediate { owner } | Call::Timer { owner, .. } => {
+        Call::Immediate { owner } | Call::Timer { owner, .. } | Call::Queue { owner, .. } => {
             check_three(
                 IsOwner(owner),
                 HasRoom(1),
@@ -158,6 +170,17 @@ pub fn check(call: &Call, pool: &ObjectPool) -> Result<(), Refusal>
         Call::Endtime { x, .. } => check_endtime(x, pool),
         Call::Cancel { x } | Call::Iserror { x } | Call::Progress { x } | Call::Received { x } => {
             check_two(IsObject(x), IsRequest(x), &Subject::object(x, pool))
+        }
+        Call::Enqueue { queue, x, .. } => check_enqueue(queue, x, pool),
+        Call::Start { queue } | Call::Stop { queue } => {
+            check_object(queue, IsQueue(queue), IsNotGoing(queue), pool)
+        }
+        Call::Length { queue } | Call::Running { queue } => {
+            check_two(
+                IsObject(queue),
+                IsQueue(queue),
+                &Subject::object(queue, pool),
+            )
         }
         Call::Pending | Call::Now | Call::Turn => Ok(()),
         Call::Parent { x } => check_two(IsObject(x), IsNotDying(x), &Subject::object(x, pool)),

@@ -1,10 +1,11 @@
 //! The steps of a turn of the event loop: one thing comes, its handler runs, and it is quiet again or goes.
 ghost use Rattle.std.specs.Prelude.{◌≡◌, true, false};
-ghost use Rattle.tree_specs.specs.Machine.Table.{turn_step, come_step};
+ghost use Rattle.tree_specs.specs.Machine.Table.{turn_step, come_step, soon_step};
 ghost use Rattle.host_core.specs.Turns.{MayTurn, picked_step, looked_frame};
 ghost use Rattle.host_core.specs.Steps.{step_of};
 ghost use Rattle.host_core.specs.Going.{goes_as, GoesWell, IsTurnStep, IsPlainErrand};
-ghost use Rattle.host_core.specs.Hosts.{turn_places, FrameReady};
+ghost use Rattle.host_core.specs.Hosts.{FrameReady};
+ghost use Rattle.host_core.specs.Places.{turn_takes};
 ghost use Rattle.tree_specs.specs.declared.frame.TurnFrame.TheVariants.{Starting, Handled};
 ghost use Rattle.tree_specs.specs.Events.Coming.{at_time};
 ghost use Rattle.tree_specs.specs.Events.Requests.{is_noted};
@@ -52,6 +53,21 @@ fn comes(what: What, x: Obj, now: u64, errand: Errand, objects: &ObjectPool) -> 
     Step::Calls(work, Waiting::Turn(TurnFrame::Serving { x }))
 }
 
+/// What has come soon is a queue, which triggers its first entry while the turn waits; or it is a request or an event. No
+/// queue is a request.
+fn comes_soon(x: Obj, objects: &ObjectPool) -> Step
+    requires ready { objects.now.ready ≡ true }
+    ensures step { step_of result objects.now.pool ≡ soon_step (is_noted objects.now.pool.requests x) x objects.now.pool }
+    ensures goes { GoesWell 2 result objects.now }
+    ensures ends { IsTurnStep result }
+{
+    if objects.note(x).is_some() || objects.queue_running(x).is_none() {
+        return comes(What::Immediate, x, 0, Errand::Notify, objects);
+    }
+    let work = Active::Requesting(Work::Triggering { queue: x });
+    Step::Calls(work, Waiting::Turn(TurnFrame::Serving { x }))
+}
+
 /// What is done after this was picked, where readiness was asked before, or wasn't.
 fn picked(pick: Pick, waited: bool, objects: &ObjectPool) -> Step
     requires ready { objects.now.ready ≡ true }
@@ -60,7 +76,7 @@ fn picked(pick: Pick, waited: bool, objects: &ObjectPool) -> Step
     ensures ends { IsTurnStep result }
 {
     match pick {
-        Pick::Soon(x) => comes(What::Immediate, x, 0, Errand::Notify, objects),
+        Pick::Soon(x) => comes_soon(x, objects),
         Pick::Time(x, now) => {
             comes(
                 What::Timer,
@@ -114,12 +130,12 @@ fn handled(what: What, x: Obj, objects: &mut ObjectPool) -> Step
 }
 
 /// The next step of a turn that tells and asks nothing with it.
-#[tactic(auto, using(crate::proofs::Turning::timed_picked))]
+#[tactic(auto, using(crate::proofs::Turning::taking_picked, crate::proofs::Turning::timed_picked))]
 pub fn turn_step(frame: TurnFrame, objects: &mut ObjectPool) -> Step
     requires may { MayTurn frame objects.old.pool }
     requires ready { FrameReady frame objects.old }
     ensures step { step_of result objects.new.pool ≡ turn_step frame objects.old.pool }
-    ensures goes { GoesWell (turn_places frame) result objects.new }
+    ensures goes { GoesWell (turn_takes frame) result objects.new }
     ensures ends { IsTurnStep result }
     ensures rest { objects.new ≡ record objects.old { pool = objects.new.pool } }
     ensures requests { objects.new.pool.requests ≡ objects.old.pool.requests }

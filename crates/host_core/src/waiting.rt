@@ -8,7 +8,8 @@ use tree_specs::{Ask, Obj, TurnFrame};
 /// A work that waits for the one above it.
 #[derive(Debug, Drop)]
 pub enum Waiting {
-    /// The open frees: the innermost of them waits for the run of a destructor, or until its request was received.
+    /// The open frees: the innermost of them waits for the run of a destructor, until its request was received, or until its
+    /// queue has no entries.
     Freeing,
     /// A caller whose call waits for the freeing of an object, or of its children.
     Awaiting { ask: Ask, x: Obj },
@@ -16,9 +17,9 @@ pub enum Waiting {
     Turning { ask: Ask },
     /// A caller whose call waits for the work of a request.
     Requesting { ask: Ask },
-    /// A turn, which waits for the run of a handler, for a free or for the work of a request.
+    /// A turn, which waits for the run of a handler, for a free or for the work of a request or of a queue.
     Turn(TurnFrame),
-    /// The work of a request, which waits for the run of a routine or for a free.
+    /// The work of a request or of a queue, which waits for the run of a routine or for a free.
     Work(Work),
 }
 

@@ -1,4 +1,4 @@
-//! The work of a request, by what is still to do of it.
+//! The work of a request, or of a queue, by what is still to do of it.
 ghost use Rattle.std.specs.Prelude.{◌≡◌};
 ghost use Rattle.tree_specs.specs.Machine.Table.{work_of, request_resume};
 ghost use Rattle.tree_specs.specs.Rules.Errands.{reply_to, cancelled_reply};
@@ -10,7 +10,7 @@ use crate::answer::Answer;
 use crate::short_reply::ShortReply;
 use tree_specs::{Errand, Handler, Obj, State, What};
 
-/// What is still to do of one request's work.
+/// What is still to do of the work of one request, or of one queue.
 #[derive(Clone, Copy, Debug)]
 pub enum Work {
     /// `x` is to go to this state, which is told.
@@ -58,6 +58,19 @@ pub enum Work {
     /// It waits for the freeing of the object that a request was made with.
     Releasing {
         child: Obj,
+    },
+    /// The queue runs no more, and its entries are to be freed, the first one first.
+    Vacating {
+        queue: Obj,
+    },
+    /// It waits for the freeing of an entry of the queue.
+    Dropping {
+        queue: Obj,
+        entry: Obj,
+    },
+    /// The trigger of the queue's first entry is to run, where this waits for it.
+    Triggering {
+        queue: Obj,
     },
     /// It is over with this reply.
     Over {
@@ -119,6 +132,7 @@ impl Work {
             Work::Releasing { .. } => Work::Over {
                 reply: ShortReply::Ok,
             },
+            Work::Dropping { queue, .. } => Work::Vacating { queue },
             _ => self,
         }
     }

@@ -1,11 +1,13 @@
-//! The steps of a request's work: its state is told, its cleanup runs, and whoever waits for it is notified.
+//! The steps of a request's work: its state is told, its cleanup runs, and whoever waits for it is notified; and those of a
+//! queue's: its first entry is triggered, or its entries are freed before it.
 ghost use Rattle.std.specs.Prelude.{◌≡◌, ◌≤◌, true, Some};
 ghost use Rattle.tree_specs.specs.declared.event.Event.TheVariants.{State as StateOf};
 ghost use Rattle.tree_specs.specs.Events.Requests.{state_number};
 ghost use Rattle.tree_specs.specs.Tree.Pool.{Pool as PoolData};
 ghost use Rattle.tree_specs.specs.declared.call.Call.TheVariants.{Free as FreeOf};
 ghost use Rattle.tree_specs.specs.declared.frame.Errand.TheVariants.{Receive};
-ghost use Rattle.tree_specs.specs.declared.frame.RequestFrame.TheVariants.{Cancelling, Cleaning, Cleaned, Notifying};
+ghost use Rattle.tree_specs.specs.declared.frame.RequestFrame.TheVariants.{Cancelling, Cleaning, Cleaned, Notifying, Vacating};
+ghost use Rattle.host_core.specs.declared.work.Work.TheVariants.{Triggering as TriggeringWork};
 ghost use Rattle.tree_specs.specs.Calls.Plans.{Plan as PlanData, planned};
 ghost use Rattle.tree_specs.specs.declared.frame.Errand.{Errand as ErrandData};
 ghost use Rattle.tree_specs.specs.Machine.Table.{request_step, release_object, over_step};
@@ -14,7 +16,7 @@ ghost use Rattle.object_pool.specs.Requests.{count_unreceived};
 ghost use Rattle.requests.specs.Register.{AreInOrder};
 ghost use Rattle.host_core.specs.Stacks.{work_frame};
 ghost use Rattle.host_core.specs.Steps.{step_of};
-ghost use Rattle.host_core.specs.Hosts.{errand_places, work_places};
+ghost use Rattle.host_core.specs.Places.{errand_places, work_places};
 ghost use Rattle.host_core.specs.Going.{works_as, GoesWell, IsOngoing, IsWorkStep};
 ghost use Rattle.host_core.specs.Requests.{MayWork, ErrandReady, WorkReady, IsFreeing, IsReleaseBy, work_tells, work_told, pool_told};
 
@@ -23,6 +25,7 @@ use crate::answer::Answer;
 use crate::caller::Caller;
 use crate::calls::release;
 use crate::motion::Motion;
+use crate::short_reply::ShortReply;
 use crate::step::Step;
 use crate::waiting::Waiting;
 use crate::work::{Work, cancelled, reply_to};
@@ -154,7 +157,25 @@ fn notify(x: Obj, errand: Errand, objects: &mut ObjectPool) -> Step
     }
 }
 
-/// The next step of a request's work that tells nothing with it.
+/// The first entry of a queue that is to be freed is freed before it. Once there is none this is over.
+fn vacate(queue: Obj, objects: &mut ObjectPool) -> Step
+    requires ready { MayBeginFree objects.old }
+    ensures step { step_of result objects.new.pool ≡ request_step (Vacating queue) objects.old.pool }
+    ensures goes { GoesWell 3 result objects.new }
+    ensures ongoing { IsOngoing result }
+    ensures rest { objects.new ≡ record objects.old { pool = objects.new.pool } }
+    ensures requests { objects.new.pool.requests ≡ objects.old.pool.requests }
+{
+    objects.stop_queue(queue);
+    match objects.first_entry(queue) {
+        Some(entry) => Step::Frees(entry, Waiting::Work(Work::Dropping { queue, entry })),
+        None => goes(Work::Over {
+            reply: ShortReply::Ok,
+        }),
+    }
+}
+
+/// The next step of a request's or a queue's work that tells nothing with it.
 pub fn work_step(work: Work, objects: &mut ObjectPool) -> Step
     requires may { MayWork work objects.old }
     requires ready { WorkReady work objects.old }
@@ -182,6 +203,8 @@ pub fn work_step(work: Work, objects: &mut ObjectPool) -> Step
             let routine = Active::Caller(Caller::routine(what, x, handler, plainly));
             Step::Calls(routine, Waiting::Work(work))
         }
+        Work::Vacating { queue } => vacate(queue, objects),
+        Work::Triggering { .. } => over(Errand::Notify),
         Work::Over { reply } => Step::Ends(Answer::Heard(reply)),
         _ => unreachable!(),
     }
@@ -197,7 +220,30 @@ fn tell_state(x: Obj, state: State) -> Event
     }
 }
 
-/// Tells what comes next of a request's work, which goes on after it. None where it tells nothing, and then nothing changes.
+/// The trigger of a queue's first entry runs for its request, which is told. None where no entry waits for it, and then nothing
+/// changes.
+fn tell_trigger(queue: Obj, work: &mut Work, objects: &mut ObjectPool) -> Option<Event>
+    requires { work.old ≡ TriggeringWork queue }
+    ensures event { result ≡ work_tells work.old objects.old.pool }
+    ensures work { work.new ≡ work_told work.old objects.old.pool }
+    ensures pool { objects.new ≡ record objects.old { pool = pool_told work.old objects.old.pool } }
+{
+    let turn = objects.trigger(queue)?;
+    let what = What::Trigger;
+    *work = Work::Called {
+        what,
+        x: turn.request,
+        handler: turn.trigger,
+        errand: Errand::Notify,
+    };
+    Some(Event::Fired {
+        what,
+        object: turn.request,
+        routine: turn.trigger.routine,
+    })
+}
+
+/// Tells what comes next of a request's or a queue's work, which goes on after it. None where it tells nothing, and then nothing changes.
 pub fn tell_work(work: &mut Work, objects: &mut ObjectPool) -> Option<Event>
     ensures event { result ≡ work_tells work.old objects.old.pool }
     ensures work { work.new ≡ work_told work.old objects.old.pool }
@@ -237,6 +283,7 @@ pub fn tell_work(work: &mut Work, objects: &mut ObjectPool) -> Option<Event>
                 routine: handler.routine,
             })
         }
+        Work::Triggering { queue } => tell_trigger(queue, work, objects),
         _ => None,
     }
 }

@@ -6,7 +6,8 @@ ghost use Rattle.tree_specs.specs.Texts.Schedule.{misfit};
 ghost use Rattle.host_core.specs.Moves.{move_of, ReadyFor, call_of, report_of, reported};
 ghost use Rattle.host_core.specs.Stacks.{Fits};
 ghost use Rattle.host_core.specs.Steps.{step_of, IsBusy};
-ghost use Rattle.host_core.specs.Going.{stepped_view, ended_view, answer_places, step_places, Answers, StepReady, StepAnswers, AnswersTo, resumed_works, HasPlacesFor};
+ghost use Rattle.host_core.specs.Going.{stepped_view, ended_view, answer_places, step_places, Answers, StepReady, StepAnswers, AnswersTo, resumed_works};
+ghost use Rattle.host_core.specs.Places.{HasPlacesFor};
 ghost use Rattle.destructors.specs.Frees.{speaking, Begins};
 ghost use Rattle.destructors.specs.Works.{IsAtWork};
 ghost use Rattle.object_pool.specs.Objects.{Objects as ObjectsData, frees_in};
@@ -33,7 +34,7 @@ use std::mem;
 use tree_specs::{Act, Ask, Call, Event, FreeReply, FreeStep, Input, Refusal, TurnFrame};
 
 /// The open frees have waited for this: the innermost goes on, and is at work.
-#[tactic(auto, using(crate::proofs::Resuming::returned_begins, crate::proofs::Resuming::received_begins))]
+#[tactic(auto, using(crate::proofs::Resuming::returned_begins, crate::proofs::Resuming::prepared_begins))]
 fn free_again(answer: Answer, objects: &mut ObjectPool)
     requires { AnswersTo answer Waiting.Freeing objects.old }
     ensures at_work { IsAtWork (frees_in objects.new) }
@@ -43,7 +44,7 @@ fn free_again(answer: Answer, objects: &mut ObjectPool)
 {
     match answer {
         Answer::Returned(value) => objects.answer(value),
-        Answer::Heard(_) => objects.received(),
+        Answer::Heard(_) => objects.prepared(),
         Answer::Freed(_) | Answer::Turned(_) => unreachable!(),
     }
 }
@@ -226,16 +227,6 @@ fn answered(now: Active, input: Input, parts: &mut Parts) -> Active
     }
 }
 
-/// Who was asked goes on with the answer, which takes no memory of its own.
-pub fn answer_on(now: &mut Active, input: Input, parts: &mut Parts)
-    requires { MayTake now.old input parts.old }
-    ensures along { TellsSameStory (given_view now.old input parts.old) (host_view now.new parts.new) }
-    ensures ready { IsBetweenSteps now.new parts.new }
-{
-    let present = mem::replace(now, Active::Freeing);
-    *now = answered(present, input, parts);
-}
-
 /// What comes next of the open frees where this tells no event.
 fn free_step(parts: &mut Parts) -> Active
     requires ready { IsBetweenSteps Active.Freeing parts.old }
@@ -252,6 +243,10 @@ fn free_step(parts: &mut Parts) -> Active
         FreeStep::Prepare(x) => {
             parts.waiting.push_reserved(Waiting::Freeing);
             Active::Requesting(Work::Receiving { x })
+        }
+        FreeStep::Drain(queue) => {
+            parts.waiting.push_reserved(Waiting::Freeing);
+            Active::Requesting(Work::Vacating { queue })
         }
         FreeStep::Done(answer) => end(Answer::Freed(answer), parts),
         _ => Active::Freeing,
@@ -290,4 +285,16 @@ pub fn settle(now: &mut Active, parts: &mut Parts)
         let present = mem::replace(now, Active::Freeing);
         *now = quiet_step(present, parts);
     }
+}
+
+/// Who was asked goes on with the answer, which takes no memory of its own, up to the next event or question.
+pub fn answer_on(now: &mut Active, input: Input, parts: &mut Parts)
+    requires { MayTake now.old input parts.old }
+    ensures along { TellsSameStory (given_view now.old input parts.old) (host_view now.new parts.new) }
+    ensures ready { IsBetweenSteps now.new parts.new }
+    ensures settled { speaking_view (host_view now.new parts.new) ≡ true }
+{
+    let present = mem::replace(now, Active::Freeing);
+    *now = answered(present, input, parts);
+    settle(now, parts);
 }

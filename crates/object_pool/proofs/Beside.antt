@@ -8,21 +8,21 @@ use Rattle.tree_specs.specs.declared.row.Row.{Row}
 use Rattle.tree_specs.specs.declared.row.Mark.{Mark}
 use Rattle.tree_specs.specs.declared.row.Mark.TheVariants as mark
 use Rattle.tree_specs.specs.declared.frame.FreeFrame.{FreeFrame}
-use Rattle.tree_specs.specs.declared.frame.FreeFrame.TheVariants.{Unlinking, Releasing, Giving, Beginning, Hooked, Judged, Preparing, Prepared, Dooming, Leaving, Looping, FreeingChild, AfterChild, Ending}
+use Rattle.tree_specs.specs.declared.frame.FreeFrame.TheVariants.{Unlinking, Releasing, Giving, Beginning, Hooked, Judged, Preparing, Draining, Prepared, Dooming, Leaving, Looping, FreeingChild, AfterChild, Ending}
 use Rattle.tree_specs.specs.declared.frame.Purpose.{Purpose}
 use Rattle.tree_specs.specs.declared.frame.Purpose.TheVariants.{Removal, Emptying}
 use Rattle.tree_specs.specs.declared.free_step.FreeReply.{FreeReply}
 use Rattle.tree_specs.specs.declared.free_step.FreeReply.TheVariants as free_reply
 use Rattle.tree_specs.specs.declared.free_step.FreeStep.{FreeStep}
-use Rattle.tree_specs.specs.declared.free_step.FreeStep.TheVariants.{Ask, Prepare, Done}
+use Rattle.tree_specs.specs.declared.free_step.FreeStep.TheVariants.{Ask, Prepare, Drain, Done}
 use Rattle.tree_specs.specs.Tree.Targets.{newest_ref}
 use Rattle.tree_specs.specs.Tree.Pool.{Pool, row_of, is_below, owner_of, target_at, newest_ref_of, is_inside, first_kid}
 use Rattle.tree_specs.specs.Machine.FreeTable.{FreeMove, free_step, begin_step, refs_step, drop_step, unlink_step, release_step, judge_step, loop_step, child_step, hand_on_step, tried_step}
 use Rattle.tree_specs.specs.Machine.Profiles.{Phase}
 use Rattle.tree_specs.specs.Invariants.Sound.{Footing, FreeRests, Tries, claims, footing}
-use Rattle.tree_specs.specs.Invariants.Sound.Footing.{OnFree, OnCall, AtBottom}
+use Rattle.tree_specs.specs.Invariants.Sound.Footing.{OnFree, OnCall, OnDropping, AtBottom}
 use Rattle.tree_specs.specs.declared.frame.Frame.TheVariants as frame
-use Rattle.tree_specs.specs.Calls.Refusals.{is_request}
+use Rattle.tree_specs.specs.Calls.Refusals.{is_request, is_queue}
 use Rattle.tree_specs.proofs.Tree.Numbered.{by_test}
 use Rattle.tree_specs.proofs.Invariants.Changes.{waiting-sound}
 use Rattle.destructors.specs.Frees.{OpenFrees, awaits_run, answered, moved, moves, next_of, returned, Silently, Still, On, speaking, speaks, Steps, Begins}
@@ -58,7 +58,9 @@ module _ (events : Upcoming) where
       each : (m : Mark) → r.mark ≡ m → begin_step x (Some r) (beside events p) ≡ beside_move events (begin_step x (Some r) p)
       each mark.Quiet e = by_test (is_request r.kind)
           (λ t. rw (e, t) refl)
-          (λ t. by_test (nat_eq r.hook 0) (λ h. rw (e, t, h) refl) (λ h. rw (e, t, h) refl))
+          (λ t. by_test (is_queue r.kind)
+          (λ u. rw (e, t, u) refl)
+          (λ u. by_test (nat_eq r.hook 0) (λ h. rw (e, t, u, h) refl) (λ h. rw (e, t, u, h) refl)))
       each mark.Asked e = rw e refl
       each mark.Busy e = rw e refl
       each mark.Doomed e = rw e refl
@@ -108,6 +110,7 @@ module _ (events : Upcoming) where
   move-beside (Hooked x h) p = refl
   move-beside (Judged x h v) p = judge-beside x h v p
   move-beside (Preparing x) p = refl
+  move-beside (Draining x) p = refl
   move-beside (Prepared x) p = refl
   move-beside (Dooming x) p = refl
   move-beside (Leaving x h) p = refl
@@ -173,13 +176,14 @@ module _ (p : Pool) (u v : Upcoming) where
   tries-same x (OnFree (FreeingChild y d noted purpose)) t = t
   tries-same x (OnFree _) t = absurd t
   tries-same x OnCall t = t
+  tries-same x OnDropping t = t
   tries-same x AtBottom t = t
   tries-same x _ t = absurd t
 
   rests-same : (f : FreeFrame) (on : Footing) (claimed : Obj → List Phase) → FreeRests f on claimed here → FreeRests f on claimed there
   rests-same (Giving x o) on claimed h = record { row = h.row; is = h.is; live = h.live; apart = h.apart; there = h.there; outside = h.outside }
   rests-same (Beginning x) on claimed h = (tries-same x on h.0, h.1)
-  rests-same (Dooming x) on claimed h = (tries-same x on h.0, h.1)
+  rests-same (Dooming x) on claimed h = (tries-same x on h.0, h.1, h.2)
   rests-same (AfterChild x c noted purpose free_reply.Running) on claimed h = h
   rests-same (AfterChild x c noted purpose _) on claimed h = (tt, h.1)
   rests-same _ on claimed h = h
@@ -208,6 +212,7 @@ module _ (p : Pool) (u v : Upcoming) where
   pub goes_on-same : (told : FreeStep) (fs : List FreeFrame) → GoesOn told (record { works = fs; pool = here }) → GoesOn told (record { works = fs; pool = there })
   goes_on-same (Ask x) fs h = awaits-same fs h
   goes_on-same (Prepare x) fs h = awaits-same fs h
+  goes_on-same (Drain x) fs h = awaits-same fs h
   goes_on-same (Done a) fs h = awaits-same fs h
   goes_on-same _ fs h = works-same fs h
 

@@ -1,11 +1,19 @@
--- How many wait for their turn, and how many requests are still to be received, where some are no more.
-use Rattle.std.proofs.Common.{◌≡◌, ◌+◌, ◌≤◌, Bool, List, [], ◌∷◌, ◌++◌, length, Option, Some, None, refl, arith}
+-- How many may wait for their turn, and how many requests are still to be received, where some are no more.
+use Rattle.std.proofs.Common.{◌≡◌, ◌+◌, ◌≤◌, ℕ, Bool, true, false, not, List, [], ◌∷◌, ◌++◌, length, Option, Some, None, is_some, if◌then◌else◌, refl, arith}
 use Rattle.std.specs.List.{filter}
+use Rattle.std.specs.Ordering.{nat_cmp, eq_by_cmp}
+use Rattle.std.specs.FinMap.Entries.{find, put, by_order}
+use Rattle.std.specs.declared.cmp.Ordering.{Ordering}
+use Rattle.std.specs.declared.cmp.Ordering.TheVariants.{Less, Equal, Greater}
+use Rattle.request_queue.specs.Register.{looked_for}
+use Rattle.tree_specs.specs.declared.queue.QueueEntry.{QueueEntry}
+use Rattle.tree_specs.specs.Events.Queues.{Queues, entry_of, without_entry, next_of}
+use Rattle.tree_specs.specs.Tree.Pool.{looked_at, looked_after}
 use Rattle.tree_specs.specs.declared.free_step.FreeStep.{FreeStep}
 use Rattle.tree_specs.specs.declared.free_step.FreeStep.TheVariants.{Dropped, Doom, Left, Gone}
 use Rattle.tree_specs.specs.declared.object.Obj.{Obj}
 use Rattle.tree_specs.specs.declared.watch.Watch.{Watch}
-use Rattle.tree_specs.specs.Events.Pending.{unscheduled, disarmed}
+use Rattle.tree_specs.specs.Events.Pending.{scheduled, unscheduled, disarmed}
 use Rattle.tree_specs.specs.Events.Requests.{Notes}
 use Rattle.tree_specs.specs.Events.Rotation.{watch_of, unwatched, rewatched, behind_all, turned_back}
 use Rattle.tree_specs.specs.Words.Objects.{same}
@@ -13,7 +21,7 @@ use Rattle.tree_specs.proofs.Tree.Numbered.{by_test}
 use Rattle.loop_core.specs.declared.pick.Pick.{Pick}
 use Rattle.loop_core.specs.declared.pick.Pick.TheVariants.{Soon, Time}
 use Rattle.object_pool.specs.Requests.{count_unreceived}
-use Rattle.object_pool.specs.Upcoming.{Upcoming, after, picked, pending, without_event}
+use Rattle.object_pool.specs.Upcoming.{Upcoming, after, picked, pending_most, without_event}
 
 module _ {A : Type 0} where
   pub filtered-fewer : (keep : A → Bool) (xs : List A) → length (filter keep xs) ≤ length xs
@@ -61,19 +69,73 @@ soon-fewer u x = filtered-fewer _ u.soon
 pub times-fewer : (u : Upcoming) (x : Obj) → length (disarmed u.times x) ≤ length u.times
 times-fewer u x = filtered-fewer _ u.times
 
-without-fewer : (x : Obj) (u : Upcoming) → pending (without_event x u) ≤ pending u
-without-fewer x u =
-    let m = soon-fewer u x in
-    let n = times-fewer u x in
-    let k : length (unwatched u.ring x) ≤ length u.ring = filtered-fewer _ u.ring in
-    omega (arith, m, n, k)
+-- an entry that leaves is one entry fewer
+pub entries-fewer : {V : Type 0} (es : List (ℕ × V)) (n : ℕ) (e : V) → find nat_cmp n es ≡ Some e → length (filter (λ e. not (eq_by_cmp nat_cmp n e.0)) es) + 1 ≤ length es
+entries-fewer [] n e is = cc
+entries-fewer (f ∷ fs) n e is = by_test (eq_by_cmp nat_cmp n f.0)
+    (λ t. let k : length (filter (λ e. not (eq_by_cmp nat_cmp n e.0)) fs) ≤ length fs = filtered-fewer _ fs in rw t (omega (arith, k)))
+    (λ t. let k = entries-fewer fs n e (rw t at is) in rw t (omega (arith, k)))
 
-pub told-fewer : (told : FreeStep) (u : Upcoming) → pending (after (Some told) u) ≤ pending u
+-- where the queue that an entry leaves is to come soon, the entry was one
+pub left-fewer : (qs : Queues) (x q : Obj) → looked_for (without_entry qs x) (entry_of qs x) ≡ Some q → length (without_entry qs x).entries + 1 ≤ length qs.entries
+left-fewer qs x q is = each (entry_of qs x) refl is
+  where
+    each : (o : Option QueueEntry) → entry_of qs x ≡ o → looked_for (without_entry qs x) o ≡ Some q → length (without_entry qs x).entries + 1 ≤ length qs.entries
+    each None e k = cc
+    each (Some w) e k = entries-fewer qs.entries x.0 w e
+
+pub without-entries : (qs : Queues) (x : Obj) → length (without_entry qs x).entries ≤ length qs.entries
+without-entries qs x = filtered-fewer _ qs.entries
+
+-- one that is put in is one more at most
+pub entries-more : (es : List (ℕ × QueueEntry)) (n : ℕ) (e : QueueEntry) → length (put nat_cmp n e es) ≤ length es + 1
+entries-more [] n e = omega arith
+entries-more (f ∷ fs) n e = each (nat_cmp n f.0) (entries-more fs n e)
+  where
+    each : (o : Ordering) → length (put nat_cmp n e fs) ≤ length fs + 1 → length (by_order o ((n, e) ∷ f ∷ fs) ((f.0, e) ∷ fs) (f ∷ put nat_cmp n e fs)) ≤ length (f ∷ fs) + 1
+    each Less k = omega arith
+    each Equal k = omega arith
+    each Greater k = omega (arith, k)
+
+-- one that comes soon then is one more
+scheduled-more : (xs : List Obj) (x : Obj) → length (scheduled xs x) ≤ length xs + 1
+scheduled-more xs x =
+    let k : length (unscheduled xs x) ≤ length xs = filtered-fewer _ xs in
+    let m = one-more (unscheduled xs x) x in
+    omega (arith, k, m)
+
+looked-more : (qs : Queues) (q : Obj) (soon : List Obj) → length (looked_at qs q soon) ≤ length soon + 1
+looked-more qs q soon = each (is_some (next_of qs q))
+  where
+    each : (b : Bool) → length (if b then scheduled soon q else soon) ≤ length soon + 1
+    each true = scheduled-more soon q
+    each false = omega arith
+
+without-fewer : (x : Obj) (u : Upcoming) → pending_most (without_event x u) ≤ pending_most u
+without-fewer x u = each (entry_of u.queues x) refl
+  where
+    each : (o : Option QueueEntry) → entry_of u.queues x ≡ o
+        → length (looked_after (without_entry u.queues x) o (unscheduled u.soon x)) + length (disarmed u.times x) + length (unwatched u.ring x) + length (without_entry u.queues x).entries ≤ pending_most u
+    each None e =
+        let m = soon-fewer u x in
+        let n = times-fewer u x in
+        let k : length (unwatched u.ring x) ≤ length u.ring = filtered-fewer _ u.ring in
+        let l : length (without_entry u.queues x).entries ≤ length u.queues.entries = filtered-fewer _ u.queues.entries in
+        omega (arith, m, n, k, l)
+    each (Some w) e =
+        let m = soon-fewer u x in
+        let s = looked-more (without_entry u.queues x) w.queue (unscheduled u.soon x) in
+        let n = times-fewer u x in
+        let k : length (unwatched u.ring x) ≤ length u.ring = filtered-fewer _ u.ring in
+        let l = entries-fewer u.queues.entries x.0 w e in
+        omega (arith, m, s, n, k, l)
+
+pub told-fewer : (told : FreeStep) (u : Upcoming) → pending_most (after (Some told) u) ≤ pending_most u
 told-fewer (Left x from) u = without-fewer x u
 told-fewer (Doom x) u = without-fewer x u
 told-fewer _ u = omega arith
 
-pub picked-fewer : (pick : Pick) (u : Upcoming) → pending (picked pick u) ≤ pending u
+pub picked-fewer : (pick : Pick) (u : Upcoming) → pending_most (picked pick u) ≤ pending_most u
 picked-fewer (Soon x) u = let m = soon-fewer u x in omega (arith, m)
 picked-fewer (Time x now) u = let n = times-fewer u x in omega (arith, n)
 picked-fewer _ u = omega arith

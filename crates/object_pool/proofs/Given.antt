@@ -3,7 +3,7 @@ use Rattle.std.proofs.Common.{◌≡◌, ℕ, ◌<◌, ◌≤◌, nat_eq, Bool, 
 use Rattle.std.proofs.lemmas.Bool.{eqb-true, ne_eqb}
 use Rattle.std.specs.List.{filter, find}
 use Rattle.std.specs.Cmp.{unsigned_tied}
-use Rattle.std.specs.FinMap.Entries.{by_order}
+use Rattle.std.specs.FinMap.Entries.{by_order, put, find as find_kept}
 use Rattle.std.specs.Ordering.{nat_cmp, eq_by_cmp}
 use Rattle.std.specs.declared.cmp.Ordering.{Ordering}
 use Rattle.std.specs.declared.cmp.Ordering.TheVariants.{Less, Equal, Greater}
@@ -14,13 +14,14 @@ use Rattle.tree_specs.specs.declared.object.Obj.{Obj}
 use Rattle.tree_specs.specs.declared.request.Note.{Note}
 use Rattle.tree_specs.specs.declared.watch.Watch.{Watch}
 use Rattle.tree_specs.specs.Events.Pending.{armed, comes_before, disarmed, is_numbered, put_in}
-use Rattle.tree_specs.specs.Events.Requests.{Notes, note_of, renoted, with_note, without_note}
+use Rattle.tree_specs.specs.Events.Queues.{Queues, running_of, has_queue, run_as}
+use Rattle.tree_specs.specs.Events.Requests.{Notes, note_of, renoted}
 use Rattle.tree_specs.specs.Events.Rotation.{behind_all, is_watching, rewatched, turned_back, unwatched, watch_of}
 use Rattle.tree_specs.specs.Words.Objects.{same}
 use Rattle.tree_specs.proofs.Tree.Numbered.{by_test}
 use Rattle.loop_core.specs.declared.pick.Pick.{Pick}
 use Rattle.loop_core.specs.declared.pick.Pick.TheVariants.{Time}
-use Rattle.object_pool.specs.Upcoming.{Upcoming, AllBefore, AreGiven, due_number, watcher_number, note_number, after, picked}
+use Rattle.object_pool.specs.Upcoming.{Upcoming, AllBefore, AreGiven, due_number, watcher_number, key_number, after, picked, without_event, forgotten}
 
 -- ---- any list of what has a number
 
@@ -94,37 +95,50 @@ ring-turned n ws x a = each (watch_of ws x) refl
     each None e = gone
     each (Some w) e = before-pushed watcher_number n (unwatched ws x) w (before-found watcher_number n _ ws w a e) gone
 
--- ---- requests
+-- ---- what is kept under numbers
 
-pub notes-put : (n : ℕ) (notes : Notes) (x : Obj) (note : Note) → x.0 < n → AllBefore note_number n notes → AllBefore note_number n (with_note notes x note)
-notes-put n [] x note l a = (l, tt)
-notes-put n (m ∷ ms) x note l a = each (nat_cmp x.0 m.0) (notes-put n ms x note l a.1)
-  where
-    each : (o : Ordering) → AllBefore note_number n (with_note ms x note) → AllBefore note_number n (by_order o ((x.0, note) ∷ m ∷ ms) ((m.0, note) ∷ ms) (m ∷ with_note ms x note))
-    each Less ih = (l, a)
-    each Equal ih = (a.0, a.1)
-    each Greater ih = (a.0, ih)
+-- what is kept under numbers: notes of requests, queues, and entries
+module _ {V : Type 0} where
+  pub kept-put : (n : ℕ) (kept : List (ℕ × V)) (x : ℕ) (value : V) → x < n → AllBefore key_number n kept → AllBefore key_number n (put nat_cmp x value kept)
+  kept-put n [] x value l a = (l, tt)
+  kept-put n (m ∷ ms) x value l a = each (nat_cmp x m.0) (kept-put n ms x value l a.1)
+    where
+      each : (o : Ordering) → AllBefore key_number n (put nat_cmp x value ms) → AllBefore key_number n (by_order o ((x, value) ∷ m ∷ ms) ((m.0, value) ∷ ms) (m ∷ put nat_cmp x value ms))
+      each Less ih = (l, a)
+      each Equal ih = (a.0, a.1)
+      each Greater ih = (a.0, ih)
 
-noted-before : (n : ℕ) (notes : Notes) (x : Obj) (note : Note) → AllBefore note_number n notes → note_of notes x ≡ Some note → x.0 < n
-noted-before n [] x note a e = cc
-noted-before n (m ∷ ms) x note a e = by_test (eq_by_cmp nat_cmp x.0 m.0)
-    (λ t. let is : x.0 ≡ m.0 = eqb-true x.0 m.0 (sym (unsigned_tied x.0 m.0) ∙ t) in let l = a.0 in omega (arith, l, is))
-    (λ t. noted-before n ms x note a.1 (rw t at e))
+  pub kept-before : (n : ℕ) (kept : List (ℕ × V)) (x : ℕ) (value : V) → AllBefore key_number n kept → find_kept nat_cmp x kept ≡ Some value → x < n
+  kept-before n [] x value a e = cc
+  kept-before n (m ∷ ms) x value a e = by_test (eq_by_cmp nat_cmp x m.0)
+      (λ t. let is : x ≡ m.0 = eqb-true x m.0 (sym (unsigned_tied x m.0) ∙ t) in let l = a.0 in omega (arith, l, is))
+      (λ t. kept-before n ms x value a.1 (rw t at e))
 
--- a number that is still to be given is that of no request
-pub unnoted : (n : ℕ) (notes : Notes) → AllBefore note_number n notes → note_of notes (record { 0 = n }) ≡ None
-unnoted n notes a = each (note_of notes (record { 0 = n })) refl
-  where
-    each : (o : Option Note) → note_of notes (record { 0 = n }) ≡ o → o ≡ None
-    each None e = refl
-    each (Some note) e = let l = noted-before n notes (record { 0 = n }) note a e in absurd (omega (arith, l))
+  -- a number that is still to be given is that of none
+  pub unkept : (n : ℕ) (kept : List (ℕ × V)) → AllBefore key_number n kept → find_kept nat_cmp n kept ≡ None
+  unkept n kept a = each (find_kept nat_cmp n kept) refl
+    where
+      each : (o : Option V) → find_kept nat_cmp n kept ≡ o → o ≡ None
+      each None e = refl
+      each (Some value) e = let l = kept-before n kept n value a e in absurd (omega (arith, l))
 
-pub notes-changed : (n : ℕ) (change : Note → Note) (notes : Notes) (x : Obj) → AllBefore note_number n notes → AllBefore note_number n (renoted change notes x)
+pub notes-changed : (n : ℕ) (change : Note → Note) (notes : Notes) (x : Obj) → AllBefore key_number n notes → AllBefore key_number n (renoted change notes x)
 notes-changed n change notes x a = each (note_of notes x) refl
   where
-    each : (o : Option Note) → note_of notes x ≡ o → AllBefore note_number n (renoted change notes x)
+    each : (o : Option Note) → note_of notes x ≡ o → AllBefore key_number n (renoted change notes x)
     each None e = rw e a
-    each (Some note) e = rw e (notes-put n notes x (change note) (noted-before n notes x note a e) a)
+    each (Some note) e = rw e (kept-put n notes x.0 (change note) (kept-before n notes x.0 note a e) a)
+
+-- what is kept of queues keeps their numbers
+pub running-given : (n : ℕ) (qs : Queues) (q : Obj) (running : Bool) → AllBefore key_number n qs.running → AllBefore key_number n (run_as qs q running).running
+running-given n qs q running a = each (running_of qs q) refl
+  where
+    each : (o : Option Bool) → running_of qs q ≡ o → AllBefore key_number n (run_as qs q running).running
+    each None e = rw e a
+    each (Some was) e = rw e (kept-put n qs.running q.0 running (kept-before n qs.running q.0 was a e) a)
+
+pub running-entries : (qs : Queues) (q : Obj) (running : Bool) → (run_as qs q running).entries ≡ qs.entries
+running-entries qs q running = by_test (has_queue qs q) (λ t. rw t refl) (λ t. rw t refl)
 
 -- ---- all that is to come
 
@@ -132,30 +146,36 @@ pub given-later : (n m : ℕ) (u : Upcoming) → n ≤ m → AreGiven n u → Ar
 given-later n m u le a = record {
   times = before-later due_number n m u.times le a.times;
   ring = before-later watcher_number n m u.ring le a.ring;
-  requests = before-later note_number n m u.requests le a.requests;
+  requests = before-later key_number n m u.requests le a.requests;
+  queues = before-later key_number n m u.queues.running le a.queues;
+  entries = before-later key_number n m u.queues.entries le a.entries;
 }
 
-gone-given : (n : ℕ) (u v : Upcoming) (x : Obj) → v.times ≡ disarmed u.times x → v.ring ≡ unwatched u.ring x → v.requests ≡ u.requests → AreGiven n u → AreGiven n v
-gone-given n u v x times ring requests a = record {
-  times = rw times (times-gone n u.times x a.times);
-  ring = rw ring (before-filtered watcher_number n _ u.ring a.ring);
-  requests = rw requests a.requests;
+gone-given : (n : ℕ) (u : Upcoming) (x : Obj) → AreGiven n u → AreGiven n (without_event x u)
+gone-given n u x a = record {
+  times = times-gone n u.times x a.times;
+  ring = before-filtered watcher_number n _ u.ring a.ring;
+  requests = a.requests;
+  queues = a.queues;
+  entries = before-filtered key_number n _ u.queues.entries a.entries;
 }
 
-forgotten-given : (n : ℕ) (u v : Upcoming) (x : Obj) → v.times ≡ u.times → v.ring ≡ u.ring → v.requests ≡ without_note u.requests x → AreGiven n u → AreGiven n v
-forgotten-given n u v x times ring requests a = record {
-  times = rw times a.times;
-  ring = rw ring a.ring;
-  requests = rw requests (before-filtered note_number n _ u.requests a.requests);
+forgotten-given : (n : ℕ) (u : Upcoming) (x : Obj) → AreGiven n u → AreGiven n (forgotten x u)
+forgotten-given n u x a = record {
+  times = a.times;
+  ring = a.ring;
+  requests = before-filtered key_number n _ u.requests a.requests;
+  queues = before-filtered key_number n _ u.queues.running a.queues;
+  entries = a.entries;
 }
 
 pub told-given : (n : ℕ) (u : Upcoming) (told : FreeStep) → AreGiven n u → AreGiven n (after (Some told) u)
-told-given n u (Left x from) a = gone-given n u (after (Some (Left x from)) u) x refl refl refl a
-told-given n u (Doom x) a = gone-given n u (after (Some (Doom x)) u) x refl refl refl a
-told-given n u (Gone x h) a = forgotten-given n u (after (Some (Gone x h)) u) x refl refl refl a
-told-given n u (Dropped r target) a = forgotten-given n u (after (Some (Dropped r target)) u) r refl refl refl a
+told-given n u (Left x from) a = gone-given n u x a
+told-given n u (Doom x) a = gone-given n u x a
+told-given n u (Gone x h) a = forgotten-given n u x a
+told-given n u (Dropped r target) a = forgotten-given n u r a
 told-given n u _ a = a
 
 pub picked-given : (n : ℕ) (u : Upcoming) (pick : Pick) → AreGiven n u → AreGiven n (picked pick u)
-picked-given n u (Time x now) a = record { times = times-gone n u.times x a.times; ring = a.ring; requests = a.requests }
-picked-given n u _ a = record { times = a.times; ring = a.ring; requests = a.requests }
+picked-given n u (Time x now) a = record { times = times-gone n u.times x a.times; ring = a.ring; requests = a.requests; queues = a.queues; entries = a.entries }
+picked-given n u _ a = record { times = a.times; ring = a.ring; requests = a.requests; queues = a.queues; entries = a.entries }

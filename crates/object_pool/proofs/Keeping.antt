@@ -35,7 +35,7 @@ use Rattle.tree_specs.specs.Words.Objects.{same}
 use Rattle.object_pool.specs.Agreeing.{AgreeWith}
 use Rattle.loop_core.specs.declared.pick.Pick.{Pick}
 use Rattle.loop_core.specs.declared.pick.Pick.TheVariants.{Soon}
-use Rattle.object_pool.specs.Upcoming.{Upcoming, Agenda, KeepsPlaces, AllBefore, AreGiven, watcher_number, after, picked, pending, with_watch, with_closed}
+use Rattle.object_pool.specs.Upcoming.{Upcoming, Agenda, KeepsPlaces, AllBefore, AreGiven, watcher_number, after, picked, pending_most, with_watch, with_closed}
 use Rattle.object_pool.proofs.Numbers.{steps-next}
 use Rattle.object_pool.proofs.Given.{given-later, told-given, picked-given, ring-changed, ring-turned}
 use Rattle.object_pool.proofs.Fewer.{told-fewer, picked-fewer, rewatched-many, turned-fewer}
@@ -67,7 +67,7 @@ still-places ps ps' ls ls' a p l h = record {
 }
 
 -- those that wait may become fewer
-fewer-wait : (ps : Pairs) (ls : Limits) (a a' : Agenda) → KeepsPlaces a a' → pending a'.upcoming ≤ pending a.upcoming → HasPlaces ps ls a → HasPlaces ps ls a'
+fewer-wait : (ps : Pairs) (ls : Limits) (a a' : Agenda) → KeepsPlaces a a' → pending_most a'.upcoming ≤ pending_most a.upcoming → HasPlaces ps ls a → HasPlaces ps ls a'
 fewer-wait ps ls a a' k n h = record {
   reference = h.reference;
   limit = h.limit;
@@ -78,6 +78,7 @@ fewer-wait ps ls a a' k n h = record {
     descriptor = (let i = h.event.descriptor in let s = k.descriptors in omega (arith, i, s));
     handler = (let i = h.event.handler in let s = k.handlers in omega (arith, i, s));
     request = (let i = h.event.request in let s = k.requests in omega (arith, i, s));
+    queue = (let i = h.event.queue in let s = k.queues in omega (arith, i, s));
   };
   waiting = (let w = h.waiting in omega (arith, w, n));
 }
@@ -247,7 +248,7 @@ event-added b t' ls' e x kind owner name ready plain serial fresh is works limit
     waits (record b { tree = t'; sums = ls'; places = false; ready = false }) e all (row-added b t' ls' false x kind owner 0 name never ready plain serial fresh is works limits a)
 
 -- no more wait
-pub still-agree : (b : Inside) (e : Agenda) → KeepsPlaces b.events e → pending e.upcoming ≤ pending b.events.upcoming → AreGiven b.tree.next e.upcoming → AgreeWith b → AgreeWith (record b { events = e })
+pub still-agree : (b : Inside) (e : Agenda) → KeepsPlaces b.events e → pending_most e.upcoming ≤ pending_most b.events.upcoming → AreGiven b.tree.next e.upcoming → AgreeWith b → AgreeWith (record b { events = e })
 still-agree b e k n given a = record {
   references = a.references;
   limits = a.limits;
@@ -260,13 +261,13 @@ still-agree b e k n given a = record {
 }
 
 -- what is to come is this now, of which no more wait
-pub becomes : (b : Inside) (e : Agenda) (u : Upcoming) → e.upcoming ≡ u → KeepsPlaces b.events e → pending u ≤ pending b.events.upcoming → AreGiven b.tree.next u → AgreeWith b → AgreeWith (record b { events = e })
+pub becomes : (b : Inside) (e : Agenda) (u : Upcoming) → e.upcoming ≡ u → KeepsPlaces b.events e → pending_most u ≤ pending_most b.events.upcoming → AreGiven b.tree.next u → AgreeWith b → AgreeWith (record b { events = e })
 becomes b e u is k n given a = still-agree b e k (rw is n) (rw is given) a
 
 pub unscheduled-agree : (b : Inside) (e : Agenda) (x : Obj) → e.upcoming ≡ record b.events.upcoming { soon = unscheduled b.events.upcoming.soon x } → KeepsPlaces b.events e → AgreeWith b → AgreeWith (record b { events = e })
 unscheduled-agree b e x is k a =
     let u = b.events.upcoming in
-    becomes b e (record u { soon = unscheduled u.soon x }) is k (picked-fewer (Soon x) u) (record { times = a.given.times; ring = a.given.ring; requests = a.given.requests }) a
+    becomes b e (record u { soon = unscheduled u.soon x }) is k (picked-fewer (Soon x) u) (record { times = a.given.times; ring = a.given.ring; requests = a.given.requests; queues = a.given.queues; entries = a.given.entries }) a
 
 pub picked-agree : (b : Inside) (e : Agenda) (pick : Pick) → e.upcoming ≡ picked pick b.events.upcoming → KeepsPlaces b.events e → AgreeWith b → AgreeWith (record b { events = e })
 picked-agree b e pick is k a = becomes b e (picked pick b.events.upcoming) is k (picked-fewer pick b.events.upcoming) (picked-given b.tree.next b.events.upcoming pick a.given) a
@@ -277,7 +278,7 @@ picked-agree b e pick is k a = becomes b e (picked pick b.events.upcoming) is k 
 pub ring-agree : (b : Inside) (e : Agenda) (ring : List Watch) → e.upcoming ≡ record b.events.upcoming { ring = ring } → length ring ≤ length b.events.upcoming.ring → AllBefore watcher_number b.tree.next ring → KeepsPlaces b.events e
     → AgreeWith b → AgreeWith (record b { events = e })
 ring-agree b e ring is n watchers k a =
-    becomes b e (record b.events.upcoming { ring = ring }) is k (omega (arith, n)) (record { times = a.given.times; ring = watchers; requests = a.given.requests }) a
+    becomes b e (record b.events.upcoming { ring = ring }) is k (omega (arith, n)) (record { times = a.given.times; ring = watchers; requests = a.given.requests; queues = a.given.queues; entries = a.given.entries }) a
 
 -- how an event watches is changed
 pub rewatched-agree : (b : Inside) (e : Agenda) (change : Watch → Watch) (x : Obj) → e.upcoming ≡ with_watch change x b.events.upcoming → ((w : Watch) → (change w).object ≡ w.object) → KeepsPlaces b.events e
@@ -294,7 +295,7 @@ turned-agree b e x is k a =
 
 pub closed-agree : (b : Inside) (e : Agenda) (fd : ℕ) → e.upcoming ≡ with_closed fd b.events.upcoming → KeepsPlaces b.events e → AgreeWith b → AgreeWith (record b { events = e })
 closed-agree b e fd is k a =
-    becomes b e (with_closed fd b.events.upcoming) is k (omega arith) (record { times = a.given.times; ring = a.given.ring; requests = a.given.requests }) a
+    becomes b e (with_closed fd b.events.upcoming) is k (omega arith) (record { times = a.given.times; ring = a.given.ring; requests = a.given.requests; queues = a.given.queues; entries = a.given.entries }) a
 
 -- ---- an object that doesn't die gets another mark
 

@@ -8,5 +8,6 @@ pub mod Numbers
 pub mod Given
 pub mod Fewer
 pub mod Requesting
+pub mod Queueing
 pub mod Opening
 pub mod Announcing

@@ -8,7 +8,7 @@ use Rattle.tree_specs.specs.declared.row.Row.{Row}
 use Rattle.tree_specs.specs.declared.row.Mark.{Mark}
 use Rattle.tree_specs.specs.declared.row.Mark.TheVariants as mark
 use Rattle.tree_specs.specs.declared.frame.FreeFrame.{FreeFrame}
-use Rattle.tree_specs.specs.declared.frame.FreeFrame.TheVariants.{Unlinking, Releasing, Giving, Beginning, Hooked, Judged, Preparing, Prepared, Dooming, Leaving, Looping, FreeingChild, AfterChild, Ending}
+use Rattle.tree_specs.specs.declared.frame.FreeFrame.TheVariants.{Unlinking, Releasing, Beginning, Judged, Looping, AfterChild}
 use Rattle.tree_specs.specs.declared.frame.Purpose.{Purpose}
 use Rattle.tree_specs.specs.declared.frame.Purpose.TheVariants.{Removal, Emptying}
 use Rattle.tree_specs.specs.declared.free_step.FreeReply.{FreeReply}
@@ -17,7 +17,7 @@ use Rattle.tree_specs.specs.declared.free_step.FreeStep.{FreeStep}
 use Rattle.tree_specs.specs.Tree.Targets.{newest_ref}
 use Rattle.tree_specs.specs.Tree.Pool.{Pool, row_of, is_below, owner_of, target_at, newest_ref_of, is_inside, first_kid}
 use Rattle.tree_specs.specs.Machine.FreeTable.{FreeMove, free_step, begin_step, refs_step, unlink_step, release_step, loop_step, child_step, tried_step}
-use Rattle.tree_specs.specs.Calls.Refusals.{is_request}
+use Rattle.tree_specs.specs.Calls.Refusals.{is_request, is_queue}
 use Rattle.tree_specs.proofs.Tree.Numbered.{by_test}
 use Rattle.destructors.specs.Frees.{OpenFrees, awaits_run, moved, moves, next_of, Silently, Still, On, Steps, Begins}
 
@@ -36,7 +36,9 @@ begun-next x p (Some r) = each r.mark refl
     each : (m : Mark) → r.mark ≡ m → (pool_in (begin_step x (Some r) p)).next ≡ p.next
     each mark.Quiet e = by_test (is_request r.kind)
         (λ t. rw (e, t) refl)
-        (λ t. by_test (nat_eq r.hook 0) (λ h. rw (e, t, h) refl) (λ h. rw (e, t, h) refl))
+        (λ t. by_test (is_queue r.kind)
+        (λ u. rw (e, t, u) refl)
+        (λ u. by_test (nat_eq r.hook 0) (λ h. rw (e, t, u, h) refl) (λ h. rw (e, t, u, h) refl)))
     each mark.Asked e = rw e refl
     each mark.Busy e = rw e refl
     each mark.Doomed e = rw e refl
@@ -74,14 +76,7 @@ move-next (Beginning x) p = refs-next x p (newest_ref p.rows x)
 move-next (Judged x h v) p = by_test (nat_eq v 0) (λ t. rw t refl) (λ t. rw t refl)
 move-next (Looping x purpose) p = loop-next x purpose p (first_kid p.rows (Of x))
 move-next (AfterChild x c noted purpose a) p = tried-next x c noted purpose a p
-move-next (Giving x o) p = refl
-move-next (Hooked x h) p = refl
-move-next (Preparing x) p = refl
-move-next (Prepared x) p = refl
-move-next (Dooming x) p = refl
-move-next (Leaving x h) p = refl
-move-next (FreeingChild x c noted purpose) p = refl
-move-next (Ending a) p = refl
+move-next _ p = refl
 
 moved-next : (m : FreeMove) (fs : List FreeFrame) → (moved m fs).1.pool.next ≡ (pool_in m).next
 moved-next (Do.Done a p) [] = refl

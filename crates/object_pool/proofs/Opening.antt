@@ -1,9 +1,9 @@
 -- What a free that begins, or goes on, needs of the objects, by the parts of a pool.
 use Rattle.std.proofs.Common.{◌≡◌, Option, Some, None, true, slice_get, inl, inr, refl, sym, subst, arith}
 use Rattle.tree_specs.specs.declared.frame.FreeFrame.{FreeFrame}
-use Rattle.tree_specs.specs.declared.frame.FreeFrame.TheVariants.{Preparing}
+use Rattle.tree_specs.specs.declared.frame.FreeFrame.TheVariants.{Preparing, Draining}
 use Rattle.tree_links.specs.Links.{Links, pool_of}
-use Rattle.destructors.specs.Engine.{IsReceiving, AreKept, HasRoom, HasRoomFor}
+use Rattle.destructors.specs.Engine.{IsPreparing, AreKept, HasRoom, HasRoomFor}
 use Rattle.destructors.specs.Frees.{before, frees_of}
 use Rattle.destructors.specs.Room.{work_places}
 use Rattle.destructors.specs.Works.{IsAwaiting, IsAtWork}
@@ -33,10 +33,11 @@ innermost-is (Some f) t kept = refl
 pub innermost-has : (P : Option FreeFrame → Type 0) (b : Inside) (o : Objects) → seen b ≡ o → AgreeWith b → P (slice_get o.works 0) → P b.engine
 innermost-has P b o e a h = subst P (innermost-is b.engine b.tree a.kept) (subst (λ (z : Objects). P (slice_get z.works 0)) (sym e) h)
 
-receiving-room : (f : FreeFrame) (o : Option FreeFrame) (t : Links) → work_places f ≡ 0 → HasRoom o t → IsReceiving o → HasRoomFor f o t
-receiving-room f None t none room r = absurd r
-receiving-room f (Some (Preparing x)) t none room r = room-within f (Preparing x) t none refl room
-receiving-room f (Some _) t none room r = absurd r
+preparing-room : (f : FreeFrame) (o : Option FreeFrame) (t : Links) → work_places f ≡ 0 → HasRoom o t → IsPreparing o → HasRoomFor f o t
+preparing-room f None t none room r = absurd r
+preparing-room f (Some (Preparing x)) t none room r = room-within f (Preparing x) t none refl room
+preparing-room f (Some (Draining x)) t none room r = room-within f (Draining x) t none refl room
+preparing-room f (Some _) t none room r = absurd r
 
 -- there is room for the works of a free where it may begin
 pub room-ready : (f : FreeFrame) (b : Inside) → b.ready ≡ true → AgreeWith b → HasRoomFor f b.engine b.tree
@@ -45,5 +46,5 @@ room-ready f b ready a = let c = (a.call ready).works in any-room-for f b.engine
 pub room-begins : (f : FreeFrame) (b : Inside) (o : Objects) → seen b ≡ o → work_places f ≡ 0 → MayBeginFree o → AgreeWith b → HasRoomFor f b.engine b.tree
 room-begins f b o e none may a = elim (subst MayBeginFree (sym e) may) [
   | inl ready ↦ room-ready f b ready a
-  | inr receiving ↦ receiving-room f b.engine b.tree none a.room (subst IsReceiving (innermost-is b.engine b.tree a.kept) receiving)
+  | inr preparing ↦ preparing-room f b.engine b.tree none a.room (subst IsPreparing (innermost-is b.engine b.tree a.kept) preparing)
 ]

@@ -20,16 +20,16 @@ use Rattle.requests.specs.Register.{left_by, posted_by}
 use Rattle.requests.specs.declared.requests.Notify.{Notify}
 use Rattle.requests.specs.declared.requests.Notify.TheVariants.{Post}
 use Rattle.object_pool.specs.Agreeing.{AgreeWith}
-use Rattle.object_pool.specs.Upcoming.{Agenda, KeepsPlaces, AllBefore, note_number, finished, requested, timed_under, with_request}
+use Rattle.object_pool.specs.Upcoming.{Agenda, KeepsPlaces, AllBefore, key_number, finished, requested, timed_under, with_request}
 use Rattle.object_pool.specs.declared.pool.ObjectPool.TheInside.{Inside}
 use Rattle.object_pool.proofs.Fewer.{times-fewer}
-use Rattle.object_pool.proofs.Given.{given-later, notes-changed, notes-put, times-armed, times-gone}
+use Rattle.object_pool.proofs.Given.{given-later, notes-changed, kept-put, times-armed, times-gone}
 use Rattle.object_pool.proofs.Keeping.{becomes, never, refs-with, spent, waits}
 
 -- what is kept of requests is this now, and all of it is of numbers that were given
-pub notes-agree : (b : Inside) (e : Agenda) (notes : Notes) → e.upcoming ≡ record b.events.upcoming { requests = notes } → AllBefore note_number b.tree.next notes → KeepsPlaces b.events e → AgreeWith b → AgreeWith (record b { events = e })
+pub notes-agree : (b : Inside) (e : Agenda) (notes : Notes) → e.upcoming ≡ record b.events.upcoming { requests = notes } → AllBefore key_number b.tree.next notes → KeepsPlaces b.events e → AgreeWith b → AgreeWith (record b { events = e })
 notes-agree b e notes is given k a =
-    becomes b e (record b.events.upcoming { requests = notes }) is k (omega arith) (record { times = a.given.times; ring = a.given.ring; requests = given }) a
+    becomes b e (record b.events.upcoming { requests = notes }) is k (omega arith) (record { times = a.given.times; ring = a.given.ring; requests = given; queues = a.given.queues; entries = a.given.entries }) a
 
 -- what is kept of a request is changed
 pub renoted-agree : (b : Inside) (e : Agenda) (change : Note → Note) (x : Obj) → e.upcoming ≡ with_request change x b.events.upcoming → KeepsPlaces b.events e → AgreeWith b → AgreeWith (record b { events = e })
@@ -51,7 +51,7 @@ finished-agree b e x state is k a =
     let u = b.events.upcoming in
     let n = times-fewer u x in
     becomes b e (finished x state u) is k (omega (arith, n))
-    (record { times = times-gone b.tree.next u.times x a.given.times; ring = a.given.ring; requests = notes-changed b.tree.next (in_state state) u.requests x a.given.requests }) a
+    (record { times = times-gone b.tree.next u.times x a.given.times; ring = a.given.ring; requests = notes-changed b.tree.next (in_state state) u.requests x a.given.requests; queues = a.given.queues; entries = a.given.entries }) a
 
 -- ---- a new request
 
@@ -72,7 +72,7 @@ module _ (b : Inside) (t t' : Links) (ls' : Limits) (e : Agenda) (x y : Obj) (ow
       let later = given-later b.tree.next t'.next b.events.upcoming (omega (arith, next, next')) a.given in
       waits (record b { tree = t'; sums = ls'; places = false; ready = false }) e
       (rw comes
-      (record { times = later.times; ring = later.ring; requests = notes-put t'.next b.events.upcoming.requests x (new_note y) (omega (arith, number, next, next')) later.requests }))
+      (record { times = later.times; ring = later.ring; requests = kept-put t'.next b.events.upcoming.requests x.0 (new_note y) (omega (arith, number, next, next')) later.requests; queues = later.queues; entries = later.entries }))
       (spent b t' b.refs ls' false never ready (omega (arith, next, next')) (omega (arith, more, more')) (works' ∙ works)
       (refs-with b.refs t t' y Plain (Of x) size name refl serial' fresh' is' (refs-with b.refs b.tree t x Request owner 0 word refl serial fresh is a.references)) limits a)
 
@@ -94,5 +94,5 @@ timed-agree b t' e x time ready is works comes a =
     let times = b.events.upcoming.times in
     let later = given-later b.tree.next t'.next b.events.upcoming (omega (arith, next)) a.given in
     waits (record b { tree = t'; places = false; ready = false }) e
-    (rw comes (record { times = times-armed t'.next times x time b.tree.next (omega (arith, next)) later.times; ring = later.ring; requests = later.requests }))
+    (rw comes (record { times = times-armed t'.next times x time b.tree.next (omega (arith, next)) later.times; ring = later.ring; requests = later.requests; queues = later.queues; entries = later.entries }))
     (spent b t' b.refs b.sums false never ready (omega (arith, next)) (omega (arith, many)) works (subst (AreRefsOf b.refs.pairs) (sym rows) a.references) (subst (AreLimitsOf b.sums.limited) (sym rows) a.limits) a)

@@ -3,3 +3,4 @@ pub mod Upcoming
 pub mod Objects
 pub mod Agreeing
 pub mod Requests
+pub mod Queueing

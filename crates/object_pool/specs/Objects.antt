@@ -9,8 +9,8 @@ use Rattle.tree_links.specs.Links.{Links, pool_of, MayPlace}
 use Rattle.references.specs.Pairs.{Pairs}
 use Rattle.memory_limits.specs.Limits.{Limits}
 use Rattle.destructors.specs.Frees.{OpenFrees, before}
-use Rattle.destructors.specs.Engine.{IsReceiving}
-use Rattle.object_pool.specs.Upcoming.{Upcoming, Agenda, HasPlace, beside, pending}
+use Rattle.destructors.specs.Engine.{IsPreparing}
+use Rattle.object_pool.specs.Upcoming.{Upcoming, Agenda, HasPlace, beside, pending_most}
 
 pub record Objects : Type 0 where
   pub pool : Pool
@@ -27,9 +27,9 @@ LeavesRest old new = new ≡ record old { pool = new.pool; works = new.works; re
 abbrev pub frees_in : Objects → OpenFrees
 frees_in o = record { works = o.works; pool = o.pool }
 
--- the memory for a call is taken, or the innermost free waits until its request was received
+-- the memory for a call is taken, or the innermost free waits until its request was received, or its queue has no entries
 abbrev pub MayBeginFree : Objects → Type 0
-MayBeginFree o = (o.ready ≡ true) ⊎ IsReceiving (slice_get o.works 0)
+MayBeginFree o = (o.ready ≡ true) ⊎ IsPreparing (slice_get o.works 0)
 
 -- by the parts
 abbrev pub objects_of : Option FreeFrame → Links → Upcoming → Bool → Objects
@@ -41,12 +41,12 @@ pub record HasCallRoom (tree : Links) : Type 0 where
   pub works : length tree.rows + 4 ≤ tree.room
 
 -- the memory for one more reference, one more limit, one more object that waits, and one more descriptor; and those that wait
--- can be counted
+-- can be counted, and those that may wait after them
 pub record HasPlaces (refs : Pairs) (sums : Limits) (agenda : Agenda) : Type 0 where
   pub reference : 0 < refs.spare
   pub limit : 0 < sums.spare
   pub event : HasPlace agenda
-  pub waiting : pending agenda.upcoming < 2 ^ 64
+  pub waiting : pending_most agenda.upcoming < 2 ^ 64
 
 -- a reference may be put below any owner: it owns nothing, and nothing goes on with it
 abbrev pub RefsMayGo : List Row → Type 0

@@ -1,5 +1,5 @@
 -- What is to come beside the objects, and what a free or a turn leaves of it.
-use Rattle.std.specs.Prelude.{ℕ, ◌+◌, ◌≤◌, ◌<◌, List, [], ◌∷◌, length, Option, Some, None}
+use Rattle.std.specs.Prelude.{ℕ, ◌≡◌, ◌+◌, ◌≤◌, ◌<◌, true, false, List, [], ◌∷◌, length, Option, Some, None, if◌then◌else◌}
 use Rattle.tree_specs.specs.declared.due.Due.{Due}
 use Rattle.tree_specs.specs.declared.handler.Handler.{Handler}
 use Rattle.tree_specs.specs.declared.moment.What.{What}
@@ -14,8 +14,9 @@ use Rattle.tree_specs.specs.Events.Rotation.{watched, unwatched, rewatched, clos
 use Rattle.tree_specs.specs.Events.Descriptors.{Descriptors, listener_alone, opened, closed, shut}
 use Rattle.tree_specs.specs.Events.Handlers.{Handlers, no_handlers, with_handler, without_handler}
 use Rattle.tree_specs.specs.Events.Requests.{Notes, no_notes, without_note, with_note, new_note, renoted, in_state}
+use Rattle.tree_specs.specs.Events.Queues.{Queues, no_queues, runs, has_entries, with_queue, run_as, without_queue, entry_of, with_entry, without_entry, new_entry}
 use Rattle.tree_specs.specs.Events.Coming.{begun}
-use Rattle.tree_specs.specs.Tree.Pool.{Pool, unschedule, disarm}
+use Rattle.tree_specs.specs.Tree.Pool.{Pool, unschedule, disarm, looked_at, looked_after}
 use Rattle.loop_core.specs.declared.pick.Pick.{Pick}
 use Rattle.loop_core.specs.declared.pick.Pick.TheVariants.{Soon, Time}
 use Rattle.destructors.specs.Frees.{OpenFrees}
@@ -33,13 +34,15 @@ pub record Upcoming : Type 0 where
   pub handlers : Handlers
   -- what is kept of the requests
   pub requests : Notes
+  -- what is kept of queues, and of the entries in them
+  pub queues : Queues
 
 abbrev pub nothing_comes : Upcoming
-nothing_comes = record { soon = []; times = []; ring = []; descriptors = listener_alone; handlers = no_handlers; requests = no_notes }
+nothing_comes = record { soon = []; times = []; ring = []; descriptors = listener_alone; handlers = no_handlers; requests = no_notes; queues = no_queues }
 
 -- the same objects, with this to come
 abbrev pub beside : Upcoming → Pool → Pool
-beside u p = record p { soon = u.soon; times = u.times; ring = u.ring; descriptors = u.descriptors; handlers = u.handlers; requests = u.requests }
+beside u p = record p { soon = u.soon; times = u.times; ring = u.ring; descriptors = u.descriptors; handlers = u.handlers; requests = u.requests; queues = u.queues }
 
 abbrev pub frees_beside : Upcoming → OpenFrees → OpenFrees
 frees_beside u s = record s { pool = beside u s.pool }
@@ -47,6 +50,10 @@ frees_beside u s = record s { pool = beside u s.pool }
 -- how many wait for their turn
 abbrev pub pending : Upcoming → ℕ
 pending u = length u.soon + length u.times + length u.ring
+
+-- how many may wait before the next question: an entry may leave its queue, which comes soon then
+abbrev pub pending_most : Upcoming → ℕ
+pending_most u = pending u + length u.queues.entries
 
 -- ---- what is to come, and how many more may come without taking memory
 
@@ -58,39 +65,57 @@ pub record Agenda : Type 0 where
   pub descriptors_spare : ℕ
   pub handlers_spare : ℕ
   pub requests_spare : ℕ
+  pub queues_spare : ℕ
 
--- one more may come
+-- One more may come. Besides, each entry has a place among what comes soon, and so will one more entry: the queue that an entry
+-- leaves may come soon.
 pub record HasPlace (a : Agenda) : Type 0 where
-  pub soon : 0 < a.soon_spare
+  pub soon : length a.upcoming.queues.entries + 1 < a.soon_spare
   pub time : 0 < a.times_spare
   pub watch : 0 < a.ring_spare
   pub descriptor : 0 < a.descriptors_spare
   pub handler : 0 < a.handlers_spare
   pub request : 0 < a.requests_spare
+  pub queue : 0 < a.queues_spare
 
--- no fewer more may come
+-- no fewer more may come, besides the places of the entries
 pub record KeepsPlaces (old new : Agenda) : Type 0 where
-  pub soon : old.soon_spare ≤ new.soon_spare
+  pub soon : old.soon_spare + length new.upcoming.queues.entries ≤ new.soon_spare + length old.upcoming.queues.entries
   pub times : old.times_spare ≤ new.times_spare
   pub ring : old.ring_spare ≤ new.ring_spare
   pub descriptors : old.descriptors_spare ≤ new.descriptors_spare
   pub handlers : old.handlers_spare ≤ new.handlers_spare
   pub requests : old.requests_spare ≤ new.requests_spare
+  pub queues : old.queues_spare ≤ new.queues_spare
 
 -- ---- what is told, and what it leaves
 
 -- an object waits no more; a descriptor that is to be closed with it is closed
-abbrev pub without_event : Obj → Upcoming → Upcoming
-without_event x u = record u {
+abbrev pub stilled : Obj → Upcoming → Upcoming
+stilled x u = record u {
   soon = unscheduled u.soon x;
   times = disarmed u.times x;
   ring = unwatched u.ring x;
   descriptors = shut u.descriptors (closes_with u.ring x);
 }
 
+-- an entry leaves its queue, which comes soon where it runs and its first entry then waits for its trigger
+abbrev pub out_of_queue : Obj → Upcoming → Upcoming
+out_of_queue x u = record u { soon = looked_after (without_entry u.queues x) (entry_of u.queues x) u.soon; queues = without_entry u.queues x }
+
+-- an object waits no more, and stands in no queue
+abbrev pub without_event : Obj → Upcoming → Upcoming
+without_event x u = out_of_queue x (stilled x u)
+
 -- nothing is kept of an object
 abbrev pub forgotten : Obj → Upcoming → Upcoming
-forgotten x u = record u { handlers = without_handler u.handlers x; requests = without_note u.requests x }
+forgotten x u = record u { handlers = without_handler u.handlers x; requests = without_note u.requests x; queues = without_queue u.queues x }
+
+-- what is no more is no queue that has entries
+abbrev pub MayForget : Option FreeStep → Queues → Type 0
+MayForget (Some (Gone x h)) qs = has_entries qs x ≡ false
+MayForget (Some (Dropped r target)) qs = has_entries qs r ≡ false
+MayForget told qs = Unit {0}
 
 -- an object that leaves its owner, or is to go once its handler is over, waits no more, and nothing is kept of what is no more
 abbrev pub after : Option FreeStep → Upcoming → Upcoming
@@ -147,6 +172,22 @@ timed_under x time number u = record u { times = armed u.times x time number }
 abbrev pub finished : Obj → State → Upcoming → Upcoming
 finished x state u = record u { times = disarmed u.times x; requests = renoted (in_state state) u.requests x }
 
+-- a new queue, which runs
+abbrev pub queued : Obj → Upcoming → Upcoming
+queued q u = record u { queues = with_queue u.queues q true }
+
+-- a new entry of a queue, for a request; the queue comes soon where it runs and its first entry waits for its trigger
+abbrev pub entered : Obj → Obj → Obj → Handler → Upcoming → Upcoming
+entered q e x trigger u = record u { queues = with_entry u.queues e (new_entry q x trigger); soon = looked_at (with_entry u.queues e (new_entry q x trigger)) q u.soon }
+
+-- a queue that didn't run does, and comes soon where its first entry waits for its trigger
+abbrev pub running : Obj → Upcoming → Upcoming
+running q u = if runs u.queues q then u else record u { queues = run_as u.queues q true; soon = looked_at (run_as u.queues q true) q u.soon }
+
+-- what is kept of queues is this
+abbrev pub with_queues : Queues → Upcoming → Upcoming
+with_queues qs u = record u { queues = qs }
+
 -- what was picked in a turn waits no more
 abbrev pub picked : Pick → Upcoming → Upcoming
 picked (Soon x) u = record u { soon = unscheduled u.soon x }
@@ -176,11 +217,15 @@ due_number d = d.number
 abbrev pub watcher_number : Watch → ℕ
 watcher_number w = w.object.0
 
-abbrev pub note_number : ℕ × Note → ℕ
-note_number n = n.0
+-- what is kept under a number has this
+abbrev pub key_number : {V : Type 0} → ℕ × V → ℕ
+key_number e = e.0
 
--- the numbers that tell equal times apart, those of the events that watch, and those of the requests were all given before this one
+-- the numbers that tell equal times apart, those of the events that watch, and those of requests, queues and entries were all given
+-- before this one
 pub record AreGiven (next : ℕ) (u : Upcoming) : Type 0 where
   pub times : AllBefore due_number next u.times
   pub ring : AllBefore watcher_number next u.ring
-  pub requests : AllBefore note_number next u.requests
+  pub requests : AllBefore key_number next u.requests
+  pub queues : AllBefore key_number next u.queues.running
+  pub entries : AllBefore key_number next u.queues.entries

@@ -3,9 +3,11 @@ ghost use Rattle.std.specs.Prelude.{◌≡◌, ◌+◌, ◌<◌, false, IfSome};
 ghost use Rattle.std.specs.FinMap as map;
 
 mod noting;
+mod queueing;
 
 use loop_core::{Loop, Pick};
 use pool_arena::Arena;
+use request_queue::Queues;
 use requests::Requests;
 use std::alloc::Global;
 use std::marker::Model;
@@ -22,15 +24,20 @@ pub struct Events {
     /// The descriptors that are open, each under its number.
     descriptors: Arena<()>,
     requests: Requests,
+    queues: Queues,
 }
 
 impl Model for Events {
+    ghost use Rattle.std.specs.Prelude.{◌≤◌, length};
     ghost use Rattle.std.specs.FinMap.{entries};
     ghost use Rattle.object_pool.specs.Upcoming.{Agenda};
 
     ghost Value = { Agenda };
 
-    ghost view = { λ e. record { upcoming = record { soon = e.order.soon.objects; times = e.order.times.dues; ring = e.order.ring.watches; descriptors = entries e.descriptors.pairs; handlers = entries e.handlers.pairs; requests = e.requests.notes }; soon_spare = e.order.soon.spare; times_spare = e.order.times.spare; ring_spare = e.order.ring.spare; descriptors_spare = e.descriptors.spare; handlers_spare = e.handlers.spare; requests_spare = e.requests.spare } };
+    ghost view = { λ e. record { upcoming = record { soon = e.order.soon.objects; times = e.order.times.dues; ring = e.order.ring.watches; descriptors = entries e.descriptors.pairs; handlers = entries e.handlers.pairs; requests = e.requests.notes; queues = e.queues.queues }; soon_spare = e.order.soon.spare; times_spare = e.order.times.spare; ring_spare = e.order.ring.spare; descriptors_spare = e.descriptors.spare; handlers_spare = e.handlers.spare; requests_spare = e.requests.spare; queues_spare = e.queues.spare } };
+
+    // Each entry has a place among what comes soon: the queue that it leaves may come.
+    ghost invariant = { λ e. length e.queues.queues.entries ≤ e.order.soon.spare };
 }
 
 /// This is kept under a number, in place of what was kept there.
@@ -45,10 +52,12 @@ fn put<T: Copy>(kept: &mut Arena<T>, number: u64, value: T)
 }
 
 /// How many these are together, where as many can be counted.
-fn count(soon: usize, times: usize, ring: usize) -> Option<usize>
-    ensures { IfSome result (λ n. n ≡ soon + times + ring) }
+fn count(soon: usize, times: usize, ring: usize, entries: usize) -> Option<usize>
+    ensures { IfSome result (λ n. n ≡ soon + times + ring + entries) }
 {
-    soon.checked_add(times)?.checked_add(ring)
+    soon.checked_add(times)?
+        .checked_add(ring)?
+        .checked_add(entries)
 }
 
 #[tactic(auto, using(pool_arena::proofs::NumberMaps::none_listed, pool_arena::proofs::NumberMaps::put_listed, pool_arena::proofs::NumberMaps::removed_listed, pool_arena::proofs::NumberMaps::found_listed))]
@@ -59,7 +68,8 @@ impl Events {
     ghost use Rattle.tree_specs.specs.Events.Rotation.{is_watching, is_watched, flags_of, flagged, closing, turned_back, closes_with, wanted_of};
     ghost use Rattle.tree_specs.specs.Events.Descriptors.{is_open_in};
     ghost use Rattle.loop_core.specs.Picks.{begin_pick, clock_pick, ready_pick};
-    ghost use Rattle.object_pool.specs.Upcoming.{nothing_comes, pending, HasPlace, KeepsPlaces, after, closed_of, picked, soon_with, timed_with, watching_with, with_watch, with_open, with_closed, without_event, forgotten};
+    ghost use Rattle.object_pool.specs.Upcoming.{nothing_comes, pending, pending_most, HasPlace, KeepsPlaces, after, closed_of, picked, soon_with, timed_with, watching_with, with_watch, with_open, with_closed, without_event, stilled, forgotten, MayForget};
+    ghost use Rattle.tree_specs.specs.Events.Queues.{has_entries};
     ghost use Rattle.std.specs.Prelude.{Some};
     ghost use Rattle.tree_specs.specs.Events.Pending.{unscheduled};
 
@@ -75,25 +85,29 @@ impl Events {
             handlers: Arena::new(alloc),
             descriptors,
             requests: Requests::new(alloc),
+            queues: Queues::new(alloc),
         })
     }
 
-    /// Takes the memory for one more that is to come, one more descriptor and one more request, where as many can be counted. If memory runs
-    /// out, all is as it was.
+    /// Takes the memory for one more that is to come, one more descriptor, one more request, one more queue and one more entry,
+    /// where as many can be counted. If memory runs out, all is as it was.
     pub fn reserve(&mut self) -> Result<(), Memory>
         ensures upcoming { self.new.upcoming ≡ self.old.upcoming }
         ensures kept { KeepsPlaces self.old self.new }
         ensures place { OnOk result (HasPlace self.new) }
-        ensures counted { OnOk result (pending self.new.upcoming < 2 ^ 64) }
+        ensures counted { OnOk result (pending_most self.new.upcoming < 2 ^ 64) }
     {
         let Loop { soon, times, ring } = &mut self.order;
-        count(soon.len(), times.len(), ring.len()).ok_or(Memory)?;
-        soon.reserve(1)?;
+        let entries = self.queues.len();
+        count(soon.len(), times.len(), ring.len(), entries).ok_or(Memory)?;
+        // The queue that an entry leaves may come soon: each entry has a place there, and so will the next one.
+        soon.reserve(entries.checked_add(2).ok_or(Memory)?)?;
         times.reserve(1)?;
         ring.reserve(1)?;
         self.handlers.reserve(1)?;
         self.descriptors.reserve(1)?;
-        self.requests.reserve(1)
+        self.requests.reserve(1)?;
+        self.queues.reserve(1)
     }
 
     /// An event is to come soon, after all others, and this handler is to run then. One that waits already goes to the end.
@@ -215,7 +229,7 @@ impl Events {
     /// An object waits no more. Gives the descriptor that was closed with it, where one was.
     fn disarm(&mut self, x: Obj) -> Option<u32>
         ensures closed { result ≡ closes_with self.old.upcoming.ring x }
-        ensures upcoming { self.new.upcoming ≡ without_event x self.old.upcoming }
+        ensures upcoming { self.new.upcoming ≡ stilled x self.old.upcoming }
         ensures kept { KeepsPlaces self.old self.new }
     {
         let closed = self.closes_with(x);
@@ -228,24 +242,38 @@ impl Events {
         closed
     }
 
+    /// An object waits no more, and an entry leaves its queue. Gives the descriptor that was closed with it, where one was.
+    fn let_go(&mut self, x: Obj) -> Option<u32>
+        ensures closed { result ≡ closes_with self.old.upcoming.ring x }
+        ensures upcoming { self.new.upcoming ≡ without_event x self.old.upcoming }
+        ensures kept { KeepsPlaces self.old self.new }
+    {
+        let closed = self.disarm(x);
+        self.remove_entry(x);
+        closed
+    }
+
     /// Nothing is kept of an object any more.
     fn forget(&mut self, x: Obj)
+        requires { has_entries self.old.upcoming.queues x ≡ false }
         ensures upcoming { self.new.upcoming ≡ forgotten x self.old.upcoming }
         ensures kept { KeepsPlaces self.old self.new }
     {
         self.handlers.take(x.0);
         self.requests.forget(x);
+        self.queues.forget_queue(x);
     }
 
     /// A step of a free was made: an object that has left its owner, or is to go once its handler is over, waits no more,
     /// and nothing is kept of what is no more. Gives the descriptor that was closed, where one was.
     pub fn follow(&mut self, step: FreeStep) -> Option<u32>
+        requires { MayForget (Some step) self.old.upcoming.queues }
         ensures closed { result ≡ closed_of self.old.upcoming.ring step }
         ensures upcoming { self.new.upcoming ≡ after (Some step) self.old.upcoming }
         ensures kept { KeepsPlaces self.old self.new }
     {
         match step {
-            FreeStep::Left { object, .. } | FreeStep::Doom(object) => return self.disarm(object),
+            FreeStep::Left { object, .. } | FreeStep::Doom(object) => return self.let_go(object),
             FreeStep::Gone { object, .. } => self.forget(object),
             FreeStep::Dropped { reference, .. } => self.forget(reference),
             _ => {}

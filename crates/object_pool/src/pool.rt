@@ -10,6 +10,7 @@ use tree_report::{count, rows, total};
 use tree_specs::{Kind, Memory, Name, Obj, Owner, Refusal, ReportRows, Row};
 
 mod freeing;
+mod queueing;
 mod requesting;
 mod turning;
 mod waiting;
@@ -28,8 +29,8 @@ pub struct ObjectPool {
     refs: Refs,
     sums: Sums,
     events: Events,
-    /// The memory for one more reference, one more limit, one more event that is to come, one more descriptor and one more
-    /// request is taken.
+    /// The memory for one more reference, one more limit, one more event that is to come, one more descriptor, one more
+    /// request, one more queue and one more entry is taken.
     places: bool,
     /// The memory for one call is taken.
     ready: bool,

@@ -1,7 +1,7 @@
 -- A verb is found by its word, and its fields are read one after the other: this is the call that the grammar gives.
 use Rattle.std.proofs.Common.{◌≡◌, ℕ, List, [], ◌∷◌, ◌++◌, bytes_eq, Option, Some, None, Err, refl, ap, ◌∙◌}
 use Rattle.tree_specs.specs.declared.call.Call.{Call}
-use Rattle.tree_specs.specs.Calls.Spelling.{Reading, Form, tree_forms, event_forms, descriptor_forms, request_forms, loop_forms, forms}
+use Rattle.tree_specs.specs.Calls.Spelling.{Reading, Form, tree_forms, event_forms, descriptor_forms, request_forms, queue_forms, loop_forms, forms}
 use Rattle.tree_specs.specs.Texts.Grammar.{◌>>=◌, taken, ended, read, form_in, call_of_words, call_of, words}
 use Rattle.tree_specs.proofs.Tree.Numbered.{by_test}
 use Rattle.text_forms.specs.declared.verb.Verb.{Verb}
@@ -46,12 +46,13 @@ module _ (word : List ℕ) where
       (λ t. let bad : Some f.reading ≡ None = rw t at e in cc)
       (λ t. let e' : form_in fs word ≡ None = rw t at e in rw t (both-none fs gs e' k))
 
-  pub of_no_kind : form_in tree_forms word ≡ None → (form_in event_forms word ≡ None) × (form_in loop_forms word ≡ None) → form_in descriptor_forms word ≡ None → form_in request_forms word ≡ None → form_in forms word ≡ None
-  of_no_kind tree event descriptor request =
-      both-none tree_forms (event_forms ++ descriptor_forms ++ request_forms ++ loop_forms) tree
-      (both-none event_forms (descriptor_forms ++ request_forms ++ loop_forms) event.0
-      (both-none descriptor_forms (request_forms ++ loop_forms) descriptor
-      (both-none request_forms loop_forms request event.1)))
+  pub of_no_kind : form_in tree_forms word ≡ None → (form_in event_forms word ≡ None) × (form_in loop_forms word ≡ None) → form_in descriptor_forms word ≡ None → form_in request_forms word ≡ None → form_in queue_forms word ≡ None → form_in forms word ≡ None
+  of_no_kind tree event descriptor request queue =
+      both-none tree_forms (event_forms ++ descriptor_forms ++ request_forms ++ queue_forms ++ loop_forms) tree
+      (both-none event_forms (descriptor_forms ++ request_forms ++ queue_forms ++ loop_forms) event.0
+      (both-none descriptor_forms (request_forms ++ queue_forms ++ loop_forms) descriptor
+      (both-none request_forms (queue_forms ++ loop_forms) request
+      (both-none queue_forms loop_forms queue event.1))))
 
 pub no-some : {A : Type 0} (o : Option A) → ((x : A) → o ≡ Some x → ⊥) → o ≡ None
 no-some None none = refl

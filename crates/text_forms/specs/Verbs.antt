@@ -1,7 +1,7 @@
 -- Calls by their verbs, as a reader goes through their words.
 use Rattle.std.specs.Prelude.{ℕ, ◌≡◌, List, Option, Some, None, codes}
 use Rattle.tree_specs.specs.declared.call.Call.{Call}
-use Rattle.tree_specs.specs.Calls.Spelling.{tree_forms, event_forms, descriptor_forms, request_forms, loop_forms, forms}
+use Rattle.tree_specs.specs.Calls.Spelling.{tree_forms, event_forms, descriptor_forms, request_forms, queue_forms, loop_forms, forms}
 use Rattle.tree_specs.specs.Texts.Grammar.{◌>>=◌, form_in, taken}
 use Rattle.text_forms.specs.declared.verb.TreeVerb.{TreeVerb}
 use Rattle.text_forms.specs.declared.verb.TreeVerb.TheVariants.{New, Free, Freekids, Steal, Move, Reparent, Reference, Unlink, Hook, Unhook, Rename, Resize, Limit, Parent, Total, Count, Sum, Report}
@@ -11,8 +11,10 @@ use Rattle.text_forms.specs.declared.verb.DescriptorVerb.{DescriptorVerb}
 use Rattle.text_forms.specs.declared.verb.DescriptorVerb.TheVariants.{Close, Accept, Read, Write}
 use Rattle.text_forms.specs.declared.verb.RequestVerb.{RequestVerb}
 use Rattle.text_forms.specs.declared.verb.RequestVerb.TheVariants.{Req, Callback, Defer, Cleanup, Setcancel, Cancel, Post, Done, Error, Oom, Iserror, Progress, Endtime, Received}
+use Rattle.text_forms.specs.declared.verb.QueueVerb.{QueueVerb}
+use Rattle.text_forms.specs.declared.verb.QueueVerb.TheVariants.{Queue as NewQueue, Enqueue, Start, Stop, Length, Running}
 use Rattle.text_forms.specs.declared.verb.Verb.{Verb}
-use Rattle.text_forms.specs.declared.verb.Verb.TheVariants.{Tree, Event, Descriptor, Request}
+use Rattle.text_forms.specs.declared.verb.Verb.TheVariants.{Tree, Event, Descriptor, Request, Queue}
 
 abbrev pub tree_word : TreeVerb → List ℕ
 tree_word New = codes "new"
@@ -69,11 +71,20 @@ request_word Progress = codes "progress"
 request_word Endtime = codes "endtime"
 request_word Received = codes "received"
 
+abbrev pub queue_word : QueueVerb → List ℕ
+queue_word NewQueue = codes "queue"
+queue_word Enqueue = codes "enqueue"
+queue_word Start = codes "start"
+queue_word Stop = codes "stop"
+queue_word Length = codes "length"
+queue_word Running = codes "running"
+
 abbrev pub word_of : Verb → List ℕ
 word_of (Tree verb) = tree_word verb
 word_of (Event verb) = event_word verb
 word_of (Descriptor verb) = descriptor_word verb
 word_of (Request verb) = request_word verb
+word_of (Queue verb) = queue_word verb
 
 -- a word is this verb, or the verb of no form
 abbrev pub IsVerb : Option Verb → List ℕ → Type 0
@@ -96,6 +107,10 @@ IsDescriptorVerb (Some verb) word = word ≡ descriptor_word verb
 abbrev pub IsRequestVerb : Option RequestVerb → List ℕ → Type 0
 IsRequestVerb None word = form_in request_forms word ≡ None
 IsRequestVerb (Some verb) word = word ≡ request_word verb
+
+abbrev pub IsQueueVerb : Option QueueVerb → List ℕ → Type 0
+IsQueueVerb None word = form_in queue_forms word ≡ None
+IsQueueVerb (Some verb) word = word ≡ queue_word verb
 
 -- the call of this verb whose fields the words begin with, and the words that it leaves
 unfoldable pub fields_read : Verb → List (List ℕ) → Option (Call × List (List ℕ))

@@ -9,7 +9,8 @@ ghost use Rattle.text_forms.specs.Reads.{Reads};
 use crate::field::Fields;
 use crate::form::FormFault;
 use crate::split::split_word;
-use crate::verb::{read_fields, read_verb};
+use crate::verb::read_verb;
+use crate::verb_fields::read_fields;
 use std::alloc::Global;
 use tree_specs::Call;
 

@@ -107,6 +107,20 @@ fn write_text(call: &Call, out: &mut Vec<u8>) -> Result<(), Memory>
         Call::Progress { x } => write_fields(b"progress", &[x.0], out),
         Call::Endtime { x, time } => write_fields(b"endtime", &[x.0, *time], out),
         Call::Received { x } => write_fields(b"received", &[x.0], out),
+        Call::Queue { owner, name } => write_named(b"queue", &[owner.number()], name, out),
+        Call::Enqueue {
+            queue,
+            x,
+            routine,
+            user,
+        } => {
+            let numbers = [queue.0, x.0, u64::from(*routine), *user];
+            write_fields(b"enqueue", &numbers, out)
+        }
+        Call::Start { queue } => write_fields(b"start", &[queue.0], out),
+        Call::Stop { queue } => write_fields(b"stop", &[queue.0], out),
+        Call::Length { queue } => write_fields(b"length", &[queue.0], out),
+        Call::Running { queue } => write_fields(b"running", &[queue.0], out),
         Call::Pending => write_fields(b"pending", &[], out),
         Call::Now => write_fields(b"now", &[], out),
         Call::Turn => write_fields(b"turn", &[], out),

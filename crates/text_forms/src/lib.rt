@@ -17,6 +17,7 @@ mod split;
 #[cfg(test)]
 mod tests;
 mod verb;
+mod verb_fields;
 
 pub use call_reader::read_call;
 pub use call_writer::{the_bytes_of_a_call_are_bytes, write_call};

@@ -9,6 +9,7 @@ use std::test::Fail;
 use tree_specs::{Call, Name, Owner, ReportRow, RowKind};
 
 mod descriptors;
+mod queues;
 mod requests;
 
 // The call is written as these bytes.

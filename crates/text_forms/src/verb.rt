@@ -1,13 +1,6 @@
-//! The verbs of calls: each by its word, and with its fields.
+//! The verbs of calls, each by its word.
 
-ghost use Rattle.text_forms.specs.declared.verb.Verb.TheVariants as verbs;
-ghost use Rattle.text_forms.specs.Cursor.{Takes};
-ghost use Rattle.text_forms.specs.Verbs.{IsTreeVerb, IsEventVerb, IsDescriptorVerb, IsRequestVerb, IsVerb, fields_read};
-
-use crate::field::{Fields, object_and_number, object_and_routine, owner_and_object};
-use crate::form::FormFault;
-use std::alloc::Global;
-use tree_specs::Call;
+ghost use Rattle.text_forms.specs.Verbs.{IsTreeVerb, IsEventVerb, IsDescriptorVerb, IsRequestVerb, IsQueueVerb, IsVerb};
 
 // What a call on the tree asks for.
 #[derive(Clone, Copy)]
@@ -76,6 +69,17 @@ pub(crate) enum RequestVerb {
     Received,
 }
 
+// What a call on queues asks for.
+#[derive(Clone, Copy)]
+pub(crate) enum QueueVerb {
+    Queue,
+    Enqueue,
+    Start,
+    Stop,
+    Length,
+    Running,
+}
+
 // What a call asks for: its first word.
 #[derive(Clone, Copy)]
 pub(crate) enum Verb {
@@ -83,6 +87,7 @@ pub(crate) enum Verb {
     Event(EventVerb),
     Descriptor(DescriptorVerb),
     Request(RequestVerb),
+    Queue(QueueVerb),
 }
 
 // The verb of a call on the tree that this word is.
@@ -172,6 +177,22 @@ fn request_verb(word: &[u8]) -> Option<RequestVerb>
     Some(verb)
 }
 
+// The verb of a call on a queue that this word is.
+fn queue_verb(word: &[u8]) -> Option<QueueVerb>
+    ensures { IsQueueVerb result word.now }
+{
+    let verb = match word {
+        b"queue" => QueueVerb::Queue,
+        b"enqueue" => QueueVerb::Enqueue,
+        b"start" => QueueVerb::Start,
+        b"stop" => QueueVerb::Stop,
+        b"length" => QueueVerb::Length,
+        b"running" => QueueVerb::Running,
+        _ => return None,
+    };
+    Some(verb)
+}
+
 // The verb that this word is.
 pub(crate) fn read_verb(word: &[u8]) -> Option<Verb>
     ensures { IsVerb result word.now }
@@ -185,169 +206,11 @@ pub(crate) fn read_verb(word: &[u8]) -> Option<Verb>
     if let Some(verb) = descriptor_verb(word) {
         return Some(Verb::Descriptor(verb));
     }
-    match request_verb(word) {
-        Some(verb) => Some(Verb::Request(verb)),
+    if let Some(verb) = request_verb(word) {
+        return Some(Verb::Request(verb));
+    }
+    match queue_verb(word) {
+        Some(verb) => Some(Verb::Queue(verb)),
         None => None,
-    }
-}
-
-// The call on the tree of this verb, whose fields come next.
-#[tactic(auto, unfolding(crate::specs::Verbs::fields_read))]
-fn read_tree_fields(alloc: Global, verb: TreeVerb, fields: &mut Fields) -> Result<Call, FormFault>
-    ensures { Takes result (fields_read (verbs.Tree verb) fields.old) fields.new }
-{
-    match verb {
-        TreeVerb::New => Ok(Call::New {
-            owner: fields.owner()?,
-            size: fields.number()?,
-            name: fields.name(alloc)?,
-        }),
-        TreeVerb::Free => fields.object().map(|x| Call::Free { x }),
-        TreeVerb::Freekids => fields.object().map(|x| Call::Freekids { x }),
-        TreeVerb::Steal => owner_and_object(fields).map(|(owner, x)| Call::Steal { owner, x }),
-        TreeVerb::Move => owner_and_object(fields).map(|(owner, x)| Call::Move { owner, x }),
-        TreeVerb::Reparent => Ok(Call::Reparent {
-            from: fields.owner()?,
-            to: fields.owner()?,
-            x: fields.object()?,
-        }),
-        TreeVerb::Reference => owner_and_object(fields).map(|(owner, x)| Call::Reference {
-            owner,
-            x,
-        }),
-        TreeVerb::Unlink => owner_and_object(fields).map(|(owner, x)| Call::Unlink { owner, x }),
-        TreeVerb::Hook => Ok(Call::Hook {
-            x: fields.object()?,
-            routine: fields.routine()?,
-        }),
-        TreeVerb::Unhook => fields.object().map(|x| Call::Unhook { x }),
-        TreeVerb::Rename => Ok(Call::Rename {
-            x: fields.object()?,
-            name: fields.name(alloc)?,
-        }),
-        TreeVerb::Resize => object_and_number(fields).map(|(x, size)| Call::Resize { x, size }),
-        TreeVerb::Limit => object_and_number(fields).map(|(x, max)| Call::Limit { x, max }),
-        TreeVerb::Parent => fields.object().map(|x| Call::Parent { x }),
-        TreeVerb::Total => fields.owner().map(|owner| Call::Total { owner }),
-        TreeVerb::Count => fields.owner().map(|owner| Call::Count { owner }),
-        TreeVerb::Sum => fields.owner().map(|owner| Call::Sum { owner }),
-        TreeVerb::Report => fields.owner().map(|owner| Call::Report { owner }),
-    }
-}
-
-// The call on events of this verb, whose fields come next.
-#[tactic(auto, unfolding(crate::specs::Verbs::fields_read))]
-fn read_event_fields(verb: EventVerb, fields: &mut Fields) -> Result<Call, FormFault>
-    ensures { Takes result (fields_read (verbs.Event verb) fields.old) fields.new }
-{
-    match verb {
-        EventVerb::Immediate => fields.owner().map(|owner| Call::Immediate { owner }),
-        EventVerb::Schedule => Ok(Call::Schedule {
-            x: fields.object()?,
-            routine: fields.number32()?,
-            user: fields.number()?,
-        }),
-        EventVerb::Unschedule => fields.object().map(|x| Call::Unschedule { x }),
-        EventVerb::Timer => Ok(Call::Timer {
-            owner: fields.owner()?,
-            time: fields.time()?,
-            routine: fields.routine()?,
-            user: fields.number()?,
-        }),
-        EventVerb::Fd => Ok(Call::Fd {
-            owner: fields.owner()?,
-            fd: fields.number32()?,
-            flags: fields.flags()?,
-            routine: fields.routine()?,
-            user: fields.number()?,
-        }),
-        EventVerb::Flags => Ok(Call::Flags {
-            x: fields.object()?,
-            flags: fields.flags()?,
-        }),
-        EventVerb::Getflags => fields.object().map(|x| Call::Getflags { x }),
-        EventVerb::Autoclose => fields.object().map(|x| Call::Autoclose { x }),
-        EventVerb::Pending => Ok(Call::Pending),
-        EventVerb::Now => Ok(Call::Now),
-        EventVerb::Turn => Ok(Call::Turn),
-    }
-}
-
-// The call on a descriptor of this verb, whose fields come next.
-#[tactic(auto, unfolding(crate::specs::Verbs::fields_read))]
-fn read_descriptor_fields(
-    alloc: Global,
-    verb: DescriptorVerb,
-    fields: &mut Fields,
-) -> Result<Call, FormFault>
-    ensures { Takes result (fields_read (verbs.Descriptor verb) fields.old) fields.new }
-{
-    match verb {
-        DescriptorVerb::Close => fields.number32().map(|fd| Call::Close { fd }),
-        DescriptorVerb::Accept => fields.number32().map(|fd| Call::Accept { fd }),
-        DescriptorVerb::Read => Ok(Call::Read {
-            fd: fields.number32()?,
-            len: fields.length()?,
-        }),
-        DescriptorVerb::Write => Ok(Call::Write {
-            fd: fields.number32()?,
-            bytes: fields.bytes(alloc)?,
-        }),
-    }
-}
-
-// The call on requests of this verb, whose fields come next.
-#[tactic(auto, unfolding(crate::specs::Verbs::fields_read))]
-fn read_request_fields(
-    alloc: Global,
-    verb: RequestVerb,
-    fields: &mut Fields,
-) -> Result<Call, FormFault>
-    ensures { Takes result (fields_read (verbs.Request verb) fields.old) fields.new }
-{
-    match verb {
-        RequestVerb::Req => Ok(Call::Req {
-            owner: fields.owner()?,
-            size: fields.number()?,
-            name: fields.name(alloc)?,
-        }),
-        RequestVerb::Callback => Ok(Call::Callback {
-            x: fields.object()?,
-            routine: fields.number32()?,
-            user: fields.number()?,
-        }),
-        RequestVerb::Defer => fields.object().map(|x| Call::Defer { x }),
-        RequestVerb::Cleanup => object_and_routine(fields).map(|(x, routine)| Call::Cleanup {
-            x,
-            routine,
-        }),
-        RequestVerb::Setcancel => object_and_routine(fields).map(|(x, routine)| Call::Setcancel {
-            x,
-            routine,
-        }),
-        RequestVerb::Cancel => fields.object().map(|x| Call::Cancel { x }),
-        RequestVerb::Post => fields.object().map(|x| Call::Post { x }),
-        RequestVerb::Done => fields.object().map(|x| Call::Done { x }),
-        RequestVerb::Error => object_and_number(fields).map(|(x, error)| Call::Error { x, error }),
-        RequestVerb::Oom => fields.object().map(|x| Call::Oom { x }),
-        RequestVerb::Iserror => fields.object().map(|x| Call::Iserror { x }),
-        RequestVerb::Progress => fields.object().map(|x| Call::Progress { x }),
-        RequestVerb::Endtime => Ok(Call::Endtime {
-            x: fields.object()?,
-            time: fields.time()?,
-        }),
-        RequestVerb::Received => fields.object().map(|x| Call::Received { x }),
-    }
-}
-
-// The call of this verb, whose fields come next.
-pub(crate) fn read_fields(alloc: Global, verb: Verb, fields: &mut Fields) -> Result<Call, FormFault>
-    ensures { Takes result (fields_read verb fields.old) fields.new }
-{
-    match verb {
-        Verb::Tree(verb) => read_tree_fields(alloc, verb, fields),
-        Verb::Event(verb) => read_event_fields(verb, fields),
-        Verb::Descriptor(verb) => read_descriptor_fields(alloc, verb, fields),
-        Verb::Request(verb) => read_request_fields(alloc, verb, fields),
     }
 }

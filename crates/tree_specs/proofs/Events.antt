@@ -2,6 +2,7 @@
 pub mod EntryLaws
 pub mod HandlerLaws
 pub mod NoteLaws
+pub mod QueueLaws
 pub mod PendingLaws
 pub mod RotationLaws
 pub mod DescriptorLaws

@@ -2,6 +2,9 @@
 pub mod Changes
 pub mod Turning
 pub mod Notes
+pub mod Queues
+pub mod FreeQueues
+pub mod KeptQueues
 pub mod FreeNotes
 pub mod KeptNotes
 pub mod KeptCalm

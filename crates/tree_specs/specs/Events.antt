@@ -3,5 +3,6 @@ pub mod Coming
 pub mod Descriptors
 pub mod Handlers
 pub mod Pending
+pub mod Queues
 pub mod Requests
 pub mod Rotation

@@ -3,4 +3,5 @@ pub mod Exchanges
 pub mod Descriptors
 pub mod Events
 pub mod Requests
+pub mod Queues
 pub mod Tables

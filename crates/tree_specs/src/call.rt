@@ -235,6 +235,37 @@ pub enum Call {
     Received {
         x: Obj,
     },
+    /// `queue P NAME`: a queue of requests below an owner, which runs, as `tevent_queue_create` makes it. The reply is its
+    /// number.
+    Queue {
+        owner: Owner,
+        name: Name,
+    },
+    /// `enqueue Q X R U`: the request X waits in the queue Q for its turn, behind all others, and then the routine R runs for
+    /// it with the user number U, as `tevent_queue_add_entry` says. The reply is the number of its entry, an object below
+    /// the request that leaves the queue when it is freed.
+    Enqueue {
+        queue: Obj,
+        x: Obj,
+        routine: u32,
+        user: u64,
+    },
+    /// `start Q`: the queue runs from now on, as `tevent_queue_start` says.
+    Start {
+        queue: Obj,
+    },
+    /// `stop Q`: the queue doesn't run any more, as `tevent_queue_stop` says. Its entries keep their places.
+    Stop {
+        queue: Obj,
+    },
+    /// `length Q`: how many entries the queue has, as `tevent_queue_length` tells.
+    Length {
+        queue: Obj,
+    },
+    /// `running Q`: 1 where the queue runs, and else 0, as `tevent_queue_running` tells.
+    Running {
+        queue: Obj,
+    },
     /// `pending`: how many events wait: immediates and requests that come soon, timers and end times of requests, and events
     /// on descriptors.
     Pending,

@@ -89,6 +89,7 @@ pub fn routines_start_for_live_objects()
     ensures quiet { (is : List InputData) → Grounded bad.fired_while_quiet is → ⊥ }
     ensures kind { (is : List InputData) → Grounded bad.fired_as_another_kind is → ⊥ }
     ensures request { (is : List InputData) → Grounded bad.called_back_for_no_request is → ⊥ }
+    ensures turn { (is : List InputData) → Grounded bad.triggered_out_of_turn is → ⊥ }
     ensures unasked { (is : List InputData) → Grounded bad.accepted_unasked is → ⊥ }
     ensures stopped { (is : List InputData) → Grounded bad.accepted_while_quiet is → ⊥ }
     ensures busy { (is : List InputData) → Grounded bad.accepted_while_busy is → ⊥ }

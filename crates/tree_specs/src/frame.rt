@@ -107,7 +107,11 @@ pub enum FreeFrame {
     Preparing {
         x: Obj,
     },
-    /// It was received, and is to be as before for its freeing to go on.
+    /// `x` is a queue. Before it leaves its owner its entries are to be freed; it waits until this is over.
+    Draining {
+        x: Obj,
+    },
+    /// This is over, and it is to be as before for its freeing to go on.
     Prepared {
         x: Obj,
     },
@@ -193,7 +197,7 @@ pub enum TurnFrame {
     Clearing {
         x: Obj,
     },
-    /// It waits for the work of the request `x`, which has come.
+    /// It waits for the work of the request or of the queue `x`, which has come.
     Serving {
         x: Obj,
     },
@@ -227,7 +231,7 @@ pub enum Errand {
     Cancel,
 }
 
-/// What is still to do of one request's work.
+/// What is still to do of the work of one request, or of one queue.
 #[derive(Debug, Drop)]
 pub enum RequestFrame {
     /// `x` is to go to this state.
@@ -271,6 +275,19 @@ pub enum RequestFrame {
         x: Obj,
         handler: Handler,
         errand: Errand,
+    },
+    /// The queue is to be freed: it doesn't run any more, and its entries are to be freed before it, the first one first.
+    Vacating {
+        queue: Obj,
+    },
+    /// It waits for the freeing of an entry of the queue.
+    Dropping {
+        queue: Obj,
+        entry: Obj,
+    },
+    /// The turn of the queue has come: the trigger of its first entry is to run, where this waits for it.
+    Triggering {
+        queue: Obj,
     },
     /// It waits for the freeing of the object that a request was made with.
     Releasing {

@@ -20,6 +20,8 @@ pub enum FreeStep {
     Ask(Obj),
     /// The object is a request, which is to be received where it wasn't yet.
     Prepare(Obj),
+    /// The object is a queue, whose entries are to be freed.
+    Drain(Obj),
     /// A reference is no more.
     Dropped {
         reference: Obj,

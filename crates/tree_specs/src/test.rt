@@ -17,6 +17,10 @@ pub enum Test {
     IsDescriptor(Obj),
     /// The object is a request.
     IsRequest(Obj),
+    /// The object is a queue.
+    IsQueue(Obj),
+    /// The object may go to another owner: it is no entry of a queue.
+    IsMovable(Obj),
     /// The object is one to which there may be references: a plain one, or a request.
     IsReferable(Obj),
     /// The descriptor is open.
@@ -39,6 +43,8 @@ pub enum Test {
     MayGrow(Obj, u64),
     /// The object isn't being freed.
     IsNotDying(Obj),
+    /// The queue isn't being freed, nor are its entries before it.
+    IsNotGoing(Obj),
     /// The object isn't being freed, and won't be once its handler is over.
     IsNotDoomed(Obj),
     /// Neither its destructor nor its handler runs, nor is it a request that is received to be freed.

@@ -11,7 +11,7 @@ ghost use Rattle.destructors.specs.Works.{IsAtWork, IsAwaiting, GoesOn};
 ghost use Rattle.destructors.specs.Moves.{IsLiveRow};
 ghost use Rattle.destructors.specs.Engine.{IsAsked};
 ghost use Rattle.object_pool.specs.Objects.{frees_in, LeavesRest, MayBeginFree};
-ghost use Rattle.object_pool.specs.Upcoming.{closed_of};
+ghost use Rattle.object_pool.specs.Upcoming.{closed_of, MayForget};
 ghost use Rattle.object_pool.specs.Requests.{count_unreceived};
 
 use crate::counting::count_step;
@@ -37,13 +37,13 @@ fn event(step: FreeStep, closed: Option<u32>) -> Option<Event>
         FreeStep::Moved { object, owner, .. } => Some(Event::Moved { object, owner }),
         FreeStep::Gone { object, hook } => Some(Event::Freed { object, hook }),
         FreeStep::Doom(_) | FreeStep::Left { .. } => closed.map(Event::Closed),
-        FreeStep::Ask(_) | FreeStep::Prepare(_) | FreeStep::Done(_) => None,
+        FreeStep::Ask(_) | FreeStep::Prepare(_) | FreeStep::Drain(_) | FreeStep::Done(_) => None,
     }
 }
 
 impl ObjectPool {
     /// Begins the freeing of an object to which there is no reference. The memory for a call is taken before, but where a free
-    /// waits until a request was received: then that for its works is enough.
+    /// waits until a request was received or a queue has no entries: then that for its works is enough.
     pub fn begin_free(&mut self, x: Obj)
         requires room { MayBeginFree self.old }
         requires awaiting { IsAwaiting (frees_in self.old) }
@@ -120,6 +120,7 @@ impl ObjectPool {
     pub fn step(&mut self) -> Progress
         requires at_work { IsAtWork (frees_in self.old) }
         requires settled { speaking (frees_in self.old) ≡ true }
+        requires emptied { MayForget (next_of (frees_in self.old)).0 self.old.pool.queues }
         ensures steps { Steps (frees_in self.old) result.step (frees_in self.new) }
         ensures goes_on { GoesOn result.step (frees_in self.new) }
         ensures told { result.event ≡ event_of self.old.pool.ring result.step }

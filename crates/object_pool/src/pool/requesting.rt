@@ -5,9 +5,9 @@ ghost use Rattle.tree_specs.specs.Events.Requests.{note_of, called_back, deferri
 ghost use Rattle.tree_specs.specs.Calls.Refusals.{row_limit, size_limit};
 ghost use Rattle.tree_specs.specs.Calls.Plans.Change.{Then, Arm, TakeNumber};
 ghost use Rattle.tree_specs.specs.Calls.Plans.{changed_by};
-ghost use Rattle.destructors.specs.Frees.{received as received_works, Begins};
+ghost use Rattle.destructors.specs.Frees.{prepared as prepared_works, Begins};
 ghost use Rattle.destructors.specs.Works.{IsAtWork, IsAwaiting};
-ghost use Rattle.destructors.specs.Engine.{IsReceiving};
+ghost use Rattle.destructors.specs.Engine.{IsPreparing};
 ghost use Rattle.object_pool.specs.Objects.{frees_in, LeavesRest};
 ghost use Rattle.object_pool.specs.Requests.{cleaning, notifying, count_unreceived};
 ghost use Rattle.requests.specs.Register.{AreInOrder, notify_of};
@@ -189,16 +189,16 @@ impl ObjectPool {
         notify
     }
 
-    /// The request that the innermost free waits for was received: the freeing goes on.
-    pub fn received(&mut self)
-        requires receiving { IsReceiving (slice_get self.old.works 0) }
+    /// What comes before the freeing of the request or the queue that the innermost free waits for is over: the freeing goes on.
+    pub fn prepared(&mut self)
+        requires preparing { IsPreparing (slice_get self.old.works 0) }
         requires awaiting { IsAwaiting (frees_in self.old) }
-        ensures begins { Begins (received_works self.old.works) self.old.pool (frees_in self.new) }
+        ensures begins { Begins (prepared_works self.old.works) self.old.pool (frees_in self.new) }
         ensures at_work { IsAtWork (frees_in self.new) }
         ensures requests { self.new.pool.requests ≡ self.old.pool.requests }
         ensures rest { LeavesRest self.old self.new }
     {
         self.ready = false;
-        self.engine.received(&mut self.tree, &mut self.refs);
+        self.engine.prepared(&mut self.tree, &mut self.refs);
     }
 }

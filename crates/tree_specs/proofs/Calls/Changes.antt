@@ -1,6 +1,6 @@
 -- What a change asks for, and what it leaves so.
-use Rattle.std.proofs.Common.{ℕ, ◌≡◌, ◌≤◌, ◌+◌, List, length, Some, None, true, false, refl, ap, arith}
-use Rattle.std.specs.Prelude.{is_some, codes}
+use Rattle.std.proofs.Common.{ℕ, ◌≡◌, ◌≤◌, ◌+◌, List, length, Some, None, true, false, refl, ap, arith, Option, subst, sym}
+use Rattle.std.specs.Prelude.{is_some, codes, not}
 use Rattle.tree_specs.specs.declared.object.Obj.{Obj}
 use Rattle.tree_specs.specs.declared.object.Owner.{Owner}
 use Rattle.tree_specs.specs.declared.object.Owner.TheVariants.{Of}
@@ -10,18 +10,18 @@ use Rattle.tree_specs.specs.Words.Objects.{same}
 use Rattle.tree_specs.specs.declared.row.Row.{Row}
 use Rattle.tree_specs.specs.declared.watch.Watch.{Watch}
 use Rattle.tree_specs.specs.declared.frame.Frame.{Frame}
-use Rattle.tree_specs.specs.Tree.Pool.{Pool, row_of, is_owner, new_row, add, note, add_request}
-use Rattle.tree_specs.specs.Tree.Targets.{target_of}
+use Rattle.tree_specs.specs.Tree.Pool.{Pool, row_of, is_owner, new_row, add, note, add_request, add_queue, add_entry}
+use Rattle.tree_specs.specs.Tree.Targets.{target_of, is_reference}
 use Rattle.tree_specs.specs.Tree.Inside.{total}
 use Rattle.tree_specs.specs.Invariants.Measure.{weight}
 use Rattle.tree_specs.specs.Invariants.Consistent.{deposit, mark_deposit}
-use Rattle.tree_specs.specs.Calls.Refusals.{is_open}
+use Rattle.tree_specs.specs.Calls.Refusals.{is_open, is_request, is_request_row, is_queue_row}
 use Rattle.tree_specs.specs.declared.moment.What.TheVariants as what
 use Rattle.tree_specs.specs.Events.Handlers.{handler_of}
 use Rattle.tree_specs.specs.Events.Rotation.{is_watched}
 use Rattle.tree_specs.specs.Invariants.Awaiting.{MayCome, waits_as_row, is_event_row, IsHandled}
 use Rattle.tree_specs.specs.Calls.Plans.{Change, changed_by}
-use Rattle.tree_specs.specs.Calls.Plans.Change.{Nothing, Edit, Add, Place, Handle, Schedule, Arm, Watches, Rewatch, Close, TakeNumber, AddRequest, Renotes, Then}
+use Rattle.tree_specs.specs.Calls.Plans.Change.{Nothing, Edit, Add, Place, Handle, Schedule, Arm, Watches, Rewatch, Close, TakeNumber, AddRequest, Renotes, AddQueue, AddEntry, LooksAt, Then}
 use Rattle.tree_specs.specs.Invariants.Sound.{IsReferable, MayBePlaced, Rests, Sound, claim}
 use Rattle.tree_specs.proofs.Tree.Numbered.{same-equal}
 use Rattle.tree_specs.proofs.Tree.Rows.{total-placed}
@@ -73,6 +73,10 @@ MayDo p (Place o x) = MayBePlaced p o x
 MayDo p (Handle x handler) = is_event_row (row_of p.rows x) ≡ true
 MayDo p (Schedule x) = MayWait p what.Immediate x
 MayDo p (Arm x time number) = MayWait p what.Timer x
+MayDo p (AddQueue o name) = is_owner p.rows o ≡ true
+-- the queue and the request are there, and the next number is nobody's
+MayDo p (AddEntry q x trigger) = (is_request_row (row_of p.rows x) ≡ true) × MayWait p what.Immediate q × (is_queue_row (row_of p.rows q) ≡ true) × (row_of p.rows (record { 0 = p.next }) ≡ None)
+MayDo p (LooksAt q) = MayWait p what.Immediate q
 MayDo p (Watches x fd flags) = MayWatch p x fd
 MayDo p (Rewatch x g) = KeepsWatched g
 MayDo p (Close fd) = is_watched p.ring fd ≡ false
@@ -86,6 +90,8 @@ MayDo p change = Unit {0}
 abbrev pub heavier : Change → ℕ
 heavier (Add kind o size name) = 3
 heavier (AddRequest o size name) = 6
+heavier (AddQueue o name) = 3
+heavier (AddEntry q x trigger) = 3
 heavier (Then first second) = heavier first + heavier second
 heavier change = 0
 
@@ -93,6 +99,8 @@ heavier change = 0
 abbrev pub added : Change → ℕ
 added (Add kind o size name) = 1
 added (AddRequest o size name) = 2
+added (AddQueue o name) = 1
+added (AddEntry q x trigger) = 1
 added (Then first second) = added first + added second
 added change = 0
 
@@ -131,6 +139,18 @@ requested p o size name nobody =
           (later-still (later-added (note p x n) kind.Request o 0 (codes "req")) (later-added b kind.Plain (Of x) size name));
     }
 
+-- one new row, and nothing else of the rows, the numbers and the requests
+new-row : (p : Pool) (k : Kind) (o : Owner) (name : List ℕ) (q : Pool) → q.rows ≡ (add p k o 0 name).rows → q.next ≡ (add p k o 0 name).next → q.requests ≡ p.requests → Follows p q 3 1
+new-row p k o name q rows next requests =
+    let one = note_weight-most p.requests (new_row (record { 0 = p.next }) k o 0 name) in
+    let w : total (weight p.requests) (add p k o 0 name).rows ≤ total (weight p.requests) p.rows + 3 = omega (arith, one) in
+    record {
+      weight = subst (λ (rs : List Row). total (weight q.requests) rs ≤ total (weight p.requests) p.rows + 3) (sym rows) (subst (λ (ns : RequestNotes). total (weight ns) (add p k o 0 name).rows ≤ total (weight p.requests) p.rows + 3) (sym requests) w);
+      number = rw rows (omega arith);
+      deposit = rw rows (omega arith);
+      later = later-still (later-added p k o 0 name) (later-waiting (add p k o 0 name) q rows next requests);
+    }
+
 pub follows : (p : Pool) (c : Change) → MayDo p c → Follows p (changed_by c p) (heavier c) (added c)
 follows p Nothing may = record { weight = omega arith; number = omega arith; deposit = omega arith; later = later-same p }
 follows p (Edit x g) may =
@@ -156,6 +176,8 @@ follows p (Then first second) may =
     let a = follows p first may.0 in
     let b = follows (changed_by first p) second may.1 in
     record { weight = omega (arith, a.weight, b.weight); number = omega (arith, a.number, b.number); deposit = omega (arith, a.deposit, b.deposit); later = later-still a.later b.later }
+follows p (AddQueue o name) may = new-row p kind.Queue o name (changed_by (AddQueue o name) p) refl refl refl
+follows p (AddEntry q x trigger) may = new-row p kind.Entry (Of x) (codes "entry") (changed_by (AddEntry q x trigger) p) refl refl refl
 follows p TakeNumber may = record { weight = omega arith; number = omega arith; deposit = omega arith; later = later-noted p (changed_by TakeNumber p) refl (omega arith) (λ x k l h. h) }
 follows p (AddRequest o size name) may = requested p o size name may.1
 follows p (Renotes x g) may = record {
@@ -165,6 +187,18 @@ follows p (Renotes x g) may = record {
   later = later-noted p (changed_by (Renotes x g) p) refl (omega arith) (states-renoted g p (changed_by (Renotes x g) p) x refl (λ n e. rw (may n) (omega arith)));
 }
 follows p c may = waits p (changed_by c p) refl refl refl
+
+-- a request may own objects
+request-owns : (rs : List Row) (x : Obj) → is_request_row (row_of rs x) ≡ true → is_owner rs (Of x) ≡ true
+request-owns rs x h = each (row_of rs x) refl h
+  where
+    kinds : (k : Kind) → is_request k ≡ true → not (is_reference k) ≡ true
+    kinds kind.Request e = refl
+    kinds _ e = cc
+
+    each : (o : Option Row) → row_of rs x ≡ o → is_request_row o ≡ true → is_owner rs (Of x) ≡ true
+    each None e t = cc
+    each (Some r) e t = rw e (kinds r.kind t)
 
 -- a new request may own its object
 request-owner : (p : Pool) (o : Owner) → is_owner (add p kind.Request o 0 (codes "req")).rows (Of (record { 0 = p.next })) ≡ true
@@ -186,5 +220,11 @@ change-sound f f' fs p (AddRequest o size name) s may same calm h =
     let s1 = new-sound f f kind.Request o 0 (codes "req") fs p s may.0 (λ t e. cc) (λ y. refl) (calm a) in
     let s2 = waiting-sound f f fs a b s1 refl refl (λ y. refl) (calm b) in
     new-sound f f' kind.Plain (Of x) size name fs b s2 (request-owner p o) (λ t e. cc) same h
+change-sound f f' fs p (AddQueue o name) s may same calm h =
+    let a : Pool = add p kind.Queue o 0 name in
+    waiting-sound f f' fs a (add_queue p o name) (new-sound f f kind.Queue o 0 name fs p s may (λ t e. cc) (λ y. refl) (calm a)) refl refl same h
+change-sound f f' fs p (AddEntry q x trigger) s may same calm h =
+    let a : Pool = add p kind.Entry (Of x) 0 (codes "entry") in
+    waiting-sound f f' fs a (add_entry p q x trigger) (new-sound f f kind.Entry (Of x) 0 (codes "entry") fs p s (request-owns p.rows x may.0) (λ t e. cc) (λ y. refl) (calm a)) refl refl same h
 change-sound f f' fs p TakeNumber s may same calm h = numbered-sound f f' fs p s same h
 change-sound f f' fs p c s may same calm h = waiting-sound f f' fs p (changed_by c p) s refl refl same h

@@ -28,7 +28,7 @@ use Rattle.tree_specs.specs.Calls.Given.{Given, given_to}
 use Rattle.tree_specs.specs.Calls.Given.Given.{Calls, Returns, Tells, IsReady, Opens, Answers}
 use Rattle.tree_specs.specs.declared.test.Test.{Test}
 use Rattle.tree_specs.specs.Calls.Refusals.{Check, refuse_if, refusal_of, refused, size_limit, row_limit, object_row, object, owner, room, apart, interested, given_by, is_running_mark, is_open}
-use Rattle.tree_specs.specs.declared.test.Test.TheVariants.{IsSmall, IsObject, IsOwner, IsPlain, IsImmediate, IsDescriptor, IsRequest, IsReferable, IsOpen, IsUnwatched, HasRoom, HasNumber, IsInProgress, IsFinished, MayFail, Fits, MayGrow, IsNotDying, IsNotDoomed, IsNotRunning, IsNotInside, IsUnheld, IsUnreferenced, IsInterested, MayGive}
+use Rattle.tree_specs.specs.declared.test.Test.TheVariants.{IsSmall, IsObject, IsOwner, IsPlain, IsImmediate, IsDescriptor, IsRequest, IsReferable, IsOpen, IsUnwatched, HasRoom, HasNumber, IsInProgress, IsFinished, MayFail, Fits, MayGrow, IsNotDying, IsNotDoomed, IsNotRunning, IsNotInside, IsUnheld, IsUnreferenced, IsInterested, MayGive, IsQueue, IsMovable, IsNotGoing}
 use Rattle.tree_specs.specs.Calls.Passed.{Interest, AsOwner, AsHolder, Gives, Itself, ItsRef, Passed, AllPassed}
 use Rattle.tree_specs.specs.Invariants.Sound.{IsLive, MayBePlaced}
 use Rattle.tree_specs.specs.Words.Ranges.{is_sound_call, is_return, is_routine, is_time}
@@ -121,6 +121,8 @@ passes p (IsPlain x) e = not-false _ (refuse_if-none _ _ e)
 passes p (IsImmediate x) e = not-false _ (refuse_if-none _ _ e)
 passes p (IsDescriptor x) e = not-false _ (refuse_if-none _ _ e)
 passes p (IsRequest x) e = not-false _ (refuse_if-none _ _ e)
+passes p (IsQueue x) e = not-false _ (refuse_if-none _ _ e)
+passes p (IsMovable x) e = not-true _ (not-false _ (refuse_if-none _ _ e))
 passes p (IsReferable x) e = not-false _ (refuse_if-none _ _ e)
 passes p (IsOpen fd) e = not-false _ (refuse_if-none _ _ e)
 passes p (IsUnwatched fd) e = refuse_if-none _ _ e
@@ -132,6 +134,7 @@ passes p (MayFail x error) e = e
 passes p (Fits o wanted) e = e
 passes p (MayGrow x size) e = e
 passes p (IsNotDying x) e = refuse_if-none _ _ e
+passes p (IsNotGoing x) e = refuse_if-none _ _ e
 passes p (IsNotDoomed x) e = refuse_if-none _ _ e
 passes p (IsNotRunning x) e = refuse_if-none _ _ e
 passes p (IsNotInside x o) e = refuse_if-none _ _ e

@@ -1,12 +1,13 @@
 -- An event that a call has watch a descriptor is a new one, and what a call has come isn't being freed.
-use Rattle.std.proofs.Common.{◌≡◌, nat_eq, [], ◌∷◌, Option, Some, None, Bool, true, false, refl, ◌∙◌}
-use Rattle.std.specs.Prelude.{not}
+use Rattle.std.proofs.Common.{◌≡◌, nat_eq, [], ◌∷◌, Option, Some, None, Bool, true, false, refl, ◌∙◌, sym, ap}
+use Rattle.std.specs.Prelude.{not, codes}
 use Rattle.tree_specs.specs.declared.object.Obj.{Obj}
 use Rattle.tree_specs.specs.declared.object.Owner.{Owner}
 use Rattle.tree_specs.specs.declared.call.Call.{Call}
 use Rattle.tree_specs.specs.declared.call.Call.TheVariants as call
 use Rattle.tree_specs.specs.Tree.Targets.{newest_ref}
-use Rattle.tree_specs.specs.Tree.Pool.{Pool, row_of, passes}
+use Rattle.tree_specs.specs.Tree.Pool.{Pool, row_of, passes, new_row}
+use Rattle.tree_specs.specs.declared.kind.Kind.TheVariants as kind
 use Rattle.tree_specs.specs.declared.request.Note.{Note}
 use Rattle.tree_specs.specs.declared.request.State.{State}
 use Rattle.tree_specs.specs.declared.request.State.TheVariants as state
@@ -16,24 +17,29 @@ use Rattle.tree_specs.specs.declared.row.Mark.{Mark}
 use Rattle.tree_specs.specs.declared.row.Mark.TheVariants.{Quiet, Asked, Busy, Doomed, Dying}
 use Rattle.tree_specs.specs.Words.Objects.{same}
 use Rattle.tree_specs.specs.Events.Requests.{note_of, is_noted, is_received, is_unreceived, is_in_progress, state_number}
-use Rattle.tree_specs.specs.Calls.Passed.{AllPassed}
+use Rattle.tree_specs.specs.Calls.Passed.{AllPassed, Passed}
 use Rattle.tree_specs.specs.Machine.Profiles.{InHandler, InLoop}
 use Rattle.tree_specs.specs.Invariants.Sound.{phases}
 use Rattle.tree_specs.specs.Invariants.Noted.{NotesHold}
 use Rattle.tree_specs.proofs.Calls.Checks.{all-pass}
 use Rattle.tree_specs.proofs.Invariants.Notes.{settled}
 use Rattle.tree_specs.specs.Events.Rotation.{is_watching}
-use Rattle.tree_specs.specs.Calls.Refusals.{Check, tests, refusals, refuse_if, in_state, is_finished, is_doomed_mark, is_doomed, is_request_row}
+use Rattle.tree_specs.specs.Calls.Refusals.{Check, tests, refusals, refuse_if, in_state, is_finished, is_doomed_mark, is_doomed, is_request_row, is_going, is_going_mark}
 use Rattle.tree_specs.specs.Calls.Plans.{Change, Plan, changed_by, plan, planned, unless_refused, frees, handed, gift}
-use Rattle.tree_specs.specs.Calls.Plans.Change.{Watches, Schedule, Arm, Then}
+use Rattle.tree_specs.specs.Calls.Plans.Change.{Watches, Schedule, Arm, Then, LooksAt, AddEntry}
 use Rattle.tree_specs.specs.Calls.Plans.Plan.{Does, Works}
-use Rattle.tree_specs.proofs.Tree.Numbered.{by_test, same-equal}
+use Rattle.tree_specs.proofs.Tree.Numbered.{by_test, same-equal, same-true}
+use Rattle.tree_specs.specs.Events.Queues.{runs}
+use Rattle.tree_specs.specs.declared.object.Owner.TheVariants.{Of}
+use Rattle.tree_specs.specs.declared.test.Test.TheVariants.{IsObject}
 
 -- each event that a change has watch a descriptor watches none yet, and what comes soon or at a time isn't being freed
 abbrev pub AreNew : Pool → Change → Type 0
 AreNew p (Watches x fd flags) = is_watching p.ring x ≡ false
 AreNew p (Schedule x) = is_doomed p x ≡ false
 AreNew p (Arm x time number) = is_doomed p x ≡ false
+AreNew p (AddEntry q x trigger) = is_doomed p q ≡ false
+AreNew p (LooksAt q) = is_doomed p q ≡ false
 AreNew p (Then first second) = AreNew p first × AreNew (changed_by first p) second
 AreNew p change = Unit {0}
 
@@ -84,6 +90,18 @@ module _ (p : Pool) (new : is_watching p.ring (record { 0 = p.next }) ≡ false)
   given to None = tt
   given to (Some x) = tt
 
+  -- nor is a queue that doesn't go
+  remains : (q : Obj) → is_going p q ≡ false → is_doomed p q ≡ false
+  remains q h = each (row_of p.rows q) refl h
+    where
+      marks : (m : Mark) → is_going_mark m ≡ false → is_doomed_mark m ≡ false
+      marks Quiet t = refl
+      marks _ t = cc
+
+      each : (o : Option Row) → row_of p.rows q ≡ o → passes (λ r. is_going_mark r.mark) o ≡ false → is_doomed p q ≡ false
+      each None e t = rw e refl
+      each (Some r) e t = rw e (marks r.mark t)
+
   each : (c : Call) → AllPassed p (tests c) → OnlyNew p (plan p c)
   each (call.Free x) h = freed x (newest_ref p.rows x)
   each (call.Reparent from to x) h = given to (gift p from x)
@@ -96,6 +114,8 @@ module _ (p : Pool) (new : is_watching p.ring (record { 0 = p.next }) ≡ false)
   each (call.Post x) h = spared x is_finished over h.1.0 h.1.1.0
   each (call.Error x error) h = by_test (nat_eq error 0) (λ t. rw t tt) (λ t. rw t tt)
   each (call.Endtime x time) h = (spared x is_in_progress going h.1.0 h.1.1.0, tt)
+  each (call.Enqueue q x routine user) h = remains q h.1.1.0
+  each (call.Start q) h = by_test (runs p.queues q) (λ t. rw t tt) (λ t. rw t (tt, remains q h.1.1.0))
   each _ h = tt
 
   -- so it is of each call, where the number of the next object is nobody's that watches

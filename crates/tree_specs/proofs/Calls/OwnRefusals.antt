@@ -25,7 +25,7 @@ use Rattle.tree_specs.specs.declared.request.State.{State}
 use Rattle.tree_specs.specs.Events.Requests.{is_in_progress, note_of}
 use Rattle.tree_specs.specs.Calls.Refusals.{is_finished}
 use Rattle.tree_specs.specs.Calls.Refusals.{Check, row_limit, refuse_if, refusal_of, refused, refusals, over, fits_in, fits, growing, in_state, object_row, object, owner, room, given_by, held, is_held, is_running}
-use Rattle.tree_specs.specs.declared.test.Test.TheVariants.{IsSmall, IsObject, IsOwner, IsPlain, IsImmediate, IsDescriptor, IsRequest, IsReferable as IsReferableTest, IsOpen, IsUnwatched, HasRoom, HasNumber, IsInProgress, IsFinished, MayFail, Fits, MayGrow, IsNotDying, IsNotDoomed, IsNotRunning, IsNotInside, IsUnheld, IsUnreferenced, IsInterested, MayGive}
+use Rattle.tree_specs.specs.declared.test.Test.TheVariants.{IsSmall, IsObject, IsOwner, IsPlain, IsImmediate, IsDescriptor, IsRequest, IsReferable as IsReferableTest, IsOpen, IsUnwatched, HasRoom, HasNumber, IsInProgress, IsFinished, MayFail, Fits, MayGrow, IsNotDying, IsNotDoomed, IsNotRunning, IsNotInside, IsUnheld, IsUnreferenced, IsInterested, MayGive, IsQueue, IsMovable, IsNotGoing}
 use Rattle.tree_specs.specs.Rules.Sequence.{Scene}
 use Rattle.tree_specs.specs.Promises.Orderly.{RefusedJustNow}
 use Rattle.tree_specs.specs.Promises.Grounded.{AnsweredCall, HeldCall, CausedCall}
@@ -94,6 +94,8 @@ own-test p (IsPlain x) = own-if p _ _ (λ t. tt)
 own-test p (IsImmediate x) = own-if p _ _ (λ t. tt)
 own-test p (IsDescriptor x) = own-if p _ _ (λ t. tt)
 own-test p (IsRequest x) = own-if p _ _ (λ t. tt)
+own-test p (IsQueue x) = own-if p _ _ (λ t. tt)
+own-test p (IsMovable x) = own-if p _ _ (λ t. tt)
 own-test p (IsReferableTest x) = own-if p _ _ (λ t. tt)
 own-test p (IsOpen fd) = own-if p _ _ (λ t. tt)
 own-test p (IsUnwatched fd) = own-if p _ _ (λ t. tt)
@@ -105,6 +107,7 @@ own-test p (MayFail x error) = by_test (nat_eq error 0) (λ t. rw t tt) (λ t. r
 own-test p (Fits o wanted) = own-below p o wanted
 own-test p (MayGrow x size) = own-growing p x size
 own-test p (IsNotDying x) = own-if p _ _ (λ t. tt)
+own-test p (IsNotGoing x) = own-if p _ _ (λ t. tt)
 own-test p (IsNotDoomed x) = own-if p _ _ (λ t. tt)
 own-test p (IsNotRunning x) = own-if p _ _ (λ t. t)
 own-test p (IsNotInside x o) = own-if p _ _ (λ t. tt)

@@ -1,6 +1,6 @@
 -- What a plan asks for, what its change of the rows leaves so, and that a call which isn't refused may carry out its plan.
-use Rattle.std.proofs.Common.{nat_eq, ◌≡◌, ◌≢◌, ◌≤◌, List, [], ◌∷◌, Option, Some, None, Bool, true, false, refl, sym, ◌∙◌, subst, arith}
-use Rattle.std.specs.Prelude.{if◌then◌else◌}
+use Rattle.std.proofs.Common.{nat_eq, ◌≡◌, ◌≢◌, ◌≤◌, List, [], ◌∷◌, Option, Some, None, Bool, true, false, refl, sym, ◌∙◌, subst, arith, ap}
+use Rattle.std.specs.Prelude.{if◌then◌else◌, codes}
 use Rattle.tree_specs.specs.declared.object.Obj.{Obj}
 use Rattle.tree_specs.specs.declared.object.Owner.{Owner}
 use Rattle.tree_specs.specs.declared.object.Owner.TheVariants.{Root, Of}
@@ -17,18 +17,18 @@ use Rattle.tree_specs.specs.declared.notice.Notice.TheVariants.{Warned}
 use Rattle.tree_specs.specs.declared.question.Ask.{Ask}
 use Rattle.tree_specs.specs.declared.question.Ask.TheVariants as ask
 use Rattle.tree_specs.specs.declared.frame.Frame.{Frame}
-use Rattle.tree_specs.specs.Tree.Pool.{Pool, row_of, is_row, is_owner, owner_of, target_at, is_inside, place, hooked_row, named_row, sized_row, limited_row, renote}
+use Rattle.tree_specs.specs.Tree.Pool.{Pool, row_of, is_row, is_owner, owner_of, target_at, is_inside, place, hooked_row, named_row, sized_row, limited_row, renote, new_row}
 use Rattle.tree_specs.specs.Tree.Targets.{target_of, newest_ref}
-use Rattle.tree_specs.specs.Calls.Refusals.{Check, tests, refusals, in_state, in_progress, is_immediate, is_request, is_request_row}
+use Rattle.tree_specs.specs.Calls.Refusals.{Check, tests, refusals, in_state, in_progress, is_immediate, is_request, is_request_row, is_queue, is_queue_row}
 use Rattle.tree_specs.specs.declared.moment.What.TheVariants as what
 use Rattle.tree_specs.specs.Invariants.Awaiting.{waits_as, waits_as_row, is_event, is_event_row}
-use Rattle.tree_specs.specs.declared.test.Test.TheVariants.{IsObject, IsImmediate, IsRequest, IsInProgress as IsInProgressTest, IsNotDoomed}
+use Rattle.tree_specs.specs.declared.test.Test.TheVariants.{IsObject, IsImmediate, IsRequest, IsInProgress as IsInProgressTest, IsNotDoomed, IsQueue}
 use Rattle.tree_specs.specs.Calls.Plans.{Plan, changed_by, plan, planned, unless_refused, places, warns, frees, handed, gift}
 use Rattle.tree_specs.specs.Calls.Plans.Change.{Nothing}
 use Rattle.tree_specs.specs.Calls.Plans.Plan.{Does, Frees, Unlinks, Empties, Asks, Turns, Works}
 use Rattle.tree_specs.specs.Invariants.Sound.{IsLive, IsReferable, IsQuietRow, MayReceive, MayBePlaced, Sound}
 use Rattle.tree_specs.specs.Invariants.Noted.{IsInProgress, IsBetween}
-use Rattle.tree_specs.proofs.Tree.Numbered.{by_test, same-equal, is_below-some}
+use Rattle.tree_specs.proofs.Tree.Numbered.{by_test, same-equal, is_below-some, same-true}
 use Rattle.tree_specs.proofs.Tree.Rows.{row_of-placed-same}
 use Rattle.tree_specs.proofs.Tree.Rooted.{KeepsPlace}
 use Rattle.tree_specs.proofs.Tree.Referring.{newest-refers, newest-of-refers, refers-nothing, reference-outside, object-refers}
@@ -46,6 +46,7 @@ use Rattle.tree_specs.specs.declared.request.State.TheVariants as state
 use Rattle.tree_specs.specs.Events.Requests.{is_in_progress, note_of, failed_with}
 use Rattle.tree_specs.proofs.Events.NoteLaws.{renoted-same, renoted-none}
 use Rattle.tree_specs.proofs.Calls.Changes.{MayWait, MayBeEdited, MayDo, heavier, added}
+use Rattle.tree_specs.specs.Events.Queues.{runs}
 
 -- ---- what a plan asks for
 
@@ -158,6 +159,18 @@ module _ (f : Frame) (fs : List Frame) (p : Pool) (s : Sound f fs p) where
       each None e t = cc
       each (Some r) e t = let k = kinds r.kind t in record { comes = rw e k.0; ready = λ i. let i' : is_event r.kind ≡ true = rw e at i in let bad : true ≡ false = sym i' ∙ k.1 in cc }
 
+  -- so does a queue as what comes soon
+  queue-waits : (q : Obj) → Passed p (IsQueue q) → MayWait p what.Immediate q
+  queue-waits q h = each (row_of p.rows q) refl h
+    where
+      kinds : (k : Kind) → is_queue k ≡ true → (waits_as what.Immediate k ≡ true) × (is_event k ≡ false)
+      kinds kind.Queue e = (refl, refl)
+      kinds _ e = cc
+
+      each : (o : Option Row) → row_of p.rows q ≡ o → is_queue_row o ≡ true → MayWait p what.Immediate q
+      each None e t = cc
+      each (Some r) e t = let k = kinds r.kind t in record { comes = rw e k.0; ready = λ i. let i' : is_event r.kind ≡ true = rw e at i in let bad : true ≡ false = sym i' ∙ k.1 in cc }
+
   finishes : (x : Obj) (s : State) → IsBetween s → Passed p (IsRequest x) → Passed p (IsInProgressTest x) → May p (Works Nothing (Finish s) x)
   finishes x s between h state = (tt, refl, refl, (h, state, between))
 
@@ -165,9 +178,9 @@ module _ (f : Frame) (fs : List Frame) (p : Pool) (s : Sound f fs p) where
   each (call.New o size name) h = (record { there = h.1.0; target = λ t e. cc }, omega arith, tt, omega arith)
   each (call.Free x) h = freed x h.0 (newest_ref p.rows x) refl
   each (call.Freekids x) h = tt
-  each (call.Steal o x) h = placed o x reply.Ok (may-place p o x h.0 h.1.0 h.1.1.0 h.1.1.1.0)
-  each (call.Move o x) h = placed o x (reply.Number x.0) (may-place p o x h.0 h.1.0 h.1.1.0 h.1.1.1.0)
-  each (call.Reparent from to x) h = given from to x h.1.1.1.1.0 h.1.1.0 (λ outside. may-place p to x h.0 h.1.1.0 h.1.1.1.0 outside)
+  each (call.Steal o x) h = placed o x reply.Ok (may-place p o x h.0 h.1.1.0 h.1.1.1.0 h.1.1.1.1.0)
+  each (call.Move o x) h = placed o x (reply.Number x.0) (may-place p o x h.0 h.1.1.0 h.1.1.1.0 h.1.1.1.1.0)
+  each (call.Reparent from to x) h = given from to x h.1.1.1.1.1.0 h.1.1.1.0 (λ outside. may-place p to x h.0 h.1.1.1.0 h.1.1.1.1.0 outside)
   each (call.Reference o x) h =
       let quiet = quiet-row p x h.0.0 h.0.1 h.1.1.1.0 h.1.1.1.1.0 in
       let plain : IsReferable (row_of p.rows x) = rw h.0.1 (rw h.0.1 at h.1.0, quiet) in
@@ -226,6 +239,14 @@ module _ (f : Frame) (fs : List Frame) (p : Pool) (s : Sound f fs p) where
   each (call.Progress x) h = (tt, omega arith, tt, omega arith)
   each (call.Endtime x time) h = ((posted what.Timer x refl h.1.0, tt), omega arith, tt, omega arith)
   each (call.Received x) h = (tt, refl, refl, (h.0.0, h.0.1))
+  each (call.Queue o name) h = (h.0, omega arith, tt, omega arith)
+  each (call.Enqueue q x routine user) h = ((h.1.1.1.1.0, queue-waits q h.1.0, h.1.0, nobody p s.valid), omega arith, tt, omega arith)
+  each (call.Start q) h = by_test (runs p.queues q)
+      (λ t. rw t (tt, omega arith, tt, omega arith))
+      (λ t. let w = queue-waits q h.1.0 in rw t ((tt, record { comes = w.comes; ready = w.ready }), omega arith, tt, omega arith))
+  each (call.Stop q) h = (tt, omega arith, tt, omega arith)
+  each (call.Length q) h = (tt, omega arith, tt, omega arith)
+  each (call.Running q) h = (tt, omega arith, tt, omega arith)
   each call.Pending h = (tt, omega arith, tt, omega arith)
   each call.Now h = tt
   each call.Turn h = tt

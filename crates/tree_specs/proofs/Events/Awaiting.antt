@@ -1,7 +1,7 @@
 -- What each change of the pool leaves of what waits.
-use Rattle.std.proofs.Common.{◌≡◌, ◌≢◌, ℕ, List, [], ◌∷◌, nat_eq, Option, Some, None, true, false, refl, sym, ◌∙◌, ap, subst, inl, inr}
+use Rattle.std.proofs.Common.{◌≡◌, ◌≢◌, ℕ, Bool, List, [], ◌∷◌, nat_eq, Option, Some, None, true, false, refl, sym, ◌∙◌, ap, subst, inl, inr}
 use Rattle.std.proofs.lemmas.Bool.{eqb-true}
-use Rattle.std.specs.Prelude.{is_some}
+use Rattle.std.specs.Prelude.{is_some, if◌then◌else◌}
 use Rattle.tree_specs.specs.declared.object.Obj.{Obj}
 use Rattle.tree_specs.specs.declared.object.Owner.{Owner}
 use Rattle.tree_specs.specs.declared.row.Row.{Row}
@@ -9,12 +9,15 @@ use Rattle.tree_specs.specs.declared.row.Mark.{Mark}
 use Rattle.tree_specs.specs.declared.kind.Kind.{Kind}
 use Rattle.tree_specs.specs.declared.kind.Kind.TheVariants as kind
 use Rattle.tree_specs.specs.declared.handler.Handler.{Handler}
+use Rattle.tree_specs.specs.declared.queue.QueueEntry.{QueueEntry}
 use Rattle.tree_specs.specs.declared.moment.What.{What}
 use Rattle.tree_specs.specs.declared.moment.What.TheVariants.{Immediate, Timer, Descriptor}
 use Rattle.tree_specs.specs.declared.watch.Watch.{Watch}
 use Rattle.tree_specs.specs.Words.Objects.{same}
 use Rattle.tree_specs.specs.Tree.Targets.{target_of}
-use Rattle.tree_specs.specs.Tree.Pool.{Pool, row_of, target_at, changed, without, add, let_go, remove, place, set_mark, marked_row, set_handler, schedule, unschedule, arm, disarm, watch, rewatch, turn_back, open_descriptor, close_descriptor}
+use Rattle.tree_specs.specs.Tree.Pool.{Pool, row_of, target_at, changed, without, add, let_go, looked_after, look_at, remove, place, set_mark, marked_row, set_handler, schedule, unschedule, arm, disarm, watch, rewatch, turn_back, open_descriptor, close_descriptor}
+use Rattle.tree_specs.specs.Events.Pending.{is_scheduled, scheduled, unscheduled}
+use Rattle.tree_specs.specs.Events.Queues.{entry_of, without_entry, next_of}
 use Rattle.tree_specs.specs.Events.Rotation.{is_watching, is_watched, closes_with, unwatched}
 use Rattle.tree_specs.specs.Events.Descriptors.{Descriptors, is_open_in, shut}
 use Rattle.tree_specs.specs.Calls.Refusals.{is_doomed_mark, is_open}
@@ -128,19 +131,45 @@ placed-awaits p o x may a = rows-awaits p (place p o x).rows a comes event
 
 -- ---- an object waits no more, and won't come
 
+-- the queue that an entry leaves may come soon
+abbrev pub MayLook : Pool → Obj → Option QueueEntry → Type 0
+MayLook p x None = Unit {0}
+MayLook p x (Some e) = is_some (next_of (without_entry p.queues x) e.queue) ≡ true → MayCome Immediate (row_of p.rows e.queue) × (is_event_row (row_of p.rows e.queue) ≡ false) × (x ≢ e.queue)
+
 -- one that leaves, or is doomed
-pub gone-awaits : (g : Row → Row) (p : Pool) (x : Obj) → ((r : Row) → (g r).serial ≡ r.serial) → ((r : Row) → (g r).kind ≡ r.kind) → Awaits p → Awaits (let_go p x g)
-gone-awaits g p x serial kind a = record {
-  events = λ w y h. (let o = other w y h in rw (row_of-changed-other g p.rows x y serial o.1) (a.events w y o.0));
+pub gone-awaits : (g : Row → Row) (p : Pool) (x : Obj) → ((r : Row) → (g r).serial ≡ r.serial) → ((r : Row) → (g r).kind ≡ r.kind) → MayLook p x (entry_of p.queues x) → Awaits p → Awaits (let_go p x g)
+gone-awaits g p x serial kind look a = record {
+  events = λ w y h. let o = other w y h in rw (row_of-changed-other g p.rows x y serial o.1) o.0;
   handlers = λ y e. a.handlers y (sym (changed-event g p.rows x y serial kind) ∙ e);
   distinct = unwatched-distinct p.ring x a.distinct;
   watched = λ fd h. still_open fd (closes_with p.ring x) refl h;
 }
   where
-    other : (w : What) (y : Obj) → waits w (let_go p x g) y ≡ true → (waits w p y ≡ true) × (x ≢ y)
-    other Immediate y h = unscheduled-other p.soon x y h
-    other Timer y h = disarmed-other p.times x y h
-    other Descriptor y h = unwatched-other p.ring x y h
+    IsOther : What → Obj → Type 0
+    IsOther w y = (MayCome w (row_of p.rows y) × IsHandled (row_of p.rows y) (handler_of p.handlers y)) × (x ≢ y)
+
+    left : (y : Obj) → is_scheduled (unscheduled p.soon x) y ≡ true → IsOther Immediate y
+    left y h = let o = unscheduled-other p.soon x y h in (a.events Immediate y o.0, o.1)
+
+    -- those that come soon: the others, and the queue
+    after : (q y : Obj) (b : Bool) → (b ≡ true → MayCome Immediate (row_of p.rows q) × (is_event_row (row_of p.rows q) ≡ false) × (x ≢ q))
+        → is_scheduled (if b then scheduled (unscheduled p.soon x) q else unscheduled p.soon x) y ≡ true → IsOther Immediate y
+    after q y false may h = left y h
+    after q y true may h = elim (scheduled-either (unscheduled p.soon x) q y h) [
+      | inl l ↦ left y l
+      | inr is ↦
+          let m = may refl in
+          subst (IsOther Immediate) is ((m.0, λ i. let bad : true ≡ false = sym i ∙ m.1 in cc), m.2)
+    ]
+
+    soon : (o : Option QueueEntry) → MayLook p x o → (y : Obj) → is_scheduled (looked_after (without_entry p.queues x) o (unscheduled p.soon x)) y ≡ true → IsOther Immediate y
+    soon None may y h = left y h
+    soon (Some e) may y h = after e.queue y (is_some (next_of (without_entry p.queues x) e.queue)) may h
+
+    other : (w : What) (y : Obj) → waits w (let_go p x g) y ≡ true → IsOther w y
+    other Immediate y h = soon (entry_of p.queues x) look y h
+    other Timer y h = let o = disarmed-other p.times x y h in (a.events Timer y o.0, o.1)
+    other Descriptor y h = let o = unwatched-other p.ring x y h in (a.events Descriptor y o.0, o.1)
     other _ y h = cc
 
     -- nobody else watches the descriptor that is closed with it
@@ -233,6 +262,14 @@ scheduled-awaits p x comes ready a = record { events = events; handlers = a.hand
     events Timer y h = a.events Timer y h
     events Descriptor y h = a.events Descriptor y h
     events _ y h = cc
+
+-- a queue that is looked at
+pub looked-awaits : (p : Pool) (q : Obj) → MayCome Immediate (row_of p.rows q) → IsHandled (row_of p.rows q) (handler_of p.handlers q) → Awaits p → Awaits (look_at p q)
+looked-awaits p q comes ready a = each (is_some (next_of p.queues q))
+  where
+    each : (b : Bool) → Awaits (record p { soon = if b then scheduled p.soon q else p.soon })
+    each true = scheduled-awaits p q comes ready a
+    each false = a
 
 pub armed-awaits : (p : Pool) (x : Obj) (time number : ℕ) → MayCome Timer (row_of p.rows x) → IsHandled (row_of p.rows x) (handler_of p.handlers x) → Awaits p → Awaits (arm p x time number)
 armed-awaits p x time number comes ready a = record { events = events; handlers = a.handlers; distinct = a.distinct; watched = a.watched }

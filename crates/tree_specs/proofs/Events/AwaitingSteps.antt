@@ -1,5 +1,5 @@
 -- Each step leaves what waits as it must be.
-use Rattle.std.proofs.Common.{◌≡◌, ℕ, List, [], Option, Some, None, Bool, true, false, nat_eq, nat_le, ◌<◌, arith, refl, sym, ◌∙◌, ap}
+use Rattle.std.proofs.Common.{◌≡◌, ℕ, List, [], ◌∷◌, Option, Some, None, Bool, true, false, nat_eq, nat_le, ◌<◌, arith, refl, sym, ◌∙◌, ap, subst, inl, inr}
 use Rattle.step_machine.specs.Machine.{Move as Do}
 use Rattle.tree_specs.specs.declared.object.Obj.{Obj}
 use Rattle.tree_specs.specs.declared.object.Owner.{Owner}
@@ -10,9 +10,11 @@ use Rattle.tree_specs.specs.declared.row.Mark.TheVariants.{Quiet, Asked, Busy, D
 use Rattle.tree_specs.specs.declared.event.Event.{Event}
 use Rattle.tree_specs.specs.declared.due.Due.{Due}
 use Rattle.tree_specs.specs.declared.handler.Handler.{Handler}
+use Rattle.tree_specs.specs.declared.queue.QueueEntry.{QueueEntry}
 use Rattle.tree_specs.specs.declared.moment.What.{What}
 use Rattle.tree_specs.specs.declared.moment.What.TheVariants.{Immediate, Timer, Descriptor}
-use Rattle.std.specs.Prelude.{◌+◌, is_some, codes}
+use Rattle.std.specs.Prelude.{◌+◌, not, is_some, codes}
+use Rattle.std.specs.Ordering.{nat_cmp, eq_by_cmp}
 use Rattle.tree_specs.specs.Words.Objects.{same}
 use Rattle.tree_specs.specs.declared.kind.Kind.{Kind}
 use Rattle.tree_specs.specs.declared.kind.Kind.TheVariants as kind
@@ -25,7 +27,8 @@ use Rattle.tree_specs.specs.declared.frame.Errand.TheVariants.{Receive}
 use Rattle.tree_specs.specs.declared.frame.RequestFrame.{RequestFrame}
 use Rattle.tree_specs.specs.declared.frame.RequestFrame.TheVariants as request
 use Rattle.tree_specs.specs.Events.Requests.{note_of, is_noted, is_unreceived, new_note, cleanup_in, cancel_in, cleaned, not_deferring}
-use Rattle.tree_specs.specs.Calls.Refusals.{is_doomed_mark, is_request, is_request_row}
+use Rattle.tree_specs.specs.Events.Queues.{Queues, Head, has_queue, entry_of, has_entries, without_entry, head_of, next_of, with_entry, new_entry}
+use Rattle.tree_specs.specs.Calls.Refusals.{is_doomed_mark, is_doomed, is_request, is_request_row, is_queue, is_queue_row, is_entry}
 use Rattle.tree_specs.specs.Invariants.Noted.{IsCalm, NotesHold, Noted}
 use Rattle.tree_specs.specs.declared.watch.Watch.{Watch}
 use Rattle.tree_specs.specs.declared.notice.Notice.{Notice}
@@ -44,29 +47,39 @@ use Rattle.tree_specs.specs.declared.frame.Purpose.{Purpose}
 use Rattle.tree_specs.specs.declared.frame.Purpose.TheVariants.{Removal, Emptying}
 use Rattle.tree_specs.specs.declared.free_step.FreeReply.{FreeReply}
 use Rattle.tree_specs.specs.declared.free_step.FreeReply.TheVariants.{Ok}
-use Rattle.tree_specs.specs.Tree.Pool.{Pool, row_of, passes, add, note, add_request, schedule, unschedule, disarm, renote, finish, remove, target_at, newest_ref_of, is_below, owner_of, is_inside, first_kid, left_row, marked_row, hooked_row}
+use Rattle.tree_specs.specs.Tree.Pool.{Pool, row_of, passes, add, note, add_request, add_queue, add_entry, run_queue, trigger, schedule, unschedule, disarm, renote, finish, remove, target_at, newest_ref_of, is_below, owner_of, is_inside, first_kid, left_row, marked_row, hooked_row}
 use Rattle.tree_specs.specs.Tree.Targets.{newest_ref}
 use Rattle.tree_specs.specs.Tree.Heirs.{heir}
 use Rattle.tree_specs.specs.Tree.Forest.{Distinct}
 use Rattle.tree_specs.specs.declared.call.Call.{Call}
 use Rattle.tree_specs.specs.Calls.Plans.{Change, Plan, planned, changed_by}
-use Rattle.tree_specs.specs.Calls.Plans.Change.{Nothing, Edit, Add, Place, Handle, Schedule, Unschedule, Arm, Watches, Rewatch, Close, TakeNumber, AddRequest, Renotes, Then}
+use Rattle.tree_specs.specs.Calls.Plans.Change.{Nothing, Edit, Add, Place, Handle, Schedule, Unschedule, Arm, Watches, Rewatch, Close, TakeNumber, AddRequest, Renotes, Runs, AddQueue, AddEntry, LooksAt, Then}
 use Rattle.tree_specs.specs.Calls.Plans.Plan.{Does, Frees, Unlinks, Turns, Works}
 use Rattle.tree_specs.specs.Events.Pending.{first}
+use Rattle.tree_specs.specs.Events.Handlers.{handler_of}
 use Rattle.tree_specs.specs.Events.Rotation.{is_watching}
 use Rattle.tree_specs.specs.Events.Coming.{handler_for, rotated, goes_after}
 use Rattle.tree_specs.specs.Machine.Profiles.{InLoop}
 use Rattle.tree_specs.specs.Machine.FreeTable.{FreeMove, begin_step, refs_step, unlink_step, release_step, judge_step, last_step, child_step, loop_step, hand_on_step, tried_step, free_step}
-use Rattle.tree_specs.specs.Machine.Table.{event_of, announced, lifted, notice_step, plan_step, turning_step, due_step, taking_step, timed_step, early_step, due_now, starting_step, handled_step, turn_step, outside_step, cancelling_step, cleaning_step, release_object, cleaned_step, callback_step, notifying_step, request_step, step}
+use Rattle.tree_specs.specs.Machine.Table.{event_of, announced, lifted, notice_step, plan_step, turning_step, due_step, taking_step, timed_step, early_step, due_now, starting_step, handled_step, turn_step, outside_step, cancelling_step, cleaning_step, release_object, cleaned_step, callback_step, notifying_step, vacating_step, triggering_step, request_step, step}
 use Rattle.tree_specs.specs.Invariants.Sound.{ValidAt, phases, claims, Rests, Sound}
-use Rattle.tree_specs.specs.Invariants.Awaiting.{waits_as, waits_as_row, is_event, is_event_row, MayCome, Awaits, pool_after}
+use Rattle.tree_specs.specs.Invariants.Queued.{IsEntryRow, AreQueued, QueuesHold}
+use Rattle.tree_specs.specs.Invariants.Awaiting.{waits_as, waits_as_row, is_event, is_event_row, MayCome, IsHandled, Awaits, pool_after}
 use Rattle.tree_specs.proofs.Tree.Numbered.{by_test, same-false}
 use Rattle.tree_specs.proofs.Tree.Referring.{newest-refers, newest-of-refers}
 use Rattle.tree_specs.proofs.Invariants.Changes.{dying-row, claim-here, heir-placed}
 use Rattle.tree_specs.proofs.Calls.Plans.{May, may-planned}
 use Rattle.tree_specs.proofs.Calls.Changes.{MayDo, change-sound}
 use Rattle.tree_specs.proofs.Calls.NewEvents.{AreNew, OnlyNew, quiet-spared, new-events}
-use Rattle.tree_specs.proofs.Events.Awaiting.{changed-awaits, marked-awaits, placed-awaits, gone-awaits, kept-awaits, removed-awaits, added-awaits, handled-awaits, scheduled-awaits, armed-awaits, unscheduled-awaits, disarmed-awaits, watching-awaits, rewatched-awaits, turned-awaits, opened-awaits, closed-awaits, reference-stays}
+use Rattle.tree_specs.proofs.Events.QueueLaws.{has-without}
+use Rattle.tree_specs.proofs.Invariants.Queues.{find-waiting, next-head}
+use Rattle.tree_specs.proofs.Invariants.FreeQueues.{drained-spared}
+use Rattle.tree_specs.proofs.Events.Awaiting.{MayLook, looked-awaits, changed-awaits, marked-awaits, placed-awaits, gone-awaits, kept-awaits, removed-awaits, added-awaits, handled-awaits, scheduled-awaits, armed-awaits, unscheduled-awaits, disarmed-awaits, watching-awaits, rewatched-awaits, turned-awaits, opened-awaits, closed-awaits, reference-stays}
+
+-- what may wait so, and isn't being freed
+comes : (w : What) (o : Option Row) → waits_as_row w o ≡ true → passes (λ r. is_doomed_mark r.mark) o ≡ false → MayCome w o
+comes w None t d = cc
+comes w (Some r) t d = (t, d)
 
 -- ---- frees
 
@@ -79,23 +92,33 @@ removed x h fs p s a =
 newest : (p : Pool) (x r : Obj) → Distinct p.rows → newest_ref p.rows x ≡ Some r → Awaits p → Awaits (remove p r)
 newest p x r d e a = let w = newest-refers p.rows x r d e in removed-awaits p r (reference-stays p r x (rw w.1 w.2)) a
 
-beginning : (x : Obj) (fs : List Frame) (p : Pool) → Sound (frame.Free (Beginning x)) fs p → Awaits p → Awaits (pool_after (refs_step x (newest_ref p.rows x) p))
-beginning x fs p s a = each (newest_ref p.rows x) refl
+beginning : (x : Obj) (fs : List Frame) (p : Pool) → Sound (frame.Free (Beginning x)) fs p → AreQueued p → Awaits p → Awaits (pool_after (refs_step x (newest_ref p.rows x) p))
+beginning x fs p s queued a = each (newest_ref p.rows x) refl
   where
-    marks : (r : Row) (m : Mark) → r.mark ≡ m → Awaits (pool_after (begin_step x (Some r) p))
-    marks r Quiet m = rw m (by_test (is_request r.kind)
-        (λ u. rw u (marked-awaits Asked p x refl a))
-        (λ u. by_test (nat_eq r.hook 0) (λ t. rw (u, t) a) (λ t. rw (u, t) (marked-awaits Asked p x refl a))))
-    marks r Busy m = rw m (gone-awaits (marked_row Doomed) p x (λ q. refl) (λ q. refl) a)
-    marks r Asked m = rw m a
-    marks r _ m = rw m a
+    -- an event whose handler runs is no entry
+    busy : (r : Row) → row_of p.rows x ≡ Some r → r.mark ≡ Busy → MayLook p x (entry_of p.queues x)
+    busy r e m = entries (entry_of p.queues x) refl
+      where
+        entries : (o : Option QueueEntry) → entry_of p.queues x ≡ o → MayLook p x o
+        entries None is = tt
+        entries (Some w) is = let i = (find-waiting p p.queues.entries x w queued is).entry in let i' : IsEntryRow w.request (Some r) = rw e at i in let bad : Busy ≡ Quiet = sym m ∙ i'.1 in cc
 
-    row : (o : Option Row) → Awaits (pool_after (begin_step x o p))
-    row None = a
-    row (Some r) = marks r r.mark refl
+    marks : (r : Row) → row_of p.rows x ≡ Some r → (m : Mark) → r.mark ≡ m → Awaits (pool_after (begin_step x (Some r) p))
+    marks r e Quiet m = rw m (by_test (is_request r.kind)
+        (λ u. rw u (marked-awaits Asked p x refl a))
+        (λ u. by_test (is_queue r.kind)
+        (λ v. rw (u, v) (marked-awaits Asked p x refl a))
+        (λ v. by_test (nat_eq r.hook 0) (λ t. rw (u, v, t) a) (λ t. rw (u, v, t) (marked-awaits Asked p x refl a)))))
+    marks r e Busy m = rw m (gone-awaits (marked_row Doomed) p x (λ q. refl) (λ q. refl) (busy r e m) a)
+    marks r e Asked m = rw m a
+    marks r e _ m = rw m a
+
+    row : (o : Option Row) → row_of p.rows x ≡ o → Awaits (pool_after (begin_step x o p))
+    row None e = a
+    row (Some r) e = marks r e r.mark refl
 
     each : (n : Option Obj) → newest_ref p.rows x ≡ n → Awaits (pool_after (refs_step x n p))
-    each None e = row (row_of p.rows x)
+    each None e = row (row_of p.rows x) refl
     each (Some r) e = by_test (is_inside p.rows (Of r) (Of x)) (λ t. rw t (newest p x r s.forest.distinct e a)) (λ t. rw t (newest p x r s.forest.distinct e a))
 
 releasing : (x : Obj) (fs : List Frame) (p : Pool) → Sound (frame.Free (Releasing x)) fs p → Awaits p → Awaits (pool_after (release_step x (newest_ref p.rows x) p))
@@ -111,6 +134,39 @@ unlinking o x fs p s a = each (newest_ref_of p.rows o x) refl
     each : (n : Option Obj) → newest_ref_of p.rows o x ≡ n → Awaits (pool_after (unlink_step x n p))
     each None e = a
     each (Some r) e = let w = newest-of-refers p.rows o x r s.forest.distinct e in removed-awaits p r (reference-stays p r x (rw w.1 w.2)) a
+
+-- a queue that has entries, of which one leaves, may come soon
+leaving : (x : Obj) (h : ℕ) (fs : List Frame) (p : Pool) → Sound (frame.Free (Leaving x h)) fs p → QueuesHold (frame.Free (Leaving x h) ∷ fs) p → MayLook p x (entry_of p.queues x)
+leaving x h fs p s hold = each (entry_of p.queues x) refl
+  where
+    kinds : (k : Kind) → is_queue k ≡ true → (waits_as Immediate k ≡ true) × (is_event k ≡ false) × (is_entry k ≡ false)
+    kinds kind.Queue t = (refl, refl, refl)
+    kinds _ t = cc
+
+    rows : (o : Option Row) → is_queue_row o ≡ true → (waits_as_row Immediate o ≡ true) × (is_event_row o ≡ false) × ((z : Obj) → IsEntryRow z o → ⊥)
+    rows None t = cc
+    rows (Some r) t = let k = kinds r.kind t in (k.0, k.1, λ z i. (let bad : true ≡ false = sym i.0 ∙ k.2 in cc))
+
+    spared : (q : Obj) → has_entries p.queues q ≡ true → is_doomed p q ≡ false
+    spared q t = elim (hold.idle q t) [
+      | inl quiet ↦ quiet-spared (row_of p.rows q) quiet
+      | inr d ↦ drained-spared (frame.Free (Leaving x h)) fs p q s d
+    ]
+
+    runs_on : (qs : Queues) (q : Obj) → is_some (next_of qs q) ≡ true → has_entries qs q ≡ true
+    runs_on qs q t = some (next_of qs q) refl t
+      where
+        some : (o : Option Head) → next_of qs q ≡ o → is_some o ≡ true → has_entries qs q ≡ true
+        some None e t = cc
+        some (Some g) e t = ap is_some (next-head qs q g e)
+
+    each : (o : Option QueueEntry) → entry_of p.queues x ≡ o → MayLook p x o
+    each None e = tt
+    each (Some w) e = λ t.
+        let i = find-waiting p p.queues.entries x w hold.waiting e in
+        let r = rows (row_of p.rows w.queue) i.queue in
+        let had = has-without (λ z. not (eq_by_cmp nat_cmp x.0 z.0)) p.queues.entries w.queue (runs_on (without_entry p.queues x) w.queue t) in
+        (comes Immediate (row_of p.rows w.queue) r.0 (spared w.queue had), r.1, λ is. r.2 w.request (subst (λ (z : Obj). IsEntryRow w.request (row_of p.rows z)) is i.entry))
 
 judged : (x : Obj) (h v : ℕ) (p : Pool) → Awaits p → Awaits (pool_after (judge_step x h v p))
 judged x h v p a = by_test (nat_eq v 0)
@@ -143,17 +199,17 @@ tried x c noted purpose b fs p s a = each b
     each Ok = a
     each _ = handed
 
-pub free-awaits : (f : FreeFrame) (fs : List Frame) (p : Pool) → Sound (frame.Free f) fs p → Awaits p → Awaits (pool_after (free_step f p))
-free-awaits (Unlinking o x) fs p s a = unlinking o x fs p s a
-free-awaits (Releasing x) fs p s a = releasing x fs p s a
-free-awaits (Giving x o) fs p s a = placed-awaits p o x s.rests a
-free-awaits (Beginning x) fs p s a = beginning x fs p s a
-free-awaits (Judged x h v) fs p s a = judged x h v p a
-free-awaits (Prepared x) fs p s a = marked-awaits Quiet p x refl a
-free-awaits (Leaving x h) fs p s a = gone-awaits left_row p x (λ r. refl) (λ r. refl) a
-free-awaits (Looping x purpose) fs p s a = looping x purpose fs p s a
-free-awaits (AfterChild x c noted purpose b) fs p s a = tried x c noted purpose b fs p s a
-free-awaits _ fs p s a = a
+pub free-awaits : (f : FreeFrame) (fs : List Frame) (p : Pool) → Sound (frame.Free f) fs p → QueuesHold (frame.Free f ∷ fs) p → Awaits p → Awaits (pool_after (free_step f p))
+free-awaits (Unlinking o x) fs p s q a = unlinking o x fs p s a
+free-awaits (Releasing x) fs p s q a = releasing x fs p s a
+free-awaits (Giving x o) fs p s q a = placed-awaits p o x s.rests a
+free-awaits (Beginning x) fs p s q a = beginning x fs p s q.waiting a
+free-awaits (Judged x h v) fs p s q a = judged x h v p a
+free-awaits (Prepared x) fs p s q a = marked-awaits Quiet p x refl a
+free-awaits (Leaving x h) fs p s q a = gone-awaits left_row p x (λ r. refl) (λ r. refl) (leaving x h fs p s q) a
+free-awaits (Looping x purpose) fs p s q a = looping x purpose fs p s a
+free-awaits (AfterChild x c noted purpose b) fs p s q a = tried x c noted purpose b fs p s a
+free-awaits _ fs p s q a = a
 
 -- among the host's works it leaves the same
 lifted-awaits : (ring : List Watch) (m : FreeMove) → Awaits (pool_after m) → Awaits (pool_after (lifted ring m))
@@ -182,11 +238,6 @@ unwatching p valid a =
     (λ t. absurd (let comes : MayCome Descriptor None = rw (fresh p.next (row_of p.rows n) (valid n)) at (a.events Descriptor n t).0 in comes))
     (λ t. t)
 
--- what may wait so, and isn't being freed
-comes : (w : What) (o : Option Row) → waits_as_row w o ≡ true → passes (λ r. is_doomed_mark r.mark) o ≡ false → MayCome w o
-comes w None t d = cc
-comes w (Some r) t d = (t, d)
-
 -- a new request, with its object
 requested-awaits : (p : Pool) (o : Owner) (size : ℕ) (name : List ℕ) → ((x : Obj) → ValidAt p.next (row_of p.rows x) x) → Awaits p → Awaits (add_request p o size name)
 requested-awaits p o size name valid a =
@@ -205,6 +256,16 @@ requested-awaits p o size name valid a =
         each None v = refl
         each (Some r) v = let l : p.next + 1 < p.next = v.1 in absurd (omega arith)
 
+-- a new entry, whose queue comes soon where it is the first
+entered-awaits : (p : Pool) (q x : Obj) (trigger : Handler) → row_of p.rows (record { 0 = p.next }) ≡ None → is_queue_row (row_of p.rows q) ≡ true → MayCome Immediate (row_of p.rows q) → IsHandled (row_of p.rows q) (handler_of p.handlers q)
+    → Awaits p → Awaits (add_entry p q x trigger)
+entered-awaits p q x trigger nobody queue may ready a =
+    let n : Obj = record { 0 = p.next } in
+    let b : Pool = record (add p kind.Entry (Of x) 0 (codes "entry")) { queues = with_entry p.queues n (new_entry q x trigger) } in
+    let other : row_of b.rows q ≡ row_of p.rows q = (let ne : same n q ≡ false = same-false n q (λ e. let t : is_queue_row None ≡ true = rw nobody at (subst (λ (z : Obj). is_queue_row (row_of p.rows z) ≡ true) (sym e) queue) in cc) in rw ne refl) in
+    looked-awaits b q (rw other may) (rw other ready)
+    (kept-awaits (add p kind.Entry (Of x) 0 (codes "entry")) b (added-awaits p kind.Entry (Of x) 0 (codes "entry") nobody a) refl refl refl refl refl refl)
+
 change-awaits : (f : Frame) (fs : List Frame) (p : Pool) (c : Change) → Sound f fs p → ((q : Pool) → Rests f fs q) → MayDo p c → AreNew p c → Awaits p → Awaits (changed_by c p)
 change-awaits f fs p Nothing s calm may new a = a
 change-awaits f fs p (Edit x g) s calm may new a = changed-awaits g p x (record { serial = may.place.serial; kind = may.place.kind; mark = λ r l. rw (may.mark r) l }) a
@@ -220,6 +281,11 @@ change-awaits f fs p (Close fd) s calm may new a = closed-awaits p fd may a
 change-awaits f fs p (AddRequest o size name) s calm may new a = requested-awaits p o size name s.valid a
 change-awaits f fs p TakeNumber s calm may new a = kept-awaits p (changed_by TakeNumber p) a refl refl refl refl refl refl
 change-awaits f fs p (Renotes x g) s calm may new a = kept-awaits p (changed_by (Renotes x g) p) a refl refl refl refl refl refl
+change-awaits f fs p (Runs q b) s calm may new a = kept-awaits p (run_queue p q b) a refl refl refl refl refl refl
+change-awaits f fs p (AddQueue o name) s calm may new a =
+    kept-awaits (add p kind.Queue o 0 name) (add_queue p o name) (added-awaits p kind.Queue o 0 name (fresh p.next _ (s.valid (record { 0 = p.next }))) a) refl refl refl refl refl refl
+change-awaits f fs p (AddEntry q x trigger) s calm may new a = entered-awaits p q x trigger may.3 may.2 (comes Immediate (row_of p.rows q) may.1.comes new) may.1.ready a
+change-awaits f fs p (LooksAt q) s calm may new a = looked-awaits p q (comes Immediate (row_of p.rows q) may.comes new) may.ready a
 change-awaits f fs p (Then c d) s calm may new a =
     let t = change-sound f f fs p c s may.0 (λ y. refl) calm (calm (changed_by c p)) in
     change-awaits f fs (changed_by c p) d t calm may.1 new.1 (change-awaits f fs p c s calm may.0 new.0 a)
@@ -253,7 +319,9 @@ taking p a = each (first p.soon)
 
     each : (o : Option Obj) → Awaits (pool_after (taking_step o p))
     each None = due (first p.times)
-    each (Some x) = by_test (is_noted p.requests x) (λ t. rw t (unscheduled-awaits p x a)) (λ t. rw t (unscheduled-awaits p x a))
+    each (Some x) = by_test (is_noted p.requests x)
+        (λ t. rw t (unscheduled-awaits p x a))
+        (λ t. by_test (has_queue p.queues x) (λ u. rw (t, u) (unscheduled-awaits p x a)) (λ u. rw (t, u) (unscheduled-awaits p x a)))
 
 timed : (again : Bool) (now : ℕ) (p : Pool) → Awaits p → Awaits (pool_after (turn_step (Timed again now) p))
 timed again now p a = each (first p.times)
@@ -346,6 +414,16 @@ module _ (fs : List Frame) (p : Pool) (a : Awaits p) where
       back None = a
       back (Some handler) = a
 
+-- a queue is emptied, or triggers its first entry
+module _ (p : Pool) (a : Awaits p) where
+  vacating : (q : Obj) (o : Option Head) → Awaits (pool_after (vacating_step q o (run_queue p q false)))
+  vacating q None = kept-awaits p (run_queue p q false) a refl refl refl refl refl refl
+  vacating q (Some h) = kept-awaits p (run_queue p q false) a refl refl refl refl refl refl
+
+  triggering : (o : Option Head) → Awaits (pool_after (triggering_step o p))
+  triggering None = a
+  triggering (Some h) = kept-awaits p (trigger p h) a refl refl refl refl refl refl
+
 request-awaits : (f : RequestFrame) (fs : List Frame) (p : Pool) → Sound (frame.Request f) fs p → Noted (frame.Request f) p → IsCalm (frame.Request f) fs → Awaits p → Awaits (pool_after (request_step f p))
 request-awaits (request.Finishing x s) fs p sound n c a = finished-awaits p x s a
 request-awaits (request.Receiving x) fs p sound n c a = by_test (is_unreceived (note_of p.requests x))
@@ -355,16 +433,18 @@ request-awaits (request.Cancelling x) fs p sound n c a = cancelling fs p a x (ca
 request-awaits (request.Cleaning x errand) fs p sound n c a = cleaning fs p a x errand (cleanup_in (note_of p.requests x))
 request-awaits (request.Cleaned x errand) fs p sound n c a = cleaned-object fs p a x errand (note_of p.requests x)
 request-awaits (request.Notifying x errand) fs p sound n c a = notifying fs p a x errand (sym (sound.open_frees x) ∙ c) n.pool (note_of p.requests x) refl
+request-awaits (request.Vacating q) fs p sound n c a = vacating p a q (head_of p.queues q)
+request-awaits (request.Triggering q) fs p sound n c a = triggering p a (next_of p.queues q)
 request-awaits _ fs p sound n c a = a
 
 -- ---- all
 
 -- every step leaves what waits as it must be
-pub step-awaits : (f : Frame) (fs : List Frame) (p : Pool) → Sound f fs p → Noted f p → IsCalm f fs → Awaits p → Awaits (pool_after (step f p))
-step-awaits (frame.Call (Doing q c)) fs p s n c' a = planned-awaits q c fs p s (planned p c) (may-planned (frame.Call (Doing q c)) fs p s c) (new-events p (unwatching p s.valid a) n.pool c) a
-step-awaits (frame.Call (Asking q)) fs p s n c a = a
-step-awaits (frame.Call _) fs p s n c a = a
-step-awaits (frame.Free f) fs p s n c a = lifted-awaits p.ring (free_step f p) (free-awaits f fs p s a)
-step-awaits (frame.Turn f) fs p s n c a = turn-awaits f p a
-step-awaits (frame.Outside f) fs p s n c a = outside-awaits f p a
-step-awaits (frame.Request f) fs p s n c a = request-awaits f fs p s n c a
+pub step-awaits : (f : Frame) (fs : List Frame) (p : Pool) → Sound f fs p → Noted f p → QueuesHold (f ∷ fs) p → IsCalm f fs → Awaits p → Awaits (pool_after (step f p))
+step-awaits (frame.Call (Doing q c)) fs p s n h c' a = planned-awaits q c fs p s (planned p c) (may-planned (frame.Call (Doing q c)) fs p s c) (new-events p (unwatching p s.valid a) n.pool c) a
+step-awaits (frame.Call (Asking q)) fs p s n h c a = a
+step-awaits (frame.Call _) fs p s n h c a = a
+step-awaits (frame.Free f) fs p s n h c a = lifted-awaits p.ring (free_step f p) (free-awaits f fs p s h a)
+step-awaits (frame.Turn f) fs p s n h c a = turn-awaits f p a
+step-awaits (frame.Outside f) fs p s n h c a = outside-awaits f p a
+step-awaits (frame.Request f) fs p s n h c a = request-awaits f fs p s n c a

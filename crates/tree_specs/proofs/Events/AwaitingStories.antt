@@ -50,7 +50,7 @@ both scenes f b ws p (Do.Call g h q) l now next = (l, next)
 
 kept : (scenes : List Scene) (w : NotedWork) (ws : List NotedWork) (p : Pool) → Holds scenes w ws p → FitsOn noted_table AwaitsBefore Holds scenes (noted_table.step w p) ws
 kept scenes w ws p h =
-    both scenes w.work w.note ws p (step w.work p) (whole-kept (record { innermost = w.work; below = map work_of ws; pool = p }) 1 h.0) h.1 (step-awaits w.work (map work_of ws) p h.0.sound h.0.noted h.0.calm.0 h.1)
+    both scenes w.work w.note ws p (step w.work p) (whole-kept (record { innermost = w.work; below = map work_of ws; pool = p }) 1 h.0) h.1 (step-awaits w.work (map work_of ws) p h.0.sound h.0.noted h.0.queued.pool h.0.calm.0 h.1)
 
 none-await : (first : ℕ) → Awaits (empty first)
 none-await first = record { events = λ w x h. absurd (none w x h); handlers = λ x e. refl; distinct = tt; watched = λ fd h. cc }
@@ -66,4 +66,4 @@ story-awaits first is h =
     subst (EachFits AwaitsBefore) (story-walk first is h) (each-fits noted_table AwaitsBefore Holds kept (turns 0 (length is)) asking [] (empty first) is (begin-whole first h, none-await first))
 
 pub moment-awaits : (v : View) → IsConsistent v → Awaits v.pool → Awaits (pool_after (step v.innermost v.pool))
-moment-awaits v h a = step-awaits v.innermost v.below v.pool h.sound h.noted h.calm.0 a
+moment-awaits v h a = step-awaits v.innermost v.below v.pool h.sound h.noted h.queued.pool h.calm.0 a

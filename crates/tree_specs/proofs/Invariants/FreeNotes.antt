@@ -18,7 +18,7 @@ use Rattle.tree_specs.specs.declared.frame.Errand.{Errand}
 use Rattle.tree_specs.specs.declared.frame.Frame.{Frame}
 use Rattle.tree_specs.specs.declared.frame.Frame.TheVariants as frame
 use Rattle.tree_specs.specs.declared.frame.FreeFrame.{FreeFrame}
-use Rattle.tree_specs.specs.declared.frame.FreeFrame.TheVariants.{Unlinking, Releasing, Giving, Beginning, Hooked, Judged, Preparing, Prepared, Dooming, Leaving, Looping, FreeingChild, AfterChild, Ending}
+use Rattle.tree_specs.specs.declared.frame.FreeFrame.TheVariants.{Unlinking, Releasing, Giving, Beginning, Hooked, Judged, Preparing, Prepared, Dooming, Leaving, Looping, FreeingChild, AfterChild, Ending, Draining}
 use Rattle.tree_specs.specs.declared.frame.RequestFrame.TheVariants as request
 use Rattle.tree_specs.specs.declared.frame.Purpose.{Purpose}
 use Rattle.tree_specs.specs.declared.frame.Purpose.TheVariants.{Removal, Emptying}
@@ -31,7 +31,7 @@ use Rattle.tree_specs.specs.Tree.Pool.{Pool, row_of, target_at, newest_ref_of, i
 use Rattle.tree_specs.specs.Tree.Targets.{newest_ref}
 use Rattle.tree_specs.specs.Tree.Heirs.{heir}
 use Rattle.tree_specs.specs.Events.Requests.{note_of, is_unreceived}
-use Rattle.tree_specs.specs.Calls.Refusals.{is_request, is_request_row}
+use Rattle.tree_specs.specs.Calls.Refusals.{is_request, is_request_row, is_queue}
 use Rattle.tree_specs.specs.Machine.FreeTable.{FreeMove, begin_quiet, begin_step, refs_step, unlink_step, release_step, last_step, child_step, loop_step, hand_on_step, tried_step, free_step}
 use Rattle.tree_specs.specs.Machine.Table.{table, event_of, announced, lifted, run_for, resume}
 use Rattle.tree_specs.specs.Invariants.Sound.{phases, phase_of, claims, AllWait, Sound}
@@ -82,9 +82,11 @@ beginning x fs p s h = newest (newest_ref p.rows x)
     quiet : (r : Row) → row_of p.rows x ≡ Some r → FreeNoted (begin_quiet x r.kind r.hook p)
     quiet r e = by_test (is_request r.kind)
         (λ u. rw u (record { pool = changed-holds (marked_row Asked) p (set_mark p x Asked) x (excepted p x h) (λ r. refl) (λ r. refl) refl refl (λ y t. t) (λ t r. inr refl); works = tt }))
-        (λ u. let none = unnoted-unreceived p x (h.notes x ∙ ap is_request_row e ∙ u) in by_test (nat_eq r.hook 0)
-        (λ t. rw (u, t) (record { pool = h; works = none }))
-        (λ t. rw (u, t) (record { pool = changed-holds (marked_row Asked) p (set_mark p x Asked) x h (λ r. refl) (λ r. refl) refl refl (λ y t. t) (λ v r. let bad : true ≡ false = sym v ∙ none in cc); works = tt })))
+        (λ u. let none = unnoted-unreceived p x (h.notes x ∙ ap is_request_row e ∙ u) in by_test (is_queue r.kind)
+        (λ w. rw (u, w) (record { pool = changed-holds (marked_row Asked) p (set_mark p x Asked) x h (λ r. refl) (λ r. refl) refl refl (λ y t. t) (λ v r. let bad : true ≡ false = sym v ∙ none in cc); works = tt }))
+        (λ w. by_test (nat_eq r.hook 0)
+        (λ t. rw (u, w, t) (record { pool = h; works = none }))
+        (λ t. rw (u, w, t) (record { pool = changed-holds (marked_row Asked) p (set_mark p x Asked) x h (λ r. refl) (λ r. refl) refl refl (λ y t. t) (λ v r. let bad : true ≡ false = sym v ∙ none in cc); works = tt }))))
 
     marks : (r : Row) (m : Mark) → r.mark ≡ m → row_of p.rows x ≡ Some r → FreeNoted (begin_step x (Some r) p)
     marks r Quiet m e = rw m (quiet r e)
@@ -157,6 +159,7 @@ free-noted (Releasing x) fs p s n = releasing x fs p s n.pool
 free-noted (Giving x o) fs p s n = record { pool = placed-holds p o x s.rests n.pool; works = tt }
 free-noted (Beginning x) fs p s n = beginning x fs p s n.pool
 free-noted (Hooked x hook) fs p s n = record { pool = n.pool; works = tt }
+free-noted (Draining x) fs p s n = record { pool = n.pool; works = tt }
 free-noted (Judged x hook v) fs p s n =
     let runs = claim-here x InRun (claims x fs) (row_of p.rows x) (s.open_frees x) in
     by_test (nat_eq v 0)

@@ -8,7 +8,7 @@ use Rattle.tree_specs.specs.declared.reply.Refusal.TheVariants as refusal
 use Rattle.tree_specs.specs.declared.frame.Frame.{Frame}
 use Rattle.tree_specs.specs.declared.frame.Frame.TheVariants as frame
 use Rattle.tree_specs.specs.declared.frame.CallFrame.TheVariants.{Asking, Doing, Awaiting, Turning, Requesting, Announcing, Telling, Returning}
-use Rattle.tree_specs.specs.declared.frame.FreeFrame.TheVariants.{Unlinking, Releasing, Giving, Beginning, Hooked, Judged, Preparing, Prepared, Dooming, Leaving, Looping, AfterChild, Ending}
+use Rattle.tree_specs.specs.declared.frame.FreeFrame.TheVariants.{Unlinking, Releasing, Giving, Beginning, Hooked, Judged, Preparing, Prepared, Dooming, Leaving, Looping, AfterChild, Ending, Draining}
 use Rattle.tree_specs.specs.declared.frame.Answer.TheVariants.{Freed, Returned}
 use Rattle.tree_specs.specs.declared.free_step.FreeReply.TheVariants.{Ok}
 use Rattle.tree_specs.specs.Tree.Pool.{Pool}
@@ -29,7 +29,8 @@ use Rattle.tree_specs.proofs.Calls.Changes.{MayDo, change-sound}
 use Rattle.tree_specs.proofs.Invariants.KeptFrees.{KeptBy, asking, beginning, dooming, ended, hooked, judged, leaving, looping, still-there, tried}
 use Rattle.tree_specs.proofs.Invariants.KeptGivings.{releasing, unlinking}
 use Rattle.tree_specs.proofs.Invariants.KeptTurns.{turn-kept, outside-kept}
-use Rattle.tree_specs.proofs.Invariants.KeptRequests.{preparing, prepared, request-kept}
+use Rattle.tree_specs.proofs.Invariants.KeptRequests.{preparing, prepared, request-kept, draining}
+use Rattle.tree_specs.specs.Invariants.Queued.{AreQueued}
 
 turning-kept : (q : Ask) (c : Call) (fs : List Frame) (p : Pool) (k : ℕ) → Sound (frame.Call (Doing q c)) fs p → KeptBy (turning_step q p) fs k
 turning-kept Quiet c fs p k s = stands _ _ fs (frame.Call (Turning Quiet) ∷ fs) p (λ y. refl) (tt, s.waiting) tt s
@@ -65,27 +66,28 @@ planned-kept q c fs p k s Turns may = turning-kept q c fs p k s
 planned-kept q c fs p k s (Works change errand x) may = work-kept q c fs p k change errand x s may.0 may.3
 
 -- every step keeps what is sound
-pub sound-kept : (f : Frame) (fs : List Frame) (p : Pool) (k : ℕ) → Sound f fs p → KeptBy (step f p) fs k
-sound-kept (frame.Call (Asking q)) fs p k s = asking q fs p k s
-sound-kept (frame.Call (Doing q c)) fs p k s = planned-kept q c fs p k s (planned p c) (may-planned (frame.Call (Doing q c)) fs p s c)
-sound-kept (frame.Call (Announcing q notice r)) fs p k s = goes_on (frame.Call (Announcing q notice r)) (frame.Call (Telling q r)) fs p (λ y. refl) tt s
-sound-kept (frame.Call (Telling q r)) fs p k s = goes_on (frame.Call (Telling q r)) (frame.Call (Asking q)) fs p (λ x. refl) tt s
-sound-kept (frame.Call (Returning v)) fs p k s = ended (Returned v) (frame.Call (Returning v)) fs p k s (λ x. refl) (λ x c n b gs e. tt)
-sound-kept (frame.Free (Unlinking o x)) fs p k s = unlinking o x fs p k s
-sound-kept (frame.Free (Releasing x)) fs p k s = releasing x fs p k s
-sound-kept (frame.Free (Giving x o)) fs p k s = placed-sound (frame.Free (Giving x o)) (frame.Free (Ending Ok)) o x fs p s s.rests (λ y. refl) (tt, tt)
-sound-kept (frame.Free (Beginning x)) fs p k s = beginning x fs p k s
-sound-kept (frame.Free (Hooked x h)) fs p k s = hooked x h fs p k s
-sound-kept (frame.Free (Judged x h v)) fs p k s = judged x h v fs p k s
-sound-kept (frame.Free (Preparing x)) fs p k s = preparing x fs p k s
-sound-kept (frame.Free (Prepared x)) fs p k s = prepared x fs p k s
-sound-kept (frame.Free (Dooming x)) fs p k s = dooming x fs p k s
-sound-kept (frame.Free (Leaving x h)) fs p k s = leaving x h fs p k s
-sound-kept (frame.Free (Looping x purpose)) fs p k s = looping x purpose fs p k s
-sound-kept (frame.Free (AfterChild x c noted purpose a)) fs p k s = tried x c noted purpose a fs p k s
-sound-kept (frame.Free (Ending a)) fs p k s = ended (Freed a) (frame.Free (Ending a)) fs p k s (λ x. refl) (λ x c n b gs e. still-there a x c n p s.rests.0)
-sound-kept (frame.Turn f) fs p k s = turn-kept f fs p k s
-sound-kept (frame.Outside f) fs p k s = outside-kept f fs p k s
-sound-kept (frame.Request f) fs p k s = request-kept f fs p k s
+pub sound-kept : (f : Frame) (fs : List Frame) (p : Pool) (k : ℕ) → Sound f fs p → AreQueued p → KeptBy (step f p) fs k
+sound-kept (frame.Call (Asking q)) fs p k s w = asking q fs p k s
+sound-kept (frame.Call (Doing q c)) fs p k s w = planned-kept q c fs p k s (planned p c) (may-planned (frame.Call (Doing q c)) fs p s c)
+sound-kept (frame.Call (Announcing q notice r)) fs p k s w = goes_on (frame.Call (Announcing q notice r)) (frame.Call (Telling q r)) fs p (λ y. refl) tt s
+sound-kept (frame.Call (Telling q r)) fs p k s w = goes_on (frame.Call (Telling q r)) (frame.Call (Asking q)) fs p (λ x. refl) tt s
+sound-kept (frame.Call (Returning v)) fs p k s w = ended (Returned v) (frame.Call (Returning v)) fs p k s (λ x. refl) (λ x c n b gs e. tt)
+sound-kept (frame.Free (Unlinking o x)) fs p k s w = unlinking o x fs p k s
+sound-kept (frame.Free (Releasing x)) fs p k s w = releasing x fs p k s
+sound-kept (frame.Free (Giving x o)) fs p k s w = placed-sound (frame.Free (Giving x o)) (frame.Free (Ending Ok)) o x fs p s s.rests (λ y. refl) (tt, tt)
+sound-kept (frame.Free (Beginning x)) fs p k s w = beginning x fs p k s
+sound-kept (frame.Free (Hooked x h)) fs p k s w = hooked x h fs p k s
+sound-kept (frame.Free (Judged x h v)) fs p k s w = judged x h v fs p k s
+sound-kept (frame.Free (Preparing x)) fs p k s w = preparing x fs p k s
+sound-kept (frame.Free (Draining x)) fs p k s w = draining x fs p k s
+sound-kept (frame.Free (Prepared x)) fs p k s w = prepared x fs p k s
+sound-kept (frame.Free (Dooming x)) fs p k s w = dooming x fs p k s
+sound-kept (frame.Free (Leaving x h)) fs p k s w = leaving x h fs p k s
+sound-kept (frame.Free (Looping x purpose)) fs p k s w = looping x purpose fs p k s
+sound-kept (frame.Free (AfterChild x c noted purpose a)) fs p k s w = tried x c noted purpose a fs p k s
+sound-kept (frame.Free (Ending a)) fs p k s w = ended (Freed a) (frame.Free (Ending a)) fs p k s (λ x. refl) (λ x c n b gs e. still-there a x c n p s.rests.0)
+sound-kept (frame.Turn f) fs p k s w = turn-kept f fs p k s
+sound-kept (frame.Outside f) fs p k s w = outside-kept f fs p k s
+sound-kept (frame.Request f) fs p k s w = request-kept f fs p k s w
 -- a work that waits is not the innermost
-sound-kept _ fs p k s = absurd s.rests
+sound-kept _ fs p k s w = absurd s.rests

@@ -37,25 +37,27 @@ use Rattle.tree_specs.specs.declared.frame.Answer.{Answer}
 use Rattle.tree_specs.specs.declared.frame.Answer.TheVariants.{Freed, Returned, Turned, Heard}
 use Rattle.tree_specs.specs.Rules.Items.{Item}
 use Rattle.tree_specs.specs.Rules.Answers.{later}
-use Rattle.tree_specs.specs.Tree.Pool.{Pool, row_of, open_descriptor}
+use Rattle.tree_specs.specs.Tree.Pool.{Pool, row_of, open_descriptor, run_queue}
 use Rattle.tree_specs.specs.Events.Coming.{handler_for, goes_after}
 use Rattle.tree_specs.specs.Events.Requests.{note_of, is_noted, is_received, is_unreceived, cleanup_in, cancel_in, routine_of}
 use Rattle.tree_specs.specs.Calls.Plans.{Plan, planned}
 use Rattle.tree_specs.specs.Calls.Plans.Plan.{Does, Frees, Unlinks, Empties, Asks, Turns, Works}
 use Rattle.tree_specs.specs.Machine.FreeTable.{FreeMove, free_step}
-use Rattle.tree_specs.specs.Machine.Table.{Step, table, event_of, announced, lifted, run_for, plan_step, turning_step, starting_step, handled_step, turn_step, outside_step, cancelling_step, cleaning_step, release_object, cleaned_step, callback_step, notifying_step, request_step, resume, step}
+use Rattle.tree_specs.specs.Machine.Table.{Step, table, event_of, announced, lifted, run_for, plan_step, turning_step, starting_step, handled_step, turn_step, outside_step, cancelling_step, cleaning_step, release_object, cleaned_step, callback_step, notifying_step, request_step, resume, step, vacating_step, triggering_step}
 use Rattle.tree_specs.specs.Invariants.Sound.{phases, claims, AllWait, Sound}
 use Rattle.tree_specs.specs.Invariants.Noted.{NotesHold, Noted, ClaimNothing, CalmAsk, CalmErrand, IsCalm, AllCalm}
 use Rattle.tree_specs.proofs.Tree.Numbered.{by_test}
 use Rattle.tree_specs.proofs.Calls.Checks.{Heard as HeardBy, HeardCall, HeardReturn, heard-leads, Reached, ReachedOpening, ReachedHearing, reached-leads}
 use Rattle.tree_specs.proofs.Calls.Plans.{May, may-planned}
-use Rattle.tree_specs.proofs.Invariants.Turning.{Passes, Pass, Serve, look-passes, taken-plain}
+use Rattle.tree_specs.proofs.Invariants.Turning.{Passes, Pass, Serve, look-passes, taken-plain, Trigger}
 use Rattle.tree_specs.proofs.Invariants.Waiters.{Waiter, ForFree, ForTurn, ForRequest, ForRoutine, ForHandler, ForClear, ForServed, waiter}
 use Rattle.tree_specs.proofs.Invariants.Notes.{settled}
 use Rattle.tree_specs.proofs.Invariants.KeptFrees.{KeptBy}
 use Rattle.tree_specs.proofs.Invariants.Keeps.{sound-kept}
 use Rattle.tree_specs.proofs.Invariants.KeptNotes.{noted-kept, going-unreceived}
 use Rattle.tree_specs.proofs.Invariants.FreeNotes.{NotedBy}
+use Rattle.tree_specs.specs.Events.Queues.{Head, head_of, next_of}
+use Rattle.tree_specs.specs.Invariants.Queued.{AreQueued}
 
 -- what a step leads to
 abbrev pub CalmBy : Move Frame Answer Pool Item → List Frame → ℕ → Type 0
@@ -138,10 +140,11 @@ planned-calm q c fs p k h (Works change Notify x) may s n = absurd may.3
 -- ---- turns
 
 passes-calm : (p : Pool) (fs : List Frame) (k : ℕ) (m : Step) → ClaimNothing fs → AllCalm fs → Passes p m → CalmBy m fs k
-passes-calm p fs k _ c h (Pass g q rows next notes times plain) = (c, h)
-passes-calm p fs k _ c h (Serve Notify x q rows next notes times served noted) = (c x, (c, h))
-passes-calm p fs k _ c h (Serve (Finish state.TimedOut) x q rows next notes times served noted) = (c x, (c, h))
-passes-calm p fs k _ c h (Serve _ x q rows next notes times served noted) = absurd served
+passes-calm p fs k _ c h (Pass g q rows next notes queues times plain) = (c, h)
+passes-calm p fs k _ c h (Trigger x q rows next notes queues times queue) = (c, (c, h))
+passes-calm p fs k _ c h (Serve Notify x q rows next notes queues times served noted) = (c x, (c, h))
+passes-calm p fs k _ c h (Serve (Finish state.TimedOut) x q rows next notes queues times served noted) = (c x, (c, h))
+passes-calm p fs k _ c h (Serve _ x q rows next notes queues times served noted) = absurd served
 
 turn-calm : (f : TurnFrame) (fs : List Frame) (p : Pool) (k : ℕ) → Sound (frame.Turn f) fs p → ClaimNothing fs → AllCalm fs → CalmBy (turn_step f p) fs k
 turn-calm Taking fs p k s c h = passes-calm p fs k _ c h (look-passes Taking p tt)
@@ -227,24 +230,35 @@ request-calm (request.Notifying x errand) fs p k sound n h = notifying-calm fs p
 request-calm (request.Calling w x handler errand) fs p k sound n h = h
 request-calm (request.Called w x handler errand) fs p k sound n h = (tt, h)
 request-calm (request.Releasing c) fs p k sound n h = absurd sound.rests
+request-calm (request.Vacating q) fs p k sound n h = each (head_of p.queues q)
+  where
+    each : (o : Option Head) → CalmBy (vacating_step q o (run_queue p q false)) fs k
+    each None = (tt, h.1)
+    each (Some u) = (tt, (tt, h.1))
+request-calm (request.Dropping q e) fs p k sound n h = absurd sound.rests
+request-calm (request.Triggering q) fs p k sound n h = each (next_of p.queues q)
+  where
+    each : (o : Option Head) → CalmBy (triggering_step o p) fs k
+    each None = (tt, h.1)
+    each (Some u) = (h.0 u.entry.request, h.1)
 request-calm (request.Over r) fs p k sound n h = ended (Heard r) fs p k sound.waiting h.1
 
 -- ---- all
 
-pub calm-kept : (f : Frame) (fs : List Frame) (p : Pool) (k : ℕ) → Sound f fs p → Noted f p → AllCalm (f ∷ fs) → CalmBy (step f p) fs k
-calm-kept (frame.Call (Asking q)) fs p zero s n h = tt
-calm-kept (frame.Call (Asking q)) fs p (suc k) s n h = λ i g e. leads g (heard-leads q i g e)
+pub calm-kept : (f : Frame) (fs : List Frame) (p : Pool) (k : ℕ) → Sound f fs p → Noted f p → AreQueued p → AllCalm (f ∷ fs) → CalmBy (step f p) fs k
+calm-kept (frame.Call (Asking q)) fs p zero s n w h = tt
+calm-kept (frame.Call (Asking q)) fs p (suc k) s n w h = λ i g e. leads g (heard-leads q i g e)
   where
     leads : (g : Frame) → HeardBy q g → AllCalm (g ∷ fs)
     leads _ (HeardCall c) = h
     leads _ (HeardReturn v of) = (tt, h.1)
-calm-kept (frame.Call (Doing q c)) fs p k s n h =
-    planned-calm q c fs p k h (planned p c) (may-planned (frame.Call (Doing q c)) fs p s c) (sound-kept (frame.Call (Doing q c)) fs p k s) (noted-kept (frame.Call (Doing q c)) fs p k s n)
-calm-kept (frame.Call (Announcing q notice r)) fs p k s n h = h
-calm-kept (frame.Call (Telling q r)) fs p k s n h = h
-calm-kept (frame.Call (Returning v)) fs p k s n h = ended (Returned v) fs p k s.waiting h.1
-calm-kept (frame.Free f) fs p k s n h = lifted-calm p.ring (free_step f p) fs k s.waiting h.1
-calm-kept (frame.Turn f) fs p k s n h = turn-calm f fs p k s h.0 h.1
-calm-kept (frame.Outside f) fs p k s n h = outside-calm f fs p k s h.1
-calm-kept (frame.Request f) fs p k s n h = request-calm f fs p k s n h
-calm-kept _ fs p k s n h = absurd s.rests
+calm-kept (frame.Call (Doing q c)) fs p k s n w h =
+    planned-calm q c fs p k h (planned p c) (may-planned (frame.Call (Doing q c)) fs p s c) (sound-kept (frame.Call (Doing q c)) fs p k s w) (noted-kept (frame.Call (Doing q c)) fs p k s n)
+calm-kept (frame.Call (Announcing q notice r)) fs p k s n w h = h
+calm-kept (frame.Call (Telling q r)) fs p k s n w h = h
+calm-kept (frame.Call (Returning v)) fs p k s n w h = ended (Returned v) fs p k s.waiting h.1
+calm-kept (frame.Free f) fs p k s n w h = lifted-calm p.ring (free_step f p) fs k s.waiting h.1
+calm-kept (frame.Turn f) fs p k s n w h = turn-calm f fs p k s h.0 h.1
+calm-kept (frame.Outside f) fs p k s n w h = outside-calm f fs p k s h.1
+calm-kept (frame.Request f) fs p k s n w h = request-calm f fs p k s n h
+calm-kept _ fs p k s n w h = absurd s.rests

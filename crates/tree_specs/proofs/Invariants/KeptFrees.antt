@@ -21,10 +21,10 @@ use Rattle.tree_specs.specs.declared.frame.RequestFrame.{RequestFrame}
 use Rattle.tree_specs.specs.declared.frame.RequestFrame.TheVariants as request
 use Rattle.tree_specs.specs.declared.moment.What.{What}
 use Rattle.tree_specs.specs.declared.moment.What.TheVariants as whats
-use Rattle.tree_specs.specs.Calls.Refusals.{is_request}
+use Rattle.tree_specs.specs.Calls.Refusals.{is_request, is_queue, is_entry}
 use Rattle.tree_specs.specs.Rules.Errands.{after_routine}
 use Rattle.tree_specs.specs.declared.frame.FreeFrame.{FreeFrame}
-use Rattle.tree_specs.specs.declared.frame.FreeFrame.TheVariants.{Beginning, Hooked, Judged, Preparing, Dooming, Leaving, Looping, FreeingChild, AfterChild, Ending}
+use Rattle.tree_specs.specs.declared.frame.FreeFrame.TheVariants.{Beginning, Hooked, Judged, Preparing, Draining, Dooming, Leaving, Looping, FreeingChild, AfterChild, Ending}
 use Rattle.tree_specs.specs.declared.frame.Purpose.{Purpose}
 use Rattle.tree_specs.specs.declared.frame.Purpose.TheVariants.{Removal, Emptying}
 use Rattle.tree_specs.specs.declared.frame.Answer.{Answer}
@@ -39,8 +39,8 @@ use Rattle.tree_specs.specs.Rules.Answers.{hook_moment}
 use Rattle.tree_specs.specs.Machine.FreeTable.{begin_quiet, begin_step, drop_step, refs_step, judge_step, last_step, child_step, loop_step, hand_on_step}
 use Rattle.tree_specs.specs.Machine.Table.{table, step, closed_event, announced, lifted, reply_in, resume}
 use Rattle.tree_specs.specs.Tree.Heirs.{heir}
-use Rattle.tree_specs.specs.Invariants.Sound.{Owned, Shaped, ValidAt, phase_of, phases, claim_if, claim, claims, Rests, IsLive, IsReferable, NotedFor, Tries, StillThere, IsOver, MayAnswer, RequestRests, Sound, Footing, footing}
-use Rattle.tree_specs.specs.Invariants.Sound.Footing.{OnCall, OnFree, AtBottom}
+use Rattle.tree_specs.specs.Invariants.Sound.{Owned, Shaped, ValidAt, phase_of, phases, claim_if, claim, claims, Rests, IsLive, IsReferable, NotedFor, Tries, StillThere, IsOver, MayAnswer, RequestRests, Sound, Footing, footing, IsIdleEntry, IsRequested, IsPrepared, IsElsewhere}
+use Rattle.tree_specs.specs.Invariants.Sound.Footing.{OnCall, OnFree, AtBottom, OnDropping, OnRequesting}
 use Rattle.tree_specs.proofs.Tree.Numbered.{by_test, same-equal, same-false}
 use Rattle.tree_specs.proofs.Tree.Rows.{row_of-changed-other, row_of-changed-same, row_of-without-other, row_of-without-same, first_kid-owner}
 use Rattle.tree_specs.proofs.Tree.Rooted.{forest-left, forest-without}
@@ -48,7 +48,7 @@ use Rattle.tree_specs.proofs.Tree.Referring.{newest-refers, none-refers, newest-
 use Rattle.tree_specs.proofs.Tree.Ancestry.{inside-owner, inside-not_back}
 use Rattle.tree_specs.specs.Tree.Forest.{IsForest}
 use Rattle.tree_specs.specs.Tree.Targets.{target_of, newest_ref}
-use Rattle.tree_specs.proofs.Invariants.Waiters.{Waiter, ForFree, ForRun, ForChild, ForTurn, ForHandler, ForClear, ForRequest, ForServed, ForReceived, ForRoutine, ForRelease, waiter}
+use Rattle.tree_specs.proofs.Invariants.Waiters.{Waiter, ForFree, ForRun, ForChild, ForTurn, ForHandler, ForClear, ForRequest, ForServed, ForReceived, ForDrained, ForRoutine, ForRelease, ForEntry, waiter}
 use Rattle.tree_specs.proofs.Calls.Checks.{Heard, HeardCall, HeardReturn, heard-leads}
 use Rattle.tree_specs.proofs.Invariants.Changes.{run-refers, run-unreferred, dropped-sound, dying-row, running-row, claim-here, positive, not-zero, stands, goes_on, waiting-sound, changed-sound, shape-of, live-owned, marks-place, hooks-place, unmarked-sound, valid-at, frees-at, placed-sound, heir-placed}
 
@@ -63,6 +63,12 @@ asking q fs p (suc k) s = λ i g e. leads g (heard-leads q i g e)
     leads : (g : Frame) → Heard q g → Sound g fs p
     leads _ (HeardCall c) = goes_on (frame.Call (Asking q)) (frame.Call (Doing q c)) fs p (λ x. refl) tt s
     leads _ (HeardReturn v of) = goes_on (frame.Call (Asking q)) (frame.Call (Returning v)) fs p (λ x. refl) tt s
+
+-- what is a request's may end
+pub prepared-on : (on : Footing) → IsRequested on → IsPrepared on
+prepared-on OnRequesting h = tt
+prepared-on (OnFree (Preparing x)) h = tt
+prepared-on _ h = absurd h
 
 -- what the work of a request rests on after a routine
 after_rests : (w : What) (f g h : RequestFrame) (on : Footing) (p : Pool) → RequestRests f on p → RequestRests g on p → RequestRests h on p → RequestRests (after_routine w f g h) on p
@@ -86,9 +92,11 @@ ended a f (g ∷ gs) p k s none there = below g (waiter g gs s.waiting.0) s ther
     below _ (ForRequest q) s there = stands f _ (frame.Call (Requesting q) ∷ gs) gs p (λ y. rw (none y) refl) s.waiting.1 tt s
     below _ (ForServed x) s there = stands f _ (frame.Turn (Serving x) ∷ gs) gs p (λ y. rw (none y) refl) s.waiting.1 s.waiting.0 s
     below _ (ForReceived x) s there = stands f _ (frame.Free (Preparing x) ∷ gs) gs p (λ y. rw (none y) refl) s.waiting.1 tt s
+    below _ (ForDrained x) s there = stands f _ (frame.Free (Draining x) ∷ gs) gs p (λ y. rw (none y) refl) s.waiting.1 tt s
+    below _ (ForEntry q e) s there = stands f _ (frame.Request (request.Dropping q e) ∷ gs) gs p (λ y. rw (none y) refl) s.waiting.1 s.waiting.0 s
     below _ (ForRoutine what x handler errand) s there =
-        stands f _ (frame.Request (request.Called what x handler errand) ∷ gs) gs p (λ y. rw (none y) refl) s.waiting.1 (after_rests what (request.Cleaned x errand) _ _ (footing gs) p s.waiting.0 s.waiting.0 s.waiting.0) s
-    below _ (ForRelease c) s there = stands f _ (frame.Request (request.Releasing c) ∷ gs) gs p (λ y. rw (none y) refl) s.waiting.1 s.waiting.0 s
+        stands f _ (frame.Request (request.Called what x handler errand) ∷ gs) gs p (λ y. rw (none y) refl) s.waiting.1 (after_rests what (request.Cleaned x errand) _ _ (footing gs) p s.waiting.0 (prepared-on (footing gs) s.waiting.0) (prepared-on (footing gs) s.waiting.0)) s
+    below _ (ForRelease c) s there = stands f _ (frame.Request (request.Releasing c) ∷ gs) gs p (λ y. rw (none y) refl) s.waiting.1 (prepared-on (footing gs) s.waiting.0) s
     below _ (ForChild x c noted purpose) s there = stands f _ (frame.Free (FreeingChild x c noted purpose) ∷ gs) gs p (λ y. rw (none y) refl) s.waiting.1 (there x c noted purpose gs refl, s.waiting.0) s
 
 -- a child that isn't said to run need not be where it was
@@ -207,6 +215,7 @@ tries-dropped x r (g ∷ gs) p s newest ne inside = below g (waiter g gs s.waiti
     below _ (ForFree q y) t = let bad : None ≡ Some r = sym t ∙ newest in cc
     below _ (ForClear y) t = let bad : None ≡ Some r = sym t ∙ newest in cc
     below _ (ForRelease y) t = let bad : None ≡ Some r = sym t ∙ newest in cc
+    below _ (ForEntry q y) t = let bad : None ≡ Some r = sym t.0 ∙ newest in cc
     below _ (ForChild y c noted purpose) t =
         let same_row : row_of (without p.rows r) x ≡ row_of p.rows x = row_of-without-other p.rows r x ne in
         let n : NotedFor y x noted p = subst (λ (z : Obj). NotedFor y z noted p) refl t.2 in
@@ -247,8 +256,9 @@ still x p fs none t y c noted purpose gs e =
     ]
 
 -- it is tried as before where it has the same owner
-tries-same : (x : Obj) (on : Footing) (p q : Pool) → newest_ref p.rows x ≡ None → newest_ref q.rows x ≡ None → owner_of q.rows x ≡ owner_of p.rows x → Tries x on p → Tries x on q
-tries-same x (OnFree (FreeingChild y d noted purpose)) p q none none' o t = (
+tries-same : (x : Obj) (on : Footing) (p q : Pool) → newest_ref p.rows x ≡ None → newest_ref q.rows x ≡ None → owner_of q.rows x ≡ owner_of p.rows x → (IsIdleEntry (row_of p.rows x) → IsIdleEntry (row_of q.rows x))
+    → Tries x on p → Tries x on q
+tries-same x (OnFree (FreeingChild y d noted purpose)) p q none none' o idle t = (
   t.0,
   o ∙ t.1,
   elim t.2 [
@@ -256,9 +266,15 @@ tries-same x (OnFree (FreeingChild y d noted purpose)) p q none none' o t = (
     | inr other ↦ inr other
   ],
 )
-tries-same x OnCall p q none none' o t = none'
-tries-same x AtBottom p q none none' o t = tt
-tries-same x _ p q none none' o t = absurd t
+tries-same x OnCall p q none none' o idle t = none'
+tries-same x OnDropping p q none none' o idle t = (none', idle t.1)
+tries-same x AtBottom p q none none' o idle t = tt
+tries-same x _ p q none none' o idle t = absurd t
+
+-- what isn't an entry with which nothing goes on is freed elsewhere
+pub elsewhere : (x : Obj) (on : Footing) (p : Pool) → Tries x on p → (IsIdleEntry (row_of p.rows x) → ⊥) → IsElsewhere on
+elsewhere x OnDropping p t goes = goes t.1
+elsewhere x _ p t goes = tt
 
 -- an event that is to be freed after its handler is said to run
 pub dooming : (x : Obj) (fs : List Frame) (p : Pool) (k : ℕ) → Sound (frame.Free (Dooming x)) fs p → KeptBy (step (frame.Free (Dooming x)) p) fs k
@@ -279,10 +295,12 @@ beginning x fs p k s = newest (newest_ref p.rows x) refl
     -- the claims on an event stay when it is doomed
     dooms : newest_ref p.rows x ≡ None → (r : Row) → row_of p.rows x ≡ Some r → r.mark ≡ Busy → KeptBy (announced (closed_event (closes_with p.ring x)) (Dooming x) (doom p x)) fs k
     dooms none r e m =
+        let idle : IsIdleEntry (row_of p.rows x) → IsIdleEntry (row_of (doom p x).rows x) = (λ h. let h' : IsIdleEntry (Some r) = rw e at h in let bad : Busy ≡ Quiet = sym m ∙ h'.1 in cc) in
         let same_owner : owner_of (doom p x).rows x ≡ owner_of p.rows x = rw (e, row_of-changed-same (marked_row Doomed) p.rows x r (λ q. refl) e) refl in
         let unreferred : newest_ref (doom p x).rows x ≡ None = newest-changed (marked_row Doomed) p.rows x x (λ q. refl) (λ q. refl) ∙ none in
-        let rests : (q : Pool) → q.rows ≡ (doom p x).rows → Tries x (footing fs) q × (newest_ref q.rows x ≡ None) =
-        (λ q is. (tries-same x (footing fs) p q none (rw is unreferred) (rw is same_owner) s.rests.0, rw is unreferred)) in
+        let busy : IsIdleEntry (row_of p.rows x) → ⊥ = (λ h. let h' : IsIdleEntry (Some r) = rw e at h in let bad : Busy ≡ Quiet = sym m ∙ h'.1 in cc) in
+        let rests : (q : Pool) → q.rows ≡ (doom p x).rows → Tries x (footing fs) q × (newest_ref q.rows x ≡ None) × IsElsewhere (footing fs) =
+        (λ q is. (tries-same x (footing fs) p q none (rw is unreferred) (rw is same_owner) (λ h. rw is (idle h)) s.rests.0, rw is unreferred, elsewhere x (footing fs) p s.rests.0 busy)) in
         let t : Sound (frame.Free (Dooming x)) fs (set_mark p x Doomed) = changed-sound (marked_row Doomed) (frame.Free (Beginning x)) (frame.Free (Dooming x)) fs fs p x r s (marks-place Doomed) e
         (live-owned r.mark r.owner x (rw m tt) (shape-of p x r s.valid e)) (object r e) (inr none) (λ y ne. refl) (s.open_frees x ∙ ap phases e ∙ ap phase_of m) s.waiting (rests (set_mark p x Doomed) refl) in
         closing (closes_with p.ring x) (Dooming x) fs (doom p x) k (waiting-sound (frame.Free (Dooming x)) (frame.Free (Dooming x)) fs (set_mark p x Doomed) (doom p x) t refl refl (λ y. refl) (rests (doom p x) refl))
@@ -302,9 +320,11 @@ beginning x fs p k s = newest (newest_ref p.rows x) refl
         let none : claims x fs ≡ [] = s.open_frees x ∙ ap phases e ∙ ap phase_of m in
         by_test (is_request r.kind)
         (λ u. rw u (asks (Preparing x) unreferred r e m (λ y. refl) (marked_row Asked r, row_of-changed-same (marked_row Asked) p.rows x r (λ q. refl) e)))
-        (λ u. by_test (nat_eq r.hook 0)
-        (λ t. rw (u, t) (goes_on (frame.Free (Beginning x)) (frame.Free (Leaving x 0)) fs p (λ y. refl) (r, e, rw m tt, none, object r e, unreferred) s))
-        (λ t. rw (u, t) (asks (Hooked x r.hook) unreferred r e m (λ y. refl) (positive r.hook t, rw (row_of-changed-same (marked_row Asked) p.rows x r (λ q. refl) e) refl))))
+        (λ u. by_test (is_queue r.kind)
+        (λ v. rw (u, v) (asks (Draining x) unreferred r e m (λ y. refl) (marked_row Asked r, row_of-changed-same (marked_row Asked) p.rows x r (λ q. refl) e)))
+        (λ v. by_test (nat_eq r.hook 0)
+        (λ t. rw (u, v, t) (goes_on (frame.Free (Beginning x)) (frame.Free (Leaving x 0)) fs p (λ y. refl) (r, e, rw m tt, none, object r e, unreferred) s))
+        (λ t. rw (u, v, t) (asks (Hooked x r.hook) unreferred r e m (λ y. refl) (positive r.hook t, rw (row_of-changed-same (marked_row Asked) p.rows x r (λ q. refl) e) refl)))))
 
     marks : newest_ref p.rows x ≡ None → (r : Row) (m : Mark) → r.mark ≡ m → row_of p.rows x ≡ Some r → KeptBy (lifted p.ring (begin_step x (row_of p.rows x) p)) fs k
     marks none r Quiet m e = rw (e, m) (quiet none r e m)

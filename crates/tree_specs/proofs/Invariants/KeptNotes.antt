@@ -16,7 +16,7 @@ use Rattle.tree_specs.specs.declared.request.Note.{Note}
 use Rattle.tree_specs.specs.declared.request.State.{State}
 use Rattle.tree_specs.specs.declared.request.State.TheVariants.{TimedOut, Received}
 use Rattle.tree_specs.specs.declared.reply.Refusal.TheVariants.{BadState}
-use Rattle.std.specs.Prelude.{not}
+use Rattle.std.specs.Prelude.{not, codes}
 use Rattle.tree_specs.specs.declared.frame.Errand.{Errand}
 use Rattle.tree_specs.specs.declared.frame.Errand.TheVariants.{Finish, Notify, Receive, Cancel}
 use Rattle.tree_specs.specs.declared.frame.Frame.{Frame}
@@ -29,28 +29,30 @@ use Rattle.tree_specs.specs.declared.frame.OutsideFrame.TheVariants.{Reaching, O
 use Rattle.tree_specs.specs.declared.frame.RequestFrame.{RequestFrame}
 use Rattle.tree_specs.specs.declared.frame.RequestFrame.TheVariants as request
 use Rattle.tree_specs.specs.declared.frame.Answer.TheVariants.{Returned, Turned, Heard}
-use Rattle.tree_specs.specs.Tree.Pool.{Pool, row_of, marked_row, schedule, renote, open_descriptor}
+use Rattle.tree_specs.specs.Tree.Pool.{Pool, row_of, marked_row, schedule, renote, open_descriptor, run_queue, trigger, add, add_queue, add_entry}
 use Rattle.tree_specs.specs.Tree.Targets.{newest_ref}
 use Rattle.tree_specs.specs.Events.Coming.{handler_for, begun, goes_after}
 use Rattle.tree_specs.specs.Events.Requests.{note_of, is_noted, is_unreceived, cleanup_in, cancel_in, is_received, is_in_progress, state_number, cleaned, not_deferring}
 use Rattle.tree_specs.specs.Calls.Refusals as refusing
 use Rattle.tree_specs.specs.Calls.Refusals.{Check, tests, refusals, is_request, is_referable, is_request_row}
 use Rattle.tree_specs.specs.Calls.Plans.{Change, Plan, planned, plan, unless_refused, changed_by, frees, handed, gift}
-use Rattle.tree_specs.specs.Calls.Plans.Change.{Edit, Add, Place, Arm, AddRequest, Renotes, Then}
+use Rattle.tree_specs.specs.Calls.Plans.Change.{Edit, Add, Place, Arm, AddRequest, Renotes, Then, AddQueue, AddEntry}
 use Rattle.tree_specs.specs.Calls.Plans.Plan.{Does, Frees, Unlinks, Turns, Works}
 use Rattle.tree_specs.specs.Calls.Passed.{AllPassed}
 use Rattle.tree_specs.specs.Machine.FreeTable.{free_step}
-use Rattle.tree_specs.specs.Machine.Table.{Step, plan_step, turning_step, starting_step, handled_step, turn_step, outside_step, cancelling_step, cleaning_step, release_object, cleaned_step, callback_step, notifying_step, request_step, step}
+use Rattle.tree_specs.specs.Machine.Table.{Step, plan_step, turning_step, starting_step, handled_step, turn_step, outside_step, cancelling_step, cleaning_step, release_object, cleaned_step, callback_step, notifying_step, request_step, step, vacating_step, triggering_step}
 use Rattle.tree_specs.specs.Invariants.Sound.{Rests, Sound}
-use Rattle.tree_specs.specs.Invariants.Noted.{IsInProgress, NotesHold, Noted}
+use Rattle.tree_specs.specs.Invariants.Noted.{IsInProgress, NotesHold, Noted, IsForRequest, IsOfRequest}
 use Rattle.tree_specs.proofs.Tree.Numbered.{by_test}
 use Rattle.tree_specs.proofs.Calls.Checks.{all-pass, Heard as HeardBy, HeardCall, HeardReturn, heard-leads, Reached, ReachedOpening, ReachedHearing, reached-leads}
 use Rattle.tree_specs.proofs.Calls.Plans.{MayWork, May, may-planned}
 use Rattle.tree_specs.proofs.Calls.Changes.{MayDo, change-sound}
 use Rattle.tree_specs.proofs.Invariants.Changes.{nobody}
-use Rattle.tree_specs.proofs.Invariants.Turning.{handler-ready, Passes, Pass, Serve, look-passes, taken-plain}
+use Rattle.tree_specs.proofs.Invariants.Turning.{handler-ready, Passes, Pass, Serve, look-passes, taken-plain, Trigger}
 use Rattle.tree_specs.proofs.Invariants.Notes.{same-holds, unnoted-unreceived, excepted, unexcepted, changed-holds, unmarked-holds, quiet-holds, placed-holds, added-holds, requested-holds, armed-holds, renoted-holds, finished-holds, received-holds}
 use Rattle.tree_specs.proofs.Invariants.FreeNotes.{NotedBy, ended, free-noted, lifted-noted}
+use Rattle.tree_specs.specs.Events.Queues.{Head, head_of, next_of, runs}
+use Rattle.tree_specs.specs.declared.object.Owner.TheVariants.{Of}
 
 -- ---- calls
 
@@ -94,6 +96,9 @@ module _ (p : Pool) (new : IsInProgress p (record { 0 = p.next })) where
   each (call.Fd o fd flags routine user) h = (refl, (tt, tt))
   each (call.Error x error) h = by_test (nat_eq error 0) (λ t. rw t tt) (λ t. rw t tt)
   each (call.Endtime x time) h = (h.1.1.0, tt)
+  each (call.Queue o name) h = tt
+  each (call.Enqueue q x routine user) h = tt
+  each (call.Start q) h = by_test (runs p.queues q) (λ t. rw t tt) (λ t. rw t (tt, tt))
   each _ h = tt
 
   plan-keeps : (c : Call) → PlanKeeps p (planned p c)
@@ -107,6 +112,10 @@ change-holds : (f : Frame) (fs : List Frame) (p : Pool) (c : Change) → Sound f
 change-holds f fs p (Edit x g) s calm may keeps h = unmarked-holds g p x may.place.serial may.place.kind may.mark h
 change-holds f fs p (Add k o size name) s calm may keeps h = added-holds p k o size name keeps (nobody p s.valid) h
 change-holds f fs p (AddRequest o size name) s calm may keeps h = requested-holds p o size name s.valid h
+change-holds f fs p (AddQueue o name) s calm may keeps h =
+    same-holds (add p kind.Queue o 0 name) (add_queue p o name) (added-holds p kind.Queue o 0 name refl (nobody p s.valid) h) refl refl (λ y t. t)
+change-holds f fs p (AddEntry q x trigger) s calm may keeps h =
+    same-holds (add p kind.Entry (Of x) 0 (codes "entry")) (add_entry p q x trigger) (added-holds p kind.Entry (Of x) 0 (codes "entry") refl (nobody p s.valid) h) refl refl (λ y t. t)
 change-holds f fs p (Place o x) s calm may keeps h = placed-holds p o x may h
 change-holds f fs p (Arm x time number) s calm may keeps h = armed-holds p x time number keeps h
 change-holds f fs p (Renotes x g) s calm may keeps h = renoted-holds g p x may h
@@ -141,13 +150,14 @@ planned-noted q c fs p k s h plan may keeps = each plan may keeps
 -- ---- turns
 
 passes-noted : (p : Pool) (fs : List Frame) (k : ℕ) (m : Step) → NotesHold None p → Passes p m → NotedBy m fs k
-passes-noted p fs k _ h (Pass g q rows next notes times plain) = record { pool = same-holds p q h rows notes times; works = tt }
-passes-noted p fs k _ h (Serve Notify x q rows next notes times served noted) = record { pool = same-holds p q h rows notes times; works = tt }
-passes-noted p fs k _ h (Serve (Finish TimedOut) x q rows next notes times served noted) = record {
+passes-noted p fs k _ h (Pass g q rows next notes queues times plain) = record { pool = same-holds p q h rows notes times; works = tt }
+passes-noted p fs k _ h (Trigger x q rows next notes queues times queue) = record { pool = same-holds p q h rows notes times; works = tt }
+passes-noted p fs k _ h (Serve Notify x q rows next notes queues times served noted) = record { pool = same-holds p q h rows notes times; works = tt }
+passes-noted p fs k _ h (Serve (Finish TimedOut) x q rows next notes queues times served noted) = record {
   pool = same-holds p q h rows notes times;
   works = (rw rows (sym (h.notes x) ∙ noted), rw notes (h.timed x served), tt);
 }
-passes-noted p fs k _ h (Serve _ x q rows next notes times served noted) = absurd served
+passes-noted p fs k _ h (Serve _ x q rows next notes queues times served noted) = absurd served
 
 -- an event that starts is no request
 begun-holds : (w : What) (x : Obj) (p : Pool) (handler : Handler) → handler_for p w x ≡ Some handler → NotesHold None p → NotesHold None (begun w x p)
@@ -249,6 +259,12 @@ going-unreceived p x n h e = each n.state (let h' : refusing.in_state x is_in_pr
     each Received h = cc
     each _ h = refl
 
+for-request : (w : What) → IsOfRequest w → IsForRequest w
+for-request whats.Callback h = h
+for-request whats.Cleanup h = h
+for-request whats.Cancel h = h
+for-request _ h = absurd h
+
 request-noted : (f : RequestFrame) (fs : List Frame) (p : Pool) (k : ℕ) → Sound (frame.Request f) fs p → Noted (frame.Request f) p → NotedBy (request_step f p) fs k
 request-noted (request.Finishing x s) fs p k sound n = record { pool = finished-holds p x s (λ m e h. going-unreceived p x m n.works.1 e) n.pool; works = tt }
 request-noted (request.Receiving x) fs p k sound n = by_test (is_unreceived (note_of p.requests x))
@@ -258,9 +274,20 @@ request-noted (request.Cancelling x) fs p k sound n = cancels fs p k n.pool x (n
 request-noted (request.Cleaning x errand) fs p k sound n = cleans fs p k n.pool x errand (note_of p.requests x) refl
 request-noted (request.Cleaned x errand) fs p k sound n = goes-on fs p k n.pool x errand (note_of p.requests x)
 request-noted (request.Notifying x errand) fs p k sound n = notifies fs p k n.pool x errand (note_of p.requests x) refl
-request-noted (request.Calling w x handler errand) fs p k sound n = record { pool = n.pool; works = n.works.1 }
+request-noted (request.Calling w x handler errand) fs p k sound n = record { pool = n.pool; works = for-request w n.works.1 }
 request-noted (request.Called w x handler errand) fs p k sound n = record { pool = n.pool; works = tt }
 request-noted (request.Releasing c) fs p k sound n = absurd sound.rests
+request-noted (request.Vacating q) fs p k sound n = each (head_of p.queues q)
+  where
+    each : (o : Option Head) → NotedBy (vacating_step q o (run_queue p q false)) fs k
+    each None = record { pool = same-holds p (run_queue p q false) n.pool refl refl (λ y u. u); works = tt }
+    each (Some h) = record { pool = same-holds p (run_queue p q false) n.pool refl refl (λ y u. u); works = tt }
+request-noted (request.Dropping q e) fs p k sound n = absurd sound.rests
+request-noted (request.Triggering q) fs p k sound n = each (next_of p.queues q)
+  where
+    each : (o : Option Head) → NotedBy (triggering_step o p) fs k
+    each None = record { pool = n.pool; works = tt }
+    each (Some h) = record { pool = same-holds p (trigger p h) n.pool refl refl (λ y u. u); works = tt }
 request-noted (request.Over r) fs p k sound n = ended (Heard r) fs p k sound.waiting n.pool
 
 -- ---- all

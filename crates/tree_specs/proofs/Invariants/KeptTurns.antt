@@ -33,7 +33,7 @@ use Rattle.tree_specs.proofs.Tree.Rows.{row_of-changed-same}
 use Rattle.tree_specs.proofs.Tree.Referring.{unreferred, newest-changed}
 use Rattle.tree_specs.proofs.Invariants.Changes.{run-refers, run-unreferred, handling-row, claim-here, stands, goes_on, waiting-sound, changed-sound, shape-of, live-owned, marks-place}
 use Rattle.tree_specs.proofs.Invariants.KeptFrees.{KeptBy, ended}
-use Rattle.tree_specs.proofs.Invariants.Turning.{Ready, handler-ready, rotated-rows, IsPlain, Passes, Pass, Serve, look-passes, taken-plain}
+use Rattle.tree_specs.proofs.Invariants.Turning.{Ready, handler-ready, rotated-rows, IsPlain, Passes, Pass, Serve, look-passes, taken-plain, Trigger}
 use Rattle.tree_specs.proofs.Calls.Checks.{Reached, ReachedOpening, ReachedHearing, reached-leads}
 
 -- a work that says nothing of an object, over the same rows, in the place of another one
@@ -50,10 +50,11 @@ served-sound f g x fs p q rows next none turned s rests =
     stands (frame.Turn (Closing 1)) (frame.Request g) fs (frame.Turn (Serving x) ∷ fs) q (λ y. refl) (turned, t.waiting) (rests (footing (frame.Turn (Serving x) ∷ fs)) q tt) t
 
 passes-kept : (f : TurnFrame) (fs : List Frame) (p : Pool) (k : ℕ) (m : Step) → (turn_profile f).claims ≡ None → IsTurned (footing fs) → Sound (frame.Turn f) fs p → Passes p m → KeptBy m fs k
-passes-kept f fs p k _ none turned s (Pass g q rows next notes times plain) = plain-sound f g 4 fs p q rows next none plain turned s
-passes-kept f fs p k _ none turned s (Serve Notify x q rows next notes times served noted) = served-sound f (request.Notifying x Notify) x fs p q rows next none turned s (λ on p' r. r)
-passes-kept f fs p k _ none turned s (Serve (Finish state.TimedOut) x q rows next notes times served noted) = served-sound f (request.Finishing x state.TimedOut) x fs p q rows next none turned s (λ on p' r. r)
-passes-kept f fs p k _ none turned s (Serve _ x q rows next notes times served noted) = absurd served
+passes-kept f fs p k _ none turned s (Pass g q rows next notes queues times plain) = plain-sound f g 4 fs p q rows next none plain turned s
+passes-kept f fs p k _ none turned s (Trigger x q rows next notes queues times queue) = served-sound f (request.Triggering x) x fs p q rows next none turned s (λ on p' r. r)
+passes-kept f fs p k _ none turned s (Serve Notify x q rows next notes queues times served noted) = served-sound f (request.Notifying x Notify) x fs p q rows next none turned s (λ on p' r. r)
+passes-kept f fs p k _ none turned s (Serve (Finish state.TimedOut) x q rows next notes queues times served noted) = served-sound f (request.Finishing x state.TimedOut) x fs p q rows next none turned s (λ on p' r. r)
+passes-kept f fs p k _ none turned s (Serve _ x q rows next notes queues times served noted) = absurd served
 
 -- an event with which nothing goes on becomes busy
 starts : (w : What) (x : Obj) (o : Occasion) (h : Handler) (fs : List Frame) (p : Pool) → Sound (frame.Turn (Starting w x o)) fs p → Ready p.rows w x

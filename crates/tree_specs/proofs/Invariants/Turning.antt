@@ -18,6 +18,7 @@ use Rattle.tree_specs.specs.declared.frame.Frame.{Frame}
 use Rattle.tree_specs.specs.declared.frame.Frame.TheVariants as frame
 use Rattle.tree_specs.specs.declared.frame.TurnFrame.{TurnFrame}
 use Rattle.tree_specs.specs.declared.frame.TurnFrame.TheVariants.{Taking, Timing, Timed, Polling, Starting, Serving, Closing}
+use Rattle.tree_specs.specs.declared.frame.RequestFrame.TheVariants as request
 use Rattle.tree_specs.specs.declared.frame.Errand.{Errand}
 use Rattle.tree_specs.specs.declared.frame.Errand.TheVariants.{Finish, Notify}
 use Rattle.tree_specs.specs.declared.request.State.TheVariants.{TimedOut}
@@ -35,6 +36,7 @@ use Rattle.tree_specs.specs.Machine.Profiles.{turn_profile, caller_size}
 use Rattle.tree_specs.specs.Invariants.Sound.{Footing, IsTurned, TurnRests}
 use Rattle.tree_specs.proofs.Tree.Numbered.{by_test, same-equal}
 use Rattle.tree_specs.proofs.Calls.Checks.{both-true, clocked-by, polled-by}
+use Rattle.tree_specs.specs.Events.Queues.{has_queue}
 
 -- ---- what is to start
 
@@ -109,9 +111,12 @@ IsServed p errand x = ⊥
 
 -- it goes on over the same rows, and says nothing of an object
 pub data Passes (p : Pool) : Step → Type 0 where
-  Pass : (g : TurnFrame) (q : Pool) → q.rows ≡ p.rows → q.next ≡ p.next → q.requests ≡ p.requests → ((y : Obj) → is_armed q.times y ≡ true → is_armed p.times y ≡ true) → IsPlain g 4 → Passes p (Do.Go (frame.Turn g) q)
-  -- or a request has come
-  Serve : (errand : Errand) (x : Obj) (q : Pool) → q.rows ≡ p.rows → q.next ≡ p.next → q.requests ≡ p.requests → ((y : Obj) → is_armed q.times y ≡ true → is_armed p.times y ≡ true) → IsServed p errand x → is_noted p.requests x ≡ true
+  Pass : (g : TurnFrame) (q : Pool) → q.rows ≡ p.rows → q.next ≡ p.next → q.requests ≡ p.requests → q.queues ≡ p.queues → ((y : Obj) → is_armed q.times y ≡ true → is_armed p.times y ≡ true) → IsPlain g 4 → Passes p (Do.Go (frame.Turn g) q)
+  -- or a queue has come
+  Trigger : (x : Obj) (q : Pool) → q.rows ≡ p.rows → q.next ≡ p.next → q.requests ≡ p.requests → q.queues ≡ p.queues → ((y : Obj) → is_armed q.times y ≡ true → is_armed p.times y ≡ true) → has_queue p.queues x ≡ true
+      → Passes p (Do.Call (frame.Request (request.Triggering x)) (frame.Turn (Serving x)) q)
+  -- or a request
+  Serve : (errand : Errand) (x : Obj) (q : Pool) → q.rows ≡ p.rows → q.next ≡ p.next → q.requests ≡ p.requests → q.queues ≡ p.queues → ((y : Obj) → is_armed q.times y ≡ true → is_armed p.times y ≡ true) → IsServed p errand x → is_noted p.requests x ≡ true
       → Passes p (Do.Call (work_of errand x) (frame.Turn (Serving x)) q)
 
 -- the two works that look
@@ -128,31 +133,33 @@ first-armed (c ∷ ds) d e = let e' : c ≡ d = cc in let self : same c.object d
 -- a time has come
 due-passes : (x : Obj) (now : ℕ) (p : Pool) → is_armed p.times x ≡ true → Passes p (due_now x now p)
 due-passes x now p timed = by_test (is_noted p.requests x)
-    (λ t. rw t (Serve (Finish TimedOut) x (disarm p x) refl refl refl (λ y h. (disarmed-other p.times x y h).0) timed t))
-    (λ t. rw t (Pass (Starting ForTimer x (at_time now)) (disarm p x) refl refl refl (λ y h. (disarmed-other p.times x y h).0) (plain-starting ForTimer x (at_time now))))
+    (λ t. rw t (Serve (Finish TimedOut) x (disarm p x) refl refl refl refl (λ y h. (disarmed-other p.times x y h).0) timed t))
+    (λ t. rw t (Pass (Starting ForTimer x (at_time now)) (disarm p x) refl refl refl refl (λ y h. (disarmed-other p.times x y h).0) (plain-starting ForTimer x (at_time now))))
 
 pub look-passes : (f : TurnFrame) (p : Pool) → IsLook f → Passes p (turn_step f p)
 look-passes Taking p i = each (first p.soon)
   where
     due : (o : Option Due) → first p.times ≡ o → Passes p (due_step o p)
-    due None e = Pass (Polling wait_limit) p refl refl refl (λ y h. h) (plain-polling wait_limit)
+    due None e = Pass (Polling wait_limit) p refl refl refl refl (λ y h. h) (plain-polling wait_limit)
     due (Some d) e = by_test (nat_eq d.time 0)
         (λ t. rw t (due-passes d.object 0 p (first-armed p.times d e)))
-        (λ t. rw t (Pass (Timing false) p refl refl refl (λ y h. h) (plain-timing false)))
+        (λ t. rw t (Pass (Timing false) p refl refl refl refl (λ y h. h) (plain-timing false)))
 
     each : (o : Option Obj) → Passes p (taking_step o p)
     each None = due (first p.times) refl
     each (Some x) = by_test (is_noted p.requests x)
-        (λ t. rw t (Serve Notify x (unschedule p x) refl refl refl (λ y h. h) tt t))
-        (λ t. rw t (Pass (Starting ForImmediate x plainly) (unschedule p x) refl refl refl (λ y h. h) (plain-starting ForImmediate x plainly)))
+        (λ t. rw t (Serve Notify x (unschedule p x) refl refl refl refl (λ y h. h) tt t))
+        (λ t. rw t (by_test (has_queue p.queues x)
+        (λ u. rw u (Trigger x (unschedule p x) refl refl refl refl (λ y h. h) u))
+        (λ u. rw u (Pass (Starting ForImmediate x plainly) (unschedule p x) refl refl refl refl (λ y h. h) (plain-starting ForImmediate x plainly)))))
 look-passes (Timed again now) p i = each (first p.times) refl
   where
     early : (again : Bool) (d : Due) → Passes p (early_step again d now p)
-    early true d = Pass (Closing 0) p refl refl refl (λ y h. h) (plain-closing 0)
-    early false d = Pass (Polling (d.time - now)) p refl refl refl (λ y h. h) (plain-polling (d.time - now))
+    early true d = Pass (Closing 0) p refl refl refl refl (λ y h. h) (plain-closing 0)
+    early false d = Pass (Polling (d.time - now)) p refl refl refl refl (λ y h. h) (plain-polling (d.time - now))
 
     each : (o : Option Due) → first p.times ≡ o → Passes p (timed_step again now o p)
-    each None e = Pass (Closing 0) p refl refl refl (λ y h. h) (plain-closing 0)
+    each None e = Pass (Closing 0) p refl refl refl refl (λ y h. h) (plain-closing 0)
     each (Some d) e = by_test (nat_le d.time now)
         (λ t. rw t (due-passes d.object now p (first-armed p.times d e)))
         (λ t. rw t (early again d))

@@ -12,7 +12,7 @@ use Rattle.tree_specs.specs.declared.frame.Errand.{Errand}
 use Rattle.tree_specs.specs.declared.handler.Handler.{Handler}
 use Rattle.tree_specs.specs.declared.moment.What.{What}
 use Rattle.tree_specs.specs.declared.occasion.Occasion.{Occasion}
-use Rattle.tree_specs.specs.declared.frame.FreeFrame.TheVariants.{Hooked, Preparing, FreeingChild}
+use Rattle.tree_specs.specs.declared.frame.FreeFrame.TheVariants.{Hooked, Preparing, Draining, FreeingChild}
 use Rattle.tree_specs.specs.declared.frame.Purpose.{Purpose}
 use Rattle.tree_specs.specs.Invariants.Sound.{IsWaiting}
 
@@ -27,8 +27,10 @@ pub data Waiter : Frame → Type 0 where
   ForRequest : (q : Ask) → Waiter (frame.Call (Requesting q))
   ForServed : (x : Obj) → Waiter (frame.Turn (Serving x))
   ForReceived : (x : Obj) → Waiter (frame.Free (Preparing x))
+  ForDrained : (x : Obj) → Waiter (frame.Free (Draining x))
   ForRoutine : (what : What) (x : Obj) (handler : Handler) (errand : Errand) → Waiter (frame.Request (request.Called what x handler errand))
   ForRelease : (c : Obj) → Waiter (frame.Request (request.Releasing c))
+  ForEntry : (q e : Obj) → Waiter (frame.Request (request.Dropping q e))
 
 pub waiter : (g : Frame) (gs : List Frame) → IsWaiting g gs → Waiter g
 waiter (frame.Call (Awaiting q x)) gs w = ForFree q x
@@ -40,6 +42,8 @@ waiter (frame.Turn (Clearing x)) gs w = ForClear x
 waiter (frame.Call (Requesting q)) gs w = ForRequest q
 waiter (frame.Turn (Serving x)) gs w = ForServed x
 waiter (frame.Free (Preparing x)) gs w = ForReceived x
+waiter (frame.Free (Draining x)) gs w = ForDrained x
 waiter (frame.Request (request.Called what x handler errand)) gs w = ForRoutine what x handler errand
 waiter (frame.Request (request.Releasing c)) gs w = ForRelease c
+waiter (frame.Request (request.Dropping q e)) gs w = ForEntry q e
 waiter _ gs w = absurd w

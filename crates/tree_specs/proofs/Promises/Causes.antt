@@ -29,7 +29,7 @@ use Rattle.tree_specs.specs.Calls.Refusals.{is_held, is_running}
 use Rattle.tree_specs.specs.Rules.Items.{Item}
 use Rattle.tree_specs.specs.Rules.Items.Item.{Told}
 use Rattle.tree_specs.specs.Rules.Sequence.{CallStart, Scene}
-use Rattle.tree_specs.specs.Machine.Profiles.{Role, Calls, Frees, Waits, Never, AFree, ARun, AChild, ATurn, AHandler, AClear, ARequest, AReceived, AServed, ARoutine, ARelease, profile}
+use Rattle.tree_specs.specs.Machine.Profiles.{Role, Calls, Frees, Waits, Never, AFree, ARun, AChild, ATurn, AHandler, AClear, ARequest, APrepared, AServed, ARoutine, ARelease, profile, ADropping}
 use Rattle.tree_specs.specs.Promises.Orderly.{RefusedJustNow, is_hook}
 use Rattle.tree_specs.specs.Promises.Grounded.{OfReply, AnsweredCall, HeldCall, CausedCall, IsItem, AsksHook}
 use Rattle.tree_specs.proofs.Calls.Plans.{IsThere, IsOutside}
@@ -122,10 +122,11 @@ StandsFor (AHandler x) f b = IsRunAs IsNoHook f
 StandsFor ATurn f b = KnowsTurn b
 StandsFor (AClear x) f b = Unit {0}
 StandsFor ARequest f b = KnowsTurn b
-StandsFor (AReceived x) f b = Unit {0}
+StandsFor (APrepared x) f b = Unit {0}
 StandsFor (AServed x) f b = Unit {0}
 StandsFor (ARoutine x) f b = IsRunAs IsNoHook f
 StandsFor (ARelease c) f b = Unit {0}
+StandsFor (ADropping q e) f b = Unit {0}
 StandsFor Never f b = Unit {0}
 
 -- what a work that waits says of the one that stands on it

@@ -26,7 +26,7 @@ use Rattle.tree_specs.specs.declared.frame.Errand.{Errand}
 use Rattle.tree_specs.specs.declared.frame.RequestFrame.TheVariants as request
 use Rattle.tree_specs.proofs.Promises.Answering.{IsNoRefusal}
 use Rattle.tree_specs.specs.declared.moment.What.{What}
-use Rattle.tree_specs.specs.declared.frame.FreeFrame.TheVariants.{Hooked, Preparing, FreeingChild}
+use Rattle.tree_specs.specs.declared.frame.FreeFrame.TheVariants.{Hooked, Preparing, FreeingChild, Draining}
 use Rattle.tree_specs.specs.declared.frame.Answer.{Answer}
 use Rattle.tree_specs.specs.declared.free_step.FreeReply.{FreeReply}
 use Rattle.tree_specs.specs.declared.free_step.FreeReply.TheVariants as free_reply
@@ -37,7 +37,7 @@ use Rattle.tree_specs.specs.Rules.Items.Item.{Told}
 use Rattle.tree_specs.specs.Rules.Sequence.{CallStart, Scene}
 use Rattle.tree_specs.specs.Rules.Answers.{freed_reply, later}
 use Rattle.tree_specs.specs.Machine.Table.{notes, resume, reply_in, value_in, heard_in}
-use Rattle.tree_specs.specs.Machine.Profiles.{Waits, Never, AFree, ARun, AChild, ATurn, AHandler, AClear, ARequest, AReceived, AServed, ARoutine, ARelease, profile}
+use Rattle.tree_specs.specs.Machine.Profiles.{Waits, Never, AFree, ARun, AChild, ATurn, AHandler, AClear, ARequest, APrepared, AServed, ARoutine, ARelease, profile, ADropping}
 use Rattle.tree_specs.specs.Promises.Orderly.{Fits, RefusedJustNow}
 use Rattle.tree_specs.specs.Promises.Grounded.{IsGrounded, AnsweredCall, HeldCall, CausedCall, IsItem, AsksHook}
 use Rattle.tree_specs.specs.Invariants.Sound.{AllWait}
@@ -46,7 +46,7 @@ use Rattle.tree_specs.specs.Machine.Meaning.{noted_table}
 use Rattle.tree_specs.proofs.Promises.Later.{later-same}
 use Rattle.tree_specs.proofs.Promises.Past.{IsLeaving, Accounts, Past, past-goes}
 use Rattle.tree_specs.proofs.Promises.Causes.{NotedWork, item_of, told, IsFreeOf, IsAskedAs, IsHook, IsNoHook, IsRunAs, FreesBy, TurnsOrAsks, Knows, KnowsTurn, StandsFor, StandsOn, Stacked, OfNext, IsCaused, Cause, NotHeld, done-reply, cancelled-done}
-use Rattle.tree_specs.proofs.Invariants.Waiters.{Waiter, ForFree, ForRun, ForChild, ForTurn, ForHandler, ForClear, ForRequest, ForServed, ForReceived, ForRoutine, ForRelease, waiter}
+use Rattle.tree_specs.proofs.Invariants.Waiters.{Waiter, ForFree, ForRun, ForChild, ForTurn, ForHandler, ForClear, ForRequest, ForServed, ForReceived, ForRoutine, ForRelease, waiter, ForDrained, ForEntry}
 
 abbrev pub work_of : NotedWork → Frame
 work_of w = w.work
@@ -84,10 +84,11 @@ restacked f f' (w ∷ ws) free run s = (stands (profile w.work).waits s.0, s.1)
     stands ATurn h = h
     stands (AClear x) h = h
     stands ARequest h = h
-    stands (AReceived x) h = h
+    stands (APrepared x) h = h
     stands (AServed x) h = h
     stands (ARoutine x) h = run IsNoHook h
     stands (ARelease c) h = h
+    stands (ADropping q e) h = h
     stands Never h = tt
 
 -- what holds of each work that may stand right below
@@ -235,6 +236,16 @@ resumed scenes f b (w ∷ ws) p a past stays stacked wait h = below w.work (wait
       past = goes _ _ past tt;
       stacked = restacked (frame.Request (request.Called what x k errand)) _ ws (λ y l. l) (λ y l. l) under;
       cause = after what x k errand;
+    }
+    below _ (ForDrained x) past on under h = record {
+      past = goes _ _ past tt;
+      stacked = restacked (frame.Free (Draining x)) _ ws (λ y l. l) (λ y l. l) under;
+      cause = tt;
+    }
+    below _ (ForEntry q e) past on under h = record {
+      past = goes _ _ past tt;
+      stacked = restacked (frame.Request (request.Dropping q e)) _ ws (λ y l. l) (λ y l. l) under;
+      cause = tt;
     }
     below _ (ForRelease c) past on under h = record {
       past = goes _ _ past tt;

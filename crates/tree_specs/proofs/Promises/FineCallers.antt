@@ -57,10 +57,11 @@ use Rattle.tree_specs.proofs.Invariants.Changes.{running-row, claim-here}
 use Rattle.tree_specs.proofs.Promises.Later.{Later, later-same}
 use Rattle.tree_specs.proofs.Promises.Past.{Accounts, Past, past-goes, past-tells, unfreed, unaccepted}
 use Rattle.tree_specs.proofs.Promises.Causes.{NotedWork, told, IsFreeOf, IsAskedAs, IsHook, TurnsOrAsks, FreesBy, StandsOn, Stacked, IsCaused, IsAskedFor, Cause, NotHeld}
-use Rattle.tree_specs.proofs.Invariants.Waiters.{Waiter, ForFree, ForRun, ForChild, ForTurn, ForHandler, ForClear, ForRequest, ForServed, ForReceived, ForRoutine, ForRelease, waiter}
+use Rattle.tree_specs.proofs.Invariants.Waiters.{Waiter, ForFree, ForRun, ForChild, ForTurn, ForHandler, ForClear, ForRequest, ForServed, ForReceived, ForRoutine, ForRelease, waiter, ForDrained, ForEntry}
 use Rattle.tree_specs.proofs.Calls.OwnRefusals.{AllOwn, own-refused, own-just-now, own-call}
 use Rattle.tree_specs.proofs.Promises.Fitting.{last-more, fits-replied, fits-quiet, fits-asked, fits-handler, fits-warned, fits-closed}
 use Rattle.tree_specs.proofs.Promises.Fine.{work_of, Known, FineBy, restacked, of-next, from-next, later-hook, AnswersTo, resumed, caused-turn, known-told, taken-noted}
+use Rattle.tree_specs.specs.Events.Queues.{runs}
 
 -- the question of a destructor is of its object
 asks-hook : (x : Obj) (q : Ask) → IsAskedAs (IsHook x) q → asks_hook x (Asked q) ≡ true
@@ -96,6 +97,8 @@ asking-fine scenes q b ws p whole known = (
     of-hook _ gs n (ForServed x) on seat claimed = absurd seat
     of-hook _ gs n (ForReceived x) on seat claimed = absurd seat
     of-hook _ gs n (ForRelease x) on seat claimed = absurd seat
+    of-hook _ gs n (ForDrained x) on seat claimed = absurd seat
+    of-hook _ gs n (ForEntry q x) on seat claimed = absurd seat
 
     fits : (us : List NotedWork) → IsStacked f (map work_of us) → AllWait (map work_of us) → Stacked f us → ((x : Obj) → claims x (map work_of us) ≡ phases (row_of p.rows x)) → Fits (told scenes) (Asked q)
     fits [] seated wait on claimed = fits-quiet (told scenes) q seated
@@ -223,6 +226,7 @@ caused p (call.Progress x) none = each (note_of p.requests x)
     each : (o : Option Note) → CausedBy p (call.Progress x) (replies (progress_reply o))
     each None = λ scenes. (tt, tt, tt, tt)
     each (Some n) = by_test (is_in_progress n.state) (λ t. rw t (λ scenes. (tt, tt, tt, tt))) (λ t. rw t (λ scenes. (tt, tt, tt, tt)))
+caused p (call.Start q) none = by_test (runs p.queues q) (λ t. rw t (λ scenes. (tt, tt, tt, tt))) (λ t. rw t (λ scenes. (tt, tt, tt, tt)))
 caused p c none = λ scenes. (tt, tt, tt, tt)
 
 caused-planned : (p : Pool) (c : Call) → Distinct p.rows → Refers p.rows → CausedBy p c (planned p c)

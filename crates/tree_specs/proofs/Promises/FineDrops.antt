@@ -3,7 +3,7 @@ use Rattle.std.specs.Prelude.{unwrap_or}
 use Rattle.tree_specs.proofs.Invariants.KeptFrees.{apart}
 use Rattle.tree_specs.proofs.Invariants.KeptGivings.{given_up-object}
 use Rattle.tree_specs.proofs.Tree.Referring.{newest-refers, newest-of-refers}
-use Rattle.tree_specs.specs.Calls.Refusals.{is_running, is_running_row}
+use Rattle.tree_specs.specs.Calls.Refusals.{is_running, is_running_row, is_queue}
 use Rattle.tree_specs.specs.Tree.Targets.{newest_ref}
 use Rattle.std.proofs.Common.{◌≡◌, ℕ, List, [], ◌∷◌, ◌++◌, Option, Some, None, true, false, nat_eq, refl, sym, ◌∙◌, ap, subst, map, ◌≢◌}
 use Rattle.std.specs.List.{list_any}
@@ -20,7 +20,7 @@ use Rattle.tree_specs.specs.declared.event.Event.TheVariants.{Moved, Unreference
 use Rattle.tree_specs.specs.declared.frame.Frame.{Frame}
 use Rattle.tree_specs.specs.declared.frame.Frame.TheVariants as frame
 use Rattle.tree_specs.specs.declared.frame.FreeFrame.{FreeFrame}
-use Rattle.tree_specs.specs.declared.frame.FreeFrame.TheVariants.{Unlinking, Releasing, Giving, Beginning, Hooked, Preparing, Dooming, Leaving, Ending}
+use Rattle.tree_specs.specs.declared.frame.FreeFrame.TheVariants.{Unlinking, Releasing, Giving, Beginning, Hooked, Preparing, Dooming, Leaving, Ending, Draining}
 use Rattle.tree_specs.specs.declared.frame.Answer.{Answer}
 use Rattle.tree_specs.specs.declared.frame.Answer.TheVariants as answer
 use Rattle.tree_specs.specs.declared.free_step.FreeReply.{FreeReply}
@@ -204,7 +204,13 @@ module _ (scenes : List Scene) (b : Option CallStart) (ws : List NotedWork) (p :
             stacked = restacked f (frame.Free (Preparing x)) ws (λ y h. h) (λ y h. h) known.stacked;
             cause = tt;
           }))
-          (λ u. rw u (plain r e live))
+          (λ u. by_test (is_queue r.kind)
+          (λ t. rw (u, t) (record {
+            past = past-goes (told scenes) f (frame.Free (Draining x)) (map work_of ws) (map work_of ws) p (set_mark p x mark.Asked) known.past (later-marked p x r mark.Asked e live) (λ y l. absurd l) tt known.past.all_account;
+            stacked = restacked f (frame.Free (Draining x)) ws (λ y h. h) (λ y h. h) known.stacked;
+            cause = tt;
+          }))
+          (λ t. rw (u, t) (plain r e live)))
 
       runs : is_running p x ≡ true → Step (Do.Done (answer.Freed free_reply.Running) p)
       runs run = said-fine (Beginning x) x (λ y h. h) (λ y l. l) whole known (ran-then x run whole.sound.waiting known.stacked known.cause)

@@ -21,19 +21,19 @@ use Rattle.tree_specs.specs.declared.request.Note.{Note}
 use Rattle.tree_specs.specs.declared.request.State.{State}
 use Rattle.tree_specs.specs.declared.request.State.TheVariants as state
 use Rattle.tree_specs.specs.declared.frame.Errand.{Errand}
-use Rattle.tree_specs.specs.declared.frame.Errand.TheVariants.{Finish, Receive, Cancel}
+use Rattle.tree_specs.specs.declared.frame.Errand.TheVariants.{Finish, Receive, Cancel, Notify}
 use Rattle.tree_specs.specs.declared.frame.Frame.{Frame}
 use Rattle.tree_specs.specs.declared.frame.Frame.TheVariants as frame
 use Rattle.tree_specs.specs.declared.frame.CallFrame.TheVariants.{Asking}
-use Rattle.tree_specs.specs.declared.frame.FreeFrame.TheVariants.{Beginning, Unlinking, Preparing, Prepared, Leaving}
+use Rattle.tree_specs.specs.declared.frame.FreeFrame.TheVariants.{Beginning, Unlinking, Preparing, Prepared, Leaving, Draining}
 use Rattle.tree_specs.specs.declared.frame.RequestFrame.{RequestFrame}
 use Rattle.tree_specs.specs.declared.frame.RequestFrame.TheVariants as request
 use Rattle.tree_specs.specs.declared.frame.Answer.TheVariants as answer
-use Rattle.tree_specs.specs.Tree.Pool.{Pool, row_of, set_mark, schedule, renote, finish, receive}
+use Rattle.tree_specs.specs.Tree.Pool.{Pool, row_of, set_mark, schedule, renote, finish, receive, run_queue, trigger}
 use Rattle.tree_specs.specs.Events.Requests.{state_number, note_of, is_noted, is_in_progress, is_received, is_unreceived, cleanup_in, cancel_in, cleaned, not_deferring, in_state, renoted}
 use Rattle.tree_specs.specs.Events.Coming.{handler_moment, plainly}
 use Rattle.tree_specs.specs.Calls.Refusals as refusals
-use Rattle.tree_specs.specs.Calls.Refusals.{is_request, is_request_row}
+use Rattle.tree_specs.specs.Calls.Refusals.{is_request, is_request_row, is_entry_row}
 use Rattle.tree_specs.specs.Calls.Plans.{Plan, planned}
 use Rattle.tree_specs.specs.Calls.Plans.Plan.{Frees, Unlinks}
 use Rattle.tree_specs.specs.Rules.Items.{Item}
@@ -41,21 +41,24 @@ use Rattle.tree_specs.specs.Rules.Items.Item.{Told}
 use Rattle.tree_specs.specs.Rules.Sequence.{CallStart, Scene}
 use Rattle.tree_specs.specs.Rules.Errands.{reply_to, cancelled_reply}
 use Rattle.tree_specs.specs.Machine.Profiles.{InRun}
-use Rattle.tree_specs.specs.Machine.Table.{notes, step, over_step, cancelling_step, cleaning_step, release_object, cleaned_step, callback_step, notifying_step, request_step}
+use Rattle.tree_specs.specs.Machine.Table.{notes, step, over_step, cancelling_step, cleaning_step, release_object, cleaned_step, callback_step, notifying_step, request_step, vacating_step, triggering_step}
 use Rattle.tree_specs.specs.Promises.Orderly.{has_state_from, is_hook}
-use Rattle.tree_specs.specs.Promises.Grounded.{may_fire, may_fire_row}
+use Rattle.tree_specs.specs.Promises.Grounded.{IsTurn, may_fire, may_fire_row}
 use Rattle.tree_specs.specs.Invariants.Sound.{ValidAt, claims}
-use Rattle.tree_specs.specs.Invariants.Noted.{IsInProgress, IsBetween, IsOfRequest, NotesHold}
+use Rattle.tree_specs.specs.Invariants.Noted.{IsInProgress, IsBetween, IsOfRequest, NotesHold, IsForRequest}
+use Rattle.tree_specs.specs.Invariants.Queued.{IsEntryRow}
 use Rattle.tree_specs.specs.Invariants.Consistent.{IsConsistent}
 use Rattle.tree_specs.proofs.Tree.Numbered.{by_test}
 use Rattle.tree_specs.proofs.Events.NoteLaws.{renoted-same, renoted-none}
 use Rattle.tree_specs.proofs.Invariants.Changes.{running-row, claim-here}
 use Rattle.tree_specs.proofs.Invariants.Waiters.{Waiter, ForRun, ForTurn, ForRequest}
-use Rattle.tree_specs.proofs.Promises.Later.{Later, IsFrom, later-same, later-marked, later-noted, states-renoted}
+use Rattle.tree_specs.proofs.Promises.Later.{Later, IsFrom, later-same, later-marked, later-noted, states-renoted, later-waiting}
 use Rattle.tree_specs.proofs.Promises.Past.{Past, Accounts, past-goes, past-tells, past-state, unfreed, unaccepted}
 use Rattle.tree_specs.proofs.Promises.Causes.{NotedWork, told, StandsOn, Cause, done-reply}
 use Rattle.tree_specs.proofs.Promises.Fitting.{fits-fired, fits-state}
 use Rattle.tree_specs.proofs.Promises.Fine.{work_of, Known, FineBy, restacked, of-next, AnswersTo, resumed, known-told, just-now}
+use Rattle.tree_specs.specs.Events.Queues.{Head, head_of, next_of}
+use Rattle.tree_specs.proofs.Invariants.Queues.{head-waiting, next-head}
 
 -- ---- what is known of a request
 
@@ -73,7 +76,23 @@ request-fires what.Cleanup _ m h e = cc
 request-fires what.Cancel _ m h e = cc
 request-fires _ k m h e = absurd h
 
-request-no-hook : (w : What) → IsOfRequest w → is_hook w ≡ false
+-- these routines aren't triggers
+no-turn : (w : What) (p : Pool) (x : Obj) (routine : ℕ) → IsOfRequest w → IsTurn w p x routine
+no-turn what.Callback p x routine h = tt
+no-turn what.Cleanup p x routine h = tt
+no-turn what.Cancel p x routine h = tt
+no-turn _ p x routine h = absurd h
+
+-- what waits in a queue is an entry
+entry-row : (z : Obj) (o : Option Row) → IsEntryRow z o → is_entry_row o ≡ true
+entry-row z None i = absurd i
+entry-row z (Some r) i = i.0
+
+trigger-fires : (k : Kind) (m : Mark) → is_request k ≡ true → may_fire what.Trigger k m ≡ true
+trigger-fires kind.Request m e = refl
+trigger-fires _ m e = cc
+
+request-no-hook : (w : What) → IsForRequest w → is_hook w ≡ false
 request-no-hook what.Hook h = absurd h
 request-no-hook _ h = refl
 
@@ -131,10 +150,10 @@ module _ (scenes : List Scene) (b : Option CallStart) (ws : List NotedWork) (p :
   }
 
   -- it begins another work, and waits for it
-  begins : (f g : RequestFrame) (h : Frame) → Accounts (told scenes) h → StandsOn h (frame.Request g) None → Cause scenes h None (with_note None (frame.Request g) ∷ ws) p
-      → Known scenes (with_note b (frame.Request f)) ws p → FineBy scenes (frame.Request f) b p (Do.Call h (frame.Request g) p) ws
-  begins f g h account on cause known = record {
-    past = past-goes (told scenes) (frame.Request f) h (map work_of ws) (frame.Request g ∷ map work_of ws) p p known.past (later-same p) (λ y l. absurd l) account (tt, known.past.all_account);
+  begins : (f g : RequestFrame) (h : Frame) (q : Pool) → Later p q → Accounts (told scenes) h → StandsOn h (frame.Request g) None → Cause scenes h None (with_note None (frame.Request g) ∷ ws) q
+      → Known scenes (with_note b (frame.Request f)) ws p → FineBy scenes (frame.Request f) b p (Do.Call h (frame.Request g) q) ws
+  begins f g h q later account on cause known = record {
+    past = past-goes (told scenes) (frame.Request f) h (map work_of ws) (frame.Request g ∷ map work_of ws) p q known.past later (λ y l. absurd l) account (tt, known.past.all_account);
     stacked = (on, restacked (frame.Request f) (frame.Request g) ws (λ w k. k) (λ w k. k) known.stacked);
     cause = cause;
   }
@@ -205,7 +224,7 @@ module _ (scenes : List Scene) (b : Option CallStart) (ws : List NotedWork) (p :
       let r : Row = row.0 in
       let fires : may_fire_row w (row_of p.rows x) ≡ true = rw row.1 (request-fires w r.kind r.mark whole.noted.works.1 row.2) in
       let past = past-tells (told scenes) e f (map work_of ws) p (λ y. refl) (λ y. refl) (λ y. refl) (λ y k. refl) known.past in (
-        (fits-fired (told scenes) w x h.routine (unfreed (told scenes) f (map work_of ws) p x r known.past row.1), record { answered = tt; held = tt; caused = tt; started = fires }),
+        (fits-fired (told scenes) w x h.routine (unfreed (told scenes) f (map work_of ws) p x r known.past row.1), record { answered = tt; held = tt; caused = tt; started = (fires, no-turn w p x h.routine whole.noted.works.1) }),
         known-told scenes (scene notes f b p e) (with_note None g) ws p
             (past-goes (told scenes ++ e ∷ []) f g (map work_of ws) (map work_of ws) p p past (later-same p) (λ y l. absurd l) tt past.all_account)
             (restacked f g ws (λ w h. h) (λ w h. h) known.stacked) tt,
@@ -230,8 +249,8 @@ module _ (scenes : List Scene) (b : Option CallStart) (ws : List NotedWork) (p :
   cleaned-fine x errand whole known = each errand (note_of p.requests x) known
     where
       releases : (plan : Plan) → Known scenes (with_note b (frame.Request (request.Cleaned x Receive))) ws p → FineBy scenes (frame.Request (request.Cleaned x Receive)) b p (release_object plan Receive p) ws
-      releases (Frees c) known = begins (request.Cleaned x Receive) (request.Releasing c) (frame.Free (Beginning c)) tt tt tt known
-      releases (Unlinks o c) known = begins (request.Cleaned x Receive) (request.Releasing c) (frame.Free (Unlinking o c)) tt tt tt known
+      releases (Frees c) known = begins (request.Cleaned x Receive) (request.Releasing c) (frame.Free (Beginning c)) p (later-same p) tt tt tt known
+      releases (Unlinks o c) known = begins (request.Cleaned x Receive) (request.Releasing c) (frame.Free (Unlinking o c)) p (later-same p) tt tt tt known
       releases _ known = over (request.Cleaned x Receive) Receive p (later-same p) known
 
       each : (errand : Errand) (o : Option Note) → Known scenes (with_note b (frame.Request (request.Cleaned x errand))) ws p → FineBy scenes (frame.Request (request.Cleaned x errand)) b p (cleaned_step x errand o p) ws
@@ -255,6 +274,42 @@ module _ (scenes : List Scene) (b : Option CallStart) (ws : List NotedWork) (p :
           (λ t. rw t (over (request.Notifying x errand) errand q (later-noted p q refl (omega arith) (states-renoted not_deferring p q x refl (λ m e. omega arith))) known))
           (λ t. rw t (back n.callback))
 
+  vacating-fine : (q : Obj) → AtRequest (request.Vacating q)
+  vacating-fine q whole known = each (head_of p.queues q)
+    where
+      r : Pool
+      r = run_queue p q false
+
+      each : (o : Option Head) → FineBy scenes (frame.Request (request.Vacating q)) b p (vacating_step q o r) ws
+      each None = over (request.Vacating q) Receive r (later-waiting p r refl refl refl) known
+      each (Some h) = begins (request.Vacating q) (request.Dropping q h.object) (frame.Free (Beginning h.object)) r (later-waiting p r refl refl refl) tt tt tt known
+
+  -- the request that an entry waits for is there
+  triggering-fine : (q : Obj) → AtRequest (request.Triggering q)
+  triggering-fine q whole known = each (next_of p.queues q) refl
+    where
+      f : Frame
+      f = frame.Request (request.Triggering q)
+
+      fires : (h : Head) → next_of p.queues q ≡ Some h → FineBy scenes f b p (triggering_step (Some h) p) ws
+      fires h e =
+          let x : Obj = h.entry.request in
+          let g : Frame = frame.Request (request.Called what.Trigger x h.entry.trigger Notify) in
+          let i : Item = Told (Fired what.Trigger x h.entry.trigger.routine) in
+          let w = head-waiting p p.queues.entries q h whole.queued.pool.waiting (next-head p.queues q h e) in
+          let row = request-row (row_of p.rows x) w.request in
+          let starts : may_fire_row what.Trigger (row_of p.rows x) ≡ true = rw row.1 (trigger-fires row.0.kind row.0.mark row.2) in
+          let past = past-tells (told scenes) i f (map work_of ws) p (λ y. refl) (λ y. refl) (λ y. refl) (λ y k. refl) known.past in (
+            (fits-fired (told scenes) what.Trigger x h.entry.trigger.routine (unfreed (told scenes) f (map work_of ws) p x row.0 known.past row.1), record { answered = tt; held = tt; caused = tt; started = (starts, record { queue = q; first = h; next = e; entry = entry-row x (row_of p.rows h.object) w.entry; request = refl; routine = refl }) }),
+            known-told scenes (scene notes f b p i) (with_note None g) ws (trigger p h)
+                (past-goes (told scenes ++ i ∷ []) f g (map work_of ws) (map work_of ws) p (trigger p h) past (later-waiting p (trigger p h) refl refl refl) (λ y l. absurd l) tt past.all_account)
+                (restacked f g ws (λ w h. h) (λ w h. h) known.stacked) tt,
+          )
+
+      each : (o : Option Head) → next_of p.queues q ≡ o → FineBy scenes f b p (triggering_step o p) ws
+      each None e = over (request.Triggering q) Notify p (later-same p) known
+      each (Some h) e = fires h e
+
   over-fine : (r : Reply) → AtRequest (request.Over r)
   over-fine r whole known =
       resumed scenes (frame.Request (request.Over r)) b ws p (answer.Heard r) known.past (λ y l. l) known.stacked whole.sound.waiting
@@ -275,18 +330,28 @@ module _ (scenes : List Scene) (b : Option CallStart) (ws : List NotedWork) (p :
   request-fine (request.Notifying x errand) whole known = notifying-fine x errand whole known
   request-fine (request.Calling w x h errand) whole known = calling-fine w x h errand whole known
   request-fine (request.Called w x h errand) whole known =
-      begins (request.Called w x h errand) (request.Called w x h errand) (frame.Call (Asking (ask.Routine (handler_moment w x h plainly)))) tt (request-no-hook w whole.noted.works) tt known
+      begins (request.Called w x h errand) (request.Called w x h errand) (frame.Call (Asking (ask.Routine (handler_moment w x h plainly)))) p (later-same p) tt (request-no-hook w whole.noted.works) tt known
   request-fine (request.Releasing c) whole known = absurd whole.sound.rests
+  request-fine (request.Vacating q) whole known = vacating-fine q whole known
+  request-fine (request.Dropping q e) whole known = absurd whole.sound.rests
+  request-fine (request.Triggering q) whole known = triggering-fine q whole known
   request-fine (request.Over r) whole known = over-fine r whole known
 
   -- ---- a free that waits for a request
 
-  pub preparing-fine : (x : Obj) → IsConsistent (record { innermost = frame.Free (Preparing x); below = map work_of ws; pool = p }) → Known scenes (with_note b (frame.Free (Preparing x))) ws p
-      → FineBy scenes (frame.Free (Preparing x)) b p (step (frame.Free (Preparing x)) p) ws
-  preparing-fine x whole known = record {
+  pub preparing-fine : (x : Obj) → Known scenes (with_note b (frame.Free (Preparing x))) ws p → FineBy scenes (frame.Free (Preparing x)) b p (step (frame.Free (Preparing x)) p) ws
+  preparing-fine x known = record {
     past = past-goes (told scenes) (frame.Free (Preparing x)) (frame.Request (request.Receiving x)) (map work_of ws) (frame.Free (Preparing x) ∷ map work_of ws) p p known.past (later-same p)
         (λ y l. absurd l) tt (tt, known.past.all_account);
     stacked = (tt, restacked (frame.Free (Preparing x)) (frame.Free (Preparing x)) ws (λ w k. k) (λ w k. k) known.stacked);
+    cause = tt;
+  }
+
+  pub draining-fine : (x : Obj) → Known scenes (with_note b (frame.Free (Draining x))) ws p → FineBy scenes (frame.Free (Draining x)) b p (step (frame.Free (Draining x)) p) ws
+  draining-fine x known = record {
+    past = past-goes (told scenes) (frame.Free (Draining x)) (frame.Request (request.Vacating x)) (map work_of ws) (frame.Free (Draining x) ∷ map work_of ws) p p known.past (later-same p)
+        (λ y l. absurd l) tt (tt, known.past.all_account);
+    stacked = (tt, restacked (frame.Free (Draining x)) (frame.Free (Draining x)) ws (λ w k. k) (λ w k. k) known.stacked);
     cause = tt;
   }
 

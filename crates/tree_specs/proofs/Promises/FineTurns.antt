@@ -9,7 +9,7 @@ use Rattle.tree_specs.specs.declared.kind.Kind.{Kind}
 use Rattle.tree_specs.specs.declared.kind.Kind.TheVariants as kind
 use Rattle.tree_specs.specs.declared.handler.Handler.{Handler}
 use Rattle.tree_specs.specs.declared.moment.What.{What}
-use Rattle.tree_specs.specs.declared.moment.What.TheVariants.{Immediate as ForImmediate, Timer as ForTimer, Descriptor as ForDescriptor}
+use Rattle.tree_specs.specs.declared.moment.What.TheVariants.{Immediate as ForImmediate, Timer as ForTimer, Descriptor as ForDescriptor, Trigger as ForTrigger}
 use Rattle.tree_specs.specs.declared.occasion.Occasion.{Occasion}
 use Rattle.tree_specs.specs.declared.event.Event.TheVariants.{Fired}
 use Rattle.tree_specs.specs.declared.question.Ask.{Ask}
@@ -32,13 +32,13 @@ use Rattle.tree_specs.specs.Rules.Items.Item.{Told, Asked}
 use Rattle.tree_specs.specs.Rules.Sequence.{CallStart, Scene}
 use Rattle.tree_specs.specs.Machine.Table.{Step, notes, taken, starting_step, turn_step, turn_taken}
 use Rattle.tree_specs.specs.Promises.Orderly.{is_hook, asks_hook}
-use Rattle.tree_specs.specs.Promises.Grounded.{may_fire, may_fire_row}
+use Rattle.tree_specs.specs.Promises.Grounded.{IsTurn, may_fire, may_fire_row}
 use Rattle.tree_specs.specs.Machine.Profiles.{InHandler}
 use Rattle.tree_specs.specs.Invariants.Sound.{claims}
 use Rattle.tree_specs.specs.Invariants.Consistent.{IsConsistent}
 use Rattle.tree_specs.proofs.Tree.Numbered.{by_test}
 use Rattle.tree_specs.proofs.Invariants.Changes.{handling-row, claim-here}
-use Rattle.tree_specs.proofs.Invariants.Turning.{handler-ready, rotated-rows, Passes, Pass, Serve, look-passes, taken-plain}
+use Rattle.tree_specs.proofs.Invariants.Turning.{handler-ready, rotated-rows, Passes, Pass, Serve, look-passes, taken-plain, Trigger}
 use Rattle.tree_specs.proofs.Invariants.Waiters.{Waiter, ForRun}
 use Rattle.tree_specs.proofs.Promises.Later.{Later, later-rows, later-same, later-waiting, later-marked}
 use Rattle.tree_specs.proofs.Promises.Past.{Past, Accounts, past-goes, past-tells, unfreed}
@@ -82,10 +82,11 @@ module _ (scenes : List Scene) (b : Option CallStart) (ws : List NotedWork) (p :
   }
 
   passes : (f : TurnFrame) (m : Step) → Passes p m → Known scenes (with_note b (frame.Turn f)) ws p → FineBy scenes (frame.Turn f) b p m ws
-  passes f _ (Pass g q rows next notes-are times plain) known = goes f g q (later-waiting p q rows next notes-are) known
-  passes f _ (Serve Notify x q rows next notes-are times served noted) known = begins f (Serving x) (frame.Request (request.Notifying x Notify)) q (later-waiting p q rows next notes-are) tt tt tt known
-  passes f _ (Serve (Finish TimedOut) x q rows next notes-are times served noted) known = begins f (Serving x) (frame.Request (request.Finishing x TimedOut)) q (later-waiting p q rows next notes-are) tt tt tt known
-  passes f _ (Serve _ x q rows next notes-are times served noted) known = absurd served
+  passes f _ (Pass g q rows next notes-are queues times plain) known = goes f g q (later-waiting p q rows next notes-are) known
+  passes f _ (Trigger x q rows next notes-are queues times queue) known = begins f (Serving x) (frame.Request (request.Triggering x)) q (later-waiting p q rows next notes-are) tt tt tt known
+  passes f _ (Serve Notify x q rows next notes-are queues times served noted) known = begins f (Serving x) (frame.Request (request.Notifying x Notify)) q (later-waiting p q rows next notes-are) tt tt tt known
+  passes f _ (Serve (Finish TimedOut) x q rows next notes-are queues times served noted) known = begins f (Serving x) (frame.Request (request.Finishing x TimedOut)) q (later-waiting p q rows next notes-are) tt tt tt known
+  passes f _ (Serve _ x q rows next notes-are queues times served noted) known = absurd served
 
   -- it asks no destructor, and goes on as a turn
   asks : (f : TurnFrame) (q : Ask) → ((y : Obj) → asks_hook y (Asked q) ≡ false) → ((i : Input) (g : Frame) → turn_taken f p i ≡ Some g → (t : TurnFrame) × (g ≡ frame.Turn t))
@@ -124,6 +125,11 @@ module _ (scenes : List Scene) (b : Option CallStart) (ws : List NotedWork) (p :
           rw e (goes (Starting w x occasion) (Firing w x h occasion) (begun w x p)
           (later-rows (later-marked p x ready.row Busy ready.is (rw ready.quiet tt)) (ap (λ (rows : List Row). changed (marked_row Busy) rows x) r.0) r.1 r.2) known)
 
+  -- an event waits in no queue
+  no-turn : (w : What) (k : Kind) → comes_as w k ≡ true → (x : Obj) (routine : ℕ) → IsTurn w p x routine
+  no-turn ForTrigger k e x routine = cc
+  no-turn _ k e x routine = tt
+
   firing-fine : (w : What) (x : Obj) (h : Handler) (occasion : Occasion) → AtTurn (Firing w x h occasion)
   firing-fine w x h occasion whole known =
       let f : Frame = frame.Turn (Firing w x h occasion) in
@@ -133,7 +139,7 @@ module _ (scenes : List Scene) (b : Option CallStart) (ws : List NotedWork) (p :
       let r : Row = rests.1 in
       let fires : may_fire_row w (row_of p.rows x) ≡ true = rw (rests.2, rests.4) (comes-fires w r.kind rests.3) in
       let past = past-tells (told scenes) e f (map work_of ws) p (λ y. refl) (λ y. refl) (λ y. refl) (λ y k. refl) known.past in (
-        (fits-fired (told scenes) w x h.routine (unfreed (told scenes) f (map work_of ws) p x r known.past rests.2), record { answered = tt; held = tt; caused = tt; started = fires }),
+        (fits-fired (told scenes) w x h.routine (unfreed (told scenes) f (map work_of ws) p x r known.past rests.2), record { answered = tt; held = tt; caused = tt; started = (fires, no-turn w r.kind rests.3 x h.routine) }),
         known-told scenes (scene notes f b p e) (with_note None g) ws p
             (past-goes (told scenes ++ e ∷ []) f g (map work_of ws) (map work_of ws) p p past (later-same p) (λ y l. absurd l) tt past.all_account)
             (restacked f g ws (λ w h. h) (λ w h. h) known.stacked) tt,

@@ -1,5 +1,5 @@
 -- What a refused call leaves.
-use Rattle.std.proofs.Common.{◌≡◌, ℕ, suc, zero, nat_eq, List, [], ◌∷◌, ◌++◌, Option, Some, None, refl, sym, ◌∙◌, ap, subst, inl, inr, append-nil}
+use Rattle.std.proofs.Common.{◌≡◌, ℕ, suc, zero, nat_eq, List, [], ◌∷◌, ◌++◌, Option, Some, None, refl, sym, ◌∙◌, ap, subst, inl, inr, append-nil, true}
 use Rattle.step_machine.specs.Machine.{tell}
 use Rattle.step_machine.specs.Machine.Outcome.{Ended}
 use Rattle.step_machine.proofs.Uses.{ended-tell, ended-followed}
@@ -27,7 +27,7 @@ use Rattle.tree_specs.specs.declared.frame.Errand.TheVariants.{Finish}
 use Rattle.tree_specs.specs.Events.Requests.{note_of, is_in_progress, failed_with}
 use Rattle.tree_specs.proofs.Rules.RequestLaws.{work-said}
 use Rattle.tree_specs.proofs.Rules.TextLaws.{all-lawful}
-use Rattle.tree_specs.specs.Calls.Plans.Change.{Renotes}
+use Rattle.tree_specs.specs.Calls.Plans.Change.{Renotes, Runs, LooksAt, Then}
 use Rattle.tree_specs.specs.Calls.Plans.{Plan, plan, frees, changed_by, replies, failure_in, failure_reply, progress_reply}
 use Rattle.tree_specs.specs.Calls.Plans.Plan.{Does, Frees, Unlinks, Empties, Asks, Turns, Works}
 use Rattle.tree_specs.specs.Rules.Items.Item.{Told}
@@ -37,10 +37,11 @@ use Rattle.tree_specs.specs.Rules.Story.{unlink, free, judged, leave, children, 
 use Rattle.tree_specs.specs.Rules.Pieces.{effect, numbered, turned, work_by}
 use Rattle.tree_specs.specs.declared.question.Ask.TheVariants.{Quiet as AtRest}
 use Rattle.tree_specs.specs.Promises.Refused.{called, Untouched, OnlyDropped, closed_at, told_refusal, LeftByFree, LeftByItsFree, LeftByRefused}
+use Rattle.tree_specs.specs.Events.Queues.{runs}
 use Rattle.tree_specs.proofs.Tree.Numbered.{by_test}
 use Rattle.tree_specs.proofs.Promises.Answering.{IsNoRefusal, reaching-answers}
-use Rattle.tree_specs.proofs.Rules.FreeCauses.{leave-ok, received-ok, unlinked, dropped_scene, FreeGoes, free-goes}
-use Rattle.tree_specs.proofs.Rules.FreeCauses.FreeGoes.{IsOver, ByLeaving, ByReceiving, ByAsking, AsRunning, Again, AsHeld}
+use Rattle.tree_specs.proofs.Rules.FreeCauses.{leave-ok, received-ok, drained-ok, unlinked, dropped_scene, FreeGoes, free-goes}
+use Rattle.tree_specs.proofs.Rules.FreeCauses.FreeGoes.{IsOver, ByLeaving, ByReceiving, ByDraining, ByAsking, AsRunning, Again, AsHeld}
 
 -- what a free leaves, with the inputs that it took
 abbrev Leaves : Obj → Pool → List Input → FreeReply → Pool → List Scene → List Input → Type 0
@@ -118,6 +119,7 @@ free-leaves-more : (n : ℕ) (x : Obj) → ((p : Pool) (is : List Input) (a : Fr
 free-leaves-more n x ih p is a q ts left (IsOver k) = let ok : a ≡ free_reply.Ok = cc in ok-leaves x p is a q ts left ok
 free-leaves-more n x ih p is a q ts left (ByLeaving k) = ok-leaves x p is a q ts left (leave-ok n x 0 p is a q ts left k)
 free-leaves-more n x ih p is a q ts left (ByReceiving k) = ok-leaves x p is a q ts left (received-ok n x (set_mark p x mark.Asked) is a q ts left k)
+free-leaves-more n x ih p is a q ts left (ByDraining k) = ok-leaves x p is a q ts left (drained-ok n x (set_mark p x mark.Asked) is a q ts left k)
 free-leaves-more n x ih p is a q ts left (ByAsking m h v r us vs mid run judge told) =
     subst (λ (l : List Scene). Leaves x p is a q l left) told (judged-leaves m m x h v p r q is mid left us vs a run judge)
 free-leaves-more n x ih p is a q ts left (AsRunning r ran run is_doomed k) =
@@ -234,6 +236,9 @@ passed-leaves n (call.Error x error) why p q is left told e = by_test (nat_eq er
     (λ t. absurd (plan-leaves n (Works (Renotes x (failed_with error)) (Finish state.UserError) x) why p q is left told tt (rw t at e)))
 passed-leaves n (call.Iserror x) why p q is left told e = absurd (plan-leaves n (replies (failure_reply (note_of p.requests x))) why p q is left told (told-failure (note_of p.requests x)) e)
 passed-leaves n (call.Progress x) why p q is left told e = absurd (plan-leaves n (replies (progress_reply (note_of p.requests x))) why p q is left told (told-progress (note_of p.requests x)) e)
+passed-leaves n (call.Start x) why p q is left told e = by_test (runs p.queues x)
+    (λ t. absurd (plan-leaves n (replies reply.Ok) why p q is left told tt (rw t at e)))
+    (λ t. absurd (plan-leaves n (Does (Then (Runs x true) (LooksAt x)) None reply.Ok) why p q is left told tt (rw t at e)))
 passed-leaves n c why p q is left told e = absurd (plan-leaves n (plan p c) why p q is left told tt e)
 
 pub call-leaves : (n : ℕ) (c : Call) (why : Refusal) (p q : Pool) (is left : List Input) (told : List Scene) → called n c p is ≡ Ended (reply.No why) q told left → LeftByRefused c why p q is left told

@@ -15,7 +15,7 @@ use Rattle.tree_specs.proofs.Calls.Checks.{both-true}
 use Rattle.tree_specs.specs.declared.frame.Frame.{Frame}
 use Rattle.tree_specs.specs.declared.frame.Frame.TheVariants as frame
 use Rattle.tree_specs.specs.declared.frame.CallFrame.TheVariants.{Awaiting, Turning, Requesting}
-use Rattle.tree_specs.specs.declared.frame.FreeFrame.TheVariants.{Hooked, Judged, Preparing, Leaving, Looping, FreeingChild}
+use Rattle.tree_specs.specs.declared.frame.FreeFrame.TheVariants.{Hooked, Judged, Preparing, Leaving, Looping, FreeingChild, Draining}
 use Rattle.tree_specs.specs.declared.frame.Purpose.{Purpose}
 use Rattle.tree_specs.specs.declared.frame.Purpose.TheVariants.{Removal, Emptying}
 use Rattle.tree_specs.specs.Words.Objects.{same}
@@ -128,6 +128,7 @@ unclaimed x (f ∷ fs) w e r = elim r [
     claimed (frame.Request f) w r e = r
     claimed (frame.Call (Requesting q)) w r e = r
     claimed (frame.Free (Preparing y)) w r e = r
+    claimed (frame.Free (Draining y)) w r e = r
     claimed (frame.Free (Hooked y h)) w r e = r
     claimed _ w r e = absurd w
 

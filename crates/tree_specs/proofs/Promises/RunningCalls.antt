@@ -4,6 +4,7 @@ use Rattle.tree_specs.specs.declared.request.Note.{Note}
 use Rattle.tree_specs.specs.declared.request.State.{State}
 use Rattle.tree_specs.specs.declared.request.State.TheVariants as state
 use Rattle.tree_specs.specs.Events.Requests.{note_of, is_in_progress}
+use Rattle.tree_specs.specs.Events.Queues.{runs}
 use Rattle.tree_specs.proofs.Tree.Numbered.{by_test}
 use Rattle.tree_specs.proofs.Rules.RequestLaws.{work-said}
 use Rattle.tree_specs.proofs.Rules.TextLaws.{all-lawful}
@@ -50,6 +51,7 @@ plan-own p (call.Free x) = each (newest_ref p.rows x)
     each None = tt
     each (Some r) = tt
 plan-own p (call.Error x error) = by_test (nat_eq error 0) (λ t. rw t tt) (λ t. rw t tt)
+plan-own p (call.Start q) = by_test (runs p.queues q) (λ t. rw t tt) (λ t. rw t tt)
 plan-own p (call.Iserror x) = each (note_of p.requests x)
   where
     states : (s : State) (error : ℕ) → OwnReply p (failure_in s error)

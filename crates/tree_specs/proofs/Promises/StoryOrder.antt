@@ -11,7 +11,7 @@ use Rattle.tree_specs.specs.declared.question.Ask.TheVariants.{Quiet}
 use Rattle.tree_specs.specs.declared.frame.Frame.{Frame}
 use Rattle.tree_specs.specs.declared.frame.Frame.TheVariants as frame
 use Rattle.tree_specs.specs.declared.frame.CallFrame.TheVariants.{Asking, Doing, Announcing, Telling, Returning}
-use Rattle.tree_specs.specs.declared.frame.FreeFrame.TheVariants.{Unlinking, Releasing, Giving, Beginning, Hooked, Judged, Preparing, Prepared, Dooming, Leaving, Looping, AfterChild, Ending}
+use Rattle.tree_specs.specs.declared.frame.FreeFrame.TheVariants.{Unlinking, Releasing, Giving, Beginning, Hooked, Judged, Preparing, Draining, Prepared, Dooming, Leaving, Looping, AfterChild, Ending}
 use Rattle.tree_specs.specs.declared.frame.Answer.{Answer}
 use Rattle.tree_specs.specs.Tree.Pool.{Pool, empty}
 use Rattle.tree_specs.specs.Rules.Items.{Item}
@@ -31,7 +31,7 @@ use Rattle.tree_specs.proofs.Promises.FineFrees.{hooked-fine, leaving-fine, judg
 use Rattle.tree_specs.proofs.Promises.FineDrops.{ending-fine, beginning-fine, dooming-fine, unlinking-fine, releasing-fine, giving-fine}
 use Rattle.tree_specs.proofs.Promises.FineTurns.{turn-fine}
 use Rattle.tree_specs.proofs.Promises.FineOutside.{outside-fine}
-use Rattle.tree_specs.proofs.Promises.FineRequests.{preparing-fine, prepared-fine, request-fine}
+use Rattle.tree_specs.proofs.Promises.FineRequests.{preparing-fine, draining-fine, prepared-fine, request-fine}
 use Rattle.tree_specs.proofs.Rules.StoryLaws.{asking, begin-whole, story-walk}
 
 abbrev WholeAt : Frame → List Frame → Pool → Type 0
@@ -53,7 +53,8 @@ fine scenes (frame.Free (Giving x o)) b ws p whole known = giving-fine scenes b 
 fine scenes (frame.Free (Beginning x)) b ws p whole known = beginning-fine scenes b ws p x whole known
 fine scenes (frame.Free (Hooked x h)) b ws p whole known = hooked-fine scenes b ws p x h whole known
 fine scenes (frame.Free (Judged x h v)) b ws p whole known = judged-fine scenes b ws p x h v whole known
-fine scenes (frame.Free (Preparing x)) b ws p whole known = preparing-fine scenes b ws p x whole known
+fine scenes (frame.Free (Preparing x)) b ws p whole known = preparing-fine scenes b ws p x known
+fine scenes (frame.Free (Draining x)) b ws p whole known = draining-fine scenes b ws p x known
 fine scenes (frame.Free (Prepared x)) b ws p whole known = prepared-fine scenes b ws p x whole known
 fine scenes (frame.Free (Dooming x)) b ws p whole known = dooming-fine scenes b ws p x whole known
 fine scenes (frame.Free (Leaving x h)) b ws p whole known = leaving-fine scenes b ws p x h whole known

@@ -20,9 +20,9 @@ use Rattle.tree_specs.specs.Tree.Pool.{Pool, row_of, owner_of, newest_ref_of, pl
 use Rattle.tree_specs.specs.Rules.Items.Item.{Told}
 use Rattle.tree_specs.specs.Rules.Sequence.{Work, Scene}
 use Rattle.tree_specs.specs.Rules.Answers.{hook_moment}
-use Rattle.tree_specs.specs.Rules.Story.{unlink, release, given, free, hooked, judged, dooming, preparing, prepared, receiving, leave, children, asked}
+use Rattle.tree_specs.specs.Rules.Story.{unlink, release, given, free, hooked, judged, dooming, preparing, draining, prepared, receiving, vacating, leave, children, asked}
 use Rattle.tree_specs.specs.Rules.Pieces.{lets_go}
-use Rattle.tree_specs.specs.Calls.Refusals.{is_request}
+use Rattle.tree_specs.specs.Calls.Refusals.{is_request, is_queue}
 use Rattle.tree_specs.specs.Promises.Grounded.{DropsOutside, IsItem}
 use Rattle.tree_specs.specs.Promises.Refused.{doomed, told_closed, closed_at}
 use Rattle.tree_specs.specs.Events.Rotation.{closes_with}
@@ -94,6 +94,12 @@ received-ok (suc n) x p is a q ts left e =
     let w = ended-followed (receiving n x p is) (λ r. prepared n x) a q ts left e in
     prepared-ok n x w.1 w.4 a q w.3 left w.6
 
+pub drained-ok : (n : ℕ) (x : Obj) (p : Pool) (is : List Input) (a : FreeReply) (q : Pool) (ts : List Scene) (left : List Input) → draining n x p is ≡ Ended a q ts left → a ≡ free_reply.Ok
+drained-ok zero x p is a q ts left e = cc
+drained-ok (suc n) x p is a q ts left e =
+    let w = ended-followed (vacating n x p is) (λ r. prepared n x) a q ts left e in
+    prepared-ok n x w.1 w.4 a q w.3 left w.6
+
 judged-cause : (n : ℕ) (x : Obj) (h v : ℕ) (p : Pool) (is : List Input) (a : FreeReply) (q : Pool) (ts : List Scene) (left : List Input) → judged n x h v p is ≡ Ended a q ts left
     → (Runs : Type 0) (us : List Scene) → FreeCause Runs x (us ++ ts) a
 judged-cause zero x h v p is a q ts left e Runs us = cc
@@ -122,6 +128,8 @@ pub data FreeGoes (n : ℕ) (x : Obj) (p : Pool) (is : List Input) (a : FreeRepl
   ByLeaving : leave n x 0 p is ≡ Ended a q ts left → FreeGoes n x p is a q ts left
   -- it is a request, and is received first
   ByReceiving : preparing n x (set_mark p x mark.Asked) is ≡ Ended a q ts left → FreeGoes n x p is a q ts left
+  -- it is a queue, and its entries are freed first
+  ByDraining : draining n x (set_mark p x mark.Asked) is ≡ Ended a q ts left → FreeGoes n x p is a q ts left
   -- its destructor runs, and has returned
   ByAsking : (m h v : ℕ) (r : Pool) (us vs : List Scene) (mid : List Input) → asked m (ask.Routine (hook_moment x h)) (set_mark p x mark.Asked) is ≡ Ended v r us mid → judged m x h v r mid ≡ Ended a q vs left → us ++ vs ≡ ts → FreeGoes n x p is a q ts left
   -- it runs already, or its handler runs and it is doomed by this
@@ -156,9 +164,11 @@ free-goes n x p is a q ts left e = newest (newest_ref p.rows x) refl
     marks : newest_ref p.rows x ≡ None → (r : Row) (m : Mark) → r.mark ≡ m → row_of p.rows x ≡ Some r → Goes
     marks z r mark.Quiet m k = by_test (is_request r.kind)
         (λ u. ByReceiving (rw (z, k, m, u) at e))
-        (λ u. by_test (nat_eq r.hook 0)
-        (λ t. ByLeaving (rw (z, k, m, u, t) at e))
-        (λ t. asks n r.hook (rw (z, k, m, u, t) at e)))
+        (λ u. by_test (is_queue r.kind)
+        (λ v. ByDraining (rw (z, k, m, u, v) at e))
+        (λ v. by_test (nat_eq r.hook 0)
+        (λ t. ByLeaving (rw (z, k, m, u, v, t) at e))
+        (λ t. asks n r.hook (rw (z, k, m, u, v, t) at e))))
     marks z r mark.Asked m k = AsRunning p (rw (k, m) refl) (rw (k, m) refl) (rw (k, m) refl) (let e' : Ended free_reply.Running p [] is ≡ Ended a q ts left = rw (z, k, m) at e in rw (k, m) e')
     marks z r mark.Busy m k = dooms n r k m (rw (z, k, m) at e)
     marks z r mark.Doomed m k = AsRunning p (rw (k, m) refl) (rw (k, m) refl) (rw (k, m) refl) (let e' : Ended free_reply.Running p [] is ≡ Ended a q ts left = rw (z, k, m) at e in rw (k, m) e')
@@ -184,6 +194,7 @@ free-cause-more : (n : ℕ) (x : Obj) → ((p : Pool) (is : List Input) (a : Fre
 free-cause-more n x ih p is a q ts left (IsOver k) = let ok : a ≡ free_reply.Ok = cc in is-ok (RunsFrom p x q) x ts a ok
 free-cause-more n x ih p is a q ts left (ByLeaving k) = is-ok (RunsFrom p x q) x ts a (leave-ok n x 0 p is a q ts left k)
 free-cause-more n x ih p is a q ts left (ByReceiving k) = is-ok (RunsFrom p x q) x ts a (received-ok n x (set_mark p x mark.Asked) is a q ts left k)
+free-cause-more n x ih p is a q ts left (ByDraining k) = is-ok (RunsFrom p x q) x ts a (drained-ok n x (set_mark p x mark.Asked) is a q ts left k)
 free-cause-more n x ih p is a q ts left (ByAsking m h v r us vs mid run judge told) =
     subst (λ (l : List Scene). FreeCause (RunsFrom p x q) x l a) told (judged-cause m x h v r mid a q vs left judge (RunsFrom p x q) us)
 free-cause-more n x ih p is a q ts left (AsRunning r ran run is_doomed k) =

@@ -24,7 +24,7 @@ use Rattle.tree_specs.specs.Events.Rotation.{Ready, first_ready}
 use Rattle.tree_specs.specs.Events.Coming.{wait_limit, handler_for, handler_moment, at_time, with_flags, plainly, begun, goes_after, looks_again}
 use Rattle.tree_specs.specs.Rules.Items.Item.{Told, Asked}
 use Rattle.tree_specs.specs.Rules.Sequence.{Work, Scene}
-use Rattle.tree_specs.specs.Rules.Story.{free, asked, taking, timing, timed, polling, starting, firing, handling, handled, closing, finishing, notifying}
+use Rattle.tree_specs.specs.Rules.Story.{free, asked, taking, timing, timed, polling, starting, firing, handling, handled, closing, finishing, notifying, triggering}
 use Rattle.tree_specs.specs.Rules.Pieces.{comes}
 use Rattle.tree_specs.specs.declared.reply.Reply.{Reply}
 use Rattle.tree_specs.specs.declared.request.State.TheVariants.{TimedOut}
@@ -33,6 +33,7 @@ use Rattle.tree_specs.specs.Events.Requests.{is_noted}
 use Rattle.tree_specs.specs.Promises.Idle.{IsEarly, NobodyReady, NothingCame, Untimed, Unwatched, Early}
 use Rattle.tree_specs.proofs.Tree.Numbered.{by_test}
 use Rattle.tree_specs.proofs.Rules.Lawful.{scene_of}
+use Rattle.tree_specs.specs.Events.Queues.{has_queue}
 
 -- ---- an event that comes is replied to by 1
 
@@ -197,7 +198,9 @@ idle-cause (suc n) p q is left told e = soonest (first p.soon) refl
 
     soonest : (o : Option Obj) → first p.soon ≡ o → Idle p is left
     soonest None k = earliest k (first p.times) refl
-    soonest (Some x) k = not-one (comes-one n (is_noted p.requests x) (notifying n x Notify) ForImmediate x plainly (unschedule p x) is 0 q told left (rw k at e))
+    soonest (Some x) k = by_test (is_noted p.requests x)
+        (λ t. not-one (comes-one n true (notifying n x Notify) ForImmediate x plainly (unschedule p x) is 0 q told left (rw (k, t) at e)))
+        (λ t. not-one (comes-one n (has_queue p.queues x) (triggering n x) ForImmediate x plainly (unschedule p x) is 0 q told left (rw (k, t) at e)))
 
 -- ---- where nothing came a turn replies 0
 

@@ -23,7 +23,7 @@ use Rattle.tree_specs.specs.Rules.Items.{Item}
 use Rattle.tree_specs.specs.Rules.Items.Item.{Asked}
 use Rattle.tree_specs.specs.Rules.Sequence.{Work, Scene, CallStart, asks, fits_to}
 use Rattle.tree_specs.specs.Rules.Answers.{later}
-use Rattle.tree_specs.specs.Rules.Story.{free, hooked, judged, dooming, leave, children, tried, asked, acting, telling, returning, items, announcing, unlink, release, given, taking, timing, timed, polling, starting, firing, handling, handled, reaching, opening, hearing, closing, preparing, prepared, finishing, receiving, cancelling, cleaning, cleaned, notifying, calling, called, over}
+use Rattle.tree_specs.specs.Rules.Story.{free, hooked, judged, dooming, leave, children, tried, asked, acting, telling, returning, items, announcing, unlink, release, given, taking, timing, timed, polling, starting, firing, handling, handled, reaching, opening, hearing, closing, preparing, prepared, finishing, receiving, cancelling, cleaning, cleaned, notifying, calling, called, over, draining, vacating, triggering}
 use Rattle.tree_specs.specs.Promises.Acceptances.{Return, returned_by, answered_by, inputs_after, AcceptsNow, AcceptsAfterReturns}
 use Rattle.tree_specs.specs.declared.handler.Handler.{Handler}
 use Rattle.tree_specs.specs.declared.moment.What.{What}
@@ -167,6 +167,7 @@ pub record FreesLawful (n : ℕ) : Type 0 where
   pub hooked : (x : Obj) (h : ℕ) (p : Pool) (last : Last) → Lawful last Any (hooked n x h p)
   pub judged : (x : Obj) (h v : ℕ) (p : Pool) (last : Last) → last ≡ Some (record { object = x; value = v }) → Lawful last Any (judged n x h v p)
   pub preparing : (x : Obj) (p : Pool) (last : Last) → Lawful last Any (preparing n x p)
+  pub draining : (x : Obj) (p : Pool) (last : Last) → Lawful last Any (draining n x p)
   pub prepared : (x : Obj) (p : Pool) (last : Last) → Lawful last Any (prepared n x p)
   pub dooming : (x : Obj) (p : Pool) (last : Last) → Lawful last Any (dooming n x p)
   pub leave : (x : Obj) (h : ℕ) (p : Pool) (last : Last) → Lawful last Any (leave n x h p)
@@ -199,7 +200,7 @@ pub record OutsideLawful (n : ℕ) : Type 0 where
   pub opening : (fd : ℕ) (p : Pool) (last : Last) → Lawful last Any (opening n fd p)
   pub hearing : (r : Reply) (p : Pool) (last : Last) → Lawful last Any (hearing n r p)
 
--- those of a request, none of which is refused
+-- those of a request, and of a queue, none of which is refused
 pub record RequestsLawful (n : ℕ) : Type 0 where
   pub finishing : (x : Obj) (s : State) (p : Pool) (last : Last) → Lawful last Said (finishing n x s p)
   pub receiving : (x : Obj) (p : Pool) (last : Last) → Lawful last Said (receiving n x p)
@@ -209,6 +210,8 @@ pub record RequestsLawful (n : ℕ) : Type 0 where
   pub notifying : (x : Obj) (errand : Errand) (p : Pool) (last : Last) → Lawful last Said (notifying n x errand p)
   pub calling : (what : What) (x : Obj) (h : Handler) (errand : Errand) (p : Pool) (last : Last) → Lawful last Said (calling n what x h errand p)
   pub called : (what : What) (x : Obj) (h : Handler) (errand : Errand) (p : Pool) (last : Last) → Lawful last Said (called n what x h errand p)
+  pub vacating : (q : Obj) (p : Pool) (last : Last) → Lawful last Said (vacating n q p)
+  pub triggering : (q : Obj) (p : Pool) (last : Last) → Lawful last Said (triggering n q p)
   pub over : (r : Reply) (p : Pool) (last : Last) → Said r last → Lawful last Said (over n r p)
 
 -- all works of the text

@@ -37,7 +37,7 @@ use Rattle.tree_specs.specs.Rules.Items.Item.{Told}
 use Rattle.tree_specs.specs.declared.event.Event.TheVariants.{Freed, Closed}
 use Rattle.std.specs.Prelude.{◌&&◌, not}
 use Rattle.tree_specs.specs.Words.Ranges.{is_sound_call, is_return, is_routine, is_time}
-use Rattle.tree_specs.specs.Calls.Refusals.{is_open, is_request}
+use Rattle.tree_specs.specs.Calls.Refusals.{is_open, is_request, is_queue}
 use Rattle.tree_specs.specs.Words.Wants.{is_wants}
 use Rattle.tree_specs.specs.Events.Pending.{first}
 use Rattle.tree_specs.specs.Events.Rotation.{Ready, closes_with, first_ready}
@@ -56,13 +56,14 @@ use Rattle.tree_specs.specs.Events.Requests.{note_of, is_noted, is_unreceived, c
 use Rattle.tree_specs.specs.Calls.Plans.{Change, Plan, planned}
 use Rattle.tree_specs.specs.Calls.Plans.Plan.{Does, Frees, Unlinks, Empties, Asks, Turns, Works}
 use Rattle.tree_specs.specs.Rules.Sequence.{Work, Scene, CallStart, ◌>>◌, change, tells, gives}
-use Rattle.tree_specs.specs.Rules.Story.{free, dooming, judged, leave, children, tried, unlink, release, taking, timing, timed, polling, starting, handled, reaching, cancelling, cleaning, cleaned, notifying, called, over}
+use Rattle.tree_specs.specs.Rules.Story.{free, dooming, judged, leave, children, tried, unlink, release, taking, timing, timed, polling, starting, handled, reaching, cancelling, cleaning, cleaned, notifying, called, over, vacating, triggering}
 use Rattle.tree_specs.specs.Rules.Pieces.{lets_go, freed_quietly}
 use Rattle.tree_specs.specs.Rules.Errands.{reply_to}
 use Rattle.tree_specs.specs.Machine.Meaning.{noted_table, freed, closed, answered, looped, request_mean, mean}
 use Rattle.tree_specs.specs.Machine.FreeTable.{judge_step, loop_step, tried_step, refs_step, unlink_step, release_step}
 use Rattle.tree_specs.specs.Machine.Table.{notes, step, turn_step, outside_step, request_step, release_object, lifted, plan_step, announced, closed_event}
 use Rattle.tree_specs.proofs.Tree.Numbered.{by_test}
+use Rattle.tree_specs.specs.Events.Queues.{Head, has_queue, head_of, next_of}
 
 ruleset laws = (followed-tell, followed-tells, followed-followed)
 
@@ -125,7 +126,9 @@ beginning-turn n x b p is = newest (newest_ref p.rows x) refl
         → Below (Turn n (frame.Free (Beginning x)) b (lifted p.ring (refs_step x (newest_ref p.rows x) p)) p is) (freed (free (suc n) x) p is)
     marks k r mark.Quiet m e = by_test (is_request r.kind)
         (λ u. rw (k, e, m, u) (inr refl))
-        (λ u. by_test (nat_eq r.hook 0) (λ t. rw (k, e, m, u, t) (inr refl)) (λ t. rw (k, e, m, u, t) (inr refl)))
+        (λ u. by_test (is_queue r.kind)
+        (λ v. rw (k, e, m, u, v) (inr refl))
+        (λ v. by_test (nat_eq r.hook 0) (λ t. rw (k, e, m, u, v, t) (inr refl)) (λ t. rw (k, e, m, u, v, t) (inr refl))))
     marks k r mark.Busy m e = rw (k, e, m)
         (Below-trans _ _ _ (letting-turn n (Beginning x) (Dooming x) b x (λ q. doom q x) p is (λ u. freed (dooming n x)) (λ js. refl)) (inr (sym (followed-followed (lets_go x (λ q. doom q x) p is) _ _))))
     marks k r _ m e = rw (k, e, m) (inr refl)
@@ -211,7 +214,9 @@ taking-turn n b p is = each (first p.soon) refl
 
     each : (o : Option Obj) → first p.soon ≡ o → Below (Turn n (frame.Turn Taking) b (turn_step Taking p) p is) (closed (taking (suc n)) p is)
     each None e = due e (first p.times) refl
-    each (Some x) e = by_test (is_noted p.requests x) (λ u. rw (e, u) (inr (simp laws))) (λ u. rw (e, u) (inr refl))
+    each (Some x) e = by_test (is_noted p.requests x)
+        (λ u. rw (e, u) (inr (simp laws)))
+        (λ u. by_test (has_queue p.queues x) (λ v. rw (e, u, v) (inr (simp laws))) (λ v. rw (e, u, v) (inr refl)))
 
 timed-turn : (n : ℕ) (again : Bool) (now : ℕ) (b : Option CallStart) (p : Pool) (is : List Input)
     → Below (Turn n (frame.Turn (Timed again now)) b (turn_step (Timed again now) p) p is) (closed (timed (suc n) again now) p is)
@@ -341,6 +346,22 @@ called-turn n whats.Cleanup x handler errand b p is = inr (simp laws)
 called-turn n whats.Cancel x handler errand b p is = inr (simp laws)
 called-turn n _ x handler errand b p is = inr (simp laws)
 
+vacating-turn : (n : ℕ) (q : Obj) (b : Option CallStart) (p : Pool) (is : List Input)
+    → Below (Turn n (frame.Request (request.Vacating q)) b (request_step (request.Vacating q) p) p is) (answered (vacating (suc n) q) p is)
+vacating-turn n q b p is = each (head_of p.queues q) refl
+  where
+    each : (o : Option Head) → head_of p.queues q ≡ o → Below (Turn n (frame.Request (request.Vacating q)) b (request_step (request.Vacating q) p) p is) (answered (vacating (suc n) q) p is)
+    each None e = rw e (inr refl)
+    each (Some h) e = rw e (inr (simp laws))
+
+triggering-turn : (n : ℕ) (q : Obj) (b : Option CallStart) (p : Pool) (is : List Input)
+    → Below (Turn n (frame.Request (request.Triggering q)) b (request_step (request.Triggering q) p) p is) (answered (triggering (suc n) q) p is)
+triggering-turn n q b p is = each (next_of p.queues q) refl
+  where
+    each : (o : Option Head) → next_of p.queues q ≡ o → Below (Turn n (frame.Request (request.Triggering q)) b (request_step (request.Triggering q) p) p is) (answered (triggering (suc n) q) p is)
+    each None e = rw e (inr refl)
+    each (Some h) e = rw e (inr (simp laws))
+
 request-turn : (n : ℕ) (f : RequestFrame) (b : Option CallStart) (p : Pool) (is : List Input) → Below (Turn n (frame.Request f) b (request_step f p) p is) (request_mean (suc n) f p is)
 request-turn n (request.Receiving x) b p is = by_test (is_unreceived (note_of p.requests x)) (λ t. rw t (inr (simp laws))) (λ t. rw t (inr refl))
 request-turn n (request.Cancelling x) b p is = cancelling-turn n x b p is
@@ -349,6 +370,9 @@ request-turn n (request.Cleaned x errand) b p is = cleaned-turn n x errand b p i
 request-turn n (request.Notifying x errand) b p is = notifying-turn n x errand b p is
 request-turn n (request.Called what x handler errand) b p is = called-turn n what x handler errand b p is
 request-turn n (request.Releasing c) b p is = inr refl
+request-turn n (request.Vacating q) b p is = vacating-turn n q b p is
+request-turn n (request.Dropping q e) b p is = inr refl
+request-turn n (request.Triggering q) b p is = triggering-turn n q b p is
 request-turn n (request.Over r) b p is = inr refl
 request-turn n _ b p is = inr (simp laws)
 

@@ -19,11 +19,12 @@ use Rattle.tree_specs.specs.Machine.Table.{table, notes, resume}
 use Rattle.tree_specs.specs.Machine.View.{View, outcome_of, rest_of}
 use Rattle.tree_specs.specs.Invariants.Sound.{Sound}
 use Rattle.tree_specs.specs.Invariants.Noted.{Noted as NotedOf}
-use Rattle.tree_specs.specs.Invariants.Consistent.{IsPaidFor, IsConsistent}
+use Rattle.tree_specs.specs.Invariants.Consistent.{IsPaidFor, IsConsistent, IsStacked}
 use Rattle.tree_specs.specs.Machine.Meaning.{noted_table, continued, run_of, text_rest, stated}
 use Rattle.tree_specs.proofs.Rules.Means.{run-means}
 use Rattle.tree_specs.proofs.Rules.Rest.{most, well, rest-enough, rest-is-walk, walk-whole, walk-long, paid-enough}
 use Rattle.tree_specs.proofs.Turns.Bound.{cost-turns}
+use Rattle.tree_specs.specs.Invariants.Queued.{Queued}
 
 not-the-short : {A P I T : Type 0} (o : Outcome A P I T) → NotShort o → o ≢ Short
 not-the-short Short h = absurd h
@@ -99,16 +100,17 @@ pub not-short-equal : {A P I T : Type 0} (o u : Outcome A P I T) → o ≢ Short
 not-short-equal o u h b = elim b [ inl s ↦ absurd (h s) | inr e ↦ e ]
 
 -- the stated turns are enough for the innermost of open works by itself
-pub innermost-enough : (v : View) (is : List Input) → Sound v.innermost v.below v.pool → NotedOf v.innermost v.pool → IsPaidFor v.innermost v.below v.pool → run_of (stated v.pool is) v.innermost v.pool is ≢ Short
-innermost-enough v is s w l e =
+pub innermost-enough : (v : View) (is : List Input) → Sound v.innermost v.below v.pool → NotedOf v.innermost v.pool → Queued v.innermost v.below v.pool → IsStacked v.innermost v.below → IsPaidFor v.innermost v.below v.pool
+    → run_of (stated v.pool is) v.innermost v.pool is ≢ Short
+innermost-enough v is s w u seated l e =
     let n : ℕ = stated v.pool is in
     let alone : run table n v.innermost v.pool is ≡ Short = sym (noted-run notes table n (with_note None v.innermost) v.pool is) ∙ ap (map_items item_of) e in
     let short : outcome_of v is ≡ Short = ap (λ (o : Outcome Answer Pool Input Item). pass table n v.below o) alone ∙ pass-short table n v.below in
-    subst NotShort short (paid-enough v is s w l)
+    subst NotShort short (paid-enough v is s w u seated l)
 
 -- and more turns give the same
 pub innermost-more : (v : View) (n : ℕ) (is : List Input) → IsConsistent v → stated v.pool is ≤ n → run_of n v.innermost v.pool is ≡ run_of (stated v.pool is) v.innermost v.pool is
 innermost-more v n is h big =
     let m : ℕ = stated v.pool is in
     let sum : m + (n - m) ≡ n = omega arith in
-    ap (λ (k : ℕ). run_of k v.innermost v.pool is) (sym sum) ∙ more-run noted_table m (n - m) (with_note None v.innermost) v.pool is (innermost-enough v is h.sound h.noted h.light)
+    ap (λ (k : ℕ). run_of k v.innermost v.pool is) (sym sum) ∙ more-run noted_table m (n - m) (with_note None v.innermost) v.pool is (innermost-enough v is h.sound h.noted h.queued h.seated h.light)

@@ -1,6 +1,6 @@
 -- What is so of the works of requests: beside what is so of every work, none of them is refused.
 use Rattle.std.proofs.Common.{◌≡◌, ℕ, suc, nat_eq, List, Option, Some, None, false, refl, subst}
-use Rattle.step_machine.specs.Machine.{tell}
+use Rattle.step_machine.specs.Machine.{tell, followed}
 use Rattle.step_machine.specs.Machine.Outcome.{Ended}
 use Rattle.tree_specs.specs.declared.object.Obj.{Obj}
 use Rattle.tree_specs.specs.declared.call.Call.TheVariants as call
@@ -12,13 +12,13 @@ use Rattle.tree_specs.specs.declared.question.Ask.TheVariants as ask
 use Rattle.tree_specs.specs.declared.question.Input.{Input}
 use Rattle.tree_specs.specs.declared.reply.Refusal.{Refusal}
 use Rattle.tree_specs.specs.declared.reply.Reply.{Reply}
-use Rattle.tree_specs.specs.declared.reply.Reply.TheVariants.{No}
+use Rattle.tree_specs.specs.declared.reply.Reply.TheVariants.{No, Ok}
 use Rattle.tree_specs.specs.declared.request.Note.{Note}
 use Rattle.tree_specs.specs.declared.request.State.{State}
 use Rattle.tree_specs.specs.declared.request.State.TheVariants.{UserError, Received}
 use Rattle.tree_specs.specs.declared.frame.Errand.{Errand}
 use Rattle.tree_specs.specs.declared.frame.Errand.TheVariants.{Finish, Notify, Receive, Cancel}
-use Rattle.tree_specs.specs.Tree.Pool.{Pool, schedule, renote, finish, receive}
+use Rattle.tree_specs.specs.Tree.Pool.{Pool, schedule, renote, finish, receive, run_queue, trigger}
 use Rattle.tree_specs.specs.Events.Coming.{handler_moment, plainly}
 use Rattle.tree_specs.specs.Events.Requests.{state_number, note_of, is_unreceived, cleanup_in, cancel_in, cleaned as is_cleaned, not_deferring}
 use Rattle.tree_specs.specs.Calls.Plans.{Plan, planned}
@@ -26,10 +26,11 @@ use Rattle.tree_specs.specs.Calls.Plans.Plan.{Frees, Unlinks}
 use Rattle.tree_specs.specs.Rules.Items.Item.{Told}
 use Rattle.tree_specs.specs.Rules.Sequence.{Scene}
 use Rattle.tree_specs.specs.Rules.Errands.{reply_to, cancelled_reply}
-use Rattle.tree_specs.specs.Rules.Story.{free, unlink, asked, finishing, receiving, cancelling, cleaning, cleaned, notifying, calling, called, over}
+use Rattle.tree_specs.specs.Rules.Story.{free, unlink, asked, finishing, receiving, cancelling, cleaning, cleaned, notifying, calling, called, over, vacating, triggering}
 use Rattle.tree_specs.specs.Rules.Pieces.{work_by, freed_quietly}
 use Rattle.tree_specs.proofs.Tree.Numbered.{by_test}
 use Rattle.tree_specs.proofs.Rules.Lawful.{Last, After, Lawful, Any, Said, same-lawful, told-lawful, followed-lawful, Returned, scene_of, AllLawful}
+use Rattle.tree_specs.specs.Events.Queues.{Head, head_of, next_of}
 
 said-done : (errand : Errand) (l : Last) → Said (reply_to errand) l
 said-done (Finish UserError) l = tt
@@ -109,6 +110,24 @@ called-lawful n ih w x handler errand p last = each w
         (ih.calls.asked (ask.Routine (handler_moment what.Cancel x handler plainly)) p last) (λ v q l k. ih.requests.over (cancelled_reply v) q l (said-cancelled v l))
     each u = followed-lawful last (Returned (ask.Routine (handler_moment u x handler plainly))) Said (asked n (ask.Routine (handler_moment u x handler plainly)) p) _
         (ih.calls.asked (ask.Routine (handler_moment u x handler plainly)) p last) (λ v q l k. ih.requests.over (reply_to errand) q l (said-done errand l))
+
+pub vacating-lawful : (n : ℕ) → AllLawful n → (q : Obj) (p : Pool) (last : Last) → Lawful last Said (vacating (suc n) q p)
+vacating-lawful n ih q p last = each (head_of p.queues q) refl
+  where
+    each : (o : Option Head) → head_of p.queues q ≡ o → Lawful last Said (vacating (suc n) q p)
+    each None e = same-lawful last Said (vacating (suc n) q p) (over n Ok (run_queue p q false)) (λ js. rw e refl) (ih.requests.over Ok (run_queue p q false) last tt)
+    each (Some h) e = same-lawful last Said (vacating (suc n) q p) (λ js. followed (free n h.object (run_queue p q false) js) (λ a r left. vacating n q r left)) (λ js. rw e refl)
+        (followed-lawful last Any Said (free n h.object (run_queue p q false)) (λ a r left. vacating n q r left) (ih.frees.free h.object (run_queue p q false) last) (λ a r l w. ih.requests.vacating q r l))
+
+pub triggering-lawful : (n : ℕ) → AllLawful n → (q : Obj) (p : Pool) (last : Last) → Lawful last Said (triggering (suc n) q p)
+triggering-lawful n ih q p last = each (next_of p.queues q) refl
+  where
+    each : (o : Option Head) → next_of p.queues q ≡ o → Lawful last Said (triggering (suc n) q p)
+    each None e = same-lawful last Said (triggering (suc n) q p) (over n Ok p) (λ js. rw e refl) (ih.requests.over Ok p last tt)
+    each (Some h) e =
+        let s : Scene = scene_of (Told (Fired what.Trigger h.entry.request h.entry.trigger.routine)) p in
+        same-lawful last Said (triggering (suc n) q p) (λ js. tell s (called n what.Trigger h.entry.request h.entry.trigger Notify (trigger p h) js)) (λ js. rw e refl)
+        (told-lawful last Said s (called n what.Trigger h.entry.request h.entry.trigger Notify (trigger p h)) tt (λ is. (refl, refl)) (ih.requests.called what.Trigger h.entry.request h.entry.trigger Notify (trigger p h) None))
 
 -- an errand, with so many turns
 pub work-lawful : (n : ℕ) → AllLawful n → (errand : Errand) (x : Obj) (p : Pool) (last : Last) → Lawful last Said (work_by (finishing n) (notifying n) (receiving n) (cancelling n) errand x p)

@@ -15,7 +15,7 @@ use Rattle.tree_specs.specs.declared.frame.TurnFrame.TheVariants.{Taking, Timing
 use Rattle.tree_specs.specs.declared.handler.Handler.{Handler}
 use Rattle.tree_specs.specs.declared.question.Ask.TheVariants.{Quiet, Clock, Wait}
 use Rattle.tree_specs.specs.Events.Coming.{handler_for, goes_after}
-use Rattle.tree_specs.proofs.Invariants.Turning.{Passes, Pass, Serve, look-passes}
+use Rattle.tree_specs.proofs.Invariants.Turning.{Passes, Pass, Serve, look-passes, Trigger}
 use Rattle.tree_specs.proofs.Tree.Numbered.{by_test}
 use Rattle.tree_specs.specs.declared.call.Call.TheVariants as call
 use Rattle.tree_specs.specs.declared.request.Note.{Note}
@@ -34,7 +34,7 @@ use Rattle.tree_specs.specs.declared.free_step.FreeStep.{FreeStep}
 use Rattle.tree_specs.specs.declared.event.Event.{Event}
 use Rattle.tree_specs.specs.declared.call.Call.{Call}
 use Rattle.tree_specs.specs.declared.question.Ask.{Ask}
-use Rattle.tree_specs.specs.Tree.Pool.{Pool, schedule, renote}
+use Rattle.tree_specs.specs.Tree.Pool.{Pool, schedule, renote, run_queue}
 use Rattle.tree_specs.specs.Rules.Items.{Item, IsQuestion}
 use Rattle.tree_specs.specs.Rules.Items.Item.{Asked}
 use Rattle.tree_specs.specs.Calls.Plans.{Plan, planned, plan, unless_refused}
@@ -42,7 +42,7 @@ use Rattle.tree_specs.specs.Calls.Plans.Plan.{Does, Frees, Unlinks, Empties, Ask
 use Rattle.tree_specs.specs.Rules.Story.{turns}
 use Rattle.tree_specs.specs.Calls.Refusals.{Check}
 use Rattle.tree_specs.specs.Machine.FreeTable.{free_step}
-use Rattle.tree_specs.specs.Machine.Table.{Step, call_step, turning_step, starting_step, handled_step, turn_step, outside_step, over_step, cancelling_step, cleaning_step, release_object, cleaned_step, callback_step, notifying_step, receiving_step, request_step, table, step, event_of, announced, plan_step, lifted, taken}
+use Rattle.tree_specs.specs.Machine.Table.{Step, call_step, turning_step, starting_step, handled_step, turn_step, outside_step, over_step, cancelling_step, cleaning_step, release_object, cleaned_step, callback_step, notifying_step, receiving_step, request_step, table, step, event_of, announced, plan_step, lifted, taken, vacating_step, triggering_step}
 use Rattle.tree_specs.specs.Invariants.Sound.{Sound, Rests}
 use Rattle.tree_specs.specs.Invariants.Noted.{Noted}
 use Rattle.tree_specs.specs.Invariants.Measure.{cost}
@@ -56,16 +56,21 @@ use Rattle.tree_specs.proofs.Turns.Falls.{Well, falls}
 use Rattle.tree_specs.proofs.Turns.Load.{placed-kept}
 use Rattle.tree_specs.proofs.Turns.Seats.{Placed}
 use Rattle.tree_specs.proofs.Turns.Bound.{cost-turns, pending-most}
+use Rattle.tree_specs.specs.Events.Queues.{Head, head_of, next_of}
+use Rattle.tree_specs.proofs.Invariants.FreeQueues.{QueuedBy}
+use Rattle.tree_specs.proofs.Invariants.KeptQueues.{queued-kept}
+use Rattle.tree_specs.specs.Invariants.Queued.{Queued}
 
 -- a bound on the rows that there can be, with k inputs left
 abbrev pub most : View → ℕ → ℕ
 most v k = length v.pool.rows + 2 * k + 2
 
-pub well-of : (v : View) (k : ℕ) → Sound v.innermost v.below v.pool → Noted v.innermost v.pool → Well (most v k) v.innermost v.below v.pool k
-well-of v k s n = (s, n, omega (arith, pending-most v.innermost))
+pub well-of : (v : View) (k : ℕ) → Sound v.innermost v.below v.pool → Noted v.innermost v.pool → Queued v.innermost v.below v.pool → IsStacked v.innermost v.below → IsPaidFor v.innermost v.below v.pool
+    → Well (most v k) v.innermost v.below v.pool k
+well-of v k s n u seated l = record { sound = s; noted = n; queued = u; seated = seated; light = l; room = omega (arith, pending-most v.innermost) }
 
 pub well : (v : View) (k : ℕ) → IsConsistent v → Well (most v k) v.innermost v.below v.pool k
-well v k h = well-of v k h.sound h.noted
+well v k h = well-of v k h.sound h.noted h.queued h.seated h.light
 
 -- any number of turns above the measure gives the rest
 pub rest-enough : (R m : ℕ) (v : View) (is : List Input) → IsConsistent v → Well R v.innermost v.below v.pool (length is) → cost R v.innermost v.below v.pool (length is) < m
@@ -96,32 +101,33 @@ rest-is-walk v is h =
     rest-walk table (Well R) (cost R) (falls R) (turns (length v.pool.rows) (length is)) v.innermost v.below v.pool is (well v (length is) h) (cost-turns v (length is) h.light)
 
 -- whatever else holds, the stated turns are enough for works that the rows pay for
-pub paid-enough : (v : View) (is : List Input) → Sound v.innermost v.below v.pool → Noted v.innermost v.pool → IsPaidFor v.innermost v.below v.pool → NotShort (outcome_of v is)
-paid-enough v is s n l =
+pub paid-enough : (v : View) (is : List Input) → Sound v.innermost v.below v.pool → Noted v.innermost v.pool → Queued v.innermost v.below v.pool → IsStacked v.innermost v.below → IsPaidFor v.innermost v.below v.pool
+    → NotShort (outcome_of v is)
+paid-enough v is s n u seated l =
     let R : ℕ = most v (length is) in
     let k : ℕ = turns (length v.pool.rows) (length is) in
-    let w = well-of v (length is) s n in
+    let w = well-of v (length is) s n u seated l in
     let c = cost-turns v (length is) l in
     subst NotShort (rest-walk table (Well R) (cost R) (falls R) k v.innermost v.below v.pool is w c) (enough table (Well R) (cost R) (falls R) k v.innermost v.below v.pool is w c)
 
 pub not-short : (v : View) (is : List Input) → IsConsistent v → NotShort (outcome_of v is)
-not-short v is h = paid-enough v is h.sound h.noted h.light
+not-short v is h = paid-enough v is h.sound h.noted h.queued h.seated h.light
 
 -- ---- what a step keeps
 
 Leads-whole : (m : Move Frame Answer Pool Item) (fs : List Frame) (k : ℕ)
-    → Leads table (λ g gs q j. Sound g gs q) m fs k → NotedBy m fs k → CalmBy m fs k → Placed m fs k → Leads table (λ g gs q j. IsConsistent (record { innermost = g; below = gs; pool = q })) m fs k
-Leads-whole (Do.Done a p) [] k s n c l = tt
-Leads-whole (Do.Done a p) (g ∷ gs) k s n c l = record { sound = s; seated = l.0; light = l.1; noted = n; calm = c }
-Leads-whole (Do.Go f p) fs k s n c l = record { sound = s; seated = l.0; light = l.1; noted = n; calm = c }
-Leads-whole (Do.Emit e f p) fs k s n c l = record { sound = s; seated = l.0; light = l.1; noted = n; calm = c }
-Leads-whole (Do.Wait q f p) fs zero s n c l = tt
-Leads-whole (Do.Wait q f p) fs (suc k) s n c l = λ i g e. record { sound = s i g e; seated = (l i g e).0; light = (l i g e).1; noted = n i g e; calm = c i g e }
-Leads-whole (Do.Call g f p) fs k s n c l = record { sound = s; seated = l.0; light = l.1; noted = n; calm = c }
+    → Leads table (λ g gs q j. Sound g gs q) m fs k → NotedBy m fs k → QueuedBy m fs k → CalmBy m fs k → Placed m fs k → Leads table (λ g gs q j. IsConsistent (record { innermost = g; below = gs; pool = q })) m fs k
+Leads-whole (Do.Done a p) [] k s n u c l = tt
+Leads-whole (Do.Done a p) (g ∷ gs) k s n u c l = record { sound = s; seated = l.0; light = l.1; noted = n; queued = u; calm = c }
+Leads-whole (Do.Go f p) fs k s n u c l = record { sound = s; seated = l.0; light = l.1; noted = n; queued = u; calm = c }
+Leads-whole (Do.Emit e f p) fs k s n u c l = record { sound = s; seated = l.0; light = l.1; noted = n; queued = u; calm = c }
+Leads-whole (Do.Wait q f p) fs zero s n u c l = tt
+Leads-whole (Do.Wait q f p) fs (suc k) s n u c l = λ i g e. record { sound = s i g e; seated = (l i g e).0; light = (l i g e).1; noted = n i g e; queued = u i g e; calm = c i g e }
+Leads-whole (Do.Call g f p) fs k s n u c l = record { sound = s; seated = l.0; light = l.1; noted = n; queued = u; calm = c }
 
 pub whole-kept : (v : View) (k : ℕ) → IsConsistent v → Leads table (λ g gs q j. IsConsistent (record { innermost = g; below = gs; pool = q })) (step v.innermost v.pool) v.below k
 whole-kept v k h =
-    Leads-whole (step v.innermost v.pool) v.below k (sound-kept v.innermost v.below v.pool k h.sound) (noted-kept v.innermost v.below v.pool k h.sound h.noted) (calm-kept v.innermost v.below v.pool k h.sound h.noted h.calm) (placed-kept v.innermost v.below v.pool k h.sound h.seated h.light)
+    Leads-whole (step v.innermost v.pool) v.below k (sound-kept v.innermost v.below v.pool k h.sound h.queued.pool.waiting) (noted-kept v.innermost v.below v.pool k h.sound h.noted) (queued-kept v.innermost v.below v.pool k h.sound h.seated h.queued) (calm-kept v.innermost v.below v.pool k h.sound h.noted h.queued.pool.waiting h.calm) (placed-kept v.innermost v.below v.pool k h.sound h.seated h.light)
 
 stays : (v : View) (k : ℕ) → IsConsistent v
     → Leads table (λ g gs q j. Well (most v k) g gs q j × (cost (most v k) g gs q j < cost (most v k) v.innermost v.below v.pool k)) (step v.innermost v.pool) v.below k
@@ -257,13 +263,15 @@ turn-asks (Polling limit) p q i g e = (Wait limit, cc)
 turn-asks Taking p q i g e = absurd (passes (turn_step Taking p) (look-passes Taking p tt) e)
   where
     passes : (m : Step) → Passes p m → m ≡ Do.Wait i g q → ⊥
-    passes _ (Pass t r rows next notes times plain) e = cc
-    passes _ (Serve errand x r rows next notes times served noted) e = cc
+    passes _ (Pass t r rows next notes queues times plain) e = cc
+    passes _ (Trigger x r rows next notes queues times queue) e = cc
+    passes _ (Serve errand x r rows next notes queues times served noted) e = cc
 turn-asks (Timed again now) p q i g e = absurd (passes (turn_step (Timed again now) p) (look-passes (Timed again now) p tt) e)
   where
     passes : (m : Step) → Passes p m → m ≡ Do.Wait i g q → ⊥
-    passes _ (Pass t r rows next notes times plain) e = cc
-    passes _ (Serve errand x r rows next notes times served noted) e = cc
+    passes _ (Pass t r rows next notes queues times plain) e = cc
+    passes _ (Trigger x r rows next notes queues times queue) e = cc
+    passes _ (Serve errand x r rows next notes queues times served noted) e = cc
 turn-asks (Starting what x occasion) p q i g e = absurd (each (handler_for p what x) e)
   where
     each : (o : Option Handler) → starting_step what x occasion o p ≡ Do.Wait i g q → ⊥
@@ -320,6 +328,16 @@ work-asks (request.Notifying x errand) p q i g e = each (note_of p.requests x) e
     each (Some n) e = by_test n.deferred
         (λ t. let e' : over_step errand (schedule (renote p x not_deferring) x) ≡ Do.Wait i g q = rw t at e in cc)
         (λ t. let e' : callback_step x errand n.callback p ≡ Do.Wait i g q = rw t at e in back n.callback e')
+work-asks (request.Vacating x) p q i g e = each (head_of p.queues x) e
+  where
+    each : (o : Option Head) → vacating_step x o (run_queue p x false) ≡ Do.Wait i g q → ⊥
+    each None e = cc
+    each (Some h) e = cc
+work-asks (request.Triggering x) p q i g e = each (next_of p.queues x) e
+  where
+    each : (o : Option Head) → triggering_step o p ≡ Do.Wait i g q → ⊥
+    each None e = cc
+    each (Some h) e = cc
 work-asks _ p q i g e = cc
 
 -- callers, turns and questions to the outside ask

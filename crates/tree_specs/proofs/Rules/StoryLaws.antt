@@ -36,6 +36,7 @@ begin-whole first h = record {
   seated = tt;
   light = omega arith;
   noted = record { pool = record { notes = λ x. refl; timed = λ x t. cc; ready = λ x t. cc }; works = tt };
+  queued = record { pool = record { queues = λ x. refl; entries = λ x. refl; waiting = tt; idle = λ q t. cc }; works = tt; frees = (tt, tt) };
   calm = ((λ x. refl), tt);
 }
 
@@ -101,8 +102,9 @@ text-run : (first n : ℕ) (is : List Input) → 1 ≤ first → turns 0 (length
 text-run first n is h big =
     let v : View = begin first in
     let R : ℕ = 0 + 2 * length is + 2 in
-    let c = cost-turns v (length is) (begin-whole first h).light in
-    let e : run table n (frame.Call (Asking Quiet)) (empty first) is ≡ outcome_of v is = rest-enough R n v is (begin-whole first h) ((begin-whole first h).sound, (begin-whole first h).noted, omega arith) (omega (arith, c)) in
+    let start = begin-whole first h in
+    let c = cost-turns v (length is) start.light in
+    let e : run table n (frame.Call (Asking Quiet)) (empty first) is ≡ outcome_of v is = rest-enough R n v is start (record { sound = start.sound; noted = start.noted; queued = start.queued; seated = start.seated; light = start.light; room = omega arith }) (omega (arith, c)) in
     let noted = noted-run notes table n asking (empty first) is in
     let whole : NotShort (map_items item_of (run noted_table n asking (empty first) is)) =
     subst NotShort (sym (noted ∙ e)) (not-short v is (begin-whole first h)) in

@@ -28,15 +28,15 @@ use Rattle.tree_specs.specs.Rules.Items.Item.{Told}
 use Rattle.tree_specs.specs.Rules.Sequence.{Work, Scene, CallStart}
 use Rattle.tree_specs.specs.Calls.Plans.{Plan, planned, notice_of, changed_by}
 use Rattle.tree_specs.specs.Calls.Plans.Plan.{Does, Frees, Unlinks, Empties, Asks, Turns, Works}
-use Rattle.tree_specs.specs.Calls.Refusals.{is_request}
+use Rattle.tree_specs.specs.Calls.Refusals.{is_request, is_queue}
 use Rattle.tree_specs.specs.Rules.Answers.{hook_moment, later, heard, reached}
-use Rattle.tree_specs.specs.Rules.Story.{free, hooked, judged, dooming, leave, children, tried, asked, acting, telling, returning, items, announcing, unlink, release, given, taking, timed, reaching, opening, hearing, preparing, finishing, receiving, cancelling, notifying}
+use Rattle.tree_specs.specs.Rules.Story.{free, hooked, judged, dooming, leave, children, tried, asked, acting, telling, returning, items, announcing, unlink, release, given, taking, timed, reaching, opening, hearing, preparing, finishing, receiving, cancelling, notifying, draining, vacating}
 use Rattle.tree_specs.specs.Rules.Pieces.{effect, numbered, turned, lets_go, notice_event, work_by}
 use Rattle.tree_specs.specs.Promises.Acceptances.{returned_by, AcceptsAfterReturns}
 use Rattle.tree_specs.proofs.Tree.Numbered.{by_test}
 use Rattle.tree_specs.proofs.Calls.Checks.{heard-by, Reaches, IsOpened, IsTold, IsAnswered, reached-by}
 use Rattle.tree_specs.proofs.Rules.Lawful.{Last, last_after, After, Lawful, Any, Said, same-lawful, ended-lawful, short-lawful, told-lawful, followed-lawful, asks-lawful, Returned, returned-later, scene_of, AllLawful}
-use Rattle.tree_specs.proofs.Rules.RequestLaws.{finishing-lawful, receiving-lawful, cancelling-lawful, cleaning-lawful, cleaned-lawful, notifying-lawful, calling-lawful, called-lawful, work-lawful}
+use Rattle.tree_specs.proofs.Rules.RequestLaws.{finishing-lawful, receiving-lawful, cancelling-lawful, cleaning-lawful, cleaned-lawful, notifying-lawful, calling-lawful, called-lawful, work-lawful, vacating-lawful, triggering-lawful}
 use Rattle.tree_specs.proofs.Rules.TurnLaws.{clocked-lawful, taking-lawful, timed-lawful, polling-lawful, starting-lawful, firing-lawful, handling-lawful, handled-lawful}
 
 weaker : {A : Type 0} (last : Last) (P Q : A → Last → Type 0) (go : List Input → Outcome A Pool Input Scene) → ((v : A) (l : Last) → P v l → Q v l) → Lawful last P go → Lawful last Q go
@@ -92,9 +92,11 @@ free-lawful n ih x p last = newest (newest_ref p.rows x) refl
     marks : newest_ref p.rows x ≡ None → (r : Row) (m : Mark) → r.mark ≡ m → row_of p.rows x ≡ Some r → Lawful last Any (free (suc n) x p)
     marks k r mark.Quiet m e = by_test (is_request r.kind)
         (λ u. same-lawful last Any (free (suc n) x p) (preparing n x (set_mark p x mark.Asked)) (λ js. rw (k, e, m, u) refl) (ih.frees.preparing x (set_mark p x mark.Asked) last))
-        (λ u. by_test (nat_eq r.hook 0)
-        (λ t. same-lawful last Any (free (suc n) x p) (leave n x 0 p) (λ js. rw (k, e, m, u, t) refl) (ih.frees.leave x 0 p last))
-        (λ t. same-lawful last Any (free (suc n) x p) (hooked n x r.hook (set_mark p x mark.Asked)) (λ js. rw (k, e, m, u, t) refl) (ih.frees.hooked x r.hook (set_mark p x mark.Asked) last)))
+        (λ u. by_test (is_queue r.kind)
+        (λ v. same-lawful last Any (free (suc n) x p) (draining n x (set_mark p x mark.Asked)) (λ js. rw (k, e, m, u, v) refl) (ih.frees.draining x (set_mark p x mark.Asked) last))
+        (λ v. by_test (nat_eq r.hook 0)
+        (λ t. same-lawful last Any (free (suc n) x p) (leave n x 0 p) (λ js. rw (k, e, m, u, v, t) refl) (ih.frees.leave x 0 p last))
+        (λ t. same-lawful last Any (free (suc n) x p) (hooked n x r.hook (set_mark p x mark.Asked)) (λ js. rw (k, e, m, u, v, t) refl) (ih.frees.hooked x r.hook (set_mark p x mark.Asked) last))))
     marks k r mark.Asked m e = gives free_reply.Running p (λ js. rw (k, e, m) refl)
     marks k r mark.Busy m e = same-lawful last Any (free (suc n) x p) (λ js. followed (lets_go x (λ q. doom q x) p js) (λ a q left. dooming n x q left)) (λ js. rw (k, e, m) refl)
         (followed-lawful last Any Any (lets_go x (λ q. doom q x) p) (λ a q left. dooming n x q left) (lets_go-lawful x (λ q. doom q x) p last) (λ a q l w. ih.frees.dooming x q l))
@@ -239,6 +241,7 @@ all-lawful zero = record {
     hooked = λ x h p last. short-lawful last Any;
     judged = λ x h v p last e. short-lawful last Any;
     preparing = λ x p last. short-lawful last Any;
+    draining = λ x p last. short-lawful last Any;
     prepared = λ x p last. short-lawful last Any;
     dooming = λ x p last. short-lawful last Any;
     leave = λ x h p last. short-lawful last Any;
@@ -277,6 +280,8 @@ all-lawful zero = record {
     notifying = λ x errand p last. short-lawful last Said;
     calling = λ what x h errand p last. short-lawful last Said;
     called = λ what x h errand p last. short-lawful last Said;
+    vacating = λ q p last. short-lawful last Said;
+    triggering = λ q p last. short-lawful last Said;
     over = λ r p last s. short-lawful last Said;
   };
 }
@@ -291,6 +296,7 @@ all-lawful (suc n) =
         hooked = hooked-lawful n ih;
         judged = judged-lawful n ih;
         preparing = λ x p last. followed-lawful last Said Any (receiving n x p) _ (ih.requests.receiving x p last) (λ r q l s. ih.frees.prepared x q l);
+        draining = λ x p last. followed-lawful last Said Any (vacating n x p) _ (ih.requests.vacating x p last) (λ r q l s. ih.frees.prepared x q l);
         prepared = λ x p last. ih.frees.leave x 0 (set_mark p x mark.Quiet) last;
         dooming = λ x p last. ended-lawful last Any free_reply.Running p tt;
         leave = leave-lawful n ih;
@@ -328,6 +334,8 @@ all-lawful (suc n) =
         cleaned = cleaned-lawful n ih;
         notifying = notifying-lawful n ih;
         calling = calling-lawful n ih;
+        vacating = vacating-lawful n ih;
+        triggering = triggering-lawful n ih;
         called = called-lawful n ih;
         over = λ r p last s. ended-lawful last Said r p s;
       };

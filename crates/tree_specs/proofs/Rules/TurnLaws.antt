@@ -10,7 +10,7 @@ use Rattle.tree_specs.specs.Tree.Pool.{Pool, set_mark, unschedule, disarm}
 use Rattle.tree_specs.specs.Rules.Items.Item.{Told, Asked}
 use Rattle.tree_specs.specs.Rules.Sequence.{Work, asks}
 use Rattle.tree_specs.specs.Rules.Answers.{clocked, polled}
-use Rattle.tree_specs.specs.Rules.Story.{free, asked, taking, timing, timed, polling, starting, firing, handling, handled, closing, finishing, notifying}
+use Rattle.tree_specs.specs.Rules.Story.{free, asked, taking, timing, timed, polling, starting, firing, handling, handled, closing, finishing, notifying, triggering}
 use Rattle.tree_specs.specs.Rules.Pieces.{comes}
 use Rattle.tree_specs.specs.declared.reply.Reply.{Reply}
 use Rattle.tree_specs.specs.declared.request.State.TheVariants.{TimedOut}
@@ -30,6 +30,7 @@ use Rattle.tree_specs.specs.Events.Rotation.{Ready, first_ready}
 use Rattle.tree_specs.specs.Events.Coming.{wait_limit, handler_for, handler_moment, at_time, with_flags, plainly, begun, goes_after, looks_again}
 use Rattle.std.specs.Prelude.{Bool, nat_le, ◌-◌, if◌then◌else◌}
 use Rattle.tree_specs.proofs.Rules.Lawful.{Last, Lawful, Any, Said, same-lawful, told-lawful, followed-lawful, asks-lawful, Returned, scene_of, AllLawful}
+use Rattle.tree_specs.specs.Events.Queues.{has_queue}
 
 pub clocked-lawful : (timed : ℕ → Work ℕ) (p : Pool) (last : Last) → ((now : ℕ) (l : Last) → Lawful l Any (timed now p)) → Lawful last Any (asks (Asked ask.Clock) (clocked timed) p)
 clocked-lawful timed p last h = asks-lawful last Any ask.Clock (clocked timed) p
@@ -52,8 +53,11 @@ taking-lawful n ih p last = each (first p.soon) refl
 
     each : (o : Option Obj) → first p.soon ≡ o → Lawful last Any (taking (suc n) p)
     each None e = due e (first p.times) refl
-    each (Some x) e = same-lawful last Any (taking (suc n) p) (comes (is_noted p.requests x) (notifying n x Notify) (closing n 1) (starting n ForImmediate x plainly) (unschedule p x)) (λ js. rw e refl)
-        (comes-lawful n ih (is_noted p.requests x) (notifying n x Notify) ForImmediate x plainly (unschedule p x) last (ih.requests.notifying x Notify (unschedule p x) last))
+    each (Some x) e = by_test (is_noted p.requests x)
+        (λ t. same-lawful last Any (taking (suc n) p) (comes true (notifying n x Notify) (closing n 1) (starting n ForImmediate x plainly) (unschedule p x)) (λ js. rw (e, t) refl)
+        (comes-lawful n ih true (notifying n x Notify) ForImmediate x plainly (unschedule p x) last (ih.requests.notifying x Notify (unschedule p x) last)))
+        (λ t. same-lawful last Any (taking (suc n) p) (comes (has_queue p.queues x) (triggering n x) (closing n 1) (starting n ForImmediate x plainly) (unschedule p x)) (λ js. rw (e, t) refl)
+        (comes-lawful n ih (has_queue p.queues x) (triggering n x) ForImmediate x plainly (unschedule p x) last (ih.requests.triggering x (unschedule p x) last)))
 
 pub timed-lawful : (n : ℕ) → AllLawful n → (again : Bool) (now : ℕ) (p : Pool) (last : Last) → Lawful last Any (timed (suc n) again now p)
 timed-lawful n ih again now p last = each again (first p.times) refl

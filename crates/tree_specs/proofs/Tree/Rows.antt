@@ -1,5 +1,5 @@
 -- The rows as a finite map with an order: what each change leaves.
-use Rattle.std.proofs.Common.{◌≡◌, ◌≢◌, ℕ, ◌+◌, ◌≤◌, List, [], ◌∷◌, length, Some, None, true, false, refl, sym, ◌∙◌, ap, arith}
+use Rattle.std.proofs.Common.{◌≡◌, ◌≢◌, ℕ, ◌+◌, ◌≤◌, List, [], ◌∷◌, length, Some, None, true, false, refl, sym, ◌∙◌, ap, arith, subst}
 use Rattle.tree_specs.specs.declared.object.Obj.{Obj}
 use Rattle.tree_specs.specs.declared.object.Owner.{Owner}
 use Rattle.tree_specs.specs.declared.row.Row.{Row}
@@ -8,7 +8,7 @@ use Rattle.tree_specs.specs.Tree.Pool.{Pool, row_of, without, changed, owner_in,
 use Rattle.tree_specs.specs.Tree.Forest.{Distinct}
 use Rattle.tree_specs.specs.Tree.Inside.{total}
 use Rattle.tree_specs.specs.Invariants.Measure.{count}
-use Rattle.tree_specs.proofs.Tree.Numbered.{by_test, same-true, same-equal, same-false, is_below-some}
+use Rattle.tree_specs.proofs.Tree.Numbered.{by_test, same-true, same-equal, same-false, is_below-some, same_owner-equal}
 
 pub total-without : (g : Row → ℕ) (rs : List Row) (x : Obj) (r : Row) → row_of rs x ≡ Some r → total g rs ≡ g r + total g (without rs x)
 total-without g [] x r e = cc
@@ -130,3 +130,17 @@ count-length (s ∷ rs) p = let ih = count-length rs p in by_test (is_below s.ow
 pub total-length : (rs : List Row) → total (λ r. 1) rs ≡ length rs
 total-length [] = refl
 total-length (s ∷ rs) = let ih = total-length rs in omega (arith, ih)
+
+-- an owner that has no first child owns nothing
+pub childless : (rs : List Row) (p : Owner) (y : Obj) (r : Row) → first_kid rs p ≡ None → row_of rs y ≡ Some r → r.owner ≡ Some p → ⊥
+childless [] p y r none e owned = cc
+childless (s ∷ rs) p y r none e owned = by_test (is_below s.owner p)
+    (λ t. let bad : Some s.serial ≡ None = rw t at none in cc)
+    (λ t. by_test (same s.serial y)
+    (λ u.
+    let e' : Some s ≡ Some r = rw u at e in
+    let is : s ≡ r = cc in
+    let owned' : s.owner ≡ Some p = subst (λ (z : Row). z.owner ≡ Some p) (sym is) owned in
+    let below : is_below s.owner p ≡ true = rw owned' (same_owner-equal p p refl) in
+    let bad : true ≡ false = sym below ∙ t in cc)
+    (λ u. childless rs p y r (rw t at none) (rw u at e) owned))

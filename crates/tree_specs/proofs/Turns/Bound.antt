@@ -91,20 +91,20 @@ weight-most ns (r ∷ rs) = let ih = weight-most ns rs in omega (arith, ih, most
     most Quiet = omega arith
     most _ = omega arith
 
-look-most : (R : ℕ) (l : Looks) (fs : List Frame) (rows : List Row) → length rows ≤ R → look_cost l fs rows ≤ look_rounds l * R
+look-most : (R : ℕ) (l : Looks) (fs : List Frame) (rows : List Row) → length rows ≤ R → look_cost l fs rows ≤ look_rounds l * R + 4
 look-most R AtNone fs rows h = omega arith
 look-most R (AtKids x) fs rows h = let n = count-length rows (Of x) in omega arith
 look-most R AtBelow fs rows h = let m = kids-most R rows fs h in omega arith
 
-top-most : (R : ℕ) (f : Frame) (fs : List Frame) (rows : List Row) → length rows ≤ R → top_cost R f fs rows ≤ 24 * R + 147
+top-most : (R : ℕ) (f : Frame) (fs : List Frame) (rows : List Row) → length rows ≤ R → top_cost R f fs rows ≤ 24 * R + 151
 top-most R f fs rows h =
     let c : Cost = (profile f).cost in
-    let l : look_cost c.looks fs rows ≤ look_rounds c.looks * R = look-most R c.looks fs rows h in
+    let l : look_cost c.looks fs rows ≤ look_rounds c.looks * R + 4 = look-most R c.looks fs rows h in
     let m : R * (c.rounds + look_rounds c.looks) ≤ R * 24 = mul-le-mul_left R (fits f).rounds in
     let t : c.steps ≤ 147 = (fits f).steps in
     omega arith
 
-numbers : (r k w z d e : ℕ) → w ≤ 3 * r → z ≤ 3 * r + 2 → d ≤ 3 * z → e ≤ 24 * (r + 2 * k + 2) + 147
+numbers : (r k w z d e : ℕ) → w ≤ 3 * r → z ≤ 3 * r + 2 → d ≤ 3 * z → e ≤ 24 * (r + 2 * k + 2) + 151
     → (4 * (r + 2 * k + 2) + 24) * w + (24 * (r + 2 * k + 2) + 148) * k + d + e < 64 * (k + 1) * ((r + 2 * k + 2) * (r + 2 * k + 2))
 numbers r k w z d e hw hz hd he =
     let a : (4 * (r + 2 * k + 2) + 24) * w ≤ (4 * (r + 2 * k + 2) + 24) * (3 * r) = mul-le-mul_left (4 * (r + 2 * k + 2) + 24) hw in

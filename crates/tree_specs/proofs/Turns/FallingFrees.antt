@@ -17,31 +17,35 @@ use Rattle.tree_specs.specs.declared.frame.Frame.{Frame}
 use Rattle.tree_specs.specs.declared.frame.Frame.TheVariants as frame
 use Rattle.tree_specs.specs.declared.frame.CallFrame.TheVariants.{Awaiting}
 use Rattle.tree_specs.specs.declared.frame.TurnFrame.TheVariants.{Clearing}
-use Rattle.tree_specs.specs.declared.frame.FreeFrame.TheVariants.{Unlinking, Releasing, Giving, Beginning, Hooked, Judged, Preparing, Prepared, Dooming, Leaving, Looping, FreeingChild, AfterChild, Ending}
+use Rattle.tree_specs.specs.declared.frame.FreeFrame.TheVariants.{Unlinking, Releasing, Giving, Beginning, Hooked, Judged, Preparing, Prepared, Dooming, Leaving, Looping, FreeingChild, AfterChild, Ending, Draining}
 use Rattle.tree_specs.specs.declared.frame.Purpose.{Purpose}
 use Rattle.tree_specs.specs.declared.frame.Purpose.TheVariants.{Removal, Emptying}
 use Rattle.tree_specs.specs.declared.frame.Answer.TheVariants.{Freed}
+use Rattle.tree_specs.specs.declared.frame.RequestFrame.TheVariants as request
+use Rattle.tree_specs.specs.declared.kind.Kind.{Kind}
+use Rattle.tree_specs.specs.declared.kind.Kind.TheVariants as kind
 use Rattle.tree_specs.specs.declared.free_step.FreeReply.{FreeReply}
 use Rattle.tree_specs.specs.declared.free_step.FreeReply.TheVariants.{Ok, Running, Refused, Held}
 use Rattle.std.proofs.Math.Nat.{mul-le-mul_left}
 use Rattle.tree_specs.specs.declared.frame.RequestFrame.TheVariants as request
 use Rattle.tree_specs.specs.Events.Requests.{without_note}
-use Rattle.tree_specs.specs.Calls.Refusals.{is_request}
+use Rattle.tree_specs.specs.Calls.Refusals.{is_request, is_queue, is_entry}
 use Rattle.tree_specs.specs.Words.Objects.{same_owner}
-use Rattle.tree_specs.specs.Tree.Pool.{Pool, row_of, is_below, owner_of, first_kid, without, changed, remove, left_row, place, detach, doom, marked_row, hooked_row, target_at, newest_ref_of, is_inside}
+use Rattle.tree_specs.specs.Tree.Pool.{Pool, row_of, is_below, owner_of, first_kid, without, changed, remove, left_row, place, detach, doom, marked_row, hooked_row, target_at, newest_ref_of, is_inside, set_mark}
 use Rattle.tree_specs.specs.Events.Rotation.{closes_with}
 use Rattle.tree_specs.specs.Tree.Heirs.{heir}
 use Rattle.tree_specs.specs.Machine.FreeTable.{begin_plain, begin_quiet, begin_step, judge_step, last_step, loop_step, child_step, refs_step, unlink_step, release_step, hand_on_step}
 use Rattle.tree_specs.specs.Machine.Table.{step, resume, lifted, announced, closed_event}
-use Rattle.tree_specs.specs.Invariants.Sound.{claims, AllWait, IsLive, Stands, Tries, Sound, IsQuietRow, footing}
+use Rattle.tree_specs.specs.Invariants.Sound.{claims, AllWait, IsLive, Stands, Tries, Sound, IsQuietRow, footing, IsElsewhere, IsIdleEntry}
 use Rattle.tree_specs.proofs.Tree.Numbered.{by_test, same-equal, same_owner-false}
 use Rattle.tree_specs.proofs.Tree.Heirs.{heir-other}
 use Rattle.tree_specs.specs.Tree.Inside.{total}
-use Rattle.tree_specs.specs.Invariants.Measure.{count, mark_weight, weight, row_worth, waiting_cost, top_cost, cost, loop_kids}
+use Rattle.tree_specs.specs.Invariants.Measure.{count, mark_weight, weight, row_worth, waiting_cost, top_cost, cost, below_wants, pending}
 use Rattle.tree_specs.proofs.Tree.Rows.{total-without, total-placed, total-changed, total-length, count-length}
-use Rattle.tree_specs.proofs.Invariants.Waiters.{Waiter, ForFree, ForChild, ForClear, ForRelease, waiter}
+use Rattle.tree_specs.proofs.Invariants.Waiters.{Waiter, ForFree, ForChild, ForClear, ForRelease, waiter, ForEntry}
 use Rattle.tree_specs.proofs.Invariants.Changes.{dying-row, running-row, claim-here, owned-row, heir-placed}
 use Rattle.tree_specs.proofs.Turns.Lowering.{Room, Lowers, done-lower, ending-lower, length-changed, length-without, total-kept, marked-weight, removed-weight, live-weight}
+use Rattle.tree_specs.proofs.Invariants.KeptFrees.{elsewhere}
 
 -- what is told of it makes no difference
 pub announced-lower : (R b : ℕ) (o : Option Event) (g : FreeFrame) (q : Pool) (fs : List Frame) (k : ℕ) → Room R (frame.Free g) q k × (cost R (frame.Free g) fs q k < b) → Lowers R b (announced o g q) fs k
@@ -62,10 +66,11 @@ leaving-lower R x h fs p k s room = by-row s.rests.0 s.rests.1 s.rests.2
         announced-lower R _ _ (Looping x (Removal h)) (detach p x) fs k (omega (arith, n), omega (arith, u, n, c))
 
 -- the children of the loop below are no more than there can be rows
-pub kids-most : (R : ℕ) (rows : List Row) (fs : List Frame) → length rows ≤ R → loop_kids rows fs ≤ 4 * R
+pub kids-most : (R : ℕ) (rows : List Row) (fs : List Frame) → length rows ≤ R → below_wants rows fs ≤ 4 * R + 4
 kids-most R rows [] h = omega arith
 kids-most R rows (frame.Free (FreeingChild y c noted purpose) ∷ fs) h = let n = count-length rows (Of y) in omega arith
-kids-most R rows (g ∷ fs) h = omega arith
+kids-most R rows (frame.Request (request.Dropping q e) ∷ fs) h = omega arith
+kids-most R rows (_ ∷ fs) h = omega arith
 
 -- a reference that is gone pays for what comes next
 dropped-lower : (R : ℕ) (f g : FreeFrame) (fs : List Frame) (p : Pool) (k : ℕ) (r t : Obj) → Sound (frame.Free f) fs p → target_at p.rows r ≡ Some t → Room R (frame.Free f) p k
@@ -169,32 +174,44 @@ tried-lower R x c noted purpose a fs p k s room = each a s
 
 -- a freeing that ends at once is no loop's child, or is said to run
 at_once-lower : (R : ℕ) (a : FreeReply) (x : Obj) (f : FreeFrame) (fs : List Frame) (p : Pool) (k : ℕ) → (a ≡ Running) ⊎ ((o : Owner) → owner_of p.rows x ≢ Some o) → Tries x (footing fs) p
-    → AllWait fs
-    → loop_kids p.rows fs + 5 ≤ top_cost R (frame.Free f) fs p.rows → Room R (frame.Free f) p k → Lowers R (cost R (frame.Free f) fs p k) (Do.Done (Freed a) p) fs k
-at_once-lower R a x f [] p k h t w most room = tt
-at_once-lower R a x f (g ∷ gs) p k h t w most room = below g (waiter g gs w.0) t most
+    → AllWait fs → IsElsewhere (footing fs)
+    → below_wants p.rows fs + 1 ≤ top_cost R (frame.Free f) fs p.rows → Room R (frame.Free f) p k → Lowers R (cost R (frame.Free f) fs p k) (Do.Done (Freed a) p) fs k
+at_once-lower R a x f [] p k h t w other most room = tt
+at_once-lower R a x f (g ∷ gs) p k h t w other most room = below g (waiter g gs w.0) t other most
   where
     runs : (y c : Obj) (noted : Option Owner) (purpose : Purpose) (a : FreeReply) → a ≡ Running
-        → 4 * count p.rows (Of y) + 5 ≤ top_cost R (frame.Free f) (frame.Free (FreeingChild y c noted purpose) ∷ gs) p.rows
+        → 4 + 4 * count p.rows (Of y) + 1 ≤ top_cost R (frame.Free f) (frame.Free (FreeingChild y c noted purpose) ∷ gs) p.rows
         → Room R (frame.Free (AfterChild y c noted purpose a)) p k × (cost R (frame.Free (AfterChild y c noted purpose a)) gs p k < cost R (frame.Free f) (frame.Free (FreeingChild y c noted purpose) ∷ gs) p k)
     runs y c noted purpose Running is most = (omega arith, omega (arith, most))
     runs y c noted purpose _ is most = cc
 
-    below : (g : Frame) → Waiter g → Tries x (footing (g ∷ gs)) p → loop_kids p.rows (g ∷ gs) + 5 ≤ top_cost R (frame.Free f) (g ∷ gs) p.rows
+    below : (g : Frame) → Waiter g → Tries x (footing (g ∷ gs)) p → IsElsewhere (footing (g ∷ gs)) → below_wants p.rows (g ∷ gs) + 1 ≤ top_cost R (frame.Free f) (g ∷ gs) p.rows
         → Lowers R (cost R (frame.Free f) (g ∷ gs) p k) (Do.Done (Freed a) p) (g ∷ gs) k
-    below _ (ForFree q y) t most = (omega arith, omega (arith, most))
-    below _ (ForClear y) t most = (omega arith, omega (arith, most))
-    below _ (ForRelease y) t most = (omega arith, omega (arith, most))
-    below _ (ForChild y c noted purpose) t most = elim h [
+    below _ (ForFree q y) t other most = (omega arith, omega (arith, most))
+    below _ (ForClear y) t other most = (omega arith, omega (arith, most))
+    below _ (ForRelease y) t other most = (omega arith, omega (arith, most))
+    below _ (ForEntry q y) t other most = absurd other
+    below _ (ForChild y c noted purpose) t other most = elim h [
       | inl is ↦ runs y c noted purpose a is most
       | inr none ↦ absurd (none (Of y) t.1)
     ]
-    below _ _ t most = absurd t
+    below _ _ t other most = absurd t
+
+-- the work below pays for what begins, but where an entry is freed
+wants-most : (p : Pool) (x : Obj) (fs : List Frame) → Tries x (footing fs) p → (4 ≤ below_wants p.rows fs) ⊎ IsIdleEntry (row_of p.rows x)
+wants-most p x [] t = inl (omega arith)
+wants-most p x (frame.Free (FreeingChild y c noted purpose) ∷ gs) t = inl (omega arith)
+wants-most p x (frame.Request (request.Dropping q e) ∷ gs) t = inr t.1
+wants-most p x (_ ∷ gs) t = inl (omega arith)
+
+entry-else : (k : Kind) → is_entry k ≡ true → (is_request k ≡ false) × (is_queue k ≡ false)
+entry-else kind.Entry e = (refl, refl)
+entry-else _ e = cc
 
 -- an event that is to be freed after its handler is said to run
 dooming-lower : (R : ℕ) (x : Obj) (fs : List Frame) (p : Pool) (k : ℕ) → Sound (frame.Free (Dooming x)) fs p → Room R (frame.Free (Dooming x)) p k
     → Lowers R (cost R (frame.Free (Dooming x)) fs p k) (step (frame.Free (Dooming x)) p) fs k
-dooming-lower R x fs p k s room = at_once-lower R Running x (Dooming x) fs p k (inl refl) s.rests.0 s.waiting (omega arith) room
+dooming-lower R x fs p k s room = at_once-lower R Running x (Dooming x) fs p k (inl refl) s.rests.0 s.waiting s.rests.2 (omega arith) room
 
 beginning-lower : (R : ℕ) (x : Obj) (fs : List Frame) (p : Pool) (k : ℕ) → Sound (frame.Free (Beginning x)) fs p → Room R (frame.Free (Beginning x)) p k
     → Lowers R (cost R (frame.Free (Beginning x)) fs p k) (step (frame.Free (Beginning x)) p) fs k
@@ -208,45 +225,58 @@ beginning-lower R x fs p k s room = newest (newest_ref p.rows x) refl
         let l : IsLive r.mark = subst (λ (z : Row). IsLive z.mark) d' w.2 in
         let bad : IsLive (Dying former) = rw m at l in bad
 
-    over : ((o : Owner) → owner_of p.rows x ≢ Some o) → Lowers R (cost R (frame.Free (Beginning x)) fs p k) (Do.Done (Freed Ok) p) fs k
-    over none = at_once-lower R Ok x (Beginning x) fs p k (inr none) s.rests.0 s.waiting (omega arith) room
+    over : (IsIdleEntry (row_of p.rows x) → ⊥) → ((o : Owner) → owner_of p.rows x ≢ Some o) → Lowers R (cost R (frame.Free (Beginning x)) fs p k) (Do.Done (Freed Ok) p) fs k
+    over goes none = at_once-lower R Ok x (Beginning x) fs p k (inr none) s.rests.0 s.waiting (elsewhere x (footing fs) p s.rests.0 goes) (omega arith) room
 
-    runs : Lowers R (cost R (frame.Free (Beginning x)) fs p k) (Do.Done (Freed Running) p) fs k
-    runs = at_once-lower R Running x (Beginning x) fs p k (inl refl) s.rests.0 s.waiting (omega arith) room
+    runs : (IsIdleEntry (row_of p.rows x) → ⊥) → Lowers R (cost R (frame.Free (Beginning x)) fs p k) (Do.Done (Freed Running) p) fs k
+    runs goes = at_once-lower R Running x (Beginning x) fs p k (inl refl) s.rests.0 s.waiting (elsewhere x (footing fs) p s.rests.0 goes) (omega arith) room
+
+    -- something goes on with it
+    not-idle : (r : Row) → row_of p.rows x ≡ Some r → r.mark ≢ Quiet → IsIdleEntry (row_of p.rows x) → ⊥
+    not-idle r e ne h = let h' : IsIdleEntry (Some r) = rw e at h in ne h'.1
+
+    -- where an object is asked, or prepared, the work below pays for it
+    begins : (g : FreeFrame) (r : Row) → row_of p.rows x ≡ Some r → r.mark ≡ Quiet → (IsIdleEntry (Some r) → ⊥) → pending (frame.Free g) ≡ 0 → top_cost R (frame.Free g) fs (set_mark p x Asked).rows ≤ 5
+        → Room R (frame.Free g) (set_mark p x Asked) k × (cost R (frame.Free g) fs (set_mark p x Asked) k < cost R (frame.Free (Beginning x)) fs p k)
+    begins g r e m goes none cheap =
+        let u = ap (λ (z : ℕ). row_worth R * z) (total-kept (weight p.requests) (marked_row Asked) p.rows x r e (marked-weight p.requests Asked r (sym (ap mark_weight m)))) in
+        let n = length-changed (marked_row Asked) p.rows x in
+        elim (wants-most p x fs s.rests.0) [
+          | inl l ↦ (omega (arith, n, none), omega (arith, u, l, cheap))
+          | inr idle ↦ absurd (goes (rw e at idle))
+        ]
 
     dooms : (r : Row) → row_of p.rows x ≡ Some r → r.mark ≡ Busy → Lowers R (cost R (frame.Free (Beginning x)) fs p k) (announced (closed_event (closes_with p.ring x)) (Dooming x) (doom p x)) fs k
     dooms r e m =
         let u = ap (λ (z : ℕ). row_worth R * z) (total-kept (weight p.requests) (marked_row Doomed) p.rows x r e (marked-weight p.requests Doomed r (sym (ap mark_weight m)))) in
         announced-lower R _ _ (Dooming x) (doom p x) fs k (omega (arith, length-changed (marked_row Doomed) p.rows x), omega (arith, u, kids fs))
       where
-        kids : (fs : List Frame) → loop_kids (doom p x).rows fs ≡ loop_kids p.rows fs
+        kids : (fs : List Frame) → below_wants (doom p x).rows fs ≡ below_wants p.rows fs
         kids [] = refl
-        kids (frame.Free (FreeingChild y c noted purpose) ∷ fs) = ap (λ (z : ℕ). 4 * z) (total-kept (λ q. if is_below q.owner (Of y) then 1 else 0) (marked_row Doomed) p.rows x r e refl)
+        kids (frame.Free (FreeingChild y c noted purpose) ∷ fs) = ap (λ (z : ℕ). 4 + 4 * z) (total-kept (λ q. if is_below q.owner (Of y) then 1 else 0) (marked_row Doomed) p.rows x r e refl)
         kids (_ ∷ fs) = refl
 
     plain : (r : Row) → row_of p.rows x ≡ Some r → r.mark ≡ Quiet → Lowers R (cost R (frame.Free (Beginning x)) fs p k) (lifted p.ring (begin_plain x r.hook p)) fs k
     plain r e m = by_test (nat_eq r.hook 0)
         (λ t. rw t (omega arith, omega arith))
-        (λ t. let u = ap (λ (z : ℕ). row_worth R * z) (total-kept (weight p.requests) (marked_row Asked) p.rows x r e (marked-weight p.requests Asked r (sym (ap mark_weight m)))) in
-        let n = length-changed (marked_row Asked) p.rows x in
-        rw t (omega (arith, n), omega (arith, u)))
+        (λ t. rw t (begins (Hooked x r.hook) r e m (λ h. let t' : nat_eq 0 0 ≡ false = subst (λ (z : ℕ). nat_eq z 0 ≡ false) h.2 t in cc) refl (omega arith)))
 
     quiet : (r : Row) → row_of p.rows x ≡ Some r → r.mark ≡ Quiet → Lowers R (cost R (frame.Free (Beginning x)) fs p k) (lifted p.ring (begin_quiet x r.kind r.hook p)) fs k
     quiet r e m = by_test (is_request r.kind)
-        (λ t. let u = ap (λ (z : ℕ). row_worth R * z) (total-kept (weight p.requests) (marked_row Asked) p.rows x r e (marked-weight p.requests Asked r (sym (ap mark_weight m)))) in
-        let n = length-changed (marked_row Asked) p.rows x in
-        rw t (omega (arith, n), omega (arith, u)))
-        (λ t. rw t (plain r e m))
+        (λ t. rw t (begins (Preparing x) r e m (λ h. let bad : false ≡ true = sym (entry-else r.kind h.0).0 ∙ t in cc) refl (omega arith)))
+        (λ t. by_test (is_queue r.kind)
+        (λ v. rw (t, v) (begins (Draining x) r e m (λ h. let bad : false ≡ true = sym (entry-else r.kind h.0).1 ∙ v in cc) refl (omega arith)))
+        (λ v. rw (t, v) (plain r e m)))
 
     marks : (r : Row) (m : Mark) → r.mark ≡ m → row_of p.rows x ≡ Some r → Lowers R (cost R (frame.Free (Beginning x)) fs p k) (lifted p.ring (begin_step x (row_of p.rows x) p)) fs k
     marks r Quiet m e = rw (e, m) (quiet r e m)
-    marks r Asked m e = rw (e, m) runs
+    marks r Asked m e = rw (e, m) (runs (not-idle r e (λ q. let bad : Asked ≡ Quiet = sym m ∙ q in cc)))
     marks r Busy m e = rw (e, m) (dooms r e m)
-    marks r Doomed m e = rw (e, m) runs
-    marks r (Dying former) m e = rw (e, m) (over (dead r former m e))
+    marks r Doomed m e = rw (e, m) (runs (not-idle r e (λ q. let bad : Doomed ≡ Quiet = sym m ∙ q in cc)))
+    marks r (Dying former) m e = rw (e, m) (over (not-idle r e (λ q. let bad : Dying former ≡ Quiet = sym m ∙ q in cc)) (dead r former m e))
 
     each : (o : Option Row) → row_of p.rows x ≡ o → Lowers R (cost R (frame.Free (Beginning x)) fs p k) (lifted p.ring (begin_step x (row_of p.rows x) p)) fs k
-    each None e = rw e (over (λ o q. let bad : None ≡ Some o = rw e at q in cc))
+    each None e = rw e (over (λ h. let h' : IsIdleEntry None = rw e at h in h') (λ o q. let bad : None ≡ Some o = rw e at q in cc))
     each (Some r) e = marks r r.mark refl e
 
     newest : (o : Option Obj) → newest_ref p.rows x ≡ o → Lowers R (cost R (frame.Free (Beginning x)) fs p k) (lifted p.ring (refs_step x (newest_ref p.rows x) p)) fs k
@@ -323,5 +353,6 @@ free-lower R (AfterChild x c noted purpose a) fs p k s room = tried-lower R x c 
 free-lower R (Ending answer) fs p k s room = ending-lower R answer fs p k s room
 free-lower R (Hooked x h) fs p k s room = (omega arith, omega arith)
 free-lower R (Preparing x) fs p k s room = (omega arith, omega arith)
+free-lower R (Draining x) fs p k s room = (omega arith, omega arith)
 free-lower R (Prepared x) fs p k s room = prepared-lower R x fs p k s room
 free-lower R _ fs p k s room = absurd s.rests

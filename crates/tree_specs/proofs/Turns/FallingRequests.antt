@@ -1,5 +1,5 @@
 -- Each step of a request's work lowers the measure.
-use Rattle.std.proofs.Common.{◌≡◌, ℕ, ◌+◌, ◌*◌, ◌≤◌, ◌<◌, true, List, ◌∷◌, Option, Some, None, subst, arith}
+use Rattle.std.proofs.Common.{◌≡◌, ℕ, ◌+◌, ◌*◌, ◌≤◌, ◌<◌, true, List, ◌∷◌, Option, Some, None, subst, arith, false}
 use Rattle.std.proofs.Math.Nat.{mul-le-mul_left}
 use Rattle.tree_specs.specs.declared.object.Obj.{Obj}
 use Rattle.tree_specs.specs.declared.call.Call.TheVariants as call
@@ -11,23 +11,24 @@ use Rattle.tree_specs.specs.declared.frame.Frame.{Frame}
 use Rattle.tree_specs.specs.declared.frame.Frame.TheVariants as frame
 use Rattle.tree_specs.specs.declared.frame.CallFrame.TheVariants.{Requesting}
 use Rattle.tree_specs.specs.declared.frame.TurnFrame.TheVariants.{Serving}
-use Rattle.tree_specs.specs.declared.frame.FreeFrame.TheVariants.{Preparing}
+use Rattle.tree_specs.specs.declared.frame.FreeFrame.TheVariants.{Preparing, Draining}
 use Rattle.tree_specs.specs.declared.frame.RequestFrame.{RequestFrame}
 use Rattle.tree_specs.specs.declared.frame.RequestFrame.TheVariants as request
 use Rattle.tree_specs.specs.declared.frame.Answer.TheVariants.{Heard}
-use Rattle.tree_specs.specs.Tree.Pool.{Pool}
+use Rattle.tree_specs.specs.Tree.Pool.{Pool, run_queue}
 use Rattle.tree_specs.specs.Tree.Inside.{total}
 use Rattle.tree_specs.specs.Events.Requests.{note_of, cleanup_in, cancel_in, renoted, cleaned, not_deferring, in_state, is_unreceived}
 use Rattle.tree_specs.specs.Calls.Plans.{Plan, planned}
 use Rattle.tree_specs.specs.Calls.Plans.Plan.{Frees, Unlinks}
-use Rattle.tree_specs.specs.Machine.Table.{resume, cancelling_step, cleaning_step, release_object, cleaned_step, callback_step, notifying_step, request_step}
-use Rattle.tree_specs.specs.Invariants.Sound.{footing, IsRequested, Sound}
+use Rattle.tree_specs.specs.Machine.Table.{resume, cancelling_step, cleaning_step, release_object, cleaned_step, callback_step, notifying_step, request_step, vacating_step, triggering_step}
+use Rattle.tree_specs.specs.Invariants.Sound.{footing, IsRequested, Sound, IsPrepared}
 use Rattle.tree_specs.specs.Invariants.Noted.{Noted}
 use Rattle.tree_specs.specs.Invariants.Measure.{weight, row_worth, waiting_cost, top_cost, cost}
 use Rattle.tree_specs.proofs.Tree.Numbered.{by_test}
 use Rattle.tree_specs.proofs.Events.NoteLaws.{total-lighter, total-receive, renoted-lighter}
 use Rattle.tree_specs.proofs.Invariants.KeptNotes.{going-unreceived}
 use Rattle.tree_specs.proofs.Turns.Lowering.{Lowers, Room, done-lower}
+use Rattle.tree_specs.specs.Events.Queues.{Head, head_of, next_of}
 
 -- a note that is changed, where a request that wasn't received stays so, weighs no more
 renoted-cost : (R : ℕ) (g : Note → Note) (p : Pool) (x : Obj) → ((n : Note) → note_of p.requests x ≡ Some n → is_unreceived (Some (g n)) ≡ true → is_unreceived (Some n) ≡ true)
@@ -80,13 +81,26 @@ request-lower R (request.Notifying x errand) fs p k s noted room = notifying-low
 request-lower R (request.Calling what x handler errand) fs p k s noted room = (omega arith, omega arith)
 request-lower R (request.Called what x handler errand) fs p k s noted room = (omega arith, omega arith)
 request-lower R (request.Releasing c) fs p k s noted room = absurd s.rests
+request-lower R (request.Vacating q) fs p k s noted room = each (head_of p.queues q)
+  where
+    each : (o : Option Head) → Lowers R (cost R (frame.Request (request.Vacating q)) fs p k) (vacating_step q o (run_queue p q false)) fs k
+    each None = (omega arith, omega arith)
+    each (Some h) = (omega arith, omega arith)
+request-lower R (request.Dropping q e) fs p k s noted room = absurd s.rests
+request-lower R (request.Triggering q) fs p k s noted room = each (next_of p.queues q)
+  where
+    each : (o : Option Head) → Lowers R (cost R (frame.Request (request.Triggering q)) fs p k) (triggering_step o p) fs k
+    each None = (omega arith, omega arith)
+    each (Some h) = (omega arith, omega arith)
 request-lower R (request.Over r) fs p k s noted room =
-    done-lower R (Heard r) (frame.Request (request.Over r)) fs p k s.waiting (omega arith) (λ g gs e w. let l = pays g gs (subst (λ (l : List Frame). IsRequested (footing l)) e s.rests) in omega (arith, l))
+    done-lower R (Heard r) (frame.Request (request.Over r)) fs p k s.waiting (omega arith) (λ g gs e w. let l = pays g gs (subst (λ (l : List Frame). IsPrepared (footing l)) e s.rests) in omega (arith, l))
   where
     -- what waits for it
-    pays : (g : Frame) (gs : List Frame) → IsRequested (footing (g ∷ gs)) → top_cost R (resume g (Heard r)) gs p.rows < waiting_cost g + 3
+    pays : (g : Frame) (gs : List Frame) → IsPrepared (footing (g ∷ gs)) → top_cost R (resume g (Heard r)) gs p.rows < waiting_cost g + 3
     pays (frame.Call (Requesting q)) gs t = omega arith
     pays (frame.Turn (Serving x)) gs t = omega arith
     pays (frame.Free (Preparing x)) gs t = omega arith
+    pays (frame.Free (Draining x)) gs t = omega arith
     pays (frame.Request (request.Releasing c)) gs t = absurd t
+    pays (frame.Request (request.Dropping q e)) gs t = absurd t
     pays _ gs t = absurd t

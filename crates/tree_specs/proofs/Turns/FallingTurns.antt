@@ -28,17 +28,18 @@ use Rattle.tree_specs.specs.Invariants.Measure.{mark_weight, weight, row_worth, 
 use Rattle.tree_specs.proofs.Tree.Numbered.{by_test}
 use Rattle.tree_specs.proofs.Calls.Checks.{Reached, ReachedOpening, ReachedHearing, reached-leads}
 use Rattle.tree_specs.proofs.Invariants.Changes.{handling-row, claim-here}
-use Rattle.tree_specs.proofs.Invariants.Turning.{handler-ready, rotated-rows, IsPlain, Passes, Pass, Serve, look-passes, taken-plain}
+use Rattle.tree_specs.proofs.Invariants.Turning.{handler-ready, rotated-rows, IsPlain, Passes, Pass, Serve, look-passes, taken-plain, Trigger}
 use Rattle.tree_specs.proofs.Turns.Lowering.{Lowers, Room, done-lower, total-kept, length-changed, marked-weight, live-weight}
 
 passes-lower : (R : ℕ) (f : TurnFrame) (fs : List Frame) (p : Pool) (k : ℕ) (m : Step) → (turn_profile f).steps ≡ 13 → Passes p m → Room R (frame.Turn f) p k
     → Lowers R (cost R (frame.Turn f) fs p k) m fs k
-passes-lower R f fs p k _ most (Pass g q rows next notes times plain) room =
+passes-lower R f fs p k _ most (Pass g q rows next notes queues times plain) room =
     let cheap = plain.cheap in
     rw (rows, notes) (omega arith, omega (arith, cheap, most))
-passes-lower R f fs p k _ most (Serve Notify x q rows next notes times served noted) room = rw (rows, notes) (omega arith, omega (arith, most))
-passes-lower R f fs p k _ most (Serve (Finish TimedOut) x q rows next notes times served noted) room = rw (rows, notes) (omega arith, omega (arith, most))
-passes-lower R f fs p k _ most (Serve _ x q rows next notes times served noted) room = absurd served
+passes-lower R f fs p k _ most (Trigger x q rows next notes queues times queue) room = rw (rows, notes) (omega arith, omega (arith, most))
+passes-lower R f fs p k _ most (Serve Notify x q rows next notes queues times served noted) room = rw (rows, notes) (omega arith, omega (arith, most))
+passes-lower R f fs p k _ most (Serve (Finish TimedOut) x q rows next notes queues times served noted) room = rw (rows, notes) (omega arith, omega (arith, most))
+passes-lower R f fs p k _ most (Serve _ x q rows next notes queues times served noted) room = absurd served
 
 -- what an answer leads to costs less than the answer pays
 asked-lower : (R : ℕ) (f : TurnFrame) (fs : List Frame) (p : Pool) (k : ℕ) (g : Frame) (t : TurnFrame) → g ≡ frame.Turn t → IsPlain t 13 → Room R (frame.Turn f) p (suc k)

@@ -33,6 +33,12 @@ use Rattle.tree_specs.proofs.Turns.FallingFrees.{free-lower}
 use Rattle.tree_specs.proofs.Turns.Lowering.{Lowers, Room, asking-lower, returning-lower}
 use Rattle.tree_specs.proofs.Turns.FallingTurns.{turn-lower, outside-lower}
 use Rattle.tree_specs.proofs.Turns.FallingRequests.{request-lower}
+use Rattle.tree_specs.specs.Invariants.Queued.{Queued}
+use Rattle.tree_specs.specs.Invariants.Consistent.{IsStacked, IsPaidFor}
+use Rattle.tree_specs.proofs.Invariants.FreeQueues.{QueuedBy}
+use Rattle.tree_specs.proofs.Invariants.KeptQueues.{queued-kept}
+use Rattle.tree_specs.proofs.Turns.Seats.{Placed}
+use Rattle.tree_specs.proofs.Turns.Load.{placed-kept}
 
 turning-lower : (R : ℕ) (q : Ask) (c : Call) (fs : List Frame) (p : Pool) (k : ℕ) → Room R (frame.Call (Doing q c)) p k → Lowers R (cost R (frame.Call (Doing q c)) fs p k) (turning_step q p) fs k
 turning-lower R Quiet c fs p k room = (omega arith, omega arith)
@@ -83,18 +89,26 @@ lower R (frame.Request f) fs p k s noted room = request-lower R f fs p k s noted
 lower R _ fs p k s noted room = absurd s.rests
 
 -- what the measure speaks of
-abbrev pub Well : ℕ → Frame → List Frame → Pool → ℕ → Type 0
-Well R f fs p k = Sound f fs p × Noted f p × Room R f p k
+pub record Well (R : ℕ) (f : Frame) (fs : List Frame) (p : Pool) (k : ℕ) : Type 0 where
+  pub sound : Sound f fs p
+  pub noted : Noted f p
+  pub queued : Queued f fs p
+  pub seated : IsStacked f fs
+  pub light : IsPaidFor f fs p
+  pub room : Room R f p k
 
 Leads-both : (b R : ℕ) (m : Move Frame Answer Pool Item) (fs : List Frame) (k : ℕ)
-    → Leads table (λ g gs q j. Sound g gs q) m fs k → Leads table (λ g gs q j. Noted g q) m fs k → Lowers R b m fs k → Leads table (λ g gs q j. Well R g gs q j × (cost R g gs q j < b)) m fs k
-Leads-both b R (Do.Done a p) [] k s n l = tt
-Leads-both b R (Do.Done a p) (g ∷ gs) k s n l = ((s, n, l.0), l.1)
-Leads-both b R (Do.Go f p) fs k s n l = ((s, n, l.0), l.1)
-Leads-both b R (Do.Emit e f p) fs k s n l = ((s, n, l.0), l.1)
-Leads-both b R (Do.Wait q f p) fs zero s n l = tt
-Leads-both b R (Do.Wait q f p) fs (suc k) s n l = λ i g e. ((s i g e, n i g e, (l i g e).0), (l i g e).1)
-Leads-both b R (Do.Call g f p) fs k s n l = ((s, n, l.0), l.1)
+    → Leads table (λ g gs q j. Sound g gs q) m fs k → Leads table (λ g gs q j. Noted g q) m fs k → QueuedBy m fs k → Placed m fs k → Lowers R b m fs k → Leads table (λ g gs q j. Well R g gs q j × (cost R g gs q j < b)) m fs k
+Leads-both b R (Do.Done a p) [] k s n u t l = tt
+Leads-both b R (Do.Done a p) (g ∷ gs) k s n u t l = (record { sound = s; noted = n; queued = u; seated = t.0; light = t.1; room = l.0 }, l.1)
+Leads-both b R (Do.Go f p) fs k s n u t l = (record { sound = s; noted = n; queued = u; seated = t.0; light = t.1; room = l.0 }, l.1)
+Leads-both b R (Do.Emit e f p) fs k s n u t l = (record { sound = s; noted = n; queued = u; seated = t.0; light = t.1; room = l.0 }, l.1)
+Leads-both b R (Do.Wait q f p) fs zero s n u t l = tt
+Leads-both b R (Do.Wait q f p) fs (suc k) s n u t l = λ i g e. (record { sound = s i g e; noted = n i g e; queued = u i g e; seated = (t i g e).0; light = (t i g e).1; room = (l i g e).0 }, (l i g e).1)
+Leads-both b R (Do.Call g f p) fs k s n u t l = (record { sound = s; noted = n; queued = u; seated = t.0; light = t.1; room = l.0 }, l.1)
 
 pub falls : (R : ℕ) → Falls table (Well R) (cost R)
-falls R = record { keeps = λ f fs p k h. Leads-both (cost R f fs p k) R (step f p) fs k (sound-kept f fs p k h.0) (noted-kept f fs p k h.0 h.1) (lower R f fs p k h.0 h.1 h.2) }
+falls R = record {
+  keeps = λ f fs p k h. Leads-both (cost R f fs p k) R (step f p) fs k (sound-kept f fs p k h.sound h.queued.pool.waiting) (noted-kept f fs p k h.sound h.noted) (queued-kept f fs p k h.sound h.seated h.queued)
+      (placed-kept f fs p k h.sound h.seated h.light) (lower R f fs p k h.sound h.noted h.room);
+}

@@ -18,10 +18,10 @@ use Rattle.tree_specs.specs.declared.frame.Errand.TheVariants.{Finish, Notify, R
 use Rattle.tree_specs.specs.declared.frame.RequestFrame.{RequestFrame}
 use Rattle.tree_specs.specs.declared.frame.RequestFrame.TheVariants as request
 use Rattle.tree_specs.specs.Events.Requests.{note_of, is_unreceived, cleanup_in, cancel_in}
-use Rattle.tree_specs.specs.Calls.Refusals.{is_request}
+use Rattle.tree_specs.specs.Calls.Refusals.{is_request, is_queue}
 use Rattle.tree_specs.specs.Calls.Plans.Plan.{Does, Frees, Unlinks, Empties, Asks, Turns, Works}
 use Rattle.tree_specs.specs.Tree.Targets.{newest_ref}
-use Rattle.std.proofs.Common.{◌≡◌, ℕ, suc, zero, ◌+◌, ◌≤◌, List, [], Option, Some, None, nat_eq, refl, sym, ◌∙◌, ap, subst, arith}
+use Rattle.std.proofs.Common.{◌≡◌, ℕ, suc, zero, ◌+◌, ◌≤◌, List, [], Option, Some, None, nat_eq, refl, sym, ◌∙◌, ap, subst, arith, false}
 use Rattle.step_machine.specs.Machine.{Move as Do}
 use Rattle.tree_specs.specs.declared.object.Obj.{Obj}
 use Rattle.tree_specs.specs.declared.object.Owner.{Owner}
@@ -42,9 +42,9 @@ use Rattle.tree_specs.specs.declared.moment.What.{What}
 use Rattle.tree_specs.specs.declared.reply.Reply.TheVariants as reply
 use Rattle.tree_specs.specs.declared.reply.Refusal.TheVariants as refusal
 use Rattle.tree_specs.specs.Events.Coming.{handler_for, goes_after}
-use Rattle.tree_specs.proofs.Invariants.Turning.{handler-ready, rotated-rows, IsPlain, Passes, Pass, Serve, look-passes, taken-plain}
+use Rattle.tree_specs.proofs.Invariants.Turning.{handler-ready, rotated-rows, IsPlain, Passes, Pass, Serve, look-passes, taken-plain, Trigger}
 use Rattle.tree_specs.specs.declared.frame.FreeFrame.{FreeFrame}
-use Rattle.tree_specs.specs.declared.frame.FreeFrame.TheVariants.{Unlinking, Releasing, Giving, Beginning, Hooked, Judged, Preparing, Prepared, Dooming, Leaving, Looping, FreeingChild, AfterChild, Ending}
+use Rattle.tree_specs.specs.declared.frame.FreeFrame.TheVariants.{Unlinking, Releasing, Giving, Beginning, Hooked, Judged, Preparing, Prepared, Dooming, Leaving, Looping, FreeingChild, AfterChild, Ending, Draining}
 use Rattle.tree_specs.specs.declared.frame.Purpose.{Purpose}
 use Rattle.tree_specs.specs.declared.frame.Purpose.TheVariants.{Removal, Emptying}
 use Rattle.tree_specs.specs.declared.frame.OutsideFrame.{OutsideFrame}
@@ -52,11 +52,11 @@ use Rattle.tree_specs.specs.declared.frame.OutsideFrame.TheVariants.{Reaching, O
 use Rattle.tree_specs.specs.declared.frame.Answer.TheVariants.{Freed, Returned, Turned, Heard as HeardBy}
 use Rattle.tree_specs.specs.declared.free_step.FreeReply.{FreeReply}
 use Rattle.tree_specs.specs.declared.free_step.FreeReply.TheVariants.{Ok, Running, Refused, Held}
-use Rattle.tree_specs.specs.Tree.Pool.{Pool, row_of, is_below, owner_of, first_kid, changed, left_row, marked_row, hooked_row, target_at, noted_owner, newest_ref_of, is_inside, remove, detach, doom, open_descriptor}
+use Rattle.tree_specs.specs.Tree.Pool.{Pool, row_of, is_below, owner_of, first_kid, changed, left_row, marked_row, hooked_row, target_at, noted_owner, newest_ref_of, is_inside, remove, detach, doom, open_descriptor, run_queue}
 use Rattle.tree_specs.specs.Tree.Heirs.{heir}
 use Rattle.tree_specs.specs.Rules.Items.{Item}
 use Rattle.tree_specs.specs.Machine.FreeTable.{begin_quiet, begin_step, judge_step, last_step, loop_step, hand_on_step, child_step, refs_step, unlink_step, release_step}
-use Rattle.tree_specs.specs.Machine.Table.{Step, step, cancelling_step, cleaning_step, release_object, cleaned_step, callback_step, notifying_step, request_step, turning_step, turn_step, outside_step, starting_step, lifted, announced, closed_event, plan_step}
+use Rattle.tree_specs.specs.Machine.Table.{Step, step, cancelling_step, cleaning_step, release_object, cleaned_step, callback_step, notifying_step, request_step, turning_step, turn_step, outside_step, starting_step, lifted, announced, closed_event, plan_step, vacating_step, triggering_step}
 use Rattle.tree_specs.specs.Invariants.Sound.{phase_of, phases, claims, Sound, Refers, IsQuietRow}
 use Rattle.tree_specs.proofs.Tree.Numbered.{by_test}
 use Rattle.tree_specs.proofs.Calls.Checks.{Heard, HeardCall, HeardReturn, heard-leads, Reached, ReachedOpening, ReachedHearing, reached-leads}
@@ -67,6 +67,7 @@ use Rattle.tree_specs.proofs.Tree.Rows.{total-without, total-placed, total-chang
 use Rattle.tree_specs.proofs.Invariants.Changes.{dying-row, running-row, handling-row, claim-here, heir-placed}
 use Rattle.tree_specs.proofs.Turns.Lowering.{total-kept}
 use Rattle.tree_specs.proofs.Turns.Seats.{Placed, reseat, reseat-free, reseat-turn, reseat-work, quiet-later, routine-later, not-both, reseat-told, turn-least, over}
+use Rattle.tree_specs.specs.Events.Queues.{Head, head_of, next_of}
 
 asking-placed : (q : Ask) (fs : List Frame) (p : Pool) (k : ℕ) → IsStacked (frame.Call (Asking q)) fs → IsPaidFor (frame.Call (Asking q)) fs p → Placed (step (frame.Call (Asking q)) p) fs k
 asking-placed q fs p zero s l = tt
@@ -135,9 +136,11 @@ beginning-placed x fs p k sound s l = newest (newest_ref p.rows x) refl
         let u = total-changed deposit (marked_row Asked) p.rows x r e in
         by_test (is_request r.kind)
         (λ v. rw v (reseat-free (Beginning x) (Preparing x) fs s, omega (arith, u, l, ap mark_deposit m)))
-        (λ v. by_test (nat_eq r.hook 0)
-        (λ t. rw (v, t) (reseat-free (Beginning x) (Leaving x 0) fs s, l))
-        (λ t. rw (v, t) (reseat-free (Beginning x) (Hooked x r.hook) fs s, omega (arith, u, l, ap mark_deposit m))))
+        (λ v. by_test (is_queue r.kind)
+        (λ w. rw (v, w) (reseat-free (Beginning x) (Draining x) fs s, omega (arith, u, l, ap mark_deposit m)))
+        (λ w. by_test (nat_eq r.hook 0)
+        (λ t. rw (v, w, t) (reseat-free (Beginning x) (Leaving x 0) fs s, l))
+        (λ t. rw (v, w, t) (reseat-free (Beginning x) (Hooked x r.hook) fs s, omega (arith, u, l, ap mark_deposit m)))))
 
     marks : (r : Row) (m : Mark) → r.mark ≡ m → row_of p.rows x ≡ Some r → Placed (lifted p.ring (begin_step x (row_of p.rows x) p)) fs k
     marks r Quiet m e = rw (e, m) (quiet r e m)
@@ -256,10 +259,11 @@ tried-placed x c noted purpose a fs p k s seats l = each a
 -- ---- turns
 
 passes-placed : (f : TurnFrame) (fs : List Frame) (p : Pool) (k : ℕ) (m : Step) → Passes p m → IsStacked (frame.Turn f) fs → IsPaidFor (frame.Turn f) fs p → Placed m fs k
-passes-placed f fs p k _ (Pass g q rows next notes times plain) b l = let z = plain.size in (reseat-turn f g fs b, rw rows (omega (arith, l, z, turn-least f)))
-passes-placed f fs p k _ (Serve Notify x q rows next notes times served noted) b l = ((tt, reseat-turn f (Serving x) fs b), rw rows (omega (arith, l, turn-least f)))
-passes-placed f fs p k _ (Serve (Finish TimedOut) x q rows next notes times served noted) b l = ((tt, reseat-turn f (Serving x) fs b), rw rows (omega (arith, l, turn-least f)))
-passes-placed f fs p k _ (Serve _ x q rows next notes times served noted) b l = absurd served
+passes-placed f fs p k _ (Pass g q rows next notes queues times plain) b l = let z = plain.size in (reseat-turn f g fs b, rw rows (omega (arith, l, z, turn-least f)))
+passes-placed f fs p k _ (Trigger x q rows next notes queues times queue) b l = ((tt, reseat-turn f (Serving x) fs b), rw rows (omega (arith, l, turn-least f)))
+passes-placed f fs p k _ (Serve Notify x q rows next notes queues times served noted) b l = ((tt, reseat-turn f (Serving x) fs b), rw rows (omega (arith, l, turn-least f)))
+passes-placed f fs p k _ (Serve (Finish TimedOut) x q rows next notes queues times served noted) b l = ((tt, reseat-turn f (Serving x) fs b), rw rows (omega (arith, l, turn-least f)))
+passes-placed f fs p k _ (Serve _ x q rows next notes queues times served noted) b l = absurd served
 
 -- what an answer leads to is as light
 asked-placed : (f : TurnFrame) (fs : List Frame) (p : Pool) (g : Frame) (t : TurnFrame) → g ≡ frame.Turn t → IsPlain t 13 → IsStacked (frame.Turn f) fs → IsPaidFor (frame.Turn f) fs p
@@ -365,6 +369,17 @@ request-placed (request.Notifying x errand) fs p k s b l = notifying-placed fs p
 request-placed (request.Calling w x h errand) fs p k s b l = (reseat-work (request.Calling w x h errand) _ fs b, l)
 request-placed (request.Called w x h errand) fs p k s b l = ((tt, b), omega (arith, l))
 request-placed (request.Releasing c) fs p k s b l = absurd s.rests
+request-placed (request.Vacating q) fs p k s b l = each (head_of p.queues q)
+  where
+    each : (o : Option Head) → Placed (vacating_step q o (run_queue p q false)) fs k
+    each None = (reseat-work (request.Vacating q) _ fs b, l)
+    each (Some h) = ((tt, reseat-work (request.Vacating q) (request.Dropping q h.object) fs b), omega (arith, l))
+request-placed (request.Dropping q e) fs p k s b l = absurd s.rests
+request-placed (request.Triggering q) fs p k s b l = each (next_of p.queues q)
+  where
+    each : (o : Option Head) → Placed (triggering_step o p) fs k
+    each None = (reseat-work (request.Triggering q) _ fs b, l)
+    each (Some h) = (reseat-work (request.Triggering q) _ fs b, l)
 request-placed (request.Over r) fs p k s b l = over (HeardBy r) (frame.Request (request.Over r)) fs p k s.waiting b l
 
 pub placed-kept : (f : Frame) (fs : List Frame) (p : Pool) (k : ℕ) → Sound f fs p → IsStacked f fs → IsPaidFor f fs p → Placed (step f p) fs k
@@ -380,6 +395,7 @@ placed-kept (frame.Free (Beginning x)) fs p k s b l = beginning-placed x fs p k 
 placed-kept (frame.Free (Hooked x h)) fs p k s b l = ((tt, b), omega (arith, l))
 placed-kept (frame.Free (Judged x h v)) fs p k s b l = judged-placed x h v fs p k s b l
 placed-kept (frame.Free (Preparing x)) fs p k s b l = ((tt, b), omega (arith, l))
+placed-kept (frame.Free (Draining x)) fs p k s b l = ((tt, b), omega (arith, l))
 placed-kept (frame.Free (Prepared x)) fs p k s b l = prepared-placed x fs p k s b l
 placed-kept (frame.Free (Dooming x)) fs p k s b l = over (Freed Running) (frame.Free (Dooming x)) fs p k s.waiting b l
 placed-kept (frame.Free (Leaving x h)) fs p k s b l = leaving-placed x h fs p k s b l

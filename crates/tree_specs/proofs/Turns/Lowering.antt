@@ -34,7 +34,7 @@ use Rattle.tree_specs.proofs.Calls.Checks.{Heard, HeardCall, HeardReturn, heard-
 use Rattle.tree_specs.specs.Tree.Inside.{total}
 use Rattle.tree_specs.specs.Invariants.Measure.{mark_weight, note_weight, weight, waiting_cost, top_cost, cost, pending}
 use Rattle.tree_specs.proofs.Tree.Rows.{total-without, total-changed, total-length, count-length}
-use Rattle.tree_specs.proofs.Invariants.Waiters.{Waiter, ForFree, ForRun, ForChild, ForTurn, ForHandler, ForClear, ForRequest, ForServed, ForReceived, ForRoutine, ForRelease, waiter}
+use Rattle.tree_specs.proofs.Invariants.Waiters.{Waiter, ForFree, ForRun, ForChild, ForTurn, ForHandler, ForClear, ForRequest, ForServed, ForReceived, ForRoutine, ForRelease, waiter, ForDrained, ForEntry}
 
 -- R bounds the rows that there can be
 abbrev pub Room : ℕ → Frame → Pool → ℕ → Type 0
@@ -75,6 +75,8 @@ over-pays R a o rows n _ gs (ForServed x) = omega arith
 over-pays R a o rows n _ gs (ForReceived x) = omega arith
 over-pays R a o rows n _ gs (ForRoutine what x h errand) = let l = after-cost R what (Freed a) x h errand gs rows in omega (arith, l)
 over-pays R a o rows n _ gs (ForRelease c) = omega arith
+over-pays R a o rows n _ gs (ForDrained x) = omega arith
+over-pays R a o rows n _ gs (ForEntry q e) = omega arith
 over-pays R Ok o rows n _ gs (ForChild x c noted purpose) = let m = count-length rows (Of x) in omega (arith, m, n)
 over-pays R Held o rows n _ gs (ForChild x c noted purpose) = let m = count-length rows (Of x) in omega (arith, m, n)
 over-pays R (Refused v) o rows n _ gs (ForChild x c noted purpose) = let m = count-length rows (Of x) in omega (arith, m, n)

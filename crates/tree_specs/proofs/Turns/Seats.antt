@@ -15,16 +15,16 @@ use Rattle.tree_specs.specs.declared.frame.CallFrame.TheVariants.{Doing, Awaitin
 use Rattle.tree_specs.specs.declared.frame.TurnFrame.{TurnFrame}
 use Rattle.tree_specs.specs.declared.frame.TurnFrame.TheVariants.{Taking, Handling, Clearing, Serving}
 use Rattle.tree_specs.specs.declared.frame.FreeFrame.{FreeFrame}
-use Rattle.tree_specs.specs.declared.frame.FreeFrame.TheVariants.{Hooked, Preparing, FreeingChild}
+use Rattle.tree_specs.specs.declared.frame.FreeFrame.TheVariants.{Hooked, Preparing, FreeingChild, Draining}
 use Rattle.tree_specs.specs.declared.frame.Answer.{Answer}
 use Rattle.tree_specs.specs.Tree.Pool.{Pool}
 use Rattle.tree_specs.specs.Rules.Items.{Item}
 use Rattle.tree_specs.specs.Machine.Table.{table, resume}
 use Rattle.tree_specs.specs.Invariants.Sound.{AllWait}
-use Rattle.tree_specs.specs.Machine.Profiles.{Waits, ARun, ATurn, AHandler, ARequest, AReceived, AServed, ARoutine, profile}
+use Rattle.tree_specs.specs.Machine.Profiles.{Waits, ARun, ATurn, AHandler, ARequest, APrepared, AServed, ARoutine, profile}
 use Rattle.tree_specs.specs.Rules.Answers.{later}
 use Rattle.tree_specs.specs.Invariants.Consistent.{IsQuiet, IsOfRoutine, IsCaller, IsRun, IsFree, IsTurn, IsWork, MayStandOn, Serves, IsStacked, size, innermost_size, IsPaidFor}
-use Rattle.tree_specs.proofs.Invariants.Waiters.{Waiter, ForFree, ForRun, ForChild, ForTurn, ForHandler, ForClear, ForRequest, ForServed, ForReceived, ForRoutine, ForRelease, waiter}
+use Rattle.tree_specs.proofs.Invariants.Waiters.{Waiter, ForFree, ForRun, ForChild, ForTurn, ForHandler, ForClear, ForRequest, ForServed, ForReceived, ForDrained, ForRoutine, ForRelease, ForEntry, waiter}
 
 -- what a move leads to stands where it may, and is light
 abbrev pub Placed : Move Frame Answer Pool Item → List Frame → ℕ → Type 0
@@ -41,7 +41,7 @@ reseat f g (h ∷ hs) c r k t v s = (serve (profile h).waits s.0, s.1)
     serve (AHandler x) s = r s
     serve ATurn s = t s
     serve ARequest s = v s
-    serve (AReceived x) s = v s
+    serve (APrepared x) s = v s
     serve (AServed x) s = v s
     serve (ARoutine x) s = r s
     serve _ s = k s
@@ -78,6 +78,8 @@ resumed-seated _ gs a (ForServed x) s = reseat-turn (Serving x) _ gs s
 resumed-seated _ gs a (ForReceived x) s = reseat-free (Preparing x) _ gs s
 resumed-seated _ gs a (ForRoutine w x h errand) s = reseat-work (request.Called w x h errand) _ gs s
 resumed-seated _ gs a (ForRelease c) s = reseat-work (request.Releasing c) _ gs s
+resumed-seated _ gs a (ForDrained x) s = reseat-free (Draining x) _ gs s
+resumed-seated _ gs a (ForEntry q e) s = reseat-work (request.Dropping q e) _ gs s
 resumed-seated _ gs a (ForHandler w x h occasion) s = reseat-turn (Handling w x h occasion) _ gs s
 resumed-seated _ gs a (ForClear x) s = reseat-turn (Clearing x) _ gs s
 resumed-seated _ gs a (ForRun x h) s = reseat-free (Hooked x h) _ gs s
@@ -111,6 +113,8 @@ size-resume f _ gs a (ForServed x) s = let n = work-size f s in omega (arith, n)
 size-resume f _ gs a (ForReceived x) s = let n = work-size f s in omega (arith, n)
 size-resume f _ gs a (ForRoutine w x h errand) s = let n = run-size f s in omega (arith, n)
 size-resume f _ gs a (ForRelease c) s = omega arith
+size-resume f _ gs a (ForDrained x) s = let n = work-size f s in omega (arith, n)
+size-resume f _ gs a (ForEntry q e) s = omega arith
 size-resume f _ gs a (ForHandler w x h occasion) s = let n = run-size f s in omega (arith, n)
 size-resume f _ gs a (ForClear x) s = omega arith
 

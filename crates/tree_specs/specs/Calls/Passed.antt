@@ -5,12 +5,12 @@ use Rattle.tree_specs.specs.declared.object.Owner.{Owner}
 use Rattle.tree_specs.specs.declared.object.Owner.TheVariants.{Of}
 use Rattle.tree_specs.specs.declared.row.Row.{Row}
 use Rattle.tree_specs.specs.declared.test.Test.{Test}
-use Rattle.tree_specs.specs.declared.test.Test.TheVariants.{IsSmall, IsObject, IsOwner, IsPlain, IsImmediate, IsDescriptor, IsRequest, IsReferable, IsOpen, IsUnwatched, HasRoom, HasNumber, IsInProgress, IsFinished, MayFail, Fits, MayGrow, IsNotDying, IsNotDoomed, IsNotRunning, IsNotInside, IsUnheld, IsUnreferenced, IsInterested, MayGive}
+use Rattle.tree_specs.specs.declared.test.Test.TheVariants.{IsSmall, IsObject, IsOwner, IsPlain, IsImmediate, IsDescriptor, IsRequest, IsQueue, IsMovable, IsReferable, IsOpen, IsUnwatched, HasRoom, HasNumber, IsInProgress, IsFinished, MayFail, Fits, MayGrow, IsNotDying, IsNotGoing, IsNotDoomed, IsNotRunning, IsNotInside, IsUnheld, IsUnreferenced, IsInterested, MayGive}
 use Rattle.tree_specs.specs.Tree.Targets.{target_of}
 use Rattle.tree_specs.specs.Tree.Pool.{Pool, row_of, is_owner, is_below, owner_of, newest_ref_of, is_dying, is_inside}
 use Rattle.tree_specs.specs.Tree.Reports.{count_refs}
 use Rattle.tree_specs.specs.Events.Rotation.{is_watched}
-use Rattle.tree_specs.specs.Calls.Refusals.{size_limit, row_limit, is_plain_row, is_immediate_row, is_descriptor_row, is_request_row, is_referable_row, in_progress, finished, failing, is_open, is_held, is_doomed, is_running, fits, growing}
+use Rattle.tree_specs.specs.Calls.Refusals.{size_limit, row_limit, is_plain_row, is_immediate_row, is_descriptor_row, is_request_row, is_queue_row, is_entry_row, is_referable_row, in_progress, finished, failing, is_open, is_held, is_going, is_doomed, is_running, fits, growing}
 
 -- an interest is an owner's, or of one that has a reference
 pub data Interest (p : Pool) (o : Owner) (x : Obj) : Type 0 where
@@ -30,6 +30,8 @@ Passed p (IsPlain x) = is_plain_row (row_of p.rows x) ≡ true
 Passed p (IsImmediate x) = is_immediate_row (row_of p.rows x) ≡ true
 Passed p (IsDescriptor x) = is_descriptor_row (row_of p.rows x) ≡ true
 Passed p (IsRequest x) = is_request_row (row_of p.rows x) ≡ true
+Passed p (IsQueue x) = is_queue_row (row_of p.rows x) ≡ true
+Passed p (IsMovable x) = is_entry_row (row_of p.rows x) ≡ false
 Passed p (IsReferable x) = is_referable_row (row_of p.rows x) ≡ true
 Passed p (IsOpen fd) = is_open p fd ≡ true
 Passed p (IsUnwatched fd) = is_watched p.ring fd ≡ false
@@ -41,6 +43,7 @@ Passed p (MayFail x error) = failing p x error ≡ []
 Passed p (Fits o wanted) = fits p o wanted ≡ []
 Passed p (MayGrow x size) = growing p x size ≡ []
 Passed p (IsNotDying x) = is_dying p.rows x ≡ false
+Passed p (IsNotGoing x) = is_going p x ≡ false
 Passed p (IsNotDoomed x) = is_doomed p x ≡ false
 Passed p (IsNotRunning x) = is_running p x ≡ false
 Passed p (IsNotInside x o) = is_inside p.rows o (Of x) ≡ false

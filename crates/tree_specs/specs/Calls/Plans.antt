@@ -1,5 +1,5 @@
 -- What each call does: a change of the rows with its reply, or a free that it waits for.
-use Rattle.std.specs.Prelude.{ℕ, ◌+◌, nat_eq, codes, List, [], ◌∷◌, length, Bool, not, is_some, ◌&&◌, Option, Some, None, unwrap_or, if◌then◌else◌}
+use Rattle.std.specs.Prelude.{ℕ, ◌+◌, nat_eq, codes, List, [], ◌∷◌, length, Bool, true, false, not, is_some, ◌&&◌, Option, Some, None, unwrap_or, if◌then◌else◌}
 use Rattle.tree_specs.specs.declared.object.Obj.{Obj}
 use Rattle.tree_specs.specs.declared.object.Owner.{Owner}
 use Rattle.tree_specs.specs.declared.object.Owner.TheVariants.{Root}
@@ -23,9 +23,10 @@ use Rattle.tree_specs.specs.declared.reply.Reply.{Reply}
 use Rattle.tree_specs.specs.declared.reply.Reply.TheVariants.{Ok, Number, Pair, Rows, No}
 use Rattle.tree_specs.specs.Words.Objects.{owner_number}
 use Rattle.tree_specs.specs.Tree.Targets.{newest_ref}
-use Rattle.tree_specs.specs.Tree.Pool.{Pool, changed, is_below, owner_of, newest_ref_of, add, place, named_row, hooked_row, sized_row, limited_row, set_handler, schedule, unschedule, arm, watch, rewatch, close_descriptor, take_number, add_request, renote}
+use Rattle.tree_specs.specs.Tree.Pool.{Pool, changed, is_below, owner_of, newest_ref_of, add, place, named_row, hooked_row, sized_row, limited_row, set_handler, schedule, unschedule, arm, watch, rewatch, close_descriptor, take_number, add_request, renote, run_queue, add_queue, add_entry, look_at}
 use Rattle.tree_specs.specs.Events.Rotation.{flags_of, flagged, closing}
 use Rattle.tree_specs.specs.Events.Requests.{state_number, is_in_progress, note_of, called_back, deferring, cleaned_by, cancelled_by, failed_with}
+use Rattle.tree_specs.specs.Events.Queues.{runs, length_of}
 use Rattle.tree_specs.specs.Tree.Inside.{size_inside, count_inside}
 use Rattle.tree_specs.specs.Tree.Sums.{sum_inside}
 use Rattle.tree_specs.specs.Tree.Reports.{report}
@@ -59,6 +60,14 @@ pub data Change : Type 0 where
   AddRequest : Owner → ℕ → List ℕ → Change
   -- what is kept of a request is changed
   Renotes : Obj → (Note → Note) → Change
+  -- a queue runs from now on, or it doesn't
+  Runs : Obj → Bool → Change
+  -- a new queue below an owner, which runs
+  AddQueue : Owner → List ℕ → Change
+  -- a new entry of a queue, for a request
+  AddEntry : Obj → Obj → Handler → Change
+  -- a queue comes soon, where it runs and its first entry waits for its trigger
+  LooksAt : Obj → Change
   -- one change after another
   Then : Change → Change → Change
 
@@ -77,6 +86,10 @@ changed_by (Close fd) p = close_descriptor p fd
 changed_by TakeNumber p = take_number p
 changed_by (AddRequest o size name) p = add_request p o size name
 changed_by (Renotes x change) p = renote p x change
+changed_by (Runs q running) p = run_queue p q running
+changed_by (AddQueue o name) p = add_queue p o name
+changed_by (AddEntry q x trigger) p = add_entry p q x trigger
+changed_by (LooksAt q) p = look_at p q
 changed_by (Then first second) p = changed_by second (changed_by first p)
 
 pub data Plan : Type 0 where
@@ -170,6 +183,10 @@ progress_reply (Some n) = if is_in_progress n.state then Number 1 else Number 0
 abbrev pub fails : Obj → ℕ → Plan
 fails x error = if nat_eq error 0 then replies (Number 0) else Works (Renotes x (failed_with error)) (Finish state.UserError) x
 
+-- starting a queue that runs changes nothing
+abbrev pub starts : Pool → Obj → Plan
+starts p q = if runs p.queues q then replies Ok else Does (Then (Runs q true) (LooksAt q)) None Ok
+
 -- an owner by its number
 abbrev pub owner_reply : Option Owner → Reply
 owner_reply o = Number (owner_number (unwrap_or o Root))
@@ -219,6 +236,12 @@ plan p (call.Iserror x) = replies (failure_reply (note_of p.requests x))
 plan p (call.Progress x) = replies (progress_reply (note_of p.requests x))
 plan p (call.Endtime x time) = Does (Then (Arm x time p.next) TakeNumber) None Ok
 plan p (call.Received x) = Works Nothing Receive x
+plan p (call.Queue o name) = Does (AddQueue o name) None (Number p.next)
+plan p (call.Enqueue q x routine user) = Does (AddEntry q x (record { routine = routine; user = user })) None (Number p.next)
+plan p (call.Start q) = starts p q
+plan p (call.Stop q) = Does (Runs q false) None Ok
+plan p (call.Length q) = replies (Number (length_of p.queues q))
+plan p (call.Running q) = replies (Number (if runs p.queues q then 1 else 0))
 plan p call.Pending = replies (Number (length p.soon + length p.times + length p.ring))
 plan p call.Now = Asks ask.Clock
 plan p call.Turn = Turns

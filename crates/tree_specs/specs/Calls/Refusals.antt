@@ -5,16 +5,16 @@ use Rattle.tree_specs.specs.declared.object.Obj.{Obj}
 use Rattle.tree_specs.specs.declared.object.Owner.{Owner}
 use Rattle.tree_specs.specs.declared.object.Owner.TheVariants.{Root, Of}
 use Rattle.tree_specs.specs.declared.kind.Kind.{Kind}
-use Rattle.tree_specs.specs.declared.kind.Kind.TheVariants.{Plain, Immediate as ImmediateKind, Descriptor, Request}
+use Rattle.tree_specs.specs.declared.kind.Kind.TheVariants.{Plain, Immediate as ImmediateKind, Descriptor, Request, Queue as QueueKind, Entry}
 use Rattle.tree_specs.specs.declared.request.Note.{Note}
 use Rattle.tree_specs.specs.declared.request.State.{State}
 use Rattle.tree_specs.specs.declared.row.Row.{Row}
 use Rattle.tree_specs.specs.declared.row.Mark.{Mark}
 use Rattle.tree_specs.specs.declared.row.Mark.TheVariants as mark
 use Rattle.tree_specs.specs.declared.call.Call.{Call}
-use Rattle.tree_specs.specs.declared.call.Call.TheVariants.{New, Free, Freekids, Steal, Move, Reparent, Reference as Refer, Unlink, Hook, Unhook, Rename, Resize, Limit, Parent, Total, Count, Sum, Report, Immediate, Schedule, Unschedule, Timer, Fd, Flags, Getflags, Autoclose, Close, Accept, Read, Write, Req, Callback, Defer, Cleanup, Setcancel, Cancel, Post, Done, Error, Oom, Iserror, Progress, Endtime, Received, Pending, Now, Turn}
+use Rattle.tree_specs.specs.declared.call.Call.TheVariants.{New, Free, Freekids, Steal, Move, Reparent, Reference as Refer, Unlink, Hook, Unhook, Rename, Resize, Limit, Parent, Total, Count, Sum, Report, Immediate, Schedule, Unschedule, Timer, Fd, Flags, Getflags, Autoclose, Close, Accept, Read, Write, Req, Callback, Defer, Cleanup, Setcancel, Cancel, Post, Done, Error, Oom, Iserror, Progress, Endtime, Received, Queue, Enqueue, Start, Stop, Length, Running as IsRunning, Pending, Now, Turn}
 use Rattle.tree_specs.specs.declared.test.Test.{Test}
-use Rattle.tree_specs.specs.declared.test.Test.TheVariants.{IsSmall, IsObject, IsOwner, IsPlain, IsImmediate, IsDescriptor, IsRequest, IsReferable, IsOpen, IsUnwatched, HasRoom, HasNumber, IsInProgress, IsFinished, MayFail, Fits, MayGrow, IsNotDying, IsNotDoomed, IsNotRunning, IsNotInside, IsUnheld, IsUnreferenced, IsInterested, MayGive}
+use Rattle.tree_specs.specs.declared.test.Test.TheVariants.{IsSmall, IsObject, IsOwner, IsPlain, IsImmediate, IsDescriptor, IsRequest, IsQueue, IsMovable, IsReferable, IsOpen, IsUnwatched, HasRoom, HasNumber, IsInProgress, IsFinished, MayFail, Fits, MayGrow, IsNotDying, IsNotGoing, IsNotDoomed, IsNotRunning, IsNotInside, IsUnheld, IsUnreferenced, IsInterested, MayGive}
 use Rattle.tree_specs.specs.declared.reply.Refusal.{Refusal}
 use Rattle.tree_specs.specs.declared.reply.Refusal.TheVariants.{NoSuch, WrongKind, Running, Held, NotParent, Loop, Dying, OverLimit, Full, Spent, InUse, BadState, TooBig}
 use Rattle.tree_specs.specs.Tree.Pool.{Pool, row_of, passes, is_below, owner_of, newest_ref_of, is_dying_mark, is_dying, is_inside}
@@ -79,6 +79,14 @@ abbrev pub is_request : Kind → Bool
 is_request Request = true
 is_request k = false
 
+abbrev pub is_queue : Kind → Bool
+is_queue QueueKind = true
+is_queue k = false
+
+abbrev pub is_entry : Kind → Bool
+is_entry Entry = true
+is_entry k = false
+
 -- there may be references to a plain object, and to a request
 abbrev pub is_referable : Kind → Bool
 is_referable Plain = true
@@ -96,6 +104,12 @@ is_descriptor_row o = passes (λ r. is_descriptor r.kind) o
 
 abbrev pub is_request_row : Option Row → Bool
 is_request_row o = passes (λ r. is_request r.kind) o
+
+abbrev pub is_queue_row : Option Row → Bool
+is_queue_row o = passes (λ r. is_queue r.kind) o
+
+abbrev pub is_entry_row : Option Row → Bool
+is_entry_row o = passes (λ r. is_entry r.kind) o
 
 abbrev pub is_referable_row : Option Row → Bool
 is_referable_row o = passes (λ r. is_referable r.kind) o
@@ -119,6 +133,14 @@ descriptor p x = of_kind is_descriptor_row p x
 -- only a request has a state
 abbrev pub request : Pool → Obj → Check
 request p x = of_kind is_request_row p x
+
+-- only a queue has entries
+abbrev pub queue : Pool → Obj → Check
+queue p x = of_kind is_queue_row p x
+
+-- an entry stays below its request
+abbrev pub movable : Pool → Obj → Check
+movable p x = of_kind (λ o. not (is_entry_row o)) p x
 
 abbrev pub referable : Pool → Obj → Check
 referable p x = of_kind is_referable_row p x
@@ -195,6 +217,18 @@ is_doomed_mark m = is_dying_mark m
 abbrev pub is_doomed : Pool → Obj → Bool
 is_doomed p x = passes (λ r. is_doomed_mark r.mark) (row_of p.rows x)
 
+-- it is being freed, or its entries are before it: something goes on with it
+abbrev pub is_going_mark : Mark → Bool
+is_going_mark mark.Quiet = false
+is_going_mark m = true
+
+abbrev pub is_going : Pool → Obj → Bool
+is_going p x = passes (λ r. is_going_mark r.mark) (row_of p.rows x)
+
+-- nothing is done with a queue that goes
+abbrev pub remaining : Pool → Obj → Check
+remaining p x = refuse_if (is_going p x) (Dying x)
+
 -- an event that is to be freed waits for nothing
 abbrev pub lasting : Pool → Obj → Check
 lasting p x = refuse_if (is_doomed p x) (Dying x)
@@ -256,6 +290,8 @@ refusal_of p (IsPlain x) = plain p x
 refusal_of p (IsImmediate x) = immediate p x
 refusal_of p (IsDescriptor x) = descriptor p x
 refusal_of p (IsRequest x) = request p x
+refusal_of p (IsQueue x) = queue p x
+refusal_of p (IsMovable x) = movable p x
 refusal_of p (IsReferable x) = referable p x
 refusal_of p (IsOpen fd) = open_one p fd
 refusal_of p (IsUnwatched fd) = unused p fd
@@ -267,6 +303,7 @@ refusal_of p (MayFail x error) = failing p x error
 refusal_of p (Fits o wanted) = fits p o wanted
 refusal_of p (MayGrow x size) = growing p x size
 refusal_of p (IsNotDying x) = staying p x
+refusal_of p (IsNotGoing x) = remaining p x
 refusal_of p (IsNotDoomed x) = lasting p x
 refusal_of p (IsNotRunning x) = still p x
 refusal_of p (IsNotInside x o) = apart p x o
@@ -279,9 +316,9 @@ abbrev pub tests : Call → List Test
 tests (New o size name) = IsSmall size ∷ IsOwner o ∷ HasRoom 1 ∷ Fits o (size + overhead) ∷ []
 tests (Free x) = IsObject x ∷ IsUnheld x ∷ []
 tests (Freekids x) = IsObject x ∷ []
-tests (Steal o x) = IsObject x ∷ IsOwner o ∷ IsNotDying x ∷ IsNotInside x o ∷ []
-tests (Move o x) = IsObject x ∷ IsOwner o ∷ IsNotDying x ∷ IsNotInside x o ∷ []
-tests (Reparent from to x) = IsObject x ∷ IsOwner from ∷ IsOwner to ∷ IsNotDying x ∷ MayGive from to x ∷ []
+tests (Steal o x) = IsObject x ∷ IsMovable x ∷ IsOwner o ∷ IsNotDying x ∷ IsNotInside x o ∷ []
+tests (Move o x) = IsObject x ∷ IsMovable x ∷ IsOwner o ∷ IsNotDying x ∷ IsNotInside x o ∷ []
+tests (Reparent from to x) = IsObject x ∷ IsMovable x ∷ IsOwner from ∷ IsOwner to ∷ IsNotDying x ∷ MayGive from to x ∷ []
 tests (Refer o x) = IsObject x ∷ IsReferable x ∷ IsOwner o ∷ IsNotRunning x ∷ IsNotDying x ∷ HasRoom 1 ∷ []
 tests (Unlink o x) = IsObject x ∷ IsOwner o ∷ IsInterested o x ∷ []
 tests (Hook x routine) = IsObject x ∷ IsPlain x ∷ IsNotDying x ∷ []
@@ -320,6 +357,12 @@ tests (Iserror x) = IsObject x ∷ IsRequest x ∷ []
 tests (Progress x) = IsObject x ∷ IsRequest x ∷ []
 tests (Endtime x time) = IsObject x ∷ IsRequest x ∷ IsInProgress x ∷ HasNumber ∷ []
 tests (Received x) = IsObject x ∷ IsRequest x ∷ []
+tests (Queue o name) = IsOwner o ∷ HasRoom 1 ∷ Fits o overhead ∷ []
+tests (Enqueue q x routine user) = IsObject q ∷ IsQueue q ∷ IsNotGoing q ∷ IsObject x ∷ IsRequest x ∷ IsNotDying x ∷ HasRoom 1 ∷ Fits (Of x) overhead ∷ []
+tests (Start q) = IsObject q ∷ IsQueue q ∷ IsNotGoing q ∷ []
+tests (Stop q) = IsObject q ∷ IsQueue q ∷ IsNotGoing q ∷ []
+tests (Length q) = IsObject q ∷ IsQueue q ∷ []
+tests (IsRunning q) = IsObject q ∷ IsQueue q ∷ []
 tests Pending = []
 tests Now = []
 tests Turn = []

@@ -3,7 +3,7 @@ use Rattle.std.specs.Prelude.{ℕ, List, [], ◌∷◌, ◌++◌, codes}
 use Rattle.tree_specs.specs.declared.object.Obj.{Obj}
 use Rattle.tree_specs.specs.declared.object.Owner.{Owner}
 use Rattle.tree_specs.specs.declared.call.Call.{Call}
-use Rattle.tree_specs.specs.declared.call.Call.TheVariants.{New, Free, Freekids, Steal, Move, Reparent, Reference, Unlink, Hook, Unhook, Rename, Resize, Limit, Parent, Total, Count, Sum, Report, Immediate, Schedule, Unschedule, Timer, Fd, Flags, Getflags, Autoclose, Close, Accept, Read, Write, Req, Callback, Defer, Cleanup, Setcancel, Cancel, Post, Done, Error, Oom, Iserror, Progress, Endtime, Received, Pending, Now, Turn}
+use Rattle.tree_specs.specs.declared.call.Call.TheVariants.{New, Free, Freekids, Steal, Move, Reparent, Reference, Unlink, Hook, Unhook, Rename, Resize, Limit, Parent, Total, Count, Sum, Report, Immediate, Schedule, Unschedule, Timer, Fd, Flags, Getflags, Autoclose, Close, Accept, Read, Write, Req, Callback, Defer, Cleanup, Setcancel, Cancel, Post, Done, Error, Oom, Iserror, Progress, Endtime, Received, Queue, Enqueue, Start, Stop, Length as QueueLength, Running, Pending, Now, Turn}
 
 -- the range of a number in decimal
 pub data Numeral : Type 0 where
@@ -103,6 +103,12 @@ spelling (Iserror x) = codes "iserror" with (AnObject x ∷ [])
 spelling (Progress x) = codes "progress" with (AnObject x ∷ [])
 spelling (Endtime x time) = codes "endtime" with (AnObject x ∷ a_time time ∷ [])
 spelling (Received x) = codes "received" with (AnObject x ∷ [])
+spelling (Queue owner name) = codes "queue" with (AnOwner owner ∷ AName name ∷ [])
+spelling (Enqueue queue x routine user) = codes "enqueue" with (AnObject queue ∷ AnObject x ∷ a_routine routine ∷ a_number user ∷ [])
+spelling (Start queue) = codes "start" with (AnObject queue ∷ [])
+spelling (Stop queue) = codes "stop" with (AnObject queue ∷ [])
+spelling (QueueLength queue) = codes "length" with (AnObject queue ∷ [])
+spelling (Running queue) = codes "running" with (AnObject queue ∷ [])
 spelling Pending = codes "pending" with []
 spelling Now = codes "now" with []
 spelling Turn = codes "turn" with []
@@ -212,6 +218,17 @@ request_forms =
     ∷ (codes "received" reads of_object Received)
     ∷ []
 
+-- calls on queues
+abbrev pub queue_forms : List Form
+queue_forms =
+    (codes "queue" reads TakesOwner (λ owner. EndsInName (λ name. Queue owner name)))
+    ∷ (codes "enqueue" reads TakesObject (λ queue. TakesObject (λ x. TakesNumeral Positive32 (λ routine. takes_number (λ user. IsConsistent (Enqueue queue x routine user))))))
+    ∷ (codes "start" reads of_object Start)
+    ∷ (codes "stop" reads of_object Stop)
+    ∷ (codes "length" reads of_object QueueLength)
+    ∷ (codes "running" reads of_object Running)
+    ∷ []
+
 -- calls on the loop
 abbrev pub loop_forms : List Form
 loop_forms =
@@ -222,4 +239,4 @@ loop_forms =
 
 -- all calls
 abbrev pub forms : List Form
-forms = tree_forms ++ event_forms ++ descriptor_forms ++ request_forms ++ loop_forms
+forms = tree_forms ++ event_forms ++ descriptor_forms ++ request_forms ++ queue_forms ++ loop_forms

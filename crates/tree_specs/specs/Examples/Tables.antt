@@ -4,6 +4,7 @@ use Rattle.tree_specs.specs.Examples.Exchanges.{Example}
 use Rattle.tree_specs.specs.Examples.Events.{events}
 use Rattle.tree_specs.specs.Examples.Descriptors.{descriptors}
 use Rattle.tree_specs.specs.Examples.Requests.{requests}
+use Rattle.tree_specs.specs.Examples.Queues.{queues}
 
 -- ---- objects and owners
 
@@ -331,4 +332,4 @@ limits =
     bounded ∷ resized ∷ []
 
 abbrev pub examples : List Example
-examples = trees ++ destructors ++ references ++ limits ++ events ++ descriptors ++ requests
+examples = trees ++ destructors ++ references ++ limits ++ events ++ descriptors ++ requests ++ queues

@@ -25,10 +25,11 @@ waits Timer p x = is_armed p.times x
 waits Descriptor p x = is_watching p.ring x
 waits what p x = false
 
--- an event waits as its own kind; a request comes soon, and at its end time
+-- an event waits as its own kind; a request comes soon, and at its end time; a queue comes soon
 abbrev pub waits_as : What → Kind → Bool
 waits_as Immediate kind.Request = true
 waits_as Timer kind.Request = true
+waits_as Immediate kind.Queue = true
 waits_as what k = comes_as what k
 
 abbrev pub waits_as_row : What → Option Row → Bool

@@ -9,8 +9,9 @@ use Rattle.tree_specs.specs.Tree.Pool.{Pool}
 use Rattle.tree_specs.specs.Tree.Inside.{total}
 use Rattle.tree_specs.specs.Invariants.Sound.{Sound}
 use Rattle.tree_specs.specs.Invariants.Noted.{Noted, AllCalm}
+use Rattle.tree_specs.specs.Invariants.Queued.{Queued}
 use Rattle.tree_specs.specs.Machine.View.{View}
-use Rattle.tree_specs.specs.Machine.Profiles.{phase_in, Role, Calls, Frees, Turns, Requests, Waits, ARun, ATurn, AHandler, ARequest, AReceived, AServed, ARoutine, profile}
+use Rattle.tree_specs.specs.Machine.Profiles.{phase_in, Role, Calls, Frees, Turns, Requests, Waits, ARun, ATurn, AHandler, ARequest, APrepared, AServed, ARoutine, profile}
 
 -- ---- which work may stand on which
 
@@ -66,7 +67,7 @@ Serves (ARun x h) f = IsRun f
 Serves (AHandler x) f = IsRun f
 Serves ATurn f = IsTurn f
 Serves ARequest f = IsWork f
-Serves (AReceived x) f = IsWork f
+Serves (APrepared x) f = IsWork f
 Serves (AServed x) f = IsWork f
 Serves (ARoutine x) f = IsRun f
 Serves _ f = IsFree f
@@ -107,4 +108,5 @@ pub record IsConsistent (v : View) : Type 0 where
   pub seated : IsStacked v.innermost v.below
   pub light : IsPaidFor v.innermost v.below v.pool
   pub noted : Noted v.innermost v.pool
+  pub queued : Queued v.innermost v.below v.pool
   pub calm : AllCalm (v.innermost ∷ v.below)

@@ -7,6 +7,7 @@ use Rattle.tree_specs.specs.declared.row.Mark.{Mark}
 use Rattle.tree_specs.specs.declared.frame.Frame.{Frame}
 use Rattle.tree_specs.specs.declared.frame.Frame.TheVariants as frame
 use Rattle.tree_specs.specs.declared.frame.FreeFrame.TheVariants.{FreeingChild}
+use Rattle.tree_specs.specs.declared.frame.RequestFrame.TheVariants.{Dropping}
 use Rattle.tree_specs.specs.Tree.Pool.{Pool, is_below}
 use Rattle.tree_specs.specs.Events.Requests.{Notes, note_of, is_unreceived}
 use Rattle.tree_specs.specs.Tree.Inside.{total}
@@ -45,16 +46,17 @@ abbrev pub below_cost : List Frame → ℕ
 below_cost [] = 0
 below_cost (f ∷ fs) = waiting_cost f + below_cost fs
 
--- the children that the loop below still has
-abbrev pub loop_kids : List Row → List Frame → ℕ
-loop_kids rows [] = 0
-loop_kids rows (frame.Free (FreeingChild x c noted purpose) ∷ fs) = 4 * count rows (Of x)
-loop_kids rows (_ ∷ fs) = 0
+-- what the work below still wants: a loop for the children that it still has, and a queue nothing, since an entry leaves at once
+abbrev pub below_wants : List Row → List Frame → ℕ
+below_wants rows [] = 4
+below_wants rows (frame.Free (FreeingChild x c noted purpose) ∷ fs) = 4 + 4 * count rows (Of x)
+below_wants rows (frame.Request (Dropping q e) ∷ fs) = 0
+below_wants rows (_ ∷ fs) = 4
 
 abbrev pub look_cost : Looks → List Frame → List Row → ℕ
 look_cost AtNone fs rows = 0
 look_cost (AtKids x) fs rows = 4 * count rows (Of x)
-look_cost AtBelow fs rows = loop_kids rows fs
+look_cost AtBelow fs rows = below_wants rows fs
 
 -- what the innermost work costs until the next question
 abbrev pub top_cost : ℕ → Frame → List Frame → List Row → ℕ

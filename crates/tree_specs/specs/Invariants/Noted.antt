@@ -38,13 +38,18 @@ IsOfRequest what.Cleanup = Unit {0}
 IsOfRequest what.Cancel = Unit {0}
 IsOfRequest w = ⊥
 
+-- or runs for one, as the trigger of a queue's entry does
+abbrev pub IsForRequest : What → Type 0
+IsForRequest what.Trigger = Unit {0}
+IsForRequest w = IsOfRequest w
+
 -- ---- what the innermost work rests on
 
 -- a request that isn't over finishes, and a routine runs for a request
 abbrev pub WorkRests : RequestFrame → Pool → Type 0
 WorkRests (request.Finishing x s) p = (is_request_row (row_of p.rows x) ≡ true) × IsInProgress p x × IsBetween s
 WorkRests (request.Calling w x handler errand) p = (is_request_row (row_of p.rows x) ≡ true) × IsOfRequest w
-WorkRests (request.Called w x handler errand) p = IsOfRequest w
+WorkRests (request.Called w x handler errand) p = IsForRequest w
 WorkRests f p = Unit {0}
 
 -- what leaves its owner has nothing to be received
@@ -96,6 +101,7 @@ CalmWork (request.Cleaned x errand) fs = CalmErrand errand x fs
 CalmWork (request.Notifying x errand) fs = claims x fs ≡ []
 CalmWork (request.Calling w x handler errand) fs = CalmErrand errand x fs
 CalmWork (request.Called w x handler errand) fs = CalmErrand errand x fs
+CalmWork (request.Triggering q) fs = ClaimNothing fs
 CalmWork f fs = Unit {0}
 
 abbrev pub IsCalm : Frame → List Frame → Type 0

@@ -10,7 +10,7 @@ use Rattle.tree_specs.specs.declared.frame.Frame.{Frame}
 use Rattle.tree_specs.specs.declared.frame.Frame.TheVariants as frame
 use Rattle.tree_specs.specs.declared.frame.CallFrame.TheVariants.{Asking, Doing, Awaiting, Turning, Requesting, Announcing, Telling, Returning}
 use Rattle.tree_specs.specs.declared.frame.FreeFrame.{FreeFrame}
-use Rattle.tree_specs.specs.declared.frame.FreeFrame.TheVariants.{Unlinking, Releasing, Giving, Beginning, Hooked, Judged, Preparing, Prepared, Dooming, Leaving, Looping, FreeingChild, AfterChild, Ending}
+use Rattle.tree_specs.specs.declared.frame.FreeFrame.TheVariants.{Unlinking, Releasing, Giving, Beginning, Hooked, Judged, Preparing, Draining, Prepared, Dooming, Leaving, Looping, FreeingChild, AfterChild, Ending}
 use Rattle.tree_specs.specs.declared.frame.TurnFrame.{TurnFrame}
 use Rattle.tree_specs.specs.declared.frame.TurnFrame.TheVariants.{Firing, Handling, Clearing, Serving}
 use Rattle.tree_specs.specs.declared.frame.RequestFrame.{RequestFrame}
@@ -22,9 +22,9 @@ use Rattle.tree_specs.specs.declared.free_step.FreeReply.TheVariants.{Ok, Held, 
 use Rattle.tree_specs.specs.Words.Objects.{same}
 use Rattle.tree_specs.specs.Tree.Targets.{target_of, newest_ref}
 use Rattle.tree_specs.specs.Tree.Pool.{Pool, row_of, owner_of, target_at, noted_owner, is_owner, is_inside}
-use Rattle.tree_specs.specs.Calls.Refusals.{is_referable}
+use Rattle.tree_specs.specs.Calls.Refusals.{is_referable, is_entry}
 use Rattle.tree_specs.specs.Tree.Forest.{IsForest}
-use Rattle.tree_specs.specs.Machine.Profiles.{Phase, Claim, former_in, phase_in, Waits, Never, AFree, ARun, AChild, ATurn, AHandler, AClear, ARequest, AReceived, AServed, ARoutine, ARelease, profile}
+use Rattle.tree_specs.specs.Machine.Profiles.{Phase, Claim, former_in, phase_in, Waits, Never, AFree, ARun, AChild, ATurn, AHandler, AClear, ARequest, APrepared, AServed, ARoutine, ARelease, ADropping, profile}
 use Rattle.tree_specs.specs.declared.kind.Kind.{Kind}
 use Rattle.tree_specs.specs.Events.Coming.{comes_as}
 
@@ -80,6 +80,8 @@ pub data Footing : Type 0 where
   OnCall : Footing
   -- a free
   OnFree : FreeFrame → Footing
+  -- the queue whose entries are freed
+  OnDropping : Footing
   -- the call that waits for a turn, or for the outside
   OnTurning : Footing
   -- the call, or the turn, that waits for the work of a request
@@ -95,6 +97,7 @@ footing (frame.Call (Awaiting q x) ∷ fs) = OnCall
 footing (frame.Call (Turning q) ∷ fs) = OnTurning
 footing (frame.Turn (Clearing x) ∷ fs) = OnCall
 footing (frame.Request (request.Releasing c) ∷ fs) = OnCall
+footing (frame.Request (request.Dropping q e) ∷ fs) = OnDropping
 footing (frame.Call (Requesting q) ∷ fs) = OnRequesting
 footing (frame.Turn (Serving x) ∷ fs) = OnRequesting
 footing (_ ∷ fs) = OnOther
@@ -113,6 +116,16 @@ IsRequested OnRequesting = Unit {0}
 IsRequested (OnFree (Preparing x)) = Unit {0}
 IsRequested _ = ⊥
 
+-- that of a queue is the free's that waits for it
+abbrev pub Drains : Obj → Footing → Type 0
+Drains q (OnFree (Draining x)) = q ≡ x
+Drains q _ = ⊥
+
+-- and what ends is either
+abbrev pub IsPrepared : Footing → Type 0
+IsPrepared (OnFree (Draining x)) = Unit {0}
+IsPrepared on = IsRequested on
+
 -- a loop that only empties an object is a call's own
 abbrev pub Stands : Purpose → Footing → Type 0
 Stands (Removal h) on = Unit {0}
@@ -127,10 +140,11 @@ MayWait ATurn on = Unit {0}
 MayWait (AHandler x) on = IsTurned on
 MayWait (AClear x) on = IsTurned on
 MayWait ARequest on = Unit {0}
-MayWait (AReceived x) on = Unit {0}
+MayWait (APrepared x) on = Unit {0}
 MayWait (AServed x) on = IsTurned on
 MayWait (ARoutine x) on = IsRequested on
 MayWait (ARelease c) on = IsRequested on
+MayWait (ADropping q e) on = Drains q on
 
 -- the works below the innermost wait for the one above them
 abbrev pub IsWaiting : Frame → List Frame → Type 0
@@ -167,13 +181,24 @@ pub record Refers (rows : List Row) : Type 0 where
 abbrev pub NotedFor : Obj → Obj → Option Owner → Pool → Type 0
 NotedFor x c noted p = (noted ≡ noted_owner p.rows c) ⊎ (noted ≢ Some (Of x))
 
+-- an entry with which nothing goes on, and to which there is no reference; it has no destructor
+abbrev pub IsIdleEntry : Option Row → Type 0
+IsIdleEntry None = ⊥
+IsIdleEntry (Some r) = (is_entry r.kind ≡ true) × (r.mark ≡ Quiet) × (r.hook ≡ 0)
+
 -- an object whose freeing begins is the child that is tried, where the work below tries one; a call begins it only where
--- there is no reference to it
+-- there is no reference to it; and a queue frees entries
 abbrev pub Tries : Obj → Footing → Pool → Type 0
 Tries c (OnFree (FreeingChild x d noted purpose)) p = (d ≡ c) × (owner_of p.rows c ≡ Some (Of x)) × NotedFor x c noted p
 Tries c OnCall p = newest_ref p.rows c ≡ None
+Tries c OnDropping p = (newest_ref p.rows c ≡ None) × IsIdleEntry (row_of p.rows c)
 Tries c AtBottom p = Unit {0}
 Tries c _ p = ⊥
+
+-- no entry is freed
+abbrev pub IsElsewhere : Footing → Type 0
+IsElsewhere OnDropping = ⊥
+IsElsewhere on = Unit {0}
 
 -- a child that runs is where it was, and no reference of its owner's was noted
 abbrev pub StillThere : FreeReply → Obj → Obj → Option Owner → Pool → Type 0
@@ -212,7 +237,7 @@ pub record MayBePlaced (p : Pool) (o : Owner) (x : Obj) : Type 0 where
 abbrev pub IsGivenUp : Obj → Footing → Pool → Type 0
 IsGivenUp x on p = IsCalled on × (r : Row) × (row_of p.rows x ≡ Some r) × IsLive r.mark × (target_of r.kind ≡ None)
 
--- the row of a request that is received is there, whether it was received before or not
+-- the row of a request that is received is there, whether it was received before or not; so is that of a queue
 abbrev pub MayReceive : Obj → Pool → Type 0
 MayReceive x p = (r : Row) × (row_of p.rows x ≡ Some r)
 
@@ -225,8 +250,9 @@ FreeRests (Beginning x) on claimed p = Tries x on p × (target_at p.rows x ≡ N
 FreeRests (Hooked x h) on claimed p = (0 < h) × HasHook (row_of p.rows x) h
 FreeRests (Judged x h v) on claimed p = 0 < h
 FreeRests (Preparing x) on claimed p = MayReceive x p
+FreeRests (Draining x) on claimed p = MayReceive x p
 FreeRests (Prepared x) on claimed p = Unit {0}
-FreeRests (Dooming x) on claimed p = Tries x on p × (newest_ref p.rows x ≡ None)
+FreeRests (Dooming x) on claimed p = Tries x on p × (newest_ref p.rows x ≡ None) × IsElsewhere on
 FreeRests (Leaving x h) on claimed p = (r : Row) × (row_of p.rows x ≡ Some r) × IsLive r.mark × (claimed x ≡ []) × (target_of r.kind ≡ None) × (newest_ref p.rows x ≡ None)
 FreeRests (Looping x purpose) on claimed p = Stands purpose on
 FreeRests (FreeingChild x c noted purpose) on claimed p = ⊥
@@ -245,6 +271,9 @@ TurnRests f on p = IsTurned on
 abbrev pub RequestRests : RequestFrame → Footing → Pool → Type 0
 RequestRests (request.Receiving x) on p = IsRequested on × MayReceive x p
 RequestRests (request.Releasing c) on p = ⊥
+RequestRests (request.Vacating q) on p = Drains q on
+RequestRests (request.Dropping q e) on p = ⊥
+RequestRests (request.Over r) on p = IsPrepared on
 RequestRests f on p = IsRequested on
 
 -- what the innermost work rests on

@@ -10,18 +10,18 @@ use Rattle.tree_specs.specs.declared.row.Row.{Row}
 use Rattle.tree_specs.specs.declared.row.Mark.{Mark}
 use Rattle.tree_specs.specs.declared.row.Mark.TheVariants as mark
 use Rattle.tree_specs.specs.declared.frame.FreeFrame.{FreeFrame}
-use Rattle.tree_specs.specs.declared.frame.FreeFrame.TheVariants.{Unlinking, Releasing, Giving, Beginning, Hooked, Judged, Preparing, Prepared, Dooming, Leaving, Looping, FreeingChild, AfterChild, Ending}
+use Rattle.tree_specs.specs.declared.frame.FreeFrame.TheVariants.{Unlinking, Releasing, Giving, Beginning, Hooked, Judged, Preparing, Draining, Prepared, Dooming, Leaving, Looping, FreeingChild, AfterChild, Ending}
 use Rattle.tree_specs.specs.declared.frame.Purpose.{Purpose}
 use Rattle.tree_specs.specs.declared.frame.Purpose.TheVariants.{Removal, Emptying}
 use Rattle.tree_specs.specs.declared.free_step.FreeReply.{FreeReply}
 use Rattle.tree_specs.specs.declared.free_step.FreeReply.TheVariants as free_reply
 use Rattle.tree_specs.specs.declared.free_step.FreeReply.TheVariants.{Ok, Held, Running}
 use Rattle.tree_specs.specs.declared.free_step.FreeStep.{FreeStep}
-use Rattle.tree_specs.specs.declared.free_step.FreeStep.TheVariants.{Ask as AskOf, Prepare, Dropped, Refused, Accepted, Doom, Left, Moved, Gone}
+use Rattle.tree_specs.specs.declared.free_step.FreeStep.TheVariants.{Ask as AskOf, Prepare, Drain, Dropped, Refused, Accepted, Doom, Left, Moved, Gone}
 use Rattle.tree_specs.specs.Tree.Targets.{newest_ref}
 use Rattle.tree_specs.specs.Tree.Pool.{Pool, row_of, is_below, owner_of, target_at, newest_ref_of, noted_owner, is_inside, first_kid, detach, remove, place, set_mark, doom, set_hook}
 use Rattle.tree_specs.specs.Tree.Heirs.{heir}
-use Rattle.tree_specs.specs.Calls.Refusals.{is_request}
+use Rattle.tree_specs.specs.Calls.Refusals.{is_request, is_queue}
 
 -- a step of a free by itself
 abbrev pub FreeMove : Type 0
@@ -31,9 +31,13 @@ FreeMove = Move FreeFrame FreeReply Pool FreeStep
 abbrev pub begin_plain : Obj → ℕ → Pool → FreeMove
 begin_plain x h p = if nat_eq h 0 then Do.Go (Leaving x 0) p else Do.Go (Hooked x h) (set_mark p x mark.Asked)
 
+-- the entries of a quiet queue are freed first
+abbrev pub begin_unrequested : Obj → Kind → ℕ → Pool → FreeMove
+begin_unrequested x k h p = if is_queue k then Do.Go (Draining x) (set_mark p x mark.Asked) else begin_plain x h p
+
 -- a quiet request is received first
 abbrev pub begin_quiet : Obj → Kind → ℕ → Pool → FreeMove
-begin_quiet x k h p = if is_request k then Do.Go (Preparing x) (set_mark p x mark.Asked) else begin_plain x h p
+begin_quiet x k h p = if is_request k then Do.Go (Preparing x) (set_mark p x mark.Asked) else begin_unrequested x k h p
 
 -- the freeing of an object begins, by what is going on with it
 abbrev pub begin_by : Obj → Kind → ℕ → Mark → Pool → FreeMove
@@ -112,6 +116,7 @@ free_step (Beginning x) p = refs_step x (newest_ref p.rows x) p
 free_step (Hooked x h) p = Do.Wait (AskOf x) (Hooked x h) p
 free_step (Judged x h v) p = judge_step x h v p
 free_step (Preparing x) p = Do.Wait (Prepare x) (Preparing x) p
+free_step (Draining x) p = Do.Wait (Drain x) (Draining x) p
 free_step (Prepared x) p = Do.Go (Leaving x 0) (set_mark p x mark.Quiet)
 free_step (Dooming x) p = Do.Done Running p
 free_step (Leaving x h) p = Do.Emit (Left x (unwrap_or (owner_of p.rows x) Root)) (Looping x (Removal h)) (detach p x)

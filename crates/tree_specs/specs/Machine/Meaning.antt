@@ -8,7 +8,7 @@ use Rattle.tree_specs.specs.declared.question.Input.{Input}
 use Rattle.tree_specs.specs.declared.frame.Frame.{Frame}
 use Rattle.tree_specs.specs.declared.frame.Frame.TheVariants as frame
 use Rattle.tree_specs.specs.declared.frame.CallFrame.TheVariants.{Asking, Doing, Awaiting, Turning, Requesting, Announcing, Telling, Returning}
-use Rattle.tree_specs.specs.declared.frame.FreeFrame.TheVariants.{Unlinking, Releasing, Giving, Beginning, Hooked, Judged, Preparing, Prepared, Dooming, Leaving, Looping, FreeingChild, AfterChild, Ending}
+use Rattle.tree_specs.specs.declared.frame.FreeFrame.TheVariants.{Unlinking, Releasing, Giving, Beginning, Hooked, Judged, Preparing, Prepared, Dooming, Leaving, Looping, FreeingChild, AfterChild, Ending, Draining}
 use Rattle.tree_specs.specs.declared.frame.TurnFrame.TheVariants.{Taking, Timing, Timed, Polling, Starting, Firing, Handling, Handled, Clearing, Serving, Closing}
 use Rattle.tree_specs.specs.declared.frame.OutsideFrame.TheVariants.{Reaching, Opening, Hearing}
 use Rattle.tree_specs.specs.declared.frame.RequestFrame.{RequestFrame}
@@ -23,7 +23,7 @@ use Rattle.tree_specs.specs.declared.free_step.FreeReply.TheVariants.{Ok}
 use Rattle.tree_specs.specs.Tree.Pool.{Pool, remove}
 use Rattle.tree_specs.specs.Rules.Items.Item.{Told}
 use Rattle.tree_specs.specs.Rules.Sequence.{Work, Scene, CallStart, ◌>>=◌, ◌>>◌, gives, change, tells}
-use Rattle.tree_specs.specs.Rules.Story.{free, hooked, judged, preparing, prepared, dooming, leave, children, tried, asked, acting, telling, returning, announcing, unlink, release, given, turns, taking, timing, timed, polling, starting, firing, handling, handled, reaching, opening, hearing, closing, finishing, receiving, cancelling, cleaning, cleaned, notifying, calling, called, over}
+use Rattle.tree_specs.specs.Rules.Story.{free, hooked, judged, preparing, draining, prepared, dooming, leave, children, tried, asked, acting, telling, returning, announcing, unlink, release, given, turns, taking, timing, timed, polling, starting, firing, handling, handled, reaching, opening, hearing, closing, finishing, receiving, cancelling, cleaning, cleaned, notifying, calling, called, vacating, triggering, over}
 use Rattle.tree_specs.specs.Machine.Table.{table, notes, resume}
 use Rattle.tree_specs.specs.Machine.View.{View}
 
@@ -74,6 +74,9 @@ request_mean n (request.Notifying x errand) = answered (notifying n x errand)
 request_mean n (request.Calling what x handler errand) = answered (calling n what x handler errand)
 request_mean n (request.Called what x handler errand) = answered (called n what x handler errand)
 request_mean n (request.Releasing c) = gives (Freed Ok)
+request_mean n (request.Vacating q) = answered (vacating n q)
+request_mean n (request.Dropping q e) = gives (Freed Ok)
+request_mean n (request.Triggering q) = answered (triggering n q)
 request_mean n (request.Over r) = answered (over n r)
 
 -- what a work does, by the text
@@ -93,6 +96,7 @@ mean n (frame.Free (Beginning x)) b = freed (free n x)
 mean n (frame.Free (Hooked x h)) b = freed (hooked n x h)
 mean n (frame.Free (Judged x h v)) b = freed (judged n x h v)
 mean n (frame.Free (Preparing x)) b = freed (preparing n x)
+mean n (frame.Free (Draining x)) b = freed (draining n x)
 mean n (frame.Free (Prepared x)) b = freed (prepared n x)
 mean n (frame.Free (Dooming x)) b = freed (dooming n x)
 mean n (frame.Free (Leaving x h)) b = freed (leave n x h)

@@ -11,7 +11,7 @@ use Rattle.tree_specs.specs.declared.frame.Frame.TheVariants as frame
 use Rattle.tree_specs.specs.declared.frame.CallFrame.{CallFrame}
 use Rattle.tree_specs.specs.declared.frame.CallFrame.TheVariants.{Asking, Doing, Awaiting, Turning, Requesting, Announcing, Telling, Returning}
 use Rattle.tree_specs.specs.declared.frame.FreeFrame.{FreeFrame}
-use Rattle.tree_specs.specs.declared.frame.FreeFrame.TheVariants.{Unlinking, Releasing, Giving, Beginning, Hooked, Judged, Preparing, Prepared, Dooming, Leaving, Looping, FreeingChild, AfterChild, Ending}
+use Rattle.tree_specs.specs.declared.frame.FreeFrame.TheVariants.{Unlinking, Releasing, Giving, Beginning, Hooked, Judged, Preparing, Draining, Prepared, Dooming, Leaving, Looping, FreeingChild, AfterChild, Ending}
 use Rattle.tree_specs.specs.declared.frame.TurnFrame.{TurnFrame}
 use Rattle.tree_specs.specs.declared.frame.TurnFrame.TheVariants.{Taking, Timing, Timed, Polling, Starting, Firing, Handling, Handled, Clearing, Serving, Closing}
 use Rattle.tree_specs.specs.declared.frame.OutsideFrame.{OutsideFrame}
@@ -76,14 +76,16 @@ pub data Waits : Type 0 where
   AClear : Obj → Waits
   -- a call, for the work of a request
   ARequest : Waits
-  -- a free, until this request was received
-  AReceived : Obj → Waits
+  -- a free, until this request was received, or the entries of this queue were freed
+  APrepared : Obj → Waits
   -- a turn, for the work of this request
   AServed : Obj → Waits
   -- the work of a request, for the run of this request's routine
   ARoutine : Obj → Waits
   -- the work of a request, for the freeing of this object
   ARelease : Obj → Waits
+  -- the work of this queue, for the freeing of this entry
+  ADropping : Obj → Obj → Waits
 
 -- that something is going on with an object
 pub record Claim : Type 0 where
@@ -95,7 +97,7 @@ pub data Looks : Type 0 where
   AtNone : Looks
   -- at its own
   AtKids : Obj → Looks
-  -- those of the loop below it
+  -- what the work below it still wants: a loop looks at the children
   AtBelow : Looks
 
 -- what it costs until the next question, where it is innermost
@@ -174,17 +176,19 @@ abbrev pub a_loop : Obj → Purpose → FreeProfile
 a_loop x purpose = record (a_free x) { claims = loops x purpose; removes = loop_removes x purpose; size = loop_size purpose; top_size = loop_size purpose }
 
 abbrev pub free_profile : FreeFrame → FreeProfile
-free_profile (Unlinking o x) = record (a_free x) { cost = at_most 0 8 AtBelow }
-free_profile (Releasing x) = record (a_free x) { cost = at_most 0 7 AtBelow }
+free_profile (Unlinking o x) = record (a_free x) { cost = at_most 0 4 AtBelow }
+free_profile (Releasing x) = record (a_free x) { cost = at_most 0 3 AtBelow }
 free_profile (Giving x o) = record (a_free x) { cost = at_most 4 13 AtNone }
-free_profile (Beginning x) = record (a_free x) { cost = at_most 0 6 AtBelow }
+free_profile (Beginning x) = record (a_free x) { cost = at_most 0 2 AtBelow }
 -- an object that is to be asked pays for the run that comes
 free_profile (Hooked x h) = record (a_free x) { waits = ARun x h; claims = runs x; size = 1; top_size = 3; waiting_cost = 3; cost = at_most 0 4 AtNone }
 free_profile (Judged x h v) = record (a_free x) { claims = runs x; size = 3; top_size = 3; cost = at_most 4 13 AtNone }
 -- a request that is to be received pays for the routines that run
-free_profile (Preparing x) = record (a_free x) { waits = AReceived x; claims = runs x; size = 1; top_size = 3; cost = at_most 0 5 AtNone }
+free_profile (Preparing x) = record (a_free x) { waits = APrepared x; claims = runs x; size = 1; top_size = 3; cost = at_most 0 5 AtNone }
+-- so does a queue for its entries
+free_profile (Draining x) = record (a_free x) { waits = APrepared x; claims = runs x; size = 1; top_size = 3; cost = at_most 0 5 AtNone }
 free_profile (Prepared x) = record (a_free x) { claims = runs x; size = 3; top_size = 3; cost = at_most 0 1 AtNone }
-free_profile (Dooming x) = record (a_free x) { cost = at_most 0 5 AtBelow }
+free_profile (Dooming x) = record (a_free x) { cost = at_most 0 1 AtBelow }
 -- it runs until it leaves its owner, where a destructor has accepted
 free_profile (Leaving x h) = record (a_free x) {
   claims = if nat_eq h 0 then None else runs x;
@@ -297,6 +301,9 @@ request_profile (request.Calling what x handler errand) = a_work 3
 -- the routine weighs as much in its place
 request_profile (request.Called what x handler errand) = record (a_work 2) { waits = ARoutine x }
 request_profile (request.Releasing c) = record (a_work 0) { waits = ARelease c; size = caller_size }
+request_profile (request.Vacating q) = a_work 4
+request_profile (request.Dropping q e) = record (a_work 0) { waits = ADropping q e; size = caller_size }
+request_profile (request.Triggering q) = a_work 4
 request_profile (request.Over r) = a_work 3
 
 abbrev pub of_request : RequestProfile → Profile

@@ -19,7 +19,7 @@ use Rattle.tree_specs.specs.declared.handler.Handler.{Handler}
 use Rattle.tree_specs.specs.declared.wants.Want.{Want}
 use Rattle.tree_specs.specs.declared.watch.Watch.{Watch}
 use Rattle.tree_specs.specs.declared.moment.What.{What}
-use Rattle.tree_specs.specs.declared.moment.What.TheVariants.{Immediate as ForImmediate, Timer as ForTimer, Descriptor as ForDescriptor, Callback as ForCallback, Cleanup as ForCleanup, Cancel as ForCancel}
+use Rattle.tree_specs.specs.declared.moment.What.TheVariants.{Immediate as ForImmediate, Timer as ForTimer, Descriptor as ForDescriptor, Callback as ForCallback, Cleanup as ForCleanup, Cancel as ForCancel, Trigger as ForTrigger}
 use Rattle.tree_specs.specs.declared.event.Event.{Event}
 use Rattle.tree_specs.specs.declared.event.Event.TheVariants as event
 use Rattle.tree_specs.specs.declared.question.Ask.{Ask}
@@ -30,7 +30,7 @@ use Rattle.tree_specs.specs.declared.frame.Frame.TheVariants as frame
 use Rattle.tree_specs.specs.declared.frame.CallFrame.{CallFrame}
 use Rattle.tree_specs.specs.declared.frame.CallFrame.TheVariants.{Asking, Doing, Awaiting, Turning, Requesting, Announcing, Telling, Returning}
 use Rattle.tree_specs.specs.declared.frame.FreeFrame.{FreeFrame}
-use Rattle.tree_specs.specs.declared.frame.FreeFrame.TheVariants.{Unlinking, Beginning, Hooked, Judged, Preparing, Prepared, Looping}
+use Rattle.tree_specs.specs.declared.frame.FreeFrame.TheVariants.{Unlinking, Beginning, Hooked, Judged, Preparing, Prepared, Looping, Draining}
 use Rattle.tree_specs.specs.declared.frame.TurnFrame.{TurnFrame}
 use Rattle.tree_specs.specs.declared.frame.TurnFrame.TheVariants.{Taking, Timing, Timed, Polling, Starting, Firing, Handling, Handled, Clearing, Serving, Closing}
 use Rattle.tree_specs.specs.declared.frame.OutsideFrame.{OutsideFrame}
@@ -45,9 +45,10 @@ use Rattle.tree_specs.specs.declared.frame.Answer.TheVariants.{Freed, Returned, 
 use Rattle.tree_specs.specs.declared.free_step.FreeReply.{FreeReply}
 use Rattle.tree_specs.specs.declared.free_step.FreeReply.TheVariants.{Ok}
 use Rattle.tree_specs.specs.declared.free_step.FreeStep.{FreeStep}
-use Rattle.tree_specs.specs.declared.free_step.FreeStep.TheVariants.{Ask as AskOf, Prepare, Dropped, Refused, Accepted, Doom, Left, Moved, Gone, Done as Over}
-use Rattle.tree_specs.specs.Tree.Pool.{Pool, set_mark, schedule, unschedule, disarm, open_descriptor, renote, finish, receive}
+use Rattle.tree_specs.specs.declared.free_step.FreeStep.TheVariants.{Ask as AskOf, Prepare, Dropped, Refused, Accepted, Doom, Left, Moved, Gone, Done as Over, Drain}
+use Rattle.tree_specs.specs.Tree.Pool.{Pool, set_mark, schedule, unschedule, disarm, open_descriptor, renote, finish, receive, run_queue, trigger}
 use Rattle.tree_specs.specs.Events.Pending.{first}
+use Rattle.tree_specs.specs.Events.Queues.{Head, has_queue, head_of, next_of}
 use Rattle.tree_specs.specs.Events.Requests.{state_number, note_of, is_noted, is_unreceived, cleanup_in, cancel_in, cleaned, not_deferring}
 use Rattle.tree_specs.specs.Rules.Errands.{reply_to, cancelled_reply, is_receive, after_routine}
 use Rattle.tree_specs.specs.Events.Rotation.{Ready, closes_with, first_ready}
@@ -76,6 +77,7 @@ closed_event (Some fd) = Some (event.Closed fd)
 abbrev pub event_of : List Watch → FreeStep → Option Event
 event_of ring (AskOf x) = None
 event_of ring (Prepare x) = None
+event_of ring (Drain x) = None
 event_of ring (Dropped r target) = Some (event.Unreferenced r target)
 event_of ring (Refused x v) = Some (event.Refused x v)
 event_of ring (Accepted x) = Some (event.Accepted x)
@@ -89,10 +91,11 @@ abbrev pub announced : Option Event → FreeFrame → Pool → Step
 announced None f p = Do.Go (frame.Free f) p
 announced (Some e) f p = Do.Emit (Told e) (frame.Free f) p
 
--- what a free waits for: the run of a destructor, or that a request is received
+-- what a free waits for: the run of a destructor, that a request is received, or that the entries of a queue are freed
 abbrev pub run_for : FreeFrame → Frame
 run_for (Hooked x h) = frame.Call (Asking (Routine (hook_moment x h)))
 run_for (Preparing x) = frame.Request (request.Receiving x)
+run_for (Draining x) = frame.Request (request.Vacating x)
 run_for f = frame.Free f
 
 -- a step of a free, among the host's works, with what was watched before it
@@ -165,10 +168,20 @@ abbrev pub due_step : Option Due → Pool → Step
 due_step None p = Do.Go (frame.Turn (Polling wait_limit)) p
 due_step (Some d) p = if nat_eq d.time 0 then due_now d.object 0 p else Do.Go (frame.Turn (Timing false)) p
 
+-- what has come is a queue, whose first entry is triggered, or it is an event, which starts
+abbrev pub queue_step : Bool → Obj → Pool → Step
+queue_step true x p = Do.Call (frame.Request (request.Triggering x)) (frame.Turn (Serving x)) p
+queue_step false x p = Do.Go (frame.Turn (Starting ForImmediate x plainly)) p
+
+-- or it is a request, which is notified
+abbrev pub soon_step : Bool → Obj → Pool → Step
+soon_step true x p = Do.Call (work_of Notify x) (frame.Turn (Serving x)) p
+soon_step false x p = queue_step (has_queue p.queues x) x p
+
 -- those that come soon are first
 abbrev pub taking_step : Option Obj → Pool → Step
 taking_step None p = due_step (first p.times) p
-taking_step (Some x) p = come_step (is_noted p.requests x) Notify ForImmediate x plainly (unschedule p x)
+taking_step (Some x) p = soon_step (is_noted p.requests x) x (unschedule p x)
 
 -- where the first time hasn't come it is asked once what is ready, until then at the longest
 abbrev pub early_step : Bool → Due → ℕ → Pool → Step
@@ -257,6 +270,16 @@ abbrev pub receiving_step : Obj → Bool → Pool → Step
 receiving_step x true p = Do.Emit (Told (event.State x (state_number Received))) (frame.Request (request.Cleaning x Receive)) (receive p x)
 receiving_step x false p = over_step Receive p
 
+-- the first entry of a queue is freed; it doesn't run meanwhile
+abbrev pub vacating_step : Obj → Option Head → Pool → Step
+vacating_step q None p = Do.Go (frame.Request (request.Over reply.Ok)) p
+vacating_step q (Some h) p = Do.Call (frame.Free (Beginning h.object)) (frame.Request (request.Dropping q h.object)) p
+
+-- the trigger of an entry runs for its request
+abbrev pub triggering_step : Option Head → Pool → Step
+triggering_step None p = Do.Go (frame.Request (request.Over reply.Ok)) p
+triggering_step (Some h) p = Do.Emit (Told (event.Fired ForTrigger h.entry.request h.entry.trigger.routine)) (frame.Request (request.Called ForTrigger h.entry.request h.entry.trigger Notify)) (trigger p h)
+
 abbrev pub request_step : RequestFrame → Pool → Step
 request_step (request.Finishing x state) p = Do.Emit (Told (event.State x (state_number state))) (frame.Request (request.Cleaning x (Finish state))) (finish p x state)
 request_step (request.Receiving x) p = receiving_step x (is_unreceived (note_of p.requests x)) p
@@ -268,6 +291,9 @@ request_step (request.Calling what x handler errand) p = Do.Emit (Told (event.Fi
 request_step (request.Called what x handler errand) p = Do.Call (frame.Call (Asking (Routine (handler_moment what x handler plainly)))) (frame.Request (request.Called what x handler errand)) p
 -- it waits for the work above it
 request_step (request.Releasing c) p = Do.Done (Freed Ok) p
+request_step (request.Vacating q) p = vacating_step q (head_of p.queues q) (run_queue p q false)
+request_step (request.Dropping q e) p = Do.Done (Freed Ok) p
+request_step (request.Triggering q) p = triggering_step (next_of p.queues q) p
 request_step (request.Over r) p = Do.Done (Heard r) p
 
 -- ---- all works
@@ -305,6 +331,7 @@ caller_resume f a = f
 abbrev pub freeing_resume : FreeFrame → Answer → FreeFrame
 freeing_resume (Hooked x h) a = Judged x h (value_in a)
 freeing_resume (Preparing x) a = Prepared x
+freeing_resume (Draining x) a = Prepared x
 freeing_resume f a = free_resume f (reply_in a)
 
 abbrev pub turn_resume : TurnFrame → TurnFrame
@@ -317,6 +344,7 @@ abbrev pub request_resume : RequestFrame → Answer → RequestFrame
 request_resume (request.Called what x handler errand) a =
     after_routine what (request.Cleaned x errand) (request.Over (cancelled_reply (value_in a))) (request.Over (reply_to errand))
 request_resume (request.Releasing c) a = request.Over (reply_to Receive)
+request_resume (request.Dropping q e) a = request.Vacating q
 request_resume f a = f
 
 abbrev pub resume : Frame → Answer → Frame

@@ -1,5 +1,5 @@
 -- Stories that break one rule each, of orderly lists of items and of grounded stories.
-use Rattle.std.specs.Prelude.{ℕ, List, [], ◌∷◌, Some, None}
+use Rattle.std.specs.Prelude.{ℕ, false, List, [], ◌∷◌, Some, None}
 use Rattle.tree_specs.specs.declared.object.Obj.{Obj}
 use Rattle.tree_specs.specs.declared.object.Owner.TheVariants.{Root, Of}
 use Rattle.tree_specs.specs.declared.kind.Kind.TheVariants as kind
@@ -15,7 +15,7 @@ use Rattle.tree_specs.specs.declared.reply.Reply.TheVariants.{Ok, No}
 use Rattle.tree_specs.specs.declared.reply.Refusal.TheVariants.{NoSuch, Held, Running, Refused as RefusedBy}
 use Rattle.tree_specs.specs.declared.event.Event.{Event}
 use Rattle.tree_specs.specs.declared.event.Event.TheVariants.{Replied, Fired, Accepted, Refused, Moved, Warned, Freed, Unreferenced, State}
-use Rattle.tree_specs.specs.Tree.Pool.{Pool, empty, add, set_mark}
+use Rattle.tree_specs.specs.Tree.Pool.{Pool, empty, add, set_mark, add_request, add_queue, add_entry, run_queue}
 use Rattle.tree_specs.specs.Rules.Items.{Item}
 use Rattle.tree_specs.specs.Rules.Items.Item.{Told, Asked}
 use Rattle.tree_specs.specs.Rules.Sequence.{Scene}
@@ -200,6 +200,14 @@ fired_as_another_kind = seen (set_mark one_timer a mark.Busy) (told (Fired what.
 -- a routine of a request runs for a plain object
 abbrev pub called_back_for_no_request : List Scene
 called_back_for_no_request = seen one_object (told (Fired what.Callback a 16)) ∷ []
+
+-- a queue that doesn't run, and an entry in it of the second object, a request
+abbrev pub one_stopped : Pool
+one_stopped = run_queue (add_entry (add_request (add_queue (empty 1) Root (97 ∷ [])) Root 0 (97 ∷ [])) a b (record { routine = 16; user = 0 })) a false
+
+-- its trigger runs although it isn't its turn
+abbrev pub triggered_out_of_turn : List Scene
+triggered_out_of_turn = seen one_stopped (told (Fired what.Trigger b 16)) ∷ []
 
 abbrev pub accepted_unasked : List Scene
 accepted_unasked = seen (set_mark one_object a mark.Asked) (told (Accepted a)) ∷ []

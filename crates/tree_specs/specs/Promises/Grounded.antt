@@ -1,6 +1,6 @@
 -- When a story over its inputs is grounded: what it tells of an object agrees with the pool at that time, and has its cause.
 use Rattle.tree_specs.specs.Tree.Targets.{newest_ref}
-use Rattle.std.specs.Prelude.{◌≡◌, ◌≢◌, ◌↔◌, Bool, true, false, List, Option, Some, None}
+use Rattle.std.specs.Prelude.{ℕ, ◌≡◌, ◌≢◌, ◌↔◌, Bool, true, false, List, Option, Some, None}
 use Rattle.step_machine.specs.History.{EachFits}
 use Rattle.step_machine.specs.Open.{LastIs}
 use Rattle.tree_specs.specs.declared.object.Obj.{Obj}
@@ -23,7 +23,8 @@ use Rattle.tree_specs.specs.declared.question.Input.{Input}
 use Rattle.tree_specs.specs.declared.event.Event.TheVariants.{Replied, Fired, Accepted, Refused, Unreferenced}
 use Rattle.tree_specs.specs.Words.Objects.{same}
 use Rattle.tree_specs.specs.Tree.Pool.{Pool, row_of, passes, is_object, is_owner, is_inside}
-use Rattle.tree_specs.specs.Calls.Refusals.{is_held, is_running, is_interested}
+use Rattle.tree_specs.specs.Events.Queues.{Head, next_of}
+use Rattle.tree_specs.specs.Calls.Refusals.{is_held, is_running, is_interested, is_entry_row}
 use Rattle.tree_specs.specs.Rules.Items.{Item}
 use Rattle.tree_specs.specs.Rules.Items.Item.{Told}
 use Rattle.tree_specs.specs.Promises.Orderly.{asks_hook}
@@ -113,9 +114,22 @@ is_asked_mark m = false
 abbrev pub is_asked : Pool → Obj → Bool
 is_asked p x = passes (λ r. is_asked_mark r.mark) (row_of p.rows x)
 
--- a routine starts for a live object; a destructor accepts right after a question to it, while its object is asked
+-- an entry of this request, with this routine, is the first in a queue that runs, and its trigger hasn't begun
+pub record HasTurn (p : Pool) (x : Obj) (number : ℕ) : Type 0 where
+  pub queue : Obj
+  pub first : Head
+  pub next : next_of p.queues queue ≡ Some first
+  pub entry : is_entry_row (row_of p.rows first.object) ≡ true
+  pub request : first.entry.request ≡ x
+  pub routine : first.entry.trigger.routine ≡ number
+
+abbrev pub IsTurn : What → Pool → Obj → ℕ → Type 0
+IsTurn what.Trigger p x routine = HasTurn p x routine
+IsTurn w p x routine = Unit {0}
+
+-- a routine starts for a live object, and a trigger where it is its turn; a destructor accepts right after a question to it, while its object is asked
 abbrev pub Started : List Scene → Item → Pool → Type 0
-Started before (Told (Fired w x routine)) p = may_fire_row w (row_of p.rows x) ≡ true
+Started before (Told (Fired w x routine)) p = (may_fire_row w (row_of p.rows x) ≡ true) × IsTurn w p x routine
 Started before (Told (Accepted x)) p = (is_asked p x ≡ true) × LastIs (AsksHook x) before
 Started before item p = Unit {0}
 

@@ -30,7 +30,7 @@ use Rattle.tree_specs.specs.Events.Requests.{state_number, is_noted}
 use Rattle.tree_specs.specs.Events.Coming.{at_time}
 use Rattle.tree_specs.specs.Tree.Heirs.{heir}
 use Rattle.tree_specs.specs.Rules.Items.Item.{Told}
-use Rattle.tree_specs.specs.Calls.Refusals.{is_request}
+use Rattle.tree_specs.specs.Calls.Refusals.{is_request, is_queue}
 use Rattle.tree_specs.specs.Calls.Plans.{Plan, changed_by}
 use Rattle.tree_specs.specs.Calls.Plans.Plan.{Does, Frees, Unlinks, Empties, Asks, Turns, Works}
 use Rattle.tree_specs.specs.Rules.Answers.{freed_reply}
@@ -76,7 +76,7 @@ work_by finish notify receive cancel Notify x = notify x Notify
 work_by finish notify receive cancel Receive x = receive x
 work_by finish notify receive cancel Cancel x = cancel x
 
--- what has come is a request, whose errand is done, or it is an event, which starts
+-- what has come is a request or a queue, whose errand is done, or it is an event, which starts
 abbrev pub comes : Bool → Work Reply → Work ℕ → Work ℕ → Work ℕ
 comes true errand close start = do
   answer ← errand
@@ -151,14 +151,18 @@ from_newest (Some r) p x again outside unreferred = do
   drops r x
   if is_inside p.rows (Of r) (Of x) then again else outside r
 
--- An object with which nothing goes on is freed: a request is received first, one with a destructor is asked, and any other
--- leaves its owner at once.
-abbrev pub from_quiet : Row → Obj → Work FreeReply → Work FreeReply → Work FreeReply → Work FreeReply
-from_quiet r x receive ask leave =
+-- An object with which nothing goes on is freed: a request is received first, the entries of a queue are freed first, an object
+-- with a destructor is asked, and any other leaves its owner at once.
+abbrev pub from_quiet : Row → Obj → Work FreeReply → Work FreeReply → Work FreeReply → Work FreeReply → Work FreeReply
+from_quiet r x receive drain ask leave =
     if is_request r.kind
     then (do
       change (λ p. set_mark p x mark.Asked)
       receive)
+    else if is_queue r.kind
+    then (do
+      change (λ p. set_mark p x mark.Asked)
+      drain)
     else if nat_eq r.hook 0
     then leave
     else (do

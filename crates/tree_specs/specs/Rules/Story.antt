@@ -17,7 +17,7 @@ use Rattle.tree_specs.specs.declared.reply.Reply.{Reply}
 use Rattle.tree_specs.specs.declared.reply.Reply.TheVariants as reply
 use Rattle.tree_specs.specs.declared.event.Event.TheVariants.{Replied, Fired, Accepted, Refused, Moved, Freed}
 use Rattle.tree_specs.specs.declared.moment.What.{What}
-use Rattle.tree_specs.specs.declared.moment.What.TheVariants.{Immediate as ForImmediate, Descriptor as ForDescriptor, Callback as ForCallback, Cleanup as ForCleanup, Cancel as ForCancel}
+use Rattle.tree_specs.specs.declared.moment.What.TheVariants.{Immediate as ForImmediate, Descriptor as ForDescriptor, Callback as ForCallback, Cleanup as ForCleanup, Cancel as ForCancel, Trigger as ForTrigger}
 use Rattle.tree_specs.specs.declared.handler.Handler.{Handler}
 use Rattle.tree_specs.specs.declared.question.Ask.{Ask}
 use Rattle.tree_specs.specs.declared.question.Ask.TheVariants as ask
@@ -26,9 +26,10 @@ use Rattle.tree_specs.specs.declared.free_step.FreeReply.{FreeReply}
 use Rattle.tree_specs.specs.declared.free_step.FreeReply.TheVariants as free_reply
 use Rattle.tree_specs.specs.declared.free_step.FreeReply.TheVariants.{Ok, Held, Running}
 use Rattle.tree_specs.specs.Tree.Targets.{newest_ref}
-use Rattle.tree_specs.specs.Tree.Pool.{Pool, empty, row_of, owner_of, newest_ref_of, target_at, noted_owner, first_kid, detach, remove, place, set_mark, doom, set_hook, schedule, unschedule, open_descriptor, renote, finish, receive}
+use Rattle.tree_specs.specs.Tree.Pool.{Pool, empty, row_of, owner_of, newest_ref_of, target_at, noted_owner, first_kid, detach, remove, place, set_mark, doom, set_hook, schedule, unschedule, open_descriptor, renote, finish, receive, run_queue, trigger}
 use Rattle.tree_specs.specs.Events.Pending.{first}
 use Rattle.tree_specs.specs.Events.Requests.{note_of, is_noted, is_unreceived, cleanup_in, cancel_in, cleaned as is_cleaned, not_deferring}
+use Rattle.tree_specs.specs.Events.Queues.{has_queue, head_of, next_of}
 use Rattle.tree_specs.specs.Rules.Errands.{reply_to, cancelled_reply, is_receive, after_routine}
 use Rattle.tree_specs.specs.Events.Rotation.{first_ready}
 use Rattle.tree_specs.specs.Events.Coming.{wait_limit, handler_for, handler_moment, with_flags, plainly, begun, goes_after, looks_again}
@@ -69,7 +70,8 @@ abbrev mutual
 
   -- An object is freed. The newest reference to it is dropped first: one from inside makes the freeing begin again, and
   -- one from outside holds the object. One that is dying is left to the free that it is in, and one that runs can't be
-  -- freed now. With what is quiet it begins: a request is received first, and an object with a destructor is asked.
+  -- freed now. With what is quiet it begins: a request is received first, the entries of a queue are freed first, and an
+  -- object with a destructor is asked.
   pub free : ℕ → Obj → Work FreeReply
   free zero x = short
   free (suc n) x = do
@@ -77,7 +79,7 @@ abbrev mutual
     from_newest (newest_ref p.rows x) p x (free n x) (λ r. gives Held) (elim (row_of p.rows x) [
       | None ↦ gives Ok
       | Some r ↦ elim r.mark [
-        | mark.Quiet ↦ from_quiet r x (preparing n x) (hooked n x r.hook) (leave n x 0)
+        | mark.Quiet ↦ from_quiet r x (preparing n x) (draining n x) (hooked n x r.hook) (leave n x 0)
         | mark.Asked ↦ gives Running
         | mark.Busy ↦ (do
           lets_go x (λ q. doom q x)
@@ -92,6 +94,13 @@ abbrev mutual
   preparing zero x = short
   preparing (suc n) x = do
     answer ← receiving n x
+    prepared n x
+
+  -- the entries of a queue are freed, and then it leaves its owner
+  pub draining : ℕ → Obj → Work FreeReply
+  draining zero x = short
+  draining (suc n) x = do
+    answer ← vacating n x
     prepared n x
 
   pub prepared : ℕ → Obj → Work FreeReply
@@ -190,9 +199,9 @@ abbrev mutual
   returning zero v = short
   returning (suc n) v = gives v
 
-  -- A turn: one event or request comes. It is the first of those that come soon, or else the one with the first time, where
-  -- this has come: a request is notified, or times out. Where none has, it is asked which descriptors are ready, until then at
-  -- the longest.
+  -- A turn: one event, request or queue comes. It is the first of those that come soon, or else the one with the first time,
+  -- where this has come: a request is notified, or times out, and the first entry of a queue is triggered. Where none has, it
+  -- is asked which descriptors are ready, until then at the longest.
   pub taking : ℕ → Work ℕ
   taking zero = short
   taking (suc n) = do
@@ -200,7 +209,7 @@ abbrev mutual
     elim (first p.soon) [
       | Some x ↦ (do
         change (λ q. unschedule q x)
-        comes (is_noted p.requests x) (notifying n x Notify) (closing n 1) (starting n ForImmediate x plainly))
+        comes (is_noted p.requests x) (notifying n x Notify) (closing n 1) (comes (has_queue p.queues x) (triggering n x) (closing n 1) (starting n ForImmediate x plainly)))
       | None ↦ elim (first p.times) [
         | None ↦ polling n wait_limit
         | Some d ↦ if nat_eq d.time 0
@@ -354,6 +363,32 @@ abbrev mutual
   called (suc n) what x handler errand = do
     v ← asked n (ask.Routine (handler_moment what x handler plainly))
     after_routine what (cleaned n x errand) (over n (cancelled_reply v)) (over n (reply_to errand))
+
+  -- A queue is to be freed. It doesn't run any more, and its entries are freed before it, the first one first.
+  pub vacating : ℕ → Obj → Work Reply
+  vacating zero q = short
+  vacating (suc n) q = do
+    p ← pool
+    change (λ p'. run_queue p' q false)
+    elim (head_of p.queues q) [
+      | None ↦ over n reply.Ok
+      | Some h ↦ (do
+        answer ← free n h.object
+        vacating n q)
+    ]
+
+  -- the trigger of a queue's first entry runs for the request, where the queue runs and this waits for it
+  pub triggering : ℕ → Obj → Work Reply
+  triggering zero q = short
+  triggering (suc n) q = do
+    p ← pool
+    elim (next_of p.queues q) [
+      | None ↦ over n reply.Ok
+      | Some h ↦ (do
+        tells (Told (Fired ForTrigger h.entry.request h.entry.trigger.routine))
+        change (λ p'. trigger p' h)
+        called n ForTrigger h.entry.request h.entry.trigger Notify)
+    ]
 
   pub over : ℕ → Reply → Work Reply
   over zero r = short

@@ -6,6 +6,7 @@ use Rattle.tree_specs.specs.declared.watch.Watch.{Watch}
 use Rattle.tree_specs.specs.declared.request.Note.{Note}
 use Rattle.tree_specs.specs.declared.request.State.{State}
 use Rattle.tree_specs.specs.declared.request.State.TheVariants.{Received}
+use Rattle.tree_specs.specs.declared.queue.QueueEntry.{QueueEntry}
 use Rattle.tree_specs.specs.declared.object.Obj.{Obj}
 use Rattle.tree_specs.specs.declared.object.Owner.{Owner}
 use Rattle.tree_specs.specs.declared.object.Owner.TheVariants.{Root, Of}
@@ -13,13 +14,14 @@ use Rattle.tree_specs.specs.declared.row.Row.{Row}
 use Rattle.tree_specs.specs.declared.row.Mark.{Mark}
 use Rattle.tree_specs.specs.declared.row.Mark.TheVariants.{Quiet, Doomed, Dying}
 use Rattle.tree_specs.specs.declared.kind.Kind.{Kind}
-use Rattle.tree_specs.specs.declared.kind.Kind.TheVariants.{Plain, Request}
+use Rattle.tree_specs.specs.declared.kind.Kind.TheVariants.{Plain, Request, Queue, Entry}
 use Rattle.tree_specs.specs.Words.Objects.{same, same_owner}
 use Rattle.tree_specs.specs.Events.Pending.{scheduled, unscheduled, armed, disarmed}
 use Rattle.tree_specs.specs.Events.Rotation.{watched, unwatched, rewatched, turned_back, closes_with}
 use Rattle.tree_specs.specs.Events.Descriptors.{Descriptors, listener_alone, opened, closed, shut}
 use Rattle.tree_specs.specs.Events.Handlers.{Handlers, no_handlers, with_handler, without_handler}
 use Rattle.tree_specs.specs.Events.Requests.{Notes, no_notes, new_note, with_note, without_note, renoted, in_state}
+use Rattle.tree_specs.specs.Events.Queues.{Queues, Head, no_queues, with_queue, run_as, without_queue, new_entry, entry_of, with_entry, without_entry, next_of, triggered}
 use Rattle.tree_specs.specs.Tree.Targets.{target_of, is_target, is_reference, newest, newest_ref}
 
 pub record Pool : Type 0 where
@@ -37,10 +39,12 @@ pub record Pool : Type 0 where
   pub handlers : Handlers
   -- what is kept of requests
   pub requests : Notes
+  -- what is kept of queues, and of the entries in them
+  pub queues : Queues
 
 -- objects of which none waits for its turn
 abbrev pub of_rows : List Row → ℕ → Pool
-of_rows rows next = record { rows = rows; next = next; soon = []; times = []; ring = []; descriptors = listener_alone; handlers = no_handlers; requests = no_notes }
+of_rows rows next = record { rows = rows; next = next; soon = []; times = []; ring = []; descriptors = listener_alone; handlers = no_handlers; requests = no_notes; queues = no_queues }
 
 abbrev pub empty : ℕ → Pool
 empty first = of_rows [] first
@@ -179,14 +183,25 @@ take_number p = record p { next = p.next + 1 }
 abbrev pub left_row : Row → Row
 left_row r = record r { owner = None; mark = Dying (unwrap_or r.owner Root) }
 
--- an object's row is changed, and it waits for nothing any more; a descriptor that is to be closed with it is closed
+-- a queue that runs comes soon, where its first entry waits for its trigger
+abbrev pub looked_at : Queues → Obj → List Obj → List Obj
+looked_at qs q soon = if is_some (next_of qs q) then scheduled soon q else soon
+
+-- so it is with the queue that an entry has left
+abbrev pub looked_after : Queues → Option QueueEntry → List Obj → List Obj
+looked_after qs None soon = soon
+looked_after qs (Some e) soon = looked_at qs e.queue soon
+
+-- An object's row is changed, and it waits for nothing any more. A descriptor that is to be closed with it is closed, and an
+-- entry leaves its queue.
 abbrev pub let_go : Pool → Obj → (Row → Row) → Pool
 let_go p x change = record p {
   rows = changed change p.rows x;
-  soon = unscheduled p.soon x;
+  soon = looked_after (without_entry p.queues x) (entry_of p.queues x) (unscheduled p.soon x);
   times = disarmed p.times x;
   ring = unwatched p.ring x;
   descriptors = shut p.descriptors (closes_with p.ring x);
+  queues = without_entry p.queues x;
 }
 
 -- an object leaves its owner, and waits for nothing any more
@@ -194,7 +209,7 @@ abbrev pub detach : Pool → Obj → Pool
 detach p x = let_go p x left_row
 
 abbrev pub remove : Pool → Obj → Pool
-remove p x = record p { rows = without p.rows x; handlers = without_handler p.handlers x; requests = without_note p.requests x }
+remove p x = record p { rows = without p.rows x; handlers = without_handler p.handlers x; requests = without_note p.requests x; queues = without_queue p.queues x }
 
 -- a row is put below an owner, in front of all others
 abbrev pub in_front : Option Row → Owner → List Row → List Row
@@ -309,3 +324,25 @@ finish p x state = renote (disarm p x) x (in_state state)
 -- it was received, and comes no more
 abbrev pub receive : Pool → Obj → Pool
 receive p x = finish (unschedule p x) x Received
+
+-- ---- queues
+
+-- a queue runs from now on, or it doesn't
+abbrev pub run_queue : Pool → Obj → Bool → Pool
+run_queue p q running = record p { queues = run_as p.queues q running }
+
+-- a queue comes soon, where it runs and its first entry waits for its trigger
+abbrev pub look_at : Pool → Obj → Pool
+look_at p q = record p { soon = looked_at p.queues q p.soon }
+
+-- a new queue below an owner, which runs
+abbrev pub add_queue : Pool → Owner → List ℕ → Pool
+add_queue p o name = record (add p Queue o 0 name) { queues = with_queue p.queues (record { 0 = p.next }) true }
+
+-- a new entry of a queue, behind all others; it is a child of its request
+abbrev pub add_entry : Pool → Obj → Obj → Handler → Pool
+add_entry p q x trigger = look_at (record (add p Entry (Of x) 0 (codes "entry")) { queues = with_entry p.queues (record { 0 = p.next }) (new_entry q x trigger) }) q
+
+-- the trigger of an entry begins
+abbrev pub trigger : Pool → Head → Pool
+trigger p h = record p { queues = triggered p.queues h }

@@ -1,23 +1,42 @@
-use Rattle.std.proofs.Common.{◌≡◌, true, false, [], ◌∷◌, refl}
+use Rattle.std.proofs.Common.{◌≡◌, true, false, [], ◌∷◌, Some, None, refl}
+use Rattle.std.specs.declared.cmp.Ordering.{Ordering}
+use Rattle.std.specs.declared.cmp.Ordering.TheVariants.{Less, Equal, Greater}
+use Rattle.std.specs.Ordering.{nat_cmp}
+use Rattle.tree_specs.specs.declared.object.Obj.{Obj}
 use Rattle.tree_specs.specs.declared.event.Event.TheVariants.{Fired, Accepted}
-use Rattle.tree_specs.specs.Promises.BadStories.{one_object, one_timer, seen}
+use Rattle.tree_specs.specs.Promises.BadStories.{one_object, one_timer, one_stopped, seen}
 use Rattle.tree_specs.specs.declared.row.Mark.TheVariants as mark
 use Rattle.tree_specs.specs.Tree.Pool.{empty, set_mark}
 use Rattle.tree_specs.specs.declared.moment.What.TheVariants as what
-use Rattle.tree_specs.specs.Promises.BadStories.{a, asks_a, told}
+use Rattle.tree_specs.specs.Promises.BadStories.{a, b, asks_a, told}
+use Rattle.tree_specs.specs.Events.Queues.{runs}
 use Rattle.tree_specs.proofs.forbidden.routines_start_for_live_objects.Goals as goal
 
 pub returns-clause-missing : goal.returns-clause-missing
-returns-clause-missing c = λ is g. let o = g.each in let bad : false ≡ true = (o ([]) (seen (empty 1) (told (Fired what.Timer a 16))) [] refl).started in cc
+returns-clause-missing c = λ is g. let o = g.each in let bad : false ≡ true = (o ([]) (seen (empty 1) (told (Fired what.Timer a 16))) [] refl).started.0 in cc
 
 pub returns-clause-quiet : goal.returns-clause-quiet
-returns-clause-quiet c = λ is g. let o = g.each in let bad : false ≡ true = (o ([]) (seen one_timer (told (Fired what.Timer a 16))) [] refl).started in cc
+returns-clause-quiet c = λ is g. let o = g.each in let bad : false ≡ true = (o ([]) (seen one_timer (told (Fired what.Timer a 16))) [] refl).started.0 in cc
 
 pub returns-clause-kind : goal.returns-clause-kind
-returns-clause-kind c = λ is g. let o = g.each in let bad : false ≡ true = (o ([]) (seen (set_mark one_timer a mark.Busy) (told (Fired what.Descriptor a 16))) [] refl).started in cc
+returns-clause-kind c = λ is g. let o = g.each in let bad : false ≡ true = (o ([]) (seen (set_mark one_timer a mark.Busy) (told (Fired what.Descriptor a 16))) [] refl).started.0 in cc
 
 pub returns-clause-request : goal.returns-clause-request
-returns-clause-request c = λ is g. let o = g.each in let bad : false ≡ true = (o ([]) (seen one_object (told (Fired what.Callback a 16))) [] refl).started in cc
+returns-clause-request c = λ is g. let o = g.each in let bad : false ≡ true = (o ([]) (seen one_object (told (Fired what.Callback a 16))) [] refl).started.0 in cc
+
+-- no queue runs here
+stopped : (q : Obj) → runs one_stopped.queues q ≡ false
+stopped q = each (nat_cmp q.0 1) refl
+  where
+    each : (o : Ordering) → nat_cmp q.0 1 ≡ o → runs one_stopped.queues q ≡ false
+    each Less e = rw e refl
+    each Equal e = rw e refl
+    each Greater e = rw e refl
+
+pub returns-clause-turn : goal.returns-clause-turn
+returns-clause-turn c = λ is g.
+    let t = (g.each [] (seen one_stopped (told (Fired what.Trigger b 16))) [] refl).started.1 in
+    let e : None ≡ Some t.first = rw (stopped t.queue) at t.next in cc
 
 pub returns-clause-unasked : goal.returns-clause-unasked
 returns-clause-unasked c = λ is g. let o = g.each in (o [] (seen (set_mark one_object a mark.Asked) (told (Accepted a))) [] refl).started.1

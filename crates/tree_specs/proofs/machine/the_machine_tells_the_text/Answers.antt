@@ -39,7 +39,7 @@ pub returns-clause-cancel : goal.returns-clause-cancel
 returns-clause-cancel c = λ n x p is h. not-short-equal _ _ h (run-means n (with_note None (Request (Cancelling x))) p is)
 
 pub returns-clause-enough : goal.returns-clause-enough
-returns-clause-enough c = λ v is h. innermost-enough v is h.sound h.noted h.light
+returns-clause-enough c = λ v is h. innermost-enough v is h.sound h.noted h.queued h.seated h.light
 
 pub returns-clause-same : goal.returns-clause-same
 returns-clause-same c = λ v n is h big. innermost-more v n is h big

@@ -10,6 +10,7 @@ returns c =
       c.new.ensures.ring,
       none_listed c.new-2.result.pairs c.new-2.ensures.empty,
       c.new-3.ensures,
+      c.new-4.ensures,
       c.put.ensures,
       put_listed c.reserve.new.self.pairs 0 tt,
       none_listed c.reserve.new.self.pairs (c.reserve.ensures.pairs ∙ c.new-descriptors.ensures.empty),

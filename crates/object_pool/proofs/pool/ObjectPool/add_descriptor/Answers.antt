@@ -23,5 +23,5 @@ invariant_of-self c =
     (ap (λ (o : Objects). o.ready) c.self.view_is ∙ c.requires.ready) refl
     c.add_row-event.ensures.serial c.add_row-event.ensures.fresh c.add_row-event.ensures.rows c.add_row-event.ensures.works c.add_row-event.ensures.limits
     (λ le lt. let later = given-later _ c.add_row-event.new.tree.next before le c.self.invariant.given in
-    rw c.watch.ensures (record { times = later.times; ring = before-pushed watcher_number _ before.ring _ lt later.ring; requests = later.requests }))
+    rw c.watch.ensures (record { times = later.times; ring = before-pushed watcher_number _ before.ring _ lt later.ring; requests = later.requests; queues = later.queues; entries = later.entries }))
     c.self.invariant

@@ -4,7 +4,7 @@ use Rattle.tree_specs.specs.Calls.Refusals.{row_limit}
 use Rattle.tree_specs.specs.Events.Requests.{note_of}
 use Rattle.tree_specs.specs.Tree.Pool.{Pool}
 use Rattle.object_pool.specs.Objects.{Objects}
-use Rattle.object_pool.proofs.Given.{unnoted}
+use Rattle.object_pool.proofs.Given.{unkept}
 use Rattle.object_pool.proofs.Requesting.{new-owner, request-added}
 use Rattle.object_pool.proofs.pool.ObjectPool.add_request.Goals as goal
 
@@ -31,7 +31,7 @@ create-requires-clause-place c = (c.self.invariant.places (c.self.invariant.plac
 pub create-requires-clause-new : goal.create-requires-clause-new
 create-requires-clause-new c =
     let notes = c.self.inside.events.upcoming.requests in
-    subst (λ (x : Obj). note_of notes x ≡ None) (sym c.add_row-request.ensures.serial) (unnoted c.self.inside.tree.next notes c.self.invariant.given.requests)
+    subst (λ (x : Obj). note_of notes x ≡ None) (sym c.add_row-request.ensures.serial) (unkept c.self.inside.tree.next notes c.self.invariant.given.requests)
 
 pub invariant_of-self : goal.invariant_of-self
 invariant_of-self c =

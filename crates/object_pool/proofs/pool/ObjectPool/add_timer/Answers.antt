@@ -24,5 +24,5 @@ invariant_of-self c =
     timer.serial timer.fresh timer.rows timer.works timer.limits
     (λ le lt. let later = given-later _ c.add_row-timer.new.tree.next before le c.self.invariant.given in
     rw c.arm.ensures
-    (record { times = times-armed _ before.times c.add_row-timer.result c.args.time c.add_row-timer.result.0 lt later.times; ring = later.ring; requests = later.requests }))
+    (record { times = times-armed _ before.times c.add_row-timer.result c.args.time c.add_row-timer.result.0 lt later.times; ring = later.ring; requests = later.requests; queues = later.queues; entries = later.entries }))
     c.self.invariant

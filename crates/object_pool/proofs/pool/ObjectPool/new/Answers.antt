@@ -11,7 +11,7 @@ invariant_of-result c =
       limits = rw (c.new-5.ensures, rows) (record { limits = λ x. refl; bound = tt; sums = tt });
       kept = rw c.new-2.ensures c.new-3.ensures.works;
       room = rw (c.new-2.ensures, c.new-3.ensures.works) (omega arith);
-      given = rw c.in_ok-events.ensures (record { times = tt; ring = tt; requests = tt });
+      given = rw c.in_ok-events.ensures (record { times = tt; ring = tt; requests = tt; queues = tt; entries = tt });
       call = never;
       placed = never;
       places = never;

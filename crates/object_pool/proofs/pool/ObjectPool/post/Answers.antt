@@ -9,4 +9,4 @@ post-requires c = (c.self.invariant.places (c.self.invariant.placed (ap (λ (o :
 pub invariant_of-self : goal.invariant_of-self
 invariant_of-self c =
     let given = c.self.invariant.given in
-    waits c.self.inside c.post.new.self (rw c.post.ensures (record { times = given.times; ring = given.ring; requests = given.requests })) c.self.invariant
+    waits c.self.inside c.post.new.self (rw c.post.ensures (record { times = given.times; ring = given.ring; requests = given.requests; queues = given.queues; entries = given.entries })) c.self.invariant

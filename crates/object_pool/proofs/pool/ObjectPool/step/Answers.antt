@@ -1,10 +1,11 @@
-use Rattle.std.proofs.Common.{Some, sym, ap, subst, ◌∙◌}
+use Rattle.std.proofs.Common.{Option, Some, sym, ap, subst, ◌∙◌}
+use Rattle.tree_specs.specs.declared.free_step.FreeStep.{FreeStep}
 use Rattle.tree_specs.specs.Machine.Table.{event_of}
-use Rattle.destructors.specs.Frees.{before, frees_of, speaking, Steps}
+use Rattle.destructors.specs.Frees.{OpenFrees, before, frees_of, next_of, speaking, Steps}
 use Rattle.tree_links.specs.Links.{pool_of}
 use Rattle.object_pool.specs.Objects.{Objects, frees_in}
-use Rattle.object_pool.specs.Upcoming.{frees_beside, after, nothing_comes}
-use Rattle.object_pool.proofs.Beside.{goes_on-same, speaking-beside, steps-beside}
+use Rattle.object_pool.specs.Upcoming.{MayForget, frees_beside, after, nothing_comes}
+use Rattle.object_pool.proofs.Beside.{goes_on-same, next-beside, speaking-beside, steps-beside}
 use Rattle.object_pool.proofs.Fewer.{told-unreceived}
 use Rattle.object_pool.proofs.Keeping.{stepped}
 use Rattle.object_pool.proofs.Opening.{at_work-inside}
@@ -16,6 +17,14 @@ step-step-requires-clause-at_work c = at_work-inside c.self.inside c.args.self.n
 pub step-step-requires-clause-settled : goal.step-step-requires-clause-settled
 step-step-requires-clause-settled c =
     sym (speaking-beside c.self.inside.events.upcoming (frees_of c.self.inside.engine c.self.inside.tree)) ∙ ap (λ (o : Objects). speaking (frees_in o)) c.self.view_is ∙ c.requires.settled
+
+-- what is gone with this step is no queue that has entries
+pub follow-closed-requires : goal.follow-closed-requires
+follow-closed-requires c =
+    let u = c.self.inside.events.upcoming in
+    let s = frees_of c.self.inside.engine c.self.inside.tree in
+    subst (λ (told : Option FreeStep). MayForget told u.queues) (ap (λ (n : Option FreeStep × OpenFrees). n.0) (next-beside u s) ∙ c.step-step.ensures.steps.tells)
+    (subst (λ (o : Objects). MayForget (next_of (frees_in o)).0 o.pool.queues) (sym c.self.view_is) c.requires.emptied)
 
 pub invariant_of-self : goal.invariant_of-self
 invariant_of-self c =

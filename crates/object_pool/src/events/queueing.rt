@@ -1,0 +1,109 @@
+//! What is kept of queues, beside what is to come of them.
+ghost use Rattle.std.specs.Prelude.{◌≡◌, ◌<◌, ◌≤◌, None, Some, true, false, is_some, length};
+ghost use Rattle.std.specs.Option.{option_map};
+ghost use Rattle.tree_specs.specs.Events.Queues.{running_of, has_queue, run_as, length_of, head_of, next_of};
+ghost use Rattle.request_queue.specs.Register.{IsAbove, object_of, turn_of, triggered_by};
+ghost use Rattle.object_pool.specs.Upcoming.{HasPlace, KeepsPlaces, queued, entered, out_of_queue, running, with_queues};
+
+use crate::events::Events;
+use request_queue::Turn;
+use tree_specs::{Handler, Obj};
+
+impl Events {
+    /// A new queue, which runs.
+    pub fn add_queue(&mut self, q: Obj)
+        requires place { HasPlace self.old }
+        requires new { running_of self.old.upcoming.queues q ≡ None }
+        ensures { self.new.upcoming ≡ queued q self.old.upcoming }
+    {
+        self.queues.add_queue(q);
+    }
+
+    /// A new entry of a queue, behind all others; its number is above those of all entries. The queue comes soon, where it runs
+    /// and its first entry waits for its trigger.
+    pub fn add_entry(&mut self, q: Obj, e: Obj, request: Obj, trigger: Handler)
+        requires place { HasPlace self.old }
+        requires queue { has_queue self.old.upcoming.queues q ≡ true }
+        requires newest { IsAbove e self.old.upcoming.queues.entries }
+        ensures { self.new.upcoming ≡ entered q e request trigger self.old.upcoming }
+    {
+        if self.queues.add_entry(q, e, request, trigger) {
+            self.order.soon.push(q);
+        }
+    }
+
+    /// An entry leaves its queue, which comes soon where it runs and its first entry then waits for its trigger. Nothing changes
+    /// where it is no entry.
+    pub fn remove_entry(&mut self, e: Obj)
+        ensures upcoming { self.new.upcoming ≡ out_of_queue e self.old.upcoming }
+        ensures kept { KeepsPlaces self.old self.new }
+    {
+        if let Some(queue) = self.queues.remove_entry(e) {
+            self.order.soon.push(queue);
+        }
+    }
+
+    /// A queue runs from now on. One that didn't comes soon, where its first entry waits for its trigger.
+    pub fn start(&mut self, q: Obj)
+        requires { HasPlace self.old }
+        ensures { self.new.upcoming ≡ running q self.old.upcoming }
+    {
+        if self.queues.start(q) {
+            self.order.soon.push(q);
+        }
+    }
+
+    /// A queue doesn't run from now on.
+    pub fn stop(&mut self, q: Obj)
+        ensures upcoming { self.new.upcoming ≡ with_queues (run_as self.old.upcoming.queues q false) self.old.upcoming }
+        ensures kept { KeepsPlaces self.old self.new }
+    {
+        self.queues.stop(q);
+    }
+
+    /// How many queues there are.
+    pub fn count_queues(&self) -> usize
+        ensures { result ≡ length self.now.upcoming.queues.running }
+    {
+        self.queues.count()
+    }
+
+    /// The first entry of a queue. None exactly where it has none.
+    pub fn head(&self, q: Obj) -> Option<Obj>
+        ensures { result ≡ option_map object_of (head_of self.now.upcoming.queues q) }
+    {
+        self.queues.head(q)
+    }
+
+    /// The trigger of a queue's first entry begins, where the queue runs and it hasn't begun. None exactly where there is no such
+    /// entry.
+    pub fn trigger(&mut self, q: Obj) -> Option<Turn>
+        ensures turn { result ≡ option_map turn_of (next_of self.old.upcoming.queues q) }
+        ensures upcoming { self.new.upcoming ≡ with_queues (triggered_by (next_of self.old.upcoming.queues q) self.old.upcoming.queues) self.old.upcoming }
+        ensures many { length self.new.upcoming.queues.entries ≡ length self.old.upcoming.queues.entries }
+        ensures kept { KeepsPlaces self.old self.new }
+    {
+        self.queues.trigger(q)
+    }
+
+    /// Whether a queue runs and its first entry waits for its trigger.
+    pub fn queue_waits(&self, q: Obj) -> bool
+        ensures { result ≡ is_some (next_of self.now.upcoming.queues q) }
+    {
+        self.queues.waits(q)
+    }
+
+    /// How many entries a queue has. It is 0 where it is none.
+    pub fn queue_length(&self, q: Obj) -> u64
+        ensures { result ≡ length_of self.now.upcoming.queues q }
+    {
+        self.queues.length(q)
+    }
+
+    /// Whether a queue runs. None exactly where it is none.
+    pub fn queue_running(&self, q: Obj) -> Option<bool>
+        ensures { result ≡ running_of self.now.upcoming.queues q }
+    {
+        self.queues.running(q)
+    }
+}

@@ -1,0 +1,394 @@
+-- What each step keeps of what holds of queues.
+use Rattle.std.proofs.Common.{◌≡◌, ◌≢◌, ℕ, suc, zero, nat_eq, List, [], ◌∷◌, Option, Some, None, true, false, Bool, refl, sym, ap, subst, ◌∙◌, inl, inr}
+use Rattle.std.specs.Prelude.{is_some, codes, ◌+◌}
+use Rattle.step_machine.specs.Machine.{Move}
+use Rattle.step_machine.specs.Machine.{Move as Do}
+use Rattle.tree_specs.specs.declared.object.Obj.{Obj}
+use Rattle.tree_specs.specs.declared.object.Owner.{Owner}
+use Rattle.tree_specs.specs.declared.object.Owner.TheVariants.{Of}
+use Rattle.tree_specs.specs.declared.kind.Kind.{Kind}
+use Rattle.tree_specs.specs.declared.kind.Kind.TheVariants as kind
+use Rattle.tree_specs.specs.declared.row.Row.{Row}
+use Rattle.tree_specs.specs.declared.row.Mark.{Mark}
+use Rattle.tree_specs.specs.declared.row.Mark.TheVariants.{Quiet, Busy, Dying}
+use Rattle.tree_specs.specs.declared.call.Call.{Call}
+use Rattle.tree_specs.specs.declared.call.Call.TheVariants as call
+use Rattle.tree_specs.specs.declared.handler.Handler.{Handler}
+use Rattle.tree_specs.specs.declared.moment.What.{What}
+use Rattle.tree_specs.specs.declared.moment.What.TheVariants as whats
+use Rattle.tree_specs.specs.declared.notice.Notice.{Notice}
+use Rattle.tree_specs.specs.declared.question.Ask.{Ask}
+use Rattle.tree_specs.specs.declared.question.Ask.TheVariants as ask
+use Rattle.tree_specs.specs.declared.request.Note.{Note}
+use Rattle.tree_specs.specs.declared.request.State.TheVariants.{TimedOut}
+use Rattle.tree_specs.specs.declared.frame.Errand.{Errand}
+use Rattle.tree_specs.specs.declared.frame.Errand.TheVariants.{Finish, Notify, Receive, Cancel}
+use Rattle.tree_specs.specs.declared.frame.Frame.{Frame}
+use Rattle.tree_specs.specs.declared.frame.Frame.TheVariants as frame
+use Rattle.tree_specs.specs.declared.frame.CallFrame.TheVariants.{Asking, Doing, Awaiting, Turning, Requesting, Announcing, Telling, Returning}
+use Rattle.tree_specs.specs.declared.frame.FreeFrame.TheVariants.{Draining, Beginning, Unlinking}
+use Rattle.tree_specs.specs.declared.frame.TurnFrame.{TurnFrame}
+use Rattle.tree_specs.specs.declared.frame.TurnFrame.TheVariants.{Taking, Timing, Timed, Polling, Starting, Firing, Handling, Handled, Clearing, Serving, Closing}
+use Rattle.tree_specs.specs.declared.frame.OutsideFrame.{OutsideFrame}
+use Rattle.tree_specs.specs.declared.frame.OutsideFrame.TheVariants.{Reaching, Opening, Hearing}
+use Rattle.tree_specs.specs.declared.frame.RequestFrame.{RequestFrame}
+use Rattle.tree_specs.specs.declared.frame.RequestFrame.TheVariants as request
+use Rattle.tree_specs.specs.declared.frame.Answer.TheVariants.{Returned, Turned, Heard}
+use Rattle.tree_specs.specs.declared.free_step.FreeReply.TheVariants.{Ok as FreeOk}
+use Rattle.tree_specs.specs.Tree.Targets.{newest_ref, target_of}
+use Rattle.tree_specs.specs.Tree.Pool.{Pool, row_of, passes, changed, set_mark, marked_row, run_queue, trigger, open_descriptor, finish, receive, renote, schedule, look_at, add, note, is_below, owner_of, newest_ref_of, is_dying_mark}
+use Rattle.tree_specs.specs.Events.Queues.{Head, entry_of, is_entered, head_of, has_entries, next_of, runs, has_queue, head_in}
+use Rattle.tree_specs.specs.Events.Requests.{note_of, is_unreceived, cleanup_in, cancel_in, cleaned, not_deferring, new_note}
+use Rattle.tree_specs.specs.Events.Coming.{comes_as, handler_for, goes_after, begun, handler_moment, plainly}
+use Rattle.tree_specs.specs.Calls.Passed.{AllPassed, Passed}
+use Rattle.tree_specs.specs.Calls.Refusals.{Check, tests, refusals, is_queue, is_entry, is_plain, is_going, is_going_mark, is_entry_row, is_queue_row, is_plain_row}
+use Rattle.tree_specs.specs.Calls.Plans.{Change, Plan, plan, planned, unless_refused, changed_by, frees, handed, gift}
+use Rattle.tree_specs.specs.Calls.Plans.Change.{Nothing, Edit, Add, Place, AddQueue, AddEntry, AddRequest, Runs, Then}
+use Rattle.tree_specs.specs.Calls.Plans.Plan.{Does, Frees, Unlinks, Empties, Asks, Turns, Works}
+use Rattle.tree_specs.specs.Machine.Table.{Step, step, plan_step, turning_step, notice_step, starting_step, handled_step, turn_step, outside_step, cancelling_step, cleaning_step, release_object, cleaned_step, callback_step, notifying_step, vacating_step, triggering_step, request_step}
+use Rattle.tree_specs.specs.Invariants.Sound.{Footing, OnFree, footing, phases, phase_of, claims, IsRequested, Drains, Rests, Sound, IsLive, Refers}
+use Rattle.tree_specs.specs.Invariants.Consistent.{IsStacked}
+use Rattle.tree_specs.specs.Invariants.Queued.{IsEntryRow, is_live_entry, drains, QueuesHold, OverFor, EndsFor, Queued, RestsQueued, IsOfChild}
+use Rattle.tree_specs.proofs.Tree.Numbered.{by_test, same-equal}
+use Rattle.tree_specs.proofs.Invariants.Changes.{nobody, handling-row, claim-here, new-sound}
+use Rattle.tree_specs.proofs.Invariants.Turning.{Passes, Pass, Trigger, Serve, handler-ready, rotated-rows, look-passes, taken-plain}
+use Rattle.tree_specs.proofs.Invariants.Queues.{no-entries, same-queues, changed-queues, placed-queues, added-queues, new-queue-holds, new-entry-holds, ran-queues, triggered-queues, next-head, not-entered}
+use Rattle.tree_specs.proofs.Invariants.FreeQueues.{QueuedBy, requested-over, no-work-over, no-free-ends, ended, lifted-queued, free-queued}
+use Rattle.tree_specs.proofs.Calls.Checks.{all-pass, heard-leads, Heard as HeardBy, HeardCall, HeardReturn, reached-leads, Reached, ReachedOpening, ReachedHearing}
+use Rattle.tree_specs.proofs.Calls.Plans.{May, may-planned}
+use Rattle.tree_specs.proofs.Calls.Changes.{MayDo, change-sound}
+use Rattle.tree_specs.specs.Machine.Profiles.{InHandler}
+use Rattle.tree_specs.specs.Tree.Forest.{Distinct}
+use Rattle.tree_specs.proofs.Tree.Referring.{newest-of-refers}
+use Rattle.tree_specs.specs.declared.occasion.Occasion.{Occasion}
+use Rattle.tree_specs.specs.Machine.FreeTable.{free_step}
+
+-- a work goes on as another that drains as much and is no free
+pub goes : (f g : Frame) (fs : List Frame) (p q : Pool) → q.rows ≡ p.rows → q.queues ≡ p.queues → ((y : Obj) → drains y (f ∷ fs) ≡ true → drains y (g ∷ fs) ≡ true) → QueuesHold (f ∷ fs) p → QueuesHold (g ∷ fs) q
+goes f g fs p q rows queues more h = same-queues (f ∷ fs) (g ∷ fs) p q h rows queues (λ y t d. more y d)
+
+-- ---- calls
+
+-- what a change says of queues: what is edited keeps its destructor or is no entry, what is placed is no entry, a new row is
+-- neither, and nothing goes on with a queue that gets an entry
+abbrev KeepsQueues : Pool → Change → Type 0
+KeepsQueues p (Edit x g) = ((r : Row) → row_of p.rows x ≡ Some r → is_entry r.kind ≡ true → (g r).hook ≡ r.hook)
+KeepsQueues p (Add k o size name) = (is_queue k ≡ false) × (is_entry k ≡ false)
+KeepsQueues p (Place o x) = is_entry_row (row_of p.rows x) ≡ false
+KeepsQueues p (AddEntry q x trigger) = is_going p q ≡ false
+KeepsQueues p (Then first second) = KeepsQueues p first × KeepsQueues (changed_by first p) second
+KeepsQueues p change = Unit {0}
+
+abbrev PlanKeeps : Pool → Plan → Type 0
+PlanKeeps p (Does change notice r) = KeepsQueues p change
+PlanKeeps p (Works change errand x) = KeepsQueues p change
+PlanKeeps p plan = Unit {0}
+
+-- what a change leads to
+change-queues : (fs gs : List Frame) (f : Frame) (below : List Frame) (p : Pool) (c : Change) → Sound f below p → ((q : Pool) → Rests f below q) → MayDo p c → KeepsQueues p c → ((y : Obj) → drains y fs ≡ true → drains y gs ≡ true) → QueuesHold fs p
+    → QueuesHold gs (changed_by c p)
+change-queues fs gs f below p (Edit x g) s calm may keeps more h = changed-queues g fs gs p x may.row h may.is may.place.serial may.place.kind (ap is_dying_mark (may.mark may.row))
+    (λ t o w. let k = may.place.kind may.row in (k' k w.0, may.mark may.row ∙ w.1, keeps may.row may.is w.0 ∙ w.2, may.place.owner may.row ∙ w.3)) (λ y ne t d. more y d)
+    (λ t i. elim i [
+      | inl none ↦ inl (ap phase_of (may.mark may.row) ∙ none)
+      | inr d ↦ inr (more x d)
+    ])
+  where
+    k' : {a b : Kind} → a ≡ b → is_entry b ≡ true → is_entry a ≡ true
+    k' e t = ap is_entry e ∙ t
+change-queues fs gs f below p (Add k o size name) s calm may keeps more h = added-queues p (nobody p s.valid) fs gs k o size name _ keeps.0 keeps.1 refl refl more h
+change-queues fs gs f below p (AddRequest o size name) s calm may keeps more h =
+    let a : Pool = add p kind.Request o 0 (codes "req") in
+    let n : Note = new_note (record { 0 = p.next + 1 }) in
+    let b : Pool = note a (record { 0 = p.next }) n in
+    let hb : QueuesHold gs b = added-queues p (nobody p s.valid) fs gs kind.Request o 0 (codes "req") b refl refl refl refl more h in
+    let sa = new-sound f f kind.Request o 0 (codes "req") below p s may.0 (λ t e. cc) (λ y. refl) (calm a) in
+    added-queues b (nobody b sa.valid) gs gs kind.Plain (Of (record { 0 = p.next })) size name _ refl refl refl refl (λ y d. d) hb
+change-queues fs gs f below p (Place o x) s calm may keeps more h = placed-queues fs gs p o x may (not-entered p fs x h (not-live (row_of p.rows x) keeps)) h more
+  where
+    not-live : (w : Option Row) → is_entry_row w ≡ false → is_live_entry w ≡ false
+    not-live None e = refl
+    not-live (Some r) e = rw e refl
+change-queues fs gs f below p (AddQueue o name) s calm may keeps more h = new-queue-holds p (nobody p s.valid) fs gs o name more h
+change-queues fs gs f below p (AddEntry q x trigger) s calm may keeps more h = new-entry-holds p (nobody p s.valid) fs gs q x trigger may.0 may.2 (idle (row_of p.rows q) keeps) more h
+  where
+    marks : (m : Mark) → is_going_mark m ≡ false → phase_of m ≡ []
+    marks Quiet e = refl
+    marks _ e = cc
+
+    idle : (w : Option Row) → passes (λ r. is_going_mark r.mark) w ≡ false → phases w ≡ []
+    idle None e = refl
+    idle (Some r) e = marks r.mark e
+change-queues fs gs f below p (Runs q b) s calm may keeps more h = ran-queues fs gs p q b more h
+change-queues fs gs f below p (Then c d) s calm may keeps more h =
+    let t = change-sound f f below p c s may.0 (λ y. refl) calm (calm (changed_by c p)) in
+    change-queues gs gs f below (changed_by c p) d t calm may.1 keeps.1 (λ y d. d) (change-queues fs gs f below p c s calm may.0 keeps.0 more h)
+change-queues fs gs f below p c s calm may keeps more h = same-queues fs gs p (changed_by c p) h refl refl (λ y t d. more y d)
+
+module _ (p : Pool) (refers : Refers p.rows) (distinct : Distinct p.rows) where
+  freed : (x : Obj) (r : Option Obj) → PlanKeeps p (frees r x)
+  freed x None = tt
+  freed x (Some r) = tt
+
+  -- what a call gives away is no entry
+  given : (from to : Owner) (x : Obj) → is_entry_row (row_of p.rows x) ≡ false → KeepsQueues p (handed to (gift p from x))
+  given from to x movable = by_test (is_below (owner_of p.rows x) from)
+      (λ t. rw t movable)
+      (λ t. rw t (each (newest_ref_of p.rows from x) refl))
+    where
+      reference : (k : Kind) (t : Obj) → target_of k ≡ Some t → is_entry k ≡ false
+      reference (kind.Reference t) t' e = refl
+      reference _ t e = cc
+
+      each : (o : Option Obj) → newest_ref_of p.rows from x ≡ o → KeepsQueues p (handed to o)
+      each None e = tt
+      each (Some r) e = let w = newest-of-refers p.rows from x r distinct e in ap is_entry_row w.1 ∙ reference w.0.kind x w.2
+
+  plain-only : (x : Obj) → is_plain_row (row_of p.rows x) ≡ true → (r : Row) → row_of p.rows x ≡ Some r → is_entry r.kind ≡ true → ⊥
+  plain-only x plain r e entry = kinds r.kind (let t : is_plain_row (Some r) ≡ true = rw e at plain in t) entry
+    where
+      kinds : (k : Kind) → is_plain k ≡ true → is_entry k ≡ true → ⊥
+      kinds kind.Plain a b = cc
+      kinds _ a b = cc
+
+  each : (c : Call) → AllPassed p (tests c) → PlanKeeps p (plan p c)
+  each (call.New o size name) h = (refl, refl)
+  each (call.Free x) h = freed x (newest_ref p.rows x)
+  each (call.Steal o x) h = h.1.0
+  each (call.Move o x) h = h.1.0
+  each (call.Reparent from to x) h = given from to x h.1.0
+  each (call.Reference o x) h = (refl, refl)
+  each (call.Hook x routine) h = λ r e entry. absurd (plain-only x h.1.0 r e entry)
+  each (call.Unhook x) h = λ r e entry. absurd (plain-only x h.1.0 r e entry)
+  each (call.Rename x name) h = λ r e entry. refl
+  each (call.Resize x size) h = λ r e entry. refl
+  each (call.Limit x max) h = λ r e entry. refl
+  each (call.Immediate o) h = (refl, refl)
+  each (call.Schedule x routine user) h = by_test (nat_eq routine 0) (λ t. rw t tt) (λ t. rw t (tt, tt))
+  each (call.Timer o time routine user) h = ((refl, refl), (tt, tt))
+  each (call.Fd o fd flags routine user) h = ((refl, refl), (tt, tt))
+  each (call.Error x error) h = by_test (nat_eq error 0) (λ t. rw t tt) (λ t. rw t tt)
+  each (call.Endtime x time) h = (tt, tt)
+  each (call.Enqueue q x routine user) h = h.1.1.0
+  each (call.Start q) h = by_test (runs p.queues q) (λ t. rw t tt) (λ t. rw t (tt, tt))
+  each _ h = tt
+
+  plan-keeps : (c : Call) → PlanKeeps p (planned p c)
+  plan-keeps c = by-check (refusals p c) refl
+    where
+      by-check : (check : Check) → refusals p c ≡ check → PlanKeeps p (unless_refused check (plan p c))
+      by-check [] none = each c (all-pass p (tests c) none)
+      by-check (why ∷ later) e = tt
+
+planned-queued : (q : Ask) (c : Call) (fs : List Frame) (p : Pool) (k : ℕ) → Sound (frame.Call (Doing q c)) fs p → Queued (frame.Call (Doing q c)) fs p → (plan : Plan) → May p plan → PlanKeeps p plan → QueuedBy (plan_step q plan p) fs k
+planned-queued q c fs p k s u plan may keeps = each plan may keeps
+  where
+    f : Frame
+    f = frame.Call (Doing q c)
+
+    -- over the objects as they are, a work below which nothing of queues is known
+    stays : (gs : List Frame) → ((y : Obj) → drains y (f ∷ fs) ≡ true → drains y gs ≡ true) → QueuesHold gs p
+    stays gs more = same-queues (f ∷ fs) gs p p u.pool refl refl (λ y t d. more y d)
+
+    over : (gs : List Frame) (change : Change) → MayDo p change → KeepsQueues p change → ((y : Obj) → drains y (f ∷ fs) ≡ true → drains y gs ≡ true) → QueuesHold gs (changed_by change p)
+    over gs change may keeps more = change-queues (f ∷ fs) gs f fs p change s (λ p'. tt) may keeps more u.pool
+
+    works : (change : Change) (errand : Errand) (x : Obj) → MayDo p change → KeepsQueues p change → QueuedBy (plan_step q (Works change errand x) p) fs k
+    works change (Finish state) x may keeps = record { pool = over _ change may keeps (λ y d. d); works = tt; frees = (tt, (tt, u.frees.1)) }
+    works change Receive x may keeps = record { pool = over _ change may keeps (λ y d. d); works = tt; frees = (tt, (tt, u.frees.1)) }
+    works change Cancel x may keeps = record { pool = over _ change may keeps (λ y d. d); works = tt; frees = (tt, (tt, u.frees.1)) }
+    works change Notify x may keeps = record { pool = over _ change may keeps (λ y d. d); works = tt; frees = (tt, (tt, u.frees.1)) }
+
+    turning : (q' : Ask) → q ≡ q' → QueuedBy (turning_step q' p) fs k
+    turning ask.Quiet e = record { pool = stays _ (λ y d. d); works = tt; frees = (tt, (tt, u.frees.1)) }
+    turning q' e = record { pool = stays _ (λ y d. d); works = tt; frees = (tt, u.frees.1) }
+
+    each : (plan : Plan) → May p plan → PlanKeeps p plan → QueuedBy (plan_step q plan p) fs k
+    each (Does change None r) may keeps = record { pool = over _ change may.0 keeps (λ y d. d); works = tt; frees = (tt, u.frees.1) }
+    each (Does change (Some notice) r) may keeps = record { pool = over _ change may.0 keeps (λ y d. d); works = tt; frees = (tt, u.frees.1) }
+    each (Frees x) may keeps = record { pool = stays _ (λ y d. d); works = tt; frees = (tt, (tt, u.frees.1)) }
+    each (Unlinks o x) may keeps = record { pool = stays _ (λ y d. d); works = tt; frees = (tt, (tt, u.frees.1)) }
+    each (Empties x) may keeps = record { pool = stays _ (λ y d. d); works = tt; frees = (tt, (tt, u.frees.1)) }
+    each (Asks outside) may keeps = record { pool = stays _ (λ y d. d); works = tt; frees = (tt, (tt, u.frees.1)) }
+    each Turns may keeps = turning q refl
+    each (Works change errand x) may keeps = works change errand x may.0 keeps
+
+-- ---- turns
+
+passes-queued : (f : TurnFrame) (fs : List Frame) (p : Pool) (k : ℕ) (m : Step) → Queued (frame.Turn f) fs p → Passes p m → QueuedBy m fs k
+passes-queued f fs p k _ u (Pass g q rows next notes queues times plain) = record { pool = goes (frame.Turn f) (frame.Turn g) fs p q rows queues (λ y d. d) u.pool; works = tt; frees = (tt, u.frees.1) }
+passes-queued f fs p k _ u (Trigger x q rows next notes queues times queue) = record { pool = same-queues (frame.Turn f ∷ fs) _ p q u.pool rows queues (λ y t d. d); works = tt; frees = (tt, (tt, u.frees.1)) }
+passes-queued f fs p k _ u (Serve Notify x q rows next notes queues times served noted) = record { pool = same-queues (frame.Turn f ∷ fs) _ p q u.pool rows queues (λ y t d. d); works = tt; frees = (tt, (tt, u.frees.1)) }
+passes-queued f fs p k _ u (Serve (Finish TimedOut) x q rows next notes queues times served noted) = record { pool = same-queues (frame.Turn f ∷ fs) _ p q u.pool rows queues (λ y t d. d); works = tt; frees = (tt, (tt, u.frees.1)) }
+passes-queued f fs p k _ u (Serve _ x q rows next notes queues times served noted) = absurd served
+
+-- an event is no entry, and no queue
+event-is : (w : What) (k : Kind) → comes_as w k ≡ true → (is_entry k ≡ false) × (is_queue k ≡ false)
+event-is whats.Immediate kind.Immediate e = (refl, refl)
+event-is whats.Timer kind.Timer e = (refl, refl)
+event-is whats.Descriptor kind.Descriptor e = (refl, refl)
+event-is _ _ e = cc
+
+begun-queued : (w : What) (x : Obj) (occasion : Occasion) (h : Handler) (fs : List Frame) (p : Pool) → handler_for p w x ≡ Some h → Queued (frame.Turn (Starting w x occasion)) fs p → Queued (frame.Turn (Firing w x h occasion)) fs (begun w x p)
+begun-queued w x occasion h fs p e u =
+    let ready = handler-ready p w x h e in
+    let is = event-is w ready.row.kind ready.comes in
+    let busy : QueuesHold (frame.Turn (Firing w x h occasion) ∷ fs) (set_mark p x Busy) = changed-queues (marked_row Busy) (frame.Turn (Starting w x occasion) ∷ fs) (frame.Turn (Firing w x h occasion) ∷ fs) p x ready.row u.pool ready.is (λ r. refl) (λ r. refl)
+    (rw ready.quiet refl) (λ t o i. let bad : true ≡ false = sym i.0 ∙ is.0 in cc) (λ y ne t d. d)
+    (λ t i. let bad : true ≡ false = sym t ∙ no-entries p p.queues.entries x u.pool.waiting (ap is_queue_row ready.is ∙ is.1) in cc) in
+    record { pool = rotated w busy; works = tt; frees = (tt, u.frees.1) }
+  where
+    rotated : (w : What) → QueuesHold (frame.Turn (Firing w x h occasion) ∷ fs) (set_mark p x Busy) → QueuesHold (frame.Turn (Firing w x h occasion) ∷ fs) (begun w x p)
+    rotated whats.Descriptor b = same-queues _ _ (set_mark p x Busy) (begun whats.Descriptor x p) b refl refl (λ y t d. d)
+    rotated _ b = b
+
+handled-queued : (w : What) (x : Obj) (fs : List Frame) (p : Pool) (k : ℕ) → Sound (frame.Turn (Handled w x)) fs p → Queued (frame.Turn (Handled w x)) fs p → QueuedBy (turn_step (Handled w x) p) fs k
+handled-queued w x fs p k s u = each (goes_after p w x)
+  where
+    row : (r : Row) × (row_of p.rows x ≡ Some r) × IsLive r.mark × (claims x fs ≡ [])
+    row = handling-row (row_of p.rows x) (claims x fs) (claim-here x InHandler (claims x fs) (row_of p.rows x) (s.open_frees x))
+
+    live : (m : Mark) → IsLive m → is_dying_mark Quiet ≡ is_dying_mark m
+    live (Dying former) l = absurd l
+    live _ l = refl
+
+    quiet : (gs : List Frame) → ((y : Obj) → drains y (frame.Turn (Handled w x) ∷ fs) ≡ true → drains y gs ≡ true) → QueuesHold gs (set_mark p x Quiet)
+    quiet gs more = changed-queues (marked_row Quiet) (frame.Turn (Handled w x) ∷ fs) gs p x row.0 u.pool row.1 (λ r. refl) (λ r. refl) (live row.0.mark row.2) (λ t o i. (i.0, refl, i.2, i.3)) (λ y ne t d. more y d) (λ t i. inl refl)
+
+    each : (b : Bool) → QueuedBy (handled_step x b p) fs k
+    each true = record { pool = quiet _ (λ y d. d); works = tt; frees = (tt, (tt, u.frees.1)) }
+    each false = record { pool = quiet _ (λ y d. d); works = tt; frees = (tt, u.frees.1) }
+
+turn-queued : (f : TurnFrame) (fs : List Frame) (p : Pool) (k : ℕ) → Sound (frame.Turn f) fs p → IsStacked (frame.Turn f) fs → Queued (frame.Turn f) fs p → QueuedBy (turn_step f p) fs k
+turn-queued Taking fs p k s b u = passes-queued Taking fs p k _ u (look-passes Taking p tt)
+turn-queued (Timed again now) fs p k s b u = passes-queued (Timed again now) fs p k _ u (look-passes (Timed again now) p tt)
+turn-queued (Timing again) fs p zero s b u = tt
+turn-queued (Timing again) fs p (suc k) s b u = λ i g e. (let t = taken-plain (Timing again) p i g e in
+    subst (λ (z : Frame). Queued z fs p) (sym t.1) (record { pool = goes (frame.Turn (Timing again)) (frame.Turn t.0) fs p p refl refl (λ y d. d) u.pool; works = tt; frees = (tt, u.frees.1) }))
+turn-queued (Polling limit) fs p zero s b u = tt
+turn-queued (Polling limit) fs p (suc k) s b u = λ i g e. (let t = taken-plain (Polling limit) p i g e in
+    subst (λ (z : Frame). Queued z fs p) (sym t.1) (record { pool = goes (frame.Turn (Polling limit)) (frame.Turn t.0) fs p p refl refl (λ y d. d) u.pool; works = tt; frees = (tt, u.frees.1) }))
+turn-queued (Starting w x occasion) fs p k s b u = each (handler_for p w x) refl
+  where
+    each : (o : Option Handler) → handler_for p w x ≡ o → QueuedBy (starting_step w x occasion o p) fs k
+    each None e = record { pool = goes (frame.Turn (Starting w x occasion)) _ fs p p refl refl (λ y d. d) u.pool; works = tt; frees = (tt, u.frees.1) }
+    each (Some h) e = begun-queued w x occasion h fs p e u
+turn-queued (Firing w x h occasion) fs p k s b u = record { pool = goes (frame.Turn (Firing w x h occasion)) _ fs p p refl refl (λ y d. d) u.pool; works = tt; frees = (tt, u.frees.1) }
+turn-queued (Handling w x h occasion) fs p k s b u = record { pool = same-queues (frame.Turn (Handling w x h occasion) ∷ fs) _ p p u.pool refl refl (λ y t d. d); works = tt; frees = (tt, u.frees) }
+turn-queued (Handled w x) fs p k s b u = handled-queued w x fs p k s u
+turn-queued (Closing v) fs p k s b u = ended (Turned v) fs p k s.waiting (same-queues (frame.Turn (Closing v) ∷ fs) fs p p u.pool refl refl (λ y t d. d)) u.frees.1
+    (no-free-ends (frame.Turn (Closing v)) fs p FreeOk (λ z. z) s.waiting b) (no-work-over (frame.Turn (Closing v)) fs p (λ z. z) s.waiting b)
+turn-queued _ fs p k s b u = absurd s.rests
+
+-- ---- a question to the outside
+
+outside-queued : (f : OutsideFrame) (fs : List Frame) (p : Pool) (k : ℕ) → Sound (frame.Outside f) fs p → IsStacked (frame.Outside f) fs → Queued (frame.Outside f) fs p → QueuedBy (outside_step f p) fs k
+outside-queued (Reaching q) fs p zero s b u = tt
+outside-queued (Reaching q) fs p (suc k) s b u = λ i g e. leads g (reached-leads p q i g e)
+  where
+    leads : (g : Frame) → Reached p g → Queued g fs p
+    leads _ (ReachedOpening fd number closed) = record { pool = goes (frame.Outside (Reaching q)) _ fs p p refl refl (λ y d. d) u.pool; works = tt; frees = (tt, u.frees.1) }
+    leads _ (ReachedHearing r) = record { pool = goes (frame.Outside (Reaching q)) _ fs p p refl refl (λ y d. d) u.pool; works = tt; frees = (tt, u.frees.1) }
+outside-queued (Opening fd) fs p k s b u = ended (Heard _) fs (open_descriptor p fd) k s.waiting (same-queues (frame.Outside (Opening fd) ∷ fs) fs p (open_descriptor p fd) u.pool refl refl (λ y t d. d)) u.frees.1
+    (no-free-ends (frame.Outside (Opening fd)) fs (open_descriptor p fd) FreeOk (λ z. z) s.waiting b) (no-work-over (frame.Outside (Opening fd)) fs (open_descriptor p fd) (λ z. z) s.waiting b)
+outside-queued (Hearing r) fs p k s b u = ended (Heard r) fs p k s.waiting (same-queues (frame.Outside (Hearing r) ∷ fs) fs p p u.pool refl refl (λ y t d. d)) u.frees.1
+    (no-free-ends (frame.Outside (Hearing r)) fs p FreeOk (λ z. z) s.waiting b) (no-work-over (frame.Outside (Hearing r)) fs p (λ z. z) s.waiting b)
+
+-- ---- requests and queues
+
+module _ (f : RequestFrame) (fs : List Frame) (p : Pool) (k : ℕ) (u : Queued (frame.Request f) fs p) where
+  -- it goes on over the same rows and queues
+  on : (g : RequestFrame) (q : Pool) → q.rows ≡ p.rows → q.queues ≡ p.queues → RestsQueued (frame.Request g) fs q → Queued (frame.Request g) fs q
+  on g q rows queues works = record { pool = goes (frame.Request f) (frame.Request g) fs p q rows queues (λ y d. d) u.pool; works = works; frees = (tt, u.frees.1) }
+
+  -- a work that drains nothing stands on it
+  under : (g : Frame) (h : RequestFrame) (q : Pool) → QueuesHold (g ∷ frame.Request h ∷ fs) q → RestsQueued g (frame.Request h ∷ fs) q → IsOfChild g (footing (frame.Request h ∷ fs)) → Queued g (frame.Request h ∷ fs) q
+  under g h q hold works one = record { pool = hold; works = works; frees = (one, (tt, u.frees.1)) }
+
+module _ (fs : List Frame) (p : Pool) (k : ℕ) where
+  -- a work of a request that is over
+  over-here : (p' : Pool) → IsRequested (footing fs) → OverFor (footing fs) p'
+  over-here p' r = requested-over (footing fs) p' r
+
+  cancels : (x : Obj) → Sound (frame.Request (request.Cancelling x)) fs p → Queued (frame.Request (request.Cancelling x)) fs p → (o : Option Handler) → QueuedBy (cancelling_step x o p) fs k
+  cancels x s u None = on (request.Cancelling x) fs p k u _ p refl refl (over-here p s.rests)
+  cancels x s u (Some handler) = on (request.Cancelling x) fs p k u _ p refl refl tt
+
+  cleans : (x : Obj) (errand : Errand) → Queued (frame.Request (request.Cleaning x errand)) fs p → (o : Option Handler) → QueuedBy (cleaning_step x errand o p) fs k
+  cleans x errand u None = on (request.Cleaning x errand) fs p k u _ p refl refl tt
+  cleans x errand u (Some handler) = on (request.Cleaning x errand) fs p k u _ (renote p x cleaned) refl refl tt
+
+  releases : (x : Obj) → IsRequested (footing fs) → Queued (frame.Request (request.Cleaned x Receive)) fs p → (plan : Plan) → QueuedBy (release_object plan Receive p) fs k
+  releases x r u (Frees c) = under (request.Cleaned x Receive) fs p k u (frame.Free (Beginning c)) (request.Releasing c) p (same-queues _ _ p p u.pool refl refl (λ y t d. d)) tt tt
+  releases x r u (Unlinks o c) = under (request.Cleaned x Receive) fs p k u (frame.Free (Unlinking o c)) (request.Releasing c) p (same-queues _ _ p p u.pool refl refl (λ y t d. d)) tt tt
+  releases x r u _ = on (request.Cleaned x Receive) fs p k u _ p refl refl (over-here p r)
+
+  cleaned-on : (x : Obj) (errand : Errand) → IsRequested (footing fs) → Queued (frame.Request (request.Cleaned x errand)) fs p → (o : Option Note) → QueuedBy (cleaned_step x errand o p) fs k
+  cleaned-on x errand r u None = on (request.Cleaned x errand) fs p k u _ p refl refl (over-here p r)
+  cleaned-on x Receive r u (Some n) = releases x r u (planned p (call.Free n.child))
+  cleaned-on x errand r u (Some n) = on (request.Cleaned x errand) fs p k u (request.Notifying x errand) p refl refl tt
+
+  notifies : (x : Obj) (errand : Errand) → IsRequested (footing fs) → Queued (frame.Request (request.Notifying x errand)) fs p → (o : Option Note) → QueuedBy (notifying_step x errand o p) fs k
+  notifies x errand r u None = on (request.Notifying x errand) fs p k u _ p refl refl (over-here p r)
+  notifies x errand r u (Some n) = by_test n.deferred
+      (λ t. let q : Pool = schedule (renote p x not_deferring) x in rw t (on (request.Notifying x errand) fs p k u _ q refl refl (over-here q r)))
+      (λ t. rw t (back n.callback))
+    where
+      back : (o : Option Handler) → QueuedBy (callback_step x errand o p) fs k
+      back None = on (request.Notifying x errand) fs p k u _ p refl refl (over-here p r)
+      back (Some handler) = on (request.Notifying x errand) fs p k u _ p refl refl tt
+
+  -- the entries of a queue are freed; once there is none it is over
+  vacates : (q : Obj) → Drains q (footing fs) → Queued (frame.Request (request.Vacating q)) fs p → (o : Option Head) → head_of p.queues q ≡ o → QueuedBy (vacating_step q o (run_queue p q false)) fs k
+  vacates q d u None e = record { pool = ran-queues (frame.Request (request.Vacating q) ∷ fs) _ p q false (λ y z. z) u.pool; works = emptied (footing fs) d; frees = (tt, u.frees.1) }
+    where
+      same_entries : (run_queue p q false).queues.entries ≡ p.queues.entries
+      same_entries = by_test (has_queue p.queues q) (λ t. rw t refl) (λ t. rw t refl)
+
+      emptied : (on : Footing) → Drains q on → OverFor on (run_queue p q false)
+      emptied (OnFree (Draining x)) d = subst (λ (z : Obj). has_entries (run_queue p q false).queues z ≡ false) d (ap (λ es. is_some (head_in es q)) same_entries ∙ ap is_some e)
+      emptied _ d = absurd d
+  vacates q d u (Some h) e = under (request.Vacating q) fs p k u (frame.Free (Beginning h.object)) (request.Dropping q h.object) (run_queue p q false) (ran-queues (frame.Request (request.Vacating q) ∷ fs) _ p q false (λ y z. z) u.pool) tt tt
+
+  triggers : (q : Obj) → IsRequested (footing fs) → Queued (frame.Request (request.Triggering q)) fs p → (o : Option Head) → next_of p.queues q ≡ o → QueuedBy (triggering_step o p) fs k
+  triggers q r u None e = on (request.Triggering q) fs p k u _ p refl refl (over-here p r)
+  triggers q r u (Some h) e = record { pool = triggered-queues (frame.Request (request.Triggering q) ∷ fs) _ p q h (next-head p.queues q h e) (λ y d. d) u.pool; works = tt; frees = (tt, u.frees.1) }
+
+request-queued : (f : RequestFrame) (fs : List Frame) (p : Pool) (k : ℕ) → Sound (frame.Request f) fs p → IsStacked (frame.Request f) fs → Queued (frame.Request f) fs p → QueuedBy (request_step f p) fs k
+request-queued (request.Finishing x state) fs p k s b u = on (request.Finishing x state) fs p k u _ (finish p x state) refl refl tt
+request-queued (request.Receiving x) fs p k s b u = by_test (is_unreceived (note_of p.requests x))
+    (λ t. rw t (on (request.Receiving x) fs p k u _ (receive p x) refl refl tt))
+    (λ t. rw t (on (request.Receiving x) fs p k u _ p refl refl (requested-over (footing fs) p s.rests.0)))
+request-queued (request.Cancelling x) fs p k s b u = cancels fs p k x s u (cancel_in (note_of p.requests x))
+request-queued (request.Cleaning x errand) fs p k s b u = cleans fs p k x errand u (cleanup_in (note_of p.requests x))
+request-queued (request.Cleaned x errand) fs p k s b u = cleaned-on fs p k x errand s.rests u (note_of p.requests x)
+request-queued (request.Notifying x errand) fs p k s b u = notifies fs p k x errand s.rests u (note_of p.requests x)
+request-queued (request.Calling w x h errand) fs p k s b u = on (request.Calling w x h errand) fs p k u _ p refl refl tt
+request-queued (request.Called w x h errand) fs p k s b u =
+    under (request.Called w x h errand) fs p k u (frame.Call (Asking (ask.Routine (handler_moment w x h plainly)))) (request.Called w x h errand) p (same-queues _ _ p p u.pool refl refl (λ y t d. d)) tt tt
+request-queued (request.Releasing c) fs p k s b u = absurd s.rests
+request-queued (request.Vacating q) fs p k s b u = vacates fs p k q s.rests u (head_of p.queues q) refl
+request-queued (request.Dropping q e) fs p k s b u = absurd s.rests
+request-queued (request.Triggering q) fs p k s b u = triggers fs p k q s.rests u (next_of p.queues q) refl
+request-queued (request.Over r) fs p k s b u = ended (Heard r) fs p k s.waiting (same-queues (frame.Request (request.Over r) ∷ fs) fs p p u.pool refl refl (λ y t d. d)) u.frees.1
+    (no-free-ends (frame.Request (request.Over r)) fs p FreeOk (λ z. z) s.waiting b) u.works
+
+-- ---- all
+
+pub queued-kept : (f : Frame) (fs : List Frame) (p : Pool) (k : ℕ) → Sound f fs p → IsStacked f fs → Queued f fs p → QueuedBy (step f p) fs k
+queued-kept (frame.Call (Asking q)) fs p zero s b u = tt
+queued-kept (frame.Call (Asking q)) fs p (suc k) s b u = λ i g e. leads g (heard-leads q i g e)
+  where
+    leads : (g : Frame) → HeardBy q g → Queued g fs p
+    leads _ (HeardCall c) = record { pool = goes (frame.Call (Asking q)) _ fs p p refl refl (λ y d. d) u.pool; works = tt; frees = (tt, u.frees.1) }
+    leads _ (HeardReturn v of) = record { pool = goes (frame.Call (Asking q)) _ fs p p refl refl (λ y d. d) u.pool; works = tt; frees = (tt, u.frees.1) }
+queued-kept (frame.Call (Doing q c)) fs p k s b u = planned-queued q c fs p k s u (planned p c) (may-planned (frame.Call (Doing q c)) fs p s c) (plan-keeps p s.refers s.forest.distinct c)
+queued-kept (frame.Call (Announcing q notice r)) fs p k s b u = record { pool = goes (frame.Call (Announcing q notice r)) _ fs p p refl refl (λ y d. d) u.pool; works = tt; frees = (tt, u.frees.1) }
+queued-kept (frame.Call (Telling q r)) fs p k s b u = record { pool = goes (frame.Call (Telling q r)) _ fs p p refl refl (λ y d. d) u.pool; works = tt; frees = (tt, u.frees.1) }
+queued-kept (frame.Call (Returning v)) fs p k s b u = ended (Returned v) fs p k s.waiting (same-queues (frame.Call (Returning v) ∷ fs) fs p p u.pool refl refl (λ y t d. d)) u.frees.1
+    (no-free-ends (frame.Call (Returning v)) fs p FreeOk (λ z. z) s.waiting b) (no-work-over (frame.Call (Returning v)) fs p (λ z. z) s.waiting b)
+queued-kept (frame.Free f) fs p k s b u = lifted-queued p.ring (free_step f p) fs k s.waiting u.frees.1 (λ q. no-work-over (frame.Free f) fs q (λ z. z) s.waiting b) (free-queued f fs p s u)
+queued-kept (frame.Turn f) fs p k s b u = turn-queued f fs p k s b u
+queued-kept (frame.Outside f) fs p k s b u = outside-queued f fs p k s b u
+queued-kept (frame.Request f) fs p k s b u = request-queued f fs p k s b u
+queued-kept _ fs p k s b u = absurd s.rests
