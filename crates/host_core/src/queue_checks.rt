@@ -13,7 +13,8 @@ pub fn check_queue(x: Obj, objects: &Subject) -> Result<(), Refusal>
     match objects.row(x) {
         Some(
             Row {
-                kind: Kind::Queue, ..
+                kind: Kind::Queue,
+                ..
             },
         ) => Ok(()),
         _ => Err(Refusal::WrongKind(x)),
@@ -28,7 +29,8 @@ pub fn check_movable(x: Obj, objects: &Subject) -> Result<(), Refusal>
     match objects.row(x) {
         Some(
             Row {
-                kind: Kind::Entry, ..
+                kind: Kind::Entry,
+                ..
             },
         ) => Err(Refusal::WrongKind(x)),
         _ => Ok(()),
@@ -43,7 +45,8 @@ pub fn check_remaining(x: Obj, objects: &Subject) -> Result<(), Refusal>
     match objects.row(x) {
         Some(
             Row {
-                mark: Mark::Quiet, ..
+                mark: Mark::Quiet,
+                ..
             },
         )
         | None => Ok(()),

@@ -176,7 +176,11 @@ pub fn check(call: &Call, pool: &ObjectPool) -> Result<(), Refusal>
             check_object(queue, IsQueue(queue), IsNotGoing(queue), pool)
         }
         Call::Length { queue } | Call::Running { queue } => {
-            check_two(IsObject(queue), IsQueue(queue), &Subject::object(queue, pool))
+            check_two(
+                IsObject(queue),
+                IsQueue(queue),
+                &Subject::object(queue, pool),
+            )
         }
         Call::Pending | Call::Now | Call::Turn => Ok(()),
         Call::Parent { x } => check_two(IsObject(x), IsNotDying(x), &Subject::object(x, pool)),

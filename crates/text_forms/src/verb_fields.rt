@@ -161,11 +161,7 @@ fn read_request_fields(
 
 // The call on queues of this verb, whose fields come next.
 #[tactic(auto, unfolding(crate::specs::Verbs::fields_read))]
-fn read_queue_fields(
-    alloc: Global,
-    verb: QueueVerb,
-    fields: &mut Fields,
-) -> Result<Call, FormFault>
+fn read_queue_fields(alloc: Global, verb: QueueVerb, fields: &mut Fields) -> Result<Call, FormFault>
     ensures { Takes result (fields_read (verbs.Queue verb) fields.old) fields.new }
 {
     match verb {

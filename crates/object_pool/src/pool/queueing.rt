@@ -25,14 +25,7 @@ impl ObjectPool {
     {
         self.ready = false;
         self.places = false;
-        let queue = add_row(
-            Kind::Queue,
-            name,
-            0,
-            owner,
-            &mut self.tree,
-            &mut self.sums,
-        );
+        let queue = add_row(Kind::Queue, name, 0, owner, &mut self.tree, &mut self.sums);
         self.events.add_queue(queue);
         queue
     }

@@ -234,8 +234,8 @@ begun-queued w x occasion h fs p e u =
     let ready = handler-ready p w x h e in
     let is = event-is w ready.row.kind ready.comes in
     let busy : QueuesHold (frame.Turn (Firing w x h occasion) ∷ fs) (set_mark p x Busy) = changed-queues (marked_row Busy) (frame.Turn (Starting w x occasion) ∷ fs) (frame.Turn (Firing w x h occasion) ∷ fs) p x ready.row u.pool ready.is (λ r. refl) (λ r. refl)
-        (rw ready.quiet refl) (λ t o i. let bad : true ≡ false = sym i.0 ∙ is.0 in cc) (λ y ne t d. d)
-        (λ t i. let bad : true ≡ false = sym t ∙ no-entries p p.queues.entries x u.pool.waiting (ap is_queue_row ready.is ∙ is.1) in cc) in
+    (rw ready.quiet refl) (λ t o i. let bad : true ≡ false = sym i.0 ∙ is.0 in cc) (λ y ne t d. d)
+    (λ t i. let bad : true ≡ false = sym t ∙ no-entries p p.queues.entries x u.pool.waiting (ap is_queue_row ready.is ∙ is.1) in cc) in
     record { pool = rotated w busy; works = tt; frees = (tt, u.frees.1) }
   where
     rotated : (w : What) → QueuesHold (frame.Turn (Firing w x h occasion) ∷ fs) (set_mark p x Busy) → QueuesHold (frame.Turn (Firing w x h occasion) ∷ fs) (begun w x p)

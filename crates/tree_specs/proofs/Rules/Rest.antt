@@ -65,7 +65,6 @@ use Rattle.tree_specs.specs.Invariants.Queued.{Queued}
 abbrev pub most : View → ℕ → ℕ
 most v k = length v.pool.rows + 2 * k + 2
 
-
 pub well-of : (v : View) (k : ℕ) → Sound v.innermost v.below v.pool → Noted v.innermost v.pool → Queued v.innermost v.below v.pool → IsStacked v.innermost v.below → IsPaidFor v.innermost v.below v.pool
     → Well (most v k) v.innermost v.below v.pool k
 well-of v k s n u seated l = record { sound = s; noted = n; queued = u; seated = seated; light = l; room = omega (arith, pending-most v.innermost) }
