@@ -1,10 +1,11 @@
 -- What a step begins stands on what waits for it.
-use Rattle.std.proofs.Common.{◌≡◌, ◌+◌, List, [], ◌∷◌, ◌++◌, length, length-append, reverse, sym, ◌∙◌, ap, subst, arith}
+use Rattle.std.proofs.Common.{◌≡◌, ◌+◌, ◌*◌, ◌≤◌, List, [], ◌∷◌, ◌++◌, length, length-append, reverse, sym, ◌∙◌, ap, subst, arith}
 use Rattle.std.specs.Prelude.{vec_capacity}
 use Rattle.tree_specs.specs.declared.frame.Frame.{Frame}
 use Rattle.tree_specs.specs.declared.frame.Frame.TheVariants as frame
 use Rattle.tree_specs.specs.declared.frame.FreeFrame.{FreeFrame}
 use Rattle.tree_specs.specs.declared.object.Obj.{Obj}
+use Rattle.tree_specs.specs.declared.row.Row.{Row}
 use Rattle.tree_specs.specs.Machine.View.{View}
 use Rattle.tree_specs.specs.Invariants.Sound.{claim}
 use Rattle.tree_specs.specs.Invariants.Consistent.{IsConsistent}
@@ -20,8 +21,11 @@ use Rattle.host_core.specs.declared.step.Step.{Step}
 use Rattle.host_core.specs.declared.waiting.Waiting.{Waiting}
 use Rattle.host_core.specs.Stacks.{waiting_frame, active_frame, Fits, FreesFit, other_view, freeing_view}
 use Rattle.host_core.specs.Steps.{IsOther, IsWaiter}
-use Rattle.host_core.specs.Hosts.{host_view, below_in, places, PartsReady, TellsSameStory, IsBetweenSteps}
-use Rattle.host_core.specs.Going.{stepped_view, HasPlacesFor}
+use Rattle.host_core.specs.Places.{count_undrained, drains_after, owed, places, HasPlacesFor}
+use Rattle.host_core.specs.Hosts.{host_view, below_in, PartsReady, TellsSameStory, IsBetweenSteps}
+use Rattle.host_core.specs.Going.{stepped_view}
+use Rattle.host_core.proofs.Draining.{run-trying, silently-fewer}
+use Rattle.host_core.proofs.Emptied.{may-forget}
 use Rattle.host_core.proofs.StepsSilently.{stays}
 use Rattle.host_core.proofs.FreeSteps.{silently-along}
 use Rattle.host_core.proofs.Hosting.{begun-awaits}
@@ -60,18 +64,18 @@ module _ (step : Step) (first : Active) (w : Waiting) (old new : Parts) (leads_t
       let fits : Fits old.objects.works (w ∷ ws) = (below-waiter old.objects.works w ws waits).1 fit in
       let fits' : Fits old.objects.works (reverse new.waiting.items) = subst (Fits old.objects.works) (sym turned) fits in
       let n = one-more old.waiting.items new.waiting.items w push in
-      let counts : count_unreceived new.objects.pool.requests ≡ count_unreceived old.objects.pool.requests = ap (λ (o : Objects). count_unreceived o.pool.requests) same in
+      let counts : owed new.objects.pool ≡ owed old.objects.pool = ap (λ (o : Objects). owed o.pool) same in
       record {
         whole = subst IsConsistent leads whole;
         fit = other-fit first new.objects.works (reverse new.waiting.items) other (subst (λ (o : Objects). Fits o.works (reverse new.waiting.items)) (sym same) fits');
         ready = ready;
-        places = has-places first (length new.waiting.items) new.objects.pool.requests (vec_capacity new.waiting) (omega (arith, room, cap, n, counts));
+        places = has-places first (length new.waiting.items) new.objects (vec_capacity new.waiting) other (omega (arith, room, cap, n, counts));
       }
 
 -- ---- a free
 
 module _ (step : Step) (f : FreeFrame) (w : Waiting) (old : Parts) (leads_to : stepped_view step old ≡ begun_view (frame.Free f) w old) (waits : IsWaiter w)
-    (claimless : (x : Obj) → claim x (frame.Free f) ≡ []) (whole : IsConsistent (stepped_view step old)) (fit : Fits old.objects.works (reverse old.waiting.items)) where
+    (claimless : (x : Obj) → claim x (frame.Free f) ≡ []) (plain : (rows : List Row) → drains_after f rows ≡ count_undrained rows) (whole : IsConsistent (stepped_view step old)) (fit : Fits old.objects.works (reverse old.waiting.items)) where
   abbrev free_ws : List Waiting
   free_ws = w ∷ reverse old.waiting.items
 
@@ -104,10 +108,12 @@ module _ (step : Step) (f : FreeFrame) (w : Waiting) (old : Parts) (leads_to : s
   begun_ready new push begins at requests room cap =
       let n = one-more old.waiting.items new.waiting.items w push in
       let counts = ap count_unreceived requests in
+      let from = plain old.objects.pool.rows in
+      let fewer = (silently-fewer begun_frees (frees_in new.objects) begins.moves_on (run-trying old.objects.works on-run)).0 in
       let fits = fits-silently begun_frees (frees_in new.objects) free_ws begins.moves_on free-fits in
       record {
         whole = (begun_along new push begins).whole;
         fit = subst (FreesFit new.objects.works) (sym (pushed old.waiting.items new.waiting.items w push)) fits;
-        ready = record { at_work = at; settled = begins.settles };
-        places = omega (arith, room, cap, n, counts);
+        ready = record { at_work = at; settled = begins.settles; emptied = may-forget new.objects.works (reverse new.waiting.items) new.objects.pool (begun_along new push begins).whole };
+        places = omega (arith, room, cap, n, counts, from, fewer);
       }

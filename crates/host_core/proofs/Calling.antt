@@ -13,14 +13,14 @@ use Rattle.tree_specs.specs.Machine.Table.{plan_step}
 use Rattle.tree_specs.specs.Tree.Pool.{Pool}
 use Rattle.tree_specs.proofs.Calls.Plans.{May}
 use Rattle.requests.specs.Register.{AreInOrder}
-use Rattle.object_pool.specs.Requests.{count_unreceived}
+use Rattle.host_core.specs.Places.{owed}
 use Rattle.host_core.specs.declared.active.Active.TheVariants as active
 use Rattle.host_core.specs.declared.step.Step.{Step}
 use Rattle.host_core.specs.declared.step.Step.TheVariants.{Goes}
 use Rattle.host_core.specs.Steps.{step_of, IsBusy}
 use Rattle.host_core.specs.Going.{step_places}
 use Rattle.host_core.specs.Hosts.{speaks}
-use Rattle.host_core.proofs.Stepping.{pool_in, pool-left}
+use Rattle.host_core.proofs.StepPools.{pool_in, pool-left}
 use Rattle.host_core.proofs.Unreceived.{change-counted}
 
 -- ---- it tells and asks nothing
@@ -65,19 +65,18 @@ plan-left _ TurnsOf p = refl
 plan-left q (WorksOf c errand x) p = refl
 
 -- what a call begins has the places that were taken for it
-pub call-room : (q : Ask) (step : Step) (plan : Plan) (old new : Pool) → May old plan → AreInOrder old.requests → IsBusy step → step_places step ≤ 3 → step_of step new ≡ plan_step q plan old
-    → step_places step + 2 * count_unreceived new.requests ≤ 3 + 2 * count_unreceived old.requests
+pub call-room : (q : Ask) (step : Step) (plan : Plan) (old new : Pool) → May old plan → AreInOrder old.requests → IsBusy step → step_places step ≤ 3 → step_of step new ≡ plan_step q plan old → step_places step + 2 * owed new ≤ 4 + 2 * owed old
 call-room q step plan old new may order busy most e = each plan may e (sym (pool-left step new) ∙ ap pool_in e ∙ plan-left q plan old)
   where
-    -- with as many requests
-    as-many : new ≡ old → step_places step + 2 * count_unreceived new.requests ≤ 3 + 2 * count_unreceived old.requests
-    as-many same = let counts = ap (λ (p : Pool). count_unreceived p.requests) same in omega (arith, most, counts)
+    -- with as much to come
+    as-much : new ≡ old → step_places step + 2 * owed new ≤ 4 + 2 * owed old
+    as-much same = let counts = ap owed same in omega (arith, most, counts)
 
-    each : (plan : Plan) → May old plan → step_of step new ≡ plan_step q plan old → new ≡ planned_pool plan old → step_places step + 2 * count_unreceived new.requests ≤ 3 + 2 * count_unreceived old.requests
+    each : (plan : Plan) → May old plan → step_of step new ≡ plan_step q plan old → new ≡ planned_pool plan old → step_places step + 2 * owed new ≤ 4 + 2 * owed old
     each (Does c notice r) may e same =
         let few = (change-counted c old order may.0).few in
         let adds = may.1 in
-        let counts = ap (λ (p : Pool). count_unreceived p.requests) same in
+        let counts = ap owed same in
         let none = takes notice e in
         omega (arith, few, adds, counts, none)
       where
@@ -87,10 +86,10 @@ call-room q step plan old new may order busy most e = each plan may e (sym (pool
     each (WorksOf c errand x) may e same =
         let few = (change-counted c old order may.0).few in
         let adds = may.1 in
-        let counts = ap (λ (p : Pool). count_unreceived p.requests) same in
+        let counts = ap owed same in
         omega (arith, few, adds, counts, most)
-    each (FreesOf x) may e same = as-many same
-    each (UnlinksOf owner x) may e same = as-many same
-    each (EmptiesOf x) may e same = as-many same
-    each (AsksOf outside) may e same = as-many same
-    each TurnsOf may e same = as-many same
+    each (FreesOf x) may e same = as-much same
+    each (UnlinksOf owner x) may e same = as-much same
+    each (EmptiesOf x) may e same = as-much same
+    each (AsksOf outside) may e same = as-much same
+    each TurnsOf may e same = as-much same

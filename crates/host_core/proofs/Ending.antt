@@ -1,23 +1,25 @@
 -- A work that is over, and who waits for it.
-use Rattle.std.proofs.Common.{◌≡◌, ℕ, List, [], ◌∷◌, Some, true, refl}
+use Rattle.std.proofs.Common.{◌≡◌, ℕ, List, [], ◌∷◌, Some, true, refl, subst}
+use Rattle.std.specs.Prelude.{slice_get}
 use Rattle.tree_specs.specs.declared.frame.CallFrame.TheVariants.{Returning}
 use Rattle.tree_specs.specs.declared.frame.Frame.{Frame}
 use Rattle.tree_specs.specs.declared.frame.Frame.TheVariants as frame
 use Rattle.tree_specs.specs.declared.frame.FreeFrame.{FreeFrame}
-use Rattle.tree_specs.specs.declared.frame.FreeFrame.TheVariants.{Hooked, Preparing}
+use Rattle.tree_specs.specs.declared.frame.FreeFrame.TheVariants.{Hooked, Preparing, Draining}
 use Rattle.tree_specs.specs.declared.frame.OutsideFrame.{OutsideFrame}
 use Rattle.tree_specs.specs.declared.frame.RequestFrame.TheVariants.{Over}
 use Rattle.tree_specs.specs.declared.frame.TurnFrame.{TurnFrame}
 use Rattle.tree_specs.specs.declared.frame.TurnFrame.TheVariants.{Handling, Clearing, Serving}
 use Rattle.tree_specs.specs.declared.free_step.FreeReply.{FreeReply}
 use Rattle.tree_specs.specs.declared.reply.Reply.{Reply}
-use Rattle.tree_specs.specs.Invariants.Sound.{IsWaiting, AllWait}
+use Rattle.tree_specs.specs.declared.object.Obj.{Obj}
+use Rattle.tree_specs.specs.Invariants.Sound.{Drains, IsWaiting, AllWait, footing}
 use Rattle.tree_specs.specs.Invariants.Consistent.{IsCaller, IsFree, IsRun, IsTurn, IsWork, MayStandOn, IsStacked, IsConsistent}
 use Rattle.tree_specs.specs.declared.question.Ask.{Ask}
 use Rattle.destructors.specs.Frees.{awaits_run}
 use Rattle.destructors.specs.Works.{AreAwaiting}
 use Rattle.destructors.proofs.Hosting.{AwaitsRun}
-use Rattle.destructors.specs.Engine.{IsAsked, IsReceiving}
+use Rattle.destructors.specs.Engine.{IsAsked, IsPreparing}
 use Rattle.object_pool.specs.Objects.{Objects}
 use Rattle.host_core.specs.declared.answer.Answer.{Answer}
 use Rattle.host_core.specs.declared.answer.Answer.TheVariants.{Freed, Returned, Turned, Heard}
@@ -25,7 +27,7 @@ use Rattle.host_core.specs.declared.short_reply.ShortReply.{ShortReply}
 use Rattle.host_core.specs.declared.waiting.Waiting.{Waiting}
 use Rattle.host_core.specs.declared.waiting.Waiting.TheVariants.{Freeing, Awaiting, Turning, Requesting, Turn, Work as WorkOf}
 use Rattle.host_core.specs.declared.work.Work.{Work}
-use Rattle.host_core.specs.declared.work.Work.TheVariants.{Called, Releasing}
+use Rattle.host_core.specs.declared.work.Work.TheVariants.{Called, Releasing, Dropping}
 use Rattle.host_core.specs.Stacks.{work_frame, standing, Fits, other_view}
 use Rattle.host_core.specs.Going.{AnswersTo, Answers}
 use Rattle.host_core.proofs.Hosting.{frees-standing, returned-awaits, worked-awaits}
@@ -35,6 +37,7 @@ use Rattle.host_core.proofs.Hosting.{frees-standing, returned-awaits, worked-awa
 free-on : (f g : FreeFrame) (gs : List Frame) → awaits_run g ≡ true → IsStacked (frame.Free f) (frame.Free g ∷ gs) → ⊥
 free-on f (Hooked x h) gs w s = s.0
 free-on f (Preparing x) gs w s = s.0
+free-on f (Draining x) gs w s = s.0
 free-on f _ gs w s = cc
 
 freed-turn : (f : FreeFrame) (t : TurnFrame) (a : FreeReply) (o : Objects) (gs : List Frame) → AllWait (frame.Turn t ∷ gs) → IsStacked (frame.Free f) (frame.Turn t ∷ gs) → AnswersTo (Freed a) (Turn t) o
@@ -43,21 +46,36 @@ freed-turn f (Handling what x handler occasion) a o gs w s = absurd s.0
 freed-turn f (Serving x) a o gs w s = absurd s.0
 freed-turn f _ a o gs w s = absurd w.0
 
-freed-work : (f : FreeFrame) (k : Work) (a : FreeReply) (o : Objects) (gs : List Frame) → AllWait (frame.Request (work_frame k) ∷ gs) → IsStacked (frame.Free f) (frame.Request (work_frame k) ∷ gs) → AnswersTo (Freed a) (WorkOf k) o
-freed-work f (Releasing child) a o gs w s = tt
-freed-work f (Called what x handler errand) a o gs w s = absurd s.0
-freed-work f _ a o gs w s = absurd w.0
+-- an entry is freed for the innermost of the frees that wait
+drained-first : (q : Obj) (fs : List FreeFrame) (ws : List Waiting) → Fits fs ws → Drains q (footing (standing fs ws)) → IsPreparing (slice_get fs 0)
+drained-first q fs [] e d = absurd d
+drained-first q [] (Freeing ∷ ws) e d = absurd e.0
+drained-first q (Draining x ∷ fs) (Freeing ∷ ws) e d = tt
+drained-first q (f ∷ fs) (Freeing ∷ ws) e d = absurd d
+drained-first q fs (Turn (Clearing x) ∷ ws) e d = absurd d
+drained-first q fs (Turn (Serving x) ∷ ws) e d = absurd d
+drained-first q fs (WorkOf (Releasing child) ∷ ws) e d = absurd d
+drained-first q fs (WorkOf (Dropping queue entry) ∷ ws) e d = absurd d
+drained-first q fs (Turn t ∷ ws) e d = absurd d
+drained-first q fs (WorkOf k ∷ ws) e d = absurd d
+drained-first q fs (w ∷ ws) e d = absurd d
+
+freed-work : (f : FreeFrame) (k : Work) (a : FreeReply) (o : Objects) (ws : List Waiting) → Fits o.works ws → AllWait (frame.Request (work_frame k) ∷ standing o.works ws) → IsStacked (frame.Free f) (frame.Request (work_frame k) ∷ standing o.works ws) → AnswersTo (Freed a) (WorkOf k) o
+freed-work f (Releasing child) a o ws e w s = tt
+freed-work f (Dropping queue entry) a o ws e w s = drained-first queue o.works ws e w.0
+freed-work f (Called what x handler errand) a o ws e w s = absurd s.0
+freed-work f _ a o ws e w s = absurd w.0
 
 -- what waits for a free that is over, where the next free waits for no free
-pub freed-answers : (f : FreeFrame) (fs : List FreeFrame) (ws : List Waiting) (a : FreeReply) (o : Objects) → AwaitsRun fs → Fits fs ws → AllWait (standing fs ws) → IsStacked (frame.Free f) (standing fs ws) → Answers (Freed a) ws o
-freed-answers f fs [] a o r e w s = absurd s
-freed-answers f [] (Freeing ∷ ws) a o r e w s = absurd e.0
-freed-answers f (g ∷ fs) (Freeing ∷ ws) a o r e w s = absurd (free-on f g _ r s)
-freed-answers f fs (Awaiting q x ∷ ws) a o r e w s = record { first = Awaiting q x; others = ws; are = refl; answers = tt }
-freed-answers f fs (Turning q ∷ ws) a o r e w s = absurd s.0
-freed-answers f fs (Requesting q ∷ ws) a o r e w s = absurd s.0
-freed-answers f fs (Turn t ∷ ws) a o r e w s = record { first = Turn t; others = ws; are = refl; answers = freed-turn f t a o (standing fs ws) w s }
-freed-answers f fs (WorkOf k ∷ ws) a o r e w s = record { first = WorkOf k; others = ws; are = refl; answers = freed-work f k a o (standing fs ws) w s }
+pub freed-answers : (f : FreeFrame) (fs : List FreeFrame) (ws : List Waiting) (a : FreeReply) (o : Objects) → o.works ≡ fs → AwaitsRun fs → Fits fs ws → AllWait (standing fs ws) → IsStacked (frame.Free f) (standing fs ws) → Answers (Freed a) ws o
+freed-answers f fs [] a o is r e w s = absurd s
+freed-answers f [] (Freeing ∷ ws) a o is r e w s = absurd e.0
+freed-answers f (g ∷ fs) (Freeing ∷ ws) a o is r e w s = absurd (free-on f g _ r s)
+freed-answers f fs (Awaiting q x ∷ ws) a o is r e w s = record { first = Awaiting q x; others = ws; are = refl; answers = tt }
+freed-answers f fs (Turning q ∷ ws) a o is r e w s = absurd s.0
+freed-answers f fs (Requesting q ∷ ws) a o is r e w s = absurd s.0
+freed-answers f fs (Turn t ∷ ws) a o is r e w s = record { first = Turn t; others = ws; are = refl; answers = freed-turn f t a o (standing fs ws) w s }
+freed-answers f fs (WorkOf k ∷ ws) a o is r e w s = record { first = WorkOf k; others = ws; are = refl; answers = freed-work f k a o ws (rw is e) (rw is w) (rw is s) }
 
 -- ---- a routine
 
@@ -70,6 +88,7 @@ returned-turn v _ o gs ready w s = absurd w.0
 returned-work : (v : ℕ) (k : Work) (o : Objects) (gs : List Frame) → o.ready ≡ true → AllWait (frame.Request (work_frame k) ∷ gs) → IsStacked (frame.Call (Returning v)) (frame.Request (work_frame k) ∷ gs) → AnswersTo (Returned v) (WorkOf k) o
 returned-work v (Called what x handler errand) o gs ready w s = ready
 returned-work v (Releasing child) o gs ready w s = absurd s.0
+returned-work v (Dropping queue entry) o gs ready w s = absurd s.0
 returned-work v _ o gs ready w s = absurd w.0
 
 asked-free : (v : ℕ) (g : FreeFrame) (gs : List Frame) → IsStacked (frame.Call (Returning v)) (frame.Free g ∷ gs) → IsAsked (Some g)
@@ -101,6 +120,7 @@ turned-call f a o t no_free no_run no_work answers (g ∷ fs) (Freeing ∷ ws) e
     each : (g : FreeFrame) → MayStandOn f (frame.Free g ∷ []) → ⊥
     each (Hooked x h) s = no_run s
     each (Preparing x) s = no_work s
+    each (Draining x) s = no_work s
     each _ s = no_free s
 turned-call f a o t no_free no_run no_work answers fs (Awaiting q x ∷ ws) e w s c = absurd (no_free s.0)
 turned-call f a o t no_free no_run no_work answers fs (Turning q ∷ ws) e w s c = record { first = Turning q; others = ws; are = refl; answers = answers q }
@@ -117,6 +137,7 @@ turned-call f a o t no_free no_run no_work answers fs (WorkOf k ∷ ws) e w s c 
     each : (k : Work) → IsWaiting (frame.Request (work_frame k)) (standing fs ws) → MayStandOn f (frame.Request (work_frame k) ∷ []) → ⊥
     each (Called what x handler errand) w s = no_run s
     each (Releasing child) w s = no_free s
+    each (Dropping queue entry) w s = no_free s
     each _ w s = w
 
 pub turned-answers : (t : TurnFrame) (v : ℕ) (fs : List FreeFrame) (ws : List Waiting) (o : Objects) → Fits fs ws → AllWait (standing fs ws) → IsStacked (frame.Turn t) (standing fs ws) → Answers (Turned v) ws o
@@ -136,11 +157,13 @@ worked-turn r b _ o gs w s = absurd w.0
 no-work : (r : Reply) (k : Work) (gs : List Frame) → AllWait (frame.Request (work_frame k) ∷ gs) → IsStacked (frame.Request (Over r)) (frame.Request (work_frame k) ∷ gs) → ⊥
 no-work r (Called what x handler errand) gs w s = s.0
 no-work r (Releasing child) gs w s = s.0
+no-work r (Dropping queue entry) gs w s = s.0
 no-work r _ gs w s = w.0
 
-received-free : (r : Reply) (g : FreeFrame) (gs : List Frame) → IsStacked (frame.Request (Over r)) (frame.Free g ∷ gs) → IsReceiving (Some g)
-received-free r (Preparing x) gs s = tt
-received-free r _ gs s = absurd s.0
+prepared-free : (r : Reply) (g : FreeFrame) (gs : List Frame) → IsStacked (frame.Request (Over r)) (frame.Free g ∷ gs) → IsPreparing (Some g)
+prepared-free r (Preparing x) gs s = tt
+prepared-free r (Draining x) gs s = tt
+prepared-free r _ gs s = absurd s.0
 
 pub worked-answers : (r : Reply) (b : ShortReply) (ws : List Waiting) (o : Objects) → Fits o.works ws → IsConsistent (other_view (frame.Request (Over r)) o.works ws o.pool) → Answers (Heard b) ws o
 worked-answers r b ws o e h = each o.works ws e h.sound.waiting h.seated (worked-awaits r o.works (standing o.works ws) o.pool h (frees-standing o.works ws e)) refl
@@ -148,7 +171,7 @@ worked-answers r b ws o e h = each o.works ws e h.sound.waiting h.seated (worked
     each : (fs : List FreeFrame) (vs : List Waiting) → Fits fs vs → AllWait (standing fs vs) → IsStacked (frame.Request (Over r)) (standing fs vs) → AreAwaiting o.works o.pool → o.works ≡ fs → Answers (Heard b) vs o
     each fs [] e w s a k = absurd s
     each [] (Freeing ∷ vs) e w s a k = absurd e.0
-    each (g ∷ fs) (Freeing ∷ vs) e w s a k = record { first = Freeing; others = vs; are = refl; answers = (rw k (received-free r g _ s), a) }
+    each (g ∷ fs) (Freeing ∷ vs) e w s a k = record { first = Freeing; others = vs; are = refl; answers = (rw k (prepared-free r g _ s), a) }
     each fs (Awaiting q x ∷ vs) e w s a k = absurd s.0
     each fs (Turning q ∷ vs) e w s a k = absurd s.0
     each fs (Requesting q ∷ vs) e w s a k = record { first = Requesting q; others = vs; are = refl; answers = tt }

@@ -1,24 +1,26 @@
 -- A step of the innermost free by the parts of a host.
-use Rattle.std.proofs.Common.{◌≡◌, ℕ, ◌+◌, ◌≤◌, List, [], ◌∷◌, ◌++◌, length, length-append, reverse, Option, Some, None, false, refl, sym, ◌∙◌, ap, subst, inr, arith}
+use Rattle.std.proofs.Common.{◌≡◌, ℕ, ◌+◌, ◌*◌, ◌≤◌, List, [], ◌∷◌, ◌++◌, length, length-append, reverse, Option, Some, None, false, refl, sym, ◌∙◌, ap, subst, inr, arith}
 use Rattle.std.specs.Prelude.{slice_get, vec_capacity}
 use Rattle.step_machine.specs.Machine.{Move as Do}
 use Rattle.tree_specs.specs.declared.frame.CallFrame.TheVariants.{Asking}
 use Rattle.tree_specs.specs.declared.frame.Frame.TheVariants as frame
 use Rattle.tree_specs.specs.declared.frame.FreeFrame.{FreeFrame}
-use Rattle.tree_specs.specs.declared.frame.RequestFrame.TheVariants.{Receiving}
 use Rattle.tree_specs.specs.declared.free_step.FreeReply.{FreeReply}
 use Rattle.tree_specs.specs.declared.free_step.FreeStep.{FreeStep}
-use Rattle.tree_specs.specs.declared.free_step.FreeStep.TheVariants.{Ask as AskOf, Prepare, Done}
+use Rattle.tree_specs.specs.declared.free_step.FreeStep.TheVariants.{Ask as AskOf, Prepare, Drain, Done}
 use Rattle.tree_specs.specs.declared.object.Obj.{Obj}
 use Rattle.tree_specs.specs.declared.question.Ask.TheVariants.{Routine}
 use Rattle.tree_specs.specs.Rules.Answers.{hook_moment}
 use Rattle.tree_specs.specs.Tree.Pool.{Pool, row_of}
 use Rattle.tree_specs.specs.Invariants.Sound.{HasHook}
 use Rattle.tree_specs.specs.Invariants.Consistent.{IsConsistent}
-use Rattle.destructors.specs.Engine.{IsReceiving}
-use Rattle.destructors.specs.Frees.{OpenFrees, moves, Steps}
+use Rattle.destructors.specs.Engine.{IsPreparing}
+use Rattle.destructors.specs.Frees.{OpenFrees, moves, Silently, Steps}
 use Rattle.tree_specs.proofs.Tree.Numbered.{by_test}
 use Rattle.tree_specs.specs.Machine.FreeTable.{FreeMove, free_step}
+use Rattle.tree_specs.specs.Machine.Table.{event_of, run_for}
+use Rattle.tree_specs.specs.declared.frame.Frame.{Frame}
+use Rattle.tree_specs.specs.declared.row.Row.{Row}
 use Rattle.tree_specs.specs.Invariants.Sound.{AllWait}
 use Rattle.tree_specs.specs.Invariants.Consistent.{IsStacked}
 use Rattle.destructors.specs.Frees.{awaits_run}
@@ -27,7 +29,7 @@ use Rattle.destructors.proofs.FreeMoves.{IsMoveOf, is_move}
 use Rattle.destructors.specs.Runs.{IsNews, AsksFor}
 use Rattle.destructors.specs.Works.{IsAtWork, GoesOn}
 use Rattle.destructors.proofs.Hosting.{AwaitsRun, awaiting-runs}
-use Rattle.object_pool.specs.Objects.{Objects, frees_in}
+use Rattle.object_pool.specs.Objects.{Objects, frees_in, MayBeginFree}
 use Rattle.object_pool.specs.Requests.{count_unreceived}
 use Rattle.host_core.specs.declared.active.Active.TheVariants as active
 use Rattle.host_core.specs.declared.answer.Answer.TheVariants.{Freed}
@@ -35,11 +37,15 @@ use Rattle.host_core.specs.declared.caller.Caller.{Caller}
 use Rattle.host_core.specs.declared.parts.Parts.{Parts}
 use Rattle.host_core.specs.declared.waiting.Waiting.{Waiting}
 use Rattle.host_core.specs.declared.waiting.Waiting.TheVariants.{Freeing}
-use Rattle.host_core.specs.declared.work.Work.TheVariants as work
+use Rattle.host_core.specs.declared.work.Work.{Work}
 use Rattle.host_core.specs.Callers.{frame_of}
-use Rattle.host_core.specs.Stacks.{standing, Fits, FreesFit, other_view, freeing_view}
+use Rattle.host_core.specs.Places.{count_undrained, drains_after, drains_of, owed, work_places, HasPlacesFor}
+use Rattle.host_core.specs.Requests.{WorkReady}
+use Rattle.host_core.specs.Stacks.{work_frame, standing, Fits, FreesFit, other_view, freeing_view}
 use Rattle.host_core.specs.Hosts.{host_view, speaking_view, StepsSilently, IsBetweenSteps}
 use Rattle.host_core.specs.Going.{Answers, ended_view}
+use Rattle.host_core.proofs.Draining.{DrainsAfter, moves-fewer, silently-fewer, try-below}
+use Rattle.host_core.proofs.Emptied.{may-forget}
 use Rattle.host_core.proofs.FreeSteps.{step-news, step-asks, step-prepares, step-ends, ends-there}
 use Rattle.host_core.proofs.Going.{pushed, below-begun, FitAfter, fit-next, fits-silently}
 use Rattle.host_core.proofs.Ending.{freed-answers}
@@ -53,6 +59,17 @@ module _ (f : FreeFrame) (fs : List FreeFrame) (ws : List Waiting) (p : Pool) (n
       each : (t : FreeStep) → Steps (record { works = f ∷ fs; pool = p }) t new → FitAfter (Some t, (moves (f ∷ fs) p).1) ws → FitAfter (Some t, new) ws
       each (Done a) s k = subst (λ (z : OpenFrees). Fits z.works ws) (ends-there f fs ws p new h a s) k
       each _ s k = fits-silently (moves (f ∷ fs) p).1 new ws s.moves_on k
+
+  -- frees come to no more queues than they might before
+  pub step-fewer : (t : FreeStep) → Steps (record { works = f ∷ fs; pool = p }) t new → DrainsAfter (drains_after f p.rows) (Some t, new)
+  step-fewer t s = each t s (subst (λ (z : Option FreeStep). DrainsAfter (drains_after f p.rows) (z, (moves (f ∷ fs) p).1)) s.tells (moves-fewer f fs p (try-below fs ws h.sound.waiting)))
+    where
+      later : DrainsAfter (drains_after f p.rows) (None, (moves (f ∷ fs) p).1) → Silently (moves (f ∷ fs) p).1 new → DrainsAfter (drains_after f p.rows) (None, new)
+      later d on = let l = silently-fewer (moves (f ∷ fs) p).1 new on d.1 in let first = d.0 in let second = l.0 in (omega (arith, first, second), l.1)
+
+      each : (t : FreeStep) → Steps (record { works = f ∷ fs; pool = p }) t new → DrainsAfter (drains_after f p.rows) (Some t, (moves (f ∷ fs) p).1) → DrainsAfter (drains_after f p.rows) (Some t, new)
+      each (Done a) s d = subst (λ (z : OpenFrees). count_undrained z.pool.rows ≤ drains_after f p.rows) (ends-there f fs ws p new h a s) d
+      each _ s d = later d s.moves_on
 
   -- when a free is over those below it are as they were
   ends-below : (a : FreeReply) → Steps (record { works = f ∷ fs; pool = p }) (Done a) new → new.works ≡ fs
@@ -74,21 +91,33 @@ module _ (f : FreeFrame) (fs : List FreeFrame) (ws : List Waiting) (p : Pool) (n
           no-news n = n
       each (Do.Wait t g q) of e = absurd (let is : t ≡ Done a = cc in subst (λ (z : FreeStep). AsksFor z f) is of.2)
 
-pub is_news : (t : FreeStep) → ((x : Obj) → t ≡ AskOf x → ⊥) → ((x : Obj) → t ≡ Prepare x → ⊥) → ((a : FreeReply) → t ≡ Done a → ⊥) → IsNews t
-is_news (AskOf x) no-ask no-prepare no-done = absurd (no-ask x refl)
-is_news (Prepare x) no-ask no-prepare no-done = absurd (no-prepare x refl)
-is_news (Done a) no-ask no-prepare no-done = absurd (no-done a refl)
-is_news _ no-ask no-prepare no-done = tt
+-- a step that doesn't end the free
+pub goes-on-fewer : (n : ℕ) (t : FreeStep) (s : OpenFrees) → ((a : FreeReply) → t ≡ Done a → ⊥) → DrainsAfter n (Some t, s) → drains_of s.works s.pool.rows ≤ n
+goes-on-fewer n (Done a) s goes d = absurd (goes a refl)
+goes-on-fewer n _ s goes d = d.0
+
+pub is_news : (t : FreeStep) → ((x : Obj) → t ≡ AskOf x → ⊥) → ((x : Obj) → t ≡ Prepare x → ⊥) → ((x : Obj) → t ≡ Drain x → ⊥) → ((a : FreeReply) → t ≡ Done a → ⊥) → IsNews t
+is_news (AskOf x) no-ask no-prepare no-drain no-done = absurd (no-ask x refl)
+is_news (Prepare x) no-ask no-prepare no-drain no-done = absurd (no-prepare x refl)
+is_news (Drain x) no-ask no-prepare no-drain no-done = absurd (no-drain x refl)
+is_news (Done a) no-ask no-prepare no-drain no-done = absurd (no-done a refl)
+is_news _ no-ask no-prepare no-drain no-done = tt
 
 pub news-work : (t : FreeStep) (s : OpenFrees) → IsNews t → GoesOn t s → IsAtWork s
 news-work (AskOf x) s n g = absurd n
 news-work (Prepare x) s n g = absurd n
+news-work (Drain x) s n g = absurd n
 news-work (Done a) s n g = absurd n
 news-work _ s n g = g
+
+pub asks-fit : (t : FreeStep) (g : FreeFrame) (s : OpenFrees) (ws : List Waiting) → AsksFor t g → FitAfter (Some t, s) ws → FreesFit s.works ws
+asks-fit (Done a) g s ws n e = absurd n
+asks-fit _ g s ws n e = e
 
 pub news-fit : (t : FreeStep) (s : OpenFrees) (ws : List Waiting) → IsNews t → FitAfter (Some t, s) ws → FreesFit s.works ws
 news-fit (AskOf x) s ws n e = absurd n
 news-fit (Prepare x) s ws n e = absurd n
+news-fit (Drain x) s ws n e = absurd n
 news-fit (Done a) s ws n e = absurd n
 news-fit _ s ws n e = e
 
@@ -118,12 +147,23 @@ module _ (old : Parts) (o : Objects) (had : IsBetweenSteps active.Freeing old) (
   news_onward t s n = shown (StepsSilently (host_view active.Freeing old) (freeing_view o.works ws o.pool)) t s
       (λ f fs e w q k s. subst (λ (fs : List FreeFrame). StepsSilently (freeing_view fs ws p) (freeing_view o.works ws o.pool)) (sym k) (step-news f fs ws p (frees_in o) w t s n q))
 
+  -- after its step the open frees come to no more queues
+  pub drained : (t : FreeStep) → Steps (frees_in old.objects) t (frees_in o) → DrainsAfter (drains_of old.objects.works p.rows) (Some t, frees_in o)
+  drained t s = shown (DrainsAfter (drains_of old.objects.works p.rows) (Some t, frees_in o)) t s
+      (λ f fs e w q k s. subst (λ (fs : List FreeFrame). DrainsAfter (drains_of fs p.rows) (Some t, frees_in o)) (sym k) (step-fewer f fs ws p (frees_in o) w t s))
+
+  no-end : (t : FreeStep) → IsNews t → (a : FreeReply) → t ≡ Done a → ⊥
+  no-end t n a e = none (subst IsNews e n)
+    where
+      none : IsNews (Done a) → ⊥
+      none n = n
+
   pub news_ready : (t : FreeStep) → Steps (frees_in old.objects) t (frees_in o) → IsNews t → GoesOn t (frees_in o) → IsBetweenSteps active.Freeing (record { waiting = old.waiting; objects = o })
   news_ready t s n goes = record {
     whole = (news_onward t s n).along.whole;
     fit = shown (FreesFit o.works ws) t s (λ f fs e w q k s. news-fit t (frees_in o) ws n (step-fits f fs ws p (frees_in o) w t e s));
-    ready = record { at_work = news-work t (frees_in o) n goes; settled = s.settles };
-    places = (let room = had.places in let fewer = requests in omega (arith, room, fewer));
+    ready = record { at_work = news-work t (frees_in o) n goes; settled = s.settles; emptied = may-forget o.works ws o.pool (news_onward t s n).along.whole };
+    places = (let room = had.places in let fewer = requests in let drains = goes-on-fewer _ t (frees_in o) (no-end t n) (drained t s) in omega (arith, room, fewer, drains));
   }
 
   one-more : (new : Parts) → new.waiting.items ≡ old.waiting.items ++ Freeing ∷ [] → length new.waiting.items ≡ length old.waiting.items + 1
@@ -151,27 +191,42 @@ module _ (old : Parts) (o : Objects) (had : IsBetweenSteps active.Freeing old) (
     places = tt;
   }
 
-  pub prepares_onward : (x : Obj) (new : Parts) → new.objects ≡ o → new.waiting.items ≡ old.waiting.items ++ Freeing ∷ [] → Steps (frees_in old.objects) (Prepare x) (frees_in o)
-      → StepsSilently (host_view active.Freeing old) (host_view (active.Requesting (work.Receiving x)) new)
-  prepares_onward x new same push s =
-      rw (same, pushed old.waiting.items new.waiting.items Freeing push)
-      (shown (StepsSilently (host_view active.Freeing old) (other_view (frame.Request (Receiving x)) o.works (Freeing ∷ ws) o.pool)) (Prepare x) s
-      (λ f fs e w q k s.
-      subst (λ (fs : List FreeFrame). StepsSilently (freeing_view fs ws p) (other_view (frame.Request (Receiving x)) o.works (Freeing ∷ ws) o.pool)) (sym k) (step-prepares f fs ws p (frees_in o) w x s).1))
+  -- what comes before the freeing of a request, or of a queue, begins as this work
+  module _ (asked : FreeStep) (g : FreeFrame) (work : Work) (asks : AsksFor asked g) (waits : IsPreparing (Some g)) (runs : run_for g ≡ frame.Request (work_frame work)) (silent : event_of p.ring asked ≡ None) (new : Parts)
+      (same : new.objects ≡ o) (push : new.waiting.items ≡ old.waiting.items ++ Freeing ∷ []) (steps : Steps (frees_in old.objects) asked (frees_in o)) where
+    pub prepares_onward : StepsSilently (host_view active.Freeing old) (host_view (active.Requesting work) new)
+    prepares_onward =
+        rw (same, pushed old.waiting.items new.waiting.items Freeing push)
+        (shown (StepsSilently (host_view active.Freeing old) (other_view (frame.Request (work_frame work)) o.works (Freeing ∷ ws) o.pool)) asked steps
+        (λ f fs e w q k s.
+        let on : StepsSilently (freeing_view (f ∷ fs) ws p) (other_view (frame.Request (work_frame work)) o.works (Freeing ∷ ws) o.pool) = subst (λ (z : Frame). StepsSilently (freeing_view (f ∷ fs) ws p) (other_view z o.works (Freeing ∷ ws) o.pool)) runs (step-prepares f fs ws p (frees_in o) w asked g asks waits silent s).1 in
+        subst (λ (fs : List FreeFrame). StepsSilently (freeing_view fs ws p) (other_view (frame.Request (work_frame work)) o.works (Freeing ∷ ws) o.pool)) (sym k) on))
 
-  pub prepares_ready : (x : Obj) (new : Parts) → new.objects ≡ o → new.waiting.items ≡ old.waiting.items ++ Freeing ∷ [] → vec_capacity new.waiting ≡ vec_capacity old.waiting → Steps (frees_in old.objects) (Prepare x) (frees_in o)
-      → IsBetweenSteps (active.Requesting (work.Receiving x)) new
-  prepares_ready x new same push cap s =
-      let counts : count_unreceived new.objects.pool.requests ≡ count_unreceived o.pool.requests = ap (λ (z : Objects). count_unreceived z.pool.requests) same in
-      let n = one-more new push in
-      let room = had.places in
-      let fewer = requests in
-      record {
-        whole = (prepares_onward x new same push s).along.whole;
-        fit = marked (Prepare x) new same push (shown (FreesFit o.works ws) (Prepare x) s (λ f fs e w q k s. step-fits f fs ws p (frees_in o) w (Prepare x) e s));
-        ready = rw same (inr (shown (IsReceiving (slice_get o.works 0)) (Prepare x) s (λ f fs e w q k s. (step-prepares f fs ws p (frees_in o) w x s).0)));
-        places = omega (arith, room, fewer, cap, n, counts);
-      }
+    -- the free waits that has asked for it
+    first : (fs : List FreeFrame) × (o.works ≡ g ∷ fs)
+    first = shown ((fs : List FreeFrame) × (o.works ≡ g ∷ fs)) asked steps
+        (λ f fs e w q k s. (fs, ap (λ (z : OpenFrees). z.works) (step-prepares f fs ws p (frees_in o) w asked g asks waits silent s).0))
+
+    no-answer : (a : FreeReply) → asked ≡ Done a → ⊥
+    no-answer a e = none (subst (λ (z : FreeStep). AsksFor z g) e asks)
+      where
+        none : AsksFor (Done a) g → ⊥
+        none n = n
+
+    pub prepares_ready : vec_capacity new.waiting ≡ vec_capacity old.waiting → (MayBeginFree o → WorkReady work o) → ((rows : List Row) → work_places work + 2 * count_undrained rows ≤ 1 + 2 * drains_after g rows) → IsBetweenSteps (active.Requesting work) new
+    prepares_ready cap may few =
+        let counts : owed new.objects.pool ≡ owed o.pool = ap (λ (z : Objects). owed z.pool) same in
+        let n = one-more new push in
+        let room = had.places in
+        let fewer = requests in
+        let takes = few o.pool.rows in
+        let drains : drains_after g o.pool.rows ≤ drains_of old.objects.works p.rows = subst (λ (fs : List FreeFrame). drains_of fs o.pool.rows ≤ drains_of old.objects.works p.rows) first.1 (goes-on-fewer _ asked (frees_in o) no-answer (drained asked steps)) in
+        record {
+          whole = prepares_onward.along.whole;
+          fit = marked asked new same push (shown (FreesFit o.works ws) asked steps (λ f fs e w q k s. asks-fit asked g (frees_in o) ws asks (step-fits f fs ws p (frees_in o) w asked e s)));
+          ready = rw same (may (inr (subst (λ (fs : List FreeFrame). IsPreparing (slice_get fs 0)) (sym first.1) waits)));
+          places = omega (arith, room, fewer, cap, n, counts, takes, drains);
+        }
 
   pub ends_onward : (a : FreeReply) → Steps (frees_in old.objects) (Done a) (frees_in o) → StepsSilently (host_view active.Freeing old) (ended_view (Freed a) (record { waiting = old.waiting; objects = o }))
   ends_onward a s = shown (StepsSilently (host_view active.Freeing old) (ended_view (Freed a) (record { waiting = old.waiting; objects = o }))) (Done a) s
@@ -191,4 +246,8 @@ module _ (old : Parts) (o : Objects) (had : IsBetweenSteps active.Freeing old) (
       let waits : AllWait (standing fs ws) = rw stands at w.sound.waiting in
       let seated : IsStacked (frame.Free f) (standing fs ws) = rw stands at w.seated in
       let fits : Fits fs ws = subst (λ (z : List FreeFrame). Fits z ws) are (step-fits f fs ws p (frees_in o) w (Done a) e s) in
-      freed-answers f fs ws a o runs' fits waits seated)
+      freed-answers f fs ws a o are runs' fits waits seated)
+
+  -- what waits for it may take its places
+  pub ends_places : (a : FreeReply) → Steps (frees_in old.objects) (Done a) (frees_in o) → HasPlacesFor 2 (record { waiting = old.waiting; objects = o })
+  ends_places a s = let room = had.places in let fewer = requests in let drains = drained (Done a) s in omega (arith, room, fewer, drains)

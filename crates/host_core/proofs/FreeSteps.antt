@@ -1,6 +1,5 @@
 -- The steps of the innermost free, among the works of a host.
 use Rattle.std.proofs.Common.{◌≡◌, ℕ, List, [], ◌∷◌, Option, Some, None, is_some, true, false, refl, sym, ◌∙◌, ap, subst}
-use Rattle.std.specs.Prelude.{slice_get}
 use Rattle.step_machine.specs.Machine.{Move as Do}
 use Rattle.tree_specs.specs.declared.event.Event.{Event}
 use Rattle.tree_specs.specs.declared.frame.Answer.TheVariants.{Freed}
@@ -8,11 +7,10 @@ use Rattle.tree_specs.specs.declared.frame.CallFrame.TheVariants.{Asking}
 use Rattle.tree_specs.specs.declared.frame.Frame.{Frame}
 use Rattle.tree_specs.specs.declared.frame.Frame.TheVariants as frame
 use Rattle.tree_specs.specs.declared.frame.FreeFrame.{FreeFrame}
-use Rattle.tree_specs.specs.declared.frame.FreeFrame.TheVariants.{Hooked, Preparing}
-use Rattle.tree_specs.specs.declared.frame.RequestFrame.TheVariants.{Receiving}
+use Rattle.tree_specs.specs.declared.frame.FreeFrame.TheVariants.{Hooked, Preparing, Draining}
 use Rattle.tree_specs.specs.declared.free_step.FreeReply.{FreeReply}
 use Rattle.tree_specs.specs.declared.free_step.FreeStep.{FreeStep}
-use Rattle.tree_specs.specs.declared.free_step.FreeStep.TheVariants.{Ask as AskOf, Prepare, Done}
+use Rattle.tree_specs.specs.declared.free_step.FreeStep.TheVariants.{Ask as AskOf, Prepare, Drain, Done}
 use Rattle.tree_specs.specs.declared.object.Obj.{Obj}
 use Rattle.tree_specs.specs.declared.question.Ask.TheVariants.{Routine}
 use Rattle.tree_specs.specs.declared.watch.Watch.{Watch}
@@ -24,7 +22,7 @@ use Rattle.tree_specs.specs.Machine.FreeTable.{FreeMove, free_step, free_resume}
 use Rattle.tree_specs.specs.Machine.Table.{announced, event_of, lifted, run_for}
 use Rattle.tree_specs.specs.Machine.View.{View}
 use Rattle.tree_specs.proofs.Tree.Numbered.{by_test}
-use Rattle.destructors.specs.Engine.{IsReceiving}
+use Rattle.destructors.specs.Engine.{IsPreparing}
 use Rattle.destructors.specs.Frees.{OpenFrees, awaits_run, answered, moves, is_event, speaking, Silently, Still, On, Steps}
 use Rattle.destructors.specs.Frees.{moved as free_moved}
 use Rattle.destructors.specs.Runs.{IsNews, AsksFor}
@@ -54,6 +52,7 @@ over_view a s ws = (moved (Do.Done (Freed a) s.pool) (standing s.works ws)).1
 abbrev told_view : FreeStep → OpenFrees → List Waiting → View
 told_view (AskOf x) s ws = run_view s ws
 told_view (Prepare x) s ws = run_view s ws
+told_view (Drain x) s ws = run_view s ws
 told_view (Done a) s ws = over_view a s ws
 told_view t s ws = freeing_view s.works ws s.pool
 
@@ -64,12 +63,14 @@ led (Some t, s) ws = told_view t s ws
 news-view : (t : FreeStep) (s : OpenFrees) (ws : List Waiting) → IsNews t → told_view t s ws ≡ freeing_view s.works ws s.pool
 news-view (AskOf x) s ws n = absurd n
 news-view (Prepare x) s ws n = absurd n
+news-view (Drain x) s ws n = absurd n
 news-view (Done a) s ws n = absurd n
 news-view _ s ws n = refl
 
 asked-view : (t : FreeStep) (f : FreeFrame) (s : OpenFrees) (ws : List Waiting) → AsksFor t f → told_view t s ws ≡ run_view s ws
 asked-view (AskOf x) f s ws a = refl
 asked-view (Prepare x) f s ws a = refl
+asked-view (Drain x) f s ws a = refl
 asked-view t f s ws a = absurd a
 
 answered-leads : (a : FreeReply) (q : Pool) (fs : List FreeFrame) (ws : List Waiting) → (moved (Do.Done (Freed a) q) (below_free fs ws)).1 ≡ led (answered a q fs) ws
@@ -103,6 +104,7 @@ events ring (Some t) = event_of ring t
 no-event-asked : (ring : List Watch) (t : FreeStep) (f : FreeFrame) → AsksFor t f → event_of ring t ≡ None
 no-event-asked ring (AskOf x) f a = refl
 no-event-asked ring (Prepare x) f a = refl
+no-event-asked ring (Drain x) f a = refl
 no-event-asked ring t f a = absurd a
 
 answered-events : (ring : List Watch) (a : FreeReply) (p : Pool) (fs : List FreeFrame) (below : List Frame) → (moved (Do.Done (Freed a) p) below).0 ≡ events ring (answered a p fs).0
@@ -177,6 +179,16 @@ silently-along s t ws (On u _ earlier last) h =
 
 -- ---- a step of the innermost free
 
+-- what is asked for tells which free waits for it
+same-frame : (asked : FreeStep) (f g : FreeFrame) → AsksFor asked f → AsksFor asked g → IsPreparing (Some g) → f ≡ g
+same-frame (Prepare x) (Preparing y) (Preparing z) a b i = ap Preparing (sym a ∙ b)
+same-frame (Drain x) (Draining y) (Draining z) a b i = ap Draining (sym a ∙ b)
+same-frame (Prepare x) (Preparing y) g a b i = absurd b
+same-frame (Drain x) (Draining y) g a b i = absurd b
+same-frame (AskOf x) f (Hooked z h) a b i = absurd i
+same-frame (AskOf x) f g a b i = absurd b
+same-frame asked f g a b i = absurd a
+
 module _ (f : FreeFrame) (fs : List FreeFrame) (ws : List Waiting) (p : Pool) (new : OpenFrees) (h : IsConsistent (free_view f fs ws p)) where
   abbrev mid : OpenFrees
   mid = (moves (f ∷ fs) p).1
@@ -230,17 +242,15 @@ module _ (f : FreeFrame) (fs : List FreeFrame) (ws : List Waiting) (p : Pool) (n
           (k, rw (e, a) hook, rw (e, a) on')
       each g w a e on = absurd a
 
-  -- a request is to be received
-  pub step-prepares : (x : Obj) → Steps (record { works = f ∷ fs; pool = p }) (Prepare x) new
-      → IsReceiving (slice_get new.works 0) × StepsSilently (free_view f fs ws p) (other_view (frame.Request (Receiving x)) new.works (Freeing ∷ ws) new.pool)
-  step-prepares x s = each f (asks-still (Prepare x) (Preparing x) refl s).0 (asks-still (Prepare x) (Preparing x) refl s).1 (asked-onward (Prepare x) (Preparing x) refl refl s)
-    where
-      each : (g : FreeFrame) → AsksFor (Prepare x) g → new ≡ record { works = g ∷ fs; pool = p } → StepsSilently (free_view f fs ws p) (run_view new ws)
-          → IsReceiving (slice_get new.works 0) × StepsSilently (free_view f fs ws p) (other_view (frame.Request (Receiving x)) new.works (Freeing ∷ ws) new.pool)
-      each (Preparing y) a e on =
-          let on' : StepsSilently (free_view f fs ws p) (run_view (record { works = Preparing y ∷ fs; pool = p }) ws) = rw e at on in
-          (rw e tt, rw (e, a) on')
-      each g a e on = absurd a
+  -- what comes before the freeing of a request, or of a queue, begins
+  pub step-prepares : (asked : FreeStep) (g : FreeFrame) → AsksFor asked g → IsPreparing (Some g) → event_of p.ring asked ≡ None → Steps (record { works = f ∷ fs; pool = p }) asked new
+      → (new ≡ record { works = g ∷ fs; pool = p }) × StepsSilently (free_view f fs ws p) (other_view (run_for g) new.works (Freeing ∷ ws) new.pool)
+  step-prepares asked g a i silent s =
+      let k = asks-still asked g a s in
+      let same : f ≡ g = same-frame asked f g k.0 a i in
+      let is : new ≡ record { works = g ∷ fs; pool = p } = k.1 ∙ ap (λ (z : FreeFrame). let y : OpenFrees = record { works = z ∷ fs; pool = p } in y) same in
+      let on : StepsSilently (free_view f fs ws p) (run_view (record { works = g ∷ fs; pool = p }) ws) = subst (λ (z : OpenFrees). StepsSilently (free_view f fs ws p) (run_view z ws)) is (asked-onward asked g a silent s) in
+      (is, subst (λ (z : OpenFrees). StepsSilently (free_view f fs ws p) (other_view (run_for g) z.works (Freeing ∷ ws) z.pool)) (sym is) on)
 
   -- the free is over, and nothing is done before its answer is heard
   pub ends-there : (a : FreeReply) → Steps (record { works = f ∷ fs; pool = p }) (Done a) new → mid ≡ new

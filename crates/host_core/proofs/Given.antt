@@ -27,8 +27,10 @@ use Rattle.host_core.specs.declared.short_reply.ShortReply.{ShortReply}
 use Rattle.host_core.specs.declared.step.Step.{Step}
 use Rattle.host_core.specs.declared.step.Step.TheVariants.{Ends}
 use Rattle.host_core.specs.declared.turn.Turn.{Turn}
-use Rattle.host_core.specs.Going.{Answers, ended_view, stepped_view, step_places, HasPlacesFor}
+use Rattle.host_core.specs.Places.{owed, HasPlacesFor}
+use Rattle.host_core.specs.Going.{Answers, ended_view, stepped_view, step_places}
 use Rattle.host_core.specs.Moves.{move_of}
+use Rattle.host_core.specs.Requests.{QueuesAreKept}
 use Rattle.host_core.specs.Reaches.{is_bytes, IsShortAnswer, short_answer, pool_heard, outside_given}
 use Rattle.host_core.specs.Stacks.{Fits, other_view}
 use Rattle.host_core.specs.Steps.{step_of, IsBusy}
@@ -46,6 +48,9 @@ use Rattle.host_core.proofs.Stepping.{step_onward}
 module _ (q : Ask) (c : Call) (old : Parts) (whole : IsConsistent (called_view q (input.Call c) old)) where
   pub call_refs : RefsMayGo old.objects.pool.rows
   call_refs = refs-go _ _ old.objects.pool whole.sound
+
+  pub call_queues : QueuesAreKept old.objects.pool
+  call_queues = whole.queued.pool.queues
 
   module _ (step : Step) (motion : Motion) (o : Objects) (steps : step_of step o.pool ≡ move_of q motion o.pool) (moved : move_of q motion o.pool ≡ call_step (refusals old.objects.pool c) q c old.objects.pool) (works : o.works ≡ old.objects.works) where
     pub call_onward : StepsSilently (called_view q (input.Call c) old) (stepped_view step (record { waiting = old.waiting; objects = o }))
@@ -86,9 +91,9 @@ module _ (now : Active) (t : Turn) (i : Input) (old : Parts) (is : now ≡ activ
 
 -- ---- the outside has answered
 
-heard-requests : (i : Input) (p : Pool) → (pool_heard i p).requests ≡ p.requests
-heard-requests (input.Took fd) p = refl
-heard-requests _ p = refl
+heard-owed : (i : Input) (p : Pool) → owed (pool_heard i p) ≡ owed p
+heard-owed (input.Took fd) p = refl
+heard-owed _ p = refl
 
 module _ (now : Active) (q : Ask) (i : Input) (old : Parts) (is : now ≡ active.Reaching q) (fits : is_none (misfit (asked_now now) i) ≡ true) (ready : PartsReady now old.objects) (no_bytes : is_bytes i ≡ false) where
   fits-here : is_none (misfit (Some q) i) ≡ true
@@ -121,5 +126,5 @@ module _ (now : Active) (q : Ask) (i : Input) (old : Parts) (is : now ≡ active
     pub heard_places : HasRoom old → HasPlacesFor 1 (record { waiting = old.waiting; objects = o })
     heard_places room =
         let places = room.places in
-        let counts = ap (λ (z : Objects). count_unreceived z.pool.requests) pool ∙ ap count_unreceived (heard-requests i old.objects.pool) in
+        let counts = ap (λ (z : Objects). owed z.pool) pool ∙ heard-owed i old.objects.pool in
         omega (arith, places, counts)

@@ -5,8 +5,7 @@ use Rattle.step_machine.specs.Machine.{Move as Do}
 use Rattle.tree_specs.specs.declared.frame.FreeFrame.{FreeFrame}
 use Rattle.tree_specs.specs.declared.free_step.FreeReply.{FreeReply}
 use Rattle.tree_specs.specs.declared.free_step.FreeStep.{FreeStep}
-use Rattle.tree_specs.specs.declared.free_step.FreeStep.TheVariants.{Ask as AskOf, Prepare, Done}
-use Rattle.tree_specs.specs.Events.Requests.{Notes}
+use Rattle.tree_specs.specs.declared.free_step.FreeStep.TheVariants.{Ask as AskOf, Prepare, Drain, Done}
 use Rattle.tree_specs.specs.Tree.Pool.{Pool}
 use Rattle.tree_specs.specs.Machine.FreeTable.{FreeMove, free_step}
 use Rattle.tree_specs.proofs.Tree.Numbered.{by_test}
@@ -15,7 +14,6 @@ use Rattle.destructors.specs.Frees.{moved as free_moved}
 use Rattle.destructors.specs.Runs.{IsNews, AsksFor}
 use Rattle.destructors.proofs.FreeMoves.{IsMoveOf, is_move}
 use Rattle.destructors.proofs.Hosting.{AwaitsRun}
-use Rattle.object_pool.specs.Requests.{count_unreceived}
 use Rattle.host_core.specs.declared.active.Active.{Active}
 use Rattle.host_core.specs.declared.active.Active.TheVariants as active
 use Rattle.host_core.specs.declared.waiting.Waiting.{Waiting}
@@ -27,7 +25,7 @@ use Rattle.tree_specs.specs.declared.frame.Errand.{Errand}
 use Rattle.tree_specs.specs.declared.frame.Errand.TheVariants.{Receive}
 use Rattle.object_pool.specs.Objects.{Objects}
 use Rattle.host_core.specs.Going.{GoesWell}
-use Rattle.host_core.specs.Hosts.{places, errand_places, HasPlaces}
+use Rattle.host_core.specs.Places.{owed, places, errand_places, HasPlaces}
 
 -- ---- what isn't the open frees
 
@@ -45,12 +43,12 @@ other-fit (active.Turning t) fs ws n e = e
 other-fit (active.Reaching q) fs ws n e = e
 other-fit (active.Requesting w) fs ws n e = e
 
-pub has-places : (now : Active) (waiting : ℕ) (notes : Notes) (most : ℕ) → waiting + places now + 2 * count_unreceived notes ≤ most → HasPlaces now waiting notes most
-has-places (active.Caller c) waiting notes most l = tt
-has-places (active.Reaching q) waiting notes most l = tt
-has-places active.Freeing waiting notes most l = l
-has-places (active.Turning t) waiting notes most l = l
-has-places (active.Requesting w) waiting notes most l = l
+pub has-places : (now : Active) (waiting : ℕ) (o : Objects) (most : ℕ) → IsOther now → waiting + places now + 2 * owed o.pool ≤ most → HasPlaces now waiting o most
+has-places (active.Caller c) waiting o most n l = tt
+has-places (active.Reaching q) waiting o most n l = tt
+has-places active.Freeing waiting o most n l = absurd n
+has-places (active.Turning t) waiting o most n l = l
+has-places (active.Requesting w) waiting o most n l = l
 
 -- ---- one more that waits
 
@@ -91,12 +89,14 @@ fit-answered a q (g ∷ fs) ws e = by_test (awaits_run g)
 fit-news : (t : FreeStep) (s : OpenFrees) (ws : List Waiting) → IsNews t → FreesFit s.works ws → FitAfter (Some t, s) ws
 fit-news (AskOf x) s ws n e = absurd n
 fit-news (Prepare x) s ws n e = absurd n
+fit-news (Drain x) s ws n e = absurd n
 fit-news (Done a) s ws n e = absurd n
 fit-news _ s ws n e = e
 
 fit-asked : (t : FreeStep) (f : FreeFrame) (s : OpenFrees) (ws : List Waiting) → AsksFor t f → FreesFit s.works ws → FitAfter (Some t, s) ws
 fit-asked (AskOf x) f s ws a e = e
 fit-asked (Prepare x) f s ws a e = e
+fit-asked (Drain x) f s ws a e = e
 fit-asked t f s ws a e = absurd a
 
 fit-moved : (f : FreeFrame) (p : Pool) (m : FreeMove) (fs : List FreeFrame) (ws : List Waiting) → IsMoveOf f p m → Fits (behind fs) ws → FitAfter (free_moved m fs) ws

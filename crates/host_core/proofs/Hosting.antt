@@ -1,16 +1,13 @@
 -- The open frees of a host, as whoever calls the engine has to know them.
 use Rattle.std.proofs.Common.{◌≡◌, ℕ, ◌+◌, List, [], ◌∷◌, ◌++◌, true, refl, sym, ◌∙◌, ap, arith}
-use Rattle.tree_specs.specs.declared.frame.CallFrame.TheVariants.{Awaiting as AwaitingCall, Returning}
+use Rattle.tree_specs.specs.declared.frame.CallFrame.TheVariants.{Returning}
 use Rattle.tree_specs.specs.declared.frame.Frame.{Frame}
 use Rattle.tree_specs.specs.declared.frame.Frame.TheVariants as frame
 use Rattle.tree_specs.specs.declared.frame.FreeFrame.{FreeFrame}
-use Rattle.tree_specs.specs.declared.frame.FreeFrame.TheVariants.{Hooked, Preparing, Ending}
-use Rattle.tree_specs.specs.declared.frame.RequestFrame.TheVariants.{Releasing, Over}
-use Rattle.tree_specs.specs.declared.free_step.FreeReply.TheVariants.{Ok}
+use Rattle.tree_specs.specs.declared.frame.FreeFrame.TheVariants.{Hooked, Preparing, Draining}
+use Rattle.tree_specs.specs.declared.frame.RequestFrame.TheVariants.{Over}
 use Rattle.tree_specs.specs.declared.object.Obj.{Obj}
-use Rattle.tree_specs.specs.declared.question.Ask.TheVariants.{Routine}
 use Rattle.tree_specs.specs.declared.reply.Reply.{Reply}
-use Rattle.tree_specs.specs.Rules.Answers.{hook_moment}
 use Rattle.tree_specs.specs.Tree.Pool.{Pool}
 use Rattle.tree_specs.specs.Words.Objects.{same}
 use Rattle.tree_specs.specs.Machine.Profiles.{Phase, InRun}
@@ -18,13 +15,10 @@ use Rattle.tree_specs.specs.Invariants.Sound.{claim, claims, claim_if}
 use Rattle.tree_specs.specs.Invariants.Noted.{AllCalm, ClaimNothing}
 use Rattle.tree_specs.specs.Invariants.Consistent.{IsFree, IsStacked, IsConsistent}
 use Rattle.tree_specs.proofs.Tree.Numbered.{same-equal}
-use Rattle.tree_specs.proofs.Invariants.Changes.{stands}
-use Rattle.tree_specs.proofs.Invariants.Waiters.{waiter}
-use Rattle.tree_specs.proofs.Turns.Seats.{reseat, reseat-work}
 use Rattle.tree_specs.proofs.Tree.Numbered.{by_test}
 use Rattle.destructors.specs.Frees.{awaits_run}
-use Rattle.destructors.specs.Works.{frees_among, AreTurnsLast, IsHosted, AreAwaiting}
-use Rattle.destructors.proofs.Hosting.{over-awaits, begun-on}
+use Rattle.destructors.specs.Works.{frees_among, AreTurnsLast, AreAwaiting}
+use Rattle.destructors.proofs.Standing.{begun-awaits as awaited-begun, returned-awaits as awaited-returned, worked-awaits as awaited-worked}
 use Rattle.host_core.specs.declared.waiting.Waiting.{Waiting}
 use Rattle.host_core.specs.declared.waiting.Waiting.TheVariants.{Freeing, Awaiting, Turning, Requesting, Turn, Work}
 use Rattle.host_core.specs.Stacks.{waiting_frame, free_frames, ahead, behind, standing, Fits}
@@ -84,6 +78,7 @@ none-open f (frame.Free g ∷ gs) n s c = absurd (each g s c)
     each : (g : FreeFrame) → IsStacked f (frame.Free g ∷ gs) → ClaimNothing (frame.Free g ∷ gs) → ⊥
     each (Hooked x h) s c = run x (claims x gs) (c x)
     each (Preparing x) s c = run x (claims x gs) (c x)
+    each (Draining x) s c = run x (claims x gs) (c x)
     each _ s c = n s.0
 none-open f (frame.Call c ∷ gs) n s k = none-open (frame.Call c) gs (λ z. z) s.1 k
 none-open f (frame.Turn t ∷ gs) n s k = none-open (frame.Turn t) gs (λ z. z) s.1 (λ x. nothing-below (claim x (frame.Turn t)) (claims x gs) (k x))
@@ -100,49 +95,17 @@ turns-last f (frame.Request r ∷ gs) s c = turns-last (frame.Request r) gs s.1 
 
 -- ---- what the engine has to know
 
-pub hosted : (f : FreeFrame) (fs : List FreeFrame) (below : List Frame) (p : Pool) → IsConsistent (record { innermost = frame.Free f; below = below; pool = p }) → frees_among below ≡ fs → IsHosted f fs p
-hosted f fs below p h e = record { below = below; frees = e; sound = h.sound; seated = h.seated; light = h.light; turns = turns-last (frame.Free f) below h.seated h.calm.1 }
-
 -- a free that begins, and claims nothing, is awaited
 pub begun-awaits : (f : FreeFrame) (w : Waiting) (fs : List FreeFrame) (ws : List Waiting) (p : Pool) → IsWaiter w → Fits fs ws → ((x : Obj) → claim x (frame.Free f) ≡ [])
     → IsConsistent (record { innermost = frame.Free f; below = waiting_frame w ∷ standing fs ws; pool = p }) → AreAwaiting fs p
-unfolding hosted
 begun-awaits f w fs ws p n e none h =
-    over-awaits f fs p (hosted f fs (waiting_frame w ∷ standing fs ws) p h (skip-waiter w (standing fs ws) n ∙ frees-standing fs ws e)) none
-    (begun-on f (waiting_frame w) (standing fs ws) (waiter (waiting_frame w) (standing fs ws) h.sound.waiting.0) (no-free w n) h.seated)
+    let works = waiting_frame w ∷ standing fs ws in
+    awaited-begun f (waiting_frame w) (standing fs ws) fs p (no-free w n) none h.sound h.seated h.light (turns-last (frame.Free f) works h.seated h.calm.1) (skip-waiter w (standing fs ws) n ∙ frees-standing fs ws e)
 
--- a routine that has returned
+-- and so it is after a routine that has returned
 pub returned-awaits : (v : ℕ) (fs : List FreeFrame) (below : List Frame) (p : Pool) → IsConsistent (record { innermost = frame.Call (Returning v); below = below; pool = p }) → frees_among below ≡ fs → AreAwaiting fs p
-returned-awaits v fs below p h e =
-    let l = h.light in
-    let x : Obj = record { 0 = 0 } in
-    let waits = frame.Call (AwaitingCall (Routine (hook_moment x 0)) x) in
-    record {
-      over = record {
-        below = waits ∷ below;
-        frees = e;
-        sound = stands (frame.Call (Returning v)) (frame.Free (Ending Ok)) below (waits ∷ below) p (λ y. refl) (tt, h.sound.waiting) (tt, tt) h.sound;
-        seated = (tt, reseat (frame.Call (Returning v)) waits below (λ c. absurd c) (λ r. tt) (λ k. k) (λ t. t) (λ v. v) h.seated);
-        light = omega (arith, l);
-        turns = turns-last (frame.Call (Returning v)) below h.seated h.calm.1;
-      };
-      on = refl;
-    }
+returned-awaits v fs below p h e = awaited-returned v below fs p h.sound h.seated h.light (turns-last (frame.Call (Returning v)) below h.seated h.calm.1) e
 
--- the work of a request that is over
+-- and after the work of a request, or of a queue, that is over
 pub worked-awaits : (r : Reply) (fs : List FreeFrame) (below : List Frame) (p : Pool) → IsConsistent (record { innermost = frame.Request (Over r); below = below; pool = p }) → frees_among below ≡ fs → AreAwaiting fs p
-worked-awaits r fs below p h e =
-    let l = h.light in
-    let x : Obj = record { 0 = 0 } in
-    let waits = frame.Request (Releasing x) in
-    record {
-      over = record {
-        below = waits ∷ below;
-        frees = e;
-        sound = stands (frame.Request (Over r)) (frame.Free (Ending Ok)) below (waits ∷ below) p (λ y. refl) (h.sound.rests, h.sound.waiting) (tt, tt) h.sound;
-        seated = (tt, reseat-work (Over r) (Releasing x) below h.seated);
-        light = omega (arith, l);
-        turns = turns-last (frame.Request (Over r)) below h.seated h.calm.1;
-      };
-      on = refl;
-    }
+worked-awaits r fs below p h e = awaited-worked r below fs p h.sound h.seated h.light (turns-last (frame.Request (Over r)) below h.seated h.calm.1) e

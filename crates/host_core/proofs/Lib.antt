@@ -21,3 +21,6 @@ pub mod Telling
 pub mod Taking
 pub mod Nexts
 pub mod Unreceived
+pub mod Draining
+pub mod Emptied
+pub mod StepPools

@@ -10,11 +10,14 @@ use Rattle.tree_specs.specs.declared.frame.FreeFrame.{FreeFrame}
 use Rattle.tree_specs.specs.declared.frame.TurnFrame.{TurnFrame}
 use Rattle.tree_specs.specs.declared.frame.TurnFrame.TheVariants.{Timing, Polling, Firing, Handling}
 use Rattle.tree_specs.specs.declared.free_step.FreeStep.{FreeStep}
-use Rattle.tree_specs.specs.declared.free_step.FreeStep.TheVariants.{Ask, Prepare, Done}
+use Rattle.tree_specs.specs.declared.free_step.FreeStep.TheVariants.{Ask, Prepare, Drain, Done}
 use Rattle.tree_specs.specs.declared.question.Ask.{Ask as Question}
 use Rattle.tree_specs.specs.declared.question.Ask.TheVariants.{Clock, Wait}
 use Rattle.tree_specs.specs.declared.request.State.TheVariants.{Received}
 use Rattle.tree_specs.specs.declared.watch.Watch.{Watch}
+use Rattle.tree_specs.specs.declared.free_step.FreeReply.{FreeReply}
+use Rattle.tree_specs.specs.declared.moment.What.TheVariants.{Trigger}
+use Rattle.tree_specs.specs.Events.Queues.{Head, next_of}
 use Rattle.tree_specs.specs.Events.Requests.{note_of, is_unreceived, state_number}
 use Rattle.tree_specs.specs.Rules.Pieces.{notice_event}
 use Rattle.tree_specs.specs.Tree.Pool.{Pool, finish, receive}
@@ -38,12 +41,15 @@ use Rattle.host_core.specs.Callers.{frame_of, staged, told_by, after_telling, op
 use Rattle.host_core.specs.Promises.{Waits, NextLaw}
 use Rattle.host_core.specs.Stacks.{FreesFit, freeing_view}
 use Rattle.host_core.specs.Turns.{turn_asks, turn_tells, turn_speaks, frame_fired}
-use Rattle.host_core.specs.Requests.{work_speaks, work_tells, work_told, pool_told}
+use Rattle.host_core.specs.Places.{drains_of}
+use Rattle.host_core.specs.Requests.{work_speaks, work_tells, fired_in, triggered_work, work_told, pool_told}
+use Rattle.object_pool.specs.Queueing.{triggering}
 use Rattle.requests.specs.Register.{AreInOrder}
 use Rattle.host_core.specs.Hosts.{host_view, below_in, speaking_view, asked_now, IsBetweenSteps, Tells, FreeTells, TellsSameStory}
 use Rattle.host_core.proofs.StepsSilently.{AfterEvent, after-event, event-along}
 use Rattle.host_core.proofs.FreeSteps.{speaks-events, step-event}
-use Rattle.host_core.proofs.FreeStepping.{step-fits, news-work, news-fit}
+use Rattle.host_core.proofs.Emptied.{may-forget}
+use Rattle.host_core.proofs.FreeStepping.{step-fits, step-fewer, goes-on-fewer, news-work, news-fit}
 use Rattle.host_core.proofs.Offering.{caller-now, waits-now}
 use Rattle.host_core.proofs.Speaking.{turn_speaking, work_speaking, question_seen}
 use Rattle.host_core.proofs.Unreceived.{finished-most, received-fewer}
@@ -81,8 +87,15 @@ caller-told e c parts now o b t =
 told-news : (ring : List Watch) (t : FreeStep) (e : Event) → event_of ring t ≡ Some e → IsNews t
 told-news ring (Ask x) e l = cc
 told-news ring (Prepare x) e l = cc
+told-news ring (Drain x) e l = cc
 told-news ring (Done a) e l = cc
 told-news ring _ e l = tt
+
+news-goes : (t : FreeStep) → IsNews t → (a : FreeReply) → t ≡ Done a → ⊥
+news-goes t n a e = none (subst IsNews e n)
+  where
+    none : IsNews (Done a) → ⊥
+    none n = n
 
 free-told : (e : Event) (parts : Parts) (now : Active) (o : Objects) → IsBetweenSteps active.Freeing parts → FreeTells (Some e) parts.objects now o → Told e active.Freeing parts now o
 free-told e parts now o b t = rw t.still (each parts.objects.works refl b.fit b.whole t.steps)
@@ -100,12 +113,14 @@ free-told e parts now o b t = rw t.still (each parts.objects.works refl b.fit b.
         let a' : AfterEvent (host_view active.Freeing parts) (host_view active.Freeing (with parts o)) e = subst (λ (z : List FreeFrame). AfterEvent (freeing_view z ws parts.objects.pool) (freeing_view o.works ws o.pool) e) (sym k) a in
         let room = b.places in
         let fewer = t.requests in
+        let were = ap (λ (z : List FreeFrame). drains_of z parts.objects.pool.rows) k in
+        let drains = goes-on-fewer _ t.step (frees_in o) (news-goes t.step news) (step-fewer f fs ws parts.objects.pool (frees_in o) h t.step s) in
         record {
           ready = record {
             whole = a'.whole;
             fit = news-fit t.step (frees_in o) ws news (step-fits f fs ws parts.objects.pool (frees_in o) h t.step fit s);
-            ready = record { at_work = news-work t.step (frees_in o) news t.goes_on; settled = s.settles };
-            places = omega (arith, room, fewer);
+            ready = record { at_work = news-work t.step (frees_in o) news t.goes_on; settled = s.settles; emptied = may-forget o.works ws o.pool a'.whole };
+            places = omega (arith, room, fewer, drains, were);
           };
           after = a';
         }
@@ -147,6 +162,16 @@ work-told e (work.Calling what x handler errand) parts order b told =
     let is : Fired what x handler.routine ≡ e = cc in
     let a = after-event (host_view (active.Requesting (work.Calling what x handler errand)) parts) (host_view (active.Requesting (work.Called what x handler errand)) parts) (Fired what x handler.routine) b.whole refl in
     rw (← is) (record { ready = record { whole = a.whole; fit = b.fit; ready = tt; places = b.places }; after = a })
+work-told e (work.Triggering queue) parts order b told = each (next_of parts.objects.pool.queues queue) refl
+  where
+    each : (o : Option Head) → next_of parts.objects.pool.queues queue ≡ o → Told e (active.Requesting (work.Triggering queue)) parts (active.Requesting (triggered_work queue o)) (record parts.objects { pool = triggering o parts.objects.pool })
+    each None n = let bad : Some e ≡ None = rw n at told in cc
+    each (Some h) n =
+        let o : Objects = record parts.objects { pool = triggering (Some h) parts.objects.pool } in
+        let told' : Some e ≡ Some (Fired Trigger h.entry.request h.entry.trigger.routine) = rw n at told in
+        let is : Fired Trigger h.entry.request h.entry.trigger.routine ≡ e = cc in
+        let a = after-event (host_view (active.Requesting (work.Triggering queue)) parts) (host_view (active.Requesting (triggered_work queue (Some h))) (with parts o)) (Fired Trigger h.entry.request h.entry.trigger.routine) b.whole (rw n refl) in
+        rw (← is) (record { ready = record { whole = a.whole; fit = b.fit; ready = tt; places = b.places }; after = a })
 work-told e _ parts order b told = cc
 
 -- ---- by the parts of a host
@@ -224,6 +249,11 @@ turn-still _ question parts b s told = cc
 
 work-loud : (w : Work) (p : Pool) → work_speaks w p ≡ true → None ≡ work_tells w p → ⊥
 work-loud (work.Receiving x) p s told = let bad : None ≡ Some (StateOf x (state_number Received)) = rw s at told in cc
+work-loud (work.Triggering queue) p s told = each (next_of p.queues queue) s told
+  where
+    each : (o : Option Head) → is_some o ≡ true → None ≡ fired_in o → ⊥
+    each None s t = cc
+    each (Some h) s t = cc
 work-loud _ p s told = cc
 
 pub still-waits : (old : Active) (parts : Parts) (now : Active) (o : Objects) → IsBetweenSteps old parts → speaking_view (host_view old parts) ≡ true → Tells None old parts.objects now o → Still old parts now o

@@ -1,10 +1,10 @@
 -- What waited for a work goes on once it is over.
-use Rattle.std.proofs.Common.{◌≡◌, ℕ, ◌+◌, ◌≤◌, inl, List, [], ◌∷◌, ◌++◌, length, length-append, reverse, true, refl, sym, ◌∙◌, ap, subst, arith}
+use Rattle.std.proofs.Common.{◌≡◌, ℕ, ◌+◌, ◌*◌, ◌≤◌, inl, inr, List, [], ◌∷◌, ◌++◌, length, length-append, reverse, true, refl, sym, ◌∙◌, ap, subst, arith}
 use Rattle.std.specs.Prelude.{slice_get, vec_capacity}
 use Rattle.step_machine.specs.Machine.{Move as Do}
 use Rattle.tree_specs.specs.declared.frame.Frame.{Frame}
 use Rattle.tree_specs.specs.declared.frame.FreeFrame.{FreeFrame}
-use Rattle.tree_specs.specs.declared.frame.FreeFrame.TheVariants.{Hooked, Preparing}
+use Rattle.tree_specs.specs.declared.frame.FreeFrame.TheVariants.{Hooked, Preparing, Draining}
 use Rattle.tree_specs.specs.declared.frame.Errand.{Errand}
 use Rattle.tree_specs.specs.declared.frame.Errand.TheVariants.{Receive}
 use Rattle.tree_specs.specs.declared.frame.RequestFrame.TheVariants as request
@@ -16,10 +16,12 @@ use Rattle.tree_specs.specs.declared.moment.What.TheVariants.{Cleanup, Cancel}
 use Rattle.tree_specs.specs.Machine.Table.{resume, turn_resume, request_resume}
 use Rattle.tree_specs.specs.Machine.View.{View}
 use Rattle.tree_specs.specs.Invariants.Consistent.{IsConsistent}
-use Rattle.destructors.specs.Engine.{IsAsked, IsReceiving}
-use Rattle.destructors.specs.Frees.{OpenFrees, returned, received, speaking, Silently, Still, Begins}
+use Rattle.destructors.specs.Engine.{IsAsked, IsPreparing}
+use Rattle.destructors.specs.Frees.{OpenFrees, returned, prepared, speaking, Silently, Still, Begins}
 use Rattle.destructors.specs.Works.{IsAtWork}
-use Rattle.object_pool.specs.Objects.{Objects, frees_in}
+use Rattle.tree_specs.specs.declared.row.Mark.TheVariants.{Quiet}
+use Rattle.tree_specs.specs.Tree.Pool.{marked_row}
+use Rattle.object_pool.specs.Objects.{Objects, frees_in, MayBeginFree}
 use Rattle.object_pool.specs.Requests.{count_unreceived}
 use Rattle.host_core.specs.declared.active.Active.{Active}
 use Rattle.host_core.specs.declared.active.Active.TheVariants as active
@@ -33,8 +35,11 @@ use Rattle.host_core.specs.declared.work.Work.TheVariants as work
 use Rattle.host_core.specs.Requests.{WorkReady, ErrandReady}
 use Rattle.host_core.specs.Stacks.{waiting_frame, work_frame, active_frame, answer_of, standing, Fits, FreesFit, other_view, freeing_view}
 use Rattle.host_core.specs.Steps.{IsOther, IsWaiter}
-use Rattle.host_core.specs.Hosts.{host_view, moved, places, errand_places, turn_places, work_places, FrameReady, PartsReady, TellsSameStory, IsBetweenSteps}
-use Rattle.host_core.specs.Going.{AnswersTo, Answers, resumed_works, answer_places, ended_view, HasPlacesFor}
+use Rattle.host_core.specs.Places.{count_undrained, drains_of, owed, places, errand_places, turn_places, work_places, HasPlacesFor}
+use Rattle.host_core.specs.Hosts.{host_view, moved, FrameReady, PartsReady, TellsSameStory, IsBetweenSteps}
+use Rattle.host_core.specs.Going.{AnswersTo, Answers, resumed_works, answer_places, ended_view}
+use Rattle.host_core.proofs.Draining.{TryBelow, changed-most, without-fewer, silently-fewer, try-below}
+use Rattle.host_core.proofs.Emptied.{may-forget}
 use Rattle.host_core.proofs.StepsSilently.{stays}
 use Rattle.host_core.proofs.FreeSteps.{silently-along}
 use Rattle.host_core.proofs.Going.{other-seen, other-fit, has-places, pushed, below-waiter, fits-silently}
@@ -49,12 +54,13 @@ returned_begins v o new a e s = record { moves_on = rw e (each o.works a); settl
     each (Hooked x h ∷ fs) a = Still
     each (f ∷ fs) a = absurd a
 
-pub received_begins : (a : Answer) (o new : Objects) → IsReceiving (slice_get o.works 0) → Begins (received o.works) o.pool (frees_in new) → Begins (resumed_works a o.works) o.pool (frees_in new)
-received_begins a o new r b = subst (λ (z : List FreeFrame). Begins z o.pool (frees_in new)) (each o.works r) b
+pub prepared_begins : (a : Answer) (o new : Objects) → IsPreparing (slice_get o.works 0) → Begins (prepared o.works) o.pool (frees_in new) → Begins (resumed_works a o.works) o.pool (frees_in new)
+prepared_begins a o new r b = subst (λ (z : List FreeFrame). Begins z o.pool (frees_in new)) (each o.works r) b
   where
-    each : (fs : List FreeFrame) → IsReceiving (slice_get fs 0) → received fs ≡ resumed_works a fs
+    each : (fs : List FreeFrame) → IsPreparing (slice_get fs 0) → prepared fs ≡ resumed_works a fs
     each [] r = absurd r
     each (Preparing x ∷ fs) r = refl
+    each (Draining x ∷ fs) r = refl
     each (f ∷ fs) r = absurd r
 
 -- ---- whoever waited
@@ -86,12 +92,12 @@ module _ (a : Answer) (w : Waiting) (next : Active) (old new : Parts) (waits : I
       let fit' : Fits old.objects.works (w ∷ ws) = subst (Fits old.objects.works) turned fit in
       let fits : Fits new.objects.works ws = subst (λ (o : Objects). Fits o.works ws) (sym same) ((below-waiter old.objects.works w ws waits).2 fit') in
       let n = one-fewer old.waiting.items new.waiting.items w popped in
-      let counts : count_unreceived new.objects.pool.requests ≡ count_unreceived old.objects.pool.requests = ap (λ (o : Objects). count_unreceived o.pool.requests) same in
+      let counts : owed new.objects.pool ≡ owed old.objects.pool = ap (λ (o : Objects). owed o.pool) same in
       record {
         whole = subst IsConsistent leads whole;
         fit = other-fit next new.objects.works ws other fits;
         ready = ready;
-        places = has-places next (length new.waiting.items) new.objects.pool.requests (vec_capacity new.waiting) (omega (arith, few, room, cap, n, counts));
+        places = has-places next (length new.waiting.items) new.objects (vec_capacity new.waiting) other (omega (arith, few, room, cap, n, counts));
       }
 
 -- ---- the open frees, which waited
@@ -124,21 +130,27 @@ module _ (a : Answer) (old new : Parts) (popped : old.waiting.items ≡ new.wait
       subst (λ (z : View). TellsSameStory z (host_view active.Freeing new)) (sym free-leads)
       (silently-along resumed_frees (frees_in new.objects) free_ws begins.moves_on (subst IsConsistent free-leads whole))
 
-  pub again_ready : IsAtWork (frees_in new.objects) → speaking (frees_in new.objects) ≡ true → new.objects.pool.requests ≡ old.objects.pool.requests → 2 ≤ 1 + answer_places a → HasPlacesFor (answer_places a) old → vec_capacity new.waiting ≡ vec_capacity old.waiting
+  pub again_ready : IsAtWork (frees_in new.objects) → speaking (frees_in new.objects) ≡ true → new.objects.pool.requests ≡ old.objects.pool.requests → 2 + 2 * drains_of (resumed_works a old.objects.works) old.objects.pool.rows ≤ 1 + answer_places a + 2 * count_undrained old.objects.pool.rows → HasPlacesFor (answer_places a) old → vec_capacity new.waiting ≡ vec_capacity old.waiting
       → IsBetweenSteps active.Freeing new
   again_ready at settled requests few room cap =
       let n = one-fewer old.waiting.items new.waiting.items Freeing popped in
       let counts = ap count_unreceived requests in
+      let below : TryBelow (resumed_works a old.objects.works) = tries (resumed_works a old.objects.works) (subst IsConsistent free-leads whole) in
+      let fewer = (silently-fewer resumed_frees (frees_in new.objects) begins.moves_on below).0 in
       record {
         whole = again_along.whole;
         fit = fits-silently resumed_frees (frees_in new.objects) free_ws begins.moves_on (each old.objects.works free-fits);
-        ready = record { at_work = at; settled = settled };
-        places = omega (arith, few, room, cap, n, counts);
+        ready = record { at_work = at; settled = settled; emptied = may-forget new.objects.works free_ws new.objects.pool again_along.whole };
+        places = omega (arith, few, room, cap, n, counts, fewer);
       }
     where
       each : (fs : List FreeFrame) → Fits fs (Freeing ∷ free_ws) → FreesFit (resumed_works a fs) free_ws
       each [] e = absurd e.0
       each (f ∷ fs) e = e
+
+      tries : (fs : List FreeFrame) → IsConsistent (freeing_view fs free_ws old.objects.pool) → TryBelow fs
+      tries [] h = tt
+      tries (f ∷ fs) h = try-below fs free_ws h.sound.waiting
 
 -- ---- what a turn or the work of a request may want then
 
@@ -156,20 +168,36 @@ over-ready : (r : Work) (reply : Reply) (o : Objects) → work_frame r ≡ reque
 over-ready (work.Over b) reply o e = (tt, omega arith)
 over-ready _ reply o e = cc
 
+vacating-ready : (r : Work) (queue : Obj) (o : Objects) → MayBeginFree o → work_frame r ≡ request.Vacating queue → WorkReady r o × (work_places r ≤ 3)
+vacating-ready (work.Vacating q) queue o may k = (may, omega arith)
+vacating-ready _ queue o may k = cc
+
 cleaned-ready : (r : Work) (x : Obj) (errand : Errand) (o : Objects) → o.ready ≡ true → work_frame r ≡ request.Cleaned x errand → WorkReady r o × (work_places r ≤ 3)
 cleaned-ready (work.Cleaned y e) x errand o ready k = errand-ready e o ready
 cleaned-ready _ x errand o ready k = cc
 
 pub work_ready : (a : Answer) (w r : Work) (o : Objects) → AnswersTo a (WorkOf w) o → work_frame r ≡ request_resume (work_frame w) (answer_of a) → WorkReady r o × (work_places r ≤ 1 + answer_places a)
 work_ready (Freed b) (work.Releasing child) r o e k = let w = over-ready r _ o k in let few = w.1 in (w.0, omega (arith, few))
-work_ready (Returned v) (work.Called Cleanup x handler errand) r o e k = cleaned-ready r x errand o e k
+work_ready (Freed b) (work.Dropping queue entry) r o e k = let w = vacating-ready r queue o (inr e) k in let few = w.1 in (w.0, omega (arith, few))
+work_ready (Returned v) (work.Called Cleanup x handler errand) r o e k = let w = cleaned-ready r x errand o e k in let few = w.1 in (w.0, omega (arith, few))
 work_ready (Returned v) (work.Called Cancel x handler errand) r o e k = let w = over-ready r _ o k in let few = w.1 in (w.0, omega (arith, few))
 work_ready (Returned v) (work.Called _ x handler errand) r o e k = let w = over-ready r _ o k in let few = w.1 in (w.0, omega (arith, few))
 work_ready _ _ r o e k = absurd e
 
-pub again_places : (a : Answer) (o : Objects) → AnswersTo a Freeing o → 2 ≤ 1 + answer_places a
-again_places (Returned v) o e = omega arith
-again_places (Heard r) o e = omega arith
+pub again_places : (a : Answer) (o : Objects) → AnswersTo a Freeing o → 2 + 2 * drains_of (resumed_works a o.works) o.pool.rows ≤ 1 + answer_places a + 2 * count_undrained o.pool.rows
+again_places (Returned v) o e = each o.works e.0
+  where
+    each : (fs : List FreeFrame) → IsAsked (slice_get fs 0) → 2 + 2 * drains_of (resumed_works (Returned v) fs) o.pool.rows ≤ 5 + 2 * count_undrained o.pool.rows
+    each [] a = absurd a
+    each (Hooked x h ∷ fs) a = let n = changed-most (marked_row Quiet) o.pool.rows x in omega (arith, n)
+    each (f ∷ fs) a = absurd a
+again_places (Heard r) o e = each o.works e.0
+  where
+    each : (fs : List FreeFrame) → IsPreparing (slice_get fs 0) → 2 + 2 * drains_of (resumed_works (Heard r) fs) o.pool.rows ≤ 2 + 2 * count_undrained o.pool.rows
+    each [] i = absurd i
+    each (Preparing x ∷ fs) i = let n = without-fewer o.pool.rows x in omega (arith, n)
+    each (Draining x ∷ fs) i = let n = without-fewer o.pool.rows x in omega (arith, n)
+    each (f ∷ fs) i = absurd i
 again_places _ o e = absurd e
 
 -- ---- the innermost of the works that wait

@@ -1,5 +1,5 @@
 -- Whether what is at work tells or asks something with its next step, and what it asks.
-use Rattle.std.proofs.Common.{◌≡◌, ℕ, Bool, true, false, nat_eq, nat_le, List, [], ◌∷◌, reverse, Option, Some, None, refl, sym, ◌∙◌}
+use Rattle.std.proofs.Common.{◌≡◌, ℕ, Bool, true, false, nat_eq, nat_le, List, [], ◌∷◌, reverse, Option, Some, None, is_some, refl, sym, ◌∙◌}
 use Rattle.step_machine.specs.Machine.{Move}
 use Rattle.step_machine.specs.Machine.{Move as Do}
 use Rattle.tree_specs.specs.declared.due.Due.{Due}
@@ -23,12 +23,13 @@ use Rattle.tree_specs.specs.Calls.Plans.Plan.{Frees as FreesOf, Unlinks as Unlin
 use Rattle.tree_specs.specs.declared.call.Call.TheVariants as call
 use Rattle.tree_specs.specs.Events.Coming.{handler_for, goes_after}
 use Rattle.tree_specs.specs.Events.Pending.{first}
-use Rattle.tree_specs.specs.Events.Requests.{note_of, is_unreceived, cleanup_in, cancel_in}
+use Rattle.tree_specs.specs.Events.Requests.{note_of, is_noted, is_unreceived, cleanup_in, cancel_in}
 use Rattle.tree_specs.specs.Machine.FreeTable.{free_step}
-use Rattle.tree_specs.specs.Machine.Table.{come_step, due_step, taking_step, early_step, timed_step, starting_step, handled_step, turn_step, cancelling_step, cleaning_step, release_object, cleaned_step, callback_step, notifying_step, receiving_step, request_step, lifted, announced, event_of}
+use Rattle.tree_specs.specs.Machine.Table.{come_step, queue_step, soon_step, due_step, taking_step, early_step, timed_step, starting_step, handled_step, turn_step, cancelling_step, cleaning_step, release_object, cleaned_step, callback_step, notifying_step, receiving_step, vacating_step, triggering_step, request_step, lifted, announced, event_of}
 use Rattle.tree_specs.specs.Machine.View.{question_in, question_of}
 use Rattle.tree_specs.specs.Rules.Errands.{is_receive}
-use Rattle.tree_specs.specs.Tree.Pool.{Pool}
+use Rattle.tree_specs.specs.Events.Queues.{Head, has_queue, head_of, next_of}
+use Rattle.tree_specs.specs.Tree.Pool.{Pool, unschedule, run_queue}
 use Rattle.tree_specs.proofs.Tree.Numbered.{by_test}
 use Rattle.destructors.specs.Frees.{moves, is_event}
 use Rattle.object_pool.specs.Objects.{Objects}
@@ -54,13 +55,18 @@ come-silent : (b : Bool) (errand : Errand) (what : What) (x : Obj) (occasion : O
 come-silent true errand what x occasion p = refl
 come-silent false errand what x occasion p = refl
 
+soon-silent : (noted queued : Bool) (x : Obj) (p : Pool) → has_queue p.queues x ≡ queued → speaks (soon_step noted x p) ≡ false
+soon-silent true queued x p e = refl
+soon-silent false true x p e = rw e refl
+soon-silent false false x p e = rw e refl
+
 due-silent : (o : Option Due) (p : Pool) → speaks (due_step o p) ≡ false
 due-silent None p = refl
 due-silent (Some d) p = by_test (nat_eq d.time 0) (λ t. rw t (come-silent _ _ _ _ _ _)) (λ t. rw t refl)
 
 taking-silent : (o : Option Obj) (p : Pool) → speaks (taking_step o p) ≡ false
 taking-silent None p = due-silent (first p.times) p
-taking-silent (Some x) p = come-silent _ _ _ _ _ _
+taking-silent (Some x) p = soon-silent (is_noted p.requests x) (has_queue p.queues x) x (unschedule p x) refl
 
 early-silent : (again : Bool) (d : Due) (now : ℕ) (p : Pool) → speaks (early_step again d now p) ≡ false
 early-silent true d now p = refl
@@ -122,6 +128,14 @@ receiving-speaks : (x : Obj) (b : Bool) (p : Pool) → speaks (receiving_step x 
 receiving-speaks x true p = refl
 receiving-speaks x false p = refl
 
+vacating-silent : (q : Obj) (o : Option Head) (p : Pool) → speaks (vacating_step q o p) ≡ false
+vacating-silent q None p = refl
+vacating-silent q (Some h) p = refl
+
+triggering-speaks : (o : Option Head) (p : Pool) → speaks (triggering_step o p) ≡ is_some o
+triggering-speaks None p = refl
+triggering-speaks (Some h) p = refl
+
 pub work_speaking : (w : Work) (p : Pool) → speaks (request_step (work_frame w) p) ≡ work_speaks w p
 work_speaking (work.Finishing x state) p = refl
 work_speaking (work.Receiving x) p = receiving-speaks x (is_unreceived (note_of p.requests x)) p
@@ -132,6 +146,9 @@ work_speaking (work.Notifying x errand) p = notifying-silent x errand (note_of p
 work_speaking (work.Calling what x handler errand) p = refl
 work_speaking (work.Called what x handler errand) p = refl
 work_speaking (work.Releasing child) p = refl
+work_speaking (work.Vacating queue) p = vacating-silent queue (head_of p.queues queue) (run_queue p queue false)
+work_speaking (work.Dropping queue entry) p = refl
+work_speaking (work.Triggering queue) p = triggering-speaks (next_of p.queues queue) p
 work_speaking (work.Over reply) p = refl
 
 -- ---- the open frees
@@ -183,6 +200,11 @@ work-question : (w : Work) (below : List Frame) (p : Pool) → work_speaks w p �
 work-question (work.Finishing x state) below p s = refl
 work-question (work.Calling what x handler errand) below p s = refl
 work-question (work.Receiving x) below p s = rw s refl
+work-question (work.Triggering queue) below p s = each (next_of p.queues queue) s
+  where
+    each : (o : Option Head) → is_some o ≡ true → question_in (triggering_step o p) ≡ None
+    each None s = cc
+    each (Some h) s = refl
 work-question _ below p s = cc
 
 -- what is asked is known of what is at work

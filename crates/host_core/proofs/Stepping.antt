@@ -1,5 +1,5 @@
 -- A step that tells nothing, by the parts of a host.
-use Rattle.std.proofs.Common.{◌≡◌, ◌≤◌, List, reverse, true, false, refl, sym, ◌∙◌, ap, subst, arith}
+use Rattle.std.proofs.Common.{◌≡◌, ◌*◌, ◌+◌, ◌≤◌, List, reverse, Option, Some, None, is_some, true, false, refl, sym, ◌∙◌, ap, subst, arith}
 use Rattle.step_machine.specs.Machine.{Move}
 use Rattle.step_machine.specs.Machine.{Move as Do}
 use Rattle.tree_specs.specs.declared.frame.Answer.{Answer as Answered}
@@ -7,6 +7,8 @@ use Rattle.tree_specs.specs.declared.frame.Frame.{Frame}
 use Rattle.tree_specs.specs.declared.frame.Frame.TheVariants as frame
 use Rattle.tree_specs.specs.declared.frame.FreeFrame.{FreeFrame}
 use Rattle.tree_specs.specs.declared.frame.TurnFrame.{TurnFrame}
+use Rattle.tree_specs.specs.Events.Queues.{Head}
+use Rattle.tree_specs.specs.Events.Queues.{next_of as next_of_queue}
 use Rattle.tree_specs.specs.Events.Requests.{note_of, is_unreceived}
 use Rattle.tree_specs.specs.Invariants.Consistent.{IsConsistent}
 use Rattle.tree_specs.specs.Machine.Table.{step as machine_step, turn_step, request_step}
@@ -30,29 +32,15 @@ use Rattle.host_core.specs.Moves.{reply_of}
 use Rattle.host_core.specs.Stacks.{standing, Fits, other_view, work_frame}
 use Rattle.host_core.specs.Steps.{step_of}
 use Rattle.host_core.specs.Turns.{MayTurn}
-use Rattle.host_core.specs.Hosts.{host_view, below_in, moved, next_of, speaking_view, turn_places, work_places, FrameReady, IsBetweenSteps, StepsSilently}
-use Rattle.host_core.specs.Going.{stepped_view, IsTurnStep, IsWorkStep, StepAnswers, GoesWell, step_places, HasPlacesFor}
+use Rattle.host_core.specs.Places.{count_undrained, turn_takes, turn_places, work_places, HasPlacesFor}
+use Rattle.host_core.specs.Hosts.{host_view, below_in, moved, next_of, speaking_view, FrameReady, IsBetweenSteps, StepsSilently}
+use Rattle.host_core.specs.Going.{stepped_view, IsTurnStep, IsWorkStep, StepAnswers, GoesWell, step_places}
 use Rattle.host_core.specs.Requests.{MayWork, WorkReady}
+use Rattle.host_core.proofs.StepPools.{pool_in, pool-left, request-rows, turn-room}
 use Rattle.host_core.proofs.StepsSilently.{onward}
 use Rattle.host_core.proofs.Ending.{turned-answers, worked-answers}
-use Rattle.host_core.proofs.Speaking.{turn_speaking}
+use Rattle.host_core.proofs.Speaking.{turn_speaking, work_speaking}
 use Rattle.host_core.proofs.Turning.{may_turn}
-
--- the objects that a move leaves
-abbrev pub pool_in : Move Frame Answered Pool Item → Pool
-pool_in (Do.Done a p) = p
-pool_in (Do.Go f p) = p
-pool_in (Do.Emit e f p) = p
-pool_in (Do.Wait q f p) = p
-pool_in (Do.Call f g p) = p
-
-pub pool-left : (step : Step) (p : Pool) → pool_in (step_of step p) ≡ p
-pool-left (Goes next) p = refl
-pool-left (Calls first second) p = refl
-pool-left (Frees x second) p = refl
-pool-left (Unlinks owner x second) p = refl
-pool-left (Empties x second) p = refl
-pool-left (Ends a) p = refl
 
 -- the code's step is that of the machine
 module _ (f : Frame) (step : Step) (old : Parts) (o : Objects) (whole : IsConsistent (other_view f old.objects.works (reverse old.waiting.items) old.objects.pool))
@@ -96,6 +84,12 @@ may_work (work.Receiving x) fs ws o quiet r = by_test (is_unreceived (note_of o.
     (λ t. let bad : true ≡ false = rw t at quiet in cc)
     (λ t. t)
 may_work (work.Releasing child) fs ws o quiet r = absurd r
+may_work (work.Dropping queue entry) fs ws o quiet r = absurd r
+may_work (work.Triggering queue) fs ws o quiet r = each (next_of_queue o.pool.queues queue) (sym (work_speaking (work.Triggering queue) o.pool) ∙ quiet)
+  where
+    each : (h : Option Head) → is_some h ≡ false → h ≡ None
+    each None q = refl
+    each (Some h) q = cc
 may_work (work.Notifying x errand) fs ws o quiet r = r
 may_work (work.Finishing x state) fs ws o quiet r = cc
 may_work (work.Calling what x handler errand) fs ws o quiet r = cc
@@ -124,18 +118,21 @@ module _ (now : Active) (t : Turn) (old : Parts) (is : now ≡ active.Turning t)
   pub turn_ready : FrameReady t.frame old.objects
   turn_ready = there.ready.frame
 
-  pub turn_goes : (step : Step) (o : Objects) → step_of step o.pool ≡ turn_step t.frame old.objects.pool → GoesWell (turn_places t.frame) step o → IsTurnStep step → o ≡ record old.objects { pool = o.pool } → o.pool.requests ≡ old.objects.pool.requests → GoesOn now step old o
+  pub turn_goes : (step : Step) (o : Objects) → step_of step o.pool ≡ turn_step t.frame old.objects.pool → GoesWell (turn_takes t.frame) step o → IsTurnStep step → o ≡ record old.objects { pool = o.pool } → o.pool.requests ≡ old.objects.pool.requests → GoesOn now step old o
   turn_goes step o same goes ends rest requests =
       let works : o.works ≡ old.objects.works = ap (λ (z : Objects). z.works) rest in
       let fits : Fits o.works (reverse old.waiting.items) = subst (λ (fs : List FreeFrame). Fits fs (reverse old.waiting.items)) (sym works) there.fit in
       let room = there.places in
       let few = goes.places in
       let counts = ap count_unreceived requests in
+      let pool : o.pool ≡ pool_in (turn_step t.frame old.objects.pool) = sym (pool-left step o.pool) ∙ ap pool_in same in
+      let same-rows = ap (λ (z : Pool). count_undrained z.rows) pool in
+      let kept = turn-room t.frame old.objects.pool in
       subst (λ (z : Active). GoesOn z step old o) (sym is) (record {
         onward = step_onward (frame.Turn t.frame) step old o there.whole same works silent;
         fit = fits;
         answers = turn_answers step t.frame old.objects.works (reverse old.waiting.items) old.objects.pool o ends there.fit there.whole;
-        places = omega (arith, room, few, counts);
+        places = omega (arith, room, few, counts, same-rows, kept);
       })
 
 -- the work of a request
@@ -159,9 +156,11 @@ module _ (now : Active) (w : Work) (old : Parts) (is : now ≡ active.Requesting
       let fits : Fits o.works (reverse old.waiting.items) = subst (λ (fs : List FreeFrame). Fits fs (reverse old.waiting.items)) (sym works) working.fit in
       let room = working.places in
       let few = goes.places in
+      let pool : o.pool ≡ pool_in (request_step (work_frame w) old.objects.pool) = sym (pool-left step o.pool) ∙ ap pool_in same in
+      let same-rows = ap count_undrained (ap (λ (z : Pool). z.rows) pool ∙ request-rows (work_frame w) old.objects.pool) in
       subst (λ (z : Active). GoesOn z step old o) (sym is) (record {
         onward = step_onward (frame.Request (work_frame w)) step old o working.whole same works says-nothing;
         fit = fits;
         answers = work_answers step w old.objects.works (reverse old.waiting.items) old.objects.pool o ends working.fit works same working.whole;
-        places = omega (arith, room, few, requests);
+        places = omega (arith, room, few, requests, same-rows);
       })

@@ -1,5 +1,5 @@
 -- An answer that fits is taken: bytes that were read, or what takes no memory of its own.
-use Rattle.std.proofs.Common.{◌≡◌, ◌+◌, ◌*◌, ◌≤◌, length, Some, None, true, false, refl, sym, subst}
+use Rattle.std.proofs.Common.{◌≡◌, ◌+◌, ◌*◌, ◌≤◌, length, Some, None, true, false, refl, sym, ◌∙◌, subst, arith}
 use Rattle.std.specs.Prelude.{is_none, vec_capacity}
 use Rattle.tree_specs.specs.declared.frame.CallFrame.TheVariants.{Telling}
 use Rattle.tree_specs.specs.declared.frame.Frame.TheVariants as frame
@@ -20,9 +20,11 @@ use Rattle.host_core.specs.Moves.{call_of, reported}
 use Rattle.host_core.specs.declared.owned_reply.OwnedReply.{OwnedReply}
 use Rattle.host_core.specs.Callers.{remembers}
 use Rattle.host_core.specs.Stacks.{active_frame}
+use Rattle.host_core.specs.Places.{owed}
 use Rattle.host_core.specs.Promises.{TakesAnswer, taken_in}
 use Rattle.host_core.specs.Reaches.{is_bytes}
 use Rattle.host_core.specs.Hosts.{host_view, given_view, speaking_view, asked_now, caller_asked, IsReport, IsBetweenSteps, MayTake, TellsSameStory}
+use Rattle.host_core.proofs.Draining.{undrained-most}
 use Rattle.host_core.proofs.Offering.{Offered, offered, report-caller, offered-report, takes-answer}
 use Rattle.host_core.proofs.Telling.{stands_at, asked-fit, asked-ready, bytes-asked, calls-outside, read_along}
 
@@ -61,15 +63,19 @@ module _ (now : Active) (parts : Parts) (i : Input) (b : IsBetweenSteps now part
     pub given_same : given_view now i new ≡ given_view now i parts
     given_same = rw (items, objects) refl
 
-    pub may_take : is_bytes i ≡ false → reported (call_of i) ≡ None → AreInOrder parts.objects.pool.requests → length new.waiting.items + 2 * count_unreceived parts.objects.pool.requests + 3 ≤ vec_capacity new.waiting → MayTake now i new
-    may_take no_bytes no_report order places = record {
+    pub may_take : is_bytes i ≡ false → reported (call_of i) ≡ None → AreInOrder parts.objects.pool.requests → length new.waiting.items + 2 * (count_unreceived parts.objects.pool.requests + length parts.objects.pool.queues.running) + 4 ≤ vec_capacity new.waiting → MayTake now i new
+    may_take no_bytes no_report order places =
+      let h = given.1.whole in
+      let few = undrained-most parts.objects.pool.rows parts.objects.pool.queues.running h.sound.forest.distinct (λ x q. h.queued.pool.queues x ∙ q) in
+      let room : length new.waiting.items + 4 + 2 * owed parts.objects.pool ≤ vec_capacity new.waiting = omega (arith, places, few) in
+      record {
       fits = fits;
       no_bytes = no_bytes;
       no_report = no_report;
       ready = asked-ready now parts.objects new.objects given.0 given.1.open_before b.ready;
       fit = rw (items, objects) (asked-fit now parts given.0 given.1.open_before b);
       whole = subst IsConsistent (sym given_same) given.1.whole;
-      room = record { ready = rw objects refl; order = rw objects order; places = rw objects places };
+      room = record { ready = rw objects refl; order = rw objects order; places = rw objects room };
     }
 
 -- ---- a report

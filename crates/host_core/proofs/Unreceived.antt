@@ -1,4 +1,4 @@
--- How many requests are still to be received, where what is kept of one is changed.
+-- How many requests are still to be received, where what is kept of one is changed, and how many queues are still to be drained.
 use Rattle.std.proofs.Common.{◌≡◌, ℕ, ◌+◌, ◌*◌, ◌≤◌, Bool, true, false, T, ◌&&◌, [], ◌∷◌, Option, Some, None, refl, arith}
 use Rattle.std.specs.Prelude.{nat_lt, nat_eq, if◌then◌else◌}
 use Rattle.std.specs.Ordering.{nat_cmp}
@@ -13,9 +13,9 @@ use Rattle.tree_specs.specs.declared.request.State.{State}
 use Rattle.tree_specs.specs.declared.request.State.TheVariants.{InProgress, Received}
 use Rattle.tree_specs.specs.Calls.Refusals.{in_progress}
 use Rattle.tree_specs.specs.Events.Requests.{Notes, note_of, new_note, is_in_progress, is_received, is_unreceived, renoted, cleaned, not_deferring, in_state, state_number}
-use Rattle.tree_specs.specs.Tree.Pool.{Pool}
+use Rattle.tree_specs.specs.Tree.Pool.{Pool, new_row}
 use Rattle.tree_specs.specs.Calls.Plans.{Change, changed_by}
-use Rattle.tree_specs.specs.Calls.Plans.Change.{Nothing, Edit, Add, Place, Handle, Schedule, Unschedule, Arm, Watches, Rewatch, Close, TakeNumber, AddRequest, Renotes, Then}
+use Rattle.tree_specs.specs.Calls.Plans.Change.{Edit, Add, Place, AddRequest, Renotes, Then}
 use Rattle.tree_specs.proofs.Tree.Numbered.{by_test}
 use Rattle.tree_specs.proofs.Calls.Changes.{MayDo, added}
 use Rattle.requests.specs.Register.{AreInOrder}
@@ -23,6 +23,8 @@ use Rattle.requests.specs.declared.requests.Notify.{Notify}
 use Rattle.requests.specs.declared.requests.Notify.TheVariants.{Post}
 use Rattle.object_pool.specs.Objects.{Objects}
 use Rattle.object_pool.specs.Requests.{cleaning, notifying, count_unreceived}
+use Rattle.host_core.specs.Places.{undrained, owed}
+use Rattle.host_core.proofs.Draining.{one-most as one-queue, changed-fewer, placed-fewer}
 
 -- ---- one note in its place
 
@@ -151,9 +153,9 @@ notifying_many x _ o k = refl
 
 pub record Counted (p q : Pool) (more : ℕ) : Type 0 where
   pub order : AreInOrder q.requests
-  pub few : 2 * count_unreceived q.requests ≤ 2 * count_unreceived p.requests + more
+  pub few : owed q ≤ owed p + more
 
--- so many more, two for each request, as it adds rows
+-- with so many more rows there is so much more for frees to come to, at most
 pub change-counted : (c : Change) (p : Pool) → AreInOrder p.requests → MayDo p c → Counted p (changed_by c p) (added c)
 change-counted (Renotes x g) p o may = let e = renoted-many g p.requests x o may in record { order = renoted-order g p.requests x o; few = omega (arith, e) }
 change-counted (AddRequest owner size name) p o may =
@@ -166,15 +168,9 @@ change-counted (Then first second) p o may =
     let few = f.few in
     let fewer = s.few in
     record { order = s.order; few = omega (arith, few, fewer) }
-change-counted Nothing p o may = record { order = o; few = omega arith }
-change-counted (Edit x g) p o may = record { order = o; few = omega arith }
-change-counted (Add kind owner size name) p o may = record { order = o; few = omega arith }
-change-counted (Place owner x) p o may = record { order = o; few = omega arith }
-change-counted (Handle x handler) p o may = record { order = o; few = omega arith }
-change-counted (Schedule x) p o may = record { order = o; few = omega arith }
-change-counted (Unschedule x) p o may = record { order = o; few = omega arith }
-change-counted (Arm x time number) p o may = record { order = o; few = omega arith }
-change-counted (Watches x fd flags) p o may = record { order = o; few = omega arith }
-change-counted (Rewatch x change) p o may = record { order = o; few = omega arith }
-change-counted (Close fd) p o may = record { order = o; few = omega arith }
-change-counted TakeNumber p o may = record { order = o; few = omega arith }
+change-counted (Edit x g) p o may =
+    let m = changed-fewer g p.rows x (λ r. let same : undrained (g r) ≡ undrained r = rw (may.place.kind r, may.mark r) refl in omega (arith, same)) in
+    record { order = o; few = omega (arith, m) }
+change-counted (Place owner x) p o may = let m = placed-fewer p owner x in record { order = o; few = omega (arith, m) }
+change-counted (Add kind owner size name) p o may = let m = one-queue (new_row (record { 0 = p.next }) kind owner size name) in record { order = o; few = omega (arith, m) }
+change-counted _ p o may = record { order = o; few = omega arith }

@@ -14,7 +14,6 @@ use Rattle.tree_specs.specs.Machine.View.{View}
 use Rattle.destructors.specs.Engine.{IsAsked, IsPreparing}
 use Rattle.destructors.specs.Works.{IsAwaiting}
 use Rattle.object_pool.specs.Objects.{Objects, frees_in, MayBeginFree}
-use Rattle.object_pool.specs.Requests.{count_unreceived}
 use Rattle.host_core.specs.declared.active.Active.{Active}
 use Rattle.host_core.specs.declared.answer.Answer.{Answer}
 use Rattle.host_core.specs.declared.answer.Answer.TheVariants.{Freed, Returned, Turned, Heard}
@@ -27,7 +26,8 @@ use Rattle.host_core.specs.declared.work.Work.{Work}
 use Rattle.host_core.specs.declared.work.Work.TheVariants.{Called, Releasing, Dropping, Over}
 use Rattle.host_core.specs.Callers.{remembers}
 use Rattle.host_core.specs.Reaches.{remembered}
-use Rattle.host_core.specs.Hosts.{below_in, moved, places, PartsReady}
+use Rattle.host_core.specs.Hosts.{below_in, moved, PartsReady}
+use Rattle.host_core.specs.Places.{places}
 use Rattle.host_core.specs.Stacks.{active_frame, answer_of}
 use Rattle.host_core.specs.Steps.{step_of, IsBusy}
 use Rattle.host_core.specs.Turns.{turn_asks}
@@ -63,10 +63,10 @@ abbrev pub resumed_works : Answer → List FreeFrame → List FreeFrame
 resumed_works a [] = []
 resumed_works a (f ∷ fs) = freeing_resume f (answer_of a) ∷ fs
 
--- the places that what waits for it may take
+-- the places that what waits for it may take; an object whose destructor or handler has returned may be quiet again
 abbrev pub answer_places : Answer → ℕ
 answer_places (Freed a) = 2
-answer_places (Returned v) = 2
+answer_places (Returned v) = 4
 answer_places (Turned v) = 0
 answer_places (Heard r) = 1
 
@@ -121,10 +121,6 @@ IsOver w = ⊥
 abbrev pub IsWorkStep : Work → Step → Type 0
 IsWorkStep w (Ends (Heard r)) = IsOver w
 IsWorkStep w step = IsOngoing step
-
--- there are places for what is at work or comes to be, besides those of requests that are still to be received
-abbrev pub HasPlacesFor : ℕ → Parts → Type 0
-HasPlacesFor n parts = length parts.waiting.items + n + 2 * count_unreceived parts.objects.pool.requests ≤ vec_capacity parts.waiting
 
 -- a turn goes on with this
 abbrev pub goes_as : TurnFrame → Step

@@ -3,15 +3,13 @@ use Rattle.std.specs.Prelude.{◌≡◌, ℕ, ◌+◌, ◌*◌, ◌≤◌, ◌<�
 use Rattle.step_machine.specs.Machine.{Move}
 use Rattle.step_machine.specs.Machine.{Move as Do}
 use Rattle.tree_specs.specs.declared.event.Event.{Event}
-use Rattle.tree_specs.specs.declared.frame.Errand.{Errand}
-use Rattle.tree_specs.specs.declared.frame.Errand.TheVariants.{Receive}
 use Rattle.tree_specs.specs.declared.frame.Frame.{Frame}
 use Rattle.tree_specs.specs.declared.frame.Frame.TheVariants as frame
 use Rattle.tree_specs.specs.declared.frame.CallFrame.{CallFrame}
 use Rattle.tree_specs.specs.declared.frame.CallFrame.TheVariants.{Asking, Doing, Returning}
 use Rattle.tree_specs.specs.declared.frame.FreeFrame.TheVariants.{Ending}
 use Rattle.tree_specs.specs.declared.frame.TurnFrame.{TurnFrame}
-use Rattle.tree_specs.specs.declared.frame.TurnFrame.TheVariants.{Taking, Timed, Handled, Clearing, Serving, Closing}
+use Rattle.tree_specs.specs.declared.frame.TurnFrame.TheVariants.{Taking, Timed, Handled, Clearing, Serving}
 use Rattle.tree_specs.specs.declared.frame.Answer.{Answer}
 use Rattle.tree_specs.specs.declared.free_step.FreeReply.TheVariants.{Ok}
 use Rattle.tree_specs.specs.declared.question.Act.TheVariants as act
@@ -22,7 +20,6 @@ use Rattle.tree_specs.specs.declared.call.Call.TheVariants as call
 use Rattle.tree_specs.specs.declared.object.Owner.{Owner}
 use Rattle.tree_specs.specs.declared.reply.Reply.{Reply}
 use Rattle.tree_specs.specs.Calls.Refusals.{refusals}
-use Rattle.tree_specs.specs.Events.Requests.{Notes}
 use Rattle.tree_specs.specs.Tree.Pool.{Pool}
 use Rattle.tree_specs.specs.Rules.Items.{Item}
 use Rattle.tree_specs.specs.Rules.Items.Item.{Told, Asked}
@@ -32,6 +29,8 @@ use Rattle.tree_specs.specs.Machine.Table.{step, resume, event_of, call_step, re
 use Rattle.tree_specs.specs.Machine.View.{View, rest_of, strays_of}
 use Rattle.tree_specs.specs.declared.free_step.FreeStep.{FreeStep}
 use Rattle.destructors.specs.Frees.{speaking, Steps}
+use Rattle.destructors.specs.Frees.{next_of as moves_next}
+use Rattle.object_pool.specs.Upcoming.{MayForget}
 use Rattle.destructors.specs.Works.{IsAtWork, GoesOn}
 use Rattle.object_pool.specs.Objects.{Objects, frees_in, LeavesRest}
 use Rattle.object_pool.specs.Requests.{count_unreceived}
@@ -42,12 +41,11 @@ use Rattle.host_core.specs.declared.active.Active.TheVariants as active
 use Rattle.host_core.specs.declared.owned_reply.OwnedReply.{OwnedReply}
 use Rattle.host_core.specs.declared.turn.Turn.{Turn}
 use Rattle.host_core.specs.declared.waiting.Waiting.{Waiting}
-use Rattle.host_core.specs.declared.work.Work.{Work}
-use Rattle.host_core.specs.declared.work.Work.TheVariants as work
 use Rattle.host_core.specs.Callers.{frame_of, told_by, after_telling, open_at}
 use Rattle.tree_specs.specs.Texts.Schedule.{misfit}
 use Rattle.host_core.specs.Moves.{call_of, reported}
 use Rattle.host_core.specs.Reaches.{IsOutside, is_bytes, outside_given}
+use Rattle.host_core.specs.Places.{HasPlaces, HasPlacesFor}
 use Rattle.host_core.specs.Requests.{work_tells, work_told, pool_told, WorkReady}
 use Rattle.host_core.specs.Stacks.{standing, active_frame, other_view, seen, Fits, AllFit}
 use Rattle.host_core.specs.Turns.{turn_asks, turn_given, turn_tells, frame_fired}
@@ -68,6 +66,8 @@ below_in parts = standing parts.objects.works (reverse parts.waiting.items)
 pub record FreeReady (objects : Objects) : Type 0 where
   pub at_work : IsAtWork (frees_in objects)
   pub settled : speaking (frees_in objects) ≡ true
+  -- what is no more with that step is no queue with entries
+  pub emptied : MayForget (moves_next (frees_in objects)).0 objects.pool.queues
 
 -- a turn has its question at hand, and the memory for what follows, until it waits or is over
 abbrev pub FrameReady : TurnFrame → Objects → Type 0
@@ -89,42 +89,11 @@ PartsReady (active.Turning t) objects = TurnReady t objects
 PartsReady (active.Reaching q) objects = IsOutside q
 PartsReady (active.Requesting w) objects = WorkReady w objects
 
--- the places among the works that wait which what is at work may take before the next question, besides those of requests that
--- are still to be received
-abbrev pub errand_places : Errand → ℕ
-errand_places Receive = 3
-errand_places errand = 1
-
-abbrev pub work_places : Work → ℕ
-work_places (work.Cleaning x errand) = errand_places errand
-work_places (work.Cleaned x errand) = errand_places errand
-work_places (work.Vacating queue) = 3
-work_places w = 1
-
-abbrev pub turn_places : TurnFrame → ℕ
-turn_places Taking = 2
-turn_places (Timed again now) = 2
-turn_places (Handled what x) = 3
-turn_places (Closing v) = 0
-turn_places f = 1
-
-abbrev pub places : Active → ℕ
-places active.Freeing = 2
-places (active.Turning t) = turn_places t.frame
-places (active.Requesting w) = work_places w
-places now = 0
-
--- so many places, and two for each request that is still to be received, are there for what is at work
-abbrev pub HasPlaces : Active → ℕ → Notes → ℕ → Type 0
-HasPlaces (active.Caller c) waiting notes most = Unit {0}
-HasPlaces (active.Reaching q) waiting notes most = Unit {0}
-HasPlaces now waiting notes most = waiting + places now + 2 * count_unreceived notes ≤ most
-
 pub record IsBetweenSteps (now : Active) (parts : Parts) : Type 0 where
   pub whole : IsConsistent (host_view now parts)
   pub fit : AllFit now parts.objects.works (reverse parts.waiting.items)
   pub ready : PartsReady now parts.objects
-  pub places : HasPlaces now (length parts.waiting.items) parts.objects.pool.requests (vec_capacity parts.waiting)
+  pub places : HasPlaces now (length parts.waiting.items) parts.objects (vec_capacity parts.waiting)
 
 -- ---- a step
 
@@ -219,7 +188,7 @@ given_view now i parts = other_view (given_frame now i parts.objects.pool) parts
 pub record HasRoom (parts : Parts) : Type 0 where
   pub ready : parts.objects.ready ≡ true
   pub order : AreInOrder parts.objects.pool.requests
-  pub places : length parts.waiting.items + 2 * count_unreceived parts.objects.pool.requests + 3 ≤ vec_capacity parts.waiting
+  pub places : HasPlacesFor 4 parts
 
 -- this is an answer to what is asked, and takes no memory of its own
 pub record MayTake (now : Active) (i : Input) (parts : Parts) : Type 0 where

@@ -6,6 +6,7 @@ pub mod Stacks
 pub mod Steps
 pub mod Turns
 pub mod Requests
+pub mod Places
 pub mod Hosts
 pub mod Going
 pub mod Promises

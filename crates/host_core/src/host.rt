@@ -24,11 +24,11 @@ use std::marker::Model;
 use tree_specs::{Ask, Event, Input, Kind, Memory, Obj, Owner, Want};
 
 /// Takes the memory for all that comes up to the next question: each request that wasn't received and each queue may want two
-/// places, and what is at work three. If memory runs out, the works and the objects are as they were.
+/// places, and what is at work four. If memory runs out, the works and the objects are as they were.
 fn make_room(waiting: &mut Vec<Waiting>, objects: &mut ObjectPool) -> Result<(), Memory>
     ensures waiting { waiting.new.items ≡ waiting.old.items }
     ensures kept { vec_capacity waiting.old ≤ vec_capacity waiting.new }
-    ensures places { OnOk result (length waiting.new.items + 2 * count_unreceived objects.old.pool.requests + 3 ≤ vec_capacity waiting.new) }
+    ensures places { OnOk result (length waiting.new.items + 2 * (count_unreceived objects.old.pool.requests + length objects.old.pool.queues.running) + 4 ≤ vec_capacity waiting.new) }
     ensures ok { OnOk result (objects.new ≡ record objects.old { ready = true }) }
     ensures err { OnErr result (objects.new ≡ objects.old) }
     ensures order { AreInOrder objects.old.pool.requests }
@@ -36,7 +36,7 @@ fn make_room(waiting: &mut Vec<Waiting>, objects: &mut ObjectPool) -> Result<(),
     let requests = objects.count_requests();
     let most = requests.checked_add(objects.count_queues()).ok_or(Memory)?;
     let places = most.checked_mul(2).ok_or(Memory)?;
-    waiting.reserve(places.checked_add(3).ok_or(Memory)?)?;
+    waiting.reserve(places.checked_add(4).ok_or(Memory)?)?;
     objects.reserve()
 }
 

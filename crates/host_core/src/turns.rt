@@ -4,7 +4,8 @@ ghost use Rattle.tree_specs.specs.Machine.Table.{turn_step, come_step, soon_step
 ghost use Rattle.host_core.specs.Turns.{MayTurn, picked_step, looked_frame};
 ghost use Rattle.host_core.specs.Steps.{step_of};
 ghost use Rattle.host_core.specs.Going.{goes_as, GoesWell, IsTurnStep, IsPlainErrand};
-ghost use Rattle.host_core.specs.Hosts.{turn_places, FrameReady};
+ghost use Rattle.host_core.specs.Hosts.{FrameReady};
+ghost use Rattle.host_core.specs.Places.{turn_takes};
 ghost use Rattle.tree_specs.specs.declared.frame.TurnFrame.TheVariants.{Starting, Handled};
 ghost use Rattle.tree_specs.specs.Events.Coming.{at_time};
 ghost use Rattle.tree_specs.specs.Events.Requests.{is_noted};
@@ -134,7 +135,7 @@ pub fn turn_step(frame: TurnFrame, objects: &mut ObjectPool) -> Step
     requires may { MayTurn frame objects.old.pool }
     requires ready { FrameReady frame objects.old }
     ensures step { step_of result objects.new.pool ≡ turn_step frame objects.old.pool }
-    ensures goes { GoesWell (turn_places frame) result objects.new }
+    ensures goes { GoesWell (turn_takes frame) result objects.new }
     ensures ends { IsTurnStep result }
     ensures rest { objects.new ≡ record objects.old { pool = objects.new.pool } }
     ensures requests { objects.new.pool.requests ≡ objects.old.pool.requests }

@@ -16,7 +16,7 @@ ghost use Rattle.object_pool.specs.Requests.{count_unreceived};
 ghost use Rattle.requests.specs.Register.{AreInOrder};
 ghost use Rattle.host_core.specs.Stacks.{work_frame};
 ghost use Rattle.host_core.specs.Steps.{step_of};
-ghost use Rattle.host_core.specs.Hosts.{errand_places, work_places};
+ghost use Rattle.host_core.specs.Places.{errand_places, work_places};
 ghost use Rattle.host_core.specs.Going.{works_as, GoesWell, IsOngoing, IsWorkStep};
 ghost use Rattle.host_core.specs.Requests.{MayWork, ErrandReady, WorkReady, IsFreeing, IsReleaseBy, work_tells, work_told, pool_told};
 

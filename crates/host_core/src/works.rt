@@ -6,7 +6,8 @@ ghost use Rattle.tree_specs.specs.Texts.Schedule.{misfit};
 ghost use Rattle.host_core.specs.Moves.{move_of, ReadyFor, call_of, report_of, reported};
 ghost use Rattle.host_core.specs.Stacks.{Fits};
 ghost use Rattle.host_core.specs.Steps.{step_of, IsBusy};
-ghost use Rattle.host_core.specs.Going.{stepped_view, ended_view, answer_places, step_places, Answers, StepReady, StepAnswers, AnswersTo, resumed_works, HasPlacesFor};
+ghost use Rattle.host_core.specs.Going.{stepped_view, ended_view, answer_places, step_places, Answers, StepReady, StepAnswers, AnswersTo, resumed_works};
+ghost use Rattle.host_core.specs.Places.{HasPlacesFor};
 ghost use Rattle.destructors.specs.Frees.{speaking, Begins};
 ghost use Rattle.destructors.specs.Works.{IsAtWork};
 ghost use Rattle.object_pool.specs.Objects.{Objects as ObjectsData, frees_in};
@@ -33,7 +34,7 @@ use std::mem;
 use tree_specs::{Act, Ask, Call, Event, FreeReply, FreeStep, Input, Refusal, TurnFrame};
 
 /// The open frees have waited for this: the innermost goes on, and is at work.
-#[tactic(auto, using(crate::proofs::Resuming::returned_begins, crate::proofs::Resuming::received_begins))]
+#[tactic(auto, using(crate::proofs::Resuming::returned_begins, crate::proofs::Resuming::prepared_begins))]
 fn free_again(answer: Answer, objects: &mut ObjectPool)
     requires { AnswersTo answer Waiting.Freeing objects.old }
     ensures at_work { IsAtWork (frees_in objects.new) }

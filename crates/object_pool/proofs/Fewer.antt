@@ -70,7 +70,7 @@ pub times-fewer : (u : Upcoming) (x : Obj) → length (disarmed u.times x) ≤ l
 times-fewer u x = filtered-fewer _ u.times
 
 -- an entry that leaves is one entry fewer
-pub entries-fewer : (es : List (ℕ × QueueEntry)) (n : ℕ) (e : QueueEntry) → find nat_cmp n es ≡ Some e → length (filter (λ e. not (eq_by_cmp nat_cmp n e.0)) es) + 1 ≤ length es
+pub entries-fewer : {V : Type 0} (es : List (ℕ × V)) (n : ℕ) (e : V) → find nat_cmp n es ≡ Some e → length (filter (λ e. not (eq_by_cmp nat_cmp n e.0)) es) + 1 ≤ length es
 entries-fewer [] n e is = cc
 entries-fewer (f ∷ fs) n e is = by_test (eq_by_cmp nat_cmp n f.0)
     (λ t. let k : length (filter (λ e. not (eq_by_cmp nat_cmp n e.0)) fs) ≤ length fs = filtered-fewer _ fs in rw t (omega (arith, k)))

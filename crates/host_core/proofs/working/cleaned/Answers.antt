@@ -1,4 +1,4 @@
-use Rattle.host_core.specs.Hosts.{errand_places}
+use Rattle.host_core.specs.Places.{errand_places}
 use Rattle.host_core.proofs.Going.{more-places, errand-takes}
 use Rattle.host_core.proofs.working.cleaned.Goals as goal
 

@@ -1,9 +1,12 @@
 use Rattle.host_core.proofs.StepsSilently.{along-then}
-use Rattle.host_core.proofs.Given.{call_refs, call_onward, call_fit, call_places}
+use Rattle.host_core.proofs.Given.{call_refs, call_queues, call_onward, call_fit, call_places}
 use Rattle.host_core.proofs.works.call_on.Goals as goal
 
 pub act-motion-requires-clause-reference : goal.act-motion-requires-clause-reference
 act-motion-requires-clause-reference c = call_refs c.args.ask c.args.call c.args.parts.now c.requires.whole
+
+pub act-motion-requires-clause-queues : goal.act-motion-requires-clause-queues
+act-motion-requires-clause-queues c = call_queues c.args.ask c.args.call c.args.parts.now c.requires.whole
 
 pub go_on-requires-clause-whole : goal.go_on-requires-clause-whole
 go_on-requires-clause-whole c =
