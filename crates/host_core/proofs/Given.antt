@@ -1,22 +1,25 @@
 -- What is given to whoever has asked, and what it leads to, by the parts of a host.
-use Rattle.std.proofs.Common.{◌≡◌, ℕ, ◌≤◌, List, reverse, Option, Some, true, false, refl, sym, ◌∙◌, ap, subst, arith}
+use Rattle.std.proofs.Common.{◌≡◌, ℕ, ◌+◌, ◌*◌, ◌≤◌, Bool, List, reverse, Option, Some, None, true, false, refl, sym, ◌∙◌, ap, subst, arith}
 use Rattle.std.specs.Prelude.{is_none}
 use Rattle.tree_specs.specs.declared.call.Call.{Call}
 use Rattle.tree_specs.specs.declared.frame.CallFrame.TheVariants.{Doing, Returning}
 use Rattle.tree_specs.specs.declared.frame.Frame.TheVariants as frame
 use Rattle.tree_specs.specs.declared.frame.FreeFrame.{FreeFrame}
+use Rattle.tree_specs.specs.declared.frame.TurnFrame.{TurnFrame}
+use Rattle.tree_specs.specs.declared.frame.TurnFrame.TheVariants.{Timing, Polling}
 use Rattle.tree_specs.specs.declared.question.Ask.{Ask}
 use Rattle.tree_specs.specs.declared.question.Input.{Input}
 use Rattle.tree_specs.specs.declared.question.Input.TheVariants as input
 use Rattle.tree_specs.specs.Calls.Plans.{planned}
 use Rattle.tree_specs.specs.Calls.Refusals.{refusals}
+use Rattle.tree_specs.specs.Events.Coming.{looks_again}
+use Rattle.tree_specs.specs.Events.Rotation.{Ready, first_ready}
 use Rattle.tree_specs.specs.Invariants.Consistent.{IsConsistent}
 use Rattle.tree_specs.specs.Machine.Table.{call_step, outside_step}
 use Rattle.tree_specs.specs.Texts.Schedule.{misfit}
 use Rattle.tree_specs.specs.Tree.Pool.{Pool}
 use Rattle.tree_specs.proofs.Calls.Plans.{may-planned}
 use Rattle.object_pool.specs.Objects.{Objects, RefsMayGo}
-use Rattle.object_pool.specs.Requests.{count_unreceived}
 use Rattle.host_core.specs.declared.active.Active.{Active}
 use Rattle.host_core.specs.declared.active.Active.TheVariants as active
 use Rattle.host_core.specs.declared.answer.Answer.TheVariants.{Returned, Heard}
@@ -27,15 +30,15 @@ use Rattle.host_core.specs.declared.short_reply.ShortReply.{ShortReply}
 use Rattle.host_core.specs.declared.step.Step.{Step}
 use Rattle.host_core.specs.declared.step.Step.TheVariants.{Ends}
 use Rattle.host_core.specs.declared.turn.Turn.{Turn}
-use Rattle.host_core.specs.Places.{owed, HasPlacesFor}
+use Rattle.host_core.specs.Places.{owed, turn_places, HasPlacesFor}
 use Rattle.host_core.specs.Going.{Answers, ended_view, stepped_view, step_places}
 use Rattle.host_core.specs.Moves.{move_of}
 use Rattle.host_core.specs.Requests.{QueuesAreKept}
 use Rattle.host_core.specs.Reaches.{is_bytes, IsShortAnswer, short_answer, pool_heard, outside_given}
 use Rattle.host_core.specs.Stacks.{Fits, other_view}
 use Rattle.host_core.specs.Steps.{step_of, IsBusy}
-use Rattle.host_core.specs.Turns.{turn_asks}
-use Rattle.host_core.specs.Hosts.{given_view, called_view, speaks, asked_now, PartsReady, HasRoom, IsActing, StepsSilently}
+use Rattle.host_core.specs.Turns.{turn_asks, turn_given, frame_looked}
+use Rattle.host_core.specs.Hosts.{given_view, called_view, speaks, asked_now, FrameReady, PartsReady, HasRoom, IsActing, IsBetweenSteps, MayTake, StepsSilently}
 use Rattle.host_core.proofs.Allowed.{refs-go}
 use Rattle.host_core.proofs.Answering.{caller-acts, short-answer}
 use Rattle.host_core.proofs.Calling.{call-silent, call-room}
@@ -88,6 +91,34 @@ module _ (now : Active) (t : Turn) (i : Input) (old : Parts) (is : now ≡ activ
       let ready' : PartsReady (active.Turning t) old.objects = subst (λ (z : Active). PartsReady z old.objects) is ready in
       let fits' : is_none (misfit t.question i) ≡ true = subst (λ (z : Active). is_none (misfit (asked_now z) i) ≡ true) is fits in
       ap (λ (z : Option Ask). is_none (misfit z i)) (sym ready'.question) ∙ fits'
+
+-- what is still to do then has what it may want
+given-frame : (f : TurnFrame) (i : Input) (p : Pool) (o : Objects) → is_none (misfit (turn_asks f) i) ≡ true → o.ready ≡ true → FrameReady (turn_given f i p) o × (turn_places (turn_given f i p) ≤ 4)
+given-frame (Timing again) i p o fits ready = clock i
+  where
+    clock : (i : Input) → FrameReady (turn_given (Timing again) i p) o × (turn_places (turn_given (Timing again) i p) ≤ 4)
+    clock (input.Clock now) = (ready, omega arith)
+    clock _ = (tt, omega arith)
+given-frame (Polling limit) i p o fits ready = looks i
+  where
+    looked : (b : Bool) (r : Option Ready) → FrameReady (frame_looked b r) o × (turn_places (frame_looked b r) ≤ 4)
+    looked true r = (tt, omega arith)
+    looked false None = (tt, omega arith)
+    looked false (Some r) = (tt, omega arith)
+
+    looks : (i : Input) → FrameReady (turn_given (Polling limit) i p) o × (turn_places (turn_given (Polling limit) i p) ≤ 4)
+    looks (input.Ready wants) = looked (looks_again p wants) (first_ready p.ring wants)
+    looks _ = (tt, omega arith)
+given-frame _ i p o fits ready = cc
+
+pub given_ready : (now : Active) (t : Turn) (i : Input) (parts : Parts) (f : TurnFrame) (next : Turn) → now ≡ active.Turning t → MayTake now i parts → f ≡ turn_given t.frame i parts.objects.pool → next ≡ record { frame = f; question = turn_asks f } → IsBetweenSteps (active.Turning next) parts
+given_ready now t i parts f next is m goes new =
+    let there : MayTake (active.Turning t) i parts = subst (λ (z : Active). MayTake z i parts) is m in
+    let fits = given_fits now t i parts is m.fits m.ready in
+    let frame = given-frame t.frame i parts.objects.pool parts.objects fits m.room.ready in
+    let most = frame.1 in
+    let room = m.room.places in
+    rw (new, goes) (record { whole = there.whole; fit = there.fit; ready = record { question = refl; frame = frame.0 }; places = omega (arith, most, room) })
 
 -- ---- the outside has answered
 

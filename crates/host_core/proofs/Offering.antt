@@ -310,6 +310,10 @@ offered _ parts i ready fits s none = cc
 pub question-view : (v : View) (now : Active) (parts : Parts) → IsBetweenSteps now parts → speaking_view (host_view now parts) ≡ true → host_view now parts ≡ v → question_of v ≡ asked_now now
 question-view v now parts b s e = ap question_of (sym e) ∙ question_seen now (reverse parts.waiting.items) parts.objects b.ready s
 
+-- an answer that fits the question of a host fits what is asked
+pub fits-there : (v : View) (now : Active) (parts : Parts) (i : Input) → IsBetweenSteps now parts → speaking_view (host_view now parts) ≡ true → host_view now parts ≡ v → misfit (question_of v) i ≡ None → is_none (misfit (asked_now now) i) ≡ true
+fits-there v now parts i b s e fits = ap (λ (o : Option Ask). is_none (misfit o i)) (sym (question-view v now parts b s e)) ∙ ap is_none fits
+
 -- an open question that is lent is waited at
 pub waits-some : {R : Type 0} (v : R → Ask) (lent : Option R) (now : Active) (parts : Parts) → IsBetweenSteps now parts → option_map v lent ≡ asked_now now → is_some lent ≡ true → Waits (host_view now parts)
 waits-some v None now parts h e s = cc

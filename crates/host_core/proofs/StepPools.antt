@@ -1,10 +1,11 @@
 -- The objects that a step leaves.
-use Rattle.std.proofs.Common.{◌≡◌, ℕ, ◌+◌, ◌*◌, ◌≤◌, Bool, true, false, nat_eq, nat_le, Option, Some, None, refl, arith}
+use Rattle.std.proofs.Common.{◌≡◌, ℕ, ◌+◌, ◌*◌, ◌≤◌, Bool, true, false, nat_eq, nat_le, Option, Some, None, refl, ap, arith}
 use Rattle.step_machine.specs.Machine.{Move}
 use Rattle.step_machine.specs.Machine.{Move as Do}
 use Rattle.tree_specs.specs.declared.due.Due.{Due}
 use Rattle.tree_specs.specs.declared.frame.Answer.{Answer}
 use Rattle.tree_specs.specs.declared.frame.Errand.{Errand}
+use Rattle.tree_specs.specs.declared.frame.Errand.TheVariants.{Finish}
 use Rattle.tree_specs.specs.declared.frame.Frame.{Frame}
 use Rattle.tree_specs.specs.declared.frame.RequestFrame.{RequestFrame}
 use Rattle.tree_specs.specs.declared.frame.RequestFrame.TheVariants as request
@@ -12,22 +13,25 @@ use Rattle.tree_specs.specs.declared.frame.TurnFrame.{TurnFrame}
 use Rattle.tree_specs.specs.declared.frame.TurnFrame.TheVariants.{Taking, Timed, Starting, Handled}
 use Rattle.tree_specs.specs.declared.handler.Handler.{Handler}
 use Rattle.tree_specs.specs.declared.moment.What.{What}
+use Rattle.tree_specs.specs.declared.moment.What.TheVariants.{Timer as ForTimer}
 use Rattle.tree_specs.specs.declared.object.Obj.{Obj}
 use Rattle.tree_specs.specs.declared.occasion.Occasion.{Occasion}
 use Rattle.tree_specs.specs.declared.request.Note.{Note}
+use Rattle.tree_specs.specs.declared.request.State.TheVariants.{TimedOut}
 use Rattle.tree_specs.specs.declared.row.Row.{Row}
 use Rattle.tree_specs.specs.declared.row.Mark.TheVariants.{Quiet, Busy}
 use Rattle.tree_specs.specs.declared.call.Call.TheVariants as call
 use Rattle.tree_specs.specs.Calls.Plans.{Plan, planned}
 use Rattle.tree_specs.specs.Calls.Plans.Plan.{Frees as FreesOf, Unlinks as UnlinksOf}
-use Rattle.tree_specs.specs.Events.Coming.{handler_for, goes_after}
+use Rattle.tree_specs.specs.Events.Coming.{at_time, handler_for, goes_after}
 use Rattle.tree_specs.specs.Events.Pending.{first}
 use Rattle.tree_specs.specs.Events.Queues.{Head, has_queue, head_of, next_of}
 use Rattle.tree_specs.specs.Events.Requests.{note_of, is_noted, is_unreceived, cleanup_in, cancel_in}
-use Rattle.tree_specs.specs.Machine.Table.{come_step, queue_step, soon_step, due_step, taking_step, early_step, timed_step, starting_step, handled_step, turn_step, cancelling_step, cleaning_step, release_object, cleaned_step, callback_step, notifying_step, receiving_step, vacating_step, triggering_step, request_step}
+use Rattle.tree_specs.specs.Machine.Table.{come_step, soon_step, due_now, due_step, taking_step, early_step, timed_step, starting_step, handled_step, turn_step, cancelling_step, cleaning_step, release_object, cleaned_step, callback_step, notifying_step, receiving_step, vacating_step, triggering_step, request_step}
 use Rattle.tree_specs.specs.Rules.Errands.{is_receive}
 use Rattle.tree_specs.specs.Rules.Items.{Item}
 use Rattle.tree_specs.specs.Tree.Pool.{Pool, marked_row, disarm, unschedule, run_queue}
+use Rattle.tree_specs.proofs.Invariants.Turning.{rotated-rows}
 use Rattle.tree_specs.proofs.Tree.Numbered.{by_test}
 use Rattle.host_core.specs.declared.step.Step.{Step}
 use Rattle.host_core.specs.declared.step.Step.TheVariants.{Goes, Calls, Frees, Unlinks, Empties, Ends}
@@ -61,9 +65,12 @@ soon-pool true queued x p e = refl
 soon-pool false true x p e = rw e refl
 soon-pool false false x p e = rw e refl
 
+due-kept : (x : Obj) (now : ℕ) (p : Pool) → (pool_in (due_now x now p)).rows ≡ p.rows
+due-kept x now p = ap (λ (q : Pool). q.rows) (come-pool (is_noted p.requests x) (Finish TimedOut) ForTimer x (at_time now) (disarm p x))
+
 due-rows : (o : Option Due) (p : Pool) → (pool_in (due_step o p)).rows ≡ p.rows
 due-rows None p = refl
-due-rows (Some d) p = by_test (nat_eq d.time 0) (λ t. let e = come-pool (is_noted p.requests d.object) _ _ d.object _ (disarm p d.object) in rw t (rw e refl)) (λ t. rw t refl)
+due-rows (Some d) p = by_test (nat_eq d.time 0) (λ t. rw t (due-kept d.object 0 p)) (λ t. rw t refl)
 
 taking-rows : (o : Option Obj) (p : Pool) → (pool_in (taking_step o p)).rows ≡ p.rows
 taking-rows None p = due-rows (first p.times) p
@@ -76,12 +83,12 @@ early-rows false d now p = refl
 timed-rows : (again : Bool) (now : ℕ) (o : Option Due) (p : Pool) → (pool_in (timed_step again now o p)).rows ≡ p.rows
 timed-rows again now None p = refl
 timed-rows again now (Some d) p = by_test (nat_le d.time now)
-    (λ t. let e = come-pool (is_noted p.requests d.object) _ _ d.object _ (disarm p d.object) in rw t (rw e refl))
+    (λ t. rw t (due-kept d.object now p))
     (λ t. rw t (early-rows again d now p))
 
 starting-fewer : (what : What) (x : Obj) (occasion : Occasion) (o : Option Handler) (p : Pool) → count_undrained (pool_in (starting_step what x occasion o p)).rows ≤ count_undrained p.rows
 starting-fewer what x occasion None p = omega arith
-starting-fewer what x occasion (Some handler) p = marked-fewer Busy p.rows x refl
+starting-fewer what x occasion (Some handler) p = let n = marked-fewer Busy p.rows x refl in rw (rotated-rows what x p).0 n
 
 handled-most : (x : Obj) (b : Bool) (p : Pool) → count_undrained (pool_in (handled_step x b p)).rows ≤ count_undrained p.rows + 1
 handled-most x true p = changed-most (marked_row Quiet) p.rows x

@@ -65,18 +65,18 @@ module _ (now : Active) (parts : Parts) (i : Input) (b : IsBetweenSteps now part
 
     pub may_take : is_bytes i ≡ false → reported (call_of i) ≡ None → AreInOrder parts.objects.pool.requests → length new.waiting.items + 2 * (count_unreceived parts.objects.pool.requests + length parts.objects.pool.queues.running) + 4 ≤ vec_capacity new.waiting → MayTake now i new
     may_take no_bytes no_report order places =
-      let h = given.1.whole in
-      let few = undrained-most parts.objects.pool.rows parts.objects.pool.queues.running h.sound.forest.distinct (λ x q. h.queued.pool.queues x ∙ q) in
-      let room : length new.waiting.items + 4 + 2 * owed parts.objects.pool ≤ vec_capacity new.waiting = omega (arith, places, few) in
-      record {
-      fits = fits;
-      no_bytes = no_bytes;
-      no_report = no_report;
-      ready = asked-ready now parts.objects new.objects given.0 given.1.open_before b.ready;
-      fit = rw (items, objects) (asked-fit now parts given.0 given.1.open_before b);
-      whole = subst IsConsistent (sym given_same) given.1.whole;
-      room = record { ready = rw objects refl; order = rw objects order; places = rw objects room };
-    }
+        let h = given.1.whole in
+        let few = undrained-most parts.objects.pool.rows parts.objects.pool.queues.running h.sound.forest.distinct (λ x q. h.queued.pool.queues x ∙ q) in
+        let room : length new.waiting.items + 4 + 2 * owed parts.objects.pool ≤ vec_capacity new.waiting = omega (arith, places, few) in
+        record {
+          fits = fits;
+          no_bytes = no_bytes;
+          no_report = no_report;
+          ready = asked-ready now parts.objects new.objects given.0 given.1.open_before b.ready;
+          fit = rw (items, objects) (asked-fit now parts given.0 given.1.open_before b);
+          whole = subst IsConsistent (sym given_same) given.1.whole;
+          room = record { ready = rw objects refl; order = rw objects order; places = rw objects room };
+        }
 
 -- ---- a report
 

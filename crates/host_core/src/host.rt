@@ -13,9 +13,8 @@ use crate::caller::{Caller, Stage};
 use crate::fault::OfferFault;
 use crate::parts::Parts;
 use crate::reach::is_bytes;
-use crate::replies::{read_on, report_on};
-use crate::reports::{made_report, report_owner};
-use crate::waiting::Waiting;
+use crate::replies::{read_on, report_for};
+use crate::reports::report_owner;
 use crate::working::tell_work;
 use crate::works::{answer_on, settle};
 use object_pool::ObjectPool;
@@ -25,19 +24,21 @@ use tree_specs::{Ask, Event, Input, Kind, Memory, Obj, Owner, Want};
 
 /// Takes the memory for all that comes up to the next question: each request that wasn't received and each queue may want two
 /// places, and what is at work four. If memory runs out, the works and the objects are as they were.
-fn make_room(waiting: &mut Vec<Waiting>, objects: &mut ObjectPool) -> Result<(), Memory>
-    ensures waiting { waiting.new.items ≡ waiting.old.items }
-    ensures kept { vec_capacity waiting.old ≤ vec_capacity waiting.new }
-    ensures places { OnOk result (length waiting.new.items + 2 * (count_unreceived objects.old.pool.requests + length objects.old.pool.queues.running) + 4 ≤ vec_capacity waiting.new) }
-    ensures ok { OnOk result (objects.new ≡ record objects.old { ready = true }) }
-    ensures err { OnErr result (objects.new ≡ objects.old) }
-    ensures order { AreInOrder objects.old.pool.requests }
+fn make_room(parts: &mut Parts) -> Result<(), Memory>
+    ensures waiting { parts.new.waiting.items ≡ parts.old.waiting.items }
+    ensures kept { vec_capacity parts.old.waiting ≤ vec_capacity parts.new.waiting }
+    ensures places { OnOk result (length parts.new.waiting.items + 2 * (count_unreceived parts.old.objects.pool.requests + length parts.old.objects.pool.queues.running) + 4 ≤ vec_capacity parts.new.waiting) }
+    ensures ok { OnOk result (parts.new.objects ≡ record parts.old.objects { ready = true }) }
+    ensures err { OnErr result (parts.new.objects ≡ parts.old.objects) }
+    ensures order { AreInOrder parts.old.objects.pool.requests }
 {
-    let requests = objects.count_requests();
-    let most = requests.checked_add(objects.count_queues()).ok_or(Memory)?;
+    let requests = parts.objects.count_requests();
+    let most = requests
+        .checked_add(parts.objects.count_queues())
+        .ok_or(Memory)?;
     let places = most.checked_mul(2).ok_or(Memory)?;
-    waiting.reserve(places.checked_add(4).ok_or(Memory)?)?;
-    objects.reserve()
+    parts.waiting.reserve(places.checked_add(4).ok_or(Memory)?)?;
+    parts.objects.reserve()
 }
 
 /// Tells what comes next of what is at work. None where a question is open, and then nothing changes.
@@ -191,6 +192,43 @@ impl Host {
         }
     }
 
+    /// Whether an answer may be given: NotAsked comes exactly where no question is open or the open one takes no such answer, and
+    /// Taken exactly where the descriptor that was accepted is open already.
+    fn check(&self, input: &Input) -> Result<(), OfferFault>
+        ensures fits { OnOk result (misfit (question_of self.now) input.now ≡ None) }
+        ensures unopened { OnOk result (taken_in self.now.pool input.now ≡ None) }
+        ensures not_asked { (result ≡ Err OfferFault.NotAsked) ↔ (misfit (question_of self.now) input.now ≡ Some reasons.NotAsked) }
+        ensures taken { (fd : ℕ) → (result ≡ Err (OfferFault.Taken fd)) ↔ (taken_by (question_of self.now) self.now.pool input.now ≡ Some fd) }
+        ensures strays { (fd : ℕ) → result ≡ Err (OfferFault.Taken fd) → strays_of self.now (input.now ∷ []) ≡ true }
+    {
+        if !self.active.takes(input) {
+            return Err(OfferFault::NotAsked);
+        }
+        if let Some(fd) = self.taken(input) {
+            return Err(OfferFault::Taken(fd));
+        }
+        Ok(())
+    }
+
+    /// The answer is taken. All memory up to the next question is taken first.
+    fn take(&mut self, input: Input) -> Result<(), Memory>
+        requires sound { IsTrue (is_sound input) }
+        requires fits { misfit (question_of self.old) input ≡ None }
+        requires unopened { taken_in self.old.pool input ≡ None }
+        ensures ok { OnOk result (TakesAnswer self.old input self.new) }
+        ensures err { OnErr result (self.new ≡ self.old) }
+    {
+        if let Some(owner) = report_owner(&input) {
+            return report_for(&mut self.active, &input, owner, &self.parts);
+        }
+        if is_bytes(&input) {
+            return read_on(&mut self.active, input, &mut self.parts);
+        }
+        make_room(&mut self.parts)?;
+        answer_on(&mut self.active, input, &mut self.parts);
+        Ok(())
+    }
+
     /// Gives the answer to the open question. All memory up to the next question is taken first, and after a
     /// fault the host is as it was; the answer is dropped then. NotAsked comes exactly where no question is
     /// open or the open one takes no such answer, and Taken exactly where the descriptor that was accepted is open already.
@@ -203,25 +241,8 @@ impl Host {
         // An answer of a descriptor that is open is the one that doesn't fit, though it was asked for.
         ensures strays { (fd : ℕ) → result ≡ Err (OfferFault.Taken fd) → strays_of self.old (input ∷ []) ≡ true }
     {
-        if !self.active.takes(&input) {
-            return Err(OfferFault::NotAsked);
-        }
-        if let Some(fd) = self.taken(&input) {
-            return Err(OfferFault::Taken(fd));
-        }
-        let Parts { waiting, objects } = &mut self.parts;
-        if let Some(owner) = report_owner(&input) {
-            let report = made_report(*waiting.allocator(), &input, owner, objects)?;
-            report_on(&mut self.active, report);
-            return Ok(());
-        }
-        if is_bytes(&input) {
-            read_on(&mut self.active, input, &mut self.parts)?;
-            return Ok(());
-        }
-        make_room(waiting, objects)?;
-        answer_on(&mut self.active, input, &mut self.parts);
-        settle(&mut self.active, &mut self.parts);
+        self.check(&input)?;
+        self.take(input)?;
         Ok(())
     }
 }

@@ -6,7 +6,8 @@ ghost use Rattle.tree_specs.specs.declared.question.Ask.{Ask as AskData};
 ghost use Rattle.host_core.specs.declared.waiting.Waiting.{Waiting as WaitingData};
 ghost use Rattle.host_core.specs.Callers.{remembers};
 ghost use Rattle.host_core.specs.Stacks.{active_frame};
-ghost use Rattle.host_core.specs.Hosts.{caller_asked};
+ghost use Rattle.host_core.specs.Hosts.{caller_asked, IsReport};
+ghost use Rattle.host_core.specs.declared.owned_reply.OwnedReply.{OwnedReply as OwnedReplyData};
 ghost use Rattle.host_core.specs.Reaches.{is_bytes};
 ghost use Rattle.host_core.specs.Going.{CallsOutside, Reads};
 
@@ -15,9 +16,10 @@ use crate::caller::{Caller, Stage};
 use crate::owned_reply::OwnedReply;
 use crate::parts::Parts;
 use crate::reach::{bytes_in, made_bytes};
+use crate::reports::made_report;
 use crate::waiting::Waiting;
 use std::mem;
-use tree_specs::{Ask, Input, Memory};
+use tree_specs::{Ask, Input, Memory, Owner};
 
 /// A caller that was asked this is told a reply that owns memory, of which a routine remembers the copy.
 fn told(ask: Ask, reply: OwnedReply) -> Active
@@ -32,7 +34,7 @@ fn told(ask: Ask, reply: OwnedReply) -> Active
 }
 
 /// A report comes next to the caller that was asked.
-pub fn report_on(now: &mut Active, report: OwnedReply)
+fn report_on(now: &mut Active, report: OwnedReply)
     requires { IsSome (caller_asked now.old) }
     ensures { (q : AskData) → caller_asked now.old ≡ Some q → active_frame now.new ≡ frames.Call (Telling (remembers q report.copy) report.reply) }
 {
@@ -40,6 +42,23 @@ pub fn report_on(now: &mut Active, report: OwnedReply)
         Active::Caller(Caller { ask, .. }) => *now = told(ask, report),
         _ => unreachable!(),
     }
+}
+
+/// The report that an input wants, which is about this owner, comes next to the caller that was asked. When memory runs out,
+/// nothing has changed.
+pub fn report_for(
+    now: &mut Active,
+    input: &Input,
+    owner: Owner,
+    parts: &Parts,
+) -> Result<(), Memory>
+    requires { IsSome (caller_asked now.old) }
+    ensures ok { OnOk result ((r : OwnedReplyData) × IsReport input.now r owner parts.now.objects.pool × ((q : AskData) → caller_asked now.old ≡ Some q → active_frame now.new ≡ frames.Call (Telling (remembers q r.copy) r.reply))) }
+    ensures err { OnErr result (now.new ≡ now.old) }
+{
+    let report = made_report(*parts.waiting.allocator(), input, owner, &parts.objects)?;
+    report_on(now, report);
+    Ok(())
 }
 
 /// The question of the caller whose call waits for the outside.

@@ -227,16 +227,6 @@ fn answered(now: Active, input: Input, parts: &mut Parts) -> Active
     }
 }
 
-/// Who was asked goes on with the answer, which takes no memory of its own.
-pub fn answer_on(now: &mut Active, input: Input, parts: &mut Parts)
-    requires { MayTake now.old input parts.old }
-    ensures along { TellsSameStory (given_view now.old input parts.old) (host_view now.new parts.new) }
-    ensures ready { IsBetweenSteps now.new parts.new }
-{
-    let present = mem::replace(now, Active::Freeing);
-    *now = answered(present, input, parts);
-}
-
 /// What comes next of the open frees where this tells no event.
 fn free_step(parts: &mut Parts) -> Active
     requires ready { IsBetweenSteps Active.Freeing parts.old }
@@ -295,4 +285,16 @@ pub fn settle(now: &mut Active, parts: &mut Parts)
         let present = mem::replace(now, Active::Freeing);
         *now = quiet_step(present, parts);
     }
+}
+
+/// Who was asked goes on with the answer, which takes no memory of its own, up to the next event or question.
+pub fn answer_on(now: &mut Active, input: Input, parts: &mut Parts)
+    requires { MayTake now.old input parts.old }
+    ensures along { TellsSameStory (given_view now.old input parts.old) (host_view now.new parts.new) }
+    ensures ready { IsBetweenSteps now.new parts.new }
+    ensures settled { speaking_view (host_view now.new parts.new) ≡ true }
+{
+    let present = mem::replace(now, Active::Freeing);
+    *now = answered(present, input, parts);
+    settle(now, parts);
 }

@@ -1,5 +1,5 @@
 use Rattle.host_core.proofs.StepsSilently.{along-then}
-use Rattle.host_core.proofs.Given.{caller_acting, given_fits, heard_short, heard_onward, heard_fit, heard_answers, heard_places}
+use Rattle.host_core.proofs.Given.{caller_acting, given_fits, given_ready, heard_short, heard_onward, heard_fit, heard_answers, heard_places}
 use Rattle.host_core.proofs.works.answered.Goals as goal
 
 pub caller_on-requires-clause-acts : goal.caller_on-requires-clause-acts
@@ -7,6 +7,9 @@ caller_on-requires-clause-acts c = caller_acting c.args.now c.in-Caller.caller c
 
 pub turn_given-requires : goal.turn_given-requires
 turn_given-requires c = given_fits c.args.now c.in-Turning.turn c.args.input c.args.parts.now c.in-Turning.is c.requires.fits c.requires.ready
+
+pub returns-in-Turning-clause-ready : goal.returns-in-Turning-clause-ready
+returns-in-Turning-clause-ready c = given_ready c.args.now c.in-Turning.turn c.args.input c.args.parts.now c.turn_given.result c.new.result c.in-Turning.is c.requires c.turn_given.ensures c.new.ensures
 
 pub heard-reply-requires-clause-short : goal.heard-reply-requires-clause-short
 heard-reply-requires-clause-short c = heard_short c.args.now c.in-Reaching._question c.args.input c.args.parts.now c.in-Reaching.is c.requires.fits c.requires.ready c.requires.no_bytes

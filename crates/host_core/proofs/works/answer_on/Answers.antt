@@ -1,0 +1,9 @@
+use Rattle.std.proofs.Common.{subst}
+use Rattle.host_core.specs.declared.active.Active.{Active}
+use Rattle.host_core.specs.Hosts.{given_view, host_view, TellsSameStory}
+use Rattle.host_core.proofs.StepsSilently.{along-then}
+use Rattle.host_core.proofs.works.answer_on.Goals as goal
+
+pub returns-clause-along : goal.returns-clause-along
+returns-clause-along c =
+    along-then _ _ _ (subst (λ (z : Active). TellsSameStory (given_view z c.args.input c.args.parts.now) (host_view c.answered.result c.answered.new.parts)) c.replace-present.ensures.value c.answered.ensures.along) c.settle.ensures.along
