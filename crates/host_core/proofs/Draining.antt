@@ -1,21 +1,18 @@
 -- How many queues frees may still come to: each comes to one at most once before the next question.
-use Rattle.std.proofs.Common.{◌≡◌, ℕ, ◌+◌, ◌≤◌, nat_eq, Bool, true, false, List, [], ◌∷◌, ◌++◌, length, Option, Some, None, not, is_some, unwrap_or, refl, sym, ◌∙◌, ap, subst, arith}
-use Rattle.std.specs.Prelude.{◌&&◌, if◌then◌else◌}
+use Rattle.std.proofs.Common.{◌≡◌, ℕ, ◌+◌, ◌≤◌, nat_eq, Bool, true, false, List, [], ◌∷◌, length, Option, Some, None, not, is_some, unwrap_or, refl, sym, ◌∙◌, ap, subst, arith}
+use Rattle.std.specs.Prelude.{◌&&◌}
 use Rattle.std.specs.List.{filter}
 use Rattle.std.specs.Ordering.{nat_cmp, eq_by_cmp}
 use Rattle.std.specs.FinMap.Entries.{find}
 use Rattle.step_machine.specs.Machine.{Move as Do}
-use Rattle.tree_specs.specs.declared.frame.Frame.{Frame}
-use Rattle.tree_specs.specs.declared.frame.Frame.TheVariants as frame
 use Rattle.tree_specs.specs.declared.frame.FreeFrame.{FreeFrame}
-use Rattle.tree_specs.specs.declared.frame.FreeFrame.TheVariants.{Unlinking, Releasing, Giving, Beginning, Hooked, Judged, Preparing, Draining, Prepared, Dooming, Leaving, Looping, FreeingChild, AfterChild, Ending}
+use Rattle.tree_specs.specs.declared.frame.FreeFrame.TheVariants.{Unlinking, Releasing, Giving, Beginning, Hooked, Judged, Preparing, Draining, Prepared, Leaving, Looping, FreeingChild, AfterChild}
 use Rattle.tree_specs.specs.declared.frame.Purpose.{Purpose}
 use Rattle.tree_specs.specs.declared.frame.Purpose.TheVariants.{Removal, Emptying}
 use Rattle.tree_specs.specs.declared.free_step.FreeReply.{FreeReply}
-use Rattle.tree_specs.specs.declared.free_step.FreeReply.TheVariants.{Ok, Held, Running, Refused}
+use Rattle.tree_specs.specs.declared.free_step.FreeReply.TheVariants.{Ok}
 use Rattle.tree_specs.specs.declared.free_step.FreeStep.{FreeStep}
 use Rattle.tree_specs.specs.declared.free_step.FreeStep.TheVariants.{Done}
-use Rattle.tree_specs.specs.declared.kind.Kind.{Kind}
 use Rattle.tree_specs.specs.declared.object.Obj.{Obj}
 use Rattle.tree_specs.specs.declared.object.Owner.{Owner}
 use Rattle.tree_specs.specs.declared.object.Owner.TheVariants.{Root, Of}
@@ -25,14 +22,14 @@ use Rattle.tree_specs.specs.declared.row.Mark.TheVariants as mark
 use Rattle.tree_specs.specs.Words.Objects.{same}
 use Rattle.tree_specs.specs.Calls.Refusals.{is_request, is_queue, is_queue_row}
 use Rattle.tree_specs.specs.Events.Coming.{is_quiet_mark}
-use Rattle.tree_specs.specs.Machine.FreeTable.{FreeMove, free_step, begin_plain, begin_by, begin_step, drop_step, refs_step, unlink_step, release_step, judge_step, child_step, loop_step, tried_step, hand_on_step}
+use Rattle.tree_specs.specs.Machine.FreeTable.{FreeMove, free_step, begin_plain, begin_by, begin_step, refs_step, unlink_step, release_step, child_step, loop_step, hand_on_step}
 use Rattle.tree_specs.specs.Tree.Forest.{Distinct}
 use Rattle.tree_specs.specs.Tree.Heirs.{heir}
 use Rattle.tree_specs.specs.Tree.Pool.{Pool, row_of, without, changed, marked_row, left_row, hooked_row, place, is_inside, is_below, owner_of, first_kid, target_at, newest_ref_of}
 use Rattle.tree_specs.specs.Tree.Targets.{newest_ref}
 use Rattle.tree_specs.specs.Invariants.Sound.{AllWait}
-use Rattle.tree_specs.proofs.Tree.Numbered.{by_test, same-true, same-equal, same-false}
-use Rattle.tree_specs.proofs.Tree.Rows.{total-without, total-changed, total-placed, row_of-changed-same, row_of-serial}
+use Rattle.tree_specs.proofs.Tree.Numbered.{by_test, same-true, same-equal}
+use Rattle.tree_specs.proofs.Tree.Rows.{total-changed, total-placed, row_of-changed-same}
 use Rattle.tree_specs.proofs.Events.EntryLaws.{without-other}
 use Rattle.destructors.specs.Frees.{OpenFrees, awaits_run, answered, moves, Silently, Still, On}
 use Rattle.destructors.specs.Frees.{moved as free_moved}

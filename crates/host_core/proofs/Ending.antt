@@ -1,5 +1,5 @@
 -- A work that is over, and who waits for it.
-use Rattle.std.proofs.Common.{◌≡◌, ℕ, List, [], ◌∷◌, Some, true, refl, subst}
+use Rattle.std.proofs.Common.{◌≡◌, ℕ, List, [], ◌∷◌, Some, true, refl}
 use Rattle.std.specs.Prelude.{slice_get}
 use Rattle.tree_specs.specs.declared.frame.CallFrame.TheVariants.{Returning}
 use Rattle.tree_specs.specs.declared.frame.Frame.{Frame}

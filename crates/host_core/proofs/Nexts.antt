@@ -3,7 +3,6 @@ use Rattle.std.proofs.Common.{◌≡◌, Option, List, [], ◌∷◌, reverse, S
 use Rattle.tree_specs.specs.declared.event.Event.{Event}
 use Rattle.tree_specs.specs.declared.event.Event.TheVariants.{Replied, Fired, State as StateOf}
 use Rattle.tree_specs.specs.declared.frame.CallFrame.{CallFrame}
-use Rattle.tree_specs.specs.declared.frame.CallFrame.TheVariants.{Asking, Announcing, Telling}
 use Rattle.tree_specs.specs.declared.frame.Errand.TheVariants.{Finish, Receive}
 use Rattle.tree_specs.specs.declared.frame.Frame.TheVariants as frame
 use Rattle.tree_specs.specs.declared.frame.FreeFrame.{FreeFrame}

@@ -25,7 +25,7 @@ use Rattle.tree_specs.specs.Events.Coming.{handler_for, goes_after}
 use Rattle.tree_specs.specs.Events.Pending.{first}
 use Rattle.tree_specs.specs.Events.Requests.{note_of, is_noted, is_unreceived, cleanup_in, cancel_in}
 use Rattle.tree_specs.specs.Machine.FreeTable.{free_step}
-use Rattle.tree_specs.specs.Machine.Table.{come_step, queue_step, soon_step, due_step, taking_step, early_step, timed_step, starting_step, handled_step, turn_step, cancelling_step, cleaning_step, release_object, cleaned_step, callback_step, notifying_step, receiving_step, vacating_step, triggering_step, request_step, lifted, announced, event_of}
+use Rattle.tree_specs.specs.Machine.Table.{come_step, soon_step, due_step, taking_step, early_step, timed_step, starting_step, handled_step, turn_step, cancelling_step, cleaning_step, release_object, cleaned_step, callback_step, notifying_step, receiving_step, vacating_step, triggering_step, request_step, lifted, announced, event_of}
 use Rattle.tree_specs.specs.Machine.View.{question_in, question_of}
 use Rattle.tree_specs.specs.Rules.Errands.{is_receive}
 use Rattle.tree_specs.specs.Events.Queues.{Head, has_queue, head_of, next_of}
@@ -38,7 +38,6 @@ use Rattle.host_core.specs.declared.active.Active.TheVariants as active
 use Rattle.host_core.specs.declared.caller.Caller.{Caller}
 use Rattle.host_core.specs.declared.caller.Stage.{Stage}
 use Rattle.host_core.specs.declared.caller.Stage.TheVariants as stage
-use Rattle.host_core.specs.declared.turn.Turn.{Turn}
 use Rattle.host_core.specs.declared.waiting.Waiting.{Waiting}
 use Rattle.host_core.specs.declared.work.Work.{Work}
 use Rattle.host_core.specs.declared.work.Work.TheVariants as work

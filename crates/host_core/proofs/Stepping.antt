@@ -1,7 +1,6 @@
 -- A step that tells nothing, by the parts of a host.
-use Rattle.std.proofs.Common.{◌≡◌, ◌*◌, ◌+◌, ◌≤◌, List, reverse, Option, Some, None, is_some, true, false, refl, sym, ◌∙◌, ap, subst, arith}
+use Rattle.std.proofs.Common.{◌≡◌, ◌≤◌, List, reverse, Option, Some, None, is_some, true, false, refl, sym, ◌∙◌, ap, subst, arith}
 use Rattle.step_machine.specs.Machine.{Move}
-use Rattle.step_machine.specs.Machine.{Move as Do}
 use Rattle.tree_specs.specs.declared.frame.Answer.{Answer as Answered}
 use Rattle.tree_specs.specs.declared.frame.Frame.{Frame}
 use Rattle.tree_specs.specs.declared.frame.Frame.TheVariants as frame
@@ -24,7 +23,7 @@ use Rattle.host_core.specs.declared.answer.Answer.TheVariants.{Freed, Returned, 
 use Rattle.host_core.specs.declared.parts.Parts.{Parts}
 use Rattle.host_core.specs.declared.step.Step.{Step}
 use Rattle.host_core.specs.declared.turn.Turn.{Turn}
-use Rattle.host_core.specs.declared.step.Step.TheVariants.{Goes, Calls, Frees, Unlinks, Empties, Ends}
+use Rattle.host_core.specs.declared.step.Step.TheVariants.{Ends}
 use Rattle.host_core.specs.declared.waiting.Waiting.{Waiting}
 use Rattle.host_core.specs.declared.work.Work.{Work}
 use Rattle.host_core.specs.declared.work.Work.TheVariants as work
@@ -32,7 +31,7 @@ use Rattle.host_core.specs.Moves.{reply_of}
 use Rattle.host_core.specs.Stacks.{standing, Fits, other_view, work_frame}
 use Rattle.host_core.specs.Steps.{step_of}
 use Rattle.host_core.specs.Turns.{MayTurn}
-use Rattle.host_core.specs.Places.{count_undrained, turn_takes, turn_places, work_places, HasPlacesFor}
+use Rattle.host_core.specs.Places.{count_undrained, turn_takes, work_places, HasPlacesFor}
 use Rattle.host_core.specs.Hosts.{host_view, below_in, moved, next_of, speaking_view, FrameReady, IsBetweenSteps, StepsSilently}
 use Rattle.host_core.specs.Going.{stepped_view, IsTurnStep, IsWorkStep, StepAnswers, GoesWell, step_places}
 use Rattle.host_core.specs.Requests.{MayWork, WorkReady}

@@ -1,6 +1,6 @@
 -- What is at work in a host and what waits below it, as frames: each work stands on the next one, and the open frees stand where it is
 -- marked that they wait.
-use Rattle.std.specs.Prelude.{◌≡◌, ◌+◌, List, [], ◌∷◌, ◌++◌, map, if◌then◌else◌}
+use Rattle.std.specs.Prelude.{◌≡◌, List, [], ◌∷◌, ◌++◌, map, if◌then◌else◌}
 use Rattle.tree_specs.specs.declared.frame.Answer.{Answer as Answered}
 use Rattle.tree_specs.specs.declared.frame.Answer.TheVariants as answered
 use Rattle.tree_specs.specs.declared.frame.Frame.{Frame}

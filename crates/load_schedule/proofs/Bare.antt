@@ -1,4 +1,4 @@
--- Pools in which no object has a destructor, and none is a request.
+-- Pools in which no object has a destructor, and none is a request or a queue.
 use Rattle.std.proofs.Common.{◌≡◌, Bool, true, false, List, [], ◌∷◌, Option, Some, None, refl, subst}
 use Rattle.tree_specs.specs.declared.object.Obj.{Obj}
 use Rattle.tree_specs.specs.declared.object.Owner.{Owner}
@@ -8,14 +8,14 @@ use Rattle.tree_specs.specs.declared.call.Call.TheVariants as calls
 use Rattle.tree_specs.specs.Words.Objects.{same}
 use Rattle.tree_specs.specs.Tree.Targets.{newest_ref}
 use Rattle.tree_specs.specs.Tree.Pool.{Pool, row_of, changed, without, in_front, remove, place, let_go}
-use Rattle.tree_specs.specs.Calls.Refusals.{Check, refusals, is_request}
+use Rattle.tree_specs.specs.Calls.Refusals.{Check, refusals, is_request, is_queue}
 use Rattle.tree_specs.specs.Calls.Plans.{Plan, plan, planned, frees, changed_by, unless_refused}
 use Rattle.tree_specs.specs.Calls.Plans.Plan.{Does, Frees, Unlinks}
 use Rattle.tree_specs.proofs.Tree.Numbered.{by_test}
 
--- an object has no destructor, and is no request
+-- an object has no destructor, and is neither a request nor a queue
 abbrev IsBareRow : Row → Type 0
-IsBareRow r = (r.hook ≡ 0) × (is_request r.kind ≡ false)
+IsBareRow r = (r.hook ≡ 0) × (is_request r.kind ≡ false) × (is_queue r.kind ≡ false)
 
 abbrev AreBareRows : List Row → Type 0
 AreBareRows [] = Unit {0}
@@ -58,7 +58,7 @@ bare-let_go p x f keeps h = bare-changed f p.rows x keeps h
 
 -- ---- calls
 
--- the calls of which such a schedule is made: they give no object a destructor, make no request, and ask for nothing
+-- the calls of which such a schedule is made: they give no object a destructor, make no request or queue, and ask for nothing
 abbrev pub is_calm : Call → Bool
 is_calm (calls.New o size name) = true
 is_calm (calls.Free x) = true
@@ -68,7 +68,7 @@ is_calm (calls.Unlink o x) = true
 is_calm (calls.Count o) = true
 is_calm _ = false
 
--- what is done gives no destructor and makes no request either, and nothing is asked
+-- what is done gives no destructor and makes no request or queue either, and nothing is asked
 abbrev pub IsCalm : Plan → Type 0
 IsCalm (Does c notice r) = (q : Pool) → IsBare q → IsBare (changed_by c q)
 IsCalm (Frees x) = Unit {0}
@@ -80,10 +80,10 @@ calm-frees None x = tt
 calm-frees (Some r) x = tt
 
 calm-plan : (p : Pool) (c : Call) → is_calm c ≡ true → IsCalm (plan p c)
-calm-plan p (calls.New o size name) e = λ q h. ((refl, refl), h)
+calm-plan p (calls.New o size name) e = λ q h. ((refl, refl, refl), h)
 calm-plan p (calls.Free x) e = calm-frees (newest_ref p.rows x) x
 calm-plan p (calls.Steal o x) e = λ q h. bare-placed q o x h
-calm-plan p (calls.Reference o x) e = λ q h. ((refl, refl), h)
+calm-plan p (calls.Reference o x) e = λ q h. ((refl, refl, refl), h)
 calm-plan p (calls.Unlink o x) e = tt
 calm-plan p (calls.Count o) e = λ q h. h
 calm-plan p _ e = cc

@@ -1,4 +1,5 @@
--- Where no object has a destructor and none is a request, and no call asks for anything, nothing is asked but the next call.
+-- Where no object has a destructor and none is a request or a queue, and no call asks for anything, nothing is asked but the next
+-- call.
 use Rattle.std.proofs.Common.{◌≡◌, ℕ, suc, zero, true, false, List, [], ◌∷◌, length, Option, Some, None, refl, sym, subst, arith}
 use Rattle.step_machine.specs.Machine.{Outcome, tell, tells, followed, is_stray, items as told_by}
 use Rattle.step_machine.specs.Machine.Outcome.{Ended, Waits, Stray, Short}
@@ -38,7 +39,7 @@ use Rattle.tree_specs.proofs.Tree.Numbered.{by_test}
 use Rattle.tree_specs.proofs.Rules.StoryLaws.{story-enough}
 use Rattle.load_schedule.proofs.Bare.{IsBare, IsCalm, is_calm, bare-row, bare-removed, bare-placed, bare-let_go, calm-planned}
 
--- nothing was asked, and no object has a destructor or is a request then
+-- nothing was asked, and no object has a destructor or is a request or a queue then
 abbrev Stays : {A : Type 0} → List Input → Outcome A Pool Input Scene → Type 0
 Stays is (Ended a q ts left) = IsBare q × (left ≡ is)
 Stays is (Waits ts) = ⊥
@@ -87,7 +88,7 @@ frees-more : (n : ℕ) → SilentAt n → (x : Obj) → IsSilent (free (suc n) x
 frees-more n ih x p is h = newest (newest_ref p.rows x) refl
   where
     marks : newest_ref p.rows x ≡ None → (r : Row) (m : Mark) → r.mark ≡ m → row_of p.rows x ≡ Some r → Stays is (free (suc n) x p is)
-    marks z r mark.Quiet m k = let e = bare-row p.rows x r k h in rw (z, k, m, e.0, e.1) (ih.leaves x p is h)
+    marks z r mark.Quiet m k = let e = bare-row p.rows x r k h in rw (z, k, m, e.0, e.1, e.2) (ih.leaves x p is h)
     marks z r mark.Asked m k = rw (z, k, m) (h, refl)
     marks z r mark.Busy m k = rw (z, k, m)
         (followed-stays is (lets_go x (λ q. doom q x) p is) (λ done. dooming n x) (lets-go x (λ q. doom q x) p is (bare-let_go p x (marked_row mark.Doomed) (λ s e. e) h)) (λ done. ih.dooms x))

@@ -1,7 +1,7 @@
 use Rattle.std.proofs.Common.{◌≡◌, [], ◌∷◌, true, refl, sym, ◌∙◌, ap, subst}
 use Rattle.tree_specs.specs.Texts.Schedule.{misfit}
 use Rattle.tree_specs.specs.Machine.View.{View, strays_of}
-use Rattle.host_core.proofs.Offering.{unasked, fitting-asked, question-view}
+use Rattle.host_core.proofs.Offering.{unasked, question-view}
 use Rattle.host_core.proofs.Straying.{not-taken, taken-there, taken-strays}
 use Rattle.host_core.proofs.host.Host.check.Goals as goal
 
