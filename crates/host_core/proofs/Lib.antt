@@ -24,3 +24,4 @@ pub mod Unreceived
 pub mod Draining
 pub mod Emptied
 pub mod StepPools
+pub mod Acting

@@ -1,10 +1,10 @@
 //! The open works, step after step: callers, turns, frees and the works of requests, each on the one that waits for it.
-ghost use Rattle.std.specs.Prelude.{◌≡◌, ◌*◌, ◌≤◌, true, false, is_none, reverse, List, None};
+ghost use Rattle.std.specs.Prelude.{◌≡◌, ◌*◌, ◌≤◌, true, false, is_none, reverse, List, None, Some, IsSome};
 ghost use Rattle.tree_specs.specs.Tree.Pool.{Pool as PoolData};
 ghost use Rattle.tree_specs.specs.Invariants.Consistent.{IsConsistent};
 ghost use Rattle.tree_specs.specs.Texts.Schedule.{misfit};
-ghost use Rattle.host_core.specs.Moves.{move_of, ReadyFor, call_of, report_of, reported};
-ghost use Rattle.host_core.specs.Stacks.{Fits};
+ghost use Rattle.host_core.specs.Moves.{move_of, telling, ReadyFor, call_of, report_of};
+ghost use Rattle.host_core.specs.Stacks.{Fits, active_frame};
 ghost use Rattle.host_core.specs.Steps.{step_of, IsBusy};
 ghost use Rattle.host_core.specs.Going.{stepped_view, ended_view, answer_places, step_places, Answers, StepReady, StepAnswers, AnswersTo, resumed_works};
 ghost use Rattle.host_core.specs.Places.{HasPlacesFor};
@@ -13,7 +13,9 @@ ghost use Rattle.destructors.specs.Works.{IsAtWork};
 ghost use Rattle.object_pool.specs.Objects.{Objects as ObjectsData, frees_in};
 ghost use Rattle.host_core.specs.Turns.{turn_asks, turn_given};
 ghost use Rattle.host_core.specs.declared.waiting.Waiting.{Waiting as WaitingData};
-ghost use Rattle.host_core.specs.Hosts.{host_view, given_view, speaking_view, HasRoom, IsActing, MayTake, called_view, IsBetweenSteps, TellsSameStory, StepsSilently};
+ghost use Rattle.tree_specs.specs.declared.frame.Frame.TheVariants as frames;
+ghost use Rattle.tree_specs.specs.declared.question.Ask.{Ask as AskData};
+ghost use Rattle.host_core.specs.Hosts.{caller_asked, host_view, given_view, speaking_view, HasRoom, IsActing, MayTake, called_view, returning_view, IsBetweenSteps, TellsSameStory, StepsSilently};
 
 use crate::active::Active;
 use crate::answer::Answer;
@@ -166,36 +168,6 @@ fn call_step(ask: Ask, motion: Motion) -> Step
     }
 }
 
-/// The caller that was asked does a call.
-fn call_on(ask: Ask, call: Call, parts: &mut Parts) -> Active
-    requires no_report { report_of call ≡ None }
-    requires fit { Fits parts.old.objects.works (reverse parts.old.waiting.items) }
-    requires whole { IsConsistent (called_view ask (Input.Call call) parts.old) }
-    requires room { HasRoom parts.old }
-    ensures along { TellsSameStory (called_view ask (Input.Call call) parts.old) (host_view result parts.new) }
-    ensures ready { IsBetweenSteps result parts.new }
-{
-    let motion = act(call, &mut parts.objects);
-    go_on(call_step(ask, motion), parts)
-}
-
-/// A caller that was asked does a call, or is a routine that returns.
-fn caller_on(ask: Ask, input: Input, parts: &mut Parts) -> Active
-    requires acts { IsActing input }
-    requires no_report { reported (call_of input) ≡ None }
-    requires fit { Fits parts.old.objects.works (reverse parts.old.waiting.items) }
-    requires whole { IsConsistent (called_view ask input parts.old) }
-    requires room { HasRoom parts.old }
-    ensures along { TellsSameStory (called_view ask input parts.old) (host_view result parts.new) }
-    ensures ready { IsBetweenSteps result parts.new }
-{
-    match input {
-        Input::Call(call) | Input::Act(Act::Do(call)) => call_on(ask, call, parts),
-        Input::Act(Act::Ret(value)) => end(Answer::Returned(value), parts),
-        _ => unreachable!(),
-    }
-}
-
 /// What is still to do of a turn once it was told the time, in microseconds, or which descriptors are ready.
 fn turn_given(frame: TurnFrame, input: &Input, objects: &ObjectPool) -> TurnFrame
     requires { is_none (misfit (turn_asks frame) input.now) ≡ true }
@@ -208,14 +180,14 @@ fn turn_given(frame: TurnFrame, input: &Input, objects: &ObjectPool) -> TurnFram
     }
 }
 
-/// What goes on with the answer to what it has asked.
+/// What goes on with an answer that no caller gives: a turn, or a call that asked the outside.
 fn answered(now: Active, input: Input, parts: &mut Parts) -> Active
-    requires { MayTake now input parts.old }
+    requires taken { MayTake now input parts.old }
+    requires outside { IsActing input → ⊥ }
     ensures along { TellsSameStory (given_view now input parts.old) (host_view result parts.new) }
     ensures ready { IsBetweenSteps result parts.new }
 {
     match now {
-        Active::Caller(caller) => caller_on(caller.ask, input, parts),
         Active::Turning(turn) => {
             Active::Turning(Turn::new(turn_given(turn.frame, &input, &parts.objects)))
         }
@@ -287,9 +259,68 @@ pub fn settle(now: &mut Active, parts: &mut Parts)
     }
 }
 
-/// Who was asked goes on with the answer, which takes no memory of its own, up to the next event or question.
-pub fn answer_on(now: &mut Active, input: Input, parts: &mut Parts)
-    requires { MayTake now.old input parts.old }
+/// The reply to the call of the caller that was asked comes next. The caller stays where it is: moving one costs more than most
+/// calls do.
+fn reply_on(now: &mut Active, reply: ShortReply)
+    requires { IsSome (caller_asked now.old) }
+    ensures { (q : AskData) → caller_asked now.old ≡ Some q → active_frame now.new ≡ frames.Call (telling q reply) }
+{
+    match now {
+        Active::Caller(caller) => caller.reply(reply),
+        _ => unreachable!(),
+    }
+}
+
+/// The question of the caller that was asked, which is taken out.
+fn take_ask(now: &mut Active) -> Ask
+    requires { IsSome (caller_asked now.old) }
+    ensures { caller_asked now.old ≡ Some result }
+{
+    match mem::replace(now, Active::Freeing) {
+        Active::Caller(Caller { ask, .. }) => ask,
+        _ => unreachable!(),
+    }
+}
+
+/// The caller that was asked does a call, up to the next event or question. A reply is one.
+fn call_on(now: &mut Active, call: Call, parts: &mut Parts)
+    requires asked { IsSome (caller_asked now.old) }
+    requires no_report { report_of call ≡ None }
+    requires fit { Fits parts.old.objects.works (reverse parts.old.waiting.items) }
+    requires whole { (q : AskData) → caller_asked now.old ≡ Some q → IsConsistent (called_view q (Input.Call call) parts.old) }
+    requires room { HasRoom parts.old }
+    ensures along { (q : AskData) → caller_asked now.old ≡ Some q → TellsSameStory (called_view q (Input.Call call) parts.old) (host_view now.new parts.new) }
+    ensures ready { IsBetweenSteps now.new parts.new }
+    ensures settled { speaking_view (host_view now.new parts.new) ≡ true }
+{
+    let motion = act(call, &mut parts.objects);
+    match motion {
+        Motion::Replies(reply) => reply_on(now, reply),
+        begins => {
+            let ask = take_ask(now);
+            *now = go_on(call_step(ask, begins), parts);
+            settle(now, parts);
+        }
+    }
+}
+
+/// A routine has returned: whoever waited for it goes on, up to the next event or question.
+fn return_on(now: &mut Active, value: u32, parts: &mut Parts)
+    requires fit { Fits parts.old.objects.works (reverse parts.old.waiting.items) }
+    requires whole { IsConsistent (returning_view value parts.old) }
+    requires room { HasRoom parts.old }
+    ensures along { TellsSameStory (returning_view value parts.old) (host_view now.new parts.new) }
+    ensures ready { IsBetweenSteps now.new parts.new }
+    ensures settled { speaking_view (host_view now.new parts.new) ≡ true }
+{
+    *now = end(Answer::Returned(value), parts);
+    settle(now, parts);
+}
+
+/// An answer that no caller gives is gone on with, up to the next event or question.
+fn hear(now: &mut Active, input: Input, parts: &mut Parts)
+    requires taken { MayTake now.old input parts.old }
+    requires outside { IsActing input → ⊥ }
     ensures along { TellsSameStory (given_view now.old input parts.old) (host_view now.new parts.new) }
     ensures ready { IsBetweenSteps now.new parts.new }
     ensures settled { speaking_view (host_view now.new parts.new) ≡ true }
@@ -297,4 +328,19 @@ pub fn answer_on(now: &mut Active, input: Input, parts: &mut Parts)
     let present = mem::replace(now, Active::Freeing);
     *now = answered(present, input, parts);
     settle(now, parts);
+}
+
+/// Who was asked goes on with the answer, which takes no memory of its own, up to the next event or question.
+pub fn answer_on(now: &mut Active, input: Input, parts: &mut Parts)
+    requires { MayTake now.old input parts.old }
+    ensures along { TellsSameStory (given_view now.old input parts.old) (host_view now.new parts.new) }
+    ensures ready { IsBetweenSteps now.new parts.new }
+    ensures settled { speaking_view (host_view now.new parts.new) ≡ true }
+{
+    match input {
+        Input::Call(call) => call_on(now, call, parts),
+        Input::Act(Act::Do(call)) => call_on(now, call, parts),
+        Input::Act(Act::Ret(value)) => return_on(now, value, parts),
+        other => hear(now, other, parts),
+    }
 }
