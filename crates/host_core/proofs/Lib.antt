@@ -24,4 +24,3 @@ pub mod Unreceived
 pub mod Draining
 pub mod Emptied
 pub mod StepPools
-pub mod Acting

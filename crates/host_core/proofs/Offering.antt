@@ -231,16 +231,19 @@ abbrev pub told_view : Ask → OwnedReply → Parts → View
 told_view q r parts = at (frame.Call (Telling (remembers q r.copy) r.reply)) (below_in parts) parts.objects.pool
 
 -- only a caller asks for a call, or for what a routine does
-pub acting-caller : (now : Active) (i : Input) (objects : Objects) → PartsReady now objects → is_none (misfit (asked_now now) i) ≡ true → IsActing i → (q : Ask) × (caller_asked now ≡ Some q)
+acting-caller : (now : Active) (i : Input) (objects : Objects) → PartsReady now objects → is_none (misfit (asked_now now) i) ≡ true → IsActing i → (q : Ask) × (caller_asked now ≡ Some q)
 acting-caller (active.Caller c) i objects r e k = let f = fitting (open_at c.stage c.ask) i e in (f.0, f.1)
 acting-caller (active.Turning t) i objects r e k = absurd (turn-acts-not t.frame i (ap (λ (z : Option Ask). is_none (misfit z i)) (sym r.question) ∙ e) k)
 acting-caller (active.Reaching q) i objects r e k = absurd (outside-acts-not q i r e k)
 acting-caller _ i objects r e k = cc
 
--- it is what was asked for its question
-pub given-called : (now : Active) (i : Input) (parts : Parts) (q : Ask) → caller_asked now ≡ Some q → given_view now i parts ≡ called_view q i parts
-given-called (active.Caller c) i parts q e = ap (λ (z : Ask). called_view z i parts) (asking c.stage c.ask q e).1
-given-called _ i parts q e = cc
+-- the question of a caller that was asked
+pub asked-of : (o : Option Ask) → is_some o ≡ true → (q : Ask) × (o ≡ Some q)
+asked-of None s = cc
+asked-of (Some q) s = (q, refl)
+
+pub same-asked : (o : Option Ask) (p q : Ask) → o ≡ Some p → o ≡ Some q → p ≡ q
+same-asked o p q a b = let e : Some p ≡ Some q = sym a ∙ b in let e' : p ≡ q = cc in e'
 
 acts : (i : Input) (o : Owner) → reported (call_of i) ≡ Some o → IsActing i
 acts (input.Call c) o e = tt

@@ -2,7 +2,7 @@ use Rattle.std.proofs.Common.{subst}
 use Rattle.tree_specs.specs.declared.question.Ask.{Ask}
 use Rattle.tree_specs.specs.declared.question.Input.TheVariants as input
 use Rattle.host_core.specs.Hosts.{called_view, host_view, TellsSameStory}
-use Rattle.host_core.proofs.Acting.{asked-of, same-asked}
+use Rattle.host_core.proofs.Offering.{asked-of, same-asked}
 use Rattle.host_core.proofs.Given.{call_refs, call_queues, call_onward, call_fit, call_places, replied_along, replied_ready, replied_speaks}
 use Rattle.host_core.proofs.StepsSilently.{along-then}
 use Rattle.host_core.proofs.works.call_on.Goals as goal
