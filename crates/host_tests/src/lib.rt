@@ -2,5 +2,6 @@
 //! their own, which uses the host as it is proved, so that the host isn't proved again with them.
 #![tactic(auto)]
 
+mod inputs;
 #[cfg(test)]
 mod tests;

@@ -1,17 +1,19 @@
-ghost use Rattle.std.specs.Prelude.{◌<◌, IsTrue};
+ghost use Rattle.std.specs.Prelude.{IsTrue};
 ghost use Rattle.tree_specs.specs.Words.Names.{is_name};
-ghost use Rattle.tree_specs.specs.Words.Ranges.{is_sound, is_sound_owner};
+ghost use Rattle.tree_specs.specs.Words.Ranges.{is_sound};
 
+use crate::inputs::{act, count, free, hook, owner, report, ret, steal, total};
 use host_core::{Host, OfferFault};
 use std::alloc::Global;
 use std::fmt::InlineText;
 use std::process::Abort;
 use std::test::Fail;
-use tree_specs::{Act, Ask, Call, Event, Input, Moment, Name, Obj, Owner, Reply, What};
+use tree_specs::{Ask, Call, Event, Input, Moment, Name, Obj, Owner, Reply, What};
 
 mod descriptors;
 mod long_runs;
 
+// A name of these characters.
 fn name_of(rt: &impl Abort, alloc: Global, text: &str) -> Name
     ensures { IsTrue (is_name result) }
 {
@@ -19,16 +21,7 @@ fn name_of(rt: &impl Abort, alloc: Global, text: &str) -> Name
     Name::make(bytes).expect(rt, "a name")
 }
 
-fn owner(number: u64) -> Owner
-    ensures { IsTrue (is_sound_owner result) }
-{
-    if number == 0 {
-        Owner::Root
-    } else {
-        Owner::Of(Obj(number))
-    }
-}
-
+// `new P SIZE a`
 fn new(rt: &impl Abort, alloc: Global, number: u64, size: u64) -> Input
     ensures { IsTrue (is_sound result) }
 {
@@ -37,73 +30,6 @@ fn new(rt: &impl Abort, alloc: Global, number: u64, size: u64) -> Input
         size,
         name: name_of(rt, alloc, "a"),
     })
-}
-
-fn free(number: u64) -> Input
-    ensures { IsTrue (is_sound result) }
-{
-    Input::Call(Call::Free { x: Obj(number) })
-}
-
-fn total(number: u64) -> Input
-    ensures { IsTrue (is_sound result) }
-{
-    Input::Call(Call::Total {
-        owner: owner(number),
-    })
-}
-
-fn count(number: u64) -> Input
-    ensures { IsTrue (is_sound result) }
-{
-    Input::Call(Call::Count {
-        owner: owner(number),
-    })
-}
-
-fn report(number: u64) -> Input
-    ensures { IsTrue (is_sound result) }
-{
-    Input::Call(Call::Report {
-        owner: owner(number),
-    })
-}
-
-fn steal(parent: u64, number: u64) -> Input
-    ensures { IsTrue (is_sound result) }
-{
-    Input::Call(Call::Steal {
-        owner: owner(parent),
-        x: Obj(number),
-    })
-}
-
-// A routine is a number from 1 upwards.
-fn hook(number: u64, routine: u32) -> Input
-    requires { 0 < routine }
-    ensures { IsTrue (is_sound result) }
-{
-    Input::Call(Call::Hook {
-        x: Obj(number),
-        routine,
-    })
-}
-
-// The same call, where a routine does it.
-fn act(call: Input) -> Input
-    requires { IsTrue (is_sound call) }
-    ensures { IsTrue (is_sound result) }
-{
-    match call {
-        Input::Call(call) => Input::Act(Act::Do(call)),
-        other => other,
-    }
-}
-
-fn ret(value: u32) -> Input
-    ensures { IsTrue (is_sound result) }
-{
-    Input::Act(Act::Ret(value))
 }
 
 // What the destructor of an object is asked after so many calls, the last of which had this reply.

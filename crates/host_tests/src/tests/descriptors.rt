@@ -3,7 +3,8 @@ ghost use Rattle.std.specs.Prelude.{◌<◌, IsTrue};
 ghost use Rattle.tree_specs.specs.Words.Octets.{is_octets};
 ghost use Rattle.tree_specs.specs.Words.Ranges.{is_sound};
 
-use super::{act, free, freed, leads, ret, tells, told_number, waits};
+use super::{freed, leads, tells, told_number, waits};
+use crate::inputs::{act, free, ret};
 use host_core::{Host, OfferFault};
 use std::alloc::Global;
 use std::fmt::InlineText;

@@ -3,9 +3,9 @@ ghost use Rattle.std.specs.Prelude.{IsTrue};
 ghost use Rattle.tree_specs.specs.Words.Ranges.{is_sound};
 
 use super::{
-    act, add_stolen_chain, adds, count, free, freed, hook, leads, moment, next_is, report, ret,
-    takes, tells, told_number, total, waits,
+    add_stolen_chain, adds, freed, leads, moment, next_is, takes, tells, told_number, waits,
 };
+use crate::inputs::{act, count, free, hook, report, ret, total};
 use host_core::Host;
 use std::alloc::Global;
 use std::process::Abort;
