@@ -1,5 +1,5 @@
 -- A step of the innermost free by the parts of a host.
-use Rattle.std.proofs.Common.{◌≡◌, ℕ, ◌+◌, ◌*◌, ◌≤◌, List, [], ◌∷◌, ◌++◌, length, length-append, reverse, Option, Some, None, false, refl, sym, ◌∙◌, ap, subst, inr, arith}
+use Rattle.std.proofs.Common.{◌≡◌, ℕ, ◌+◌, ◌*◌, ◌≤◌, List, [], ◌∷◌, ◌++◌, length, length-append, reverse, Option, Some, None, true, false, refl, sym, ◌∙◌, ap, subst, inr, arith}
 use Rattle.std.specs.Prelude.{slice_get, vec_capacity}
 use Rattle.step_machine.specs.Machine.{Move as Do}
 use Rattle.tree_specs.specs.declared.frame.CallFrame.TheVariants.{Asking}
@@ -43,7 +43,7 @@ use Rattle.host_core.specs.Places.{count_undrained, drains_after, drains_of, owe
 use Rattle.host_core.specs.Requests.{WorkReady}
 use Rattle.host_core.specs.Stacks.{work_frame, standing, Fits, FreesFit, other_view, freeing_view}
 use Rattle.host_core.specs.Hosts.{host_view, speaking_view, StepsSilently, IsBetweenSteps}
-use Rattle.host_core.specs.Going.{Answers, ended_view}
+use Rattle.host_core.specs.Going.{Answers, ended_view, is_news}
 use Rattle.host_core.proofs.Draining.{DrainsAfter, moves-fewer, silently-fewer, try-below}
 use Rattle.host_core.proofs.Emptied.{may-forget}
 use Rattle.host_core.proofs.FreeSteps.{step-news, step-asks, step-prepares, step-ends, ends-there}
@@ -96,12 +96,12 @@ pub goes-on-fewer : (n : ℕ) (t : FreeStep) (s : OpenFrees) → ((a : FreeReply
 goes-on-fewer n (Done a) s goes d = absurd (goes a refl)
 goes-on-fewer n _ s goes d = d.0
 
-pub is_news : (t : FreeStep) → ((x : Obj) → t ≡ AskOf x → ⊥) → ((x : Obj) → t ≡ Prepare x → ⊥) → ((x : Obj) → t ≡ Drain x → ⊥) → ((a : FreeReply) → t ≡ Done a → ⊥) → IsNews t
-is_news (AskOf x) no-ask no-prepare no-drain no-done = absurd (no-ask x refl)
-is_news (Prepare x) no-ask no-prepare no-drain no-done = absurd (no-prepare x refl)
-is_news (Drain x) no-ask no-prepare no-drain no-done = absurd (no-drain x refl)
-is_news (Done a) no-ask no-prepare no-drain no-done = absurd (no-done a refl)
-is_news _ no-ask no-prepare no-drain no-done = tt
+pub is-news : (t : FreeStep) → is_news t ≡ true → IsNews t
+is-news (AskOf x) e = cc
+is-news (Prepare x) e = cc
+is-news (Drain x) e = cc
+is-news (Done a) e = cc
+is-news _ e = tt
 
 pub news-work : (t : FreeStep) (s : OpenFrees) → IsNews t → GoesOn t s → IsAtWork s
 news-work (AskOf x) s n g = absurd n

@@ -3,7 +3,13 @@ use Rattle.std.proofs.Common.{◌≡◌, ℕ, ◌≤◌, Bool, List, reverse, Op
 use Rattle.std.specs.Prelude.{is_none}
 use Rattle.tree_specs.specs.declared.call.Call.{Call}
 use Rattle.tree_specs.specs.declared.frame.CallFrame.TheVariants.{Doing, Returning}
+use Rattle.step_machine.specs.Machine.{Move}
+use Rattle.step_machine.specs.Machine.{Move as Do}
+use Rattle.tree_specs.specs.declared.frame.Answer.{Answer as Answered}
+use Rattle.tree_specs.specs.declared.frame.Frame.{Frame}
 use Rattle.tree_specs.specs.declared.frame.Frame.TheVariants as frame
+use Rattle.tree_specs.specs.Machine.View.{View}
+use Rattle.tree_specs.specs.Rules.Items.{Item}
 use Rattle.tree_specs.specs.declared.frame.FreeFrame.{FreeFrame}
 use Rattle.tree_specs.specs.declared.frame.TurnFrame.{TurnFrame}
 use Rattle.tree_specs.specs.declared.frame.TurnFrame.TheVariants.{Timing, Polling}
@@ -25,26 +31,29 @@ use Rattle.host_core.specs.declared.active.Active.TheVariants as active
 use Rattle.host_core.specs.declared.answer.Answer.TheVariants.{Returned, Heard}
 use Rattle.host_core.specs.declared.caller.Caller.{Caller}
 use Rattle.host_core.specs.declared.motion.Motion.{Motion}
+use Rattle.host_core.specs.declared.motion.Motion.TheVariants.{Replies}
 use Rattle.host_core.specs.declared.parts.Parts.{Parts}
 use Rattle.host_core.specs.declared.short_reply.ShortReply.{ShortReply}
 use Rattle.host_core.specs.declared.step.Step.{Step}
-use Rattle.host_core.specs.declared.step.Step.TheVariants.{Ends}
+use Rattle.host_core.specs.declared.step.Step.TheVariants.{Goes, Ends}
 use Rattle.host_core.specs.declared.turn.Turn.{Turn}
 use Rattle.host_core.specs.Places.{owed, turn_places, HasPlacesFor}
 use Rattle.host_core.specs.Going.{Answers, ended_view, stepped_view, step_places}
-use Rattle.host_core.specs.Moves.{move_of}
+use Rattle.host_core.specs.Moves.{move_of, telling}
 use Rattle.host_core.specs.Requests.{QueuesAreKept}
 use Rattle.host_core.specs.Reaches.{is_bytes, IsShortAnswer, short_answer, pool_heard, outside_given}
-use Rattle.host_core.specs.Stacks.{Fits, other_view}
+use Rattle.host_core.specs.Stacks.{Fits, active_frame, other_view}
 use Rattle.host_core.specs.Steps.{step_of, IsBusy}
 use Rattle.host_core.specs.Turns.{turn_asks, turn_given, frame_looked}
-use Rattle.host_core.specs.Hosts.{given_view, called_view, speaks, asked_now, FrameReady, PartsReady, HasRoom, IsActing, IsBetweenSteps, MayTake, StepsSilently}
+use Rattle.host_core.specs.Hosts.{host_view, below_in, speaking_view, given_view, called_view, speaks, asked_now, FrameReady, PartsReady, HasRoom, IsActing, IsBetweenSteps, MayTake, TellsSameStory, StepsSilently}
 use Rattle.host_core.proofs.Allowed.{refs-go}
 use Rattle.host_core.proofs.Answering.{caller-acts, short-answer}
 use Rattle.host_core.proofs.Calling.{call-silent, call-room}
 use Rattle.host_core.proofs.Ending.{returned-answers, heard-answers}
 use Rattle.host_core.proofs.Reaching.{heard-step, no-reason}
 use Rattle.host_core.proofs.Stepping.{step_onward}
+use Rattle.host_core.proofs.StepsSilently.{along-then}
+use Rattle.host_core.proofs.Telling.{Stands, stands_at}
 
 -- ---- a call
 
@@ -67,6 +76,33 @@ module _ (q : Ask) (c : Call) (old : Parts) (whole : IsConsistent (called_view q
         let few = call-room q step (planned old.objects.pool c) old.objects.pool o.pool (may-planned (frame.Call (Doing q c)) _ old.objects.pool whole.sound c) room.order busy most (steps ∙ moved) in
         let places = room.places in
         omega (arith, few, places)
+
+  -- a call that is replied to at once leaves its caller at the reply
+  module _ (motion : Motion) (o : Objects) (moved : move_of q motion o.pool ≡ call_step (refusals old.objects.pool c) q c old.objects.pool) (works : o.works ≡ old.objects.works) (b : ShortReply) (is : motion ≡ Replies b)
+      (next : Active) (tells : active_frame next ≡ frame.Call (telling q b)) (fit : Fits old.objects.works (reverse old.waiting.items)) where
+    abbrev after : Parts
+    after = record { waiting = old.waiting; objects = o }
+
+    abbrev with_frame : Frame → View
+    with_frame g = record { innermost = g; below = below_in after; pool = o.pool }
+
+    steps : step_of (Goes next) o.pool ≡ move_of q motion o.pool
+    steps = ap (λ (g : Frame). let m : Move Frame Answered Pool Item = Do.Go g o.pool in m) tells ∙ ap (λ (m : Motion). move_of q m o.pool) (sym is)
+
+    goes : StepsSilently (called_view q (input.Call c) old) (with_frame (active_frame next))
+    goes = call_onward (Goes next) motion o steps moved works
+
+    stands : Stands (telling q b) next after
+    stands = stands_at next (telling q b) after tells (call_fit (Goes next) motion o steps moved works fit) (subst (λ (g : Frame). IsConsistent (with_frame g)) tells goes.along.whole)
+
+    pub replied_along : TellsSameStory (called_view q (input.Call c) old) (host_view next after)
+    replied_along = along-then _ _ _ (subst (λ (g : Frame). TellsSameStory (called_view q (input.Call c) old) (with_frame g)) tells goes.along) stands.along
+
+    pub replied_ready : IsBetweenSteps next after
+    replied_ready = stands.ready
+
+    pub replied_speaks : speaking_view (host_view next after) ≡ true
+    replied_speaks = stands.speaks
 
 -- a caller is answered with a call, or with what a routine does
 pub caller_acting : (now : Active) (c : Caller) (i : Input) (parts : Parts) → now ≡ active.Caller c → is_none (misfit (asked_now now) i) ≡ true → IsConsistent (given_view now i parts) → IsActing i

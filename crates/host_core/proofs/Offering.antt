@@ -237,6 +237,14 @@ acting-caller (active.Turning t) i objects r e k = absurd (turn-acts-not t.frame
 acting-caller (active.Reaching q) i objects r e k = absurd (outside-acts-not q i r e k)
 acting-caller _ i objects r e k = cc
 
+-- the question of a caller that was asked
+pub asked-of : (o : Option Ask) → is_some o ≡ true → (q : Ask) × (o ≡ Some q)
+asked-of None s = cc
+asked-of (Some q) s = (q, refl)
+
+pub same-asked : (o : Option Ask) (p q : Ask) → o ≡ Some p → o ≡ Some q → p ≡ q
+same-asked o p q a b = let e : Some p ≡ Some q = sym a ∙ b in let e' : p ≡ q = cc in e'
+
 acts : (i : Input) (o : Owner) → reported (call_of i) ≡ Some o → IsActing i
 acts (input.Call c) o e = tt
 acts (input.Act a) o e = tt

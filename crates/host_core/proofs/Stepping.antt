@@ -22,7 +22,6 @@ use Rattle.host_core.specs.declared.active.Active.TheVariants as active
 use Rattle.host_core.specs.declared.answer.Answer.TheVariants.{Freed, Returned, Turned, Heard}
 use Rattle.host_core.specs.declared.parts.Parts.{Parts}
 use Rattle.host_core.specs.declared.step.Step.{Step}
-use Rattle.host_core.specs.declared.turn.Turn.{Turn}
 use Rattle.host_core.specs.declared.step.Step.TheVariants.{Ends}
 use Rattle.host_core.specs.declared.waiting.Waiting.{Waiting}
 use Rattle.host_core.specs.declared.work.Work.{Work}
@@ -32,8 +31,8 @@ use Rattle.host_core.specs.Stacks.{standing, Fits, other_view, work_frame}
 use Rattle.host_core.specs.Steps.{step_of}
 use Rattle.host_core.specs.Turns.{MayTurn}
 use Rattle.host_core.specs.Places.{count_undrained, turn_takes, work_places, HasPlacesFor}
-use Rattle.host_core.specs.Hosts.{host_view, below_in, moved, next_of, speaking_view, FrameReady, IsBetweenSteps, StepsSilently}
-use Rattle.host_core.specs.Going.{stepped_view, IsTurnStep, IsWorkStep, StepAnswers, GoesWell, step_places}
+use Rattle.host_core.specs.Hosts.{host_view, below_in, moved, next_of, speaking_view, IsBetweenSteps, StepsSilently}
+use Rattle.host_core.specs.Going.{stepped_view, turning, IsTurnStep, IsWorkStep, StepAnswers, GoesWell, step_places}
 use Rattle.host_core.specs.Requests.{MayWork, WorkReady}
 use Rattle.host_core.proofs.StepPools.{pool_in, pool-left, request-rows, turn-room}
 use Rattle.host_core.proofs.StepsSilently.{onward}
@@ -104,62 +103,42 @@ pub record GoesOn (now : Active) (step : Step) (old : Parts) (o : Objects) : Typ
   pub places : HasPlacesFor (step_places step) (record { waiting = old.waiting; objects = o })
 
 -- a turn at work that tells and asks nothing
-module _ (now : Active) (t : Turn) (old : Parts) (is : now ≡ active.Turning t) (b : IsBetweenSteps now old) (quiet : speaking_view (host_view now old) ≡ false) where
-  there : IsBetweenSteps (active.Turning t) old
-  there = subst (λ (z : Active). IsBetweenSteps z old) is b
+module _ (f : TurnFrame) (old : Parts) (b : IsBetweenSteps (turning f) old) (quiet : speaking_view (host_view (turning f) old) ≡ false) where
+  pub turn_may : MayTurn f old.objects.pool
+  turn_may = may_turn f (below_in old) old.objects.pool b.whole (sym (turn_speaking f old.objects.pool) ∙ quiet)
 
-  silent : speaking_view (host_view (active.Turning t) old) ≡ false
-  silent = subst (λ (z : Active). speaking_view (host_view z old) ≡ false) is quiet
-
-  pub turn_may : MayTurn t.frame old.objects.pool
-  turn_may = may_turn t.frame (below_in old) old.objects.pool there.whole (sym (turn_speaking t.frame old.objects.pool) ∙ silent)
-
-  pub turn_ready : FrameReady t.frame old.objects
-  turn_ready = there.ready.frame
-
-  pub turn_goes : (step : Step) (o : Objects) → step_of step o.pool ≡ turn_step t.frame old.objects.pool → GoesWell (turn_takes t.frame) step o → IsTurnStep step → o ≡ record old.objects { pool = o.pool } → o.pool.requests ≡ old.objects.pool.requests → GoesOn now step old o
+  pub turn_goes : (step : Step) (o : Objects) → step_of step o.pool ≡ turn_step f old.objects.pool → GoesWell (turn_takes f) step o → IsTurnStep step → o ≡ record old.objects { pool = o.pool } → o.pool.requests ≡ old.objects.pool.requests → GoesOn (turning f) step old o
   turn_goes step o same goes ends rest requests =
       let works : o.works ≡ old.objects.works = ap (λ (z : Objects). z.works) rest in
-      let fits : Fits o.works (reverse old.waiting.items) = subst (λ (fs : List FreeFrame). Fits fs (reverse old.waiting.items)) (sym works) there.fit in
-      let room = there.places in
+      let room = b.places in
       let few = goes.places in
       let counts = ap count_unreceived requests in
-      let pool : o.pool ≡ pool_in (turn_step t.frame old.objects.pool) = sym (pool-left step o.pool) ∙ ap pool_in same in
+      let pool : o.pool ≡ pool_in (turn_step f old.objects.pool) = sym (pool-left step o.pool) ∙ ap pool_in same in
       let same-rows = ap (λ (z : Pool). count_undrained z.rows) pool in
-      let kept = turn-room t.frame old.objects.pool in
-      subst (λ (z : Active). GoesOn z step old o) (sym is) (record {
-        onward = step_onward (frame.Turn t.frame) step old o there.whole same works silent;
-        fit = fits;
-        answers = turn_answers step t.frame old.objects.works (reverse old.waiting.items) old.objects.pool o ends there.fit there.whole;
+      let kept = turn-room f old.objects.pool in
+      record {
+        onward = step_onward (frame.Turn f) step old o b.whole same works quiet;
+        fit = subst (λ (fs : List FreeFrame). Fits fs (reverse old.waiting.items)) (sym works) b.fit;
+        answers = turn_answers step f old.objects.works (reverse old.waiting.items) old.objects.pool o ends b.fit b.whole;
         places = omega (arith, room, few, counts, same-rows, kept);
-      })
+      }
 
 -- the work of a request
-module _ (now : Active) (w : Work) (old : Parts) (is : now ≡ active.Requesting w) (b : IsBetweenSteps now old) (quiet : speaking_view (host_view now old) ≡ false) where
-  working : IsBetweenSteps (active.Requesting w) old
-  working = subst (λ (z : Active). IsBetweenSteps z old) is b
-
-  says-nothing : speaking_view (host_view (active.Requesting w) old) ≡ false
-  says-nothing = subst (λ (z : Active). speaking_view (host_view z old) ≡ false) is quiet
-
+module _ (w : Work) (old : Parts) (b : IsBetweenSteps (active.Requesting w) old) (quiet : speaking_view (host_view (active.Requesting w) old) ≡ false) where
   pub work_may : MayWork w old.objects
-  work_may = may_work w old.objects.works (reverse old.waiting.items) old.objects says-nothing working.ready
-
-  pub work_wants : WorkReady w old.objects
-  work_wants = working.ready
+  work_may = may_work w old.objects.works (reverse old.waiting.items) old.objects quiet b.ready
 
   pub work_goes : (step : Step) (o : Objects) → step_of step o.pool ≡ request_step (work_frame w) old.objects.pool → GoesWell (work_places w) step o → IsWorkStep w step → o ≡ record old.objects { pool = o.pool; ready = o.ready }
-      → count_unreceived o.pool.requests ≤ count_unreceived old.objects.pool.requests → GoesOn now step old o
+      → count_unreceived o.pool.requests ≤ count_unreceived old.objects.pool.requests → GoesOn (active.Requesting w) step old o
   work_goes step o same goes ends rest requests =
       let works : o.works ≡ old.objects.works = ap (λ (z : Objects). z.works) rest in
-      let fits : Fits o.works (reverse old.waiting.items) = subst (λ (fs : List FreeFrame). Fits fs (reverse old.waiting.items)) (sym works) working.fit in
-      let room = working.places in
+      let room = b.places in
       let few = goes.places in
       let pool : o.pool ≡ pool_in (request_step (work_frame w) old.objects.pool) = sym (pool-left step o.pool) ∙ ap pool_in same in
       let same-rows = ap count_undrained (ap (λ (z : Pool). z.rows) pool ∙ request-rows (work_frame w) old.objects.pool) in
-      subst (λ (z : Active). GoesOn z step old o) (sym is) (record {
-        onward = step_onward (frame.Request (work_frame w)) step old o working.whole same works says-nothing;
-        fit = fits;
-        answers = work_answers step w old.objects.works (reverse old.waiting.items) old.objects.pool o ends working.fit works same working.whole;
+      record {
+        onward = step_onward (frame.Request (work_frame w)) step old o b.whole same works quiet;
+        fit = subst (λ (fs : List FreeFrame). Fits fs (reverse old.waiting.items)) (sym works) b.fit;
+        answers = work_answers step w old.objects.works (reverse old.waiting.items) old.objects.pool o ends b.fit works same b.whole;
         places = omega (arith, room, few, requests, same-rows);
-      })
+      }

@@ -1,19 +1,27 @@
 -- What a step leads to in a host, and what it may want.
-use Rattle.std.specs.Prelude.{◌≡◌, ℕ, ◌+◌, ◌≤◌, true, List, [], ◌∷◌, ◌++◌, slice_get}
+use Rattle.std.specs.Prelude.{◌≡◌, ℕ, ◌+◌, ◌≤◌, Bool, true, false, List, [], ◌∷◌, ◌++◌, reverse, slice_get}
 use Rattle.step_machine.specs.Machine.{Move as Do}
 use Rattle.tree_specs.specs.declared.frame.TurnFrame.TheVariants.{Handling, Clearing, Serving}
 use Rattle.tree_specs.specs.declared.frame.CallFrame.TheVariants.{Telling}
 use Rattle.tree_specs.specs.declared.frame.Frame.TheVariants as frame
 use Rattle.tree_specs.specs.declared.frame.FreeFrame.{FreeFrame}
-use Rattle.tree_specs.specs.Machine.Table.{freeing_resume}
-use Rattle.tree_specs.specs.declared.question.Ask.{Ask}
+use Rattle.tree_specs.specs.declared.free_step.FreeStep.{FreeStep}
+use Rattle.tree_specs.specs.declared.free_step.FreeStep.TheVariants.{Ask, Prepare, Drain, Done}
+use Rattle.tree_specs.specs.Calls.Refusals.{refusals}
+use Rattle.tree_specs.specs.Invariants.Consistent.{IsConsistent}
+use Rattle.tree_specs.specs.Machine.Table.{freeing_resume, call_step}
+use Rattle.tree_specs.specs.declared.question.Ask.{Ask as Question}
+use Rattle.tree_specs.specs.declared.call.Call.{Call}
 use Rattle.tree_specs.specs.declared.question.Input.{Input}
 use Rattle.tree_specs.specs.declared.question.Input.TheVariants.{Got}
+use Rattle.tree_specs.specs.declared.question.Input.TheVariants as input
 use Rattle.tree_specs.specs.declared.reply.Reply.TheVariants as reply
 use Rattle.tree_specs.specs.Machine.View.{View}
 use Rattle.destructors.specs.Engine.{IsAsked, IsPreparing}
-use Rattle.destructors.specs.Works.{IsAwaiting}
+use Rattle.destructors.specs.Frees.{Steps}
+use Rattle.destructors.specs.Works.{IsAwaiting, GoesOn}
 use Rattle.object_pool.specs.Objects.{Objects, frees_in, MayBeginFree}
+use Rattle.object_pool.specs.Requests.{count_unreceived}
 use Rattle.host_core.specs.declared.active.Active.{Active}
 use Rattle.host_core.specs.declared.answer.Answer.{Answer}
 use Rattle.host_core.specs.declared.answer.Answer.TheVariants.{Freed, Returned, Turned, Heard}
@@ -24,11 +32,13 @@ use Rattle.host_core.specs.declared.waiting.Waiting.{Waiting}
 use Rattle.host_core.specs.declared.waiting.Waiting.TheVariants.{Freeing, Awaiting, Turning, Requesting, Turn, Work as WorkOf}
 use Rattle.host_core.specs.declared.work.Work.{Work}
 use Rattle.host_core.specs.declared.work.Work.TheVariants.{Called, Releasing, Dropping, Over}
+use Rattle.host_core.specs.declared.motion.Motion.{Motion}
 use Rattle.host_core.specs.Callers.{remembers}
+use Rattle.host_core.specs.Moves.{move_of, ReadyFor}
 use Rattle.host_core.specs.Reaches.{remembered}
-use Rattle.host_core.specs.Hosts.{below_in, moved, PartsReady}
+use Rattle.host_core.specs.Hosts.{host_view, called_view, below_in, moved, speaking_view, PartsReady, HasRoom, IsBetweenSteps}
 use Rattle.host_core.specs.Places.{places}
-use Rattle.host_core.specs.Stacks.{active_frame, answer_of}
+use Rattle.host_core.specs.Stacks.{active_frame, answer_of, Fits}
 use Rattle.host_core.specs.Steps.{step_of, IsBusy}
 use Rattle.host_core.specs.Turns.{turn_asks}
 use Rattle.host_core.specs.declared.active.Active.TheVariants as active
@@ -122,9 +132,13 @@ abbrev pub IsWorkStep : Work → Step → Type 0
 IsWorkStep w (Ends (Heard r)) = IsOver w
 IsWorkStep w step = IsOngoing step
 
+-- a turn at work of which this is still to do
+abbrev pub turning : TurnFrame → Active
+turning frame = active.Turning (record { frame = frame; question = turn_asks frame })
+
 -- a turn goes on with this
 abbrev pub goes_as : TurnFrame → Step
-goes_as frame = Goes (active.Turning (record { frame = frame; question = turn_asks frame }))
+goes_as frame = Goes (turning frame)
 
 -- the work of a request goes on with this
 abbrev pub works_as : Work → Step
@@ -141,16 +155,47 @@ abbrev pub IsPlainErrand : Errand → Type 0
 IsPlainErrand Receive = ⊥
 IsPlainErrand errand = Unit {0}
 
+-- ---- what has led to these parts
+
+-- the parts with these objects in place of their own
+abbrev pub with_objects : Objects → Parts → Parts
+with_objects o parts = record { waiting = parts.waiting; objects = o }
+
+-- the innermost free stays at work after a step
+abbrev pub is_news : FreeStep → Bool
+is_news (Ask x) = false
+is_news (Prepare x) = false
+is_news (Drain x) = false
+is_news (Done a) = false
+is_news _ = true
+
+-- from these objects the innermost free made a step that told no event
+pub record CameFrom (o : Objects) (step : FreeStep) (parts : Parts) : Type 0 where
+  pub ready : IsBetweenSteps active.Freeing (with_objects o parts)
+  pub quiet : speaking_view (host_view active.Freeing (with_objects o parts)) ≡ false
+  pub steps : Steps (frees_in o) step (frees_in parts.objects)
+  pub goes_on : GoesOn step (frees_in parts.objects)
+  pub requests : count_unreceived parts.objects.pool.requests ≤ count_unreceived o.pool.requests
+
+-- with these objects a caller that was asked this did a call, and this is what it does first
+pub record BeginsWith (q : Question) (c : Call) (o : Objects) (motion : Motion) (parts : Parts) : Type 0 where
+  pub whole : IsConsistent (called_view q (input.Call c) (with_objects o parts))
+  pub room : HasRoom (with_objects o parts)
+  pub fit : Fits o.works (reverse parts.waiting.items)
+  pub moved : move_of q motion parts.objects.pool ≡ call_step (refusals o.pool c) q c o.pool
+  pub works : parts.objects.works ≡ o.works
+  pub goes : ReadyFor motion parts.objects.ready
+
 -- ---- what the outside has answered
 
 -- the innermost of the works that wait is a call that asks the outside
 pub record CallsOutside (waiting : List Waiting) : Type 0 where
-  pub question : Ask
+  pub question : Question
   pub others : List Waiting
   pub are : waiting ≡ others ++ Turning question ∷ []
 
 -- its caller, which was asked this, is told the bytes that were read, and a routine remembers them
-pub record Reads (q : Ask) (i : Input) (now : Active) (old new : Parts) : Type 0 where
+pub record Reads (q : Question) (i : Input) (now : Active) (old new : Parts) : Type 0 where
   pub bytes : List ℕ
   pub were : i ≡ Got bytes
   pub tells : active_frame now ≡ frame.Call (Telling (remembers q (remembered q (reply.Bytes bytes))) (reply.Bytes bytes))

@@ -174,6 +174,10 @@ IsActing i = ⊥
 abbrev pub called_view : Ask → Input → Parts → View
 called_view q i parts = other_view (frame.Call (begins_with q i)) parts.objects.works (reverse parts.waiting.items) parts.objects.pool
 
+-- the works once a routine has returned a number
+abbrev pub returning_view : ℕ → Parts → View
+returning_view v parts = other_view (frame.Call (Returning v)) parts.objects.works (reverse parts.waiting.items) parts.objects.pool
+
 -- what is at work once the answer was given
 abbrev pub given_frame : Active → Input → Pool → Frame
 given_frame (active.Caller c) i p = frame.Call (begins_with c.ask i)

@@ -155,6 +155,9 @@ impl Caller {
         ensures event { result ≡ told_by (frame_of self.old) }
         ensures frame { frame_of self.new ≡ after_telling (frame_of self.old) }
     {
+        if let Stage::Asking = self.stage {
+            return None;
+        }
         match mem::replace(&mut self.stage, Stage::Asking) {
             Stage::Asking => None,
             Stage::Telling(reply) => Some(Event::Replied(reply)),

@@ -11,12 +11,13 @@ ghost use Rattle.tree_specs.specs.Machine.View.{begin, question_of};
 use crate::active::Active;
 use crate::caller::{Caller, Stage};
 use crate::fault::OfferFault;
+use crate::offered::answer_on;
 use crate::parts::Parts;
 use crate::reach::is_bytes;
 use crate::replies::{read_on, report_for};
 use crate::reports::report_owner;
 use crate::working::tell_work;
-use crate::works::{answer_on, settle};
+use crate::works::settle;
 use object_pool::ObjectPool;
 use std::alloc::Global;
 use std::marker::Model;
@@ -41,6 +42,16 @@ fn make_room(parts: &mut Parts) -> Result<(), Memory>
     parts.objects.reserve()
 }
 
+/// The event that comes next of the open frees, which is told now. Most calls free nothing, so it is kept out of the way of
+/// the others.
+#[inline(never)]
+fn tell_free(objects: &mut ObjectPool) -> Option<Event>
+    requires { IsSettled Active.Freeing objects.old }
+    ensures { Tells result Active.Freeing objects.old Active.Freeing objects.new }
+{
+    objects.step().event
+}
+
 /// Tells what comes next of what is at work. None where a question is open, and then nothing changes.
 fn tell(now: &mut Active, objects: &mut ObjectPool) -> Option<Event>
     requires { IsSettled now.old objects.old }
@@ -48,7 +59,7 @@ fn tell(now: &mut Active, objects: &mut ObjectPool) -> Option<Event>
 {
     match now {
         Active::Caller(caller) => caller.tell(),
-        Active::Freeing => objects.step().event,
+        Active::Freeing => tell_free(objects),
         Active::Turning(turn) => turn.tell(),
         Active::Reaching(_) => None,
         Active::Requesting(work) => tell_work(work, objects),
@@ -210,7 +221,7 @@ impl Host {
         Ok(())
     }
 
-    /// The answer is taken. All memory up to the next question is taken first.
+    /// The answer is taken. All memory up to the next question is taken first, and where it runs out the host is as it was.
     fn take(&mut self, input: Input) -> Result<(), Memory>
         requires sound { IsTrue (is_sound input) }
         requires fits { misfit (question_of self.old) input ≡ None }

@@ -9,6 +9,7 @@ mod checks;
 mod fault;
 mod host;
 mod motion;
+mod offered;
 mod owned_reply;
 mod parts;
 mod queue_checks;

@@ -46,6 +46,7 @@ fn report_on(now: &mut Active, report: OwnedReply)
 
 /// The report that an input wants, which is about this owner, comes next to the caller that was asked. When memory runs out,
 /// nothing has changed.
+#[inline(never)]
 pub fn report_for(
     now: &mut Active,
     input: &Input,
@@ -85,6 +86,7 @@ fn take_asker(waiting: &mut Vec<Waiting>) -> Ask
 
 /// It was asked for bytes, and these were read: they come next to the caller whose call it was. When memory runs out, nothing
 /// has changed.
+#[inline(never)]
 pub fn read_on(now: &mut Active, input: Input, parts: &mut Parts) -> Result<(), Memory>
     requires bytes { is_bytes input ≡ true }
     requires called { CallsOutside parts.old.waiting.items }

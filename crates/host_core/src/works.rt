@@ -1,37 +1,28 @@
 //! The open works, step after step: callers, turns, frees and the works of requests, each on the one that waits for it.
-ghost use Rattle.std.specs.Prelude.{◌≡◌, ◌*◌, ◌≤◌, true, false, is_none, reverse, List, None};
-ghost use Rattle.tree_specs.specs.Tree.Pool.{Pool as PoolData};
+ghost use Rattle.std.specs.Prelude.{◌≡◌, ◌*◌, true, false, reverse, None, Some};
 ghost use Rattle.tree_specs.specs.Invariants.Consistent.{IsConsistent};
-ghost use Rattle.tree_specs.specs.Texts.Schedule.{misfit};
-ghost use Rattle.host_core.specs.Moves.{move_of, ReadyFor, call_of, report_of, reported};
 ghost use Rattle.host_core.specs.Stacks.{Fits};
-ghost use Rattle.host_core.specs.Steps.{step_of, IsBusy};
-ghost use Rattle.host_core.specs.Going.{stepped_view, ended_view, answer_places, step_places, Answers, StepReady, StepAnswers, AnswersTo, resumed_works};
+ghost use Rattle.host_core.specs.Steps.{IsBusy};
+ghost use Rattle.host_core.specs.Going.{stepped_view, ended_view, turning, with_objects, answer_places, step_places, is_news, Answers, StepReady, StepAnswers, AnswersTo, CameFrom, resumed_works};
 ghost use Rattle.host_core.specs.Places.{HasPlacesFor};
 ghost use Rattle.destructors.specs.Frees.{speaking, Begins};
 ghost use Rattle.destructors.specs.Works.{IsAtWork};
 ghost use Rattle.object_pool.specs.Objects.{Objects as ObjectsData, frees_in};
-ghost use Rattle.host_core.specs.Turns.{turn_asks, turn_given};
-ghost use Rattle.host_core.specs.declared.waiting.Waiting.{Waiting as WaitingData};
-ghost use Rattle.host_core.specs.Hosts.{host_view, given_view, speaking_view, HasRoom, IsActing, MayTake, called_view, IsBetweenSteps, TellsSameStory, StepsSilently};
+ghost use Rattle.host_core.specs.Hosts.{host_view, speaking_view, IsBetweenSteps, TellsSameStory, StepsSilently};
 
 use crate::active::Active;
 use crate::answer::Answer;
-use crate::caller::{Caller, Stage};
-use crate::calls::{act, freed};
-use crate::motion::Motion;
+use crate::caller::Caller;
+use crate::calls::freed;
 use crate::parts::Parts;
-use crate::reach::heard;
-use crate::short_reply::ShortReply;
 use crate::step::Step;
 use crate::turn::Turn;
-use crate::turns::{looked, turn_step};
+use crate::turns::turn_step;
 use crate::waiting::{Waiting, turn_resumed};
 use crate::work::Work;
 use crate::working::work_step;
 use object_pool::{ObjectPool, Progress};
-use std::mem;
-use tree_specs::{Act, Ask, Call, Event, FreeReply, FreeStep, Input, Refusal, TurnFrame};
+use tree_specs::{Ask, FreeStep, TurnFrame};
 
 /// The open frees have waited for this: the innermost goes on, and is at work.
 #[tactic(auto, using(crate::proofs::Resuming::returned_begins, crate::proofs::Resuming::prepared_begins))]
@@ -50,7 +41,7 @@ fn free_again(answer: Answer, objects: &mut ObjectPool)
 }
 
 /// The innermost work is over. The one below it goes on with its answer.
-fn end(answer: Answer, parts: &mut Parts) -> Active
+pub fn end(answer: Answer, parts: &mut Parts) -> Active
     requires answers { Answers answer (reverse parts.old.waiting.items) parts.old.objects }
     requires whole { IsConsistent (ended_view answer parts.old) }
     requires fit { Fits parts.old.objects.works (reverse parts.old.waiting.items) }
@@ -76,7 +67,7 @@ fn end(answer: Answer, parts: &mut Parts) -> Active
 }
 
 /// What a step leads to is at work from then on.
-fn go_on(step: Step, parts: &mut Parts) -> Active
+pub fn go_on(step: Step, parts: &mut Parts) -> Active
     requires busy { IsBusy step }
     requires whole { IsConsistent (stepped_view step parts.old) }
     requires fit { Fits parts.old.objects.works (reverse parts.old.waiting.items) }
@@ -111,130 +102,25 @@ fn go_on(step: Step, parts: &mut Parts) -> Active
     }
 }
 
-/// A turn begins for the host's own caller. A routine is refused one, since it may run in a turn itself.
-fn turn(ask: Ask) -> Step
-    ensures step { (p : PoolData) → step_of result p ≡ move_of ask Motion.Turns p }
-    ensures busy { IsBusy result }
-    ensures places { step_places result ≤ 3 }
-    ensures ready { (o : ObjectsData) → o.ready ≡ true → StepReady result o }
-    ensures answers { (ws : List WaitingData) (o : ObjectsData) → StepAnswers result ws o }
+/// Whether the innermost free stays at work after a step.
+fn stays_at_work(step: FreeStep) -> bool
+    ensures { result ≡ is_news step }
 {
-    match ask {
-        Ask::Quiet => {
-            let turn = Active::Turning(Turn::new(TurnFrame::Taking));
-            Step::Calls(turn, Waiting::Turning { ask: Ask::Quiet })
-        }
-        _ => replies(ask, ShortReply::No(Refusal::Nested)),
-    }
+    !matches!(
+        step,
+        FreeStep::Ask(_) | FreeStep::Prepare(_) | FreeStep::Drain(_) | FreeStep::Done(_)
+    )
 }
 
-/// The reply to the call of the caller that was asked comes next.
-fn replies(ask: Ask, reply: ShortReply) -> Step
-    ensures step { (p : PoolData) → step_of result p ≡ move_of ask (Motion.Replies reply) p }
-    ensures busy { IsBusy result }
-    ensures places { step_places result ≤ 3 }
-    ensures ready { (o : ObjectsData) → StepReady result o }
-    ensures answers { (ws : List WaitingData) (o : ObjectsData) → StepAnswers result ws o }
-{
-    Step::Goes(Active::Caller(Caller::after(ask, reply)))
-}
-
-/// A caller that was asked goes on with what its call does first.
-fn call_step(ask: Ask, motion: Motion) -> Step
-    ensures step { (p : PoolData) → step_of result p ≡ move_of ask motion p }
-    ensures busy { IsBusy result }
-    ensures places { step_places result ≤ 3 }
-    ensures ready { (o : ObjectsData) → ReadyFor motion o.ready → StepReady result o }
-    ensures answers { (ws : List WaitingData) (o : ObjectsData) → StepAnswers result ws o }
-{
-    match motion {
-        Motion::Replies(reply) => replies(ask, reply),
-        Motion::Announces(notice, reply) => {
-            Step::Goes(Active::Caller(Caller::announcing(ask, notice, reply)))
-        }
-        Motion::Frees(x) => Step::Frees(x, Waiting::Awaiting { ask, x }),
-        Motion::Unlinks(owner, x) => Step::Unlinks(owner, x, Waiting::Awaiting { ask, x }),
-        Motion::Empties(x) => Step::Empties(x, Waiting::Awaiting { ask, x }),
-        Motion::Asks(question) => {
-            Step::Calls(Active::Reaching(question), Waiting::Turning { ask })
-        }
-        Motion::Turns => turn(ask),
-        Motion::Works(errand, x) => {
-            let work = Active::Requesting(Work::of(errand, x));
-            Step::Calls(work, Waiting::Requesting { ask })
-        }
-    }
-}
-
-/// The caller that was asked does a call.
-fn call_on(ask: Ask, call: Call, parts: &mut Parts) -> Active
-    requires no_report { report_of call ≡ None }
-    requires fit { Fits parts.old.objects.works (reverse parts.old.waiting.items) }
-    requires whole { IsConsistent (called_view ask (Input.Call call) parts.old) }
-    requires room { HasRoom parts.old }
-    ensures along { TellsSameStory (called_view ask (Input.Call call) parts.old) (host_view result parts.new) }
+/// The innermost free was at work, and is no more after this step: what it waits for is, or where it is over the work below it.
+/// Few steps do this, and the others are quicker without the room on the stack that this takes.
+#[inline(never)]
+fn leave_free(step: FreeStep, parts: &mut Parts) -> Active
+    requires leaves { is_news step ≡ false }
+    requires came { (o : ObjectsData) × CameFrom o step parts.old }
+    ensures onward { (o : ObjectsData) → CameFrom o step parts.old → StepsSilently (host_view Active.Freeing (with_objects o parts.old)) (host_view result parts.new) }
     ensures ready { IsBetweenSteps result parts.new }
 {
-    let motion = act(call, &mut parts.objects);
-    go_on(call_step(ask, motion), parts)
-}
-
-/// A caller that was asked does a call, or is a routine that returns.
-fn caller_on(ask: Ask, input: Input, parts: &mut Parts) -> Active
-    requires acts { IsActing input }
-    requires no_report { reported (call_of input) ≡ None }
-    requires fit { Fits parts.old.objects.works (reverse parts.old.waiting.items) }
-    requires whole { IsConsistent (called_view ask input parts.old) }
-    requires room { HasRoom parts.old }
-    ensures along { TellsSameStory (called_view ask input parts.old) (host_view result parts.new) }
-    ensures ready { IsBetweenSteps result parts.new }
-{
-    match input {
-        Input::Call(call) | Input::Act(Act::Do(call)) => call_on(ask, call, parts),
-        Input::Act(Act::Ret(value)) => end(Answer::Returned(value), parts),
-        _ => unreachable!(),
-    }
-}
-
-/// What is still to do of a turn once it was told the time, in microseconds, or which descriptors are ready.
-fn turn_given(frame: TurnFrame, input: &Input, objects: &ObjectPool) -> TurnFrame
-    requires { is_none (misfit (turn_asks frame) input.now) ≡ true }
-    ensures { result ≡ turn_given frame input.now objects.now.pool }
-{
-    match (frame, input) {
-        (TurnFrame::Timing { again }, Input::Clock(now)) => TurnFrame::Timed { again, now: *now },
-        (_, Input::Ready(list)) => looked(objects.ready(list)),
-        _ => frame,
-    }
-}
-
-/// What goes on with the answer to what it has asked.
-fn answered(now: Active, input: Input, parts: &mut Parts) -> Active
-    requires { MayTake now input parts.old }
-    ensures along { TellsSameStory (given_view now input parts.old) (host_view result parts.new) }
-    ensures ready { IsBetweenSteps result parts.new }
-{
-    match now {
-        Active::Caller(caller) => caller_on(caller.ask, input, parts),
-        Active::Turning(turn) => {
-            Active::Turning(Turn::new(turn_given(turn.frame, &input, &parts.objects)))
-        }
-        Active::Reaching(_question) => {
-            let reply = heard(input, &mut parts.objects);
-            end(Answer::Heard(reply), parts)
-        }
-        _other => unreachable!(),
-    }
-}
-
-/// What comes next of the open frees where this tells no event.
-fn free_step(parts: &mut Parts) -> Active
-    requires ready { IsBetweenSteps Active.Freeing parts.old }
-    requires quiet { speaking_view (host_view Active.Freeing parts.old) ≡ false }
-    ensures onward { StepsSilently (host_view Active.Freeing parts.old) (host_view result parts.new) }
-    ensures ready { IsBetweenSteps result parts.new }
-{
-    let Progress { step, .. } = parts.objects.step();
     match step {
         FreeStep::Ask(x) => {
             parts.waiting.push_reserved(Waiting::Freeing);
@@ -249,52 +135,94 @@ fn free_step(parts: &mut Parts) -> Active
             Active::Requesting(Work::Vacating { queue })
         }
         FreeStep::Done(answer) => end(Answer::Freed(answer), parts),
-        _ => Active::Freeing,
+        _ => unreachable!(),
     }
+}
+
+/// What comes next of the open frees where this tells no event.
+#[inline(never)]
+fn quiet_free(now: &mut Active, parts: &mut Parts)
+    requires freeing { now.old ≡ Active.Freeing }
+    requires ready { IsBetweenSteps Active.Freeing parts.old }
+    requires quiet { speaking_view (host_view Active.Freeing parts.old) ≡ false }
+    ensures onward { StepsSilently (host_view Active.Freeing parts.old) (host_view now.new parts.new) }
+    ensures ready { IsBetweenSteps now.new parts.new }
+{
+    let Progress { step, .. } = parts.objects.step();
+    if stays_at_work(step) {
+        return;
+    }
+    *now = leave_free(step, parts);
+}
+
+/// What comes next of a turn where this tells and asks nothing.
+#[inline(never)]
+fn quiet_turn(now: &mut Active, frame: TurnFrame, parts: &mut Parts)
+    requires ready { IsBetweenSteps (turning frame) parts.old }
+    requires quiet { speaking_view (host_view (turning frame) parts.old) ≡ false }
+    ensures onward { StepsSilently (host_view (turning frame) parts.old) (host_view now.new parts.new) }
+    ensures ready { IsBetweenSteps now.new parts.new }
+{
+    let step = turn_step(frame, &mut parts.objects);
+    *now = go_on(step, parts);
+}
+
+/// What comes next of the work of a request or of a queue where this tells nothing.
+#[inline(never)]
+fn quiet_work(now: &mut Active, work: Work, parts: &mut Parts)
+    requires ready { IsBetweenSteps (Active.Requesting work) parts.old }
+    requires quiet { speaking_view (host_view (Active.Requesting work) parts.old) ≡ false }
+    ensures onward { StepsSilently (host_view (Active.Requesting work) parts.old) (host_view now.new parts.new) }
+    ensures ready { IsBetweenSteps now.new parts.new }
+{
+    let step = work_step(work, &mut parts.objects);
+    *now = go_on(step, parts);
 }
 
 /// A step that tells and asks nothing.
-fn quiet_step(now: Active, parts: &mut Parts) -> Active
-    requires ready { IsBetweenSteps now parts.old }
-    requires quiet { speaking_view (host_view now parts.old) ≡ false }
-    ensures onward { StepsSilently (host_view now parts.old) (host_view result parts.new) }
-    ensures ready { IsBetweenSteps result parts.new }
+fn quiet_step(now: &mut Active, parts: &mut Parts)
+    requires ready { IsBetweenSteps now.old parts.old }
+    requires quiet { speaking_view (host_view now.old parts.old) ≡ false }
+    ensures onward { StepsSilently (host_view now.old parts.old) (host_view now.new parts.new) }
+    ensures ready { IsBetweenSteps now.new parts.new }
 {
     match now {
-        Active::Freeing => free_step(parts),
+        Active::Freeing => quiet_free(now, parts),
         Active::Turning(turn) => {
-            let step = turn_step(turn.frame, &mut parts.objects);
-            go_on(step, parts)
+            let frame = turn.frame;
+            quiet_turn(now, frame, parts);
         }
         Active::Requesting(work) => {
-            let step = work_step(work, &mut parts.objects);
-            go_on(step, parts)
+            let work = *work;
+            quiet_work(now, work, parts);
         }
-        _ => now,
+        _ => unreachable!(),
     }
 }
 
-/// The steps that tell nothing, up to the next event or question.
-pub fn settle(now: &mut Active, parts: &mut Parts)
+/// The steps that tell nothing, up to the next event or question, of what isn't a caller.
+#[inline(never)]
+fn settle_works(now: &mut Active, parts: &mut Parts)
     requires { IsBetweenSteps now.old parts.old }
     ensures along { TellsSameStory (host_view now.old parts.old) (host_view now.new parts.new) }
     ensures ready { IsBetweenSteps now.new parts.new }
     ensures settled { speaking_view (host_view now.new parts.new) ≡ true }
 {
     while !now.speaks(&parts.objects) {
-        let present = mem::replace(now, Active::Freeing);
-        *now = quiet_step(present, parts);
+        quiet_step(now, parts);
     }
 }
 
-/// Who was asked goes on with the answer, which takes no memory of its own, up to the next event or question.
-pub fn answer_on(now: &mut Active, input: Input, parts: &mut Parts)
-    requires { MayTake now.old input parts.old }
-    ensures along { TellsSameStory (given_view now.old input parts.old) (host_view now.new parts.new) }
+/// The steps that tell nothing, up to the next event or question. A caller makes none, and most calls come back to one.
+#[inline]
+pub fn settle(now: &mut Active, parts: &mut Parts)
+    requires { IsBetweenSteps now.old parts.old }
+    ensures along { TellsSameStory (host_view now.old parts.old) (host_view now.new parts.new) }
     ensures ready { IsBetweenSteps now.new parts.new }
     ensures settled { speaking_view (host_view now.new parts.new) ≡ true }
 {
-    let present = mem::replace(now, Active::Freeing);
-    *now = answered(present, input, parts);
-    settle(now, parts);
+    match now {
+        Active::Caller(_) => (),
+        _ => settle_works(now, parts),
+    }
 }

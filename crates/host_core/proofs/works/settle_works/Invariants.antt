@@ -2,7 +2,7 @@ use Rattle.std.proofs.Common.{◌+◌, length}
 use Rattle.tree_specs.specs.Invariants.Measure.{cost, pending}
 use Rattle.tree_specs.specs.Machine.View.{View}
 use Rattle.host_core.specs.Hosts.{TellsSameStory, host_view, IsBetweenSteps}
-use Rattle.host_core.proofs.works.settle.Given as goal
+use Rattle.host_core.proofs.works.settle_works.Given as goal
 
 -- the host is ready, and nothing was told
 abbrev pub invariant-loop-now : goal.invariant-loop-now

@@ -2,7 +2,7 @@ use Rattle.std.proofs.Common.{subst}
 use Rattle.host_core.specs.declared.active.Active.{Active}
 use Rattle.host_core.specs.Hosts.{given_view, host_view, TellsSameStory}
 use Rattle.host_core.proofs.StepsSilently.{along-then}
-use Rattle.host_core.proofs.works.answer_on.Goals as goal
+use Rattle.host_core.proofs.offered.hear.Goals as goal
 
 pub returns-clause-along : goal.returns-clause-along
 returns-clause-along c =

@@ -1,0 +1,219 @@
+//! The answer to what was asked: a caller's call, what a routine does, or what the outside tells.
+ghost use Rattle.std.specs.Prelude.{◌≡◌, ◌*◌, ◌≤◌, true, is_none, reverse, List, None, Some, IsSome};
+ghost use Rattle.tree_specs.specs.Tree.Pool.{Pool as PoolData};
+ghost use Rattle.tree_specs.specs.Invariants.Consistent.{IsConsistent};
+ghost use Rattle.tree_specs.specs.Texts.Schedule.{misfit};
+ghost use Rattle.host_core.specs.Moves.{move_of, telling, ReadyFor, report_of};
+ghost use Rattle.host_core.specs.Stacks.{Fits, active_frame};
+ghost use Rattle.host_core.specs.Steps.{step_of, IsBusy};
+ghost use Rattle.host_core.specs.Going.{with_objects, step_places, StepReady, StepAnswers, BeginsWith};
+ghost use Rattle.object_pool.specs.Objects.{Objects as ObjectsData};
+ghost use Rattle.host_core.specs.Turns.{turn_asks, turn_given};
+ghost use Rattle.host_core.specs.declared.waiting.Waiting.{Waiting as WaitingData};
+ghost use Rattle.tree_specs.specs.declared.frame.Frame.TheVariants as frames;
+ghost use Rattle.tree_specs.specs.declared.call.Call.{Call as CallData};
+ghost use Rattle.tree_specs.specs.declared.question.Ask.{Ask as AskData};
+ghost use Rattle.host_core.specs.Hosts.{caller_asked, host_view, given_view, speaking_view, HasRoom, IsActing, MayTake, called_view, returning_view, IsBetweenSteps, TellsSameStory};
+
+use crate::active::Active;
+use crate::answer::Answer;
+use crate::caller::Caller;
+use crate::calls::act;
+use crate::motion::Motion;
+use crate::parts::Parts;
+use crate::reach::heard;
+use crate::short_reply::ShortReply;
+use crate::step::Step;
+use crate::turn::Turn;
+use crate::turns::looked;
+use crate::waiting::Waiting;
+use crate::work::Work;
+use crate::works::{end, go_on, settle};
+use object_pool::ObjectPool;
+use std::mem;
+use tree_specs::{Act, Ask, Call, Input, Refusal, TurnFrame};
+
+/// A turn begins for the host's own caller. A routine is refused one, since it may run in a turn itself.
+fn turn(ask: Ask) -> Step
+    ensures step { (p : PoolData) → step_of result p ≡ move_of ask Motion.Turns p }
+    ensures busy { IsBusy result }
+    ensures places { step_places result ≤ 3 }
+    ensures ready { (o : ObjectsData) → o.ready ≡ true → StepReady result o }
+    ensures answers { (ws : List WaitingData) (o : ObjectsData) → StepAnswers result ws o }
+{
+    match ask {
+        Ask::Quiet => {
+            let turn = Active::Turning(Turn::new(TurnFrame::Taking));
+            Step::Calls(turn, Waiting::Turning { ask: Ask::Quiet })
+        }
+        _ => replies(ask, ShortReply::No(Refusal::Nested)),
+    }
+}
+
+/// The reply to the call of the caller that was asked comes next.
+fn replies(ask: Ask, reply: ShortReply) -> Step
+    ensures step { (p : PoolData) → step_of result p ≡ move_of ask (Motion.Replies reply) p }
+    ensures busy { IsBusy result }
+    ensures places { step_places result ≤ 3 }
+    ensures ready { (o : ObjectsData) → StepReady result o }
+    ensures answers { (ws : List WaitingData) (o : ObjectsData) → StepAnswers result ws o }
+{
+    Step::Goes(Active::Caller(Caller::after(ask, reply)))
+}
+
+/// A caller that was asked goes on with what its call does first.
+fn call_step(ask: Ask, motion: Motion) -> Step
+    ensures step { (p : PoolData) → step_of result p ≡ move_of ask motion p }
+    ensures busy { IsBusy result }
+    ensures places { step_places result ≤ 3 }
+    ensures ready { (o : ObjectsData) → ReadyFor motion o.ready → StepReady result o }
+    ensures answers { (ws : List WaitingData) (o : ObjectsData) → StepAnswers result ws o }
+{
+    match motion {
+        Motion::Replies(reply) => replies(ask, reply),
+        Motion::Announces(notice, reply) => {
+            Step::Goes(Active::Caller(Caller::announcing(ask, notice, reply)))
+        }
+        Motion::Frees(x) => Step::Frees(x, Waiting::Awaiting { ask, x }),
+        Motion::Unlinks(owner, x) => Step::Unlinks(owner, x, Waiting::Awaiting { ask, x }),
+        Motion::Empties(x) => Step::Empties(x, Waiting::Awaiting { ask, x }),
+        Motion::Asks(question) => {
+            Step::Calls(Active::Reaching(question), Waiting::Turning { ask })
+        }
+        Motion::Turns => turn(ask),
+        Motion::Works(errand, x) => {
+            let work = Active::Requesting(Work::of(errand, x));
+            Step::Calls(work, Waiting::Requesting { ask })
+        }
+    }
+}
+
+/// What is still to do of a turn once it was told the time, in microseconds, or which descriptors are ready.
+fn turn_given(frame: TurnFrame, input: &Input, objects: &ObjectPool) -> TurnFrame
+    requires { is_none (misfit (turn_asks frame) input.now) ≡ true }
+    ensures { result ≡ turn_given frame input.now objects.now.pool }
+{
+    match (frame, input) {
+        (TurnFrame::Timing { again }, Input::Clock(now)) => TurnFrame::Timed { again, now: *now },
+        (_, Input::Ready(list)) => looked(objects.ready(list)),
+        _ => frame,
+    }
+}
+
+/// What goes on with an answer that no caller gives: a turn, or a call that asked the outside.
+fn answered(now: Active, input: Input, parts: &mut Parts) -> Active
+    requires taken { MayTake now input parts.old }
+    requires outside { IsActing input → ⊥ }
+    ensures along { TellsSameStory (given_view now input parts.old) (host_view result parts.new) }
+    ensures ready { IsBetweenSteps result parts.new }
+{
+    match now {
+        Active::Turning(turn) => {
+            Active::Turning(Turn::new(turn_given(turn.frame, &input, &parts.objects)))
+        }
+        Active::Reaching(_question) => {
+            let reply = heard(input, &mut parts.objects);
+            end(Answer::Heard(reply), parts)
+        }
+        _other => unreachable!(),
+    }
+}
+
+/// The reply to the call of the caller that was asked comes next. The caller stays where it is: moving one costs more than most
+/// calls do.
+fn reply_on(now: &mut Active, reply: ShortReply)
+    requires { IsSome (caller_asked now.old) }
+    ensures { (q : AskData) → caller_asked now.old ≡ Some q → active_frame now.new ≡ frames.Call (telling q reply) }
+{
+    match now {
+        Active::Caller(caller) => caller.reply(reply),
+        _ => unreachable!(),
+    }
+}
+
+/// The question of the caller that was asked, which is taken out.
+fn take_ask(now: &mut Active) -> Ask
+    requires { IsSome (caller_asked now.old) }
+    ensures { caller_asked now.old ≡ Some result }
+{
+    match mem::replace(now, Active::Freeing) {
+        Active::Caller(Caller { ask, .. }) => ask,
+        _ => unreachable!(),
+    }
+}
+
+/// What a call does first is gone on with, up to the next event or question. Few calls come here, and the others are quicker
+/// without the room on the stack that this takes.
+#[inline(never)]
+fn begin_on(now: &mut Active, motion: Motion, parts: &mut Parts)
+    requires asked { IsSome (caller_asked now.old) }
+    requires begins { (q : AskData) → caller_asked now.old ≡ Some q → (c : CallData) × (o : ObjectsData) × BeginsWith q c o motion parts.old }
+    ensures along { (q : AskData) (c : CallData) (o : ObjectsData) → caller_asked now.old ≡ Some q → BeginsWith q c o motion parts.old → TellsSameStory (called_view q (Input.Call c) (with_objects o parts.old)) (host_view now.new parts.new) }
+    ensures ready { IsBetweenSteps now.new parts.new }
+    ensures settled { speaking_view (host_view now.new parts.new) ≡ true }
+{
+    let ask = take_ask(now);
+    *now = go_on(call_step(ask, motion), parts);
+    settle(now, parts);
+}
+
+/// The caller that was asked does a call, up to the next event or question. A reply is one.
+fn call_on(now: &mut Active, call: Call, parts: &mut Parts)
+    requires asked { IsSome (caller_asked now.old) }
+    requires no_report { report_of call ≡ None }
+    requires fit { Fits parts.old.objects.works (reverse parts.old.waiting.items) }
+    requires whole { (q : AskData) → caller_asked now.old ≡ Some q → IsConsistent (called_view q (Input.Call call) parts.old) }
+    requires room { HasRoom parts.old }
+    ensures along { (q : AskData) → caller_asked now.old ≡ Some q → TellsSameStory (called_view q (Input.Call call) parts.old) (host_view now.new parts.new) }
+    ensures ready { IsBetweenSteps now.new parts.new }
+    ensures settled { speaking_view (host_view now.new parts.new) ≡ true }
+{
+    let motion = act(call, &mut parts.objects);
+    match motion {
+        Motion::Replies(reply) => reply_on(now, reply),
+        begins => begin_on(now, begins, parts),
+    }
+}
+
+/// A routine has returned: whoever waited for it goes on, up to the next event or question.
+#[inline(never)]
+fn return_on(now: &mut Active, value: u32, parts: &mut Parts)
+    requires fit { Fits parts.old.objects.works (reverse parts.old.waiting.items) }
+    requires whole { IsConsistent (returning_view value parts.old) }
+    requires room { HasRoom parts.old }
+    ensures along { TellsSameStory (returning_view value parts.old) (host_view now.new parts.new) }
+    ensures ready { IsBetweenSteps now.new parts.new }
+    ensures settled { speaking_view (host_view now.new parts.new) ≡ true }
+{
+    *now = end(Answer::Returned(value), parts);
+    settle(now, parts);
+}
+
+/// An answer that no caller gives is gone on with, up to the next event or question.
+#[inline(never)]
+fn hear(now: &mut Active, input: Input, parts: &mut Parts)
+    requires taken { MayTake now.old input parts.old }
+    requires outside { IsActing input → ⊥ }
+    ensures along { TellsSameStory (given_view now.old input parts.old) (host_view now.new parts.new) }
+    ensures ready { IsBetweenSteps now.new parts.new }
+    ensures settled { speaking_view (host_view now.new parts.new) ≡ true }
+{
+    let present = mem::replace(now, Active::Freeing);
+    *now = answered(present, input, parts);
+    settle(now, parts);
+}
+
+/// Who was asked goes on with the answer, which takes no memory of its own, up to the next event or question.
+pub fn answer_on(now: &mut Active, input: Input, parts: &mut Parts)
+    requires { MayTake now.old input parts.old }
+    ensures along { TellsSameStory (given_view now.old input parts.old) (host_view now.new parts.new) }
+    ensures ready { IsBetweenSteps now.new parts.new }
+    ensures settled { speaking_view (host_view now.new parts.new) ≡ true }
+{
+    match input {
+        Input::Call(call) => call_on(now, call, parts),
+        Input::Act(Act::Do(call)) => call_on(now, call, parts),
+        Input::Act(Act::Ret(value)) => return_on(now, value, parts),
+        other => hear(now, other, parts),
+    }
+}
