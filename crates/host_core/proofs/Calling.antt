@@ -22,19 +22,6 @@ use Rattle.host_core.specs.Hosts.{speaks}
 use Rattle.host_core.proofs.StepPools.{pool_in, pool-left}
 use Rattle.host_core.proofs.Unreceived.{change-counted}
 
--- ---- it tells and asks nothing
-
-pub call-silent : (q : Ask) (plan : Plan) (p : Pool) → speaks (plan_step q plan p) ≡ false
-call-silent q (Does c None r) p = refl
-call-silent q (Does c (Some notice) r) p = refl
-call-silent q (FreesOf x) p = refl
-call-silent q (UnlinksOf owner x) p = refl
-call-silent q (EmptiesOf x) p = refl
-call-silent q (AsksOf outside) p = refl
-call-silent Quiet TurnsOf p = refl
-call-silent _ TurnsOf p = refl
-call-silent q (WorksOf c errand x) p = refl
-
 -- ---- its places
 
 -- a caller takes none
@@ -52,20 +39,21 @@ planned_pool (Does c notice r) p = changed_by c p
 planned_pool (WorksOf c errand x) p = changed_by c p
 planned_pool plan p = p
 
-plan-left : (q : Ask) (plan : Plan) (p : Pool) → pool_in (plan_step q plan p) ≡ planned_pool plan p
-plan-left q (Does c None r) p = refl
-plan-left q (Does c (Some notice) r) p = refl
-plan-left q (FreesOf x) p = refl
-plan-left q (UnlinksOf owner x) p = refl
-plan-left q (EmptiesOf x) p = refl
-plan-left q (AsksOf outside) p = refl
-plan-left Quiet TurnsOf p = refl
-plan-left _ TurnsOf p = refl
-plan-left q (WorksOf c errand x) p = refl
+-- it tells and asks nothing, and leaves these objects
+pub plan-steps : (q : Ask) (plan : Plan) (p : Pool) → (speaks (plan_step q plan p) ≡ false) × (pool_in (plan_step q plan p) ≡ planned_pool plan p)
+plan-steps q (Does c None r) p = (refl, refl)
+plan-steps q (Does c (Some notice) r) p = (refl, refl)
+plan-steps q (FreesOf x) p = (refl, refl)
+plan-steps q (UnlinksOf owner x) p = (refl, refl)
+plan-steps q (EmptiesOf x) p = (refl, refl)
+plan-steps q (AsksOf outside) p = (refl, refl)
+plan-steps Quiet TurnsOf p = (refl, refl)
+plan-steps _ TurnsOf p = (refl, refl)
+plan-steps q (WorksOf c errand x) p = (refl, refl)
 
 -- what a call begins has the places that were taken for it
 pub call-room : (q : Ask) (step : Step) (plan : Plan) (old new : Pool) → May old plan → AreInOrder old.requests → IsBusy step → step_places step ≤ 3 → step_of step new ≡ plan_step q plan old → step_places step + 2 * owed new ≤ 4 + 2 * owed old
-call-room q step plan old new may order busy most e = each plan may e (sym (pool-left step new) ∙ ap pool_in e ∙ plan-left q plan old)
+call-room q step plan old new may order busy most e = each plan may e (sym (pool-left step new) ∙ ap pool_in e ∙ (plan-steps q plan old).1)
   where
     -- with as much to come
     as-much : new ≡ old → step_places step + 2 * owed new ≤ 4 + 2 * owed old

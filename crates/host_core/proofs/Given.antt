@@ -38,7 +38,7 @@ use Rattle.host_core.specs.declared.step.Step.{Step}
 use Rattle.host_core.specs.declared.step.Step.TheVariants.{Goes, Ends}
 use Rattle.host_core.specs.declared.turn.Turn.{Turn}
 use Rattle.host_core.specs.Places.{owed, turn_places, HasPlacesFor}
-use Rattle.host_core.specs.Going.{Answers, ended_view, stepped_view, step_places}
+use Rattle.host_core.specs.Going.{with_objects, Answers, BeginsWith, ended_view, stepped_view, step_places}
 use Rattle.host_core.specs.Moves.{move_of, telling}
 use Rattle.host_core.specs.Requests.{QueuesAreKept}
 use Rattle.host_core.specs.Reaches.{is_bytes, IsShortAnswer, short_answer, pool_heard, outside_given}
@@ -48,7 +48,7 @@ use Rattle.host_core.specs.Turns.{turn_asks, turn_given, frame_looked}
 use Rattle.host_core.specs.Hosts.{host_view, below_in, speaking_view, given_view, called_view, speaks, asked_now, FrameReady, PartsReady, HasRoom, IsActing, IsBetweenSteps, MayTake, TellsSameStory, StepsSilently}
 use Rattle.host_core.proofs.Allowed.{refs-go}
 use Rattle.host_core.proofs.Answering.{caller-acts, short-answer}
-use Rattle.host_core.proofs.Calling.{call-silent, call-room}
+use Rattle.host_core.proofs.Calling.{plan-steps, call-room}
 use Rattle.host_core.proofs.Ending.{returned-answers, heard-answers}
 use Rattle.host_core.proofs.Reaching.{heard-step, no-reason}
 use Rattle.host_core.proofs.Stepping.{step_onward}
@@ -66,7 +66,7 @@ module _ (q : Ask) (c : Call) (old : Parts) (whole : IsConsistent (called_view q
 
   module _ (step : Step) (motion : Motion) (o : Objects) (steps : step_of step o.pool ≡ move_of q motion o.pool) (moved : move_of q motion o.pool ≡ call_step (refusals old.objects.pool c) q c old.objects.pool) (works : o.works ≡ old.objects.works) where
     pub call_onward : StepsSilently (called_view q (input.Call c) old) (stepped_view step (record { waiting = old.waiting; objects = o }))
-    call_onward = step_onward (frame.Call (Doing q c)) step old o whole (steps ∙ moved) works (call-silent q (planned old.objects.pool c) old.objects.pool)
+    call_onward = step_onward (frame.Call (Doing q c)) step old o whole (steps ∙ moved) works (plan-steps q (planned old.objects.pool c) old.objects.pool).0
 
     pub call_fit : Fits old.objects.works (reverse old.waiting.items) → Fits o.works (reverse old.waiting.items)
     call_fit fit = subst (λ (fs : List FreeFrame). Fits fs (reverse old.waiting.items)) (sym works) fit
@@ -103,6 +103,20 @@ module _ (q : Ask) (c : Call) (old : Parts) (whole : IsConsistent (called_view q
 
     pub replied_speaks : speaking_view (host_view next after) ≡ true
     replied_speaks = stands.speaks
+
+-- what a call does first leads on
+pub record Begun (q : Ask) (c : Call) (step : Step) (old : Parts) (o : Objects) : Type 0 where
+  pub onward : StepsSilently (called_view q (input.Call c) old) (stepped_view step (record { waiting = old.waiting; objects = o }))
+  pub fit : Fits o.works (reverse old.waiting.items)
+  pub places : HasPlacesFor (step_places step) (record { waiting = old.waiting; objects = o })
+
+pub call_begun : (q : Ask) (c : Call) (o : Objects) (motion : Motion) (parts : Parts) (step : Step) → BeginsWith q c o motion parts → step_of step parts.objects.pool ≡ move_of q motion parts.objects.pool → IsBusy step → step_places step ≤ 3
+    → Begun q c step (with_objects o parts) parts.objects
+call_begun q c o motion parts step b steps busy most = record {
+  onward = call_onward q c (with_objects o parts) b.whole step motion parts.objects steps b.moved b.works;
+  fit = call_fit q c (with_objects o parts) b.whole step motion parts.objects steps b.moved b.works b.fit;
+  places = call_places q c (with_objects o parts) b.whole step motion parts.objects steps b.moved b.works busy most b.room;
+}
 
 -- a caller is answered with a call, or with what a routine does
 pub caller_acting : (now : Active) (c : Caller) (i : Input) (parts : Parts) → now ≡ active.Caller c → is_none (misfit (asked_now now) i) ≡ true → IsConsistent (given_view now i parts) → IsActing i

@@ -50,7 +50,8 @@ use Rattle.host_core.proofs.FreeSteps.{speaks-events, step-event}
 use Rattle.host_core.proofs.Emptied.{may-forget}
 use Rattle.host_core.proofs.FreeStepping.{step-fits, step-fewer, goes-on-fewer, news-work, news-fit}
 use Rattle.host_core.proofs.Offering.{caller-now, waits-now}
-use Rattle.host_core.proofs.Speaking.{turn_speaking, work_speaking, question_seen}
+use Rattle.host_core.proofs.Speaking.{question_seen}
+use Rattle.host_core.proofs.StepPools.{turn_speaking, work_keeps}
 use Rattle.host_core.proofs.Unreceived.{finished-most, received-fewer}
 
 -- the same works that wait
@@ -260,4 +261,4 @@ still-waits (active.Caller c) parts now o b s t = caller-still c parts now o b t
 still-waits active.Freeing parts now o b s t = free-still parts now o b s t
 still-waits (active.Turning f) parts now o b s t = rw (t.1, t.2) (turn-still f.frame f.question parts b (sym (turn_speaking f.frame parts.objects.pool) ∙ s) t.0)
 still-waits (active.Reaching q) parts now o b s t = rw (t.1, t.2) (record { ready = b; same = refl; waits = waits-now (active.Reaching q) parts q refl b })
-still-waits (active.Requesting w) parts now o b s t = absurd (work-loud w parts.objects.pool (sym (work_speaking w parts.objects.pool) ∙ s) t.0)
+still-waits (active.Requesting w) parts now o b s t = absurd (work-loud w parts.objects.pool (sym (work_keeps w parts.objects.pool).0 ∙ s) t.0)

@@ -1,5 +1,5 @@
--- The objects that a step leaves.
-use Rattle.std.proofs.Common.{◌≡◌, ℕ, ◌+◌, ◌*◌, ◌≤◌, Bool, true, false, nat_eq, nat_le, Option, Some, None, refl, ap, arith}
+-- The steps of turns and works, one by one: whether each tells or asks something, and the objects that it leaves.
+use Rattle.std.proofs.Common.{◌≡◌, ℕ, ◌+◌, ◌*◌, ◌≤◌, Bool, true, false, nat_eq, nat_le, Option, Some, None, is_some, refl, arith}
 use Rattle.step_machine.specs.Machine.{Move}
 use Rattle.step_machine.specs.Machine.{Move as Do}
 use Rattle.tree_specs.specs.declared.due.Due.{Due}
@@ -7,8 +7,6 @@ use Rattle.tree_specs.specs.declared.frame.Answer.{Answer}
 use Rattle.tree_specs.specs.declared.frame.Errand.{Errand}
 use Rattle.tree_specs.specs.declared.frame.Errand.TheVariants.{Finish}
 use Rattle.tree_specs.specs.declared.frame.Frame.{Frame}
-use Rattle.tree_specs.specs.declared.frame.RequestFrame.{RequestFrame}
-use Rattle.tree_specs.specs.declared.frame.RequestFrame.TheVariants as request
 use Rattle.tree_specs.specs.declared.frame.TurnFrame.{TurnFrame}
 use Rattle.tree_specs.specs.declared.frame.TurnFrame.TheVariants.{Taking, Timed, Starting, Handled}
 use Rattle.tree_specs.specs.declared.handler.Handler.{Handler}
@@ -34,8 +32,14 @@ use Rattle.tree_specs.proofs.Invariants.Turning.{rotated-rows}
 use Rattle.tree_specs.proofs.Tree.Numbered.{by_test}
 use Rattle.host_core.specs.declared.step.Step.{Step}
 use Rattle.host_core.specs.declared.step.Step.TheVariants.{Goes, Calls, Frees, Unlinks, Empties, Ends}
+use Rattle.host_core.specs.declared.work.Work.{Work}
+use Rattle.host_core.specs.declared.work.Work.TheVariants as work
+use Rattle.host_core.specs.Hosts.{speaks}
 use Rattle.host_core.specs.Places.{count_undrained, turn_takes, turn_places}
+use Rattle.host_core.specs.Requests.{work_speaks}
+use Rattle.host_core.specs.Stacks.{work_frame}
 use Rattle.host_core.specs.Steps.{step_of}
+use Rattle.host_core.specs.Turns.{turn_speaks}
 use Rattle.host_core.proofs.Draining.{changed-most, marked-fewer}
 
 abbrev pub pool_in : Move Frame Answer Pool Item → Pool
@@ -53,100 +57,111 @@ pool-left (Unlinks owner x second) p = refl
 pool-left (Empties x second) p = refl
 pool-left (Ends a) p = refl
 
+-- whether a step tells or asks something, and that all rows stay
+abbrev Keeps : Move Frame Answer Pool Item → Bool → Pool → Type 0
+Keeps m tells p = (speaks m ≡ tells) × ((pool_in m).rows ≡ p.rows)
+
 -- ---- a turn
 
-come-pool : (b : Bool) (errand : Errand) (what : What) (x : Obj) (occasion : Occasion) (p : Pool) → pool_in (come_step b errand what x occasion p) ≡ p
-come-pool true errand what x occasion p = refl
-come-pool false errand what x occasion p = refl
+come : (b : Bool) (errand : Errand) (what : What) (x : Obj) (occasion : Occasion) (p : Pool) → Keeps (come_step b errand what x occasion p) false p
+come true errand what x occasion p = (refl, refl)
+come false errand what x occasion p = (refl, refl)
 
-soon-pool : (noted queued : Bool) (x : Obj) (p : Pool) → has_queue p.queues x ≡ queued → pool_in (soon_step noted x p) ≡ p
-soon-pool true queued x p e = refl
-soon-pool false true x p e = rw e refl
-soon-pool false false x p e = rw e refl
+soon : (noted queued : Bool) (x : Obj) (p : Pool) → has_queue p.queues x ≡ queued → Keeps (soon_step noted x p) false p
+soon true queued x p e = (refl, refl)
+soon false true x p e = rw e (refl, refl)
+soon false false x p e = rw e (refl, refl)
 
-due-kept : (x : Obj) (now : ℕ) (p : Pool) → (pool_in (due_now x now p)).rows ≡ p.rows
-due-kept x now p = ap (λ (q : Pool). q.rows) (come-pool (is_noted p.requests x) (Finish TimedOut) ForTimer x (at_time now) (disarm p x))
+due-at : (x : Obj) (now : ℕ) (p : Pool) → Keeps (due_now x now p) false p
+due-at x now p = come (is_noted p.requests x) (Finish TimedOut) ForTimer x (at_time now) (disarm p x)
 
-due-rows : (o : Option Due) (p : Pool) → (pool_in (due_step o p)).rows ≡ p.rows
-due-rows None p = refl
-due-rows (Some d) p = by_test (nat_eq d.time 0) (λ t. rw t (due-kept d.object 0 p)) (λ t. rw t refl)
+due : (o : Option Due) (p : Pool) → Keeps (due_step o p) false p
+due None p = (refl, refl)
+due (Some d) p = by_test (nat_eq d.time 0) (λ t. rw t (due-at d.object 0 p)) (λ t. rw t (refl, refl))
 
-taking-rows : (o : Option Obj) (p : Pool) → (pool_in (taking_step o p)).rows ≡ p.rows
-taking-rows None p = due-rows (first p.times) p
-taking-rows (Some x) p = let e = soon-pool (is_noted p.requests x) (has_queue p.queues x) x (unschedule p x) refl in rw e refl
+taking : (o : Option Obj) (p : Pool) → Keeps (taking_step o p) false p
+taking None p = due (first p.times) p
+taking (Some x) p = soon (is_noted p.requests x) (has_queue p.queues x) x (unschedule p x) refl
 
-early-rows : (again : Bool) (d : Due) (now : ℕ) (p : Pool) → (pool_in (early_step again d now p)).rows ≡ p.rows
-early-rows true d now p = refl
-early-rows false d now p = refl
+early : (again : Bool) (d : Due) (now : ℕ) (p : Pool) → Keeps (early_step again d now p) false p
+early true d now p = (refl, refl)
+early false d now p = (refl, refl)
 
-timed-rows : (again : Bool) (now : ℕ) (o : Option Due) (p : Pool) → (pool_in (timed_step again now o p)).rows ≡ p.rows
-timed-rows again now None p = refl
-timed-rows again now (Some d) p = by_test (nat_le d.time now)
-    (λ t. rw t (due-kept d.object now p))
-    (λ t. rw t (early-rows again d now p))
+timed : (again : Bool) (now : ℕ) (o : Option Due) (p : Pool) → Keeps (timed_step again now o p) false p
+timed again now None p = (refl, refl)
+timed again now (Some d) p = by_test (nat_le d.time now)
+    (λ t. rw t (due-at d.object now p))
+    (λ t. rw t (early again d now p))
 
-starting-fewer : (what : What) (x : Obj) (occasion : Occasion) (o : Option Handler) (p : Pool) → count_undrained (pool_in (starting_step what x occasion o p)).rows ≤ count_undrained p.rows
-starting-fewer what x occasion None p = omega arith
-starting-fewer what x occasion (Some handler) p = let n = marked-fewer Busy p.rows x refl in rw (rotated-rows what x p).0 n
+starting : (what : What) (x : Obj) (occasion : Occasion) (o : Option Handler) (p : Pool) → (speaks (starting_step what x occasion o p) ≡ false) × (count_undrained (pool_in (starting_step what x occasion o p)).rows ≤ count_undrained p.rows)
+starting what x occasion None p = (refl, omega arith)
+starting what x occasion (Some handler) p = let n = marked-fewer Busy p.rows x refl in (refl, rw (rotated-rows what x p).0 n)
 
-handled-most : (x : Obj) (b : Bool) (p : Pool) → count_undrained (pool_in (handled_step x b p)).rows ≤ count_undrained p.rows + 1
-handled-most x true p = changed-most (marked_row Quiet) p.rows x
-handled-most x false p = changed-most (marked_row Quiet) p.rows x
+handled : (x : Obj) (b : Bool) (p : Pool) → (speaks (handled_step x b p) ≡ false) × (count_undrained (pool_in (handled_step x b p)).rows ≤ count_undrained p.rows + 1)
+handled x true p = (refl, changed-most (marked_row Quiet) p.rows x)
+handled x false p = (refl, changed-most (marked_row Quiet) p.rows x)
+
+pub turn_speaking : (f : TurnFrame) (p : Pool) → speaks (turn_step f p) ≡ turn_speaks f
+turn_speaking Taking p = (taking (first p.soon) p).0
+turn_speaking (Timed again now) p = (timed again now (first p.times) p).0
+turn_speaking (Starting what x occasion) p = (starting what x occasion (handler_for p what x) p).0
+turn_speaking (Handled what x) p = (handled x (goes_after p what x) p).0
+turn_speaking _ p = refl
 
 -- what a turn takes, and what there is for frees to come to then, was kept for it
 pub turn-room : (f : TurnFrame) (p : Pool) → turn_takes f + 2 * count_undrained (pool_in (turn_step f p)).rows ≤ turn_places f + 2 * count_undrained p.rows
-turn-room Taking p = let e = taking-rows (first p.soon) p in rw e (omega arith)
-turn-room (Timed again now) p = let e = timed-rows again now (first p.times) p in rw e (omega arith)
-turn-room (Starting what x occasion) p = let n = starting-fewer what x occasion (handler_for p what x) p in omega (arith, n)
-turn-room (Handled what x) p = let n = handled-most x (goes_after p what x) p in omega (arith, n)
+turn-room Taking p = let e = (taking (first p.soon) p).1 in rw e (omega arith)
+turn-room (Timed again now) p = let e = (timed again now (first p.times) p).1 in rw e (omega arith)
+turn-room (Starting what x occasion) p = let n = (starting what x occasion (handler_for p what x) p).1 in omega (arith, n)
+turn-room (Handled what x) p = let n = (handled x (goes_after p what x) p).1 in omega (arith, n)
 turn-room _ p = omega arith
 
 -- ---- the work of a request, or of a queue
 
-cancelling-rows : (x : Obj) (o : Option Handler) (p : Pool) → (pool_in (cancelling_step x o p)).rows ≡ p.rows
-cancelling-rows x None p = refl
-cancelling-rows x (Some handler) p = refl
+cancelling : (x : Obj) (o : Option Handler) (p : Pool) → Keeps (cancelling_step x o p) false p
+cancelling x None p = (refl, refl)
+cancelling x (Some handler) p = (refl, refl)
 
-cleaning-rows : (x : Obj) (errand : Errand) (o : Option Handler) (p : Pool) → (pool_in (cleaning_step x errand o p)).rows ≡ p.rows
-cleaning-rows x errand None p = refl
-cleaning-rows x errand (Some handler) p = refl
+cleaning : (x : Obj) (errand : Errand) (o : Option Handler) (p : Pool) → Keeps (cleaning_step x errand o p) false p
+cleaning x errand None p = (refl, refl)
+cleaning x errand (Some handler) p = (refl, refl)
 
-release-rows : (plan : Plan) (errand : Errand) (p : Pool) → (pool_in (release_object plan errand p)).rows ≡ p.rows
-release-rows (FreesOf c) errand p = refl
-release-rows (UnlinksOf o c) errand p = refl
-release-rows _ errand p = refl
+release : (plan : Plan) (errand : Errand) (p : Pool) → Keeps (release_object plan errand p) false p
+release (FreesOf c) errand p = (refl, refl)
+release (UnlinksOf o c) errand p = (refl, refl)
+release _ errand p = (refl, refl)
 
-cleaned-rows : (x : Obj) (errand : Errand) (o : Option Note) (p : Pool) → (pool_in (cleaned_step x errand o p)).rows ≡ p.rows
-cleaned-rows x errand None p = refl
-cleaned-rows x errand (Some n) p = by_test (is_receive errand) (λ t. rw t (release-rows (planned p (call.Free n.child)) errand p)) (λ t. rw t refl)
+cleaned : (x : Obj) (errand : Errand) (o : Option Note) (p : Pool) → Keeps (cleaned_step x errand o p) false p
+cleaned x errand None p = (refl, refl)
+cleaned x errand (Some n) p = by_test (is_receive errand) (λ t. rw t (release (planned p (call.Free n.child)) errand p)) (λ t. rw t (refl, refl))
 
-callback-rows : (x : Obj) (errand : Errand) (o : Option Handler) (p : Pool) → (pool_in (callback_step x errand o p)).rows ≡ p.rows
-callback-rows x errand None p = refl
-callback-rows x errand (Some handler) p = refl
+callback : (x : Obj) (errand : Errand) (o : Option Handler) (p : Pool) → Keeps (callback_step x errand o p) false p
+callback x errand None p = (refl, refl)
+callback x errand (Some handler) p = (refl, refl)
 
-notifying-rows : (x : Obj) (errand : Errand) (o : Option Note) (p : Pool) → (pool_in (notifying_step x errand o p)).rows ≡ p.rows
-notifying-rows x errand None p = refl
-notifying-rows x errand (Some n) p = by_test n.deferred (λ t. rw t refl) (λ t. rw t (callback-rows x errand n.callback p))
+notifying : (x : Obj) (errand : Errand) (o : Option Note) (p : Pool) → Keeps (notifying_step x errand o p) false p
+notifying x errand None p = (refl, refl)
+notifying x errand (Some n) p = by_test n.deferred (λ t. rw t (refl, refl)) (λ t. rw t (callback x errand n.callback p))
 
-receiving-rows : (x : Obj) (b : Bool) (p : Pool) → (pool_in (receiving_step x b p)).rows ≡ p.rows
-receiving-rows x true p = refl
-receiving-rows x false p = refl
+receiving : (x : Obj) (b : Bool) (p : Pool) → Keeps (receiving_step x b p) b p
+receiving x true p = (refl, refl)
+receiving x false p = (refl, refl)
 
-vacating-rows : (q : Obj) (o : Option Head) (p : Pool) → (pool_in (vacating_step q o p)).rows ≡ p.rows
-vacating-rows q None p = refl
-vacating-rows q (Some h) p = refl
+vacating : (q : Obj) (o : Option Head) (p : Pool) → Keeps (vacating_step q o p) false p
+vacating q None p = (refl, refl)
+vacating q (Some h) p = (refl, refl)
 
-triggering-rows : (o : Option Head) (p : Pool) → (pool_in (triggering_step o p)).rows ≡ p.rows
-triggering-rows None p = refl
-triggering-rows (Some h) p = refl
+triggering : (o : Option Head) (p : Pool) → Keeps (triggering_step o p) (is_some o) p
+triggering None p = (refl, refl)
+triggering (Some h) p = (refl, refl)
 
 -- all rows stay
-pub request-rows : (f : RequestFrame) (p : Pool) → (pool_in (request_step f p)).rows ≡ p.rows
-request-rows (request.Cancelling x) p = cancelling-rows x (cancel_in (note_of p.requests x)) p
-request-rows (request.Cleaning x errand) p = cleaning-rows x errand (cleanup_in (note_of p.requests x)) p
-request-rows (request.Cleaned x errand) p = cleaned-rows x errand (note_of p.requests x) p
-request-rows (request.Notifying x errand) p = notifying-rows x errand (note_of p.requests x) p
-request-rows (request.Receiving x) p = receiving-rows x (is_unreceived (note_of p.requests x)) p
-request-rows (request.Vacating q) p = vacating-rows q (head_of p.queues q) (run_queue p q false)
-request-rows (request.Triggering q) p = triggering-rows (next_of p.queues q) p
-request-rows _ p = refl
+pub work_keeps : (w : Work) (p : Pool) → Keeps (request_step (work_frame w) p) (work_speaks w p) p
+work_keeps (work.Receiving x) p = receiving x (is_unreceived (note_of p.requests x)) p
+work_keeps (work.Cancelling x) p = cancelling x (cancel_in (note_of p.requests x)) p
+work_keeps (work.Cleaning x errand) p = cleaning x errand (cleanup_in (note_of p.requests x)) p
+work_keeps (work.Cleaned x errand) p = cleaned x errand (note_of p.requests x) p
+work_keeps (work.Notifying x errand) p = notifying x errand (note_of p.requests x) p
+work_keeps (work.Vacating queue) p = vacating queue (head_of p.queues queue) (run_queue p queue false)
+work_keeps (work.Triggering queue) p = triggering (next_of p.queues queue) p
+work_keeps _ p = (refl, refl)

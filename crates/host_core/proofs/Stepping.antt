@@ -34,10 +34,9 @@ use Rattle.host_core.specs.Places.{count_undrained, turn_takes, work_places, Has
 use Rattle.host_core.specs.Hosts.{host_view, below_in, moved, next_of, speaking_view, IsBetweenSteps, StepsSilently}
 use Rattle.host_core.specs.Going.{stepped_view, turning, IsTurnStep, IsWorkStep, StepAnswers, GoesWell, step_places}
 use Rattle.host_core.specs.Requests.{MayWork, WorkReady}
-use Rattle.host_core.proofs.StepPools.{pool_in, pool-left, request-rows, turn-room}
+use Rattle.host_core.proofs.StepPools.{pool_in, pool-left, turn_speaking, turn-room, work_keeps}
 use Rattle.host_core.proofs.StepsSilently.{onward}
 use Rattle.host_core.proofs.Ending.{turned-answers, worked-answers}
-use Rattle.host_core.proofs.Speaking.{turn_speaking, work_speaking}
 use Rattle.host_core.proofs.Turning.{may_turn}
 
 -- the code's step is that of the machine
@@ -83,7 +82,7 @@ may_work (work.Receiving x) fs ws o quiet r = by_test (is_unreceived (note_of o.
     (λ t. t)
 may_work (work.Releasing child) fs ws o quiet r = absurd r
 may_work (work.Dropping queue entry) fs ws o quiet r = absurd r
-may_work (work.Triggering queue) fs ws o quiet r = each (next_of_queue o.pool.queues queue) (sym (work_speaking (work.Triggering queue) o.pool) ∙ quiet)
+may_work (work.Triggering queue) fs ws o quiet r = each (next_of_queue o.pool.queues queue) (sym (work_keeps (work.Triggering queue) o.pool).0 ∙ quiet)
   where
     each : (h : Option Head) → is_some h ≡ false → h ≡ None
     each None q = refl
@@ -135,7 +134,7 @@ module _ (w : Work) (old : Parts) (b : IsBetweenSteps (active.Requesting w) old)
       let room = b.places in
       let few = goes.places in
       let pool : o.pool ≡ pool_in (request_step (work_frame w) old.objects.pool) = sym (pool-left step o.pool) ∙ ap pool_in same in
-      let same-rows = ap count_undrained (ap (λ (z : Pool). z.rows) pool ∙ request-rows (work_frame w) old.objects.pool) in
+      let same-rows = ap count_undrained (ap (λ (z : Pool). z.rows) pool ∙ (work_keeps w old.objects.pool).1) in
       record {
         onward = step_onward (frame.Request (work_frame w)) step old o b.whole same works quiet;
         fit = subst (λ (fs : List FreeFrame). Fits fs (reverse old.waiting.items)) (sym works) b.fit;

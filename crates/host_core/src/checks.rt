@@ -1,12 +1,11 @@
 //! What a call is refused for: each test, and tests one after another.
-ghost use Rattle.std.specs.Prelude.{◌≡◌, ◌<◌, [], ◌∷◌, IsOk};
-ghost use Rattle.std.specs.Option.{option_copied};
-ghost use Rattle.tree_specs.specs.Calls.Refusals.{checked, small, owner, object_row, plain, immediate, descriptor, open_one, unused, room, staying, lasting, still, apart, held, interested, given_by, unreferenced, growing, size_limit, refusal_of, refused};
+ghost use Rattle.std.specs.Prelude.{◌≡◌, ◌<◌, [], ◌∷◌, not, IsOk};
+ghost use Rattle.std.specs.Option.{option_copied, option_map};
+ghost use Rattle.tree_specs.specs.Tree.Pool.{row_of};
+ghost use Rattle.tree_specs.specs.declared.reply.Refusal.TheVariants.{WrongKind};
+ghost use Rattle.tree_specs.specs.Calls.Refusals.{checked, refuse_if, small, owner, object_row, open_one, unused, room, apart, held, interested, given_by, unreferenced, growing, size_limit, refusal_of, refused};
 
-use crate::queue_checks::{check_movable, check_queue, check_remaining};
-use crate::request_checks::{
-    check_failing, check_finished, check_in_progress, check_number, check_referable, check_request,
-};
+use crate::request_checks::{check_failing, check_finished, check_in_progress, check_number};
 use crate::subject::Subject;
 use object_pool::ObjectPool;
 use tree_specs::Test::{
@@ -53,52 +52,39 @@ pub fn check_owner(o: Owner, pool: &ObjectPool) -> Result<(), Refusal>
     }
 }
 
-/// Only plain objects have destructors.
+/// The kind of an object. None exactly where there is none.
 #[inline]
-fn check_plain(x: Obj, objects: &Subject) -> Result<(), Refusal>
-    ensures { result ≡ checked (plain objects.now x) }
+fn kind_of(x: Obj, objects: &Subject) -> Option<Kind>
+    ensures { result ≡ option_map (λ r. r.kind) (row_of objects.now.rows x) }
 {
-    match objects.row(x) {
-        Some(
-            Row {
-                kind: Kind::Plain,
-                ..
-            },
-        ) => Ok(()),
-        _ => Err(Refusal::WrongKind(x)),
-    }
+    Some(objects.row(x)?.kind)
 }
 
-/// Only an immediate is scheduled.
+/// The mark of an object. None exactly where there is none.
 #[inline]
-fn check_immediate(x: Obj, objects: &Subject) -> Result<(), Refusal>
-    ensures { result ≡ checked (immediate objects.now x) }
+fn mark_of(x: Obj, objects: &Subject) -> Option<Mark>
+    ensures { result ≡ option_map (λ r. r.mark) (row_of objects.now.rows x) }
 {
-    match objects.row(x) {
-        Some(
-            Row {
-                kind: Kind::Immediate,
-                ..
-            },
-        ) => Ok(()),
-        _ => Err(Refusal::WrongKind(x)),
-    }
+    Some(objects.row(x)?.mark)
 }
 
-/// Only an event on a descriptor has flags.
+/// Refuses for this reason, where it is so.
 #[inline]
-fn check_descriptor(x: Obj, objects: &Subject) -> Result<(), Refusal>
-    ensures { result ≡ checked (descriptor objects.now x) }
+fn refuse_if(is: bool, why: Refusal) -> Result<(), Refusal>
+    ensures { result ≡ checked (refuse_if is why) }
 {
-    match objects.row(x) {
-        Some(
-            Row {
-                kind: Kind::Descriptor,
-                ..
-            },
-        ) => Ok(()),
-        _ => Err(Refusal::WrongKind(x)),
+    if is {
+        return Err(why);
     }
+    Ok(())
+}
+
+/// An object is of a kind that the call takes.
+#[inline]
+fn check_kind(x: Obj, is: bool) -> Result<(), Refusal>
+    ensures { result ≡ checked (refuse_if (not is) (WrongKind x)) }
+{
+    refuse_if(!is, Refusal::WrongKind(x))
 }
 
 /// Nothing is asked of a descriptor that isn't open.
@@ -134,38 +120,6 @@ fn check_room(rows: u8, pool: &ObjectPool) -> Result<(), Refusal>
     Ok(())
 }
 
-/// An object that is being freed stays where it is.
-#[inline]
-fn check_not_dying(x: Obj, objects: &Subject) -> Result<(), Refusal>
-    ensures { result ≡ checked (staying objects.now x) }
-{
-    match objects.row(x) {
-        Some(
-            Row {
-                mark: Mark::Dying(_),
-                ..
-            },
-        ) => Err(Refusal::Dying(x)),
-        _ => Ok(()),
-    }
-}
-
-/// An event that is being freed, or is to be once its handler is over, waits for nothing.
-#[inline]
-fn check_not_doomed(x: Obj, objects: &Subject) -> Result<(), Refusal>
-    ensures { result ≡ checked (lasting objects.now x) }
-{
-    match objects.row(x) {
-        Some(
-            Row {
-                mark: Mark::Doomed | Mark::Dying(_),
-                ..
-            },
-        ) => Err(Refusal::Dying(x)),
-        _ => Ok(()),
-    }
-}
-
 /// No object comes to be inside itself.
 fn check_not_inside(x: Obj, owner: Owner, pool: &ObjectPool) -> Result<(), Refusal>
     ensures { result ≡ checked (apart pool.now.pool x owner) }
@@ -174,22 +128,6 @@ fn check_not_inside(x: Obj, owner: Owner, pool: &ObjectPool) -> Result<(), Refus
         return Err(Refusal::Loop { object: x, owner });
     }
     Ok(())
-}
-
-/// No reference is made to an object whose destructor or handler runs.
-#[inline]
-fn check_not_running(x: Obj, objects: &Subject) -> Result<(), Refusal>
-    ensures { result ≡ checked (still objects.now x) }
-{
-    match objects.row(x) {
-        Some(
-            Row {
-                mark: Mark::Asked | Mark::Busy | Mark::Doomed,
-                ..
-            },
-        ) => Err(Refusal::Running(x)),
-        _ => Ok(()),
-    }
 }
 
 /// An object that has references is held, but for one that is the root's and has exactly one.
@@ -256,13 +194,16 @@ fn check_test(test: Test, objects: &Subject) -> Result<(), Refusal>
         IsSmall(size) => check_size(size),
         IsObject(x) => check_row(x, objects.row(x)),
         IsOwner(owner) => check_owner(owner, objects.pool()),
-        IsPlain(x) => check_plain(x, objects),
-        IsImmediate(x) => check_immediate(x, objects),
-        IsDescriptor(x) => check_descriptor(x, objects),
-        IsRequest(x) => check_request(x, objects),
-        IsQueue(x) => check_queue(x, objects),
-        IsMovable(x) => check_movable(x, objects),
-        IsReferable(x) => check_referable(x, objects),
+        IsPlain(x) => check_kind(x, matches!(kind_of(x, objects), Some(Kind::Plain))),
+        IsImmediate(x) => check_kind(x, matches!(kind_of(x, objects), Some(Kind::Immediate))),
+        IsDescriptor(x) => check_kind(x, matches!(kind_of(x, objects), Some(Kind::Descriptor))),
+        IsRequest(x) => check_kind(x, matches!(kind_of(x, objects), Some(Kind::Request))),
+        IsQueue(x) => check_kind(x, matches!(kind_of(x, objects), Some(Kind::Queue))),
+        IsMovable(x) => check_kind(x, !matches!(kind_of(x, objects), Some(Kind::Entry))),
+        IsReferable(x) => {
+            let kind = kind_of(x, objects);
+            check_kind(x, matches!(kind, Some(Kind::Plain | Kind::Request)))
+        }
         HasNumber => check_number(objects.pool()),
         IsInProgress(x) => check_in_progress(x, objects.pool()),
         IsFinished(x) => check_finished(x, objects.pool()),
@@ -272,10 +213,24 @@ fn check_test(test: Test, objects: &Subject) -> Result<(), Refusal>
         HasRoom(rows) => check_room(rows, objects.pool()),
         Fits(owner, wanted) => objects.pool().fits(owner, wanted),
         MayGrow(x, size) => check_growing(x, size, objects),
-        IsNotDying(x) => check_not_dying(x, objects),
-        IsNotGoing(x) => check_remaining(x, objects),
-        IsNotDoomed(x) => check_not_doomed(x, objects),
-        IsNotRunning(x) => check_not_running(x, objects),
+        IsNotDying(x) => {
+            let mark = mark_of(x, objects);
+            refuse_if(matches!(mark, Some(Mark::Dying(_))), Refusal::Dying(x))
+        }
+        IsNotGoing(x) => {
+            let stays = matches!(mark_of(x, objects), Some(Mark::Quiet) | None);
+            refuse_if(!stays, Refusal::Dying(x))
+        }
+        IsNotDoomed(x) => {
+            let mark = mark_of(x, objects);
+            let goes = matches!(mark, Some(Mark::Doomed | Mark::Dying(_)));
+            refuse_if(goes, Refusal::Dying(x))
+        }
+        IsNotRunning(x) => {
+            let mark = mark_of(x, objects);
+            let runs = matches!(mark, Some(Mark::Asked | Mark::Busy | Mark::Doomed));
+            refuse_if(runs, Refusal::Running(x))
+        }
         IsNotInside(x, owner) => check_not_inside(x, owner, objects.pool()),
         IsUnheld(x) => check_held(x, objects.pool()),
         IsUnreferenced(x) => check_unreferenced(x, objects.pool()),

@@ -12,7 +12,6 @@ mod motion;
 mod offered;
 mod owned_reply;
 mod parts;
-mod queue_checks;
 mod reach;
 mod refusals;
 mod replies;

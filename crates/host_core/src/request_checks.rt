@@ -2,43 +2,10 @@
 ghost use Rattle.std.specs.Prelude.{◌≡◌, Err};
 ghost use Rattle.tree_specs.specs.declared.reply.Refusal.TheVariants.{BadState};
 ghost use Rattle.tree_specs.specs.Events.Requests.{state_number};
-ghost use Rattle.tree_specs.specs.Calls.Refusals.{checked, request, referable, number, in_progress, finished, failing};
+ghost use Rattle.tree_specs.specs.Calls.Refusals.{checked, number, in_progress, finished, failing};
 
-use crate::subject::Subject;
 use object_pool::ObjectPool;
-use tree_specs::{Kind, Obj, Refusal, Row, State};
-
-/// Only a request has a state.
-#[inline]
-pub fn check_request(x: Obj, objects: &Subject) -> Result<(), Refusal>
-    ensures { result ≡ checked (request objects.now x) }
-{
-    match objects.row(x) {
-        Some(
-            Row {
-                kind: Kind::Request,
-                ..
-            },
-        ) => Ok(()),
-        _ => Err(Refusal::WrongKind(x)),
-    }
-}
-
-/// There are references to plain objects and requests alone.
-#[inline]
-pub fn check_referable(x: Obj, objects: &Subject) -> Result<(), Refusal>
-    ensures { result ≡ checked (referable objects.now x) }
-{
-    match objects.row(x) {
-        Some(
-            Row {
-                kind: Kind::Plain | Kind::Request,
-                ..
-            },
-        ) => Ok(()),
-        _ => Err(Refusal::WrongKind(x)),
-    }
-}
+use tree_specs::{Obj, Refusal, State};
 
 /// There is a number that no object gets.
 pub fn check_number(pool: &ObjectPool) -> Result<(), Refusal>
