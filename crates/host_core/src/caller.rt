@@ -155,6 +155,7 @@ impl Caller {
         ensures event { result ≡ told_by (frame_of self.old) }
         ensures frame { frame_of self.new ≡ after_telling (frame_of self.old) }
     {
+        // After its reply each caller is looked at once more, and then there is nothing to move.
         if let Stage::Asking = self.stage {
             return None;
         }

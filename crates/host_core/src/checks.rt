@@ -1,9 +1,9 @@
 //! What a call is refused for: each test, and tests one after another.
 ghost use Rattle.std.specs.Prelude.{◌≡◌, ◌<◌, [], ◌∷◌, not, IsOk};
 ghost use Rattle.std.specs.Option.{option_copied, option_map};
-ghost use Rattle.tree_specs.specs.Tree.Pool.{row_of};
+ghost use Rattle.tree_specs.specs.Tree.Pool.{row_of, is_dying};
 ghost use Rattle.tree_specs.specs.declared.reply.Refusal.TheVariants.{WrongKind};
-ghost use Rattle.tree_specs.specs.Calls.Refusals.{checked, refuse_if, small, owner, object_row, open_one, unused, room, apart, held, interested, given_by, unreferenced, growing, size_limit, refusal_of, refused};
+ghost use Rattle.tree_specs.specs.Calls.Refusals.{checked, refuse_if, is_going, is_doomed, is_running, small, owner, object_row, open_one, unused, room, apart, held, interested, given_by, unreferenced, growing, size_limit, refusal_of, refused};
 
 use crate::request_checks::{check_failing, check_finished, check_in_progress, check_number};
 use crate::subject::Subject;
@@ -66,6 +66,41 @@ fn mark_of(x: Obj, objects: &Subject) -> Option<Mark>
     ensures { result ≡ option_map (λ r. r.mark) (row_of objects.now.rows x) }
 {
     Some(objects.row(x)?.mark)
+}
+
+/// Whether an object is being freed. It stays where it is then.
+#[inline]
+fn is_dying(x: Obj, objects: &Subject) -> bool
+    ensures { result ≡ is_dying objects.now.rows x }
+{
+    matches!(mark_of(x, objects), Some(Mark::Dying(_)))
+}
+
+/// Whether a queue is to be freed. It takes no entry then, and neither starts nor stops.
+#[inline]
+fn is_going(x: Obj, objects: &Subject) -> bool
+    ensures { result ≡ is_going objects.now x }
+{
+    !matches!(mark_of(x, objects), Some(Mark::Quiet) | None)
+}
+
+/// Whether an event is being freed, or is to be once its handler is over. It waits for nothing then.
+#[inline]
+fn is_doomed(x: Obj, objects: &Subject) -> bool
+    ensures { result ≡ is_doomed objects.now x }
+{
+    matches!(mark_of(x, objects), Some(Mark::Doomed | Mark::Dying(_)))
+}
+
+/// Whether the destructor or the handler of an object runs. No reference is made to it then.
+#[inline]
+fn is_running(x: Obj, objects: &Subject) -> bool
+    ensures { result ≡ is_running objects.now x }
+{
+    matches!(
+        mark_of(x, objects),
+        Some(Mark::Asked | Mark::Busy | Mark::Doomed)
+    )
 }
 
 /// Refuses for this reason, where it is so.
@@ -213,24 +248,10 @@ fn check_test(test: Test, objects: &Subject) -> Result<(), Refusal>
         HasRoom(rows) => check_room(rows, objects.pool()),
         Fits(owner, wanted) => objects.pool().fits(owner, wanted),
         MayGrow(x, size) => check_growing(x, size, objects),
-        IsNotDying(x) => {
-            let mark = mark_of(x, objects);
-            refuse_if(matches!(mark, Some(Mark::Dying(_))), Refusal::Dying(x))
-        }
-        IsNotGoing(x) => {
-            let stays = matches!(mark_of(x, objects), Some(Mark::Quiet) | None);
-            refuse_if(!stays, Refusal::Dying(x))
-        }
-        IsNotDoomed(x) => {
-            let mark = mark_of(x, objects);
-            let goes = matches!(mark, Some(Mark::Doomed | Mark::Dying(_)));
-            refuse_if(goes, Refusal::Dying(x))
-        }
-        IsNotRunning(x) => {
-            let mark = mark_of(x, objects);
-            let runs = matches!(mark, Some(Mark::Asked | Mark::Busy | Mark::Doomed));
-            refuse_if(runs, Refusal::Running(x))
-        }
+        IsNotDying(x) => refuse_if(is_dying(x, objects), Refusal::Dying(x)),
+        IsNotGoing(x) => refuse_if(is_going(x, objects), Refusal::Dying(x)),
+        IsNotDoomed(x) => refuse_if(is_doomed(x, objects), Refusal::Dying(x)),
+        IsNotRunning(x) => refuse_if(is_running(x, objects), Refusal::Running(x)),
         IsNotInside(x, owner) => check_not_inside(x, owner, objects.pool()),
         IsUnheld(x) => check_held(x, objects.pool()),
         IsUnreferenced(x) => check_unreferenced(x, objects.pool()),

@@ -1,7 +1,7 @@
 use Rattle.std.proofs.Common.{refl, subst, arith}
 use Rattle.tree_specs.specs.declared.frame.FreeFrame.TheVariants.{Preparing, Draining}
 use Rattle.tree_specs.specs.declared.free_step.FreeStep.{FreeStep}
-use Rattle.tree_specs.specs.declared.free_step.FreeStep.TheVariants.{Prepare, Drain}
+use Rattle.tree_specs.specs.declared.free_step.FreeStep.TheVariants.{Prepare, Drain, Done}
 use Rattle.host_core.specs.declared.work.Work.TheVariants as work
 use Rattle.host_core.specs.Going.{with_objects, CameFrom}
 use Rattle.host_core.proofs.StepsSilently.{onward-along}
@@ -61,33 +61,20 @@ returns-in-Drain-clause-ready c =
 
 -- ---- it is over
 
+came : (c : goal.After-end-arg-1) → CameFrom c.requires.came.0 (Done c.in-Done.answer) c.args.parts.now
+came c = subst (λ (t : FreeStep). CameFrom c.requires.came.0 t c.args.parts.now) c.in-Done.is c.requires.came.1
+
 pub end-requires-clause-answers : goal.end-requires-clause-answers
-end-requires-clause-answers c =
-    let p = c.args.parts.now in
-    let o = c.requires.came.0 in
-    let k = subst (λ (t : FreeStep). CameFrom o t p) c.in-Done.is c.requires.came.1 in
-    ends_answers (with_objects o p) p.objects k.ready k.quiet k.requests c.in-Done.answer k.steps k.goes_on
+end-requires-clause-answers c = let k = came c in ends_answers (with_objects c.requires.came.0 c.args.parts.now) c.args.parts.now.objects k.ready k.quiet k.requests c.in-Done.answer k.steps k.goes_on
 
 pub end-requires-clause-whole : goal.end-requires-clause-whole
-end-requires-clause-whole c =
-    let p = c.args.parts.now in
-    let o = c.requires.came.0 in
-    let k = subst (λ (t : FreeStep). CameFrom o t p) c.in-Done.is c.requires.came.1 in
-    (ends_onward (with_objects o p) p.objects k.ready k.quiet k.requests c.in-Done.answer k.steps).along.whole
+end-requires-clause-whole c = let k = came c in (ends_onward (with_objects c.requires.came.0 c.args.parts.now) c.args.parts.now.objects k.ready k.quiet k.requests c.in-Done.answer k.steps).along.whole
 
 pub end-requires-clause-fit : goal.end-requires-clause-fit
-end-requires-clause-fit c =
-    let p = c.args.parts.now in
-    let o = c.requires.came.0 in
-    let k = subst (λ (t : FreeStep). CameFrom o t p) c.in-Done.is c.requires.came.1 in
-    ends_fit (with_objects o p) p.objects k.ready k.quiet k.requests c.in-Done.answer k.steps
+end-requires-clause-fit c = let k = came c in ends_fit (with_objects c.requires.came.0 c.args.parts.now) c.args.parts.now.objects k.ready k.quiet k.requests c.in-Done.answer k.steps
 
 pub end-requires-clause-places : goal.end-requires-clause-places
-end-requires-clause-places c =
-    let p = c.args.parts.now in
-    let o = c.requires.came.0 in
-    let k = subst (λ (t : FreeStep). CameFrom o t p) c.in-Done.is c.requires.came.1 in
-    ends_places (with_objects o p) p.objects k.ready k.quiet k.requests c.in-Done.answer k.steps
+end-requires-clause-places c = let k = came c in ends_places (with_objects c.requires.came.0 c.args.parts.now) c.args.parts.now.objects k.ready k.quiet k.requests c.in-Done.answer k.steps
 
 pub returns-in-Done-clause-onward : goal.returns-in-Done-clause-onward
 returns-in-Done-clause-onward c = λ o came.
