@@ -1,13 +1,12 @@
 -- An event that a call has watch a descriptor is a new one, and what a call has come isn't being freed.
-use Rattle.std.proofs.Common.{◌≡◌, nat_eq, [], ◌∷◌, Option, Some, None, Bool, true, false, refl, ◌∙◌, sym, ap}
-use Rattle.std.specs.Prelude.{not, codes}
+use Rattle.std.proofs.Common.{◌≡◌, nat_eq, [], ◌∷◌, Option, Some, None, Bool, true, false, refl, ◌∙◌}
+use Rattle.std.specs.Prelude.{not}
 use Rattle.tree_specs.specs.declared.object.Obj.{Obj}
 use Rattle.tree_specs.specs.declared.object.Owner.{Owner}
 use Rattle.tree_specs.specs.declared.call.Call.{Call}
 use Rattle.tree_specs.specs.declared.call.Call.TheVariants as call
 use Rattle.tree_specs.specs.Tree.Targets.{newest_ref}
-use Rattle.tree_specs.specs.Tree.Pool.{Pool, row_of, passes, new_row}
-use Rattle.tree_specs.specs.declared.kind.Kind.TheVariants as kind
+use Rattle.tree_specs.specs.Tree.Pool.{Pool, row_of, passes}
 use Rattle.tree_specs.specs.declared.request.Note.{Note}
 use Rattle.tree_specs.specs.declared.request.State.{State}
 use Rattle.tree_specs.specs.declared.request.State.TheVariants as state
@@ -17,21 +16,19 @@ use Rattle.tree_specs.specs.declared.row.Mark.{Mark}
 use Rattle.tree_specs.specs.declared.row.Mark.TheVariants.{Quiet, Asked, Busy, Doomed, Dying}
 use Rattle.tree_specs.specs.Words.Objects.{same}
 use Rattle.tree_specs.specs.Events.Requests.{note_of, is_noted, is_received, is_unreceived, is_in_progress, state_number}
-use Rattle.tree_specs.specs.Calls.Passed.{AllPassed, Passed}
+use Rattle.tree_specs.specs.Calls.Passed.{AllPassed}
 use Rattle.tree_specs.specs.Machine.Profiles.{InHandler, InLoop}
 use Rattle.tree_specs.specs.Invariants.Sound.{phases}
 use Rattle.tree_specs.specs.Invariants.Noted.{NotesHold}
-use Rattle.tree_specs.proofs.Calls.Checks.{all-pass}
+use Rattle.tree_specs.proofs.Calls.Checks.{planned-by}
 use Rattle.tree_specs.proofs.Invariants.Notes.{settled}
 use Rattle.tree_specs.specs.Events.Rotation.{is_watching}
-use Rattle.tree_specs.specs.Calls.Refusals.{Check, tests, refusals, refuse_if, in_state, is_finished, is_doomed_mark, is_doomed, is_request_row, is_going, is_going_mark}
-use Rattle.tree_specs.specs.Calls.Plans.{Change, Plan, changed_by, plan, planned, unless_refused, frees, handed, gift}
+use Rattle.tree_specs.specs.Calls.Refusals.{tests, refuse_if, in_state, is_finished, is_doomed_mark, is_doomed, is_request_row, is_going, is_going_mark}
+use Rattle.tree_specs.specs.Calls.Plans.{Change, Plan, changed_by, plan, planned, frees, handed, gift}
 use Rattle.tree_specs.specs.Calls.Plans.Change.{Watches, Schedule, Arm, Then, LooksAt, AddEntry}
 use Rattle.tree_specs.specs.Calls.Plans.Plan.{Does, Works}
-use Rattle.tree_specs.proofs.Tree.Numbered.{by_test, same-equal, same-true}
+use Rattle.tree_specs.proofs.Tree.Numbered.{by_test, same-equal}
 use Rattle.tree_specs.specs.Events.Queues.{runs}
-use Rattle.tree_specs.specs.declared.object.Owner.TheVariants.{Of}
-use Rattle.tree_specs.specs.declared.test.Test.TheVariants.{IsObject}
 
 -- each event that a change has watch a descriptor watches none yet, and what comes soon or at a time isn't being freed
 abbrev pub AreNew : Pool → Change → Type 0
@@ -120,8 +117,4 @@ module _ (p : Pool) (new : is_watching p.ring (record { 0 = p.next }) ≡ false)
 
   -- so it is of each call, where the number of the next object is nobody's that watches
   pub new-events : (c : Call) → OnlyNew p (planned p c)
-  new-events c = by-check (refusals p c) refl
-    where
-      by-check : (check : Check) → refusals p c ≡ check → OnlyNew p (unless_refused check (plan p c))
-      by-check [] none = each c (all-pass p (tests c) none)
-      by-check (why ∷ later) none = tt
+  new-events c = planned-by (OnlyNew p) p c (each c) (λ r. tt)

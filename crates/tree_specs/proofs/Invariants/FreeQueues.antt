@@ -1,6 +1,6 @@
 -- What each step of a free keeps of what holds of queues.
-use Rattle.std.proofs.Common.{◌≡◌, ◌≢◌, ◌⊎◌, ℕ, List, [], ◌∷◌, Option, Some, None, true, false, nat_eq, refl, sym, ap, subst, ◌∙◌, inl, inr}
-use Rattle.std.specs.Prelude.{is_some, unwrap_or, ◌||◌, ◌++◌}
+use Rattle.std.proofs.Common.{◌≡◌, ◌≢◌, ℕ, List, [], ◌∷◌, Option, Some, None, true, false, nat_eq, refl, sym, ap, subst, ◌∙◌, inl, inr}
+use Rattle.std.specs.Prelude.{unwrap_or, ◌++◌}
 use Rattle.step_machine.specs.Machine.{Move}
 use Rattle.step_machine.specs.Machine.{Move as Do}
 use Rattle.step_machine.proofs.Ends.{Leads}
@@ -25,7 +25,6 @@ use Rattle.tree_specs.specs.declared.frame.CallFrame.TheVariants.{Awaiting, Turn
 use Rattle.tree_specs.specs.declared.frame.TurnFrame.TheVariants.{Handling, Clearing, Serving}
 use Rattle.tree_specs.specs.declared.frame.FreeFrame.{FreeFrame}
 use Rattle.tree_specs.specs.declared.frame.FreeFrame.TheVariants.{Unlinking, Releasing, Giving, Beginning, Hooked, Judged, Preparing, Draining, Prepared, Dooming, Leaving, Looping, FreeingChild, AfterChild, Ending}
-use Rattle.tree_specs.specs.declared.frame.RequestFrame.{RequestFrame}
 use Rattle.tree_specs.specs.declared.frame.RequestFrame.TheVariants as request
 use Rattle.tree_specs.specs.declared.frame.Purpose.{Purpose}
 use Rattle.tree_specs.specs.declared.frame.Purpose.TheVariants.{Removal, Emptying}
@@ -33,22 +32,21 @@ use Rattle.tree_specs.specs.declared.frame.Answer.{Answer}
 use Rattle.tree_specs.specs.declared.frame.Answer.TheVariants.{Freed}
 use Rattle.tree_specs.specs.declared.free_step.FreeReply.{FreeReply}
 use Rattle.tree_specs.specs.declared.free_step.FreeReply.TheVariants.{Ok, Held, Running, Refused}
-use Rattle.tree_specs.specs.declared.free_step.FreeStep.{FreeStep}
 use Rattle.tree_specs.specs.Words.Objects.{same}
 use Rattle.tree_specs.specs.Tree.Targets.{target_of, newest_ref}
 use Rattle.tree_specs.specs.Tree.Heirs.{heir}
-use Rattle.tree_specs.specs.Tree.Pool.{Pool, row_of, target_at, target_in, is_below, owner_of, noted_owner, newest_ref_of, is_inside, first_kid, is_dying_mark, passes, remove, detach, left_row, doom, set_mark, set_hook, marked_row, hooked_row, place}
+use Rattle.tree_specs.specs.Tree.Pool.{Pool, row_of, target_at, is_below, owner_of, noted_owner, newest_ref_of, is_inside, first_kid, passes, remove, left_row, doom, set_mark, marked_row, hooked_row, place}
 use Rattle.tree_specs.specs.Tree.Forest.{Distinct}
 use Rattle.tree_specs.specs.Events.Queues.{entry_of, is_entered, has_entries}
 use Rattle.tree_specs.specs.Calls.Refusals.{is_doomed_mark, is_request, is_queue, is_entry, is_queue_row, is_request_row}
 use Rattle.tree_specs.specs.Rules.Items.{Item}
-use Rattle.tree_specs.specs.Machine.FreeTable.{FreeMove, begin_plain, begin_quiet, begin_step, drop_step, refs_step, unlink_step, release_step, judge_step, last_step, child_step, loop_step, hand_on_step, tried_step, free_step}
+use Rattle.tree_specs.specs.Machine.FreeTable.{FreeMove, begin_quiet, begin_step, refs_step, unlink_step, release_step, last_step, child_step, loop_step, hand_on_step, tried_step, free_step}
 use Rattle.tree_specs.specs.Machine.Profiles.{Phase, InRun, InHandler, InLoop, free_profile}
 use Rattle.tree_specs.specs.Machine.Table.{table, resume, reply_in, value_in, run_for, announced, event_of, lifted}
-use Rattle.tree_specs.specs.Invariants.Sound.{IsWaiting, Footing, OnFree, OnRequesting, footing, phases, phase_of, claims, claim, AllWait, IsReferable, MayBePlaced, IsRequested, IsLive, Sound}
+use Rattle.tree_specs.specs.Invariants.Sound.{IsWaiting, Footing, OnFree, OnRequesting, footing, phases, phase_of, claims, claim, AllWait, IsReferable, IsRequested, IsLive, Sound}
 use Rattle.tree_specs.specs.Invariants.Consistent.{IsFree, IsWork, IsStacked, MayStandOn}
-use Rattle.tree_specs.specs.Invariants.Queued.{IsEntryRow, IsQueued, is_live_entry, drains, QueuesHold, IsNoEntry, EndsFor, OverFor, RestsQueued, IsThat, IsOfChild, AreOfChildren, Queued}
-use Rattle.tree_specs.proofs.Tree.Numbered.{by_test, same-true, same-equal, same_or_not}
+use Rattle.tree_specs.specs.Invariants.Queued.{IsEntryRow, is_live_entry, drains, QueuesHold, IsNoEntry, EndsFor, OverFor, IsThat, IsOfChild, AreOfChildren, Queued}
+use Rattle.tree_specs.proofs.Tree.Numbered.{by_test, same-true, same-equal}
 use Rattle.tree_specs.proofs.Tree.Rows.{childless}
 use Rattle.tree_specs.proofs.Tree.Referring.{newest-refers, newest-of-refers}
 use Rattle.tree_specs.proofs.Invariants.Changes.{running-row, dying-row, claim-here, heir-placed}
