@@ -12,18 +12,6 @@ use Rattle.tree_specs.specs.Promises.BadStories.{a, b, asks_a, told}
 use Rattle.tree_specs.specs.Events.Queues.{runs}
 use Rattle.tree_specs.proofs.forbidden.routines_start_for_live_objects.Goals as goal
 
-pub returns-clause-missing : goal.returns-clause-missing
-returns-clause-missing c = λ is g. let o = g.each in let bad : false ≡ true = (o ([]) (seen (empty 1) (told (Fired what.Timer a 16))) [] refl).started.0 in cc
-
-pub returns-clause-quiet : goal.returns-clause-quiet
-returns-clause-quiet c = λ is g. let o = g.each in let bad : false ≡ true = (o ([]) (seen one_timer (told (Fired what.Timer a 16))) [] refl).started.0 in cc
-
-pub returns-clause-kind : goal.returns-clause-kind
-returns-clause-kind c = λ is g. let o = g.each in let bad : false ≡ true = (o ([]) (seen (set_mark one_timer a mark.Busy) (told (Fired what.Descriptor a 16))) [] refl).started.0 in cc
-
-pub returns-clause-request : goal.returns-clause-request
-returns-clause-request c = λ is g. let o = g.each in let bad : false ≡ true = (o ([]) (seen one_object (told (Fired what.Callback a 16))) [] refl).started.0 in cc
-
 -- no queue runs here
 stopped : (q : Obj) → runs one_stopped.queues q ≡ false
 stopped q = each (nat_cmp q.0 1) refl
@@ -33,16 +21,31 @@ stopped q = each (nat_cmp q.0 1) refl
     each Equal e = rw e refl
     each Greater e = rw e refl
 
-pub returns-clause-turn : goal.returns-clause-turn
-returns-clause-turn c = λ is g.
-    let t = (g.each [] (seen one_stopped (told (Fired what.Trigger b 16))) [] refl).started.1 in
-    let e : None ≡ Some t.first = rw (stopped t.queue) at t.next in cc
-
-pub returns-clause-unasked : goal.returns-clause-unasked
-returns-clause-unasked c = λ is g. let o = g.each in (o [] (seen (set_mark one_object a mark.Asked) (told (Accepted a))) [] refl).started.1
-
-pub returns-clause-stopped : goal.returns-clause-stopped
-returns-clause-stopped c = λ is g. let o = g.each in let bad : false ≡ true = (o (seen one_object asks_a ∷ []) (seen one_object (told (Accepted a))) [] refl).started.0 in cc
-
-pub returns-clause-busy : goal.returns-clause-busy
-returns-clause-busy c = λ is g. let bad : false ≡ true = (g.each (seen (set_mark one_object a mark.Busy) asks_a ∷ []) (seen (set_mark one_object a mark.Busy) (told (Accepted a))) [] refl).started.0 in cc
+pub returns : goal.returns
+returns c is = (
+  λ g. let bad : false ≡ true = (g.each [] (seen (empty 1) (told (Fired what.Timer a 16))) [] refl).started.0 in cc,
+  (
+    λ g. let bad : false ≡ true = (g.each [] (seen one_timer (told (Fired what.Timer a 16))) [] refl).started.0 in cc,
+    (
+      λ g. let bad : false ≡ true = (g.each [] (seen (set_mark one_timer a mark.Busy) (told (Fired what.Descriptor a 16))) [] refl).started.0 in cc,
+      (
+        λ g. let bad : false ≡ true = (g.each [] (seen one_object (told (Fired what.Callback a 16))) [] refl).started.0 in cc,
+        (
+          λ g.
+              let t = (g.each [] (seen one_stopped (told (Fired what.Trigger b 16))) [] refl).started.1 in
+              let e : None ≡ Some t.first = rw (stopped t.queue) at t.next in cc,
+          (
+            λ g. (g.each [] (seen (set_mark one_object a mark.Asked) (told (Accepted a))) [] refl).started.1,
+            (
+              λ g. let bad : false ≡ true = (g.each (seen one_object asks_a ∷ []) (seen one_object (told (Accepted a))) [] refl).started.0 in cc,
+              (
+                λ g. let bad : false ≡ true = (g.each (seen (set_mark one_object a mark.Busy) asks_a ∷ []) (seen (set_mark one_object a mark.Busy) (told (Accepted a))) [] refl).started.0 in cc,
+                tt,
+              ),
+            ),
+          ),
+        ),
+      ),
+    ),
+  ),
+)
