@@ -90,7 +90,7 @@ ends-ok (OnFree (FreeingChild x c noted purpose)) p = tt
 ends-ok _ p = tt
 
 -- what a loop waits for is the object of the free
-ends-for : (f : FreeFrame) (x : Obj) (a : FreeReply) (on : Footing) (p : Pool) → (free_profile f).object ≡ Some x → IsOfChild (frame.Free f) on → entry_of p.queues x ≡ None → EndsFor a on p
+ends-for : (f : FreeFrame) (x : Obj) (a : FreeReply) (on : Footing) (p : Pool) → (free_profile f).role ≡ Some x → IsOfChild (frame.Free f) on → entry_of p.queues x ≡ None → EndsFor a on p
 ends-for f x a (OnFree (FreeingChild y c noted purpose)) p is of none =
     let of' : x ≡ c = rw is at of in
     let none' : entry_of p.queues c ≡ None = subst (λ (z : Obj). entry_of p.queues z ≡ None) of' none in
@@ -104,7 +104,7 @@ ends-for f x a (OnFree (FreeingChild y c noted purpose)) p is of none =
 ends-for f x a _ p is of none = tt
 
 -- the same object, or none
-of-same : (f g : FreeFrame) (on : Footing) → ((c : Obj) → IsThat (free_profile f).object c → IsThat (free_profile g).object c) → IsOfChild (frame.Free f) on → IsOfChild (frame.Free g) on
+of-same : (f g : FreeFrame) (on : Footing) → ((c : Obj) → IsThat (free_profile f).role c → IsThat (free_profile g).role c) → IsOfChild (frame.Free f) on → IsOfChild (frame.Free g) on
 of-same f g (OnFree (FreeingChild x c noted purpose)) is h = is c h
 of-same f g _ is h = tt
 
@@ -276,7 +276,7 @@ referred-to fs p x h is = unentered fs p h x (λ w i. entry-unreferable w.reques
 drops-newest : (f g : FreeFrame) (x r : Obj) (fs : List Frame) (p : Pool) → Sound (frame.Free f) fs p → newest_ref p.rows x ≡ Some r → AreOfChildren (frame.Free f ∷ fs) → QueuesHold fs p
     → ((y : Obj) → drains y fs ≡ true → drains y (frame.Free f ∷ fs) ≡ true) → ((y : Obj) → drains y fs ≡ true → drains y (frame.Free g ∷ fs) ≡ true)
     → (entry_of p.queues x ≡ None → RestsQueued (frame.Free f) fs (remove p r)) → (entry_of p.queues x ≡ None → RestsQueued (frame.Free g) fs (remove p r))
-    → ((c : Obj) → IsThat (free_profile f).object c → IsThat (free_profile g).object c)
+    → ((c : Obj) → IsThat (free_profile f).role c → IsThat (free_profile g).role c)
     → FreeQueued fs (if is_inside p.rows (Of r) (Of x) then Do.Emit (IsDropped r x) f (remove p r) else Do.Emit (IsDropped r x) g (remove p r))
 drops-newest f g x r fs p s e of h drains-f drains-g works-f works-g same_object =
     let w = newest-refers p.rows x r s.forest.distinct e in
