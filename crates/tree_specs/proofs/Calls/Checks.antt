@@ -27,7 +27,9 @@ use Rattle.tree_specs.specs.Tree.Reports.{count_refs}
 use Rattle.tree_specs.specs.Calls.Given.{Given, given_to}
 use Rattle.tree_specs.specs.Calls.Given.Given.{Calls, Returns, Tells, IsReady, Opens, Answers}
 use Rattle.tree_specs.specs.declared.test.Test.{Test}
-use Rattle.tree_specs.specs.Calls.Plans.{Plan, plan, planned, replies, unless_refused}
+use Rattle.tree_specs.specs.Calls.Plans.{Change, Plan, plan, planned, replies, unless_refused, frees, handed}
+use Rattle.tree_specs.specs.Calls.Plans.Change.{Nothing, Place}
+use Rattle.tree_specs.specs.Calls.Plans.Plan.{Does, Works}
 use Rattle.tree_specs.specs.Calls.Refusals.{Check, tests, refusals, refuse_if, refusal_of, refused, size_limit, row_limit, object_row, object, owner, room, apart, interested, given_by, is_running_mark, is_open}
 use Rattle.tree_specs.specs.declared.test.Test.TheVariants.{IsSmall, IsObject, IsOwner, IsPlain, IsImmediate, IsDescriptor, IsRequest, IsReferable, IsOpen, IsUnwatched, HasRoom, HasNumber, IsInProgress, IsFinished, MayFail, Fits, MayGrow, IsNotDying, IsNotDoomed, IsNotRunning, IsNotInside, IsUnheld, IsUnreferenced, IsInterested, MayGive, IsQueue, IsMovable, IsNotGoing}
 use Rattle.tree_specs.specs.Calls.Passed.{Interest, AsOwner, AsHolder, Gives, Itself, ItsRef, Passed, AllPassed}
@@ -156,6 +158,22 @@ planned-by P p c passed refused = each (refusals p c) refl
     each : (check : Check) → refusals p c ≡ check → P (unless_refused check (plan p c))
     each [] none = passed (all-pass p (tests c) none)
     each (why ∷ later) e = refused (No why)
+
+-- what a plan changes is all such
+abbrev pub Makes : (Change → Type 0) → Plan → Type 0
+Makes K (Does change notice r) = K change
+Makes K (Works change errand x) = K change
+Makes K plan = Unit {0}
+
+-- what frees an object changes nothing
+pub frees-makes : (K : Change → Type 0) (x : Obj) (r : Option Obj) → Makes K (frees r x)
+frees-makes K x None = tt
+frees-makes K x (Some r) = tt
+
+-- what is given away is placed, where there is such
+pub handed-makes : (K : Change → Type 0) (to : Owner) (o : Option Obj) → K Nothing → ((x : Obj) → o ≡ Some x → K (Place to x)) → K (handed to o)
+handed-makes K to None none placed = none
+handed-makes K to (Some x) none placed = placed x refl
 
 -- ---- what tests say together
 

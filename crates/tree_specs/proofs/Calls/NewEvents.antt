@@ -2,7 +2,6 @@
 use Rattle.std.proofs.Common.{◌≡◌, nat_eq, [], ◌∷◌, Option, Some, None, Bool, true, false, refl, ◌∙◌}
 use Rattle.std.specs.Prelude.{not}
 use Rattle.tree_specs.specs.declared.object.Obj.{Obj}
-use Rattle.tree_specs.specs.declared.object.Owner.{Owner}
 use Rattle.tree_specs.specs.declared.call.Call.{Call}
 use Rattle.tree_specs.specs.declared.call.Call.TheVariants as call
 use Rattle.tree_specs.specs.Tree.Targets.{newest_ref}
@@ -20,13 +19,12 @@ use Rattle.tree_specs.specs.Calls.Passed.{AllPassed}
 use Rattle.tree_specs.specs.Machine.Profiles.{InHandler, InLoop}
 use Rattle.tree_specs.specs.Invariants.Sound.{phases}
 use Rattle.tree_specs.specs.Invariants.Noted.{NotesHold}
-use Rattle.tree_specs.proofs.Calls.Checks.{planned-by}
+use Rattle.tree_specs.proofs.Calls.Checks.{planned-by, Makes, frees-makes, handed-makes}
 use Rattle.tree_specs.proofs.Invariants.Notes.{settled}
 use Rattle.tree_specs.specs.Events.Rotation.{is_watching}
 use Rattle.tree_specs.specs.Calls.Refusals.{tests, refuse_if, in_state, is_finished, is_doomed_mark, is_doomed, is_request_row, is_going, is_going_mark}
-use Rattle.tree_specs.specs.Calls.Plans.{Change, Plan, changed_by, plan, planned, frees, handed, gift}
+use Rattle.tree_specs.specs.Calls.Plans.{Change, Plan, changed_by, plan, planned, gift}
 use Rattle.tree_specs.specs.Calls.Plans.Change.{Watches, Schedule, Arm, Then, LooksAt, AddEntry}
-use Rattle.tree_specs.specs.Calls.Plans.Plan.{Does, Works}
 use Rattle.tree_specs.proofs.Tree.Numbered.{by_test, same-equal}
 use Rattle.tree_specs.specs.Events.Queues.{runs}
 
@@ -41,9 +39,7 @@ AreNew p (Then first second) = AreNew p first × AreNew (changed_by first p) sec
 AreNew p change = Unit {0}
 
 abbrev pub OnlyNew : Pool → Plan → Type 0
-OnlyNew p (Does change notice r) = AreNew p change
-OnlyNew p (Works change errand x) = AreNew p change
-OnlyNew p plan = Unit {0}
+OnlyNew p plan = Makes (AreNew p) plan
 
 -- an object with which nothing goes on isn't being freed
 pub quiet-spared : (o : Option Row) → phases o ≡ [] → passes (λ r. is_doomed_mark r.mark) o ≡ false
@@ -79,14 +75,6 @@ module _ (p : Pool) (new : is_watching p.ring (record { 0 = p.next }) ≡ false)
   over state.Received t = cc
   over _ t = refl
 
-  freed : (x : Obj) (r : Option Obj) → OnlyNew p (frees r x)
-  freed x None = tt
-  freed x (Some r) = tt
-
-  given : (to : Owner) (o : Option Obj) → AreNew p (handed to o)
-  given to None = tt
-  given to (Some x) = tt
-
   -- nor is a queue that doesn't go
   remains : (q : Obj) → is_going p q ≡ false → is_doomed p q ≡ false
   remains q h = each (row_of p.rows q) refl h
@@ -100,8 +88,8 @@ module _ (p : Pool) (new : is_watching p.ring (record { 0 = p.next }) ≡ false)
       each (Some r) e t = rw e (marks r.mark t)
 
   each : (c : Call) → AllPassed p (tests c) → OnlyNew p (plan p c)
-  each (call.Free x) h = freed x (newest_ref p.rows x)
-  each (call.Reparent from to x) h = given to (gift p from x)
+  each (call.Free x) h = frees-makes (AreNew p) x (newest_ref p.rows x)
+  each (call.Reparent from to x) h = handed-makes (AreNew p) to (gift p from x) tt (λ y e. tt)
   each (call.Schedule x routine user) h = by_test (nat_eq routine 0) (λ t. rw t tt) (λ t. rw t (tt, h.1.1.0))
   each (call.Timer o time routine user) h =
       let n : Obj = record { 0 = p.next } in

@@ -51,7 +51,7 @@ use Rattle.tree_specs.proofs.Invariants.Changes.{nobody, handling-row, claim-her
 use Rattle.tree_specs.proofs.Invariants.Turning.{Passes, Pass, Trigger, Serve, handler-ready, look-passes, taken-plain}
 use Rattle.tree_specs.proofs.Invariants.Queues.{no-entries, same-queues, changed-queues, placed-queues, added-queues, new-queue-holds, new-entry-holds, ran-queues, triggered-queues, next-head, not-entered}
 use Rattle.tree_specs.proofs.Invariants.FreeQueues.{QueuedBy, requested-over, no-work-over, no-free-ends, ended, lifted-queued, free-queued}
-use Rattle.tree_specs.proofs.Calls.Checks.{planned-by, heard-leads, Heard as HeardBy, HeardCall, HeardReturn, reached-leads, Reached, ReachedOpening, ReachedHearing}
+use Rattle.tree_specs.proofs.Calls.Checks.{Makes, frees-makes, handed-makes, planned-by, heard-leads, Heard as HeardBy, HeardCall, HeardReturn, reached-leads, Reached, ReachedOpening, ReachedHearing}
 use Rattle.tree_specs.proofs.Calls.Plans.{May, may-planned}
 use Rattle.tree_specs.proofs.Calls.Changes.{MayDo, change-sound}
 use Rattle.tree_specs.specs.Machine.Profiles.{InHandler}
@@ -77,9 +77,7 @@ KeepsQueues p (Then first second) = KeepsQueues p first × KeepsQueues (changed_
 KeepsQueues p change = Unit {0}
 
 abbrev PlanKeeps : Pool → Plan → Type 0
-PlanKeeps p (Does change notice r) = KeepsQueues p change
-PlanKeeps p (Works change errand x) = KeepsQueues p change
-PlanKeeps p plan = Unit {0}
+PlanKeeps p plan = Makes (KeepsQueues p) plan
 
 -- what a change leads to
 change-queues : (fs gs : List Frame) (f : Frame) (below : List Frame) (p : Pool) (c : Change) → Sound f below p → ((q : Pool) → Rests f below q) → MayDo p c → KeepsQueues p c → ((y : Obj) → drains y fs ≡ true → drains y gs ≡ true) → QueuesHold fs p
@@ -123,23 +121,18 @@ change-queues fs gs f below p (Then c d) s calm may keeps more h =
 change-queues fs gs f below p c s calm may keeps more h = same-queues fs gs p (changed_by c p) h refl refl (λ y t d. more y d)
 
 module _ (p : Pool) (refers : Refers p.rows) (distinct : Distinct p.rows) where
-  freed : (x : Obj) (r : Option Obj) → PlanKeeps p (frees r x)
-  freed x None = tt
-  freed x (Some r) = tt
-
   -- what a call gives away is no entry
   given : (from to : Owner) (x : Obj) → is_entry_row (row_of p.rows x) ≡ false → KeepsQueues p (handed to (gift p from x))
   given from to x movable = by_test (is_below (owner_of p.rows x) from)
       (λ t. rw t movable)
-      (λ t. rw t (each (newest_ref_of p.rows from x) refl))
+      (λ t. rw t (handed-makes (KeepsQueues p) to (newest_ref_of p.rows from x) tt newest))
     where
       reference : (k : Kind) (t : Obj) → target_of k ≡ Some t → is_entry k ≡ false
       reference (kind.Reference t) t' e = refl
       reference _ t e = cc
 
-      each : (o : Option Obj) → newest_ref_of p.rows from x ≡ o → KeepsQueues p (handed to o)
-      each None e = tt
-      each (Some r) e = let w = newest-of-refers p.rows from x r distinct e in ap is_entry_row w.1 ∙ reference w.0.kind x w.2
+      newest : (r : Obj) → newest_ref_of p.rows from x ≡ Some r → KeepsQueues p (Place to r)
+      newest r e = let w = newest-of-refers p.rows from x r distinct e in ap is_entry_row w.1 ∙ reference w.0.kind x w.2
 
   plain-only : (x : Obj) → is_plain_row (row_of p.rows x) ≡ true → (r : Row) → row_of p.rows x ≡ Some r → is_entry r.kind ≡ true → ⊥
   plain-only x plain r e entry = kinds r.kind (let t : is_plain_row (Some r) ≡ true = rw e at plain in t) entry
@@ -150,7 +143,7 @@ module _ (p : Pool) (refers : Refers p.rows) (distinct : Distinct p.rows) where
 
   each : (c : Call) → AllPassed p (tests c) → PlanKeeps p (plan p c)
   each (call.New o size name) h = (refl, refl)
-  each (call.Free x) h = freed x (newest_ref p.rows x)
+  each (call.Free x) h = frees-makes (KeepsQueues p) x (newest_ref p.rows x)
   each (call.Steal o x) h = h.1.0
   each (call.Move o x) h = h.1.0
   each (call.Reparent from to x) h = given from to x h.1.0

@@ -132,7 +132,7 @@ doomed =
     ("ret 0", "freed 1 0\nreply 1") ∷
     []
 
--- while a destructor runs its object stays as it is, and no turn is taken
+-- while a destructor runs its object stays as it is, as do the references of the one that dies, and no turn is taken
 abbrev pub nested : Example
 nested =
     ("call new 0 0 a", "reply 1") ∷

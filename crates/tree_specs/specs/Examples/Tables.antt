@@ -66,10 +66,6 @@ given =
     ("call parent 1", "reply 0") ∷
     []
 
-abbrev pub trees : List Example
-trees =
-    nothing ∷ newest_first ∷ reported ∷ kept_apart ∷ given ∷ []
-
 -- ---- destructors that refuse, and those that act
 
 -- a destructor that refuses keeps its object
@@ -202,10 +198,6 @@ heir_inside =
     ("call parent 1", "reply 3") ∷
     []
 
-abbrev pub destructors : List Example
-destructors =
-    kept ∷ handed_on ∷ asked_again ∷ owner_freed ∷ owner_freed_and_refused ∷ moved_itself ∷ replaced_itself ∷ calls_on_the_dying ∷ each_other ∷ heir_inside ∷ []
-
 -- ---- references (talloc_reference)
 
 -- what has references is held, but for an object of the root with one
@@ -256,28 +248,6 @@ given_away =
     ("call freekids 1", "unreferenced 4 2\nreply ok") ∷
     []
 
--- references while an object dies
-abbrev pub while_one_dies : Example
-while_one_dies =
-    ("call new 0 0 a", "reply 1") ∷
-    ("call new 0 0 b", "reply 2") ∷
-    ("call reference 1 2", "reply 3") ∷
-    ("call new 1 0 c", "reply 4") ∷
-    ("call hook 4 16", "reply ok") ∷
-    ("call free 3", "reply no 2 3") ∷
-    ("call unlink 2 1", "reply no 6 1 2") ∷
-    ("call free 1", "ask hook 4 16 0 0 0 0") ∷
-    ("act steal 0 1", "reply no 8 1\nask hook 4 16 0 0 0 1") ∷
-    ("act free 1", "reply ok\nask hook 4 16 0 0 0 2") ∷
-    ("act reference 0 4", "reply no 3 4\nask hook 4 16 0 0 0 3") ∷
-    ("act new 1 0 d", "reply 5\nask hook 4 16 0 0 0 4") ∷
-    ("ret 0", "accepted 4\nfreed 4 16\nfreed 5 0\nunreferenced 3 2\nfreed 1 0\nreply ok") ∷
-    []
-
-abbrev pub references : List Example
-references =
-    held ∷ from_inside ∷ given_away ∷ while_one_dies ∷ []
-
 -- ---- limits (talloc_set_memlimit)
 
 -- what is below an object with a limit counts no more than it, wherever it came from; a steal isn't refused
@@ -314,9 +284,10 @@ resized =
     ("call resize 1 5", "reply no 4 1") ∷
     []
 
-abbrev pub limits : List Example
-limits =
-    bounded ∷ resized ∷ []
-
 abbrev pub examples : List Example
-examples = trees ++ destructors ++ references ++ limits ++ events ++ descriptors ++ requests ++ queues
+examples =
+    nothing ∷ newest_first ∷ reported ∷ kept_apart ∷ given
+    ∷ kept ∷ handed_on ∷ asked_again ∷ owner_freed ∷ owner_freed_and_refused ∷ moved_itself ∷ replaced_itself ∷ calls_on_the_dying ∷ each_other ∷ heir_inside
+    ∷ held ∷ from_inside ∷ given_away
+    ∷ bounded ∷ resized
+    ∷ events ++ descriptors ++ requests ++ queues
