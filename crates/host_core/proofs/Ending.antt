@@ -1,5 +1,5 @@
 -- A work that is over, and who waits for it.
-use Rattle.std.proofs.Common.{◌≡◌, ℕ, List, [], ◌∷◌, Some, true, refl}
+use Rattle.std.proofs.Common.{◌≡◌, ℕ, List, [], ◌∷◌, Option, Some, true, refl}
 use Rattle.std.specs.Prelude.{slice_get}
 use Rattle.tree_specs.specs.declared.frame.CallFrame.TheVariants.{Returning}
 use Rattle.tree_specs.specs.declared.frame.Frame.{Frame}
@@ -38,6 +38,11 @@ first-answers : (f : Frame) (a : Answer) (o : Objects) (fs : List FreeFrame) →
     → (ws : List Waiting) → Fits fs ws → AllWait (standing fs ws) → IsStacked f (standing fs ws) → Answers a ws o
 first-answers f a o fs c each [] e w s = absurd (c s)
 first-answers f a o fs c each (v ∷ ws) e w s = record { first = v; others = ws; are = refl; answers = each v ws e w s }
+
+-- and where the open frees wait, this holds of the first of them
+first-frame : (f : Frame) (P : Option FreeFrame → Type 0) → ((g : FreeFrame) (gs : List Frame) → IsStacked f (frame.Free g ∷ gs) → P (Some g)) → (fs : List FreeFrame) (ws : List Waiting) → Fits fs (Freeing ∷ ws) → IsStacked f (standing fs (Freeing ∷ ws)) → P (slice_get fs 0)
+first-frame f P each [] ws e s = absurd e.0
+first-frame f P each (g ∷ fs) ws e s = each g _ s
 
 -- ---- a free
 
@@ -110,12 +115,8 @@ asked-free v _ gs s = absurd s.0
 pub returned-answers : (v : ℕ) (ws : List Waiting) (o : Objects) → o.ready ≡ true → Fits o.works ws → IsConsistent (other_view (frame.Call (Returning v)) o.works ws o.pool) → Answers (Returned v) ws o
 returned-answers v ws o ready e h = first-answers (frame.Call (Returning v)) (Returned v) o o.works (λ z. z) each ws e h.sound.waiting h.seated
   where
-    asked-first : (fs : List FreeFrame) (vs : List Waiting) → Fits fs (Freeing ∷ vs) → IsStacked (frame.Call (Returning v)) (standing fs (Freeing ∷ vs)) → IsAsked (slice_get fs 0)
-    asked-first [] vs e s = absurd e.0
-    asked-first (g ∷ fs) vs e s = asked-free v g _ s
-
     each : (u : Waiting) (vs : List Waiting) → Fits o.works (u ∷ vs) → AllWait (standing o.works (u ∷ vs)) → IsStacked (frame.Call (Returning v)) (standing o.works (u ∷ vs)) → AnswersTo (Returned v) u o
-    each Freeing vs f w s = (asked-first o.works vs f s, returned-awaits v o.works (standing o.works ws) o.pool h (frees-standing o.works ws e))
+    each Freeing vs f w s = (first-frame (frame.Call (Returning v)) IsAsked (asked-free v) o.works vs f s, returned-awaits v o.works (standing o.works ws) o.pool h (frees-standing o.works ws e))
     each (Turn t) vs f w s = returned-turn v t o (standing o.works vs) ready w s
     each (WorkOf k) vs f w s = returned-work v k o (standing o.works vs) ready w s
     each _ vs f w s = absurd s.0
@@ -181,12 +182,8 @@ prepared-free r _ gs s = absurd s.0
 pub worked-answers : (r : Reply) (b : ShortReply) (ws : List Waiting) (o : Objects) → Fits o.works ws → IsConsistent (other_view (frame.Request (Over r)) o.works ws o.pool) → Answers (Heard b) ws o
 worked-answers r b ws o e h = first-answers (frame.Request (Over r)) (Heard b) o o.works (λ z. z) each ws e h.sound.waiting h.seated
   where
-    prepared-first : (fs : List FreeFrame) (vs : List Waiting) → Fits fs (Freeing ∷ vs) → IsStacked (frame.Request (Over r)) (standing fs (Freeing ∷ vs)) → IsPreparing (slice_get fs 0)
-    prepared-first [] vs e s = absurd e.0
-    prepared-first (g ∷ fs) vs e s = prepared-free r g _ s
-
     each : (u : Waiting) (vs : List Waiting) → Fits o.works (u ∷ vs) → AllWait (standing o.works (u ∷ vs)) → IsStacked (frame.Request (Over r)) (standing o.works (u ∷ vs)) → AnswersTo (Heard b) u o
-    each Freeing vs f w s = (prepared-first o.works vs f s, worked-awaits r o.works (standing o.works ws) o.pool h (frees-standing o.works ws e))
+    each Freeing vs f w s = (first-frame (frame.Request (Over r)) IsPreparing (prepared-free r) o.works vs f s, worked-awaits r o.works (standing o.works ws) o.pool h (frees-standing o.works ws e))
     each (Requesting q) vs f w s = tt
     each (Turn t) vs f w s = worked-turn r b t o (standing o.works vs) w s
     each (WorkOf k) vs f w s = absurd (no-work r k (standing o.works vs) w s)

@@ -283,20 +283,20 @@ module _ (old : Parts) (o : Objects) (had : IsBetweenSteps active.Freeing old) (
 
 -- ---- by where a step has come from
 
-module _ (o : Objects) (parts : Parts) (step asked : FreeStep) (is : step ≡ asked) (came : CameFrom o step parts) where
+-- the work that comes before is at work, and the free waits for it
+module _ {asked : FreeStep} {g : FreeFrame} {work : Work} (before : ComesBefore work asked g) (o : Objects) (parts : Parts) (step : FreeStep) (is : step ≡ asked) (came : CameFrom o step parts)
+    (new : Parts) (same : new.objects ≡ parts.objects) (push : new.waiting.items ≡ parts.waiting.items ++ Freeing ∷ []) where
   here : CameFrom o asked parts
   here = subst (λ (t : FreeStep). CameFrom o t parts) is came
 
-  -- the work that comes before is at work, and the free waits for it
-  module _ (g : FreeFrame) (work : Work) (before : ComesBefore work asked g) (new : Parts) (same : new.objects ≡ parts.objects) (push : new.waiting.items ≡ parts.waiting.items ++ Freeing ∷ []) where
-    pub before_onward : StepsSilently (host_view active.Freeing (with_objects o parts)) (host_view (active.Requesting work) new)
-    before_onward = prepares-onward (with_objects o parts) parts.objects here.ready here.quiet here.requests asked g work before new same push here.steps
+  pub before_onward : StepsSilently (host_view active.Freeing (with_objects o parts)) (host_view (active.Requesting work) new)
+  before_onward = prepares-onward (with_objects o parts) parts.objects here.ready here.quiet here.requests asked g work before new same push here.steps
 
-    pub before_ready : vec_capacity new.waiting ≡ vec_capacity parts.waiting → IsBetweenSteps (active.Requesting work) new
-    before_ready cap = prepares-ready (with_objects o parts) parts.objects here.ready here.quiet here.requests asked g work before new same push here.steps cap
+  pub before_ready : vec_capacity new.waiting ≡ vec_capacity parts.waiting → IsBetweenSteps (active.Requesting work) new
+  before_ready cap = prepares-ready (with_objects o parts) parts.objects here.ready here.quiet here.requests asked g work before new same push here.steps cap
 
 -- the free is over
 pub free_leads : (o : Objects) (parts : Parts) (step : FreeStep) (a : FreeReply) → step ≡ Done a → CameFrom o step parts → LeadsToEnd (host_view active.Freeing (with_objects o parts)) (Freed a) parts
 free_leads o parts step a is came =
-    let k = here o parts step (Done a) is came in
+    let k = subst (λ (t : FreeStep). CameFrom o t parts) is came in
     ends-leads (with_objects o parts) parts.objects k.ready k.quiet k.requests a k.steps k.goes_on

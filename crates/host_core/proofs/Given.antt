@@ -51,7 +51,7 @@ use Rattle.host_core.proofs.Answering.{caller-acts, short-answer}
 use Rattle.host_core.proofs.Calling.{plan-steps, call-room}
 use Rattle.host_core.proofs.Ending.{returned-answers, heard-answers}
 use Rattle.host_core.proofs.Reaching.{heard-step, no-reason}
-use Rattle.host_core.proofs.Stepping.{step_onward}
+use Rattle.host_core.proofs.Stepping.{step_onward, step_leads}
 use Rattle.host_core.proofs.StepsSilently.{along-then}
 use Rattle.host_core.proofs.Telling.{Stands, stands_at}
 
@@ -108,18 +108,8 @@ module _ (q : Ask) (c : Call) (old : Parts) (whole : IsConsistent (called_view q
 pub call_leads : (q : Ask) (c : Call) (o : Objects) (motion : Motion) (parts : Parts) (step : Step) → BeginsWith q c o motion parts → step_of step parts.objects.pool ≡ move_of q motion parts.objects.pool → IsBusy step → step_places step ≤ 3
     → StepReady step parts.objects → StepAnswers step (reverse parts.waiting.items) parts.objects → LeadsOn (called_view q (input.Call c) (with_objects o parts)) step parts
 call_leads q c o motion parts step b steps busy most ready answers =
-    let onward = call_onward q c (with_objects o parts) b.whole step motion parts.objects steps b.moved b.works in
-    record {
-      onward = onward;
-      may = record {
-        busy = busy;
-        whole = onward.along.whole;
-        fit = call_fit q c (with_objects o parts) b.whole step motion parts.objects steps b.moved b.works b.fit;
-        ready = ready;
-        answers = answers;
-        places = call_places q c (with_objects o parts) b.whole step motion parts.objects steps b.moved b.works busy most b.room;
-      };
-    }
+    step_leads (frame.Call (Doing q c)) step (with_objects o parts) parts.objects b.whole (steps ∙ b.moved) b.works (plan-steps q (planned o.pool c) o.pool).0 b.fit 3 (record { busy = busy; ready = ready; places = most }) answers
+    (call_places q c (with_objects o parts) b.whole step motion parts.objects steps b.moved b.works busy most b.room)
 
 -- a caller is answered with a call, or with what a routine does
 pub caller_acting : (now : Active) (c : Caller) (i : Input) (parts : Parts) → now ≡ active.Caller c → is_none (misfit (asked_now now) i) ≡ true → IsConsistent (given_view now i parts) → IsActing i

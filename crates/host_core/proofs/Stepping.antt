@@ -1,5 +1,5 @@
 -- A step that tells nothing, by the parts of a host.
-use Rattle.std.proofs.Common.{◌≡◌, ◌≤◌, List, reverse, Option, Some, None, is_some, true, false, refl, sym, ◌∙◌, ap, subst, arith}
+use Rattle.std.proofs.Common.{◌≡◌, ℕ, ◌≤◌, List, reverse, Option, Some, None, is_some, true, false, refl, sym, ◌∙◌, ap, subst, arith}
 use Rattle.step_machine.specs.Machine.{Move}
 use Rattle.tree_specs.specs.declared.frame.Answer.{Answer as Answered}
 use Rattle.tree_specs.specs.declared.frame.Frame.{Frame}
@@ -32,9 +32,9 @@ use Rattle.host_core.specs.Moves.{reply_of}
 use Rattle.host_core.specs.Stacks.{standing, Fits, other_view, work_frame}
 use Rattle.host_core.specs.Steps.{step_of}
 use Rattle.host_core.specs.Turns.{MayTurn}
-use Rattle.host_core.specs.Places.{count_undrained, turn_takes, work_places}
+use Rattle.host_core.specs.Places.{count_undrained, turn_takes, work_places, HasPlacesFor}
 use Rattle.host_core.specs.Hosts.{host_view, below_in, moved, next_of, speaking_view, IsBetweenSteps, PartsReady, StepsSilently}
-use Rattle.host_core.specs.Going.{stepped_view, turning, IsTurnStep, IsWorkStep, StepAnswers, GoesWell, LeadsOn}
+use Rattle.host_core.specs.Going.{stepped_view, turning, IsTurnStep, IsWorkStep, StepAnswers, GoesWell, LeadsOn, step_places}
 use Rattle.host_core.specs.Requests.{MayWork, WorkReady}
 use Rattle.host_core.proofs.StepPools.{pool_in, pool-left, turn_speaking, turn-room, work_keeps}
 use Rattle.host_core.proofs.StepsSilently.{onward}
@@ -57,6 +57,19 @@ module _ (f : Frame) (step : Step) (old : Parts) (o : Objects) (whole : IsConsis
 
   pub step_onward : speaking_view before ≡ false → StepsSilently before (stepped_view step after)
   step_onward quiet = onward before (stepped_view step after) whole quiet leads
+
+  pub step_leads : speaking_view before ≡ false → Fits old.objects.works (reverse old.waiting.items) → (most : ℕ) → GoesWell most step o → StepAnswers step (reverse old.waiting.items) o → HasPlacesFor (step_places step) after → LeadsOn before step after
+  step_leads quiet fit most goes answers places = record {
+    onward = step_onward quiet;
+    may = record {
+      busy = goes.busy;
+      whole = (step_onward quiet).along.whole;
+      fit = subst (λ (fs : List FreeFrame). Fits fs (reverse old.waiting.items)) (sym works) fit;
+      ready = goes.ready;
+      answers = answers;
+      places = places;
+    };
+  }
 
 -- ---- whoever waits for a turn, or for the work of a request
 
@@ -123,18 +136,8 @@ module _ (now : Active) (t : Turn) (old : Parts) (at_work : now ≡ active.Turni
       let pool : o.pool ≡ pool_in (turn_step f old.objects.pool) = sym (pool-left step o.pool) ∙ ap pool_in same in
       let same-rows = ap (λ (z : Pool). count_undrained z.rows) pool in
       let kept = turn-room f old.objects.pool in
-      let onward = step_onward (frame.Turn f) step old o turn-between.whole same works turn-quiet in
-      subst (λ (z : Active). LeadsOn (host_view z old) step (record { waiting = old.waiting; objects = o })) (sym is) (record {
-        onward = onward;
-        may = record {
-          busy = goes.busy;
-          whole = onward.along.whole;
-          fit = subst (λ (fs : List FreeFrame). Fits fs (reverse old.waiting.items)) (sym works) turn-between.fit;
-          ready = goes.ready;
-          answers = turn_answers step f old.objects.works (reverse old.waiting.items) old.objects.pool o ends turn-between.fit turn-between.whole;
-          places = omega (arith, room, few, counts, same-rows, kept);
-        };
-      })
+      subst (λ (z : Active). LeadsOn (host_view z old) step (record { waiting = old.waiting; objects = o })) (sym is)
+      (step_leads (frame.Turn f) step old o turn-between.whole same works turn-quiet turn-between.fit (turn_takes f) goes (turn_answers step f old.objects.works (reverse old.waiting.items) old.objects.pool o ends turn-between.fit turn-between.whole) (omega (arith, room, few, counts, same-rows, kept)))
 
 -- the work of a request
 module _ (now : Active) (w : Work) (old : Parts) (is : now ≡ active.Requesting w) (had : IsBetweenSteps now old) (silent : speaking_view (host_view now old) ≡ false) where
@@ -155,15 +158,5 @@ module _ (now : Active) (w : Work) (old : Parts) (is : now ≡ active.Requesting
       let few = goes.places in
       let pool : o.pool ≡ pool_in (request_step (work_frame w) old.objects.pool) = sym (pool-left step o.pool) ∙ ap pool_in same in
       let same-rows = ap count_undrained (ap (λ (z : Pool). z.rows) pool ∙ (work_keeps w old.objects.pool).1) in
-      let onward = step_onward (frame.Request (work_frame w)) step old o work-between.whole same works work-quiet in
-      subst (λ (z : Active). LeadsOn (host_view z old) step (record { waiting = old.waiting; objects = o })) (sym is) (record {
-        onward = onward;
-        may = record {
-          busy = goes.busy;
-          whole = onward.along.whole;
-          fit = subst (λ (fs : List FreeFrame). Fits fs (reverse old.waiting.items)) (sym works) work-between.fit;
-          ready = goes.ready;
-          answers = work_answers step w old.objects.works (reverse old.waiting.items) old.objects.pool o ends work-between.fit works same work-between.whole;
-          places = omega (arith, room, few, requests, same-rows);
-        };
-      })
+      subst (λ (z : Active). LeadsOn (host_view z old) step (record { waiting = old.waiting; objects = o })) (sym is)
+      (step_leads (frame.Request (work_frame w)) step old o work-between.whole same works work-quiet work-between.fit (work_places w) goes (work_answers step w old.objects.works (reverse old.waiting.items) old.objects.pool o ends work-between.fit works same work-between.whole) (omega (arith, room, few, requests, same-rows)))

@@ -1,8 +1,5 @@
 use Rattle.std.proofs.Common.{refl, subst}
-use Rattle.tree_specs.specs.declared.frame.FreeFrame.TheVariants.{Preparing, Draining}
 use Rattle.tree_specs.specs.declared.free_step.FreeStep.{FreeStep}
-use Rattle.tree_specs.specs.declared.free_step.FreeStep.TheVariants.{Prepare, Drain, Done}
-use Rattle.host_core.specs.declared.work.Work.TheVariants as work
 use Rattle.host_core.specs.Going.{with_objects, CameFrom}
 use Rattle.host_core.proofs.StepsSilently.{onward-along}
 use Rattle.host_core.proofs.FreeStepping.{asks_onward, asks_ready, receiving-before, vacating-before, before_onward, before_ready, free_leads}
@@ -26,22 +23,16 @@ returns-in-Ask-clause-ready c =
 -- ---- what comes before the freeing of a request, or of a queue
 
 pub returns-in-Prepare-clause-onward : goal.returns-in-Prepare-clause-onward
-returns-in-Prepare-clause-onward c = λ o came.
-    before_onward o c.args.parts.now c.args.step (Prepare c.in-Prepare.x) c.in-Prepare.is came (Preparing c.in-Prepare.x) (work.Receiving c.in-Prepare.x) (receiving-before c.in-Prepare.x) (record { waiting = c.push_reserved-in-Prepare.new.self; objects = c.args.parts.now.objects }) refl c.push_reserved-in-Prepare.ensures.items
+returns-in-Prepare-clause-onward c = λ o came. before_onward (receiving-before c.in-Prepare.x) o c.args.parts.now c.args.step c.in-Prepare.is came (record { waiting = c.push_reserved-in-Prepare.new.self; objects = c.args.parts.now.objects }) refl c.push_reserved-in-Prepare.ensures.items
 
 pub returns-in-Prepare-clause-ready : goal.returns-in-Prepare-clause-ready
-returns-in-Prepare-clause-ready c =
-    let push = c.push_reserved-in-Prepare in
-    before_ready c.requires.came.0 c.args.parts.now c.args.step (Prepare c.in-Prepare.x) c.in-Prepare.is c.requires.came.1 (Preparing c.in-Prepare.x) (work.Receiving c.in-Prepare.x) (receiving-before c.in-Prepare.x) (record { waiting = push.new.self; objects = c.args.parts.now.objects }) refl push.ensures.items push.ensures.capacity
+returns-in-Prepare-clause-ready c = before_ready (receiving-before c.in-Prepare.x) c.requires.came.0 c.args.parts.now c.args.step c.in-Prepare.is c.requires.came.1 (record { waiting = c.push_reserved-in-Prepare.new.self; objects = c.args.parts.now.objects }) refl c.push_reserved-in-Prepare.ensures.items c.push_reserved-in-Prepare.ensures.capacity
 
 pub returns-in-Drain-clause-onward : goal.returns-in-Drain-clause-onward
-returns-in-Drain-clause-onward c = λ o came.
-    before_onward o c.args.parts.now c.args.step (Drain c.in-Drain.queue) c.in-Drain.is came (Draining c.in-Drain.queue) (work.Vacating c.in-Drain.queue) (vacating-before c.in-Drain.queue) (record { waiting = c.push_reserved-in-Drain.new.self; objects = c.args.parts.now.objects }) refl c.push_reserved-in-Drain.ensures.items
+returns-in-Drain-clause-onward c = λ o came. before_onward (vacating-before c.in-Drain.queue) o c.args.parts.now c.args.step c.in-Drain.is came (record { waiting = c.push_reserved-in-Drain.new.self; objects = c.args.parts.now.objects }) refl c.push_reserved-in-Drain.ensures.items
 
 pub returns-in-Drain-clause-ready : goal.returns-in-Drain-clause-ready
-returns-in-Drain-clause-ready c =
-    let push = c.push_reserved-in-Drain in
-    before_ready c.requires.came.0 c.args.parts.now c.args.step (Drain c.in-Drain.queue) c.in-Drain.is c.requires.came.1 (Draining c.in-Drain.queue) (work.Vacating c.in-Drain.queue) (vacating-before c.in-Drain.queue) (record { waiting = push.new.self; objects = c.args.parts.now.objects }) refl push.ensures.items push.ensures.capacity
+returns-in-Drain-clause-ready c = before_ready (vacating-before c.in-Drain.queue) c.requires.came.0 c.args.parts.now c.args.step c.in-Drain.is c.requires.came.1 (record { waiting = c.push_reserved-in-Drain.new.self; objects = c.args.parts.now.objects }) refl c.push_reserved-in-Drain.ensures.items c.push_reserved-in-Drain.ensures.capacity
 
 -- ---- it is over
 
