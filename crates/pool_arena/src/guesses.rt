@@ -1,7 +1,7 @@
 //! Guesses: the index that a key may have among the places, under the key's last bits. Serial numbers that are held seldom
 //! share these, so a look-up that tries its guess first seldom needs a hash. A guess may be wrong, and is never relied on.
 ghost use Rattle.indexmap.specs.IndexMap.{get as place_get};
-ghost use Rattle.std.specs.Prelude.{nat_eq, ◌≡◌};
+ghost use Rattle.std.specs.Prelude.{nat_eq, ◌≡◌, IsTrue, None};
 
 use indexmap::IndexMap;
 use std::alloc::AllocError;
@@ -53,6 +53,13 @@ pub(crate) fn keep_up(
         return Ok(());
     }
     widen(guesses, places)
+}
+
+/// Whether nothing is held at all, so that a key isn't, which needs no hash then: most arenas of a host are empty.
+pub(crate) fn is_vacant(places: &IndexMap<u64, usize>, _key: u64) -> bool
+    ensures { IsTrue result → place_get nat_eq places.now _key ≡ None }
+{
+    places.is_empty()
 }
 
 /// The slot of a key by its hash. None exactly where it isn't held.

@@ -18,7 +18,7 @@ mod guesses;
 #[cfg(test)]
 mod tests;
 
-use guesses::{guess_next, keep_up, reguess, slot_of};
+use guesses::{guess_next, is_vacant, keep_up, reguess, slot_of};
 
 /// Values, each under a key of its own. Contracts see a finite map from keys to values, and spare: so many more values
 /// can be added without taking memory. Only `reserve` takes memory.
@@ -112,6 +112,9 @@ impl<T> Arena<T> {
         ensures pairs { self.new.pairs ≡ map.remove self.old.pairs key }
         ensures spare { self.old.spare ≤ self.new.spare }
     {
+        if is_vacant(&self.places, key) {
+            return None;
+        }
         match self.places.swap_remove_full(&key) {
             Some((index, _, slot)) => {
                 reguess(&mut self.guesses, &self.places, index);

@@ -28,3 +28,15 @@ returns-in-None-clause-pairs g c =
     ap (λ es. pairs_of es c.self.inside.slots) c.in-None.ensures.unchanged
     ∙ sym (removed_nothing c.self.inside.places c.self.inside.slots c.args.key (sym c.in-None.ensures.value))
     ∙ ap (λ a. map.remove a.pairs c.args.key) c.self.view_is
+
+pub returns-then-is_vacant-clause-value : goal.returns-then-is_vacant-clause-value
+returns-then-is_vacant-clause-value g c =
+    let none = c.is_vacant.ensures c.if-is_vacant.true in
+    sym (ap (λ a. get a c.args.key) (sym c.self.view_is) ∙ reads c.self.inside.places c.self.inside.slots c.args.key ∙ ap (option_and_then (slot_get c.self.inside.slots)) none)
+
+pub returns-then-is_vacant-clause-pairs : goal.returns-then-is_vacant-clause-pairs
+returns-then-is_vacant-clause-pairs g c =
+    let none = c.is_vacant.ensures c.if-is_vacant.true in
+    sym (ap (λ a. a.pairs) c.self.view_is)
+    ∙ sym (removed_nothing c.self.inside.places c.self.inside.slots c.args.key none)
+    ∙ ap (λ a. map.remove a.pairs c.args.key) c.self.view_is
