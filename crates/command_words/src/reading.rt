@@ -139,6 +139,8 @@ fn command_met(matches: &ArgMatches) -> Option<Command>
 ///
 /// `Usage` exactly where the words are no command, so where `clap` refuses them, and words that ask for help. `Memory`
 /// where there was none.
+// What `clap` takes of the call stack, some 10 KiB, is given up before the command runs: a replay is to do with 64 KiB.
+#[inline(never)]
 pub fn read_words(alloc: Global, words: &[String]) -> Result<Command, WordsError>
     // The command that was read has its count in its range.
     ensures few { (number count : ℕ) → result ≡ Ok (Command.Load number count) → count ≤ COUNT_LIMIT }

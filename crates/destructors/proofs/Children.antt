@@ -18,7 +18,7 @@ use Rattle.tree_specs.proofs.Turns.Seats.{reseat-free}
 
 -- a loop below this work waits for its object
 abbrev pub named : Frame → Frame → Frame
-named (frame.Free f) (frame.Free (FreeingChild x c noted purpose)) = frame.Free (FreeingChild x (unwrap_or (free_profile f).object c) noted purpose)
+named (frame.Free f) (frame.Free (FreeingChild x c noted purpose)) = frame.Free (FreeingChild x (unwrap_or (free_profile f).role c) noted purpose)
 named f g = g
 
 abbrev pub renamed : Frame → List Frame → List Frame
@@ -46,7 +46,7 @@ same-footing _ gs hs = refl
 waits-on : (w : Waits) (f g : Frame) (gs hs : List Frame) → MayWait w (footing (g ∷ gs)) → MayWait w (footing (named f g ∷ hs))
 waits-on w (frame.Free f) (frame.Free (FreeingChild x c noted purpose)) gs hs h = child w h
   where
-    child : (w : Waits) → MayWait w (OnFree (FreeingChild x c noted purpose)) → MayWait w (OnFree (FreeingChild x (unwrap_or (free_profile f).object c) noted purpose))
+    child : (w : Waits) → MayWait w (OnFree (FreeingChild x c noted purpose)) → MayWait w (OnFree (FreeingChild x (unwrap_or (free_profile f).role c) noted purpose))
     child (AChild d (Removal k)) h = h
     child (AChild d Emptying) h = h
     child _ h = h
@@ -101,7 +101,7 @@ at-bottom (frame.Free f) = tt
 at-bottom _ = tt
 
 of-child : (f g : Frame) (hs : List Frame) → IsOfChild f (footing (named f g ∷ hs))
-of-child (frame.Free f) (frame.Free (FreeingChild x c noted purpose)) hs = that (free_profile f).object
+of-child (frame.Free f) (frame.Free (FreeingChild x c noted purpose)) hs = that (free_profile f).role
   where
     that : (o : Option Obj) → IsThat o (unwrap_or o c)
     that None = tt

@@ -145,39 +145,28 @@ asked-awaits x h fs p w =
       on = refl;
     }
 
--- and one whose request is received: it waits for the freeing of what this was made with
-pub prepared-awaits : (x : Obj) (fs : List FreeFrame) (p : Pool) → IsHosted (Preparing x) fs p → AreAwaiting (Preparing x ∷ fs) p
-prepared-awaits x fs p w =
-    let l = w.light in
+-- and one whose request is received, or whose queue's entries are freed: it may wait for the freeing of what a request was made with
+releasing-awaits : (f : FreeFrame) (x : Obj) (fs : List FreeFrame) (p : Pool) → as_received f ≡ Preparing x → ((y : Obj) → claim y (frame.Free (Preparing x)) ≡ claim y (frame.Free f)) → (w : IsHosted f fs p)
+    → IsPaidFor (frame.Free (Ending Ok)) (frame.Request (Releasing x) ∷ frame.Free (Preparing x) ∷ w.below) p → AreAwaiting (f ∷ fs) p
+releasing-awaits f x fs p received claims-alike w light =
     let releasing = frame.Request (Releasing x) in
     record {
       over = record {
         below = releasing ∷ frame.Free (Preparing x) ∷ w.below;
-        frees = ap (λ (z : List FreeFrame). Preparing x ∷ z) w.frees;
-        sound = stands (frame.Free (Preparing x)) (frame.Free (Ending Ok)) w.below (releasing ∷ frame.Free (Preparing x) ∷ w.below) p (λ y. refl) (tt, (tt, w.sound.waiting)) (tt, tt) w.sound;
-        seated = (tt, (tt, w.seated));
-        light = omega (arith, l);
+        frees = ap (λ (z : List FreeFrame). Preparing x ∷ z) w.frees ∙ ap (λ (g : FreeFrame). g ∷ map as_received fs) (sym received);
+        sound = stands (frame.Free f) (frame.Free (Ending Ok)) w.below (releasing ∷ frame.Free (Preparing x) ∷ w.below) p (λ y. ap (λ (l : List Phase). l ++ claims y w.below) (claims-alike y)) (tt, (tt, w.sound.waiting)) (tt, tt) w.sound;
+        seated = (tt, (tt, reseat-free f (Preparing x) w.below w.seated));
+        light = light;
         turns = w.turns;
       };
       on = refl;
     }
 
--- so does one whose queue's entries are freed
+pub prepared-awaits : (x : Obj) (fs : List FreeFrame) (p : Pool) → IsHosted (Preparing x) fs p → AreAwaiting (Preparing x ∷ fs) p
+prepared-awaits x fs p w = let l = w.light in releasing-awaits (Preparing x) x fs p refl (λ y. refl) w (omega (arith, l))
+
 pub drained-awaits : (x : Obj) (fs : List FreeFrame) (p : Pool) → IsHosted (Draining x) fs p → AreAwaiting (Draining x ∷ fs) p
-drained-awaits x fs p w =
-    let l = w.light in
-    let releasing = frame.Request (Releasing x) in
-    record {
-      over = record {
-        below = releasing ∷ frame.Free (Preparing x) ∷ w.below;
-        frees = ap (λ (z : List FreeFrame). Preparing x ∷ z) w.frees;
-        sound = stands (frame.Free (Draining x)) (frame.Free (Ending Ok)) w.below (releasing ∷ frame.Free (Preparing x) ∷ w.below) p (λ y. refl) (tt, (tt, w.sound.waiting)) (tt, tt) w.sound;
-        seated = (tt, (tt, reseat-free (Draining x) (Preparing x) w.below w.seated));
-        light = omega (arith, l);
-        turns = w.turns;
-      };
-      on = refl;
-    }
+drained-awaits x fs p w = let l = w.light in releasing-awaits (Draining x) x fs p refl (λ y. refl) w (omega (arith, l))
 
 -- ---- what a step of the innermost free leads to
 

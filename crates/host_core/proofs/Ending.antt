@@ -1,5 +1,5 @@
 -- A work that is over, and who waits for it.
-use Rattle.std.proofs.Common.{◌≡◌, ℕ, List, [], ◌∷◌, Some, true, refl}
+use Rattle.std.proofs.Common.{◌≡◌, ℕ, List, [], ◌∷◌, Option, Some, true, refl}
 use Rattle.std.specs.Prelude.{slice_get}
 use Rattle.tree_specs.specs.declared.frame.CallFrame.TheVariants.{Returning}
 use Rattle.tree_specs.specs.declared.frame.Frame.{Frame}
@@ -14,7 +14,7 @@ use Rattle.tree_specs.specs.declared.free_step.FreeReply.{FreeReply}
 use Rattle.tree_specs.specs.declared.reply.Reply.{Reply}
 use Rattle.tree_specs.specs.declared.object.Obj.{Obj}
 use Rattle.tree_specs.specs.Invariants.Sound.{Drains, IsWaiting, AllWait, footing}
-use Rattle.tree_specs.specs.Invariants.Consistent.{IsCaller, IsFree, IsRun, IsTurn, IsWork, MayStandOn, IsStacked, IsConsistent}
+use Rattle.tree_specs.specs.Invariants.Consistent.{IsCaller, IsFree, IsRun, IsWork, MayStandOn, IsStacked, IsConsistent}
 use Rattle.tree_specs.specs.declared.question.Ask.{Ask}
 use Rattle.destructors.specs.Frees.{awaits_run}
 use Rattle.destructors.specs.Works.{AreAwaiting}
@@ -31,6 +31,18 @@ use Rattle.host_core.specs.declared.work.Work.TheVariants.{Called, Releasing, Dr
 use Rattle.host_core.specs.Stacks.{work_frame, standing, Fits, other_view}
 use Rattle.host_core.specs.Going.{AnswersTo, Answers}
 use Rattle.host_core.proofs.Hosting.{frees-standing, returned-awaits, worked-awaits}
+
+-- the first of the works that wait is the one that waits for what is over
+first-answers : (f : Frame) (a : Answer) (o : Objects) (fs : List FreeFrame) → (IsCaller f → ⊥)
+    → ((w : Waiting) (ws : List Waiting) → Fits fs (w ∷ ws) → AllWait (standing fs (w ∷ ws)) → IsStacked f (standing fs (w ∷ ws)) → AnswersTo a w o)
+    → (ws : List Waiting) → Fits fs ws → AllWait (standing fs ws) → IsStacked f (standing fs ws) → Answers a ws o
+first-answers f a o fs c each [] e w s = absurd (c s)
+first-answers f a o fs c each (v ∷ ws) e w s = record { first = v; others = ws; are = refl; answers = each v ws e w s }
+
+-- and where the open frees wait, this holds of the first of them
+first-frame : (f : Frame) (P : Option FreeFrame → Type 0) → ((g : FreeFrame) (gs : List Frame) → IsStacked f (frame.Free g ∷ gs) → P (Some g)) → (fs : List FreeFrame) (ws : List Waiting) → Fits fs (Freeing ∷ ws) → IsStacked f (standing fs (Freeing ∷ ws)) → P (slice_get fs 0)
+first-frame f P each [] ws e s = absurd e.0
+first-frame f P each (g ∷ fs) ws e s = each g _ s
 
 -- ---- a free
 
@@ -68,14 +80,18 @@ freed-work f _ a o ws e w s = absurd w.0
 
 -- what waits for a free that is over, where the next free waits for no free
 pub freed-answers : (f : FreeFrame) (fs : List FreeFrame) (ws : List Waiting) (a : FreeReply) (o : Objects) → o.works ≡ fs → AwaitsRun fs → Fits fs ws → AllWait (standing fs ws) → IsStacked (frame.Free f) (standing fs ws) → Answers (Freed a) ws o
-freed-answers f fs [] a o is r e w s = absurd s
-freed-answers f [] (Freeing ∷ ws) a o is r e w s = absurd e.0
-freed-answers f (g ∷ fs) (Freeing ∷ ws) a o is r e w s = absurd (free-on f g _ r s)
-freed-answers f fs (Awaiting q x ∷ ws) a o is r e w s = record { first = Awaiting q x; others = ws; are = refl; answers = tt }
-freed-answers f fs (Turning q ∷ ws) a o is r e w s = absurd s.0
-freed-answers f fs (Requesting q ∷ ws) a o is r e w s = absurd s.0
-freed-answers f fs (Turn t ∷ ws) a o is r e w s = record { first = Turn t; others = ws; are = refl; answers = freed-turn f t a o (standing fs ws) w s }
-freed-answers f fs (WorkOf k ∷ ws) a o is r e w s = record { first = WorkOf k; others = ws; are = refl; answers = freed-work f k a o ws (rw is e) (rw is w) (rw is s) }
+freed-answers f fs ws a o is r = first-answers (frame.Free f) (Freed a) o fs (λ z. z) each ws
+  where
+    none-first : (gs : List FreeFrame) (vs : List Waiting) → AwaitsRun gs → Fits gs (Freeing ∷ vs) → IsStacked (frame.Free f) (standing gs (Freeing ∷ vs)) → ⊥
+    none-first [] vs r e s = e.0
+    none-first (g ∷ gs) vs r e s = free-on f g _ r s
+
+    each : (v : Waiting) (vs : List Waiting) → Fits fs (v ∷ vs) → AllWait (standing fs (v ∷ vs)) → IsStacked (frame.Free f) (standing fs (v ∷ vs)) → AnswersTo (Freed a) v o
+    each Freeing vs e w s = absurd (none-first fs vs r e s)
+    each (Awaiting q x) vs e w s = tt
+    each (Turn t) vs e w s = freed-turn f t a o (standing fs vs) w s
+    each (WorkOf k) vs e w s = freed-work f k a o vs (rw is e) (rw is w) (rw is s)
+    each _ vs e w s = absurd s.0
 
 -- ---- a routine
 
@@ -97,54 +113,52 @@ asked-free v _ gs s = absurd s.0
 
 -- what waits for a routine that has returned
 pub returned-answers : (v : ℕ) (ws : List Waiting) (o : Objects) → o.ready ≡ true → Fits o.works ws → IsConsistent (other_view (frame.Call (Returning v)) o.works ws o.pool) → Answers (Returned v) ws o
-returned-answers v ws o ready e h = each o.works ws e h.sound.waiting h.seated (returned-awaits v o.works (standing o.works ws) o.pool h (frees-standing o.works ws e)) refl
+returned-answers v ws o ready e h = first-answers (frame.Call (Returning v)) (Returned v) o o.works (λ z. z) each ws e h.sound.waiting h.seated
   where
-    each : (fs : List FreeFrame) (vs : List Waiting) → Fits fs vs → AllWait (standing fs vs) → IsStacked (frame.Call (Returning v)) (standing fs vs) → AreAwaiting o.works o.pool → o.works ≡ fs → Answers (Returned v) vs o
-    each fs [] e w s a k = absurd s
-    each [] (Freeing ∷ vs) e w s a k = absurd e.0
-    each (g ∷ fs) (Freeing ∷ vs) e w s a k = record { first = Freeing; others = vs; are = refl; answers = (rw k (asked-free v g _ s), a) }
-    each fs (Awaiting q x ∷ vs) e w s a k = absurd s.0
-    each fs (Turning q ∷ vs) e w s a k = absurd s.0
-    each fs (Requesting q ∷ vs) e w s a k = absurd s.0
-    each fs (Turn t ∷ vs) e w s a k = record { first = Turn t; others = vs; are = refl; answers = returned-turn v t o (standing fs vs) ready w s }
-    each fs (WorkOf k' ∷ vs) e w s a k = record { first = WorkOf k'; others = vs; are = refl; answers = returned-work v k' o (standing fs vs) ready w s }
+    each : (u : Waiting) (vs : List Waiting) → Fits o.works (u ∷ vs) → AllWait (standing o.works (u ∷ vs)) → IsStacked (frame.Call (Returning v)) (standing o.works (u ∷ vs)) → AnswersTo (Returned v) u o
+    each Freeing vs f w s = (first-frame (frame.Call (Returning v)) IsAsked (asked-free v) o.works vs f s, returned-awaits v o.works (standing o.works ws) o.pool h (frees-standing o.works ws e))
+    each (Turn t) vs f w s = returned-turn v t o (standing o.works vs) ready w s
+    each (WorkOf k) vs f w s = returned-work v k o (standing o.works vs) ready w s
+    each _ vs f w s = absurd s.0
 
 -- ---- a turn, and the outside
 
 -- only a call waits for what is a turn to it
-pub turned-call : (f : Frame) (a : Answer) (o : Objects) → IsTurn f → (IsFree f → ⊥) → (IsRun f → ⊥) → (IsWork f → ⊥) → ((q : Ask) → AnswersTo a (Turning q) o) → (fs : List FreeFrame) (ws : List Waiting) → Fits fs ws → AllWait (standing fs ws) → IsStacked f (standing fs ws) → (IsCaller f → ⊥) → Answers a ws o
-turned-call f a o t no_free no_run no_work answers fs [] e w s c = absurd (c s)
-turned-call f a o t no_free no_run no_work answers [] (Freeing ∷ ws) e w s c = absurd e.0
-turned-call f a o t no_free no_run no_work answers (g ∷ fs) (Freeing ∷ ws) e w s c = absurd (each g s.0)
+pub turned-call : (f : Frame) (a : Answer) (o : Objects) → (IsFree f → ⊥) → (IsRun f → ⊥) → (IsWork f → ⊥) → (IsCaller f → ⊥) → ((q : Ask) → AnswersTo a (Turning q) o) → (fs : List FreeFrame) (ws : List Waiting) → Fits fs ws → AllWait (standing fs ws) → IsStacked f (standing fs ws) → Answers a ws o
+turned-call f a o no_free no_run no_work no_caller answers fs = first-answers f a o fs no_caller each
   where
-    each : (g : FreeFrame) → MayStandOn f (frame.Free g ∷ []) → ⊥
-    each (Hooked x h) s = no_run s
-    each (Preparing x) s = no_work s
-    each (Draining x) s = no_work s
-    each _ s = no_free s
-turned-call f a o t no_free no_run no_work answers fs (Awaiting q x ∷ ws) e w s c = absurd (no_free s.0)
-turned-call f a o t no_free no_run no_work answers fs (Turning q ∷ ws) e w s c = record { first = Turning q; others = ws; are = refl; answers = answers q }
-turned-call f a o t no_free no_run no_work answers fs (Requesting q ∷ ws) e w s c = absurd (no_work s.0)
-turned-call f a o t no_free no_run no_work answers fs (Turn k ∷ ws) e w s c = absurd (each k w.0 s.0)
-  where
-    each : (k : TurnFrame) → IsWaiting (frame.Turn k) (standing fs ws) → MayStandOn f (frame.Turn k ∷ []) → ⊥
-    each (Handling what x handler occasion) w s = no_run s
-    each (Clearing x) w s = no_free s
-    each (Serving x) w s = no_work s
-    each _ w s = w
-turned-call f a o t no_free no_run no_work answers fs (WorkOf k ∷ ws) e w s c = absurd (each k w.0 s.0)
-  where
-    each : (k : Work) → IsWaiting (frame.Request (work_frame k)) (standing fs ws) → MayStandOn f (frame.Request (work_frame k) ∷ []) → ⊥
-    each (Called what x handler errand) w s = no_run s
-    each (Releasing child) w s = no_free s
-    each (Dropping queue entry) w s = no_free s
-    each _ w s = w
+    none-first : (gs : List FreeFrame) (vs : List Waiting) → Fits gs (Freeing ∷ vs) → IsStacked f (standing gs (Freeing ∷ vs)) → ⊥
+    none-first [] vs e s = e.0
+    none-first (Hooked x h ∷ gs) vs e s = no_run s.0
+    none-first (Preparing x ∷ gs) vs e s = no_work s.0
+    none-first (Draining x ∷ gs) vs e s = no_work s.0
+    none-first (g ∷ gs) vs e s = no_free s.0
+
+    turns : (k : TurnFrame) (gs : List Frame) → IsWaiting (frame.Turn k) gs → MayStandOn f (frame.Turn k ∷ []) → ⊥
+    turns (Handling what x handler occasion) gs w s = no_run s
+    turns (Clearing x) gs w s = no_free s
+    turns (Serving x) gs w s = no_work s
+    turns _ gs w s = w
+
+    works : (k : Work) (gs : List Frame) → IsWaiting (frame.Request (work_frame k)) gs → MayStandOn f (frame.Request (work_frame k) ∷ []) → ⊥
+    works (Called what x handler errand) gs w s = no_run s
+    works (Releasing child) gs w s = no_free s
+    works (Dropping queue entry) gs w s = no_free s
+    works _ gs w s = w
+
+    each : (v : Waiting) (vs : List Waiting) → Fits fs (v ∷ vs) → AllWait (standing fs (v ∷ vs)) → IsStacked f (standing fs (v ∷ vs)) → AnswersTo a v o
+    each Freeing vs e w s = absurd (none-first fs vs e s)
+    each (Awaiting q x) vs e w s = absurd (no_free s.0)
+    each (Turning q) vs e w s = answers q
+    each (Requesting q) vs e w s = absurd (no_work s.0)
+    each (Turn k) vs e w s = absurd (turns k (standing fs vs) w.0 s.0)
+    each (WorkOf k) vs e w s = absurd (works k (standing fs vs) w.0 s.0)
 
 pub turned-answers : (t : TurnFrame) (v : ℕ) (fs : List FreeFrame) (ws : List Waiting) (o : Objects) → Fits fs ws → AllWait (standing fs ws) → IsStacked (frame.Turn t) (standing fs ws) → Answers (Turned v) ws o
-turned-answers t v fs ws o e w s = turned-call (frame.Turn t) (Turned v) o tt (λ z. z) (λ z. z) (λ z. z) (λ q. tt) fs ws e w s (λ z. z)
+turned-answers t v fs ws o e w s = turned-call (frame.Turn t) (Turned v) o (λ z. z) (λ z. z) (λ z. z) (λ z. z) (λ q. tt) fs ws e w s
 
 pub heard-answers : (f : OutsideFrame) (r : ShortReply) (fs : List FreeFrame) (ws : List Waiting) (o : Objects) → Fits fs ws → AllWait (standing fs ws) → IsStacked (frame.Outside f) (standing fs ws) → Answers (Heard r) ws o
-heard-answers f r fs ws o e w s = turned-call (frame.Outside f) (Heard r) o tt (λ z. z) (λ z. z) (λ z. z) (λ q. tt) fs ws e w s (λ z. z)
+heard-answers f r fs ws o e w s = turned-call (frame.Outside f) (Heard r) o (λ z. z) (λ z. z) (λ z. z) (λ z. z) (λ q. tt) fs ws e w s
 
 -- ---- the work of a request
 
@@ -166,14 +180,11 @@ prepared-free r (Draining x) gs s = tt
 prepared-free r _ gs s = absurd s.0
 
 pub worked-answers : (r : Reply) (b : ShortReply) (ws : List Waiting) (o : Objects) → Fits o.works ws → IsConsistent (other_view (frame.Request (Over r)) o.works ws o.pool) → Answers (Heard b) ws o
-worked-answers r b ws o e h = each o.works ws e h.sound.waiting h.seated (worked-awaits r o.works (standing o.works ws) o.pool h (frees-standing o.works ws e)) refl
+worked-answers r b ws o e h = first-answers (frame.Request (Over r)) (Heard b) o o.works (λ z. z) each ws e h.sound.waiting h.seated
   where
-    each : (fs : List FreeFrame) (vs : List Waiting) → Fits fs vs → AllWait (standing fs vs) → IsStacked (frame.Request (Over r)) (standing fs vs) → AreAwaiting o.works o.pool → o.works ≡ fs → Answers (Heard b) vs o
-    each fs [] e w s a k = absurd s
-    each [] (Freeing ∷ vs) e w s a k = absurd e.0
-    each (g ∷ fs) (Freeing ∷ vs) e w s a k = record { first = Freeing; others = vs; are = refl; answers = (rw k (prepared-free r g _ s), a) }
-    each fs (Awaiting q x ∷ vs) e w s a k = absurd s.0
-    each fs (Turning q ∷ vs) e w s a k = absurd s.0
-    each fs (Requesting q ∷ vs) e w s a k = record { first = Requesting q; others = vs; are = refl; answers = tt }
-    each fs (Turn t ∷ vs) e w s a k = record { first = Turn t; others = vs; are = refl; answers = worked-turn r b t o (standing fs vs) w s }
-    each fs (WorkOf k' ∷ vs) e w s a k = absurd (no-work r k' (standing fs vs) w s)
+    each : (u : Waiting) (vs : List Waiting) → Fits o.works (u ∷ vs) → AllWait (standing o.works (u ∷ vs)) → IsStacked (frame.Request (Over r)) (standing o.works (u ∷ vs)) → AnswersTo (Heard b) u o
+    each Freeing vs f w s = (first-frame (frame.Request (Over r)) IsPreparing (prepared-free r) o.works vs f s, worked-awaits r o.works (standing o.works ws) o.pool h (frees-standing o.works ws e))
+    each (Requesting q) vs f w s = tt
+    each (Turn t) vs f w s = worked-turn r b t o (standing o.works vs) w s
+    each (WorkOf k) vs f w s = absurd (no-work r k (standing o.works vs) w s)
+    each _ vs f w s = absurd s.0

@@ -5,6 +5,7 @@ use Rattle.step_machine.specs.Machine.{Move as Do}
 use Rattle.tree_specs.specs.declared.frame.CallFrame.TheVariants.{Asking}
 use Rattle.tree_specs.specs.declared.frame.Frame.TheVariants as frame
 use Rattle.tree_specs.specs.declared.frame.FreeFrame.{FreeFrame}
+use Rattle.tree_specs.specs.declared.frame.FreeFrame.TheVariants.{Preparing, Draining}
 use Rattle.tree_specs.specs.declared.free_step.FreeReply.{FreeReply}
 use Rattle.tree_specs.specs.declared.free_step.FreeStep.{FreeStep}
 use Rattle.tree_specs.specs.declared.free_step.FreeStep.TheVariants.{Ask as AskOf, Prepare, Drain, Done}
@@ -38,12 +39,13 @@ use Rattle.host_core.specs.declared.parts.Parts.{Parts}
 use Rattle.host_core.specs.declared.waiting.Waiting.{Waiting}
 use Rattle.host_core.specs.declared.waiting.Waiting.TheVariants.{Freeing}
 use Rattle.host_core.specs.declared.work.Work.{Work}
+use Rattle.host_core.specs.declared.work.Work.TheVariants.{Receiving, Vacating}
 use Rattle.host_core.specs.Callers.{frame_of}
-use Rattle.host_core.specs.Places.{count_undrained, drains_after, drains_of, owed, work_places, HasPlacesFor}
+use Rattle.host_core.specs.Places.{count_undrained, drains_after, drains_of, owed, work_places}
 use Rattle.host_core.specs.Requests.{WorkReady}
 use Rattle.host_core.specs.Stacks.{work_frame, standing, Fits, FreesFit, other_view, freeing_view}
 use Rattle.host_core.specs.Hosts.{host_view, speaking_view, StepsSilently, IsBetweenSteps}
-use Rattle.host_core.specs.Going.{Answers, ended_view, is_news}
+use Rattle.host_core.specs.Going.{with_objects, ended_view, is_news, Answers, CameFrom, LeadsToEnd}
 use Rattle.host_core.proofs.Draining.{DrainsAfter, moves-fewer, silently-fewer, try-below}
 use Rattle.host_core.proofs.Emptied.{may-forget}
 use Rattle.host_core.proofs.FreeSteps.{step-news, step-asks, step-prepares, step-ends, ends-there}
@@ -121,6 +123,25 @@ news-fit (Drain x) s ws n e = absurd n
 news-fit (Done a) s ws n e = absurd n
 news-fit _ s ws n e = e
 
+-- ---- the work that comes before a freeing
+
+-- a step of this free asks for this work, and waits for it
+pub record ComesBefore (work : Work) (asked : FreeStep) (g : FreeFrame) : Type 0 where
+  pub asks : AsksFor asked g
+  pub waits : IsPreparing (Some g)
+  pub runs : run_for g ≡ frame.Request (work_frame work)
+  pub silent : (p : Pool) → event_of p.ring asked ≡ None
+  pub may : (o : Objects) → MayBeginFree o → WorkReady work o
+  pub few : (rows : List Row) → work_places work + 2 * count_undrained rows ≤ 1 + 2 * drains_after g rows
+
+-- a request is received before
+pub receiving-before : (x : Obj) → ComesBefore (Receiving x) (Prepare x) (Preparing x)
+receiving-before x = record { asks = refl; waits = tt; runs = refl; silent = λ p. refl; may = λ o may. may; few = λ rows. omega arith }
+
+-- a queue has no entries before
+pub vacating-before : (queue : Obj) → ComesBefore (Vacating queue) (Drain queue) (Draining queue)
+vacating-before queue = record { asks = refl; waits = tt; runs = refl; silent = λ p. refl; may = λ o may. may; few = λ rows. omega arith }
+
 -- ---- a host whose innermost free makes a step that tells no event
 
 module _ (old : Parts) (o : Objects) (had : IsBetweenSteps active.Freeing old) (quiet : speaking_view (host_view active.Freeing old) ≡ false)
@@ -192,52 +213,49 @@ module _ (old : Parts) (o : Objects) (had : IsBetweenSteps active.Freeing old) (
   }
 
   -- what comes before the freeing of a request, or of a queue, begins as this work
-  module _ (asked : FreeStep) (g : FreeFrame) (work : Work) (asks : AsksFor asked g) (waits : IsPreparing (Some g)) (runs : run_for g ≡ frame.Request (work_frame work)) (silent : event_of p.ring asked ≡ None) (new : Parts)
+  module _ (asked : FreeStep) (g : FreeFrame) (work : Work) (before : ComesBefore work asked g) (new : Parts)
       (same : new.objects ≡ o) (push : new.waiting.items ≡ old.waiting.items ++ Freeing ∷ []) (steps : Steps (frees_in old.objects) asked (frees_in o)) where
-    pub prepares_onward : StepsSilently (host_view active.Freeing old) (host_view (active.Requesting work) new)
-    prepares_onward =
+    prepares-onward : StepsSilently (host_view active.Freeing old) (host_view (active.Requesting work) new)
+    prepares-onward =
         rw (same, pushed old.waiting.items new.waiting.items Freeing push)
         (shown (StepsSilently (host_view active.Freeing old) (other_view (frame.Request (work_frame work)) o.works (Freeing ∷ ws) o.pool)) asked steps
         (λ f fs e w q k s.
-        let on : StepsSilently (freeing_view (f ∷ fs) ws p) (other_view (frame.Request (work_frame work)) o.works (Freeing ∷ ws) o.pool) = subst (λ (z : Frame). StepsSilently (freeing_view (f ∷ fs) ws p) (other_view z o.works (Freeing ∷ ws) o.pool)) runs (step-prepares f fs ws p (frees_in o) w asked g asks waits silent s).1 in
+        let on : StepsSilently (freeing_view (f ∷ fs) ws p) (other_view (frame.Request (work_frame work)) o.works (Freeing ∷ ws) o.pool) = subst (λ (z : Frame). StepsSilently (freeing_view (f ∷ fs) ws p) (other_view z o.works (Freeing ∷ ws) o.pool)) before.runs (step-prepares f fs ws p (frees_in o) w asked g before.asks before.waits (before.silent p) s).1 in
         subst (λ (fs : List FreeFrame). StepsSilently (freeing_view fs ws p) (other_view (frame.Request (work_frame work)) o.works (Freeing ∷ ws) o.pool)) (sym k) on))
 
     -- the free waits that has asked for it
     first : (fs : List FreeFrame) × (o.works ≡ g ∷ fs)
     first = shown ((fs : List FreeFrame) × (o.works ≡ g ∷ fs)) asked steps
-        (λ f fs e w q k s. (fs, ap (λ (z : OpenFrees). z.works) (step-prepares f fs ws p (frees_in o) w asked g asks waits silent s).0))
+        (λ f fs e w q k s. (fs, ap (λ (z : OpenFrees). z.works) (step-prepares f fs ws p (frees_in o) w asked g before.asks before.waits (before.silent p) s).0))
 
     no-answer : (a : FreeReply) → asked ≡ Done a → ⊥
-    no-answer a e = none (subst (λ (z : FreeStep). AsksFor z g) e asks)
+    no-answer a e = none (subst (λ (z : FreeStep). AsksFor z g) e before.asks)
       where
         none : AsksFor (Done a) g → ⊥
         none n = n
 
-    pub prepares_ready : vec_capacity new.waiting ≡ vec_capacity old.waiting → (MayBeginFree o → WorkReady work o) → ((rows : List Row) → work_places work + 2 * count_undrained rows ≤ 1 + 2 * drains_after g rows) → IsBetweenSteps (active.Requesting work) new
-    prepares_ready cap may few =
+    prepares-ready : vec_capacity new.waiting ≡ vec_capacity old.waiting → IsBetweenSteps (active.Requesting work) new
+    prepares-ready cap =
         let counts : owed new.objects.pool ≡ owed o.pool = ap (λ (z : Objects). owed z.pool) same in
         let n = one-more new push in
         let room = had.places in
         let fewer = requests in
-        let takes = few o.pool.rows in
+        let takes = before.few o.pool.rows in
         let drains : drains_after g o.pool.rows ≤ drains_of old.objects.works p.rows = subst (λ (fs : List FreeFrame). drains_of fs o.pool.rows ≤ drains_of old.objects.works p.rows) first.1 (goes-on-fewer _ asked (frees_in o) no-answer (drained asked steps)) in
         record {
-          whole = prepares_onward.along.whole;
-          fit = marked asked new same push (shown (FreesFit o.works ws) asked steps (λ f fs e w q k s. asks-fit asked g (frees_in o) ws asks (step-fits f fs ws p (frees_in o) w asked e s)));
-          ready = rw same (may (inr (subst (λ (fs : List FreeFrame). IsPreparing (slice_get fs 0)) (sym first.1) waits)));
+          whole = prepares-onward.along.whole;
+          fit = marked asked new same push (shown (FreesFit o.works ws) asked steps (λ f fs e w q k s. asks-fit asked g (frees_in o) ws before.asks (step-fits f fs ws p (frees_in o) w asked e s)));
+          ready = rw same (before.may o (inr (subst (λ (fs : List FreeFrame). IsPreparing (slice_get fs 0)) (sym first.1) before.waits)));
           places = omega (arith, room, fewer, cap, n, counts, takes, drains);
         }
 
-  pub ends_onward : (a : FreeReply) → Steps (frees_in old.objects) (Done a) (frees_in o) → StepsSilently (host_view active.Freeing old) (ended_view (Freed a) (record { waiting = old.waiting; objects = o }))
-  ends_onward a s = shown (StepsSilently (host_view active.Freeing old) (ended_view (Freed a) (record { waiting = old.waiting; objects = o }))) (Done a) s
+  ends-onward : (a : FreeReply) → Steps (frees_in old.objects) (Done a) (frees_in o) → StepsSilently (host_view active.Freeing old) (ended_view (Freed a) (record { waiting = old.waiting; objects = o }))
+  ends-onward a s = shown (StepsSilently (host_view active.Freeing old) (ended_view (Freed a) (record { waiting = old.waiting; objects = o }))) (Done a) s
       (λ f fs e w q k s.
       subst (λ (fs : List FreeFrame). StepsSilently (freeing_view fs ws p) (ended_view (Freed a) (record { waiting = old.waiting; objects = o }))) (sym k) (step-ends f fs ws p (frees_in o) w a s))
 
-  pub ends_fit : (a : FreeReply) → Steps (frees_in old.objects) (Done a) (frees_in o) → Fits o.works ws
-  ends_fit a s = shown (Fits o.works ws) (Done a) s (λ f fs e w q k s. step-fits f fs ws p (frees_in o) w (Done a) e s)
-
-  pub ends_answers : (a : FreeReply) → Steps (frees_in old.objects) (Done a) (frees_in o) → GoesOn (Done a) (frees_in o) → Answers (Freed a) ws o
-  ends_answers a s goes = shown (Answers (Freed a) ws o) (Done a) s
+  ends-answers : (a : FreeReply) → Steps (frees_in old.objects) (Done a) (frees_in o) → GoesOn (Done a) (frees_in o) → Answers (Freed a) ws o
+  ends-answers a s goes = shown (Answers (Freed a) ws o) (Done a) s
       (λ f fs e w q k s.
       let runs : AwaitsRun o.works = awaiting-runs o.works o.pool goes in
       let are : o.works ≡ fs = ends-below f fs ws p (frees_in o) w a s in
@@ -248,6 +266,37 @@ module _ (old : Parts) (o : Objects) (had : IsBetweenSteps active.Freeing old) (
       let fits : Fits fs ws = subst (λ (z : List FreeFrame). Fits z ws) are (step-fits f fs ws p (frees_in o) w (Done a) e s) in
       freed-answers f fs ws a o are runs' fits waits seated)
 
-  -- what waits for it may take its places
-  pub ends_places : (a : FreeReply) → Steps (frees_in old.objects) (Done a) (frees_in o) → HasPlacesFor 2 (record { waiting = old.waiting; objects = o })
-  ends_places a s = let room = had.places in let fewer = requests in let drains = drained (Done a) s in omega (arith, room, fewer, drains)
+  ends-leads : (a : FreeReply) → Steps (frees_in old.objects) (Done a) (frees_in o) → GoesOn (Done a) (frees_in o) → LeadsToEnd (host_view active.Freeing old) (Freed a) (record { waiting = old.waiting; objects = o })
+  ends-leads a s goes =
+      let room = had.places in
+      let fewer = requests in
+      let drains = drained (Done a) s in
+      record {
+        onward = ends-onward a s;
+        may = record {
+          answers = ends-answers a s goes;
+          whole = (ends-onward a s).along.whole;
+          fit = shown (Fits o.works ws) (Done a) s (λ f fs e w q k s. step-fits f fs ws p (frees_in o) w (Done a) e s);
+          places = omega (arith, room, fewer, drains);
+        };
+      }
+
+-- ---- by where a step has come from
+
+-- the work that comes before is at work, and the free waits for it
+module _ {asked : FreeStep} {g : FreeFrame} {work : Work} (before : ComesBefore work asked g) (o : Objects) (parts : Parts) (step : FreeStep) (is : step ≡ asked) (came : CameFrom o step parts)
+    (new : Parts) (same : new.objects ≡ parts.objects) (push : new.waiting.items ≡ parts.waiting.items ++ Freeing ∷ []) where
+  here : CameFrom o asked parts
+  here = subst (λ (t : FreeStep). CameFrom o t parts) is came
+
+  pub before_onward : StepsSilently (host_view active.Freeing (with_objects o parts)) (host_view (active.Requesting work) new)
+  before_onward = prepares-onward (with_objects o parts) parts.objects here.ready here.quiet here.requests asked g work before new same push here.steps
+
+  pub before_ready : vec_capacity new.waiting ≡ vec_capacity parts.waiting → IsBetweenSteps (active.Requesting work) new
+  before_ready cap = prepares-ready (with_objects o parts) parts.objects here.ready here.quiet here.requests asked g work before new same push here.steps cap
+
+-- the free is over
+pub free_leads : (o : Objects) (parts : Parts) (step : FreeStep) (a : FreeReply) → step ≡ Done a → CameFrom o step parts → LeadsToEnd (host_view active.Freeing (with_objects o parts)) (Freed a) parts
+free_leads o parts step a is came =
+    let k = subst (λ (t : FreeStep). CameFrom o t parts) is came in
+    ends-leads (with_objects o parts) parts.objects k.ready k.quiet k.requests a k.steps k.goes_on

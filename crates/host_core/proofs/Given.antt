@@ -38,20 +38,20 @@ use Rattle.host_core.specs.declared.step.Step.{Step}
 use Rattle.host_core.specs.declared.step.Step.TheVariants.{Goes, Ends}
 use Rattle.host_core.specs.declared.turn.Turn.{Turn}
 use Rattle.host_core.specs.Places.{owed, turn_places, HasPlacesFor}
-use Rattle.host_core.specs.Going.{with_objects, Answers, BeginsWith, ended_view, stepped_view, step_places}
+use Rattle.host_core.specs.Going.{with_objects, ended_view, stepped_view, step_places, BeginsWith, LeadsOn, LeadsToEnd, StepAnswers, StepReady}
 use Rattle.host_core.specs.Moves.{move_of, telling}
 use Rattle.host_core.specs.Requests.{QueuesAreKept}
 use Rattle.host_core.specs.Reaches.{is_bytes, IsShortAnswer, short_answer, pool_heard, outside_given}
 use Rattle.host_core.specs.Stacks.{Fits, active_frame, other_view}
 use Rattle.host_core.specs.Steps.{step_of, IsBusy}
 use Rattle.host_core.specs.Turns.{turn_asks, turn_given, frame_looked}
-use Rattle.host_core.specs.Hosts.{host_view, below_in, speaking_view, given_view, called_view, speaks, asked_now, FrameReady, PartsReady, HasRoom, IsActing, IsBetweenSteps, MayTake, TellsSameStory, StepsSilently}
+use Rattle.host_core.specs.Hosts.{host_view, below_in, speaking_view, given_view, called_view, returning_view, speaks, asked_now, FrameReady, PartsReady, HasRoom, IsActing, IsBetweenSteps, MayTake, TellsSameStory, StepsSilently}
 use Rattle.host_core.proofs.Allowed.{refs-go}
 use Rattle.host_core.proofs.Answering.{caller-acts, short-answer}
 use Rattle.host_core.proofs.Calling.{plan-steps, call-room}
 use Rattle.host_core.proofs.Ending.{returned-answers, heard-answers}
 use Rattle.host_core.proofs.Reaching.{heard-step, no-reason}
-use Rattle.host_core.proofs.Stepping.{step_onward}
+use Rattle.host_core.proofs.Stepping.{step_onward, step_leads}
 use Rattle.host_core.proofs.StepsSilently.{along-then}
 use Rattle.host_core.proofs.Telling.{Stands, stands_at}
 
@@ -105,18 +105,11 @@ module _ (q : Ask) (c : Call) (old : Parts) (whole : IsConsistent (called_view q
     replied_speaks = stands.speaks
 
 -- what a call does first leads on
-pub record Begun (q : Ask) (c : Call) (step : Step) (old : Parts) (o : Objects) : Type 0 where
-  pub onward : StepsSilently (called_view q (input.Call c) old) (stepped_view step (record { waiting = old.waiting; objects = o }))
-  pub fit : Fits o.works (reverse old.waiting.items)
-  pub places : HasPlacesFor (step_places step) (record { waiting = old.waiting; objects = o })
-
-pub call_begun : (q : Ask) (c : Call) (o : Objects) (motion : Motion) (parts : Parts) (step : Step) → BeginsWith q c o motion parts → step_of step parts.objects.pool ≡ move_of q motion parts.objects.pool → IsBusy step → step_places step ≤ 3
-    → Begun q c step (with_objects o parts) parts.objects
-call_begun q c o motion parts step b steps busy most = record {
-  onward = call_onward q c (with_objects o parts) b.whole step motion parts.objects steps b.moved b.works;
-  fit = call_fit q c (with_objects o parts) b.whole step motion parts.objects steps b.moved b.works b.fit;
-  places = call_places q c (with_objects o parts) b.whole step motion parts.objects steps b.moved b.works busy most b.room;
-}
+pub call_leads : (q : Ask) (c : Call) (o : Objects) (motion : Motion) (parts : Parts) (step : Step) → BeginsWith q c o motion parts → step_of step parts.objects.pool ≡ move_of q motion parts.objects.pool → IsBusy step → step_places step ≤ 3
+    → StepReady step parts.objects → StepAnswers step (reverse parts.waiting.items) parts.objects → LeadsOn (called_view q (input.Call c) (with_objects o parts)) step parts
+call_leads q c o motion parts step b steps busy most ready answers =
+    step_leads (frame.Call (Doing q c)) step (with_objects o parts) parts.objects b.whole (steps ∙ b.moved) b.works (plan-steps q (planned o.pool c) o.pool).0 b.fit 3 (record { busy = busy; ready = ready; places = most }) answers
+    (call_places q c (with_objects o parts) b.whole step motion parts.objects steps b.moved b.works busy most b.room)
 
 -- a caller is answered with a call, or with what a routine does
 pub caller_acting : (now : Active) (c : Caller) (i : Input) (parts : Parts) → now ≡ active.Caller c → is_none (misfit (asked_now now) i) ≡ true → IsConsistent (given_view now i parts) → IsActing i
@@ -127,11 +120,18 @@ caller_acting now c i parts is fits h =
 -- ---- a routine has returned
 
 module _ (v : ℕ) (old : Parts) (whole : IsConsistent (other_view (frame.Call (Returning v)) old.objects.works (reverse old.waiting.items) old.objects.pool)) where
-  pub return_onward : StepsSilently (other_view (frame.Call (Returning v)) old.objects.works (reverse old.waiting.items) old.objects.pool) (ended_view (Returned v) old)
-  return_onward = step_onward (frame.Call (Returning v)) (Ends (Returned v)) old old.objects whole refl refl refl
-
-  pub return_answers : Fits old.objects.works (reverse old.waiting.items) → HasRoom old → Answers (Returned v) (reverse old.waiting.items) old.objects
-  return_answers fit room = returned-answers v (reverse old.waiting.items) old.objects room.ready fit whole
+  pub return_leads : Fits old.objects.works (reverse old.waiting.items) → HasRoom old → LeadsToEnd (returning_view v old) (Returned v) old
+  return_leads fit room =
+      let onward = step_onward (frame.Call (Returning v)) (Ends (Returned v)) old old.objects whole refl refl refl in
+      record {
+        onward = onward;
+        may = record {
+          answers = returned-answers v (reverse old.waiting.items) old.objects room.ready fit whole;
+          whole = onward.along.whole;
+          fit = fit;
+          places = room.places;
+        };
+      }
 
 -- ---- a turn was told the time, or what is ready
 
@@ -193,19 +193,21 @@ module _ (now : Active) (q : Ask) (i : Input) (old : Parts) (is : now ≡ active
     works : o.works ≡ old.objects.works
     works = ap (λ (z : Objects). z.works) pool
 
-    pub heard_onward : StepsSilently (given_view now i old) (ended_view (Heard b) (record { waiting = old.waiting; objects = o }))
-    heard_onward =
+    onward : StepsSilently (given_view now i old) (ended_view (Heard b) (record { waiting = old.waiting; objects = o }))
+    onward =
         subst (λ (z : Active). StepsSilently (given_view z i old) (ended_view (Heard b) (record { waiting = old.waiting; objects = o }))) (sym is)
         (step_onward (frame.Outside (outside_given q i)) (Ends (Heard b)) old o here over works (ap speaks (heard-step q i old.objects.pool heard_short (no-reason (misfit (Some q) i) fits-here))))
 
-    pub heard_fit : Fits old.objects.works (reverse old.waiting.items) → Fits o.works (reverse old.waiting.items)
-    heard_fit fit = subst (λ (fs : List FreeFrame). Fits fs (reverse old.waiting.items)) (sym works) fit
-
-    pub heard_answers : Fits old.objects.works (reverse old.waiting.items) → Answers (Heard b) (reverse old.waiting.items) o
-    heard_answers fit = heard-answers (outside_given q i) b old.objects.works (reverse old.waiting.items) o fit here.sound.waiting here.seated
-
-    pub heard_places : HasRoom old → HasPlacesFor 1 (record { waiting = old.waiting; objects = o })
-    heard_places room =
+    pub heard_leads : Fits old.objects.works (reverse old.waiting.items) → HasRoom old → LeadsToEnd (given_view now i old) (Heard b) (record { waiting = old.waiting; objects = o })
+    heard_leads fit room =
         let places = room.places in
         let counts = ap (λ (z : Objects). owed z.pool) pool ∙ heard-owed i old.objects.pool in
-        omega (arith, places, counts)
+        record {
+          onward = onward;
+          may = record {
+            answers = heard-answers (outside_given q i) b old.objects.works (reverse old.waiting.items) o fit here.sound.waiting here.seated;
+            whole = onward.along.whole;
+            fit = subst (λ (fs : List FreeFrame). Fits fs (reverse old.waiting.items)) (sym works) fit;
+            places = omega (arith, places, counts);
+          };
+        }

@@ -35,9 +35,9 @@ use Rattle.host_core.specs.declared.work.Work.TheVariants as work
 use Rattle.host_core.specs.Requests.{WorkReady, ErrandReady}
 use Rattle.host_core.specs.Stacks.{waiting_frame, work_frame, active_frame, answer_of, standing, Fits, FreesFit, other_view, freeing_view}
 use Rattle.host_core.specs.Steps.{IsOther, IsWaiter}
-use Rattle.host_core.specs.Places.{count_undrained, drains_of, owed, places, errand_places, turn_places, work_places, HasPlacesFor}
+use Rattle.host_core.specs.Places.{count_undrained, drains_of, owed, places, errand_places, turn_places, work_places}
 use Rattle.host_core.specs.Hosts.{host_view, moved, FrameReady, PartsReady, TellsSameStory, IsBetweenSteps}
-use Rattle.host_core.specs.Going.{AnswersTo, Answers, resumed_works, answer_places, ended_view}
+use Rattle.host_core.specs.Going.{AnswersTo, Answers, resumed_works, answer_places, ended_view, MayEnd}
 use Rattle.host_core.proofs.Draining.{TryBelow, changed-most, without-fewer, silently-fewer, try-below}
 use Rattle.host_core.proofs.Emptied.{may-forget}
 use Rattle.host_core.proofs.StepsSilently.{stays}
@@ -63,13 +63,21 @@ prepared_begins a o new r b = subst (λ (z : List FreeFrame). Begins z o.pool (f
     each (Draining x ∷ fs) r = refl
     each (f ∷ fs) r = absurd r
 
+-- ---- the innermost of the works that wait
+
+answers-popped : (a : Answer) (w : Waiting) (old new : List Waiting) (o : Objects) → Answers a (reverse old) o → old ≡ new ++ w ∷ [] → AnswersTo a w o
+answers-popped a w old new o r e =
+    let same : r.first ∷ r.others ≡ w ∷ reverse new = sym r.are ∙ pushed new old w e in
+    let first : r.first ≡ w = cc in
+    subst (λ (z : Waiting). AnswersTo a z o) first r.answers
+
 -- ---- whoever waited
 
 one-fewer : (old new : List Waiting) (w : Waiting) → old ≡ new ++ w ∷ [] → length old ≡ length new + 1
 one-fewer old new w e = ap length e ∙ length-append new (w ∷ [])
 
 module _ (a : Answer) (w : Waiting) (next : Active) (old new : Parts) (waits : IsWaiter w) (other : IsOther next) (popped : old.waiting.items ≡ new.waiting.items ++ w ∷ [])
-    (same : new.objects ≡ old.objects) (resumed : active_frame next ≡ resume (waiting_frame w) (answer_of a)) (whole : IsConsistent (ended_view a old)) where
+    (same : new.objects ≡ old.objects) (resumed : active_frame next ≡ resume (waiting_frame w) (answer_of a)) (may : MayEnd a old) where
   abbrev ws : List Waiting
   ws = reverse new.waiting.items
 
@@ -85,25 +93,47 @@ module _ (a : Answer) (w : Waiting) (next : Active) (old new : Parts) (waits : I
       ∙ sym (other-seen next new.objects.works ws new.objects.pool other)
 
   pub end_along : TellsSameStory (ended_view a old) (host_view next new)
-  end_along = subst (TellsSameStory (ended_view a old)) leads (stays (ended_view a old) whole)
+  end_along = subst (TellsSameStory (ended_view a old)) leads (stays (ended_view a old) may.whole)
 
-  pub end_ready : Fits old.objects.works (reverse old.waiting.items) → PartsReady next new.objects → places next ≤ 1 + answer_places a → HasPlacesFor (answer_places a) old → vec_capacity new.waiting ≡ vec_capacity old.waiting → IsBetweenSteps next new
-  end_ready fit ready few room cap =
-      let fit' : Fits old.objects.works (w ∷ ws) = subst (Fits old.objects.works) turned fit in
+  pub end_ready : PartsReady next new.objects → places next ≤ 1 + answer_places a → vec_capacity new.waiting ≡ vec_capacity old.waiting → IsBetweenSteps next new
+  end_ready ready few cap =
+      let room = may.places in
+      let fit' : Fits old.objects.works (w ∷ ws) = subst (Fits old.objects.works) turned may.fit in
       let fits : Fits new.objects.works ws = subst (λ (o : Objects). Fits o.works ws) (sym same) ((below-waiter old.objects.works w ws waits).2 fit') in
       let n = one-fewer old.waiting.items new.waiting.items w popped in
       let counts : owed new.objects.pool ≡ owed old.objects.pool = ap (λ (o : Objects). owed o.pool) same in
       record {
-        whole = subst IsConsistent leads whole;
+        whole = subst IsConsistent leads may.whole;
         fit = other-fit next new.objects.works ws other fits;
         ready = ready;
         places = has-places next (length new.waiting.items) new.objects (vec_capacity new.waiting) other (omega (arith, few, room, cap, n, counts));
       }
 
+-- what waited is given this answer
+pub end_answers : (a : Answer) (w : Waiting) (old new : Parts) → MayEnd a old → old.waiting.items ≡ new.waiting.items ++ w ∷ [] → AnswersTo a w old.objects
+end_answers a w old new may popped = answers-popped a w old.waiting.items new.waiting.items old.objects may.answers popped
+
 -- ---- the open frees, which waited
 
+-- the places that the open frees may take then
+again-places : (a : Answer) (o : Objects) → AnswersTo a Freeing o → 2 + 2 * drains_of (resumed_works a o.works) o.pool.rows ≤ 1 + answer_places a + 2 * count_undrained o.pool.rows
+again-places (Returned v) o e = each o.works e.0
+  where
+    each : (fs : List FreeFrame) → IsAsked (slice_get fs 0) → 2 + 2 * drains_of (resumed_works (Returned v) fs) o.pool.rows ≤ 5 + 2 * count_undrained o.pool.rows
+    each [] a = absurd a
+    each (Hooked x h ∷ fs) a = let n = changed-most (marked_row Quiet) o.pool.rows x in omega (arith, n)
+    each (f ∷ fs) a = absurd a
+again-places (Heard r) o e = each o.works e.0
+  where
+    each : (fs : List FreeFrame) → IsPreparing (slice_get fs 0) → 2 + 2 * drains_of (resumed_works (Heard r) fs) o.pool.rows ≤ 2 + 2 * count_undrained o.pool.rows
+    each [] i = absurd i
+    each (Preparing x ∷ fs) i = let n = without-fewer o.pool.rows x in omega (arith, n)
+    each (Draining x ∷ fs) i = let n = without-fewer o.pool.rows x in omega (arith, n)
+    each (f ∷ fs) i = absurd i
+again-places _ o e = absurd e
+
 module _ (a : Answer) (old new : Parts) (popped : old.waiting.items ≡ new.waiting.items ++ Freeing ∷ []) (begins : Begins (resumed_works a old.objects.works) old.objects.pool (frees_in new.objects))
-    (whole : IsConsistent (ended_view a old)) (fit : Fits old.objects.works (reverse old.waiting.items)) where
+    (may : MayEnd a old) where
   abbrev free_ws : List Waiting
   free_ws = reverse new.waiting.items
 
@@ -111,7 +141,7 @@ module _ (a : Answer) (old new : Parts) (popped : old.waiting.items ≡ new.wait
   free-turned = pushed new.waiting.items old.waiting.items Freeing popped
 
   free-fits : Fits old.objects.works (Freeing ∷ free_ws)
-  free-fits = subst (Fits old.objects.works) free-turned fit
+  free-fits = subst (Fits old.objects.works) free-turned may.fit
 
   abbrev resumed_frees : OpenFrees
   resumed_frees = record { works = resumed_works a old.objects.works; pool = old.objects.pool }
@@ -128,14 +158,16 @@ module _ (a : Answer) (old new : Parts) (popped : old.waiting.items ≡ new.wait
   pub again_along : TellsSameStory (ended_view a old) (host_view active.Freeing new)
   again_along =
       subst (λ (z : View). TellsSameStory z (host_view active.Freeing new)) (sym free-leads)
-      (silently-along resumed_frees (frees_in new.objects) free_ws begins.moves_on (subst IsConsistent free-leads whole))
+      (silently-along resumed_frees (frees_in new.objects) free_ws begins.moves_on (subst IsConsistent free-leads may.whole))
 
-  pub again_ready : IsAtWork (frees_in new.objects) → speaking (frees_in new.objects) ≡ true → new.objects.pool.requests ≡ old.objects.pool.requests → 2 + 2 * drains_of (resumed_works a old.objects.works) old.objects.pool.rows ≤ 1 + answer_places a + 2 * count_undrained old.objects.pool.rows → HasPlacesFor (answer_places a) old → vec_capacity new.waiting ≡ vec_capacity old.waiting
+  pub again_ready : IsAtWork (frees_in new.objects) → speaking (frees_in new.objects) ≡ true → new.objects.pool.requests ≡ old.objects.pool.requests → vec_capacity new.waiting ≡ vec_capacity old.waiting
       → IsBetweenSteps active.Freeing new
-  again_ready at settled requests few room cap =
+  again_ready at settled requests cap =
+      let few = again-places a old.objects (end_answers a Freeing old new may popped) in
+      let room = may.places in
       let n = one-fewer old.waiting.items new.waiting.items Freeing popped in
       let counts = ap count_unreceived requests in
-      let below : TryBelow (resumed_works a old.objects.works) = tries (resumed_works a old.objects.works) (subst IsConsistent free-leads whole) in
+      let below : TryBelow (resumed_works a old.objects.works) = tries (resumed_works a old.objects.works) (subst IsConsistent free-leads may.whole) in
       let fewer = (silently-fewer resumed_frees (frees_in new.objects) begins.moves_on below).0 in
       record {
         whole = again_along.whole;
@@ -184,29 +216,6 @@ work_ready (Returned v) (work.Called Cancel x handler errand) r o e k = let w = 
 work_ready (Returned v) (work.Called _ x handler errand) r o e k = let w = over-ready r _ o k in let few = w.1 in (w.0, omega (arith, few))
 work_ready _ _ r o e k = absurd e
 
-pub again_places : (a : Answer) (o : Objects) → AnswersTo a Freeing o → 2 + 2 * drains_of (resumed_works a o.works) o.pool.rows ≤ 1 + answer_places a + 2 * count_undrained o.pool.rows
-again_places (Returned v) o e = each o.works e.0
-  where
-    each : (fs : List FreeFrame) → IsAsked (slice_get fs 0) → 2 + 2 * drains_of (resumed_works (Returned v) fs) o.pool.rows ≤ 5 + 2 * count_undrained o.pool.rows
-    each [] a = absurd a
-    each (Hooked x h ∷ fs) a = let n = changed-most (marked_row Quiet) o.pool.rows x in omega (arith, n)
-    each (f ∷ fs) a = absurd a
-again_places (Heard r) o e = each o.works e.0
-  where
-    each : (fs : List FreeFrame) → IsPreparing (slice_get fs 0) → 2 + 2 * drains_of (resumed_works (Heard r) fs) o.pool.rows ≤ 2 + 2 * count_undrained o.pool.rows
-    each [] i = absurd i
-    each (Preparing x ∷ fs) i = let n = without-fewer o.pool.rows x in omega (arith, n)
-    each (Draining x ∷ fs) i = let n = without-fewer o.pool.rows x in omega (arith, n)
-    each (f ∷ fs) i = absurd i
-again_places _ o e = absurd e
-
--- ---- the innermost of the works that wait
-
+-- what was taken is what stood at the end
 pub popped_one : (old new : List Waiting) (x w : Waiting) → old ≡ new ++ x ∷ [] → x ≡ w → old ≡ new ++ w ∷ []
 popped_one old new x w e is = e ∙ ap (λ (z : Waiting). new ++ z ∷ []) is
-
-pub answers_popped : (a : Answer) (w : Waiting) (old new : List Waiting) (o : Objects) → Answers a (reverse old) o → old ≡ new ++ w ∷ [] → AnswersTo a w o
-answers_popped a w old new o r e =
-    let same : r.first ∷ r.others ≡ w ∷ reverse new = sym r.are ∙ pushed new old w e in
-    let first : r.first ≡ w = cc in
-    subst (λ (z : Waiting). AnswersTo a z o) first r.answers

@@ -1,11 +1,12 @@
 -- A step that tells nothing, by the parts of a host.
-use Rattle.std.proofs.Common.{◌≡◌, ◌≤◌, List, reverse, Option, Some, None, is_some, true, false, refl, sym, ◌∙◌, ap, subst, arith}
+use Rattle.std.proofs.Common.{◌≡◌, ℕ, ◌≤◌, List, reverse, Option, Some, None, is_some, true, false, refl, sym, ◌∙◌, ap, subst, arith}
 use Rattle.step_machine.specs.Machine.{Move}
 use Rattle.tree_specs.specs.declared.frame.Answer.{Answer as Answered}
 use Rattle.tree_specs.specs.declared.frame.Frame.{Frame}
 use Rattle.tree_specs.specs.declared.frame.Frame.TheVariants as frame
 use Rattle.tree_specs.specs.declared.frame.FreeFrame.{FreeFrame}
 use Rattle.tree_specs.specs.declared.frame.TurnFrame.{TurnFrame}
+use Rattle.tree_specs.specs.declared.question.Ask.{Ask}
 use Rattle.tree_specs.specs.Events.Queues.{Head}
 use Rattle.tree_specs.specs.Events.Queues.{next_of as next_of_queue}
 use Rattle.tree_specs.specs.Events.Requests.{note_of, is_unreceived}
@@ -23,6 +24,7 @@ use Rattle.host_core.specs.declared.answer.Answer.TheVariants.{Freed, Returned, 
 use Rattle.host_core.specs.declared.parts.Parts.{Parts}
 use Rattle.host_core.specs.declared.step.Step.{Step}
 use Rattle.host_core.specs.declared.step.Step.TheVariants.{Ends}
+use Rattle.host_core.specs.declared.turn.Turn.{Turn}
 use Rattle.host_core.specs.declared.waiting.Waiting.{Waiting}
 use Rattle.host_core.specs.declared.work.Work.{Work}
 use Rattle.host_core.specs.declared.work.Work.TheVariants as work
@@ -31,8 +33,8 @@ use Rattle.host_core.specs.Stacks.{standing, Fits, other_view, work_frame}
 use Rattle.host_core.specs.Steps.{step_of}
 use Rattle.host_core.specs.Turns.{MayTurn}
 use Rattle.host_core.specs.Places.{count_undrained, turn_takes, work_places, HasPlacesFor}
-use Rattle.host_core.specs.Hosts.{host_view, below_in, moved, next_of, speaking_view, IsBetweenSteps, StepsSilently}
-use Rattle.host_core.specs.Going.{stepped_view, turning, IsTurnStep, IsWorkStep, StepAnswers, GoesWell, step_places}
+use Rattle.host_core.specs.Hosts.{host_view, below_in, moved, next_of, speaking_view, IsBetweenSteps, PartsReady, StepsSilently}
+use Rattle.host_core.specs.Going.{stepped_view, turning, IsTurnStep, IsWorkStep, StepAnswers, GoesWell, LeadsOn, step_places}
 use Rattle.host_core.specs.Requests.{MayWork, WorkReady}
 use Rattle.host_core.proofs.StepPools.{pool_in, pool-left, turn_speaking, turn-room, work_keeps}
 use Rattle.host_core.proofs.StepsSilently.{onward}
@@ -55,6 +57,19 @@ module _ (f : Frame) (step : Step) (old : Parts) (o : Objects) (whole : IsConsis
 
   pub step_onward : speaking_view before ≡ false → StepsSilently before (stepped_view step after)
   step_onward quiet = onward before (stepped_view step after) whole quiet leads
+
+  pub step_leads : speaking_view before ≡ false → Fits old.objects.works (reverse old.waiting.items) → (most : ℕ) → GoesWell most step o → StepAnswers step (reverse old.waiting.items) o → HasPlacesFor (step_places step) after → LeadsOn before step after
+  step_leads quiet fit most goes answers places = record {
+    onward = step_onward quiet;
+    may = record {
+      busy = goes.busy;
+      whole = (step_onward quiet).along.whole;
+      fit = subst (λ (fs : List FreeFrame). Fits fs (reverse old.waiting.items)) (sym works) fit;
+      ready = goes.ready;
+      answers = answers;
+      places = places;
+    };
+  }
 
 -- ---- whoever waits for a turn, or for the work of a request
 
@@ -94,50 +109,54 @@ may_work _ fs ws o quiet r = tt
 
 -- ---- what a quiet step leads to
 
--- it goes on with what it may want
-pub record GoesOn (now : Active) (step : Step) (old : Parts) (o : Objects) : Type 0 where
-  pub onward : StepsSilently (host_view now old) (stepped_view step (record { waiting = old.waiting; objects = o }))
-  pub fit : Fits o.works (reverse old.waiting.items)
-  pub answers : StepAnswers step (reverse old.waiting.items) o
-  pub places : HasPlacesFor (step_places step) (record { waiting = old.waiting; objects = o })
-
 -- a turn at work that tells and asks nothing
-module _ (f : TurnFrame) (old : Parts) (b : IsBetweenSteps (turning f) old) (quiet : speaking_view (host_view (turning f) old) ≡ false) where
-  pub turn_may : MayTurn f old.objects.pool
-  turn_may = may_turn f (below_in old) old.objects.pool b.whole (sym (turn_speaking f old.objects.pool) ∙ quiet)
+module _ (now : Active) (t : Turn) (old : Parts) (at_work : now ≡ active.Turning t) (had : IsBetweenSteps now old) (silent : speaking_view (host_view now old) ≡ false) where
+  abbrev f : TurnFrame
+  f = t.frame
 
-  pub turn_goes : (step : Step) (o : Objects) → step_of step o.pool ≡ turn_step f old.objects.pool → GoesWell (turn_takes f) step o → IsTurnStep step → o ≡ record old.objects { pool = o.pool } → o.pool.requests ≡ old.objects.pool.requests → GoesOn (turning f) step old o
-  turn_goes step o same goes ends rest requests =
+  is : now ≡ turning f
+  is = at_work ∙ ap (λ (q : Option Ask). active.Turning (record { frame = f; question = q })) (subst (λ (z : Active). PartsReady z old.objects) at_work had.ready).question
+
+  turn-between : IsBetweenSteps (turning f) old
+  turn-between = subst (λ (z : Active). IsBetweenSteps z old) is had
+
+  turn-quiet : speaking_view (host_view (turning f) old) ≡ false
+  turn-quiet = subst (λ (z : Active). speaking_view (host_view z old) ≡ false) is silent
+
+  pub turn_may : MayTurn f old.objects.pool
+  turn_may = may_turn f (below_in old) old.objects.pool turn-between.whole (sym (turn_speaking f old.objects.pool) ∙ turn-quiet)
+
+  pub turn_leads : (step : Step) (o : Objects) → step_of step o.pool ≡ turn_step f old.objects.pool → GoesWell (turn_takes f) step o → IsTurnStep step → o ≡ record old.objects { pool = o.pool } → o.pool.requests ≡ old.objects.pool.requests
+      → LeadsOn (host_view now old) step (record { waiting = old.waiting; objects = o })
+  turn_leads step o same goes ends rest requests =
       let works : o.works ≡ old.objects.works = ap (λ (z : Objects). z.works) rest in
-      let room = b.places in
+      let room = turn-between.places in
       let few = goes.places in
       let counts = ap count_unreceived requests in
       let pool : o.pool ≡ pool_in (turn_step f old.objects.pool) = sym (pool-left step o.pool) ∙ ap pool_in same in
       let same-rows = ap (λ (z : Pool). count_undrained z.rows) pool in
       let kept = turn-room f old.objects.pool in
-      record {
-        onward = step_onward (frame.Turn f) step old o b.whole same works quiet;
-        fit = subst (λ (fs : List FreeFrame). Fits fs (reverse old.waiting.items)) (sym works) b.fit;
-        answers = turn_answers step f old.objects.works (reverse old.waiting.items) old.objects.pool o ends b.fit b.whole;
-        places = omega (arith, room, few, counts, same-rows, kept);
-      }
+      subst (λ (z : Active). LeadsOn (host_view z old) step (record { waiting = old.waiting; objects = o })) (sym is)
+      (step_leads (frame.Turn f) step old o turn-between.whole same works turn-quiet turn-between.fit (turn_takes f) goes (turn_answers step f old.objects.works (reverse old.waiting.items) old.objects.pool o ends turn-between.fit turn-between.whole) (omega (arith, room, few, counts, same-rows, kept)))
 
 -- the work of a request
-module _ (w : Work) (old : Parts) (b : IsBetweenSteps (active.Requesting w) old) (quiet : speaking_view (host_view (active.Requesting w) old) ≡ false) where
-  pub work_may : MayWork w old.objects
-  work_may = may_work w old.objects.works (reverse old.waiting.items) old.objects quiet b.ready
+module _ (now : Active) (w : Work) (old : Parts) (is : now ≡ active.Requesting w) (had : IsBetweenSteps now old) (silent : speaking_view (host_view now old) ≡ false) where
+  work-between : IsBetweenSteps (active.Requesting w) old
+  work-between = subst (λ (z : Active). IsBetweenSteps z old) is had
 
-  pub work_goes : (step : Step) (o : Objects) → step_of step o.pool ≡ request_step (work_frame w) old.objects.pool → GoesWell (work_places w) step o → IsWorkStep w step → o ≡ record old.objects { pool = o.pool; ready = o.ready }
-      → count_unreceived o.pool.requests ≤ count_unreceived old.objects.pool.requests → GoesOn (active.Requesting w) step old o
-  work_goes step o same goes ends rest requests =
+  work-quiet : speaking_view (host_view (active.Requesting w) old) ≡ false
+  work-quiet = subst (λ (z : Active). speaking_view (host_view z old) ≡ false) is silent
+
+  pub work_may : MayWork w old.objects
+  work_may = may_work w old.objects.works (reverse old.waiting.items) old.objects work-quiet work-between.ready
+
+  pub work_leads : (step : Step) (o : Objects) → step_of step o.pool ≡ request_step (work_frame w) old.objects.pool → GoesWell (work_places w) step o → IsWorkStep w step → o ≡ record old.objects { pool = o.pool; ready = o.ready }
+      → count_unreceived o.pool.requests ≤ count_unreceived old.objects.pool.requests → LeadsOn (host_view now old) step (record { waiting = old.waiting; objects = o })
+  work_leads step o same goes ends rest requests =
       let works : o.works ≡ old.objects.works = ap (λ (z : Objects). z.works) rest in
-      let room = b.places in
+      let room = work-between.places in
       let few = goes.places in
       let pool : o.pool ≡ pool_in (request_step (work_frame w) old.objects.pool) = sym (pool-left step o.pool) ∙ ap pool_in same in
       let same-rows = ap count_undrained (ap (λ (z : Pool). z.rows) pool ∙ (work_keeps w old.objects.pool).1) in
-      record {
-        onward = step_onward (frame.Request (work_frame w)) step old o b.whole same works quiet;
-        fit = subst (λ (fs : List FreeFrame). Fits fs (reverse old.waiting.items)) (sym works) b.fit;
-        answers = work_answers step w old.objects.works (reverse old.waiting.items) old.objects.pool o ends b.fit works same b.whole;
-        places = omega (arith, room, few, requests, same-rows);
-      }
+      subst (λ (z : Active). LeadsOn (host_view z old) step (record { waiting = old.waiting; objects = o })) (sym is)
+      (step_leads (frame.Request (work_frame w)) step old o work-between.whole same works work-quiet work-between.fit (work_places w) goes (work_answers step w old.objects.works (reverse old.waiting.items) old.objects.pool o ends work-between.fit works same work-between.whole) (omega (arith, room, few, requests, same-rows)))

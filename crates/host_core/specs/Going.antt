@@ -36,8 +36,8 @@ use Rattle.host_core.specs.declared.motion.Motion.{Motion}
 use Rattle.host_core.specs.Callers.{remembers}
 use Rattle.host_core.specs.Moves.{move_of, ReadyFor}
 use Rattle.host_core.specs.Reaches.{remembered}
-use Rattle.host_core.specs.Hosts.{host_view, called_view, below_in, moved, speaking_view, PartsReady, HasRoom, IsBetweenSteps}
-use Rattle.host_core.specs.Places.{places}
+use Rattle.host_core.specs.Hosts.{host_view, called_view, below_in, moved, speaking_view, PartsReady, HasRoom, IsBetweenSteps, StepsSilently}
+use Rattle.host_core.specs.Places.{places, HasPlacesFor}
 use Rattle.host_core.specs.Stacks.{active_frame, answer_of, Fits}
 use Rattle.host_core.specs.Steps.{step_of, IsBusy}
 use Rattle.host_core.specs.Turns.{turn_asks}
@@ -90,6 +90,18 @@ pub record Answers (a : Answer) (ws : List Waiting) (o : Objects) : Type 0 where
 abbrev pub ended_view : Answer → Parts → View
 ended_view a parts = (moved (Do.Done (answer_of a) parts.objects.pool) (below_in parts)).1
 
+-- what is over may lead on: what waits for it can be given this answer
+pub record MayEnd (a : Answer) (parts : Parts) : Type 0 where
+  pub answers : Answers a (reverse parts.waiting.items) parts.objects
+  pub whole : IsConsistent (ended_view a parts)
+  pub fit : Fits parts.objects.works (reverse parts.waiting.items)
+  pub places : HasPlacesFor (answer_places a) parts
+
+-- from this view, telling nothing, a work came to its end, and may end
+pub record LeadsToEnd (from : View) (a : Answer) (parts : Parts) : Type 0 where
+  pub onward : StepsSilently from (ended_view a parts)
+  pub may : MayEnd a parts
+
 -- ---- what a step may want
 
 abbrev pub StepReady : Step → Objects → Type 0
@@ -112,6 +124,20 @@ step_places (Ends a) = answer_places a
 abbrev pub StepAnswers : Step → List Waiting → Objects → Type 0
 StepAnswers (Ends a) ws o = Answers a ws o
 StepAnswers step ws o = Unit {0}
+
+-- a step may be gone on with: what it leads to has all that it may want
+pub record MayGoOn (step : Step) (parts : Parts) : Type 0 where
+  pub busy : IsBusy step
+  pub whole : IsConsistent (stepped_view step parts)
+  pub fit : Fits parts.objects.works (reverse parts.waiting.items)
+  pub ready : StepReady step parts.objects
+  pub answers : StepAnswers step (reverse parts.waiting.items) parts.objects
+  pub places : HasPlacesFor (step_places step) parts
+
+-- from this view, telling nothing, a step was made, and may be gone on with
+pub record LeadsOn (from : View) (step : Step) (parts : Parts) : Type 0 where
+  pub onward : StepsSilently from (stepped_view step parts)
+  pub may : MayGoOn step parts
 
 -- a turn ends with its reply alone, and the work of a request once it is over
 abbrev pub IsTurnStep : Step → Type 0

@@ -99,11 +99,9 @@ pub record IsBetweenSteps (now : Active) (parts : Parts) : Type 0 where
 
 -- an event or a question comes with the next step
 abbrev pub speaks : Move Frame Answer Pool Item → Bool
-speaks (Do.Done a p) = false
-speaks (Do.Go f p) = false
 speaks (Do.Emit e f p) = true
 speaks (Do.Wait q f p) = true
-speaks (Do.Call g f p) = false
+speaks _ = false
 
 abbrev pub event_in : Item → Option Event
 event_in (Told e) = Some e

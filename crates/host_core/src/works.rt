@@ -1,10 +1,6 @@
 //! The open works, step after step: callers, turns, frees and the works of requests, each on the one that waits for it.
-ghost use Rattle.std.specs.Prelude.{◌≡◌, ◌*◌, true, false, reverse, None, Some};
-ghost use Rattle.tree_specs.specs.Invariants.Consistent.{IsConsistent};
-ghost use Rattle.host_core.specs.Stacks.{Fits};
-ghost use Rattle.host_core.specs.Steps.{IsBusy};
-ghost use Rattle.host_core.specs.Going.{stepped_view, ended_view, turning, with_objects, answer_places, step_places, is_news, Answers, StepReady, StepAnswers, AnswersTo, CameFrom, resumed_works};
-ghost use Rattle.host_core.specs.Places.{HasPlacesFor};
+ghost use Rattle.std.specs.Prelude.{◌≡◌, ◌*◌, true, false};
+ghost use Rattle.host_core.specs.Going.{stepped_view, ended_view, with_objects, is_news, AnswersTo, CameFrom, LeadsOn, MayEnd, MayGoOn, resumed_works};
 ghost use Rattle.destructors.specs.Frees.{speaking, Begins};
 ghost use Rattle.destructors.specs.Works.{IsAtWork};
 ghost use Rattle.object_pool.specs.Objects.{Objects as ObjectsData, frees_in};
@@ -22,7 +18,7 @@ use crate::waiting::{Waiting, turn_resumed};
 use crate::work::Work;
 use crate::working::work_step;
 use object_pool::{ObjectPool, Progress};
-use tree_specs::{Ask, FreeStep, TurnFrame};
+use tree_specs::FreeStep;
 
 /// The open frees have waited for this: the innermost goes on, and is at work.
 #[tactic(auto, using(crate::proofs::Resuming::returned_begins, crate::proofs::Resuming::prepared_begins))]
@@ -42,10 +38,7 @@ fn free_again(answer: Answer, objects: &mut ObjectPool)
 
 /// The innermost work is over. The one below it goes on with its answer.
 pub fn end(answer: Answer, parts: &mut Parts) -> Active
-    requires answers { Answers answer (reverse parts.old.waiting.items) parts.old.objects }
-    requires whole { IsConsistent (ended_view answer parts.old) }
-    requires fit { Fits parts.old.objects.works (reverse parts.old.waiting.items) }
-    requires places { HasPlacesFor (answer_places answer) parts.old }
+    requires { MayEnd answer parts.old }
     ensures along { TellsSameStory (ended_view answer parts.old) (host_view result parts.new) }
     ensures ready { IsBetweenSteps result parts.new }
 {
@@ -68,12 +61,7 @@ pub fn end(answer: Answer, parts: &mut Parts) -> Active
 
 /// What a step leads to is at work from then on.
 pub fn go_on(step: Step, parts: &mut Parts) -> Active
-    requires busy { IsBusy step }
-    requires whole { IsConsistent (stepped_view step parts.old) }
-    requires fit { Fits parts.old.objects.works (reverse parts.old.waiting.items) }
-    requires ready { StepReady step parts.old.objects }
-    requires answers { StepAnswers step (reverse parts.old.waiting.items) parts.old.objects }
-    requires places { HasPlacesFor (step_places step) parts.old }
+    requires { MayGoOn step parts.old }
     ensures along { TellsSameStory (stepped_view step parts.old) (host_view result parts.new) }
     ensures ready { IsBetweenSteps result parts.new }
 {
@@ -155,27 +143,30 @@ fn quiet_free(now: &mut Active, parts: &mut Parts)
     *now = leave_free(step, parts);
 }
 
-/// What comes next of a turn where this tells and asks nothing.
-#[inline(never)]
-fn quiet_turn(now: &mut Active, frame: TurnFrame, parts: &mut Parts)
-    requires ready { IsBetweenSteps (turning frame) parts.old }
-    requires quiet { speaking_view (host_view (turning frame) parts.old) ≡ false }
-    ensures onward { StepsSilently (host_view (turning frame) parts.old) (host_view now.new parts.new) }
-    ensures ready { IsBetweenSteps now.new parts.new }
+/// What a turn, or the work of a request or of a queue, does next where this tells and asks nothing.
+fn quiet_move(active: &Active, parts: &mut Parts) -> Step
+    requires ready { IsBetweenSteps active.now parts.old }
+    requires quiet { speaking_view (host_view active.now parts.old) ≡ false }
+    requires no_free { active.now ≡ Active.Freeing → ⊥ }
+    ensures { LeadsOn (host_view active.now parts.old) result parts.new }
 {
-    let step = turn_step(frame, &mut parts.objects);
-    *now = go_on(step, parts);
+    match active {
+        Active::Turning(turn) => turn_step(turn.frame, &mut parts.objects),
+        Active::Requesting(work) => work_step(*work, &mut parts.objects),
+        _ => unreachable!(),
+    }
 }
 
-/// What comes next of the work of a request or of a queue where this tells nothing.
+/// What comes next of what is no free where this tells and asks nothing.
 #[inline(never)]
-fn quiet_work(now: &mut Active, work: Work, parts: &mut Parts)
-    requires ready { IsBetweenSteps (Active.Requesting work) parts.old }
-    requires quiet { speaking_view (host_view (Active.Requesting work) parts.old) ≡ false }
-    ensures onward { StepsSilently (host_view (Active.Requesting work) parts.old) (host_view now.new parts.new) }
+fn quiet_work(now: &mut Active, parts: &mut Parts)
+    requires ready { IsBetweenSteps now.old parts.old }
+    requires quiet { speaking_view (host_view now.old parts.old) ≡ false }
+    requires no_free { now.old ≡ Active.Freeing → ⊥ }
+    ensures onward { StepsSilently (host_view now.old parts.old) (host_view now.new parts.new) }
     ensures ready { IsBetweenSteps now.new parts.new }
 {
-    let step = work_step(work, &mut parts.objects);
+    let step = quiet_move(now, parts);
     *now = go_on(step, parts);
 }
 
@@ -188,15 +179,7 @@ fn quiet_step(now: &mut Active, parts: &mut Parts)
 {
     match now {
         Active::Freeing => quiet_free(now, parts),
-        Active::Turning(turn) => {
-            let frame = turn.frame;
-            quiet_turn(now, frame, parts);
-        }
-        Active::Requesting(work) => {
-            let work = *work;
-            quiet_work(now, work, parts);
-        }
-        _ => unreachable!(),
+        _ => quiet_work(now, parts),
     }
 }
 

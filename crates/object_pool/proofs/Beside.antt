@@ -1,12 +1,13 @@
 -- Open frees go on alike whatever waits for its turn beside the rows; an object that leaves its owner waits no more.
 use Rattle.std.proofs.Common.{◌≡◌, ℕ, List, [], ◌∷◌, Option, Some, None, nat_eq, refl, ap, ◌∙◌}
 use Rattle.step_machine.specs.Machine.{Move as Do}
+use Rattle.tree_specs.specs.declared.kind.Kind.{Kind}
 use Rattle.tree_specs.specs.declared.object.Obj.{Obj}
 use Rattle.tree_specs.specs.declared.object.Owner.{Owner}
 use Rattle.tree_specs.specs.declared.object.Owner.TheVariants.{Of}
 use Rattle.tree_specs.specs.declared.row.Row.{Row}
 use Rattle.tree_specs.specs.declared.row.Mark.{Mark}
-use Rattle.tree_specs.specs.declared.row.Mark.TheVariants as mark
+use Rattle.tree_specs.specs.declared.row.Mark.TheVariants.{Quiet}
 use Rattle.tree_specs.specs.declared.frame.FreeFrame.{FreeFrame}
 use Rattle.tree_specs.specs.declared.frame.FreeFrame.TheVariants.{Unlinking, Releasing, Giving, Beginning, Hooked, Judged, Preparing, Draining, Prepared, Dooming, Leaving, Looping, FreeingChild, AfterChild, Ending}
 use Rattle.tree_specs.specs.declared.frame.Purpose.{Purpose}
@@ -17,7 +18,7 @@ use Rattle.tree_specs.specs.declared.free_step.FreeStep.{FreeStep}
 use Rattle.tree_specs.specs.declared.free_step.FreeStep.TheVariants.{Ask, Prepare, Drain, Done}
 use Rattle.tree_specs.specs.Tree.Targets.{newest_ref}
 use Rattle.tree_specs.specs.Tree.Pool.{Pool, row_of, is_below, owner_of, target_at, newest_ref_of, is_inside, first_kid}
-use Rattle.tree_specs.specs.Machine.FreeTable.{FreeMove, free_step, begin_step, refs_step, drop_step, unlink_step, release_step, judge_step, loop_step, child_step, hand_on_step, tried_step}
+use Rattle.tree_specs.specs.Machine.FreeTable.{FreeMove, free_step, begin_by, begin_step, refs_step, drop_step, unlink_step, release_step, judge_step, loop_step, child_step, hand_on_step, tried_step}
 use Rattle.tree_specs.specs.Machine.Profiles.{Phase}
 use Rattle.tree_specs.specs.Invariants.Sound.{Footing, FreeRests, Tries, claims, footing}
 use Rattle.tree_specs.specs.Invariants.Sound.Footing.{OnFree, OnCall, OnDropping, AtBottom}
@@ -51,26 +52,19 @@ abbrev beside_move : Upcoming → FreeMove → FreeMove
 beside_move u m = with_pool (beside (after (told_in m) u)) m
 
 module _ (events : Upcoming) where
-  begin-beside : (x : Obj) (p : Pool) (o : Option Row) → begin_step x o (beside events p) ≡ beside_move events (begin_step x o p)
-  begin-beside x p None = refl
-  begin-beside x p (Some r) = each r.mark refl
-    where
-      each : (m : Mark) → r.mark ≡ m → begin_step x (Some r) (beside events p) ≡ beside_move events (begin_step x (Some r) p)
-      each mark.Quiet e = by_test (is_request r.kind)
-          (λ t. rw (e, t) refl)
-          (λ t. by_test (is_queue r.kind)
-          (λ u. rw (e, t, u) refl)
-          (λ u. by_test (nat_eq r.hook 0) (λ h. rw (e, t, u, h) refl) (λ h. rw (e, t, u, h) refl)))
-      each mark.Asked e = rw e refl
-      each mark.Busy e = rw e refl
-      each mark.Doomed e = rw e refl
-      each (mark.Dying former) e = rw e refl
+  begin-beside : (x : Obj) (k : Kind) (h : ℕ) (m : Mark) (p : Pool) → begin_by x k h m (beside events p) ≡ beside_move events (begin_by x k h m p)
+  begin-beside x k h Quiet p = by_test (is_request k) (λ t. rw t refl) (λ t. by_test (is_queue k) (λ u. rw (t, u) refl) (λ u. rw (t, u) (by_test (nat_eq h 0) (λ v. rw v refl) (λ v. rw v refl))))
+  begin-beside x k h _ p = refl
+
+  found-beside : (x : Obj) (p : Pool) (o : Option Row) → begin_step x o (beside events p) ≡ beside_move events (begin_step x o p)
+  found-beside x p None = refl
+  found-beside x p (Some r) = begin-beside x r.kind r.hook r.mark p
 
   drop-beside : (x r : Obj) (p : Pool) → drop_step x r (beside events p) ≡ beside_move events (drop_step x r p)
   drop-beside x r p = by_test (is_inside p.rows (Of r) (Of x)) (λ t. rw t refl) (λ t. rw t refl)
 
   refs-beside : (x : Obj) (p : Pool) (o : Option Obj) → refs_step x o (beside events p) ≡ beside_move events (refs_step x o p)
-  refs-beside x p None = begin-beside x p (row_of p.rows x)
+  refs-beside x p None = found-beside x p (row_of p.rows x)
   refs-beside x p (Some r) = drop-beside x r p
 
   unlink-beside : (x : Obj) (p : Pool) (o : Option Obj) → unlink_step x o (beside events p) ≡ beside_move events (unlink_step x o p)

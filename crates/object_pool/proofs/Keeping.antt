@@ -3,6 +3,8 @@ use Rattle.std.proofs.Common.{◌≡◌, Bool, ℕ, ◌+◌, ◌≤◌, ◌<◌,
 use Rattle.tree_specs.specs.declared.frame.FreeFrame.{FreeFrame}
 use Rattle.tree_specs.specs.declared.frame.FreeFrame.TheVariants.{Unlinking, Hooked, Judged}
 use Rattle.tree_specs.specs.declared.object.Obj.{Obj}
+use Rattle.tree_specs.specs.Events.Descriptors.{Descriptors}
+use Rattle.tree_specs.specs.Events.Handlers.{Handlers}
 use Rattle.tree_specs.specs.declared.object.Owner.{Owner}
 use Rattle.tree_specs.specs.declared.kind.Kind.{Kind}
 use Rattle.tree_specs.specs.declared.row.Row.{Row}
@@ -236,6 +238,12 @@ stepped b o t r ls e told steps k refs limits kept room a =
 -- what is to come has changed, and the memory for one more is used up
 pub waits : (b : Inside) (e : Agenda) → AreGiven b.tree.next e.upcoming → AgreeWith b → AgreeWith (record b { events = e; places = false; ready = false })
 waits b e given a = record { references = a.references; limits = a.limits; kept = a.kept; room = a.room; given = given; call = never; placed = never; places = never }
+
+-- what changes of it names no event
+pub waits-alike : (b : Inside) (e : Agenda) (soon : List Obj) (descriptors : Descriptors) (handlers : Handlers) → e.upcoming ≡ record b.events.upcoming { soon = soon; descriptors = descriptors; handlers = handlers } → AgreeWith b → AgreeWith (record b { events = e; places = false; ready = false })
+waits-alike b e soon descriptors handlers is a =
+    let given = a.given in
+    waits b e (rw is (record { times = given.times; ring = given.ring; requests = given.requests; queues = given.queues; entries = given.entries })) a
 
 -- a new event, and what is to come with it
 pub event-added : (b : Inside) (t' : Links) (ls' : Limits) (e : Agenda) (x : Obj) (kind : Kind) (owner : Owner) (name : List ℕ) → b.ready ≡ true → target_of kind ≡ None

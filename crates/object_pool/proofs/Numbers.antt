@@ -1,12 +1,13 @@
 -- Moves of frees give no number.
-use Rattle.std.proofs.Common.{◌≡◌, nat_eq, List, [], ◌∷◌, Option, Some, None, refl, sym, ap, ◌∙◌}
+use Rattle.std.proofs.Common.{◌≡◌, ℕ, nat_eq, List, [], ◌∷◌, Option, Some, None, refl, sym, ap, ◌∙◌}
 use Rattle.step_machine.specs.Machine.{Move as Do}
+use Rattle.tree_specs.specs.declared.kind.Kind.{Kind}
 use Rattle.tree_specs.specs.declared.object.Obj.{Obj}
 use Rattle.tree_specs.specs.declared.object.Owner.{Owner}
 use Rattle.tree_specs.specs.declared.object.Owner.TheVariants.{Of}
 use Rattle.tree_specs.specs.declared.row.Row.{Row}
 use Rattle.tree_specs.specs.declared.row.Mark.{Mark}
-use Rattle.tree_specs.specs.declared.row.Mark.TheVariants as mark
+use Rattle.tree_specs.specs.declared.row.Mark.TheVariants.{Quiet}
 use Rattle.tree_specs.specs.declared.frame.FreeFrame.{FreeFrame}
 use Rattle.tree_specs.specs.declared.frame.FreeFrame.TheVariants.{Unlinking, Releasing, Beginning, Judged, Looping, AfterChild}
 use Rattle.tree_specs.specs.declared.frame.Purpose.{Purpose}
@@ -16,7 +17,7 @@ use Rattle.tree_specs.specs.declared.free_step.FreeReply.TheVariants as free_rep
 use Rattle.tree_specs.specs.declared.free_step.FreeStep.{FreeStep}
 use Rattle.tree_specs.specs.Tree.Targets.{newest_ref}
 use Rattle.tree_specs.specs.Tree.Pool.{Pool, row_of, is_below, owner_of, target_at, newest_ref_of, is_inside, first_kid}
-use Rattle.tree_specs.specs.Machine.FreeTable.{FreeMove, free_step, begin_step, refs_step, unlink_step, release_step, loop_step, child_step, tried_step}
+use Rattle.tree_specs.specs.Machine.FreeTable.{FreeMove, free_step, begin_by, begin_step, refs_step, unlink_step, release_step, loop_step, child_step, tried_step}
 use Rattle.tree_specs.specs.Calls.Refusals.{is_request, is_queue}
 use Rattle.tree_specs.proofs.Tree.Numbered.{by_test}
 use Rattle.destructors.specs.Frees.{OpenFrees, awaits_run, moved, moves, next_of, Silently, Still, On, Steps, Begins}
@@ -29,23 +30,16 @@ pool_in (Do.Emit t f p) = p
 pool_in (Do.Wait t f p) = p
 pool_in (Do.Call g f p) = p
 
-begun-next : (x : Obj) (p : Pool) (o : Option Row) → (pool_in (begin_step x o p)).next ≡ p.next
-begun-next x p None = refl
-begun-next x p (Some r) = each r.mark refl
-  where
-    each : (m : Mark) → r.mark ≡ m → (pool_in (begin_step x (Some r) p)).next ≡ p.next
-    each mark.Quiet e = by_test (is_request r.kind)
-        (λ t. rw (e, t) refl)
-        (λ t. by_test (is_queue r.kind)
-        (λ u. rw (e, t, u) refl)
-        (λ u. by_test (nat_eq r.hook 0) (λ h. rw (e, t, u, h) refl) (λ h. rw (e, t, u, h) refl)))
-    each mark.Asked e = rw e refl
-    each mark.Busy e = rw e refl
-    each mark.Doomed e = rw e refl
-    each (mark.Dying former) e = rw e refl
+begun-next : (x : Obj) (k : Kind) (h : ℕ) (m : Mark) (p : Pool) → (pool_in (begin_by x k h m p)).next ≡ p.next
+begun-next x k h Quiet p = by_test (is_request k) (λ t. rw t refl) (λ t. by_test (is_queue k) (λ u. rw (t, u) refl) (λ u. rw (t, u) (by_test (nat_eq h 0) (λ v. rw v refl) (λ v. rw v refl))))
+begun-next x k h _ p = refl
+
+found-next : (x : Obj) (p : Pool) (o : Option Row) → (pool_in (begin_step x o p)).next ≡ p.next
+found-next x p None = refl
+found-next x p (Some r) = begun-next x r.kind r.hook r.mark p
 
 refs-next : (x : Obj) (p : Pool) (o : Option Obj) → (pool_in (refs_step x o p)).next ≡ p.next
-refs-next x p None = begun-next x p (row_of p.rows x)
+refs-next x p None = found-next x p (row_of p.rows x)
 refs-next x p (Some r) = by_test (is_inside p.rows (Of r) (Of x)) (λ t. rw t refl) (λ t. rw t refl)
 
 unlink-next : (x : Obj) (p : Pool) (o : Option Obj) → (pool_in (unlink_step x o p)).next ≡ p.next

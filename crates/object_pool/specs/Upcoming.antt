@@ -12,7 +12,7 @@ use Rattle.tree_specs.specs.declared.free_step.FreeStep.TheVariants.{Dropped, Do
 use Rattle.tree_specs.specs.Events.Pending.{scheduled, unscheduled, armed, disarmed}
 use Rattle.tree_specs.specs.Events.Rotation.{watched, unwatched, rewatched, closes_with}
 use Rattle.tree_specs.specs.Events.Descriptors.{Descriptors, listener_alone, opened, closed, shut}
-use Rattle.tree_specs.specs.Events.Handlers.{Handlers, no_handlers, with_handler, without_handler}
+use Rattle.tree_specs.specs.Events.Handlers.{Handlers, with_handler, without_handler}
 use Rattle.tree_specs.specs.Events.Requests.{Notes, no_notes, without_note, with_note, new_note, renoted, in_state}
 use Rattle.tree_specs.specs.Events.Queues.{Queues, no_queues, runs, has_entries, with_queue, run_as, without_queue, entry_of, with_entry, without_entry, new_entry}
 use Rattle.tree_specs.specs.Events.Coming.{begun}
@@ -38,7 +38,7 @@ pub record Upcoming : Type 0 where
   pub queues : Queues
 
 abbrev pub nothing_comes : Upcoming
-nothing_comes = record { soon = []; times = []; ring = []; descriptors = listener_alone; handlers = no_handlers; requests = no_notes; queues = no_queues }
+nothing_comes = record { soon = []; times = []; ring = []; descriptors = listener_alone; handlers = []; requests = no_notes; queues = no_queues }
 
 -- the same objects, with this to come
 abbrev pub beside : Upcoming → Pool → Pool

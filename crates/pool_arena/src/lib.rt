@@ -2,8 +2,7 @@
 //! out, and the slot then serves the next one.
 #![tactic(auto)]
 
-ghost use Rattle.indexmap.specs.IndexMap.{get as place_get};
-ghost use Rattle.std.specs.Prelude.{nat_eq, ◌≡◌, ◌≤◌, ◌+◌, IsOk, IsTrue, OnOk, OnErr, Some, None, option_copied, IsSome};
+ghost use Rattle.std.specs.Prelude.{◌≡◌, ◌≤◌, ◌+◌, IsOk, IsTrue, OnOk, OnErr, Some, None, option_copied, IsSome};
 ghost use Rattle.std.specs.Option.{option_copied_mut};
 ghost use Rattle.std.specs.Ordering.{nat_cmp};
 ghost use Rattle.std.specs.FinMap as map;
@@ -15,8 +14,11 @@ use std::alloc::{AllocError, Global};
 use std::fmt;
 use std::marker::Model;
 
+mod guesses;
 #[cfg(test)]
 mod tests;
+
+use guesses::{guess_next, is_vacant, keep_up, reguess, slot_of};
 
 /// Values, each under a key of its own. Contracts see a finite map from keys to values, and spare: so many more values
 /// can be added without taking memory. Only `reserve` takes memory.
@@ -25,6 +27,8 @@ pub struct Arena<T> {
     slots: Slab<T>,
     /// The slot of each key.
     places: IndexMap<u64, usize>,
+    /// The index that a key may have among the places.
+    guesses: Vec<usize>,
 }
 
 impl<T> Model for Arena<T> {
@@ -39,23 +43,6 @@ impl<T> Model for Arena<T> {
     ghost invariant = { λ a. IsSound a.places a.slots };
 }
 
-/// Whether nothing is held at all, so that a key isn't, which needs no hash then: most arenas of a host are empty.
-fn is_vacant(places: &IndexMap<u64, usize>, _key: u64) -> bool
-    ensures { IsTrue result → place_get nat_eq places.now _key ≡ None }
-{
-    places.is_empty()
-}
-
-/// The slot of a key. None exactly where it isn't held.
-fn slot_of(places: &IndexMap<u64, usize>, key: u64) -> Option<usize>
-    ensures { result ≡ place_get nat_eq places.now key }
-{
-    if is_vacant(places, key) {
-        return None;
-    }
-    places.get(&key).copied()
-}
-
 impl<T> Arena<T> {
     ghost use Rattle.pool_arena.specs.Arena.{get};
     ghost use Rattle.pool_arena.specs.Lends.{lends_get};
@@ -68,6 +55,7 @@ impl<T> Arena<T> {
         Arena {
             slots: Slab::new(alloc),
             places: IndexMap::new(alloc),
+            guesses: Vec::new(alloc),
         }
     }
 
@@ -78,7 +66,8 @@ impl<T> Arena<T> {
         ensures room { OnOk result (n ≤ self.new.spare) }
     {
         self.slots.reserve(n)?;
-        self.places.reserve(n)
+        self.places.reserve(n)?;
+        keep_up(&mut self.guesses, &self.places)
     }
 
     /// Adds a value under a key that isn't held.
@@ -89,6 +78,7 @@ impl<T> Arena<T> {
         ensures spare { self.old.spare ≤ self.new.spare + 1 }
     {
         let slot = self.slots.insert_reserved(value);
+        guess_next(&mut self.guesses, &self.places, key);
         match self.places.insert(key, slot) {
             Ok(_) => (),
             Err(_) => unreachable!(),
@@ -99,7 +89,7 @@ impl<T> Arena<T> {
     pub fn get(&self, key: u64) -> Option<&T>
         ensures { option_copied result ≡ get self.now key }
     {
-        match slot_of(&self.places, key) {
+        match slot_of(&self.places, &self.guesses, key) {
             Some(slot) => self.slots.get(slot),
             None => None,
         }
@@ -110,7 +100,7 @@ impl<T> Arena<T> {
         ensures* writes_back { sem 𝓛 (lends_get T.row self.entry key result) }
         ensures value { option_copied_mut result ≡ get self.old key }
     {
-        match slot_of(&self.places, key) {
+        match slot_of(&self.places, &self.guesses, key) {
             Some(slot) => self.slots.get_mut(slot),
             None => None,
         }
@@ -125,8 +115,11 @@ impl<T> Arena<T> {
         if is_vacant(&self.places, key) {
             return None;
         }
-        match self.places.swap_remove(&key) {
-            Some(slot) => self.slots.try_remove(slot),
+        match self.places.swap_remove_full(&key) {
+            Some((index, _, slot)) => {
+                reguess(&mut self.guesses, &self.places, index);
+                self.slots.try_remove(slot)
+            }
             None => None,
         }
     }

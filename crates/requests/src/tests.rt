@@ -24,10 +24,20 @@ fn add(requests: &mut Requests, x: Obj)
     }
 }
 
+// The request 7, which is new.
+fn with_new(alloc: Global) -> Result<Requests, Fail> {
+    let mut requests = with_room(alloc, 1)?;
+    add(&mut requests, Obj(7));
+    Ok(requests)
+}
+
+fn handler(routine: u32, user: u64) -> Handler {
+    Handler { routine, user }
+}
+
 #[test]
 fn a_request_is_made_in_progress(rt: HostRuntime) -> Result<(), Fail> {
-    let mut requests = with_room(rt.alloc(), 1)?;
-    add(&mut requests, Obj(7));
+    let mut requests = with_new(rt.alloc())?;
     let note = requests.note(Obj(7));
     assert_eq!(rt; note.map(|n| n.state), Some(State::InProgress));
     assert_eq!(rt; note.map(|n| n.child), Some(Obj(8)));
@@ -38,40 +48,29 @@ fn a_request_is_made_in_progress(rt: HostRuntime) -> Result<(), Fail> {
 
 #[test]
 fn a_cleanup_runs_once_for_a_state(rt: HostRuntime) -> Result<(), Fail> {
-    let mut requests = with_room(rt.alloc(), 1)?;
-    add(&mut requests, Obj(7));
+    let mut requests = with_new(rt.alloc())?;
     requests.set_cleanup(Obj(7), 17);
     assert_eq!(rt; requests.to_clean(Obj(7)), None);
     requests.set_state(Obj(7), State::Done);
-    let cleanup = Handler {
-        routine: 17,
-        user: 2,
-    };
-    assert_eq!(rt; requests.to_clean(Obj(7)), Some(cleanup));
+    assert_eq!(rt; requests.to_clean(Obj(7)), Some(handler(17, 2)));
     assert_eq!(rt; requests.to_clean(Obj(7)), None);
     Ok(())
 }
 
 #[test]
 fn one_that_is_deferred_is_posted_once(rt: HostRuntime) -> Result<(), Fail> {
-    let mut requests = with_room(rt.alloc(), 1)?;
-    add(&mut requests, Obj(7));
+    let mut requests = with_new(rt.alloc())?;
     assert_eq!(rt; requests.to_notify(Obj(7)), Notify::Nothing);
     requests.set_callback(Obj(7), 16, 5);
     requests.defer(Obj(7));
     assert_eq!(rt; requests.to_notify(Obj(7)), Notify::Post);
-    let callback = Handler {
-        routine: 16,
-        user: 5,
-    };
-    assert_eq!(rt; requests.to_notify(Obj(7)), Notify::Run(callback));
+    assert_eq!(rt; requests.to_notify(Obj(7)), Notify::Run(handler(16, 5)));
     Ok(())
 }
 
 #[test]
 fn running_out_of_memory_leaves_them_as_they_were(rt: HostRuntime) -> Result<(), Fail> {
-    let mut requests = with_room(rt.alloc(), 1)?;
-    add(&mut requests, Obj(7));
+    let mut requests = with_new(rt.alloc())?;
     let before = requests.note(Obj(7));
     assert!(rt; requests.reserve(usize::MAX).is_err());
     assert_eq!(rt; requests.note(Obj(7)), before);
@@ -97,11 +96,7 @@ fn add_all(requests: &mut Requests, count: u64)
 // A request is done. Answers whether its cleanup is told this, and what is done then.
 fn finish(requests: &mut Requests, x: Obj) -> (bool, Notify) {
     requests.set_state(x, State::Done);
-    let cleanup = Handler {
-        routine: 17,
-        user: 2,
-    };
-    let is_told = requests.to_clean(x) == Some(cleanup);
+    let is_told = requests.to_clean(x) == Some(handler(17, 2));
     (is_told, requests.to_notify(x))
 }
 
@@ -111,10 +106,7 @@ fn finish_all(requests: &mut Requests, count: u64) -> bool {
     let mut as_told = true;
     for before in 0..count {
         let x = Obj(before + 1);
-        let run = Notify::Run(Handler {
-            routine: 16,
-            user: x.0,
-        });
+        let run = Notify::Run(handler(16, x.0));
         let told = match finish(requests, x) {
             (true, Notify::Post) => x.0.is_multiple_of(2) && requests.to_notify(x) == run,
             (true, notify) => notify == run,

@@ -4,7 +4,7 @@ use Rattle.std.specs.Char.{is_ascii_digit}
 use Rattle.std.specs.List.{prefix_len, slice_split}
 use Rattle.std.specs.Str.Parse.{digits_value}
 use Rattle.std.specs.Borrow.{Bor}
-use Rattle.tree_specs.specs.Texts.Grammar.{◌>>=◌, number_of, field}
+use Rattle.tree_specs.specs.Texts.Grammar.{◌>>=◌, number_of}
 use Rattle.text_forms.specs.declared.form.FormFault.{FormFault}
 use Rattle.text_forms.specs.declared.form.FormFault.TheVariants.{NoForm, Memory}
 
@@ -36,13 +36,6 @@ parts_left byte (Some text) = parts byte text.now
 
 abbrev pub words_left : Option (Bor (List ℕ)) → List (List ℕ)
 words_left rest = parts_left 32 rest
-
--- two fields, one after the other
-abbrev pub both : {A B : Type 0} → (List ℕ → Option A) → (List ℕ → Option B) → List (List ℕ) → Option ((A × B) × List (List ℕ))
-both read next words = do
-  x ← field read words
-  y ← field next x.1
-  Some ((x.0, y.0), y.1)
 
 -- what a reader gave, and what it left: it reads NoForm exactly where the definition gives none
 abbrev pub Takes : {A : Type 0} → Result A FormFault → Option (A × List (List ℕ)) → List (List ℕ) → Type 0

@@ -21,8 +21,8 @@ fn call_value(alloc: Global, text: &[u8]) -> Result<Call, FormFault>
 {
     let (word, rest) = split_word(text);
     let verb = read_verb(word).ok_or(FormFault::NoForm)?;
-    let mut fields = Fields::make(rest);
-    let call = read_fields(alloc, verb, &mut fields)?;
+    let mut fields = Fields::make(alloc, rest);
+    let call = read_fields(verb, &mut fields)?;
     fields.end()?;
     Ok(call)
 }

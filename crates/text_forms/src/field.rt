@@ -4,7 +4,7 @@ ghost use Rattle.std.specs.Prelude.{◌≡◌, List, ℕ};
 ghost use Rattle.std.specs.Option.{option_map};
 ghost use Rattle.tree_specs.specs.Calls.Spelling.Numeral.{Number, Number32, Positive32, Time, FdFlags, Length};
 ghost use Rattle.tree_specs.specs.Texts.Grammar.{words, number_of, numeral_of, owner_of, object_of, name_of, octets_of, field, last_field};
-ghost use Rattle.text_forms.specs.Cursor.{words_left, both, Takes, Ends};
+ghost use Rattle.text_forms.specs.Cursor.{words_left, Takes, Ends};
 
 use crate::form::FormFault;
 use crate::name::read_name;
@@ -31,6 +31,8 @@ fn number_field(text: &[u8]) -> Option<(u64, Option<&[u8]>)>
 // The fields of a call that are still to come. Contracts see the words that spell them.
 #[derive(Drop)]
 pub(crate) struct Fields<'a> {
+    // Where names and bytes are kept.
+    alloc: Global,
     // What follows the last space; None where the text ended in its place.
     rest: Option<&'a [u8]>,
 }
@@ -42,10 +44,10 @@ impl<'a> Model for Fields<'a> {
 }
 
 impl<'a> Fields<'a> {
-    pub(crate) fn make(rest: Option<&'a [u8]>) -> Fields<'a>
+    pub(crate) fn make(alloc: Global, rest: Option<&'a [u8]>) -> Fields<'a>
         ensures { result ≡ words_left rest.entry }
     {
-        Fields { rest }
+        Fields { alloc, rest }
     }
 
     // A field that is a number.
@@ -130,20 +132,20 @@ impl<'a> Fields<'a> {
 
     // A name field, which no other follows: a name has no space, so it is all that is left of the text.
     #[tactic(auto, using(crate::proofs::Cursor::name_taken))]
-    pub(crate) fn name(&mut self, alloc: Global) -> Result<Name, FormFault>
+    pub(crate) fn name(&mut self) -> Result<Name, FormFault>
         ensures { Takes result (last_field name_of self.old) self.new }
     {
         let text = self.rest.take().ok_or(FormFault::NoForm)?;
-        read_name(alloc, text)
+        read_name(self.alloc, text)
     }
 
     // A field of bytes, which no other follows: their spelling has no space.
     #[tactic(auto, using(crate::proofs::Cursor::octets_taken))]
-    pub(crate) fn bytes(&mut self, alloc: Global) -> Result<Octets, FormFault>
+    pub(crate) fn bytes(&mut self) -> Result<Octets, FormFault>
         ensures { Takes result (last_field octets_of self.old) self.new }
     {
         let text = self.rest.take().ok_or(FormFault::NoForm)?;
-        read_octets(alloc, text)
+        read_octets(self.alloc, text)
     }
 
     // There are no more fields.
@@ -155,25 +157,4 @@ impl<'a> Fields<'a> {
             Some(_) => Err(FormFault::NoForm),
         }
     }
-}
-
-// An owner field, and then an object field.
-pub(crate) fn owner_and_object(fields: &mut Fields) -> Result<(Owner, Obj), FormFault>
-    ensures { Takes result (both owner_of object_of fields.old) fields.new }
-{
-    Ok((fields.owner()?, fields.object()?))
-}
-
-// An object field, and then a number field.
-pub(crate) fn object_and_number(fields: &mut Fields) -> Result<(Obj, u64), FormFault>
-    ensures { Takes result (both object_of (numeral_of Number) fields.old) fields.new }
-{
-    Ok((fields.object()?, fields.number()?))
-}
-
-// An object field, and then a field with a routine, where 0 is none.
-pub(crate) fn object_and_routine(fields: &mut Fields) -> Result<(Obj, u32), FormFault>
-    ensures { Takes result (both object_of (numeral_of Number32) fields.old) fields.new }
-{
-    Ok((fields.object()?, fields.number32()?))
 }

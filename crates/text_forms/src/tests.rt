@@ -1,4 +1,5 @@
 ghost use Rattle.std.specs.Prelude.{IsTrue};
+ghost use Rattle.std.specs.List.{list_all};
 ghost use Rattle.tree_specs.specs.Words.Ranges.{is_sound_call};
 
 use super::*;
@@ -12,13 +13,28 @@ mod descriptors;
 mod queues;
 mod requests;
 
-// The call is written as these bytes.
+// The call is written as these bytes, and is what they are read as.
 fn writes(rt: &impl Abort, alloc: Global, call: &Call, want: &[u8]) -> Result<(), Fail>
     requires { IsTrue (is_sound_call call.now) }
 {
     let mut out = Vec::new(alloc);
     write_call(call, &mut out)?;
     assert_eq!(rt; out.as_slice(), want);
+    let again = read_call(alloc, want)?;
+    assert_eq!(rt;
+        format!(in alloc; "{again:?}")?,
+        format!(in alloc; "{call:?}")?
+    );
+    Ok(())
+}
+
+// Each call is written as its bytes, and is what they are read as.
+fn writes_each(rt: &impl Abort, alloc: Global, cases: &[(Call, &[u8])]) -> Result<(), Fail>
+    requires { IsTrue (list_all (λ c. is_sound_call c.0) cases.now) }
+{
+    for (call, want) in cases {
+        writes(rt, alloc, call, want)?;
+    }
     Ok(())
 }
 
@@ -31,10 +47,12 @@ fn writes_again(rt: &impl Abort, alloc: Global, lines: &str) -> Result<(), Fail>
     Ok(())
 }
 
-// The text is no call.
-fn reads_none(rt: &impl Abort, alloc: Global, text: &str) {
-    let call = read_call(alloc, text.as_bytes());
-    assert!(rt; matches!(call, Err(FormFault::NoForm)), "at {text:?}");
+// No line is a call.
+fn reads_none(rt: &impl Abort, alloc: Global, lines: &str) {
+    for text in lines.lines() {
+        let call = read_call(alloc, text.as_bytes());
+        assert!(rt; matches!(call, Err(FormFault::NoForm)), "at {text:?}");
+    }
 }
 
 #[test]
@@ -187,7 +205,10 @@ turn
 
 #[test]
 fn writes_what_was_read(rt: HostRuntime) -> Result<(), Fail> {
-    writes_again(&rt, rt.alloc(), CALLS)
+    for lines in [CALLS, descriptors::CALLS, requests::CALLS, queues::CALLS] {
+        writes_again(&rt, rt.alloc(), lines)?;
+    }
+    Ok(())
 }
 
 // Lines that are no call.
@@ -223,15 +244,22 @@ hook 1 4294967296
 hook 1 016
 hook 1 16 2
 unhook 1 16
+
+free 9\x20
+\x20free 9
+count 7\x20
+rename 9\x20
 ";
 
 #[test]
 fn reads_no_call(rt: HostRuntime) {
-    for text in NO_CALLS.lines() {
-        reads_none(&rt, rt.alloc(), text);
-    }
-    for text in ["", "free 9 ", " free 9", "count 7 ", "rename 9 "] {
-        reads_none(&rt, rt.alloc(), text);
+    for lines in [
+        NO_CALLS,
+        descriptors::NO_CALLS,
+        requests::NO_CALLS,
+        queues::NO_CALLS,
+    ] {
+        reads_none(&rt, rt.alloc(), lines);
     }
 }
 

@@ -4,53 +4,42 @@ ghost use Rattle.text_forms.specs.declared.verb.Verb.TheVariants as verbs;
 ghost use Rattle.text_forms.specs.Cursor.{Takes};
 ghost use Rattle.text_forms.specs.Verbs.{fields_read};
 
-use crate::field::{Fields, object_and_number, object_and_routine, owner_and_object};
+use crate::field::Fields;
 use crate::form::FormFault;
 use crate::verb::{DescriptorVerb, EventVerb, QueueVerb, RequestVerb, TreeVerb, Verb};
-use std::alloc::Global;
 use tree_specs::Call;
+
+// The call with these fields, each of which comes next and is of the kind that stands behind its name.
+macro_rules! call {
+    ($call:ident { $($name:ident: $kind:ident),* } from $fields:ident) => {
+        Ok(Call::$call { $($name: $fields.$kind()?),* })
+    };
+}
 
 // The call on the tree of this verb, whose fields come next.
 #[tactic(auto, unfolding(crate::specs::Verbs::fields_read))]
-fn read_tree_fields(alloc: Global, verb: TreeVerb, fields: &mut Fields) -> Result<Call, FormFault>
+fn read_tree_fields(verb: TreeVerb, fields: &mut Fields) -> Result<Call, FormFault>
     ensures { Takes result (fields_read (verbs.Tree verb) fields.old) fields.new }
 {
     match verb {
-        TreeVerb::New => Ok(Call::New {
-            owner: fields.owner()?,
-            size: fields.number()?,
-            name: fields.name(alloc)?,
-        }),
-        TreeVerb::Free => fields.object().map(|x| Call::Free { x }),
-        TreeVerb::Freekids => fields.object().map(|x| Call::Freekids { x }),
-        TreeVerb::Steal => owner_and_object(fields).map(|(owner, x)| Call::Steal { owner, x }),
-        TreeVerb::Move => owner_and_object(fields).map(|(owner, x)| Call::Move { owner, x }),
-        TreeVerb::Reparent => Ok(Call::Reparent {
-            from: fields.owner()?,
-            to: fields.owner()?,
-            x: fields.object()?,
-        }),
-        TreeVerb::Reference => owner_and_object(fields).map(|(owner, x)| Call::Reference {
-            owner,
-            x,
-        }),
-        TreeVerb::Unlink => owner_and_object(fields).map(|(owner, x)| Call::Unlink { owner, x }),
-        TreeVerb::Hook => Ok(Call::Hook {
-            x: fields.object()?,
-            routine: fields.routine()?,
-        }),
-        TreeVerb::Unhook => fields.object().map(|x| Call::Unhook { x }),
-        TreeVerb::Rename => Ok(Call::Rename {
-            x: fields.object()?,
-            name: fields.name(alloc)?,
-        }),
-        TreeVerb::Resize => object_and_number(fields).map(|(x, size)| Call::Resize { x, size }),
-        TreeVerb::Limit => object_and_number(fields).map(|(x, max)| Call::Limit { x, max }),
-        TreeVerb::Parent => fields.object().map(|x| Call::Parent { x }),
-        TreeVerb::Total => fields.owner().map(|owner| Call::Total { owner }),
-        TreeVerb::Count => fields.owner().map(|owner| Call::Count { owner }),
-        TreeVerb::Sum => fields.owner().map(|owner| Call::Sum { owner }),
-        TreeVerb::Report => fields.owner().map(|owner| Call::Report { owner }),
+        TreeVerb::New => call!(New { owner: owner, size: number, name: name } from fields),
+        TreeVerb::Free => call!(Free { x: object } from fields),
+        TreeVerb::Freekids => call!(Freekids { x: object } from fields),
+        TreeVerb::Steal => call!(Steal { owner: owner, x: object } from fields),
+        TreeVerb::Move => call!(Move { owner: owner, x: object } from fields),
+        TreeVerb::Reparent => call!(Reparent { from: owner, to: owner, x: object } from fields),
+        TreeVerb::Reference => call!(Reference { owner: owner, x: object } from fields),
+        TreeVerb::Unlink => call!(Unlink { owner: owner, x: object } from fields),
+        TreeVerb::Hook => call!(Hook { x: object, routine: routine } from fields),
+        TreeVerb::Unhook => call!(Unhook { x: object } from fields),
+        TreeVerb::Rename => call!(Rename { x: object, name: name } from fields),
+        TreeVerb::Resize => call!(Resize { x: object, size: number } from fields),
+        TreeVerb::Limit => call!(Limit { x: object, max: number } from fields),
+        TreeVerb::Parent => call!(Parent { x: object } from fields),
+        TreeVerb::Total => call!(Total { owner: owner } from fields),
+        TreeVerb::Count => call!(Count { owner: owner } from fields),
+        TreeVerb::Sum => call!(Sum { owner: owner } from fields),
+        TreeVerb::Report => call!(Report { owner: owner } from fields),
     }
 }
 
@@ -60,32 +49,20 @@ fn read_event_fields(verb: EventVerb, fields: &mut Fields) -> Result<Call, FormF
     ensures { Takes result (fields_read (verbs.Event verb) fields.old) fields.new }
 {
     match verb {
-        EventVerb::Immediate => fields.owner().map(|owner| Call::Immediate { owner }),
-        EventVerb::Schedule => Ok(Call::Schedule {
-            x: fields.object()?,
-            routine: fields.number32()?,
-            user: fields.number()?,
-        }),
-        EventVerb::Unschedule => fields.object().map(|x| Call::Unschedule { x }),
-        EventVerb::Timer => Ok(Call::Timer {
-            owner: fields.owner()?,
-            time: fields.time()?,
-            routine: fields.routine()?,
-            user: fields.number()?,
-        }),
-        EventVerb::Fd => Ok(Call::Fd {
-            owner: fields.owner()?,
-            fd: fields.number32()?,
-            flags: fields.flags()?,
-            routine: fields.routine()?,
-            user: fields.number()?,
-        }),
-        EventVerb::Flags => Ok(Call::Flags {
-            x: fields.object()?,
-            flags: fields.flags()?,
-        }),
-        EventVerb::Getflags => fields.object().map(|x| Call::Getflags { x }),
-        EventVerb::Autoclose => fields.object().map(|x| Call::Autoclose { x }),
+        EventVerb::Immediate => call!(Immediate { owner: owner } from fields),
+        EventVerb::Schedule => call!(
+            Schedule { x: object, routine: number32, user: number } from fields
+        ),
+        EventVerb::Unschedule => call!(Unschedule { x: object } from fields),
+        EventVerb::Timer => call!(
+            Timer { owner: owner, time: time, routine: routine, user: number } from fields
+        ),
+        EventVerb::Fd => call!(
+            Fd { owner: owner, fd: number32, flags: flags, routine: routine, user: number } from fields
+        ),
+        EventVerb::Flags => call!(Flags { x: object, flags: flags } from fields),
+        EventVerb::Getflags => call!(Getflags { x: object } from fields),
+        EventVerb::Autoclose => call!(Autoclose { x: object } from fields),
         EventVerb::Pending => Ok(Call::Pending),
         EventVerb::Now => Ok(Call::Now),
         EventVerb::Turn => Ok(Call::Turn),
@@ -94,103 +71,68 @@ fn read_event_fields(verb: EventVerb, fields: &mut Fields) -> Result<Call, FormF
 
 // The call on a descriptor of this verb, whose fields come next.
 #[tactic(auto, unfolding(crate::specs::Verbs::fields_read))]
-fn read_descriptor_fields(
-    alloc: Global,
-    verb: DescriptorVerb,
-    fields: &mut Fields,
-) -> Result<Call, FormFault>
+fn read_descriptor_fields(verb: DescriptorVerb, fields: &mut Fields) -> Result<Call, FormFault>
     ensures { Takes result (fields_read (verbs.Descriptor verb) fields.old) fields.new }
 {
     match verb {
-        DescriptorVerb::Close => fields.number32().map(|fd| Call::Close { fd }),
-        DescriptorVerb::Accept => fields.number32().map(|fd| Call::Accept { fd }),
-        DescriptorVerb::Read => Ok(Call::Read {
-            fd: fields.number32()?,
-            len: fields.length()?,
-        }),
-        DescriptorVerb::Write => Ok(Call::Write {
-            fd: fields.number32()?,
-            bytes: fields.bytes(alloc)?,
-        }),
+        DescriptorVerb::Close => call!(Close { fd: number32 } from fields),
+        DescriptorVerb::Accept => call!(Accept { fd: number32 } from fields),
+        DescriptorVerb::Read => call!(Read { fd: number32, len: length } from fields),
+        DescriptorVerb::Write => call!(Write { fd: number32, bytes: bytes } from fields),
     }
 }
 
 // The call on requests of this verb, whose fields come next.
 #[tactic(auto, unfolding(crate::specs::Verbs::fields_read))]
-fn read_request_fields(
-    alloc: Global,
-    verb: RequestVerb,
-    fields: &mut Fields,
-) -> Result<Call, FormFault>
+fn read_request_fields(verb: RequestVerb, fields: &mut Fields) -> Result<Call, FormFault>
     ensures { Takes result (fields_read (verbs.Request verb) fields.old) fields.new }
 {
     match verb {
-        RequestVerb::Req => Ok(Call::Req {
-            owner: fields.owner()?,
-            size: fields.number()?,
-            name: fields.name(alloc)?,
-        }),
-        RequestVerb::Callback => Ok(Call::Callback {
-            x: fields.object()?,
-            routine: fields.number32()?,
-            user: fields.number()?,
-        }),
-        RequestVerb::Defer => fields.object().map(|x| Call::Defer { x }),
-        RequestVerb::Cleanup => object_and_routine(fields).map(|(x, routine)| Call::Cleanup {
-            x,
-            routine,
-        }),
-        RequestVerb::Setcancel => object_and_routine(fields).map(|(x, routine)| Call::Setcancel {
-            x,
-            routine,
-        }),
-        RequestVerb::Cancel => fields.object().map(|x| Call::Cancel { x }),
-        RequestVerb::Post => fields.object().map(|x| Call::Post { x }),
-        RequestVerb::Done => fields.object().map(|x| Call::Done { x }),
-        RequestVerb::Error => object_and_number(fields).map(|(x, error)| Call::Error { x, error }),
-        RequestVerb::Oom => fields.object().map(|x| Call::Oom { x }),
-        RequestVerb::Iserror => fields.object().map(|x| Call::Iserror { x }),
-        RequestVerb::Progress => fields.object().map(|x| Call::Progress { x }),
-        RequestVerb::Endtime => Ok(Call::Endtime {
-            x: fields.object()?,
-            time: fields.time()?,
-        }),
-        RequestVerb::Received => fields.object().map(|x| Call::Received { x }),
+        RequestVerb::Req => call!(Req { owner: owner, size: number, name: name } from fields),
+        RequestVerb::Callback => call!(
+            Callback { x: object, routine: number32, user: number } from fields
+        ),
+        RequestVerb::Defer => call!(Defer { x: object } from fields),
+        RequestVerb::Cleanup => call!(Cleanup { x: object, routine: number32 } from fields),
+        RequestVerb::Setcancel => call!(Setcancel { x: object, routine: number32 } from fields),
+        RequestVerb::Cancel => call!(Cancel { x: object } from fields),
+        RequestVerb::Post => call!(Post { x: object } from fields),
+        RequestVerb::Done => call!(Done { x: object } from fields),
+        RequestVerb::Error => call!(Error { x: object, error: number } from fields),
+        RequestVerb::Oom => call!(Oom { x: object } from fields),
+        RequestVerb::Iserror => call!(Iserror { x: object } from fields),
+        RequestVerb::Progress => call!(Progress { x: object } from fields),
+        RequestVerb::Endtime => call!(Endtime { x: object, time: time } from fields),
+        RequestVerb::Received => call!(Received { x: object } from fields),
     }
 }
 
 // The call on queues of this verb, whose fields come next.
 #[tactic(auto, unfolding(crate::specs::Verbs::fields_read))]
-fn read_queue_fields(alloc: Global, verb: QueueVerb, fields: &mut Fields) -> Result<Call, FormFault>
+fn read_queue_fields(verb: QueueVerb, fields: &mut Fields) -> Result<Call, FormFault>
     ensures { Takes result (fields_read (verbs.Queue verb) fields.old) fields.new }
 {
     match verb {
-        QueueVerb::Queue => Ok(Call::Queue {
-            owner: fields.owner()?,
-            name: fields.name(alloc)?,
-        }),
-        QueueVerb::Enqueue => Ok(Call::Enqueue {
-            queue: fields.object()?,
-            x: fields.object()?,
-            routine: fields.routine()?,
-            user: fields.number()?,
-        }),
-        QueueVerb::Start => fields.object().map(|queue| Call::Start { queue }),
-        QueueVerb::Stop => fields.object().map(|queue| Call::Stop { queue }),
-        QueueVerb::Length => fields.object().map(|queue| Call::Length { queue }),
-        QueueVerb::Running => fields.object().map(|queue| Call::Running { queue }),
+        QueueVerb::Queue => call!(Queue { owner: owner, name: name } from fields),
+        QueueVerb::Enqueue => call!(
+            Enqueue { queue: object, x: object, routine: routine, user: number } from fields
+        ),
+        QueueVerb::Start => call!(Start { queue: object } from fields),
+        QueueVerb::Stop => call!(Stop { queue: object } from fields),
+        QueueVerb::Length => call!(Length { queue: object } from fields),
+        QueueVerb::Running => call!(Running { queue: object } from fields),
     }
 }
 
 // The call of this verb, whose fields come next.
-pub(crate) fn read_fields(alloc: Global, verb: Verb, fields: &mut Fields) -> Result<Call, FormFault>
+pub(crate) fn read_fields(verb: Verb, fields: &mut Fields) -> Result<Call, FormFault>
     ensures { Takes result (fields_read verb fields.old) fields.new }
 {
     match verb {
-        Verb::Tree(verb) => read_tree_fields(alloc, verb, fields),
+        Verb::Tree(verb) => read_tree_fields(verb, fields),
         Verb::Event(verb) => read_event_fields(verb, fields),
-        Verb::Descriptor(verb) => read_descriptor_fields(alloc, verb, fields),
-        Verb::Request(verb) => read_request_fields(alloc, verb, fields),
-        Verb::Queue(verb) => read_queue_fields(alloc, verb, fields),
+        Verb::Descriptor(verb) => read_descriptor_fields(verb, fields),
+        Verb::Request(verb) => read_request_fields(verb, fields),
+        Verb::Queue(verb) => read_queue_fields(verb, fields),
     }
 }

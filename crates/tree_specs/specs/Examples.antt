@@ -4,4 +4,5 @@ pub mod Descriptors
 pub mod Events
 pub mod Requests
 pub mod Queues
+pub mod Flaws
 pub mod Tables

@@ -6,6 +6,7 @@ ghost use Rattle.tree_specs.specs.declared.question.Input.{Input as InputData};
 ghost use Rattle.tree_specs.specs.Promises.Orderly.{Orderly};
 ghost use Rattle.tree_specs.specs.Promises.Grounded.{Grounded};
 ghost use Rattle.tree_specs.specs.Promises.BadStories as bad;
+ghost use Rattle.tree_specs.specs.Promises.BadStories.{NoneOf};
 
 /// A destructor accepts once, and is neither asked again nor refuses after that.
 pub fn a_destructor_accepts_once()
@@ -24,32 +25,18 @@ pub fn an_object_is_freed_once()
 /// For a freed object no routine starts, its destructor is not asked and doesn't answer, it is moved nowhere, and
 /// nothing is put below it; and no reference is dropped twice.
 pub fn nothing_starts_for_a_freed_object()
-    ensures fired { Orderly bad.fired_after_the_end → ⊥ }
-    ensures asked { Orderly bad.asked_after_the_end → ⊥ }
-    ensures accepted { Orderly bad.accepted_after_the_end → ⊥ }
-    ensures refused { Orderly bad.refused_after_the_end → ⊥ }
-    ensures moved { Orderly bad.moved_after_the_end → ⊥ }
-    ensures owner { Orderly bad.moved_to_the_freed → ⊥ }
-    ensures warned { Orderly bad.warned_after_the_end → ⊥ }
-    ensures state { Orderly bad.state_after_the_end → ⊥ }
-    ensures target { Orderly bad.referred_to_after_the_end → ⊥ }
+    ensures uses { NoneOf Orderly bad.used_after_the_end }
     ensures reference { Orderly bad.dropped_twice → ⊥ }
 {}
 
 /// A call is refused for a destructor's number right after this number was told.
 pub fn a_refused_call_follows_the_refusal()
-    ensures unsaid { Orderly bad.refused_unsaid → ⊥ }
-    ensures late { Orderly bad.refused_too_late → ⊥ }
-    ensures number { Orderly bad.refused_with_another_number → ⊥ }
+    ensures { NoneOf Orderly bad.refused_without_it }
 {}
 
 /// The states of a request go up: once to one of 2 to 5, and then once to 6.
 pub fn the_states_of_a_request_go_up()
-    ensures low { Orderly bad.state_too_low → ⊥ }
-    ensures high { Orderly bad.state_too_high → ⊥ }
-    ensures finished { Orderly bad.finished_twice → ⊥ }
-    ensures received { Orderly bad.received_twice → ⊥ }
-    ensures down { Orderly bad.finished_after_it_was_received → ⊥ }
+    ensures { NoneOf Orderly bad.states_out_of_order }
 {}
 
 /// To free a live object is answered by ok, or by a refusal that names it as held, running or refused; so is it to take
@@ -82,17 +69,10 @@ pub fn a_refused_free_has_its_cause()
     ensures unlinked_refused { (is : List InputData) → Grounded bad.unlinked_refused_unheard is → ⊥ }
 {}
 
-/// A handler starts for a live object of its kind, whose turn it is, a request's routine for a request, and a destructor accepts right after a question to
-/// it, while its object is asked.
+/// A handler starts for a live object of its kind, whose turn it is, a request's routine for a request, and a destructor
+/// accepts right after a question to it, while its object is asked.
 pub fn routines_start_for_live_objects()
-    ensures missing { (is : List InputData) → Grounded bad.fired_for_no_object is → ⊥ }
-    ensures quiet { (is : List InputData) → Grounded bad.fired_while_quiet is → ⊥ }
-    ensures kind { (is : List InputData) → Grounded bad.fired_as_another_kind is → ⊥ }
-    ensures request { (is : List InputData) → Grounded bad.called_back_for_no_request is → ⊥ }
-    ensures turn { (is : List InputData) → Grounded bad.triggered_out_of_turn is → ⊥ }
-    ensures unasked { (is : List InputData) → Grounded bad.accepted_unasked is → ⊥ }
-    ensures stopped { (is : List InputData) → Grounded bad.accepted_while_quiet is → ⊥ }
-    ensures busy { (is : List InputData) → Grounded bad.accepted_while_busy is → ⊥ }
+    ensures { (is : List InputData) → NoneOf (λ scenes. Grounded scenes is) bad.badly_started }
 {}
 
 /// A destructor accepts right after it has returned 0: not with another number, not after a call, and not before it

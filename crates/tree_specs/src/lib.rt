@@ -5,6 +5,7 @@
 
 mod bounds;
 mod call;
+mod checked;
 mod due;
 mod event;
 pub mod examples;
@@ -42,6 +43,7 @@ pub use bounds::{
     WAIT_LIMIT,
 };
 pub use call::Call;
+pub use checked::{Checked, Rule};
 pub use due::Due;
 pub use event::Event;
 pub use frame::{
@@ -52,11 +54,11 @@ pub use handler::Handler;
 pub use kind::Kind;
 pub use memory::Memory;
 pub use moment::{Moment, What};
-pub use name::{Name, is_name_text};
+pub use name::{IsName, Name, is_name_text};
 pub use notice::Notice;
 pub use object::{Obj, Owner};
 pub use occasion::Occasion;
-pub use octets::Octets;
+pub use octets::{IsOctets, Octets};
 pub use question::{Act, Ask, Input};
 pub use queue::QueueEntry;
 pub use reply::{Refusal, Reply};
@@ -65,5 +67,5 @@ pub use request::{Note, State};
 pub use row::{Mark, Row};
 pub use schedule::{Mode, Reason};
 pub use test::Test;
-pub use wants::{Want, Wants};
+pub use wants::{AreWants, Want, Wants};
 pub use watch::Watch;

@@ -4,6 +4,7 @@
 ghost use Rattle.std.specs.Prelude.{◌≡◌, ◌≢◌, ◌≤◌, ℕ, List};
 ghost use Rattle.step_machine.specs.Machine.{items as told_by, rest};
 ghost use Rattle.step_machine.specs.Machine.Outcome.{Short};
+ghost use Rattle.tree_specs.specs.declared.frame.Answer.TheVariants.{Freed, Heard, Returned, Turned};
 ghost use Rattle.tree_specs.specs.declared.frame.CallFrame.TheVariants.{Asking};
 ghost use Rattle.tree_specs.specs.declared.frame.Frame.TheVariants.{Call, Free, Turn, Outside, Request};
 ghost use Rattle.tree_specs.specs.declared.frame.FreeFrame.TheVariants.{Beginning, Unlinking, Looping};
@@ -17,7 +18,7 @@ ghost use Rattle.tree_specs.specs.declared.object.Owner.{Owner as OwnerData};
 ghost use Rattle.tree_specs.specs.declared.question.Ask.{Ask as AskData};
 ghost use Rattle.tree_specs.specs.declared.question.Input.{Input as InputData};
 ghost use Rattle.tree_specs.specs.declared.request.State.{State as StateData};
-ghost use Rattle.tree_specs.specs.Machine.Meaning.{answered, closed, emptied, freed, returned, run_of, stated, text_rest};
+ghost use Rattle.tree_specs.specs.Machine.Meaning.{emptied, ends_as, run_of, stated, text_rest};
 ghost use Rattle.tree_specs.specs.Tree.Pool.{Pool};
 ghost use Rattle.tree_specs.specs.Rules.Story.{asked, cancelling, children, finishing, free, items, notifying, reaching, receiving, taking, unlink};
 ghost use Rattle.tree_specs.specs.Machine.Table.{table};
@@ -30,25 +31,25 @@ ghost use Rattle.tree_specs.specs.Invariants.Consistent.{IsConsistent};
 /// event loop is taken, the outside is asked, or a request goes to a state, is notified, received or cancelled.
 pub fn the_machine_tells_the_text()
     ensures free { (n : ℕ) (x : ObjData) (p : Pool) (is : List InputData) → run_of n (Free (Beginning x)) p is ≢ Short →
-        run_of n (Free (Beginning x)) p is ≡ freed (free n x) p is }
+        run_of n (Free (Beginning x)) p is ≡ ends_as Freed (free n x) p is }
     ensures unlink { (n : ℕ) (o : OwnerData) (x : ObjData) (p : Pool) (is : List InputData) → run_of n (Free (Unlinking o x)) p is ≢ Short →
-        run_of n (Free (Unlinking o x)) p is ≡ freed (unlink n o x) p is }
+        run_of n (Free (Unlinking o x)) p is ≡ ends_as Freed (unlink n o x) p is }
     ensures children { (n : ℕ) (x : ObjData) (p : Pool) (is : List InputData) → run_of n (Free (Looping x Emptying)) p is ≢ Short →
         run_of n (Free (Looping x Emptying)) p is ≡ emptied (children n x) p is }
     ensures caller { (n : ℕ) (q : AskData) (p : Pool) (is : List InputData) → run_of n (Call (Asking q)) p is ≢ Short →
-        run_of n (Call (Asking q)) p is ≡ returned (asked n q) p is }
+        run_of n (Call (Asking q)) p is ≡ ends_as Returned (asked n q) p is }
     ensures turn { (n : ℕ) (p : Pool) (is : List InputData) → run_of n (Turn Taking) p is ≢ Short →
-        run_of n (Turn Taking) p is ≡ closed (taking n) p is }
+        run_of n (Turn Taking) p is ≡ ends_as Turned (taking n) p is }
     ensures outside { (n : ℕ) (q : AskData) (p : Pool) (is : List InputData) → run_of n (Outside (Reaching q)) p is ≢ Short →
-        run_of n (Outside (Reaching q)) p is ≡ answered (reaching n q) p is }
+        run_of n (Outside (Reaching q)) p is ≡ ends_as Heard (reaching n q) p is }
     ensures finish { (n : ℕ) (x : ObjData) (s : StateData) (p : Pool) (is : List InputData) → run_of n (Request (Finishing x s)) p is ≢ Short →
-        run_of n (Request (Finishing x s)) p is ≡ answered (finishing n x s) p is }
+        run_of n (Request (Finishing x s)) p is ≡ ends_as Heard (finishing n x s) p is }
     ensures notify { (n : ℕ) (x : ObjData) (e : ErrandData) (p : Pool) (is : List InputData) → run_of n (Request (Notifying x e)) p is ≢ Short →
-        run_of n (Request (Notifying x e)) p is ≡ answered (notifying n x e) p is }
+        run_of n (Request (Notifying x e)) p is ≡ ends_as Heard (notifying n x e) p is }
     ensures receive { (n : ℕ) (x : ObjData) (p : Pool) (is : List InputData) → run_of n (Request (Receiving x)) p is ≢ Short →
-        run_of n (Request (Receiving x)) p is ≡ answered (receiving n x) p is }
+        run_of n (Request (Receiving x)) p is ≡ ends_as Heard (receiving n x) p is }
     ensures cancel { (n : ℕ) (x : ObjData) (p : Pool) (is : List InputData) → run_of n (Request (Cancelling x)) p is ≢ Short →
-        run_of n (Request (Cancelling x)) p is ≡ answered (cancelling n x) p is }
+        run_of n (Request (Cancelling x)) p is ≡ ends_as Heard (cancelling n x) p is }
 
     // The stated turns are enough for the innermost of open works that hold together, and more give the same.
     ensures enough { (v : View) (is : List InputData) → IsConsistent v → run_of (stated v.pool is) v.innermost v.pool is ≢ Short }

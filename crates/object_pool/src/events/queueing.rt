@@ -1,12 +1,12 @@
 //! What is kept of queues, beside what is to come of them.
-ghost use Rattle.std.specs.Prelude.{◌≡◌, ◌<◌, ◌≤◌, None, Some, true, false, is_some, length};
+ghost use Rattle.std.specs.Prelude.{◌≡◌, ◌<◌, ◌≤◌, None, Some, true, false, length};
 ghost use Rattle.std.specs.Option.{option_map};
-ghost use Rattle.tree_specs.specs.Events.Queues.{running_of, has_queue, run_as, length_of, head_of, next_of};
-ghost use Rattle.request_queue.specs.Register.{IsAbove, object_of, turn_of, triggered_by};
+ghost use Rattle.tree_specs.specs.Events.Queues.{running_of, has_queue, run_as, next_of};
+ghost use Rattle.request_queue.specs.Register.{IsAbove, turn_of, triggered_by};
 ghost use Rattle.object_pool.specs.Upcoming.{HasPlace, KeepsPlaces, queued, entered, out_of_queue, running, with_queues};
 
 use crate::events::Events;
-use request_queue::Turn;
+use request_queue::{Queues, Turn};
 use tree_specs::{Handler, Obj};
 
 impl Events {
@@ -61,18 +61,11 @@ impl Events {
         self.queues.stop(q);
     }
 
-    /// How many queues there are.
-    pub fn count_queues(&self) -> usize
-        ensures { result ≡ length self.now.upcoming.queues.running }
+    /// The queues, and the entries in them.
+    pub fn queues(&self) -> &Queues
+        ensures { result.now.queues ≡ self.now.upcoming.queues }
     {
-        self.queues.count()
-    }
-
-    /// The first entry of a queue. None exactly where it has none.
-    pub fn head(&self, q: Obj) -> Option<Obj>
-        ensures { result ≡ option_map object_of (head_of self.now.upcoming.queues q) }
-    {
-        self.queues.head(q)
+        &self.queues
     }
 
     /// The trigger of a queue's first entry begins, where the queue runs and it hasn't begun. None exactly where there is no such
@@ -84,26 +77,5 @@ impl Events {
         ensures kept { KeepsPlaces self.old self.new }
     {
         self.queues.trigger(q)
-    }
-
-    /// Whether a queue runs and its first entry waits for its trigger.
-    pub fn queue_waits(&self, q: Obj) -> bool
-        ensures { result ≡ is_some (next_of self.now.upcoming.queues q) }
-    {
-        self.queues.waits(q)
-    }
-
-    /// How many entries a queue has. It is 0 where it is none.
-    pub fn queue_length(&self, q: Obj) -> u64
-        ensures { result ≡ length_of self.now.upcoming.queues q }
-    {
-        self.queues.length(q)
-    }
-
-    /// Whether a queue runs. None exactly where it is none.
-    pub fn queue_running(&self, q: Obj) -> Option<bool>
-        ensures { result ≡ running_of self.now.upcoming.queues q }
-    {
-        self.queues.running(q)
     }
 }

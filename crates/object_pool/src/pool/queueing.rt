@@ -76,14 +76,14 @@ impl ObjectPool {
     pub fn count_queues(&self) -> usize
         ensures { result ≡ length self.now.pool.queues.running }
     {
-        self.events.count_queues()
+        self.events.queues().count()
     }
 
     /// The first entry of a queue. None exactly where it has none.
     pub fn first_entry(&self, queue: Obj) -> Option<Obj>
         ensures { result ≡ option_map object_of (head_of self.now.pool.queues queue) }
     {
-        self.events.head(queue)
+        self.events.queues().head(queue)
     }
 
     /// The trigger of a queue's first entry begins, where the queue runs and it hasn't begun. None exactly where there is no such
@@ -99,20 +99,20 @@ impl ObjectPool {
     pub fn queue_waits(&self, queue: Obj) -> bool
         ensures { result ≡ is_some (next_of self.now.pool.queues queue) }
     {
-        self.events.queue_waits(queue)
+        self.events.queues().waits(queue)
     }
 
     /// How many entries a queue has (`tevent_queue_length`). It is 0 where it is none.
     pub fn queue_length(&self, queue: Obj) -> u64
         ensures { result ≡ length_of self.now.pool.queues queue }
     {
-        self.events.queue_length(queue)
+        self.events.queues().length(queue)
     }
 
     /// Whether a queue runs (`tevent_queue_running`). None exactly where it is none.
     pub fn queue_running(&self, queue: Obj) -> Option<bool>
         ensures { result ≡ running_of self.now.pool.queues queue }
     {
-        self.events.queue_running(queue)
+        self.events.queues().running(queue)
     }
 }

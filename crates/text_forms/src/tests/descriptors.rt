@@ -1,8 +1,53 @@
-use super::{reads_none, writes, writes_again};
-use crate::{FormFault, read_call, read_octets, write_octets};
+use super::writes_each;
+use crate::{FormFault, read_octets, write_octets};
 use std::alloc::Global;
 use std::test::Fail;
 use tree_specs::{Call, Obj, Octets, Owner};
+
+// Calls on descriptors, as they are written.
+pub(super) const CALLS: &str = "\
+fd 0 0 0 1 0
+fd 18446744073709551615 4294967295 3 4294967295 18446744073709551615
+flags 9 0
+flags 9 3
+getflags 9
+autoclose 9
+close 0
+accept 4294967295
+read 0 1
+read 5 65536
+write 5 00
+";
+
+// Lines that are no call on a descriptor.
+pub(super) const NO_CALLS: &str = "\
+fd 0 5 1 16
+fd 0 5 1 16 0 0
+fd 0 5 4 16 0
+fd 0 5 1 0 0
+fd 0 4294967296 1 16 0
+flags 9
+flags 9 4
+flags 9 03
+getflags
+getflags 9 1
+autoclose 9 0
+close
+close 4294967296
+accept 5 5
+read 5
+read 5 0
+read 5 65537
+write 5
+write 5 0
+write 5 0A
+write 5 0g
+write 5 00 11
+write 00
+write  00
+write 5\x20
+write 5 00\x20
+";
 
 fn octets(alloc: Global, bytes: &[u8]) -> Result<Octets, Fail> {
     let octets = Octets::make(Vec::from_slice(alloc, bytes)?).ok_or("no octets")?;
@@ -82,78 +127,5 @@ fn writes_calls(rt: HostRuntime) -> Result<(), Fail> {
         (Call::Read { fd: 6, len: 64 }, b"read 6 64".as_slice()),
         (Call::Write { fd: 6, bytes }, b"write 6 3120390a".as_slice()),
     ];
-    for (call, want) in &cases {
-        writes(&rt, rt.alloc(), call, want)?;
-    }
-    Ok(())
-}
-
-#[test]
-fn reads_what_is_written(rt: HostRuntime) -> Result<(), Fail> {
-    match read_call(rt.alloc(), b"write 6 3120390a")? {
-        Call::Write { fd, bytes } => {
-            assert_eq!(rt; fd, 6);
-            assert_eq!(rt; bytes.as_slice(), b"1 9\n".as_slice());
-        }
-        _ => assert!(rt; false, "another call"),
-    }
-    Ok(())
-}
-
-// Calls on descriptors, as they are written.
-const CALLS: &str = "\
-fd 0 0 0 1 0
-fd 18446744073709551615 4294967295 3 4294967295 18446744073709551615
-flags 9 0
-flags 9 3
-getflags 9
-autoclose 9
-close 0
-accept 4294967295
-read 0 1
-read 5 65536
-write 5 00
-";
-
-#[test]
-fn writes_what_was_read(rt: HostRuntime) -> Result<(), Fail> {
-    writes_again(&rt, rt.alloc(), CALLS)
-}
-
-// Lines that are no call on a descriptor.
-const NO_CALLS: &str = "\
-fd 0 5 1 16
-fd 0 5 1 16 0 0
-fd 0 5 4 16 0
-fd 0 5 1 0 0
-fd 0 4294967296 1 16 0
-flags 9
-flags 9 4
-flags 9 03
-getflags
-getflags 9 1
-autoclose 9 0
-close
-close 4294967296
-accept 5 5
-read 5
-read 5 0
-read 5 65537
-write 5
-write 5 0
-write 5 0A
-write 5 0g
-write 5 00 11
-write 00
-write  00
-";
-
-#[test]
-fn reads_no_call(rt: HostRuntime) {
-    for text in NO_CALLS.lines() {
-        reads_none(&rt, rt.alloc(), text);
-    }
-    for text in ["write 5 ", "write 5 00 "] {
-        reads_none(&rt, rt.alloc(), text);
-    }
+    writes_each(&rt, rt.alloc(), &cases)
 }

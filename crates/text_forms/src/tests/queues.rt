@@ -1,10 +1,48 @@
-use super::{reads_none, writes, writes_again};
-use crate::{read_call, read_name};
+use super::writes_each;
+use crate::read_name;
 use std::test::Fail;
 use tree_specs::{Call, Obj, Owner};
 
 // The queue that the calls are about.
 const QUEUE: Obj = Obj(9);
+
+// Calls on queues, as they are written.
+pub(super) const CALLS: &str = "\
+queue 0 ~
+queue 18446744073709551615 a-b
+enqueue 9 3 1 0
+enqueue 18446744073709551615 3 4294967295 18446744073709551615
+start 9
+stop 9
+length 9
+running 18446744073709551615
+";
+
+// Lines that are no call on a queue.
+pub(super) const NO_CALLS: &str = "\
+queue 7
+queue a-b
+queue 7 10 a-b
+queue 07 a-b
+enqueue 9 3 16
+enqueue 9 3 0 42
+enqueue 9 3 16 42 0
+enqueue 9 3 4294967296 42
+enqueue 9 03 16 42
+start
+start 9 1
+start x
+stop 9 0
+length
+length 09
+lengths 9
+running
+running 9 1
+Running 9
+queue 7\x20
+start 9\x20
+\x20stop 9
+";
 
 #[test]
 fn writes_each_call(rt: HostRuntime) -> Result<(), Fail> {
@@ -26,79 +64,5 @@ fn writes_each_call(rt: HostRuntime) -> Result<(), Fail> {
         (Call::Length { queue: QUEUE }, b"length 9".as_slice()),
         (Call::Running { queue: QUEUE }, b"running 9".as_slice()),
     ];
-    for (call, want) in &cases {
-        writes(&rt, rt.alloc(), call, want)?;
-    }
-    Ok(())
-}
-
-#[test]
-fn reads_what_is_written(rt: HostRuntime) -> Result<(), Fail> {
-    match read_call(rt.alloc(), b"queue 7 a-b")? {
-        Call::Queue { owner, name } => {
-            assert_eq!(rt; owner, Owner::Of(Obj(7)));
-            assert_eq!(rt; name.as_slice(), b"a-b".as_slice());
-        }
-        _ => assert!(rt; false, "another call"),
-    }
-    match read_call(rt.alloc(), b"enqueue 9 3 16 42")? {
-        Call::Enqueue {
-            queue,
-            x,
-            routine,
-            user,
-        } => assert_eq!(rt; (queue, x, routine, user), (QUEUE, Obj(3), 16, 42)),
-        _ => assert!(rt; false, "another call"),
-    }
-    Ok(())
-}
-
-// Calls on queues, as they are written.
-const CALLS: &str = "\
-queue 0 ~
-queue 18446744073709551615 a-b
-enqueue 9 3 1 0
-enqueue 18446744073709551615 3 4294967295 18446744073709551615
-start 9
-stop 9
-length 9
-running 18446744073709551615
-";
-
-#[test]
-fn writes_what_was_read(rt: HostRuntime) -> Result<(), Fail> {
-    writes_again(&rt, rt.alloc(), CALLS)
-}
-
-// Lines that are no call on a queue.
-const NO_CALLS: &str = "\
-queue 7
-queue a-b
-queue 7 10 a-b
-queue 07 a-b
-enqueue 9 3 16
-enqueue 9 3 0 42
-enqueue 9 3 16 42 0
-enqueue 9 3 4294967296 42
-enqueue 9 03 16 42
-start
-start 9 1
-start x
-stop 9 0
-length
-length 09
-lengths 9
-running
-running 9 1
-Running 9
-";
-
-#[test]
-fn reads_no_call(rt: HostRuntime) {
-    for text in NO_CALLS.lines() {
-        reads_none(&rt, rt.alloc(), text);
-    }
-    for text in ["queue 7 ", "start 9 ", " stop 9"] {
-        reads_none(&rt, rt.alloc(), text);
-    }
+    writes_each(&rt, rt.alloc(), &cases)
 }

@@ -1,76 +1,13 @@
-use super::{reads_none, writes, writes_again};
-use crate::{read_call, read_name};
+use super::writes_each;
+use crate::read_name;
 use std::test::Fail;
 use tree_specs::{Call, Obj, Owner};
 
 // The request that the calls are about.
 const X: Obj = Obj(9);
 
-#[test]
-fn writes_calls_that_make_and_prepare(rt: HostRuntime) -> Result<(), Fail> {
-    let req = Call::Req {
-        owner: Owner::Of(Obj(7)),
-        size: 10,
-        name: read_name(rt.alloc(), b"a-b")?,
-    };
-    let callback = Call::Callback {
-        x: X,
-        routine: 16,
-        user: 42,
-    };
-    let cleanup = Call::Cleanup { x: X, routine: 17 };
-    let cancel = Call::Setcancel { x: X, routine: 18 };
-    let endtime = Call::Endtime { x: X, time: 30 };
-    let cases = [
-        (req, b"req 7 10 a-b".as_slice()),
-        (callback, b"callback 9 16 42".as_slice()),
-        (Call::Defer { x: X }, b"defer 9".as_slice()),
-        (cleanup, b"cleanup 9 17".as_slice()),
-        (cancel, b"setcancel 9 18".as_slice()),
-        (endtime, b"endtime 9 30".as_slice()),
-    ];
-    for (call, want) in &cases {
-        writes(&rt, rt.alloc(), call, want)?;
-    }
-    Ok(())
-}
-
-#[test]
-fn writes_calls_that_end_and_tell(rt: HostRuntime) -> Result<(), Fail> {
-    let cases = [
-        (Call::Cancel { x: X }, b"cancel 9".as_slice()),
-        (Call::Post { x: X }, b"post 9".as_slice()),
-        (Call::Done { x: X }, b"done 9".as_slice()),
-        (Call::Error { x: X, error: 5 }, b"error 9 5".as_slice()),
-        (Call::Oom { x: X }, b"oom 9".as_slice()),
-        (Call::Iserror { x: X }, b"iserror 9".as_slice()),
-        (Call::Progress { x: X }, b"progress 9".as_slice()),
-        (Call::Received { x: X }, b"received 9".as_slice()),
-    ];
-    for (call, want) in &cases {
-        writes(&rt, rt.alloc(), call, want)?;
-    }
-    Ok(())
-}
-
-#[test]
-fn reads_what_is_written(rt: HostRuntime) -> Result<(), Fail> {
-    match read_call(rt.alloc(), b"req 7 10 a-b")? {
-        Call::Req { owner, size, name } => {
-            assert_eq!(rt; (owner, size), (Owner::Of(Obj(7)), 10));
-            assert_eq!(rt; name.as_slice(), b"a-b".as_slice());
-        }
-        _ => assert!(rt; false, "another call"),
-    }
-    match read_call(rt.alloc(), b"callback 9 16 42")? {
-        Call::Callback { x, routine, user } => assert_eq!(rt; (x, routine, user), (X, 16, 42)),
-        _ => assert!(rt; false, "another call"),
-    }
-    Ok(())
-}
-
 // Calls on requests, as they are written.
-const CALLS: &str = "\
+pub(super) const CALLS: &str = "\
 req 0 0 ~
 req 18446744073709551615 18446744073709551615 a-b
 callback 9 0 0
@@ -93,13 +30,8 @@ endtime 9 4611686018427387904
 received 18446744073709551615
 ";
 
-#[test]
-fn writes_what_was_read(rt: HostRuntime) -> Result<(), Fail> {
-    writes_again(&rt, rt.alloc(), CALLS)
-}
-
 // Lines that are no call on a request.
-const NO_CALLS: &str = "\
+pub(super) const NO_CALLS: &str = "\
 req 7 10
 req 7 a-b
 req 7 010 a-b
@@ -137,14 +69,49 @@ endtime 9 4611686018427387905
 endtime 4611686018427387904
 received
 received 9 0
+req 7 10\x20
+done 9\x20
+\x20done 9
+error 9\x20
 ";
 
 #[test]
-fn reads_no_call(rt: HostRuntime) {
-    for text in NO_CALLS.lines() {
-        reads_none(&rt, rt.alloc(), text);
-    }
-    for text in ["req 7 10 ", "done 9 ", " done 9", "error 9 "] {
-        reads_none(&rt, rt.alloc(), text);
-    }
+fn writes_calls_that_make_and_prepare(rt: HostRuntime) -> Result<(), Fail> {
+    let req = Call::Req {
+        owner: Owner::Of(Obj(7)),
+        size: 10,
+        name: read_name(rt.alloc(), b"a-b")?,
+    };
+    let callback = Call::Callback {
+        x: X,
+        routine: 16,
+        user: 42,
+    };
+    let cleanup = Call::Cleanup { x: X, routine: 17 };
+    let cancel = Call::Setcancel { x: X, routine: 18 };
+    let endtime = Call::Endtime { x: X, time: 30 };
+    let cases = [
+        (req, b"req 7 10 a-b".as_slice()),
+        (callback, b"callback 9 16 42".as_slice()),
+        (Call::Defer { x: X }, b"defer 9".as_slice()),
+        (cleanup, b"cleanup 9 17".as_slice()),
+        (cancel, b"setcancel 9 18".as_slice()),
+        (endtime, b"endtime 9 30".as_slice()),
+    ];
+    writes_each(&rt, rt.alloc(), &cases)
+}
+
+#[test]
+fn writes_calls_that_end_and_tell(rt: HostRuntime) -> Result<(), Fail> {
+    let cases = [
+        (Call::Cancel { x: X }, b"cancel 9".as_slice()),
+        (Call::Post { x: X }, b"post 9".as_slice()),
+        (Call::Done { x: X }, b"done 9".as_slice()),
+        (Call::Error { x: X, error: 5 }, b"error 9 5".as_slice()),
+        (Call::Oom { x: X }, b"oom 9".as_slice()),
+        (Call::Iserror { x: X }, b"iserror 9".as_slice()),
+        (Call::Progress { x: X }, b"progress 9".as_slice()),
+        (Call::Received { x: X }, b"received 9".as_slice()),
+    ];
+    writes_each(&rt, rt.alloc(), &cases)
 }

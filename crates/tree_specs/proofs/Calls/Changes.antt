@@ -1,5 +1,5 @@
 -- What a change asks for, and what it leaves so.
-use Rattle.std.proofs.Common.{ℕ, ◌≡◌, ◌≤◌, ◌+◌, List, length, Some, None, true, false, refl, ap, arith, Option, subst, sym}
+use Rattle.std.proofs.Common.{ℕ, ◌≡◌, ◌≤◌, ◌+◌, ◌*◌, List, length, Some, None, true, false, refl, ap, arith, Option, subst, sym}
 use Rattle.std.specs.Prelude.{is_some, codes, not}
 use Rattle.tree_specs.specs.declared.object.Obj.{Obj}
 use Rattle.tree_specs.specs.declared.object.Owner.{Owner}
@@ -86,15 +86,6 @@ MayDo p (Renotes x g) = (n : Note) → (g n).state ≡ n.state
 MayDo p (Then first second) = MayDo p first × MayDo (changed_by first p) second
 MayDo p change = Unit {0}
 
--- what it adds to what the rows weigh
-abbrev pub heavier : Change → ℕ
-heavier (Add kind o size name) = 3
-heavier (AddRequest o size name) = 6
-heavier (AddQueue o name) = 3
-heavier (AddEntry q x trigger) = 3
-heavier (Then first second) = heavier first + heavier second
-heavier change = 0
-
 -- how many rows it adds
 abbrev pub added : Change → ℕ
 added (Add kind o size name) = 1
@@ -103,6 +94,10 @@ added (AddQueue o name) = 1
 added (AddEntry q x trigger) = 1
 added (Then first second) = added first + added second
 added change = 0
+
+-- what it adds to what the rows weigh
+abbrev pub heavier : Change → ℕ
+heavier change = 3 * added change
 
 -- ---- what a change leaves so
 

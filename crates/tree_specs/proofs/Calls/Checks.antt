@@ -11,7 +11,7 @@ use Rattle.tree_specs.specs.declared.row.Mark.{Mark}
 use Rattle.tree_specs.specs.declared.row.Mark.TheVariants.{Quiet, Dying}
 use Rattle.tree_specs.specs.declared.call.Call.{Call}
 use Rattle.tree_specs.specs.declared.reply.Reply.{Reply}
-use Rattle.tree_specs.specs.declared.reply.Reply.TheVariants.{Number, Bytes}
+use Rattle.tree_specs.specs.declared.reply.Reply.TheVariants.{Number, Bytes, No}
 use Rattle.tree_specs.specs.declared.reply.Refusal.{Refusal}
 use Rattle.tree_specs.specs.declared.reply.Refusal.TheVariants.{WrongKind, NotParent, Loop, TooBig, Full, Spent}
 use Rattle.tree_specs.specs.Words.Objects.{same_owner}
@@ -27,7 +27,10 @@ use Rattle.tree_specs.specs.Tree.Reports.{count_refs}
 use Rattle.tree_specs.specs.Calls.Given.{Given, given_to}
 use Rattle.tree_specs.specs.Calls.Given.Given.{Calls, Returns, Tells, IsReady, Opens, Answers}
 use Rattle.tree_specs.specs.declared.test.Test.{Test}
-use Rattle.tree_specs.specs.Calls.Refusals.{Check, refuse_if, refusal_of, refused, size_limit, row_limit, object_row, object, owner, room, apart, interested, given_by, is_running_mark, is_open}
+use Rattle.tree_specs.specs.Calls.Plans.{Change, Plan, plan, planned, replies, unless_refused, frees, handed}
+use Rattle.tree_specs.specs.Calls.Plans.Change.{Nothing, Place}
+use Rattle.tree_specs.specs.Calls.Plans.Plan.{Does, Works}
+use Rattle.tree_specs.specs.Calls.Refusals.{Check, tests, refusals, refuse_if, refusal_of, refused, size_limit, row_limit, object_row, object, owner, room, apart, interested, given_by, is_running_mark, is_open}
 use Rattle.tree_specs.specs.declared.test.Test.TheVariants.{IsSmall, IsObject, IsOwner, IsPlain, IsImmediate, IsDescriptor, IsRequest, IsReferable, IsOpen, IsUnwatched, HasRoom, HasNumber, IsInProgress, IsFinished, MayFail, Fits, MayGrow, IsNotDying, IsNotDoomed, IsNotRunning, IsNotInside, IsUnheld, IsUnreferenced, IsInterested, MayGive, IsQueue, IsMovable, IsNotGoing}
 use Rattle.tree_specs.specs.Calls.Passed.{Interest, AsOwner, AsHolder, Gives, Itself, ItsRef, Passed, AllPassed}
 use Rattle.tree_specs.specs.Invariants.Sound.{IsLive, MayBePlaced}
@@ -147,6 +150,30 @@ pub all-pass : (p : Pool) (ts : List Test) → refused p ts ≡ [] → AllPassed
 all-pass p [] e = tt
 all-pass p (t ∷ []) e = (passes p t e, tt)
 all-pass p (t ∷ u ∷ ts) e = let d = both-none (refusal_of p t) (refused p (u ∷ ts)) e in (passes p t d.0, all-pass p (u ∷ ts) d.1)
+
+-- what holds of the plan of a call that passes its tests, and of a reply, holds of all that a call does
+pub planned-by : (P : Plan → Type 0) (p : Pool) (c : Call) → (AllPassed p (tests c) → P (plan p c)) → ((r : Reply) → P (replies r)) → P (planned p c)
+planned-by P p c passed refused = each (refusals p c) refl
+  where
+    each : (check : Check) → refusals p c ≡ check → P (unless_refused check (plan p c))
+    each [] none = passed (all-pass p (tests c) none)
+    each (why ∷ later) e = refused (No why)
+
+-- what a plan changes is all such
+abbrev pub Makes : (Change → Type 0) → Plan → Type 0
+Makes K (Does change notice r) = K change
+Makes K (Works change errand x) = K change
+Makes K plan = Unit {0}
+
+-- what frees an object changes nothing
+pub frees-makes : (K : Change → Type 0) (x : Obj) (r : Option Obj) → Makes K (frees r x)
+frees-makes K x None = tt
+frees-makes K x (Some r) = tt
+
+-- what is given away is placed, where there is such
+pub handed-makes : (K : Change → Type 0) (to : Owner) (o : Option Obj) → K Nothing → ((x : Obj) → o ≡ Some x → K (Place to x)) → K (handed to o)
+handed-makes K to None none placed = none
+handed-makes K to (Some x) none placed = placed x refl
 
 -- ---- what tests say together
 

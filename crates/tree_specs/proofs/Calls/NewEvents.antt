@@ -1,13 +1,11 @@
 -- An event that a call has watch a descriptor is a new one, and what a call has come isn't being freed.
-use Rattle.std.proofs.Common.{◌≡◌, nat_eq, [], ◌∷◌, Option, Some, None, Bool, true, false, refl, ◌∙◌, sym, ap}
-use Rattle.std.specs.Prelude.{not, codes}
+use Rattle.std.proofs.Common.{◌≡◌, nat_eq, [], ◌∷◌, Option, Some, None, Bool, true, false, refl, ◌∙◌}
+use Rattle.std.specs.Prelude.{not}
 use Rattle.tree_specs.specs.declared.object.Obj.{Obj}
-use Rattle.tree_specs.specs.declared.object.Owner.{Owner}
 use Rattle.tree_specs.specs.declared.call.Call.{Call}
 use Rattle.tree_specs.specs.declared.call.Call.TheVariants as call
 use Rattle.tree_specs.specs.Tree.Targets.{newest_ref}
-use Rattle.tree_specs.specs.Tree.Pool.{Pool, row_of, passes, new_row}
-use Rattle.tree_specs.specs.declared.kind.Kind.TheVariants as kind
+use Rattle.tree_specs.specs.Tree.Pool.{Pool, row_of, passes}
 use Rattle.tree_specs.specs.declared.request.Note.{Note}
 use Rattle.tree_specs.specs.declared.request.State.{State}
 use Rattle.tree_specs.specs.declared.request.State.TheVariants as state
@@ -17,21 +15,18 @@ use Rattle.tree_specs.specs.declared.row.Mark.{Mark}
 use Rattle.tree_specs.specs.declared.row.Mark.TheVariants.{Quiet, Asked, Busy, Doomed, Dying}
 use Rattle.tree_specs.specs.Words.Objects.{same}
 use Rattle.tree_specs.specs.Events.Requests.{note_of, is_noted, is_received, is_unreceived, is_in_progress, state_number}
-use Rattle.tree_specs.specs.Calls.Passed.{AllPassed, Passed}
+use Rattle.tree_specs.specs.Calls.Passed.{AllPassed}
 use Rattle.tree_specs.specs.Machine.Profiles.{InHandler, InLoop}
 use Rattle.tree_specs.specs.Invariants.Sound.{phases}
 use Rattle.tree_specs.specs.Invariants.Noted.{NotesHold}
-use Rattle.tree_specs.proofs.Calls.Checks.{all-pass}
+use Rattle.tree_specs.proofs.Calls.Checks.{planned-by, Makes, frees-makes, handed-makes}
 use Rattle.tree_specs.proofs.Invariants.Notes.{settled}
 use Rattle.tree_specs.specs.Events.Rotation.{is_watching}
-use Rattle.tree_specs.specs.Calls.Refusals.{Check, tests, refusals, refuse_if, in_state, is_finished, is_doomed_mark, is_doomed, is_request_row, is_going, is_going_mark}
-use Rattle.tree_specs.specs.Calls.Plans.{Change, Plan, changed_by, plan, planned, unless_refused, frees, handed, gift}
+use Rattle.tree_specs.specs.Calls.Refusals.{tests, refuse_if, in_state, is_finished, is_doomed_mark, is_doomed, is_request_row, is_going, is_going_mark}
+use Rattle.tree_specs.specs.Calls.Plans.{Change, Plan, changed_by, plan, planned, gift}
 use Rattle.tree_specs.specs.Calls.Plans.Change.{Watches, Schedule, Arm, Then, LooksAt, AddEntry}
-use Rattle.tree_specs.specs.Calls.Plans.Plan.{Does, Works}
-use Rattle.tree_specs.proofs.Tree.Numbered.{by_test, same-equal, same-true}
+use Rattle.tree_specs.proofs.Tree.Numbered.{by_test, same-equal}
 use Rattle.tree_specs.specs.Events.Queues.{runs}
-use Rattle.tree_specs.specs.declared.object.Owner.TheVariants.{Of}
-use Rattle.tree_specs.specs.declared.test.Test.TheVariants.{IsObject}
 
 -- each event that a change has watch a descriptor watches none yet, and what comes soon or at a time isn't being freed
 abbrev pub AreNew : Pool → Change → Type 0
@@ -44,9 +39,7 @@ AreNew p (Then first second) = AreNew p first × AreNew (changed_by first p) sec
 AreNew p change = Unit {0}
 
 abbrev pub OnlyNew : Pool → Plan → Type 0
-OnlyNew p (Does change notice r) = AreNew p change
-OnlyNew p (Works change errand x) = AreNew p change
-OnlyNew p plan = Unit {0}
+OnlyNew p plan = Makes (AreNew p) plan
 
 -- an object with which nothing goes on isn't being freed
 pub quiet-spared : (o : Option Row) → phases o ≡ [] → passes (λ r. is_doomed_mark r.mark) o ≡ false
@@ -82,14 +75,6 @@ module _ (p : Pool) (new : is_watching p.ring (record { 0 = p.next }) ≡ false)
   over state.Received t = cc
   over _ t = refl
 
-  freed : (x : Obj) (r : Option Obj) → OnlyNew p (frees r x)
-  freed x None = tt
-  freed x (Some r) = tt
-
-  given : (to : Owner) (o : Option Obj) → AreNew p (handed to o)
-  given to None = tt
-  given to (Some x) = tt
-
   -- nor is a queue that doesn't go
   remains : (q : Obj) → is_going p q ≡ false → is_doomed p q ≡ false
   remains q h = each (row_of p.rows q) refl h
@@ -103,8 +88,8 @@ module _ (p : Pool) (new : is_watching p.ring (record { 0 = p.next }) ≡ false)
       each (Some r) e t = rw e (marks r.mark t)
 
   each : (c : Call) → AllPassed p (tests c) → OnlyNew p (plan p c)
-  each (call.Free x) h = freed x (newest_ref p.rows x)
-  each (call.Reparent from to x) h = given to (gift p from x)
+  each (call.Free x) h = frees-makes (AreNew p) x (newest_ref p.rows x)
+  each (call.Reparent from to x) h = handed-makes (AreNew p) to (gift p from x) tt (λ y e. tt)
   each (call.Schedule x routine user) h = by_test (nat_eq routine 0) (λ t. rw t tt) (λ t. rw t (tt, h.1.1.0))
   each (call.Timer o time routine user) h =
       let n : Obj = record { 0 = p.next } in
@@ -120,8 +105,4 @@ module _ (p : Pool) (new : is_watching p.ring (record { 0 = p.next }) ≡ false)
 
   -- so it is of each call, where the number of the next object is nobody's that watches
   pub new-events : (c : Call) → OnlyNew p (planned p c)
-  new-events c = by-check (refusals p c) refl
-    where
-      by-check : (check : Check) → refusals p c ≡ check → OnlyNew p (unless_refused check (plan p c))
-      by-check [] none = each c (all-pass p (tests c) none)
-      by-check (why ∷ later) none = tt
+  new-events c = planned-by (OnlyNew p) p c (each c) (λ r. tt)

@@ -1,6 +1,6 @@
 -- What a plan asks for, what its change of the rows leaves so, and that a call which isn't refused may carry out its plan.
-use Rattle.std.proofs.Common.{nat_eq, ◌≡◌, ◌≢◌, ◌≤◌, List, [], ◌∷◌, Option, Some, None, Bool, true, false, refl, sym, ◌∙◌, subst, arith, ap}
-use Rattle.std.specs.Prelude.{if◌then◌else◌, codes}
+use Rattle.std.proofs.Common.{nat_eq, ◌≡◌, ◌≢◌, ◌≤◌, List, [], ◌∷◌, Option, Some, None, Bool, true, false, refl, sym, ◌∙◌, subst, arith}
+use Rattle.std.specs.Prelude.{if◌then◌else◌}
 use Rattle.tree_specs.specs.declared.object.Obj.{Obj}
 use Rattle.tree_specs.specs.declared.object.Owner.{Owner}
 use Rattle.tree_specs.specs.declared.object.Owner.TheVariants.{Root, Of}
@@ -17,24 +17,24 @@ use Rattle.tree_specs.specs.declared.notice.Notice.TheVariants.{Warned}
 use Rattle.tree_specs.specs.declared.question.Ask.{Ask}
 use Rattle.tree_specs.specs.declared.question.Ask.TheVariants as ask
 use Rattle.tree_specs.specs.declared.frame.Frame.{Frame}
-use Rattle.tree_specs.specs.Tree.Pool.{Pool, row_of, is_row, is_owner, owner_of, target_at, is_inside, place, hooked_row, named_row, sized_row, limited_row, renote, new_row}
+use Rattle.tree_specs.specs.Tree.Pool.{Pool, row_of, is_row, is_owner, owner_of, target_at, is_inside, place, hooked_row, named_row, sized_row, limited_row, renote}
 use Rattle.tree_specs.specs.Tree.Targets.{target_of, newest_ref}
-use Rattle.tree_specs.specs.Calls.Refusals.{Check, tests, refusals, in_state, in_progress, is_immediate, is_request, is_request_row, is_queue, is_queue_row}
+use Rattle.tree_specs.specs.Calls.Refusals.{tests, refusals, in_state, in_progress, is_immediate, is_request, is_request_row, is_queue, is_queue_row}
 use Rattle.tree_specs.specs.declared.moment.What.TheVariants as what
 use Rattle.tree_specs.specs.Invariants.Awaiting.{waits_as, waits_as_row, is_event, is_event_row}
 use Rattle.tree_specs.specs.declared.test.Test.TheVariants.{IsObject, IsImmediate, IsRequest, IsInProgress as IsInProgressTest, IsNotDoomed, IsQueue}
-use Rattle.tree_specs.specs.Calls.Plans.{Plan, changed_by, plan, planned, unless_refused, places, warns, frees, handed, gift}
+use Rattle.tree_specs.specs.Calls.Plans.{Plan, changed_by, plan, planned, places, warns, frees, handed, gift}
 use Rattle.tree_specs.specs.Calls.Plans.Change.{Nothing}
 use Rattle.tree_specs.specs.Calls.Plans.Plan.{Does, Frees, Unlinks, Empties, Asks, Turns, Works}
 use Rattle.tree_specs.specs.Invariants.Sound.{IsLive, IsReferable, IsQuietRow, MayReceive, MayBePlaced, Sound}
 use Rattle.tree_specs.specs.Invariants.Noted.{IsInProgress, IsBetween}
-use Rattle.tree_specs.proofs.Tree.Numbered.{by_test, same-equal, is_below-some, same-true}
+use Rattle.tree_specs.proofs.Tree.Numbered.{by_test, same-equal, is_below-some}
 use Rattle.tree_specs.proofs.Tree.Rows.{row_of-placed-same}
 use Rattle.tree_specs.proofs.Tree.Rooted.{KeepsPlace}
 use Rattle.tree_specs.proofs.Tree.Referring.{newest-refers, newest-of-refers, refers-nothing, reference-outside, object-refers}
 use Rattle.tree_specs.specs.Calls.Passed.{Passed, AllPassed, Interest, AsOwner, AsHolder, Gives, Itself, ItsRef}
 use Rattle.tree_specs.proofs.Events.HandlerLaws.{with-own}
-use Rattle.tree_specs.proofs.Calls.Checks.{all-pass, may-place, quiet-row}
+use Rattle.tree_specs.proofs.Calls.Checks.{all-pass, planned-by, may-place, quiet-row}
 use Rattle.tree_specs.proofs.Invariants.Changes.{names-place, hooks-place, sizes-place, limits-place, nobody, owned-row}
 use Rattle.tree_specs.proofs.Invariants.KeptGivings.{referred-live}
 use Rattle.tree_specs.specs.declared.frame.Errand.{Errand}
@@ -256,8 +256,4 @@ module _ (f : Frame) (fs : List Frame) (p : Pool) (s : Sound f fs p) where
 
   -- and one that is refused only replies
   pub may-planned : (c : Call) → May p (planned p c)
-  may-planned c = by-check (refusals p c) refl
-    where
-      by-check : (check : Check) → refusals p c ≡ check → May p (unless_refused check (plan p c))
-      by-check [] none = may c none
-      by-check (why ∷ later) e = (tt, omega arith, tt, omega arith)
+  may-planned c = planned-by (May p) p c (each c) (λ r. (tt, omega arith, tt, omega arith))

@@ -283,33 +283,26 @@ armed-awaits p x time number comes ready a = record { events = events; handlers 
     events Descriptor y h = a.events Descriptor y h
     events _ y h = cc
 
-pub unscheduled-awaits : (p : Pool) (x : Obj) → Awaits p → Awaits (unschedule p x)
-unscheduled-awaits p x a = same-awaits p (unschedule p x) a fewer refl refl refl refl
+-- fewer objects are to come soon, or at a time
+fewer-awaits : (p q : Pool) → Awaits p → ((y : Obj) → waits Immediate q y ≡ true → waits Immediate p y ≡ true) → ((y : Obj) → waits Timer q y ≡ true → waits Timer p y ≡ true)
+    → q.rows ≡ p.rows → q.handlers ≡ p.handlers → q.ring ≡ p.ring → q.descriptors ≡ p.descriptors → Awaits q
+fewer-awaits p q a soon times rows handlers ring descriptors = same-awaits p q a fewer rows handlers ring descriptors
   where
-    fewer : (w : What) (y : Obj) → waits w (unschedule p x) y ≡ true → waits w p y ≡ true
-    fewer Immediate y h = (unscheduled-other p.soon x y h).0
-    fewer Timer y h = h
-    fewer Descriptor y h = h
+    fewer : (w : What) (y : Obj) → waits w q y ≡ true → waits w p y ≡ true
+    fewer Immediate y h = soon y h
+    fewer Timer y h = times y h
+    fewer Descriptor y h = rw ring at h
     fewer _ y h = cc
 
+pub unscheduled-awaits : (p : Pool) (x : Obj) → Awaits p → Awaits (unschedule p x)
+unscheduled-awaits p x a = fewer-awaits p (unschedule p x) a (λ y h. (unscheduled-other p.soon x y h).0) (λ y h. h) refl refl refl refl
+
 pub disarmed-awaits : (p : Pool) (x : Obj) → Awaits p → Awaits (disarm p x)
-disarmed-awaits p x a = same-awaits p (disarm p x) a fewer refl refl refl refl
-  where
-    fewer : (w : What) (y : Obj) → waits w (disarm p x) y ≡ true → waits w p y ≡ true
-    fewer Timer y h = (disarmed-other p.times x y h).0
-    fewer Immediate y h = h
-    fewer Descriptor y h = h
-    fewer _ y h = cc
+disarmed-awaits p x a = fewer-awaits p (disarm p x) a (λ y h. h) (λ y h. (disarmed-other p.times x y h).0) refl refl refl refl
 
 -- a change of what is kept of requests, or of the next number
 pub kept-awaits : (p q : Pool) → Awaits p → q.rows ≡ p.rows → q.handlers ≡ p.handlers → q.ring ≡ p.ring → q.descriptors ≡ p.descriptors → q.soon ≡ p.soon → q.times ≡ p.times → Awaits q
-kept-awaits p q a rows handlers ring descriptors soon times = same-awaits p q a fewer rows handlers ring descriptors
-  where
-    fewer : (w : What) (y : Obj) → waits w q y ≡ true → waits w p y ≡ true
-    fewer Immediate y h = rw soon at h
-    fewer Timer y h = rw times at h
-    fewer Descriptor y h = rw ring at h
-    fewer _ y h = cc
+kept-awaits p q a rows handlers ring descriptors soon times = fewer-awaits p q a (λ y h. rw soon at h) (λ y h. rw times at h) rows handlers ring descriptors
 
 -- ---- an event watches a descriptor
 

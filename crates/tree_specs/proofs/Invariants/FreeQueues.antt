@@ -1,6 +1,6 @@
 -- What each step of a free keeps of what holds of queues.
-use Rattle.std.proofs.Common.{◌≡◌, ◌≢◌, ◌⊎◌, ℕ, List, [], ◌∷◌, Option, Some, None, true, false, nat_eq, refl, sym, ap, subst, ◌∙◌, inl, inr}
-use Rattle.std.specs.Prelude.{is_some, unwrap_or, ◌||◌, ◌++◌}
+use Rattle.std.proofs.Common.{◌≡◌, ◌≢◌, ℕ, List, [], ◌∷◌, Option, Some, None, true, false, nat_eq, refl, sym, ap, subst, ◌∙◌, inl, inr}
+use Rattle.std.specs.Prelude.{unwrap_or, ◌++◌, if◌then◌else◌}
 use Rattle.step_machine.specs.Machine.{Move}
 use Rattle.step_machine.specs.Machine.{Move as Do}
 use Rattle.step_machine.proofs.Ends.{Leads}
@@ -25,30 +25,29 @@ use Rattle.tree_specs.specs.declared.frame.CallFrame.TheVariants.{Awaiting, Turn
 use Rattle.tree_specs.specs.declared.frame.TurnFrame.TheVariants.{Handling, Clearing, Serving}
 use Rattle.tree_specs.specs.declared.frame.FreeFrame.{FreeFrame}
 use Rattle.tree_specs.specs.declared.frame.FreeFrame.TheVariants.{Unlinking, Releasing, Giving, Beginning, Hooked, Judged, Preparing, Draining, Prepared, Dooming, Leaving, Looping, FreeingChild, AfterChild, Ending}
-use Rattle.tree_specs.specs.declared.frame.RequestFrame.{RequestFrame}
 use Rattle.tree_specs.specs.declared.frame.RequestFrame.TheVariants as request
 use Rattle.tree_specs.specs.declared.frame.Purpose.{Purpose}
 use Rattle.tree_specs.specs.declared.frame.Purpose.TheVariants.{Removal, Emptying}
 use Rattle.tree_specs.specs.declared.frame.Answer.{Answer}
 use Rattle.tree_specs.specs.declared.frame.Answer.TheVariants.{Freed}
 use Rattle.tree_specs.specs.declared.free_step.FreeReply.{FreeReply}
+use Rattle.tree_specs.specs.declared.free_step.FreeStep.TheVariants.{Dropped as IsDropped}
 use Rattle.tree_specs.specs.declared.free_step.FreeReply.TheVariants.{Ok, Held, Running, Refused}
-use Rattle.tree_specs.specs.declared.free_step.FreeStep.{FreeStep}
 use Rattle.tree_specs.specs.Words.Objects.{same}
 use Rattle.tree_specs.specs.Tree.Targets.{target_of, newest_ref}
 use Rattle.tree_specs.specs.Tree.Heirs.{heir}
-use Rattle.tree_specs.specs.Tree.Pool.{Pool, row_of, target_at, target_in, is_below, owner_of, noted_owner, newest_ref_of, is_inside, first_kid, is_dying_mark, passes, remove, detach, left_row, doom, set_mark, set_hook, marked_row, hooked_row, place}
+use Rattle.tree_specs.specs.Tree.Pool.{Pool, row_of, target_at, is_below, owner_of, noted_owner, newest_ref_of, is_inside, first_kid, passes, remove, left_row, doom, set_mark, marked_row, hooked_row, place}
 use Rattle.tree_specs.specs.Tree.Forest.{Distinct}
 use Rattle.tree_specs.specs.Events.Queues.{entry_of, is_entered, has_entries}
 use Rattle.tree_specs.specs.Calls.Refusals.{is_doomed_mark, is_request, is_queue, is_entry, is_queue_row, is_request_row}
 use Rattle.tree_specs.specs.Rules.Items.{Item}
-use Rattle.tree_specs.specs.Machine.FreeTable.{FreeMove, begin_plain, begin_quiet, begin_step, drop_step, refs_step, unlink_step, release_step, judge_step, last_step, child_step, loop_step, hand_on_step, tried_step, free_step}
+use Rattle.tree_specs.specs.Machine.FreeTable.{FreeMove, begin_quiet, begin_step, refs_step, unlink_step, release_step, last_step, child_step, loop_step, hand_on_step, tried_step, free_step}
 use Rattle.tree_specs.specs.Machine.Profiles.{Phase, InRun, InHandler, InLoop, free_profile}
 use Rattle.tree_specs.specs.Machine.Table.{table, resume, reply_in, value_in, run_for, announced, event_of, lifted}
-use Rattle.tree_specs.specs.Invariants.Sound.{IsWaiting, Footing, OnFree, OnRequesting, footing, phases, phase_of, claims, claim, AllWait, IsReferable, MayBePlaced, IsRequested, IsLive, Sound}
+use Rattle.tree_specs.specs.Invariants.Sound.{IsWaiting, Footing, OnFree, OnRequesting, footing, phases, phase_of, claims, claim, AllWait, IsReferable, IsRequested, IsLive, Sound}
 use Rattle.tree_specs.specs.Invariants.Consistent.{IsFree, IsWork, IsStacked, MayStandOn}
-use Rattle.tree_specs.specs.Invariants.Queued.{IsEntryRow, IsQueued, is_live_entry, drains, QueuesHold, IsNoEntry, EndsFor, OverFor, RestsQueued, IsThat, IsOfChild, AreOfChildren, Queued}
-use Rattle.tree_specs.proofs.Tree.Numbered.{by_test, same-true, same-equal, same_or_not}
+use Rattle.tree_specs.specs.Invariants.Queued.{IsEntryRow, is_live_entry, drains, QueuesHold, IsNoEntry, EndsFor, OverFor, RestsQueued, IsThat, IsOfChild, AreOfChildren, Queued}
+use Rattle.tree_specs.proofs.Tree.Numbered.{by_test, same-true, same-equal}
 use Rattle.tree_specs.proofs.Tree.Rows.{childless}
 use Rattle.tree_specs.proofs.Tree.Referring.{newest-refers, newest-of-refers}
 use Rattle.tree_specs.proofs.Invariants.Changes.{running-row, dying-row, claim-here, heir-placed}
@@ -91,7 +90,7 @@ ends-ok (OnFree (FreeingChild x c noted purpose)) p = tt
 ends-ok _ p = tt
 
 -- what a loop waits for is the object of the free
-ends-for : (f : FreeFrame) (x : Obj) (a : FreeReply) (on : Footing) (p : Pool) → (free_profile f).object ≡ Some x → IsOfChild (frame.Free f) on → entry_of p.queues x ≡ None → EndsFor a on p
+ends-for : (f : FreeFrame) (x : Obj) (a : FreeReply) (on : Footing) (p : Pool) → (free_profile f).role ≡ Some x → IsOfChild (frame.Free f) on → entry_of p.queues x ≡ None → EndsFor a on p
 ends-for f x a (OnFree (FreeingChild y c noted purpose)) p is of none =
     let of' : x ≡ c = rw is at of in
     let none' : entry_of p.queues c ≡ None = subst (λ (z : Obj). entry_of p.queues z ≡ None) of' none in
@@ -105,7 +104,7 @@ ends-for f x a (OnFree (FreeingChild y c noted purpose)) p is of none =
 ends-for f x a _ p is of none = tt
 
 -- the same object, or none
-of-same : (f g : FreeFrame) (on : Footing) → ((c : Obj) → IsThat (free_profile f).object c → IsThat (free_profile g).object c) → IsOfChild (frame.Free f) on → IsOfChild (frame.Free g) on
+of-same : (f g : FreeFrame) (on : Footing) → ((c : Obj) → IsThat (free_profile f).role c → IsThat (free_profile g).role c) → IsOfChild (frame.Free f) on → IsOfChild (frame.Free g) on
 of-same f g (OnFree (FreeingChild x c noted purpose)) is h = is c h
 of-same f g _ is h = tt
 
@@ -273,6 +272,20 @@ referred-to fs p x h is = unentered fs p h x (λ w i. entry-unreferable w.reques
 
 -- ---- the steps of a free
 
+-- the newest reference to an object is dropped: a free goes on as it was where this was inside the object, and else as another
+drops-newest : (f g : FreeFrame) (x r : Obj) (fs : List Frame) (p : Pool) → Sound (frame.Free f) fs p → newest_ref p.rows x ≡ Some r → AreOfChildren (frame.Free f ∷ fs) → QueuesHold fs p
+    → ((y : Obj) → drains y fs ≡ true → drains y (frame.Free f ∷ fs) ≡ true) → ((y : Obj) → drains y fs ≡ true → drains y (frame.Free g ∷ fs) ≡ true)
+    → (entry_of p.queues x ≡ None → RestsQueued (frame.Free f) fs (remove p r)) → (entry_of p.queues x ≡ None → RestsQueued (frame.Free g) fs (remove p r))
+    → ((c : Obj) → IsThat (free_profile f).role c → IsThat (free_profile g).role c)
+    → FreeQueued fs (if is_inside p.rows (Of r) (Of x) then Do.Emit (IsDropped r x) f (remove p r) else Do.Emit (IsDropped r x) g (remove p r))
+drops-newest f g x r fs p s e of h drains-f drains-g works-f works-g same_object =
+    let w = newest-refers p.rows x r s.forest.distinct e in
+    let is : target_at p.rows r ≡ Some x = rw w.1 w.2 in
+    let none = referred-to fs p x h (s.refers.target r x is) in
+    by_test (is_inside p.rows (Of r) (Of x))
+    (λ t. rw t (record { pool = dropped fs (frame.Free f ∷ fs) p r x s.forest.distinct is drains-f h; works = works-f none; frees = of }))
+    (λ t. rw t (record { pool = dropped fs (frame.Free g ∷ fs) p r x s.forest.distinct is drains-g h; works = works-g none; frees = (of-same f g (footing fs) same_object of.0, of.1) }))
+
 beginning : (x : Obj) (fs : List Frame) (p : Pool) → Sound (frame.Free (Beginning x)) fs p → Queued (frame.Free (Beginning x)) fs p → FreeQueued fs (free_step (Beginning x) p)
 beginning x fs p s q = newest (newest_ref p.rows x) refl
   where
@@ -346,16 +359,8 @@ beginning x fs p s q = newest (newest_ref p.rows x) refl
 
     newest : (o : Option Obj) → newest_ref p.rows x ≡ o → FreeQueued fs (refs_step x o p)
     newest None e = each (row_of p.rows x) refl
-    newest (Some r) e =
-        let w = newest-refers p.rows x r s.forest.distinct e in
-        let is : target_at p.rows r ≡ Some x = rw w.1 w.2 in
-        by_test (is_inside p.rows (Of r) (Of x))
-        (λ t. rw t (record { pool = dropped fs (frame.Free (Beginning x) ∷ fs) p r x s.forest.distinct is (λ y d. d) h; works = tt; frees = q.frees }))
-        (λ t. rw t (record {
-          pool = dropped fs (frame.Free (Ending Held) ∷ fs) p r x s.forest.distinct is (λ y d. d) h;
-          works = ends-for (Beginning x) x Held (footing fs) (remove p r) refl q.frees.0 (referred-to fs p x h (s.refers.target r x is));
-          frees = (of-same (Beginning x) (Ending Held) (footing fs) (λ c z. tt) q.frees.0, q.frees.1);
-        }))
+    newest (Some r) e = drops-newest (Beginning x) (Ending Held) x r fs p s e q.frees h (λ y d. d) (λ y d. d) (λ none. tt)
+        (λ none. ends-for (Beginning x) x Held (footing fs) (remove p r) refl q.frees.0 none) (λ c z. tt)
 
 releasing : (x : Obj) (fs : List Frame) (p : Pool) → Sound (frame.Free (Releasing x)) fs p → Queued (frame.Free (Releasing x)) fs p → FreeQueued fs (free_step (Releasing x) p)
 releasing x fs p s q = each (newest_ref p.rows x) refl
@@ -365,16 +370,7 @@ releasing x fs p s q = each (newest_ref p.rows x) refl
 
     each : (o : Option Obj) → newest_ref p.rows x ≡ o → FreeQueued fs (release_step x o p)
     each None e = record { pool = same-queues fs (frame.Free (Beginning x) ∷ fs) p p h refl refl (λ y t d. d); works = tt; frees = (of-same (Releasing x) (Beginning x) (footing fs) (λ c z. z) q.frees.0, q.frees.1) }
-    each (Some r) e =
-        let w = newest-refers p.rows x r s.forest.distinct e in
-        let is : target_at p.rows r ≡ Some x = rw w.1 w.2 in
-        by_test (is_inside p.rows (Of r) (Of x))
-        (λ t. rw t (record { pool = dropped fs (frame.Free (Releasing x) ∷ fs) p r x s.forest.distinct is (λ y d. d) h; works = tt; frees = q.frees }))
-        (λ t. rw t (record {
-          pool = dropped fs (frame.Free (Giving x (unwrap_or (owner_of p.rows r) Root)) ∷ fs) p r x s.forest.distinct is (λ y d. d) h;
-          works = referred-to fs p x h (s.refers.target r x is);
-          frees = (of-same (Releasing x) (Giving x (unwrap_or (owner_of p.rows r) Root)) (footing fs) (λ c z. z) q.frees.0, q.frees.1);
-        }))
+    each (Some r) e = drops-newest (Releasing x) (Giving x (unwrap_or (owner_of p.rows r) Root)) x r fs p s e q.frees h (λ y d. d) (λ y d. d) (λ none. tt) (λ none. none) (λ c z. z)
 
 unlinking : (o : Owner) (x : Obj) (fs : List Frame) (p : Pool) → Sound (frame.Free (Unlinking o x)) fs p → Queued (frame.Free (Unlinking o x)) fs p → FreeQueued fs (free_step (Unlinking o x) p)
 unlinking o x fs p s q = each (newest_ref_of p.rows o x) refl

@@ -1,7 +1,6 @@
 -- What each step keeps of what holds of requests.
-use Rattle.std.proofs.Common.{◌≡◌, ℕ, suc, zero, nat_eq, List, [], ◌∷◌, Option, Some, None, Bool, true, false, refl, sym, ◌∙◌, ap, subst}
+use Rattle.std.proofs.Common.{◌≡◌, ℕ, suc, zero, nat_eq, List, [], Option, Some, None, Bool, true, false, refl, sym, ◌∙◌, ap, subst}
 use Rattle.tree_specs.specs.declared.object.Obj.{Obj}
-use Rattle.tree_specs.specs.declared.object.Owner.{Owner}
 use Rattle.tree_specs.specs.declared.row.Mark.TheVariants.{Busy}
 use Rattle.tree_specs.specs.declared.kind.Kind.{Kind}
 use Rattle.tree_specs.specs.declared.kind.Kind.TheVariants as kind
@@ -34,8 +33,8 @@ use Rattle.tree_specs.specs.Tree.Targets.{newest_ref}
 use Rattle.tree_specs.specs.Events.Coming.{handler_for, begun, goes_after}
 use Rattle.tree_specs.specs.Events.Requests.{note_of, is_noted, is_unreceived, cleanup_in, cancel_in, is_received, is_in_progress, state_number, cleaned, not_deferring}
 use Rattle.tree_specs.specs.Calls.Refusals as refusing
-use Rattle.tree_specs.specs.Calls.Refusals.{Check, tests, refusals, is_request, is_referable, is_request_row}
-use Rattle.tree_specs.specs.Calls.Plans.{Change, Plan, planned, plan, unless_refused, changed_by, frees, handed, gift}
+use Rattle.tree_specs.specs.Calls.Refusals.{tests, is_request, is_referable, is_request_row}
+use Rattle.tree_specs.specs.Calls.Plans.{Change, Plan, planned, plan, changed_by, gift}
 use Rattle.tree_specs.specs.Calls.Plans.Change.{Edit, Add, Place, Arm, AddRequest, Renotes, Then, AddQueue, AddEntry}
 use Rattle.tree_specs.specs.Calls.Plans.Plan.{Does, Frees, Unlinks, Turns, Works}
 use Rattle.tree_specs.specs.Calls.Passed.{AllPassed}
@@ -44,7 +43,7 @@ use Rattle.tree_specs.specs.Machine.Table.{Step, plan_step, turning_step, starti
 use Rattle.tree_specs.specs.Invariants.Sound.{Rests, Sound}
 use Rattle.tree_specs.specs.Invariants.Noted.{IsInProgress, NotesHold, Noted, IsForRequest, IsOfRequest}
 use Rattle.tree_specs.proofs.Tree.Numbered.{by_test}
-use Rattle.tree_specs.proofs.Calls.Checks.{all-pass, Heard as HeardBy, HeardCall, HeardReturn, heard-leads, Reached, ReachedOpening, ReachedHearing, reached-leads}
+use Rattle.tree_specs.proofs.Calls.Checks.{planned-by, Makes, frees-makes, handed-makes, Heard as HeardBy, HeardCall, HeardReturn, heard-leads, Reached, ReachedOpening, ReachedHearing, reached-leads}
 use Rattle.tree_specs.proofs.Calls.Plans.{MayWork, May, may-planned}
 use Rattle.tree_specs.proofs.Calls.Changes.{MayDo, change-sound}
 use Rattle.tree_specs.proofs.Invariants.Changes.{nobody}
@@ -64,9 +63,7 @@ KeepsNotes p (Then first second) = KeepsNotes p first × KeepsNotes (changed_by 
 KeepsNotes p change = Unit {0}
 
 abbrev PlanKeeps : Pool → Plan → Type 0
-PlanKeeps p (Does change notice r) = KeepsNotes p change
-PlanKeeps p (Works change errand x) = KeepsNotes p change
-PlanKeeps p plan = Unit {0}
+PlanKeeps p plan = Makes (KeepsNotes p) plan
 
 -- nothing is kept of the next number
 unnoted : (p : Pool) → ((x : Obj) → is_noted p.requests x ≡ is_request_row (row_of p.rows x)) → row_of p.rows (record { 0 = p.next }) ≡ None → IsInProgress p (record { 0 = p.next })
@@ -77,18 +74,10 @@ unnoted p notes none = each (note_of p.requests (record { 0 = p.next })) refl
     each (Some n) e = let bad : true ≡ false = sym (rw e refl) ∙ notes (record { 0 = p.next }) ∙ ap is_request_row none in cc
 
 module _ (p : Pool) (new : IsInProgress p (record { 0 = p.next })) where
-  freed : (x : Obj) (r : Option Obj) → PlanKeeps p (frees r x)
-  freed x None = tt
-  freed x (Some r) = tt
-
-  given : (to : Owner) (o : Option Obj) → KeepsNotes p (handed to o)
-  given to None = tt
-  given to (Some x) = tt
-
   each : (c : Call) → AllPassed p (tests c) → PlanKeeps p (plan p c)
   each (call.New o size name) h = refl
-  each (call.Free x) h = freed x (newest_ref p.rows x)
-  each (call.Reparent from to x) h = given to (gift p from x)
+  each (call.Free x) h = frees-makes (KeepsNotes p) x (newest_ref p.rows x)
+  each (call.Reparent from to x) h = handed-makes (KeepsNotes p) to (gift p from x) tt (λ y e. tt)
   each (call.Reference o x) h = refl
   each (call.Immediate o) h = refl
   each (call.Schedule x routine user) h = by_test (nat_eq routine 0) (λ t. rw t tt) (λ t. rw t (tt, tt))
@@ -102,11 +91,7 @@ module _ (p : Pool) (new : IsInProgress p (record { 0 = p.next })) where
   each _ h = tt
 
   plan-keeps : (c : Call) → PlanKeeps p (planned p c)
-  plan-keeps c = by-check (refusals p c) refl
-    where
-      by-check : (check : Check) → refusals p c ≡ check → PlanKeeps p (unless_refused check (plan p c))
-      by-check [] none = each c (all-pass p (tests c) none)
-      by-check (why ∷ later) e = tt
+  plan-keeps c = planned-by (PlanKeeps p) p c (each c) (λ r. tt)
 
 change-holds : (f : Frame) (fs : List Frame) (p : Pool) (c : Change) → Sound f fs p → ((q : Pool) → Rests f fs q) → MayDo p c → KeepsNotes p c → NotesHold None p → NotesHold None (changed_by c p)
 change-holds f fs p (Edit x g) s calm may keeps h = unmarked-holds g p x may.place.serial may.place.kind may.mark h

@@ -1,8 +1,6 @@
 -- What each step keeps of what holds of queues.
-use Rattle.std.proofs.Common.{◌≡◌, ◌≢◌, ℕ, suc, zero, nat_eq, List, [], ◌∷◌, Option, Some, None, true, false, Bool, refl, sym, ap, subst, ◌∙◌, inl, inr}
+use Rattle.std.proofs.Common.{◌≡◌, ℕ, suc, zero, nat_eq, List, [], ◌∷◌, Option, Some, None, true, false, Bool, refl, sym, ap, subst, ◌∙◌, inl, inr}
 use Rattle.std.specs.Prelude.{is_some, codes, ◌+◌}
-use Rattle.step_machine.specs.Machine.{Move}
-use Rattle.step_machine.specs.Machine.{Move as Do}
 use Rattle.tree_specs.specs.declared.object.Obj.{Obj}
 use Rattle.tree_specs.specs.declared.object.Owner.{Owner}
 use Rattle.tree_specs.specs.declared.object.Owner.TheVariants.{Of}
@@ -16,7 +14,6 @@ use Rattle.tree_specs.specs.declared.call.Call.TheVariants as call
 use Rattle.tree_specs.specs.declared.handler.Handler.{Handler}
 use Rattle.tree_specs.specs.declared.moment.What.{What}
 use Rattle.tree_specs.specs.declared.moment.What.TheVariants as whats
-use Rattle.tree_specs.specs.declared.notice.Notice.{Notice}
 use Rattle.tree_specs.specs.declared.question.Ask.{Ask}
 use Rattle.tree_specs.specs.declared.question.Ask.TheVariants as ask
 use Rattle.tree_specs.specs.declared.request.Note.{Note}
@@ -25,10 +22,10 @@ use Rattle.tree_specs.specs.declared.frame.Errand.{Errand}
 use Rattle.tree_specs.specs.declared.frame.Errand.TheVariants.{Finish, Notify, Receive, Cancel}
 use Rattle.tree_specs.specs.declared.frame.Frame.{Frame}
 use Rattle.tree_specs.specs.declared.frame.Frame.TheVariants as frame
-use Rattle.tree_specs.specs.declared.frame.CallFrame.TheVariants.{Asking, Doing, Awaiting, Turning, Requesting, Announcing, Telling, Returning}
+use Rattle.tree_specs.specs.declared.frame.CallFrame.TheVariants.{Asking, Doing, Announcing, Telling, Returning}
 use Rattle.tree_specs.specs.declared.frame.FreeFrame.TheVariants.{Draining, Beginning, Unlinking}
 use Rattle.tree_specs.specs.declared.frame.TurnFrame.{TurnFrame}
-use Rattle.tree_specs.specs.declared.frame.TurnFrame.TheVariants.{Taking, Timing, Timed, Polling, Starting, Firing, Handling, Handled, Clearing, Serving, Closing}
+use Rattle.tree_specs.specs.declared.frame.TurnFrame.TheVariants.{Taking, Timing, Timed, Polling, Starting, Firing, Handling, Handled, Closing}
 use Rattle.tree_specs.specs.declared.frame.OutsideFrame.{OutsideFrame}
 use Rattle.tree_specs.specs.declared.frame.OutsideFrame.TheVariants.{Reaching, Opening, Hearing}
 use Rattle.tree_specs.specs.declared.frame.RequestFrame.{RequestFrame}
@@ -36,25 +33,25 @@ use Rattle.tree_specs.specs.declared.frame.RequestFrame.TheVariants as request
 use Rattle.tree_specs.specs.declared.frame.Answer.TheVariants.{Returned, Turned, Heard}
 use Rattle.tree_specs.specs.declared.free_step.FreeReply.TheVariants.{Ok as FreeOk}
 use Rattle.tree_specs.specs.Tree.Targets.{newest_ref, target_of}
-use Rattle.tree_specs.specs.Tree.Pool.{Pool, row_of, passes, changed, set_mark, marked_row, run_queue, trigger, open_descriptor, finish, receive, renote, schedule, look_at, add, note, is_below, owner_of, newest_ref_of, is_dying_mark}
-use Rattle.tree_specs.specs.Events.Queues.{Head, entry_of, is_entered, head_of, has_entries, next_of, runs, has_queue, head_in}
+use Rattle.tree_specs.specs.Tree.Pool.{Pool, row_of, passes, set_mark, marked_row, run_queue, trigger, open_descriptor, finish, receive, renote, schedule, add, note, is_below, owner_of, newest_ref_of, is_dying_mark}
+use Rattle.tree_specs.specs.Events.Queues.{Head, head_of, has_entries, next_of, runs, has_queue, head_in}
 use Rattle.tree_specs.specs.Events.Requests.{note_of, is_unreceived, cleanup_in, cancel_in, cleaned, not_deferring, new_note}
 use Rattle.tree_specs.specs.Events.Coming.{comes_as, handler_for, goes_after, begun, handler_moment, plainly}
-use Rattle.tree_specs.specs.Calls.Passed.{AllPassed, Passed}
-use Rattle.tree_specs.specs.Calls.Refusals.{Check, tests, refusals, is_queue, is_entry, is_plain, is_going, is_going_mark, is_entry_row, is_queue_row, is_plain_row}
-use Rattle.tree_specs.specs.Calls.Plans.{Change, Plan, plan, planned, unless_refused, changed_by, frees, handed, gift}
-use Rattle.tree_specs.specs.Calls.Plans.Change.{Nothing, Edit, Add, Place, AddQueue, AddEntry, AddRequest, Runs, Then}
+use Rattle.tree_specs.specs.Calls.Passed.{AllPassed}
+use Rattle.tree_specs.specs.Calls.Refusals.{tests, is_queue, is_entry, is_plain, is_going, is_going_mark, is_entry_row, is_queue_row, is_plain_row}
+use Rattle.tree_specs.specs.Calls.Plans.{Change, Plan, plan, planned, changed_by, frees, handed, gift}
+use Rattle.tree_specs.specs.Calls.Plans.Change.{Edit, Add, Place, AddQueue, AddEntry, AddRequest, Runs, Then}
 use Rattle.tree_specs.specs.Calls.Plans.Plan.{Does, Frees, Unlinks, Empties, Asks, Turns, Works}
-use Rattle.tree_specs.specs.Machine.Table.{Step, step, plan_step, turning_step, notice_step, starting_step, handled_step, turn_step, outside_step, cancelling_step, cleaning_step, release_object, cleaned_step, callback_step, notifying_step, vacating_step, triggering_step, request_step}
+use Rattle.tree_specs.specs.Machine.Table.{Step, step, plan_step, turning_step, starting_step, handled_step, turn_step, outside_step, cancelling_step, cleaning_step, release_object, cleaned_step, callback_step, notifying_step, vacating_step, triggering_step, request_step}
 use Rattle.tree_specs.specs.Invariants.Sound.{Footing, OnFree, footing, phases, phase_of, claims, IsRequested, Drains, Rests, Sound, IsLive, Refers}
 use Rattle.tree_specs.specs.Invariants.Consistent.{IsStacked}
-use Rattle.tree_specs.specs.Invariants.Queued.{IsEntryRow, is_live_entry, drains, QueuesHold, OverFor, EndsFor, Queued, RestsQueued, IsOfChild}
-use Rattle.tree_specs.proofs.Tree.Numbered.{by_test, same-equal}
+use Rattle.tree_specs.specs.Invariants.Queued.{is_live_entry, drains, QueuesHold, OverFor, Queued, RestsQueued, IsOfChild}
+use Rattle.tree_specs.proofs.Tree.Numbered.{by_test}
 use Rattle.tree_specs.proofs.Invariants.Changes.{nobody, handling-row, claim-here, new-sound}
-use Rattle.tree_specs.proofs.Invariants.Turning.{Passes, Pass, Trigger, Serve, handler-ready, rotated-rows, look-passes, taken-plain}
+use Rattle.tree_specs.proofs.Invariants.Turning.{Passes, Pass, Trigger, Serve, handler-ready, look-passes, taken-plain}
 use Rattle.tree_specs.proofs.Invariants.Queues.{no-entries, same-queues, changed-queues, placed-queues, added-queues, new-queue-holds, new-entry-holds, ran-queues, triggered-queues, next-head, not-entered}
 use Rattle.tree_specs.proofs.Invariants.FreeQueues.{QueuedBy, requested-over, no-work-over, no-free-ends, ended, lifted-queued, free-queued}
-use Rattle.tree_specs.proofs.Calls.Checks.{all-pass, heard-leads, Heard as HeardBy, HeardCall, HeardReturn, reached-leads, Reached, ReachedOpening, ReachedHearing}
+use Rattle.tree_specs.proofs.Calls.Checks.{Makes, frees-makes, handed-makes, planned-by, heard-leads, Heard as HeardBy, HeardCall, HeardReturn, reached-leads, Reached, ReachedOpening, ReachedHearing}
 use Rattle.tree_specs.proofs.Calls.Plans.{May, may-planned}
 use Rattle.tree_specs.proofs.Calls.Changes.{MayDo, change-sound}
 use Rattle.tree_specs.specs.Machine.Profiles.{InHandler}
@@ -80,9 +77,7 @@ KeepsQueues p (Then first second) = KeepsQueues p first × KeepsQueues (changed_
 KeepsQueues p change = Unit {0}
 
 abbrev PlanKeeps : Pool → Plan → Type 0
-PlanKeeps p (Does change notice r) = KeepsQueues p change
-PlanKeeps p (Works change errand x) = KeepsQueues p change
-PlanKeeps p plan = Unit {0}
+PlanKeeps p plan = Makes (KeepsQueues p) plan
 
 -- what a change leads to
 change-queues : (fs gs : List Frame) (f : Frame) (below : List Frame) (p : Pool) (c : Change) → Sound f below p → ((q : Pool) → Rests f below q) → MayDo p c → KeepsQueues p c → ((y : Obj) → drains y fs ≡ true → drains y gs ≡ true) → QueuesHold fs p
@@ -126,23 +121,18 @@ change-queues fs gs f below p (Then c d) s calm may keeps more h =
 change-queues fs gs f below p c s calm may keeps more h = same-queues fs gs p (changed_by c p) h refl refl (λ y t d. more y d)
 
 module _ (p : Pool) (refers : Refers p.rows) (distinct : Distinct p.rows) where
-  freed : (x : Obj) (r : Option Obj) → PlanKeeps p (frees r x)
-  freed x None = tt
-  freed x (Some r) = tt
-
   -- what a call gives away is no entry
   given : (from to : Owner) (x : Obj) → is_entry_row (row_of p.rows x) ≡ false → KeepsQueues p (handed to (gift p from x))
   given from to x movable = by_test (is_below (owner_of p.rows x) from)
       (λ t. rw t movable)
-      (λ t. rw t (each (newest_ref_of p.rows from x) refl))
+      (λ t. rw t (handed-makes (KeepsQueues p) to (newest_ref_of p.rows from x) tt newest))
     where
       reference : (k : Kind) (t : Obj) → target_of k ≡ Some t → is_entry k ≡ false
       reference (kind.Reference t) t' e = refl
       reference _ t e = cc
 
-      each : (o : Option Obj) → newest_ref_of p.rows from x ≡ o → KeepsQueues p (handed to o)
-      each None e = tt
-      each (Some r) e = let w = newest-of-refers p.rows from x r distinct e in ap is_entry_row w.1 ∙ reference w.0.kind x w.2
+      newest : (r : Obj) → newest_ref_of p.rows from x ≡ Some r → KeepsQueues p (Place to r)
+      newest r e = let w = newest-of-refers p.rows from x r distinct e in ap is_entry_row w.1 ∙ reference w.0.kind x w.2
 
   plain-only : (x : Obj) → is_plain_row (row_of p.rows x) ≡ true → (r : Row) → row_of p.rows x ≡ Some r → is_entry r.kind ≡ true → ⊥
   plain-only x plain r e entry = kinds r.kind (let t : is_plain_row (Some r) ≡ true = rw e at plain in t) entry
@@ -153,7 +143,7 @@ module _ (p : Pool) (refers : Refers p.rows) (distinct : Distinct p.rows) where
 
   each : (c : Call) → AllPassed p (tests c) → PlanKeeps p (plan p c)
   each (call.New o size name) h = (refl, refl)
-  each (call.Free x) h = freed x (newest_ref p.rows x)
+  each (call.Free x) h = frees-makes (KeepsQueues p) x (newest_ref p.rows x)
   each (call.Steal o x) h = h.1.0
   each (call.Move o x) h = h.1.0
   each (call.Reparent from to x) h = given from to x h.1.0
@@ -174,11 +164,7 @@ module _ (p : Pool) (refers : Refers p.rows) (distinct : Distinct p.rows) where
   each _ h = tt
 
   plan-keeps : (c : Call) → PlanKeeps p (planned p c)
-  plan-keeps c = by-check (refusals p c) refl
-    where
-      by-check : (check : Check) → refusals p c ≡ check → PlanKeeps p (unless_refused check (plan p c))
-      by-check [] none = each c (all-pass p (tests c) none)
-      by-check (why ∷ later) e = tt
+  plan-keeps c = planned-by (PlanKeeps p) p c (each c) (λ r. tt)
 
 planned-queued : (q : Ask) (c : Call) (fs : List Frame) (p : Pool) (k : ℕ) → Sound (frame.Call (Doing q c)) fs p → Queued (frame.Call (Doing q c)) fs p → (plan : Plan) → May p plan → PlanKeeps p plan → QueuedBy (plan_step q plan p) fs k
 planned-queued q c fs p k s u plan may keeps = each plan may keeps

@@ -14,8 +14,6 @@ use Rattle.tree_specs.specs.declared.object.Owner.TheVariants.{Of}
 use Rattle.tree_specs.specs.declared.kind.Kind.{Kind}
 use Rattle.tree_specs.specs.declared.kind.Kind.TheVariants as kind
 use Rattle.tree_specs.specs.declared.row.Row.{Row}
-use Rattle.tree_specs.specs.declared.row.Mark.{Mark}
-use Rattle.tree_specs.specs.declared.row.Mark.TheVariants.{Quiet, Dying}
 use Rattle.tree_specs.specs.declared.handler.Handler.{Handler}
 use Rattle.tree_specs.specs.declared.queue.QueueEntry.{QueueEntry}
 use Rattle.tree_specs.specs.declared.frame.Frame.{Frame}
@@ -23,10 +21,10 @@ use Rattle.tree_specs.specs.Words.Objects.{same}
 use Rattle.tree_specs.specs.Tree.Targets.{target_of, newest_ref}
 use Rattle.tree_specs.specs.Tree.Pool.{Pool, target_at, target_in, row_of, passes, is_dying_mark, changed, without, remove, place, add, new_row, let_go, run_queue, trigger, add_queue, add_entry}
 use Rattle.tree_specs.specs.Tree.Forest.{Distinct}
-use Rattle.tree_specs.specs.Events.Queues.{Queues, Head, has_queue, entry_of, is_entered, head_in, head_of, has_entries, next_of, runs, untriggered, with_entry, triggered_entry, new_entry}
+use Rattle.tree_specs.specs.Events.Queues.{Queues, Head, has_queue, entry_of, is_entered, head_in, has_entries, next_of, runs, untriggered, triggered_entry, new_entry}
 use Rattle.tree_specs.specs.Calls.Refusals.{is_entry, is_queue, is_request, is_referable, is_queue_row, is_request_row}
 use Rattle.tree_specs.specs.Invariants.Sound.{IsIdleEntry, IsReferable, Refers, MayBePlaced, phases, phase_of}
-use Rattle.tree_specs.specs.Invariants.Queued.{IsEntryRow, IsQueued, AllQueued, AreQueued, is_live_entry, drains, QueuesHold}
+use Rattle.tree_specs.specs.Invariants.Queued.{IsEntryRow, IsQueued, AllQueued, is_live_entry, drains, QueuesHold}
 use Rattle.tree_specs.proofs.Tree.Numbered.{by_test, same-true, same-equal, same-false, same_or_not}
 use Rattle.tree_specs.proofs.Tree.Referring.{unreferred}
 use Rattle.tree_specs.proofs.Tree.Rows.{row_of-changed-other, row_of-changed-same, row_of-without-other, row_of-without-same, row_of-placed-other, row_of-placed-same}

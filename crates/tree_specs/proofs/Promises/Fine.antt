@@ -17,7 +17,7 @@ use Rattle.tree_specs.specs.declared.reply.Reply.{Reply}
 use Rattle.tree_specs.specs.declared.event.Event.TheVariants.{Replied, Refused}
 use Rattle.tree_specs.specs.declared.frame.Frame.{Frame}
 use Rattle.tree_specs.specs.declared.frame.Frame.TheVariants as frame
-use Rattle.tree_specs.specs.declared.frame.CallFrame.TheVariants.{Awaiting, Turning, Requesting, Telling}
+use Rattle.tree_specs.specs.declared.frame.CallFrame.TheVariants.{Awaiting, Turning, Requesting}
 use Rattle.tree_specs.specs.declared.frame.TurnFrame.TheVariants.{Handling, Clearing, Serving}
 use Rattle.tree_specs.specs.declared.handler.Handler.{Handler}
 use Rattle.tree_specs.specs.declared.moment.What.TheVariants as whats
@@ -36,14 +36,14 @@ use Rattle.tree_specs.specs.Rules.Items.{Item}
 use Rattle.tree_specs.specs.Rules.Items.Item.{Told}
 use Rattle.tree_specs.specs.Rules.Sequence.{CallStart, Scene}
 use Rattle.tree_specs.specs.Rules.Answers.{freed_reply, later}
-use Rattle.tree_specs.specs.Machine.Table.{notes, resume, reply_in, value_in, heard_in}
+use Rattle.tree_specs.specs.Machine.Table.{notes, note_after, resume, reply_in, value_in, heard_in}
 use Rattle.tree_specs.specs.Machine.Profiles.{Waits, Never, AFree, ARun, AChild, ATurn, AHandler, AClear, ARequest, APrepared, AServed, ARoutine, ARelease, profile, ADropping}
 use Rattle.tree_specs.specs.Promises.Orderly.{Fits, RefusedJustNow}
 use Rattle.tree_specs.specs.Promises.Grounded.{IsGrounded, AnsweredCall, HeldCall, CausedCall, IsItem, AsksHook}
 use Rattle.tree_specs.specs.Invariants.Sound.{AllWait}
 use Rattle.tree_specs.proofs.Tree.Numbered.{same-equal}
 use Rattle.tree_specs.specs.Machine.Meaning.{noted_table}
-use Rattle.tree_specs.proofs.Promises.Later.{later-same}
+use Rattle.tree_specs.proofs.Promises.Later.{Later, later-same}
 use Rattle.tree_specs.proofs.Promises.Past.{IsLeaving, Accounts, Past, past-goes}
 use Rattle.tree_specs.proofs.Promises.Causes.{NotedWork, item_of, told, IsFreeOf, IsAskedAs, IsHook, IsNoHook, IsRunAs, FreesBy, TurnsOrAsks, Knows, KnowsTurn, StandsFor, StandsOn, Stacked, OfNext, IsCaused, Cause, NotHeld, done-reply, cancelled-done}
 use Rattle.tree_specs.proofs.Invariants.Waiters.{Waiter, ForFree, ForRun, ForChild, ForTurn, ForHandler, ForClear, ForRequest, ForServed, ForReceived, ForRoutine, ForRelease, waiter, ForDrained, ForEntry}
@@ -187,86 +187,62 @@ pub resumed : (scenes : List Scene) (f : Frame) (b : Option CallStart) (ws : Lis
 resumed scenes f b [] p a past stays stacked wait h = tt
 resumed scenes f b (w ∷ ws) p a past stays stacked wait h = below w.work (waiter w.work (map work_of ws) wait.0) past stacked.0 stacked.1 h
   where
-    goes : (g g' : Frame) → Past (told scenes) f (g ∷ map work_of ws) p → Accounts (told scenes) g' → Past (told scenes) g' (map work_of ws) p
-    goes g g' past account = past-goes (told scenes) f g' (g ∷ map work_of ws) (map work_of ws) p p past (later-same p) (λ x l. absurd (stays x l)) account past.all_account.1
-
     after : (what : What) (x : Obj) (k : Handler) (errand : Errand) → Cause scenes (resume (frame.Request (request.Called what x k errand)) a) w.note ws p
     after whats.Cleanup x k errand = tt
     after whats.Cancel x k errand = cancelled-done (value_in a)
     after _ x k errand = done-reply errand
 
+    -- the work below goes on, and stands where it stood
+    next : (g : Frame) → Past (told scenes) f (g ∷ map work_of ws) p → Stacked g ws → ((x : Obj) → IsFreeOf x g → IsFreeOf x (resume g a)) → ((P : What → Obj → Type 0) → IsRunAs P g → IsRunAs P (resume g a))
+        → Accounts (told scenes) (resume g a) → Cause scenes (resume g a) w.note ws p → Known scenes (with_note w.note (resume g a)) ws p
+    next g past under free run account cause = record {
+      past = past-goes (told scenes) f (resume g a) (g ∷ map work_of ws) (map work_of ws) p p past (later-same p) (λ x l. absurd (stays x l)) account past.all_account.1;
+      stacked = restacked g (resume g a) ws free run under;
+      cause = cause;
+    }
+
     below : (g : Frame) → Waiter g → Past (told scenes) f (g ∷ map work_of ws) p → StandsOn f g w.note → Stacked g ws → AnswersTo scenes a g w.note → Known scenes (with_note w.note (resume g a)) ws p
     below _ (ForFree q x) past on under h =
         let r : Reply = freed_reply x (reply_in a) in
-        record {
-          past = goes _ (frame.Call (Telling (later q r) r)) past tt;
-          stacked = restacked (frame.Call (Awaiting q x)) (frame.Call (Telling (later q r) r)) ws (λ y k. k) (λ y k. later-hook y q r k) under;
-          cause = caused-reply scenes x w.note (reply_in a) on.1 h;
-        }
-    below _ (ForRun x k) past on under h = record {
-      past = goes _ _ past tt;
-      stacked = restacked (frame.Free (Hooked x k)) _ ws (λ y l. l) (λ y l. l) under;
-      cause = h;
-    }
-    below _ (ForTurn q) past on under h =
-        let r : Reply = heard_in a in
-        record {
-          past = goes _ (frame.Call (Telling (later q r) r)) past tt;
-          stacked = restacked (frame.Call (Turning q)) (frame.Call (Telling (later q r) r)) ws (λ y k. k) (λ y k. later-hook y q r k) under;
-          cause = caused-turn scenes w.note r on h;
-        }
-    below _ (ForRequest q) past on under h =
-        let r : Reply = heard_in a in
-        record {
-          past = goes _ (frame.Call (Telling (later q r) r)) past tt;
-          stacked = restacked (frame.Call (Requesting q)) (frame.Call (Telling (later q r) r)) ws (λ y k. k) (λ y k. later-hook y q r k) under;
-          cause = caused-turn scenes w.note r on h;
-        }
-    below _ (ForServed x) past on under h = record {
-      past = goes _ _ past tt;
-      stacked = restacked (frame.Turn (Serving x)) _ ws (λ y l. l) (λ y l. l) under;
-      cause = tt;
-    }
-    below _ (ForReceived x) past on under h = record {
-      past = goes _ _ past tt;
-      stacked = restacked (frame.Free (Preparing x)) _ ws (λ y l. l) (λ y l. l) under;
-      cause = tt;
-    }
-    below _ (ForRoutine what x k errand) past on under h = record {
-      past = goes _ _ past tt;
-      stacked = restacked (frame.Request (request.Called what x k errand)) _ ws (λ y l. l) (λ y l. l) under;
-      cause = after what x k errand;
-    }
-    below _ (ForDrained x) past on under h = record {
-      past = goes _ _ past tt;
-      stacked = restacked (frame.Free (Draining x)) _ ws (λ y l. l) (λ y l. l) under;
-      cause = tt;
-    }
-    below _ (ForEntry q e) past on under h = record {
-      past = goes _ _ past tt;
-      stacked = restacked (frame.Request (request.Dropping q e)) _ ws (λ y l. l) (λ y l. l) under;
-      cause = tt;
-    }
-    below _ (ForRelease c) past on under h = record {
-      past = goes _ _ past tt;
-      stacked = restacked (frame.Request (request.Releasing c)) _ ws (λ y l. l) (λ y l. l) under;
-      cause = tt;
-    }
-    below _ (ForHandler w x k occasion) past on under h = record {
-      past = goes _ _ past tt;
-      stacked = restacked (frame.Turn (Handling w x k occasion)) _ ws (λ y l. l) (λ y l. l) under;
-      cause = tt;
-    }
-    below _ (ForClear x) past on under h = record {
-      past = goes _ _ past tt;
-      stacked = restacked (frame.Turn (Clearing x)) _ ws (λ y l. l) (λ y l. l) under;
-      cause = tt;
-    }
-    below _ (ForChild x c noted purpose) past on under h = record {
-      past = goes _ _ past past.all_account.0;
-      stacked = restacked (frame.Free (FreeingChild x c noted purpose)) _ ws (λ y k. k) (λ y k. k) under;
-      cause = tt;
-    }
+        next (frame.Call (Awaiting q x)) past under (λ y k. k) (λ P k. later-hook P q r k) tt (caused-reply scenes x w.note (reply_in a) on.1 h)
+    below _ (ForRun x k) past on under h = next (frame.Free (Hooked x k)) past under (λ y l. l) (λ P l. l) tt h
+    below _ (ForTurn q) past on under h = next (frame.Call (Turning q)) past under (λ y k. k) (λ P k. later-hook P q (heard_in a) k) tt (caused-turn scenes w.note (heard_in a) on h)
+    below _ (ForRequest q) past on under h = next (frame.Call (Requesting q)) past under (λ y k. k) (λ P k. later-hook P q (heard_in a) k) tt (caused-turn scenes w.note (heard_in a) on h)
+    below _ (ForServed x) past on under h = next (frame.Turn (Serving x)) past under (λ y l. l) (λ P l. l) tt tt
+    below _ (ForReceived x) past on under h = next (frame.Free (Preparing x)) past under (λ y l. l) (λ P l. l) tt tt
+    below _ (ForRoutine what x k errand) past on under h = next (frame.Request (request.Called what x k errand)) past under (λ y l. l) (λ P l. l) tt (after what x k errand)
+    below _ (ForDrained x) past on under h = next (frame.Free (Draining x)) past under (λ y l. l) (λ P l. l) tt tt
+    below _ (ForEntry q e) past on under h = next (frame.Request (request.Dropping q e)) past under (λ y l. l) (λ P l. l) tt tt
+    below _ (ForRelease c) past on under h = next (frame.Request (request.Releasing c)) past under (λ y l. l) (λ P l. l) tt tt
+    below _ (ForHandler w x k occasion) past on under h = next (frame.Turn (Handling w x k occasion)) past under (λ y l. l) (λ P l. l) tt tt
+    below _ (ForClear x) past on under h = next (frame.Turn (Clearing x)) past under (λ y l. l) (λ P l. l) tt tt
+    below _ (ForChild x c noted purpose) past on under h = next (frame.Free (FreeingChild x c noted purpose)) past under (λ y k. k) (λ P k. k) past.all_account.0 tt
+
+-- ---- a work that goes on
+
+-- it leaves no object, and another work does as well for what it stands on
+pub record Yields (f g : Frame) : Type 1 where
+  pub stays : (x : Obj) → IsLeaving f x → ⊥
+  pub free : (x : Obj) → IsFreeOf x f → IsFreeOf x g
+  pub run : (P : What → Obj → Type 0) → IsRunAs P f → IsRunAs P g
+
+module _ (scenes : List Scene) (f g : Frame) (b : Option CallStart) (ws : List NotedWork) (p q : Pool) where
+  -- it goes on as another work over a later pool, and tells nothing
+  pub goes-on : Yields f g → Later p q → Accounts (told scenes) g → Cause scenes g (note_after f p b) ws q → Known scenes (with_note b f) ws p → FineBy scenes f b p (Do.Go g q) ws
+  goes-on yields later account cause known = record {
+    past = past-goes (told scenes) f g (map work_of ws) (map work_of ws) p q known.past later (λ x l. absurd (yields.stays x l)) account known.past.all_account;
+    stacked = restacked f g ws yields.free yields.run known.stacked;
+    cause = cause;
+  }
+
+  -- it begins another work, and waits for it
+  pub waits-for : (h : Frame) → Yields f g → Later p q → Accounts (told scenes) h → Accounts (told scenes) g → StandsOn h g (note_after f p b) → Cause scenes h None (with_note (note_after f p b) g ∷ ws) q
+      → Known scenes (with_note b f) ws p → FineBy scenes f b p (Do.Call h g q) ws
+  waits-for h yields later account account' on cause known = record {
+    past = past-goes (told scenes) f h (map work_of ws) (g ∷ map work_of ws) p q known.past later (λ x l. absurd (yields.stays x l)) account (account', known.past.all_account);
+    stacked = (on, restacked f g ws yields.free yields.run known.stacked);
+    cause = cause;
+  }
 
 -- ---- one more scene
 

@@ -60,7 +60,7 @@ use Rattle.tree_specs.proofs.Promises.Causes.{NotedWork, told, IsFreeOf, IsAsked
 use Rattle.tree_specs.proofs.Invariants.Waiters.{Waiter, ForFree, ForRun, ForChild, ForTurn, ForHandler, ForClear, ForRequest, ForServed, ForReceived, ForRoutine, ForRelease, waiter, ForDrained, ForEntry}
 use Rattle.tree_specs.proofs.Calls.OwnRefusals.{AllOwn, own-refused, own-just-now, own-call}
 use Rattle.tree_specs.proofs.Promises.Fitting.{last-more, fits-replied, fits-quiet, fits-asked, fits-handler, fits-warned, fits-closed}
-use Rattle.tree_specs.proofs.Promises.Fine.{work_of, Known, FineBy, restacked, of-next, from-next, later-hook, AnswersTo, resumed, caused-turn, known-told, taken-noted}
+use Rattle.tree_specs.proofs.Promises.Fine.{work_of, Known, FineBy, restacked, goes-on, waits-for, of-next, from-next, later-hook, AnswersTo, resumed, caused-turn, known-told, taken-noted}
 use Rattle.tree_specs.specs.Events.Queues.{runs}
 
 -- the question of a destructor is of its object
@@ -240,22 +240,11 @@ caused-planned p c d refers = each (refusals p c) refl (own-refused p (tests c))
 turning-fine : (scenes : List Scene) (q : Ask) (c : Call) (b : Option CallStart) (ws : List NotedWork) (p : Pool) → Known scenes (with_note b (frame.Call (Doing q c))) ws p → TurnsOrAsks c
     → FineBy scenes (frame.Call (Doing q c)) b p (turning_step q p) ws
 turning-fine scenes ask.Quiet c b ws p known turns =
-    let f : Frame = frame.Call (Doing ask.Quiet c) in
-    let g : Frame = frame.Call (Turning ask.Quiet) in
-    record {
-      past = past-goes (told scenes) f (frame.Turn Taking) (map work_of ws) (g ∷ map work_of ws) p p known.past (later-same p) (λ y l. absurd l) tt (tt, known.past.all_account);
-      stacked = (turns, restacked f g ws (λ y h. h) (λ y h. h) known.stacked);
-      cause = tt;
-    }
+    waits-for scenes (frame.Call (Doing ask.Quiet c)) (frame.Call (Turning ask.Quiet)) b ws p p (frame.Turn Taking) (record { stays = λ y l. l; free = λ y h. h; run = λ P h. h }) (later-same p) tt tt turns tt known
 turning-fine scenes q c b ws p known turns =
-    let f : Frame = frame.Call (Doing q c) in
     let r : Reply = reply.No refusal.Nested in
-    let g : Frame = frame.Call (Telling (later q r) r) in
-    record {
-      past = past-goes (told scenes) f g (map work_of ws) (map work_of ws) p p known.past (later-same p) (λ y l. absurd l) tt known.past.all_account;
-      stacked = restacked f g ws (λ y h. h) (λ y h. later-hook y q r h) known.stacked;
-      cause = caused-turn scenes (Some (record { call = c; start = p })) r turns tt;
-    }
+    goes-on scenes (frame.Call (Doing q c)) (frame.Call (Telling (later q r) r)) b ws p p (record { stays = λ y l. l; free = λ y h. h; run = λ P h. later-hook P q r h }) (later-same p) tt
+    (caused-turn scenes (Some (record { call = c; start = p })) r turns tt) known
 
 -- a call that needs no free has its reply told
 module _ (scenes : List Scene) (q : Ask) (c : Call) (b : Option CallStart) (ws : List NotedWork) (p : Pool) (known : Known scenes (with_note b (frame.Call (Doing q c))) ws p) where
@@ -264,59 +253,32 @@ module _ (scenes : List Scene) (q : Ask) (c : Call) (b : Option CallStart) (ws :
 
   told-next : (r : Reply) (p' : Pool) → Later p p' → IsCaused scenes (Some begun) r → FineBy scenes (frame.Call (Doing q c)) b p (Do.Go (frame.Call (Telling (later q r) r)) p') ws
   told-next r p' after cause =
-      let f : Frame = frame.Call (Doing q c) in
-      let g : Frame = frame.Call (Telling (later q r) r) in
-      record {
-        past = past-goes (told scenes) f g (map work_of ws) (map work_of ws) p p' known.past after (λ x l. absurd l) tt known.past.all_account;
-        stacked = restacked f g ws (λ x h. h) (λ x h. later-hook x q r h) known.stacked;
-        cause = cause;
-      }
+      goes-on scenes (frame.Call (Doing q c)) (frame.Call (Telling (later q r) r)) b ws p p' (record { stays = λ x l. l; free = λ x h. h; run = λ P h. later-hook P q r h }) after tt cause known
 
   -- a call that frees waits for the free
   frees-next : (x : Obj) (g : Frame) → IsFreeOf x g → FreesBy x c → NotHeld c p → Accounts (told scenes) g → Cause scenes g None (with_note (Some begun) (frame.Call (Awaiting q x)) ∷ ws) p
       → FineBy scenes (frame.Call (Doing q c)) b p (Do.Call g (frame.Call (Awaiting q x)) p) ws
   frees-next x g of by free account cause =
-      let f : Frame = frame.Call (Doing q c) in
-      record {
-        past = past-goes (told scenes) f g (map work_of ws) (frame.Call (Awaiting q x) ∷ map work_of ws) p p known.past (later-same p) (λ y l. absurd l) account (tt, known.past.all_account);
-        stacked = ((of, (by, free)), restacked f (frame.Call (Awaiting q x)) ws (λ y h. h) (λ y h. h) known.stacked);
-        cause = cause;
-      }
+      waits-for scenes (frame.Call (Doing q c)) (frame.Call (Awaiting q x)) b ws p p g (record { stays = λ y l. l; free = λ y h. h; run = λ P h. h }) (later-same p) account tt (of, (by, free)) cause known
 
   planned-next : (plan : Plan) → May p plan → CausedBy p c plan → FineBy scenes (frame.Call (Doing q c)) b p (plan_step q plan p) ws
   planned-next (Does change None r) may cause = told-next r (changed_by change p) (follows p change may.0).later (cause scenes)
   planned-next (Does change (Some notice) r) may cause =
-      let f : Frame = frame.Call (Doing q c) in
-      let g : Frame = frame.Call (Announcing (later q r) notice r) in
-      record {
-        past = past-goes (told scenes) f g (map work_of ws) (map work_of ws) p (changed_by change p) known.past (follows p change may.0).later (λ y l. absurd l) tt known.past.all_account;
-        stacked = restacked f g ws (λ y h. h) (λ y h. later-hook y q r h) known.stacked;
-        cause = (cause, may.2);
-      }
+      goes-on scenes (frame.Call (Doing q c)) (frame.Call (Announcing (later q r) notice r)) b ws p (changed_by change p) (record { stays = λ y l. l; free = λ y h. h; run = λ P h. later-hook P q r h })
+      (follows p change may.0).later tt (cause, may.2) known
   planned-next (Frees x) may cause = frees-next x (frame.Free (Beginning x)) refl cause.0 cause.1 tt refl
   planned-next (Unlinks o x) may cause = frees-next x (frame.Free (Unlinking o x)) refl cause.0 cause.1 tt refl
   planned-next (Empties x) may cause = frees-next x (frame.Free (Looping x Emptying)) refl cause.0 cause.1 tt tt
   planned-next (Asks outside) may cause =
-      let f : Frame = frame.Call (Doing q c) in
-      let g : Frame = frame.Call (Turning q) in
-      record {
-        past = past-goes (told scenes) f (frame.Outside (Reaching outside)) (map work_of ws) (g ∷ map work_of ws) p p known.past (later-same p) (λ y l. absurd l) tt (tt, known.past.all_account);
-        stacked = (cause, restacked f g ws (λ y h. h) (λ y h. h) known.stacked);
-        cause = may;
-      }
+      waits-for scenes (frame.Call (Doing q c)) (frame.Call (Turning q)) b ws p p (frame.Outside (Reaching outside)) (record { stays = λ y l. l; free = λ y h. h; run = λ P h. h }) (later-same p) tt tt cause may known
   planned-next Turns may cause = turning-fine scenes q c b ws p known cause
   planned-next (Works change errand x) may cause = works errand may.3
     where
       begun-work : (g : RequestFrame) → Cause scenes (frame.Request g) None (with_note (Some begun) (frame.Call (Requesting q)) ∷ ws) (changed_by change p)
           → FineBy scenes (frame.Call (Doing q c)) b p (Do.Call (frame.Request g) (frame.Call (Requesting q)) (changed_by change p)) ws
       begun-work g cause-of =
-          let f : Frame = frame.Call (Doing q c) in
-          let h : Frame = frame.Call (Requesting q) in
-          record {
-            past = past-goes (told scenes) f (frame.Request g) (map work_of ws) (h ∷ map work_of ws) p (changed_by change p) known.past (follows p change may.0).later (λ y l. absurd l) tt (tt, known.past.all_account);
-            stacked = (cause, restacked f h ws (λ y h. h) (λ y h. h) known.stacked);
-            cause = cause-of;
-          }
+          waits-for scenes (frame.Call (Doing q c)) (frame.Call (Requesting q)) b ws p (changed_by change p) (frame.Request g) (record { stays = λ y l. l; free = λ y h. h; run = λ P h. h }) (follows p change may.0).later tt tt cause
+          cause-of known
 
       works : (errand : Errand) → MayWork (changed_by change p) errand x → FineBy scenes (frame.Call (Doing q c)) b p (plan_step q (Works change errand x) p) ws
       works (Finish s) work = begun-work (request.Finishing x s) tt

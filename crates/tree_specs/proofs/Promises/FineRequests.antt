@@ -56,7 +56,7 @@ use Rattle.tree_specs.proofs.Promises.Later.{Later, IsFrom, later-same, later-ma
 use Rattle.tree_specs.proofs.Promises.Past.{Past, Accounts, past-goes, past-tells, past-state, unfreed, unaccepted}
 use Rattle.tree_specs.proofs.Promises.Causes.{NotedWork, told, StandsOn, Cause, done-reply}
 use Rattle.tree_specs.proofs.Promises.Fitting.{fits-fired, fits-state}
-use Rattle.tree_specs.proofs.Promises.Fine.{work_of, Known, FineBy, restacked, of-next, AnswersTo, resumed, known-told, just-now}
+use Rattle.tree_specs.proofs.Promises.Fine.{work_of, Known, FineBy, restacked, Yields, goes-on, waits-for, of-next, AnswersTo, resumed, known-told, just-now}
 use Rattle.tree_specs.specs.Events.Queues.{Head, head_of, next_of}
 use Rattle.tree_specs.proofs.Invariants.Queues.{head-waiting, next-head}
 
@@ -136,6 +136,9 @@ in-state p q x s notes = rw notes (each (note_of p.requests x) refl)
 
 -- ---- the steps
 
+work-yields : (f g : RequestFrame) → Yields (frame.Request f) (frame.Request g)
+work-yields f g = record { stays = λ x l. l; free = λ x h. h; run = λ P h. h }
+
 module _ (scenes : List Scene) (b : Option CallStart) (ws : List NotedWork) (p : Pool) where
   abbrev AtRequest : RequestFrame → Type 0
   AtRequest f = IsConsistent (record { innermost = frame.Request f; below = map work_of ws; pool = p }) → Known scenes (with_note b (frame.Request f)) ws p
@@ -143,20 +146,12 @@ module _ (scenes : List Scene) (b : Option CallStart) (ws : List NotedWork) (p :
 
   -- it goes on over a later pool, and tells nothing
   goes : (f g : RequestFrame) (q : Pool) → Later p q → Cause scenes (frame.Request g) None ws q → Known scenes (with_note b (frame.Request f)) ws p → FineBy scenes (frame.Request f) b p (Do.Go (frame.Request g) q) ws
-  goes f g q later cause known = record {
-    past = past-goes (told scenes) (frame.Request f) (frame.Request g) (map work_of ws) (map work_of ws) p q known.past later (λ y l. absurd l) tt known.past.all_account;
-    stacked = restacked (frame.Request f) (frame.Request g) ws (λ w h. h) (λ w h. h) known.stacked;
-    cause = cause;
-  }
+  goes f g q later cause known = goes-on scenes (frame.Request f) (frame.Request g) b ws p q (work-yields f g) later tt cause known
 
   -- it begins another work, and waits for it
   begins : (f g : RequestFrame) (h : Frame) (q : Pool) → Later p q → Accounts (told scenes) h → StandsOn h (frame.Request g) None → Cause scenes h None (with_note None (frame.Request g) ∷ ws) q
       → Known scenes (with_note b (frame.Request f)) ws p → FineBy scenes (frame.Request f) b p (Do.Call h (frame.Request g) q) ws
-  begins f g h q later account on cause known = record {
-    past = past-goes (told scenes) (frame.Request f) h (map work_of ws) (frame.Request g ∷ map work_of ws) p q known.past later (λ y l. absurd l) account (tt, known.past.all_account);
-    stacked = (on, restacked (frame.Request f) (frame.Request g) ws (λ w k. k) (λ w k. k) known.stacked);
-    cause = cause;
-  }
+  begins f g h q later account on cause known = waits-for scenes (frame.Request f) (frame.Request g) b ws p q h (work-yields f g) later account tt on cause known
 
   -- it is over
   over : (f : RequestFrame) (errand : Errand) (q : Pool) → Later p q → Known scenes (with_note b (frame.Request f)) ws p → FineBy scenes (frame.Request f) b p (over_step errand q) ws
@@ -340,20 +335,14 @@ module _ (scenes : List Scene) (b : Option CallStart) (ws : List NotedWork) (p :
   -- ---- a free that waits for a request
 
   pub preparing-fine : (x : Obj) → Known scenes (with_note b (frame.Free (Preparing x))) ws p → FineBy scenes (frame.Free (Preparing x)) b p (step (frame.Free (Preparing x)) p) ws
-  preparing-fine x known = record {
-    past = past-goes (told scenes) (frame.Free (Preparing x)) (frame.Request (request.Receiving x)) (map work_of ws) (frame.Free (Preparing x) ∷ map work_of ws) p p known.past (later-same p)
-        (λ y l. absurd l) tt (tt, known.past.all_account);
-    stacked = (tt, restacked (frame.Free (Preparing x)) (frame.Free (Preparing x)) ws (λ w k. k) (λ w k. k) known.stacked);
-    cause = tt;
-  }
+  preparing-fine x known =
+      let f : Frame = frame.Free (Preparing x) in
+      waits-for scenes f f b ws p p (frame.Request (request.Receiving x)) (record { stays = λ y l. l; free = λ y h. h; run = λ P h. h }) (later-same p) tt tt tt tt known
 
   pub draining-fine : (x : Obj) → Known scenes (with_note b (frame.Free (Draining x))) ws p → FineBy scenes (frame.Free (Draining x)) b p (step (frame.Free (Draining x)) p) ws
-  draining-fine x known = record {
-    past = past-goes (told scenes) (frame.Free (Draining x)) (frame.Request (request.Vacating x)) (map work_of ws) (frame.Free (Draining x) ∷ map work_of ws) p p known.past (later-same p)
-        (λ y l. absurd l) tt (tt, known.past.all_account);
-    stacked = (tt, restacked (frame.Free (Draining x)) (frame.Free (Draining x)) ws (λ w k. k) (λ w k. k) known.stacked);
-    cause = tt;
-  }
+  draining-fine x known =
+      let f : Frame = frame.Free (Draining x) in
+      waits-for scenes f f b ws p p (frame.Request (request.Vacating x)) (record { stays = λ y l. l; free = λ y h. h; run = λ P h. h }) (later-same p) tt tt tt tt known
 
   pub prepared-fine : (x : Obj) → IsConsistent (record { innermost = frame.Free (Prepared x); below = map work_of ws; pool = p }) → Known scenes (with_note b (frame.Free (Prepared x))) ws p
       → FineBy scenes (frame.Free (Prepared x)) b p (step (frame.Free (Prepared x)) p) ws

@@ -44,7 +44,7 @@ use Rattle.tree_specs.proofs.Promises.Later.{Later, later-rows, later-same, late
 use Rattle.tree_specs.proofs.Promises.Past.{Past, Accounts, past-goes, past-tells, unfreed}
 use Rattle.tree_specs.proofs.Promises.Causes.{NotedWork, told, StandsOn, Cause}
 use Rattle.tree_specs.proofs.Promises.Fitting.{fits-fired, fits-question}
-use Rattle.tree_specs.proofs.Promises.Fine.{work_of, Known, FineBy, restacked, of-next, AnswersTo, resumed, known-told, taken-noted}
+use Rattle.tree_specs.proofs.Promises.Fine.{work_of, Known, FineBy, restacked, Yields, goes-on, waits-for, of-next, AnswersTo, resumed, known-told, taken-noted}
 
 -- an event's handler is no destructor
 comes-no-hook : (w : What) (k : Kind) → comes_as w k ≡ true → is_hook w ≡ false
@@ -60,26 +60,21 @@ comes-fires ForTimer kind.Timer e = refl
 comes-fires ForDescriptor kind.Descriptor e = refl
 comes-fires _ _ e = cc
 
+turn-yields : (f g : TurnFrame) → Yields (frame.Turn f) (frame.Turn g)
+turn-yields f g = record { stays = λ x l. l; free = λ x h. h; run = λ P h. h }
+
 module _ (scenes : List Scene) (b : Option CallStart) (ws : List NotedWork) (p : Pool) where
   abbrev AtTurn : TurnFrame → Type 0
   AtTurn f = IsConsistent (record { innermost = frame.Turn f; below = map work_of ws; pool = p }) → Known scenes (with_note b (frame.Turn f)) ws p → FineBy scenes (frame.Turn f) b p (turn_step f p) ws
 
   -- it goes on over a later pool, and tells nothing
   goes : (f g : TurnFrame) (q : Pool) → Later p q → Known scenes (with_note b (frame.Turn f)) ws p → FineBy scenes (frame.Turn f) b p (Do.Go (frame.Turn g) q) ws
-  goes f g q later known = record {
-    past = past-goes (told scenes) (frame.Turn f) (frame.Turn g) (map work_of ws) (map work_of ws) p q known.past later (λ y l. absurd l) tt known.past.all_account;
-    stacked = restacked (frame.Turn f) (frame.Turn g) ws (λ w h. h) (λ w h. h) known.stacked;
-    cause = tt;
-  }
+  goes f g q later known = goes-on scenes (frame.Turn f) (frame.Turn g) b ws p q (turn-yields f g) later tt tt known
 
   -- it begins another work, and waits for it
   begins : (f g : TurnFrame) (h : Frame) (q : Pool) → Later p q → Accounts (told scenes) h → StandsOn h (frame.Turn g) None → Cause scenes h None (with_note None (frame.Turn g) ∷ ws) q
       → Known scenes (with_note b (frame.Turn f)) ws p → FineBy scenes (frame.Turn f) b p (Do.Call h (frame.Turn g) q) ws
-  begins f g h q later account on cause known = record {
-    past = past-goes (told scenes) (frame.Turn f) h (map work_of ws) (frame.Turn g ∷ map work_of ws) p q known.past later (λ y l. absurd l) account (tt, known.past.all_account);
-    stacked = (on, restacked (frame.Turn f) (frame.Turn g) ws (λ w k. k) (λ w k. k) known.stacked);
-    cause = cause;
-  }
+  begins f g h q later account on cause known = waits-for scenes (frame.Turn f) (frame.Turn g) b ws p q h (turn-yields f g) later account tt on cause known
 
   passes : (f : TurnFrame) (m : Step) → Passes p m → Known scenes (with_note b (frame.Turn f)) ws p → FineBy scenes (frame.Turn f) b p m ws
   passes f _ (Pass g q rows next notes-are queues times plain) known = goes f g q (later-waiting p q rows next notes-are) known

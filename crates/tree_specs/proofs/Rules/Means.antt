@@ -29,6 +29,7 @@ use Rattle.tree_specs.specs.declared.moment.What.TheVariants as whats
 use Rattle.tree_specs.specs.declared.frame.Purpose.{Purpose}
 use Rattle.tree_specs.specs.declared.frame.Purpose.TheVariants.{Removal, Emptying}
 use Rattle.tree_specs.specs.declared.frame.Answer.{Answer}
+use Rattle.tree_specs.specs.declared.frame.Answer.TheVariants as answer
 use Rattle.tree_specs.specs.declared.free_step.FreeReply.{FreeReply}
 use Rattle.tree_specs.specs.declared.free_step.FreeReply.TheVariants.{Ok}
 use Rattle.tree_specs.specs.Tree.Pool.{Pool, row_of, is_below, owner_of, first_kid, target_at, newest_ref_of, is_inside, remove, doom, detach}
@@ -56,14 +57,14 @@ use Rattle.tree_specs.specs.Events.Requests.{note_of, is_noted, is_unreceived, c
 use Rattle.tree_specs.specs.Calls.Plans.{Change, Plan, planned}
 use Rattle.tree_specs.specs.Calls.Plans.Plan.{Does, Frees, Unlinks, Empties, Asks, Turns, Works}
 use Rattle.tree_specs.specs.Rules.Sequence.{Work, Scene, CallStart, ◌>>◌, change, tells, gives}
-use Rattle.tree_specs.specs.Rules.Story.{free, dooming, judged, leave, children, tried, unlink, release, taking, timing, timed, polling, starting, handled, reaching, cancelling, cleaning, cleaned, notifying, called, over, vacating, triggering}
+use Rattle.tree_specs.specs.Rules.Story.{free, dooming, judged, leave, children, tried, unlink, release, taking, timed, starting, handled, cancelling, cleaning, cleaned, notifying, called, over, vacating, triggering}
 use Rattle.tree_specs.specs.Rules.Pieces.{lets_go, freed_quietly}
 use Rattle.tree_specs.specs.Rules.Errands.{reply_to}
-use Rattle.tree_specs.specs.Machine.Meaning.{noted_table, freed, closed, answered, looped, request_mean, mean}
+use Rattle.tree_specs.specs.Machine.Meaning.{noted_table, ends_as, looped, request_mean, mean}
 use Rattle.tree_specs.specs.Machine.FreeTable.{judge_step, loop_step, tried_step, refs_step, unlink_step, release_step}
-use Rattle.tree_specs.specs.Machine.Table.{notes, step, turn_step, outside_step, request_step, release_object, lifted, plan_step, announced, closed_event}
+use Rattle.tree_specs.specs.Machine.Table.{notes, step, turn_step, request_step, release_object, lifted, plan_step, announced, closed_event}
 use Rattle.tree_specs.proofs.Tree.Numbered.{by_test}
-use Rattle.tree_specs.specs.Events.Queues.{Head, has_queue, head_of, next_of}
+use Rattle.tree_specs.specs.Events.Queues.{has_queue, head_of, next_of}
 
 ruleset laws = (followed-tell, followed-tells, followed-followed)
 
@@ -74,16 +75,23 @@ noted_mean n w = mean n w.work w.note
 abbrev Turn : ℕ → Frame → Option CallStart → Move Frame Answer Pool Item → Pool → List Input → Outcome Answer Pool Input Scene
 Turn n f b m p is = after noted_table (noted_mean n) (noted_move notes f b p m) is
 
-asking-turn : (n : ℕ) (q : Ask) (b : Option CallStart) (p : Pool) (is : List Input)
-    → Below (Turn n (frame.Call (Asking q)) b (step (frame.Call (Asking q)) p) p is) (mean (suc n) (frame.Call (Asking q)) b p is)
-asking-turn n q b p [] = inr refl
-asking-turn n q b p (i ∷ is) = each (given_to q i) refl
+-- a step of the table, and what follows, come to no more than the text
+abbrev AsText : ℕ → Frame → Option CallStart → Pool → List Input → Type 0
+AsText n f b p is = Below (Turn n f b (step f p) p is) (mean (suc n) f b p is)
+
+-- a question does as the text where there is no input, and by what the first one gives to it
+by-given : (q : Ask) (n : ℕ) (f : Frame) (b : Option CallStart) (p : Pool) → AsText n f b p [] → ((i : Input) (is : List Input) (g : Option Given) → given_to q i ≡ g → AsText n f b p (i ∷ is)) → (is : List Input) → AsText n f b p is
+by-given q n f b p none each [] = none
+by-given q n f b p none each (i ∷ is) = each i is (given_to q i) refl
+
+asking-turn : (n : ℕ) (q : Ask) (b : Option CallStart) (p : Pool) (is : List Input) → AsText n (frame.Call (Asking q)) b p is
+asking-turn n q b p is = by-given q n (frame.Call (Asking q)) b p (inr refl) each is
   where
-    each : (g : Option Given) → given_to q i ≡ g → Below (Turn n (frame.Call (Asking q)) b (step (frame.Call (Asking q)) p) p (i ∷ is)) (mean (suc n) (frame.Call (Asking q)) b p (i ∷ is))
-    each None e = rw e (inr refl)
-    each (Some (Calls c)) e = by_test (is_sound_call c) (λ t. rw (e, t) (inr (simp laws))) (λ t. rw (e, t) (inr refl))
-    each (Some (Returns v)) e = by_test (is_return v) (λ t. rw (e, t) (inr (simp laws))) (λ t. rw (e, t) (inr refl))
-    each (Some _) e = rw e (inr refl)
+    each : (i : Input) (js : List Input) (g : Option Given) → given_to q i ≡ g → AsText n (frame.Call (Asking q)) b p (i ∷ js)
+    each i js None e = rw e (inr refl)
+    each i js (Some (Calls c)) e = by_test (is_sound_call c) (λ t. rw (e, t) (inr (simp laws))) (λ t. rw (e, t) (inr refl))
+    each i js (Some (Returns v)) e = by_test (is_return v) (λ t. rw (e, t) (inr (simp laws))) (λ t. rw (e, t) (inr refl))
+    each i js (Some _) e = rw e (inr refl)
 
 turning-turn : (n : ℕ) (q : Ask) (c : Call) (b : Option CallStart) (p : Pool) (is : List Input) → planned p c ≡ Turns
     → Below (Turn n (frame.Call (Doing q c)) b (plan_step q (planned p c) p) p is) (mean (suc n) (frame.Call (Doing q c)) b p is)
@@ -108,6 +116,11 @@ doing-turn n q c b p is = each (planned p c) refl
     each Turns e = turning-turn n q c b p is e
     each (Works change errand x) e = works change errand x e
 
+-- by what was found, if anything
+by-found : {A P : Type 0} (o : Option A) → (o ≡ None → P) → ((x : A) → o ≡ Some x → P) → P
+by-found None none some = none refl
+by-found (Some x) none some = some x refl
+
 -- an object is let go of
 letting-turn : (n : ℕ) (f g : FreeFrame) (b : Option CallStart) (x : Obj) (change : Pool → Pool) (p : Pool) (is : List Input) (k : Unit {0} → Work Answer)
     → ((js : List Input) → mean n (frame.Free g) None (change p) js ≡ k tt (change p) js)
@@ -119,53 +132,49 @@ letting-turn n f g b x change p is k law = each (closes_with p.ring x) refl
     each (Some fd) c = rw c (inr (ap (tell (record { item = Told (Closed fd); before = p; about = None })) (law is)))
 
 beginning-turn : (n : ℕ) (x : Obj) (b : Option CallStart) (p : Pool) (is : List Input)
-    → Below (Turn n (frame.Free (Beginning x)) b (lifted p.ring (refs_step x (newest_ref p.rows x) p)) p is) (freed (free (suc n) x) p is)
+    → Below (Turn n (frame.Free (Beginning x)) b (lifted p.ring (refs_step x (newest_ref p.rows x) p)) p is) (ends_as answer.Freed (free (suc n) x) p is)
 beginning-turn n x b p is = newest (newest_ref p.rows x) refl
   where
     marks : newest_ref p.rows x ≡ None → (r : Row) (m : Mark) → r.mark ≡ m → row_of p.rows x ≡ Some r
-        → Below (Turn n (frame.Free (Beginning x)) b (lifted p.ring (refs_step x (newest_ref p.rows x) p)) p is) (freed (free (suc n) x) p is)
+        → Below (Turn n (frame.Free (Beginning x)) b (lifted p.ring (refs_step x (newest_ref p.rows x) p)) p is) (ends_as answer.Freed (free (suc n) x) p is)
     marks k r mark.Quiet m e = by_test (is_request r.kind)
         (λ u. rw (k, e, m, u) (inr refl))
         (λ u. by_test (is_queue r.kind)
         (λ v. rw (k, e, m, u, v) (inr refl))
         (λ v. by_test (nat_eq r.hook 0) (λ t. rw (k, e, m, u, v, t) (inr refl)) (λ t. rw (k, e, m, u, v, t) (inr refl))))
     marks k r mark.Busy m e = rw (k, e, m)
-        (Below-trans _ _ _ (letting-turn n (Beginning x) (Dooming x) b x (λ q. doom q x) p is (λ u. freed (dooming n x)) (λ js. refl)) (inr (sym (followed-followed (lets_go x (λ q. doom q x) p is) _ _))))
+        (Below-trans _ _ _ (letting-turn n (Beginning x) (Dooming x) b x (λ q. doom q x) p is (λ u. ends_as answer.Freed (dooming n x)) (λ js. refl)) (inr (sym (followed-followed (lets_go x (λ q. doom q x) p is) _ _))))
     marks k r _ m e = rw (k, e, m) (inr refl)
 
     each : newest_ref p.rows x ≡ None → (o : Option Row) → row_of p.rows x ≡ o
-        → Below (Turn n (frame.Free (Beginning x)) b (lifted p.ring (refs_step x (newest_ref p.rows x) p)) p is) (freed (free (suc n) x) p is)
+        → Below (Turn n (frame.Free (Beginning x)) b (lifted p.ring (refs_step x (newest_ref p.rows x) p)) p is) (ends_as answer.Freed (free (suc n) x) p is)
     each k None e = rw (k, e) (inr refl)
     each k (Some r) e = marks k r r.mark refl e
 
-    newest : (o : Option Obj) → newest_ref p.rows x ≡ o → Below (Turn n (frame.Free (Beginning x)) b (lifted p.ring (refs_step x (newest_ref p.rows x) p)) p is) (freed (free (suc n) x) p is)
+    newest : (o : Option Obj) → newest_ref p.rows x ≡ o → Below (Turn n (frame.Free (Beginning x)) b (lifted p.ring (refs_step x (newest_ref p.rows x) p)) p is) (ends_as answer.Freed (free (suc n) x) p is)
     newest None k = each k (row_of p.rows x) refl
     newest (Some r) k = by_test (is_inside p.rows (Of r) (Of x)) (λ t. rw (k, t) (inr (simp laws))) (λ t. rw (k, t) (inr (simp laws)))
 
 unlinking-turn : (n : ℕ) (o : Owner) (x : Obj) (b : Option CallStart) (p : Pool) (is : List Input)
-    → Below (Turn n (frame.Free (Unlinking o x)) b (lifted p.ring (unlink_step x (newest_ref_of p.rows o x) p)) p is) (freed (unlink (suc n) o x) p is)
-unlinking-turn n o x b p is = each (newest_ref_of p.rows o x) refl
-  where
-    each : (r : Option Obj) → newest_ref_of p.rows o x ≡ r → Below (Turn n (frame.Free (Unlinking o x)) b (lifted p.ring (unlink_step x (newest_ref_of p.rows o x) p)) p is) (freed (unlink (suc n) o x) p is)
-    each None k = rw k (inr refl)
-    each (Some r) k = rw k (inr (simp laws))
+    → Below (Turn n (frame.Free (Unlinking o x)) b (lifted p.ring (unlink_step x (newest_ref_of p.rows o x) p)) p is) (ends_as answer.Freed (unlink (suc n) o x) p is)
+unlinking-turn n o x b p is = by-found (newest_ref_of p.rows o x) (λ k. rw k (inr refl)) (λ r k. rw k (inr (simp laws)))
 
 releasing-turn : (n : ℕ) (x : Obj) (b : Option CallStart) (p : Pool) (is : List Input)
-    → Below (Turn n (frame.Free (Releasing x)) b (lifted p.ring (release_step x (newest_ref p.rows x) p)) p is) (freed (release (suc n) x) p is)
+    → Below (Turn n (frame.Free (Releasing x)) b (lifted p.ring (release_step x (newest_ref p.rows x) p)) p is) (ends_as answer.Freed (release (suc n) x) p is)
 releasing-turn n x b p is = each (newest_ref p.rows x) refl
   where
-    each : (r : Option Obj) → newest_ref p.rows x ≡ r → Below (Turn n (frame.Free (Releasing x)) b (lifted p.ring (release_step x (newest_ref p.rows x) p)) p is) (freed (release (suc n) x) p is)
+    each : (r : Option Obj) → newest_ref p.rows x ≡ r → Below (Turn n (frame.Free (Releasing x)) b (lifted p.ring (release_step x (newest_ref p.rows x) p)) p is) (ends_as answer.Freed (release (suc n) x) p is)
     each None k = rw k (inr refl)
     each (Some r) k = by_test (is_inside p.rows (Of r) (Of x)) (λ t. rw (k, t) (inr (simp laws))) (λ t. rw (k, t) (inr (simp laws)))
 
 judged-turn : (n : ℕ) (x : Obj) (h v : ℕ) (b : Option CallStart) (p : Pool) (is : List Input)
-    → Below (Turn n (frame.Free (Judged x h v)) b (lifted p.ring (judge_step x h v p)) p is) (freed (judged (suc n) x h v) p is)
+    → Below (Turn n (frame.Free (Judged x h v)) b (lifted p.ring (judge_step x h v p)) p is) (ends_as answer.Freed (judged (suc n) x h v) p is)
 judged-turn n x h v b p is = by_test (nat_eq v 0) (λ t. rw t (inr (simp laws))) (λ t. rw t (inr (simp laws)))
 
 leaving-turn : (n : ℕ) (x : Obj) (h : ℕ) (b : Option CallStart) (p : Pool) (is : List Input)
-    → Below (Turn n (frame.Free (Leaving x h)) b (step (frame.Free (Leaving x h)) p) p is) (freed (leave (suc n) x h) p is)
+    → Below (Turn n (frame.Free (Leaving x h)) b (step (frame.Free (Leaving x h)) p) p is) (ends_as answer.Freed (leave (suc n) x h) p is)
 leaving-turn n x h b p is =
-    Below-trans _ _ _ (letting-turn n (Leaving x h) (Looping x (Removal h)) b x (λ q. detach q x) p is (λ u. freed emptied) (λ js. simp laws)) (inr (sym (followed-followed (lets_go x (λ q. detach q x) p is) _ _)))
+    Below-trans _ _ _ (letting-turn n (Leaving x h) (Looping x (Removal h)) b x (λ q. detach q x) p is (λ u. ends_as answer.Freed emptied) (λ js. simp laws)) (inr (sym (followed-followed (lets_go x (λ q. detach q x) p is) _ _)))
   where
     -- what follows
     emptied : Work FreeReply
@@ -203,68 +212,60 @@ tried-turn n x c noted purpose a b p is = each purpose a
 
 -- ---- turns of the event loop
 
-taking-turn : (n : ℕ) (b : Option CallStart) (p : Pool) (is : List Input) → Below (Turn n (frame.Turn Taking) b (turn_step Taking p) p is) (closed (taking (suc n)) p is)
+taking-turn : (n : ℕ) (b : Option CallStart) (p : Pool) (is : List Input) → Below (Turn n (frame.Turn Taking) b (turn_step Taking p) p is) (ends_as answer.Turned (taking (suc n)) p is)
 taking-turn n b p is = each (first p.soon) refl
   where
-    due : first p.soon ≡ None → (o : Option Due) → first p.times ≡ o → Below (Turn n (frame.Turn Taking) b (turn_step Taking p) p is) (closed (taking (suc n)) p is)
+    due : first p.soon ≡ None → (o : Option Due) → first p.times ≡ o → Below (Turn n (frame.Turn Taking) b (turn_step Taking p) p is) (ends_as answer.Turned (taking (suc n)) p is)
     due e None k = rw (e, k) (inr refl)
     due e (Some d) k = by_test (nat_eq d.time 0)
         (λ t. by_test (is_noted p.requests d.object) (λ u. rw (e, k, t, u) (inr (simp laws))) (λ u. rw (e, k, t, u) (inr refl)))
         (λ t. rw (e, k, t) (inr refl))
 
-    each : (o : Option Obj) → first p.soon ≡ o → Below (Turn n (frame.Turn Taking) b (turn_step Taking p) p is) (closed (taking (suc n)) p is)
+    each : (o : Option Obj) → first p.soon ≡ o → Below (Turn n (frame.Turn Taking) b (turn_step Taking p) p is) (ends_as answer.Turned (taking (suc n)) p is)
     each None e = due e (first p.times) refl
     each (Some x) e = by_test (is_noted p.requests x)
         (λ u. rw (e, u) (inr (simp laws)))
         (λ u. by_test (has_queue p.queues x) (λ v. rw (e, u, v) (inr (simp laws))) (λ v. rw (e, u, v) (inr refl)))
 
 timed-turn : (n : ℕ) (again : Bool) (now : ℕ) (b : Option CallStart) (p : Pool) (is : List Input)
-    → Below (Turn n (frame.Turn (Timed again now)) b (turn_step (Timed again now) p) p is) (closed (timed (suc n) again now) p is)
+    → Below (Turn n (frame.Turn (Timed again now)) b (turn_step (Timed again now) p) p is) (ends_as answer.Turned (timed (suc n) again now) p is)
 timed-turn n again now b p is = each again (first p.times) refl
   where
-    has_come : (again : Bool) (d : Due) → first p.times ≡ Some d → nat_le d.time now ≡ true → Below (Turn n (frame.Turn (Timed again now)) b (turn_step (Timed again now) p) p is) (closed (timed (suc n) again now) p is)
+    has_come : (again : Bool) (d : Due) → first p.times ≡ Some d → nat_le d.time now ≡ true → Below (Turn n (frame.Turn (Timed again now)) b (turn_step (Timed again now) p) p is) (ends_as answer.Turned (timed (suc n) again now) p is)
     has_come again d e t = by_test (is_noted p.requests d.object) (λ u. rw (e, t, u) (inr (simp laws))) (λ u. rw (e, t, u) (inr refl))
 
-    each : (again : Bool) (o : Option Due) → first p.times ≡ o → Below (Turn n (frame.Turn (Timed again now)) b (turn_step (Timed again now) p) p is) (closed (timed (suc n) again now) p is)
+    each : (again : Bool) (o : Option Due) → first p.times ≡ o → Below (Turn n (frame.Turn (Timed again now)) b (turn_step (Timed again now) p) p is) (ends_as answer.Turned (timed (suc n) again now) p is)
     each again None e = rw e (inr refl)
     each true (Some d) e = by_test (nat_le d.time now) (λ t. has_come true d e t) (λ t. rw (e, t) (inr refl))
     each false (Some d) e = by_test (nat_le d.time now) (λ t. has_come false d e t) (λ t. rw (e, t) (inr refl))
 
-timing-turn : (n : ℕ) (again : Bool) (b : Option CallStart) (p : Pool) (is : List Input)
-    → Below (Turn n (frame.Turn (Timing again)) b (turn_step (Timing again) p) p is) (closed (timing (suc n) again) p is)
-timing-turn n again b p [] = inr refl
-timing-turn n again b p (i ∷ is) = each (given_to Clock i) refl
+timing-turn : (n : ℕ) (again : Bool) (b : Option CallStart) (p : Pool) (is : List Input) → AsText n (frame.Turn (Timing again)) b p is
+timing-turn n again b p is = by-given Clock n (frame.Turn (Timing again)) b p (inr refl) each is
   where
-    each : (g : Option Given) → given_to Clock i ≡ g → Below (Turn n (frame.Turn (Timing again)) b (turn_step (Timing again) p) p (i ∷ is)) (closed (timing (suc n) again) p (i ∷ is))
-    each (Some (Tells now)) e = by_test (is_time now) (λ t. rw (e, t) (inr (simp laws))) (λ t. rw (e, t) (inr refl))
-    each _ e = rw e (inr refl)
+    each : (i : Input) (js : List Input) (g : Option Given) → given_to Clock i ≡ g → AsText n (frame.Turn (Timing again)) b p (i ∷ js)
+    each i js (Some (Tells now)) e = by_test (is_time now) (λ t. rw (e, t) (inr (simp laws))) (λ t. rw (e, t) (inr refl))
+    each i js _ e = rw e (inr refl)
 
-polling-turn : (n limit : ℕ) (b : Option CallStart) (p : Pool) (is : List Input)
-    → Below (Turn n (frame.Turn (Polling limit)) b (turn_step (Polling limit) p) p is) (closed (polling (suc n) limit) p is)
-polling-turn n limit b p [] = inr refl
-polling-turn n limit b p (i ∷ is) = each (given_to (Wait limit) i) refl
+polling-turn : (n limit : ℕ) (b : Option CallStart) (p : Pool) (is : List Input) → AsText n (frame.Turn (Polling limit)) b p is
+polling-turn n limit b p is = by-given (Wait limit) n (frame.Turn (Polling limit)) b p (inr refl) each is
   where
-    ready : (wants : List Want) → given_to (Wait limit) i ≡ Some (IsReady wants) → is_wants wants ≡ true → looks_again p wants ≡ false → (o : Option Ready) → first_ready p.ring wants ≡ o
-        → Below (Turn n (frame.Turn (Polling limit)) b (turn_step (Polling limit) p) p (i ∷ is)) (closed (polling (suc n) limit) p (i ∷ is))
-    ready wants e t l None k = rw (e, t, l, k) (inr (simp laws))
-    ready wants e t l (Some r) k = rw (e, t, l, k) (inr (simp laws))
+    ready : (i : Input) (js : List Input) (wants : List Want) → given_to (Wait limit) i ≡ Some (IsReady wants) → is_wants wants ≡ true → looks_again p wants ≡ false → (o : Option Ready) → first_ready p.ring wants ≡ o
+        → AsText n (frame.Turn (Polling limit)) b p (i ∷ js)
+    ready i js wants e t l None k = rw (e, t, l, k) (inr (simp laws))
+    ready i js wants e t l (Some r) k = rw (e, t, l, k) (inr (simp laws))
 
-    each : (g : Option Given) → given_to (Wait limit) i ≡ g → Below (Turn n (frame.Turn (Polling limit)) b (turn_step (Polling limit) p) p (i ∷ is)) (closed (polling (suc n) limit) p (i ∷ is))
-    each (Some (IsReady wants)) e = by_test (is_wants wants)
-        (λ t. by_test (looks_again p wants) (λ l. rw (e, t, l) (inr (simp laws))) (λ l. ready wants e t l (first_ready p.ring wants) refl))
+    each : (i : Input) (js : List Input) (g : Option Given) → given_to (Wait limit) i ≡ g → AsText n (frame.Turn (Polling limit)) b p (i ∷ js)
+    each i js (Some (IsReady wants)) e = by_test (is_wants wants)
+        (λ t. by_test (looks_again p wants) (λ l. rw (e, t, l) (inr (simp laws))) (λ l. ready i js wants e t l (first_ready p.ring wants) refl))
         (λ t. rw (e, t) (inr refl))
-    each _ e = rw e (inr refl)
+    each i js _ e = rw e (inr refl)
 
 starting-turn : (n : ℕ) (what : What) (x : Obj) (occasion : Occasion) (b : Option CallStart) (p : Pool) (is : List Input)
-    → Below (Turn n (frame.Turn (Starting what x occasion)) b (turn_step (Starting what x occasion) p) p is) (closed (starting (suc n) what x occasion) p is)
-starting-turn n what x occasion b p is = each (handler_for p what x) refl
-  where
-    each : (o : Option Handler) → handler_for p what x ≡ o → Below (Turn n (frame.Turn (Starting what x occasion)) b (turn_step (Starting what x occasion) p) p is) (closed (starting (suc n) what x occasion) p is)
-    each None e = rw e (inr refl)
-    each (Some handler) e = rw e (inr refl)
+    → Below (Turn n (frame.Turn (Starting what x occasion)) b (turn_step (Starting what x occasion) p) p is) (ends_as answer.Turned (starting (suc n) what x occasion) p is)
+starting-turn n what x occasion b p is = by-found (handler_for p what x) (λ e. rw e (inr refl)) (λ handler e. rw e (inr refl))
 
 handled-turn : (n : ℕ) (what : What) (x : Obj) (b : Option CallStart) (p : Pool) (is : List Input)
-    → Below (Turn n (frame.Turn (Handled what x)) b (turn_step (Handled what x) p) p is) (closed (handled (suc n) what x) p is)
+    → Below (Turn n (frame.Turn (Handled what x)) b (turn_step (Handled what x) p) p is) (ends_as answer.Turned (handled (suc n) what x) p is)
 handled-turn n what x b p is = by_test (goes_after p what x) (λ t. rw t (inr (simp laws))) (λ t. rw t (inr refl))
 
 loop-turn : (n : ℕ) (f : TurnFrame) (b : Option CallStart) (p : Pool) (is : List Input) → Below (Turn n (frame.Turn f) b (turn_step f p) p is) (mean (suc n) (frame.Turn f) b p is)
@@ -281,86 +282,76 @@ loop-turn n _ b p is = inr (simp laws)
 
 -- ---- a question to the outside
 
-reaching-turn : (n : ℕ) (q : Ask) (b : Option CallStart) (p : Pool) (is : List Input)
-    → Below (Turn n (frame.Outside (Reaching q)) b (outside_step (Reaching q) p) p is) (answered (reaching (suc n) q) p is)
-reaching-turn n q b p [] = inr refl
-reaching-turn n q b p (i ∷ is) = each (given_to q i) refl
+reaching-turn : (n : ℕ) (q : Ask) (b : Option CallStart) (p : Pool) (is : List Input) → AsText n (frame.Outside (Reaching q)) b p is
+reaching-turn n q b p is = by-given q n (frame.Outside (Reaching q)) b p (inr refl) each is
   where
-    each : (g : Option Given) → given_to q i ≡ g → Below (Turn n (frame.Outside (Reaching q)) b (outside_step (Reaching q) p) p (i ∷ is)) (answered (reaching (suc n) q) p (i ∷ is))
-    each (Some (Tells now)) e = by_test (is_time now) (λ t. rw (e, t) (inr (simp laws))) (λ t. rw (e, t) (inr refl))
-    each (Some (Opens fd)) e = by_test (is_routine fd && not (is_open p fd)) (λ t. rw (e, t) (inr (simp laws))) (λ t. rw (e, t) (inr refl))
-    each (Some (Answers r)) e = rw e (inr (simp laws))
-    each _ e = rw e (inr refl)
+    each : (i : Input) (js : List Input) (g : Option Given) → given_to q i ≡ g → AsText n (frame.Outside (Reaching q)) b p (i ∷ js)
+    each i js (Some (Tells now)) e = by_test (is_time now) (λ t. rw (e, t) (inr (simp laws))) (λ t. rw (e, t) (inr refl))
+    each i js (Some (Opens fd)) e = by_test (is_routine fd && not (is_open p fd)) (λ t. rw (e, t) (inr (simp laws))) (λ t. rw (e, t) (inr refl))
+    each i js (Some (Answers r)) e = rw e (inr (simp laws))
+    each i js _ e = rw e (inr refl)
 
 -- ---- requests
 
 cancelling-turn : (n : ℕ) (x : Obj) (b : Option CallStart) (p : Pool) (is : List Input)
-    → Below (Turn n (frame.Request (request.Cancelling x)) b (request_step (request.Cancelling x) p) p is) (answered (cancelling (suc n) x) p is)
+    → Below (Turn n (frame.Request (request.Cancelling x)) b (request_step (request.Cancelling x) p) p is) (ends_as answer.Heard (cancelling (suc n) x) p is)
 cancelling-turn n x b p is = each (cancel_in (note_of p.requests x)) refl
   where
-    each : (o : Option Handler) → cancel_in (note_of p.requests x) ≡ o → Below (Turn n (frame.Request (request.Cancelling x)) b (request_step (request.Cancelling x) p) p is) (answered (cancelling (suc n) x) p is)
+    each : (o : Option Handler) → cancel_in (note_of p.requests x) ≡ o → Below (Turn n (frame.Request (request.Cancelling x)) b (request_step (request.Cancelling x) p) p is) (ends_as answer.Heard (cancelling (suc n) x) p is)
     each None e = rw e (inr refl)
     each (Some handler) e = rw e (inr refl)
 
 cleaning-turn : (n : ℕ) (x : Obj) (errand : Errand) (b : Option CallStart) (p : Pool) (is : List Input)
-    → Below (Turn n (frame.Request (request.Cleaning x errand)) b (request_step (request.Cleaning x errand) p) p is) (answered (cleaning (suc n) x errand) p is)
+    → Below (Turn n (frame.Request (request.Cleaning x errand)) b (request_step (request.Cleaning x errand) p) p is) (ends_as answer.Heard (cleaning (suc n) x errand) p is)
 cleaning-turn n x errand b p is = each (cleanup_in (note_of p.requests x)) refl
   where
-    each : (o : Option Handler) → cleanup_in (note_of p.requests x) ≡ o → Below (Turn n (frame.Request (request.Cleaning x errand)) b (request_step (request.Cleaning x errand) p) p is) (answered (cleaning (suc n) x errand) p is)
+    each : (o : Option Handler) → cleanup_in (note_of p.requests x) ≡ o → Below (Turn n (frame.Request (request.Cleaning x errand)) b (request_step (request.Cleaning x errand) p) p is) (ends_as answer.Heard (cleaning (suc n) x errand) p is)
     each None e = rw e (inr refl)
     each (Some handler) e = rw e (inr refl)
 
 -- the object of a request is freed as by a call
 releasing-object : (n : ℕ) (x : Obj) (b : Option CallStart) (plan : Plan) (p : Pool) (is : List Input)
-    → Below (Turn n (frame.Request (request.Cleaned x Receive)) b (release_object plan Receive p) p is) (answered (freed_quietly (free n) (unlink n) (over n (reply_to Receive)) plan) p is)
+    → Below (Turn n (frame.Request (request.Cleaned x Receive)) b (release_object plan Receive p) p is) (ends_as answer.Heard (freed_quietly (free n) (unlink n) (over n (reply_to Receive)) plan) p is)
 releasing-object n x b (Frees c) p is = inr (simp laws)
 releasing-object n x b (Unlinks o c) p is = inr (simp laws)
 releasing-object n x b _ p is = inr refl
 
 cleaned-turn : (n : ℕ) (x : Obj) (errand : Errand) (b : Option CallStart) (p : Pool) (is : List Input)
-    → Below (Turn n (frame.Request (request.Cleaned x errand)) b (request_step (request.Cleaned x errand) p) p is) (answered (cleaned (suc n) x errand) p is)
+    → Below (Turn n (frame.Request (request.Cleaned x errand)) b (request_step (request.Cleaned x errand) p) p is) (ends_as answer.Heard (cleaned (suc n) x errand) p is)
 cleaned-turn n x errand b p is = each errand (note_of p.requests x) refl
   where
     each : (errand : Errand) (o : Option Note) → note_of p.requests x ≡ o
-        → Below (Turn n (frame.Request (request.Cleaned x errand)) b (request_step (request.Cleaned x errand) p) p is) (answered (cleaned (suc n) x errand) p is)
+        → Below (Turn n (frame.Request (request.Cleaned x errand)) b (request_step (request.Cleaned x errand) p) p is) (ends_as answer.Heard (cleaned (suc n) x errand) p is)
     each errand None e = rw e (inr refl)
     each Receive (Some note) e = rw e (releasing-object n x b (planned p (call.Free note.child)) p is)
     each _ (Some note) e = rw e (inr refl)
 
 notifying-turn : (n : ℕ) (x : Obj) (errand : Errand) (b : Option CallStart) (p : Pool) (is : List Input)
-    → Below (Turn n (frame.Request (request.Notifying x errand)) b (request_step (request.Notifying x errand) p) p is) (answered (notifying (suc n) x errand) p is)
+    → Below (Turn n (frame.Request (request.Notifying x errand)) b (request_step (request.Notifying x errand) p) p is) (ends_as answer.Heard (notifying (suc n) x errand) p is)
 notifying-turn n x errand b p is = each (note_of p.requests x) refl
   where
     back : (note : Note) (o : Option Handler) → note.callback ≡ o → note.deferred ≡ false → note_of p.requests x ≡ Some note
-        → Below (Turn n (frame.Request (request.Notifying x errand)) b (request_step (request.Notifying x errand) p) p is) (answered (notifying (suc n) x errand) p is)
+        → Below (Turn n (frame.Request (request.Notifying x errand)) b (request_step (request.Notifying x errand) p) p is) (ends_as answer.Heard (notifying (suc n) x errand) p is)
     back note None c t e = rw (e, t, c) (inr refl)
     back note (Some handler) c t e = rw (e, t, c) (inr refl)
 
-    each : (o : Option Note) → note_of p.requests x ≡ o → Below (Turn n (frame.Request (request.Notifying x errand)) b (request_step (request.Notifying x errand) p) p is) (answered (notifying (suc n) x errand) p is)
+    each : (o : Option Note) → note_of p.requests x ≡ o → Below (Turn n (frame.Request (request.Notifying x errand)) b (request_step (request.Notifying x errand) p) p is) (ends_as answer.Heard (notifying (suc n) x errand) p is)
     each None e = rw e (inr refl)
     each (Some note) e = by_test note.deferred (λ t. rw (e, t) (inr refl)) (λ t. back note note.callback refl t e)
 
 called-turn : (n : ℕ) (what : What) (x : Obj) (handler : Handler) (errand : Errand) (b : Option CallStart) (p : Pool) (is : List Input)
-    → Below (Turn n (frame.Request (request.Called what x handler errand)) b (request_step (request.Called what x handler errand) p) p is) (answered (called (suc n) what x handler errand) p is)
+    → Below (Turn n (frame.Request (request.Called what x handler errand)) b (request_step (request.Called what x handler errand) p) p is) (ends_as answer.Heard (called (suc n) what x handler errand) p is)
 called-turn n whats.Cleanup x handler errand b p is = inr (simp laws)
 called-turn n whats.Cancel x handler errand b p is = inr (simp laws)
 called-turn n _ x handler errand b p is = inr (simp laws)
 
 vacating-turn : (n : ℕ) (q : Obj) (b : Option CallStart) (p : Pool) (is : List Input)
-    → Below (Turn n (frame.Request (request.Vacating q)) b (request_step (request.Vacating q) p) p is) (answered (vacating (suc n) q) p is)
-vacating-turn n q b p is = each (head_of p.queues q) refl
-  where
-    each : (o : Option Head) → head_of p.queues q ≡ o → Below (Turn n (frame.Request (request.Vacating q)) b (request_step (request.Vacating q) p) p is) (answered (vacating (suc n) q) p is)
-    each None e = rw e (inr refl)
-    each (Some h) e = rw e (inr (simp laws))
+    → Below (Turn n (frame.Request (request.Vacating q)) b (request_step (request.Vacating q) p) p is) (ends_as answer.Heard (vacating (suc n) q) p is)
+vacating-turn n q b p is = by-found (head_of p.queues q) (λ e. rw e (inr refl)) (λ h e. rw e (inr (simp laws)))
 
 triggering-turn : (n : ℕ) (q : Obj) (b : Option CallStart) (p : Pool) (is : List Input)
-    → Below (Turn n (frame.Request (request.Triggering q)) b (request_step (request.Triggering q) p) p is) (answered (triggering (suc n) q) p is)
-triggering-turn n q b p is = each (next_of p.queues q) refl
-  where
-    each : (o : Option Head) → next_of p.queues q ≡ o → Below (Turn n (frame.Request (request.Triggering q)) b (request_step (request.Triggering q) p) p is) (answered (triggering (suc n) q) p is)
-    each None e = rw e (inr refl)
-    each (Some h) e = rw e (inr (simp laws))
+    → Below (Turn n (frame.Request (request.Triggering q)) b (request_step (request.Triggering q) p) p is) (ends_as answer.Heard (triggering (suc n) q) p is)
+triggering-turn n q b p is = by-found (next_of p.queues q) (λ e. rw e (inr refl)) (λ h e. rw e (inr (simp laws)))
 
 request-turn : (n : ℕ) (f : RequestFrame) (b : Option CallStart) (p : Pool) (is : List Input) → Below (Turn n (frame.Request f) b (request_step f p) p is) (request_mean (suc n) f p is)
 request-turn n (request.Receiving x) b p is = by_test (is_unreceived (note_of p.requests x)) (λ t. rw t (inr (simp laws))) (λ t. rw t (inr refl))

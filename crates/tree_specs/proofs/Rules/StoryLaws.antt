@@ -24,7 +24,7 @@ use Rattle.tree_specs.specs.Machine.View.{View, begin, outcome_of, strays_of, re
 use Rattle.tree_specs.specs.Invariants.Consistent.{IsConsistent}
 use Rattle.tree_specs.proofs.Tree.Rooted.{forest-none}
 use Rattle.tree_specs.proofs.Turns.Bound.{cost-turns}
-use Rattle.tree_specs.specs.Machine.Meaning.{noted_table, returned}
+use Rattle.tree_specs.specs.Machine.Meaning.{noted_table, ends_as}
 use Rattle.tree_specs.proofs.Rules.Means.{run-means}
 use Rattle.tree_specs.proofs.Rules.LettingGo.{tells-ended}
 use Rattle.tree_specs.proofs.Rules.Rest.{rest-enough, walk-whole, not-short, ends-asked}
@@ -54,7 +54,7 @@ answering (Waits ts) = Waits ts
 answering (Stray ts) = Stray ts
 answering Short = Short
 
-returned-answering : (w : Work ℕ) (p : Pool) (is : List Input) → returned w p is ≡ answering (w p is)
+returned-answering : (w : Work ℕ) (p : Pool) (is : List Input) → ends_as Returned w p is ≡ answering (w p is)
 returned-answering w p is = each (w p is)
   where
     each : (o : Told ℕ) → followed o (λ v. gives (Returned v)) ≡ answering o

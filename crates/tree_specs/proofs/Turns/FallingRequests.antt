@@ -21,7 +21,7 @@ use Rattle.tree_specs.specs.Events.Requests.{note_of, cleanup_in, cancel_in, ren
 use Rattle.tree_specs.specs.Calls.Plans.{Plan, planned}
 use Rattle.tree_specs.specs.Calls.Plans.Plan.{Frees, Unlinks}
 use Rattle.tree_specs.specs.Machine.Table.{resume, cancelling_step, cleaning_step, release_object, cleaned_step, callback_step, notifying_step, request_step, vacating_step, triggering_step}
-use Rattle.tree_specs.specs.Invariants.Sound.{footing, IsRequested, Sound, IsPrepared}
+use Rattle.tree_specs.specs.Invariants.Sound.{footing, Sound, IsPrepared}
 use Rattle.tree_specs.specs.Invariants.Noted.{Noted}
 use Rattle.tree_specs.specs.Invariants.Measure.{weight, row_worth, waiting_cost, top_cost, cost}
 use Rattle.tree_specs.proofs.Tree.Numbered.{by_test}

@@ -21,9 +21,9 @@ use Rattle.tree_specs.specs.Tree.Pool.{Pool}
 use Rattle.tree_specs.specs.Rules.Items.{Item}
 use Rattle.tree_specs.specs.Machine.Table.{table, resume}
 use Rattle.tree_specs.specs.Invariants.Sound.{AllWait}
-use Rattle.tree_specs.specs.Machine.Profiles.{Waits, ARun, ATurn, AHandler, ARequest, APrepared, AServed, ARoutine, profile}
+use Rattle.tree_specs.specs.Machine.Profiles.{profile}
 use Rattle.tree_specs.specs.Rules.Answers.{later}
-use Rattle.tree_specs.specs.Invariants.Consistent.{IsQuiet, IsOfRoutine, IsCaller, IsRun, IsFree, IsTurn, IsWork, MayStandOn, Serves, IsStacked, size, innermost_size, IsPaidFor}
+use Rattle.tree_specs.specs.Invariants.Consistent.{IsQuiet, IsOfRoutine, IsCaller, IsRun, IsFree, IsTurn, IsWork, Server, ByRun, ByTurn, ByRequest, ByFree, server, IsBy, MayStandOn, IsStacked, size, innermost_size, IsPaidFor}
 use Rattle.tree_specs.proofs.Invariants.Waiters.{Waiter, ForFree, ForRun, ForChild, ForTurn, ForHandler, ForClear, ForRequest, ForServed, ForReceived, ForDrained, ForRoutine, ForRelease, ForEntry, waiter}
 
 -- what a move leads to stands where it may, and is light
@@ -34,17 +34,13 @@ Placed m fs k = Leads table (λ g gs q j. IsStacked g gs × IsPaidFor g gs q) m 
 
 pub reseat : (f g : Frame) (fs : List Frame) → (IsCaller f → IsCaller g) → (IsRun f → IsRun g) → (IsFree f → IsFree g) → (IsTurn f → IsTurn g) → (IsWork f → IsWork g) → IsStacked f fs → IsStacked g fs
 reseat f g [] c r k t v s = c s
-reseat f g (h ∷ hs) c r k t v s = (serve (profile h).waits s.0, s.1)
+reseat f g (h ∷ hs) c r k t v s = (serve (server (profile h).waits) s.0, s.1)
   where
-    serve : (w : Waits) → Serves w f → Serves w g
-    serve (ARun x h) s = r s
-    serve (AHandler x) s = r s
-    serve ATurn s = t s
-    serve ARequest s = v s
-    serve (APrepared x) s = v s
-    serve (AServed x) s = v s
-    serve (ARoutine x) s = r s
-    serve _ s = k s
+    serve : (by : Server) → IsBy by f → IsBy by g
+    serve ByRun s = r s
+    serve ByTurn s = t s
+    serve ByRequest s = v s
+    serve ByFree s = k s
 
 pub reseat-free : (f g : FreeFrame) (fs : List Frame) → IsStacked (frame.Free f) fs → IsStacked (frame.Free g) fs
 reseat-free f g fs s = reseat (frame.Free f) (frame.Free g) fs (λ c. c) (λ r. r) (λ k. tt) (λ t. t) (λ v. v) s

@@ -1,5 +1,5 @@
 -- What runs when an event comes: handlers by the numbers of their events, in the order of the numbers.
-use Rattle.std.specs.Prelude.{ℕ, not, List, [], Option}
+use Rattle.std.specs.Prelude.{ℕ, not, List, Option}
 use Rattle.std.specs.List.{filter}
 use Rattle.std.specs.Ordering.{nat_cmp, eq_by_cmp}
 use Rattle.std.specs.FinMap.Entries.{find, put}
@@ -8,9 +8,6 @@ use Rattle.tree_specs.specs.declared.handler.Handler.{Handler}
 
 abbrev pub Handlers : Type 0
 Handlers = List (ℕ × Handler)
-
-abbrev pub no_handlers : Handlers
-no_handlers = []
 
 -- none where the event has no handler
 abbrev pub handler_of : Handlers → Obj → Option Handler

@@ -5,9 +5,9 @@ use Rattle.tree_specs.specs.Texts.Text.{transcript}
 use Rattle.tree_specs.specs.Texts.Schedule.{inputs_of}
 use Prim.Native.String.{String}
 
--- a line of a schedule, and the lines of the transcript up to the next question
+-- a line of a schedule, and what the transcript has up to the next question: a line, or lines with an LF between them
 abbrev pub Exchange : Type 0
-Exchange = String × List String
+Exchange = String × String
 
 abbrev pub Example : Type 0
 Example = List Exchange
@@ -20,7 +20,7 @@ schedule_of example = text_of ("tv schedule 1 pool" ∷ map (λ exchange. exchan
 
 -- each of them ends with no caller but the host's own
 abbrev pub transcript_of : Example → List ℕ
-transcript_of example = text_of ("tv transcript 1" ∷ flat_map (λ exchange. exchange.1) example ++ "end quiet" ∷ [])
+transcript_of example = text_of ("tv transcript 1" ∷ map (λ exchange. exchange.1) example ++ "end quiet" ∷ [])
 
 -- what the rules tell over its schedule, as text
 abbrev pub told : Example → Option (List ℕ)

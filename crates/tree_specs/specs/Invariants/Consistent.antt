@@ -61,16 +61,32 @@ IsTurn f = TurnsFor (profile f).role
 abbrev pub IsWork : Frame → Type 0
 IsWork f = RequestsFor (profile f).role
 
+-- the kinds of work that another one waits for
+pub data Server : Type 0 where
+  ByRun : Server
+  ByTurn : Server
+  ByRequest : Server
+  ByFree : Server
+
+abbrev pub server : Waits → Server
+server (ARun x h) = ByRun
+server (AHandler x) = ByRun
+server ATurn = ByTurn
+server ARequest = ByRequest
+server (APrepared x) = ByRequest
+server (AServed x) = ByRequest
+server (ARoutine x) = ByRun
+server _ = ByFree
+
+abbrev pub IsBy : Server → Frame → Type 0
+IsBy ByRun f = IsRun f
+IsBy ByTurn f = IsTurn f
+IsBy ByRequest f = IsWork f
+IsBy ByFree f = IsFree f
+
 -- what stands on a work that waits
 abbrev pub Serves : Waits → Frame → Type 0
-Serves (ARun x h) f = IsRun f
-Serves (AHandler x) f = IsRun f
-Serves ATurn f = IsTurn f
-Serves ARequest f = IsWork f
-Serves (APrepared x) f = IsWork f
-Serves (AServed x) f = IsWork f
-Serves (ARoutine x) f = IsRun f
-Serves _ f = IsFree f
+Serves w f = IsBy (server w) f
 
 -- the host's own caller stands below all others, a run on the free, the turn or the request that waits for it, a turn on its
 -- call, the work of a request on the call, the free or the turn that waits for it, and a free on whatever waits for it

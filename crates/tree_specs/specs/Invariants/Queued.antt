@@ -92,7 +92,7 @@ IsThat (Some x) c = x ≡ c
 
 -- a free that a loop waits for is that of the child
 abbrev pub IsOfChild : Frame → Footing → Type 0
-IsOfChild (frame.Free f) (OnFree (FreeingChild x c noted purpose)) = IsThat (free_profile f).object c
+IsOfChild (frame.Free f) (OnFree (FreeingChild x c noted purpose)) = IsThat (free_profile f).role c
 IsOfChild f on = Unit {0}
 
 abbrev pub AreOfChildren : List Frame → Type 0

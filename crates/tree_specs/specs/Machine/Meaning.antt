@@ -13,12 +13,10 @@ use Rattle.tree_specs.specs.declared.frame.TurnFrame.TheVariants.{Taking, Timing
 use Rattle.tree_specs.specs.declared.frame.OutsideFrame.TheVariants.{Reaching, Opening, Hearing}
 use Rattle.tree_specs.specs.declared.frame.RequestFrame.{RequestFrame}
 use Rattle.tree_specs.specs.declared.frame.RequestFrame.TheVariants as request
-use Rattle.tree_specs.specs.declared.reply.Reply.{Reply}
 use Rattle.tree_specs.specs.declared.frame.Purpose.{Purpose}
 use Rattle.tree_specs.specs.declared.frame.Purpose.TheVariants.{Removal, Emptying}
 use Rattle.tree_specs.specs.declared.frame.Answer.{Answer}
 use Rattle.tree_specs.specs.declared.frame.Answer.TheVariants.{Freed, Returned, Turned, Heard}
-use Rattle.tree_specs.specs.declared.free_step.FreeReply.{FreeReply}
 use Rattle.tree_specs.specs.declared.free_step.FreeReply.TheVariants.{Ok}
 use Rattle.tree_specs.specs.Tree.Pool.{Pool, remove}
 use Rattle.tree_specs.specs.Rules.Items.Item.{Told}
@@ -31,26 +29,11 @@ use Rattle.tree_specs.specs.Machine.View.{View}
 abbrev pub noted_table : Table (Noted Frame CallStart) Answer Pool Input Scene
 noted_table = noted notes table
 
--- a free, a routine's run, a turn, and a question to the outside, as works of the machine
-abbrev pub freed : Work FreeReply → Work Answer
-freed w = do
+-- a free, a routine's run, a turn, or a question to the outside, as a work of the machine
+abbrev pub ends_as : {A : Type 0} → (A → Answer) → Work A → Work Answer
+ends_as answer w = do
   a ← w
-  gives (Freed a)
-
-abbrev pub returned : Work ℕ → Work Answer
-returned w = do
-  v ← w
-  gives (Returned v)
-
-abbrev pub closed : Work ℕ → Work Answer
-closed w = do
-  v ← w
-  gives (Turned v)
-
-abbrev pub answered : Work Reply → Work Answer
-answered w = do
-  r ← w
-  gives (Heard r)
+  gives (answer a)
 
 -- what follows the children of an object
 abbrev pub looped : Obj → Purpose → Work (Unit {0}) → Work Answer
@@ -65,59 +48,59 @@ looped x Emptying w = do
 
 -- the work of a request
 abbrev pub request_mean : ℕ → RequestFrame → Work Answer
-request_mean n (request.Finishing x state) = answered (finishing n x state)
-request_mean n (request.Receiving x) = answered (receiving n x)
-request_mean n (request.Cancelling x) = answered (cancelling n x)
-request_mean n (request.Cleaning x errand) = answered (cleaning n x errand)
-request_mean n (request.Cleaned x errand) = answered (cleaned n x errand)
-request_mean n (request.Notifying x errand) = answered (notifying n x errand)
-request_mean n (request.Calling what x handler errand) = answered (calling n what x handler errand)
-request_mean n (request.Called what x handler errand) = answered (called n what x handler errand)
+request_mean n (request.Finishing x state) = ends_as Heard (finishing n x state)
+request_mean n (request.Receiving x) = ends_as Heard (receiving n x)
+request_mean n (request.Cancelling x) = ends_as Heard (cancelling n x)
+request_mean n (request.Cleaning x errand) = ends_as Heard (cleaning n x errand)
+request_mean n (request.Cleaned x errand) = ends_as Heard (cleaned n x errand)
+request_mean n (request.Notifying x errand) = ends_as Heard (notifying n x errand)
+request_mean n (request.Calling what x handler errand) = ends_as Heard (calling n what x handler errand)
+request_mean n (request.Called what x handler errand) = ends_as Heard (called n what x handler errand)
 request_mean n (request.Releasing c) = gives (Freed Ok)
-request_mean n (request.Vacating q) = answered (vacating n q)
+request_mean n (request.Vacating q) = ends_as Heard (vacating n q)
 request_mean n (request.Dropping q e) = gives (Freed Ok)
-request_mean n (request.Triggering q) = answered (triggering n q)
-request_mean n (request.Over r) = answered (over n r)
+request_mean n (request.Triggering q) = ends_as Heard (triggering n q)
+request_mean n (request.Over r) = ends_as Heard (over n r)
 
 -- what a work does, by the text
 abbrev pub mean : ℕ → Frame → Option CallStart → Work Answer
-mean n (frame.Call (Asking q)) b = returned (asked n q)
-mean n (frame.Call (Doing q c)) b = returned (acting n q c)
+mean n (frame.Call (Asking q)) b = ends_as Returned (asked n q)
+mean n (frame.Call (Doing q c)) b = ends_as Returned (acting n q c)
 mean n (frame.Call (Awaiting q x)) b = gives (Freed Ok)
 mean n (frame.Call (Turning q)) b = gives (Freed Ok)
 mean n (frame.Call (Requesting q)) b = gives (Freed Ok)
-mean n (frame.Call (Announcing q notice r)) b = returned (announcing n b q notice r)
-mean n (frame.Call (Telling q r)) b = returned (telling n b q r)
-mean n (frame.Call (Returning v)) b = returned (returning n v)
-mean n (frame.Free (Unlinking o x)) b = freed (unlink n o x)
-mean n (frame.Free (Releasing x)) b = freed (release n x)
-mean n (frame.Free (Giving x o)) b = freed (given n x o)
-mean n (frame.Free (Beginning x)) b = freed (free n x)
-mean n (frame.Free (Hooked x h)) b = freed (hooked n x h)
-mean n (frame.Free (Judged x h v)) b = freed (judged n x h v)
-mean n (frame.Free (Preparing x)) b = freed (preparing n x)
-mean n (frame.Free (Draining x)) b = freed (draining n x)
-mean n (frame.Free (Prepared x)) b = freed (prepared n x)
-mean n (frame.Free (Dooming x)) b = freed (dooming n x)
-mean n (frame.Free (Leaving x h)) b = freed (leave n x h)
+mean n (frame.Call (Announcing q notice r)) b = ends_as Returned (announcing n b q notice r)
+mean n (frame.Call (Telling q r)) b = ends_as Returned (telling n b q r)
+mean n (frame.Call (Returning v)) b = ends_as Returned (returning n v)
+mean n (frame.Free (Unlinking o x)) b = ends_as Freed (unlink n o x)
+mean n (frame.Free (Releasing x)) b = ends_as Freed (release n x)
+mean n (frame.Free (Giving x o)) b = ends_as Freed (given n x o)
+mean n (frame.Free (Beginning x)) b = ends_as Freed (free n x)
+mean n (frame.Free (Hooked x h)) b = ends_as Freed (hooked n x h)
+mean n (frame.Free (Judged x h v)) b = ends_as Freed (judged n x h v)
+mean n (frame.Free (Preparing x)) b = ends_as Freed (preparing n x)
+mean n (frame.Free (Draining x)) b = ends_as Freed (draining n x)
+mean n (frame.Free (Prepared x)) b = ends_as Freed (prepared n x)
+mean n (frame.Free (Dooming x)) b = ends_as Freed (dooming n x)
+mean n (frame.Free (Leaving x h)) b = ends_as Freed (leave n x h)
 mean n (frame.Free (Looping x purpose)) b = looped x purpose (children n x)
 mean n (frame.Free (FreeingChild x c noted purpose)) b = gives (Freed Ok)
 mean n (frame.Free (AfterChild x c noted purpose a)) b = looped x purpose (tried n x c noted a)
 mean n (frame.Free (Ending a)) b = gives (Freed a)
-mean n (frame.Turn Taking) b = closed (taking n)
-mean n (frame.Turn (Timing again)) b = closed (timing n again)
-mean n (frame.Turn (Timed again now)) b = closed (timed n again now)
-mean n (frame.Turn (Polling limit)) b = closed (polling n limit)
-mean n (frame.Turn (Starting what x occasion)) b = closed (starting n what x occasion)
-mean n (frame.Turn (Firing what x handler occasion)) b = closed (firing n what x handler occasion)
-mean n (frame.Turn (Handling what x handler occasion)) b = closed (handling n what x handler occasion)
-mean n (frame.Turn (Handled what x)) b = closed (handled n what x)
+mean n (frame.Turn Taking) b = ends_as Turned (taking n)
+mean n (frame.Turn (Timing again)) b = ends_as Turned (timing n again)
+mean n (frame.Turn (Timed again now)) b = ends_as Turned (timed n again now)
+mean n (frame.Turn (Polling limit)) b = ends_as Turned (polling n limit)
+mean n (frame.Turn (Starting what x occasion)) b = ends_as Turned (starting n what x occasion)
+mean n (frame.Turn (Firing what x handler occasion)) b = ends_as Turned (firing n what x handler occasion)
+mean n (frame.Turn (Handling what x handler occasion)) b = ends_as Turned (handling n what x handler occasion)
+mean n (frame.Turn (Handled what x)) b = ends_as Turned (handled n what x)
 mean n (frame.Turn (Clearing x)) b = gives (Freed Ok)
 mean n (frame.Turn (Serving x)) b = gives (Freed Ok)
-mean n (frame.Turn (Closing v)) b = closed (closing n v)
-mean n (frame.Outside (Reaching q)) b = answered (reaching n q)
-mean n (frame.Outside (Opening fd)) b = answered (opening n fd)
-mean n (frame.Outside (Hearing r)) b = answered (hearing n r)
+mean n (frame.Turn (Closing v)) b = ends_as Turned (closing n v)
+mean n (frame.Outside (Reaching q)) b = ends_as Heard (reaching n q)
+mean n (frame.Outside (Opening fd)) b = ends_as Heard (opening n fd)
+mean n (frame.Outside (Hearing r)) b = ends_as Heard (hearing n r)
 mean n (frame.Request f) b = request_mean n f
 
 -- ---- runs of the machine

@@ -112,8 +112,9 @@ pub record Removing : Type 0 where
   pub object : Obj
   pub hook : ℕ
 
-pub record Profile : Type 0 where
-  pub role : Role
+-- what there is to say of a work, where R tells its role
+pub record ProfileAs (R : Type 0) : Type 0 where
+  pub role : R
   pub waits : Waits
   pub claims : Option Claim
   pub removes : Option Removing
@@ -125,6 +126,9 @@ pub record Profile : Type 0 where
   pub cost : Cost
   -- the rows that it may add before the next question
   pub adds : ℕ
+
+abbrev pub Profile : Type 0
+Profile = ProfileAs Role
 
 abbrev pub at_most : ℕ → ℕ → Looks → Cost
 at_most rounds steps looks = record { rounds = rounds; steps = steps; looks = looks }
@@ -158,19 +162,12 @@ abbrev pub tried_cost : FreeReply → ℕ
 tried_cost Running = 4
 tried_cost _ = 8
 
--- a free: what is the same of all stands in `of_free`
-pub record FreeProfile : Type 0 where
-  pub object : Option Obj
-  pub waits : Waits
-  pub claims : Option Claim
-  pub removes : Option Removing
-  pub size : ℕ
-  pub top_size : ℕ
-  pub waiting_cost : ℕ
-  pub cost : Cost
+-- a free, by the object that it frees, if there is one still: what is the same of all stands in `of_free`
+abbrev pub FreeProfile : Type 0
+FreeProfile = ProfileAs (Option Obj)
 
 abbrev pub a_free : Obj → FreeProfile
-a_free x = record { object = Some x; waits = Never; claims = None; removes = None; size = 0; top_size = 0; waiting_cost = 0; cost = at_most 0 0 AtNone }
+a_free x = record { role = Some x; waits = Never; claims = None; removes = None; size = 0; top_size = 0; waiting_cost = 0; cost = at_most 0 0 AtNone; adds = 0 }
 
 abbrev pub a_loop : Obj → Purpose → FreeProfile
 a_loop x purpose = record (a_free x) { claims = loops x purpose; removes = loop_removes x purpose; size = loop_size purpose; top_size = loop_size purpose }
@@ -199,10 +196,10 @@ free_profile (Leaving x h) = record (a_free x) {
 free_profile (Looping x purpose) = record (a_loop x purpose) { cost = at_most 0 7 (AtKids x) }
 free_profile (FreeingChild x c noted purpose) = record (a_loop x purpose) { waits = AChild c purpose }
 free_profile (AfterChild x c noted purpose answer) = record (a_loop x purpose) { cost = at_most 0 (tried_cost answer) (AtKids x) }
-free_profile (Ending answer) = record { object = None; waits = Never; claims = None; removes = None; size = 0; top_size = 0; waiting_cost = 0; cost = at_most 4 12 AtNone }
+free_profile (Ending answer) = record { role = None; waits = Never; claims = None; removes = None; size = 0; top_size = 0; waiting_cost = 0; cost = at_most 4 12 AtNone; adds = 0 }
 
 abbrev pub of_free : FreeProfile → Profile
-of_free f = record { role = Frees f.object; waits = f.waits; claims = f.claims; removes = f.removes; size = f.size; top_size = f.top_size; waiting_cost = f.waiting_cost; cost = f.cost; adds = 0 }
+of_free f = record { role = Frees f.role; waits = f.waits; claims = f.claims; removes = f.removes; size = f.size; top_size = f.top_size; waiting_cost = f.waiting_cost; cost = f.cost; adds = 0 }
 
 -- ---- callers
 

@@ -1,5 +1,5 @@
 -- Stories that break one rule each, of orderly lists of items and of grounded stories.
-use Rattle.std.specs.Prelude.{ℕ, false, List, [], ◌∷◌, Some, None}
+use Rattle.std.specs.Prelude.{ℕ, false, List, [], ◌∷◌, map, Some, None}
 use Rattle.tree_specs.specs.declared.object.Obj.{Obj}
 use Rattle.tree_specs.specs.declared.object.Owner.TheVariants.{Root, Of}
 use Rattle.tree_specs.specs.declared.kind.Kind.TheVariants as kind
@@ -20,6 +20,11 @@ use Rattle.tree_specs.specs.Rules.Items.{Item}
 use Rattle.tree_specs.specs.Rules.Items.Item.{Told, Asked}
 use Rattle.tree_specs.specs.Rules.Sequence.{Scene}
 use Rattle.tree_specs.specs.Rules.Answers.{hook_moment}
+
+-- none of them is so
+abbrev pub NoneOf : {A : Type 0} → (A → Type 0) → List A → Type 0
+NoneOf Q [] = Unit {0}
+NoneOf Q (x ∷ xs) = (Q x → ⊥) × NoneOf Q xs
 
 -- two objects, and a reference
 abbrev pub a : Obj
@@ -62,63 +67,39 @@ freed_without_its_destructor = told (Accepted a) ∷ told (Freed a 0) ∷ []
 
 -- ---- nothing starts for a freed object
 
-abbrev pub fired_after_the_end : List Item
-fired_after_the_end = told (Freed a 0) ∷ told (Fired what.Timer a 16) ∷ []
+-- what uses the first object: a routine of it, a question to its destructor and what this answers, a move of it and one to
+-- it, a warning, a state, and a reference to it that is dropped
+abbrev pub uses_of_a : List Item
+uses_of_a =
+    told (Fired what.Timer a 16) ∷ asks_a ∷ told (Accepted a) ∷ told (Refused a 1) ∷ told (Moved a Root) ∷ told (Moved b (Of a)) ∷ told (Warned a) ∷ told (State a 2) ∷ told (Unreferenced r a) ∷ []
 
-abbrev pub asked_after_the_end : List Item
-asked_after_the_end = told (Freed a 0) ∷ asks_a ∷ []
-
-abbrev pub accepted_after_the_end : List Item
-accepted_after_the_end = told (Freed a 0) ∷ told (Accepted a) ∷ []
-
-abbrev pub refused_after_the_end : List Item
-refused_after_the_end = told (Freed a 0) ∷ told (Refused a 1) ∷ []
-
-abbrev pub moved_after_the_end : List Item
-moved_after_the_end = told (Freed a 0) ∷ told (Moved a Root) ∷ []
-
-abbrev pub moved_to_the_freed : List Item
-moved_to_the_freed = told (Freed a 0) ∷ told (Moved b (Of a)) ∷ []
-
-abbrev pub warned_after_the_end : List Item
-warned_after_the_end = told (Freed a 0) ∷ told (Warned a) ∷ []
-
-abbrev pub state_after_the_end : List Item
-state_after_the_end = told (Freed a 0) ∷ told (State a 2) ∷ []
-
-abbrev pub referred_to_after_the_end : List Item
-referred_to_after_the_end = told (Freed a 0) ∷ told (Unreferenced r a) ∷ []
+abbrev pub used_after_the_end : List (List Item)
+used_after_the_end = map (λ item. told (Freed a 0) ∷ item ∷ []) uses_of_a
 
 abbrev pub dropped_twice : List Item
 dropped_twice = told (Unreferenced r a) ∷ told (Unreferenced r a) ∷ []
 
 -- ---- a call is refused for a destructor's number right after this was told
 
-abbrev pub refused_unsaid : List Item
-refused_unsaid = told (Replied (No (RefusedBy a 1))) ∷ []
-
-abbrev pub refused_too_late : List Item
-refused_too_late = told (Refused a 1) ∷ told (Freed b 0) ∷ told (Replied (No (RefusedBy a 1))) ∷ []
-
-abbrev pub refused_with_another_number : List Item
-refused_with_another_number = told (Refused a 1) ∷ told (Replied (No (RefusedBy a 2))) ∷ []
+-- it wasn't told, something was told since, and another number was told
+abbrev pub refused_without_it : List (List Item)
+refused_without_it =
+    (told (Replied (No (RefusedBy a 1))) ∷ [])
+    ∷ (told (Refused a 1) ∷ told (Freed b 0) ∷ told (Replied (No (RefusedBy a 1))) ∷ [])
+    ∷ (told (Refused a 1) ∷ told (Replied (No (RefusedBy a 2))) ∷ [])
+    ∷ []
 
 -- ---- the states of a request go up
 
-abbrev pub state_too_low : List Item
-state_too_low = told (State a 1) ∷ []
-
-abbrev pub state_too_high : List Item
-state_too_high = told (State a 7) ∷ []
-
-abbrev pub finished_twice : List Item
-finished_twice = told (State a 2) ∷ told (State a 3) ∷ []
-
-abbrev pub received_twice : List Item
-received_twice = told (State a 6) ∷ told (State a 6) ∷ []
-
-abbrev pub finished_after_it_was_received : List Item
-finished_after_it_was_received = told (State a 6) ∷ told (State a 2) ∷ []
+-- a state that is too low, and one that is too high; finished twice, received twice, and finished after it was received
+abbrev pub states_out_of_order : List (List Item)
+states_out_of_order =
+    (told (State a 1) ∷ [])
+    ∷ (told (State a 7) ∷ [])
+    ∷ (told (State a 2) ∷ told (State a 3) ∷ [])
+    ∷ (told (State a 6) ∷ told (State a 6) ∷ [])
+    ∷ (told (State a 6) ∷ told (State a 2) ∷ [])
+    ∷ []
 
 -- ---- stories over pools
 
@@ -188,35 +169,23 @@ unlinked_refused_unheard = unlinked one_object (No (RefusedBy a 1)) ∷ []
 
 -- ---- routines start for live objects
 
-abbrev pub fired_for_no_object : List Scene
-fired_for_no_object = seen (empty 1) (told (Fired what.Timer a 16)) ∷ []
-
-abbrev pub fired_while_quiet : List Scene
-fired_while_quiet = seen one_timer (told (Fired what.Timer a 16)) ∷ []
-
-abbrev pub fired_as_another_kind : List Scene
-fired_as_another_kind = seen (set_mark one_timer a mark.Busy) (told (Fired what.Descriptor a 16)) ∷ []
-
--- a routine of a request runs for a plain object
-abbrev pub called_back_for_no_request : List Scene
-called_back_for_no_request = seen one_object (told (Fired what.Callback a 16)) ∷ []
-
 -- a queue that doesn't run, and an entry in it of the second object, a request
 abbrev pub one_stopped : Pool
 one_stopped = run_queue (add_entry (add_request (add_queue (empty 1) Root (97 ∷ [])) Root 0 (97 ∷ [])) a b (record { routine = 16; user = 0 })) a false
 
--- its trigger runs although it isn't its turn
-abbrev pub triggered_out_of_turn : List Scene
-triggered_out_of_turn = seen one_stopped (told (Fired what.Trigger b 16)) ∷ []
-
-abbrev pub accepted_unasked : List Scene
-accepted_unasked = seen (set_mark one_object a mark.Asked) (told (Accepted a)) ∷ []
-
-abbrev pub accepted_while_quiet : List Scene
-accepted_while_quiet = seen one_object asks_a ∷ seen one_object (told (Accepted a)) ∷ []
-
-abbrev pub accepted_while_busy : List Scene
-accepted_while_busy = seen (set_mark one_object a mark.Busy) asks_a ∷ seen (set_mark one_object a mark.Busy) (told (Accepted a)) ∷ []
+-- a routine runs for no object, for a timer that is quiet, as that of another kind, for a plain object as for a request, and for
+-- an entry whose turn it isn't; a destructor accepts unasked, while its object is quiet, and while this is busy
+abbrev pub badly_started : List (List Scene)
+badly_started =
+    (seen (empty 1) (told (Fired what.Timer a 16)) ∷ [])
+    ∷ (seen one_timer (told (Fired what.Timer a 16)) ∷ [])
+    ∷ (seen (set_mark one_timer a mark.Busy) (told (Fired what.Descriptor a 16)) ∷ [])
+    ∷ (seen one_object (told (Fired what.Callback a 16)) ∷ [])
+    ∷ (seen one_stopped (told (Fired what.Trigger b 16)) ∷ [])
+    ∷ (seen (set_mark one_object a mark.Asked) (told (Accepted a)) ∷ [])
+    ∷ (seen one_object asks_a ∷ seen one_object (told (Accepted a)) ∷ [])
+    ∷ (seen (set_mark one_object a mark.Busy) asks_a ∷ seen (set_mark one_object a mark.Busy) (told (Accepted a)) ∷ [])
+    ∷ []
 
 -- ---- a destructor accepts right after it has returned 0
 

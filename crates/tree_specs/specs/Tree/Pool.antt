@@ -19,7 +19,7 @@ use Rattle.tree_specs.specs.Words.Objects.{same, same_owner}
 use Rattle.tree_specs.specs.Events.Pending.{scheduled, unscheduled, armed, disarmed}
 use Rattle.tree_specs.specs.Events.Rotation.{watched, unwatched, rewatched, turned_back, closes_with}
 use Rattle.tree_specs.specs.Events.Descriptors.{Descriptors, listener_alone, opened, closed, shut}
-use Rattle.tree_specs.specs.Events.Handlers.{Handlers, no_handlers, with_handler, without_handler}
+use Rattle.tree_specs.specs.Events.Handlers.{Handlers, with_handler, without_handler}
 use Rattle.tree_specs.specs.Events.Requests.{Notes, no_notes, new_note, with_note, without_note, renoted, in_state}
 use Rattle.tree_specs.specs.Events.Queues.{Queues, Head, no_queues, with_queue, run_as, without_queue, new_entry, entry_of, with_entry, without_entry, next_of, triggered}
 use Rattle.tree_specs.specs.Tree.Targets.{target_of, is_target, is_reference, newest, newest_ref}
@@ -44,7 +44,7 @@ pub record Pool : Type 0 where
 
 -- objects of which none waits for its turn
 abbrev pub of_rows : List Row → ℕ → Pool
-of_rows rows next = record { rows = rows; next = next; soon = []; times = []; ring = []; descriptors = listener_alone; handlers = no_handlers; requests = no_notes; queues = no_queues }
+of_rows rows next = record { rows = rows; next = next; soon = []; times = []; ring = []; descriptors = listener_alone; handlers = []; requests = no_notes; queues = no_queues }
 
 abbrev pub empty : ℕ → Pool
 empty first = of_rows [] first

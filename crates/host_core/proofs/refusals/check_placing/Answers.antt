@@ -7,6 +7,5 @@ use Rattle.host_core.proofs.refusals.check_placing.Goals as goal
 pub returns-in_err-check_three : goal.returns-in_err-check_three
 returns-in_err-check_three c =
     let p = c.args.pool.now.pool in
-    let fails : c.from_residual.result ≡ Err c.in_err-check_three.field-0.0 = search rules in
     let why : checked (refused p (IsObject c.args.x ∷ IsMovable c.args.x ∷ IsOwner c.args.owner ∷ [])) ≡ Err c.in_err-check_three.field-0.0 = search rules in
-    fails ∙ sym (refused_three (object p c.args.x) (movable p c.args.x) (owner p c.args.owner) _ _ why)
+    search rules ∙ sym (refused_three (object p c.args.x) (movable p c.args.x) (owner p c.args.owner) _ _ why)

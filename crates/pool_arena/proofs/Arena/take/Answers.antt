@@ -3,8 +3,11 @@ use Rattle.std.specs.FinMap as map
 use Rattle.std.specs.Option.{option_and_then}
 use Rattle.slab.specs.Slab.{get as slot_get}
 use Rattle.pool_arena.specs.Arena.{get, pairs_of}
-use Rattle.pool_arena.proofs.Keeps.{reads, take-pairs, removed_nothing}
+use Rattle.pool_arena.proofs.Keeps.{reads, take-sound, take-pairs, removed_nothing}
 use Rattle.pool_arena.proofs.Arena.take.Goals as goal
+
+pub invariant_of-self : goal.invariant_of-self
+invariant_of-self g c = take-sound _ _ _ _ c.self.invariant _ _ (sym c.in-Some.ensures.value) c.swap_remove_full.ensures.updates c.try_remove.ensures.updates
 
 pub returns-in-Some-clause-value : goal.returns-in-Some-clause-value
 returns-in-Some-clause-value g c =
@@ -13,7 +16,7 @@ returns-in-Some-clause-value g c =
 
 pub returns-in-Some-clause-pairs : goal.returns-in-Some-clause-pairs
 returns-in-Some-clause-pairs g c =
-    take-pairs c.self.inside.places c.swap_remove.new.self c.self.inside.slots c.try_remove.new.self c.self.invariant _ _ (sym c.in-Some.ensures.value) c.swap_remove.ensures.updates c.try_remove.ensures.updates
+    take-pairs c.self.inside.places c.swap_remove_full.new.self c.self.inside.slots c.try_remove.new.self c.self.invariant _ _ (sym c.in-Some.ensures.value) c.swap_remove_full.ensures.updates c.try_remove.ensures.updates
     ∙ ap (λ a. map.remove a.pairs c.args.key) c.self.view_is
 
 pub returns-in-None-clause-value : goal.returns-in-None-clause-value

@@ -1,4 +1,4 @@
-use Rattle.std.proofs.Common.{◌≡◌, true, false, [], ◌∷◌, Some, None, refl}
+use Rattle.std.proofs.Common.{◌≡◌, true, false, [], ◌∷◌, Some, None, refl, sym, ◌∙◌}
 use Rattle.std.specs.declared.cmp.Ordering.{Ordering}
 use Rattle.std.specs.declared.cmp.Ordering.TheVariants.{Less, Equal, Greater}
 use Rattle.std.specs.Ordering.{nat_cmp}
@@ -6,23 +6,13 @@ use Rattle.tree_specs.specs.declared.object.Obj.{Obj}
 use Rattle.tree_specs.specs.declared.event.Event.TheVariants.{Fired, Accepted}
 use Rattle.tree_specs.specs.Promises.BadStories.{one_object, one_timer, one_stopped, seen}
 use Rattle.tree_specs.specs.declared.row.Mark.TheVariants as mark
-use Rattle.tree_specs.specs.Tree.Pool.{empty, set_mark}
+use Rattle.tree_specs.specs.Tree.Pool.{Pool, row_of, empty, set_mark}
+use Rattle.tree_specs.specs.Promises.Grounded.{Grounded, may_fire_row, is_asked}
+use Rattle.tree_specs.specs.declared.moment.What.{What}
 use Rattle.tree_specs.specs.declared.moment.What.TheVariants as what
 use Rattle.tree_specs.specs.Promises.BadStories.{a, b, asks_a, told}
 use Rattle.tree_specs.specs.Events.Queues.{runs}
 use Rattle.tree_specs.proofs.forbidden.routines_start_for_live_objects.Goals as goal
-
-pub returns-clause-missing : goal.returns-clause-missing
-returns-clause-missing c = λ is g. let o = g.each in let bad : false ≡ true = (o ([]) (seen (empty 1) (told (Fired what.Timer a 16))) [] refl).started.0 in cc
-
-pub returns-clause-quiet : goal.returns-clause-quiet
-returns-clause-quiet c = λ is g. let o = g.each in let bad : false ≡ true = (o ([]) (seen one_timer (told (Fired what.Timer a 16))) [] refl).started.0 in cc
-
-pub returns-clause-kind : goal.returns-clause-kind
-returns-clause-kind c = λ is g. let o = g.each in let bad : false ≡ true = (o ([]) (seen (set_mark one_timer a mark.Busy) (told (Fired what.Descriptor a 16))) [] refl).started.0 in cc
-
-pub returns-clause-request : goal.returns-clause-request
-returns-clause-request c = λ is g. let o = g.each in let bad : false ≡ true = (o ([]) (seen one_object (told (Fired what.Callback a 16))) [] refl).started.0 in cc
 
 -- no queue runs here
 stopped : (q : Obj) → runs one_stopped.queues q ≡ false
@@ -33,16 +23,21 @@ stopped q = each (nat_cmp q.0 1) refl
     each Equal e = rw e refl
     each Greater e = rw e refl
 
-pub returns-clause-turn : goal.returns-clause-turn
-returns-clause-turn c = λ is g.
-    let t = (g.each [] (seen one_stopped (told (Fired what.Trigger b 16))) [] refl).started.1 in
-    let e : None ≡ Some t.first = rw (stopped t.queue) at t.next in cc
+pub returns : goal.returns
+returns c is = (fired (empty 1) what.Timer refl, (fired one_timer what.Timer refl, (fired (set_mark one_timer a mark.Busy) what.Descriptor refl, (fired one_object what.Callback refl, (turn, (unasked, (accepted one_object refl, (accepted (set_mark one_object a mark.Busy) refl, tt))))))))
+  where
+    -- for an object in such a pool no such routine starts
+    fired : (p : Pool) (w : What) → may_fire_row w (row_of p.rows a) ≡ false → Grounded (seen p (told (Fired w a 16)) ∷ []) is → ⊥
+    fired p w none g = let bad : false ≡ true = sym none ∙ (g.each [] (seen p (told (Fired w a 16))) [] refl).started.0 in cc
 
-pub returns-clause-unasked : goal.returns-clause-unasked
-returns-clause-unasked c = λ is g. let o = g.each in (o [] (seen (set_mark one_object a mark.Asked) (told (Accepted a))) [] refl).started.1
+    turn : Grounded (seen one_stopped (told (Fired what.Trigger b 16)) ∷ []) is → ⊥
+    turn g =
+        let t = (g.each [] (seen one_stopped (told (Fired what.Trigger b 16))) [] refl).started.1 in
+        let e : None ≡ Some t.first = rw (stopped t.queue) at t.next in cc
 
-pub returns-clause-stopped : goal.returns-clause-stopped
-returns-clause-stopped c = λ is g. let o = g.each in let bad : false ≡ true = (o (seen one_object asks_a ∷ []) (seen one_object (told (Accepted a))) [] refl).started.0 in cc
+    unasked : Grounded (seen (set_mark one_object a mark.Asked) (told (Accepted a)) ∷ []) is → ⊥
+    unasked g = (g.each [] (seen (set_mark one_object a mark.Asked) (told (Accepted a))) [] refl).started.1
 
-pub returns-clause-busy : goal.returns-clause-busy
-returns-clause-busy c = λ is g. let bad : false ≡ true = (g.each (seen (set_mark one_object a mark.Busy) asks_a ∷ []) (seen (set_mark one_object a mark.Busy) (told (Accepted a))) [] refl).started.0 in cc
+    -- the destructor of an object that isn't asked in such a pool doesn't accept
+    accepted : (p : Pool) → is_asked p a ≡ false → Grounded (seen p asks_a ∷ seen p (told (Accepted a)) ∷ []) is → ⊥
+    accepted p none g = let bad : false ≡ true = sym none ∙ (g.each (seen p asks_a ∷ []) (seen p (told (Accepted a))) [] refl).started.0 in cc

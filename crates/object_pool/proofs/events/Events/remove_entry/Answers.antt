@@ -1,6 +1,7 @@
-use Rattle.std.proofs.Common.{◌≡◌, ◌∙◌, ◌≤◌, ◌+◌, Some, length, ap, sym, arith}
+use Rattle.std.proofs.Common.{◌≡◌, ◌∙◌, ℕ, ◌≤◌, ◌+◌, Some, length, ap, sym, arith}
 use Rattle.tree_specs.specs.Events.Queues.{Queues, entry_of, without_entry}
 use Rattle.request_queue.specs.Register.{looked_for}
+use Rattle.object_pool.specs.Upcoming.{Agenda, KeepsPlaces, Upcoming}
 use Rattle.object_pool.proofs.Fewer.{left-fewer, without-entries}
 use Rattle.object_pool.proofs.events.Events.remove_entry.Goals as goal
 
@@ -33,31 +34,25 @@ invariant_of-self-in_default c =
     let left = no-more c in
     omega (arith, had, left)
 
+-- whether its queue comes soon or not, all other places are as they were
+kept : (old : Agenda) (u : Upcoming) (soon queues : ℕ) → old.soon_spare + length u.queues.entries ≤ soon + length old.upcoming.queues.entries → old.queues_spare ≤ queues → KeepsPlaces old (record old { upcoming = u; soon_spare = soon; queues_spare = queues })
+kept old u soon queues left more = record {
+  soon = left;
+  times = omega arith;
+  ring = omega arith;
+  descriptors = omega arith;
+  handlers = omega arith;
+  requests = omega arith;
+  queues = more;
+}
+
 pub returns-in-Some-clause-kept : goal.returns-in-Some-clause-kept
 returns-in-Some-clause-kept c =
     let left = fewer c in
     let spare = c.push.ensures.spare in
-    let queues = c.remove_entry.ensures.spare in
-    rw (← c.self.view_is) (record {
-      soon = omega (arith, left, spare);
-      times = omega arith;
-      ring = omega arith;
-      descriptors = omega arith;
-      handlers = omega arith;
-      requests = omega arith;
-      queues = queues;
-    })
+    rw (← c.self.view_is) (kept _ _ _ _ (omega (arith, left, spare)) c.remove_entry.ensures.spare)
 
 pub returns-in_default-clause-kept : goal.returns-in_default-clause-kept
 returns-in_default-clause-kept c =
     let left = no-more c in
-    let queues = c.remove_entry.ensures.spare in
-    rw (← c.self.view_is) (record {
-      soon = omega (arith, left);
-      times = omega arith;
-      ring = omega arith;
-      descriptors = omega arith;
-      handlers = omega arith;
-      requests = omega arith;
-      queues = queues;
-    })
+    rw (← c.self.view_is) (kept _ _ _ _ (omega (arith, left)) c.remove_entry.ensures.spare)
