@@ -103,6 +103,7 @@ impl Caller {
     }
 
     /// The reply to its call comes next, and the caller remembers it.
+    #[inline(always)]
     pub fn reply(&mut self, reply: ShortReply)
         ensures { frame_of self.new ≡ telling self.old.ask reply }
     {

@@ -42,7 +42,7 @@ pub fn check_row(x: Obj, row: Option<&Row>) -> Result<(), Refusal>
 }
 
 /// An owner is the root or an object.
-#[inline]
+#[inline(always)]
 pub fn check_owner(o: Owner, pool: &ObjectPool) -> Result<(), Refusal>
     ensures { result ≡ checked (owner pool.now.pool o) }
 {

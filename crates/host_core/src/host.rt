@@ -42,9 +42,8 @@ fn make_room(parts: &mut Parts) -> Result<(), Memory>
     parts.objects.reserve()
 }
 
-/// The event that comes next of the open frees, which is told now. Most calls free nothing, so it is kept out of the way of
-/// the others.
-#[inline(never)]
+/// The event that comes next of the open frees, which is told now.
+#[inline(always)]
 fn tell_free(objects: &mut ObjectPool) -> Option<Event>
     requires { IsSettled Active.Freeing objects.old }
     ensures { Tells result Active.Freeing objects.old Active.Freeing objects.new }

@@ -142,9 +142,8 @@ fn take_ask(now: &mut Active) -> Ask
     }
 }
 
-/// What a call does first is gone on with, up to the next event or question. Few calls come here, and the others are quicker
-/// without the room on the stack that this takes.
-#[inline(never)]
+/// What a call does first is gone on with, up to the next event or question.
+#[inline(always)]
 fn begin_on(now: &mut Active, motion: Motion, parts: &mut Parts)
     requires asked { IsSome (caller_asked now.old) }
     requires begins { (q : AskData) → caller_asked now.old ≡ Some q → (c : CallData) × (o : ObjectsData) × BeginsWith q c o motion parts.old }

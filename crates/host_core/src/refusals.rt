@@ -17,6 +17,7 @@ use tree_specs::Test::{
 use tree_specs::{Call, OVERHEAD, Obj, Owner, Refusal, Test};
 
 /// A new object. Its size is looked at first, so that what is wanted for it is a number.
+#[inline(always)]
 #[tactic(auto, using(crate::proofs::Allowed::refused_first, crate::proofs::Allowed::allowed_first))]
 fn check_new(owner: Owner, size: u64, pool: &ObjectPool) -> Result<(), Refusal>
     ensures { result ≡ checked (refused pool.now.pool (Test.IsSmall size ∷ Test.IsOwner owner ∷ Test.HasRoom 1 ∷ Test.Fits owner (size + overhead) ∷ [])) }
@@ -126,6 +127,7 @@ fn check_enqueue(queue: Obj, x: Obj, pool: &ObjectPool) -> Result<(), Refusal>
 }
 
 /// Whether a call is allowed, and else its first refusal.
+#[inline(always)]
 pub fn check(call: &Call, pool: &ObjectPool) -> Result<(), Refusal>
     ensures { result ≡ checked (refusals pool.now.pool call.now) }
 {

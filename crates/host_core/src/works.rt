@@ -37,6 +37,7 @@ fn free_again(answer: Answer, objects: &mut ObjectPool)
 }
 
 /// The innermost work is over. The one below it goes on with its answer.
+#[inline(always)]
 pub fn end(answer: Answer, parts: &mut Parts) -> Active
     requires { MayEnd answer parts.old }
     ensures along { TellsSameStory (ended_view answer parts.old) (host_view result parts.new) }
@@ -60,6 +61,7 @@ pub fn end(answer: Answer, parts: &mut Parts) -> Active
 }
 
 /// What a step leads to is at work from then on.
+#[inline(always)]
 pub fn go_on(step: Step, parts: &mut Parts) -> Active
     requires { MayGoOn step parts.old }
     ensures along { TellsSameStory (stepped_view step parts.old) (host_view result parts.new) }
@@ -101,8 +103,7 @@ fn stays_at_work(step: FreeStep) -> bool
 }
 
 /// The innermost free was at work, and is no more after this step: what it waits for is, or where it is over the work below it.
-/// Few steps do this, and the others are quicker without the room on the stack that this takes.
-#[inline(never)]
+#[inline(always)]
 fn leave_free(step: FreeStep, parts: &mut Parts) -> Active
     requires leaves { is_news step ≡ false }
     requires came { (o : ObjectsData) × CameFrom o step parts.old }
@@ -128,7 +129,7 @@ fn leave_free(step: FreeStep, parts: &mut Parts) -> Active
 }
 
 /// What comes next of the open frees where this tells no event.
-#[inline(never)]
+#[inline(always)]
 fn quiet_free(now: &mut Active, parts: &mut Parts)
     requires freeing { now.old ≡ Active.Freeing }
     requires ready { IsBetweenSteps Active.Freeing parts.old }

@@ -176,6 +176,7 @@ impl Replay {
     }
 
     /// Takes a line that is whole.
+    #[inline(always)]
     fn take_line(&mut self, line: &[u8]) -> Result<(), Stop>
         requires ready { IsBetweenBytes (at_line (reading_of self.old) line.now) }
         requires numbered { self.old.number ≤ lines_limit }
