@@ -174,6 +174,7 @@ pub fn move_quietly(work: FreeFrame, tree: &mut Tree, refs: &Refs) -> Option<Fre
 }
 
 /// The moves that tell nothing, up to the next one that does.
+#[inline(always)]
 pub fn settle(innermost: Option<FreeFrame>, tree: &mut Tree, refs: &mut Refs) -> Option<FreeFrame>
     requires ready { IsBetweenCalls innermost tree.old }
     requires refs { AreRefsOf refs.old.pairs tree.old.rows }

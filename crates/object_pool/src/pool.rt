@@ -85,6 +85,9 @@ impl ObjectPool {
         ensures ok { OnOk result (self.new ≡ record self.old { ready = true }) }
         ensures err { OnErr result (self.new ≡ self.old) }
     {
+        if self.ready {
+            return Ok(());
+        }
         if !self.places {
             self.refs.reserve(1)?;
             self.sums.reserve(1)?;
@@ -97,6 +100,7 @@ impl ObjectPool {
     }
 
     /// Adds an object of a kind other than a reference as the newest child of an owner, and gives its number.
+    #[inline(always)]
     pub fn add(&mut self, kind: Kind, name: Name, size: u64, owner: Owner) -> Obj
         requires ready { self.old.ready ≡ true }
         requires object { target_of kind ≡ None }

@@ -62,7 +62,7 @@ module _ {X : Type 0} where
     pub filled : (k i : ℕ) → P k ≡ Some i → IsSome (G i)
     pub apart : (k l i : ℕ) → P k ≡ Some i → P l ≡ Some i → k ≡ l
 
-  none_is_none : (o : Option X) → IsSome o → o ≡ None → {Q : Type 0} → Q
+  pub none_is_none : (o : Option X) → IsSome o → o ≡ None → {Q : Type 0} → Q
   none_is_none None h e = absurd (cc)
   none_is_none (Some v) h e = absurd (cc)
 
@@ -142,6 +142,20 @@ module _ {X S : Type 0} where
 
   pub reads : (m : IndexMap ℕ ℕ S) (s : Slab X) (q : ℕ) → get (held m s) q ≡ option_and_then (slot_get s) (place_get nat_eq m q)
   reads m s q = get-pairs_of m.entries s q
+
+  -- the same entries
+  pub same-sound : (m m' : IndexMap ℕ ℕ S) (s : Slab X) → m'.entries ≡ m.entries → IsSound m s → IsSound m' s
+  same-sound m m' s q sound = record {
+    filled = λ k i e. sound.filled k i (sym (ap (lookup (nat_eq k)) q) ∙ e);
+    apart = λ k l i e d. sound.apart k l i (sym (ap (lookup (nat_eq k)) q) ∙ e) (sym (ap (lookup (nat_eq l)) q) ∙ d);
+  }
+
+  -- no entries
+  pub empty-sound : (m : IndexMap ℕ ℕ S) (s : Slab X) → m.entries ≡ [] → IsSound m s
+  empty-sound m s q = record {
+    filled = λ k i e. none_is_none (Some i) refl (sym e ∙ ap (lookup (nat_eq k)) q);
+    apart = λ k l i e d. none_is_none (Some i) refl (sym e ∙ ap (lookup (nat_eq k)) q);
+  }
 
   -- a new pair
   module _ (m m' : IndexMap ℕ ℕ S) (s s' : Slab X) (sound : IsSound m s) (k i : ℕ) (v : X)

@@ -1,10 +1,12 @@
 -- What a contract sees of an arena: a finite map, and how many more pairs fit with no allocation.
-use Rattle.std.specs.Prelude.{◌≡◌, ℕ, ◌-◌, min, List, [], ◌∷◌, Option, Some, None, IsSome, nat_eq, refl}
+use Rattle.std.specs.Prelude.{◌≡◌, ℕ, ◌-◌, ◌<◌, min, List, [], ◌∷◌, length, Option, Some, None, IsSome, nat_eq, refl}
 use Rattle.std.specs.Coded.{Coded, code_by, coded×, coded_ℕ}
 use Rattle.std.specs.Ordering.{nat_cmp}
 use Rattle.std.specs.FinMap as map
 use Rattle.slab.specs.Slab.{Slab, get as slot_get, slab_len}
 use Rattle.indexmap.specs.IndexMap.{IndexMap, get as place_get, spare as room}
+use Rattle.pool_arena.specs.Guesses.{AreRight}
+use Rattle.pool_arena.specs.declared.guesses.Guess.{Guess}
 
 pub record Held (T : Type 0) : Type 0 where
   pub pairs : map.FinMap nat_cmp T
@@ -14,6 +16,10 @@ abbrev pub held_code : {T : Type 0} → Coded T → Coded (Held T)
 held_code {T} code =
     code_by (map.FinMap nat_cmp T × ℕ) (coded× (map.code coded_ℕ code) coded_ℕ)
     (λ s. (s.pairs, s.spare)) (λ p. record { pairs = p.0; spare = p.1 }) (λ _. refl)
+
+-- a key that has a place
+abbrev pub IsHeld : {S : Type 0} → IndexMap ℕ ℕ S → ℕ → Type 0
+IsHeld m k = IsSome (place_get nat_eq m k)
 
 module _ {T : Type 0} where
   abbrev pub get : Held T → ℕ → Option T
@@ -40,3 +46,9 @@ module _ {T : Type 0} where
     pub record IsSound (m : IndexMap ℕ ℕ S) (s : Slab T) : Type 0 where
       pub filled : (k i : ℕ) → place_get nat_eq m k ≡ Some i → IsSome (slot_get s i)
       pub apart : (k l i : ℕ) → place_get nat_eq m k ≡ Some i → place_get nat_eq m l ≡ Some i → k ≡ l
+
+    -- the guesses are right, and there is one for each key that may be added with no allocation
+    pub record IsKept (m : IndexMap ℕ ℕ S) (s : Slab T) (gs : List Guess) : Type 0 where
+      pub sound : IsSound m s
+      pub right : AreRight gs (IsHeld m)
+      pub ready : 0 < (held m s).spare → 0 < length gs

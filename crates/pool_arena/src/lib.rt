@@ -18,7 +18,7 @@ mod guesses;
 #[cfg(test)]
 mod tests;
 
-use guesses::{guess_next, is_vacant, keep_up, reguess, slot_of};
+use guesses::{Guess, is_vacant, join, keep_up, leave, look_at, short, slot_of};
 
 /// Values, each under a key of its own. Contracts see a finite map from keys to values, and spare: so many more values
 /// can be added without taking memory. Only `reserve` takes memory.
@@ -27,12 +27,12 @@ pub struct Arena<T> {
     slots: Slab<T>,
     /// The slot of each key.
     places: IndexMap<u64, usize>,
-    /// The index that a key may have among the places.
-    guesses: Vec<usize>,
+    /// What is known of the keys without a look at the places.
+    guesses: Vec<Guess>,
 }
 
 impl<T> Model for Arena<T> {
-    ghost use Rattle.pool_arena.specs.Arena.{Held, held_code, held, IsSound};
+    ghost use Rattle.pool_arena.specs.Arena.{Held, held_code, held, IsKept};
 
     ghost Value = { Held T };
 
@@ -40,7 +40,7 @@ impl<T> Model for Arena<T> {
 
     ghost view = { λ a. held a.places a.slots };
 
-    ghost invariant = { λ a. IsSound a.places a.slots };
+    ghost invariant = { λ a. IsKept a.places a.slots a.guesses.items };
 }
 
 impl<T> Arena<T> {
@@ -65,9 +65,9 @@ impl<T> Arena<T> {
         ensures spare { self.old.spare ≤ self.new.spare }
         ensures room { OnOk result (n ≤ self.new.spare) }
     {
+        keep_up(&mut self.guesses, &self.places)?;
         self.slots.reserve(n)?;
-        self.places.reserve(n)?;
-        keep_up(&mut self.guesses, &self.places)
+        self.places.reserve(n)
     }
 
     /// Adds a value under a key that isn't held.
@@ -78,7 +78,7 @@ impl<T> Arena<T> {
         ensures spare { self.old.spare ≤ self.new.spare + 1 }
     {
         let slot = self.slots.insert_reserved(value);
-        guess_next(&mut self.guesses, &self.places, key);
+        join(&mut self.guesses, key, short(self.places.len()));
         match self.places.insert(key, slot) {
             Ok(_) => (),
             Err(_) => unreachable!(),
@@ -112,12 +112,13 @@ impl<T> Arena<T> {
         ensures pairs { self.new.pairs ≡ map.remove self.old.pairs key }
         ensures spare { self.old.spare ≤ self.new.spare }
     {
-        if is_vacant(&self.places, key) {
+        if is_vacant(&self.guesses, &self.places, key) {
             return None;
         }
         match self.places.swap_remove_full(&key) {
             Some((index, _, slot)) => {
-                reguess(&mut self.guesses, &self.places, index);
+                leave(&mut self.guesses, key);
+                look_at(&mut self.guesses, &self.places, index);
                 self.slots.try_remove(slot)
             }
             None => None,

@@ -18,7 +18,9 @@ fn write_told(event: Event, text: &mut Vec<u8>) -> Result<(), Memory>
 pub fn tell(host: &mut Host, text: &mut Vec<u8>) -> Result<(), Memory>
     ensures { Tells host.old text.old.items host.new text.new.items result }
 {
-    while let Some(event) = host.next() {
+    while host.question().is_none()
+        && let Some(event) = host.next()
+    {
         write_told(event, text)?;
     }
     Ok(())

@@ -31,6 +31,12 @@ then_fails old new s t text (Err f) before failed whole = record {
   };
 }
 
+-- a text of which this much was written
+pub so_far : (old new text : List ℕ) (i : ℕ) (r : Result (Unit {0}) Memory) → new ≡ old ++ take i text → IsErr r → Writes old new r text
+so_far old new text i r before failed =
+    let whole : WritesFront old new (take i text) = record { front = take i text; written = before; begins = record { rest = []; whole = sym (append-nil (take i text)) } } in
+    then_fails old new (take i text) (drop i text) text r whole failed (sym (take-append-drop i text))
+
 -- a text of which nothing was written
 pub nothing_written : (old new text : List ℕ) (r : Result (Unit {0}) Memory) → new ≡ old → IsErr r → Writes old new r text
 nothing_written old new text (Ok done) same failed = absurd cc

@@ -131,6 +131,7 @@ impl<'a> Fields<'a> {
     }
 
     // A name field, which no other follows: a name has no space, so it is all that is left of the text.
+    #[inline(always)]
     #[tactic(auto, using(crate::proofs::Cursor::name_taken))]
     pub(crate) fn name(&mut self) -> Result<Name, FormFault>
         ensures { Takes result (last_field name_of self.old) self.new }

@@ -6,13 +6,22 @@ ghost use Rattle.tree_specs.specs.Texts.Written.{Writes};
 use itoa::Buffer;
 use tree_specs::Memory;
 
+/// Appends a few bytes. A call that copies many costs more than a loop over few.
+fn write_few(bytes: &[u8], out: &mut Vec<u8>) -> Result<(), Memory>
+    ensures { Writes out.old.items out.new.items result bytes.now }
+{
+    for byte in bytes {
+        out.push(*byte)?;
+    }
+    Ok(())
+}
+
 fn write_spaced(n: u64, out: &mut Vec<u8>) -> Result<(), Memory>
     ensures { Writes out.old.items out.new.items result (codes " " ++ decimal n) }
 {
     let mut buffer = Buffer::new();
     out.push(b' ')?;
-    out.extend_from_slice(buffer.format(n).as_bytes())?;
-    Ok(())
+    write_few(buffer.format(n).as_bytes(), out)
 }
 
 fn write_each(numbers: &[u64], out: &mut Vec<u8>) -> Result<(), Memory>
@@ -34,8 +43,7 @@ pub fn write_numbers(
 ) -> Result<(), Memory>
     ensures { Writes out.old.items out.new.items result (front.now ++ numbers_text numbers.now ++ end.now) }
 {
-    out.extend_from_slice(front)?;
+    write_few(front, out)?;
     write_each(numbers, out)?;
-    out.extend_from_slice(end)?;
-    Ok(())
+    write_few(end, out)
 }

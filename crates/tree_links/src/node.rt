@@ -217,6 +217,7 @@ pub(crate) fn enter(
 }
 
 /// The heads of two lanes get a newer neighbour, which has entered in front of them.
+#[inline(always)]
 pub(crate) fn meet_newer(nodes: &mut Arena<Node>, front: Option<u64>, first: Option<u64>, x: u64)
     ensures rows { (q : ℕ) → row_at nodes.new.pairs q ≡ row_at nodes.old.pairs q }
     ensures linked { (m : Nodes) (former root : Option ℕ) (o : OwnerData) (A : List ℕ) (K : OwnerData → List ℕ) → has A x ≡ false → ((p : OwnerData) → has (K p) x ≡ false) → Apart K o → Enters m nodes.old.pairs front first former root o x → Linked m front former A K → Linked nodes.new.pairs (Some x) root (x ∷ A) (λ p. cond (same_owner o p) (x ∷ K p) (K p)) }

@@ -94,6 +94,7 @@ impl Tree {
     }
 
     /// Adds an object at the front below its owner, and gives its serial number.
+    #[inline(always)]
     pub fn add(&mut self, row: NewRow, owner: Owner) -> Obj
         requires room { 0 < self.old.spare }
         requires few { length self.old.rows < row_limit }

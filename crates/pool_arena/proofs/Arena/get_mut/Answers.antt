@@ -10,7 +10,7 @@ use mathlib.Core.Logic.{inr}
 pub returns-in-Some : goal.returns-in-Some
 returns-in-Some g c =
     let at = sym c.in-Some.ensures in
-    let e = λ (w : g.row.T.Denot). write-held c.self.inside.places c.self.inside.slots c.self.invariant c.args.key c.in-Some.slot at w ∙ ap (λ a. with_value a c.args.key w) c.self.view_is in (
+    let e = λ (w : g.row.T.Denot). write-held c.self.inside.places c.self.inside.slots c.self.invariant.sound c.args.key c.in-Some.slot at w ∙ ap (λ a. with_value a c.args.key w) c.self.view_is in (
       λ j. read_of (ghost_name_of c.get_mut.result) (λ w. e w j) (c.self.view_is j),
       record {
         writes_back = tt;
