@@ -1,5 +1,6 @@
 //! What is at work in a host, above all that waits.
-ghost use Rattle.std.specs.Prelude.{◌≡◌, List, is_none};
+ghost use Rattle.std.specs.Prelude.{◌≡◌, IsTrue, List, Some, is_none};
+ghost use Rattle.tree_specs.specs.declared.question.Ask.TheVariants.{Quiet};
 ghost use Rattle.std.specs.Option.{option_copied};
 ghost use Rattle.tree_specs.specs.Texts.Schedule.{misfit};
 ghost use Rattle.host_core.specs.Hosts.{asked_now, view_of, speaking_view, IsSettled};
@@ -67,6 +68,19 @@ impl Active {
             Active::Reaching(question) => Some(question),
             _ => None,
         }
+    }
+
+    /// Whether the host's own caller is asked for a call.
+    pub fn is_quiet(&self) -> bool
+        ensures { IsTrue result → asked_now self.now ≡ Some Quiet }
+    {
+        matches!(
+            self,
+            Active::Caller(Caller {
+                ask: Ask::Quiet,
+                stage: Stage::Asking,
+            },)
+        )
     }
 
     /// Whether a question is open that takes such an answer.

@@ -120,6 +120,7 @@ impl Caller {
     }
 
     /// A caller whose turn is over, or whom the outside has answered, with this reply.
+    #[inline(always)]
     pub fn after(ask: Ask, reply: ShortReply) -> Caller
         ensures { frame_of result ≡ telling ask reply }
     {

@@ -17,7 +17,7 @@ ghost use Rattle.object_pool.specs.Objects.{RefsMayGo};
 ghost use Rattle.host_core.specs.Moves.{move_of, reply_of, report_of, ReadyFor};
 
 use crate::motion::Motion;
-use crate::refusals::check;
+use crate::refusals::{check, check_free};
 use crate::short_reply::ShortReply;
 use object_pool::ObjectPool;
 use tree_specs::{
@@ -138,7 +138,7 @@ fn finish(x: Obj, state: State) -> Motion
 pub fn release(child: Obj, pool: &ObjectPool) -> Option<Motion>
     ensures { IsRelease child pool.now.pool result }
 {
-    match check(&Call::Free { x: child }, pool) {
+    match check_free(child, pool) {
         Ok(()) => Some(free(child, pool)),
         Err(_) => None,
     }

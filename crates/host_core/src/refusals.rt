@@ -1,6 +1,6 @@
 //! The refusals of each call: its tests, in the order in which they are tried.
 ghost use Rattle.std.specs.Prelude.{◌≡◌, ◌+◌, [], ◌∷◌};
-ghost use Rattle.tree_specs.specs.declared.call.Call.TheVariants.{Reparent as ReparentOf, Reference as ReferenceOf, Resize as ResizeOf};
+ghost use Rattle.tree_specs.specs.declared.call.Call.TheVariants.{Free as FreeOf, Reparent as ReparentOf, Reference as ReferenceOf, Resize as ResizeOf};
 ghost use Rattle.tree_specs.specs.Calls.Refusals.{checked, refused, refusals};
 ghost use Rattle.tree_specs.specs.declared.object.Owner.TheVariants.{Of as At};
 ghost use Rattle.tree_specs.specs.Tree.Sums.{overhead};
@@ -126,14 +126,20 @@ fn check_enqueue(queue: Obj, x: Obj, pool: &ObjectPool) -> Result<(), Refusal>
     check_two(HasRoom(1), Fits(Owner::Of(x), OVERHEAD), &objects)
 }
 
+/// An object is freed.
+pub fn check_free(x: Obj, pool: &ObjectPool) -> Result<(), Refusal>
+    ensures { result ≡ checked (refusals pool.now.pool (FreeOf x)) }
+{
+    check_two(IsObject(x), IsUnheld(x), &Subject::object(x, pool))
+}
+
 /// Whether a call is allowed, and else its first refusal.
-#[inline(always)]
 pub fn check(call: &Call, pool: &ObjectPool) -> Result<(), Refusal>
     ensures { result ≡ checked (refusals pool.now.pool call.now) }
 {
     match *call {
         Call::New { owner, size, .. } => check_new(owner, size, pool),
-        Call::Free { x } => check_two(IsObject(x), IsUnheld(x), &Subject::object(x, pool)),
+        Call::Free { x } => check_free(x, pool),
         Call::Steal { owner, x } | Call::Move { owner, x } => check_placing(owner, x, pool),
         Call::Reparent { from, to, x } => check_reparent(from, to, x, pool),
         Call::Reference { owner, x } => check_reference(owner, x, pool),

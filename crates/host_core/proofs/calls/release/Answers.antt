@@ -5,6 +5,5 @@ use Rattle.tree_specs.specs.Calls.Refusals.{refusals}
 use Rattle.host_core.proofs.Allowed.{refused_release}
 use Rattle.host_core.proofs.calls.release.Goals as goal
 
--- src/calls.rt:135:1
-pub returns : goal.returns
-returns c = refused_release (refusals c.args.pool.now.pool (FreeOf c.args.child)) (plan c.args.pool.now.pool (FreeOf c.args.child)) c.in-Err.field-0 (sym c.check.ensures ∙ c.in-Err.is)
+pub returns-in-Err : goal.returns-in-Err
+returns-in-Err c = refused_release (refusals c.args.pool.now.pool (FreeOf c.args.child)) (plan c.args.pool.now.pool (FreeOf c.args.child)) c.in-Err.field-0 (sym c.check_free.ensures ∙ c.in-Err.is)
