@@ -13,6 +13,7 @@ use tree_links::Tree;
 use tree_specs::{FreeFrame, FreeReply, FreeStep, Obj, Owner};
 
 /// A reference is no more, which is to be told.
+#[inline(always)]
 pub fn drop_ref(reference: Obj, target: Obj, tree: &mut Tree, refs: &mut Refs) -> FreeStep
     requires is { RefersTo tree.old.rows (Some reference) target }
     requires refs { AreRefsOf refs.old.pairs tree.old.rows }

@@ -110,7 +110,8 @@ impl FreeEngine {
         ensures { HasBegun (work ∷ before self.old tree.old.frees) tree.old refs.old self.new tree.new refs.new }
     {
         wait(self.innermost, tree);
-        self.innermost = settle(Some(work), tree, refs);
+        self.innermost = Some(work);
+        settle(&mut self.innermost, tree, refs);
     }
 
     /// Begins the freeing of an object to which there is no reference. Like the other beginnings it changes the rows in
@@ -178,7 +179,8 @@ impl FreeEngine {
         ensures { HasBegun (prepared_works (before self.old tree.old.frees)) tree.old refs.old self.new tree.new refs.new }
     {
         if let Some(work) = self.innermost {
-            self.innermost = settle(Some(going_on(work)), tree, refs);
+            self.innermost = Some(going_on(work));
+            settle(&mut self.innermost, tree, refs);
         }
     }
 
@@ -260,7 +262,8 @@ impl FreeEngine {
         let Some(told) = progress.told else {
             unreachable!()
         };
-        self.innermost = settle(progress.innermost, tree, refs);
+        self.innermost = progress.innermost;
+        settle(&mut self.innermost, tree, refs);
         told
     }
 }

@@ -231,15 +231,21 @@ pub fn move_once(work: FreeFrame, tree: &mut Tree, refs: &mut Refs) -> Motion
     ensures refs { AreRefsOf refs.new.pairs tree.new.rows }
     ensures places { refs.old.spare ≤ refs.new.spare }
 {
+    // A work that waits is built anew from its parts: where one is copied whole, all the others are kept whole as well, and each
+    // move copies more.
     match work {
         FreeFrame::Unlinking { owner, x } => unlink(owner, x, tree, refs),
         FreeFrame::Releasing { x } => release(x, tree, refs),
         FreeFrame::Giving { x, owner } => give(x, owner, tree),
         FreeFrame::Beginning { x } => begin_free(x, tree, refs),
-        FreeFrame::Hooked { x, .. } => Motion::Waits(FreeStep::Ask(x), work),
+        FreeFrame::Hooked { x, hook } => {
+            Motion::Waits(FreeStep::Ask(x), FreeFrame::Hooked { x, hook })
+        }
         FreeFrame::Judged { x, hook, value } => judge(x, hook, value, tree),
-        FreeFrame::Preparing { x } => Motion::Waits(FreeStep::Prepare(x), work),
-        FreeFrame::Draining { x } => Motion::Waits(FreeStep::Drain(x), work),
+        FreeFrame::Preparing { x } => {
+            Motion::Waits(FreeStep::Prepare(x), FreeFrame::Preparing { x })
+        }
+        FreeFrame::Draining { x } => Motion::Waits(FreeStep::Drain(x), FreeFrame::Draining { x }),
         FreeFrame::Prepared { x } => go_on(x, tree),
         FreeFrame::Dooming { .. } => Motion::Ends(FreeReply::Running),
         FreeFrame::Leaving { x, hook } => leave(x, hook, tree),

@@ -150,20 +150,20 @@ fn end_quietly(_work: FreeFrame, answer: FreeReply, tree: &mut Tree) -> Option<F
 
 /// The next move of a work where it tells nothing, with the work that is innermost after it. None where the move tells or
 /// asks something, or ends the free: then nothing is done.
-pub fn move_quietly(work: FreeFrame, tree: &mut Tree, refs: &Refs) -> Option<FreeFrame>
-    requires rests { MoveRests work (pool_of tree.old) }
-    requires room { HasRoom (Some work) tree.old }
+pub fn move_quietly(work: &FreeFrame, tree: &mut Tree, refs: &Refs) -> Option<FreeFrame>
+    requires rests { MoveRests work.now (pool_of tree.old) }
+    requires room { HasRoom (Some work.now) tree.old }
     requires refs { AreRefsOf refs.now.pairs tree.old.rows }
-    ensures moved { MovesQuietly work tree.old result tree.new }
+    ensures moved { MovesQuietly work.now tree.old result tree.new }
     ensures spare { tree.old.spare ≤ tree.new.spare }
     ensures room { length tree.old.frees + tree.old.room ≤ length tree.new.frees + tree.new.room }
     ensures refs { AreRefsOf refs.now.pairs tree.new.rows }
 {
-    match outlook(work, tree, refs) {
+    match outlook(*work, tree, refs) {
         Outlook::Telling => None,
-        Outlook::Ending(answer) => end_quietly(work, answer, tree),
+        Outlook::Ending(answer) => end_quietly(*work, answer, tree),
         Outlook::Going(next) => {
-            enter(work, next, tree);
+            enter(*work, next, tree);
             Some(next)
         }
         Outlook::Pushing(first, second) => {
@@ -173,27 +173,27 @@ pub fn move_quietly(work: FreeFrame, tree: &mut Tree, refs: &Refs) -> Option<Fre
     }
 }
 
-/// The moves that tell nothing, up to the next one that does.
+/// The moves that tell nothing, up to the next one that does. The innermost work is changed where it is kept: moving one costs
+/// more than most moves do.
 #[inline(always)]
-pub fn settle(innermost: Option<FreeFrame>, tree: &mut Tree, refs: &mut Refs) -> Option<FreeFrame>
-    requires ready { IsBetweenCalls innermost tree.old }
+pub fn settle(innermost: &mut Option<FreeFrame>, tree: &mut Tree, refs: &mut Refs)
+    requires ready { IsBetweenCalls innermost.old tree.old }
     requires refs { AreRefsOf refs.old.pairs tree.old.rows }
-    ensures ready { IsBetweenCalls result tree.new }
-    ensures moves_on { Silently (frees_of innermost tree.old) (frees_of result tree.new) }
-    ensures at_work { IsAtWork (frees_of innermost tree.old) → IsAtWork (frees_of result tree.new) }
-    ensures settles { speaking (frees_of result tree.new) ≡ true }
+    ensures ready { IsBetweenCalls innermost.new tree.new }
+    ensures moves_on { Silently (frees_of innermost.old tree.old) (frees_of innermost.new tree.new) }
+    ensures at_work { IsAtWork (frees_of innermost.old tree.old) → IsAtWork (frees_of innermost.new tree.new) }
+    ensures settles { speaking (frees_of innermost.new tree.new) ≡ true }
     ensures refs { AreRefsOf refs.new.pairs tree.new.rows }
     ensures places { refs.old.spare ≤ refs.new.spare }
     ensures spare { tree.old.spare ≤ tree.new.spare }
 {
-    let mut innermost = innermost;
     loop {
-        let Some(work) = innermost else {
-            return None;
+        let Some(work) = innermost.as_ref() else {
+            return;
         };
         let Some(next) = move_quietly(work, tree, refs) else {
-            return Some(work);
+            return;
         };
-        innermost = Some(next);
+        *innermost = Some(next);
     }
 }

@@ -1,5 +1,5 @@
 //! What is at work in a host, above all that waits.
-ghost use Rattle.std.specs.Prelude.{◌≡◌, IsTrue, List, Some, is_none};
+ghost use Rattle.std.specs.Prelude.{◌≡◌, ◌↔◌, IsTrue, List, Some, is_none};
 ghost use Rattle.tree_specs.specs.declared.question.Ask.TheVariants.{Quiet};
 ghost use Rattle.std.specs.Option.{option_copied};
 ghost use Rattle.tree_specs.specs.Texts.Schedule.{misfit};
@@ -72,15 +72,9 @@ impl Active {
 
     /// Whether the host's own caller is asked for a call.
     pub fn is_quiet(&self) -> bool
-        ensures { IsTrue result → asked_now self.now ≡ Some Quiet }
+        ensures { IsTrue result ↔ (asked_now self.now ≡ Some Quiet) }
     {
-        matches!(
-            self,
-            Active::Caller(Caller {
-                ask: Ask::Quiet,
-                stage: Stage::Asking,
-            },)
-        )
+        matches!(self.question(), Some(Ask::Quiet))
     }
 
     /// Whether a question is open that takes such an answer.

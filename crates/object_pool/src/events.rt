@@ -266,16 +266,16 @@ impl Events {
 
     /// A step of a free was made: an object that has left its owner, or is to go once its handler is over, waits no more,
     /// and nothing is kept of what is no more. Gives the descriptor that was closed, where one was.
-    pub fn follow(&mut self, step: FreeStep) -> Option<u32>
-        requires { MayForget (Some step) self.old.upcoming.queues }
-        ensures closed { result ≡ closed_of self.old.upcoming.ring step }
-        ensures upcoming { self.new.upcoming ≡ after (Some step) self.old.upcoming }
+    pub fn follow(&mut self, step: &FreeStep) -> Option<u32>
+        requires { MayForget (Some step.now) self.old.upcoming.queues }
+        ensures closed { result ≡ closed_of self.old.upcoming.ring step.now }
+        ensures upcoming { self.new.upcoming ≡ after (Some step.now) self.old.upcoming }
         ensures kept { KeepsPlaces self.old self.new }
     {
         match step {
-            FreeStep::Left { object, .. } | FreeStep::Doom(object) => return self.let_go(object),
-            FreeStep::Gone { object, .. } => self.forget(object),
-            FreeStep::Dropped { reference, .. } => self.forget(reference),
+            FreeStep::Left { object, .. } | FreeStep::Doom(object) => return self.let_go(*object),
+            FreeStep::Gone { object, .. } => self.forget(*object),
+            FreeStep::Dropped { reference, .. } => self.forget(*reference),
             _ => {}
         }
         None

@@ -1,5 +1,5 @@
 -- The sums over what is inside an owner are sums over a walk.
-use Rattle.std.proofs.Common.{◌≡◌, ℕ, zero, suc, ◌+◌, ◌*◌, ◌^◌, ◌<◌, ◌≤◌, List, [], ◌∷◌, length, map, Bool, Some, if◌then◌else◌, refl, ap, arith}
+use Rattle.std.proofs.Common.{◌≡◌, ℕ, zero, suc, ◌+◌, ◌*◌, ◌^◌, ◌<◌, ◌≤◌, List, [], ◌∷◌, length, map, Bool, false, Option, None, Some, is_some, if◌then◌else◌, refl, sym, ap, arith}
 use Rattle.std.specs.List.{flat_map, sum_by}
 use Rattle.std.proofs.lemmas.List.{append-nil}
 use Rattle.std.proofs.lemmas.List.Recursion.{is_sum_by}
@@ -16,17 +16,19 @@ use Rattle.tree_specs.specs.declared.object.Owner.{Owner}
 use Rattle.tree_specs.specs.declared.object.Owner.TheVariants.{Root, Of}
 use Rattle.tree_specs.specs.declared.row.Row.{Row}
 use Rattle.tree_specs.specs.Calls.Refusals.{size_limit}
-use Rattle.tree_specs.specs.Tree.Pool.{kids, is_inside}
+use Rattle.tree_specs.specs.Tree.Pool.{kids, first_kid, is_inside}
 use Rattle.tree_specs.specs.Tree.Inside.{total, count_inside}
 use Rattle.tree_specs.specs.Tree.Sums.{overhead, charge, sum_inside}
 use Rattle.tree_specs.specs.Tree.Targets.{is_reference}
-use Rattle.tree_specs.specs.Tree.Walks.{walked, weight_at, own_row, total_of}
+use Rattle.tree_specs.specs.Tree.Walks.{walked, weight_at, own, own_row, total_of}
+use Rattle.linked_lanes.proofs.Lanes.{not_both}
 use Rattle.tree_specs.proofs.Tree.Numbered.{by_test}
 use Rattle.tree_specs.proofs.Tree.Walk.{total-same, inside-walked}
 use Rattle.tree_links.specs.Links.{AllFit, IsTree}
 use Rattle.tree_links.proofs.Trees.{fit-row}
 use Rattle.tree_links.specs.declared.walk.Place.{Place}
 use Rattle.tree_links.specs.Walk.{at_depth, placed, ahead, walk_from}
+use Rattle.tree_links.proofs.Walking.{no-down}
 use Rattle.tree_links.specs.declared.sums.Weight.{Weight}
 use Rattle.tree_links.specs.declared.sums.Weight.TheVariants.{Size, Number, Charge}
 use Rattle.tree_links.specs.Weights.{sized, counted, weighed, weight_of, inside_weight}
@@ -58,6 +60,17 @@ whole-weight g rs next from t =
     let e3 = is_sum_by (total_of (weight_at g rs)) (weight_at g rs) refl (λ x xs. refl) (walked (length rs) rs (kids rs from)) in
     let e5 = inside-walked g rs from t.forest.distinct t.forest.rooted in
     omega (arith, e0, e1, e2, e3, e5)
+
+-- what is inside an owner with no children weighs what it weighs by itself
+pub leaf-weight : (g : Row → ℕ) (rs : List Row) (next : ℕ) (from : Owner) (kid : Option Obj) → IsTree rs next → kid ≡ first_kid rs from → is_some kid ≡ false
+    → own g rs from ≡ inside_weight g rs from
+leaf-weight g rs next from None t e h =
+    let place : Place = record { owner = from; depth = 0 } in
+    let alone : sum_by (weight_of g rs) (ahead rs place) ≡ 0 = ap (sum_by (weight_of g rs)) (no-down rs place (sym e)) in
+    let whole = whole-weight g rs next from t in
+    let first = sum_by-cons (weight_of g rs) place (ahead rs place) in
+    omega (arith, alone, whole, first)
+leaf-weight g rs next from (Some k) t e h = not_both refl h
 
 pub count-weight : (rs : List Row) (next : ℕ) (from : Owner) → IsTree rs next → inside_weight counted rs from ≡ count_inside rs from
 count-weight rs next from t = total-same _ _ rs t.forest.distinct (λ r e. by_test (is_inside rs (Of r.serial) from) (λ q. rw q refl) (λ q. rw q refl))

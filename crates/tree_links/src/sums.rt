@@ -55,11 +55,16 @@ fn own_weight(tree: &Tree, owner: Owner, what: Weight) -> u64
     }
 }
 
+/// The weights of all that is inside an owner together. Most objects own nothing, and no walk is wanted for them.
 fn sum_inside_of(tree: &Tree, from: Owner, what: Weight) -> u64
     ensures sum { result ≡ inside_weight (weighed what) tree.now.rows from }
     ensures sound { IsTree tree.now.rows tree.now.next }
 {
-    tree.walk(from)
+    let places = tree.walk(from);
+    if tree.first_kid(from).is_none() {
+        return own_weight(tree, from, what);
+    }
+    places
         .map(|place| own_weight(tree, place.owner, what))
         .sum()
 }

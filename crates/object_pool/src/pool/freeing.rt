@@ -27,10 +27,10 @@ pub struct Progress {
 
 /// The event that is told of a step of a free which has closed this descriptor, or none.
 #[tactic(auto, using(crate::proofs::Announcing::closed_told))]
-fn event(step: FreeStep, closed: Option<u32>) -> Option<Event>
-    ensures { (ring : List WatchData) → closed ≡ closed_of ring step → result ≡ event_of ring step }
+fn event(step: &FreeStep, closed: Option<u32>) -> Option<Event>
+    ensures { (ring : List WatchData) → closed ≡ closed_of ring step.now → result ≡ event_of ring step.now }
 {
-    match step {
+    match *step {
         FreeStep::Dropped { reference, target } => Some(Event::Unreferenced { reference, target }),
         FreeStep::Refused { object, answer } => Some(Event::Refused { object, answer }),
         FreeStep::Accepted(object) => Some(Event::Accepted(object)),
@@ -132,10 +132,8 @@ impl ObjectPool {
         self.ready = false;
         let step = self.engine.step(&mut self.tree, &mut self.refs);
         count_step(&step, &self.tree, &mut self.sums);
-        let closed = self.events.follow(step);
-        Progress {
-            step,
-            event: event(step, closed),
-        }
+        let closed = self.events.follow(&step);
+        let event = event(&step, closed);
+        Progress { step, event }
     }
 }

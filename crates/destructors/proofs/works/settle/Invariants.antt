@@ -8,8 +8,8 @@ use Rattle.destructors.proofs.Keeping.{free_cost}
 use Rattle.destructors.proofs.works.settle.Given as goal
 
 -- the frees are ready, and have made moves that tell nothing
-abbrev pub invariant-loop-innermost : goal.invariant-loop-innermost
-invariant-loop-innermost l = record {
+abbrev pub invariant-loop-work : goal.invariant-loop-work
+invariant-loop-work l = record {
   ready : IsBetweenCalls l.innermost l.tree;
   moves_on : Silently (frees_of l.initial.innermost l.initial.tree) (frees_of l.innermost l.tree);
   at_work : IsAtWork (frees_of l.initial.innermost l.initial.tree) → IsAtWork (frees_of l.innermost l.tree);
@@ -18,5 +18,5 @@ invariant-loop-innermost l = record {
   refs : AreRefsOf l.refs.pairs l.tree.rows;
 }
 
-abbrev pub decreases-loop-innermost : goal.decreases-loop-innermost
-decreases-loop-innermost l = free_cost (length l.initial.tree.rows) (before l.innermost l.tree.frees) (pool_of l.tree)
+abbrev pub decreases-loop-work : goal.decreases-loop-work
+decreases-loop-work l = free_cost (length l.initial.tree.rows) (before l.innermost l.tree.frees) (pool_of l.tree)

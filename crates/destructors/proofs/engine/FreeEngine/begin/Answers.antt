@@ -8,8 +8,8 @@ use Rattle.destructors.proofs.Begins.{begun, begun-room, waits-room}
 use Rattle.destructors.proofs.Counting.{silent-rows}
 use Rattle.destructors.proofs.engine.FreeEngine.begin.Goals as goal
 
-pub settle-self-inside-requires : goal.settle-self-inside-requires
-settle-self-inside-requires c = record {
+pub settle-requires : goal.settle-requires
+settle-requires c = record {
   ready = record {
     moves = inl (begun c.args.work c.args.self.now c.self.inside.innermost c.args.tree.now c.wait.new.tree c.self.view_is c.requires.first c.requires.awaiting c.wait.ensures.rows c.wait.ensures.works);
     room = begun-room c.args.work c.self.inside.innermost c.args.tree.now c.wait.new.tree (rw c.self.view_is c.requires.room) c.wait.ensures.rows c.wait.ensures.works c.wait.ensures.room;
@@ -19,11 +19,11 @@ settle-self-inside-requires c = record {
 
 pub returns : goal.returns
 returns c =
-    let begun_so : Begins (c.args.work ∷ before c.args.self.now c.args.tree.now.frees) (pool_of c.args.tree.now) (frees_of c.settle-self-inside.result c.settle-self-inside.new.tree) = search rules in
+    let begun_so : Begins (c.args.work ∷ before c.args.self.now c.args.tree.now.frees) (pool_of c.args.tree.now) (frees_of c.settle.new.innermost c.settle.new.tree) = search rules in
     record {
       begins = begun_so;
       at_work =
-          c.settle-self-inside.ensures.at_work (begun c.args.work c.args.self.now c.self.inside.innermost c.args.tree.now c.wait.new.tree c.self.view_is c.requires.first c.requires.awaiting c.wait.ensures.rows c.wait.ensures.works);
+          c.settle.ensures.at_work (begun c.args.work c.args.self.now c.self.inside.innermost c.args.tree.now c.wait.new.tree c.self.view_is c.requires.first c.requires.awaiting c.wait.ensures.rows c.wait.ensures.works);
       kept = search rules;
       room = search rules;
       spare = search rules;

@@ -7,8 +7,8 @@ use Rattle.destructors.proofs.Begins.{prepared-works, prepared-ready}
 use Rattle.destructors.proofs.Counting.{silent-rows}
 use Rattle.destructors.proofs.engine.FreeEngine.prepared.Goals as goal
 
-pub settle-self-inside-requires-clause-ready : goal.settle-self-inside-requires-clause-ready
-settle-self-inside-requires-clause-ready c =
+pub settle-requires-clause-ready : goal.settle-requires-clause-ready
+settle-requires-clause-ready c =
     let is : IsPreparing (Some c.in-Some.work) = rw (sym c.self.view_is ∙ c.in-Some.is) at c.requires.preparing in
     let a : IsAwaiting (frees_of (Some c.in-Some.work) c.args.tree.now) = rw (sym c.self.view_is ∙ c.in-Some.is) at c.requires.awaiting in
     let room : HasRoom (Some c.in-Some.work) c.args.tree.now = rw (sym c.self.view_is ∙ c.in-Some.is) at c.requires.room in
@@ -21,14 +21,14 @@ returns-in-Some c =
     let a : IsAwaiting (frees_of (Some c.in-Some.work) c.args.tree.now) = rw (sym c.self.view_is ∙ c.in-Some.is) at c.requires.awaiting in
     let work : AtWork (was_prepared c.in-Some.work ∷ c.args.tree.now.frees) (pool_of c.args.tree.now) = prepared-works c.in-Some.work c.args.tree.now.frees (pool_of c.args.tree.now) is a in
     let work' : AtWork (c.going_on.result ∷ c.args.tree.now.frees) (pool_of c.args.tree.now) = rw c.going_on.ensures work in
-    let begun : Begins (prepared (before c.args.self.now c.args.tree.now.frees)) (pool_of c.args.tree.now) (frees_of c.settle-self-inside.result c.settle-self-inside.new.tree) = rw (sym c.self.view_is ∙ c.in-Some.is) (search rules) in
+    let begun : Begins (prepared (before c.args.self.now c.args.tree.now.frees)) (pool_of c.args.tree.now) (frees_of c.settle.new.innermost c.settle.new.tree) = rw (sym c.self.view_is ∙ c.in-Some.is) (search rules) in
     record {
       begins = begun;
-      at_work = c.settle-self-inside.ensures.at_work work';
+      at_work = c.settle.ensures.at_work work';
       kept = search rules;
       room = search rules;
       spare = search rules;
       refs = search rules;
       places = search rules;
-      same = (silent-rows (frees_of (Some c.going_on.result) c.args.tree.now) _ work' c.settle-self-inside.ensures.moves_on).1;
+      same = (silent-rows (frees_of (Some c.going_on.result) c.args.tree.now) _ work' c.settle.ensures.moves_on).1;
     }

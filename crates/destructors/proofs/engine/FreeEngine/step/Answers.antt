@@ -6,8 +6,8 @@ use Rattle.destructors.proofs.Counting.{step-changes}
 use Rattle.destructors.proofs.Settling.{tells, told-settled}
 use Rattle.destructors.proofs.engine.FreeEngine.step.Goals as goal
 
-pub settle-self-inside-requires : goal.settle-self-inside-requires
-settle-self-inside-requires c = record {
+pub settle-requires : goal.settle-requires
+settle-requires c = record {
   ready =
       (tells c.in-Some.work c.args.self.now c.args.tree.now c.advance-progress.result.told c.in-Some-told.told c.advance-progress.result.innermost c.advance-progress.new.tree
       (sym c.self.view_is ∙ c.in-Some.is) c.requires.at_work c.requires.room c.in-Some-told.is c.advance-progress.ensures.moved c.advance-progress.ensures.kept c.advance-progress.ensures.room).ready;
@@ -24,7 +24,7 @@ pub returns-clause-goes_on : goal.returns-clause-goes_on
 returns-clause-goes_on c =
     let t = tells c.in-Some.work c.args.self.now c.args.tree.now c.advance-progress.result.told c.in-Some-told.told c.advance-progress.result.innermost c.advance-progress.new.tree
     (sym c.self.view_is ∙ c.in-Some.is) c.requires.at_work c.requires.room c.in-Some-told.is c.advance-progress.ensures.moved c.advance-progress.ensures.kept c.advance-progress.ensures.room in
-    told-settled c.in-Some-told.told _ _ t.goes_on c.settle-self-inside.ensures.moves_on c.settle-self-inside.ensures.at_work
+    told-settled c.in-Some-told.told _ _ t.goes_on c.settle.ensures.moves_on c.settle.ensures.at_work
 
 pub advance-progress-requires-clause-rests : goal.advance-progress-requires-clause-rests
 advance-progress-requires-clause-rests c =

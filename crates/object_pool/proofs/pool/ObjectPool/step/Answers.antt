@@ -43,7 +43,7 @@ returns-clause-steps c =
     (steps-beside c.self.inside.events.upcoming (frees_of c.self.inside.engine c.self.inside.tree) (frees_of c.step-step.new.self c.step-step.new.tree) told c.step-step.ensures.steps))
 
 pub returns-clause-told : goal.returns-clause-told
-returns-clause-told c = c.event.ensures _ c.follow-closed.ensures.closed ∙ ap (λ (o : Objects). event_of o.pool.ring c.step-step.result) c.self.view_is
+returns-clause-told c = c.event-event.ensures _ c.follow-closed.ensures.closed ∙ ap (λ (o : Objects). event_of o.pool.ring c.step-step.result) c.self.view_is
 
 pub returns-clause-goes_on : goal.returns-clause-goes_on
 returns-clause-goes_on c =
