@@ -17,7 +17,6 @@ use Rattle.tree_specs.specs.Invariants.Sound.{Drains, IsWaiting, AllWait, footin
 use Rattle.tree_specs.specs.Invariants.Consistent.{IsCaller, IsFree, IsRun, IsWork, MayStandOn, IsStacked, IsConsistent}
 use Rattle.tree_specs.specs.declared.question.Ask.{Ask}
 use Rattle.destructors.specs.Frees.{awaits_run}
-use Rattle.destructors.specs.Works.{AreAwaiting}
 use Rattle.destructors.proofs.Hosting.{AwaitsRun}
 use Rattle.destructors.specs.Engine.{IsAsked, IsPreparing}
 use Rattle.object_pool.specs.Objects.{Objects}

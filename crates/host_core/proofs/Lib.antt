@@ -20,6 +20,7 @@ pub mod Straying
 pub mod Telling
 pub mod Taking
 pub mod Nexts
+pub mod Quiet
 pub mod Unreceived
 pub mod Draining
 pub mod Emptied

@@ -231,7 +231,7 @@ abbrev pub told_view : Ask → OwnedReply → Parts → View
 told_view q r parts = at (frame.Call (Telling (remembers q r.copy) r.reply)) (below_in parts) parts.objects.pool
 
 -- only a caller asks for a call, or for what a routine does
-acting-caller : (now : Active) (i : Input) (objects : Objects) → PartsReady now objects → is_none (misfit (asked_now now) i) ≡ true → IsActing i → (q : Ask) × (caller_asked now ≡ Some q)
+pub acting-caller : (now : Active) (i : Input) (objects : Objects) → PartsReady now objects → is_none (misfit (asked_now now) i) ≡ true → IsActing i → (q : Ask) × (caller_asked now ≡ Some q)
 acting-caller (active.Caller c) i objects r e k = let f = fitting (open_at c.stage c.ask) i e in (f.0, f.1)
 acting-caller (active.Turning t) i objects r e k = absurd (turn-acts-not t.frame i (ap (λ (z : Option Ask). is_none (misfit z i)) (sym r.question) ∙ e) k)
 acting-caller (active.Reaching q) i objects r e k = absurd (outside-acts-not q i r e k)

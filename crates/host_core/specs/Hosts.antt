@@ -135,6 +135,12 @@ pub record StepsSilently (v w : View) : Type 0 where
   pub along : TellsSameStory v w
   pub cheaper : (R : ℕ) → length v.pool.rows + pending v.innermost ≤ R → cost R w.innermost w.below w.pool 0 < cost R v.innermost v.below v.pool 0
 
+-- From this moment what is at work has come to these parts, which tell or ask something next. Nothing was told or asked before.
+pub record ComesTo (v : View) (now : Active) (parts : Parts) : Type 0 where
+  pub along : TellsSameStory v (host_view now parts)
+  pub ready : IsBetweenSteps now parts
+  pub speaks : speaking_view (host_view now parts) ≡ true
+
 -- the innermost free is at hand, where one is at work
 abbrev pub IsSettled : Active → Objects → Type 0
 IsSettled active.Freeing objects = FreeReady objects

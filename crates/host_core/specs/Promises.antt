@@ -1,8 +1,12 @@
 -- What the answers of a host mean for the story still to come.
 use Rattle.std.specs.Prelude.{◌≡◌, ℕ, false, List, [], ◌∷◌, Option, Some, None, if◌then◌else◌}
+use Rattle.tree_specs.specs.declared.call.Call.{Call}
 use Rattle.tree_specs.specs.declared.event.Event.{Event}
+use Rattle.tree_specs.specs.declared.event.Event.TheVariants.{Replied}
 use Rattle.tree_specs.specs.declared.question.Input.{Input}
 use Rattle.tree_specs.specs.declared.question.Input.TheVariants.{Took}
+use Rattle.tree_specs.specs.declared.question.Input.TheVariants as input
+use Rattle.tree_specs.specs.declared.reply.Reply.{Reply}
 use Rattle.tree_specs.specs.declared.question.Ask.{Ask}
 use Rattle.tree_specs.specs.declared.question.Ask.TheVariants.{Accept}
 use Rattle.tree_specs.specs.Tree.Pool.{Pool}
@@ -37,6 +41,19 @@ pub record TakesAnswer (old : View) (i : Input) (new : View) : Type 0 where
   pub strays : (is : List Input) → strays_of old (i ∷ is) ≡ strays_of new is
   -- there is always an event or a question to come
   pub more : (is : List Input) → (item : Item) × (items : List Item) × (rest_of new is ≡ item ∷ items)
+
+-- The call was taken, its reply was the one event that came, and the next question is open.
+pub record RepliesAtOnce (old : View) (c : Call) (reply : Reply) (new : View) : Type 0 where
+  -- the host before the reply
+  pub between : View
+  pub taken : TakesAnswer old (input.Call c) between
+  pub told : NextLaw (Some (Replied reply)) between new
+  pub waits : Waits new
+
+-- A call is taken, and replied to where its reply comes at once.
+abbrev pub TakesCall : View → Call → Option Reply → View → Type 0
+TakesCall old c (Some reply) new = RepliesAtOnce old c reply new
+TakesCall old c None new = TakesAnswer old (input.Call c) new
 
 -- the descriptor that was accepted, where it is open already
 abbrev pub taken_in : Pool → Input → Option ℕ

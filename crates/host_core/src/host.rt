@@ -5,13 +5,14 @@ ghost use Rattle.std.specs.Prelude.{◌≡◌, ◌+◌, ◌*◌, ◌≤◌, ◌<
 ghost use Rattle.std.specs.Option.{option_copied};
 ghost use Rattle.tree_specs.specs.declared.schedule.Reason.TheVariants as reasons;
 ghost use Rattle.tree_specs.specs.Texts.Schedule.{misfit};
-ghost use Rattle.tree_specs.specs.Words.Ranges.{is_sound};
+ghost use Rattle.tree_specs.specs.declared.question.Ask.TheVariants.{Quiet};
+ghost use Rattle.tree_specs.specs.Words.Ranges.{is_sound, is_sound_call};
 ghost use Rattle.tree_specs.specs.Machine.View.{begin, question_of};
 
 use crate::active::Active;
 use crate::caller::{Caller, Stage};
 use crate::fault::OfferFault;
-use crate::offered::answer_on;
+use crate::offered::{answer_on, begin_call};
 use crate::parts::Parts;
 use crate::reach::is_bytes;
 use crate::replies::{read_on, report_for};
@@ -21,7 +22,7 @@ use crate::works::settle;
 use object_pool::ObjectPool;
 use std::alloc::Global;
 use std::marker::Model;
-use tree_specs::{Ask, Event, Input, Kind, Memory, Obj, Owner, Want};
+use tree_specs::{Ask, Call, Event, Input, Kind, Memory, Obj, Owner, Reply, Want};
 
 /// Takes the memory for all that comes up to the next question: each request that wasn't received and each queue may want two
 /// places, and what is at work four. If memory runs out, the works and the objects are as they were.
@@ -96,7 +97,7 @@ impl Host {
     ghost use Rattle.tree_specs.specs.Calls.Refusals.{is_open};
     ghost use Rattle.tree_specs.specs.Events.Rotation.{wanted_of};
     ghost use Rattle.tree_specs.specs.Machine.View.{strays_of};
-    ghost use Rattle.host_core.specs.Promises.{Waits, NextLaw, TakesAnswer, taken_in, taken_by};
+    ghost use Rattle.host_core.specs.Promises.{Waits, NextLaw, TakesAnswer, TakesCall, taken_in, taken_by};
     ghost use Rattle.std.specs.Prelude.{List};
     ghost use Rattle.step_machine.specs.Machine.{items as told_by};
     ghost use Rattle.tree_specs.specs.declared.question.Input.{Input as InputData};
@@ -182,6 +183,13 @@ impl Host {
         self.active.question()
     }
 
+    /// Whether the host's own caller is asked for a call: no routine runs then, and nothing is asked of the outside.
+    pub fn is_quiet(&self) -> bool
+        ensures { IsTrue result ↔ (question_of self.now ≡ Some Quiet) }
+    {
+        self.active.is_quiet()
+    }
+
     /// The next event, which is told now and not again. None exactly where a question is open, and then
     /// nothing changes. It takes no memory.
     pub fn next(&mut self) -> Option<Event>
@@ -202,16 +210,8 @@ impl Host {
         }
     }
 
-    /// Whether this is a call, and the host's own caller is asked for one. Most answers are, so this is looked at first.
-    fn is_called(&self, input: &Input) -> bool
-        ensures { IsTrue result → (misfit (question_of self.now) input.now ≡ None) × (taken_in self.now.pool input.now ≡ None) }
-    {
-        matches!(input, Input::Call(_)) && self.active.is_quiet()
-    }
-
     /// Whether an answer may be given: NotAsked comes exactly where no question is open or the open one takes no such answer, and
     /// Taken exactly where the descriptor that was accepted is open already.
-    #[inline(never)]
     fn check(&self, input: &Input) -> Result<(), OfferFault>
         ensures fits { OnOk result (misfit (question_of self.now) input.now ≡ None) }
         ensures unopened { OnOk result (taken_in self.now.pool input.now ≡ None) }
@@ -259,10 +259,28 @@ impl Host {
         // An answer of a descriptor that is open is the one that doesn't fit, though it was asked for.
         ensures strays { (fd : ℕ) → result ≡ Err (OfferFault.Taken fd) → strays_of self.old (input ∷ []) ≡ true }
     {
-        if !self.is_called(&input) {
-            self.check(&input)?;
-        }
+        self.check(&input)?;
         self.take(input)?;
         Ok(())
+    }
+
+    /// The host's own caller, who is asked, does a call. Gives the reply where it comes at once, and then the caller is asked
+    /// again; otherwise `next` gives what comes. It is the same as to offer the call and to take the reply, for less. All memory
+    /// up to the next question is taken first, and where it runs out the host is as it was.
+    pub fn call(&mut self, call: Call) -> Result<Option<Reply>, Memory>
+        requires asked { question_of self.old ≡ Some Quiet }
+        requires sound { IsTrue (is_sound_call call) }
+        ensures ok { IfOk result (λ reply. TakesCall self.old call reply self.new) }
+        ensures err { OnErr result (self.new ≡ self.old) }
+    {
+        if let Call::Report { .. } = call {
+            self.take(Input::Call(call))?;
+            return Ok(None);
+        }
+        make_room(&mut self.parts)?;
+        let Some(reply) = begin_call(&mut self.active, call, &mut self.parts) else {
+            return Ok(None);
+        };
+        Ok(Some(reply.reply()))
     }
 }

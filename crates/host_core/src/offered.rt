@@ -9,11 +9,13 @@ ghost use Rattle.host_core.specs.Steps.{step_of, IsBusy};
 ghost use Rattle.host_core.specs.Going.{with_objects, step_places, StepReady, StepAnswers, BeginsWith};
 ghost use Rattle.object_pool.specs.Objects.{Objects as ObjectsData};
 ghost use Rattle.host_core.specs.Turns.{turn_asks, turn_given};
+ghost use Rattle.host_core.specs.declared.active.Active.{Active as ActiveData};
+ghost use Rattle.host_core.specs.declared.short_reply.ShortReply.{ShortReply as ShortReplyData};
 ghost use Rattle.host_core.specs.declared.waiting.Waiting.{Waiting as WaitingData};
 ghost use Rattle.tree_specs.specs.declared.frame.Frame.TheVariants as frames;
 ghost use Rattle.tree_specs.specs.declared.call.Call.{Call as CallData};
 ghost use Rattle.tree_specs.specs.declared.question.Ask.{Ask as AskData};
-ghost use Rattle.host_core.specs.Hosts.{caller_asked, host_view, given_view, speaking_view, HasRoom, IsActing, MayTake, called_view, returning_view, IsBetweenSteps, TellsSameStory};
+ghost use Rattle.host_core.specs.Hosts.{ComesTo, caller_asked, host_view, given_view, speaking_view, HasRoom, IsActing, MayTake, called_view, returning_view, IsBetweenSteps, TellsSameStory};
 
 use crate::active::Active;
 use crate::answer::Answer;
@@ -156,6 +158,28 @@ fn begin_on(now: &mut Active, motion: Motion, parts: &mut Parts)
     settle(now, parts);
 }
 
+/// The caller that was asked does a call, up to the next event or question. Where this is the reply it is given, and the caller
+/// stands where it was asked: to put the reply there, and to take it out again, costs more than many calls do.
+#[inline(never)]
+pub fn begin_call(now: &mut Active, call: Call, parts: &mut Parts) -> Option<ShortReply>
+    requires asked { IsSome (caller_asked now.old) }
+    requires no_report { report_of call ≡ None }
+    requires fit { Fits parts.old.objects.works (reverse parts.old.waiting.items) }
+    requires whole { (q : AskData) → caller_asked now.old ≡ Some q → IsConsistent (called_view q (Input.Call call) parts.old) }
+    requires room { HasRoom parts.old }
+    ensures asked { IsSome result → now.new ≡ now.old }
+    ensures replied { (q : AskData) (reply : ShortReplyData) (next : ActiveData) → caller_asked now.old ≡ Some q → result ≡ Some reply → active_frame next ≡ frames.Call (telling q reply) → ComesTo (called_view q (Input.Call call) parts.old) next parts.new }
+    ensures begun { (q : AskData) → caller_asked now.old ≡ Some q → result ≡ None → ComesTo (called_view q (Input.Call call) parts.old) now.new parts.new }
+{
+    match act(call, &mut parts.objects) {
+        Motion::Replies(reply) => Some(reply),
+        begins => {
+            begin_on(now, begins, parts);
+            None
+        }
+    }
+}
+
 /// The caller that was asked does a call, up to the next event or question. A reply is one.
 fn call_on(now: &mut Active, call: Call, parts: &mut Parts)
     requires asked { IsSome (caller_asked now.old) }
@@ -167,10 +191,8 @@ fn call_on(now: &mut Active, call: Call, parts: &mut Parts)
     ensures ready { IsBetweenSteps now.new parts.new }
     ensures settled { speaking_view (host_view now.new parts.new) ≡ true }
 {
-    let motion = act(call, &mut parts.objects);
-    match motion {
-        Motion::Replies(reply) => reply_on(now, reply),
-        begins => begin_on(now, begins, parts),
+    if let Some(reply) = begin_call(now, call, parts) {
+        reply_on(now, reply);
     }
 }
 

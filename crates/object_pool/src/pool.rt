@@ -80,7 +80,9 @@ impl ObjectPool {
         })
     }
 
-    /// Takes the memory for one call, with all that comes of it up to the next question.
+    /// Takes the memory for one call, with all that comes of it up to the next question. Most calls find it there, as they add
+    /// no object.
+    #[inline(always)]
     pub fn reserve(&mut self) -> Result<(), Memory>
         ensures ok { OnOk result (self.new ≡ record self.old { ready = true }) }
         ensures err { OnErr result (self.new ≡ self.old) }
@@ -88,6 +90,15 @@ impl ObjectPool {
         if self.ready {
             return Ok(());
         }
+        self.take_memory()
+    }
+
+    /// Takes the memory for one call, which may not be there.
+    #[inline(never)]
+    fn take_memory(&mut self) -> Result<(), Memory>
+        ensures ok { OnOk result (self.new ≡ record self.old { ready = true }) }
+        ensures err { OnErr result (self.new ≡ self.old) }
+    {
         if !self.places {
             self.refs.reserve(1)?;
             self.sums.reserve(1)?;

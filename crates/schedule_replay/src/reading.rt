@@ -4,7 +4,9 @@ ghost use Rattle.tree_specs.specs.Texts.Schedule.{lines_limit};
 ghost use Rattle.tree_specs.specs.Texts.Written.{Writes};
 ghost use Rattle.tree_specs.specs.Texts.Text.{answered_text};
 ghost use Rattle.tree_specs.specs.Machine.View.{question_of};
-ghost use Rattle.tree_specs.specs.Words.Ranges.{is_sound};
+ghost use Rattle.tree_specs.specs.declared.question.Ask.TheVariants.{Quiet};
+ghost use Rattle.tree_specs.specs.declared.question.Input.TheVariants as inputs;
+ghost use Rattle.tree_specs.specs.Words.Ranges.{is_sound, is_sound_call};
 ghost use Rattle.tree_specs.specs.Texts.Grammar.{input_of};
 ghost use Rattle.schedule_replay.specs.Questions.{answered_of};
 ghost use Rattle.schedule_replay.specs.Cuts.{EndsFirst};
@@ -14,11 +16,11 @@ use crate::stop::Stop;
 use crate::telling::tell;
 use host_core::{Host, OfferFault};
 use memchr::memchr;
-use schedule_text::{read_header, read_line, write_answered, write_end};
+use schedule_text::{read_header, read_line, write_answered, write_end, write_reply};
 use std::alloc::Global;
 use std::mem;
 use text_forms::FormFault;
-use tree_specs::{Input, LINE_LIMIT, LINES_LIMIT, Memory, Reason};
+use tree_specs::{Call, Input, LINE_LIMIT, LINES_LIMIT, Memory, Reason};
 
 /// Writes the line of the open question as one that is answered.
 fn write_asked(host: &Host, text: &mut Vec<u8>) -> Result<(), Memory>
@@ -124,7 +126,28 @@ impl Replay {
         written
     }
 
+    /// Gives a call, which the line spells, to the host, whose own caller is asked for it, and writes what it tells. Most lines
+    /// are such calls, so they are known at once, and the open question has no line.
+    fn call(&mut self, line: &[u8], call: Call) -> Result<(), Stop>
+        requires ready { IsBetweenBytes (at_line (reading_of self.old) line.now) }
+        requires numbered { self.old.number ≤ lines_limit }
+        requires later { self.old.number ≢ 1 }
+        requires asked { question_of self.old.host ≡ Some Quiet }
+        requires spelled { input_of line.now ≡ Some (inputs.Call call) }
+        requires sound { IsTrue (is_sound_call call) }
+        ensures taken { TakesLine (at_line (reading_of self.old) line.now) (reading_of self.new) result }
+        ensures number { self.new.number ≡ self.old.number }
+        ensures line { self.new.line ≡ self.old.line }
+    {
+        match self.host.call(call)? {
+            Some(reply) => write_reply(&reply, &mut self.text)?,
+            None => tell(&mut self.host, &mut self.text)?,
+        }
+        Ok(())
+    }
+
     /// Gives an input, which the line spells, to the host, and writes what it tells.
+    #[inline(never)]
     fn answer(&mut self, line: &[u8], input: Input) -> Result<(), Stop>
         requires ready { IsBetweenBytes (at_line (reading_of self.old) line.now) }
         requires numbered { self.old.number ≤ lines_limit }
@@ -162,6 +185,7 @@ impl Replay {
         ensures line { self.new.line ≡ self.old.line }
     {
         match read_line(*self.line.allocator(), line) {
+            Ok(Input::Call(call)) if self.host.is_quiet() => self.call(line, call),
             Ok(input) => self.answer(line, input),
             Err(FormFault::NoForm) => self.refuse(Reason::Form),
             Err(FormFault::Memory) => Err(Stop::Memory),

@@ -15,6 +15,7 @@ fn write_told(event: Event, text: &mut Vec<u8>) -> Result<(), Memory>
 }
 
 /// Writes the lines of the events that come up to the next question.
+#[inline(never)]
 pub fn tell(host: &mut Host, text: &mut Vec<u8>) -> Result<(), Memory>
     ensures { Tells host.old text.old.items host.new text.new.items result }
 {

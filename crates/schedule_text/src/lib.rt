@@ -20,3 +20,4 @@ pub use header::read_header;
 pub use line_reader::read_line;
 pub use line_writer::write_input;
 pub use question::{write_answered, write_ask, write_end};
+pub use reply::write_reply;

@@ -15,9 +15,11 @@ fn write_report(report: &ReportRows, out: &mut Vec<u8>) -> Result<(), Memory>
     write_numbers(b"reply rows", &[rows.len() as u64], b"\n", out)
 }
 
-// Appends a reply as its line, with its LF.
+/// Appends a reply as its line, with its LF; a report is the lines of its rows and then that of the reply. When memory runs out,
+/// a prefix of it was appended.
+#[inline(always)]
 #[tactic(auto, unfolding(tree_specs::specs::Texts::Text::reply_text))]
-pub(crate) fn write_reply(reply: &Reply, out: &mut Vec<u8>) -> Result<(), Memory>
+pub fn write_reply(reply: &Reply, out: &mut Vec<u8>) -> Result<(), Memory>
     ensures { Writes out.old.items out.new.items result (reply_text reply.now) }
 {
     match reply {

@@ -1,40 +1,23 @@
+use Rattle.std.proofs.Common.{◌≡◌, Some, is_some, ◌∙◌, ap}
+use Rattle.tree_specs.specs.declared.question.Ask.{Ask}
+use Rattle.tree_specs.specs.declared.question.Input.TheVariants as input
+use Rattle.host_core.specs.Hosts.{called_view, caller_asked, ComesTo}
 use Rattle.host_core.proofs.Offering.{asked-of}
-use Rattle.host_core.proofs.Given.{call_refs, call_queues, replied_along, replied_ready, replied_speaks}
 use Rattle.host_core.proofs.offered.call_on.Goals as goal
 
-pub act-motion-requires-clause-reference : goal.act-motion-requires-clause-reference
-act-motion-requires-clause-reference c = let q = asked-of _ c.requires.asked in call_refs q.0 c.args.call c.args.parts.now (c.requires.whole q.0 q.1)
+-- ---- a reply, which the caller is told next
 
-pub act-motion-requires-clause-queues : goal.act-motion-requires-clause-queues
-act-motion-requires-clause-queues c = let q = asked-of _ c.requires.asked in call_queues q.0 c.args.call c.args.parts.now (c.requires.whole q.0 q.1)
+pub reply_on-requires : goal.reply_on-requires
+reply_on-requires c = let q = asked-of _ c.requires.asked in ap is_some (ap caller_asked (c.begin_call.ensures.asked (ap is_some c.in-Some.is)) ∙ q.1)
 
--- ---- a reply
+replied : (c : goal.After-reply_on) (q : Ask) → caller_asked c.args.now.now ≡ Some q → ComesTo (called_view q (input.Call c.args.call) c.args.parts.now) c.reply_on.new.now c.begin_call.new.parts
+replied c q e = c.begin_call.ensures.replied q c.in-Some.reply c.reply_on.new.now e c.in-Some.is (c.reply_on.ensures q (ap caller_asked (c.begin_call.ensures.asked (ap is_some c.in-Some.is)) ∙ e))
 
-pub returns-in-Replies-clause-along : goal.returns-in-Replies-clause-along
-returns-in-Replies-clause-along c = λ q e.
-    let m = c.act-motion in
-    replied_along q c.args.call c.args.parts.now (c.requires.whole q e) m.result m.new.pool (m.ensures.moved q) m.ensures.works c.in-Replies.reply c.in-Replies.is c.reply_on.new.now (c.reply_on.ensures q e) c.requires.fit
+pub returns-in-Some-clause-along : goal.returns-in-Some-clause-along
+returns-in-Some-clause-along c = λ q e. (replied c q e).along
 
-pub returns-in-Replies-clause-ready : goal.returns-in-Replies-clause-ready
-returns-in-Replies-clause-ready c =
-    let m = c.act-motion in
-    let q = asked-of _ c.requires.asked in
-    replied_ready q.0 c.args.call c.args.parts.now (c.requires.whole q.0 q.1) m.result m.new.pool (m.ensures.moved q.0) m.ensures.works c.in-Replies.reply c.in-Replies.is c.reply_on.new.now (c.reply_on.ensures q.0 q.1) c.requires.fit
+pub returns-in-Some-clause-ready : goal.returns-in-Some-clause-ready
+returns-in-Some-clause-ready c = let q = asked-of _ c.requires.asked in (replied c q.0 q.1).ready
 
-pub returns-in-Replies-clause-settled : goal.returns-in-Replies-clause-settled
-returns-in-Replies-clause-settled c =
-    let m = c.act-motion in
-    let q = asked-of _ c.requires.asked in
-    replied_speaks q.0 c.args.call c.args.parts.now (c.requires.whole q.0 q.1) m.result m.new.pool (m.ensures.moved q.0) m.ensures.works c.in-Replies.reply c.in-Replies.is c.reply_on.new.now (c.reply_on.ensures q.0 q.1) c.requires.fit
-
--- ---- what begins
-
-pub begin_on-requires-clause-begins : goal.begin_on-requires-clause-begins
-begin_on-requires-clause-begins c = λ q e.
-    let m = c.act-motion.ensures in
-    (c.args.call, c.args.parts.now.objects, record { whole = c.requires.whole q e; room = c.requires.room; fit = c.requires.fit; moved = m.moved q; works = m.works; goes = m.goes })
-
-pub returns-in_default-clause-along : goal.returns-in_default-clause-along
-returns-in_default-clause-along c = λ q e.
-    let m = c.act-motion.ensures in
-    c.begin_on.ensures.along q c.args.call c.args.parts.now.objects e (record { whole = c.requires.whole q e; room = c.requires.room; fit = c.requires.fit; moved = m.moved q; works = m.works; goes = m.goes })
+pub returns-in-Some-clause-settled : goal.returns-in-Some-clause-settled
+returns-in-Some-clause-settled c = let q = asked-of _ c.requires.asked in (replied c q.0 q.1).speaks

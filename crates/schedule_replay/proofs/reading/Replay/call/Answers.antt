@@ -1,0 +1,1 @@
+use Rattle.schedule_replay.proofs.reading.Replay.call.Goals as goal
