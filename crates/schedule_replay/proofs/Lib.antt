@@ -3,6 +3,7 @@ pub mod TextLaws
 pub mod Unanswered
 pub mod ReplayLaws
 pub mod StateLaws
+pub mod CallLaws
 pub mod ByteLaws
 pub mod WholeLaws
 pub mod SessionLaws

@@ -139,10 +139,11 @@ impl Replay {
         ensures number { self.new.number ≡ self.old.number }
         ensures line { self.new.line ≡ self.old.line }
     {
-        match self.host.call(call)? {
-            Some(reply) => write_reply(&reply, &mut self.text)?,
-            None => tell(&mut self.host, &mut self.text)?,
-        }
+        let Some(reply) = self.host.call(call)? else {
+            tell(&mut self.host, &mut self.text)?;
+            return Ok(());
+        };
+        write_reply(&reply, &mut self.text)?;
         Ok(())
     }
 
