@@ -40,11 +40,9 @@ pub record HasCallRoom (tree : Links) : Type 0 where
   pub row : 2 ≤ tree.spare
   pub works : length tree.rows + 4 ≤ tree.room
 
--- the memory for one more reference, one more limit, one more object that waits, and one more descriptor; and those that wait
--- can be counted, and those that may wait after them
-pub record HasPlaces (refs : Pairs) (sums : Limits) (agenda : Agenda) : Type 0 where
-  pub reference : 0 < refs.spare
-  pub limit : 0 < sums.spare
+-- the memory for one more object that waits, and one more descriptor; and those that wait can be counted, and those that may wait
+-- after them
+pub record MayWait (agenda : Agenda) : Type 0 where
   pub event : HasPlace agenda
   pub waiting : pending_most agenda.upcoming < 2 ^ 64
 
