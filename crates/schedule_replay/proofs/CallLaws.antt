@@ -17,7 +17,7 @@ use Rattle.schedule_replay.specs.Questions.{answered_of}
 use Rattle.schedule_replay.specs.Readings.{Reading, TakesLine, IsBetweenBytes}
 use Rattle.schedule_replay.specs.Tellings.{TellsAll, TellsFront}
 use Rattle.schedule_replay.proofs.StateLaws.{takes-answer, breaks-answer}
-use Rattle.schedule_replay.proofs.TextLaws.{ToldSoFar, told-none, told-more, told-front}
+use Rattle.schedule_replay.proofs.TextLaws.{told-none, told-more, told-front}
 
 -- its question has no line
 unwritten : (v : View) (text : List ℕ) → question_of v ≡ Some Quiet → text ≡ text ++ answered_of (question_of v)
