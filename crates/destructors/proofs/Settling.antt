@@ -1,7 +1,7 @@
 -- A move that tells nothing, by the parts of an engine.
 use Rattle.std.proofs.Common.{◌≡◌, ℕ, ◌+◌, ◌≤◌, ◌<◌, List, [], ◌∷◌, length, Option, Some, None, true, false, refl, sym, ◌∙◌, ap, subst, inl, inr, arith}
 use Rattle.tree_specs.specs.declared.frame.FreeFrame.{FreeFrame}
-use Rattle.tree_specs.specs.declared.frame.FreeFrame.TheVariants.{Hooked, Preparing, Draining}
+use Rattle.tree_specs.specs.declared.frame.FreeFrame.TheVariants.{Hooked, Preparing, Draining, Ending}
 use Rattle.step_machine.specs.Machine.{Move as Do}
 use Rattle.tree_specs.specs.declared.free_step.FreeReply.{FreeReply}
 use Rattle.tree_specs.specs.declared.free_step.FreeStep.{FreeStep}
@@ -150,6 +150,13 @@ tells f g old told t o new e w had is m k room =
     let on = told-kept f old.frees (pool_of old) t (frees_of o new) w' m' in
     let l = narrow f old.frees (pool_of old) (Some t) (frees_of o new) w' m' in
     record { ready = record { moves = told-ready t o new k on; room = omega (arith, had', l, room) }; goes_on = on }
+
+-- ---- a free that is over
+
+-- where it has nothing to do but to tell, it tells that it is over
+pub over-told : (a : FreeReply) (fs : List FreeFrame) (p : Pool) → speaks (Ending a ∷ fs) (answered a p fs).0 ≡ true → (answered a p fs).0 ≡ Some (Done a)
+over-told a [] p s = refl
+over-told a (f ∷ fs) p s = by_test (awaits_run f) (λ u. rw u refl) (λ u. let bad : false ≡ true = rw u at s in cc)
 
 -- ---- which work asks
 

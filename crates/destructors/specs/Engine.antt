@@ -1,7 +1,8 @@
 -- What an engine and the tree keep of the open frees.
 use Rattle.std.specs.Prelude.{◌≡◌, ◌+◌, ◌≤◌, true, List, [], ◌∷◌, length, Option, Some, None, ◌⊎◌}
 use Rattle.tree_specs.specs.declared.frame.FreeFrame.{FreeFrame}
-use Rattle.tree_specs.specs.declared.frame.FreeFrame.TheVariants.{Hooked, Preparing, Draining}
+use Rattle.tree_specs.specs.declared.frame.FreeFrame.TheVariants.{Hooked, Preparing, Draining, Ending}
+use Rattle.tree_specs.specs.declared.free_step.FreeReply.{FreeReply}
 use Rattle.tree_links.specs.Links.{Links, pool_of}
 use Rattle.destructors.specs.Frees.{before, frees_of, awaits_run, moves, speaking, Begins}
 use Rattle.destructors.specs.Changes.{SameRows}
@@ -20,6 +21,11 @@ abbrev pub IsPreparing : Option FreeFrame → Type 0
 IsPreparing (Some (Preparing x)) = Unit {0}
 IsPreparing (Some (Draining x)) = Unit {0}
 IsPreparing _ = ⊥
+
+-- the answer of a free that is over
+abbrev pub ended_with : Option FreeFrame → Option FreeReply
+ended_with (Some (Ending answer)) = Some answer
+ended_with _ = None
 
 -- where the engine has no work, none waits in the tree
 abbrev pub AreKept : Option FreeFrame → Links → Type 0

@@ -6,11 +6,11 @@ ghost use Rattle.tree_links.specs.Links.{pool_of};
 ghost use Rattle.destructors.specs.Frees.{before, dooms, was_prepared};
 ghost use Rattle.references.specs.Rows.{AreRefsOf};
 
-use crate::works::{advance, settle};
+use crate::works::{advance, end, settle};
 use references::Refs;
 use std::marker::Model;
 use tree_links::Tree;
-use tree_specs::{FreeFrame, FreeStep, Mark, Obj, Owner, Purpose};
+use tree_specs::{FreeFrame, FreeReply, FreeStep, Mark, Obj, Owner, Purpose};
 
 /// Frees in progress on a tree and the references in it, as `talloc_free` and `talloc_unlink` go, with the runs of
 /// destructors, the receiving of requests, and the freeing of a queue's entries left to the caller. Begins nest: meanwhile
@@ -74,7 +74,8 @@ fn is_doomed_now(x: Obj, tree: &Tree, refs: &Refs) -> bool
 }
 
 impl FreeEngine {
-    ghost use Rattle.std.specs.Prelude.{true, None, is_some, [], ◌∷◌};
+    ghost use Rattle.std.specs.Prelude.{true, None, IfSome, OnSome, is_some, [], ◌∷◌};
+    ghost use Rattle.tree_specs.specs.declared.free_step.FreeStep.TheVariants.{Done};
     ghost use Rattle.tree_specs.specs.declared.frame.FreeFrame.TheVariants.{Unlinking, Beginning, Looping};
     ghost use Rattle.tree_specs.specs.declared.frame.Purpose.TheVariants.{Emptying};
     ghost use Rattle.destructors.specs.Frees.{frees_of, next_of, is_event, let_go_by, returned, prepared as prepared_works, speaking, Steps};
@@ -84,7 +85,7 @@ impl FreeEngine {
     ghost use Rattle.references.specs.Rows.{AreRefsOf};
     ghost use Rattle.destructors.specs.Moves.{IsLiveRow};
     ghost use Rattle.destructors.specs.Changes.{ChangedBy};
-    ghost use Rattle.destructors.specs.Engine.{IsAsked, IsPreparing, AreKept, HasBegun, HasRoom, HasRoomFor};
+    ghost use Rattle.destructors.specs.Engine.{IsAsked, IsPreparing, ended_with, AreKept, HasBegun, HasRoom, HasRoomFor};
 
     /// An engine with no open free.
     pub fn new() -> FreeEngine
@@ -232,6 +233,29 @@ impl FreeEngine {
             | FreeFrame::Judged { .. }
             | FreeFrame::AfterChild { .. } => true,
         }
+    }
+
+    /// Ends the innermost free where it is over, and gives its answer, as a step that is `Done` does. None, with nothing done,
+    /// where it isn't.
+    pub fn end_free(&mut self, tree: &mut Tree) -> Option<FreeReply>
+        requires at_work { IsAtWork (frees_of self.old tree.old) }
+        requires settled { speaking (frees_of self.old tree.old) ≡ true }
+        requires kept { AreKept self.old tree.old }
+        requires room { HasRoom self.old tree.old }
+        ensures answer { result ≡ ended_with self.old }
+        ensures steps { IfSome result (λ answer. Steps (frees_of self.old tree.old) (Done answer) (frees_of self.new tree.new)) }
+        ensures goes_on { OnSome result (IsAwaiting (frees_of self.new tree.new)) }
+        ensures rows { pool_of tree.new ≡ pool_of tree.old }
+        ensures kept { AreKept self.new tree.new }
+        ensures room { HasRoom self.new tree.new }
+        ensures spare { tree.new.spare ≡ tree.old.spare }
+        ensures none { result ≡ None → (self.new ≡ self.old) × (tree.new ≡ tree.old) }
+    {
+        let Some(FreeFrame::Ending { answer }) = self.innermost else {
+            return None;
+        };
+        self.innermost = end(answer, tree).innermost;
+        Some(answer)
     }
 
     /// What comes next of the innermost free.

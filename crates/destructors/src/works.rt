@@ -75,7 +75,7 @@ fn resumed(work: FreeFrame, answer: FreeReply) -> FreeFrame
 
 /// The innermost work is over. Its answer goes to the work below it; where that waits for no free, or there is none, the
 /// free is over.
-fn end(answer: FreeReply, tree: &mut Tree) -> Progress
+pub fn end(answer: FreeReply, tree: &mut Tree) -> Progress
     ensures moved { answered answer (pool_of tree.old) tree.old.frees ≡ (result.told, frees_of result.innermost tree.new) }
     ensures rows { pool_of tree.new ≡ pool_of tree.old }
     ensures kept { AreKept result.innermost tree.new }

@@ -28,7 +28,7 @@ use Rattle.destructors.specs.Frees.{awaits_run}
 use Rattle.destructors.specs.Frees.{moved as free_moved, answered as frees_answered}
 use Rattle.destructors.proofs.FreeMoves.{IsMoveOf, is_move}
 use Rattle.destructors.specs.Runs.{IsNews, AsksFor}
-use Rattle.destructors.specs.Works.{IsAtWork, GoesOn}
+use Rattle.destructors.specs.Works.{IsAtWork, IsAwaiting, GoesOn}
 use Rattle.destructors.proofs.Hosting.{AwaitsRun, awaiting-runs}
 use Rattle.object_pool.specs.Objects.{Objects, frees_in, MayBeginFree}
 use Rattle.object_pool.specs.Requests.{count_unreceived}
@@ -300,3 +300,10 @@ pub free_leads : (o : Objects) (parts : Parts) (step : FreeStep) (a : FreeReply)
 free_leads o parts step a is came =
     let k = subst (λ (t : FreeStep). CameFrom o t parts) is came in
     ends-leads (with_objects o parts) parts.objects k.ready k.quiet k.requests a k.steps k.goes_on
+
+-- it was over, and is ended with no step of its own
+pub over_leads : (old : Parts) (o : Objects) (a : FreeReply) → IsBetweenSteps active.Freeing old → speaking_view (host_view active.Freeing old) ≡ false → Steps (frees_in old.objects) (Done a) (frees_in o) → IsAwaiting (frees_in o)
+    → o.pool.requests ≡ old.objects.pool.requests → LeadsToEnd (host_view active.Freeing old) (Freed a) (record old { objects = o })
+over_leads old o a ready quiet steps awaits same =
+    let requests = ap count_unreceived same in
+    free_leads old.objects (record old { objects = o }) (Done a) a refl (record { ready = ready; quiet = quiet; steps = steps; goes_on = awaits; requests = omega (arith, requests) })

@@ -128,9 +128,9 @@ fn leave_free(step: FreeStep, parts: &mut Parts) -> Active
     }
 }
 
-/// What comes next of the open frees where this tells no event.
+/// The next step of the open frees where it tells no event.
 #[inline(always)]
-fn quiet_free(now: &mut Active, parts: &mut Parts)
+fn step_quietly(now: &mut Active, parts: &mut Parts)
     requires freeing { now.old ≡ Active.Freeing }
     requires ready { IsBetweenSteps Active.Freeing parts.old }
     requires quiet { speaking_view (host_view Active.Freeing parts.old) ≡ false }
@@ -142,6 +142,22 @@ fn quiet_free(now: &mut Active, parts: &mut Parts)
         return;
     }
     *now = leave_free(step, parts);
+}
+
+/// What comes next of the open frees where this tells no event. That the innermost one is over is looked at first: it wants no
+/// step.
+#[inline(always)]
+fn quiet_free(now: &mut Active, parts: &mut Parts)
+    requires freeing { now.old ≡ Active.Freeing }
+    requires ready { IsBetweenSteps Active.Freeing parts.old }
+    requires quiet { speaking_view (host_view Active.Freeing parts.old) ≡ false }
+    ensures onward { StepsSilently (host_view Active.Freeing parts.old) (host_view now.new parts.new) }
+    ensures ready { IsBetweenSteps now.new parts.new }
+{
+    match parts.objects.end_free() {
+        Some(answer) => *now = end(Answer::Freed(answer), parts),
+        None => step_quietly(now, parts),
+    }
 }
 
 /// What a turn, or the work of a request or of a queue, does next where this tells and asks nothing.

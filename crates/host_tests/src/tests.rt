@@ -17,8 +17,8 @@ mod long_runs;
 fn name_of(rt: &impl Abort, alloc: Global, text: &str) -> Name
     ensures { IsTrue (is_name result) }
 {
-    let bytes = Vec::from_slice(alloc, text.as_bytes()).expect(rt, "memory");
-    Name::make(bytes).expect(rt, "a name")
+    let made = Name::make(alloc, text.as_bytes()).expect(rt, "memory");
+    made.expect(rt, "a name")
 }
 
 // `new P SIZE a`

@@ -47,7 +47,7 @@ impl World {
         self.tree.reserve(1)?;
         let row = NewRow {
             kind: Kind::Plain,
-            name: Name::make(b"a".to_vec(alloc)?).expect(rt, "a name"),
+            name: Name::make(alloc, b"a")?.expect(rt, "a name"),
             size,
         };
         assert!(rt; self.tree.len() < 1_048_576);

@@ -30,7 +30,7 @@ use Rattle.destructors.specs.Engine.{IsAsked, AreKept, HasRoom}
 use Rattle.destructors.specs.Room.{mark_places, row_places, wanted}
 use Rattle.destructors.proofs.Begins.{any-room}
 use Rattle.destructors.proofs.Settling.{kept-same}
-use Rattle.object_pool.specs.Objects.{HasPlaces}
+use Rattle.object_pool.specs.Objects.{MayWait}
 use Rattle.tree_specs.specs.Events.Pending.{unscheduled}
 use Rattle.tree_specs.specs.Events.Rotation.{rewatched, turned_back}
 use Rattle.tree_specs.specs.Words.Objects.{same}
@@ -59,20 +59,9 @@ wanted-same : (fs : List FreeFrame) (rs rs' : List Row) → total row_places rs'
 wanted-same [] rs rs' e = refl
 wanted-same (f ∷ fs) rs rs' e = omega (arith, e)
 
--- places that are there stay, where others change
-pub still-places : (ps ps' : Pairs) (ls ls' : Limits) (a : Agenda) → ps.spare ≤ ps'.spare → ls.spare ≤ ls'.spare → HasPlaces ps ls a → HasPlaces ps' ls' a
-still-places ps ps' ls ls' a p l h = record {
-  reference = (let r = h.reference in omega (arith, r, p));
-  limit = (let m = h.limit in omega (arith, m, l));
-  event = h.event;
-  waiting = h.waiting;
-}
-
 -- those that wait may become fewer
-fewer-wait : (ps : Pairs) (ls : Limits) (a a' : Agenda) → KeepsPlaces a a' → pending_most a'.upcoming ≤ pending_most a.upcoming → HasPlaces ps ls a → HasPlaces ps ls a'
-fewer-wait ps ls a a' k n h = record {
-  reference = h.reference;
-  limit = h.limit;
+fewer-wait : (a a' : Agenda) → KeepsPlaces a a' → pending_most a'.upcoming ≤ pending_most a.upcoming → MayWait a → MayWait a'
+fewer-wait a a' k n h = record {
   event = record {
     soon = (let i = h.event.soon in let s = k.soon in omega (arith, i, s));
     time = (let i = h.event.time in let s = k.times in omega (arith, i, s));
@@ -97,7 +86,9 @@ stays b t' ls' s refs limits spare a =
       room = rw (frees, room, wanted-same (before b.engine b.tree.frees) b.tree.rows t'.rows s.places) a.room;
       call = λ e. let c = a.call e in record { row = (let r = c.row in omega (arith, r, s.spare)); works = rw (s.rows, room) c.works };
       placed = a.placed;
-      places = λ e. still-places b.refs b.refs b.sums ls' b.events (omega arith) spare (a.places e);
+      reference = a.reference;
+      limit = λ e. let l = a.limit e in omega (arith, l, spare);
+      event = a.event;
     }
 
 -- ---- a row is changed
@@ -151,9 +142,9 @@ pub never : {A : Type 0} → false ≡ true → A
 never e = cc
 
 -- what the memory for a call was taken for
-pub spent : (b : Inside) (t' : Links) (ps' : Pairs) (ls' : Limits) (pl : Bool) → (pl ≡ true → HasPlaces ps' ls' b.events) → b.ready ≡ true → b.tree.next ≤ t'.next → length t'.rows ≤ length b.tree.rows + 2 → works_of t' ≡ works_of b.tree → AreRefsOf ps'.pairs t'.rows → AreLimitsOf ls'.limited t'.rows
-    → AgreeWith b → AgreeWith (record b { tree = t'; refs = ps'; sums = ls'; places = pl; ready = false })
-spent b t' ps' ls' pl places ready next rows works refs limits a =
+pub spent : (b : Inside) (t' : Links) (ps' : Pairs) (ls' : Limits) (rf lf ef : Bool) → (rf ≡ true → 0 < ps'.spare) → (lf ≡ true → 0 < ls'.spare) → (ef ≡ true → MayWait b.events) → b.ready ≡ true → b.tree.next ≤ t'.next → length t'.rows ≤ length b.tree.rows + 2 → works_of t' ≡ works_of b.tree → AreRefsOf ps'.pairs t'.rows → AreLimitsOf ls'.limited t'.rows
+    → AgreeWith b → AgreeWith (record b { tree = t'; refs = ps'; sums = ls'; reference = rf; limit = lf; event = ef; ready = false })
+spent b t' ps' ls' rf lf ef reference limit event ready next rows works refs limits a =
     let frees : t'.frees ≡ b.tree.frees = ap (λ (z : List FreeFrame × ℕ). z.0) works in
     let room : t'.room ≡ b.tree.room = ap (λ (z : List FreeFrame × ℕ). z.1) works in
     let c = (a.call ready).works in
@@ -165,7 +156,9 @@ spent b t' ps' ls' pl places ready next rows works refs limits a =
       given = given-later b.tree.next t'.next b.events.upcoming next a.given;
       call = never;
       placed = never;
-      places = places;
+      reference = reference;
+      limit = limit;
+      event = event;
     }
 
 -- the references where there is a new row of an object that refers to no other
@@ -177,13 +170,13 @@ refs-with ps t t' x kind owner size name plain serial fresh is refs =
     subst (AreRefsOf ps.pairs) (sym rows) (refs-added ps.pairs t.rows (record { 0 = t.next }) kind owner size name absent plain refs)
 
 -- such a row
-pub row-added : (b : Inside) (t' : Links) (ls' : Limits) (pl : Bool) (x : Obj) (kind : Kind) (owner : Owner) (size : ℕ) (name : List ℕ) → (pl ≡ true → HasPlaces b.refs ls' b.events) → b.ready ≡ true → target_of kind ≡ None
+pub row-added : (b : Inside) (t' : Links) (ls' : Limits) (ef : Bool) (x : Obj) (kind : Kind) (owner : Owner) (size : ℕ) (name : List ℕ) → ls'.spare ≡ b.sums.spare → (ef ≡ true → MayWait b.events) → b.ready ≡ true → target_of kind ≡ None
     → x ≡ record { 0 = b.tree.next } → row_of b.tree.rows x ≡ None → pool_of t' ≡ add (pool_of b.tree) kind owner size name → works_of t' ≡ works_of b.tree → AreLimitsOf ls'.limited t'.rows
-    → AgreeWith b → AgreeWith (record b { tree = t'; sums = ls'; places = pl; ready = false })
-row-added b t' ls' pl x kind owner size name places ready plain serial fresh is works limits a =
+    → AgreeWith b → AgreeWith (record b { tree = t'; sums = ls'; event = ef; ready = false })
+row-added b t' ls' ef x kind owner size name spare event ready plain serial fresh is works limits a =
     let more = ap (λ (p : Pool). length p.rows) is in
     let next = ap (λ (p : Pool). p.next) is in
-    spent b t' b.refs ls' pl places ready (omega (arith, next)) (omega (arith, more)) works (refs-with b.refs b.tree t' x kind owner size name plain serial fresh is a.references) limits a
+    spent b t' b.refs ls' b.reference b.limit ef a.reference (λ e. let l = a.limit e in omega (arith, l, spare)) event ready (omega (arith, next)) (omega (arith, more)) works (refs-with b.refs b.tree t' x kind owner size name plain serial fresh is a.references) limits a
 
 -- ---- a destructor has returned
 
@@ -206,7 +199,9 @@ begun b o t r a refs same next spare kept room = record {
   given = given-later b.tree.next t.next b.events.upcoming (omega (arith, next)) a.given;
   call = never;
   placed = never;
-  places = λ e. still-places b.refs r b.sums b.sums b.events spare (omega arith) (a.places e);
+  reference = λ e. let r' = a.reference e in omega (arith, r', spare);
+  limit = a.limit;
+  event = a.event;
 }
 
 -- what a step of a free leaves of the books beside the rows
@@ -230,30 +225,32 @@ stepped b o t r ls e told steps k refs limits kept room a =
       given = rw k.upcoming given;
       call = never;
       placed = never;
-      places = λ there. fewer-wait r ls b.events e k.places (rw k.upcoming (told-fewer told b.events.upcoming)) (still-places b.refs r b.sums ls b.events k.refs k.sums (a.places there));
+      reference = λ there. let r' = a.reference there in let more = k.refs in omega (arith, r', more);
+      limit = λ there. let l = a.limit there in let more = k.sums in omega (arith, l, more);
+      event = λ there. fewer-wait b.events e k.places (rw k.upcoming (told-fewer told b.events.upcoming)) (a.event there);
     }
 
 -- ---- other events are to come
 
 -- what is to come has changed, and the memory for one more is used up
-pub waits : (b : Inside) (e : Agenda) → AreGiven b.tree.next e.upcoming → AgreeWith b → AgreeWith (record b { events = e; places = false; ready = false })
-waits b e given a = record { references = a.references; limits = a.limits; kept = a.kept; room = a.room; given = given; call = never; placed = never; places = never }
+pub waits : (b : Inside) (e : Agenda) → AreGiven b.tree.next e.upcoming → AgreeWith b → AgreeWith (record b { events = e; event = false; ready = false })
+waits b e given a = record { references = a.references; limits = a.limits; kept = a.kept; room = a.room; given = given; call = never; placed = never; reference = a.reference; limit = a.limit; event = never }
 
 -- what changes of it names no event
-pub waits-alike : (b : Inside) (e : Agenda) (soon : List Obj) (descriptors : Descriptors) (handlers : Handlers) → e.upcoming ≡ record b.events.upcoming { soon = soon; descriptors = descriptors; handlers = handlers } → AgreeWith b → AgreeWith (record b { events = e; places = false; ready = false })
+pub waits-alike : (b : Inside) (e : Agenda) (soon : List Obj) (descriptors : Descriptors) (handlers : Handlers) → e.upcoming ≡ record b.events.upcoming { soon = soon; descriptors = descriptors; handlers = handlers } → AgreeWith b → AgreeWith (record b { events = e; event = false; ready = false })
 waits-alike b e soon descriptors handlers is a =
     let given = a.given in
     waits b e (rw is (record { times = given.times; ring = given.ring; requests = given.requests; queues = given.queues; entries = given.entries })) a
 
 -- a new event, and what is to come with it
-pub event-added : (b : Inside) (t' : Links) (ls' : Limits) (e : Agenda) (x : Obj) (kind : Kind) (owner : Owner) (name : List ℕ) → b.ready ≡ true → target_of kind ≡ None
+pub event-added : (b : Inside) (t' : Links) (ls' : Limits) (e : Agenda) (x : Obj) (kind : Kind) (owner : Owner) (name : List ℕ) → ls'.spare ≡ b.sums.spare → b.ready ≡ true → target_of kind ≡ None
     → x ≡ record { 0 = b.tree.next } → row_of b.tree.rows x ≡ None → pool_of t' ≡ add (pool_of b.tree) kind owner 0 name → works_of t' ≡ works_of b.tree → AreLimitsOf ls'.limited t'.rows
-    → (b.tree.next ≤ t'.next → x.0 < t'.next → AreGiven t'.next e.upcoming) → AgreeWith b → AgreeWith (record b { tree = t'; sums = ls'; events = e; places = false; ready = false })
-event-added b t' ls' e x kind owner name ready plain serial fresh is works limits given a =
+    → (b.tree.next ≤ t'.next → x.0 < t'.next → AreGiven t'.next e.upcoming) → AgreeWith b → AgreeWith (record b { tree = t'; sums = ls'; events = e; event = false; ready = false })
+event-added b t' ls' e x kind owner name spare ready plain serial fresh is works limits given a =
     let next = ap (λ (p : Pool). p.next) is in
     let number = ap (λ (y : Obj). y.0) serial in
     let all = given (omega (arith, next)) (omega (arith, next, number)) in
-    waits (record b { tree = t'; sums = ls'; places = false; ready = false }) e all (row-added b t' ls' false x kind owner 0 name never ready plain serial fresh is works limits a)
+    waits (record b { tree = t'; sums = ls'; event = false; ready = false }) e all (row-added b t' ls' false x kind owner 0 name spare never ready plain serial fresh is works limits a)
 
 -- no more wait
 pub still-agree : (b : Inside) (e : Agenda) → KeepsPlaces b.events e → pending_most e.upcoming ≤ pending_most b.events.upcoming → AreGiven b.tree.next e.upcoming → AgreeWith b → AgreeWith (record b { events = e })
@@ -265,7 +262,9 @@ still-agree b e k n given a = record {
   given = given;
   call = a.call;
   placed = a.placed;
-  places = λ there. fewer-wait b.refs b.sums b.events e k n (a.places there);
+  reference = a.reference;
+  limit = a.limit;
+  event = λ there. fewer-wait b.events e k n (a.event there);
 }
 
 -- what is to come is this now, of which no more wait

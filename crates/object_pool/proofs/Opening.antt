@@ -1,10 +1,10 @@
 -- What a free that begins, or goes on, needs of the objects, by the parts of a pool.
-use Rattle.std.proofs.Common.{◌≡◌, Option, Some, None, true, slice_get, inl, inr, refl, sym, subst, arith}
+use Rattle.std.proofs.Common.{◌≡◌, Option, Some, None, true, slice_get, inl, inr, refl, sym, ◌∙◌, ap, subst, arith}
 use Rattle.tree_specs.specs.declared.frame.FreeFrame.{FreeFrame}
 use Rattle.tree_specs.specs.declared.frame.FreeFrame.TheVariants.{Preparing, Draining}
 use Rattle.tree_links.specs.Links.{Links, pool_of}
 use Rattle.destructors.specs.Engine.{IsPreparing, AreKept, HasRoom, HasRoomFor}
-use Rattle.destructors.specs.Frees.{before, frees_of}
+use Rattle.destructors.specs.Frees.{before, frees_of, speaking}
 use Rattle.destructors.specs.Room.{work_places}
 use Rattle.destructors.specs.Works.{IsAwaiting, IsAtWork}
 use Rattle.destructors.proofs.Begins.{any-room-for, room-within}
@@ -12,7 +12,7 @@ use Rattle.object_pool.specs.Agreeing.{AgreeWith}
 use Rattle.object_pool.specs.Objects.{Objects, MayBeginFree, frees_in, objects_of}
 use Rattle.object_pool.specs.Upcoming.{nothing_comes}
 use Rattle.object_pool.specs.declared.pool.ObjectPool.TheInside.{Inside}
-use Rattle.object_pool.proofs.Beside.{awaits-same, works-same}
+use Rattle.object_pool.proofs.Beside.{awaits-same, works-same, speaking-beside}
 
 -- the objects, by the parts
 abbrev pub seen : Inside → Objects
@@ -23,6 +23,9 @@ awaits-inside b o e a = awaits-same (pool_of b.tree) b.events.upcoming nothing_c
 
 pub at_work-inside : (b : Inside) (o : Objects) → seen b ≡ o → IsAtWork (frees_in o) → IsAtWork (frees_of b.engine b.tree)
 at_work-inside b o e a = works-same (pool_of b.tree) b.events.upcoming nothing_comes (before b.engine b.tree.frees) (subst (λ (z : Objects). IsAtWork (frees_in z)) (sym e) a)
+
+pub settled-inside : (b : Inside) (o : Objects) → seen b ≡ o → speaking (frees_in o) ≡ true → speaking (frees_of b.engine b.tree) ≡ true
+settled-inside b o e s = sym (speaking-beside b.events.upcoming (frees_of b.engine b.tree)) ∙ ap (λ (z : Objects). speaking (frees_in z)) e ∙ s
 
 -- the innermost of the open frees is the engine's
 pub innermost-is : (o : Option FreeFrame) (t : Links) → AreKept o t → slice_get (before o t.frees) 0 ≡ o

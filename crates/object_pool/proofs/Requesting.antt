@@ -60,20 +60,20 @@ pub new-owner : (rows : List Row) (x : Obj) (owner : Owner) (size : ℕ) (name :
 new-owner rows x owner size name = let t : same x x ≡ true = same-equal x x refl in rw t refl
 
 module _ (b : Inside) (t t' : Links) (ls' : Limits) (e : Agenda) (x y : Obj) (owner : Owner) (size : ℕ) (word name : List ℕ) where
-  pub request-added : b.ready ≡ true → x ≡ record { 0 = b.tree.next } → y ≡ record { 0 = t.next } → row_of b.tree.rows x ≡ None → row_of t.rows y ≡ None
+  pub request-added : ls'.spare ≡ b.sums.spare → b.ready ≡ true → x ≡ record { 0 = b.tree.next } → y ≡ record { 0 = t.next } → row_of b.tree.rows x ≡ None → row_of t.rows y ≡ None
       → pool_of t ≡ add (pool_of b.tree) Request owner 0 word → pool_of t' ≡ add (pool_of t) Plain (Of x) size name → works_of t ≡ works_of b.tree → works_of t' ≡ works_of t
-      → AreLimitsOf ls'.limited t'.rows → e.upcoming ≡ requested x y b.events.upcoming → AgreeWith b → AgreeWith (record b { tree = t'; sums = ls'; events = e; places = false; ready = false })
-  request-added ready serial serial' fresh fresh' is is' works works' limits comes a =
+      → AreLimitsOf ls'.limited t'.rows → e.upcoming ≡ requested x y b.events.upcoming → AgreeWith b → AgreeWith (record b { tree = t'; sums = ls'; events = e; event = false; ready = false })
+  request-added spare ready serial serial' fresh fresh' is is' works works' limits comes a =
       let more = ap (λ (p : Pool). length p.rows) is in
       let more' = ap (λ (p : Pool). length p.rows) is' in
       let next = ap (λ (p : Pool). p.next) is in
       let next' = ap (λ (p : Pool). p.next) is' in
       let number = ap (λ (z : Obj). z.0) serial in
       let later = given-later b.tree.next t'.next b.events.upcoming (omega (arith, next, next')) a.given in
-      waits (record b { tree = t'; sums = ls'; places = false; ready = false }) e
+      waits (record b { tree = t'; sums = ls'; event = false; ready = false }) e
       (rw comes
       (record { times = later.times; ring = later.ring; requests = kept-put t'.next b.events.upcoming.requests x.0 (new_note y) (omega (arith, number, next, next')) later.requests; queues = later.queues; entries = later.entries }))
-      (spent b t' b.refs ls' false never ready (omega (arith, next, next')) (omega (arith, more, more')) (works' ∙ works)
+      (spent b t' b.refs ls' b.reference b.limit false a.reference (λ z. let l = a.limit z in omega (arith, l, spare)) never ready (omega (arith, next, next')) (omega (arith, more, more')) (works' ∙ works)
       (refs-with b.refs t t' y Plain (Of x) size name refl serial' fresh' is' (refs-with b.refs b.tree t x Request owner 0 word refl serial fresh is a.references)) limits a)
 
 -- ---- an end time
@@ -86,13 +86,13 @@ taken-next n m l e =
     cc
 
 pub timed-agree : (b : Inside) (t' : Links) (e : Agenda) (x : Obj) (time : ℕ) → b.ready ≡ true → pool_of t' ≡ take_number (pool_of b.tree) → works_of t' ≡ works_of b.tree → e.upcoming ≡ timed_under x time b.tree.next b.events.upcoming
-    → AgreeWith b → AgreeWith (record b { tree = t'; events = e; places = false; ready = false })
+    → AgreeWith b → AgreeWith (record b { tree = t'; events = e; event = false; ready = false })
 timed-agree b t' e x time ready is works comes a =
     let rows = ap (λ (p : Pool). p.rows) is in
     let many = ap (λ (p : Pool). length p.rows) is in
     let next = ap (λ (p : Pool). p.next) is in
     let times = b.events.upcoming.times in
     let later = given-later b.tree.next t'.next b.events.upcoming (omega (arith, next)) a.given in
-    waits (record b { tree = t'; places = false; ready = false }) e
+    waits (record b { tree = t'; event = false; ready = false }) e
     (rw comes (record { times = times-armed t'.next times x time b.tree.next (omega (arith, next)) later.times; ring = later.ring; requests = later.requests; queues = later.queues; entries = later.entries }))
-    (spent b t' b.refs b.sums false never ready (omega (arith, next)) (omega (arith, many)) works (subst (AreRefsOf b.refs.pairs) (sym rows) a.references) (subst (AreLimitsOf b.sums.limited) (sym rows) a.limits) a)
+    (spent b t' b.refs b.sums b.reference b.limit false a.reference a.limit never ready (omega (arith, next)) (omega (arith, many)) works (subst (AreRefsOf b.refs.pairs) (sym rows) a.references) (subst (AreLimitsOf b.sums.limited) (sym rows) a.limits) a)

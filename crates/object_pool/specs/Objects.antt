@@ -6,8 +6,6 @@ use Rattle.tree_specs.specs.declared.object.Owner.{Owner}
 use Rattle.tree_specs.specs.declared.row.Row.{Row}
 use Rattle.tree_specs.specs.Tree.Pool.{Pool, target_at, is_owner}
 use Rattle.tree_links.specs.Links.{Links, pool_of, MayPlace}
-use Rattle.references.specs.Pairs.{Pairs}
-use Rattle.memory_limits.specs.Limits.{Limits}
 use Rattle.destructors.specs.Frees.{OpenFrees, before}
 use Rattle.destructors.specs.Engine.{IsPreparing}
 use Rattle.object_pool.specs.Upcoming.{Upcoming, Agenda, HasPlace, beside, pending_most}
@@ -40,11 +38,9 @@ pub record HasCallRoom (tree : Links) : Type 0 where
   pub row : 2 ≤ tree.spare
   pub works : length tree.rows + 4 ≤ tree.room
 
--- the memory for one more reference, one more limit, one more object that waits, and one more descriptor; and those that wait
--- can be counted, and those that may wait after them
-pub record HasPlaces (refs : Pairs) (sums : Limits) (agenda : Agenda) : Type 0 where
-  pub reference : 0 < refs.spare
-  pub limit : 0 < sums.spare
+-- the memory for one more object that waits, and one more descriptor; and those that wait can be counted, and those that may wait
+-- after them
+pub record MayWait (agenda : Agenda) : Type 0 where
   pub event : HasPlace agenda
   pub waiting : pending_most agenda.upcoming < 2 ^ 64
 

@@ -3,6 +3,7 @@
 
 mod counting;
 mod events;
+mod places;
 mod pool;
 
 pub use pool::{ObjectPool, Progress};

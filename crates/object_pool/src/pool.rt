@@ -1,5 +1,6 @@
 use crate::counting::{add_row, count_added, count_went};
 use crate::events::Events;
+use crate::places::{want_event, want_limit, want_reference};
 use destructors::FreeEngine;
 use memory_limits::Sums;
 use references::{Refs, refer};
@@ -29,9 +30,13 @@ pub struct ObjectPool {
     refs: Refs,
     sums: Sums,
     events: Events,
-    /// The memory for one more reference, one more limit, one more event that is to come, one more descriptor, one more
-    /// request, one more queue and one more entry is taken.
-    places: bool,
+    /// The memory for one more reference is taken.
+    reference: bool,
+    /// The memory for one more limit is taken.
+    limit: bool,
+    /// The memory for one more event that is to come, one more descriptor, one more request, one more queue and one more entry is
+    /// taken.
+    event: bool,
     /// The memory for one call is taken.
     ready: bool,
 }
@@ -75,7 +80,9 @@ impl ObjectPool {
             refs: Refs::new(alloc),
             sums: Sums::new(alloc),
             events,
-            places: false,
+            reference: false,
+            limit: false,
+            event: false,
             ready: false,
         })
     }
@@ -99,12 +106,12 @@ impl ObjectPool {
         ensures ok { OnOk result (self.new ≡ record self.old { ready = true }) }
         ensures err { OnErr result (self.new ≡ self.old) }
     {
-        if !self.places {
-            self.refs.reserve(1)?;
-            self.sums.reserve(1)?;
-            self.events.reserve()?;
-            self.places = true;
-        }
+        want_reference(self.reference, &mut self.refs)?;
+        self.reference = true;
+        want_limit(self.limit, &mut self.sums)?;
+        self.limit = true;
+        want_event(self.event, &mut self.events)?;
+        self.event = true;
         self.tree.reserve(2)?;
         self.ready = true;
         Ok(())
@@ -136,7 +143,7 @@ impl ObjectPool {
         ensures referred { self.new ≡ record self.old { pool = referred self.old.pool owner target; ready = false } }
     {
         self.ready = false;
-        self.places = false;
+        self.reference = false;
         let serial = refer(target, owner, &mut self.tree, &mut self.refs);
         count_added(serial, &self.tree, &mut self.sums);
         serial
@@ -200,7 +207,7 @@ impl ObjectPool {
         ensures { self.new ≡ record self.old { pool = limited self.old.pool x max; ready = false } }
     {
         self.ready = false;
-        self.places = false;
+        self.limit = false;
         self.tree.set_limit(x, max);
         self.sums.set_limit(&self.tree, x, max);
     }

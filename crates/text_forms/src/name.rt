@@ -13,6 +13,5 @@ pub fn read_name(alloc: Global, text: &[u8]) -> Result<Name, FormFault>
     ensures value { Reads result (name_of text.now) }
     ensures spelled { IfOk result (λ name. text.now ≡ name) }
 {
-    let bytes = Vec::from_slice(alloc, text)?;
-    Name::make(bytes).ok_or(FormFault::NoForm)
+    Name::make(alloc, text)?.ok_or(FormFault::NoForm)
 }

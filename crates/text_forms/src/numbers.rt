@@ -33,8 +33,19 @@ fn write_each(numbers: &[u64], out: &mut Vec<u8>) -> Result<(), Memory>
     Ok(())
 }
 
+/// What follows the front: one function for all fronts.
+#[inline(never)]
+fn write_rest(numbers: &[u64], end: &[u8], out: &mut Vec<u8>) -> Result<(), Memory>
+    ensures { Writes out.old.items out.new.items result (numbers_text numbers.now ++ end.now) }
+{
+    write_each(numbers, out)?;
+    write_few(end, out)
+}
+
 /// Appends a front, then each number with a space before it, and then an end: most lines, refusals
-/// and questions are such texts. When memory runs out, a prefix of it was appended.
+/// and questions are such texts. When memory runs out, a prefix of it was appended. A front that stands in the program is
+/// copied by a few instructions where the caller is compiled.
+#[inline(always)]
 pub fn write_numbers(
     front: &[u8],
     numbers: &[u64],
@@ -43,7 +54,6 @@ pub fn write_numbers(
 ) -> Result<(), Memory>
     ensures { Writes out.old.items out.new.items result (front.now ++ numbers_text numbers.now ++ end.now) }
 {
-    write_few(front, out)?;
-    write_each(numbers, out)?;
-    write_few(end, out)
+    out.extend_from_slice(front)?;
+    write_rest(numbers, end, out)
 }

@@ -38,8 +38,7 @@ fn target(kind: Kind) -> u64
 fn copied(alloc: Global, name: &Name) -> Result<Name, Memory>
     ensures { IfOk result (λ n. n ≡ name.now) }
 {
-    let bytes = name.as_slice().to_vec(alloc)?;
-    match Name::make(bytes) {
+    match Name::make(alloc, name.as_slice())? {
         Some(copy) => Ok(copy),
         None => unreachable!(),
     }

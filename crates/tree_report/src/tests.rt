@@ -49,7 +49,7 @@ impl World {
     ) -> Result<Obj, Fail>
         requires { size < size_limit }
     {
-        let name = Name::make(name.as_bytes().to_vec(alloc)?).expect(rt, "a name");
+        let name = Name::make(alloc, name.as_bytes())?.expect(rt, "a name");
         let row = NewRow {
             kind: Kind::Plain,
             name,

@@ -4,3 +4,4 @@ pub mod Octets
 pub mod Objects
 pub mod Ranges
 pub mod Wants
+pub mod Kept

@@ -1,9 +1,16 @@
-ghost use Rattle.std.specs.Prelude.{◌≡◌};
+ghost use Rattle.std.specs.Prelude.{◌≡◌, ℕ, if◌then◌else◌, List, IsTrue, Some, None, IfOk, nat_eq};
+ghost use Rattle.std.specs.Cmp.{partial_equiv_from_equiv};
+ghost use Rattle.std.specs.Cmp.Lexicographic.{pointwise, nat_list_eq_equiv};
+ghost use Rattle.tree_specs.specs.Words.Kept.{kept_bytes, IsKept};
 ghost use Rattle.tree_specs.specs.Words.Names.{is_name, is_graphic};
 ghost use Rattle.std.specs.List.{list_all};
 
 use crate::bounds::NAME_LIMIT;
-use crate::checked::{Checked, Rule};
+use crate::kept::Kept;
+use crate::memory::Memory;
+use std::alloc::Global;
+use std::fmt::{self, Debug, Formatter, Write};
+use std::marker::Model;
 
 fn is_graphic_byte(b: u8) -> bool
     ensures { result ≡ is_graphic b }
@@ -25,17 +32,67 @@ pub fn is_name_text(bytes: &[u8]) -> bool
     graphic && 1 <= bytes.len() && bytes.len() <= NAME_LIMIT
 }
 
-/// The rule of names: 1 to 255 bytes from 0x21 to 0x7E.
-#[derive(Debug)]
-pub struct IsName;
+/// The name of an object: 1 to 255 bytes from 0x21 to 0x7E. Contracts see it as the list of its bytes.
+#[derive(Drop)]
+pub struct Name {
+    kept: Kept,
+}
 
-impl Rule<u8> for IsName {
-    ghost holds = { is_name };
+impl Model for Name {
+    ghost Value = { List ℕ };
 
-    fn holds(bytes: &[u8]) -> bool {
-        is_name_text(bytes)
+    ghost view = { λ name. kept_bytes name.kept };
+
+    ghost invariant = { λ name. IsKept name.kept × IsTrue (is_name (kept_bytes name.kept)) };
+}
+
+impl Name {
+    /// The name with these bytes, which are copied. None exactly where they are no name.
+    pub fn make(alloc: Global, bytes: &[u8]) -> Result<Option<Name>, Memory>
+        ensures { IfOk result (λ found. found ≡ (if is_name bytes.now then Some bytes.now else None)) }
+    {
+        if !is_name_text(bytes) {
+            return Ok(None);
+        }
+        let kept = Kept::make(alloc, bytes)?;
+        Ok(Some(Name { kept }))
+    }
+
+    /// A name that stands in the program. It takes no memory.
+    pub fn fixed(bytes: &'static [u8]) -> Name
+        requires { IsTrue (is_name bytes.now) }
+        ensures { result ≡ bytes.now }
+    {
+        Name {
+            kept: Kept::Fixed(bytes),
+        }
+    }
+
+    /// Lends its bytes.
+    pub fn as_slice(&self) -> &[u8]
+        ensures value { result.now ≡ self.now }
+        ensures sound { IsTrue (is_name self.now) }
+    {
+        self.kept.as_slice()
     }
 }
 
-/// The name of an object: 1 to 255 bytes from 0x21 to 0x7E. Contracts see it as the list of its bytes.
-pub type Name = Checked<u8, IsName>;
+impl PartialEq for Name {
+    ghost eq = { pointwise nat_eq };
+
+    ghost laws = { partial_equiv_from_equiv nat_list_eq_equiv };
+
+    fn eq(&self, other: &Self) -> bool {
+        self.as_slice() == other.as_slice()
+    }
+}
+
+impl Eq for Name {
+    ghost laws = { nat_list_eq_equiv };
+}
+
+impl Debug for Name {
+    fn fmt<W: Write>(&self, f: &mut Formatter<W>) -> fmt::Result {
+        self.as_slice().fmt(f)
+    }
+}

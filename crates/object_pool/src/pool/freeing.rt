@@ -1,5 +1,6 @@
 //! Frees on the objects: their beginnings, and what comes next of the innermost one.
-ghost use Rattle.std.specs.Prelude.{◌≡◌, ◌∷◌, ◌≤◌, List, true, None, is_some, slice_get};
+ghost use Rattle.std.specs.Prelude.{◌≡◌, ◌∷◌, ◌≤◌, List, true, None, IfSome, OnSome, is_some, slice_get};
+ghost use Rattle.tree_specs.specs.declared.free_step.FreeStep.TheVariants.{Done};
 ghost use Rattle.tree_specs.specs.declared.watch.Watch.{Watch as WatchData};
 ghost use Rattle.tree_specs.specs.declared.frame.FreeFrame.TheVariants.{Unlinking, Beginning, Looping};
 ghost use Rattle.tree_specs.specs.declared.frame.Purpose.TheVariants.{Emptying};
@@ -9,14 +10,14 @@ ghost use Rattle.tree_specs.specs.Machine.Table.{event_of};
 ghost use Rattle.destructors.specs.Frees.{next_of, is_event, returned, speaking, Begins, Steps};
 ghost use Rattle.destructors.specs.Works.{IsAtWork, IsAwaiting, GoesOn};
 ghost use Rattle.destructors.specs.Moves.{IsLiveRow};
-ghost use Rattle.destructors.specs.Engine.{IsAsked};
+ghost use Rattle.destructors.specs.Engine.{IsAsked, ended_with};
 ghost use Rattle.object_pool.specs.Objects.{frees_in, LeavesRest, MayBeginFree};
 ghost use Rattle.object_pool.specs.Upcoming.{closed_of, MayForget};
 ghost use Rattle.object_pool.specs.Requests.{count_unreceived};
 
 use crate::counting::count_step;
 use crate::pool::ObjectPool;
-use tree_specs::{Event, FreeStep, Obj, Owner};
+use tree_specs::{Event, FreeReply, FreeStep, Obj, Owner};
 
 /// What comes next of a free: the step, and the event that is told of it, if there is one.
 #[derive(Debug, Drop)]
@@ -114,6 +115,23 @@ impl ObjectPool {
             Some(x) => self.events.closes_with(x).is_some(),
             None => self.engine.announces(&self.tree, &self.refs),
         }
+    }
+
+    /// Ends the innermost free where it is over, and gives its answer, as a step that is `Done` does. None, with nothing done,
+    /// where it isn't.
+    pub fn end_free(&mut self) -> Option<FreeReply>
+        requires at_work { IsAtWork (frees_in self.old) }
+        requires settled { speaking (frees_in self.old) ≡ true }
+        ensures answer { result ≡ ended_with (slice_get self.old.works 0) }
+        ensures steps { IfSome result (λ answer. Steps (frees_in self.old) (Done answer) (frees_in self.new)) }
+        ensures goes_on { OnSome result (IsAwaiting (frees_in self.new)) }
+        ensures requests { self.new.pool.requests ≡ self.old.pool.requests }
+        ensures rest { OnSome result (LeavesRest self.old self.new) }
+        ensures none { result ≡ None → self.new ≡ self.old }
+    {
+        let answer = self.engine.end_free(&mut self.tree)?;
+        self.ready = false;
+        Some(answer)
     }
 
     /// What comes next of the innermost free.

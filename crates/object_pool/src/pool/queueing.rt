@@ -24,7 +24,7 @@ impl ObjectPool {
         ensures added { self.new ≡ record self.old { pool = add_queue self.old.pool owner name; ready = false } }
     {
         self.ready = false;
-        self.places = false;
+        self.event = false;
         let queue = add_row(Kind::Queue, name, 0, owner, &mut self.tree, &mut self.sums);
         self.events.add_queue(queue);
         queue
@@ -42,7 +42,7 @@ impl ObjectPool {
         ensures added { self.new ≡ record self.old { pool = add_entry self.old.pool queue x trigger; ready = false } }
     {
         self.ready = false;
-        self.places = false;
+        self.event = false;
         let entry = add_row(
             Kind::Entry,
             Name::fixed(b"entry"),
@@ -61,7 +61,7 @@ impl ObjectPool {
         ensures { self.new ≡ record self.old { pool = starting queue self.old.pool; ready = false } }
     {
         self.ready = false;
-        self.places = false;
+        self.event = false;
         self.events.start(queue);
     }
 

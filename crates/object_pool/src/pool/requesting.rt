@@ -55,7 +55,7 @@ impl ObjectPool {
         ensures added { self.new ≡ record self.old { pool = add_request self.old.pool owner size name; ready = false } }
     {
         self.ready = false;
-        self.places = false;
+        self.event = false;
         let tree = &mut self.tree;
         let request = add_row(
             Kind::Request,
@@ -120,7 +120,7 @@ impl ObjectPool {
         ensures { self.new ≡ record self.old { pool = scheduled self.old.pool x; ready = false } }
     {
         self.ready = false;
-        self.places = false;
+        self.event = false;
         self.events.post(x);
     }
 
@@ -132,7 +132,7 @@ impl ObjectPool {
         ensures { self.new ≡ record self.old { pool = changed_by (Then (Arm x time self.old.pool.next) TakeNumber) self.old.pool; ready = false } }
     {
         self.ready = false;
-        self.places = false;
+        self.event = false;
         let Some(number) = self.tree.take_number() else {
             unreachable!()
         };

@@ -16,7 +16,7 @@ impl ObjectPool {
         ensures { self.new ≡ record self.old { pool = scheduled (handled self.old.pool x handler) x; ready = false } }
     {
         self.ready = false;
-        self.places = false;
+        self.event = false;
         self.events.schedule(x, handler);
     }
 
@@ -38,7 +38,7 @@ impl ObjectPool {
         ensures added { self.new ≡ record self.old { pool = changed_by (adds_timer self.old.pool owner time handler) self.old.pool; ready = false } }
     {
         self.ready = false;
-        self.places = false;
+        self.event = false;
         let name = Name::fixed(b"timer");
         let timer = add_row(Kind::Timer, name, 0, owner, &mut self.tree, &mut self.sums);
         self.events.arm(timer, time, handler);

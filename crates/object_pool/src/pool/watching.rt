@@ -23,7 +23,7 @@ impl ObjectPool {
         ensures added { self.new ≡ record self.old { pool = changed_by (adds_descriptor self.old.pool owner fd flags handler) self.old.pool; ready = false } }
     {
         self.ready = false;
-        self.places = false;
+        self.event = false;
         let name = Name::fixed(b"fd");
         let event = add_row(
             Kind::Descriptor,
@@ -87,7 +87,7 @@ impl ObjectPool {
         ensures { self.new ≡ record self.old { pool = open_descriptor self.old.pool fd; ready = false } }
     {
         self.ready = false;
-        self.places = false;
+        self.event = false;
         self.events.open(fd);
     }
 

@@ -39,7 +39,7 @@ use Rattle.tree_specs.specs.Events.Requests.{note_of, is_unreceived, cleanup_in,
 use Rattle.tree_specs.specs.Events.Coming.{comes_as, handler_for, goes_after, begun, handler_moment, plainly}
 use Rattle.tree_specs.specs.Calls.Passed.{AllPassed}
 use Rattle.tree_specs.specs.Calls.Refusals.{tests, is_queue, is_entry, is_plain, is_going, is_going_mark, is_entry_row, is_queue_row, is_plain_row}
-use Rattle.tree_specs.specs.Calls.Plans.{Change, Plan, plan, planned, changed_by, frees, handed, gift}
+use Rattle.tree_specs.specs.Calls.Plans.{Change, Plan, plan, planned, changed_by, handed, gift}
 use Rattle.tree_specs.specs.Calls.Plans.Change.{Edit, Add, Place, AddQueue, AddEntry, AddRequest, Runs, Then}
 use Rattle.tree_specs.specs.Calls.Plans.Plan.{Does, Frees, Unlinks, Empties, Asks, Turns, Works}
 use Rattle.tree_specs.specs.Machine.Table.{Step, step, plan_step, turning_step, starting_step, handled_step, turn_step, outside_step, cancelling_step, cleaning_step, release_object, cleaned_step, callback_step, notifying_step, vacating_step, triggering_step, request_step}

@@ -1,21 +1,13 @@
-use Rattle.std.proofs.Common.{sym, ◌∙◌}
-use Rattle.host_core.proofs.FreeStepping.{news_onward, news_ready, is-news}
+use Rattle.host_core.proofs.StepsSilently.{onward-along}
+use Rattle.host_core.proofs.FreeStepping.{over_leads}
 use Rattle.host_core.proofs.works.quiet_free.Goals as goal
 
-pub leave_free-requires-clause-came : goal.leave_free-requires-clause-came
-leave_free-requires-clause-came c =
-    let s = c.step-step.ensures in
-    (c.args.parts.now.objects, record { ready = c.requires.ready; quiet = c.requires.quiet; steps = s.steps; goes_on = s.goes_on; requests = s.requests })
+pub end-requires : goal.end-requires
+end-requires c =
+    let e = c.in-Some.ensures in
+    (over_leads c.args.parts.now c.end_free.new.self c.in-Some.answer c.requires.ready c.requires.quiet e.steps e.goes_on e.requests).may
 
-pub leave_free-requires-clause-leaves : goal.leave_free-requires-clause-leaves
-leave_free-requires-clause-leaves c = sym c.stays_at_work.ensures ∙ c.if-stays_at_work.false
-
-pub returns-then-stays_at_work-clause-onward : goal.returns-then-stays_at_work-clause-onward
-returns-then-stays_at_work-clause-onward c =
-    let s = c.step-step.ensures in
-    rw c.requires.freeing (news_onward c.args.parts.now c.step-step.new.self c.requires.ready c.requires.quiet s.requests c.step-step.result.step s.steps (is-news _ (sym c.stays_at_work.ensures ∙ c.if-stays_at_work.true)))
-
-pub returns-then-stays_at_work-clause-ready : goal.returns-then-stays_at_work-clause-ready
-returns-then-stays_at_work-clause-ready c =
-    let s = c.step-step.ensures in
-    rw c.requires.freeing (news_ready c.args.parts.now c.step-step.new.self c.requires.ready c.requires.quiet s.requests c.step-step.result.step s.steps (is-news _ (sym c.stays_at_work.ensures ∙ c.if-stays_at_work.true)) s.goes_on)
+pub returns-in-Some-clause-onward : goal.returns-in-Some-clause-onward
+returns-in-Some-clause-onward c =
+    let e = c.in-Some.ensures in
+    onward-along _ _ _ (over_leads c.args.parts.now c.end_free.new.self c.in-Some.answer c.requires.ready c.requires.quiet e.steps e.goes_on e.requests).onward c.end.ensures.along

@@ -9,7 +9,7 @@ use Rattle.object_pool.proofs.Given.{given-later, before-pushed, unwatching}
 use Rattle.object_pool.proofs.pool.ObjectPool.add_descriptor.Goals as goal
 
 pub watch-requires-clause-place : goal.watch-requires-clause-place
-watch-requires-clause-place c = (c.self.invariant.places (c.self.invariant.placed (ap (λ (o : Objects). o.ready) c.self.view_is ∙ c.requires.ready))).event
+watch-requires-clause-place c = (c.self.invariant.event (c.self.invariant.placed (ap (λ (o : Objects). o.ready) c.self.view_is ∙ c.requires.ready)).2).event
 
 pub watch-requires-clause-event : goal.watch-requires-clause-event
 watch-requires-clause-event c =
@@ -20,7 +20,7 @@ pub invariant_of-self : goal.invariant_of-self
 invariant_of-self c =
     let before = c.self.inside.events.upcoming in
     event-added c.self.inside c.add_row-event.new.tree c.add_row-event.new.sums c.watch.new.self c.add_row-event.result Descriptor c.args.owner c.fixed-name.result
-    (ap (λ (o : Objects). o.ready) c.self.view_is ∙ c.requires.ready) refl
+    c.add_row-event.ensures.spare (ap (λ (o : Objects). o.ready) c.self.view_is ∙ c.requires.ready) refl
     c.add_row-event.ensures.serial c.add_row-event.ensures.fresh c.add_row-event.ensures.rows c.add_row-event.ensures.works c.add_row-event.ensures.limits
     (λ le lt. let later = given-later _ c.add_row-event.new.tree.next before le c.self.invariant.given in
     rw c.watch.ensures (record { times = later.times; ring = before-pushed watcher_number _ before.ring _ lt later.ring; requests = later.requests; queues = later.queues; entries = later.entries }))

@@ -11,7 +11,7 @@ use Rattle.object_pool.proofs.Queueing.{above-all}
 use Rattle.object_pool.proofs.pool.ObjectPool.add_entry.Goals as goal
 
 pub add_entry-requires-clause-place : goal.add_entry-requires-clause-place
-add_entry-requires-clause-place c = (c.self.invariant.places (c.self.invariant.placed (ap (λ (o : Objects). o.ready) c.self.view_is ∙ c.requires.ready))).event
+add_entry-requires-clause-place c = (c.self.invariant.event (c.self.invariant.placed (ap (λ (o : Objects). o.ready) c.self.view_is ∙ c.requires.ready)).2).event
 
 pub add_entry-requires-clause-queue : goal.add_entry-requires-clause-queue
 add_entry-requires-clause-queue c = ap (λ (o : Objects). has_queue o.pool.queues c.args.queue) c.self.view_is ∙ c.requires.queue
@@ -25,7 +25,7 @@ pub invariant_of-self : goal.invariant_of-self
 invariant_of-self c =
     let entry = c.add_row-entry.ensures in
     let before = c.self.inside.events.upcoming in
-    event-added c.self.inside c.add_row-entry.new.tree c.add_row-entry.new.sums c.add_entry.new.self c.add_row-entry.result Entry (Of c.args.x) c.fixed.result (ap (λ (o : Objects). o.ready) c.self.view_is ∙ c.requires.ready) refl
+    event-added c.self.inside c.add_row-entry.new.tree c.add_row-entry.new.sums c.add_entry.new.self c.add_row-entry.result Entry (Of c.args.x) c.fixed.result entry.spare (ap (λ (o : Objects). o.ready) c.self.view_is ∙ c.requires.ready) refl
     entry.serial entry.fresh entry.rows entry.works entry.limits
     (λ le lt. let later = given-later _ c.add_row-entry.new.tree.next before le c.self.invariant.given in
     rw c.add_entry.ensures

@@ -8,7 +8,7 @@ use Rattle.object_pool.proofs.Given.{given-later, kept-put, unkept}
 use Rattle.object_pool.proofs.pool.ObjectPool.add_queue.Goals as goal
 
 pub add_queue-requires-clause-place : goal.add_queue-requires-clause-place
-add_queue-requires-clause-place c = (c.self.invariant.places (c.self.invariant.placed (ap (λ (o : Objects). o.ready) c.self.view_is ∙ c.requires.ready))).event
+add_queue-requires-clause-place c = (c.self.invariant.event (c.self.invariant.placed (ap (λ (o : Objects). o.ready) c.self.view_is ∙ c.requires.ready)).2).event
 
 pub add_queue-requires-clause-new : goal.add_queue-requires-clause-new
 add_queue-requires-clause-new c =
@@ -19,7 +19,7 @@ pub invariant_of-self : goal.invariant_of-self
 invariant_of-self c =
     let queue = c.add_row-queue.ensures in
     let before = c.self.inside.events.upcoming in
-    event-added c.self.inside c.add_row-queue.new.tree c.add_row-queue.new.sums c.add_queue.new.self c.add_row-queue.result Queue c.args.owner c.args.name (ap (λ (o : Objects). o.ready) c.self.view_is ∙ c.requires.ready) refl
+    event-added c.self.inside c.add_row-queue.new.tree c.add_row-queue.new.sums c.add_queue.new.self c.add_row-queue.result Queue c.args.owner c.args.name queue.spare (ap (λ (o : Objects). o.ready) c.self.view_is ∙ c.requires.ready) refl
     queue.serial queue.fresh queue.rows queue.works queue.limits
     (λ le lt. let later = given-later _ c.add_row-queue.new.tree.next before le c.self.invariant.given in
     rw c.add_queue.ensures

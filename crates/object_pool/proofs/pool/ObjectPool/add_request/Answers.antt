@@ -26,7 +26,7 @@ add_row-child-requires-clause-owner c =
     rw (rows, c.add_row-request.ensures.serial) (new-owner c.self.inside.tree.rows (record { 0 = c.self.inside.tree.next }) c.args.owner 0 c.fixed.result)
 
 pub create-requires-clause-place : goal.create-requires-clause-place
-create-requires-clause-place c = (c.self.invariant.places (c.self.invariant.placed (ap (λ (o : Objects). o.ready) c.self.view_is ∙ c.requires.ready))).event
+create-requires-clause-place c = (c.self.invariant.event (c.self.invariant.placed (ap (λ (o : Objects). o.ready) c.self.view_is ∙ c.requires.ready)).2).event
 
 pub create-requires-clause-new : goal.create-requires-clause-new
 create-requires-clause-new c =
@@ -38,4 +38,4 @@ invariant_of-self c =
     let first = c.add_row-request.ensures in
     let second = c.add_row-child.ensures in
     request-added c.self.inside c.add_row-request.new.tree c.add_row-child.new.tree c.add_row-child.new.sums c.create.new.self c.add_row-request.result c.add_row-child.result c.args.owner c.args.size c.fixed.result c.args.name
-    (ap (λ (o : Objects). o.ready) c.self.view_is ∙ c.requires.ready) first.serial second.serial first.fresh second.fresh first.rows second.rows first.works second.works second.limits c.create.ensures c.self.invariant
+    (second.spare ∙ first.spare) (ap (λ (o : Objects). o.ready) c.self.view_is ∙ c.requires.ready) first.serial second.serial first.fresh second.fresh first.rows second.rows first.works second.works second.limits c.create.ensures c.self.invariant

@@ -8,7 +8,7 @@ use Rattle.object_pool.proofs.Given.{given-later, times-armed, unnumbered}
 use Rattle.object_pool.proofs.pool.ObjectPool.add_timer.Goals as goal
 
 pub arm-requires-clause-place : goal.arm-requires-clause-place
-arm-requires-clause-place c = (c.self.invariant.places (c.self.invariant.placed (ap (λ (o : Objects). o.ready) c.self.view_is ∙ c.requires.ready))).event
+arm-requires-clause-place c = (c.self.invariant.event (c.self.invariant.placed (ap (λ (o : Objects). o.ready) c.self.view_is ∙ c.requires.ready)).2).event
 
 pub arm-requires-clause-number : goal.arm-requires-clause-number
 arm-requires-clause-number c =
@@ -20,7 +20,7 @@ pub invariant_of-self : goal.invariant_of-self
 invariant_of-self c =
     let timer = c.add_row-timer.ensures in
     let before = c.self.inside.events.upcoming in
-    event-added c.self.inside c.add_row-timer.new.tree c.add_row-timer.new.sums c.arm.new.self c.add_row-timer.result Timer c.args.owner c.fixed-name.result (ap (λ (o : Objects). o.ready) c.self.view_is ∙ c.requires.ready) refl
+    event-added c.self.inside c.add_row-timer.new.tree c.add_row-timer.new.sums c.arm.new.self c.add_row-timer.result Timer c.args.owner c.fixed-name.result timer.spare (ap (λ (o : Objects). o.ready) c.self.view_is ∙ c.requires.ready) refl
     timer.serial timer.fresh timer.rows timer.works timer.limits
     (λ le lt. let later = given-later _ c.add_row-timer.new.tree.next before le c.self.invariant.given in
     rw c.arm.ensures

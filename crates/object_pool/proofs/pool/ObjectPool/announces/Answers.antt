@@ -1,17 +1,15 @@
-use Rattle.std.proofs.Common.{is_some, sym, ap, ◌∙◌}
-use Rattle.destructors.specs.Frees.{frees_of, next_of, is_event, speaking}
+use Rattle.std.proofs.Common.{is_some, ap, ◌∙◌}
+use Rattle.destructors.specs.Frees.{frees_of, next_of, is_event}
 use Rattle.object_pool.specs.Objects.{Objects, frees_in}
 use Rattle.object_pool.proofs.Announcing.{lets-go, lets-none-go, told-beside}
-use Rattle.object_pool.proofs.Beside.{speaking-beside}
+use Rattle.object_pool.proofs.Opening.{settled-inside}
 use Rattle.object_pool.proofs.pool.ObjectPool.announces.Goals as goal
 
 pub lets_go-requires-clause-settled : goal.lets_go-requires-clause-settled
-lets_go-requires-clause-settled c =
-    sym (speaking-beside c.self.inside.events.upcoming (frees_of c.self.inside.engine c.self.inside.tree)) ∙ ap (λ (o : Objects). speaking (frees_in o)) c.self.view_is ∙ c.requires
+lets_go-requires-clause-settled c = settled-inside c.self.inside c.args.self.now c.self.view_is c.requires
 
 pub announces-requires-clause-settled : goal.announces-requires-clause-settled
-announces-requires-clause-settled c =
-    sym (speaking-beside c.self.inside.events.upcoming (frees_of c.self.inside.engine c.self.inside.tree)) ∙ ap (λ (o : Objects). speaking (frees_in o)) c.self.view_is ∙ c.requires
+announces-requires-clause-settled c = settled-inside c.self.inside c.args.self.now c.self.view_is c.requires
 
 pub returns-in-Some : goal.returns-in-Some
 returns-in-Some c =

@@ -28,7 +28,9 @@ invariant_of-self c =
       given = a.given;
       call = a.call;
       placed = a.placed;
-      places = a.places;
+      reference = a.reference;
+      limit = a.limit;
+      event = a.event;
     }
 
 pub returns-clause-returned : goal.returns-clause-returned

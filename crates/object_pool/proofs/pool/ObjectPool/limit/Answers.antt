@@ -18,7 +18,7 @@ invariant_of-self c =
     let e = ap (λ (p : Pool). p.rows) c.set_limit.ensures.rows in
     let n = ap (λ (p : Pool). p.next) c.set_limit.ensures.rows in
     let as_many = ap length e ∙ length-changed (limited_row c.args.max) c.self.inside.tree.rows c.args.x in
-    spent c.self.inside c.set_limit.new.self c.self.inside.refs c.set_limit-2.new.self false never
+    spent c.self.inside c.set_limit.new.self c.self.inside.refs c.set_limit-2.new.self c.self.inside.reference false c.self.inside.event c.self.invariant.reference never c.self.invariant.event
     (subst (λ (o : Objects). o.ready ≡ true) (sym c.self.view_is) c.requires.ready) (omega (arith, n)) (omega (arith, as_many)) c.set_limit.ensures.works
     (subst (AreRefsOf c.self.inside.refs.pairs) (sym e)
     (refs-same c.self.inside.refs.pairs c.self.inside.tree.rows _ (same-changed (limited_row c.args.max) c.self.inside.tree.rows c.args.x (λ r. refl) (λ r. refl)) c.self.invariant.references))

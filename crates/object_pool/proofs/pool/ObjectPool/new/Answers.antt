@@ -14,5 +14,7 @@ invariant_of-result c =
       given = rw c.in_ok-events.ensures (record { times = tt; ring = tt; requests = tt; queues = tt; entries = tt });
       call = never;
       placed = never;
-      places = never;
+      reference = never;
+      limit = never;
+      event = never;
     }

@@ -5,7 +5,8 @@ use Rattle.object_pool.proofs.pool.ObjectPool.refer.Goals as goal
 
 pub invariant_of-self : goal.invariant_of-self
 invariant_of-self c =
+    let spare = c.count_added.ensures.spare in
     let n = ap (λ (p : Pool). p.next) c.refer-serial.ensures.rows in
     let more = ap (λ (p : Pool). length p.rows) c.refer-serial.ensures.rows in
-    spent c.self.inside c.refer-serial.new.tree c.refer-serial.new.refs c.count_added.new.sums false never
+    spent c.self.inside c.refer-serial.new.tree c.refer-serial.new.refs c.count_added.new.sums false c.self.inside.limit c.self.inside.event never (λ z. let l = c.self.invariant.limit z in omega (arith, l, spare)) c.self.invariant.event
     (rw (← c.self.view_is) at c.requires.ready) (omega (arith, n)) (omega (arith, more)) c.refer-serial.ensures.works c.refer-serial.ensures.refs c.count_added.ensures.kept c.self.invariant

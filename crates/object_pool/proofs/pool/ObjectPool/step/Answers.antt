@@ -1,22 +1,21 @@
 use Rattle.std.proofs.Common.{Option, Some, sym, ap, subst, ◌∙◌}
 use Rattle.tree_specs.specs.declared.free_step.FreeStep.{FreeStep}
 use Rattle.tree_specs.specs.Machine.Table.{event_of}
-use Rattle.destructors.specs.Frees.{OpenFrees, before, frees_of, next_of, speaking, Steps}
+use Rattle.destructors.specs.Frees.{OpenFrees, before, frees_of, next_of, Steps}
 use Rattle.tree_links.specs.Links.{pool_of}
 use Rattle.object_pool.specs.Objects.{Objects, frees_in}
 use Rattle.object_pool.specs.Upcoming.{MayForget, frees_beside, after, nothing_comes}
-use Rattle.object_pool.proofs.Beside.{goes_on-same, next-beside, speaking-beside, steps-beside}
+use Rattle.object_pool.proofs.Beside.{goes_on-same, next-beside, steps-beside}
 use Rattle.object_pool.proofs.Fewer.{told-unreceived}
 use Rattle.object_pool.proofs.Keeping.{stepped}
-use Rattle.object_pool.proofs.Opening.{at_work-inside}
+use Rattle.object_pool.proofs.Opening.{at_work-inside, settled-inside}
 use Rattle.object_pool.proofs.pool.ObjectPool.step.Goals as goal
 
 pub step-step-requires-clause-at_work : goal.step-step-requires-clause-at_work
 step-step-requires-clause-at_work c = at_work-inside c.self.inside c.args.self.now c.self.view_is c.requires.at_work
 
 pub step-step-requires-clause-settled : goal.step-step-requires-clause-settled
-step-step-requires-clause-settled c =
-    sym (speaking-beside c.self.inside.events.upcoming (frees_of c.self.inside.engine c.self.inside.tree)) ∙ ap (λ (o : Objects). speaking (frees_in o)) c.self.view_is ∙ c.requires.settled
+step-step-requires-clause-settled c = settled-inside c.self.inside c.args.self.now c.self.view_is c.requires.settled
 
 -- what is gone with this step is no queue that has entries
 pub follow-closed-requires : goal.follow-closed-requires
