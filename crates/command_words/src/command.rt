@@ -2,7 +2,7 @@
 pub const COUNT_LIMIT: u32 = 1_000_000;
 
 /// What the words ask for.
-#[derive(Clone, Copy, Debug, PartialEq, Eq)]
+#[derive(Clone, Copy, PartialEq, Eq)]
 pub enum Command {
     /// The schedule that is read is to be replayed.
     Replay,

@@ -13,7 +13,7 @@ use clap::{Arg, ArgMatches, Error, value_parser};
 use std::alloc::{AllocError, Global};
 
 /// Why words are no command.
-#[derive(Debug, Drop)]
+#[derive(Drop)]
 pub enum WordsError {
     /// They aren't taken. A person is told by this text what to type.
     Usage(String),

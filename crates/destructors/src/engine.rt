@@ -19,7 +19,7 @@ use tree_specs::{FreeFrame, FreeReply, FreeStep, Mark, Obj, Owner, Purpose};
 ///
 /// The engine takes no memory: `Tree::reserve` takes the room for its works. Between a step that asks and the
 /// answer, the caller may do with the tree what keeps that the open frees await it (`IsAwaiting`).
-#[derive(Debug, Drop)]
+#[derive(Drop)]
 pub struct FreeEngine {
     innermost: Option<FreeFrame>,
 }

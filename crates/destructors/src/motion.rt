@@ -1,7 +1,7 @@
 use tree_specs::{FreeFrame, FreeReply, FreeStep};
 
 /// What one move of the innermost work does.
-#[derive(Clone, Copy, Debug)]
+#[derive(Clone, Copy)]
 pub enum Motion {
     /// It ends, and answers the work below it.
     Ends(FreeReply),
@@ -16,7 +16,7 @@ pub enum Motion {
 }
 
 /// What comes next of a work, as far as it tells nothing.
-#[derive(Clone, Copy, Debug)]
+#[derive(Clone, Copy)]
 pub enum Outlook {
     /// It tells or asks something.
     Telling,

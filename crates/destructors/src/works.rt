@@ -17,7 +17,7 @@ use tree_links::Tree;
 use tree_specs::{FreeFrame, FreeReply, FreeStep, Mark};
 
 /// What a move told, and the work that is innermost after it.
-#[derive(Clone, Copy, Debug)]
+#[derive(Clone, Copy)]
 pub struct Progress {
     pub told: Option<FreeStep>,
     pub innermost: Option<FreeFrame>,

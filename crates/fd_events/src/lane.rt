@@ -9,7 +9,7 @@ use linked_lanes::{Link, Sides};
 use pool_arena::Arena;
 
 /// The events in the rotation, the one that joined last first.
-#[derive(Debug, Drop)]
+#[derive(Drop)]
 pub(crate) struct Lane {
     /// Under the numbers of the events.
     pub nodes: Arena<Node>,

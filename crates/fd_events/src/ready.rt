@@ -5,7 +5,7 @@ ghost use Rattle.tree_specs.specs.Events.Rotation.{ready_for as ready_for_in};
 use tree_specs::{Obj, Want};
 
 /// An event that comes, since its descriptor is ready.
-#[derive(Clone, Copy, Debug, PartialEq, Eq)]
+#[derive(Clone, Copy, PartialEq, Eq)]
 pub struct ReadyEvent {
     /// The event.
     pub object: Obj,

@@ -15,7 +15,7 @@ use tree_specs::{Memory, Obj, Want, Wants, Watch};
 /// The events on descriptors (`tevent_add_fd`), in the order in which a loop looks at them: one that has come goes to
 /// the end. Contracts see the list of how each watches, and spare: so many can be added without taking memory. Each call
 /// but `first_ready` and `wants` takes the same time however many there are.
-#[derive(Debug, Drop)]
+#[derive(Drop)]
 pub struct Ring {
     /// The events, in their order.
     lane: Lane,

@@ -16,7 +16,7 @@ use object_pool::ObjectPool;
 use tree_specs::{Ask, Input, TurnFrame};
 
 /// What is at work, above all that waits.
-#[derive(Debug, Drop)]
+#[derive(Drop)]
 pub enum Active {
     /// A caller: the host's own, or a routine that runs.
     Caller(Caller),

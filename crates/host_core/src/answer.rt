@@ -7,7 +7,7 @@ use crate::short_reply::ShortReply;
 use tree_specs::FreeReply;
 
 /// What a work that is over answers to the work below it.
-#[derive(Clone, Copy, Debug)]
+#[derive(Clone, Copy)]
 pub enum Answer {
     /// A free is over.
     Freed(FreeReply),

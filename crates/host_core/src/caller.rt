@@ -16,14 +16,14 @@ use std::mem;
 use tree_specs::{Ask, Event, Handler, Moment, Notice, Obj, Occasion, Reply, What};
 
 /// One that is asked for calls, and is told the reply to each. It is known by its question.
-#[derive(Debug, Drop)]
+#[derive(Drop)]
 pub struct Caller {
     pub ask: Ask,
     pub stage: Stage,
 }
 
 /// What comes next of a caller.
-#[derive(Debug, Drop)]
+#[derive(Drop)]
 pub enum Stage {
     /// Its question.
     Asking,

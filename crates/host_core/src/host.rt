@@ -93,6 +93,7 @@ impl Host {
     ghost use Rattle.std.specs.Option.{option_map};
     ghost use Rattle.tree_specs.specs.Tree.Pool.{row_of, is_row, is_inside as inside};
     ghost use Rattle.tree_specs.specs.Invariants.Sound.{Sound};
+    ghost use Rattle.tree_specs.specs.Invariants.Consistent.{IsConsistent};
     ghost use Rattle.std.specs.Prelude.{ℕ, [], ◌∷◌};
     ghost use Rattle.tree_specs.specs.Calls.Refusals.{is_open};
     ghost use Rattle.tree_specs.specs.Events.Rotation.{wanted_of};
@@ -166,8 +167,13 @@ impl Host {
 
         // At every moment, between two events too: each number stands once and below the next one, each owner is
         // the root or a live object, from owner to owner one comes to an end, what a reference refers to is a live
-        // plain object, and each dying object is in exactly one open free.
+        // plain object or request, and each dying object is in exactly one open free.
         ensures sound { Sound self.now.innermost self.now.below self.now.pool }
+
+        // And besides: what waits is a live object of its kind; what is watched is open, and watched once; each entry that
+        // isn't dying is a child of its request and stands once in its queue; and what is kept of requests and queues is kept
+        // of each of them and of nothing else.
+        ensures whole { IsConsistent self.now }
 
         // At every moment the story still to come is that of the rules' text.
         ensures text { (is : List InputData) → rest_of self.now is ≡ items (told_by (text_rest (stated self.now.pool is) self.now is)) }

@@ -2,7 +2,7 @@ use crate::short_reply::ShortReply;
 use tree_specs::{Ask, Errand, Notice, Obj, Owner};
 
 /// What a call does first.
-#[derive(Debug, Drop)]
+#[derive(Drop)]
 pub enum Motion {
     /// It is done, and this is its reply.
     Replies(ShortReply),

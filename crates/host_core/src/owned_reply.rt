@@ -1,7 +1,7 @@
 use tree_specs::Reply;
 
 /// A reply that owns memory, as a report and bytes do, with a copy where a routine is to remember it.
-#[derive(Debug, Drop)]
+#[derive(Drop)]
 pub struct OwnedReply {
     pub reply: Reply,
     pub copy: Option<Reply>,

@@ -2,7 +2,7 @@ use crate::waiting::Waiting;
 use object_pool::ObjectPool;
 
 /// What a host keeps besides what is at work.
-#[derive(Debug, Drop)]
+#[derive(Drop)]
 pub struct Parts {
     /// The works that wait, the innermost last. Where the open frees wait is marked among them; they themselves are kept with
     /// the objects.

@@ -4,7 +4,7 @@ ghost use Rattle.host_core.specs.Moves.{reply_of};
 use tree_specs::{Refusal, Reply};
 
 /// A reply that takes no memory, so that it can be told and remembered.
-#[derive(Clone, Copy, Debug)]
+#[derive(Clone, Copy)]
 pub enum ShortReply {
     Ok,
     Number(u64),

@@ -4,7 +4,7 @@ use crate::waiting::Waiting;
 use tree_specs::{Obj, Owner};
 
 /// What a step that tells and asks nothing leads to.
-#[derive(Debug, Drop)]
+#[derive(Drop)]
 pub enum Step {
     /// It goes on as this.
     Goes(Active),

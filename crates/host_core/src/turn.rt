@@ -5,7 +5,7 @@ ghost use Rattle.host_core.specs.Turns.{turn_asks, frame_fired, turn_tells};
 use tree_specs::{Ask, Event, TurnFrame};
 
 /// A turn of the event loop that is at work.
-#[derive(Debug, Drop)]
+#[derive(Drop)]
 pub struct Turn {
     /// What is still to do.
     pub frame: TurnFrame,

@@ -6,7 +6,7 @@ use crate::work::Work;
 use tree_specs::{Ask, Obj, TurnFrame};
 
 /// A work that waits for the one above it.
-#[derive(Debug, Drop)]
+#[derive(Drop)]
 pub enum Waiting {
     /// The open frees: the innermost of them waits for the run of a destructor, until its request was received, or until its
     /// queue has no entries.

@@ -11,7 +11,7 @@ use crate::short_reply::ShortReply;
 use tree_specs::{Errand, Handler, Obj, State, What};
 
 /// What is still to do of the work of one request, or of one queue.
-#[derive(Clone, Copy, Debug)]
+#[derive(Clone, Copy)]
 pub enum Work {
     /// `x` is to go to this state, which is told.
     Finishing {

@@ -59,20 +59,20 @@ fn told_number(number: u64) -> Event {
 
 // The event that is told next.
 fn next_is(rt: &impl Abort, host: &mut Host, event: &Event) {
-    assert_eq!(rt; host.next().as_ref(), Some(event));
+    assert!(rt; host.next().as_ref() == Some(event));
 }
 
 // Nothing more is told, and this question is open.
 fn waits(rt: &impl Abort, host: &mut Host, question: &Ask) {
-    assert_eq!(rt; host.next(), None);
-    assert_eq!(rt; host.question(), Some(question));
+    assert!(rt; host.next().is_none());
+    assert!(rt; host.question() == Some(question));
 }
 
 // The answer is taken.
 fn takes(rt: &impl Abort, host: &mut Host, answer: Input)
     requires { IsTrue (is_sound answer) }
 {
-    assert_eq!(rt; host.next(), None);
+    assert!(rt; host.next().is_none());
     assert_eq!(rt; host.offer(answer), Ok(()));
 }
 
@@ -82,7 +82,7 @@ fn leads(rt: &impl Abort, host: &mut Host, answer: Input, events: &[Event], ques
 {
     takes(rt, host, answer);
     for event in events {
-        assert_eq!(rt; host.question(), None);
+        assert!(rt; host.question().is_none());
         next_is(rt, host, event);
     }
     waits(rt, host, question);

@@ -10,7 +10,7 @@ use tree_specs::{Memory, Obj};
 /// The objects that come soon, first in first out: immediates that are scheduled, requests whose callback is posted, and
 /// queues that are to look at their first entry. Contracts see the list of them, each once, and spare: so many can be
 /// added without taking memory.
-#[derive(Debug, Drop)]
+#[derive(Drop)]
 pub struct Soon {
     /// The neighbours of each, under its number.
     sides: Arena<Sides>,

@@ -37,7 +37,7 @@ fn free() -> Call
 fn were_told(rt: &impl Abort, told: &[Event], events: &[Event]) {
     assert_eq!(rt; told.len(), events.len());
     for (place, event) in events.iter().enumerate() {
-        assert_eq!(rt; told.get(place), Some(event));
+        assert!(rt; told.get(place) == Some(event), "at {place}");
     }
 }
 

@@ -7,7 +7,7 @@ ghost use Rattle.std.specs.Prelude.{◌≡◌};
 ghost use Rattle.linked_lanes.specs.Chain.{head_left, last_left, noted as noted_in};
 
 /// The neighbours of one in its lane.
-#[derive(Clone, Copy, Debug)]
+#[derive(Clone, Copy)]
 pub struct Sides {
     /// The one that joined next after it. None exactly where it is the head of its lane.
     pub newer: Option<u64>,
@@ -16,7 +16,7 @@ pub struct Sides {
 }
 
 /// What is noted of a neighbour.
-#[derive(Clone, Copy, Debug)]
+#[derive(Clone, Copy)]
 pub enum Link {
     Newer(Option<u64>),
     Older(Option<u64>),

@@ -10,7 +10,7 @@ const ROOM: usize = 40;
 
 /// A line with its LF, or what is left of one. It is made from its end, as the digits of a number are. Contracts see its
 /// bytes.
-#[derive(Debug, Drop)]
+#[derive(Drop)]
 pub(crate) struct Line {
     bytes: [u8; ROOM],
     /// Where it begins; it ends with the bytes.

@@ -8,14 +8,14 @@ use crate::line::Line;
 use std::marker::Model;
 
 /// Where a schedule stands between two calls. Contracts see the state of its draws, and how many lines with `new` there are.
-#[derive(Debug, Drop)]
+#[derive(Drop)]
 pub(crate) struct Place {
     state: u32,
     made: u32,
 }
 
 /// What the draws of a call say.
-#[derive(Clone, Copy, Debug)]
+#[derive(Clone, Copy)]
 struct Draws {
     /// Which of eight kinds the call is.
     kind: u32,

@@ -29,7 +29,7 @@ fn next_line(place: &mut Place, left: &mut u32, is_over: &mut bool, line: &mut L
 
 /// The schedule of so many calls that is made from a number. Each line is made when it is to be given, so none is held
 /// but that one. Contracts see the bytes that are left.
-#[derive(Debug, Drop)]
+#[derive(Drop)]
 pub struct LoadSource {
     place: Place,
     /// How many calls are still to be drawn.

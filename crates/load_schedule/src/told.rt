@@ -26,7 +26,7 @@ fn one_more(front: &[u8], line: &[u8], count: u64) -> u64
 }
 
 /// How many lines there were of each kind that is counted.
-#[derive(Clone, Copy, Debug)]
+#[derive(Clone, Copy)]
 pub(crate) struct Counts {
     pub(crate) refused: u64,
     pub(crate) freed: u64,
@@ -87,7 +87,7 @@ pub(crate) fn line_end(bytes: &[u8]) -> Option<usize>
 }
 
 /// What the lines at the front of some bytes tell that end there.
-#[derive(Clone, Copy, Debug)]
+#[derive(Clone, Copy)]
 pub(crate) struct Told {
     /// How many bytes they are, each with its LF.
     pub(crate) len: usize,

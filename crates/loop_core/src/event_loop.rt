@@ -8,7 +8,7 @@ use tree_specs::{WAIT_LIMIT, Wants};
 /// What an event loop has to do. It picks what comes next in a turn (`tevent_loop_once`), and runs nothing. A turn begins
 /// with `begin`; each answer that a pick asks for is handed in, until something comes or nothing does. No pick takes
 /// memory.
-#[derive(Debug, Drop)]
+#[derive(Drop)]
 pub struct Loop {
     /// What comes soon, the first in first.
     pub soon: Soon,

@@ -8,7 +8,7 @@ use tree_links::Tree;
 use tree_specs::{Obj, Owner};
 
 /// So many bytes inside an object are no more, and then so many came to be there.
-#[derive(Clone, Copy, Debug)]
+#[derive(Clone, Copy)]
 pub(crate) struct Change {
     pub less: u64,
     pub more: u64,

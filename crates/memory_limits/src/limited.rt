@@ -1,7 +1,7 @@
 use tree_specs::Obj;
 
 /// An object with a limit, as contracts see it.
-#[derive(Clone, Copy, Debug, PartialEq, Eq)]
+#[derive(Clone, Copy, PartialEq, Eq)]
 pub struct Limited {
     pub object: Obj,
     /// In bytes.

@@ -12,7 +12,7 @@ use tree_specs::{Memory, Obj, Owner, Refusal};
 /// in the order of their numbers, and spare. The sums are those of a tree as long as each placing, leaving, removal and
 /// change of size is told. An object is looked up in the same time however many have a limit, and where none has one
 /// nothing is done. Only `reserve` takes memory.
-#[derive(Debug, Drop)]
+#[derive(Drop)]
 pub struct Sums {
     limited: Arena<Allowance>,
 }

@@ -16,7 +16,7 @@ use tree_specs::{FreeStep, Handler, Memory, Obj, Want, Wants};
 /// The events of a host: which of them are to come, and the handler of each; the descriptors that are open; and the notes of
 /// requests. Contracts see the lists of those to come, the handlers and notes by the numbers of their events and requests, the
 /// numbers of the descriptors, and how many more there may be without taking memory.
-#[derive(Debug, Drop)]
+#[derive(Drop)]
 pub struct Events {
     order: Loop,
     /// The handler of each event that was given one, under the number of the event.

@@ -23,7 +23,7 @@ pub use freeing::Progress;
 /// and the frees that are open on them.
 /// Contracts see the pool, the works of the open frees, the innermost first, and whether the memory for one call is
 /// taken. No change takes memory: what may want some asks for that before.
-#[derive(Debug, Drop)]
+#[derive(Drop)]
 pub struct ObjectPool {
     engine: FreeEngine,
     tree: Tree,

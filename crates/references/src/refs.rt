@@ -13,7 +13,7 @@ use tree_links::Tree;
 use tree_specs::{Memory, Obj, Owner};
 
 /// A reference, and the object that it refers to.
-#[derive(Clone, Copy, Debug, PartialEq, Eq)]
+#[derive(Clone, Copy, PartialEq, Eq)]
 pub struct Pair {
     /// The reference, which is an object of its own.
     pub reference: Obj,
@@ -23,7 +23,7 @@ pub struct Pair {
 
 /// The references that there are. Contracts see the list of pairs, the greatest reference first, and spare: so many
 /// can be added without taking memory. There are at most 4,294,967,295.
-#[derive(Debug, Drop)]
+#[derive(Drop)]
 pub struct Refs {
     /// Under the numbers of the references.
     nodes: Arena<Node>,

@@ -14,7 +14,7 @@ use tree_specs::{Handler, Memory, Obj, QueueEntry};
 
 /// All queues, and the entries in them, each found in the same time however many there are. Contracts see them by their
 /// numbers, and spare: so many queues and so many entries can be added without taking memory.
-#[derive(Debug, Drop)]
+#[derive(Drop)]
 pub struct Queues {
     /// Under the numbers of the queues.
     lines: Arena<Line>,

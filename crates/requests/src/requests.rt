@@ -9,7 +9,7 @@ use tree_specs::{Handler, Memory, Note, Obj, State};
 
 /// The notes of all requests, each found in the same time however many there are. Contracts see them by the numbers of their
 /// requests, and spare: so many can be added without taking memory.
-#[derive(Debug, Drop)]
+#[derive(Drop)]
 pub struct Requests {
     notes: Arena<Note>,
 }

@@ -6,7 +6,7 @@ use crate::stop::Stop;
 use tree_specs::Reason;
 
 /// How a replay ended.
-#[derive(Clone, Copy, Debug, PartialEq, Eq)]
+#[derive(Clone, Copy, PartialEq, Eq)]
 pub enum Ran {
     /// The whole schedule was replayed.
     Done,

@@ -8,7 +8,7 @@ use std::alloc::AllocError;
 use tree_specs::{Memory, Reason};
 
 /// Why a replay ends before its schedule does.
-#[derive(Clone, Copy, Debug, PartialEq, Eq)]
+#[derive(Clone, Copy, PartialEq, Eq)]
 pub enum Stop {
     /// A read failed.
     Read,

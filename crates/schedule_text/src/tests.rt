@@ -17,7 +17,7 @@ fn writes(rt: &impl Abort, alloc: Global, cases: &[(Event, &[u8])]) -> Result<()
     for (event, want) in cases {
         let mut out = Vec::new(alloc);
         write_event(event, &mut out)?;
-        assert_eq!(rt; out.as_slice(), *want, "at {event:?}");
+        assert_eq!(rt; out.as_slice(), *want);
     }
     Ok(())
 }

@@ -20,7 +20,7 @@ use Rattle.text_forms.specs.Bytes.{are_bytes, field_has_bytes, has_bytes}
 use Rattle.tree_specs.specs.Calls.Spelling.{Numeral, Field, Spelling, ◌with◌, spelling, Reading, Form, forms}
 use Rattle.tree_specs.specs.Calls.Spelling.Numeral.{Number, Number32, Positive32, Time, FdFlags, Length}
 use Rattle.tree_specs.specs.Calls.Spelling.Field.{AnOwner, AnObject, ANumeral, AName, SomeBytes}
-use Rattle.tree_specs.specs.Calls.Spelling.Reading.{IsConsistent, TakesOwner, TakesObject, TakesNumeral, EndsInName, EndsInBytes}
+use Rattle.tree_specs.specs.Calls.Spelling.Reading.{NoMore, TakesOwner, TakesObject, TakesNumeral, EndsInName, EndsInBytes}
 use Rattle.tree_specs.specs.Texts.Text.{field_text}
 use Rattle.text_forms.proofs.Fields.{IsField, HasRead, has_read, numeral_field, owner_field, object_field, name_field}
 use Rattle.text_forms.proofs.Hexadecimal.{is_sound_octets, octets_field}
@@ -66,7 +66,7 @@ same_kind_itself _ = refl
 
 -- what a reading makes of fields that are there already
 feed : Reading → List Field → Option Call
-feed (IsConsistent call) [] = Some call
+feed (NoMore call) [] = Some call
 feed (TakesOwner next) (AnOwner owner ∷ fs) = feed (next owner) fs
 feed (TakesObject next) (AnObject x ∷ fs) = feed (next x) fs
 feed (TakesNumeral kind next) (ANumeral other n ∷ fs) = cond (same_kind kind other) (feed (next n) fs) None
@@ -133,7 +133,7 @@ fields_are_words (f ∷ fs) h = let parts = and_true (fits f) (all_fit fs) h in 
 -- what is made of fitting fields is read from their texts
 taken_again : (reading : Reading) (fs : List Field) (c : Call) → all_fit fs ≡ true → feed reading fs ≡ Some c → taken reading (map field_text fs) ≡ Some (c, [])
 unfolding feed
-taken_again (IsConsistent call) [] c h e = let same : call ≡ c = cc in rw same refl
+taken_again (NoMore call) [] c h e = let same : call ≡ c = cc in rw same refl
 taken_again (TakesOwner next) (AnOwner owner ∷ fs) c h e = let parts = and_true (is_sound_owner owner) (all_fit fs) h in rw (owner_field.again owner parts.0) (taken_again (next owner) fs c parts.1 e)
 taken_again (TakesObject next) (AnObject x ∷ fs) c h e = let parts = and_true (is_number x.0) (all_fit fs) h in rw (object_field.again x parts.0) (taken_again (next x) fs c parts.1 e)
 taken_again (TakesNumeral kind next) (ANumeral other n ∷ fs) c h e =
@@ -218,7 +218,7 @@ all_taken (Some (x, word ∷ more)) c e = absurd cc
 
 is_fed : (reading : Reading) (ws : List (List ℕ)) (c : Call) → taken reading ws ≡ Some (c, []) → IsFed reading ws c
 unfolding feed
-is_fed (IsConsistent call) ws c e = let same = same_pair e in record { fields = []; words_are = ap (λ (z : Call × List (List ℕ)). z.1) same; fit = refl; made = ap (λ (z : Call × List (List ℕ)). Some z.0) same }
+is_fed (NoMore call) ws c e = let same = same_pair e in record { fields = []; words_are = ap (λ (z : Call × List (List ℕ)). z.1) same; fit = refl; made = ap (λ (z : Call × List (List ℕ)). Some z.0) same }
 is_fed (TakesOwner next) (word ∷ more) c e = let x = has_field owner_field word more _ (c, []) e in one_more (AnOwner x.value) _ (next x.value) word more c x.text_is x.value_is_sound (λ fs. refl) (is_fed (next x.value) more c x.goes_on)
 is_fed (TakesObject next) (word ∷ more) c e = let x = has_field object_field word more _ (c, []) e in one_more (AnObject x.value) _ (next x.value) word more c x.text_is x.value_is_sound (λ fs. refl) (is_fed (next x.value) more c x.goes_on)
 is_fed (TakesNumeral kind next) (word ∷ more) c e = let x = has_field (numeral_field kind) word more _ (c, []) e in one_more (ANumeral kind x.value) _ (next x.value) word more c x.text_is x.value_is_sound (feed_numeral kind x.value next) (is_fed (next x.value) more c x.goes_on)
@@ -228,7 +228,7 @@ is_fed _ ws c e = absurd cc
 
 -- whatever is read, the call is spelled so
 abbrev Spells : Reading → (List Field → Spelling) → Type 0
-Spells (IsConsistent call) so = spelling call ≡ so []
+Spells (NoMore call) so = spelling call ≡ so []
 Spells (TakesOwner next) so = (owner : Owner) → Spells (next owner) (λ fs. so (AnOwner owner ∷ fs))
 Spells (TakesObject next) so = (x : Obj) → Spells (next x) (λ fs. so (AnObject x ∷ fs))
 Spells (TakesNumeral kind next) so = (n : ℕ) → Spells (next n) (λ fs. so (ANumeral kind n ∷ fs))
@@ -244,7 +244,7 @@ all_spell = search tt
 
 spelled_so : (reading : Reading) (so : List Field → Spelling) (fs : List Field) (c : Call) → Spells reading so → feed reading fs ≡ Some c → spelling c ≡ so fs
 unfolding feed
-spelled_so (IsConsistent call) so [] c h e = let same : call ≡ c = cc in sym (ap spelling same) ∙ h
+spelled_so (NoMore call) so [] c h e = let same : call ≡ c = cc in sym (ap spelling same) ∙ h
 spelled_so (TakesOwner next) so (AnOwner owner ∷ fs) c h e = spelled_so (next owner) (λ fs. so (AnOwner owner ∷ fs)) fs c (h owner) e
 spelled_so (TakesObject next) so (AnObject x ∷ fs) c h e = spelled_so (next x) (λ fs. so (AnObject x ∷ fs)) fs c (h x) e
 spelled_so (TakesNumeral kind next) so (ANumeral other n ∷ fs) c h e =

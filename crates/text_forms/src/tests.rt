@@ -13,18 +13,16 @@ mod descriptors;
 mod queues;
 mod requests;
 
-// The call is written as these bytes, and is what they are read as.
+// The call is written as these bytes, and what they are read as is written so too.
 fn writes(rt: &impl Abort, alloc: Global, call: &Call, want: &[u8]) -> Result<(), Fail>
     requires { IsTrue (is_sound_call call.now) }
 {
     let mut out = Vec::new(alloc);
     write_call(call, &mut out)?;
     assert_eq!(rt; out.as_slice(), want);
-    let again = read_call(alloc, want)?;
-    assert_eq!(rt;
-        format!(in alloc; "{again:?}")?,
-        format!(in alloc; "{call:?}")?
-    );
+    out.clear();
+    write_call(&read_call(alloc, want)?, &mut out)?;
+    assert_eq!(rt; out.as_slice(), want);
     Ok(())
 }
 
@@ -311,7 +309,7 @@ fn writes_each_kind_of_row(rt: HostRuntime) -> Result<(), Fail> {
         let mut out = Vec::new(rt.alloc());
         let rows = [row(kind, read_name(rt.alloc(), b"a-b")?)];
         write_report_rows(&rows, &mut out)?;
-        assert_eq!(rt; out.as_slice(), want, "at {kind:?}");
+        assert_eq!(rt; out.as_slice(), want);
     }
     Ok(())
 }

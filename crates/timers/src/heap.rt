@@ -10,7 +10,7 @@ use pool_arena::Arena;
 use tree_specs::Due;
 
 /// The way that a time goes in the heap: to its parent's place and on, or to a child's.
-#[derive(Clone, Copy, Debug)]
+#[derive(Clone, Copy)]
 pub(crate) enum Way {
     Up,
     Down,

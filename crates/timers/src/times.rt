@@ -8,7 +8,7 @@ use tree_specs::{Due, Memory, Obj};
 
 /// The objects whose time comes: timers, and requests with an end time. Contracts see the list of them, in the order of
 /// time and then number, and spare: so many can be added without taking memory.
-#[derive(Debug, Drop)]
+#[derive(Drop)]
 pub struct Times {
     /// A heap: none comes before its parent.
     dues: Vec<Due>,

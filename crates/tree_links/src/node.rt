@@ -17,7 +17,7 @@ use pool_arena::Arena;
 use tree_specs::{Mark, Name, Owner, Row};
 
 /// A row with its places: among all rows, among the children of its owner, and its first child.
-#[derive(Debug, Drop)]
+#[derive(Drop)]
 pub(crate) struct Node {
     pub row: Row,
     pub placed: Sides,
@@ -26,7 +26,7 @@ pub(crate) struct Node {
 }
 
 /// The lanes that a row stands in.
-#[derive(Clone, Copy, Debug)]
+#[derive(Clone, Copy)]
 enum Lane {
     /// All rows, in the order of their placing.
     Placed,
@@ -248,7 +248,7 @@ pub(crate) fn set_left(nodes: &mut Arena<Node>, x: u64) -> Option<(Option<Owner>
 }
 
 /// What of a row is written anew where it stands.
-#[derive(Debug, Drop)]
+#[derive(Drop)]
 pub(crate) enum Edit {
     Name(Name),
     Mark(Mark),

@@ -23,7 +23,7 @@ fn row_of(tree: &Tree, owner: Owner) -> Option<&Row>
 }
 
 /// What of an object is summed.
-#[derive(Clone, Copy, Debug)]
+#[derive(Clone, Copy)]
 enum Weight {
     /// Its size in bytes.
     Size,

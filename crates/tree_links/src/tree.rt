@@ -17,7 +17,7 @@ use tree_specs::{Mark, Memory, Name, Obj, Owner, Row};
 /// The objects and who owns them, with the works of the frees that are open on them. Contracts see the list of
 /// rows, the most recently placed first, the next serial number, and spare: so many rows can be added without
 /// taking memory; and the list of works, the innermost first, with room for so many more. Only `reserve` takes memory.
-#[derive(Debug, Drop)]
+#[derive(Drop)]
 pub struct Tree {
     nodes: Arena<Node>,
     /// The row that was placed last.

@@ -7,7 +7,7 @@ use std::marker::Model;
 use tree_specs::Owner;
 
 /// Where a walk comes to: an owner, and how far below the one that the walk began at.
-#[derive(Clone, Copy, Debug, PartialEq, Eq)]
+#[derive(Clone, Copy, PartialEq, Eq)]
 pub struct Place {
     pub owner: Owner,
     /// How many steps it is below the owner that the walk began at.

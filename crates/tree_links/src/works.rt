@@ -8,7 +8,7 @@ use tree_specs::{FreeFrame, Memory};
 
 /// The works of the frees that are open. Contracts see the list of them, the innermost first, and room: so many more
 /// can be put before them without taking memory.
-#[derive(Debug, Drop)]
+#[derive(Drop)]
 pub(crate) struct Works {
     /// The innermost is the last.
     frames: Vec<FreeFrame>,

@@ -3,7 +3,7 @@ use crate::object::{Obj, Owner};
 use crate::octets::Octets;
 
 /// A call on the tree. Each has one text, its verb and its fields with single spaces between them.
-#[derive(Debug, Drop)]
+#[derive(Drop)]
 pub enum Call {
     /// `new P SIZE NAME`: a plain object below an owner, its size in bytes. The reply is its number.
     New {

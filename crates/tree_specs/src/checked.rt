@@ -2,7 +2,6 @@ ghost use Rattle.std.specs.Prelude.{◌≡◌, Bool, List, IsTrue, IfSome, IsSom
 ghost use Rattle.std.specs.Cmp.Lexicographic.{pointwise, lists_per, lists_equiv};
 
 use crate::listed::Listed;
-use std::fmt::{self, Debug, Formatter, Write};
 use std::marker::{Model, PhantomData};
 
 /// What elements have to be.
@@ -78,10 +77,4 @@ impl<T: PartialEq, R: Rule<T>> PartialEq for Checked<T, R> {
 
 impl<T: Eq, R: Rule<T>> Eq for Checked<T, R> {
     ghost laws = { lists_equiv T.Eq.laws };
-}
-
-impl<T: Debug, R: Rule<T>> Debug for Checked<T, R> {
-    fn fmt<W: Write>(&self, f: &mut Formatter<W>) -> fmt::Result {
-        self.elements.fmt(f)
-    }
 }

@@ -3,7 +3,7 @@ use crate::object::{Obj, Owner};
 use crate::reply::Reply;
 
 /// What the host tells.
-#[derive(Debug, PartialEq, Eq, Drop)]
+#[derive(PartialEq, Eq, Drop)]
 pub enum Event {
     /// A call is over.
     Replied(Reply),

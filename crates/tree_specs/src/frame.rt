@@ -10,7 +10,7 @@ use crate::reply::Reply;
 use crate::request::State;
 
 /// What is still to do of one open work. Works stand on one another, the innermost in front.
-#[derive(Debug, Drop)]
+#[derive(Drop)]
 pub enum Frame {
     Call(CallFrame),
     Free(FreeFrame),
@@ -21,7 +21,7 @@ pub enum Frame {
 
 /// What is still to do for a caller, who does one call after another. A caller is known by the question that
 /// it is asked: Quiet is the host's own caller, Routine a routine that runs.
-#[derive(Debug, Drop)]
+#[derive(Drop)]
 pub enum CallFrame {
     /// The question is to be asked.
     Asking {
@@ -63,7 +63,7 @@ pub enum CallFrame {
 }
 
 /// What the children of an object are freed for.
-#[derive(Clone, Copy, Debug, PartialEq, Eq)]
+#[derive(Clone, Copy)]
 pub enum Purpose {
     /// The object itself is removed after them. `hook` is the destructor that accepted this; 0 is none.
     Removal { hook: u32 },
@@ -72,7 +72,7 @@ pub enum Purpose {
 }
 
 /// What is still to do of one free.
-#[derive(Clone, Copy, Debug, PartialEq, Eq)]
+#[derive(Clone, Copy)]
 pub enum FreeFrame {
     /// The interest of an owner in `x` is to be taken away: its newest reference goes, or it gives `x` up.
     Unlinking {
@@ -151,7 +151,7 @@ pub enum FreeFrame {
 }
 
 /// What is still to do of one turn of the event loop.
-#[derive(Clone, Copy, Debug, PartialEq, Eq)]
+#[derive(Clone, Copy)]
 pub enum TurnFrame {
     /// What comes first is to be looked for.
     Taking,
@@ -208,7 +208,7 @@ pub enum TurnFrame {
 }
 
 /// What is still to do of one question to the outside, which a call asks: the answer is its reply.
-#[derive(Debug, Drop)]
+#[derive(Drop)]
 pub enum OutsideFrame {
     /// The question is to be asked.
     Reaching { ask: Ask },
@@ -219,7 +219,7 @@ pub enum OutsideFrame {
 }
 
 /// What is done with a request, step by step.
-#[derive(Clone, Copy, Debug, PartialEq, Eq)]
+#[derive(Clone, Copy, PartialEq, Eq)]
 pub enum Errand {
     /// It goes to this state, and whoever waits for it is notified (`tevent_req_done` and the like).
     Finish(State),
@@ -232,7 +232,7 @@ pub enum Errand {
 }
 
 /// What is still to do of the work of one request, or of one queue.
-#[derive(Debug, Drop)]
+#[derive(Drop)]
 pub enum RequestFrame {
     /// `x` is to go to this state.
     Finishing {
@@ -300,7 +300,7 @@ pub enum RequestFrame {
 }
 
 /// What a work that is over answers to the work below it.
-#[derive(Debug, PartialEq, Eq, Drop)]
+#[derive(PartialEq, Eq, Drop)]
 pub enum Answer {
     /// A free is over.
     Freed(FreeReply),

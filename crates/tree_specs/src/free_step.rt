@@ -14,7 +14,7 @@ pub enum FreeReply {
 }
 
 /// What a step of a free tells, or asks for.
-#[derive(Clone, Copy, Debug, PartialEq, Eq)]
+#[derive(Clone, Copy, PartialEq, Eq)]
 pub enum FreeStep {
     /// The destructor of the object is to run.
     Ask(Obj),

@@ -4,7 +4,7 @@ ghost use Rattle.tree_specs.specs.Tree.Targets.{target_of};
 use crate::object::Obj;
 
 /// What an object is.
-#[derive(Clone, Copy, Debug, PartialEq, Eq)]
+#[derive(Clone, Copy, PartialEq, Eq)]
 pub enum Kind {
     /// A plain object, as `talloc_new` makes it. Only such have destructors.
     Plain,

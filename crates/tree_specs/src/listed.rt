@@ -5,7 +5,7 @@ use std::borrow::CowSlice;
 use std::marker::Model;
 
 /// Elements that were given in a vector, or that stand in the program. Contracts see the list of them.
-#[derive(Debug, Drop)]
+#[derive(Drop)]
 pub(crate) struct Listed<T: 'static> {
     elements: CowSlice<'static, T>,
 }

@@ -10,7 +10,7 @@ ghost use Rattle.tree_specs.specs.declared.frame.Frame.TheVariants.{Call, Free, 
 ghost use Rattle.tree_specs.specs.declared.frame.FreeFrame.TheVariants.{Beginning, Unlinking, Looping};
 ghost use Rattle.tree_specs.specs.declared.frame.Purpose.TheVariants.{Emptying};
 ghost use Rattle.tree_specs.specs.declared.frame.OutsideFrame.TheVariants.{Reaching};
-ghost use Rattle.tree_specs.specs.declared.frame.RequestFrame.TheVariants.{Finishing, Receiving, Cancelling, Notifying};
+ghost use Rattle.tree_specs.specs.declared.frame.RequestFrame.TheVariants.{Finishing, Receiving, Cancelling, Notifying, Triggering, Vacating};
 ghost use Rattle.tree_specs.specs.declared.frame.Errand.{Errand as ErrandData};
 ghost use Rattle.tree_specs.specs.declared.frame.TurnFrame.TheVariants.{Taking};
 ghost use Rattle.tree_specs.specs.declared.object.Obj.{Obj as ObjData};
@@ -20,7 +20,7 @@ ghost use Rattle.tree_specs.specs.declared.question.Input.{Input as InputData};
 ghost use Rattle.tree_specs.specs.declared.request.State.{State as StateData};
 ghost use Rattle.tree_specs.specs.Machine.Meaning.{emptied, ends_as, run_of, stated, text_rest};
 ghost use Rattle.tree_specs.specs.Tree.Pool.{Pool};
-ghost use Rattle.tree_specs.specs.Rules.Story.{asked, cancelling, children, finishing, free, items, notifying, reaching, receiving, taking, unlink};
+ghost use Rattle.tree_specs.specs.Rules.Story.{asked, cancelling, children, finishing, free, items, notifying, reaching, receiving, taking, triggering, unlink, vacating};
 ghost use Rattle.tree_specs.specs.Machine.Table.{table};
 ghost use Rattle.tree_specs.specs.Machine.View.{View, rest_of};
 ghost use Rattle.tree_specs.specs.Invariants.Consistent.{IsConsistent};
@@ -28,7 +28,8 @@ ghost use Rattle.tree_specs.specs.Invariants.Consistent.{IsConsistent};
 /// From the beginning of a free the table of single steps tells, answers, leaves and takes what the text says of it,
 /// over every pool and all inputs, whenever the turns are enough; so it is where an owner's interest is taken away, where
 /// the children of an object are freed, and where a caller is asked, as a destructor that runs is; and where a turn of the
-/// event loop is taken, the outside is asked, or a request goes to a state, is notified, received or cancelled.
+/// event loop is taken, the outside is asked, or a request goes to a state, is notified, received or cancelled; and where
+/// the entries of a queue are freed, or the trigger of its first entry runs.
 pub fn the_machine_tells_the_text()
     ensures free { (n : ℕ) (x : ObjData) (p : Pool) (is : List InputData) → run_of n (Free (Beginning x)) p is ≢ Short →
         run_of n (Free (Beginning x)) p is ≡ ends_as Freed (free n x) p is }
@@ -50,6 +51,10 @@ pub fn the_machine_tells_the_text()
         run_of n (Request (Receiving x)) p is ≡ ends_as Heard (receiving n x) p is }
     ensures cancel { (n : ℕ) (x : ObjData) (p : Pool) (is : List InputData) → run_of n (Request (Cancelling x)) p is ≢ Short →
         run_of n (Request (Cancelling x)) p is ≡ ends_as Heard (cancelling n x) p is }
+    ensures vacate { (n : ℕ) (q : ObjData) (p : Pool) (is : List InputData) → run_of n (Request (Vacating q)) p is ≢ Short →
+        run_of n (Request (Vacating q)) p is ≡ ends_as Heard (vacating n q) p is }
+    ensures trigger { (n : ℕ) (q : ObjData) (p : Pool) (is : List InputData) → run_of n (Request (Triggering q)) p is ≢ Short →
+        run_of n (Request (Triggering q)) p is ≡ ends_as Heard (triggering n q) p is }
 
     // The stated turns are enough for the innermost of open works that hold together, and more give the same.
     ensures enough { (v : View) (is : List InputData) → IsConsistent v → run_of (stated v.pool is) v.innermost v.pool is ≢ Short }

@@ -2,7 +2,7 @@ use crate::object::Obj;
 use crate::reply::Reply;
 
 /// What a routine runs for.
-#[derive(Clone, Copy, Debug, PartialEq, Eq)]
+#[derive(Clone, Copy, PartialEq, Eq)]
 pub enum What {
     /// A destructor.
     Hook,
@@ -23,7 +23,7 @@ pub enum What {
 }
 
 /// A moment in the run of a routine, which is asked what it does.
-#[derive(Debug, PartialEq, Eq, Drop)]
+#[derive(PartialEq, Eq, Drop)]
 pub struct Moment {
     pub what: What,
     pub object: Obj,

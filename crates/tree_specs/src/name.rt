@@ -9,7 +9,6 @@ use crate::bounds::NAME_LIMIT;
 use crate::kept::Kept;
 use crate::memory::Memory;
 use std::alloc::Global;
-use std::fmt::{self, Debug, Formatter, Write};
 use std::marker::Model;
 
 fn is_graphic_byte(b: u8) -> bool
@@ -89,10 +88,4 @@ impl PartialEq for Name {
 
 impl Eq for Name {
     ghost laws = { nat_list_eq_equiv };
-}
-
-impl Debug for Name {
-    fn fmt<W: Write>(&self, f: &mut Formatter<W>) -> fmt::Result {
-        self.as_slice().fmt(f)
-    }
 }

@@ -1,7 +1,7 @@
 use crate::object::Obj;
 
 /// What a call tells before its reply.
-#[derive(Clone, Copy, Debug, PartialEq, Eq)]
+#[derive(Clone, Copy, PartialEq, Eq)]
 pub enum Notice {
     /// This object, which has references, was given to another owner.
     Warned(Obj),

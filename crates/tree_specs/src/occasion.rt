@@ -1,5 +1,5 @@
 /// What a handler is told of what has come.
-#[derive(Clone, Copy, Debug, PartialEq, Eq)]
+#[derive(Clone, Copy, PartialEq, Eq)]
 pub struct Occasion {
     /// The clock's value at a timer, in microseconds, and 0 elsewhere.
     pub now: u64,

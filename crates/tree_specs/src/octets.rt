@@ -4,7 +4,6 @@ use crate::bounds::OCTETS_LIMIT;
 use crate::checked::{Checked, Rule};
 
 /// The rule of what one read gives or one write takes: 1 to 65,536 bytes.
-#[derive(Debug)]
 pub struct IsOctets;
 
 impl Rule<u8> for IsOctets {

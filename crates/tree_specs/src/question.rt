@@ -4,7 +4,7 @@ use crate::octets::Octets;
 use crate::wants::Wants;
 
 /// What the host waits for.
-#[derive(Debug, PartialEq, Eq, Drop)]
+#[derive(PartialEq, Eq, Drop)]
 pub enum Ask {
     /// Nothing goes on: it waits for a call.
     Quiet,
@@ -23,7 +23,7 @@ pub enum Ask {
 }
 
 /// What a routine does.
-#[derive(Debug, Drop)]
+#[derive(Drop)]
 pub enum Act {
     /// It does a call. The reply is told, and then it is asked again.
     Do(Call),
@@ -33,7 +33,7 @@ pub enum Act {
 }
 
 /// An answer to the host's question.
-#[derive(Debug, Drop)]
+#[derive(Drop)]
 pub enum Input {
     /// A call, where the host is quiet.
     Call(Call),

@@ -2,7 +2,7 @@ use crate::handler::Handler;
 use crate::object::Obj;
 
 /// A request that waits in a queue for its turn (`struct tevent_queue_entry`).
-#[derive(Clone, Copy, Debug, PartialEq, Eq)]
+#[derive(Clone, Copy, PartialEq, Eq)]
 pub struct QueueEntry {
     pub queue: Obj,
     pub request: Obj,

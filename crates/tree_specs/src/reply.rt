@@ -71,7 +71,7 @@ pub enum Refusal {
 }
 
 /// The reply to a call.
-#[derive(Debug, PartialEq, Eq, Drop)]
+#[derive(PartialEq, Eq, Drop)]
 pub enum Reply {
     /// It is done, and there is nothing to say.
     Ok,

@@ -6,7 +6,7 @@ use crate::name::Name;
 use std::marker::Model;
 
 /// What a row of a report is about.
-#[derive(Clone, Copy, Debug, PartialEq, Eq)]
+#[derive(Clone, Copy, PartialEq, Eq)]
 pub enum RowKind {
     /// The null context.
     Root,
@@ -22,7 +22,7 @@ pub enum RowKind {
 }
 
 /// What a report says of one object, as `talloc_report` does.
-#[derive(Debug, PartialEq, Eq, Drop)]
+#[derive(PartialEq, Eq, Drop)]
 pub struct ReportRow {
     /// How many owners are between it and the first row, which has depth 0.
     pub depth: u32,
@@ -56,7 +56,7 @@ impl ReportRow {
 }
 
 /// The rows of a report, each owner before its children. Contracts see the list of them.
-#[derive(Debug, PartialEq, Eq, Drop)]
+#[derive(PartialEq, Eq, Drop)]
 pub struct ReportRows {
     rows: Listed<ReportRow>,
 }

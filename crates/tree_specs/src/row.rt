@@ -3,7 +3,7 @@ use crate::name::Name;
 use crate::object::{Obj, Owner};
 
 /// What is going on with an object.
-#[derive(Clone, Copy, Debug, PartialEq, Eq)]
+#[derive(Clone, Copy, PartialEq, Eq)]
 pub enum Mark {
     /// Nothing.
     Quiet,
@@ -18,7 +18,7 @@ pub enum Mark {
 }
 
 /// All that the tree keeps of one object.
-#[derive(Debug, Drop)]
+#[derive(Drop)]
 pub struct Row {
     pub serial: Obj,
     /// None exactly while it is dying.

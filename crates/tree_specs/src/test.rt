@@ -1,7 +1,7 @@
 use crate::object::{Obj, Owner};
 
 /// What is looked at before a call is done. Where it isn't so, the call is refused.
-#[derive(Debug, Clone, Copy, PartialEq, Eq)]
+#[derive(Clone, Copy)]
 pub enum Test {
     /// A size in bytes is below the greatest one.
     IsSmall(u64),

@@ -43,7 +43,6 @@ fn rises(list: &[Want]) -> bool
 }
 
 /// The rule of what is ready: the descriptors rise, and flags are 1 to 3.
-#[derive(Debug)]
 pub struct AreWants;
 
 impl Rule<Want> for AreWants {

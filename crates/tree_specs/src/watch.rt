@@ -1,7 +1,7 @@
 use crate::object::Obj;
 
 /// An event on a descriptor (`tevent_add_fd`), as the loop watches it.
-#[derive(Clone, Copy, Debug, PartialEq, Eq)]
+#[derive(Clone, Copy, PartialEq, Eq)]
 pub struct Watch {
     /// The event.
     pub object: Obj,

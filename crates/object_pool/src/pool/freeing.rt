@@ -20,7 +20,7 @@ use crate::pool::ObjectPool;
 use tree_specs::{Event, FreeReply, FreeStep, Obj, Owner};
 
 /// What comes next of a free: the step, and the event that is told of it, if there is one.
-#[derive(Debug, Drop)]
+#[derive(Drop)]
 pub struct Progress {
     pub step: FreeStep,
     pub event: Option<Event>,

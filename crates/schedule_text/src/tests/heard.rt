@@ -20,7 +20,7 @@ fn writes_what_descriptors_answer(rt: HostRuntime) -> Result<(), Fail> {
     for (input, want) in &cases {
         let mut out = Vec::new(rt.alloc());
         write_input(input, &mut out)?;
-        assert_eq!(rt; out.as_slice(), *want, "at {input:?}");
+        assert_eq!(rt; out.as_slice(), *want);
     }
     Ok(())
 }

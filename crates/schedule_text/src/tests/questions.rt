@@ -40,13 +40,13 @@ fn writes_each(rt: &impl Abort, alloc: Global, cases: &[Case]) -> Result<(), Fai
     for (ask, text, answered, end) in cases {
         let mut out = Vec::new(alloc);
         write_ask(ask, &mut out)?;
-        assert_eq!(rt; out.as_slice(), *text, "at {ask:?}");
+        assert_eq!(rt; out.as_slice(), *text);
         out.clear();
         write_answered(ask, &mut out)?;
-        assert_eq!(rt; out.as_slice(), *answered, "at {ask:?}");
+        assert_eq!(rt; out.as_slice(), *answered);
         out.clear();
         write_end(ask, &mut out)?;
-        assert_eq!(rt; out.as_slice(), *end, "at {ask:?}");
+        assert_eq!(rt; out.as_slice(), *end);
     }
     Ok(())
 }

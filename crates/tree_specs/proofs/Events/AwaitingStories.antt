@@ -1,5 +1,5 @@
 -- In every story what waits is as it must be, over each pool just before an item.
-use Rattle.std.proofs.Common.{◌≡◌, true, refl, ℕ, ◌≤◌, List, [], ◌∷◌, length, Option, sym, subst, map}
+use Rattle.std.proofs.Common.{ℕ, ◌≤◌, List, [], ◌∷◌, length, Option, sym, subst, map}
 use Rattle.step_machine.specs.History.{EachFits}
 use Rattle.step_machine.specs.Machine.{Move}
 use Rattle.step_machine.specs.Machine.{Move as Do}
@@ -17,13 +17,10 @@ use Rattle.tree_specs.specs.Machine.Table.{table, notes, step, taken}
 use Rattle.tree_specs.specs.Machine.Meaning.{noted_table}
 use Rattle.tree_specs.specs.Machine.View.{View}
 use Rattle.tree_specs.specs.Invariants.Consistent.{IsConsistent}
-use Rattle.tree_specs.specs.Invariants.Awaiting.{waits, Awaits, pool_after, AwaitsBefore}
-use Rattle.tree_specs.specs.declared.object.Obj.{Obj}
-use Rattle.tree_specs.specs.declared.moment.What.{What}
-use Rattle.tree_specs.specs.declared.moment.What.TheVariants.{Immediate, Timer, Descriptor}
+use Rattle.tree_specs.specs.Invariants.Awaiting.{Awaits, pool_after, AwaitsBefore}
 use Rattle.tree_specs.proofs.Events.AwaitingSteps.{step-awaits}
 use Rattle.tree_specs.proofs.Rules.Rest.{whole-kept}
-use Rattle.tree_specs.proofs.Rules.StoryLaws.{asking, begin-whole, story-walk}
+use Rattle.tree_specs.proofs.Rules.StoryLaws.{asking, begin-whole, none-await, story-walk}
 use Rattle.tree_specs.proofs.Promises.Causes.{NotedWork}
 use Rattle.tree_specs.proofs.Promises.Fine.{work_of, taken-noted}
 
@@ -51,15 +48,6 @@ both scenes f b ws p (Do.Call g h q) l now next = (l, next)
 kept : (scenes : List Scene) (w : NotedWork) (ws : List NotedWork) (p : Pool) → Holds scenes w ws p → FitsOn noted_table AwaitsBefore Holds scenes (noted_table.step w p) ws
 kept scenes w ws p h =
     both scenes w.work w.note ws p (step w.work p) (whole-kept (record { innermost = w.work; below = map work_of ws; pool = p }) 1 h.0) h.1 (step-awaits w.work (map work_of ws) p h.0.sound h.0.noted h.0.queued.pool h.0.calm.0 h.1)
-
-none-await : (first : ℕ) → Awaits (empty first)
-none-await first = record { events = λ w x h. absurd (none w x h); handlers = λ x e. refl; distinct = tt; watched = λ fd h. cc }
-  where
-    none : (w : What) (x : Obj) → waits w (empty first) x ≡ true → ⊥
-    none Immediate x h = cc
-    none Timer x h = cc
-    none Descriptor x h = cc
-    none _ x h = cc
 
 pub story-awaits : (first : ℕ) (is : List Input) → 1 ≤ first → EachFits AwaitsBefore (story first is)
 story-awaits first is h =

@@ -47,6 +47,8 @@ use Rattle.tree_specs.specs.Invariants.Sound.{Sound, Rests}
 use Rattle.tree_specs.specs.Invariants.Noted.{Noted}
 use Rattle.tree_specs.specs.Invariants.Measure.{cost}
 use Rattle.tree_specs.specs.Machine.View.{View, outcome_of, rest_of}
+use Rattle.tree_specs.specs.Invariants.Awaiting.{Awaits, pool_after}
+use Rattle.tree_specs.proofs.Events.AwaitingSteps.{step-awaits}
 use Rattle.tree_specs.specs.Invariants.Consistent.{IsCaller, IsStacked, IsPaidFor, IsConsistent}
 use Rattle.tree_specs.proofs.Invariants.Keeps.{sound-kept}
 use Rattle.tree_specs.proofs.Invariants.KeptNotes.{noted-kept}
@@ -116,18 +118,18 @@ not-short v is h = paid-enough v is h.sound h.noted h.queued h.seated h.light
 -- ---- what a step keeps
 
 Leads-whole : (m : Move Frame Answer Pool Item) (fs : List Frame) (k : ℕ)
-    → Leads table (λ g gs q j. Sound g gs q) m fs k → NotedBy m fs k → QueuedBy m fs k → CalmBy m fs k → Placed m fs k → Leads table (λ g gs q j. IsConsistent (record { innermost = g; below = gs; pool = q })) m fs k
-Leads-whole (Do.Done a p) [] k s n u c l = tt
-Leads-whole (Do.Done a p) (g ∷ gs) k s n u c l = record { sound = s; seated = l.0; light = l.1; noted = n; queued = u; calm = c }
-Leads-whole (Do.Go f p) fs k s n u c l = record { sound = s; seated = l.0; light = l.1; noted = n; queued = u; calm = c }
-Leads-whole (Do.Emit e f p) fs k s n u c l = record { sound = s; seated = l.0; light = l.1; noted = n; queued = u; calm = c }
-Leads-whole (Do.Wait q f p) fs zero s n u c l = tt
-Leads-whole (Do.Wait q f p) fs (suc k) s n u c l = λ i g e. record { sound = s i g e; seated = (l i g e).0; light = (l i g e).1; noted = n i g e; queued = u i g e; calm = c i g e }
-Leads-whole (Do.Call g f p) fs k s n u c l = record { sound = s; seated = l.0; light = l.1; noted = n; queued = u; calm = c }
+    → Leads table (λ g gs q j. Sound g gs q) m fs k → NotedBy m fs k → QueuedBy m fs k → CalmBy m fs k → Placed m fs k → Awaits (pool_after m) → Leads table (λ g gs q j. IsConsistent (record { innermost = g; below = gs; pool = q })) m fs k
+Leads-whole (Do.Done a p) [] k s n u c l w = tt
+Leads-whole (Do.Done a p) (g ∷ gs) k s n u c l w = record { sound = s; seated = l.0; light = l.1; noted = n; queued = u; calm = c; awaits = w }
+Leads-whole (Do.Go f p) fs k s n u c l w = record { sound = s; seated = l.0; light = l.1; noted = n; queued = u; calm = c; awaits = w }
+Leads-whole (Do.Emit e f p) fs k s n u c l w = record { sound = s; seated = l.0; light = l.1; noted = n; queued = u; calm = c; awaits = w }
+Leads-whole (Do.Wait q f p) fs zero s n u c l w = tt
+Leads-whole (Do.Wait q f p) fs (suc k) s n u c l w = λ i g e. record { sound = s i g e; seated = (l i g e).0; light = (l i g e).1; noted = n i g e; queued = u i g e; calm = c i g e; awaits = w }
+Leads-whole (Do.Call g f p) fs k s n u c l w = record { sound = s; seated = l.0; light = l.1; noted = n; queued = u; calm = c; awaits = w }
 
 pub whole-kept : (v : View) (k : ℕ) → IsConsistent v → Leads table (λ g gs q j. IsConsistent (record { innermost = g; below = gs; pool = q })) (step v.innermost v.pool) v.below k
 whole-kept v k h =
-    Leads-whole (step v.innermost v.pool) v.below k (sound-kept v.innermost v.below v.pool k h.sound h.queued.pool.waiting) (noted-kept v.innermost v.below v.pool k h.sound h.noted) (queued-kept v.innermost v.below v.pool k h.sound h.seated h.queued) (calm-kept v.innermost v.below v.pool k h.sound h.noted h.queued.pool.waiting h.calm) (placed-kept v.innermost v.below v.pool k h.sound h.seated h.light)
+    Leads-whole (step v.innermost v.pool) v.below k (sound-kept v.innermost v.below v.pool k h.sound h.queued.pool.waiting) (noted-kept v.innermost v.below v.pool k h.sound h.noted) (queued-kept v.innermost v.below v.pool k h.sound h.seated h.queued) (calm-kept v.innermost v.below v.pool k h.sound h.noted h.queued.pool.waiting h.calm) (placed-kept v.innermost v.below v.pool k h.sound h.seated h.light) (step-awaits v.innermost v.below v.pool h.sound h.noted h.queued.pool h.calm.0 h.awaits)
 
 stays : (v : View) (k : ℕ) → IsConsistent v
     → Leads table (λ g gs q j. Well (most v k) g gs q j × (cost (most v k) g gs q j < cost (most v k) v.innermost v.below v.pool k)) (step v.innermost v.pool) v.below k

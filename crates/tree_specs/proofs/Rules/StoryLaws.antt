@@ -1,5 +1,5 @@
 -- The story by the rules' text, by the table, and by a host.
-use Rattle.std.proofs.Common.{◌≡◌, ◌≢◌, ℕ, ◌+◌, ◌-◌, ◌*◌, ◌≤◌, List, [], length, None, refl, sym, ◌∙◌, ap, subst, arith}
+use Rattle.std.proofs.Common.{true, ◌≡◌, ◌≢◌, ℕ, ◌+◌, ◌-◌, ◌*◌, ◌≤◌, List, [], length, None, refl, sym, ◌∙◌, ap, subst, arith}
 use Rattle.step_machine.specs.Machine.{Outcome, run, walk, followed, is_stray, map_items, items as told_by}
 use Rattle.step_machine.specs.Machine.Outcome.{Ended, Waits, Stray, Short}
 use Rattle.step_machine.specs.Noted.{Noted, with_note}
@@ -22,12 +22,26 @@ use Rattle.tree_specs.specs.Rules.Story.{asked, turns, outcome, story, items}
 use Rattle.tree_specs.specs.Machine.Table.{table, notes}
 use Rattle.tree_specs.specs.Machine.View.{View, begin, outcome_of, strays_of, rest_of}
 use Rattle.tree_specs.specs.Invariants.Consistent.{IsConsistent}
+use Rattle.tree_specs.specs.Invariants.Awaiting.{waits, Awaits}
+use Rattle.tree_specs.specs.declared.object.Obj.{Obj}
+use Rattle.tree_specs.specs.declared.moment.What.{What}
+use Rattle.tree_specs.specs.declared.moment.What.TheVariants.{Immediate, Timer, Descriptor}
 use Rattle.tree_specs.proofs.Tree.Rooted.{forest-none}
 use Rattle.tree_specs.proofs.Turns.Bound.{cost-turns}
 use Rattle.tree_specs.specs.Machine.Meaning.{noted_table, ends_as}
 use Rattle.tree_specs.proofs.Rules.Means.{run-means}
 use Rattle.tree_specs.proofs.Rules.LettingGo.{tells-ended}
 use Rattle.tree_specs.proofs.Rules.Rest.{rest-enough, walk-whole, not-short, ends-asked}
+
+-- nothing waits at the beginning
+pub none-await : (first : ℕ) → Awaits (empty first)
+none-await first = record { events = λ w x h. absurd (none w x h); handlers = λ x e. refl; distinct = tt; watched = λ fd h. cc }
+  where
+    none : (w : What) (x : Obj) → waits w (empty first) x ≡ true → ⊥
+    none Immediate x h = cc
+    none Timer x h = cc
+    none Descriptor x h = cc
+    none _ x h = cc
 
 -- a host at its beginning
 pub begin-whole : (first : ℕ) → 1 ≤ first → IsConsistent (begin first)
@@ -38,6 +52,7 @@ begin-whole first h = record {
   noted = record { pool = record { notes = λ x. refl; timed = λ x t. cc; ready = λ x t. cc }; works = tt };
   queued = record { pool = record { queues = λ x. refl; entries = λ x. refl; waiting = tt; idle = λ q t. cc }; works = tt; frees = (tt, tt) };
   calm = ((λ x. refl), tt);
+  awaits = none-await first;
 }
 
 abbrev item_of : Scene → Item

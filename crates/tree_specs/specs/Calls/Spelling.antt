@@ -117,7 +117,7 @@ spelling Turn = codes "turn" with []
 
 -- the fields that are still to come, and the call that they make
 pub data Reading : Type 0 where
-  IsConsistent : Call → Reading
+  NoMore : Call → Reading
   TakesOwner : (Owner → Reading) → Reading
   TakesObject : (Obj → Reading) → Reading
   TakesNumeral : Numeral → (ℕ → Reading) → Reading
@@ -129,22 +129,22 @@ abbrev pub takes_number : (ℕ → Reading) → Reading
 takes_number next = TakesNumeral Number next
 
 abbrev pub of_object : (Obj → Call) → Reading
-of_object call = TakesObject (λ x. IsConsistent (call x))
+of_object call = TakesObject (λ x. NoMore (call x))
 
 abbrev pub of_owner : (Owner → Call) → Reading
-of_owner call = TakesOwner (λ owner. IsConsistent (call owner))
+of_owner call = TakesOwner (λ owner. NoMore (call owner))
 
 abbrev pub owner_and_object : (Owner → Obj → Call) → Reading
 owner_and_object call = TakesOwner (λ owner. of_object (call owner))
 
 abbrev pub of_descriptor : (ℕ → Call) → Reading
-of_descriptor call = TakesNumeral Number32 (λ fd. IsConsistent (call fd))
+of_descriptor call = TakesNumeral Number32 (λ fd. NoMore (call fd))
 
 abbrev pub object_and_number : (Obj → ℕ → Call) → Reading
-object_and_number call = TakesObject (λ x. takes_number (λ n. IsConsistent (call x n)))
+object_and_number call = TakesObject (λ x. takes_number (λ n. NoMore (call x n)))
 
 abbrev pub object_and_routine : (Obj → ℕ → Call) → Reading
-object_and_routine call = TakesObject (λ x. TakesNumeral Number32 (λ routine. IsConsistent (call x routine)))
+object_and_routine call = TakesObject (λ x. TakesNumeral Number32 (λ routine. NoMore (call x routine)))
 
 pub record Form : Type 0 where
   pub verb : List ℕ
@@ -165,7 +165,7 @@ tree_forms =
     ∷ (codes "reparent" reads TakesOwner (λ from. owner_and_object (λ to x. Reparent from to x)))
     ∷ (codes "reference" reads owner_and_object Reference)
     ∷ (codes "unlink" reads owner_and_object Unlink)
-    ∷ (codes "hook" reads TakesObject (λ x. TakesNumeral Positive32 (λ routine. IsConsistent (Hook x routine))))
+    ∷ (codes "hook" reads TakesObject (λ x. TakesNumeral Positive32 (λ routine. NoMore (Hook x routine))))
     ∷ (codes "unhook" reads of_object Unhook)
     ∷ (codes "rename" reads TakesObject (λ x. EndsInName (λ name. Rename x name)))
     ∷ (codes "resize" reads object_and_number Resize)
@@ -181,11 +181,11 @@ tree_forms =
 abbrev pub event_forms : List Form
 event_forms =
     (codes "immediate" reads of_owner Immediate)
-    ∷ (codes "schedule" reads TakesObject (λ x. TakesNumeral Number32 (λ routine. takes_number (λ user. IsConsistent (Schedule x routine user)))))
+    ∷ (codes "schedule" reads TakesObject (λ x. TakesNumeral Number32 (λ routine. takes_number (λ user. NoMore (Schedule x routine user)))))
     ∷ (codes "unschedule" reads of_object Unschedule)
-    ∷ (codes "timer" reads TakesOwner (λ owner. TakesNumeral Time (λ time. TakesNumeral Positive32 (λ routine. takes_number (λ user. IsConsistent (Timer owner time routine user))))))
-    ∷ (codes "fd" reads TakesOwner (λ owner. TakesNumeral Number32 (λ fd. TakesNumeral FdFlags (λ flags. TakesNumeral Positive32 (λ routine. takes_number (λ user. IsConsistent (Fd owner fd flags routine user)))))))
-    ∷ (codes "flags" reads TakesObject (λ x. TakesNumeral FdFlags (λ flags. IsConsistent (Flags x flags))))
+    ∷ (codes "timer" reads TakesOwner (λ owner. TakesNumeral Time (λ time. TakesNumeral Positive32 (λ routine. takes_number (λ user. NoMore (Timer owner time routine user))))))
+    ∷ (codes "fd" reads TakesOwner (λ owner. TakesNumeral Number32 (λ fd. TakesNumeral FdFlags (λ flags. TakesNumeral Positive32 (λ routine. takes_number (λ user. NoMore (Fd owner fd flags routine user)))))))
+    ∷ (codes "flags" reads TakesObject (λ x. TakesNumeral FdFlags (λ flags. NoMore (Flags x flags))))
     ∷ (codes "getflags" reads of_object Getflags)
     ∷ (codes "autoclose" reads of_object Autoclose)
     ∷ []
@@ -195,7 +195,7 @@ abbrev pub descriptor_forms : List Form
 descriptor_forms =
     (codes "close" reads of_descriptor Close)
     ∷ (codes "accept" reads of_descriptor Accept)
-    ∷ (codes "read" reads TakesNumeral Number32 (λ fd. TakesNumeral Length (λ len. IsConsistent (Read fd len))))
+    ∷ (codes "read" reads TakesNumeral Number32 (λ fd. TakesNumeral Length (λ len. NoMore (Read fd len))))
     ∷ (codes "write" reads TakesNumeral Number32 (λ fd. EndsInBytes (λ bytes. Write fd bytes)))
     ∷ []
 
@@ -203,7 +203,7 @@ descriptor_forms =
 abbrev pub request_forms : List Form
 request_forms =
     (codes "req" reads TakesOwner (λ owner. takes_number (λ size. EndsInName (λ name. Req owner size name))))
-    ∷ (codes "callback" reads TakesObject (λ x. TakesNumeral Number32 (λ routine. takes_number (λ user. IsConsistent (Callback x routine user)))))
+    ∷ (codes "callback" reads TakesObject (λ x. TakesNumeral Number32 (λ routine. takes_number (λ user. NoMore (Callback x routine user)))))
     ∷ (codes "defer" reads of_object Defer)
     ∷ (codes "cleanup" reads object_and_routine Cleanup)
     ∷ (codes "setcancel" reads object_and_routine Setcancel)
@@ -214,7 +214,7 @@ request_forms =
     ∷ (codes "oom" reads of_object Oom)
     ∷ (codes "iserror" reads of_object Iserror)
     ∷ (codes "progress" reads of_object Progress)
-    ∷ (codes "endtime" reads TakesObject (λ x. TakesNumeral Time (λ time. IsConsistent (Endtime x time))))
+    ∷ (codes "endtime" reads TakesObject (λ x. TakesNumeral Time (λ time. NoMore (Endtime x time))))
     ∷ (codes "received" reads of_object Received)
     ∷ []
 
@@ -222,7 +222,7 @@ request_forms =
 abbrev pub queue_forms : List Form
 queue_forms =
     (codes "queue" reads TakesOwner (λ owner. EndsInName (λ name. Queue owner name)))
-    ∷ (codes "enqueue" reads TakesObject (λ queue. TakesObject (λ x. TakesNumeral Positive32 (λ routine. takes_number (λ user. IsConsistent (Enqueue queue x routine user))))))
+    ∷ (codes "enqueue" reads TakesObject (λ queue. TakesObject (λ x. TakesNumeral Positive32 (λ routine. takes_number (λ user. NoMore (Enqueue queue x routine user))))))
     ∷ (codes "start" reads of_object Start)
     ∷ (codes "stop" reads of_object Stop)
     ∷ (codes "length" reads of_object QueueLength)
@@ -232,9 +232,9 @@ queue_forms =
 -- calls on the loop
 abbrev pub loop_forms : List Form
 loop_forms =
-    (codes "pending" reads IsConsistent Pending)
-    ∷ (codes "now" reads IsConsistent Now)
-    ∷ (codes "turn" reads IsConsistent Turn)
+    (codes "pending" reads NoMore Pending)
+    ∷ (codes "now" reads NoMore Now)
+    ∷ (codes "turn" reads NoMore Turn)
     ∷ []
 
 -- all calls

@@ -10,6 +10,7 @@ use Rattle.tree_specs.specs.Tree.Inside.{total}
 use Rattle.tree_specs.specs.Invariants.Sound.{Sound}
 use Rattle.tree_specs.specs.Invariants.Noted.{Noted, AllCalm}
 use Rattle.tree_specs.specs.Invariants.Queued.{Queued}
+use Rattle.tree_specs.specs.Invariants.Awaiting.{Awaits}
 use Rattle.tree_specs.specs.Machine.View.{View}
 use Rattle.tree_specs.specs.Machine.Profiles.{phase_in, Role, Calls, Frees, Turns, Requests, Waits, ARun, ATurn, AHandler, ARequest, APrepared, AServed, ARoutine, profile}
 
@@ -126,3 +127,4 @@ pub record IsConsistent (v : View) : Type 0 where
   pub noted : Noted v.innermost v.pool
   pub queued : Queued v.innermost v.below v.pool
   pub calm : AllCalm (v.innermost ∷ v.below)
+  pub awaits : Awaits v.pool

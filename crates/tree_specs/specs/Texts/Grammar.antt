@@ -17,7 +17,7 @@ use Rattle.tree_specs.specs.Words.Names.{is_name}
 use Rattle.tree_specs.specs.Words.Octets.{is_octets}
 use Rattle.tree_specs.specs.Calls.Spelling.{Numeral, Reading, Form, forms}
 use Rattle.tree_specs.specs.Calls.Spelling.Numeral.{Number32, Positive32, Time, Length}
-use Rattle.tree_specs.specs.Calls.Spelling.Reading.{IsConsistent, TakesOwner, TakesObject, TakesNumeral, EndsInName, EndsInBytes}
+use Rattle.tree_specs.specs.Calls.Spelling.Reading.{NoMore, TakesOwner, TakesObject, TakesNumeral, EndsInName, EndsInBytes}
 use Rattle.tree_specs.specs.Words.Objects.{numbered_owner}
 use Rattle.tree_specs.specs.Words.Ranges.{is_in}
 use Rattle.tree_specs.specs.Words.Wants.{is_wants}
@@ -99,7 +99,7 @@ with_field reader words next = do
 
 -- the call that the words begin with, by what it takes, and the words that it leaves; a name is the last word, and so are bytes
 abbrev pub taken : Reading → List (List ℕ) → Option (Call × List (List ℕ))
-taken (IsConsistent call) words = Some (call, words)
+taken (NoMore call) words = Some (call, words)
 taken (TakesOwner next) words = with_field owner_of words (λ owner more. taken (next owner) more)
 taken (TakesObject next) words = with_field object_of words (λ x more. taken (next x) more)
 taken (TakesNumeral kind next) words = with_field (numeral_of kind) words (λ n more. taken (next n) more)

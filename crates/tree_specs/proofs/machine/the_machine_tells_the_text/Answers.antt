@@ -2,7 +2,7 @@ use Rattle.std.proofs.Common.{None}
 use Rattle.step_machine.specs.Noted.{with_note}
 use Rattle.tree_specs.specs.declared.frame.CallFrame.TheVariants.{Asking}
 use Rattle.tree_specs.specs.declared.frame.Frame.TheVariants.{Call, Free, Turn, Outside, Request}
-use Rattle.tree_specs.specs.declared.frame.RequestFrame.TheVariants.{Finishing, Receiving, Cancelling, Notifying}
+use Rattle.tree_specs.specs.declared.frame.RequestFrame.TheVariants.{Finishing, Receiving, Cancelling, Notifying, Vacating, Triggering}
 use Rattle.tree_specs.specs.declared.frame.FreeFrame.TheVariants.{Beginning, Unlinking, Looping}
 use Rattle.tree_specs.specs.declared.frame.Purpose.TheVariants.{Emptying}
 use Rattle.tree_specs.specs.declared.frame.OutsideFrame.TheVariants.{Reaching}
@@ -37,6 +37,12 @@ returns-clause-receive c = λ n x p is h. not-short-equal _ _ h (run-means n (wi
 
 pub returns-clause-cancel : goal.returns-clause-cancel
 returns-clause-cancel c = λ n x p is h. not-short-equal _ _ h (run-means n (with_note None (Request (Cancelling x))) p is)
+
+pub returns-clause-vacate : goal.returns-clause-vacate
+returns-clause-vacate c = λ n q p is h. not-short-equal _ _ h (run-means n (with_note None (Request (Vacating q))) p is)
+
+pub returns-clause-trigger : goal.returns-clause-trigger
+returns-clause-trigger c = λ n q p is h. not-short-equal _ _ h (run-means n (with_note None (Request (Triggering q))) p is)
 
 pub returns-clause-enough : goal.returns-clause-enough
 returns-clause-enough c = λ v is h. innermost-enough v is h.sound h.noted h.queued h.seated h.light
