@@ -3,7 +3,8 @@
 # bench/schedules.sh says which schedules there are.
 # It prints the last two lines of the transcript, how many lines of the schedule were replayed in a second of
 # processor time, and the greatest resident memory where /usr/bin/time is there to tell it.
-# TVHOST names a program that is built already. Without it the program is built from the sources that are here.
+# TVHOST names a program that is built already. Without it the program is proved and built from the sources that are
+# here.
 export LC_ALL=C
 here=$(cd -- "$(dirname -- "${BASH_SOURCE[0]}")/.." && pwd) || exit
 
@@ -12,7 +13,7 @@ trap 'rm -rf "$folder"' EXIT
 "$here/bench/schedules.sh" "$1" "${2:-20000}" >"$folder/schedule" || exit
 
 program=${TVHOST:-$here/crates/tvhost/out/tvhost}
-[[ -n $TVHOST ]] || "$here/tvhost" replay </dev/null >/dev/null 2>&1
+[[ -n $TVHOST ]] || "$here/tvhost" prove || exit
 
 replay=("$program" replay)
 [[ -x /usr/bin/time ]] && replay=(/usr/bin/time -f %M -o "$folder/memory" "$program" replay)

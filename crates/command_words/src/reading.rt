@@ -74,7 +74,7 @@ fn top<'a>(alloc: Global) -> Result<clap::Command<'a>, AllocError>
     command(
         alloc,
         "tvhost",
-        "A tree of owned objects, as Samba's talloc has it",
+        "Owned objects and an event loop, as Samba's talloc and tevent have them, replayed from a schedule",
     )
     .no_binary_name(true)
     .arg_required_else_help(true)

@@ -13,7 +13,8 @@ fn said(rt: &HostRuntime, texts: &[&str]) -> Result<String, Fail> {
     }
 }
 
-const HELP: &str = "A tree of owned objects, as Samba's talloc has it
+const HELP: &str =
+    "Owned objects and an event loop, as Samba's talloc and tevent have them, replayed from a schedule
 
 Usage: tvhost <COMMAND>
 

@@ -6,7 +6,7 @@ use text_forms::FormFault;
 use tree_specs::Mode;
 
 /// What the first line of a schedule says of the lines that follow, the line without its LF. Only the
-/// pool's header is taken as yet, which is `tv schedule 1 pool`: NoForm exactly where the line is
+/// pool's header is taken, which is `tv schedule 1 pool`: NoForm exactly where the line is
 /// another one. It takes no memory, so the fault is never Memory.
 #[tactic(auto, unfolding(tree_specs::specs::Texts::Schedule::mode_of))]
 pub fn read_header(line: &[u8]) -> Result<Mode, FormFault>
