@@ -12,3 +12,4 @@ pub mod Resting
 pub mod Begins
 pub mod TextRuns
 pub mod Counting
+pub mod Meanwhile

@@ -1,5 +1,5 @@
 -- What the code calls a move of a caller, a reply that takes no memory, and a refusal.
-use Rattle.std.specs.Prelude.{◌≡◌, Bool, true, Option, Some, None}
+use Rattle.std.specs.Prelude.{◌≡◌, Bool, true, false, Option, Some, None}
 use Rattle.step_machine.specs.Machine.{Move}
 use Rattle.step_machine.specs.Machine.{Move as Do}
 use Rattle.tree_specs.specs.declared.reply.Reply.{Reply}
@@ -69,6 +69,39 @@ ReadyFor m ready = ready ≡ true
 abbrev pub report_of : Call → Option Owner
 report_of (call.Report o) = Some o
 report_of c = None
+
+-- a call that the caller waits for, that is told before its reply, or that has a reply of its own
+abbrev pub is_work : Call → Bool
+is_work (call.Free x) = true
+is_work (call.Freekids x) = true
+is_work (call.Unlink o x) = true
+is_work (call.Steal o x) = true
+is_work (call.Move o x) = true
+is_work (call.Report o) = true
+is_work (call.Close fd) = true
+is_work (call.Accept fd) = true
+is_work (call.Read fd len) = true
+is_work (call.Write fd bytes) = true
+is_work call.Now = true
+is_work call.Turn = true
+is_work (call.Cancel x) = true
+is_work (call.Done x) = true
+is_work (call.Oom x) = true
+is_work (call.Error x error) = true
+is_work (call.Received x) = true
+is_work c = false
+
+-- a call that makes an object
+abbrev pub is_making : Call → Bool
+is_making (call.New o size name) = true
+is_making (call.Reference o x) = true
+is_making (call.Immediate o) = true
+is_making (call.Timer o time routine user) = true
+is_making (call.Fd o fd flags routine user) = true
+is_making (call.Req o size name) = true
+is_making (call.Queue o name) = true
+is_making (call.Enqueue q x routine user) = true
+is_making c = false
 
 -- the call that an input is to do
 abbrev pub call_of : Input → Option Call

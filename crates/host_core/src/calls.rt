@@ -1,5 +1,5 @@
 //! The steps of a caller: a call is done, or its reply is there.
-ghost use Rattle.std.specs.Prelude.{◌≡◌, Bool, None, true};
+ghost use Rattle.std.specs.Prelude.{◌≡◌, Bool, None, false, if◌then◌else◌, true};
 ghost use Rattle.tree_specs.specs.Calls.Refusals.{tests, refusals};
 ghost use Rattle.tree_specs.specs.Calls.Passed.{AllPassed};
 ghost use Rattle.tree_specs.specs.Calls.Plans.{plan, places as places_of, warns as worth_a_warning, replies, failure_reply, progress_reply, fails};
@@ -7,6 +7,7 @@ ghost use Rattle.tree_specs.specs.declared.call.Call.TheVariants.{Free as FreeOf
 ghost use Rattle.tree_specs.specs.declared.question.Ask.{Ask as AskData};
 ghost use Rattle.host_core.specs.declared.motion.Motion.TheVariants.{Replies, Works};
 ghost use Rattle.tree_specs.specs.declared.frame.Errand.TheVariants.{Finish as FinishOf};
+ghost use Rattle.tree_specs.specs.Events.Queues.{runs};
 ghost use Rattle.tree_specs.specs.Tree.Pool.{Pool as PoolData};
 ghost use Rattle.host_core.specs.Requests.{IsRelease, IsReleaseBy, QueuesAreKept};
 ghost use Rattle.host_core.specs.declared.short_reply.ShortReply.TheVariants.{Number as NumberReply};
@@ -14,7 +15,7 @@ ghost use Rattle.tree_specs.specs.Rules.Answers.{freed_reply};
 ghost use Rattle.tree_specs.specs.Machine.Table.{call_step, plan_step};
 ghost use Rattle.tree_links.specs.Links.{MayPlace};
 ghost use Rattle.object_pool.specs.Objects.{RefsMayGo};
-ghost use Rattle.host_core.specs.Moves.{move_of, reply_of, report_of, ReadyFor};
+ghost use Rattle.host_core.specs.Moves.{is_making, is_work, move_of, reply_of, report_of, ReadyFor};
 
 use crate::motion::Motion;
 use crate::refusals::{check, check_free};
@@ -88,6 +89,13 @@ fn number(n: u64) -> Motion
     Motion::Replies(ShortReply::Number(n))
 }
 
+/// 1 where a queue runs, and else 0.
+fn running(queue: Obj, pool: &ObjectPool) -> Motion
+    ensures { result ≡ Replies (NumberReply (if runs pool.now.pool.queues queue then 1 else 0)) }
+{
+    number(u64::from(pool.queue_running(queue).unwrap_or(false)))
+}
+
 /// How a request has failed: 0 where it is done, and else the number of its state and that of its failure.
 fn failure(note: Option<Note>) -> Motion
     ensures moved { (q : AskData) (p : PoolData) → move_of q result p ≡ plan_step q (replies (failure_reply note)) p }
@@ -144,9 +152,12 @@ pub fn release(child: Obj, pool: &ObjectPool) -> Option<Motion>
     }
 }
 
-/// Does a call that isn't refused, and takes no memory for its reply.
+/// Does a call that sets something which is kept of an object, or tells something.
+#[inline(always)]
 #[tactic(auto, using(crate::proofs::Allowed::may_go, crate::proofs::Allowed::may_go_itself))]
-fn effect(call: Call, pool: &mut ObjectPool) -> Motion
+fn set_or_tell(call: Call, pool: &mut ObjectPool) -> Motion
+    requires at_once { is_work call ≡ false }
+    requires same_objects { is_making call ≡ false }
     requires ready { pool.old.ready ≡ true }
     requires allowed { AllPassed pool.old.pool (tests call) }
     requires no_report { report_of call ≡ None }
@@ -157,66 +168,14 @@ fn effect(call: Call, pool: &mut ObjectPool) -> Motion
     ensures moved { (q : AskData) → move_of q result pool.new.pool ≡ plan_step q (plan pool.old.pool call) pool.old.pool }
 {
     match call {
-        Call::New { owner, size, name } => {
-            return number(pool.add(Kind::Plain, name, size, owner).0);
-        }
-        Call::Reference { owner, x } => return number(pool.refer(x, owner).0),
-        Call::Free { x } => return free(x, pool),
-        Call::Freekids { x } => return Motion::Empties(x),
-        Call::Unlink { owner, x } => return Motion::Unlinks(owner, x),
-        Call::Steal { owner, x } => return give(x, owner, ShortReply::Ok, pool),
-        Call::Move { owner, x } => return give(x, owner, ShortReply::Number(x.0), pool),
         Call::Parent { x } => return number(pool.parent(x).unwrap_or(Owner::Root).number()),
         Call::Total { owner } => return number(pool.total(owner)),
         Call::Count { owner } => return number(pool.count(owner)),
         Call::Sum { owner } => return number(pool.sum(owner)),
-        Call::Report { .. } => unreachable!(),
-        Call::Immediate { owner } => {
-            let name = Name::fixed(b"immediate");
-            return number(pool.add(Kind::Immediate, name, 0, owner).0);
-        }
-        Call::Timer {
-            owner,
-            time,
-            routine,
-            user,
-        } => return number(pool.add_timer(owner, time, Handler { routine, user }).0),
-        Call::Fd {
-            owner,
-            fd,
-            flags,
-            routine,
-            user,
-        } => {
-            let handler = Handler { routine, user };
-            return number(pool.add_descriptor(owner, fd, flags, handler).0);
-        }
         Call::Getflags { x } => return number(u64::from(pool.flags(x).unwrap_or(0))),
-        Call::Close { fd } => return close(fd, pool),
-        Call::Accept { fd } => return Motion::Asks(Ask::Accept(fd)),
-        Call::Read { fd, len } => return Motion::Asks(Ask::Read(fd, len)),
-        Call::Write { fd, bytes } => return Motion::Asks(Ask::Write(fd, bytes)),
-        Call::Now => return Motion::Asks(Ask::Clock),
-        Call::Turn => return Motion::Turns,
         Call::Pending => return number(pool.pending()),
-        Call::Req { owner, size, name } => return number(pool.add_request(owner, size, name).0),
-        Call::Queue { owner, name } => return number(pool.add_queue(owner, name).0),
-        Call::Enqueue {
-            queue,
-            x,
-            routine,
-            user,
-        } => return number(pool.add_entry(queue, x, Handler { routine, user }).0),
         Call::Length { queue } => return number(pool.queue_length(queue)),
-        Call::Running { queue } => {
-            let runs = pool.queue_running(queue).unwrap_or(false);
-            return number(u64::from(runs));
-        }
-        Call::Cancel { x } => return Motion::Works(Errand::Cancel, x),
-        Call::Done { x } => return finish(x, State::Done),
-        Call::Oom { x } => return finish(x, State::NoMemory),
-        Call::Error { x, error } => return fail(x, error, pool),
-        Call::Received { x } => return Motion::Works(Errand::Receive, x),
+        Call::Running { queue } => return running(queue, pool),
         Call::Iserror { x } => return failure(pool.note(x)),
         Call::Progress { x } => return progress(pool.note(x)),
         Call::Callback { x, routine, user } => pool.set_callback(x, routine, user),
@@ -237,8 +196,89 @@ fn effect(call: Call, pool: &mut ObjectPool) -> Motion
         Call::Rename { x, name } => pool.rename(x, name),
         Call::Resize { x, size } => pool.resize(x, size),
         Call::Limit { x, max } => pool.limit(x, max),
+        _ => unreachable!(),
     }
     Motion::Replies(ShortReply::Ok)
+}
+
+/// Does a call that is over at once. Where it makes an object, this has the number that is the reply.
+#[inline(always)]
+#[tactic(auto, using(crate::proofs::Allowed::may_go, crate::proofs::Allowed::may_go_itself))]
+fn do_at_once(call: Call, pool: &mut ObjectPool) -> Motion
+    requires at_once { is_work call ≡ false }
+    requires ready { pool.old.ready ≡ true }
+    requires allowed { AllPassed pool.old.pool (tests call) }
+    requires no_report { report_of call ≡ None }
+    requires reference { RefsMayGo pool.old.pool.rows }
+    requires queues { QueuesAreKept pool.old.pool }
+    ensures goes { ReadyFor result pool.new.ready }
+    ensures works { pool.new.works ≡ pool.old.works }
+    ensures moved { (q : AskData) → move_of q result pool.new.pool ≡ plan_step q (plan pool.old.pool call) pool.old.pool }
+{
+    let made = match call {
+        Call::New { owner, size, name } => pool.add(Kind::Plain, name, size, owner),
+        Call::Reference { owner, x } => pool.refer(x, owner),
+        Call::Immediate { owner } => {
+            pool.add(Kind::Immediate, Name::fixed(b"immediate"), 0, owner)
+        }
+        Call::Timer {
+            owner,
+            time,
+            routine,
+            user,
+        } => pool.add_timer(owner, time, Handler { routine, user }),
+        Call::Fd {
+            owner,
+            fd,
+            flags,
+            routine,
+            user,
+        } => pool.add_descriptor(owner, fd, flags, Handler { routine, user }),
+        Call::Req { owner, size, name } => pool.add_request(owner, size, name),
+        Call::Queue { owner, name } => pool.add_queue(owner, name),
+        Call::Enqueue {
+            queue,
+            x,
+            routine,
+            user,
+        } => pool.add_entry(queue, x, Handler { routine, user }),
+        other => return set_or_tell(other, pool),
+    };
+    number(made.0)
+}
+
+/// Does a call that isn't refused, and takes no memory for its reply: for what the caller waits for the work begins.
+#[tactic(auto, using(crate::proofs::Allowed::may_go, crate::proofs::Allowed::may_go_itself))]
+fn effect(call: Call, pool: &mut ObjectPool) -> Motion
+    requires ready { pool.old.ready ≡ true }
+    requires allowed { AllPassed pool.old.pool (tests call) }
+    requires no_report { report_of call ≡ None }
+    requires reference { RefsMayGo pool.old.pool.rows }
+    requires queues { QueuesAreKept pool.old.pool }
+    ensures goes { ReadyFor result pool.new.ready }
+    ensures works { pool.new.works ≡ pool.old.works }
+    ensures moved { (q : AskData) → move_of q result pool.new.pool ≡ plan_step q (plan pool.old.pool call) pool.old.pool }
+{
+    match call {
+        Call::Free { x } => free(x, pool),
+        Call::Freekids { x } => Motion::Empties(x),
+        Call::Unlink { owner, x } => Motion::Unlinks(owner, x),
+        Call::Steal { owner, x } => give(x, owner, ShortReply::Ok, pool),
+        Call::Move { owner, x } => give(x, owner, ShortReply::Number(x.0), pool),
+        Call::Report { .. } => unreachable!(),
+        Call::Close { fd } => close(fd, pool),
+        Call::Accept { fd } => Motion::Asks(Ask::Accept(fd)),
+        Call::Read { fd, len } => Motion::Asks(Ask::Read(fd, len)),
+        Call::Write { fd, bytes } => Motion::Asks(Ask::Write(fd, bytes)),
+        Call::Now => Motion::Asks(Ask::Clock),
+        Call::Turn => Motion::Turns,
+        Call::Cancel { x } => Motion::Works(Errand::Cancel, x),
+        Call::Done { x } => finish(x, State::Done),
+        Call::Oom { x } => finish(x, State::NoMemory),
+        Call::Error { x, error } => fail(x, error, pool),
+        Call::Received { x } => Motion::Works(Errand::Receive, x),
+        other => do_at_once(other, pool),
+    }
 }
 
 /// Does a call: the first refusal that applies is the reply, otherwise the effect comes.

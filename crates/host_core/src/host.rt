@@ -92,8 +92,14 @@ impl Host {
     ghost use Rattle.tree_specs.specs.declared.object.Owner.TheVariants.{Of as At};
     ghost use Rattle.std.specs.Option.{option_map};
     ghost use Rattle.tree_specs.specs.Tree.Pool.{row_of, is_row, is_inside as inside};
-    ghost use Rattle.tree_specs.specs.Invariants.Sound.{Sound};
+    ghost use Rattle.tree_specs.specs.declared.object.Obj.{Obj as ObjData};
+    ghost use Rattle.tree_specs.specs.Calls.Refusals.{is_queue_row, is_request_row};
+    ghost use Rattle.tree_specs.specs.Events.Queues.{has_queue, is_entered};
+    ghost use Rattle.tree_specs.specs.Events.Requests.{is_noted};
+    ghost use Rattle.tree_specs.specs.Invariants.Awaiting.{Awaits};
     ghost use Rattle.tree_specs.specs.Invariants.Consistent.{IsConsistent};
+    ghost use Rattle.tree_specs.specs.Invariants.Queued.{AreQueued, is_live_entry};
+    ghost use Rattle.tree_specs.specs.Invariants.Sound.{Sound};
     ghost use Rattle.std.specs.Prelude.{ℕ, [], ◌∷◌};
     ghost use Rattle.tree_specs.specs.Calls.Refusals.{is_open};
     ghost use Rattle.tree_specs.specs.Events.Rotation.{wanted_of};
@@ -170,9 +176,20 @@ impl Host {
         // plain object or request, and each dying object is in exactly one open free.
         ensures sound { Sound self.now.innermost self.now.below self.now.pool }
 
-        // And besides: what waits is a live object of its kind; what is watched is open, and watched once; each entry that
-        // isn't dying is a child of its request and stands once in its queue; and what is kept of requests and queues is kept
-        // of each of them and of nothing else.
+        // What waits is a live object of its kind, and an event among it has a handler; what is watched is open, and
+        // watched by one event.
+        ensures waiting { Awaits self.now.pool }
+
+        // A note is kept of each request, and of nothing else; so it is of each queue whether it runs.
+        ensures notes { (x : ObjData) → is_noted self.now.pool.requests x ≡ is_request_row (row_of self.now.pool.rows x) }
+        ensures queues { (x : ObjData) → has_queue self.now.pool.queues x ≡ is_queue_row (row_of self.now.pool.rows x) }
+
+        // An entry stands in a queue exactly where it is live and isn't dying. What stands there is a child of its
+        // request.
+        ensures entries { (x : ObjData) → is_entered self.now.pool.queues x ≡ is_live_entry (row_of self.now.pool.rows x) }
+        ensures queued { AreQueued self.now.pool }
+
+        // All of this together, and what the open works need of it: the premise of the laws on any moment.
         ensures whole { IsConsistent self.now }
 
         // At every moment the story still to come is that of the rules' text.

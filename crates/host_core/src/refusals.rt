@@ -8,6 +8,13 @@ ghost use Rattle.tree_specs.specs.Tree.Sums.{overhead};
 use crate::checks::{check_open, check_owner, check_row, check_size, check_three, check_two};
 use crate::subject::Subject;
 use object_pool::ObjectPool;
+use tree_specs::Call::{
+    Accept, Autoclose, Callback, Cancel, Cleanup, Close, Count, Defer, Done, Endtime, Enqueue,
+    Error, Fd, Flags, Free, Freekids, Getflags, Hook, Immediate, Iserror, Length, Limit, Move, New,
+    Now, Oom, Parent, Pending, Post, Progress, Queue, Read, Received, Reference, Rename, Reparent,
+    Report, Req, Resize, Running, Schedule, Setcancel, Start, Steal, Stop, Sum, Timer, Total, Turn,
+    Unhook, Unlink, Unschedule, Write,
+};
 use tree_specs::Test::{
     Fits, HasNumber, HasRoom, IsDescriptor, IsFinished, IsImmediate, IsInProgress, IsInterested,
     IsMovable, IsNotDoomed, IsNotDying, IsNotGoing, IsNotInside, IsNotRunning, IsObject, IsOpen,
@@ -115,12 +122,19 @@ fn check_watching(owner: Owner, fd: u32, pool: &ObjectPool) -> Result<(), Refusa
     check_two(HasRoom(1), Fits(owner, OVERHEAD), &objects)
 }
 
+/// A queue that isn't being freed.
+fn check_lasting_queue(queue: Obj, pool: &ObjectPool) -> Result<(), Refusal>
+    ensures { result ≡ checked (refused pool.now.pool (Test.IsObject queue ∷ Test.IsQueue queue ∷ Test.IsNotGoing queue ∷ [])) }
+{
+    check_object(queue, IsQueue(queue), IsNotGoing(queue), pool)
+}
+
 /// A request comes into a queue. The tests of the queue come first.
 #[tactic(auto, using(crate::proofs::Allowed::refused_three, crate::proofs::Allowed::allowed_three))]
 fn check_enqueue(queue: Obj, x: Obj, pool: &ObjectPool) -> Result<(), Refusal>
     ensures { result ≡ checked (refused pool.now.pool (Test.IsObject queue ∷ Test.IsQueue queue ∷ Test.IsNotGoing queue ∷ Test.IsObject x ∷ Test.IsRequest x ∷ Test.IsNotDying x ∷ Test.HasRoom 1 ∷ Test.Fits (At x) overhead ∷ [])) }
 {
-    check_object(queue, IsQueue(queue), IsNotGoing(queue), pool)?;
+    check_lasting_queue(queue, pool)?;
     let objects = Subject::object(x, pool);
     check_three(IsObject(x), IsRequest(x), IsNotDying(x), &objects)?;
     check_two(HasRoom(1), Fits(Owner::Of(x), OVERHEAD), &objects)
@@ -130,7 +144,47 @@ fn check_enqueue(queue: Obj, x: Obj, pool: &ObjectPool) -> Result<(), Refusal>
 pub fn check_free(x: Obj, pool: &ObjectPool) -> Result<(), Refusal>
     ensures { result ≡ checked (refusals pool.now.pool (FreeOf x)) }
 {
-    check_two(IsObject(x), IsUnheld(x), &Subject::object(x, pool))
+    check_known(x, IsUnheld(x), pool)
+}
+
+/// A new object of 96 bytes without its name: an event, or a queue.
+fn check_small(owner: Owner, pool: &ObjectPool) -> Result<(), Refusal>
+    ensures { result ≡ checked (refused pool.now.pool (Test.IsOwner owner ∷ Test.HasRoom 1 ∷ Test.Fits owner overhead ∷ [])) }
+{
+    check_three(
+        IsOwner(owner),
+        HasRoom(1),
+        Fits(owner, OVERHEAD),
+        &Subject::none(pool),
+    )
+}
+
+/// What is asked of an object, once it is there: one more test.
+fn check_known(x: Obj, second: Test, pool: &ObjectPool) -> Result<(), Refusal>
+    ensures { result ≡ checked (refused pool.now.pool (Test.IsObject x ∷ second ∷ [])) }
+{
+    check_two(IsObject(x), second, &Subject::object(x, pool))
+}
+
+/// An immediate that is to come, or to come no more.
+fn check_immediate(x: Obj, pool: &ObjectPool) -> Result<(), Refusal>
+    ensures { result ≡ checked (refused pool.now.pool (Test.IsObject x ∷ Test.IsImmediate x ∷ Test.IsNotDoomed x ∷ [])) }
+{
+    check_object(x, IsImmediate(x), IsNotDoomed(x), pool)
+}
+
+/// An event on a descriptor, of which something is set or told.
+fn check_watcher(x: Obj, pool: &ObjectPool) -> Result<(), Refusal>
+    ensures { result ≡ checked (refused pool.now.pool (Test.IsObject x ∷ Test.IsDescriptor x ∷ Test.IsNotDoomed x ∷ [])) }
+{
+    check_object(x, IsDescriptor(x), IsNotDoomed(x), pool)
+}
+
+/// A request, in whatever state it is.
+fn check_request(x: Obj, pool: &ObjectPool) -> Result<(), Refusal>
+    ensures { result ≡ checked (refused pool.now.pool (Test.IsObject x ∷ Test.IsRequest x ∷ [])) }
+{
+    check_known(x, IsRequest(x), pool)
 }
 
 /// Whether a call is allowed, and else its first refusal.
@@ -138,66 +192,37 @@ pub fn check(call: &Call, pool: &ObjectPool) -> Result<(), Refusal>
     ensures { result ≡ checked (refusals pool.now.pool call.now) }
 {
     match *call {
-        Call::New { owner, size, .. } => check_new(owner, size, pool),
-        Call::Free { x } => check_free(x, pool),
-        Call::Steal { owner, x } | Call::Move { owner, x } => check_placing(owner, x, pool),
-        Call::Reparent { from, to, x } => check_reparent(from, to, x, pool),
-        Call::Reference { owner, x } => check_reference(owner, x, pool),
-        Call::Unlink { owner, x } => check_object(x, IsOwner(owner), IsInterested(owner, x), pool),
-        Call::Hook { x, .. } | Call::Unhook { x } => {
-            check_object(x, IsPlain(x), IsNotDying(x), pool)
+        New { owner, size, .. } => check_new(owner, size, pool),
+        Free { x } => check_free(x, pool),
+        Steal { owner, x } | Move { owner, x } => check_placing(owner, x, pool),
+        Reparent { from, to, x } => check_reparent(from, to, x, pool),
+        Reference { owner, x } => check_reference(owner, x, pool),
+        Unlink { owner, x } => check_object(x, IsOwner(owner), IsInterested(owner, x), pool),
+        Hook { x, .. } | Unhook { x } => check_object(x, IsPlain(x), IsNotDying(x), pool),
+        Resize { x, size } => check_resize(x, size, pool),
+        Immediate { owner } | Timer { owner, .. } | Queue { owner, .. } => check_small(owner, pool),
+        Schedule { x, .. } | Unschedule { x } => check_immediate(x, pool),
+        Fd { owner, fd, .. } => check_watching(owner, fd, pool),
+        Flags { x, .. } | Getflags { x } | Autoclose { x } => check_watcher(x, pool),
+        Close { fd } => check_two(IsOpen(fd), IsUnwatched(fd), &Subject::none(pool)),
+        Accept { fd } | Read { fd, .. } | Write { fd, .. } => check_open(fd, pool),
+        Req { owner, size, .. } => check_new_request(owner, size, pool),
+        Callback { x, .. } | Defer { x } | Cleanup { x, .. } | Setcancel { x, .. } => {
+            check_object(x, IsRequest(x), IsNotDying(x), pool)
         }
-        Call::Resize { x, size } => check_resize(x, size, pool),
-        Call::Immediate { owner } | Call::Timer { owner, .. } | Call::Queue { owner, .. } => {
-            check_three(
-                IsOwner(owner),
-                HasRoom(1),
-                Fits(owner, OVERHEAD),
-                &Subject::none(pool),
-            )
+        Post { x } => check_object(x, IsRequest(x), IsFinished(x), pool),
+        Done { x } | Oom { x } => check_object(x, IsRequest(x), IsInProgress(x), pool),
+        Error { x, error } => check_object(x, IsRequest(x), MayFail(x, error), pool),
+        Endtime { x, .. } => check_endtime(x, pool),
+        Cancel { x } | Iserror { x } | Progress { x } | Received { x } => check_request(x, pool),
+        Enqueue { queue, x, .. } => check_enqueue(queue, x, pool),
+        Start { queue } | Stop { queue } => check_lasting_queue(queue, pool),
+        Length { queue } | Running { queue } => check_known(queue, IsQueue(queue), pool),
+        Pending | Now | Turn => Ok(()),
+        Parent { x } => check_known(x, IsNotDying(x), pool),
+        Freekids { x } | Rename { x, .. } | Limit { x, .. } => check_row(x, pool.row(x)),
+        Total { owner } | Count { owner } | Sum { owner } | Report { owner } => {
+            check_owner(owner, pool)
         }
-        Call::Schedule { x, .. } | Call::Unschedule { x } => {
-            check_object(x, IsImmediate(x), IsNotDoomed(x), pool)
-        }
-        Call::Fd { owner, fd, .. } => check_watching(owner, fd, pool),
-        Call::Flags { x, .. } | Call::Getflags { x } | Call::Autoclose { x } => {
-            check_object(x, IsDescriptor(x), IsNotDoomed(x), pool)
-        }
-        Call::Close { fd } => check_two(IsOpen(fd), IsUnwatched(fd), &Subject::none(pool)),
-        Call::Accept { fd } | Call::Read { fd, .. } | Call::Write { fd, .. } => check_open(
-            fd, pool,
-        ),
-        Call::Req { owner, size, .. } => check_new_request(owner, size, pool),
-        Call::Callback { x, .. }
-        | Call::Defer { x }
-        | Call::Cleanup { x, .. }
-        | Call::Setcancel { x, .. } => check_object(x, IsRequest(x), IsNotDying(x), pool),
-        Call::Post { x } => check_object(x, IsRequest(x), IsFinished(x), pool),
-        Call::Done { x } | Call::Oom { x } => check_object(x, IsRequest(x), IsInProgress(x), pool),
-        Call::Error { x, error } => check_object(x, IsRequest(x), MayFail(x, error), pool),
-        Call::Endtime { x, .. } => check_endtime(x, pool),
-        Call::Cancel { x } | Call::Iserror { x } | Call::Progress { x } | Call::Received { x } => {
-            check_two(IsObject(x), IsRequest(x), &Subject::object(x, pool))
-        }
-        Call::Enqueue { queue, x, .. } => check_enqueue(queue, x, pool),
-        Call::Start { queue } | Call::Stop { queue } => {
-            check_object(queue, IsQueue(queue), IsNotGoing(queue), pool)
-        }
-        Call::Length { queue } | Call::Running { queue } => {
-            check_two(
-                IsObject(queue),
-                IsQueue(queue),
-                &Subject::object(queue, pool),
-            )
-        }
-        Call::Pending | Call::Now | Call::Turn => Ok(()),
-        Call::Parent { x } => check_two(IsObject(x), IsNotDying(x), &Subject::object(x, pool)),
-        Call::Freekids { x } | Call::Rename { x, .. } | Call::Limit { x, .. } => {
-            check_row(x, pool.row(x))
-        }
-        Call::Total { owner }
-        | Call::Count { owner }
-        | Call::Sum { owner }
-        | Call::Report { owner } => check_owner(owner, pool),
     }
 }

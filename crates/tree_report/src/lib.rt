@@ -2,10 +2,6 @@
 #![tactic(auto)]
 
 mod listing;
-#[cfg(test)]
-mod tests;
-mod writing;
 
 pub use listing::rows;
 pub use tree_links::{count, total};
-pub use writing::report;

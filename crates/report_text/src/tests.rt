@@ -9,6 +9,7 @@ use std::marker::Model;
 use std::process::Abort;
 use std::test::Fail;
 use tree_links::{NewRow, Tree};
+use tree_report::{count, total};
 use tree_specs::{Kind, Memory, Name, Obj, Owner};
 
 // A tree, and the references among its rows.

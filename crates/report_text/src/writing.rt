@@ -4,18 +4,18 @@ ghost use Rattle.references.specs.Rows.{AreRefsOf};
 ghost use Rattle.tree_specs.specs.Tree.Reports.{report as report_of};
 ghost use Rattle.tree_specs.specs.Texts.Text.{rows_text};
 ghost use Rattle.outside.specs.Causes.{Counts};
-ghost use Rattle.tree_report.specs.Written.{Puts};
+ghost use Rattle.report_text.specs.Written.{Puts};
 
-use crate::listing::rows;
 use outside::{Done, PutError, Sink, put_all};
 use references::Refs;
 use std::alloc::Global;
 use text_forms::write_report_rows;
 use tree_links::Tree;
+use tree_report::rows;
 use tree_specs::{Memory, Owner};
 
 /// The lines of a report.
-fn report_text(alloc: Global, tree: &Tree, refs: &Refs, from: Owner) -> Result<Vec<u8>, Memory>
+fn report_lines(alloc: Global, tree: &Tree, refs: &Refs, from: Owner) -> Result<Vec<u8>, Memory>
     requires { AreRefsOf refs.now.pairs tree.now.rows }
     ensures { IfOk result (λ text. text.items ≡ rows_text (report_of tree.now.rows from)) }
 {
@@ -41,7 +41,7 @@ pub fn report<K: Sink>(
     ensures bytes { Puts (K.held out.old) (K.held out.new) result (rows_text (report_of tree.now.rows from)) }
     ensures cause { Counts (K.faults out.old) (K.faults out.new) (result ≡ Ok Done.Failed) }
 {
-    let text = report_text(alloc, tree, refs, from)?;
+    let text = report_lines(alloc, tree, refs, from)?;
     match put_all(out, &text) {
         Ok(()) => Ok(Done::Done),
         Err(PutError::Write) => Ok(Done::Failed),
