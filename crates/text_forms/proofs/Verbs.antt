@@ -1,26 +1,118 @@
 -- A verb is found by its word, and its fields are read one after the other: this is the call that the grammar gives.
-use Rattle.std.proofs.Common.{◌≡◌, ℕ, List, [], ◌∷◌, ◌++◌, bytes_eq, Option, Some, None, Err, refl, ap, ◌∙◌}
+use Rattle.std.proofs.Common.{◌≡◌, ℕ, Bool, true, false, cond, List, [], ◌∷◌, length, bytes_eq, Option, Some, None, Err, refl, sym, ap, ◌∙◌}
+use Rattle.std.specs.List.{filter}
+use Rattle.std.proofs.lemmas.Slice.Eq.{bytes_eq-Decides}
 use Rattle.tree_specs.specs.declared.call.Call.{Call}
-use Rattle.tree_specs.specs.Calls.Spelling.{Reading, Form, tree_forms, event_forms, descriptor_forms, request_forms, queue_forms, loop_forms, forms}
+use Rattle.tree_specs.specs.Calls.Spelling.{Reading, Form, forms}
 use Rattle.tree_specs.specs.Texts.Grammar.{◌>>=◌, taken, ended, read, form_in, call_of_words, call_of, words}
-use Rattle.tree_specs.proofs.Tree.Numbered.{by_test}
+use Rattle.text_forms.specs.declared.verb.BareVerb.{BareVerb}
+use Rattle.text_forms.specs.declared.verb.BareVerb.TheVariants as bare
+use Rattle.text_forms.specs.declared.verb.ObjectVerb.{ObjectVerb}
+use Rattle.text_forms.specs.declared.verb.ObjectVerb.TheVariants as object
+use Rattle.text_forms.specs.declared.verb.OwnerVerb.{OwnerVerb}
+use Rattle.text_forms.specs.declared.verb.OwnerVerb.TheVariants as owner
+use Rattle.text_forms.specs.declared.verb.OwnerObjectVerb.{OwnerObjectVerb}
+use Rattle.text_forms.specs.declared.verb.OwnerObjectVerb.TheVariants as owner_object
+use Rattle.text_forms.specs.declared.verb.NumberVerb.{NumberVerb}
+use Rattle.text_forms.specs.declared.verb.NumberVerb.TheVariants as number
+use Rattle.text_forms.specs.declared.verb.RoutineVerb.{RoutineVerb}
+use Rattle.text_forms.specs.declared.verb.RoutineVerb.TheVariants as routine
+use Rattle.text_forms.specs.declared.verb.UserVerb.{UserVerb}
+use Rattle.text_forms.specs.declared.verb.UserVerb.TheVariants as user
+use Rattle.text_forms.specs.declared.verb.DescriptorVerb.{DescriptorVerb}
+use Rattle.text_forms.specs.declared.verb.DescriptorVerb.TheVariants as descriptor
+use Rattle.text_forms.specs.declared.verb.SizeVerb.{SizeVerb}
+use Rattle.text_forms.specs.declared.verb.SizeVerb.TheVariants as size
 use Rattle.text_forms.specs.declared.verb.Verb.{Verb}
+use Rattle.text_forms.specs.declared.verb.Verb.TheVariants as verbs
 use Rattle.text_forms.specs.declared.form.FormFault.{FormFault}
 use Rattle.text_forms.specs.declared.form.FormFault.TheVariants.{NoForm, Memory}
 use Rattle.text_forms.specs.Reads.{Reads}
 use Rattle.text_forms.specs.Cursor.{Takes, Ends}
-use Rattle.text_forms.specs.Verbs.{word_of, fields_read}
+use Rattle.text_forms.specs.Verbs.{reading_of, word_of, forms_of, IsVerbIn, IsVerb, fields_read}
 
 form_read : (form : Option Reading) (words : List (List ℕ)) → (form >>= λ reading. read reading words) ≡ ((form >>= λ reading. taken reading words) >>= ended)
 form_read None words = refl
 form_read (Some reading) words = refl
+
+-- ---- the verb
+
+-- the forms have each verb's reading under its word
+bare_form : (verb : BareVerb) → form_in forms (word_of (verbs.Bare verb)) ≡ Some (reading_of (verbs.Bare verb))
+bare_form bare.Now = refl
+bare_form _ = refl
+
+object_form : (verb : ObjectVerb) → form_in forms (word_of (verbs.Object verb)) ≡ Some (reading_of (verbs.Object verb))
+object_form object.Free = refl
+object_form _ = refl
+
+owner_form : (verb : OwnerVerb) → form_in forms (word_of (verbs.Owner verb)) ≡ Some (reading_of (verbs.Owner verb))
+owner_form owner.Total = refl
+owner_form _ = refl
+
+owner_object_form : (verb : OwnerObjectVerb) → form_in forms (word_of (verbs.OwnerObject verb)) ≡ Some (reading_of (verbs.OwnerObject verb))
+owner_object_form owner_object.Steal = refl
+owner_object_form _ = refl
+
+number_form : (verb : NumberVerb) → form_in forms (word_of (verbs.Number verb)) ≡ Some (reading_of (verbs.Number verb))
+number_form number.Resize = refl
+number_form _ = refl
+
+routine_form : (verb : RoutineVerb) → form_in forms (word_of (verbs.Routine verb)) ≡ Some (reading_of (verbs.Routine verb))
+routine_form routine.Cleanup = refl
+routine_form _ = refl
+
+user_form : (verb : UserVerb) → form_in forms (word_of (verbs.User verb)) ≡ Some (reading_of (verbs.User verb))
+user_form user.Schedule = refl
+user_form _ = refl
+
+descriptor_form : (verb : DescriptorVerb) → form_in forms (word_of (verbs.Descriptor verb)) ≡ Some (reading_of (verbs.Descriptor verb))
+descriptor_form descriptor.Close = refl
+descriptor_form _ = refl
+
+size_form : (verb : SizeVerb) → form_in forms (word_of (verbs.Size verb)) ≡ Some (reading_of (verbs.Size verb))
+size_form size.New = refl
+size_form _ = refl
+
+verb_form : (verb : Verb) → form_in forms (word_of verb) ≡ Some (reading_of verb)
+verb_form (verbs.Bare verb) = bare_form verb
+verb_form (verbs.Object verb) = object_form verb
+verb_form (verbs.Owner verb) = owner_form verb
+verb_form (verbs.OwnerObject verb) = owner_object_form verb
+verb_form (verbs.Number verb) = number_form verb
+verb_form (verbs.Routine verb) = routine_form verb
+verb_form (verbs.User verb) = user_form verb
+verb_form (verbs.Descriptor verb) = descriptor_form verb
+verb_form (verbs.Size verb) = size_form verb
+verb_form _ = refl
+
+-- among the forms whose verbs have such a number of letters, a word of so many is found as among all
+among_these : (letters : ℕ → Bool) (fs : List Form) (word : List ℕ) → letters (length word) ≡ true → form_in (filter (λ f. letters (length f.verb)) fs) word ≡ form_in fs word
+among_these letters [] word h = refl
+among_these letters (f ∷ fs) word h = by_tests (bytes_eq word f.verb) refl (letters (length f.verb)) refl (among_these letters fs word h)
+  where
+    by_tests : (b : Bool) → bytes_eq word f.verb ≡ b → (k : Bool) → letters (length f.verb) ≡ k → form_in (filter (λ f. letters (length f.verb)) fs) word ≡ form_in fs word
+        → form_in (cond k (f ∷ filter (λ f. letters (length f.verb)) fs) (filter (λ f. letters (length f.verb)) fs)) word ≡ cond b (Some f.reading) (form_in fs word)
+    by_tests b is true kept more = rw (is, more) refl
+    by_tests false is false other more = more
+    by_tests true is false other more =
+        let same : word ≡ f.verb = (bytes_eq-Decides word f.verb).0 is in
+        let kept : letters (length f.verb) ≡ true = ap (λ (w : List ℕ). letters (length w)) (sym same) ∙ h in
+        absurd (let bad : true ≡ false = sym kept ∙ other in cc)
+
+-- a verb that was found among the forms of the word's number of letters
+pub is_verb : (letters : ℕ → Bool) (verb : Option Verb) (word : List ℕ) → letters (length word) ≡ true → IsVerbIn (forms_of letters) verb word → IsVerb verb word
+is_verb letters None word h none = sym (among_these letters forms word h) ∙ none
+is_verb letters (Some verb) word h is = is
 
 -- ---- the verb and the fields
 
 -- the verb was read, and then the fields
 with_verb : (text word : List ℕ) (more : List (List ℕ)) (verb : Verb) → words text ≡ word ∷ more → word ≡ word_of verb → call_of text ≡ (fields_read verb more >>= ended)
 unfolding call_of call_of_words fields_read
-with_verb text word more verb first is = ap call_of_words (first ∙ ap (λ (w : List ℕ). w ∷ more) is) ∙ form_read (form_in forms (word_of verb)) more
+with_verb text word more verb first is =
+    ap call_of_words (first ∙ ap (λ (w : List ℕ). w ∷ more) is) ∙ form_read (form_in forms (word_of verb)) more
+    ∙ ap (λ (form : Option Reading). (form >>= λ reading. taken reading more) >>= ended) (verb_form verb)
 
 pub no_verb : (text word : List ℕ) (more : List (List ℕ)) → words text ≡ word ∷ more → form_in forms word ≡ None → call_of text ≡ None
 unfolding call_of call_of_words
@@ -37,23 +129,3 @@ no_end text word more (next ∷ left) verb call NoForm first is h ends = with_ve
 
 pub all_read : (text word : List ℕ) (more left : List (List ℕ)) (verb : Verb) (call : Call) → words text ≡ word ∷ more → word ≡ word_of verb → fields_read verb more ≡ Some (call, left) → left ≡ [] → call_of text ≡ Some call
 all_read text word more left verb call first is h ends = with_verb text word more verb first is ∙ rw (h, ends) refl
-
--- a word that is the verb of no form of any kind
-module _ (word : List ℕ) where
-  both-none : (fs gs : List Form) → form_in fs word ≡ None → form_in gs word ≡ None → form_in (fs ++ gs) word ≡ None
-  both-none [] gs e k = k
-  both-none (f ∷ fs) gs e k = by_test (bytes_eq word f.verb)
-      (λ t. let bad : Some f.reading ≡ None = rw t at e in cc)
-      (λ t. let e' : form_in fs word ≡ None = rw t at e in rw t (both-none fs gs e' k))
-
-  pub of_no_kind : form_in tree_forms word ≡ None → (form_in event_forms word ≡ None) × (form_in loop_forms word ≡ None) → form_in descriptor_forms word ≡ None → form_in request_forms word ≡ None → form_in queue_forms word ≡ None → form_in forms word ≡ None
-  of_no_kind tree event descriptor request queue =
-      both-none tree_forms (event_forms ++ descriptor_forms ++ request_forms ++ queue_forms ++ loop_forms) tree
-      (both-none event_forms (descriptor_forms ++ request_forms ++ queue_forms ++ loop_forms) event.0
-      (both-none descriptor_forms (request_forms ++ queue_forms ++ loop_forms) descriptor
-      (both-none request_forms (queue_forms ++ loop_forms) request
-      (both-none queue_forms loop_forms queue event.1))))
-
-pub no-some : {A : Type 0} (o : Option A) → ((x : A) → o ≡ Some x → ⊥) → o ≡ None
-no-some None none = refl
-no-some (Some x) none = absurd (none x refl)

@@ -1,119 +1,163 @@
--- Calls by their verbs, as a reader goes through their words.
-use Rattle.std.specs.Prelude.{ℕ, ◌≡◌, List, Option, Some, None, codes}
+-- Verbs by the shape of their fields: the calls that they make, and how a reader goes through their words.
+use Rattle.std.specs.Prelude.{ℕ, ◌≡◌, Bool, List, [], Option, Some, None, filter, length}
+use Rattle.tree_specs.specs.declared.object.Obj.{Obj}
+use Rattle.tree_specs.specs.declared.object.Owner.{Owner}
+use Rattle.tree_specs.specs.declared.object.Owner.TheVariants.{Root}
 use Rattle.tree_specs.specs.declared.call.Call.{Call}
-use Rattle.tree_specs.specs.Calls.Spelling.{tree_forms, event_forms, descriptor_forms, request_forms, queue_forms, loop_forms, forms}
-use Rattle.tree_specs.specs.Texts.Grammar.{◌>>=◌, form_in, taken}
-use Rattle.text_forms.specs.declared.verb.TreeVerb.{TreeVerb}
-use Rattle.text_forms.specs.declared.verb.TreeVerb.TheVariants.{New, Free, Freekids, Steal, Move, Reparent, Reference, Unlink, Hook, Unhook, Rename, Resize, Limit, Parent, Total, Count, Sum, Report}
-use Rattle.text_forms.specs.declared.verb.EventVerb.{EventVerb}
-use Rattle.text_forms.specs.declared.verb.EventVerb.TheVariants.{Immediate, Schedule, Unschedule, Timer, Fd, Flags, Getflags, Autoclose, Pending, Now, Turn}
+use Rattle.tree_specs.specs.declared.call.Call.TheVariants as calls
+use Rattle.tree_specs.specs.Calls.Spelling.{spelling, Reading, Form, forms, takes_number, of_object, of_owner, owner_and_object, of_descriptor, object_and_number, object_and_routine}
+use Rattle.tree_specs.specs.Calls.Spelling.Numeral.{Number32, Positive32, Time, FdFlags, Length}
+use Rattle.tree_specs.specs.Calls.Spelling.Reading.{IsConsistent, TakesOwner, TakesObject, TakesNumeral, EndsInName, EndsInBytes}
+use Rattle.tree_specs.specs.Texts.Grammar.{form_in, taken}
+use Rattle.text_forms.specs.declared.verb.BareVerb.{BareVerb}
+use Rattle.text_forms.specs.declared.verb.BareVerb.TheVariants as bare
+use Rattle.text_forms.specs.declared.verb.ObjectVerb.{ObjectVerb}
+use Rattle.text_forms.specs.declared.verb.ObjectVerb.TheVariants as object
+use Rattle.text_forms.specs.declared.verb.OwnerVerb.{OwnerVerb}
+use Rattle.text_forms.specs.declared.verb.OwnerVerb.TheVariants as owner
+use Rattle.text_forms.specs.declared.verb.OwnerObjectVerb.{OwnerObjectVerb}
+use Rattle.text_forms.specs.declared.verb.OwnerObjectVerb.TheVariants as owner_object
+use Rattle.text_forms.specs.declared.verb.NumberVerb.{NumberVerb}
+use Rattle.text_forms.specs.declared.verb.NumberVerb.TheVariants as number
+use Rattle.text_forms.specs.declared.verb.RoutineVerb.{RoutineVerb}
+use Rattle.text_forms.specs.declared.verb.RoutineVerb.TheVariants as routine
+use Rattle.text_forms.specs.declared.verb.UserVerb.{UserVerb}
+use Rattle.text_forms.specs.declared.verb.UserVerb.TheVariants as user
 use Rattle.text_forms.specs.declared.verb.DescriptorVerb.{DescriptorVerb}
-use Rattle.text_forms.specs.declared.verb.DescriptorVerb.TheVariants.{Close, Accept, Read, Write}
-use Rattle.text_forms.specs.declared.verb.RequestVerb.{RequestVerb}
-use Rattle.text_forms.specs.declared.verb.RequestVerb.TheVariants.{Req, Callback, Defer, Cleanup, Setcancel, Cancel, Post, Done, Error, Oom, Iserror, Progress, Endtime, Received}
-use Rattle.text_forms.specs.declared.verb.QueueVerb.{QueueVerb}
-use Rattle.text_forms.specs.declared.verb.QueueVerb.TheVariants.{Queue as NewQueue, Enqueue, Start, Stop, Length, Running}
+use Rattle.text_forms.specs.declared.verb.DescriptorVerb.TheVariants as descriptor
+use Rattle.text_forms.specs.declared.verb.SizeVerb.{SizeVerb}
+use Rattle.text_forms.specs.declared.verb.SizeVerb.TheVariants as size
 use Rattle.text_forms.specs.declared.verb.Verb.{Verb}
-use Rattle.text_forms.specs.declared.verb.Verb.TheVariants.{Tree, Event, Descriptor, Request, Queue}
+use Rattle.text_forms.specs.declared.verb.Verb.TheVariants as verbs
 
-abbrev pub tree_word : TreeVerb → List ℕ
-tree_word New = codes "new"
-tree_word Free = codes "free"
-tree_word Freekids = codes "freekids"
-tree_word Steal = codes "steal"
-tree_word Move = codes "move"
-tree_word Reparent = codes "reparent"
-tree_word Reference = codes "reference"
-tree_word Unlink = codes "unlink"
-tree_word Hook = codes "hook"
-tree_word Unhook = codes "unhook"
-tree_word Rename = codes "rename"
-tree_word Resize = codes "resize"
-tree_word Limit = codes "limit"
-tree_word Parent = codes "parent"
-tree_word Total = codes "total"
-tree_word Count = codes "count"
-tree_word Sum = codes "sum"
-tree_word Report = codes "report"
+-- ---- the calls of the verbs that have one shape
 
-abbrev pub event_word : EventVerb → List ℕ
-event_word Immediate = codes "immediate"
-event_word Schedule = codes "schedule"
-event_word Unschedule = codes "unschedule"
-event_word Timer = codes "timer"
-event_word Fd = codes "fd"
-event_word Flags = codes "flags"
-event_word Getflags = codes "getflags"
-event_word Autoclose = codes "autoclose"
-event_word Pending = codes "pending"
-event_word Now = codes "now"
-event_word Turn = codes "turn"
+abbrev pub bare_call : BareVerb → Call
+bare_call bare.Pending = calls.Pending
+bare_call bare.Now = calls.Now
+bare_call bare.Turn = calls.Turn
 
-abbrev pub descriptor_word : DescriptorVerb → List ℕ
-descriptor_word Close = codes "close"
-descriptor_word Accept = codes "accept"
-descriptor_word Read = codes "read"
-descriptor_word Write = codes "write"
+abbrev pub object_call : ObjectVerb → Obj → Call
+object_call object.Free x = calls.Free x
+object_call object.Freekids x = calls.Freekids x
+object_call object.Unhook x = calls.Unhook x
+object_call object.Parent x = calls.Parent x
+object_call object.Unschedule x = calls.Unschedule x
+object_call object.Getflags x = calls.Getflags x
+object_call object.Autoclose x = calls.Autoclose x
+object_call object.Defer x = calls.Defer x
+object_call object.Cancel x = calls.Cancel x
+object_call object.Post x = calls.Post x
+object_call object.Done x = calls.Done x
+object_call object.Oom x = calls.Oom x
+object_call object.Iserror x = calls.Iserror x
+object_call object.Progress x = calls.Progress x
+object_call object.Received x = calls.Received x
+object_call object.Start x = calls.Start x
+object_call object.Stop x = calls.Stop x
+object_call object.Length x = calls.Length x
+object_call object.Running x = calls.Running x
 
-abbrev pub request_word : RequestVerb → List ℕ
-request_word Req = codes "req"
-request_word Callback = codes "callback"
-request_word Defer = codes "defer"
-request_word Cleanup = codes "cleanup"
-request_word Setcancel = codes "setcancel"
-request_word Cancel = codes "cancel"
-request_word Post = codes "post"
-request_word Done = codes "done"
-request_word Error = codes "error"
-request_word Oom = codes "oom"
-request_word Iserror = codes "iserror"
-request_word Progress = codes "progress"
-request_word Endtime = codes "endtime"
-request_word Received = codes "received"
+abbrev pub owner_call : OwnerVerb → Owner → Call
+owner_call owner.Total o = calls.Total o
+owner_call owner.Count o = calls.Count o
+owner_call owner.Sum o = calls.Sum o
+owner_call owner.Report o = calls.Report o
+owner_call owner.Immediate o = calls.Immediate o
 
-abbrev pub queue_word : QueueVerb → List ℕ
-queue_word NewQueue = codes "queue"
-queue_word Enqueue = codes "enqueue"
-queue_word Start = codes "start"
-queue_word Stop = codes "stop"
-queue_word Length = codes "length"
-queue_word Running = codes "running"
+abbrev pub owner_object_call : OwnerObjectVerb → Owner → Obj → Call
+owner_object_call owner_object.Steal o x = calls.Steal o x
+owner_object_call owner_object.Move o x = calls.Move o x
+owner_object_call owner_object.Reference o x = calls.Reference o x
+owner_object_call owner_object.Unlink o x = calls.Unlink o x
+
+abbrev pub number_call : NumberVerb → Obj → ℕ → Call
+number_call number.Resize x n = calls.Resize x n
+number_call number.Limit x n = calls.Limit x n
+number_call number.Error x n = calls.Error x n
+
+abbrev pub routine_call : RoutineVerb → Obj → ℕ → Call
+routine_call routine.Cleanup x r = calls.Cleanup x r
+routine_call routine.Setcancel x r = calls.Setcancel x r
+
+abbrev pub user_call : UserVerb → Obj → ℕ → ℕ → Call
+user_call user.Schedule x r n = calls.Schedule x r n
+user_call user.Callback x r n = calls.Callback x r n
+
+abbrev pub descriptor_call : DescriptorVerb → ℕ → Call
+descriptor_call descriptor.Close fd = calls.Close fd
+descriptor_call descriptor.Accept fd = calls.Accept fd
+
+abbrev pub size_call : SizeVerb → Owner → ℕ → List ℕ → Call
+size_call size.New o n name = calls.New o n name
+size_call size.Req o n name = calls.Req o n name
+
+-- ---- what each verb is read with, and its word
+
+-- the fields that come after a verb, and the call that they make
+abbrev pub reading_of : Verb → Reading
+reading_of (verbs.Bare verb) = IsConsistent (bare_call verb)
+reading_of (verbs.Object verb) = of_object (object_call verb)
+reading_of (verbs.Owner verb) = of_owner (owner_call verb)
+reading_of (verbs.OwnerObject verb) = owner_and_object (owner_object_call verb)
+reading_of (verbs.Number verb) = object_and_number (number_call verb)
+reading_of (verbs.Routine verb) = object_and_routine (routine_call verb)
+reading_of (verbs.User verb) = TakesObject (λ x. TakesNumeral Number32 (λ r. takes_number (λ n. IsConsistent (user_call verb x r n))))
+reading_of (verbs.Descriptor verb) = of_descriptor (descriptor_call verb)
+reading_of (verbs.Size verb) = TakesOwner (λ o. takes_number (λ n. EndsInName (λ name. size_call verb o n name)))
+reading_of verbs.Reparent = TakesOwner (λ from. owner_and_object (λ to x. calls.Reparent from to x))
+reading_of verbs.Hook = TakesObject (λ x. TakesNumeral Positive32 (λ r. IsConsistent (calls.Hook x r)))
+reading_of verbs.Rename = TakesObject (λ x. EndsInName (λ name. calls.Rename x name))
+reading_of verbs.Timer = TakesOwner (λ o. TakesNumeral Time (λ t. TakesNumeral Positive32 (λ r. takes_number (λ n. IsConsistent (calls.Timer o t r n)))))
+reading_of verbs.Fd = TakesOwner (λ o. TakesNumeral Number32 (λ fd. TakesNumeral FdFlags (λ flags. TakesNumeral Positive32 (λ r. takes_number (λ n. IsConsistent (calls.Fd o fd flags r n))))))
+reading_of verbs.Flags = TakesObject (λ x. TakesNumeral FdFlags (λ flags. IsConsistent (calls.Flags x flags)))
+reading_of verbs.Endtime = TakesObject (λ x. TakesNumeral Time (λ t. IsConsistent (calls.Endtime x t)))
+reading_of verbs.Read = TakesNumeral Number32 (λ fd. TakesNumeral Length (λ len. IsConsistent (calls.Read fd len)))
+reading_of verbs.Write = TakesNumeral Number32 (λ fd. EndsInBytes (λ bytes. calls.Write fd bytes))
+reading_of verbs.Queue = TakesOwner (λ o. EndsInName (λ name. calls.Queue o name))
+reading_of verbs.Enqueue = TakesObject (λ queue. TakesObject (λ x. TakesNumeral Positive32 (λ r. takes_number (λ n. IsConsistent (calls.Enqueue queue x r n)))))
+
+abbrev no_object : Obj
+no_object = record { 0 = 0 }
+
+-- a call of this verb, whatever its fields
+abbrev pub some_call : Verb → Call
+some_call (verbs.Bare verb) = bare_call verb
+some_call (verbs.Object verb) = object_call verb no_object
+some_call (verbs.Owner verb) = owner_call verb Root
+some_call (verbs.OwnerObject verb) = owner_object_call verb Root no_object
+some_call (verbs.Number verb) = number_call verb no_object 0
+some_call (verbs.Routine verb) = routine_call verb no_object 0
+some_call (verbs.User verb) = user_call verb no_object 0 0
+some_call (verbs.Descriptor verb) = descriptor_call verb 0
+some_call (verbs.Size verb) = size_call verb Root 0 []
+some_call verbs.Reparent = calls.Reparent Root Root no_object
+some_call verbs.Hook = calls.Hook no_object 0
+some_call verbs.Rename = calls.Rename no_object []
+some_call verbs.Timer = calls.Timer Root 0 0 0
+some_call verbs.Fd = calls.Fd Root 0 0 0 0
+some_call verbs.Flags = calls.Flags no_object 0
+some_call verbs.Endtime = calls.Endtime no_object 0
+some_call verbs.Read = calls.Read 0 0
+some_call verbs.Write = calls.Write 0 []
+some_call verbs.Queue = calls.Queue Root []
+some_call verbs.Enqueue = calls.Enqueue no_object no_object 0 0
 
 abbrev pub word_of : Verb → List ℕ
-word_of (Tree verb) = tree_word verb
-word_of (Event verb) = event_word verb
-word_of (Descriptor verb) = descriptor_word verb
-word_of (Request verb) = request_word verb
-word_of (Queue verb) = queue_word verb
+word_of verb = (spelling (some_call verb)).verb
 
--- a word is this verb, or the verb of no form
+-- the forms whose verbs have such a number of letters
+abbrev pub forms_of : (ℕ → Bool) → List Form
+forms_of letters = filter (λ f. letters (length f.verb)) forms
+
+-- a word is this verb, or the verb of none of these forms
+abbrev pub IsVerbIn : List Form → Option Verb → List ℕ → Type 0
+IsVerbIn fs None word = form_in fs word ≡ None
+IsVerbIn fs (Some verb) word = word ≡ word_of verb
+
 abbrev pub IsVerb : Option Verb → List ℕ → Type 0
-IsVerb None word = form_in forms word ≡ None
-IsVerb (Some verb) word = word ≡ word_of verb
-
--- the same of the verbs of each kind
-abbrev pub IsTreeVerb : Option TreeVerb → List ℕ → Type 0
-IsTreeVerb None word = form_in tree_forms word ≡ None
-IsTreeVerb (Some verb) word = word ≡ tree_word verb
-
-abbrev pub IsEventVerb : Option EventVerb → List ℕ → Type 0
-IsEventVerb None word = (form_in event_forms word ≡ None) × (form_in loop_forms word ≡ None)
-IsEventVerb (Some verb) word = word ≡ event_word verb
-
-abbrev pub IsDescriptorVerb : Option DescriptorVerb → List ℕ → Type 0
-IsDescriptorVerb None word = form_in descriptor_forms word ≡ None
-IsDescriptorVerb (Some verb) word = word ≡ descriptor_word verb
-
-abbrev pub IsRequestVerb : Option RequestVerb → List ℕ → Type 0
-IsRequestVerb None word = form_in request_forms word ≡ None
-IsRequestVerb (Some verb) word = word ≡ request_word verb
-
-abbrev pub IsQueueVerb : Option QueueVerb → List ℕ → Type 0
-IsQueueVerb None word = form_in queue_forms word ≡ None
-IsQueueVerb (Some verb) word = word ≡ queue_word verb
+IsVerb verb word = IsVerbIn forms verb word
 
 -- the call of this verb whose fields the words begin with, and the words that it leaves
 unfoldable pub fields_read : Verb → List (List ℕ) → Option (Call × List (List ℕ))
-fields_read verb words = do
-  reading ← form_in forms (word_of verb)
-  taken reading words
+fields_read verb words = taken (reading_of verb) words

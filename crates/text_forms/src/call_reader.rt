@@ -1,3 +1,5 @@
+//! Calls are read from their text.
+
 ghost use Rattle.std.specs.Prelude.{◌≡◌, ◌≢◌, IfOk, IsTrue, Err};
 ghost use Rattle.tree_specs.specs.declared.call.Call.{Call};
 ghost use Rattle.tree_specs.specs.Texts.Grammar.{call_of};
@@ -9,12 +11,12 @@ ghost use Rattle.text_forms.specs.Reads.{Reads};
 use crate::field::Fields;
 use crate::form::FormFault;
 use crate::split::split_word;
-use crate::verb::read_verb;
 use crate::verb_fields::read_fields;
+use crate::verb_words::read_verb;
 use std::alloc::Global;
 use tree_specs::Call;
 
-// The call that the text spells, as the grammar defines it.
+/// The call that the text spells, as the grammar defines it.
 #[tactic(auto, using(crate::proofs::Verbs::no_verb, crate::proofs::Verbs::no_fields, crate::proofs::Verbs::no_end, crate::proofs::Verbs::all_read))]
 fn call_value(alloc: Global, text: &[u8]) -> Result<Call, FormFault>
     ensures { Reads result (call_of text.now) }

@@ -15,7 +15,7 @@ use std::alloc::Global;
 use std::marker::Model;
 use tree_specs::{Name, Obj, Octets, Owner};
 
-// The number that the text's first word spells, and what follows the space behind the word, where there is one.
+/// The number that the text's first word spells, and what follows the space behind the word, where there is one.
 #[tactic(auto, using(crate::proofs::Cursor::number_field))]
 fn number_field(text: &[u8]) -> Option<(u64, Option<&[u8]>)>
     ensures { option_map (λ r. (r.0, words_left r.1)) result ≡ field number_of (words text.now) }
@@ -28,12 +28,12 @@ fn number_field(text: &[u8]) -> Option<(u64, Option<&[u8]>)>
     }
 }
 
-// The fields of a call that are still to come. Contracts see the words that spell them.
+/// The fields of a call that are still to come. Contracts see the words that spell them.
 #[derive(Drop)]
 pub(crate) struct Fields<'a> {
-    // Where names and bytes are kept.
+    /// Where names and bytes are kept.
     alloc: Global,
-    // What follows the last space; None where the text ended in its place.
+    /// What follows the last space; None where the text ended in its place.
     rest: Option<&'a [u8]>,
 }
 
@@ -44,13 +44,14 @@ impl<'a> Model for Fields<'a> {
 }
 
 impl<'a> Fields<'a> {
+    /// The fields of which this is the text, where there is any.
     pub(crate) fn make(alloc: Global, rest: Option<&'a [u8]>) -> Fields<'a>
         ensures { result ≡ words_left rest.entry }
     {
         Fields { alloc, rest }
     }
 
-    // A field that is a number.
+    /// A field that is a number.
     fn digits(&mut self) -> Result<u64, FormFault>
         ensures { Takes result (field number_of self.old) self.new }
     {
@@ -60,7 +61,7 @@ impl<'a> Fields<'a> {
         Ok(n)
     }
 
-    // An owner field: 0 is the root.
+    /// An owner field: 0 is the root.
     #[tactic(auto, unfolding(tree_specs::specs::Texts::Grammar::owner_of))]
     pub(crate) fn owner(&mut self) -> Result<Owner, FormFault>
         ensures { Takes result (field owner_of self.old) self.new }
@@ -73,7 +74,7 @@ impl<'a> Fields<'a> {
         }
     }
 
-    // An object field.
+    /// An object field.
     #[tactic(auto, unfolding(tree_specs::specs::Texts::Grammar::object_of))]
     pub(crate) fn object(&mut self) -> Result<Obj, FormFault>
         ensures { Takes result (field object_of self.old) self.new }
@@ -82,7 +83,7 @@ impl<'a> Fields<'a> {
         Ok(Obj(n))
     }
 
-    // A number field.
+    /// A number field.
     #[tactic(auto, unfolding(tree_specs::specs::Texts::Grammar::numeral_of))]
     pub(crate) fn number(&mut self) -> Result<u64, FormFault>
         ensures { Takes result (field (numeral_of Number) self.old) self.new }
@@ -90,7 +91,7 @@ impl<'a> Fields<'a> {
         self.digits()
     }
 
-    // A field with a number below 2^32.
+    /// A field with a number below 2^32.
     #[tactic(auto, unfolding(tree_specs::specs::Texts::Grammar::numeral_of))]
     pub(crate) fn number32(&mut self) -> Result<u32, FormFault>
         ensures { Takes result (field (numeral_of Number32) self.old) self.new }
@@ -98,7 +99,7 @@ impl<'a> Fields<'a> {
         as_u32(self.digits()?).ok_or(FormFault::NoForm)
     }
 
-    // A routine field: routines are numbered from 1 upwards.
+    /// A routine field: routines are numbered from 1 upwards.
     #[tactic(auto, unfolding(tree_specs::specs::Texts::Grammar::numeral_of))]
     pub(crate) fn routine(&mut self) -> Result<u32, FormFault>
         ensures { Takes result (field (numeral_of Positive32) self.old) self.new }
@@ -106,7 +107,7 @@ impl<'a> Fields<'a> {
         as_positive(self.digits()?).ok_or(FormFault::NoForm)
     }
 
-    // A time field, in microseconds.
+    /// A time field, in microseconds.
     #[tactic(auto, unfolding(tree_specs::specs::Texts::Grammar::numeral_of))]
     pub(crate) fn time(&mut self) -> Result<u64, FormFault>
         ensures { Takes result (field (numeral_of Time) self.old) self.new }
@@ -114,7 +115,7 @@ impl<'a> Fields<'a> {
         as_time(self.digits()?).ok_or(FormFault::NoForm)
     }
 
-    // A field of flags.
+    /// A field of flags.
     #[tactic(auto, unfolding(tree_specs::specs::Texts::Grammar::numeral_of))]
     pub(crate) fn flags(&mut self) -> Result<u32, FormFault>
         ensures { Takes result (field (numeral_of FdFlags) self.old) self.new }
@@ -122,7 +123,7 @@ impl<'a> Fields<'a> {
         as_flags(self.digits()?).ok_or(FormFault::NoForm)
     }
 
-    // A field with a number of bytes.
+    /// A field with a number of bytes.
     #[tactic(auto, unfolding(tree_specs::specs::Texts::Grammar::numeral_of))]
     pub(crate) fn length(&mut self) -> Result<u32, FormFault>
         ensures { Takes result (field (numeral_of Length) self.old) self.new }
@@ -130,7 +131,7 @@ impl<'a> Fields<'a> {
         as_length(self.digits()?).ok_or(FormFault::NoForm)
     }
 
-    // A name field, which no other follows: a name has no space, so it is all that is left of the text.
+    /// A name field, which no other follows: a name has no space, so it is all that is left of the text.
     #[inline(always)]
     #[tactic(auto, using(crate::proofs::Cursor::name_taken))]
     pub(crate) fn name(&mut self) -> Result<Name, FormFault>
@@ -140,7 +141,7 @@ impl<'a> Fields<'a> {
         read_name(self.alloc, text)
     }
 
-    // A field of bytes, which no other follows: their spelling has no space.
+    /// A field of bytes, which no other follows: their spelling has no space.
     #[tactic(auto, using(crate::proofs::Cursor::octets_taken))]
     pub(crate) fn bytes(&mut self) -> Result<Octets, FormFault>
         ensures { Takes result (last_field octets_of self.old) self.new }
@@ -149,7 +150,7 @@ impl<'a> Fields<'a> {
         read_octets(self.alloc, text)
     }
 
-    // There are no more fields.
+    /// There are no more fields.
     pub(crate) fn end(&self) -> Result<(), FormFault>
         ensures { Ends result self.now }
     {

@@ -1,3 +1,5 @@
+//! What a text is refused for.
+
 ghost use Rattle.std.specs.Prelude.{◌≡◌};
 ghost use Rattle.text_forms.specs.declared.form.FormFault.TheVariants as faults;
 

@@ -13,11 +13,13 @@ mod octets;
 mod piece;
 mod range;
 mod report_row;
+mod spelling;
 mod split;
 #[cfg(test)]
 mod tests;
 mod verb;
 mod verb_fields;
+mod verb_words;
 
 pub use call_reader::read_call;
 pub use call_writer::{the_bytes_of_a_call_are_bytes, write_call};

@@ -1,3 +1,5 @@
+//! Names are their own text.
+
 ghost use Rattle.std.specs.Prelude.{◌≡◌, IfOk};
 ghost use Rattle.tree_specs.specs.Texts.Grammar.{name_of};
 ghost use Rattle.text_forms.specs.Reads.{Reads};

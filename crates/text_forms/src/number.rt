@@ -1,3 +1,5 @@
+//! Numbers in decimal: one as it is read from a text, and as it is written.
+
 ghost use Rattle.std.specs.Prelude.{◌≡◌};
 ghost use Rattle.std.specs.Fmt.{decimal};
 ghost use Rattle.std.specs.Option.{option_map};
@@ -12,7 +14,7 @@ use crate::range::{as_length, as_positive, as_time, as_u32};
 use itoa::Buffer;
 use tree_specs::Memory;
 
-// The value of the digits at the front, where it is below 2 ^ 64, and how many they are.
+/// The value of the digits at the front, where it is below 2 ^ 64, and how many they are.
 fn leading_digits(text: &[u8]) -> Option<(u64, usize)>
     ensures { result ≡ leading_digits_of text.now }
 {
@@ -26,7 +28,7 @@ fn leading_digits(text: &[u8]) -> Option<(u64, usize)>
     Some((n, text.len()))
 }
 
-// Whether there is a digit, and no zero before others.
+/// Whether there is a digit, and no zero before others.
 fn has_short_form(text: &[u8]) -> bool
     ensures { result ≡ is_short text.now }
 {
@@ -37,7 +39,7 @@ fn has_short_form(text: &[u8]) -> bool
     }
 }
 
-// The number that the digits at the front spell, and what follows them. None where they spell none.
+/// The number that the digits at the front spell, and what follows them. None where they spell none.
 #[tactic(auto, unfolding(crate::specs::Cursor::number_at, tree_specs::specs::Texts::Grammar::number_of))]
 pub(crate) fn leading_number(text: &[u8]) -> Option<(u64, &[u8])>
     ensures { option_map (λ r. (r.0, r.1.now)) result ≡ number_at text.now }
@@ -51,7 +53,7 @@ pub(crate) fn leading_number(text: &[u8]) -> Option<(u64, &[u8])>
     }
 }
 
-// The number that the text spells, as the grammar defines it.
+/// The number that the text spells, as the grammar defines it.
 #[tactic(auto, using(crate::proofs::Cursor::number_is))]
 fn number_value(text: &[u8]) -> Option<u64>
     ensures { result ≡ number_of text.now }

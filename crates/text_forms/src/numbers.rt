@@ -1,3 +1,5 @@
+//! Numbers with a space before each, as most lines have them.
+
 ghost use Rattle.std.specs.Prelude.{◌++◌, codes};
 ghost use Rattle.std.specs.Fmt.{decimal};
 ghost use Rattle.tree_specs.specs.Texts.Text.{numbers_text};
@@ -16,6 +18,7 @@ fn write_few(bytes: &[u8], out: &mut Vec<u8>) -> Result<(), Memory>
     Ok(())
 }
 
+/// Appends a space and then a number.
 fn write_spaced(n: u64, out: &mut Vec<u8>) -> Result<(), Memory>
     ensures { Writes out.old.items out.new.items result (codes " " ++ decimal n) }
 {
@@ -24,6 +27,7 @@ fn write_spaced(n: u64, out: &mut Vec<u8>) -> Result<(), Memory>
     write_few(buffer.format(n).as_bytes(), out)
 }
 
+/// Appends each number with a space before it.
 fn write_each(numbers: &[u64], out: &mut Vec<u8>) -> Result<(), Memory>
     ensures { Writes out.old.items out.new.items result (numbers_text numbers.now) }
 {

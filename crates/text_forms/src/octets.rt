@@ -33,7 +33,7 @@ pub fn read_octets(alloc: Global, text: &[u8]) -> Result<Octets, FormFault>
     }
 }
 
-// Tells that bytes are bytes, as their type says.
+/// Tells that bytes are bytes, as their type says.
 fn told_bytes(bytes: &[u8]) -> &[u8]
     ensures same { result.now ≡ bytes.now }
     ensures bytes { IsTrue (are_bytes bytes.now) }

@@ -1,3 +1,5 @@
+//! Texts that are made of pieces.
+
 ghost use Rattle.std.specs.Prelude.{flat_map};
 ghost use Rattle.tree_specs.specs.Texts.Written.{Writes};
 

@@ -6,14 +6,14 @@ ghost use Rattle.text_forms.specs.Reads.{in_range};
 
 use tree_specs::{OCTETS_LIMIT, TIME_LIMIT};
 
-// A number below 2^32.
+/// A number below 2^32.
 pub(crate) fn as_u32(n: u64) -> Option<u32>
     ensures { result ≡ in_range Number32 n }
 {
     u32::try_from(n).ok()
 }
 
-// The same, and not 0.
+/// The same, and not 0.
 pub(crate) fn as_positive(n: u64) -> Option<u32>
     ensures { result ≡ in_range Positive32 n }
 {
@@ -23,21 +23,21 @@ pub(crate) fn as_positive(n: u64) -> Option<u32>
     }
 }
 
-// A time in microseconds.
+/// A time in microseconds.
 pub(crate) fn as_time(n: u64) -> Option<u64>
     ensures { result ≡ in_range Time n }
 {
     if n <= TIME_LIMIT { Some(n) } else { None }
 }
 
-// What an event on a descriptor waits for.
+/// What an event on a descriptor waits for.
 pub(crate) fn as_flags(n: u64) -> Option<u32>
     ensures { result ≡ in_range FdFlags n }
 {
     if n <= 3 { Some(n as u32) } else { None }
 }
 
-// A number of bytes that one read or write passes on.
+/// A number of bytes that one read or write passes on.
 pub(crate) fn as_length(n: u64) -> Option<u32>
     ensures { result ≡ in_range Length n }
 {

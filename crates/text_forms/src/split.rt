@@ -1,3 +1,5 @@
+//! Texts are split at a byte, or into words.
+
 ghost use Rattle.std.specs.Prelude.{◌≡◌, ◌∷◌};
 ghost use Rattle.tree_specs.specs.Texts.Grammar.{words};
 ghost use Rattle.text_forms.specs.Cursor.{parts, parts_left, words_left};

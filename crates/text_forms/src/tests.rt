@@ -26,7 +26,7 @@ fn writes(rt: &impl Abort, alloc: Global, call: &Call, want: &[u8]) -> Result<()
     Ok(())
 }
 
-// Each call is written as its bytes, and is what they are read as.
+// Each call is written as its bytes, and so is what they are read as.
 fn writes_each(rt: &impl Abort, alloc: Global, cases: &[(Call, &[u8])]) -> Result<(), Fail>
     requires { IsTrue (list_all (λ c. is_sound_call c.0) cases.now) }
 {

@@ -1,138 +1,264 @@
-//! The fields of calls, by their verbs.
+//! The fields of calls, by the shapes of their verbs.
 
+ghost use Rattle.std.specs.Prelude.{◌≡◌};
 ghost use Rattle.text_forms.specs.declared.verb.Verb.TheVariants as verbs;
 ghost use Rattle.text_forms.specs.Cursor.{Takes};
-ghost use Rattle.text_forms.specs.Verbs.{fields_read};
+ghost use Rattle.text_forms.specs.Verbs.{bare_call, object_call, reading_of, fields_read};
+ghost use Rattle.tree_specs.specs.Texts.Grammar.{taken};
 
 use crate::field::Fields;
 use crate::form::FormFault;
-use crate::verb::{DescriptorVerb, EventVerb, QueueVerb, RequestVerb, TreeVerb, Verb};
-use tree_specs::Call;
+use crate::verb::{
+    BareVerb, DescriptorVerb, NumberVerb, ObjectVerb, OwnerObjectVerb, OwnerVerb, RoutineVerb,
+    SizeVerb, UserVerb, Verb,
+};
+use tree_specs::{Call, Obj};
 
-// The call with these fields, each of which comes next and is of the kind that stands behind its name.
+/// The call with these fields, each of which comes next and is of the kind that stands behind its name.
 macro_rules! call {
     ($call:ident { $($name:ident: $kind:ident),* } from $fields:ident) => {
         Ok(Call::$call { $($name: $fields.$kind()?),* })
     };
 }
 
-// The call on the tree of this verb, whose fields come next.
-#[tactic(auto, unfolding(crate::specs::Verbs::fields_read))]
-fn read_tree_fields(verb: TreeVerb, fields: &mut Fields) -> Result<Call, FormFault>
-    ensures { Takes result (fields_read (verbs.Tree verb) fields.old) fields.new }
+/// The call of this verb on an object.
+fn object_call(verb: ObjectVerb, x: Obj) -> Call
+    ensures { result ≡ object_call verb x }
 {
     match verb {
-        TreeVerb::New => call!(New { owner: owner, size: number, name: name } from fields),
-        TreeVerb::Free => call!(Free { x: object } from fields),
-        TreeVerb::Freekids => call!(Freekids { x: object } from fields),
-        TreeVerb::Steal => call!(Steal { owner: owner, x: object } from fields),
-        TreeVerb::Move => call!(Move { owner: owner, x: object } from fields),
-        TreeVerb::Reparent => call!(Reparent { from: owner, to: owner, x: object } from fields),
-        TreeVerb::Reference => call!(Reference { owner: owner, x: object } from fields),
-        TreeVerb::Unlink => call!(Unlink { owner: owner, x: object } from fields),
-        TreeVerb::Hook => call!(Hook { x: object, routine: routine } from fields),
-        TreeVerb::Unhook => call!(Unhook { x: object } from fields),
-        TreeVerb::Rename => call!(Rename { x: object, name: name } from fields),
-        TreeVerb::Resize => call!(Resize { x: object, size: number } from fields),
-        TreeVerb::Limit => call!(Limit { x: object, max: number } from fields),
-        TreeVerb::Parent => call!(Parent { x: object } from fields),
-        TreeVerb::Total => call!(Total { owner: owner } from fields),
-        TreeVerb::Count => call!(Count { owner: owner } from fields),
-        TreeVerb::Sum => call!(Sum { owner: owner } from fields),
-        TreeVerb::Report => call!(Report { owner: owner } from fields),
+        ObjectVerb::Free => Call::Free { x },
+        ObjectVerb::Freekids => Call::Freekids { x },
+        ObjectVerb::Unhook => Call::Unhook { x },
+        ObjectVerb::Parent => Call::Parent { x },
+        ObjectVerb::Unschedule => Call::Unschedule { x },
+        ObjectVerb::Getflags => Call::Getflags { x },
+        ObjectVerb::Autoclose => Call::Autoclose { x },
+        ObjectVerb::Defer => Call::Defer { x },
+        ObjectVerb::Cancel => Call::Cancel { x },
+        ObjectVerb::Post => Call::Post { x },
+        ObjectVerb::Done => Call::Done { x },
+        ObjectVerb::Oom => Call::Oom { x },
+        ObjectVerb::Iserror => Call::Iserror { x },
+        ObjectVerb::Progress => Call::Progress { x },
+        ObjectVerb::Received => Call::Received { x },
+        ObjectVerb::Start => Call::Start { queue: x },
+        ObjectVerb::Stop => Call::Stop { queue: x },
+        ObjectVerb::Length => Call::Length { queue: x },
+        ObjectVerb::Running => Call::Running { queue: x },
     }
 }
 
-// The call on events of this verb, whose fields come next.
-#[tactic(auto, unfolding(crate::specs::Verbs::fields_read))]
-fn read_event_fields(verb: EventVerb, fields: &mut Fields) -> Result<Call, FormFault>
-    ensures { Takes result (fields_read (verbs.Event verb) fields.old) fields.new }
+/// The call of this verb, whose one field, an object, comes next.
+fn read_object(verb: ObjectVerb, fields: &mut Fields) -> Result<Call, FormFault>
+    ensures { Takes result (taken (reading_of (verbs.Object verb)) fields.old) fields.new }
 {
+    let x = fields.object()?;
+    Ok(object_call(verb, x))
+}
+
+/// The call of this verb, whose one field, an owner, comes next.
+fn read_owner(verb: OwnerVerb, fields: &mut Fields) -> Result<Call, FormFault>
+    ensures { Takes result (taken (reading_of (verbs.Owner verb)) fields.old) fields.new }
+{
+    let owner = fields.owner()?;
     match verb {
-        EventVerb::Immediate => call!(Immediate { owner: owner } from fields),
-        EventVerb::Schedule => call!(
-            Schedule { x: object, routine: number32, user: number } from fields
-        ),
-        EventVerb::Unschedule => call!(Unschedule { x: object } from fields),
-        EventVerb::Timer => call!(
-            Timer { owner: owner, time: time, routine: routine, user: number } from fields
-        ),
-        EventVerb::Fd => call!(
-            Fd { owner: owner, fd: number32, flags: flags, routine: routine, user: number } from fields
-        ),
-        EventVerb::Flags => call!(Flags { x: object, flags: flags } from fields),
-        EventVerb::Getflags => call!(Getflags { x: object } from fields),
-        EventVerb::Autoclose => call!(Autoclose { x: object } from fields),
-        EventVerb::Pending => Ok(Call::Pending),
-        EventVerb::Now => Ok(Call::Now),
-        EventVerb::Turn => Ok(Call::Turn),
+        OwnerVerb::Total => Ok(Call::Total { owner }),
+        OwnerVerb::Count => Ok(Call::Count { owner }),
+        OwnerVerb::Sum => Ok(Call::Sum { owner }),
+        OwnerVerb::Report => Ok(Call::Report { owner }),
+        OwnerVerb::Immediate => Ok(Call::Immediate { owner }),
     }
 }
 
-// The call on a descriptor of this verb, whose fields come next.
-#[tactic(auto, unfolding(crate::specs::Verbs::fields_read))]
-fn read_descriptor_fields(verb: DescriptorVerb, fields: &mut Fields) -> Result<Call, FormFault>
-    ensures { Takes result (fields_read (verbs.Descriptor verb) fields.old) fields.new }
+/// The call of this verb, whose fields, an owner and an object, come next.
+fn read_owner_object(verb: OwnerObjectVerb, fields: &mut Fields) -> Result<Call, FormFault>
+    ensures { Takes result (taken (reading_of (verbs.OwnerObject verb)) fields.old) fields.new }
 {
+    let owner = fields.owner()?;
+    let x = fields.object()?;
     match verb {
-        DescriptorVerb::Close => call!(Close { fd: number32 } from fields),
-        DescriptorVerb::Accept => call!(Accept { fd: number32 } from fields),
-        DescriptorVerb::Read => call!(Read { fd: number32, len: length } from fields),
-        DescriptorVerb::Write => call!(Write { fd: number32, bytes: bytes } from fields),
+        OwnerObjectVerb::Steal => Ok(Call::Steal { owner, x }),
+        OwnerObjectVerb::Move => Ok(Call::Move { owner, x }),
+        OwnerObjectVerb::Reference => Ok(Call::Reference { owner, x }),
+        OwnerObjectVerb::Unlink => Ok(Call::Unlink { owner, x }),
     }
 }
 
-// The call on requests of this verb, whose fields come next.
-#[tactic(auto, unfolding(crate::specs::Verbs::fields_read))]
-fn read_request_fields(verb: RequestVerb, fields: &mut Fields) -> Result<Call, FormFault>
-    ensures { Takes result (fields_read (verbs.Request verb) fields.old) fields.new }
+/// The call of this verb, whose fields, an object and a number, come next.
+fn read_number(verb: NumberVerb, fields: &mut Fields) -> Result<Call, FormFault>
+    ensures { Takes result (taken (reading_of (verbs.Number verb)) fields.old) fields.new }
 {
+    let x = fields.object()?;
+    let n = fields.number()?;
     match verb {
-        RequestVerb::Req => call!(Req { owner: owner, size: number, name: name } from fields),
-        RequestVerb::Callback => call!(
-            Callback { x: object, routine: number32, user: number } from fields
-        ),
-        RequestVerb::Defer => call!(Defer { x: object } from fields),
-        RequestVerb::Cleanup => call!(Cleanup { x: object, routine: number32 } from fields),
-        RequestVerb::Setcancel => call!(Setcancel { x: object, routine: number32 } from fields),
-        RequestVerb::Cancel => call!(Cancel { x: object } from fields),
-        RequestVerb::Post => call!(Post { x: object } from fields),
-        RequestVerb::Done => call!(Done { x: object } from fields),
-        RequestVerb::Error => call!(Error { x: object, error: number } from fields),
-        RequestVerb::Oom => call!(Oom { x: object } from fields),
-        RequestVerb::Iserror => call!(Iserror { x: object } from fields),
-        RequestVerb::Progress => call!(Progress { x: object } from fields),
-        RequestVerb::Endtime => call!(Endtime { x: object, time: time } from fields),
-        RequestVerb::Received => call!(Received { x: object } from fields),
+        NumberVerb::Resize => Ok(Call::Resize { x, size: n }),
+        NumberVerb::Limit => Ok(Call::Limit { x, max: n }),
+        NumberVerb::Error => Ok(Call::Error { x, error: n }),
     }
 }
 
-// The call on queues of this verb, whose fields come next.
-#[tactic(auto, unfolding(crate::specs::Verbs::fields_read))]
-fn read_queue_fields(verb: QueueVerb, fields: &mut Fields) -> Result<Call, FormFault>
-    ensures { Takes result (fields_read (verbs.Queue verb) fields.old) fields.new }
+/// The call of this verb, whose fields, an object and a routine or 0, come next.
+fn read_routine(verb: RoutineVerb, fields: &mut Fields) -> Result<Call, FormFault>
+    ensures { Takes result (taken (reading_of (verbs.Routine verb)) fields.old) fields.new }
 {
+    let x = fields.object()?;
+    let routine = fields.number32()?;
     match verb {
-        QueueVerb::Queue => call!(Queue { owner: owner, name: name } from fields),
-        QueueVerb::Enqueue => call!(
-            Enqueue { queue: object, x: object, routine: routine, user: number } from fields
-        ),
-        QueueVerb::Start => call!(Start { queue: object } from fields),
-        QueueVerb::Stop => call!(Stop { queue: object } from fields),
-        QueueVerb::Length => call!(Length { queue: object } from fields),
-        QueueVerb::Running => call!(Running { queue: object } from fields),
+        RoutineVerb::Cleanup => Ok(Call::Cleanup { x, routine }),
+        RoutineVerb::Setcancel => Ok(Call::Setcancel { x, routine }),
     }
 }
 
-// The call of this verb, whose fields come next.
+/// The call of this verb, whose fields, an object, a routine or 0, and a user number, come next.
+fn read_user(verb: UserVerb, fields: &mut Fields) -> Result<Call, FormFault>
+    ensures { Takes result (taken (reading_of (verbs.User verb)) fields.old) fields.new }
+{
+    let x = fields.object()?;
+    let routine = fields.number32()?;
+    let user = fields.number()?;
+    match verb {
+        UserVerb::Schedule => Ok(Call::Schedule { x, routine, user }),
+        UserVerb::Callback => Ok(Call::Callback { x, routine, user }),
+    }
+}
+
+/// The call of this verb, whose one field, a descriptor, comes next.
+fn read_descriptor(verb: DescriptorVerb, fields: &mut Fields) -> Result<Call, FormFault>
+    ensures { Takes result (taken (reading_of (verbs.Descriptor verb)) fields.old) fields.new }
+{
+    let fd = fields.number32()?;
+    match verb {
+        DescriptorVerb::Close => Ok(Call::Close { fd }),
+        DescriptorVerb::Accept => Ok(Call::Accept { fd }),
+    }
+}
+
+/// The call of this verb, whose fields, an owner, a size and a name, come next.
+fn read_size(verb: SizeVerb, fields: &mut Fields) -> Result<Call, FormFault>
+    ensures { Takes result (taken (reading_of (verbs.Size verb)) fields.old) fields.new }
+{
+    let owner = fields.owner()?;
+    let size = fields.number()?;
+    let name = fields.name()?;
+    match verb {
+        SizeVerb::New => Ok(Call::New { owner, size, name }),
+        SizeVerb::Req => Ok(Call::Req { owner, size, name }),
+    }
+}
+
+/// The call of this verb, which has no fields.
+fn bare_call(verb: BareVerb) -> Call
+    ensures { result ≡ bare_call verb }
+{
+    match verb {
+        BareVerb::Pending => Call::Pending,
+        BareVerb::Now => Call::Now,
+        BareVerb::Turn => Call::Turn,
+    }
+}
+
+/// The call `reparent`, whose fields come next.
+fn read_reparent(fields: &mut Fields) -> Result<Call, FormFault>
+    ensures { Takes result (taken (reading_of verbs.Reparent) fields.old) fields.new }
+{
+    call!(Reparent { from: owner, to: owner, x: object } from fields)
+}
+
+/// The call `hook`, whose fields come next.
+fn read_hook(fields: &mut Fields) -> Result<Call, FormFault>
+    ensures { Takes result (taken (reading_of verbs.Hook) fields.old) fields.new }
+{
+    call!(Hook { x: object, routine: routine } from fields)
+}
+
+/// The call `rename`, whose fields come next.
+fn read_rename(fields: &mut Fields) -> Result<Call, FormFault>
+    ensures { Takes result (taken (reading_of verbs.Rename) fields.old) fields.new }
+{
+    call!(Rename { x: object, name: name } from fields)
+}
+
+/// The call `timer`, whose fields come next.
+fn read_timer(fields: &mut Fields) -> Result<Call, FormFault>
+    ensures { Takes result (taken (reading_of verbs.Timer) fields.old) fields.new }
+{
+    call!(Timer { owner: owner, time: time, routine: routine, user: number } from fields)
+}
+
+/// The call `fd`, whose fields come next.
+fn read_fd(fields: &mut Fields) -> Result<Call, FormFault>
+    ensures { Takes result (taken (reading_of verbs.Fd) fields.old) fields.new }
+{
+    call!(Fd { owner: owner, fd: number32, flags: flags, routine: routine, user: number } from fields)
+}
+
+/// The call `flags`, whose fields come next.
+fn read_flags(fields: &mut Fields) -> Result<Call, FormFault>
+    ensures { Takes result (taken (reading_of verbs.Flags) fields.old) fields.new }
+{
+    call!(Flags { x: object, flags: flags } from fields)
+}
+
+/// The call `endtime`, whose fields come next.
+fn read_endtime(fields: &mut Fields) -> Result<Call, FormFault>
+    ensures { Takes result (taken (reading_of verbs.Endtime) fields.old) fields.new }
+{
+    call!(Endtime { x: object, time: time } from fields)
+}
+
+/// The call `read`, whose fields come next.
+fn read_read(fields: &mut Fields) -> Result<Call, FormFault>
+    ensures { Takes result (taken (reading_of verbs.Read) fields.old) fields.new }
+{
+    call!(Read { fd: number32, len: length } from fields)
+}
+
+/// The call `write`, whose fields come next.
+fn read_write(fields: &mut Fields) -> Result<Call, FormFault>
+    ensures { Takes result (taken (reading_of verbs.Write) fields.old) fields.new }
+{
+    call!(Write { fd: number32, bytes: bytes } from fields)
+}
+
+/// The call `queue`, whose fields come next.
+fn read_queue(fields: &mut Fields) -> Result<Call, FormFault>
+    ensures { Takes result (taken (reading_of verbs.Queue) fields.old) fields.new }
+{
+    call!(Queue { owner: owner, name: name } from fields)
+}
+
+/// The call `enqueue`, whose fields come next.
+fn read_enqueue(fields: &mut Fields) -> Result<Call, FormFault>
+    ensures { Takes result (taken (reading_of verbs.Enqueue) fields.old) fields.new }
+{
+    call!(Enqueue { queue: object, x: object, routine: routine, user: number } from fields)
+}
+
+/// The call of this verb, whose fields come next.
+#[tactic(auto, unfolding(crate::specs::Verbs::fields_read))]
 pub(crate) fn read_fields(verb: Verb, fields: &mut Fields) -> Result<Call, FormFault>
     ensures { Takes result (fields_read verb fields.old) fields.new }
 {
     match verb {
-        Verb::Tree(verb) => read_tree_fields(verb, fields),
-        Verb::Event(verb) => read_event_fields(verb, fields),
-        Verb::Descriptor(verb) => read_descriptor_fields(verb, fields),
-        Verb::Request(verb) => read_request_fields(verb, fields),
-        Verb::Queue(verb) => read_queue_fields(verb, fields),
+        Verb::Bare(verb) => Ok(bare_call(verb)),
+        Verb::Object(verb) => read_object(verb, fields),
+        Verb::Owner(verb) => read_owner(verb, fields),
+        Verb::OwnerObject(verb) => read_owner_object(verb, fields),
+        Verb::Number(verb) => read_number(verb, fields),
+        Verb::Routine(verb) => read_routine(verb, fields),
+        Verb::User(verb) => read_user(verb, fields),
+        Verb::Descriptor(verb) => read_descriptor(verb, fields),
+        Verb::Size(verb) => read_size(verb, fields),
+        Verb::Reparent => read_reparent(fields),
+        Verb::Hook => read_hook(fields),
+        Verb::Rename => read_rename(fields),
+        Verb::Timer => read_timer(fields),
+        Verb::Fd => read_fd(fields),
+        Verb::Flags => read_flags(fields),
+        Verb::Endtime => read_endtime(fields),
+        Verb::Read => read_read(fields),
+        Verb::Write => read_write(fields),
+        Verb::Queue => read_queue(fields),
+        Verb::Enqueue => read_enqueue(fields),
     }
 }
