@@ -7,7 +7,7 @@ use Rattle.tree_specs.specs.declared.call.Call.{Call}
 use Rattle.tree_specs.specs.declared.call.Call.TheVariants as calls
 use Rattle.tree_specs.specs.Calls.Spelling.{spelling, Reading, Form, forms, takes_number, of_object, of_owner, owner_and_object, of_descriptor, object_and_number, object_and_routine}
 use Rattle.tree_specs.specs.Calls.Spelling.Numeral.{Number32, Positive32, Time, FdFlags, Length}
-use Rattle.tree_specs.specs.Calls.Spelling.Reading.{IsConsistent, TakesOwner, TakesObject, TakesNumeral, EndsInName, EndsInBytes}
+use Rattle.tree_specs.specs.Calls.Spelling.Reading.{NoMore, TakesOwner, TakesObject, TakesNumeral, EndsInName, EndsInBytes}
 use Rattle.tree_specs.specs.Texts.Grammar.{form_in, taken}
 use Rattle.text_forms.specs.declared.verb.BareVerb.{BareVerb}
 use Rattle.text_forms.specs.declared.verb.BareVerb.TheVariants as bare
@@ -96,26 +96,26 @@ size_call size.Req o n name = calls.Req o n name
 
 -- the fields that come after a verb, and the call that they make
 abbrev pub reading_of : Verb → Reading
-reading_of (verbs.Bare verb) = IsConsistent (bare_call verb)
+reading_of (verbs.Bare verb) = NoMore (bare_call verb)
 reading_of (verbs.Object verb) = of_object (object_call verb)
 reading_of (verbs.Owner verb) = of_owner (owner_call verb)
 reading_of (verbs.OwnerObject verb) = owner_and_object (owner_object_call verb)
 reading_of (verbs.Number verb) = object_and_number (number_call verb)
 reading_of (verbs.Routine verb) = object_and_routine (routine_call verb)
-reading_of (verbs.User verb) = TakesObject (λ x. TakesNumeral Number32 (λ r. takes_number (λ n. IsConsistent (user_call verb x r n))))
+reading_of (verbs.User verb) = TakesObject (λ x. TakesNumeral Number32 (λ r. takes_number (λ n. NoMore (user_call verb x r n))))
 reading_of (verbs.Descriptor verb) = of_descriptor (descriptor_call verb)
 reading_of (verbs.Size verb) = TakesOwner (λ o. takes_number (λ n. EndsInName (λ name. size_call verb o n name)))
 reading_of verbs.Reparent = TakesOwner (λ from. owner_and_object (λ to x. calls.Reparent from to x))
-reading_of verbs.Hook = TakesObject (λ x. TakesNumeral Positive32 (λ r. IsConsistent (calls.Hook x r)))
+reading_of verbs.Hook = TakesObject (λ x. TakesNumeral Positive32 (λ r. NoMore (calls.Hook x r)))
 reading_of verbs.Rename = TakesObject (λ x. EndsInName (λ name. calls.Rename x name))
-reading_of verbs.Timer = TakesOwner (λ o. TakesNumeral Time (λ t. TakesNumeral Positive32 (λ r. takes_number (λ n. IsConsistent (calls.Timer o t r n)))))
-reading_of verbs.Fd = TakesOwner (λ o. TakesNumeral Number32 (λ fd. TakesNumeral FdFlags (λ flags. TakesNumeral Positive32 (λ r. takes_number (λ n. IsConsistent (calls.Fd o fd flags r n))))))
-reading_of verbs.Flags = TakesObject (λ x. TakesNumeral FdFlags (λ flags. IsConsistent (calls.Flags x flags)))
-reading_of verbs.Endtime = TakesObject (λ x. TakesNumeral Time (λ t. IsConsistent (calls.Endtime x t)))
-reading_of verbs.Read = TakesNumeral Number32 (λ fd. TakesNumeral Length (λ len. IsConsistent (calls.Read fd len)))
+reading_of verbs.Timer = TakesOwner (λ o. TakesNumeral Time (λ t. TakesNumeral Positive32 (λ r. takes_number (λ n. NoMore (calls.Timer o t r n)))))
+reading_of verbs.Fd = TakesOwner (λ o. TakesNumeral Number32 (λ fd. TakesNumeral FdFlags (λ flags. TakesNumeral Positive32 (λ r. takes_number (λ n. NoMore (calls.Fd o fd flags r n))))))
+reading_of verbs.Flags = TakesObject (λ x. TakesNumeral FdFlags (λ flags. NoMore (calls.Flags x flags)))
+reading_of verbs.Endtime = TakesObject (λ x. TakesNumeral Time (λ t. NoMore (calls.Endtime x t)))
+reading_of verbs.Read = TakesNumeral Number32 (λ fd. TakesNumeral Length (λ len. NoMore (calls.Read fd len)))
 reading_of verbs.Write = TakesNumeral Number32 (λ fd. EndsInBytes (λ bytes. calls.Write fd bytes))
 reading_of verbs.Queue = TakesOwner (λ o. EndsInName (λ name. calls.Queue o name))
-reading_of verbs.Enqueue = TakesObject (λ queue. TakesObject (λ x. TakesNumeral Positive32 (λ r. takes_number (λ n. IsConsistent (calls.Enqueue queue x r n)))))
+reading_of verbs.Enqueue = TakesObject (λ queue. TakesObject (λ x. TakesNumeral Positive32 (λ r. takes_number (λ n. NoMore (calls.Enqueue queue x r n)))))
 
 abbrev no_object : Obj
 no_object = record { 0 = 0 }

@@ -3,14 +3,14 @@ ghost use Rattle.std.specs.Prelude.{IsTrue};
 ghost use Rattle.tree_specs.specs.Words.Ranges.{is_sound};
 
 use super::{
-    add_stolen_chain, adds, freed, leads, moment, next_is, takes, tells, told_number, waits,
+    add_stolen_chain, adds, freed, leads, moment, new, next_is, takes, tells, told_number, waits,
 };
 use crate::inputs::{act, count, free, hook, report, ret, total};
 use host_core::Host;
 use std::alloc::Global;
 use std::process::Abort;
 use std::test::Fail;
-use tree_specs::{Ask, Call, Event, Input, Obj, Owner, Reply};
+use tree_specs::{Ask, Call, Event, Input, Obj, Owner, Refusal, Reply};
 
 #[test]
 fn a_long_chain_is_freed_by_one_call(rt: HostRuntime) -> Result<(), Fail> {
@@ -155,6 +155,19 @@ fn destructors_free_two_hundred_deep(rt: HostRuntime) -> Result<(), Fail> {
     return_to_the_first(&rt, &mut host);
     leads(&rt, &mut host, ret(0), &gone(1), &Ask::Quiet);
     assert_eq!(rt; host.live(), 0);
+    drop(host);
+    Ok(())
+}
+
+// 18446744073709551615 is the number of no object.
+#[test]
+fn the_numbers_come_to_an_end(rt: HostRuntime) -> Result<(), Fail> {
+    let last = 18_446_744_073_709_551_614;
+    let mut host = Host::new(rt.alloc(), last)?;
+    adds(&rt, rt.alloc(), &mut host, 0, 0, last);
+    let refused = Event::Replied(Reply::No(Refusal::Spent));
+    tells(&rt, &mut host, new(&rt, rt.alloc(), 0, 0), &[refused]);
+    assert_eq!(rt; host.live(), 1);
     drop(host);
     Ok(())
 }
