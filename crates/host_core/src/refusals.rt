@@ -16,7 +16,7 @@ use tree_specs::Test::{
 };
 use tree_specs::{Call, OVERHEAD, Obj, Owner, Refusal, Test};
 
-/// A new object. Its size is looked at first, so that what is wanted for it is a number.
+/// The tests of a new object. The size is tested first, so that adding `OVERHEAD` to it can't overflow.
 #[inline(always)]
 #[tactic(auto, using(crate::proofs::Allowed::refused_first, crate::proofs::Allowed::allowed_first))]
 fn check_new(owner: Owner, size: u64, pool: &ObjectPool) -> Result<(), Refusal>
@@ -32,7 +32,8 @@ fn check_new(owner: Owner, size: u64, pool: &ObjectPool) -> Result<(), Refusal>
     )
 }
 
-/// A new request, with an object of its own. The size of this is looked at first, so that what is wanted is a number.
+/// The tests of a new request, which has an object of its own. The size of this is tested first, so that adding
+/// `OVERHEAD` to it twice can't overflow.
 #[tactic(auto, using(crate::proofs::Allowed::refused_first, crate::proofs::Allowed::allowed_first))]
 fn check_new_request(owner: Owner, size: u64, pool: &ObjectPool) -> Result<(), Refusal>
     ensures { result ≡ checked (refused pool.now.pool (Test.IsSmall size ∷ Test.IsOwner owner ∷ Test.HasRoom 2 ∷ Test.Fits owner (size + overhead + overhead) ∷ [])) }
@@ -47,7 +48,7 @@ fn check_new_request(owner: Owner, size: u64, pool: &ObjectPool) -> Result<(), R
     )
 }
 
-/// The end time of a request.
+/// The tests of setting the end time of a request.
 #[tactic(auto, using(crate::proofs::Allowed::refused_two, crate::proofs::Allowed::allowed_two))]
 fn check_endtime(x: Obj, pool: &ObjectPool) -> Result<(), Refusal>
     ensures { result ≡ checked (refused pool.now.pool (Test.IsObject x ∷ Test.IsRequest x ∷ Test.IsInProgress x ∷ Test.HasNumber ∷ [])) }
@@ -57,7 +58,7 @@ fn check_endtime(x: Obj, pool: &ObjectPool) -> Result<(), Refusal>
     check_two(IsInProgress(x), HasNumber, &objects)
 }
 
-/// What is asked of an object, once it is there: two more tests.
+/// Tests that an object is there, and two more tests of it.
 #[inline(always)]
 fn check_object(x: Obj, second: Test, third: Test, pool: &ObjectPool) -> Result<(), Refusal>
     ensures { result ≡ checked (refused pool.now.pool (Test.IsObject x ∷ second ∷ third ∷ [])) }
@@ -65,7 +66,7 @@ fn check_object(x: Obj, second: Test, third: Test, pool: &ObjectPool) -> Result<
     check_three(IsObject(x), second, third, &Subject::object(x, pool))
 }
 
-/// An object is put below an owner.
+/// The tests of putting an object below an owner.
 #[tactic(auto, using(crate::proofs::Allowed::refused_three, crate::proofs::Allowed::allowed_three))]
 fn check_placing(owner: Owner, x: Obj, pool: &ObjectPool) -> Result<(), Refusal>
     ensures { result ≡ checked (refused pool.now.pool (Test.IsObject x ∷ Test.IsMovable x ∷ Test.IsOwner owner ∷ Test.IsNotDying x ∷ Test.IsNotInside x owner ∷ [])) }
@@ -75,7 +76,7 @@ fn check_placing(owner: Owner, x: Obj, pool: &ObjectPool) -> Result<(), Refusal>
     check_two(IsNotDying(x), IsNotInside(x, owner), &objects)
 }
 
-/// An object, or a reference to it, that goes from one owner to another.
+/// The tests of giving an object, or a reference to it, from one owner to another.
 #[tactic(auto, using(crate::proofs::Allowed::refused_three, crate::proofs::Allowed::allowed_three))]
 fn check_reparent(from: Owner, to: Owner, x: Obj, pool: &ObjectPool) -> Result<(), Refusal>
     ensures { result ≡ checked (refusals pool.now.pool (ReparentOf from to x)) }
@@ -85,7 +86,7 @@ fn check_reparent(from: Owner, to: Owner, x: Obj, pool: &ObjectPool) -> Result<(
     check_three(IsOwner(to), IsNotDying(x), MayGive(from, to, x), &objects)
 }
 
-/// A new reference to an object.
+/// The tests of a new reference to an object.
 #[tactic(auto, using(crate::proofs::Allowed::refused_three, crate::proofs::Allowed::allowed_three))]
 fn check_reference(owner: Owner, x: Obj, pool: &ObjectPool) -> Result<(), Refusal>
     ensures { result ≡ checked (refusals pool.now.pool (ReferenceOf owner x)) }
@@ -95,7 +96,7 @@ fn check_reference(owner: Owner, x: Obj, pool: &ObjectPool) -> Result<(), Refusa
     check_three(IsNotRunning(x), IsNotDying(x), HasRoom(1), &objects)
 }
 
-/// Another size of an object.
+/// The tests of giving an object another size.
 #[tactic(auto, using(crate::proofs::Allowed::refused_three, crate::proofs::Allowed::allowed_three))]
 fn check_resize(x: Obj, size: u64, pool: &ObjectPool) -> Result<(), Refusal>
     ensures { result ≡ checked (refusals pool.now.pool (ResizeOf x size)) }
@@ -105,7 +106,7 @@ fn check_resize(x: Obj, size: u64, pool: &ObjectPool) -> Result<(), Refusal>
     check_three(IsUnreferenced(x), IsNotDying(x), MayGrow(x, size), &objects)
 }
 
-/// An event on a descriptor below an owner.
+/// The tests of a new event on a descriptor below an owner.
 #[tactic(auto, using(crate::proofs::Allowed::refused_three, crate::proofs::Allowed::allowed_three))]
 fn check_watching(owner: Owner, fd: u32, pool: &ObjectPool) -> Result<(), Refusal>
     ensures { result ≡ checked (refused pool.now.pool (Test.IsOwner owner ∷ Test.IsOpen fd ∷ Test.IsUnwatched fd ∷ Test.HasRoom 1 ∷ Test.Fits owner overhead ∷ [])) }
@@ -115,7 +116,7 @@ fn check_watching(owner: Owner, fd: u32, pool: &ObjectPool) -> Result<(), Refusa
     check_two(HasRoom(1), Fits(owner, OVERHEAD), &objects)
 }
 
-/// A request comes into a queue. The tests of the queue come first.
+/// The tests of putting a request into a queue. Those of the queue come first.
 #[tactic(auto, using(crate::proofs::Allowed::refused_three, crate::proofs::Allowed::allowed_three))]
 fn check_enqueue(queue: Obj, x: Obj, pool: &ObjectPool) -> Result<(), Refusal>
     ensures { result ≡ checked (refused pool.now.pool (Test.IsObject queue ∷ Test.IsQueue queue ∷ Test.IsNotGoing queue ∷ Test.IsObject x ∷ Test.IsRequest x ∷ Test.IsNotDying x ∷ Test.HasRoom 1 ∷ Test.Fits (At x) overhead ∷ [])) }
@@ -126,14 +127,14 @@ fn check_enqueue(queue: Obj, x: Obj, pool: &ObjectPool) -> Result<(), Refusal>
     check_two(HasRoom(1), Fits(Owner::Of(x), OVERHEAD), &objects)
 }
 
-/// An object is freed.
+/// The tests of freeing an object.
 pub fn check_free(x: Obj, pool: &ObjectPool) -> Result<(), Refusal>
     ensures { result ≡ checked (refusals pool.now.pool (FreeOf x)) }
 {
     check_two(IsObject(x), IsUnheld(x), &Subject::object(x, pool))
 }
 
-/// Whether a call is allowed, and else its first refusal.
+/// Refuses a call by its tests: the first one that isn't passed says why.
 pub fn check(call: &Call, pool: &ObjectPool) -> Result<(), Refusal>
     ensures { result ≡ checked (refusals pool.now.pool call.now) }
 {
